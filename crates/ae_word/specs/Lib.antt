@@ -1,0 +1,3 @@
+pub mod AtomText
+pub mod AtomTree
+pub mod WordTable

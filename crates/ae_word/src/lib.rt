@@ -1,0 +1,12 @@
+//! Words of 1 to 64 bits, atoms made of words, and the operators on words.
+#![tactic(auto)]
+
+mod atom;
+mod op;
+mod result;
+#[cfg(test)]
+mod tests;
+
+pub use atom::Atom;
+pub use op::{WordOp, arity, folds, latency, op_for, result_width};
+pub use result::{apply, fits_width};

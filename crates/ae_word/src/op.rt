@@ -1,0 +1,118 @@
+// The operators on words.
+
+ghost use Rattle.std.specs.Prelude.{◌≡◌};
+ghost use Rattle.ae_word.specs.WordTable.{arity_of, folds, latency_of, op_for, result_width_of};
+
+/// An operator on words of 1 to 64 bits. Signed words are kept as their codes; `SLt` to `SCast` read their operands
+/// as signed, all others as unsigned.
+#[derive(Clone, Copy, PartialEq, Eq, Debug)]
+pub enum WordOp {
+    Add,
+    Sub,
+    Mul,
+    And,
+    Or,
+    Xor,
+    Not,
+    Min,
+    Max,
+    Eq,
+    Lt,
+    /// The second operand where the first, of one bit, is 1, else the third.
+    Mux,
+    /// To the left by so many places.
+    Shl(u32),
+    /// To the right by so many places.
+    Shr(u32),
+    /// To so many bits.
+    Cast(u32),
+    /// `Lt` of signed words.
+    SLt,
+    /// `Min` of signed words.
+    SMin,
+    /// `Max` of signed words.
+    SMax,
+    /// `Shr` of a signed word, rounded down.
+    Sar(u32),
+    /// The signed word's value, to so many bits.
+    SCast(u32),
+}
+
+/// How many operands the operator uses, 1 to 3.
+pub fn arity(op: WordOp) -> u32
+    ensures { result ≡ arity_of op }
+{
+    match op {
+        WordOp::Not
+        | WordOp::Shl(_)
+        | WordOp::Shr(_)
+        | WordOp::Cast(_)
+        | WordOp::Sar(_)
+        | WordOp::SCast(_) => 1,
+        WordOp::Mux => 3,
+        _ => 2,
+    }
+}
+
+/// How many clocks the operator's circuit takes, 0 to 2.
+pub fn latency(op: WordOp) -> u32
+    ensures { result ≡ latency_of op }
+{
+    match op {
+        WordOp::Mul => 2,
+        WordOp::Add
+        | WordOp::Sub
+        | WordOp::Min
+        | WordOp::Max
+        | WordOp::Eq
+        | WordOp::Lt
+        | WordOp::SLt
+        | WordOp::SMin
+        | WordOp::SMax => 1,
+        _ => 0,
+    }
+}
+
+/// The width of the result on operands of a width, for a choice that of its arms.
+pub fn result_width(op: WordOp, width: u32) -> u32
+    ensures { result ≡ result_width_of op width }
+{
+    match op {
+        WordOp::Eq | WordOp::Lt | WordOp::SLt => 1,
+        WordOp::Cast(v) | WordOp::SCast(v) => v,
+        _ => width,
+    }
+}
+
+/// The operator that a line's operator means on unsigned or signed words: on signed ones the signed operator.
+pub fn op_for(signed: bool, op: WordOp) -> WordOp
+    ensures { result ≡ op_for signed op }
+{
+    if !signed {
+        return op;
+    }
+    match op {
+        WordOp::Min => WordOp::SMin,
+        WordOp::Max => WordOp::SMax,
+        WordOp::Lt => WordOp::SLt,
+        WordOp::Shr(k) => WordOp::Sar(k),
+        WordOp::Cast(v) => WordOp::SCast(v),
+        _ => op,
+    }
+}
+
+/// Whether elements may be folded by the operator: one of `add mul and or xor min max`.
+pub fn folds(op: WordOp) -> bool
+    ensures { result ≡ folds op }
+{
+    matches!(
+        op,
+        WordOp::Add
+            | WordOp::Mul
+            | WordOp::And
+            | WordOp::Or
+            | WordOp::Xor
+            | WordOp::Min
+            | WordOp::Max
+    )
+}
