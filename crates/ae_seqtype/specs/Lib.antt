@@ -1,0 +1,3 @@
+pub mod SeqTree
+pub mod TypeText
+pub mod ValueTree
