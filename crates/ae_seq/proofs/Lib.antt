@@ -1,0 +1,4 @@
+mod Examples
+pub mod Items
+pub mod Judging
+pub mod Types

@@ -1,0 +1,12 @@
+//! Programs: functions on sequences, one statement a line; their types, their meaning, and the type checker.
+#![tactic(auto)]
+
+mod checker;
+mod formed;
+mod line_type;
+mod program;
+#[cfg(test)]
+mod tests;
+
+pub use checker::{CheckFault, Typed, check};
+pub use program::{Func, Node, Op, Param, Program};
