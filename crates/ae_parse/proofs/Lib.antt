@@ -1,0 +1,9 @@
+pub mod Bools
+pub mod CutLemmas
+pub mod Digits
+pub mod FieldLemmas
+pub mod NameLemmas
+pub mod PartLemmas
+pub mod Plain
+pub mod RowLemmas
+pub mod ScopeLemmas

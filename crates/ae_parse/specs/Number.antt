@@ -1,0 +1,12 @@
+-- Decimal numbers.
+use Rattle.std.specs.Prelude.{ℕ, ◌^◌, Bool, ◌&&◌, nat_le, nat_lt, List, length, Option, Some, None, if◌then◌else◌}
+use Rattle.std.specs.Str.{all_ascii_digits}
+use Rattle.std.specs.Str.Parse.{digits_value}
+
+-- 1 to 20 digits
+abbrev pub is_numeral : List ℕ → Bool
+is_numeral ds = nat_le 1 (length ds) && nat_le (length ds) 20 && all_ascii_digits ds
+
+-- the number that a numeral writes, below 2 ^ 64
+abbrev pub number_of : List ℕ → Option ℕ
+number_of ds = if is_numeral ds then (if nat_lt (digits_value 10 ds) (2 ^ 64) then Some (digits_value 10 ds) else None) else None
