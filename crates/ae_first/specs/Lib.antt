@@ -1,0 +1,4 @@
+pub mod FirstForm
+pub mod Reading
+pub mod Refusal
+pub mod View
