@@ -1,0 +1,7 @@
+pub mod Bounds
+pub mod Places
+pub mod Finding
+pub mod Lively
+pub mod Limits
+pub mod Shallow
+pub mod MoveTable

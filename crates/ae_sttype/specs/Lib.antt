@@ -1,0 +1,6 @@
+pub mod StTree
+pub mod Slots
+pub mod Size
+pub mod TypeText
+pub mod Holds
+pub mod Moves
