@@ -1,0 +1,12 @@
+//! Values laid out on rows of words, one for each clock, and taken up again.
+#![tactic(auto)]
+
+mod iter;
+mod rows;
+#[cfg(test)]
+mod tests;
+mod walk;
+
+pub use iter::SlotIter;
+pub use rows::{Rows, lay_out, take_up};
+pub use walk::slots;
