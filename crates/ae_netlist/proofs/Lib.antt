@@ -1,0 +1,9 @@
+pub mod Gets
+pub mod Growing
+pub mod Counting
+pub mod Settled
+pub mod Fits
+pub mod NextClock
+pub mod OneRun
+pub mod Carried
+pub mod Given

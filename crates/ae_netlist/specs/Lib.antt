@@ -1,0 +1,4 @@
+pub mod Circuit
+pub mod Counts
+pub mod Runs
+pub mod Rows

@@ -1,0 +1,12 @@
+//! Netlists of words, registers and memories, how they are built, and what their runs are.
+#![tactic(auto)]
+
+mod cell;
+mod netlist;
+mod runs;
+#[cfg(test)]
+mod tests;
+
+pub use cell::{Cell, NetId, Outlet, Port, SizedCell};
+pub use netlist::{NetFault, Netlist};
+pub use runs::{fill_begins, has_one_run, has_one_run_with};

@@ -1,0 +1,289 @@
+// Netlists, and how they are built.
+
+ghost use Rattle.std.specs.Option.{option_copied, option_map};
+ghost use Rattle.std.specs.Prelude.{◌≡◌, ◌<◌, ◌≤◌, ◌+◌, ◌-◌, ◌^◌, ◌↔◌, ◌++◌, ◌∷◌, [], length, Option, Some, None, slice_get, slice_set, IfOk, IfErr, OnOk, OnErr, IfSome, IsSome, List, ℕ, true, false};
+ghost use Rattle.ae_netlist.specs.Circuit.{Circuit, IsNet, IsAllowed, IsFormed, IsMemory, IsRegister, IsWritten, HaveNets, SizedCellFits, depth_of, new_memory, new_register, width_of};
+ghost use Rattle.ae_netlist.specs.Counts.{AreNumbered, IsNumbered, cells_of, count_of, is_input};
+
+use crate::cell::{Cell, NetId, Outlet, Port, SizedCell};
+use std::alloc::{AllocError, AllocFailed, Global};
+use std::marker::Model;
+
+/// Why a cell was not added.
+#[derive(Clone, Copy, PartialEq, Eq, Debug)]
+pub enum NetFault {
+    /// The netlist has as many cells as it may.
+    Full,
+    /// There was no memory for it.
+    Memory,
+}
+
+/// Cells, each of which drives the net of its number, and outputs.
+#[derive(Drop)]
+pub struct Netlist {
+    limit: u32,
+    cells: Vec<SizedCell>,
+    /// The nets of the inputs, in order.
+    inputs: Vec<NetId>,
+    outlets: Vec<Outlet>,
+}
+
+impl Model for Netlist {
+    ghost Value = { Circuit };
+
+    ghost view = { λ n. record { limit = n.limit; cells = n.cells.items; outlets = n.outlets.items } };
+
+    ghost invariant = { λ n. (length n.cells.items ≤ n.limit) × IsFormed n.cells.items × HaveNets n.cells.items n.outlets.items × AreNumbered is_input n.cells.items n.inputs.items × (length n.outlets.items < 2 ^ 32) };
+}
+
+impl Netlist {
+    /// No cells and no outputs; at most `limit` cells can be added. Takes no memory.
+    pub fn new(alloc: Global, limit: u32) -> Netlist
+        ensures { result ≡ record { limit = limit; cells = []; outlets = [] } }
+    {
+        Netlist {
+            limit,
+            cells: Vec::new(alloc),
+            inputs: Vec::new(alloc),
+            outlets: Vec::new(alloc),
+        }
+    }
+
+    /// Operands stand before their operators and have the right widths, so nothing depends on itself within a clock;
+    /// each output shows a net.
+    pub fn formed(&self)
+        ensures cells { IsFormed self.now.cells }
+        ensures outlets { HaveNets self.now.cells self.now.outlets }
+        ensures limit { length self.now.cells ≤ self.now.limit }
+        ensures few { length self.now.outlets < 2 ^ 32 }
+    {
+        let _limit = self.limit;
+    }
+
+    /// The number of cells.
+    pub fn len(&self) -> u32
+        ensures { result ≡ length self.now.cells }
+    {
+        let _limit = self.limit;
+        self.cells.len() as u32
+    }
+
+    /// All cells, by their nets.
+    pub fn cells(&self) -> &[SizedCell]
+        ensures { result.now ≡ self.now.cells }
+    {
+        &self.cells
+    }
+
+    /// All outputs, as they were added.
+    pub fn outlets(&self) -> &[Outlet]
+        ensures { result.now ≡ self.now.outlets }
+    {
+        &self.outlets
+    }
+
+    /// The cell of a net; None exactly where there is no such net.
+    pub fn cell(&self, n: NetId) -> Option<&Cell>
+        ensures { option_copied result ≡ option_map (λ sized. sized.cell) (slice_get self.now.cells n.0) }
+    {
+        match self.cells.get(n.0 as usize) {
+            Some(sized) => Some(&sized.cell),
+            None => None,
+        }
+    }
+
+    /// The cell of a net with its width; None exactly where there is no such net.
+    pub fn sized(&self, n: NetId) -> Option<SizedCell>
+        ensures { result ≡ slice_get self.now.cells n.0 }
+    {
+        self.cells.get(n.0 as usize).copied()
+    }
+
+    /// The width of a net, in bits; None exactly where there is no such net.
+    pub fn width(&self, n: NetId) -> Option<u32>
+        ensures { result ≡ option_map (λ sized. sized.width) (slice_get self.now.cells n.0) }
+    {
+        match self.cells.get(n.0 as usize) {
+            Some(sized) => Some(sized.width),
+            None => None,
+        }
+    }
+
+    /// The number of inputs.
+    pub fn inputs(&self) -> u32
+        ensures { result ≡ count_of is_input self.now.cells }
+    {
+        let _limit = self.limit;
+        self.inputs.len() as u32
+    }
+
+    /// The net of an input, numbered as they were added; None exactly where there is no such input.
+    pub fn input(&self, k: u32) -> Option<NetId>
+        ensures found { IfSome result (λ n. IsNumbered is_input self.now.cells k n.0) }
+        ensures some { IsSome result ↔ (k < count_of is_input self.now.cells) }
+    {
+        self.inputs.get(k as usize).copied()
+    }
+
+    /// The width of an input, numbered as they were added; None exactly where there is no such input.
+    pub fn input_width(&self, k: u32) -> Option<u32>
+        ensures { result ≡ option_map (λ sized. sized.width) (slice_get (cells_of is_input self.now.cells) k) }
+    {
+        match self.inputs.get(k as usize) {
+            Some(n) => Some(self.cells[n.0 as usize].width),
+            None => None,
+        }
+    }
+
+    /// The number of outputs.
+    pub fn outputs(&self) -> u32
+        ensures { result ≡ length self.now.outlets }
+    {
+        self.outlets.len() as u32
+    }
+
+    /// An output, numbered as they were added; None exactly where there is no such output.
+    pub fn output(&self, k: u32) -> Option<&Outlet>
+        ensures { option_copied result ≡ slice_get self.now.outlets k }
+    {
+        self.outlets.get(k as usize)
+    }
+
+    fn append(&mut self, sized: SizedCell) -> Result<NetId, NetFault>
+        requires fits { SizedCellFits self.old.cells (self.old.cells ++ sized ∷ []) (length self.old.cells) sized }
+        requires other { is_input sized.cell ≡ false }
+        ensures ok { IfOk result (λ n. n ≡ record { 0 = length self.old.cells }) }
+        ensures added { OnOk result (self.new ≡ record self.old { cells = self.old.cells ++ sized ∷ [] }) }
+        ensures full { (result ≡ Err NetFault.Full) ↔ (length self.old.cells ≡ self.old.limit) }
+        ensures err { OnErr result (self.new ≡ self.old) }
+    {
+        let net = self.cells.len();
+        if net >= self.limit as usize {
+            return Err(NetFault::Full);
+        }
+        match self.cells.push(sized) {
+            Ok(()) => Ok(NetId(net as u32)),
+            Err(_) => Err(NetFault::Memory),
+        }
+    }
+
+    fn append_input(&mut self, sized: SizedCell) -> Result<NetId, NetFault>
+        requires fits { SizedCellFits self.old.cells (self.old.cells ++ sized ∷ []) (length self.old.cells) sized }
+        requires input { is_input sized.cell ≡ true }
+        ensures ok { IfOk result (λ n. n ≡ record { 0 = length self.old.cells }) }
+        ensures added { OnOk result (self.new ≡ record self.old { cells = self.old.cells ++ sized ∷ [] }) }
+        ensures full { (result ≡ Err NetFault.Full) ↔ (length self.old.cells ≡ self.old.limit) }
+        ensures err { OnErr result (self.new ≡ self.old) }
+    {
+        let net = self.cells.len();
+        if net >= self.limit as usize {
+            return Err(NetFault::Full);
+        }
+        match self.inputs.push(NetId(net as u32)) {
+            Ok(()) => (),
+            Err(_) => return Err(NetFault::Memory),
+        }
+        match self.cells.push(sized) {
+            Ok(()) => Ok(NetId(net as u32)),
+            Err(_) => {
+                self.inputs.pop();
+                Err(NetFault::Memory)
+            }
+        }
+    }
+
+    /// Adds an input, a constant, an operator or a peek as the last cell, and answers its net. `Full` comes exactly
+    /// where the netlist has `limit` cells; after a refusal it is unchanged.
+    pub fn add(&mut self, width: u32, cell: Cell) -> Result<NetId, NetFault>
+        requires low { 1 ≤ width }
+        requires high { width ≤ 64 }
+        requires allowed { IsAllowed self.old.cells width cell }
+        ensures ok { IfOk result (λ n. n ≡ record { 0 = length self.old.cells }) }
+        ensures added { OnOk result (self.new ≡ record self.old { cells = self.old.cells ++ (record { width = width; cell = cell }) ∷ [] }) }
+        ensures full { (result ≡ Err NetFault.Full) ↔ (length self.old.cells ≡ self.old.limit) }
+        ensures err { OnErr result (self.new ≡ self.old) }
+    {
+        match cell {
+            Cell::Input(_) => self.append_input(SizedCell { width, cell }),
+            _ => self.append(SizedCell { width, cell }),
+        }
+    }
+
+    /// Adds a register that keeps its word until it is connected: it names itself. `Full` and a refusal are as for
+    /// `add`.
+    pub fn state(&mut self, width: u32) -> Result<NetId, NetFault>
+        requires low { 1 ≤ width }
+        requires high { width ≤ 64 }
+        ensures ok { IfOk result (λ n. n ≡ record { 0 = length self.old.cells }) }
+        ensures added { OnOk result (self.new ≡ record self.old { cells = self.old.cells ++ new_register (length self.old.cells) width ∷ [] }) }
+        ensures full { (result ≡ Err NetFault.Full) ↔ (length self.old.cells ≡ self.old.limit) }
+        ensures err { OnErr result (self.new ≡ self.old) }
+    {
+        let own = NetId(self.len());
+        self.append(SizedCell {
+            width,
+            cell: Cell::Reg { next: own },
+        })
+    }
+
+    /// Adds a memory of `depth` words of a width, which is never written until it is connected: it names itself.
+    /// `Full` and a refusal are as for `add`.
+    pub fn memory(&mut self, width: u32, depth: u32) -> Result<NetId, NetFault>
+        requires low { 1 ≤ width }
+        requires high { width ≤ 64 }
+        requires some { 1 ≤ depth }
+        requires most { depth ≤ 65536 }
+        ensures ok { IfOk result (λ n. n ≡ record { 0 = length self.old.cells }) }
+        ensures added { OnOk result (self.new ≡ record self.old { cells = self.old.cells ++ new_memory (length self.old.cells) width depth ∷ [] }) }
+        ensures full { (result ≡ Err NetFault.Full) ↔ (length self.old.cells ≡ self.old.limit) }
+        ensures err { OnErr result (self.new ≡ self.old) }
+    {
+        let own = NetId(self.len());
+        self.append(SizedCell {
+            width,
+            cell: Cell::Mem {
+                depth,
+                at: own,
+                next: own,
+                enable: own,
+            },
+        })
+    }
+
+    /// Connects a register: from now on it takes the word of `next` at the end of each clock. Nothing else changes.
+    pub fn connect(&mut self, r: NetId, next: NetId)
+        requires register { IsRegister self.old.cells r.0 (width_of self.old.cells r.0) }
+        requires next { IsNet self.old.cells next.0 (width_of self.old.cells r.0) }
+        ensures { self.new ≡ record self.old { cells = slice_set self.old.cells r.0 (record { width = width_of self.old.cells r.0; cell = Cell.Reg next }) } }
+    {
+        self.cells[r.0 as usize].cell = Cell::Reg { next };
+    }
+
+    /// Connects a memory: from now on its word at place `at` becomes that of `next` at the end of each clock in which
+    /// `enable` is 1. Nothing else changes.
+    pub fn connect_memory(&mut self, m: NetId, at: NetId, next: NetId, enable: NetId)
+        requires memory { IsMemory self.old.cells m.0 (width_of self.old.cells m.0) (depth_of self.old.cells m.0) }
+        requires written { IsWritten self.old.cells (width_of self.old.cells m.0) (depth_of self.old.cells m.0) at.0 next.0 enable.0 }
+        ensures { self.new ≡ record self.old { cells = slice_set self.old.cells m.0 (record { width = width_of self.old.cells m.0; cell = Cell.Mem (depth_of self.old.cells m.0) at next enable }) } }
+    {
+        if let Cell::Mem { depth, .. } = self.cells[m.0 as usize].cell {
+            self.cells[m.0 as usize].cell = Cell::Mem {
+                depth,
+                at,
+                next,
+                enable,
+            };
+        }
+    }
+
+    /// Adds an output that shows the word of a net, as the last one. After a refusal the netlist is unchanged.
+    pub fn add_output(&mut self, port: Port, net: NetId) -> Result<(), AllocError>
+        requires net { IsNet self.old.cells net.0 (width_of self.old.cells net.0) }
+        requires room { length self.old.outlets < 2 ^ 32 - 1 }
+        ensures ok { OnOk result (self.new ≡ record self.old { outlets = self.old.outlets ++ (record { port = port; net = net }) ∷ [] }) }
+        ensures err { OnErr result (self.new ≡ self.old) }
+    {
+        self.outlets.push(Outlet { port, net })?;
+        Ok(())
+    }
+}
