@@ -1,0 +1,4 @@
+pub mod Examples
+pub mod TokenLemmas
+pub mod Scans
+pub mod Texts
