@@ -1,0 +1,15 @@
+// What the runs of a module are.
+
+ghost use Rattle.std.specs.Prelude.{ℕ, List, length, ◌<◌};
+ghost use Rattle.ae_vread.specs.ModuleTree.{ModuleTree};
+ghost use Rattle.ae_elab.specs.Values.{ModuleClock};
+ghost use Rattle.ae_elab.specs.Runs.{HasOneRun, IsRunOn, IsShaped, clock_at};
+ghost use Rattle.ae_elab.specs.Faults.{IsWellFormed};
+ghost use Rattle.ae_elab.specs.PlainRun.{plain_run};
+
+/// A law: a well-formed module has, for all inputs and all first words of its registers and memories, exactly one run;
+/// it is the one that the plain way gives. So what is said of every run is never said of nothing.
+pub fn one_run()
+    ensures once { (m : ModuleTree) → IsWellFormed m → HasOneRun m }
+    ensures plain { (m : ModuleTree) → IsWellFormed m → (given : List ModuleClock) → ((t : ℕ) → t < length given → IsShaped m (clock_at given t)) → IsRunOn m given (plain_run m given) }
+{}
