@@ -1,0 +1,234 @@
+-- The names of a written module differ.
+use Rattle.std.proofs.Common.{ℕ, ◌≡◌, ◌<◌, ◌^◌, ◌==◌, ◌⊎◌, inl, inr, true, false, List, [], ◌∷◌, ◌++◌, Some, slice_get, arith, refl, sym, ap, ◌∙◌, subst}
+use Rattle.std.specs.Prelude.{All, codes, decimal}
+use Rattle.std.specs.List.{AllByRecursion}
+use Rattle.std.specs.Char.{digit_value}
+use Rattle.std.specs.Str.Parse.{AllDigits}
+use Rattle.std.proofs.lemmas.Fmt.{decimal_injective, decimal_is_IsNumeral}
+use Rattle.std.proofs.lemmas.Bool.{cases_Bool, cond-true, cond-false, eqb-true}
+use Rattle.std.proofs.lemmas.Option.{slice_get_within, get_or_from_slice_get}
+use Rattle.ae_netlist.specs.declared.cell.Port.{Port}
+use Rattle.ae_netlist.specs.declared.cell.Port.TheVariants.{Reset, In, Out, Plain}
+use Rattle.ae_netlist.specs.declared.cell.Cell.{Cell}
+use Rattle.ae_netlist.specs.declared.cell.Cell.TheVariants.{Input, Const, Op, Reg, Mem, Peek}
+use Rattle.ae_netlist.specs.declared.cell.SizedCell.{SizedCell}
+use Rattle.ae_netlist.specs.declared.cell.Outlet.{Outlet}
+use Rattle.ae_verilog.specs.NetlistModule.{clock_name, port_name, number_name, cell_name, IsInputPort, IsOutputPort}
+use Rattle.ae_verilog.specs.Text.{PortFits, CellPortFits}
+use Rattle.ae_verilog.specs.Written.{IsWritableNetlist}
+
+-- the numbers of a port have at most 64 bits
+abbrev HasNumbers : Port → Type 0
+HasNumbers Reset = Unit {0}
+HasNumbers (In param lane word) = (param < 2 ^ 64) × (lane < 2 ^ 64) × (word < 2 ^ 64)
+HasNumbers (Out result lane word) = (result < 2 ^ 64) × (lane < 2 ^ 64) × (word < 2 ^ 64)
+HasNumbers (Plain k) = k < 2 ^ 64
+
+wider : (k : ℕ) → k < 2 ^ 32 → k < 2 ^ 64
+wider k h = omega arith
+
+port_numbers : (p : Port) → PortFits p → HasNumbers p
+port_numbers Reset h = tt
+port_numbers (In param lane word) h = (wider param h.0, wider lane h.1, wider word h.2)
+port_numbers (Out result lane word) h = (wider result h.0, wider lane h.1, wider word h.2)
+port_numbers (Plain k) h = wider k h
+
+all_at : {X : Type 0} (P : X → Type 0) (xs : List X) (k : ℕ) (x : X) → All P xs → slice_get xs k ≡ Some x → P x
+all_at P xs k x h e = subst P (get_or_from_slice_get xs k x x e) (h k x (slice_get_within xs k x e))
+
+first_byte : List ℕ → ℕ
+first_byte [] = 0
+first_byte (b ∷ bs) = b
+
+-- no underscore in a list of bytes
+abbrev Unbroken : List ℕ → Type 0
+Unbroken bs = AllByRecursion (λ (b : ℕ). b ≡ 95 → ⊥) bs
+
+digits_unbroken : (ds : List ℕ) → AllDigits 10 ds → Unbroken ds
+digits_unbroken [] h = tt
+digits_unbroken (d ∷ ds) h = ((λ e. let small : digit_value 95 < 10 = subst (λ c. digit_value c < 10) e h.0 in omega (arith, small)), digits_unbroken ds h.1)
+
+decimal_unbroken : (n : ℕ) → n < 2 ^ 64 → Unbroken (decimal n)
+decimal_unbroken n h = digits_unbroken (decimal n) (decimal_is_IsNumeral n h).0.1
+
+-- texts with their first underscores at one place
+cut_same : (a b x y : List ℕ) → Unbroken a → Unbroken b → a ++ 95 ∷ x ≡ b ++ 95 ∷ y → (a ≡ b) × (x ≡ y)
+cut_same [] [] x y p q e = (refl, let t : x ≡ y = cc in t)
+cut_same [] (c ∷ b) x y p q e = absurd (q.0 (let h : ◌≡◌ {A = ℕ} 95 c = cc in sym h))
+cut_same (c ∷ a) [] x y p q e = absurd (p.0 (let h : ◌≡◌ {A = ℕ} c 95 = cc in h))
+cut_same (c ∷ a) (d ∷ b) x y p q e =
+    let head : ◌≡◌ {A = ℕ} c d = cc in
+    let tail : a ++ 95 ∷ x ≡ b ++ 95 ∷ y = cc in
+    let r = cut_same a b x y p.1 q.1 tail in
+    (ap (λ k. k ∷ a) head ∙ ap (λ k. d ∷ k) r.0, r.1)
+
+abbrev two : ℕ → ℕ → List ℕ
+two lane word = decimal lane ++ (codes "_" ++ decimal word)
+
+two_same : (l w m v : ℕ) → l < 2 ^ 64 → w < 2 ^ 64 → m < 2 ^ 64 → v < 2 ^ 64 → two l w ≡ two m v → (l ≡ m) × (w ≡ v)
+two_same l w m v hl hw hm hv e =
+    let r = cut_same (decimal l) (decimal m) (decimal w) (decimal v) (decimal_unbroken l hl) (decimal_unbroken m hm) e in
+    (decimal_injective l m hl hm r.0, decimal_injective w v hw hv r.1)
+
+three_same : (p l w q m v : ℕ) → p < 2 ^ 64 → l < 2 ^ 64 → w < 2 ^ 64 → q < 2 ^ 64 → m < 2 ^ 64 → v < 2 ^ 64 → decimal p ++ (codes "_" ++ two l w) ≡ decimal q ++ (codes "_" ++ two m v) → (p ≡ q) × ((l ≡ m) × (w ≡ v))
+three_same p l w q m v hp hl hw hq hm hv e =
+    let r = cut_same (decimal p) (decimal q) (two l w) (two m v) (decimal_unbroken p hp) (decimal_unbroken q hq) e in
+    (decimal_injective p q hp hq r.0, two_same l w m v hl hw hm hv r.1)
+
+tail_same : (b : ℕ) (xs ys : List ℕ) → b ∷ xs ≡ b ∷ ys → xs ≡ ys
+tail_same b xs ys e = cc
+
+input_name_same : (p q : Port) → IsInputPort p → IsInputPort q → HasNumbers p → HasNumbers q → port_name 1 p ≡ port_name 1 q → p ≡ q
+unfolding first_byte
+input_name_same Reset Reset hp hq np nq e = refl
+input_name_same Reset (In q m v) hp hq np nq e = absurd (let h : ◌≡◌ {A = ℕ} 114 105 = ap first_byte e in omega (arith, h))
+input_name_same Reset (Out q m v) hp hq np nq e = absurd hq
+input_name_same Reset (Plain k) hp hq np nq e = absurd hq
+input_name_same (In p l w) Reset hp hq np nq e = absurd (let h : ◌≡◌ {A = ℕ} 105 114 = ap first_byte e in omega (arith, h))
+input_name_same (In p l w) (In q m v) hp hq np nq e =
+    let r = three_same p l w q m v np.0 np.1 np.2 nq.0 nq.1 nq.2 (tail_same 105 _ _ e) in
+    (λ i. In (r.0 i) (r.1.0 i) (r.1.1 i))
+input_name_same (In p l w) (Out q m v) hp hq np nq e = absurd hq
+input_name_same (In p l w) (Plain k) hp hq np nq e = absurd hq
+input_name_same (Out p l w) q hp hq np nq e = absurd hp
+input_name_same (Plain k) q hp hq np nq e = absurd hp
+
+output_name_one : (outs p l w : ℕ) → (outs == 1) ≡ true → port_name outs (Out p l w) ≡ 111 ∷ 95 ∷ two l w
+output_name_one outs p l w h = cond-true _ _ _ h
+
+output_name_more : (outs p l w : ℕ) → (outs == 1) ≡ false → port_name outs (Out p l w) ≡ 111 ∷ (decimal p ++ (codes "_" ++ two l w))
+output_name_more outs p l w h = cond-false _ _ _ h
+
+output_name_same : (outs : ℕ) (p q : Port) → IsOutputPort outs p → IsOutputPort outs q → HasNumbers p → HasNumbers q → port_name outs p ≡ port_name outs q → p ≡ q
+output_name_same outs (Out p l w) (Out q m v) hp hq np nq e = elim (cases_Bool (outs == 1)) [
+  | inl one ↦
+      let same : 111 ∷ 95 ∷ two l w ≡ 111 ∷ 95 ∷ two m v = sym (output_name_one outs p l w one) ∙ e ∙ output_name_one outs q m v one in
+      let r = two_same l w m v np.1 np.2 nq.1 nq.2 (tail_same 95 _ _ (tail_same 111 _ _ same)) in
+      let o : outs ≡ 1 = eqb-true outs 1 one in
+      let z : p ≡ q = omega arith in
+      (λ i. Out (z i) (r.0 i) (r.1 i))
+  | inr more ↦
+      let same : 111 ∷ (decimal p ++ (codes "_" ++ two l w)) ≡ 111 ∷ (decimal q ++ (codes "_" ++ two m v)) = sym (output_name_more outs p l w more) ∙ e ∙ output_name_more outs q m v more in
+      let r = three_same p l w q m v np.0 np.1 np.2 nq.0 nq.1 nq.2 (tail_same 111 _ _ same) in
+      (λ i. Out (r.0 i) (r.1.0 i) (r.1.1 i))
+]
+output_name_same outs (Out p l w) Reset hp hq np nq e = absurd hq
+output_name_same outs (Out p l w) (In q m v) hp hq np nq e = absurd hq
+output_name_same outs (Out p l w) (Plain k) hp hq np nq e = absurd hq
+output_name_same outs Reset q hp hq np nq e = absurd hp
+output_name_same outs (In p l w) q hp hq np nq e = absurd hp
+output_name_same outs (Plain k) q hp hq np nq e = absurd hp
+
+output_first : (outs : ℕ) (p : Port) → IsOutputPort outs p → first_byte (port_name outs p) ≡ 111
+unfolding first_byte
+output_first outs (Out p l w) h = elim (cases_Bool (outs == 1)) [
+  | inl one ↦ ap first_byte (output_name_one outs p l w one)
+  | inr more ↦ ap first_byte (output_name_more outs p l w more)
+]
+output_first outs Reset h = absurd h
+output_first outs (In p l w) h = absurd h
+output_first outs (Plain k) h = absurd h
+
+input_first : (p : Port) → IsInputPort p → (first_byte (port_name 1 p) ≡ 114) ⊎ (first_byte (port_name 1 p) ≡ 105)
+unfolding first_byte
+input_first Reset h = inl refl
+input_first (In p l w) h = inr refl
+input_first (Out p l w) h = absurd h
+input_first (Plain k) h = absurd h
+
+number_first : (k : ℕ) → first_byte (number_name k) ≡ 110
+unfolding first_byte
+number_first k = refl
+
+pub number_same : (j k : ℕ) → j < 2 ^ 64 → k < 2 ^ 64 → number_name j ≡ number_name k → j ≡ k
+number_same j k hj hk e = decimal_injective j k hj hk (tail_same 110 _ _ e)
+
+clock_first : first_byte clock_name ≡ 99
+unfolding first_byte
+clock_first = refl
+
+-- a cell's name is that of an input, or its number
+cell_first : (k : ℕ) (c : Cell) → ((port : Port) → c ≡ Input port → IsInputPort port) → (first_byte (cell_name k c) ≡ 114) ⊎ ((first_byte (cell_name k c) ≡ 105) ⊎ (first_byte (cell_name k c) ≡ 110))
+cell_first k (Input port) h = elim (input_first port (h port refl)) [ inl e ↦ inl e | inr e ↦ inr (inl e) ]
+cell_first k (Const v) h = inr (inr (number_first k))
+cell_first k (Op op args) h = inr (inr (number_first k))
+cell_first k (Reg next) h = inr (inr (number_first k))
+cell_first k (Mem depth at next enable) h = inr (inr (number_first k))
+cell_first k (Peek mem at) h = inr (inr (number_first k))
+
+-- the cell is an input, or it has the name of its number
+pub data IsNamed (k : ℕ) (c : Cell) : Type 0 where
+  by_port : (port : Port) → c ≡ Input port → IsNamed k c
+  by_number : cell_name k c ≡ number_name k → IsNamed k c
+
+pub named_by : (k : ℕ) (c : Cell) → IsNamed k c
+named_by k (Input port) = by_port port refl
+named_by k (Const v) = by_number refl
+named_by k (Op op args) = by_number refl
+named_by k (Reg next) = by_number refl
+named_by k (Mem depth at next enable) = by_number refl
+named_by k (Peek mem at) = by_number refl
+
+module _ (cells : List SizedCell) (outlets : List Outlet) (outs : ℕ) (ok : IsWritableNetlist cells outlets outs) where
+  input_numbers : (n width : ℕ) (port : Port) → slice_get cells n ≡ Some (record { width = width; cell = Input port }) → HasNumbers port
+  input_numbers n width port h = port_numbers port (all_at (λ (sized : SizedCell). CellPortFits sized.cell) cells n _ ok.inputs h)
+
+  output_numbers : (k : ℕ) (o : Outlet) → slice_get outlets k ≡ Some o → HasNumbers o.port
+  output_numbers k o h = port_numbers o.port (all_at (λ (outlet : Outlet). PortFits outlet.port) outlets k o ok.outputs h)
+
+  input_at : (k : ℕ) (sized : SizedCell) (port : Port) → slice_get cells k ≡ Some sized → sized.cell ≡ Input port → slice_get cells k ≡ Some (record { width = sized.width; cell = Input port })
+  input_at k sized port h e = h ∙ ap Some (ap (λ c. let s : SizedCell = record { width = sized.width; cell = c } in s) e)
+
+  is_port : (k : ℕ) (sized : SizedCell) → slice_get cells k ≡ Some sized → (port : Port) → sized.cell ≡ Input port → IsInputPort port
+  is_port k sized h port e = ok.ports.inputs k sized.width port (input_at k sized port h e)
+
+  first_of_cell : (k : ℕ) (sized : SizedCell) → slice_get cells k ≡ Some sized → (first_byte (cell_name k sized.cell) ≡ 114) ⊎ ((first_byte (cell_name k sized.cell) ≡ 105) ⊎ (first_byte (cell_name k sized.cell) ≡ 110))
+  first_of_cell k sized h = cell_first k sized.cell (is_port k sized h)
+
+  other_first : (k : ℕ) (sized : SizedCell) (n : List ℕ) (b : ℕ) → slice_get cells k ≡ Some sized → first_byte n ≡ b → (b ≡ 114 → ⊥) → (b ≡ 105 → ⊥) → (b ≡ 110 → ⊥) → cell_name k sized.cell ≡ n → ⊥
+  other_first k sized n b h f x y z e = elim (first_of_cell k sized h) [
+    | inl p ↦ x (sym f ∙ sym (ap first_byte e) ∙ p)
+    | inr r ↦ elim r [ inl p ↦ y (sym f ∙ sym (ap first_byte e) ∙ p) | inr p ↦ z (sym f ∙ sym (ap first_byte e) ∙ p) ]
+  ]
+
+  port_not_number : (k : ℕ) (sized : SizedCell) (port : Port) → slice_get cells k ≡ Some sized → sized.cell ≡ Input port → (n : List ℕ) → first_byte n ≡ 110 → cell_name k sized.cell ≡ n → ⊥
+  port_not_number k sized port h x n f e =
+      let name : first_byte (port_name 1 port) ≡ 110 = ap first_byte (ap (cell_name k) (sym x) ∙ e) ∙ f in
+      elim (input_first port (is_port k sized h port x)) [
+        | inl p ↦ let z : ◌≡◌ {A = ℕ} 114 110 = sym p ∙ name in omega (arith, z)
+        | inr p ↦ let z : ◌≡◌ {A = ℕ} 105 110 = sym p ∙ name in omega (arith, z)
+      ]
+
+  -- a cell's name is not the clock's, and no output's
+  pub cell_not_clock : (k : ℕ) (sized : SizedCell) → slice_get cells k ≡ Some sized → cell_name k sized.cell ≡ clock_name → ⊥
+  cell_not_clock k sized h e = other_first k sized clock_name 99 h clock_first (λ z. omega arith) (λ z. omega arith) (λ z. omega arith) e
+
+  pub cell_not_output : (k : ℕ) (sized : SizedCell) (j : ℕ) (o : Outlet) → slice_get cells k ≡ Some sized → slice_get outlets j ≡ Some o → cell_name k sized.cell ≡ port_name outs o.port → ⊥
+  cell_not_output k sized j o h g e = other_first k sized (port_name outs o.port) 111 h (output_first outs o.port (ok.ports.outputs j o g)) (λ z. omega arith) (λ z. omega arith) (λ z. omega arith) e
+
+  pub clock_not_output : (j : ℕ) (o : Outlet) → slice_get outlets j ≡ Some o → clock_name ≡ port_name outs o.port → ⊥
+  clock_not_output j o g e = let h : ◌≡◌ {A = ℕ} 99 111 = sym clock_first ∙ ap first_byte e ∙ output_first outs o.port (ok.ports.outputs j o g) in omega (arith, h)
+
+  pub output_once : (j k : ℕ) (a b : Outlet) → slice_get outlets j ≡ Some a → slice_get outlets k ≡ Some b → port_name outs a.port ≡ port_name outs b.port → j ≡ k
+  output_once j k a b ha hb e =
+      ok.ports.outputs_differ j k a b ha hb (output_name_same outs a.port b.port (ok.ports.outputs j a ha) (ok.ports.outputs k b hb) (output_numbers j a ha) (output_numbers k b hb) e)
+
+  pub number_fits : (k : ℕ) (sized : SizedCell) → slice_get cells k ≡ Some sized → k < 2 ^ 64
+  number_fits k sized h = let w = slice_get_within cells k sized h in let f = ok.few in omega arith
+
+  pub cell_once : (j k : ℕ) (a b : SizedCell) → slice_get cells j ≡ Some a → slice_get cells k ≡ Some b → cell_name j a.cell ≡ cell_name k b.cell → j ≡ k
+  cell_once j k a b ha hb e = elim (named_by j a.cell) [
+    | by_port p x ↦ elim (named_by k b.cell) [
+      | by_port q y ↦
+          let here = input_at j a p ha x in
+          let there = input_at k b q hb y in
+          let names : port_name 1 p ≡ port_name 1 q = ap (cell_name j) (sym x) ∙ e ∙ ap (cell_name k) y in
+          let same : p ≡ q = input_name_same p q (ok.ports.inputs j a.width p here) (ok.ports.inputs k b.width q there) (input_numbers j a.width p here) (input_numbers k b.width q there) names in
+          ok.ports.inputs_differ j k a.width b.width q (subst (λ r. slice_get cells j ≡ Some (record { width = a.width; cell = Input r })) same here) there
+      | by_number y ↦ absurd (port_not_number j a p ha x (number_name k) (number_first k) (e ∙ y))
+    ]
+    | by_number x ↦ elim (named_by k b.cell) [
+      | by_port q y ↦ absurd (port_not_number k b q hb y (number_name j) (number_first j) (sym e ∙ x))
+      | by_number y ↦ number_same j k (number_fits j a ha) (number_fits k b hb) (sym x ∙ e ∙ y)
+    ]
+  ]

@@ -1,0 +1,97 @@
+-- What the pieces of a line come to.
+use Rattle.std.proofs.Common.{◌≡◌, ℕ, ◌-◌, ◌<◌, List, ◌++◌, true, false, Result, Ok, Err, OnOk, sym, ap, ◌∙◌, append_assoc, arith}
+use Rattle.std.specs.Prelude.{codes, decimal, nat_lt, ◌&&◌, if◌then◌else◌}
+use Rattle.std.proofs.lemmas.Bool.{cond-true, lt-ltb}
+use Rattle.ae_netlist.specs.declared.cell.SizedCell.{SizedCell}
+use Rattle.ae_netlist.specs.declared.cell.Port.{Port}
+use Rattle.ae_netlist.specs.Circuit.{width_of}
+use Rattle.ae_word.specs.declared.op.WordOp.{WordOp}
+use Rattle.ae_verilog.specs.NetlistModule.{net_name, net_value, op_value, cast_to, shifted, port_name}
+use Rattle.ae_verilog.specs.Text.{register_edge, memory_edge, expr_text, shift_text, value_text, op_text, is_cast, range_text}
+use Rattle.ae_verilog.proofs.Joining.{one_digit}
+use Rattle.ae_vread.specs.declared.module.BinOp.{BinOp}
+use Rattle.ae_vread.specs.ModuleTree.{binary, constant}
+use Rattle.std.specs.List.{flat_map}
+use Rattle.ae_netlist.specs.declared.cell.Outlet.{Outlet}
+use Rattle.ae_verilog.specs.Text.{sign_text, input_text, output_text, header_text}
+
+pub register_steps : {E : Type 0} (r : Result (Unit {0}) E) (old one two new next : List ℕ) (net : ℕ) →
+    one ≡ old ++ (codes "  always @(posedge clk) n" ++ (decimal net ++ codes " <= ")) → two ≡ one ++ next →
+    OnOk r (new ≡ two ++ codes ";\n") → OnOk r (new ≡ old ++ register_edge next net)
+register_steps (Ok u) old one two new next net first second third =
+    third ∙ ap (λ l. l ++ codes ";\n") (second ∙ ap (λ l. l ++ next) first) ∙ simp append_assoc
+register_steps (Err e) old one two new next net first second third = tt
+
+pub memory_steps : {E : Type 0} (r : Result (Unit {0}) E) (old a b c d e f new at next enable : List ℕ) (net : ℕ) →
+    a ≡ old ++ codes "  always @(posedge clk) if (" → b ≡ a ++ enable → c ≡ b ++ (codes ") n" ++ (decimal net ++ codes "[")) →
+    d ≡ c ++ at → e ≡ d ++ codes "] <= " → f ≡ e ++ next →
+    OnOk r (new ≡ f ++ codes ";\n") → OnOk r (new ≡ old ++ memory_edge at next enable net)
+memory_steps (Ok u) old a b c d e f new at next enable net ha hb hc hd he hf last =
+    last ∙ ap (λ l. l ++ codes ";\n") (hf ∙ ap (λ l. l ++ next) (he ∙ ap (λ l. l ++ codes "] <= ") (hd ∙ ap (λ l. l ++ at)
+    (hc ∙ ap (λ l. l ++ (codes ") n" ++ (decimal net ++ codes "["))) (hb ∙ ap (λ l. l ++ enable) ha))))) ∙ simp append_assoc
+memory_steps (Err x) old a b c d e f new at next enable net ha hb hc hd he hf last = tt
+
+-- a cast to fewer bits
+pub part_steps : {E : Type 0} (r : Result (Unit {0}) E) (cells : List SizedCell) (to a w high : ℕ) (old one new : List ℕ) →
+    w ≡ width_of cells a → to < w → high ≡ to - 1 → one ≡ old ++ net_name cells a →
+    OnOk r (new ≡ one ++ (codes "[" ++ (decimal high ++ codes ":0]"))) → OnOk r (new ≡ old ++ expr_text (cast_to cells to a))
+part_steps (Ok u) cells to a w high old one new wide narrower top first second =
+    let test : nat_lt to (width_of cells a) ≡ true = lt-ltb _ _ (omega (arith, wide, narrower)) in
+    let low : decimal 0 ≡ codes "0" = one_digit 0 (omega arith) in
+    second ∙ ap (λ l. l ++ (codes "[" ++ (decimal high ++ codes ":0]"))) first
+    ∙ append_assoc old (net_name cells a) _
+    ∙ ap (λ n. old ++ (net_name cells a ++ (codes "[" ++ (decimal n ++ codes ":0]")))) top
+    ∙ ap (λ z. old ++ (net_name cells a ++ (codes "[" ++ (decimal (to - 1) ++ (codes ":" ++ (z ++ codes "]")))))) (sym low)
+    ∙ ap (λ e. old ++ expr_text e) (sym (cond-true _ _ _ test))
+part_steps (Err x) cells to a w high old one new wide narrower top first second = tt
+
+shift_same : (cells : List SizedCell) (op : BinOp) (width a by : ℕ) → shift_text (net_name cells a) (sign_text op) width by ≡ expr_text (shifted cells op width a by)
+shift_same cells op width a by = elim (nat_lt by width) as (λ t.
+    (if t then net_name cells a ++ (codes " " ++ (sign_text op ++ (codes " 6'd" ++ decimal by))) else decimal width ++ codes "'d0")
+    ≡ expr_text (if t then binary op (net_value cells a) (constant 6 by true) else constant width 0 true)) [
+      | true ↦ ap (λ s. net_name cells a ++ (codes " " ++ (sign_text op ++ (codes " " ++ (s ++ (codes "'d" ++ decimal by)))))) (sym (one_digit 6 (omega arith)))
+      | false ↦ ap (λ z. decimal width ++ (codes "'d" ++ z)) (sym (one_digit 0 (omega arith)))
+    ]
+
+pub shift_steps : {E : Type 0} (r : Result (Unit {0}) E) (cells : List SizedCell) (op : BinOp) (width a by : ℕ) (old new : List ℕ) →
+    OnOk r (new ≡ old ++ shift_text (net_name cells a) (sign_text op) width by) → OnOk r (new ≡ old ++ expr_text (shifted cells op width a by))
+shift_steps (Ok u) cells op width a by old new h = h ∙ ap (λ l. old ++ l) (shift_same cells op width a by)
+shift_steps (Err x) cells op width a by old new h = tt
+
+-- a wire that widens a word, between its two comment lines
+pub widened_steps : {E : Type 0} (r : Result (Unit {0}) E) (cells : List SizedCell) (width net : ℕ) (op : WordOp) (a b c : ℕ) (old one two new : List ℕ) →
+    (is_cast op && nat_lt (width_of cells a) width) ≡ true →
+    one ≡ old ++ codes "  // verilator lint_off WIDTH\n" → two ≡ one ++ value_text width net (op_value cells width op a b c) →
+    OnOk r (new ≡ two ++ codes "  // verilator lint_on WIDTH\n") → OnOk r (new ≡ old ++ op_text cells width net op a b c)
+widened_steps (Ok u) cells width net op a b c old one two new wide first second third =
+    let value : List ℕ = value_text width net (op_value cells width op a b c) in
+    third ∙ ap (λ l. l ++ codes "  // verilator lint_on WIDTH\n") (second ∙ ap (λ l. l ++ value) first)
+    ∙ shape value
+    ∙ ap (λ l. old ++ l) (sym (cond-true _ _ _ wide))
+  where
+    shape : (value : List ℕ) → ((old ++ codes "  // verilator lint_off WIDTH\n") ++ value) ++ codes "  // verilator lint_on WIDTH\n" ≡ old ++ (codes "  // verilator lint_off WIDTH\n" ++ (value ++ codes "  // verilator lint_on WIDTH\n"))
+    shape value = simp append_assoc
+widened_steps (Err x) cells width net op a b c old one two new wide first second third = tt
+
+pub input_steps : {E : Type 0} (r : Result (Unit {0}) E) (width : ℕ) (port : Port) (old one two new : List ℕ) →
+    one ≡ old ++ codes ",\n  input wire " → two ≡ one ++ range_text width → OnOk r (new ≡ two ++ port_name 1 port) →
+    OnOk r (new ≡ old ++ (codes ",\n  input wire " ++ (range_text width ++ port_name 1 port)))
+input_steps (Ok u) width port old one two new first second third =
+    third ∙ ap (λ l. l ++ port_name 1 port) (second ∙ ap (λ l. l ++ range_text width) first) ∙ shape (range_text width) (port_name 1 port)
+  where
+    shape : (range n : List ℕ) → ((old ++ codes ",\n  input wire ") ++ range) ++ n ≡ old ++ (codes ",\n  input wire " ++ (range ++ n))
+    shape range n = simp append_assoc
+input_steps (Err x) width port old one two new first second third = tt
+
+pub header_steps : {E : Type 0} (r : Result (Unit {0}) E) (cells : List SizedCell) (outlets : List Outlet) (outs : ℕ) (old one two three new : List ℕ) →
+    one ≡ old ++ codes "module aeth (\n  input wire clk" → two ≡ one ++ flat_map (λ (sized : SizedCell). input_text sized.width sized.cell) cells →
+    three ≡ two ++ flat_map (output_text cells outs) outlets → OnOk r (new ≡ three ++ codes "\n);\n") →
+    OnOk r (new ≡ old ++ header_text cells outlets outs)
+header_steps (Ok u) cells outlets outs old one two three new first second third last =
+    let inputs : List ℕ = flat_map (λ (sized : SizedCell). input_text sized.width sized.cell) cells in
+    let outputs : List ℕ = flat_map (output_text cells outs) outlets in
+    last ∙ ap (λ l. l ++ codes "\n);\n") (third ∙ ap (λ l. l ++ outputs) (second ∙ ap (λ l. l ++ inputs) first)) ∙ shape inputs outputs
+  where
+    shape : (a b : List ℕ) → ((((old ++ codes "module aeth (\n  input wire clk") ++ a) ++ b) ++ codes "\n);\n") ≡ old ++ (codes "module aeth (\n  input wire clk" ++ (a ++ (b ++ codes "\n);\n")))
+    shape a b = simp append_assoc
+header_steps (Err x) cells outlets outs old one two three new first second third last = tt

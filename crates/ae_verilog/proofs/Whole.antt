@@ -1,0 +1,212 @@
+-- The text of a netlist's module spells that module.
+use Rattle.std.proofs.Common.{◌≡◌, ℕ, suc, ◌+◌, ◌<◌, ◌≤◌, ◌^◌, List, [], ◌∷◌, ◌++◌, All, length, map, Result, Ok, Err, IfOk, IsTrue, string_bytes, Bool, true, false, Some, refl, sym, ap, ◌∙◌, subst, arith, append_assoc, append-nil}
+use Rattle.std.specs.Prelude.{String, codes, nat_lt, slice_get, ◌&&◌, if◌then◌else◌}
+use Rattle.std.specs.List.{flat_map, list_all}
+use Rattle.std.proofs.lemmas.Option.{slice_get_within, get_or_from_slice_get}
+use Rattle.ae_netlist.specs.declared.cell.Cell.{Cell}
+use Rattle.ae_netlist.specs.declared.cell.Cell.TheVariants.{Input, Const, Op, Reg, Mem, Peek}
+use Rattle.ae_netlist.specs.declared.cell.SizedCell.{SizedCell}
+use Rattle.ae_netlist.specs.declared.cell.Outlet.{Outlet}
+use Rattle.ae_netlist.specs.Circuit.{operand, width_of, IsFormed, HaveNets}
+use Rattle.ae_word.specs.declared.op.WordOp.{WordOp}
+use Rattle.ae_vread.specs.declared.token.Key.TheVariants.{EndModule}
+use Rattle.ae_vread.specs.declared.token.Sign.TheVariants.{Comma, Close, Semicolon}
+use Rattle.ae_vread.specs.ModuleTree.{ExprTree, constant, index}
+use Rattle.ae_vread.specs.Tokens.{TokenTree, Mark, Word, AreTokens, No_more}
+use Rattle.ae_vread.specs.Forms.{PortForm, ItemForm, InputHead, port_tokens, comma_tokens, item_tokens, module_tokens}
+use Rattle.ae_vread.specs.Spells.{Spells}
+use Rattle.ae_verilog.specs.declared.report.Report.{Report}
+use Rattle.ae_verilog.specs.ReportLines.{report_lines, is_clean}
+use Rattle.ae_verilog.specs.NetlistModule.{port_name, net_name, net_value, op_value, listed, netlist_module}
+use Rattle.ae_verilog.specs.Text.{PortFits, CellPortFits, is_cast, value_text, widened_text, op_text, declaration_text, input_text, output_text, header_text, assignment_text, edge_text, module_text, whole_text}
+use Rattle.ae_verilog.proofs.Writable.{IsWritable}
+use Rattle.ae_verilog.proofs.Lines.{IsTextOf, no_text, both_texts, value_item, register_item, memory_item, register_edge_item, memory_edge_item, value_line, widened_line, register_line, memory_line, assign_line, register_edge_line, memory_edge_line, end_line, quiet_line, report_text}
+use Rattle.ae_verilog.proofs.Ports.{port_form, IsPieceOf, no_piece, both_pieces, input_port, output_port, head_lines, start_tokens}
+use Rattle.ae_verilog.proofs.Named.{IsGood, port_named, fits_at}
+use Rattle.ae_verilog.proofs.NetlistForm.{input_forms, output_form, declaration_form, assignment_form, edge_form, port_forms, item_forms, netlist_form, flat_both, flat_flat, flat_listed, flat_mapped, next_place, first_place}
+use Rattle.ae_verilog.proofs.NetlistTree.{IsDeclared, IsEdged, cell_of, outlet_of, tree_back, items_formed}
+
+-- lists of texts
+
+listed_text : {X : Type 0} (f : ℕ → X → List ℕ) (g : ℕ → X → List TokenTree) (k : ℕ) (xs : List X) → ((j : ℕ) (x : X) → slice_get xs j ≡ Some x → IsTextOf (f (k + j) x) (g (k + j) x)) → IsTextOf (listed f k xs) (listed g k xs)
+listed_text f g k [] each = no_text
+listed_text f g k (x ∷ xs) each =
+    both_texts (f k x) (listed f (k + 1) xs) (g k x) (listed g (k + 1) xs)
+    (subst (λ n. IsTextOf (f n x) (g n x)) (first_place k) (each 0 x refl))
+    (listed_text f g (k + 1) xs (λ j y e. subst (λ n. IsTextOf (f n y) (g n y)) (next_place k j) (each (suc j) y e)))
+
+flat_text : {X : Type 0} (f : X → List ℕ) (g : X → List TokenTree) (xs : List X) → ((j : ℕ) (x : X) → slice_get xs j ≡ Some x → IsTextOf (f x) (g x)) → IsTextOf (flat_map f xs) (flat_map g xs)
+flat_text f g [] each = no_text
+flat_text f g (x ∷ xs) each = both_texts (f x) (flat_map f xs) (g x) (flat_map g xs) (each 0 x refl) (flat_text f g xs (λ j y e. each (suc j) y e))
+
+flat_piece : {X : Type 0} (f : X → List ℕ) (g : X → List TokenTree) (xs : List X) → ((j : ℕ) (x : X) → slice_get xs j ≡ Some x → IsPieceOf (f x) (g x)) → IsPieceOf (flat_map f xs) (flat_map g xs)
+flat_piece f g [] each = no_piece
+flat_piece f g (x ∷ xs) each = both_pieces (f x) (flat_map f xs) (g x) (flat_map g xs) (each 0 x refl) (flat_piece f g xs (λ j y e. each (suc j) y e))
+
+single : (text : List ℕ) (i : ItemForm) → IsTextOf text (item_tokens i) → IsTextOf text (flat_map item_tokens (i ∷ []))
+single text i h = subst (IsTextOf text) (sym (append-nil (item_tokens i))) h
+
+-- cells
+
+op_line : (cells : List SizedCell) (width net : ℕ) (op : WordOp) (a b c : ℕ) → width ≤ 64 → net < 2 ^ 64 → IsWritable (op_value cells width op a b c) → IsTextOf (op_text cells width net op a b c) (item_tokens (value_item width net (op_value cells width op a b c)))
+op_line cells width net op a b c high numbered w = choose (is_cast op && nat_lt (width_of cells a) width) (op_value cells width op a b c) w
+  where
+    choose : (t : Bool) (value : ExprTree) → IsWritable value → IsTextOf (if t then widened_text width net value else value_text width net value) (item_tokens (value_item width net value))
+    choose true value w = widened_line width net value high numbered w
+    choose false value w = value_line width net value high numbered w
+
+declaration_line : (cells : List SizedCell) (net width : ℕ) (cell : Cell) → width ≤ 64 → net < 2 ^ 64 → IsDeclared cells net width cell → IsTextOf (declaration_text cells net width cell) (flat_map item_tokens (declaration_form cells net width cell))
+declaration_line cells net width (Input port) high numbered h = no_text
+declaration_line cells net width (Const k) high numbered h = single _ (value_item width net (constant width k true)) (value_line width net (constant width k true) high numbered h)
+declaration_line cells net width (Op op args) high numbered h =
+    single _ (value_item width net (op_value cells width op (operand args 0) (operand args 1) (operand args 2))) (op_line cells width net op (operand args 0) (operand args 1) (operand args 2) high numbered h)
+declaration_line cells net width (Reg next) high numbered h = single _ (register_item width net) (register_line width net high numbered)
+declaration_line cells net width (Mem depth at next enable) high numbered h = single _ (memory_item width net depth) (memory_line width net depth high numbered h.1)
+declaration_line cells net width (Peek mem at) high numbered h =
+    single _ (value_item width net (index (net_name cells mem.0) (net_value cells at.0))) (value_line width net (index (net_name cells mem.0) (net_value cells at.0)) high numbered h)
+
+edge_line : (cells : List SizedCell) (net : ℕ) (cell : Cell) → net < 2 ^ 64 → IsEdged cells cell → IsTextOf (edge_text cells net cell) (flat_map item_tokens (edge_form cells net cell))
+edge_line cells net (Input port) numbered h = no_text
+edge_line cells net (Const k) numbered h = no_text
+edge_line cells net (Op op args) numbered h = no_text
+edge_line cells net (Reg next) numbered h = single _ (register_edge_item (net_name cells next.0) net) (register_edge_line (net_name cells next.0) net numbered h)
+edge_line cells net (Mem depth at next enable) numbered h =
+    single _ (memory_edge_item (net_name cells at.0) (net_name cells next.0) (net_name cells enable.0) net) (memory_edge_line (net_name cells at.0) (net_name cells next.0) (net_name cells enable.0) net numbered h.0 h.1 h.2)
+edge_line cells net (Peek mem at) numbered h = no_text
+
+single_port : (text : List ℕ) (p : PortForm) → IsPieceOf text (Mark Comma ∷ port_tokens p) → IsPieceOf text (comma_tokens port_tokens (p ∷ []))
+single_port text p h = subst (IsPieceOf text) (sym (append-nil (Mark Comma ∷ port_tokens p))) h
+
+input_line : (width : ℕ) (cell : Cell) → width ≤ 64 → CellPortFits cell → IsPieceOf (input_text width cell) (comma_tokens port_tokens (input_forms width cell))
+input_line width (Input port) high fits = single_port _ (port_form (InputHead true) width (port_name 1 port)) (input_port width (port_name 1 port) high (port_named 1 port fits))
+input_line width (Const k) high fits = no_piece
+input_line width (Op op args) high fits = no_piece
+input_line width (Reg next) high fits = no_piece
+input_line width (Mem depth at next enable) high fits = no_piece
+input_line width (Peek mem at) high fits = no_piece
+
+-- the outputs can be written
+pub record AreGood (cells : List SizedCell) (outlets : List Outlet) : Type 0 where
+  pub have : HaveNets cells outlets
+  pub fits : All (λ (outlet : Outlet). PortFits outlet.port) outlets
+
+outlet_fits : (cells : List SizedCell) (outlets : List Outlet) (j : ℕ) (outlet : Outlet) → AreGood cells outlets → slice_get outlets j ≡ Some outlet → PortFits outlet.port
+outlet_fits cells outlets j outlet good e =
+    subst (λ (o : Outlet). PortFits o.port) (get_or_from_slice_get outlets j outlet outlet e) (good.fits j outlet (slice_get_within outlets j outlet e))
+
+-- the head
+
+ports_piece : (cells : List SizedCell) (outlets : List Outlet) (outs : ℕ) → IsGood cells → AreGood cells outlets →
+    IsPieceOf (flat_map (λ (sized : SizedCell). input_text sized.width sized.cell) cells ++ flat_map (output_text cells outs) outlets) (comma_tokens port_tokens (port_forms cells outlets outs))
+ports_piece cells outlets outs good shown =
+    let ins : List PortForm = flat_map (λ (sized : SizedCell). input_forms sized.width sized.cell) cells in
+    let tokens : comma_tokens port_tokens (port_forms cells outlets outs) ≡ flat_map (λ (sized : SizedCell). comma_tokens port_tokens (input_forms sized.width sized.cell)) cells ++ flat_map (λ o. Mark Comma ∷ port_tokens (output_form cells outs o)) outlets =
+    flat_both (λ p. Mark Comma ∷ port_tokens p) ins (map (output_form cells outs) outlets)
+    ∙ ap (λ l. l ++ comma_tokens port_tokens (map (output_form cells outs) outlets)) (flat_flat (λ p. Mark Comma ∷ port_tokens p) (λ (sized : SizedCell). input_forms sized.width sized.cell) cells)
+    ∙ ap (λ l. flat_map (λ (sized : SizedCell). comma_tokens port_tokens (input_forms sized.width sized.cell)) cells ++ l) (flat_mapped (λ p. Mark Comma ∷ port_tokens p) (output_form cells outs) outlets) in
+    subst (IsPieceOf (flat_map (λ (sized : SizedCell). input_text sized.width sized.cell) cells ++ flat_map (output_text cells outs) outlets)) (sym tokens)
+    (both_pieces _ _ _ _
+    (flat_piece (λ (sized : SizedCell). input_text sized.width sized.cell) (λ (sized : SizedCell). comma_tokens port_tokens (input_forms sized.width sized.cell)) cells
+    (λ j sized e. let cell = cell_of cells j sized good e in input_line sized.width sized.cell cell.high (fits_at cells j sized good e)))
+    (flat_piece (output_text cells outs) (λ o. Mark Comma ∷ port_tokens (output_form cells outs o)) outlets
+    (λ j outlet e. let net = outlet_of cells outlets j outlet good shown.have e in
+    output_port (width_of cells outlet.net.0) (port_name outs outlet.port) net.high (port_named outs outlet.port (outlet_fits cells outlets j outlet shown e)))))
+
+header_lines : (cells : List SizedCell) (outlets : List Outlet) (outs : ℕ) → IsGood cells → AreGood cells outlets →
+    IsTextOf (header_text cells outlets outs) (start_tokens ++ (comma_tokens port_tokens (port_forms cells outlets outs) ++ Mark Close ∷ Mark Semicolon ∷ []))
+header_lines cells outlets outs good shown =
+    let inputs : List ℕ = flat_map (λ (sized : SizedCell). input_text sized.width sized.cell) cells in
+    let outputs : List ℕ = flat_map (output_text cells outs) outlets in
+    subst (λ l. IsTextOf (codes "module aeth (\n  input wire clk" ++ l) (start_tokens ++ (comma_tokens port_tokens (port_forms cells outlets outs) ++ Mark Close ∷ Mark Semicolon ∷ [])))
+    (append_assoc inputs outputs (codes "\n);\n"))
+    (head_lines (inputs ++ outputs) (comma_tokens port_tokens (port_forms cells outlets outs)) (ports_piece cells outlets outs good shown))
+
+-- the items
+
+items_lines : (cells : List SizedCell) (outlets : List Outlet) (outs : ℕ) → IsGood cells → AreGood cells outlets →
+    IsTextOf (listed (λ net (sized : SizedCell). declaration_text cells net sized.width sized.cell) 0 cells ++ (flat_map (assignment_text cells outs) outlets ++ (listed (λ net (sized : SizedCell). edge_text cells net sized.cell) 0 cells ++ codes "endmodule\n")))
+    (flat_map item_tokens (item_forms cells outlets outs) ++ Word EndModule ∷ [])
+items_lines cells outlets outs good shown =
+    let declared : List ItemForm = listed (λ net (sized : SizedCell). declaration_form cells net sized.width sized.cell) 0 cells in
+    let assigned : List ItemForm = map (assignment_form cells outs) outlets in
+    let edges : List ItemForm = listed (λ net (sized : SizedCell). edge_form cells net sized.cell) 0 cells in
+    let one : IsTextOf (listed (λ net (sized : SizedCell). declaration_text cells net sized.width sized.cell) 0 cells) (flat_map item_tokens declared) =
+    subst (IsTextOf (listed (λ net (sized : SizedCell). declaration_text cells net sized.width sized.cell) 0 cells)) (sym (flat_listed item_tokens (λ net (sized : SizedCell). declaration_form cells net sized.width sized.cell) 0 cells))
+    (listed_text _ (λ net (sized : SizedCell). flat_map item_tokens (declaration_form cells net sized.width sized.cell)) 0 cells (λ j sized e.
+    let cell = cell_of cells j sized good e in
+    let same : j ≡ 0 + j = omega arith in
+    declaration_line cells (0 + j) sized.width sized.cell cell.high (omega (arith, cell.within, good.few)) (subst (λ n. IsDeclared cells n sized.width sized.cell) same cell.declared))) in
+    let two : IsTextOf (flat_map (assignment_text cells outs) outlets) (flat_map item_tokens assigned) =
+    subst (IsTextOf (flat_map (assignment_text cells outs) outlets)) (sym (flat_mapped item_tokens (assignment_form cells outs) outlets))
+    (flat_text (assignment_text cells outs) (λ o. item_tokens (assignment_form cells outs o)) outlets (λ j outlet e.
+    let net = outlet_of cells outlets j outlet good shown.have e in
+    assign_line (port_name outs outlet.port) (net_name cells outlet.net.0) (port_named outs outlet.port (outlet_fits cells outlets j outlet shown e)) net.named)) in
+    let three : IsTextOf (listed (λ net (sized : SizedCell). edge_text cells net sized.cell) 0 cells) (flat_map item_tokens edges) =
+    subst (IsTextOf (listed (λ net (sized : SizedCell). edge_text cells net sized.cell) 0 cells)) (sym (flat_listed item_tokens (λ net (sized : SizedCell). edge_form cells net sized.cell) 0 cells))
+    (listed_text _ (λ net (sized : SizedCell). flat_map item_tokens (edge_form cells net sized.cell)) 0 cells (λ j sized e.
+    let cell = cell_of cells j sized good e in
+    edge_line cells (0 + j) sized.cell (omega (arith, cell.within, good.few)) cell.edged)) in
+    let whole = both_texts _ _ _ _ one (both_texts _ _ _ _ two (both_texts _ _ _ _ three end_line)) in
+    subst (IsTextOf _) (sym (joined_tokens (flat_map item_tokens declared) (flat_map item_tokens assigned) (flat_map item_tokens edges) (Word EndModule ∷ [])
+    (flat_map item_tokens (item_forms cells outlets outs)) (flat_both item_tokens declared (assigned ++ edges) ∙ ap (λ l. flat_map item_tokens declared ++ l) (flat_both item_tokens assigned edges)))) whole
+  where
+    joined_tokens : (a b c d whole : List TokenTree) → whole ≡ a ++ (b ++ c) → whole ++ d ≡ a ++ (b ++ (c ++ d))
+    joined_tokens a b c d whole e = ap (λ l. l ++ d) e ∙ append_assoc a (b ++ c) d ∙ ap (λ l. a ++ l) (append_assoc b c d)
+
+module_lines : (cells : List SizedCell) (outlets : List Outlet) (outs : ℕ) → IsGood cells → AreGood cells outlets → IsTextOf (module_text cells outlets outs) (module_tokens (netlist_form cells outlets outs))
+module_lines cells outlets outs good shown =
+    subst (IsTextOf (module_text cells outlets outs))
+    (head_and_items (comma_tokens port_tokens (port_forms cells outlets outs)) (flat_map item_tokens (item_forms cells outlets outs) ++ Word EndModule ∷ []))
+    (both_texts _ _ _ _ (header_lines cells outlets outs good shown) (items_lines cells outlets outs good shown))
+  where
+    head_and_items : (ports items : List TokenTree) → (start_tokens ++ (ports ++ Mark Close ∷ Mark Semicolon ∷ [])) ++ items ≡ start_tokens ++ (ports ++ Mark Close ∷ Mark Semicolon ∷ items)
+    head_and_items ports items = append_assoc start_tokens (ports ++ Mark Close ∷ Mark Semicolon ∷ []) items ∙ ap (λ l. start_tokens ++ l) (append_assoc ports (Mark Close ∷ Mark Semicolon ∷ []) items)
+
+-- the whole text
+whole_lines : (report : Report) (cells : List SizedCell) (outlets : List Outlet) → report.slowdown < 2 ^ 64 → report.latency < 2 ^ 64 → IsGood cells → AreGood cells outlets → IsTextOf (whole_text report cells outlets) (module_tokens (netlist_form cells outlets report.outs))
+whole_lines report cells outlets hs hl good shown =
+    both_texts _ _ _ _ (report_text report.slowdown report.latency hs hl) (both_texts _ _ _ _ quiet_line (module_lines cells outlets report.outs good shown))
+
+pub whole_spelled : (report : Report) (cells : List SizedCell) (outlets : List Outlet) → report.slowdown < 2 ^ 64 → report.latency < 2 ^ 64 → IsGood cells → AreGood cells outlets → Spells (whole_text report cells outlets) (netlist_module cells outlets report.outs)
+whole_spelled report cells outlets hs hl good shown =
+    let lines = whole_lines report cells outlets hs hl good shown in
+    let text : List ℕ = whole_text report cells outlets in
+    let ts : List TokenTree = module_tokens (netlist_form cells outlets report.outs) in
+    record {
+      form = netlist_form cells outlets report.outs;
+      formed = items_formed cells outlets report.outs;
+      written = subst (λ l. AreTokens l ts) (append-nil text) (subst (AreTokens (text ++ [])) (append-nil ts) (lines.tokens [] [] (No_more [] refl)));
+      tree = tree_back cells outlets report.outs good shown.have;
+    }
+
+pub whole_clean : (report : Report) (cells : List SizedCell) (outlets : List Outlet) → report.slowdown < 2 ^ 64 → report.latency < 2 ^ 64 → IsGood cells → AreGood cells outlets → list_all is_clean (whole_text report cells outlets) ≡ true
+whole_clean report cells outlets hs hl good shown = (whole_lines report cells outlets hs hl good shown).clean.all
+
+-- what the writer returns
+
+abbrev pub Fits32 : Report → Type 0
+Fits32 report = (report.slowdown < 2 ^ 32) × (report.latency < 2 ^ 32)
+
+good_from : (cells : List SizedCell) → IsFormed cells → All (λ (sized : SizedCell). CellPortFits sized.cell) cells → length cells < 2 ^ 32 → IsGood cells
+good_from cells formed fits few = record { formed = formed; fits = fits; few = few }
+
+pub returns_spelled : {A E : Type 0} (r : Result (String A) E) (report : Report) (cells : List SizedCell) (outlets : List Outlet) → Fits32 report → IsFormed cells → HaveNets cells outlets → length cells < 2 ^ 32 →
+    IfOk r (λ text. string_bytes text ≡ whole_text report cells outlets) → IfOk r (λ text. All (λ (sized : SizedCell). CellPortFits sized.cell) cells) → IfOk r (λ text. All (λ (outlet : Outlet). PortFits outlet.port) outlets) →
+    IfOk r (λ text. Spells (string_bytes text) (netlist_module cells outlets report.outs))
+returns_spelled (Ok text) report cells outlets fits formed have few bytes ins shown =
+    subst (λ l. Spells l (netlist_module cells outlets report.outs)) (sym bytes)
+    (whole_spelled report cells outlets (omega (arith, fits.0)) (omega (arith, fits.1)) (good_from cells formed ins few) (record { have = have; fits = shown }))
+returns_spelled (Err x) report cells outlets fits formed have few bytes ins shown = tt
+
+pub returns_clean : {A E : Type 0} (r : Result (String A) E) (report : Report) (cells : List SizedCell) (outlets : List Outlet) → Fits32 report → IsFormed cells → HaveNets cells outlets → length cells < 2 ^ 32 →
+    IfOk r (λ text. string_bytes text ≡ whole_text report cells outlets) → IfOk r (λ text. All (λ (sized : SizedCell). CellPortFits sized.cell) cells) → IfOk r (λ text. All (λ (outlet : Outlet). PortFits outlet.port) outlets) →
+    IfOk r (λ text. IsTrue (list_all is_clean (string_bytes text)))
+returns_clean (Ok text) report cells outlets fits formed have few bytes ins shown =
+    ap (list_all is_clean) bytes
+    ∙ whole_clean report cells outlets (omega (arith, fits.0)) (omega (arith, fits.1)) (good_from cells formed ins few) (record { have = have; fits = shown })
+returns_clean (Err x) report cells outlets fits formed have few bytes ins shown = tt
+
+pub returns_reports : {A E : Type 0} (r : Result (String A) E) (report : Report) (cells : List SizedCell) (outlets : List Outlet) →
+    IfOk r (λ text. string_bytes text ≡ whole_text report cells outlets) → IfOk r (λ text. (rest : List ℕ) × (string_bytes text ≡ report_lines report ++ rest))
+returns_reports (Ok text) report cells outlets bytes = (_, bytes)
+returns_reports (Err x) report cells outlets bytes = tt

@@ -1,0 +1,13 @@
+use Rattle.ae_verilog.proofs.laws.module_keeps.Goals as goal
+use Rattle.ae_verilog.proofs.LawSame.{same_runs}
+use Rattle.ae_verilog.proofs.LawWeight.{light}
+use Rattle.ae_verilog.proofs.LawFormed.{well_formed}
+
+pub returns-clause-runs : goal.returns-clause-runs
+returns-clause-runs c n outs ok = same_runs n.cells n.outlets outs ok n.limit
+
+pub returns-clause-light : goal.returns-clause-light
+returns-clause-light c n outs = light n.cells n.outlets outs
+
+pub returns-clause-formed : goal.returns-clause-formed
+returns-clause-formed c n outs ok small = well_formed n.cells n.outlets outs ok small

@@ -1,0 +1,4 @@
+pub mod NetlistModule
+pub mod Written
+pub mod Text
+pub mod ReportLines

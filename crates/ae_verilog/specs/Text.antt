@@ -1,0 +1,167 @@
+-- The bytes that the writer writes, piece by piece.
+use Rattle.std.specs.Prelude.{ℕ, ◌-◌, ◌<◌, ◌^◌, Bool, true, false, ◌&&◌, nat_lt, List, [], ◌++◌, codes, decimal, if◌then◌else◌}
+use Rattle.std.specs.List.{flat_map}
+use Rattle.ae_word.specs.declared.op.WordOp.{WordOp}
+use Rattle.ae_word.specs.declared.op.WordOp.TheVariants.{Cast}
+use Rattle.ae_netlist.specs.declared.cell.Port.{Port}
+use Rattle.ae_netlist.specs.declared.cell.Port.TheVariants.{Reset, In, Out, Plain}
+use Rattle.ae_netlist.specs.declared.cell.Cell.{Cell}
+use Rattle.ae_netlist.specs.declared.cell.Cell.TheVariants.{Input, Const, Op, Reg, Mem, Peek}
+use Rattle.ae_netlist.specs.declared.cell.SizedCell.{SizedCell}
+use Rattle.ae_netlist.specs.declared.cell.Outlet.{Outlet}
+use Rattle.ae_netlist.specs.Circuit.{operand, width_of}
+use Rattle.ae_vread.specs.ModuleTree.{ExprTree, name, constant, place, part, index, unary, binary, choice, concat_one, concat_more}
+use Rattle.ae_vread.specs.declared.module.UnOp.{UnOp}
+use Rattle.ae_vread.specs.declared.module.UnOp.TheVariants.{Not, Flip}
+use Rattle.ae_vread.specs.declared.module.BinOp.{BinOp}
+use Rattle.ae_vread.specs.declared.module.BinOp.TheVariants.{Mul, Add, Sub, Shl, Shr, Lt, Le, Gt, Ge, Eq, Ne, And, Xor, Or, Both, Either}
+use Rattle.ae_verilog.specs.declared.report.Report.{Report}
+use Rattle.ae_verilog.specs.ReportLines.{report_lines}
+use Rattle.ae_verilog.specs.NetlistModule.{port_name, net_name, listed, op_value, net_value}
+
+abbrev pub prefix_text : UnOp → List ℕ
+prefix_text Not = codes "!"
+prefix_text Flip = codes "~"
+
+abbrev pub sign_text : BinOp → List ℕ
+sign_text Mul = codes "*"
+sign_text Add = codes "+"
+sign_text Sub = codes "-"
+sign_text Shl = codes "<<"
+sign_text Shr = codes ">>"
+sign_text Lt = codes "<"
+sign_text Le = codes "<="
+sign_text Gt = codes ">"
+sign_text Ge = codes ">="
+sign_text Eq = codes "=="
+sign_text Ne = codes "!="
+sign_text And = codes "&"
+sign_text Xor = codes "^"
+sign_text Or = codes "|"
+sign_text Both = codes "&&"
+sign_text Either = codes "||"
+
+-- an expression without parentheses; the writer has no concatenations, and no decimal numbers but in part-selects
+abbrev pub expr_text : ExprTree → List ℕ
+expr_text (name n) = n
+expr_text (constant size value fits) = decimal size ++ (codes "'d" ++ decimal value)
+expr_text (place n) = decimal n
+expr_text (part n high low) = n ++ (codes "[" ++ (decimal high ++ (codes ":" ++ (decimal low ++ codes "]"))))
+expr_text (index n at) = n ++ (codes "[" ++ (expr_text at ++ codes "]"))
+expr_text (unary op a) = prefix_text op ++ expr_text a
+expr_text (binary op a b) = expr_text a ++ (codes " " ++ (sign_text op ++ (codes " " ++ expr_text b)))
+expr_text (choice test a b) = expr_text test ++ (codes " ? " ++ (expr_text a ++ (codes " : " ++ expr_text b)))
+expr_text (concat_one a) = []
+expr_text (concat_more a rest) = []
+
+-- the arms of a choice, behind its test
+abbrev pub arms_text : (a b : List ℕ) → List ℕ
+arms_text a b = codes " ? " ++ (a ++ (codes " : " ++ b))
+
+-- a shift by places within the word, and 0 for one by the width or more
+abbrev pub shift_text : (a sign : List ℕ) → (width by : ℕ) → List ℕ
+shift_text a sign width by =
+    if nat_lt by width then a ++ (codes " " ++ (sign ++ (codes " 6'd" ++ decimal by))) else decimal width ++ codes "'d0"
+
+-- the range of a word, and a blank; a single bit has none
+abbrev pub range_text : ℕ → List ℕ
+range_text width = if nat_lt 1 width then codes "[" ++ (decimal (width - 1) ++ codes ":0] ") else []
+
+-- a wire up to its value
+abbrev pub wire_text : (width net : ℕ) → List ℕ
+wire_text width net = codes "  wire " ++ (range_text width ++ (codes "n" ++ (decimal net ++ codes " = ")))
+
+abbrev pub register_text : (width net : ℕ) → List ℕ
+register_text width net = codes "  reg " ++ (range_text width ++ (codes "n" ++ (decimal net ++ codes ";\n")))
+
+abbrev pub memory_text : (width net depth : ℕ) → List ℕ
+memory_text width net depth =
+    codes "  reg " ++ (range_text width ++ (codes "n" ++ (decimal net ++ (codes " [0:" ++ (decimal (depth - 1) ++ codes "];\n")))))
+
+abbrev pub value_text : (width net : ℕ) → ExprTree → List ℕ
+value_text width net value = wire_text width net ++ (expr_text value ++ codes ";\n")
+
+-- a wire whose assignment widens a word says so to Verilator
+abbrev pub widened_text : (width net : ℕ) → ExprTree → List ℕ
+widened_text width net value =
+    codes "  // verilator lint_off WIDTH\n" ++ (value_text width net value ++ codes "  // verilator lint_on WIDTH\n")
+
+abbrev pub is_cast : WordOp → Bool
+is_cast (Cast to) = true
+is_cast _ = false
+
+-- the wire of an operator
+abbrev pub op_text : List SizedCell → (width net : ℕ) → WordOp → (a b c : ℕ) → List ℕ
+op_text cells width net op a b c =
+    if is_cast op && nat_lt (width_of cells a) width
+    then widened_text width net (op_value cells width op a b c)
+    else value_text width net (op_value cells width op a b c)
+
+-- the declaration of a cell
+abbrev pub declaration_text : List SizedCell → (net width : ℕ) → Cell → List ℕ
+declaration_text cells net width (Input port) = []
+declaration_text cells net width (Const k) = value_text width net (constant width k true)
+declaration_text cells net width (Op op args) = op_text cells width net op (operand args 0) (operand args 1) (operand args 2)
+declaration_text cells net width (Reg next) = register_text width net
+declaration_text cells net width (Mem depth at next enable) = memory_text width net depth
+declaration_text cells net width (Peek mem at) = value_text width net (index (net_name cells mem.0) (net_value cells at.0))
+
+-- the ports
+abbrev pub input_text : ℕ → Cell → List ℕ
+input_text width (Input port) = codes ",\n  input wire " ++ (range_text width ++ port_name 1 port)
+input_text width _ = []
+
+abbrev pub output_text : List SizedCell → (outs : ℕ) → Outlet → List ℕ
+output_text cells outs outlet =
+    codes ",\n  output wire " ++ (range_text (width_of cells outlet.net.0) ++ port_name outs outlet.port)
+
+abbrev pub header_text : List SizedCell → List Outlet → (outs : ℕ) → List ℕ
+header_text cells outlets outs =
+    codes "module aeth (\n  input wire clk"
+    ++ (flat_map (λ (sized : SizedCell). input_text sized.width sized.cell) cells
+    ++ (flat_map (output_text cells outs) outlets ++ codes "\n);\n"))
+
+-- what drives an output
+abbrev pub assignment_text : List SizedCell → (outs : ℕ) → Outlet → List ℕ
+assignment_text cells outs outlet =
+    codes "  assign " ++ (port_name outs outlet.port ++ (codes " = " ++ (net_name cells outlet.net.0 ++ codes ";\n")))
+
+-- what a register takes at a clock edge
+abbrev pub register_edge : (next : List ℕ) → ℕ → List ℕ
+register_edge next net = codes "  always @(posedge clk) n" ++ (decimal net ++ (codes " <= " ++ (next ++ codes ";\n")))
+
+-- what a memory takes at a clock edge
+abbrev pub memory_edge : (at next enable : List ℕ) → ℕ → List ℕ
+memory_edge at next enable net =
+    codes "  always @(posedge clk) if ("
+    ++ (enable ++ (codes ") n" ++ (decimal net ++ (codes "[" ++ (at ++ (codes "] <= " ++ (next ++ codes ";\n")))))))
+
+abbrev pub edge_text : List SizedCell → ℕ → Cell → List ℕ
+edge_text cells net (Reg next) = register_edge (net_name cells next.0) net
+edge_text cells net (Mem depth at next enable) =
+    memory_edge (net_name cells at.0) (net_name cells next.0) (net_name cells enable.0) net
+edge_text cells net _ = []
+
+-- the module
+abbrev pub module_text : List SizedCell → List Outlet → (outs : ℕ) → List ℕ
+module_text cells outlets outs =
+    header_text cells outlets outs
+    ++ (listed (λ net (sized : SizedCell). declaration_text cells net sized.width sized.cell) 0 cells
+    ++ (flat_map (assignment_text cells outs) outlets
+    ++ (listed (λ net (sized : SizedCell). edge_text cells net sized.cell) 0 cells ++ codes "endmodule\n")))
+
+-- the whole text: the report lines, a line that keeps Verilator from naming bits that nothing reads, and the module
+abbrev pub whole_text : Report → List SizedCell → List Outlet → List ℕ
+whole_text report cells outlets =
+    report_lines report ++ (codes "// verilator lint_off UNUSEDSIGNAL\n" ++ module_text cells outlets report.outs)
+
+-- numbers of ports that the type of ports has room for
+abbrev pub PortFits : Port → Type 0
+PortFits Reset = Unit {0}
+PortFits (In param lane word) = (param < 2 ^ 32) × (lane < 2 ^ 32) × (word < 2 ^ 32)
+PortFits (Out result lane word) = (result < 2 ^ 32) × (lane < 2 ^ 32) × (word < 2 ^ 32)
+PortFits (Plain k) = k < 2 ^ 32
+
+abbrev pub CellPortFits : Cell → Type 0
+CellPortFits (Input port) = PortFits port
+CellPortFits _ = Unit {0}
