@@ -1,0 +1,13 @@
+#!/usr/bin/env bash
+# Times the writing of a module: seconds and peak memory for so many cells (2,000,000 unless a number is given).
+set -eu
+count=${1:-2000000}
+cd "$(dirname "$0")/../crates/bench_write"
+# Builds the program, and runs it once on a small netlist.
+rt run -- 1000 >&2
+command -v /usr/bin/time >/dev/null 2>&1 || apt-get install -y time >/dev/null 2>&1 || true
+if command -v /usr/bin/time >/dev/null 2>&1; then
+  /usr/bin/time -f '%e seconds, %M KiB at most' ./out/bench_write "$count"
+else
+  time ./out/bench_write "$count"
+fi
