@@ -1,0 +1,4 @@
+pub mod Divisors
+pub mod Applies
+pub mod Laid
+pub mod Layouts
