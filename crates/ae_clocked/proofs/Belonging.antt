@@ -1,0 +1,67 @@
+-- Counters go on to count as their netlist grows, and as others are made.
+use Rattle.std.proofs.Common.{ℕ, ◌≡◌, ◌-◌, ◌<◌, ◌%◌, Bool, true, false, ◌==◌, ◌&&◌, if◌then◌else◌, List, length, Some, refl, sym, ◌∙◌, subst, zero-add}
+use Rattle.std.proofs.lemmas.Bool.{eqb-true}
+use Rattle.ae_netlist.specs.declared.cell.NetId.{NetId}
+use Rattle.ae_netlist.specs.declared.cell.SizedCell.{SizedCell}
+use Rattle.ae_netlist.specs.Circuit.{Circuit, IsNet, Extends}
+use Rattle.ae_netlist.specs.Runs.{InEveryRunFrom}
+use Rattle.ae_netlist.proofs.Growing.{extends_trans, net_later}
+use Rattle.ae_netlist.proofs.Carried.{carries_extends}
+use Rattle.ae_clocked.specs.declared.clocks.Phase.{Phase}
+use Rattle.ae_clocked.specs.Signals.{Grows, Counts}
+use Rattle.ae_clocked.specs.Phases.{Kept, phase_of, same_phase, kept_at, HoldsPhases, IsCounter, Belongs, KeepsCounters}
+use Rattle.ae_clocked.proofs.PhaseLemmas.{counts_phase}
+
+pub counter_grows : (a b : List SizedCell) (rst : ℕ) (phase : Phase) (net : ℕ) → Extends a b → IsCounter a rst phase net → IsCounter b rst phase net
+counter_grows a b rst phase net g h = record {
+  width = h.width;
+  holds = h.holds;
+  is_net = net_later g h.is_net;
+  words = λ all e run r. h.words all (extends_trans g e) run r;
+}
+
+pub belongs_grows : (clocks : Kept) (a b : Circuit) → Grows a b → Belongs clocks a.cells → Belongs clocks b.cells
+belongs_grows clocks a b g h = record {
+  rst = net_later g.extends h.rst;
+  counters = λ phase net found. counter_grows a.cells b.cells clocks.rst phase net.0 g.extends (h.counters phase net found);
+}
+
+abbrev at : (period offset : ℕ) → Phase
+at period offset = record { period = period; offset = offset }
+
+same_at : (a b c d : ℕ) (t : Bool) → (a == c) ≡ t → (t && (b == d)) ≡ true → at a b ≡ at c d
+same_at a b c d true s h = let x : a ≡ c = eqb-true a c s in let y : b ≡ d = eqb-true b d h in cc
+same_at a b c d false s h = cc
+
+-- phases with the same numbers are one
+pub same_is : (p q : Phase) → same_phase p q ≡ true → p ≡ q
+same_is p q e = same_at p.period p.offset q.period q.offset (p.period == q.period) refl e
+
+-- one more counter
+pub belongs_more : (old new : Kept) (phase : Phase) (net : NetId) (cells : List SizedCell) → new.rst ≡ old.rst
+    → ((q : Phase) → kept_at new q ≡ (if same_phase phase q then Some net else kept_at old q)) → Belongs old cells → IsCounter cells old.rst phase net.0 → Belongs new cells
+belongs_more old new phase net cells rst keeps h made = record {
+  rst = rw rst h.rst;
+  counters = λ q y found. rw rst (by q y (same_phase phase q) refl (sym (keeps q) ∙ found));
+}
+  where
+    by : (q : Phase) (y : NetId) (t : Bool) → same_phase phase q ≡ t → (if t then Some net else kept_at old q) ≡ Some y → IsCounter cells old.rst q y.0
+    by q y true s found =
+        let same : net ≡ y = cc in
+        subst (λ (p : Phase). IsCounter cells old.rst p y.0) (same_is phase q s) (subst (λ (n : NetId). IsCounter cells old.rst phase n.0) same made)
+    by q y false s found = h.counters q y found
+
+-- a register that counts from its first phase is a counter
+pub counter_made : (old new : List SizedCell) (rst w p o last first : ℕ) (y : NetId) → last ≡ p - 1 → first ≡ (p - o) % p → o < p → HoldsPhases w p → IsNet new y.0 w
+    → InEveryRunFrom (length old) new (λ run. Counts run y.0 rst w last first) → IsCounter new rst (record { period = p; offset = o }) y.0
+unfolding phase_of
+counter_made old new rst w p o last first y el ef less holds net counts = record {
+  width = w;
+  holds = holds;
+  is_net = net;
+  words = λ all e run r start reset.
+      counts_phase run y.0 rst w p o start less holds.enough (rw (zero-add, ← el, ← ef) (counts all (carries_extends (length old) e) run r)) reset;
+}
+
+pub keeps_same : (clocks : Kept) → KeepsCounters clocks clocks
+keeps_same clocks = record { rst = refl; counters = λ phase net found. found }

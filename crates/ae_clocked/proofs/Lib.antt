@@ -1,0 +1,6 @@
+pub mod Adding
+pub mod Added
+pub mod Turns
+pub mod PhaseLemmas
+pub mod Belonging
+pub mod Late

@@ -1,0 +1,42 @@
+-- The netlist has grown, and each tap is a net of the chain.
+use Rattle.std.proofs.Common.{ℕ, ◌≡◌, ◌+◌, ◌≤◌, List, ◌++◌, ◌∷◌, [], length, get_or, slice_get, Some, refl, arith}
+use Rattle.std.proofs.lemmas.Option.{slice_get-get_or, slice_get_read}
+use Rattle.ae_clocked.proofs.Belonging.{belongs_grows, keeps_same}
+use Rattle.ae_clocked.proofs.Late.{late_taps, taps_more, below_greatest}
+use Rattle.ae_clocked.proofs.lines.line.Goals as goal
+
+pub returns-in_err-nets-clause-belongs : goal.returns-in_err-nets-clause-belongs
+returns-in_err-nets-clause-belongs c = belongs_grows _ _ _ c.in_err-nets.ensures.adds.grows c.requires.belongs
+
+pub returns-in_err-keep-clause-belongs : goal.returns-in_err-keep-clause-belongs
+returns-in_err-keep-clause-belongs c = belongs_grows _ _ _ c.in_ok-nets.ensures.adds.grows c.requires.belongs
+
+pub returns-clause-belongs : goal.returns-clause-belongs
+returns-clause-belongs c = belongs_grows _ _ _ c.in_ok-nets.ensures.adds.grows c.requires.belongs
+
+pub returns-in_err-nets-clause-keeps : goal.returns-in_err-nets-clause-keeps
+returns-in_err-nets-clause-keeps c = keeps_same _
+
+pub returns-in_err-keep-clause-keeps : goal.returns-in_err-keep-clause-keeps
+returns-in_err-keep-clause-keeps c = keeps_same _
+
+pub returns-clause-keeps : goal.returns-clause-keeps
+returns-clause-keeps c = keeps_same _
+
+pub loop-tap-preserved : goal.loop-tap-preserved
+loop-tap-preserved c =
+    let taps : List ℕ = c.args.taps.now in
+    let tap : ℕ = get_or taps c.loop-tap.tap-index 0 in
+    let there : slice_get taps c.loop-tap.tap-index ≡ Some tap = slice_get-get_or taps c.loop-tap.tap-index 0 c.loop-tap-test.true in
+    let small : tap ≤ c.greatest.result = rw c.greatest.ensures (below_greatest taps c.loop-tap.tap-index c.loop-tap-test.true) in
+    let long : length c.in_ok-nets.nets.items ≡ c.greatest.result + 1 = c.in_ok-nets.ensures.long in
+    let net = c.in_ok-nets.ensures.delays.each tap c.index.result.now
+    (slice_get_read c.in_ok-nets.nets.items (length c.in_ok-nets.nets.items) tap c.index.result.now refl (omega arith) c.index.ensures) in
+    let kept : c.keep.new.nets.items ≡ c.loop-tap.tapped.items ++ c.index.result.now ∷ [] = c.in_ok-keep.ensures.ok in
+    rw kept (taps_more _ _ _ _ _ taps _ tap _ c.loop-tap.invariant there (late_taps _ _ _ _ _ _ net))
+
+pub index-requires : goal.index-requires
+index-requires c =
+    let small : get_or c.args.taps.now c.loop-tap.tap-index 0 ≤ c.greatest.result = rw c.greatest.ensures (below_greatest c.args.taps.now c.loop-tap.tap-index c.loop-tap-test.true) in
+    let long : length c.in_ok-nets.nets.items ≡ c.greatest.result + 1 = c.in_ok-nets.ensures.long in
+    first_of (omega arith, grind arith)

@@ -1,0 +1,48 @@
+-- Counters of the clocks after reset.
+use Rattle.std.specs.Prelude.{◌≡◌, ℕ, ◌+◌, ◌-◌, ◌%◌, ◌^◌, ◌≤◌, ◌==◌, ◌&&◌, Bool, List, Option, Some}
+use Rattle.std.specs.Map.{lookup}
+use Rattle.ae_netlist.specs.declared.cell.NetId.{NetId}
+use Rattle.ae_netlist.specs.declared.cell.SizedCell.{SizedCell}
+use Rattle.ae_netlist.specs.Circuit.{IsNet}
+use Rattle.ae_netlist.specs.Runs.{InEveryResetRun, HasWords}
+use Rattle.ae_clocked.specs.declared.clocks.Phase.{Phase}
+
+-- what contracts see of the clocks: the reset net, and the nets of the counters that were made
+pub record Kept : Type 0 where
+  pub rst : ℕ
+  pub counters : List (Phase × NetId)
+
+-- two phases with the same numbers
+abbrev pub same_phase : Phase → Phase → Bool
+same_phase a b = (a.period == b.period) && (a.offset == b.offset)
+
+-- the net of the counter of a phase, where it was made
+abbrev pub kept_at : Kept → Phase → Option NetId
+kept_at kept phase = lookup (same_phase phase) kept.counters
+
+-- the word of a phase in a clock
+unfoldable pub phase_of : (period offset c : ℕ) → ℕ
+phase_of period offset c = (c + period - offset) % period
+
+-- the width is the least one, from 1 on, that holds all words of a phase
+pub record HoldsPhases (width period : ℕ) : Type 0 where
+  pub low : 1 ≤ width
+  pub enough : period ≤ 2 ^ width
+  pub least : (v : ℕ) → 1 ≤ v → period ≤ 2 ^ v → width ≤ v
+
+-- a net that is no memory and counts the clocks of every reset run
+pub record IsCounter (cells : List SizedCell) (rst : ℕ) (phase : Phase) (net : ℕ) : Type 0 where
+  pub width : ℕ
+  pub holds : HoldsPhases width phase.period
+  pub is_net : IsNet cells net width
+  pub words : InEveryResetRun cells rst (λ run start. HasWords run start net (phase_of phase.period phase.offset))
+
+-- these clocks belong to a netlist
+pub record Belongs (clocks : Kept) (cells : List SizedCell) : Type 0 where
+  pub rst : IsNet cells clocks.rst 1
+  pub counters : (phase : Phase) (net : NetId) → kept_at clocks phase ≡ Some net → IsCounter cells clocks.rst phase net.0
+
+-- clocks with the same reset that go on to keep each counter
+pub record KeepsCounters (old new : Kept) : Type 0 where
+  pub rst : new.rst ≡ old.rst
+  pub counters : (phase : Phase) (net : NetId) → kept_at old phase ≡ Some net → kept_at new phase ≡ Some net

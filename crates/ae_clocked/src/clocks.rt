@@ -1,0 +1,108 @@
+// Counters of clocks, made once for each period and offset.
+
+ghost use Rattle.std.specs.Prelude.{◌≡◌, ◌<◌, ◌≤◌, ℕ, [], IfOk, OnErr, OnOk, Some, Ok, Err, ◌≢◌, if◌then◌else◌};
+ghost use Rattle.ae_netlist.specs.declared.cell.NetId.{NetId};
+ghost use Rattle.ae_clocked.specs.declared.clocks.Phase.{Phase};
+ghost use Rattle.ae_clocked.specs.Signals.{Adds, IsFullAt};
+ghost use Rattle.ae_clocked.specs.Phases.{Belongs, HoldsPhases, IsCounter, kept_at, same_phase};
+
+use crate::counter::counter;
+use ae_netlist::{NetFault, NetId, Netlist};
+use indexmap::IndexMap;
+use std::alloc::Global;
+use std::marker::Model;
+
+/// What a counter counts: the clocks from `offset` on, from 0 to `period - 1` and round again.
+#[derive(Clone, Copy, PartialEq, Eq, Hash, Debug)]
+pub struct Phase {
+    pub period: u32,
+    pub offset: u32,
+}
+
+/// The counters of one netlist.
+#[derive(Drop)]
+pub struct Clocks {
+    rst: NetId,
+    counters: IndexMap<Phase, NetId>,
+}
+
+impl Model for Clocks {
+    ghost use Rattle.ae_clocked.specs.Phases.{Kept};
+
+    ghost Value = { Kept };
+
+    ghost view = { λ c. record { rst = c.rst.0; counters = c.counters.entries } };
+}
+
+impl Clocks {
+    /// No counters are kept yet; `rst` is the net of the reset. Takes no memory.
+    pub fn new(alloc: Global, rst: NetId) -> Clocks
+        ensures { result ≡ record { rst = rst.0; counters = [] } }
+    {
+        Clocks {
+            rst,
+            counters: IndexMap::new(alloc),
+        }
+    }
+
+    fn find(&self, phase: Phase) -> Option<NetId>
+        ensures { result ≡ kept_at self.now phase }
+    {
+        self.counters.get(&phase).copied()
+    }
+
+    fn keep(&mut self, phase: Phase, net: NetId) -> Result<(), NetFault>
+        ensures kept { OnOk result ((q : Phase) → kept_at self.new q ≡ (if same_phase phase q then Some net else kept_at self.old q)) }
+        ensures rst { self.new.rst ≡ self.old.rst }
+        ensures err { OnErr result (self.new ≡ self.old) }
+        ensures fault { result ≢ Err NetFault.Full }
+    {
+        match self.counters.insert(phase, net) {
+            Ok(_) => Ok(()),
+            Err(_) => Err(NetFault::Memory),
+        }
+    }
+
+    /// The net that counts the clocks after reset from `offset` on, from 0 to `period - 1` and round again: in clock c
+    /// its word is `(c + period - offset) mod period`. Its width is the least one that holds them. A counter that was
+    /// made before is answered again, and nothing is added; a new one takes at most 12 cells. `Full` comes only where
+    /// the netlist has `limit` cells as the call ends; after a refusal it may hold further cells.
+    pub fn phase(&mut self, nl: &mut Netlist, period: u32, offset: u32) -> Result<NetId, NetFault>
+        requires belongs { Belongs self.old nl.old.cells }
+        requires low { offset < period }
+        requires high { period ≤ 4096 }
+        ensures belongs { Belongs self.new nl.new.cells }
+        ensures adds { Adds nl.old nl.new 12 0 }
+        ensures full { IsFullAt result nl.new }
+        ensures rst { self.new.rst ≡ self.old.rst }
+        ensures again { (net : NetId) → kept_at self.old (record { period = period; offset = offset }) ≡ Some net → (result ≡ Ok net) × (nl.new ≡ nl.old) × (self.new ≡ self.old) }
+        ensures keeps { IfOk result (λ net. (q : Phase) → kept_at self.new q ≡ (if same_phase (record { period = period; offset = offset }) q then Some net else kept_at self.old q)) }
+        ensures refused { OnErr result (self.new ≡ self.old) }
+        ensures counts { IfOk result (λ net. IsCounter nl.new.cells self.old.rst (record { period = period; offset = offset }) net.0) }
+    {
+        let phase = Phase { period, offset };
+        if let Some(net) = self.find(phase) {
+            return Ok(net);
+        }
+        let width = width_for(period);
+        let first = (period - offset) % period;
+        let net = counter(nl, self.rst, width, u64::from(period - 1), u64::from(first))?;
+        self.keep(phase, net)?;
+        Ok(net)
+    }
+}
+
+/// The bits that hold all numbers below the period.
+fn width_for(period: u32) -> u32
+    requires low { 1 ≤ period }
+    requires high { period ≤ 4096 }
+    ensures holds { HoldsPhases result period }
+    ensures small { result ≤ 12 }
+{
+    for width in 1..12u32 {
+        if period <= 1u32 << width {
+            return width;
+        }
+    }
+    12
+}

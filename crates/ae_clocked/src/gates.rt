@@ -1,0 +1,156 @@
+// One cell at a time, with what its net holds in every run.
+
+ghost use Rattle.std.specs.Prelude.{◌≡◌, ◌<◌, ◌≤◌, ◌^◌, ℕ, ◌∷◌, [], length, IfOk, OnOk, OnErr, if◌then◌else◌};
+ghost use Rattle.ae_netlist.specs.Circuit.{IsNet, IsOperation, IsRegister, main_operand, width_of};
+ghost use Rattle.ae_netlist.specs.Counts.{is_product};
+ghost use Rattle.ae_netlist.specs.Runs.{InEveryRunFrom};
+ghost use Rattle.ae_clocked.specs.Signals.{Adds, Connects, IsConstant, IsFullAt, IsNextOf, IsResult};
+
+use ae_netlist::{Cell, NetFault, NetId, Netlist};
+use ae_word::WordOp;
+
+/// The width of a net, in bits.
+pub fn width_at(nl: &Netlist, x: NetId) -> u32
+    requires { IsNet nl.now.cells x.0 (width_of nl.now.cells x.0) }
+    ensures width { result ≡ width_of nl.now.cells x.0 }
+    ensures low { 1 ≤ result }
+    ensures high { result ≤ 64 }
+{
+    nl.formed();
+    match nl.sized(x) {
+        Some(sized) => sized.width,
+        None => unreachable!(),
+    }
+}
+
+/// Adds a net that has the same word in each clock. `Full` comes only where the netlist has `limit` cells, here and in
+/// each of the calls below.
+pub fn constant(nl: &mut Netlist, width: u32, word: u64) -> Result<NetId, NetFault>
+    requires low { 1 ≤ width }
+    requires high { width ≤ 64 }
+    requires fits { word < 2 ^ width }
+    ensures adds { Adds nl.old nl.new 1 0 }
+    ensures full { IsFullAt result nl.new }
+    ensures net { IfOk result (λ y. IsNet nl.new.cells y.0 width) }
+    ensures words { IfOk result (λ y. InEveryRunFrom (length nl.old.cells) nl.new.cells (λ run. IsConstant run y.0 word)) }
+{
+    nl.formed();
+    nl.add(width, Cell::Const(word))
+}
+
+/// Adds the result of an operator on words of the same clock.
+pub fn operate(
+    nl: &mut Netlist,
+    op: WordOp,
+    args: [NetId; 3],
+    width: u32,
+) -> Result<NetId, NetFault>
+    requires low { 1 ≤ width }
+    requires high { width ≤ 64 }
+    requires operands { IsOperation nl.old.cells op args width }
+    ensures adds { OnOk result (Adds nl.old nl.new 1 (if is_product op then 1 else 0)) }
+    ensures err { OnErr result (nl.new ≡ nl.old) }
+    ensures full { IsFullAt result nl.new }
+    ensures net { IfOk result (λ y. IsNet nl.new.cells y.0 width) }
+    ensures words { IfOk result (λ y. InEveryRunFrom (length nl.old.cells) nl.new.cells (λ run. IsResult run y.0 op (width_of nl.old.cells (main_operand op args)) args)) }
+{
+    nl.formed();
+    nl.add(width, Cell::Op(op, args))
+}
+
+/// Adds the bit that says whether two nets have equal words.
+pub fn equal(nl: &mut Netlist, a: NetId, b: NetId, width: u32) -> Result<NetId, NetFault>
+    requires left { IsNet nl.old.cells a.0 width }
+    requires right { IsNet nl.old.cells b.0 width }
+    ensures adds { Adds nl.old nl.new 1 0 }
+    ensures full { IsFullAt result nl.new }
+    ensures net { IfOk result (λ y. IsNet nl.new.cells y.0 1) }
+    ensures words { IfOk result (λ y. InEveryRunFrom (length nl.old.cells) nl.new.cells (λ run. IsResult run y.0 WordOp.Eq width (a ∷ b ∷ a ∷ []))) }
+{
+    operate(nl, WordOp::Eq, [a, b, a], 1)
+}
+
+/// Adds the bit that says whether the word of `a` is less than that of `b`.
+pub fn less(nl: &mut Netlist, a: NetId, b: NetId, width: u32) -> Result<NetId, NetFault>
+    requires left { IsNet nl.old.cells a.0 width }
+    requires right { IsNet nl.old.cells b.0 width }
+    ensures adds { Adds nl.old nl.new 1 0 }
+    ensures full { IsFullAt result nl.new }
+    ensures net { IfOk result (λ y. IsNet nl.new.cells y.0 1) }
+    ensures words { IfOk result (λ y. InEveryRunFrom (length nl.old.cells) nl.new.cells (λ run. IsResult run y.0 WordOp.Lt width (a ∷ b ∷ a ∷ []))) }
+{
+    operate(nl, WordOp::Lt, [a, b, a], 1)
+}
+
+/// Adds the sum of two nets, modulo 2 to their width.
+pub fn sum(nl: &mut Netlist, a: NetId, b: NetId, width: u32) -> Result<NetId, NetFault>
+    requires low { 1 ≤ width }
+    requires high { width ≤ 64 }
+    requires left { IsNet nl.old.cells a.0 width }
+    requires right { IsNet nl.old.cells b.0 width }
+    ensures adds { Adds nl.old nl.new 1 0 }
+    ensures full { IsFullAt result nl.new }
+    ensures net { IfOk result (λ y. IsNet nl.new.cells y.0 width) }
+    ensures words { IfOk result (λ y. InEveryRunFrom (length nl.old.cells) nl.new.cells (λ run. IsResult run y.0 WordOp.Add width (a ∷ b ∷ a ∷ []))) }
+{
+    operate(nl, WordOp::Add, [a, b, a], width)
+}
+
+/// Adds a net with the word of `a` where the condition is 1, and else that of `b`.
+pub fn choose(
+    nl: &mut Netlist,
+    condition: NetId,
+    a: NetId,
+    b: NetId,
+    width: u32,
+) -> Result<NetId, NetFault>
+    requires low { 1 ≤ width }
+    requires high { width ≤ 64 }
+    requires condition { IsNet nl.old.cells condition.0 1 }
+    requires left { IsNet nl.old.cells a.0 width }
+    requires right { IsNet nl.old.cells b.0 width }
+    ensures adds { Adds nl.old nl.new 1 0 }
+    ensures full { IsFullAt result nl.new }
+    ensures net { IfOk result (λ y. IsNet nl.new.cells y.0 width) }
+    ensures words { IfOk result (λ y. InEveryRunFrom (length nl.old.cells) nl.new.cells (λ run. IsResult run y.0 WordOp.Mux width (condition ∷ a ∷ b ∷ []))) }
+{
+    operate(nl, WordOp::Mux, [condition, a, b], width)
+}
+
+/// Adds a register that is still to be connected, as the last cell.
+pub fn register(nl: &mut Netlist, width: u32) -> Result<NetId, NetFault>
+    requires low { 1 ≤ width }
+    requires high { width ≤ 64 }
+    ensures adds { Adds nl.old nl.new 1 0 }
+    ensures full { IsFullAt result nl.new }
+    ensures fresh { IfOk result (λ r. r.0 ≡ length nl.old.cells) }
+    ensures net { IfOk result (λ r. IsNet nl.new.cells r.0 width) }
+    ensures register { IfOk result (λ r. IsRegister nl.new.cells r.0 width) }
+{
+    nl.formed();
+    nl.state(width)
+}
+
+/// Connects a register: it has, in each clock, the word that `next` had in the clock before.
+pub fn close(nl: &mut Netlist, r: NetId, next: NetId)
+    requires register { IsRegister nl.old.cells r.0 (width_of nl.old.cells r.0) }
+    requires next { IsNet nl.old.cells next.0 (width_of nl.old.cells r.0) }
+    ensures { Connects nl.old nl.new r.0 next.0 }
+{
+    nl.connect(r, next);
+}
+
+/// Adds a register that has, in each clock, the word that `x` had in the clock before.
+pub fn delayed(nl: &mut Netlist, x: NetId, width: u32) -> Result<NetId, NetFault>
+    requires low { 1 ≤ width }
+    requires high { width ≤ 64 }
+    requires net { IsNet nl.old.cells x.0 width }
+    ensures adds { Adds nl.old nl.new 1 0 }
+    ensures full { IsFullAt result nl.new }
+    ensures net { IfOk result (λ y. IsNet nl.new.cells y.0 width) }
+    ensures words { IfOk result (λ y. InEveryRunFrom (length nl.old.cells) nl.new.cells (λ run. IsNextOf run y.0 x.0)) }
+{
+    let r = register(nl, width)?;
+    close(nl, r, x);
+    Ok(r)
+}

@@ -1,0 +1,13 @@
+//! Counters and delay lines, whose words follow the clocks after reset, and the gates that stages are made of.
+#![tactic(auto)]
+
+mod clocks;
+mod counter;
+mod gates;
+mod lines;
+#[cfg(test)]
+mod tests;
+
+pub use clocks::{Clocks, Phase};
+pub use gates::{choose, close, constant, delayed, equal, less, operate, register, sum, width_at};
+pub use lines::{Tapped, line};

@@ -1,0 +1,116 @@
+// Delay lines.
+
+ghost use Rattle.std.specs.Prelude.{◌≡◌, ◌<◌, ◌≤◌, ◌+◌, ◌^◌, ◌++◌, ◌∷◌, [], ℕ, length, IfOk, OnOk, Some, Err, ◌≢◌, slice_get};
+ghost use Rattle.ae_netlist.specs.Circuit.{IsNet, width_of};
+ghost use Rattle.ae_netlist.specs.Counts.{AreWhole, count_of, is_mul};
+ghost use Rattle.ae_clocked.specs.Signals.{Adds, Grows, IsFullAt};
+ghost use Rattle.ae_clocked.specs.Phases.{Belongs, KeepsCounters};
+ghost use Rattle.ae_clocked.specs.Delays.{AreDelays, AreTaps, greatest_of, line_cells};
+
+use crate::clocks::Clocks;
+use crate::gates::{delayed, width_at};
+use ae_netlist::{NetFault, NetId, Netlist};
+use std::alloc::Global;
+use std::marker::Model;
+
+/// The taps of a line, in the order in which they were asked for.
+#[derive(Drop)]
+pub struct Tapped {
+    nets: Vec<NetId>,
+}
+
+impl Model for Tapped {
+    ghost use Rattle.std.specs.Prelude.{List};
+    ghost use Rattle.ae_netlist.specs.declared.cell.NetId.{NetId};
+
+    ghost Value = { List NetId };
+
+    ghost view = { λ t. t.nets.items };
+}
+
+impl Tapped {
+    /// The net of one tap, numbered as they were asked for.
+    pub fn tap(&self, i: u32) -> NetId
+        requires { i < length self.now }
+        ensures { slice_get self.now i ≡ Some result }
+    {
+        self.nets[i as usize]
+    }
+}
+
+fn keep(nets: &mut Vec<NetId>, net: NetId) -> Result<(), NetFault>
+    ensures ok { OnOk result (nets.new.items ≡ nets.old.items ++ net ∷ []) }
+    ensures fault { result ≢ Err NetFault.Full }
+{
+    match nets.push(net) {
+        Ok(()) => Ok(()),
+        Err(_) => Err(NetFault::Memory),
+    }
+}
+
+/// Registers one after another: net k is k clocks late.
+fn chain(
+    alloc: Global,
+    nl: &mut Netlist,
+    x: NetId,
+    width: u32,
+    count: u32,
+) -> Result<Vec<NetId>, NetFault>
+    requires low { 1 ≤ width }
+    requires high { width ≤ 64 }
+    requires net { IsNet nl.old.cells x.0 width }
+    ensures adds { Adds nl.old nl.new count 0 }
+    ensures full { IsFullAt result nl.new }
+    ensures delays { IfOk result (λ nets. AreDelays nl.new.cells width x.0 nets.items) }
+    ensures long { IfOk result (λ nets. length nets.items ≡ count + 1) }
+{
+    let mut nets = Vec::new(alloc);
+    keep(&mut nets, x)?;
+    let mut last = x;
+    for i in 0..count {
+        last = delayed(nl, last, width)?;
+        keep(&mut nets, last)?;
+    }
+    Ok(nets)
+}
+
+fn greatest(taps: &[u32]) -> u32
+    ensures { result ≡ greatest_of taps.now }
+{
+    let mut most = 0u32;
+    for tap in taps {
+        most = most.max(*tap);
+    }
+    most
+}
+
+/// The words of `x`, as many clocks later as each tap says: from clock d after reset on, a tap of d has the word that `x`
+/// had d clocks before. Of the greatest tap A and the number n of taps above 0 it takes at most `8 * A + 4 * n` cells.
+/// `Full` comes only where the netlist has `limit` cells as the call ends; after a refusal it may hold further cells.
+pub fn line(
+    alloc: Global,
+    nl: &mut Netlist,
+    x: NetId,
+    taps: &[u32],
+    clocks: &mut Clocks,
+) -> Result<Tapped, NetFault>
+    requires belongs { Belongs clocks.old nl.old.cells }
+    requires net { IsNet nl.old.cells x.0 (width_of nl.old.cells x.0) }
+    requires few { length taps.now < 2 ^ 32 }
+    ensures belongs { Belongs clocks.new nl.new.cells }
+    ensures grows { Grows nl.old nl.new }
+    ensures cells { length nl.new.cells ≤ length nl.old.cells + line_cells taps.now }
+    ensures muls { count_of is_mul nl.new.cells ≡ count_of is_mul nl.old.cells }
+    ensures whole { OnOk result (AreWhole nl.old.cells → AreWhole nl.new.cells) }
+    ensures full { IsFullAt result nl.new }
+    ensures keeps { KeepsCounters clocks.old clocks.new }
+    ensures taps { IfOk result (λ nets. AreTaps nl.new.cells clocks.old.rst (width_of nl.old.cells x.0) x.0 taps.now nets) }
+{
+    let width = width_at(nl, x);
+    let nets = chain(alloc, nl, x, width, greatest(taps))?;
+    let mut tapped = Vec::new(alloc);
+    for tap in taps {
+        keep(&mut tapped, nets[*tap as usize])?;
+    }
+    Ok(Tapped { nets: tapped })
+}
