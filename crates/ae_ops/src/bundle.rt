@@ -1,0 +1,49 @@
+// The nets of a value.
+
+ghost use Rattle.std.specs.Prelude.{◌≡◌, ◌<◌, ◌∷◌, [], length, IfOk, Some, slice_get};
+
+use ae_netlist::{NetFault, NetId};
+use std::alloc::Global;
+use std::marker::Model;
+
+/// The nets of a value, by lane and then by word.
+#[derive(Drop)]
+pub struct Bundle {
+    nets: Vec<NetId>,
+}
+
+impl Model for Bundle {
+    ghost use Rattle.std.specs.Prelude.{List};
+    ghost use Rattle.ae_netlist.specs.declared.cell.NetId.{NetId};
+
+    ghost Value = { List NetId };
+
+    ghost view = { λ b. b.nets.items };
+}
+
+impl Bundle {
+    /// The bundle of these nets.
+    pub fn new(nets: Vec<NetId>) -> Bundle
+        ensures { result ≡ nets.items }
+    {
+        Bundle { nets }
+    }
+
+    /// A bundle of one net.
+    pub fn one(alloc: Global, net: NetId) -> Result<Bundle, NetFault>
+        ensures { IfOk result (λ b. b ≡ net ∷ []) }
+    {
+        let mut nets = Vec::new(alloc);
+        match nets.push(net) {
+            Ok(()) => Ok(Bundle { nets }),
+            Err(_) => Err(NetFault::Memory),
+        }
+    }
+
+    /// Its nets, by column.
+    pub fn nets(&self) -> &[NetId]
+        ensures { result.now ≡ self.now }
+    {
+        self.nets.as_slice()
+    }
+}

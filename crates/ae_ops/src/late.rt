@@ -1,0 +1,53 @@
+// A bundle, some clocks later.
+
+ghost use Rattle.std.specs.Prelude.{◌≡◌, ◌≤◌, ◌+◌, ◌*◌, ◌++◌, ◌∷◌, [], List, ℕ, length, IfOk, OnOk, Err, ◌≢◌};
+ghost use Rattle.ae_netlist.specs.Counts.{AreWhole, count_of, is_mul};
+ghost use Rattle.ae_clocked.specs.Signals.{Grows, IsFullAt};
+ghost use Rattle.ae_clocked.specs.Phases.{Belongs, KeepsCounters};
+ghost use Rattle.ae_ops.specs.Waves.{AreLate, AreNets, HaveOwnWidths};
+
+use crate::bundle::Bundle;
+use ae_clocked::{Clocks, line};
+use ae_netlist::{NetFault, NetId, Netlist};
+use std::alloc::Global;
+
+fn keep(nets: &mut Vec<NetId>, net: NetId) -> Result<(), NetFault>
+    ensures ok { OnOk result (nets.new.items ≡ nets.old.items ++ net ∷ []) }
+    ensures fault { result ≢ Err NetFault.Full }
+{
+    match nets.push(net) {
+        Ok(()) => Ok(()),
+        Err(_) => Err(NetFault::Memory),
+    }
+}
+
+/// The bundle, some clocks later: from clock `slack` after reset on, each net has the word that the one at its place had
+/// `slack` clocks before. `Full` comes only where the netlist has `limit` cells as the call ends; after a refusal it may
+/// hold further cells.
+pub fn delay(
+    alloc: Global,
+    nl: &mut Netlist,
+    clocks: &mut Clocks,
+    bundle: &Bundle,
+    slack: u32,
+) -> Result<Bundle, NetFault>
+    requires belongs { Belongs clocks.old nl.old.cells }
+    requires nets { HaveOwnWidths nl.old.cells bundle.now }
+    ensures belongs { Belongs clocks.new nl.new.cells }
+    ensures keeps { KeepsCounters clocks.old clocks.new }
+    ensures grows { Grows nl.old nl.new }
+    ensures cells { length nl.new.cells ≤ length nl.old.cells + length bundle.now * (8 * slack + 4) }
+    ensures muls { count_of is_mul nl.new.cells ≡ count_of is_mul nl.old.cells }
+    ensures whole { OnOk result (AreWhole nl.old.cells → AreWhole nl.new.cells) }
+    ensures full { IsFullAt result nl.new }
+    ensures nets { IfOk result (λ late. (widths : List ℕ) → AreNets nl.old.cells widths bundle.now → AreNets nl.new.cells widths late) }
+    ensures late { IfOk result (λ late. AreLate nl.new.cells clocks.old.rst slack bundle.now late) }
+{
+    let nets = bundle.nets();
+    let mut late = Vec::new(alloc);
+    for net in nets {
+        let tapped = line(alloc, nl, *net, &[slack], clocks)?;
+        keep(&mut late, tapped.tap(0))?;
+    }
+    Ok(Bundle::new(late))
+}
