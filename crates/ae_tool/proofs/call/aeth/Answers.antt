@@ -1,0 +1,35 @@
+use Rattle.ae_tool.proofs.Calls.{outcome_of, part_written, ended, usage_words, other_words_refused, read_fault, write_fault, rest_left, completes}
+use Rattle.ae_tool.proofs.call.aeth.Goals as goal
+
+pub returns-clause-outcome : goal.returns-clause-outcome
+returns-clause-outcome g c h = outcome_of _ _ _ _ _ _ c.serve.ensures h
+
+pub returns-clause-part : goal.returns-clause-part
+returns-clause-part g c = part_written _ _ _ _ _ _ c.serve.ensures
+
+pub returns-clause-ended : goal.returns-clause-ended
+returns-clause-ended g c = ended _ _ _ _ _ _ c.serve.ensures
+
+pub returns-clause-usage : goal.returns-clause-usage
+returns-clause-usage g c = usage_words _ _ _ _ _ _ c.serve.ensures
+
+pub returns-clause-other_words : goal.returns-clause-other_words
+returns-clause-other_words g c h = (other_words_refused _ _ _ _ _ _ c.serve.ensures h).0
+
+pub returns-clause-untouched : goal.returns-clause-untouched
+returns-clause-untouched g c h = let w = other_words_refused _ _ _ _ _ _ c.serve.ensures h in (w.1, w.2)
+
+pub returns-clause-read : goal.returns-clause-read
+returns-clause-read g c h = (read_fault _ _ _ _ _ _ c.serve.ensures h).0
+
+pub returns-clause-read_line : goal.returns-clause-read_line
+returns-clause-read_line g c h = (read_fault _ _ _ _ _ _ c.serve.ensures h).1
+
+pub returns-clause-write : goal.returns-clause-write
+returns-clause-write g c = write_fault _ _ _ _ _ _ c.serve.ensures
+
+pub returns-clause-left : goal.returns-clause-left
+returns-clause-left g c = rest_left _ _ _ _ _ _ c.serve.ensures
+
+pub returns-clause-complete : goal.returns-clause-complete
+returns-clause-complete g c job read written i = completes _ _ _ _ _ _ c.serve.ensures job read written i.bytes i.program i.told i.few i.form

@@ -1,0 +1,41 @@
+-- How a call of the compiler may go.
+use Rattle.std.specs.Prelude.{◌≡◌, ℕ, ◌+◌, ◌≤◌, List, length, Option}
+use Rattle.ae_io.specs.Counts.{Rose}
+use Rattle.ae_io.specs.Told.{Appends, AppendsPrefix, TakesCount}
+use Rattle.ae_io.specs.Transfer.{TakesAll}
+use Rattle.ae_tool.specs.declared.status.Status.{Status}
+use Rattle.ae_tool.specs.declared.status.Status.TheVariants.{Usage, ReadFault, WriteFault, TooLong, Memory}
+use Rattle.ae_tool.specs.Commands.{IsBuildOne}
+use Rattle.ae_tool.specs.Refusals.{refusal_line}
+use Rattle.ae_tool.specs.Outcomes.{input_limit, IsBuilt}
+
+-- what is seen of a source: the bytes left, where they are told, and its count of faults
+pub record SourceView : Type 0 where
+  pub left : Option (List ℕ)
+  pub faults : ℕ
+
+-- what is seen of a sink: the bytes written, where they are told, and its counts
+pub record SinkView : Type 0 where
+  pub written : Option (List ℕ)
+  pub faults : ℕ
+  pub wants : ℕ
+  pub ends : ℕ
+
+-- a text was written and ended, and the call answers its status; or the sink took a first part of it alone
+pub data Puts (text : List ℕ) (status result : Status) (old new : SinkView) : Type 0 where
+  Whole : result ≡ status → Appends old.written new.written text → Rose old.ends new.ends → Puts text status result old new
+  Failing : result ≡ WriteFault → AppendsPrefix old.written new.written text → Rose old.faults new.faults → Puts text status result old new
+  Wanting : result ≡ Memory → AppendsPrefix old.written new.written text → Rose old.wants new.wants → Puts text status result old new
+
+-- the line of a refusal
+abbrev pub Refuses : (status result : Status) (old new : SinkView) → Type 0
+Refuses status = Puts (refusal_line status) status
+
+-- how a call may go: the words name no job; the input failed, is too long or was read whole; or memory ran out
+pub data Answers (words : List (List ℕ)) (result : Status) (source source' : SourceView) (sink sink' : SinkView) : Type 0 where
+  No_job : (IsBuildOne words → ⊥) → source' ≡ source → Refuses Usage result sink sink' → Answers words result source source' sink sink'
+  Unread : IsBuildOne words → Rose source.faults source'.faults → Refuses ReadFault result sink sink' → Answers words result source source' sink sink'
+  Past_limit : IsBuildOne words → TakesCount source.left source'.left (input_limit + 1) → Refuses TooLong result sink sink' → Answers words result source source' sink sink'
+  Done : IsBuildOne words → (bytes text : List ℕ) (status : Status) → TakesAll source.left source'.left bytes → length bytes ≤ input_limit → IsBuilt bytes status text
+      → Puts text status result sink sink' → Answers words result source source' sink sink'
+  No_room : IsBuildOne words → Refuses Memory result sink sink' → Answers words result source source' sink sink'

@@ -1,0 +1,9 @@
+pub mod Answers
+pub mod Commands
+pub mod Correct
+pub mod FirstPath
+pub mod FirstPrograms
+pub mod ModuleTexts
+pub mod Numbers
+pub mod Outcomes
+pub mod Refusals

@@ -1,0 +1,56 @@
+// One call: what it reads, and what it writes.
+
+ghost use Rattle.std.specs.Prelude.{◌≡◌, List, ℕ};
+ghost use Rattle.ae_tool.specs.Answers.{Puts, Answers, SourceView, SinkView};
+ghost use Rattle.ae_tool.specs.Commands.{word_bytes, IsBuildOne};
+
+use crate::build::build_one;
+use crate::command::is_build_one;
+use crate::status::Status;
+use ae_io::{LoadFault, PutFault, Sink, Source, load, put_all};
+use std::alloc::Global;
+
+// The most bytes of an input.
+const INPUT_LIMIT: usize = 16_777_216;
+
+// Writes a text whole and answers the status, or what the sink met.
+fn put<K: Sink>(sink: &mut K, text: &[u8], status: Status) -> Status
+    ensures { Puts text.now status result (record { written = K.written sink.old; faults = K.faults sink.old; wants = K.wants sink.old; ends = K.ends sink.old }) (record { written = K.written sink.new; faults = K.faults sink.new; wants = K.wants sink.new; ends = K.ends sink.new }) }
+{
+    match put_all(sink, text) {
+        Ok(()) => status,
+        Err(PutFault::Write) => Status::WriteFault,
+        Err(PutFault::Memory) => Status::Memory,
+    }
+}
+
+// Reads the input and answers the job.
+fn read_and_build<S: Source, K: Sink>(alloc: Global, source: &mut S, sink: &mut K) -> Status
+    ensures { (ws : List (List ℕ)) → IsBuildOne ws → Answers ws result (record { left = S.left source.old; faults = S.faults source.old }) (record { left = S.left source.new; faults = S.faults source.new }) (record { written = K.written sink.old; faults = K.faults sink.old; wants = K.wants sink.old; ends = K.ends sink.old }) (record { written = K.written sink.new; faults = K.faults sink.new; wants = K.wants sink.new; ends = K.ends sink.new }) }
+{
+    match load(alloc, source, INPUT_LIMIT) {
+        Ok(bytes) => match build_one(alloc, &bytes) {
+            Ok(reply) => put(sink, reply.text.as_bytes(), reply.status),
+            Err(_) => put(sink, b"refused memory\n", Status::Memory),
+        },
+        Err(LoadFault::Read) => put(sink, b"refused read fault\n", Status::ReadFault),
+        Err(LoadFault::TooLong) => put(sink, b"refused too long\n", Status::TooLong),
+        Err(LoadFault::Memory) => put(sink, b"refused memory\n", Status::Memory),
+    }
+}
+
+// Answers the words.
+pub fn serve<S: Source, K: Sink>(
+    alloc: Global,
+    words: &[String],
+    source: &mut S,
+    sink: &mut K,
+) -> Status
+    ensures { Answers (word_bytes words.now) result (record { left = S.left source.old; faults = S.faults source.old }) (record { left = S.left source.new; faults = S.faults source.new }) (record { written = K.written sink.old; faults = K.faults sink.old; wants = K.wants sink.old; ends = K.ends sink.old }) (record { written = K.written sink.new; faults = K.faults sink.new; wants = K.wants sink.new; ends = K.ends sink.new }) }
+{
+    if is_build_one(words) {
+        read_and_build(alloc, source, sink)
+    } else {
+        put(sink, b"refused usage\n", Status::Usage)
+    }
+}

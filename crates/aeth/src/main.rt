@@ -1,0 +1,38 @@
+//! The compiler as a program: its words name a job, standard input is the job's input and standard output its result.
+#![tactic(auto)]
+
+use ae_io::{StdSink, StdSource};
+use ae_tool::aeth;
+use std::alloc::Global;
+use std::env::{self, Env};
+use std::io;
+use std::process::ExitCode;
+
+// The status of a program that could not read its words; no job ends with it.
+const NO_WORDS: u8 = 20;
+
+// The status of a program without memory.
+const NO_MEMORY: u8 = 12;
+
+// The words behind the program's name.
+fn words<R: Env + Alloc<A = Global>>(rt: &R) -> io::Result<Vec<String>> {
+    let mut words = Vec::new(rt.alloc());
+    for word in env::args(rt)?.skip(1) {
+        words.push(word)?;
+    }
+    Ok(words)
+}
+
+fn main(rt: HostRuntime) -> ExitCode {
+    let words = match words(&rt) {
+        Ok(words) => words,
+        Err(e) => {
+            let no_memory = e.kind() == io::ErrorKind::OutOfMemory;
+            return ExitCode::from(if no_memory { NO_MEMORY } else { NO_WORDS });
+        }
+    };
+    let mut source = StdSource::new(rt.reader());
+    let mut sink = StdSink::new(io::writer(&rt));
+    let status = aeth(rt.alloc(), &words, &mut source, &mut sink);
+    ExitCode::from(status.number())
+}
