@@ -1,7 +1,15 @@
+pub mod Cleaned
 pub mod Cut
+pub mod Grammar
 pub mod Name
 pub mod Number
+pub mod Options
 pub mod Parts
+pub mod Refusal
 pub mod RowCauses
 pub mod Rows
 pub mod Scopes
+pub mod StateView
+pub mod TypeForm
+pub mod View
+pub mod Words

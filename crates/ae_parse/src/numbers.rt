@@ -4,7 +4,7 @@ ghost use Rattle.std.specs.Prelude.{ℕ, ◌≤◌, MatchOption, ◌≡◌, ◌^
 ghost use Rattle.std.specs.Fmt.{decimal};
 ghost use Rattle.std.specs.Str.{all_ascii_digits};
 ghost use Rattle.std.specs.Str.Parse.{digits_value};
-ghost use Rattle.ae_parse.specs.Number.{number_of};
+ghost use Rattle.ae_parse.specs.Number.{number_of, plain_of};
 
 fn are_digits(bytes: &[u8]) -> bool
     ensures { result ≡ all_ascii_digits bytes.now }
@@ -59,4 +59,11 @@ pub fn plain_number(digits: &[u8], low: u32, high: u32) -> Option<u32>
         return None;
     }
     Some(value as u32)
+}
+
+// The same number.
+pub(crate) fn plain(digits: &[u8], low: u32, high: u32) -> Option<u32>
+    ensures { result ≡ plain_of low high digits.now }
+{
+    plain_number(digits, low, high)
 }

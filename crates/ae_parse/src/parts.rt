@@ -8,7 +8,7 @@ use crate::fields::{next_field, said};
 use crate::lines::next_line;
 
 // Whether a line says `%%` alone.
-fn is_mark(line: &[u8]) -> bool
+pub(crate) fn is_mark(line: &[u8]) -> bool
     ensures { result ≡ is_mark (fields (said line.now)) }
 {
     match next_field(said(line)) {

@@ -1,0 +1,6 @@
+use Rattle.std.proofs.Common.{◌≡◌, drop}
+use Rattle.ae_parse.specs.Cleaned.{all_printed}
+use Rattle.ae_parse.proofs.parser.all_printed.Given as goal
+
+abbrev pub invariant-loop-byte : goal.invariant-loop-byte
+invariant-loop-byte l = all_printed (drop l.byte-index l.line) ≡ all_printed l.line
