@@ -1,14 +1,16 @@
 -- Names as texts and as programs have them.
-use Rattle.std.proofs.Common.{◌≡◌, ℕ, ◌<◌, Bool, true, false, not, ◌&&◌, ◌||◌, ◌==◌, nat_le, nat_eq, List, [], ◌∷◌, ◌++◌, length, Some, refl, sym, ap, ◌∙◌, codes}
+use Rattle.std.proofs.Common.{◌≡◌, ℕ, zero, suc, ◌<◌, Bool, true, false, not, ◌&&◌, ◌||◌, ◌==◌, cond, nat_le, nat_lt, nat_eq, List, [], ◌∷◌, ◌++◌, length, get_or, Some, None, refl, sym, ap, ◌∙◌, codes, arith}
 use Rattle.std.proofs.lemmas.List.Quantifiers.{position-Some}
-use Rattle.std.proofs.lemmas.Bool.{eqb-true, eq-eqb}
+use Rattle.std.proofs.lemmas.List.Sums.{position_or_len_is}
+use Rattle.std.proofs.lemmas.Bool.{leb-true, lt-ltb, eqb-true, eq-eqb}
 use Rattle.std.specs.Str.{bytes_eq}
 use Rattle.std.specs.List.{list_all}
-use Rattle.ae_seq.specs.Formed.{same_bytes, is_among, all_distinct, all_names, all_name_bytes, begins_with_letter, is_name, is_name_byte, within, apart}
+use Rattle.ae_seq.specs.Formed.{is_letter, same_bytes, is_among, all_distinct, all_names, all_name_bytes, begins_with_letter, is_name, is_name_byte, within, apart}
 use Rattle.ae_parse.specs.Name as own
 use Rattle.ae_parse.specs.Scopes.{place, is_known}
 use Rattle.ae_parse.proofs.Bools.{and-first, and-second}
 use Rattle.ae_parse.proofs.Plain.{and-both}
+use Rattle.ae_parse.proofs.PlainOf.{bytes-same}
 
 pub same-agree : (xs ys : List ℕ) → bytes_eq xs ys ≡ same_bytes xs ys
 same-agree [] [] = refl
@@ -70,9 +72,41 @@ named-so bs h =
     let short = and-first _ _ h2 in
     and-both _ _ (and-both _ _ (and-both _ _ (and-both _ _ short (begins-named bs begins all)) (sym (bytes-named bs) ∙ all)) (ap not (sym (same-agree bs (codes "fn"))) ∙ no_fn)) (ap not (sym (same-agree bs (codes "end"))) ∙ no_end)
 
+letter-no-digit : (b : ℕ) → is_letter b ≡ true → not (within 48 57 b) ≡ true
+letter-no-digit b h = by (within 48 57 b) refl
+  where
+    or-elim : {P : Type 0} (x y : Bool) → (x || y) ≡ true → (x ≡ true → P) → (y ≡ true → P) → P
+    or-elim true y e f g = f refl
+    or-elim false y e f g = g e
+
+    by : (t : Bool) → within 48 57 b ≡ t → not t ≡ true
+    by false e = refl
+    by true e =
+        let high = leb-true b 57 (and-second (nat_le 48 b) _ e) in
+        absurd (or-elim (within 97 122 b || within 65 90 b) (b == 95) h
+        (λ h1. or-elim (within 97 122 b) (within 65 90 b) h1
+        (λ x. let l = leb-true 97 b (and-first _ _ x) in omega arith)
+        (λ x. let l = leb-true 65 b (and-first _ _ x) in omega arith))
+        (λ x. let l = eqb-true b 95 x in omega arith))
+
+-- a name of a program is one of a text
+pub own-name : (bs : List ℕ) → is_name bs ≡ true → own.is_name bs ≡ true
+own-name bs h =
+    let no_end = and-second (nat_le (length bs) 32 && begins_with_letter bs && all_name_bytes bs && not (same_bytes bs (codes "fn"))) _ h in
+    let h4 = and-first _ _ h in
+    let no_fn = and-second (nat_le (length bs) 32 && begins_with_letter bs && all_name_bytes bs) _ h4 in
+    let h3 = and-first _ _ h4 in
+    let all = and-second (nat_le (length bs) 32 && begins_with_letter bs) _ h3 in
+    let h2 = and-first _ _ h3 in
+    and-both _ _ (and-both _ _ (and-both _ _ (and-both _ _ (and-first _ _ h2) (begins bs (and-second (nat_le (length bs) 32) _ h2))) (ap not (same-agree bs (codes "fn")) ∙ no_fn)) (ap not (same-agree bs (codes "end")) ∙ no_end)) (bytes-named bs ∙ all)
+  where
+    begins : (cs : List ℕ) → begins_with_letter cs ≡ true → own.begins_no_digit cs ≡ true
+    begins [] e = absurd cc
+    begins (c ∷ cs) e = letter-no-digit c e
+
 -- ---- lists of names
 
-same-turned : (xs ys : List ℕ) → same_bytes xs ys ≡ same_bytes ys xs
+pub same-turned : (xs ys : List ℕ) → same_bytes xs ys ≡ same_bytes ys xs
 same-turned [] [] = refl
 same-turned [] (y ∷ ys) = refl
 same-turned (x ∷ xs) [] = refl
@@ -86,7 +120,7 @@ same-turned (x ∷ xs) (y ∷ ys) = λ i. eq-turned x y i && same-turned xs ys i
     eq-turned : (a b : ℕ) → nat_eq a b ≡ nat_eq b a
     eq-turned a b = both _ _ (λ h. eq-eqb b a (sym (eqb-true a b h))) (λ h. eq-eqb a b (sym (eqb-true b a h)))
 
-or-false : (a b : Bool) → (a || b) ≡ false → (a ≡ false) × (b ≡ false)
+pub or-false : (a b : Bool) → (a || b) ≡ false → (a ≡ false) × (b ≡ false)
 or-false true b h = absurd cc
 or-false false b h = (refl, h)
 
@@ -143,3 +177,34 @@ distinct-apart (m ∷ ms) ns h = and-both _ _ ((among-front m ms ns (and-first _
 -- a place is one of the names'
 pub place-below : (f : List ℕ) (ns : List (List ℕ)) (k : ℕ) → place f ns ≡ Some k → k < length ns
 place-below f ns k e = (position-Some (bytes_eq f) ns k [] e).0
+
+-- ---- a name is found where it stands
+
+among-at : (n : List ℕ) (ns : List (List ℕ)) (k : ℕ) → is_among n ns ≡ false → k < length ns → same_bytes n (get_or ns k []) ≡ false
+among-at n [] k h l = absurd (omega arith)
+among-at n (m ∷ ns) zero h l = (or-false (same_bytes n m) _ h).0
+among-at n (m ∷ ns) (suc k) h l = among-at n ns k ((or-false (same_bytes n m) _ h).1) (omega arith)
+
+not-so : (b : Bool) → not b ≡ true → b ≡ false
+not-so true h = absurd cc
+not-so false h = refl
+
+differ : (ns : List (List ℕ)) (j k : ℕ) → all_distinct ns ≡ true → j < k → k < length ns → same_bytes (get_or ns k []) (get_or ns j []) ≡ false
+differ [] j k d h l = absurd (omega arith)
+differ (n ∷ ns) j zero d h l = absurd (omega arith)
+differ (n ∷ ns) zero (suc k) d h l = same-turned (get_or ns k []) n ∙ among-at n ns k (not-so (is_among n ns) (and-first _ _ d)) (omega arith)
+differ (n ∷ ns) (suc j) (suc k) d h l = differ ns j k (and-second (not (is_among n ns)) _ d) (omega arith) (omega arith)
+
+pub place-at : (ns : List (List ℕ)) (k : ℕ) → all_distinct ns ≡ true → k < length ns → place (get_or ns k []) ns ≡ Some k
+place-at ns k d l =
+    let x = get_or ns k [] in
+    let e = position_or_len_is (bytes_eq x) ns k [] (omega arith) (λ j h. same-agree x (get_or ns j []) ∙ differ ns j k d h l) (λ h. bytes-same x x refl) in
+    (λ i. cond (nat_lt (e i) (length ns)) (Some (e i)) None) ∙ ap (λ t. cond t (Some k) None) (lt-ltb k (length ns) l)
+
+-- a name behind others is none of them
+pub distinct-new : (ms : List (List ℕ)) (n : List ℕ) (ns : List (List ℕ)) → all_distinct (ms ++ n ∷ ns) ≡ true → is_among n ms ≡ false
+distinct-new [] n ns d = refl
+distinct-new (m ∷ ms) n ns d =
+    let a = among-front m ms (n ∷ ns) (and-first _ _ d) in
+    let b = or-false (same_bytes m n) (is_among m ns) (not-so _ a.1) in
+    ap (λ t. t || is_among n ms) (same-turned n m ∙ b.0) ∙ distinct-new ms n ns (and-second (not (is_among m (ms ++ n ∷ ns))) _ d)

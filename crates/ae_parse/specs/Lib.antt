@@ -5,6 +5,7 @@ pub mod Name
 pub mod Number
 pub mod Options
 pub mod Parts
+pub mod Printed
 pub mod Refusal
 pub mod RowCauses
 pub mod Rows
