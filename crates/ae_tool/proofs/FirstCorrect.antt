@@ -34,12 +34,12 @@ use Rattle.ae_tool.proofs.FirstPorts.{first_module, in_name, out_name, in_net, o
 use Rattle.ae_tool.proofs.Rows.{rows, map-append, map-rows, row-found, row-same, length-rows}
 
 -- bytes side by side
-abbrev bytes_layout : ℕ → StTree
+abbrev pub bytes_layout : ℕ → StTree
 bytes_layout n = sseq n (atom (unsigned_word 8))
 
 -- ---- ports
 
-abbrev byte_port : (ℕ → List ℕ) → Bool → ℕ → ModulePort
+abbrev pub byte_port : (ℕ → List ℕ) → Bool → ℕ → ModulePort
 byte_port named out l = record { name = named l; width = 8; is_output = out }
 
 abbrev byte_kinds : List WordKind
@@ -49,7 +49,7 @@ lane_rows : (named : ℕ → ℕ → List ℕ) (out : Bool) (n : ℕ) → lane_p
 lane_rows named out zero = refl
 lane_rows named out (suc n) = ap (λ ps. ps ++ byte_port (λ l. named l 0) out n ∷ []) (lane_rows named out n)
 
-input_rows : (n : ℕ) → input_ports 0 (bytes_layout n) ≡ rows (byte_port in_name false) n
+pub input_rows : (n : ℕ) → input_ports 0 (bytes_layout n) ≡ rows (byte_port in_name false) n
 input_rows n =
     let one : n * 1 ≡ n = omega arith in
     ap (lane_ports (λ lane word. port_name 1 (In 0 lane word)) false byte_kinds) one ∙ lane_rows (λ lane word. port_name 1 (In 0 lane word)) false n
@@ -74,10 +74,10 @@ ports_are f =
 
 -- ---- slots
 
-abbrev lane_slot : ℕ → Slot
+abbrev pub lane_slot : ℕ → Slot
 lane_slot l = record { clock = 0; lane = l }
 
-copies_rows : (n : ℕ) → copies n 0 1 (lane_slot 0 ∷ []) ≡ rows lane_slot n
+pub copies_rows : (n : ℕ) → copies n 0 1 (lane_slot 0 ∷ []) ≡ rows lane_slot n
 copies_rows zero = refl
 copies_rows (suc n) =
     let c : n * 0 + 0 ≡ 0 = omega arith in
@@ -85,11 +85,11 @@ copies_rows (suc n) =
     λ i. copies_rows n i ++ (record { clock = c i; lane = l i }) ∷ []
 
 -- where a slot stands
-record IsLaneSlot (n e : ℕ) (w : Slot) : Type 0 where
-  below : e < n
-  is : lane_slot e ≡ w
+pub record IsLaneSlot (n e : ℕ) (w : Slot) : Type 0 where
+  pub below : e < n
+  pub is : lane_slot e ≡ w
 
-slot_is : (n e : ℕ) (w : Slot) → slice_get (slots (bytes_layout n)) e ≡ Some w → IsLaneSlot n e w
+pub slot_is : (n e : ℕ) (w : Slot) → slice_get (slots (bytes_layout n)) e ≡ Some w → IsLaneSlot n e w
 slot_is n e w h =
     let found : slice_get (rows lane_slot n) e ≡ Some w = ap (λ ws. slice_get ws e) (sym (copies_rows n)) ∙ h in
     let long : length (rows lane_slot n) ≡ n = length-rows lane_slot n in
@@ -98,17 +98,17 @@ slot_is n e w h =
     let same : Some (lane_slot e) ≡ Some w = sym (row-found lane_slot n e below) ∙ found in
     record { below = below; is = cc }
 
-slot_found : (n l : ℕ) → l < n → slice_get (slots (bytes_layout n)) l ≡ Some (lane_slot l)
+pub slot_found : (n l : ℕ) → l < n → slice_get (slots (bytes_layout n)) l ≡ Some (lane_slot l)
 slot_found n l h = ap (λ ws. slice_get ws l) (copies_rows n) ∙ row-found lane_slot n l h
 
 -- the name of a column
-column_named : (ports : List ModulePort) (port : ℕ → ModulePort) (n l : ℕ) → ports ≡ rows port n → l < n → get_or (map name_of ports) l [] ≡ name_of (port l)
+pub column_named : (ports : List ModulePort) (port : ℕ → ModulePort) (n l : ℕ) → ports ≡ rows port n → l < n → get_or (map name_of ports) l [] ≡ name_of (port l)
 column_named ports port n l e h =
     let names : map name_of ports ≡ rows (λ k. name_of (port k)) n = ap (map name_of) e ∙ map-rows name_of port n in
     get_or_from_slice_get (map name_of ports) l (name_of (port l)) [] (ap (λ ns. slice_get ns l) names ∙ row-found (λ k. name_of (port k)) n l h)
 
 -- what the ports of bytes hold, lane by lane
-abbrev lane_word : List ModuleClock → (clock : ℕ) → List ℕ → ℕ
+abbrev pub lane_word : List ModuleClock → (clock : ℕ) → List ℕ → ℕ
 lane_word run c n = (clock_at run c).word n
 
 holds_lane : (run : List ModuleClock) (start k n l : ℕ) (ports : List ModulePort) (port : ℕ → ModulePort) (ws : List ℕ) → ports ≡ rows port n → l < n
@@ -122,7 +122,7 @@ holds_lane run start k n l ports port ws e below h =
     ∙ h l 0 (lane_slot l) (slot_found n l below) one
     ∙ ap (λ q. get_or ws q 0) same
 
-lanes_hold : (run : List ModuleClock) (start k n : ℕ) (ports : List ModulePort) (port : ℕ → ModulePort) (ws : List ℕ) → ports ≡ rows port n
+pub lanes_hold : (run : List ModuleClock) (start k n : ℕ) (ports : List ModulePort) (port : ℕ → ModulePort) (ws : List ℕ) → ports ≡ rows port n
     → ((l : ℕ) → l < n → lane_word run (start + k) (name_of (port l)) ≡ get_or ws l 0)
     → Holds (wave run start ports) k 1 (slots (bytes_layout n)) ws
 lanes_hold run start k n ports port ws e h q j w found below =
@@ -137,10 +137,10 @@ lanes_hold run start k n ports port ws e h q j w found below =
 
 -- ---- types and layouts
 
-parameters_are : (t : FirstText) (i j : ℕ) (f : FirstPath) → PathParts t i j f → parameter_types (tree t i j) ≡ seq f.count byte_type ∷ []
+pub parameters_are : (t : FirstText) (i j : ℕ) (f : FirstPath) → PathParts t i j f → parameter_types (tree t i j) ≡ seq f.count byte_type ∷ []
 parameters_are t i j f r = ap (λ c. seq c byte_type ∷ []) (sym r.count)
 
-layouts_are : (t : FirstText) (i j : ℕ) (f : FirstPath) → IsRight t i j → PathParts t i j f → HaveLayouts (tree t i j) 1 (bytes_layout f.count ∷ []) (bytes_layout f.count ∷ [])
+pub layouts_are : (t : FirstText) (i j : ℕ) (f : FirstPath) → IsRight t i j → PathParts t i j f → HaveLayouts (tree t i j) 1 (bytes_layout f.count ∷ []) (bytes_layout f.count ∷ [])
 layouts_are t i j f good r = record {
   parameters = ap (map (λ s. lay_of s 1)) (parameters_are t i j f r);
   results =
@@ -163,7 +163,7 @@ block_of n (v ∷ []) h =
     record { bytes = b.bytes; long = b.long; is = ap (λ x. x ∷ []) b.is }
 block_of n (v ∷ w ∷ vs) h = absurd h.1
 
-tails : (x y : ℕ) (xs ys : List ℕ) → x ∷ xs ≡ y ∷ ys → xs ≡ ys
+pub tails : (x y : ℕ) (xs ys : List ℕ) → x ∷ xs ≡ y ∷ ys → xs ≡ ys
 tails x y xs ys h = cc
 
 -- in a run of the module each output has, one clock later, the sum of its lane
@@ -211,7 +211,7 @@ block_law t i j f run start k block r same runs below b held =
     subst (λ ws. Holds (wave run start (output_ports 1 0 S)) (1 + k) 1 (slots S) ws) (sym results)
     (lanes_hold run start (1 + k) n (output_ports 1 0 S) (byte_port out_name true) (map (sum_word f) xs) (output_rows n) each)
 
-only_one : (x s : StTree) (q : ℕ) → slice_get (x ∷ []) q ≡ Some s → (q ≡ 0) × (x ≡ s)
+pub only_one : (x s : StTree) (q : ℕ) → slice_get (x ∷ []) q ≡ Some s → (q ≡ 0) × (x ≡ s)
 only_one x s zero h = (refl, cc)
 only_one x s (suc q) h = cc
 

@@ -5,9 +5,17 @@ pub mod FirstCells
 pub mod FirstOperands
 pub mod FirstForms
 pub mod Calls
+pub mod Replies
 pub mod FirstModule
 pub mod FirstRuns
 pub mod Rows
 pub mod FirstMeaning
 pub mod FirstPorts
 pub mod FirstCorrect
+pub mod Blocks
+pub mod ClockRows
+pub mod Held
+pub mod FirstRows
+pub mod FirstTables
+pub mod FirstClocks
+pub mod FirstRun

@@ -1,9 +1,14 @@
 pub mod Answers
+pub mod ClockLines
 pub mod Commands
 pub mod Correct
+pub mod EvalTexts
 pub mod FirstPath
 pub mod FirstPrograms
+pub mod Inputs
 pub mod ModuleTexts
 pub mod Numbers
 pub mod Outcomes
+pub mod Playing
 pub mod Refusals
+pub mod RunTexts

@@ -1,36 +1,70 @@
 -- What a call answers and writes for its words and the bytes of its input.
-use Rattle.std.specs.Prelude.{◌≡◌, ℕ, ◌+◌, ◌<◌, ◌≤◌, Bool, true, false, List, [], ◌++◌, length, take, Option, Some, IfSome, ◌⊎◌}
+use Rattle.std.specs.Prelude.{◌≡◌, ℕ, ◌+◌, ◌<◌, ◌≤◌, Bool, true, false, List, [], ◌++◌, length, take, Option, Some, None, IfSome, ◌⊎◌}
 use Rattle.ae_io.specs.Counts.{Rose}
 use Rattle.ae_io.specs.Told.{TakesCount}
 use Rattle.ae_seq.specs.ProgramTree.{ProgramTree}
 use Rattle.ae_first.specs.FirstForm.{FirstForm, line_count}
 use Rattle.ae_tool.specs.declared.status.Status.{Status}
-use Rattle.ae_tool.specs.declared.status.Status.TheVariants.{Ok, Usage, BadLine, ReadFault, WriteFault, TooLong, Memory}
-use Rattle.ae_tool.specs.Commands.{IsBuildOne}
+use Rattle.ae_tool.specs.declared.status.Status.TheVariants.{Ok, Usage, BadLine, BadWords, LongRun, ReadFault, WriteFault, TooLong, Memory}
+use Rattle.ae_parse.specs.Rows.{bad_row}
+use Rattle.ae_tool.specs.declared.command.Command.{Command}
+use Rattle.ae_tool.specs.declared.command.Command.TheVariants.{Build, Run}
+use Rattle.ae_tool.specs.Commands.{IsCommand, NamesNone}
+use Rattle.ae_tool.specs.Inputs.{IsCut}
 use Rattle.ae_tool.specs.Refusals.{refusal_line}
 use Rattle.ae_tool.specs.ModuleTexts.{IsProgramText}
+use Rattle.ae_tool.specs.RunTexts.{input_widths, run_size, run_limit, IsRunText}
 
 -- the most bytes of an input
 abbrev pub input_limit : ℕ
 input_limit = 16777216
 
 -- no program has this text as its first form, and the line is one of the text or the one behind it
-pub record IsBadLine (bytes : List ℕ) (line : ℕ) : Type 0 where
-  pub none : (p : ProgramTree) → FirstForm bytes p → ⊥
+pub record IsBadLine (part : List ℕ) (line : ℕ) : Type 0 where
+  pub none : (p : ProgramTree) → FirstForm part p → ⊥
   pub low : 1 ≤ line
-  pub high : line ≤ line_count bytes + 1
+  pub high : line ≤ line_count part + 1
 
--- what `build 1` answers and writes for an input within the limit
-abbrev pub IsBuilt : (bytes : List ℕ) → Status → (text : List ℕ) → Type 0
-IsBuilt bytes Ok text = (p : ProgramTree) × FirstForm bytes p × IsProgramText p text
-IsBuilt bytes (BadLine line) text = IsBadLine bytes line × (text ≡ refusal_line (BadLine line))
-IsBuilt bytes _ text = ⊥
+-- the one program of this text
+pub record IsProgramOf (part : List ℕ) (p : ProgramTree) : Type 0 where
+  pub form : FirstForm part p
+  pub only : (q : ProgramTree) → FirstForm part q → q ≡ p
+
+-- what `build 1` answers and writes for a program part
+abbrev pub IsBuilt : (part : List ℕ) → Status → (text : List ℕ) → Type 0
+IsBuilt part Ok text = (p : ProgramTree) × IsProgramOf part p × IsProgramText p text
+IsBuilt part (BadLine line) text = IsBadLine part line × (text ≡ refusal_line (BadLine line))
+IsBuilt part _ text = ⊥
+
+-- what `run 1 FILL` answers and writes for a program and rows: the first wrong row comes before a run that is too long
+abbrev pub IsRunOf : (fill : ℕ) (p : ProgramTree) (table : List (List (List ℕ))) → Status → (text : List ℕ) → Type 0
+IsRunOf fill p table Ok text = (bad_row 1 (input_widths p) table ≡ None) × (run_size p table ≤ run_limit) × IsRunText fill p table text
+IsRunOf fill p table (BadWords row column) text = (bad_row 1 (input_widths p) table ≡ Some (row, column)) × (text ≡ refusal_line (BadWords row column))
+IsRunOf fill p table (LongRun size) text =
+    (bad_row 1 (input_widths p) table ≡ None) × (run_limit < size) × (size ≡ run_size p table) × (text ≡ refusal_line (LongRun size))
+IsRunOf fill p table _ text = ⊥
+
+abbrev pub IsRun : (fill : ℕ) (part : List ℕ) (table : List (List (List ℕ))) → Status → (text : List ℕ) → Type 0
+IsRun fill part table (BadLine line) text = IsBadLine part line × (text ≡ refusal_line (BadLine line))
+IsRun fill part table status text = (p : ProgramTree) × IsProgramOf part p × IsRunOf fill p table status text
+
+-- what a job answers and writes for the two parts of an input
+abbrev pub IsReply : Command → (part : List ℕ) (table : List (List (List ℕ))) → Status → (text : List ℕ) → Type 0
+IsReply Build part table status text = IsBuilt part status text
+IsReply (Run fill) part table status text = IsRun fill part table status text
+
+-- the same for an input within the limit
+pub record IsDone (command : Command) (bytes : List ℕ) (status : Status) (text : List ℕ) : Type 0 where
+  pub part : List ℕ
+  pub table : List (List (List ℕ))
+  pub cut : IsCut bytes part table
+  pub reply : IsReply command part table status text
 
 -- what a call answers and writes, where neither the input nor the output failed and there was memory
 abbrev pub IsOutcome : (words : List (List ℕ)) (bytes : List ℕ) → Status → (text : List ℕ) → Type 0
-IsOutcome words bytes Usage text = (IsBuildOne words → ⊥) × (text ≡ refusal_line Usage)
-IsOutcome words bytes TooLong text = IsBuildOne words × (input_limit < length bytes) × (text ≡ refusal_line TooLong)
-IsOutcome words bytes status text = IsBuildOne words × (length bytes ≤ input_limit) × IsBuilt bytes status text
+IsOutcome words bytes Usage text = NamesNone words × (text ≡ refusal_line Usage)
+IsOutcome words bytes TooLong text = (command : Command) × IsCommand words command × (input_limit < length bytes) × (text ≡ refusal_line TooLong)
+IsOutcome words bytes status text = (command : Command) × IsCommand words command × (length bytes ≤ input_limit) × IsDone command bytes status text
 
 -- the answers by which a whole text was written that the words and the input decide
 abbrev pub is_settled : Status → Bool
@@ -64,10 +98,17 @@ abbrev pub RefusesWords : Status → (old_faults new_faults old_wants new_wants 
 RefusesWords status old_faults new_faults old_wants new_wants =
     (status ≡ Usage) ⊎ (((status ≡ WriteFault) × Rose old_faults new_faults) ⊎ ((status ≡ Memory) × Rose old_wants new_wants))
 
--- the input is told, within the limit, and a program of the first form
-pub record IsFirstInput (left : Option (List ℕ)) : Type 0 where
+-- the job has a result for the two parts of an input
+abbrev pub HasResult : Command → (part : List ℕ) (table : List (List (List ℕ))) → Type 0
+HasResult Build part table = (p : ProgramTree) × FirstForm part p
+HasResult (Run fill) part table = (p : ProgramTree) × FirstForm part p × (bad_row 1 (input_widths p) table ≡ None) × (run_size p table ≤ run_limit)
+
+-- the input is told, within the limit, and one for which the job has a result
+pub record IsAccepted (command : Command) (left : Option (List ℕ)) : Type 0 where
   pub bytes : List ℕ
   pub told : left ≡ Some bytes
   pub few : length bytes ≤ input_limit
-  pub program : ProgramTree
-  pub form : FirstForm bytes program
+  pub part : List ℕ
+  pub table : List (List (List ℕ))
+  pub cut : IsCut bytes part table
+  pub result : HasResult command part table

@@ -3,41 +3,24 @@
 ghost use Rattle.std.specs.Prelude.{◌≡◌, IfOk, string_bytes, Some, List, ℕ};
 ghost use Rattle.ae_seq.specs.ProgramTree.{program_tree};
 ghost use Rattle.ae_first.specs.FirstForm.{FirstForm};
-ghost use Rattle.ae_tool.specs.FirstPath.{IsFirstPath};
+ghost use Rattle.ae_tool.specs.FirstPath.{IsFirstPath, first_cells, first_outlets};
 ghost use Rattle.ae_tool.specs.FirstPrograms.{first_path_of};
 ghost use Rattle.ae_tool.specs.ModuleTexts.{IsModuleText, IsProgramText};
-ghost use Rattle.ae_tool.specs.Refusals.{refusal_line};
 ghost use Rattle.ae_tool.specs.Outcomes.{IsBuilt};
 
 use crate::first_path::{FirstPath, first_path};
 use crate::lower_first::lower_first;
-use crate::refusal::refusal_line;
+use crate::reply::{OutOfMemory, Reply, refused};
 use crate::status::Status;
 use ae_elab::one_run;
 use ae_first::{FirstFault, read_first};
+use ae_netlist::Netlist;
 use ae_seq::Program;
 use ae_verilog::{Report, module_keeps, write_module};
-use std::alloc::{AllocError, Global};
-
-/// What a job answers, and what it writes.
-#[derive(Drop)]
-pub struct Reply {
-    pub status: Status,
-    pub text: String,
-}
-
-/// There was no memory.
-#[derive(Debug, Drop)]
-pub struct OutOfMemory;
-
-impl From<AllocError> for OutOfMemory {
-    fn from(_: AllocError) -> OutOfMemory {
-        OutOfMemory
-    }
-}
+use std::alloc::Global;
 
 // What a program of the first form computes.
-fn path(p: &Program) -> FirstPath
+pub fn path(p: &Program) -> FirstPath
     requires { (text : List ℕ) × FirstForm text (program_tree p.now) }
     ensures path { first_path_of (program_tree p.now) ≡ Some result }
     ensures right { IsFirstPath result }
@@ -48,14 +31,25 @@ fn path(p: &Program) -> FirstPath
     }
 }
 
-// The text of the module of what a program computes. A sum takes one clock.
-fn path_text(alloc: Global, path: FirstPath) -> Result<String, OutOfMemory>
+// The netlist of what a program computes.
+pub fn lowered(alloc: Global, path: FirstPath) -> Result<Netlist, OutOfMemory>
     requires { IsFirstPath path }
+    ensures cells { IfOk result (λ nl. nl.cells ≡ first_cells path) }
+    ensures outlets { IfOk result (λ nl. nl.outlets ≡ first_outlets path) }
+{
+    match lower_first(alloc, path) {
+        Ok(nl) => Ok(nl),
+        Err(_) => Err(OutOfMemory),
+    }
+}
+
+// The text of the netlist's module. A sum takes one clock.
+pub fn netlist_text(alloc: Global, path: FirstPath, nl: &Netlist) -> Result<String, OutOfMemory>
+    requires right { IsFirstPath path }
+    requires cells { nl.now.cells ≡ first_cells path }
+    requires outlets { nl.now.outlets ≡ first_outlets path }
     ensures { IfOk result (λ text. IsModuleText path (string_bytes text)) }
 {
-    let Ok(nl) = lower_first(alloc, path) else {
-        return Err(OutOfMemory);
-    };
     nl.formed();
     module_keeps();
     one_run();
@@ -64,7 +58,7 @@ fn path_text(alloc: Global, path: FirstPath) -> Result<String, OutOfMemory>
         latency: 1,
         outs: 1,
     };
-    let text = write_module(alloc, &nl, &report)?;
+    let text = write_module(alloc, nl, &report)?;
     Ok(text)
 }
 
@@ -74,21 +68,15 @@ fn module_text(alloc: Global, p: &Program) -> Result<String, OutOfMemory>
     ensures { IfOk result (λ text. IsProgramText (program_tree p.now) (string_bytes text)) }
 {
     let path = path(p);
-    path_text(alloc, path)
+    let nl = lowered(alloc, path)?;
+    netlist_text(alloc, path, &nl)
 }
 
-fn refused(alloc: Global, status: Status) -> Result<Reply, OutOfMemory>
-    ensures { IfOk result (λ reply. (reply.status ≡ status) × (string_bytes reply.text ≡ refusal_line status)) }
+/// Builds a program part; without memory there is no reply.
+pub fn build(alloc: Global, part: &[u8]) -> Result<Reply, OutOfMemory>
+    ensures { IfOk result (λ reply. IsBuilt part.now reply.status (string_bytes reply.text)) }
 {
-    let text = refusal_line(alloc, status)?;
-    Ok(Reply { status, text })
-}
-
-/// Builds the program of an input; without memory there is no reply.
-pub fn build_one(alloc: Global, bytes: &[u8]) -> Result<Reply, OutOfMemory>
-    ensures { IfOk result (λ reply. IsBuilt bytes.now reply.status (string_bytes reply.text)) }
-{
-    match read_first(alloc, bytes) {
+    match read_first(alloc, part) {
         Ok(p) => {
             let text = module_text(alloc, &p)?;
             Ok(Reply {

@@ -3,9 +3,10 @@
 ghost use Rattle.std.specs.Prelude.{◌≡◌, ◌⊎◌, true};
 ghost use Rattle.ae_io.specs.Counts.{Rose};
 ghost use Rattle.ae_io.specs.Told.{Appends};
-ghost use Rattle.ae_tool.specs.Commands.{word_bytes, IsBuildOne};
+ghost use Rattle.ae_tool.specs.declared.command.Command.{Command};
+ghost use Rattle.ae_tool.specs.Commands.{word_bytes, IsCommand, NamesNone};
 ghost use Rattle.ae_tool.specs.Refusals.{refusal_line};
-ghost use Rattle.ae_tool.specs.Outcomes.{is_settled, HasOutcome, HasPart, LeavesRest, IsFirstInput, RefusesWords};
+ghost use Rattle.ae_tool.specs.Outcomes.{is_settled, HasOutcome, HasPart, LeavesRest, IsAccepted, RefusesWords};
 
 use crate::serve::serve;
 use crate::status::Status;
@@ -14,9 +15,10 @@ use std::alloc::Global;
 
 /// Answers a job, named by its words: reads the whole input, and writes the job's text or the line of a refusal.
 ///
-/// Today `build 1` is the one job; all other words are `Usage`, for which nothing is read. With `Ok` the text spells a
-/// module that is correct for the program in the input, at slowdown 1 and with the latency that its report lines tell:
-/// README.md says in plain words what that is. `ReadFault` and `WriteFault` come only where the count of faults of the
+/// Today `build 1` and `run 1 FILL` are the jobs; all other words are `Usage`, for which nothing is read. With `Ok` the
+/// text spells a module that is correct for the program in the input, at slowdown 1 and with the latency that its report
+/// lines tell: README.md says in plain words what that is. `run` shows behind it the module's run on the rows in the
+/// input, every word of every clock. `ReadFault` and `WriteFault` come only where the count of faults of the
 /// source or sink that was handed in rose in this call. `Memory` may stand in place of any answer; in place of `Usage`
 /// only where the sink had no memory.
 pub fn aeth<S: Source, K: Sink>(
@@ -27,14 +29,14 @@ pub fn aeth<S: Source, K: Sink>(
 ) -> Status
     ensures outcome { is_settled result ≡ true → HasOutcome (word_bytes words.now) result (S.left source.old) (K.written sink.old) (K.written sink.new) }
     ensures part { HasPart (word_bytes words.now) (S.left source.old) (K.written sink.old) (K.written sink.new) (S.faults source.old) (S.faults source.new) }
-    ensures complete { IsBuildOne (word_bytes words.now) → (Rose (S.faults source.old) (S.faults source.new) → ⊥) → (Rose (K.faults sink.old) (K.faults sink.new) → ⊥)
-        → IsFirstInput (S.left source.old) → (result ≡ Status.Ok) ⊎ (result ≡ Status.Memory) }
-    ensures left { is_settled result ≡ true → IsBuildOne (word_bytes words.now) → LeavesRest result (S.left source.old) (S.left source.new) }
+    ensures complete { (command : Command) → IsCommand (word_bytes words.now) command → (Rose (S.faults source.old) (S.faults source.new) → ⊥) → (Rose (K.faults sink.old) (K.faults sink.new) → ⊥)
+        → IsAccepted command (S.left source.old) → (result ≡ Status.Ok) ⊎ (result ≡ Status.Memory) }
+    ensures left { (command : Command) → is_settled result ≡ true → IsCommand (word_bytes words.now) command → LeavesRest result (S.left source.old) (S.left source.new) }
     ensures ended { (result ≡ Status.WriteFault → ⊥) → (result ≡ Status.Memory → ⊥) → Rose (K.ends sink.old) (K.ends sink.new) }
 
-    ensures usage { result ≡ Status.Usage → IsBuildOne (word_bytes words.now) → ⊥ }
-    ensures other_words { (IsBuildOne (word_bytes words.now) → ⊥) → RefusesWords result (K.faults sink.old) (K.faults sink.new) (K.wants sink.old) (K.wants sink.new) }
-    ensures untouched { (IsBuildOne (word_bytes words.now) → ⊥) → (S.left source.new ≡ S.left source.old) × (S.faults source.new ≡ S.faults source.old) }
+    ensures usage { result ≡ Status.Usage → NamesNone (word_bytes words.now) }
+    ensures other_words { NamesNone (word_bytes words.now) → RefusesWords result (K.faults sink.old) (K.faults sink.new) (K.wants sink.old) (K.wants sink.new) }
+    ensures untouched { NamesNone (word_bytes words.now) → (S.left source.new ≡ S.left source.old) × (S.faults source.new ≡ S.faults source.old) }
 
     ensures read { result ≡ Status.ReadFault → Rose (S.faults source.old) (S.faults source.new) }
     ensures read_line { result ≡ Status.ReadFault → Appends (K.written sink.old) (K.written sink.new) (refusal_line Status.ReadFault) }

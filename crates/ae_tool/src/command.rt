@@ -1,20 +1,66 @@
 // The words that name a job.
 
-ghost use Rattle.std.specs.Prelude.{◌≡◌, ◌↔◌, IsTrue, codes};
-ghost use Rattle.ae_tool.specs.Commands.{word_bytes, IsBuildOne};
+ghost use Rattle.std.specs.Prelude.{◌≡◌, ◌↔◌, ◌∷◌, [], ℕ, ◌<◌, ◌^◌, codes, IsTrue, MatchOption};
+ghost use Rattle.std.specs.Fmt.{decimal};
+ghost use Rattle.ae_tool.specs.Commands.{word_bytes, IsCommand, NamesNone};
 
-/// Whether the words are `build 1`.
-pub fn is_build_one(words: &[String]) -> bool
-    ensures { IsTrue result ↔ IsBuildOne (word_bytes words.now) }
+use ae_parse::number;
+
+/// A job.
+#[derive(Clone, Copy, PartialEq, Eq, Debug)]
+pub enum Command {
+    /// `build 1`: the text of the program's module.
+    Build,
+    /// `run 1 FILL`: that text, and the lines of the module's run on the rows.
+    Run { fill: u64 },
+}
+
+/// The job that the words name, if they name one.
+pub fn command_named(words: &[String]) -> Option<Command>
+    ensures { MatchOption result (NamesNone (word_bytes words.now)) (λ c. IsCommand (word_bytes words.now) c) }
 {
     match words {
-        [job, slowdown] => are_build_and_one(job.as_str(), slowdown.as_str()),
-        _ => false,
+        [job, slowdown] => build(job.as_str(), slowdown.as_str()),
+        [job, slowdown, fill] => run(job.as_str(), slowdown.as_str(), fill.as_str()),
+        _ => None,
     }
 }
 
-fn are_build_and_one(job: &str, slowdown: &str) -> bool
-    ensures { IsTrue result ↔ ((job.now ≡ codes "build") × (slowdown.now ≡ codes "1")) }
+fn build(job: &str, slowdown: &str) -> Option<Command>
+    ensures { MatchOption result (NamesNone (job.now ∷ slowdown.now ∷ [])) (λ c. IsCommand (job.now ∷ slowdown.now ∷ []) c) }
 {
-    job == "build" && slowdown == "1"
+    if job == "build" && slowdown == "1" {
+        Some(Command::Build)
+    } else {
+        None
+    }
+}
+
+fn run(job: &str, slowdown: &str, fill: &str) -> Option<Command>
+    ensures { MatchOption result (NamesNone (job.now ∷ slowdown.now ∷ fill.now ∷ [])) (λ c. IsCommand (job.now ∷ slowdown.now ∷ fill.now ∷ []) c) }
+{
+    if job == "run" && slowdown == "1" {
+        fill_of(fill)
+    } else {
+        None
+    }
+}
+
+fn fill_of(fill: &str) -> Option<Command>
+    ensures { MatchOption result (NamesNone (codes "run" ∷ codes "1" ∷ fill.now ∷ [])) (λ c. IsCommand (codes "run" ∷ codes "1" ∷ fill.now ∷ []) c) }
+{
+    match plain_number(fill.as_bytes()) {
+        Some(fill) => Some(Command::Run { fill }),
+        None => None,
+    }
+}
+
+// The number below 2^64 that the bytes write without leading zeros.
+fn plain_number(digits: &[u8]) -> Option<u64>
+    ensures { MatchOption result ((n : ℕ) → n < 2 ^ 64 → digits.now ≡ decimal n → ⊥) (λ n. digits.now ≡ decimal n) }
+{
+    if digits.len() > 1 && digits[0] == b'0' {
+        return None;
+    }
+    number(digits)
 }

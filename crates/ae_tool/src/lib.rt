@@ -3,17 +3,21 @@
 
 mod build;
 mod call;
+mod clocks;
 mod command;
 mod first_path;
 mod lower_first;
 mod refusal;
+mod reply;
+mod run;
 mod serve;
 mod status;
 #[cfg(test)]
 mod tests;
+mod widths;
 
 pub use call::aeth;
-pub use command::is_build_one;
+pub use command::Command;
 pub use first_path::{FirstPath, Operand};
 pub use refusal::refusal_line;
 pub use status::{Status, VFaultKind};

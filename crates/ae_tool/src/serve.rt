@@ -2,10 +2,10 @@
 
 ghost use Rattle.std.specs.Prelude.{◌≡◌, List, ℕ};
 ghost use Rattle.ae_tool.specs.Answers.{Puts, Answers, SourceView, SinkView};
-ghost use Rattle.ae_tool.specs.Commands.{word_bytes, IsBuildOne};
+ghost use Rattle.ae_tool.specs.Commands.{word_bytes, IsCommand};
 
-use crate::build::build_one;
-use crate::command::is_build_one;
+use crate::command::{Command, command_named};
+use crate::reply::answer;
 use crate::status::Status;
 use ae_io::{LoadFault, PutFault, Sink, Source, load, put_all};
 use std::alloc::Global;
@@ -25,11 +25,16 @@ fn put<K: Sink>(sink: &mut K, text: &[u8], status: Status) -> Status
 }
 
 // Reads the input and answers the job.
-fn read_and_build<S: Source, K: Sink>(alloc: Global, source: &mut S, sink: &mut K) -> Status
-    ensures { (ws : List (List ℕ)) → IsBuildOne ws → Answers ws result (record { left = S.left source.old; faults = S.faults source.old }) (record { left = S.left source.new; faults = S.faults source.new }) (record { written = K.written sink.old; faults = K.faults sink.old; wants = K.wants sink.old; ends = K.ends sink.old }) (record { written = K.written sink.new; faults = K.faults sink.new; wants = K.wants sink.new; ends = K.ends sink.new }) }
+fn read_and_reply<S: Source, K: Sink>(
+    alloc: Global,
+    command: Command,
+    source: &mut S,
+    sink: &mut K,
+) -> Status
+    ensures { (ws : List (List ℕ)) → IsCommand ws command → Answers ws result (record { left = S.left source.old; faults = S.faults source.old }) (record { left = S.left source.new; faults = S.faults source.new }) (record { written = K.written sink.old; faults = K.faults sink.old; wants = K.wants sink.old; ends = K.ends sink.old }) (record { written = K.written sink.new; faults = K.faults sink.new; wants = K.wants sink.new; ends = K.ends sink.new }) }
 {
     match load(alloc, source, INPUT_LIMIT) {
-        Ok(bytes) => match build_one(alloc, &bytes) {
+        Ok(bytes) => match answer(alloc, command, &bytes) {
             Ok(reply) => put(sink, reply.text.as_bytes(), reply.status),
             Err(_) => put(sink, b"refused memory\n", Status::Memory),
         },
@@ -48,9 +53,8 @@ pub fn serve<S: Source, K: Sink>(
 ) -> Status
     ensures { Answers (word_bytes words.now) result (record { left = S.left source.old; faults = S.faults source.old }) (record { left = S.left source.new; faults = S.faults source.new }) (record { written = K.written sink.old; faults = K.faults sink.old; wants = K.wants sink.old; ends = K.ends sink.old }) (record { written = K.written sink.new; faults = K.faults sink.new; wants = K.wants sink.new; ends = K.ends sink.new }) }
 {
-    if is_build_one(words) {
-        read_and_build(alloc, source, sink)
-    } else {
-        put(sink, b"refused usage\n", Status::Usage)
+    match command_named(words) {
+        Some(command) => read_and_reply(alloc, command, source, sink),
+        None => put(sink, b"refused usage\n", Status::Usage),
     }
 }

@@ -56,6 +56,101 @@ fn builds_behind_the_report_lines(rt: HostRuntime) -> Result<(), Fail> {
     Ok(())
 }
 
+// Rows of words behind the program, and what the text of its run ends with.
+const RUNS: [(&str, &str, &str); 7] = [
+    (
+        "0",
+        "%%\n1 2 3 255\n",
+        "%% clocks\n0 . 1 1 1 1\n1 v 2 3 4 0\n",
+    ),
+    (
+        "255",
+        "%%\n1 2 3 255\n",
+        "%% clocks\n0 . 0 0 0 0\n1 v 2 3 4 0\n",
+    ),
+    (
+        "258",
+        "%%\n1 2 3 255\n\n# none\n007 0 0 9\r\n",
+        "%% clocks\n0 . 3 3 3 3\n1 v 2 3 4 0\n2 v 8 1 1 10\n",
+    ),
+    ("0", "%%\n", "endmodule\n%% clocks\n"),
+    ("0", "", "endmodule\n%% clocks\n"),
+    ("18446744073709551615", "%%", "endmodule\n%% clocks\n"),
+    ("0", "%%\n5 5 5 5\n%% 6 6 6 6", "column 1\n"),
+];
+
+#[test]
+fn runs_the_module_on_the_rows(rt: HostRuntime) -> Result<(), Fail> {
+    for (fill, rows, end) in RUNS {
+        let input = format!(in rt.alloc(); "{INCREMENT}{rows}")?;
+        let mut source = MemSource::new(rt.alloc(), input.as_bytes(), 1000, &[])?;
+        let mut sink = MemSink::new(rt.alloc(), 1000, &[])?;
+        let reply = answer(rt.alloc(), &["run", "1", fill], &mut source, &mut sink)?;
+        assert!(rt;
+            reply.text.as_slice().ends_with(end.as_bytes()),
+            "{fill} {rows}"
+        );
+    }
+    Ok(())
+}
+
+#[test]
+fn runs_behind_the_text_of_the_module(rt: HostRuntime) -> Result<(), Fail> {
+    let built = built(rt.alloc(), INCREMENT)?;
+    let input = format!(in rt.alloc(); "{INCREMENT}%%\n1 2 3 255\n")?;
+    let mut source = MemSource::new(rt.alloc(), input.as_bytes(), 3, &[])?;
+    let mut sink = MemSink::new(rt.alloc(), 4, &[])?;
+    let run = answer(rt.alloc(), &["run", "1", "0"], &mut source, &mut sink)?;
+    assert_eq!(rt; run.status, Status::Ok);
+    assert!(rt; run.text.as_slice().starts_with(built.text.as_slice()));
+    assert_eq!(rt; run.text.len(), built.text.len() + 34);
+    Ok(())
+}
+
+#[test]
+fn refuses_rows_that_are_not_right(rt: HostRuntime) -> Result<(), Fail> {
+    for (rows, line) in [
+        ("1 2 256 4", "refused bad words row 1 column 3\n"),
+        ("1 2 3", "refused bad words row 1 column 4\n"),
+        ("1 2 3 4 5", "refused bad words row 1 column 5\n"),
+        ("1 2 3 4\n1 x 3 4 5", "refused bad words row 2 column 2\n"),
+    ] {
+        let input = format!(in rt.alloc(); "{INCREMENT}%%\n{rows}\n")?;
+        let mut source = MemSource::new(rt.alloc(), input.as_bytes(), 1000, &[])?;
+        let mut sink = MemSink::new(rt.alloc(), 1000, &[])?;
+        let reply = answer(rt.alloc(), &["run", "1", "0"], &mut source, &mut sink)?;
+        assert_eq!(rt; reply.status.number(), 6);
+        assert_eq!(rt; reply.text.as_slice(), line.as_bytes());
+    }
+    Ok(())
+}
+
+// A function of one lane, and so many rows.
+fn one_lane(alloc: Global, rows: usize) -> Result<String, AllocError> {
+    let mut text = String::from_str(
+        alloc,
+        "fn f x:u8\ny = add x x\nend y\nfn main a:[1]u8\nb = map f a\nend b\n%%\n",
+    )?;
+    for _ in 0..rows {
+        text.push_str("7\n")?;
+    }
+    Ok(text)
+}
+
+#[test]
+fn refuses_a_run_that_is_too_long(rt: HostRuntime) -> Result<(), Fail> {
+    let input = one_lane(rt.alloc(), 2_097_152)?;
+    let mut source = MemSource::new(rt.alloc(), input.as_bytes(), 1_000_000, &[])?;
+    let mut sink = MemSink::new(rt.alloc(), 1000, &[])?;
+    let reply = answer(rt.alloc(), &["run", "1", "0"], &mut source, &mut sink)?;
+    assert_eq!(rt; reply.status.number(), 8);
+    assert_eq!(rt;
+        reply.text.as_slice(),
+        b"refused long run 4194306\n".as_slice()
+    );
+    Ok(())
+}
+
 #[test]
 fn refuses_other_programs(rt: HostRuntime) -> Result<(), Fail> {
     for input in [
@@ -73,7 +168,11 @@ fn refuses_other_programs(rt: HostRuntime) -> Result<(), Fail> {
 
 #[test]
 fn refuses_other_words_and_reads_nothing(rt: HostRuntime) -> Result<(), Fail> {
-    let forms: [&[&str]; 5] = [
+    let forms: [&[&str]; 9] = [
+        &["run", "1"],
+        &["run", "2", "0"],
+        &["run", "1", "18446744073709551616"],
+        &["run", "1", "00"],
         &["build", "0"],
         &["build", "04"],
         &["build"],

@@ -32,4 +32,4 @@ pub returns-clause-left : goal.returns-clause-left
 returns-clause-left g c = rest_left _ _ _ _ _ _ c.serve.ensures
 
 pub returns-clause-complete : goal.returns-clause-complete
-returns-clause-complete g c job read written i = completes _ _ _ _ _ _ c.serve.ensures job read written i.bytes i.program i.told i.few i.form
+returns-clause-complete g c command job read written i = completes _ _ _ _ _ _ c.serve.ensures command job read written i

@@ -1,6 +1,6 @@
-use Rattle.std.proofs.Common.{rules}
-use Rattle.ae_tool.specs.Commands.{word_bytes, IsBuildOne}
+use Rattle.ae_tool.specs.Commands.{word_bytes}
 use Rattle.ae_tool.proofs.serve.serve.Goals as goal
 
-pub returns-then-is_build_one : goal.returns-then-is_build_one
-returns-then-is_build_one g c = let h : IsBuildOne (word_bytes c.args.words.now) = search rules in c.read_and_build.ensures (word_bytes c.args.words.now) h
+-- src/serve.rt:48:1
+pub returns-in-Some : goal.returns-in-Some
+returns-in-Some g c = c.read_and_reply.ensures (word_bytes c.args.words.now) c.in-Some.ensures

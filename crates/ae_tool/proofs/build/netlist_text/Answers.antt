@@ -1,12 +1,12 @@
 use Rattle.ae_tool.specs.ModuleTexts.{first_circuit}
 use Rattle.ae_tool.proofs.FirstModule.{module_of_path}
-use Rattle.ae_tool.proofs.build.path_text.Goals as goal
+use Rattle.ae_tool.proofs.build.netlist_text.Goals as goal
 
 pub returns : goal.returns
 returns c =
     let f = c.args.path in
     let laws = c.module_keeps.ensures in
-    module_of_path f c.in-Ok.nl _ c.requires c.in-Ok.ensures.cells c.in-Ok.ensures.outlets c.formed.ensures.cells c.formed.ensures.outlets
+    module_of_path f c.args.nl.now _ c.requires.right c.requires.cells c.requires.outlets c.formed.ensures.cells c.formed.ensures.outlets
     (record {
       runs = laws.runs (first_circuit f) 1;
       light = laws.light (first_circuit f) 1;

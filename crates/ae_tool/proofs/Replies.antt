@@ -1,0 +1,230 @@
+-- What a job answers, and that an input is cut in one way alone.
+use Rattle.std.proofs.Common.{ℕ, ◌≡◌, ◌<◌, ◌≤◌, Bool, true, false, not, List, [], ◌∷◌, ◌++◌, length, take, drop, Option, None, arith, refl, ap, sym, ◌∙◌, subst, nat_eq, if◌then◌else◌}
+use Rattle.std.proofs.lemmas.Bool.{eqb-true}
+use Rattle.std.specs.Fmt.{decimal}
+use Rattle.ae_parse.proofs.Plain.{own}
+use Rattle.std.proofs.lemmas.Fmt.{digits_value-decimal}
+use Rattle.std.specs.Str.Parse.{digits_value}
+use Rattle.ae_parse.proofs.Bools.{and-first, and-second}
+use Rattle.ae_parse.specs.Cut.{lines, fields, said, put}
+use Rattle.ae_parse.specs.Parts.{is_mark, no_mark, whole_lines}
+use Rattle.ae_parse.specs.Rows.{rows_of, bad_row}
+use Rattle.ae_seq.specs.ProgramTree.{ProgramTree}
+use Rattle.ae_first.specs.FirstForm.{FirstForm}
+use Rattle.ae_tool.specs.declared.status.Status.{Status}
+use Rattle.ae_tool.specs.declared.status.Status.TheVariants.{Ok, Usage, BadLine, BadType, TooLarge, NoSchedule, BadWords, BadModule, LongRun, ReadFault, WriteFault, TooLong, Memory}
+use Rattle.ae_tool.specs.declared.command.Command.{Command}
+use Rattle.ae_tool.specs.declared.command.Command.TheVariants.{Build, Run}
+use Rattle.ae_tool.specs.Commands.{IsCommand}
+use Rattle.ae_tool.specs.Inputs.{IsCut, Marked, Unmarked}
+use Rattle.ae_tool.specs.RunTexts.{input_widths, run_size, run_limit}
+use Rattle.ae_tool.specs.Outcomes.{IsBuilt, IsRunOf, IsRun, IsReply, IsDone, HasResult, IsAccepted}
+
+-- the answers of jobs
+abbrev pub is_reply : Status → Bool
+is_reply Ok = true
+is_reply Usage = false
+is_reply (BadLine line) = true
+is_reply (BadType line) = true
+is_reply (TooLarge line) = true
+is_reply (NoSchedule line) = true
+is_reply (BadWords row column) = true
+is_reply (BadModule fault) = true
+is_reply (LongRun size) = true
+is_reply ReadFault = false
+is_reply WriteFault = false
+is_reply TooLong = false
+is_reply Memory = false
+
+built_replies : (part : List ℕ) (status : Status) (text : List ℕ) → IsBuilt part status text → is_reply status ≡ true
+built_replies part Ok text b = refl
+built_replies part Usage text b = absurd b
+built_replies part (BadLine line) text b = refl
+built_replies part (BadType line) text b = absurd b
+built_replies part (TooLarge line) text b = absurd b
+built_replies part (NoSchedule line) text b = absurd b
+built_replies part (BadWords row column) text b = absurd b
+built_replies part (BadModule fault) text b = absurd b
+built_replies part (LongRun size) text b = absurd b
+built_replies part ReadFault text b = absurd b
+built_replies part WriteFault text b = absurd b
+built_replies part TooLong text b = absurd b
+built_replies part Memory text b = absurd b
+
+run_replies : (fill : ℕ) (part : List ℕ) (table : List (List (List ℕ))) (status : Status) (text : List ℕ) → IsRun fill part table status text → is_reply status ≡ true
+run_replies fill part table Ok text b = refl
+run_replies fill part table Usage text b = absurd b.2
+run_replies fill part table (BadLine line) text b = refl
+run_replies fill part table (BadType line) text b = absurd b.2
+run_replies fill part table (TooLarge line) text b = absurd b.2
+run_replies fill part table (NoSchedule line) text b = absurd b.2
+run_replies fill part table (BadWords row column) text b = refl
+run_replies fill part table (BadModule fault) text b = absurd b.2
+run_replies fill part table (LongRun size) text b = refl
+run_replies fill part table ReadFault text b = absurd b.2
+run_replies fill part table WriteFault text b = absurd b.2
+run_replies fill part table TooLong text b = absurd b.2
+run_replies fill part table Memory text b = absurd b.2
+
+reply_replies : (command : Command) (part : List ℕ) (table : List (List (List ℕ))) (status : Status) (text : List ℕ) → IsReply command part table status text → is_reply status ≡ true
+reply_replies Build part table status text b = built_replies part status text b
+reply_replies (Run fill) part table status text b = run_replies fill part table status text b
+
+pub done_replies : (command : Command) (bytes : List ℕ) (status : Status) (text : List ℕ) → IsDone command bytes status text → is_reply status ≡ true
+done_replies command bytes status text d = reply_replies command d.part d.table status text d.reply
+
+-- ---- one job for given words
+
+one_fill : (ws : List (List ℕ)) (m n : ℕ) → IsCommand ws (Run m) → IsCommand ws (Run n) → m ≡ n
+one_fill ws m n a b =
+    let e = sym a.0 ∙ b.0 in
+    let d : decimal m ≡ decimal n = cc in
+    sym (digits_value-decimal own m a.1) ∙ ap (digits_value 10) d ∙ digits_value-decimal own n b.1
+
+pub same_command : (ws : List (List ℕ)) (a b : Command) → IsCommand ws a → IsCommand ws b → a ≡ b
+same_command ws Build Build x y = refl
+same_command ws Build (Run n) x y = let e = sym x ∙ y.0 in cc
+same_command ws (Run m) Build x y = let e = sym x.0 ∙ y in cc
+same_command ws (Run m) (Run n) x y = ap (λ k. Run k) (one_fill ws m n x y)
+
+-- ---- an input is cut in one way
+
+-- lists with a first mark are equal before it and behind it
+record SameHalves {X : Type 0} (a b a' b' : List X) : Type 0 where
+  before : a ≡ a'
+  behind : b ≡ b'
+
+abbrev marks : List ℕ → Bool
+marks l = is_mark (fields (said l))
+
+-- a list that begins with a mark has one
+wrong : {A : Type 0} (x : List ℕ) (xs : List (List ℕ)) → marks x ≡ true → no_mark (x ∷ xs) ≡ true → A
+wrong x xs m n = let f : not (marks x) ≡ true = and-first (not (marks x)) _ n in let t : not (marks x) ≡ false = ap not m in cc
+
+halves : (a a' : List (List ℕ)) (l l' : List ℕ) (b b' : List (List ℕ)) → no_mark a ≡ true → no_mark a' ≡ true → marks l ≡ true → marks l' ≡ true → a ++ l ∷ b ≡ a' ++ l' ∷ b' → SameHalves a b a' b'
+halves [] [] l l' b b' f f' m m' e = record { before = refl; behind = cc }
+halves [] (x ∷ a') l l' b b' f f' m m' e = let s : l ≡ x = cc in let t : marks x ≡ true = ap marks (sym s) ∙ m in wrong x a' t f'
+halves (x ∷ a) [] l l' b b' f f' m m' e = let s : x ≡ l' = cc in let t : marks x ≡ true = ap marks s ∙ m' in wrong x a t f
+halves (x ∷ a) (y ∷ a') l l' b b' f f' m m' e =
+    let s : x ≡ y = cc in
+    let t : a ++ l ∷ b ≡ a' ++ l' ∷ b' = cc in
+    let r = halves a a' l l' b b' (and-second (not (marks x)) _ f) (and-second (not (marks y)) _ f') m m' t in
+    record { before = (λ i. s i ∷ r.before i); behind = r.behind }
+
+-- a list with a mark has one
+marked_has : (a : List (List ℕ)) (l : List ℕ) (b : List (List ℕ)) → marks l ≡ true → no_mark (a ++ l ∷ b) ≡ true → ⊥
+marked_has [] l b m n = wrong l b m n
+marked_has (x ∷ a) l b m n = marked_has a l b m (and-second (not (marks x)) _ n)
+
+-- lines with an LF behind each
+abbrev unlines : List (List ℕ) → List ℕ
+unlines [] = []
+unlines (l ∷ ls) = l ++ 10 ∷ unlines ls
+
+unlines_put : (b : ℕ) (ls : List (List ℕ)) → 1 ≤ length ls → unlines (put b ls) ≡ b ∷ unlines ls
+unlines_put b [] h = absurd (omega arith)
+unlines_put b (l ∷ ls) h = refl
+
+some_line : (b : ℕ) (bs : List ℕ) → 1 ≤ length (lines (b ∷ bs))
+some_line b bs = by (nat_eq b 10)
+  where
+    put_some : (ps : List (List ℕ)) → 1 ≤ length (put b ps)
+    put_some [] = omega arith
+    put_some (p ∷ ps) = omega arith
+
+    by : (t : Bool) → 1 ≤ length (if t then [] ∷ lines bs else put b (lines bs))
+    by true = omega arith
+    by false = put_some (lines bs)
+
+whole_back : (xs : List ℕ) → whole_lines xs ≡ true → unlines (lines xs) ≡ xs
+whole_back [] w = refl
+whole_back (b ∷ []) w = ap (λ t. unlines (if t then [] ∷ [] else put b [])) w ∙ ap (λ n. n ∷ []) (sym (eqb-true b 10 w))
+whole_back (b ∷ c ∷ bs) w = by (nat_eq b 10) refl (whole_back (c ∷ bs) w)
+  where
+    by : (t : Bool) → nat_eq b 10 ≡ t → unlines (lines (c ∷ bs)) ≡ c ∷ bs → unlines (if t then [] ∷ lines (c ∷ bs) else put b (lines (c ∷ bs))) ≡ b ∷ c ∷ bs
+    by true e r = ap (λ ls. 10 ∷ ls) r ∙ ap (λ n. n ∷ c ∷ bs) (sym (eqb-true b 10 e))
+    by false e r = unlines_put b (lines (c ∷ bs)) (some_line c bs) ∙ ap (λ ls. b ∷ ls) r
+
+whole_once : (xs ys : List ℕ) → whole_lines xs ≡ true → whole_lines ys ≡ true → lines xs ≡ lines ys → xs ≡ ys
+whole_once xs ys v w e = sym (whole_back xs v) ∙ ap unlines e ∙ whole_back ys w
+
+-- the two parts of an input are the only ones
+record SameParts (part part' : List ℕ) (table table' : List (List (List ℕ))) : Type 0 where
+  parts : part ≡ part'
+  tables : table ≡ table'
+
+cut_once : (bytes part part' : List ℕ) (table table' : List (List (List ℕ))) → IsCut bytes part table → IsCut bytes part' table' → SameParts part part' table table'
+cut_once bytes part part' table table' (Marked e s c p t) (Marked e' s' c' p' t') =
+    let h = halves (lines (take e bytes)) (lines (take e' bytes)) c.line c'.line (lines (drop s bytes)) (lines (drop s' bytes)) c.first c'.first c.mark c'.mark (sym c.cut ∙ c'.cut) in
+    record {
+      parts = p ∙ whole_once (take e bytes) (take e' bytes) c.whole c'.whole h.before ∙ sym p';
+      tables = t ∙ ap rows_of h.behind ∙ sym t';
+    }
+cut_once bytes part part' table table' (Marked e s c p t) (Unmarked n p' t') =
+    absurd (marked_has (lines (take e bytes)) c.line (lines (drop s bytes)) c.mark (ap no_mark (sym c.cut) ∙ n))
+cut_once bytes part part' table table' (Unmarked n p t) (Marked e' s' c' p' t') =
+    absurd (marked_has (lines (take e' bytes)) c'.line (lines (drop s' bytes)) c'.mark (ap no_mark (sym c'.cut) ∙ n))
+cut_once bytes part part' table table' (Unmarked n p t) (Unmarked n' p' t') = record { parts = p ∙ sym p'; tables = t ∙ sym t' }
+
+-- ---- where a job has a result it answers it
+
+built_ok : (part : List ℕ) (status : Status) (text : List ℕ) (p : ProgramTree) → FirstForm part p → IsBuilt part status text → status ≡ Ok
+built_ok part Ok text p f b = refl
+built_ok part Usage text p f b = absurd b
+built_ok part (BadLine line) text p f b = absurd (b.0.none p f)
+built_ok part (BadType line) text p f b = absurd b
+built_ok part (TooLarge line) text p f b = absurd b
+built_ok part (NoSchedule line) text p f b = absurd b
+built_ok part (BadWords row column) text p f b = absurd b
+built_ok part (BadModule fault) text p f b = absurd b
+built_ok part (LongRun size) text p f b = absurd b
+built_ok part ReadFault text p f b = absurd b
+built_ok part WriteFault text p f b = absurd b
+built_ok part TooLong text p f b = absurd b
+built_ok part Memory text p f b = absurd b
+
+run_of_ok : (fill : ℕ) (p : ProgramTree) (table : List (List (List ℕ))) (status : Status) (text : List ℕ) → bad_row 1 (input_widths p) table ≡ None → run_size p table ≤ run_limit
+    → IsRunOf fill p table status text → status ≡ Ok
+run_of_ok fill p table Ok text right short b = refl
+run_of_ok fill p table Usage text right short b = absurd b
+run_of_ok fill p table (BadLine line) text right short b = absurd b
+run_of_ok fill p table (BadType line) text right short b = absurd b
+run_of_ok fill p table (TooLarge line) text right short b = absurd b
+run_of_ok fill p table (NoSchedule line) text right short b = absurd b
+run_of_ok fill p table (BadWords row column) text right short b = let e = sym right ∙ b.0 in cc
+run_of_ok fill p table (BadModule fault) text right short b = absurd b
+run_of_ok fill p table (LongRun size) text right short b = let long : run_limit < size = b.1 in let is : size ≡ run_size p table = b.2 in absurd (omega (arith, long, is, short))
+run_of_ok fill p table ReadFault text right short b = absurd b
+run_of_ok fill p table WriteFault text right short b = absurd b
+run_of_ok fill p table TooLong text right short b = absurd b
+run_of_ok fill p table Memory text right short b = absurd b
+
+record RunFits (p : ProgramTree) (table : List (List (List ℕ))) : Type 0 where
+  right : bad_row 1 (input_widths p) table ≡ None
+  short : run_size p table ≤ run_limit
+
+run_ok : (fill : ℕ) (part : List ℕ) (table : List (List (List ℕ))) (status : Status) (text : List ℕ) (q : ProgramTree) → FirstForm part q → RunFits q table → IsRun fill part table status text → status ≡ Ok
+run_ok fill part table Ok text q f r b = let k : RunFits b.0 table = subst (λ (p : ProgramTree). RunFits p table) (b.1.only q f) r in run_of_ok fill b.0 table Ok text k.right k.short b.2
+run_ok fill part table Usage text q f r b = let k : RunFits b.0 table = subst (λ (p : ProgramTree). RunFits p table) (b.1.only q f) r in run_of_ok fill b.0 table Usage text k.right k.short b.2
+run_ok fill part table (BadLine line) text q f r b = absurd (b.0.none q f)
+run_ok fill part table (BadType line) text q f r b = let k : RunFits b.0 table = subst (λ (p : ProgramTree). RunFits p table) (b.1.only q f) r in run_of_ok fill b.0 table (BadType line) text k.right k.short b.2
+run_ok fill part table (TooLarge line) text q f r b = let k : RunFits b.0 table = subst (λ (p : ProgramTree). RunFits p table) (b.1.only q f) r in run_of_ok fill b.0 table (TooLarge line) text k.right k.short b.2
+run_ok fill part table (NoSchedule line) text q f r b = let k : RunFits b.0 table = subst (λ (p : ProgramTree). RunFits p table) (b.1.only q f) r in run_of_ok fill b.0 table (NoSchedule line) text k.right k.short b.2
+run_ok fill part table (BadWords row column) text q f r b = let k : RunFits b.0 table = subst (λ (p : ProgramTree). RunFits p table) (b.1.only q f) r in run_of_ok fill b.0 table (BadWords row column) text k.right k.short b.2
+run_ok fill part table (BadModule fault) text q f r b = let k : RunFits b.0 table = subst (λ (p : ProgramTree). RunFits p table) (b.1.only q f) r in run_of_ok fill b.0 table (BadModule fault) text k.right k.short b.2
+run_ok fill part table (LongRun size) text q f r b = let k : RunFits b.0 table = subst (λ (p : ProgramTree). RunFits p table) (b.1.only q f) r in run_of_ok fill b.0 table (LongRun size) text k.right k.short b.2
+run_ok fill part table ReadFault text q f r b = let k : RunFits b.0 table = subst (λ (p : ProgramTree). RunFits p table) (b.1.only q f) r in run_of_ok fill b.0 table ReadFault text k.right k.short b.2
+run_ok fill part table WriteFault text q f r b = let k : RunFits b.0 table = subst (λ (p : ProgramTree). RunFits p table) (b.1.only q f) r in run_of_ok fill b.0 table WriteFault text k.right k.short b.2
+run_ok fill part table TooLong text q f r b = let k : RunFits b.0 table = subst (λ (p : ProgramTree). RunFits p table) (b.1.only q f) r in run_of_ok fill b.0 table TooLong text k.right k.short b.2
+run_ok fill part table Memory text q f r b = let k : RunFits b.0 table = subst (λ (p : ProgramTree). RunFits p table) (b.1.only q f) r in run_of_ok fill b.0 table Memory text k.right k.short b.2
+
+reply_ok : (command : Command) (part : List ℕ) (table : List (List (List ℕ))) (status : Status) (text : List ℕ) → HasResult command part table → IsReply command part table status text → status ≡ Ok
+reply_ok Build part table status text h b = built_ok part status text h.0 h.1 b
+reply_ok (Run fill) part table status text h b = run_ok fill part table status text h.0 h.1 (record { right = h.2; short = h.3 }) b
+
+pub done_of_accepted : (command : Command) (left : Option (List ℕ)) (i : IsAccepted command left) (status : Status) (text : List ℕ) → IsDone command i.bytes status text → status ≡ Ok
+done_of_accepted command left i status text d =
+    let s = cut_once i.bytes i.part d.part i.table d.table i.cut d.cut in
+    let P : List ℕ → Type 0 = λ x. HasResult command x i.table in
+    let Q : List (List (List ℕ)) → Type 0 = λ x. HasResult command d.part x in
+    reply_ok command d.part d.table status text (subst Q s.tables (subst P s.parts i.result)) d.reply

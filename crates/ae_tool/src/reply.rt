@@ -1,0 +1,75 @@
+// What a job answers to an input.
+
+ghost use Rattle.std.specs.Prelude.{◌≡◌, ◌<◌, ◌≤◌, ◌^◌, IfOk, length, string_bytes};
+ghost use Rattle.ae_parse.specs.Rows.{rows};
+ghost use Rattle.ae_tool.specs.Inputs.{IsCut};
+ghost use Rattle.ae_tool.specs.Refusals.{refusal_line};
+ghost use Rattle.ae_tool.specs.Outcomes.{IsReply, IsDone};
+
+use crate::build::build;
+use crate::command::Command;
+use crate::refusal::refusal_line;
+use crate::run::run;
+use crate::status::Status;
+use ae_parse::split;
+use std::alloc::{AllocError, Global};
+
+/// What a job answers, and what it writes.
+#[derive(Drop)]
+pub struct Reply {
+    pub status: Status,
+    pub text: String,
+}
+
+/// There was no memory.
+#[derive(Debug, Drop)]
+pub struct OutOfMemory;
+
+impl From<AllocError> for OutOfMemory {
+    fn from(_: AllocError) -> OutOfMemory {
+        OutOfMemory
+    }
+}
+
+/// The reply to what is refused.
+pub fn refused(alloc: Global, status: Status) -> Result<Reply, OutOfMemory>
+    ensures { IfOk result (λ reply. (reply.status ≡ status) × (string_bytes reply.text ≡ refusal_line status)) }
+{
+    let text = refusal_line(alloc, status)?;
+    Ok(Reply { status, text })
+}
+
+// The two parts of an input: the program, and the text of the rows.
+fn cut(bytes: &[u8]) -> (&[u8], &[u8])
+    ensures parts { IsCut bytes.now result.0.now (rows result.1.now) }
+    ensures shorter { length result.1.now ≤ length bytes.now }
+{
+    match split(bytes) {
+        (end, Some(start)) => (&bytes[..end], &bytes[start..]),
+        (end, None) => (&bytes[..end], &bytes[end..]),
+    }
+}
+
+fn answer_parts(
+    alloc: Global,
+    command: Command,
+    part: &[u8],
+    rest: &[u8],
+) -> Result<Reply, OutOfMemory>
+    requires { length rest.now < 2 ^ 32 }
+    ensures { IfOk result (λ reply. IsReply command part.now (rows rest.now) reply.status (string_bytes reply.text)) }
+{
+    match command {
+        Command::Build => build(alloc, part),
+        Command::Run { fill } => run(alloc, part, rest, fill),
+    }
+}
+
+/// What the job answers to an input within the limit; without memory there is no reply.
+pub fn answer(alloc: Global, command: Command, bytes: &[u8]) -> Result<Reply, OutOfMemory>
+    requires { length bytes.now < 2 ^ 32 }
+    ensures { IfOk result (λ reply. IsDone command bytes.now reply.status (string_bytes reply.text)) }
+{
+    let (part, rest) = cut(bytes);
+    answer_parts(alloc, command, part, rest)
+}
