@@ -50,7 +50,7 @@ pub fn lay(alloc: Global, t: &SeqType, clocks: u32) -> Result<StType, LayFault>
     Ok(layout)
 }
 
-fn lay_part(alloc: Global, t: &SeqType, clocks: u32) -> Result<StType, LayFault>
+pub(crate) fn lay_part(alloc: Global, t: &SeqType, clocks: u32) -> Result<StType, LayFault>
     requires parts { IsTrue (parts_in_size (seq_tree t.now)) }
     requires some { 0 < clocks }
     ensures layout { IfOk result (λ s. lay_of (seq_tree t.now) clocks ≡ Some (st_tree s)) }
@@ -103,14 +103,14 @@ fn arrange(alloc: Global, case: Case, n: u32, clocks: u32, of: StType) -> Result
     }
 }
 
-fn in_time(alloc: Global, n: u32, i: u32, of: StType) -> Result<StType, AllocError>
+pub(crate) fn in_time(alloc: Global, n: u32, i: u32, of: StType) -> Result<StType, AllocError>
     ensures { IfOk result (λ s. st_tree s ≡ tseq n i (st_tree of)) }
 {
     let of = Box::new(alloc, of)?;
     Ok(StType::T { n, i, of })
 }
 
-fn side_by_side(alloc: Global, n: u32, of: StType) -> Result<StType, AllocError>
+pub(crate) fn side_by_side(alloc: Global, n: u32, of: StType) -> Result<StType, AllocError>
     ensures { IfOk result (λ s. st_tree s ≡ sseq n (st_tree of)) }
 {
     let of = Box::new(alloc, of)?;

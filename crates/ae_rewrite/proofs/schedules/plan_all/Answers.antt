@@ -1,0 +1,39 @@
+use Rattle.std.proofs.Common.{◌≤◌, arith, rules}
+use Rattle.std.proofs.lemmas.List.{length-map}
+use Rattle.ae_seq.specs.ProgramTree.{program_tree}
+use Rattle.ae_rewrite.specs.Planned.{row_lists, number_lists}
+use Rattle.ae_rewrite.specs.StProgramTree.{st_func_trees}
+use Rattle.ae_rewrite.proofs.Forms.{few-funcs}
+use Rattle.ae_rewrite.proofs.Whole.{all-more, number-list, within-of, known-of}
+use Rattle.ae_rewrite.proofs.schedules.plan_all.Goals as goal
+
+pub overflow_cast-f : goal.overflow_cast-f
+overflow_cast-f c =
+    let few = few-funcs (program_tree c.args.p.now) c.requires.formed in
+    let count = rw length-map at c.requires.reaches.count in
+    let h : c.loop-f.f ≤ 4096 = omega (arith, few, count, c.loop-f-test.true) in
+    search rules
+
+pub plan_budgets-requires-clause-within : goal.plan_budgets-requires-clause-within
+plan_budgets-requires-clause-within c =
+    let at = number-list c.args.needs.now c.loop-f.f c.index-needs-f.result c.loop-f-test.true c.index-needs-f.is in
+    rw c.deref-in-loop-f.ensures.value (within-of (program_tree c.args.p.now) c.args.slowdown c.loop-f.f (number_lists c.args.needs.now) _ c.requires.time c.requires.limit c.requires.reaches at)
+
+pub plan_budgets-requires-clause-known : goal.plan_budgets-requires-clause-known
+plan_budgets-requires-clause-known c =
+    let at = number-list c.args.needs.now c.loop-f.f c.index-needs-f.result c.loop-f-test.true c.index-needs-f.is in
+    rw (c.deref-in-loop-f.ensures.value, c.deref.ensures.value)
+    (λ i u is. known-of (program_tree c.args.p.now) c.args.slowdown c.loop-f.f u (number_lists c.args.needs.now) (row_lists c.loop-f.rows.items) c.requires.formed c.requires.reaches c.loop-f.invariant.are
+    (record { own = c.index-needs-f.result.items; here = at; at = i; is = is }))
+
+pub plan_budgets-requires-clause-once : goal.plan_budgets-requires-clause-once
+plan_budgets-requires-clause-once c =
+    let at = number-list c.args.needs.now c.loop-f.f c.index-needs-f.result c.loop-f-test.true c.index-needs-f.is in
+    rw c.deref-in-loop-f.ensures.value (c.requires.reaches.once c.loop-f.f _ at)
+
+pub loop-f-preserved : goal.loop-f-preserved
+loop-f-preserved c =
+    let at = number-list c.args.needs.now c.loop-f.f c.index-needs-f.result c.loop-f-test.true c.index-needs-f.is in
+    rw c.in_ok-append_rows.ensures
+    (all-more (program_tree c.args.p.now) (number_lists c.args.needs.now) (row_lists c.loop-f.rows.items) c.in_ok-own.own.items (st_func_trees c.loop-f.instances.items) _ c.loop-f.f _ c.loop-f.invariant at
+    (rw c.deref.ensures.value at c.in_ok-own.ensures.plans) (rw c.deref-in-loop-f.ensures.value at c.in_ok-own.ensures.budgets))

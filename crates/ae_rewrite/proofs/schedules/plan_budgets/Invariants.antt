@@ -1,0 +1,8 @@
+use Rattle.ae_seq.specs.ProgramTree.{program_tree}
+use Rattle.ae_rewrite.specs.Planned.{row_lists}
+use Rattle.ae_rewrite.specs.StProgramTree.{st_func_trees}
+use Rattle.ae_rewrite.proofs.Planning.{Own}
+use Rattle.ae_rewrite.proofs.schedules.plan_budgets.Given as goal
+
+abbrev pub invariant-loop-j : goal.invariant-loop-j
+invariant-loop-j l = Own (program_tree l.p) (row_lists l.rows) l.own.items (st_func_trees l.instances.items) l.budgets l.j

@@ -1,0 +1,24 @@
+use Rattle.std.proofs.Common.{◌∙◌}
+use Rattle.ae_seq.specs.ProgramTree.{program_tree}
+use Rattle.ae_rewrite.specs.Planned.{row_lists, number_lists}
+use Rattle.ae_rewrite.specs.StProgramTree.{st_func_tree}
+use Rattle.ae_rewrite.proofs.Whole.{main-known, schedule-of}
+use Rattle.ae_rewrite.proofs.Planning.{filled-more}
+use Rattle.ae_rewrite.proofs.schedules.schedule.Goals as goal
+
+pub plan_func-requires-clause-known : goal.plan_func-requires-clause-known
+plan_func-requires-clause-known c =
+    rw (c.deref-2.ensures.value, c.main_of.ensures.main)
+    (main-known (program_tree c.args.p.now) c.args.slowdown (number_lists c.in_ok-needs.needs.items) (row_lists c.in_ok-rows.rows.items) c.in_ok-needs.ensures
+    (rw c.deref.ensures.value at c.in_ok-rows.ensures.budgets))
+
+pub returns-clause-schedule : goal.returns-clause-schedule
+returns-clause-schedule c =
+    rw c.new.ensures
+    (schedule-of (program_tree c.args.p.now) c.args.slowdown (number_lists c.in_ok-needs.needs.items) (row_lists c.in_ok-rows.rows.items) _ _ (st_func_tree c.in_ok-whole.whole) c.in_ok-needs.ensures
+    (rw c.deref.ensures.value at c.in_ok-rows.ensures.budgets) c.in_ok-rows.ensures.plans
+    (rw c.deref-2.ensures.value at c.in_ok-whole.ensures.instance) (c.in_ok-whole.ensures.key.0 ∙ c.main_of.ensures.main) c.in_ok-whole.ensures.key.1 c.in_ok-append.ensures.items)
+
+pub returns-clause-layouts : goal.returns-clause-layouts
+returns-clause-layouts c =
+    rw (c.new.ensures, c.in_ok-append.ensures.items) (filled-more _ (st_func_tree c.in_ok-whole.whole) c.in_ok-rows.ensures.plans.filled c.in_ok-whole.ensures.filled)
