@@ -1,0 +1,582 @@
+-- Operators on words: their kinds, and that their results fit.
+use Rattle.std.proofs.Common.{ℤ, pos, negsuc, ◌-ℤ◌, int_lt, ◌≡◌, ℕ, zero, suc, ◌+◌, ◌*◌, ◌/◌, ◌%◌, ◌^◌, ◌<◌, ◌≤◌, ◌==◌, nat_lt, bit_and, Bool, true, false, ◌&&◌, if◌then◌else◌, List, [], ◌∷◌, ◌++◌, take, drop, get_or, length, Option, Some, None, IsSome, IsTrue, slice_get, refl, arith, sym, ap, ◌∙◌, subst, lit<}
+use Rattle.std.specs.Int.{int_min, int_max, int_div_euclid}
+use Rattle.std.specs.Option.{option_map}
+use Rattle.std.proofs.Math.Nat.{div-le_self}
+use Rattle.std.proofs.lemmas.Nat.{pow_pos, and_le_l, or_lt, xor_lt}
+use Rattle.std.proofs.lemmas.List.{drop_more}
+use Rattle.std.proofs.lemmas.Bool.Decides.{nat_tests}
+use Rattle.std.proofs.lemmas.Bool.{false≢true}
+use Rattle.ae_word.specs.declared.op.WordOp.{WordOp}
+use Rattle.ae_word.specs.declared.op.WordOp.TheVariants.{Add, Sub, Mul, And, Or, Xor, Not, Min, Max, Eq, Lt, Mux, Shl, Shr, Cast, SLt, SMin, SMax, Sar, SCast}
+use Rattle.ae_word.specs.AtomTree.{AtomTree, WordKind, word, pair, atom_kinds, atom_in_size, widths_in_range, same_kind, same_sign, unsigned_word, signed_word}
+use Rattle.ae_word.specs.WordTable.{bit, code, signed_value, word_result, result_width_of, OperandsFit, HasRange, op_for, folds}
+use Rattle.ae_seqtype.specs.SeqTree.{SeqTree, atom, seq, same_type, in_size}
+use Rattle.ae_seqtype.specs.ValueTree.{ValueTree, number, value_of, FitKinds, Fit, Stands}
+use Rattle.ae_seq.specs.Typing.{word_type, one_word, two_words, as_word, kind_of}
+use Rattle.ae_seq.specs.Meaning.{coded, word_value, cast_value, operand_kind, result_kind, kind_in}
+use Rattle.ae_eval.specs.Stack.{FitAt, Pushed, window, combined}
+use Rattle.ae_eval.proofs.Windows.{pushed-on}
+use Rattle.ae_eval.proofs.Moving.{where_ok-some}
+
+bit_fits : (v : Bool) → bit v < 2 ^ 1
+bit_fits true = lit< tt
+bit_fits false = lit< tt
+
+one_of_two : (v : Bool) (b c n : ℕ) → b < n → c < n → (if v then b else c) < n
+one_of_two true b c n p q = p
+one_of_two false b c n p q = q
+
+code_fits : (w : ℕ) (z : ℤ) → code w z < 2 ^ w
+code_fits w (pos a) = let p = pow_pos w in omega arith
+code_fits w (negsuc a) = let p = pow_pos w in omega arith
+
+-- an operator's result fits its width, where its operands fit
+pub word_fits : (op : WordOp) (w a b c : ℕ) → OperandsFit op w a b c → word_result op w a b c < 2 ^ result_width_of op w
+word_fits Add w a b c h = let p = pow_pos w in omega arith
+word_fits Sub w a b c h = code_fits w (pos a -ℤ pos b)
+word_fits Mul w a b c h = let p = pow_pos w in let x : ℕ = a * b in let q : x % 2 ^ w < 2 ^ w = omega arith in q
+word_fits And w a b c h = let p : bit_and a b ≤ a = and_le_l a b in let q : a < 2 ^ w = h.0 in omega arith
+word_fits Or w a b c h = or_lt w a b h.0 h.1
+word_fits Xor w a b c h = xor_lt w a b h.0 h.1
+word_fits Not w a b c h = let p = pow_pos w in omega arith
+word_fits Min w a b c h = let q : a < 2 ^ w = h.0 in omega arith
+word_fits Max w a b c h = let q : a < 2 ^ w = h.0 in let r : b < 2 ^ w = h.1 in omega arith
+word_fits Eq w a b c h = bit_fits (a == b)
+word_fits Lt w a b c h = bit_fits (nat_lt a b)
+word_fits Mux w a b c h = one_of_two (a == 1) b c (2 ^ w) h.1 h.2
+word_fits (Shl k) w a b c h = let p = pow_pos w in let x : ℕ = a * 2 ^ k in let q : x % 2 ^ w < 2 ^ w = omega arith in q
+word_fits (Shr k) w a b c h = let x : ℕ = a / 2 ^ k in let p : x ≤ a = div-le_self a (2 ^ k) in let q : a < 2 ^ w = h in let r : x < 2 ^ w = omega arith in r
+word_fits (Cast v) w a b c h = let p = pow_pos v in omega arith
+word_fits SLt w a b c h = bit_fits (int_lt (signed_value w a) (signed_value w b))
+word_fits SMin w a b c h = code_fits w (int_min (signed_value w a) (signed_value w b))
+word_fits SMax w a b c h = code_fits w (int_max (signed_value w a) (signed_value w b))
+word_fits (Sar k) w a b c h = code_fits w (int_div_euclid (signed_value w a) (pos (2 ^ k)))
+word_fits (SCast v) w a b c h = code_fits v (signed_value w a)
+
+fit-Add : (s : Bool) (w a b c : ℕ) → a < 2 ^ w → b < 2 ^ w → OperandsFit (op_for s Add) w a b c
+fit-Add true w a b c h g = (h, g)
+fit-Add false w a b c h g = (h, g)
+
+wide-Add : (s : Bool) (w : ℕ) → result_width_of (op_for s Add) w ≡ w
+wide-Add true w = refl
+wide-Add false w = refl
+
+fit-Sub : (s : Bool) (w a b c : ℕ) → a < 2 ^ w → b < 2 ^ w → OperandsFit (op_for s Sub) w a b c
+fit-Sub true w a b c h g = (h, g)
+fit-Sub false w a b c h g = (h, g)
+
+wide-Sub : (s : Bool) (w : ℕ) → result_width_of (op_for s Sub) w ≡ w
+wide-Sub true w = refl
+wide-Sub false w = refl
+
+fit-Mul : (s : Bool) (w a b c : ℕ) → a < 2 ^ w → b < 2 ^ w → OperandsFit (op_for s Mul) w a b c
+fit-Mul true w a b c h g = (h, g)
+fit-Mul false w a b c h g = (h, g)
+
+wide-Mul : (s : Bool) (w : ℕ) → result_width_of (op_for s Mul) w ≡ w
+wide-Mul true w = refl
+wide-Mul false w = refl
+
+fit-And : (s : Bool) (w a b c : ℕ) → a < 2 ^ w → b < 2 ^ w → OperandsFit (op_for s And) w a b c
+fit-And true w a b c h g = (h, g)
+fit-And false w a b c h g = (h, g)
+
+wide-And : (s : Bool) (w : ℕ) → result_width_of (op_for s And) w ≡ w
+wide-And true w = refl
+wide-And false w = refl
+
+fit-Or : (s : Bool) (w a b c : ℕ) → a < 2 ^ w → b < 2 ^ w → OperandsFit (op_for s Or) w a b c
+fit-Or true w a b c h g = (h, g)
+fit-Or false w a b c h g = (h, g)
+
+wide-Or : (s : Bool) (w : ℕ) → result_width_of (op_for s Or) w ≡ w
+wide-Or true w = refl
+wide-Or false w = refl
+
+fit-Xor : (s : Bool) (w a b c : ℕ) → a < 2 ^ w → b < 2 ^ w → OperandsFit (op_for s Xor) w a b c
+fit-Xor true w a b c h g = (h, g)
+fit-Xor false w a b c h g = (h, g)
+
+wide-Xor : (s : Bool) (w : ℕ) → result_width_of (op_for s Xor) w ≡ w
+wide-Xor true w = refl
+wide-Xor false w = refl
+
+fit-Min : (s : Bool) (w a b c : ℕ) → a < 2 ^ w → b < 2 ^ w → OperandsFit (op_for s Min) w a b c
+fit-Min true w a b c h g = (h, g)
+fit-Min false w a b c h g = (h, g)
+
+wide-Min : (s : Bool) (w : ℕ) → result_width_of (op_for s Min) w ≡ w
+wide-Min true w = refl
+wide-Min false w = refl
+
+fit-Max : (s : Bool) (w a b c : ℕ) → a < 2 ^ w → b < 2 ^ w → OperandsFit (op_for s Max) w a b c
+fit-Max true w a b c h g = (h, g)
+fit-Max false w a b c h g = (h, g)
+
+wide-Max : (s : Bool) (w : ℕ) → result_width_of (op_for s Max) w ≡ w
+wide-Max true w = refl
+wide-Max false w = refl
+
+fit-Eq : (s : Bool) (w a b c : ℕ) → a < 2 ^ w → b < 2 ^ w → OperandsFit (op_for s Eq) w a b c
+fit-Eq true w a b c h g = (h, g)
+fit-Eq false w a b c h g = (h, g)
+
+wide-Eq : (s : Bool) (w : ℕ) → result_width_of (op_for s Eq) w ≡ 1
+wide-Eq true w = refl
+wide-Eq false w = refl
+
+fit-Lt : (s : Bool) (w a b c : ℕ) → a < 2 ^ w → b < 2 ^ w → OperandsFit (op_for s Lt) w a b c
+fit-Lt true w a b c h g = (h, g)
+fit-Lt false w a b c h g = (h, g)
+
+wide-Lt : (s : Bool) (w : ℕ) → result_width_of (op_for s Lt) w ≡ 1
+wide-Lt true w = refl
+wide-Lt false w = refl
+
+fit-Not : (s : Bool) (w a b c : ℕ) → a < 2 ^ w → OperandsFit (op_for s Not) w a b c
+fit-Not true w a b c h = h
+fit-Not false w a b c h = h
+
+wide-Not : (s : Bool) (w : ℕ) → result_width_of (op_for s Not) w ≡ w
+wide-Not true w = refl
+wide-Not false w = refl
+
+fit-Shl : (n : ℕ) (s : Bool) (w a b c : ℕ) → a < 2 ^ w → OperandsFit (op_for s (Shl n)) w a b c
+fit-Shl n true w a b c h = h
+fit-Shl n false w a b c h = h
+
+wide-Shl : (n : ℕ) (s : Bool) (w : ℕ) → result_width_of (op_for s (Shl n)) w ≡ w
+wide-Shl n true w = refl
+wide-Shl n false w = refl
+
+fit-Shr : (n : ℕ) (s : Bool) (w a b c : ℕ) → a < 2 ^ w → OperandsFit (op_for s (Shr n)) w a b c
+fit-Shr n true w a b c h = h
+fit-Shr n false w a b c h = h
+
+wide-Shr : (n : ℕ) (s : Bool) (w : ℕ) → result_width_of (op_for s (Shr n)) w ≡ w
+wide-Shr n true w = refl
+wide-Shr n false w = refl
+
+fit-Cast : (n : ℕ) (s : Bool) (w a b c : ℕ) → a < 2 ^ w → OperandsFit (op_for s (Cast n)) w a b c
+fit-Cast n true w a b c h = h
+fit-Cast n false w a b c h = h
+
+wide-Cast : (n : ℕ) (s : Bool) (w : ℕ) → result_width_of (op_for s (Cast n)) w ≡ n
+wide-Cast n true w = refl
+wide-Cast n false w = refl
+
+fit-Mux : (s : Bool) (w a b c : ℕ) → a < 2 → b < 2 ^ w → c < 2 ^ w → OperandsFit (op_for s Mux) w a b c
+fit-Mux true w a b c h g k = (h, g, k)
+fit-Mux false w a b c h g k = (h, g, k)
+
+wide-Mux : (s : Bool) (w : ℕ) → result_width_of (op_for s Mux) w ≡ w
+wide-Mux true w = refl
+wide-Mux false w = refl
+
+and-both : (a b : Bool) → (a && b) ≡ true → (a ≡ true) × (b ≡ true)
+and-both true b h = (refl, h)
+and-both false b h = cc
+
+same-sign : (a b : Bool) → same_sign a b ≡ true → a ≡ b
+same-sign true true h = refl
+same-sign true false h = cc
+same-sign false true h = cc
+same-sign false false h = refl
+
+pub same-kind : (k l : WordKind) → same_kind k l ≡ true → k ≡ l
+same-kind k l h =
+    let r = and-both (same_sign k.signed l.signed) (k.width == l.width) h in
+    let s = same-sign k.signed l.signed r.0 in
+    let w : k.width ≡ l.width = grind (arith, nat_tests, r.1) in
+    let a : k ≡ record { signed = l.signed; width = k.width } = ap (λ (b : Bool). let x : WordKind = record { signed = b; width = k.width } in x) s in
+    a ∙ ap (λ (v : ℕ). let x : WordKind = record { signed = l.signed; width = v } in x) w
+
+there : {A : Type 0} (o : Option A) → IsSome o → (u : A) × (o ≡ Some u)
+there None h = cc
+there (Some u) h = (u, refl)
+
+abbrev AllRange : List WordKind → Type 0
+AllRange [] = Unit {0}
+AllRange (k ∷ ks) = ((1 ≤ k.width) × (k.width ≤ 64)) × AllRange ks
+
+AllRange-append : (ks ls : List WordKind) → AllRange ks → AllRange ls → AllRange (ks ++ ls)
+AllRange-append [] ls h g = g
+AllRange-append (k ∷ ks) ls h g = (h.0, AllRange-append ks ls h.1 g)
+
+ranges : (a : AtomTree) → IsTrue (widths_in_range a) → AllRange (atom_kinds a)
+ranges (word k) h =
+    let low : 1 ≤ k.width = grind (arith, nat_tests) in
+    let high : k.width ≤ 64 = grind (arith, nat_tests) in
+    ((low, high), tt)
+ranges (pair a b) h =
+    let r = and-both (widths_in_range a) (widths_in_range b) h in
+    AllRange-append (atom_kinds a) (atom_kinds b) (ranges a r.0) (ranges b r.1)
+
+kinds-at : (ks : List WordKind) (i : ℕ) (k : WordKind) → AllRange ks → slice_get ks i ≡ Some k → (1 ≤ k.width) × (k.width ≤ 64)
+kinds-at [] i k h e = cc
+kinds-at (l ∷ ks) zero k h e = let same : l ≡ k = cc in rw (← same) h.0
+kinds-at (l ∷ ks) (suc i) k h e = kinds-at ks i k h.1 e
+
+mapped : (o : Option WordKind) (w : ℕ) → option_map (λ (q : WordKind). q.width) o ≡ Some w → (k : WordKind) × (o ≡ Some k) × (w ≡ k.width)
+mapped None w h = cc
+mapped (Some k) w h = (k, refl, cc)
+
+one-of : (s u : SeqTree) → one_word (s ∷ []) ≡ Some u → (k : WordKind) × (s ≡ atom (word k)) × (u ≡ s)
+one-of (atom (word k)) u h = (k, refl, cc)
+one-of (atom (pair a b)) u h = cc
+one-of (seq n t) u h = cc
+
+two-of : (s z u : SeqTree) → two_words (s ∷ z ∷ []) ≡ Some u → (k : WordKind) × (s ≡ atom (word k)) × (z ≡ atom (word k)) × (u ≡ z)
+two-of (atom (word k)) (atom (word l)) u h =
+    let ok = where_ok-some (same_kind k l) (Some (atom (word l))) u h in
+    let e = same-kind k l ok.0 in
+    let same : u ≡ atom (word l) = (let q = ok.1 in cc) in
+    (k, refl, ap (λ x. atom (word x)) (sym e), same)
+two-of (atom (word k)) (atom (pair a b)) u h = cc
+two-of (atom (word k)) (seq n t) u h = cc
+two-of (atom (pair a b)) z u h = cc
+two-of (seq n t) z u h = cc
+
+as-of : (a : AtomTree) (o : Option SeqTree) (u : SeqTree) → as_word a o ≡ Some u → (t : SeqTree) × (o ≡ Some t) × (u ≡ atom a)
+as-of a None u h = cc
+as-of a (Some t) u h = (t, refl, cc)
+
+bit-of : (c : SeqTree) → same_type c (atom (unsigned_word 1)) ≡ true → c ≡ atom (unsigned_word 1)
+bit-of (atom (word k)) h = ap (λ x. atom (word x)) (same-kind k _ h)
+bit-of (atom (pair a b)) h = cc
+bit-of (seq n t) h = cc
+
+-- what an operator needs of its operands' kind, and the kind of its result
+pub record OneWord (op : WordOp) (s u : SeqTree) : Type 0 where
+  pub kind : WordKind
+  pub first : s ≡ atom (word kind)
+  pub result : u ≡ atom (word (result_kind op kind))
+  pub fit : (a b c : ℕ) → a < 2 ^ kind.width → OperandsFit (op_for kind.signed op) kind.width a b c
+  pub wide : result_width_of (op_for kind.signed op) kind.width ≡ (result_kind op kind).width
+  pub by : (v : ValueTree) → operand_kind op (v ∷ []) ≡ kind_in v
+
+pub record TwoWords (op : WordOp) (s z u : SeqTree) : Type 0 where
+  pub kind : WordKind
+  pub first : s ≡ atom (word kind)
+  pub second : z ≡ atom (word kind)
+  pub result : u ≡ atom (word (result_kind op kind))
+  pub fit : (a b c : ℕ) → a < 2 ^ kind.width → b < 2 ^ kind.width → OperandsFit (op_for kind.signed op) kind.width a b c
+  pub wide : result_width_of (op_for kind.signed op) kind.width ≡ (result_kind op kind).width
+  pub by : (v w : ValueTree) → operand_kind op (v ∷ w ∷ []) ≡ kind_in v
+
+pub record Choice (op : WordOp) (t s z u : SeqTree) : Type 0 where
+  pub is : op ≡ Mux
+  pub kind : WordKind
+  pub test : t ≡ atom (unsigned_word 1)
+  pub first : s ≡ atom (word kind)
+  pub second : z ≡ atom (word kind)
+  pub result : u ≡ atom (word kind)
+
+none-some : (u : SeqTree) → None ≡ Some u → ⊥
+none-some u h = cc
+
+pub one-line : (op : WordOp) (s u : SeqTree) → word_type op (s ∷ []) ≡ Some u → OneWord op s u
+one-line Add s u h = cc
+one-line Sub s u h = cc
+one-line Mul s u h = cc
+one-line And s u h = cc
+one-line Or s u h = cc
+one-line Xor s u h = cc
+one-line Not s u h =
+    let r = one-of s u h in
+    record { kind = r.0; first = r.1; result = r.2 ∙ r.1; fit = λ a b c p. fit-Not r.0.signed r.0.width a b c p; wide = wide-Not r.0.signed r.0.width; by = λ v. refl }
+one-line Min s u h = cc
+one-line Max s u h = cc
+one-line Eq s u h = cc
+one-line Lt s u h = cc
+one-line Mux s u h = let ok = where_ok-some (same_type s (atom (unsigned_word 1))) (two_words []) u h in let q = ok.1 in absurd (none-some u q)
+one-line (Shl n) s u h =
+    let r = one-of s u h in
+    record { kind = r.0; first = r.1; result = r.2 ∙ r.1; fit = λ a b c p. fit-Shl n r.0.signed r.0.width a b c p; wide = wide-Shl n r.0.signed r.0.width; by = λ v. refl }
+one-line (Shr n) s u h =
+    let r = one-of s u h in
+    record { kind = r.0; first = r.1; result = r.2 ∙ r.1; fit = λ a b c p. fit-Shr n r.0.signed r.0.width a b c p; wide = wide-Shr n r.0.signed r.0.width; by = λ v. refl }
+one-line (Cast n) s u h =
+    let o = as-of (unsigned_word n) (one_word (s ∷ [])) u h in
+    let r = one-of s o.0 o.1 in
+    record { kind = r.0; first = r.1; result = o.2; fit = λ a b c p. fit-Cast n r.0.signed r.0.width a b c p; wide = wide-Cast n r.0.signed r.0.width; by = λ v. refl }
+one-line SLt s u h = cc
+one-line SMin s u h = cc
+one-line SMax s u h = cc
+one-line (Sar n) s u h = cc
+one-line (SCast n) s u h = cc
+
+pub two-line : (op : WordOp) (s z u : SeqTree) → word_type op (s ∷ z ∷ []) ≡ Some u → TwoWords op s z u
+two-line Add s z u h =
+    let r = two-of s z u h in
+    record { kind = r.0; first = r.1; second = r.2; result = r.3 ∙ r.2; fit = λ a b c p q. fit-Add r.0.signed r.0.width a b c p q; wide = wide-Add r.0.signed r.0.width; by = λ v w. refl }
+two-line Sub s z u h =
+    let r = two-of s z u h in
+    record { kind = r.0; first = r.1; second = r.2; result = r.3 ∙ r.2; fit = λ a b c p q. fit-Sub r.0.signed r.0.width a b c p q; wide = wide-Sub r.0.signed r.0.width; by = λ v w. refl }
+two-line Mul s z u h =
+    let r = two-of s z u h in
+    record { kind = r.0; first = r.1; second = r.2; result = r.3 ∙ r.2; fit = λ a b c p q. fit-Mul r.0.signed r.0.width a b c p q; wide = wide-Mul r.0.signed r.0.width; by = λ v w. refl }
+two-line And s z u h =
+    let r = two-of s z u h in
+    record { kind = r.0; first = r.1; second = r.2; result = r.3 ∙ r.2; fit = λ a b c p q. fit-And r.0.signed r.0.width a b c p q; wide = wide-And r.0.signed r.0.width; by = λ v w. refl }
+two-line Or s z u h =
+    let r = two-of s z u h in
+    record { kind = r.0; first = r.1; second = r.2; result = r.3 ∙ r.2; fit = λ a b c p q. fit-Or r.0.signed r.0.width a b c p q; wide = wide-Or r.0.signed r.0.width; by = λ v w. refl }
+two-line Xor s z u h =
+    let r = two-of s z u h in
+    record { kind = r.0; first = r.1; second = r.2; result = r.3 ∙ r.2; fit = λ a b c p q. fit-Xor r.0.signed r.0.width a b c p q; wide = wide-Xor r.0.signed r.0.width; by = λ v w. refl }
+two-line Not s z u h = cc
+two-line Min s z u h =
+    let r = two-of s z u h in
+    record { kind = r.0; first = r.1; second = r.2; result = r.3 ∙ r.2; fit = λ a b c p q. fit-Min r.0.signed r.0.width a b c p q; wide = wide-Min r.0.signed r.0.width; by = λ v w. refl }
+two-line Max s z u h =
+    let r = two-of s z u h in
+    record { kind = r.0; first = r.1; second = r.2; result = r.3 ∙ r.2; fit = λ a b c p q. fit-Max r.0.signed r.0.width a b c p q; wide = wide-Max r.0.signed r.0.width; by = λ v w. refl }
+two-line Eq s z u h =
+    let o = as-of (unsigned_word 1) (two_words (s ∷ z ∷ [])) u h in
+    let r = two-of s z o.0 o.1 in
+    record { kind = r.0; first = r.1; second = r.2; result = o.2; fit = λ a b c p q. fit-Eq r.0.signed r.0.width a b c p q; wide = wide-Eq r.0.signed r.0.width; by = λ v w. refl }
+two-line Lt s z u h =
+    let o = as-of (unsigned_word 1) (two_words (s ∷ z ∷ [])) u h in
+    let r = two-of s z o.0 o.1 in
+    record { kind = r.0; first = r.1; second = r.2; result = o.2; fit = λ a b c p q. fit-Lt r.0.signed r.0.width a b c p q; wide = wide-Lt r.0.signed r.0.width; by = λ v w. refl }
+two-line Mux s z u h = let ok = where_ok-some (same_type s (atom (unsigned_word 1))) (two_words (z ∷ [])) u h in let q = ok.1 in cc
+two-line (Shl n) s z u h = cc
+two-line (Shr n) s z u h = cc
+two-line (Cast n) s z u h = cc
+two-line SLt s z u h = cc
+two-line SMin s z u h = cc
+two-line SMax s z u h = cc
+two-line (Sar n) s z u h = cc
+two-line (SCast n) s z u h = cc
+
+pub choice-line : (op : WordOp) (t s z u : SeqTree) → word_type op (t ∷ s ∷ z ∷ []) ≡ Some u → Choice op t s z u
+choice-line Add t s z u h = cc
+choice-line Sub t s z u h = cc
+choice-line Mul t s z u h = cc
+choice-line And t s z u h = cc
+choice-line Or t s z u h = cc
+choice-line Xor t s z u h = cc
+choice-line Not t s z u h = cc
+choice-line Min t s z u h = cc
+choice-line Max t s z u h = cc
+choice-line Eq t s z u h = cc
+choice-line Lt t s z u h = cc
+choice-line Mux t s z u h =
+    let ok = where_ok-some (same_type t (atom (unsigned_word 1))) (two_words (s ∷ z ∷ [])) u h in
+    let r = two-of s z u ok.1 in
+    record { is = refl; kind = r.0; test = bit-of t ok.0; first = r.1; second = r.2; result = r.3 ∙ r.2 }
+choice-line (Shl n) t s z u h = cc
+choice-line (Shr n) t s z u h = cc
+choice-line (Cast n) t s z u h = cc
+choice-line SLt t s z u h = cc
+choice-line SMin t s z u h = cc
+choice-line SMax t s z u h = cc
+choice-line (Sar n) t s z u h = cc
+choice-line (SCast n) t s z u h = cc
+
+-- a word that stands at a place
+pub word-window : (s : SeqTree) (k : WordKind) (start : ℕ) (old : List ℕ) (x : ℕ) → s ≡ atom (word k) → FitAt s start old → x ≡ get_or old start x → (window s start old ≡ x ∷ []) × (x < 2 ^ k.width)
+word-window s k start old x es h e =
+    let room : start + 1 ≤ length old = rw es at h.room in
+    let one : take 1 (drop start old) ≡ x ∷ [] = ap (take 1) (drop_more old start x (omega arith)) ∙ ap (λ y. y ∷ []) (sym e) in
+    let own : window s start old ≡ x ∷ [] = ap (λ z. window z start old) es ∙ one in
+    let P : SeqTree → Type 0 = λ z. Fit z (window z start old) in
+    let Q : List ℕ → Type 0 = λ ys. FitKinds ys (k ∷ []) in
+    (own, (subst Q one (subst P es h.fits)).0)
+
+pub word-room : (s : SeqTree) (k : WordKind) (start : ℕ) (old : List ℕ) → s ≡ atom (word k) → FitAt s start old → start < length old
+word-room s k start old es h = let room : start + 1 ≤ length old = rw es at h.room in omega arith
+
+stands-word : (u : SeqTree) (k : WordKind) (r : ℕ) → u ≡ atom (word k) → r < 2 ^ k.width → Stands u (r ∷ []) (number k r)
+stands-word u k r e h = rw e (record { fits = (h, tt); value = refl })
+
+kind-is : (s : SeqTree) (k : WordKind) → s ≡ atom (word k) → kind_of s ≡ Some k
+kind-is s k e = rw e refl
+
+value-is : (s : SeqTree) (k : WordKind) (ws : List ℕ) (x : ℕ) → s ≡ atom (word k) → ws ≡ x ∷ [] → value_of s ws ≡ number k x
+value-is s k ws x e w = rw (e, w) refl
+
+pub one-pushed : (op : WordOp) (s : SeqTree) (start : ℕ) (old new : List ℕ) (x r : ℕ) → FitAt s start old → x ≡ get_or old start x → ((k : WordKind) → kind_of s ≡ Some k → r ≡ coded op k x 0 0) → new ≡ old ++ r ∷ []
+    → Pushed (word_type op (s ∷ [])) old new (word_value op (value_of s (window s start old) ∷ []))
+one-pushed op s start old new x r h ex er en = pushed-on _ old new (r ∷ []) _ en (λ u p.
+    let l = one-line op s u p in
+    let k = l.kind in
+    let w = word-window s k start old x l.first h ex in
+    let v = value-is s k (window s start old) x l.first w.0 in
+    let c = er k (kind-is s k l.first) in
+    let small : coded op k x 0 0 < 2 ^ (result_kind op k).width = rw l.wide at (word_fits (op_for k.signed op) k.width x 0 0 (l.fit x 0 0 w.1)) in
+    let st = stands-word u (result_kind op k) (coded op k x 0 0) l.result small in
+    let value : number (result_kind op k) (coded op k x 0 0) ≡ word_value op (number k x ∷ []) = ap (λ q. number (result_kind op q) (coded op q x 0 0)) (sym (l.by (number k x))) in
+    let P : ValueTree → Type 0 = λ z. Stands u (coded op k x 0 0 ∷ []) z in
+    let Q : ℕ → Type 0 = λ z. Stands u (z ∷ []) (word_value op (value_of s (window s start old) ∷ [])) in
+    subst Q (sym c) (subst P (value ∙ ap (λ z. word_value op (z ∷ [])) (sym v)) st))
+
+pub one-fit : (op : WordOp) (s : SeqTree) (start : ℕ) (old : List ℕ) (x : ℕ) → FitAt s start old → x ≡ get_or old start x → IsSome (word_type op (s ∷ [])) → (k : WordKind) → kind_of s ≡ Some k → OperandsFit (op_for k.signed op) k.width x 0 0
+one-fit op s start old x h ex t k e =
+    let p = there (word_type op (s ∷ [])) t in
+    let l = one-line op s p.0 p.1 in
+    let same : l.kind ≡ k = (let q = kind-is s l.kind l.first in cc) in
+    let P : WordKind → Type 0 = λ q. OperandsFit (op_for q.signed op) q.width x 0 0 in
+    subst P same (l.fit x 0 0 (word-window s l.kind start old x l.first h ex).1)
+
+pub cast-pushed : (v : ℕ) (s : SeqTree) (start : ℕ) (old new : List ℕ) (x r : ℕ) → FitAt s start old → x ≡ get_or old start x → ((k : WordKind) → kind_of s ≡ Some k → r ≡ coded (Cast v) k x 0 0) → new ≡ old ++ r ∷ []
+    → Pushed (as_word (signed_word v) (one_word (s ∷ []))) old new (cast_value v (value_of s (window s start old)))
+cast-pushed v s start old new x r h ex er en = pushed-on _ old new (r ∷ []) _ en (λ u p.
+    let o = as-of (signed_word v) (one_word (s ∷ [])) u p in
+    let l = one-of s o.0 o.1 in
+    let k = l.0 in
+    let w = word-window s k start old x l.1 h ex in
+    let e = value-is s k (window s start old) x l.1 w.0 in
+    let c = er k (kind-is s k l.1) in
+    let small : coded (Cast v) k x 0 0 < 2 ^ v = rw (wide-Cast v k.signed k.width) at (word_fits (op_for k.signed (Cast v)) k.width x 0 0 (fit-Cast v k.signed k.width x 0 0 w.1)) in
+    let st = stands-word u (record { signed = true; width = v }) (coded (Cast v) k x 0 0) o.2 small in
+    let P : ValueTree → Type 0 = λ z. Stands u (coded (Cast v) k x 0 0 ∷ []) z in
+    let Q : ℕ → Type 0 = λ z. Stands u (z ∷ []) (cast_value v (value_of s (window s start old))) in
+    subst Q (sym c) (subst P (ap (cast_value v) (sym e)) st))
+
+pub two-pushed : (op : WordOp) (s z : SeqTree) (start place : ℕ) (old new : List ℕ) (x y r : ℕ) → FitAt s start old → FitAt z place old → x ≡ get_or old start x → y ≡ get_or old place y → ((k : WordKind) → kind_of s ≡ Some k → r ≡ coded op k x y 0) → new ≡ old ++ r ∷ []
+    → Pushed (word_type op (s ∷ z ∷ [])) old new (word_value op (value_of s (window s start old) ∷ value_of z (window z place old) ∷ []))
+two-pushed op s z start place old new x y r h g ex ey er en = pushed-on _ old new (r ∷ []) _ en (λ u p.
+    let l = two-line op s z u p in
+    let k = l.kind in
+    let wx = word-window s k start old x l.first h ex in
+    let wy = word-window z k place old y l.second g ey in
+    let vx = value-is s k (window s start old) x l.first wx.0 in
+    let vy = value-is z k (window z place old) y l.second wy.0 in
+    let c = er k (kind-is s k l.first) in
+    let small : coded op k x y 0 < 2 ^ (result_kind op k).width = rw l.wide at (word_fits (op_for k.signed op) k.width x y 0 (l.fit x y 0 wx.1 wy.1)) in
+    let st = stands-word u (result_kind op k) (coded op k x y 0) l.result small in
+    let value : number (result_kind op k) (coded op k x y 0) ≡ word_value op (number k x ∷ number k y ∷ []) = ap (λ q. number (result_kind op q) (coded op q x y 0)) (sym (l.by (number k x) (number k y))) in
+    let P : ValueTree → Type 0 = λ q. Stands u (coded op k x y 0 ∷ []) q in
+    let Q : ℕ → Type 0 = λ q. Stands u (q ∷ []) (word_value op (value_of s (window s start old) ∷ value_of z (window z place old) ∷ [])) in
+    subst Q (sym c) (subst P (value ∙ ap (λ q. word_value op (q ∷ number k y ∷ [])) (sym vx) ∙ ap (λ q. word_value op (value_of s (window s start old) ∷ q ∷ [])) (sym vy)) st))
+
+pub two-fit : (op : WordOp) (s z : SeqTree) (start place : ℕ) (old : List ℕ) (x y : ℕ) → FitAt s start old → FitAt z place old → x ≡ get_or old start x → y ≡ get_or old place y → IsSome (word_type op (s ∷ z ∷ [])) → (k : WordKind) → kind_of s ≡ Some k → OperandsFit (op_for k.signed op) k.width x y 0
+two-fit op s z start place old x y h g ex ey t k e =
+    let p = there (word_type op (s ∷ z ∷ [])) t in
+    let l = two-line op s z p.0 p.1 in
+    let same : l.kind ≡ k = (let q = kind-is s l.kind l.first in cc) in
+    let P : WordKind → Type 0 = λ q. OperandsFit (op_for q.signed op) q.width x y 0 in
+    subst P same (l.fit x y 0 (word-window s l.kind start old x l.first h ex).1 (word-window z l.kind place old y l.second g ey).1)
+
+pub choice-pushed : (op : WordOp) (t s z : SeqTree) (i j m : ℕ) (old new : List ℕ) (x y w r : ℕ) → FitAt t i old → FitAt s j old → FitAt z m old → x ≡ get_or old i x → y ≡ get_or old j y → w ≡ get_or old m w → ((k : WordKind) → kind_of s ≡ Some k → r ≡ coded op k x y w) → new ≡ old ++ r ∷ []
+    → Pushed (word_type op (t ∷ s ∷ z ∷ [])) old new (word_value op (value_of t (window t i old) ∷ value_of s (window s j old) ∷ value_of z (window z m old) ∷ []))
+choice-pushed op t s z i j m old new x y w r ht hs hz ex ey ew er en = pushed-on _ old new (r ∷ []) _ en (λ u p.
+    let l = choice-line op t s z u p in
+    let k = l.kind in
+    let bitk : WordKind = record { signed = false; width = 1 } in
+    let wx = word-window t bitk i old x l.test ht ex in
+    let wy = word-window s k j old y l.first hs ey in
+    let ww = word-window z k m old w l.second hz ew in
+    let vx = value-is t bitk (window t i old) x l.test wx.0 in
+    let vy = value-is s k (window s j old) y l.first wy.0 in
+    let vw = value-is z k (window z m old) w l.second ww.0 in
+    let c : r ≡ coded Mux k x y w = er k (kind-is s k l.first) ∙ ap (λ o. coded o k x y w) l.is in
+    let small : coded Mux k x y w < 2 ^ k.width = rw (wide-Mux k.signed k.width) at (word_fits (op_for k.signed Mux) k.width x y w (fit-Mux k.signed k.width x y w wx.1 wy.1 ww.1)) in
+    let st = stands-word u k (coded Mux k x y w) l.result small in
+    let P : ValueTree → Type 0 = λ q. Stands u (coded Mux k x y w ∷ []) q in
+    let Q : ℕ → Type 0 = λ q. Stands u (q ∷ []) (word_value op (value_of t (window t i old) ∷ value_of s (window s j old) ∷ value_of z (window z m old) ∷ [])) in
+    let value : number k (coded Mux k x y w) ≡ word_value Mux (number bitk x ∷ number k y ∷ number k w ∷ []) = refl in
+    subst Q (sym c) (subst P (value ∙ ap (λ q. word_value Mux (q ∷ number k y ∷ number k w ∷ [])) (sym vx) ∙ ap (λ q. word_value Mux (value_of t (window t i old) ∷ q ∷ number k w ∷ [])) (sym vy) ∙ ap (λ q. word_value Mux (value_of t (window t i old) ∷ value_of s (window s j old) ∷ q ∷ [])) (sym vw) ∙ ap (λ o. word_value o (value_of t (window t i old) ∷ value_of s (window s j old) ∷ value_of z (window z m old) ∷ [])) (sym l.is)) st))
+
+pub choice-fit : (op : WordOp) (t s z : SeqTree) (i j m : ℕ) (old : List ℕ) (x y w : ℕ) → FitAt t i old → FitAt s j old → FitAt z m old → x ≡ get_or old i x → y ≡ get_or old j y → w ≡ get_or old m w → IsSome (word_type op (t ∷ s ∷ z ∷ [])) → (k : WordKind) → kind_of s ≡ Some k → OperandsFit (op_for k.signed op) k.width x y w
+choice-fit op t s z i j m old x y w ht hs hz ex ey ew h k e =
+    let p = there (word_type op (t ∷ s ∷ z ∷ [])) h in
+    let l = choice-line op t s z p.0 p.1 in
+    let bitk : WordKind = record { signed = false; width = 1 } in
+    let same : l.kind ≡ k = (let q = kind-is s l.kind l.first in cc) in
+    let P : WordKind → Type 0 = λ q. OperandsFit (op_for q.signed Mux) q.width x y w in
+    let Q : WordOp → Type 0 = λ o. OperandsFit (op_for k.signed o) k.width x y w in
+    subst Q (sym l.is) (subst P same (fit-Mux l.kind.signed l.kind.width x y w (word-window t bitk i old x l.test ht ex).1 (word-window s l.kind j old y l.first hs ey).1 (word-window z l.kind m old w l.second hz ew).1))
+
+pub choice-rooms : (op : WordOp) (t s z : SeqTree) (i j m : ℕ) (old : List ℕ) → FitAt t i old → FitAt s j old → FitAt z m old → IsSome (word_type op (t ∷ s ∷ z ∷ [])) → (i < length old) × (j < length old) × (m < length old)
+choice-rooms op t s z i j m old ht hs hz h =
+    let p = there (word_type op (t ∷ s ∷ z ∷ [])) h in
+    let l = choice-line op t s z p.0 p.1 in
+    (word-room t _ i old l.test ht, word-room s _ j old l.first hs, word-room z _ m old l.second hz)
+
+pub choice-range : (op : WordOp) (t s z : SeqTree) → IsSome (word_type op (t ∷ s ∷ z ∷ [])) → HasRange op
+choice-range op t s z h =
+    let p = there (word_type op (t ∷ s ∷ z ∷ [])) h in
+    let l = choice-line op t s z p.0 p.1 in
+    rw l.is tt
+
+-- the width of a word of an atom in size
+widths-at : (a : AtomTree) (i : ℕ) (k : WordKind) → IsTrue (widths_in_range a) → slice_get (atom_kinds a) i ≡ Some k → (1 ≤ k.width) × (k.width ≤ 64)
+widths-at a i k h e = kinds-at (atom_kinds a) i k (ranges a h) e
+
+pub width-range : (a : AtomTree) (i : ℕ) (w : ℕ) → IsTrue (atom_in_size a) → option_map (λ (q : WordKind). q.width) (slice_get (atom_kinds a) i) ≡ Some w → (1 ≤ w) × (w ≤ 64)
+width-range a i w h e =
+    let r : IsTrue (widths_in_range a) = grind (arith, nat_tests) in
+    let k = mapped (slice_get (atom_kinds a) i) w e in
+    let b = widths-at a i k.0 r k.1 in
+    (omega (arith, b.0, k.2), omega (arith, b.1, k.2))
+
+-- an operator that folds keeps the words of its kind
+pub fold-fits : (op : WordOp) (s : Bool) (w a b : ℕ) → IsTrue (folds op) → a < 2 ^ w → b < 2 ^ w → word_result (op_for s op) w a b 0 < 2 ^ w
+fold-fits Add s w a b f h g = rw (wide-Add s w) at (word_fits (op_for s Add) w a b 0 (fit-Add s w a b 0 h g))
+fold-fits Mul s w a b f h g = rw (wide-Mul s w) at (word_fits (op_for s Mul) w a b 0 (fit-Mul s w a b 0 h g))
+fold-fits And s w a b f h g = rw (wide-And s w) at (word_fits (op_for s And) w a b 0 (fit-And s w a b 0 h g))
+fold-fits Or s w a b f h g = rw (wide-Or s w) at (word_fits (op_for s Or) w a b 0 (fit-Or s w a b 0 h g))
+fold-fits Xor s w a b f h g = rw (wide-Xor s w) at (word_fits (op_for s Xor) w a b 0 (fit-Xor s w a b 0 h g))
+fold-fits Min s w a b f h g = rw (wide-Min s w) at (word_fits (op_for s Min) w a b 0 (fit-Min s w a b 0 h g))
+fold-fits Max s w a b f h g = rw (wide-Max s w) at (word_fits (op_for s Max) w a b 0 (fit-Max s w a b 0 h g))
+fold-fits Sub s w a b f h g = absurd (false≢true f)
+fold-fits Not s w a b f h g = absurd (false≢true f)
+fold-fits Eq s w a b f h g = absurd (false≢true f)
+fold-fits Lt s w a b f h g = absurd (false≢true f)
+fold-fits Mux s w a b f h g = absurd (false≢true f)
+fold-fits (Shl n) s w a b f h g = absurd (false≢true f)
+fold-fits (Shr n) s w a b f h g = absurd (false≢true f)
+fold-fits (Cast n) s w a b f h g = absurd (false≢true f)
+fold-fits SLt s w a b f h g = absurd (false≢true f)
+fold-fits SMin s w a b f h g = absurd (false≢true f)
+fold-fits SMax s w a b f h g = absurd (false≢true f)
+fold-fits (Sar n) s w a b f h g = absurd (false≢true f)
+fold-fits (SCast n) s w a b f h g = absurd (false≢true f)
+
+pub combined-fits : (op : WordOp) (ks : List WordKind) (us vs : List ℕ) → IsTrue (folds op) → FitKinds us ks → FitKinds vs ks → FitKinds (combined op ks us vs) ks
+combined-fits op [] us vs f h g = tt
+combined-fits op (k ∷ ks) [] vs f h g = absurd h
+combined-fits op (k ∷ ks) (x ∷ us) [] f h g = absurd g
+combined-fits op (k ∷ ks) (x ∷ us) (y ∷ vs) f h g = (fold-fits op k.signed k.width x y f h.0 g.0, combined-fits op ks us vs f h.1 g.1)
+
+-- a cast to a type in size names a width in range
+sized-word : (k : WordKind) → IsTrue (in_size (atom (word k))) → (1 ≤ k.width) × (k.width ≤ 64)
+sized-word k h =
+    let low : 1 ≤ k.width = grind (arith, nat_tests) in
+    let high : k.width ≤ 64 = grind (arith, nat_tests) in
+    (low, high)
+
+pub one-range : (op : WordOp) (s : SeqTree) → IsSome (word_type op (s ∷ [])) → ((u : SeqTree) → word_type op (s ∷ []) ≡ Some u → IsTrue (in_size u)) → HasRange op
+one-range (Cast n) s h g =
+    let p = there (word_type (Cast n) (s ∷ [])) h in
+    let l = one-line (Cast n) s p.0 p.1 in
+    sized-word (record { signed = false; width = n }) (subst (λ z. IsTrue (in_size z)) l.result (g p.0 p.1))
+one-range (SCast n) s h g = let p = there (word_type (SCast n) (s ∷ [])) h in absurd (none-some p.0 p.1)
+one-range Add s h g = tt
+one-range Sub s h g = tt
+one-range Mul s h g = tt
+one-range And s h g = tt
+one-range Or s h g = tt
+one-range Xor s h g = tt
+one-range Not s h g = tt
+one-range Min s h g = tt
+one-range Max s h g = tt
+one-range Eq s h g = tt
+one-range Lt s h g = tt
+one-range Mux s h g = tt
+one-range (Shl n) s h g = tt
+one-range (Shr n) s h g = tt
+one-range SLt s h g = tt
+one-range SMin s h g = tt
+one-range SMax s h g = tt
+one-range (Sar n) s h g = tt
+
+pub cast-range : (v : ℕ) (s : SeqTree) → IsSome (as_word (signed_word v) (one_word (s ∷ []))) → ((u : SeqTree) → as_word (signed_word v) (one_word (s ∷ [])) ≡ Some u → IsTrue (in_size u)) → (1 ≤ v) × (v ≤ 64)
+cast-range v s h g =
+    let p = there (as_word (signed_word v) (one_word (s ∷ []))) h in
+    let o = as-of (signed_word v) (one_word (s ∷ [])) p.0 p.1 in
+    sized-word (record { signed = true; width = v }) (subst (λ z. IsTrue (in_size z)) o.2 (g p.0 p.1))

@@ -1,0 +1,16 @@
+//! The value of a program on words.
+#![tactic(auto)]
+
+mod folds;
+mod functions;
+mod lines;
+mod moves;
+mod plain;
+mod program;
+mod stack;
+mod starts;
+#[cfg(test)]
+mod tests;
+mod words;
+
+pub use program::{eval, fits};

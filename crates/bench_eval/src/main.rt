@@ -1,0 +1,147 @@
+//! Evaluates a program again and again, and prints how many words it computed: `bench/eval.sh` times it.
+#![tactic(auto)]
+
+use ae_eval::{eval, fits};
+use ae_seq::{Func, Node, Op, Param, Program, check};
+use ae_seqtype::{SeqType, Value};
+use ae_word::{Atom, WordOp};
+use std::alloc::{AllocError, Global};
+use std::env::{self, Env};
+use std::io;
+
+fn sequence(alloc: Global, count: u32, of: SeqType) -> Result<SeqType, AllocError> {
+    Ok(SeqType::Seq(count, Box::new(alloc, of)?))
+}
+
+fn node(alloc: Global, name: &str, op: Op, args: &[u32]) -> Result<Node, AllocError> {
+    Ok(Node {
+        name: String::from_str(alloc, name)?,
+        op,
+        args: Vec::from_slice(alloc, args)?,
+        line: 2,
+    })
+}
+
+// A function of one parameter that answers one item.
+fn func(
+    alloc: Global,
+    name: &str,
+    ty: SeqType,
+    nodes: Vec<Node>,
+    item: u32,
+) -> Result<Func, AllocError> {
+    let mut params = Vec::new(alloc);
+    params.push(Param {
+        name: String::from_str(alloc, "x")?,
+        ty,
+    })?;
+    Ok(Func {
+        name: String::from_str(alloc, name)?,
+        params,
+        nodes,
+        results: Vec::from_slice(alloc, &[item])?,
+        line: 1,
+        end_line: 3,
+    })
+}
+
+// Five lines on words of 16 bits, on each word of a sequence of 4,096 rows of four.
+fn five_lines(alloc: Global) -> Result<Program, AllocError> {
+    let mut funcs = Vec::new(alloc);
+    let mut lines = Vec::new(alloc);
+    lines.push(node(alloc, "a", Op::Word(WordOp::Add), &[0, 0])?)?;
+    lines.push(node(alloc, "b", Op::Word(WordOp::Mul), &[1, 0])?)?;
+    lines.push(node(alloc, "c", Op::Word(WordOp::Xor), &[2, 0])?)?;
+    lines.push(node(alloc, "d", Op::Word(WordOp::Shr(1)), &[3])?)?;
+    lines.push(node(alloc, "e", Op::Word(WordOp::Add), &[4, 1])?)?;
+    funcs.push(func(alloc, "f", SeqType::Atom(Atom::Word(16)), lines, 5)?)?;
+    let mut each = Vec::new(alloc);
+    each.push(node(alloc, "y", Op::Map(0), &[0])?)?;
+    let row = sequence(alloc, 4, SeqType::Atom(Atom::Word(16)))?;
+    funcs.push(func(alloc, "row", row, each, 1)?)?;
+    let mut rows = Vec::new(alloc);
+    rows.push(node(alloc, "y", Op::Map(1), &[0])?)?;
+    let row = sequence(alloc, 4, SeqType::Atom(Atom::Word(16)))?;
+    funcs.push(func(alloc, "main", sequence(alloc, 4096, row)?, rows, 1)?)?;
+    Ok(Program { version: 1, funcs })
+}
+
+// One word, 4,096 times.
+fn copies(alloc: Global) -> Result<Program, AllocError> {
+    let mut nodes = Vec::new(alloc);
+    nodes.push(node(alloc, "y", Op::Up(4096), &[0])?)?;
+    let mut funcs = Vec::new(alloc);
+    let ty = sequence(alloc, 1, SeqType::Atom(Atom::Word(8)))?;
+    funcs.push(func(alloc, "main", ty, nodes, 1)?)?;
+    Ok(Program { version: 1, funcs })
+}
+
+// The words 0, 1, 2 and so on.
+fn counted(alloc: Global, count: u64) -> Result<Vec<Value>, AllocError> {
+    let mut words = Vec::new(alloc);
+    for word in 0..count {
+        words.push(word)?;
+    }
+    let mut values = Vec::new(alloc);
+    values.push(Value { words })?;
+    Ok(values)
+}
+
+// How many words so many evaluations answer, and the last of them; none where the program is refused.
+fn answered(
+    alloc: Global,
+    program: Program,
+    inputs: &[Value],
+    times: u32,
+) -> Result<(u64, u64), AllocError> {
+    if !program.formed() {
+        return Ok((0, 0));
+    }
+    let Ok(typed) = check(alloc, program) else {
+        return Ok((0, 0));
+    };
+    if !fits(&typed, inputs) {
+        return Ok((0, 0));
+    }
+    let mut count: u64 = 0;
+    let mut last = 0;
+    for _ in 0..times {
+        let results = eval(alloc, &typed, inputs)?;
+        if let Some(result) = results.first() {
+            count = count.saturating_add(result.words.len() as u64);
+            if let Some(word) = result.words.last() {
+                last = *word;
+            }
+        }
+    }
+    Ok((count, last))
+}
+
+// The second word, as a number; 1 where there is none.
+fn times<R: Env + Alloc<A = Global>>(rt: &R) -> io::Result<u32> {
+    for word in env::args(rt)?.skip(2) {
+        if let Ok(count) = word.as_str().parse::<u32>() {
+            return Ok(count);
+        }
+    }
+    Ok(1)
+}
+
+// Whether the first word asks for the program that copies.
+fn copying<R: Env + Alloc<A = Global>>(rt: &R) -> io::Result<bool> {
+    for word in env::args(rt)?.skip(1) {
+        return Ok(word.as_str() == "up");
+    }
+    Ok(false)
+}
+
+fn main(rt: HostRuntime) -> io::Result<()> {
+    let alloc = rt.alloc();
+    let times = times(&rt)?;
+    let (count, last) = if copying(&rt)? {
+        answered(alloc, copies(alloc)?, &counted(alloc, 1)?, times)?
+    } else {
+        answered(alloc, five_lines(alloc)?, &counted(alloc, 16384)?, times)?
+    };
+    println!(rt; "{times} times, {count} words, the last is {last}")
+}
