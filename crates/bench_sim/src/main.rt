@@ -1,0 +1,91 @@
+//! Steps a netlist of so many cells for so many clocks, and prints a word of the last: `bench/sim.sh` times it.
+#![tactic(auto)]
+
+ghost use Rattle.std.specs.Prelude.{IfOk, ◌≡◌, length};
+ghost use Rattle.ae_netlist.specs.Circuit.{IsNet};
+ghost use Rattle.ae_netlist.specs.Counts.{is_input, count_of};
+
+use ae_clocked::{choose, constant, less, sum};
+use ae_netlist::{NetFault, NetId, Netlist, Port};
+use ae_sim::Sim;
+use std::alloc::{AllocError, Global};
+use std::env::{self, Env};
+use std::io;
+
+// Two nets, and the netlist's next pair.
+#[derive(Clone, Copy)]
+struct Pair {
+    left: NetId,
+    right: NetId,
+}
+
+// The word at a place, as a number; another number where there is none.
+fn count<R: Env + Alloc<A = Global>>(rt: &R, place: usize, other: u32) -> io::Result<u32> {
+    for word in env::args(rt)?.skip(place) {
+        if let Ok(count) = word.as_str().parse::<u32>() {
+            return Ok(count);
+        }
+    }
+    Ok(other)
+}
+
+// Three cells: a sum, a comparison with it, and a choice.
+fn group(nl: &mut Netlist, pair: Pair) -> Result<Pair, NetFault>
+    requires left { IsNet nl.old.cells pair.left.0 16 }
+    requires right { IsNet nl.old.cells pair.right.0 16 }
+    ensures inputs { count_of is_input nl.new.cells ≡ count_of is_input nl.old.cells }
+    ensures outlets { nl.new.outlets ≡ nl.old.outlets }
+    ensures left { IfOk result (λ p. IsNet nl.new.cells p.left.0 16) }
+    ensures right { IfOk result (λ p. IsNet nl.new.cells p.right.0 16) }
+{
+    let total = sum(nl, pair.left, pair.right, 16)?;
+    let test = less(nl, pair.left, total, 16)?;
+    let chosen = choose(nl, test, total, pair.right, 16)?;
+    Ok(Pair {
+        left: total,
+        right: chosen,
+    })
+}
+
+// A netlist of so many groups.
+fn circuit(alloc: Global, groups: u32) -> Result<Netlist, NetFault>
+    ensures inputs { IfOk result (λ nl. count_of is_input nl.cells ≡ 0) }
+    ensures outlets { IfOk result (λ nl. length nl.outlets ≡ 1) }
+{
+    let mut nl = Netlist::new(alloc, 10_000_000);
+    let first = constant(&mut nl, 16, 1)?;
+    let second = constant(&mut nl, 16, 3)?;
+    let mut pair = Pair {
+        left: first,
+        right: second,
+    };
+    for _ in 0..groups {
+        pair = group(&mut nl, pair)?;
+    }
+    match nl.add_output(Port::Plain(0), pair.right) {
+        Ok(()) => Ok(nl),
+        Err(_) => Err(NetFault::Memory),
+    }
+}
+
+// The word of the output in the last of so many clocks.
+fn run(alloc: Global, nl: &Netlist, clocks: u32) -> Result<u64, AllocError>
+    requires inputs { count_of is_input nl.now.cells ≡ 0 }
+    requires outlets { length nl.now.outlets ≡ 1 }
+{
+    let mut sim = Sim::new(alloc, nl, 0)?;
+    for _ in 0..clocks {
+        sim.step(&[]);
+    }
+    Ok(sim.output(0))
+}
+
+fn main(rt: HostRuntime) -> io::Result<()> {
+    let groups = count(&rt, 1, 100)?;
+    let clocks = count(&rt, 2, 10)?;
+    let Ok(nl) = circuit(rt.alloc(), groups) else {
+        return Ok(());
+    };
+    let word = run(rt.alloc(), &nl, clocks)?;
+    println!(rt; "{groups} groups, {clocks} clocks, {word}")
+}
