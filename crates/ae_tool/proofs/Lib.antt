@@ -19,3 +19,6 @@ pub mod FirstRows
 pub mod FirstTables
 pub mod FirstClocks
 pub mod FirstRun
+pub mod Pieces
+pub mod EvalTypes
+pub mod EvalSteps

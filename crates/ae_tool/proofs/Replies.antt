@@ -1,5 +1,5 @@
 -- What a job answers, and that an input is cut in one way alone.
-use Rattle.std.proofs.Common.{ℕ, ◌≡◌, ◌<◌, ◌≤◌, Bool, true, false, not, List, [], ◌∷◌, ◌++◌, length, take, drop, Option, None, arith, refl, ap, sym, ◌∙◌, subst, nat_eq, if◌then◌else◌}
+use Rattle.std.proofs.Common.{ℕ, ◌≡◌, ◌<◌, ◌≤◌, Bool, true, false, not, List, [], ◌∷◌, ◌++◌, length, take, drop, Option, Some, None, arith, refl, ap, sym, ◌∙◌, subst, nat_eq, if◌then◌else◌}
 use Rattle.std.proofs.lemmas.Bool.{eqb-true}
 use Rattle.std.specs.Fmt.{decimal}
 use Rattle.ae_parse.proofs.Plain.{own}
@@ -14,11 +14,15 @@ use Rattle.ae_first.specs.FirstForm.{FirstForm}
 use Rattle.ae_tool.specs.declared.status.Status.{Status}
 use Rattle.ae_tool.specs.declared.status.Status.TheVariants.{Ok, Usage, BadLine, BadType, TooLarge, NoSchedule, BadWords, BadModule, LongRun, ReadFault, WriteFault, TooLong, Memory}
 use Rattle.ae_tool.specs.declared.command.Command.{Command}
-use Rattle.ae_tool.specs.declared.command.Command.TheVariants.{Build, Run}
+use Rattle.ae_tool.specs.declared.command.Command.TheVariants.{Check, Eval, Build, Run}
 use Rattle.ae_tool.specs.Commands.{IsCommand}
 use Rattle.ae_tool.specs.Inputs.{IsCut, Marked, Unmarked}
 use Rattle.ae_tool.specs.RunTexts.{input_widths, run_size, run_limit}
-use Rattle.ae_tool.specs.Outcomes.{IsBuilt, IsRunOf, IsRun, IsReply, IsDone, HasResult, IsAccepted}
+use Rattle.ae_seq.specs.Typing.{refused_line as refused_line_of}
+use Rattle.ae_parse.specs.Grammar.{IsProgramText as Reads, Reading, program, refused_line}
+use Rattle.ae_tool.specs.Programs.{IsTyped, IsRefusal}
+use Rattle.ae_tool.specs.EvalTexts.{eval_size, IsEvalOf}
+use Rattle.ae_tool.specs.Outcomes.{IsBuilt, IsChecked, IsEvaluated, Refused, Ran, IsRunOf, IsRun, IsReply, IsDone, HasResult, IsAccepted}
 
 -- the answers of jobs
 abbrev pub is_reply : Status → Bool
@@ -66,7 +70,58 @@ run_replies fill part table WriteFault text b = absurd b.2
 run_replies fill part table TooLong text b = absurd b.2
 run_replies fill part table Memory text b = absurd b.2
 
+refusal_replies : (part : List ℕ) (status : Status) → IsRefusal part status → is_reply status ≡ true
+refusal_replies part Ok b = absurd b
+refusal_replies part Usage b = absurd b
+refusal_replies part (BadLine line) b = refl
+refusal_replies part (BadType line) b = refl
+refusal_replies part (TooLarge line) b = refl
+refusal_replies part (NoSchedule line) b = absurd b
+refusal_replies part (BadWords row column) b = absurd b
+refusal_replies part (BadModule fault) b = absurd b
+refusal_replies part (LongRun size) b = absurd b
+refusal_replies part ReadFault b = absurd b
+refusal_replies part WriteFault b = absurd b
+refusal_replies part TooLong b = absurd b
+refusal_replies part Memory b = absurd b
+
+checked_replies : (part : List ℕ) (status : Status) (text : List ℕ) → IsChecked part status text → is_reply status ≡ true
+checked_replies part Ok text b = refl
+checked_replies part Usage text b = refusal_replies part Usage b.0
+checked_replies part (BadLine line) text b = refusal_replies part (BadLine line) b.0
+checked_replies part (BadType line) text b = refusal_replies part (BadType line) b.0
+checked_replies part (TooLarge line) text b = refusal_replies part (TooLarge line) b.0
+checked_replies part (NoSchedule line) text b = refusal_replies part (NoSchedule line) b.0
+checked_replies part (BadWords row column) text b = refusal_replies part (BadWords row column) b.0
+checked_replies part (BadModule fault) text b = refusal_replies part (BadModule fault) b.0
+checked_replies part (LongRun size) text b = refusal_replies part (LongRun size) b.0
+checked_replies part ReadFault text b = refusal_replies part ReadFault b.0
+checked_replies part WriteFault text b = refusal_replies part WriteFault b.0
+checked_replies part TooLong text b = refusal_replies part TooLong b.0
+checked_replies part Memory text b = refusal_replies part Memory b.0
+
+eval_replies : (p : ProgramTree) (table : List (List (List ℕ))) (status : Status) (text : List ℕ) → IsEvalOf p table status text → is_reply status ≡ true
+eval_replies p table Ok text b = refl
+eval_replies p table Usage text b = absurd b
+eval_replies p table (BadLine line) text b = absurd b
+eval_replies p table (BadType line) text b = absurd b
+eval_replies p table (TooLarge line) text b = absurd b
+eval_replies p table (NoSchedule line) text b = absurd b
+eval_replies p table (BadWords row column) text b = refl
+eval_replies p table (BadModule fault) text b = absurd b
+eval_replies p table (LongRun size) text b = refl
+eval_replies p table ReadFault text b = absurd b
+eval_replies p table WriteFault text b = absurd b
+eval_replies p table TooLong text b = absurd b
+eval_replies p table Memory text b = absurd b
+
+evaluated_replies : (part : List ℕ) (table : List (List (List ℕ))) (status : Status) (text : List ℕ) → IsEvaluated part table status text → is_reply status ≡ true
+evaluated_replies part table status text (Refused r e) = refusal_replies part status r
+evaluated_replies part table status text (Ran p t r) = eval_replies p table status text r
+
 reply_replies : (command : Command) (part : List ℕ) (table : List (List (List ℕ))) (status : Status) (text : List ℕ) → IsReply command part table status text → is_reply status ≡ true
+reply_replies Check part table status text b = checked_replies part status text b
+reply_replies Eval part table status text b = evaluated_replies part table status text b
 reply_replies Build part table status text b = built_replies part status text b
 reply_replies (Run fill) part table status text b = run_replies fill part table status text b
 
@@ -81,11 +136,27 @@ one_fill ws m n a b =
     let d : decimal m ≡ decimal n = cc in
     sym (digits_value-decimal own m a.1) ∙ ap (digits_value 10) d ∙ digits_value-decimal own n b.1
 
+-- words are equal in their number and their first word
+first_word : (a b : List ℕ) (us vs ws : List (List ℕ)) → ws ≡ a ∷ us → ws ≡ b ∷ vs → a ≡ b
+first_word a b us vs ws x y = let e : a ∷ us ≡ b ∷ vs = sym x ∙ y in cc
+
 pub same_command : (ws : List (List ℕ)) (a b : Command) → IsCommand ws a → IsCommand ws b → a ≡ b
+same_command ws Check Check x y = refl
+same_command ws Eval Eval x y = refl
 same_command ws Build Build x y = refl
+same_command ws (Run m) (Run n) x y = ap (λ k. Run k) (one_fill ws m n x y)
+same_command ws Check Eval x y = let e = first_word _ _ [] [] ws x y in cc
+same_command ws Eval Check x y = let e = first_word _ _ [] [] ws x y in cc
+same_command ws Check Build x y = let e = sym x ∙ y in cc
+same_command ws Build Check x y = let e = sym x ∙ y in cc
+same_command ws Check (Run n) x y = let e = sym x ∙ y.0 in cc
+same_command ws (Run n) Check x y = let e = sym x.0 ∙ y in cc
+same_command ws Eval Build x y = let e = sym x ∙ y in cc
+same_command ws Build Eval x y = let e = sym x ∙ y in cc
+same_command ws Eval (Run n) x y = let e = sym x ∙ y.0 in cc
+same_command ws (Run n) Eval x y = let e = sym x.0 ∙ y in cc
 same_command ws Build (Run n) x y = let e = sym x ∙ y.0 in cc
 same_command ws (Run m) Build x y = let e = sym x.0 ∙ y in cc
-same_command ws (Run m) (Run n) x y = ap (λ k. Run k) (one_fill ws m n x y)
 
 -- ---- an input is cut in one way
 
@@ -218,7 +289,72 @@ run_ok fill part table WriteFault text q f r b = let k : RunFits b.0 table = sub
 run_ok fill part table TooLong text q f r b = let k : RunFits b.0 table = subst (λ (p : ProgramTree). RunFits p table) (b.1.only q f) r in run_of_ok fill b.0 table TooLong text k.right k.short b.2
 run_ok fill part table Memory text q f r b = let k : RunFits b.0 table = subst (λ (p : ProgramTree). RunFits p table) (b.1.only q f) r in run_of_ok fill b.0 table Memory text k.right k.short b.2
 
+-- a text is one program
+one_program : (part : List ℕ) (p q : ProgramTree) → Reads part p → Reads part q → p ≡ q
+one_program part p q a b = let e : program p ≡ program q = sym a ∙ b in cc
+
+-- a program that is typed is not refused
+never_refused : {A : Type 0} (part : List ℕ) (p : ProgramTree) (status : Status) → IsTyped part p → IsRefusal part status → A
+never_refused part p Ok t r = absurd r
+never_refused part p Usage t r = absurd r
+never_refused part p (BadLine line) t r = let e : None ≡ Some line = sym (ap refused_line t.reads) ∙ r in cc
+never_refused part p (BadType line) t r =
+    let e : None ≡ Some _ = sym t.typed ∙ ap refused_line_of (one_program part p r.program t.reads r.reads) ∙ r.refused in cc
+never_refused part p (TooLarge line) t r =
+    let e : None ≡ Some _ = sym t.typed ∙ ap refused_line_of (one_program part p r.program t.reads r.reads) ∙ r.refused in cc
+never_refused part p (NoSchedule line) t r = absurd r
+never_refused part p (BadWords row column) t r = absurd r
+never_refused part p (BadModule fault) t r = absurd r
+never_refused part p (LongRun size) t r = absurd r
+never_refused part p ReadFault t r = absurd r
+never_refused part p WriteFault t r = absurd r
+never_refused part p TooLong t r = absurd r
+never_refused part p Memory t r = absurd r
+
+checked_ok : (part : List ℕ) (status : Status) (text : List ℕ) (p : ProgramTree) → IsTyped part p → IsChecked part status text → status ≡ Ok
+checked_ok part Ok text p t b = refl
+checked_ok part Usage text p t b = never_refused part p Usage t b.0
+checked_ok part (BadLine line) text p t b = never_refused part p (BadLine line) t b.0
+checked_ok part (BadType line) text p t b = never_refused part p (BadType line) t b.0
+checked_ok part (TooLarge line) text p t b = never_refused part p (TooLarge line) t b.0
+checked_ok part (NoSchedule line) text p t b = never_refused part p (NoSchedule line) t b.0
+checked_ok part (BadWords row column) text p t b = never_refused part p (BadWords row column) t b.0
+checked_ok part (BadModule fault) text p t b = never_refused part p (BadModule fault) t b.0
+checked_ok part (LongRun size) text p t b = never_refused part p (LongRun size) t b.0
+checked_ok part ReadFault text p t b = never_refused part p ReadFault t b.0
+checked_ok part WriteFault text p t b = never_refused part p WriteFault t b.0
+checked_ok part TooLong text p t b = never_refused part p TooLong t b.0
+checked_ok part Memory text p t b = never_refused part p Memory t b.0
+
+eval_of_ok : (p : ProgramTree) (table : List (List (List ℕ))) (status : Status) (text : List ℕ) → bad_row 1 (input_widths p) table ≡ None → eval_size p table ≤ run_limit
+    → IsEvalOf p table status text → status ≡ Ok
+eval_of_ok p table Ok text right short b = refl
+eval_of_ok p table Usage text right short b = absurd b
+eval_of_ok p table (BadLine line) text right short b = absurd b
+eval_of_ok p table (BadType line) text right short b = absurd b
+eval_of_ok p table (TooLarge line) text right short b = absurd b
+eval_of_ok p table (NoSchedule line) text right short b = absurd b
+eval_of_ok p table (BadWords row column) text right short b = let e = sym right ∙ b.0 in cc
+eval_of_ok p table (BadModule fault) text right short b = absurd b
+eval_of_ok p table (LongRun size) text right short b = let long : run_limit < size = b.1 in let is : size ≡ eval_size p table = b.2 in absurd (omega (arith, long, is, short))
+eval_of_ok p table ReadFault text right short b = absurd b
+eval_of_ok p table WriteFault text right short b = absurd b
+eval_of_ok p table TooLong text right short b = absurd b
+eval_of_ok p table Memory text right short b = absurd b
+
+record EvalFits (p : ProgramTree) (table : List (List (List ℕ))) : Type 0 where
+  right : bad_row 1 (input_widths p) table ≡ None
+  short : eval_size p table ≤ run_limit
+
+evaluated_ok : (part : List ℕ) (table : List (List (List ℕ))) (status : Status) (text : List ℕ) (p : ProgramTree) → IsTyped part p → EvalFits p table → IsEvaluated part table status text → status ≡ Ok
+evaluated_ok part table status text p t f (Refused r e) = never_refused part p status t r
+evaluated_ok part table status text p t f (Ran q u r) =
+    let g : EvalFits q table = subst (λ (x : ProgramTree). EvalFits x table) (one_program part p q t.reads u.reads) f in
+    eval_of_ok q table status text g.right g.short r
+
 reply_ok : (command : Command) (part : List ℕ) (table : List (List (List ℕ))) (status : Status) (text : List ℕ) → HasResult command part table → IsReply command part table status text → status ≡ Ok
+reply_ok Check part table status text h b = checked_ok part status text h.0 h.1 b
+reply_ok Eval part table status text h b = evaluated_ok part table status text h.0 h.1 (record { right = h.2; short = h.3 }) b
 reply_ok Build part table status text h b = built_ok part status text h.0 h.1 b
 reply_ok (Run fill) part table status text h b = run_ok fill part table status text h.0 h.1 (record { right = h.2; short = h.3 }) b
 

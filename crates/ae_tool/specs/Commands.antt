@@ -3,7 +3,7 @@ use Rattle.std.specs.Prelude.{◌≡◌, ℕ, ◌<◌, ◌^◌, List, [], ◌∷
 use Rattle.std.specs.Fmt.{decimal}
 use Rattle.std.specs.declared.alloc.Global.{Global}
 use Rattle.ae_tool.specs.declared.command.Command.{Command}
-use Rattle.ae_tool.specs.declared.command.Command.TheVariants.{Build, Run}
+use Rattle.ae_tool.specs.declared.command.Command.TheVariants.{Check, Eval, Build, Run}
 
 -- the bytes of each word
 abbrev pub word_bytes : List (String Global) → List (List ℕ)
@@ -11,6 +11,8 @@ word_bytes words = map string_bytes words
 
 -- the words name this job; numbers are in decimal, without leading zeros
 abbrev pub IsCommand : (words : List (List ℕ)) → Command → Type 0
+IsCommand words Check = words ≡ codes "check" ∷ []
+IsCommand words Eval = words ≡ codes "eval" ∷ []
 IsCommand words Build = words ≡ codes "build" ∷ codes "1" ∷ []
 IsCommand words (Run fill) = (words ≡ codes "run" ∷ codes "1" ∷ decimal fill ∷ []) × (fill < 2 ^ 64)
 

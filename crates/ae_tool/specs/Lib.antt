@@ -1,7 +1,9 @@
 pub mod Answers
+pub mod CheckTexts
 pub mod ClockLines
 pub mod Commands
 pub mod Correct
+pub mod EvalRows
 pub mod EvalTexts
 pub mod FirstPath
 pub mod FirstPrograms
@@ -10,5 +12,6 @@ pub mod ModuleTexts
 pub mod Numbers
 pub mod Outcomes
 pub mod Playing
+pub mod Programs
 pub mod Refusals
 pub mod RunTexts

@@ -3,27 +3,35 @@ use Rattle.std.specs.Prelude.{◌≡◌, ℕ, ◌+◌, ◌<◌, ◌≤◌, Bool,
 use Rattle.ae_io.specs.Counts.{Rose}
 use Rattle.ae_io.specs.Told.{TakesCount}
 use Rattle.ae_seq.specs.ProgramTree.{ProgramTree}
-use Rattle.ae_first.specs.FirstForm.{FirstForm, line_count}
+use Rattle.ae_first.specs.FirstForm.{FirstForm}
+use Rattle.ae_parse.specs.Grammar.{IsProgramText as Reads, bad_line}
 use Rattle.ae_tool.specs.declared.status.Status.{Status}
 use Rattle.ae_tool.specs.declared.status.Status.TheVariants.{Ok, Usage, BadLine, BadWords, LongRun, ReadFault, WriteFault, TooLong, Memory}
 use Rattle.ae_parse.specs.Rows.{bad_row}
 use Rattle.ae_tool.specs.declared.command.Command.{Command}
-use Rattle.ae_tool.specs.declared.command.Command.TheVariants.{Build, Run}
+use Rattle.ae_tool.specs.declared.command.Command.TheVariants.{Check, Eval, Build, Run}
 use Rattle.ae_tool.specs.Commands.{IsCommand, NamesNone}
 use Rattle.ae_tool.specs.Inputs.{IsCut}
 use Rattle.ae_tool.specs.Refusals.{refusal_line}
 use Rattle.ae_tool.specs.ModuleTexts.{IsProgramText}
+use Rattle.ae_tool.specs.Programs.{IsTyped, IsRefusal, main_line}
+use Rattle.ae_tool.specs.CheckTexts.{check_text}
+use Rattle.ae_tool.specs.EvalTexts.{eval_size, IsEvalOf}
 use Rattle.ae_tool.specs.RunTexts.{input_widths, run_size, run_limit, IsRunText}
 
 -- the most bytes of an input
 abbrev pub input_limit : ℕ
 input_limit = 16777216
 
--- no program has this text as its first form, and the line is one of the text or the one behind it
+-- the text is no program that is built today, and the line is its first bad one; where it has none, that of the program function
 pub record IsBadLine (part : List ℕ) (line : ℕ) : Type 0 where
   pub none : (p : ProgramTree) → FirstForm part p → ⊥
-  pub low : 1 ≤ line
-  pub high : line ≤ line_count part + 1
+  pub here : (bad_line part ≡ Some line) ⊎ ((p : ProgramTree) × Reads part p × (line ≡ main_line p))
+
+-- the answer to such a text
+abbrev pub IsBadText : (part : List ℕ) → Status → (text : List ℕ) → Type 0
+IsBadText part (BadLine line) text = IsBadLine part line × (text ≡ refusal_line (BadLine line))
+IsBadText part _ text = ⊥
 
 -- the one program of this text
 pub record IsProgramOf (part : List ℕ) (p : ProgramTree) : Type 0 where
@@ -33,8 +41,7 @@ pub record IsProgramOf (part : List ℕ) (p : ProgramTree) : Type 0 where
 -- what `build 1` answers and writes for a program part
 abbrev pub IsBuilt : (part : List ℕ) → Status → (text : List ℕ) → Type 0
 IsBuilt part Ok text = (p : ProgramTree) × IsProgramOf part p × IsProgramText p text
-IsBuilt part (BadLine line) text = IsBadLine part line × (text ≡ refusal_line (BadLine line))
-IsBuilt part _ text = ⊥
+IsBuilt part status text = IsBadText part status text
 
 -- what `run 1 FILL` answers and writes for a program and rows: the first wrong row comes before a run that is too long
 abbrev pub IsRunOf : (fill : ℕ) (p : ProgramTree) (table : List (List (List ℕ))) → Status → (text : List ℕ) → Type 0
@@ -45,11 +52,23 @@ IsRunOf fill p table (LongRun size) text =
 IsRunOf fill p table _ text = ⊥
 
 abbrev pub IsRun : (fill : ℕ) (part : List ℕ) (table : List (List (List ℕ))) → Status → (text : List ℕ) → Type 0
-IsRun fill part table (BadLine line) text = IsBadLine part line × (text ≡ refusal_line (BadLine line))
+IsRun fill part table (BadLine line) text = IsBadText part (BadLine line) text
 IsRun fill part table status text = (p : ProgramTree) × IsProgramOf part p × IsRunOf fill p table status text
+
+-- what `check` answers and writes
+abbrev pub IsChecked : (part : List ℕ) → Status → (text : List ℕ) → Type 0
+IsChecked part Ok text = (p : ProgramTree) × IsTyped part p × (text ≡ check_text p)
+IsChecked part status text = IsRefusal part status × (text ≡ refusal_line status)
+
+-- what `eval` answers and writes: the program's refusals come before those of the rows
+pub data IsEvaluated (part : List ℕ) (table : List (List (List ℕ))) (status : Status) (text : List ℕ) : Type 0 where
+  Refused : IsRefusal part status → text ≡ refusal_line status → IsEvaluated part table status text
+  Ran : (p : ProgramTree) → IsTyped part p → IsEvalOf p table status text → IsEvaluated part table status text
 
 -- what a job answers and writes for the two parts of an input
 abbrev pub IsReply : Command → (part : List ℕ) (table : List (List (List ℕ))) → Status → (text : List ℕ) → Type 0
+IsReply Check part table status text = IsChecked part status text
+IsReply Eval part table status text = IsEvaluated part table status text
 IsReply Build part table status text = IsBuilt part status text
 IsReply (Run fill) part table status text = IsRun fill part table status text
 
@@ -100,6 +119,8 @@ RefusesWords status old_faults new_faults old_wants new_wants =
 
 -- the job has a result for the two parts of an input
 abbrev pub HasResult : Command → (part : List ℕ) (table : List (List (List ℕ))) → Type 0
+HasResult Check part table = (p : ProgramTree) × IsTyped part p
+HasResult Eval part table = (p : ProgramTree) × IsTyped part p × (bad_row 1 (input_widths p) table ≡ None) × (eval_size p table ≤ run_limit)
 HasResult Build part table = (p : ProgramTree) × FirstForm part p
 HasResult (Run fill) part table = (p : ProgramTree) × FirstForm part p × (bad_row 1 (input_widths p) table ≡ None) × (run_size p table ≤ run_limit)
 

@@ -1,12 +1,13 @@
 // The job `build 1`.
 
-ghost use Rattle.std.specs.Prelude.{◌≡◌, IfOk, string_bytes, Some, List, ℕ};
-ghost use Rattle.ae_seq.specs.ProgramTree.{program_tree};
+ghost use Rattle.std.specs.Prelude.{◌≡◌, ◌<◌, length, IfOk, string_bytes, Some, List, ℕ};
+ghost use Rattle.ae_seq.specs.ProgramTree.{ProgramTree, program_tree};
+ghost use Rattle.ae_tool.specs.Programs.{main_line};
 ghost use Rattle.ae_first.specs.FirstForm.{FirstForm};
 ghost use Rattle.ae_tool.specs.FirstPath.{IsFirstPath, first_cells, first_outlets};
 ghost use Rattle.ae_tool.specs.FirstPrograms.{first_path_of};
 ghost use Rattle.ae_tool.specs.ModuleTexts.{IsModuleText, IsProgramText};
-ghost use Rattle.ae_tool.specs.Outcomes.{IsBuilt};
+ghost use Rattle.ae_tool.specs.Outcomes.{IsBuilt, IsBadText};
 
 use crate::first_path::{FirstPath, first_path};
 use crate::lower_first::lower_first;
@@ -15,6 +16,7 @@ use crate::status::Status;
 use ae_elab::one_run;
 use ae_first::{FirstFault, read_first};
 use ae_netlist::Netlist;
+use ae_parse::{ParseFault, parse};
 use ae_seq::Program;
 use ae_verilog::{Report, module_keeps, write_module};
 use std::alloc::Global;
@@ -72,8 +74,38 @@ fn module_text(alloc: Global, p: &Program) -> Result<String, OutOfMemory>
     netlist_text(alloc, path, &nl)
 }
 
+// The line where a program begins that is not built today: that of its last function.
+fn main_line(p: &Program) -> u32
+    ensures { result ≡ main_line (program_tree p.now) }
+{
+    if p.funcs.is_empty() {
+        0
+    } else {
+        p.funcs[p.funcs.len() - 1].line
+    }
+}
+
+/// The reply to a text that is not built: its first bad line, or where it has none the line of its program function.
+pub fn not_built(alloc: Global, part: &[u8]) -> Result<Reply, OutOfMemory>
+    requires part { length part.now < 4294967295 }
+    requires none { (p : ProgramTree) → FirstForm part.now p → ⊥ }
+    ensures { IfOk result (λ reply. IsBadText part.now reply.status (string_bytes reply.text)) }
+{
+    match parse(alloc, part) {
+        Ok(p) => refused(
+            alloc,
+            Status::BadLine {
+                line: main_line(&p),
+            },
+        ),
+        Err(ParseFault::BadLine { line }) => refused(alloc, Status::BadLine { line }),
+        Err(ParseFault::Memory) => Err(OutOfMemory),
+    }
+}
+
 /// Builds a program part; without memory there is no reply.
 pub fn build(alloc: Global, part: &[u8]) -> Result<Reply, OutOfMemory>
+    requires { length part.now < 4294967295 }
     ensures { IfOk result (λ reply. IsBuilt part.now reply.status (string_bytes reply.text)) }
 {
     match read_first(alloc, part) {
@@ -84,7 +116,7 @@ pub fn build(alloc: Global, part: &[u8]) -> Result<Reply, OutOfMemory>
                 text,
             })
         }
-        Err(FirstFault::BadLine { line }) => refused(alloc, Status::BadLine { line }),
+        Err(FirstFault::BadLine { line: _ }) => not_built(alloc, part),
         Err(FirstFault::Memory) => Err(OutOfMemory),
     }
 }

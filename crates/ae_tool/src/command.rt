@@ -9,6 +9,10 @@ use ae_parse::number;
 /// A job.
 #[derive(Clone, Copy, PartialEq, Eq, Debug)]
 pub enum Command {
+    /// `check`: the type of each line of the program.
+    Check,
+    /// `eval`: the program's results on each row.
+    Eval,
     /// `build 1`: the text of the program's module.
     Build,
     /// `run 1 FILL`: that text, and the lines of the module's run on the rows.
@@ -20,9 +24,22 @@ pub fn command_named(words: &[String]) -> Option<Command>
     ensures { MatchOption result (NamesNone (word_bytes words.now)) (λ c. IsCommand (word_bytes words.now) c) }
 {
     match words {
+        [job] => one_word(job.as_str()),
         [job, slowdown] => build(job.as_str(), slowdown.as_str()),
         [job, slowdown, fill] => run(job.as_str(), slowdown.as_str(), fill.as_str()),
         _ => None,
+    }
+}
+
+fn one_word(job: &str) -> Option<Command>
+    ensures { MatchOption result (NamesNone (job.now ∷ [])) (λ c. IsCommand (job.now ∷ []) c) }
+{
+    if job == "check" {
+        Some(Command::Check)
+    } else if job == "eval" {
+        Some(Command::Eval)
+    } else {
+        None
     }
 }
 

@@ -3,8 +3,12 @@
 
 mod build;
 mod call;
+#[cfg(test)]
+mod check_tests;
+mod check_text;
 mod clocks;
 mod command;
+mod evaluate;
 mod first_path;
 mod lower_first;
 mod refusal;
@@ -14,6 +18,7 @@ mod serve;
 mod status;
 #[cfg(test)]
 mod tests;
+mod typed;
 mod widths;
 
 pub use call::aeth;

@@ -4,13 +4,16 @@ ghost use Rattle.std.specs.Prelude.{◌≡◌, ◌<◌, ◌≤◌, ◌^◌, IfOk
 ghost use Rattle.ae_parse.specs.Rows.{rows};
 ghost use Rattle.ae_tool.specs.Inputs.{IsCut};
 ghost use Rattle.ae_tool.specs.Refusals.{refusal_line};
-ghost use Rattle.ae_tool.specs.Outcomes.{IsReply, IsDone};
+ghost use Rattle.ae_tool.specs.Outcomes.{IsChecked, IsEvaluated, IsReply, IsDone};
 
 use crate::build::build;
+use crate::check_text::check_text;
 use crate::command::Command;
+use crate::evaluate::evaluate;
 use crate::refusal::refusal_line;
 use crate::run::run;
 use crate::status::Status;
+use crate::typed::typed;
 use ae_parse::split;
 use std::alloc::{AllocError, Global};
 
@@ -42,11 +45,42 @@ pub fn refused(alloc: Global, status: Status) -> Result<Reply, OutOfMemory>
 // The two parts of an input: the program, and the text of the rows.
 fn cut(bytes: &[u8]) -> (&[u8], &[u8])
     ensures parts { IsCut bytes.now result.0.now (rows result.1.now) }
-    ensures shorter { length result.1.now ≤ length bytes.now }
+    ensures shorter { (length result.0.now ≤ length bytes.now) × (length result.1.now ≤ length bytes.now) }
 {
     match split(bytes) {
         (end, Some(start)) => (&bytes[..end], &bytes[start..]),
         (end, None) => (&bytes[..end], &bytes[end..]),
+    }
+}
+
+// The text of `check`, or the refusal of a line.
+fn check(alloc: Global, part: &[u8]) -> Result<Reply, OutOfMemory>
+    requires { length part.now < 4294967295 }
+    ensures { IfOk result (λ reply. IsChecked part.now reply.status (string_bytes reply.text)) }
+{
+    match typed(alloc, part) {
+        Ok(p) => {
+            let text = check_text(alloc, &p)?;
+            Ok(Reply {
+                status: Status::Ok,
+                text,
+            })
+        }
+        Err(Status::Memory) => Err(OutOfMemory),
+        Err(status) => refused(alloc, status),
+    }
+}
+
+// The words of the program's results on the rows, or a refusal.
+fn eval(alloc: Global, part: &[u8], rest: &[u8]) -> Result<Reply, OutOfMemory>
+    requires part { length part.now < 4294967295 }
+    requires rest { length rest.now < 2 ^ 32 }
+    ensures { IfOk result (λ reply. IsEvaluated part.now (rows rest.now) reply.status (string_bytes reply.text)) }
+{
+    match typed(alloc, part) {
+        Ok(p) => evaluate(alloc, &p, rest),
+        Err(Status::Memory) => Err(OutOfMemory),
+        Err(status) => refused(alloc, status),
     }
 }
 
@@ -56,10 +90,13 @@ fn answer_parts(
     part: &[u8],
     rest: &[u8],
 ) -> Result<Reply, OutOfMemory>
-    requires { length rest.now < 2 ^ 32 }
+    requires part { length part.now < 4294967295 }
+    requires rest { length rest.now < 2 ^ 32 }
     ensures { IfOk result (λ reply. IsReply command part.now (rows rest.now) reply.status (string_bytes reply.text)) }
 {
     match command {
+        Command::Check => check(alloc, part),
+        Command::Eval => eval(alloc, part, rest),
         Command::Build => build(alloc, part),
         Command::Run { fill } => run(alloc, part, rest, fill),
     }
@@ -67,7 +104,7 @@ fn answer_parts(
 
 /// What the job answers to an input within the limit; without memory there is no reply.
 pub fn answer(alloc: Global, command: Command, bytes: &[u8]) -> Result<Reply, OutOfMemory>
-    requires { length bytes.now < 2 ^ 32 }
+    requires { length bytes.now < 4294967295 }
     ensures { IfOk result (λ reply. IsDone command bytes.now reply.status (string_bytes reply.text)) }
 {
     let (part, rest) = cut(bytes);

@@ -10,7 +10,7 @@ ghost use Rattle.ae_tool.specs.FirstPath.{IsFirstPath, first_cells, first_outlet
 ghost use Rattle.ae_tool.specs.Outcomes.{IsRun, IsRunOf};
 ghost use Rattle.ae_tool.specs.Playing.{ArePathLines, IsPathRun, IsPathRunText, fill_bytes, path_size};
 
-use crate::build::{lowered, netlist_text, path};
+use crate::build::{lowered, netlist_text, not_built, path};
 use crate::clocks::write_clocks;
 use crate::first_path::FirstPath;
 use crate::reply::{OutOfMemory, Reply, refused};
@@ -116,12 +116,13 @@ fn run_program(alloc: Global, p: &Program, rest: &[u8], fill: u64) -> Result<Rep
 
 /// Builds a program part and runs its module on the rows in the rest of the input; without memory there is no reply.
 pub fn run(alloc: Global, part: &[u8], rest: &[u8], fill: u64) -> Result<Reply, OutOfMemory>
-    requires { length rest.now < 2 ^ 32 }
+    requires part { length part.now < 4294967295 }
+    requires rest { length rest.now < 2 ^ 32 }
     ensures { IfOk result (λ reply. IsRun fill part.now (rows rest.now) reply.status (string_bytes reply.text)) }
 {
     match read_first(alloc, part) {
         Ok(p) => run_program(alloc, &p, rest, fill),
-        Err(FirstFault::BadLine { line }) => refused(alloc, Status::BadLine { line }),
+        Err(FirstFault::BadLine { line: _ }) => not_built(alloc, part),
         Err(FirstFault::Memory) => Err(OutOfMemory),
     }
 }

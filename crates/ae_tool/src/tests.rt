@@ -153,15 +153,24 @@ fn refuses_a_run_that_is_too_long(rt: HostRuntime) -> Result<(), Fail> {
 
 #[test]
 fn refuses_other_programs(rt: HostRuntime) -> Result<(), Fail> {
-    for input in [
-        "",
-        "fn inc x:u8\none = const u8 1\ny = sub x one\nend y\nfn main a:[4]u8\nb = map inc a\nend b\n",
-        "fn inc x:u8\none = const u8 1\ny = add x one\nend y\nfn main a:[17]u8\nb = map inc a\nend b\n",
+    for (input, line) in [
+        ("", "refused bad line 1\n"),
+        (
+            "fn inc x:u8\none = const u8 1\ny = sub x one\nend y\nfn main a:[4]u8\nb = map inc a\nend b\n",
+            "refused bad line 5\n",
+        ),
+        (
+            "fn inc x:u8\none = const u8 1\ny = add x one\nend y\nfn main a:[17]u8\nb = map inc a\nend b\n",
+            "refused bad line 5\n",
+        ),
+        (
+            "fn inc x:u8\none = const u8 1\ny = add x two\nend y\nfn main a:[4]u8\nb = map inc a\nend b\n",
+            "refused bad line 3\n",
+        ),
     ] {
         let answer = built(rt.alloc(), input)?;
         assert_eq!(rt; answer.status.number(), 2, "{input}");
-        let begins = answer.text.starts_with(b"refused bad line ".as_slice());
-        assert!(rt; begins, "{input}");
+        assert_eq!(rt; answer.text.as_slice(), line.as_bytes(), "{input}");
     }
     Ok(())
 }

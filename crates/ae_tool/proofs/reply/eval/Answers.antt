@@ -1,0 +1,14 @@
+use Rattle.std.specs.Prelude.{string_bytes}
+use Rattle.std.proofs.lemmas.Result.{IfOk-weaker}
+use Rattle.ae_seq.specs.ProgramTree.{program_tree}
+use Rattle.ae_parse.specs.Rows.{rows}
+use Rattle.ae_tool.specs.declared.reply.Reply.{Reply}
+use Rattle.ae_tool.specs.EvalTexts.{IsEvalOf}
+use Rattle.ae_tool.specs.Outcomes.{IsEvaluated, Ran}
+use Rattle.ae_tool.proofs.reply.eval.Goals as goal
+
+pub returns-in-Ok : goal.returns-in-Ok
+returns-in-Ok c =
+    IfOk-weaker c.evaluate.result (λ (r : Reply). IsEvalOf (program_tree c.in-Ok.p) (rows c.args.rest.now) r.status (string_bytes r.text))
+    (λ (r : Reply). IsEvaluated c.args.part.now (rows c.args.rest.now) r.status (string_bytes r.text))
+    (λ r w. Ran (program_tree c.in-Ok.p) c.in-Ok.ensures.typed w) c.evaluate.ensures
