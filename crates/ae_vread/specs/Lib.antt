@@ -6,3 +6,4 @@ pub mod StmtForms
 pub mod Forms
 pub mod Spells
 pub mod View
+pub mod Scan

@@ -54,3 +54,20 @@ pub enum Sign {
     XnorLeft,
     XnorRight,
 }
+
+/// A token. A name borrows the text.
+#[derive(Clone, Copy, Debug)]
+pub enum Token<'a> {
+    Name(&'a str),
+    Word(Key),
+    /// A reserved word that no rule uses.
+    Unused,
+    /// The text `0` alone.
+    Zero,
+    /// Any other decimal number; one that does not fit is kept as the greatest `u32`.
+    Decimal(u32),
+    /// A sized constant; where its value does not fit its size, or the size is above 64, `fits` is false and both
+    /// numbers are 0.
+    Sized { size: u32, value: u64, fits: bool },
+    Mark(Sign),
+}
