@@ -7,3 +7,12 @@ pub mod Forms
 pub mod Spells
 pub mod View
 pub mod Scan
+pub mod TokenTests
+pub mod Reading
+pub mod ReadView
+pub mod StmtReading
+pub mod ItemReading
+pub mod Places
+pub mod ListView
+pub mod ItemView
+pub mod Refusals

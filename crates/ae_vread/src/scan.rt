@@ -1,6 +1,6 @@
 // The tokens of a text, in one pass.
 
-ghost use Rattle.std.specs.Prelude.{◌≡◌, ◌<◌, ◌^◌, ℕ, List, length, drop, IfSome, IfNone, IfOk};
+ghost use Rattle.std.specs.Prelude.{◌≡◌, ◌<◌, ◌≤◌, ◌^◌, vec_len, ℕ, List, length, drop, IfSome, IfNone, IfOk};
 ghost use Rattle.ae_vread.specs.Tokens.{TokenTree, AreTokens, NoToken, IsBadToken};
 ghost use Rattle.ae_vread.specs.Scan.{token_view, views, TokenAt, FaultIs, GivesTokens, GivesPlace};
 
@@ -60,6 +60,7 @@ fn token_at<'a>(text: &'a [u8], from: usize) -> Option<(Token<'a>, usize)>
 
 fn scan<'a>(alloc: Global, text: &'a [u8]) -> Result<Vec<Token<'a>>, TokenFault>
     requires { length text.now < 2 ^ 32 }
+    ensures few { IfOk result (λ ts. vec_len ts ≤ length text.now) }
     ensures ok { IfOk result (λ ts. AreTokens text.now (views ts.items)) }
     ensures fault { FaultIs text.now result }
 {
@@ -82,6 +83,7 @@ fn scan<'a>(alloc: Global, text: &'a [u8]) -> Result<Vec<Token<'a>>, TokenFault>
 /// that begins there, behind blanks and comments. `BadToken` where there is a byte that is in none of these.
 pub fn tokens<'a>(alloc: Global, text: &'a [u8]) -> Result<Vec<Token<'a>>, TokenFault>
     requires short { length text.now < 2 ^ 32 }
+    ensures few { IfOk result (λ ts. vec_len ts ≤ length text.now) }
     ensures tokens { IfOk result (λ ts. AreTokens text.now (views ts.items)) }
     ensures fault { FaultIs text.now result }
     ensures every_list { (ts : List TokenTree) → AreTokens text.now ts → GivesTokens (λ v. views v.items) ts result }

@@ -1,0 +1,63 @@
+-- One turn of the loops over operators and over parts.
+use Rattle.std.proofs.Common.{◌≡◌, ℕ, zero, suc, ◌+◌, ◌-◌, ◌<◌, ◌≤◌, List, [], ◌∷◌, Bool, true, false, Option, Some, None, Result, refl, sym, ap, ◌∙◌, subst, arith, length}
+use Rattle.ae_vread.specs.Tokens.{TokenTree}
+use Rattle.ae_vread.specs.declared.module.BinOp.{BinOp}
+use Rattle.ae_vread.specs.declared.reading.ReadFault.{ReadFault}
+use Rattle.ae_vread.specs.declared.reading.ReadFault.TheVariants.{Syntax, Memory}
+use Rattle.ae_vread.specs.declared.token.Token.{Token}
+use Rattle.ae_vread.specs.ExprForms.{strength}
+use Rattle.ae_vread.specs.Scan.{views}
+use Rattle.ae_vread.specs.TokenTests.{◌>>=◌}
+use Rattle.ae_vread.specs.Reading.{Found, Reader, Parts, with_part, more_parts, parts, infix_at, joined, after_operator, operators, chosen, joined_at, expression}
+use Rattle.ae_vread.specs.ReadView.{Fails, Gives, Goes}
+
+pub length_views : (ts : List Token) → length (views ts) ≡ length ts
+length_views [] = refl
+length_views (t ∷ ts) = ap suc (length_views ts)
+
+-- the last step of an expression
+pub whole_step : {X : Type 0} (view : X → Found) (r : Result X ReadFault) (b least : ℕ) (ts : List TokenTree) (x : Found) → (b ≡ 0 → ⊥) → joined_at (expression (b - 1)) least ts ≡ Some x → Gives view r (chosen (expression (b - 1)) least x) → Gives view r (expression b least ts)
+whole_step view r zero least ts x some h gives = absurd (some refl)
+whole_step view r (suc d) least ts x some h gives =
+    let less : suc d - 1 ≡ d = omega arith in
+    let inner = subst (λ d. joined_at (expression d) least ts ≡ Some x) less h in
+    subst (Gives view r) (sym (ap (λ o. o >>= chosen (expression d) least) inner)) (subst (λ d. Gives view r (chosen (expression d) least x)) less gives)
+
+-- an operator is in front: its right side is read, and the loop goes on
+one_turn : (read : Reader) (n least : ℕ) (x : Found) (op : BinOp) (ts : List TokenTree) → n < 256 → infix_at least x.rest ≡ Some (op, ts) → operators read (256 - n) least x ≡ (read (strength op + 1) ts >>= joined op x >>= operators read (256 - (n + 1)) least)
+one_turn read n least x op ts below here =
+    ap (λ k. operators read k least x) (let e : 256 - n ≡ suc (256 - (n + 1)) = omega arith in e)
+    ∙ ap (after_operator read (operators read (256 - (n + 1)) least) x) here
+
+pub next_turn : (e : Option Found) (read : Reader) (n least : ℕ) (x y z : Found) (op : BinOp) (s : ℕ) (ts : List TokenTree) → n < 256 → s ≡ strength op → e ≡ operators read (256 - n) least x → infix_at least x.rest ≡ Some (op, ts) → read (s + 1) ts ≡ Some y → joined op x y ≡ Some z → e ≡ operators read (256 - (n + 1)) least z
+next_turn e read n least x y z op s ts below is so_far here right both =
+    so_far ∙ one_turn read n least x op ts below here
+    ∙ ap (λ o. o >>= joined op x >>= operators read (256 - (n + 1)) least) (ap (λ s. read (s + 1) ts) (sym is) ∙ right)
+    ∙ ap (λ o. o >>= operators read (256 - (n + 1)) least) both
+
+pub failed_turn : (fault : ReadFault) (e : Option Found) (read : Reader) (n least : ℕ) (x : Found) (op : BinOp) (s : ℕ) (ts : List TokenTree) → n < 256 → s ≡ strength op → e ≡ operators read (256 - n) least x → infix_at least x.rest ≡ Some (op, ts) → Fails fault (read (s + 1) ts) → Fails fault e
+failed_turn Syntax e read n least x op s ts below is so_far here right =
+    so_far ∙ one_turn read n least x op ts below here
+    ∙ ap (λ o. o >>= joined op x >>= operators read (256 - (n + 1)) least) (ap (λ s. read (s + 1) ts) (sym is) ∙ right)
+failed_turn Memory e read n least x op s ts below is so_far here right = tt
+
+pub last_turn : (e : Option Found) (read : Reader) (n least : ℕ) (x : Found) → 256 ≤ n → e ≡ operators read (256 - n) least x → e ≡ None
+last_turn e read n least x past so_far = so_far ∙ ap (λ k. operators read k least x) (let e : 256 - n ≡ 0 = omega arith in e)
+
+-- a part more
+parts_turn : (read : Reader) (m n : ℕ) (p : Parts) (x : Found) → n < m → read 1 p.rest ≡ Some x → parts read (m - n) p ≡ more_parts (parts read (m - (n + 1))) (with_part p x)
+parts_turn read m n p x below h =
+    ap (λ k. parts read k p) (let e : m - n ≡ suc (m - (n + 1)) = omega arith in e)
+    ∙ ap (λ o. o >>= λ x. more_parts (parts read (m - (n + 1))) (with_part p x)) h
+
+pub parts_fail : (fault : ReadFault) (e : Option Parts) (read : Reader) (m n : ℕ) (p : Parts) (x : Found) → n < m → e ≡ parts read (m - n) p → read 1 p.rest ≡ Some x → ((go_on : Parts → Option Parts) → Fails fault (more_parts go_on (with_part p x))) → Fails fault e
+parts_fail Syntax e read m n p x below so_far h step = so_far ∙ parts_turn read m n p x below h ∙ step (parts read (m - (n + 1)))
+parts_fail Memory e read m n p x below so_far h step = tt
+
+pub parts_end : {X : Type 0} (view : X → Parts) (next : X) (more : Bool) (e : Option Parts) (read : Reader) (m n : ℕ) (p : Parts) (x : Found) → more ≡ false → n < m → e ≡ parts read (m - n) p → read 1 p.rest ≡ Some x → ((go_on : Parts → Option Parts) → Goes view go_on (λ p. p) next more (more_parts go_on (with_part p x))) → e ≡ Some (view next)
+parts_end view next more e read m n p x last below so_far h step =
+    so_far ∙ parts_turn read m n p x below h ∙ subst (λ b. Goes view (parts read (m - (n + 1))) (λ p. p) next b (more_parts (parts read (m - (n + 1))) (with_part p x))) last (step (parts read (m - (n + 1))))
+
+pub parts_next : {X : Type 0} (view : X → Parts) (next : X) (more : Bool) (e : Option Parts) (read : Reader) (m n : ℕ) (p : Parts) (x : Found) → more ≡ true → n < m → e ≡ parts read (m - n) p → read 1 p.rest ≡ Some x → ((go_on : Parts → Option Parts) → Goes view go_on (λ p. p) next more (more_parts go_on (with_part p x))) → e ≡ parts read (m - (n + 1)) (view next)
+parts_next view next more e read m n p x last below so_far h step =
+    so_far ∙ parts_turn read m n p x below h ∙ subst (λ b. Goes view (parts read (m - (n + 1))) (λ p. p) next b (more_parts (parts read (m - (n + 1))) (with_part p x))) last (step (parts read (m - (n + 1))))
