@@ -8,7 +8,7 @@ use Rattle.ae_netlist.specs.declared.cell.Cell.TheVariants.{Const, Op, Reg}
 use Rattle.ae_netlist.specs.declared.cell.SizedCell.{SizedCell}
 use Rattle.ae_netlist.specs.declared.netlist.NetFault.{NetFault}
 use Rattle.ae_netlist.specs.Circuit.{Circuit, IsNet, IsRegister, IsOperation, width_of, main_operand, new_register}
-use Rattle.ae_netlist.specs.Counts.{is_input, is_mul}
+use Rattle.ae_netlist.specs.Counts.{is_input, is_memory, is_mul}
 use Rattle.ae_netlist.specs.Runs.{Carries, InEveryRunFrom}
 use Rattle.ae_netlist.proofs.Gets.{get_pushed, get_set_other}
 use Rattle.ae_netlist.proofs.Growing.{net_width, keeps_connected, extends_length, main_is, width_is}
@@ -69,6 +69,7 @@ connects old new r next w reg e = rw e (record {
   outlets = refl;
   inputs = count_connected is_input old.cells r.0 w next reg refl;
   muls = count_connected is_mul old.cells r.0 w next reg refl;
+  memories = count_connected is_memory old.cells r.0 w next reg refl;
   whole = whole_connected old.cells r.0 w next reg;
 })
 

@@ -10,7 +10,7 @@ use Rattle.ae_netlist.specs.declared.cell.SizedCell.{SizedCell}
 use Rattle.ae_netlist.specs.declared.netlist.NetFault.{NetFault}
 use Rattle.ae_netlist.specs.declared.netlist.NetFault.TheVariants.{Full}
 use Rattle.ae_netlist.specs.Circuit.{Circuit, IsNet, IsFormed, IsRegister, width_of, width_in}
-use Rattle.ae_netlist.specs.Counts.{AreWhole, count_of, is_input, is_mul}
+use Rattle.ae_netlist.specs.Counts.{AreWhole, count_of, is_input, is_memory, is_mul}
 use Rattle.ae_netlist.proofs.Gets.{get_push_cases, get_set_other, get_set_same}
 use Rattle.ae_netlist.proofs.Growing.{net_later, net_width, net_from_take, extends_append, extends_refl, extends_trans}
 use Rattle.ae_netlist.proofs.Counting.{count_push, count_replaced}
@@ -21,6 +21,10 @@ abbrev pub IsLogic : Cell → Type 0
 IsLogic (Mem depth at next enable) = ⊥
 IsLogic (Peek mem at) = ⊥
 IsLogic _ = Unit {0}
+
+logic_only : (cell : Cell) → IsLogic cell → is_memory cell ≡ false
+logic_only (Mem depth at next enable) h = absurd h
+logic_only _ h = refl
 
 -- ---- one more cell
 
@@ -67,6 +71,7 @@ adds_push old new sized formed logic other e = rw e (record {
   };
   cells = omega (arith, length-append old.cells (sized ∷ []));
   muls = count_push (λ x. is_mul x.cell) old.cells sized;
+  memories = count_push (λ x. is_memory x.cell) old.cells sized ∙ (ap (λ b. count_of is_memory old.cells + cond b 1 0) (logic_only sized.cell logic) ∙ omega arith);
   whole = whole_push old.cells sized formed logic;
 })
 
@@ -74,10 +79,10 @@ pub grows_refl : (a : Circuit) → Grows a a
 grows_refl a = record { extends = extends_refl a.cells; limit = refl; outlets = refl; inputs = refl }
 
 pub adds_none : (a : Circuit) → Adds a a 0 0
-adds_none a = record { grows = grows_refl a; cells = omega arith; muls = omega arith; whole = λ h. h }
+adds_none a = record { grows = grows_refl a; cells = omega arith; muls = omega arith; memories = refl; whole = λ h. h }
 
 pub adds_same : (a b : Circuit) (most : ℕ) → b ≡ a → Adds a b most 0
-adds_same a b most e = rw e (record { grows = grows_refl a; cells = omega arith; muls = omega arith; whole = λ h. h })
+adds_same a b most e = rw e (record { grows = grows_refl a; cells = omega arith; muls = omega arith; memories = refl; whole = λ h. h })
 
 -- what was added where nothing is added after a refusal
 pub added : {X : Type 0} (old new : Circuit) (r : Result X NetFault) (sized : SizedCell) → IsFormed old.cells → IsLogic sized.cell → is_input sized.cell ≡ false
@@ -103,12 +108,13 @@ adds_trans p q = record {
   grows = grows_trans p.grows q.grows;
   cells = omega (arith, p.cells, q.cells);
   muls = omega (arith, p.muls, q.muls);
+  memories = q.memories ∙ p.memories;
   whole = λ h. q.whole (p.whole h);
 }
 
 -- with a greater bound
 pub adds_most : {a b : Circuit} {m k : ℕ} (n : ℕ) → m ≤ n → Adds a b m k → Adds a b n k
-adds_most n l p = record { grows = p.grows; cells = omega (arith, p.cells); muls = p.muls; whole = p.whole }
+adds_most n l p = record { grows = p.grows; cells = omega (arith, p.cells); muls = p.muls; memories = p.memories; whole = p.whole }
 
 pub net_added : {a b : Circuit} {m k n w : ℕ} → Adds a b m k → IsNet a.cells n w → IsNet b.cells n w
 net_added p h = net_later p.grows.extends h
@@ -173,6 +179,7 @@ adds_connect {base} {old} {new} {r} p l c = record {
   };
   cells = omega (arith, p.cells, c.cells);
   muls = c.muls ∙ p.muls;
+  memories = c.memories ∙ p.memories;
   whole = λ h. c.whole (p.whole h);
 }
   where

@@ -7,7 +7,7 @@ use Rattle.ae_netlist.specs.declared.cell.SizedCell.{SizedCell}
 use Rattle.ae_netlist.specs.declared.netlist.NetFault.{NetFault}
 use Rattle.ae_netlist.specs.declared.netlist.NetFault.TheVariants.{Full}
 use Rattle.ae_netlist.specs.Circuit.{Circuit, IsNet, Extends, operand}
-use Rattle.ae_netlist.specs.Counts.{AreWhole, count_of, is_input, is_mul}
+use Rattle.ae_netlist.specs.Counts.{AreWhole, count_of, is_input, is_memory, is_mul}
 use Rattle.ae_netlist.specs.Runs.{Clock, word_at, InEveryRunFrom}
 
 -- a netlist that has grown: no cell that was there has changed, nor the limit, and no input and no output was added
@@ -17,11 +17,12 @@ pub record Grows (old new : Circuit) : Type 0 where
   pub outlets : new.outlets ≡ old.outlets
   pub inputs : count_of is_input new.cells ≡ count_of is_input old.cells
 
--- one that has grown by at most so many cells, and by exactly so many that multiply, and in which memories stay whole
+-- one that has grown by at most so many cells, exactly so many of which multiply and none of which is a memory, and in which memories stay whole
 pub record Adds (old new : Circuit) (most products : ℕ) : Type 0 where
   pub grows : Grows old new
   pub cells : length new.cells ≤ length old.cells + most
   pub muls : count_of is_mul new.cells ≡ count_of is_mul old.cells + products
+  pub memories : count_of is_memory new.cells ≡ count_of is_memory old.cells
   pub whole : AreWhole old.cells → AreWhole new.cells
 
 -- the refusal for want of room comes only where the netlist has as many cells as it may
@@ -54,6 +55,7 @@ pub record Connects (old new : Circuit) (r next : ℕ) : Type 0 where
   pub outlets : new.outlets ≡ old.outlets
   pub inputs : count_of is_input new.cells ≡ count_of is_input old.cells
   pub muls : count_of is_mul new.cells ≡ count_of is_mul old.cells
+  pub memories : count_of is_memory new.cells ≡ count_of is_memory old.cells
   pub whole : AreWhole old.cells → AreWhole new.cells
 
 -- net y has the word after that of r: 0 after the last, and else one more

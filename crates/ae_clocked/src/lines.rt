@@ -2,7 +2,7 @@
 
 ghost use Rattle.std.specs.Prelude.{◌≡◌, ◌<◌, ◌≤◌, ◌+◌, ◌^◌, ◌++◌, ◌∷◌, [], ℕ, length, IfOk, OnOk, Some, Err, ◌≢◌, slice_get};
 ghost use Rattle.ae_netlist.specs.Circuit.{IsNet, width_of};
-ghost use Rattle.ae_netlist.specs.Counts.{AreWhole, count_of, is_mul};
+ghost use Rattle.ae_netlist.specs.Counts.{AreWhole, count_of, is_memory, is_mul};
 ghost use Rattle.ae_clocked.specs.Signals.{Adds, Grows, IsFullAt};
 ghost use Rattle.ae_clocked.specs.Phases.{Belongs, KeepsCounters};
 ghost use Rattle.ae_clocked.specs.Delays.{AreDelays, AreTaps, greatest_of, line_cells};
@@ -101,6 +101,7 @@ pub fn line(
     ensures grows { Grows nl.old nl.new }
     ensures cells { length nl.new.cells ≤ length nl.old.cells + line_cells taps.now }
     ensures muls { count_of is_mul nl.new.cells ≡ count_of is_mul nl.old.cells }
+    ensures memories { count_of is_memory nl.new.cells ≡ count_of is_memory nl.old.cells }
     ensures whole { OnOk result (AreWhole nl.old.cells → AreWhole nl.new.cells) }
     ensures full { IsFullAt result nl.new }
     ensures keeps { KeepsCounters clocks.old clocks.new }

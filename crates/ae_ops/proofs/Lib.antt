@@ -1,1 +1,5 @@
 pub mod Lateness
+pub mod SignWords
+pub mod Computing
+pub mod WordBlocks
+pub mod Operands

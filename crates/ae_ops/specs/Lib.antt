@@ -1,2 +1,4 @@
 pub mod Waves
 pub mod Blocks
+pub mod Signs
+pub mod Words

@@ -1,6 +1,6 @@
 // The nets of a value.
 
-ghost use Rattle.std.specs.Prelude.{◌≡◌, ◌<◌, ◌∷◌, [], length, IfOk, Some, slice_get};
+ghost use Rattle.std.specs.Prelude.{◌≡◌, ◌<◌, ◌∷◌, [], length, IfOk, Some, slice_get, Err, ◌≢◌};
 
 use ae_netlist::{NetFault, NetId};
 use std::alloc::Global;
@@ -31,7 +31,8 @@ impl Bundle {
 
     /// A bundle of one net.
     pub fn one(alloc: Global, net: NetId) -> Result<Bundle, NetFault>
-        ensures { IfOk result (λ b. b ≡ net ∷ []) }
+        ensures ok { IfOk result (λ b. b ≡ net ∷ []) }
+        ensures fault { result ≢ Err NetFault.Full }
     {
         let mut nets = Vec::new(alloc);
         match nets.push(net) {

@@ -1,7 +1,7 @@
 // A bundle, some clocks later.
 
 ghost use Rattle.std.specs.Prelude.{◌≡◌, ◌≤◌, ◌+◌, ◌*◌, ◌++◌, ◌∷◌, [], List, ℕ, length, IfOk, OnOk, Err, ◌≢◌};
-ghost use Rattle.ae_netlist.specs.Counts.{AreWhole, count_of, is_mul};
+ghost use Rattle.ae_netlist.specs.Counts.{AreWhole, count_of, is_memory, is_mul};
 ghost use Rattle.ae_clocked.specs.Signals.{Grows, IsFullAt};
 ghost use Rattle.ae_clocked.specs.Phases.{Belongs, KeepsCounters};
 ghost use Rattle.ae_ops.specs.Waves.{AreLate, AreNets, HaveOwnWidths};
@@ -38,6 +38,7 @@ pub fn delay(
     ensures grows { Grows nl.old nl.new }
     ensures cells { length nl.new.cells ≤ length nl.old.cells + length bundle.now * (8 * slack + 4) }
     ensures muls { count_of is_mul nl.new.cells ≡ count_of is_mul nl.old.cells }
+    ensures memories { count_of is_memory nl.new.cells ≡ count_of is_memory nl.old.cells }
     ensures whole { OnOk result (AreWhole nl.old.cells → AreWhole nl.new.cells) }
     ensures full { IsFullAt result nl.new }
     ensures nets { IfOk result (λ late. (widths : List ℕ) → AreNets nl.old.cells widths bundle.now → AreNets nl.new.cells widths late) }

@@ -2,11 +2,14 @@
 #![tactic(auto)]
 
 mod bundle;
+mod compute;
 mod late;
 mod stage;
 #[cfg(test)]
 mod tests;
+mod word;
 
 pub use bundle::Bundle;
 pub use late::delay;
 pub use stage::Stage;
+pub use word::WordStage;

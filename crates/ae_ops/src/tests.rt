@@ -1,8 +1,16 @@
-// A bundle that is delayed.
+// Stages and bundles, stepped clock by clock.
 
-use crate::{Bundle, delay};
-use ae_clocked::{Clocks, constant};
-use ae_netlist::{Cell, NetId, Netlist};
+ghost use Rattle.std.specs.Prelude.{◌≡◌, ◌<◌, IfOk, length};
+ghost use Rattle.ae_word.specs.WordTable.{HasRange, arity_of};
+ghost use Rattle.ae_netlist.specs.Circuit.{IsNet};
+ghost use Rattle.ae_netlist.specs.Counts.{count_of, is_input};
+
+use crate::{Bundle, Stage, WordStage, delay};
+use ae_clocked::{Clocks, constant, delayed, width_at};
+use ae_netlist::{Cell, NetId, Netlist, Port};
+use ae_sim::Sim;
+use ae_word::WordOp;
+use std::alloc::Global;
 use std::test::Fail;
 
 #[test]
@@ -15,5 +23,109 @@ fn a_bundle_is_delayed_by_registers_in_a_row(rt: HostRuntime) -> Result<(), Fail
     assert_eq!(rt; late.nets(), [NetId(2)].as_slice());
     assert!(rt; matches!(nl.cell(NetId(2)), Some(Cell::Reg { next: NetId(1) })));
     assert!(rt; matches!(nl.cell(NetId(1)), Some(Cell::Reg { next: NetId(0) })));
+    Ok(())
+}
+
+/// The word of the one output in the fourth clock.
+fn fourth(alloc: Global, nl: &Netlist) -> Result<u64, Fail>
+    requires inputs { count_of is_input nl.now.cells ≡ 0 }
+    requires output { 0 < length nl.now.outlets }
+{
+    let mut sim = Sim::new(alloc, nl, 99)?;
+    for _clock in 0..4u32 {
+        sim.step(&[]);
+    }
+    Ok(sim.output(0))
+}
+
+/// The word that a stage makes of two words of 8 bits that stay the same.
+fn of_two(alloc: Global, op: WordOp, a: u8, b: u8) -> Result<u64, Fail>
+    requires two { arity_of op ≡ 2 }
+    requires range { HasRange op }
+{
+    let mut nl = Netlist::new(alloc, 64);
+    let rst = constant(&mut nl, 1, 0)?;
+    let mut clocks = Clocks::new(alloc, rst);
+    let left = constant(&mut nl, 8, u64::from(a))?;
+    let right = constant(&mut nl, 8, u64::from(b))?;
+    let ins = [Bundle::one(alloc, left)?, Bundle::one(alloc, right)?];
+    let stage = WordStage::new(op, 8, 1);
+    let out = stage.build(alloc, &mut nl, &mut clocks, &ins, 0)?;
+    nl.add_output(Port::Plain(0), out.nets()[0])?;
+    fourth(alloc, &nl)
+}
+
+/// The same of one word.
+fn of_one(alloc: Global, op: WordOp, a: u8) -> Result<u64, Fail>
+    requires one { arity_of op ≡ 1 }
+    requires range { HasRange op }
+{
+    let mut nl = Netlist::new(alloc, 64);
+    let rst = constant(&mut nl, 1, 0)?;
+    let mut clocks = Clocks::new(alloc, rst);
+    let word = constant(&mut nl, 8, u64::from(a))?;
+    let ins = [Bundle::one(alloc, word)?];
+    let stage = WordStage::new(op, 8, 1);
+    let out = stage.build(alloc, &mut nl, &mut clocks, &ins, 0)?;
+    nl.add_output(Port::Plain(0), out.nets()[0])?;
+    fourth(alloc, &nl)
+}
+
+#[test]
+fn unsigned_operators_read_codes_as_they_are(rt: HostRuntime) -> Result<(), Fail> {
+    assert_eq!(rt; of_two(rt.alloc(), WordOp::Add, 200, 100)?, 44);
+    assert_eq!(rt; of_two(rt.alloc(), WordOp::Sub, 3, 5)?, 254);
+    assert_eq!(rt; of_two(rt.alloc(), WordOp::Mul, 20, 20)?, 144);
+    assert_eq!(rt; of_two(rt.alloc(), WordOp::Lt, 200, 56)?, 0);
+    assert_eq!(rt; of_two(rt.alloc(), WordOp::Min, 200, 56)?, 56);
+    assert_eq!(rt; of_one(rt.alloc(), WordOp::Not, 5)?, 250);
+    assert_eq!(rt; of_one(rt.alloc(), WordOp::Shl(1), 200)?, 144);
+    Ok(())
+}
+
+#[test]
+fn signed_operators_read_codes_as_numbers(rt: HostRuntime) -> Result<(), Fail> {
+    assert_eq!(rt; of_two(rt.alloc(), WordOp::SLt, 200, 56)?, 1);
+    assert_eq!(rt; of_two(rt.alloc(), WordOp::SLt, 127, 128)?, 0);
+    assert_eq!(rt; of_two(rt.alloc(), WordOp::SLt, 255, 0)?, 1);
+    assert_eq!(rt; of_two(rt.alloc(), WordOp::SMin, 200, 56)?, 200);
+    assert_eq!(rt; of_two(rt.alloc(), WordOp::SMin, 255, 128)?, 128);
+    assert_eq!(rt; of_two(rt.alloc(), WordOp::SMax, 200, 56)?, 56);
+    assert_eq!(rt; of_two(rt.alloc(), WordOp::SMax, 255, 128)?, 255);
+    assert_eq!(rt; of_one(rt.alloc(), WordOp::Sar(1), 200)?, 228);
+    assert_eq!(rt; of_one(rt.alloc(), WordOp::Sar(2), 9)?, 2);
+    assert_eq!(rt; of_one(rt.alloc(), WordOp::Sar(9), 128)?, 255);
+    assert_eq!(rt; of_one(rt.alloc(), WordOp::SCast(16), 200)?, 65480);
+    assert_eq!(rt; of_one(rt.alloc(), WordOp::SCast(4), 200)?, 8);
+    assert_eq!(rt; of_one(rt.alloc(), WordOp::SCast(16), 100)?, 100);
+    Ok(())
+}
+
+#[test]
+fn a_product_comes_two_clocks_later(rt: HostRuntime) -> Result<(), Fail> {
+    let mut nl = Netlist::new(rt.alloc(), 64);
+    let off = constant(&mut nl, 1, 0)?;
+    let rst = delayed(&mut nl, off, 1)?;
+    let mut clocks = Clocks::new(rt.alloc(), rst);
+    let count = clocks.phase(&mut nl, 16, 0)?;
+    let width = width_at(&nl, count);
+    let ins = [
+        Bundle::one(rt.alloc(), count)?,
+        Bundle::one(rt.alloc(), count)?,
+    ];
+    let stage = WordStage::new(WordOp::Mul, width, 1);
+    let out = stage.build(rt.alloc(), &mut nl, &mut clocks, &ins, 0)?;
+    nl.add_output(Port::Plain(0), out.nets()[0])?;
+    let mut sim = Sim::new(rt.alloc(), &nl, u64::MAX)?;
+    let mut seen = Vec::new(rt.alloc());
+    for _clock in 0..8u32 {
+        sim.step(&[]);
+        seen.push(sim.output(0))?;
+    }
+    assert_eq!(rt; seen.len(), 8);
+    assert_eq!(rt;
+        [seen[3], seen[4], seen[5], seen[6], seen[7]],
+        [0, 1, 4, 9, 0]
+    );
     Ok(())
 }

@@ -32,6 +32,7 @@ loop-net-preserved c =
       grows = grows_trans was.grows more.grows;
       cells = omega (arith, was.cells, more.cells, line_one c.args.slack);
       muls = omega (arith, was.muls, more.muls);
+      memories = omega (arith, was.memories, more.memories);
       whole = λ h. more.whole (was.whole h);
       taps = rw kept
           (tapping_more _ _ _ _ _ _ _ _ _ _ c.tap.result more.grows.extends was.taps (there c.nets-nets.result.now k c.loop-net-test.true)

@@ -1,0 +1,30 @@
+-- Half of all codes added to both, and the comparison of the sums.
+use Rattle.std.proofs.Common.{◌∙◌, arith}
+use Rattle.ae_netlist.proofs.Carried.{carries_later}
+use Rattle.ae_clocked.proofs.Adding.{net_added}
+use Rattle.ae_clocked.proofs.Added.{back, grows_length}
+use Rattle.ae_ops.proofs.Computing.{held_fits}
+use Rattle.ae_ops.proofs.SignWords.{half_fits, raised_less}
+use Rattle.ae_ops.proofs.compute.less_signed.Goals as goal
+
+pub constant-requires-clause-fits : goal.constant-requires-clause-fits
+constant-requires-clause-fits c = rw c.half.ensures (half_fits c.args.width c.requires.low)
+
+pub returns-clause-words : goal.returns-clause-words
+returns-clause-words c = λ all k4 run is t l.
+    let g2 = c.in_ok-left.ensures.adds.grows in
+    let g3 = c.in_ok-right.ensures.adds.grows in
+    let g4 = c.in_ok-below.ensures.adds.grows in
+    let l1 = grows_length c.in_ok-middle.ensures.adds.grows in
+    let l2 = grows_length g2 in
+    let l3 = grows_length g3 in
+    let k3 = back g4 k4 in
+    let k2 = back g3 k3 in
+    let k1 = back g2 k2 in
+    raised_less c.args.width _ _ 0 _ _ _ _ c.requires.low
+    (held_fits all run t c.args.a.0 c.args.width is l (k1.nets _ _ (net_added c.in_ok-middle.ensures.adds c.requires.left)))
+    (held_fits all run t c.args.b.0 c.args.width is l (k1.nets _ _ (net_added c.in_ok-middle.ensures.adds c.requires.right)))
+    (c.in_ok-middle.ensures.words all k1 run is t l ∙ c.half.ensures)
+    (c.in_ok-left.ensures.words all (carries_later _ _ l1 k2) run is t l)
+    (c.in_ok-right.ensures.words all (carries_later _ _ (omega arith) k3) run is t l)
+    (c.in_ok-below.ensures.words all (carries_later _ _ (omega arith) k4) run is t l)

@@ -1,0 +1,14 @@
+use Rattle.ae_clocked.proofs.Adding.{adds_trans, net_added}
+use Rattle.ae_ops.proofs.Operands.{begins, made_net, two_bundles}
+use Rattle.ae_ops.proofs.tests.of_two.Goals as goal
+
+pub build-requires-clause-belongs : goal.build-requires-clause-belongs
+build-requires-clause-belongs c = begins _ _ _ c.new-clocks.ensures (net_added (adds_trans c.in_ok-left.ensures.adds c.in_ok-right.ensures.adds) c.in_ok-rst.ensures.net)
+
+pub build-requires-clause-bundles : goal.build-requires-clause-bundles
+build-requires-clause-bundles c =
+    rw c.new-stage.ensures
+    (two_bundles _ c.args.op 1 8 _ _ _ _ c.requires.two c.in_ok-one.ensures.ok c.in_ok-one-2.ensures.ok (net_added c.in_ok-right.ensures.adds c.in_ok-left.ensures.net) c.in_ok-right.ensures.net)
+
+pub add_output-requires-clause-net : goal.add_output-requires-clause-net
+add_output-requires-clause-net c = made_net _ c.new-stage.result.period _ c.in_ok-out.out _ c.nets.ensures c.in_ok-out.ensures.bundle

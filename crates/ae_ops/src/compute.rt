@@ -1,0 +1,158 @@
+// The cells of one operator, on words of one clock.
+
+ghost use Rattle.std.specs.Prelude.{◌≡◌, ◌<◌, ◌≤◌, ◌-◌, ◌^◌, ℕ, ◌∷◌, [], length, false, if◌then◌else◌, IfOk, OnOk, OnErr};
+ghost use Rattle.ae_word.specs.WordTable.{HasRange, arity_of, is_signed, result_width_of};
+ghost use Rattle.ae_netlist.specs.Circuit.{IsNet, OperandsAre};
+ghost use Rattle.ae_netlist.specs.Counts.{is_product};
+ghost use Rattle.ae_netlist.specs.Runs.{InEveryRunFrom};
+ghost use Rattle.ae_clocked.specs.Signals.{Adds, IsFullAt, IsResult};
+ghost use Rattle.ae_ops.specs.Signs.{IsBySign, IsComplemented};
+
+use ae_clocked::{choose, constant, less, operate, sum};
+use ae_netlist::{NetFault, NetId, Netlist};
+use ae_word::{WordOp, result_width};
+
+/// Adds the result of an operator on words of one clock. One that reads its operands as signed is made of others.
+pub fn compute(
+    nl: &mut Netlist,
+    op: WordOp,
+    args: [NetId; 3],
+    width: u32,
+) -> Result<NetId, NetFault>
+    requires low { 1 ≤ width }
+    requires high { width ≤ 64 }
+    requires range { HasRange op }
+    requires operands { OperandsAre op (IsNet nl.old.cells) args width }
+    ensures adds { OnOk result (Adds nl.old nl.new 8 (if is_product op then 1 else 0)) }
+    ensures err { OnErr result (Adds nl.old nl.new 8 0) }
+    ensures full { IsFullAt result nl.new }
+    ensures net { IfOk result (λ y. IsNet nl.new.cells y.0 (result_width_of op width)) }
+    ensures words { IfOk result (λ y. InEveryRunFrom (length nl.old.cells) nl.new.cells (λ run. IsResult run y.0 op width args)) }
+{
+    match op {
+        WordOp::SLt => less_signed(nl, args[0], args[1], width),
+        WordOp::SMin => least_signed(nl, args[0], args[1], width),
+        WordOp::SMax => greatest_signed(nl, args[0], args[1], width),
+        WordOp::Sar(k) => by_sign(nl, args[0], WordOp::Shr(k), width),
+        WordOp::SCast(v) => by_sign(nl, args[0], WordOp::Cast(v), width),
+        _ => operate(nl, op, args, result_width(op, width)),
+    }
+}
+
+/// The least code of a number below 0, or half of all codes.
+fn half(width: u32) -> u64
+    requires low { 1 ≤ width }
+    requires high { width ≤ 64 }
+    ensures { result ≡ 2 ^ (width - 1) }
+{
+    1 << (width - 1)
+}
+
+/// Whether the signed word of `a` is below that of `b`: with half of all codes added to both, their codes stand in the
+/// order of the numbers.
+fn less_signed(nl: &mut Netlist, a: NetId, b: NetId, width: u32) -> Result<NetId, NetFault>
+    requires low { 1 ≤ width }
+    requires high { width ≤ 64 }
+    requires left { IsNet nl.old.cells a.0 width }
+    requires right { IsNet nl.old.cells b.0 width }
+    ensures adds { Adds nl.old nl.new 4 0 }
+    ensures full { IsFullAt result nl.new }
+    ensures net { IfOk result (λ y. IsNet nl.new.cells y.0 1) }
+    ensures words { IfOk result (λ y. InEveryRunFrom (length nl.old.cells) nl.new.cells (λ run. IsResult run y.0 WordOp.SLt width (a ∷ b ∷ a ∷ []))) }
+{
+    let middle = constant(nl, width, half(width))?;
+    let left = sum(nl, a, middle, width)?;
+    let right = sum(nl, b, middle, width)?;
+    let below = less(nl, left, right, width)?;
+    Ok(below)
+}
+
+fn least_signed(nl: &mut Netlist, a: NetId, b: NetId, width: u32) -> Result<NetId, NetFault>
+    requires low { 1 ≤ width }
+    requires high { width ≤ 64 }
+    requires left { IsNet nl.old.cells a.0 width }
+    requires right { IsNet nl.old.cells b.0 width }
+    ensures adds { Adds nl.old nl.new 5 0 }
+    ensures full { IsFullAt result nl.new }
+    ensures net { IfOk result (λ y. IsNet nl.new.cells y.0 width) }
+    ensures words { IfOk result (λ y. InEveryRunFrom (length nl.old.cells) nl.new.cells (λ run. IsResult run y.0 WordOp.SMin width (a ∷ b ∷ a ∷ []))) }
+{
+    let turned = less_signed(nl, b, a, width)?;
+    let least = choose(nl, turned, b, a, width)?;
+    Ok(least)
+}
+
+fn greatest_signed(nl: &mut Netlist, a: NetId, b: NetId, width: u32) -> Result<NetId, NetFault>
+    requires low { 1 ≤ width }
+    requires high { width ≤ 64 }
+    requires left { IsNet nl.old.cells a.0 width }
+    requires right { IsNet nl.old.cells b.0 width }
+    ensures adds { Adds nl.old nl.new 5 0 }
+    ensures full { IsFullAt result nl.new }
+    ensures net { IfOk result (λ y. IsNet nl.new.cells y.0 width) }
+    ensures words { IfOk result (λ y. InEveryRunFrom (length nl.old.cells) nl.new.cells (λ run. IsResult run y.0 WordOp.SMax width (a ∷ b ∷ a ∷ []))) }
+{
+    let turned = less_signed(nl, b, a, width)?;
+    let greatest = choose(nl, turned, a, b, width)?;
+    Ok(greatest)
+}
+
+/// Adds an operator on one word, of no product.
+fn on_one(nl: &mut Netlist, op: WordOp, a: NetId, width: u32) -> Result<NetId, NetFault>
+    requires low { 1 ≤ result_width_of op width }
+    requires high { result_width_of op width ≤ 64 }
+    requires net { IsNet nl.old.cells a.0 width }
+    requires one { arity_of op ≡ 1 }
+    requires unsigned { is_signed op ≡ false }
+    requires range { HasRange op }
+    ensures adds { Adds nl.old nl.new 1 0 }
+    ensures full { IsFullAt result nl.new }
+    ensures net { IfOk result (λ y. IsNet nl.new.cells y.0 (result_width_of op width)) }
+    ensures words { IfOk result (λ y. InEveryRunFrom (length nl.old.cells) nl.new.cells (λ run. IsResult run y.0 op width (a ∷ a ∷ a ∷ []))) }
+{
+    operate(nl, op, [a, a, a], result_width(op, width))
+}
+
+/// An operator on the complement of a word, and the complement of that.
+fn complemented(nl: &mut Netlist, a: NetId, op: WordOp, width: u32) -> Result<NetId, NetFault>
+    requires low { 1 ≤ width }
+    requires high { width ≤ 64 }
+    requires to_low { 1 ≤ result_width_of op width }
+    requires to_high { result_width_of op width ≤ 64 }
+    requires net { IsNet nl.old.cells a.0 width }
+    requires one { arity_of op ≡ 1 }
+    requires unsigned { is_signed op ≡ false }
+    requires range { HasRange op }
+    ensures adds { Adds nl.old nl.new 3 0 }
+    ensures full { IsFullAt result nl.new }
+    ensures net { IfOk result (λ y. IsNet nl.new.cells y.0 (result_width_of op width)) }
+    ensures words { IfOk result (λ y. InEveryRunFrom (length nl.old.cells) nl.new.cells (λ run. IsComplemented run y.0 op width a.0)) }
+{
+    let turned = on_one(nl, WordOp::Not, a, width)?;
+    let made = on_one(nl, op, turned, width)?;
+    let back = on_one(nl, WordOp::Not, made, result_width(op, width))?;
+    Ok(back)
+}
+
+/// An operator on one word: on a code of a number below 0 the complement of its result on the complement.
+fn by_sign(nl: &mut Netlist, a: NetId, op: WordOp, width: u32) -> Result<NetId, NetFault>
+    requires low { 1 ≤ width }
+    requires high { width ≤ 64 }
+    requires to_low { 1 ≤ result_width_of op width }
+    requires to_high { result_width_of op width ≤ 64 }
+    requires net { IsNet nl.old.cells a.0 width }
+    requires one { arity_of op ≡ 1 }
+    requires unsigned { is_signed op ≡ false }
+    requires range { HasRange op }
+    ensures adds { Adds nl.old nl.new 7 0 }
+    ensures full { IsFullAt result nl.new }
+    ensures net { IfOk result (λ y. IsNet nl.new.cells y.0 (result_width_of op width)) }
+    ensures words { IfOk result (λ y. InEveryRunFrom (length nl.old.cells) nl.new.cells (λ run. IsBySign run y.0 op width a.0)) }
+{
+    let middle = constant(nl, width, half(width))?;
+    let positive = less(nl, a, middle, width)?;
+    let made = on_one(nl, op, a, width)?;
+    let turned = complemented(nl, a, op, width)?;
+    let chosen = choose(nl, positive, made, turned, result_width(op, width))?;
+    Ok(chosen)
+}
