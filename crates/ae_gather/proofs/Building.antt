@@ -1,0 +1,175 @@
+-- Lines and columns, one more at a time.
+use Rattle.std.proofs.Common.{sum_by, zero-add, ℕ, ◌≡◌, ◌+◌, ◌-◌, ◌<◌, ◌≤◌, ◌^◌, inl, inr, Bool, true, false, if◌then◌else◌, List, ◌++◌, ◌∷◌, [], length, take, Some, slice_get, get_or, arith, refl, sym, ap, ◌∙◌}
+use Rattle.std.proofs.lemmas.List.Sums.{sum_by-append, sum_by-take-le}
+use Rattle.std.proofs.lemmas.List.{take_more, take_all, length_push, length-take-le}
+use Rattle.std.proofs.lemmas.Option.{slice_get_within, slice_get-get_or, get_or_from_slice_get}
+use Rattle.ae_netlist.specs.declared.cell.NetId.{NetId}
+use Rattle.ae_netlist.specs.declared.cell.SizedCell.{SizedCell}
+use Rattle.ae_netlist.specs.Circuit.{IsNet, Extends}
+use Rattle.ae_netlist.proofs.Gets.{get_push_cases}
+use Rattle.ae_netlist.proofs.Growing.{net_later, net_width}
+use Rattle.ae_clocked.specs.Delays.{AreTaps}
+use Rattle.ae_clocked.specs.declared.clocks.Phase.{Phase}
+use Rattle.ae_clocked.specs.Phases.{Kept, KeepsCounters, kept_at, same_phase}
+use Rattle.ae_clocked.proofs.Belonging.{same_is}
+use Rattle.ae_gather.specs.declared.trips.Source.{Source}
+use Rattle.ae_gather.specs.declared.trips.Source.TheVariants.{Place, Fixed}
+use Rattle.ae_gather.specs.declared.trips.Trip.{Trip}
+use Rattle.ae_gather.specs.declared.trips.Step.{Step}
+use Rattle.ae_gather.specs.Plans.{AreUsed, choice_in, choice_of, choice_from, HasPlace, IsPlan, AreWithin}
+use Rattle.ae_gather.specs.Columns.{net_of, IsColumn, IsReady, AreReady}
+use Rattle.ae_gather.specs.Laws.{AreLines, AreColumns, AreFitting, FitsColumn}
+use Rattle.ae_gather.proofs.Choosing.{tap_grows, column_grows}
+
+pub taps_grow : {a b : List SizedCell} {rst w x : ℕ} {taps : List ℕ} {nets : List NetId} → Extends a b → AreTaps a rst w x taps nets → AreTaps b rst w x taps nets
+taps_grow g h = record { long = h.long; each = λ k d y f t. tap_grows g (h.each k d y f t) }
+
+pub lines_grow : (a b : List SizedCell) (rst : ℕ) (ins : List NetId) (ages : List (List ℕ)) (lines : List (List NetId)) → Extends a b → AreLines a rst ins ages lines → AreLines b rst ins ages lines
+lines_grow a b rst ins ages lines g h = record {
+  long = h.long;
+  each = λ q all nets f t. (let l = h.each q all nets f t in record { width = l.width; net = net_later g l.net; taps = taps_grow g l.taps });
+}
+
+pub columns_grow : (a b : List SizedCell) (rst phase : ℕ) (ins : List NetId) (widths : List ℕ) (columns : List (List Step)) (out : List NetId) → Extends a b → AreColumns a rst phase ins widths columns out → AreColumns b rst phase ins widths columns out
+columns_grow a b rst phase ins widths columns out g h = record {
+  long = h.long;
+  each = λ q w steps y f t u. column_grows a b rst w phase ins (λ p. choice_in p steps) y.0 g (h.each q w steps y f t u);
+}
+
+take_push : {X : Type 0} (xs : List X) (i : ℕ) (x : X) → slice_get xs i ≡ Some x → take (i + 1) xs ≡ take i xs ++ x ∷ []
+take_push xs i x found = take_more xs i x (slice_get_within xs i x found) ∙ ap (λ s. take i xs ++ s ∷ []) (get_or_from_slice_get xs i x x found)
+
+take_length : {X : Type 0} (xs : List X) (i : ℕ) (x : X) → slice_get xs i ≡ Some x → length (take i xs) ≡ i
+take_length xs i x found = let l : i < length xs = slice_get_within xs i x found in length-take-le i xs (omega arith)
+
+pub lines_none : (cells : List SizedCell) (rst : ℕ) (ins : List NetId) → AreLines cells rst ins [] []
+lines_none cells rst ins = record { long = refl; each = λ q all nets f t. (let l : q < 0 = slice_get_within [] q all f in absurd (omega arith)) }
+
+pub lines_more : (a b : List SizedCell) (rst w x i : ℕ) (ins : List NetId) (ages : List (List ℕ)) (lines : List (List NetId)) (all : List ℕ) (nets : List NetId) → Extends a b → AreLines a rst ins (take i ages) lines
+    → slice_get ages i ≡ Some all → x ≡ net_of ins i → IsNet a x w → AreTaps b rst w x all nets → AreLines b rst ins (take (i + 1) ages) (lines ++ nets ∷ [])
+lines_more a b rst w x i ins ages lines all nets g h found is net taps =
+    let n : length (take i ages) ≡ i = take_length ages i all found in
+    let m : length lines ≡ i = h.long ∙ n in
+    rw (take_push ages i all found) (record {
+      long = length_push lines nets ∙ ap (λ k. k + 1) h.long ∙ sym (length_push (take i ages) all);
+      each = λ q these those f t. elim (get_push_cases (take i ages) all q these f) [
+        | inl v ↦ elim (get_push_cases lines nets q those t) [
+          | inl u ↦ (let l = h.each q these those v.0 u.0 in record { width = l.width; net = net_later g l.net; taps = taps_grow g l.taps })
+          | inr u ↦ (let lt : q < length (take i ages) = v.1 in let at : q ≡ length lines = u.0 in absurd (omega arith))
+        ]
+        | inr v ↦ elim (get_push_cases lines nets q those t) [
+          | inl u ↦ (let at : q ≡ length (take i ages) = v.0 in let lt : q < length lines = u.1 in absurd (omega arith))
+          | inr u ↦
+              let here : q ≡ i = v.0 ∙ n in
+              let same : net_of ins q ≡ x = ap (net_of ins) here ∙ sym is in
+              rw (same, ← v.1, ← u.1) (record { width = w; net = net_later g net; taps = taps })
+        ]
+      ];
+    })
+
+pub columns_none : (cells : List SizedCell) (rst phase : ℕ) (ins : List NetId) (widths : List ℕ) → AreColumns cells rst phase ins widths [] []
+columns_none cells rst phase ins widths = record { long = refl; each = λ q w steps y f t u. (let l : q < 0 = slice_get_within [] q steps f in absurd (omega arith)) }
+
+pub columns_more : (a b : List SizedCell) (rst phase i v : ℕ) (ins : List NetId) (widths : List ℕ) (columns : List (List Step)) (out : List NetId) (all : List Step) (net : NetId) → Extends a b → AreColumns a rst phase ins widths (take i columns) out
+    → slice_get columns i ≡ Some all → slice_get widths i ≡ Some v → IsColumn b rst v phase ins (λ p. choice_in p all) net.0 → AreColumns b rst phase ins widths (take (i + 1) columns) (out ++ net ∷ [])
+columns_more a b rst phase i v ins widths columns out all net g h found wide new =
+    let n : length (take i columns) ≡ i = take_length columns i all found in
+    let m : length out ≡ i = h.long ∙ n in
+    rw (take_push columns i all found) (record {
+      long = length_push out net ∙ ap (λ k. k + 1) h.long ∙ sym (length_push (take i columns) all);
+      each = λ q w these y f t u. elim (get_push_cases (take i columns) all q these f) [
+        | inl d ↦ elim (get_push_cases out net q y u) [
+          | inl e ↦ column_grows a b rst w phase ins (λ p. choice_in p these) y.0 g (h.each q w these y d.0 t e.0)
+          | inr e ↦ (let lt : q < length (take i columns) = d.1 in let at : q ≡ length out = e.0 in absurd (omega arith))
+        ]
+        | inr d ↦ elim (get_push_cases out net q y u) [
+          | inl e ↦ (let at : q ≡ length (take i columns) = d.0 in let lt : q < length out = e.1 in absurd (omega arith))
+          | inr e ↦
+              let here : q ≡ i = d.0 ∙ n in
+              let f2 : slice_get widths i ≡ Some w = rw here at t in
+              let same : v ≡ w = cc in
+              rw (← same, ← d.1, ← e.1) new
+        ]
+      ];
+    })
+
+pub lines_whole : (cells : List SizedCell) (rst i : ℕ) (ins : List NetId) (ages : List (List ℕ)) (lines : List (List NetId)) → length ages ≤ i → AreLines cells rst ins (take i ages) lines → AreLines cells rst ins ages lines
+lines_whole cells rst i ins ages lines l h = rw (take_all i ages l) at h
+
+pub columns_whole : (cells : List SizedCell) (rst phase i : ℕ) (ins : List NetId) (widths : List ℕ) (columns : List (List Step)) (out : List NetId) → length columns ≤ i → AreColumns cells rst phase ins widths (take i columns) out → AreColumns cells rst phase ins widths columns out
+columns_whole cells rst phase i ins widths columns out l h = rw (take_all i columns l) at h
+
+-- ---- a planned step can be built
+
+step_ready : (cells : List SizedCell) (rst w : ℕ) (ins : List NetId) (ages : List (List ℕ)) (lines : List (List NetId)) (d c tap : ℕ) (source : Source) → AreLines cells rst ins ages lines → FitsColumn cells ins w source → HasPlace ages tap (choice_from d c source)
+    → IsReady cells rst w ins lines tap (choice_from d c source)
+step_ready cells rst w ins ages lines d c tap (Place k column) made fits place =
+    let in_ages : column < length ages = slice_get_within ages column place.0 place.1 in
+    let nets : List NetId = get_or lines column [] in
+    let there : slice_get lines column ≡ Some nets = slice_get-get_or lines column [] (let l : length lines ≡ length ages = made.long in omega arith) in
+    let h = made.each column place.0 nets place.1 there in
+    let inside : tap < length place.0 = slice_get_within place.0 tap (c + d - k) place.2 in
+    let none : NetId = record { 0 = 0 } in
+    let y : NetId = get_or nets tap none in
+    let found : slice_get nets tap ≡ Some y = slice_get-get_or nets tap none (let l : length nets ≡ length place.0 = h.taps.long in omega arith) in
+    let same : h.width ≡ w = sym (net_width h.net) ∙ net_width fits in
+    record { nets = nets; y = y; line = there; found = found; taps = rw same at (h.taps.each tap (c + d - k) y place.2 found) }
+step_ready cells rst w ins ages lines d c tap (Fixed v) made fits place = fits
+
+pub steps_ready : (cells : List SizedCell) (rst w q phases period d in_count out_count : ℕ) (ins : List NetId) (widths : List ℕ) (trips : List Trip) (ages : List (List ℕ)) (lines : List (List NetId)) (columns : List (List Step)) (steps : List Step)
+    → AreLines cells rst ins ages lines → AreFitting cells ins widths trips → AreWithin period d in_count out_count trips → period ≤ 2 ^ phases → IsPlan d trips ages columns
+    → slice_get columns q ≡ Some steps → slice_get widths q ≡ Some w → AreReady cells rst w phases ins lines steps
+steps_ready cells rst w q phases period d in_count out_count ins widths trips ages lines columns steps made fitting within enough plan there wide = record {
+  low = fitting.low q w wide;
+  high = fitting.high q w wide;
+  ready = λ k step found.
+      let o = plan.from q k steps step there found in
+      let wide_at : slice_get widths o.1.column ≡ Some w = rw o.3 wide in
+      let place : HasPlace ages step.tap (choice_of d o.1) = rw o.5 at (plan.taps q k steps step there found) in
+      rw o.5 (step_ready cells rst w ins ages lines d o.1.clock step.tap o.1.source made (fitting.fits o.0 w o.1 o.2 wide_at) place);
+  within = λ k step found.
+      let o = plan.from q k steps step there found in
+      let l : o.1.clock < period = within.clock o.0 o.1 o.2 in
+      rw o.4 (omega arith);
+}
+
+pub fitting_grows : (a b : List SizedCell) (ins : List NetId) (widths : List ℕ) (trips : List Trip) → Extends a b → AreFitting a ins widths trips → AreFitting b ins widths trips
+fitting_grows a b ins widths trips g h = record { low = h.low; high = h.high; fits = λ n w trip f t. each w trip.source (h.fits n w trip f t) }
+  where
+    each : (w : ℕ) (source : Source) → FitsColumn a ins w source → FitsColumn b ins w source
+    each w (Place k column) h = net_later g h
+    each w (Fixed v) h = h
+
+-- ---- sums of what is built
+
+pub sum_next : {X : Type 0} (f : X → ℕ) (xs : List X) (i : ℕ) (x : X) → slice_get xs i ≡ Some x → sum_by f (take (i + 1) xs) ≡ sum_by f (take i xs) + f x
+sum_next f xs i x found = ap (sum_by f) (take_push xs i x found) ∙ sum_by-append f (take i xs) (x ∷ []) ∙ ap (λ n. sum_by f (take i xs) + n) (zero-add (f x))
+
+pub sum_part : {X : Type 0} (f : X → ℕ) (xs : List X) (i : ℕ) → sum_by f (take i xs) ≤ sum_by f xs
+sum_part f xs i = sum_by-take-le f xs i
+
+pub lines_begin : (cells : List SizedCell) (rst : ℕ) (ins : List NetId) (lines : List (List NetId)) → lines ≡ [] → AreLines cells rst ins [] lines
+lines_begin cells rst ins lines e = rw e (lines_none cells rst ins)
+
+pub columns_begin : (cells : List SizedCell) (rst phase : ℕ) (ins : List NetId) (widths : List ℕ) (out : List NetId) → out ≡ [] → AreColumns cells rst phase ins widths [] out
+columns_begin cells rst phase ins widths out e = rw e (columns_none cells rst phase ins widths)
+
+-- each column has a step, where each has a trip
+pub begun_of : (d outs : ℕ) (trips : List Trip) (lines : List (List ℕ)) (columns : List (List Step)) → IsPlan d trips lines columns → AreUsed outs trips → length columns ≡ outs
+    → (q : ℕ) (steps : List Step) → slice_get columns q ≡ Some steps → 1 ≤ length steps
+begun_of d outs trips lines columns plan used long q steps found =
+    let l : q < length columns = slice_get_within columns q steps found in
+    let u = used.each q (omega arith) in
+    plan.some u.0 u.1 steps u.2 (rw u.3 found)
+
+-- the counters go on as one more is made
+pub phase_keeps : (old new : Kept) (p : Phase) (net : NetId) → new.rst ≡ old.rst → ((q : Phase) → kept_at new q ≡ (if same_phase p q then Some net else kept_at old q))
+    → ((n : NetId) → kept_at old p ≡ Some n → new ≡ old) → KeepsCounters old new
+phase_keeps old new p net rst keeps again = record { rst = rst; counters = λ q n found. by q n (same_phase p q) refl found }
+  where
+    by : (q : Phase) (n : NetId) (b : Bool) → same_phase p q ≡ b → kept_at old q ≡ Some n → kept_at new q ≡ Some n
+    by q n true s found =
+        let e : p ≡ q = same_is p q s in
+        let at : kept_at old p ≡ Some n = rw e found in
+        rw (again n at) found
+    by q n false s found = keeps q ∙ rw s found

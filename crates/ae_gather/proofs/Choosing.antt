@@ -1,0 +1,147 @@
+-- A source, and a choice by phase between an earlier net and a source.
+use Rattle.std.proofs.Common.{ℕ, ◌≡◌, ◌+◌, ◌<◌, ◌≤◌, ◌==◌, if◌then◌else◌, Bool, true, false, nat_lt, List, ◌∷◌, ◌++◌, [], length, take, Some, slice_get, Result, Ok, Err, IfOk, arith, refl, sym, ap, ◌∙◌}
+use Rattle.std.proofs.lemmas.List.Sums.{fold-append}
+use Rattle.std.proofs.lemmas.List.{take_more, take_all, length-take-le}
+use Rattle.std.proofs.lemmas.Option.{get_or_from_slice_get}
+use Rattle.ae_word.specs.declared.op.WordOp.TheVariants.{Lt, Mux}
+use Rattle.ae_netlist.specs.declared.cell.NetId.{NetId}
+use Rattle.ae_netlist.specs.declared.cell.SizedCell.{SizedCell}
+use Rattle.ae_netlist.specs.declared.netlist.NetFault.{NetFault}
+use Rattle.ae_netlist.specs.Circuit.{IsNet, Extends}
+use Rattle.ae_netlist.specs.Runs.{Clock, word_at, InEveryRunFrom}
+use Rattle.ae_netlist.proofs.Growing.{extends_trans, net_later}
+use Rattle.ae_netlist.proofs.Carried.{carries_extends, carries_trans}
+use Rattle.ae_clocked.specs.Signals.{IsConstant, IsResult}
+use Rattle.ae_clocked.specs.Delays.{IsTap}
+use Rattle.ae_gather.specs.declared.trips.Choice.{Choice}
+use Rattle.ae_gather.specs.declared.trips.Choice.TheVariants.{Delayed, Constant}
+use Rattle.ae_gather.specs.declared.trips.Step.{Step}
+use Rattle.ae_gather.specs.Plans.{later, choice_in}
+use Rattle.ae_gather.specs.Columns.{net_of, age_of, taken, IsSource, IsReady, AreReady, IsColumn}
+
+-- ---- what goes on as a netlist grows
+
+pub source_grows : (a b : List SizedCell) (rst w : ℕ) (ins : List NetId) (choice : Choice) (y : ℕ) → Extends a b → IsSource a rst w ins choice y → IsSource b rst w ins choice y
+source_grows a b rst w ins choice y g h = record { net = net_later g h.net; words = λ all e run r. h.words all (extends_trans g e) run r }
+
+pub column_grows : (a b : List SizedCell) (rst w phase : ℕ) (ins : List NetId) (choice : ℕ → Choice) (y : ℕ) → Extends a b → IsColumn a rst w phase ins choice y → IsColumn b rst w phase ins choice y
+column_grows a b rst w phase ins choice y g h = record { net = net_later g h.net; words = λ all e run r. h.words all (extends_trans g e) run r }
+
+pub tap_grows : {a b : List SizedCell} {rst w x d y : ℕ} → Extends a b → IsTap a rst w x d y → IsTap b rst w x d y
+tap_grows g h = record { net = net_later g h.net; words = λ all e run r. h.words all (extends_trans g e) run r }
+
+pub ready_grows : (a b : List SizedCell) (rst w : ℕ) (ins : List NetId) (lines : List (List NetId)) (tap : ℕ) (choice : Choice) → Extends a b → IsReady a rst w ins lines tap choice → IsReady b rst w ins lines tap choice
+ready_grows a b rst w ins lines tap (Delayed column age) g h = record { nets = h.nets; y = h.y; line = h.line; found = h.found; taps = tap_grows g h.taps }
+ready_grows a b rst w ins lines tap (Constant v) g h = h
+
+pub all_ready_grows : (a b : List SizedCell) (rst w v : ℕ) (ins : List NetId) (lines : List (List NetId)) (steps : List Step) → Extends a b → AreReady a rst w v ins lines steps → AreReady b rst w v ins lines steps
+all_ready_grows a b rst w v ins lines steps g h = record {
+  low = h.low;
+  high = h.high;
+  ready = λ k step found. ready_grows a b rst w ins lines step.tap step.take g (h.ready k step found);
+  within = h.within;
+}
+
+-- ---- sources
+
+pub tap_source : (cells : List SizedCell) (rst w : ℕ) (ins : List NetId) (column age y : ℕ) → IsTap cells rst w (net_of ins column) age y → IsSource cells rst w ins (Delayed column age) y
+tap_source cells rst w ins column age y h = record { net = h.net; words = λ all e run r start reset c le l. h.words all e run r start reset c le l }
+
+pub constant_source : (cells : List SizedCell) (from rst w : ℕ) (ins : List NetId) (k y : ℕ) → IsNet cells y w → InEveryRunFrom from cells (λ run. IsConstant run y k) → IsSource cells rst w ins (Constant k) y
+constant_source cells from rst w ins k y net h = record { net = net; words = λ all e run r start reset c le l. h all (carries_extends from e) run r (start + c) l }
+
+-- ---- a column of one choice, and of one step more
+
+pub column_of : (cells : List SizedCell) (rst w phase : ℕ) (ins : List NetId) (choice : Choice) (y : ℕ) → IsSource cells rst w ins choice y → IsColumn cells rst w phase ins (λ p. choice) y
+column_of cells rst w phase ins choice y h = record { net = h.net; words = λ all e run r start reset c le l. h.words all e run r start reset c le l }
+
+-- the word of a choice between two
+choose_word : (run : List Clock) (start c : ℕ) (ins : List NetId) (p from k e b s y : ℕ) (before : Choice) (step : Step) → k ≡ step.from → e ≡ (if nat_lt p k then 1 else 0) → y ≡ (if e == 1 then b else s)
+    → (age_of before ≤ c → b ≡ taken run start c ins before) → (age_of step.take ≤ c → s ≡ taken run start c ins step.take)
+    → age_of (later p before step) ≤ c → y ≡ taken run start c ins (later p before step)
+choose_word run start c ins p from k e b s y before step ek ee ey hb hs = by_case (nat_lt p step.from) refl
+  where
+    by_case : (v : Bool) → nat_lt p step.from ≡ v → age_of (later p before step) ≤ c → y ≡ taken run start c ins (later p before step)
+    by_case true is = rw is (λ le. rw (ey, ee, ek, is) (hb le))
+    by_case false is = rw is (λ le. rw (ey, ee, ek, is) (hs le))
+
+pub column_more : (a b d : List SizedCell) (rst w v phase : ℕ) (ins : List NetId) (choice : ℕ → Choice) (step : Step) (before k early s y : NetId) (fk fe fy : ℕ)
+    → Extends a d → Extends b d → IsColumn a rst w phase ins choice before.0 → IsSource b rst w ins step.take s.0 → IsNet d y.0 w
+    → InEveryRunFrom fk d (λ run. IsConstant run k.0 step.from)
+    → InEveryRunFrom fe d (λ run. IsResult run early.0 Lt v ((record { 0 = phase }) ∷ k ∷ (record { 0 = phase }) ∷ []))
+    → InEveryRunFrom fy d (λ run. IsResult run y.0 Mux w (early ∷ before ∷ s ∷ []))
+    → IsColumn d rst w phase ins (λ p. later p (choice p) step) y.0
+column_more a b d rst w v phase ins choice step before k early s y fk fe fy ga gb hc hs net ck ce cy = record {
+  net = net;
+  words = λ all e run r start reset c le l.
+      choose_word run start c ins (word_at run (start + c) phase) 0 (word_at run (start + c) k.0) (word_at run (start + c) early.0) (word_at run (start + c) before.0) (word_at run (start + c) s.0) (word_at run (start + c) y.0)
+      (choice (word_at run (start + c) phase)) step
+      (ck all (carries_extends fk e) run r (start + c) l)
+      (ce all (carries_extends fe e) run r (start + c) l)
+      (cy all (carries_extends fy e) run r (start + c) l)
+      (λ m. hc.words all (extends_trans ga e) run r start reset c m l)
+      (λ m. hs.words all (extends_trans gb e) run r start reset c m l)
+      le;
+}
+
+-- what every later netlist keeps
+pub from_grows : {a b : List SizedCell} (from : ℕ) (P : List Clock → Type 0) → Extends a b → InEveryRunFrom from a P → InEveryRunFrom from b P
+from_grows from P g h = λ all k run r. h all (carries_trans (carries_extends from g) k) run r
+
+-- ---- with an answer that may be want of memory
+
+pub constant_sources : (cells : List SizedCell) (from rst w : ℕ) (ins : List NetId) (k : ℕ) (r : Result NetId NetFault) → IfOk r (λ y. IsNet cells y.0 w) → IfOk r (λ y. InEveryRunFrom from cells (λ run. IsConstant run y.0 k)) → IfOk r (λ y. IsSource cells rst w ins (Constant k) y.0)
+constant_sources cells from rst w ins k (Ok y) net h = constant_source cells from rst w ins k y.0 net h
+constant_sources cells from rst w ins k (Err e) net h = h
+
+pub columns_more : (a b d : List SizedCell) (rst w v : ℕ) (phase : NetId) (ins : List NetId) (step : Step) (before k early s : NetId) (fk fe fy : ℕ) (r : Result NetId NetFault)
+    → Extends a d → Extends b d → IsSource b rst w ins step.take s.0 → IfOk r (λ y. IsNet d y.0 w)
+    → InEveryRunFrom fk d (λ run. IsConstant run k.0 step.from)
+    → InEveryRunFrom fe d (λ run. IsResult run early.0 Lt v (phase ∷ k ∷ phase ∷ []))
+    → IfOk r (λ y. InEveryRunFrom fy d (λ run. IsResult run y.0 Mux w (early ∷ before ∷ s ∷ [])))
+    → IfOk r (λ y. (choice : ℕ → Choice) → IsColumn a rst w phase.0 ins choice before.0 → IsColumn d rst w phase.0 ins (λ p. later p (choice p) step) y.0)
+columns_more a b d rst w v phase ins step before k early s fk fe fy (Ok y) ga gb hs net ck ce cy = λ choice hc. column_more a b d rst w v phase.0 ins choice step before k early s y fk fe fy ga gb hc hs net ck ce cy
+columns_more a b d rst w v phase ins step before k early s fk fe fy (Err e) ga gb hs net ck ce cy = net
+
+pub column_same : (cells : List SizedCell) (rst w phase : ℕ) (ins : List NetId) (f g : ℕ → Choice) (y : ℕ) → ((p : ℕ) → g p ≡ f p) → IsColumn cells rst w phase ins f y → IsColumn cells rst w phase ins g y
+column_same cells rst w phase ins f g y e h = record {
+  net = h.net;
+  words = λ all x run r start reset c. rw (e (word_at run (start + c) phase)) (h.words all x run r start reset c);
+}
+
+pub choice_one : (p : ℕ) (step : Step) → choice_in p (step ∷ []) ≡ step.take
+unfolding choice_in
+choice_one p step = refl
+
+pub choice_push : (p : ℕ) (steps : List Step) (step : Step) → 1 ≤ length steps → choice_in p (steps ++ step ∷ []) ≡ later p (choice_in p steps) step
+unfolding choice_in
+choice_push p [] step some = absurd (omega (arith, some))
+choice_push p (s ∷ steps) step some = fold-append (later p) s.take steps (step ∷ [])
+
+pub choice_more : (p : ℕ) (steps : List Step) (i : ℕ) (step : Step) → 1 ≤ i → i < length steps → slice_get steps i ≡ Some step → choice_in p (take (i + 1) steps) ≡ later p (choice_in p (take i steps)) step
+choice_more p steps i step some l is =
+    let n : length (take i steps) ≡ i = length-take-le i steps (omega arith) in
+    ap (choice_in p) (take_more steps i step l ∙ ap (λ s. take i steps ++ s ∷ []) (get_or_from_slice_get steps i step step is)) ∙ choice_push p (take i steps) step (omega arith)
+
+empty_choice : (p : ℕ) (steps : List Step) → length steps ≡ 0 → choice_in p steps ≡ Constant 0
+unfolding choice_in
+empty_choice p [] e = refl
+empty_choice p (s ∷ steps) e = absurd (omega (arith, e))
+
+pub empty_columns : (cells : List SizedCell) (from rst w phase : ℕ) (ins : List NetId) (steps : List Step) (r : Result NetId NetFault) → length steps ≡ 0 → IfOk r (λ y. IsNet cells y.0 w) → IfOk r (λ y. InEveryRunFrom from cells (λ run. IsConstant run y.0 0)) → IfOk r (λ y. IsColumn cells rst w phase ins (λ p. choice_in p steps) y.0)
+empty_columns cells from rst w phase ins steps (Ok y) e net h = column_same cells rst w phase ins (λ p. Constant 0) (λ p. choice_in p steps) y.0 (λ p. empty_choice p steps e) (column_of cells rst w phase ins (Constant 0) y.0 (constant_source cells from rst w ins 0 y.0 net h))
+empty_columns cells from rst w phase ins steps (Err x) e net h = h
+
+pub first_take : (steps : List Step) (step : Step) → slice_get steps 0 ≡ Some step → take 1 steps ≡ step ∷ []
+first_take [] step e = cc
+first_take (s ∷ steps) step e = let same : s ≡ step = cc in ap (λ (x : Step). x ∷ []) same
+
+pub first_column : (cells : List SizedCell) (rst w phase : ℕ) (ins : List NetId) (steps : List Step) (step : Step) (y : ℕ) → slice_get steps 0 ≡ Some step → IsSource cells rst w ins step.take y → IsColumn cells rst w phase ins (λ p. choice_in p (take 1 steps)) y
+first_column cells rst w phase ins steps step y e h = column_same cells rst w phase ins (λ p. step.take) (λ p. choice_in p (take 1 steps)) y (λ p. ap (choice_in p) (first_take steps step e) ∙ choice_one p step) (column_of cells rst w phase ins step.take y h)
+
+pub next_column : (cells : List SizedCell) (rst w phase : ℕ) (ins : List NetId) (steps : List Step) (i : ℕ) (step : Step) (y : ℕ) → 1 ≤ i → i < length steps → slice_get steps i ≡ Some step
+    → IsColumn cells rst w phase ins (λ p. later p (choice_in p (take i steps)) step) y → IsColumn cells rst w phase ins (λ p. choice_in p (take (i + 1) steps)) y
+next_column cells rst w phase ins steps i step y some l is h = column_same cells rst w phase ins (λ p. later p (choice_in p (take i steps)) step) (λ p. choice_in p (take (i + 1) steps)) y (λ p. choice_more p steps i step some l is) h
+
+pub whole_column : (cells : List SizedCell) (rst w phase : ℕ) (ins : List NetId) (steps : List Step) (i : ℕ) (y : ℕ) → length steps ≤ i → IsColumn cells rst w phase ins (λ p. choice_in p (take i steps)) y → IsColumn cells rst w phase ins (λ p. choice_in p steps) y
+whole_column cells rst w phase ins steps i y l h = column_same cells rst w phase ins (λ p. choice_in p (take i steps)) (λ p. choice_in p steps) y (λ p. ap (choice_in p) (sym (take_all i steps l))) h

@@ -1,0 +1,11 @@
+pub mod Choosing
+pub mod Planning
+pub mod Counting
+pub mod Delays
+pub mod Building
+pub mod TripLaw
+pub mod Typed
+pub mod OneList
+pub mod GatherLaw
+pub mod CodeLaws
+pub mod Pairs

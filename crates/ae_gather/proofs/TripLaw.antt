@@ -1,0 +1,77 @@
+-- Columns that choose by phases make each trip of each block.
+use Rattle.std.proofs.Common.{ℕ, ◌≡◌, ◌+◌, ◌-◌, ◌*◌, ◌/◌, ◌%◌, ◌<◌, ◌≤◌, List, [], length, Some, slice_get, get_or, arith, refl, ap, ◌∙◌}
+use Rattle.std.proofs.Math.Nat.{add-mul}
+use Rattle.std.proofs.lemmas.Nat.{mod-mul-add, div-add-mod'}
+use Rattle.std.proofs.lemmas.Option.{slice_get_within, slice_get-get_or}
+use Rattle.ae_netlist.specs.declared.cell.NetId.{NetId}
+use Rattle.ae_netlist.specs.declared.cell.SizedCell.{SizedCell}
+use Rattle.ae_netlist.specs.Circuit.{IsNet, Extends}
+use Rattle.ae_netlist.specs.Runs.{Clock, word_at, IsRun, IsReset}
+use Rattle.ae_clocked.specs.Phases.{phase_of, IsCounter}
+use Rattle.ae_gather.specs.declared.trips.Source.{Source}
+use Rattle.ae_gather.specs.declared.trips.Source.TheVariants.{Place, Fixed}
+use Rattle.ae_gather.specs.declared.trips.Trip.{Trip}
+use Rattle.ae_gather.specs.declared.trips.Step.{Step}
+use Rattle.ae_gather.specs.Plans.{choice_from, choice_of, choice_in, IsReached, AreWithin, IsPlan}
+use Rattle.ae_gather.specs.Columns.{net_of, age_of, taken, IsColumn}
+use Rattle.ae_gather.specs.Laws.{sourced, MakesTrips, AreColumns}
+
+-- the phase of clock k of a block, where phase 0 is the first clock of the blocks that begin at s
+pub phase_in_block : (p s b k : ℕ) → k < p → phase_of p (s % p) (s + b * p + k) ≡ k
+unfolding phase_of
+phase_in_block p s b k small =
+    let q : ℕ = s / p in
+    let parts : q * p + s % p ≡ s = div-add-mod' s p in
+    let sum_b : (q + b + 1) * p ≡ (q + b) * p + 1 * p = add-mul (q + b) 1 p in
+    let sum_q : (q + b) * p ≡ q * p + b * p = add-mul q b p in
+    let e : s + b * p + k + p - s % p ≡ (q + b + 1) * p + k = omega (arith, parts, sum_b, sum_q) in
+    ap (λ n. n % p) e ∙ mod-mul-add (q + b + 1) p k small
+
+age_within : (d c a : ℕ) (source : Source) → IsReached d c source → age_of (choice_from d c source) ≤ a + d + c
+age_within d c a (Place k column) h = omega arith
+age_within d c a (Fixed w) h = omega arith
+
+-- what the choice of a trip takes d clocks later is the word of its source
+taken_is : (run : List Clock) (start a d c : ℕ) (ins : List NetId) (source : Source) → IsReached d c source → taken run start (a + d + c) ins (choice_from d c source) ≡ sourced run start a ins source
+taken_is run start a d c ins (Place k column) h =
+    let t : a + d + c - (c + d - k) ≡ a + k = omega arith in
+    ap (λ n. word_at run (start + n) (net_of ins column)) t
+taken_is run start a d c ins (Fixed w) h = refl
+
+-- one column
+pub column_trip : (cells : List SizedCell) (rst w period d arrival offset : ℕ) (ins : List NetId) (steps : List Step) (phase y : NetId) (trip : Trip)
+    → offset ≡ (arrival + d) % period → trip.clock < period → IsReached d trip.clock trip.source → choice_in trip.clock steps ≡ choice_of d trip
+    → IsCounter cells rst (record { period = period; offset = offset }) phase.0 → IsColumn cells rst w phase.0 ins (λ p. choice_in p steps) y.0
+    → (all : List SizedCell) → Extends cells all → (run : List Clock) → IsRun all run → (start : ℕ) → IsReset run rst start
+    → (b : ℕ) → start + (arrival + d + b * period + trip.clock) < length run
+    → word_at run (start + (arrival + d + b * period + trip.clock)) y.0 ≡ sourced run start (arrival + b * period) ins trip.source
+column_trip cells rst w period d arrival offset ins steps phase y trip off small reached chooses counter column all e run r start reset b l =
+    let c : ℕ = arrival + d + b * period + trip.clock in
+    let at : word_at run (start + c) phase.0 ≡ phase_of period offset c = counter.words all e run r start reset c l in
+    let in_block : phase_of period ((arrival + d) % period) c ≡ trip.clock = phase_in_block period (arrival + d) b trip.clock small in
+    let here : word_at run (start + c) phase.0 ≡ trip.clock = at ∙ ap (λ o. phase_of period o c) off ∙ in_block in
+    let takes : choice_in (word_at run (start + c) phase.0) steps ≡ choice_of d trip = ap (λ p. choice_in p steps) here ∙ chooses in
+    let again : c ≡ arrival + b * period + d + trip.clock = omega arith in
+    let old : age_of (choice_of d trip) ≤ c = rw again (age_within d trip.clock (arrival + b * period) trip.source reached) in
+    let word = column.words all e run r start reset c (rw takes old) l in
+    word ∙ ap (taken run start c ins) takes ∙ ap (λ n. taken run start n ins (choice_of d trip)) again ∙ taken_is run start (arrival + b * period) d trip.clock ins trip.source reached
+
+-- all columns
+pub columns_trips : (cells : List SizedCell) (rst period d arrival offset in_count out_count : ℕ) (ins out : List NetId) (widths : List ℕ) (trips : List Trip) (lines : List (List ℕ)) (columns : List (List Step)) (phase : NetId)
+    → offset ≡ (arrival + d) % period → AreWithin period d in_count out_count trips → IsPlan d trips lines columns → length widths ≡ length columns
+    → IsCounter cells rst (record { period = period; offset = offset }) phase.0 → AreColumns cells rst phase.0 ins widths columns out → MakesTrips cells rst period d arrival ins out trips
+columns_trips cells rst period d arrival offset in_count out_count ins out widths trips lines columns phase off within plan long counter made = λ all e run r start reset b n trip y found there l.
+    let q : ℕ = trip.column in
+    let inside : q < length out = slice_get_within out q y there in
+    let lc : q < length columns = (let m : length out ≡ length columns = made.long in omega arith) in
+    let steps : List Step = get_or columns q [] in
+    let fs : slice_get columns q ≡ Some steps = slice_get-get_or columns q [] lc in
+    let fw : slice_get widths q ≡ Some (get_or widths q 0) = slice_get-get_or widths q 0 (omega arith) in
+    column_trip cells rst (get_or widths q 0) period d arrival offset ins steps phase y trip off (within.clock n trip found) (within.reached n trip found) (plan.chosen n trip steps found fs)
+    counter (made.each q (get_or widths q 0) steps y fs fw there) all e run r start reset b l
+
+pub columns_nets : (cells : List SizedCell) (rst phase : ℕ) (ins : List NetId) (widths : List ℕ) (columns : List (List Step)) (out : List NetId) → length widths ≡ length columns → AreColumns cells rst phase ins widths columns out
+    → (q w : ℕ) (y : NetId) → slice_get widths q ≡ Some w → slice_get out q ≡ Some y → IsNet cells y.0 w
+columns_nets cells rst phase ins widths columns out long made q w y f t =
+    let l : q < length columns = (let m : q < length widths = slice_get_within widths q w f in omega arith) in
+    (made.each q w (get_or columns q []) y (slice_get-get_or columns q [] l) f t).net

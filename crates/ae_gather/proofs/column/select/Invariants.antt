@@ -1,0 +1,12 @@
+use Rattle.std.proofs.Common.{take, length, ◌+◌, ◌-◌, ◌*◌, ◌≤◌}
+use Rattle.ae_clocked.specs.Signals.{Adds}
+use Rattle.ae_gather.specs.Plans.{choice_in}
+use Rattle.ae_gather.specs.Columns.{IsColumn}
+use Rattle.ae_gather.proofs.column.select.Given as goal
+
+abbrev pub invariant-loop-k : goal.invariant-loop-k
+invariant-loop-k l = record {
+  adds : Adds l.fn.nl l.nl (1 + 4 * (l.k - 1)) 0;
+  within : l.k ≤ length l.steps;
+  column : IsColumn l.nl.cells l.clocks.rst l.width l.phase.0 l.ins (λ p. choice_in p (take l.k l.steps)) l.net.0;
+}

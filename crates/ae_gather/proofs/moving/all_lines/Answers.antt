@@ -1,0 +1,85 @@
+-- One line more.
+use Rattle.std.proofs.Common.{ℕ, ◌≡◌, ◌+◌, ◌≤◌, length, slice_get, Some, refl, arith, rules}
+use Rattle.std.proofs.lemmas.Option.{slice_get_read}
+use Rattle.ae_netlist.specs.Circuit.{width_of}
+use Rattle.ae_netlist.proofs.Growing.{net_later}
+use Rattle.ae_clocked.specs.Delays.{AreTaps, line_cells}
+use Rattle.ae_clocked.proofs.Adding.{grows_refl, grows_trans}
+use Rattle.ae_clocked.proofs.Added.{own_net}
+use Rattle.ae_clocked.proofs.Belonging.{keeps_same}
+use Rattle.ae_ops.proofs.Lateness.{keeps_trans}
+use Rattle.ae_gather.specs.Columns.{net_of}
+use Rattle.ae_gather.proofs.Building.{lines_begin, lines_more, lines_whole, sum_next, sum_part}
+use Rattle.ae_gather.proofs.moving.all_lines.Goals as goal
+
+pub loop-q-init : goal.loop-q-init
+loop-q-init c =
+    record {
+      belongs = c.requires.belongs;
+      keeps = keeps_same _;
+      grows = grows_refl _;
+      cells = omega arith;
+      muls = refl;
+      memories = refl;
+      whole = λ h. h;
+      lines = lines_begin _ _ _ _ (search rules);
+    }
+
+pub line-requires-clause-net : goal.line-requires-clause-net
+line-requires-clause-net c = own_net (net_later c.loop-q.invariant.grows.extends (c.requires.nets c.loop-q.q (omega (arith, c.loop-q-test.true, c.requires.long))).1)
+
+pub line-requires-clause-few : goal.line-requires-clause-few
+line-requires-clause-few c =
+    let there : slice_get c.args.ages.now c.loop-q.q ≡ Some c.index-ages-q.result = slice_get_read c.args.ages.now (length c.args.ages.now) c.loop-q.q c.index-ages-q.result refl c.loop-q-test.true c.index-ages-q.is in
+    rw c.all.ensures (c.requires.few c.loop-q.q _ there)
+
+pub returns-in_err-tapped-clause-keeps : goal.returns-in_err-tapped-clause-keeps
+returns-in_err-tapped-clause-keeps c = keeps_trans c.loop-q.invariant.keeps c.in_err-tapped.ensures.keeps
+
+pub returns-in_err-tapped-clause-grows : goal.returns-in_err-tapped-clause-grows
+returns-in_err-tapped-clause-grows c = grows_trans c.loop-q.invariant.grows c.in_err-tapped.ensures.grows
+
+pub returns-in_err-keep_line-clause-keeps : goal.returns-in_err-keep_line-clause-keeps
+returns-in_err-keep_line-clause-keeps c = keeps_trans c.loop-q.invariant.keeps c.in_ok-tapped.ensures.keeps
+
+pub returns-in_err-keep_line-clause-grows : goal.returns-in_err-keep_line-clause-grows
+returns-in_err-keep_line-clause-grows c = grows_trans c.loop-q.invariant.grows c.in_ok-tapped.ensures.grows
+
+pub returns-in_err-tapped-clause-cells : goal.returns-in_err-tapped-clause-cells
+returns-in_err-tapped-clause-cells c =
+    let there : slice_get c.args.ages.now c.loop-q.q ≡ Some c.index-ages-q.result = slice_get_read c.args.ages.now (length c.args.ages.now) c.loop-q.q c.index-ages-q.result refl c.loop-q-test.true c.index-ages-q.is in
+    let cost : length c.line.new.nl.cells ≤ length c.loop-q.nl.cells + line_cells c.index-ages-q.result = rw c.all.ensures at c.in_err-tapped.ensures.cells in
+    omega (arith, c.loop-q.invariant.cells, cost, sum_next line_cells c.args.ages.now c.loop-q.q _ there, sum_part line_cells c.args.ages.now (c.loop-q.q + 1))
+
+pub returns-in_err-keep_line-clause-cells : goal.returns-in_err-keep_line-clause-cells
+returns-in_err-keep_line-clause-cells c =
+    let there : slice_get c.args.ages.now c.loop-q.q ≡ Some c.index-ages-q.result = slice_get_read c.args.ages.now (length c.args.ages.now) c.loop-q.q c.index-ages-q.result refl c.loop-q-test.true c.index-ages-q.is in
+    let cost : length c.line.new.nl.cells ≤ length c.loop-q.nl.cells + line_cells c.index-ages-q.result = rw c.all.ensures at c.in_ok-tapped.ensures.cells in
+    omega (arith, c.loop-q.invariant.cells, cost, sum_next line_cells c.args.ages.now c.loop-q.q _ there, sum_part line_cells c.args.ages.now (c.loop-q.q + 1))
+
+pub loop-q-preserved : goal.loop-q-preserved
+loop-q-preserved c =
+    let was = c.loop-q.invariant in
+    let more = c.in_ok-tapped.ensures in
+    let there : slice_get c.args.ages.now c.loop-q.q ≡ Some c.index-ages-q.result = slice_get_read c.args.ages.now (length c.args.ages.now) c.loop-q.q c.index-ages-q.result refl c.loop-q-test.true c.index-ages-q.is in
+    let x : ℕ = net_of c.args.ins.now c.loop-q.q in
+    let taps : AreTaps c.line.new.nl.cells c.args.clocks.now.rst (width_of c.loop-q.nl.cells x) x c.index-ages-q.result c.in_ok-tapped.tapped = rw (was.keeps.rst, c.all.ensures) at more.taps in
+    let cost : length c.line.new.nl.cells ≤ length c.loop-q.nl.cells + line_cells c.index-ages-q.result = rw c.all.ensures at more.cells in
+    record {
+      belongs = more.belongs;
+      keeps = keeps_trans was.keeps more.keeps;
+      grows = grows_trans was.grows more.grows;
+      cells = omega (arith, was.cells, cost, sum_next line_cells c.args.ages.now c.loop-q.q _ there);
+      muls = omega (arith, was.muls, more.muls);
+      memories = omega (arith, was.memories, more.memories);
+      whole = λ h. more.whole (was.whole h);
+      lines = rw c.in_ok-keep_line.ensures.ok
+          (lines_more c.loop-q.nl.cells c.line.new.nl.cells _ _ x c.loop-q.q c.args.ins.now c.args.ages.now _ _ _ more.grows.extends was.lines there refl
+          (own_net (net_later was.grows.extends (c.requires.nets c.loop-q.q (omega (arith, c.loop-q-test.true, c.requires.long))).1)) taps);
+    }
+
+pub returns-clause-cells : goal.returns-clause-cells
+returns-clause-cells c = omega (arith, c.loop-q.invariant.cells, sum_part line_cells c.args.ages.now c.loop-q.q)
+
+pub returns-clause-lines : goal.returns-clause-lines
+returns-clause-lines c = lines_whole _ _ c.loop-q.q _ c.args.ages.now _ (omega (arith, c.loop-q-test.false)) c.loop-q.invariant.lines

@@ -1,0 +1,6 @@
+pub mod Plans
+pub mod Columns
+pub mod Trees
+pub mod Laws
+pub mod Gathers
+pub mod Joins

@@ -1,0 +1,91 @@
+// One output column: a choice by phases.
+
+ghost use Rattle.std.specs.Prelude.{◌≡◌, ◌<◌, ◌≤◌, ◌+◌, ◌^◌, ℕ, length, IfOk};
+ghost use Rattle.ae_netlist.specs.Circuit.{IsNet};
+ghost use Rattle.ae_clocked.specs.Signals.{Adds, IsFullAt};
+ghost use Rattle.ae_gather.specs.declared.trips.Choice.{Choice as Taken};
+ghost use Rattle.ae_gather.specs.Plans.{choice_in, later, steps_cells};
+ghost use Rattle.ae_gather.specs.Columns.{AreReady, IsColumn, IsReady, IsSource};
+
+use crate::trips::{Choice, Step};
+use ae_clocked::{Clocks, Tapped, choose, constant, less};
+use ae_netlist::{NetFault, NetId, Netlist};
+
+/// The net that has the word of a step.
+fn source(
+    nl: &mut Netlist,
+    clocks: &Clocks,
+    ins: &[NetId],
+    lines: &[Tapped],
+    step: &Step,
+    width: u32,
+) -> Result<NetId, NetFault>
+    requires low { 1 ≤ width }
+    requires high { width ≤ 64 }
+    requires ready { IsReady nl.old.cells clocks.now.rst width ins.now lines.now step.now.tap step.now.take }
+    ensures adds { Adds nl.old nl.new 1 0 }
+    ensures full { IsFullAt result nl.new }
+    ensures source { IfOk result (λ y. IsSource nl.new.cells clocks.now.rst width ins.now step.now.take y.0) }
+{
+    match step.take {
+        Choice::Delayed { column, age: _ } => Ok(lines[column as usize].tap(step.tap)),
+        Choice::Constant(word) => constant(nl, width, word),
+    }
+}
+
+/// The word of a step from its first phase on, and before it that of an earlier net.
+fn choose_from(
+    nl: &mut Netlist,
+    clocks: &Clocks,
+    ins: &[NetId],
+    lines: &[Tapped],
+    step: &Step,
+    width: u32,
+    phase: NetId,
+    phases: u32,
+    before: NetId,
+) -> Result<NetId, NetFault>
+    requires low { 1 ≤ width }
+    requires high { width ≤ 64 }
+    requires some { 1 ≤ phases }
+    requires few { phases ≤ 64 }
+    requires phase { IsNet nl.old.cells phase.0 phases }
+    requires within { step.now.from < 2 ^ phases }
+    requires ready { IsReady nl.old.cells clocks.now.rst width ins.now lines.now step.now.tap step.now.take }
+    requires before { IsNet nl.old.cells before.0 width }
+    ensures adds { Adds nl.old nl.new 4 0 }
+    ensures full { IsFullAt result nl.new }
+    ensures column { IfOk result (λ y. (choice : ℕ → Taken) → IsColumn nl.old.cells clocks.now.rst width phase.0 ins.now choice before.0 → IsColumn nl.new.cells clocks.now.rst width phase.0 ins.now (λ p. later p (choice p) step.now) y.0) }
+{
+    let from = constant(nl, phases, u64::from(step.from))?;
+    let early = less(nl, phase, from, phases)?;
+    let taken = source(nl, clocks, ins, lines, step, width)?;
+    choose(nl, early, before, taken, width)
+}
+
+/// A net that takes by phases what the steps say.
+pub fn select(
+    nl: &mut Netlist,
+    clocks: &Clocks,
+    ins: &[NetId],
+    lines: &[Tapped],
+    steps: &[Step],
+    width: u32,
+    phase: NetId,
+    phases: u32,
+) -> Result<NetId, NetFault>
+    requires some { 1 ≤ phases }
+    requires few { phases ≤ 64 }
+    requires phase { IsNet nl.old.cells phase.0 phases }
+    requires begun { 1 ≤ length steps.now }
+    requires ready { AreReady nl.old.cells clocks.now.rst width phases ins.now lines.now steps.now }
+    ensures adds { Adds nl.old nl.new (steps_cells steps.now) 0 }
+    ensures full { IsFullAt result nl.new }
+    ensures column { IfOk result (λ y. IsColumn nl.new.cells clocks.now.rst width phase.0 ins.now (λ p. choice_in p steps.now) y.0) }
+{
+    let mut net = source(nl, clocks, ins, lines, &steps[0], width)?;
+    for k in 1..steps.len() {
+        net = choose_from(nl, clocks, ins, lines, &steps[k], width, phase, phases, net)?;
+    }
+    Ok(net)
+}

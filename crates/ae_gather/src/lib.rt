@@ -1,0 +1,14 @@
+//! Moves of words between layouts, in hardware.
+#![tactic(auto)]
+
+mod column;
+mod joining;
+mod layouts;
+mod moving;
+mod plan;
+mod stage;
+#[cfg(test)]
+mod tests;
+mod trips;
+
+pub use stage::{Gather, Origin};

@@ -1,0 +1,221 @@
+// All columns of a move.
+
+ghost use Rattle.std.specs.Prelude.{◌≡◌, ◌≢◌, ◌<◌, ◌≤◌, ◌+◌, ◌*◌, ◌%◌, sum_by, ◌^◌, ◌∷◌, ◌++◌, [], ℕ, List, length, map, Err, IfOk, OnOk, Some, slice_get};
+ghost use Rattle.ae_sttype.specs.Moves.{delay_of, runs_of};
+ghost use Rattle.ae_netlist.specs.declared.cell.NetId.{NetId as Net};
+ghost use Rattle.ae_netlist.specs.Circuit.{IsNet};
+ghost use Rattle.ae_netlist.specs.Counts.{AreWhole, count_of, is_memory, is_mul};
+ghost use Rattle.ae_clocked.specs.Signals.{Adds, Grows, IsFullAt};
+ghost use Rattle.ae_clocked.specs.Phases.{Belongs, KeepsCounters};
+ghost use Rattle.ae_clocked.specs.Delays.{greatest_of, line_cells};
+ghost use Rattle.ae_gather.specs.declared.trips.Step.{Step as Part};
+ghost use Rattle.ae_gather.specs.Plans.{AreInOrder, AreUsed, AreWithin, IsPlan, choice_in, steps_cells};
+ghost use Rattle.ae_gather.specs.Columns.{AreReady, net_of};
+ghost use Rattle.ae_gather.specs.Trees.{trip_tree};
+ghost use Rattle.ae_gather.specs.Laws.{AreColumns, AreFitting, AreLines, MakesTrips};
+
+use crate::column::select;
+use crate::plan::{Ages, Plan, Steps, planned};
+use crate::trips::Trip;
+use ae_clocked::{Clocks, Tapped, line, width_at};
+use ae_netlist::{NetFault, NetId, Netlist};
+use std::alloc::Global;
+
+fn keep_line(lines: &mut Vec<Tapped>, tapped: Tapped) -> Result<(), NetFault>
+    ensures ok { OnOk result (lines.new.items ≡ lines.old.items ++ tapped ∷ []) }
+    ensures fault { result ≢ Err NetFault.Full }
+{
+    match lines.push(tapped) {
+        Ok(()) => Ok(()),
+        Err(_) => Err(NetFault::Memory),
+    }
+}
+
+fn keep_net(nets: &mut Vec<NetId>, net: NetId) -> Result<(), NetFault>
+    ensures ok { OnOk result (nets.new.items ≡ nets.old.items ++ net ∷ []) }
+    ensures fault { result ≢ Err NetFault.Full }
+{
+    match nets.push(net) {
+        Ok(()) => Ok(()),
+        Err(_) => Err(NetFault::Memory),
+    }
+}
+
+/// A delay line for each input column.
+fn all_lines(
+    alloc: Global,
+    nl: &mut Netlist,
+    clocks: &mut Clocks,
+    ins: &[NetId],
+    ages: &[Ages],
+) -> Result<Vec<Tapped>, NetFault>
+    requires belongs { Belongs clocks.old nl.old.cells }
+    requires nets { (q : ℕ) → q < length ins.now → (w : ℕ) × IsNet nl.old.cells (net_of ins.now q) w }
+    requires long { length ages.now ≡ length ins.now }
+    requires few { (q : ℕ) (all : List ℕ) → slice_get ages.now q ≡ Some all → length all < 2 ^ 32 }
+    ensures belongs { Belongs clocks.new nl.new.cells }
+    ensures keeps { KeepsCounters clocks.old clocks.new }
+    ensures grows { Grows nl.old nl.new }
+    ensures cells { length nl.new.cells ≤ length nl.old.cells + sum_by line_cells ages.now }
+    ensures muls { count_of is_mul nl.new.cells ≡ count_of is_mul nl.old.cells }
+    ensures memories { count_of is_memory nl.new.cells ≡ count_of is_memory nl.old.cells }
+    ensures whole { OnOk result (AreWhole nl.old.cells → AreWhole nl.new.cells) }
+    ensures full { IsFullAt result nl.new }
+    ensures lines { IfOk result (λ lines. AreLines nl.new.cells clocks.old.rst ins.now ages.now lines.items) }
+{
+    let mut lines = Vec::new(alloc);
+    for q in 0..ages.len() {
+        let tapped = line(alloc, nl, ins[q], ages[q].all(), clocks)?;
+        keep_line(&mut lines, tapped)?;
+    }
+    Ok(lines)
+}
+
+/// A chain of choices for each output column.
+fn all_columns(
+    alloc: Global,
+    nl: &mut Netlist,
+    clocks: &Clocks,
+    ins: &[NetId],
+    lines: &[Tapped],
+    columns: &[Steps],
+    widths: &[u32],
+    phase: NetId,
+    phases: u32,
+) -> Result<Vec<NetId>, NetFault>
+    requires some { 1 ≤ phases }
+    requires few { phases ≤ 64 }
+    requires phase { IsNet nl.old.cells phase.0 phases }
+    requires long { length widths.now ≡ length columns.now }
+    requires begun { (q : ℕ) (steps : List Part) → slice_get columns.now q ≡ Some steps → 1 ≤ length steps }
+    requires ready { (q w : ℕ) (steps : List Part) → slice_get columns.now q ≡ Some steps → slice_get widths.now q ≡ Some w → AreReady nl.old.cells clocks.now.rst w phases ins.now lines.now steps }
+    ensures adds { Adds nl.old nl.new (sum_by steps_cells columns.now) 0 }
+    ensures full { IsFullAt result nl.new }
+    ensures columns { IfOk result (λ out. AreColumns nl.new.cells clocks.now.rst phase.0 ins.now widths.now columns.now out.items) }
+{
+    let mut out = Vec::new(alloc);
+    for q in 0..columns.len() {
+        let net = select(
+            nl,
+            clocks,
+            ins,
+            lines,
+            columns[q].all(),
+            widths[q],
+            phase,
+            phases,
+        )?;
+        keep_net(&mut out, net)?;
+    }
+    Ok(out)
+}
+
+/// The phase in which blocks begin that arrive in one clock and are some clocks late.
+fn offset(arrival: u32, d: u32, period: u32) -> u32
+    requires some { 1 ≤ period }
+    requires most { period ≤ 4096 }
+    ensures { result ≡ (arrival + d) % period }
+{
+    (arrival % period + d % period) % period
+}
+
+/// What a plan says, built: output nets that make every trip, some clocks later, in each block of a period.
+fn build_plan(
+    alloc: Global,
+    nl: &mut Netlist,
+    clocks: &mut Clocks,
+    ins: &[NetId],
+    widths: &[u32],
+    trips: &[Trip],
+    plan: &Plan,
+    period: u32,
+    d: u32,
+    arrival: u32,
+) -> Result<Vec<NetId>, NetFault>
+    requires belongs { Belongs clocks.old nl.old.cells }
+    requires lasting { 1 ≤ period }
+    requires limit { period ≤ 4096 }
+    requires few { length trips.now < 2 ^ 32 }
+    requires nets { (q : ℕ) → q < length ins.now → (w : ℕ) × IsNet nl.old.cells (net_of ins.now q) w }
+    requires within { AreWithin period d (length ins.now) (length widths.now) trips.now }
+    requires used { AreUsed (length widths.now) trips.now }
+    requires fitting { AreFitting nl.old.cells ins.now widths.now trips.now }
+    requires lines { length plan.now.lines.items ≡ length ins.now }
+    requires columns { length plan.now.columns.items ≡ length widths.now }
+    requires plan { IsPlan d trips.now plan.now.lines.items plan.now.columns.items }
+    requires taps { (q : ℕ) (ages : List ℕ) → slice_get plan.now.lines.items q ≡ Some ages → length ages ≤ length trips.now }
+    ensures belongs { Belongs clocks.new nl.new.cells }
+    ensures keeps { KeepsCounters clocks.old clocks.new }
+    ensures grows { Grows nl.old nl.new }
+    ensures cells { length nl.new.cells ≤ length nl.old.cells + (12 + sum_by line_cells plan.now.lines.items + sum_by steps_cells plan.now.columns.items) }
+    ensures muls { count_of is_mul nl.new.cells ≡ count_of is_mul nl.old.cells }
+    ensures memories { count_of is_memory nl.new.cells ≡ count_of is_memory nl.old.cells }
+    ensures whole { OnOk result (AreWhole nl.old.cells → AreWhole nl.new.cells) }
+    ensures full { IsFullAt result nl.new }
+    ensures long { IfOk result (λ out. length out.items ≡ length widths.now) }
+    ensures nets { IfOk result (λ out. (q w : ℕ) (y : Net) → slice_get widths.now q ≡ Some w → slice_get out.items q ≡ Some y → IsNet nl.new.cells y.0 w) }
+    ensures trips { IfOk result (λ out. MakesTrips nl.new.cells clocks.old.rst period d arrival ins.now out.items trips.now) }
+{
+    let phase = clocks.phase(nl, period, offset(arrival, d, period))?;
+    let phases = width_at(nl, phase);
+    let lines = all_lines(alloc, nl, clocks, ins, &plan.lines)?;
+    let out = all_columns(
+        alloc,
+        nl,
+        clocks,
+        ins,
+        &lines,
+        &plan.columns,
+        widths,
+        phase,
+        phases,
+    )?;
+    Ok(out)
+}
+
+/// Output nets that make every trip, some clocks later, in each block of a period.
+pub fn gather(
+    alloc: Global,
+    nl: &mut Netlist,
+    clocks: &mut Clocks,
+    ins: &[NetId],
+    widths: &[u32],
+    trips: &[Trip],
+    period: u32,
+    d: u32,
+    arrival: u32,
+) -> Result<Vec<NetId>, NetFault>
+    requires belongs { Belongs clocks.old nl.old.cells }
+    requires lasting { 1 ≤ period }
+    requires limit { period ≤ 4096 }
+    requires latency { d ≤ 4096 }
+    requires few { length trips.now < 2 ^ 32 }
+    requires few_ins { length ins.now < 2 ^ 32 }
+    requires few_outs { length widths.now < 2 ^ 32 }
+    requires some { 1 ≤ length widths.now }
+    requires nets { (q : ℕ) → q < length ins.now → (w : ℕ) × IsNet nl.old.cells (net_of ins.now q) w }
+    requires order { AreInOrder trips.now }
+    requires within { AreWithin period d (length ins.now) (length widths.now) trips.now }
+    requires used { AreUsed (length widths.now) trips.now }
+    requires fitting { AreFitting nl.old.cells ins.now widths.now trips.now }
+    ensures belongs { Belongs clocks.new nl.new.cells }
+    ensures keeps { KeepsCounters clocks.old clocks.new }
+    ensures grows { Grows nl.old nl.new }
+    ensures cells { length nl.new.cells ≤ length nl.old.cells + 16 * (d + delay_of d (length ins.now) (map trip_tree trips.now) + runs_of d (length widths.now) (map trip_tree trips.now)) }
+    ensures muls { count_of is_mul nl.new.cells ≡ count_of is_mul nl.old.cells }
+    ensures memories { count_of is_memory nl.new.cells ≡ count_of is_memory nl.old.cells }
+    ensures whole { OnOk result (AreWhole nl.old.cells → AreWhole nl.new.cells) }
+    ensures full { IsFullAt result nl.new }
+    ensures long { IfOk result (λ out. length out.items ≡ length widths.now) }
+    ensures nets { IfOk result (λ out. (q w : ℕ) (y : Net) → slice_get widths.now q ≡ Some w → slice_get out.items q ≡ Some y → IsNet nl.new.cells y.0 w) }
+    ensures trips { IfOk result (λ out. MakesTrips nl.new.cells clocks.old.rst period d arrival ins.now out.items trips.now) }
+{
+    let plan = match planned(alloc, trips, d, ins.len() as u32, widths.len() as u32) {
+        Ok(plan) => plan,
+        Err(_) => return Err(NetFault::Memory),
+    };
+    let out = build_plan(
+        alloc, nl, clocks, ins, widths, trips, &plan, period, d, arrival,
+    )?;
+    Ok(out)
+}
