@@ -149,6 +149,39 @@ fn eval_writes_the_results_of_each_row(rt: HostRuntime) -> Result<(), Fail> {
     Ok(())
 }
 
+const BLUR: &str =
+    "fn outer x:u16 y:u16\ns = add x y\nend s\nfn mid x:u16 y:u16\nd = shl 1 y\ns = add x d\nq = shr 2 s\nend q\nfn main a:[1920]u16\nb = shift 1 a\nc = shift 2 a\ne = map2 outer a c\ng = map2 mid e b\nend g\n%%\n";
+
+#[test]
+fn eval_blurs_a_line_of_pixels(rt: HostRuntime) -> Result<(), Fail> {
+    let mut text = String::from_str(rt.alloc(), BLUR)?;
+    let mut blurred = String::from_str(rt.alloc(), "0")?;
+    for pixel in 0..1920u32 {
+        let word = format!(in rt.alloc(); " {pixel}")?;
+        text.push_str(word.as_str())?;
+        if pixel < 1919 {
+            blurred.push_str(word.as_str())?;
+        }
+    }
+    blurred.push_str("\n")?;
+    let written = reply(rt.alloc(), "eval", text.as_str())?;
+    assert_eq!(rt; written.as_slice(), blurred.as_bytes());
+    Ok(())
+}
+
+#[test]
+fn eval_keeps_what_a_sink_took_before_it_failed(rt: HostRuntime) -> Result<(), Fail> {
+    let mut words = Vec::new(rt.alloc());
+    words.push(String::from_str(rt.alloc(), "eval")?)?;
+    let text = format!(in rt.alloc(); "{INCREMENT}%%\n1 2 3 255\n")?;
+    let mut source = MemSource::new(rt.alloc(), text.as_bytes(), 1000, &[])?;
+    let mut sink = MemSink::new(rt.alloc(), 4, &[1])?;
+    let status = aeth(rt.alloc(), &words, &mut source, &mut sink);
+    assert_eq!(rt; status.number(), 10);
+    assert_eq!(rt; sink.bytes(), b"2 3 ".as_slice());
+    Ok(())
+}
+
 #[test]
 fn eval_refuses_too_many_words(rt: HostRuntime) -> Result<(), Fail> {
     let mut text = String::from_str(rt.alloc(), "fn main a:[1]u8\nb = up 4096 a\nend b\n%%\n")?;
@@ -163,11 +196,11 @@ fn eval_refuses_too_many_words(rt: HostRuntime) -> Result<(), Fail> {
     Ok(())
 }
 
-// A program of so many lines.
-fn many_lines(alloc: Global, lines: usize) -> Result<String, AllocError> {
+// A program of so many nodes.
+fn many_nodes(alloc: Global, nodes: u32) -> Result<String, AllocError> {
     let mut text = String::from_str(alloc, "fn main a:[4]u8\n")?;
-    for line in 0..lines - 2 {
-        let node = format!(in alloc; "b{line} = shift 1 a\n")?;
+    for node in 0..nodes {
+        let node = format!(in alloc; "b{node} = shift 1 a\n")?;
         text.push_str(node.as_str())?;
     }
     text.push_str("end a\n")?;
@@ -176,10 +209,10 @@ fn many_lines(alloc: Global, lines: usize) -> Result<String, AllocError> {
 
 #[test]
 fn check_takes_4096_lines(rt: HostRuntime) -> Result<(), Fail> {
-    let text = many_lines(rt.alloc(), 4096)?;
+    let text = many_nodes(rt.alloc(), 4094)?;
     let written = reply(rt.alloc(), "check", text.as_str())?;
     assert!(rt; written.as_slice().ends_with(b"\n4096 end [4]u8\n"));
-    let text = many_lines(rt.alloc(), 4097)?;
+    let text = many_nodes(rt.alloc(), 4095)?;
     let written = reply(rt.alloc(), "check", text.as_str())?;
     assert_eq!(rt; written.as_slice(), b"refused bad line 4097\n".as_slice());
     Ok(())
