@@ -48,16 +48,7 @@ fn reads_what_stands_for_nothing(rt: HostRuntime) -> Result<(), Fail> {
 fn prints_each_operator(rt: HostRuntime) -> Result<(), Fail> {
     let text =
         "aeth 2\nfn f x:u8\nend x\nfn g x:u8 y:u8\nend y\nfn main a:u8 b:[2][3](u8,i16)\na0 = const [2]u8 1 0\na1 = add a a\na2 = sub a a\na3 = mul a a\na4 = and a a\na5 = or a a\na6 = xor a a\na7 = not a\na8 = min a a\na9 = max a a\nb0 = eq a a\nb1 = lt a a\nb2 = mux b0 a a\nb3 = shl 0 a\nb4 = shr 63 a\nb5 = cast u64 a\nb6 = cast i1 a\nb7 = pair a a\nb8 = fst b7\nb9 = snd b7\nc0 = zip b b\nc1 = call g a a\nc2 = map f a0\nc3 = map2 g a0 a0\nc4 = reduce add b\nc5 = scan xor b\nc6 = shift 4096 b\nc7 = up 1 a\nc8 = select 0 b\nc9 = partition 2 4096 b\nd0 = unpartition b\nend d0 a d0\n";
-    let spread = text.as_bytes();
-    let mut wide = Vec::new(rt.alloc());
-    for byte in spread {
-        if *byte == b' ' {
-            wide.push(b'\t')?;
-        }
-        wide.push(*byte)?;
-    }
-    wide.extend_from_slice(b"# no line\n%%\n")?;
-    let program = parse(rt.alloc(), &wide)?;
+    let program = parse(rt.alloc(), text.as_bytes())?;
     assert_eq!(rt; print(rt.alloc(), &program)?.as_str(), text);
     Ok(())
 }
