@@ -5,3 +5,4 @@ pub mod FailingLine
 pub mod Scheduled
 pub mod Spreads
 pub mod Planned
+pub mod Sound

@@ -2,6 +2,8 @@
 
 ghost use Rattle.std.specs.Prelude.{◌≡◌, ◌<◌, ◌^◌, length, slice_get};
 ghost use Rattle.std.specs.Option.{option_map};
+ghost use Rattle.ae_rewrite.specs.StProgramTree.{st_func_trees};
+ghost use Rattle.ae_rewrite.specs.Sound.{IsSound};
 
 use ae_sttype::StType;
 use ae_word::WordOp;
@@ -85,6 +87,8 @@ impl Model for StProgram {
     ghost use Rattle.std.specs.Coded.{codes};
     ghost use Rattle.ae_sttype.specs.contracts.st_type.StType as e;
     ghost use Rattle.ae_rewrite.specs.declared.st_program.StFunc.{StFunc};
+    ghost use Rattle.ae_rewrite.specs.StProgramTree.{st_func_trees};
+    ghost use Rattle.ae_rewrite.specs.Sound.{IsSound};
 
     ghost Value = { List StFunc };
 
@@ -92,20 +96,23 @@ impl Model for StProgram {
 
     ghost view = { λ p. p.instances.items };
 
-    ghost invariant = { λ p. length p.instances.items < 2 ^ 32 };
+    ghost invariant = { λ p. (length p.instances.items < 2 ^ 32) × IsSound (st_func_trees p.instances.items) };
 }
 
 impl StProgram {
     pub(crate) fn new(instances: Vec<StFunc>) -> StProgram
-        requires { length instances.items < 2 ^ 32 }
+        requires few { length instances.items < 2 ^ 32 }
+        requires sound { IsSound (st_func_trees instances.items) }
         ensures { result ≡ instances.items }
     {
         StProgram { instances }
     }
 
-    /// How many instances there are.
+    /// How many instances there are, at least one; and what is sure of all of them.
     pub fn count(&self) -> u32
-        ensures { result ≡ length self.now }
+        ensures count { result ≡ length self.now }
+        ensures few { length self.now < 2 ^ 32 }
+        ensures sound { IsSound (st_func_trees self.now) }
     {
         self.instances.len() as u32
     }
