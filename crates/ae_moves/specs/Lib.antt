@@ -1,0 +1,5 @@
+pub mod Trees
+pub mod Trips
+pub mod Origins
+pub mod Rings
+pub mod Usages
