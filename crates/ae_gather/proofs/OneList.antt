@@ -6,7 +6,7 @@ use Rattle.std.proofs.lemmas.Option.{slice_get_within, slice_get-get_or}
 use Rattle.ae_netlist.specs.declared.cell.NetId.{NetId}
 use Rattle.ae_netlist.proofs.Gets.{get_left, get_push_cases}
 use Rattle.ae_gather.specs.Joins.{AreJoined, AreJoinedTo}
-use Rattle.ae_gather.proofs.Building.{sum_next}
+use Rattle.ae_moves.proofs.Lists.{sum_next}
 
 pub get_right : {X : Type 0} (xs ys : List X) (p : ℕ) → slice_get (xs ++ ys) (length xs + p) ≡ slice_get ys p
 get_right [] ys p = let e : 0 + p ≡ p = omega arith in rw e refl

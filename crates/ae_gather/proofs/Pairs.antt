@@ -10,7 +10,8 @@ use Rattle.ae_netlist.specs.Circuit.{IsNet, width_of}
 use Rattle.ae_clocked.proofs.Added.{own_net}
 use Rattle.ae_ops.specs.Waves.{AreNets}
 use Rattle.ae_ops.specs.Blocks.{AreBundles, Stream, stream_widths}
-use Rattle.ae_gather.specs.Gathers.{Layouts, Move, element_stream, move_of}
+use Rattle.ae_moves.specs.Origins.{Move}
+use Rattle.ae_gather.specs.Gathers.{Layouts, element_stream, move_of}
 
 abbrev pub grid : ℕ → StTree
 grid n = tseq n 0 (sseq 2 (atom (unsigned_word 8)))

@@ -1,12 +1,12 @@
 -- One trip more is planned.
-use Rattle.std.proofs.Common.{ℕ, zero, suc, ◌≡◌, ◌≢◌, ◌+◌, ◌<◌, ◌≤◌, ◌⊎◌, inl, inr, true, false, nat_lt, List, ◌∷◌, ◌++◌, [], length, map, take, set, Some, slice_get, arith, refl, sym, ap, ◌∙◌}
+use Rattle.std.proofs.Common.{ℕ, zero, suc, ◌≡◌, ◌≢◌, ◌+◌, ◌<◌, ◌≤◌, ◌⊎◌, inl, inr, true, false, nat_lt, List, ◌∷◌, ◌++◌, [], length, take, set, Some, slice_get, arith, refl, sym, ap, ◌∙◌}
 use Rattle.std.proofs.lemmas.List.{take_all, length-set, length_push}
 use Rattle.std.proofs.lemmas.Bool.{cases_eq}
 use Rattle.std.proofs.lemmas.Option.{slice_get_within}
 use Rattle.ae_netlist.proofs.Gets.{get_left, get_pushed, get_push_cases, get_set_other, get_set_same}
-use Rattle.ae_gather.specs.declared.trips.Choice.{Choice}
-use Rattle.ae_gather.specs.declared.trips.Choice.TheVariants.{Delayed, Constant}
-use Rattle.ae_gather.specs.declared.trips.Trip.{Trip}
+use Rattle.ae_moves.specs.declared.trip.Choice.{Choice}
+use Rattle.ae_moves.specs.declared.trip.Choice.TheVariants.{Delayed, Constant}
+use Rattle.ae_moves.specs.declared.trip.Trip.{Trip}
 use Rattle.ae_gather.specs.declared.trips.Step.{Step}
 use Rattle.ae_gather.specs.Plans.{choice_of, later, choice_in, AreInOrder, HasPlace, IsPlan, demanded}
 use Rattle.ae_gather.proofs.Choosing.{choice_one, choice_push, choice_more, first_take}
@@ -36,11 +36,6 @@ pub record Planned (d ins outs : ℕ) (trips : List Trip) (i : ℕ) (lines : Lis
   pub from : (q k : ℕ) (steps : List Step) (step : Step) → slice_get columns q ≡ Some steps → slice_get steps k ≡ Some step → ComesFrom d i trips q step
   pub taps : (q k : ℕ) (steps : List Step) (step : Step) → slice_get columns q ≡ Some steps → slice_get steps k ≡ Some step → HasPlace lines step.tap step.take
   pub few : (q : ℕ) (ages : List ℕ) → slice_get lines q ≡ Some ages → length ages ≤ i
-
-pub get_mapped : {X Y : Type 0} (f : X → Y) (xs : List X) (i : ℕ) (x : X) → slice_get xs i ≡ Some x → slice_get (map f xs) i ≡ Some (f x)
-get_mapped f [] i x h = cc
-get_mapped f (y ∷ xs) zero x h = let same : y ≡ x = cc in ap (λ z. Some (f z)) same
-get_mapped f (y ∷ xs) (suc i) x h = get_mapped f xs i x h
 
 pub get_set_cases : {X : Type 0} (xs : List X) (i n : ℕ) (y z x : X) → slice_get xs i ≡ Some z → slice_get (set xs i y) n ≡ Some x → ((n ≡ i) × (y ≡ x)) ⊎ ((n ≢ i) × (slice_get xs n ≡ Some x))
 get_set_cases xs i n y z x there found = elim (cases_eq n i) [

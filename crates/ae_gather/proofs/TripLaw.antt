@@ -8,9 +8,9 @@ use Rattle.ae_netlist.specs.declared.cell.SizedCell.{SizedCell}
 use Rattle.ae_netlist.specs.Circuit.{IsNet, Extends}
 use Rattle.ae_netlist.specs.Runs.{Clock, word_at, IsRun, IsReset}
 use Rattle.ae_clocked.specs.Phases.{phase_of, IsCounter}
-use Rattle.ae_gather.specs.declared.trips.Source.{Source}
-use Rattle.ae_gather.specs.declared.trips.Source.TheVariants.{Place, Fixed}
-use Rattle.ae_gather.specs.declared.trips.Trip.{Trip}
+use Rattle.ae_moves.specs.declared.trip.Source.{Source}
+use Rattle.ae_moves.specs.declared.trip.Source.TheVariants.{Place, Fixed}
+use Rattle.ae_moves.specs.declared.trip.Trip.{Trip}
 use Rattle.ae_gather.specs.declared.trips.Step.{Step}
 use Rattle.ae_gather.specs.Plans.{choice_from, choice_of, choice_in, IsReached, AreWithin, IsPlan}
 use Rattle.ae_gather.specs.Columns.{net_of, age_of, taken, IsColumn}

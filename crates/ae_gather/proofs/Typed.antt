@@ -1,37 +1,26 @@
 -- The trips of a move between layouts in size.
-use Rattle.std.proofs.Common.{ℕ, zero, suc, ◌≡◌, ◌+◌, ◌*◌, ◌/◌, ◌%◌, ◌<◌, ◌≤◌, max, fold, inl, inr, List, ◌∷◌, [], length, map, sum_by, Some, None, slice_get, get_or, option_map, false, arith, refl, sym, ap, ◌∙◌, subst}
-use Rattle.std.specs.List.{range_with_len}
+use Rattle.std.proofs.Common.{ℕ, ◌≡◌, ◌+◌, ◌*◌, ◌/◌, ◌%◌, ◌<◌, ◌≤◌, inl, inr, List, length, map, sum_by, get_or, arith, refl, sym, ap, ◌∙◌, subst}
 use Rattle.std.proofs.Math.Nat.{mul-le-mul_right}
-use Rattle.std.proofs.lemmas.List.{length-map}
-use Rattle.std.proofs.lemmas.List.FromFn.{length-map-range_with_len}
 use Rattle.std.proofs.lemmas.Bool.{cases_lt}
-use Rattle.std.proofs.lemmas.Nat.{div-add-mod', div-mul-add, div_below, mod-mul-add, mod_below, mul-add-lt}
-use Rattle.std.proofs.lemmas.Option.{slice_get_past, slice_get_within, slice_get-get_or, get_or_from_slice_get}
-use Rattle.ae_word.specs.AtomTree.{WordKind, atom_kinds, unsigned_word}
-use Rattle.ae_word.proofs.Sizes.{length-atom_kinds}
-use Rattle.ae_seqtype.proofs.Sizes.{one-atom_words}
+use Rattle.std.proofs.lemmas.Nat.{div-add-mod', div-mul-add, div_below, mod-mul-add, mod_below}
 use Rattle.ae_sttype.specs.declared.st_type.Slot.{Slot}
-use Rattle.ae_sttype.specs.StTree.{StTree, atom, tseq, sseq, time, lanes, st_atoms, element_atom, element_words}
+use Rattle.ae_sttype.specs.StTree.{StTree, atom, tseq, sseq, time, lanes, st_atoms, element_words}
 use Rattle.ae_sttype.specs.Slots.{slots}
 use Rattle.ae_sttype.specs.Size.{HasLengths, IsInSize}
-use Rattle.ae_sttype.specs.Moves.{OriginTree, SourceTree, TripTree, place, constant, from_input, fixed, columns_of, column_number, first_column, lead_from, source_of, trip_number, trips_of}
+use Rattle.ae_sttype.specs.Moves.{SourceTree, TripTree, fixed, columns_of, lead_from}
 use Rattle.ae_sttype.proofs.Bounds.{lanes_pos}
 use Rattle.ae_sttype.proofs.Lively.{lane_order}
 use Rattle.ae_sttype.proofs.Places.{get_or-copies, length-slots, slot_at, slot_below, slot_of}
-use Rattle.ae_gather.specs.declared.trips.Source.{Source}
-use Rattle.ae_gather.specs.declared.trips.Source.TheVariants.{Place, Fixed}
-use Rattle.ae_gather.specs.declared.trips.Trip.{Trip}
+use Rattle.ae_moves.specs.declared.trip.Source.{Source}
+use Rattle.ae_moves.specs.declared.trip.Source.TheVariants.{Place, Fixed}
+use Rattle.ae_moves.specs.declared.trip.Trip.{Trip}
 use Rattle.ae_gather.specs.Plans.{AreInOrder, AreUsed, AreWithin, IsIn, IsReached}
-use Rattle.ae_gather.specs.Trees.{source_tree, trip_tree}
-use Rattle.ae_gather.specs.Gathers.{HasOrigin, IsMove, Move, move_latency, move_trips, width_at}
-use Rattle.ae_gather.proofs.Building.{sum_next, sum_part}
-use Rattle.ae_gather.proofs.Delays.{fold_ge}
-use Rattle.ae_gather.proofs.Planning.{get_mapped}
+use Rattle.ae_moves.specs.Trees.{source_tree, trip_tree}
+use Rattle.ae_moves.specs.Origins.{IsMove, Move, move_latency, move_trips}
+use Rattle.ae_moves.proofs.Lists.{fold_ge, get_mapped}
+use Rattle.ae_moves.proofs.Words.{in_row, words_pos, sizes_of, trip_at, trip_there, column_below, InTree, origin_in, origin_at}
 
 -- ---- numbers and parts
-
-pub in_row : (q c n k : ℕ) → q < n → c < k → q * k + c < n * k
-in_row q c n k p h = omega (arith, mul-add-lt q k c n p h)
 
 same_parts : (a b c d w : ℕ) → b < w → d < w → a * w + b ≡ c * w + d → (a ≡ c) × (b ≡ d)
 same_parts a b c d w hb hd e = (sym (div-mul-add a w b hb) ∙ (ap (λ n. n / w) e ∙ div-mul-add c w d hd), sym (mod-mul-add a w b hb) ∙ (ap (λ n. n % w) e ∙ mod-mul-add c w d hd))
@@ -42,40 +31,7 @@ less_part m n w l e = elim (cases_lt (m / w) (n / w)) [
   | inr h ↦ (let g : n / w * w ≤ m / w * w = mul-le-mul_right w h in absurd (omega (arith, div-add-mod' m w, div-add-mod' n w)))
 ]
 
-range_get : (a n i : ℕ) → i < n → slice_get (range_with_len a n) i ≡ Some (a + i)
-range_get a zero i l = absurd (omega arith)
-range_get a (suc n) zero l = let e : a + 0 ≡ a = omega arith in rw e refl
-range_get a (suc n) (suc i) l = let e : a + suc i ≡ a + 1 + i = omega arith in rw e (range_get (a + 1) n i (omega arith))
-
-pub words_pos : (s : StTree) → 1 ≤ element_words s
-words_pos s = one-atom_words (element_atom s)
-
-pub sizes_of : (m : Move) → IsMove m → (i : ℕ) (s : StTree) → slice_get m.ins i ≡ Some s → IsInSize s
-sizes_of m h i s f = (h.types i s f).0
-
 -- ---- the trip of a number
-
-pub trip_at : (ins : List StTree) (out : StTree) (origins : List OriginTree) (trips : List Trip) → map trip_tree trips ≡ trips_of ins out origins → (n : ℕ) (t : Trip) → slice_get trips n ≡ Some t
-    → (n < st_atoms out * element_words out) × (trip_tree t ≡ trip_number ins out origins n)
-trip_at ins out origins trips e n t found =
-    let all : ℕ = st_atoms out * element_words out in
-    let l : n < length trips = slice_get_within trips n t found in
-    let long : length trips ≡ all = sym (length-map trips trip_tree) ∙ (ap length e ∙ length-map-range_with_len (trip_number ins out origins) 0 all) in
-    let small : n < all = omega arith in
-    let a : slice_get (map trip_tree trips) n ≡ Some (trip_tree t) = get_mapped trip_tree trips n t found in
-    let z : 0 + n ≡ n = omega arith in
-    let b : slice_get (trips_of ins out origins) n ≡ Some (trip_number ins out origins n) = get_mapped (trip_number ins out origins) (range_with_len 0 all) n n (rw z at (range_get 0 all n small)) in
-    let c : slice_get (map trip_tree trips) n ≡ Some (trip_number ins out origins n) = rw e b in
-    let same : trip_tree t ≡ trip_number ins out origins n = cc in
-    (small, same)
-
--- the trip of a number is there
-pub trip_there : (ins : List StTree) (out : StTree) (origins : List OriginTree) (trips : List Trip) → map trip_tree trips ≡ trips_of ins out origins → (n : ℕ) → n < st_atoms out * element_words out
-    → (t : Trip) × (slice_get trips n ≡ Some t)
-trip_there ins out origins trips e n l =
-    let long : length trips ≡ st_atoms out * element_words out = sym (length-map trips trip_tree) ∙ (ap length e ∙ length-map-range_with_len (trip_number ins out origins) 0 (st_atoms out * element_words out)) in
-    let none : Trip = record { clock = 0; column = 0; source = Fixed 0 } in
-    (get_or trips n none, slice_get-get_or trips n none (omega arith))
 
 order_at : (s : StTree) → HasLengths s → (e f : ℕ) → e < st_atoms s → f < st_atoms s → (slot_of s e).lane ≡ (slot_of s f).lane → e < f → (slot_of s e).clock < (slot_of s f).clock
 order_at s h e f le lf same l =
@@ -147,10 +103,6 @@ used m trips size e = record {
 
 -- ---- within the period, the columns and the latency
 
-abbrev pub InTree : ℕ → SourceTree → Type 0
-InTree n (place k q) = q < n
-InTree n (constant w) = Unit {0}
-
 in_by : (n : ℕ) (x : Source) (tree : SourceTree) → source_tree x ≡ tree → InTree n tree → IsIn n x
 in_by n (Place k q) tree e h = subst (InTree n) (sym e) h
 in_by n (Fixed w) tree e h = tt
@@ -158,40 +110,6 @@ in_by n (Fixed w) tree e h = tt
 lead_by : (d c : ℕ) (x : Source) → lead_from c (source_tree x) ≤ d → IsReached d c x
 lead_by d c (Place k q) h = omega arith
 lead_by d c (Fixed w) h = tt
-
--- where a word of an element stands among the columns of its layout
-pub column_below : (s : StTree) → IsInSize s → (e j : ℕ) → e < st_atoms s → j < element_words s → column_number s e j < columns_of s
-column_below s size e j le lj = in_row (slot_of s e).lane j (lanes s) (element_words s) (slot_below s size.lengths e le).1 lj
-
-pub word_below : (s : StTree) (j width : ℕ) → width_at s j ≡ Some width → j < element_words s
-word_below s j width h = elim (cases_lt j (length (atom_kinds (element_atom s)))) [
-  | inl l ↦ omega (arith, length-atom_kinds (element_atom s))
-  | inr l ↦ (let none : slice_get (atom_kinds (element_atom s)) j ≡ None = slice_get_past (atom_kinds (element_atom s)) j l in let x : option_map (λ (k : WordKind). k.width) None ≡ Some width = rw none at h in cc)
-]
-
--- the inputs before one, and it, have no more columns than all
-pub first_below : (ins : List StTree) (i c : ℕ) (s : StTree) → slice_get ins i ≡ Some s → c < columns_of s → first_column ins i + c < sum_by columns_of ins
-first_below ins i c s found l = omega (arith, sum_next columns_of ins i s found, sum_part columns_of ins (i + 1))
-
-origin_in : (ins : List StTree) (width : ℕ) (o : OriginTree) → ((i : ℕ) (s : StTree) → slice_get ins i ≡ Some s → IsInSize s) → HasOrigin ins width o → InTree (sum_by columns_of ins) (source_of ins o)
-origin_in ins width (from_input i e j) sizes h =
-    let is : get_or ins i (sseq 0 (atom (unsigned_word 1))) ≡ h.0 = get_or_from_slice_get ins i h.0 (sseq 0 (atom (unsigned_word 1))) h.1 in
-    rw is (first_below ins i (column_number h.0 e j) h.0 h.1 (column_below h.0 (sizes i h.0 h.1) e j h.2 (word_below h.0 j width h.3)))
-origin_in ins width (fixed w) sizes h = tt
-
--- the origin of an output word
-pub origin_at : (m : Move) (n : ℕ) → IsMove m → n < st_atoms m.out * element_words m.out
-    → (width : ℕ) × (width_at m.out (n % element_words m.out) ≡ Some width) × HasOrigin m.ins width (get_or m.origins n (fixed 0))
-origin_at m n h l =
-    let w : ℕ = element_words m.out in
-    let j : n % w < w = mod_below n w (words_pos m.out) in
-    let none : WordKind = record { signed = false; width = 0 } in
-    let kinds : List WordKind = atom_kinds (element_atom m.out) in
-    let k : WordKind = get_or kinds (n % w) none in
-    let there : slice_get kinds (n % w) ≡ Some k = slice_get-get_or kinds (n % w) none (omega (arith, length-atom_kinds (element_atom m.out))) in
-    let wide : width_at m.out (n % w) ≡ Some k.width = ap (option_map (λ (x : WordKind). x.width)) there in
-    let found : slice_get m.origins n ≡ Some (get_or m.origins n (fixed 0)) = slice_get-get_or m.origins n (fixed 0) (omega (arith, h.count)) in
-    (k.width, wide, h.origins n k.width _ found wide)
 
 pub within : (m : Move) (trips : List Trip) → IsMove m → map trip_tree trips ≡ move_trips m → AreWithin (time m.out) (move_latency m) (sum_by columns_of m.ins) (columns_of m.out) trips
 within m trips h e = record {
@@ -213,30 +131,3 @@ within m trips h e = record {
 }
 
 -- ---- the latency is within the period
-
-lead_le : {X : Type 0} (f : X → ℕ) (a m : ℕ) (xs : List X) → a ≤ m → ((x : X) (n : ℕ) → slice_get xs n ≡ Some x → f x ≤ m) → fold (λ most x. max most (f x)) a xs ≤ m
-lead_le f a m [] l h = l
-lead_le f a m (x ∷ xs) l h = let here : f x ≤ m = h x 0 refl in lead_le f (max a (f x)) m xs (omega arith) (λ y n g. h y (suc n) g)
-
-source_lead : (m : Move) (c width : ℕ) (o : OriginTree) → IsMove m → HasOrigin m.ins width o → lead_from c (source_of m.ins o) ≤ time m.out
-source_lead m c width (from_input i e j) h o =
-    let is : get_or m.ins i (sseq 0 (atom (unsigned_word 1))) ≡ o.0 = get_or_from_slice_get m.ins i o.0 (sseq 0 (atom (unsigned_word 1))) o.1 in
-    let l : (slot_of o.0 e).clock < time o.0 = (slot_below o.0 (h.types i o.0 o.1).0.lengths e o.2).0 in
-    let t : time o.0 ≡ time m.out = (h.types i o.0 o.1).1 in
-    rw is (omega arith)
-source_lead m c width (fixed w) h o = omega arith
-
-pub latency_small : (m : Move) → IsMove m → move_latency m ≤ 4096
-latency_small m h =
-    let all : ℕ = st_atoms m.out * element_words m.out in
-    let most : move_latency m ≤ time m.out =
-    lead_le (λ (v : TripTree). lead_from v.clock v.source) 0 (time m.out) (move_trips m) (omega arith) (λ x n f.
-    (let l : n < length (move_trips m) = slice_get_within (move_trips m) n x f in
-    let long : length (move_trips m) ≡ all = length-map-range_with_len (trip_number m.ins m.out m.origins) 0 all in
-    let small : n < all = omega arith in
-    let z : 0 + n ≡ n = omega arith in
-    let b : slice_get (move_trips m) n ≡ Some (trip_number m.ins m.out m.origins n) = get_mapped (trip_number m.ins m.out m.origins) (range_with_len 0 all) n n (rw z at (range_get 0 all n small)) in
-    let same : trip_number m.ins m.out m.origins n ≡ x = cc in
-    let o = origin_at m n h small in
-    rw (← same) (source_lead m (slot_of m.out (n / element_words m.out)).clock o.0 (get_or m.origins n (fixed 0)) h o.2))) in
-    omega (arith, h.out.in_time)

@@ -5,9 +5,9 @@ use Rattle.ae_netlist.specs.declared.cell.SizedCell.{SizedCell}
 use Rattle.ae_netlist.specs.Circuit.{IsNet}
 use Rattle.ae_netlist.specs.Runs.{Clock, word_at, InEveryResetRun}
 use Rattle.ae_clocked.specs.Delays.{AreTaps}
-use Rattle.ae_gather.specs.declared.trips.Source.{Source}
-use Rattle.ae_gather.specs.declared.trips.Source.TheVariants.{Place, Fixed}
-use Rattle.ae_gather.specs.declared.trips.Trip.{Trip}
+use Rattle.ae_moves.specs.declared.trip.Source.{Source}
+use Rattle.ae_moves.specs.declared.trip.Source.TheVariants.{Place, Fixed}
+use Rattle.ae_moves.specs.declared.trip.Trip.{Trip}
 use Rattle.ae_gather.specs.declared.trips.Step.{Step}
 use Rattle.ae_gather.specs.Plans.{choice_in}
 use Rattle.ae_gather.specs.Columns.{net_of, IsColumn}

@@ -1,6 +1,5 @@
 pub mod Plans
 pub mod Columns
-pub mod Trees
 pub mod Laws
 pub mod Gathers
 pub mod Joins

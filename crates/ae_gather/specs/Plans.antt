@@ -1,10 +1,10 @@
 -- The trips of a move, and the choices by which an output column makes them.
 use Rattle.std.specs.Prelude.{◌≡◌, ℕ, ◌+◌, ◌-◌, ◌*◌, ◌<◌, ◌≤◌, List, [], ◌∷◌, ◌++◌, length, fold, set, Some, slice_get, nat_lt, if◌then◌else◌}
-use Rattle.ae_gather.specs.declared.trips.Source.{Source}
-use Rattle.ae_gather.specs.declared.trips.Source.TheVariants.{Place, Fixed}
-use Rattle.ae_gather.specs.declared.trips.Choice.{Choice}
-use Rattle.ae_gather.specs.declared.trips.Choice.TheVariants.{Delayed, Constant}
-use Rattle.ae_gather.specs.declared.trips.Trip.{Trip}
+use Rattle.ae_moves.specs.declared.trip.Source.{Source}
+use Rattle.ae_moves.specs.declared.trip.Source.TheVariants.{Place, Fixed}
+use Rattle.ae_moves.specs.declared.trip.Choice.{Choice}
+use Rattle.ae_moves.specs.declared.trip.Choice.TheVariants.{Delayed, Constant}
+use Rattle.ae_moves.specs.declared.trip.Trip.{Trip}
 use Rattle.ae_gather.specs.declared.trips.Step.{Step}
 
 -- what the output takes with the latency d: a column so many clocks late, or a fixed word

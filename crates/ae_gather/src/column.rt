@@ -3,11 +3,12 @@
 ghost use Rattle.std.specs.Prelude.{◌≡◌, ◌<◌, ◌≤◌, ◌+◌, ◌^◌, ℕ, length, IfOk};
 ghost use Rattle.ae_netlist.specs.Circuit.{IsNet};
 ghost use Rattle.ae_clocked.specs.Signals.{Adds, IsFullAt};
-ghost use Rattle.ae_gather.specs.declared.trips.Choice.{Choice as Taken};
+ghost use Rattle.ae_moves.specs.declared.trip.Choice.{Choice as Taken};
 ghost use Rattle.ae_gather.specs.Plans.{choice_in, later, steps_cells};
 ghost use Rattle.ae_gather.specs.Columns.{AreReady, IsColumn, IsReady, IsSource};
 
-use crate::trips::{Choice, Step};
+use crate::trips::Step;
+use ae_moves::Choice;
 use ae_clocked::{Clocks, Tapped, choose, constant, less};
 use ae_netlist::{NetFault, NetId, Netlist};
 

@@ -11,4 +11,5 @@ mod stage;
 mod tests;
 mod trips;
 
-pub use stage::{Gather, Origin};
+pub use ae_moves::Origin;
+pub use stage::Gather;

@@ -11,13 +11,13 @@ ghost use Rattle.ae_clocked.specs.Delays.{greatest_of, line_cells};
 ghost use Rattle.ae_gather.specs.declared.trips.Step.{Step as Part};
 ghost use Rattle.ae_gather.specs.Plans.{AreInOrder, AreUsed, AreWithin, IsPlan, choice_in, steps_cells};
 ghost use Rattle.ae_gather.specs.Columns.{AreReady, net_of};
-ghost use Rattle.ae_gather.specs.Trees.{trip_tree};
+ghost use Rattle.ae_moves.specs.Trees.{trip_tree};
 ghost use Rattle.ae_gather.specs.Laws.{AreColumns, AreFitting, AreLines, MakesTrips};
 
 use crate::column::select;
 use crate::plan::{Ages, Plan, Steps, planned};
-use crate::trips::Trip;
 use ae_clocked::{Clocks, Tapped, line, width_at};
+use ae_moves::Trip;
 use ae_netlist::{NetFault, NetId, Netlist};
 use std::alloc::Global;
 

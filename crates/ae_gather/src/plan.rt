@@ -5,9 +5,10 @@ ghost use Rattle.ae_sttype.specs.Moves.{delay_of, runs_of};
 ghost use Rattle.ae_clocked.specs.Delays.{greatest_of};
 ghost use Rattle.ae_gather.specs.declared.trips.Step.{Step as Part};
 ghost use Rattle.ae_gather.specs.Plans.{choice_of, choice_from, IsReached, AreInOrder, AreWithin, IsPlan, demanded, IsInLines};
-ghost use Rattle.ae_gather.specs.Trees.{trip_tree};
+ghost use Rattle.ae_moves.specs.Trees.{trip_tree};
 
-use crate::trips::{Choice, Source, Step, Trip};
+use crate::trips::Step;
+use ae_moves::{Choice, Source, Trip};
 use std::alloc::{AllocError, Global};
 use std::marker::Model;
 
@@ -100,20 +101,19 @@ impl Steps {
     }
 }
 
-impl Trip {
-    fn choice(&self, d: u32) -> Choice
-        requires latency { d ≤ 4096 }
-        requires clock { self.now.clock < 4096 }
-        requires reached { IsReached d self.now.clock self.now.source }
-        ensures { result ≡ choice_of d self.now }
-    {
-        match self.source {
-            Source::Place { clock, column } => Choice::Delayed {
-                column,
-                age: self.clock + d - clock,
-            },
-            Source::Fixed(word) => Choice::Constant(word),
-        }
+// What the trip's column takes in its clock.
+fn choice(trip: &Trip, d: u32) -> Choice
+    requires latency { d ≤ 4096 }
+    requires clock { trip.now.clock < 4096 }
+    requires reached { IsReached d trip.now.clock trip.now.source }
+    ensures { result ≡ choice_of d trip.now }
+{
+    match trip.source {
+        Source::Place { clock, column } => Choice::Delayed {
+            column,
+            age: trip.clock + d - clock,
+        },
+        Source::Fixed(word) => Choice::Constant(word),
     }
 }
 
@@ -179,7 +179,7 @@ pub fn planned(
     let mut lines = no_ages(alloc, ins)?;
     let mut columns = no_steps(alloc, outs)?;
     for trip in trips {
-        let choice = trip.choice(d);
+        let choice = choice(trip, d);
         if !columns[trip.column as usize].ends_in(choice) {
             let tap = demand(&mut lines, choice)?;
             columns[trip.column as usize].add(Step {

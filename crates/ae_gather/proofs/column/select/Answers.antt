@@ -3,7 +3,7 @@ use Rattle.std.proofs.lemmas.Option.{slice_get-get_or}
 use Rattle.ae_netlist.proofs.Growing.{net_later}
 use Rattle.ae_clocked.proofs.Adding.{adds_most, adds_trans}
 use Rattle.ae_gather.specs.declared.trips.Step.{Step}
-use Rattle.ae_gather.specs.declared.trips.Choice.TheVariants.{Delayed}
+use Rattle.ae_moves.specs.declared.trip.Choice.TheVariants.{Delayed}
 use Rattle.ae_gather.proofs.Choosing.{first_column, next_column, whole_column, ready_grows}
 use Rattle.ae_gather.proofs.column.select.Goals as goal
 

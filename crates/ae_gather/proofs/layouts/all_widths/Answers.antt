@@ -1,7 +1,8 @@
 use Rattle.std.proofs.Common.{◌≡◌, ◌+◌, ◌*◌, ◌++◌, ◌∷◌, [], ◌∙◌, ap, arith}
 use Rattle.std.proofs.lemmas.List.{length_push}
 use Rattle.ae_sttype.specs.StTree.{element_words, lanes, st_tree}
-use Rattle.ae_gather.proofs.CodeLaws.{columns_small, widths_more}
+use Rattle.ae_moves.proofs.Words.{columns_small}
+use Rattle.ae_gather.proofs.CodeLaws.{widths_more}
 use Rattle.ae_gather.proofs.layouts.all_widths.Goals as goal
 
 pub overflow_mul-columns : goal.overflow_mul-columns

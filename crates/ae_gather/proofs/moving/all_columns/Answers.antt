@@ -7,7 +7,8 @@ use Rattle.ae_clocked.specs.Signals.{Adds}
 use Rattle.ae_gather.specs.Plans.{choice_in, steps_cells}
 use Rattle.ae_gather.specs.Columns.{IsColumn}
 use Rattle.ae_gather.proofs.Choosing.{all_ready_grows}
-use Rattle.ae_gather.proofs.Building.{columns_begin, columns_more, columns_whole, sum_next, sum_part}
+use Rattle.ae_moves.proofs.Lists.{sum_next, sum_part}
+use Rattle.ae_gather.proofs.Building.{columns_begin, columns_more, columns_whole}
 use Rattle.ae_gather.proofs.moving.all_columns.Goals as goal
 
 pub loop-q-init : goal.loop-q-init

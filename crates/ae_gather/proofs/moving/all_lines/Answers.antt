@@ -9,7 +9,8 @@ use Rattle.ae_clocked.proofs.Added.{own_net}
 use Rattle.ae_clocked.proofs.Belonging.{keeps_same}
 use Rattle.ae_ops.proofs.Lateness.{keeps_trans}
 use Rattle.ae_gather.specs.Columns.{net_of}
-use Rattle.ae_gather.proofs.Building.{lines_begin, lines_more, lines_whole, sum_next, sum_part}
+use Rattle.ae_moves.proofs.Lists.{sum_next, sum_part}
+use Rattle.ae_gather.proofs.Building.{lines_begin, lines_more, lines_whole}
 use Rattle.ae_gather.proofs.moving.all_lines.Goals as goal
 
 pub loop-q-init : goal.loop-q-init

@@ -2,13 +2,14 @@
 use Rattle.std.proofs.Common.{ℕ, ◌≡◌, ◌+◌, ◌<◌, length, map, slice_get, get_or, Some, IsTrue, arith, refl, sym, ap, ◌∙◌}
 use Rattle.std.proofs.lemmas.List.{length-map}
 use Rattle.std.proofs.lemmas.Option.{slice_get-get_or, slice_get_read, get_or_from_slice_get}
-use Rattle.ae_gather.specs.declared.trips.Source.TheVariants.{Place}
-use Rattle.ae_gather.specs.declared.trips.Trip.{Trip}
+use Rattle.ae_moves.specs.declared.trip.Source.TheVariants.{Place}
+use Rattle.ae_moves.specs.declared.trip.Trip.{Trip}
 use Rattle.ae_gather.specs.declared.trips.Step.{Step}
 use Rattle.ae_gather.specs.Plans.{choice_of, demanded}
-use Rattle.ae_gather.specs.Trees.{choice_tree, trip_tree}
+use Rattle.ae_moves.specs.Trees.{choice_tree, trip_tree}
 use Rattle.ae_gather.proofs.Delays.{ages_more, ages_none, delay_le, in_lines, none_sum, taps_more}
-use Rattle.ae_gather.proofs.Planning.{get_mapped, next_step, planned_none, planned_same, planned_more, plan_whole}
+use Rattle.ae_moves.proofs.Lists.{get_mapped}
+use Rattle.ae_gather.proofs.Planning.{next_step, planned_none, planned_same, planned_more, plan_whole}
 use Rattle.ae_gather.proofs.Counting.{choice_at, choice_is, counted_none, counted_same, counted_more, counts_whole, runs_sum, tree_same}
 use Rattle.ae_gather.proofs.plan.planned.Goals as goal
 use Rattle.ae_gather.proofs.plan.planned.Goals.{then-not-ends_in+in_ok-tap+in_ok-add, else-not-ends_in}

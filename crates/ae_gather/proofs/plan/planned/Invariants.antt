@@ -1,5 +1,5 @@
 use Rattle.std.proofs.Common.{◌≤◌, length, map, sum_by}
-use Rattle.ae_gather.specs.Trees.{trip_tree}
+use Rattle.ae_moves.specs.Trees.{trip_tree}
 use Rattle.ae_gather.proofs.Planning.{Planned}
 use Rattle.ae_gather.proofs.Counting.{Counted}
 use Rattle.ae_gather.proofs.Delays.{AreAges}

@@ -1,6 +1,6 @@
 use Rattle.std.proofs.Common.{map, refl, rules}
 use Rattle.ae_sttype.specs.StTree.{st_tree}
-use Rattle.ae_gather.specs.Gathers.{origin_tree}
+use Rattle.ae_moves.specs.Trees.{origin_tree}
 use Rattle.ae_gather.proofs.Pairs.{one_inputs}
 use Rattle.ae_gather.proofs.tests.of_bytes.Goals as goal
 

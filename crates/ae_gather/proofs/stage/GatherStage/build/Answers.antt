@@ -3,12 +3,14 @@ use Rattle.std.proofs.Common.{◌≡◌, length, map, arith, ap, ◌∙◌}
 use Rattle.std.proofs.lemmas.List.{length-map}
 use Rattle.ae_sttype.specs.StTree.{st_tree}
 use Rattle.ae_sttype.proofs.Bounds.{time_pos}
-use Rattle.ae_gather.specs.Trees.{trip_tree}
-use Rattle.ae_gather.specs.Gathers.{AreWidths, Move, move_of, move_trips, origin_tree}
+use Rattle.ae_moves.specs.Trees.{trip_tree, origin_tree}
+use Rattle.ae_moves.specs.Origins.{Move, move_trips}
+use Rattle.ae_gather.specs.Gathers.{AreWidths, move_of}
 use Rattle.ae_gather.specs.Joins.{AreJoined}
-use Rattle.ae_gather.proofs.CodeLaws.{cells_as, columns_pos, columns_small, firsts_at, law_as, nets_long, trips_few, used_as, within_as}
+use Rattle.ae_moves.proofs.Words.{columns_small, trips_few, latency_small}
+use Rattle.ae_gather.proofs.CodeLaws.{cells_as, columns_pos, firsts_at, law_as, nets_long, used_as, within_as}
 use Rattle.ae_gather.proofs.GatherLaw.{fitting, flat_nets, out_nets}
-use Rattle.ae_gather.proofs.Typed.{in_order, latency_small}
+use Rattle.ae_gather.proofs.Typed.{in_order}
 use Rattle.ae_gather.proofs.stage.GatherStage.build.Goals as goal
 
 pub all_trips-requires-clause-firsts : goal.all_trips-requires-clause-firsts
