@@ -8,13 +8,12 @@ use Rattle.std.proofs.lemmas.Nat.{div-add-mod', div-mul-add, div_below, mod-mul-
 use Rattle.std.proofs.lemmas.Option.{slice_get_within, slice_get-get_or, get_or_from_slice_get}
 use Rattle.ae_word.specs.AtomTree.{AtomTree, WordKind, word, pair, atom_kinds, atom_in_size, unsigned_word, widths_in_range}
 use Rattle.ae_word.proofs.Sizes.{length-atom_kinds}
-use Rattle.ae_seqtype.specs.SeqTree.{kinds, repeated}
-use Rattle.ae_seqtype.specs.ValueTree.{Fit, FitKinds, ValueTree, end, flat, value_of}
+use Rattle.ae_seqtype.specs.SeqTree.{repeated}
 use Rattle.ae_seqtype.proofs.Sizes.{length-repeated}
-use Rattle.ae_seqtype.proofs.Values.{flat-value_of}
 use Rattle.ae_sttype.specs.declared.st_type.Slot.{Slot}
 use Rattle.ae_sttype.specs.StTree.{StTree, atom, tseq, sseq, time, lanes, st_atoms, element_atom, element_words}
 use Rattle.ae_sttype.specs.Slots.{slots}
+use Rattle.ae_sttype.specs.Holds.{Holds}
 use Rattle.ae_sttype.specs.Size.{HasLengths, IsInSize}
 use Rattle.ae_sttype.specs.Moves.{OriginTree, SourceTree, TripTree, place, constant, from_input, fixed, columns_of, column_number, first_column, source_of}
 use Rattle.ae_sttype.proofs.Places.{length-slots, slot_below, slot_of, stands_from_get}
@@ -24,7 +23,7 @@ use Rattle.ae_netlist.specs.Circuit.{IsNet}
 use Rattle.ae_netlist.specs.Runs.{Clock, word_at}
 use Rattle.ae_netlist.proofs.Gets.{get_left}
 use Rattle.ae_ops.specs.Waves.{AreNets, Wave, wave_of}
-use Rattle.ae_ops.specs.Blocks.{AllHold, AreBundles, AreValues, HoldsValue, IsValue, KeepsLaw, stream_widths}
+use Rattle.ae_ops.specs.Blocks.{AllHold, AreBundles, KeepsLaw, stream_of, stream_widths}
 use Rattle.ae_moves.specs.declared.trip.Source.{Source}
 use Rattle.ae_moves.specs.declared.trip.Source.TheVariants.{Place, Fixed}
 use Rattle.ae_moves.specs.declared.trip.Trip.{Trip}
@@ -32,7 +31,7 @@ use Rattle.ae_gather.specs.Columns.{net_of}
 use Rattle.ae_gather.specs.Laws.{AreFitting, FitsColumn, MakesTrips, sourced}
 use Rattle.ae_moves.specs.Trees.{source_tree, trip_tree}
 use Rattle.ae_moves.specs.Origins.{HasOrigin, IsMove, Move, move_latency, move_trips, width_at}
-use Rattle.ae_gather.specs.Gathers.{AreWidths, element_stream, elements_type, gather_part, origin_word}
+use Rattle.ae_gather.specs.Gathers.{AreWidths, gather_part, origin_word}
 use Rattle.ae_gather.specs.Joins.{AreJoined}
 use Rattle.ae_gather.proofs.OneList.{get_append_cases, get_right}
 use Rattle.ae_moves.proofs.Lists.{get_mapped}
@@ -61,19 +60,19 @@ widths_of s = map (λ (k : WordKind). k.width) (atom_kinds (element_atom s))
 length_widths : (s : StTree) → length (widths_of s) ≡ element_words s
 length_widths s = length-map (atom_kinds (element_atom s)) (λ (k : WordKind). k.width) ∙ length-atom_kinds (element_atom s)
 
-pub widths_at : (s : StTree) (l j : ℕ) → l < lanes s → j < element_words s → slice_get (stream_widths (element_stream s)) (l * element_words s + j) ≡ width_at s j
+pub widths_at : (s : StTree) (l j : ℕ) → l < lanes s → j < element_words s → slice_get (stream_widths (stream_of s)) (l * element_words s + j) ≡ width_at s j
 widths_at s l j p q =
     let e : length (widths_of s) ≡ element_words s = length_widths s in
     rw e at (repeated_at 0 (lanes s) (widths_of s) l j p (omega arith)) ∙ map_get (λ (k : WordKind). k.width) (atom_kinds (element_atom s)) j
 
-pub length_stream : (s : StTree) → length (stream_widths (element_stream s)) ≡ columns_of s
+pub length_stream : (s : StTree) → length (stream_widths (stream_of s)) ≡ columns_of s
 length_stream s = length-repeated (lanes s) (widths_of s) ∙ ap (λ n. lanes s * n) (length_widths s)
 
 -- ---- nets of bundles
 
-pub bundle_columns : (cells : List SizedCell) (ins : List StTree) (bundles : List (List NetId)) → AreBundles cells (map element_stream ins) bundles → (i : ℕ) (s : StTree) (nets : List NetId)
+pub bundle_columns : (cells : List SizedCell) (ins : List StTree) (bundles : List (List NetId)) → AreBundles cells (map stream_of ins) bundles → (i : ℕ) (s : StTree) (nets : List NetId)
     → slice_get ins i ≡ Some s → slice_get bundles i ≡ Some nets → length nets ≡ columns_of s
-bundle_columns cells ins bundles h i s nets f g = (h.each i (element_stream s) nets (get_mapped element_stream ins i s f) g).long ∙ length_stream s
+bundle_columns cells ins bundles h i s nets f g = (h.each i (stream_of s) nets (get_mapped stream_of ins i s f) g).long ∙ length_stream s
 
 sums_same : (ins : List StTree) (bundles : List (List NetId)) → length bundles ≡ length ins → ((i : ℕ) (s : StTree) (nets : List NetId) → slice_get ins i ≡ Some s → slice_get bundles i ≡ Some nets → length nets ≡ columns_of s)
     → (i : ℕ) → sum_by length (take i bundles) ≡ sum_by columns_of (take i ins)
@@ -86,10 +85,10 @@ sums_same (s ∷ ins) (b ∷ bundles) long h (suc i) =
     let rest : sum_by length (take i bundles) ≡ sum_by columns_of (take i ins) = sums_same ins bundles (omega (arith, long)) (λ k t nets f g. h (suc k) t nets f g) i in
     omega (arith, sum_by-cons length b (take i bundles), sum_by-cons columns_of s (take i ins))
 
-pub bundles_long : (cells : List SizedCell) (ins : List StTree) (bundles : List (List NetId)) → AreBundles cells (map element_stream ins) bundles → length bundles ≡ length ins
-bundles_long cells ins bundles h = h.long ∙ length-map ins element_stream
+pub bundles_long : (cells : List SizedCell) (ins : List StTree) (bundles : List (List NetId)) → AreBundles cells (map stream_of ins) bundles → length bundles ≡ length ins
+bundles_long cells ins bundles h = h.long ∙ length-map ins stream_of
 
-pub firsts_same : (cells : List SizedCell) (ins : List StTree) (bundles : List (List NetId)) → AreBundles cells (map element_stream ins) bundles → (i : ℕ) → sum_by length (take i bundles) ≡ first_column ins i
+pub firsts_same : (cells : List SizedCell) (ins : List StTree) (bundles : List (List NetId)) → AreBundles cells (map stream_of ins) bundles → (i : ℕ) → sum_by length (take i bundles) ≡ first_column ins i
 firsts_same cells ins bundles h i = sums_same ins bundles (bundles_long cells ins bundles h) (bundle_columns cells ins bundles h) i
 
 -- the net of a word of an element of an input
@@ -101,7 +100,7 @@ pub record HasNet (cells : List SizedCell) (bundles : List (List NetId)) (flat :
   pub is_net : IsNet cells net.0 width
   pub same : net_of flat (first + column) ≡ net.0
 
-pub net_at : (cells : List SizedCell) (ins : List StTree) (bundles : List (List NetId)) (flat : List NetId) (firsts : List ℕ) (i e j width : ℕ) (s : StTree) → AreBundles cells (map element_stream ins) bundles → AreJoined bundles flat firsts
+pub net_at : (cells : List SizedCell) (ins : List StTree) (bundles : List (List NetId)) (flat : List NetId) (firsts : List ℕ) (i e j width : ℕ) (s : StTree) → AreBundles cells (map stream_of ins) bundles → AreJoined bundles flat firsts
     → IsInSize s → slice_get ins i ≡ Some s → e < st_atoms s → width_at s j ≡ Some width → HasNet cells bundles flat i (column_number s e j) (first_column ins i) width
 net_at cells ins bundles flat firsts i e j width s h joined size f le wide =
     let none : NetId = record { 0 = 0 } in
@@ -115,19 +114,19 @@ net_at cells ins bundles flat firsts i e j width s h joined size f le wide =
     let count : length nets ≡ columns_of s = bundle_columns cells ins bundles h i s nets f there in
     let net : NetId = get_or nets c none in
     let found : slice_get nets c ≡ Some net = slice_get-get_or nets c none (omega arith) in
-    let at : slice_get (stream_widths (element_stream s)) c ≡ Some width = widths_at s (slot_of s e).lane j (slot_below s size.lengths e le).1 word ∙ wide in
+    let at : slice_get (stream_widths (stream_of s)) c ≡ Some width = widths_at s (slot_of s e).lane j (slot_below s size.lengths e le).1 word ∙ wide in
     let place : slice_get flat (first_column ins i + c) ≡ Some net = rw (firsts_same cells ins bundles h i) at (joined.each i c nets net (omega arith) there found) in
     record {
       nets = nets;
       net = net;
       there = there;
       found = found;
-      is_net = (h.each i (element_stream s) nets (get_mapped element_stream ins i s f) there).each c width net at found;
+      is_net = (h.each i (stream_of s) nets (get_mapped stream_of ins i s f) there).each c width net at found;
       same = ap (λ (x : NetId). x.0) (get_or_from_slice_get flat (first_column ins i + c) net none place);
     }
 
 -- each joined net is a net
-pub flat_nets : (cells : List SizedCell) (ins : List StTree) (bundles : List (List NetId)) (flat : List NetId) (firsts : List ℕ) → AreBundles cells (map element_stream ins) bundles → AreJoined bundles flat firsts
+pub flat_nets : (cells : List SizedCell) (ins : List StTree) (bundles : List (List NetId)) (flat : List NetId) (firsts : List ℕ) → AreBundles cells (map stream_of ins) bundles → AreJoined bundles flat firsts
     → (q : ℕ) → q < length flat → (w : ℕ) × IsNet cells (net_of flat q) w
 flat_nets cells ins bundles flat firsts h joined q l =
     let none : NetId = record { 0 = 0 } in
@@ -137,9 +136,9 @@ flat_nets cells ins bundles flat firsts h joined q l =
     let blank : StTree = sseq 0 (atom (unsigned_word 1)) in
     let s : StTree = get_or ins from.bundle blank in
     let f : slice_get ins from.bundle ≡ Some s = slice_get-get_or ins from.bundle blank (omega arith) in
-    let nets = h.each from.bundle (element_stream s) from.nets (get_mapped element_stream ins from.bundle s f) from.there in
+    let nets = h.each from.bundle (stream_of s) from.nets (get_mapped stream_of ins from.bundle s f) from.there in
     let lp : from.place < length from.nets = slice_get_within from.nets from.place (get_or flat q none) from.found in
-    let widths : List ℕ = stream_widths (element_stream s) in
+    let widths : List ℕ = stream_widths (stream_of s) in
     let wide : slice_get widths from.place ≡ Some (get_or widths from.place 0) = slice_get-get_or widths from.place 0 (omega (arith, nets.long)) in
     (get_or widths from.place 0, nets.each from.place (get_or widths from.place 0) (get_or flat q none) wide from.found)
 
@@ -187,7 +186,7 @@ fits_by : (cells : List SizedCell) (flat : List NetId) (w : ℕ) (x : Source) (t
 fits_by cells flat w (Place k q) tree e h = subst (FitsTree cells flat w) (sym e) h
 fits_by cells flat w (Fixed v) tree e h = subst (FitsTree cells flat w) (sym e) h
 
-origin_fits : (cells : List SizedCell) (ins : List StTree) (bundles : List (List NetId)) (flat : List NetId) (firsts : List ℕ) (width : ℕ) (o : OriginTree) → AreBundles cells (map element_stream ins) bundles → AreJoined bundles flat firsts
+origin_fits : (cells : List SizedCell) (ins : List StTree) (bundles : List (List NetId)) (flat : List NetId) (firsts : List ℕ) (width : ℕ) (o : OriginTree) → AreBundles cells (map stream_of ins) bundles → AreJoined bundles flat firsts
     → ((i : ℕ) (s : StTree) → slice_get ins i ≡ Some s → IsInSize s) → HasOrigin ins width o → FitsTree cells flat width (source_of ins o)
 origin_fits cells ins bundles flat firsts width (from_input i e j) h joined sizes o =
     let is : get_or ins i (sseq 0 (atom (unsigned_word 1))) ≡ o.0 = get_or_from_slice_get ins i o.0 (sseq 0 (atom (unsigned_word 1))) o.1 in
@@ -195,7 +194,7 @@ origin_fits cells ins bundles flat firsts width (from_input i e j) h joined size
     rw is (rw n.same n.is_net)
 origin_fits cells ins bundles flat firsts width (fixed w) h joined sizes o = o
 
-pub fitting : (cells : List SizedCell) (m : Move) (bundles : List (List NetId)) (flat : List NetId) (firsts widths : List ℕ) (trips : List Trip) → IsMove m → AreBundles cells (map element_stream m.ins) bundles → AreJoined bundles flat firsts
+pub fitting : (cells : List SizedCell) (m : Move) (bundles : List (List NetId)) (flat : List NetId) (firsts widths : List ℕ) (trips : List Trip) → IsMove m → AreBundles cells (map stream_of m.ins) bundles → AreJoined bundles flat firsts
     → map trip_tree trips ≡ move_trips m → AreWidths m.out widths → AreFitting cells flat widths trips
 fitting cells m bundles flat firsts widths trips h made joined e wide = record {
   low = λ q w f. (width_range m.out (q % element_words m.out) w h.out (wide q w f)).0;
@@ -213,88 +212,19 @@ fitting cells m bundles flat firsts widths trips h made joined e wide = record {
       fits_by cells flat w t.source _ (ap (λ (v : TripTree). v.source) x.1) (rw same at fit);
 }
 
--- ---- values
+-- ---- words
 
-values_at : (ins : List StTree) (vs : List ValueTree) → AreValues (map element_stream ins) vs → (i : ℕ) (s : StTree) → slice_get ins i ≡ Some s → IsValue (elements_type s) (get_or vs i end)
-values_at [] vs h i s f = cc
-values_at (t ∷ ins) [] h i s f = absurd h
-values_at (t ∷ ins) (v ∷ vs) h zero s f = let e : t ≡ s = cc in subst (λ (x : StTree). IsValue (elements_type x) v) e h.0
-values_at (t ∷ ins) (v ∷ vs) h (suc i) s f = values_at ins vs h.1 i s f
-
-hold_at : (k : ℕ) (ins : List StTree) (ws : List Wave) (vs : List ValueTree) → AllHold k (map element_stream ins) ws vs → (i : ℕ) (s : StTree) (wave : Wave) → slice_get ins i ≡ Some s → slice_get ws i ≡ Some wave
-    → HoldsValue k (element_stream s) wave (get_or vs i end)
+hold_at : (k : ℕ) (ins : List StTree) (ws : List Wave) (vs : List (List ℕ)) → AllHold k (map stream_of ins) ws vs → (i : ℕ) (s : StTree) (wave : Wave) → slice_get ins i ≡ Some s → slice_get ws i ≡ Some wave
+    → Holds wave k (element_words s) (slots s) (get_or vs i [])
 hold_at k [] ws vs h i s wave f g = cc
 hold_at k (t ∷ ins) [] vs h i s wave f g = absurd h
 hold_at k (t ∷ ins) (u ∷ ws) [] h i s wave f g = absurd h
 hold_at k (t ∷ ins) (u ∷ ws) (v ∷ vs) h zero s wave f g =
     let a : t ≡ s = cc in
     let b : u ≡ wave = cc in
-    subst (λ (x : StTree). HoldsValue k (element_stream x) wave v) a (subst (λ (x : Wave). HoldsValue k (element_stream t) x v) b h.0)
+    let here : Holds u k (element_words t) (slots t) v = rw (length_widths t) at h.0 in
+    subst (λ (x : StTree). Holds wave k (element_words x) (slots x) v) a (subst (λ (x : Wave). Holds x k (element_words t) (slots t) v) b here)
 hold_at k (t ∷ ins) (u ∷ ws) (v ∷ vs) h (suc i) s wave f g = hold_at k ins ws vs h.1 i s wave f g
-
-fit_each : (ws : List ℕ) (ks : List WordKind) → length ws ≡ length ks → ((o x : ℕ) (k : WordKind) → slice_get ws o ≡ Some x → slice_get ks o ≡ Some k → x < 2 ^ k.width) → FitKinds ws ks
-fit_each [] [] e h = tt
-fit_each (x ∷ ws) (k ∷ ks) e h = (h 0 x k refl refl, fit_each ws ks (omega (arith, e)) (λ o y l f g. h (suc o) y l f g))
-fit_each [] (k ∷ ks) e h = absurd (omega (arith, e))
-fit_each (x ∷ ws) [] e h = absurd (omega (arith, e))
-
-each_fit : (ws : List ℕ) (ks : List WordKind) → FitKinds ws ks → (o : ℕ) (k : WordKind) → slice_get ks o ≡ Some k → get_or ws o 0 < 2 ^ k.width
-each_fit [] [] h o k f = cc
-each_fit (x ∷ ws) (l ∷ ks) h zero k f = let e : l ≡ k = cc in subst (λ (y : WordKind). x < 2 ^ y.width) e h.0
-each_fit (x ∷ ws) (l ∷ ks) h (suc o) k f = each_fit ws ks h.1 o k f
-each_fit [] (k ∷ ks) h o l f = absurd h
-each_fit (x ∷ ws) [] h o k f = absurd h
-
-kinds_at : (s : StTree) (e j : ℕ) → e < st_atoms s → j < element_words s → slice_get (kinds (elements_type s)) (e * element_words s + j) ≡ slice_get (atom_kinds (element_atom s)) j
-kinds_at s e j le lj =
-    let n : length (atom_kinds (element_atom s)) ≡ element_words s = length-atom_kinds (element_atom s) in
-    rw n at (repeated_at (record { signed = false; width = 0 }) (st_atoms s) (atom_kinds (element_atom s)) e j le (omega arith))
-
-word_fits : (ins : List StTree) (vs : List ValueTree) (width : ℕ) (o : OriginTree) → AreValues (map element_stream ins) vs → HasOrigin ins width o → origin_word ins vs o < 2 ^ width
-word_fits ins vs width (from_input i e j) h o =
-    let s : StTree = o.0 in
-    let is : get_or ins i (sseq 0 (atom (unsigned_word 1))) ≡ s = get_or_from_slice_get ins i s (sseq 0 (atom (unsigned_word 1))) o.1 in
-    let lj : j < element_words s = word_below s j width o.3 in
-    let none : WordKind = record { signed = false; width = 0 } in
-    let k : WordKind = get_or (atom_kinds (element_atom s)) j none in
-    let f : slice_get (atom_kinds (element_atom s)) j ≡ Some k = slice_get-get_or (atom_kinds (element_atom s)) j none (omega (arith, length-atom_kinds (element_atom s))) in
-    let wide : Some k.width ≡ Some width = rw f at o.3 in
-    let same : k.width ≡ width = cc in
-    let at : slice_get (kinds (elements_type s)) (e * element_words s + j) ≡ Some k = kinds_at s e j o.2 lj ∙ f in
-    rw (is, ← same) (each_fit (flat (get_or vs i end)) (kinds (elements_type s)) (values_at ins vs h i s o.1).fits (e * element_words s + j) k at)
-word_fits ins vs width (fixed w) h o = o
-
-length_made : (m : Move) (vs : List ValueTree) → IsMove m → length (map (origin_word m.ins vs) m.origins) ≡ st_atoms m.out * element_words m.out
-length_made m vs h = length-map m.origins (origin_word m.ins vs) ∙ h.count
-
-flat_made : (m : Move) (vs : List ValueTree) → IsMove m → flat (value_of (elements_type m.out) (map (origin_word m.ins vs) m.origins)) ≡ map (origin_word m.ins vs) m.origins
-flat_made m vs h = flat-value_of (elements_type m.out) (map (origin_word m.ins vs) m.origins) (length_made m vs h)
-
-fit_made : (m : Move) (vs : List ValueTree) → IsMove m → AreValues (map element_stream m.ins) vs → Fit (elements_type m.out) (map (origin_word m.ins vs) m.origins)
-fit_made m vs h values =
-    let w : ℕ = element_words m.out in
-    let ws : List ℕ = map (origin_word m.ins vs) m.origins in
-    let ks : List WordKind = atom_kinds (element_atom m.out) in
-    let lk : length ks ≡ w = length-atom_kinds (element_atom m.out) in
-    let long : length ws ≡ length (repeated (st_atoms m.out) ks) = length_made m vs h ∙ sym (length-repeated (st_atoms m.out) ks ∙ ap (λ n. st_atoms m.out * n) lk) in
-    fit_each ws (repeated (st_atoms m.out) ks) long (λ o x k f g.
-    (let small : o < st_atoms m.out * w = (let l : o < length ws = slice_get_within ws o x f in omega (arith, length_made m vs h)) in
-    let eo : o / w < st_atoms m.out = div_below o w (st_atoms m.out) (words_pos m.out) small in
-    let jo : o % w < w = mod_below o w (words_pos m.out) in
-    let parts : o / w * w + o % w ≡ o = div-add-mod' o w in
-    let at : slice_get ks (o % w) ≡ Some k = sym (kinds_at m.out (o / w) (o % w) eo jo) ∙ (ap (slice_get (kinds (elements_type m.out))) parts ∙ g) in
-    let wide : width_at m.out (o % w) ≡ Some k.width = ap (option_map (λ (y : WordKind). y.width)) at in
-    let origin : OriginTree = get_or m.origins o (fixed 0) in
-    let found : slice_get m.origins o ≡ Some origin = slice_get-get_or m.origins o (fixed 0) (omega (arith, h.count)) in
-    let is : slice_get ws o ≡ Some (origin_word m.ins vs origin) = get_mapped (origin_word m.ins vs) m.origins o origin found in
-    let same : origin_word m.ins vs origin ≡ x = cc in
-    rw (← same) (word_fits m.ins vs k.width origin values (h.origins o k.width origin found wide))))
-
-typed_made : (m : Move) (vs : List ValueTree) → IsMove m → AreValues (map element_stream m.ins) vs → IsValue (elements_type m.out) (value_of (elements_type m.out) (map (origin_word m.ins vs) m.origins))
-typed_made m vs h values = record {
-  fits = rw (flat_made m vs h) (fit_made m vs h values);
-  value = ap (value_of (elements_type m.out)) (flat_made m vs h);
-}
 
 -- ---- the law
 
@@ -310,9 +240,9 @@ wave_word : (run : List Clock) (start c q : ℕ) (nets : List NetId) (net : NetI
 unfolding wave_of
 wave_word run start c q nets net f = rw f refl
 
-sourced_is : (cells : List SizedCell) (run : List Clock) (start a : ℕ) (ins : List StTree) (bundles : List (List NetId)) (joined_nets : List NetId) (firsts : List ℕ) (vs : List ValueTree) (width : ℕ) (o : OriginTree)
-    → AreBundles cells (map element_stream ins) bundles → AreJoined bundles joined_nets firsts → ((i : ℕ) (s : StTree) → slice_get ins i ≡ Some s → IsInSize s) → HasOrigin ins width o
-    → AllHold a (map element_stream ins) (map (wave_of run start) bundles) vs → sourced_tree run start a joined_nets (source_of ins o) ≡ origin_word ins vs o
+sourced_is : (cells : List SizedCell) (run : List Clock) (start a : ℕ) (ins : List StTree) (bundles : List (List NetId)) (joined_nets : List NetId) (firsts : List ℕ) (vs : List (List ℕ)) (width : ℕ) (o : OriginTree)
+    → AreBundles cells (map stream_of ins) bundles → AreJoined bundles joined_nets firsts → ((i : ℕ) (s : StTree) → slice_get ins i ≡ Some s → IsInSize s) → HasOrigin ins width o
+    → AllHold a (map stream_of ins) (map (wave_of run start) bundles) vs → sourced_tree run start a joined_nets (source_of ins o) ≡ origin_word ins vs o
 sourced_is cells run start a ins bundles joined_nets firsts vs width (from_input i e j) h joined sizes o given =
     let s : StTree = o.0 in
     let is : get_or ins i (sseq 0 (atom (unsigned_word 1))) ≡ s = get_or_from_slice_get ins i s (sseq 0 (atom (unsigned_word 1))) o.1 in
@@ -324,12 +254,10 @@ sourced_is cells run start a ins bundles joined_nets firsts vs width (from_input
     rw is (ap (word_at run (start + (a + slot.clock))) n.same ∙ (sym at ∙ held))
 sourced_is cells run start a ins bundles joined_nets firsts vs width (fixed w) h joined sizes o given = refl
 
-pub gather_law : (old cells : List SizedCell) (rst arrival : ℕ) (m : Move) (bundles : List (List NetId)) (joined_nets : List NetId) (firsts : List ℕ) (trips : List Trip) (out : List NetId) → IsMove m → AreBundles old (map element_stream m.ins) bundles
+pub gather_law : (old cells : List SizedCell) (rst arrival : ℕ) (m : Move) (bundles : List (List NetId)) (joined_nets : List NetId) (firsts : List ℕ) (trips : List Trip) (out : List NetId) → IsMove m → AreBundles old (map stream_of m.ins) bundles
     → AreJoined bundles joined_nets firsts → map trip_tree trips ≡ move_trips m → length out ≡ columns_of m.out → MakesTrips cells rst (time m.out) (move_latency m) arrival joined_nets out trips → KeepsLaw cells rst arrival (gather_part m) bundles out
 gather_law old cells rst arrival m bundles joined_nets firsts trips out h made joined e long makes = λ all x run r start reset. record {
-  lasts = refl;
-  typed = λ vs values. typed_made m vs h values;
-  makes = λ b vs enough values given i j slot found small.
+  makes = λ b vs enough values given. rw (length_widths m.out) (λ i j slot found small.
       let w : ℕ = element_words m.out in
       let d : ℕ = move_latency m in
       let p : ℕ = time m.out in
@@ -361,12 +289,12 @@ gather_law old cells rst arrival m bundles joined_nets firsts trips out h made j
       ∙ (rw clock at word
       ∙ (sourced_by run start (arrival + b * p) joined_nets t.0.source _ (ap (λ (v : TripTree). v.source) y.1)
       ∙ (sourced_is old run start (arrival + b * p) m.ins bundles joined_nets firsts vs o.0 origin made joined (sizes_of m h) o.2 given
-      ∙ (sym value ∙ ap (λ ws. get_or ws n 0) (sym (flat_made m vs h))))));
+      ∙ sym value))));
 }
 
 -- the output is a bundle of its widths
 pub out_nets : (cells : List SizedCell) (m : Move) (widths : List ℕ) (out : List NetId) → IsMove m → length out ≡ length widths → length widths ≡ columns_of m.out → AreWidths m.out widths
-    → ((q w : ℕ) (y : NetId) → slice_get widths q ≡ Some w → slice_get out q ≡ Some y → IsNet cells y.0 w) → AreNets cells (stream_widths (element_stream m.out)) out
+    → ((q w : ℕ) (y : NetId) → slice_get widths q ≡ Some w → slice_get out q ≡ Some y → IsNet cells y.0 w) → AreNets cells (stream_widths (stream_of m.out)) out
 out_nets cells m widths out h lo lw wide nets = record {
   long = lo ∙ (lw ∙ sym (length_stream m.out));
   each = λ q width y f g.
@@ -374,7 +302,7 @@ out_nets cells m widths out h lo lw wide nets = record {
       let l : q < lanes m.out * w = (let a : q < length out = slice_get_within out q y g in omega arith) in
       let lane : q / w < lanes m.out = div_below q w (lanes m.out) (words_pos m.out) l in
       let j : q % w < w = mod_below q w (words_pos m.out) in
-      let at : slice_get (stream_widths (element_stream m.out)) q ≡ width_at m.out (q % w) = ap (slice_get (stream_widths (element_stream m.out))) (sym (div-add-mod' q w)) ∙ widths_at m.out (q / w) (q % w) lane j in
+      let at : slice_get (stream_widths (stream_of m.out)) q ≡ width_at m.out (q % w) = ap (slice_get (stream_widths (stream_of m.out))) (sym (div-add-mod' q w)) ∙ widths_at m.out (q / w) (q % w) lane j in
       let fw : slice_get widths q ≡ Some (get_or widths q 0) = slice_get-get_or widths q 0 (omega arith) in
       let has : width_at m.out (q % w) ≡ Some (get_or widths q 0) = wide q (get_or widths q 0) fw in
       let same : get_or widths q 0 ≡ width = cc in

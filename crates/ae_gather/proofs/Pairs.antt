@@ -9,14 +9,14 @@ use Rattle.ae_netlist.specs.declared.cell.SizedCell.{SizedCell}
 use Rattle.ae_netlist.specs.Circuit.{IsNet, width_of}
 use Rattle.ae_clocked.proofs.Added.{own_net}
 use Rattle.ae_ops.specs.Waves.{AreNets}
-use Rattle.ae_ops.specs.Blocks.{AreBundles, Stream, stream_widths}
+use Rattle.ae_ops.specs.Blocks.{stream_of, AreBundles, Stream, stream_widths}
 use Rattle.ae_moves.specs.Origins.{Move}
-use Rattle.ae_gather.specs.Gathers.{Layouts, element_stream, move_of}
+use Rattle.ae_gather.specs.Gathers.{Layouts, move_of}
 
 abbrev pub grid : ℕ → StTree
 grid n = tseq n 0 (sseq 2 (atom (unsigned_word 8)))
 
-nets_two : (cells : List SizedCell) (n : ℕ) (a b : NetId) → IsNet cells a.0 8 → IsNet cells b.0 8 → AreNets cells (stream_widths (element_stream (grid n))) (a ∷ b ∷ [])
+nets_two : (cells : List SizedCell) (n : ℕ) (a b : NetId) → IsNet cells a.0 8 → IsNet cells b.0 8 → AreNets cells (stream_widths (stream_of (grid n))) (a ∷ b ∷ [])
 nets_two cells n a b ha hb = record { long = refl; each = each }
   where
     each : (q width : ℕ) (net : NetId) → slice_get (8 ∷ 8 ∷ []) q ≡ Some width → slice_get (a ∷ b ∷ []) q ≡ Some net → IsNet cells net.0 width
@@ -24,14 +24,14 @@ nets_two cells n a b ha hb = record { long = refl; each = each }
     each (suc zero) width net f g = let e : 8 ≡ width = cc in let m : b ≡ net = cc in subst (λ (v : ℕ). IsNet cells net.0 v) e (subst (λ (x : NetId). IsNet cells x.0 8) m hb)
     each (suc (suc q)) width net f g = cc
 
-pub pair_bundles : (cells : List SizedCell) (m : Move) (n : ℕ) (x : List NetId) (a b : NetId) → m.ins ≡ grid n ∷ [] → x ≡ a ∷ b ∷ [] → IsNet cells a.0 8 → IsNet cells b.0 8 → AreBundles cells (map element_stream m.ins) (x ∷ [])
+pub pair_bundles : (cells : List SizedCell) (m : Move) (n : ℕ) (x : List NetId) (a b : NetId) → m.ins ≡ grid n ∷ [] → x ≡ a ∷ b ∷ [] → IsNet cells a.0 8 → IsNet cells b.0 8 → AreBundles cells (map stream_of m.ins) (x ∷ [])
 pair_bundles cells m n x a b em ex ha hb = rw (em, ex) (record { long = refl; each = each })
   where
-    each : (k : ℕ) (stream : Stream) (nets : List NetId) → slice_get (element_stream (grid n) ∷ []) k ≡ Some stream → slice_get ((a ∷ b ∷ []) ∷ []) k ≡ Some nets → AreNets cells (stream_widths stream) nets
+    each : (k : ℕ) (stream : Stream) (nets : List NetId) → slice_get (stream_of (grid n) ∷ []) k ≡ Some stream → slice_get ((a ∷ b ∷ []) ∷ []) k ≡ Some nets → AreNets cells (stream_widths stream) nets
     each zero stream nets f g =
-        let s : element_stream (grid n) ≡ stream = cc in
+        let s : stream_of (grid n) ≡ stream = cc in
         let y : a ∷ b ∷ [] ≡ nets = cc in
-        subst (λ (v : Stream). AreNets cells (stream_widths v) nets) s (subst (λ (v : List NetId). AreNets cells (stream_widths (element_stream (grid n))) v) y (nets_two cells n a b ha hb))
+        subst (λ (v : Stream). AreNets cells (stream_widths v) nets) s (subst (λ (v : List NetId). AreNets cells (stream_widths (stream_of (grid n))) v) y (nets_two cells n a b ha hb))
     each (suc k) stream nets f g = cc
 
 pub own_at : (cells : List SizedCell) (widths : List ℕ) (out nets : List NetId) (k : ℕ) → nets ≡ out → AreNets cells widths out → k < length nets

@@ -12,7 +12,7 @@ use Rattle.ae_clocked.proofs.Added.{own_net}
 use Rattle.ae_ops.specs.Waves.{AreNets}
 use Rattle.ae_ops.specs.Blocks.{AreBundles, Stream, stream_widths}
 use Rattle.ae_ops.specs.Words.{operand_widths, word_stream}
-use Rattle.ae_ops.proofs.WordBlocks.{each_one, word_widths}
+use Rattle.ae_ops.proofs.WordBlocks.{each_one}
 
 widths_two : (op : WordOp) (w : ℕ) → arity_of op ≡ 2 → operand_widths op w ≡ w ∷ w ∷ []
 widths_two Mux w h = absurd (omega arith)
@@ -33,41 +33,40 @@ widths_one (Sar k) w h = refl
 widths_one (SCast v) w h = refl
 widths_one _ w h = absurd (omega arith)
 
-nets_one : (cells : List SizedCell) (p w : ℕ) (a : NetId) → IsNet cells a.0 w → AreNets cells (stream_widths (word_stream p w)) (a ∷ [])
-nets_one cells p w a h = rw (word_widths p w) (record { long = refl; each = each_one cells w a h })
+nets_one : (cells : List SizedCell) (w : ℕ) (a : NetId) → IsNet cells a.0 w → AreNets cells (stream_widths (word_stream w)) (a ∷ [])
+nets_one cells w a h = record { long = refl; each = each_one cells w a h }
 
-pub two_bundles : (cells : List SizedCell) (op : WordOp) (p w : ℕ) (a b : NetId) (x y : List NetId) → arity_of op ≡ 2 → x ≡ a ∷ [] → y ≡ b ∷ [] → IsNet cells a.0 w → IsNet cells b.0 w
-    → AreBundles cells (map (word_stream p) (operand_widths op w)) (x ∷ y ∷ [])
-two_bundles cells op p w a b x y two ex ey ha hb = rw (widths_two op w two, ex, ey) (record { long = refl; each = each })
+pub two_bundles : (cells : List SizedCell) (op : WordOp) (w : ℕ) (a b : NetId) (x y : List NetId) → arity_of op ≡ 2 → x ≡ a ∷ [] → y ≡ b ∷ [] → IsNet cells a.0 w → IsNet cells b.0 w
+    → AreBundles cells (map word_stream (operand_widths op w)) (x ∷ y ∷ [])
+two_bundles cells op w a b x y two ex ey ha hb = rw (widths_two op w two, ex, ey) (record { long = refl; each = each })
   where
-    each : (k : ℕ) (stream : Stream) (nets : List NetId) → slice_get (word_stream p w ∷ word_stream p w ∷ []) k ≡ Some stream → slice_get ((a ∷ []) ∷ (b ∷ []) ∷ []) k ≡ Some nets → AreNets cells (stream_widths stream) nets
+    each : (k : ℕ) (stream : Stream) (nets : List NetId) → slice_get (word_stream w ∷ word_stream w ∷ []) k ≡ Some stream → slice_get ((a ∷ []) ∷ (b ∷ []) ∷ []) k ≡ Some nets → AreNets cells (stream_widths stream) nets
     each zero stream nets f g =
-        let s : word_stream p w ≡ stream = cc in
+        let s : word_stream w ≡ stream = cc in
         let n : a ∷ [] ≡ nets = cc in
-        subst (λ (v : Stream). AreNets cells (stream_widths v) nets) s (subst (λ (v : List NetId). AreNets cells (stream_widths (word_stream p w)) v) n (nets_one cells p w a ha))
+        subst (λ (v : Stream). AreNets cells (stream_widths v) nets) s (subst (λ (v : List NetId). AreNets cells (stream_widths (word_stream w)) v) n (nets_one cells w a ha))
     each (suc zero) stream nets f g =
-        let s : word_stream p w ≡ stream = cc in
+        let s : word_stream w ≡ stream = cc in
         let n : b ∷ [] ≡ nets = cc in
-        subst (λ (v : Stream). AreNets cells (stream_widths v) nets) s (subst (λ (v : List NetId). AreNets cells (stream_widths (word_stream p w)) v) n (nets_one cells p w b hb))
+        subst (λ (v : Stream). AreNets cells (stream_widths v) nets) s (subst (λ (v : List NetId). AreNets cells (stream_widths (word_stream w)) v) n (nets_one cells w b hb))
     each (suc (suc k)) stream nets f g = cc
 
-pub one_bundle : (cells : List SizedCell) (op : WordOp) (p w : ℕ) (a : NetId) (x : List NetId) → arity_of op ≡ 1 → x ≡ a ∷ [] → IsNet cells a.0 w → AreBundles cells (map (word_stream p) (operand_widths op w)) (x ∷ [])
-one_bundle cells op p w a x one ex ha = rw (widths_one op w one, ex) (record { long = refl; each = each })
+pub one_bundle : (cells : List SizedCell) (op : WordOp) (w : ℕ) (a : NetId) (x : List NetId) → arity_of op ≡ 1 → x ≡ a ∷ [] → IsNet cells a.0 w → AreBundles cells (map word_stream (operand_widths op w)) (x ∷ [])
+one_bundle cells op w a x one ex ha = rw (widths_one op w one, ex) (record { long = refl; each = each })
   where
-    each : (k : ℕ) (stream : Stream) (nets : List NetId) → slice_get (word_stream p w ∷ []) k ≡ Some stream → slice_get ((a ∷ []) ∷ []) k ≡ Some nets → AreNets cells (stream_widths stream) nets
+    each : (k : ℕ) (stream : Stream) (nets : List NetId) → slice_get (word_stream w ∷ []) k ≡ Some stream → slice_get ((a ∷ []) ∷ []) k ≡ Some nets → AreNets cells (stream_widths stream) nets
     each zero stream nets f g =
-        let s : word_stream p w ≡ stream = cc in
+        let s : word_stream w ≡ stream = cc in
         let n : a ∷ [] ≡ nets = cc in
-        subst (λ (v : Stream). AreNets cells (stream_widths v) nets) s (subst (λ (v : List NetId). AreNets cells (stream_widths (word_stream p w)) v) n (nets_one cells p w a ha))
+        subst (λ (v : Stream). AreNets cells (stream_widths v) nets) s (subst (λ (v : List NetId). AreNets cells (stream_widths (word_stream w)) v) n (nets_one cells w a ha))
     each (suc k) stream nets f g = cc
 
 pub begins : (kept : Kept) (cells : List SizedCell) (rst : ℕ) → kept ≡ record { rst = rst; counters = [] } → IsNet cells rst 1 → Belongs kept cells
 begins kept cells rst e h = rw e (record { rst = h; counters = λ phase net found. cc })
 
 -- the first net of the bundle that a word stage makes
-pub made_net : (cells : List SizedCell) (p w : ℕ) (out nets : List NetId) → nets ≡ out → AreNets cells (stream_widths (word_stream p w)) out
+pub made_net : (cells : List SizedCell) (w : ℕ) (out nets : List NetId) → nets ≡ out → AreNets cells (stream_widths (word_stream w)) out
     → IsNet cells (get_or nets 0 (record { 0 = 0 })).0 (width_of cells (get_or nets 0 (record { 0 = 0 })).0)
-made_net cells p w out nets e h =
-    let own = rw (word_widths p w) at h in
-    let long : length out ≡ 1 = own.long in
-    rw e (own_net (own.each 0 w _ refl (slice_get-get_or out 0 (record { 0 = 0 }) (omega arith))))
+made_net cells w out nets e h =
+    let long : length out ≡ 1 = h.long in
+    rw e (own_net (h.each 0 w _ refl (slice_get-get_or out 0 (record { 0 = 0 }) (omega arith))))

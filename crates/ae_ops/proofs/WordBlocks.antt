@@ -1,19 +1,13 @@
 -- An operator on words keeps the law of blocks.
-use Rattle.std.proofs.Common.{ℕ, zero, suc, ◌≡◌, ◌+◌, ◌-◌, ◌*◌, ◌<◌, ◌≤◌, ◌^◌, Bool, true, false, nat_eq, if◌then◌else◌, List, ◌∷◌, [], length, map, Some, slice_get, get_or, Result, Ok, Err, IfOk, OnOk, arith, refl, sym, ap, ◌∙◌, subst}
+use Rattle.std.proofs.Common.{ℕ, zero, suc, ◌≡◌, ◌+◌, ◌-◌, ◌*◌, ◌<◌, ◌≤◌, ◌^◌, List, ◌∷◌, [], length, map, Some, slice_get, get_or, Result, Ok, Err, IfOk, OnOk, arith, refl, sym, ap, ◌∙◌, subst}
 use Rattle.std.specs.Prelude.{slice_index, replicate}
 use Rattle.std.proofs.Math.Nat.{add-mul}
 use Rattle.std.proofs.lemmas.List.{length-map}
 use Rattle.std.proofs.lemmas.Option.{slice_get_within, slice_get-get_or}
-use Rattle.std.proofs.lemmas.Bool.Decides.{nat_tests}
 use Rattle.ae_word.specs.declared.op.WordOp.{WordOp}
 use Rattle.ae_word.specs.declared.op.WordOp.TheVariants.{Mux, Not, Shl, Shr, Cast, Sar, SCast}
-use Rattle.ae_word.specs.AtomTree.{WordKind, atom_kinds, unsigned_word}
 use Rattle.ae_word.specs.WordTable.{OperandsFit, arity_of, latency_of, result_width_of, word_result}
-use Rattle.ae_seqtype.specs.SeqTree.{atom as one, repeated}
-use Rattle.ae_seqtype.specs.ValueTree.{ValueTree, number, end, flat, FitKinds}
 use Rattle.ae_sttype.specs.declared.st_type.Slot.{Slot}
-use Rattle.ae_sttype.specs.StTree.{StTree, atom, tseq, time, lanes, element_atom, element_words}
-use Rattle.ae_sttype.specs.Slots.{slots}
 use Rattle.ae_sttype.specs.Holds.{Holds}
 use Rattle.ae_netlist.specs.declared.cell.NetId.{NetId}
 use Rattle.ae_netlist.specs.declared.cell.SizedCell.{SizedCell}
@@ -21,25 +15,15 @@ use Rattle.ae_netlist.specs.declared.netlist.NetFault.{NetFault}
 use Rattle.ae_netlist.specs.declared.netlist.NetFault.TheVariants.{Full}
 use Rattle.ae_netlist.specs.Circuit.{Circuit, Extends, IsNet, OperandsAre, operand}
 use Rattle.ae_netlist.specs.Runs.{Clock, InEveryResetRun, InEveryRunFrom, word_at}
-use Rattle.ae_netlist.proofs.Fits.{word_fits}
 use Rattle.ae_netlist.proofs.Growing.{extends_trans, net_later}
 use Rattle.ae_netlist.proofs.Carried.{carries_extends}
 use Rattle.ae_clocked.specs.Signals.{Grows, IsFullAt, IsResult}
 use Rattle.ae_clocked.specs.Delays.{IsTap}
 use Rattle.ae_ops.specs.Waves.{AreNets, wave_of}
-use Rattle.ae_ops.specs.Blocks.{AllHold, AreBundles, AreValues, BlockLaw, HoldsValue, IsValue, KeepsLaw, Stream, stream_widths}
-use Rattle.ae_ops.specs.Words.{code_at, first_net, operand_widths, operands_of, picked, word_layout, word_part, word_stream}
+use Rattle.ae_ops.specs.Blocks.{AllAreWords, AllHold, AreBundles, BlockLaw, KeepsLaw, Stream, stream_widths}
+use Rattle.ae_ops.specs.Words.{first_net, operand_widths, operands_of, picked, word_of, word_part, word_stream}
 
--- ---- a layout of one word
-
-widths_by : (b : Bool) (w n : ℕ) →
-    let s : StTree = if b then atom (unsigned_word w) else tseq 1 n (atom (unsigned_word w)) in
-    repeated (lanes s) (map (λ (k : WordKind). k.width) (atom_kinds (element_atom s))) ≡ w ∷ []
-widths_by true w n = refl
-widths_by false w n = refl
-
-pub word_widths : (p w : ℕ) → stream_widths (word_stream p w) ≡ w ∷ []
-word_widths p w = widths_by (nat_eq p 1) w (p - 1)
+-- ---- one word
 
 one_slot : (wave : ℕ → ℕ → ℕ) (k : ℕ) (ws : List ℕ) → wave k 0 ≡ slice_index ws 0 → Holds wave k 1 ((record { clock = 0; lane = 0 }) ∷ []) ws
 one_slot wave k ws h zero zero slot found small =
@@ -52,47 +36,30 @@ one_slot wave k ws h (suc e) j slot found small = cc
 slot_held : (wave : ℕ → ℕ → ℕ) (k : ℕ) (ws : List ℕ) → Holds wave k 1 ((record { clock = 0; lane = 0 }) ∷ []) ws → wave k 0 ≡ slice_index ws 0
 slot_held wave k ws h = let t : k + 0 ≡ k = omega arith in rw t at (h 0 0 (record { clock = 0; lane = 0 }) refl (omega arith))
 
-abbrev laid : Bool → (w n : ℕ) → StTree
-laid b w n = if b then atom (unsigned_word w) else tseq 1 n (atom (unsigned_word w))
-
-holds_by : (b : Bool) (wave : ℕ → ℕ → ℕ) (k w n : ℕ) (ws : List ℕ) → wave k 0 ≡ slice_index ws 0 → Holds wave k (element_words (laid b w n)) (slots (laid b w n)) ws
-holds_by true wave k w n ws h = one_slot wave k ws h
-holds_by false wave k w n ws h = one_slot wave k ws h
-
-held_by : (b : Bool) (wave : ℕ → ℕ → ℕ) (k w n : ℕ) (ws : List ℕ) → Holds wave k (element_words (laid b w n)) (slots (laid b w n)) ws → wave k 0 ≡ slice_index ws 0
-held_by true wave k w n ws h = slot_held wave k ws h
-held_by false wave k w n ws h = slot_held wave k ws h
-
-lasts_by : (b : Bool) (w p : ℕ) → 1 ≤ p → nat_eq p 1 ≡ b → time (laid b w (p - 1)) ≡ p
-lasts_by true w p h e = let is : p ≡ 1 = grind (arith, nat_tests) in sym is
-lasts_by false w p h e = omega arith
-
 -- ---- values and nets, operand by operand
 
-code_fits : (ws : List ℕ) (k : WordKind) → FitKinds ws (k ∷ []) → slice_index ws 0 < 2 ^ k.width
-code_fits [] k h = absurd h
-code_fits (x ∷ ws) k h = h.0
-
-value_at : (p : ℕ) (ws : List ℕ) (vs : List ValueTree) → AreValues (map (word_stream p) ws) vs → (i w : ℕ) → slice_get ws i ≡ Some w → code_at vs i < 2 ^ w
-value_at p [] vs h i w f = cc
-value_at p (u ∷ ws) [] h i w f = absurd h
-value_at p (u ∷ ws) (v ∷ vs) h zero w f =
+value_at : (ws : List ℕ) (vs : List (List ℕ)) → AllAreWords (map word_stream ws) vs → (i w : ℕ) → slice_get ws i ≡ Some w → word_of vs i < 2 ^ w
+value_at [] vs h i w f = cc
+value_at (u ∷ ws) [] h i w f = absurd h
+value_at (u ∷ ws) (v ∷ vs) h zero w f =
     let e : u ≡ w = cc in
-    subst (λ (n : ℕ). slice_index (flat v) 0 < 2 ^ n) e (code_fits (flat v) (record { signed = false; width = u }) h.0.fits)
-value_at p (u ∷ ws) (v ∷ vs) h (suc i) w f = value_at p ws vs h.1 i w f
+    let l : length v ≡ 1 = h.0.long in
+    let there : slice_get v 0 ≡ Some (get_or v 0 0) = slice_get-get_or v 0 0 (omega arith) in
+    h.0.fit 0 (get_or v 0 0) w there (ap Some e)
+value_at (u ∷ ws) (v ∷ vs) h (suc i) w f = value_at ws vs h.1 i w f
 
 first_word : (run : List Clock) (start k : ℕ) (nets : List NetId) (a : NetId) → slice_get nets 0 ≡ Some a → wave_of run start nets k 0 ≡ word_at run (start + k) a.0
 unfolding wave_of
 first_word run start k nets a f = rw f refl
 
-held_at : (run : List Clock) (start k p : ℕ) (ws : List ℕ) (ins : List (List NetId)) (vs : List ValueTree) → AllHold k (map (word_stream p) ws) (map (wave_of run start) ins) vs
-    → (i w : ℕ) (a : NetId) → slice_get ws i ≡ Some w → slice_get (get_or ins i []) 0 ≡ Some a → word_at run (start + k) a.0 ≡ code_at vs i
-held_at run start k p [] ins vs h i w a f g = cc
-held_at run start k p (u ∷ ws) [] vs h i w a f g = absurd h
-held_at run start k p (u ∷ ws) (nets ∷ ins) [] h i w a f g = absurd h
-held_at run start k p (u ∷ ws) (nets ∷ ins) (v ∷ vs) h zero w a f g =
-    sym (first_word run start k nets a g) ∙ held_by (nat_eq p 1) (wave_of run start nets) k u (p - 1) (flat v) h.0
-held_at run start k p (u ∷ ws) (nets ∷ ins) (v ∷ vs) h (suc i) w a f g = held_at run start k p ws ins vs h.1 i w a f g
+held_at : (run : List Clock) (start k : ℕ) (ws : List ℕ) (ins : List (List NetId)) (vs : List (List ℕ)) → AllHold k (map word_stream ws) (map (wave_of run start) ins) vs
+    → (i w : ℕ) (a : NetId) → slice_get ws i ≡ Some w → slice_get (get_or ins i []) 0 ≡ Some a → word_at run (start + k) a.0 ≡ word_of vs i
+held_at run start k [] ins vs h i w a f g = cc
+held_at run start k (u ∷ ws) [] vs h i w a f g = absurd h
+held_at run start k (u ∷ ws) (nets ∷ ins) [] h i w a f g = absurd h
+held_at run start k (u ∷ ws) (nets ∷ ins) (v ∷ vs) h zero w a f g =
+    sym (first_word run start k nets a g) ∙ slot_held (wave_of run start nets) k v h.0
+held_at run start k (u ∷ ws) (nets ∷ ins) (v ∷ vs) h (suc i) w a f g = held_at run start k ws ins vs h.1 i w a f g
 
 mapped : {X Y : Type 0} (f : X → Y) (xs : List X) (i : ℕ) (x : X) → slice_get xs i ≡ Some x → slice_get (map f xs) i ≡ Some (f x)
 mapped f [] i x h = cc
@@ -103,48 +70,48 @@ length_mapped : {X Y : Type 0} (f : X → Y) (xs : List X) → length (map f xs)
 length_mapped f xs = length-map xs f
 
 -- the first net of a bundle
-pub first_there : (cells : List SizedCell) (p : ℕ) (ws : List ℕ) (ins : List (List NetId)) → AreBundles cells (map (word_stream p) ws) ins → (i w : ℕ) → slice_get ws i ≡ Some w
+pub first_there : (cells : List SizedCell) (ws : List ℕ) (ins : List (List NetId)) → AreBundles cells (map word_stream ws) ins → (i w : ℕ) → slice_get ws i ≡ Some w
     → (slice_get (get_or ins i []) 0 ≡ Some (first_net ins i)) × IsNet cells (first_net ins i).0 w
-first_there cells p ws ins h i w f =
+first_there cells ws ins h i w f =
     let l : i < length ws = slice_get_within ws i w f in
-    let s : length ins ≡ length (map (word_stream p) ws) = h.long in
-    let m : length (map (word_stream p) ws) ≡ length ws = length_mapped (word_stream p) ws in
+    let s : length ins ≡ length (map word_stream ws) = h.long in
+    let m : length (map word_stream ws) ≡ length ws = length_mapped word_stream ws in
     let there : slice_get ins i ≡ Some (get_or ins i []) = slice_get-get_or ins i [] (omega arith) in
-    let nets = rw (word_widths p w) at (h.each i (word_stream p w) (get_or ins i []) (mapped (word_stream p) ws i w f) there) in
+    let nets = (h.each i (word_stream w) (get_or ins i []) (mapped word_stream ws i w f) there) in
     let one : length (get_or ins i []) ≡ 1 = nets.long in
     let net : slice_get (get_or ins i []) 0 ≡ Some (first_net ins i) = slice_get-get_or (get_or ins i []) 0 (record { 0 = 0 }) (omega arith) in
     (net, nets.each 0 w (first_net ins i) refl net)
 
-pub some_nets : (cells : List SizedCell) (p : ℕ) (ws : List ℕ) (ins : List (List NetId)) → AreBundles cells (map (word_stream p) ws) ins → (i : ℕ) → i < length ins → 0 < length (get_or ins i [])
-some_nets cells p ws ins h i l =
-    let s : length ins ≡ length (map (word_stream p) ws) = h.long in
-    let m : length (map (word_stream p) ws) ≡ length ws = length_mapped (word_stream p) ws in
-    slice_get_within (get_or ins i []) 0 _ (first_there cells p ws ins h i (get_or ws i 0) (slice_get-get_or ws i 0 (omega arith))).0
+pub some_nets : (cells : List SizedCell) (ws : List ℕ) (ins : List (List NetId)) → AreBundles cells (map word_stream ws) ins → (i : ℕ) → i < length ins → 0 < length (get_or ins i [])
+some_nets cells ws ins h i l =
+    let s : length ins ≡ length (map word_stream ws) = h.long in
+    let m : length (map word_stream ws) ≡ length ws = length_mapped word_stream ws in
+    slice_get_within (get_or ins i []) 0 _ (first_there cells ws ins h i (get_or ws i 0) (slice_get-get_or ws i 0 (omega arith))).0
 
 -- ---- operator by operator
 
-pub operands_ready : (cells : List SizedCell) (op : WordOp) (w p : ℕ) (ins : List (List NetId)) → AreBundles cells (map (word_stream p) (operand_widths op w)) ins → OperandsAre op (IsNet cells) (operands_of op ins) w
-operands_ready cells Mux w p ins h = let at = first_there cells p (operand_widths Mux w) ins h in ((at 0 1 refl).1, (at 1 w refl).1, (at 2 w refl).1)
-operands_ready cells Not w p ins h = let a = (first_there cells p (operand_widths Not w) ins h 0 w refl).1 in (a, a, a)
-operands_ready cells (Shl k) w p ins h = let a = (first_there cells p (operand_widths (Shl k) w) ins h 0 w refl).1 in (a, a, a)
-operands_ready cells (Shr k) w p ins h = let a = (first_there cells p (operand_widths (Shr k) w) ins h 0 w refl).1 in (a, a, a)
-operands_ready cells (Cast v) w p ins h = let a = (first_there cells p (operand_widths (Cast v) w) ins h 0 w refl).1 in (a, a, a)
-operands_ready cells (Sar k) w p ins h = let a = (first_there cells p (operand_widths (Sar k) w) ins h 0 w refl).1 in (a, a, a)
-operands_ready cells (SCast v) w p ins h = let a = (first_there cells p (operand_widths (SCast v) w) ins h 0 w refl).1 in (a, a, a)
-operands_ready cells op w p ins h = let at = first_there cells p (operand_widths op w) ins h in ((at 0 w refl).1, (at 1 w refl).1, (at 0 w refl).1)
+pub operands_ready : (cells : List SizedCell) (op : WordOp) (w : ℕ) (ins : List (List NetId)) → AreBundles cells (map word_stream (operand_widths op w)) ins → OperandsAre op (IsNet cells) (operands_of op ins) w
+operands_ready cells Mux w ins h = let at = first_there cells (operand_widths Mux w) ins h in ((at 0 1 refl).1, (at 1 w refl).1, (at 2 w refl).1)
+operands_ready cells Not w ins h = let a = (first_there cells (operand_widths Not w) ins h 0 w refl).1 in (a, a, a)
+operands_ready cells (Shl k) w ins h = let a = (first_there cells (operand_widths (Shl k) w) ins h 0 w refl).1 in (a, a, a)
+operands_ready cells (Shr k) w ins h = let a = (first_there cells (operand_widths (Shr k) w) ins h 0 w refl).1 in (a, a, a)
+operands_ready cells (Cast v) w ins h = let a = (first_there cells (operand_widths (Cast v) w) ins h 0 w refl).1 in (a, a, a)
+operands_ready cells (Sar k) w ins h = let a = (first_there cells (operand_widths (Sar k) w) ins h 0 w refl).1 in (a, a, a)
+operands_ready cells (SCast v) w ins h = let a = (first_there cells (operand_widths (SCast v) w) ins h 0 w refl).1 in (a, a, a)
+operands_ready cells op w ins h = let at = first_there cells (operand_widths op w) ins h in ((at 0 w refl).1, (at 1 w refl).1, (at 0 w refl).1)
 
-values_fit : (op : WordOp) (w p : ℕ) (vs : List ValueTree) → AreValues (map (word_stream p) (operand_widths op w)) vs → OperandsFit op w (code_at vs 0) (code_at vs 1) (code_at vs 2)
-values_fit Mux w p vs h = let at = value_at p (operand_widths Mux w) vs h in (at 0 1 refl, at 1 w refl, at 2 w refl)
-values_fit Not w p vs h = value_at p (operand_widths Not w) vs h 0 w refl
-values_fit (Shl k) w p vs h = value_at p (operand_widths (Shl k) w) vs h 0 w refl
-values_fit (Shr k) w p vs h = value_at p (operand_widths (Shr k) w) vs h 0 w refl
-values_fit (Cast v) w p vs h = value_at p (operand_widths (Cast v) w) vs h 0 w refl
-values_fit (Sar k) w p vs h = value_at p (operand_widths (Sar k) w) vs h 0 w refl
-values_fit (SCast v) w p vs h = value_at p (operand_widths (SCast v) w) vs h 0 w refl
-values_fit op w p vs h = let at = value_at p (operand_widths op w) vs h in (at 0 w refl, at 1 w refl)
+values_fit : (op : WordOp) (w : ℕ) (vs : List (List ℕ)) → AllAreWords (map word_stream (operand_widths op w)) vs → OperandsFit op w (word_of vs 0) (word_of vs 1) (word_of vs 2)
+values_fit Mux w vs h = let at = value_at (operand_widths Mux w) vs h in (at 0 1 refl, at 1 w refl, at 2 w refl)
+values_fit Not w vs h = value_at (operand_widths Not w) vs h 0 w refl
+values_fit (Shl k) w vs h = value_at (operand_widths (Shl k) w) vs h 0 w refl
+values_fit (Shr k) w vs h = value_at (operand_widths (Shr k) w) vs h 0 w refl
+values_fit (Cast v) w vs h = value_at (operand_widths (Cast v) w) vs h 0 w refl
+values_fit (Sar k) w vs h = value_at (operand_widths (Sar k) w) vs h 0 w refl
+values_fit (SCast v) w vs h = value_at (operand_widths (SCast v) w) vs h 0 w refl
+values_fit op w vs h = let at = value_at (operand_widths op w) vs h in (at 0 w refl, at 1 w refl)
 
-words_same : (op : WordOp) (w : ℕ) (word : NetId → ℕ) (ins : List (List NetId)) (vs : List ValueTree) → ((i v : ℕ) → slice_get (operand_widths op w) i ≡ Some v → word (first_net ins i) ≡ code_at vs i)
-    → word_result op w (word (picked op ins 0)) (word (picked op ins 1)) (word (picked op ins 2)) ≡ word_result op w (code_at vs 0) (code_at vs 1) (code_at vs 2)
+words_same : (op : WordOp) (w : ℕ) (word : NetId → ℕ) (ins : List (List NetId)) (vs : List (List ℕ)) → ((i v : ℕ) → slice_get (operand_widths op w) i ≡ Some v → word (first_net ins i) ≡ word_of vs i)
+    → word_result op w (word (picked op ins 0)) (word (picked op ins 1)) (word (picked op ins 2)) ≡ word_result op w (word_of vs 0) (word_of vs 1) (word_of vs 2)
 words_same Mux w word ins vs h = rw (h 0 1 refl, h 1 w refl, h 2 w refl) refl
 words_same Not w word ins vs h = rw (h 0 w refl) refl
 words_same (Shl k) w word ins vs h = rw (h 0 w refl) refl
@@ -168,11 +135,9 @@ computed old mid new rst v w d op args made y grows result tap = λ all e run r 
     let t : start + (c - d) < length run = omega arith in
     tap.words all e run r start reset c le l ∙ result all (carries_extends (length old.cells) (extends_trans grows.extends e)) run r (start + (c - d)) t
 
-word_law : (cells : List SizedCell) (rst arrival w p : ℕ) (op : WordOp) (ins : List (List NetId)) (y : NetId) → 1 ≤ p → AreBundles cells (map (word_stream p) (operand_widths op w)) ins
+word_law : (cells : List SizedCell) (rst arrival w p : ℕ) (op : WordOp) (ins : List (List NetId)) (y : NetId) → 1 ≤ p → AreBundles cells (map word_stream (operand_widths op w)) ins
     → Computes cells rst op w (latency_of op) (operands_of op ins) y.0 → KeepsLaw cells rst arrival (word_part op w p) ins (y ∷ [])
 word_law cells rst arrival w p op ins y some bundles made = λ all e run r start reset. record {
-  lasts = lasts_by (nat_eq p 1) (result_width_of op w) p some refl;
-  typed = λ vs h. record { fits = (word_fits op w _ _ _ (values_fit op w p vs h), tt); value = refl };
   makes = λ b vs long fits given.
       let d : ℕ = latency_of op in
       let k : ℕ = arrival + b * p in
@@ -181,9 +146,9 @@ word_law cells rst arrival w p op ins y some bundles made = λ all e run r start
       let l : start + c < length run = omega (arith, whole) in
       let back : start + (c - d) ≡ start + k = omega arith in
       let same = words_same op w (λ (n : NetId). word_at run (start + k) n.0) ins vs
-      (λ i v f. held_at run start k p (operand_widths op w) ins vs given i v (first_net ins i) f (first_there cells p (operand_widths op w) ins bundles i v f).0) in
+      (λ i v f. held_at run start k (operand_widths op w) ins vs given i v (first_net ins i) f (first_there cells (operand_widths op w) ins bundles i v f).0) in
       let word = rw back at (made all e run r start reset c (omega arith) l) in
-      holds_by (nat_eq p 1) (wave_of run start (y ∷ [])) c (result_width_of op w) (p - 1) (word_result op w (code_at vs 0) (code_at vs 1) (code_at vs 2) ∷ []) (first_word run start c (y ∷ []) y refl ∙ (word ∙ same));
+      one_slot (wave_of run start (y ∷ [])) c (word_result op w (word_of vs 0) (word_of vs 1) (word_of vs 2) ∷ []) (first_word run start c (y ∷ []) y refl ∙ (word ∙ same));
 }
 
 pub each_one : (cells : List SizedCell) (w : ℕ) (y : NetId) → IsNet cells y.0 w → (q width : ℕ) (net : NetId) → slice_get (w ∷ []) q ≡ Some width → slice_get (y ∷ []) q ≡ Some net → IsNet cells net.0 width
@@ -195,14 +160,14 @@ each_one cells w y h (suc q) width net f g = cc
 
 -- with an answer that may be want of memory
 pub word_answers : (cells : List SizedCell) (rst arrival w p : ℕ) (op : WordOp) (ins : List (List NetId)) (y : NetId) (r : Result (List NetId) NetFault) → IfOk r (λ out. out ≡ y ∷ []) → 1 ≤ p
-    → AreBundles cells (map (word_stream p) (operand_widths op w)) ins → Computes cells rst op w (latency_of op) (operands_of op ins) y.0 → IfOk r (λ out. KeepsLaw cells rst arrival (word_part op w p) ins out)
+    → AreBundles cells (map word_stream (operand_widths op w)) ins → Computes cells rst op w (latency_of op) (operands_of op ins) y.0 → IfOk r (λ out. KeepsLaw cells rst arrival (word_part op w p) ins out)
 word_answers cells rst arrival w p op ins y (Ok out) is some bundles made = rw is (word_law cells rst arrival w p op ins y some bundles made)
 word_answers cells rst arrival w p op ins y (Err e) is some bundles made = is
 
 -- the bundle of the result
-pub word_nets : (cells : List SizedCell) (w p : ℕ) (y : NetId) (r : Result (List NetId) NetFault) → IfOk r (λ out. out ≡ y ∷ []) → IsNet cells y.0 w → IfOk r (λ out. AreNets cells (stream_widths (word_stream p w)) out)
-word_nets cells w p y (Ok out) is net = rw (is, word_widths p w) (record { long = refl; each = each_one cells w y net })
-word_nets cells w p y (Err e) is net = is
+pub word_nets : (cells : List SizedCell) (w : ℕ) (y : NetId) (r : Result (List NetId) NetFault) → IfOk r (λ out. out ≡ y ∷ []) → IsNet cells y.0 w → IfOk r (λ out. AreNets cells (stream_widths (word_stream w)) out)
+word_nets cells w y (Ok out) is net = rw is (record { long = refl; each = each_one cells w y net })
+word_nets cells w y (Err e) is net = is
 
 pub not_full : {X : Type 0} (r : Result X NetFault) (nl : Circuit) → (r ≡ Err Full → ⊥) → IsFullAt r nl
 not_full (Ok x) nl h = tt

@@ -14,7 +14,7 @@ build-requires-clause-bundles g c =
     let counter = c.in_ok-count.ensures.counts in
     let wide : c.width_at-width.result ≡ counter.width = c.width_at-width.ensures.width ∙ net_width counter.is_net in
     let net : IsNet c.phase.new.nl.cells c.in_ok-count.count.0 c.width_at-width.result = rw wide counter.is_net in
-    rw c.new-stage.ensures (two_bundles _ Mul 1 c.width_at-width.result c.in_ok-count.count c.in_ok-count.count _ _ refl c.in_ok-one.ensures.ok c.in_ok-one-2.ensures.ok net net)
+    rw c.new-stage.ensures (two_bundles _ Mul c.width_at-width.result c.in_ok-count.count c.in_ok-count.count _ _ refl c.in_ok-one.ensures.ok c.in_ok-one-2.ensures.ok net net)
 
 pub add_output-requires-clause-net : goal.add_output-requires-clause-net
-add_output-requires-clause-net g c = made_net _ c.new-stage.result.period _ c.in_ok-out.out _ c.nets.ensures c.in_ok-out.ensures.bundle
+add_output-requires-clause-net g c = made_net _ _ c.in_ok-out.out _ c.nets.ensures c.in_ok-out.ensures.bundle

@@ -8,7 +8,7 @@ build-requires-clause-belongs c = begins _ _ _ c.new-clocks.ensures (net_added (
 pub build-requires-clause-bundles : goal.build-requires-clause-bundles
 build-requires-clause-bundles c =
     rw c.new-stage.ensures
-    (two_bundles _ c.args.op 1 8 _ _ _ _ c.requires.two c.in_ok-one.ensures.ok c.in_ok-one-2.ensures.ok (net_added c.in_ok-right.ensures.adds c.in_ok-left.ensures.net) c.in_ok-right.ensures.net)
+    (two_bundles _ c.args.op 8 _ _ _ _ c.requires.two c.in_ok-one.ensures.ok c.in_ok-one-2.ensures.ok (net_added c.in_ok-right.ensures.adds c.in_ok-left.ensures.net) c.in_ok-right.ensures.net)
 
 pub add_output-requires-clause-net : goal.add_output-requires-clause-net
-add_output-requires-clause-net c = made_net _ c.new-stage.result.period _ c.in_ok-out.out _ c.nets.ensures c.in_ok-out.ensures.bundle
+add_output-requires-clause-net c = made_net _ _ c.in_ok-out.out _ c.nets.ensures c.in_ok-out.ensures.bundle

@@ -8,11 +8,11 @@ use Rattle.ae_ops.proofs.WordBlocks.{bundles_grow, computed, not_full, on_ok, op
 use Rattle.ae_ops.proofs.word.WordStageStage.build.Goals as goal
 
 pub operands-args-requires-clause-nets : goal.operands-args-requires-clause-nets
-operands-args-requires-clause-nets c = some_nets _ _ _ c.args.ins.now c.requires.bundles
+operands-args-requires-clause-nets c = some_nets _ _ c.args.ins.now c.requires.bundles
 
 pub compute-requires-clause-operands : goal.compute-requires-clause-operands
 compute-requires-clause-operands c =
-    rw c.operands-args.ensures (operands_ready _ c.self.inside.op c.self.inside.width c.self.inside.period c.args.ins.now (rw (← c.self.view_is) at c.requires.bundles))
+    rw c.operands-args.ensures (operands_ready _ c.self.inside.op c.self.inside.width c.args.ins.now (rw (← c.self.view_is) at c.requires.bundles))
 
 pub returns-in_err-made-clause-belongs : goal.returns-in_err-made-clause-belongs
 returns-in_err-made-clause-belongs c = belongs_grows _ _ _ c.in_err-made.ensures.err.grows c.requires.belongs
@@ -32,7 +32,7 @@ returns-clause-full c = not_full c.one.result c.line.new.nl c.one.ensures.fault
 pub returns-clause-bundle : goal.returns-clause-bundle
 returns-clause-bundle c =
     let tap = c.in_ok-tapped.ensures.taps.each 0 c.latency.result c.tap.result refl c.tap.ensures in
-    rw (← c.self.view_is) (word_nets _ _ c.self.inside.period c.tap.result c.one.result c.one.ensures.ok (rw (net_width c.in_ok-made.ensures.net) at tap.net))
+    rw (← c.self.view_is) (word_nets _ _ c.tap.result c.one.result c.one.ensures.ok (rw (net_width c.in_ok-made.ensures.net) at tap.net))
 
 pub returns-clause-law : goal.returns-clause-law
 returns-clause-law c =
