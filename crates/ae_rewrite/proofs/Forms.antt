@@ -11,6 +11,7 @@ pub record IsFormedFunc (version funcs : ℕ) (f : FuncTree) : Type 0 where
   pub few_params : length f.params ≤ 8
   pub nodes : IsTrue (formed_nodes version funcs (length f.params) f.nodes)
   pub some_results : 0 < length f.results
+  pub few_results : length f.results ≤ 8
   pub results : IsTrue (all_below (item_count f) f.results)
 
 both-left : (a b : Bool) → IsTrue (a && b) → IsTrue a
@@ -21,8 +22,8 @@ both-right : (a b : Bool) → IsTrue (a && b) → IsTrue b
 both-right true b h = h
 both-right false b h = absurd (false≢true h)
 
-formed-func : (v n m : ℕ) (f : FuncTree) → IsTrue (formed_func v n m f) → IsFormedFunc v n f
-formed-func v n m f h =
+formed-func : (v n m : ℕ) (f : FuncTree) → m ≤ 8 → IsTrue (formed_func v n m f) → IsFormedFunc v n f
+formed-func v n m f limit h =
     let to_items = both-left _ (named_items f) h in
     let results = both-right _ (all_below (item_count f) f.results) to_items in
     let to_results = both-left _ (all_below (item_count f) f.results) to_items in
@@ -36,8 +37,17 @@ formed-func v n m f h =
       few_params = grind (arith, nat_tests, params);
       nodes = nodes;
       some_results = grind (arith, nat_tests, some);
+      few_results = let low : length f.results ≤ m = grind (arith, nat_tests, some) in omega (arith, low, limit);
       results = results;
     }
+
+few_most : (v : ℕ) (fs : List FuncTree) → most_results v fs ≤ 8
+few_most v [] = by_version (v == 2)
+  where
+    by_version : (b : Bool) → (if b then 8 else 1) ≤ 8
+    by_version true = omega arith
+    by_version false = omega arith
+few_most v (f ∷ fs) = omega arith
 
 formed-at : (v n : ℕ) (fs : List FuncTree) (k : ℕ) (f : FuncTree) → IsTrue (formed_funcs v n fs) → slice_get fs k ≡ Some f → IsFormedFunc v (n + k) f
 formed-at v n [] k f h at = absurd (none-some f at)
@@ -45,7 +55,7 @@ formed-at v n (g ∷ fs) zero f h at =
     let e : g ≡ f = same_Some g f at in
     let own = both-left (formed_func v n (most_results v fs) g) (formed_funcs v (n + 1) fs) h in
     let z : n + 0 ≡ n = omega arith in
-    rw (z, ← e) (formed-func v n (most_results v fs) g own)
+    rw (z, ← e) (formed-func v n (most_results v fs) g (few_most v fs) own)
 formed-at v n (g ∷ fs) (suc k) f h at =
     let rest = both-right (formed_func v n (most_results v fs) g) (formed_funcs v (n + 1) fs) h in
     let m : n + 1 + k ≡ n + suc k = omega arith in

@@ -12,3 +12,6 @@ pub mod Budgets
 pub mod Reached
 pub mod Planning
 pub mod Whole
+mod Accepted
+mod WordKinds
+mod Sound
