@@ -1,10 +1,9 @@
 -- In a program of which no line is refused the type of each item is in size.
-use Rattle.std.proofs.Common.{◌≡◌, ℕ, zero, suc, List, [], ◌∷◌, ◌++◌, length, map, take, Option, Some, None, Bool, true, false, ◌&&◌, refl, ap, sym, ◌∙◌, arith, inl, inr, slice_get, IsTrue, option_and_then}
-use Rattle.std.specs.Option.{option_map}
-use Rattle.std.proofs.lemmas.Option.{slice_get-map, none-some, same_Some, option_and_then_some}
+use Rattle.std.proofs.Common.{◌≡◌, ℕ, zero, suc, List, [], ◌∷◌, ◌++◌, map, take, Option, Some, None, Bool, true, false, refl, ap, sym, ◌∙◌, arith, inl, inr, slice_get, IsTrue}
+use Rattle.std.proofs.lemmas.Option.{none-some, same_Some, option_and_then_some}
 use Rattle.std.proofs.lemmas.Bool.Decides.{nat_tests}
 use Rattle.ae_seqtype.specs.SeqTree.{SeqTree, in_size}
-use Rattle.ae_seq.specs.ProgramTree.{ProgramTree, FuncTree, NodeTree, ParamTree}
+use Rattle.ae_seq.specs.ProgramTree.{ProgramTree, FuncTree, NodeTree}
 use Rattle.ae_seq.specs.Typing.{type_at, item_types, node_type, signature, signatures, Signature, param_types, grown, judged, judged_func, judged_nodes, refused, refused_or, refused_line, verdict, size_verdict, all_in_size, Judged, Verdict, fine, untyped, too_large, ◌>>=◌}
 use Rattle.ae_rewrite.proofs.Budgets.{get_of_push}
 

@@ -1,33 +1,32 @@
 -- A schedule is put together rightly.
-use Rattle.std.proofs.Common.{◌≡◌, ℕ, zero, suc, ◌+◌, ◌-◌, ◌*◌, ◌/◌, ◌%◌, ◌<◌, ◌≤◌, ◌^◌, List, [], ◌∷◌, ◌++◌, length, length-append, map, take, get_or, Option, Some, None, Bool, true, false, ◌&&◌, ◌==◌, cond, nat_eq, nat_le, nat_lt, refl, ap, sym, ◌∙◌, arith, inl, inr, ⊎_elim, slice_get, IsTrue, option_and_then, subst, mul_comm, mul_assoc}
+use Rattle.std.proofs.Common.{◌≡◌, ℕ, zero, suc, ◌+◌, ◌-◌, ◌*◌, ◌/◌, ◌%◌, ◌<◌, ◌≤◌, List, [], ◌∷◌, ◌++◌, length, length-append, map, take, get_or, Option, Some, None, Bool, true, false, ◌==◌, cond, nat_eq, nat_le, nat_lt, refl, ap, sym, ◌∙◌, arith, inl, inr, slice_get, IsTrue, mul_comm, mul_assoc}
 use Rattle.std.proofs.Math.Nat.{mul-div_cancel, mul-le-mul_right, add-mul}
 use Rattle.std.specs.Option.{option_map}
-use Rattle.std.specs.Prelude.{slice_index_or}
 use Rattle.std.proofs.lemmas.List.{length-map, length-take-le}
 use Rattle.std.proofs.lemmas.Option.{slice_get-map, slice_get_within, slice_get-get_or, get_or_from_slice_get, none-some, same_Some, option_and_then_some}
-use Rattle.std.proofs.lemmas.Bool.{cases_eq, cases_lt, eq-eqb, ne_eqb, eqb-true, leb-true, ltb-true}
+use Rattle.std.proofs.lemmas.Bool.{cases_lt, eqb-true, leb-true, ltb-true}
 use Rattle.std.proofs.lemmas.Bool.Decides.{nat_tests}
 use Rattle.ae_word.specs.declared.op.WordOp.{WordOp}
 use Rattle.ae_word.specs.declared.op.WordOp.TheVariants.{Add, Sub, Mul, And, Or, Xor, Not, Min, Max, Eq, Lt, Mux, Shl, Shr, Cast, SLt, SMin, SMax, Sar, SCast}
 use Rattle.ae_word.specs.WordTable.{arity_of}
-use Rattle.ae_word.specs.AtomTree.{WordKind, AtomTree, atom_words, atom_kinds, unsigned_word}
-use Rattle.ae_seqtype.specs.SeqTree.{SeqTree, atom, seq, atoms, atom_of, words, kinds, depth, in_size, parts_in_size}
+use Rattle.ae_word.specs.AtomTree.{unsigned_word}
+use Rattle.ae_seqtype.specs.SeqTree.{SeqTree, atom, seq, atoms, words, kinds, depth, in_size, parts_in_size}
 use Rattle.ae_seqtype.specs.ValueTree.{fit_kinds}
 use Rattle.ae_seqtype.proofs.Sizes.{length-kinds}
-use Rattle.ae_seq.specs.ProgramTree.{ProgramTree, FuncTree, NodeTree, ParamTree, OpTree, word, cast_int, pair, fst, snd, const, zip, call, each, each_two, reduce, scan, shift, up, select, partition, unpartition}
-use Rattle.ae_seq.specs.Formed.{formed, has_arguments, all_below, item_count, within}
+use Rattle.ae_seq.specs.ProgramTree.{ProgramTree, NodeTree, ParamTree, OpTree, word, cast_int, pair, fst, snd, const, zip, call, each, each_two, reduce, scan, shift, up, select, partition, unpartition}
+use Rattle.ae_seq.specs.Formed.{formed, has_arguments, item_count}
 use Rattle.ae_seq.specs.Typing.{type_at, types_at, op_type, Signature, where_ok, refused_line, ◌>>=◌}
-use Rattle.ae_sttype.specs.StTree.{StTree, atom as st_atom, tseq, sseq, time, st_atoms, st_depth, element_atom, element_words}
-use Rattle.ae_sttype.specs.Size.{HasLengths, IsInSize}
+use Rattle.ae_sttype.specs.StTree.{StTree, atom as st_atom, tseq, sseq, time, st_atoms, st_depth, element_atom}
+use Rattle.ae_sttype.specs.Size.{HasLengths}
 use Rattle.ae_rewrite.specs.declared.cases.Case.{Case}
 use Rattle.ae_rewrite.specs.declared.cases.Case.TheVariants.{Parallel, Spread, Grouped, Padded, Folded}
 use Rattle.ae_rewrite.specs.declared.calls.Call.{Call}
 use Rattle.ae_rewrite.specs.declared.st_program.MoveOp.TheVariants.{Shift, Up, Select, Same}
 use Rattle.ae_rewrite.specs.LayoutRule.{arranged, case_of, inner_of, lanes_of, slots_of, rounds_of, lay_of}
-use Rattle.ae_rewrite.specs.Calls.{Spreading, spread, spread_at, head, call_of, each_call, called_by, plain_op, layout_at, fold_of, scan_of, shift_of, raw_layout, op_by}
-use Rattle.ae_rewrite.specs.StProgramTree.{StOpTree, word as st_word, join, first, second, fixed, move, fold, scan as st_scan, body, StNodeTree, StFuncTree}
-use Rattle.ae_rewrite.specs.Scheduled.{Keys, HasKey, IsBody, IsOp, IsStNode, AreStNodes, IsInstance, IsSchedule, IsFilling, IsFilled, AllFilled, AreFilling, node_layouts, param_layouts, copies_of}
-use Rattle.ae_rewrite.specs.Sound.{IsMoveFrom, IsSpread, FixedFits, IsRawFor, IsSoundOp, IsSoundNode, IsSoundFunc, IsSound, item_layout, item_layouts}
+use Rattle.ae_rewrite.specs.Calls.{Spreading, spread, spread_at, head, call_of, called_by, plain_op, layout_at, fold_of, scan_of, shift_of, raw_layout, op_by}
+use Rattle.ae_rewrite.specs.StProgramTree.{StOpTree, word as st_word, join, first, second, fixed, move, fold, scan as st_scan, StNodeTree, StFuncTree}
+use Rattle.ae_rewrite.specs.Scheduled.{Keys, HasKey, IsOp, IsStNode, AreStNodes, IsInstance, IsSchedule, IsFilling, IsFilled, AllFilled, node_layouts, param_layouts, copies_of}
+use Rattle.ae_rewrite.specs.Sound.{IsSpread, FixedFits, IsRawFor, IsSoundOp, IsSoundNode, IsSoundFunc, IsSound, item_layout, item_layouts}
 use Rattle.ae_rewrite.proofs.Accepted.{type_sized}
 use Rattle.ae_rewrite.proofs.Applies.{Applies, applies, whole, quotient_pos, inner_pos}
 use Rattle.ae_rewrite.proofs.Forms.{formed-of, node-of, below-at}

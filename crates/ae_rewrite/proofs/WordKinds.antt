@@ -1,5 +1,5 @@
 -- The kinds of a type's words repeat those of its atom.
-use Rattle.std.proofs.Common.{◌≡◌, ℕ, zero, suc, ◌+◌, ◌-◌, ◌*◌, ◌%◌, ◌<◌, ◌≤◌, ◌^◌, List, [], ◌∷◌, ◌++◌, length, Some, Bool, slice_get, refl, arith, sym, ap, ◌∙◌, append_assoc, ⊎_elim, IsTrue, mul_assoc}
+use Rattle.std.proofs.Common.{◌≡◌, ℕ, zero, suc, ◌+◌, ◌-◌, ◌*◌, ◌%◌, ◌<◌, ◌≤◌, ◌^◌, List, [], ◌∷◌, ◌++◌, length, Some, slice_get, refl, arith, sym, ap, ◌∙◌, append_assoc, ⊎_elim, IsTrue, mul_assoc}
 use Rattle.std.proofs.lemmas.Bool.{cases_lt}
 use Rattle.std.proofs.lemmas.Bool.Decides.{nat_tests}
 use Rattle.std.proofs.lemmas.Option.{none-some, same_Some}
@@ -7,8 +7,7 @@ use Rattle.std.proofs.Math.Nat.{mod-eq-sub-mod, mod-eq_of_lt, zero-add, suc-add,
 use Rattle.ae_word.specs.AtomTree.{WordKind, atom_words, atom_kinds}
 use Rattle.ae_word.proofs.Sizes.{length-atom_kinds}
 use Rattle.ae_seqtype.specs.SeqTree.{SeqTree, atom, seq, words, kinds, repeated, atoms, atom_of}
-use Rattle.ae_seqtype.specs.ValueTree.{FitKinds, fit_kinds}
-use Rattle.ae_seqtype.proofs.Sizes.{length-kinds, length-repeated}
+use Rattle.ae_seqtype.specs.ValueTree.{fit_kinds}
 use Rattle.ae_seqtype.proofs.Stands.{repeated-one}
 
 repeated-add : {A : Type 0} (n m : ℕ) (xs : List A) → repeated (n + m) xs ≡ repeated n xs ++ repeated m xs
