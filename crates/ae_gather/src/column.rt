@@ -8,8 +8,8 @@ ghost use Rattle.ae_gather.specs.Plans.{choice_in, later, steps_cells};
 ghost use Rattle.ae_gather.specs.Columns.{AreReady, IsColumn, IsReady, IsSource};
 
 use crate::trips::Step;
-use ae_moves::Choice;
 use ae_clocked::{Clocks, Tapped, choose, constant, less};
+use ae_moves::Choice;
 use ae_netlist::{NetFault, NetId, Netlist};
 
 /// The net that has the word of a step.

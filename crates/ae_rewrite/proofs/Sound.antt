@@ -300,7 +300,7 @@ op_sound p f budget k layouts known (reduce op) (a ∷ []) (seq n u ∷ []) t s 
     let e : t ≡ seq 1 u = sym (same_Some (seq 1 u) t is) in
     let some = seq_some n u sized in
     let m : fold op (slots_of n budget r.0) (lanes_of n budget r.0) (raw_layout budget (inner_of n budget r.0) r.2.0) ≡ made =
-        same_Some _ made (sym (ap (λ o. o >>= fold_of op budget) r.3 ∙ ap (option_map (λ y. fold op (slots_of n budget r.0) (lanes_of n budget r.0) (raw_layout budget (inner_of n budget r.0) y))) r.2.1) ∙ plain) in
+    same_Some _ made (sym (ap (λ o. o >>= fold_of op budget) r.3 ∙ ap (option_map (λ y. fold op (slots_of n budget r.0) (lanes_of n budget r.0) (raw_layout budget (inner_of n budget r.0) y))) r.2.1) ∙ plain) in
     rw (← m) (raw_for budget n u r.0 r.2.0 s c.some c.limit r.1 r.2.1 sized (rw e at out) fill, amounts n budget r.0 some.0 some.1 c.some c.limit (applies n budget r.0 c.some r.1))
 op_sound p f budget k layouts known (scan op) (a ∷ []) (seq n u ∷ []) t s made c h is out fill plain =
     let r = spread_of p f budget a n u _ h.0.is h.0.laid in
@@ -497,7 +497,7 @@ node_sound p all k s h good facts filled i n at =
           let out = laid_whole t s.budget n.type (type_sized p s.func (length h.of.params + i) t facts.accepted type) facts.some found in
           option_and_then_some (op_type typed.known from.node.op) (types_at typed.before from.node.args) t typed.is (λ ts all_types is.
           let items = items_typed p s.func s.budget layouts typed.before from.node.args ts typed.same
-              (λ j a f. item_at p (HasKey (take k all)) s h i a (omega (arith, inside)) (below-at (length h.of.params + i) from.node.args j a form.below f)) all_types in
+          (λ j a f. item_at p (HasKey (take k all)) s h i a (omega (arith, inside)) (below-at (length h.of.params + i) from.node.args j a form.below f)) all_types in
           rw from.is.args (op_sound p s.func s.budget k layouts typed.known from.node.op from.node.args ts t n.type n.op facts items is out fill plain))));
     }
 
