@@ -3,3 +3,4 @@ pub mod SignWords
 pub mod Computing
 pub mod WordBlocks
 pub mod Operands
+pub mod Combining

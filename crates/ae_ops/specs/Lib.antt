@@ -2,3 +2,4 @@ pub mod Waves
 pub mod Blocks
 pub mod Signs
 pub mod Words
+pub mod Folds

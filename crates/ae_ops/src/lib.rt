@@ -2,6 +2,7 @@
 #![tactic(auto)]
 
 mod bundle;
+mod combine;
 mod compute;
 mod late;
 mod stage;
@@ -10,6 +11,7 @@ mod tests;
 mod word;
 
 pub use bundle::Bundle;
+pub use combine::combined;
 pub use late::delay;
 pub use stage::Stage;
 pub use word::WordStage;

@@ -1,0 +1,13 @@
+pub mod Associative
+pub mod LogUp
+pub mod Scanned
+pub mod Feeding
+pub mod Marking
+pub mod Scanning
+pub mod Looping
+pub mod Kinding
+pub mod Blocks
+pub mod Bundles
+pub mod Ending
+pub mod Planning
+pub mod Bytes

@@ -1,0 +1,59 @@
+-- The phase of a block's clocks, and the net that marks the first of them.
+use Rattle.std.proofs.Common.{ℕ, ◌≡◌, ◌+◌, ◌-◌, ◌*◌, ◌/◌, ◌%◌, ◌<◌, ◌≤◌, nat_lt, true, false, Option, Some, None, IfSome, List, ◌∷◌, [], arith, refl, ◌∙◌, rules}
+use Rattle.std.proofs.Math.Nat.{add-mul, mod-add-div'}
+use Rattle.std.proofs.lemmas.Nat.{mod-mul-add}
+use Rattle.ae_word.specs.declared.op.WordOp.TheVariants.{Lt}
+use Rattle.ae_netlist.specs.declared.cell.NetId.{NetId}
+use Rattle.ae_netlist.specs.Runs.{Clock, word_at, HasWords}
+use Rattle.ae_clocked.specs.Signals.{IsConstant, IsResult}
+use Rattle.ae_clocked.specs.Phases.{phase_of}
+use Rattle.ae_netlist.specs.declared.cell.SizedCell.{SizedCell}
+use Rattle.ae_netlist.specs.Circuit.{Extends, IsNet}
+use Rattle.ae_netlist.proofs.Growing.{extends_trans, net_later}
+use Rattle.ae_fold.specs.Feedback.{Leads}
+use Rattle.ae_fold.specs.Rows.{IsMark, Marks, marks_in, wait_of}
+
+-- clock m of block b, where the blocks begin at clock k
+pub block_phase : (p k b m : ℕ) → m < p → phase_of p (k % p) (k + b * p + m) ≡ m
+unfolding phase_of
+block_phase p k b m l =
+    let d : k % p + k / p * p ≡ k = mod-add-div' k p in
+    let s1 : (k / p + b + 1) * p ≡ (k / p + b) * p + 1 * p = add-mul (k / p + b) 1 p in
+    let s2 : (k / p + b) * p ≡ k / p * p + b * p = add-mul (k / p) b p in
+    let e : k + b * p + m + p - k % p ≡ (k / p + b + 1) * p + m = omega arith in
+    rw e (mod-mul-add (k / p + b + 1) p m l)
+
+pub leads : (run : List Clock) (start p k inner w : ℕ) (phase end y : NetId) → inner < p → HasWords run start phase.0 (phase_of p (k % p)) → IsConstant run end.0 inner
+    → IsResult run y.0 Lt w (phase ∷ end ∷ phase ∷ []) → Leads run start y.0 p k inner
+leads run start p k inner w phase end y less counts const result = record {
+  high = λ b m l long.
+      let c : ℕ = k + b * p + m in
+      let at : word_at run (start + c) phase.0 ≡ m = counts c long ∙ block_phase p k b m (omega arith) in
+      let lt : nat_lt m inner ≡ true = search rules in
+      result (start + c) long ∙ rw (at, const (start + c) long, lt) refl;
+  low = λ b m ge l long.
+      let c : ℕ = k + b * p + m in
+      let at : word_at run (start + c) phase.0 ≡ m = counts c long ∙ block_phase p k b m l in
+      let lt : nat_lt m inner ≡ false = search rules in
+      result (start + c) long ∙ rw (at, const (start + c) long, lt) refl;
+}
+
+-- ---- as a netlist grows
+
+pub mark_grows : {a b : List SizedCell} {rst slots period k inner y : ℕ} → Extends a b → IsMark a rst slots period k inner y → IsMark b rst slots period k inner y
+mark_grows g h = record { many = h.many; net = net_later g h.net; words = λ all e run r. h.words all (extends_trans g e) run r }
+
+pub marks_grow : (a b : List SizedCell) (rst slots period k inner : ℕ) (mark : Option NetId) → Extends a b → Marks a rst slots period k inner mark → Marks b rst slots period k inner mark
+marks_grow a b rst slots period k inner None g h = h
+marks_grow a b rst slots period k inner (Some y) g h = mark_grows g h
+
+pub marks_net : (a : List SizedCell) (rst slots period k inner : ℕ) (mark : Option NetId) → Marks a rst slots period k inner mark → IfSome mark (λ first. IsNet a first.0 1)
+marks_net a rst slots period k inner None h = tt
+marks_net a rst slots period k inner (Some y) h = h.net
+
+pub marks_wait : (a : List SizedCell) (rst slots period k inner : ℕ) (mark : Option NetId) → Marks a rst slots period k inner mark → marks_in mark ≡ wait_of slots
+marks_wait a rst slots period k inner None h = rw h refl
+marks_wait a rst slots period k inner (Some y) h = one_more slots h.many
+  where
+    one_more : (slots : ℕ) → 2 ≤ slots → 1 ≡ wait_of slots
+    one_more slots h = let t : nat_lt 1 slots ≡ true = search rules in rw t refl

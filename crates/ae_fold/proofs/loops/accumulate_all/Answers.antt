@@ -1,0 +1,42 @@
+-- One loop more.
+use Rattle.std.proofs.Common.{◌≡◌, ◌+◌, ◌-◌, ◌++◌, ◌∷◌, [], length, ap, ◌∙◌, refl, arith}
+use Rattle.std.proofs.lemmas.List.{length_push}
+use Rattle.ae_clocked.proofs.Adding.{adds_same}
+use Rattle.ae_fold.proofs.Feeding.{adds_is, adds_up}
+use Rattle.ae_fold.proofs.Looping.{adds_once, fold_product, loops_more, loops_none, nets_grow, up_once}
+use Rattle.ae_fold.proofs.loops.accumulate_all.Goals as goal
+
+pub loop-p-init : goal.loop-p-init
+loop-p-init c =
+    rw c.new-loops.ensures.items
+    (record {
+      adds = adds_is (omega arith) (omega arith) (adds_same _ _ 0 refl);
+      long = refl;
+      loops = loops_none _ _ _ _ _ _;
+    })
+
+pub accumulate-requires-clause-net : goal.accumulate-requires-clause-net
+accumulate-requires-clause-net c = (nets_grow c.loop-p.invariant.adds.grows.extends c.requires.nets).each (c.args.from + c.loop-p.p) (omega arith)
+
+pub returns-in_err-one-clause-up : goal.returns-in_err-one-clause-up
+returns-in_err-one-clause-up c = up_once c.loop-p.p _ _ _ c.loop-p-test.true c.loop-p.invariant.adds c.in_err-one.ensures.up
+
+pub returns-in_err-keep_loop-clause-up : goal.returns-in_err-keep_loop-clause-up
+returns-in_err-keep_loop-clause-up c = up_once c.loop-p.p _ _ _ c.loop-p-test.true c.loop-p.invariant.adds c.in_ok-one.ensures.up
+
+pub loop-p-preserved : goal.loop-p-preserved
+loop-p-preserved c =
+    let old = c.loop-p.invariant in
+    let more = c.in_ok-one.ensures in
+    let pushed : c.keep_loop.new.loops.items ≡ c.loop-p.loops.items ++ c.in_ok-one.one ∷ [] = c.in_ok-keep_loop.ensures.ok in
+    record {
+      adds = adds_once c.loop-p.p (c.args.inner + 9) _ _ (fold_product c.args.folds.now (c.args.from + c.loop-p.p) c.requires.folds) old.adds more.adds;
+      long = rw pushed (length_push c.loop-p.loops.items c.in_ok-one.one ∙ ap (λ n. n + 1) old.long);
+      loops = rw pushed
+          (loops_more _ _ _ c.args.nets.now c.args.from _ _ c.loop-p.p c.loop-p.loops.items c.in_ok-one.one old.long more.adds.grows.extends old.loops (record { net = more.net; old = more.back; words = more.words; late = more.late }));
+    }
+
+pub returns-clause-up : goal.returns-clause-up
+returns-clause-up c =
+    let e : c.loop-p.p ≡ length c.args.nets.now - c.args.from = omega arith in
+    rw (← e) (adds_up _ (omega arith) c.loop-p.invariant.adds)

@@ -1,0 +1,46 @@
+-- One net more behind the loops.
+use Rattle.std.proofs.Common.{◌≡◌, ◌+◌, ◌++◌, ◌∷◌, [], ap, ◌∙◌, arith}
+use Rattle.std.proofs.lemmas.List.{length_push}
+use Rattle.ae_clocked.proofs.Adding.{net_added}
+use Rattle.ae_fold.proofs.Feeding.{adds_up}
+use Rattle.ae_fold.proofs.Looping.{adds_once, fold_op, fold_product, nets_grow, up_once}
+use Rattle.ae_fold.proofs.Ending.{back_net, followers_more, loop_there}
+use Rattle.ae_fold.proofs.slots.followers.Goals as goal
+
+pub follow-requires-clause-net : goal.follow-requires-clause-net
+follow-requires-clause-net c = (nets_grow c.loop-q.invariant.adds.grows.extends c.requires.nets).each c.loop-q.q (omega arith)
+
+pub follow-requires-clause-first : goal.follow-requires-clause-first
+follow-requires-clause-first c = net_added c.loop-q.invariant.adds c.requires.first
+
+pub follow-requires-clause-back : goal.follow-requires-clause-back
+follow-requires-clause-back c =
+    back_net _ c.args.folds.now c.args.from c.args.stride c.loop-q.q c.args.loops.now _ c.requires.folds.some c.requires.placed c.requires.whole c.requires.lanes
+    (λ p one found. net_added c.loop-q.invariant.adds (c.requires.backs p one found)) (loop_there c.args.loops.now c.args.stride c.loop-q.q c.requires.long c.requires.placed)
+
+pub follow-requires-clause-folds : goal.follow-requires-clause-folds
+follow-requires-clause-folds c = fold_op c.args.folds.now c.loop-q.q c.requires.folds
+
+pub returns-in_err-net-clause-up : goal.returns-in_err-net-clause-up
+returns-in_err-net-clause-up c = up_once c.loop-q.q _ _ _ c.loop-q-test.true c.loop-q.invariant.adds c.in_err-net.ensures.up
+
+pub returns-in_err-keep-clause-up : goal.returns-in_err-keep-clause-up
+returns-in_err-keep-clause-up c = up_once c.loop-q.q _ _ _ c.loop-q-test.true c.loop-q.invariant.adds c.in_ok-net.ensures.up
+
+pub loop-q-preserved : goal.loop-q-preserved
+loop-q-preserved c =
+    let old = c.loop-q.invariant in
+    let more = c.in_ok-net.ensures in
+    let pushed : c.keep.new.nets.items ≡ c.loop-q.outs.items ++ c.in_ok-net.net ∷ [] = c.in_ok-keep.ensures.ok in
+    record {
+      adds = adds_once c.loop-q.q 10 _ _ (fold_product c.args.folds.now c.loop-q.q c.requires.folds) old.adds more.adds;
+      long = rw pushed (length_push c.loop-q.outs.items c.in_ok-net.net ∙ ap (λ n. n + 1) old.long);
+      follow = rw pushed
+          (followers_more _ _ c.args.folds.now c.args.nets.now c.args.stride _ c.loop-q.q c.args.loops.now c.loop-q.outs.items _ c.in_ok-net.net old.long more.adds.grows.extends old.follow
+          (loop_there c.args.loops.now c.args.stride c.loop-q.q c.requires.long c.requires.placed) (record { net = more.net; words = more.words }));
+    }
+
+pub returns-clause-up : goal.returns-clause-up
+returns-clause-up c =
+    let e : c.loop-q.q ≡ c.args.from = omega arith in
+    rw (← e) (adds_up _ (omega arith) c.loop-q.invariant.adds)

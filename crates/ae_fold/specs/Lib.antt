@@ -1,0 +1,4 @@
+pub mod Folding
+pub mod Feedback
+pub mod Rows
+pub mod Shapes

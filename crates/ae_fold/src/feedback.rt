@@ -1,0 +1,115 @@
+// Words that come back some clocks later.
+
+ghost use Rattle.std.specs.Prelude.{◌≡◌, ℕ, ◌+◌, ◌-◌, ◌≤◌, length, IfOk, OnOk};
+ghost use Rattle.ae_netlist.specs.Circuit.{IsNet};
+ghost use Rattle.ae_netlist.specs.Runs.{InEveryRun, InEveryRunFrom};
+ghost use Rattle.ae_clocked.specs.Signals.{Adds, IsFullAt};
+ghost use Rattle.ae_clocked.specs.Delays.{IsLate};
+ghost use Rattle.ae_ops.specs.Folds.{IsFold};
+ghost use Rattle.ae_fold.specs.Folding.{AddsUpTo, product_of};
+ghost use Rattle.ae_fold.specs.Feedback.{Continues, IsJoined};
+
+use crate::words::WordFold;
+use ae_clocked::{choose, close, delayed, register};
+use ae_netlist::{NetFault, NetId, Netlist};
+use ae_ops::combined;
+
+/// A net that is some clocks late.
+fn trail(nl: &mut Netlist, x: NetId, width: u32, count: u32) -> Result<NetId, NetFault>
+    requires low { 1 ≤ width }
+    requires high { width ≤ 64 }
+    requires net { IsNet nl.old.cells x.0 width }
+    ensures adds { Adds nl.old nl.new count 0 }
+    ensures full { IsFullAt result nl.new }
+    ensures net { IfOk result (λ y. IsNet nl.new.cells y.0 width) }
+    ensures words { IfOk result (λ y. InEveryRunFrom (length nl.old.cells) nl.new.cells (λ run. IsLate run y.0 x.0 count)) }
+{
+    let mut last = x;
+    for i in 0..count {
+        last = delayed(nl, last, width)?;
+    }
+    Ok(last)
+}
+
+/// A register, and the net that has its word of some clocks before.
+#[derive(Clone, Copy)]
+pub struct Loop {
+    pub word: NetId,
+    pub back: NetId,
+}
+
+/// A register that takes the word of `x` where `first` is 1, and else its own of `inner` clocks before combined with
+/// that of `x`; and the net that has its word of `inner - 1` clocks before. `Full` comes only where the netlist has
+/// `limit` cells as the call ends; after a refusal, here and below, it may hold further cells.
+pub fn accumulate(
+    nl: &mut Netlist,
+    fold: WordFold,
+    x: NetId,
+    first: NetId,
+    inner: u32,
+) -> Result<Loop, NetFault>
+    requires low { 1 ≤ fold.width }
+    requires high { fold.width ≤ 64 }
+    requires folds { IsFold fold.op }
+    requires net { IsNet nl.old.cells x.0 fold.width }
+    requires first { IsNet nl.old.cells first.0 1 }
+    requires lasting { 1 ≤ inner }
+    ensures adds { OnOk result (Adds nl.old nl.new (inner + 9) (product_of fold.op)) }
+    ensures up { AddsUpTo nl.old nl.new (inner + 9) }
+    ensures full { IsFullAt result nl.new }
+    ensures net { IfOk result (λ y. IsNet nl.new.cells y.word.0 fold.width) }
+    ensures back { IfOk result (λ y. IsNet nl.new.cells y.back.0 fold.width) }
+    ensures words { IfOk result (λ y. InEveryRun nl.new.cells (λ run. Continues run y.word.0 fold.op fold.width x.0 first.0 y.word.0 (inner - 1))) }
+    ensures late { IfOk result (λ y. InEveryRun nl.new.cells (λ run. IsLate run y.back.0 y.word.0 (inner - 1))) }
+{
+    let r = register(nl, fold.width)?;
+    let back = trail(nl, r, fold.width, inner - 1)?;
+    let both = combined(nl, fold.op, back, x, fold.width)?;
+    let next = choose(nl, first, x, both, fold.width)?;
+    close(nl, r, next);
+    Ok(Loop { word: r, back })
+}
+
+/// A register that takes the word of `x` where `first` is 1, and else that of a loop combined with it.
+pub fn follow(
+    nl: &mut Netlist,
+    fold: WordFold,
+    x: NetId,
+    first: NetId,
+    back: NetId,
+) -> Result<NetId, NetFault>
+    requires low { 1 ≤ fold.width }
+    requires high { fold.width ≤ 64 }
+    requires folds { IsFold fold.op }
+    requires net { IsNet nl.old.cells x.0 fold.width }
+    requires first { IsNet nl.old.cells first.0 1 }
+    requires back { IsNet nl.old.cells back.0 fold.width }
+    ensures adds { OnOk result (Adds nl.old nl.new 10 (product_of fold.op)) }
+    ensures up { AddsUpTo nl.old nl.new 10 }
+    ensures full { IsFullAt result nl.new }
+    ensures net { IfOk result (λ z. IsNet nl.new.cells z.0 fold.width) }
+    ensures words { IfOk result (λ z. InEveryRun nl.new.cells (λ run. (y d : ℕ) → IsLate run back.0 y d → Continues run z.0 fold.op fold.width x.0 first.0 y d)) }
+{
+    let both = combined(nl, fold.op, back, x, fold.width)?;
+    let next = choose(nl, first, x, both, fold.width)?;
+    let z = delayed(nl, next, fold.width)?;
+    Ok(z)
+}
+
+/// A register of two words combined: it has, in each clock, what they had in the clock before.
+pub fn joined(nl: &mut Netlist, fold: WordFold, a: NetId, b: NetId) -> Result<NetId, NetFault>
+    requires low { 1 ≤ fold.width }
+    requires high { fold.width ≤ 64 }
+    requires folds { IsFold fold.op }
+    requires left { IsNet nl.old.cells a.0 fold.width }
+    requires right { IsNet nl.old.cells b.0 fold.width }
+    ensures adds { OnOk result (Adds nl.old nl.new 9 (product_of fold.op)) }
+    ensures up { AddsUpTo nl.old nl.new 9 }
+    ensures full { IsFullAt result nl.new }
+    ensures net { IfOk result (λ y. IsNet nl.new.cells y.0 fold.width) }
+    ensures words { IfOk result (λ y. InEveryRun nl.new.cells (λ run. IsJoined run y.0 fold.op fold.width a.0 b.0)) }
+{
+    let both = combined(nl, fold.op, a, b, fold.width)?;
+    let y = delayed(nl, both, fold.width)?;
+    Ok(y)
+}
