@@ -1,0 +1,73 @@
+-- What the stage's circuit owes to the part.
+use Rattle.std.proofs.Common.{ℕ, ◌≡◌, ◌+◌, ◌-◌, ◌*◌, ◌%◌, ◌≤◌, List, ◌∷◌, [], length, get_or, arith, refl, ◌∙◌}
+use Rattle.ae_netlist.specs.declared.cell.NetId.{NetId}
+use Rattle.ae_netlist.specs.declared.cell.SizedCell.{SizedCell}
+use Rattle.ae_netlist.specs.Circuit.{Circuit}
+use Rattle.ae_sttype.specs.StTree.{st_tree}
+use Rattle.ae_ops.specs.Folds.{log_up}
+use Rattle.ae_ops.specs.Waves.{AreNets}
+use Rattle.ae_ops.specs.Blocks.{AreBundles, KeepsLaw, stream_of, stream_widths}
+use Rattle.ae_fold.specs.declared.words.WordFold.{WordFold}
+use Rattle.ae_fold.specs.declared.plan.Plan.{Plan}
+use Rattle.ae_fold.specs.Folding.{AddsUpTo, AreFolds, products_in}
+use Rattle.ae_fold.specs.Rows.{AreFoldNets, AreScans, IsPlan, wait_of}
+use Rattle.ae_fold.specs.Shapes.{FoldShape, IsFoldShape, IsPlanFor, element_columns, element_folds, elements_layout}
+use Rattle.ae_fold.proofs.Planning.{levels_below}
+use Rattle.ae_fold.proofs.Kinding.{all_products, are_folds}
+use Rattle.ae_fold.proofs.Ending.{scans_nets}
+use Rattle.ae_fold.proofs.Bundles.{element_bundle, first_bundle, length-bundle, nets_of_bundle, plan_is, whole_stride}
+use Rattle.ae_reduce.specs.Reduces.{reduce_cells, reduce_part, reduce_products}
+use Rattle.ae_reduce.proofs.Counting.{cells_bound, products_are}
+use Rattle.ae_reduce.proofs.ReduceLaw.{plan_for, reduce_law}
+
+-- what a build of a fold stands on: the folds of its words, its numbers, and its one bundle
+pub record IsBuild (cells : List SizedCell) (f : FoldShape) (folds : List WordFold) (plan : Plan) (ins : List (List NetId)) (nets : List NetId) : Type 0 where
+  pub shape : IsFoldShape f
+  pub folds_are : folds ≡ element_folds f.op (st_tree f.element)
+  pub plan_are : plan ≡ plan_for f
+  pub is_plan : IsPlan plan
+  pub one : ins ≡ nets ∷ []
+  pub own : AreNets cells (stream_widths (stream_of (elements_layout f))) nets
+
+pub build_of : (cells : List SizedCell) (f : FoldShape) (items folds : List WordFold) (plan : Plan) (ins : List (List NetId)) (x nets : List NetId) → IsFoldShape f → folds ≡ items → items ≡ element_folds f.op (st_tree f.element) → IsPlan plan
+    → IsPlanFor (st_tree f.element) f.slots f.lanes f.period plan → AreBundles cells (stream_of (elements_layout f) ∷ []) ins → x ≡ get_or ins 0 x → nets ≡ x → IsBuild cells f folds plan ins nets
+build_of cells f items folds plan ins x nets shape ef ei p numbers bundles is same =
+    let first = first_bundle cells (stream_of (elements_layout f)) ins x nets bundles is same in
+    record { shape = shape; folds_are = ef ∙ ei; plan_are = plan_is (st_tree f.element) f.slots f.lanes f.period plan numbers; is_plan = p; one = first.0; own = first.1 }
+
+pub build_folds : (cells : List SizedCell) (f : FoldShape) (folds : List WordFold) (plan : Plan) (ins : List (List NetId)) (nets : List NetId) → IsBuild cells f folds plan ins nets → AreFolds folds
+build_folds cells f folds plan ins nets h = rw h.folds_are (are_folds f.op (st_tree f.element) h.shape.op h.shape.element)
+
+pub build_nets : (cells : List SizedCell) (f : FoldShape) (folds : List WordFold) (plan : Plan) (ins : List (List NetId)) (nets : List NetId) → IsBuild cells f folds plan ins nets → AreFoldNets cells folds nets
+build_nets cells f folds plan ins nets h = rw h.folds_are (nets_of_bundle f.op cells (st_tree f.element) f.slots f.lanes nets h.own)
+
+pub build_long : (cells : List SizedCell) (f : FoldShape) (folds : List WordFold) (plan : Plan) (ins : List (List NetId)) (nets : List NetId) → IsBuild cells f folds plan ins nets → length nets ≡ plan.lanes * plan.stride
+build_long cells f folds plan ins nets h = rw h.plan_are (length-bundle cells (st_tree f.element) f.slots f.lanes nets h.own)
+
+pub build_whole : (cells : List SizedCell) (f : FoldShape) (folds : List WordFold) (plan : Plan) (ins : List (List NetId)) (nets : List NetId) → IsBuild cells f folds plan ins nets → plan.stride % length folds ≡ 0
+build_whole cells f folds plan ins nets h = rw (h.plan_are, h.folds_are) (whole_stride f.op (st_tree f.element))
+
+pub build_cells : (cells : List SizedCell) (f : FoldShape) (folds : List WordFold) (plan : Plan) (ins : List (List NetId)) (nets : List NetId) (old new : Circuit) → IsBuild cells f folds plan ins nets → AddsUpTo old new (reduce_cells plan)
+    → length new.cells ≤ length old.cells + (reduce_part f).most_cells
+build_cells cells f folds plan ins nets old new h up =
+    let low : plan.levels ≤ plan.lanes = levels_below plan.lanes plan.levels h.is_plan.wide h.is_plan.least in
+    let made : AddsUpTo old new (reduce_cells (plan_for f)) = rw h.plan_are at up in
+    let below : log_up f.lanes ≤ f.lanes = rw h.plan_are at low in
+    let bound = cells_bound f.slots f.lanes (log_up f.lanes) (element_columns (st_tree f.element)) (plan_for f).inner (reduce_part f).latency below in
+    omega (arith, made.cells, bound)
+
+pub build_products : (cells : List SizedCell) (f : FoldShape) (folds : List WordFold) (plan : Plan) (ins : List (List NetId)) (nets : List NetId) → IsBuild cells f folds plan ins nets → reduce_products plan (products_in folds) ≡ (reduce_part f).products
+build_products cells f folds plan ins nets h =
+    rw (h.plan_are, h.folds_are, all_products f.op (st_tree f.element) h.shape.op h.shape.element) (products_are f.op f.slots f.lanes (element_columns (st_tree f.element)) h.shape.lanes_some)
+
+pub build_bundle : (cells new : List SizedCell) (rst arrival : ℕ) (f : FoldShape) (folds : List WordFold) (plan : Plan) (ins : List (List NetId)) (nets outs out : List NetId) → IsBuild cells f folds plan ins nets → out ≡ outs → length outs ≡ plan.stride
+    → AreScans new rst folds nets plan arrival (plan.levels + wait_of plan.slots) ((plan.lanes - 1) * plan.stride) outs → AreNets new (stream_widths (stream_of (st_tree f.element))) out
+build_bundle cells new rst arrival f folds plan ins nets outs out h is long scans =
+    let own : AreFoldNets new folds outs = scans_nets new rst folds nets plan arrival (plan.levels + wait_of plan.slots) ((plan.lanes - 1) * plan.stride) (plan.lanes - 1) outs (build_folds cells f folds plan ins nets h).some (build_whole cells f folds plan ins nets h) refl scans in
+    rw is (element_bundle f.op new (st_tree f.element) outs (rw h.plan_are at long) (rw h.folds_are at own))
+
+pub build_law : (cells new : List SizedCell) (rst arrival : ℕ) (f : FoldShape) (folds : List WordFold) (plan : Plan) (ins : List (List NetId)) (nets outs out : List NetId) → IsBuild cells f folds plan ins nets → out ≡ outs → length outs ≡ plan.stride
+    → AreScans new rst folds nets plan arrival (plan.levels + wait_of plan.slots) ((plan.lanes - 1) * plan.stride) outs → KeepsLaw new rst arrival (reduce_part f) ins out
+build_law cells new rst arrival f folds plan ins nets outs out h is long scans =
+    rw (is, h.one)
+    (reduce_law new rst arrival f nets outs h.shape (length-bundle cells (st_tree f.element) f.slots f.lanes nets h.own) (rw h.plan_are at long) (rw (h.plan_are, h.folds_are) at scans))

@@ -1,0 +1,4 @@
+pub mod Treeing
+pub mod Counting
+pub mod ReduceLaw
+pub mod Building

@@ -1,0 +1,10 @@
+//! Folds of the elements of a block as a stage: a tree over lanes, and behind it a loop over slots.
+#![tactic(auto)]
+
+mod reducing;
+mod stage;
+#[cfg(test)]
+mod tests;
+mod tree;
+
+pub use stage::Reduce;

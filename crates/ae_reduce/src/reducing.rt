@@ -1,0 +1,54 @@
+// The circuit of a fold.
+
+ghost use Rattle.std.specs.Prelude.{◌≡◌, ◌+◌, ◌-◌, ◌*◌, ◌%◌, length, IfOk, OnOk};
+ghost use Rattle.ae_clocked.specs.Signals.{Adds, IsFullAt};
+ghost use Rattle.ae_clocked.specs.Phases.{Belongs, KeepsCounters};
+ghost use Rattle.ae_fold.specs.Folding.{AddsUpTo, AreFolds, products_in};
+ghost use Rattle.ae_fold.specs.Rows.{AreFoldNets, AreScans, IsPlan, wait_of};
+ghost use Rattle.ae_reduce.specs.Reduces.{reduce_cells, reduce_products};
+
+use crate::tree::tree;
+use ae_clocked::Clocks;
+use ae_fold::{Plan, WordFold, copied, mark, over_slots};
+use ae_netlist::{NetFault, NetId, Netlist};
+use std::alloc::Global;
+
+/// The nets of the folds, by lane and then by word of an element.
+pub fn reduced(
+    alloc: Global,
+    nl: &mut Netlist,
+    clocks: &mut Clocks,
+    folds: &[WordFold],
+    plan: Plan,
+    ins: &[NetId],
+    arrival: u32,
+) -> Result<Vec<NetId>, NetFault>
+    requires plan { IsPlan plan }
+    requires folds { AreFolds folds.now }
+    requires belongs { Belongs clocks.old nl.old.cells }
+    requires nets { AreFoldNets nl.old.cells folds.now ins.now }
+    requires long { length ins.now ≡ plan.lanes * plan.stride }
+    requires whole { plan.stride % length folds.now ≡ 0 }
+    ensures belongs { Belongs clocks.new nl.new.cells }
+    ensures keeps { KeepsCounters clocks.old clocks.new }
+    ensures adds { OnOk result (Adds nl.old nl.new (reduce_cells plan) (reduce_products plan (products_in folds.now))) }
+    ensures up { AddsUpTo nl.old nl.new (reduce_cells plan) }
+    ensures full { IsFullAt result nl.new }
+    ensures long { IfOk result (λ outs. length outs.items ≡ plan.stride) }
+    ensures scans { IfOk result (λ outs. AreScans nl.new.cells clocks.old.rst folds.now ins.now plan arrival (plan.levels + wait_of plan.slots) ((plan.lanes - 1) * plan.stride) outs.items) }
+{
+    let found = mark(nl, clocks, plan, arrival)?;
+    let nets = copied(alloc, ins)?;
+    let stride = plan.stride as usize;
+    let sums = tree(
+        alloc,
+        nl,
+        folds,
+        nets,
+        plan.lanes as usize,
+        stride,
+        plan.levels,
+    )?;
+    let outs = over_slots(alloc, nl, folds, sums, 0, stride, found, plan.inner)?;
+    Ok(outs)
+}
