@@ -1,0 +1,4 @@
+pub mod Sweeping
+pub mod Counting
+pub mod ScanLaw
+pub mod Building

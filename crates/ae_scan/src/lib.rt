@@ -1,0 +1,10 @@
+//! Prefix folds of the elements of a block as a stage: a sweep over lanes, and behind it a loop over slots.
+#![tactic(auto)]
+
+mod scanning;
+mod stage;
+mod sweep;
+#[cfg(test)]
+mod tests;
+
+pub use stage::Scan;
