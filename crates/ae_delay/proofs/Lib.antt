@@ -1,0 +1,3 @@
+pub mod Sourced
+pub mod Small
+pub mod Owned
