@@ -1,3 +1,6 @@
 pub mod Sourced
 pub mod Small
 pub mod Owned
+pub mod Chains
+pub mod Items
+pub mod Nodes

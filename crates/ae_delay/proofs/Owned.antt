@@ -49,7 +49,7 @@ leaves_double l leaves e h =
     let d : leaves * 2 ≡ 2 ^ (l + 1) = rw e (double l) in
     (d, leaves_small (l + 1) (leaves * 2) d (omega arith))
 
-rings_le : (a : ℕ) → rings a ≤ a
+pub rings_le : (a : ℕ) → rings a ≤ a
 rings_le a = elim (cases_lt a 8) [
   | inl l ↦ (let t : nat_lt a 8 ≡ true = search (arith) in rw t (omega arith))
   | inr g ↦ (let t : nat_lt a 8 ≡ false = search (arith) in rw t (omega arith))

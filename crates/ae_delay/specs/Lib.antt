@@ -1,3 +1,5 @@
 pub mod Bounds
 pub mod Moving
 pub mod OwnCosts
+pub mod Costs
+pub mod Weighing

@@ -3,5 +3,8 @@
 
 mod moves;
 mod own;
+mod uses;
+mod weighing;
 
 pub use moves::origins;
+pub use weighing::Cost;
