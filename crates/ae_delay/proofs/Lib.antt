@@ -4,3 +4,4 @@ pub mod Owned
 pub mod Chains
 pub mod Items
 pub mod Nodes
+pub mod Instances

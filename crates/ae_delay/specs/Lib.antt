@@ -3,3 +3,4 @@ pub mod Moving
 pub mod OwnCosts
 pub mod Costs
 pub mod Weighing
+pub mod Timings

@@ -3,8 +3,10 @@
 
 mod moves;
 mod own;
+mod timing;
 mod uses;
 mod weighing;
 
 pub use moves::origins;
+pub use timing::{DelayFault, Timing};
 pub use weighing::Cost;

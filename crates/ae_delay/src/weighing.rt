@@ -243,11 +243,14 @@ pub(crate) fn weigh(
 {
     let mut progress = start(alloc, s)?;
     for node in &s.nodes {
-        if let Some(load) = add_node(alloc, known, s, node, &mut progress, limit)? {
-            return Ok(Weighed::Over {
-                line: node.line,
-                load,
-            });
+        match add_node(alloc, known, s, node, &mut progress, limit)? {
+            None => {}
+            Some(load) => {
+                return Ok(Weighed::Over {
+                    line: node.line,
+                    load,
+                });
+            }
         }
     }
     Ok(finish(s, progress, limit))

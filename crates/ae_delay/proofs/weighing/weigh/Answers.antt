@@ -1,0 +1,51 @@
+use Rattle.std.proofs.Common.{ap, sym, ◌∙◌, ◌≡◌, ◌≤◌, ◌<◌, ◌+◌, arith, refl, List, length, Some, None, slice_get, subst, take}
+use Rattle.std.proofs.lemmas.List.{length-map, take_all}
+use Rattle.std.proofs.lemmas.Option.{slice_get_read}
+use Rattle.ae_moves.proofs.Lists.{get_mapped}
+use Rattle.ae_rewrite.specs.StProgramTree.{StNodeTree, st_func_tree, st_node_tree, st_node_trees}
+use Rattle.ae_rewrite.specs.Sound.{item_layouts}
+use Rattle.ae_delay.specs.Costs.{NodeTiming}
+use Rattle.ae_delay.specs.Weighing.{IsWeighed}
+use Rattle.ae_delay.proofs.Instances.{all_items, args_arrived, arrivals_whole, node_here, node_sound, over_at, progress_more, timings_all}
+use Rattle.ae_delay.proofs.weighing.weigh.Goals as goal
+
+pub add_node-requires-clause-items : goal.add_node-requires-clause-items
+add_node-requires-clause-items c = all_items (length c.args.known.now) (st_func_tree c.args.s.now) c.requires.sound
+
+pub add_node-requires-clause-sound : goal.add_node-requires-clause-sound
+add_node-requires-clause-sound c =
+    let at = node_here c.args.s.now c.deref-node-items.result.now c.loop-node.node-index c.node-item.result c.deref-node-items.ensures.value c.loop-node-test.true c.node-item.is in
+    node_sound (length c.args.known.now) (st_func_tree c.args.s.now) c.loop-node.node-index (st_node_tree c.node-item.result) c.requires.sound at
+
+pub add_node-requires-clause-arrived : goal.add_node-requires-clause-arrived
+add_node-requires-clause-arrived c =
+    let at = node_here c.args.s.now c.deref-node-items.result.now c.loop-node.node-index c.node-item.result c.deref-node-items.ensures.value c.loop-node-test.true c.node-item.is in
+    args_arrived c.requires.known.0 (length c.args.known.now) (st_func_tree c.args.s.now) c.loop-node.node-index c.args.limit (st_node_tree c.node-item.result) c.loop-node.progress c.requires.sound at (c.loop-node.invariant.progress c.requires.known.0 c.requires.known.1)
+
+pub returns-in-Some : goal.returns-in-Some
+returns-in-Some c = λ costs known.
+    let at = node_here c.args.s.now c.deref-node-items.result.now c.loop-node.node-index c.node-item.result c.deref-node-items.ensures.value c.loop-node-test.true c.node-item.is in
+    let over = rw c.in-Some.is at (c.in_ok-add_node.ensures costs known) in
+    over_at costs (st_func_tree c.args.s.now) c.loop-node.node-index c.args.limit c.in-Some.load (st_node_tree c.node-item.result) c.loop-node.progress at (c.loop-node.invariant.progress costs known) over.0 over.1
+
+pub loop-node-preserved : goal.loop-node-preserved
+loop-node-preserved c = record {
+  nodes = c.deref-node-items.ensures.value;
+  progress = λ costs known.
+      let at = node_here c.args.s.now c.deref-node-items.result.now c.loop-node.node-index c.node-item.result c.deref-node-items.ensures.value c.loop-node-test.true c.node-item.is in
+      let next = rw c.in-None.is at (c.in_ok-add_node.ensures costs known) in
+      progress_more costs (length c.args.known.now) (st_func_tree c.args.s.now) c.loop-node.node-index c.args.limit (st_node_tree c.node-item.result) c.loop-node.progress c.add_node.new.progress c.requires.sound at (c.loop-node.invariant.progress costs known) next;
+}
+
+pub finish-requires-clause-items : goal.finish-requires-clause-items
+finish-requires-clause-items c = all_items (length c.args.known.now) (st_func_tree c.args.s.now) c.requires.sound
+
+pub finish-requires-clause-whole : goal.finish-requires-clause-whole
+finish-requires-clause-whole c =
+    arrivals_whole c.requires.known.0 c.args.s.now c.deref-node-items.result.now c.loop-node.node-index c.args.limit c.loop-node.progress c.deref-node-items.ensures.value c.loop-node-test.false c.loop-node.auto.node-index-end (c.loop-node.invariant.progress c.requires.known.0 c.requires.known.1)
+
+pub returns : goal.returns
+returns c = λ costs known.
+    subst (λ (ts : List NodeTiming). IsWeighed (st_func_tree c.args.s.now) ts c.args.limit c.finish.result)
+    (timings_all costs c.args.s.now c.deref-node-items.result.now c.loop-node.node-index c.deref-node-items.ensures.value c.loop-node-test.false)
+    (c.finish.ensures _ (c.loop-node.invariant.progress costs known))
