@@ -1,16 +1,16 @@
 -- The longest delays of items, use by use.
-use Rattle.std.proofs.Common.{ℕ, zero, suc, ◌≡◌, ◌+◌, ◌-◌, ◌*◌, ◌<◌, ◌≤◌, max, fold, inl, inr, true, false, nat_eq, cond, List, [], ◌∷◌, ◌++◌, length, map, sum_by, replicate, set, Some, slice_get, get_or, arith, refl, sym, ap, ◌∙◌}
-use Rattle.std.specs.List.{range_with_len, flat_map}
+use Rattle.std.proofs.Common.{ℕ, zero, suc, ◌≡◌, ◌+◌, ◌*◌, ◌<◌, ◌≤◌, max, fold, inl, inr, true, false, nat_eq, List, [], ◌∷◌, ◌++◌, length, sum_by, Some, slice_get, get_or, arith, refl, sym, ap, ◌∙◌}
+use Rattle.std.specs.List.{range_with_len}
 use Rattle.std.proofs.Math.Nat.{mul-le-mul_left}
 use Rattle.std.proofs.lemmas.Bool.{cases_eq, eq-eqb, ne_eqb}
-use Rattle.std.proofs.lemmas.List.{get_or-set_same, get_or-set_other, length-set, get_or-replicate}
-use Rattle.std.proofs.lemmas.List.Sums.{fold-append, sum_by-cons, sum_by-append}
+use Rattle.std.proofs.lemmas.List.{get_or-set_same, get_or-set_other, length-set}
+use Rattle.std.proofs.lemmas.List.Sums.{fold-append, sum_by-cons}
 use Rattle.ae_sttype.specs.StTree.{StTree}
 use Rattle.ae_sttype.specs.Moves.{columns_of, greatest}
 use Rattle.ae_moves.specs.Rings.{rings}
 use Rattle.ae_moves.proofs.Held.{sum_more}
 use Rattle.ae_rewrite.specs.Sound.{item_layout}
-use Rattle.ae_delay.specs.Costs.{Use, NodeTiming, chain_of, slack_at, slack_load}
+use Rattle.ae_delay.specs.Costs.{Use, chain_of, slack_at, slack_load}
 use Rattle.ae_delay.specs.Weighing.{chained, deepened, deepened_by}
 use Rattle.ae_delay.proofs.Owned.{rings_le}
 use Rattle.ae_delay.proofs.Small.{sum_below}

@@ -1,7 +1,7 @@
 -- A whole instance, from its first node to its end.
-use Rattle.std.proofs.Common.{ℕ, zero, suc, ◌≡◌, ◌+◌, ◌-◌, ◌*◌, ◌<◌, ◌≤◌, inl, inr, max, min, true, false, nat_lt, cond, List, [], ◌∷◌, ◌++◌, append_assoc, length, map, take, drop, sum_by, Option, Some, None, slice_get, get_or, arith, refl, sym, ap, ◌∙◌, subst, length-append}
+use Rattle.std.proofs.Common.{ℕ, zero, suc, ◌≡◌, ◌+◌, ◌-◌, ◌*◌, ◌<◌, ◌≤◌, inl, inr, max, min, true, false, nat_lt, List, [], ◌∷◌, ◌++◌, append_assoc, length, map, take, drop, sum_by, Some, slice_get, get_or, arith, refl, sym, ap, ◌∙◌, subst, length-append}
 use Rattle.std.specs.List.{range_with_len, flat_map}
-use Rattle.std.proofs.lemmas.Bool.{cases_eq, cases_lt}
+use Rattle.std.proofs.lemmas.Bool.{cases_lt}
 use Rattle.std.proofs.lemmas.List.{append-nil, get_or-append-add, get_or_append_left, length-map, length-take-le, map-append, take-append-drop, take_all}
 use Rattle.std.proofs.lemmas.List.Sums.{sum_by_push, sum_by-cons}
 use Rattle.std.proofs.lemmas.Grind.{flat_map-append}
@@ -20,10 +20,8 @@ use Rattle.ae_rewrite.specs.Scheduled.{node_layouts}
 use Rattle.ae_rewrite.specs.Sound.{IsSoundFunc, IsSoundNode, IsSoundOp, item_layout, item_layouts}
 use Rattle.ae_rewrite.proofs.Grown.{get_of_front, get_last}
 use Rattle.ae_delay.specs.declared.own.OwnCosts.{OwnCosts}
-use Rattle.ae_delay.specs.declared.weighing.Cost.{Cost}
 use Rattle.ae_delay.specs.declared.weighing.Progress.{Progress}
 use Rattle.ae_delay.specs.declared.weighing.FuncTiming.{FuncTiming}
-use Rattle.ae_delay.specs.Bounds.{IsBounded}
 use Rattle.ae_delay.specs.Costs.{Use, LineLoad, NodeTiming, all_uses, arrivals_of, chain_mems, chain_of, first_over, func_costs_by, func_latency, latest, line_loads, next_timing, node_line, node_timing, node_timings, result_uses, slack_load, uses_at}
 use Rattle.ae_delay.specs.Weighing.{AllBelow, AreItems, IsNext, IsOverAt, IsProgress, IsTimed, chained, cost_of, deepened}
 use Rattle.ae_delay.proofs.Chains.{AreUses, chain_append, chained_deepened, deepened_at, length_deepened, mems_at, mems_le}

@@ -1,17 +1,17 @@
 -- The items of an instance, and what is known of the instances before.
-use Rattle.std.proofs.Common.{ℕ, zero, suc, ◌≡◌, ◌+◌, ◌-◌, ◌*◌, ◌<◌, ◌≤◌, inl, inr, List, [], ◌∷◌, ◌++◌, length, map, take, replicate, Option, Some, None, slice_get, get_or, arith, refl, sym, ap, ◌∙◌, subst, length-append}
+use Rattle.std.proofs.Common.{ℕ, ◌≡◌, ◌+◌, ◌-◌, ◌*◌, ◌<◌, ◌≤◌, inl, inr, List, [], ◌∷◌, ◌++◌, length, map, replicate, Option, Some, None, slice_get, get_or, arith, refl, sym, ap, ◌∙◌, subst, length-append}
 use Rattle.std.proofs.Math.Nat.{mul-le-mul}
 use Rattle.std.proofs.lemmas.Bool.{cases_lt}
-use Rattle.std.proofs.lemmas.List.{length-map, get_or-append-add, get_or_append_left, get_or_default, get_or_past, get_or-replicate, length-replicate}
-use Rattle.std.proofs.lemmas.Option.{get_or_from_slice_get, same_Some, slice_get-get_or, slice_get_read, slice_get_within}
+use Rattle.std.proofs.lemmas.List.{length-map, get_or-append-add, get_or_default, get_or_past, get_or-replicate, length-replicate}
+use Rattle.std.proofs.lemmas.Option.{get_or_from_slice_get, slice_get-get_or, slice_get_read}
 use Rattle.ae_word.specs.AtomTree.{unsigned_word}
 use Rattle.ae_sttype.specs.StTree.{StTree, atom, sseq, st_tree}
 use Rattle.ae_moves.proofs.Lists.{get_mapped}
 use Rattle.ae_rewrite.specs.declared.st_program.MoveOp.{MoveOp}
 use Rattle.ae_rewrite.specs.declared.st_program.StNode.{StNode}
 use Rattle.ae_rewrite.specs.declared.st_program.StFunc.{StFunc}
-use Rattle.ae_rewrite.specs.StProgramTree.{body, fixed, move, StNodeTree, StFuncTree, StOpTree, st_func_tree, st_node_tree, st_node_trees, st_op_tree, st_trees}
-use Rattle.ae_rewrite.specs.Scheduled.{IsFilling, node_layouts}
+use Rattle.ae_rewrite.specs.StProgramTree.{body, fixed, move, StNodeTree, StOpTree, st_func_tree, st_node_tree, st_node_trees, st_trees}
+use Rattle.ae_rewrite.specs.Scheduled.{node_layouts}
 use Rattle.ae_rewrite.specs.Sound.{IsSoundOp, item_layout, item_layouts}
 use Rattle.ae_delay.specs.declared.own.OwnCosts.{OwnCosts}
 use Rattle.ae_delay.specs.Bounds.{IsBounded}

@@ -5,3 +5,4 @@ pub mod Chains
 pub mod Items
 pub mod Nodes
 pub mod Instances
+pub mod Programs

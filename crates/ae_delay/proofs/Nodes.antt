@@ -1,22 +1,15 @@
 -- One node more.
-use Rattle.std.proofs.Common.{ℕ, zero, suc, ◌≡◌, ◌+◌, ◌-◌, ◌*◌, ◌<◌, ◌≤◌, inl, inr, max, min, fold, true, false, nat_lt, cond, List, [], ◌∷◌, ◌++◌, length, map, take, sum_by, Option, Some, None, slice_get, get_or, arith, refl, sym, ap, ◌∙◌, subst, length-append}
-use Rattle.std.specs.List.{range_with_len, flat_map}
-use Rattle.std.proofs.lemmas.Bool.{cases_lt}
-use Rattle.std.proofs.lemmas.List.{length-map, map-append}
-use Rattle.std.proofs.lemmas.List.Sums.{sum_by_push, sum_by-cons}
-use Rattle.std.proofs.lemmas.Grind.{flat_map-append}
-use Rattle.std.proofs.lemmas.Option.{slice_get-get_or, get_or_from_slice_get, slice_get_within}
+use Rattle.std.proofs.Common.{ℕ, ◌≡◌, ◌+◌, ◌≤◌, List, [], ◌∷◌, ◌++◌, length, Some, slice_get, get_or, arith}
+use Rattle.std.proofs.lemmas.Option.{slice_get-get_or}
 use Rattle.ae_sttype.specs.StTree.{StTree}
 use Rattle.ae_moves.proofs.Words.{lead_le}
-use Rattle.ae_rewrite.specs.StProgramTree.{StNodeTree, StFuncTree}
-use Rattle.ae_rewrite.specs.Sound.{item_layouts}
+use Rattle.ae_rewrite.specs.StProgramTree.{StNodeTree}
 use Rattle.ae_delay.specs.declared.own.OwnCosts.{OwnCosts}
 use Rattle.ae_delay.specs.declared.weighing.Cost.{Cost}
 use Rattle.ae_delay.specs.declared.weighing.Progress.{Progress}
 use Rattle.ae_delay.specs.Bounds.{IsBounded}
-use Rattle.ae_delay.specs.Costs.{Use, LineLoad, NodeTiming, arrivals_of, chain_of, first_over, latest, node_costs, node_line, node_timing, node_uses, slack_load, uses_at}
-use Rattle.ae_delay.specs.Weighing.{AllBelow, HasProgress, IsNext, IsProgress, chained, cost_of, deepened}
-use Rattle.ae_delay.proofs.Chains.{AreUses, chain_append, chained_deepened, deepened_at, length_deepened}
+use Rattle.ae_delay.specs.Costs.{latest, node_costs, node_timing, slack_load, uses_at}
+use Rattle.ae_delay.specs.Weighing.{AllBelow, IsNext, deepened}
 
 -- nothing arrives later than what none passes
 pub latest_le : (arrivals items : List ℕ) (m : ℕ) → AllBelow items (length arrivals) → ((i a : ℕ) → slice_get arrivals i ≡ Some a → a ≤ m) → latest arrivals items ≤ m

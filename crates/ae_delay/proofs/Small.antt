@@ -1,16 +1,15 @@
 -- A move of few words has small costs, and its trips lie where they should.
-use Rattle.std.proofs.Common.{ℕ, zero, suc, ◌≡◌, ◌+◌, ◌-◌, ◌*◌, ◌/◌, ◌%◌, ◌<◌, ◌≤◌, max, fold, inl, inr, Bool, true, false, cond, nat_eq, nat_lt, All, List, [], ◌∷◌, length, map, filter, sum_by, Option, Some, None, slice_get, get_or, arith, refl, sym, ap, ◌∙◌}
+use Rattle.std.proofs.Common.{ℕ, zero, suc, ◌≡◌, ◌+◌, ◌-◌, ◌*◌, ◌/◌, ◌%◌, ◌<◌, ◌≤◌, inl, inr, Bool, true, false, cond, nat_eq, nat_lt, All, List, [], ◌∷◌, length, map, filter, sum_by, Some, slice_get, get_or, arith, ap}
 use Rattle.std.specs.List.{range_with_len}
-use Rattle.std.proofs.Math.Nat.{mul-le-mul_right}
-use Rattle.std.proofs.lemmas.Bool.{cases_lt, eq-eqb}
+use Rattle.std.proofs.lemmas.Bool.{cases_lt}
 use Rattle.std.proofs.lemmas.List.{length-map}
 use Rattle.std.proofs.lemmas.List.Sums.{length-filter, count_by-le-length, sum_by-cons}
 use Rattle.std.proofs.lemmas.List.FromFn.{length-map-range_with_len}
 use Rattle.std.proofs.lemmas.List.Elements.{All-from_get_or}
 use Rattle.std.proofs.lemmas.Nat.{div_below, mod_below}
 use Rattle.std.proofs.lemmas.Option.{slice_get-get_or}
-use Rattle.ae_sttype.specs.StTree.{StTree, time, st_atoms, element_words}
-use Rattle.ae_sttype.specs.Moves.{ChoiceTree, SourceTree, TripTree, place, constant, fixed, age_from, changes_after, choices_of, column_delay, column_runs, columns_of, delay_of, greatest, is_held, lead_from, runs_of, same_choice, stretches, source_of, trip_number, IsReached}
+use Rattle.ae_sttype.specs.StTree.{time, st_atoms, element_words}
+use Rattle.ae_sttype.specs.Moves.{ChoiceTree, SourceTree, TripTree, place, constant, fixed, age_from, changes_after, choices_of, column_delay, column_runs, columns_of, delay_of, is_held, lead_from, runs_of, same_choice, stretches, trip_number, IsReached}
 use Rattle.ae_sttype.proofs.Places.{slot_below}
 use Rattle.ae_moves.specs.declared.trip.Trip.{Trip}
 use Rattle.ae_moves.specs.declared.trip.Source.TheVariants.{Fixed}
@@ -19,7 +18,7 @@ use Rattle.ae_moves.specs.Trips.{IsWithin}
 use Rattle.ae_moves.specs.Origins.{IsMove, Move, move_latency, move_trips}
 use Rattle.ae_moves.specs.Rings.{column_mems, mems_of, rings}
 use Rattle.ae_moves.proofs.Lists.{fold_ge, get_mapped}
-use Rattle.ae_moves.proofs.Words.{InTree, column_below, columns_small, latency_small, lead_le, origin_at, origin_in, sizes_of, trip_at, trips_few, words_pos}
+use Rattle.ae_moves.proofs.Words.{InTree, column_below, columns_small, latency_small, lead_le, origin_at, origin_in, sizes_of, trip_at, words_pos}
 use Rattle.ae_delay.specs.declared.moves.MoveCosts.{MoveCosts}
 use Rattle.ae_delay.specs.Bounds.{AreSmall}
 use Rattle.ae_delay.specs.Moving.{costs_of_move}

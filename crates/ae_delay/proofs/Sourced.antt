@@ -1,7 +1,6 @@
 -- The moves of operators and of constants are moves.
-use Rattle.std.proofs.Common.{ℕ, zero, suc, ◌≡◌, ◌+◌, ◌-◌, ◌*◌, ◌/◌, ◌%◌, ◌^◌, ◌<◌, ◌≤◌, inl, inr, Bool, true, false, cond, nat_lt, List, [], ◌∷◌, ◌++◌, length, map, Option, Some, None, slice_get, get_or, option_map, arith, refl, sym, ap, ◌∙◌, subst}
+use Rattle.std.proofs.Common.{ℕ, zero, suc, ◌≡◌, ◌+◌, ◌-◌, ◌*◌, ◌/◌, ◌%◌, ◌^◌, ◌<◌, Bool, true, false, cond, nat_lt, List, [], ◌∷◌, ◌++◌, length, map, Option, Some, None, slice_get, option_map, arith, refl, sym, ap, ◌∙◌, subst}
 use Rattle.std.specs.List.{range_with_len}
-use Rattle.std.proofs.lemmas.Bool.{cases_lt}
 use Rattle.std.proofs.lemmas.List.{length-map, map-append}
 use Rattle.std.proofs.lemmas.List.FromFn.{length-map-range_with_len, map-range_with_len_more}
 use Rattle.std.proofs.lemmas.Nat.{div_below, mod_below, pow_pos}
@@ -9,7 +8,7 @@ use Rattle.std.proofs.lemmas.Option.{slice_get_within, same_Some}
 use Rattle.ae_word.specs.AtomTree.{WordKind, atom_kinds}
 use Rattle.ae_sttype.specs.StTree.{StTree, time, st_atoms, element_atom, element_words}
 use Rattle.ae_sttype.specs.Size.{IsInSize}
-use Rattle.ae_sttype.specs.Moves.{OriginTree, from_input, fixed}
+use Rattle.ae_sttype.specs.Moves.{from_input, fixed}
 use Rattle.ae_sttype.proofs.Bounds.{atoms_pos}
 use Rattle.ae_moves.specs.declared.trip.Origin.{Origin}
 use Rattle.ae_moves.specs.declared.trip.Origin.TheVariants.{Fixed}

@@ -1,5 +1,5 @@
 -- How large costs may be.
-use Rattle.std.specs.Prelude.{ℕ, ◌≤◌}
+use Rattle.std.specs.Prelude.{◌≤◌}
 use Rattle.ae_delay.specs.declared.moves.MoveCosts.{MoveCosts}
 use Rattle.ae_delay.specs.declared.own.OwnCosts.{OwnCosts}
 

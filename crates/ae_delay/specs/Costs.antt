@@ -9,7 +9,6 @@ use Rattle.ae_moves.specs.Rings.{rings}
 use Rattle.ae_rewrite.specs.StProgramTree.{StNodeTree, StFuncTree}
 use Rattle.ae_rewrite.specs.Sound.{item_layout, item_layouts}
 use Rattle.ae_delay.specs.declared.own.OwnCosts.{OwnCosts}
-use Rattle.ae_delay.specs.declared.weighing.Cost.{Cost}
 use Rattle.ae_delay.specs.OwnCosts.{op_costs}
 
 -- a use of an item, and by how many clocks the item is delayed for it

@@ -4,7 +4,7 @@ use Rattle.std.specs.List.{range_with_len, flat_map}
 use Rattle.ae_sttype.specs.StTree.{StTree}
 use Rattle.ae_sttype.specs.Moves.{columns_of}
 use Rattle.ae_rewrite.specs.Scheduled.{IsFilling}
-use Rattle.ae_rewrite.specs.StProgramTree.{StNodeTree, StFuncTree}
+use Rattle.ae_rewrite.specs.StProgramTree.{StFuncTree}
 use Rattle.ae_rewrite.specs.Sound.{item_layout, item_layouts}
 use Rattle.ae_delay.specs.declared.own.OwnCosts.{OwnCosts}
 use Rattle.ae_delay.specs.declared.weighing.Cost.{Cost}

@@ -8,5 +8,5 @@ mod uses;
 mod weighing;
 
 pub use moves::origins;
-pub use timing::{DelayFault, Timing};
+pub use timing::{DelayFault, Timing, arrivals, arrivals_within};
 pub use weighing::Cost;

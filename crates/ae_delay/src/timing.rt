@@ -7,7 +7,7 @@ ghost use Rattle.ae_rewrite.specs.Sound.{IsSoundFunc};
 ghost use Rattle.ae_delay.specs.declared.own.OwnCosts.{OwnCosts as Owned};
 ghost use Rattle.ae_delay.specs.Costs.{func_costs, too_large};
 ghost use Rattle.ae_delay.specs.Weighing.{AreKnown, IsOverAt};
-ghost use Rattle.ae_delay.specs.Timings.{AreTimes, item_arrivals};
+ghost use Rattle.ae_delay.specs.Timings.{AreTimes, HasMore};
 
 use crate::own::OwnCosts;
 use crate::weighing::{Cost, FuncTiming, Weighed, weigh};
@@ -110,5 +110,89 @@ impl Timing {
         ensures { result ≡ slice_get self.now.nodes node }
     {
         self.nodes.get(node as usize).copied()
+    }
+}
+
+// Instance number k.
+fn instance(p: &StProgram, k: u32) -> &StFunc
+    requires { k < length p.now }
+    ensures { slice_get p.now k ≡ Some result.now }
+{
+    match p.instance(k) {
+        Some(s) => s,
+        None => unreachable!(),
+    }
+}
+
+// The costs of one more instance, and the arrivals of its items; none where it is heavy.
+fn weigh_next(
+    alloc: Global,
+    s: &StFunc,
+    known: &mut Vec<Option<OwnCosts>>,
+    arrivals: &mut Vec<Vec<u32>>,
+) -> Result<(), AllocError>
+    requires sound { IsSoundFunc (length known.old.items) (st_func_tree s.now) }
+    requires known { (costs : List Owned) × AreKnown known.old.items costs }
+    ensures known { OnOk result ((costs : List Owned) → AreKnown known.old.items costs → AreKnown known.new.items (costs ++ func_costs costs (st_func_tree s.now) ∷ [])) }
+    ensures arrivals { OnOk result ((costs : List Owned) → AreKnown known.old.items costs → HasMore costs (st_func_tree s.now) (map (λ v. v.items) arrivals.old.items) (map (λ v. v.items) arrivals.new.items)) }
+{
+    match weigh(alloc, known, s, 999_999_999)? {
+        Weighed::Within(t) => {
+            let FuncTiming {
+                costs,
+                arrivals: own,
+                nodes: _,
+            } = t;
+            known.push(Some(costs))?;
+            arrivals.push(own)?;
+            Ok(())
+        }
+        Weighed::Over { line: _, load: _ } => {
+            known.push(None)?;
+            arrivals.push(Vec::new(alloc))?;
+            Ok(())
+        }
+    }
+}
+
+/// The timing of a program whose load is at most 100,000; else `Large`, with the first line at which the sum of the loads
+/// of the program function's nodes, and at its end of the delays of its results, passes it. `Memory` comes only for want
+/// of memory.
+pub fn arrivals(alloc: Global, p: &StProgram) -> Result<Timing, DelayFault>
+    ensures timing { IfOk result (λ t. AreTimes (st_func_trees p.now) t) }
+    ensures fine { OnOk result (too_large 100000 (st_func_trees p.now) ≡ None) }
+    ensures large { (line load : ℕ) → result ≡ Err (DelayFault.Large line load) → IsOverAt (too_large 100000 (st_func_trees p.now)) line load }
+{
+    arrivals_within(alloc, p, 100_000)
+}
+
+/// The same with another limit, at most 100,000.
+pub fn arrivals_within(alloc: Global, p: &StProgram, limit: u32) -> Result<Timing, DelayFault>
+    requires { limit ≤ 100000 }
+    ensures timing { IfOk result (λ t. AreTimes (st_func_trees p.now) t) }
+    ensures fine { OnOk result (too_large limit (st_func_trees p.now) ≡ None) }
+    ensures large { (line load : ℕ) → result ≡ Err (DelayFault.Large line load) → IsOverAt (too_large limit (st_func_trees p.now)) line load }
+{
+    let last = p.count() - 1;
+    let mut known = Vec::new(alloc);
+    let mut arrivals = Vec::new(alloc);
+    for k in 0..last {
+        weigh_next(alloc, instance(p, k), &mut known, &mut arrivals)?;
+    }
+    match weigh(alloc, &known, instance(p, last), u64::from(limit))? {
+        Weighed::Within(t) => {
+            let FuncTiming {
+                costs,
+                arrivals: own,
+                nodes,
+            } = t;
+            arrivals.push(own)?;
+            Ok(Timing {
+                costs,
+                arrivals,
+                nodes,
+            })
+        }
+        Weighed::Over { line, load } => Err(DelayFault::Large { line, load }),
     }
 }

@@ -14,7 +14,10 @@ ghost use Rattle.ae_delay.specs.Costs.{NodeTiming as Timed, node_costs, node_tim
 ghost use Rattle.ae_delay.specs.Weighing.{AllBelow, AreItems, AreKnown, HasProgress, IsAdvance, IsKnown, IsProgress, IsWeighed, chained};
 
 use crate::moves::{costs_of, costs_of_words};
-use crate::own::{OwnCosts, body_costs, constant_costs, fold_costs, moved_costs, scan_costs, wire_costs, word_costs};
+use crate::own::{
+    OwnCosts, body_costs, constant_costs, fold_costs, moved_costs, scan_costs, wire_costs,
+    word_costs,
+};
 use crate::uses::{deepen, item_columns, latest, layout, slack_load};
 use ae_moves::rings;
 use ae_rewrite::{MoveOp, StFunc, StNode, StOp};
@@ -114,9 +117,7 @@ fn node_costs(
             let costs = costs_of(alloc, MoveOp::Same, raw, &node.ty)?;
             Ok(light(fold_costs(*op, *slots, *lanes, raw, costs)))
         }
-        StOp::Scan { op, slots, lanes } => {
-            Ok(light(scan_costs(*op, *slots, *lanes, &node.ty)))
-        }
+        StOp::Scan { op, slots, lanes } => { Ok(light(scan_costs(*op, *slots, *lanes, &node.ty))) }
         StOp::Body(k) => Ok(body_node(known, *k, node.copies)),
     }
 }

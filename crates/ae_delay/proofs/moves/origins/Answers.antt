@@ -1,4 +1,4 @@
-use Rattle.std.proofs.Common.{◌≡◌, ◌≤◌, ◌∙◌, arith}
+use Rattle.std.proofs.Common.{arith}
 use Rattle.ae_sttype.specs.StTree.{st_tree}
 use Rattle.ae_sttype.proofs.Bounds.{atoms_below}
 use Rattle.ae_delay.proofs.Sourced.{origins_more}

@@ -1,4 +1,4 @@
-use Rattle.std.proofs.Common.{◌≡◌, ◌≤◌, sym, arith}
+use Rattle.std.proofs.Common.{sym, arith}
 use Rattle.ae_delay.proofs.Owned.{leaves_double, log_found, log_last, log_next, log_start}
 use Rattle.ae_delay.proofs.own.levels_for.Goals as goal
 

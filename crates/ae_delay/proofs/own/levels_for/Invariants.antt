@@ -1,4 +1,4 @@
-use Rattle.std.proofs.Common.{ℕ, ◌≡◌, ◌-◌, ◌^◌, ◌≤◌}
+use Rattle.std.proofs.Common.{◌≡◌, ◌-◌, ◌^◌, ◌≤◌}
 use Rattle.ae_delay.specs.OwnCosts.{least_power, log_up}
 use Rattle.ae_delay.proofs.own.levels_for.Given as goal
 

@@ -1,4 +1,4 @@
-use Rattle.std.proofs.Common.{◌≡◌, ◌≤◌, ◌*◌, ◌∙◌, ap, refl, arith}
+use Rattle.std.proofs.Common.{◌≡◌, ◌*◌, ◌∙◌, ap, refl, arith}
 use Rattle.ae_delay.specs.OwnCosts.{where_many}
 use Rattle.ae_delay.proofs.Owned.{scan_bounded}
 use Rattle.ae_delay.proofs.own.scan_costs.Goals as goal

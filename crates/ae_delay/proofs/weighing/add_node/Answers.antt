@@ -1,8 +1,7 @@
-use Rattle.std.proofs.Common.{ap, sym, ◌∙◌, ◌≡◌, ◌≤◌, arith, refl, length}
+use Rattle.std.proofs.Common.{◌≡◌, ◌≤◌, arith, refl}
 use Rattle.ae_rewrite.specs.StProgramTree.{st_func_tree, st_node_tree}
 use Rattle.ae_rewrite.specs.Sound.{item_layouts}
-use Rattle.ae_delay.specs.Costs.{latest, node_costs, slack_load, uses_at}
-use Rattle.ae_delay.specs.Weighing.{AllBelow, IsKnown, deepened}
+use Rattle.ae_delay.specs.Costs.{latest}
 use Rattle.ae_delay.proofs.Nodes.{latest_le, next_node}
 use Rattle.ae_delay.proofs.weighing.add_node.Goals as goal
 

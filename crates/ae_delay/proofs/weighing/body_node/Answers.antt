@@ -1,4 +1,4 @@
-use Rattle.std.proofs.Common.{ap, sym, ◌∙◌}
+use Rattle.std.proofs.Common.{ap, ◌∙◌}
 use Rattle.ae_delay.specs.OwnCosts.{body_costs}
 use Rattle.ae_delay.proofs.Items.{heavy_body, known_as, known_heavy, known_same, some_known}
 use Rattle.ae_delay.proofs.weighing.body_node.Goals as goal

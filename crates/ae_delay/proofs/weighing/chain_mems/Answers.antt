@@ -1,9 +1,6 @@
-use Rattle.std.proofs.Common.{ℕ, ◌≡◌, ◌<◌, ◌≤◌, ◌*◌, ◌+◌, ◌∙◌, ap, arith, length, sum_by, slice_index, get_or}
-use Rattle.std.specs.List.{range_with_len}
-use Rattle.ae_sttype.specs.Moves.{columns_of}
-use Rattle.ae_moves.specs.Rings.{rings}
+use Rattle.std.proofs.Common.{◌+◌, ◌∙◌, arith}
 use Rattle.ae_rewrite.specs.StProgramTree.{st_func_tree}
-use Rattle.ae_rewrite.specs.Sound.{item_layout, item_layouts}
+use Rattle.ae_rewrite.specs.Sound.{item_layouts}
 use Rattle.ae_delay.proofs.Chains.{next_mems, mems_fit}
 use Rattle.ae_delay.proofs.weighing.chain_mems.Goals as goal
 

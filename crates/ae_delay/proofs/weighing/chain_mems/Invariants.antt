@@ -1,4 +1,4 @@
-use Rattle.std.proofs.Common.{ℕ, ◌≡◌, ◌*◌, sum_by, slice_index}
+use Rattle.std.proofs.Common.{◌≡◌, ◌*◌, sum_by, slice_index}
 use Rattle.std.specs.List.{range_with_len}
 use Rattle.ae_sttype.specs.Moves.{columns_of}
 use Rattle.ae_moves.specs.Rings.{rings}

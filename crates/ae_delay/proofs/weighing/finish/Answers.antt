@@ -1,8 +1,7 @@
-use Rattle.std.proofs.Common.{ap, sym, ◌∙◌, ◌≡◌, ◌≤◌, ◌<◌, ◌+◌, arith, refl, length}
+use Rattle.std.proofs.Common.{ap, ◌∙◌, ◌≡◌, ◌+◌, arith, refl, length}
 use Rattle.ae_rewrite.specs.StProgramTree.{st_func_tree}
 use Rattle.ae_rewrite.specs.Sound.{item_layouts}
 use Rattle.ae_delay.specs.Costs.{latest, slack_load, uses_at}
-use Rattle.ae_delay.specs.Weighing.{chained, deepened}
 use Rattle.ae_delay.proofs.Chains.{length_deepened}
 use Rattle.ae_delay.proofs.Instances.{end_few, end_fits, end_over, end_timed, timed}
 use Rattle.ae_delay.proofs.weighing.finish.Goals as goal

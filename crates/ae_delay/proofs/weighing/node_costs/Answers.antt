@@ -1,10 +1,9 @@
-use Rattle.std.proofs.Common.{ap, sym, rules, refl, ◌∙◌, ◌≡◌, ◌<◌, length, slice_index}
+use Rattle.std.proofs.Common.{ap, rules, ◌∙◌, ◌≡◌, ◌<◌, length, slice_index}
 use Rattle.std.proofs.lemmas.List.{get_or_read}
 use Rattle.ae_sttype.specs.StTree.{st_tree}
-use Rattle.ae_rewrite.specs.StProgramTree.{body, st_func_tree, st_node_tree, st_op_tree}
+use Rattle.ae_rewrite.specs.StProgramTree.{body, st_func_tree, st_op_tree}
 use Rattle.ae_rewrite.specs.Sound.{item_layout, item_layouts}
-use Rattle.ae_delay.specs.OwnCosts.{constant_costs, moved_costs, op_costs}
-use Rattle.ae_delay.specs.Costs.{node_costs}
+use Rattle.ae_delay.specs.OwnCosts.{constant_costs, moved_costs}
 use Rattle.ae_delay.proofs.Items.{body_is, cost_there, fixed_is, known_as, move_is, one_arg}
 use Rattle.ae_delay.proofs.weighing.node_costs.Goals as goal
 

@@ -1,9 +1,5 @@
-use Rattle.std.proofs.Common.{ap, sym, ◌∙◌, ◌≡◌, ◌≤◌, ◌<◌, ◌+◌, arith, refl, List, length, Some, None, slice_get, subst, take}
-use Rattle.std.proofs.lemmas.List.{length-map, take_all}
-use Rattle.std.proofs.lemmas.Option.{slice_get_read}
-use Rattle.ae_moves.proofs.Lists.{get_mapped}
-use Rattle.ae_rewrite.specs.StProgramTree.{StNodeTree, st_func_tree, st_node_tree, st_node_trees}
-use Rattle.ae_rewrite.specs.Sound.{item_layouts}
+use Rattle.std.proofs.Common.{List, length, subst}
+use Rattle.ae_rewrite.specs.StProgramTree.{st_func_tree, st_node_tree}
 use Rattle.ae_delay.specs.Costs.{NodeTiming}
 use Rattle.ae_delay.specs.Weighing.{IsWeighed}
 use Rattle.ae_delay.proofs.Instances.{all_items, args_arrived, arrivals_whole, node_here, node_sound, over_at, progress_more, timings_all}

@@ -1,0 +1,12 @@
+use Rattle.std.proofs.Common.{map, take}
+use Rattle.ae_rewrite.specs.StProgramTree.{st_func_trees}
+use Rattle.ae_delay.specs.Costs.{all_costs}
+use Rattle.ae_delay.specs.Timings.{AreFirst}
+use Rattle.ae_delay.specs.Weighing.{AreKnown}
+use Rattle.ae_delay.proofs.timing.arrivals_within.Given as goal
+
+abbrev pub invariant-loop-k : goal.invariant-loop-k
+invariant-loop-k l = record {
+  known : AreKnown l.known.items (all_costs (take l.k (st_func_trees l.p)));
+  arrivals : AreFirst l.k (st_func_trees l.p) (map (λ v. v.items) l.arrivals.items);
+}
