@@ -83,7 +83,7 @@ impl Timing {
         self.costs.muls as u32
     }
 
-    /// The load: how large a circuit is at most, in docs/COSTS.md's units.
+    /// The load: a bound for the operators, registers and choices of a circuit.
     pub fn load(&self) -> u32
         ensures { result ≡ self.now.costs.load }
     {
