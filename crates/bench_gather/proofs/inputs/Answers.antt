@@ -1,0 +1,9 @@
+use Rattle.ae_netlist.proofs.Growing.{extends_trans}
+use Rattle.bench_gather.proofs.Lanes.{lanes_more}
+use Rattle.bench_gather.proofs.inputs.Goals as goal
+
+pub loop-lane-preserved : goal.loop-lane-preserved
+loop-lane-preserved c = record {
+  extends = extends_trans c.loop-lane.invariant.extends c.input.ensures.extends;
+  lanes = rw c.in_ok-keep.ensures (lanes_more _ _ _ _ _ c.input.ensures.extends c.loop-lane.invariant.lanes c.in_ok-net.ensures.net);
+}

@@ -1,0 +1,9 @@
+use Rattle.ae_netlist.specs.Circuit.{Extends}
+use Rattle.bench_gather.proofs.Lanes.{AreLanes}
+use Rattle.bench_gather.proofs.inputs.Given as goal
+
+abbrev pub invariant-loop-lane : goal.invariant-loop-lane
+invariant-loop-lane l = record {
+  extends : Extends l.fn.nl.cells l.nl.cells;
+  lanes : AreLanes l.nl.cells l.lane l.nets.items;
+}

@@ -1,0 +1,173 @@
+//! Builds a move of four words in so many clocks, and prints its cells and its latency: `bench/gather.sh` times it.
+#![tactic(auto)]
+
+ghost use Rattle.std.specs.Prelude.{◌≡◌, ◌∷◌, [], ◌++◌, ◌≤◌, IfOk, IfSome, OnOk};
+ghost use Rattle.ae_word.specs.AtomTree.{unsigned_word};
+ghost use Rattle.ae_sttype.specs.StTree.{atom, sseq, st_tree, tseq};
+ghost use Rattle.ae_netlist.specs.Circuit.{Extends, IsNet};
+ghost use Rattle.ae_ops.specs.Waves.{AreNets};
+ghost use Rattle.ae_gather.specs.Gathers.{move_of};
+
+use ae_clocked::Clocks;
+use ae_gather::{Gather, Origin};
+use ae_netlist::{Cell, NetFault, NetId, Netlist, Port};
+use ae_ops::{Bundle, Stage};
+use ae_sttype::StType;
+use ae_word::Atom;
+use std::alloc::{AllocError, Global};
+use std::env::{self, Env};
+use std::io;
+
+// Where the words of the result come from.
+#[derive(Clone, Copy)]
+enum Order {
+    // Backwards: the last word comes first.
+    Reversed,
+    // Each lane has a quarter of the words, one behind the other.
+    Transposed,
+}
+
+// Words of 16 bits in so many clocks, four side by side in each.
+fn rows(alloc: Global, clocks: u32) -> Result<StType, AllocError>
+    ensures { IfOk result (λ t. st_tree t ≡ tseq clocks 0 (sseq 4 (atom (unsigned_word 16)))) }
+{
+    let of = Box::new(alloc, StType::Atom(Atom::Word(16)))?;
+    let of = Box::new(alloc, StType::S { n: 4, of })?;
+    Ok(StType::T {
+        n: clocks,
+        i: 0,
+        of,
+    })
+}
+
+// Words of 16 bits on four lanes, so many behind one another on each.
+fn columns(alloc: Global, clocks: u32) -> Result<StType, AllocError> {
+    let of = Box::new(alloc, StType::Atom(Atom::Word(16)))?;
+    let of = Box::new(
+        alloc,
+        StType::T {
+            n: clocks,
+            i: 0,
+            of,
+        },
+    )?;
+    Ok(StType::S { n: 4, of })
+}
+
+// The origins of so many words, the last word first or all in order.
+fn origins(alloc: Global, order: Order, words: u32) -> Result<Vec<Origin>, AllocError> {
+    let mut source = Vec::new(alloc);
+    for place in 0..words {
+        let element = match order {
+            Order::Reversed => words - 1 - place,
+            Order::Transposed => place,
+        };
+        source.push(Origin::Word {
+            input: 0,
+            element,
+            word: 0,
+        })?;
+    }
+    Ok(source)
+}
+
+// The move in so many clocks; none where they are none or too many.
+fn stage(alloc: Global, order: Order, clocks: u16) -> Result<Option<Gather>, AllocError>
+    ensures { IfOk result (λ found. IfSome found (λ stage. (move_of stage).ins ≡ tseq clocks 0 (sseq 4 (atom (unsigned_word 16))) ∷ [])) }
+{
+    let clocks = u32::from(clocks);
+    let mut ins = Vec::new(alloc);
+    ins.push(rows(alloc, clocks)?)?;
+    let out = match order {
+        Order::Reversed => rows(alloc, clocks)?,
+        Order::Transposed => columns(alloc, clocks)?,
+    };
+    let found = Gather::new(ins, out, origins(alloc, order, 4 * clocks)?);
+    Ok(found)
+}
+
+// One more input, and its net.
+fn input(nl: &mut Netlist, width: u32, port: Port) -> Result<NetId, NetFault>
+    requires low { 1 ≤ width }
+    requires high { width ≤ 64 }
+    ensures extends { Extends nl.old.cells nl.new.cells }
+    ensures net { IfOk result (λ y. IsNet nl.new.cells y.0 width) }
+{
+    nl.add(width, Cell::Input(port))
+}
+
+fn keep(nets: &mut Vec<NetId>, net: NetId) -> Result<(), NetFault>
+    ensures { OnOk result (nets.new.items ≡ nets.old.items ++ net ∷ []) }
+{
+    match nets.push(net) {
+        Ok(()) => Ok(()),
+        Err(_) => Err(NetFault::Memory),
+    }
+}
+
+// Inputs for four words of 16 bits.
+fn inputs(alloc: Global, nl: &mut Netlist) -> Result<Bundle, NetFault>
+    ensures extends { Extends nl.old.cells nl.new.cells }
+    ensures nets { IfOk result (λ nets. AreNets nl.new.cells (16 ∷ 16 ∷ 16 ∷ 16 ∷ []) nets) }
+{
+    let mut nets = Vec::new(alloc);
+    for lane in 0..4 {
+        let port = Port::In {
+            param: 0,
+            lane,
+            word: 0,
+        };
+        let net = input(nl, 16, port)?;
+        keep(&mut nets, net)?;
+    }
+    Ok(Bundle::new(nets))
+}
+
+// How many cells the stage and its inputs take.
+fn cells(alloc: Global, stage: &Gather, clocks: u16) -> Result<u32, NetFault>
+    requires { (move_of stage.now).ins ≡ tseq clocks 0 (sseq 4 (atom (unsigned_word 16))) ∷ [] }
+{
+    let mut nl = Netlist::new(alloc, 10_000_000);
+    let rst = input(&mut nl, 1, Port::Reset)?;
+    let mut counters = Clocks::new(alloc, rst);
+    let ins = [inputs(alloc, &mut nl)?];
+    stage.build(alloc, &mut nl, &mut counters, &ins, 0)?;
+    Ok(nl.len())
+}
+
+// The second word, as a number; 4 where there is none.
+fn clocks<R: Env + Alloc<A = Global>>(rt: &R) -> io::Result<u16> {
+    for word in env::args(rt)?.skip(2) {
+        if let Ok(count) = word.as_str().parse::<u16>() {
+            return Ok(count);
+        }
+    }
+    Ok(4)
+}
+
+// The order that the first word asks for; backwards where it is no other.
+fn asked<R: Env + Alloc<A = Global>>(rt: &R) -> io::Result<Order> {
+    for word in env::args(rt)?.skip(1) {
+        if word.as_str() == "transposed" {
+            return Ok(Order::Transposed);
+        }
+        return Ok(Order::Reversed);
+    }
+    Ok(Order::Reversed)
+}
+
+fn main(rt: HostRuntime) -> io::Result<()> {
+    let alloc = rt.alloc();
+    let order = asked(&rt)?;
+    let clocks = clocks(&rt)?;
+    let Some(stage) = stage(alloc, order, clocks)? else {
+        return println!(rt; "no move of {clocks} clocks");
+    };
+    match cells(alloc, &stage, clocks) {
+        Ok(cells) => println!(rt;
+            "{clocks} clocks, {cells} cells, latency {}",
+            stage.latency()
+        ),
+        Err(_) => println!(rt; "no room"),
+    }
+}
