@@ -9,4 +9,5 @@ mod weighing;
 
 pub use moves::origins;
 pub use timing::{DelayFault, Timing, arrivals, arrivals_within};
+pub use uses::layout;
 pub use weighing::Cost;

@@ -1,7 +1,7 @@
 // The timing of a program.
 
 ghost use Rattle.std.specs.Prelude.{◌≡◌, ◌<◌, ◌≤◌, ◌++◌, [], ◌∷◌, ℕ, List, length, map, IfOk, OnOk, Some, None, Err, slice_get};
-ghost use Rattle.std.specs.Option.{option_and_then};
+ghost use Rattle.std.specs.Option.{option_and_then, option_map};
 ghost use Rattle.ae_rewrite.specs.StProgramTree.{st_func_tree, st_func_trees};
 ghost use Rattle.ae_rewrite.specs.Sound.{IsSoundFunc};
 ghost use Rattle.ae_delay.specs.declared.own.OwnCosts.{OwnCosts as Owned};
@@ -85,7 +85,8 @@ impl Timing {
 
     /// The load: a bound for the operators, registers and choices of a circuit.
     pub fn load(&self) -> u32
-        ensures { result ≡ self.now.costs.load }
+        ensures load { result ≡ self.now.costs.load }
+        ensures limit { self.now.costs.load ≤ 100000 }
     {
         self.costs.load as u32
     }
@@ -103,6 +104,16 @@ impl Timing {
     {
         let arrivals = self.arrivals.get(instance as usize)?;
         arrivals.get(item as usize).copied()
+    }
+
+    /// When the items of an instance arrive; None exactly where there is no such instance.
+    pub fn arrivals(&self, instance: u32) -> Option<&[u32]>
+        ensures { option_map (λ r. r.now) result ≡ slice_get self.now.arrivals instance }
+    {
+        match self.arrivals.get(instance as usize) {
+            Some(arrivals) => Some(arrivals.as_slice()),
+            None => None,
+        }
     }
 
     /// What a node of the program function costs; None exactly where there is no such node.

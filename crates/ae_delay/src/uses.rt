@@ -12,8 +12,8 @@ use crate::moves::columns_in;
 use ae_rewrite::StFunc;
 use ae_sttype::StType;
 
-/// The layout of an item.
-pub(crate) fn layout(s: &StFunc, item: usize) -> &StType
+/// The layout of an item of an instance: of a parameter or of a node.
+pub fn layout(s: &StFunc, item: usize) -> &StType
     requires { item < length (item_layouts (st_func_tree s.now)) }
     ensures { st_tree result.now ≡ item_layout (item_layouts (st_func_tree s.now)) item }
 {
