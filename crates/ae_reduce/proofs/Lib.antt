@@ -2,3 +2,4 @@ pub mod Treeing
 pub mod Counting
 pub mod ReduceLaw
 pub mod Building
+mod Rows

@@ -2,7 +2,7 @@
 
 ghost use Rattle.std.specs.Prelude.{◌≡◌, ◌<◌, ◌≤◌, ◌^◌, ℕ, length, IfOk};
 ghost use Rattle.ae_word.specs.AtomTree.{word};
-ghost use Rattle.ae_sttype.specs.StTree.{atom, st_tree};
+ghost use Rattle.ae_sttype.specs.StTree.{atom, st_tree, tseq};
 ghost use Rattle.ae_netlist.specs.Circuit.{IsNet};
 ghost use Rattle.ae_netlist.specs.Counts.{count_of, is_input};
 ghost use Rattle.ae_clocked.specs.Signals.{Grows};
@@ -16,7 +16,7 @@ use ae_ops::{Bundle, Stage};
 use ae_sim::Sim;
 use ae_sttype::StType;
 use ae_word::{Atom, WordOp};
-use std::alloc::Global;
+use std::alloc::{AllocError, Global};
 use std::test::Fail;
 
 /// A byte, signed or not.
@@ -28,6 +28,18 @@ fn byte(signed: bool) -> StType
     } else {
         StType::Atom(Atom::Word(8))
     }
+}
+
+/// So many bytes, one after the other.
+fn bytes(alloc: Global, signed: bool, clocks: u32) -> Result<StType, AllocError>
+    ensures { IfOk result (λ s. st_tree s ≡ tseq clocks 0 (atom (word (record { signed = signed; width = 8 })))) }
+{
+    let of = Box::new(alloc, byte(signed))?;
+    Ok(StType::T {
+        n: clocks,
+        i: 0,
+        of,
+    })
 }
 
 /// The word in one clock, and that of an earlier net in all others.
@@ -131,13 +143,14 @@ fn column(
     alloc: Global,
     stage: &Reduce,
     signed: bool,
+    inner: u32,
     lanes: u32,
     words: &[u8],
     k: usize,
     from: u32,
     clocks: u32,
 ) -> Result<Vec<u64>, Fail>
-    requires element { st_tree stage.now.element ≡ atom (word (record { signed = signed; width = 8 })) }
+    requires element { st_tree stage.now.element ≡ tseq inner 0 (atom (word (record { signed = signed; width = 8 }))) }
     requires lanes { stage.now.lanes ≡ lanes }
     requires few_lanes { lanes ≤ 16 }
     requires from { from ≤ 16 }
@@ -160,7 +173,30 @@ fn column(
     shown(alloc, &nl, from, clocks)
 }
 
-/// The folds of bytes from a clock on, and none where there is no such fold.
+/// The folds of bytes, so many one after the other as an element, from a clock on, and none where there is no such fold.
+fn folds_of(
+    alloc: Global,
+    op: WordOp,
+    signed: bool,
+    inner: u32,
+    slots: u32,
+    lanes: u32,
+    period: u32,
+    words: &[u8],
+    from: u32,
+    clocks: u32,
+) -> Result<Vec<u64>, Fail>
+    requires few_lanes { lanes ≤ 16 }
+    requires from { from ≤ 16 }
+    requires few { clocks ≤ 16 }
+{
+    match Reduce::new(op, slots, lanes, bytes(alloc, signed, inner)?, period) {
+        None => Ok(Vec::new(alloc)),
+        Some(stage) => column(alloc, &stage, signed, inner, lanes, words, 0, from, clocks),
+    }
+}
+
+/// The same of single bytes.
 fn folds(
     alloc: Global,
     op: WordOp,
@@ -176,10 +212,9 @@ fn folds(
     requires from { from ≤ 16 }
     requires few { clocks ≤ 16 }
 {
-    match Reduce::new(op, slots, lanes, byte(signed), period) {
-        None => Ok(Vec::new(alloc)),
-        Some(stage) => column(alloc, &stage, signed, lanes, words, 0, from, clocks),
-    }
+    folds_of(
+        alloc, op, signed, 1, slots, lanes, period, words, from, clocks,
+    )
 }
 
 /// The latency of a fold of bytes, and 99 where there is none.
@@ -224,6 +259,18 @@ fn slots_of_lanes_fold_as_one_row(rt: HostRuntime) -> Result<(), Fail> {
     let seen = folds(alloc, WordOp::Add, false, 2, 2, 2, &words, 3, 3)?;
     assert_eq!(rt; seen.len(), 3);
     assert_eq!(rt; [seen[0], seen[2]], [10, 26]);
+    Ok(())
+}
+
+// Two rows of three bytes in time: each byte is folded with that of its place in the other row.
+#[test]
+fn rows_fold_byte_by_byte(rt: HostRuntime) -> Result<(), Fail> {
+    let alloc = rt.alloc();
+    let words = [1, 2, 3, 10, 20, 30, 4, 5, 6, 40, 50, 60];
+    let seen = folds_of(alloc, WordOp::Add, false, 3, 2, 1, 6, &words, 4, 9)?;
+    assert_eq!(rt; seen.len(), 9);
+    assert_eq!(rt; [seen[0], seen[1], seen[2]], [11, 22, 33]);
+    assert_eq!(rt; [seen[6], seen[7], seen[8]], [44, 55, 66]);
     Ok(())
 }
 

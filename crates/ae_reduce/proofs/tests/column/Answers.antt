@@ -2,7 +2,8 @@ use Rattle.std.proofs.Common.{◌≡◌, ◌∙◌, arith, rules, sym}
 use Rattle.ae_netlist.proofs.Growing.{net_width}
 use Rattle.ae_clocked.proofs.Added.{own_net}
 use Rattle.ae_clocked.proofs.Belonging.{belongs_grows}
-use Rattle.ae_fold.proofs.Bytes.{own_at, words_bundle}
+use Rattle.ae_fold.proofs.Bytes.{own_at}
+use Rattle.ae_reduce.proofs.Rows.{rows_bundle}
 use Rattle.ae_reduce.proofs.tests.column.Goals as goal
 
 pub width_at-width-requires : goal.width_at-width-requires
@@ -25,7 +26,7 @@ build-requires-clause-belongs c = belongs_grows _ _ _ c.in_ok-nets.ensures.grows
 
 pub build-requires-clause-bundles : goal.build-requires-clause-bundles
 build-requires-clause-bundles c =
-    words_bundle _ c.args.stage.now (record { signed = c.args.signed; width = 8 }) c.in_ok-nets.nets.items _ c.requires.element c.new.ensures (c.in_ok-nets.ensures.long ∙ sym c.requires.lanes) c.in_ok-nets.ensures.nets
+    rows_bundle _ c.args.stage.now (record { signed = c.args.signed; width = 8 }) c.args.inner c.in_ok-nets.nets.items _ c.requires.element c.new.ensures (c.in_ok-nets.ensures.long ∙ sym c.requires.lanes) c.in_ok-nets.ensures.nets
 
 pub add_output-requires-clause-net : goal.add_output-requires-clause-net
 add_output-requires-clause-net c = own_at _ _ c.in_ok-out.out _ c.args.k c.nets-nets.ensures c.in_ok-out.ensures.bundle (first_of (search rules, omega arith))
