@@ -1,0 +1,188 @@
+-- Lists of slacks, chains and arrivals.
+use Rattle.std.proofs.Common.{ℕ, zero, suc, ◌≡◌, ◌+◌, ◌-◌, ◌<◌, ◌≤◌, max, inl, inr, Bool, true, false, List, [], ◌∷◌, ◌++◌, length, map, take, replicate, Some, None, slice_get, get_or, arith, refl, sym, ap, ◌∙◌, length-append}
+use Rattle.std.specs.List.{range_with_len, flat_map}
+use Rattle.std.specs.Option.{option_and_then}
+use Rattle.std.specs.Bool.{◌==◌}
+use Rattle.std.proofs.lemmas.Bool.{cases_eq, cases_lt, eq-eqb, ne_eqb, eqb-true}
+use Rattle.std.proofs.lemmas.List.{ext_get_or, get_or-replicate, length-map, length-replicate, map-append, take_all}
+use Rattle.std.proofs.lemmas.List.FromFn.{get_or-map-range_with_len, length-map-range_with_len}
+use Rattle.std.proofs.lemmas.Option.{same_Some, slice_get-get_or, slice_get_within}
+use Rattle.std.proofs.lemmas.Grind.{flat_map-append}
+use Rattle.ae_rewrite.specs.declared.st_program.StNode.{StNode}
+use Rattle.ae_rewrite.specs.declared.st_program.StFunc.{StFunc}
+use Rattle.ae_rewrite.specs.StProgramTree.{StNodeTree, StFuncTree, st_func_tree, st_func_trees, st_node_tree, st_node_trees, st_trees}
+use Rattle.ae_sttype.specs.StTree.{st_tree}
+use Rattle.ae_rewrite.specs.Scheduled.{node_layouts}
+use Rattle.ae_rewrite.specs.Sound.{IsSound, IsSoundFunc, item_layouts}
+use Rattle.ae_rewrite.proofs.Grown.{get_in_front, get_last}
+use Rattle.ae_moves.proofs.Lists.{get_mapped, take_push}
+use Rattle.ae_delay.specs.Costs.{Use, chain_of, latest}
+use Rattle.ae_delay.specs.Weighing.{deepened, deepened_by}
+use Rattle.ae_delay.proofs.Chains.{AreUses, deepened_at, length_deepened}
+use Rattle.ae_delay.proofs.Instances.{node_sound, uses_below}
+use Rattle.ae_retime.specs.Slacks.{AreArguments, AreByInstance, AreChains, AreSlacks, AreTold, SlackTables, UsesBelow, item_chains, item_uses, joint_slacks, joint_uses, result_slacks, told_arrivals}
+
+-- ---- nodes
+
+pub uses_sound : (k : ℕ) (s : StFuncTree) (arrivals : List ℕ) → length arrivals ≡ length (item_layouts s) → IsSoundFunc k s → UsesBelow (length arrivals) s
+uses_sound k s arrivals long h = record {
+  nodes = λ i n f j a g. rw long ((node_sound k s i n h f).args j a g);
+  results = λ j a g. rw long (h.results j a g);
+}
+
+-- ---- arrivals
+
+pub told_at : (all : List (List ℕ)) (k i : ℕ) → option_and_then (λ xs. slice_get xs i) (slice_get all k) ≡ slice_get (get_or all k []) i
+told_at [] k zero = refl
+told_at [] k (suc i) = refl
+told_at (xs ∷ all) zero i = refl
+told_at (xs ∷ all) (suc k) i = told_at all k i
+
+pub more_told : (told own : List ℕ) (i clock : ℕ) → slice_get told i ≡ Some clock → own ≡ take i told → own ++ clock ∷ [] ≡ take (i + 1) told
+more_told told own i clock f e = ap (λ xs. xs ++ clock ∷ []) e ∙ sym (take_push told i clock f)
+
+pub longer_told : (told : List ℕ) (items clock : ℕ) → slice_get told items ≡ Some clock → (length told == items) ≡ false
+longer_told told items clock f = let l : items < length told = slice_get_within told items clock f in ne_eqb (length told) items (λ e. omega arith)
+
+-- an item that has no arrival stands past the end
+no_item : (told : List ℕ) (i : ℕ) → slice_get told i ≡ None → length told ≤ i
+no_item told i f = elim (cases_lt i (length told)) [
+  | inl l ↦ (let g : slice_get told i ≡ Some (get_or told i 0) = slice_get-get_or told i 0 l in cc)
+  | inr l ↦ l
+]
+
+pub all_told : (told own : List ℕ) (items i : ℕ) → slice_get told items ≡ None → i ≤ length told → items ≤ i → i ≤ items → own ≡ take i told → ((length told == items) ≡ true) × (own ≡ told)
+all_told told own items i f low least most e =
+    let past : length told ≤ items = no_item told items f in
+    (eq-eqb (length told) items (omega arith), e ∙ take_all i told (omega arith))
+
+pub layouts_long : (s : StFunc) → length (item_layouts (st_func_tree s)) ≡ length s.ins.items + length s.nodes.items
+layouts_long s = omega (arith, length-append (st_trees s.ins.items) (node_layouts (st_node_trees s.nodes.items)), length-map s.ins.items st_tree, length-map s.nodes.items st_node_tree, length-map (st_node_trees s.nodes.items) (λ (x : StNodeTree). x.type))
+
+pub told_uses : (k : ℕ) (s : StFunc) (told own : List ℕ) (items : ℕ) → IsSoundFunc k (st_func_tree s) → items ≡ length s.ins.items + length s.nodes.items → AreTold told items (Some own) → UsesBelow (length own) (st_func_tree s)
+told_uses k s told own items h e t =
+    let same : length told ≡ items = eqb-true (length told) items t.0 in
+    uses_sound k (st_func_tree s) own (omega (arith, ap length t.1, same, layouts_long s)) h
+
+pub told_long : (s : StFunc) (told own : List ℕ) (items : ℕ) → items ≡ length s.ins.items + length s.nodes.items → AreTold told items (Some own) → length own ≡ length (item_layouts (st_func_tree s))
+told_long s told own items e t =
+    let same : length told ≡ items = eqb-true (length told) items t.0 in
+    omega (arith, ap length t.1, same, layouts_long s)
+
+pub told_all : (s : StFunc) (told : List ℕ) (items : ℕ) (is : Bool) → items ≡ length s.ins.items + length s.nodes.items → (length told == items) ≡ is → (length told == length (item_layouts (st_func_tree s))) ≡ is
+told_all s told items is e t = ap (λ n. length told == n) (layouts_long s ∙ sym e) ∙ t
+
+-- ---- lists by instance
+
+pub by_more : {X : Type 0} (f : ℕ → StFuncTree → X) (instances : List StFuncTree) (k : ℕ) (s : StFuncTree) (old new : List X) → slice_get instances k ≡ Some s → AreByInstance f instances k old → new ≡ old ++ f k s ∷ [] → AreByInstance f instances (k + 1) new
+by_more f instances k s old new found h e = record {
+  long = omega (arith, ap length e, length-append old (f k s ∷ []), h.long);
+  each = λ j u l g. elim (cases_eq j k) [
+    | inl at ↦
+        let g' : slice_get instances k ≡ Some u = rw at at g in
+        let same : s ≡ u = same_Some s u (sym found ∙ g') in
+        rw (at, ← same, e, ← h.long) (get_last old (f (length old) s))
+    | inr ne ↦ rw e (get_in_front old (f k s ∷ []) j (f j u) (h.each j u (omega arith) g))
+  ];
+}
+
+pub by_none : {X : Type 0} (f : ℕ → StFuncTree → X) (instances : List StFuncTree) → AreByInstance f instances 0 []
+by_none f instances = record { long = refl; each = λ k s l g. absurd (omega arith) }
+
+-- ---- slacks
+
+pub slacks_more : (arrivals : List ℕ) (nodes : List StNodeTree) (i : ℕ) (n : StNodeTree) → slice_get nodes i ≡ Some n
+    → map (λ (m : StNodeTree). joint_slacks arrivals m.args) (take (i + 1) nodes) ≡ map (λ (m : StNodeTree). joint_slacks arrivals m.args) (take i nodes) ++ joint_slacks arrivals n.args ∷ []
+slacks_more arrivals nodes i n f = ap (map (λ (m : StNodeTree). joint_slacks arrivals m.args)) (take_push nodes i n f) ∙ map-append (λ (m : StNodeTree). joint_slacks arrivals m.args) (take i nodes) (n ∷ [])
+
+pub slacks_next : (arrivals : List ℕ) (nodes : List StNodeTree) (i : ℕ) (n : StNodeTree) (args own : List ℕ) (old new : List (List ℕ)) → slice_get nodes i ≡ Some n → args ≡ n.args → own ≡ joint_slacks arrivals args → new ≡ old ++ own ∷ []
+    → old ≡ map (λ (m : StNodeTree). joint_slacks arrivals m.args) (take i nodes) → new ≡ map (λ (m : StNodeTree). joint_slacks arrivals m.args) (take (i + 1) nodes)
+slacks_next arrivals nodes i n args own old new f ea eo en e =
+    let own' : own ≡ joint_slacks arrivals n.args = eo ∙ ap (joint_slacks arrivals) ea in
+    en ∙ (ap (λ x. old ++ x ∷ []) own' ∙ (ap (λ xs. xs ++ joint_slacks arrivals n.args ∷ []) e ∙ sym (slacks_more arrivals nodes i n f)))
+
+-- ---- chains
+
+abbrev pub node_uses_to : (arrivals : List ℕ) (nodes : List StNodeTree) → List Use
+node_uses_to arrivals nodes = flat_map (λ (n : StNodeTree). joint_uses arrivals n.args) nodes
+
+append_nil : {X : Type 0} (xs : List X) → xs ++ [] ≡ xs
+append_nil [] = refl
+append_nil (x ∷ xs) = ap (λ ys. x ∷ ys) (append_nil xs)
+
+pub uses_more : (arrivals : List ℕ) (nodes : List StNodeTree) (i : ℕ) (n : StNodeTree) → slice_get nodes i ≡ Some n → node_uses_to arrivals (take (i + 1) nodes) ≡ node_uses_to arrivals (take i nodes) ++ joint_uses arrivals n.args
+uses_more arrivals nodes i n f =
+    ap (node_uses_to arrivals) (take_push nodes i n f) ∙ (flat_map-append (λ (m : StNodeTree). joint_uses arrivals m.args) (take i nodes) (n ∷ []) ∙ ap (λ us. node_uses_to arrivals (take i nodes) ++ us) (append_nil (joint_uses arrivals n.args)))
+
+pub deepened_more : (cs : List ℕ) (us vs : List Use) → deepened (deepened cs us) vs ≡ deepened cs (us ++ vs)
+deepened_more cs [] vs = refl
+deepened_more cs (u ∷ us) vs = deepened_more (deepened_by cs u) us vs
+
+both_uses : (us vs : List Use) (count : ℕ) → AreUses us count → AreUses vs count → AreUses (us ++ vs) count
+both_uses us vs count h g = record { each = λ k u f. each us k u h f }
+  where
+    each : (xs : List Use) (k : ℕ) (u : Use) → AreUses xs count → slice_get (xs ++ vs) k ≡ Some u → u.item < count
+    each [] k u a f = g.each k u f
+    each (x ∷ xs) zero u a f = a.each zero u f
+    each (x ∷ xs) (suc k) u a f = each xs k u (record { each = λ i v e. a.each (suc i) v e }) f
+
+node_uses_below : (arrivals : List ℕ) (nodes : List StNodeTree) (count : ℕ) → ((i : ℕ) (n : StNodeTree) → slice_get nodes i ≡ Some n → (j a : ℕ) → slice_get n.args j ≡ Some a → a < count) → AreUses (node_uses_to arrivals nodes) count
+node_uses_below arrivals [] count h = record { each = λ k u f. cc }
+node_uses_below arrivals (n ∷ nodes) count h =
+    both_uses (joint_uses arrivals n.args) (node_uses_to arrivals nodes) count (uses_below arrivals (latest arrivals n.args) n.args count (h 0 n refl)) (node_uses_below arrivals nodes count (λ i m f. h (suc i) m f))
+
+all_uses_below : (arrivals : List ℕ) (s : StFuncTree) (count : ℕ) → UsesBelow count s → AreUses (item_uses arrivals s) count
+all_uses_below arrivals s count h =
+    both_uses (node_uses_to arrivals s.nodes) (joint_uses arrivals s.results) count (node_uses_below arrivals s.nodes count h.nodes) (uses_below arrivals (latest arrivals s.results) s.results count h.results)
+
+-- from no delay at all
+pub chains_whole : (us : List Use) (count : ℕ) → AreUses us count → deepened (replicate count 0) us ≡ map (λ i. chain_of us i) (range_with_len 0 count)
+chains_whole us count h =
+    let z : ℕ = 0 in
+    let none : length (replicate count z) ≡ count = length-replicate {A = ℕ} count z in
+    let long : length (deepened (replicate count z) us) ≡ count = length_deepened (replicate count z) us ∙ none in
+    let fits : AreUses us (length (replicate count z)) = rw none h in
+    ext_get_or z (deepened (replicate count z) us) (map (λ i. chain_of us i) (range_with_len 0 count)) (long ∙ sym (length-map-range_with_len (λ i. chain_of us i) 0 count)) (λ i l.
+    let low : i < count = omega (arith, l, long) in
+    let here : get_or (deepened (replicate count z) us) i z ≡ max (get_or (replicate count z) i z) (chain_of us i) = deepened_at (replicate count z) us i fits in
+    let start : get_or (replicate count z) i z ≡ z = get_or-replicate count i z z low in
+    let there : get_or (map (λ j. chain_of us j) (range_with_len 0 count)) i z ≡ chain_of us i = get_or-map-range_with_len (λ j. chain_of us j) 0 count i i z low (omega arith) in
+    omega (arith, here, start, there))
+
+pub chains_are : (arrivals : List ℕ) (s : StFuncTree) → length arrivals ≡ length (item_layouts s) → UsesBelow (length arrivals) s → deepened (deepened (replicate (length arrivals) 0) (node_uses_to arrivals s.nodes)) (joint_uses arrivals s.results) ≡ item_chains arrivals s
+chains_are arrivals s long h =
+    deepened_more (replicate (length arrivals) 0) (node_uses_to arrivals s.nodes) (joint_uses arrivals s.results) ∙ (chains_whole (item_uses arrivals s) (length arrivals) (all_uses_below arrivals s (length arrivals) h) ∙ ap (λ n. map (λ i. chain_of (item_uses arrivals s) i) (range_with_len 0 n)) long)
+
+pub chains_next : (arrivals : List ℕ) (nodes : List StNodeTree) (i : ℕ) (n : StNodeTree) (args start old new : List ℕ) → slice_get nodes i ≡ Some n → args ≡ n.args → new ≡ deepened old (joint_uses arrivals args)
+    → old ≡ deepened start (node_uses_to arrivals (take i nodes)) → new ≡ deepened start (node_uses_to arrivals (take (i + 1) nodes))
+chains_next arrivals nodes i n args start old new f ea en e =
+    en ∙ (ap (λ xs. deepened old (joint_uses arrivals xs)) ea ∙ (ap (λ cs. deepened cs (joint_uses arrivals n.args)) e ∙ (deepened_more start (node_uses_to arrivals (take i nodes)) (joint_uses arrivals n.args) ∙ ap (deepened start) (sym (uses_more arrivals nodes i n f)))))
+
+pub chains_end : (arrivals : List ℕ) (s : StFunc) (items : List StNode) (i : ℕ) (results old new : List ℕ) → items ≡ s.nodes.items → length items ≤ i → length arrivals ≡ length (item_layouts (st_func_tree s)) → UsesBelow (length arrivals) (st_func_tree s) → results ≡ s.results.items
+    → old ≡ deepened (replicate (length arrivals) 0) (node_uses_to arrivals (take i (st_func_tree s).nodes)) → new ≡ deepened old (joint_uses arrivals results) → new ≡ item_chains arrivals (st_func_tree s)
+chains_end arrivals s items i results old new ei l long below er eo en =
+    let z : ℕ = 0 in
+    let all : take i (st_func_tree s).nodes ≡ (st_func_tree s).nodes = take_all i (st_node_trees s.nodes.items) (omega (arith, length-map s.nodes.items st_node_tree, ap length ei)) in
+    let old' : old ≡ deepened (replicate (length arrivals) z) (node_uses_to arrivals (st_func_tree s).nodes) = eo ∙ ap (λ ns. deepened (replicate (length arrivals) z) (node_uses_to arrivals ns)) all in
+    en ∙ (ap (λ xs. deepened old (joint_uses arrivals xs)) er ∙ (ap (λ cs. deepened cs (joint_uses arrivals s.results.items)) old' ∙ chains_are arrivals (st_func_tree s) long below))
+
+-- ---- a program
+
+pub sound_at : (p : List StFunc) (k : ℕ) (s : StFunc) → IsSound (st_func_trees p) → slice_get p k ≡ Some s → IsSoundFunc k (st_func_tree s)
+sound_at p k s h f = h.each k (st_func_tree s) (get_mapped st_func_tree p k s f)
+
+pub tree_at : (p : List StFunc) (k : ℕ) (s : StFunc) → slice_get p k ≡ Some s → slice_get (st_func_trees p) k ≡ Some (st_func_tree s)
+tree_at p k s f = get_mapped st_func_tree p k s f
+
+pub matched : (all : List (List ℕ)) (p : List StFunc) (count k : ℕ) (s : StFunc) (t : SlackTables) → count ≡ length p → count ≤ k → k ≤ count → slice_get p (count - 1) ≡ Some s → AreArguments all (st_func_trees p) k t.arguments → AreChains all (st_func_trees p) k t.chains
+    → t.results ≡ result_slacks (told_arrivals all (count - 1)) (st_func_tree s) → AreSlacks all (st_func_trees p) t
+matched all p count k s t e least most f arguments chains results =
+    let long : k ≡ length (st_func_trees p) = omega (arith, length-map p st_func_tree) in
+    let last : length (st_func_trees p) - 1 ≡ count - 1 = omega (arith, length-map p st_func_tree) in
+    record {
+      arguments = rw long at arguments;
+      chains = rw long at chains;
+      results = λ u g.
+          let same : st_func_tree s ≡ u = same_Some (st_func_tree s) u (sym (tree_at p (count - 1) s f) ∙ rw last at g) in
+          rw (last, ← same) results;
+    }
