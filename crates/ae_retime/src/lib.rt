@@ -3,6 +3,8 @@
 #![tactic(auto)]
 
 mod slacks;
+#[cfg(test)]
+mod tests;
 mod uses;
 
 pub use slacks::{Slacks, matching};

@@ -1,0 +1,136 @@
+// Slacks worked out by hand: a product comes two clocks after the latest of its arguments, a sum one.
+
+use crate::{Slacks, matching};
+use ae_delay::arrivals;
+use ae_rewrite::schedule;
+use ae_seq::{Func, Node, Op, Param, Program, check};
+use ae_seqtype::SeqType;
+use ae_word::{Atom, WordOp};
+use std::alloc::{AllocError, Global};
+use std::process::Abort;
+use std::test::Fail;
+
+fn byte() -> SeqType {
+    SeqType::Atom(Atom::Word(8))
+}
+
+fn node(
+    alloc: Global,
+    nodes: &mut Vec<Node>,
+    op: Op,
+    args: &[u32],
+    line: u32,
+) -> Result<(), AllocError> {
+    let name = format!(in alloc; "n{line}")?;
+    nodes.push(Node {
+        name,
+        op,
+        args: Vec::from_slice(alloc, args)?,
+        line,
+    })?;
+    Ok(())
+}
+
+// A function of one parameter, `a`.
+fn func(
+    alloc: Global,
+    name: &str,
+    ty: SeqType,
+    nodes: Vec<Node>,
+    results: &[u32],
+    line: u32,
+) -> Result<Func, AllocError> {
+    let mut params = Vec::new(alloc);
+    params.push(Param {
+        name: String::from_str(alloc, "a")?,
+        ty,
+    })?;
+    Ok(Func {
+        name: String::from_str(alloc, name)?,
+        params,
+        nodes,
+        results: Vec::from_slice(alloc, results)?,
+        line,
+        end_line: 4096,
+    })
+}
+
+fn slacks_of(rt: &impl Abort, alloc: Global, funcs: Vec<Func>) -> Result<Slacks, Fail> {
+    let p = Program { version: 2, funcs };
+    assert!(rt; p.formed());
+    let s = schedule(alloc, &check(alloc, p)?, 1)?;
+    let times = arrivals(alloc, &s)?;
+    Ok(matching(alloc, &s, &times)?)
+}
+
+#[test]
+fn a_sum_waits_for_a_product_beside_it(rt: HostRuntime) -> Result<(), Fail> {
+    let alloc = rt.alloc();
+    let mut nodes = Vec::new(alloc);
+    node(alloc, &mut nodes, Op::Word(WordOp::Mul), &[0, 0], 2)?;
+    node(alloc, &mut nodes, Op::Word(WordOp::Add), &[0, 0], 3)?;
+    let mut funcs = Vec::new(alloc);
+    funcs.push(func(alloc, "main", byte(), nodes, &[1, 2], 1)?)?;
+    let t = slacks_of(&rt, alloc, funcs)?;
+    for (r, wanted) in [(0, Some(0)), (1, Some(1)), (2, None)] {
+        assert_eq!(rt; t.result_slack(r), wanted);
+    }
+    for (item, wanted) in [(0, Some(0)), (1, Some(0)), (2, Some(1)), (3, None)] {
+        assert_eq!(rt; t.chain(0, item), wanted);
+    }
+    assert_eq!(rt; t.chain(1, 0), None);
+    Ok(())
+}
+
+// The lines' words come in clocks 2 (a product), 4 (its product with `a`), 5 (the sum of that and `a`) and 3 (the sum of
+// `a` and the first product); the results are the sums.
+#[test]
+fn an_early_argument_has_its_slack(rt: HostRuntime) -> Result<(), Fail> {
+    let alloc = rt.alloc();
+    let mut nodes = Vec::new(alloc);
+    node(alloc, &mut nodes, Op::Word(WordOp::Mul), &[0, 0], 2)?;
+    node(alloc, &mut nodes, Op::Word(WordOp::Mul), &[1, 0], 3)?;
+    node(alloc, &mut nodes, Op::Word(WordOp::Add), &[2, 0], 4)?;
+    node(alloc, &mut nodes, Op::Word(WordOp::Add), &[0, 1], 5)?;
+    let mut funcs = Vec::new(alloc);
+    funcs.push(func(alloc, "main", byte(), nodes, &[3, 4], 1)?)?;
+    let t = slacks_of(&rt, alloc, funcs)?;
+    for (node, first, second) in [(0, 0, 0), (1, 0, 2), (2, 0, 4), (3, 2, 0)] {
+        assert_eq!(rt; t.slack(0, node, 0), Some(first));
+        assert_eq!(rt; t.slack(0, node, 1), Some(second));
+        assert_eq!(rt; t.slack(0, node, 2), None);
+    }
+    assert_eq!(rt; t.slack(0, 4, 0), None);
+    for (item, wanted) in [(0, 4), (1, 0), (2, 0), (3, 0), (4, 2)] {
+        assert_eq!(rt; t.chain(0, item), Some(wanted));
+    }
+    assert_eq!(rt; t.result_slack(0), Some(0));
+    assert_eq!(rt; t.result_slack(1), Some(2));
+    Ok(())
+}
+
+// The sum of a byte and its square, for each of four bytes.
+#[test]
+fn each_instance_has_its_own_slacks(rt: HostRuntime) -> Result<(), Fail> {
+    let alloc = rt.alloc();
+    let mut one = Vec::new(alloc);
+    node(alloc, &mut one, Op::Word(WordOp::Mul), &[0, 0], 2)?;
+    node(alloc, &mut one, Op::Word(WordOp::Add), &[1, 0], 3)?;
+    let mut all = Vec::new(alloc);
+    node(alloc, &mut all, Op::Map(0), &[0], 5)?;
+    let mut funcs = Vec::new(alloc);
+    funcs.push(func(alloc, "one", byte(), one, &[2], 1)?)?;
+    let bytes = SeqType::Seq(4, Box::new(alloc, byte())?);
+    funcs.push(func(alloc, "main", bytes, all, &[1], 4)?)?;
+    let t = slacks_of(&rt, alloc, funcs)?;
+    assert_eq!(rt; t.slack(0, 1, 0), Some(0));
+    assert_eq!(rt; t.slack(0, 1, 1), Some(2));
+    assert_eq!(rt; t.chain(0, 0), Some(2));
+    assert_eq!(rt; t.slack(1, 0, 0), Some(0));
+    assert_eq!(rt; t.slack(1, 1, 0), None);
+    assert_eq!(rt; t.slack(2, 0, 0), None);
+    assert_eq!(rt; t.chain(1, 0), Some(0));
+    assert_eq!(rt; t.result_slack(0), Some(0));
+    assert_eq!(rt; t.result_slack(1), None);
+    Ok(())
+}
