@@ -1,8 +1,10 @@
-// Slacks worked out by hand: a product comes two clocks after the latest of its arguments, a sum one.
+// Timings and slacks worked out by hand: a product comes two clocks after the latest of its arguments, a sum one.
+
+ghost use Rattle.std.specs.Prelude.{◌<◌, ◌≤◌};
 
 use crate::{Slacks, matching};
-use ae_delay::arrivals;
-use ae_rewrite::schedule;
+use ae_delay::{Cost, DelayFault, Timing, arrivals};
+use ae_rewrite::{StProgram, schedule};
 use ae_seq::{Func, Node, Op, Param, Program, check};
 use ae_seqtype::SeqType;
 use ae_word::{Atom, WordOp};
@@ -55,10 +57,35 @@ fn func(
     })
 }
 
-fn slacks_of(rt: &impl Abort, alloc: Global, funcs: Vec<Func>) -> Result<Slacks, Fail> {
+fn scheduled(
+    rt: &impl Abort,
+    alloc: Global,
+    funcs: Vec<Func>,
+    slowdown: u32,
+) -> Result<StProgram, Fail>
+    requires some { 0 < slowdown }
+    requires limit { slowdown ≤ 4096 }
+{
     let p = Program { version: 2, funcs };
     assert!(rt; p.formed());
-    let s = schedule(alloc, &check(alloc, p)?, 1)?;
+    Ok(schedule(alloc, &check(alloc, p)?, slowdown)?)
+}
+
+fn timing_of(
+    rt: &impl Abort,
+    alloc: Global,
+    funcs: Vec<Func>,
+    slowdown: u32,
+) -> Result<Timing, Fail>
+    requires some { 0 < slowdown }
+    requires limit { slowdown ≤ 4096 }
+{
+    let s = scheduled(rt, alloc, funcs, slowdown)?;
+    Ok(arrivals(alloc, &s)?)
+}
+
+fn slacks_of(rt: &impl Abort, alloc: Global, funcs: Vec<Func>) -> Result<Slacks, Fail> {
+    let s = scheduled(rt, alloc, funcs, 1)?;
     let times = arrivals(alloc, &s)?;
     Ok(matching(alloc, &s, &times)?)
 }
@@ -132,5 +159,76 @@ fn each_instance_has_its_own_slacks(rt: HostRuntime) -> Result<(), Fail> {
     assert_eq!(rt; t.chain(1, 0), Some(0));
     assert_eq!(rt; t.result_slack(0), Some(0));
     assert_eq!(rt; t.result_slack(1), None);
+    Ok(())
+}
+
+// A product and a sum of one byte, both results: the sum waits for the product.
+#[test]
+fn a_timing_tells_latency_load_and_products(rt: HostRuntime) -> Result<(), Fail> {
+    let alloc = rt.alloc();
+    let mut nodes = Vec::new(alloc);
+    node(alloc, &mut nodes, Op::Word(WordOp::Mul), &[0, 0], 2)?;
+    node(alloc, &mut nodes, Op::Word(WordOp::Add), &[0, 0], 3)?;
+    let mut funcs = Vec::new(alloc);
+    funcs.push(func(alloc, "main", byte(), nodes, &[1, 2], 1)?)?;
+    let t = timing_of(&rt, alloc, funcs, 1)?;
+    assert_eq!(rt; (t.latency(), t.muls(), t.load(), t.mems()), (2, 1, 6, 0));
+    for (item, wanted) in [(0, Some(0)), (1, Some(2)), (2, Some(1)), (3, None)] {
+        assert_eq!(rt; t.at(0, item), wanted);
+    }
+    assert_eq!(rt; t.at(1, 0), None);
+    assert_eq!(rt;
+        t.cost(0),
+        Some(Cost {
+            latency: 2,
+            load: 3,
+            muls: 1
+        })
+    );
+    assert_eq!(rt;
+        t.cost(1),
+        Some(Cost {
+            latency: 1,
+            load: 2,
+            muls: 0
+        })
+    );
+    assert_eq!(rt; t.cost(2), None);
+    Ok(())
+}
+
+// Six bytes on two lanes in three clocks, shifted by one: nothing waits, lane 1 is kept a clock, and lane 0 has a switch.
+#[test]
+fn a_shift_costs_what_it_keeps_and_switches(rt: HostRuntime) -> Result<(), Fail> {
+    let alloc = rt.alloc();
+    let mut nodes = Vec::new(alloc);
+    node(alloc, &mut nodes, Op::Shift(1), &[0], 2)?;
+    let mut funcs = Vec::new(alloc);
+    let bytes = SeqType::Seq(6, Box::new(alloc, byte())?);
+    funcs.push(func(alloc, "main", bytes, nodes, &[1], 1)?)?;
+    let t = timing_of(&rt, alloc, funcs, 3)?;
+    assert_eq!(rt; (t.latency(), t.muls(), t.load()), (0, 0, 5));
+    Ok(())
+}
+
+// Nine maps of a product over 4,096 bytes, in lines 5 to 13, with a load of 12,289 each.
+#[test]
+fn a_load_past_the_limit_has_its_line(rt: HostRuntime) -> Result<(), Fail> {
+    let alloc = rt.alloc();
+    let mut one = Vec::new(alloc);
+    node(alloc, &mut one, Op::Word(WordOp::Mul), &[0, 0], 2)?;
+    let mut all = Vec::new(alloc);
+    for k in 0..9u32 {
+        node(alloc, &mut all, Op::Map(0), &[k], 5 + k)?;
+    }
+    let mut funcs = Vec::new(alloc);
+    funcs.push(func(alloc, "one", byte(), one, &[1], 1)?)?;
+    let bytes = SeqType::Seq(4096, Box::new(alloc, byte())?);
+    funcs.push(func(alloc, "main", bytes, all, &[9], 4)?)?;
+    let s = scheduled(&rt, alloc, funcs, 1)?;
+    match arrivals(alloc, &s) {
+        Err(DelayFault::Large { line, load }) => assert_eq!(rt; (line, load), (13, 110601)),
+        _ => assert!(rt; false),
+    }
     Ok(())
 }
