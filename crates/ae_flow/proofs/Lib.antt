@@ -1,0 +1,14 @@
+pub mod Streams
+pub mod Placed
+pub mod Words
+pub mod Spreading
+pub mod Fixed
+pub mod Plain
+pub mod Calls
+pub mod Scheduling
+pub mod Widths
+pub mod Operands
+pub mod Folding
+pub mod Bodies
+pub mod Flowing
+pub mod Examples

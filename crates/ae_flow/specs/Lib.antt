@@ -1,0 +1,3 @@
+pub mod Flow
+pub mod Fitted
+pub mod Laws

@@ -1,0 +1,4 @@
+//! What programs in space and time make of words, and that it is what the program means.
+#![tactic(auto)]
+
+mod laws;
