@@ -1,8 +1,8 @@
 -- Instances on each element give words that fit.
-use Rattle.std.proofs.Common.{◌≡◌, ℕ, zero, suc, ◌+◌, ◌*◌, ◌/◌, ◌<◌, ◌≤◌, List, [], ◌∷◌, length, map, take, drop, refl, ap, sym, ◌∙◌, arith, subst, mul_assoc}
+use Rattle.std.proofs.Common.{◌≡◌, ℕ, ◌*◌, ◌/◌, ◌<◌, List, [], ◌∷◌, length, map, take, drop, ap, sym, ◌∙◌, arith, subst, mul_assoc}
 use Rattle.std.proofs.Math.Nat.{mul-div_cancel}
 use Rattle.ae_seqtype.specs.SeqTree.{repeated}
-use Rattle.ae_sttype.specs.StTree.{StTree, tseq, sseq, st_atoms, element_words}
+use Rattle.ae_sttype.specs.StTree.{StTree, tseq, sseq, st_atoms}
 use Rattle.ae_sttype.specs.Slots.{slots}
 use Rattle.ae_sttype.proofs.Places.{length-slots}
 use Rattle.ae_ops.specs.Blocks.{Stream, AreWords, AllAreWords, stream_of}

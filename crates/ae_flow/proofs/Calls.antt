@@ -1,32 +1,32 @@
 -- Bodies: an instance of the called function fits the layouts of a node's arguments and its own, element by element.
-use Rattle.std.proofs.Common.{◌≡◌, ℕ, zero, suc, ◌+◌, ◌*◌, ◌<◌, ◌≤◌, ◌==◌, nat_lt, List, [], ◌∷◌, length, map, take, Option, Some, None, refl, ap, sym, ◌∙◌, arith, IsTrue, slice_get, slice_index_or, subst}
-use Rattle.std.specs.Option.{option_map}
+use Rattle.std.proofs.Common.{◌≡◌, ℕ, zero, suc, ◌<◌, ◌≤◌, ◌==◌, nat_lt, List, [], ◌∷◌, length, map, take, Some, refl, ap, sym, ◌∙◌, arith, IsTrue, slice_get, slice_index_or, subst}
 use Rattle.std.proofs.lemmas.Bool.{eqb-true}
 use Rattle.std.proofs.lemmas.Bool.Decides.{nat_tests}
-use Rattle.std.proofs.lemmas.Option.{none-some, same_Some, slice_get_within, get_or_from_slice_get}
-use Rattle.ae_seqtype.specs.SeqTree.{SeqTree, atom, seq}
-use Rattle.ae_seq.specs.ProgramTree.{ProgramTree, FuncTree, ParamTree, NodeTree, OpTree, word, cast_int, pair, fst, snd, const, zip, call, each, each_two, reduce, scan, shift, up, select, partition, unpartition}
-use Rattle.ae_seq.specs.Formed.{is_line, has_arguments}
+use Rattle.std.proofs.lemmas.List.{length-take}
+use Rattle.std.proofs.lemmas.Option.{same_Some, slice_get_within, get_or_from_slice_get}
+use Rattle.ae_seqtype.specs.SeqTree.{SeqTree, seq}
+use Rattle.ae_seq.specs.ProgramTree.{ProgramTree, FuncTree, ParamTree, OpTree, call, each, each_two}
+use Rattle.ae_seq.specs.Formed.{is_line}
 use Rattle.ae_seq.specs.Signatures.{result_in}
 use Rattle.ae_seq.specs.Typing.{called, op_type, signatures, types_of_params, ◌>>=◌}
 use Rattle.ae_eval.specs.Stack.{IsTyped, first_type, params_for, params_in, result_of, types_in}
 use Rattle.ae_eval.proofs.Items.{call-facts, option-both, slice_get-take}
 use Rattle.ae_eval.proofs.Moving.{where_ok-some}
-use Rattle.ae_sttype.specs.StTree.{StTree, tseq, sseq}
+use Rattle.ae_eval.proofs.Starting.{count-items}
+use Rattle.ae_sttype.specs.StTree.{StTree}
 use Rattle.ae_ops.specs.Blocks.{Stream, stream_of}
 use Rattle.ae_rewrite.specs.declared.calls.Call.{Call}
-use Rattle.ae_rewrite.specs.LayoutRule.{arranged, inner_of, lanes_of, slots_of, rounds_of, lay_of}
-use Rattle.ae_rewrite.specs.Calls.{Spreading, spread_at, head, call_of, each_call}
-use Rattle.ae_rewrite.specs.StProgramTree.{StOpTree, body, StNodeTree, StFuncTree}
+use Rattle.ae_rewrite.specs.LayoutRule.{inner_of, lanes_of, slots_of, rounds_of, lay_of}
+use Rattle.ae_rewrite.specs.Calls.{spread_at, head, call_of, each_call}
+use Rattle.ae_rewrite.specs.StProgramTree.{StOpTree, StFuncTree}
 use Rattle.ae_rewrite.specs.Scheduled.{Keys, HasKey, IsBody, IsInstance, IsSchedule, param_layouts}
 use Rattle.ae_rewrite.specs.Sound.{item_layout, item_layouts}
 use Rattle.ae_flow.specs.Flow.{first_result}
 use Rattle.ae_flow.specs.Fitted.{FitsBody, FitsOp, elements_stream, streams_of}
 use Rattle.ae_flow.proofs.Streams.{arranged_stream, seq_laid_too, single}
-use Rattle.ae_flow.proofs.Placed.{IsLaidAs, AreLaidAs, item_count_is, typed_item}
+use Rattle.ae_flow.proofs.Placed.{AreLaidAs, item_count_is, typed_item}
 use Rattle.ae_flow.proofs.Plain.{HaveTypes}
 use Rattle.ae_flow.proofs.Spreading.{IsSpreadOver, spread_over, spread_is}
-use Rattle.ae_eval.proofs.Starting.{count-items}
 
 -- ---- lists of layouts
 
@@ -203,13 +203,8 @@ call_fits p slowdown k all f budget v copies op args ts ins t s c made typed sch
     let r = calls_for p f budget v copies op args ts ins t s c typed known some line h l is out at many in
     let g = body_is.key.instance in
     let inside : body_is.at < length (take k all) = slice_get_within (take k all) body_is.at g body_is.key.here in
-    let low : length (take k all) ≤ k = few_taken k all in
+    let low : length (take k all) ≤ k = omega (arith, length-take k all) in
     let there : slice_get all body_is.at ≡ Some g = sym (slice_get-take k body_is.at all (omega (arith, inside, low))) ∙ body_is.key.here in
     let own = schedule.right body_is.at g there in
     let callee = callee_is p (HasKey (take body_is.at all)) g own c.func c.budget r.params r.result typed body_is.key.is_func body_is.key.is_budget r.is_params r.is_result in
     rw body_is.is (g, body_is.key.here, r.fits g callee)
-  where
-    few_taken : (k : ℕ) (xs : List StFuncTree) → length (take k xs) ≤ k
-    few_taken zero xs = omega arith
-    few_taken (suc k) [] = omega arith
-    few_taken (suc k) (x ∷ xs) = omega (arith, few_taken k xs)

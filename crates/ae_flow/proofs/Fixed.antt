@@ -1,5 +1,5 @@
 -- The fixed words of a line fit the layout of its type.
-use Rattle.std.proofs.Common.{◌≡◌, ℕ, zero, suc, ◌*◌, ◌%◌, ◌<◌, ◌^◌, List, [], ◌∷◌, length, Some, slice_get, IsTrue, refl, ap, sym, ◌∙◌, arith, mul_assoc}
+use Rattle.std.proofs.Common.{◌≡◌, ℕ, zero, suc, ◌*◌, ◌<◌, ◌^◌, List, [], ◌∷◌, length, Some, slice_get, IsTrue, refl, ap, sym, ◌∙◌, arith, mul_assoc}
 use Rattle.std.proofs.lemmas.Bool.Decides.{nat_tests}
 use Rattle.std.proofs.lemmas.Option.{none-some, same_Some, slice_get_within}
 use Rattle.ae_word.specs.AtomTree.{WordKind, atom_words}

@@ -1,16 +1,16 @@
 -- Words that fit an instance's parameters give each of its items words that fit its layout.
-use Rattle.std.proofs.Common.{◌≡◌, ℕ, zero, suc, ◌+◌, ◌<◌, ◌≤◌, List, [], ◌∷◌, ◌++◌, length, length-append, map, take, Some, refl, ap, sym, ◌∙◌, arith, inl, inr, slice_get, slice_index_or, subst}
+use Rattle.std.proofs.Common.{◌≡◌, ℕ, zero, suc, ◌+◌, ◌<◌, ◌≤◌, List, [], ◌∷◌, ◌++◌, length, length-append, map, take, Some, refl, ap, sym, ◌∙◌, arith, inl, inr, slice_get, subst}
 use Rattle.std.proofs.lemmas.Bool.{cases_lt}
-use Rattle.std.proofs.lemmas.List.{get_or_append_left, get_or_at, length-map, take-take}
+use Rattle.std.proofs.lemmas.List.{get_or_append_left, get_or_at, length-map, length-take, take-take}
 use Rattle.std.proofs.lemmas.Option.{slice_get_within, slice_get-get_or, get_or_from_slice_get, slice_get-map}
 use Rattle.std.specs.Option.{option_map}
 use Rattle.ae_word.specs.AtomTree.{unsigned_word}
 use Rattle.ae_seq.specs.Typing.{grown}
 use Rattle.ae_eval.proofs.Items.{entry-grown, slice_get-take}
-use Rattle.ae_sttype.specs.StTree.{StTree, atom as st_atom, sseq, st_atoms}
+use Rattle.ae_sttype.specs.StTree.{StTree, atom as st_atom, sseq}
 use Rattle.ae_sttype.specs.Size.{IsInSize}
 use Rattle.ae_sttype.proofs.Bounds.{atoms_pos}
-use Rattle.ae_ops.specs.Blocks.{Stream, AreWords, AllAreWords, stream_of}
+use Rattle.ae_ops.specs.Blocks.{AreWords, AllAreWords, stream_of}
 use Rattle.ae_rewrite.specs.StProgramTree.{StOpTree, word, join, first, second, fixed, move, fold, scan, body, StNodeTree, StFuncTree}
 use Rattle.ae_rewrite.specs.Scheduled.{node_layouts}
 use Rattle.ae_rewrite.specs.Sound.{IsRawFor, IsSpread, IsSoundOp, IsSoundFunc, IsSound, item_layout, item_layouts}
@@ -107,6 +107,9 @@ node_layout : (s : StFuncTree) (j : ℕ) (n : StNodeTree) → slice_get s.nodes 
 node_layout s j n at = get_or_from_slice_get (item_layouts s) (length s.ins + j) n.type (sseq 0 (st_atom (unsigned_word 1)))
     (get_right s.ins (node_layouts s.nodes) j ∙ (slice_get-map (λ (x : StNodeTree). x.type) s.nodes j ∙ ap (option_map (λ (x : StNodeTree). x.type)) at))
 
+early : (s : StFuncTree) (j : ℕ) → length (s.ins ++ node_layouts (take j s.nodes)) ≤ length s.ins + j
+early s j = omega (arith, length-append s.ins (node_layouts (take j s.nodes)), length-map (take j s.nodes) (λ (x : StNodeTree). x.type), length-take j s.nodes)
+
 -- where each earlier instance gives words that fit
 items_by : (instances : List StFuncTree) (k : ℕ) (s : StFuncTree) (vs : List (List ℕ)) → IsSound instances → AreFitted instances → slice_get instances k ≡ Some s
     → ((m : ℕ) (f : StFuncTree) → slice_get (take k instances) m ≡ Some f → GivesWords f (callee_at (callees (take k instances)) m)) → AllAreWords (streams_of s.ins) vs → ItemsFit (item_layouts s) (item_words (callees (take k instances)) s vs)
@@ -117,19 +120,11 @@ items_by instances k s vs sound fitted at earlier fit =
     let one = node_sound k s j n (sound.each k s at) here in
     let place : length front ≡ length s.ins + j = omega (arith, long, many_words s.ins vs fit) in
     let taken = (sound.each k s at).nodes j n here in
-    let below : (i a : ℕ) → slice_get n.args i ≡ Some a → a < length front = λ i a f. (let inside = taken.args i a f in omega (arith, inside, place, early s j n here)) in
+    let below : (i a : ℕ) → slice_get n.args i ≡ Some a → a < length front = λ i a f. (let inside = taken.args i a f in omega (arith, inside, place, early s j)) in
     let words = args_fit layouts front n.args own below in
     let gives = op_gives (take k instances) known s.budget n.copies (map (item_layout layouts) n.args) n.type n.op (map (words_at front) n.args) one.layout.size (spread_op k s.budget (map (item_layout layouts) n.args) n.type n.op one.op) earlier
     (fitted.each k j s n at here) words in
     rw (place, node_layout s j n here) gives)
-  where
-    early : (s : StFuncTree) (j : ℕ) (n : StNodeTree) → slice_get s.nodes j ≡ Some n → length (s.ins ++ node_layouts (take j s.nodes)) ≤ length s.ins + j
-    early s j n here = omega (arith, length-append s.ins (node_layouts (take j s.nodes)), length-map (take j s.nodes) (λ (x : StNodeTree). x.type), few_taken j s.nodes)
-      where
-        few_taken : (j : ℕ) (xs : List StNodeTree) → length (take j xs) ≤ j
-        few_taken zero xs = omega arith
-        few_taken (suc j) [] = omega arith
-        few_taken (suc j) (x ∷ xs) = omega (arith, few_taken j xs)
 
 -- ---- what callers know
 
@@ -152,18 +147,13 @@ gives_words k f known sound items = record {
   flow = λ vs fit. items vs fit (first_result f) (omega (arith, first_below k f sound, items_many f known vs fit));
 }
 
-few_taken : (k : ℕ) (xs : List StFuncTree) → length (take k xs) ≤ k
-few_taken zero xs = omega arith
-few_taken (suc k) [] = omega arith
-few_taken (suc k) (x ∷ xs) = omega (arith, few_taken k xs)
-
 -- instance by instance
 items_below : (bound k : ℕ) (instances : List StFuncTree) (s : StFuncTree) (vs : List (List ℕ)) → k < bound → IsSound instances → AreFitted instances → slice_get instances k ≡ Some s → AllAreWords (streams_of s.ins) vs
     → ItemsFit (item_layouts s) (item_words (callees (take k instances)) s vs)
 items_below zero k instances s vs low sound fitted at fit = absurd (omega arith)
 items_below (suc bound) k instances s vs low sound fitted at fit = items_by instances k s vs sound fitted at (λ m f there.
     let inside : m < length (take k instances) = slice_get_within (take k instances) m f there in
-    let below : m < k = omega (arith, inside, few_taken k instances) in
+    let below : m < k = omega (arith, inside, length-take k instances) in
     let here : slice_get instances m ≡ Some f = sym (slice_get-take k m instances below) ∙ there in
     let known : List Callee = callees (take m instances) in
     let gives : GivesWords f (callee known f) = gives_words m f known (sound.each m f here) (λ ws own. items_below bound m instances f ws (omega (arith, below, low)) sound fitted here own) in

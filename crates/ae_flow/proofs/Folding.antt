@@ -1,18 +1,14 @@
 -- Folds and scans give words that fit.
-use Rattle.std.proofs.Common.{◌≡◌, ℕ, zero, suc, ◌+◌, ◌-◌, ◌*◌, ◌/◌, ◌%◌, ◌<◌, ◌≤◌, ◌^◌, true, List, [], ◌∷◌, length, map, Some, slice_get, slice_index, refl, ap, sym, ◌∙◌, arith, subst, inl, inr, mul_assoc}
+use Rattle.std.proofs.Common.{◌≡◌, ℕ, ◌+◌, ◌-◌, ◌*◌, ◌/◌, ◌%◌, ◌<◌, ◌≤◌, ◌^◌, true, List, [], ◌∷◌, length, map, Some, slice_get, slice_index, refl, ap, sym, ◌∙◌, arith, subst, inl, inr, mul_assoc}
 use Rattle.std.specs.List.{range_with_len}
 use Rattle.std.proofs.Math.Nat.{mul-div_cancel_left}
 use Rattle.std.proofs.lemmas.Nat.{mod_below, div_below, div-add-mod'}
 use Rattle.std.proofs.lemmas.Option.{same_Some}
 use Rattle.ae_word.specs.declared.op.WordOp.{WordOp}
-use Rattle.ae_word.specs.AtomTree.{AtomTree}
 use Rattle.ae_word.specs.WordTable.{folds}
-use Rattle.ae_seqtype.specs.SeqTree.{repeated}
-use Rattle.ae_sttype.specs.StTree.{StTree, tseq, sseq, st_atoms, element_atom, element_words}
-use Rattle.ae_sttype.specs.Slots.{slots}
+use Rattle.ae_sttype.specs.StTree.{StTree, sseq, st_atoms, element_atom, element_words}
 use Rattle.ae_sttype.specs.Size.{IsInSize}
 use Rattle.ae_sttype.proofs.Bounds.{atoms_pos, element_words_pos, part_of_sseq, part_of_tseq}
-use Rattle.ae_sttype.proofs.Places.{length-slots}
 use Rattle.ae_ops.specs.Blocks.{Stream, AreWords, AllAreWords, stream_of}
 use Rattle.ae_fold.specs.declared.words.WordFold.{WordFold}
 use Rattle.ae_fold.specs.Folding.{Fit, fold_at, word_fold}

@@ -1,5 +1,5 @@
 -- Operators on words and on pairs, moves and fixed words give words that fit.
-use Rattle.std.proofs.Common.{◌≡◌, ℕ, zero, suc, ◌+◌, ◌-◌, ◌*◌, ◌/◌, ◌%◌, ◌<◌, ◌≤◌, ◌^◌, nat_lt, cond, Bool, true, false, List, [], ◌∷◌, ◌++◌, length, length-append, map, append-nil, Option, Some, None, slice_get, slice_index, get_or, refl, ap, sym, ◌∙◌, arith, subst}
+use Rattle.std.proofs.Common.{◌≡◌, ℕ, ◌+◌, ◌-◌, ◌*◌, ◌/◌, ◌%◌, ◌<◌, ◌^◌, nat_lt, cond, Bool, true, false, List, [], ◌∷◌, ◌++◌, length, length-append, map, append-nil, Option, Some, None, slice_get, slice_index, refl, ap, sym, ◌∙◌, arith, subst}
 use Rattle.std.specs.Option.{option_map}
 use Rattle.std.specs.List.{range_with_len}
 use Rattle.std.proofs.lemmas.Nat.{pow_pos, mod-mul-add, mod_below}
@@ -22,13 +22,13 @@ use Rattle.ae_ops.specs.Blocks.{Stream, AreWords, AllAreWords, stream_of}
 use Rattle.ae_ops.specs.Words.{operand_widths, word_stream}
 use Rattle.ae_rewrite.specs.declared.st_program.MoveOp.{MoveOp}
 use Rattle.ae_rewrite.specs.declared.st_program.MoveOp.TheVariants.{Shift, Up, Select, Same}
+use Rattle.ae_rewrite.specs.StProgramTree.{word, join, first, second, move}
 use Rattle.ae_rewrite.specs.Sound.{FixedFits}
 use Rattle.ae_delay.specs.Moving.{origin_number}
 use Rattle.ae_gather.specs.Gathers.{origin_word}
 use Rattle.ae_flow.specs.Flow.{Callee, op_words, words_at, width_of}
 use Rattle.ae_flow.specs.Fitted.{FitsWord, FitsPair, FitsFirst, FitsSecond, FitsMove, streams_of}
 use Rattle.ae_flow.proofs.Widths.{FitWidths, fit_of, words_of, word_fit, pairs_fit, parts_fit}
-use Rattle.ae_rewrite.specs.StProgramTree.{word, join, first, second, move}
 
 -- the widths of an element's words
 abbrev pub widths_of : StTree → List ℕ

@@ -1,9 +1,9 @@
 -- The items of an instance in a schedule: each has the type of its line, and that type's layout in the instance's budget.
-use Rattle.std.proofs.Common.{◌≡◌, ℕ, zero, suc, ◌+◌, ◌-◌, ◌<◌, ◌≤◌, List, [], ◌∷◌, ◌++◌, length, length-append, map, take, get_or, Option, Some, None, refl, ap, sym, ◌∙◌, arith, inl, inr, slice_get, IsTrue}
+use Rattle.std.proofs.Common.{◌≡◌, ℕ, zero, suc, ◌+◌, ◌-◌, ◌<◌, List, [], ◌∷◌, length, length-append, map, get_or, Some, refl, ap, sym, ◌∙◌, arith, inl, inr, slice_get, IsTrue}
 use Rattle.std.specs.Option.{option_map}
 use Rattle.std.proofs.lemmas.Bool.{cases_lt}
 use Rattle.std.proofs.lemmas.List.{length-map}
-use Rattle.std.proofs.lemmas.Option.{slice_get-map, slice_get_within, slice_get-get_or, get_or_from_slice_get, none-some, same_Some, option_and_then_some}
+use Rattle.std.proofs.lemmas.Option.{slice_get-map, slice_get_within, slice_get-get_or, get_or_from_slice_get, none-some, same_Some}
 use Rattle.ae_word.specs.AtomTree.{unsigned_word}
 use Rattle.ae_seqtype.specs.SeqTree.{SeqTree, in_size}
 use Rattle.ae_seq.specs.ProgramTree.{ProgramTree, NodeTree, ParamTree}
@@ -12,7 +12,7 @@ use Rattle.ae_seq.proofs.Types.{item-sized}
 use Rattle.ae_sttype.specs.StTree.{StTree, atom as st_atom, sseq}
 use Rattle.ae_rewrite.specs.LayoutRule.{lay_of}
 use Rattle.ae_rewrite.specs.Calls.{layout_at}
-use Rattle.ae_rewrite.specs.StProgramTree.{StOpTree, join, StNodeTree, StFuncTree}
+use Rattle.ae_rewrite.specs.StProgramTree.{join, StNodeTree, StFuncTree}
 use Rattle.ae_rewrite.specs.Scheduled.{Keys, IsStNode, AreStNodes, IsInstance, node_layouts, param_layouts}
 use Rattle.ae_rewrite.specs.Sound.{item_layout, item_layouts}
 use Rattle.ae_rewrite.proofs.Grown.{get_in_front}

@@ -1,25 +1,24 @@
 -- Operators that call nothing fit the layouts of their arguments and their own.
-use Rattle.std.proofs.Common.{◌≡◌, ℕ, ◌+◌, ◌*◌, ◌%◌, ◌<◌, ◌≤◌, ◌==◌, ◌&&◌, nat_le, nat_lt, Bool, true, false, List, [], ◌∷◌, ◌++◌, length, map, Option, Some, None, refl, ap, sym, ◌∙◌, arith, IsTrue, slice_get, mul_assoc}
+use Rattle.std.proofs.Common.{◌≡◌, ℕ, ◌+◌, ◌*◌, ◌<◌, ◌≤◌, ◌==◌, nat_le, nat_lt, List, [], ◌∷◌, length, Some, refl, ap, sym, ◌∙◌, arith, IsTrue, mul_assoc}
 use Rattle.std.proofs.Math.Nat.{mul-le-mul_right, add-mul}
 use Rattle.std.proofs.lemmas.Bool.{eqb-true, leb-true, ltb-true}
-use Rattle.std.proofs.lemmas.Bool.Decides.{nat_tests}
-use Rattle.std.proofs.lemmas.Option.{none-some, same_Some, slice_get_within}
-use Rattle.ae_word.specs.AtomTree.{AtomTree, word as atom_word, pair as atom_pair, atom_kinds}
+use Rattle.std.proofs.lemmas.Option.{none-some, same_Some}
+use Rattle.ae_word.specs.AtomTree.{AtomTree, pair as atom_pair}
 use Rattle.ae_word.specs.WordTable.{arity_of, folds}
-use Rattle.ae_seqtype.specs.SeqTree.{SeqTree, atom, seq, atoms, words, kinds}
+use Rattle.ae_seqtype.specs.SeqTree.{SeqTree, atom, seq, atoms, kinds}
 use Rattle.ae_seqtype.specs.ValueTree.{fit_kinds}
 use Rattle.ae_seq.specs.ProgramTree.{ProgramTree, OpTree, word, cast_int, pair, fst, snd, const, zip, call, each, each_two, reduce, scan, shift, up, select, partition, unpartition}
-use Rattle.ae_seq.specs.Formed.{is_line, is_word_line, has_arguments, within}
+use Rattle.ae_seq.specs.Formed.{is_line, has_arguments, within}
 use Rattle.ae_seq.specs.Typing.{Signature, type_at, op_type, zipped_type, ◌>>=◌}
 use Rattle.ae_eval.proofs.Items.{and-both}
 use Rattle.ae_eval.proofs.Moving.{where_ok-some}
-use Rattle.ae_sttype.specs.StTree.{StTree, atom as st_atom, st_atoms, element_atom}
+use Rattle.ae_sttype.specs.StTree.{StTree, atom as st_atom, st_atoms}
 use Rattle.ae_rewrite.specs.declared.st_program.MoveOp.TheVariants.{Shift, Up, Select, Same}
 use Rattle.ae_rewrite.specs.LayoutRule.{lay_of}
-use Rattle.ae_rewrite.specs.Calls.{plain_op, op_by, shift_of}
-use Rattle.ae_rewrite.specs.StProgramTree.{StOpTree, word as st_word, join, first, second, fixed, move, StFuncTree}
+use Rattle.ae_rewrite.specs.Calls.{plain_op, shift_of}
+use Rattle.ae_rewrite.specs.StProgramTree.{StOpTree, join, first, second, fixed, move, StFuncTree}
 use Rattle.ae_rewrite.proofs.Laid.{Laid, laid_whole}
-use Rattle.ae_flow.specs.Fitted.{FitsOp, FitsPair, FitsFirst, FitsSecond}
+use Rattle.ae_flow.specs.Fitted.{FitsOp, FitsPair}
 use Rattle.ae_flow.proofs.Fixed.{fixed_fits}
 use Rattle.ae_flow.proofs.Streams.{IsOneAtom, one_atom, atom_laid, same_place, zipped}
 use Rattle.ae_flow.proofs.Placed.{IsLaidAs, AreLaidAs}

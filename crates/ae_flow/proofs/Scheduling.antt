@@ -1,9 +1,9 @@
 -- In the schedule of a typed program each operator fits its layouts.
-use Rattle.std.proofs.Common.{◌≡◌, ℕ, ◌+◌, ◌<◌, ◌≤◌, List, [], ◌∷◌, length, map, take, Option, Some, None, refl, ap, sym, ◌∙◌, arith, slice_get, IsTrue}
+use Rattle.std.proofs.Common.{◌≡◌, ℕ, ◌+◌, ◌<◌, List, [], ◌∷◌, length, map, take, Option, Some, None, refl, ap, sym, ◌∙◌, arith, slice_get, IsTrue}
 use Rattle.std.proofs.lemmas.List.{length-map}
 use Rattle.std.proofs.lemmas.Option.{slice_get_within}
 use Rattle.ae_seqtype.specs.SeqTree.{SeqTree}
-use Rattle.ae_seq.specs.ProgramTree.{ProgramTree, OpTree, NodeTree, ParamTree}
+use Rattle.ae_seq.specs.ProgramTree.{ProgramTree, OpTree, ParamTree}
 use Rattle.ae_seq.specs.Formed.{is_line, has_arguments}
 use Rattle.ae_seq.specs.Typing.{type_at, op_type, signatures, ◌>>=◌}
 use Rattle.ae_eval.specs.Stack.{IsTyped, types_in, params_for}
@@ -14,9 +14,9 @@ use Rattle.ae_eval.proofs.Typing.{type-at-is}
 use Rattle.ae_sttype.specs.StTree.{StTree}
 use Rattle.ae_rewrite.specs.declared.calls.Call.{Call}
 use Rattle.ae_rewrite.specs.LayoutRule.{lay_of}
-use Rattle.ae_rewrite.specs.Calls.{layout_at, called_by, call_of, spread_at, head, plain_op}
+use Rattle.ae_rewrite.specs.Calls.{called_by, call_of, spread_at, head, plain_op}
 use Rattle.ae_rewrite.specs.StProgramTree.{StOpTree, StNodeTree, StFuncTree}
-use Rattle.ae_rewrite.specs.Scheduled.{HasKey, IsOp, IsInstance, IsSchedule, copies_of}
+use Rattle.ae_rewrite.specs.Scheduled.{HasKey, IsOp, IsSchedule, copies_of}
 use Rattle.ae_rewrite.specs.Sound.{item_layout, item_layouts}
 use Rattle.ae_rewrite.proofs.Reached.{reached-within}
 use Rattle.ae_flow.specs.Fitted.{FitsOp, FitsNode, AreFitted}

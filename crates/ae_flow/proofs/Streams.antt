@@ -1,5 +1,5 @@
 -- Where the words of layouts stand: an atom's one slot, elements that the layout rule arranges, sequences as long as each other.
-use Rattle.std.proofs.Common.{◌≡◌, ℕ, zero, suc, ◌+◌, ◌-◌, ◌*◌, ◌/◌, ◌%◌, ◌<◌, ◌≤◌, List, [], ◌∷◌, ◌++◌, map, cond, nat_eq, Bool, true, false, ◌==◌, Option, Some, None, refl, ap, sym, subst, ◌∙◌, arith}
+use Rattle.std.proofs.Common.{◌≡◌, ℕ, ◌+◌, ◌-◌, ◌*◌, ◌<◌, ◌≤◌, List, [], ◌∷◌, ◌++◌, map, cond, nat_eq, Bool, true, false, ◌==◌, Option, Some, None, refl, ap, sym, subst, ◌∙◌, arith}
 use Rattle.std.specs.Option.{option_map}
 use Rattle.std.proofs.lemmas.Bool.{eqb-true}
 use Rattle.std.proofs.lemmas.Option.{none-some, same_Some, option_and_then_some}
@@ -9,11 +9,11 @@ use Rattle.ae_seq.specs.Typing.{zipped_type, where_ok, ◌>>=◌}
 use Rattle.ae_sttype.specs.declared.st_type.Slot.{Slot}
 use Rattle.ae_sttype.specs.StTree.{StTree, atom as st_atom, tseq, sseq, time, lanes, st_atoms, element_atom}
 use Rattle.ae_sttype.specs.Slots.{moved, copies, slots}
-use Rattle.ae_ops.specs.Blocks.{Stream, stream_of}
+use Rattle.ae_ops.specs.Blocks.{stream_of}
 use Rattle.ae_rewrite.specs.declared.cases.Case.{Case}
 use Rattle.ae_rewrite.specs.declared.cases.Case.TheVariants.{Parallel, Spread, Grouped, Padded, Folded}
 use Rattle.ae_rewrite.specs.LayoutRule.{arranged, case_of, inner_of, lanes_of, slots_of, rounds_of, lay_of}
-use Rattle.ae_rewrite.proofs.Applies.{Applies, whole, quotient_pos}
+use Rattle.ae_rewrite.proofs.Applies.{Applies, whole}
 use Rattle.ae_flow.specs.Fitted.{SameSlots, elements_stream}
 
 abbrev pub slot_at : ℕ → ℕ → Slot

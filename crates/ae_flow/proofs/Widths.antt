@@ -1,5 +1,5 @@
 -- Words that fit widths, word by word, and pieces of them.
-use Rattle.std.proofs.Common.{◌≡◌, ℕ, zero, suc, ◌+◌, ◌-◌, ◌*◌, ◌%◌, ◌<◌, ◌≤◌, ◌^◌, List, [], ◌∷◌, ◌++◌, length, length-append, take, drop, Some, slice_get, slice_index, get_or, refl, ap, sym, ◌∙◌, arith, append_assoc, append-nil, ⊎_elim, inl, inr}
+use Rattle.std.proofs.Common.{◌≡◌, ℕ, zero, suc, ◌+◌, ◌-◌, ◌*◌, ◌%◌, ◌<◌, ◌≤◌, ◌^◌, List, [], ◌∷◌, ◌++◌, length, take, drop, Some, slice_get, slice_index, get_or, refl, ap, sym, ◌∙◌, arith, append_assoc, ⊎_elim}
 use Rattle.std.specs.List.{range_with_len, flat_map}
 use Rattle.std.proofs.Math.Nat.{mod-eq-sub-mod, mod-eq_of_lt}
 use Rattle.std.proofs.Math.Seq.{take-append_seam, drop-append_seam}
@@ -35,11 +35,11 @@ fit_by [] (w ∷ widths) h each = absurd (omega arith)
 fit_by (x ∷ ws) [] h each = absurd (omega arith)
 fit_by (x ∷ ws) (w ∷ widths) h each = (each 0 x w refl refl, fit_by ws widths (omega arith) (λ i y v f g. each (suc i) y v f g))
 
-pub fit_append : (us as_wide vs bs : List ℕ) → FitWidths us as_wide → FitWidths vs bs → FitWidths (us ++ vs) (as_wide ++ bs)
-fit_append [] [] vs bs h g = g
-fit_append [] (w ∷ as_wide) vs bs h g = absurd h
-fit_append (x ∷ us) [] vs bs h g = absurd h
-fit_append (x ∷ us) (w ∷ as_wide) vs bs h g = (h.0, fit_append us as_wide vs bs h.1 g)
+pub fit_append : (us widths vs more : List ℕ) → FitWidths us widths → FitWidths vs more → FitWidths (us ++ vs) (widths ++ more)
+fit_append [] [] vs more h g = g
+fit_append [] (w ∷ widths) vs more h g = absurd h
+fit_append (x ∷ us) [] vs more h g = absurd h
+fit_append (x ∷ us) (w ∷ widths) vs more h g = (h.0, fit_append us widths vs more h.1 g)
 
 pub fit_take : (n : ℕ) (ws widths : List ℕ) → FitWidths ws widths → FitWidths (take n ws) (take n widths)
 fit_take zero ws widths h = tt
@@ -137,15 +137,15 @@ word_fit s ws i w h g = ⊎_elim
 
 -- ---- pieces
 
-pub pairs_fit : (n : ℕ) (wide too us vs : List ℕ) → FitWidths us (repeated n wide) → FitWidths vs (repeated n too) → FitWidths (paired n (length wide) (length too) us vs) (repeated n (wide ++ too))
-pairs_fit zero wide too us vs h g = tt
-pairs_fit (suc n) wide too us vs h g =
-    let a : FitWidths (take (length wide) us) wide = rw (take-append_seam wide (repeated n wide)) at (fit_take (length wide) us (wide ++ repeated n wide) h) in
-    let b : FitWidths (take (length too) vs) too = rw (take-append_seam too (repeated n too)) at (fit_take (length too) vs (too ++ repeated n too) g) in
-    let c : FitWidths (drop (length wide) us) (repeated n wide) = rw (drop-append_seam wide (repeated n wide)) at (fit_drop (length wide) us (wide ++ repeated n wide) h) in
-    let d : FitWidths (drop (length too) vs) (repeated n too) = rw (drop-append_seam too (repeated n too)) at (fit_drop (length too) vs (too ++ repeated n too) g) in
-    fit_append (take (length wide) us ++ take (length too) vs) (wide ++ too) (paired n (length wide) (length too) (drop (length wide) us) (drop (length too) vs)) (repeated n (wide ++ too))
-    (fit_append (take (length wide) us) wide (take (length too) vs) too a b) (pairs_fit n wide too (drop (length wide) us) (drop (length too) vs) c d)
+pub pairs_fit : (n : ℕ) (left right us vs : List ℕ) → FitWidths us (repeated n left) → FitWidths vs (repeated n right) → FitWidths (paired n (length left) (length right) us vs) (repeated n (left ++ right))
+pairs_fit zero left right us vs h g = tt
+pairs_fit (suc n) left right us vs h g =
+    let a : FitWidths (take (length left) us) left = rw (take-append_seam left (repeated n left)) at (fit_take (length left) us (left ++ repeated n left) h) in
+    let b : FitWidths (take (length right) vs) right = rw (take-append_seam right (repeated n right)) at (fit_take (length right) vs (right ++ repeated n right) g) in
+    let c : FitWidths (drop (length left) us) (repeated n left) = rw (drop-append_seam left (repeated n left)) at (fit_drop (length left) us (left ++ repeated n left) h) in
+    let d : FitWidths (drop (length right) vs) (repeated n right) = rw (drop-append_seam right (repeated n right)) at (fit_drop (length right) vs (right ++ repeated n right) g) in
+    fit_append (take (length left) us ++ take (length right) vs) (left ++ right) (paired n (length left) (length right) (drop (length left) us) (drop (length right) vs)) (repeated n (left ++ right))
+    (fit_append (take (length left) us) left (take (length right) vs) right a b) (pairs_fit n left right (drop (length left) us) (drop (length right) vs) c d)
 
 pub all_fit : (f : ℕ → List ℕ) (widths : List ℕ) (start n : ℕ) → ((e : ℕ) → start ≤ e → e < start + n → FitWidths (f e) widths) → FitWidths (flat_map f (range_with_len start n)) (repeated n widths)
 all_fit f widths start zero h = tt
@@ -166,10 +166,13 @@ parts_fit n front own back ws h = all_fit (λ e. take l (drop (e * k + o) ws)) o
   where
     widths : List ℕ
     widths = front ++ (own ++ back)
+
     k : ℕ
     k = length widths
+
     o : ℕ
     o = length front
+
     l : ℕ
     l = length own
 

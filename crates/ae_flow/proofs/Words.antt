@@ -1,6 +1,6 @@
 -- Operators on words fit the layouts of their operands and their own.
-use Rattle.std.proofs.Common.{◌≡◌, ℕ, ◌<◌, ◌≤◌, ◌==◌, ◌&&◌, Bool, true, false, List, [], ◌∷◌, length, map, replicate, Some, refl, ap, sym, ◌∙◌, arith, IsTrue}
-use Rattle.std.proofs.lemmas.Bool.{false≢true, eqb-true}
+use Rattle.std.proofs.Common.{◌≡◌, ℕ, ◌≤◌, Bool, true, false, List, [], ◌∷◌, map, replicate, Some, refl, ap, sym, ◌∙◌, arith, IsTrue}
+use Rattle.std.proofs.lemmas.Bool.{false≢true}
 use Rattle.std.proofs.lemmas.Bool.Decides.{nat_tests}
 use Rattle.ae_word.specs.declared.op.WordOp.{WordOp}
 use Rattle.ae_word.specs.declared.op.WordOp.TheVariants.{Mux, Cast, SCast}
@@ -9,7 +9,7 @@ use Rattle.ae_word.specs.WordTable.{HasRange, arity_of, result_width_of, op_for}
 use Rattle.ae_seqtype.specs.SeqTree.{SeqTree, atom, in_size}
 use Rattle.ae_seq.specs.ProgramTree.{ProgramTree}
 use Rattle.ae_seq.specs.Formed.{is_word_line, within}
-use Rattle.ae_seq.specs.Typing.{type_at, word_type, one_word, as_word, ◌>>=◌}
+use Rattle.ae_seq.specs.Typing.{type_at, word_type, one_word, as_word}
 use Rattle.ae_seq.specs.Meaning.{result_kind}
 use Rattle.ae_eval.proofs.Items.{option-both}
 use Rattle.ae_eval.proofs.Wording.{one-line, two-line, choice-line}

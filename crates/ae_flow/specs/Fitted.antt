@@ -1,10 +1,9 @@
 -- Each operator of a program in space and time fits the layouts of its arguments and its own.
-use Rattle.std.specs.Prelude.{◌≡◌, ℕ, true, ◌+◌, ◌*◌, ◌<◌, ◌≤◌, ◌⊎◌, List, [], ◌∷◌, ◌++◌, length, map, take, Some, slice_get}
+use Rattle.std.specs.Prelude.{◌≡◌, ℕ, true, ◌*◌, ◌≤◌, ◌⊎◌, List, [], ◌∷◌, ◌++◌, map, take, Some, slice_get}
 use Rattle.ae_word.specs.declared.op.WordOp.{WordOp}
 use Rattle.ae_word.specs.AtomTree.{atom_kinds}
 use Rattle.ae_word.specs.WordTable.{HasRange, folds, result_width_of}
 use Rattle.ae_sttype.specs.StTree.{StTree, tseq, sseq, time, lanes, st_atoms, element_atom}
-use Rattle.ae_sttype.specs.Size.{IsInSize}
 use Rattle.ae_sttype.specs.Slots.{slots}
 use Rattle.ae_ops.specs.Blocks.{Stream, stream_of}
 use Rattle.ae_ops.specs.Words.{operand_widths, word_stream}

@@ -2,12 +2,14 @@
 
 ghost use Rattle.ae_flow.specs.Laws.{FlowsFit, SchedulesFit};
 
-/// A law: in the schedule of a typed program each operator fits its layouts.
+/// A law: in the schedule of a typed program, under a slowdown of at least one clock, each operator fits the layouts of
+/// its arguments and its own.
 pub fn schedules_fit()
     ensures { SchedulesFit }
 {}
 
-/// A law: words that fit an instance's parameters give each of its items words that fit its layout.
+/// A law: where the instances are sound and fit, words that fit the parameters of one give each of its items words that
+/// fit its layout.
 pub fn flows_fit()
     ensures { FlowsFit }
 {}
