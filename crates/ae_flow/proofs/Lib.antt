@@ -12,3 +12,12 @@ pub mod Folding
 pub mod Bodies
 pub mod Flowing
 pub mod Examples
+pub mod MeaningTables
+pub mod MeaningFolds
+pub mod MeaningLayouts
+pub mod MeaningMoves
+pub mod MeaningWords
+pub mod MeaningBodies
+pub mod MeaningOperators
+pub mod MeaningNodes
+pub mod MeaningProgram

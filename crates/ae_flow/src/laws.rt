@@ -1,6 +1,6 @@
 // Laws of flows.
 
-ghost use Rattle.ae_flow.specs.Laws.{FlowsFit, SchedulesFit};
+ghost use Rattle.ae_flow.specs.Laws.{FlowsFit, FlowsMean, SchedulesFit};
 
 /// A law: in the schedule of a typed program, under a slowdown of at least one clock, each operator fits the layouts of
 /// its arguments and its own.
@@ -12,4 +12,9 @@ pub fn schedules_fit()
 /// fit its layout.
 pub fn flows_fit()
     ensures { FlowsFit }
+{}
+
+/// A law: what the schedule of a typed program makes of the words of its arguments is the words of what the program means.
+pub fn flows_mean()
+    ensures { FlowsMean }
 {}
