@@ -2,3 +2,5 @@
 #![tactic(auto)]
 
 mod laws;
+
+pub use laws::{flows_fit, flows_mean, schedules_fit};
