@@ -22,3 +22,6 @@ pub mod FirstRun
 pub mod Pieces
 pub mod EvalTypes
 pub mod EvalSteps
+pub mod CostRows
+pub mod CsvRows
+pub mod Plans

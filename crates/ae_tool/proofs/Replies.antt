@@ -1,7 +1,6 @@
 -- What a job answers, and that an input is cut in one way alone.
-use Rattle.std.proofs.Common.{ℕ, ◌≡◌, ◌<◌, ◌≤◌, Bool, true, false, not, List, [], ◌∷◌, ◌++◌, length, take, drop, Option, Some, None, arith, refl, ap, sym, ◌∙◌, subst, nat_eq, if◌then◌else◌}
+use Rattle.std.proofs.Common.{ℕ, ◌≡◌, ◌<◌, ◌≤◌, Bool, true, false, not, List, [], ◌∷◌, ◌++◌, length, map, take, drop, Option, Some, None, arith, inl, inr, refl, ap, sym, ◌∙◌, subst, nat_eq, bytes_eq, codes, if◌then◌else◌}
 use Rattle.std.proofs.lemmas.Bool.{eqb-true}
-use Rattle.std.specs.Fmt.{decimal}
 use Rattle.ae_parse.proofs.Plain.{own}
 use Rattle.std.proofs.lemmas.Fmt.{digits_value-decimal}
 use Rattle.std.specs.Str.Parse.{digits_value}
@@ -14,13 +13,22 @@ use Rattle.ae_first.specs.FirstForm.{FirstForm}
 use Rattle.ae_tool.specs.declared.status.Status.{Status}
 use Rattle.ae_tool.specs.declared.status.Status.TheVariants.{Ok, Usage, BadLine, BadType, TooLarge, NoSchedule, BadWords, BadModule, LongRun, ReadFault, WriteFault, TooLong, Memory}
 use Rattle.ae_tool.specs.declared.command.Command.{Command}
-use Rattle.ae_tool.specs.declared.command.Command.TheVariants.{Check, Eval, Build, Run}
+use Rattle.ae_tool.specs.declared.command.Command.TheVariants.{Check, Eval, Plan, Cost, Build, Run}
 use Rattle.ae_tool.specs.Commands.{IsCommand}
 use Rattle.ae_tool.specs.Inputs.{IsCut, Marked, Unmarked}
 use Rattle.ae_tool.specs.RunTexts.{input_widths, run_size, run_limit}
 use Rattle.ae_seq.specs.Typing.{refused_line as refused_line_of}
-use Rattle.ae_parse.specs.Grammar.{IsProgramText as Reads, Reading, program, refused_line}
+use Rattle.ae_parse.specs.Grammar.{IsProgramText as Reads, program, refused_line}
 use Rattle.ae_tool.specs.Programs.{IsTyped, IsRefusal}
+use Rattle.ae_seq.specs.ProgramTree.{FuncTree}
+use Rattle.ae_rewrite.specs.StProgramTree.{StFuncTree}
+use Rattle.ae_rewrite.specs.Scheduled.{IsSchedule}
+use Rattle.ae_rewrite.specs.FailingLine.{failing_line}
+use Rattle.ae_delay.specs.Costs.{NodeTiming}
+use Rattle.ae_delay.specs.Weighing.{cost_of}
+use Rattle.ae_tool.specs.PlanTexts.{plan_text}
+use Rattle.ae_tool.specs.CostTables.{cost_table}
+use Rattle.ae_tool.specs.Schedules.{HasCosts, HasLargeLoad, IsAnswered, IsCostRefusal}
 use Rattle.ae_tool.specs.EvalTexts.{eval_size, IsEvalOf}
 use Rattle.ae_tool.specs.Outcomes.{IsBuilt, IsChecked, IsEvaluated, Refused, Ran, IsRunOf, IsRun, IsReply, IsDone, HasResult, IsAccepted}
 
@@ -119,9 +127,41 @@ evaluated_replies : (part : List ℕ) (table : List (List (List ℕ))) (status :
 evaluated_replies part table status text (Refused r e) = refusal_replies part status r
 evaluated_replies part table status text (Ran p t r) = eval_replies p table status text r
 
+cost_refusal_replies : (part : List ℕ) (slowdown : ℕ) (status : Status) → IsCostRefusal part slowdown status → is_reply status ≡ true
+cost_refusal_replies part slowdown Ok b = absurd b
+cost_refusal_replies part slowdown (NoSchedule line) b = refl
+cost_refusal_replies part slowdown (TooLarge line) b = refl
+cost_refusal_replies part slowdown Usage b = refusal_replies part Usage b
+cost_refusal_replies part slowdown (BadLine line) b = refusal_replies part (BadLine line) b
+cost_refusal_replies part slowdown (BadType line) b = refusal_replies part (BadType line) b
+cost_refusal_replies part slowdown (BadWords row column) b = refusal_replies part (BadWords row column) b
+cost_refusal_replies part slowdown (BadModule fault) b = refusal_replies part (BadModule fault) b
+cost_refusal_replies part slowdown (LongRun size) b = refusal_replies part (LongRun size) b
+cost_refusal_replies part slowdown ReadFault b = refusal_replies part ReadFault b
+cost_refusal_replies part slowdown WriteFault b = refusal_replies part WriteFault b
+cost_refusal_replies part slowdown TooLong b = refusal_replies part TooLong b
+cost_refusal_replies part slowdown Memory b = refusal_replies part Memory b
+
+answered_replies : (text_of : FuncTree → StFuncTree → List NodeTiming → List ℕ) (part : List ℕ) (slowdown : ℕ) (status : Status) (text : List ℕ) → IsAnswered text_of part slowdown status text → is_reply status ≡ true
+answered_replies text_of part slowdown Ok text b = refl
+answered_replies text_of part slowdown (NoSchedule line) text b = cost_refusal_replies part slowdown (NoSchedule line) b.0
+answered_replies text_of part slowdown (TooLarge line) text b = cost_refusal_replies part slowdown (TooLarge line) b.0
+answered_replies text_of part slowdown Usage text b = cost_refusal_replies part slowdown Usage b.0
+answered_replies text_of part slowdown (BadLine line) text b = cost_refusal_replies part slowdown (BadLine line) b.0
+answered_replies text_of part slowdown (BadType line) text b = cost_refusal_replies part slowdown (BadType line) b.0
+answered_replies text_of part slowdown (BadWords row column) text b = cost_refusal_replies part slowdown (BadWords row column) b.0
+answered_replies text_of part slowdown (BadModule fault) text b = cost_refusal_replies part slowdown (BadModule fault) b.0
+answered_replies text_of part slowdown (LongRun size) text b = cost_refusal_replies part slowdown (LongRun size) b.0
+answered_replies text_of part slowdown ReadFault text b = cost_refusal_replies part slowdown ReadFault b.0
+answered_replies text_of part slowdown WriteFault text b = cost_refusal_replies part slowdown WriteFault b.0
+answered_replies text_of part slowdown TooLong text b = cost_refusal_replies part slowdown TooLong b.0
+answered_replies text_of part slowdown Memory text b = cost_refusal_replies part slowdown Memory b.0
+
 reply_replies : (command : Command) (part : List ℕ) (table : List (List (List ℕ))) (status : Status) (text : List ℕ) → IsReply command part table status text → is_reply status ≡ true
 reply_replies Check part table status text b = checked_replies part status text b
 reply_replies Eval part table status text b = evaluated_replies part table status text b
+reply_replies (Plan slowdown) part table status text b = answered_replies (plan_text slowdown) part slowdown status text b
+reply_replies (Cost slowdown) part table status text b = answered_replies (λ f s ts. cost_table f.nodes (map cost_of ts)) part slowdown status text b
 reply_replies Build part table status text b = built_replies part status text b
 reply_replies (Run fill) part table status text b = run_replies fill part table status text b
 
@@ -130,33 +170,23 @@ done_replies command bytes status text d = reply_replies command d.part d.table 
 
 -- ---- one job for given words
 
-one_fill : (ws : List (List ℕ)) (m n : ℕ) → IsCommand ws (Run m) → IsCommand ws (Run n) → m ≡ n
-one_fill ws m n a b =
-    let e = sym a.0 ∙ b.0 in
-    let d : decimal m ≡ decimal n = cc in
-    sym (digits_value-decimal own m a.1) ∙ ap (digits_value 10) d ∙ digits_value-decimal own n b.1
+-- the job that words name, if they name one
+abbrev named_by : List (List ℕ) → Command
+named_by [] = Check
+named_by (w ∷ []) = if bytes_eq w (codes "check") then Check else Eval
+named_by (w ∷ a ∷ []) = if bytes_eq w (codes "plan") then Plan (digits_value 10 a) else if bytes_eq w (codes "cost") then Cost (digits_value 10 a) else Build
+named_by (w ∷ a ∷ b ∷ ws) = Run (digits_value 10 b)
 
--- words are equal in their number and their first word
-first_word : (a b : List ℕ) (us vs ws : List (List ℕ)) → ws ≡ a ∷ us → ws ≡ b ∷ vs → a ≡ b
-first_word a b us vs ws x y = let e : a ∷ us ≡ b ∷ vs = sym x ∙ y in cc
+named_is : (ws : List (List ℕ)) (c : Command) → IsCommand ws c → named_by ws ≡ c
+named_is ws Check h = ap named_by h.0
+named_is ws Eval h = ap named_by h.0
+named_is ws (Plan s) h = ap named_by h.0 ∙ ap (λ n. Plan n) (digits_value-decimal own s (omega (arith, h.1.1)))
+named_is ws (Cost s) h = ap named_by h.0 ∙ ap (λ n. Cost n) (digits_value-decimal own s (omega (arith, h.1.1)))
+named_is ws Build h = ap named_by h.0
+named_is ws (Run n) h = ap named_by h.0 ∙ ap (λ n. Run n) (digits_value-decimal own n h.1)
 
 pub same_command : (ws : List (List ℕ)) (a b : Command) → IsCommand ws a → IsCommand ws b → a ≡ b
-same_command ws Check Check x y = refl
-same_command ws Eval Eval x y = refl
-same_command ws Build Build x y = refl
-same_command ws (Run m) (Run n) x y = ap (λ k. Run k) (one_fill ws m n x y)
-same_command ws Check Eval x y = let e = first_word _ _ [] [] ws x y in cc
-same_command ws Eval Check x y = let e = first_word _ _ [] [] ws x y in cc
-same_command ws Check Build x y = let e = sym x ∙ y in cc
-same_command ws Build Check x y = let e = sym x ∙ y in cc
-same_command ws Check (Run n) x y = let e = sym x ∙ y.0 in cc
-same_command ws (Run n) Check x y = let e = sym x.0 ∙ y in cc
-same_command ws Eval Build x y = let e = sym x ∙ y in cc
-same_command ws Build Eval x y = let e = sym x ∙ y in cc
-same_command ws Eval (Run n) x y = let e = sym x ∙ y.0 in cc
-same_command ws (Run n) Eval x y = let e = sym x.0 ∙ y in cc
-same_command ws Build (Run n) x y = let e = sym x ∙ y.0 in cc
-same_command ws (Run m) Build x y = let e = sym x.0 ∙ y in cc
+same_command ws a b x y = sym (named_is ws a x) ∙ named_is ws b y
 
 -- ---- an input is cut in one way
 
@@ -352,9 +382,37 @@ evaluated_ok part table status text p t f (Ran q u r) =
     let g : EvalFits q table = subst (λ (x : ProgramTree). EvalFits x table) (one_program part p q t.reads u.reads) f in
     eval_of_ok q table status text g.right g.short r
 
+costs_within : {A : Type 0} (part : List ℕ) (slowdown line : ℕ) → HasCosts part slowdown → HasLargeLoad part slowdown line → A
+costs_within part slowdown line h l =
+    let P : ProgramTree → Type 0 = λ q. IsSchedule q slowdown l.instances in
+    let e : None ≡ Some _ = sym (h.within l.instances (subst P (one_program part l.program h.program l.typed.reads h.typed.reads) l.schedule)) ∙ l.large in
+    cc
+
+answered_ok : (text_of : FuncTree → StFuncTree → List NodeTiming → List ℕ) (part : List ℕ) (slowdown : ℕ) (status : Status) (text : List ℕ) → HasCosts part slowdown → IsAnswered text_of part slowdown status text → status ≡ Ok
+answered_ok text_of part slowdown Ok text h b = refl
+answered_ok text_of part slowdown (NoSchedule line) text h b =
+    let e : None ≡ Some line = sym h.fine ∙ ap (λ q. failing_line q slowdown) (one_program part h.program b.0.program h.typed.reads b.0.typed.reads) ∙ b.0.failing in
+    cc
+answered_ok text_of part slowdown (TooLarge line) text h b = elim b.0 [
+  | inl r ↦ never_refused part h.program (TooLarge line) h.typed r
+  | inr l ↦ costs_within part slowdown line h l
+]
+answered_ok text_of part slowdown Usage text h b = never_refused part h.program Usage h.typed b.0
+answered_ok text_of part slowdown (BadLine line) text h b = never_refused part h.program (BadLine line) h.typed b.0
+answered_ok text_of part slowdown (BadType line) text h b = never_refused part h.program (BadType line) h.typed b.0
+answered_ok text_of part slowdown (BadWords row column) text h b = never_refused part h.program (BadWords row column) h.typed b.0
+answered_ok text_of part slowdown (BadModule fault) text h b = never_refused part h.program (BadModule fault) h.typed b.0
+answered_ok text_of part slowdown (LongRun size) text h b = never_refused part h.program (LongRun size) h.typed b.0
+answered_ok text_of part slowdown ReadFault text h b = never_refused part h.program ReadFault h.typed b.0
+answered_ok text_of part slowdown WriteFault text h b = never_refused part h.program WriteFault h.typed b.0
+answered_ok text_of part slowdown TooLong text h b = never_refused part h.program TooLong h.typed b.0
+answered_ok text_of part slowdown Memory text h b = never_refused part h.program Memory h.typed b.0
+
 reply_ok : (command : Command) (part : List ℕ) (table : List (List (List ℕ))) (status : Status) (text : List ℕ) → HasResult command part table → IsReply command part table status text → status ≡ Ok
 reply_ok Check part table status text h b = checked_ok part status text h.0 h.1 b
 reply_ok Eval part table status text h b = evaluated_ok part table status text h.0 h.1 (record { right = h.2; short = h.3 }) b
+reply_ok (Plan slowdown) part table status text h b = answered_ok (plan_text slowdown) part slowdown status text h b
+reply_ok (Cost slowdown) part table status text h b = answered_ok (λ f s ts. cost_table f.nodes (map cost_of ts)) part slowdown status text h b
 reply_ok Build part table status text h b = built_ok part status text h.0 h.1 b
 reply_ok (Run fill) part table status text h b = run_ok fill part table status text h.0 h.1 (record { right = h.2; short = h.3 }) b
 

@@ -1,5 +1,5 @@
 -- The text of `check`: a line for each line of a program, with its number and the types that it gives.
-use Rattle.std.specs.Prelude.{◌≡◌, ℕ, ◌+◌, List, [], ◌∷◌, ◌++◌, length, flat_map, Option, Some, None, codes}
+use Rattle.std.specs.Prelude.{ℕ, ◌+◌, List, [], ◌∷◌, ◌++◌, length, flat_map, Option, Some, None, codes}
 use Rattle.std.specs.Fmt.{decimal}
 use Rattle.ae_seqtype.specs.SeqTree.{SeqTree}
 use Rattle.ae_seqtype.specs.TypeText.{type_text}

@@ -1,20 +1,44 @@
 -- The words that name a job.
-use Rattle.std.specs.Prelude.{◌≡◌, ℕ, ◌<◌, ◌^◌, List, [], ◌∷◌, map, codes, String, string_bytes}
+use Rattle.std.specs.Prelude.{◌≡◌, ℕ, ◌<◌, ◌≤◌, ◌^◌, List, [], ◌∷◌, map, codes, String, string_bytes}
 use Rattle.std.specs.Fmt.{decimal}
 use Rattle.std.specs.declared.alloc.Global.{Global}
 use Rattle.ae_tool.specs.declared.command.Command.{Command}
-use Rattle.ae_tool.specs.declared.command.Command.TheVariants.{Check, Eval, Build, Run}
+use Rattle.ae_tool.specs.declared.command.Command.TheVariants.{Check, Eval, Plan, Cost, Build, Run}
 
 -- the bytes of each word
 abbrev pub word_bytes : List (String Global) → List (List ℕ)
 word_bytes words = map string_bytes words
 
--- the words name this job; numbers are in decimal, without leading zeros
+-- the first word of a job, and those behind it: numbers in decimal, without leading zeros
+abbrev pub job_word : Command → List ℕ
+job_word Check = codes "check"
+job_word Eval = codes "eval"
+job_word (Plan slowdown) = codes "plan"
+job_word (Cost slowdown) = codes "cost"
+job_word Build = codes "build"
+job_word (Run fill) = codes "run"
+
+abbrev pub number_words : Command → List (List ℕ)
+number_words Check = []
+number_words Eval = []
+number_words (Plan slowdown) = decimal slowdown ∷ []
+number_words (Cost slowdown) = decimal slowdown ∷ []
+number_words Build = codes "1" ∷ []
+number_words (Run fill) = codes "1" ∷ decimal fill ∷ []
+
+-- a slowdown, and the numbers of a job, within their limits
+abbrev pub IsSlowdown : ℕ → Type 0
+IsSlowdown s = (1 ≤ s) × (s ≤ 4096)
+
+abbrev pub AreInRange : Command → Type 0
+AreInRange (Plan slowdown) = IsSlowdown slowdown
+AreInRange (Cost slowdown) = IsSlowdown slowdown
+AreInRange (Run fill) = fill < 2 ^ 64
+AreInRange _ = Unit {0}
+
+-- the words name this job
 abbrev pub IsCommand : (words : List (List ℕ)) → Command → Type 0
-IsCommand words Check = words ≡ codes "check" ∷ []
-IsCommand words Eval = words ≡ codes "eval" ∷ []
-IsCommand words Build = words ≡ codes "build" ∷ codes "1" ∷ []
-IsCommand words (Run fill) = (words ≡ codes "run" ∷ codes "1" ∷ decimal fill ∷ []) × (fill < 2 ^ 64)
+IsCommand words command = (words ≡ job_word command ∷ number_words command) × AreInRange command
 
 -- the words name no job
 abbrev pub NamesNone : (words : List (List ℕ)) → Type 0

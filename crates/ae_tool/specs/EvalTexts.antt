@@ -2,7 +2,7 @@
 use Rattle.std.specs.Prelude.{◌≡◌, ℕ, ◌+◌, ◌*◌, ◌<◌, ◌≤◌, List, [], ◌∷◌, ◌++◌, length, flat_map, Option, Some, None, sum_by}
 use Rattle.std.specs.Fmt.{decimal}
 use Rattle.ae_seqtype.specs.SeqTree.{SeqTree, words}
-use Rattle.ae_seqtype.specs.ValueTree.{ValueTree, flat}
+use Rattle.ae_seqtype.specs.ValueTree.{flat}
 use Rattle.ae_seq.specs.ProgramTree.{ProgramTree}
 use Rattle.ae_seq.specs.Meaning.{mean}
 use Rattle.ae_parse.specs.Rows.{bad_row, row_words}

@@ -3,6 +3,7 @@ pub mod CheckTexts
 pub mod ClockLines
 pub mod Commands
 pub mod Correct
+pub mod CostTables
 pub mod EvalRows
 pub mod EvalTexts
 pub mod FirstPath
@@ -11,7 +12,9 @@ pub mod Inputs
 pub mod ModuleTexts
 pub mod Numbers
 pub mod Outcomes
+pub mod PlanTexts
 pub mod Playing
 pub mod Programs
 pub mod Refusals
 pub mod RunTexts
+pub mod Schedules

@@ -9,13 +9,14 @@ use Rattle.ae_tool.specs.declared.status.Status.{Status}
 use Rattle.ae_tool.specs.declared.status.Status.TheVariants.{Ok, Usage, BadLine, BadWords, LongRun, ReadFault, WriteFault, TooLong, Memory}
 use Rattle.ae_parse.specs.Rows.{bad_row}
 use Rattle.ae_tool.specs.declared.command.Command.{Command}
-use Rattle.ae_tool.specs.declared.command.Command.TheVariants.{Check, Eval, Build, Run}
+use Rattle.ae_tool.specs.declared.command.Command.TheVariants.{Check, Eval, Plan, Cost, Build, Run}
 use Rattle.ae_tool.specs.Commands.{IsCommand, NamesNone}
 use Rattle.ae_tool.specs.Inputs.{IsCut}
 use Rattle.ae_tool.specs.Refusals.{refusal_line}
 use Rattle.ae_tool.specs.ModuleTexts.{IsProgramText}
 use Rattle.ae_tool.specs.Programs.{IsTyped, IsRefusal, main_line}
 use Rattle.ae_tool.specs.CheckTexts.{check_text}
+use Rattle.ae_tool.specs.Schedules.{IsPlanned, IsTabled, HasCosts}
 use Rattle.ae_tool.specs.EvalTexts.{eval_size, IsEvalOf}
 use Rattle.ae_tool.specs.RunTexts.{input_widths, run_size, run_limit, IsRunText}
 
@@ -69,6 +70,8 @@ pub data IsEvaluated (part : List ℕ) (table : List (List (List ℕ))) (status 
 abbrev pub IsReply : Command → (part : List ℕ) (table : List (List (List ℕ))) → Status → (text : List ℕ) → Type 0
 IsReply Check part table status text = IsChecked part status text
 IsReply Eval part table status text = IsEvaluated part table status text
+IsReply (Plan slowdown) part table status text = IsPlanned part slowdown status text
+IsReply (Cost slowdown) part table status text = IsTabled part slowdown status text
 IsReply Build part table status text = IsBuilt part status text
 IsReply (Run fill) part table status text = IsRun fill part table status text
 
@@ -121,6 +124,8 @@ RefusesWords status old_faults new_faults old_wants new_wants =
 abbrev pub HasResult : Command → (part : List ℕ) (table : List (List (List ℕ))) → Type 0
 HasResult Check part table = (p : ProgramTree) × IsTyped part p
 HasResult Eval part table = (p : ProgramTree) × IsTyped part p × (bad_row 1 (input_widths p) table ≡ None) × (eval_size p table ≤ run_limit)
+HasResult (Plan slowdown) part table = HasCosts part slowdown
+HasResult (Cost slowdown) part table = HasCosts part slowdown
 HasResult Build part table = (p : ProgramTree) × FirstForm part p
 HasResult (Run fill) part table = (p : ProgramTree) × FirstForm part p × (bad_row 1 (input_widths p) table ≡ None) × (run_size p table ≤ run_limit)
 

@@ -1,8 +1,8 @@
 // The words that name a job.
 
-ghost use Rattle.std.specs.Prelude.{◌≡◌, ◌↔◌, ◌∷◌, [], ℕ, ◌<◌, ◌^◌, codes, IsTrue, MatchOption};
+ghost use Rattle.std.specs.Prelude.{◌≡◌, ◌∷◌, [], ℕ, ◌<◌, ◌≤◌, ◌^◌, codes, MatchOption};
 ghost use Rattle.std.specs.Fmt.{decimal};
-ghost use Rattle.ae_tool.specs.Commands.{word_bytes, IsCommand, NamesNone};
+ghost use Rattle.ae_tool.specs.Commands.{word_bytes, IsCommand, IsSlowdown, NamesNone};
 
 use ae_parse::number;
 
@@ -13,6 +13,10 @@ pub enum Command {
     Check,
     /// `eval`: the program's results on each row.
     Eval,
+    /// `plan S`: what the program's circuit costs, and when and how its items arrive.
+    Plan { slowdown: u32 },
+    /// `cost S`: what each node line costs, as a table.
+    Cost { slowdown: u32 },
     /// `build 1`: the text of the program's module.
     Build,
     /// `run 1 FILL`: that text, and the lines of the module's run on the rows.
@@ -25,7 +29,7 @@ pub fn command_named(words: &[String]) -> Option<Command>
 {
     match words {
         [job] => one_word(job.as_str()),
-        [job, slowdown] => build(job.as_str(), slowdown.as_str()),
+        [job, slowdown] => two_words(job.as_str(), slowdown.as_str()),
         [job, slowdown, fill] => run(job.as_str(), slowdown.as_str(), fill.as_str()),
         _ => None,
     }
@@ -43,13 +47,61 @@ fn one_word(job: &str) -> Option<Command>
     }
 }
 
-fn build(job: &str, slowdown: &str) -> Option<Command>
+fn two_words(job: &str, slowdown: &str) -> Option<Command>
     ensures { MatchOption result (NamesNone (job.now ∷ slowdown.now ∷ [])) (λ c. IsCommand (job.now ∷ slowdown.now ∷ []) c) }
 {
-    if job == "build" && slowdown == "1" {
+    if job == "build" {
+        build(slowdown)
+    } else if job == "plan" {
+        plan(slowdown)
+    } else if job == "cost" {
+        cost(slowdown)
+    } else {
+        None
+    }
+}
+
+fn build(slowdown: &str) -> Option<Command>
+    ensures { MatchOption result (NamesNone (codes "build" ∷ slowdown.now ∷ [])) (λ c. IsCommand (codes "build" ∷ slowdown.now ∷ []) c) }
+{
+    if slowdown == "1" {
         Some(Command::Build)
     } else {
         None
+    }
+}
+
+fn plan(slowdown: &str) -> Option<Command>
+    ensures { MatchOption result (NamesNone (codes "plan" ∷ slowdown.now ∷ [])) (λ c. IsCommand (codes "plan" ∷ slowdown.now ∷ []) c) }
+{
+    match slowdown_of(slowdown) {
+        Some(slowdown) => Some(Command::Plan { slowdown }),
+        None => None,
+    }
+}
+
+fn cost(slowdown: &str) -> Option<Command>
+    ensures { MatchOption result (NamesNone (codes "cost" ∷ slowdown.now ∷ [])) (λ c. IsCommand (codes "cost" ∷ slowdown.now ∷ []) c) }
+{
+    match slowdown_of(slowdown) {
+        Some(slowdown) => Some(Command::Cost { slowdown }),
+        None => None,
+    }
+}
+
+// The slowdown that the digits write without leading zeros.
+fn slowdown_of(digits: &str) -> Option<u32>
+    ensures { MatchOption result ((s : ℕ) → IsSlowdown s → digits.now ≡ decimal s → ⊥) (λ s. (digits.now ≡ decimal s) × IsSlowdown s) }
+{
+    match plain_number(digits.as_bytes()) {
+        Some(n) => {
+            if 1 <= n && n <= 4096 {
+                Some(n as u32)
+            } else {
+                None
+            }
+        }
+        None => None,
     }
 }
 

@@ -8,9 +8,14 @@ mod check_tests;
 mod check_text;
 mod clocks;
 mod command;
+mod cost_table;
 mod evaluate;
 mod first_path;
 mod lower_first;
+mod plan;
+#[cfg(test)]
+mod plan_tests;
+mod plan_text;
 mod refusal;
 mod reply;
 mod run;

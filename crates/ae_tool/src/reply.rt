@@ -2,6 +2,7 @@
 
 ghost use Rattle.std.specs.Prelude.{◌≡◌, ◌<◌, ◌≤◌, ◌^◌, IfOk, length, string_bytes};
 ghost use Rattle.ae_parse.specs.Rows.{rows};
+ghost use Rattle.ae_tool.specs.Commands.{AreInRange};
 ghost use Rattle.ae_tool.specs.Inputs.{IsCut};
 ghost use Rattle.ae_tool.specs.Refusals.{refusal_line};
 ghost use Rattle.ae_tool.specs.Outcomes.{IsChecked, IsEvaluated, IsReply, IsDone};
@@ -10,6 +11,7 @@ use crate::build::build;
 use crate::check_text::check_text;
 use crate::command::Command;
 use crate::evaluate::evaluate;
+use crate::plan::{cost, plan};
 use crate::refusal::refusal_line;
 use crate::run::run;
 use crate::status::Status;
@@ -90,6 +92,7 @@ fn answer_parts(
     part: &[u8],
     rest: &[u8],
 ) -> Result<Reply, OutOfMemory>
+    requires range { AreInRange command }
     requires part { length part.now < 4294967295 }
     requires rest { length rest.now < 2 ^ 32 }
     ensures { IfOk result (λ reply. IsReply command part.now (rows rest.now) reply.status (string_bytes reply.text)) }
@@ -97,6 +100,8 @@ fn answer_parts(
     match command {
         Command::Check => check(alloc, part),
         Command::Eval => eval(alloc, part, rest),
+        Command::Plan { slowdown } => plan(alloc, part, slowdown),
+        Command::Cost { slowdown } => cost(alloc, part, slowdown),
         Command::Build => build(alloc, part),
         Command::Run { fill } => run(alloc, part, rest, fill),
     }
@@ -104,7 +109,8 @@ fn answer_parts(
 
 /// What the job answers to an input within the limit; without memory there is no reply.
 pub fn answer(alloc: Global, command: Command, bytes: &[u8]) -> Result<Reply, OutOfMemory>
-    requires { length bytes.now < 4294967295 }
+    requires range { AreInRange command }
+    requires few { length bytes.now < 4294967295 }
     ensures { IfOk result (λ reply. IsDone command bytes.now reply.status (string_bytes reply.text)) }
 {
     let (part, rest) = cut(bytes);

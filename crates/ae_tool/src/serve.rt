@@ -2,7 +2,7 @@
 
 ghost use Rattle.std.specs.Prelude.{◌≡◌, List, ℕ};
 ghost use Rattle.ae_tool.specs.Answers.{Puts, Answers, SourceView, SinkView};
-ghost use Rattle.ae_tool.specs.Commands.{word_bytes, IsCommand};
+ghost use Rattle.ae_tool.specs.Commands.{word_bytes, AreInRange, IsCommand};
 
 use crate::command::{Command, command_named};
 use crate::reply::answer;
@@ -31,6 +31,7 @@ fn read_and_reply<S: Source, K: Sink>(
     source: &mut S,
     sink: &mut K,
 ) -> Status
+    requires { AreInRange command }
     ensures { (ws : List (List ℕ)) → IsCommand ws command → Answers ws result (record { left = S.left source.old; faults = S.faults source.old }) (record { left = S.left source.new; faults = S.faults source.new }) (record { written = K.written sink.old; faults = K.faults sink.old; wants = K.wants sink.old; ends = K.ends sink.old }) (record { written = K.written sink.new; faults = K.faults sink.new; wants = K.wants sink.new; ends = K.ends sink.new }) }
 {
     match load(alloc, source, INPUT_LIMIT) {

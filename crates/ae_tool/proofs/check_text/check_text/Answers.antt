@@ -1,4 +1,4 @@
-use Rattle.std.proofs.Common.{◌≡◌, ◌+◌, ◌<◌, ◌≤◌, ℕ, List, length, map, Some, slice_get, ap, sym, ◌∙◌, arith, Fits, w32}
+use Rattle.std.proofs.Common.{◌≡◌, ◌≤◌, length, map, Some, slice_get, ap, sym, ◌∙◌, arith}
 use Rattle.ae_seq.specs.ProgramTree.{FuncTree, param_tree, node_tree, func_tree, program_tree}
 use Rattle.ae_rewrite.proofs.Forms.{formed-of, few-nodes, few-funcs}
 use Rattle.ae_tool.proofs.Pieces.{at_index, length_mapped}

@@ -1,0 +1,45 @@
+-- The table of `cost`: for each node line of the program function what it costs, as comma-separated values (RFC 4180).
+use Rattle.std.specs.Prelude.{◌≡◌, ℕ, true, List, [], ◌∷◌, ◌++◌, codes, slice_index_or}
+use Rattle.std.specs.Fmt.{decimal}
+use Rattle.ae_seq.specs.ProgramTree.{NodeTree, OpTree}
+use Rattle.ae_seq.specs.Formed.{all_name_bytes}
+use Rattle.ae_parse.specs.Printed.{op_fields}
+use Rattle.ae_delay.specs.declared.weighing.Cost.{Cost}
+
+-- the word of an operator line
+abbrev pub op_word : OpTree → List ℕ
+op_word op = slice_index_or (op_fields [] op) 0 []
+
+-- fields with commas between them, and LF behind the last
+abbrev pub more_fields : List (List ℕ) → List ℕ
+more_fields [] = 10 ∷ []
+more_fields (f ∷ fs) = 44 ∷ (f ++ more_fields fs)
+
+abbrev pub comma_line : List (List ℕ) → List ℕ
+comma_line [] = []
+comma_line (f ∷ fs) = f ++ more_fields fs
+
+-- fields of letters, digits and `_` alone
+abbrev pub ArePlain : List (List ℕ) → Type 0
+ArePlain [] = Unit {0}
+ArePlain (f ∷ fs) = (all_name_bytes f ≡ true) × ArePlain fs
+
+-- the names of nodes are such fields
+abbrev pub AllNamed : List NodeTree → Type 0
+AllNamed [] = Unit {0}
+AllNamed (n ∷ ns) = (all_name_bytes n.name ≡ true) × AllNamed ns
+
+abbrev pub table_head : List ℕ
+table_head = codes "line,name,op,latency,load,muls\n"
+
+abbrev pub cost_row : NodeTree → Cost → List ℕ
+cost_row n c = comma_line (decimal n.line ∷ n.name ∷ op_word n.op ∷ decimal c.latency ∷ decimal c.load ∷ decimal c.muls ∷ [])
+
+-- one record for each node
+abbrev pub cost_rows : List NodeTree → List Cost → List ℕ
+cost_rows [] cs = []
+cost_rows (n ∷ ns) [] = []
+cost_rows (n ∷ ns) (c ∷ cs) = cost_row n c ++ cost_rows ns cs
+
+abbrev pub cost_table : List NodeTree → List Cost → List ℕ
+cost_table ns cs = table_head ++ cost_rows ns cs

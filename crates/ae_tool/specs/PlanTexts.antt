@@ -1,0 +1,58 @@
+-- The text of `plan`: what a schedule costs, and when and how each item of the program function arrives.
+use Rattle.std.specs.Prelude.{◌≡◌, ℕ, ◌+◌, ◌-◌, ◌<◌, List, [], ◌∷◌, ◌++◌, length, take, flat_map, Some, slice_get, slice_index, codes}
+use Rattle.std.specs.Fmt.{decimal}
+use Rattle.ae_seq.specs.ProgramTree.{ParamTree, NodeTree, FuncTree, ProgramTree}
+use Rattle.ae_sttype.specs.StTree.{StTree}
+use Rattle.ae_sttype.specs.TypeText.{st_text}
+use Rattle.ae_rewrite.specs.StProgramTree.{StFuncTree}
+use Rattle.ae_rewrite.specs.Sound.{item_layout, item_layouts}
+use Rattle.ae_delay.specs.declared.own.OwnCosts.{OwnCosts}
+use Rattle.ae_delay.specs.Costs.{NodeTiming, arrivals_of, node_timings, func_costs_by, all_costs}
+use Rattle.ae_tool.specs.Correct.{main_of}
+
+-- the instance of the program function, and the timings of its nodes
+pub record IsMainInstance (p : ProgramTree) (instances : List StFuncTree) (f : FuncTree) (s : StFuncTree) (ts : List NodeTiming) : Type 0 where
+  pub func : slice_get p.funcs (main_of p) ≡ Some f
+  pub last : slice_get instances (length instances - 1) ≡ Some s
+  pub timings : ts ≡ node_timings (all_costs (take (length instances - 1) instances)) s
+
+-- the instance has a layout for each item of the function, and its results are items
+pub record IsInstanceOf (f : FuncTree) (s : StFuncTree) : Type 0 where
+  pub items : length (item_layouts s) ≡ length f.params + length f.nodes
+  pub few : length f.params + length f.nodes < 4294967296
+  pub results : (i r : ℕ) → slice_get f.results i ≡ Some r → r < length (item_layouts s)
+
+-- `WORDS NUMBER`
+abbrev pub number_line : (words : List ℕ) (number : ℕ) → List ℕ
+number_line words n = ((words ++ 32 ∷ []) ++ decimal n) ++ 10 ∷ []
+
+-- `LINE NAME ARRIVAL LAYOUT`
+abbrev pub item_line : (line : ℕ) (name : List ℕ) (arrival : ℕ) (layout : StTree) → List ℕ
+item_line l n a s = ((((((decimal l ++ 32 ∷ []) ++ n) ++ 32 ∷ []) ++ decimal a) ++ 32 ∷ []) ++ st_text s) ++ 10 ∷ []
+
+-- the lines of parameters, the first of which is item i, and of nodes
+abbrev pub param_item_lines : (line : ℕ) (arrivals : List ℕ) (layouts : List StTree) (i : ℕ) → List ParamTree → List ℕ
+param_item_lines line as_all layouts i [] = []
+param_item_lines line as_all layouts i (q ∷ qs) = item_line line q.name (slice_index as_all i) (item_layout layouts i) ++ param_item_lines line as_all layouts (i + 1) qs
+
+abbrev pub node_item_lines : (arrivals : List ℕ) (layouts : List StTree) (i : ℕ) → List NodeTree → List ℕ
+node_item_lines as_all layouts i [] = []
+node_item_lines as_all layouts i (n ∷ ns) = item_line n.line n.name (slice_index as_all i) (item_layout layouts i) ++ node_item_lines as_all layouts (i + 1) ns
+
+abbrev pub result_line : (line : ℕ) (arrivals : List ℕ) (layouts : List StTree) (item : ℕ) → List ℕ
+result_line line as_all layouts r = item_line line (codes "end") (slice_index as_all r) (item_layout layouts r)
+
+abbrev pub cost_lines : (slowdown : ℕ) → OwnCosts → List ℕ
+cost_lines slowdown c = ((number_line (codes "slowdown") slowdown ++ number_line (codes "latency") c.latency) ++ number_line (codes "muls") c.muls) ++ number_line (codes "load") c.load
+
+abbrev pub item_lines : FuncTree → (arrivals : List ℕ) (layouts : List StTree) → List ℕ
+item_lines f as_all layouts =
+    (param_item_lines f.line as_all layouts 0 f.params ++ node_item_lines as_all layouts (length f.params) f.nodes) ++ flat_map (result_line f.end_line as_all layouts) f.results
+
+-- what `plan` writes of a function with these costs and arrivals
+abbrev pub planned_text : (slowdown : ℕ) → OwnCosts → FuncTree → (arrivals : List ℕ) (layouts : List StTree) → List ℕ
+planned_text slowdown c f as_all layouts = cost_lines slowdown c ++ item_lines f as_all layouts
+
+-- the costs, and then the items and the results of the program function
+abbrev pub plan_text : (slowdown : ℕ) → FuncTree → StFuncTree → List NodeTiming → List ℕ
+plan_text slowdown f s ts = planned_text slowdown (func_costs_by s ts) f (arrivals_of s.ins ts) (item_layouts s)
