@@ -67,7 +67,7 @@ fn op_name(op: &Op) -> &'static str
     }
 }
 
-// The text of a record.
+// The text of a record; into a vector writing fails only for want of memory.
 fn record_text(alloc: Global, row: &ByteRecord) -> Result<Vec<u8>, Error>
     ensures { IfOk result (λ v. v.items ≡ row_text default_writer (fields_of row.now)) }
 {
