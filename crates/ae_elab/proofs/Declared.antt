@@ -8,6 +8,7 @@ use Rattle.ae_vread.specs.declared.module.NetKind.TheVariants.{Input, Wire, OutW
 use Rattle.ae_vread.specs.ModuleTree.{ExprTree, StmtTree, set, put, when, either, block_end, block_more, NetTree, DriveTree, ItemTree, nets, assigns, always, ModuleTree}
 use Rattle.ae_elab.specs.Names.{Among, is_input_kind, is_wire_kind, is_register_kind, is_memory_kind, net_named, passes, is_wire, is_register, is_memory, is_clock, names_in, stmt_reads, stmt_targets, target_of, drive_reads, drives_of, item_reads, item_targets, equations}
 use Rattle.ae_elab.specs.Faults.{ItemAt, NetAt, IsDeclaredBefore, may_repeat, is_misused, is_misused_in_stmt, is_misused_in_drive, is_misused_in_item, IsWellFormed}
+use Rattle.ae_elab.specs.Regular.{IsRegular}
 use Rattle.ae_elab.specs.PlainRun.{drive_named}
 use Rattle.ae_elab.proofs.Members.{same_bytes, bytes_same, among_split, among_at, among_from, among_map, among_unmap, among_flat, among_unflat, among_or_not, some_or_not, find_some, find_none, find_only, none_passes}
 
@@ -27,13 +28,13 @@ pub record IsReadableStmt (m : ModuleTree) (s : StmtTree) : Type 0 where
   pub known : (n : List ℕ) → Among n (stmt_reads s) → IsData m n
   pub right : is_misused_in_stmt m.nets s ≡ false
 
-not_true : (b : Bool) → (b ≡ true → ⊥) → b ≡ false
+pub not_true : (b : Bool) → (b ≡ true → ⊥) → b ≡ false
 not_true b h = elim (cases_Bool b) [ inl e ↦ absurd (h e) | inr e ↦ e ]
 
-not_false : (b : Bool) → not b ≡ false → b ≡ true
+pub not_false : (b : Bool) → not b ≡ false → b ≡ true
 not_false b h = elim b as (λ b. not b ≡ false → b ≡ true) [ true ↦ λ e. refl | false ↦ λ e. cc ] h
 
-ordered : (p q : ℕ) → (p < q) ⊎ ((p ≡ q) ⊎ (q < p))
+pub ordered : (p q : ℕ) → (p < q) ⊎ ((p ≡ q) ⊎ (q < p))
 ordered zero zero = inr (inl refl)
 ordered zero (suc q) = inl (omega arith)
 ordered (suc p) zero = inr (inr (omega arith))
@@ -51,7 +52,7 @@ passes_some : (test : NetTree → Bool) (o : Option NetTree) → passes test o �
 passes_some test None h = absurd (cc)
 passes_some test (Some x) h = (x, refl, h)
 
-taken_at : {X : Type 0} (xs : List X) (j k : ℕ) (x : X) → slice_get (take j xs) k ≡ Some x → slice_get xs k ≡ Some x
+pub taken_at : {X : Type 0} (xs : List X) (j k : ℕ) (x : X) → slice_get (take j xs) k ≡ Some x → slice_get xs k ≡ Some x
 taken_at [] zero k x h = h
 taken_at [] (suc j) k x h = h
 taken_at (y ∷ xs) zero k x h = absurd (let e : None ≡ Some x = h in cc)
@@ -79,7 +80,7 @@ wire_no_memory Reg w r = cc
 wire_no_memory OutReg w r = cc
 wire_no_memory (Memory depth) w r = cc
 
-wire_no_input : (k : NetKind) → is_wire_kind k ≡ true → is_input_kind k ≡ false
+pub wire_no_input : (k : NetKind) → is_wire_kind k ≡ true → is_input_kind k ≡ false
 wire_no_input Input w = cc
 wire_no_input Wire w = refl
 wire_no_input OutWire w = refl
@@ -91,7 +92,11 @@ pub named_or_not : {X : Type 0} (o : Option X) → ((x : X) × (o ≡ Some x)) �
 named_or_not None = inr refl
 named_or_not (Some x) = inl (x, refl)
 
-module _ (m : ModuleTree) (ok : IsWellFormed m) where
+-- a well-formed module is regular
+pub regular : {m : ModuleTree} → IsWellFormed m → IsRegular m
+regular ok = record { known = ok.known; once = ok.once; kinds = ok.kinds; driven = ok.driven; widths = ok.widths }
+
+module _ (m : ModuleTree) (ok : IsRegular m) where
   -- a name is declared once
   net_once : (p q : ℕ) (x y : NetTree) → NetAt m p x → NetAt m q y → x.name ≡ y.name → x ≡ y
   net_once p q x y hx hy e = elim (ordered p q) [
@@ -126,28 +131,28 @@ module _ (m : ModuleTree) (ok : IsWellFormed m) where
         | inr never ↦ inr (λ h. never (h.0, h.1, (h.2, h.3)))
       ]
 
-  item_at : (j : ℕ) (i : ItemTree) → slice_get m.items j ≡ Some i → ItemAt m (j + 1) i
+  pub item_at : (j : ℕ) (i : ItemTree) → slice_get m.items j ≡ Some i → ItemAt m (j + 1) i
   item_at j i h = (j, refl, h)
 
   -- an item that misuses nothing
-  right_item : (j : ℕ) (i : ItemTree) → slice_get m.items j ≡ Some i → is_misused_in_item m i ≡ false
+  pub right_item : (j : ℕ) (i : ItemTree) → slice_get m.items j ≡ Some i → is_misused_in_item m i ≡ false
   right_item j i h = not_true _ (λ e. ok.kinds (j + 1) (i, item_at j i h, inl e))
 
   -- reads no clock
   no_clock_read : (j : ℕ) (i : ItemTree) (n : List ℕ) → slice_get m.items j ≡ Some i → Among n (item_reads i) → is_clock m n ≡ false
   no_clock_read j i n h a = not_true _ (λ e. ok.kinds (j + 1) (i, item_at j i h, inr (n, a, e)))
 
-  right_drive : (i : ItemTree) (d : DriveTree) → is_misused_in_item m i ≡ false → Among d (drives_of i) → is_misused_in_drive m.nets d ≡ false
+  pub right_drive : (i : ItemTree) (d : DriveTree) → is_misused_in_item m i ≡ false → Among d (drives_of i) → is_misused_in_drive m.nets d ≡ false
   right_drive (nets drives) d h a = none_passes (is_misused_in_drive m.nets) drives d h a
   right_drive (assigns drives) d h a = none_passes (is_misused_in_drive m.nets) drives d h a
   right_drive (always clock body) d h a = absurd a
 
   -- an equation's target is a wire
-  drive_at : (d : DriveTree) → Among d (equations m) → (j : ℕ) × (i : ItemTree) × (slice_get m.items j ≡ Some i) × Among d (drives_of i)
+  pub drive_at : (d : DriveTree) → Among d (equations m) → (j : ℕ) × (i : ItemTree) × (slice_get m.items j ≡ Some i) × Among d (drives_of i)
   unfolding equations
   drive_at d a = among_unflat drives_of d m.items a
 
-  equation_from : (j : ℕ) (i : ItemTree) (d : DriveTree) → slice_get m.items j ≡ Some i → Among d (drives_of i) → Among d (equations m)
+  pub equation_from : (j : ℕ) (i : ItemTree) (d : DriveTree) → slice_get m.items j ≡ Some i → Among d (drives_of i) → Among d (equations m)
   unfolding equations
   equation_from j i d h a = among_flat drives_of d m.items j i h a
 
@@ -300,7 +305,7 @@ module _ (m : ModuleTree) (ok : IsWellFormed m) where
   target_drive j (always clock body) x h a t w = absurd (target_kind body x a (body_readable j clock body h).right t w)
 
   -- each wire is driven
-  wire_driven : (x : NetTree) → Among x m.nets → is_wire_kind x.kind ≡ true → (d : DriveTree) × Among d (equations m) × (d.name ≡ x.name)
+  pub wire_driven : (x : NetTree) → Among x m.nets → is_wire_kind x.kind ≡ true → (d : DriveTree) × Among d (equations m) × (d.name ≡ x.name)
   wire_driven x a w = elim (among_or_not x.name (flat_map item_targets m.items)) [
     | inl t ↦
         let r = among_unflat item_targets x.name m.items t in

@@ -16,7 +16,7 @@ use Rattle.ae_elab.specs.Runs.{clock_at, Holds, IsShaped, IsSettled, after_items
 use Rattle.ae_elab.specs.Faults.{IsWellFormed}
 use Rattle.ae_elab.specs.PlainRun.{drive_named, driven_word, recomputed, recomputed_often, settled, fed, plain_clock, clocks_from, plain_run}
 use Rattle.ae_elab.proofs.Members.{same_bytes}
-use Rattle.ae_elab.proofs.Declared.{named_or_not, net_found, found_drive, drive_of_name, free_kind, other_free, equation_readable}
+use Rattle.ae_elab.proofs.Declared.{regular, named_or_not, net_found, found_drive, drive_of_name, free_kind, other_free, equation_readable}
 use Rattle.ae_elab.proofs.Needs.{by_needs}
 use Rattle.ae_elab.proofs.Same.{assigned_same}
 
@@ -136,26 +136,26 @@ module _ (m : ModuleTree) (ok : IsWellFormed m) where
       by_needs m ok (λ k n. (recomputed_often m c k).word n ≡ (recomputed_often m c (suc k)).word n)
       (λ k n none. sym (recomputed_free m (recomputed_often m c k) n none))
       (λ k d a found reads.
-      let r = equation_readable m ok d a in
+      let r = equation_readable m (regular ok) d a in
       let same : assigned m.nets (recomputed_often m c k) d.name d.value ≡ assigned m.nets (recomputed_often m c (suc k)) d.name d.value =
       assigned_same m.nets (recomputed_often m c k) (recomputed_often m c (suc k)) d.name d.value (λ n i. record { word = λ f. reads n i; store = λ t. sym (recomputed_store m (recomputed_often m c k) n) }) r.right in
       recomputed_driven m (recomputed_often m c k) d.name d found ∙ same ∙ sym (recomputed_driven m (recomputed_often m c (suc k)) d.name d found))
 
   settled_is : (c : ModuleClock) → IsSettled m (settled m c)
-  settled_is c = record { wires = λ d a. stays c d.name ∙ recomputed_driven m (settled m c) d.name d (found_drive m ok d a) }
+  settled_is c = record { wires = λ d a. stays c d.name ∙ recomputed_driven m (settled m c) d.name d (found_drive m (regular ok) d a) }
 
   -- a name without an equation, and a memory, keep their words
   free_word : (c : ModuleClock) (x : NetTree) → Among x m.nets → is_wire_kind x.kind ≡ false → (settled m c).word x.name ≡ c.word x.name
-  free_word c x a f = often_free m c (length (equations m)) x.name (other_free m ok x a f)
+  free_word c x a f = often_free m c (length (equations m)) x.name (other_free m (regular ok) x a f)
 
   kept_store : (c : ModuleClock) (n : List ℕ) → (settled m c).store n ≡ c.store n
   kept_store c n = often_store m c (length (equations m)) n
 
   width_is : (x : NetTree) → Among x m.nets → width_of m.nets x.name ≡ x.width
-  width_is x a = ap width_in (net_found m ok x a)
+  width_is x a = ap width_in (net_found m (regular ok) x a)
 
   input_is : (x : NetTree) (b : Bool) → Among x m.nets → is_input_kind x.kind ≡ b → is_input m.nets x.name ≡ b
-  input_is x b a h = ap (passes (λ (y : NetTree). is_input_kind y.kind)) (net_found m ok x a) ∙ h
+  input_is x b a h = ap (passes (λ (y : NetTree). is_input_kind y.kind)) (net_found m (regular ok) x a) ∙ h
 
   -- a clock is shaped where its names without equations are
   shaped_settled : (c : ModuleClock) → ((x : NetTree) → Among x m.nets → is_clock m x.name ≡ false → is_wire_kind x.kind ≡ false → Holds x.kind x.width (c.word x.name) (c.store x.name)) → IsShaped m (settled m c)
@@ -164,10 +164,10 @@ module _ (m : ModuleTree) (ok : IsWellFormed m) where
       | inl w ↦ elim (named_or_not (drive_named (equations m) x.name)) [
         | inl d ↦
             let word : (settled m c).word x.name ≡ assigned m.nets (settled m c) d.0.name d.0.value = stays c x.name ∙ recomputed_driven m (settled m c) x.name d.0 d.1 in
-            let r = drive_of_name m ok x.name d.0 d.1 in
+            let r = drive_of_name m (regular ok) x.name d.0 d.1 in
             let fits : assigned m.nets (settled m c) d.0.name d.0.value < 2 ^ x.width = subst (λ v. assigned m.nets (settled m c) d.0.name d.0.value < 2 ^ v) (ap (width_of m.nets) r.1 ∙ width_is x a) (assigned_fits m.nets (settled m c) d.0.name d.0.value) in
             holds_of_wire x.kind x.width _ _ w (subst (λ v. v < 2 ^ x.width) (sym word) fits)
-        | inr none ↦ absurd (both_ways _ (free_kind m ok x a none) w)
+        | inr none ↦ absurd (both_ways _ (free_kind m (regular ok) x a none) w)
       ]
       | inr f ↦ subst (λ v. Holds x.kind x.width v ((settled m c).store x.name)) (sym (free_word c x a f)) (subst (Holds x.kind x.width (c.word x.name)) (sym (kept_store c x.name)) (h x a data_name f))
     ];

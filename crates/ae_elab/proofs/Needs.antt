@@ -7,7 +7,7 @@ use Rattle.ae_elab.specs.Names.{Among, names_in, target_of, equations}
 use Rattle.ae_elab.specs.Faults.{Feeds, Reaches, at_once, through, IsWellFormed}
 use Rattle.ae_elab.specs.PlainRun.{drive_named}
 use Rattle.ae_elab.proofs.Members.{among_at, among_map, without, among_without, without_shorter}
-use Rattle.ae_elab.proofs.Declared.{named_or_not, driven_net, found_drive, drive_of_name}
+use Rattle.ae_elab.proofs.Declared.{regular, named_or_not, driven_net, found_drive, drive_of_name}
 
 -- each name with an equation that a name is or reaches is among these
 abbrev IsWithin : ModuleTree → List ℕ → List (List ℕ) → Type 0
@@ -16,7 +16,7 @@ IsWithin m n rest = (d : DriveTree) → Among d (equations m) → (n ≡ d.name)
 module _ (m : ModuleTree) (ok : IsWellFormed m) where
   no_round : (d : DriveTree) → Among d (equations m) → Reaches m d.name d.name → ⊥
   no_round d a h =
-      let x = driven_net m ok d a in
+      let x = driven_net m (regular ok) d a in
       let p = among_at x.0 m.nets x.1 in
       ok.no_loop p.0 (x.0, p.1, subst (λ n. Reaches m n n) (sym x.2) h)
 
@@ -36,17 +36,17 @@ module _ (m : ModuleTree) (ok : IsWellFormed m) where
     by_rest zero rest few n within = elim (named_or_not (drive_named (equations m) n)) [
       | inr none ↦ free zero n none
       | inl d ↦
-          let r = drive_of_name m ok n d.0 d.1 in
+          let r = drive_of_name m (regular ok) n d.0 d.1 in
           let short = without_shorter d.0.name rest (within d.0 r.0 (inl (sym r.1))) in
           absurd (omega arith)
     ]
     by_rest (suc k) rest few n within = elim (named_or_not (drive_named (equations m) n)) [
       | inr none ↦ free (suc k) n none
       | inl d ↦
-          let r = drive_of_name m ok n d.0 d.1 in
+          let r = drive_of_name m (regular ok) n d.0 d.1 in
           let short = without_shorter d.0.name rest (within d.0 r.0 (inl (sym r.1))) in
           let here : IsWithin m d.0.name rest = subst (λ u. IsWithin m u rest) (sym r.1) within in
-          subst (P (suc k)) r.1 (step k d.0 r.0 (found_drive m ok d.0 r.0) (λ b reads. by_rest k (without d.0.name rest) (omega arith) b (within_part d.0 b rest r.0 reads here)))
+          subst (P (suc k)) r.1 (step k d.0 r.0 (found_drive m (regular ok) d.0 r.0) (λ b reads. by_rest k (without d.0.name rest) (omega arith) b (within_part d.0 b rest r.0 reads here)))
     ]
 
     -- as many steps as there are equations are enough

@@ -9,7 +9,7 @@ use Rattle.ae_elab.specs.Runs.{clock_at, IsSettled, after_item, after_items, nex
 use Rattle.ae_elab.specs.Faults.{IsWellFormed}
 use Rattle.ae_elab.specs.PlainRun.{drive_named}
 use Rattle.ae_elab.proofs.Members.{among_at}
-use Rattle.ae_elab.proofs.Declared.{IsData, found_net, equation_readable, body_readable, free_kind, driven_kind}
+use Rattle.ae_elab.proofs.Declared.{regular, IsData, found_net, equation_readable, body_readable, free_kind, driven_kind}
 use Rattle.ae_elab.proofs.Needs.{by_needs}
 use Rattle.ae_elab.proofs.Same.{IsSameName, assigned_same, stmt_same, stmt_same_store}
 
@@ -68,7 +68,7 @@ module _ (m : ModuleTree) (ok : IsWellFormed m) where
 
   same_name : (c d : ModuleClock) (n : List ℕ) → SameFor c d n → IsData m n → IsSameName m.nets c d n
   same_name c d n h i =
-      let o = found_net m ok n i.net i.there i.named in
+      let o = found_net m (regular ok) n i.net i.there i.named in
       record {
         word = λ f. word_of_same i.net.kind _ _ _ _ (subst (λ p. passes (λ (y : NetTree). is_memory_kind y.kind) p ≡ false) o f) (h i.net i.there i.named i.data_name);
         store = λ t. store_of_same i.net.kind _ _ _ _ (subst (λ p. passes (λ (y : NetTree). is_memory_kind y.kind) p ≡ true) o t) (h i.net i.there i.named i.data_name);
@@ -81,14 +81,14 @@ module _ (m : ModuleTree) (ok : IsWellFormed m) where
   settled_same c d p q free =
       by_needs m ok (λ k n. SameFor c d n)
       (λ k n none x a e held.
-      let is : is_wire_kind x.kind ≡ false = free_kind m ok x a (subst (λ u. drive_named (equations m) u ≡ None) (sym e) none) in
+      let is : is_wire_kind x.kind ≡ false = free_kind m (regular ok) x a (subst (λ u. drive_named (equations m) u ≡ None) (sym e) none) in
       subst (λ u. SameAt x.kind (c.word u) (d.word u) (c.store u) (d.store u)) e
       (same_of_free x.kind (c.word x.name) (d.word x.name) (c.store x.name) (d.store x.name) is (free x a (subst (λ u. is_clock m u ≡ false) (sym e) held))))
       (λ k v a found reads x b e held.
-      let r = equation_readable m ok v a in
+      let r = equation_readable m (regular ok) v a in
       let same : c.word v.name ≡ d.word v.name =
       p.wires v a ∙ assigned_same m.nets c d v.name v.value (λ n i. same_name c d n (reads n i) (r.known n i)) r.right ∙ sym (q.wires v a) in
-      same_of_wire x.kind _ _ _ _ (driven_kind m ok x v b a e) same)
+      same_of_wire x.kind _ _ _ _ (driven_kind m (regular ok) x v b a e) same)
 
   -- what the `always` items make of a name
   item_word_same : (c d : ModuleClock) → ((n : List ℕ) → SameFor c d n) → (j : ℕ) (i : ItemTree) → slice_get m.items j ≡ Some i → (next other : ModuleClock) (k : List ℕ)
@@ -96,7 +96,7 @@ module _ (m : ModuleTree) (ok : IsWellFormed m) where
   item_word_same c d h j (nets drives) at next other k e = e
   item_word_same c d h j (assigns drives) at next other k e = e
   item_word_same c d h j (always clock body) at next other k e =
-      let r = body_readable m ok j clock body at in
+      let r = body_readable m (regular ok) j clock body at in
       stmt_same m.nets c d body (λ n a. same_name c d n (h n) (r.known n a)) r.right next other k e
 
   item_store_same : (c d : ModuleClock) → ((n : List ℕ) → SameFor c d n) → (j : ℕ) (i : ItemTree) → slice_get m.items j ≡ Some i → (next other : ModuleClock) (k : List ℕ)
@@ -104,7 +104,7 @@ module _ (m : ModuleTree) (ok : IsWellFormed m) where
   item_store_same c d h j (nets drives) at next other k e = e
   item_store_same c d h j (assigns drives) at next other k e = e
   item_store_same c d h j (always clock body) at next other k e =
-      let r = body_readable m ok j clock body at in
+      let r = body_readable m (regular ok) j clock body at in
       stmt_same_store m.nets c d body (λ n a. same_name c d n (h n) (r.known n a)) r.right next other k e
 
   items_word_same : (c d : ModuleClock) → ((n : List ℕ) → SameFor c d n) → (is : List ItemTree) → ((i : ItemTree) → Among i is → (j : ℕ) × (slice_get m.items j ≡ Some i)) → (next other : ModuleClock) (k : List ℕ)

@@ -1,0 +1,317 @@
+use Rattle.std.proofs.Common.{◌≡◌, ◌+◌, ◌*◌, ◌<◌, ◌≤◌, ◌^◌, max, length, map, take, rules, false, sym, ap, ◌∙◌, subst, arith}
+use Rattle.std.specs.List.{sum_by}
+use Rattle.std.proofs.lemmas.List.{length-map}
+use Rattle.std.proofs.Math.Facts.{Fits-of_lt}
+use Rattle.std.proofs.Math.Nat.{pow-le-pow_right}
+use Rattle.ae_vread.specs.View.{expr_tree}
+use Rattle.ae_vread.specs.Reading.{concat_of}
+use Rattle.ae_vread.specs.declared.module.Expr.TheViews.{the_lemmas}
+use Rattle.ae_elab.specs.Widths.{own_width}
+use Rattle.ae_elab.specs.Weight.{expr_weight}
+use Rattle.ae_elab.specs.Values.{own_value, value_at}
+use Rattle.ae_elab.specs.Cells.{HasRoom}
+use Rattle.ae_elab.specs.Named.{read}
+use Rattle.std.specs.Prelude.{string_bytes}
+use Rattle.ae_elab.specs.Faults.{is_place}
+use Rattle.ae_elab.specs.Sound.{IsReadyFor, IsSound, IsSoundIndex, place_number}
+use Rattle.ae_elab.specs.Parts.{part_weight, joined_from}
+use Rattle.ae_elab.proofs.Words.{grows_trans, net_grows, word_grows, same_word, on_ok_map}
+use Rattle.ae_elab.proofs.NetLaws.{nets_grow}
+use Rattle.ae_elab.proofs.SoundLaws.{sound_high, has_part, parts_width, parts_sound}
+use Rattle.ae_elab.proofs.PartLaws.{parts_weight, joined_push, joined_whole, some_part_ready}
+use Rattle.ae_elab.proofs.Turns.{at_turn, take_turn, sum_turn, sum_turn_le, take_whole}
+use Rattle.ae_elab.proofs.Arms.{concat_is, index_arm, not_arm, flip_arm, word_arm, constant_arm, shift_arm, comparison_arm, test_arm, choice_arm, concat_arm}
+use Rattle.ae_elab.proofs.lower.+lowering.Goals as goal
+
+pub lower-fixed-requires-clause-fits : goal.lower-fixed-requires-clause-fits
+lower-fixed-requires-clause-fits t c =
+    let s : IsSound c.args.names.now (expr_tree c.args.e.now) = c.requires.sound in
+    let q = rw c.in-Const.is at s in
+    let w = rw c.in-Const.is at c.requires.within in
+    let p : 2 ^ c.in-Const.size ≤ 2 ^ c.args.w = pow-le-pow_right (omega arith) w in
+    let small = q.2 in
+    omega arith
+
+pub lower-returns-in_ok-x-in-None-clause-word : goal.lower-returns-in_ok-x-in-None-clause-word
+lower-returns-in_ok-x-in-None-clause-word t c =
+    let s : IsSound c.args.names.now (expr_tree c.args.e.now) = c.requires.sound in
+    let q = rw c.in-Index.is at s in
+    let none : is_place (expr_tree c.in-Index.at.value) ≡ false = rw c.deref-in-Index.ensures at c.in-None.ensures.none in
+    let v = subst (λ b. IsSoundIndex b c.args.names.now (string_bytes c.in-Index.name) (place_number (expr_tree c.in-Index.at.value)) (own_width c.args.names.now (expr_tree c.in-Index.at.value)) (IsSound c.args.names.now (expr_tree c.in-Index.at.value))) none q.1 in
+    let own : c.own_width-own.result ≡ own_width c.args.names.now (expr_tree c.in-Index.at.value) = rw c.deref-in-None.ensures at c.own_width-own.ensures.own in
+    rw c.in-Index.is
+    (index_arm c.args.from c.args.names.now c.args.nets.now _ _ c.read_word.result (string_bytes c.in-Index.name) _ _ c.args.w (expr_tree c.in-Index.at.value) v.memory own
+    (rw c.deref-in-None-2.ensures at c.in_ok-x-in-None.ensures.word) (rw c.deref-in-None-3.ensures at c.read_word.ensures.word))
+
+pub lower-returns-in_ok-zero-in-Not-clause-word : goal.lower-returns-in_ok-zero-in-Not-clause-word
+lower-returns-in_ok-zero-in-Not-clause-word t c =
+    let own : c.own_width-own-in-Not.result ≡ own_width c.args.names.now (expr_tree c.in-Unary.a.value) = rw c.deref-in-Not.ensures at c.own_width-own-in-Not.ensures.own in
+    rw (c.in-Unary.is, c.in-Not.is)
+    (not_arm c.args.from c.args.names.now c.args.nets.now _ _ _ c.widen.result _ _ _ c.args.w (expr_tree c.in-Unary.a.value) own
+    (rw c.deref-in-Not-2.ensures at c.in_ok-x-in-Not.ensures.word) c.in_ok-zero-in-Not.ensures.word c.widen.ensures.word)
+
+pub lower-returns-in_ok-x-in-Flip-clause-word : goal.lower-returns-in_ok-x-in-Flip-clause-word
+lower-returns-in_ok-x-in-Flip-clause-word t c =
+    rw (c.in-Unary.is, c.in-Flip.is)
+    (flip_arm c.args.from c.args.names.now c.args.nets.now _ _ c.gate.result _ c.args.w (expr_tree c.in-Unary.a.value)
+    (rw c.deref-in-Flip.ensures at c.in_ok-x-in-Flip.ensures.word) c.gate.ensures.word)
+
+pub lower-returns-in_ok-y-in-Word-clause-word : goal.lower-returns-in_ok-y-in-Word-clause-word
+lower-returns-in_ok-y-in-Word-clause-word t c =
+    rw c.in-Binary.is
+    (word_arm c.args.from c.args.names.now c.args.nets.now c.lower-in-Word.new.nl c.lower-in-Word-2.new.nl c.gate-in-Word.new.nl c.gate-in-Word.result c.in-Binary.op c.in-Word.cell _ _ c.args.w (expr_tree c.in-Binary.a.value) (expr_tree c.in-Binary.b.value)
+    c.in-Word.ensures c.in_ok-y-in-Word.ensures.grows (rw c.deref-in-Word.ensures at c.in_ok-x-in-Word.ensures.word) (rw c.deref-in-Word-2.ensures at c.in_ok-y-in-Word.ensures.word) c.gate-in-Word.ensures.word)
+
+pub lower-returns-in_ok-x-in-Some-constant_value-clause-word : goal.lower-returns-in_ok-x-in-Some-constant_value-clause-word
+lower-returns-in_ok-x-in-Some-constant_value-clause-word t c =
+    rw c.in-Binary.is
+    (constant_arm c.args.from c.args.names.now c.args.nets.now c.lower-in-Some-constant_value.new.nl c.moved_by.new.nl c.moved_by.result c.in-Binary.op c.in-Shift.way _ c.in-Some-constant_value.places c.args.w (expr_tree c.in-Binary.a.value) (expr_tree c.in-Binary.b.value)
+    c.in-Shift.ensures (rw c.deref-in-Shift.ensures at c.in-Some-constant_value.ensures.some) (rw c.deref-in-Some-constant_value.ensures at c.in_ok-x-in-Some-constant_value.ensures.word) c.moved_by.ensures.word)
+
+pub lower-returns-in_ok-by-in-None-constant_value-clause-word : goal.lower-returns-in_ok-by-in-None-constant_value-clause-word
+lower-returns-in_ok-by-in-None-constant_value-clause-word t c =
+    let own : c.own_width-own-in-None-constant_value.result ≡ own_width c.args.names.now (expr_tree c.in-Binary.b.value) = rw c.deref-in-None-constant_value.ensures at c.own_width-own-in-None-constant_value.ensures.own in
+    rw c.in-Binary.is
+    (shift_arm c.args.from c.args.names.now c.args.nets.now c.lower-in-None-constant_value.new.nl c.lower-in-None-constant_value-2.new.nl c.shifted.new.nl c.shifted.result c.in-Binary.op c.in-Shift.way _ _ _ c.args.w (expr_tree c.in-Binary.a.value) (expr_tree c.in-Binary.b.value)
+    c.in-Shift.ensures own c.in_ok-by-in-None-constant_value.ensures.grows (rw c.deref-in-None-constant_value-2.ensures at c.in_ok-x-in-None-constant_value.ensures.word) (rw c.deref-in-None-constant_value-3.ensures at c.in_ok-by-in-None-constant_value.ensures.word) c.shifted.ensures.word)
+
+pub lower-returns-in_ok-y-in-Comparison-clause-word : goal.lower-returns-in_ok-y-in-Comparison-clause-word
+lower-returns-in_ok-y-in-Comparison-clause-word t c =
+    let wa : c.own_width.result ≡ own_width c.args.names.now (expr_tree c.in-Binary.a.value) = rw c.deref-in-Comparison.ensures at c.own_width.ensures.own in
+    let wb : c.own_width-in-Comparison.result ≡ own_width c.args.names.now (expr_tree c.in-Binary.b.value) = rw c.deref-in-Comparison-2.ensures at c.own_width-in-Comparison.ensures.own in
+    let own : c.max-own.result ≡ max (own_width c.args.names.now (expr_tree c.in-Binary.a.value)) (own_width c.args.names.now (expr_tree c.in-Binary.b.value)) = rw (wa, wb) at c.max-own.ensures in
+    rw c.in-Binary.is
+    (comparison_arm c.args.from c.args.names.now c.args.nets.now c.lower-in-Comparison.new.nl c.lower-in-Comparison-2.new.nl c.compare.new.nl c.compare.result c.in-Binary.op c.in-Comparison.how _ _ _ c.args.w (expr_tree c.in-Binary.a.value) (expr_tree c.in-Binary.b.value)
+    c.in-Comparison.ensures own c.in_ok-y-in-Comparison.ensures.grows (rw c.deref-in-Comparison-3.ensures at c.in_ok-x-in-Comparison.ensures.word) (rw c.deref-in-Comparison-4.ensures at c.in_ok-y-in-Comparison.ensures.word) c.compare.ensures.word)
+
+pub lower-returns-in_ok-y-in-Test-clause-word : goal.lower-returns-in_ok-y-in-Test-clause-word
+lower-returns-in_ok-y-in-Test-clause-word t c =
+    let wa : c.own_width-wa.result ≡ own_width c.args.names.now (expr_tree c.in-Binary.a.value) = rw c.deref-in-Test.ensures at c.own_width-wa.ensures.own in
+    let wb : c.own_width-wb.result ≡ own_width c.args.names.now (expr_tree c.in-Binary.b.value) = rw c.deref-in-Test-2.ensures at c.own_width-wb.ensures.own in
+    rw c.in-Binary.is
+    (test_arm c.args.from c.args.names.now c.args.nets.now c.lower-in-Test.new.nl c.lower-in-Test-2.new.nl c.tested.new.nl c.tested.result c.in-Binary.op c.in-Test.cell _ _ _ _ c.args.w (expr_tree c.in-Binary.a.value) (expr_tree c.in-Binary.b.value)
+    c.in-Test.ensures wa wb c.in_ok-y-in-Test.ensures.grows (rw c.deref-in-Test-3.ensures at c.in_ok-x-in-Test.ensures.word) (rw c.deref-in-Test-4.ensures at c.in_ok-y-in-Test.ensures.word) c.tested.ensures.word)
+
+pub lower-returns-in_ok-y-in-Choose-clause-word : goal.lower-returns-in_ok-y-in-Choose-clause-word
+lower-returns-in_ok-y-in-Choose-clause-word t c =
+    let own : c.own_width-own-in-Choose.result ≡ own_width c.args.names.now (expr_tree c.in-Choose.test.value) = rw c.deref-in-Choose.ensures at c.own_width-own-in-Choose.ensures.own in
+    rw c.in-Choose.is
+    (choice_arm c.args.from c.args.names.now c.args.nets.now c.lower-in-Choose.new.nl c.lower-in-Choose-2.new.nl c.lower-in-Choose-3.new.nl c.chosen.new.nl c.chosen.result _ _ _ _ c.args.w (expr_tree c.in-Choose.test.value) (expr_tree c.in-Choose.a.value) (expr_tree c.in-Choose.b.value)
+    own c.in_ok-x-in-Choose.ensures.grows c.in_ok-y-in-Choose.ensures.grows (rw c.deref-in-Choose-2.ensures at c.in_ok-t-in-Choose.ensures.word) (rw c.deref-in-Choose-3.ensures at c.in_ok-x-in-Choose.ensures.word) (rw c.deref-in-Choose-4.ensures at c.in_ok-y-in-Choose.ensures.word) c.chosen.ensures.word)
+
+pub lower-lower_parts-requires : goal.lower-lower_parts-requires
+lower-lower_parts-requires t c =
+    let ps = map expr_tree c.deref-in-Concat.result.now in
+    let e = concat_is c.args.e.now c.in-Concat.parts c.deref-in-Concat.result.now c.in-Concat.is c.deref-in-Concat.ensures.value in
+    let sound : IsSound c.args.names.now (concat_of (map expr_tree c.deref-in-Concat.result.now)) = subst (IsSound c.args.names.now) e c.requires.sound in
+    let ready : IsReadyFor c.args.names.now c.args.nets.now (concat_of (map expr_tree c.deref-in-Concat.result.now)) = subst (IsReadyFor c.args.names.now c.args.nets.now) e c.requires.ready in
+    let weight : expr_weight (expr_tree c.args.e.now) ≡ sum_by part_weight ps = ap expr_weight e ∙ parts_weight ps (has_part c.args.names.now ps sound) in
+    let had = c.requires.room in
+    let room : HasRoom c.args.nl.now (8 * sum_by part_weight (map expr_tree c.deref-in-Concat.result.now)) = omega arith in
+    search (rules, the_lemmas, sound, ready, room)
+
+pub lower-widen-requires-in-Concat-clause-within : goal.lower-widen-requires-in-Concat-clause-within
+lower-widen-requires-in-Concat-clause-within t c =
+    let e = concat_is c.args.e.now c.in-Concat.parts c.deref-in-Concat.result.now c.in-Concat.is c.deref-in-Concat.ensures.value in
+    let within : own_width c.args.names.now (concat_of (map expr_tree c.deref-in-Concat.result.now)) ≤ c.args.w = subst (λ u. own_width c.args.names.now u ≤ c.args.w) e c.requires.within in
+    let own = c.in_ok-x-in-Concat.ensures.own in
+    omega arith
+
+pub lower-widen-requires-in-Concat-clause-room : goal.lower-widen-requires-in-Concat-clause-room
+lower-widen-requires-in-Concat-clause-room t c =
+    let ps = map expr_tree c.deref-in-Concat.result.now in
+    let e = concat_is c.args.e.now c.in-Concat.parts c.deref-in-Concat.result.now c.in-Concat.is c.deref-in-Concat.ensures.value in
+    let sound : IsSound c.args.names.now (concat_of ps) = subst (IsSound c.args.names.now) e c.requires.sound in
+    let weight : expr_weight (expr_tree c.args.e.now) ≡ sum_by part_weight ps = ap expr_weight e ∙ parts_weight ps (has_part c.args.names.now ps sound) in
+    let had = c.requires.room in
+    let few = c.in_ok-x-in-Concat.ensures.few in
+    let limit = c.in_ok-x-in-Concat.ensures.grows.limit in
+    omega arith
+
+pub lower-returns-in_ok-x-in-Concat-clause-few : goal.lower-returns-in_ok-x-in-Concat-clause-few
+lower-returns-in_ok-x-in-Concat-clause-few t c =
+    let ps = map expr_tree c.deref-in-Concat.result.now in
+    let e = concat_is c.args.e.now c.in-Concat.parts c.deref-in-Concat.result.now c.in-Concat.is c.deref-in-Concat.ensures.value in
+    let sound : IsSound c.args.names.now (concat_of ps) = subst (IsSound c.args.names.now) e c.requires.sound in
+    let weight : expr_weight (expr_tree c.args.e.now) ≡ sum_by part_weight ps = ap expr_weight e ∙ parts_weight ps (has_part c.args.names.now ps sound) in
+    let few = c.in_ok-x-in-Concat.ensures.few in
+    on_ok_map c.widen-in-Concat.result (λ h. omega arith) c.widen-in-Concat.ensures.few
+
+pub lower-returns-in_ok-x-in-Concat-clause-word : goal.lower-returns-in_ok-x-in-Concat-clause-word
+lower-returns-in_ok-x-in-Concat-clause-word t c =
+    let ps = map expr_tree c.deref-in-Concat.result.now in
+    let e = concat_is c.args.e.now c.in-Concat.parts c.deref-in-Concat.result.now c.in-Concat.is c.deref-in-Concat.ensures.value in
+    let sound : IsSound c.args.names.now (concat_of ps) = subst (IsSound c.args.names.now) e c.requires.sound in
+    rw e (concat_arm c.args.from c.args.names.now c.args.nets.now _ _ c.widen-in-Concat.result _ _ c.args.w ps (has_part c.args.names.now ps sound) c.in_ok-x-in-Concat.ensures.word c.widen-in-Concat.ensures.word)
+
+-- the parts one after the other
+pub lower_parts-own_width-own-requires : goal.lower_parts-own_width-own-requires
+lower_parts-own_width-own-requires t c =
+    let ps = map expr_tree c.args.parts.now in
+    let long = length-map c.args.parts.now expr_tree in
+    let some = has_part c.args.names.now ps c.requires.sound in
+    let found = at_turn expr_tree c.args.parts.now 0 c.index-parts-0.result (omega arith) c.index-parts-0.is in
+    record { sound = parts_sound c.args.names.now ps c.requires.sound 0 _ found }
+
+pub lower_parts-lower-requires : goal.lower_parts-lower-requires
+lower_parts-lower-requires t c =
+    let ps = map expr_tree c.args.parts.now in
+    let long = length-map c.args.parts.now expr_tree in
+    let some = has_part c.args.names.now ps c.requires.sound in
+    let found = at_turn expr_tree c.args.parts.now 0 c.index-parts-0.result (omega arith) c.index-parts-0.is in
+    let sound : IsSound c.args.names.now (expr_tree c.index-parts-0.result) = parts_sound c.args.names.now ps c.requires.sound 0 _ found in
+    let ready : IsReadyFor c.args.names.now c.args.nets.now (expr_tree c.index-parts-0.result) = some_part_ready c.args.names.now c.args.nets.now ps some c.requires.ready 0 _ found in
+    let most = sum_turn_le expr_tree part_weight c.args.parts.now 0 c.index-parts-0.result (omega arith) c.index-parts-0.is in
+    let had = c.requires.room in
+    let room : HasRoom c.args.nl.now (8 * expr_weight (expr_tree c.index-parts-0.result) + 1) = omega arith in
+    search (rules, the_lemmas, sound, ready, room)
+
+pub lower_parts-loop-k-init : goal.lower_parts-loop-k-init
+lower_parts-loop-k-init t c =
+    let ps = map expr_tree c.args.parts.now in
+    let long = length-map c.args.parts.now expr_tree in
+    let some = has_part c.args.names.now ps c.requires.sound in
+    let l : 0 < length c.args.parts.now = omega arith in
+    let w = sum_turn expr_tree part_weight c.args.parts.now 0 c.index-parts-0.result l c.index-parts-0.is in
+    let o = sum_turn expr_tree (own_width c.args.names.now) c.args.parts.now 0 c.index-parts-0.result l c.index-parts-0.is in
+    let first = take_turn expr_tree c.args.parts.now 0 c.index-parts-0.result l c.index-parts-0.is in
+    let own = c.own_width-own.ensures.own in
+    let low = c.own_width-own.ensures.low in
+    let few = c.in_ok-x.ensures.few in
+    let more = c.in_ok-x.ensures.more in
+    record {
+      grows = c.in_ok-x.ensures.grows;
+      more = more;
+      few = omega arith;
+      own = omega arith;
+      low = low;
+      net = c.in_ok-x.ensures.net;
+      nets = c.in_ok-x.ensures.nets;
+      word = λ at n. same_word _ _
+          (λ run k.
+          ap (λ u. value_at c.args.names.now (read at run k) u (expr_tree c.index-parts-0.result)) own
+          ∙ (let z : own_value c.args.names.now (read at run k) (expr_tree c.index-parts-0.result) ≡ 0 * 2 ^ own_width c.args.names.now (expr_tree c.index-parts-0.result) + own_value c.args.names.now (read at run k) (expr_tree c.index-parts-0.result) = omega arith in z)
+          ∙ ap (joined_from c.args.names.now (read at run k) 0) (sym first))
+          (c.in_ok-x.ensures.word at n);
+    }
+
+pub lower_parts-own_width-wide-requires : goal.lower_parts-own_width-wide-requires
+lower_parts-own_width-wide-requires t c =
+    let ps = map expr_tree c.args.parts.now in
+    let found = at_turn expr_tree c.args.parts.now c.loop-k.k c.index-parts-k.result (omega arith) c.index-parts-k.is in
+    record { sound = parts_sound c.args.names.now ps c.requires.sound c.loop-k.k _ found }
+
+pub lower_parts-lower-requires-in-loop-k : goal.lower_parts-lower-requires-in-loop-k
+lower_parts-lower-requires-in-loop-k t c =
+    let ps = map expr_tree c.args.parts.now in
+    let i = c.loop-k.invariant in
+    let some = has_part c.args.names.now ps c.requires.sound in
+    let found = at_turn expr_tree c.args.parts.now c.loop-k.k c.index-parts-k.result (omega arith) c.index-parts-k.is in
+    let sound : IsSound c.args.names.now (expr_tree c.index-parts-k.result) = parts_sound c.args.names.now ps c.requires.sound c.loop-k.k _ found in
+    let ready : IsReadyFor c.args.names.now c.args.nets.now (expr_tree c.index-parts-k.result) = some_part_ready c.args.names.now c.args.nets.now ps some c.requires.ready c.loop-k.k _ found in
+    let most = sum_turn_le expr_tree part_weight c.args.parts.now c.loop-k.k c.index-parts-k.result (omega arith) c.index-parts-k.is in
+    let had = c.requires.room in
+    let few = i.few in
+    let limit = i.grows.limit in
+    let room : HasRoom c.loop-k.nl (8 * expr_weight (expr_tree c.index-parts-k.result) + 1) = omega arith in
+    let before = c.requires.from in
+    let more = i.more in
+    let from : c.args.from ≤ length c.loop-k.nl.cells = omega arith in
+    let nets = i.nets in
+    search (rules, the_lemmas, sound, ready, room, from, nets)
+
+pub lower_parts-linked-requires-clause-from : goal.lower_parts-linked-requires-clause-from
+lower_parts-linked-requires-clause-from t c =
+    let a = c.requires.from in
+    let b = c.loop-k.invariant.more in
+    let d = c.in_ok-low.ensures.more in
+    omega arith
+
+pub lower_parts-linked-requires-clause-high : goal.lower_parts-linked-requires-clause-high
+lower_parts-linked-requires-clause-high t c =
+    let ps = map expr_tree c.args.parts.now in
+    let whole = parts_width c.args.names.now ps (has_part c.args.names.now ps c.requires.sound) in
+    let most = sound_high c.args.names.now (concat_of ps) c.requires.sound in
+    let part = sum_turn_le expr_tree (own_width c.args.names.now) c.args.parts.now c.loop-k.k c.index-parts-k.result (omega arith) c.index-parts-k.is in
+    let so_far = c.loop-k.invariant.own in
+    let this = c.own_width-wide.ensures.own in
+    omega arith
+
+pub lower_parts-linked-requires-clause-left : goal.lower_parts-linked-requires-clause-left
+lower_parts-linked-requires-clause-left t c = net_grows c.in_ok-low.ensures.grows c.loop-k.invariant.net
+
+pub lower_parts-linked-requires-clause-room : goal.lower_parts-linked-requires-clause-room
+lower_parts-linked-requires-clause-room t c =
+    let part = sum_turn_le expr_tree part_weight c.args.parts.now c.loop-k.k c.index-parts-k.result (omega arith) c.index-parts-k.is in
+    let had = c.requires.room in
+    let few = c.loop-k.invariant.few in
+    let limit = c.loop-k.invariant.grows.limit in
+    let more = c.in_ok-low.ensures.few in
+    let same = c.in_ok-low.ensures.grows.limit in
+    omega arith
+
+pub lower_parts-overflow_add-own : goal.lower_parts-overflow_add-own
+lower_parts-overflow_add-own t c =
+    let ps = map expr_tree c.args.parts.now in
+    let whole = parts_width c.args.names.now ps (has_part c.args.names.now ps c.requires.sound) in
+    let most = sound_high c.args.names.now (concat_of ps) c.requires.sound in
+    let part = sum_turn_le expr_tree (own_width c.args.names.now) c.args.parts.now c.loop-k.k c.index-parts-k.result (omega arith) c.index-parts-k.is in
+    let so_far = c.loop-k.invariant.own in
+    let this = c.own_width-wide.ensures.own in
+    Fits-of_lt (omega arith)
+
+pub lower_parts-loop-k-preserved : goal.lower_parts-loop-k-preserved
+lower_parts-loop-k-preserved t c =
+    let i = c.loop-k.invariant in
+    let l : c.loop-k.k < length c.args.parts.now = omega arith in
+    let w = sum_turn expr_tree part_weight c.args.parts.now c.loop-k.k c.index-parts-k.result l c.index-parts-k.is in
+    let o = sum_turn expr_tree (own_width c.args.names.now) c.args.parts.now c.loop-k.k c.index-parts-k.result l c.index-parts-k.is in
+    let next = take_turn expr_tree c.args.parts.now c.loop-k.k c.index-parts-k.result l c.index-parts-k.is in
+    let own = c.own_width-wide.ensures.own in
+    let so_far = i.own in
+    let low = i.low in
+    let few = i.few in
+    let few_low = c.in_ok-low.ensures.few in
+    let few_linked = c.in_ok-x-2.ensures.few in
+    let more = i.more in
+    let more_low = c.in_ok-low.ensures.more in
+    let more_linked = c.in_ok-x-2.ensures.more in
+    let g = grows_trans c.in_ok-low.ensures.grows c.in_ok-x-2.ensures.grows in
+    record {
+      grows = grows_trans i.grows g;
+      more = omega arith;
+      few = omega arith;
+      own = omega arith;
+      low = omega arith;
+      net = c.in_ok-x-2.ensures.net;
+      nets = nets_grow g i.nets;
+      word = λ at n. same_word _ _
+          (λ run k.
+          ap (λ u. joined_from c.args.names.now (read at run k) 0 (take c.loop-k.k (map expr_tree c.args.parts.now)) * 2 ^ u + value_at c.args.names.now (read at run k) u (expr_tree c.index-parts-k.result)) own
+          ∙ sym (joined_push c.args.names.now (read at run k) 0 (take c.loop-k.k (map expr_tree c.args.parts.now)) (expr_tree c.index-parts-k.result))
+          ∙ ap (joined_from c.args.names.now (read at run k) 0) (sym next))
+          (c.in_ok-x-2.ensures.word _ _ (word_grows c.in_ok-low.ensures.grows (i.word at n)) (c.in_ok-low.ensures.word at n));
+    }
+
+pub lower_parts-returns-clause-few : goal.lower_parts-returns-clause-few
+lower_parts-returns-clause-few t c =
+    let long = length-map c.args.parts.now expr_tree in
+    let few = c.loop-k.invariant.few in
+    let all = ap (sum_by part_weight) (take_whole (map expr_tree c.args.parts.now) c.loop-k.k (omega arith)) in
+    omega arith
+
+pub lower_parts-returns-clause-own : goal.lower_parts-returns-clause-own
+lower_parts-returns-clause-own t c =
+    let ps = map expr_tree c.args.parts.now in
+    let long = length-map c.args.parts.now expr_tree in
+    c.loop-k.invariant.own ∙ ap (sum_by (own_width c.args.names.now)) (take_whole ps c.loop-k.k (omega arith)) ∙ sym (parts_width c.args.names.now ps (has_part c.args.names.now ps c.requires.sound))
+
+pub lower_parts-returns-clause-word : goal.lower_parts-returns-clause-word
+lower_parts-returns-clause-word t c = λ at n.
+    let ps = map expr_tree c.args.parts.now in
+    let long = length-map c.args.parts.now expr_tree in
+    same_word _ _
+    (λ run k.
+    ap (joined_from c.args.names.now (read at run k) 0) (take_whole ps c.loop-k.k (omega arith))
+    ∙ joined_whole c.args.names.now (read at run k) ps (own_width c.args.names.now (concat_of ps)) (has_part c.args.names.now ps c.requires.sound))
+    (c.loop-k.invariant.word at n)

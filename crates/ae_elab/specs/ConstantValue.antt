@@ -1,0 +1,7 @@
+-- The value of a constant.
+use Rattle.std.specs.Prelude.{◌≡◌, ℕ}
+use Rattle.ae_vread.specs.ModuleTree.{ExprTree, constant}
+
+abbrev pub IsConstantOf : ℕ → ExprTree → Type 0
+IsConstantOf k (constant size value fits) = k ≡ value
+IsConstantOf k _ = ⊥

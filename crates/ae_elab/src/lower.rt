@@ -1,0 +1,184 @@
+// Expressions as cells.
+
+ghost use Rattle.std.specs.Prelude.{◌≡◌, ◌<◌, ◌≤◌, ◌+◌, ◌*◌, ℕ, List, length, IfOk, IfNone, IfSome, OnOk, false, map};
+ghost use Rattle.std.specs.List.{sum_by};
+ghost use Rattle.ae_netlist.specs.Circuit.{IsNet};
+ghost use Rattle.ae_vread.specs.ModuleTree.{place};
+ghost use Rattle.ae_vread.specs.View.{expr_tree};
+ghost use Rattle.ae_vread.specs.Reading.{concat_of};
+ghost use Rattle.ae_elab.specs.Widths.{own_width};
+ghost use Rattle.ae_elab.specs.Weight.{expr_weight, shift_weight};
+ghost use Rattle.ae_elab.specs.Values.{own_value, value_at};
+ghost use Rattle.ae_elab.specs.Faults.{is_place};
+ghost use Rattle.ae_elab.specs.Cells.{Grows, HasRoom, IsWord};
+ghost use Rattle.ae_elab.specs.Named.{AreNamed, AreNets, read};
+ghost use Rattle.ae_elab.specs.Sound.{IsReadyFor, IsSound};
+ghost use Rattle.ae_elab.specs.Parts.{part_weight};
+ghost use Rattle.ae_elab.specs.ConstantValue.{IsConstantOf};
+
+use crate::compounds::{chosen, is_zero, linked, moved_by, shifted, tested};
+use crate::forms::{Form, compare, form_of};
+use crate::gates::{fixed, gate, widen};
+use crate::judge::names::Names;
+use crate::own::own_width;
+use crate::reads::{read_name, read_part, read_place, read_word};
+use ae_netlist::{NetId, Netlist};
+use ae_vread::{Expr, UnOp};
+use ae_word::WordOp;
+use std::alloc::AllocError;
+
+/// The number of a place that stands as an index.
+pub fn place_number(e: &Expr) -> Option<u32>
+    ensures some { IfSome result (λ k. expr_tree e.now ≡ place k) }
+    ensures none { IfNone result (is_place (expr_tree e.now) ≡ false) }
+{
+    match e {
+        Expr::Place(k) => Some(*k),
+        _ => None,
+    }
+}
+
+/// The value of a constant.
+fn constant_value(e: &Expr) -> Option<u64>
+    ensures some { IfSome result (λ k. IsConstantOf k (expr_tree e.now)) }
+    ensures none { IfNone result (shift_weight (expr_tree e.now) ≡ 6) }
+{
+    match e {
+        Expr::Const { value, .. } => Some(*value),
+        _ => None,
+    }
+}
+
+/// Cells whose last net has the value of an expression that is computed at a width: at most 8 for each unit of weight,
+/// and one more.
+#[tactic(auto, using(crate::proofs::Words::net_grows, crate::proofs::NetLaws::nets_grow))]
+#[cycle(lowering)]
+pub fn lower(
+    nl: &mut Netlist,
+    from: u32,
+    names: &Names<'_>,
+    nets: &[Option<NetId>],
+    w: u32,
+    e: &Expr,
+) -> Result<NetId, AllocError>
+    requires from { from ≤ length nl.old.cells }
+    requires nets { AreNets names.now nets.now nl.old.cells }
+    requires sound { IsSound names.now (expr_tree e.now) }
+    requires ready { IsReadyFor names.now nets.now (expr_tree e.now) }
+    requires low { 1 ≤ w }
+    requires high { w ≤ 64 }
+    requires within { own_width names.now (expr_tree e.now) ≤ w }
+    requires room { HasRoom nl.old (8 * expr_weight (expr_tree e.now) + 1) }
+    ensures grows { OnOk result (Grows nl.old nl.new) }
+    ensures more { OnOk result (length nl.old.cells ≤ length nl.new.cells) }
+    ensures few { OnOk result (length nl.new.cells ≤ length nl.old.cells + 8 * expr_weight (expr_tree e.now) + 1) }
+    ensures net { IfOk result (λ y. IsNet nl.new.cells y.0 w) }
+    ensures nets { OnOk result (AreNets names.now nets.now nl.new.cells) }
+    ensures word { IfOk result (λ y. (at : List ℕ → ℕ) → AreNamed names.now nets.now at → IsWord from nl.new.cells y.0 w (λ run t. value_at names.now (read at run t) w (expr_tree e.now))) }
+{
+    match e {
+        Expr::Name(name) => read_name(nl, from, names, nets, w, name),
+        Expr::Const { value, .. } => fixed(nl, from, w, *value),
+        Expr::Place(_) => unreachable!(),
+        Expr::Part { name, high, low } => read_part(nl, from, names, nets, w, name, *high, *low),
+        Expr::Index { name, at } => match place_number(at) {
+            Some(k) => read_place(nl, from, names, nets, w, name, k),
+            None => {
+                let own = own_width(names, at);
+                let x = lower(nl, from, names, nets, own, at)?;
+                read_word(nl, from, names, nets, w, name, x, own)
+            }
+        },
+        Expr::Unary(op, a) => match op {
+            UnOp::Not => {
+                let own = own_width(names, a);
+                let x = lower(nl, from, names, nets, own, a)?;
+                let zero = is_zero(nl, from, x, own)?;
+                widen(nl, from, zero, 1, w)
+            }
+            UnOp::Flip => {
+                let x = lower(nl, from, names, nets, w, a)?;
+                gate(nl, from, WordOp::Not, x, x, w, w)
+            }
+        },
+        Expr::Binary(op, a, b) => match form_of(*op) {
+            Form::Word(cell) => {
+                let x = lower(nl, from, names, nets, w, a)?;
+                let y = lower(nl, from, names, nets, w, b)?;
+                gate(nl, from, cell, x, y, w, w)
+            }
+            Form::Shift(way) => match constant_value(b) {
+                Some(places) => {
+                    let x = lower(nl, from, names, nets, w, a)?;
+                    moved_by(nl, from, way, x, places, w)
+                }
+                None => {
+                    let own = own_width(names, b);
+                    let x = lower(nl, from, names, nets, w, a)?;
+                    let by = lower(nl, from, names, nets, own, b)?;
+                    shifted(nl, from, way, x, by, own, w)
+                }
+            },
+            Form::Comparison(how) => {
+                let own = own_width(names, a).max(own_width(names, b));
+                let x = lower(nl, from, names, nets, own, a)?;
+                let y = lower(nl, from, names, nets, own, b)?;
+                compare(nl, from, how, x, y, own, w)
+            }
+            Form::Test(cell) => {
+                let wa = own_width(names, a);
+                let wb = own_width(names, b);
+                let x = lower(nl, from, names, nets, wa, a)?;
+                let y = lower(nl, from, names, nets, wb, b)?;
+                tested(nl, from, cell, x, wa, y, wb, w)
+            }
+        },
+        Expr::Choose(test, a, b) => {
+            let own = own_width(names, test);
+            let t = lower(nl, from, names, nets, own, test)?;
+            let x = lower(nl, from, names, nets, w, a)?;
+            let y = lower(nl, from, names, nets, w, b)?;
+            chosen(nl, from, t, own, x, y, w)
+        }
+        Expr::Concat(parts) => {
+            let (x, own) = lower_parts(nl, from, names, nets, parts)?;
+            widen(nl, from, x, own, w)
+        }
+    }
+}
+
+/// The word of a concatenation, and its width: the parts from the first on, each below those before it.
+#[tactic(auto, using(crate::proofs::Words::net_grows, crate::proofs::NetLaws::nets_grow))]
+#[cycle(lowering)]
+fn lower_parts(
+    nl: &mut Netlist,
+    from: u32,
+    names: &Names<'_>,
+    nets: &[Option<NetId>],
+    parts: &[Expr],
+) -> Result<(NetId, u32), AllocError>
+    requires from { from ≤ length nl.old.cells }
+    requires nets { AreNets names.now nets.now nl.old.cells }
+    requires sound { IsSound names.now (concat_of (map expr_tree parts.now)) }
+    requires ready { IsReadyFor names.now nets.now (concat_of (map expr_tree parts.now)) }
+    requires room { HasRoom nl.old (8 * sum_by part_weight (map expr_tree parts.now)) }
+    ensures grows { OnOk result (Grows nl.old nl.new) }
+    ensures more { OnOk result (length nl.old.cells ≤ length nl.new.cells) }
+    ensures few { OnOk result (length nl.new.cells ≤ length nl.old.cells + 8 * sum_by part_weight (map expr_tree parts.now)) }
+    ensures own { IfOk result (λ r. r.1 ≡ own_width names.now (concat_of (map expr_tree parts.now))) }
+    ensures net { IfOk result (λ r. IsNet nl.new.cells r.0.0 r.1) }
+    ensures nets { OnOk result (AreNets names.now nets.now nl.new.cells) }
+    ensures word { IfOk result (λ r. (at : List ℕ → ℕ) → AreNamed names.now nets.now at → IsWord from nl.new.cells r.0.0 r.1 (λ run t. own_value names.now (read at run t) (concat_of (map expr_tree parts.now)))) }
+{
+    let first = &parts[0];
+    let mut own = own_width(names, first);
+    let mut x = lower(nl, from, names, nets, own, first)?;
+    for k in 1..parts.len() {
+        let part = &parts[k];
+        let wide = own_width(names, part);
+        let low = lower(nl, from, names, nets, wide, part)?;
+        x = linked(nl, from, x, own, low, wide)?;
+        own += wide;
+    }
+    Ok((x, own))
+}
