@@ -117,7 +117,7 @@ module _ (m : ModuleTree) (ok : IsRegular m) where
   pub found_net : (n : List ℕ) (x : NetTree) → Among x m.nets → x.name ≡ n → net_named m.nets n ≡ Some x
   found_net n x a e = subst (λ k. net_named m.nets k ≡ Some x) e (net_found x a)
 
-  declared_or_not : (k : ℕ) (n : List ℕ) → IsDeclaredBefore m k n ⊎ (IsDeclaredBefore m k n → ⊥)
+  pub declared_or_not : (k : ℕ) (n : List ℕ) → IsDeclaredBefore m k n ⊎ (IsDeclaredBefore m k n → ⊥)
   declared_or_not k n =
       let test : (x : NetTree) → ((x.name ≡ n) × (x.item < k)) ⊎ ((x.name ≡ n) × (x.item < k) → ⊥) = λ x. elim (cases_Bool (bytes_eq x.name n)) [
         | inl e ↦ elim (cases_Bool (nat_lt x.item k)) [

@@ -198,6 +198,7 @@ module _ (m : ModuleTree) (ok : IsRegular m) (shape : IsShapely m) where
 
     pub order_is : (order : List ℕ) → g.IsOrder starts targets order → IsWireOrder m order
     order_is order o = record {
+      places = λ k p h. let long = flat.long in let n = values_long in let l = o.nodes k p h in omega arith;
       every = λ p l. o.every p (let long = flat.long in let n = values_long in omega arith);
       after = λ k p q h f. o.after k p q h (feeds_needs p q f);
       once = o.once;

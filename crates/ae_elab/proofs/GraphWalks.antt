@@ -305,6 +305,10 @@ module _ (starts targets : List ℕ) (graph : IsGraph starts targets) where
   -- all are done where all are begun and none is in the stack
   pub walk_ends : (marks : List Mark) (order : List ℕ) → IsWalk starts targets marks [] order → ((a : ℕ) → a < length marks → Begins marks a) → IsOrder starts targets order
   walk_ends marks order w begun = record {
+    nodes = λ p a h.
+        let long = w.long in
+        let l = slice_get_within marks a Done (w.ordered p a h) in
+        omega arith;
     every = λ a l. (
         let long = w.long in
         let within : a < length marks = omega arith in

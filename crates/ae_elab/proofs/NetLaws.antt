@@ -73,7 +73,7 @@ peek_word from old new y m at w u depth low i e f p =
           z ∙ ap (λ x. get_or (store_at run t m.0) x 0) (p.words all before run is t l);
     })
 
-own_net : {cells : List SizedCell} {n w : ℕ} → IsNet cells n w → IsNet cells n (net_width_of cells n)
+pub own_net : {cells : List SizedCell} {n w : ℕ} → IsNet cells n w → IsNet cells n (net_width_of cells n)
 own_net h = rw (net_width h) h
 
 -- a constant that is an address

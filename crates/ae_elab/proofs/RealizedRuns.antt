@@ -24,7 +24,9 @@ use Rattle.ae_elab.specs.Realizes.{Realizes}
 use Rattle.ae_elab.proofs.Once.{only_one}
 use Rattle.ae_elab.proofs.Laid.{FitInputs, FitsCell, FitStates, laid_clock, laid_shaped, laid_words}
 use Rattle.ae_elab.proofs.Pairwise.{among_filter, filter_among, map_each, each_map}
-use Rattle.ae_elab.proofs.ReadRuns.{no_clock, by_name, by_name_length, by_name_at, by_name_run}
+use Rattle.ae_elab.proofs.Declared.{regular}
+use Rattle.ae_elab.proofs.Clocks.{no_input_no_clock, output_no_input}
+use Rattle.ae_elab.proofs.ReadRuns.{by_name, by_name_length, by_name_at, by_name_run}
 
 -- what a state holds, by its depth
 abbrev words_by : Option ℕ → ℕ → List ℕ → List ℕ
@@ -83,15 +85,7 @@ module _ (m : ModuleTree) (n : circuit.Circuit) (at : List ℕ → ℕ) (ok : Is
       let long = by_name_length m n at r other in
       record { outputs = λ t l. ap (output_words m) (by_name_at m n at r other t (omega arith)) ∙ outputs_read (netlist.word_at other t) }
 
-  -- outputs and states are no clock
-  output_no_input : (k : NetKind) → is_output_kind k ≡ true → is_input_kind k ≡ false
-  output_no_input InputName h = absurd (cc)
-  output_no_input Wire h = refl
-  output_no_input OutWire h = refl
-  output_no_input RegName h = refl
-  output_no_input OutReg h = refl
-  output_no_input (Memory depth) h = refl
-
+  -- an output has one word
   output_same : (k : NetKind) (w v : ℕ) (s u : List ℕ) → is_output_kind k ≡ true → SameAt k w v s u → w ≡ v
   output_same InputName w v s u h e = absurd (cc)
   output_same Wire w v s u h e = absurd (cc)
@@ -159,7 +153,7 @@ module _ (m : ModuleTree) (n : circuit.Circuit) (at : List ℕ → ℕ) (ok : Is
             each_map (λ (x : NetTree). (clock_at run t).word x.name) (λ (x : NetTree). (clock_at named t).word x.name) (outputs_of m)
             (λ x a.
             let k = among_filter (λ (x : NetTree). is_output_kind x.kind) x m.nets a in
-            output_same x.kind _ _ _ _ k.1 (same.same x k.0 (no_clock m ok x k.0 (output_no_input x.kind k.1))))
+            output_same x.kind _ _ _ _ k.1 (same.same x k.0 (no_input_no_clock m (regular ok) x k.0 (output_no_input x.kind k.1))))
             ∙ (name_outputs other).outputs t (omega arith);
       }
 
@@ -288,7 +282,7 @@ module _ (m : ModuleTree) (n : circuit.Circuit) (at : List ℕ → ℕ) (ok : Is
       (states_read m n at ok r (λ net width depth. width)) (states_read m n at ok r (λ net width depth. depth))
       (λ x a.
       let k = among_filter (λ (x : NetTree). is_register_kind x.kind || is_memory_kind x.kind) x m.nets a in
-      fits_kind x.kind x.width (c.word x.name) (c.store x.name) (s.holds x k.0 (no_clock m ok x k.0 (state_no_input x.kind k.1))))
+      fits_kind x.kind x.width (c.word x.name) (c.store x.name) (s.holds x k.0 (no_input_no_clock m (regular ok) x k.0 (state_no_input x.kind k.1))))
 
   module _ (run : List ModuleClock) (p : IsRun m run) where
     abbrev laid_run : List netlist.Clock
@@ -342,7 +336,7 @@ module _ (m : ModuleTree) (n : circuit.Circuit) (at : List ℕ → ℕ) (ok : Is
       each_map (λ (x : NetTree). x.width) (λ (x : NetTree). circuit.width_of n.cells (at x.name)) (outputs_of m)
       (λ x a.
       let k = among_filter (λ (x : NetTree). is_output_kind x.kind) x m.nets a in
-      output_wide x.kind n.cells (at x.name) x.width k.1 (r.stands x k.0 (no_clock m ok x k.0 (output_no_input m n at ok r x.kind k.1))))
+      output_wide x.kind n.cells (at x.name) x.width k.1 (r.stands x k.0 (no_input_no_clock m (regular ok) x k.0 (output_no_input x.kind k.1))))
       ∙ outputs_read m n at ok r (circuit.width_of n.cells)
 
   pub realized : netlist.HasOneRun n.cells → HasSameRuns m n

@@ -15,7 +15,7 @@ use Rattle.ae_elab.specs.Sound.{IsSound, IsSoundIndex, place_number}
 use Rattle.ae_elab.proofs.Members.{same_bytes, bytes_same, among_at, among_left, among_right, none_passes}
 use Rattle.ae_elab.proofs.Declared.{IsData, not_true, not_false, ordered, net_found, drive_at, equation_readable, item_at}
 
-not_less : (a b : ℕ) → nat_lt a b ≡ false → b ≤ a
+pub not_less : (a b : ℕ) → nat_lt a b ≡ false → b ≤ a
 not_less a b h = grind (arith, nat_tests)
 
 -- a name that is declared has a place
@@ -34,19 +34,19 @@ place_some (z ∷ zs) n p x h e = elim (cases_Bool (bytes_eq z.name n)) [
     behind zero h f = let s : z ≡ x = cc in absurd (both_ways _ f (bytes_same z.name n (ap (λ (u : NetTree). u.name) s ∙ e)))
     behind (suc q) h f = (q, h)
 
-not_place : (e : ExprTree) → is_place e ≡ false → IsPlaced true e → IsPlaced false e
+pub not_place : (e : ExprTree) → is_place e ≡ false → IsPlaced true e → IsPlaced false e
 not_place (place k) f h = absurd (cc)
 not_place _ f h = h
 
-is_the_place : (e : ExprTree) → is_place e ≡ true → e ≡ place (place_number e)
+pub is_the_place : (e : ExprTree) → is_place e ≡ true → e ≡ place (place_number e)
 is_the_place (place k) t = refl
 is_the_place _ t = absurd (cc)
 
-outside_varying : (e : ExprTree) (width depth w : ℕ) → is_place e ≡ false → is_outside_of true width depth w e ≡ nat_lt depth (2 ^ w)
+pub outside_varying : (e : ExprTree) (width depth w : ℕ) → is_place e ≡ false → is_outside_of true width depth w e ≡ nat_lt depth (2 ^ w)
 outside_varying (place k) width depth w f = absurd (cc)
 outside_varying _ width depth w f = refl
 
-inside_place : (memory : Bool) (width depth w k : ℕ) → is_outside_of memory width depth w (place k) ≡ false → k < (if memory then depth else width)
+pub inside_place : (memory : Bool) (width depth w k : ℕ) → is_outside_of memory width depth w (place k) ≡ false → k < (if memory then depth else width)
 inside_place true width depth w k h = leb-false depth k h
 inside_place false width depth w k h = leb-false width k h
 
@@ -69,7 +69,7 @@ module _ (m : ModuleTree) (ok : IsRegular m) (shape : IsShapely m) where
   pub place_is : (p : ℕ) (x : NetTree) → NetAt m p x → place_of m.nets x.name ≡ p
   place_is p x h = let r = place_some m.nets x.name p x h refl in one_place (place_of m.nets x.name) p r.0 x r.1 h r.2
 
-  sized : (x : NetTree) → Among x m.nets → (x.width ≤ 64) × (depth_of_kind x.kind ≤ 65536)
+  pub sized : (x : NetTree) → Among x m.nets → (x.width ≤ 64) × (depth_of_kind x.kind ≤ 65536)
   sized x a =
       let small : is_too_large x ≡ false = not_true _ (λ t. ok.widths x.item (inl (x, a, refl, t))) in
       let p = or_parts _ _ small in
@@ -148,7 +148,7 @@ module _ (m : ModuleTree) (ok : IsRegular m) (shape : IsShapely m) where
         not_less 64 _ g.1,
       )
 
-  all_at : {X : Type 0} (P : X → Type 0) (xs : List X) (k : ℕ) (x : X) → AllByRecursion P xs → slice_get xs k ≡ Some x → P x
+  pub all_at : {X : Type 0} (P : X → Type 0) (xs : List X) (k : ℕ) (x : X) → AllByRecursion P xs → slice_get xs k ≡ Some x → P x
   all_at P [] k x h e = absurd (let s : None ≡ Some x = e in cc)
   all_at P (y ∷ xs) zero x h e = subst P (let s : y ≡ x = cc in s) h.0
   all_at P (y ∷ xs) (suc k) x h e = all_at P xs k x h.1 e

@@ -1,0 +1,48 @@
+use Rattle.std.proofs.Common.{◌≡◌, length, map, replicate, arith, sym, ap, ◌∙◌}
+use Rattle.std.proofs.lemmas.List.{length-map}
+use Rattle.ae_vread.specs.View.{item_tree, module_tree, net_tree}
+use Rattle.ae_elab.specs.Edges.{ActsItems}
+use Rattle.ae_elab.specs.declared.statements.Next.TheVariants.{Keep}
+use Rattle.ae_elab.proofs.EdgeSteps.{edge_steps}
+use Rattle.ae_elab.proofs.EdgeSound.{items_active}
+use Rattle.ae_elab.proofs.EdgeFresh.{first_fit, first_fresh, first_nexts, items_next, unconnected_grows}
+use Rattle.ae_elab.proofs.edges.perform.Goals as goal
+
+pub act_items-requires : goal.act_items-requires
+act_items-requires c =
+    let m = module_tree c.args.m.now in
+    let items : map item_tree c.deref.result.now ≡ (module_tree c.args.m.now).items = ap (map item_tree) c.deref.ensures.value in
+    let nexts : c.in_ok-nexts.nexts.items ≡ first_nexts (module_tree c.args.m.now).nets =
+    (let all = length-map c.args.m.now.nets.items net_tree in
+    let count = c.len.ensures in
+    let e : c.len.result ≡ length (module_tree c.args.m.now).nets = omega arith in
+    c.in_ok-nexts.ensures ∙ ap (λ n. replicate n Keep) e) in
+    rw (c.requires.names, items, nexts) (record {
+      from = c.requires.from;
+      nets = c.requires.nets;
+      active = items_active m c.requires.regular c.requires.shape c.args.nets.now c.requires.each;
+      nexts = first_fit (module_tree c.args.m.now).nets c.args.nl.now.cells;
+      fresh = first_fresh m c.requires.regular;
+      room = c.requires.room;
+    })
+
+pub connect_all-requires : goal.connect_all-requires
+connect_all-requires c = record {
+  long = c.requires.nets.long;
+  unconnected = unconnected_grows (module_tree c.args.m.now) c.args.from c.args.nets.now c.args.nl.now c.act_items.new.nl c.in_ok-act_items.ensures.grows c.requires.free;
+  fits = rw (sym c.requires.names) (rw c.deref-2.ensures.value c.in_ok-act_items.ensures.nexts);
+}
+
+pub returns-clause-steps : goal.returns-clause-steps
+returns-clause-steps c = λ at named run is t l.
+    let m = module_tree c.args.m.now in
+    let items : map item_tree c.deref.result.now ≡ (module_tree c.args.m.now).items = ap (map item_tree) c.deref.ensures.value in
+    let nexts : c.in_ok-nexts.nexts.items ≡ first_nexts (module_tree c.args.m.now).nets =
+    (let all = length-map c.args.m.now.nets.items net_tree in
+    let count = c.len.ensures in
+    let e : c.len.result ≡ length (module_tree c.args.m.now).nets = omega arith in
+    c.in_ok-nexts.ensures ∙ ap (λ n. replicate n Keep) e) in
+    let acts : ActsItems c.args.from (module_tree c.args.m.now).nets c.args.nets.now c.act_items.new.nl.cells (first_nexts (module_tree c.args.m.now).nets) c.deref-2.result.now (module_tree c.args.m.now).items =
+    rw (c.requires.names, items, nexts, sym c.deref-2.ensures.value) at c.in_ok-act_items.ensures.acts in
+    edge_steps m c.requires.regular c.requires.shape c.args.from c.args.nets.now c.deref-2.result.now c.act_items.new.nl c.connect_all.new.nl c.requires.each c.connect_all.ensures.connects c.connect_all.ensures.fits c.connect_all.ensures.connected
+    (items_next m c.args.from c.args.nets.now c.act_items.new.nl.cells c.deref-2.result.now acts) at named run is t l

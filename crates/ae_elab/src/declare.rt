@@ -1,0 +1,104 @@
+// The nets of inputs, registers and memories.
+
+ghost use Rattle.std.specs.Prelude.{ℕ, ◌≡◌, ◌≤◌, ◌+◌, [], length, IfOk, OnOk, Some, option_map};
+ghost use Rattle.ae_vread.specs.declared.module.NetKind.TheVariants.{Memory};
+ghost use Rattle.ae_vread.specs.View.{module_tree};
+ghost use Rattle.ae_netlist.specs.Circuit.{new_memory, new_register};
+ghost use Rattle.ae_netlist.specs.Counts.{count_of, is_input};
+ghost use Rattle.ae_elab.specs.Regular.{IsRegular};
+ghost use Rattle.ae_elab.specs.Shape.{IsShapely};
+ghost use Rattle.ae_elab.specs.Cells.{HasRoom};
+ghost use Rattle.ae_elab.specs.Declaring.{Adds, AreDeclared, given_cell};
+
+use crate::gates::push;
+use crate::judge::kinds::{clock_of, is_named};
+use crate::judge::names::Names;
+use ae_netlist::{Cell, NetFault, NetId, Netlist, Port};
+use ae_vread::{NetKind, VModule, VNet};
+use std::alloc::{AllocError, Global};
+
+/// Adds a register, for which there is room.
+fn push_register(nl: &mut Netlist, width: u32) -> Result<NetId, AllocError>
+    requires low { 1 ≤ width }
+    requires high { width ≤ 64 }
+    requires room { HasRoom nl.old 1 }
+    ensures { IfOk result (λ net. Adds (Some (new_register (length nl.old.cells) width)) nl.old nl.new (Some net)) }
+{
+    match nl.state(width) {
+        Ok(net) => Ok(net),
+        Err(NetFault::Full) => unreachable!(),
+        Err(NetFault::Memory) => Err(AllocError),
+    }
+}
+
+/// Adds a memory, for which there is room.
+fn push_memory(nl: &mut Netlist, width: u32, depth: u32) -> Result<NetId, AllocError>
+    requires low { 1 ≤ width }
+    requires high { width ≤ 64 }
+    requires some { 1 ≤ depth }
+    requires most { depth ≤ 65536 }
+    requires room { HasRoom nl.old 1 }
+    ensures { IfOk result (λ net. Adds (Some (new_memory (length nl.old.cells) width depth)) nl.old nl.new (Some net)) }
+{
+    match nl.memory(width, depth) {
+        Ok(net) => Ok(net),
+        Err(NetFault::Full) => unreachable!(),
+        Err(NetFault::Memory) => Err(AllocError),
+    }
+}
+
+/// The net of a name, if it has one before any equation is looked at. Inputs are plain ports, numbered as they come.
+fn declare(nl: &mut Netlist, net: &VNet, is_clock: bool) -> Result<Option<NetId>, AllocError>
+    requires low { 1 ≤ net.now.width }
+    requires high { net.now.width ≤ 64 }
+    requires deep { (depth : ℕ) → net.now.kind ≡ Memory depth → (1 ≤ depth) × (depth ≤ 65536) }
+    requires room { HasRoom nl.old 1 }
+    ensures { IfOk result (λ found. Adds (given_cell net.now.kind is_clock (length nl.old.cells) (count_of is_input nl.old.cells) net.now.width) nl.old nl.new found) }
+{
+    match net.kind {
+        NetKind::Wire | NetKind::OutWire => Ok(None),
+        NetKind::Input => {
+            if is_clock {
+                return Ok(None);
+            }
+            let port = nl.inputs();
+            let input = push(nl, net.width, Cell::Input(Port::Plain(port)))?;
+            Ok(Some(input))
+        }
+        NetKind::Reg | NetKind::OutReg => {
+            let register = push_register(nl, net.width)?;
+            Ok(Some(register))
+        }
+        NetKind::Memory(depth) => {
+            let memory = push_memory(nl, net.width, depth)?;
+            Ok(Some(memory))
+        }
+    }
+}
+
+/// The nets of the inputs but the clock, of the registers and of the memories, by the places of the names. No other name
+/// has one yet.
+pub fn declare_nets(
+    alloc: Global,
+    nl: &mut Netlist,
+    names: &Names<'_>,
+    m: &VModule,
+) -> Result<Vec<Option<NetId>>, AllocError>
+    requires names { names.now ≡ (module_tree m.now).nets }
+    requires shape { IsShapely (module_tree m.now) }
+    requires regular { IsRegular (module_tree m.now) }
+    requires empty { nl.old.cells ≡ [] }
+    requires room { length (module_tree m.now).nets ≤ nl.old.limit }
+    ensures declared { IfOk result (λ nets. AreDeclared (module_tree m.now) (module_tree m.now).nets nets.items nl.new.cells) }
+    ensures limit { OnOk result (nl.new.limit ≡ nl.old.limit) }
+    ensures outlets { OnOk result (nl.new.outlets ≡ nl.old.outlets) }
+{
+    let clock = clock_of(names, &m.items);
+    let mut nets = Vec::new(alloc);
+    for net in &m.nets {
+        let is_clock = is_named(net.name.as_str(), clock);
+        let found = declare(nl, net, is_clock)?;
+        nets.push(found)?;
+    }
+    Ok(nets)
+}

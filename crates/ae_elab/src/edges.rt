@@ -1,0 +1,152 @@
+// What is done at clock edges.
+
+ghost use Rattle.std.specs.Prelude.{◌≡◌, ◌≤◌, ◌<◌, ◌+◌, ◌*◌, ◌∷◌, [], ℕ, List, Some, false, true, length, map, replicate, slice_get, IfOk, OnOk};
+ghost use Rattle.std.specs.List.{AllByRecursion, flat_map, sum_by};
+ghost use Rattle.ae_netlist.specs.Runs.{Clock, IsRun};
+ghost use Rattle.ae_vread.specs.ModuleTree.{NetTree};
+ghost use Rattle.ae_vread.specs.View.{item_tree, module_tree, net_tree};
+ghost use Rattle.ae_elab.specs.Names.{is_clock, item_targets};
+ghost use Rattle.ae_elab.specs.Faults.{NetAt};
+ghost use Rattle.ae_elab.specs.Runs.{IsStep};
+ghost use Rattle.ae_elab.specs.Regular.{IsRegular};
+ghost use Rattle.ae_elab.specs.Shape.{IsShapely};
+ghost use Rattle.ae_elab.specs.Cells.{Grows, HasRoom};
+ghost use Rattle.ae_elab.specs.Named.{AreNamed, AreNets, read};
+ghost use Rattle.ae_elab.specs.Declaring.{AreUnconnected, HasNet, IsUnconnected, is_state};
+ghost use Rattle.ae_elab.specs.Connecting.{Connects};
+ghost use Rattle.ae_elab.specs.Edges.{ActsItems, AreFresh, FitNexts, FitsNext, IsActiveItem, IsConnected, KeepsConstants, OthersKeep, OthersStay, edge_weight};
+
+use crate::judge::names::Names;
+use crate::statements::{Next, act};
+use ae_netlist::{NetId, Netlist};
+use ae_vread::{VItem, VModule, VNet};
+use std::alloc::{AllocError, Global};
+
+/// What registers and memories take after an item.
+#[tactic(auto, using(crate::proofs::EdgeFits::nexts_grow))]
+fn act_item(
+    nl: &mut Netlist,
+    from: u32,
+    names: &Names<'_>,
+    nets: &[Option<NetId>],
+    nexts: &mut Vec<Next>,
+    item: &VItem,
+) -> Result<(), AllocError>
+    requires from { from ≤ length nl.old.cells }
+    requires nets { AreNets names.now nets.now nl.old.cells }
+    requires active { IsActiveItem names.now nets.now (item_tree item.now) }
+    requires nexts { FitNexts names.now nexts.old.items nl.old.cells }
+    requires fresh { AreFresh names.now nexts.old.items (item_targets (item_tree item.now)) }
+    requires room { HasRoom nl.old (8 * edge_weight (item_tree item.now)) }
+    ensures grows { OnOk result (Grows nl.old nl.new) }
+    ensures more { OnOk result (length nl.old.cells ≤ length nl.new.cells) }
+    ensures few { OnOk result (length nl.new.cells ≤ length nl.old.cells + 8 * edge_weight (item_tree item.now)) }
+    ensures nexts { OnOk result (FitNexts names.now nexts.new.items nl.new.cells) }
+    ensures others { OnOk result (OthersKeep names.now nexts.old.items nexts.new.items (item_targets (item_tree item.now))) }
+    ensures acts { OnOk result (ActsItems from names.now nets.now nl.new.cells nexts.old.items nexts.new.items (item_tree item.now ∷ [])) }
+{
+    match item {
+        VItem::Nets(_) => Ok(()),
+        VItem::Assign(_) => Ok(()),
+        VItem::Always { body, .. } => act(nl, from, names, nets, nexts, None, body),
+    }
+}
+
+/// What registers and memories take after all items.
+fn act_items(
+    nl: &mut Netlist,
+    from: u32,
+    names: &Names<'_>,
+    nets: &[Option<NetId>],
+    nexts: &mut Vec<Next>,
+    items: &[VItem],
+) -> Result<(), AllocError>
+    requires from { from ≤ length nl.old.cells }
+    requires nets { AreNets names.now nets.now nl.old.cells }
+    requires active { AllByRecursion (IsActiveItem names.now nets.now) (map item_tree items.now) }
+    requires nexts { FitNexts names.now nexts.old.items nl.old.cells }
+    requires fresh { AreFresh names.now nexts.old.items (flat_map item_targets (map item_tree items.now)) }
+    requires room { HasRoom nl.old (8 * sum_by edge_weight (map item_tree items.now)) }
+    ensures grows { OnOk result (Grows nl.old nl.new) }
+    ensures few { OnOk result (length nl.new.cells ≤ length nl.old.cells + 8 * sum_by edge_weight (map item_tree items.now)) }
+    ensures nexts { OnOk result (FitNexts names.now nexts.new.items nl.new.cells) }
+    ensures acts { OnOk result (ActsItems from names.now nets.now nl.new.cells nexts.old.items nexts.new.items (map item_tree items.now)) }
+{
+    for item in items {
+        act_item(nl, from, names, nets, nexts, item)?;
+    }
+    Ok(())
+}
+
+/// Connects a register or a memory to what it takes.
+fn connect(nl: &mut Netlist, _from: u32, x: &VNet, net: NetId, next: Next)
+    requires unconnected { IsUnconnected (net_tree x.now).kind nl.old.cells net.0 (net_tree x.now).width }
+    requires early { is_state (net_tree x.now) ≡ true → net.0 < _from }
+    requires fits { FitsNext nl.old.cells (net_tree x.now) next }
+    ensures connects { Connects _from nl.old nl.new }
+    ensures long { length nl.new.cells ≡ length nl.old.cells }
+    ensures constants { KeepsConstants nl.old.cells nl.new.cells }
+    ensures others { OthersStay nl.old.cells nl.new.cells net.0 }
+    ensures stays { is_state (net_tree x.now) ≡ false → nl.new ≡ nl.old }
+    ensures connected { IsConnected (net_tree x.now).kind nl.new.cells net.0 (net_tree x.now).width next }
+{
+    let _kind = x.kind;
+    match next {
+        Next::Keep => (),
+        Next::Word(word) => nl.connect(net, word),
+        Next::Write { at, word, enable } => nl.connect_memory(net, at, word, enable),
+    }
+}
+
+/// Connects each register and each memory to what it takes.
+fn connect_all(nl: &mut Netlist, from: u32, m: &VModule, nets: &[Option<NetId>], nexts: &[Next])
+    requires long { length nets.now ≡ length (module_tree m.now).nets }
+    requires unconnected { AreUnconnected (module_tree m.now) from nets.now nl.old.cells }
+    requires fits { FitNexts (module_tree m.now).nets nexts.now nl.old.cells }
+    ensures connects { Connects from nl.old nl.new }
+    ensures long { length nl.new.cells ≡ length nl.old.cells }
+    ensures fits { FitNexts (module_tree m.now).nets nexts.now nl.new.cells }
+    ensures connected { (p : ℕ) (x : NetTree) (y : NetId) (k : Next) → NetAt (module_tree m.now) p x → slice_get nets.now p ≡ Some (Some y) → slice_get nexts.now p ≡ Some k → IsConnected x.kind nl.new.cells y.0 x.width k }
+{
+    for place in 0..nexts.len() {
+        if let Some(net) = nets[place] {
+            connect(nl, from, &m.nets[place], net, nexts[place]);
+        }
+    }
+}
+
+/// What registers and memories take where nothing is assigned.
+fn unassigned(alloc: Global, count: usize) -> Result<Vec<Next>, AllocError>
+    ensures { IfOk result (λ nexts. nexts.items ≡ replicate count Next.Keep) }
+{
+    let nexts = vec![in alloc; Next::Keep; count]?;
+    Ok(nexts)
+}
+
+/// Connects each register and each memory to what it takes at a clock edge: at most 8 cells for each unit of the weight
+/// of the statements. All else in the netlist stays.
+pub fn perform(
+    alloc: Global,
+    nl: &mut Netlist,
+    from: u32,
+    names: &Names<'_>,
+    m: &VModule,
+    nets: &[Option<NetId>],
+) -> Result<(), AllocError>
+    requires names { names.now ≡ (module_tree m.now).nets }
+    requires shape { IsShapely (module_tree m.now) }
+    requires regular { IsRegular (module_tree m.now) }
+    requires from { from ≤ length nl.old.cells }
+    requires nets { AreNets (module_tree m.now).nets nets.now nl.old.cells }
+    requires each { (p : ℕ) (x : NetTree) → NetAt (module_tree m.now) p x → is_clock (module_tree m.now) x.name ≡ false → HasNet nets.now p }
+    requires free { AreUnconnected (module_tree m.now) from nets.now nl.old.cells }
+    requires room { HasRoom nl.old (8 * sum_by edge_weight (module_tree m.now).items) }
+    ensures connects { OnOk result (Connects from nl.old nl.new) }
+    ensures few { OnOk result (length nl.new.cells ≤ length nl.old.cells + 8 * sum_by edge_weight (module_tree m.now).items) }
+    ensures steps { OnOk result ((at : List ℕ → ℕ) → AreNamed (module_tree m.now).nets nets.now at → (run : List Clock) → IsRun nl.new.cells run → (t : ℕ) → t + 1 < length run → IsStep (module_tree m.now) (read at run t) (read at run (t + 1))) }
+{
+    let mut nexts = unassigned(alloc, m.nets.len())?;
+    act_items(nl, from, names, nets, &mut nexts, &m.items)?;
+    connect_all(nl, from, m, nets, &nexts);
+    Ok(())
+}

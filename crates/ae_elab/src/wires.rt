@@ -1,0 +1,149 @@
+// The nets of wires.
+
+ghost use Rattle.std.specs.Prelude.{◌≡◌, ◌<◌, ◌≤◌, ◌+◌, ◌*◌, ℕ, List, Some, length, map, option_map, slice_get, slice_set, IfOk, OnOk};
+ghost use Rattle.std.specs.List.{sum_by};
+ghost use Rattle.ae_netlist.specs.Circuit.{IsNet};
+ghost use Rattle.ae_vread.specs.ModuleTree.{NetTree};
+ghost use Rattle.ae_vread.specs.View.{expr_tree, module_tree};
+ghost use Rattle.ae_elab.specs.Names.{equations};
+ghost use Rattle.ae_elab.specs.Faults.{NetAt};
+ghost use Rattle.ae_elab.specs.Weight.{drive_weight, expr_weight};
+ghost use Rattle.ae_elab.specs.Regular.{IsRegular};
+ghost use Rattle.ae_elab.specs.Shape.{IsShapely};
+ghost use Rattle.ae_elab.specs.Cells.{Grows, HasRoom, IsWord};
+ghost use Rattle.ae_elab.specs.Named.{AreNamed, AreNets, read};
+ghost use Rattle.ae_elab.specs.Sound.{IsReadyFor, IsSound};
+ghost use Rattle.ae_elab.specs.Drives.{IsWireOrder, values_of};
+ghost use Rattle.ae_elab.specs.Declaring.{AreDeclared};
+ghost use Rattle.ae_elab.specs.Wiring.{AreWired, IsWiring, KeepsNets, fitted, open_weight};
+
+use crate::gates::fit;
+use crate::judge::names::Names;
+use crate::lower::lower;
+use crate::own::own_width;
+use ae_netlist::{NetId, Netlist};
+use ae_vread::{Expr, VModule};
+use std::alloc::AllocError;
+
+/// What an expression gives a target of a width: computed at the greater of both widths, and cut to the target's. At most
+/// 8 cells for each unit of weight, and two more.
+pub fn given_word(
+    nl: &mut Netlist,
+    from: u32,
+    names: &Names<'_>,
+    nets: &[Option<NetId>],
+    width: u32,
+    e: &Expr,
+) -> Result<NetId, AllocError>
+    requires from { from ≤ length nl.old.cells }
+    requires nets { AreNets names.now nets.now nl.old.cells }
+    requires sound { IsSound names.now (expr_tree e.now) }
+    requires ready { IsReadyFor names.now nets.now (expr_tree e.now) }
+    requires low { 1 ≤ width }
+    requires high { width ≤ 64 }
+    requires room { HasRoom nl.old (8 * expr_weight (expr_tree e.now) + 2) }
+    ensures grows { OnOk result (Grows nl.old nl.new) }
+    ensures more { OnOk result (length nl.old.cells ≤ length nl.new.cells) }
+    ensures few { OnOk result (length nl.new.cells ≤ length nl.old.cells + 8 * expr_weight (expr_tree e.now) + 2) }
+    ensures net { IfOk result (λ y. IsNet nl.new.cells y.0 width) }
+    ensures word { IfOk result (λ y. (at : List ℕ → ℕ) → AreNamed names.now nets.now at → IsWord from nl.new.cells y.0 width (λ run t. fitted names.now (read at run t) width (expr_tree e.now))) }
+{
+    let wide = own_width(names, e).max(width);
+    let x = lower(nl, from, names, nets, wide, e)?;
+    let y = fit(nl, from, x, wide, width)?;
+    Ok(y)
+}
+
+fn place_at(order: &[u32], turn: usize) -> usize
+    requires inside { turn < length order.now }
+    ensures { slice_get order.now turn ≡ Some result }
+{
+    order[turn] as usize
+}
+
+/// The value of the equation at a place, if there is one.
+fn value_at<'m>(values: &[Option<&'m Expr>], place: usize) -> Option<&'m Expr>
+    requires inside { place < length values.now }
+    ensures { slice_get (map (λ v. option_map (λ e. expr_tree e.now) v) values.now) place ≡ Some (option_map (λ e. expr_tree e.now) result) }
+{
+    values[place]
+}
+
+fn net_width(m: &VModule, place: usize) -> u32
+    requires inside { place < length (module_tree m.now).nets }
+    ensures { (x : NetTree) → NetAt (module_tree m.now) place x → result ≡ x.width }
+{
+    m.nets[place].width
+}
+
+fn set_net(nets: &mut Vec<Option<NetId>>, place: usize, net: NetId)
+    requires inside { place < length nets.old.items }
+    ensures { nets.new.items ≡ slice_set nets.old.items place (Some net) }
+{
+    nets[place] = Some(net);
+}
+
+/// The net of the wire whose turn it is; there is none to add for an input, a register or a memory.
+fn add_wire(
+    nl: &mut Netlist,
+    from: u32,
+    names: &Names<'_>,
+    m: &VModule,
+    values: &[Option<&Expr>],
+    order: &[u32],
+    turn: usize,
+    nets: &mut Vec<Option<NetId>>,
+) -> Result<(), AllocError>
+    requires names { names.now ≡ (module_tree m.now).nets }
+    requires shape { IsShapely (module_tree m.now) }
+    requires regular { IsRegular (module_tree m.now) }
+    requires values { map (λ v. option_map (λ e. expr_tree e.now) v) values.now ≡ values_of (module_tree m.now) }
+    requires sorted { IsWireOrder (module_tree m.now) order.now }
+    requires inside { turn < length order.now }
+    requires wiring { IsWiring (module_tree m.now) from order.now turn nets.old.items nl.old.cells }
+    requires room { HasRoom nl.old (8 * open_weight (values_of (module_tree m.now)) nets.old.items) }
+    ensures wiring { OnOk result (IsWiring (module_tree m.now) from order.now (turn + 1) nets.new.items nl.new.cells) }
+    ensures grows { OnOk result (Grows nl.old nl.new) }
+    ensures keeps { OnOk result (KeepsNets nets.old.items nets.new.items) }
+    ensures few { OnOk result (length nl.new.cells + 8 * open_weight (values_of (module_tree m.now)) nets.new.items ≤ length nl.old.cells + 8 * open_weight (values_of (module_tree m.now)) nets.old.items) }
+{
+    let place = place_at(order, turn);
+    match value_at(values, place) {
+        None => Ok(()),
+        Some(e) => {
+            let width = net_width(m, place);
+            let y = given_word(nl, from, names, nets, width, e)?;
+            set_net(nets, place, y);
+            Ok(())
+        }
+    }
+}
+
+/// The nets of all wires, each behind those of the names that its equation reads.
+pub fn add_wires(
+    nl: &mut Netlist,
+    from: u32,
+    names: &Names<'_>,
+    m: &VModule,
+    values: &[Option<&Expr>],
+    order: &[u32],
+    nets: &mut Vec<Option<NetId>>,
+) -> Result<(), AllocError>
+    requires names { names.now ≡ (module_tree m.now).nets }
+    requires shape { IsShapely (module_tree m.now) }
+    requires regular { IsRegular (module_tree m.now) }
+    requires values { map (λ v. option_map (λ e. expr_tree e.now) v) values.now ≡ values_of (module_tree m.now) }
+    requires sorted { IsWireOrder (module_tree m.now) order.now }
+    requires from { from ≡ length nl.old.cells }
+    requires declared { AreDeclared (module_tree m.now) (module_tree m.now).nets nets.old.items nl.old.cells }
+    requires room { HasRoom nl.old (8 * sum_by drive_weight (equations (module_tree m.now))) }
+    ensures wired { OnOk result (AreWired (module_tree m.now) from nets.new.items nl.new.cells) }
+    ensures grows { OnOk result (Grows nl.old nl.new) }
+    ensures keeps { OnOk result (KeepsNets nets.old.items nets.new.items) }
+    ensures few { OnOk result (length nl.new.cells ≤ length nl.old.cells + 8 * sum_by drive_weight (equations (module_tree m.now))) }
+{
+    for turn in 0..order.len() {
+        add_wire(nl, from, names, m, values, order, turn, nets)?;
+    }
+    Ok(())
+}
