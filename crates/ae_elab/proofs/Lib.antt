@@ -40,3 +40,18 @@ pub mod Laid
 pub mod Pairwise
 pub mod ReadRuns
 pub mod RealizedRuns
+mod Declaring
+mod Wiring
+mod Realizing
+mod WeightParts
+mod Showing
+mod Clocks
+mod EdgeFits
+mod EdgeLaws
+mod EdgeBlocks
+mod EdgeItems
+mod EdgeConnects
+mod EdgeJoins
+mod EdgeSteps
+mod EdgeSound
+mod EdgeFresh

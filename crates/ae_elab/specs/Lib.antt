@@ -22,3 +22,7 @@ pub mod Drives
 pub mod Guards
 pub mod Judging
 pub mod Realizes
+pub mod Declaring
+pub mod Wiring
+pub mod Connecting
+pub mod Edges

@@ -1,7 +1,10 @@
 //! What a module of the Verilog profile means: widths and values, runs, faults and weight.
 #![tactic(auto)]
 
+mod build;
 mod compounds;
+mod declare;
+mod edges;
 mod fault;
 mod forms;
 mod gates;
@@ -9,11 +12,15 @@ mod judge;
 mod laws;
 mod lower;
 mod order;
+mod outputs;
 mod own;
 mod reads;
 mod shape;
 mod sort;
+mod statements;
+mod wires;
 
+pub use build::elaborate;
 pub use fault::ElabFault;
 pub use laws::{guards_do, one_run, same_runs};
 pub use shape::spelled_shape;

@@ -1,0 +1,109 @@
+// From a module to its netlist.
+
+ghost use Rattle.std.specs.Prelude.{◌≡◌, ◌<◌, ◌≤◌, ◌*◌, ◌^◌, ℕ, List, length, map, option_map, IfErr, IfOk, OnOk};
+ghost use Rattle.ae_vread.specs.Spells.{Spells};
+ghost use Rattle.ae_vread.specs.View.{expr_tree, module_tree};
+ghost use Rattle.ae_elab.specs.Weight.{weight};
+ghost use Rattle.ae_elab.specs.Faults.{IsFault, IsWellFormed};
+ghost use Rattle.ae_elab.specs.Regular.{IsRegular};
+ghost use Rattle.ae_elab.specs.Shape.{IsShapely};
+ghost use Rattle.ae_elab.specs.SameRuns.{HasSameRuns};
+ghost use Rattle.ae_elab.specs.Drives.{IsWireOrder, values_of};
+ghost use Rattle.ae_elab.specs.Declaring.{HasPlainPorts};
+ghost use Rattle.ae_elab.specs.Realizes.{Realizes};
+
+use crate::declare::declare_nets;
+use crate::edges::perform;
+use crate::fault::ElabFault;
+use crate::judge::judge;
+use crate::judge::names::Names;
+use crate::judge::weigh::is_large;
+use crate::laws::same_runs;
+use crate::order::{drive_values, wire_order};
+use crate::outputs::add_outputs;
+use crate::shape::spelled_shape;
+use crate::sort::OrderFault;
+use crate::wires::add_wires;
+use ae_netlist::{Netlist, has_one_run};
+use ae_vread::{Expr, VModule};
+use std::alloc::{AllocError, Global};
+
+/// The most cells of a netlist: 8 for each unit of the greatest weight.
+const MOST_CELLS: u32 = 80_000_000;
+
+/// The netlist of a module without a fault whose wires are in this order: first the inputs, registers and memories, then
+/// the wires, then what each register and each memory takes at a clock edge.
+fn construct(
+    alloc: Global,
+    names: &Names<'_>,
+    m: &VModule,
+    values: &[Option<&Expr>],
+    order: &[u32],
+) -> Result<Netlist, AllocError>
+    requires names { names.now ≡ (module_tree m.now).nets }
+    requires shape { IsShapely (module_tree m.now) }
+    requires regular { IsRegular (module_tree m.now) }
+    requires values { map (λ v. option_map (λ e. expr_tree e.now) v) values.now ≡ values_of (module_tree m.now) }
+    requires sorted { IsWireOrder (module_tree m.now) order.now }
+    requires small { weight (module_tree m.now) ≤ 10000000 }
+    ensures realizes { IfOk result (λ n. (at : List ℕ → ℕ) × Realizes (module_tree m.now) n at) }
+    ensures few { IfOk result (λ n. length n.cells ≤ 8 * weight (module_tree m.now)) }
+    ensures plain { IfOk result (λ n. HasPlainPorts n) }
+{
+    let mut nl = Netlist::new(alloc, MOST_CELLS);
+    let mut nets = declare_nets(alloc, &mut nl, names, m)?;
+    let from = nl.len();
+    add_wires(&mut nl, from, names, m, values, order, &mut nets)?;
+    perform(alloc, &mut nl, from, names, m, &nets)?;
+    add_outputs(&mut nl, m, &nets)?;
+    Ok(nl)
+}
+
+/// An order of the wires of a module that is well formed, or the module's fault.
+fn sorted_wires(
+    alloc: Global,
+    names: &Names<'_>,
+    m: &VModule,
+    values: &[Option<&Expr>],
+) -> Result<Vec<u32>, ElabFault>
+    requires names { names.now ≡ (module_tree m.now).nets }
+    requires shape { IsShapely (module_tree m.now) }
+    requires regular { IsRegular (module_tree m.now) }
+    requires values { map (λ v. option_map (λ e. expr_tree e.now) v) values.now ≡ values_of (module_tree m.now) }
+    ensures sorted { IfOk result (λ order. IsWireOrder (module_tree m.now) order.items) }
+    ensures well_formed { OnOk result (IsWellFormed (module_tree m.now)) }
+    ensures fault { IfErr result (λ f. IsFault (module_tree m.now) f) }
+{
+    let order = match wire_order(alloc, names, m, values) {
+        Ok(order) => order,
+        Err(OrderFault::Loop(net)) => return Err(ElabFault::Loop { net }),
+        Err(OrderFault::Memory) => return Err(ElabFault::Memory),
+    };
+    if is_large(m) {
+        return Err(ElabFault::Large);
+    }
+    Ok(order)
+}
+
+/// The netlist of a module: it has the module's runs, whatever the order of the items. Its inputs are the module's but
+/// the clock, and its outputs the module's, both in port order and as plain ports. Ok exactly where the module is well
+/// formed; else its first fault, in the order of `ElabFault`, or `Memory` where memory ran out. At most 8 cells for each
+/// unit of weight.
+pub fn elaborate(alloc: Global, m: &VModule) -> Result<Netlist, ElabFault>
+    requires spelled { (text : List ℕ) × (length text < 2 ^ 32) × Spells text (module_tree m.now) }
+    ensures well_formed { OnOk result (IsWellFormed (module_tree m.now)) }
+    ensures fault { IfErr result (λ f. IsFault (module_tree m.now) f) }
+    ensures runs { IfOk result (λ n. HasSameRuns (module_tree m.now) n) }
+    ensures few { IfOk result (λ n. length n.cells ≤ 8 * weight (module_tree m.now)) }
+    ensures plain { IfOk result (λ n. HasPlainPorts n) }
+{
+    spelled_shape();
+    let names = Names::of(alloc, &m.nets)?;
+    judge(alloc, m, &names)?;
+    let values = drive_values(alloc, &names, m)?;
+    let order = sorted_wires(alloc, &names, m, &values)?;
+    let nl = construct(alloc, &names, m, &values, &order)?;
+    has_one_run(&nl);
+    same_runs();
+    Ok(nl)
+}
