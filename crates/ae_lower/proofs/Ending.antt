@@ -1,0 +1,138 @@
+-- After the last node, and after the last body.
+use Rattle.std.proofs.Common.{ℕ, ◌≡◌, ◌+◌, ◌*◌, ◌<◌, ◌≤◌, List, [], length, map, take, sum_by, get_or, Some, slice_get, slice_index, arith, refl, ap, sym, ◌∙◌, subst}
+use Rattle.std.proofs.Math.Nat.{mul-le-mul_right}
+use Rattle.std.proofs.lemmas.List.{take_all}
+use Rattle.std.proofs.lemmas.Option.{same_Some, slice_get-get_or}
+use Rattle.ae_sttype.specs.StTree.{atom, sseq}
+use Rattle.ae_word.specs.AtomTree.{unsigned_word}
+use Rattle.ae_netlist.specs.declared.cell.NetId.{NetId}
+use Rattle.ae_netlist.specs.Circuit.{Circuit, Extends}
+use Rattle.ae_ops.specs.Blocks.{AreBundles}
+use Rattle.ae_rewrite.specs.StProgramTree.{join, StNodeTree, StFuncTree}
+use Rattle.ae_rewrite.specs.Scheduled.{IsFilling}
+use Rattle.ae_rewrite.specs.Sound.{IsSoundFunc, IsSound, item_layout, item_layouts}
+use Rattle.ae_delay.specs.declared.own.OwnCosts.{OwnCosts}
+use Rattle.ae_delay.specs.Costs.{NodeTiming, latest, slack_load, uses_at}
+use Rattle.ae_delay.proofs.Instances.{all_items}
+use Rattle.ae_flow.specs.Flow.{Callee, callees, first_result}
+use Rattle.ae_flow.specs.Fitted.{AreFitted, elements_stream, streams_of}
+use Rattle.ae_flow.specs.Laws.{FlowsFit}
+use Rattle.ae_lower.specs.Growth.{Adds, GrowsBy, IsBuilt}
+use Rattle.ae_lower.specs.Delaying.{AreDelayed, delay_load}
+use Rattle.ae_lower.specs.Lowering.{AreChosen, AreItems, IsNodeAt, arrivals_in, bodies_part, instance_costs, lane_nets, timings_in}
+use Rattle.ae_lower.proofs.Growing.{adds_trans, adds_up, by_trans}
+use Rattle.ae_lower.proofs.NodeLaw.{items_wait}
+use Rattle.ae_lower.proofs.BodyLaw.{bodies_built, lane_bundles}
+use Rattle.ae_lower.proofs.Costing.{costs_are, latest_at, sums_most, timings_long}
+use Rattle.ae_lower.proofs.Instances.{AreLowered, AreSpread, bundles_grow, standing}
+use Rattle.ae_lower.proofs.Placed.{items_many, standing_delays}
+
+-- ---- nodes
+
+pub record NodeThere (instances : List StFuncTree) (k j : ℕ) (s : StFuncTree) : Type 0 where
+  pub node : StNodeTree
+  pub timing : NodeTiming
+  pub is_at : IsNodeAt instances k j s node timing
+  pub most : sum_by (λ (t : NodeTiming). t.load) (take j (timings_in instances k s)) + timing.load ≤ (instance_costs instances k).load
+
+pub node_there : (instances : List StFuncTree) (k j : ℕ) (s : StFuncTree) → slice_get instances k ≡ Some s → j < length s.nodes → NodeThere instances k j s
+node_there instances k j s func there =
+    let ts : List NodeTiming = timings_in instances k s in
+    let none : NodeTiming = record { arrival = 0; line = 0; latency = 0; load = 0; muls = 0; mems = 0; uses = [] } in
+    let no_node : StNodeTree = record { op = join; args = []; type = sseq 0 (atom (unsigned_word 1)); copies = 1; line = 0 } in
+    let t : NodeTiming = get_or ts j none in
+    let timing : slice_get ts j ≡ Some t = slice_get-get_or ts j none (omega (arith, timings_long instances k s)) in
+    let most = sums_most (λ (x : NodeTiming). x.load) instances k j s t timing in
+    record {
+      node = get_or s.nodes j no_node;
+      timing = t;
+      is_at = record { func = func; node = slice_get-get_or s.nodes j no_node there; timing = timing };
+      most = subst (λ (c : OwnCosts). sum_by (λ (x : NodeTiming). x.load) (take j ts) + t.load ≤ c.load) (sym (costs_are instances k s func)) (omega arith);
+    }
+
+pub another_node : (instances : List StFuncTree) (k j at rst : ℕ) (s : StFuncTree) (ins items : List (List NetId)) (old mid new : Circuit) → slice_get instances k ≡ Some s → j < length s.nodes → AreLowered instances k at rst s ins old mid j items
+    → ((f : StFuncTree) (n : StNodeTree) (t : NodeTiming) → IsNodeAt instances k j f n t → GrowsBy mid new t.load) → GrowsBy old new (instance_costs instances k).load
+another_node instances k j at rst s ins items old mid new func there was grows =
+    let h = node_there instances k j s func there in
+    by_trans (instance_costs instances k).load h.most was.grows (grows s h.node h.timing h.is_at)
+
+-- ---- results
+
+pub result_below : (instances : List StFuncTree) (k : ℕ) (s : StFuncTree) (chosen : List ℕ) → IsSound instances → slice_get instances k ≡ Some s → chosen ≡ s.results → (r i : ℕ) → slice_get chosen r ≡ Some i → i < length s.ins + length s.nodes
+result_below instances k s chosen sound func same r i found =
+    let l = (sound.each k s func).results r i (sym (ap (λ xs. slice_get xs r) same) ∙ found) in
+    omega (arith, l, items_many s)
+
+-- the delays of the results
+pub results_grow : (instances : List StFuncTree) (k at rst : ℕ) (s : StFuncTree) (ins items : List (List NetId)) (old mid new : Circuit) (own : List ℕ) (start : ℕ) → IsSound instances → slice_get instances k ≡ Some s → own ≡ arrivals_in instances k s → start ≡ latest own s.results
+    → AreLowered instances k at rst s ins old mid (length s.nodes) items → GrowsBy mid new (delay_load items own start s.results) → GrowsBy old new (instance_costs instances k).load
+results_grow instances k at rst s ins items old mid new own start sound func arr es was grows =
+    let ts : List NodeTiming = timings_in instances k s in
+    let all : take (length s.nodes) ts ≡ ts = take_all (length s.nodes) ts (omega (arith, timings_long instances k s)) in
+    let stand = standing mid.cells rst at (callees (take k instances)) s (arrivals_in instances k s) ins (length s.ins + length s.nodes) items was.have in
+    let delays : delay_load items own start s.results ≡ slack_load (item_layouts s) (uses_at own start s.results) = standing_delays mid.cells s (length s.ins + length s.nodes) items own start s.results stand (result_below instances k s s.results sound func refl) in
+    let same : slack_load (item_layouts s) (uses_at own start s.results) ≡ slack_load (item_layouts s) (uses_at (arrivals_in instances k s) (latest (arrivals_in instances k s) s.results) s.results) =
+    ap (λ (i : ℕ). slack_load (item_layouts s) (uses_at own i s.results)) es ∙ ap (λ (xs : List ℕ). slack_load (item_layouts s) (uses_at xs (latest xs s.results) s.results)) arr in
+    let nodes : sum_by (λ (t : NodeTiming). t.load) (take (length s.nodes) ts) ≡ sum_by (λ (t : NodeTiming). t.load) ts = ap (sum_by (λ (t : NodeTiming). t.load)) all in
+    let most : sum_by (λ (t : NodeTiming). t.load) (take (length s.nodes) ts) + delay_load items own start s.results ≤ (instance_costs instances k).load =
+    subst (λ (c : OwnCosts). sum_by (λ (t : NodeTiming). t.load) (take (length s.nodes) ts) + delay_load items own start s.results ≤ c.load) (sym (costs_are instances k s func)) (omega (arith, delays, same, nodes)) in
+    by_trans (instance_costs instances k).load most was.grows grows
+
+pub results_add : (instances : List StFuncTree) (k at rst : ℕ) (s : StFuncTree) (ins items : List (List NetId)) (old mid new : Circuit) → slice_get instances k ≡ Some s
+    → AreLowered instances k at rst s ins old mid (length s.nodes) items → Adds mid new 0 0 → Adds old new (instance_costs instances k).muls (instance_costs instances k).mems
+results_add instances k at rst s ins items old mid new func was adds =
+    let ts : List NodeTiming = timings_in instances k s in
+    let all : take (length s.nodes) ts ≡ ts = take_all (length s.nodes) ts (omega (arith, timings_long instances k s)) in
+    let muls : sum_by (λ (t : NodeTiming). t.muls) (take (length s.nodes) ts) ≡ sum_by (λ (t : NodeTiming). t.muls) ts = ap (sum_by (λ (t : NodeTiming). t.muls)) all in
+    let mems : sum_by (λ (t : NodeTiming). t.mems) (take (length s.nodes) ts) ≡ sum_by (λ (t : NodeTiming). t.mems) ts = ap (sum_by (λ (t : NodeTiming). t.mems)) all in
+    subst (λ (c : OwnCosts). Adds old new c.muls c.mems) (sym (costs_are instances k s func)) (adds_up (omega (arith, muls)) (omega (arith, mems)) (adds_trans was.adds adds))
+
+pub results_chosen : (instances : List StFuncTree) (k at rst : ℕ) (s : StFuncTree) (ins items : List (List NetId)) (old mid new : Circuit) (own : List ℕ) (start : ℕ) (results : List (List NetId)) → IsSound instances → slice_get instances k ≡ Some s → own ≡ arrivals_in instances k s → start ≡ latest own s.results
+    → AreLowered instances k at rst s ins old mid (length s.nodes) items → Extends mid.cells new.cells → AreDelayed mid.cells new.cells rst items own start s.results results
+    → (z : StFuncTree) → slice_get instances k ≡ Some z → AreChosen new.cells rst at (callees (take k instances)) z ins (instance_costs instances k).latency z.results results
+results_chosen instances k at rst s ins items old mid new own start results sound func arr es was up late z found =
+    let known : List Callee = callees (take k instances) in
+    let f : IsSoundFunc k s = sound.each k s func in
+    let count : ℕ = length s.ins + length s.nodes in
+    let have : AreItems mid.cells rst at known s own ins count items = subst (λ (xs : List ℕ). AreItems mid.cells rst at known s xs ins count items) (sym arr) was.have in
+    let fill : (i : ℕ) → i < count → IsFilling s.budget (item_layout (item_layouts s) i) = λ i low. all_items k s f i (omega (arith, items_many s)) in
+    let early : (r i : ℕ) → slice_get s.results r ≡ Some i → slice_index own i ≤ start = λ r i g. (let l = latest_at own s.results r i g in omega (arith, l, es)) in
+    let made : AreChosen new.cells rst at known s ins start s.results results = items_wait mid.cells new.cells rst at known s own ins count items start s.results results up fill (result_below instances k s s.results sound func refl) early have late in
+    let latency : start ≡ (instance_costs instances k).latency = es ∙ (ap (λ xs. latest xs s.results) arr ∙ sym (ap (λ (c : OwnCosts). c.latency) (costs_are instances k s func))) in
+    subst (λ (g : StFuncTree). AreChosen new.cells rst at known g ins (instance_costs instances k).latency g.results results) (same_Some s z (sym func ∙ found))
+    (subst (λ (d : ℕ). AreChosen new.cells rst at known s ins d s.results results) latency made)
+
+-- ---- bodies
+
+few_le : (lane copies load : ℕ) → lane ≤ copies → lane * load ≤ copies * load
+few_le lane copies load h = mul-le-mul_right load h
+
+next_le : (lane copies load : ℕ) → lane < copies → lane * load + load ≤ copies * load
+next_le lane copies load h = let up : (lane + 1) * load ≤ copies * load = mul-le-mul_right load (let z : lane + 1 ≤ copies = omega arith in z) in omega (arith, up)
+
+pub fewer_bodies : (old new : Circuit) (lane copies load : ℕ) → lane ≤ copies → GrowsBy old new (lane * load) → GrowsBy old new (copies * load)
+fewer_bodies old new lane copies load h g = record { grows = g.grows; cells = (let l = few_le lane copies load h in let c = g.cells in omega (arith, c, l)) }
+
+pub another_body : (old mid new : Circuit) (lane copies load : ℕ) → lane < copies → GrowsBy old mid (lane * load) → GrowsBy mid new load → GrowsBy old new (copies * load)
+another_body old mid new lane copies load h = by_trans (copies * load) (next_le lane copies load h)
+
+pub own_lane : (instances : List StFuncTree) (m copies lane : ℕ) (args own given : List (List NetId)) (old new : Circuit) → lane < copies → Extends old.cells new.cells → own ≡ map (lane_nets copies lane) args → given ≡ own
+    → ((f : StFuncTree) → slice_get instances m ≡ Some f → (slots : ℕ) × AreBundles old.cells (map (elements_stream slots copies) f.ins) args)
+    → (f : StFuncTree) → slice_get instances m ≡ Some f → AreBundles new.cells (streams_of f.ins) given
+own_lane instances m copies lane args own given old new h up is same asked f found =
+    let a = asked f found in
+    subst (λ (bs : List (List NetId)). AreBundles new.cells (streams_of f.ins) bs) (sym (same ∙ is)) (lane_bundles new.cells a.0 copies lane f.ins args h (bundles_grow _ args up a.1))
+
+pub some_results : (instances : List StFuncTree) (m : ℕ) → IsSound instances → (f : StFuncTree) → slice_get instances m ≡ Some f → 1 ≤ length f.results
+some_results instances m sound f found = (sound.each m f found).some_results
+
+pub all_bodies : (instances : List StFuncTree) (m at rst copies : ℕ) (args : List (List NetId)) (old new : Circuit) (out : List NetId) → FlowsFit → IsSound instances → AreFitted instances → 0 < copies
+    → ((f : StFuncTree) → slice_get instances m ≡ Some f → (slots : ℕ) × AreBundles old.cells (map (elements_stream slots copies) f.ins) args)
+    → AreSpread instances m at rst copies args old new copies out
+    → (f : StFuncTree) (slots rounds : ℕ) → slice_get instances m ≡ Some f → slots ≤ rounds → IsBuilt new rst at (bodies_part (callees (take m instances)) f slots rounds copies (instance_costs instances m).latency) args out
+all_bodies instances m at rst copies args old new out flows sound fitted some asked was f slots rounds found few =
+    let g : IsSoundFunc m f = sound.each m f found in
+    let first_one : first_result f < length (item_layouts f) = g.results 0 (first_result f) (slice_get-get_or f.results 0 0 (let l = g.some_results in omega arith)) in
+    let a = asked f found in
+    bodies_built new old.cells rst at (callees (take m instances)) f a.0 copies slots rounds (instance_costs instances m).latency args out some few g.ins (all_items m f g (first_result f) first_one)
+    (λ vs words. flows instances m f vs sound fitted found words (first_result f) first_one) a.1 (was.lanes f found)

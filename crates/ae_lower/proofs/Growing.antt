@@ -1,0 +1,27 @@
+-- A netlist that grows step by step.
+use Rattle.std.proofs.Common.{ℕ, ◌≡◌, ◌+◌, ◌≤◌, Result, Ok, Err, IfOk, arith, refl}
+use Rattle.ae_netlist.specs.Circuit.{Circuit}
+use Rattle.ae_clocked.specs.Phases.{Kept, KeepsCounters}
+use Rattle.ae_clocked.proofs.Adding.{grows_trans}
+use Rattle.ae_lower.specs.Growth.{Adds, GrowsBy}
+
+pub by_trans : {a b c : Circuit} {m n : ℕ} (k : ℕ) → m + n ≤ k → GrowsBy a b m → GrowsBy b c n → GrowsBy a c k
+by_trans k h p q = record { grows = grows_trans p.grows q.grows; cells = omega (arith, p.cells, q.cells) }
+
+pub adds_trans : {a b c : Circuit} {m n u v : ℕ} → Adds a b m u → Adds b c n v → Adds a c (m + n) (u + v)
+adds_trans p q = record {
+  muls = omega (arith, p.muls, q.muls);
+  memories = omega (arith, p.memories, q.memories);
+  whole = λ h. q.whole (p.whole h);
+}
+
+pub adds_up : {a b : Circuit} {m n u v : ℕ} → m ≡ n → u ≤ v → Adds a b m u → Adds a b n v
+adds_up e l h = record { muls = omega (arith, h.muls); memories = omega (arith, h.memories); whole = h.whole }
+
+-- what holds of a result, and so something else
+pub if_ok_more : {X E : Type 0} (r : Result X E) (P Q : X → Type 0) → ((x : X) → P x → Q x) → IfOk r P → IfOk r Q
+if_ok_more (Ok x) P Q f h = f x h
+if_ok_more (Err e) P Q f h = tt
+
+pub keeps_none : (a : Kept) → KeepsCounters a a
+keeps_none a = record { rst = refl; counters = λ phase net h. h }

@@ -1,0 +1,29 @@
+use Rattle.std.proofs.Common.{◌+◌, ◌*◌, ◌≤◌}
+use Rattle.ae_clocked.specs.Phases.{Belongs, KeepsCounters}
+use Rattle.ae_rewrite.specs.StProgramTree.{st_func_tree, st_func_trees}
+use Rattle.ae_lower.proofs.Instances.{AreLowered, AreSpread}
+use Rattle.ae_lower.proofs.calls.+lowering.Given as goal
+
+abbrev pub decreases-lower_bodies : goal.decreases-lower_bodies
+decreases-lower_bodies l = 3 * l.m + 3
+
+abbrev pub decreases-lower_instance : goal.decreases-lower_instance
+decreases-lower_instance l = 3 * l.k + 2
+
+abbrev pub decreases-lower_node : goal.decreases-lower_node
+decreases-lower_node l = 3 * l.k + 1
+
+abbrev pub invariant-lower_bodies-loop-lane : goal.invariant-lower_bodies-loop-lane
+invariant-lower_bodies-loop-lane l = record {
+  belongs : Belongs l.clocks l.nl.cells;
+  keeps : KeepsCounters l.fn.clocks l.clocks;
+  spread : AreSpread (st_func_trees l.p) l.m l.at l.fn.clocks.rst l.copies l.args l.fn.nl l.nl l.lane l.out.items;
+  within : l.lane ≤ l.copies;
+}
+
+abbrev pub invariant-lower_instance-loop-j : goal.invariant-lower_instance-loop-j
+invariant-lower_instance-loop-j l = record {
+  belongs : Belongs l.clocks l.nl.cells;
+  keeps : KeepsCounters l.fn.clocks l.clocks;
+  lowered : AreLowered (st_func_trees l.p) l.k l.at l.fn.clocks.rst (st_func_tree l.s) l.ins l.fn.nl l.nl l.j l.items.items;
+}

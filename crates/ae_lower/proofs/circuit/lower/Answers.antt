@@ -1,0 +1,92 @@
+-- The circuit from its parts.
+use Rattle.std.proofs.Common.{◌≡◌, ◌-◌, List, Some, slice_get, length, sym, ap, ◌∙◌, subst}
+use Rattle.std.proofs.lemmas.Option.{same_Some, slice_get-map}
+use Rattle.std.specs.Option.{option_map}
+use Rattle.ae_netlist.specs.declared.cell.NetId.{NetId}
+use Rattle.ae_netlist.specs.Circuit.{Circuit}
+use Rattle.ae_sttype.specs.declared.st_type.StType.{StType}
+use Rattle.ae_sttype.specs.StTree.{st_tree}
+use Rattle.ae_rewrite.specs.StProgramTree.{StFuncTree, st_func_tree, st_func_trees, st_trees}
+use Rattle.ae_ops.specs.Blocks.{AreBundles}
+use Rattle.ae_flow.specs.Fitted.{streams_of}
+use Rattle.ae_lower.specs.Circuits.{IsCircuitOf, last_of}
+use Rattle.ae_clocked.specs.Phases.{Kept}
+use Rattle.ae_lower.specs.Growth.{Adds, GrowsBy}
+use Rattle.ae_lower.specs.Lowering.{instance_costs}
+use Rattle.ae_lower.specs.PortNets.{bundles_from}
+use Rattle.ae_lower.proofs.Whole.{HasBegun, begun_bundles, chosen_last, circuit_made, has_begun, inputs_begun, instance_at, last_is, light_enough, reset_belongs}
+use Rattle.ae_lower.proofs.circuit.lower.Goals as goal
+
+pub add_inputs-requires : goal.add_inputs-requires
+add_inputs-requires c k t at =
+    let fs = c.args.p.now in
+    let f = c.instance-s.result.now in
+    let sound = c.count-last.ensures.sound.each (c.count-last.result - 1) (st_func_tree f) (instance_at fs (c.count-last.result - 1) f c.instance-s.ensures) in
+    let here : slice_get f.ins.items k ≡ Some t = ap (λ (ts : List StType). slice_get ts k) (sym c.deref.ensures.value) ∙ at in
+    (sound.ins k (st_tree t) (slice_get-map st_tree f.ins.items k ∙ ap (option_map st_tree) here)).size
+
+pub lower_instance-requires-clause-belongs : goal.lower_instance-requires-clause-belongs
+lower_instance-requires-clause-belongs c =
+    let s = st_func_tree c.instance-s.result.now in
+    let begun : HasBegun s c.add_inputs.new.nl = has_begun s 2000000 _ _ _ _ c.new-nl.ensures c.in_ok-rst.ensures.added c.in_ok-ins.ensures.cells (ap st_trees c.deref.ensures.value) in
+    reset_belongs s c.add_inputs.new.nl c.new-clocks.result c.in_ok-rst.rst begun c.new-clocks.ensures
+    (ap (λ (n : NetId). n.0) c.in_ok-rst.ensures.net ∙ ap (λ (n : Circuit). length n.cells) c.new-nl.ensures)
+
+pub lower_instance-requires-clause-light : goal.lower_instance-requires-clause-light
+lower_instance-requires-clause-light c =
+    let fs = c.args.p.now in
+    let f = c.instance-s.result.now in (
+      st_func_tree f,
+      light_enough (st_func_trees fs) c.args.a.now (st_func_tree f) (c.count-last.result - 1) c.requires.times c.load-load.ensures.limit
+          (last_is fs c.count-last.result c.count-last.ensures.count) (instance_at fs (c.count-last.result - 1) f c.instance-s.ensures),
+    )
+
+pub lower_instance-requires-clause-ins : goal.lower_instance-requires-clause-ins
+lower_instance-requires-clause-ins c s found =
+    let f = c.instance-s.result.now in
+    let is : st_func_tree f ≡ s = same_Some _ _ (sym (instance_at c.args.p.now (c.count-last.result - 1) f c.instance-s.ensures) ∙ found) in
+    let begun : HasBegun (st_func_tree f) c.add_inputs.new.nl = has_begun (st_func_tree f) 2000000 _ _ _ _ c.new-nl.ensures c.in_ok-rst.ensures.added c.in_ok-ins.ensures.cells (ap st_trees c.deref.ensures.value) in
+    let bundles : c.deref-2.result.now ≡ bundles_from 1 (streams_of (st_func_tree f).ins) =
+    c.deref-2.ensures.value ∙ begun_bundles (st_func_tree f) 2000000 _ _ _ _ c.new-nl.ensures c.in_ok-rst.ensures.added c.in_ok-ins.ensures.bundles (ap st_trees c.deref.ensures.value) in
+    let there : AreBundles c.add_inputs.new.nl.cells (streams_of (st_func_tree f).ins) c.deref-2.result.now = rw bundles (inputs_begun (st_func_tree f) c.add_inputs.new.nl begun) in
+    subst (λ (u : StFuncTree). AreBundles c.add_inputs.new.nl.cells (streams_of u.ins) c.deref-2.result.now) is there
+
+pub add_results-requires-clause-sound : goal.add_results-requires-clause-sound
+add_results-requires-clause-sound c =
+    let f = c.instance-s.result.now in
+    let last = c.count-last.result - 1 in
+    (last, c.count-last.ensures.sound.each last (st_func_tree f) (instance_at c.args.p.now last f c.instance-s.ensures))
+
+pub add_results-requires-clause-long : goal.add_results-requires-clause-long
+add_results-requires-clause-long c =
+    let f = c.instance-s.result.now in
+    let chosen = c.in-Ok.ensures.results (st_func_tree f) (instance_at c.args.p.now (c.count-last.result - 1) f c.instance-s.ensures) in
+    ap length c.deref-3.ensures.value ∙ chosen.long
+
+pub add_results-requires-clause-nets : goal.add_results-requires-clause-nets
+add_results-requires-clause-nets c r i nets at has =
+    let f = c.instance-s.result.now in
+    let chosen = c.in-Ok.ensures.results (st_func_tree f) (instance_at c.args.p.now (c.count-last.result - 1) f c.instance-s.ensures) in
+    (chosen.each r i nets at (ap (λ (bs : List (List NetId)). slice_get bs r) (sym c.deref-3.ensures.value) ∙ has)).there
+
+pub returns : goal.returns
+returns c s found =
+    let fs = c.args.p.now in
+    let instances : List StFuncTree = st_func_trees fs in
+    let f = c.instance-s.result.now in
+    let k = c.count-last.result - 1 in
+    let last : k ≡ last_of instances = last_is fs c.count-last.result c.count-last.ensures.count in
+    let here : slice_get instances k ≡ Some (st_func_tree f) = instance_at fs k f c.instance-s.ensures in
+    let there : slice_get instances (last_of instances) ≡ Some (st_func_tree f) = rw last at here in
+    let is : st_func_tree f ≡ s = same_Some _ _ (sym there ∙ found) in
+    let begun : HasBegun (st_func_tree f) c.add_inputs.new.nl = has_begun (st_func_tree f) 2000000 _ _ _ _ c.new-nl.ensures c.in_ok-rst.ensures.added c.in_ok-ins.ensures.cells (ap st_trees c.deref.ensures.value) in
+    let bundles : c.deref-2.result.now ≡ bundles_from 1 (streams_of (st_func_tree f).ins) =
+    c.deref-2.ensures.value ∙ begun_bundles (st_func_tree f) 2000000 _ _ _ _ c.new-nl.ensures c.in_ok-rst.ensures.added c.in_ok-ins.ensures.bundles (ap st_trees c.deref.ensures.value) in
+    let rst : c.new-clocks.result.rst ≡ 0 =
+    ap (λ (q : Kept). q.rst) c.new-clocks.ensures ∙ (ap (λ (n : NetId). n.0) c.in_ok-rst.ensures.net ∙ ap (λ (n : Circuit). length n.cells) c.new-nl.ensures) in
+    let chosen = chosen_last instances (st_func_tree f) _ c.new-clocks.result.rst k _ _ _ _ rst last bundles (sym c.deref-3.ensures.value) (c.in-Ok.ensures.results (st_func_tree f) here) in
+    let grown = subst (λ m. GrowsBy c.add_inputs.new.nl c.lower_instance.new.nl (instance_costs instances m).load) last c.in-Ok.ensures.grows in
+    let adds = subst (λ m. Adds c.add_inputs.new.nl c.lower_instance.new.nl (instance_costs instances m).muls (instance_costs instances m).mems) last c.in-Ok.ensures.adds in
+    let made : IsCircuitOf instances (st_func_tree f) c.add_results.new.nl =
+    circuit_made instances (st_func_tree f) _ _ _ c.deref-3.result.now (k, c.count-last.ensures.sound.each k (st_func_tree f) here) there begun grown adds chosen c.in_ok-add_results.ensures c.formed.ensures.cells c.formed.ensures.outlets in
+    subst (λ (u : StFuncTree). IsCircuitOf instances u c.add_results.new.nl) is made

@@ -1,0 +1,16 @@
+-- One parameter more.
+use Rattle.std.proofs.Common.{◌≡◌, Some, slice_get, length, arith, refl}
+use Rattle.std.proofs.lemmas.Option.{slice_get_read}
+use Rattle.ae_lower.proofs.Inputs.{bundles_more, params_few, params_more}
+use Rattle.ae_lower.proofs.ports.add_inputs.Goals as goal
+
+pub loop-k-preserved : goal.loop-k-preserved
+loop-k-preserved c =
+    let t = c.index-layouts-k.result in
+    let found : slice_get c.args.layouts.now c.loop-k.k ≡ Some t = slice_get_read c.args.layouts.now (length c.args.layouts.now) c.loop-k.k t refl (omega arith) c.index-layouts-k.is in
+    let one = c.in_ok-bundle.ensures in
+    record {
+      cells = params_more _ _ _ c.args.layouts.now c.loop-k.k t c.in_ok-bundle.bundle found c.loop-k.invariant.cells one;
+      bundles = bundles_more _ _ _ c.args.layouts.now c.loop-k.k t c.in_ok-bundle.bundle _ _ found c.loop-k.invariant.cells one c.in_ok-push.ensures.items c.loop-k.invariant.bundles;
+      few = params_few _ _ c.loop-k.k t c.in_ok-bundle.bundle (c.requires c.loop-k.k t found) c.loop-k.invariant.few one;
+    }

@@ -1,0 +1,13 @@
+use Rattle.std.proofs.Common.{◌≡◌, ◌≤◌, ◌++◌, length, map, take}
+use Rattle.ae_rewrite.specs.StProgramTree.{st_trees}
+use Rattle.ae_flow.specs.Fitted.{streams_of}
+use Rattle.ae_lower.specs.Ports.{input_cell, input_ports}
+use Rattle.ae_lower.specs.PortNets.{bundles_from}
+use Rattle.ae_lower.proofs.ports.add_inputs.Given as goal
+
+abbrev pub invariant-loop-k : goal.invariant-loop-k
+invariant-loop-k l = record {
+  cells : l.nl ≡ record l.fn.nl { cells = l.fn.nl.cells ++ map input_cell (input_ports (streams_of (st_trees (take l.k l.layouts)))) };
+  bundles : l.bundles.items ≡ bundles_from (length l.fn.nl.cells) (streams_of (st_trees (take l.k l.layouts)));
+  few : l.k ≤ length l.nl.cells;
+}

@@ -1,0 +1,18 @@
+-- One word more, until there are no more.
+use Rattle.std.proofs.Common.{map, arith}
+use Rattle.std.proofs.lemmas.List.{length-map, take_all}
+use Rattle.ae_word.specs.AtomTree.{WordKind, atom_kinds, atom_tree}
+use Rattle.ae_word.proofs.Sizes.{length-atom_kinds}
+use Rattle.ae_netlist.specs.declared.cell.Port.TheVariants.{In}
+use Rattle.ae_lower.proofs.Inputs.{lane_more}
+use Rattle.ae_lower.proofs.ports.lane_inputs.Goals as goal
+
+pub loop-word-preserved : goal.loop-word-preserved
+loop-word-preserved c =
+    lane_more _ _ _ _ _ _ (In c.args.param c.args.lane) (map (λ (k : WordKind). k.width) (atom_kinds (atom_tree c.args.atom.now))) c.loop-word.word c.word_width-width.result c.in_ok-net.net
+    c.word_width-width.ensures.width c.in_ok-net.ensures.added c.in_ok-net.ensures.net c.in_ok-push.ensures.items c.loop-word.invariant
+
+pub returns : goal.returns
+returns c =
+    let long = length-map (atom_kinds (atom_tree c.args.atom.now)) (λ (k : WordKind). k.width) in
+    rw (take_all c.loop-word.word (map (λ (k : WordKind). k.width) (atom_kinds (atom_tree c.args.atom.now))) (omega (arith, long, length-atom_kinds (atom_tree c.args.atom.now)))) at c.loop-word.invariant

@@ -1,0 +1,10 @@
+pub mod Parts
+pub mod Laws
+pub mod Wiring
+pub mod Growth
+pub mod Delaying
+pub mod Nodes
+pub mod Lowering
+pub mod Ports
+pub mod PortNets
+pub mod Circuits

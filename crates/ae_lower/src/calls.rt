@@ -1,0 +1,202 @@
+// Instances: each call is lowered where it stands.
+
+ghost use Rattle.std.specs.Prelude.{◌≡◌, ◌≢◌, ◌≤◌, ◌<◌, ◌+◌, ◌*◌, ℕ, List, length, map, take, IfOk, OnOk, Some, Err, slice_get, slice_index};
+ghost use Rattle.ae_netlist.specs.declared.cell.NetId.{NetId as Net};
+ghost use Rattle.ae_clocked.specs.Signals.{IsFullAt};
+ghost use Rattle.ae_clocked.specs.Phases.{Belongs, KeepsCounters};
+ghost use Rattle.ae_ops.specs.Blocks.{AreBundles};
+ghost use Rattle.ae_rewrite.specs.StProgramTree.{StFuncTree as Tree, StNodeTree as Node, st_func_trees};
+ghost use Rattle.ae_delay.specs.Costs.{NodeTiming, latest};
+ghost use Rattle.ae_flow.specs.Flow.{callees};
+ghost use Rattle.ae_flow.specs.Fitted.{elements_stream, streams_of};
+ghost use Rattle.ae_lower.specs.Growth.{Adds, GrowsBy, IsBuilt};
+ghost use Rattle.ae_lower.specs.Lowering.{AreChosen, AreItems, AreStanding, IsItem, IsLight, IsNodeAt, IsTimed, arrivals_in, bodies_part, instance_costs, lane_nets};
+
+use crate::items::joined;
+use crate::nodes::build;
+use crate::wires::{add, copied, keep_bundle, piece};
+use ae_clocked::Clocks;
+use ae_delay::Timing;
+use ae_flow::flows_fit;
+use ae_netlist::{NetFault, Netlist};
+use ae_ops::Bundle;
+use ae_rewrite::{StFunc, StOp, StProgram};
+use std::alloc::Global;
+
+// Instance number k.
+fn instance(p: &StProgram, k: u32) -> &StFunc
+    requires { k < length p.now }
+    ensures { slice_get p.now k ≡ Some result.now }
+{
+    match p.instance(k) {
+        Some(s) => s,
+        None => unreachable!(),
+    }
+}
+
+// The arrivals of its items.
+fn arrivals_of(a: &Timing, k: u32) -> &[u32]
+    requires { (own : List ℕ) × (slice_get a.now.arrivals k ≡ Some own) }
+    ensures { slice_get a.now.arrivals k ≡ Some result.now }
+{
+    match a.arrivals(k) {
+        Some(arrivals) => arrivals,
+        None => unreachable!(),
+    }
+}
+
+// The latest arrival of these items, and 0 of none.
+fn latest(arrivals: &[u32], items: &[u32]) -> u32
+    requires { (r i : ℕ) → slice_get items.now r ≡ Some i → i < length arrivals.now }
+    ensures { result ≡ latest arrivals.now items.now }
+{
+    let mut most = 0u32;
+    for item in items {
+        most = most.max(arrivals[*item as usize]);
+    }
+    most
+}
+
+// The bundles again.
+fn all_copied(alloc: Global, bundles: &[Bundle]) -> Result<Vec<Bundle>, NetFault>
+    ensures ok { IfOk result (λ v. v.items ≡ bundles.now) }
+    ensures fault { result ≢ Err NetFault.Full }
+{
+    let mut all = Vec::new(alloc);
+    for bundle in bundles {
+        let again = copied(alloc, bundle)?;
+        keep_bundle(&mut all, again)?;
+    }
+    Ok(all)
+}
+
+// The nets of one of so many lanes, of each bundle.
+fn lane_of(
+    alloc: Global,
+    bundles: &[Bundle],
+    copies: u32,
+    lane: u32,
+) -> Result<Vec<Bundle>, NetFault>
+    requires { lane < copies }
+    ensures ok { IfOk result (λ v. v.items ≡ map (lane_nets copies lane) bundles.now) }
+    ensures fault { result ≢ Err NetFault.Full }
+{
+    let mut all = Vec::new(alloc);
+    for bundle in bundles {
+        let columns = bundle.nets().len() / copies as usize;
+        let nets = piece(alloc, bundle.nets(), lane as usize * columns, columns)?;
+        keep_bundle(&mut all, nets)?;
+    }
+    Ok(all)
+}
+
+/// The results of instance `k` on bundles whose block 0 begins in clock `at` after reset, all as late as the latest.
+#[cycle(lowering)]
+pub fn lower_instance(
+    alloc: Global,
+    nl: &mut Netlist,
+    clocks: &mut Clocks,
+    p: &StProgram,
+    a: &Timing,
+    k: u32,
+    ins: &[Bundle],
+    at: u32,
+) -> Result<Vec<Bundle>, NetFault>
+    requires belongs { Belongs clocks.old nl.old.cells }
+    requires timed { IsTimed (st_func_trees p.now) a.now.arrivals }
+    requires light { (s : Tree) × IsLight (st_func_trees p.now) k at s }
+    requires ins { (s : Tree) → slice_get (st_func_trees p.now) k ≡ Some s → AreBundles nl.old.cells (streams_of s.ins) ins.now }
+    ensures belongs { Belongs clocks.new nl.new.cells }
+    ensures keeps { KeepsCounters clocks.old clocks.new }
+    ensures grows { GrowsBy nl.old nl.new (instance_costs (st_func_trees p.now) k).load }
+    ensures adds { OnOk result (Adds nl.old nl.new (instance_costs (st_func_trees p.now) k).muls (instance_costs (st_func_trees p.now) k).mems) }
+    ensures full { IsFullAt result nl.new }
+    ensures results { IfOk result (λ v. (s : Tree) → slice_get (st_func_trees p.now) k ≡ Some s → AreChosen nl.new.cells clocks.old.rst at (callees (take k (st_func_trees p.now))) s ins.now (instance_costs (st_func_trees p.now) k).latency s.results v.items) }
+{
+    let s = instance(p, k);
+    let arrivals = arrivals_of(a, k);
+    let mut items = all_copied(alloc, ins)?;
+    for j in 0..s.nodes.len() {
+        let made = lower_node(alloc, nl, clocks, p, a, k, j, &items, at)?;
+        keep_bundle(&mut items, made)?;
+    }
+    let end = latest(arrivals, &s.results);
+    joined(alloc, nl, clocks, &items, arrivals, end, &s.results)
+}
+
+// Node `j` of an instance, on the items before it.
+#[cycle(lowering)]
+fn lower_node(
+    alloc: Global,
+    nl: &mut Netlist,
+    clocks: &mut Clocks,
+    p: &StProgram,
+    a: &Timing,
+    k: u32,
+    j: usize,
+    items: &[Bundle],
+    at: u32,
+) -> Result<Bundle, NetFault>
+    requires belongs { Belongs clocks.old nl.old.cells }
+    requires timed { IsTimed (st_func_trees p.now) a.now.arrivals }
+    requires light { (s : Tree) × IsLight (st_func_trees p.now) k at s }
+    requires node { (s : Tree) → slice_get (st_func_trees p.now) k ≡ Some s → j < length s.nodes }
+    requires items { (s : Tree) → slice_get (st_func_trees p.now) k ≡ Some s → AreStanding nl.old.cells s (length s.ins + j) items.now }
+    ensures belongs { Belongs clocks.new nl.new.cells }
+    ensures keeps { KeepsCounters clocks.old clocks.new }
+    ensures grows { (s : Tree) (n : Node) (t : NodeTiming) → IsNodeAt (st_func_trees p.now) k j s n t → GrowsBy nl.old nl.new t.load }
+    ensures adds { OnOk result ((s : Tree) (n : Node) (t : NodeTiming) → IsNodeAt (st_func_trees p.now) k j s n t → Adds nl.old nl.new t.muls t.mems) }
+    ensures full { IsFullAt result nl.new }
+    ensures item { IfOk result (λ y. (s : Tree) (ins : List (List Net)) → slice_get (st_func_trees p.now) k ≡ Some s
+        → AreItems nl.old.cells clocks.old.rst at (callees (take k (st_func_trees p.now))) s (arrivals_in (st_func_trees p.now) k s) ins (length s.ins + j) items.now
+        → IsItem nl.new.cells clocks.old.rst at (callees (take k (st_func_trees p.now))) s ins (slice_index (arrivals_in (st_func_trees p.now) k s) (length s.ins + j)) (length s.ins + j) y) }
+{
+    flows_fit();
+    let s = instance(p, k);
+    let arrivals = arrivals_of(a, k);
+    let node = &s.nodes[j];
+    let start = latest(arrivals, &node.args);
+    let args = joined(alloc, nl, clocks, items, arrivals, start, &node.args)?;
+    match &node.op {
+        StOp::Body(m) => {
+            lower_bodies(alloc, nl, clocks, p, a, *m, node.copies, &args, at + start)
+        }
+        _ => build(alloc, nl, clocks, s, node, &args, at + start),
+    }
+}
+
+// So many copies of instance `m`, one a lane.
+#[cycle(lowering)]
+fn lower_bodies(
+    alloc: Global,
+    nl: &mut Netlist,
+    clocks: &mut Clocks,
+    p: &StProgram,
+    a: &Timing,
+    m: u32,
+    copies: u32,
+    args: &[Bundle],
+    at: u32,
+) -> Result<Bundle, NetFault>
+    requires belongs { Belongs clocks.old nl.old.cells }
+    requires timed { IsTimed (st_func_trees p.now) a.now.arrivals }
+    requires light { (f : Tree) × IsLight (st_func_trees p.now) m at f }
+    requires some { 1 ≤ copies }
+    requires args { (f : Tree) → slice_get (st_func_trees p.now) m ≡ Some f → (slots : ℕ) × AreBundles nl.old.cells (map (elements_stream slots copies) f.ins) args.now }
+    ensures belongs { Belongs clocks.new nl.new.cells }
+    ensures keeps { KeepsCounters clocks.old clocks.new }
+    ensures grows { GrowsBy nl.old nl.new (copies * (instance_costs (st_func_trees p.now) m).load) }
+    ensures adds { OnOk result (Adds nl.old nl.new (copies * (instance_costs (st_func_trees p.now) m).muls) (copies * (instance_costs (st_func_trees p.now) m).mems)) }
+    ensures full { IsFullAt result nl.new }
+    ensures built { IfOk result (λ y. (f : Tree) (slots rounds : ℕ) → slice_get (st_func_trees p.now) m ≡ Some f → slots ≤ rounds
+        → IsBuilt nl.new clocks.old.rst at (bodies_part (callees (take m (st_func_trees p.now))) f slots rounds copies (instance_costs (st_func_trees p.now) m).latency) args.now y) }
+{
+    flows_fit();
+    let mut out = Vec::new(alloc);
+    for lane in 0..copies {
+        let own = lane_of(alloc, args, copies, lane)?;
+        let results = lower_instance(alloc, nl, clocks, p, a, m, &own, at)?;
+        add(&mut out, results[0].nets())?;
+    }
+    Ok(Bundle::new(out))
+}

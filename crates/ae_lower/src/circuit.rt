@@ -1,0 +1,53 @@
+// The whole circuit.
+
+ghost use Rattle.std.specs.Prelude.{ℕ, Some, slice_get, IfOk, length, ◌≡◌, ◌<◌};
+ghost use Rattle.ae_rewrite.specs.StProgramTree.{StFuncTree as Tree, st_func_trees};
+ghost use Rattle.ae_delay.specs.Timings.{AreTimes};
+ghost use Rattle.ae_flow.specs.Fitted.{AreFitted};
+ghost use Rattle.ae_lower.specs.Circuits.{IsCircuitOf, last_of};
+
+use crate::calls::lower_instance;
+use crate::ports::{add_input, add_inputs, add_results};
+use ae_clocked::Clocks;
+use ae_delay::Timing;
+use ae_netlist::{Netlist, Port};
+use ae_rewrite::{StFunc, StProgram};
+use std::alloc::{AllocError, Global};
+
+/// More cells than a circuit takes: 16 for each unit of the greatest load, the reset, and the words of the parameters.
+const MOST_CELLS: u32 = 2_000_000;
+
+/// Instance number `k`.
+fn instance(p: &StProgram, k: u32) -> &StFunc
+    requires { k < length p.now }
+    ensures { slice_get p.now k ≡ Some result.now }
+{
+    match p.instance(k) {
+        Some(s) => s,
+        None => unreachable!(),
+    }
+}
+
+/// The circuit of a program, by its timing: the reset and the words of the parameters go in, and in every reset run each
+/// block of them makes the words of the results come out, the latency later. It has at most 16 cells for each unit of the
+/// load, one for the reset and one for each word of the parameters. The error comes only for want of memory.
+pub fn lower(alloc: Global, p: &StProgram, a: &Timing) -> Result<Netlist, AllocError>
+    requires fitted { AreFitted (st_func_trees p.now) }
+    requires times { AreTimes (st_func_trees p.now) a.now }
+    ensures { IfOk result (λ n. (s : Tree) → slice_get (st_func_trees p.now) (last_of (st_func_trees p.now)) ≡ Some s → IsCircuitOf (st_func_trees p.now) s n) }
+{
+    let last = p.count() - 1;
+    let s = instance(p, last);
+    let _load = a.load();
+    let mut nl = Netlist::new(alloc, MOST_CELLS);
+    let rst = add_input(&mut nl, 1, Port::Reset)?;
+    let ins = add_inputs(alloc, &mut nl, &s.ins)?;
+    let mut clocks = Clocks::new(alloc, rst);
+    let results = match lower_instance(alloc, &mut nl, &mut clocks, p, a, last, &ins, 0) {
+        Ok(results) => results,
+        Err(_) => return Err(AllocError),
+    };
+    add_results(&mut nl, s, &results)?;
+    nl.formed();
+    Ok(nl)
+}

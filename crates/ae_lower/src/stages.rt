@@ -1,0 +1,192 @@
+// The stages of the operators that call nothing.
+
+ghost use Rattle.std.specs.Prelude.{◌≡◌, ◌≢◌, ◌≤◌, ◌<◌, ◌*◌, ◌∷◌, [], ℕ, true, map, IfOk, Some, Err};
+ghost use Rattle.ae_word.specs.WordTable.{folds};
+ghost use Rattle.ae_sttype.specs.StTree.{StTree, st_tree, time};
+ghost use Rattle.ae_sttype.specs.Size.{IsInSize};
+ghost use Rattle.ae_rewrite.specs.Sound.{FixedFits, IsSpread};
+ghost use Rattle.ae_delay.specs.Moving.{constant_move, op_move};
+ghost use Rattle.ae_moves.specs.Trees.{origin_tree};
+ghost use Rattle.ae_gather.specs.Gathers.{move_of};
+ghost use Rattle.ae_flow.specs.Flow.{first_width};
+ghost use Rattle.ae_flow.specs.Fitted.{FitsMove, IsArranged, IsOneOf};
+
+use ae_delay::origins;
+use ae_gather::{Gather, Origin};
+use ae_netlist::NetFault;
+use ae_reduce::Reduce;
+use ae_rewrite::MoveOp;
+use ae_scan::Scan;
+use ae_sttype::StType;
+use ae_word::WordOp;
+use std::alloc::Global;
+
+fn copy(alloc: Global, s: &StType) -> Result<StType, NetFault>
+    ensures ok { IfOk result (λ t. st_tree t ≡ st_tree s.now) }
+    ensures fault { result ≢ Err NetFault.Full }
+{
+    match s.copy(alloc) {
+        Ok(t) => Ok(t),
+        Err(_) => Err(NetFault::Memory),
+    }
+}
+
+/// The width of the first word of each element.
+pub fn first_width(s: &StType) -> u32
+    requires { IsInSize (st_tree s.now) }
+    ensures { result ≡ first_width (st_tree s.now) }
+{
+    match s.atom().width(0) {
+        Some(width) => width,
+        None => unreachable!(),
+    }
+}
+
+fn words(alloc: Global, words: &[u64]) -> Result<Vec<Origin>, NetFault>
+    ensures ok { IfOk result (λ v. v.items ≡ map (λ w. Origin.Fixed w) words.now) }
+    ensures fault { result ≢ Err NetFault.Full }
+{
+    match words.iter().map(|w| Origin::Fixed(*w)).collect(alloc) {
+        Ok(source) => Ok(source),
+        Err(_) => Err(NetFault::Memory),
+    }
+}
+
+/// A constant: a move in which every word is fixed.
+pub fn constant(alloc: Global, fixed: &[u64], out: &StType) -> Result<Gather, NetFault>
+    requires out { IsInSize (st_tree out.now) }
+    requires fits { FixedFits (st_tree out.now) fixed.now }
+    ensures is { IfOk result (λ g. move_of g ≡ constant_move fixed.now (st_tree out.now)) }
+    ensures fault { result ≢ Err NetFault.Full }
+{
+    let source = words(alloc, fixed)?;
+    let layout = copy(alloc, out)?;
+    match Gather::new(Vec::new(alloc), layout, source) {
+        Some(gather) => Ok(gather),
+        None => unreachable!(),
+    }
+}
+
+fn sources(alloc: Global, how: MoveOp, arg: &StType, out: &StType) -> Result<Vec<Origin>, NetFault>
+    requires arg { IsInSize (st_tree arg.now) }
+    requires out { IsInSize (st_tree out.now) }
+    requires fits { FitsMove how (st_tree arg.now) (st_tree out.now) }
+    ensures ok { IfOk result (λ v. map origin_tree v.items ≡ (op_move how (st_tree arg.now) (st_tree out.now)).origins) }
+    ensures fault { result ≢ Err NetFault.Full }
+{
+    match origins(alloc, how, arg, out) {
+        Ok(source) => Ok(source),
+        Err(_) => Err(NetFault::Memory),
+    }
+}
+
+fn one(alloc: Global, s: StType) -> Result<Vec<StType>, NetFault>
+    ensures ok { IfOk result (λ v. v.items ≡ s ∷ []) }
+    ensures fault { result ≢ Err NetFault.Full }
+{
+    let mut ins = Vec::new(alloc);
+    match ins.push(s) {
+        Ok(()) => Ok(ins),
+        Err(_) => Err(NetFault::Memory),
+    }
+}
+
+/// A move of elements.
+pub fn moving(alloc: Global, how: MoveOp, arg: &StType, out: &StType) -> Result<Gather, NetFault>
+    requires arg { IsInSize (st_tree arg.now) }
+    requires out { IsInSize (st_tree out.now) }
+    requires time { time (st_tree arg.now) ≡ time (st_tree out.now) }
+    requires fits { FitsMove how (st_tree arg.now) (st_tree out.now) }
+    ensures is { IfOk result (λ g. move_of g ≡ op_move how (st_tree arg.now) (st_tree out.now)) }
+    ensures fault { result ≢ Err NetFault.Full }
+{
+    let source = sources(alloc, how, arg, out)?;
+    let ins = one(alloc, copy(alloc, arg)?)?;
+    let layout = copy(alloc, out)?;
+    match Gather::new(ins, layout, source) {
+        Some(gather) => Ok(gather),
+        None => unreachable!(),
+    }
+}
+
+// The layout of the one element that comes in this one.
+fn element_of(raw: &StType) -> &StType
+    requires { (t : StTree) × IsOneOf t (st_tree raw.now) }
+    ensures { IsOneOf (st_tree result.now) (st_tree raw.now) }
+{
+    match raw {
+        StType::S { n: _, of } => of,
+        StType::T { n: _, i: _, of } => of,
+        StType::Atom(_) => unreachable!(),
+    }
+}
+
+/// The fold of elements on lanes and in slots into one that comes in the layout `raw`.
+pub fn reducing(
+    alloc: Global,
+    op: WordOp,
+    slots: u32,
+    lanes: u32,
+    raw: &StType,
+    budget: u32,
+) -> Result<Reduce, NetFault>
+    requires op { folds op ≡ true }
+    requires spread { IsSpread slots lanes }
+    requires some { 1 ≤ budget }
+    requires most { budget ≤ 4096 }
+    requires raw { IsInSize (st_tree raw.now) }
+    requires one { (t : StTree) × (IsOneOf t (st_tree raw.now) × (slots * time t ≤ budget)) }
+    ensures is { IfOk result (λ r. (r.op ≡ op) × (r.slots ≡ slots) × (r.lanes ≡ lanes) × (r.period ≡ budget) × IsOneOf (st_tree r.element) (st_tree raw.now)) }
+    ensures fault { result ≢ Err NetFault.Full }
+{
+    let element = copy(alloc, element_of(raw))?;
+    match Reduce::new(op, slots, lanes, element, budget) {
+        Some(reduce) => Ok(reduce),
+        None => unreachable!(),
+    }
+}
+
+// The layout of the elements that come on so many lanes.
+fn elements_of(s: &StType, lanes: u32) -> &StType
+    requires { (slots : ℕ) × (t : StTree) × IsArranged slots lanes t (st_tree s.now) }
+    ensures { (slots : ℕ) (t : StTree) → IsArranged slots lanes t (st_tree s.now) → st_tree result.now ≡ t }
+{
+    match s {
+        StType::S { n: _, of } => of,
+        StType::T { n: _, i: _, of } => {
+            if lanes == 1 {
+                return of;
+            }
+            match &**of {
+                StType::S { n: _, of } => of,
+                _ => unreachable!(),
+            }
+        }
+        StType::Atom(_) => unreachable!(),
+    }
+}
+
+/// The folds of elements on lanes and in slots up to each one.
+pub fn scanning(
+    alloc: Global,
+    op: WordOp,
+    slots: u32,
+    lanes: u32,
+    out: &StType,
+    budget: u32,
+) -> Result<Scan, NetFault>
+    requires op { folds op ≡ true }
+    requires spread { IsSpread slots lanes }
+    requires some { 1 ≤ budget }
+    requires most { budget ≤ 4096 }
+    requires out { IsInSize (st_tree out.now) }
+    requires arranged { (t : StTree) × (IsArranged slots lanes t (st_tree out.now) × (slots * time t ≤ budget)) }
+    ensures is { IfOk result (λ r. (r.op ≡ op) × (r.slots ≡ slots) × (r.lanes ≡ lanes) × (r.period ≡ budget) × IsArranged slots lanes (st_tree r.element) (st_tree out.now)) }
+    ensures fault { result ≢ Err NetFault.Full }
+{
+    let element = copy(alloc, elements_of(out, lanes))?;
+    match Scan::new(op, slots, lanes, element, budget) {
+        Some(scan) => Ok(scan),
+        None => unreachable!(),
+    }
+}
