@@ -9,7 +9,7 @@ use Rattle.ae_sttype.specs.declared.st_type.Slot.{Slot}
 use Rattle.ae_sttype.specs.StTree.{StTree, atom, tseq, sseq}
 use Rattle.ae_sttype.specs.Slots.{slots}
 use Rattle.ae_seq.specs.ProgramTree.{OpTree, word, const, each, NodeTree, FuncTree, ProgramTree}
-use Rattle.ae_tool.specs.Correct.{ModulePort, name_of, program_ports, result_types, HaveLayouts}
+use Rattle.ae_correct.specs.Correct.{ModulePort, name_of, program_ports, result_types, HaveLayouts}
 
 abbrev byte : StTree
 byte = atom (unsigned_word 8)

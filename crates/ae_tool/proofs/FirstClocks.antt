@@ -21,7 +21,7 @@ use Rattle.ae_elab.specs.SameRuns.{HasSameRuns, BeginAlike, HaveEqualOutputs, ou
 use Rattle.ae_tool.specs.declared.first_path.FirstPath.{FirstPath}
 use Rattle.ae_tool.specs.FirstPath.{first_cells, first_outlets, reset_cell}
 use Rattle.ae_tool.specs.ModuleTexts.{first_circuit}
-use Rattle.ae_tool.specs.Correct.{wave, name_of, input_ports, BundlesHold}
+use Rattle.ae_correct.specs.Correct.{wave, name_of, input_ports, BundlesHold}
 use Rattle.ae_tool.specs.ClockLines.{clock_count, fill_word, IsTaken, AreFilled, mark, spaced, clock_lines, IsClockText}
 use Rattle.ae_tool.specs.Playing.{clock_row, rows_until, shown_words, net_lines, fill_bytes, ArePathLines}
 use Rattle.ae_tool.proofs.Rows.{rows, row-same}

@@ -27,7 +27,8 @@ use Rattle.ae_tool.specs.declared.first_path.FirstPath.{FirstPath}
 use Rattle.ae_tool.specs.FirstPath.{sum_net, first_cells, first_outlets}
 use Rattle.ae_tool.specs.FirstPrograms.{first_path_of}
 use Rattle.ae_tool.specs.ModuleTexts.{first_circuit, IsModuleText, IsProgramText}
-use Rattle.ae_tool.specs.Correct.{parameter_types, HaveLayouts, ModulePort, port_of, ports_of, lane_ports, input_ports, output_ports, program_ports, name_of, wave, BundlesHold, AreValues, KeepsBlocks, IsCorrect}
+use Rattle.ae_correct.specs.Correct.{parameter_types, HaveLayouts, ModulePort, port_of, ports_of, lane_ports, input_ports, output_ports, program_ports, name_of, wave, BundlesHold, KeepsBlocks, IsCorrect}
+use Rattle.ae_flow.specs.Laws.{AreValues}
 use Rattle.ae_tool.proofs.FirstRuns.{sum_word, register_law}
 use Rattle.ae_tool.proofs.FirstMeaning.{byte_value, PathParts, path_parts, mean_is, flat_bytes, bytes_of, result_typed}
 use Rattle.ae_tool.proofs.FirstPorts.{first_module, in_name, out_name, in_net, out_net, first_clocked, ports_filtered, input_words_are, output_words_are, net_input_words_are, net_output_words_are}

@@ -23,7 +23,7 @@ use Rattle.ae_tool.specs.declared.first_path.Operand.TheVariants.{Element, Const
 use Rattle.ae_tool.specs.declared.first_path.FirstPath.{FirstPath}
 use Rattle.ae_tool.specs.FirstPath.{byte_cell, net, reset_cell, input_cells, shared_cells, lane_cells, sum_cells, sum_net, sum_outlets, common_cells, first_cells, first_outlets}
 use Rattle.ae_tool.specs.ModuleTexts.{first_circuit}
-use Rattle.ae_tool.specs.Correct.{is_port}
+use Rattle.ae_correct.specs.Correct.{is_port}
 use Rattle.ae_tool.proofs.FirstRuns.{register_found}
 use Rattle.ae_tool.proofs.FirstCells.{length_input_cells}
 use Rattle.ae_tool.proofs.Rows.{rows, map-append, map-rows, rows-kept, rows-dropped}

@@ -18,7 +18,7 @@ use Rattle.ae_tool.specs.declared.first_path.FirstPath.{FirstPath}
 use Rattle.ae_tool.specs.FirstPath.{IsFirstPath}
 use Rattle.ae_tool.specs.FirstPrograms.{first_path_of}
 use Rattle.ae_tool.specs.Refusals.{refusal_line}
-use Rattle.ae_tool.specs.Correct.{parameter_types, HaveLayouts, IsCorrect}
+use Rattle.ae_correct.specs.Correct.{parameter_types, HaveLayouts, IsCorrect}
 use Rattle.ae_tool.specs.Inputs.{widths_of, blocks_of}
 use Rattle.ae_tool.specs.ClockLines.{clock_count, IsClockText}
 use Rattle.ae_tool.specs.RunTexts.{input_widths, output_count, layout_columns, run_size, run_limit, IsRunText}

@@ -20,7 +20,7 @@ use Rattle.ae_delay.specs.Costs.{LineLoad, NodeTiming, all_costs, first_over, fu
 use Rattle.ae_delay.specs.Timings.{AreTimes, Times, item_arrivals}
 use Rattle.ae_delay.specs.Weighing.{IsOverAt, cost_of}
 use Rattle.ae_tool.specs.Schedules.{HasLargeLoad, HasMain, IsScheduled, load_limit}
-use Rattle.ae_tool.specs.Correct.{main_of}
+use Rattle.ae_correct.specs.Correct.{main_of}
 use Rattle.ae_tool.specs.PlanTexts.{IsInstanceOf, plan_text, planned_text}
 use Rattle.ae_tool.specs.CostTables.{AllNamed, cost_table}
 

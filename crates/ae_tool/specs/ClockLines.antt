@@ -11,7 +11,7 @@ use Rattle.ae_vread.specs.ModuleTree.{NetTree, ModuleTree}
 use Rattle.ae_elab.specs.Values.{ModuleClock}
 use Rattle.ae_elab.specs.Runs.{clock_at, IsResetRun}
 use Rattle.ae_elab.specs.SameRuns.{states_of, kind_depth, held_words, output_words}
-use Rattle.ae_tool.specs.Correct.{wave, input_ports, BundlesHold}
+use Rattle.ae_correct.specs.Correct.{wave, input_ports, BundlesHold}
 
 -- ---- the run
 

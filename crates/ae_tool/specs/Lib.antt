@@ -2,7 +2,6 @@ pub mod Answers
 pub mod CheckTexts
 pub mod ClockLines
 pub mod Commands
-pub mod Correct
 pub mod CostTables
 pub mod EvalRows
 pub mod EvalTexts

@@ -15,7 +15,7 @@ use Rattle.ae_seq.specs.ProgramTree.{ProgramTree}
 use Rattle.ae_tool.specs.declared.first_path.FirstPath.{FirstPath}
 use Rattle.ae_tool.specs.FirstPath.{first_cells, first_outlets}
 use Rattle.ae_tool.specs.FirstPrograms.{first_path_of}
-use Rattle.ae_tool.specs.Correct.{IsCorrect}
+use Rattle.ae_correct.specs.Correct.{IsCorrect}
 
 -- the netlist of what a program of the first form computes
 abbrev pub first_circuit : FirstPath → Circuit

@@ -5,7 +5,7 @@ use Rattle.ae_seq.specs.Typing.{◌>>=◌}
 use Rattle.ae_sttype.specs.StTree.{StTree}
 use Rattle.ae_sttype.specs.Moves.{columns_of}
 use Rattle.ae_rewrite.specs.LayoutRule.{lay_of}
-use Rattle.ae_tool.specs.Correct.{parameter_types, result_types, HaveLayouts}
+use Rattle.ae_correct.specs.Correct.{parameter_types, result_types, HaveLayouts}
 use Rattle.ae_tool.specs.Inputs.{widths_of, blocks_of}
 use Rattle.ae_tool.specs.ModuleTexts.{IsProgramText}
 use Rattle.ae_tool.specs.ClockLines.{clock_count, IsClockText}

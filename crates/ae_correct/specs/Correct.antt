@@ -3,7 +3,7 @@
 use Rattle.std.specs.Prelude.{◌≡◌, ℕ, zero, suc, ◌+◌, ◌-◌, ◌*◌, ◌≤◌, Bool, true, false, ◌||◌, List, [], ◌∷◌, ◌++◌, length, map, filter, get_or, slice_get, Option, Some, None, codes}
 use Rattle.ae_word.specs.AtomTree.{WordKind, atom_kinds}
 use Rattle.ae_seqtype.specs.SeqTree.{SeqTree}
-use Rattle.ae_seqtype.specs.ValueTree.{ValueTree, flat, Stands}
+use Rattle.ae_seqtype.specs.ValueTree.{ValueTree, flat}
 use Rattle.ae_sttype.specs.StTree.{StTree, lanes, element_atom, element_words}
 use Rattle.ae_sttype.specs.Slots.{slots}
 use Rattle.ae_sttype.specs.Holds.{Holds}
@@ -11,6 +11,7 @@ use Rattle.ae_rewrite.specs.LayoutRule.{lay_of}
 use Rattle.ae_seq.specs.ProgramTree.{FuncTree, ProgramTree}
 use Rattle.ae_seq.specs.Typing.{◌>>=◌, param_types, type_at}
 use Rattle.ae_seq.specs.Meaning.{at, mean}
+use Rattle.ae_flow.specs.Laws.{AreValues}
 use Rattle.ae_netlist.specs.declared.cell.Port.TheVariants.{In, Out}
 use Rattle.ae_vread.specs.ModuleTree.{NetTree, ModuleTree}
 use Rattle.ae_elab.specs.Names.{is_input_kind, is_output_kind, clock_name}
@@ -105,15 +106,6 @@ wave run start ports c column = (clock_at run (start + c)).word (get_or (map nam
 -- from clock k on, the ports of each layout hold the value of its number
 pub record BundlesHold (run : List ModuleClock) (start k : ℕ) (ports : ℕ → StTree → List ModulePort) (layouts : List StTree) (values : List ValueTree) : Type 0 where
   pub each : (q : ℕ) (s : StTree) → slice_get layouts q ≡ Some s → Holds (wave run start (ports q s)) k (element_words s) (slots s) (flat (at values q))
-
--- a value of a type, and one of its type for each parameter
-abbrev pub IsValue : SeqTree → ValueTree → Type 0
-IsValue t v = (ws : List ℕ) × Stands t ws v
-
-abbrev pub AreValues : List SeqTree → List ValueTree → Type 0
-AreValues [] [] = Unit {0}
-AreValues (t ∷ ts) (v ∷ vs) = IsValue t v × AreValues ts vs
-AreValues _ _ = ⊥
 
 -- in a reset run, where every block of arguments stands on the inputs, one behind the other without a gap, the program's
 -- results of each block stand on the outputs, all of them so many clocks later

@@ -1,0 +1,9 @@
+pub mod Places
+pub mod ModuleClock
+pub mod Nets
+pub mod ModulePorts
+pub mod Clocks
+pub mod Layouts
+pub mod Keeps
+pub mod Built
+pub mod Written

@@ -1,0 +1,28 @@
+-- What is proved of the module of a program's circuit.
+use Rattle.std.specs.Prelude.{◌≡◌, ℕ, ◌≤◌, List, length, Some, slice_get}
+use Rattle.ae_netlist.specs.Circuit.{Circuit}
+use Rattle.ae_seq.specs.ProgramTree.{ProgramTree}
+use Rattle.ae_eval.specs.Stack.{IsTyped}
+use Rattle.ae_rewrite.specs.StProgramTree.{StFuncTree}
+use Rattle.ae_rewrite.specs.Scheduled.{IsSchedule}
+use Rattle.ae_rewrite.specs.Sound.{IsSound}
+use Rattle.ae_elab.specs.SameRuns.{HasSameRuns}
+use Rattle.ae_verilog.specs.NetlistModule.{netlist_module}
+use Rattle.ae_verilog.specs.Written.{IsWritableNetlist}
+use Rattle.ae_lower.specs.Lowering.{instance_costs}
+use Rattle.ae_lower.specs.Circuits.{IsCircuitOf, last_of}
+use Rattle.ae_correct.specs.Correct.{IsCorrect}
+
+-- the circuit of the schedule of a typed program, within the limit of load, can be written as a module
+abbrev pub CircuitsAreWritable : Type 0
+CircuitsAreWritable =
+    (p : ProgramTree) (slowdown : ℕ) (instances : List StFuncTree) (s : StFuncTree) (n : Circuit) → IsTyped p → IsSchedule p slowdown instances → IsSound instances
+    → slice_get instances (last_of instances) ≡ Some s → (instance_costs instances (last_of instances)).load ≤ 100000 → IsCircuitOf instances s n
+    → IsWritableNetlist n.cells n.outlets (length s.results)
+
+-- the module that it is written as, where it has the netlist's runs, is correct for the program, with the latency of the costs
+abbrev pub CircuitsAreCorrect : Type 0
+CircuitsAreCorrect =
+    (p : ProgramTree) (slowdown : ℕ) (instances : List StFuncTree) (s : StFuncTree) (n : Circuit) → IsTyped p → IsSchedule p slowdown instances → IsSound instances
+    → slice_get instances (last_of instances) ≡ Some s → IsCircuitOf instances s n → HasSameRuns (netlist_module n.cells n.outlets (length s.results)) n
+    → IsCorrect (netlist_module n.cells n.outlets (length s.results)) p slowdown (instance_costs instances (last_of instances)).latency

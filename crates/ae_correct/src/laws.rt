@@ -1,0 +1,18 @@
+// The module of a circuit.
+
+ghost use Rattle.ae_correct.specs.Laws.{CircuitsAreCorrect, CircuitsAreWritable};
+
+use ae_flow::flows_mean;
+
+/// A law: the circuit of a typed program's schedule, where its load is at most 100,000, can be written as a module.
+pub fn circuits_are_writable()
+    ensures { CircuitsAreWritable }
+{}
+
+/// A law: the module that the circuit of a typed program's schedule is written as, where it has the circuit's runs, is
+/// correct for the program.
+pub fn circuits_are_correct()
+    ensures { CircuitsAreCorrect }
+{
+    flows_mean();
+}
