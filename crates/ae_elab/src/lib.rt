@@ -1,4 +1,4 @@
-//! What a module of the Verilog profile means: widths and values, runs, faults and weight.
+//! From a module of the Verilog profile to a netlist with the same runs, or to the module's first fault.
 #![tactic(auto)]
 
 mod build;
