@@ -8,6 +8,8 @@ pub mod laws;
 mod nodes;
 mod ports;
 mod stages;
+#[cfg(test)]
+mod tests;
 mod wires;
 
 pub use circuit::lower;

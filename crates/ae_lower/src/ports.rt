@@ -51,6 +51,7 @@ pub fn add_input(nl: &mut Netlist, width: u32, port: Port) -> Result<NetId, Allo
     }
 }
 
+/// Adds the inputs of one lane, and keeps their nets.
 fn lane_inputs(
     nl: &mut Netlist,
     nets: &mut Vec<NetId>,
@@ -69,6 +70,7 @@ fn lane_inputs(
     Ok(())
 }
 
+/// Adds the inputs of one parameter, and answers their nets.
 fn param_inputs(
     alloc: Global,
     nl: &mut Netlist,
@@ -104,6 +106,7 @@ pub fn add_inputs(
     Ok(bundles)
 }
 
+/// Adds the outputs of one lane of result `number`.
 fn lane_outputs(nl: &mut Netlist, nets: &[NetId], number: u32, lane: u32) -> Result<(), AllocError>
     requires nets { HaveOwnWidths nl.old.cells nets.now }
     requires room { length nl.old.outlets + length nets.now < 2 ^ 32 - 1 }
