@@ -7,3 +7,9 @@ pub mod Layouts
 pub mod Keeps
 pub mod Built
 pub mod Written
+pub mod Standing
+pub mod Rows
+pub mod FirstWords
+pub mod FedInputs
+pub mod FedRows
+pub mod Shown

@@ -1,17 +1,22 @@
 -- What is proved of the module of a program's circuit.
-use Rattle.std.specs.Prelude.{◌≡◌, ℕ, ◌≤◌, List, length, Some, slice_get}
+use Rattle.std.specs.Prelude.{◌≡◌, ℕ, ◌<◌, ◌≤◌, List, length, map, Some, slice_get}
 use Rattle.ae_netlist.specs.Circuit.{Circuit}
 use Rattle.ae_seq.specs.ProgramTree.{ProgramTree}
 use Rattle.ae_eval.specs.Stack.{IsTyped}
+use Rattle.ae_eval.specs.Lines.{input_types}
+use Rattle.ae_seqtype.specs.ValueTree.{ValueTree, flat}
 use Rattle.ae_rewrite.specs.StProgramTree.{StFuncTree}
 use Rattle.ae_rewrite.specs.Scheduled.{IsSchedule}
-use Rattle.ae_rewrite.specs.Sound.{IsSound}
+use Rattle.ae_rewrite.specs.Sound.{IsSound, item_layout, item_layouts}
 use Rattle.ae_elab.specs.SameRuns.{HasSameRuns}
 use Rattle.ae_verilog.specs.NetlistModule.{netlist_module}
 use Rattle.ae_verilog.specs.Written.{IsWritableNetlist}
 use Rattle.ae_lower.specs.Lowering.{instance_costs}
 use Rattle.ae_lower.specs.Circuits.{IsCircuitOf, last_of}
+use Rattle.ae_flow.specs.Laws.{AreValues}
+use Rattle.ae_play.specs.Lines.{IsPlayedText}
 use Rattle.ae_correct.specs.Correct.{IsCorrect}
+use Rattle.ae_correct.specs.ClockTexts.{IsClockText}
 
 -- the circuit of the schedule of a typed program, within the limit of load, can be written as a module
 abbrev pub CircuitsAreWritable : Type 0
@@ -26,3 +31,13 @@ CircuitsAreCorrect =
     (p : ProgramTree) (slowdown : ℕ) (instances : List StFuncTree) (s : StFuncTree) (n : Circuit) → IsTyped p → IsSchedule p slowdown instances → IsSound instances
     → slice_get instances (last_of instances) ≡ Some s → IsCircuitOf instances s n → HasSameRuns (netlist_module n.cells n.outlets (length s.results)) n
     → IsCorrect (netlist_module n.cells n.outlets (length s.results)) p slowdown (instance_costs instances (last_of instances)).latency
+
+-- the lines of the circuit's run on the words of blocks are those of the module on the blocks
+abbrev pub PlaysAreShown : Type 0
+PlaysAreShown =
+    (p : ProgramTree) (slowdown : ℕ) (instances : List StFuncTree) (s : StFuncTree) (n : Circuit) (latency fill : ℕ) (blocks : List (List ValueTree)) (text : List ℕ)
+    → IsTyped p → 0 < slowdown → IsSchedule p slowdown instances → IsSound instances → slice_get instances (last_of instances) ≡ Some s → IsCircuitOf instances s n
+    → HasSameRuns (netlist_module n.cells n.outlets (length s.results)) n
+    → ((b : ℕ) (block : List ValueTree) → slice_get blocks b ≡ Some block → AreValues (input_types p) block)
+    → IsPlayedText n slowdown latency fill s.ins (map (item_layout (item_layouts s)) s.results) (map (map flat) blocks) text
+    → IsClockText (netlist_module n.cells n.outlets (length s.results)) slowdown latency fill s.ins (map (item_layout (item_layouts s)) s.results) blocks text

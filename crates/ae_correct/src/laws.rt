@@ -1,6 +1,6 @@
 // The module of a circuit.
 
-ghost use Rattle.ae_correct.specs.Laws.{CircuitsAreCorrect, CircuitsAreWritable};
+ghost use Rattle.ae_correct.specs.Laws.{CircuitsAreCorrect, CircuitsAreWritable, PlaysAreShown};
 
 use ae_flow::flows_mean;
 
@@ -16,3 +16,8 @@ pub fn circuits_are_correct()
 {
     flows_mean();
 }
+
+/// A law: the lines of a circuit's run on the words of blocks are those of its module on the blocks.
+pub fn plays_are_shown()
+    ensures { PlaysAreShown }
+{}

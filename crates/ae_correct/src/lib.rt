@@ -3,4 +3,4 @@
 
 mod laws;
 
-pub use laws::{circuits_are_correct, circuits_are_writable};
+pub use laws::{circuits_are_correct, circuits_are_writable, plays_are_shown};

@@ -1,0 +1,166 @@
+-- What a played circuit shows is what its module shows.
+use Rattle.std.proofs.Common.{ℕ, zero, suc, ◌≡◌, ◌+◌, ◌*◌, ◌<◌, ◌≤◌, List, [], ◌++◌, length, map, take, get_or, Some, slice_get, slice_index, arith, refl, ap, sym, ◌∙◌, subst}
+use Rattle.std.specs.Prelude.{codes}
+use Rattle.std.proofs.lemmas.List.{length-map}
+use Rattle.std.proofs.lemmas.Nat.{row_fits}
+use Rattle.std.proofs.lemmas.Option.{slice_get_within, get_or_from_slice_get}
+use Rattle.ae_seqtype.specs.ValueTree.{ValueTree, flat}
+use Rattle.ae_sttype.specs.declared.st_type.Slot.{Slot}
+use Rattle.ae_sttype.specs.StTree.{StTree, time, lanes, st_atoms, element_words}
+use Rattle.ae_sttype.specs.Slots.{slots}
+use Rattle.ae_sttype.proofs.Places.{slot_at, slot_of, slot_below, length-slots}
+use Rattle.ae_netlist.specs.Circuit.{Circuit}
+use Rattle.ae_netlist.specs.Runs.{Clock}
+use Rattle.ae_netlist.specs.Rows.{IsRunWith, filled}
+use Rattle.ae_vread.specs.ModuleTree.{ModuleTree}
+use Rattle.ae_elab.specs.Values.{ModuleClock}
+use Rattle.ae_elab.specs.Runs.{clock_at, IsRun}
+use Rattle.ae_elab.specs.SameRuns.{BeginAlike, HaveEqualOutputs, output_words}
+use Rattle.ae_verilog.specs.NetlistModule.{netlist_module}
+use Rattle.ae_ops.specs.Blocks.{stream_of, stream_widths}
+use Rattle.ae_seq.specs.ProgramTree.{ProgramTree}
+use Rattle.ae_seq.specs.Meaning.{at}
+use Rattle.ae_eval.specs.Lines.{input_types}
+use Rattle.ae_rewrite.specs.StProgramTree.{StFuncTree}
+use Rattle.ae_rewrite.specs.Scheduled.{IsFilling}
+use Rattle.ae_flow.specs.Fitted.{streams_of}
+use Rattle.ae_flow.specs.Laws.{AreValues}
+use Rattle.ae_flow.proofs.MeaningLayouts.{AllLaidOut}
+use Rattle.ae_lower.specs.Circuits.{columns_in, last_of}
+use Rattle.ae_play.specs.Fed.{clock_row, fed_rows}
+use Rattle.ae_play.specs.Lines.{IsPlayedText, clock_count, clock_line, clock_lines, shown_words}
+use Rattle.ae_correct.specs.Correct.{input_ports, wave}
+use Rattle.ae_correct.specs.ClockTexts.{fill_word, IsClockText, IsFed, IsTaken}
+use Rattle.ae_correct.specs.Laws.{PlaysAreShown}
+use Rattle.ae_correct.proofs.Nets.{HavePorts}
+use Rattle.ae_correct.proofs.Layouts.{as_many_values, inputs_laid, input_types_are, results_of}
+use Rattle.ae_correct.proofs.Keeps.{IsProgramCircuit, keys_of, ins_of, outs_of, ports}
+use Rattle.ae_correct.proofs.Built.{program_circuit}
+use Rattle.ae_correct.proofs.FedRows.{FillAll, AreWhole, length_rows, row_later, small_column, stands_in_row, free_in_row}
+use Rattle.ae_correct.proofs.FirstWords.{begins}
+use Rattle.ae_correct.proofs.FedInputs.{reset_row, input_row}
+
+-- ---- clocks and lines
+
+count_is : (slowdown latency k : ℕ) → 0 < k → clock_count slowdown latency k ≡ latency + k * slowdown
+count_is slowdown latency zero h = absurd (omega (arith, h))
+count_is slowdown latency (suc k) h = refl
+
+lines_alike : (slowdown latency : ℕ) (outs : List StTree) (f g : ℕ → List ℕ) (k : ℕ) → ((c : ℕ) → c < k → f c ≡ g c) → clock_lines slowdown latency outs f k ≡ clock_lines slowdown latency outs g k
+lines_alike slowdown latency outs f g zero h = refl
+lines_alike slowdown latency outs f g (suc k) h =
+    λ i. lines_alike slowdown latency outs f g k (λ c below. h c (omega (arith, below))) i ++ clock_line slowdown latency outs k (h k (omega arith) i)
+
+-- ---- the whole
+
+module _ (p : ProgramTree) (slowdown : ℕ) (instances : List StFuncTree) (s : StFuncTree) (n : Circuit) (c : IsProgramCircuit p slowdown instances s n) (latency fill : ℕ) (blocks : List (List ValueTree))
+    (values : (b : ℕ) (block : List ValueTree) → slice_get blocks b ≡ Some block → AreValues (input_types p) block) where
+  abbrev many : ℕ
+  many = length s.results
+
+  abbrev own : ModuleTree
+  own = netlist_module n.cells n.outlets (length s.results)
+
+  abbrev count : ℕ
+  count = clock_count slowdown latency (length blocks)
+
+  abbrev fed : List (List ℕ)
+  fed = fed_rows slowdown fill s.ins (map (map flat) blocks) (clock_count slowdown latency (length blocks))
+
+  sizes : FillAll slowdown s.ins
+  sizes q t found = subst (λ d. IsFilling d t) c.budget ((c.sound.each (last_of instances) s c.found).ins q t found)
+
+  as_many : AreWhole s.ins blocks
+  as_many b block there =
+      let types = input_types_are p (keys_of instances) s c.typed c.is c.last in
+      as_many_values (input_types p) s.ins block (subst (λ ts. AllLaidOut ts s.ins) types (inputs_laid p (keys_of instances) s c.typed c.is c.last)) (values b block there)
+
+  module _ (run : List ModuleClock) (other : List Clock) (runs : IsRun own run) (with_rows : IsRunWith n.cells fed (filled n.cells fill) other) (alike : BeginAlike own n run other) (equal : HaveEqualOutputs own n run other) where
+    rows_long : length fed ≡ 1 + count
+    rows_long = length_rows slowdown fill s.ins (map (map flat) blocks) count
+
+    run_long : length run ≡ 1 + count
+    run_long = alike.long ∙ with_rows.long ∙ rows_long
+
+    later : (k : ℕ) → k < count → get_or fed (suc k) [] ≡ clock_row slowdown fill s.ins (map (map flat) blocks) k
+    later = row_later slowdown fill s.ins (map (map flat) blocks) count
+
+    abbrev have : HavePorts n.cells n.outlets (ins_of s) (outs_of s)
+    have = ports p slowdown instances s n c
+
+    reset : (t : ℕ) → t < length run → (clock_at run t).word (codes "rst") ≡ get_or (get_or fed t []) 0 0
+    reset = reset_row n many s.ins (outs_of s) have run other fed alike with_rows.takes with_rows.long
+
+    high : (t : ℕ) → t < 1 → t < length run → (clock_at run t).word (codes "rst") ≡ 1
+    high zero early below = reset 0 below
+    high (suc t) early below = absurd (omega (arith, early))
+
+    low : (t : ℕ) → 1 ≤ t → t < length run → (clock_at run t).word (codes "rst") ≡ 0
+    low zero late below = absurd (omega (arith, late))
+    low (suc t) late below = reset (suc t) below ∙ ap (λ r. get_or r 0 0) (later t (omega (arith, below, run_long)))
+
+    -- the words on the inputs are those of the rows
+    on_inputs : (start k q column : ℕ) (x : StTree) → start + k < length run → slice_get s.ins q ≡ Some x → column < length (stream_widths (stream_of x))
+        → wave run start (input_ports q x) k column ≡ get_or (get_or fed (start + k) []) (suc (columns_in (take q (streams_of s.ins)) + column)) 0
+    on_inputs start k q column x below found small = input_row n many s.ins (outs_of s) have run other fed alike with_rows.takes with_rows.long (start + k) q column x below found small
+
+    holds_at : (b q e j : ℕ) (x : StTree) (w : Slot) (block : List ValueTree) → slice_get blocks b ≡ Some block → slice_get s.ins q ≡ Some x → slice_get (slots x) e ≡ Some w → j < element_words x
+        → wave run 1 (input_ports q x) (b * slowdown + w.clock) (w.lane * element_words x + j) ≡ slice_index (flat (at block q)) (e * element_words x + j)
+    holds_at b q e j x w block there found slot word =
+        let f = sizes q x found in
+        let inside : e < st_atoms x = omega (arith, slice_get_within (slots x) e w slot, length-slots x) in
+        let is : slot_of x e ≡ w = get_or_from_slice_get (slots x) e w (slot_at 0 0) slot in
+        let bounds = slot_below x f.size.lengths e inside in
+        let clock : w.clock < time x = subst (λ (y : Slot). y.clock < time x) is bounds.0 in
+        let lane : w.lane < lanes x = subst (λ (y : Slot). y.lane < lanes x) is bounds.1 in
+        let before : b < length blocks = slice_get_within blocks b block there in
+        let fits : b * slowdown + slowdown ≤ length blocks * slowdown = row_fits b slowdown (length blocks) slowdown before (omega arith) in
+        let counted : count ≡ latency + length blocks * slowdown = count_is slowdown latency (length blocks) (omega (arith, before)) in
+        let shown : b * slowdown + w.clock < count = omega (arith, fits, counted, clock, f.time) in
+        let column : ℕ = w.lane * element_words x + j in
+        let next : 1 + (b * slowdown + w.clock) ≡ suc (b * slowdown + w.clock) = omega arith in
+        on_inputs 1 (b * slowdown + w.clock) q column x (omega (arith, shown, run_long)) found (small_column x w.lane j lane word)
+        ∙ ap (λ t. get_or (get_or fed t []) (suc (columns_in (take q (streams_of s.ins)) + column)) 0) next
+        ∙ ap (λ r. get_or r (suc (columns_in (take q (streams_of s.ins)) + column)) 0) (later (b * slowdown + w.clock) shown)
+        ∙ stands_in_row slowdown fill s.ins blocks count sizes as_many b q e j x w block there found slot word clock lane
+
+    free_at : (q l j t : ℕ) (x : StTree) → slice_get s.ins q ≡ Some x → l < lanes x → j < element_words x → t < length run → (IsTaken x slowdown (length blocks) l t → ⊥)
+        → wave run 0 (input_ports q x) t (l * element_words x + j) ≡ fill_word fill x j
+    free_at q l j t x found lane word below free =
+        let z : 0 + t ≡ t = omega arith in
+        let column : ℕ = l * element_words x + j in
+        on_inputs 0 t q column x (omega (arith, below)) found (small_column x l j lane word)
+        ∙ ap (λ i. get_or (get_or fed i []) (suc (columns_in (take q (streams_of s.ins)) + column)) 0) z
+        ∙ free_in_row slowdown fill s.ins blocks count sizes as_many q l j t x found lane word (omega (arith, below, run_long, rows_long)) free
+
+    is_fed : IsFed own slowdown fill s.ins blocks run
+    is_fed = record {
+      reset = record { run_of = runs; some = omega arith; high = high; low = low };
+      begins = λ first. begins own n run other fill c.same alike with_rows.begins first;
+      holds = λ b block there. (record { each = λ q x found e j w slot word. holds_at b q e j x w block there found slot word });
+      elsewhere = record { each = λ q l j t x found lane word below free. free_at q l j t x found lane word below free };
+    }
+
+    -- the module's run shows the same lines
+    pub is_shown : (text : List ℕ) → text ≡ clock_lines slowdown latency (results_of s) (λ k. shown_words n.outlets other (1 + k)) count → IsClockText own slowdown latency fill s.ins (results_of s) blocks text
+    is_shown text lines = record {
+      run = run;
+      long = run_long;
+      fed = is_fed;
+      lines = lines
+          ∙ lines_alike slowdown latency (results_of s) (λ k. shown_words n.outlets other (1 + k)) (λ k. output_words own (clock_at run (1 + k))) count (λ k below. sym (equal.outputs (1 + k) (omega (arith, below, run_long))));
+    }
+
+  pub played : (text : List ℕ) → IsPlayedText n slowdown latency fill s.ins (results_of s) (map (map flat) blocks) text → IsClockText own slowdown latency fill s.ins (results_of s) blocks text
+  played text h =
+      let many_blocks : length (map (map flat) blocks) ≡ length blocks = length-map blocks (map flat) in
+      let with_rows : IsRunWith n.cells fed (filled n.cells fill) h.run =
+      subst (λ k. IsRunWith n.cells (fed_rows slowdown fill s.ins (map (map flat) blocks) (clock_count slowdown latency k)) (filled n.cells fill) h.run) many_blocks h.runs in
+      let lines : text ≡ clock_lines slowdown latency (results_of s) (λ k. shown_words n.outlets h.run (1 + k)) count =
+      h.lines ∙ ap (λ k. clock_lines slowdown latency (results_of s) (λ i. shown_words n.outlets h.run (1 + i)) (clock_count slowdown latency k)) many_blocks in
+      let r = c.same.of_netlist h.run with_rows.runs in
+      is_shown r.0 h.run r.1 with_rows r.2 r.3 text lines
+
+pub plays : PlaysAreShown
+plays p slowdown instances s n latency fill blocks text typed positive h sound found circuit same values shown =
+    played p slowdown instances s n (program_circuit p slowdown instances s n typed h sound found circuit same) latency fill blocks values text shown

@@ -1,0 +1,5 @@
+pub mod Fitting
+pub mod Layouts
+pub mod Playing
+pub mod Standing
+pub mod WordLines

@@ -1,0 +1,10 @@
+use Rattle.std.proofs.Common.{map}
+use Rattle.std.specs.Prelude.{string_bytes}
+use Rattle.ae_sttype.specs.StTree.{st_tree}
+use Rattle.ae_play.specs.Fed.{blocks_of}
+use Rattle.ae_play.proofs.Playing.{Shows}
+use Rattle.ae_play.proofs.clocks.write_clocks.Given as goal
+
+abbrev pub invariant-loop-clock : goal.invariant-loop-clock
+invariant-loop-clock l =
+    Shows l.fn.nl l.fn.slowdown l.fn.latency l.fn.fill (map st_tree l.fn.ins) (map st_tree l.fn.outs) (blocks_of (map st_tree l.fn.ins) l.fn.blocks l.fn.words) l.clocks (string_bytes l.fn.out) l.sim (string_bytes l.out) l.clock

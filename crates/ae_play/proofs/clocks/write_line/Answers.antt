@@ -1,0 +1,16 @@
+use Rattle.std.proofs.Common.{◌-◌, ◌++◌, length, map, ap, ◌∙◌}
+use Rattle.std.specs.Prelude.{string_bytes}
+use Rattle.ae_sttype.specs.StTree.{st_tree}
+use Rattle.ae_play.specs.Lines.{mark, shown_words}
+use Rattle.ae_play.proofs.WordLines.{line_is}
+use Rattle.ae_play.proofs.clocks.write_line.Goals as goal
+
+pub returns : goal.returns
+returns c = λ fill rows run h some p.
+    line_is c.args.clock (map (mark c.args.slowdown c.args.latency c.args.clock) (map st_tree c.args.outs.now)) (shown_words c.args.sim.now.outlets run (length rows - 1))
+    (string_bytes c.args.out.now) (string_bytes c.push_str.new.self) (string_bytes c.push_str-2.new.self) (string_bytes c.write_marks.new.out) (string_bytes c.write_words.new.out) (string_bytes c.push_str-3.new.self)
+    (c.in_ok-push_str.ensures.bytes ∙ ap (λ x. string_bytes c.args.out.now ++ x) c.format.ensures.text)
+    c.in_ok-push_str-2.ensures.bytes
+    c.in_ok-write_marks.ensures
+    (c.in_ok-write_words.ensures fill rows run h some p)
+    c.in_ok-push_str-3.ensures.bytes

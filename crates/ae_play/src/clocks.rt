@@ -1,0 +1,179 @@
+// The lines of a run.
+
+ghost use Rattle.std.specs.Prelude.{◌≡◌, ◌+◌, ◌-◌, ◌*◌, ◌/◌, ◌%◌, ◌<◌, ◌≤◌, ◌^◌, ◌++◌, ◌∷◌, [], ℕ, List, length, map, sum_by, OnOk, All, string_bytes, Some, slice_get};
+ghost use Rattle.ae_sttype.specs.StTree.{StTree, st_tree, time};
+ghost use Rattle.ae_sttype.specs.Size.{IsInSize};
+ghost use Rattle.ae_netlist.specs.Rows.{AreInputs};
+ghost use Rattle.ae_netlist.specs.Runs.{Clock};
+ghost use Rattle.ae_sim.specs.Playing.{HasPlayed, Plays};
+ghost use Rattle.ae_play.specs.Fed.{blocks_of, clock_row, fed_rows, fill_row, size_of};
+ghost use Rattle.ae_play.specs.Lines.{IsPlayedText, clock_count, clock_line, mark, shown_words, spaced};
+
+use crate::rows::{push_block, push_fill};
+use ae_netlist::{Netlist, fill_begins, has_one_run_with};
+use ae_sim::Sim;
+use ae_sttype::StType;
+use itoa::Buffer;
+use std::alloc::{AllocError, Global};
+
+// How many clocks are shown.
+fn clock_count(slowdown: u32, latency: u32, blocks: usize) -> u32
+    requires some { 1 ≤ slowdown }
+    requires few { clock_count slowdown latency blocks < 2 ^ 32 }
+    ensures { result ≡ clock_count slowdown latency blocks }
+{
+    if blocks == 0 {
+        0
+    } else {
+        latency + blocks as u32 * slowdown
+    }
+}
+
+// The row of reset.
+fn push_reset(row: &mut Vec<u64>, ins: &[StType], fill: u64) -> Result<(), AllocError>
+    requires sized { All IsInSize (map st_tree ins.now) }
+    ensures { OnOk result (row.new.items ≡ row.old.items ++ (1 ∷ fill_row fill (map st_tree ins.now))) }
+{
+    row.push(1)?;
+    push_fill(row, ins, fill)
+}
+
+// The row of a clock after reset.
+fn set_row(
+    row: &mut Vec<u64>,
+    ins: &[StType],
+    words: &[u64],
+    blocks: usize,
+    slowdown: u32,
+    clock: u32,
+    fill: u64,
+) -> Result<(), AllocError>
+    requires some { 1 ≤ slowdown }
+    requires ins { All (λ s. IsInSize s × (time s ≡ slowdown)) (map st_tree ins.now) }
+    requires whole { length words.now ≡ blocks * size_of (map st_tree ins.now) }
+    ensures { OnOk result (row.new.items ≡ clock_row slowdown fill (map st_tree ins.now) (blocks_of (map st_tree ins.now) blocks words.now) clock) }
+{
+    row.clear();
+    row.push(0)?;
+    let block = (clock / slowdown) as usize;
+    if block < blocks {
+        let size = words.len() / blocks;
+        let first = block * size;
+        push_block(
+            row,
+            ins,
+            &words[first..first + size],
+            clock % slowdown,
+            fill,
+        )
+    } else {
+        push_fill(row, ins, fill)
+    }
+}
+
+// Whether an element of a result stands in the clock.
+fn mark(s: &StType, slowdown: u32, latency: u32, clock: u32) -> &'static str
+    requires sized { IsInSize (st_tree s.now) }
+    requires some { 1 ≤ slowdown }
+    ensures { result.now ≡ mark slowdown latency clock (st_tree s.now) ∷ [] }
+{
+    if latency <= clock && s.live((clock - latency) % slowdown) {
+        "v"
+    } else {
+        "."
+    }
+}
+
+// The marks of all results.
+fn write_marks(
+    out: &mut String,
+    outs: &[StType],
+    slowdown: u32,
+    latency: u32,
+    clock: u32,
+) -> Result<(), AllocError>
+    requires sized { All (λ s. IsInSize s × (time s ≡ slowdown)) (map st_tree outs.now) }
+    requires some { 1 ≤ slowdown }
+    ensures { OnOk result (string_bytes out.new ≡ string_bytes out.old ++ map (mark slowdown latency clock) (map st_tree outs.now)) }
+{
+    for s in outs {
+        out.push_str(mark(s, slowdown, latency, clock))?;
+    }
+    Ok(())
+}
+
+// The words of the outputs, each with a space before it.
+fn write_words(out: &mut String, sim: &Sim<'_>, outputs: u32) -> Result<(), AllocError>
+    requires { outputs ≡ length sim.now.outlets }
+    ensures { OnOk result ((fill : ℕ) (rows : List (List ℕ)) (run : List Clock) → HasPlayed sim.now fill rows → 1 ≤ length rows → Plays sim.now.cells fill rows run
+        → string_bytes out.new ≡ string_bytes out.old ++ spaced (shown_words sim.now.outlets run (length rows - 1))) }
+{
+    for k in 0..outputs {
+        out.push_str(" ")?;
+        out.push_str(Buffer::new().format(sim.output(k)))?;
+    }
+    Ok(())
+}
+
+// The line of a clock.
+fn write_line(
+    out: &mut String,
+    sim: &Sim<'_>,
+    outputs: u32,
+    outs: &[StType],
+    slowdown: u32,
+    latency: u32,
+    clock: u32,
+) -> Result<(), AllocError>
+    requires outputs { outputs ≡ length sim.now.outlets }
+    requires sized { All (λ s. IsInSize s × (time s ≡ slowdown)) (map st_tree outs.now) }
+    requires some { 1 ≤ slowdown }
+    ensures { OnOk result ((fill : ℕ) (rows : List (List ℕ)) (run : List Clock) → HasPlayed sim.now fill rows → 1 ≤ length rows → Plays sim.now.cells fill rows run
+        → string_bytes out.new ≡ string_bytes out.old ++ clock_line slowdown latency (map st_tree outs.now) clock (shown_words sim.now.outlets run (length rows - 1))) }
+{
+    out.push_str(Buffer::new().format(clock))?;
+    out.push_str(" ")?;
+    write_marks(out, outs, slowdown, latency, clock)?;
+    write_words(out, sim, outputs)?;
+    out.push_str("\n")?;
+    Ok(())
+}
+
+/// Appends the lines of the clocks after reset in which a circuit takes blocks of words, each value's in row-major order,
+/// and gives their results, the latency later; the run begins with the fill in registers and memories, and there is the
+/// fill on the inputs wherever no element stands. The error comes only for want of memory.
+pub fn write_clocks(
+    alloc: Global,
+    out: &mut String,
+    nl: &Netlist,
+    ins: &[StType],
+    outs: &[StType],
+    slowdown: u32,
+    latency: u32,
+    words: &[u64],
+    blocks: usize,
+    fill: u64,
+) -> Result<(), AllocError>
+    requires some { 1 ≤ slowdown }
+    requires most { slowdown ≤ 4096 }
+    requires ins { All (λ s. IsInSize s × (time s ≡ slowdown)) (map st_tree ins.now) }
+    requires outs { All (λ s. IsInSize s × (time s ≡ slowdown)) (map st_tree outs.now) }
+    requires few { clock_count slowdown latency blocks < 2 ^ 32 }
+    requires whole { length words.now ≡ blocks * size_of (map st_tree ins.now) }
+    requires rows { (n : ℕ) → All (AreInputs nl.now.cells) (fed_rows slowdown fill (map st_tree ins.now) (blocks_of (map st_tree ins.now) blocks words.now) n) }
+    ensures { OnOk result ((text : List ℕ) × (string_bytes out.new ≡ string_bytes out.old ++ text) × IsPlayedText nl.now slowdown latency fill (map st_tree ins.now) (map st_tree outs.now) (blocks_of (map st_tree ins.now) blocks words.now) text) }
+{
+    let clocks = clock_count(slowdown, latency, blocks);
+    let mut sim = Sim::new(alloc, nl, fill)?;
+    let mut row = Vec::new(alloc);
+    push_reset(&mut row, ins, fill)?;
+    sim.step(row.as_slice());
+    for clock in 0..clocks {
+        set_row(&mut row, ins, words, blocks, slowdown, clock, fill)?;
+        sim.step(row.as_slice());
+        write_line(out, &sim, nl.outputs(), outs, slowdown, latency, clock)?;
+    }
+    has_one_run_with(nl);
+    fill_begins(nl, fill);
+    Ok(())
+}
