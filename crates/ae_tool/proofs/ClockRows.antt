@@ -10,7 +10,7 @@ use Rattle.ae_netlist.specs.Counts.{is_input, number_of}
 use Rattle.ae_netlist.specs.Rows.{IsRunWith, filled}
 use Rattle.ae_sim.specs.Playing.{Simulated, Plays, HasPlayed}
 use Rattle.ae_tool.specs.Playing.{clock_row, rows_until, shown_words, net_line, net_lines}
-use Rattle.ae_tool.specs.ClockLines.{spaced}
+use Rattle.ae_play.specs.Lines.{spaced}
 use Rattle.ae_tool.proofs.FirstRuns.{below_or_last}
 
 pub length_rows : (blocks : List (List ℕ)) (fills : List ℕ) (n : ℕ) → length (rows_until blocks fills n) ≡ n + 1

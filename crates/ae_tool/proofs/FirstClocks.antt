@@ -22,7 +22,8 @@ use Rattle.ae_tool.specs.declared.first_path.FirstPath.{FirstPath}
 use Rattle.ae_tool.specs.FirstPath.{first_cells, first_outlets, reset_cell}
 use Rattle.ae_tool.specs.ModuleTexts.{first_circuit}
 use Rattle.ae_correct.specs.Correct.{wave, name_of, input_ports, BundlesHold}
-use Rattle.ae_tool.specs.ClockLines.{clock_count, fill_word, IsTaken, AreFilled, mark, spaced, clock_lines, IsClockText}
+use Rattle.ae_play.specs.Lines.{clock_count, mark, spaced, clock_lines}
+use Rattle.ae_correct.specs.ClockTexts.{fill_word, IsTaken, AreFilled, IsClockText}
 use Rattle.ae_tool.specs.Playing.{clock_row, rows_until, shown_words, net_lines, fill_bytes, ArePathLines}
 use Rattle.ae_tool.proofs.Rows.{rows, row-same}
 use Rattle.ae_tool.proofs.FirstPorts.{first_module, in_name, input_words_are, net_input_words_are}

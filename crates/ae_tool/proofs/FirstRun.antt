@@ -20,7 +20,8 @@ use Rattle.ae_tool.specs.FirstPrograms.{first_path_of}
 use Rattle.ae_tool.specs.Refusals.{refusal_line}
 use Rattle.ae_correct.specs.Correct.{parameter_types, HaveLayouts, IsCorrect}
 use Rattle.ae_tool.specs.Inputs.{widths_of, blocks_of}
-use Rattle.ae_tool.specs.ClockLines.{clock_count, IsClockText}
+use Rattle.ae_play.specs.Lines.{clock_count}
+use Rattle.ae_correct.specs.ClockTexts.{IsClockText}
 use Rattle.ae_tool.specs.RunTexts.{input_widths, output_count, layout_columns, run_size, run_limit, IsRunText}
 use Rattle.ae_tool.specs.Outcomes.{IsRunOf}
 use Rattle.ae_tool.specs.Playing.{IsPathRunText, path_size, IsPathRun}

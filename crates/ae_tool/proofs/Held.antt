@@ -11,7 +11,7 @@ use Rattle.ae_netlist.specs.Counts.{is_register, is_memory, number_of, cells_of}
 use Rattle.ae_netlist.proofs.Counting.{filter_at}
 use Rattle.ae_vread.specs.ModuleTree.{NetTree, ModuleTree}
 use Rattle.ae_elab.specs.SameRuns.{states_of, state_cells, is_state_cell, kind_depth, cell_depth, cell_words, net_held_words, HasSameRuns}
-use Rattle.ae_tool.specs.ClockLines.{first_words}
+use Rattle.ae_correct.specs.ClockTexts.{first_words}
 
 abbrev first_of : ℕ → SizedCell → List ℕ
 first_of fill sized = first_words fill sized.width (cell_depth sized.cell)

@@ -11,7 +11,7 @@ use Rattle.ae_tool.specs.declared.status.Status.TheVariants.{Ok, BadWords, LongR
 use Rattle.ae_tool.specs.Refusals.{refusal_line}
 use Rattle.ae_correct.specs.Correct.{parameter_types, result_types}
 use Rattle.ae_tool.specs.Inputs.{values_of}
-use Rattle.ae_tool.specs.ClockLines.{spaced}
+use Rattle.ae_play.specs.Lines.{spaced}
 use Rattle.ae_tool.specs.RunTexts.{input_widths, run_limit}
 
 -- words on a line, with a space between two

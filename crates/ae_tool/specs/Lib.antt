@@ -1,6 +1,5 @@
 pub mod Answers
 pub mod CheckTexts
-pub mod ClockLines
 pub mod Commands
 pub mod CostTables
 pub mod EvalRows

@@ -9,7 +9,7 @@ use Rattle.ae_tool.specs.declared.status.Status.TheVariants.{Ok, LongRun}
 use Rattle.ae_tool.specs.declared.first_path.FirstPath.{FirstPath}
 use Rattle.ae_tool.specs.FirstPath.{first_cells, first_outlets}
 use Rattle.ae_tool.specs.Refusals.{refusal_line}
-use Rattle.ae_tool.specs.ClockLines.{clock_count, spaced}
+use Rattle.ae_play.specs.Lines.{clock_count, spaced}
 use Rattle.ae_tool.specs.ModuleTexts.{IsModuleText}
 use Rattle.ae_tool.specs.RunTexts.{run_limit}
 

@@ -8,7 +8,8 @@ use Rattle.ae_rewrite.specs.LayoutRule.{lay_of}
 use Rattle.ae_correct.specs.Correct.{parameter_types, result_types, HaveLayouts}
 use Rattle.ae_tool.specs.Inputs.{widths_of, blocks_of}
 use Rattle.ae_tool.specs.ModuleTexts.{IsProgramText}
-use Rattle.ae_tool.specs.ClockLines.{clock_count, IsClockText}
+use Rattle.ae_play.specs.Lines.{clock_count}
+use Rattle.ae_correct.specs.ClockTexts.{IsClockText}
 
 -- the widths of the words of all parameters
 abbrev pub input_widths : ProgramTree → List ℕ

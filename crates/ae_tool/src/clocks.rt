@@ -5,7 +5,7 @@ ghost use Rattle.ae_seqtype.specs.ValueTree.{cut};
 ghost use Rattle.ae_netlist.specs.Rows.{AreInputs, IsRunWith, filled};
 ghost use Rattle.ae_netlist.specs.Runs.{Clock};
 ghost use Rattle.ae_sim.specs.Playing.{HasPlayed, Plays};
-ghost use Rattle.ae_tool.specs.ClockLines.{spaced};
+ghost use Rattle.ae_play.specs.Lines.{spaced};
 ghost use Rattle.ae_tool.specs.Playing.{clock_row, rows_until, shown_words, net_line, net_lines};
 
 use ae_netlist::Netlist;

@@ -5,7 +5,7 @@ ghost use Rattle.ae_seq.specs.ProgramTree.{program_tree};
 ghost use Rattle.ae_seqtype.specs.ValueTree.{cut};
 ghost use Rattle.ae_parse.specs.Rows.{rows};
 ghost use Rattle.ae_first.specs.FirstForm.{FirstForm};
-ghost use Rattle.ae_tool.specs.ClockLines.{clock_count};
+ghost use Rattle.ae_play.specs.Lines.{clock_count};
 ghost use Rattle.ae_tool.specs.FirstPath.{IsFirstPath, first_cells, first_outlets};
 ghost use Rattle.ae_tool.specs.Outcomes.{IsRun, IsRunOf};
 ghost use Rattle.ae_tool.specs.Playing.{ArePathLines, IsPathRun, IsPathRunText, fill_bytes, path_size};

@@ -2,7 +2,7 @@ use Rattle.std.proofs.Common.{◌≡◌, ◌-◌, ◌≤◌, ◌++◌, ℕ, List
 use Rattle.std.specs.Prelude.{string_bytes}
 use Rattle.ae_netlist.specs.Runs.{Clock}
 use Rattle.ae_sim.specs.Playing.{HasPlayed, Plays}
-use Rattle.ae_tool.specs.ClockLines.{spaced}
+use Rattle.ae_play.specs.Lines.{spaced}
 use Rattle.ae_tool.specs.Playing.{shown_words}
 use Rattle.ae_tool.proofs.clocks.write_words.Given as goal
 

@@ -1,6 +1,6 @@
 use Rattle.std.proofs.Common.{◌≡◌, ◌++◌, take}
 use Rattle.std.specs.Prelude.{string_bytes}
-use Rattle.ae_tool.specs.ClockLines.{spaced}
+use Rattle.ae_play.specs.Lines.{spaced}
 use Rattle.ae_tool.proofs.evaluate.write_words.Given as goal
 
 abbrev pub invariant-loop-word : goal.invariant-loop-word
