@@ -1,7 +1,6 @@
 -- The value of each form of expression, from those of its parts.
-use Rattle.std.proofs.Common.{ℕ, ◌≡◌, ◌-◌, ◌^◌, ◌==◌, ◌≤◌, max, if◌then◌else◌, true, List, [], ◌∷◌, length, get_or, map, Option, Result, IfOk, refl, sym, ap, ◌∙◌, arith}
+use Rattle.std.proofs.Common.{ℕ, ◌≡◌, ◌==◌, ◌≤◌, if◌then◌else◌, true, List, [], ◌∷◌, length, get_or, map, Option, Result, IfOk, refl, sym, ap, ◌∙◌, arith}
 use Rattle.std.proofs.lemmas.Bool.{cond-true}
-use Rattle.ae_word.specs.declared.op.WordOp.{WordOp}
 use Rattle.ae_word.specs.declared.op.WordOp.TheVariants as op
 use Rattle.ae_word.specs.WordTable.{bit, word_result}
 use Rattle.ae_netlist.specs.declared.cell.NetId.{NetId}
@@ -19,9 +18,8 @@ use Rattle.ae_elab.specs.Names.{is_memory}
 use Rattle.ae_elab.specs.Widths.{own_width}
 use Rattle.ae_elab.specs.Values.{ModuleClock, left_width, right_width, binary_result, value_at, own_value}
 use Rattle.ae_elab.specs.declared.compounds.Way.{Way}
-use Rattle.ae_elab.specs.declared.forms.Relation.{Relation}
 use Rattle.ae_elab.specs.Shifts.{moved}
-use Rattle.ae_elab.specs.Forms.{IsWordForm, IsShiftForm, IsComparisonForm, IsTestForm, relation_result}
+use Rattle.ae_elab.specs.Forms.{IsShiftForm}
 use Rattle.ae_elab.specs.ConstantValue.{IsConstantOf}
 use Rattle.ae_elab.specs.Cells.{Grows, IsWord}
 use Rattle.ae_elab.specs.Named.{AreNamed, read}
@@ -83,14 +81,6 @@ module _ (from : ℕ) (ns : List NetTree) (nets : List (Option NetId)) where
       → binary_result op w (value_at ns c u a) (value_at ns c v b) ≡ value_at ns c w (binary op a b)
   operands_at op c w u v a b p q = ap (λ k. binary_result op w (value_at ns c k a) (value_at ns c v b)) p ∙ ap (λ k. binary_result op w (value_at ns c (left_width op w (own_width ns a) (own_width ns b)) a) (value_at ns c k b)) q
 
-  pub word_arm : {E : Type 0} (m1 m2 m3 : Circuit) (r : Result NetId E) (op : BinOp) (cell : WordOp) (x y w : ℕ) (a b : ExprTree) → IsWordForm op cell → Grows m1 m2
-      → Has from ns nets m1.cells x w a → Has from ns nets m2.cells y w b
-      → IfOk r (λ z. (f g : List Clock → ℕ → ℕ) → IsWord from m2.cells x w f → IsWord from m2.cells y w g → IsWord from m3.cells z.0 w (λ run t. word_result cell w (f run t) (g run t) (f run t)))
-      → IfOk r (λ z. Has from ns nets m3.cells z.0 w (binary op a b))
-  word_arm m1 m2 m3 r op cell x y w a b form g p q = ok_map r (λ z h at named. same_word _ _
-      (λ run t. form.value w _ _ _ ∙ operands_at op (read at run t) w w w a b (sym (form.left w _ _)) (sym (form.right w _ _)))
-      (h _ _ (word_grows g (p at named)) (q at named)))
-
   pub constant_arm : {E : Type 0} (m1 m2 : Circuit) (r : Result NetId E) (op : BinOp) (way : Way) (x k w : ℕ) (a b : ExprTree) → IsShiftForm op way → IsConstantOf k b
       → Has from ns nets m1.cells x w a
       → IfOk r (λ z. (f : List Clock → ℕ → ℕ) → IsWord from m1.cells x w f → IsWord from m2.cells z.0 w (λ run t. moved way w (f run t) k))
@@ -99,28 +89,12 @@ module _ (from : ℕ) (ns : List NetTree) (nets : List (Option NetId)) where
       (λ run t. form.value w _ k ∙ ap (binary_result op w (value_at ns (read at run t) w a)) (constant_is ns (read at run t) (own_width ns b) k b is) ∙ operands_at op (read at run t) w w (own_width ns b) a b (sym (form.left w _ _)) (sym (form.right w _ _)))
       (h _ (p at named)))
 
-  pub shift_arm : {E : Type 0} (m1 m2 m3 : Circuit) (r : Result NetId E) (op : BinOp) (way : Way) (x y u w : ℕ) (a b : ExprTree) → IsShiftForm op way → u ≡ own_width ns b → Grows m1 m2
-      → Has from ns nets m1.cells x w a → Has from ns nets m2.cells y u b
-      → IfOk r (λ z. (f g : List Clock → ℕ → ℕ) → IsWord from m2.cells x w f → IsWord from m2.cells y u g → IsWord from m3.cells z.0 w (λ run t. moved way w (f run t) (g run t)))
-      → IfOk r (λ z. Has from ns nets m3.cells z.0 w (binary op a b))
-  shift_arm m1 m2 m3 r op way x y u w a b form e g p q = ok_map r (λ z h at named. same_word _ _
-      (λ run t. form.value w _ _ ∙ operands_at op (read at run t) w w u a b (sym (form.left w _ _)) (e ∙ sym (form.right w _ _)))
-      (h _ _ (word_grows g (p at named)) (q at named)))
-
-  pub comparison_arm : {E : Type 0} (m1 m2 m3 : Circuit) (r : Result NetId E) (op : BinOp) (how : Relation) (x y u w : ℕ) (a b : ExprTree) → IsComparisonForm op how → u ≡ max (own_width ns a) (own_width ns b) → Grows m1 m2
-      → Has from ns nets m1.cells x u a → Has from ns nets m2.cells y u b
-      → IfOk r (λ z. (f g : List Clock → ℕ → ℕ) → IsWord from m2.cells x u f → IsWord from m2.cells y u g → IsWord from m3.cells z.0 w (λ run t. relation_result how (f run t) (g run t)))
-      → IfOk r (λ z. Has from ns nets m3.cells z.0 w (binary op a b))
-  comparison_arm m1 m2 m3 r op how x y u w a b form e g p q = ok_map r (λ z h at named. same_word _ _
-      (λ run t. form.value w _ _ ∙ operands_at op (read at run t) w u u a b (e ∙ sym (form.left w _ _)) (e ∙ sym (form.right w _ _)))
-      (h _ _ (word_grows g (p at named)) (q at named)))
-
-  pub test_arm : {E : Type 0} (m1 m2 m3 : Circuit) (r : Result NetId E) (op : BinOp) (cell : WordOp) (x y u v w : ℕ) (a b : ExprTree) → IsTestForm op cell → u ≡ own_width ns a → v ≡ own_width ns b → Grows m1 m2
+  pub binary_arm : {E : Type 0} (m1 m2 m3 : Circuit) (r : Result NetId E) (op : BinOp) (x y u v w : ℕ) (a b : ExprTree) → u ≡ left_width op w (own_width ns a) (own_width ns b) → v ≡ right_width op w (own_width ns a) (own_width ns b) → Grows m1 m2
       → Has from ns nets m1.cells x u a → Has from ns nets m2.cells y v b
-      → IfOk r (λ z. (f g : List Clock → ℕ → ℕ) → IsWord from m2.cells x u f → IsWord from m2.cells y v g → IsWord from m3.cells z.0 w (λ run t. 2 ^ 1 - 1 - word_result cell 1 (bit (f run t == 0)) (bit (g run t == 0)) (bit (f run t == 0))))
+      → IfOk r (λ z. (f g : List Clock → ℕ → ℕ) → IsWord from m2.cells x u f → IsWord from m2.cells y v g → IsWord from m3.cells z.0 w (λ run t. binary_result op w (f run t) (g run t)))
       → IfOk r (λ z. Has from ns nets m3.cells z.0 w (binary op a b))
-  test_arm m1 m2 m3 r op cell x y u v w a b form e d g p q = ok_map r (λ z h at named. same_word _ _
-      (λ run t. form.value w _ _ ∙ operands_at op (read at run t) w u v a b (e ∙ sym (form.left w _ _)) (d ∙ sym (form.right w _ _)))
+  binary_arm m1 m2 m3 r op x y u v w a b e d g p q = ok_map r (λ z h at named. same_word _ _
+      (λ run t. operands_at op (read at run t) w u v a b e d)
       (h _ _ (word_grows g (p at named)) (q at named)))
 
   pub choice_arm : {E : Type 0} (m1 m2 m3 m4 : Circuit) (r : Result NetId E) (k x y u w : ℕ) (test a b : ExprTree) → u ≡ own_width ns test → Grows m1 m2 → Grows m2 m3

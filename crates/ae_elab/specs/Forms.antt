@@ -4,6 +4,7 @@ use Rattle.ae_word.specs.declared.op.WordOp.{WordOp}
 use Rattle.ae_word.specs.declared.op.WordOp.TheVariants.{Mux}
 use Rattle.ae_word.specs.WordTable.{HasRange, bit, is_signed, result_width_of, word_result}
 use Rattle.ae_vread.specs.declared.module.BinOp.{BinOp}
+use Rattle.ae_vread.specs.declared.module.BinOp.TheVariants.{Shl, Shr}
 use Rattle.ae_vread.specs.ModuleTree.{ExprTree}
 use Rattle.ae_elab.specs.Widths.{binary_width}
 use Rattle.ae_elab.specs.Weight.{operator_weight, shift_weight}
@@ -23,6 +24,12 @@ relation_result AtLeast a b = bit (nat_le b a)
 relation_result Greater a b = bit (nat_lt b a)
 relation_result AtMost a b = bit (nat_le a b)
 
+-- the most cells that an operator takes beside its operands, where the amount of a shift is no constant
+abbrev pub most_cells : BinOp → ℕ
+most_cells Shl = 47
+most_cells Shr = 47
+most_cells _ = 7
+
 -- an operator that stands in netlists, on words without sign
 pub record IsPlainOp (op : WordOp) : Type 0 where
   pub unsigned : is_signed op ≡ false
@@ -38,6 +45,7 @@ pub record IsWordForm (op : BinOp) (cell : WordOp) : Type 0 where
   pub allowed : IsPlainOp cell
   pub wide : (w : ℕ) → w ≡ result_width_of cell w
   pub weighs : (e : ExprTree) → operator_weight op e ≡ 1
+  pub most : most_cells op ≡ 7
 
 pub record IsShiftForm (op : BinOp) (way : Way) : Type 0 where
   pub left : (w a b : ℕ) → left_width op w a b ≡ w
@@ -45,6 +53,7 @@ pub record IsShiftForm (op : BinOp) (way : Way) : Type 0 where
   pub own : (a b : ℕ) → binary_width op a b ≡ a
   pub value : (w a b : ℕ) → moved way w a b ≡ binary_result op w a b
   pub weighs : (e : ExprTree) → operator_weight op e ≡ shift_weight e
+  pub most : most_cells op ≡ 47
 
 pub record IsComparisonForm (op : BinOp) (how : Relation) : Type 0 where
   pub left : (w a b : ℕ) → left_width op w a b ≡ max a b
@@ -52,6 +61,7 @@ pub record IsComparisonForm (op : BinOp) (how : Relation) : Type 0 where
   pub own : (a b : ℕ) → binary_width op a b ≡ 1
   pub value : (w a b : ℕ) → relation_result how a b ≡ binary_result op w a b
   pub weighs : (e : ExprTree) → operator_weight op e ≡ 1
+  pub most : most_cells op ≡ 7
 
 -- the opposite of an operator on the bits that say which word is 0
 pub record IsTestForm (op : BinOp) (cell : WordOp) : Type 0 where
@@ -62,6 +72,7 @@ pub record IsTestForm (op : BinOp) (cell : WordOp) : Type 0 where
   pub allowed : IsPlainOp cell
   pub one : result_width_of cell 1 ≡ 1
   pub weighs : (e : ExprTree) → operator_weight op e ≡ 1
+  pub most : most_cells op ≡ 7
 
 abbrev pub IsForm : BinOp → Form → Type 0
 IsForm op (Word cell) = IsWordForm op cell

@@ -1,14 +1,20 @@
 // Binary operators by the cells that they take.
 
-ghost use Rattle.std.specs.Prelude.{◌≡◌, ◌<◌, ◌≤◌, ◌+◌, ℕ, List, length, IfOk, OnOk};
+ghost use Rattle.std.specs.Prelude.{◌≡◌, ◌<◌, ◌≤◌, ◌+◌, ◌*◌, ℕ, List, length, IfNone, IfOk, IfSome, OnOk};
 ghost use Rattle.ae_netlist.specs.Circuit.{IsNet};
 ghost use Rattle.ae_netlist.specs.Runs.{Clock};
+ghost use Rattle.ae_vread.specs.View.{expr_tree};
+ghost use Rattle.ae_elab.specs.Widths.{binary_width};
+ghost use Rattle.ae_elab.specs.Weight.{operator_weight, shift_weight};
+ghost use Rattle.ae_elab.specs.Values.{binary_result, left_width, right_width};
 ghost use Rattle.ae_elab.specs.Cells.{Grows, HasRoom, IsWord};
-ghost use Rattle.ae_elab.specs.Forms.{IsForm, relation_result};
+ghost use Rattle.ae_elab.specs.ConstantValue.{IsConstantOf};
+ghost use Rattle.ae_elab.specs.Forms.{IsForm, IsShiftForm, most_cells, relation_result};
 
-use crate::compounds::{Way, compared, opposed};
+use crate::compounds::{Way, compared, opposed, shifted, tested};
+use crate::gates::gate;
 use ae_netlist::{NetId, Netlist};
-use ae_vread::BinOp;
+use ae_vread::{BinOp, Expr};
 use ae_word::WordOp;
 use std::alloc::AllocError;
 
@@ -58,6 +64,55 @@ pub fn form_of(op: BinOp) -> Form
     }
 }
 
+/// The value of a constant.
+fn constant_value(e: &Expr) -> Option<u64>
+    ensures some { IfSome result (λ k. IsConstantOf k (expr_tree e.now)) }
+    ensures none { IfNone result (shift_weight (expr_tree e.now) ≡ 6) }
+{
+    match e {
+        Expr::Const { value, .. } => Some(*value),
+        _ => None,
+    }
+}
+
+/// The way and the places of a shift by a constant.
+pub fn fixed_shift(op: BinOp, amount: &Expr) -> Option<(Way, u64)>
+    ensures way { IfSome result (λ s. IsShiftForm op s.0) }
+    ensures places { IfSome result (λ s. IsConstantOf s.1 (expr_tree amount.now)) }
+    ensures none { IfNone result (8 * operator_weight op (expr_tree amount.now) ≡ most_cells op + 1) }
+{
+    match form_of(op) {
+        Form::Shift(way) => match constant_value(amount) {
+            Some(places) => Some((way, places)),
+            None => None,
+        },
+        _ => None,
+    }
+}
+
+/// The widths at which both operands are computed, where `w` is handed down, and `a` and `b` are their own.
+pub fn operand_widths(op: BinOp, w: u32, a: u32, b: u32) -> (u32, u32)
+    requires within { binary_width op a b ≤ w }
+    requires high { w ≤ 64 }
+    requires a_low { 1 ≤ a }
+    requires a_high { a ≤ 64 }
+    requires b_low { 1 ≤ b }
+    requires b_high { b ≤ 64 }
+    ensures left { result.0 ≡ left_width op w a b }
+    ensures right { result.1 ≡ right_width op w a b }
+    ensures left_within { a ≤ result.0 }
+    ensures right_within { b ≤ result.1 }
+    ensures left_high { result.0 ≤ 64 }
+    ensures right_high { result.1 ≤ 64 }
+{
+    match form_of(op) {
+        Form::Word(_) => (w, w),
+        Form::Shift(_) => (w, b),
+        Form::Comparison(_) => (a.max(b), a.max(b)),
+        Form::Test(_) => (a, b),
+    }
+}
+
 /// The bit of a comparison of two words of one width, at a width.
 pub fn compare(
     nl: &mut Netlist,
@@ -87,5 +142,46 @@ pub fn compare(
         Relation::AtLeast => opposed(nl, from, WordOp::Lt, a, b, own, width),
         Relation::Greater => compared(nl, from, WordOp::Lt, b, a, own, width),
         Relation::AtMost => opposed(nl, from, WordOp::Lt, b, a, own, width),
+    }
+}
+
+/// The result of an operator on two words, each at the width at which it is computed, where `w` is handed down, and
+/// `_own_a` and `_own_b` are the operands' own.
+#[tactic(auto, using(crate::proofs::Words::net_grows))]
+pub fn combine(
+    nl: &mut Netlist,
+    from: u32,
+    op: BinOp,
+    w: u32,
+    _own_a: u32,
+    _own_b: u32,
+    x: NetId,
+    wx: u32,
+    y: NetId,
+    wy: u32,
+) -> Result<NetId, AllocError>
+    requires from { from ≤ length nl.old.cells }
+    requires low { 1 ≤ w }
+    requires high { w ≤ 64 }
+    requires x_low { 1 ≤ wx }
+    requires x_high { wx ≤ 64 }
+    requires y_low { 1 ≤ wy }
+    requires y_high { wy ≤ 64 }
+    requires left_width { wx ≡ left_width op w _own_a _own_b }
+    requires right_width { wy ≡ right_width op w _own_a _own_b }
+    requires left { IsNet nl.old.cells x.0 wx }
+    requires right { IsNet nl.old.cells y.0 wy }
+    requires room { HasRoom nl.old (most_cells op) }
+    ensures grows { OnOk result (Grows nl.old nl.new) }
+    ensures more { OnOk result (length nl.old.cells ≤ length nl.new.cells) }
+    ensures few { OnOk result (length nl.new.cells ≤ length nl.old.cells + most_cells op) }
+    ensures net { IfOk result (λ z. IsNet nl.new.cells z.0 w) }
+    ensures word { IfOk result (λ z. (f g : List Clock → ℕ → ℕ) → IsWord from nl.old.cells x.0 wx f → IsWord from nl.old.cells y.0 wy g → IsWord from nl.new.cells z.0 w (λ run t. binary_result op w (f run t) (g run t))) }
+{
+    match form_of(op) {
+        Form::Word(cell) => gate(nl, from, cell, x, y, w, w),
+        Form::Shift(way) => shifted(nl, from, way, x, y, wy, w),
+        Form::Comparison(how) => compare(nl, from, how, x, y, wx, w),
+        Form::Test(cell) => tested(nl, from, cell, x, wx, y, wy, w),
     }
 }

@@ -3,21 +3,20 @@
 ghost use Rattle.std.specs.Prelude.{◌≡◌, ◌<◌, ◌≤◌, ◌+◌, ◌*◌, ℕ, List, length, IfOk, IfNone, IfSome, OnOk, false, map};
 ghost use Rattle.std.specs.List.{sum_by};
 ghost use Rattle.ae_netlist.specs.Circuit.{IsNet};
-ghost use Rattle.ae_vread.specs.ModuleTree.{place};
+ghost use Rattle.ae_vread.specs.ModuleTree.{place, unary};
 ghost use Rattle.ae_vread.specs.View.{expr_tree};
 ghost use Rattle.ae_vread.specs.Reading.{concat_of};
 ghost use Rattle.ae_elab.specs.Widths.{own_width};
-ghost use Rattle.ae_elab.specs.Weight.{expr_weight, shift_weight};
+ghost use Rattle.ae_elab.specs.Weight.{expr_weight};
 ghost use Rattle.ae_elab.specs.Values.{own_value, value_at};
 ghost use Rattle.ae_elab.specs.Faults.{is_place};
 ghost use Rattle.ae_elab.specs.Cells.{Grows, HasRoom, IsWord};
 ghost use Rattle.ae_elab.specs.Named.{AreNamed, AreNets, read};
 ghost use Rattle.ae_elab.specs.Sound.{IsReadyFor, IsSound};
 ghost use Rattle.ae_elab.specs.Parts.{part_weight};
-ghost use Rattle.ae_elab.specs.ConstantValue.{IsConstantOf};
 
-use crate::compounds::{chosen, is_zero, linked, moved_by, shifted, tested};
-use crate::forms::{Form, compare, form_of};
+use crate::compounds::{chosen, is_zero, linked, moved_by};
+use crate::forms::{combine, fixed_shift, operand_widths};
 use crate::gates::{fixed, gate, widen};
 use crate::judge::names::Names;
 use crate::own::own_width;
@@ -34,17 +33,6 @@ pub fn place_number(e: &Expr) -> Option<u32>
 {
     match e {
         Expr::Place(k) => Some(*k),
-        _ => None,
-    }
-}
-
-/// The value of a constant.
-fn constant_value(e: &Expr) -> Option<u64>
-    ensures some { IfSome result (λ k. IsConstantOf k (expr_tree e.now)) }
-    ensures none { IfNone result (shift_weight (expr_tree e.now) ≡ 6) }
-{
-    match e {
-        Expr::Const { value, .. } => Some(*value),
         _ => None,
     }
 }
@@ -89,48 +77,19 @@ pub fn lower(
                 read_word(nl, from, names, nets, w, name, x, own)
             }
         },
-        Expr::Unary(op, a) => match op {
-            UnOp::Not => {
-                let own = own_width(names, a);
-                let x = lower(nl, from, names, nets, own, a)?;
-                let zero = is_zero(nl, from, x, own)?;
-                widen(nl, from, zero, 1, w)
-            }
-            UnOp::Flip => {
+        Expr::Unary(op, a) => lower_unary(nl, from, names, nets, w, *op, a),
+        Expr::Binary(op, a, b) => match fixed_shift(*op, b) {
+            Some((way, places)) => {
                 let x = lower(nl, from, names, nets, w, a)?;
-                gate(nl, from, WordOp::Not, x, x, w, w)
+                moved_by(nl, from, way, x, places, w)
             }
-        },
-        Expr::Binary(op, a, b) => match form_of(*op) {
-            Form::Word(cell) => {
-                let x = lower(nl, from, names, nets, w, a)?;
-                let y = lower(nl, from, names, nets, w, b)?;
-                gate(nl, from, cell, x, y, w, w)
-            }
-            Form::Shift(way) => match constant_value(b) {
-                Some(places) => {
-                    let x = lower(nl, from, names, nets, w, a)?;
-                    moved_by(nl, from, way, x, places, w)
-                }
-                None => {
-                    let own = own_width(names, b);
-                    let x = lower(nl, from, names, nets, w, a)?;
-                    let by = lower(nl, from, names, nets, own, b)?;
-                    shifted(nl, from, way, x, by, own, w)
-                }
-            },
-            Form::Comparison(how) => {
-                let own = own_width(names, a).max(own_width(names, b));
-                let x = lower(nl, from, names, nets, own, a)?;
-                let y = lower(nl, from, names, nets, own, b)?;
-                compare(nl, from, how, x, y, own, w)
-            }
-            Form::Test(cell) => {
-                let wa = own_width(names, a);
-                let wb = own_width(names, b);
+            None => {
+                let own_a = own_width(names, a);
+                let own_b = own_width(names, b);
+                let (wa, wb) = operand_widths(*op, w, own_a, own_b);
                 let x = lower(nl, from, names, nets, wa, a)?;
                 let y = lower(nl, from, names, nets, wb, b)?;
-                tested(nl, from, cell, x, wa, y, wb, w)
+                combine(nl, from, *op, w, own_a, own_b, x, wa, y, wb)
             }
         },
         Expr::Choose(test, a, b) => {
@@ -143,6 +102,47 @@ pub fn lower(
         Expr::Concat(parts) => {
             let (x, own) = lower_parts(nl, from, names, nets, parts)?;
             widen(nl, from, x, own, w)
+        }
+    }
+}
+
+/// The word of a prefix and its operand.
+#[tactic(auto, using(crate::proofs::Words::net_grows, crate::proofs::NetLaws::nets_grow))]
+#[cycle(lowering)]
+fn lower_unary(
+    nl: &mut Netlist,
+    from: u32,
+    names: &Names<'_>,
+    nets: &[Option<NetId>],
+    w: u32,
+    op: UnOp,
+    a: &Expr,
+) -> Result<NetId, AllocError>
+    requires from { from ≤ length nl.old.cells }
+    requires nets { AreNets names.now nets.now nl.old.cells }
+    requires sound { IsSound names.now (unary op (expr_tree a.now)) }
+    requires ready { IsReadyFor names.now nets.now (unary op (expr_tree a.now)) }
+    requires low { 1 ≤ w }
+    requires high { w ≤ 64 }
+    requires within { own_width names.now (unary op (expr_tree a.now)) ≤ w }
+    requires room { HasRoom nl.old (8 * expr_weight (unary op (expr_tree a.now)) + 1) }
+    ensures grows { OnOk result (Grows nl.old nl.new) }
+    ensures more { OnOk result (length nl.old.cells ≤ length nl.new.cells) }
+    ensures few { OnOk result (length nl.new.cells ≤ length nl.old.cells + 8 * expr_weight (unary op (expr_tree a.now)) + 1) }
+    ensures net { IfOk result (λ y. IsNet nl.new.cells y.0 w) }
+    ensures nets { OnOk result (AreNets names.now nets.now nl.new.cells) }
+    ensures word { IfOk result (λ y. (at : List ℕ → ℕ) → AreNamed names.now nets.now at → IsWord from nl.new.cells y.0 w (λ run t. value_at names.now (read at run t) w (unary op (expr_tree a.now)))) }
+{
+    match op {
+        UnOp::Not => {
+            let own = own_width(names, a);
+            let x = lower(nl, from, names, nets, own, a)?;
+            let zero = is_zero(nl, from, x, own)?;
+            widen(nl, from, zero, 1, w)
+        }
+        UnOp::Flip => {
+            let x = lower(nl, from, names, nets, w, a)?;
+            gate(nl, from, WordOp::Not, x, x, w, w)
         }
     }
 }

@@ -113,13 +113,22 @@ fn a_wire_waits_for_what_it_reads(rt: HostRuntime) -> Result<(), Fail> {
 
 #[test]
 fn inputs_and_outputs_are_in_port_order_without_the_clock(rt: HostRuntime) -> Result<(), Fail> {
-    let text = "module m(output reg [3:0] q, input c, input [1:0] a, output y, input b); assign y = b; always @(posedge c) q <= a; endmodule";
+    let text =
+        "module m(output reg [3:0] q, input c, input [1:0] a, output y, input b); assign y = b; always @(posedge c) q <= a; endmodule";
     let nl = built(rt.alloc(), text)?;
     assert_eq!(rt; nl.inputs(), 2);
     assert_eq!(rt; nl.input_width(0), Some(2));
     assert_eq!(rt; nl.input_width(1), Some(1));
     assert_eq!(rt; nl.outputs(), 2);
-    assert!(rt; matches!(nl.output(0), Some(Outlet { port: Port::Plain(0), net: NetId(0) })));
+    assert!(rt;
+        matches!(
+            nl.output(0),
+            Some(Outlet {
+                port: Port::Plain(0),
+                net: NetId(0)
+            })
+        )
+    );
     assert!(rt; matches!(nl.cell(NetId(0)), Some(Cell::Reg { .. })));
     assert_eq!(rt; nl.input(1), nl.output(1).map(|o| o.net));
     Ok(())

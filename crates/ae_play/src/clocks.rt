@@ -1,7 +1,7 @@
 // The lines of a run.
 
-ghost use Rattle.std.specs.Prelude.{◌≡◌, ◌+◌, ◌-◌, ◌*◌, ◌/◌, ◌%◌, ◌<◌, ◌≤◌, ◌^◌, ◌++◌, ◌∷◌, [], ℕ, List, length, map, sum_by, OnOk, All, string_bytes, Some, slice_get};
-ghost use Rattle.ae_sttype.specs.StTree.{StTree, st_tree, time};
+ghost use Rattle.std.specs.Prelude.{◌≡◌, ◌+◌, ◌-◌, ◌*◌, ◌/◌, ◌%◌, ◌<◌, ◌≤◌, ◌^◌, ◌++◌, ◌∷◌, [], ℕ, List, length, map, OnOk, All, string_bytes};
+ghost use Rattle.ae_sttype.specs.StTree.{st_tree, time};
 ghost use Rattle.ae_sttype.specs.Size.{IsInSize};
 ghost use Rattle.ae_netlist.specs.Rows.{AreInputs};
 ghost use Rattle.ae_netlist.specs.Runs.{Clock};
@@ -141,7 +141,8 @@ fn write_line(
 
 /// Appends the lines of the clocks after reset in which a circuit takes blocks of words, each value's in row-major order,
 /// and gives their results, the latency later; the run begins with the fill in registers and memories, and there is the
-/// fill on the inputs wherever no element stands. The error comes only for want of memory.
+/// fill on the inputs wherever no element stands. A block comes every `slowdown` clocks. The work grows with the clocks
+/// times the circuit's cells and ports. The error comes only for want of memory.
 pub fn write_clocks(
     alloc: Global,
     out: &mut String,

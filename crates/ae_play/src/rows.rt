@@ -1,6 +1,6 @@
 // What is put on the inputs in one clock.
 
-ghost use Rattle.std.specs.Prelude.{◌≡◌, ◌+◌, ◌*◌, ◌%◌, ◌^◌, ◌<◌, ◌≤◌, ◌++◌, ◌∷◌, [], ℕ, Some, length, map, OnOk, All, slice_get};
+ghost use Rattle.std.specs.Prelude.{◌≡◌, ◌+◌, ◌*◌, ◌%◌, ◌^◌, ◌<◌, ◌++◌, [], ℕ, Some, length, map, OnOk, All, slice_get};
 ghost use Rattle.ae_word.specs.AtomTree.{WordKind, atom_kinds};
 ghost use Rattle.ae_sttype.specs.StTree.{element_atom, element_words, lanes, st_atoms, st_tree, time};
 ghost use Rattle.ae_sttype.specs.Size.{IsInSize};
@@ -20,7 +20,7 @@ fn masked(fill: u64, width: u32) -> u64
     }
 }
 
-// Word j of the so many of a lane where this element stands, or none.
+// Word j of a lane with so many words, where this element stands, or none.
 fn lane_word(s: &StType, size: u32, value: &[u64], element: Option<u32>, j: u32, fill: u64) -> u64
     requires sized { IsInSize (st_tree s.now) }
     requires size { size ≡ element_words (st_tree s.now) }

@@ -34,7 +34,7 @@ fault_of text ts (Err BadHeader) are gives = (ts, are, means_at ts (Err HeaderFa
 fault_of text ts (Err (BadItem k)) are gives = (ts, are, means_at ts (Err (ItemFault k)) gives)
 fault_of text ts (Err (BadToken at)) are gives = absurd gives
 
-spelled_read : (text : List ℕ) (ts : List TokenTree) (m : ModuleTree) → AreTokens text ts → Spells text m → read_module ts ≡ Ok m
+pub spelled_read : (text : List ℕ) (ts : List TokenTree) (m : ModuleTree) → AreTokens text ts → Spells text m → read_module ts ≡ Ok m
 spelled_read text ts m are s = ap read_module (one_list ts (module_tokens s.form) text text refl are s.written) ∙ module_again s.form s.formed ∙ ap Ok s.tree
 
 pub every_module_of : (text : List ℕ) (ts : List TokenTree) (r : Answer) → AreTokens text ts → GivesRead r (read_module ts) → (m : ModuleTree) → Spells text m → GivesModule m r

@@ -1,4 +1,4 @@
-use Rattle.std.proofs.Common.{◌≡◌, ◌+◌, ◌*◌, ◌<◌, ◌≤◌, ◌^◌, max, length, map, take, rules, false, sym, ap, ◌∙◌, subst, arith}
+use Rattle.std.proofs.Common.{◌≡◌, ◌+◌, ◌*◌, ◌<◌, ◌≤◌, ◌^◌, length, map, take, rules, false, sym, ap, ◌∙◌, subst, arith}
 use Rattle.std.specs.List.{sum_by}
 use Rattle.std.proofs.lemmas.List.{length-map}
 use Rattle.std.proofs.Math.Facts.{Fits-of_lt}
@@ -20,7 +20,7 @@ use Rattle.ae_elab.proofs.NetLaws.{nets_grow}
 use Rattle.ae_elab.proofs.SoundLaws.{sound_high, has_part, parts_width, parts_sound}
 use Rattle.ae_elab.proofs.PartLaws.{parts_weight, joined_push, joined_whole, some_part_ready}
 use Rattle.ae_elab.proofs.Turns.{at_turn, take_turn, sum_turn, sum_turn_le, take_whole}
-use Rattle.ae_elab.proofs.Arms.{concat_is, index_arm, not_arm, flip_arm, word_arm, constant_arm, shift_arm, comparison_arm, test_arm, choice_arm, concat_arm}
+use Rattle.ae_elab.proofs.Arms.{concat_is, index_arm, not_arm, flip_arm, constant_arm, binary_arm, choice_arm, concat_arm}
 use Rattle.ae_elab.proofs.lower.+lowering.Goals as goal
 
 pub lower-fixed-requires-clause-fits : goal.lower-fixed-requires-clause-fits
@@ -43,54 +43,33 @@ lower-returns-in_ok-x-in-None-clause-word t c =
     (index_arm c.args.from c.args.names.now c.args.nets.now _ _ c.read_word.result (string_bytes c.in-Index.name) _ _ c.args.w (expr_tree c.in-Index.at.value) v.memory own
     (rw c.deref-in-None-2.ensures at c.in_ok-x-in-None.ensures.word) (rw c.deref-in-None-3.ensures at c.read_word.ensures.word))
 
-pub lower-returns-in_ok-zero-in-Not-clause-word : goal.lower-returns-in_ok-zero-in-Not-clause-word
-lower-returns-in_ok-zero-in-Not-clause-word t c =
-    let own : c.own_width-own-in-Not.result ≡ own_width c.args.names.now (expr_tree c.in-Unary.a.value) = rw c.deref-in-Not.ensures at c.own_width-own-in-Not.ensures.own in
-    rw (c.in-Unary.is, c.in-Not.is)
-    (not_arm c.args.from c.args.names.now c.args.nets.now _ _ _ c.widen.result _ _ _ c.args.w (expr_tree c.in-Unary.a.value) own
-    (rw c.deref-in-Not-2.ensures at c.in_ok-x-in-Not.ensures.word) c.in_ok-zero-in-Not.ensures.word c.widen.ensures.word)
+pub lower_unary-returns-in_ok-zero-in-Not-clause-word : goal.lower_unary-returns-in_ok-zero-in-Not-clause-word
+lower_unary-returns-in_ok-zero-in-Not-clause-word t c =
+    let own : c.own_width-own.result ≡ own_width c.args.names.now (expr_tree c.args.a.now) = c.own_width-own.ensures.own in
+    rw c.in-Not.is
+    (not_arm c.args.from c.args.names.now c.args.nets.now _ _ _ c.widen.result _ _ _ c.args.w (expr_tree c.args.a.now) own
+    c.in_ok-x-in-Not.ensures.word c.in_ok-zero-in-Not.ensures.word c.widen.ensures.word)
 
-pub lower-returns-in_ok-x-in-Flip-clause-word : goal.lower-returns-in_ok-x-in-Flip-clause-word
-lower-returns-in_ok-x-in-Flip-clause-word t c =
-    rw (c.in-Unary.is, c.in-Flip.is)
-    (flip_arm c.args.from c.args.names.now c.args.nets.now _ _ c.gate.result _ c.args.w (expr_tree c.in-Unary.a.value)
-    (rw c.deref-in-Flip.ensures at c.in_ok-x-in-Flip.ensures.word) c.gate.ensures.word)
+pub lower_unary-returns-in_ok-x-in-Flip-clause-word : goal.lower_unary-returns-in_ok-x-in-Flip-clause-word
+lower_unary-returns-in_ok-x-in-Flip-clause-word t c =
+    rw c.in-Flip.is
+    (flip_arm c.args.from c.args.names.now c.args.nets.now _ _ c.gate.result _ c.args.w (expr_tree c.args.a.now)
+    c.in_ok-x-in-Flip.ensures.word c.gate.ensures.word)
 
-pub lower-returns-in_ok-y-in-Word-clause-word : goal.lower-returns-in_ok-y-in-Word-clause-word
-lower-returns-in_ok-y-in-Word-clause-word t c =
+pub lower-returns-in_ok-x-in-Some-fixed_shift-clause-word : goal.lower-returns-in_ok-x-in-Some-fixed_shift-clause-word
+lower-returns-in_ok-x-in-Some-fixed_shift-clause-word t c =
     rw c.in-Binary.is
-    (word_arm c.args.from c.args.names.now c.args.nets.now c.lower-in-Word.new.nl c.lower-in-Word-2.new.nl c.gate-in-Word.new.nl c.gate-in-Word.result c.in-Binary.op c.in-Word.cell _ _ c.args.w (expr_tree c.in-Binary.a.value) (expr_tree c.in-Binary.b.value)
-    c.in-Word.ensures c.in_ok-y-in-Word.ensures.grows (rw c.deref-in-Word.ensures at c.in_ok-x-in-Word.ensures.word) (rw c.deref-in-Word-2.ensures at c.in_ok-y-in-Word.ensures.word) c.gate-in-Word.ensures.word)
+    (constant_arm c.args.from c.args.names.now c.args.nets.now c.lower-in-Some-fixed_shift.new.nl c.moved_by.new.nl c.moved_by.result c.in-Binary.op c.in-Some-fixed_shift.way _ c.in-Some-fixed_shift.places c.args.w (expr_tree c.in-Binary.a.value) (expr_tree c.in-Binary.b.value)
+    c.in-Some-fixed_shift.ensures.way (rw c.deref-in-Binary.ensures at c.in-Some-fixed_shift.ensures.places) (rw c.deref-in-Some-fixed_shift.ensures at c.in_ok-x-in-Some-fixed_shift.ensures.word) c.moved_by.ensures.word)
 
-pub lower-returns-in_ok-x-in-Some-constant_value-clause-word : goal.lower-returns-in_ok-x-in-Some-constant_value-clause-word
-lower-returns-in_ok-x-in-Some-constant_value-clause-word t c =
+pub lower-returns-in_ok-y-in-None-fixed_shift-clause-word : goal.lower-returns-in_ok-y-in-None-fixed_shift-clause-word
+lower-returns-in_ok-y-in-None-fixed_shift-clause-word t c =
+    let own_a : c.own_width-own_a.result ≡ own_width c.args.names.now (expr_tree c.in-Binary.a.value) = rw c.deref-in-None-fixed_shift.ensures at c.own_width-own_a.ensures.own in
+    let own_b : c.own_width-own_b.result ≡ own_width c.args.names.now (expr_tree c.in-Binary.b.value) = rw c.deref-in-None-fixed_shift-2.ensures at c.own_width-own_b.ensures.own in
     rw c.in-Binary.is
-    (constant_arm c.args.from c.args.names.now c.args.nets.now c.lower-in-Some-constant_value.new.nl c.moved_by.new.nl c.moved_by.result c.in-Binary.op c.in-Shift.way _ c.in-Some-constant_value.places c.args.w (expr_tree c.in-Binary.a.value) (expr_tree c.in-Binary.b.value)
-    c.in-Shift.ensures (rw c.deref-in-Shift.ensures at c.in-Some-constant_value.ensures.some) (rw c.deref-in-Some-constant_value.ensures at c.in_ok-x-in-Some-constant_value.ensures.word) c.moved_by.ensures.word)
-
-pub lower-returns-in_ok-by-in-None-constant_value-clause-word : goal.lower-returns-in_ok-by-in-None-constant_value-clause-word
-lower-returns-in_ok-by-in-None-constant_value-clause-word t c =
-    let own : c.own_width-own-in-None-constant_value.result ≡ own_width c.args.names.now (expr_tree c.in-Binary.b.value) = rw c.deref-in-None-constant_value.ensures at c.own_width-own-in-None-constant_value.ensures.own in
-    rw c.in-Binary.is
-    (shift_arm c.args.from c.args.names.now c.args.nets.now c.lower-in-None-constant_value.new.nl c.lower-in-None-constant_value-2.new.nl c.shifted.new.nl c.shifted.result c.in-Binary.op c.in-Shift.way _ _ _ c.args.w (expr_tree c.in-Binary.a.value) (expr_tree c.in-Binary.b.value)
-    c.in-Shift.ensures own c.in_ok-by-in-None-constant_value.ensures.grows (rw c.deref-in-None-constant_value-2.ensures at c.in_ok-x-in-None-constant_value.ensures.word) (rw c.deref-in-None-constant_value-3.ensures at c.in_ok-by-in-None-constant_value.ensures.word) c.shifted.ensures.word)
-
-pub lower-returns-in_ok-y-in-Comparison-clause-word : goal.lower-returns-in_ok-y-in-Comparison-clause-word
-lower-returns-in_ok-y-in-Comparison-clause-word t c =
-    let wa : c.own_width.result ≡ own_width c.args.names.now (expr_tree c.in-Binary.a.value) = rw c.deref-in-Comparison.ensures at c.own_width.ensures.own in
-    let wb : c.own_width-in-Comparison.result ≡ own_width c.args.names.now (expr_tree c.in-Binary.b.value) = rw c.deref-in-Comparison-2.ensures at c.own_width-in-Comparison.ensures.own in
-    let own : c.max-own.result ≡ max (own_width c.args.names.now (expr_tree c.in-Binary.a.value)) (own_width c.args.names.now (expr_tree c.in-Binary.b.value)) = rw (wa, wb) at c.max-own.ensures in
-    rw c.in-Binary.is
-    (comparison_arm c.args.from c.args.names.now c.args.nets.now c.lower-in-Comparison.new.nl c.lower-in-Comparison-2.new.nl c.compare.new.nl c.compare.result c.in-Binary.op c.in-Comparison.how _ _ _ c.args.w (expr_tree c.in-Binary.a.value) (expr_tree c.in-Binary.b.value)
-    c.in-Comparison.ensures own c.in_ok-y-in-Comparison.ensures.grows (rw c.deref-in-Comparison-3.ensures at c.in_ok-x-in-Comparison.ensures.word) (rw c.deref-in-Comparison-4.ensures at c.in_ok-y-in-Comparison.ensures.word) c.compare.ensures.word)
-
-pub lower-returns-in_ok-y-in-Test-clause-word : goal.lower-returns-in_ok-y-in-Test-clause-word
-lower-returns-in_ok-y-in-Test-clause-word t c =
-    let wa : c.own_width-wa.result ≡ own_width c.args.names.now (expr_tree c.in-Binary.a.value) = rw c.deref-in-Test.ensures at c.own_width-wa.ensures.own in
-    let wb : c.own_width-wb.result ≡ own_width c.args.names.now (expr_tree c.in-Binary.b.value) = rw c.deref-in-Test-2.ensures at c.own_width-wb.ensures.own in
-    rw c.in-Binary.is
-    (test_arm c.args.from c.args.names.now c.args.nets.now c.lower-in-Test.new.nl c.lower-in-Test-2.new.nl c.tested.new.nl c.tested.result c.in-Binary.op c.in-Test.cell _ _ _ _ c.args.w (expr_tree c.in-Binary.a.value) (expr_tree c.in-Binary.b.value)
-    c.in-Test.ensures wa wb c.in_ok-y-in-Test.ensures.grows (rw c.deref-in-Test-3.ensures at c.in_ok-x-in-Test.ensures.word) (rw c.deref-in-Test-4.ensures at c.in_ok-y-in-Test.ensures.word) c.tested.ensures.word)
+    (binary_arm c.args.from c.args.names.now c.args.nets.now c.lower-in-None-fixed_shift.new.nl c.lower-in-None-fixed_shift-2.new.nl c.combine.new.nl c.combine.result c.in-Binary.op _ _ _ _ c.args.w (expr_tree c.in-Binary.a.value) (expr_tree c.in-Binary.b.value)
+    (rw (own_a, own_b) at c.operand_widths-wa.ensures.left) (rw (own_a, own_b) at c.operand_widths-wa.ensures.right) c.in_ok-y-in-None-fixed_shift.ensures.grows
+    (rw c.deref-in-None-fixed_shift-3.ensures at c.in_ok-x-in-None-fixed_shift.ensures.word) (rw c.deref-in-None-fixed_shift-4.ensures at c.in_ok-y-in-None-fixed_shift.ensures.word) c.combine.ensures.word)
 
 pub lower-returns-in_ok-y-in-Choose-clause-word : goal.lower-returns-in_ok-y-in-Choose-clause-word
 lower-returns-in_ok-y-in-Choose-clause-word t c =
@@ -110,15 +89,15 @@ lower-lower_parts-requires t c =
     let room : HasRoom c.args.nl.now (8 * sum_by part_weight (map expr_tree c.deref-in-Concat.result.now)) = omega arith in
     search (rules, the_lemmas, sound, ready, room)
 
-pub lower-widen-requires-in-Concat-clause-within : goal.lower-widen-requires-in-Concat-clause-within
-lower-widen-requires-in-Concat-clause-within t c =
+pub lower-widen-requires-clause-within : goal.lower-widen-requires-clause-within
+lower-widen-requires-clause-within t c =
     let e = concat_is c.args.e.now c.in-Concat.parts c.deref-in-Concat.result.now c.in-Concat.is c.deref-in-Concat.ensures.value in
     let within : own_width c.args.names.now (concat_of (map expr_tree c.deref-in-Concat.result.now)) ≤ c.args.w = subst (λ u. own_width c.args.names.now u ≤ c.args.w) e c.requires.within in
     let own = c.in_ok-x-in-Concat.ensures.own in
     omega arith
 
-pub lower-widen-requires-in-Concat-clause-room : goal.lower-widen-requires-in-Concat-clause-room
-lower-widen-requires-in-Concat-clause-room t c =
+pub lower-widen-requires-clause-room : goal.lower-widen-requires-clause-room
+lower-widen-requires-clause-room t c =
     let ps = map expr_tree c.deref-in-Concat.result.now in
     let e = concat_is c.args.e.now c.in-Concat.parts c.deref-in-Concat.result.now c.in-Concat.is c.deref-in-Concat.ensures.value in
     let sound : IsSound c.args.names.now (concat_of ps) = subst (IsSound c.args.names.now) e c.requires.sound in
@@ -135,14 +114,14 @@ lower-returns-in_ok-x-in-Concat-clause-few t c =
     let sound : IsSound c.args.names.now (concat_of ps) = subst (IsSound c.args.names.now) e c.requires.sound in
     let weight : expr_weight (expr_tree c.args.e.now) ≡ sum_by part_weight ps = ap expr_weight e ∙ parts_weight ps (has_part c.args.names.now ps sound) in
     let few = c.in_ok-x-in-Concat.ensures.few in
-    on_ok_map c.widen-in-Concat.result (λ h. omega arith) c.widen-in-Concat.ensures.few
+    on_ok_map c.widen.result (λ h. omega arith) c.widen.ensures.few
 
 pub lower-returns-in_ok-x-in-Concat-clause-word : goal.lower-returns-in_ok-x-in-Concat-clause-word
 lower-returns-in_ok-x-in-Concat-clause-word t c =
     let ps = map expr_tree c.deref-in-Concat.result.now in
     let e = concat_is c.args.e.now c.in-Concat.parts c.deref-in-Concat.result.now c.in-Concat.is c.deref-in-Concat.ensures.value in
     let sound : IsSound c.args.names.now (concat_of ps) = subst (IsSound c.args.names.now) e c.requires.sound in
-    rw e (concat_arm c.args.from c.args.names.now c.args.nets.now _ _ c.widen-in-Concat.result _ _ c.args.w ps (has_part c.args.names.now ps sound) c.in_ok-x-in-Concat.ensures.word c.widen-in-Concat.ensures.word)
+    rw e (concat_arm c.args.from c.args.names.now c.args.nets.now _ _ c.widen.result _ _ c.args.w ps (has_part c.args.names.now ps sound) c.in_ok-x-in-Concat.ensures.word c.widen.ensures.word)
 
 -- the parts one after the other
 pub lower_parts-own_width-own-requires : goal.lower_parts-own_width-own-requires
