@@ -1,11 +1,13 @@
 #!/usr/bin/env bash
-# The written module of every example that is built today is taken by Icarus, Verilator and Yosys without a warning.
+# The written module of every example, at several slowdowns, is taken by Icarus, Verilator and Yosys without a warning.
 # A tool that is missing is skipped with a line.
 set -u
 cd "$(dirname "$0")/.."
 bash tests/peers.sh
 folder=$(mktemp -d)
 trap 'rm -rf -- "$folder"' EXIT
+# The tools want the file named like its module.
+module="$folder/aeth.v"
 passed=0
 failed=0
 
@@ -22,15 +24,17 @@ check() {
   fi
 }
 
-for example in examples/increment.aeth; do
-  name=$(basename "$example" .aeth)
-  # The tools want the file named like its module.
-  module="$folder/aeth.v"
-  if ! ./aeth build 1 <"$example" >"$module" 2>"$folder/err"; then
+# lint EXAMPLE SLOWDOWN: every tool takes the module, if the program has a layout at the slowdown.
+lint() {
+  local name status=0
+  name="$(basename "$1" .aeth) at slowdown $2"
+  ./aeth build "$2" <"$1" >"$module" 2>"$folder/err" || status=$?
+  [ "$status" = 5 ] && return
+  if [ "$status" != 0 ]; then
     failed=$((failed + 1))
     echo "lint: $name is not built"
     cat "$folder/err" "$module"
-    continue
+    return
   fi
   if command -v iverilog >/dev/null 2>&1; then
     check "$name, iverilog" iverilog -Wall -t null "$module"
@@ -41,6 +45,12 @@ for example in examples/increment.aeth; do
   if command -v yosys >/dev/null 2>&1; then
     check "$name, yosys" yosys -q -p "read_verilog $module; hierarchy -check; proc; check -assert"
   fi
+}
+
+for example in examples/*.aeth; do
+  for slowdown in 1 2 8; do
+    lint "$example" "$slowdown"
+  done
 done
 echo "lint: $passed passed, $failed failed"
 [ "$failed" = 0 ]

@@ -29,7 +29,7 @@ use Rattle.ae_tool.specs.RunTexts.{input_widths, run_limit}
 use Rattle.ae_tool.specs.Refusals.{refusal_line}
 use Rattle.ae_tool.specs.declared.status.Status.{Status}
 use Rattle.ae_tool.specs.declared.status.Status.TheVariants.{Ok, LongRun}
-use Rattle.ae_tool.proofs.FirstRun.{divided, mul-le}
+use Rattle.ae_tool.proofs.RowCounts.{divided, mul-le}
 use Rattle.ae_tool.specs.EvalTexts.{IsEvalOf, eval_size, eval_text, row_results, type_words, words_line}
 use Rattle.ae_tool.specs.EvalRows.{AreRows, values_in_row}
 use Rattle.ae_tool.proofs.EvalTypes.{has_columns, same_parameters}
@@ -175,7 +175,7 @@ pub record FirstFits (t : SeqTree) (ts : List SeqTree) (rest : List ℕ) : Type 
   pub first : Fit t (take (words t) rest)
   pub later : FitIn ts (drop (words t) rest)
 
-first_fits : (t : SeqTree) (ts : List SeqTree) (ws : List ℕ) → FitIn (t ∷ ts) ws → FirstFits t ts ws
+pub first_fits : (t : SeqTree) (ts : List SeqTree) (ws : List ℕ) → FitIn (t ∷ ts) ws → FirstFits t ts ws
 first_fits t ts ws h =
     let s = FitKinds-split (kinds t) (kinds_of ts) ws h in
     let size : length (kinds t) ≡ words t = length-kinds t in

@@ -22,7 +22,7 @@ use Rattle.ae_eval.proofs.Items.{and-both, entry-at, few-funcs, func-read}
 use Rattle.ae_correct.specs.Correct.{parameter_types, result_types, results_in, types_in, main_of}
 use Rattle.ae_tool.specs.Inputs.{type_widths, widths_of}
 use Rattle.ae_tool.specs.RunTexts.{input_widths}
-use Rattle.ae_tool.proofs.Rows.{map-append}
+use Rattle.std.proofs.lemmas.List.{map-append}
 
 -- ---- the parameters' types are in size
 

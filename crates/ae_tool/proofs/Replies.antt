@@ -3,34 +3,33 @@ use Rattle.std.proofs.Common.{ℕ, ◌≡◌, ◌<◌, ◌≤◌, Bool, true, fa
 use Rattle.std.proofs.lemmas.Bool.{eqb-true}
 use Rattle.ae_parse.proofs.Plain.{own}
 use Rattle.std.proofs.lemmas.Fmt.{digits_value-decimal}
+use Rattle.std.specs.Fmt.{decimal}
 use Rattle.std.specs.Str.Parse.{digits_value}
 use Rattle.ae_parse.proofs.Bools.{and-first, and-second}
 use Rattle.ae_parse.specs.Cut.{lines, fields, said, put}
 use Rattle.ae_parse.specs.Parts.{is_mark, no_mark, whole_lines}
 use Rattle.ae_parse.specs.Rows.{rows_of, bad_row}
 use Rattle.ae_seq.specs.ProgramTree.{ProgramTree}
-use Rattle.ae_first.specs.FirstForm.{FirstForm}
 use Rattle.ae_tool.specs.declared.status.Status.{Status}
 use Rattle.ae_tool.specs.declared.status.Status.TheVariants.{Ok, Usage, BadLine, BadType, TooLarge, NoSchedule, BadWords, BadModule, LongRun, ReadFault, WriteFault, TooLong, Memory}
 use Rattle.ae_tool.specs.declared.command.Command.{Command}
 use Rattle.ae_tool.specs.declared.command.Command.TheVariants.{Check, Eval, Plan, Cost, Build, Run}
 use Rattle.ae_tool.specs.Commands.{IsCommand}
 use Rattle.ae_tool.specs.Inputs.{IsCut, Marked, Unmarked}
-use Rattle.ae_tool.specs.RunTexts.{input_widths, run_size, run_limit}
+use Rattle.ae_tool.specs.RunTexts.{input_widths, run_size, run_limit, IsRunOf, IsRun, Unbuilt, Played}
+use Rattle.ae_tool.specs.Building.{IsBuiltText, main_costs}
 use Rattle.ae_seq.specs.Typing.{refused_line as refused_line_of}
 use Rattle.ae_parse.specs.Grammar.{IsProgramText as Reads, program, refused_line}
 use Rattle.ae_tool.specs.Programs.{IsTyped, IsRefusal}
-use Rattle.ae_seq.specs.ProgramTree.{FuncTree}
 use Rattle.ae_rewrite.specs.StProgramTree.{StFuncTree}
 use Rattle.ae_rewrite.specs.Scheduled.{IsSchedule}
 use Rattle.ae_rewrite.specs.FailingLine.{failing_line}
-use Rattle.ae_delay.specs.Costs.{NodeTiming}
 use Rattle.ae_delay.specs.Weighing.{cost_of}
 use Rattle.ae_tool.specs.PlanTexts.{plan_text}
 use Rattle.ae_tool.specs.CostTables.{cost_table}
-use Rattle.ae_tool.specs.Schedules.{HasCosts, HasLargeLoad, IsAnswered, IsCostRefusal}
+use Rattle.ae_tool.specs.Schedules.{HasCosts, HasLargeLoad, IsAnswered, IsCostRefusal, IsCostText}
 use Rattle.ae_tool.specs.EvalTexts.{eval_size, IsEvalOf}
-use Rattle.ae_tool.specs.Outcomes.{IsBuilt, IsChecked, IsEvaluated, Refused, Ran, IsRunOf, IsRun, IsReply, IsDone, HasResult, IsAccepted}
+use Rattle.ae_tool.specs.Outcomes.{IsChecked, IsEvaluated, Refused, Ran, IsReply, IsDone, HasResult, HasShortRun, IsAccepted}
 
 -- the answers of jobs
 abbrev pub is_reply : Status → Bool
@@ -47,36 +46,6 @@ is_reply ReadFault = false
 is_reply WriteFault = false
 is_reply TooLong = false
 is_reply Memory = false
-
-built_replies : (part : List ℕ) (status : Status) (text : List ℕ) → IsBuilt part status text → is_reply status ≡ true
-built_replies part Ok text b = refl
-built_replies part Usage text b = absurd b
-built_replies part (BadLine line) text b = refl
-built_replies part (BadType line) text b = absurd b
-built_replies part (TooLarge line) text b = absurd b
-built_replies part (NoSchedule line) text b = absurd b
-built_replies part (BadWords row column) text b = absurd b
-built_replies part (BadModule fault) text b = absurd b
-built_replies part (LongRun size) text b = absurd b
-built_replies part ReadFault text b = absurd b
-built_replies part WriteFault text b = absurd b
-built_replies part TooLong text b = absurd b
-built_replies part Memory text b = absurd b
-
-run_replies : (fill : ℕ) (part : List ℕ) (table : List (List (List ℕ))) (status : Status) (text : List ℕ) → IsRun fill part table status text → is_reply status ≡ true
-run_replies fill part table Ok text b = refl
-run_replies fill part table Usage text b = absurd b.2
-run_replies fill part table (BadLine line) text b = refl
-run_replies fill part table (BadType line) text b = absurd b.2
-run_replies fill part table (TooLarge line) text b = absurd b.2
-run_replies fill part table (NoSchedule line) text b = absurd b.2
-run_replies fill part table (BadWords row column) text b = refl
-run_replies fill part table (BadModule fault) text b = absurd b.2
-run_replies fill part table (LongRun size) text b = refl
-run_replies fill part table ReadFault text b = absurd b.2
-run_replies fill part table WriteFault text b = absurd b.2
-run_replies fill part table TooLong text b = absurd b.2
-run_replies fill part table Memory text b = absurd b.2
 
 refusal_replies : (part : List ℕ) (status : Status) → IsRefusal part status → is_reply status ≡ true
 refusal_replies part Ok b = absurd b
@@ -142,28 +111,47 @@ cost_refusal_replies part slowdown WriteFault b = refusal_replies part WriteFaul
 cost_refusal_replies part slowdown TooLong b = refusal_replies part TooLong b
 cost_refusal_replies part slowdown Memory b = refusal_replies part Memory b
 
-answered_replies : (text_of : FuncTree → StFuncTree → List NodeTiming → List ℕ) (part : List ℕ) (slowdown : ℕ) (status : Status) (text : List ℕ) → IsAnswered text_of part slowdown status text → is_reply status ≡ true
-answered_replies text_of part slowdown Ok text b = refl
-answered_replies text_of part slowdown (NoSchedule line) text b = cost_refusal_replies part slowdown (NoSchedule line) b.0
-answered_replies text_of part slowdown (TooLarge line) text b = cost_refusal_replies part slowdown (TooLarge line) b.0
-answered_replies text_of part slowdown Usage text b = cost_refusal_replies part slowdown Usage b.0
-answered_replies text_of part slowdown (BadLine line) text b = cost_refusal_replies part slowdown (BadLine line) b.0
-answered_replies text_of part slowdown (BadType line) text b = cost_refusal_replies part slowdown (BadType line) b.0
-answered_replies text_of part slowdown (BadWords row column) text b = cost_refusal_replies part slowdown (BadWords row column) b.0
-answered_replies text_of part slowdown (BadModule fault) text b = cost_refusal_replies part slowdown (BadModule fault) b.0
-answered_replies text_of part slowdown (LongRun size) text b = cost_refusal_replies part slowdown (LongRun size) b.0
-answered_replies text_of part slowdown ReadFault text b = cost_refusal_replies part slowdown ReadFault b.0
-answered_replies text_of part slowdown WriteFault text b = cost_refusal_replies part slowdown WriteFault b.0
-answered_replies text_of part slowdown TooLong text b = cost_refusal_replies part slowdown TooLong b.0
-answered_replies text_of part slowdown Memory text b = cost_refusal_replies part slowdown Memory b.0
+answered_replies : (IsRight : List ℕ → Type 0) (part : List ℕ) (slowdown : ℕ) (status : Status) (text : List ℕ) → IsAnswered IsRight part slowdown status text → is_reply status ≡ true
+answered_replies IsRight part slowdown Ok text b = refl
+answered_replies IsRight part slowdown (NoSchedule line) text b = cost_refusal_replies part slowdown (NoSchedule line) b.0
+answered_replies IsRight part slowdown (TooLarge line) text b = cost_refusal_replies part slowdown (TooLarge line) b.0
+answered_replies IsRight part slowdown Usage text b = cost_refusal_replies part slowdown Usage b.0
+answered_replies IsRight part slowdown (BadLine line) text b = cost_refusal_replies part slowdown (BadLine line) b.0
+answered_replies IsRight part slowdown (BadType line) text b = cost_refusal_replies part slowdown (BadType line) b.0
+answered_replies IsRight part slowdown (BadWords row column) text b = cost_refusal_replies part slowdown (BadWords row column) b.0
+answered_replies IsRight part slowdown (BadModule fault) text b = cost_refusal_replies part slowdown (BadModule fault) b.0
+answered_replies IsRight part slowdown (LongRun size) text b = cost_refusal_replies part slowdown (LongRun size) b.0
+answered_replies IsRight part slowdown ReadFault text b = cost_refusal_replies part slowdown ReadFault b.0
+answered_replies IsRight part slowdown WriteFault text b = cost_refusal_replies part slowdown WriteFault b.0
+answered_replies IsRight part slowdown TooLong text b = cost_refusal_replies part slowdown TooLong b.0
+answered_replies IsRight part slowdown Memory text b = cost_refusal_replies part slowdown Memory b.0
+
+run_of_replies : (fill : ℕ) (p : ProgramTree) (slowdown : ℕ) (instances : List StFuncTree) (table : List (List (List ℕ))) (status : Status) (text : List ℕ) → IsRunOf fill p slowdown instances table status text → is_reply status ≡ true
+run_of_replies fill p slowdown instances table Ok text b = refl
+run_of_replies fill p slowdown instances table Usage text b = absurd b
+run_of_replies fill p slowdown instances table (BadLine line) text b = absurd b
+run_of_replies fill p slowdown instances table (BadType line) text b = absurd b
+run_of_replies fill p slowdown instances table (TooLarge line) text b = absurd b
+run_of_replies fill p slowdown instances table (NoSchedule line) text b = absurd b
+run_of_replies fill p slowdown instances table (BadWords row column) text b = refl
+run_of_replies fill p slowdown instances table (BadModule fault) text b = absurd b
+run_of_replies fill p slowdown instances table (LongRun size) text b = refl
+run_of_replies fill p slowdown instances table ReadFault text b = absurd b
+run_of_replies fill p slowdown instances table WriteFault text b = absurd b
+run_of_replies fill p slowdown instances table TooLong text b = absurd b
+run_of_replies fill p slowdown instances table Memory text b = absurd b
+
+run_replies : (slowdown fill : ℕ) (part : List ℕ) (table : List (List (List ℕ))) (status : Status) (text : List ℕ) → IsRun slowdown fill part table status text → is_reply status ≡ true
+run_replies slowdown fill part table status text (Unbuilt r e) = cost_refusal_replies part slowdown status r
+run_replies slowdown fill part table status text (Played p instances c r) = run_of_replies fill p slowdown instances table status text r
 
 reply_replies : (command : Command) (part : List ℕ) (table : List (List (List ℕ))) (status : Status) (text : List ℕ) → IsReply command part table status text → is_reply status ≡ true
 reply_replies Check part table status text b = checked_replies part status text b
 reply_replies Eval part table status text b = evaluated_replies part table status text b
-reply_replies (Plan slowdown) part table status text b = answered_replies (plan_text slowdown) part slowdown status text b
-reply_replies (Cost slowdown) part table status text b = answered_replies (λ f s ts. cost_table f.nodes (map cost_of ts)) part slowdown status text b
-reply_replies Build part table status text b = built_replies part status text b
-reply_replies (Run fill) part table status text b = run_replies fill part table status text b
+reply_replies (Plan slowdown) part table status text b = answered_replies (IsCostText (plan_text slowdown) part slowdown) part slowdown status text b
+reply_replies (Cost slowdown) part table status text b = answered_replies (IsCostText (λ f s ts. cost_table f.nodes (map cost_of ts)) part slowdown) part slowdown status text b
+reply_replies (Build slowdown) part table status text b = answered_replies (IsBuiltText part slowdown) part slowdown status text b
+reply_replies (Run slowdown fill) part table status text b = run_replies slowdown fill part table status text b
 
 pub done_replies : (command : Command) (bytes : List ℕ) (status : Status) (text : List ℕ) → IsDone command bytes status text → is_reply status ≡ true
 done_replies command bytes status text d = reply_replies command d.part d.table status text d.reply
@@ -174,16 +162,17 @@ done_replies command bytes status text d = reply_replies command d.part d.table 
 abbrev named_by : List (List ℕ) → Command
 named_by [] = Check
 named_by (w ∷ []) = if bytes_eq w (codes "check") then Check else Eval
-named_by (w ∷ a ∷ []) = if bytes_eq w (codes "plan") then Plan (digits_value 10 a) else if bytes_eq w (codes "cost") then Cost (digits_value 10 a) else Build
-named_by (w ∷ a ∷ b ∷ ws) = Run (digits_value 10 b)
+named_by (w ∷ a ∷ []) = if bytes_eq w (codes "plan") then Plan (digits_value 10 a) else if bytes_eq w (codes "cost") then Cost (digits_value 10 a) else Build (digits_value 10 a)
+named_by (w ∷ a ∷ b ∷ ws) = Run (digits_value 10 a) (digits_value 10 b)
 
 named_is : (ws : List (List ℕ)) (c : Command) → IsCommand ws c → named_by ws ≡ c
 named_is ws Check h = ap named_by h.0
 named_is ws Eval h = ap named_by h.0
 named_is ws (Plan s) h = ap named_by h.0 ∙ ap (λ n. Plan n) (digits_value-decimal own s (omega (arith, h.1.1)))
 named_is ws (Cost s) h = ap named_by h.0 ∙ ap (λ n. Cost n) (digits_value-decimal own s (omega (arith, h.1.1)))
-named_is ws Build h = ap named_by h.0
-named_is ws (Run n) h = ap named_by h.0 ∙ ap (λ n. Run n) (digits_value-decimal own n h.1)
+named_is ws (Build s) h = ap named_by h.0 ∙ ap (λ n. Build n) (digits_value-decimal own s (omega (arith, h.1.1)))
+named_is ws (Run s n) h =
+    ap named_by h.0 ∙ ap (λ k. Run k (digits_value 10 (decimal n))) (digits_value-decimal own s (omega (arith, h.1.0.1))) ∙ ap (λ k. Run s k) (digits_value-decimal own n h.1.1)
 
 pub same_command : (ws : List (List ℕ)) (a b : Command) → IsCommand ws a → IsCommand ws b → a ≡ b
 same_command ws a b x y = sym (named_is ws a x) ∙ named_is ws b y
@@ -269,56 +258,6 @@ cut_once bytes part part' table table' (Unmarked n p t) (Unmarked n' p' t') = re
 
 -- ---- where a job has a result it answers it
 
-built_ok : (part : List ℕ) (status : Status) (text : List ℕ) (p : ProgramTree) → FirstForm part p → IsBuilt part status text → status ≡ Ok
-built_ok part Ok text p f b = refl
-built_ok part Usage text p f b = absurd b
-built_ok part (BadLine line) text p f b = absurd (b.0.none p f)
-built_ok part (BadType line) text p f b = absurd b
-built_ok part (TooLarge line) text p f b = absurd b
-built_ok part (NoSchedule line) text p f b = absurd b
-built_ok part (BadWords row column) text p f b = absurd b
-built_ok part (BadModule fault) text p f b = absurd b
-built_ok part (LongRun size) text p f b = absurd b
-built_ok part ReadFault text p f b = absurd b
-built_ok part WriteFault text p f b = absurd b
-built_ok part TooLong text p f b = absurd b
-built_ok part Memory text p f b = absurd b
-
-run_of_ok : (fill : ℕ) (p : ProgramTree) (table : List (List (List ℕ))) (status : Status) (text : List ℕ) → bad_row 1 (input_widths p) table ≡ None → run_size p table ≤ run_limit
-    → IsRunOf fill p table status text → status ≡ Ok
-run_of_ok fill p table Ok text right short b = refl
-run_of_ok fill p table Usage text right short b = absurd b
-run_of_ok fill p table (BadLine line) text right short b = absurd b
-run_of_ok fill p table (BadType line) text right short b = absurd b
-run_of_ok fill p table (TooLarge line) text right short b = absurd b
-run_of_ok fill p table (NoSchedule line) text right short b = absurd b
-run_of_ok fill p table (BadWords row column) text right short b = let e = sym right ∙ b.0 in cc
-run_of_ok fill p table (BadModule fault) text right short b = absurd b
-run_of_ok fill p table (LongRun size) text right short b = let long : run_limit < size = b.1 in let is : size ≡ run_size p table = b.2 in absurd (omega (arith, long, is, short))
-run_of_ok fill p table ReadFault text right short b = absurd b
-run_of_ok fill p table WriteFault text right short b = absurd b
-run_of_ok fill p table TooLong text right short b = absurd b
-run_of_ok fill p table Memory text right short b = absurd b
-
-record RunFits (p : ProgramTree) (table : List (List (List ℕ))) : Type 0 where
-  right : bad_row 1 (input_widths p) table ≡ None
-  short : run_size p table ≤ run_limit
-
-run_ok : (fill : ℕ) (part : List ℕ) (table : List (List (List ℕ))) (status : Status) (text : List ℕ) (q : ProgramTree) → FirstForm part q → RunFits q table → IsRun fill part table status text → status ≡ Ok
-run_ok fill part table Ok text q f r b = let k : RunFits b.0 table = subst (λ (p : ProgramTree). RunFits p table) (b.1.only q f) r in run_of_ok fill b.0 table Ok text k.right k.short b.2
-run_ok fill part table Usage text q f r b = let k : RunFits b.0 table = subst (λ (p : ProgramTree). RunFits p table) (b.1.only q f) r in run_of_ok fill b.0 table Usage text k.right k.short b.2
-run_ok fill part table (BadLine line) text q f r b = absurd (b.0.none q f)
-run_ok fill part table (BadType line) text q f r b = let k : RunFits b.0 table = subst (λ (p : ProgramTree). RunFits p table) (b.1.only q f) r in run_of_ok fill b.0 table (BadType line) text k.right k.short b.2
-run_ok fill part table (TooLarge line) text q f r b = let k : RunFits b.0 table = subst (λ (p : ProgramTree). RunFits p table) (b.1.only q f) r in run_of_ok fill b.0 table (TooLarge line) text k.right k.short b.2
-run_ok fill part table (NoSchedule line) text q f r b = let k : RunFits b.0 table = subst (λ (p : ProgramTree). RunFits p table) (b.1.only q f) r in run_of_ok fill b.0 table (NoSchedule line) text k.right k.short b.2
-run_ok fill part table (BadWords row column) text q f r b = let k : RunFits b.0 table = subst (λ (p : ProgramTree). RunFits p table) (b.1.only q f) r in run_of_ok fill b.0 table (BadWords row column) text k.right k.short b.2
-run_ok fill part table (BadModule fault) text q f r b = let k : RunFits b.0 table = subst (λ (p : ProgramTree). RunFits p table) (b.1.only q f) r in run_of_ok fill b.0 table (BadModule fault) text k.right k.short b.2
-run_ok fill part table (LongRun size) text q f r b = let k : RunFits b.0 table = subst (λ (p : ProgramTree). RunFits p table) (b.1.only q f) r in run_of_ok fill b.0 table (LongRun size) text k.right k.short b.2
-run_ok fill part table ReadFault text q f r b = let k : RunFits b.0 table = subst (λ (p : ProgramTree). RunFits p table) (b.1.only q f) r in run_of_ok fill b.0 table ReadFault text k.right k.short b.2
-run_ok fill part table WriteFault text q f r b = let k : RunFits b.0 table = subst (λ (p : ProgramTree). RunFits p table) (b.1.only q f) r in run_of_ok fill b.0 table WriteFault text k.right k.short b.2
-run_ok fill part table TooLong text q f r b = let k : RunFits b.0 table = subst (λ (p : ProgramTree). RunFits p table) (b.1.only q f) r in run_of_ok fill b.0 table TooLong text k.right k.short b.2
-run_ok fill part table Memory text q f r b = let k : RunFits b.0 table = subst (λ (p : ProgramTree). RunFits p table) (b.1.only q f) r in run_of_ok fill b.0 table Memory text k.right k.short b.2
-
 -- a text is one program
 one_program : (part : List ℕ) (p q : ProgramTree) → Reads part p → Reads part q → p ≡ q
 one_program part p q a b = let e : program p ≡ program q = sym a ∙ b in cc
@@ -388,33 +327,74 @@ costs_within part slowdown line h l =
     let e : None ≡ Some _ = sym (h.within l.instances (subst P (one_program part l.program h.program l.typed.reads h.typed.reads) l.schedule)) ∙ l.large in
     cc
 
-answered_ok : (text_of : FuncTree → StFuncTree → List NodeTiming → List ℕ) (part : List ℕ) (slowdown : ℕ) (status : Status) (text : List ℕ) → HasCosts part slowdown → IsAnswered text_of part slowdown status text → status ≡ Ok
-answered_ok text_of part slowdown Ok text h b = refl
-answered_ok text_of part slowdown (NoSchedule line) text h b =
-    let e : None ≡ Some line = sym h.fine ∙ ap (λ q. failing_line q slowdown) (one_program part h.program b.0.program h.typed.reads b.0.typed.reads) ∙ b.0.failing in
+never_cost_refused : {A : Type 0} (part : List ℕ) (slowdown : ℕ) (status : Status) → HasCosts part slowdown → IsCostRefusal part slowdown status → A
+never_cost_refused part slowdown (NoSchedule line) h b =
+    let e : None ≡ Some line = sym h.fine ∙ ap (λ q. failing_line q slowdown) (one_program part h.program b.program h.typed.reads b.typed.reads) ∙ b.failing in
     cc
-answered_ok text_of part slowdown (TooLarge line) text h b = elim b.0 [
+never_cost_refused part slowdown (TooLarge line) h b = elim b [
   | inl r ↦ never_refused part h.program (TooLarge line) h.typed r
   | inr l ↦ costs_within part slowdown line h l
 ]
-answered_ok text_of part slowdown Usage text h b = never_refused part h.program Usage h.typed b.0
-answered_ok text_of part slowdown (BadLine line) text h b = never_refused part h.program (BadLine line) h.typed b.0
-answered_ok text_of part slowdown (BadType line) text h b = never_refused part h.program (BadType line) h.typed b.0
-answered_ok text_of part slowdown (BadWords row column) text h b = never_refused part h.program (BadWords row column) h.typed b.0
-answered_ok text_of part slowdown (BadModule fault) text h b = never_refused part h.program (BadModule fault) h.typed b.0
-answered_ok text_of part slowdown (LongRun size) text h b = never_refused part h.program (LongRun size) h.typed b.0
-answered_ok text_of part slowdown ReadFault text h b = never_refused part h.program ReadFault h.typed b.0
-answered_ok text_of part slowdown WriteFault text h b = never_refused part h.program WriteFault h.typed b.0
-answered_ok text_of part slowdown TooLong text h b = never_refused part h.program TooLong h.typed b.0
-answered_ok text_of part slowdown Memory text h b = never_refused part h.program Memory h.typed b.0
+never_cost_refused part slowdown Ok h b = absurd b
+never_cost_refused part slowdown Usage h b = never_refused part h.program Usage h.typed b
+never_cost_refused part slowdown (BadLine line) h b = never_refused part h.program (BadLine line) h.typed b
+never_cost_refused part slowdown (BadType line) h b = never_refused part h.program (BadType line) h.typed b
+never_cost_refused part slowdown (BadWords row column) h b = never_refused part h.program (BadWords row column) h.typed b
+never_cost_refused part slowdown (BadModule fault) h b = never_refused part h.program (BadModule fault) h.typed b
+never_cost_refused part slowdown (LongRun size) h b = never_refused part h.program (LongRun size) h.typed b
+never_cost_refused part slowdown ReadFault h b = never_refused part h.program ReadFault h.typed b
+never_cost_refused part slowdown WriteFault h b = never_refused part h.program WriteFault h.typed b
+never_cost_refused part slowdown TooLong h b = never_refused part h.program TooLong h.typed b
+never_cost_refused part slowdown Memory h b = never_refused part h.program Memory h.typed b
+
+answered_ok : (IsRight : List ℕ → Type 0) (part : List ℕ) (slowdown : ℕ) (status : Status) (text : List ℕ) → HasCosts part slowdown → IsAnswered IsRight part slowdown status text → status ≡ Ok
+answered_ok IsRight part slowdown Ok text h b = refl
+answered_ok IsRight part slowdown Usage text h b = never_cost_refused part slowdown Usage h b.0
+answered_ok IsRight part slowdown (BadLine line) text h b = never_cost_refused part slowdown (BadLine line) h b.0
+answered_ok IsRight part slowdown (BadType line) text h b = never_cost_refused part slowdown (BadType line) h b.0
+answered_ok IsRight part slowdown (TooLarge line) text h b = never_cost_refused part slowdown (TooLarge line) h b.0
+answered_ok IsRight part slowdown (NoSchedule line) text h b = never_cost_refused part slowdown (NoSchedule line) h b.0
+answered_ok IsRight part slowdown (BadWords row column) text h b = never_cost_refused part slowdown (BadWords row column) h b.0
+answered_ok IsRight part slowdown (BadModule fault) text h b = never_cost_refused part slowdown (BadModule fault) h b.0
+answered_ok IsRight part slowdown (LongRun size) text h b = never_cost_refused part slowdown (LongRun size) h b.0
+answered_ok IsRight part slowdown ReadFault text h b = never_cost_refused part slowdown ReadFault h b.0
+answered_ok IsRight part slowdown WriteFault text h b = never_cost_refused part slowdown WriteFault h b.0
+answered_ok IsRight part slowdown TooLong text h b = never_cost_refused part slowdown TooLong h b.0
+answered_ok IsRight part slowdown Memory text h b = never_cost_refused part slowdown Memory h b.0
+
+run_of_ok : (fill : ℕ) (p : ProgramTree) (slowdown : ℕ) (instances : List StFuncTree) (table : List (List (List ℕ))) (status : Status) (text : List ℕ) → bad_row 1 (input_widths p) table ≡ None
+    → run_size p slowdown (main_costs instances).latency table ≤ run_limit → IsRunOf fill p slowdown instances table status text → status ≡ Ok
+run_of_ok fill p slowdown instances table Ok text right short b = refl
+run_of_ok fill p slowdown instances table Usage text right short b = absurd b
+run_of_ok fill p slowdown instances table (BadLine line) text right short b = absurd b
+run_of_ok fill p slowdown instances table (BadType line) text right short b = absurd b
+run_of_ok fill p slowdown instances table (TooLarge line) text right short b = absurd b
+run_of_ok fill p slowdown instances table (NoSchedule line) text right short b = absurd b
+run_of_ok fill p slowdown instances table (BadWords row column) text right short b = let e = sym right ∙ b.0 in cc
+run_of_ok fill p slowdown instances table (BadModule fault) text right short b = absurd b
+run_of_ok fill p slowdown instances table (LongRun size) text right short b =
+    let long : run_limit < size = b.1 in let is : size ≡ run_size p slowdown (main_costs instances).latency table = b.2 in absurd (omega (arith, long, is, short))
+run_of_ok fill p slowdown instances table ReadFault text right short b = absurd b
+run_of_ok fill p slowdown instances table WriteFault text right short b = absurd b
+run_of_ok fill p slowdown instances table TooLong text right short b = absurd b
+run_of_ok fill p slowdown instances table Memory text right short b = absurd b
+
+run_ok : (slowdown fill : ℕ) (part : List ℕ) (table : List (List (List ℕ))) (status : Status) (text : List ℕ) → HasShortRun part slowdown table → IsRun slowdown fill part table status text → status ≡ Ok
+run_ok slowdown fill part table status text h (Unbuilt r e) = never_cost_refused part slowdown status h.costs r
+run_ok slowdown fill part table status text h (Played p instances c r) =
+    let same : h.program ≡ p = one_program part h.program p h.typed.reads c.typed.reads in
+    let schedule : IsSchedule h.program slowdown instances = subst (λ (q : ProgramTree). IsSchedule q slowdown instances) (sym same) c.schedule in
+    let right : bad_row 1 (input_widths p) table ≡ None = ap (λ (q : ProgramTree). bad_row 1 (input_widths q) table) (sym same) ∙ h.rows in
+    let short : run_size p slowdown (main_costs instances).latency table ≤ run_limit = subst (λ (q : ProgramTree). run_size q slowdown (main_costs instances).latency table ≤ run_limit) same (h.short instances schedule) in
+    run_of_ok fill p slowdown instances table status text right short r
 
 reply_ok : (command : Command) (part : List ℕ) (table : List (List (List ℕ))) (status : Status) (text : List ℕ) → HasResult command part table → IsReply command part table status text → status ≡ Ok
 reply_ok Check part table status text h b = checked_ok part status text h.0 h.1 b
 reply_ok Eval part table status text h b = evaluated_ok part table status text h.0 h.1 (record { right = h.2; short = h.3 }) b
-reply_ok (Plan slowdown) part table status text h b = answered_ok (plan_text slowdown) part slowdown status text h b
-reply_ok (Cost slowdown) part table status text h b = answered_ok (λ f s ts. cost_table f.nodes (map cost_of ts)) part slowdown status text h b
-reply_ok Build part table status text h b = built_ok part status text h.0 h.1 b
-reply_ok (Run fill) part table status text h b = run_ok fill part table status text h.0 h.1 (record { right = h.2; short = h.3 }) b
+reply_ok (Plan slowdown) part table status text h b = answered_ok (IsCostText (plan_text slowdown) part slowdown) part slowdown status text h b
+reply_ok (Cost slowdown) part table status text h b = answered_ok (IsCostText (λ f s ts. cost_table f.nodes (map cost_of ts)) part slowdown) part slowdown status text h b
+reply_ok (Build slowdown) part table status text h b = answered_ok (IsBuiltText part slowdown) part slowdown status text h b
+reply_ok (Run slowdown fill) part table status text h b = run_ok slowdown fill part table status text h b
 
 pub done_of_accepted : (command : Command) (left : Option (List ℕ)) (i : IsAccepted command left) (status : Status) (text : List ℕ) → IsDone command i.bytes status text → status ≡ Ok
 done_of_accepted command left i status text d =

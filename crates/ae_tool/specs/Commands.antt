@@ -15,16 +15,16 @@ job_word Check = codes "check"
 job_word Eval = codes "eval"
 job_word (Plan slowdown) = codes "plan"
 job_word (Cost slowdown) = codes "cost"
-job_word Build = codes "build"
-job_word (Run fill) = codes "run"
+job_word (Build slowdown) = codes "build"
+job_word (Run slowdown fill) = codes "run"
 
 abbrev pub number_words : Command → List (List ℕ)
 number_words Check = []
 number_words Eval = []
 number_words (Plan slowdown) = decimal slowdown ∷ []
 number_words (Cost slowdown) = decimal slowdown ∷ []
-number_words Build = codes "1" ∷ []
-number_words (Run fill) = codes "1" ∷ decimal fill ∷ []
+number_words (Build slowdown) = decimal slowdown ∷ []
+number_words (Run slowdown fill) = decimal slowdown ∷ decimal fill ∷ []
 
 -- a slowdown, and the numbers of a job, within their limits
 abbrev pub IsSlowdown : ℕ → Type 0
@@ -33,7 +33,8 @@ IsSlowdown s = (1 ≤ s) × (s ≤ 4096)
 abbrev pub AreInRange : Command → Type 0
 AreInRange (Plan slowdown) = IsSlowdown slowdown
 AreInRange (Cost slowdown) = IsSlowdown slowdown
-AreInRange (Run fill) = fill < 2 ^ 64
+AreInRange (Build slowdown) = IsSlowdown slowdown
+AreInRange (Run slowdown fill) = IsSlowdown slowdown × (fill < 2 ^ 64)
 AreInRange _ = Unit {0}
 
 -- the words name this job

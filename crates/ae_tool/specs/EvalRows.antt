@@ -17,3 +17,8 @@ pub record AreRows (p : ProgramTree) (columns : ℕ) (table : List (List (List �
   pub few : length table < 2 ^ 32
   pub right : bad_row 1 (input_widths p) table ≡ None
   pub words_are : words ≡ words_in table
+
+-- the same, where so many rows are known to be there
+pub record AreBlocks (p : ProgramTree) (blocks : ℕ) (table : List (List (List ℕ))) (words : List ℕ) : Type 0 where
+  pub many : blocks ≡ length table
+  pub rows : AreRows p (length (input_widths p)) table words

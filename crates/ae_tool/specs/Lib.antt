@@ -4,15 +4,12 @@ pub mod Commands
 pub mod CostTables
 pub mod EvalRows
 pub mod EvalTexts
-pub mod FirstPath
-pub mod FirstPrograms
 pub mod Inputs
-pub mod ModuleTexts
 pub mod Numbers
 pub mod Outcomes
 pub mod PlanTexts
-pub mod Playing
 pub mod Programs
 pub mod Refusals
 pub mod RunTexts
 pub mod Schedules
+pub mod Building

@@ -3,58 +3,30 @@ use Rattle.std.specs.Prelude.{◌≡◌, ℕ, ◌+◌, ◌<◌, ◌≤◌, Bool,
 use Rattle.ae_io.specs.Counts.{Rose}
 use Rattle.ae_io.specs.Told.{TakesCount}
 use Rattle.ae_seq.specs.ProgramTree.{ProgramTree}
-use Rattle.ae_first.specs.FirstForm.{FirstForm}
-use Rattle.ae_parse.specs.Grammar.{IsProgramText as Reads, bad_line}
+use Rattle.ae_rewrite.specs.Scheduled.{IsSchedule}
+use Rattle.ae_rewrite.specs.StProgramTree.{StFuncTree}
 use Rattle.ae_tool.specs.declared.status.Status.{Status}
-use Rattle.ae_tool.specs.declared.status.Status.TheVariants.{Ok, Usage, BadLine, BadWords, LongRun, ReadFault, WriteFault, TooLong, Memory}
+use Rattle.ae_tool.specs.declared.status.Status.TheVariants.{Ok, Usage, ReadFault, WriteFault, TooLong, Memory}
 use Rattle.ae_parse.specs.Rows.{bad_row}
 use Rattle.ae_tool.specs.declared.command.Command.{Command}
 use Rattle.ae_tool.specs.declared.command.Command.TheVariants.{Check, Eval, Plan, Cost, Build, Run}
 use Rattle.ae_tool.specs.Commands.{IsCommand, NamesNone}
 use Rattle.ae_tool.specs.Inputs.{IsCut}
 use Rattle.ae_tool.specs.Refusals.{refusal_line}
-use Rattle.ae_tool.specs.ModuleTexts.{IsProgramText}
-use Rattle.ae_tool.specs.Programs.{IsTyped, IsRefusal, main_line}
+use Rattle.ae_tool.specs.Building.{IsBuiltText, main_costs}
+use Rattle.ae_tool.specs.Programs.{IsTyped, IsRefusal}
 use Rattle.ae_tool.specs.CheckTexts.{check_text}
-use Rattle.ae_tool.specs.Schedules.{IsPlanned, IsTabled, HasCosts}
+use Rattle.ae_tool.specs.Schedules.{IsAnswered, IsPlanned, IsTabled, HasCosts}
 use Rattle.ae_tool.specs.EvalTexts.{eval_size, IsEvalOf}
-use Rattle.ae_tool.specs.RunTexts.{input_widths, run_size, run_limit, IsRunText}
+use Rattle.ae_tool.specs.RunTexts.{input_widths, run_size, run_limit, IsRun}
 
 -- the most bytes of an input
 abbrev pub input_limit : ℕ
 input_limit = 16777216
 
--- the text is no program that is built today, and the line is its first bad one; where it has none, that of the program function
-pub record IsBadLine (part : List ℕ) (line : ℕ) : Type 0 where
-  pub none : (p : ProgramTree) → FirstForm part p → ⊥
-  pub here : (bad_line part ≡ Some line) ⊎ ((p : ProgramTree) × Reads part p × (line ≡ main_line p))
-
--- the answer to such a text
-abbrev pub IsBadText : (part : List ℕ) → Status → (text : List ℕ) → Type 0
-IsBadText part (BadLine line) text = IsBadLine part line × (text ≡ refusal_line (BadLine line))
-IsBadText part _ text = ⊥
-
--- the one program of this text
-pub record IsProgramOf (part : List ℕ) (p : ProgramTree) : Type 0 where
-  pub form : FirstForm part p
-  pub only : (q : ProgramTree) → FirstForm part q → q ≡ p
-
--- what `build 1` answers and writes for a program part
-abbrev pub IsBuilt : (part : List ℕ) → Status → (text : List ℕ) → Type 0
-IsBuilt part Ok text = (p : ProgramTree) × IsProgramOf part p × IsProgramText p text
-IsBuilt part status text = IsBadText part status text
-
--- what `run 1 FILL` answers and writes for a program and rows: the first wrong row comes before a run that is too long
-abbrev pub IsRunOf : (fill : ℕ) (p : ProgramTree) (table : List (List (List ℕ))) → Status → (text : List ℕ) → Type 0
-IsRunOf fill p table Ok text = (bad_row 1 (input_widths p) table ≡ None) × (run_size p table ≤ run_limit) × IsRunText fill p table text
-IsRunOf fill p table (BadWords row column) text = (bad_row 1 (input_widths p) table ≡ Some (row, column)) × (text ≡ refusal_line (BadWords row column))
-IsRunOf fill p table (LongRun size) text =
-    (bad_row 1 (input_widths p) table ≡ None) × (run_limit < size) × (size ≡ run_size p table) × (text ≡ refusal_line (LongRun size))
-IsRunOf fill p table _ text = ⊥
-
-abbrev pub IsRun : (fill : ℕ) (part : List ℕ) (table : List (List (List ℕ))) → Status → (text : List ℕ) → Type 0
-IsRun fill part table (BadLine line) text = IsBadText part (BadLine line) text
-IsRun fill part table status text = (p : ProgramTree) × IsProgramOf part p × IsRunOf fill p table status text
+-- what `build` answers and writes
+abbrev pub IsBuilt : (part : List ℕ) (slowdown : ℕ) → Status → (text : List ℕ) → Type 0
+IsBuilt part slowdown status text = IsAnswered (IsBuiltText part slowdown) part slowdown status text
 
 -- what `check` answers and writes
 abbrev pub IsChecked : (part : List ℕ) → Status → (text : List ℕ) → Type 0
@@ -72,8 +44,8 @@ IsReply Check part table status text = IsChecked part status text
 IsReply Eval part table status text = IsEvaluated part table status text
 IsReply (Plan slowdown) part table status text = IsPlanned part slowdown status text
 IsReply (Cost slowdown) part table status text = IsTabled part slowdown status text
-IsReply Build part table status text = IsBuilt part status text
-IsReply (Run fill) part table status text = IsRun fill part table status text
+IsReply (Build slowdown) part table status text = IsBuilt part slowdown status text
+IsReply (Run slowdown fill) part table status text = IsRun slowdown fill part table status text
 
 -- the same for an input within the limit
 pub record IsDone (command : Command) (bytes : List ℕ) (status : Status) (text : List ℕ) : Type 0 where
@@ -120,14 +92,22 @@ abbrev pub RefusesWords : Status → (old_faults new_faults old_wants new_wants 
 RefusesWords status old_faults new_faults old_wants new_wants =
     (status ≡ Usage) ⊎ (((status ≡ WriteFault) × Rose old_faults new_faults) ⊎ ((status ≡ Memory) × Rose old_wants new_wants))
 
+-- the program has costs, the rows have its words, and its run is not too long
+pub record HasShortRun (part : List ℕ) (slowdown : ℕ) (table : List (List (List ℕ))) : Type 0 where
+  pub program : ProgramTree
+  pub typed : IsTyped part program
+  pub costs : HasCosts part slowdown
+  pub rows : bad_row 1 (input_widths program) table ≡ None
+  pub short : (instances : List StFuncTree) → IsSchedule program slowdown instances → run_size program slowdown (main_costs instances).latency table ≤ run_limit
+
 -- the job has a result for the two parts of an input
 abbrev pub HasResult : Command → (part : List ℕ) (table : List (List (List ℕ))) → Type 0
 HasResult Check part table = (p : ProgramTree) × IsTyped part p
 HasResult Eval part table = (p : ProgramTree) × IsTyped part p × (bad_row 1 (input_widths p) table ≡ None) × (eval_size p table ≤ run_limit)
 HasResult (Plan slowdown) part table = HasCosts part slowdown
 HasResult (Cost slowdown) part table = HasCosts part slowdown
-HasResult Build part table = (p : ProgramTree) × FirstForm part p
-HasResult (Run fill) part table = (p : ProgramTree) × FirstForm part p × (bad_row 1 (input_widths p) table ≡ None) × (run_size p table ≤ run_limit)
+HasResult (Build slowdown) part table = HasCosts part slowdown
+HasResult (Run slowdown fill) part table = HasShortRun part slowdown table
 
 -- the input is told, within the limit, and one for which the job has a result
 pub record IsAccepted (command : Command) (left : Option (List ℕ)) : Type 0 where

@@ -1,15 +1,21 @@
 -- The text that a run of a program's module is written as.
-use Rattle.std.specs.Prelude.{◌≡◌, ℕ, ◌+◌, ◌*◌, List, ◌++◌, length, map, codes, Option, Some, None, sum_by}
+use Rattle.std.specs.Prelude.{◌≡◌, ℕ, ◌+◌, ◌*◌, ◌<◌, ◌≤◌, List, ◌++◌, length, map, codes, Option, Some, None, sum_by}
+use Rattle.ae_parse.specs.Rows.{bad_row}
 use Rattle.ae_seq.specs.ProgramTree.{ProgramTree}
 use Rattle.ae_seq.specs.Typing.{◌>>=◌}
 use Rattle.ae_sttype.specs.StTree.{StTree}
 use Rattle.ae_sttype.specs.Moves.{columns_of}
 use Rattle.ae_rewrite.specs.LayoutRule.{lay_of}
-use Rattle.ae_correct.specs.Correct.{parameter_types, result_types, HaveLayouts}
-use Rattle.ae_tool.specs.Inputs.{widths_of, blocks_of}
-use Rattle.ae_tool.specs.ModuleTexts.{IsProgramText}
+use Rattle.ae_rewrite.specs.StProgramTree.{StFuncTree}
 use Rattle.ae_play.specs.Lines.{clock_count}
+use Rattle.ae_correct.specs.Correct.{parameter_types, result_types}
 use Rattle.ae_correct.specs.ClockTexts.{IsClockText}
+use Rattle.ae_tool.specs.declared.status.Status.{Status}
+use Rattle.ae_tool.specs.declared.status.Status.TheVariants.{Ok, BadWords, LongRun}
+use Rattle.ae_tool.specs.Refusals.{refusal_line}
+use Rattle.ae_tool.specs.Inputs.{widths_of, blocks_of}
+use Rattle.ae_tool.specs.Schedules.{IsCosted, IsCostRefusal}
+use Rattle.ae_tool.specs.Building.{IsModuleText, main_costs, result_layouts}
 
 -- the widths of the words of all parameters
 abbrev pub input_widths : ProgramTree → List ℕ
@@ -23,21 +29,33 @@ layout_columns (Some s) = columns_of s
 abbrev pub output_count : (p : ProgramTree) (slowdown : ℕ) → ℕ
 output_count p slowdown = sum_by layout_columns (map (λ o. o >>= λ t. lay_of t slowdown) (result_types p))
 
--- the size of a run with a latency of one clock, a block a clock: a number and the words of all results for each clock that is shown
-abbrev pub run_size : ProgramTree → (table : List (List (List ℕ))) → ℕ
-run_size p table = clock_count 1 1 (length table) * (1 + output_count p 1)
+-- the size of a run: a number and the words of all results for each clock that is shown
+abbrev pub run_size : ProgramTree → (slowdown latency : ℕ) → (table : List (List (List ℕ))) → ℕ
+run_size p slowdown latency table = clock_count slowdown latency (length table) * (1 + output_count p slowdown)
 
 -- the greatest size of a run
 abbrev pub run_limit : ℕ
 run_limit = 4194304
 
 -- the text of a module that is correct for the program, and the lines of its run on the blocks of the rows
-pub record IsRunText (fill : ℕ) (p : ProgramTree) (table : List (List (List ℕ))) (text : List ℕ) : Type 0 where
+pub record IsRunText (fill : ℕ) (p : ProgramTree) (slowdown : ℕ) (instances : List StFuncTree) (table : List (List (List ℕ))) (text : List ℕ) : Type 0 where
   pub built : List ℕ
-  pub module_text : IsProgramText p built
-  pub inputs : List StTree
-  pub outputs : List StTree
-  pub layouts : HaveLayouts p 1 inputs outputs
+  pub module_text : IsModuleText p slowdown instances built
   pub clocks : List ℕ
-  pub shown : IsClockText module_text.text_of.tree 1 1 fill inputs outputs (blocks_of (parameter_types p) table) clocks
+  pub shown : IsClockText module_text.tree slowdown (main_costs instances).latency fill module_text.instance.ins (result_layouts module_text.instance) (blocks_of (parameter_types p) table) clocks
   pub is : text ≡ (built ++ codes "%% clocks\n") ++ clocks
+
+-- what `run` answers and writes for a costed program and rows: the first wrong row comes before a run that is too long
+abbrev pub IsRunOf : (fill : ℕ) (p : ProgramTree) (slowdown : ℕ) (instances : List StFuncTree) (table : List (List (List ℕ))) → Status → (text : List ℕ) → Type 0
+IsRunOf fill p slowdown instances table Ok text =
+    (bad_row 1 (input_widths p) table ≡ None) × (run_size p slowdown (main_costs instances).latency table ≤ run_limit) × IsRunText fill p slowdown instances table text
+IsRunOf fill p slowdown instances table (BadWords row column) text =
+    (bad_row 1 (input_widths p) table ≡ Some (row, column)) × (text ≡ refusal_line (BadWords row column))
+IsRunOf fill p slowdown instances table (LongRun size) text =
+    (bad_row 1 (input_widths p) table ≡ None) × (run_limit < size) × (size ≡ run_size p slowdown (main_costs instances).latency table) × (text ≡ refusal_line (LongRun size))
+IsRunOf fill p slowdown instances table _ text = ⊥
+
+-- the program's refusals come before those of the rows
+pub data IsRun (slowdown fill : ℕ) (part : List ℕ) (table : List (List (List ℕ))) (status : Status) (text : List ℕ) : Type 0 where
+  Unbuilt : IsCostRefusal part slowdown status → text ≡ refusal_line status → IsRun slowdown fill part table status text
+  Played : (p : ProgramTree) (instances : List StFuncTree) → IsCosted part slowdown p instances → IsRunOf fill p slowdown instances table status text → IsRun slowdown fill part table status text

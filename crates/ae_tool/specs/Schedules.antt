@@ -69,16 +69,17 @@ pub record IsCostText (text_of : FuncTree → StFuncTree → List NodeTiming →
   pub costed : IsCosted part slowdown program instances
   pub written : HasMain program instances (λ f s ts. text ≡ text_of f s ts)
 
--- what `plan` and `cost` answer and write, where a text is that of a costed program
-abbrev pub IsAnswered : (text_of : FuncTree → StFuncTree → List NodeTiming → List ℕ) → (part : List ℕ) (slowdown : ℕ) → Status → (text : List ℕ) → Type 0
-IsAnswered text_of part slowdown Ok text = IsCostText text_of part slowdown text
-IsAnswered text_of part slowdown status text = IsCostRefusal part slowdown status × (text ≡ refusal_line status)
+-- what is answered and written, where a text is right or the program is refused
+abbrev pub IsAnswered : (IsRight : List ℕ → Type 0) → (part : List ℕ) (slowdown : ℕ) → Status → (text : List ℕ) → Type 0
+IsAnswered IsRight part slowdown Ok text = IsRight text
+IsAnswered IsRight part slowdown status text = IsCostRefusal part slowdown status × (text ≡ refusal_line status)
 
+-- what `plan` and `cost` answer and write
 abbrev pub IsPlanned : (part : List ℕ) (slowdown : ℕ) → Status → (text : List ℕ) → Type 0
-IsPlanned part slowdown status text = IsAnswered (plan_text slowdown) part slowdown status text
+IsPlanned part slowdown status text = IsAnswered (IsCostText (plan_text slowdown) part slowdown) part slowdown status text
 
 abbrev pub IsTabled : (part : List ℕ) (slowdown : ℕ) → Status → (text : List ℕ) → Type 0
-IsTabled part slowdown status text = IsAnswered (λ f s ts. cost_table f.nodes (map cost_of ts)) part slowdown status text
+IsTabled part slowdown status text = IsAnswered (IsCostText (λ f s ts. cost_table f.nodes (map cost_of ts)) part slowdown) part slowdown status text
 
 -- the program has a schedule, and the load of each is within the limit
 pub record HasCosts (part : List ℕ) (slowdown : ℕ) : Type 0 where

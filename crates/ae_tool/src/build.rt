@@ -1,122 +1,145 @@
-// The job `build 1`.
+// The job `build`.
 
-ghost use Rattle.std.specs.Prelude.{◌≡◌, ◌<◌, length, IfOk, string_bytes, Some, List, ℕ};
-ghost use Rattle.ae_seq.specs.ProgramTree.{ProgramTree, program_tree};
-ghost use Rattle.ae_tool.specs.Programs.{main_line};
-ghost use Rattle.ae_first.specs.FirstForm.{FirstForm};
-ghost use Rattle.ae_tool.specs.FirstPath.{IsFirstPath, first_cells, first_outlets};
-ghost use Rattle.ae_tool.specs.FirstPrograms.{first_path_of};
-ghost use Rattle.ae_tool.specs.ModuleTexts.{IsModuleText, IsProgramText};
-ghost use Rattle.ae_tool.specs.Outcomes.{IsBuilt, IsBadText};
+ghost use Rattle.std.specs.Prelude.{◌≡◌, ◌<◌, ◌≤◌, ◌∷◌, ◌++◌, [], List, ℕ, length, map, IfOk, OnOk, string_bytes, Some, slice_get};
+ghost use Rattle.ae_seq.specs.ProgramTree.{program_tree};
+ghost use Rattle.ae_sttype.specs.StTree.{st_tree};
+ghost use Rattle.ae_rewrite.specs.StProgramTree.{StFuncTree as Tree, st_func_tree, st_func_trees};
+ghost use Rattle.ae_rewrite.specs.Sound.{item_layouts};
+ghost use Rattle.ae_delay.specs.Timings.{AreTimes};
+ghost use Rattle.ae_lower.specs.Circuits.{IsCircuitOf, last_of};
+ghost use Rattle.ae_vread.specs.Spells.{Spells};
+ghost use Rattle.ae_verilog.specs.NetlistModule.{netlist_module};
+ghost use Rattle.ae_verilog.specs.ReportLines.{report_tree};
+ghost use Rattle.ae_tool.specs.Schedules.{IsCosted};
+ghost use Rattle.ae_tool.specs.Building.{IsModuleText, report_of, result_layouts};
+ghost use Rattle.ae_tool.specs.Outcomes.{IsBuilt};
 
-use crate::first_path::{FirstPath, first_path};
-use crate::lower_first::lower_first;
+use crate::plan::{Costed, find_costs, main_instance};
 use crate::reply::{OutOfMemory, Reply, refused};
 use crate::status::Status;
+use ae_correct::{circuits_are_correct, circuits_are_writable};
+use ae_delay::layout;
 use ae_elab::one_run;
-use ae_first::{FirstFault, read_first};
+use ae_flow::schedules_fit;
+use ae_lower::lower;
 use ae_netlist::Netlist;
-use ae_parse::{ParseFault, parse};
-use ae_seq::Program;
-use ae_verilog::{Report, module_keeps, write_module};
-use std::alloc::Global;
+use ae_rewrite::StFunc;
+use ae_sttype::StType;
+use ae_verilog::{Report, module_keeps, spelled_once, write_module};
+use std::alloc::{AllocError, Global};
 
-// What a program of the first form computes.
-pub fn path(p: &Program) -> FirstPath
-    requires { (text : List ℕ) × FirstForm text (program_tree p.now) }
-    ensures path { first_path_of (program_tree p.now) ≡ Some result }
-    ensures right { IsFirstPath result }
+// The layouts of an instance's parameters.
+pub fn input_layouts(alloc: Global, s: &StFunc) -> Result<Vec<StType>, AllocError>
+    ensures { IfOk result (λ v. map st_tree v.items ≡ (st_func_tree s.now).ins) }
 {
-    match first_path(p) {
-        Some(path) => path,
-        None => unreachable!(),
+    let mut layouts = Vec::new(alloc);
+    for ty in &s.ins {
+        layouts.push(ty.copy(alloc)?)?;
     }
+    Ok(layouts)
 }
 
-// The netlist of what a program computes.
-pub fn lowered(alloc: Global, path: FirstPath) -> Result<Netlist, OutOfMemory>
-    requires { IsFirstPath path }
-    ensures cells { IfOk result (λ nl. nl.cells ≡ first_cells path) }
-    ensures outlets { IfOk result (λ nl. nl.outlets ≡ first_outlets path) }
+// The layouts of an instance's results.
+pub fn output_layouts(alloc: Global, s: &StFunc) -> Result<Vec<StType>, AllocError>
+    requires { (i r : ℕ) → slice_get (st_func_tree s.now).results i ≡ Some r → r < length (item_layouts (st_func_tree s.now)) }
+    ensures { IfOk result (λ v. map st_tree v.items ≡ result_layouts (st_func_tree s.now)) }
 {
-    match lower_first(alloc, path) {
-        Ok(nl) => Ok(nl),
-        Err(_) => Err(OutOfMemory),
+    let mut layouts = Vec::new(alloc);
+    for item in &s.results {
+        layouts.push(layout(s, *item as usize).copy(alloc)?)?;
     }
+    Ok(layouts)
 }
 
-// The text of the netlist's module. A sum takes one clock.
-pub fn netlist_text(alloc: Global, path: FirstPath, nl: &Netlist) -> Result<String, OutOfMemory>
-    requires right { IsFirstPath path }
-    requires cells { nl.now.cells ≡ first_cells path }
-    requires outlets { nl.now.outlets ≡ first_outlets path }
-    ensures { IfOk result (λ text. IsModuleText path (string_bytes text)) }
+// What is told of a circuit.
+fn report(alloc: Global, costed: &Costed, slowdown: u32) -> Result<Report, AllocError>
+    requires costed { (part : List ℕ) × IsCosted part slowdown (program_tree costed.now.program) (st_func_trees costed.now.schedule) }
+    requires times { AreTimes (st_func_trees costed.now.schedule) costed.now.timing }
+    ensures { IfOk result (λ r. (s : Tree) → slice_get (st_func_trees costed.now.schedule) (last_of (st_func_trees costed.now.schedule)) ≡ Some s → report_tree r ≡ report_of slowdown (st_func_trees costed.now.schedule) s) }
 {
-    nl.formed();
+    let _count = costed.schedule.count();
+    let s = main_instance(&costed.schedule);
+    Ok(Report {
+        slowdown,
+        latency: costed.timing.latency(),
+        muls: costed.timing.muls(),
+        load: costed.timing.load(),
+        ins: input_layouts(alloc, s)?,
+        outs: output_layouts(alloc, s)?,
+    })
+}
+
+/// The circuit of a costed program.
+pub fn circuit(alloc: Global, costed: &Costed, slowdown: u32) -> Result<Netlist, AllocError>
+    requires some { 0 < slowdown }
+    requires costed { (part : List ℕ) × IsCosted part slowdown (program_tree costed.now.program) (st_func_trees costed.now.schedule) }
+    requires times { AreTimes (st_func_trees costed.now.schedule) costed.now.timing }
+    ensures { IfOk result (λ n. (s : Tree) → slice_get (st_func_trees costed.now.schedule) (last_of (st_func_trees costed.now.schedule)) ≡ Some s → IsCircuitOf (st_func_trees costed.now.schedule) s n) }
+{
+    schedules_fit();
+    let _program = costed.program.program();
+    lower(alloc, &costed.schedule, &costed.timing)
+}
+
+/// The text of its module.
+pub fn module_text(
+    alloc: Global,
+    costed: &Costed,
+    slowdown: u32,
+    nl: &Netlist,
+) -> Result<String, OutOfMemory>
+    requires some { 0 < slowdown }
+    requires costed { (part : List ℕ) × IsCosted part slowdown (program_tree costed.now.program) (st_func_trees costed.now.schedule) }
+    requires times { AreTimes (st_func_trees costed.now.schedule) costed.now.timing }
+    requires circuit { (s : Tree) → slice_get (st_func_trees costed.now.schedule) (last_of (st_func_trees costed.now.schedule)) ≡ Some s → IsCircuitOf (st_func_trees costed.now.schedule) s nl.now }
+    ensures spells { IfOk result (λ text. (s : Tree) → slice_get (st_func_trees costed.now.schedule) (last_of (st_func_trees costed.now.schedule)) ≡ Some s
+        → Spells (string_bytes text) (netlist_module nl.now.cells nl.now.outlets (length s.results))) }
+    ensures text { IfOk result (λ text. IsModuleText (program_tree costed.now.program) slowdown (st_func_trees costed.now.schedule) (string_bytes text)) }
+{
+    circuits_are_writable();
+    circuits_are_correct();
     module_keeps();
     one_run();
-    let report = Report {
-        slowdown: 1,
-        latency: 1,
-        outs: 1,
-    };
+    spelled_once();
+    let _program = costed.program.program();
+    let _load = costed.timing.load();
+    let _count = costed.schedule.count();
+    let _instance = main_instance(&costed.schedule);
+    let report = report(alloc, costed, slowdown)?;
     let text = write_module(alloc, nl, &report)?;
+    // no memory holds a text of 2^32 bytes
+    if text.len() > 4_294_967_295 {
+        return Err(OutOfMemory);
+    }
     Ok(text)
 }
 
-// The text of a program's module.
-fn module_text(alloc: Global, p: &Program) -> Result<String, OutOfMemory>
-    requires { (text : List ℕ) × FirstForm text (program_tree p.now) }
-    ensures { IfOk result (λ text. IsProgramText (program_tree p.now) (string_bytes text)) }
+fn built(alloc: Global, costed: &Costed, slowdown: u32) -> Result<String, OutOfMemory>
+    requires some { 0 < slowdown }
+    requires costed { (part : List ℕ) × IsCosted part slowdown (program_tree costed.now.program) (st_func_trees costed.now.schedule) }
+    requires times { AreTimes (st_func_trees costed.now.schedule) costed.now.timing }
+    ensures { IfOk result (λ text. IsModuleText (program_tree costed.now.program) slowdown (st_func_trees costed.now.schedule) (string_bytes text)) }
 {
-    let path = path(p);
-    let nl = lowered(alloc, path)?;
-    netlist_text(alloc, path, &nl)
+    let nl = circuit(alloc, costed, slowdown)?;
+    module_text(alloc, costed, slowdown, &nl)
 }
 
-// The line where a program begins that is not built today: that of its last function.
-fn main_line(p: &Program) -> u32
-    ensures { result ≡ main_line (program_tree p.now) }
-{
-    if p.funcs.is_empty() {
-        0
-    } else {
-        p.funcs[p.funcs.len() - 1].line
-    }
-}
-
-/// The reply to a text that is not built: its first bad line, or where it has none the line of its program function.
-pub fn not_built(alloc: Global, part: &[u8]) -> Result<Reply, OutOfMemory>
+/// The text of the program's module, or a refusal; without memory there is no reply.
+pub fn build(alloc: Global, part: &[u8], slowdown: u32) -> Result<Reply, OutOfMemory>
     requires part { length part.now < 4294967295 }
-    requires none { (p : ProgramTree) → FirstForm part.now p → ⊥ }
-    ensures { IfOk result (λ reply. IsBadText part.now reply.status (string_bytes reply.text)) }
+    requires some { 0 < slowdown }
+    requires limit { slowdown ≤ 4096 }
+    ensures { IfOk result (λ reply. IsBuilt part.now slowdown reply.status (string_bytes reply.text)) }
 {
-    match parse(alloc, part) {
-        Ok(p) => refused(
-            alloc,
-            Status::BadLine {
-                line: main_line(&p),
-            },
-        ),
-        Err(ParseFault::BadLine { line }) => refused(alloc, Status::BadLine { line }),
-        Err(ParseFault::Memory) => Err(OutOfMemory),
-    }
-}
-
-/// Builds a program part; without memory there is no reply.
-pub fn build(alloc: Global, part: &[u8]) -> Result<Reply, OutOfMemory>
-    requires { length part.now < 4294967295 }
-    ensures { IfOk result (λ reply. IsBuilt part.now reply.status (string_bytes reply.text)) }
-{
-    match read_first(alloc, part) {
-        Ok(p) => {
-            let text = module_text(alloc, &p)?;
+    match find_costs(alloc, part, slowdown) {
+        Ok(costed) => {
+            let text = built(alloc, &costed, slowdown)?;
             Ok(Reply {
                 status: Status::Ok,
                 text,
             })
         }
-        Err(FirstFault::BadLine { line: _ }) => not_built(alloc, part),
-        Err(FirstFault::Memory) => Err(OutOfMemory),
+        Err(Status::Memory) => Err(OutOfMemory),
+        Err(status) => refused(alloc, status),
     }
 }

@@ -15,12 +15,12 @@ use std::alloc::Global;
 
 /// Answers a job, named by its words: reads the whole input, and writes the job's text or the line of a refusal.
 ///
-/// Today `build 1` and `run 1 FILL` are the jobs; all other words are `Usage`, for which nothing is read. With `Ok` the
-/// text spells a module that is correct for the program in the input, at slowdown 1 and with the latency that its report
-/// lines tell: README.md says in plain words what that is. `run` shows behind it the module's run on the rows in the
-/// input, every word of every clock. `ReadFault` and `WriteFault` come only where the count of faults of the
-/// source or sink that was handed in rose in this call. `Memory` may stand in place of any answer; in place of `Usage`
-/// only where the sink had no memory.
+/// The jobs are `check`, `eval`, `plan S`, `cost S`, `build S` and `run S FILL`; all other words are `Usage`, for which
+/// nothing is read. With `Ok` the text of `build` and `run` spells a module that is correct for the program in the input,
+/// at the slowdown and with the latency that its report lines tell: README.md says in plain words what that is. `run`
+/// shows behind it the module's run on the rows in the input, every word of every clock. `ReadFault` and `WriteFault` come
+/// only where the count of faults of the source or sink that was handed in rose in this call. `Memory` may stand in place
+/// of any answer; in place of `Usage` only where the sink had no memory.
 pub fn aeth<S: Source, K: Sink>(
     alloc: Global,
     words: &[String],

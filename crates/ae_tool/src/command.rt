@@ -17,10 +17,10 @@ pub enum Command {
     Plan { slowdown: u32 },
     /// `cost S`: what each node line costs, as a table.
     Cost { slowdown: u32 },
-    /// `build 1`: the text of the program's module.
-    Build,
-    /// `run 1 FILL`: that text, and the lines of the module's run on the rows.
-    Run { fill: u64 },
+    /// `build S`: the text of the program's module.
+    Build { slowdown: u32 },
+    /// `run S FILL`: that text, and the lines of the module's run on the rows.
+    Run { slowdown: u32, fill: u64 },
 }
 
 /// The job that the words name, if they name one.
@@ -30,7 +30,7 @@ pub fn command_named(words: &[String]) -> Option<Command>
     match words {
         [job] => one_word(job.as_str()),
         [job, slowdown] => two_words(job.as_str(), slowdown.as_str()),
-        [job, slowdown, fill] => run(job.as_str(), slowdown.as_str(), fill.as_str()),
+        [job, slowdown, fill] => three_words(job.as_str(), slowdown.as_str(), fill.as_str()),
         _ => None,
     }
 }
@@ -64,10 +64,9 @@ fn two_words(job: &str, slowdown: &str) -> Option<Command>
 fn build(slowdown: &str) -> Option<Command>
     ensures { MatchOption result (NamesNone (codes "build" ∷ slowdown.now ∷ [])) (λ c. IsCommand (codes "build" ∷ slowdown.now ∷ []) c) }
 {
-    if slowdown == "1" {
-        Some(Command::Build)
-    } else {
-        None
+    match slowdown_of(slowdown) {
+        Some(slowdown) => Some(Command::Build { slowdown }),
+        None => None,
     }
 }
 
@@ -105,21 +104,24 @@ fn slowdown_of(digits: &str) -> Option<u32>
     }
 }
 
-fn run(job: &str, slowdown: &str, fill: &str) -> Option<Command>
+fn three_words(job: &str, slowdown: &str, fill: &str) -> Option<Command>
     ensures { MatchOption result (NamesNone (job.now ∷ slowdown.now ∷ fill.now ∷ [])) (λ c. IsCommand (job.now ∷ slowdown.now ∷ fill.now ∷ []) c) }
 {
-    if job == "run" && slowdown == "1" {
-        fill_of(fill)
+    if job == "run" {
+        run(slowdown, fill)
     } else {
         None
     }
 }
 
-fn fill_of(fill: &str) -> Option<Command>
-    ensures { MatchOption result (NamesNone (codes "run" ∷ codes "1" ∷ fill.now ∷ [])) (λ c. IsCommand (codes "run" ∷ codes "1" ∷ fill.now ∷ []) c) }
+fn run(slowdown: &str, fill: &str) -> Option<Command>
+    ensures { MatchOption result (NamesNone (codes "run" ∷ slowdown.now ∷ fill.now ∷ [])) (λ c. IsCommand (codes "run" ∷ slowdown.now ∷ fill.now ∷ []) c) }
 {
-    match plain_number(fill.as_bytes()) {
-        Some(fill) => Some(Command::Run { fill }),
+    match slowdown_of(slowdown) {
+        Some(slowdown) => match plain_number(fill.as_bytes()) {
+            Some(fill) => Some(Command::Run { slowdown, fill }),
+            None => None,
+        },
         None => None,
     }
 }

@@ -6,12 +6,9 @@ mod call;
 #[cfg(test)]
 mod check_tests;
 mod check_text;
-mod clocks;
 mod command;
 mod cost_table;
 mod evaluate;
-mod first_path;
-mod lower_first;
 mod plan;
 #[cfg(test)]
 mod plan_tests;
@@ -19,6 +16,8 @@ mod plan_text;
 mod refusal;
 mod reply;
 mod run;
+#[cfg(test)]
+mod run_tests;
 mod serve;
 mod status;
 #[cfg(test)]
@@ -28,6 +27,5 @@ mod widths;
 
 pub use call::aeth;
 pub use command::Command;
-pub use first_path::{FirstPath, Operand};
 pub use refusal::refusal_line;
 pub use status::{Status, VFaultKind};

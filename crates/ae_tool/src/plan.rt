@@ -74,8 +74,8 @@ fn main_func(p: &Typed) -> &Func
     &funcs[funcs.len() - 1]
 }
 
-// Its instance, which is the last.
-fn main_instance(p: &StProgram) -> &StFunc
+/// The instance of the program function, which is the last.
+pub fn main_instance(p: &StProgram) -> &StFunc
     ensures { slice_get (st_func_trees p.now) (length (st_func_trees p.now) - 1) ≡ Some (st_func_tree result.now) }
 {
     let last = p.count() - 1;

@@ -102,8 +102,8 @@ fn answer_parts(
         Command::Eval => eval(alloc, part, rest),
         Command::Plan { slowdown } => plan(alloc, part, slowdown),
         Command::Cost { slowdown } => cost(alloc, part, slowdown),
-        Command::Build => build(alloc, part),
-        Command::Run { fill } => run(alloc, part, rest, fill),
+        Command::Build { slowdown } => build(alloc, part, slowdown),
+        Command::Run { slowdown, fill } => run(alloc, part, rest, slowdown, fill),
     }
 }
 

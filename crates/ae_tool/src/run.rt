@@ -1,128 +1,188 @@
-// The job `run 1 FILL`.
+// The job `run`.
 
-ghost use Rattle.std.specs.Prelude.{◌≡◌, ◌++◌, ◌*◌, ◌/◌, ◌<◌, ◌^◌, ◌≤◌, List, ℕ, length, IfOk, OnOk, All, string_bytes};
-ghost use Rattle.ae_seq.specs.ProgramTree.{program_tree};
-ghost use Rattle.ae_seqtype.specs.ValueTree.{cut};
+ghost use Rattle.std.specs.Prelude.{◌≡◌, ◌+◌, ◌*◌, ◌/◌, ◌<◌, ◌≤◌, ◌^◌, List, ℕ, length, map, sum_by, All, IfOk, string_bytes};
 ghost use Rattle.ae_parse.specs.Rows.{rows};
-ghost use Rattle.ae_first.specs.FirstForm.{FirstForm};
+ghost use Rattle.ae_sttype.specs.StTree.{st_tree};
+ghost use Rattle.ae_sttype.specs.Size.{IsInSize};
+ghost use Rattle.ae_sttype.specs.Moves.{columns_of};
+ghost use Rattle.ae_seq.specs.ProgramTree.{program_tree};
+ghost use Rattle.ae_rewrite.specs.StProgramTree.{st_func_trees};
+ghost use Rattle.ae_delay.specs.Timings.{AreTimes};
 ghost use Rattle.ae_play.specs.Lines.{clock_count};
-ghost use Rattle.ae_tool.specs.FirstPath.{IsFirstPath, first_cells, first_outlets};
-ghost use Rattle.ae_tool.specs.Outcomes.{IsRun, IsRunOf};
-ghost use Rattle.ae_tool.specs.Playing.{ArePathLines, IsPathRun, IsPathRunText, fill_bytes, path_size};
+ghost use Rattle.ae_tool.specs.EvalRows.{AreRows, AreBlocks};
+ghost use Rattle.ae_tool.specs.Schedules.{IsCosted};
+ghost use Rattle.ae_tool.specs.RunTexts.{IsRun, IsRunOf, IsRunText, output_count};
 
-use crate::build::{lowered, netlist_text, not_built, path};
-use crate::clocks::write_clocks;
-use crate::first_path::FirstPath;
+use crate::build::{circuit, input_layouts, module_text, output_layouts};
+use crate::plan::{Costed, find_costs, main_instance};
 use crate::reply::{OutOfMemory, Reply, refused};
 use crate::status::Status;
 use crate::widths::input_widths;
-use ae_first::{FirstFault, read_first};
-use ae_netlist::{Netlist, fill_begins, has_one_run_with};
+use ae_correct::{circuits_are_writable, plays_are_shown};
 use ae_parse::{RowFault, read_rows};
-use ae_seq::Program;
+use ae_play::{can_be_fed, write_clocks};
+use ae_sttype::StType;
+use ae_verilog::module_keeps;
 use std::alloc::Global;
 
 // The greatest size of a run.
 const RUN_LIMIT: u64 = 4_194_304;
 
-// How many clocks a run of so many blocks shows, a block a clock and the results one clock later.
-fn clock_count(blocks: usize) -> u64
-    requires { blocks < 2 ^ 40 }
-    ensures { result ≡ clock_count 1 1 blocks }
+// How many clocks a run of so many blocks shows.
+fn clock_count(slowdown: u32, latency: u32, blocks: usize) -> u64
+    requires few { blocks < 2 ^ 32 }
+    requires limit { slowdown ≤ 4096 }
+    ensures is { result ≡ clock_count slowdown latency blocks }
+    ensures few { result < 2 ^ 45 }
 {
-    if blocks == 0 { 0 } else { blocks as u64 + 1 }
+    if blocks == 0 {
+        return 0;
+    }
+    u64::from(latency) + blocks as u64 * u64::from(slowdown)
 }
 
-// The lines of the netlist's run.
-fn write_run(
-    alloc: Global,
-    out: &mut String,
-    path: FirstPath,
-    nl: &Netlist,
-    words: &[u64],
-    clocks: u32,
-    fill: u64,
-) -> Result<(), OutOfMemory>
-    requires right { IsFirstPath path }
-    requires cells { nl.now.cells ≡ first_cells path }
-    requires outlets { nl.now.outlets ≡ first_outlets path }
-    requires whole { length words.now ≡ length words.now / path.count * path.count }
-    requires bytes { All (λ w. w < 2 ^ 8) words.now }
-    requires clocks { clocks ≡ clock_count 1 1 (length words.now / path.count) }
-    ensures { OnOk result ((text : List ℕ) × (string_bytes out.new ≡ string_bytes out.old ++ text) × ArePathLines path fill (cut (length words.now / path.count) path.count words.now) text) }
+// How many words the layouts have in a clock.
+fn count_columns(layouts: &[StType]) -> u64
+    requires sized { All IsInSize (map st_tree layouts.now) }
+    requires few { length layouts.now ≤ 8 }
+    ensures is { result ≡ sum_by columns_of (map st_tree layouts.now) }
+    ensures few { result ≤ 131072 }
 {
-    let fills = vec![in alloc; fill % 256; path.count as usize]?;
-    has_one_run_with(nl);
-    fill_begins(nl, fill);
-    write_clocks(alloc, out, nl, words, fills.as_slice(), clocks, fill)?;
-    Ok(())
+    let mut count = 0;
+    for layout in layouts {
+        count += u64::from(layout.lanes()) * u64::from(layout.element_words());
+    }
+    count
 }
 
-// The text of the module and of its run.
+// How many words all results have in a clock.
+fn output_count(alloc: Global, costed: &Costed, slowdown: u32) -> Result<u64, OutOfMemory>
+    requires costed { (part : List ℕ) × IsCosted part slowdown (program_tree costed.now.program) (st_func_trees costed.now.schedule) }
+    ensures is { IfOk result (λ n. n ≡ output_count (program_tree costed.now.program) slowdown) }
+    ensures few { IfOk result (λ n. n ≤ 131072) }
+{
+    let _program = costed.program.program();
+    let _count = costed.schedule.count();
+    let outs = output_layouts(alloc, main_instance(&costed.schedule))?;
+    Ok(count_columns(&outs))
+}
+
+// The text of the module, and of its run on the rows.
 fn run_text(
     alloc: Global,
-    path: FirstPath,
+    costed: &Costed,
+    slowdown: u32,
     words: &[u64],
-    clocks: u32,
+    blocks: usize,
     fill: u64,
 ) -> Result<String, OutOfMemory>
-    requires right { IsFirstPath path }
-    requires whole { length words.now ≡ length words.now / path.count * path.count }
-    requires bytes { All (λ w. w < 2 ^ 8) words.now }
-    requires clocks { clocks ≡ clock_count 1 1 (length words.now / path.count) }
-    ensures { IfOk result (λ text. IsPathRunText path fill (cut (length words.now / path.count) path.count words.now) (string_bytes text)) }
+    requires some { 0 < slowdown }
+    requires limit { slowdown ≤ 4096 }
+    requires costed { (part : List ℕ) × IsCosted part slowdown (program_tree costed.now.program) (st_func_trees costed.now.schedule) }
+    requires times { AreTimes (st_func_trees costed.now.schedule) costed.now.timing }
+    requires short { clock_count slowdown costed.now.timing.costs.latency blocks < 2 ^ 32 }
+    requires rows { (table : List (List (List ℕ))) × AreBlocks (program_tree costed.now.program) blocks table words.now }
+    ensures { IfOk result (λ text. (table : List (List (List ℕ))) → AreBlocks (program_tree costed.now.program) blocks table words.now
+        → IsRunText fill (program_tree costed.now.program) slowdown (st_func_trees costed.now.schedule) table (string_bytes text)) }
 {
-    let nl = lowered(alloc, path)?;
-    let mut text = netlist_text(alloc, path, &nl)?;
+    let _program = costed.program.program();
+    let _count = costed.schedule.count();
+    let nl = circuit(alloc, costed, slowdown)?;
+    let mut text = module_text(alloc, costed, slowdown, &nl)?;
     text.push_str("%% clocks\n")?;
-    write_run(alloc, &mut text, path, &nl, words, clocks, fill)?;
+    plays_are_shown();
+    can_be_fed();
+    circuits_are_writable();
+    module_keeps();
+    let _load = costed.timing.load();
+    let s = main_instance(&costed.schedule);
+    let ins = input_layouts(alloc, s)?;
+    let outs = output_layouts(alloc, s)?;
+    let latency = costed.timing.latency();
+    write_clocks(
+        alloc, &mut text, &nl, &ins, &outs, slowdown, latency, words, blocks, fill,
+    )?;
     Ok(text)
 }
 
-// The reply to rows of words, if the run is not too long.
-fn run_words(alloc: Global, path: FirstPath, words: &[u64], fill: u64) -> Result<Reply, OutOfMemory>
-    requires right { IsFirstPath path }
-    requires few { length words.now < 2 ^ 40 }
-    requires whole { length words.now ≡ length words.now / path.count * path.count }
-    requires bytes { All (λ w. w < 2 ^ 8) words.now }
-    ensures { IfOk result (λ reply. IsPathRun path fill (cut (length words.now / path.count) path.count words.now) reply.status (string_bytes reply.text)) }
+// The reply to rows of words that are right, if the run is not too long.
+fn run_words(
+    alloc: Global,
+    costed: &Costed,
+    slowdown: u32,
+    words: &[u64],
+    columns: usize,
+    fill: u64,
+) -> Result<Reply, OutOfMemory>
+    requires some { 0 < slowdown }
+    requires limit { slowdown ≤ 4096 }
+    requires costed { (part : List ℕ) × IsCosted part slowdown (program_tree costed.now.program) (st_func_trees costed.now.schedule) }
+    requires times { AreTimes (st_func_trees costed.now.schedule) costed.now.timing }
+    requires rows { (table : List (List (List ℕ))) × AreRows (program_tree costed.now.program) columns table words.now }
+    ensures { IfOk result (λ reply. (table : List (List (List ℕ))) → AreRows (program_tree costed.now.program) columns table words.now
+        → IsRunOf fill (program_tree costed.now.program) slowdown (st_func_trees costed.now.schedule) table reply.status (string_bytes reply.text)) }
 {
-    let clocks = clock_count(words.len() / path.count as usize);
-    let size = clocks * (1 + u64::from(path.count));
+    let _program = costed.program.program();
+    let blocks = words.len() / columns;
+    let clocks = clock_count(slowdown, costed.timing.latency(), blocks);
+    let size = clocks * (1 + output_count(alloc, costed, slowdown)?);
     if size > RUN_LIMIT {
         return refused(alloc, Status::LongRun { size });
     }
-    let text = run_text(alloc, path, words, clocks as u32, fill)?;
+    let text = run_text(alloc, costed, slowdown, words, blocks, fill)?;
     Ok(Reply {
         status: Status::Ok,
         text,
     })
 }
 
-// The reply for a program.
-fn run_program(alloc: Global, p: &Program, rest: &[u8], fill: u64) -> Result<Reply, OutOfMemory>
-    requires form { (text : List ℕ) × FirstForm text (program_tree p.now) }
+// The reply for a program with costs.
+fn run_rows(
+    alloc: Global,
+    costed: &Costed,
+    rest: &[u8],
+    slowdown: u32,
+    fill: u64,
+) -> Result<Reply, OutOfMemory>
     requires rest { length rest.now < 2 ^ 32 }
-    ensures { IfOk result (λ reply. IsRunOf fill (program_tree p.now) (rows rest.now) reply.status (string_bytes reply.text)) }
+    requires some { 0 < slowdown }
+    requires limit { slowdown ≤ 4096 }
+    requires costed { (part : List ℕ) × IsCosted part slowdown (program_tree costed.now.program) (st_func_trees costed.now.schedule) }
+    requires times { AreTimes (st_func_trees costed.now.schedule) costed.now.timing }
+    ensures { IfOk result (λ reply. IsRunOf fill (program_tree costed.now.program) slowdown (st_func_trees costed.now.schedule) (rows rest.now) reply.status (string_bytes reply.text)) }
 {
-    let path = path(p);
-    let widths = input_widths(alloc, p)?;
+    let widths = input_widths(alloc, costed.program.program())?;
     match read_rows(alloc, rest, widths.as_slice()) {
-        Ok(table) => run_words(alloc, path, table.words.as_slice(), fill),
+        Ok(table) => run_words(
+            alloc,
+            costed,
+            slowdown,
+            table.words.as_slice(),
+            table.columns as usize,
+            fill,
+        ),
         Err(RowFault::BadWords { row, column }) => refused(alloc, Status::BadWords { row, column }),
         Err(RowFault::Memory) => Err(OutOfMemory),
     }
 }
 
 /// Builds a program part and runs its module on the rows in the rest of the input; without memory there is no reply.
-pub fn run(alloc: Global, part: &[u8], rest: &[u8], fill: u64) -> Result<Reply, OutOfMemory>
+pub fn run(
+    alloc: Global,
+    part: &[u8],
+    rest: &[u8],
+    slowdown: u32,
+    fill: u64,
+) -> Result<Reply, OutOfMemory>
     requires part { length part.now < 4294967295 }
     requires rest { length rest.now < 2 ^ 32 }
-    ensures { IfOk result (λ reply. IsRun fill part.now (rows rest.now) reply.status (string_bytes reply.text)) }
+    requires some { 0 < slowdown }
+    requires limit { slowdown ≤ 4096 }
+    ensures { IfOk result (λ reply. IsRun slowdown fill part.now (rows rest.now) reply.status (string_bytes reply.text)) }
 {
-    match read_first(alloc, part) {
-        Ok(p) => run_program(alloc, &p, rest, fill),
-        Err(FirstFault::BadLine { line: _ }) => not_built(alloc, part),
-        Err(FirstFault::Memory) => Err(OutOfMemory),
+    match find_costs(alloc, part, slowdown) {
+        Ok(costed) => run_rows(alloc, &costed, rest, slowdown, fill),
+        Err(Status::Memory) => Err(OutOfMemory),
+        Err(status) => refused(alloc, status),
     }
 }

@@ -35,60 +35,101 @@ fn answer(
     Ok(Reply { status, text })
 }
 
-fn built(alloc: Global, input: &str) -> Result<Reply, AllocError> {
+fn built(alloc: Global, slowdown: &str, input: &str) -> Result<Reply, AllocError> {
     let mut source = MemSource::new(alloc, input.as_bytes(), 1000, &[])?;
     let mut sink = MemSink::new(alloc, 1000, &[])?;
-    answer(alloc, &["build", "1"], &mut source, &mut sink)
+    answer(alloc, &["build", slowdown], &mut source, &mut sink)
 }
 
 fn zeros(alloc: Global, count: usize) -> Result<Vec<u8>, AllocError> {
     vec![in alloc; 0u8; count]
 }
 
+// Slowdowns, programs, and what the texts of their modules begin with.
+const REPORTS: [(&str, &str, &str); 4] = [
+    (
+        "1",
+        INCREMENT,
+        "// aeth 1\n// slowdown 1\n// latency 1\n// muls 0\n// load 17\n// in 0 SSeq 4 u8\n// out SSeq 4 u8\n",
+    ),
+    (
+        "2",
+        INCREMENT,
+        "// aeth 1\n// slowdown 2\n// latency 1\n// muls 0\n// load 9\n// in 0 TSeq 2 0 SSeq 2 u8\n// out TSeq 2 0 SSeq 2 u8\n",
+    ),
+    (
+        "4",
+        "fn main a:[4]u8\nb = reduce add a\nend b\n",
+        "// aeth 1\n// slowdown 4\n// latency 4\n// muls 0\n// load 11\n// in 0 TSeq 4 0 u8\n// out TSeq 1 0 TSeq 1 3 u8\n",
+    ),
+    (
+        "1",
+        "aeth 2\nfn main x:u8\nq = mul x x\nr = add x x\nend q r\n",
+        "// aeth 1\n// slowdown 1\n// latency 2\n// muls 1\n// load 6\n// in 0 u8\n// out 0 u8\n// out 1 u8\n",
+    ),
+];
+
 #[test]
 fn builds_behind_the_report_lines(rt: HostRuntime) -> Result<(), Fail> {
-    let answer = built(rt.alloc(), INCREMENT)?;
-    assert_eq!(rt; answer.status, Status::Ok);
-    let begins = answer
-        .text
-        .starts_with(b"// aeth 1\n// slowdown 1\n// latency 1\n".as_slice());
-    assert!(rt; begins);
+    for (slowdown, input, lines) in REPORTS {
+        let answer = built(rt.alloc(), slowdown, input)?;
+        assert_eq!(rt; answer.status, Status::Ok);
+        assert!(rt;
+            answer.text.as_slice().starts_with(lines.as_bytes()),
+            "{slowdown}: {input}"
+        );
+    }
     Ok(())
 }
 
-// Rows of words behind the program, and what the text of its run ends with.
-const RUNS: [(&str, &str, &str); 7] = [
+// Slowdowns, fills, rows of words behind the program, and what the text of its run ends with.
+const RUNS: [(&str, &str, &str, &str); 9] = [
     (
+        "1",
         "0",
         "%%\n1 2 3 255\n",
         "%% clocks\n0 . 1 1 1 1\n1 v 2 3 4 0\n",
     ),
     (
+        "1",
         "255",
         "%%\n1 2 3 255\n",
         "%% clocks\n0 . 0 0 0 0\n1 v 2 3 4 0\n",
     ),
     (
+        "1",
         "258",
         "%%\n1 2 3 255\n\n# none\n007 0 0 9\r\n",
         "%% clocks\n0 . 3 3 3 3\n1 v 2 3 4 0\n2 v 8 1 1 10\n",
     ),
-    ("0", "%%\n", "endmodule\n%% clocks\n"),
-    ("0", "", "endmodule\n%% clocks\n"),
-    ("18446744073709551615", "%%", "endmodule\n%% clocks\n"),
-    ("0", "%%\n5 5 5 5\n%% 6 6 6 6", "column 1\n"),
+    ("1", "0", "%%\n", "endmodule\n%% clocks\n"),
+    ("1", "0", "", "endmodule\n%% clocks\n"),
+    ("1", "18446744073709551615", "%%", "endmodule\n%% clocks\n"),
+    ("1", "0", "%%\n5 5 5 5\n%% 6 6 6 6", "column 1\n"),
+    (
+        "2",
+        "0",
+        "%%\n1 2 3 255\n",
+        "%% clocks\n0 . 1 1\n1 v 2 3\n2 v 4 0\n",
+    ),
+    (
+        "4",
+        "0",
+        "%%\n1 2 3 255\n",
+        "%% clocks\n0 . 1\n1 v 2\n2 v 3\n3 v 4\n4 v 0\n",
+    ),
 ];
 
 #[test]
 fn runs_the_module_on_the_rows(rt: HostRuntime) -> Result<(), Fail> {
-    for (fill, rows, end) in RUNS {
+    for (slowdown, fill, rows, end) in RUNS {
         let input = format!(in rt.alloc(); "{INCREMENT}{rows}")?;
         let mut source = MemSource::new(rt.alloc(), input.as_bytes(), 1000, &[])?;
         let mut sink = MemSink::new(rt.alloc(), 1000, &[])?;
-        let reply = answer(rt.alloc(), &["run", "1", fill], &mut source, &mut sink)?;
+        let reply = answer(rt.alloc(), &["run", slowdown, fill], &mut source, &mut sink)?;
         assert!(rt;
             reply.text.as_slice().ends_with(end.as_bytes()),
-            "{fill} {rows}"
+            "{slowdown} {fill} {rows}"
         );
     }
     Ok(())
@@ -96,7 +137,7 @@ fn runs_the_module_on_the_rows(rt: HostRuntime) -> Result<(), Fail> {
 
 #[test]
 fn runs_behind_the_text_of_the_module(rt: HostRuntime) -> Result<(), Fail> {
-    let built = built(rt.alloc(), INCREMENT)?;
+    let built = built(rt.alloc(), "1", INCREMENT)?;
     let input = format!(in rt.alloc(); "{INCREMENT}%%\n1 2 3 255\n")?;
     let mut source = MemSource::new(rt.alloc(), input.as_bytes(), 3, &[])?;
     let mut sink = MemSink::new(rt.alloc(), 4, &[])?;
@@ -152,24 +193,36 @@ fn refuses_a_run_that_is_too_long(rt: HostRuntime) -> Result<(), Fail> {
 }
 
 #[test]
-fn refuses_other_programs(rt: HostRuntime) -> Result<(), Fail> {
-    for (input, line) in [
-        ("", "refused bad line 1\n"),
+fn refuses_programs_that_are_not_built(rt: HostRuntime) -> Result<(), Fail> {
+    for (slowdown, input, number, line) in [
+        ("1", "", 2, "refused bad line 1\n"),
         (
-            "fn inc x:u8\none = const u8 1\ny = sub x one\nend y\nfn main a:[4]u8\nb = map inc a\nend b\n",
-            "refused bad line 5\n",
-        ),
-        (
-            "fn inc x:u8\none = const u8 1\ny = add x one\nend y\nfn main a:[17]u8\nb = map inc a\nend b\n",
-            "refused bad line 5\n",
-        ),
-        (
+            "1",
             "fn inc x:u8\none = const u8 1\ny = add x two\nend y\nfn main a:[4]u8\nb = map inc a\nend b\n",
+            2,
             "refused bad line 3\n",
         ),
+        (
+            "1",
+            "fn main a:[4]u8\nb = select 4 a\nend b\n",
+            3,
+            "refused bad type line 2\n",
+        ),
+        (
+            "4",
+            "fn inc x:u8\none = const u8 1\ny = add x one\nend y\nfn main a:[7]u8\nb = map inc a\nend b\n",
+            5,
+            "refused no schedule line 5\n",
+        ),
+        (
+            "1",
+            "fn sq x:u8\ny = mul x x\nend y\nfn main a0:[4096]u8\na1 = map sq a0\na2 = map sq a1\na3 = map sq a2\na4 = map sq a3\na5 = map sq a4\na6 = map sq a5\na7 = map sq a6\na8 = map sq a7\na9 = map sq a8\nend a9\n",
+            4,
+            "refused too large line 13\n",
+        ),
     ] {
-        let answer = built(rt.alloc(), input)?;
-        assert_eq!(rt; answer.status.number(), 2, "{input}");
+        let answer = built(rt.alloc(), slowdown, input)?;
+        assert_eq!(rt; answer.status.number(), number, "{input}");
         assert_eq!(rt; answer.text.as_slice(), line.as_bytes(), "{input}");
     }
     Ok(())
@@ -179,7 +232,7 @@ fn refuses_other_programs(rt: HostRuntime) -> Result<(), Fail> {
 fn refuses_other_words_and_reads_nothing(rt: HostRuntime) -> Result<(), Fail> {
     let forms: [&[&str]; 9] = [
         &["run", "1"],
-        &["run", "2", "0"],
+        &["run", "4097", "0"],
         &["run", "1", "18446744073709551616"],
         &["run", "1", "00"],
         &["build", "0"],

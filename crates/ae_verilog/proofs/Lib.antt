@@ -18,6 +18,7 @@ pub mod Steps
 pub mod Pieces
 pub mod Writable
 pub mod Lines
+pub mod Comments
 pub mod Ports
 pub mod Named
 pub mod NetlistForm

@@ -1,14 +1,10 @@
 -- The lines of a module, and their tokens.
 use Rattle.std.proofs.Common.{◌≡◌, ℕ, ◌-◌, ◌<◌, ◌≤◌, ◌^◌, List, [], ◌∷◌, ◌++◌, true, false, Option, Some, None, refl, sym, ◌∙◌, subst, arith, append_assoc, append-nil}
-use Rattle.std.specs.Prelude.{codes, decimal, nat_lt, ◌==◌, if◌then◌else◌}
-use Rattle.std.specs.List.{list_all}
-use Rattle.std.proofs.lemmas.Bool.{cond-false, and_parts}
-use Rattle.std.proofs.lemmas.Bool.Decides.{nat_tests}
-use Rattle.std.specs.Char.{is_ascii_digit}
+use Rattle.std.specs.Prelude.{codes, decimal, nat_lt, if◌then◌else◌}
 use Rattle.ae_vread.specs.declared.token.Key.TheVariants.{Module, EndModule, Input, Output, Wire, Reg, Assign, Always, Posedge, If}
 use Rattle.ae_vread.specs.declared.token.Sign.TheVariants.{Open, Close, Comma, Semicolon, At, Equals, AtMost}
 use Rattle.ae_vread.specs.Tables.{signs, keys, unused_0, unused_1, unused_2, unused_3, unused_4, unused_5, unused_6, unused_7, unused_8, unused_9}
-use Rattle.ae_vread.specs.Tokens.{TokenTree, Name, Word, Mark, Zero, after_gap, Between, InLine, token_of, AreTokens, No_more, Then}
+use Rattle.ae_vread.specs.Tokens.{TokenTree, Name, Word, Mark, Zero, after_gap, Between, token_of, AreTokens, No_more, Then}
 use Rattle.ae_vread.specs.ModuleTree.{ExprTree, name}
 use Rattle.ae_vread.specs.ExprForms.{NumberForm, NameForm}
 use Rattle.ae_vread.specs.StmtForms.{SetForm, PutForm, IfForm}
@@ -16,7 +12,7 @@ use Rattle.ae_vread.specs.Forms.{DriveForm, RegForm, ItemForm, WireDrives, RegIt
 use Rattle.ae_vread.proofs.TokenLemmas.{spaced, mark, blank_then}
 use Rattle.ae_verilog.specs.NetlistModule.{clock_name, number_name}
 use Rattle.ae_verilog.specs.Text.{expr_text, range_text, wire_text, value_text, widened_text, register_text, memory_text, register_edge, memory_edge}
-use Rattle.ae_verilog.proofs.Pieces.{IsNameText, IsClean, clean_both, clean_then, number_form, decimal_token, decimal_digits, decimal_clean, number_named}
+use Rattle.ae_verilog.proofs.Pieces.{IsNameText, IsClean, clean_both, clean_then, number_form, decimal_token, decimal_clean, number_named}
 use Rattle.ae_verilog.proofs.Writable.{expr_form, IsWritable, expr_piece, expr_clean, open_bracket_token, close_bracket_token, colon_token}
 
 -- text of these tokens, whatever tokens stand behind it, without % and $
@@ -162,7 +158,7 @@ value_line width net value small numbered w = record {
 }
 
 -- comments and blanks before the tokens
-skip : (text rest : List ℕ) (us : List TokenTree) → after_gap Between text ≡ after_gap Between rest → AreTokens rest us → AreTokens text us
+pub skip : (text rest : List ℕ) (us : List TokenTree) → after_gap Between text ≡ after_gap Between rest → AreTokens rest us → AreTokens text us
 skip text rest _ e (No_more r h) = No_more _ (e ∙ h)
 skip text rest _ e (Then r piece later t ts begins h) =
     Then _ piece later t ts (record { parts = e ∙ begins.parts; token = begins.token; longest = begins.longest }) h
@@ -180,23 +176,6 @@ pub widened_line : (width net : ℕ) (value : ExprTree) → width ≤ 64 → net
 widened_line width net value small numbered w =
     let whole = both_texts _ _ _ _ widen_on (both_texts _ _ _ _ (value_line width net value small numbered w) widen_off) in
     subst (IsTextOf (widened_text width net value)) (append-nil (item_tokens (value_item width net value))) whole
-
--- digits to the end of a comment line
-line_over : (ds rest : List ℕ) → list_all is_ascii_digit ds ≡ true → after_gap InLine (ds ++ 10 ∷ rest) ≡ after_gap Between rest
-line_over [] rest h = refl
-line_over (d ∷ ds) rest h =
-    let parts = and_parts _ (list_all is_ascii_digit ds) h in
-    let other : (d == 10) ≡ false = grind (arith, nat_tests) in
-    cond-false _ _ _ other ∙ line_over ds rest parts.1
-
-pub report_text : (slowdown latency : ℕ) → slowdown < 2 ^ 64 → latency < 2 ^ 64 → IsTextOf (codes "// aeth 1\n// slowdown " ++ (decimal slowdown ++ (codes "\n// latency " ++ (decimal latency ++ codes "\n")))) []
-report_text slowdown latency hs hl = record {
-  tokens = λ rest us h. simp append_assoc (skip _ rest us (
-      line_over (decimal slowdown) (codes "// latency " ++ (decimal latency ++ (10 ∷ rest))) (decimal_digits slowdown hs).all
-      ∙ line_over (decimal latency) rest (decimal_digits latency hl).all) h);
-  clean = clean_then (codes "// aeth 1\n// slowdown ") _ refl (clean_both (decimal slowdown) _ (decimal_clean slowdown hs)
-      (clean_then (codes "\n// latency ") _ refl (clean_both (decimal latency) (codes "\n") (decimal_clean latency hl) (record { all = refl }))));
-}
 
 abbrev pub plain_register : ℕ → RegForm
 plain_register net = record { name = number_name net; last = None }

@@ -1,5 +1,5 @@
 -- What the pieces of a line come to.
-use Rattle.std.proofs.Common.{◌≡◌, ℕ, ◌-◌, ◌<◌, List, ◌++◌, true, false, Result, Ok, Err, OnOk, sym, ap, ◌∙◌, append_assoc, arith}
+use Rattle.std.proofs.Common.{◌≡◌, ℕ, ◌-◌, ◌<◌, List, [], ◌++◌, true, false, Result, Ok, Err, OnOk, sym, ap, ◌∙◌, append_assoc, arith}
 use Rattle.std.specs.Prelude.{codes, decimal, nat_lt, ◌&&◌, if◌then◌else◌}
 use Rattle.std.proofs.lemmas.Bool.{cond-true, lt-ltb}
 use Rattle.ae_netlist.specs.declared.cell.SizedCell.{SizedCell}
@@ -13,7 +13,13 @@ use Rattle.ae_vread.specs.declared.module.BinOp.{BinOp}
 use Rattle.ae_vread.specs.ModuleTree.{binary, constant}
 use Rattle.std.specs.List.{flat_map}
 use Rattle.ae_netlist.specs.declared.cell.Outlet.{Outlet}
-use Rattle.ae_verilog.specs.Text.{sign_text, input_text, output_text, header_text}
+use Rattle.ae_verilog.specs.Text.{sign_text, input_text, output_text, header_text, declaration_text, assignment_text, edge_text, whole_text}
+use Rattle.std.specs.Prelude.{map, length}
+use Rattle.std.proofs.lemmas.List.{length-map}
+use Rattle.ae_sttype.specs.StTree.{st_tree}
+use Rattle.ae_verilog.specs.NetlistModule.{listed}
+use Rattle.ae_verilog.specs.declared.report.Report.{Report}
+use Rattle.ae_verilog.specs.ReportLines.{report_tree, number_line, in_line, out_line, report_lines}
 
 pub register_steps : {E : Type 0} (r : Result (Unit {0}) E) (old one two new next : List ℕ) (net : ℕ) →
     one ≡ old ++ (codes "  always @(posedge clk) n" ++ (decimal net ++ codes " <= ")) → two ≡ one ++ next →
@@ -95,3 +101,37 @@ header_steps (Ok u) cells outlets outs old one two three new first second third 
     shape : (a b : List ℕ) → ((((old ++ codes "module aeth (\n  input wire clk") ++ a) ++ b) ++ codes "\n);\n") ≡ old ++ (codes "module aeth (\n  input wire clk" ++ (a ++ (b ++ codes "\n);\n")))
     shape a b = simp append_assoc
 header_steps (Err x) cells outlets outs old one two three new first second third last = tt
+
+pub report_steps : {E : Type 0} (r : Result (Unit {0}) E) (t : Report) (old a b c d e f new : List ℕ) →
+    a ≡ old ++ codes "// aeth 1\n" → b ≡ a ++ number_line (codes "slowdown") t.slowdown → c ≡ b ++ number_line (codes "latency") t.latency →
+    d ≡ c ++ number_line (codes "muls") t.muls → e ≡ d ++ number_line (codes "load") t.load → f ≡ e ++ listed in_line 0 (map st_tree t.ins.items) →
+    OnOk r (new ≡ f ++ listed (out_line (length t.outs.items)) 0 (map st_tree t.outs.items)) → OnOk r (new ≡ old ++ report_lines (report_tree t))
+unfolding report_lines
+report_steps (Ok u) t old a b c d e f new ha hb hc hd he hf last =
+    let outs = listed (out_line (length t.outs.items)) 0 (map st_tree t.outs.items) in
+    last ∙ ap (λ l. l ++ outs) (hf ∙ ap (λ l. l ++ listed in_line 0 (map st_tree t.ins.items)) (he ∙ ap (λ l. l ++ number_line (codes "load") t.load)
+    (hd ∙ ap (λ l. l ++ number_line (codes "muls") t.muls) (hc ∙ ap (λ l. l ++ number_line (codes "latency") t.latency) (hb ∙ ap (λ l. l ++ number_line (codes "slowdown") t.slowdown) ha)))))
+    ∙ shape _ _ _ _ _ _
+    ∙ ap (λ n. old ++ (codes "// aeth 1\n" ++ (number_line (codes "slowdown") t.slowdown ++ (number_line (codes "latency") t.latency ++ (number_line (codes "muls") t.muls ++ (number_line (codes "load") t.load
+    ++ (listed in_line 0 (map st_tree t.ins.items) ++ listed (out_line n) 0 (map st_tree t.outs.items)))))))) (sym (length-map t.outs.items st_tree))
+  where
+    shape : (s l m k ins outs : List ℕ) → ((((((old ++ codes "// aeth 1\n") ++ s) ++ l) ++ m) ++ k) ++ ins) ++ outs ≡ old ++ (codes "// aeth 1\n" ++ (s ++ (l ++ (m ++ (k ++ (ins ++ outs))))))
+    shape s l m k ins outs = simp append_assoc
+report_steps (Err x) t old a b c d e f new ha hb hc hd he hf last = tt
+
+pub text_steps : (report : List ℕ) (cells : List SizedCell) (outlets : List Outlet) (outs : ℕ) (a b c d e f g new : List ℕ) →
+    a ≡ [] → b ≡ a ++ report → c ≡ b ++ codes "// verilator lint_off UNUSEDSIGNAL\n" → d ≡ c ++ header_text cells outlets outs →
+    e ≡ d ++ listed (λ net (sized : SizedCell). declaration_text cells net sized.width sized.cell) 0 cells → f ≡ e ++ flat_map (assignment_text cells outs) outlets →
+    g ≡ f ++ listed (λ net (sized : SizedCell). edge_text cells net sized.cell) 0 cells → new ≡ g ++ codes "endmodule\n" → new ≡ whole_text report cells outlets outs
+text_steps report cells outlets outs a b c d e f g new ha hb hc hd he hf hg last =
+    let quiet : List ℕ = codes "// verilator lint_off UNUSEDSIGNAL\n" in
+    let head : List ℕ = header_text cells outlets outs in
+    let declared : List ℕ = listed (λ net (sized : SizedCell). declaration_text cells net sized.width sized.cell) 0 cells in
+    let assigned : List ℕ = flat_map (assignment_text cells outs) outlets in
+    let edges : List ℕ = listed (λ net (sized : SizedCell). edge_text cells net sized.cell) 0 cells in
+    last ∙ ap (λ l. l ++ codes "endmodule\n") (hg ∙ ap (λ l. l ++ edges) (hf ∙ ap (λ l. l ++ assigned) (he ∙ ap (λ l. l ++ declared)
+    (hd ∙ ap (λ l. l ++ head) (hc ∙ ap (λ l. l ++ quiet) (hb ∙ ap (λ l. l ++ report) ha))))))
+    ∙ shape report quiet head declared assigned edges (codes "endmodule\n")
+  where
+    shape : (a b c d e f g : List ℕ) → (((((a ++ b) ++ c) ++ d) ++ e) ++ f) ++ g ≡ a ++ (b ++ (c ++ (d ++ (e ++ (f ++ g)))))
+    shape a b c d e f g = simp append_assoc

@@ -15,12 +15,11 @@ use Rattle.ae_vread.specs.ModuleTree.{ExprTree, constant, index}
 use Rattle.ae_vread.specs.Tokens.{TokenTree, Mark, Word, AreTokens, No_more}
 use Rattle.ae_vread.specs.Forms.{PortForm, ItemForm, InputHead, port_tokens, comma_tokens, item_tokens, module_tokens}
 use Rattle.ae_vread.specs.Spells.{Spells}
-use Rattle.ae_verilog.specs.declared.report.Report.{Report}
-use Rattle.ae_verilog.specs.ReportLines.{report_lines, is_clean}
+use Rattle.ae_verilog.specs.ReportLines.{is_clean}
 use Rattle.ae_verilog.specs.NetlistModule.{port_name, net_name, net_value, op_value, listed, netlist_module}
 use Rattle.ae_verilog.specs.Text.{PortFits, CellPortFits, is_cast, value_text, widened_text, op_text, declaration_text, input_text, output_text, header_text, assignment_text, edge_text, module_text, whole_text}
 use Rattle.ae_verilog.proofs.Writable.{IsWritable}
-use Rattle.ae_verilog.proofs.Lines.{IsTextOf, no_text, both_texts, value_item, register_item, memory_item, register_edge_item, memory_edge_item, value_line, widened_line, register_line, memory_line, assign_line, register_edge_line, memory_edge_line, end_line, quiet_line, report_text}
+use Rattle.ae_verilog.proofs.Lines.{IsTextOf, no_text, both_texts, value_item, register_item, memory_item, register_edge_item, memory_edge_item, value_line, widened_line, register_line, memory_line, assign_line, register_edge_line, memory_edge_line, end_line, quiet_line}
 use Rattle.ae_verilog.proofs.Ports.{port_form, IsPieceOf, no_piece, both_pieces, input_port, output_port, head_lines, start_tokens}
 use Rattle.ae_verilog.proofs.Named.{IsGood, port_named, fits_at}
 use Rattle.ae_verilog.proofs.NetlistForm.{input_forms, output_form, declaration_form, assignment_form, edge_form, port_forms, item_forms, netlist_form, flat_both, flat_flat, flat_listed, flat_mapped, next_place, first_place}
@@ -163,50 +162,47 @@ module_lines cells outlets outs good shown =
     head_and_items ports items = append_assoc start_tokens (ports ++ Mark Close ∷ Mark Semicolon ∷ []) items ∙ ap (λ l. start_tokens ++ l) (append_assoc ports (Mark Close ∷ Mark Semicolon ∷ []) items)
 
 -- the whole text
-whole_lines : (report : Report) (cells : List SizedCell) (outlets : List Outlet) → report.slowdown < 2 ^ 64 → report.latency < 2 ^ 64 → IsGood cells → AreGood cells outlets → IsTextOf (whole_text report cells outlets) (module_tokens (netlist_form cells outlets report.outs))
-whole_lines report cells outlets hs hl good shown =
-    both_texts _ _ _ _ (report_text report.slowdown report.latency hs hl) (both_texts _ _ _ _ quiet_line (module_lines cells outlets report.outs good shown))
+whole_lines : (report : List ℕ) (cells : List SizedCell) (outlets : List Outlet) (outs : ℕ) → IsTextOf report [] → IsGood cells → AreGood cells outlets → IsTextOf (whole_text report cells outlets outs) (module_tokens (netlist_form cells outlets outs))
+whole_lines report cells outlets outs before good shown =
+    both_texts _ _ _ _ before (both_texts _ _ _ _ quiet_line (module_lines cells outlets outs good shown))
 
-pub whole_spelled : (report : Report) (cells : List SizedCell) (outlets : List Outlet) → report.slowdown < 2 ^ 64 → report.latency < 2 ^ 64 → IsGood cells → AreGood cells outlets → Spells (whole_text report cells outlets) (netlist_module cells outlets report.outs)
-whole_spelled report cells outlets hs hl good shown =
-    let lines = whole_lines report cells outlets hs hl good shown in
-    let text : List ℕ = whole_text report cells outlets in
-    let ts : List TokenTree = module_tokens (netlist_form cells outlets report.outs) in
+whole_spelled : (report : List ℕ) (cells : List SizedCell) (outlets : List Outlet) (outs : ℕ) → IsTextOf report [] → IsGood cells → AreGood cells outlets → Spells (whole_text report cells outlets outs) (netlist_module cells outlets outs)
+whole_spelled report cells outlets outs before good shown =
+    let lines = whole_lines report cells outlets outs before good shown in
+    let text : List ℕ = whole_text report cells outlets outs in
+    let ts : List TokenTree = module_tokens (netlist_form cells outlets outs) in
     record {
-      form = netlist_form cells outlets report.outs;
-      formed = items_formed cells outlets report.outs;
+      form = netlist_form cells outlets outs;
+      formed = items_formed cells outlets outs;
       written = subst (λ l. AreTokens l ts) (append-nil text) (subst (AreTokens (text ++ [])) (append-nil ts) (lines.tokens [] [] (No_more [] refl)));
-      tree = tree_back cells outlets report.outs good shown.have;
+      tree = tree_back cells outlets outs good shown.have;
     }
 
-pub whole_clean : (report : Report) (cells : List SizedCell) (outlets : List Outlet) → report.slowdown < 2 ^ 64 → report.latency < 2 ^ 64 → IsGood cells → AreGood cells outlets → list_all is_clean (whole_text report cells outlets) ≡ true
-whole_clean report cells outlets hs hl good shown = (whole_lines report cells outlets hs hl good shown).clean.all
+whole_clean : (report : List ℕ) (cells : List SizedCell) (outlets : List Outlet) (outs : ℕ) → IsTextOf report [] → IsGood cells → AreGood cells outlets → list_all is_clean (whole_text report cells outlets outs) ≡ true
+whole_clean report cells outlets outs before good shown = (whole_lines report cells outlets outs before good shown).clean.all
 
 -- what the writer returns
-
-abbrev pub Fits32 : Report → Type 0
-Fits32 report = (report.slowdown < 2 ^ 32) × (report.latency < 2 ^ 32)
 
 good_from : (cells : List SizedCell) → IsFormed cells → All (λ (sized : SizedCell). CellPortFits sized.cell) cells → length cells < 2 ^ 32 → IsGood cells
 good_from cells formed fits few = record { formed = formed; fits = fits; few = few }
 
-pub returns_spelled : {A E : Type 0} (r : Result (String A) E) (report : Report) (cells : List SizedCell) (outlets : List Outlet) → Fits32 report → IsFormed cells → HaveNets cells outlets → length cells < 2 ^ 32 →
-    IfOk r (λ text. string_bytes text ≡ whole_text report cells outlets) → IfOk r (λ text. All (λ (sized : SizedCell). CellPortFits sized.cell) cells) → IfOk r (λ text. All (λ (outlet : Outlet). PortFits outlet.port) outlets) →
-    IfOk r (λ text. Spells (string_bytes text) (netlist_module cells outlets report.outs))
-returns_spelled (Ok text) report cells outlets fits formed have few bytes ins shown =
-    subst (λ l. Spells l (netlist_module cells outlets report.outs)) (sym bytes)
-    (whole_spelled report cells outlets (omega (arith, fits.0)) (omega (arith, fits.1)) (good_from cells formed ins few) (record { have = have; fits = shown }))
-returns_spelled (Err x) report cells outlets fits formed have few bytes ins shown = tt
+pub returns_spelled : {A E : Type 0} (r : Result (String A) E) (report : List ℕ) (cells : List SizedCell) (outlets : List Outlet) (outs : ℕ) → IsTextOf report [] → IsFormed cells → HaveNets cells outlets → length cells < 2 ^ 32 →
+    IfOk r (λ text. string_bytes text ≡ whole_text report cells outlets outs) → IfOk r (λ text. All (λ (sized : SizedCell). CellPortFits sized.cell) cells) → IfOk r (λ text. All (λ (outlet : Outlet). PortFits outlet.port) outlets) →
+    IfOk r (λ text. Spells (string_bytes text) (netlist_module cells outlets outs))
+returns_spelled (Ok text) report cells outlets outs before formed have few bytes ins shown =
+    subst (λ l. Spells l (netlist_module cells outlets outs)) (sym bytes)
+    (whole_spelled report cells outlets outs before (good_from cells formed ins few) (record { have = have; fits = shown }))
+returns_spelled (Err x) report cells outlets outs before formed have few bytes ins shown = tt
 
-pub returns_clean : {A E : Type 0} (r : Result (String A) E) (report : Report) (cells : List SizedCell) (outlets : List Outlet) → Fits32 report → IsFormed cells → HaveNets cells outlets → length cells < 2 ^ 32 →
-    IfOk r (λ text. string_bytes text ≡ whole_text report cells outlets) → IfOk r (λ text. All (λ (sized : SizedCell). CellPortFits sized.cell) cells) → IfOk r (λ text. All (λ (outlet : Outlet). PortFits outlet.port) outlets) →
+pub returns_clean : {A E : Type 0} (r : Result (String A) E) (report : List ℕ) (cells : List SizedCell) (outlets : List Outlet) (outs : ℕ) → IsTextOf report [] → IsFormed cells → HaveNets cells outlets → length cells < 2 ^ 32 →
+    IfOk r (λ text. string_bytes text ≡ whole_text report cells outlets outs) → IfOk r (λ text. All (λ (sized : SizedCell). CellPortFits sized.cell) cells) → IfOk r (λ text. All (λ (outlet : Outlet). PortFits outlet.port) outlets) →
     IfOk r (λ text. IsTrue (list_all is_clean (string_bytes text)))
-returns_clean (Ok text) report cells outlets fits formed have few bytes ins shown =
+returns_clean (Ok text) report cells outlets outs before formed have few bytes ins shown =
     ap (list_all is_clean) bytes
-    ∙ whole_clean report cells outlets (omega (arith, fits.0)) (omega (arith, fits.1)) (good_from cells formed ins few) (record { have = have; fits = shown })
-returns_clean (Err x) report cells outlets fits formed have few bytes ins shown = tt
+    ∙ whole_clean report cells outlets outs before (good_from cells formed ins few) (record { have = have; fits = shown })
+returns_clean (Err x) report cells outlets outs before formed have few bytes ins shown = tt
 
-pub returns_reports : {A E : Type 0} (r : Result (String A) E) (report : Report) (cells : List SizedCell) (outlets : List Outlet) →
-    IfOk r (λ text. string_bytes text ≡ whole_text report cells outlets) → IfOk r (λ text. (rest : List ℕ) × (string_bytes text ≡ report_lines report ++ rest))
-returns_reports (Ok text) report cells outlets bytes = (_, bytes)
-returns_reports (Err x) report cells outlets bytes = tt
+pub returns_reports : {A E : Type 0} (r : Result (String A) E) (report : List ℕ) (cells : List SizedCell) (outlets : List Outlet) (outs : ℕ) →
+    IfOk r (λ text. string_bytes text ≡ whole_text report cells outlets outs) → IfOk r (λ text. (rest : List ℕ) × (string_bytes text ≡ report ++ rest))
+returns_reports (Ok text) report cells outlets outs bytes = (_, bytes)
+returns_reports (Err x) report cells outlets outs bytes = tt

@@ -1,10 +1,54 @@
 -- The comment lines before a module.
-use Rattle.std.specs.Prelude.{ℕ, Bool, not, ◌&&◌, ◌==◌, List, ◌++◌, codes, decimal}
+use Rattle.std.specs.Prelude.{ℕ, Bool, not, ◌&&◌, ◌==◌, List, ◌++◌, map, length, codes, decimal, if◌then◌else◌}
+use Rattle.ae_sttype.specs.StTree.{StTree, st_tree}
+use Rattle.ae_sttype.specs.TypeText.{st_text}
 use Rattle.ae_verilog.specs.declared.report.Report.{Report}
+use Rattle.ae_verilog.specs.NetlistModule.{listed}
 
-abbrev pub report_lines : Report → List ℕ
-report_lines report =
-    codes "// aeth 1\n// slowdown " ++ (decimal report.slowdown ++ (codes "\n// latency " ++ (decimal report.latency ++ codes "\n")))
+-- what is told of a module, apart from where its types lie
+pub record ReportTree : Type 0 where
+  pub slowdown : ℕ
+  pub latency : ℕ
+  pub muls : ℕ
+  pub load : ℕ
+  pub ins : List StTree
+  pub outs : List StTree
+
+-- the tree of a report of the code
+abbrev pub report_tree : Report → ReportTree
+report_tree r = record {
+  slowdown = r.slowdown;
+  latency = r.latency;
+  muls = r.muls;
+  load = r.load;
+  ins = map st_tree r.ins.items;
+  outs = map st_tree r.outs.items;
+}
+
+-- a number behind its name, as `// slowdown 4`
+abbrev pub number_line : (name : List ℕ) → ℕ → List ℕ
+number_line name n = codes "// " ++ (name ++ (codes " " ++ (decimal n ++ codes "\n")))
+
+-- the layout of a parameter, as `// in 0 TSeq 4 0 u8`
+abbrev pub in_line : ℕ → StTree → List ℕ
+in_line k t = codes "// in " ++ (decimal k ++ (codes " " ++ (st_text t ++ codes "\n")))
+
+-- the layout of a result, numbered where there are several
+abbrev pub out_line : (outs : ℕ) → ℕ → StTree → List ℕ
+out_line outs k t =
+    if outs == 1 then codes "// out " ++ (st_text t ++ codes "\n")
+    else codes "// out " ++ (decimal k ++ (codes " " ++ (st_text t ++ codes "\n")))
+
+-- the version of these lines, the costs, and the layouts of parameters and results
+unfoldable pub report_lines : ReportTree → List ℕ
+report_lines r =
+    codes "// aeth 1\n"
+    ++ (number_line (codes "slowdown") r.slowdown
+    ++ (number_line (codes "latency") r.latency
+    ++ (number_line (codes "muls") r.muls
+    ++ (number_line (codes "load") r.load
+    ++ (listed in_line 0 r.ins
+    ++ listed (out_line (length r.outs)) 0 r.outs)))))
 
 -- neither `%` nor `$`
 abbrev pub is_clean : ℕ → Bool

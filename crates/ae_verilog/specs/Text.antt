@@ -15,8 +15,6 @@ use Rattle.ae_vread.specs.declared.module.UnOp.{UnOp}
 use Rattle.ae_vread.specs.declared.module.UnOp.TheVariants.{Not, Flip}
 use Rattle.ae_vread.specs.declared.module.BinOp.{BinOp}
 use Rattle.ae_vread.specs.declared.module.BinOp.TheVariants.{Mul, Add, Sub, Shl, Shr, Lt, Le, Gt, Ge, Eq, Ne, And, Xor, Or, Both, Either}
-use Rattle.ae_verilog.specs.declared.report.Report.{Report}
-use Rattle.ae_verilog.specs.ReportLines.{report_lines}
 use Rattle.ae_verilog.specs.NetlistModule.{port_name, net_name, listed, op_value, net_value}
 
 abbrev pub prefix_text : UnOp → List ℕ
@@ -151,9 +149,9 @@ module_text cells outlets outs =
     ++ (listed (λ net (sized : SizedCell). edge_text cells net sized.cell) 0 cells ++ codes "endmodule\n")))
 
 -- the whole text: the report lines, a line that keeps Verilator from naming bits that nothing reads, and the module
-abbrev pub whole_text : Report → List SizedCell → List Outlet → List ℕ
-whole_text report cells outlets =
-    report_lines report ++ (codes "// verilator lint_off UNUSEDSIGNAL\n" ++ module_text cells outlets report.outs)
+abbrev pub whole_text : (report : List ℕ) → List SizedCell → List Outlet → (outs : ℕ) → List ℕ
+whole_text report cells outlets outs =
+    report ++ (codes "// verilator lint_off UNUSEDSIGNAL\n" ++ module_text cells outlets outs)
 
 -- numbers of ports that the type of ports has room for
 abbrev pub PortFits : Port → Type 0

@@ -14,7 +14,7 @@ pub fn write_outlets(
     out: &mut String,
     cells: &[SizedCell],
     outlets: &[Outlet],
-    outs: u32,
+    outs: usize,
 ) -> Result<(), AllocError>
     ensures { OnOk result (string_bytes out.new ≡ string_bytes out.old ++ flat_map (assignment_text cells.now outs) outlets.now) }
 {
@@ -28,7 +28,7 @@ fn write_outlet(
     out: &mut String,
     cells: &[SizedCell],
     outlet: Outlet,
-    outs: u32,
+    outs: usize,
 ) -> Result<(), AllocError>
     ensures { OnOk result (string_bytes out.new ≡ string_bytes out.old ++ assignment_text cells.now outs outlet) }
 {

@@ -14,7 +14,7 @@ pub fn write_header(
     out: &mut String,
     cells: &[SizedCell],
     outlets: &[Outlet],
-    outs: u32,
+    outs: usize,
 ) -> Result<(), AllocError>
     ensures text { OnOk result (string_bytes out.new ≡ string_bytes out.old ++ header_text cells.now outlets.now outs) }
     ensures inputs { OnOk result (All (λ sized. CellPortFits sized.cell) cells.now) }
@@ -40,7 +40,7 @@ fn write_outputs(
     out: &mut String,
     cells: &[SizedCell],
     outlets: &[Outlet],
-    outs: u32,
+    outs: usize,
 ) -> Result<(), AllocError>
     ensures text { OnOk result (string_bytes out.new ≡ string_bytes out.old ++ flat_map (output_text cells.now outs) outlets.now) }
     ensures fits { OnOk result (All (λ outlet. PortFits outlet.port) outlets.now) }
@@ -71,7 +71,7 @@ fn write_output(
     out: &mut String,
     cells: &[SizedCell],
     outlet: Outlet,
-    outs: u32,
+    outs: usize,
 ) -> Result<(), AllocError>
     ensures text { OnOk result (string_bytes out.new ≡ string_bytes out.old ++ output_text cells.now outs outlet) }
     ensures fits { OnOk result (PortFits outlet.port) }

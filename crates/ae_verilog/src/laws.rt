@@ -1,10 +1,12 @@
-// What the module of a netlist keeps of the netlist.
+// What the module of a netlist keeps of the netlist, and what its text says.
 
-ghost use Rattle.std.specs.Prelude.{ℕ, length, ◌+◌, ◌*◌, ◌≤◌};
+ghost use Rattle.std.specs.Prelude.{◌≡◌, ℕ, List, length, ◌+◌, ◌*◌, ◌^◌, ◌<◌, ◌≤◌};
 ghost use Rattle.ae_netlist.specs.Circuit.{Circuit};
 ghost use Rattle.ae_elab.specs.Faults.{IsWellFormed};
 ghost use Rattle.ae_elab.specs.SameRuns.{HasSameRuns};
 ghost use Rattle.ae_elab.specs.Weight.{weight};
+ghost use Rattle.ae_vread.specs.ModuleTree.{ModuleTree};
+ghost use Rattle.ae_vread.specs.Spells.{Spells};
 ghost use Rattle.ae_verilog.specs.NetlistModule.{netlist_module};
 ghost use Rattle.ae_verilog.specs.Written.{IsWritableNetlist};
 
@@ -14,4 +16,9 @@ pub fn module_keeps()
     ensures runs { (n : Circuit) (outs : ℕ) → IsWritableNetlist n.cells n.outlets outs → HasSameRuns (netlist_module n.cells n.outlets outs) n }
     ensures light { (n : Circuit) (outs : ℕ) → weight (netlist_module n.cells n.outlets outs) ≤ 1 + 4 * length n.cells + 4 * length n.outlets }
     ensures formed { (n : Circuit) (outs : ℕ) → IsWritableNetlist n.cells n.outlets outs → 1 + 4 * length n.cells + 4 * length n.outlets ≤ 10000000 → IsWellFormed (netlist_module n.cells n.outlets outs) }
+{}
+
+/// A law: a text of fewer than 2 to the 32 bytes spells one module at most.
+pub fn spelled_once()
+    ensures { (text : List ℕ) (m n : ModuleTree) → length text < 2 ^ 32 → Spells text m → Spells text n → m ≡ n }
 {}

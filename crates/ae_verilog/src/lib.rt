@@ -10,53 +10,53 @@ mod report;
 #[cfg(test)]
 mod tests;
 
-ghost use Rattle.std.specs.Prelude.{◌≡◌, ◌++◌, List, ℕ, All, IfOk, IsTrue, string_bytes};
+ghost use Rattle.std.specs.Prelude.{◌≡◌, ◌++◌, List, ℕ, All, length, IfOk, IsTrue, string_bytes};
 ghost use Rattle.std.specs.List.{list_all};
 ghost use Rattle.ae_netlist.specs.Counts.{count_of, is_mul};
 ghost use Rattle.ae_vread.specs.Spells.{Spells, stars};
 ghost use Rattle.ae_verilog.specs.NetlistModule.{netlist_module};
-ghost use Rattle.ae_verilog.specs.ReportLines.{report_lines, is_clean};
+ghost use Rattle.ae_verilog.specs.ReportLines.{report_tree, report_lines, is_clean};
 ghost use Rattle.ae_verilog.specs.Text.{whole_text, PortFits, CellPortFits};
 
 use ae_netlist::{Netlist, Outlet, SizedCell};
-pub use laws::module_keeps;
+pub use laws::{module_keeps, spelled_once};
 pub use report::Report;
 use std::alloc::{AllocError, Global};
 
-/// The text of the module `aeth` that a netlist is, behind its report lines (docs/VERILOG.md): a Verilog module after
-/// IEEE 1364-2001. It spells exactly the names, declarations and items of the netlist's module, with one `*` for each
-/// cell that multiplies and no other, and it has no `%` and no `$`. Writing takes time linear in the number of cells.
-/// The error comes where there is no memory for the text.
+/// The text of the module `aeth` that a netlist is (docs/VERILOG.md), behind its report lines (docs/OUTPUTS.md): a
+/// Verilog module after IEEE 1364-2001. It spells exactly the names, declarations and items of the netlist's module, with
+/// one `*` for each cell that multiplies and no other, and it has no `%` and no `$`. Writing takes time linear in the
+/// number of cells. The error comes where there is no memory for the text.
 pub fn write_module(alloc: Global, nl: &Netlist, report: &Report) -> Result<String, AllocError>
-    ensures spells { IfOk result (λ text. Spells (string_bytes text) (netlist_module nl.now.cells nl.now.outlets report.now.outs)) }
-    ensures reports { IfOk result (λ text. (rest : List ℕ) × (string_bytes text ≡ report_lines report.now ++ rest)) }
-    ensures stars { stars (netlist_module nl.now.cells nl.now.outlets report.now.outs) ≡ count_of is_mul nl.now.cells }
+    ensures spells { IfOk result (λ text. Spells (string_bytes text) (netlist_module nl.now.cells nl.now.outlets (length report.now.outs.items))) }
+    ensures reports { IfOk result (λ text. (rest : List ℕ) × (string_bytes text ≡ report_lines (report_tree report.now) ++ rest)) }
+    ensures stars { stars (netlist_module nl.now.cells nl.now.outlets (length report.now.outs.items)) ≡ count_of is_mul nl.now.cells }
     ensures clean { IfOk result (λ text. IsTrue (list_all is_clean (string_bytes text))) }
 {
     nl.formed();
     let _count = nl.len();
-    let _slowdown = report.slowdown;
-    let _latency = report.latency;
-    write_text(alloc, nl.cells(), nl.outlets(), report)
+    let outs = report.outs.as_slice().len();
+    write_text(alloc, nl.cells(), nl.outlets(), outs, report)
 }
 
-// The same, as bytes.
+// The same, where there are so many results.
 fn write_text(
     alloc: Global,
     cells: &[SizedCell],
     outlets: &[Outlet],
+    outs: usize,
     report: &Report,
 ) -> Result<String, AllocError>
-    ensures text { IfOk result (λ text. string_bytes text ≡ whole_text report.now cells.now outlets.now) }
+    ensures text { IfOk result (λ text. string_bytes text ≡ whole_text (report_lines (report_tree report.now)) cells.now outlets.now outs) }
     ensures inputs { IfOk result (λ text. All (λ sized. CellPortFits sized.cell) cells.now) }
     ensures outputs { IfOk result (λ text. All (λ outlet. PortFits outlet.port) outlets.now) }
 {
     let mut out = String::new(alloc);
     report::write_report(&mut out, report)?;
     write!(out, "// verilator lint_off UNUSEDSIGNAL\n")?;
-    header::write_header(&mut out, cells, outlets, report.outs)?;
+    header::write_header(&mut out, cells, outlets, outs)?;
     cells::write_cells(&mut out, cells)?;
-    clocked::write_outlets(&mut out, cells, outlets, report.outs)?;
+    clocked::write_outlets(&mut out, cells, outlets, outs)?;
     clocked::write_edges(&mut out, cells)?;
     write!(out, "endmodule\n")?;
     Ok(out)

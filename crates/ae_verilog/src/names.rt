@@ -8,7 +8,7 @@ use ae_netlist::{Cell, NetId, Port, SizedCell};
 use std::alloc::AllocError;
 
 // The name of a port; an output names its result where there are several.
-pub fn write_port(out: &mut String, port: Port, outs: u32) -> Result<(), AllocError>
+pub fn write_port(out: &mut String, port: Port, outs: usize) -> Result<(), AllocError>
     ensures text { OnOk result (string_bytes out.new ≡ string_bytes out.old ++ port_name outs port) }
     ensures fits { PortFits port }
 {

@@ -1,8 +1,10 @@
-// A text, against one written by hand.
+// Texts, against ones written by hand.
 
 use crate::{Report, write_module};
 use ae_netlist::{Cell, Netlist, Port};
-use std::alloc::Global;
+use ae_sttype::StType;
+use ae_word::Atom;
+use std::alloc::{AllocError, Global};
 use std::test::Fail;
 
 // The reset, a word of a parameter, a constant, and a register and a memory that nothing writes.
@@ -23,18 +25,67 @@ fn small(alloc: Global) -> Result<Netlist, Fail> {
     Ok(nl)
 }
 
+fn in_time(alloc: Global, n: u32, i: u32, of: StType) -> Result<StType, AllocError> {
+    let of = Box::new(alloc, of)?;
+    Ok(StType::T { n, i, of })
+}
+
+fn side_by_side(alloc: Global, n: u32, of: StType) -> Result<StType, AllocError> {
+    let of = Box::new(alloc, of)?;
+    Ok(StType::S { n, of })
+}
+
 #[test]
 fn cells_are_written_in_order(rt: HostRuntime) -> Result<(), Fail> {
-    let nl = small(rt.alloc())?;
+    let alloc = rt.alloc();
+    let nl = small(alloc)?;
+    let bytes = side_by_side(alloc, 20, StType::Atom(Atom::Word(8)))?;
     let report = Report {
         slowdown: 4,
         latency: 100,
-        outs: 1,
+        muls: 3,
+        load: 62,
+        ins: vec![in alloc; in_time(alloc, 3, 1, bytes)?, StType::Atom(Atom::Int(12))]?,
+        outs: vec![in alloc; in_time(alloc, 4, 0, StType::Atom(Atom::Word(1)))?]?,
     };
-    let text = write_module(rt.alloc(), &nl, &report)?;
+    let text = write_module(alloc, &nl, &report)?;
     assert_eq!(rt;
         text.as_str(),
-        "// aeth 1\n// slowdown 4\n// latency 100\n// verilator lint_off UNUSEDSIGNAL\nmodule aeth (\n  input wire clk,\n  input wire rst,\n  input wire [7:0] i0_1_20\n);\n  wire [7:0] n2 = 8'd10;\n  reg n3;\n  reg [15:0] n4 [0:0];\n  always @(posedge clk) n3 <= n3;\n  always @(posedge clk) if (n4) n4[n4] <= n4;\nendmodule\n"
+        "// aeth 1\n// slowdown 4\n// latency 100\n// muls 3\n// load 62\n// in 0 TSeq 3 1 SSeq 20 u8\n// in 1 i12\n// out TSeq 4 0 u1\n// verilator lint_off UNUSEDSIGNAL\nmodule aeth (\n  input wire clk,\n  input wire rst,\n  input wire [7:0] i0_1_20\n);\n  wire [7:0] n2 = 8'd10;\n  reg n3;\n  reg [15:0] n4 [0:0];\n  always @(posedge clk) n3 <= n3;\n  always @(posedge clk) if (n4) n4[n4] <= n4;\nendmodule\n"
+    );
+    Ok(())
+}
+
+#[test]
+fn several_results_are_numbered(rt: HostRuntime) -> Result<(), Fail> {
+    let alloc = rt.alloc();
+    let mut nl = Netlist::new(alloc, 1);
+    let one = nl.add(8, Cell::Const(1))?;
+    let port = Port::Out {
+        result: 1,
+        lane: 0,
+        word: 0,
+    };
+    nl.add_output(port, one)?;
+    let pair = Atom::Pair(
+        Box::new(alloc, Atom::Word(8))?,
+        Box::new(alloc, Atom::Int(16))?,
+    );
+    let report = Report {
+        slowdown: 1,
+        latency: 0,
+        muls: 0,
+        load: 0,
+        ins: Vec::new(alloc),
+        outs: vec![in alloc;
+            side_by_side(alloc, 2, StType::Atom(pair))?,
+            StType::Atom(Atom::Word(8)),
+        ]?,
+    };
+    let text = write_module(alloc, &nl, &report)?;
+    assert_eq!(rt;
+        text.as_str(),
+        "// aeth 1\n// slowdown 1\n// latency 0\n// muls 0\n// load 0\n// out 0 SSeq 2 (u8,i16)\n// out 1 u8\n// verilator lint_off UNUSEDSIGNAL\nmodule aeth (\n  input wire clk,\n  output wire [7:0] o1_0_0\n);\n  wire [7:0] n0 = 8'd1;\n  assign o1_0_0 = n0;\nendmodule\n"
     );
     Ok(())
 }

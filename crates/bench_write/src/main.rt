@@ -30,7 +30,10 @@ fn length(alloc: Global, count: u32) -> Result<usize, AllocError> {
     let report = Report {
         slowdown: 1,
         latency: 0,
-        outs: 1,
+        muls: 0,
+        load: count,
+        ins: Vec::new(alloc),
+        outs: Vec::new(alloc),
     };
     let text = write_module(alloc, &nl, &report)?;
     Ok(text.len())

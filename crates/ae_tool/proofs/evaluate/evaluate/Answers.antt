@@ -9,7 +9,7 @@ use Rattle.ae_tool.specs.declared.reply.Reply.{Reply}
 use Rattle.ae_tool.specs.RunTexts.{input_widths}
 use Rattle.ae_tool.specs.EvalRows.{AreRows}
 use Rattle.ae_tool.specs.EvalTexts.{IsEvalOf}
-use Rattle.ae_tool.proofs.FirstRun.{few_rows}
+use Rattle.ae_tool.proofs.RowCounts.{few_rows}
 use Rattle.ae_tool.proofs.EvalTypes.{has_columns}
 use Rattle.ae_tool.proofs.evaluate.evaluate.Goals as goal
 

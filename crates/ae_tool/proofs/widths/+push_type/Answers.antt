@@ -5,7 +5,7 @@ use Rattle.ae_seqtype.specs.declared.seq_type.SeqType.{SeqType}
 use Rattle.ae_seqtype.specs.SeqTree.{seq_tree, repeated, kinds}
 use Rattle.ae_seqtype.proofs.Stands.{repeated-push}
 use Rattle.ae_tool.specs.Inputs.{type_widths}
-use Rattle.ae_tool.proofs.Rows.{map-append}
+use Rattle.std.proofs.lemmas.List.{map-append}
 use Rattle.ae_tool.proofs.widths.+push_type.Goals as goal
 
 pub loop-init : goal.loop-init

@@ -1,4 +1,0 @@
-pub mod FirstForm
-pub mod Reading
-pub mod Refusal
-pub mod View

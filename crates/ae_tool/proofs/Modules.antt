@@ -1,0 +1,162 @@
+-- The text of a program's module.
+use Rattle.std.proofs.Common.{◌≡◌, ℕ, ◌+◌, ◌*◌, ◌^◌, ◌<◌, ◌≤◌, zero, suc, List, [], ◌∷◌, ◌++◌, length, map, take, filter, length-append, None, Some, slice_get, IsTrue, refl, arith, ap, sym, ◌∙◌, subst}
+use Rattle.std.proofs.lemmas.List.{length-map}
+use Rattle.std.proofs.lemmas.Option.{same_Some, slice_get_within}
+use Rattle.std.specs.List.{list_all}
+use Rattle.ae_sttype.specs.StTree.{StTree, lanes, st_atoms, element_words}
+use Rattle.ae_sttype.specs.Size.{IsInSize}
+use Rattle.ae_sttype.proofs.Bounds.{lanes-le-atoms}
+use Rattle.ae_seq.specs.ProgramTree.{ProgramTree}
+use Rattle.ae_seq.specs.Formed.{formed}
+use Rattle.ae_seq.specs.Typing.{refused_line}
+use Rattle.ae_eval.specs.Stack.{IsTyped}
+use Rattle.ae_eval.proofs.Items.{entry-at}
+use Rattle.ae_correct.proofs.ModulePorts.{mapped_at}
+use Rattle.ae_rewrite.specs.StProgramTree.{StFuncTree}
+use Rattle.ae_rewrite.specs.Scheduled.{IsSchedule}
+use Rattle.ae_rewrite.specs.Sound.{IsSound, item_layout, item_layouts}
+use Rattle.ae_delay.specs.Costs.{all_costs}
+use Rattle.ae_delay.proofs.Instances.{all_items}
+use Rattle.ae_delay.specs.Timings.{AreTimes, Times}
+use Rattle.ae_netlist.specs.Circuit.{Circuit}
+use Rattle.ae_netlist.specs.Counts.{count_of, is_mul}
+use Rattle.ae_vread.specs.ModuleTree.{ModuleTree}
+use Rattle.ae_vread.specs.Spells.{Spells, stars}
+use Rattle.ae_elab.specs.Faults.{IsWellFormed}
+use Rattle.ae_elab.specs.Runs.{HasOneRun}
+use Rattle.ae_elab.specs.SameRuns.{HasSameRuns}
+use Rattle.ae_elab.specs.Weight.{weight}
+use Rattle.ae_verilog.specs.NetlistModule.{netlist_module}
+use Rattle.ae_verilog.specs.Written.{IsWritableNetlist}
+use Rattle.ae_verilog.specs.ReportLines.{report_lines, is_clean}
+use Rattle.ae_ops.specs.Blocks.{stream_of}
+use Rattle.ae_flow.specs.Fitted.{streams_of}
+use Rattle.ae_lower.specs.Lowering.{costs_in}
+use Rattle.ae_lower.specs.Circuits.{IsCircuitOf, columns_in, last_of}
+use Rattle.ae_lower.specs.Ports as net_side
+use Rattle.ae_lower.specs.Ports.{SizedPort, outlet_port}
+use Rattle.ae_correct.specs.Laws.{CircuitsAreCorrect, CircuitsAreWritable}
+use Rattle.ae_correct.specs.Correct.{ports_of, port_of, is_port}
+use Rattle.ae_correct.proofs.Layouts.{results_of, stream_columns}
+use Rattle.ae_correct.proofs.Keeps.{circuit_ports, ins_of, outs_of}
+use Rattle.ae_correct.proofs.Nets.{in_net, out_net, ports_filtered}
+use Rattle.ae_correct.proofs.Places.{columns_more, length_from}
+use Rattle.ae_tool.specs.Building.{IsModuleText, main_costs, report_of}
+use Rattle.ae_tool.proofs.EvalTypes.{few_at}
+
+pub typed_program : (p : ProgramTree) → IsTrue (formed p) → refused_line p ≡ None → IsTyped p
+typed_program p good fine = record { is_formed = good; accepted = fine }
+
+-- ---- columns
+
+product_le : (a b c most : ℕ) → a ≤ b → b * c ≤ most → a * c ≤ most
+product_le zero b c most h g = omega arith
+product_le (suc a) zero c most h g = absurd (omega (arith, h))
+product_le (suc a) (suc b) c most h g =
+    let x : suc a * c ≡ a * c + c = omega arith in
+    let y : suc b * c ≡ b * c + c = omega arith in
+    let rest : a * c ≤ b * c = product_le a b c (b * c) (omega (arith, h)) (omega arith) in
+    omega (arith, x, y, rest, g)
+
+pub few_columns : (s : StTree) → IsInSize s → lanes s * element_words s ≤ 16384
+few_columns s h = product_le (lanes s) (st_atoms s) (element_words s) 16384 (lanes-le-atoms s h.lengths) h.in_words
+
+all_columns : (ss : List StTree) → ((q : ℕ) (s : StTree) → slice_get ss q ≡ Some s → IsInSize s) → columns_in (streams_of ss) ≤ length ss * 16384
+all_columns [] h = omega arith
+all_columns (s ∷ ss) h = omega (arith, columns_more (stream_of s) (streams_of ss), few_columns s (h 0 s refl), stream_columns s, all_columns ss (λ q t e. h (suc q) t e))
+
+-- ---- how many ports a circuit has
+
+record HasFewPorts (s : StFuncTree) (n : Circuit) (many : ℕ) : Type 0 where
+  inputs : length (net_side.input_ports (streams_of s.ins)) ≤ 131072
+  outputs : length n.outlets ≤ 131072
+  all : length (ports_of (netlist_module n.cells n.outlets many)) ≡ 2 + length (net_side.input_ports (streams_of s.ins)) + length n.outlets
+
+-- an entry of a list that is mapped
+pub record IsMapped {A B : Type 0} (f : A → B) (xs : List A) (k : ℕ) (y : B) : Type 0 where
+  pub from : A
+  pub found : slice_get xs k ≡ Some from
+  pub is : f from ≡ y
+
+pub unmapped : {A B : Type 0} (f : A → B) (xs : List A) (k : ℕ) (y : B) → slice_get (map f xs) k ≡ Some y → IsMapped f xs k y
+unmapped f xs k y h =
+    let within : k < length (map f xs) = slice_get_within (map f xs) k y h in
+    let e = entry-at xs k (omega (arith, within, length-map xs f)) in
+    record { from = e.0; found = e.1; is = same_Some (f e.0) y (sym (mapped_at f xs k e.0 e.1) ∙ h) }
+
+-- the layouts of an instance's results are in size
+pub small_results : (instances : List StFuncTree) (s : StFuncTree) → IsSound instances → slice_get instances (last_of instances) ≡ Some s → (q : ℕ) (t : StTree) → slice_get (results_of s) q ≡ Some t → IsInSize t
+small_results instances s sound found q t e =
+    let own = sound.each (last_of instances) s found in
+    let m = unmapped (item_layout (item_layouts s)) s.results q t e in
+    subst IsInSize m.is (all_items (last_of instances) s own m.from (own.results q m.from m.found)).size
+
+few_ports : (p : ProgramTree) (slowdown : ℕ) (instances : List StFuncTree) (s : StFuncTree) (n : Circuit) (many : ℕ) → IsTyped p → IsSchedule p slowdown instances → IsSound instances
+    → slice_get instances (last_of instances) ≡ Some s → IsCircuitOf instances s n → HasFewPorts s n many
+few_ports p slowdown instances s n many typed h sound found c =
+    let own = sound.each (last_of instances) s found in
+    let right = h.right (last_of instances) s found in
+    let few = few_at p s.func right.of typed right.known in
+    let have = circuit_ports instances s n c in
+    let ins = net_side.input_ports (streams_of s.ins) in
+    let outs = outs_of s in
+    let params : length s.ins ≡ length right.of.params = sym (length-map s.ins (λ (x : StTree). Some x)) ∙ ap length (sym right.ins) ∙ length-map right.of.params _ in
+    let results : length (results_of s) ≡ length right.of.results = length-map s.results (item_layout (item_layouts s)) ∙ ap length right.results in
+    let in_columns : length ins ≡ columns_in (streams_of s.ins) = length_from _ 0 (streams_of s.ins) in
+    let out_columns : length outs ≡ columns_in (streams_of (results_of s)) = length_from _ 0 (streams_of (results_of s)) in
+    let shown : length n.outlets ≡ length outs = sym (length-map n.outlets (outlet_port n.cells)) ∙ ap length have.outputs in
+    let filtered : length (ports_of (netlist_module n.cells n.outlets many)) ≡ 1 + (length (map in_net (ins_of s)) + length (map (out_net many) outs)) =
+    length-map (filter is_port (netlist_module n.cells n.outlets many).nets) port_of ∙ ap length (ports_filtered n.cells n.outlets many (ins_of s) outs have) ∙ omega (arith, length-append (map in_net (ins_of s)) (map (out_net many) outs)) in
+    record {
+      inputs = omega (arith, in_columns, params, few.few, all_columns s.ins (λ q t e. (own.ins q t e).size));
+      outputs = omega (arith, shown, out_columns, results, few.results, all_columns (results_of s) (small_results instances s sound found));
+      all = omega (arith, filtered, length-map (ins_of s) in_net, length-map outs (out_net many), shown);
+    }
+
+-- ---- the module
+
+pub costs_are : (instances : List StFuncTree) (s : StFuncTree) (t : Times) → AreTimes instances t → slice_get instances (last_of instances) ≡ Some s → t.costs ≡ main_costs instances
+costs_are instances s t times found = times.costs s found ∙ ap (costs_in (all_costs (take (last_of instances) instances))) (sym found)
+
+-- the laws of circuits and their modules
+pub record HaveLaws : Type 0 where
+  pub writable : CircuitsAreWritable
+  pub correct : CircuitsAreCorrect
+  pub runs : (n : Circuit) (outs : ℕ) → IsWritableNetlist n.cells n.outlets outs → HasSameRuns (netlist_module n.cells n.outlets outs) n
+  pub light : (n : Circuit) (outs : ℕ) → weight (netlist_module n.cells n.outlets outs) ≤ 1 + 4 * length n.cells + 4 * length n.outlets
+  pub formed : (n : Circuit) (outs : ℕ) → IsWritableNetlist n.cells n.outlets outs → 1 + 4 * length n.cells + 4 * length n.outlets ≤ 10000000 → IsWellFormed (netlist_module n.cells n.outlets outs)
+  pub once : (m : ModuleTree) → IsWellFormed m → HasOneRun m
+  pub spelled : (text : List ℕ) (m n : ModuleTree) → length text < 2 ^ 32 → Spells text m → Spells text n → m ≡ n
+
+-- what is sure of the text that a circuit was written as
+pub record IsTextOf (slowdown : ℕ) (instances : List StFuncTree) (s : StFuncTree) (n : Circuit) (text : List ℕ) : Type 0 where
+  pub spells : Spells text (netlist_module n.cells n.outlets (length s.results))
+  pub stars_are : stars (netlist_module n.cells n.outlets (length s.results)) ≡ count_of is_mul n.cells
+  pub rest : List ℕ
+  pub reports : text ≡ report_lines (report_of slowdown instances s) ++ rest
+  pub clean : IsTrue (list_all is_clean text)
+  pub few : length text < 2 ^ 32
+
+pub module_is : (p : ProgramTree) (slowdown : ℕ) (instances : List StFuncTree) (s : StFuncTree) (n : Circuit) (text : List ℕ) → HaveLaws → IsTyped p → IsSchedule p slowdown instances → IsSound instances
+    → slice_get instances (last_of instances) ≡ Some s → (main_costs instances).load ≤ 100000 → IsCircuitOf instances s n → IsTextOf slowdown instances s n text → IsModuleText p slowdown instances text
+module_is p slowdown instances s n text laws typed h sound found light c t =
+    let many : ℕ = length s.results in
+    let m : ModuleTree = netlist_module n.cells n.outlets many in
+    let ports = few_ports p slowdown instances s n many typed h sound found c in
+    let writable : IsWritableNetlist n.cells n.outlets many = laws.writable p slowdown instances s n typed h sound found light c in
+    let well : IsWellFormed m = laws.formed n many writable (omega (arith, c.small, light, ports.inputs, ports.outputs)) in
+    record {
+      instance = s;
+      last = found;
+      tree = m;
+      spells = t.spells;
+      only = λ other spelled. laws.spelled text other m t.few spelled t.spells;
+      formed = well;
+      one_run = laws.once m well;
+      correct = laws.correct p slowdown instances s n typed h sound found c (laws.runs n many writable);
+      products = t.stars_are ∙ c.muls;
+      light = omega (arith, laws.light n many, c.small, ports.all);
+      rest = t.rest;
+      reports = t.reports;
+      clean = t.clean;
+    }

@@ -1,0 +1,45 @@
+-- What `run` answers for rows of words.
+use Rattle.std.proofs.Common.{◌≡◌, ℕ, ◌+◌, ◌*◌, ◌/◌, ◌^◌, ◌<◌, ◌≤◌, List, length, None, refl, ap, sym, ◌∙◌, subst, arith}
+use Rattle.ae_seq.specs.ProgramTree.{ProgramTree}
+use Rattle.ae_eval.specs.Stack.{IsTyped}
+use Rattle.ae_parse.specs.Rows.{rows, bad_row, words_in}
+use Rattle.ae_rewrite.specs.StProgramTree.{StFuncTree}
+use Rattle.ae_delay.specs.declared.own.OwnCosts.{OwnCosts}
+use Rattle.ae_play.specs.Lines.{clock_count}
+use Rattle.ae_tool.specs.declared.status.Status.{Status}
+use Rattle.ae_tool.specs.declared.status.Status.TheVariants.{LongRun}
+use Rattle.ae_tool.specs.Refusals.{refusal_line}
+use Rattle.ae_tool.specs.Building.{main_costs}
+use Rattle.ae_tool.specs.EvalRows.{AreRows, AreBlocks}
+use Rattle.ae_tool.specs.RunTexts.{IsRunOf, input_widths, output_count, run_limit, run_size}
+use Rattle.ae_tool.proofs.RowCounts.{few_rows}
+use Rattle.ae_tool.proofs.EvalSteps.{rows_count}
+
+-- what is known of the rows that were read
+pub rows_known : (p : ProgramTree) (text widths ws : List ℕ) (columns : ℕ) → length text < 2 ^ 32 → widths ≡ input_widths p → columns ≡ length widths → bad_row 1 widths (rows text) ≡ None → ws ≡ words_in (rows text) → AreRows p columns (rows text) ws
+rows_known p text widths ws columns lt w n right is =
+    let few : length (rows text) ≤ length text = few_rows text in
+    record {
+      columns_are = n ∙ ap length w;
+      few = omega (arith, few, lt);
+      right = ap (λ us. bad_row 1 us (rows text)) (sym w) ∙ right;
+      words_are = is;
+    }
+
+pub blocks_known : (p : ProgramTree) (columns : ℕ) (table : List (List (List ℕ))) (ws : List ℕ) → IsTyped p → AreRows p columns table ws → AreBlocks p (length ws / columns) table ws
+blocks_known p columns table ws typed a = record {
+  many = rows_count p columns table ws typed a;
+  rows = record { columns_are = refl; few = a.few; right = a.right; words_are = a.words_are };
+}
+
+pub run_size_is : (p : ProgramTree) (slowdown : ℕ) (costs : OwnCosts) (columns : ℕ) (table : List (List (List ℕ))) (ws : List ℕ) (latency clocks outs : ℕ) → IsTyped p → AreRows p columns table ws
+    → latency ≡ costs.latency → clocks ≡ clock_count slowdown latency (length ws / columns) → outs ≡ output_count p slowdown → clocks * (1 + outs) ≡ run_size p slowdown costs.latency table
+run_size_is p slowdown costs columns table ws latency clocks outs typed a el ec eo =
+    let all : clocks ≡ clock_count slowdown costs.latency (length table) = ec ∙ (λ i. clock_count slowdown (el i) (rows_count p columns table ws typed a i)) in
+    λ i. all i * (1 + eo i)
+
+pub run_too_long : (fill : ℕ) (p : ProgramTree) (slowdown : ℕ) (instances : List StFuncTree) (columns : ℕ) (table : List (List (List ℕ))) (ws : List ℕ) (size : ℕ) (status : Status) (text : List ℕ) → AreRows p columns table ws
+    → size ≡ run_size p slowdown (main_costs instances).latency table → run_limit < size → status ≡ LongRun size → text ≡ refusal_line (LongRun size) → IsRunOf fill p slowdown instances table status text
+run_too_long fill p slowdown instances columns table ws size status text a es lt st te =
+    let here : IsRunOf fill p slowdown instances table (LongRun size) text = (a.right, lt, es, te) in
+    subst (λ (x : Status). IsRunOf fill p slowdown instances table x text) (sym st) here

@@ -1,0 +1,95 @@
+-- The lines of a run are those of the module on the blocks of the rows.
+use Rattle.std.proofs.Common.{◌≡◌, ℕ, zero, suc, ◌+◌, List, [], ◌∷◌, ◌++◌, length, map, take, drop, Some, slice_get, refl, ap, sym, ◌∙◌, subst}
+use Rattle.std.proofs.lemmas.List.{length-map}
+use Rattle.std.proofs.lemmas.Option.{same_Some, slice_get_within}
+use Rattle.ae_word.specs.AtomTree.{WordKind}
+use Rattle.ae_seqtype.specs.SeqTree.{SeqTree, words}
+use Rattle.ae_seqtype.specs.ValueTree.{ValueTree, cut, flat}
+use Rattle.ae_seqtype.proofs.Stands.{length-FitKinds}
+use Rattle.ae_sttype.specs.StTree.{StTree}
+use Rattle.ae_seq.specs.ProgramTree.{ProgramTree}
+use Rattle.ae_parse.specs.Rows.{row_words, words_in}
+use Rattle.ae_eval.specs.Stack.{FitIn, IsTyped, kinds_of}
+use Rattle.ae_eval.specs.Lines.{input_types}
+use Rattle.ae_eval.proofs.Items.{drop-at}
+use Rattle.ae_flow.specs.Laws.{AreValues}
+use Rattle.ae_flow.proofs.MeaningLayouts.{AllLaidOut}
+use Rattle.ae_play.specs.Fed.{size_of}
+use Rattle.ae_play.specs.Fed as fed
+use Rattle.ae_correct.specs.Correct.{parameter_types}
+use Rattle.ae_tool.specs.EvalRows.{AreRows, AreBlocks}
+use Rattle.ae_tool.specs.Inputs.{widths_of, values_of, blocks_of}
+use Rattle.std.specs.Prelude.{codes}
+use Rattle.ae_netlist.specs.Circuit.{Circuit}
+use Rattle.ae_vread.specs.ModuleTree.{ModuleTree}
+use Rattle.ae_vread.specs.Spells.{Spells}
+use Rattle.ae_verilog.specs.NetlistModule.{netlist_module}
+use Rattle.ae_rewrite.specs.StProgramTree.{StFuncTree}
+use Rattle.ae_lower.specs.Circuits.{last_of}
+use Rattle.ae_correct.specs.ClockTexts.{IsClockText}
+use Rattle.ae_tool.specs.Building.{IsModuleText, main_costs, result_layouts}
+use Rattle.ae_tool.specs.RunTexts.{IsRunText, input_widths}
+use Rattle.ae_tool.proofs.EvalTypes.{has_columns, same_parameters}
+use Rattle.ae_tool.proofs.EvalSteps.{first_fits, next_row}
+use Rattle.ae_tool.proofs.Played.{cut_rows, size_laid, values_laid}
+
+-- ---- rows
+
+pub row_fits : (p : ProgramTree) (columns : ℕ) (table : List (List (List ℕ))) (ws : List ℕ) (k : ℕ) (r : List (List ℕ)) → IsTyped p → AreRows p columns table ws → slice_get table k ≡ Some r → FitIn (input_types p) (row_words r)
+row_fits p columns table ws k r typed a e =
+    let n = next_row p columns table k ws (words_in (drop k table)) typed a (slice_get_within table k r e) refl in
+    let split : r ∷ drop (k + 1) table ≡ n.row ∷ drop (k + 1) table = sym (drop-at table k r e) ∙ n.table_is in
+    let same : n.row ≡ r = cc in
+    subst (λ (x : List (List ℕ)). FitIn (input_types p) (row_words x)) same n.fits
+
+pub row_long : (p : ProgramTree) (columns : ℕ) (table : List (List (List ℕ))) (ws : List ℕ) (k : ℕ) (r : List (List ℕ)) → IsTyped p → AreRows p columns table ws → slice_get table k ≡ Some r → length (row_words r) ≡ length (input_widths p)
+row_long p columns table ws k r typed a e =
+    length-FitKinds (row_words r) (kinds_of (input_types p)) (row_fits p columns table ws k r typed a e) ∙ sym (ap length (has_columns p typed).kinds_are ∙ length-map (kinds_of (input_types p)) (λ (w : WordKind). w.width))
+
+values_there : (ts : List SeqTree) (ws : List ℕ) → FitIn ts ws → AreValues ts (values_of ts ws)
+values_there [] ws h = tt
+values_there (t ∷ ts) ws h = let f = first_fits t ts ws h in ((take (words t) ws, record { fits = f.first; value = refl }), values_there ts (drop (words t) ws) f.later)
+
+block_at : (ts : List SeqTree) (table : List (List (List ℕ))) (b : ℕ) (block : List ValueTree) → ((k : ℕ) (r : List (List ℕ)) → slice_get table k ≡ Some r → FitIn ts (row_words r)) → slice_get (blocks_of ts table) b ≡ Some block → AreValues ts block
+block_at ts [] b block each e = cc
+block_at ts (r ∷ rs) zero block each e = let same : values_of ts (row_words r) ≡ block = cc in subst (AreValues ts) same (values_there ts (row_words r) (each 0 r refl))
+block_at ts (r ∷ rs) (suc b) block each e = block_at ts rs b block (λ k x g. each (suc k) x g) e
+
+-- each block of the rows has a value of each parameter's type
+pub blocks_values : (p : ProgramTree) (blocks : ℕ) (table : List (List (List ℕ))) (ws : List ℕ) → IsTyped p → AreBlocks p blocks table ws → (b : ℕ) (block : List ValueTree) → slice_get (blocks_of (parameter_types p) table) b ≡ Some block → AreValues (input_types p) block
+blocks_values p blocks table ws typed a b block e =
+    let here : slice_get (blocks_of (input_types p) table) b ≡ Some block = ap (λ ts. slice_get (blocks_of ts table) b) (sym (same_parameters p)) ∙ e in
+    block_at (input_types p) table b block (λ k r g. row_fits p (length (input_widths p)) table ws k r typed a.rows g) here
+
+each_block : (ts : List SeqTree) (ss : List StTree) (table : List (List (List ℕ))) → AllLaidOut ts ss → ((k : ℕ) (r : List (List ℕ)) → slice_get table k ≡ Some r → length (row_words r) ≡ length (widths_of ts))
+    → map (fed.values_of ss) (map row_words table) ≡ map (map flat) (blocks_of ts table)
+each_block ts ss [] h each = refl
+each_block ts ss (r ∷ rs) h each = λ i. values_laid ts ss (row_words r) h (each 0 r refl) i ∷ each_block ts ss rs h (λ k x e. each (suc k) x e) i
+
+-- the words that a circuit takes are those of the blocks
+pub blocks_words : (p : ProgramTree) (ss : List StTree) (blocks : ℕ) (table : List (List (List ℕ))) (ws : List ℕ) → IsTyped p → AllLaidOut (parameter_types p) ss → AreBlocks p blocks table ws
+    → fed.blocks_of ss blocks ws ≡ map (map flat) (blocks_of (parameter_types p) table)
+blocks_words p ss blocks table ws typed laid a =
+    let each : (k : ℕ) (r : List (List ℕ)) → slice_get table k ≡ Some r → length (row_words r) ≡ length (input_widths p) = λ k r e. row_long p (length (input_widths p)) table ws k r typed a.rows e in
+    (λ i. map (fed.values_of ss) (cut (a.many i) (size_laid (parameter_types p) ss laid i) (a.rows.words_are i)))
+    ∙ ap (map (fed.values_of ss)) (cut_rows (length (input_widths p)) table each)
+    ∙ each_block (parameter_types p) ss table laid each
+
+-- ---- the whole text
+
+pub run_text_is : (fill : ℕ) (p : ProgramTree) (slowdown : ℕ) (instances : List StFuncTree) (table : List (List (List ℕ))) (s : StFuncTree) (n : Circuit) (built clocks text : List ℕ) → slice_get instances (last_of instances) ≡ Some s
+    → IsModuleText p slowdown instances built → Spells built (netlist_module n.cells n.outlets (length s.results))
+    → IsClockText (netlist_module n.cells n.outlets (length s.results)) slowdown (main_costs instances).latency fill s.ins (result_layouts s) (blocks_of (parameter_types p) table) clocks
+    → text ≡ (built ++ codes "%% clocks\n") ++ clocks → IsRunText fill p slowdown instances table text
+run_text_is fill p slowdown instances table s n built clocks text found m spells shown is =
+    let tree : netlist_module n.cells n.outlets (length s.results) ≡ m.tree = m.only (netlist_module n.cells n.outlets (length s.results)) spells in
+    let same : s ≡ m.instance = same_Some s m.instance (sym found ∙ m.last) in
+    let blocks = blocks_of (parameter_types p) table in
+    let here : IsClockText m.tree slowdown (main_costs instances).latency fill s.ins (result_layouts s) blocks clocks = subst (λ (x : ModuleTree). IsClockText x slowdown (main_costs instances).latency fill s.ins (result_layouts s) blocks clocks) tree shown in
+    record {
+      built = built;
+      module_text = m;
+      clocks = clocks;
+      shown = subst (λ (x : StFuncTree). IsClockText m.tree slowdown (main_costs instances).latency fill x.ins (result_layouts x) blocks clocks) same here;
+      is = is;
+    }

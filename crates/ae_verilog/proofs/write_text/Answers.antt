@@ -1,0 +1,7 @@
+use Rattle.ae_verilog.proofs.Steps.{text_steps}
+use Rattle.ae_verilog.proofs.write_text.Goals as goal
+
+pub returns-clause-text : goal.returns-clause-text
+returns-clause-text c =
+    text_steps _ c.args.cells.now c.args.outlets.now c.args.outs _ _ _ _ _ _ _ _ c.new-out.ensures.bytes c.in_ok-write_report.ensures c.in_ok-write.ensures.bytes c.in_ok-write_header.ensures.text
+    c.in_ok-write_cells.ensures c.in_ok-write_outlets.ensures c.in_ok-write_edges.ensures c.in_ok-write-2.ensures.bytes
