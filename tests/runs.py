@@ -67,4 +67,5 @@ def main():
     print(f"runs: {runs} runs show the results of eval")
 
 
-sys.exit(main())
+if __name__ == "__main__":
+    sys.exit(main())
