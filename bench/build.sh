@@ -5,6 +5,7 @@
 # seconds are those of `./aeth` itself, which looks whether the program is the one of these sources.
 set -eu
 cd "$(dirname "$0")/.."
+. bench/timed.sh
 dir=$(mktemp -d)
 trap 'rm -rf -- "$dir"' EXIT
 python3 - "$dir" <<'PY'
@@ -33,16 +34,12 @@ end g
 %%""".split("\n")
 write("blur", blur + [" ".join(str((k * 7 + row) % 65536) for k in range(1920)) for row in range(100)])
 PY
-timed() {
+told() {
   local name=$1
   shift
   echo "$* on $name"
-  if command -v /usr/bin/time >/dev/null 2>&1; then
-    /usr/bin/time -f '%e seconds, %M KiB at most' ./aeth "$@" <"$dir/$name" | wc -c | awk '{ print $1, "bytes" }'
-  else
-    time (./aeth "$@" <"$dir/$name" | wc -c)
-  fi
+  timed ./aeth "$@" <"$dir/$name" | wc -c | awk '{ print $1, "bytes" }'
 }
-timed squares build 1
-timed moves build 4
-timed blur run 480 0
+told squares build 1
+told moves build 4
+told blur run 480 0

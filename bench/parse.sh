@@ -2,6 +2,7 @@
 # Times `check` on a text of about 16 MiB: many lines that say little, as 4,096 of them may say something.
 set -eu
 cd "$(dirname "$0")/.."
+. bench/timed.sh
 text=$(mktemp)
 trap 'rm -f -- "$text"' EXIT
 python3 - "$text" <<'PY'
@@ -13,8 +14,4 @@ lines.append("end a")
 open(sys.argv[1], "w").write("\n".join(lines) + "\n")
 PY
 ls -l "$text" | awk '{ print $5, "bytes" }'
-if command -v /usr/bin/time >/dev/null 2>&1; then
-  /usr/bin/time -f '%e seconds, %M KiB at most' ./aeth check <"$text" >/dev/null
-else
-  time ./aeth check <"$text" >/dev/null
-fi
+timed ./aeth check <"$text" >/dev/null

@@ -6,6 +6,7 @@
 # which looks whether the program is the one of these sources.
 set -eu
 cd "$(dirname "$0")/.."
+. bench/timed.sh
 dir=$(mktemp -d)
 trap 'rm -rf -- "$dir"' EXIT
 python3 - "$dir" <<'PY'
@@ -23,15 +24,11 @@ for k in range(1, 1000):
 write("chain", chain)
 write("plain", open("examples/blur.aeth").read().split("\n"))
 PY
-timed() {
+told() {
   echo "plan $1 on $2"
-  if command -v /usr/bin/time >/dev/null 2>&1; then
-    /usr/bin/time -f '%e seconds, %M KiB at most' ./aeth plan "$1" <"$dir/$2" | head -n 4 || true
-  else
-    time (./aeth plan "$1" <"$dir/$2" | head -n 4) || true
-  fi
+  timed ./aeth plan "$1" <"$dir/$2" | head -n 4 || true
 }
-timed 4096 moves
-timed 1 moves
-timed 1 chain
-timed 4 plain
+told 4096 moves
+told 1 moves
+told 1 chain
+told 4 plain
