@@ -25,3 +25,4 @@ pub mod BodyLaw
 pub mod Costing
 pub mod Instances
 pub mod Ending
+pub mod Tidied

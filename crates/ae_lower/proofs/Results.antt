@@ -32,11 +32,11 @@ use Rattle.ae_lower.proofs.Wiring.{in_row}
 
 -- ---- waves that agree on so many columns
 
-abbrev AgreesOn : (columns : ℕ) → (wave other : Wave) → Type 0
+abbrev pub AgreesOn : (columns : ℕ) → (wave other : Wave) → Type 0
 AgreesOn n wave other = (c q : ℕ) → q < n → other c q ≡ wave c q
 
 -- the words of a value stand on the columns of its layout
-holds_same : (t : StTree) → HasLengths t → (k : ℕ) (wave other : Wave) (ws : List ℕ) → AgreesOn (length (stream_widths (stream_of t))) wave other → HoldsWords k (stream_of t) wave ws → HoldsWords k (stream_of t) other ws
+pub holds_same : (t : StTree) → HasLengths t → (k : ℕ) (wave other : Wave) (ws : List ℕ) → AgreesOn (length (stream_widths (stream_of t))) wave other → HoldsWords k (stream_of t) wave ws → HoldsWords k (stream_of t) other ws
 holds_same t h k wave other ws same holds e j w at lt =
     let size : ℕ = length (stream_of t).widths in
     let stands = stands_from_get t e w.clock w.lane at in

@@ -1,6 +1,6 @@
 // Instances: each call is lowered where it stands.
 
-ghost use Rattle.std.specs.Prelude.{◌≡◌, ◌≢◌, ◌≤◌, ◌<◌, ◌+◌, ◌*◌, ℕ, List, length, map, take, IfOk, OnOk, Some, Err, slice_get, slice_index};
+ghost use Rattle.std.specs.Prelude.{◌≡◌, ◌≢◌, ◌≤◌, ◌<◌, ◌+◌, ◌*◌, ◌++◌, ◌∷◌, [], ℕ, List, length, map, take, IfOk, OnOk, Some, Err, slice_get, slice_index};
 ghost use Rattle.ae_netlist.specs.declared.cell.NetId.{NetId as Net};
 ghost use Rattle.ae_clocked.specs.Signals.{IsFullAt};
 ghost use Rattle.ae_clocked.specs.Phases.{Belongs, KeepsCounters};
@@ -11,6 +11,7 @@ ghost use Rattle.ae_flow.specs.Flow.{callees};
 ghost use Rattle.ae_flow.specs.Fitted.{elements_stream, streams_of};
 ghost use Rattle.ae_lower.specs.Growth.{Adds, GrowsBy, IsBuilt};
 ghost use Rattle.ae_lower.specs.Lowering.{AreChosen, AreItems, AreStanding, IsItem, IsLight, IsNodeAt, IsTimed, arrivals_in, bodies_part, instance_costs, lane_nets};
+ghost use Rattle.ae_tidy.specs.Places.{AreMarks};
 
 use crate::items::joined;
 use crate::nodes::build;
@@ -24,7 +25,7 @@ use ae_rewrite::{StFunc, StOp, StProgram};
 use std::alloc::Global;
 
 // Instance number k.
-fn instance(p: &StProgram, k: u32) -> &StFunc
+pub fn instance(p: &StProgram, k: u32) -> &StFunc
     requires { k < length p.now }
     ensures { slice_get p.now k ≡ Some result.now }
 {
@@ -90,7 +91,26 @@ fn lane_of(
     Ok(all)
 }
 
-/// The results of instance `k` on bundles whose block 0 begins in clock `at` after reset, all as late as the latest.
+// One item more, and the number of cells before it.
+fn keep_item(
+    items: &mut Vec<Bundle>,
+    marks: &mut Vec<u32>,
+    made: Bundle,
+    mark: u32,
+) -> Result<(), NetFault>
+    ensures ok { OnOk result (items.new.items ≡ items.old.items ++ made ∷ []) }
+    ensures marked { OnOk result (marks.new.items ≡ marks.old.items ++ mark ∷ []) }
+    ensures fault { result ≢ Err NetFault.Full }
+{
+    keep_bundle(items, made)?;
+    match marks.push(mark) {
+        Ok(()) => Ok(()),
+        Err(_) => Err(NetFault::Memory),
+    }
+}
+
+/// The results of instance `k` on bundles whose block 0 begins in clock `at` after reset, all as late as the latest. The
+/// number of cells before each of its nodes is put behind the marks.
 #[cycle(lowering)]
 pub fn lower_instance(
     alloc: Global,
@@ -101,6 +121,7 @@ pub fn lower_instance(
     k: u32,
     ins: &[Bundle],
     at: u32,
+    marks: &mut Vec<u32>,
 ) -> Result<Vec<Bundle>, NetFault>
     requires belongs { Belongs clocks.old nl.old.cells }
     requires timed { IsTimed (st_func_trees p.now) a.now.arrivals }
@@ -112,13 +133,15 @@ pub fn lower_instance(
     ensures adds { OnOk result (Adds nl.old nl.new (instance_costs (st_func_trees p.now) k).muls (instance_costs (st_func_trees p.now) k).mems) }
     ensures full { IsFullAt result nl.new }
     ensures results { IfOk result (λ v. (s : Tree) → slice_get (st_func_trees p.now) k ≡ Some s → AreChosen nl.new.cells clocks.old.rst at (callees (take k (st_func_trees p.now))) s ins.now (instance_costs (st_func_trees p.now) k).latency s.results v.items) }
+    ensures marks { OnOk result ((s : Tree) (count : ℕ) → slice_get (st_func_trees p.now) k ≡ Some s → AreMarks (length nl.old.cells) count marks.old.items → AreMarks (length nl.new.cells) (count + length s.nodes) marks.new.items) }
 {
     let s = instance(p, k);
     let arrivals = arrivals_of(a, k);
     let mut items = all_copied(alloc, ins)?;
     for j in 0..s.nodes.len() {
+        let mark = nl.len();
         let made = lower_node(alloc, nl, clocks, p, a, k, j, &items, at)?;
-        keep_bundle(&mut items, made)?;
+        keep_item(&mut items, marks, made, mark)?;
     }
     let end = latest(arrivals, &s.results);
     joined(alloc, nl, clocks, &items, arrivals, end, &s.results)
@@ -195,7 +218,8 @@ fn lower_bodies(
     let mut out = Vec::new(alloc);
     for lane in 0..copies {
         let own = lane_of(alloc, args, copies, lane)?;
-        let results = lower_instance(alloc, nl, clocks, p, a, m, &own, at)?;
+        let mut inner = Vec::new(alloc);
+        let results = lower_instance(alloc, nl, clocks, p, a, m, &own, at, &mut inner)?;
         add(&mut out, results[0].nets())?;
     }
     Ok(Bundle::new(out))

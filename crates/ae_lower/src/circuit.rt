@@ -1,40 +1,42 @@
 // The whole circuit.
 
-ghost use Rattle.std.specs.Prelude.{ℕ, Some, slice_get, IfOk, length, ◌≡◌, ◌<◌};
+ghost use Rattle.std.specs.Prelude.{Some, slice_get, IfOk, length, ◌≡◌};
 ghost use Rattle.ae_rewrite.specs.StProgramTree.{StFuncTree as Tree, st_func_trees};
 ghost use Rattle.ae_delay.specs.Timings.{AreTimes};
 ghost use Rattle.ae_flow.specs.Fitted.{AreFitted};
 ghost use Rattle.ae_lower.specs.Circuits.{IsCircuitOf, last_of};
+ghost use Rattle.ae_tidy.specs.Places.{AreMarks};
 
-use crate::calls::lower_instance;
+use crate::calls::{instance, lower_instance};
 use crate::ports::{add_input, add_inputs, add_results};
 use ae_clocked::Clocks;
 use ae_delay::Timing;
 use ae_netlist::{Netlist, Port};
-use ae_rewrite::{StFunc, StProgram};
+use ae_rewrite::StProgram;
+use ae_tidy::tidy;
 use std::alloc::{AllocError, Global};
 
 /// More cells than a circuit takes: 16 for each unit of the greatest load, the reset, and the words of the parameters.
 const MOST_CELLS: u32 = 2_000_000;
 
-/// Instance number `k`.
-fn instance(p: &StProgram, k: u32) -> &StFunc
-    requires { k < length p.now }
-    ensures { slice_get p.now k ≡ Some result.now }
-{
-    match p.instance(k) {
-        Some(s) => s,
-        None => unreachable!(),
-    }
+/// The circuit of a program, and where the cells of its lines begin.
+#[derive(Drop)]
+pub struct Lowered {
+    pub netlist: Netlist,
+    /// For each node of the program function the number of cells before its own.
+    pub marks: Vec<u32>,
 }
 
 /// The circuit of a program, by its timing: the reset and the words of the parameters go in, and in every reset run each
 /// block of them makes the words of the results come out, the latency later. It has at most 16 cells for each unit of the
-/// load, one for the reset and one for each word of the parameters. The error comes only for want of memory.
-pub fn lower(alloc: Global, p: &StProgram, a: &Timing) -> Result<Netlist, AllocError>
+/// load, one for the reset and one for each word of the parameters, and none that no output or product needs, but the
+/// inputs. The marks tell where the cells of each node of the program function begin. The error comes only for want of
+/// memory.
+pub fn lower(alloc: Global, p: &StProgram, a: &Timing) -> Result<Lowered, AllocError>
     requires fitted { AreFitted (st_func_trees p.now) }
     requires times { AreTimes (st_func_trees p.now) a.now }
-    ensures { IfOk result (λ n. (s : Tree) → slice_get (st_func_trees p.now) (last_of (st_func_trees p.now)) ≡ Some s → IsCircuitOf (st_func_trees p.now) s n) }
+    ensures circuit { IfOk result (λ l. (s : Tree) → slice_get (st_func_trees p.now) (last_of (st_func_trees p.now)) ≡ Some s → IsCircuitOf (st_func_trees p.now) s l.netlist) }
+    ensures marks { IfOk result (λ l. (s : Tree) → slice_get (st_func_trees p.now) (last_of (st_func_trees p.now)) ≡ Some s → AreMarks (length l.netlist.cells) (length s.nodes) l.marks.items) }
 {
     let last = p.count() - 1;
     let s = instance(p, last);
@@ -43,11 +45,26 @@ pub fn lower(alloc: Global, p: &StProgram, a: &Timing) -> Result<Netlist, AllocE
     let rst = add_input(&mut nl, 1, Port::Reset)?;
     let ins = add_inputs(alloc, &mut nl, &s.ins)?;
     let mut clocks = Clocks::new(alloc, rst);
-    let results = match lower_instance(alloc, &mut nl, &mut clocks, p, a, last, &ins, 0) {
+    let mut marks = Vec::new(alloc);
+    let results = match lower_instance(
+        alloc,
+        &mut nl,
+        &mut clocks,
+        p,
+        a,
+        last,
+        &ins,
+        0,
+        &mut marks,
+    ) {
         Ok(results) => results,
         Err(_) => return Err(AllocError),
     };
     add_results(&mut nl, s, &results)?;
     nl.formed();
-    Ok(nl)
+    let tidied = tidy(alloc, nl, marks)?;
+    Ok(Lowered {
+        netlist: tidied.netlist,
+        marks: tidied.marks,
+    })
 }

@@ -12,4 +12,4 @@ mod stages;
 mod tests;
 mod wires;
 
-pub use circuit::lower;
+pub use circuit::{Lowered, lower};

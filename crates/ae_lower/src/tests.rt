@@ -3,7 +3,7 @@
 ghost use Rattle.std.specs.Prelude.{◌≡◌, ◌<◌, ◌≤◌, ◌^◌, IsTrue, length};
 ghost use Rattle.ae_netlist.specs.Rows.{AreInputs};
 
-use crate::lower;
+use crate::{Lowered, lower};
 use ae_delay::arrivals;
 use ae_flow::schedules_fit;
 use ae_netlist::Netlist;
@@ -93,13 +93,13 @@ fn sum_and_doubles(alloc: Global) -> Result<Vec<Func>, AllocError> {
     Ok(funcs)
 }
 
-// The circuit of a program under a slowdown, and its latency.
+// The circuit of a program under a slowdown with its marks, and its latency.
 fn circuit_of(
     rt: &impl Abort,
     alloc: Global,
     funcs: Vec<Func>,
     slowdown: u32,
-) -> Result<(Netlist, u32), Fail>
+) -> Result<(Lowered, u32), Fail>
     requires some { 0 < slowdown }
     requires limit { slowdown ≤ 4096 }
 {
@@ -110,7 +110,8 @@ fn circuit_of(
     let s = schedule(alloc, &typed, slowdown)?;
     let a = arrivals(alloc, &s)?;
     schedules_fit();
-    Ok((lower(alloc, &s, &a)?, a.latency()))
+    let lowered = lower(alloc, &s, &a)?;
+    Ok((lowered, a.latency()))
 }
 
 // Whether a row has one word for each input, each below two to its width.
@@ -202,9 +203,9 @@ fn one_is_added_to_each_of_four_bytes(rt: HostRuntime) -> Result<(), Fail> {
     let alloc = rt.alloc();
     let words = [1, 2, 3, 255, 10, 20, 30, 40];
     for (slowdown, lanes, clocks) in [(1, 4, 2), (2, 2, 4), (4, 1, 8)] {
-        let (nl, latency) = circuit_of(&rt, alloc, increments(alloc)?, slowdown)?;
+        let (lowered, latency) = circuit_of(&rt, alloc, increments(alloc)?, slowdown)?;
         assert_eq!(rt; latency, 1, "in {slowdown}");
-        let seen = played(&rt, alloc, &nl, lanes, &words, 1, clocks)?;
+        let seen = played(&rt, alloc, &lowered.netlist, lanes, &words, 1, clocks)?;
         assert_eq!(rt;
             seen.as_slice(),
             [2, 3, 4, 0, 11, 21, 31, 41].as_slice(),
@@ -220,16 +221,18 @@ fn one_is_added_to_each_of_four_bytes(rt: HostRuntime) -> Result<(), Fail> {
 fn doubles_come_together_with_the_sum(rt: HostRuntime) -> Result<(), Fail> {
     let alloc = rt.alloc();
     let words = [1, 2, 3, 255, 10, 20, 30, 40];
-    let (nl, latency) = circuit_of(&rt, alloc, sum_and_doubles(alloc)?, 1)?;
+    let (lowered, latency) = circuit_of(&rt, alloc, sum_and_doubles(alloc)?, 1)?;
     assert_eq!(rt; latency, 2);
-    let seen = played(&rt, alloc, &nl, 4, &words, 2, 2)?;
+    assert_eq!(rt; lowered.marks.len(), 2);
+    assert!(rt; lowered.marks[0] == 5 && 8 <= lowered.marks[1]);
+    let seen = played(&rt, alloc, &lowered.netlist, 4, &words, 2, 2)?;
     assert_eq!(rt;
         seen.as_slice(),
         [5, 2, 4, 6, 254, 100, 20, 40, 60, 80].as_slice()
     );
-    let (nl, latency) = circuit_of(&rt, alloc, sum_and_doubles(alloc)?, 2)?;
+    let (lowered, latency) = circuit_of(&rt, alloc, sum_and_doubles(alloc)?, 2)?;
     assert_eq!(rt; latency, 3);
-    let seen = played(&rt, alloc, &nl, 2, &words, 3, 4)?;
+    let seen = played(&rt, alloc, &lowered.netlist, 2, &words, 3, 4)?;
     assert_eq!(rt; seen.len(), 12);
     for (k, word) in [
         (0, 5),

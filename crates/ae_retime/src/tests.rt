@@ -3,10 +3,12 @@
 ghost use Rattle.std.specs.Prelude.{◌<◌, ◌≤◌};
 
 use crate::{Slacks, matching};
-use ae_delay::{Cost, DelayFault, Timing, arrivals};
-use ae_rewrite::{StProgram, schedule};
+use ae_delay::{Cost, DelayFault, Timing, arrivals, arrivals_within, origins};
+use ae_moves::Origin;
+use ae_rewrite::{MoveOp, StProgram, schedule};
 use ae_seq::{Func, Node, Op, Param, Program, check};
 use ae_seqtype::SeqType;
+use ae_sttype::StType;
 use ae_word::{Atom, WordOp};
 use std::alloc::{AllocError, Global};
 use std::process::Abort;
@@ -230,5 +232,143 @@ fn a_load_past_the_limit_has_its_line(rt: HostRuntime) -> Result<(), Fail> {
         Err(DelayFault::Large { line, load }) => assert_eq!(rt; (line, load), (13, 110601)),
         _ => assert!(rt; false),
     }
+    Ok(())
+}
+
+// On lines 1 to 3 the square of a byte and its double, both results on the end line: loads 3 and 2, and 1 for the wait of
+// the double.
+fn squared_and_doubled(rt: &impl Abort, alloc: Global) -> Result<StProgram, Fail> {
+    let mut nodes = Vec::new(alloc);
+    node(alloc, &mut nodes, Op::Word(WordOp::Mul), &[0, 0], 2)?;
+    node(alloc, &mut nodes, Op::Word(WordOp::Add), &[0, 0], 3)?;
+    let mut funcs = Vec::new(alloc);
+    funcs.push(func(alloc, "main", byte(), nodes, &[1, 2], 1)?)?;
+    let p = Program { version: 2, funcs };
+    assert!(rt; p.formed());
+    Ok(schedule(alloc, &check(alloc, p)?, 1)?)
+}
+
+#[test]
+fn names_the_line_that_passes_the_limit(rt: HostRuntime) -> Result<(), Fail> {
+    let p = squared_and_doubled(&rt, rt.alloc())?;
+    for (limit, over, sum) in [(0, 2, 3), (2, 2, 3), (3, 3, 5), (4, 3, 5), (5, 4096, 6)] {
+        match arrivals_within(rt.alloc(), &p, limit) {
+            Err(DelayFault::Large { line, load }) => {
+                assert_eq!(rt; line, over, "{limit}");
+                assert_eq!(rt; load, sum, "{limit}");
+            }
+            _ => assert!(rt; false, "{limit}"),
+        }
+    }
+    Ok(())
+}
+
+#[test]
+fn takes_a_load_at_the_limit(rt: HostRuntime) -> Result<(), Fail> {
+    let p = squared_and_doubled(&rt, rt.alloc())?;
+    for limit in [6, 7, 100_000] {
+        let timing = arrivals_within(rt.alloc(), &p, limit)?;
+        assert_eq!(rt; timing.load(), 6);
+        assert_eq!(rt; timing.latency(), 2);
+        assert_eq!(rt; timing.muls(), 1);
+        assert_eq!(rt; timing.arrivals(0), Some([0, 2, 1].as_slice()));
+    }
+    Ok(())
+}
+
+// Bytes in so many clocks on so many lanes.
+fn bytes(alloc: Global, n: u32, lanes: u32) -> Result<StType, AllocError> {
+    let of = Box::new(alloc, StType::Atom(Atom::Word(8)))?;
+    let of = Box::new(alloc, StType::S { n: lanes, of })?;
+    Ok(StType::T { n, i: 0, of })
+}
+
+fn word(element: u32, word: u32) -> Origin {
+    Origin::Word {
+        input: 0,
+        element,
+        word,
+    }
+}
+
+#[test]
+fn a_shift_begins_with_zeros(rt: HostRuntime) -> Result<(), Fail> {
+    let first = Box::new(rt.alloc(), Atom::Word(8))?;
+    let second = Box::new(rt.alloc(), Atom::Word(4))?;
+    let of = Box::new(rt.alloc(), StType::Atom(Atom::Pair(first, second)))?;
+    let pairs = StType::S { n: 3, of };
+    assert!(rt; pairs.in_size());
+    let count = pairs.atoms();
+    assert!(rt; 1 <= count);
+    assert_eq!(rt;
+        origins(rt.alloc(), MoveOp::Shift(1), &pairs, &pairs)?.as_slice(),
+        [
+            Origin::Fixed(0),
+            Origin::Fixed(0),
+            word(0, 0),
+            word(0, 1),
+            word(1, 0),
+            word(1, 1)
+        ]
+        .as_slice()
+    );
+    Ok(())
+}
+
+#[test]
+fn copies_come_one_after_another(rt: HostRuntime) -> Result<(), Fail> {
+    let arg = bytes(rt.alloc(), 1, 2)?;
+    let out = bytes(rt.alloc(), 3, 2)?;
+    assert!(rt; arg.in_size());
+    assert!(rt; out.in_size());
+    let few = arg.atoms();
+    let all = out.atoms();
+    assert!(rt; few <= 4096);
+    assert!(rt; all == 3 * few);
+    assert_eq!(rt;
+        origins(rt.alloc(), MoveOp::Up(3), &arg, &out)?.as_slice(),
+        [
+            word(0, 0),
+            word(1, 0),
+            word(0, 0),
+            word(1, 0),
+            word(0, 0),
+            word(1, 0)
+        ]
+        .as_slice()
+    );
+    Ok(())
+}
+
+#[test]
+fn a_part_is_counted_in_parts(rt: HostRuntime) -> Result<(), Fail> {
+    let arg = bytes(rt.alloc(), 3, 2)?;
+    let out = bytes(rt.alloc(), 1, 2)?;
+    assert!(rt; arg.in_size());
+    assert!(rt; out.in_size());
+    let all = arg.atoms();
+    let part = out.atoms();
+    assert!(rt; part <= 4096);
+    assert!(rt; 2 * part + part <= all);
+    assert_eq!(rt;
+        origins(rt.alloc(), MoveOp::Select(2), &arg, &out)?.as_slice(),
+        [word(4, 0), word(5, 0)].as_slice()
+    );
+    Ok(())
+}
+
+#[test]
+fn other_lanes_keep_the_elements(rt: HostRuntime) -> Result<(), Fail> {
+    let arg = bytes(rt.alloc(), 2, 2)?;
+    let out = bytes(rt.alloc(), 1, 4)?;
+    assert!(rt; arg.in_size());
+    assert!(rt; out.in_size());
+    let all = arg.atoms();
+    let same = out.atoms();
+    assert!(rt; all == same);
+    assert_eq!(rt;
+        origins(rt.alloc(), MoveOp::Same, &arg, &out)?.as_slice(),
+        [word(0, 0), word(1, 0), word(2, 0), word(3, 0)].as_slice()
+    );
     Ok(())
 }

@@ -1,4 +1,4 @@
--- The report lines are comments: no token stands in them.
+-- The report lines and the notes are comments: no token stands in them.
 use Rattle.std.proofs.Common.{◌≡◌, ℕ, zero, suc, ◌+◌, ◌/◌, ◌%◌, ◌<◌, List, [], ◌∷◌, ◌++◌, length, Bool, true, false, refl, sym, ap, ◌∙◌, subst, arith, append_assoc}
 use Rattle.std.specs.Prelude.{not, ◌&&◌, ◌==◌, codes, decimal, if◌then◌else◌}
 use Rattle.std.specs.Fmt.{digits, digits_onto, digit_glyph}
@@ -12,6 +12,7 @@ use Rattle.ae_sttype.specs.StTree.{StTree, atom, tseq, sseq}
 use Rattle.ae_sttype.specs.TypeText.{st_text}
 use Rattle.ae_vread.specs.Tokens.{after_gap, Between, InLine}
 use Rattle.ae_verilog.specs.NetlistModule.{listed}
+use Rattle.ae_verilog.specs.Notes.{NoteTree, note_line, is_printed}
 use Rattle.ae_verilog.specs.ReportLines.{ReportTree, number_line, in_line, out_line, report_lines, is_clean}
 use Rattle.ae_verilog.proofs.Pieces.{clean_both, clean_from}
 use Rattle.ae_verilog.proofs.Lines.{IsTextOf, no_text, both_texts, skip}
@@ -119,6 +120,32 @@ out_comment outs k t = choose (outs == 1)
 listed_comments : (f : ℕ → StTree → List ℕ) (k : ℕ) (ts : List StTree) → ((j : ℕ) (t : StTree) → IsTextOf (f j t) []) → IsTextOf (listed f k ts) []
 listed_comments f k [] each = no_text
 listed_comments f k (t ∷ ts) each = both_texts (f k t) (listed f (k + 1) ts) [] [] (each k t) (listed_comments f (k + 1) ts each)
+
+-- lines within the module
+
+-- a comment behind two blanks
+indented_line : (text : List ℕ) → IsInner text → IsTextOf (codes "  //" ++ (text ++ codes "\n")) []
+indented_line text h = both_texts (codes "  ") (codes "//" ++ (text ++ codes "\n")) [] [] blanks (comment_line text h)
+  where
+    blanks : IsTextOf (codes "  ") []
+    blanks = record { tokens = λ rest us later. skip _ rest us refl later; clean = record { all = refl } }
+
+printed_inner : (b : ℕ) → is_printed b ≡ true → is_inner b ≡ true
+printed_inner b h = grind (arith, nat_tests)
+
+name_inner : (name : List ℕ) → list_all is_printed name ≡ true → list_all is_inner name ≡ true
+name_inner [] h = refl
+name_inner (b ∷ bs) h = let parts = and_parts _ (list_all is_printed bs) h in and_from _ _ (printed_inner b parts.0) (name_inner bs parts.1)
+
+pub note_comment : (n : NoteTree) → list_all is_printed n.name ≡ true → IsTextOf (note_line n) []
+note_comment n h =
+    let behind : IsInner (codes ", " ++ st_text n.layout) = inner_both (codes ", ") (st_text n.layout) (record { all = refl }) (type_inner n.layout) in
+    let named : IsInner (codes ": " ++ (n.name ++ (codes ", " ++ st_text n.layout))) = inner_both (codes ": ") _ (record { all = refl }) (inner_both n.name _ (record { all = name_inner n.name h }) behind) in
+    let whole : IsInner (codes " line " ++ (decimal n.line ++ (codes ": " ++ (n.name ++ (codes ", " ++ st_text n.layout))))) = inner_both (codes " line ") _ (record { all = refl }) (inner_both (decimal n.line) _ (decimal_inner n.line) named) in
+    subst (λ l. IsTextOf (codes "  //" ++ l) []) (shape (codes " line ") (decimal n.line) (codes ": ") n.name (codes ", ") (st_text n.layout) (codes "\n")) (indented_line _ whole)
+  where
+    shape : (a b c d e f g : List ℕ) → (a ++ (b ++ (c ++ (d ++ (e ++ f))))) ++ g ≡ a ++ (b ++ (c ++ (d ++ (e ++ (f ++ g)))))
+    shape a b c d e f g = simp append_assoc
 
 pub report_comments : (r : ReportTree) → IsTextOf (report_lines r) []
 unfolding report_lines

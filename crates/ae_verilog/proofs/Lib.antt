@@ -23,5 +23,6 @@ pub mod Ports
 pub mod Named
 pub mod NetlistForm
 pub mod NetlistTree
+pub mod NotedCells
 pub mod Whole
 pub mod StarLaw

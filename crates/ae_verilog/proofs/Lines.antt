@@ -169,7 +169,7 @@ widen_on = record { tokens = λ rest us h. skip _ rest us refl h; clean = record
 widen_off : IsTextOf (codes "  // verilator lint_on WIDTH\n") []
 widen_off = record { tokens = λ rest us h. skip _ rest us refl h; clean = record { all = refl } }
 
-pub quiet_line : IsTextOf (codes "// verilator lint_off UNUSEDSIGNAL\n") []
+pub quiet_line : IsTextOf (codes "// verilator lint_off CMPCONST\n// verilator lint_off UNSIGNED\n// verilator lint_off UNUSEDSIGNAL\n") []
 quiet_line = record { tokens = λ rest us h. skip _ rest us refl h; clean = record { all = refl } }
 
 pub widened_line : (width net : ℕ) (value : ExprTree) → width ≤ 64 → net < 2 ^ 64 → IsWritable value → IsTextOf (widened_text width net value) (item_tokens (value_item width net value))

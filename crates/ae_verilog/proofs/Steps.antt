@@ -13,7 +13,8 @@ use Rattle.ae_vread.specs.declared.module.BinOp.{BinOp}
 use Rattle.ae_vread.specs.ModuleTree.{binary, constant}
 use Rattle.std.specs.List.{flat_map}
 use Rattle.ae_netlist.specs.declared.cell.Outlet.{Outlet}
-use Rattle.ae_verilog.specs.Text.{sign_text, input_text, output_text, header_text, declaration_text, assignment_text, edge_text, whole_text}
+use Rattle.ae_verilog.specs.Notes.{NoteTree}
+use Rattle.ae_verilog.specs.Text.{sign_text, input_text, output_text, header_text, declaration_text, noted, assignment_text, edge_text, whole_text}
 use Rattle.std.specs.Prelude.{map, length}
 use Rattle.std.proofs.lemmas.List.{length-map}
 use Rattle.ae_sttype.specs.StTree.{st_tree}
@@ -119,14 +120,14 @@ report_steps (Ok u) t old a b c d e f new ha hb hc hd he hf last =
     shape s l m k ins outs = simp append_assoc
 report_steps (Err x) t old a b c d e f new ha hb hc hd he hf last = tt
 
-pub text_steps : (report : List ℕ) (cells : List SizedCell) (outlets : List Outlet) (outs : ℕ) (a b c d e f g new : List ℕ) →
-    a ≡ [] → b ≡ a ++ report → c ≡ b ++ codes "// verilator lint_off UNUSEDSIGNAL\n" → d ≡ c ++ header_text cells outlets outs →
-    e ≡ d ++ listed (λ net (sized : SizedCell). declaration_text cells net sized.width sized.cell) 0 cells → f ≡ e ++ flat_map (assignment_text cells outs) outlets →
-    g ≡ f ++ listed (λ net (sized : SizedCell). edge_text cells net sized.cell) 0 cells → new ≡ g ++ codes "endmodule\n" → new ≡ whole_text report cells outlets outs
-text_steps report cells outlets outs a b c d e f g new ha hb hc hd he hf hg last =
-    let quiet : List ℕ = codes "// verilator lint_off UNUSEDSIGNAL\n" in
+pub text_steps : (report : List ℕ) (notes : List NoteTree) (cells : List SizedCell) (outlets : List Outlet) (outs : ℕ) (a b c d e f g new : List ℕ) →
+    a ≡ [] → b ≡ a ++ report → c ≡ b ++ codes "// verilator lint_off CMPCONST\n// verilator lint_off UNSIGNED\n// verilator lint_off UNUSEDSIGNAL\n" → d ≡ c ++ header_text cells outlets outs →
+    e ≡ d ++ noted (λ net (sized : SizedCell). declaration_text cells net sized.width sized.cell) cells 0 notes → f ≡ e ++ flat_map (assignment_text cells outs) outlets →
+    g ≡ f ++ listed (λ net (sized : SizedCell). edge_text cells net sized.cell) 0 cells → new ≡ g ++ codes "endmodule\n" → new ≡ whole_text report notes cells outlets outs
+text_steps report notes cells outlets outs a b c d e f g new ha hb hc hd he hf hg last =
+    let quiet : List ℕ = codes "// verilator lint_off CMPCONST\n// verilator lint_off UNSIGNED\n// verilator lint_off UNUSEDSIGNAL\n" in
     let head : List ℕ = header_text cells outlets outs in
-    let declared : List ℕ = listed (λ net (sized : SizedCell). declaration_text cells net sized.width sized.cell) 0 cells in
+    let declared : List ℕ = noted (λ net (sized : SizedCell). declaration_text cells net sized.width sized.cell) cells 0 notes in
     let assigned : List ℕ = flat_map (assignment_text cells outs) outlets in
     let edges : List ℕ = listed (λ net (sized : SizedCell). edge_text cells net sized.cell) 0 cells in
     last ∙ ap (λ l. l ++ codes "endmodule\n") (hg ∙ ap (λ l. l ++ edges) (hf ∙ ap (λ l. l ++ assigned) (he ∙ ap (λ l. l ++ declared)

@@ -17,22 +17,18 @@ use Rattle.ae_vread.specs.Forms.{PortForm, ItemForm, InputHead, port_tokens, com
 use Rattle.ae_vread.specs.Spells.{Spells}
 use Rattle.ae_verilog.specs.ReportLines.{is_clean}
 use Rattle.ae_verilog.specs.NetlistModule.{port_name, net_name, net_value, op_value, listed, netlist_module}
-use Rattle.ae_verilog.specs.Text.{PortFits, CellPortFits, is_cast, value_text, widened_text, op_text, declaration_text, input_text, output_text, header_text, assignment_text, edge_text, module_text, whole_text}
+use Rattle.ae_verilog.specs.Notes.{NoteTree, ArePrinted}
+use Rattle.ae_verilog.specs.Text.{PortFits, CellPortFits, is_cast, value_text, widened_text, op_text, declaration_text, noted, input_text, output_text, header_text, assignment_text, edge_text, module_text, whole_text}
 use Rattle.ae_verilog.proofs.Writable.{IsWritable}
 use Rattle.ae_verilog.proofs.Lines.{IsTextOf, no_text, both_texts, value_item, register_item, memory_item, register_edge_item, memory_edge_item, value_line, widened_line, register_line, memory_line, assign_line, register_edge_line, memory_edge_line, end_line, quiet_line}
+use Rattle.ae_verilog.proofs.Comments.{note_comment}
+use Rattle.ae_verilog.proofs.NotedCells.{listed_text, noted_text}
 use Rattle.ae_verilog.proofs.Ports.{port_form, IsPieceOf, no_piece, both_pieces, input_port, output_port, head_lines, start_tokens}
 use Rattle.ae_verilog.proofs.Named.{IsGood, port_named, fits_at}
-use Rattle.ae_verilog.proofs.NetlistForm.{input_forms, output_form, declaration_form, assignment_form, edge_form, port_forms, item_forms, netlist_form, flat_both, flat_flat, flat_listed, flat_mapped, next_place, first_place}
+use Rattle.ae_verilog.proofs.NetlistForm.{input_forms, output_form, declaration_form, assignment_form, edge_form, port_forms, item_forms, netlist_form, flat_both, flat_flat, flat_listed, flat_mapped}
 use Rattle.ae_verilog.proofs.NetlistTree.{IsDeclared, IsEdged, cell_of, outlet_of, tree_back, items_formed}
 
 -- lists of texts
-
-listed_text : {X : Type 0} (f : ℕ → X → List ℕ) (g : ℕ → X → List TokenTree) (k : ℕ) (xs : List X) → ((j : ℕ) (x : X) → slice_get xs j ≡ Some x → IsTextOf (f (k + j) x) (g (k + j) x)) → IsTextOf (listed f k xs) (listed g k xs)
-listed_text f g k [] each = no_text
-listed_text f g k (x ∷ xs) each =
-    both_texts (f k x) (listed f (k + 1) xs) (g k x) (listed g (k + 1) xs)
-    (subst (λ n. IsTextOf (f n x) (g n x)) (first_place k) (each 0 x refl))
-    (listed_text f g (k + 1) xs (λ j y e. subst (λ n. IsTextOf (f n y) (g n y)) (next_place k j) (each (suc j) y e)))
 
 flat_text : {X : Type 0} (f : X → List ℕ) (g : X → List TokenTree) (xs : List X) → ((j : ℕ) (x : X) → slice_get xs j ≡ Some x → IsTextOf (f x) (g x)) → IsTextOf (flat_map f xs) (flat_map g xs)
 flat_text f g [] each = no_text
@@ -122,19 +118,20 @@ header_lines cells outlets outs good shown =
 
 -- the items
 
-items_lines : (cells : List SizedCell) (outlets : List Outlet) (outs : ℕ) → IsGood cells → AreGood cells outlets →
-    IsTextOf (listed (λ net (sized : SizedCell). declaration_text cells net sized.width sized.cell) 0 cells ++ (flat_map (assignment_text cells outs) outlets ++ (listed (λ net (sized : SizedCell). edge_text cells net sized.cell) 0 cells ++ codes "endmodule\n")))
+items_lines : (notes : List NoteTree) (cells : List SizedCell) (outlets : List Outlet) (outs : ℕ) → ArePrinted notes → IsGood cells → AreGood cells outlets →
+    IsTextOf (noted (λ net (sized : SizedCell). declaration_text cells net sized.width sized.cell) cells 0 notes ++ (flat_map (assignment_text cells outs) outlets ++ (listed (λ net (sized : SizedCell). edge_text cells net sized.cell) 0 cells ++ codes "endmodule\n")))
     (flat_map item_tokens (item_forms cells outlets outs) ++ Word EndModule ∷ [])
-items_lines cells outlets outs good shown =
+items_lines notes cells outlets outs printed good shown =
     let declared : List ItemForm = listed (λ net (sized : SizedCell). declaration_form cells net sized.width sized.cell) 0 cells in
     let assigned : List ItemForm = map (assignment_form cells outs) outlets in
     let edges : List ItemForm = listed (λ net (sized : SizedCell). edge_form cells net sized.cell) 0 cells in
-    let one : IsTextOf (listed (λ net (sized : SizedCell). declaration_text cells net sized.width sized.cell) 0 cells) (flat_map item_tokens declared) =
-    subst (IsTextOf (listed (λ net (sized : SizedCell). declaration_text cells net sized.width sized.cell) 0 cells)) (sym (flat_listed item_tokens (λ net (sized : SizedCell). declaration_form cells net sized.width sized.cell) 0 cells))
-    (listed_text _ (λ net (sized : SizedCell). flat_map item_tokens (declaration_form cells net sized.width sized.cell)) 0 cells (λ j sized e.
+    let one : IsTextOf (noted (λ net (sized : SizedCell). declaration_text cells net sized.width sized.cell) cells 0 notes) (flat_map item_tokens declared) =
+    subst (IsTextOf (noted (λ net (sized : SizedCell). declaration_text cells net sized.width sized.cell) cells 0 notes)) (sym (flat_listed item_tokens (λ net (sized : SizedCell). declaration_form cells net sized.width sized.cell) 0 cells))
+    (noted_text (λ net (sized : SizedCell). declaration_text cells net sized.width sized.cell) (λ net (sized : SizedCell). flat_map item_tokens (declaration_form cells net sized.width sized.cell)) cells notes
+    (λ i n e. note_comment n (printed i n e))
+    (λ j sized e.
     let cell = cell_of cells j sized good e in
-    let same : j ≡ 0 + j = omega arith in
-    declaration_line cells (0 + j) sized.width sized.cell cell.high (omega (arith, cell.within, good.few)) (subst (λ n. IsDeclared cells n sized.width sized.cell) same cell.declared))) in
+    declaration_line cells j sized.width sized.cell cell.high (omega (arith, cell.within, good.few)) cell.declared)) in
     let two : IsTextOf (flat_map (assignment_text cells outs) outlets) (flat_map item_tokens assigned) =
     subst (IsTextOf (flat_map (assignment_text cells outs) outlets)) (sym (flat_mapped item_tokens (assignment_form cells outs) outlets))
     (flat_text (assignment_text cells outs) (λ o. item_tokens (assignment_form cells outs o)) outlets (λ j outlet e.
@@ -152,24 +149,24 @@ items_lines cells outlets outs good shown =
     joined_tokens : (a b c d whole : List TokenTree) → whole ≡ a ++ (b ++ c) → whole ++ d ≡ a ++ (b ++ (c ++ d))
     joined_tokens a b c d whole e = ap (λ l. l ++ d) e ∙ append_assoc a (b ++ c) d ∙ ap (λ l. a ++ l) (append_assoc b c d)
 
-module_lines : (cells : List SizedCell) (outlets : List Outlet) (outs : ℕ) → IsGood cells → AreGood cells outlets → IsTextOf (module_text cells outlets outs) (module_tokens (netlist_form cells outlets outs))
-module_lines cells outlets outs good shown =
-    subst (IsTextOf (module_text cells outlets outs))
+module_lines : (notes : List NoteTree) (cells : List SizedCell) (outlets : List Outlet) (outs : ℕ) → ArePrinted notes → IsGood cells → AreGood cells outlets → IsTextOf (module_text notes cells outlets outs) (module_tokens (netlist_form cells outlets outs))
+module_lines notes cells outlets outs printed good shown =
+    subst (IsTextOf (module_text notes cells outlets outs))
     (head_and_items (comma_tokens port_tokens (port_forms cells outlets outs)) (flat_map item_tokens (item_forms cells outlets outs) ++ Word EndModule ∷ []))
-    (both_texts _ _ _ _ (header_lines cells outlets outs good shown) (items_lines cells outlets outs good shown))
+    (both_texts _ _ _ _ (header_lines cells outlets outs good shown) (items_lines notes cells outlets outs printed good shown))
   where
     head_and_items : (ports items : List TokenTree) → (start_tokens ++ (ports ++ Mark Close ∷ Mark Semicolon ∷ [])) ++ items ≡ start_tokens ++ (ports ++ Mark Close ∷ Mark Semicolon ∷ items)
     head_and_items ports items = append_assoc start_tokens (ports ++ Mark Close ∷ Mark Semicolon ∷ []) items ∙ ap (λ l. start_tokens ++ l) (append_assoc ports (Mark Close ∷ Mark Semicolon ∷ []) items)
 
 -- the whole text
-whole_lines : (report : List ℕ) (cells : List SizedCell) (outlets : List Outlet) (outs : ℕ) → IsTextOf report [] → IsGood cells → AreGood cells outlets → IsTextOf (whole_text report cells outlets outs) (module_tokens (netlist_form cells outlets outs))
-whole_lines report cells outlets outs before good shown =
-    both_texts _ _ _ _ before (both_texts _ _ _ _ quiet_line (module_lines cells outlets outs good shown))
+whole_lines : (report : List ℕ) (notes : List NoteTree) (cells : List SizedCell) (outlets : List Outlet) (outs : ℕ) → IsTextOf report [] → ArePrinted notes → IsGood cells → AreGood cells outlets → IsTextOf (whole_text report notes cells outlets outs) (module_tokens (netlist_form cells outlets outs))
+whole_lines report notes cells outlets outs before printed good shown =
+    both_texts _ _ _ _ before (both_texts _ _ _ _ quiet_line (module_lines notes cells outlets outs printed good shown))
 
-whole_spelled : (report : List ℕ) (cells : List SizedCell) (outlets : List Outlet) (outs : ℕ) → IsTextOf report [] → IsGood cells → AreGood cells outlets → Spells (whole_text report cells outlets outs) (netlist_module cells outlets outs)
-whole_spelled report cells outlets outs before good shown =
-    let lines = whole_lines report cells outlets outs before good shown in
-    let text : List ℕ = whole_text report cells outlets outs in
+whole_spelled : (report : List ℕ) (notes : List NoteTree) (cells : List SizedCell) (outlets : List Outlet) (outs : ℕ) → IsTextOf report [] → ArePrinted notes → IsGood cells → AreGood cells outlets → Spells (whole_text report notes cells outlets outs) (netlist_module cells outlets outs)
+whole_spelled report notes cells outlets outs before printed good shown =
+    let lines = whole_lines report notes cells outlets outs before printed good shown in
+    let text : List ℕ = whole_text report notes cells outlets outs in
     let ts : List TokenTree = module_tokens (netlist_form cells outlets outs) in
     record {
       form = netlist_form cells outlets outs;
@@ -178,31 +175,31 @@ whole_spelled report cells outlets outs before good shown =
       tree = tree_back cells outlets outs good shown.have;
     }
 
-whole_clean : (report : List ℕ) (cells : List SizedCell) (outlets : List Outlet) (outs : ℕ) → IsTextOf report [] → IsGood cells → AreGood cells outlets → list_all is_clean (whole_text report cells outlets outs) ≡ true
-whole_clean report cells outlets outs before good shown = (whole_lines report cells outlets outs before good shown).clean.all
+whole_clean : (report : List ℕ) (notes : List NoteTree) (cells : List SizedCell) (outlets : List Outlet) (outs : ℕ) → IsTextOf report [] → ArePrinted notes → IsGood cells → AreGood cells outlets → list_all is_clean (whole_text report notes cells outlets outs) ≡ true
+whole_clean report notes cells outlets outs before printed good shown = (whole_lines report notes cells outlets outs before printed good shown).clean.all
 
 -- what the writer returns
 
 good_from : (cells : List SizedCell) → IsFormed cells → All (λ (sized : SizedCell). CellPortFits sized.cell) cells → length cells < 2 ^ 32 → IsGood cells
 good_from cells formed fits few = record { formed = formed; fits = fits; few = few }
 
-pub returns_spelled : {A E : Type 0} (r : Result (String A) E) (report : List ℕ) (cells : List SizedCell) (outlets : List Outlet) (outs : ℕ) → IsTextOf report [] → IsFormed cells → HaveNets cells outlets → length cells < 2 ^ 32 →
-    IfOk r (λ text. string_bytes text ≡ whole_text report cells outlets outs) → IfOk r (λ text. All (λ (sized : SizedCell). CellPortFits sized.cell) cells) → IfOk r (λ text. All (λ (outlet : Outlet). PortFits outlet.port) outlets) →
+pub returns_spelled : {A E : Type 0} (r : Result (String A) E) (report : List ℕ) (notes : List NoteTree) (cells : List SizedCell) (outlets : List Outlet) (outs : ℕ) → IsTextOf report [] → ArePrinted notes → IsFormed cells → HaveNets cells outlets → length cells < 2 ^ 32 →
+    IfOk r (λ text. string_bytes text ≡ whole_text report notes cells outlets outs) → IfOk r (λ text. All (λ (sized : SizedCell). CellPortFits sized.cell) cells) → IfOk r (λ text. All (λ (outlet : Outlet). PortFits outlet.port) outlets) →
     IfOk r (λ text. Spells (string_bytes text) (netlist_module cells outlets outs))
-returns_spelled (Ok text) report cells outlets outs before formed have few bytes ins shown =
+returns_spelled (Ok text) report notes cells outlets outs before printed formed have few bytes ins shown =
     subst (λ l. Spells l (netlist_module cells outlets outs)) (sym bytes)
-    (whole_spelled report cells outlets outs before (good_from cells formed ins few) (record { have = have; fits = shown }))
-returns_spelled (Err x) report cells outlets outs before formed have few bytes ins shown = tt
+    (whole_spelled report notes cells outlets outs before printed (good_from cells formed ins few) (record { have = have; fits = shown }))
+returns_spelled (Err x) report notes cells outlets outs before printed formed have few bytes ins shown = tt
 
-pub returns_clean : {A E : Type 0} (r : Result (String A) E) (report : List ℕ) (cells : List SizedCell) (outlets : List Outlet) (outs : ℕ) → IsTextOf report [] → IsFormed cells → HaveNets cells outlets → length cells < 2 ^ 32 →
-    IfOk r (λ text. string_bytes text ≡ whole_text report cells outlets outs) → IfOk r (λ text. All (λ (sized : SizedCell). CellPortFits sized.cell) cells) → IfOk r (λ text. All (λ (outlet : Outlet). PortFits outlet.port) outlets) →
+pub returns_clean : {A E : Type 0} (r : Result (String A) E) (report : List ℕ) (notes : List NoteTree) (cells : List SizedCell) (outlets : List Outlet) (outs : ℕ) → IsTextOf report [] → ArePrinted notes → IsFormed cells → HaveNets cells outlets → length cells < 2 ^ 32 →
+    IfOk r (λ text. string_bytes text ≡ whole_text report notes cells outlets outs) → IfOk r (λ text. All (λ (sized : SizedCell). CellPortFits sized.cell) cells) → IfOk r (λ text. All (λ (outlet : Outlet). PortFits outlet.port) outlets) →
     IfOk r (λ text. IsTrue (list_all is_clean (string_bytes text)))
-returns_clean (Ok text) report cells outlets outs before formed have few bytes ins shown =
+returns_clean (Ok text) report notes cells outlets outs before printed formed have few bytes ins shown =
     ap (list_all is_clean) bytes
-    ∙ whole_clean report cells outlets outs before (good_from cells formed ins few) (record { have = have; fits = shown })
-returns_clean (Err x) report cells outlets outs before formed have few bytes ins shown = tt
+    ∙ whole_clean report notes cells outlets outs before printed (good_from cells formed ins few) (record { have = have; fits = shown })
+returns_clean (Err x) report notes cells outlets outs before printed formed have few bytes ins shown = tt
 
-pub returns_reports : {A E : Type 0} (r : Result (String A) E) (report : List ℕ) (cells : List SizedCell) (outlets : List Outlet) (outs : ℕ) →
-    IfOk r (λ text. string_bytes text ≡ whole_text report cells outlets outs) → IfOk r (λ text. (rest : List ℕ) × (string_bytes text ≡ report ++ rest))
-returns_reports (Ok text) report cells outlets outs bytes = (_, bytes)
-returns_reports (Err x) report cells outlets outs bytes = tt
+pub returns_reports : {A E : Type 0} (r : Result (String A) E) (report : List ℕ) (notes : List NoteTree) (cells : List SizedCell) (outlets : List Outlet) (outs : ℕ) →
+    IfOk r (λ text. string_bytes text ≡ whole_text report notes cells outlets outs) → IfOk r (λ text. (rest : List ℕ) × (string_bytes text ≡ report ++ rest))
+returns_reports (Ok text) report notes cells outlets outs bytes = (_, bytes)
+returns_reports (Err x) report notes cells outlets outs bytes = tt

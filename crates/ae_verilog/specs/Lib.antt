@@ -2,3 +2,4 @@ pub mod NetlistModule
 pub mod Written
 pub mod Text
 pub mod ReportLines
+pub mod Notes

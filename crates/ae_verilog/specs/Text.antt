@@ -1,5 +1,5 @@
 -- The bytes that the writer writes, piece by piece.
-use Rattle.std.specs.Prelude.{ℕ, ◌-◌, ◌<◌, ◌^◌, Bool, true, false, ◌&&◌, nat_lt, List, [], ◌++◌, codes, decimal, if◌then◌else◌}
+use Rattle.std.specs.Prelude.{ℕ, ◌-◌, ◌<◌, ◌^◌, Bool, true, false, ◌&&◌, nat_lt, max, List, [], ◌∷◌, ◌++◌, take, drop, length, codes, decimal, if◌then◌else◌}
 use Rattle.std.specs.List.{flat_map}
 use Rattle.ae_word.specs.declared.op.WordOp.{WordOp}
 use Rattle.ae_word.specs.declared.op.WordOp.TheVariants.{Cast}
@@ -16,6 +16,7 @@ use Rattle.ae_vread.specs.declared.module.UnOp.TheVariants.{Not, Flip}
 use Rattle.ae_vread.specs.declared.module.BinOp.{BinOp}
 use Rattle.ae_vread.specs.declared.module.BinOp.TheVariants.{Mul, Add, Sub, Shl, Shr, Lt, Le, Gt, Ge, Eq, Ne, And, Xor, Or, Both, Either}
 use Rattle.ae_verilog.specs.NetlistModule.{port_name, net_name, listed, op_value, net_value}
+use Rattle.ae_verilog.specs.Notes.{NoteTree, note_line}
 
 abbrev pub prefix_text : UnOp → List ℕ
 prefix_text Not = codes "!"
@@ -104,6 +105,15 @@ declaration_text cells net width (Reg next) = register_text width net
 declaration_text cells net width (Mem depth at next enable) = memory_text width net depth
 declaration_text cells net width (Peek mem at) = value_text width net (index (net_name cells mem.0) (net_value cells at.0))
 
+-- the texts of the cells from one on, up to another
+abbrev pub between : (ℕ → SizedCell → List ℕ) → List SizedCell → (from to : ℕ) → List ℕ
+between f cells from to = listed f from (take (to - from) (drop from cells))
+
+-- the texts of the cells from one on, and each note before its cell
+abbrev pub noted : (ℕ → SizedCell → List ℕ) → List SizedCell → (from : ℕ) → List NoteTree → List ℕ
+noted f cells k [] = between f cells k (length cells)
+noted f cells k (n ∷ ns) = between f cells k n.cell ++ (note_line n ++ noted f cells (max k n.cell) ns)
+
 -- the ports
 abbrev pub input_text : ℕ → Cell → List ℕ
 input_text width (Input port) = codes ",\n  input wire " ++ (range_text width ++ port_name 1 port)
@@ -141,17 +151,17 @@ edge_text cells net (Mem depth at next enable) =
 edge_text cells net _ = []
 
 -- the module
-abbrev pub module_text : List SizedCell → List Outlet → (outs : ℕ) → List ℕ
-module_text cells outlets outs =
+abbrev pub module_text : List NoteTree → List SizedCell → List Outlet → (outs : ℕ) → List ℕ
+module_text notes cells outlets outs =
     header_text cells outlets outs
-    ++ (listed (λ net (sized : SizedCell). declaration_text cells net sized.width sized.cell) 0 cells
+    ++ (noted (λ net (sized : SizedCell). declaration_text cells net sized.width sized.cell) cells 0 notes
     ++ (flat_map (assignment_text cells outs) outlets
     ++ (listed (λ net (sized : SizedCell). edge_text cells net sized.cell) 0 cells ++ codes "endmodule\n")))
 
 -- the whole text: the report lines, a line that keeps Verilator from naming bits that nothing reads, and the module
-abbrev pub whole_text : (report : List ℕ) → List SizedCell → List Outlet → (outs : ℕ) → List ℕ
-whole_text report cells outlets outs =
-    report ++ (codes "// verilator lint_off UNUSEDSIGNAL\n" ++ module_text cells outlets outs)
+abbrev pub whole_text : (report : List ℕ) → List NoteTree → List SizedCell → List Outlet → (outs : ℕ) → List ℕ
+whole_text report notes cells outlets outs =
+    report ++ (codes "// verilator lint_off CMPCONST\n// verilator lint_off UNSIGNED\n// verilator lint_off UNUSEDSIGNAL\n" ++ module_text notes cells outlets outs)
 
 -- numbers of ports that the type of ports has room for
 abbrev pub PortFits : Port → Type 0

@@ -1,24 +1,46 @@
-// Declarations: one line for each cell that is no input, in their order.
+// Declarations: one line for each cell that is no input, in their order, and the notes between them.
 
-ghost use Rattle.std.specs.Prelude.{◌≡◌, ◌++◌, ◌&&◌, true, nat_lt, codes, OnOk, string_bytes};
+ghost use Rattle.std.specs.Prelude.{◌≡◌, ◌++◌, ◌&&◌, true, nat_lt, map, codes, OnOk, string_bytes};
 ghost use Rattle.ae_vread.specs.ModuleTree.{index, constant};
 ghost use Rattle.ae_vread.specs.declared.module.BinOp.TheVariants.{Lt as Less};
 ghost use Rattle.ae_netlist.specs.Circuit.{width_of};
-ghost use Rattle.ae_verilog.specs.NetlistModule.{listed, op_value, net_value, net_name, cast_to, joined};
-ghost use Rattle.ae_verilog.specs.Text.{wire_text, value_text, widened_text, register_text, memory_text, op_text, declaration_text, expr_text, is_cast, arms_text, shift_text};
+ghost use Rattle.ae_verilog.specs.NetlistModule.{op_value, net_value, net_name, cast_to, joined};
+ghost use Rattle.ae_verilog.specs.Notes.{note_tree};
+ghost use Rattle.ae_verilog.specs.Text.{between, noted, wire_text, value_text, widened_text, register_text, memory_text, op_text, declaration_text, expr_text, is_cast, arms_text, shift_text};
 
 use crate::header::width_at;
 use crate::names::{write_net, write_range};
+use crate::notes::{Note, write_note};
 use ae_netlist::{Cell, NetId, SizedCell};
 use ae_word::WordOp;
 use std::alloc::AllocError;
 
-// The declarations of all cells.
-pub fn write_cells(out: &mut String, cells: &[SizedCell]) -> Result<(), AllocError>
-    ensures { OnOk result (string_bytes out.new ≡ string_bytes out.old ++ listed (λ net sized. declaration_text cells.now net sized.width sized.cell) 0 cells.now) }
+// The declarations of all cells, and each note before its cell.
+pub fn write_cells(out: &mut String, cells: &[SizedCell], notes: &[Note]) -> Result<(), AllocError>
+    ensures { OnOk result (string_bytes out.new ≡ string_bytes out.old ++ noted (λ net sized. declaration_text cells.now net sized.width sized.cell) cells.now 0 (map note_tree notes.now)) }
 {
-    for (k, sized) in cells.iter().enumerate() {
-        write_cell(out, cells, k, *sized)?;
+    let mut from = 0usize;
+    for note in notes {
+        let cell = note.cell as usize;
+        write_between(out, cells, from, cell)?;
+        write_note(out, note)?;
+        from = from.max(cell);
+    }
+    write_between(out, cells, from, cells.len())
+}
+
+// The declarations of the cells from one on, up to another.
+fn write_between(
+    out: &mut String,
+    cells: &[SizedCell],
+    from: usize,
+    to: usize,
+) -> Result<(), AllocError>
+    ensures { OnOk result (string_bytes out.new ≡ string_bytes out.old ++ between (λ net sized. declaration_text cells.now net sized.width sized.cell) cells.now from to) }
+{
+    let end = to.min(cells.len());
+    for k in from..end {
+        write_cell(out, cells, k, cells[k])?;
     }
     Ok(())
 }

@@ -6,28 +6,38 @@ mod clocked;
 mod header;
 mod laws;
 mod names;
+mod notes;
 mod report;
 #[cfg(test)]
 mod tests;
 
-ghost use Rattle.std.specs.Prelude.{◌≡◌, ◌++◌, List, ℕ, All, length, IfOk, IsTrue, string_bytes};
+ghost use Rattle.std.specs.Prelude.{◌≡◌, ◌++◌, List, ℕ, All, length, map, IfOk, IsTrue, string_bytes};
 ghost use Rattle.std.specs.List.{list_all};
 ghost use Rattle.ae_netlist.specs.Counts.{count_of, is_mul};
 ghost use Rattle.ae_vread.specs.Spells.{Spells, stars};
 ghost use Rattle.ae_verilog.specs.NetlistModule.{netlist_module};
+ghost use Rattle.ae_verilog.specs.Notes.{ArePrinted, note_tree};
 ghost use Rattle.ae_verilog.specs.ReportLines.{report_tree, report_lines, is_clean};
 ghost use Rattle.ae_verilog.specs.Text.{whole_text, PortFits, CellPortFits};
 
 use ae_netlist::{Netlist, Outlet, SizedCell};
 pub use laws::{module_keeps, spelled_once};
+pub use notes::Note;
 pub use report::Report;
 use std::alloc::{AllocError, Global};
 
 /// The text of the module `aeth` that a netlist is (docs/VERILOG.md), behind its report lines (docs/OUTPUTS.md): a
 /// Verilog module after IEEE 1364-2001. It spells exactly the names, declarations and items of the netlist's module, with
-/// one `*` for each cell that multiplies and no other, and it has no `%` and no `$`. Writing takes time linear in the
-/// number of cells. The error comes where there is no memory for the text.
-pub fn write_module(alloc: Global, nl: &Netlist, report: &Report) -> Result<String, AllocError>
+/// one `*` for each cell that multiplies and no other, and it has no `%` and no `$`. Each note is a comment line before
+/// the declaration of its cell, behind those of the notes before it. Writing takes time linear in the number of cells. The
+/// error comes where there is no memory for the text.
+pub fn write_module(
+    alloc: Global,
+    nl: &Netlist,
+    report: &Report,
+    notes: &[Note],
+) -> Result<String, AllocError>
+    requires printed { ArePrinted (map note_tree notes.now) }
     ensures spells { IfOk result (λ text. Spells (string_bytes text) (netlist_module nl.now.cells nl.now.outlets (length report.now.outs.items))) }
     ensures reports { IfOk result (λ text. (rest : List ℕ) × (string_bytes text ≡ report_lines (report_tree report.now) ++ rest)) }
     ensures stars { stars (netlist_module nl.now.cells nl.now.outlets (length report.now.outs.items)) ≡ count_of is_mul nl.now.cells }
@@ -36,7 +46,7 @@ pub fn write_module(alloc: Global, nl: &Netlist, report: &Report) -> Result<Stri
     nl.formed();
     let _count = nl.len();
     let outs = report.outs.as_slice().len();
-    write_text(alloc, nl.cells(), nl.outlets(), outs, report)
+    write_text(alloc, nl.cells(), nl.outlets(), outs, report, notes)
 }
 
 // The same, where there are so many results.
@@ -46,16 +56,20 @@ fn write_text(
     outlets: &[Outlet],
     outs: usize,
     report: &Report,
+    notes: &[Note],
 ) -> Result<String, AllocError>
-    ensures text { IfOk result (λ text. string_bytes text ≡ whole_text (report_lines (report_tree report.now)) cells.now outlets.now outs) }
+    ensures text { IfOk result (λ text. string_bytes text ≡ whole_text (report_lines (report_tree report.now)) (map note_tree notes.now) cells.now outlets.now outs) }
     ensures inputs { IfOk result (λ text. All (λ sized. CellPortFits sized.cell) cells.now) }
     ensures outputs { IfOk result (λ text. All (λ outlet. PortFits outlet.port) outlets.now) }
 {
     let mut out = String::new(alloc);
     report::write_report(&mut out, report)?;
-    write!(out, "// verilator lint_off UNUSEDSIGNAL\n")?;
+    write!(
+        out,
+        "// verilator lint_off CMPCONST\n// verilator lint_off UNSIGNED\n// verilator lint_off UNUSEDSIGNAL\n"
+    )?;
     header::write_header(&mut out, cells, outlets, outs)?;
-    cells::write_cells(&mut out, cells)?;
+    cells::write_cells(&mut out, cells, notes)?;
     clocked::write_outlets(&mut out, cells, outlets, outs)?;
     clocked::write_edges(&mut out, cells)?;
     write!(out, "endmodule\n")?;

@@ -35,7 +35,7 @@ fn length(alloc: Global, count: u32) -> Result<usize, AllocError> {
         ins: Vec::new(alloc),
         outs: Vec::new(alloc),
     };
-    let text = write_module(alloc, &nl, &report)?;
+    let text = write_module(alloc, &nl, &report, &[])?;
     Ok(text.len())
 }
 

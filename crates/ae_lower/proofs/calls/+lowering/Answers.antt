@@ -1,4 +1,4 @@
-use Rattle.std.proofs.Common.{◌≡◌, ◌+◌, ◌<◌, ◌≤◌, ◌*◌, List, take, slice_get, slice_index, arith, ap, sym, ◌∙◌, subst, length, ℕ}
+use Rattle.std.proofs.Common.{◌≡◌, ◌+◌, ◌<◌, ◌≤◌, ◌*◌, ◌++◌, ◌∷◌, [], List, take, slice_get, slice_index, arith, ap, sym, ◌∙◌, subst, length, ℕ}
 use Rattle.std.proofs.lemmas.List.{length-map}
 use Rattle.std.proofs.lemmas.Option.{same_Some}
 use Rattle.std.proofs.lemmas.Result.{on_ok_weaker}
@@ -19,6 +19,9 @@ use Rattle.ae_lower.proofs.Growing.{if_ok_more, keeps_none}
 use Rattle.ae_lower.proofs.Costing.{arrivals_long, latest_at}
 use Rattle.ae_lower.proofs.Instances.{AreLowered, AreSpread, head_of, lane_results, more_bodies, more_nodes, no_bodies, no_nodes, standing}
 use Rattle.ae_lower.proofs.Placed.{args_grow, args_stand, arrivals_told, at_node, bodies_placed, call_adds, call_args, call_light, calls_nothing, chosen_below, func_tree, is_call, node_grows, node_placed, node_ready, own_long, placed_in, plain_adds, plain_is, standing_widths}
+use Rattle.ae_tidy.specs.Places.{AreMarks}
+use Rattle.ae_tidy.proofs.Placing.{marks_later, marks_more}
+use Rattle.ae_netlist.proofs.Growing.{extends_length}
 use Rattle.ae_lower.proofs.Ending.{all_bodies, another_body, another_node, fewer_bodies, node_there, own_lane, result_below, results_add, results_chosen, results_grow, some_results}
 use Rattle.ae_lower.proofs.calls.+lowering.Goals as goal
 
@@ -109,11 +112,11 @@ lower_instance-returns-in_err-made-clause-grows t c =
     let there : c.loop-j.j < length (st_func_tree c.instance-s.result.now).nodes = omega (arith, c.loop-j-test.true, c.len-j-end.ensures, c.instance-s.result.now.nodes.ok, length-map c.instance-s.result.now.nodes.items st_node_tree) in
     another_node (st_func_trees c.args.p.now) c.args.k c.loop-j.j c.args.at c.args.clocks.now.rst (st_func_tree c.instance-s.result.now) c.args.ins.now c.loop-j.items.items c.args.nl.now c.loop-j.nl c.lower_node.new.nl (func_tree c.args.p.now c.args.k c.instance-s.result.now c.instance-s.ensures) there c.loop-j.invariant.lowered c.lower_node.ensures.grows
 
-pub lower_instance-returns-in_err-keep_bundle-clause-keeps : goal.lower_instance-returns-in_err-keep_bundle-clause-keeps
-lower_instance-returns-in_err-keep_bundle-clause-keeps t c = keeps_trans c.loop-j.invariant.keeps c.lower_node.ensures.keeps
+pub lower_instance-returns-in_err-keep_item-clause-keeps : goal.lower_instance-returns-in_err-keep_item-clause-keeps
+lower_instance-returns-in_err-keep_item-clause-keeps t c = keeps_trans c.loop-j.invariant.keeps c.lower_node.ensures.keeps
 
-pub lower_instance-returns-in_err-keep_bundle-clause-grows : goal.lower_instance-returns-in_err-keep_bundle-clause-grows
-lower_instance-returns-in_err-keep_bundle-clause-grows t c =
+pub lower_instance-returns-in_err-keep_item-clause-grows : goal.lower_instance-returns-in_err-keep_item-clause-grows
+lower_instance-returns-in_err-keep_item-clause-grows t c =
     let there : c.loop-j.j < length (st_func_tree c.instance-s.result.now).nodes = omega (arith, c.loop-j-test.true, c.len-j-end.ensures, c.instance-s.result.now.nodes.ok, length-map c.instance-s.result.now.nodes.items st_node_tree) in
     another_node (st_func_trees c.args.p.now) c.args.k c.loop-j.j c.args.at c.args.clocks.now.rst (st_func_tree c.instance-s.result.now) c.args.ins.now c.loop-j.items.items c.args.nl.now c.loop-j.nl c.lower_node.new.nl (func_tree c.args.p.now c.args.k c.instance-s.result.now c.instance-s.ensures) there c.loop-j.invariant.lowered c.lower_node.ensures.grows
 
@@ -180,6 +183,16 @@ lower_instance-returns-clause-results t c =
     (subst (λ (xs : List (List NetId)). AreDelayed c.loop-j.nl.cells c.joined.new.nl.cells c.loop-j.clocks.rst xs c.arrivals_of-arrivals.result.now c.latest-end.result (st_func_tree c.instance-s.result.now).results v.items) c.deref-3.ensures.value
     (subst (λ (is : List ℕ). AreDelayed c.loop-j.nl.cells c.joined.new.nl.cells c.loop-j.clocks.rst c.deref-3.result.now c.arrivals_of-arrivals.result.now c.latest-end.result is v.items) c.deref-4.ensures.value late)) in
     results_chosen (st_func_trees c.args.p.now) c.args.k c.args.at c.args.clocks.now.rst (st_func_tree c.instance-s.result.now) c.args.ins.now c.loop-j.items.items c.args.nl.now c.loop-j.nl c.joined.new.nl c.arrivals_of-arrivals.result.now c.latest-end.result v.items c.requires.timed.sound (func_tree c.args.p.now c.args.k c.instance-s.result.now c.instance-s.ensures) arr start all c.joined.ensures.grows.grows.extends given) c.joined.ensures.delayed
+
+pub lower_instance-returns-clause-marks : goal.lower_instance-returns-clause-marks
+lower_instance-returns-clause-marks t c =
+    let here = func_tree c.args.p.now c.args.k c.instance-s.result.now c.instance-s.ensures in
+    let end : c.loop-j.j ≡ length (st_func_tree c.instance-s.result.now).nodes = omega (arith, c.loop-j-test.false, c.loop-j.auto.j-end, c.len-j-end.ensures, c.instance-s.result.now.nodes.ok, length-map c.instance-s.result.now.nodes.items st_node_tree) in
+    let longer : length c.loop-j.nl.cells ≤ length c.joined.new.nl.cells = extends_length c.loop-j.nl.cells c.joined.new.nl.cells c.joined.ensures.grows.grows.extends in
+    on_ok_weaker c.joined.result (λ added z count found h.
+    let all : AreMarks (length c.loop-j.nl.cells) (count + length (st_func_tree c.instance-s.result.now).nodes) c.loop-j.marks.items = subst (λ (i : ℕ). AreMarks (length c.loop-j.nl.cells) (count + i) c.loop-j.marks.items) end (c.loop-j.invariant.marked count h) in
+    marks_later (length c.loop-j.nl.cells) (length c.joined.new.nl.cells) (count + length z.nodes) c.loop-j.marks.items longer
+    (subst (λ (f : StFuncTree). AreMarks (length c.loop-j.nl.cells) (count + length f.nodes) c.loop-j.marks.items) (same_Some (st_func_tree c.instance-s.result.now) z (sym here ∙ found)) all)) c.joined.ensures.adds
 
 pub lower_node-arrivals_of-arrivals-requires : goal.lower_node-arrivals_of-arrivals-requires
 lower_node-arrivals_of-arrivals-requires t c = (_, arrivals_told (st_func_trees c.args.p.now) c.args.a.now.arrivals c.args.k c.args.at (st_func_tree c.instance-s.result.now) c.requires.timed c.requires.light (func_tree c.args.p.now c.args.k c.instance-s.result.now c.instance-s.ensures))
@@ -364,6 +377,7 @@ lower_instance-loop-j-init t c = record {
   belongs = c.requires.belongs;
   keeps = keeps_none c.args.clocks.now;
   lowered = no_nodes (st_func_trees c.args.p.now) c.args.k c.args.at c.args.clocks.now.rst (st_func_tree c.instance-s.result.now) c.args.ins.now c.in_ok-items.items.items c.args.nl.now (c.requires.ins (st_func_tree c.instance-s.result.now) (func_tree c.args.p.now c.args.k c.instance-s.result.now c.instance-s.ensures)) c.in_ok-items.ensures.ok;
+  marked = λ count h. subst (λ (i : ℕ). AreMarks (length c.args.nl.now.cells) i c.args.marks.now.items) (let same : count ≡ count + 0 = omega arith in same) h;
 }
 
 pub lower_instance-loop-j-preserved : goal.lower_instance-loop-j-preserved
@@ -376,7 +390,10 @@ lower_instance-loop-j-preserved t c =
     record {
       belongs = c.in_ok-made.ensures.belongs;
       keeps = keeps_trans c.loop-j.invariant.keeps c.in_ok-made.ensures.keeps;
-      lowered = more_nodes (st_func_trees c.args.p.now) c.args.k c.args.at c.args.clocks.now.rst (st_func_tree c.instance-s.result.now) c.args.ins.now c.args.nl.now c.loop-j.nl c.lower_node.new.nl c.loop-j.j c.loop-j.items.items c.keep_bundle.new.bundles.items c.in_ok-made.made node.timing
-          node.is_at.timing c.in_ok-keep_bundle.ensures.ok (c.in_ok-made.ensures.grows (st_func_tree c.instance-s.result.now) node.node node.timing node.is_at) (c.in_ok-made.ensures.adds (st_func_tree c.instance-s.result.now) node.node node.timing node.is_at)
+      lowered = more_nodes (st_func_trees c.args.p.now) c.args.k c.args.at c.args.clocks.now.rst (st_func_tree c.instance-s.result.now) c.args.ins.now c.args.nl.now c.loop-j.nl c.lower_node.new.nl c.loop-j.j c.loop-j.items.items c.keep_item.new.items.items c.in_ok-made.made node.timing
+          node.is_at.timing c.in_ok-keep_item.ensures.ok (c.in_ok-made.ensures.grows (st_func_tree c.instance-s.result.now) node.node node.timing node.is_at) (c.in_ok-made.ensures.adds (st_func_tree c.instance-s.result.now) node.node node.timing node.is_at)
           (subst (λ (z : ℕ). IsItem c.lower_node.new.nl.cells z c.args.at (callees (take c.args.k (st_func_trees c.args.p.now))) (st_func_tree c.instance-s.result.now) c.args.ins.now (slice_index (arrivals_in (st_func_trees c.args.p.now) c.args.k (st_func_tree c.instance-s.result.now)) (length (st_func_tree c.instance-s.result.now).ins + c.loop-j.j)) (length (st_func_tree c.instance-s.result.now).ins + c.loop-j.j) c.in_ok-made.made) c.loop-j.invariant.keeps.rst made) c.loop-j.invariant.lowered;
+      marked = λ count h. marks_more (length c.loop-j.nl.cells) (length c.lower_node.new.nl.cells) count c.loop-j.j c.loop-j.marks.items c.keep_item.new.marks.items
+          (extends_length c.loop-j.nl.cells c.lower_node.new.nl.cells (c.in_ok-made.ensures.grows (st_func_tree c.instance-s.result.now) node.node node.timing node.is_at).grows.extends)
+          (c.in_ok-keep_item.ensures.marked ∙ ap (λ (m : ℕ). c.loop-j.marks.items ++ m ∷ []) c.len-mark.ensures) (c.loop-j.invariant.marked count h);
     }

@@ -1,5 +1,5 @@
 -- The circuit from its parts.
-use Rattle.std.proofs.Common.{◌≡◌, ◌-◌, List, Some, slice_get, length, sym, ap, ◌∙◌, subst}
+use Rattle.std.proofs.Common.{◌≡◌, ◌+◌, ◌-◌, ℕ, arith, List, Some, slice_get, length, sym, ap, ◌∙◌, subst}
 use Rattle.std.proofs.lemmas.Option.{same_Some, slice_get-map}
 use Rattle.std.specs.Option.{option_map}
 use Rattle.ae_netlist.specs.declared.cell.NetId.{NetId}
@@ -14,7 +14,10 @@ use Rattle.ae_clocked.specs.Phases.{Kept}
 use Rattle.ae_lower.specs.Growth.{Adds, GrowsBy}
 use Rattle.ae_lower.specs.Lowering.{instance_costs}
 use Rattle.ae_lower.specs.PortNets.{bundles_from}
+use Rattle.ae_tidy.specs.Places.{AreMarks}
+use Rattle.ae_tidy.proofs.Placing.{no_marks}
 use Rattle.ae_lower.proofs.Whole.{HasBegun, begun_bundles, chosen_last, circuit_made, has_begun, inputs_begun, instance_at, last_is, light_enough, reset_belongs}
+use Rattle.ae_lower.proofs.Tidied.{tidied_circuit}
 use Rattle.ae_lower.proofs.circuit.lower.Goals as goal
 
 pub add_inputs-requires : goal.add_inputs-requires
@@ -69,8 +72,8 @@ add_results-requires-clause-nets c r i nets at has =
     let chosen = c.in-Ok.ensures.results (st_func_tree f) (instance_at c.args.p.now (c.count-last.result - 1) f c.instance-s.ensures) in
     (chosen.each r i nets at (ap (λ (bs : List (List NetId)). slice_get bs r) (sym c.deref-3.ensures.value) ∙ has)).there
 
-pub returns : goal.returns
-returns c s found =
+pub returns-clause-circuit : goal.returns-clause-circuit
+returns-clause-circuit c s found =
     let fs = c.args.p.now in
     let instances : List StFuncTree = st_func_trees fs in
     let f = c.instance-s.result.now in
@@ -89,4 +92,21 @@ returns c s found =
     let adds = subst (λ m. Adds c.add_inputs.new.nl c.lower_instance.new.nl (instance_costs instances m).muls (instance_costs instances m).mems) last c.in-Ok.ensures.adds in
     let made : IsCircuitOf instances (st_func_tree f) c.add_results.new.nl =
     circuit_made instances (st_func_tree f) _ _ _ c.deref-3.result.now (k, c.count-last.ensures.sound.each k (st_func_tree f) here) there begun grown adds chosen c.in_ok-add_results.ensures c.formed.ensures.cells c.formed.ensures.outlets in
-    subst (λ (u : StFuncTree). IsCircuitOf instances u c.add_results.new.nl) is made
+    let whole : IsCircuitOf instances (st_func_tree f) c.in_ok-tidied.tidied.netlist =
+    tidied_circuit instances (st_func_tree f) c.add_results.new.nl c.in_ok-tidied.tidied.netlist (k, c.count-last.ensures.sound.each k (st_func_tree f) here) made c.in_ok-tidied.ensures.tidied in
+    subst (λ (u : StFuncTree). IsCircuitOf instances u c.in_ok-tidied.tidied.netlist) is whole
+
+pub returns-clause-marks : goal.returns-clause-marks
+returns-clause-marks c s found =
+    let fs = c.args.p.now in
+    let f = c.instance-s.result.now in
+    let k = c.count-last.result - 1 in
+    let last : k ≡ last_of (st_func_trees fs) = last_is fs c.count-last.result c.count-last.ensures.count in
+    let here : slice_get (st_func_trees fs) k ≡ Some s = rw last found in
+    let none : AreMarks (length c.add_inputs.new.nl.cells) 0 c.new-marks.result.items = rw c.new-marks.ensures.items (no_marks (length c.add_inputs.new.nl.cells)) in
+    let all : AreMarks (length c.lower_instance.new.nl.cells) (0 + length s.nodes) c.lower_instance.new.marks.items = c.in-Ok.ensures.marks s 0 here none in
+    let same : length c.lower_instance.new.nl.cells ≡ length c.add_results.new.nl.cells = ap (λ (n : Circuit). length n.cells) (sym c.in_ok-add_results.ensures.added) in
+    let there : AreMarks (length c.add_results.new.nl.cells) (length s.nodes) c.lower_instance.new.marks.items =
+    subst (λ (i : ℕ). AreMarks i (length s.nodes) c.lower_instance.new.marks.items) same
+    (subst (λ (i : ℕ). AreMarks (length c.lower_instance.new.nl.cells) i c.lower_instance.new.marks.items) (let plain : 0 + length s.nodes ≡ length s.nodes = omega arith in plain) all) in
+    c.in_ok-tidied.ensures.marks (length s.nodes) there

@@ -1,7 +1,10 @@
+use Rattle.ae_verilog.specs.Notes.{note_tree}
 use Rattle.ae_verilog.specs.Text.{declaration_text}
-use Rattle.ae_verilog.proofs.Joining.{listed_more}
+use Rattle.ae_verilog.proofs.NotedCells.{noted_more}
 use Rattle.ae_verilog.proofs.cells.write_cells.Goals as goal
 
 -- one more is written
-pub loop-k-preserved : goal.loop-k-preserved
-loop-k-preserved c = listed_more (λ net sized. declaration_text c.args.cells.now net sized.width sized.cell) c.args.cells.now c.loop-k.k _ _ _ _ c.loop-k-test.true c.loop-k.invariant c.in_ok-write_cell.ensures
+pub loop-note-preserved : goal.loop-note-preserved
+loop-note-preserved c =
+    noted_more note_tree (λ net sized. declaration_text c.args.cells.now net sized.width sized.cell) c.args.cells.now c.loop-note.from _ c.loop-note.note-index c.args.notes.now c.note-item.result _ _ _ _
+    c.loop-note-test.true c.note-item.is c.max-from.ensures c.in_ok-write_between.ensures c.in_ok-write_note.ensures c.loop-note.invariant

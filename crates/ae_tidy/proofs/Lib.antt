@@ -1,0 +1,7 @@
+pub mod SameRuns
+pub mod Shaping
+pub mod Marking
+pub mod Copying
+pub mod Connecting
+pub mod Whole
+pub mod Placing

@@ -1,0 +1,5 @@
+pub mod Copies
+pub mod Images
+pub mod Marks
+pub mod Tidied
+pub mod Places

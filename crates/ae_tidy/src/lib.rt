@@ -1,0 +1,15 @@
+//! Netlists with fewer cells that show the same.
+#![tactic(auto)]
+
+mod append;
+mod copy;
+mod look;
+mod mark;
+mod moved;
+mod seen;
+mod table;
+#[cfg(test)]
+mod tests;
+mod tidying;
+
+pub use tidying::{Tidied, tidy};

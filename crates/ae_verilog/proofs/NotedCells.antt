@@ -1,0 +1,119 @@
+-- Texts of cells with notes between them: the notes have no tokens.
+use Rattle.std.proofs.Common.{◌≡◌, ℕ, zero, suc, ◌+◌, ◌-◌, ◌<◌, ◌≤◌, ◌⊎◌, inl, inr, List, [], ◌∷◌, ◌++◌, length, map, take, drop, get_or, Some, refl, sym, ap, ◌∙◌, subst, arith, append_assoc, append-nil}
+use Rattle.std.specs.Prelude.{max, slice_get}
+use Rattle.std.proofs.Math.Seq.{drop-cons}
+use Rattle.std.proofs.lemmas.List.{take_all, drop-drop, drop_all, length-drop}
+use Rattle.std.proofs.lemmas.Option.{none-some}
+use Rattle.ae_netlist.specs.declared.cell.SizedCell.{SizedCell}
+use Rattle.ae_vread.specs.Tokens.{TokenTree}
+use Rattle.ae_verilog.specs.NetlistModule.{listed}
+use Rattle.ae_verilog.specs.Notes.{NoteTree, note_line}
+use Rattle.ae_verilog.specs.Text.{between, noted}
+use Rattle.ae_verilog.proofs.Lines.{IsTextOf, no_text, both_texts}
+use Rattle.ae_verilog.proofs.NetlistForm.{next_place, first_place}
+
+-- lists of texts
+
+pub listed_text : {X : Type 0} (f : ℕ → X → List ℕ) (g : ℕ → X → List TokenTree) (k : ℕ) (xs : List X) → ((j : ℕ) (x : X) → slice_get xs j ≡ Some x → IsTextOf (f (k + j) x) (g (k + j) x)) → IsTextOf (listed f k xs) (listed g k xs)
+listed_text f g k [] each = no_text
+listed_text f g k (x ∷ xs) each =
+    both_texts (f k x) (listed f (k + 1) xs) (g k x) (listed g (k + 1) xs)
+    (subst (λ n. IsTextOf (f n x) (g n x)) (first_place k) (each 0 x refl))
+    (listed_text f g (k + 1) xs (λ j y e. subst (λ n. IsTextOf (f n y) (g n y)) (next_place k j) (each (suc j) y e)))
+
+-- a part of a list
+
+part_get : {X : Type 0} (xs : List X) (n j : ℕ) (x : X) → slice_get (take n xs) j ≡ Some x → slice_get xs j ≡ Some x
+part_get [] zero j x e = e
+part_get [] (suc n) j x e = e
+part_get (y ∷ ys) zero j x e = absurd (none-some x e)
+part_get (y ∷ ys) (suc n) zero x e = e
+part_get (y ∷ ys) (suc n) (suc j) x e = part_get ys n j x e
+
+rest_get : {X : Type 0} (xs : List X) (k j : ℕ) (x : X) → slice_get (drop k xs) j ≡ Some x → slice_get xs (k + j) ≡ Some x
+rest_get xs zero j x e = subst (λ n. slice_get xs n ≡ Some x) (let same : j ≡ zero + j = omega arith in same) e
+rest_get [] (suc k) j x e = absurd (none-some x e)
+rest_get (y ∷ ys) (suc k) j x e = subst (λ n. slice_get (y ∷ ys) n ≡ Some x) (let same : suc (k + j) ≡ suc k + j = omega arith in same) (rest_get ys k j x e)
+
+listed_parts : {X A : Type 0} (g : ℕ → X → List A) (k n : ℕ) (xs : List X) → listed g k (take n xs) ++ listed g (k + n) (drop n xs) ≡ listed g k xs
+listed_parts g k zero xs = ap (λ m. listed g m xs) (first_place k)
+listed_parts g k (suc n) [] = refl
+listed_parts g k (suc n) (x ∷ xs) =
+    append_assoc (g k x) (listed g (k + 1) (take n xs)) (listed g (k + suc n) (drop n xs))
+    ∙ ap (λ m. g k x ++ (listed g (k + 1) (take n xs) ++ listed g m (drop n xs))) (next_place k n)
+    ∙ ap (λ l. g k x ++ l) (listed_parts g (k + 1) n xs)
+
+-- the cells from one on, up to another
+
+between_text : (f : ℕ → SizedCell → List ℕ) (g : ℕ → SizedCell → List TokenTree) (cells : List SizedCell) (k to : ℕ) →
+    ((j : ℕ) (x : SizedCell) → slice_get cells j ≡ Some x → IsTextOf (f j x) (g j x)) → IsTextOf (between f cells k to) (listed g k (take (to - k) (drop k cells)))
+between_text f g cells k to each = listed_text f g k (take (to - k) (drop k cells)) (λ j x e. each (k + j) x (rest_get cells k j x (part_get (drop k cells) (to - k) j x e)))
+
+from_one_on : (f : ℕ → SizedCell → List ℕ) (g : ℕ → SizedCell → List TokenTree) (cells : List SizedCell) (k : ℕ) (ns : List NoteTree) →
+    ((i : ℕ) (n : NoteTree) → slice_get ns i ≡ Some n → IsTextOf (note_line n) []) →
+    ((j : ℕ) (x : SizedCell) → slice_get cells j ≡ Some x → IsTextOf (f j x) (g j x)) → IsTextOf (noted f cells k ns) (listed g k (drop k cells))
+from_one_on f g cells k [] notes each =
+    subst (λ xs. IsTextOf (between f cells k (length cells)) (listed g k xs)) (take_all (length cells - k) (drop k cells) (omega (arith, length-drop k cells))) (between_text f g cells k (length cells) each)
+from_one_on f g cells k (n ∷ ns) notes each =
+    subst (IsTextOf (noted f cells k (n ∷ ns))) tokens
+    (both_texts _ _ _ _ (between_text f g cells k n.cell each)
+    (both_texts _ _ [] _ (notes 0 n refl) (from_one_on f g cells (max k n.cell) ns (λ i m e. notes (suc i) m e) each)))
+  where
+    past : max k n.cell ≡ k + (n.cell - k)
+    past = omega arith
+
+    tokens : listed g k (take (n.cell - k) (drop k cells)) ++ listed g (max k n.cell) (drop (max k n.cell) cells) ≡ listed g k (drop k cells)
+    tokens =
+        ap (λ m. listed g k (take (n.cell - k) (drop k cells)) ++ listed g m (drop m cells)) past
+        ∙ ap (λ xs. listed g k (take (n.cell - k) (drop k cells)) ++ listed g (k + (n.cell - k)) xs) (sym (drop-drop (n.cell - k) k cells))
+        ∙ listed_parts g k (n.cell - k) (drop k cells)
+
+pub noted_text : (f : ℕ → SizedCell → List ℕ) (g : ℕ → SizedCell → List TokenTree) (cells : List SizedCell) (ns : List NoteTree) →
+    ((i : ℕ) (n : NoteTree) → slice_get ns i ≡ Some n → IsTextOf (note_line n) []) →
+    ((j : ℕ) (x : SizedCell) → slice_get cells j ≡ Some x → IsTextOf (f j x) (g j x)) → IsTextOf (noted f cells 0 ns) (listed g 0 cells)
+noted_text f g cells ns notes each = from_one_on f g cells 0 ns notes each
+
+-- loops that write them
+
+-- one more cell
+pub between_more : (f : ℕ → SizedCell → List ℕ) (cells : List SizedCell) (k to : ℕ) (d : SizedCell) (a b whole : List ℕ) → k < to → k < length cells →
+    b ≡ a ++ f k (get_or cells k d) → a ++ between f cells k to ≡ whole → b ++ between f cells (k + 1) to ≡ whole
+between_more f cells k to d a b whole before inside step h =
+    ap (λ l. l ++ between f cells (k + 1) to) step ∙ append_assoc a (f k (get_or cells k d)) (between f cells (k + 1) to) ∙ ap (λ l. a ++ l) (sym one) ∙ h
+  where
+    count : to - k ≡ suc (to - (k + 1))
+    count = omega arith
+
+    one : between f cells k to ≡ f k (get_or cells k d) ++ between f cells (k + 1) to
+    one =
+        ap (λ xs. listed f k (take (to - k) xs)) (drop-cons cells k d inside)
+        ∙ ap (λ n. listed f k (take n (get_or cells k d ∷ drop (suc k) cells))) count
+        ∙ ap (λ n. f k (get_or cells k d) ++ listed f (k + 1) (take (to - (k + 1)) (drop n cells))) (let same : suc k ≡ k + 1 = omega arith in same)
+
+-- none is left
+pub between_none : (f : ℕ → SizedCell → List ℕ) (cells : List SizedCell) (k to : ℕ) (a whole : List ℕ) → (to ≤ k) ⊎ (length cells ≤ k) → a ++ between f cells k to ≡ whole → a ≡ whole
+between_none f cells k to a whole end h = sym (append-nil a) ∙ ap (λ l. a ++ l) (sym none) ∙ h
+  where
+    none : between f cells k to ≡ []
+    none = elim end [
+      | inl past ↦ ap (λ n. listed f k (take n (drop k cells))) (let e : to - k ≡ 0 = omega arith in e)
+      | inr past ↦ ap (λ xs. listed f k (take (to - k) xs)) (drop_all k cells past) ∙ ap (listed f k) (take_all (to - k) [] (omega arith))
+    ]
+
+-- one more note
+pub noted_more : {X : Type 0} (g : X → NoteTree) (f : ℕ → SizedCell → List ℕ) (cells : List SizedCell) (k m i : ℕ) (xs : List X) (x : X) (a b c whole : List ℕ) → i < length xs → x ≡ get_or xs i x → m ≡ max k (g x).cell →
+    b ≡ a ++ between f cells k (g x).cell → c ≡ b ++ note_line (g x) → a ++ noted f cells k (map g (drop i xs)) ≡ whole → c ++ noted f cells m (map g (drop (i + 1) xs)) ≡ whole
+noted_more g f cells k m i xs x a b c whole inside is later first second h =
+    ap (λ l. l ++ noted f cells m ns) (second ∙ ap (λ l. l ++ note_line (g x)) first)
+    ∙ ap (λ p. ((a ++ between f cells k (g x).cell) ++ note_line (g x)) ++ noted f cells p ns) later
+    ∙ shape (between f cells k (g x).cell) (note_line (g x)) (noted f cells (max k (g x).cell) ns)
+    ∙ ap (λ l. a ++ noted f cells k l) (sym one) ∙ h
+  where
+    ns : List NoteTree
+    ns = map g (drop (i + 1) xs)
+
+    one : map g (drop i xs) ≡ g x ∷ ns
+    one = ap (map g) (drop-cons xs i x inside) ∙ ap (λ y. g y ∷ map g (drop (suc i) xs)) (sym is) ∙ ap (λ p. g x ∷ map g (drop p xs)) (let same : suc i ≡ i + 1 = omega arith in same)
+
+    shape : (x y z : List ℕ) → ((a ++ x) ++ y) ++ z ≡ a ++ (x ++ (y ++ z))
+    shape x y z = simp append_assoc
