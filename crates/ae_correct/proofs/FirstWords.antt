@@ -13,7 +13,7 @@ use Rattle.ae_netlist.proofs.Counting.{filter_at}
 use Rattle.ae_vread.specs.ModuleTree.{NetTree, ModuleTree}
 use Rattle.ae_elab.specs.Values.{ModuleClock}
 use Rattle.ae_elab.specs.Runs.{clock_at}
-use Rattle.ae_elab.specs.SameRuns.{BeginAlike, HasSameRuns, cell_depth, cell_words, held_words, is_state_cell, kind_depth, state_cells, states_of}
+use Rattle.ae_elab.specs.SameRuns.{BeginAlike, HasSameRuns, cell_depth, cell_words, held_words, is_state_cell, kind_depth, net_held_words, state_cells, states_of}
 use Rattle.ae_correct.specs.ClockTexts.{first_words}
 use Rattle.ae_correct.proofs.ModulePorts.{mapped_at}
 
@@ -73,10 +73,10 @@ begun cells other fill m width (Peek mem at) h some there is = cc
 
 -- ---- the module's
 
-pub begins : (m : ModuleTree) (n : Circuit) (run : List ModuleClock) (other : List Clock) (fill : ℕ) → HasSameRuns m n → BeginAlike m n run other → BeginsWith n.cells (filled n.cells fill) other → 0 < length run
-    → held_words m (clock_at run 0) ≡ map (λ (x : NetTree). first_words fill x.width (kind_depth x.kind)) (states_of m)
-begins m n run other fill same alike h some =
-    let there : 0 < length other = omega (arith, some, alike.long) in
+-- where the netlist begins with the fill, its registers and memories hold the first words of the module's
+pub net_begins : (m : ModuleTree) (n : Circuit) (other : List Clock) (fill : ℕ) → HasSameRuns m n → BeginsWith n.cells (filled n.cells fill) other → 0 < length other
+    → net_held_words n other 0 ≡ map (λ (x : NetTree). first_words fill x.width (kind_depth x.kind)) (states_of m)
+net_begins m n other fill same h there =
     let held : ℕ × SizedCell → List ℕ = λ x. cell_words x.1.cell (word_at other 0 x.0) (store_at other 0 x.0) in
     let first : ℕ × SizedCell → List ℕ = λ x. first_words fill x.1.width (cell_depth x.1.cell) in
     let wide : ℕ × SizedCell → ℕ = λ x. x.1.width in
@@ -85,6 +85,9 @@ begins m n run other fill same alike h some =
     let depth : NetTree → Option ℕ = λ x. kind_depth x.kind in
     let each : (k : ℕ) (c : SizedCell) → slice_get n.cells k ≡ Some c → is_state_cell c.cell ≡ true → held (0 + k, c) ≡ first (0 + k, c) =
     λ k c at is. (let z : k ≡ 0 + k = omega arith in ap (λ i. held (i, c)) (sym z) ∙ begun n.cells other fill k c.width c.cell h there at is) in
-    alike.first some
-    ∙ map_cells held first 0 n.cells each
+    map_cells held first 0 n.cells each
     ∙ sym (map_both (first_words fill) width depth wide deep (states_of m) (state_cells n.cells) same.widths same.depths)
+
+pub begins : (m : ModuleTree) (n : Circuit) (run : List ModuleClock) (other : List Clock) (fill : ℕ) → HasSameRuns m n → BeginAlike m n run other → BeginsWith n.cells (filled n.cells fill) other → 0 < length run
+    → held_words m (clock_at run 0) ≡ map (λ (x : NetTree). first_words fill x.width (kind_depth x.kind)) (states_of m)
+begins m n run other fill same alike h some = alike.first some ∙ net_begins m n other fill same h (omega (arith, some, alike.long))

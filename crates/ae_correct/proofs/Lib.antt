@@ -13,3 +13,5 @@ pub mod FirstWords
 pub mod FedInputs
 pub mod FedRows
 pub mod Shown
+pub mod TakenRows
+pub mod Alike

@@ -1,4 +1,4 @@
--- The clock lines of a module: what its outputs show, clock by clock, in the run on given blocks.
+-- The clock lines and the sums of a module: what its outputs show, clock by clock, in the run on given blocks.
 use Rattle.std.specs.Prelude.{◌≡◌, ℕ, ◌+◌, ◌*◌, ◌%◌, ◌^◌, ◌<◌, List, [], ◌∷◌, length, map, replicate, Option, Some, None, slice_get, get_or}
 use Rattle.ae_word.specs.AtomTree.{WordKind, atom_kinds}
 use Rattle.ae_seqtype.specs.ValueTree.{ValueTree}
@@ -10,6 +10,8 @@ use Rattle.ae_elab.specs.Values.{ModuleClock}
 use Rattle.ae_elab.specs.Runs.{clock_at, IsResetRun}
 use Rattle.ae_elab.specs.SameRuns.{states_of, kind_depth, held_words, output_words}
 use Rattle.ae_play.specs.Lines.{clock_count, clock_lines}
+use Rattle.ae_play.specs.Sums.{AreSums}
+use Rattle.ae_play.specs.declared.sums.Sums.{Sums}
 use Rattle.ae_correct.specs.Correct.{wave, input_ports, BundlesHold}
 
 -- what a register of a width, or a memory of a depth, begins with
@@ -49,3 +51,10 @@ pub record IsClockText (m : ModuleTree) (slowdown latency fill : ℕ) (inputs ou
   pub long : length run ≡ 1 + clock_count slowdown latency (length blocks)
   pub fed : IsFed m slowdown fill inputs blocks run
   pub lines : text ≡ clock_lines slowdown latency outputs (λ c. output_words m (clock_at run (1 + c))) (clock_count slowdown latency (length blocks))
+
+-- the sums are those of the run of this module on the blocks
+pub record AreClockSums (m : ModuleTree) (slowdown latency fill : ℕ) (inputs outputs : List StTree) (blocks : List (List ValueTree)) (sums : Sums) : Type 0 where
+  pub run : List ModuleClock
+  pub long : length run ≡ 1 + clock_count slowdown latency (length blocks)
+  pub fed : IsFed m slowdown fill inputs blocks run
+  pub are : AreSums slowdown latency outputs (λ c. output_words m (clock_at run (1 + c))) (clock_count slowdown latency (length blocks)) sums

@@ -1,6 +1,6 @@
 // The module of a circuit.
 
-ghost use Rattle.ae_correct.specs.Laws.{CircuitsAreCorrect, CircuitsAreWritable, PlaysAreShown};
+ghost use Rattle.ae_correct.specs.Laws.{CircuitsAreCorrect, CircuitsAreWritable, FeedsAreAlike, PlaysAreAlike, PlaysAreShown, SumsAreShown};
 
 use ae_flow::flows_mean;
 
@@ -20,4 +20,16 @@ pub fn circuits_are_correct()
 /// A law: the lines of a circuit's run on the words of blocks are those of its module on the blocks.
 pub fn plays_are_shown()
     ensures { PlaysAreShown }
+{}
+
+/// A law: the sums of a circuit's run on the words of blocks are those of its module on the blocks.
+pub fn sums_are_shown()
+    ensures { SumsAreShown }
+{}
+
+/// A law: two circuits that have the runs of one module take the same rows, and where the one is sure to have exactly one
+/// run on blocks, it shows the lines that the other shows.
+pub fn plays_are_alike()
+    ensures feeds { FeedsAreAlike }
+    ensures lines { PlaysAreAlike }
 {}

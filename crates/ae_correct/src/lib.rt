@@ -3,4 +3,6 @@
 
 mod laws;
 
-pub use laws::{circuits_are_correct, circuits_are_writable, plays_are_shown};
+pub use laws::{
+    circuits_are_correct, circuits_are_writable, plays_are_alike, plays_are_shown, sums_are_shown,
+};

@@ -3,3 +3,4 @@ pub mod Layouts
 pub mod Playing
 pub mod Standing
 pub mod WordLines
+pub mod Summing

@@ -79,29 +79,46 @@ shows_none n slowdown latency fill ins outs blocks row count old sim c o r h = r
   lines = λ run is. sym (append-nil old);
 }
 
+-- what is known once clock c was stepped with its row
+pub record IsStepped (n : Circuit) (slowdown fill : ℕ) (ins : List StTree) (blocks : List (List (List ℕ))) (count : ℕ) (sim : Simulated) (c : ℕ) : Type 0 where
+  pub played : HasPlayed sim fill (fed_rows slowdown fill ins blocks (c + 1))
+  pub some : 1 ≤ length (fed_rows slowdown fill ins blocks (c + 1))
+  pub last : length (fed_rows slowdown fill ins blocks (c + 1)) - 1 ≡ 1 + c
+  pub plays : (run : List Clock) → IsRunWith n.cells (fed_rows slowdown fill ins blocks count) (filled n.cells fill) run → Plays sim.cells fill (fed_rows slowdown fill ins blocks (c + 1)) run
+
+pub stepped : (n : Circuit) (slowdown fill : ℕ) (ins : List StTree) (blocks : List (List (List ℕ))) (row : List ℕ) (count : ℕ) (sim : Simulated) (c : ℕ)
+    → c < count → sim.cells ≡ n.cells → row ≡ clock_row slowdown fill ins blocks c → HasPlayed sim fill (fed_rows slowdown fill ins blocks c ++ row ∷ [])
+    → IsStepped n slowdown fill ins blocks count sim c
+stepped n slowdown fill ins blocks row count sim c below ce r h =
+    let reset : List ℕ = 1 ∷ fill_row fill ins in
+    let each : ℕ → List ℕ = clock_row slowdown fill ins blocks in
+    let fed : List (List ℕ) = fed_rows slowdown fill ins blocks (c + 1) in
+    let long : length fed ≡ (c + 1) + 1 = length-rows reset each (c + 1) in
+    record {
+      played = subst (λ x. HasPlayed sim fill x) (ap (λ x. fed_rows slowdown fill ins blocks c ++ x ∷ []) r ∙ rows_more reset each c) h;
+      some = omega (arith, long);
+      last = omega (arith, long);
+      plays = λ run is. subst (λ (cs : List SizedCell). Plays cs fill fed run) (sym ce) (plays_first n.cells reset each count (c + 1) fill run (omega arith) is);
+    }
+
 pub shows_more : (n : Circuit) (slowdown latency fill : ℕ) (ins outs : List StTree) (blocks : List (List (List ℕ))) (row : List ℕ) (count : ℕ) (old : List ℕ) (sim sim' : Simulated) (out out' : List ℕ) (c : ℕ)
     → Shows n slowdown latency fill ins outs blocks count old sim out c → c < count → sim'.cells ≡ sim.cells → sim'.outlets ≡ sim.outlets → row ≡ clock_row slowdown fill ins blocks c
     → HasPlayed sim' fill (fed_rows slowdown fill ins blocks c ++ row ∷ [])
     → ((fill : ℕ) (rows : List (List ℕ)) (run : List Clock) → HasPlayed sim' fill rows → 1 ≤ length rows → Plays sim'.cells fill rows run → out' ≡ out ++ clock_line slowdown latency outs c (shown_words sim'.outlets run (length rows - 1)))
     → Shows n slowdown latency fill ins outs blocks count old sim' out' (c + 1)
 shows_more n slowdown latency fill ins outs blocks row count old sim sim' out out' c s below ce oe r h line =
-    let reset : List ℕ = 1 ∷ fill_row fill ins in
-    let each : ℕ → List ℕ = clock_row slowdown fill ins blocks in
     let fed : List (List ℕ) = fed_rows slowdown fill ins blocks (c + 1) in
     let next : suc c ≡ c + 1 = omega arith in
-    let played : HasPlayed sim' fill fed = subst (λ x. HasPlayed sim' fill x) (ap (λ x. fed_rows slowdown fill ins blocks c ++ x ∷ []) r ∙ rows_more reset each c) h in
-    let long : length fed ≡ (c + 1) + 1 = length-rows reset each (c + 1) in
-    let at : length fed - 1 ≡ 1 + c = omega (arith, long) in
+    let step = stepped n slowdown fill ins blocks row count sim' c below (ce ∙ s.cells_are) r h in
     let outs_are : sim'.outlets ≡ n.outlets = oe ∙ s.outlets_are in
     record {
       cells_are = ce ∙ s.cells_are;
       outlets_are = outs_are;
-      played = played;
+      played = step.played;
       lines = λ run is.
-          let plays : Plays sim'.cells fill fed run = subst (λ (cs : List SizedCell). Plays cs fill fed run) (sym (ce ∙ s.cells_are)) (plays_first n.cells reset each count (c + 1) fill run (omega arith) is) in
           let shown : ℕ → List ℕ = λ k. shown_words n.outlets run (1 + k) in
-          line fill fed run played (omega (arith, long)) plays
-          ∙ (λ i. s.lines run is i ++ clock_line slowdown latency outs c (shown_words (outs_are i) run (at i)))
+          line fill fed run step.played step.some (step.plays run is)
+          ∙ (λ i. s.lines run is i ++ clock_line slowdown latency outs c (shown_words (outs_are i) run (step.last i)))
           ∙ append_assoc old (clock_lines slowdown latency outs shown c) (clock_line slowdown latency outs c (shown_words n.outlets run (1 + c)))
           ∙ ap (λ k. old ++ clock_lines slowdown latency outs shown k) next;
     }

@@ -1,5 +1,5 @@
 -- The lines that are written of a run.
-use Rattle.std.proofs.Common.{ℕ, zero, suc, ◌≡◌, ◌+◌, ◌<◌, ◌≤◌, ◌-◌, ◌*◌, ◌%◌, ◌&&◌, Bool, true, false, List, [], ◌∷◌, ◌++◌, length, take, map, Some, slice_get, get_or, nat_eq, nat_le, if◌then◌else◌, arith, refl, ap, sym, ◌∙◌, append_assoc}
+use Rattle.std.proofs.Common.{ℕ, zero, suc, ◌≡◌, ◌+◌, ◌<◌, ◌≤◌, ◌-◌, ◌*◌, ◌%◌, ◌&&◌, Bool, true, false, List, [], ◌∷◌, ◌++◌, length, take, map, Some, slice_get, get_or, nat_eq, nat_le, if◌then◌else◌, arith, refl, ap, sym, ◌∙◌, append_assoc, true≢false}
 use Rattle.std.specs.Prelude.{Any}
 use Rattle.std.specs.List.{list_any}
 use Rattle.std.specs.Fmt.{decimal}
@@ -12,7 +12,7 @@ use Rattle.ae_netlist.specs.Runs.{Clock, word_at}
 use Rattle.ae_sttype.specs.declared.st_type.Slot.{Slot}
 use Rattle.ae_sttype.specs.StTree.{StTree}
 use Rattle.ae_sttype.specs.Slots.{slots, IsLive}
-use Rattle.ae_play.specs.Lines.{clock_count, mark, shown_words, spaced}
+use Rattle.ae_play.specs.Lines.{clock_count, shown_words, spaced, stands}
 
 abbrev spaced_word : ℕ → List ℕ
 spaced_word w = 32 ∷ decimal w
@@ -21,16 +21,16 @@ spaced-push : (ws : List ℕ) (w : ℕ) → spaced (ws ++ w ∷ []) ≡ spaced w
 spaced-push [] w = append-nil (spaced_word w)
 spaced-push (x ∷ xs) w = ap (λ t. spaced_word x ++ t) (spaced-push xs w) ∙ sym (append_assoc (spaced_word x) (spaced xs) (spaced_word w))
 
-record IsThere {X : Type 0} (xs : List X) (k : ℕ) : Type 0 where
-  x : X
-  found : slice_get xs k ≡ Some x
+pub record IsThere {X : Type 0} (xs : List X) (k : ℕ) : Type 0 where
+  pub x : X
+  pub found : slice_get xs k ≡ Some x
 
-there : {X : Type 0} (xs : List X) (k : ℕ) → k < length xs → IsThere xs k
+pub there : {X : Type 0} (xs : List X) (k : ℕ) → k < length xs → IsThere xs k
 there [] k h = absurd (omega arith)
 there (x ∷ xs) zero h = record { x = x; found = refl }
 there (x ∷ xs) (suc k) h = let r = there xs k (omega arith) in record { x = r.x; found = r.found }
 
-mapped-at : {X Y : Type 0} (g : X → Y) (xs : List X) (k : ℕ) (x : X) (d : Y) → slice_get xs k ≡ Some x → get_or (map g xs) k d ≡ g x
+pub mapped-at : {X Y : Type 0} (g : X → Y) (xs : List X) (k : ℕ) (x : X) (d : Y) → slice_get xs k ≡ Some x → get_or (map g xs) k d ≡ g x
 mapped-at g [] k x d h = cc
 mapped-at g (y ∷ xs) zero x d h = cc
 mapped-at g (y ∷ xs) (suc k) x d h = mapped-at g xs k x d h
@@ -59,10 +59,10 @@ words_all outlets run t k old now h e =
     let long : length ws ≡ length outlets = length-map outlets (λ (x : Outlet). word_at run t x.net.0) in
     e ∙ ap (λ x. old ++ spaced x) (take_all k ws (omega (arith, h, long)))
 
--- ---- marks
+-- ---- clocks in which a result stands
 
-stands : (s : StTree) (c : ℕ) → IsLive s c → list_any (λ (w : Slot). nat_eq w.clock c) (slots s) ≡ true
-stands s c h = list_any-from_Any (λ (w : Slot). nat_eq w.clock c) (slots s) (any_tests h)
+found : (s : StTree) (c : ℕ) → IsLive s c → list_any (λ (w : Slot). nat_eq w.clock c) (slots s) ≡ true
+found s c h = list_any-from_Any (λ (w : Slot). nat_eq w.clock c) (slots s) (any_tests h)
   where
     test : (n : ℕ) → n ≡ c → nat_eq n c ≡ true
     test n e = grind (arith, nat_tests)
@@ -79,19 +79,23 @@ live s c h = any_at (Any-from_list_any (λ (w : Slot). nat_eq w.clock c) (slots 
     any_at : Any (λ (w : Slot). nat_eq w.clock c ≡ true) (slots s) → Any (λ (w : Slot). w.clock ≡ c) (slots s)
     any_at any = (any.0, any.1, any.2, any.3, at any.1.clock any.4)
 
-pub mark_live : (slowdown latency c : ℕ) (s : StTree) → latency ≤ c → IsLive s ((c - latency) % slowdown) → mark slowdown latency c s ≡ 118
-mark_live slowdown latency c s h l = rw (le-leb latency c h, stands s ((c - latency) % slowdown) l) refl
+pub stands_live : (slowdown latency c : ℕ) (s : StTree) → latency ≤ c → IsLive s ((c - latency) % slowdown) → stands slowdown latency c s ≡ true
+stands_live slowdown latency c s h l = rw (le-leb latency c h, found s ((c - latency) % slowdown) l) refl
 
-neither : (m d : ℕ) (a b : Bool) → (a ≡ true → b ≡ true → ⊥) → (if a && b then m else d) ≡ d
-neither m d true true h = absurd (h refl refl)
-neither m d true false h = refl
-neither m d false b h = refl
+neither : (a b : Bool) → (a ≡ true → b ≡ true → ⊥) → (a && b) ≡ false
+neither true true h = absurd (h refl refl)
+neither true false h = refl
+neither false b h = refl
 
 reached : (latency c : ℕ) → nat_le latency c ≡ true → latency ≤ c
 reached latency c h = grind (arith, nat_tests)
 
-pub mark_dead : (slowdown latency c : ℕ) (s : StTree) → (latency ≤ c → IsLive s ((c - latency) % slowdown) → ⊥) → mark slowdown latency c s ≡ 46
-mark_dead slowdown latency c s h = neither 118 46 (nat_le latency c) (list_any (λ (w : Slot). nat_eq w.clock ((c - latency) % slowdown)) (slots s)) (λ p q. h (reached latency c p) (live s ((c - latency) % slowdown) q))
+pub stands_not : (slowdown latency c : ℕ) (s : StTree) → (latency ≤ c → IsLive s ((c - latency) % slowdown) → ⊥) → stands slowdown latency c s ≡ false
+stands_not slowdown latency c s h = neither (nat_le latency c) (list_any (λ (w : Slot). nat_eq w.clock ((c - latency) % slowdown)) (slots s)) (λ p q. h (reached latency c p) (live s ((c - latency) % slowdown) q))
+
+pub stands_by : (slowdown latency c : ℕ) (s : StTree) (b : Bool) → latency ≤ c → (b ≡ true → IsLive s ((c - latency) % slowdown)) → (IsLive s ((c - latency) % slowdown) → b ≡ true) → b ≡ stands slowdown latency c s
+stands_by slowdown latency c s true h there here = sym (stands_live slowdown latency c s h (there refl))
+stands_by slowdown latency c s false h there here = sym (stands_not slowdown latency c s (λ late l. true≢false (sym (here l))))
 
 -- ---- a line
 

@@ -1,5 +1,5 @@
 -- What is written of a run: a line for each clock after reset.
-use Rattle.std.specs.Prelude.{◌≡◌, ℕ, zero, suc, ◌+◌, ◌-◌, ◌*◌, ◌%◌, ◌&&◌, nat_eq, nat_le, if◌then◌else◌, List, [], ◌∷◌, ◌++◌, length, map, flat_map}
+use Rattle.std.specs.Prelude.{◌≡◌, ℕ, zero, suc, ◌+◌, ◌-◌, ◌*◌, ◌%◌, Bool, ◌&&◌, nat_eq, nat_le, if◌then◌else◌, List, [], ◌∷◌, ◌++◌, length, map, flat_map}
 use Rattle.std.specs.Fmt.{decimal}
 use Rattle.std.specs.List.{list_any}
 use Rattle.ae_sttype.specs.declared.st_type.Slot.{Slot}
@@ -16,9 +16,13 @@ abbrev pub clock_count : (slowdown latency blocks : ℕ) → ℕ
 clock_count slowdown latency zero = 0
 clock_count slowdown latency (suc b) = latency + suc b * slowdown
 
--- `v` where an element of the result stands in the clock, and `.` elsewhere
+-- whether an element of the result stands in the clock
+abbrev pub stands : (slowdown latency clock : ℕ) → StTree → Bool
+stands slowdown latency c s = nat_le latency c && list_any (λ (w : Slot). nat_eq w.clock ((c - latency) % slowdown)) (slots s)
+
+-- `v` where one does, and `.` elsewhere
 abbrev pub mark : (slowdown latency clock : ℕ) → StTree → ℕ
-mark slowdown latency c s = if nat_le latency c && list_any (λ (w : Slot). nat_eq w.clock ((c - latency) % slowdown)) (slots s) then 118 else 46
+mark slowdown latency c s = if stands slowdown latency c s then 118 else 46
 
 -- each word with a space before it
 abbrev pub spaced : List ℕ → List ℕ

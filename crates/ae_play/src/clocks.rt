@@ -7,7 +7,7 @@ ghost use Rattle.ae_netlist.specs.Rows.{AreInputs};
 ghost use Rattle.ae_netlist.specs.Runs.{Clock};
 ghost use Rattle.ae_sim.specs.Playing.{HasPlayed, Plays};
 ghost use Rattle.ae_play.specs.Fed.{blocks_of, clock_row, fed_rows, fill_row, size_of};
-ghost use Rattle.ae_play.specs.Lines.{IsPlayedText, clock_count, clock_line, mark, shown_words, spaced};
+ghost use Rattle.ae_play.specs.Lines.{IsPlayedText, clock_count, clock_line, mark, shown_words, spaced, stands};
 
 use crate::rows::{push_block, push_fill};
 use ae_netlist::{Netlist, fill_begins, has_one_run_with};
@@ -16,8 +16,8 @@ use ae_sttype::StType;
 use itoa::Buffer;
 use std::alloc::{AllocError, Global};
 
-// How many clocks are shown.
-fn clock_count(slowdown: u32, latency: u32, blocks: usize) -> u32
+/// How many clocks are shown.
+pub fn clock_count(slowdown: u32, latency: u32, blocks: usize) -> u32
     requires some { 1 ≤ slowdown }
     requires few { clock_count slowdown latency blocks < 2 ^ 32 }
     ensures { result ≡ clock_count slowdown latency blocks }
@@ -29,8 +29,8 @@ fn clock_count(slowdown: u32, latency: u32, blocks: usize) -> u32
     }
 }
 
-// The row of reset.
-fn push_reset(row: &mut Vec<u64>, ins: &[StType], fill: u64) -> Result<(), AllocError>
+/// Appends the row of reset.
+pub fn push_reset(row: &mut Vec<u64>, ins: &[StType], fill: u64) -> Result<(), AllocError>
     requires sized { All IsInSize (map st_tree ins.now) }
     ensures { OnOk result (row.new.items ≡ row.old.items ++ (1 ∷ fill_row fill (map st_tree ins.now))) }
 {
@@ -38,8 +38,8 @@ fn push_reset(row: &mut Vec<u64>, ins: &[StType], fill: u64) -> Result<(), Alloc
     push_fill(row, ins, fill)
 }
 
-// The row of a clock after reset.
-fn set_row(
+/// Sets the row to that of a clock after reset.
+pub fn set_row(
     row: &mut Vec<u64>,
     ins: &[StType],
     words: &[u64],
@@ -71,13 +71,22 @@ fn set_row(
     }
 }
 
-// Whether an element of a result stands in the clock.
+/// Whether an element of a result stands in the clock.
+pub fn stands(s: &StType, slowdown: u32, latency: u32, clock: u32) -> bool
+    requires sized { IsInSize (st_tree s.now) }
+    requires some { 1 ≤ slowdown }
+    ensures { result ≡ stands slowdown latency clock (st_tree s.now) }
+{
+    latency <= clock && s.live((clock - latency) % slowdown)
+}
+
+// The mark of a result in the clock.
 fn mark(s: &StType, slowdown: u32, latency: u32, clock: u32) -> &'static str
     requires sized { IsInSize (st_tree s.now) }
     requires some { 1 ≤ slowdown }
     ensures { result.now ≡ mark slowdown latency clock (st_tree s.now) ∷ [] }
 {
-    if latency <= clock && s.live((clock - latency) % slowdown) {
+    if stands(s, slowdown, latency, clock) {
         "v"
     } else {
         "."
@@ -102,8 +111,9 @@ fn write_marks(
     Ok(())
 }
 
-// The words of the outputs, each with a space before it.
-fn write_words(out: &mut String, sim: &Sim<'_>, outputs: u32) -> Result<(), AllocError>
+/// Appends the words of the outputs in the last clock, each with a space before it; `outputs` is how many there are. The
+/// error comes only for want of memory.
+pub fn write_words(out: &mut String, sim: &Sim<'_>, outputs: u32) -> Result<(), AllocError>
     requires { outputs ≡ length sim.now.outlets }
     ensures { OnOk result ((fill : ℕ) (rows : List (List ℕ)) (run : List Clock) → HasPlayed sim.now fill rows → 1 ≤ length rows → Plays sim.now.cells fill rows run
         → string_bytes out.new ≡ string_bytes out.old ++ spaced (shown_words sim.now.outlets run (length rows - 1))) }

@@ -4,7 +4,7 @@ ghost use Rattle.std.specs.Prelude.{◌≡◌, ◌∷◌, [], IfOk, map};
 ghost use Rattle.ae_netlist.specs.declared.cell.SizedCell.{SizedCell};
 ghost use Rattle.ae_netlist.specs.Counts.{cells_of, is_input};
 
-use crate::{can_be_fed, write_clocks};
+use crate::{can_be_fed, sum_clocks, write_clocks};
 use ae_netlist::{Cell, Netlist, Port};
 use ae_sttype::StType;
 use ae_word::Atom;
@@ -62,6 +62,21 @@ fn the_fill_stands_where_no_element_does(rt: HostRuntime) -> Result<(), Fail> {
     let lines =
         "0 . 255 10\n1 v 10 20\n2 v 20 255\n3 . 255 30\n4 v 30 40\n5 v 40 255\n6 . 255 255\n";
     assert_eq!(rt; out.as_str(), lines);
+    Ok(())
+}
+
+#[test]
+fn the_sums_are_those_of_the_lines(rt: HostRuntime) -> Result<(), Fail> {
+    let alloc = rt.alloc();
+    let nl = held_input(alloc)?;
+    let of = Box::new(alloc, StType::Atom(Atom::Word(8)))?;
+    let layout = vec![in alloc; StType::T { n: 2, i: 1, of }]?;
+    let layout = layout.as_slice();
+    can_be_fed();
+    let sums = sum_clocks(alloc, &nl, layout, layout, 3, 1, &[10, 20, 30, 40], 2, 511)?;
+    assert_eq!(rt; sums.valid, 8);
+    assert_eq!(rt; sums.valid_sum, 670);
+    assert_eq!(rt; sums.whole_sum, 1730);
     Ok(())
 }
 

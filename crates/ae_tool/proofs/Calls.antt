@@ -7,11 +7,12 @@ use Rattle.ae_io.specs.Transfer.{TakesAll}
 use Rattle.ae_tool.specs.declared.status.Status.{Status}
 use Rattle.ae_tool.specs.declared.status.Status.TheVariants.{Ok, Usage, BadLine, BadType, TooLarge, NoSchedule, BadWords, BadModule, LongRun, ReadFault, WriteFault, TooLong, Memory}
 use Rattle.ae_tool.specs.declared.command.Command.{Command}
-use Rattle.ae_tool.specs.Commands.{IsCommand, NamesNone}
+use Rattle.ae_tool.specs.declared.command.Command.TheVariants.{Check, Eval, Plan, Cost, Build, Run, Sim, Demo}
+use Rattle.ae_tool.specs.Commands.{IsCommand, NamesNone, TakesInput}
 use Rattle.ae_tool.specs.Refusals.{refusal_line}
-use Rattle.ae_tool.specs.Outcomes.{input_limit, IsDone, IsOutcome, is_settled, HasOutcome, MayBeWritten, HasPart, LeavesRest, RefusesWords, IsAccepted}
+use Rattle.ae_tool.specs.Outcomes.{input_limit, IsAnswer, IsDone, IsOutcome, is_settled, HasOutcome, MayBeWritten, HasPart, LeavesRest, LeavesInput, RefusesWords, IsAccepted}
 use Rattle.ae_tool.proofs.Replies.{is_reply, done_replies, done_of_accepted, same_command}
-use Rattle.ae_tool.specs.Answers.{SourceView, SinkView, Puts, Whole, Failing, Wanting, Refuses, Answers, No_job, Unread, Past_limit, Done, No_room}
+use Rattle.ae_tool.specs.Answers.{SourceView, SinkView, Puts, Whole, Failing, Wanting, Refuses, IsMade, Demo_whole, Demo_none, Answers, No_job, Made, Unread, Past_limit, Done, No_room}
 
 -- a settled answer is that of a text that was written whole
 record IsWhole (text : List ℕ) (status result : Status) (old new : SinkView) : Type 0 where
@@ -24,25 +25,36 @@ whole text status result old new (Whole e a r) h = record { same = e; written = 
 whole text status result old new (Failing e a r) h = let never : false ≡ true = sym (ap is_settled e) ∙ h in cc
 whole text status result old new (Wanting e a r) h = let never : false ≡ true = sym (ap is_settled e) ∙ h in cc
 
-outcome_by : (ws : List (List ℕ)) (command : Command) (bytes : List ℕ) (status : Status) (text : List ℕ) → is_reply status ≡ true → IsCommand ws command → length bytes ≤ input_limit
-    → IsDone command bytes status text → IsOutcome ws bytes status text
-outcome_by ws command bytes Ok text h job few d = (command, job, few, d)
-outcome_by ws command bytes Usage text h job few d = cc
-outcome_by ws command bytes (BadLine line) text h job few d = (command, job, few, d)
-outcome_by ws command bytes (BadType line) text h job few d = (command, job, few, d)
-outcome_by ws command bytes (TooLarge line) text h job few d = (command, job, few, d)
-outcome_by ws command bytes (NoSchedule line) text h job few d = (command, job, few, d)
-outcome_by ws command bytes (BadWords row column) text h job few d = (command, job, few, d)
-outcome_by ws command bytes (BadModule fault) text h job few d = (command, job, few, d)
-outcome_by ws command bytes (LongRun size) text h job few d = (command, job, few, d)
-outcome_by ws command bytes ReadFault text h job few d = cc
-outcome_by ws command bytes WriteFault text h job few d = cc
-outcome_by ws command bytes TooLong text h job few d = cc
-outcome_by ws command bytes Memory text h job few d = cc
+-- what a job answers that takes its input
+answer_of : (command : Command) (bytes : List ℕ) (status : Status) (text : List ℕ) → TakesInput command → length bytes ≤ input_limit → IsDone command bytes status text → IsAnswer command bytes status text
+answer_of Check bytes status text reads few d = (few, d)
+answer_of Eval bytes status text reads few d = (few, d)
+answer_of (Plan slowdown) bytes status text reads few d = (few, d)
+answer_of (Cost slowdown) bytes status text reads few d = (few, d)
+answer_of (Build slowdown) bytes status text reads few d = (few, d)
+answer_of (Run slowdown fill) bytes status text reads few d = (few, d)
+answer_of (Sim fill) bytes status text reads few d = (few, d)
+answer_of (Demo size) bytes status text reads few d = absurd reads
 
-done_outcome : (ws : List (List ℕ)) (command : Command) (bytes : List ℕ) (status : Status) (text : List ℕ) → IsCommand ws command → length bytes ≤ input_limit
+outcome_by : (ws : List (List ℕ)) (command : Command) (bytes : List ℕ) (status : Status) (text : List ℕ) → is_reply status ≡ true → IsCommand ws command → TakesInput command → length bytes ≤ input_limit
     → IsDone command bytes status text → IsOutcome ws bytes status text
-done_outcome ws command bytes status text job few d = outcome_by ws command bytes status text (done_replies command bytes status text d) job few d
+outcome_by ws command bytes Ok text h job reads few d = (command, job, answer_of command bytes Ok text reads few d)
+outcome_by ws command bytes Usage text h job reads few d = cc
+outcome_by ws command bytes (BadLine line) text h job reads few d = (command, job, answer_of command bytes (BadLine line) text reads few d)
+outcome_by ws command bytes (BadType line) text h job reads few d = (command, job, answer_of command bytes (BadType line) text reads few d)
+outcome_by ws command bytes (TooLarge line) text h job reads few d = (command, job, answer_of command bytes (TooLarge line) text reads few d)
+outcome_by ws command bytes (NoSchedule line) text h job reads few d = (command, job, answer_of command bytes (NoSchedule line) text reads few d)
+outcome_by ws command bytes (BadWords row column) text h job reads few d = (command, job, answer_of command bytes (BadWords row column) text reads few d)
+outcome_by ws command bytes (BadModule fault) text h job reads few d = (command, job, answer_of command bytes (BadModule fault) text reads few d)
+outcome_by ws command bytes (LongRun size) text h job reads few d = (command, job, answer_of command bytes (LongRun size) text reads few d)
+outcome_by ws command bytes ReadFault text h job reads few d = cc
+outcome_by ws command bytes WriteFault text h job reads few d = cc
+outcome_by ws command bytes TooLong text h job reads few d = cc
+outcome_by ws command bytes Memory text h job reads few d = cc
+
+done_outcome : (ws : List (List ℕ)) (command : Command) (bytes : List ℕ) (status : Status) (text : List ℕ) → IsCommand ws command → TakesInput command → length bytes ≤ input_limit
+    → IsDone command bytes status text → IsOutcome ws bytes status text
+done_outcome ws command bytes status text job reads few d = outcome_by ws command bytes status text (done_replies command bytes status text d) job reads few d
 
 -- the outcome of a text that was appended
 appended : (ws : List (List ℕ)) (result : Status) (left old new : Option (List ℕ)) (text : List ℕ) → Appends old new text
@@ -71,19 +83,25 @@ pub outcome_of : (ws : List (List ℕ)) (r : Status) (s s' : SourceView) (k k' :
 outcome_of ws r s s' k k' (No_job other_words same puts) h =
     let w = whole (refusal_line Usage) Usage r k k' puts h in
     appended ws r s.left k.written k'.written (refusal_line Usage) w.written (λ bytes e. at_status ws bytes Usage r (refusal_line Usage) w.same (other_words, refl))
-outcome_of ws r s s' k k' (Unread command job rose puts) h =
+outcome_of ws r s s' k k' (Made size job same (Demo_whole text is puts)) h =
+    let w = whole text Ok r k k' puts h in
+    appended ws r s.left k.written k'.written text w.written (λ bytes e. at_status ws bytes Ok r text w.same (Demo size, job, (refl, is)))
+outcome_of ws r s s' k k' (Made size job same (Demo_none puts)) h =
+    let w = whole (refusal_line Memory) Memory r k k' puts h in
+    let never : false ≡ true = sym (ap is_settled w.same) ∙ h in cc
+outcome_of ws r s s' k k' (Unread command job reads rose puts) h =
     let w = whole (refusal_line ReadFault) ReadFault r k k' puts h in
     let never : false ≡ true = sym (ap is_settled w.same) ∙ h in cc
-outcome_of ws r s s' k k' (Past_limit command job takes puts) h =
+outcome_of ws r s s' k k' (Past_limit command job reads takes puts) h =
     let w = whole (refusal_line TooLong) TooLong r k k' puts h in
     appended ws r s.left k.written k'.written (refusal_line TooLong) w.written
-    (λ bytes e. at_status ws bytes TooLong r (refusal_line TooLong) w.same (command, job, taken_past s.left s'.left input_limit bytes takes e, refl))
-outcome_of ws r s s' k k' (Done command job bytes text status takes few built puts) h =
+    (λ bytes e. at_status ws bytes TooLong r (refusal_line TooLong) w.same (command, job, reads, taken_past s.left s'.left input_limit bytes takes e, refl))
+outcome_of ws r s s' k k' (Done command job reads bytes text status takes few built puts) h =
     let w = whole text status r k k' puts h in
     appended ws r s.left k.written k'.written text w.written (λ other e.
     let P : List ℕ → Type 0 = λ bs. IsOutcome ws bs status text in
-    at_status ws other status r text w.same (subst P (taken_all s.left s'.left bytes other takes e) (done_outcome ws command bytes status text job few built)))
-outcome_of ws r s s' k k' (No_room command job puts) h =
+    at_status ws other status r text w.same (subst P (taken_all s.left s'.left bytes other takes e) (done_outcome ws command bytes status text job reads few built)))
+outcome_of ws r s s' k k' (No_room command job reads puts) h =
     let w = whole (refusal_line Memory) Memory r k k' puts h in
     let never : false ≡ true = sym (ap is_settled w.same) ∙ h in cc
 
@@ -108,15 +126,19 @@ partly ws (Some bytes) (Some written) new f f' text p m = (text, p.count, p.part
 pub part_written : (ws : List (List ℕ)) (r : Status) (s s' : SourceView) (k k' : SinkView) → Answers ws r s s' k k' → HasPart ws s.left k.written k'.written s.faults s'.faults
 part_written ws r s s' k k' (No_job other_words same puts) =
     partly ws s.left k.written k'.written s.faults s'.faults (refusal_line Usage) (part_of (refusal_line Usage) Usage r k k' puts) (λ bytes e. inl (Usage, (other_words, refl)))
-part_written ws r s s' k k' (Unread command job rose puts) =
+part_written ws r s s' k k' (Made size job same (Demo_whole text is puts)) =
+    partly ws s.left k.written k'.written s.faults s'.faults text (part_of text Ok r k k' puts) (λ bytes e. inl (Ok, (Demo size, job, (refl, is))))
+part_written ws r s s' k k' (Made size job same (Demo_none puts)) =
+    partly ws s.left k.written k'.written s.faults s'.faults (refusal_line Memory) (part_of (refusal_line Memory) Memory r k k' puts) (λ bytes e. inr (inl refl))
+part_written ws r s s' k k' (Unread command job reads rose puts) =
     partly ws s.left k.written k'.written s.faults s'.faults (refusal_line ReadFault) (part_of (refusal_line ReadFault) ReadFault r k k' puts) (λ bytes e. inr (inr (rose, refl)))
-part_written ws r s s' k k' (Past_limit command job takes puts) =
+part_written ws r s s' k k' (Past_limit command job reads takes puts) =
     partly ws s.left k.written k'.written s.faults s'.faults (refusal_line TooLong) (part_of (refusal_line TooLong) TooLong r k k' puts)
-    (λ bytes e. inl (TooLong, (command, job, taken_past s.left s'.left input_limit bytes takes e, refl)))
-part_written ws r s s' k k' (Done command job bytes text status takes few built puts) =
+    (λ bytes e. inl (TooLong, (command, job, reads, taken_past s.left s'.left input_limit bytes takes e, refl)))
+part_written ws r s s' k k' (Done command job reads bytes text status takes few built puts) =
     partly ws s.left k.written k'.written s.faults s'.faults text (part_of text status r k k' puts)
-    (λ other e. let P : List ℕ → Type 0 = λ bs. IsOutcome ws bs status text in inl (status, subst P (taken_all s.left s'.left bytes other takes e) (done_outcome ws command bytes status text job few built)))
-part_written ws r s s' k k' (No_room command job puts) =
+    (λ other e. let P : List ℕ → Type 0 = λ bs. IsOutcome ws bs status text in inl (status, subst P (taken_all s.left s'.left bytes other takes e) (done_outcome ws command bytes status text job reads few built)))
+part_written ws r s s' k k' (No_room command job reads puts) =
     partly ws s.left k.written k'.written s.faults s'.faults (refusal_line Memory) (part_of (refusal_line Memory) Memory r k k' puts) (λ bytes e. inr (inl refl))
 
 -- an answer is not another
@@ -131,6 +153,12 @@ usage_not_long r a b = cc
 
 usage_not_memory : {A : Type 0} (r : Status) → r ≡ Usage → r ≡ Memory → A
 usage_not_memory r a b = cc
+
+usage_not_ok : {A : Type 0} (r : Status) → r ≡ Usage → r ≡ Ok → A
+usage_not_ok r a b = cc
+
+read_not_ok : {A : Type 0} (r : Status) → r ≡ ReadFault → r ≡ Ok → A
+read_not_ok r a b = cc
 
 read_not_write : {A : Type 0} (r : Status) → r ≡ ReadFault → r ≡ WriteFault → A
 read_not_write r a b = cc
@@ -154,18 +182,24 @@ not_reply command bytes status other text e never d =
 
 pub usage_words : (ws : List (List ℕ)) (r : Status) (s s' : SourceView) (k k' : SinkView) → Answers ws r s s' k k' → r ≡ Usage → NamesNone ws
 usage_words ws r s s' k k' (No_job other_words same puts) e = other_words
-usage_words ws r s s' k k' (Unread command job rose (Whole f a b)) e = usage_not_read r e f
-usage_words ws r s s' k k' (Unread command job rose (Failing f a b)) e = usage_not_write r e f
-usage_words ws r s s' k k' (Unread command job rose (Wanting f a b)) e = usage_not_memory r e f
-usage_words ws r s s' k k' (Past_limit command job takes (Whole f a b)) e = usage_not_long r e f
-usage_words ws r s s' k k' (Past_limit command job takes (Failing f a b)) e = usage_not_write r e f
-usage_words ws r s s' k k' (Past_limit command job takes (Wanting f a b)) e = usage_not_memory r e f
-usage_words ws r s s' k k' (Done command job bytes text status takes few built (Whole f a b)) e = not_reply command bytes status Usage text (sym f ∙ e) refl built
-usage_words ws r s s' k k' (Done command job bytes text status takes few built (Failing f a b)) e = usage_not_write r e f
-usage_words ws r s s' k k' (Done command job bytes text status takes few built (Wanting f a b)) e = usage_not_memory r e f
-usage_words ws r s s' k k' (No_room command job (Whole f a b)) e = usage_not_memory r e f
-usage_words ws r s s' k k' (No_room command job (Failing f a b)) e = usage_not_write r e f
-usage_words ws r s s' k k' (No_room command job (Wanting f a b)) e = usage_not_memory r e f
+usage_words ws r s s' k k' (Made size job same (Demo_whole text is (Whole f a b))) e = usage_not_ok r e f
+usage_words ws r s s' k k' (Made size job same (Demo_whole text is (Failing f a b))) e = usage_not_write r e f
+usage_words ws r s s' k k' (Made size job same (Demo_whole text is (Wanting f a b))) e = usage_not_memory r e f
+usage_words ws r s s' k k' (Made size job same (Demo_none (Whole f a b))) e = usage_not_memory r e f
+usage_words ws r s s' k k' (Made size job same (Demo_none (Failing f a b))) e = usage_not_write r e f
+usage_words ws r s s' k k' (Made size job same (Demo_none (Wanting f a b))) e = usage_not_memory r e f
+usage_words ws r s s' k k' (Unread command job reads rose (Whole f a b)) e = usage_not_read r e f
+usage_words ws r s s' k k' (Unread command job reads rose (Failing f a b)) e = usage_not_write r e f
+usage_words ws r s s' k k' (Unread command job reads rose (Wanting f a b)) e = usage_not_memory r e f
+usage_words ws r s s' k k' (Past_limit command job reads takes (Whole f a b)) e = usage_not_long r e f
+usage_words ws r s s' k k' (Past_limit command job reads takes (Failing f a b)) e = usage_not_write r e f
+usage_words ws r s s' k k' (Past_limit command job reads takes (Wanting f a b)) e = usage_not_memory r e f
+usage_words ws r s s' k k' (Done command job reads bytes text status takes few built (Whole f a b)) e = not_reply command bytes status Usage text (sym f ∙ e) refl built
+usage_words ws r s s' k k' (Done command job reads bytes text status takes few built (Failing f a b)) e = usage_not_write r e f
+usage_words ws r s s' k k' (Done command job reads bytes text status takes few built (Wanting f a b)) e = usage_not_memory r e f
+usage_words ws r s s' k k' (No_room command job reads (Whole f a b)) e = usage_not_memory r e f
+usage_words ws r s s' k k' (No_room command job reads (Failing f a b)) e = usage_not_write r e f
+usage_words ws r s s' k k' (No_room command job reads (Wanting f a b)) e = usage_not_memory r e f
 
 refused_usage : (r : Status) (k k' : SinkView) → Refuses Usage r k k' → RefusesWords r k.faults k'.faults k.wants k'.wants
 refused_usage r k k' (Whole f a b) = inl f
@@ -175,34 +209,44 @@ refused_usage r k k' (Wanting f a b) = inr (inr (f, b))
 pub other_words_refused : (ws : List (List ℕ)) (r : Status) (s s' : SourceView) (k k' : SinkView) → Answers ws r s s' k k' → NamesNone ws
     → RefusesWords r k.faults k'.faults k.wants k'.wants × (s'.left ≡ s.left) × (s'.faults ≡ s.faults)
 other_words_refused ws r s s' k k' (No_job other_words same puts) h = (refused_usage r k k' puts, ap (λ (v : SourceView). v.left) same, ap (λ (v : SourceView). v.faults) same)
-other_words_refused ws r s s' k k' (Unread command job rose puts) h = absurd (h command job)
-other_words_refused ws r s s' k k' (Past_limit command job takes puts) h = absurd (h command job)
-other_words_refused ws r s s' k k' (Done command job bytes text status takes few built puts) h = absurd (h command job)
-other_words_refused ws r s s' k k' (No_room command job puts) h = absurd (h command job)
+other_words_refused ws r s s' k k' (Made size job same made) h = absurd (h (Demo size) job)
+other_words_refused ws r s s' k k' (Unread command job reads rose puts) h = absurd (h command job)
+other_words_refused ws r s s' k k' (Past_limit command job reads takes puts) h = absurd (h command job)
+other_words_refused ws r s s' k k' (Done command job reads bytes text status takes few built puts) h = absurd (h command job)
+other_words_refused ws r s s' k k' (No_room command job reads puts) h = absurd (h command job)
 
 -- the line of a read fault was written whole, and the input failed
 pub read_fault : (ws : List (List ℕ)) (r : Status) (s s' : SourceView) (k k' : SinkView) → Answers ws r s s' k k' → r ≡ ReadFault → Rose s.faults s'.faults × Appends k.written k'.written (refusal_line ReadFault)
 read_fault ws r s s' k k' (No_job other_words same (Whole f a b)) e = usage_not_read r f e
 read_fault ws r s s' k k' (No_job other_words same (Failing f a b)) e = read_not_write r e f
 read_fault ws r s s' k k' (No_job other_words same (Wanting f a b)) e = read_not_memory r e f
-read_fault ws r s s' k k' (Unread command job rose (Whole f a b)) e = (rose, a)
-read_fault ws r s s' k k' (Unread command job rose (Failing f a b)) e = read_not_write r e f
-read_fault ws r s s' k k' (Unread command job rose (Wanting f a b)) e = read_not_memory r e f
-read_fault ws r s s' k k' (Past_limit command job takes (Whole f a b)) e = read_not_long r e f
-read_fault ws r s s' k k' (Past_limit command job takes (Failing f a b)) e = read_not_write r e f
-read_fault ws r s s' k k' (Past_limit command job takes (Wanting f a b)) e = read_not_memory r e f
-read_fault ws r s s' k k' (Done command job bytes text status takes few built (Whole f a b)) e = not_reply command bytes status ReadFault text (sym f ∙ e) refl built
-read_fault ws r s s' k k' (Done command job bytes text status takes few built (Failing f a b)) e = read_not_write r e f
-read_fault ws r s s' k k' (Done command job bytes text status takes few built (Wanting f a b)) e = read_not_memory r e f
-read_fault ws r s s' k k' (No_room command job (Whole f a b)) e = read_not_memory r e f
-read_fault ws r s s' k k' (No_room command job (Failing f a b)) e = read_not_write r e f
-read_fault ws r s s' k k' (No_room command job (Wanting f a b)) e = read_not_memory r e f
+read_fault ws r s s' k k' (Made size job same (Demo_whole text is (Whole f a b))) e = read_not_ok r e f
+read_fault ws r s s' k k' (Made size job same (Demo_whole text is (Failing f a b))) e = read_not_write r e f
+read_fault ws r s s' k k' (Made size job same (Demo_whole text is (Wanting f a b))) e = read_not_memory r e f
+read_fault ws r s s' k k' (Made size job same (Demo_none (Whole f a b))) e = read_not_memory r e f
+read_fault ws r s s' k k' (Made size job same (Demo_none (Failing f a b))) e = read_not_write r e f
+read_fault ws r s s' k k' (Made size job same (Demo_none (Wanting f a b))) e = read_not_memory r e f
+read_fault ws r s s' k k' (Unread command job reads rose (Whole f a b)) e = (rose, a)
+read_fault ws r s s' k k' (Unread command job reads rose (Failing f a b)) e = read_not_write r e f
+read_fault ws r s s' k k' (Unread command job reads rose (Wanting f a b)) e = read_not_memory r e f
+read_fault ws r s s' k k' (Past_limit command job reads takes (Whole f a b)) e = read_not_long r e f
+read_fault ws r s s' k k' (Past_limit command job reads takes (Failing f a b)) e = read_not_write r e f
+read_fault ws r s s' k k' (Past_limit command job reads takes (Wanting f a b)) e = read_not_memory r e f
+read_fault ws r s s' k k' (Done command job reads bytes text status takes few built (Whole f a b)) e = not_reply command bytes status ReadFault text (sym f ∙ e) refl built
+read_fault ws r s s' k k' (Done command job reads bytes text status takes few built (Failing f a b)) e = read_not_write r e f
+read_fault ws r s s' k k' (Done command job reads bytes text status takes few built (Wanting f a b)) e = read_not_memory r e f
+read_fault ws r s s' k k' (No_room command job reads (Whole f a b)) e = read_not_memory r e f
+read_fault ws r s s' k k' (No_room command job reads (Failing f a b)) e = read_not_write r e f
+read_fault ws r s s' k k' (No_room command job reads (Wanting f a b)) e = read_not_memory r e f
 
 -- a write fault comes by the sink's count
 puts_write : (text : List ℕ) (status r : Status) (k k' : SinkView) → Puts text status r k k' → (status ≡ WriteFault → ⊥) → r ≡ WriteFault → Rose k.faults k'.faults
 puts_write text status r k k' (Whole f a b) other e = absurd (other (sym f ∙ e))
 puts_write text status r k k' (Failing f a b) other e = b
 puts_write text status r k k' (Wanting f a b) other e = write_not_memory r e f
+
+ok_is_not_write : Ok ≡ WriteFault → ⊥
+ok_is_not_write h = cc
 
 usage_is_not_write : Usage ≡ WriteFault → ⊥
 usage_is_not_write h = cc
@@ -218,10 +262,12 @@ memory_is_not_write h = cc
 
 pub write_fault : (ws : List (List ℕ)) (r : Status) (s s' : SourceView) (k k' : SinkView) → Answers ws r s s' k k' → r ≡ WriteFault → Rose k.faults k'.faults
 write_fault ws r s s' k k' (No_job other_words same puts) = puts_write (refusal_line Usage) Usage r k k' puts usage_is_not_write
-write_fault ws r s s' k k' (Unread command job rose puts) = puts_write (refusal_line ReadFault) ReadFault r k k' puts read_is_not_write
-write_fault ws r s s' k k' (Past_limit command job takes puts) = puts_write (refusal_line TooLong) TooLong r k k' puts long_is_not_write
-write_fault ws r s s' k k' (Done command job bytes text status takes few built puts) = puts_write text status r k k' puts (λ e. not_reply command bytes status WriteFault text e refl built)
-write_fault ws r s s' k k' (No_room command job puts) = puts_write (refusal_line Memory) Memory r k k' puts memory_is_not_write
+write_fault ws r s s' k k' (Made size job same (Demo_whole text is puts)) = puts_write text Ok r k k' puts ok_is_not_write
+write_fault ws r s s' k k' (Made size job same (Demo_none puts)) = puts_write (refusal_line Memory) Memory r k k' puts memory_is_not_write
+write_fault ws r s s' k k' (Unread command job reads rose puts) = puts_write (refusal_line ReadFault) ReadFault r k k' puts read_is_not_write
+write_fault ws r s s' k k' (Past_limit command job reads takes puts) = puts_write (refusal_line TooLong) TooLong r k k' puts long_is_not_write
+write_fault ws r s s' k k' (Done command job reads bytes text status takes few built puts) = puts_write text status r k k' puts (λ e. not_reply command bytes status WriteFault text e refl built)
+write_fault ws r s s' k k' (No_room command job reads puts) = puts_write (refusal_line Memory) Memory r k k' puts memory_is_not_write
 
 -- a whole line was ended
 puts_ended : (text : List ℕ) (status r : Status) (k k' : SinkView) → Puts text status r k k' → (r ≡ WriteFault → ⊥) → (r ≡ Memory → ⊥) → Rose k.ends k'.ends
@@ -231,10 +277,12 @@ puts_ended text status r k k' (Wanting f a b) w m = absurd (m f)
 
 pub ended : (ws : List (List ℕ)) (r : Status) (s s' : SourceView) (k k' : SinkView) → Answers ws r s s' k k' → (r ≡ WriteFault → ⊥) → (r ≡ Memory → ⊥) → Rose k.ends k'.ends
 ended ws r s s' k k' (No_job other_words same puts) = puts_ended (refusal_line Usage) Usage r k k' puts
-ended ws r s s' k k' (Unread command job rose puts) = puts_ended (refusal_line ReadFault) ReadFault r k k' puts
-ended ws r s s' k k' (Past_limit command job takes puts) = puts_ended (refusal_line TooLong) TooLong r k k' puts
-ended ws r s s' k k' (Done command job bytes text status takes few built puts) = puts_ended text status r k k' puts
-ended ws r s s' k k' (No_room command job puts) = puts_ended (refusal_line Memory) Memory r k k' puts
+ended ws r s s' k k' (Made size job same (Demo_whole text is puts)) = puts_ended text Ok r k k' puts
+ended ws r s s' k k' (Made size job same (Demo_none puts)) = puts_ended (refusal_line Memory) Memory r k k' puts
+ended ws r s s' k k' (Unread command job reads rose puts) = puts_ended (refusal_line ReadFault) ReadFault r k k' puts
+ended ws r s s' k k' (Past_limit command job reads takes puts) = puts_ended (refusal_line TooLong) TooLong r k k' puts
+ended ws r s s' k k' (Done command job reads bytes text status takes few built puts) = puts_ended text status r k k' puts
+ended ws r s s' k k' (No_room command job reads puts) = puts_ended (refusal_line Memory) Memory r k k' puts
 
 -- nothing is left of an input that was read whole
 none_left : (left left' : Option (List ℕ)) (bytes : List ℕ) → TakesAll left left' bytes → IfSome left (λ all. left' ≡ Some [])
@@ -259,18 +307,35 @@ reply_left Memory bytes left left' h t = cc
 left_at : (status r : Status) (left left' : Option (List ℕ)) → r ≡ status → LeavesRest status left left' → LeavesRest r left left'
 left_at status r left left' e h = let P : Status → Type 0 = λ s. LeavesRest s left left' in subst P (sym e) h
 
-pub rest_left : (ws : List (List ℕ)) (r : Status) (s s' : SourceView) (k k' : SinkView) → Answers ws r s s' k k' → (command : Command) → is_settled r ≡ true → IsCommand ws command → LeavesRest r s.left s'.left
+-- a job that takes its input leaves what the status says
+leaves_of : (command : Command) (status : Status) (left left' : Option (List ℕ)) → TakesInput command → LeavesRest status left left' → LeavesInput command status left left'
+leaves_of Check status left left' reads h = h
+leaves_of Eval status left left' reads h = h
+leaves_of (Plan slowdown) status left left' reads h = h
+leaves_of (Cost slowdown) status left left' reads h = h
+leaves_of (Build slowdown) status left left' reads h = h
+leaves_of (Run slowdown fill) status left left' reads h = h
+leaves_of (Sim fill) status left left' reads h = h
+leaves_of (Demo size) status left left' reads h = absurd reads
+
+same_reads : (ws : List (List ℕ)) (a b : Command) → IsCommand ws a → IsCommand ws b → TakesInput a → TakesInput b
+same_reads ws a b x y reads = subst TakesInput (same_command ws a b x y) reads
+
+pub rest_left : (ws : List (List ℕ)) (r : Status) (s s' : SourceView) (k k' : SinkView) → Answers ws r s s' k k' → (command : Command) → is_settled r ≡ true → IsCommand ws command → LeavesInput command r s.left s'.left
 rest_left ws r s s' k k' (No_job other_words same puts) command h job = absurd (other_words command job)
-rest_left ws r s s' k k' (Unread command' job' rose puts) command h job =
+rest_left ws r s s' k k' (Made size job' same made) command h job =
+    let P : Command → Type 0 = λ x. LeavesInput x r s.left s'.left in
+    subst P (same_command ws (Demo size) command job' job) (ap (λ (v : SourceView). v.left) same)
+rest_left ws r s s' k k' (Unread command' job' reads rose puts) command h job =
     let w = whole (refusal_line ReadFault) ReadFault r k k' puts h in
     let never : false ≡ true = sym (ap is_settled w.same) ∙ h in cc
-rest_left ws r s s' k k' (Past_limit command' job' takes puts) command h job =
+rest_left ws r s s' k k' (Past_limit command' job' reads takes puts) command h job =
     let w = whole (refusal_line TooLong) TooLong r k k' puts h in
-    left_at TooLong r s.left s'.left w.same takes
-rest_left ws r s s' k k' (Done command' job' bytes text status takes few built puts) command h job =
+    leaves_of command r s.left s'.left (same_reads ws command' command job' job reads) (left_at TooLong r s.left s'.left w.same takes)
+rest_left ws r s s' k k' (Done command' job' reads bytes text status takes few built puts) command h job =
     let w = whole text status r k k' puts h in
-    left_at status r s.left s'.left w.same (reply_left status bytes s.left s'.left (done_replies command' bytes status text built) takes)
-rest_left ws r s s' k k' (No_room command' job' puts) command h job =
+    leaves_of command r s.left s'.left (same_reads ws command' command job' job reads) (left_at status r s.left s'.left w.same (reply_left status bytes s.left s'.left (done_replies command' bytes status text built) takes))
+rest_left ws r s s' k k' (No_room command' job' reads puts) command h job =
     let w = whole (refusal_line Memory) Memory r k k' puts h in
     let never : false ≡ true = sym (ap is_settled w.same) ∙ h in cc
 
@@ -281,17 +346,39 @@ puts_ok text status r k k' (Whole f a b) fine (inr e) = inr (f ∙ e)
 puts_ok text status r k k' (Failing f a b) fine e = absurd (fine b)
 puts_ok text status r k k' (Wanting f a b) fine e = inr f
 
+made_ok : (size : ℕ) (r : Status) (k k' : SinkView) → IsMade size r k k' → (Rose k.faults k'.faults → ⊥) → (r ≡ Ok) ⊎ (r ≡ Memory)
+made_ok size r k k' (Demo_whole text is puts) fine = puts_ok text Ok r k k' puts fine (inl refl)
+made_ok size r k k' (Demo_none puts) fine = puts_ok (refusal_line Memory) Memory r k k' puts fine (inr refl)
+
 pub completes : (ws : List (List ℕ)) (r : Status) (s s' : SourceView) (k k' : SinkView) → Answers ws r s s' k k' → (command : Command) → IsCommand ws command
     → (Rose s.faults s'.faults → ⊥) → (Rose k.faults k'.faults → ⊥) → IsAccepted command s.left → (r ≡ Ok) ⊎ (r ≡ Memory)
 completes ws r s s' k k' (No_job other_words same puts) command job read written i = absurd (other_words command job)
-completes ws r s s' k k' (Unread command' job' rose puts) command job read written i = absurd (read rose)
-completes ws r s s' k k' (Past_limit command' job' takes puts) command job read written i =
+completes ws r s s' k k' (Made size job' same made) command job read written i = made_ok size r k k' made written
+completes ws r s s' k k' (Unread command' job' reads rose puts) command job read written i = absurd (read rose)
+completes ws r s s' k k' (Past_limit command' job' reads takes puts) command job read written i =
     let past : input_limit < length i.bytes = taken_past s.left s'.left input_limit i.bytes takes i.told in
     absurd (omega (arith, past, i.few))
-completes ws r s s' k k' (Done command' job' all text status takes small built puts) command job read written i =
+completes ws r s s' k k' (Done command' job' reads all text status takes small built puts) command job read written i =
     let P : List ℕ → Type 0 = λ bs. IsDone command' bs status text in
     let here : IsDone command' i.bytes status text = subst P (taken_all s.left s'.left all i.bytes takes i.told) built in
     let Q : Command → Type 0 = λ x. IsDone x i.bytes status text in
     let same : IsDone command i.bytes status text = subst Q (same_command ws command' command job' job) here in
     puts_ok text status r k k' puts written (inl (done_of_accepted command s.left i status text same))
-completes ws r s s' k k' (No_room command' job' puts) command job read written i = puts_ok (refusal_line Memory) Memory r k k' puts written (inr refl)
+completes ws r s s' k k' (No_room command' job' reads puts) command job read written i = puts_ok (refusal_line Memory) Memory r k k' puts written (inr refl)
+
+-- ---- demos
+
+-- where the words name a demo, the call made it
+pub made : (ws : List (List ℕ)) (r : Status) (s s' : SourceView) (k k' : SinkView) → Answers ws r s s' k k' → (size : ℕ) → IsCommand ws (Demo size) → (s' ≡ s) × (n : ℕ) × IsMade n r k k'
+made ws r s s' k k' (No_job other_words same puts) size job = absurd (other_words (Demo size) job)
+made ws r s s' k k' (Made n job' same is) size job = (same, n, is)
+made ws r s s' k k' (Unread command job' reads rose puts) size job = absurd (same_reads ws command (Demo size) job' job reads)
+made ws r s s' k k' (Past_limit command job' reads takes puts) size job = absurd (same_reads ws command (Demo size) job' job reads)
+made ws r s s' k k' (Done command job' reads bytes text status takes few built puts) size job = absurd (same_reads ws command (Demo size) job' job reads)
+made ws r s s' k k' (No_room command job' reads puts) size job = absurd (same_reads ws command (Demo size) job' job reads)
+
+pub demo_completes : (ws : List (List ℕ)) (r : Status) (s s' : SourceView) (k k' : SinkView) → Answers ws r s s' k k' → (size : ℕ) → IsCommand ws (Demo size) → (Rose k.faults k'.faults → ⊥) → (r ≡ Ok) ⊎ (r ≡ Memory)
+demo_completes ws r s s' k k' a size job written = let m = made ws r s s' k k' a size job in made_ok m.1 r k k' m.2 written
+
+pub takes_nothing : (ws : List (List ℕ)) (r : Status) (s s' : SourceView) (k k' : SinkView) → Answers ws r s s' k k' → (size : ℕ) → IsCommand ws (Demo size) → (s'.left ≡ s.left) × (s'.faults ≡ s.faults)
+takes_nothing ws r s s' k k' a size job = let m = made ws r s s' k k' a size job in (ap (λ (v : SourceView). v.left) m.0, ap (λ (v : SourceView). v.faults) m.0)

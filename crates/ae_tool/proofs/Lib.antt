@@ -7,9 +7,15 @@ pub mod EvalSteps
 pub mod CostRows
 pub mod CsvRows
 pub mod Plans
+pub mod Noting
 pub mod Modules
 pub mod Columns
 pub mod Runs
 pub mod Played
 pub mod Shown
 pub mod Feeding
+pub mod SimRows
+pub mod SimRuns
+pub mod SimModule
+pub mod SimComplete
+pub mod Demos

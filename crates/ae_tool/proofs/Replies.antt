@@ -13,7 +13,7 @@ use Rattle.ae_seq.specs.ProgramTree.{ProgramTree}
 use Rattle.ae_tool.specs.declared.status.Status.{Status}
 use Rattle.ae_tool.specs.declared.status.Status.TheVariants.{Ok, Usage, BadLine, BadType, TooLarge, NoSchedule, BadWords, BadModule, LongRun, ReadFault, WriteFault, TooLong, Memory}
 use Rattle.ae_tool.specs.declared.command.Command.{Command}
-use Rattle.ae_tool.specs.declared.command.Command.TheVariants.{Check, Eval, Plan, Cost, Build, Run}
+use Rattle.ae_tool.specs.declared.command.Command.TheVariants.{Check, Eval, Plan, Cost, Build, Run, Sim, Demo}
 use Rattle.ae_tool.specs.Commands.{IsCommand}
 use Rattle.ae_tool.specs.Inputs.{IsCut, Marked, Unmarked}
 use Rattle.ae_tool.specs.RunTexts.{input_widths, run_size, run_limit, IsRunOf, IsRun, Unbuilt, Played}
@@ -30,6 +30,8 @@ use Rattle.ae_tool.specs.CostTables.{cost_table}
 use Rattle.ae_tool.specs.Schedules.{HasCosts, HasLargeLoad, IsAnswered, IsCostRefusal, IsCostText}
 use Rattle.ae_tool.specs.EvalTexts.{eval_size, IsEvalOf}
 use Rattle.ae_tool.specs.Outcomes.{IsChecked, IsEvaluated, Refused, Ran, IsReply, IsDone, HasResult, HasShortRun, IsAccepted}
+use Rattle.ae_tool.specs.SimTexts.{IsSimulated}
+use Rattle.ae_tool.proofs.SimComplete.{sim_complete}
 
 -- the answers of jobs
 abbrev pub is_reply : Status → Bool
@@ -46,6 +48,21 @@ is_reply ReadFault = false
 is_reply WriteFault = false
 is_reply TooLong = false
 is_reply Memory = false
+
+sim_replies : (fill : ℕ) (part : List ℕ) (table : List (List (List ℕ))) (status : Status) (text : List ℕ) → IsSimulated fill part table status text → is_reply status ≡ true
+sim_replies fill part table Ok text b = refl
+sim_replies fill part table Usage text b = absurd b.2
+sim_replies fill part table (BadLine line) text b = absurd b.2
+sim_replies fill part table (BadType line) text b = absurd b.2
+sim_replies fill part table (TooLarge line) text b = absurd b.2
+sim_replies fill part table (NoSchedule line) text b = absurd b.2
+sim_replies fill part table (BadWords row column) text b = refl
+sim_replies fill part table (BadModule fault) text b = refl
+sim_replies fill part table (LongRun size) text b = refl
+sim_replies fill part table ReadFault text b = absurd b.2
+sim_replies fill part table WriteFault text b = absurd b.2
+sim_replies fill part table TooLong text b = absurd b.2
+sim_replies fill part table Memory text b = absurd b.2
 
 refusal_replies : (part : List ℕ) (status : Status) → IsRefusal part status → is_reply status ≡ true
 refusal_replies part Ok b = absurd b
@@ -151,7 +168,9 @@ reply_replies Eval part table status text b = evaluated_replies part table statu
 reply_replies (Plan slowdown) part table status text b = answered_replies (IsCostText (plan_text slowdown) part slowdown) part slowdown status text b
 reply_replies (Cost slowdown) part table status text b = answered_replies (IsCostText (λ f s ts. cost_table f.nodes (map cost_of ts)) part slowdown) part slowdown status text b
 reply_replies (Build slowdown) part table status text b = answered_replies (IsBuiltText part slowdown) part slowdown status text b
+reply_replies (Demo size) part table status text b = absurd b
 reply_replies (Run slowdown fill) part table status text b = run_replies slowdown fill part table status text b
+reply_replies (Sim fill) part table status text b = sim_replies fill part table status text b
 
 pub done_replies : (command : Command) (bytes : List ℕ) (status : Status) (text : List ℕ) → IsDone command bytes status text → is_reply status ≡ true
 done_replies command bytes status text d = reply_replies command d.part d.table status text d.reply
@@ -162,7 +181,7 @@ done_replies command bytes status text d = reply_replies command d.part d.table 
 abbrev named_by : List (List ℕ) → Command
 named_by [] = Check
 named_by (w ∷ []) = if bytes_eq w (codes "check") then Check else Eval
-named_by (w ∷ a ∷ []) = if bytes_eq w (codes "plan") then Plan (digits_value 10 a) else if bytes_eq w (codes "cost") then Cost (digits_value 10 a) else Build (digits_value 10 a)
+named_by (w ∷ a ∷ []) = if bytes_eq w (codes "plan") then Plan (digits_value 10 a) else if bytes_eq w (codes "cost") then Cost (digits_value 10 a) else if bytes_eq w (codes "sim") then Sim (digits_value 10 a) else if bytes_eq w (codes "demo") then Demo (digits_value 10 a) else Build (digits_value 10 a)
 named_by (w ∷ a ∷ b ∷ ws) = Run (digits_value 10 a) (digits_value 10 b)
 
 named_is : (ws : List (List ℕ)) (c : Command) → IsCommand ws c → named_by ws ≡ c
@@ -171,8 +190,10 @@ named_is ws Eval h = ap named_by h.0
 named_is ws (Plan s) h = ap named_by h.0 ∙ ap (λ n. Plan n) (digits_value-decimal own s (omega (arith, h.1.1)))
 named_is ws (Cost s) h = ap named_by h.0 ∙ ap (λ n. Cost n) (digits_value-decimal own s (omega (arith, h.1.1)))
 named_is ws (Build s) h = ap named_by h.0 ∙ ap (λ n. Build n) (digits_value-decimal own s (omega (arith, h.1.1)))
+named_is ws (Demo s) h = ap named_by h.0 ∙ ap (λ n. Demo n) (digits_value-decimal own s (omega (arith, h.1.1)))
 named_is ws (Run s n) h =
     ap named_by h.0 ∙ ap (λ k. Run k (digits_value 10 (decimal n))) (digits_value-decimal own s (omega (arith, h.1.0.1))) ∙ ap (λ k. Run s k) (digits_value-decimal own n h.1.1)
+named_is ws (Sim n) h = ap named_by h.0 ∙ ap (λ n. Sim n) (digits_value-decimal own n h.1)
 
 pub same_command : (ws : List (List ℕ)) (a b : Command) → IsCommand ws a → IsCommand ws b → a ≡ b
 same_command ws a b x y = sym (named_is ws a x) ∙ named_is ws b y
@@ -394,7 +415,9 @@ reply_ok Eval part table status text h b = evaluated_ok part table status text h
 reply_ok (Plan slowdown) part table status text h b = answered_ok (IsCostText (plan_text slowdown) part slowdown) part slowdown status text h b
 reply_ok (Cost slowdown) part table status text h b = answered_ok (IsCostText (λ f s ts. cost_table f.nodes (map cost_of ts)) part slowdown) part slowdown status text h b
 reply_ok (Build slowdown) part table status text h b = answered_ok (IsBuiltText part slowdown) part slowdown status text h b
+reply_ok (Demo size) part table status text h b = absurd h
 reply_ok (Run slowdown fill) part table status text h b = run_ok slowdown fill part table status text h b
+reply_ok (Sim fill) part table status text h b = sim_complete fill part table status text h b
 
 pub done_of_accepted : (command : Command) (left : Option (List ℕ)) (i : IsAccepted command left) (status : Status) (text : List ℕ) → IsDone command i.bytes status text → status ≡ Ok
 done_of_accepted command left i status text d =

@@ -4,10 +4,12 @@ use Rattle.ae_io.specs.Counts.{Rose}
 use Rattle.ae_io.specs.Told.{Appends, AppendsPrefix, TakesCount}
 use Rattle.ae_io.specs.Transfer.{TakesAll}
 use Rattle.ae_tool.specs.declared.status.Status.{Status}
-use Rattle.ae_tool.specs.declared.status.Status.TheVariants.{Usage, ReadFault, WriteFault, TooLong, Memory}
+use Rattle.ae_tool.specs.declared.status.Status.TheVariants.{Ok, Usage, ReadFault, WriteFault, TooLong, Memory}
 use Rattle.ae_tool.specs.declared.command.Command.{Command}
-use Rattle.ae_tool.specs.Commands.{IsCommand, NamesNone}
+use Rattle.ae_tool.specs.declared.command.Command.TheVariants.{Demo}
+use Rattle.ae_tool.specs.Commands.{IsCommand, NamesNone, TakesInput}
 use Rattle.ae_tool.specs.Refusals.{refusal_line}
+use Rattle.ae_tool.specs.DemoTexts.{IsDemoText}
 use Rattle.ae_tool.specs.Outcomes.{input_limit, IsDone}
 
 -- what is seen of a source: the bytes left, where they are told, and its count of faults
@@ -32,11 +34,17 @@ pub data Puts (text : List ℕ) (status result : Status) (old new : SinkView) : 
 abbrev pub Refuses : (status result : Status) (old new : SinkView) → Type 0
 Refuses status = Puts (refusal_line status) status
 
--- how a call may go: the words name no job; the input failed, is too long or was read whole; or memory ran out
+-- a demo was written, or there was no memory for it
+pub data IsMade (size : ℕ) (result : Status) (old new : SinkView) : Type 0 where
+  Demo_whole : (text : List ℕ) → IsDemoText size text → Puts text Ok result old new → IsMade size result old new
+  Demo_none : Refuses Memory result old new → IsMade size result old new
+
+-- how a call may go: the words name no job, or a demo; the input failed, is too long or was read whole; or memory ran out
 pub data Answers (words : List (List ℕ)) (result : Status) (source source' : SourceView) (sink sink' : SinkView) : Type 0 where
   No_job : NamesNone words → source' ≡ source → Refuses Usage result sink sink' → Answers words result source source' sink sink'
-  Unread : (command : Command) → IsCommand words command → Rose source.faults source'.faults → Refuses ReadFault result sink sink' → Answers words result source source' sink sink'
-  Past_limit : (command : Command) → IsCommand words command → TakesCount source.left source'.left (input_limit + 1) → Refuses TooLong result sink sink' → Answers words result source source' sink sink'
-  Done : (command : Command) → IsCommand words command → (bytes text : List ℕ) (status : Status) → TakesAll source.left source'.left bytes → length bytes ≤ input_limit
+  Made : (size : ℕ) → IsCommand words (Demo size) → source' ≡ source → IsMade size result sink sink' → Answers words result source source' sink sink'
+  Unread : (command : Command) → IsCommand words command → TakesInput command → Rose source.faults source'.faults → Refuses ReadFault result sink sink' → Answers words result source source' sink sink'
+  Past_limit : (command : Command) → IsCommand words command → TakesInput command → TakesCount source.left source'.left (input_limit + 1) → Refuses TooLong result sink sink' → Answers words result source source' sink sink'
+  Done : (command : Command) → IsCommand words command → TakesInput command → (bytes text : List ℕ) (status : Status) → TakesAll source.left source'.left bytes → length bytes ≤ input_limit
       → IsDone command bytes status text → Puts text status result sink sink' → Answers words result source source' sink sink'
-  No_room : (command : Command) → IsCommand words command → Refuses Memory result sink sink' → Answers words result source source' sink sink'
+  No_room : (command : Command) → IsCommand words command → TakesInput command → Refuses Memory result sink sink' → Answers words result source source' sink sink'

@@ -3,7 +3,7 @@ use Rattle.std.specs.Prelude.{◌≡◌, ℕ, ◌<◌, ◌≤◌, ◌^◌, List,
 use Rattle.std.specs.Fmt.{decimal}
 use Rattle.std.specs.declared.alloc.Global.{Global}
 use Rattle.ae_tool.specs.declared.command.Command.{Command}
-use Rattle.ae_tool.specs.declared.command.Command.TheVariants.{Check, Eval, Plan, Cost, Build, Run}
+use Rattle.ae_tool.specs.declared.command.Command.TheVariants.{Check, Eval, Plan, Cost, Build, Run, Sim, Demo}
 
 -- the bytes of each word
 abbrev pub word_bytes : List (String Global) → List (List ℕ)
@@ -16,7 +16,9 @@ job_word Eval = codes "eval"
 job_word (Plan slowdown) = codes "plan"
 job_word (Cost slowdown) = codes "cost"
 job_word (Build slowdown) = codes "build"
+job_word (Demo size) = codes "demo"
 job_word (Run slowdown fill) = codes "run"
+job_word (Sim fill) = codes "sim"
 
 abbrev pub number_words : Command → List (List ℕ)
 number_words Check = []
@@ -24,18 +26,32 @@ number_words Eval = []
 number_words (Plan slowdown) = decimal slowdown ∷ []
 number_words (Cost slowdown) = decimal slowdown ∷ []
 number_words (Build slowdown) = decimal slowdown ∷ []
+number_words (Demo size) = decimal size ∷ []
 number_words (Run slowdown fill) = decimal slowdown ∷ decimal fill ∷ []
+number_words (Sim fill) = decimal fill ∷ []
 
--- a slowdown, and the numbers of a job, within their limits
+-- a slowdown within its limits
 abbrev pub IsSlowdown : ℕ → Type 0
 IsSlowdown s = (1 ≤ s) × (s ≤ 4096)
 
+-- a size of demos
+abbrev pub IsDemoSize : ℕ → Type 0
+IsDemoSize n = (1 ≤ n) × (n ≤ 64)
+
+-- the numbers of a job are within their limits
 abbrev pub AreInRange : Command → Type 0
 AreInRange (Plan slowdown) = IsSlowdown slowdown
 AreInRange (Cost slowdown) = IsSlowdown slowdown
 AreInRange (Build slowdown) = IsSlowdown slowdown
+AreInRange (Demo size) = IsDemoSize size
 AreInRange (Run slowdown fill) = IsSlowdown slowdown × (fill < 2 ^ 64)
+AreInRange (Sim fill) = fill < 2 ^ 64
 AreInRange _ = Unit {0}
+
+-- the job takes its input: a demo takes nothing
+abbrev pub TakesInput : Command → Type 0
+TakesInput (Demo size) = ⊥
+TakesInput _ = Unit {0}
 
 -- the words name this job
 abbrev pub IsCommand : (words : List (List ℕ)) → Command → Type 0

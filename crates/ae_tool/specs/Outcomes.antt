@@ -9,16 +9,18 @@ use Rattle.ae_tool.specs.declared.status.Status.{Status}
 use Rattle.ae_tool.specs.declared.status.Status.TheVariants.{Ok, Usage, ReadFault, WriteFault, TooLong, Memory}
 use Rattle.ae_parse.specs.Rows.{bad_row}
 use Rattle.ae_tool.specs.declared.command.Command.{Command}
-use Rattle.ae_tool.specs.declared.command.Command.TheVariants.{Check, Eval, Plan, Cost, Build, Run}
-use Rattle.ae_tool.specs.Commands.{IsCommand, NamesNone}
+use Rattle.ae_tool.specs.declared.command.Command.TheVariants.{Check, Eval, Plan, Cost, Build, Run, Sim, Demo}
+use Rattle.ae_tool.specs.Commands.{IsCommand, NamesNone, TakesInput}
 use Rattle.ae_tool.specs.Inputs.{IsCut}
 use Rattle.ae_tool.specs.Refusals.{refusal_line}
 use Rattle.ae_tool.specs.Building.{IsBuiltText, main_costs}
 use Rattle.ae_tool.specs.Programs.{IsTyped, IsRefusal}
+use Rattle.ae_tool.specs.DemoTexts.{IsDemoText}
 use Rattle.ae_tool.specs.CheckTexts.{check_text}
 use Rattle.ae_tool.specs.Schedules.{IsAnswered, IsPlanned, IsTabled, HasCosts}
 use Rattle.ae_tool.specs.EvalTexts.{eval_size, IsEvalOf}
 use Rattle.ae_tool.specs.RunTexts.{input_widths, run_size, run_limit, IsRun}
+use Rattle.ae_tool.specs.SimTexts.{IsSimulated, IsSimulable}
 
 -- the most bytes of an input
 abbrev pub input_limit : ℕ
@@ -38,14 +40,16 @@ pub data IsEvaluated (part : List ℕ) (table : List (List (List ℕ))) (status 
   Refused : IsRefusal part status → text ≡ refusal_line status → IsEvaluated part table status text
   Ran : (p : ProgramTree) → IsTyped part p → IsEvalOf p table status text → IsEvaluated part table status text
 
--- what a job answers and writes for the two parts of an input
+-- what a job answers and writes for the two parts of an input; a demo takes none
 abbrev pub IsReply : Command → (part : List ℕ) (table : List (List (List ℕ))) → Status → (text : List ℕ) → Type 0
 IsReply Check part table status text = IsChecked part status text
 IsReply Eval part table status text = IsEvaluated part table status text
 IsReply (Plan slowdown) part table status text = IsPlanned part slowdown status text
 IsReply (Cost slowdown) part table status text = IsTabled part slowdown status text
 IsReply (Build slowdown) part table status text = IsBuilt part slowdown status text
+IsReply (Demo size) part table status text = ⊥
 IsReply (Run slowdown fill) part table status text = IsRun slowdown fill part table status text
+IsReply (Sim fill) part table status text = IsSimulated fill part table status text
 
 -- the same for an input within the limit
 pub record IsDone (command : Command) (bytes : List ℕ) (status : Status) (text : List ℕ) : Type 0 where
@@ -54,11 +58,16 @@ pub record IsDone (command : Command) (bytes : List ℕ) (status : Status) (text
   pub cut : IsCut bytes part table
   pub reply : IsReply command part table status text
 
+-- what a job answers and writes for the bytes of the input: a demo takes none, and has one answer
+abbrev pub IsAnswer : Command → (bytes : List ℕ) → Status → (text : List ℕ) → Type 0
+IsAnswer (Demo size) bytes status text = (status ≡ Ok) × IsDemoText size text
+IsAnswer command bytes status text = (length bytes ≤ input_limit) × IsDone command bytes status text
+
 -- what a call answers and writes, where neither the input nor the output failed and there was memory
 abbrev pub IsOutcome : (words : List (List ℕ)) (bytes : List ℕ) → Status → (text : List ℕ) → Type 0
 IsOutcome words bytes Usage text = NamesNone words × (text ≡ refusal_line Usage)
-IsOutcome words bytes TooLong text = (command : Command) × IsCommand words command × (input_limit < length bytes) × (text ≡ refusal_line TooLong)
-IsOutcome words bytes status text = (command : Command) × IsCommand words command × (length bytes ≤ input_limit) × IsDone command bytes status text
+IsOutcome words bytes TooLong text = (command : Command) × IsCommand words command × TakesInput command × (input_limit < length bytes) × (text ≡ refusal_line TooLong)
+IsOutcome words bytes status text = (command : Command) × IsCommand words command × IsAnswer command bytes status text
 
 -- the answers by which a whole text was written that the words and the input decide
 abbrev pub is_settled : Status → Bool
@@ -87,6 +96,11 @@ abbrev pub LeavesRest : Status → (old new : Option (List ℕ)) → Type 0
 LeavesRest TooLong old new = TakesCount old new (input_limit + 1)
 LeavesRest _ old new = IfSome old (λ bytes. new ≡ Some [])
 
+-- the same by the job: a demo takes nothing
+abbrev pub LeavesInput : Command → Status → (old new : Option (List ℕ)) → Type 0
+LeavesInput (Demo size) status old new = new ≡ old
+LeavesInput command status old new = LeavesRest status old new
+
 -- words that name no job are refused, or the sink failed or had no memory for the line
 abbrev pub RefusesWords : Status → (old_faults new_faults old_wants new_wants : ℕ) → Type 0
 RefusesWords status old_faults new_faults old_wants new_wants =
@@ -100,14 +114,16 @@ pub record HasShortRun (part : List ℕ) (slowdown : ℕ) (table : List (List (L
   pub rows : bad_row 1 (input_widths program) table ≡ None
   pub short : (instances : List StFuncTree) → IsSchedule program slowdown instances → run_size program slowdown (main_costs instances).latency table ≤ run_limit
 
--- the job has a result for the two parts of an input
+-- the job has a result for the two parts of an input; a demo takes none
 abbrev pub HasResult : Command → (part : List ℕ) (table : List (List (List ℕ))) → Type 0
 HasResult Check part table = (p : ProgramTree) × IsTyped part p
 HasResult Eval part table = (p : ProgramTree) × IsTyped part p × (bad_row 1 (input_widths p) table ≡ None) × (eval_size p table ≤ run_limit)
 HasResult (Plan slowdown) part table = HasCosts part slowdown
 HasResult (Cost slowdown) part table = HasCosts part slowdown
 HasResult (Build slowdown) part table = HasCosts part slowdown
+HasResult (Demo size) part table = ⊥
 HasResult (Run slowdown fill) part table = HasShortRun part slowdown table
+HasResult (Sim fill) part table = IsSimulable part table
 
 -- the input is told, within the limit, and one for which the job has a result
 pub record IsAccepted (command : Command) (left : Option (List ℕ)) : Type 0 where

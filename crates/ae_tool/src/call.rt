@@ -1,12 +1,13 @@
 // The one call of the compiler.
 
-ghost use Rattle.std.specs.Prelude.{◌≡◌, ◌⊎◌, true};
+ghost use Rattle.std.specs.Prelude.{◌≡◌, ◌⊎◌, ℕ, true};
 ghost use Rattle.ae_io.specs.Counts.{Rose};
 ghost use Rattle.ae_io.specs.Told.{Appends};
 ghost use Rattle.ae_tool.specs.declared.command.Command.{Command};
+ghost use Rattle.ae_tool.specs.declared.command.Command.TheVariants.{Demo};
 ghost use Rattle.ae_tool.specs.Commands.{word_bytes, IsCommand, NamesNone};
 ghost use Rattle.ae_tool.specs.Refusals.{refusal_line};
-ghost use Rattle.ae_tool.specs.Outcomes.{is_settled, HasOutcome, HasPart, LeavesRest, IsAccepted, RefusesWords};
+ghost use Rattle.ae_tool.specs.Outcomes.{is_settled, HasOutcome, HasPart, LeavesInput, IsAccepted, RefusesWords};
 
 use crate::serve::serve;
 use crate::status::Status;
@@ -15,12 +16,13 @@ use std::alloc::Global;
 
 /// Answers a job, named by its words: reads the whole input, and writes the job's text or the line of a refusal.
 ///
-/// The jobs are `check`, `eval`, `plan S`, `cost S`, `build S` and `run S FILL`; all other words are `Usage`, for which
-/// nothing is read. With `Ok` the text of `build` and `run` spells a module that is correct for the program in the input,
-/// at the slowdown and with the latency that its report lines tell: README.md says in plain words what that is. `run`
-/// shows behind it the module's run on the rows in the input, every word of every clock. `ReadFault` and `WriteFault` come
-/// only where the count of faults of the source or sink that was handed in rose in this call. `Memory` may stand in place
-/// of any answer; in place of `Usage` only where the sink had no memory.
+/// `Command` lists the jobs; all other words are `Usage`. For these, and for `demo`, nothing is read. With `Ok` the
+/// text of `build` and `run` spells a module that is correct for the program in the input, at the slowdown and with the
+/// latency that its report lines tell: README.md says in plain words what that is. `run` shows behind it the module's
+/// run on the rows in the input, every word of every clock; `sim` shows the run of a module that the input spells, and
+/// `demo` sums the run of the module that it writes. `ReadFault` and `WriteFault` come only where the count of faults
+/// of the source or sink that was handed in rose in this call. `Memory` may stand in place of any answer; in place of
+/// `Usage` only where the sink had no memory.
 pub fn aeth<S: Source, K: Sink>(
     alloc: Global,
     words: &[String],
@@ -31,7 +33,9 @@ pub fn aeth<S: Source, K: Sink>(
     ensures part { HasPart (word_bytes words.now) (S.left source.old) (K.written sink.old) (K.written sink.new) (S.faults source.old) (S.faults source.new) }
     ensures complete { (command : Command) → IsCommand (word_bytes words.now) command → (Rose (S.faults source.old) (S.faults source.new) → ⊥) → (Rose (K.faults sink.old) (K.faults sink.new) → ⊥)
         → IsAccepted command (S.left source.old) → (result ≡ Status.Ok) ⊎ (result ≡ Status.Memory) }
-    ensures left { (command : Command) → is_settled result ≡ true → IsCommand (word_bytes words.now) command → LeavesRest result (S.left source.old) (S.left source.new) }
+    ensures demo { (size : ℕ) → IsCommand (word_bytes words.now) (Demo size) → (Rose (K.faults sink.old) (K.faults sink.new) → ⊥) → (result ≡ Status.Ok) ⊎ (result ≡ Status.Memory) }
+    ensures takes_nothing { (size : ℕ) → IsCommand (word_bytes words.now) (Demo size) → (S.left source.new ≡ S.left source.old) × (S.faults source.new ≡ S.faults source.old) }
+    ensures left { (command : Command) → is_settled result ≡ true → IsCommand (word_bytes words.now) command → LeavesInput command result (S.left source.old) (S.left source.new) }
     ensures ended { (result ≡ Status.WriteFault → ⊥) → (result ≡ Status.Memory → ⊥) → Rose (K.ends sink.old) (K.ends sink.new) }
 
     ensures usage { result ≡ Status.Usage → NamesNone (word_bytes words.now) }

@@ -9,7 +9,7 @@ const INCREMENT: &str =
     "fn inc x:u8\none = const u8 1\ny = add x one\nend y\nfn main a:[4]u8\nb = map inc a\nend b\n";
 
 // Texts, and what `check` writes.
-const CHECKS: [(&str, &str); 18] = [
+const CHECKS: [(&str, &str); 21] = [
     (
         INCREMENT,
         "1 fn inc x:u8\n2 one u8\n3 y u8\n4 end u8\n5 fn main a:[4]u8\n6 b [4]u8\n7 end [4]u8\n",
@@ -23,6 +23,9 @@ const CHECKS: [(&str, &str); 18] = [
         "3 fn main a:(u8,i4) b:[2]u3\n4 x i4\n5 end [2]u3 i4 (u8,i4)\n",
     ),
     ("", "refused bad line 1\n"),
+    ("\0", "refused bad line 1\n"),
+    ("%%\n\n", "refused bad line 1\n"),
+    ("# nothing", "refused bad line 2\n"),
     ("fn main a:u8", "refused bad line 2\n"),
     ("fn main a:u8\n%%\n", "refused bad line 2\n"),
     ("%%\nfn main a:u8\nend a\n", "refused bad line 1\n"),
@@ -182,6 +185,36 @@ fn eval_keeps_what_a_sink_took_before_it_failed(rt: HostRuntime) -> Result<(), F
     Ok(())
 }
 
+// The status of `check` and how many bytes it writes, where reading or writing first fails in these calls.
+fn faulty(
+    alloc: Global,
+    text: &[u8],
+    reading: &[u32],
+    writing: &[u32],
+) -> Result<(u8, usize), AllocError> {
+    let mut words = Vec::new(alloc);
+    words.push(String::from_str(alloc, "check")?)?;
+    let mut source = MemSource::new(alloc, text, 1_000_000, reading)?;
+    let mut sink = MemSink::new(alloc, 1000, writing)?;
+    let status = aeth(alloc, &words, &mut source, &mut sink);
+    Ok((status.number(), sink.bytes().len()))
+}
+
+#[test]
+fn check_tells_faults(rt: HostRuntime) -> Result<(), Fail> {
+    let found = faulty(rt.alloc(), INCREMENT.as_bytes(), &[0], &[])?;
+    assert_eq!(rt; found, (9, 19));
+    for text in [INCREMENT, "", "fn main a:[4]u8\nb = shift 5 a\nend b\n"] {
+        let found = faulty(rt.alloc(), text.as_bytes(), &[], &[0])?;
+        assert_eq!(rt; found, (10, 0), "{text}");
+    }
+    let long = vec![in rt.alloc(); b'\n'; 16_777_217]?;
+    assert_eq!(rt; faulty(rt.alloc(), &long, &[], &[])?, (11, 17));
+    assert_eq!(rt; faulty(rt.alloc(), &long, &[], &[0])?, (10, 0));
+    assert_eq!(rt; faulty(rt.alloc(), &long, &[2], &[])?, (9, 19));
+    Ok(())
+}
+
 #[test]
 fn eval_refuses_too_many_words(rt: HostRuntime) -> Result<(), Fail> {
     let mut text = String::from_str(rt.alloc(), "fn main a:[1]u8\nb = up 4096 a\nend b\n%%\n")?;
@@ -196,23 +229,26 @@ fn eval_refuses_too_many_words(rt: HostRuntime) -> Result<(), Fail> {
     Ok(())
 }
 
-// A program of so many nodes.
-fn many_nodes(alloc: Global, nodes: u32) -> Result<String, AllocError> {
-    let mut text = String::from_str(alloc, "fn main a:[4]u8\n")?;
-    for node in 0..nodes {
-        let node = format!(in alloc; "b{node} = shift 1 a\n")?;
-        text.push_str(node.as_str())?;
+// The increment, with so many copies of its map behind it.
+fn many_maps(alloc: Global, copies: u32) -> Result<String, AllocError> {
+    let mut text = String::from_str(
+        alloc,
+        "fn inc x:u8\none = const u8 1\ny = add x one\nend y\nfn main a:[4]u8\nb = map inc a\n",
+    )?;
+    for copy in 0..copies {
+        let map = format!(in alloc; "b{copy} = map inc a\n")?;
+        text.push_str(map.as_str())?;
     }
-    text.push_str("end a\n")?;
+    text.push_str("end b\n")?;
     Ok(text)
 }
 
 #[test]
 fn check_takes_4096_lines(rt: HostRuntime) -> Result<(), Fail> {
-    let text = many_nodes(rt.alloc(), 4094)?;
+    let text = many_maps(rt.alloc(), 4089)?;
     let written = reply(rt.alloc(), "check", text.as_str())?;
     assert!(rt; written.as_slice().ends_with(b"\n4096 end [4]u8\n"));
-    let text = many_nodes(rt.alloc(), 4095)?;
+    let text = many_maps(rt.alloc(), 4090)?;
     let written = reply(rt.alloc(), "check", text.as_str())?;
     assert_eq!(rt; written.as_slice(), b"refused bad line 4097\n".as_slice());
     Ok(())

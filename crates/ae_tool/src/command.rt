@@ -2,7 +2,8 @@
 
 ghost use Rattle.std.specs.Prelude.{◌≡◌, ◌∷◌, [], ℕ, ◌<◌, ◌≤◌, ◌^◌, codes, MatchOption};
 ghost use Rattle.std.specs.Fmt.{decimal};
-ghost use Rattle.ae_tool.specs.Commands.{word_bytes, IsCommand, IsSlowdown, NamesNone};
+ghost use Rattle.ae_tool.specs.declared.command.Command.TheVariants.{Demo};
+ghost use Rattle.ae_tool.specs.Commands.{word_bytes, IsCommand, IsDemoSize, IsSlowdown, NamesNone, TakesInput};
 
 use ae_parse::number;
 
@@ -21,6 +22,10 @@ pub enum Command {
     Build { slowdown: u32 },
     /// `run S FILL`: that text, and the lines of the module's run on the rows.
     Run { slowdown: u32, fill: u64 },
+    /// `sim FILL`: the clock lines of the module that a text spells, on the rows.
+    Sim { fill: u64 },
+    /// `demo N`: the module of a program that grows with N, and what is summed of its run.
+    Demo { size: u32 },
 }
 
 /// The job that the words name, if they name one.
@@ -29,9 +34,27 @@ pub fn command_named(words: &[String]) -> Option<Command>
 {
     match words {
         [job] => one_word(job.as_str()),
-        [job, slowdown] => two_words(job.as_str(), slowdown.as_str()),
+        [job, number] => two_words(job.as_str(), number.as_str()),
         [job, slowdown, fill] => three_words(job.as_str(), slowdown.as_str(), fill.as_str()),
         _ => None,
+    }
+}
+
+/// The size of a demo, if the job is one.
+pub fn demo_size(command: Command) -> Option<u32>
+    ensures { MatchOption result (TakesInput command) (λ n. command ≡ Demo n) }
+{
+    match command {
+        Command::Demo { size } => Some(size),
+        Command::Check | Command::Eval => None,
+        Command::Plan { slowdown: _ } => None,
+        Command::Cost { slowdown: _ } => None,
+        Command::Build { slowdown: _ } => None,
+        Command::Run {
+            slowdown: _,
+            fill: _,
+        } => None,
+        Command::Sim { fill: _ } => None,
     }
 }
 
@@ -47,15 +70,19 @@ fn one_word(job: &str) -> Option<Command>
     }
 }
 
-fn two_words(job: &str, slowdown: &str) -> Option<Command>
-    ensures { MatchOption result (NamesNone (job.now ∷ slowdown.now ∷ [])) (λ c. IsCommand (job.now ∷ slowdown.now ∷ []) c) }
+fn two_words(job: &str, number: &str) -> Option<Command>
+    ensures { MatchOption result (NamesNone (job.now ∷ number.now ∷ [])) (λ c. IsCommand (job.now ∷ number.now ∷ []) c) }
 {
     if job == "build" {
-        build(slowdown)
+        build(number)
     } else if job == "plan" {
-        plan(slowdown)
+        plan(number)
     } else if job == "cost" {
-        cost(slowdown)
+        cost(number)
+    } else if job == "demo" {
+        demo(number)
+    } else if job == "sim" {
+        sim(number)
     } else {
         None
     }
@@ -88,6 +115,24 @@ fn cost(slowdown: &str) -> Option<Command>
     }
 }
 
+fn sim(fill: &str) -> Option<Command>
+    ensures { MatchOption result (NamesNone (codes "sim" ∷ fill.now ∷ [])) (λ c. IsCommand (codes "sim" ∷ fill.now ∷ []) c) }
+{
+    match plain_number(fill.as_bytes()) {
+        Some(fill) => Some(Command::Sim { fill }),
+        None => None,
+    }
+}
+
+fn demo(size: &str) -> Option<Command>
+    ensures { MatchOption result (NamesNone (codes "demo" ∷ size.now ∷ [])) (λ c. IsCommand (codes "demo" ∷ size.now ∷ []) c) }
+{
+    match size_of(size) {
+        Some(size) => Some(Command::Demo { size }),
+        None => None,
+    }
+}
+
 // The slowdown that the digits write without leading zeros.
 fn slowdown_of(digits: &str) -> Option<u32>
     ensures { MatchOption result ((s : ℕ) → IsSlowdown s → digits.now ≡ decimal s → ⊥) (λ s. (digits.now ≡ decimal s) × IsSlowdown s) }
@@ -96,6 +141,23 @@ fn slowdown_of(digits: &str) -> Option<u32>
         Some(n) => {
             if 1 <= n && n <= 4096 {
                 Some(n as u32)
+            } else {
+                None
+            }
+        }
+        None => None,
+    }
+}
+
+// The size of a demo that the digits write without leading zeros.
+fn size_of(digits: &str) -> Option<u32>
+    ensures { MatchOption result ((s : ℕ) → IsDemoSize s → digits.now ≡ decimal s → ⊥) (λ s. (digits.now ≡ decimal s) × IsDemoSize s) }
+{
+    match plain_number(digits.as_bytes()) {
+        Some(n) => {
+            if 1 <= n && n <= 64 {
+                let size = n as u32;
+                Some(size)
             } else {
                 None
             }

@@ -14,7 +14,7 @@ ghost use Rattle.ae_correct.specs.Correct.{parameter_types, result_types};
 ghost use Rattle.ae_tool.specs.EvalRows.{AreRows, values_in_row};
 ghost use Rattle.ae_tool.specs.EvalTexts.{IsEvalOf, eval_text, type_words, words_line};
 
-use crate::reply::{OutOfMemory, Reply, refused};
+use crate::reply::{OutOfMemory, RUN_LIMIT, Reply, refused};
 use crate::status::Status;
 use crate::widths::input_widths;
 use ae_eval::eval;
@@ -23,9 +23,6 @@ use ae_seq::Typed;
 use ae_seqtype::Value;
 use itoa::Buffer;
 use std::alloc::{AllocError, Global};
-
-// The greatest size of a run.
-const RUN_LIMIT: u64 = 4_194_304;
 
 // The number of the program function.
 fn last_func(p: &Typed) -> u32

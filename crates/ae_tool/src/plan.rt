@@ -65,8 +65,8 @@ pub fn find_costs(alloc: Global, part: &[u8], slowdown: u32) -> Result<Costed, S
     }
 }
 
-// The program function, which is the last.
-fn main_func(p: &Typed) -> &Func
+/// The program function, which is the last.
+pub fn main_func(p: &Typed) -> &Func
     ensures formed { IsTrue (formed (program_tree p.now)) }
     ensures last { slice_get (program_tree p.now).funcs (main_of (program_tree p.now)) ≡ Some (func_tree result.now) }
 {

@@ -9,7 +9,7 @@ const INCREMENT: &str =
     "fn inc x:u8\none = const u8 1\ny = add x one\nend y\nfn main a:[4]u8\nb = map inc a\nend b\n";
 
 // Slowdowns, texts, and what `plan` writes.
-const PLANS: [(&str, &str, &str); 39] = [
+const PLANS: [(&str, &str, &str); 40] = [
     (
         "1",
         INCREMENT,
@@ -124,6 +124,11 @@ const PLANS: [(&str, &str, &str); 39] = [
         "2",
         "fn main a:[4]u8\nb = reduce add a\nend b\n",
         "slowdown 2\nlatency 3\nmuls 0\nload 12\n1 a 0 TSeq 2 0 SSeq 2 u8\n2 b 3 TSeq 1 0 TSeq 1 1 u8\n3 end 3 TSeq 1 0 TSeq 1 1 u8\n",
+    ),
+    (
+        "1",
+        "fn main a:[4]u8\nb = reduce add a\nend b\n",
+        "slowdown 1\nlatency 2\nmuls 0\nload 12\n1 a 0 SSeq 4 u8\n2 b 2 SSeq 1 u8\n3 end 2 SSeq 1 u8\n",
     ),
     (
         "1",

@@ -2,7 +2,7 @@
 
 ghost use Rattle.std.specs.Prelude.{◌≡◌, ◌<◌, ◌≤◌, ◌^◌, IfOk, length, string_bytes};
 ghost use Rattle.ae_parse.specs.Rows.{rows};
-ghost use Rattle.ae_tool.specs.Commands.{AreInRange};
+ghost use Rattle.ae_tool.specs.Commands.{AreInRange, TakesInput};
 ghost use Rattle.ae_tool.specs.Inputs.{IsCut};
 ghost use Rattle.ae_tool.specs.Refusals.{refusal_line};
 ghost use Rattle.ae_tool.specs.Outcomes.{IsChecked, IsEvaluated, IsReply, IsDone};
@@ -14,10 +14,14 @@ use crate::evaluate::evaluate;
 use crate::plan::{cost, plan};
 use crate::refusal::refusal_line;
 use crate::run::run;
+use crate::sim::simulate;
 use crate::status::Status;
 use crate::typed::typed;
 use ae_parse::split;
 use std::alloc::{AllocError, Global};
+
+/// The greatest size of a run.
+pub const RUN_LIMIT: u64 = 4_194_304;
 
 /// What a job answers, and what it writes.
 #[derive(Drop)]
@@ -93,6 +97,7 @@ fn answer_parts(
     rest: &[u8],
 ) -> Result<Reply, OutOfMemory>
     requires range { AreInRange command }
+    requires takes { TakesInput command }
     requires part { length part.now < 4294967295 }
     requires rest { length rest.now < 2 ^ 32 }
     ensures { IfOk result (λ reply. IsReply command part.now (rows rest.now) reply.status (string_bytes reply.text)) }
@@ -104,12 +109,15 @@ fn answer_parts(
         Command::Cost { slowdown } => cost(alloc, part, slowdown),
         Command::Build { slowdown } => build(alloc, part, slowdown),
         Command::Run { slowdown, fill } => run(alloc, part, rest, slowdown, fill),
+        Command::Demo { size: _ } => unreachable!(),
+        Command::Sim { fill } => simulate(alloc, part, rest, fill),
     }
 }
 
-/// What the job answers to an input within the limit; without memory there is no reply.
+/// What a job that takes its input answers to one within the limit; without memory there is no reply.
 pub fn answer(alloc: Global, command: Command, bytes: &[u8]) -> Result<Reply, OutOfMemory>
     requires range { AreInRange command }
+    requires takes { TakesInput command }
     requires few { length bytes.now < 4294967295 }
     ensures { IfOk result (λ reply. IsDone command bytes.now reply.status (string_bytes reply.text)) }
 {

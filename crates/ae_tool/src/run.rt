@@ -15,21 +15,20 @@ ghost use Rattle.ae_tool.specs.RunTexts.{IsRun, IsRunOf, IsRunText, output_count
 
 use crate::build::{circuit, input_layouts, module_text, output_layouts};
 use crate::plan::{Costed, find_costs, main_instance};
-use crate::reply::{OutOfMemory, Reply, refused};
+use crate::read_back::read_back;
+use crate::reply::{OutOfMemory, RUN_LIMIT, Reply, refused};
 use crate::status::Status;
 use crate::widths::input_widths;
-use ae_correct::{circuits_are_writable, plays_are_shown};
+use ae_correct::{circuits_are_writable, plays_are_alike, plays_are_shown};
+use ae_netlist::{fill_begins, has_one_run_with};
 use ae_parse::{RowFault, read_rows};
 use ae_play::{can_be_fed, write_clocks};
 use ae_sttype::StType;
 use ae_verilog::module_keeps;
 use std::alloc::Global;
 
-// The greatest size of a run.
-const RUN_LIMIT: u64 = 4_194_304;
-
-// How many clocks a run of so many blocks shows.
-fn clock_count(slowdown: u32, latency: u32, blocks: usize) -> u64
+/// How many clocks a run of so many blocks shows.
+pub fn clock_count(slowdown: u32, latency: u32, blocks: usize) -> u64
     requires few { blocks < 2 ^ 32 }
     requires limit { slowdown ≤ 4096 }
     ensures is { result ≡ clock_count slowdown latency blocks }
@@ -67,7 +66,7 @@ fn output_count(alloc: Global, costed: &Costed, slowdown: u32) -> Result<u64, Ou
     Ok(count_columns(&outs))
 }
 
-// The text of the module, and of its run on the rows.
+// The text of the module, and of its run on the rows: that of the netlist that the text itself is read as.
 fn run_text(
     alloc: Global,
     costed: &Costed,
@@ -87,20 +86,25 @@ fn run_text(
 {
     let _program = costed.program.program();
     let _count = costed.schedule.count();
-    let nl = circuit(alloc, costed, slowdown)?;
-    let mut text = module_text(alloc, costed, slowdown, &nl)?;
-    text.push_str("%% clocks\n")?;
+    let lowered = circuit(alloc, costed, slowdown)?;
+    let nl = &lowered.netlist;
+    let mut text = module_text(alloc, costed, slowdown, &lowered)?;
     plays_are_shown();
+    plays_are_alike();
     can_be_fed();
     circuits_are_writable();
     module_keeps();
+    has_one_run_with(nl);
+    fill_begins(nl, fill);
+    let played = read_back(alloc, text.as_str())?;
+    text.push_str("%% clocks\n")?;
     let _load = costed.timing.load();
     let s = main_instance(&costed.schedule);
     let ins = input_layouts(alloc, s)?;
     let outs = output_layouts(alloc, s)?;
     let latency = costed.timing.latency();
     write_clocks(
-        alloc, &mut text, &nl, &ins, &outs, slowdown, latency, words, blocks, fill,
+        alloc, &mut text, &played, &ins, &outs, slowdown, latency, words, blocks, fill,
     )?;
     Ok(text)
 }

@@ -1,10 +1,11 @@
 // One call: what it reads, and what it writes.
 
 ghost use Rattle.std.specs.Prelude.{◌≡◌, List, ℕ};
-ghost use Rattle.ae_tool.specs.Answers.{Puts, Answers, SourceView, SinkView};
-ghost use Rattle.ae_tool.specs.Commands.{word_bytes, AreInRange, IsCommand};
+ghost use Rattle.ae_tool.specs.Answers.{Puts, IsMade, Answers, SourceView, SinkView};
+ghost use Rattle.ae_tool.specs.Commands.{word_bytes, AreInRange, IsCommand, IsDemoSize, TakesInput};
 
-use crate::command::{Command, command_named};
+use crate::command::{Command, command_named, demo_size};
+use crate::demo::demo;
 use crate::reply::answer;
 use crate::status::Status;
 use ae_io::{LoadFault, PutFault, Sink, Source, load, put_all};
@@ -31,7 +32,8 @@ fn read_and_reply<S: Source, K: Sink>(
     source: &mut S,
     sink: &mut K,
 ) -> Status
-    requires { AreInRange command }
+    requires range { AreInRange command }
+    requires takes { TakesInput command }
     ensures { (ws : List (List ℕ)) → IsCommand ws command → Answers ws result (record { left = S.left source.old; faults = S.faults source.old }) (record { left = S.left source.new; faults = S.faults source.new }) (record { written = K.written sink.old; faults = K.faults sink.old; wants = K.wants sink.old; ends = K.ends sink.old }) (record { written = K.written sink.new; faults = K.faults sink.new; wants = K.wants sink.new; ends = K.ends sink.new }) }
 {
     match load(alloc, source, INPUT_LIMIT) {
@@ -45,6 +47,17 @@ fn read_and_reply<S: Source, K: Sink>(
     }
 }
 
+// Writes a demo.
+fn make<K: Sink>(alloc: Global, size: u32, sink: &mut K) -> Status
+    requires { IsDemoSize size }
+    ensures { IsMade size result (record { written = K.written sink.old; faults = K.faults sink.old; wants = K.wants sink.old; ends = K.ends sink.old }) (record { written = K.written sink.new; faults = K.faults sink.new; wants = K.wants sink.new; ends = K.ends sink.new }) }
+{
+    match demo(alloc, size) {
+        Ok(text) => put(sink, text.as_bytes(), Status::Ok),
+        Err(_) => put(sink, b"refused memory\n", Status::Memory),
+    }
+}
+
 // Answers the words.
 pub fn serve<S: Source, K: Sink>(
     alloc: Global,
@@ -55,7 +68,10 @@ pub fn serve<S: Source, K: Sink>(
     ensures { Answers (word_bytes words.now) result (record { left = S.left source.old; faults = S.faults source.old }) (record { left = S.left source.new; faults = S.faults source.new }) (record { written = K.written sink.old; faults = K.faults sink.old; wants = K.wants sink.old; ends = K.ends sink.old }) (record { written = K.written sink.new; faults = K.faults sink.new; wants = K.wants sink.new; ends = K.ends sink.new }) }
 {
     match command_named(words) {
-        Some(command) => read_and_reply(alloc, command, source, sink),
+        Some(command) => match demo_size(command) {
+            Some(size) => make(alloc, size, sink),
+            None => read_and_reply(alloc, command, source, sink),
+        },
         None => put(sink, b"refused usage\n", Status::Usage),
     }
 }

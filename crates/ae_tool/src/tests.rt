@@ -82,6 +82,28 @@ fn builds_behind_the_report_lines(rt: HostRuntime) -> Result<(), Fail> {
     Ok(())
 }
 
+// Programs at slowdown 1, and what the texts of their modules end with: the cells of each line stand behind its comment.
+const NOTED: [(&str, &str); 2] = [
+    (
+        "fn main x:u8\nq = mul x x\nr = add q x\nend r\n",
+        ");\n  // line 2: q, u8\n  wire [7:0] n2 = i0_0_0 * i0_0_0;\n  reg [7:0] n3;\n  reg [7:0] n4;\n  // line 3: r, u8\n  reg [7:0] n5;\n  reg [7:0] n6;\n  wire [7:0] n7 = n4 + n6;\n  reg [7:0] n8;\n  assign o_0_0 = n8;\n  always @(posedge clk) n3 <= n2;\n  always @(posedge clk) n4 <= n3;\n  always @(posedge clk) n5 <= i0_0_0;\n  always @(posedge clk) n6 <= n5;\n  always @(posedge clk) n8 <= n7;\nendmodule\n",
+    ),
+    (
+        "fn main x:u8\np = pair x x\nq = fst p\nr = add q q\ns = pair r r\nend s\n",
+        ");\n  // line 2: p, (u8,u8)\n  // line 3: q, u8\n  // line 4: r, u8\n  wire [7:0] n2 = i0_0_0 + i0_0_0;\n  reg [7:0] n3;\n  // line 5: s, (u8,u8)\n  assign o_0_0 = n3;\n  assign o_0_1 = n3;\n  always @(posedge clk) n3 <= n2;\nendmodule\n",
+    ),
+];
+
+#[test]
+fn tells_where_the_cells_of_each_line_are(rt: HostRuntime) -> Result<(), Fail> {
+    for (input, end) in NOTED {
+        let answer = built(rt.alloc(), "1", input)?;
+        assert_eq!(rt; answer.status, Status::Ok);
+        assert!(rt; answer.text.as_slice().ends_with(end.as_bytes()), "{input}");
+    }
+    Ok(())
+}
+
 // Slowdowns, fills, rows of words behind the program, and what the text of its run ends with.
 const RUNS: [(&str, &str, &str, &str); 9] = [
     (

@@ -14,13 +14,22 @@ use Rattle.ae_tool.specs.Building.{main_costs, report_of}
 use Rattle.ae_tool.proofs.Modules.{HaveLaws, IsTextOf, costs_are, module_is, typed_program}
 use Rattle.ae_tool.proofs.build.module_text.Goals as goal
 
+pub notes-requires-clause-marks : goal.notes-requires-clause-marks
+notes-requires-clause-marks c z found = ap length c.deref.ensures.value ∙ (c.requires.marks z found).long
+
+pub notes-requires-clause-costed : goal.notes-requires-clause-costed
+notes-requires-clause-costed c = (c.requires.costed.0, c.args.slowdown, c.requires.costed.1)
+
+pub write_module-requires : goal.write_module-requires
+write_module-requires c = record { printed = rw c.deref-2.ensures.value c.in_ok-notes.ensures }
+
 pub returns-clause-text : goal.returns-clause-text
 returns-clause-text c =
     let p = program_tree c.args.costed.now.program in
     let all = st_func_trees c.args.costed.now.schedule in
     let s = st_func_tree c.main_instance-instance.result.now in
     let found = c.main_instance-instance.ensures in
-    let n = c.args.nl.now in
+    let n = c.args.lowered.now.netlist in
     let text = string_bytes c.in_ok-text.text in
     let told : report_tree c.in_ok-report.report ≡ report_of c.args.slowdown all s = c.in_ok-report.ensures s found in
     let many : length c.in_ok-report.report.outs.items ≡ length s.results = sym (length-map c.in_ok-report.report.outs.items st_tree) ∙ ap (λ (r : ReportTree). length r.outs) told ∙ length-map s.results (item_layout (item_layouts s)) in

@@ -1,4 +1,4 @@
-use Rattle.ae_tool.proofs.Calls.{outcome_of, part_written, ended, usage_words, other_words_refused, read_fault, write_fault, rest_left, completes}
+use Rattle.ae_tool.proofs.Calls.{outcome_of, part_written, ended, usage_words, other_words_refused, read_fault, write_fault, rest_left, completes, demo_completes, takes_nothing}
 use Rattle.ae_tool.proofs.call.aeth.Goals as goal
 
 pub returns-clause-outcome : goal.returns-clause-outcome
@@ -33,3 +33,9 @@ returns-clause-left g c = rest_left _ _ _ _ _ _ c.serve.ensures
 
 pub returns-clause-complete : goal.returns-clause-complete
 returns-clause-complete g c command job read written i = completes _ _ _ _ _ _ c.serve.ensures command job read written i
+
+pub returns-clause-demo : goal.returns-clause-demo
+returns-clause-demo g c size job written = demo_completes _ _ _ _ _ _ c.serve.ensures size job written
+
+pub returns-clause-takes_nothing : goal.returns-clause-takes_nothing
+returns-clause-takes_nothing g c size job = takes_nothing _ _ _ _ _ _ c.serve.ensures size job

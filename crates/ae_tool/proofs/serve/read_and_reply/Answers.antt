@@ -17,16 +17,16 @@ returns-in-Ok-answer g c ws h =
     let P : List ℕ → Type 0 = λ ts. Puts ts status c.put.result old new in
     let long : length bytes ≡ vec_len c.in-Ok.bytes = ap length (sym c.deref.ensures.value) ∙ c.deref.ensures.len in
     let few : length bytes ≤ 16777216 = omega (arith, long, c.in-Ok.ensures.within) in
-    Done c.args.command h bytes text status c.in-Ok.ensures.ok few (subst O c.deref.ensures.value c.in-Ok-answer.ensures) (subst P c.as_bytes.ensures.value c.put.ensures)
+    Done c.args.command h c.requires.takes bytes text status c.in-Ok.ensures.ok few (subst O c.deref.ensures.value c.in-Ok-answer.ensures) (subst P c.as_bytes.ensures.value c.put.ensures)
 
 pub returns-in-Err-Read : goal.returns-in-Err-Read
-returns-in-Err-Read g c ws h = Unread c.args.command h (c.in-Err-Read.ensures.read (search rules)) c.put-in-Err-Read.ensures
+returns-in-Err-Read g c ws h = Unread c.args.command h c.requires.takes (c.in-Err-Read.ensures.read (search rules)) c.put-in-Err-Read.ensures
 
 pub returns-in-Ok : goal.returns-in-Ok
-returns-in-Ok g c ws h = No_room c.args.command h c.put-in-Err.ensures
+returns-in-Ok g c ws h = No_room c.args.command h c.requires.takes c.put-in-Err.ensures
 
 pub returns-in-Err-TooLong : goal.returns-in-Err-TooLong
-returns-in-Err-TooLong g c ws h = Past_limit c.args.command h (c.in-Err-TooLong.ensures.too_long (search rules)) c.put-in-Err-TooLong.ensures
+returns-in-Err-TooLong g c ws h = Past_limit c.args.command h c.requires.takes (c.in-Err-TooLong.ensures.too_long (search rules)) c.put-in-Err-TooLong.ensures
 
 pub returns : goal.returns
-returns g c ws h = No_room c.args.command h c.put-in-Err-Memory.ensures
+returns g c ws h = No_room c.args.command h c.requires.takes c.put-in-Err-Memory.ensures

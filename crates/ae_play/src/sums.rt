@@ -1,0 +1,124 @@
+// The sums of the words of a run.
+
+ghost use Rattle.std.specs.Prelude.{◌≡◌, ◌+◌, ◌-◌, ◌*◌, ◌<◌, ◌≤◌, ◌^◌, ℕ, List, length, map, All, IfOk, if◌then◌else◌};
+ghost use Rattle.std.specs.List.{sum};
+ghost use Rattle.ae_sttype.specs.StTree.{st_tree, time};
+ghost use Rattle.ae_sttype.specs.Size.{IsInSize};
+ghost use Rattle.ae_netlist.specs.Rows.{AreInputs};
+ghost use Rattle.ae_netlist.specs.Runs.{Clock};
+ghost use Rattle.ae_sim.specs.Playing.{HasPlayed, Plays};
+ghost use Rattle.ae_play.specs.Fed.{blocks_of, fed_rows, size_of};
+ghost use Rattle.ae_play.specs.Lines.{clock_count, shown_words};
+ghost use Rattle.ae_play.specs.Sums.{ArePlayedSums, all_stand};
+
+use crate::clocks::{clock_count, push_reset, set_row, stands};
+use ae_netlist::{Netlist, fill_begins, has_one_run_with};
+use ae_sim::Sim;
+use ae_sttype::StType;
+use std::alloc::{AllocError, Global};
+
+/// What is summed of a run.
+#[derive(Clone, Copy, PartialEq, Eq, Debug)]
+pub struct Sums {
+    /// How many words the outputs show in the clocks in which all results stand.
+    pub valid: u64,
+    /// The sum of these words.
+    pub valid_sum: u128,
+    /// The sum of the words of all clocks.
+    pub whole_sum: u128,
+}
+
+// Whether an element of each result stands in the clock.
+fn all_stand(outs: &[StType], slowdown: u32, latency: u32, clock: u32) -> bool
+    requires sized { All (λ s. IsInSize s × (time s ≡ slowdown)) (map st_tree outs.now) }
+    requires some { 1 ≤ slowdown }
+    ensures { result ≡ all_stand slowdown latency (map st_tree outs.now) clock }
+{
+    for s in outs {
+        if !stands(s, slowdown, latency, clock) {
+            return false;
+        }
+    }
+    true
+}
+
+// The sum of the words of the outputs.
+fn sum_words(sim: &Sim<'_>, outputs: u32) -> u128
+    requires { outputs ≡ length sim.now.outlets }
+    ensures is { (fill : ℕ) (rows : List (List ℕ)) (run : List Clock) → HasPlayed sim.now fill rows → 1 ≤ length rows → Plays sim.now.cells fill rows run
+        → result ≡ sum (shown_words sim.now.outlets run (length rows - 1)) }
+    ensures few { result ≤ outputs * 18446744073709551615 }
+{
+    let mut words = 0;
+    for k in 0..outputs {
+        words += u128::from(sim.output(k));
+    }
+    words
+}
+
+// The sums with those of one clock more, in which so many outputs show words with this sum.
+fn with_clock(sums: Sums, outputs: u32, words: u128, stands: bool) -> Sums
+    requires valid { sums.valid + outputs < 2 ^ 64 }
+    requires valid_sum { sums.valid_sum + words < 2 ^ 128 }
+    requires whole_sum { sums.whole_sum + words < 2 ^ 128 }
+    ensures valid { result.valid ≡ sums.valid + (if stands then outputs else 0) }
+    ensures valid_sum { result.valid_sum ≡ sums.valid_sum + (if stands then words else 0) }
+    ensures whole_sum { result.whole_sum ≡ sums.whole_sum + words }
+{
+    let whole_sum = sums.whole_sum + words;
+    if stands {
+        Sums {
+            valid: sums.valid + u64::from(outputs),
+            valid_sum: sums.valid_sum + words,
+            whole_sum,
+        }
+    } else {
+        Sums { whole_sum, ..sums }
+    }
+}
+
+/// The sums of the words that a circuit shows where it takes blocks of words, each value's in row-major order: the clocks
+/// and the words are those whose lines `write_clocks` writes. The work grows with the clocks times the circuit's cells and
+/// ports. The error comes only for want of memory.
+pub fn sum_clocks(
+    alloc: Global,
+    nl: &Netlist,
+    ins: &[StType],
+    outs: &[StType],
+    slowdown: u32,
+    latency: u32,
+    words: &[u64],
+    blocks: usize,
+    fill: u64,
+) -> Result<Sums, AllocError>
+    requires some { 1 ≤ slowdown }
+    requires most { slowdown ≤ 4096 }
+    requires ins { All (λ s. IsInSize s × (time s ≡ slowdown)) (map st_tree ins.now) }
+    requires outs { All (λ s. IsInSize s × (time s ≡ slowdown)) (map st_tree outs.now) }
+    requires few { clock_count slowdown latency blocks < 2 ^ 32 }
+    requires whole { length words.now ≡ blocks * size_of (map st_tree ins.now) }
+    requires rows { (n : ℕ) → All (AreInputs nl.now.cells) (fed_rows slowdown fill (map st_tree ins.now) (blocks_of (map st_tree ins.now) blocks words.now) n) }
+    ensures { IfOk result (λ sums. ArePlayedSums nl.now slowdown latency fill (map st_tree ins.now) (map st_tree outs.now) (blocks_of (map st_tree ins.now) blocks words.now) sums) }
+{
+    let clocks = clock_count(slowdown, latency, blocks);
+    let mut sim = Sim::new(alloc, nl, fill)?;
+    let mut row = Vec::new(alloc);
+    push_reset(&mut row, ins, fill)?;
+    sim.step(row.as_slice());
+    let outputs = nl.outputs();
+    let mut sums = Sums {
+        valid: 0,
+        valid_sum: 0,
+        whole_sum: 0,
+    };
+    for clock in 0..clocks {
+        set_row(&mut row, ins, words, blocks, slowdown, clock, fill)?;
+        sim.step(row.as_slice());
+        let shown = sum_words(&sim, outputs);
+        let stands = all_stand(outs, slowdown, latency, clock);
+        sums = with_clock(sums, outputs, shown, stands);
+    }
+    has_one_run_with(nl);
+    fill_begins(nl, fill);
+    Ok(sums)
+}

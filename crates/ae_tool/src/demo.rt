@@ -1,0 +1,166 @@
+// The job `demo`.
+
+ghost use Rattle.std.specs.Prelude.{◌≡◌, ◌+◌, ◌*◌, ◌<◌, ◌≤◌, ◌^◌, ◌++◌, true, ℕ, List, IfOk, OnOk, replicate, string_bytes};
+ghost use Rattle.ae_seq.specs.ProgramTree.{program_tree};
+ghost use Rattle.ae_rewrite.specs.StProgramTree.{st_func_trees};
+ghost use Rattle.ae_delay.specs.Timings.{AreTimes};
+ghost use Rattle.ae_play.specs.Lines.{clock_count};
+ghost use Rattle.ae_tool.specs.EvalRows.{AreBlocks};
+ghost use Rattle.ae_tool.specs.PlanTexts.{number_line};
+ghost use Rattle.ae_tool.specs.Schedules.{IsCosted};
+ghost use Rattle.ae_tool.specs.DemoTexts.{IsDemoText, IsSummedRun, demo_blocks, demo_program, demo_slowdown, demo_words, summary};
+
+use crate::build::{circuit, input_layouts, module_text, output_layouts};
+use crate::plan::{Costed, find_costs, main_instance};
+use crate::reply::OutOfMemory;
+use crate::run::clock_count;
+use crate::widths::input_widths;
+use ae_correct::{circuits_are_writable, sums_are_shown};
+use ae_play::{Sums, can_be_fed, sum_clocks};
+use ae_verilog::module_keeps;
+use itoa::Buffer;
+use std::alloc::{AllocError, Global};
+
+// The text of the program.
+fn program_text(alloc: Global, size: u32) -> Result<String, AllocError>
+    requires { size ≤ 64 }
+    ensures { IfOk result (λ text. string_bytes text ≡ demo_program size) }
+{
+    let mut text = String::from_str(alloc, "fn sum x:u16 y:u16\nz = add x y\nend z\nfn main a:[")?;
+    text.push_str(Buffer::new().format(16 * size))?;
+    text.push_str("]u16\nb = shift 1 a\nc = map2 sum a b\nd = reduce add c\nend d\n")?;
+    Ok(text)
+}
+
+// The words of all blocks, one behind the other.
+fn input_words(alloc: Global, size: u32) -> Result<Vec<u64>, AllocError>
+    requires { size ≤ 64 }
+    ensures { IfOk result (λ words. words.items ≡ demo_words size) }
+{
+    let mut words = Vec::new(alloc);
+    for k in 0..2 * size * (16 * size) {
+        words.push(u64::from((size + 37 * k) % 65536))?;
+    }
+    Ok(words)
+}
+
+// Whether there are so many widths, all of 16 bits.
+fn are_wide(widths: &[u32], count: u32) -> bool
+    ensures { result ≡ true → widths.now ≡ replicate count 16 }
+{
+    if widths.len() != count as usize {
+        return false;
+    }
+    for width in widths {
+        if *width != 16 {
+            return false;
+        }
+    }
+    true
+}
+
+fn write_number(out: &mut String, words: &str, number: u128) -> Result<(), AllocError>
+    ensures { OnOk result (string_bytes out.new ≡ string_bytes out.old ++ number_line words.now number) }
+{
+    out.push_str(words)?;
+    out.push_str(" ")?;
+    out.push_str(Buffer::new().format(number))?;
+    out.push_str("\n")?;
+    Ok(())
+}
+
+// The lines of the summary.
+fn write_summary(
+    out: &mut String,
+    size: u32,
+    latency: u32,
+    clocks: u64,
+    sums: Sums,
+) -> Result<(), AllocError>
+    ensures { OnOk result (string_bytes out.new ≡ string_bytes out.old ++ summary size latency clocks sums) }
+{
+    write_number(out, "demo", u128::from(size))?;
+    write_number(out, "latency", u128::from(latency))?;
+    write_number(out, "clocks", u128::from(clocks))?;
+    write_number(out, "valid", u128::from(sums.valid))?;
+    write_number(out, "sum", sums.valid_sum)?;
+    write_number(out, "all", sums.whole_sum)
+}
+
+// The text of the module, and the sums of its run on the rows.
+fn summed(
+    alloc: Global,
+    costed: &Costed,
+    slowdown: u32,
+    words: &[u64],
+    blocks: usize,
+    fill: u64,
+) -> Result<(String, Sums), OutOfMemory>
+    requires some { 0 < slowdown }
+    requires limit { slowdown ≤ 4096 }
+    requires costed { (part : List ℕ) × IsCosted part slowdown (program_tree costed.now.program) (st_func_trees costed.now.schedule) }
+    requires times { AreTimes (st_func_trees costed.now.schedule) costed.now.timing }
+    requires short { clock_count slowdown costed.now.timing.costs.latency blocks < 2 ^ 32 }
+    requires rows { (table : List (List (List ℕ))) × AreBlocks (program_tree costed.now.program) blocks table words.now }
+    ensures { IfOk result (λ r. (table : List (List (List ℕ))) → AreBlocks (program_tree costed.now.program) blocks table words.now
+        → IsSummedRun fill (program_tree costed.now.program) slowdown (st_func_trees costed.now.schedule) table (string_bytes r.0) r.1) }
+{
+    let _program = costed.program.program();
+    let _count = costed.schedule.count();
+    let lowered = circuit(alloc, costed, slowdown)?;
+    let nl = &lowered.netlist;
+    let text = module_text(alloc, costed, slowdown, &lowered)?;
+    sums_are_shown();
+    can_be_fed();
+    circuits_are_writable();
+    module_keeps();
+    let _load = costed.timing.load();
+    let s = main_instance(&costed.schedule);
+    let ins = input_layouts(alloc, s)?;
+    let outs = output_layouts(alloc, s)?;
+    let latency = costed.timing.latency();
+    let sums = sum_clocks(
+        alloc, nl, &ins, &outs, slowdown, latency, words, blocks, fill,
+    )?;
+    Ok((text, sums))
+}
+
+// The text of the module, and the summary of its run. No size needs more clocks, or has words of another width.
+fn demo_text(alloc: Global, costed: &Costed, size: u32) -> Result<String, OutOfMemory>
+    requires some { 1 ≤ size }
+    requires limit { size ≤ 64 }
+    requires costed { IsCosted (demo_program size) (demo_slowdown size) (program_tree costed.now.program) (st_func_trees costed.now.schedule) }
+    requires times { AreTimes (st_func_trees costed.now.schedule) costed.now.timing }
+    ensures { IfOk result (λ text. IsDemoText size (string_bytes text)) }
+{
+    let slowdown = 4 * size;
+    let blocks = (2 * size) as usize;
+    let latency = costed.timing.latency();
+    let clocks = clock_count(slowdown, latency, blocks);
+    if clocks > 4_294_967_295 {
+        return Err(OutOfMemory);
+    }
+    let widths = input_widths(alloc, costed.program.program())?;
+    if !are_wide(&widths, 16 * size) {
+        return Err(OutOfMemory);
+    }
+    let words = input_words(alloc, size)?;
+    let (mut text, sums) = summed(alloc, costed, slowdown, &words, blocks, 0)?;
+    text.push_str("%% summary\n")?;
+    write_summary(&mut text, size, latency, clocks, sums)?;
+    Ok(text)
+}
+
+/// The text of the module of the generated program of a size, and the summary of its run on the generated input; without
+/// memory there is no text. The program is refused at no size.
+pub fn demo(alloc: Global, size: u32) -> Result<String, OutOfMemory>
+    requires some { 1 ≤ size }
+    requires limit { size ≤ 64 }
+    ensures { IfOk result (λ text. IsDemoText size (string_bytes text)) }
+{
+    let part = program_text(alloc, size)?;
+    match find_costs(alloc, part.as_bytes(), 4 * size) {
+        Ok(costed) => demo_text(alloc, &costed, size),
+        Err(_) => Err(OutOfMemory),
+    }
+}
