@@ -3,11 +3,8 @@
 set -eu
 count=${1:-2000000}
 cd "$(dirname "$0")/../crates/bench_write"
+. ../../bench/timed.sh
 # Builds the program, and runs it once on a small netlist.
 rt run -- 1000 >&2
 command -v /usr/bin/time >/dev/null 2>&1 || apt-get install -y time >/dev/null 2>&1 || true
-if command -v /usr/bin/time >/dev/null 2>&1; then
-  /usr/bin/time -f '%e seconds, %M KiB at most' ./out/bench_write "$count"
-else
-  time ./out/bench_write "$count"
-fi
+timed ./out/bench_write "$count"

@@ -1,0 +1,167 @@
+"""What the scripts here share: the compiler and the other tools as functions, layouts by the report lines of a module, and
+test benches. AETH in the environment names another compiler to be tried than `./aeth`."""
+import concurrent.futures
+import os
+import pathlib
+import re
+import shutil
+import subprocess
+
+TOP = pathlib.Path(__file__).resolve().parent.parent
+AETH = os.environ.get("AETH", TOP / "aeth")
+NO_LAYOUT = 5  # the status of a refusal for want of a layout
+FILL = 77
+
+
+def aeth(words, text):
+    """Status and output of the compiler for these words on a text."""
+    if isinstance(text, str):
+        text = text.encode()
+    done = subprocess.run([AETH, *map(str, words)], input=text, capture_output=True)
+    return done.returncode, done.stdout.decode()
+
+
+def examples():
+    """Name, text and rows of each example."""
+    for path in sorted((TOP / "examples").glob("*.aeth")):
+        text = path.read_text()
+        lines = [line.split("#")[0].split() for line in text.split("%%", 1)[1].splitlines()[1:]]
+        yield path.stem, text, [[int(word) for word in line] for line in lines if line]
+
+
+def side_by_side(task, items):
+    """The answers of a task for each item, in order and as they come, as many at a time as there are processors."""
+    with concurrent.futures.ThreadPoolExecutor(os.cpu_count()) as pool:
+        yield from pool.map(task, items)
+
+
+def missing(*tools):
+    """Whether one of the tools is not there; a line says so."""
+    absent = [tool for tool in tools if not shutil.which(tool)]
+    if absent:
+        print(f"{' and '.join(absent)} not to be had here; what needs it is skipped")
+    return bool(absent)
+
+
+def slots(layout):
+    """Clock and lane of each element, in order, with the clocks and the lanes of all, and the words of an element."""
+    sort, _, rest = layout.partition(" ")
+    if sort not in ("TSeq", "SSeq"):
+        return [(0, 0)], 1, 1, len(re.findall(r"[ui]\d+", layout))
+    if sort == "TSeq":
+        valid, invalid, inner = rest.split(" ", 2)
+        places, time, lanes, words = slots(inner)
+        parts = [(part * time + clock, lane) for part in range(int(valid)) for clock, lane in places]
+        return parts, (int(valid) + int(invalid)) * time, lanes, words
+    count, inner = rest.split(" ", 1)
+    places, time, lanes, words = slots(inner)
+    parts = [(clock, part * lanes + lane) for part in range(int(count)) for clock, lane in places]
+    return parts, time, int(count) * lanes, words
+
+
+def latency(module):
+    return int(re.search(r"^// latency (\d+)$", module, re.M)[1])
+
+
+def out_layouts(module):
+    return re.findall(r"^// out (?:\d+ )?([TSui(].*)$", module, re.M)
+
+
+def ports(module, kind):
+    """Name and width of each port of a kind, in order."""
+    found = re.findall(rf"^  {kind} wire (?:\[(\d+):0\] )?(\w+),?$", module, re.M)
+    return [(name, int(high or 0) + 1) for high, name in found]
+
+
+def results(text, slowdown, blocks):
+    """The words of all results of each block, by the report and the clock lines of a run."""
+    late = latency(text)
+    lines = [line.split() for line in text.split("%% clocks\n")[1].splitlines()]
+    assert len(lines) == blocks * slowdown + late * (blocks > 0)
+    for block in range(blocks):
+        found, first = [], 0
+        for number, layout in enumerate(out_layouts(text)):
+            places, time, lanes, words = slots(layout)
+            assert time == slowdown
+            for clock, lane in places:
+                line = lines[late + block * slowdown + clock]
+                assert line[1][number] == "v", line
+                at = 2 + first + lane * words
+                found += line[at : at + words]
+            first += lanes * words
+        yield " ".join(found)
+
+
+def input_rows(module, slowdown, rows, clocks):
+    """The words on the inputs behind `clk` and `rst` in each clock after reset."""
+    layouts = re.findall(r"^// in \d+ (.*)$", module, re.M)
+    widths = [width for _, width in ports(module, "input")[2:]]
+    filled = [FILL % 2**width for width in widths]
+    clocked = [list(filled) for _ in range(clocks)]
+    for block, row in enumerate(rows):
+        words, first = list(row), 0
+        for layout in layouts:
+            places, _, lanes, count = slots(layout)
+            for clock, lane in places:
+                at = first + lane * count
+                clocked[block * slowdown + clock][at : at + count] = words[:count]
+                del words[:count]
+            first += lanes * count
+    return clocked
+
+
+def bench(module, clocked):
+    """A test bench that holds reset for one clock, and prints the outputs in each clock after it."""
+    ins, outs = ports(module, "input")[1:], ports(module, "output")
+    held = re.findall(r"^  reg (?:\[(\d+):0\] )?(\w+);$", module, re.M)
+    assert len(held) == len(re.findall(r"^  reg ", module, re.M)), "a memory, which this test bench cannot fill"
+    lines = ["module bench;", "  reg clk = 0;"]
+    lines += [f"  reg [{width - 1}:0] {name};" for name, width in ins]
+    lines += [f"  wire [{width - 1}:0] {name};" for name, width in outs]
+    joined = ", ".join(f".{name}({name})" for name, _ in [("clk", 1), *ins, *outs])
+    lines += [f"  aeth dut({joined});", "  initial begin"]
+    lines += [f"    dut.{name} = {int(high or 0) + 1}'d{FILL % 2 ** (int(high or 0) + 1)};" for high, name in held]
+    rows = [[1] + [FILL % 2**width for _, width in ins[1:]]] + [[0] + row for row in clocked]
+    form = " ".join(["%0d"] * len(outs))
+    shown = ", ".join(name for name, _ in outs)
+    for clock, row in enumerate(rows):
+        lines += [f"    {name} = {width}'d{word};" for (name, width), word in zip(ins, row)]
+        lines += ["    #1;"] + ([f'    $display("{form}", {shown});'] if clock else []) + ["    clk = 1; #1; clk = 0;"]
+    return "\n".join([*lines, "  end", "endmodule", ""])
+
+
+def differs_under_icarus(folder, shown, slowdown, rows):
+    """What Icarus shows otherwise than the text of a run with the first words FILL, in any clock; "" where nothing."""
+    module, lines = shown.split("%% clocks\n")
+    wanted = [line.split(" ", 2)[2] for line in lines.splitlines()]
+    clocked = input_rows(module, slowdown, rows, len(wanted))
+    folder.mkdir()
+    (folder / "bench.v").write_text(module + bench(module, clocked))
+    subprocess.run(["iverilog", "-s", "bench", "-o", folder / "bench", folder / "bench.v"], check=True)
+    done = subprocess.run(["vvp", folder / "bench"], check=True, capture_output=True)
+    found = done.stdout.decode().splitlines()
+    apart = [f"clock {clock}: {other}, not {line}" for clock, (line, other) in enumerate(zip(wanted, found)) if line != other]
+    return "" if found == wanted else (apart or [f"{len(found)} lines, not {len(wanted)}"])[0]
+
+
+LINTERS = {
+    "iverilog": ["iverilog", "-Wall", "-t", "null", "aeth.v"],
+    "verilator": ["verilator", "--lint-only", "-Wall", "aeth.v"],
+    "yosys": ["yosys", "-q", "-p", "read_verilog aeth.v; hierarchy -check; proc; check -assert"],
+}
+
+
+def lint(folder, module):
+    """How many tools took the module without a warning, and what the others said."""
+    folder.mkdir()
+    # The tools want the file named like its module.
+    (folder / "aeth.v").write_text(module)
+    passed, said = 0, []
+    for tool, command in LINTERS.items():
+        if shutil.which(tool):
+            done = subprocess.run(command, cwd=folder, capture_output=True, text=True)
+            if done.returncode == 0 and not done.stderr and "warning" not in done.stdout.lower():
+                passed += 1
+            else:
+                said.append(f"{tool}: {(done.stderr + done.stdout)[:1000]}")
+    return passed, said
