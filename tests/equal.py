@@ -79,7 +79,7 @@ def main():
     failed = 0
     with tempfile.TemporaryDirectory() as folder:
         folder = pathlib.Path(folder)
-        told = prove(folder / "fault", "sum_4", ("2'd0 ?", "2'd1 ?"))
+        told = prove(folder / "fault", "sum_4", ("== 2'd3", "== 2'd2"))
         assert told and "was asserted" in told, told
         for pair, said in zip(pairs, side_by_side(lambda pair: prove(folder / pair, pair), pairs)):
             if said is not None:
