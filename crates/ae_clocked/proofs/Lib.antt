@@ -4,3 +4,4 @@ pub mod Turns
 pub mod PhaseLemmas
 pub mod Belonging
 pub mod Late
+pub mod Marked

@@ -1,10 +1,10 @@
 -- Counters of the clocks after reset.
-use Rattle.std.specs.Prelude.{◌≡◌, ℕ, ◌+◌, ◌-◌, ◌%◌, ◌^◌, ◌≤◌, ◌==◌, ◌&&◌, Bool, List, Option, Some}
+use Rattle.std.specs.Prelude.{◌≡◌, ℕ, ◌+◌, ◌-◌, ◌%◌, ◌^◌, ◌<◌, ◌≤◌, ◌==◌, ◌&&◌, if◌then◌else◌, nat_lt, Bool, List, length, Option, Some}
 use Rattle.std.specs.Map.{lookup}
 use Rattle.ae_netlist.specs.declared.cell.NetId.{NetId}
 use Rattle.ae_netlist.specs.declared.cell.SizedCell.{SizedCell}
 use Rattle.ae_netlist.specs.Circuit.{IsNet}
-use Rattle.ae_netlist.specs.Runs.{InEveryResetRun, HasWords}
+use Rattle.ae_netlist.specs.Runs.{Clock, word_at, InEveryResetRun, HasWords}
 use Rattle.ae_clocked.specs.declared.clocks.Phase.{Phase}
 
 -- what contracts see of the clocks: the reset net, and the nets of the counters that were made
@@ -46,3 +46,7 @@ pub record Belongs (clocks : Kept) (cells : List SizedCell) : Type 0 where
 pub record KeepsCounters (old new : Kept) : Type 0 where
   pub rst : new.rst ≡ old.rst
   pub counters : (phase : Phase) (net : NetId) → kept_at old phase ≡ Some net → kept_at new phase ≡ Some net
+
+-- from the first clock after reset on, y is 1 where the phase that a net shows is below a number, and else 0
+abbrev pub IsMark : List Clock → (start y phase from : ℕ) → Type 0
+IsMark run start y phase from = (c : ℕ) → start + c < length run → word_at run (start + c) y ≡ (if nat_lt (word_at run (start + c) phase) from then 1 else 0)

@@ -2,11 +2,15 @@
 
 ghost use Rattle.std.specs.Prelude.{◌≡◌, ◌<◌, ◌≤◌, ℕ, [], IfOk, OnErr, OnOk, Some, Ok, Err, ◌≢◌, if◌then◌else◌};
 ghost use Rattle.ae_netlist.specs.declared.cell.NetId.{NetId};
+ghost use Rattle.ae_netlist.specs.Circuit.{IsNet};
+ghost use Rattle.ae_netlist.specs.Runs.{InEveryResetRun};
 ghost use Rattle.ae_clocked.specs.declared.clocks.Phase.{Phase};
 ghost use Rattle.ae_clocked.specs.Signals.{Adds, IsFullAt};
-ghost use Rattle.ae_clocked.specs.Phases.{Belongs, HoldsPhases, IsCounter, kept_at, same_phase};
+ghost use Rattle.ae_clocked.specs.Phases.{Belongs, HoldsPhases, IsCounter, IsMark, kept_at, same_phase};
 
 use crate::counter::counter;
+use crate::gates::width_at;
+use crate::marks::{begun, early};
 use ae_netlist::{NetFault, NetId, Netlist};
 use indexmap::IndexMap;
 use std::alloc::Global;
@@ -89,6 +93,34 @@ impl Clocks {
         let net = counter(nl, self.rst, width, u64::from(period - 1), u64::from(first))?;
         self.keep(phase, net)?;
         Ok(net)
+    }
+
+    /// The one-bit register that is 1 in those clocks after reset in which the phase is below `from`, and else 0: what a
+    /// comparison of the counter would say, but kept in a register. It takes at most 9 cells. `Full` comes only where the
+    /// netlist has `limit` cells as the call ends; after a refusal it may hold further cells.
+    pub fn mark(
+        &self,
+        nl: &mut Netlist,
+        phase: NetId,
+        period: u32,
+        offset: u32,
+        from: u32,
+    ) -> Result<NetId, NetFault>
+        requires rst { IsNet nl.old.cells self.now.rst 1 }
+        requires counter { IsCounter nl.old.cells self.now.rst (record { period = period; offset = offset }) phase.0 }
+        requires low { offset < period }
+        requires high { period ≤ 4096 }
+        requires within { from ≤ period }
+        ensures adds { Adds nl.old nl.new 9 0 }
+        ensures full { IsFullAt result nl.new }
+        ensures net { IfOk result (λ y. IsNet nl.new.cells y.0 1) }
+        ensures marks { IfOk result (λ y. InEveryResetRun nl.new.cells self.now.rst (λ run start. IsMark run start y.0 phase.0 from)) }
+    {
+        let width = width_at(nl, phase);
+        let x = early(nl, phase, width, u64::from(period - 1), u64::from(from))?;
+        let first = (period - offset) % period < from;
+        let y = begun(nl, self.rst, first, x)?;
+        Ok(y)
     }
 }
 

@@ -5,6 +5,7 @@ mod clocks;
 mod counter;
 mod gates;
 mod lines;
+mod marks;
 #[cfg(test)]
 mod tests;
 

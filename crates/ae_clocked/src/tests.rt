@@ -1,6 +1,6 @@
 // Counters and lines, stepped clock by clock.
 
-ghost use Rattle.std.specs.Prelude.{◌≡◌, ◌<◌, IfOk, length};
+ghost use Rattle.std.specs.Prelude.{◌≡◌, ◌<◌, ◌≤◌, IfOk, length};
 ghost use Rattle.ae_netlist.specs.Circuit.{IsNet};
 ghost use Rattle.ae_netlist.specs.Counts.{count_of, is_input};
 
@@ -92,5 +92,37 @@ fn less_compares_in_each_clock(rt: HostRuntime) -> Result<(), Fail> {
     nl.add_output(Port::Plain(0), below)?;
     let seen = words(rt.alloc(), &nl, 0, 5)?;
     assert_eq!(rt; seen.as_slice(), [1, 1, 0, 0, 1].as_slice());
+    Ok(())
+}
+
+/// The words of the mark of a phase of period 5 and offset 2, from clock 0 after reset on.
+fn marked(alloc: Global, from: u32) -> Result<Vec<u64>, Fail>
+    requires { from ≤ 5 }
+{
+    let mut nl = Netlist::new(alloc, 64);
+    let rst = reset(&mut nl)?;
+    let mut clocks = Clocks::new(alloc, rst);
+    let phase = clocks.phase(&mut nl, 5, 2)?;
+    let mark = clocks.mark(&mut nl, phase, 5, 2, from)?;
+    nl.add_output(Port::Plain(0), mark)?;
+    words(alloc, &nl, 0, 12)
+}
+
+#[test]
+fn a_mark_says_in_which_clocks_a_phase_is_low(rt: HostRuntime) -> Result<(), Fail> {
+    let none = marked(rt.alloc(), 0)?;
+    assert_eq!(rt; none.as_slice(), [0; 12].as_slice());
+    let first = marked(rt.alloc(), 1)?;
+    assert_eq!(rt;
+        first.as_slice(),
+        [0, 0, 1, 0, 0, 0, 0, 1, 0, 0, 0, 0].as_slice()
+    );
+    let three = marked(rt.alloc(), 3)?;
+    assert_eq!(rt;
+        three.as_slice(),
+        [0, 0, 1, 1, 1, 0, 0, 1, 1, 1, 0, 0].as_slice()
+    );
+    let all = marked(rt.alloc(), 5)?;
+    assert_eq!(rt; all.as_slice(), [1; 12].as_slice());
     Ok(())
 }
