@@ -1,12 +1,10 @@
 -- The phase of a block's clocks, and the net that marks the first of them.
-use Rattle.std.proofs.Common.{ℕ, ◌≡◌, ◌+◌, ◌-◌, ◌*◌, ◌/◌, ◌%◌, ◌<◌, ◌≤◌, nat_lt, true, false, Option, Some, None, IfSome, List, ◌∷◌, [], arith, refl, ◌∙◌, rules}
+use Rattle.std.proofs.Common.{ℕ, ◌≡◌, ◌+◌, ◌-◌, ◌*◌, ◌/◌, ◌%◌, ◌<◌, ◌≤◌, nat_lt, true, false, Option, Some, None, IfSome, List, arith, refl, ◌∙◌, rules}
 use Rattle.std.proofs.Math.Nat.{add-mul, mod-add-div'}
 use Rattle.std.proofs.lemmas.Nat.{mod-mul-add}
-use Rattle.ae_word.specs.declared.op.WordOp.TheVariants.{Lt}
 use Rattle.ae_netlist.specs.declared.cell.NetId.{NetId}
 use Rattle.ae_netlist.specs.Runs.{Clock, word_at, HasWords}
-use Rattle.ae_clocked.specs.Signals.{IsConstant, IsResult}
-use Rattle.ae_clocked.specs.Phases.{phase_of}
+use Rattle.ae_clocked.specs.Phases.{phase_of, IsMark as ShowsBelow}
 use Rattle.ae_netlist.specs.declared.cell.SizedCell.{SizedCell}
 use Rattle.ae_netlist.specs.Circuit.{Extends, IsNet}
 use Rattle.ae_netlist.proofs.Growing.{extends_trans, net_later}
@@ -23,19 +21,18 @@ block_phase p k b m l =
     let e : k + b * p + m + p - k % p ≡ (k / p + b + 1) * p + m = omega arith in
     rw e (mod-mul-add (k / p + b + 1) p m l)
 
-pub leads : (run : List Clock) (start p k inner w : ℕ) (phase end y : NetId) → inner < p → HasWords run start phase.0 (phase_of p (k % p)) → IsConstant run end.0 inner
-    → IsResult run y.0 Lt w (phase ∷ end ∷ phase ∷ []) → Leads run start y.0 p k inner
-leads run start p k inner w phase end y less counts const result = record {
+pub leads : (run : List Clock) (start p k inner phase y : ℕ) → inner < p → HasWords run start phase (phase_of p (k % p)) → ShowsBelow run start y phase inner → Leads run start y p k inner
+leads run start p k inner phase y less counts marks = record {
   high = λ b m l long.
       let c : ℕ = k + b * p + m in
-      let at : word_at run (start + c) phase.0 ≡ m = counts c long ∙ block_phase p k b m (omega arith) in
+      let at : word_at run (start + c) phase ≡ m = counts c long ∙ block_phase p k b m (omega arith) in
       let lt : nat_lt m inner ≡ true = search rules in
-      result (start + c) long ∙ rw (at, const (start + c) long, lt) refl;
+      marks c long ∙ rw (at, lt) refl;
   low = λ b m ge l long.
       let c : ℕ = k + b * p + m in
-      let at : word_at run (start + c) phase.0 ≡ m = counts c long ∙ block_phase p k b m l in
+      let at : word_at run (start + c) phase ≡ m = counts c long ∙ block_phase p k b m l in
       let lt : nat_lt m inner ≡ false = search rules in
-      result (start + c) long ∙ rw (at, const (start + c) long, lt) refl;
+      marks c long ∙ rw (at, lt) refl;
 }
 
 -- ---- as a netlist grows

@@ -53,7 +53,8 @@ build_cells cells f folds plan ins nets old new h up =
     let low : plan.levels ≤ plan.lanes = levels_below plan.lanes plan.levels h.is_plan.wide h.is_plan.least in
     let made : AddsUpTo old new (reduce_cells (plan_for f)) = rw h.plan_are at up in
     let below : log_up f.lanes ≤ f.lanes = rw h.plan_are at low in
-    let bound = cells_bound f.slots f.lanes (log_up f.lanes) (element_columns (st_tree f.element)) (plan_for f).inner (reduce_part f).latency below in
+    let placed : 1 ≤ element_columns (st_tree f.element) = rw h.plan_are at h.is_plan.placed in
+    let bound = cells_bound f.slots f.lanes (log_up f.lanes) (element_columns (st_tree f.element)) (plan_for f).inner (reduce_part f).latency h.shape.lanes_some placed below in
     omega (arith, made.cells, bound)
 
 pub build_products : (cells : List SizedCell) (f : FoldShape) (folds : List WordFold) (plan : Plan) (ins : List (List NetId)) (nets : List NetId) → IsBuild cells f folds plan ins nets → reduce_products plan (products_in folds) ≡ (reduce_part f).products

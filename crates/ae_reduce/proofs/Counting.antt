@@ -14,7 +14,7 @@ use Rattle.ae_fold.proofs.Feeding.{adds_is}
 use Rattle.ae_reduce.specs.Reduces.{reduce_cells, reduce_products}
 
 -- of the mark, the tree and the loops together
-pub reduce_adds : (a b c d : Circuit) (plan : Plan) (mark : Option NetId) (p n : ℕ) → marks_in mark ≡ wait_of plan.slots → n ≡ plan.stride → Adds a b 14 0
+pub reduce_adds : (a b c d : Circuit) (plan : Plan) (mark : Option NetId) (p n : ℕ) → marks_in mark ≡ wait_of plan.slots → n ≡ plan.stride → Adds a b 21 0
     → Adds b c (9 * (plan.lanes * plan.stride) + plan.levels * plan.stride) ((plan.lanes * plan.stride - plan.stride) * p)
     → Adds c d (marks_in mark * (plan.stride * (plan.inner + 9) + 0 * 10)) (marks_in mark * (n * p)) → Adds a d (reduce_cells plan) (reduce_products plan p)
 reduce_adds a b c d plan mark p n w long x y z =
@@ -23,9 +23,10 @@ reduce_adds a b c d plan mark p n w long x y z =
     let muls : marks_in mark * (n * p) ≡ wait_of plan.slots * (plan.stride * p) = ap (λ k. marks_in mark * (k * p)) long ∙ ap (λ k. k * (plan.stride * p)) w in
     adds_is (omega arith) (omega arith) (adds_trans (adds_trans x y) z)
 
-cells_by : (b : Bool) (lanes levels stride inner latency : ℕ) → levels ≤ lanes
-    → 14 + (9 * (lanes * stride) + levels * stride) + (if b then 1 else 0) * (stride * (inner + 9)) ≤ 16 * (1 + latency + stride * (2 * lanes + (if b then inner + 2 else 0)))
-cells_by true lanes levels stride inner latency l =
+cells_by : (b : Bool) (lanes levels stride inner latency : ℕ) → 1 ≤ lanes → 1 ≤ stride → levels ≤ lanes
+    → 21 + (9 * (lanes * stride) + levels * stride) + (if b then 1 else 0) * (stride * (inner + 9)) ≤ 16 * (1 + latency + stride * (2 * lanes + (if b then inner + 2 else 0)))
+cells_by true lanes levels stride inner latency some placed l =
+    let least : 1 * stride ≤ lanes * stride = mul-le-mul_right stride some in
     let up : levels * stride ≤ lanes * stride = mul-le-mul_right stride l in
     let d1 : stride * (2 * lanes + (inner + 2)) ≡ stride * (2 * lanes) + stride * (inner + 2) = mul-add stride (2 * lanes) (inner + 2) in
     let d2 : stride * (inner + 2) ≡ stride * inner + stride * 2 = mul-add stride inner 2 in
@@ -34,7 +35,8 @@ cells_by true lanes levels stride inner latency l =
     let d5 : 2 * lanes * stride ≡ 2 * (lanes * stride) = mul_assoc 2 lanes stride in
     let one : 1 * (stride * (inner + 9)) ≡ stride * (inner + 9) = omega arith in
     omega arith
-cells_by false lanes levels stride inner latency l =
+cells_by false lanes levels stride inner latency some placed l =
+    let least : 1 * stride ≤ lanes * stride = mul-le-mul_right stride some in
     let up : levels * stride ≤ lanes * stride = mul-le-mul_right stride l in
     let d1 : stride * (2 * lanes + 0) ≡ stride * (2 * lanes) + stride * 0 = mul-add stride (2 * lanes) 0 in
     let d4 : stride * (2 * lanes) ≡ 2 * lanes * stride = mul_comm stride (2 * lanes) in
@@ -43,9 +45,9 @@ cells_by false lanes levels stride inner latency l =
     omega arith
 
 -- within the bound of the part
-pub cells_bound : (slots lanes levels stride inner latency : ℕ) → levels ≤ lanes
-    → 14 + (9 * (lanes * stride) + levels * stride) + wait_of slots * (stride * (inner + 9)) ≤ 16 * (1 + latency + stride * (2 * lanes + (if nat_lt 1 slots then inner + 2 else 0)))
-cells_bound slots lanes levels stride inner latency l = cells_by (nat_lt 1 slots) lanes levels stride inner latency l
+pub cells_bound : (slots lanes levels stride inner latency : ℕ) → 1 ≤ lanes → 1 ≤ stride → levels ≤ lanes
+    → 21 + (9 * (lanes * stride) + levels * stride) + wait_of slots * (stride * (inner + 9)) ≤ 16 * (1 + latency + stride * (2 * lanes + (if nat_lt 1 slots then inner + 2 else 0)))
+cells_bound slots lanes levels stride inner latency some placed l = cells_by (nat_lt 1 slots) lanes levels stride inner latency some placed l
 
 products_by : (product more : Bool) (lanes stride : ℕ) → 1 ≤ lanes
     → (lanes * stride - stride) * (if product then 1 else 0) + (if more then 1 else 0) * (stride * (if product then 1 else 0)) ≡ (if product then stride * (lanes - 1 + (if more then 1 else 0)) else 0)

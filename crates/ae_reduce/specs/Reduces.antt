@@ -27,7 +27,7 @@ reduce_part f = record {
 
 -- the most cells of its circuit: the mark, the tree and the loops
 abbrev pub reduce_cells : Plan → ℕ
-reduce_cells plan = 14 + (9 * (plan.lanes * plan.stride) + plan.levels * plan.stride) + wait_of plan.slots * (plan.stride * (plan.inner + 9))
+reduce_cells plan = 21 + (9 * (plan.lanes * plan.stride) + plan.levels * plan.stride) + wait_of plan.slots * (plan.stride * (plan.inner + 9))
 
 -- its products, where an operator has so many
 abbrev pub reduce_products : Plan → (products : ℕ) → ℕ

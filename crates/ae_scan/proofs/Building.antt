@@ -50,7 +50,8 @@ pub build_cells : (cells : List SizedCell) (f : FoldShape) (folds : List WordFol
     → length new.cells ≤ length old.cells + (scan_part f).most_cells
 build_cells cells f folds plan ins nets old new h up =
     let made : AddsUpTo old new (scan_cells (plan_for f)) = rw h.plan_are at up in
-    let bound = cells_bound f.slots f.lanes (log_up f.lanes) (element_columns (st_tree f.element)) (plan_for f).inner (scan_part f).latency h.shape.lanes_some in
+    let placed : 1 ≤ element_columns (st_tree f.element) = rw h.plan_are at h.is_plan.placed in
+    let bound = cells_bound f.slots f.lanes (log_up f.lanes) (element_columns (st_tree f.element)) (plan_for f).inner (scan_part f).latency h.shape.lanes_some placed in
     omega (arith, made.cells, bound)
 
 pub build_products : (cells : List SizedCell) (f : FoldShape) (folds : List WordFold) (plan : Plan) (ins : List (List NetId)) (nets : List NetId) → IsBuild cells f folds plan ins nets → scan_products plan (products_in folds) ≡ (scan_part f).products

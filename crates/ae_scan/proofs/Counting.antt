@@ -15,7 +15,7 @@ use Rattle.ae_fold.proofs.Feeding.{adds_is, up_trans}
 use Rattle.ae_scan.specs.Scans.{scan_cells, scan_products, sweep_joins}
 
 -- of the mark, the sweep and the loops together
-pub scan_adds : (a b c d : Circuit) (plan : Plan) (mark : Option NetId) (p n from : ℕ) → marks_in mark ≡ wait_of plan.slots → n ≡ plan.lanes * plan.stride → from ≡ (plan.lanes - 1) * plan.stride → Adds a b 14 0
+pub scan_adds : (a b c d : Circuit) (plan : Plan) (mark : Option NetId) (p n from : ℕ) → marks_in mark ≡ wait_of plan.slots → n ≡ plan.lanes * plan.stride → from ≡ (plan.lanes - 1) * plan.stride → Adds a b 21 0
     → Adds b c (plan.levels * (plan.lanes * plan.stride * 9)) (sweep_joins plan.lanes plan.stride plan.levels * p)
     → Adds c d (marks_in mark * (plan.stride * (plan.inner + 9) + from * 10)) (marks_in mark * (n * p)) → Adds a d (scan_cells plan) (scan_products plan p)
 scan_adds a b c d plan mark p n from w long begin x y z =
@@ -24,9 +24,9 @@ scan_adds a b c d plan mark p n from w long begin x y z =
     let muls : marks_in mark * (n * p) ≡ wait_of plan.slots * (plan.lanes * plan.stride * p) = ap (λ k. marks_in mark * (k * p)) long ∙ ap (λ k. k * (plan.lanes * plan.stride * p)) w in
     adds_is (omega arith) (omega arith) (adds_trans (adds_trans x y) z)
 
-cells_by : (b : Bool) (lanes levels stride inner latency : ℕ) → 1 ≤ lanes
-    → 14 + levels * (lanes * stride * 9) + (if b then 1 else 0) * (stride * (inner + 9) + (lanes - 1) * stride * 10) ≤ 16 * (1 + latency + stride * (lanes * (1 + 2 * levels) + (if b then 3 * lanes + inner else 0)))
-cells_by true lanes levels stride inner latency some =
+cells_by : (b : Bool) (lanes levels stride inner latency : ℕ) → 1 ≤ lanes → 1 ≤ stride
+    → 21 + levels * (lanes * stride * 9) + (if b then 1 else 0) * (stride * (inner + 9) + (lanes - 1) * stride * 10) ≤ 16 * (1 + latency + stride * (lanes * (1 + 2 * levels) + (if b then 3 * lanes + inner else 0)))
+cells_by true lanes levels stride inner latency some placed =
     let ls : ℕ = lanes * stride in
     let k : ℕ = levels * ls in
     let e1 : levels * (ls * 9) ≡ k * 9 = sym (mul_assoc levels ls 9) in
@@ -45,7 +45,7 @@ cells_by true lanes levels stride inner latency some =
     let one : 1 * (stride * (inner + 9) + (lanes - 1) * stride * 10) ≡ stride * (inner + 9) + (lanes - 1) * stride * 10 = omega arith in
     let least : 1 * stride ≤ ls = mul-le-mul_right stride some in
     omega arith
-cells_by false lanes levels stride inner latency some =
+cells_by false lanes levels stride inner latency some placed =
     let ls : ℕ = lanes * stride in
     let k : ℕ = levels * ls in
     let e1 : levels * (ls * 9) ≡ k * 9 = sym (mul_assoc levels ls 9) in
@@ -57,12 +57,13 @@ cells_by false lanes levels stride inner latency some =
     let e12 : ls * (2 * levels) ≡ 2 * levels * ls = mul_comm ls (2 * levels) in
     let e13 : 2 * levels * ls ≡ 2 * k = mul_assoc 2 levels ls in
     let none : 0 * (stride * (inner + 9) + (lanes - 1) * stride * 10) ≡ 0 = omega arith in
+    let least : 1 * stride ≤ ls = mul-le-mul_right stride some in
     omega arith
 
 -- within the bound of the part
-pub cells_bound : (slots lanes levels stride inner latency : ℕ) → 1 ≤ lanes
-    → 14 + levels * (lanes * stride * 9) + wait_of slots * (stride * (inner + 9) + (lanes - 1) * stride * 10) ≤ 16 * (1 + latency + stride * (lanes * (1 + 2 * levels) + (if nat_lt 1 slots then 3 * lanes + inner else 0)))
-cells_bound slots lanes levels stride inner latency some = cells_by (nat_lt 1 slots) lanes levels stride inner latency some
+pub cells_bound : (slots lanes levels stride inner latency : ℕ) → 1 ≤ lanes → 1 ≤ stride
+    → 21 + levels * (lanes * stride * 9) + wait_of slots * (stride * (inner + 9) + (lanes - 1) * stride * 10) ≤ 16 * (1 + latency + stride * (lanes * (1 + 2 * levels) + (if nat_lt 1 slots then 3 * lanes + inner else 0)))
+cells_bound slots lanes levels stride inner latency some placed = cells_by (nat_lt 1 slots) lanes levels stride inner latency some placed
 
 joins_are : (lanes stride levels : ℕ) → sweep_joins lanes stride levels ≡ stride * (levels * lanes - (2 ^ levels - 1))
 joins_are lanes stride levels =
@@ -106,10 +107,10 @@ whole_lanes n stride pos = let z : n * stride ≡ n * stride + 0 = omega arith i
 
 -- ---- where it stopped
 
-pub up_sweep : (a b c : Circuit) (plan : Plan) → Adds a b 14 0 → AddsUpTo b c (plan.levels * (plan.lanes * plan.stride * 9)) → AddsUpTo a c (scan_cells plan)
+pub up_sweep : (a b c : Circuit) (plan : Plan) → Adds a b 21 0 → AddsUpTo b c (plan.levels * (plan.lanes * plan.stride * 9)) → AddsUpTo a c (scan_cells plan)
 up_sweep a b c plan x y = up_trans (scan_cells plan) (omega arith) x y
 
-pub up_loops : (a b c d : Circuit) (plan : Plan) (mark : Option NetId) (p from : ℕ) → marks_in mark ≡ wait_of plan.slots → from ≡ (plan.lanes - 1) * plan.stride → Adds a b 14 0 → Adds b c (plan.levels * (plan.lanes * plan.stride * 9)) p
+pub up_loops : (a b c d : Circuit) (plan : Plan) (mark : Option NetId) (p from : ℕ) → marks_in mark ≡ wait_of plan.slots → from ≡ (plan.lanes - 1) * plan.stride → Adds a b 21 0 → Adds b c (plan.levels * (plan.lanes * plan.stride * 9)) p
     → AddsUpTo c d (marks_in mark * (plan.stride * (plan.inner + 9) + from * 10)) → AddsUpTo a d (scan_cells plan)
 up_loops a b c d plan mark p from w begin x y z =
     let cells : marks_in mark * (plan.stride * (plan.inner + 9) + from * 10) ≡ wait_of plan.slots * (plan.stride * (plan.inner + 9) + (plan.lanes - 1) * plan.stride * 10) =

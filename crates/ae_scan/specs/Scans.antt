@@ -31,7 +31,7 @@ sweep_joins lanes stride levels = levels * (lanes * stride) - (2 ^ levels * stri
 
 -- the most cells of its circuit: the mark, the sweep, the loops and what goes on from them
 abbrev pub scan_cells : Plan → ℕ
-scan_cells plan = 14 + plan.levels * (plan.lanes * plan.stride * 9) + wait_of plan.slots * (plan.stride * (plan.inner + 9) + (plan.lanes - 1) * plan.stride * 10)
+scan_cells plan = 21 + plan.levels * (plan.lanes * plan.stride * 9) + wait_of plan.slots * (plan.stride * (plan.inner + 9) + (plan.lanes - 1) * plan.stride * 10)
 
 -- its products, where an operator has so many
 abbrev pub scan_products : Plan → (products : ℕ) → ℕ
