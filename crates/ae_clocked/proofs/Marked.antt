@@ -12,19 +12,23 @@ use Rattle.ae_clocked.proofs.PhaseLemmas.{phase_more}
 below_next : (r from : ℕ) → nat_lt r (from - 1) ≡ nat_lt (r + 1) from
 below_next r from = grind (arith, nat_tests)
 
-early_by : (v : Bool) (r from a b : ℕ) → a ≡ (if nat_lt 0 from then 1 else 0) → b ≡ (if nat_lt r (from - 1) then 1 else 0) → (if (if v then 1 else 0) == 1 then a else b) ≡ (if nat_lt (if v then 0 else r + 1) from then 1 else 0)
+-- one more than a word is below a number where the word is below one less
+pub more_is : (r from bound below : ℕ) → bound ≡ from - 1 → below ≡ (if nat_lt r bound then 1 else 0) → below ≡ (if nat_lt (r + 1) from then 1 else 0)
+more_is r from bound below b e = e ∙ ap (λ n. if nat_lt r n then 1 else 0) b ∙ ap (λ (t : Bool). if t then 1 else 0) (below_next r from)
+
+early_by : (v : Bool) (r from a b : ℕ) → a ≡ (if nat_lt 0 from then 1 else 0) → b ≡ (if nat_lt (r + 1) from then 1 else 0) → (if (if v then 1 else 0) == 1 then a else b) ≡ (if nat_lt (if v then 0 else r + 1) from then 1 else 0)
 early_by true r from a b x y = x
-early_by false r from a b x y = y ∙ ap (λ (t : Bool). if t then 1 else 0) (below_next r from)
+early_by false r from a b x y = y
 
 -- a test as a number
 pub bit_is : (n : ℕ) (b : Bool) → n ≡ from_bool b → n ≡ (if b then 1 else 0)
 bit_is n true e = e
 bit_is n false e = e
 
-pub early_is : (r last from end at bound on begins next : ℕ)
-    → end ≡ last → at ≡ (if r == end then 1 else 0) → bound ≡ from - 1 → on ≡ (if nat_lt r bound then 1 else 0) → begins ≡ (if nat_lt 0 from then 1 else 0) → next ≡ (if at == 1 then begins else on)
+pub early_is : (r last from end at on begins next : ℕ)
+    → end ≡ last → at ≡ (if r == end then 1 else 0) → on ≡ (if nat_lt (r + 1) from then 1 else 0) → begins ≡ (if nat_lt 0 from then 1 else 0) → next ≡ (if at == 1 then begins else on)
     → next ≡ (if nat_lt (if r == last then 0 else r + 1) from then 1 else 0)
-early_is r last from end at bound on begins next e a b o g n = rw (n, a, e) (early_by (r == last) r from begins on g (rw b at o))
+early_is r last from end at on begins next e a o g n = rw (n, a, e) (early_by (r == last) r from begins on g o)
 
 phase_first : (p o : ℕ) → phase_of p o 0 ≡ (p - o) % p
 unfolding phase_of

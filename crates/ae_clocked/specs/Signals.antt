@@ -68,6 +68,10 @@ Counts run r rst width last first =
     (t : ℕ) → t + 1 < length run
     → word_at run (t + 1) r ≡ (if word_at run t rst == 1 then first else (if word_at run t r == last then 0 else (word_at run t r + 1) % 2 ^ width))
 
+-- net y says whether one more than the word of r is below a number
+abbrev pub IsMoreBelow : List Clock → ℕ → ℕ → ℕ → Type 0
+IsMoreBelow run y r from = (t : ℕ) → t < length run → word_at run t y ≡ (if nat_lt (word_at run t r + 1) from then 1 else 0)
+
 -- net y says, of the word after that of r, whether it is below a number: that word is 0 after the last, and else one more
 abbrev pub IsEarly : List Clock → ℕ → ℕ → ℕ → ℕ → Type 0
 IsEarly run y r last from = (t : ℕ) → t < length run → word_at run t y ≡ (if nat_lt (if word_at run t r == last then 0 else word_at run t r + 1) from then 1 else 0)

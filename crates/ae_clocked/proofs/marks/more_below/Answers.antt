@@ -1,0 +1,14 @@
+-- The nets of a comparison with one less.
+use Rattle.std.proofs.Common.{arith}
+use Rattle.ae_netlist.proofs.Carried.{carries_later}
+use Rattle.ae_clocked.proofs.Added.{grows_length, back}
+use Rattle.ae_clocked.proofs.Marked.{more_is}
+use Rattle.ae_clocked.proofs.marks.more_below.Goals as goal
+
+pub returns-clause-words : goal.returns-clause-words
+returns-clause-words c = λ all k2 run is t l.
+    let k1 = back c.in_ok-below.ensures.adds.grows k2 in
+    let l1 = grows_length c.in_ok-bound.ensures.adds.grows in
+    more_is _ c.args.from _ _
+    (c.in_ok-bound.ensures.words all k1 run is t l)
+    (c.in_ok-below.ensures.words all (carries_later _ _ l1 k2) run is t l)
