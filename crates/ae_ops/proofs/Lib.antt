@@ -4,3 +4,4 @@ pub mod Computing
 pub mod WordBlocks
 pub mod Operands
 pub mod Combining
+pub mod Squares

@@ -1,5 +1,5 @@
 -- Bundles of one word for the operands of a word stage.
-use Rattle.std.proofs.Common.{ℕ, zero, suc, ◌≡◌, List, ◌∷◌, [], length, map, Some, slice_get, get_or, arith, refl, subst}
+use Rattle.std.proofs.Common.{ℕ, zero, suc, ◌≡◌, ◌≤◌, List, ◌∷◌, [], length, map, Some, slice_get, get_or, arith, refl, subst}
 use Rattle.std.proofs.lemmas.Option.{slice_get-get_or}
 use Rattle.ae_word.specs.declared.op.WordOp.{WordOp}
 use Rattle.ae_word.specs.declared.op.WordOp.TheVariants.{Mux, Not, Shl, Shr, Cast, Sar, SCast}
@@ -7,7 +7,7 @@ use Rattle.ae_word.specs.WordTable.{arity_of}
 use Rattle.ae_netlist.specs.declared.cell.NetId.{NetId}
 use Rattle.ae_netlist.specs.declared.cell.SizedCell.{SizedCell}
 use Rattle.ae_netlist.specs.Circuit.{IsNet, width_of}
-use Rattle.ae_clocked.specs.Phases.{Belongs, Kept}
+use Rattle.ae_clocked.specs.Phases.{Belongs, HoldsPhases, Kept}
 use Rattle.ae_clocked.proofs.Added.{own_net}
 use Rattle.ae_ops.specs.Waves.{AreNets}
 use Rattle.ae_ops.specs.Blocks.{AreBundles, Stream, stream_widths}
@@ -70,3 +70,10 @@ pub made_net : (cells : List SizedCell) (w : ℕ) (out nets : List NetId) → ne
 made_net cells w out nets e h =
     let long : length out ≡ 1 = h.long in
     rw e (own_net (h.each 0 w _ refl (slice_get-get_or out 0 (record { 0 = 0 }) (omega arith))))
+
+-- the least width that holds all words of a phase is one
+pub one_width : {v w period : ℕ} → HoldsPhases v period → HoldsPhases w period → v ≡ w
+one_width {v} {w} a b =
+    let up : v ≤ w = a.least w b.low b.enough in
+    let down : w ≤ v = b.least v a.low a.enough in
+    omega arith

@@ -1,12 +1,12 @@
 -- An operator on words keeps the law of blocks.
 use Rattle.std.proofs.Common.{ℕ, zero, suc, ◌≡◌, ◌+◌, ◌-◌, ◌*◌, ◌<◌, ◌≤◌, ◌^◌, List, ◌∷◌, [], length, map, Some, slice_get, get_or, Result, Ok, Err, IfOk, OnOk, arith, refl, sym, ap, ◌∙◌, subst}
-use Rattle.std.specs.Prelude.{slice_index, replicate}
+use Rattle.std.specs.Prelude.{slice_index}
 use Rattle.std.proofs.Math.Nat.{add-mul}
 use Rattle.std.proofs.lemmas.List.{length-map}
 use Rattle.std.proofs.lemmas.Option.{slice_get_within, slice_get-get_or}
 use Rattle.ae_word.specs.declared.op.WordOp.{WordOp}
 use Rattle.ae_word.specs.declared.op.WordOp.TheVariants.{Mux, Not, Shl, Shr, Cast, Sar, SCast}
-use Rattle.ae_word.specs.WordTable.{OperandsFit, arity_of, latency_of, result_width_of, word_result}
+use Rattle.ae_word.specs.WordTable.{OperandsFit, latency_of, word_result}
 use Rattle.ae_sttype.specs.declared.st_type.Slot.{Slot}
 use Rattle.ae_sttype.specs.Holds.{Holds}
 use Rattle.ae_netlist.specs.declared.cell.NetId.{NetId}
@@ -14,14 +14,13 @@ use Rattle.ae_netlist.specs.declared.cell.SizedCell.{SizedCell}
 use Rattle.ae_netlist.specs.declared.netlist.NetFault.{NetFault}
 use Rattle.ae_netlist.specs.declared.netlist.NetFault.TheVariants.{Full}
 use Rattle.ae_netlist.specs.Circuit.{Circuit, Extends, IsNet, OperandsAre, operand}
-use Rattle.ae_netlist.specs.Runs.{Clock, InEveryResetRun, InEveryRunFrom, word_at}
+use Rattle.ae_netlist.specs.Runs.{Clock, InEveryResetRun, InEveryRun, word_at}
 use Rattle.ae_netlist.proofs.Growing.{extends_trans, net_later}
-use Rattle.ae_netlist.proofs.Carried.{carries_extends}
-use Rattle.ae_clocked.specs.Signals.{Grows, IsFullAt, IsResult}
+use Rattle.ae_clocked.specs.Signals.{Grows, IsFullAt}
 use Rattle.ae_clocked.specs.Delays.{IsTap}
 use Rattle.ae_ops.specs.Waves.{AreNets, wave_of}
-use Rattle.ae_ops.specs.Blocks.{AllAreWords, AllHold, AreBundles, BlockLaw, KeepsLaw, Stream, stream_widths}
-use Rattle.ae_ops.specs.Words.{first_net, operand_widths, operands_of, picked, word_of, word_part, word_stream}
+use Rattle.ae_ops.specs.Blocks.{AllAreWords, AllHold, AreBundles, KeepsLaw, Stream, stream_widths}
+use Rattle.ae_ops.specs.Words.{IsResultLater, first_net, operand_widths, operands_of, picked, word_of, word_part, word_stream}
 
 -- ---- one word
 
@@ -129,11 +128,12 @@ Computes cells rst op w d args y = InEveryResetRun cells rst (λ run start.
     (c : ℕ) → d ≤ c → start + c < length run
     → word_at run (start + c) y ≡ word_result op w (word_at run (start + (c - d)) (operand args 0)) (word_at run (start + (c - d)) (operand args 1)) (word_at run (start + (c - d)) (operand args 2)))
 
-pub computed : (old mid new : Circuit) (rst v w d : ℕ) (op : WordOp) (args : List NetId) (made y : NetId) → Grows mid new → InEveryRunFrom (length old.cells) mid.cells (λ run. IsResult run made.0 op w args)
-    → IsTap new.cells rst v made.0 d y.0 → Computes new.cells rst op w d args y.0
-computed old mid new rst v w d op args made y grows result tap = λ all e run r start reset c le l.
-    let t : start + (c - d) < length run = omega arith in
-    tap.words all e run r start reset c le l ∙ result all (carries_extends (length old.cells) (extends_trans grows.extends e)) run r (start + (c - d)) t
+-- by a result that comes so many clocks later, and a tap with the rest of the delay
+pub computed : (mid new : Circuit) (rst v w d early : ℕ) (op : WordOp) (args : List NetId) (made y : NetId) → early ≤ d → Grows mid new → InEveryRun mid.cells (λ run. IsResultLater run made.0 early op w args)
+    → IsTap new.cells rst v made.0 (d - early) y.0 → Computes new.cells rst op w d args y.0
+computed mid new rst v w d early op args made y small grows result tap = λ all e run r start reset c le l.
+    let s : start + (c - (d - early)) ≡ start + (c - d) + early = omega arith in
+    (tap.words all e run r start reset c (omega arith) l ∙ ap (λ n. word_at run n made.0) s) ∙ result all (extends_trans grows.extends e) run r (start + (c - d)) (omega arith)
 
 word_law : (cells : List SizedCell) (rst arrival w p : ℕ) (op : WordOp) (ins : List (List NetId)) (y : NetId) → 1 ≤ p → AreBundles cells (map word_stream (operand_widths op w)) ins
     → Computes cells rst op w (latency_of op) (operands_of op ins) y.0 → KeepsLaw cells rst arrival (word_part op w p) ins (y ∷ [])

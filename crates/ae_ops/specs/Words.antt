@@ -1,10 +1,12 @@
 -- The stage of one operator on words, which stand in the first clock of each period.
-use Rattle.std.specs.Prelude.{ℕ, ◌+◌, ◌*◌, nat_lt, if◌then◌else◌, List, [], ◌∷◌, map, replicate, get_or, slice_index, slice_index_or}
+use Rattle.std.specs.Prelude.{◌≡◌, ◌<◌, length, ℕ, ◌+◌, ◌*◌, nat_lt, if◌then◌else◌, List, [], ◌∷◌, map, replicate, get_or, slice_index, slice_index_or}
 use Rattle.ae_word.specs.declared.op.WordOp.{WordOp}
 use Rattle.ae_word.specs.declared.op.WordOp.TheVariants.{Mux}
 use Rattle.ae_word.specs.WordTable.{arity_of, latency_of, result_width_of, word_result}
 use Rattle.ae_netlist.specs.declared.cell.NetId.{NetId}
+use Rattle.ae_netlist.specs.Circuit.{operand}
 use Rattle.ae_netlist.specs.Counts.{is_product}
+use Rattle.ae_netlist.specs.Runs.{Clock, word_at}
 use Rattle.ae_ops.specs.Blocks.{Part, Stream}
 
 -- a word in the first clock of each period
@@ -49,3 +51,8 @@ picked op bundles k = if nat_lt k (arity_of op) then first_net bundles k else fi
 
 abbrev pub operands_of : WordOp → List (List NetId) → List NetId
 operands_of op bundles = picked op bundles 0 ∷ picked op bundles 1 ∷ picked op bundles 2 ∷ []
+
+-- net y has, d clocks later, the operator's result on its operands of width w
+abbrev pub IsResultLater : List Clock → (y d : ℕ) → WordOp → (w : ℕ) → List NetId → Type 0
+IsResultLater run y d op w args =
+    (t : ℕ) → t + d < length run → word_at run (t + d) y ≡ word_result op w (word_at run t (operand args 0)) (word_at run t (operand args 1)) (word_at run t (operand args 2))

@@ -5,6 +5,7 @@ mod bundle;
 mod combine;
 mod compute;
 mod late;
+mod square;
 mod stage;
 #[cfg(test)]
 mod tests;

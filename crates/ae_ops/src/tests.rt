@@ -26,13 +26,13 @@ fn a_bundle_is_delayed_by_registers_in_a_row(rt: HostRuntime) -> Result<(), Fail
     Ok(())
 }
 
-/// The word of the one output in the fourth clock.
-fn fourth(alloc: Global, nl: &Netlist) -> Result<u64, Fail>
+/// The word of the one output in the last of so many clocks. Registers begin with 99.
+fn last(alloc: Global, nl: &Netlist, clocks: u32) -> Result<u64, Fail>
     requires inputs { count_of is_input nl.now.cells ≡ 0 }
     requires output { 0 < length nl.now.outlets }
 {
     let mut sim = Sim::new(alloc, nl, 99)?;
-    for _clock in 0..4u32 {
+    for _clock in 0..clocks {
         sim.step(&[]);
     }
     Ok(sim.output(0))
@@ -52,7 +52,7 @@ fn of_two(alloc: Global, op: WordOp, a: u8, b: u8) -> Result<u64, Fail>
     let stage = WordStage::new(op, 8, 1);
     let out = stage.build(alloc, &mut nl, &mut clocks, &ins, 0)?;
     nl.add_output(Port::Plain(0), out.nets()[0])?;
-    fourth(alloc, &nl)
+    last(alloc, &nl, 4)
 }
 
 /// The same of one word.
@@ -68,7 +68,7 @@ fn of_one(alloc: Global, op: WordOp, a: u8) -> Result<u64, Fail>
     let stage = WordStage::new(op, 8, 1);
     let out = stage.build(alloc, &mut nl, &mut clocks, &ins, 0)?;
     nl.add_output(Port::Plain(0), out.nets()[0])?;
-    fourth(alloc, &nl)
+    last(alloc, &nl, 4)
 }
 
 #[test]
@@ -101,31 +101,73 @@ fn signed_operators_read_codes_as_numbers(rt: HostRuntime) -> Result<(), Fail> {
     Ok(())
 }
 
-#[test]
-fn a_product_comes_two_clocks_later(rt: HostRuntime) -> Result<(), Fail> {
-    let mut nl = Netlist::new(rt.alloc(), 64);
+/// The products, in eight clocks, of a word that counts from 0 to 15 and one that does so from `offset` on. Registers
+/// begin with ones, so that clock 0 after reset is the second one.
+fn products(alloc: Global, offset: u32) -> Result<Vec<u64>, Fail>
+    requires { offset < 16 }
+{
+    let mut nl = Netlist::new(alloc, 64);
     let off = constant(&mut nl, 1, 0)?;
     let rst = delayed(&mut nl, off, 1)?;
-    let mut clocks = Clocks::new(rt.alloc(), rst);
-    let count = clocks.phase(&mut nl, 16, 0)?;
-    let width = width_at(&nl, count);
-    let ins = [
-        Bundle::one(rt.alloc(), count)?,
-        Bundle::one(rt.alloc(), count)?,
-    ];
+    let mut clocks = Clocks::new(alloc, rst);
+    let left = clocks.phase(&mut nl, 16, 0)?;
+    let right = clocks.phase(&mut nl, 16, offset)?;
+    let width = width_at(&nl, left);
+    let ins = [Bundle::one(alloc, left)?, Bundle::one(alloc, right)?];
     let stage = WordStage::new(WordOp::Mul, width, 1);
-    let out = stage.build(rt.alloc(), &mut nl, &mut clocks, &ins, 0)?;
+    let out = stage.build(alloc, &mut nl, &mut clocks, &ins, 0)?;
     nl.add_output(Port::Plain(0), out.nets()[0])?;
-    let mut sim = Sim::new(rt.alloc(), &nl, u64::MAX)?;
-    let mut seen = Vec::new(rt.alloc());
+    let mut sim = Sim::new(alloc, &nl, u64::MAX)?;
+    let mut seen = Vec::new(alloc);
     for _clock in 0..8u32 {
         sim.step(&[]);
         seen.push(sim.output(0))?;
     }
+    Ok(seen)
+}
+
+#[test]
+fn a_product_comes_two_clocks_later(rt: HostRuntime) -> Result<(), Fail> {
+    let seen = products(rt.alloc(), 1)?;
+    assert_eq!(rt; seen.len(), 8);
+    assert_eq!(rt;
+        [seen[3], seen[4], seen[5], seen[6], seen[7]],
+        [0, 0, 2, 6, 12]
+    );
+    Ok(())
+}
+
+#[test]
+fn a_square_comes_two_clocks_later(rt: HostRuntime) -> Result<(), Fail> {
+    let seen = products(rt.alloc(), 0)?;
     assert_eq!(rt; seen.len(), 8);
     assert_eq!(rt;
         [seen[3], seen[4], seen[5], seen[6], seen[7]],
         [0, 1, 4, 9, 0]
     );
+    Ok(())
+}
+
+/// The word in the last of so many clocks that a stage makes of a word of 8 bits that stays the same, multiplied with
+/// itself.
+fn square(alloc: Global, a: u8, clocks: u32) -> Result<u64, Fail> {
+    let mut nl = Netlist::new(alloc, 64);
+    let rst = constant(&mut nl, 1, 0)?;
+    let mut kept = Clocks::new(alloc, rst);
+    let word = constant(&mut nl, 8, u64::from(a))?;
+    let ins = [Bundle::one(alloc, word)?, Bundle::one(alloc, word)?];
+    let stage = WordStage::new(WordOp::Mul, 8, 1);
+    let out = stage.build(alloc, &mut nl, &mut kept, &ins, 0)?;
+    nl.add_output(Port::Plain(0), out.nets()[0])?;
+    last(alloc, &nl, clocks)
+}
+
+#[test]
+fn the_register_of_a_square_stands_before_its_product(rt: HostRuntime) -> Result<(), Fail> {
+    assert_eq!(rt; square(rt.alloc(), 3, 2)?, 73);
+    assert_eq!(rt; square(rt.alloc(), 3, 3)?, 9);
+    assert_eq!(rt; square(rt.alloc(), 250, 3)?, 36);
+    assert_eq!(rt; square(rt.alloc(), 0, 3)?, 0);
+    assert_eq!(rt; square(rt.alloc(), 16, 3)?, 0);
     Ok(())
 }

@@ -5,7 +5,7 @@ ghost use Rattle.ae_word.specs.WordTable.{HasRange, arity_of};
 ghost use Rattle.ae_ops.specs.Words.{first_net, operands_of, picked, word_part};
 
 use crate::bundle::Bundle;
-use crate::compute::compute;
+use crate::square::make;
 use crate::stage::Stage;
 use ae_clocked::{Clocks, line};
 use ae_netlist::{NetFault, NetId, Netlist};
@@ -69,8 +69,9 @@ impl Stage for WordStage {
         arrival: u32,
     ) -> Result<Bundle, NetFault> {
         let args = operands(ins, self.op);
-        let made = compute(nl, self.op, args, self.width)?;
-        let tapped = line(alloc, nl, made, &[latency(self.op)], clocks)?;
+        let made = make(nl, self.op, args, self.width)?;
+        let behind = latency(self.op) - made.late;
+        let tapped = line(alloc, nl, made.net, &[behind], clocks)?;
         Bundle::one(alloc, tapped.tap(0))
     }
 }

@@ -1,5 +1,5 @@
 -- The operator's cells, and the line behind them.
-use Rattle.std.proofs.Common.{◌≡◌, arith, refl, sym, ap, ◌∙◌, Ok, Err, OnOk}
+use Rattle.std.proofs.Common.{◌-◌, arith, refl}
 use Rattle.ae_netlist.proofs.Growing.{extends_trans, net_width}
 use Rattle.ae_clocked.proofs.Added.{own_net}
 use Rattle.ae_clocked.proofs.Belonging.{belongs_grows}
@@ -10,8 +10,8 @@ use Rattle.ae_ops.proofs.word.WordStageStage.build.Goals as goal
 pub operands-args-requires-clause-nets : goal.operands-args-requires-clause-nets
 operands-args-requires-clause-nets c = some_nets _ _ c.args.ins.now c.requires.bundles
 
-pub compute-requires-clause-operands : goal.compute-requires-clause-operands
-compute-requires-clause-operands c =
+pub make-requires-clause-operands : goal.make-requires-clause-operands
+make-requires-clause-operands c =
     rw c.operands-args.ensures (operands_ready _ c.self.inside.op c.self.inside.width c.args.ins.now (rw (← c.self.view_is) at c.requires.bundles))
 
 pub returns-in_err-made-clause-belongs : goal.returns-in_err-made-clause-belongs
@@ -31,13 +31,13 @@ returns-clause-full c = not_full c.one.result c.line.new.nl c.one.ensures.fault
 
 pub returns-clause-bundle : goal.returns-clause-bundle
 returns-clause-bundle c =
-    let tap = c.in_ok-tapped.ensures.taps.each 0 c.latency.result c.tap.result refl c.tap.ensures in
+    let tap = c.in_ok-tapped.ensures.taps.each 0 (c.latency.result - c.in_ok-made.made.late) c.tap.result refl c.tap.ensures in
     rw (← c.self.view_is) (word_nets _ _ c.tap.result c.one.result c.one.ensures.ok (rw (net_width c.in_ok-made.ensures.net) at tap.net))
 
 pub returns-clause-law : goal.returns-clause-law
 returns-clause-law c =
     let later = extends_trans c.in_ok-made.ensures.adds.grows.extends c.in_ok-tapped.ensures.grows.extends in
-    let tap = rw c.latency.ensures at (c.in_ok-tapped.ensures.taps.each 0 c.latency.result c.tap.result refl c.tap.ensures) in
+    let tap = rw c.latency.ensures at (c.in_ok-tapped.ensures.taps.each 0 (c.latency.result - c.in_ok-made.made.late) c.tap.result refl c.tap.ensures) in
     rw (← c.self.view_is)
     (word_answers _ _ _ c.self.inside.width c.self.inside.period c.self.inside.op c.args.ins.now c.tap.result c.one.result c.one.ensures.ok c.self.invariant.3 (bundles_grow _ _ _ _ later (rw (← c.self.view_is) at c.requires.bundles))
-    (computed c.args.nl.now c.compute.new.nl c.line.new.nl _ _ _ _ _ (operands_of c.self.inside.op c.args.ins.now) c.in_ok-made.made c.tap.result c.in_ok-tapped.ensures.grows (rw c.operands-args.ensures at c.in_ok-made.ensures.words) tap))
+    (computed c.make.new.nl c.line.new.nl _ _ _ _ c.in_ok-made.made.late _ (operands_of c.self.inside.op c.args.ins.now) c.in_ok-made.made.net c.tap.result c.in_ok-made.ensures.late c.in_ok-tapped.ensures.grows (rw c.operands-args.ensures at c.in_ok-made.ensures.words) tap))
