@@ -5,3 +5,4 @@ pub mod WordBlocks
 pub mod Operands
 pub mod Combining
 pub mod Squares
+pub mod Gating

@@ -77,3 +77,9 @@ one_width {v} {w} a b =
     let up : v ≤ w = a.least w b.low b.enough in
     let down : w ≤ v = b.least v a.low a.enough in
     omega arith
+
+-- and for two clocks it is one bit
+pub bit_wide : {w : ℕ} → HoldsPhases w 2 → w ≡ 1
+bit_wide {w} h =
+    let small : w ≤ 1 = h.least 1 (omega arith) (omega arith) in
+    omega (arith, h.low)

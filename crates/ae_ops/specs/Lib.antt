@@ -3,3 +3,4 @@ pub mod Blocks
 pub mod Signs
 pub mod Words
 pub mod Folds
+pub mod Gates

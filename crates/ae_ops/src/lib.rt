@@ -5,8 +5,10 @@ mod bundle;
 mod combine;
 mod compute;
 mod late;
+mod make;
 mod square;
 mod stage;
+mod sums;
 #[cfg(test)]
 mod tests;
 mod word;

@@ -1,9 +1,7 @@
-// The result of an operator, and how many clocks after its operands it comes.
+// The square of a word.
 
-ghost use Rattle.std.specs.Prelude.{◌≡◌, ◌≤◌, ◌+◌, ◌∷◌, [], length, if◌then◌else◌, IfOk, OnOk, OnErr};
-ghost use Rattle.ae_word.specs.WordTable.{HasRange, latency_of, result_width_of};
-ghost use Rattle.ae_netlist.specs.Circuit.{IsNet, OperandsAre};
-ghost use Rattle.ae_netlist.specs.Counts.{is_product};
+ghost use Rattle.std.specs.Prelude.{◌≡◌, ◌≤◌, ◌∷◌, [], IfOk, OnOk, OnErr};
+ghost use Rattle.ae_netlist.specs.Circuit.{IsNet};
 ghost use Rattle.ae_netlist.specs.Runs.{InEveryRun};
 ghost use Rattle.ae_clocked.specs.Signals.{Adds, IsFullAt};
 ghost use Rattle.ae_ops.specs.Words.{IsResultLater};
@@ -13,38 +11,9 @@ use ae_clocked::delayed;
 use ae_netlist::{NetFault, NetId, Netlist};
 use ae_word::WordOp;
 
-/// The net of a result, and how many clocks after its operands it comes.
-#[derive(Clone, Copy)]
-pub struct Made {
-    pub net: NetId,
-    pub late: u32,
-}
-
-/// Adds the result of an operator on words. That of a square comes one clock after its operand, and any other in the
-/// clock of its operands.
-pub fn make(nl: &mut Netlist, op: WordOp, args: [NetId; 3], width: u32) -> Result<Made, NetFault>
-    requires low { 1 ≤ width }
-    requires high { width ≤ 64 }
-    requires range { HasRange op }
-    requires operands { OperandsAre op (IsNet nl.old.cells) args width }
-    ensures adds { OnOk result (Adds nl.old nl.new 9 (if is_product op then 1 else 0)) }
-    ensures err { OnErr result (Adds nl.old nl.new 9 0) }
-    ensures full { IsFullAt result nl.new }
-    ensures late { IfOk result (λ made. made.late ≤ latency_of op) }
-    ensures net { IfOk result (λ made. IsNet nl.new.cells made.net.0 (result_width_of op width)) }
-    ensures words { IfOk result (λ made. InEveryRun nl.new.cells (λ run. IsResultLater run made.net.0 made.late op width args)) }
-{
-    if op == WordOp::Mul && args[0] == args[1] {
-        let net = square(nl, args[0], width)?;
-        return Ok(Made { net, late: 1 });
-    }
-    let net = compute(nl, op, args, width)?;
-    Ok(Made { net, late: 0 })
-}
-
 /// Adds the square of a word, one clock later. The register stands before the product, where it takes one word's bits
 /// and serves whatever else takes that word a clock later.
-fn square(nl: &mut Netlist, x: NetId, width: u32) -> Result<NetId, NetFault>
+pub fn square(nl: &mut Netlist, x: NetId, width: u32) -> Result<NetId, NetFault>
     requires low { 1 ≤ width }
     requires high { width ≤ 64 }
     requires net { IsNet nl.old.cells x.0 width }

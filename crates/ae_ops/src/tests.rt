@@ -4,9 +4,10 @@ ghost use Rattle.std.specs.Prelude.{◌≡◌, ◌<◌, IfOk, length};
 ghost use Rattle.ae_word.specs.WordTable.{HasRange, arity_of};
 ghost use Rattle.ae_netlist.specs.Circuit.{IsNet};
 ghost use Rattle.ae_netlist.specs.Counts.{count_of, is_input};
+ghost use Rattle.ae_clocked.specs.Phases.{Belongs};
 
 use crate::{Bundle, Stage, WordStage, delay};
-use ae_clocked::{Clocks, constant, delayed, width_at};
+use ae_clocked::{Clocks, choose, constant, delayed, width_at};
 use ae_netlist::{Cell, NetId, Netlist, Port};
 use ae_sim::Sim;
 use ae_word::WordOp;
@@ -101,8 +102,22 @@ fn signed_operators_read_codes_as_numbers(rt: HostRuntime) -> Result<(), Fail> {
     Ok(())
 }
 
-/// The products, in eight clocks, of a word that counts from 0 to 15 and one that does so from `offset` on. Registers
-/// begin with ones, so that clock 0 after reset is the second one.
+/// The words of the one output in eight clocks. Registers begin with ones, so that a register of 0 is a reset after
+/// which clock 0 is the second one.
+fn seen(alloc: Global, nl: &Netlist) -> Result<Vec<u64>, Fail>
+    requires inputs { count_of is_input nl.now.cells ≡ 0 }
+    requires output { 0 < length nl.now.outlets }
+{
+    let mut sim = Sim::new(alloc, nl, u64::MAX)?;
+    let mut words = Vec::new(alloc);
+    for _clock in 0..8u32 {
+        sim.step(&[]);
+        words.push(sim.output(0))?;
+    }
+    Ok(words)
+}
+
+/// The products of a word that counts from 0 to 15 and one that does so from `offset` on.
 fn products(alloc: Global, offset: u32) -> Result<Vec<u64>, Fail>
     requires { offset < 16 }
 {
@@ -117,13 +132,7 @@ fn products(alloc: Global, offset: u32) -> Result<Vec<u64>, Fail>
     let stage = WordStage::new(WordOp::Mul, width, 1);
     let out = stage.build(alloc, &mut nl, &mut clocks, &ins, 0)?;
     nl.add_output(Port::Plain(0), out.nets()[0])?;
-    let mut sim = Sim::new(alloc, &nl, u64::MAX)?;
-    let mut seen = Vec::new(alloc);
-    for _clock in 0..8u32 {
-        sim.step(&[]);
-        seen.push(sim.output(0))?;
-    }
-    Ok(seen)
+    seen(alloc, &nl)
 }
 
 #[test]
@@ -169,5 +178,73 @@ fn the_register_of_a_square_stands_before_its_product(rt: HostRuntime) -> Result
     assert_eq!(rt; square(rt.alloc(), 250, 3)?, 36);
     assert_eq!(rt; square(rt.alloc(), 0, 3)?, 0);
     assert_eq!(rt; square(rt.alloc(), 16, 3)?, 0);
+    Ok(())
+}
+
+/// Whether a net is a register behind a choice.
+fn is_late_choice(nl: &Netlist, net: NetId) -> bool {
+    match nl.cell(net) {
+        Some(Cell::Reg { next }) => matches!(nl.cell(*next), Some(Cell::Op(WordOp::Mux, _))),
+        _ => false,
+    }
+}
+
+/// The sums of two nets, and whether the last cells are a choice and a register.
+fn sums(
+    alloc: Global,
+    nl: &mut Netlist,
+    clocks: &mut Clocks,
+    left: NetId,
+    right: NetId,
+) -> Result<(Vec<u64>, bool), Fail>
+    requires belongs { Belongs clocks.old nl.old.cells }
+    requires left { IsNet nl.old.cells left.0 8 }
+    requires right { IsNet nl.old.cells right.0 8 }
+    requires inputs { count_of is_input nl.old.cells ≡ 0 }
+    requires outputs { length nl.old.outlets ≡ 0 }
+{
+    let ins = [Bundle::one(alloc, left)?, Bundle::one(alloc, right)?];
+    let stage = WordStage::new(WordOp::Add, 8, 1);
+    let out = stage.build(alloc, nl, clocks, &ins, 0)?;
+    let is_behind = is_late_choice(nl, out.nets()[0]);
+    nl.add_output(Port::Plain(0), out.nets()[0])?;
+    let words = seen(alloc, nl)?;
+    Ok((words, is_behind))
+}
+
+/// The same of 200 and a word of 8 bits that is 100 in one clock and 0 in the next, which stands on the left or else on
+/// the right.
+fn gated_sums(alloc: Global, on_left: bool) -> Result<(Vec<u64>, bool), Fail> {
+    let mut nl = Netlist::new(alloc, 64);
+    let off = constant(&mut nl, 1, 0)?;
+    let rst = delayed(&mut nl, off, 1)?;
+    let mut clocks = Clocks::new(alloc, rst);
+    let odd = clocks.phase(&mut nl, 2, 0)?;
+    let none = constant(&mut nl, 8, 0)?;
+    let word = constant(&mut nl, 8, 100)?;
+    let gated = choose(&mut nl, odd, none, word, 8)?;
+    let other = constant(&mut nl, 8, 200)?;
+    if on_left {
+        sums(alloc, &mut nl, &mut clocks, gated, other)
+    } else {
+        sums(alloc, &mut nl, &mut clocks, other, gated)
+    }
+}
+
+#[test]
+fn a_choice_of_0_on_the_left_is_made_behind_the_adder(rt: HostRuntime) -> Result<(), Fail> {
+    let (seen, is_behind) = gated_sums(rt.alloc(), true)?;
+    assert!(rt; is_behind);
+    assert_eq!(rt; seen.len(), 8);
+    assert_eq!(rt; [seen[2], seen[3], seen[4], seen[5]], [44, 200, 44, 200]);
+    Ok(())
+}
+
+#[test]
+fn a_choice_of_0_on_the_right_is_made_behind_the_adder(rt: HostRuntime) -> Result<(), Fail> {
+    let (seen, is_behind) = gated_sums(rt.alloc(), false)?;
+    assert!(rt; is_behind);
+    assert_eq!(rt; seen.len(), 8);
+    assert_eq!(rt; [seen[2], seen[3], seen[4], seen[5]], [44, 200, 44, 200]);
     Ok(())
 }

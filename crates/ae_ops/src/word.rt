@@ -5,7 +5,7 @@ ghost use Rattle.ae_word.specs.WordTable.{HasRange, arity_of};
 ghost use Rattle.ae_ops.specs.Words.{first_net, operands_of, picked, word_part};
 
 use crate::bundle::Bundle;
-use crate::square::make;
+use crate::make::make;
 use crate::stage::Stage;
 use ae_clocked::{Clocks, line};
 use ae_netlist::{NetFault, NetId, Netlist};

@@ -1,5 +1,0 @@
-use Rattle.ae_ops.proofs.Squares.{at_once}
-use Rattle.ae_ops.proofs.square.make.Goals as goal
-
-pub returns-clause-words : goal.returns-clause-words
-returns-clause-words c = at_once c.args.nl.now c.compute.new.nl c.in_ok-net-2.net c.args.op c.args.width c.args.args c.in_ok-net-2.ensures.words
