@@ -5,8 +5,10 @@ use Rattle.ae_netlist.specs.declared.cell.SizedCell.{SizedCell}
 use Rattle.ae_netlist.specs.Circuit.{IsNet}
 use Rattle.ae_netlist.specs.Runs.{Clock, word_at, InEveryResetRun}
 use Rattle.ae_clocked.specs.Delays.{IsTap}
+use Rattle.ae_clocked.specs.Phases.{IsCounter}
 use Rattle.ae_moves.specs.declared.trip.Choice.{Choice}
 use Rattle.ae_moves.specs.declared.trip.Choice.TheVariants.{Delayed, Constant}
+use Rattle.ae_gather.specs.declared.trips.PhaseNet.{PhaseNet}
 use Rattle.ae_gather.specs.declared.trips.Step.{Step}
 
 -- the net of a column
@@ -40,11 +42,18 @@ IsReady cells rst width ins lines tap (Delayed column age) = HasTap cells rst wi
 IsReady cells rst width ins lines tap (Constant w) = w < 2 ^ width
 
 -- the steps can be built
-pub record AreReady (cells : List SizedCell) (rst width phases : ℕ) (ins : List NetId) (lines : List (List NetId)) (steps : List Step) : Type 0 where
+pub record AreReady (cells : List SizedCell) (rst width period : ℕ) (ins : List NetId) (lines : List (List NetId)) (steps : List Step) : Type 0 where
   pub low : 1 ≤ width
   pub high : width ≤ 64
   pub ready : (k : ℕ) (step : Step) → slice_get steps k ≡ Some step → IsReady cells rst width ins lines step.tap step.take
-  pub within : (k : ℕ) (step : Step) → slice_get steps k ≡ Some step → step.from < 2 ^ phases
+  pub within : (k : ℕ) (step : Step) → slice_get steps k ≡ Some step → step.from < period
+
+-- the net of a counter of phases, where there is a reset
+pub record IsPhaseNet (cells : List SizedCell) (rst : ℕ) (phase : PhaseNet) : Type 0 where
+  pub reset : IsNet cells rst 1
+  pub counts : IsCounter cells rst (record { period = phase.period; offset = phase.offset }) phase.net.0
+  pub low : phase.offset < phase.period
+  pub high : phase.period ≤ 4096
 
 -- a net that has, in each clock, the word of the choice in the phase that the net `phase` shows
 pub record IsColumn (cells : List SizedCell) (rst width phase : ℕ) (ins : List NetId) (choice : ℕ → Choice) (y : ℕ) : Type 0 where

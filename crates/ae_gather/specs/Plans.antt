@@ -24,9 +24,9 @@ IsReached d c (Fixed w) = Unit {0}
 abbrev pub later : (phase : ℕ) → Choice → Step → Choice
 later phase before step = if nat_lt phase step.from then before else step.take
 
--- the most cells of a column: one for its first step, and four for each other
+-- the most cells of a column: one for its first step, and eleven for each other
 abbrev pub steps_cells : List Step → ℕ
-steps_cells steps = 1 + 4 * (length steps - 1)
+steps_cells steps = 1 + 11 * (length steps - 1)
 
 -- the choice in a phase, where the first step goes on from the first clock
 unfoldable pub choice_in : (phase : ℕ) → List Step → Choice

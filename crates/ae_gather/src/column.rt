@@ -1,14 +1,14 @@
 // One output column: a choice by phases.
 
-ghost use Rattle.std.specs.Prelude.{◌≡◌, ◌<◌, ◌≤◌, ◌+◌, ◌^◌, ℕ, length, IfOk};
+ghost use Rattle.std.specs.Prelude.{◌≡◌, ◌≤◌, ℕ, length, IfOk};
 ghost use Rattle.ae_netlist.specs.Circuit.{IsNet};
 ghost use Rattle.ae_clocked.specs.Signals.{Adds, IsFullAt};
 ghost use Rattle.ae_moves.specs.declared.trip.Choice.{Choice as Taken};
 ghost use Rattle.ae_gather.specs.Plans.{choice_in, later, steps_cells};
-ghost use Rattle.ae_gather.specs.Columns.{AreReady, IsColumn, IsReady, IsSource};
+ghost use Rattle.ae_gather.specs.Columns.{AreReady, IsColumn, IsPhaseNet, IsReady, IsSource};
 
-use crate::trips::Step;
-use ae_clocked::{Clocks, Tapped, choose, constant, less};
+use crate::trips::{PhaseNet, Step};
+use ae_clocked::{Clocks, Tapped, choose, constant};
 use ae_moves::Choice;
 use ae_netlist::{NetFault, NetId, Netlist};
 
@@ -34,7 +34,8 @@ fn source(
     }
 }
 
-/// The word of a step from its first phase on, and before it that of an earlier net.
+/// The word of a step from its first phase on, and before it that of an earlier net. The bit that chooses stands in a
+/// register, so that a choice waits for no comparison.
 fn choose_from(
     nl: &mut Netlist,
     clocks: &Clocks,
@@ -42,24 +43,20 @@ fn choose_from(
     lines: &[Tapped],
     step: &Step,
     width: u32,
-    phase: NetId,
-    phases: u32,
+    phase: PhaseNet,
     before: NetId,
 ) -> Result<NetId, NetFault>
     requires low { 1 ≤ width }
     requires high { width ≤ 64 }
-    requires some { 1 ≤ phases }
-    requires few { phases ≤ 64 }
-    requires phase { IsNet nl.old.cells phase.0 phases }
-    requires within { step.now.from < 2 ^ phases }
+    requires phase { IsPhaseNet nl.old.cells clocks.now.rst phase }
+    requires within { step.now.from ≤ phase.period }
     requires ready { IsReady nl.old.cells clocks.now.rst width ins.now lines.now step.now.tap step.now.take }
     requires before { IsNet nl.old.cells before.0 width }
-    ensures adds { Adds nl.old nl.new 4 0 }
+    ensures adds { Adds nl.old nl.new 11 0 }
     ensures full { IsFullAt result nl.new }
-    ensures column { IfOk result (λ y. (choice : ℕ → Taken) → IsColumn nl.old.cells clocks.now.rst width phase.0 ins.now choice before.0 → IsColumn nl.new.cells clocks.now.rst width phase.0 ins.now (λ p. later p (choice p) step.now) y.0) }
+    ensures column { IfOk result (λ y. (choice : ℕ → Taken) → IsColumn nl.old.cells clocks.now.rst width phase.net.0 ins.now choice before.0 → IsColumn nl.new.cells clocks.now.rst width phase.net.0 ins.now (λ p. later p (choice p) step.now) y.0) }
 {
-    let from = constant(nl, phases, u64::from(step.from))?;
-    let early = less(nl, phase, from, phases)?;
+    let early = clocks.mark(nl, phase.net, phase.period, phase.offset, step.from)?;
     let taken = source(nl, clocks, ins, lines, step, width)?;
     choose(nl, early, before, taken, width)
 }
@@ -72,21 +69,18 @@ pub fn select(
     lines: &[Tapped],
     steps: &[Step],
     width: u32,
-    phase: NetId,
-    phases: u32,
+    phase: PhaseNet,
 ) -> Result<NetId, NetFault>
-    requires some { 1 ≤ phases }
-    requires few { phases ≤ 64 }
-    requires phase { IsNet nl.old.cells phase.0 phases }
+    requires phase { IsPhaseNet nl.old.cells clocks.now.rst phase }
     requires begun { 1 ≤ length steps.now }
-    requires ready { AreReady nl.old.cells clocks.now.rst width phases ins.now lines.now steps.now }
+    requires ready { AreReady nl.old.cells clocks.now.rst width phase.period ins.now lines.now steps.now }
     ensures adds { Adds nl.old nl.new (steps_cells steps.now) 0 }
     ensures full { IsFullAt result nl.new }
-    ensures column { IfOk result (λ y. IsColumn nl.new.cells clocks.now.rst width phase.0 ins.now (λ p. choice_in p steps.now) y.0) }
+    ensures column { IfOk result (λ y. IsColumn nl.new.cells clocks.now.rst width phase.net.0 ins.now (λ p. choice_in p steps.now) y.0) }
 {
     let mut net = source(nl, clocks, ins, lines, &steps[0], width)?;
     for k in 1..steps.len() {
-        net = choose_from(nl, clocks, ins, lines, &steps[k], width, phase, phases, net)?;
+        net = choose_from(nl, clocks, ins, lines, &steps[k], width, phase, net)?;
     }
     Ok(net)
 }

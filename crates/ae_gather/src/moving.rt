@@ -10,13 +10,14 @@ ghost use Rattle.ae_clocked.specs.Phases.{Belongs, KeepsCounters};
 ghost use Rattle.ae_clocked.specs.Delays.{greatest_of, line_cells};
 ghost use Rattle.ae_gather.specs.declared.trips.Step.{Step as Part};
 ghost use Rattle.ae_gather.specs.Plans.{AreInOrder, AreUsed, AreWithin, IsPlan, choice_in, steps_cells};
-ghost use Rattle.ae_gather.specs.Columns.{AreReady, net_of};
+ghost use Rattle.ae_gather.specs.Columns.{AreReady, IsPhaseNet, net_of};
 ghost use Rattle.ae_moves.specs.Trees.{trip_tree};
 ghost use Rattle.ae_gather.specs.Laws.{AreColumns, AreFitting, AreLines, MakesTrips};
 
 use crate::column::select;
 use crate::plan::{Ages, Plan, Steps, planned};
-use ae_clocked::{Clocks, Tapped, line, width_at};
+use crate::trips::PhaseNet;
+use ae_clocked::{Clocks, Tapped, line};
 use ae_moves::Trip;
 use ae_netlist::{NetFault, NetId, Netlist};
 use std::alloc::Global;
@@ -80,31 +81,19 @@ fn all_columns(
     lines: &[Tapped],
     columns: &[Steps],
     widths: &[u32],
-    phase: NetId,
-    phases: u32,
+    phase: PhaseNet,
 ) -> Result<Vec<NetId>, NetFault>
-    requires some { 1 ≤ phases }
-    requires few { phases ≤ 64 }
-    requires phase { IsNet nl.old.cells phase.0 phases }
+    requires phase { IsPhaseNet nl.old.cells clocks.now.rst phase }
     requires long { length widths.now ≡ length columns.now }
     requires begun { (q : ℕ) (steps : List Part) → slice_get columns.now q ≡ Some steps → 1 ≤ length steps }
-    requires ready { (q w : ℕ) (steps : List Part) → slice_get columns.now q ≡ Some steps → slice_get widths.now q ≡ Some w → AreReady nl.old.cells clocks.now.rst w phases ins.now lines.now steps }
+    requires ready { (q w : ℕ) (steps : List Part) → slice_get columns.now q ≡ Some steps → slice_get widths.now q ≡ Some w → AreReady nl.old.cells clocks.now.rst w phase.period ins.now lines.now steps }
     ensures adds { Adds nl.old nl.new (sum_by steps_cells columns.now) 0 }
     ensures full { IsFullAt result nl.new }
-    ensures columns { IfOk result (λ out. AreColumns nl.new.cells clocks.now.rst phase.0 ins.now widths.now columns.now out.items) }
+    ensures columns { IfOk result (λ out. AreColumns nl.new.cells clocks.now.rst phase.net.0 ins.now widths.now columns.now out.items) }
 {
     let mut out = Vec::new(alloc);
     for q in 0..columns.len() {
-        let net = select(
-            nl,
-            clocks,
-            ins,
-            lines,
-            columns[q].all(),
-            widths[q],
-            phase,
-            phases,
-        )?;
+        let net = select(nl, clocks, ins, lines, columns[q].all(), widths[q], phase)?;
         keep_net(&mut out, net)?;
     }
     Ok(out)
@@ -156,20 +145,15 @@ fn build_plan(
     ensures nets { IfOk result (λ out. (q w : ℕ) (y : Net) → slice_get widths.now q ≡ Some w → slice_get out.items q ≡ Some y → IsNet nl.new.cells y.0 w) }
     ensures trips { IfOk result (λ out. MakesTrips nl.new.cells clocks.old.rst period d arrival ins.now out.items trips.now) }
 {
-    let phase = clocks.phase(nl, period, offset(arrival, d, period))?;
-    let phases = width_at(nl, phase);
+    let offset = offset(arrival, d, period);
+    let net = clocks.phase(nl, period, offset)?;
+    let phase = PhaseNet {
+        net,
+        period,
+        offset,
+    };
     let lines = all_lines(alloc, nl, clocks, ins, &plan.lines)?;
-    let out = all_columns(
-        alloc,
-        nl,
-        clocks,
-        ins,
-        &lines,
-        &plan.columns,
-        widths,
-        phase,
-        phases,
-    )?;
+    let out = all_columns(alloc, nl, clocks, ins, &lines, &plan.columns, widths, phase)?;
     Ok(out)
 }
 

@@ -1,6 +1,7 @@
-// The steps of an output column.
+// The steps of an output column, and the counter that they follow.
 
 use ae_moves::Choice;
+use ae_netlist::NetId;
 
 /// A choice from a phase on, and the place of its tap in the line of its column.
 #[derive(Clone, Copy, Debug, PartialEq, Eq)]
@@ -8,4 +9,12 @@ pub struct Step {
     pub from: u32,
     pub take: Choice,
     pub tap: u32,
+}
+
+/// The net of a counter, and what it counts.
+#[derive(Clone, Copy, Debug)]
+pub struct PhaseNet {
+    pub net: NetId,
+    pub period: u32,
+    pub offset: u32,
 }

@@ -1,10 +1,9 @@
 use Rattle.std.proofs.Common.{get_or, arith}
 use Rattle.std.proofs.lemmas.Option.{slice_get-get_or}
-use Rattle.ae_netlist.proofs.Growing.{net_later}
 use Rattle.ae_clocked.proofs.Adding.{adds_most, adds_trans}
 use Rattle.ae_gather.specs.declared.trips.Step.{Step}
 use Rattle.ae_moves.specs.declared.trip.Choice.TheVariants.{Delayed}
-use Rattle.ae_gather.proofs.Choosing.{first_column, next_column, whole_column, ready_grows}
+use Rattle.ae_gather.proofs.Choosing.{first_column, next_column, whole_column, phase_grows, ready_grows}
 use Rattle.ae_gather.proofs.column.select.Goals as goal
 
 no_step : Step
@@ -20,11 +19,11 @@ loop-k-init c =
     }
 
 pub choose_from-requires-clause-phase : goal.choose_from-requires-clause-phase
-choose_from-requires-clause-phase c = net_later c.loop-k.invariant.adds.grows.extends c.requires.phase
+choose_from-requires-clause-phase c = phase_grows c.loop-k.invariant.adds.grows.extends c.requires.phase
 
 pub choose_from-requires-clause-within : goal.choose_from-requires-clause-within
 unfolding no_step
-choose_from-requires-clause-within c = c.requires.ready.within c.loop-k.k _ (slice_get-get_or c.args.steps.now c.loop-k.k no_step c.loop-k-test.true)
+choose_from-requires-clause-within c = omega (arith, c.requires.ready.within c.loop-k.k _ (slice_get-get_or c.args.steps.now c.loop-k.k no_step c.loop-k-test.true))
 
 pub choose_from-requires-clause-ready : goal.choose_from-requires-clause-ready
 unfolding no_step

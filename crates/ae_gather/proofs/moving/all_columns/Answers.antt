@@ -1,12 +1,11 @@
 -- One column more.
 use Rattle.std.proofs.Common.{◌≡◌, ◌+◌, length, slice_get, get_or, Some, refl, arith, rules}
 use Rattle.std.proofs.lemmas.Option.{slice_get_read, slice_get-get_or}
-use Rattle.ae_netlist.proofs.Growing.{net_later}
 use Rattle.ae_clocked.proofs.Adding.{adds_most, adds_none, adds_trans}
 use Rattle.ae_clocked.specs.Signals.{Adds}
 use Rattle.ae_gather.specs.Plans.{choice_in, steps_cells}
 use Rattle.ae_gather.specs.Columns.{IsColumn}
-use Rattle.ae_gather.proofs.Choosing.{all_ready_grows}
+use Rattle.ae_gather.proofs.Choosing.{all_ready_grows, phase_grows}
 use Rattle.ae_moves.proofs.Lists.{sum_next, sum_part}
 use Rattle.ae_gather.proofs.Building.{columns_begin, columns_more, columns_whole}
 use Rattle.ae_gather.proofs.moving.all_columns.Goals as goal
@@ -15,7 +14,7 @@ pub loop-q-init : goal.loop-q-init
 loop-q-init c = record { adds = adds_none _; columns = columns_begin _ _ _ _ _ _ (search rules) }
 
 pub select-requires-clause-phase : goal.select-requires-clause-phase
-select-requires-clause-phase c = net_later c.loop-q.invariant.adds.grows.extends c.requires.phase
+select-requires-clause-phase c = phase_grows c.loop-q.invariant.adds.grows.extends c.requires.phase
 
 pub select-requires-clause-begun : goal.select-requires-clause-begun
 select-requires-clause-begun c =
@@ -32,7 +31,7 @@ pub loop-q-preserved : goal.loop-q-preserved
 loop-q-preserved c =
     let there : slice_get c.args.columns.now c.loop-q.q ≡ Some c.index-columns-q.result = slice_get_read c.args.columns.now (length c.args.columns.now) c.loop-q.q c.index-columns-q.result refl c.loop-q-test.true c.index-columns-q.is in
     let wide = slice_get-get_or c.args.widths.now c.loop-q.q 0 (omega (arith, c.loop-q-test.true, c.requires.long)) in
-    let new : IsColumn c.select.new.nl.cells c.args.clocks.now.rst (get_or c.args.widths.now c.loop-q.q 0) c.args.phase.0 c.args.ins.now (λ p. choice_in p c.index-columns-q.result) c.in_ok-net.net.0 = rw c.all.ensures at c.in_ok-net.ensures.column in
+    let new : IsColumn c.select.new.nl.cells c.args.clocks.now.rst (get_or c.args.widths.now c.loop-q.q 0) c.args.phase.net.0 c.args.ins.now (λ p. choice_in p c.index-columns-q.result) c.in_ok-net.net.0 = rw c.all.ensures at c.in_ok-net.ensures.column in
     let cost : Adds c.loop-q.nl c.select.new.nl (steps_cells c.index-columns-q.result) 0 = rw c.all.ensures at c.in_ok-net.ensures.adds in
     record {
       adds = adds_most _ (omega (arith, sum_next steps_cells c.args.columns.now c.loop-q.q _ there)) (adds_trans c.loop-q.invariant.adds cost);
