@@ -1,14 +1,16 @@
 // One output column: a choice by phases.
 
-ghost use Rattle.std.specs.Prelude.{◌≡◌, ◌≤◌, ℕ, length, IfOk};
+ghost use Rattle.std.specs.Prelude.{◌≡◌, ◌<◌, ◌≤◌, ℕ, length, IfOk};
 ghost use Rattle.ae_netlist.specs.Circuit.{IsNet};
+ghost use Rattle.ae_netlist.specs.Runs.{InEveryResetRun};
+ghost use Rattle.ae_clocked.specs.Phases.{IsMark};
 ghost use Rattle.ae_clocked.specs.Signals.{Adds, IsFullAt};
 ghost use Rattle.ae_moves.specs.declared.trip.Choice.{Choice as Taken};
 ghost use Rattle.ae_gather.specs.Plans.{choice_in, later, steps_cells};
 ghost use Rattle.ae_gather.specs.Columns.{AreReady, IsColumn, IsPhaseNet, IsReady, IsSource};
 
 use crate::trips::{PhaseNet, Step};
-use ae_clocked::{Clocks, Tapped, choose, constant};
+use ae_clocked::{Clocks, Tapped, choose, constant, less, width_at};
 use ae_moves::Choice;
 use ae_netlist::{NetFault, NetId, Netlist};
 
@@ -34,8 +36,49 @@ fn source(
     }
 }
 
-/// The word of a step from its first phase on, and before it that of an earlier net. The bit that chooses stands in a
-/// register, so that a choice waits for no comparison.
+/// The bit that is 1 in the phases before a number, from a comparison of the counter.
+fn compared(
+    nl: &mut Netlist,
+    clocks: &Clocks,
+    phase: PhaseNet,
+    from: u32,
+) -> Result<NetId, NetFault>
+    requires phase { IsPhaseNet nl.old.cells clocks.now.rst phase }
+    requires within { from < phase.period }
+    ensures adds { Adds nl.old nl.new 2 0 }
+    ensures full { IsFullAt result nl.new }
+    ensures net { IfOk result (λ y. IsNet nl.new.cells y.0 1) }
+    ensures marks { IfOk result (λ y. InEveryResetRun nl.new.cells clocks.now.rst (λ run start. IsMark run start y.0 phase.net.0 from)) }
+{
+    let width = width_at(nl, phase.net);
+    let bound = constant(nl, width, u64::from(from))?;
+    less(nl, phase.net, bound, width)
+}
+
+/// The bit that is 1 in the phases before a number. Where it alone decides it stands in a register, which costs less
+/// than a comparison; many such bits would cost more than the counter's own.
+fn before_phase(
+    nl: &mut Netlist,
+    clocks: &Clocks,
+    phase: PhaseNet,
+    from: u32,
+    alone: bool,
+) -> Result<NetId, NetFault>
+    requires phase { IsPhaseNet nl.old.cells clocks.now.rst phase }
+    requires within { from < phase.period }
+    ensures adds { Adds nl.old nl.new 9 0 }
+    ensures full { IsFullAt result nl.new }
+    ensures net { IfOk result (λ y. IsNet nl.new.cells y.0 1) }
+    ensures marks { IfOk result (λ y. InEveryResetRun nl.new.cells clocks.now.rst (λ run start. IsMark run start y.0 phase.net.0 from)) }
+{
+    if alone {
+        clocks.mark(nl, phase.net, phase.period, phase.offset, from)
+    } else {
+        compared(nl, clocks, phase, from)
+    }
+}
+
+/// The word of a step from its first phase on, and before it that of an earlier net.
 fn choose_from(
     nl: &mut Netlist,
     clocks: &Clocks,
@@ -44,19 +87,20 @@ fn choose_from(
     step: &Step,
     width: u32,
     phase: PhaseNet,
+    alone: bool,
     before: NetId,
 ) -> Result<NetId, NetFault>
     requires low { 1 ≤ width }
     requires high { width ≤ 64 }
     requires phase { IsPhaseNet nl.old.cells clocks.now.rst phase }
-    requires within { step.now.from ≤ phase.period }
+    requires within { step.now.from < phase.period }
     requires ready { IsReady nl.old.cells clocks.now.rst width ins.now lines.now step.now.tap step.now.take }
     requires before { IsNet nl.old.cells before.0 width }
     ensures adds { Adds nl.old nl.new 11 0 }
     ensures full { IsFullAt result nl.new }
     ensures column { IfOk result (λ y. (choice : ℕ → Taken) → IsColumn nl.old.cells clocks.now.rst width phase.net.0 ins.now choice before.0 → IsColumn nl.new.cells clocks.now.rst width phase.net.0 ins.now (λ p. later p (choice p) step.now) y.0) }
 {
-    let early = clocks.mark(nl, phase.net, phase.period, phase.offset, step.from)?;
+    let early = before_phase(nl, clocks, phase, step.from, alone)?;
     let taken = source(nl, clocks, ins, lines, step, width)?;
     choose(nl, early, before, taken, width)
 }
@@ -78,9 +122,10 @@ pub fn select(
     ensures full { IsFullAt result nl.new }
     ensures column { IfOk result (λ y. IsColumn nl.new.cells clocks.now.rst width phase.net.0 ins.now (λ p. choice_in p steps.now) y.0) }
 {
+    let alone = steps.len() == 2;
     let mut net = source(nl, clocks, ins, lines, &steps[0], width)?;
     for k in 1..steps.len() {
-        net = choose_from(nl, clocks, ins, lines, &steps[k], width, phase, net)?;
+        net = choose_from(nl, clocks, ins, lines, &steps[k], width, phase, alone, net)?;
     }
     Ok(net)
 }

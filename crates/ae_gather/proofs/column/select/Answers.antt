@@ -23,7 +23,7 @@ choose_from-requires-clause-phase c = phase_grows c.loop-k.invariant.adds.grows.
 
 pub choose_from-requires-clause-within : goal.choose_from-requires-clause-within
 unfolding no_step
-choose_from-requires-clause-within c = omega (arith, c.requires.ready.within c.loop-k.k _ (slice_get-get_or c.args.steps.now c.loop-k.k no_step c.loop-k-test.true))
+choose_from-requires-clause-within c = c.requires.ready.within c.loop-k.k _ (slice_get-get_or c.args.steps.now c.loop-k.k no_step c.loop-k-test.true)
 
 pub choose_from-requires-clause-ready : goal.choose_from-requires-clause-ready
 unfolding no_step
