@@ -49,6 +49,13 @@ impl Clocks {
         }
     }
 
+    /// The net of the reset.
+    pub fn reset(&self) -> NetId
+        ensures { result.0 ≡ self.now.rst }
+    {
+        self.rst
+    }
+
     fn find(&self, phase: Phase) -> Option<NetId>
         ensures { result ≡ kept_at self.now phase }
     {

@@ -4,6 +4,10 @@ pub mod Counting
 pub mod Delays
 pub mod Building
 pub mod TripLaw
+pub mod Registered
+pub mod Hastened
+pub mod Scheduled
+pub mod Earliness
 pub mod Typed
 pub mod OneList
 pub mod GatherLaw

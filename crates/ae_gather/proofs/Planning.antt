@@ -45,10 +45,10 @@ get_set_cases xs i n y z x there found = elim (cases_eq n i) [
 
 -- ---- the choice of steps
 
-later_before : (p : ℕ) (before : Choice) (step : Step) → p < step.from → later p before step ≡ before
+pub later_before : (p : ℕ) (before : Choice) (step : Step) → p < step.from → later p before step ≡ before
 later_before p before step l = let t : nat_lt p step.from ≡ true = search (arith) in rw t refl
 
-later_after : (p : ℕ) (before : Choice) (step : Step) → step.from ≤ p → later p before step ≡ step.take
+pub later_after : (p : ℕ) (before : Choice) (step : Step) → step.from ≤ p → later p before step ≡ step.take
 later_after p before step l = let t : nat_lt p step.from ≡ false = search (arith) in rw t refl
 
 -- in and after its last phase

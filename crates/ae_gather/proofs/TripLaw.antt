@@ -55,23 +55,3 @@ column_trip cells rst w period d arrival offset ins steps phase y trip off small
     let old : age_of (choice_of d trip) ≤ c = rw again (age_within d trip.clock (arrival + b * period) trip.source reached) in
     let word = column.words all e run r start reset c (rw takes old) l in
     word ∙ ap (taken run start c ins) takes ∙ ap (λ n. taken run start n ins (choice_of d trip)) again ∙ taken_is run start (arrival + b * period) d trip.clock ins trip.source reached
-
--- all columns
-pub columns_trips : (cells : List SizedCell) (rst period d arrival offset in_count out_count : ℕ) (ins out : List NetId) (widths : List ℕ) (trips : List Trip) (lines : List (List ℕ)) (columns : List (List Step)) (phase : NetId)
-    → offset ≡ (arrival + d) % period → AreWithin period d in_count out_count trips → IsPlan d trips lines columns → length widths ≡ length columns
-    → IsCounter cells rst (record { period = period; offset = offset }) phase.0 → AreColumns cells rst phase.0 ins widths columns out → MakesTrips cells rst period d arrival ins out trips
-columns_trips cells rst period d arrival offset in_count out_count ins out widths trips lines columns phase off within plan long counter made = λ all e run r start reset b n trip y found there l.
-    let q : ℕ = trip.column in
-    let inside : q < length out = slice_get_within out q y there in
-    let lc : q < length columns = (let m : length out ≡ length columns = made.long in omega arith) in
-    let steps : List Step = get_or columns q [] in
-    let fs : slice_get columns q ≡ Some steps = slice_get-get_or columns q [] lc in
-    let fw : slice_get widths q ≡ Some (get_or widths q 0) = slice_get-get_or widths q 0 (omega arith) in
-    column_trip cells rst (get_or widths q 0) period d arrival offset ins steps phase y trip off (within.clock n trip found) (within.reached n trip found) (plan.chosen n trip steps found fs)
-    counter (made.each q (get_or widths q 0) steps y fs fw there) all e run r start reset b l
-
-pub columns_nets : (cells : List SizedCell) (rst phase : ℕ) (ins : List NetId) (widths : List ℕ) (columns : List (List Step)) (out : List NetId) → length widths ≡ length columns → AreColumns cells rst phase ins widths columns out
-    → (q w : ℕ) (y : NetId) → slice_get widths q ≡ Some w → slice_get out q ≡ Some y → IsNet cells y.0 w
-columns_nets cells rst phase ins widths columns out long made q w y f t =
-    let l : q < length columns = (let m : q < length widths = slice_get_within widths q w f in omega arith) in
-    (made.each q w (get_or columns q []) y (slice_get-get_or columns q [] l) f t).net

@@ -1,5 +1,5 @@
 -- What a gather does to the words of a block.
-use Rattle.std.specs.Prelude.{◌≡◌, ℕ, ◌+◌, ◌*◌, ◌<◌, ◌≤◌, ◌^◌, List, length, Some, slice_get}
+use Rattle.std.specs.Prelude.{◌≡◌, ℕ, ◌+◌, ◌*◌, ◌<◌, ◌≤◌, ◌^◌, Bool, List, length, Some, slice_get}
 use Rattle.ae_netlist.specs.declared.cell.NetId.{NetId}
 use Rattle.ae_netlist.specs.declared.cell.SizedCell.{SizedCell}
 use Rattle.ae_netlist.specs.Circuit.{IsNet}
@@ -8,9 +8,11 @@ use Rattle.ae_clocked.specs.Delays.{AreTaps}
 use Rattle.ae_moves.specs.declared.trip.Source.{Source}
 use Rattle.ae_moves.specs.declared.trip.Source.TheVariants.{Place, Fixed}
 use Rattle.ae_moves.specs.declared.trip.Trip.{Trip}
+use Rattle.ae_gather.specs.declared.trips.Counters.{Counters}
 use Rattle.ae_gather.specs.declared.trips.Step.{Step}
 use Rattle.ae_gather.specs.Plans.{choice_in}
-use Rattle.ae_gather.specs.Columns.{net_of, IsColumn}
+use Rattle.ae_gather.specs.Columns.{net_of}
+use Rattle.ae_gather.specs.Early.{IsMade, counter_for, is_early}
 
 -- the word of a source in the block that arrives a clocks after reset
 abbrev pub sourced : List Clock → (start a : ℕ) → List NetId → Source → ℕ
@@ -47,7 +49,7 @@ pub record AreLines (cells : List SizedCell) (rst : ℕ) (ins : List NetId) (age
   pub long : length lines ≡ length ages
   pub each : (q : ℕ) (as_all : List ℕ) (nets : List NetId) → slice_get ages q ≡ Some as_all → slice_get lines q ≡ Some nets → HasLine cells rst (net_of ins q) as_all nets
 
--- each output column takes by phases what its steps say
-pub record AreColumns (cells : List SizedCell) (rst phase : ℕ) (ins : List NetId) (widths : List ℕ) (columns : List (List Step)) (out : List NetId) : Type 0 where
+-- each output column takes by phases what its steps say, a clock early where it is said so
+pub record AreColumns (cells : List SizedCell) (rst : ℕ) (counters : Counters) (ins : List NetId) (widths : List ℕ) (early : List Bool) (columns : List (List Step)) (out : List NetId) : Type 0 where
   pub long : length out ≡ length columns
-  pub each : (q w : ℕ) (steps : List Step) (y : NetId) → slice_get columns q ≡ Some steps → slice_get widths q ≡ Some w → slice_get out q ≡ Some y → IsColumn cells rst w phase ins (λ p. choice_in p steps) y.0
+  pub each : (q w : ℕ) (steps : List Step) (y : NetId) → slice_get columns q ≡ Some steps → slice_get widths q ≡ Some w → slice_get out q ≡ Some y → IsMade (is_early early q) cells rst w (counter_for (is_early early q) counters) ins (λ p. choice_in p steps) y.0

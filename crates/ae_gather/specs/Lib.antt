@@ -1,5 +1,6 @@
 pub mod Plans
 pub mod Columns
+pub mod Early
 pub mod Laws
 pub mod Gathers
 pub mod Joins

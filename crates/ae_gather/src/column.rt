@@ -1,16 +1,19 @@
 // One output column: a choice by phases.
 
-ghost use Rattle.std.specs.Prelude.{◌≡◌, ◌<◌, ◌≤◌, ℕ, length, IfOk};
+ghost use Rattle.std.specs.Prelude.{◌≡◌, ◌<◌, ◌≤◌, ◌+◌, ◌^◌, ℕ, List, Some, length, slice_get, IfOk};
+ghost use Rattle.ae_netlist.specs.declared.cell.NetId.{NetId as Net};
 ghost use Rattle.ae_netlist.specs.Circuit.{IsNet};
 ghost use Rattle.ae_netlist.specs.Runs.{InEveryResetRun};
 ghost use Rattle.ae_clocked.specs.Phases.{IsMark};
 ghost use Rattle.ae_clocked.specs.Signals.{Adds, IsFullAt};
 ghost use Rattle.ae_moves.specs.declared.trip.Choice.{Choice as Taken};
+ghost use Rattle.ae_gather.specs.declared.trips.Step.{Step as Part};
+ghost use Rattle.ae_gather.specs.Early.{IsEarlyColumn, IsMade, first_phase};
 ghost use Rattle.ae_gather.specs.Plans.{choice_in, later, steps_cells};
 ghost use Rattle.ae_gather.specs.Columns.{AreReady, IsColumn, IsPhaseNet, IsReady, IsSource};
 
 use crate::trips::{PhaseNet, Step};
-use ae_clocked::{Clocks, Tapped, choose, constant, less, width_at};
+use ae_clocked::{Clocks, Tapped, choose, constant, delayed, less, width_at};
 use ae_moves::Choice;
 use ae_netlist::{NetFault, NetId, Netlist};
 
@@ -106,7 +109,7 @@ fn choose_from(
 }
 
 /// A net that takes by phases what the steps say.
-pub fn select(
+fn select(
     nl: &mut Netlist,
     clocks: &Clocks,
     ins: &[NetId],
@@ -128,4 +131,112 @@ pub fn select(
         net = choose_from(nl, clocks, ins, lines, &steps[k], width, phase, alone, net)?;
     }
     Ok(net)
+}
+
+/// The place of the step that decides in a phase.
+fn step_in(steps: &[Step], phase: u32) -> usize
+    requires begun { 1 ≤ length steps.now }
+    ensures within { result < length steps.now }
+    ensures is { (step : Part) → slice_get steps.now result ≡ Some step → choice_in phase steps.now ≡ step.take }
+{
+    let mut at = 0;
+    for place in 1..steps.len() {
+        if steps[place].from <= phase {
+            at = place;
+        }
+    }
+    at
+}
+
+/// A register that has a fixed word after a clock of reset, and else the word of a net in the clock before.
+fn set_in_reset(
+    nl: &mut Netlist,
+    clocks: &Clocks,
+    chosen: NetId,
+    width: u32,
+    word: u64,
+) -> Result<NetId, NetFault>
+    requires low { 1 ≤ width }
+    requires high { width ≤ 64 }
+    requires reset { IsNet nl.old.cells clocks.now.rst 1 }
+    requires net { IsNet nl.old.cells chosen.0 width }
+    requires fits { word < 2 ^ width }
+    ensures adds { Adds nl.old nl.new 3 0 }
+    ensures full { IsFullAt result nl.new }
+    ensures column { IfOk result (λ y. (phase p : ℕ) (ins : List Net) (choice : ℕ → Taken) → choice p ≡ Choice.Constant word → IsColumn nl.old.cells clocks.now.rst width phase ins choice chosen.0 → IsEarlyColumn nl.new.cells clocks.now.rst width phase p ins choice y.0) }
+{
+    let fixed = constant(nl, width, word)?;
+    let next = choose(nl, clocks.reset(), fixed, chosen, width)?;
+    delayed(nl, next, width)
+}
+
+/// A register of a net that is chosen a clock early, where the first clock after reset takes a choice. A net that is late
+/// is not asked then, but a fixed word is.
+fn registered(
+    nl: &mut Netlist,
+    clocks: &Clocks,
+    chosen: NetId,
+    width: u32,
+    first: Choice,
+) -> Result<NetId, NetFault>
+    requires low { 1 ≤ width }
+    requires high { width ≤ 64 }
+    requires reset { IsNet nl.old.cells clocks.now.rst 1 }
+    requires net { IsNet nl.old.cells chosen.0 width }
+    requires fits { (w : ℕ) → first ≡ Choice.Constant w → w < 2 ^ width }
+    ensures adds { Adds nl.old nl.new 3 0 }
+    ensures full { IsFullAt result nl.new }
+    ensures column { IfOk result (λ y. (phase p : ℕ) (ins : List Net) (choice : ℕ → Taken) → choice p ≡ first → IsColumn nl.old.cells clocks.now.rst width phase ins choice chosen.0 → IsEarlyColumn nl.new.cells clocks.now.rst width phase p ins choice y.0) }
+{
+    match first {
+        Choice::Delayed { column: _, age: _ } => delayed(nl, chosen, width),
+        Choice::Constant(word) => set_in_reset(nl, clocks, chosen, width, word),
+    }
+}
+
+/// A net that takes by phases what the steps say, chosen in the clock before and put in a register.
+fn early_column(
+    nl: &mut Netlist,
+    clocks: &Clocks,
+    ins: &[NetId],
+    lines: &[Tapped],
+    steps: &[Step],
+    width: u32,
+    phase: PhaseNet,
+) -> Result<NetId, NetFault>
+    requires phase { IsPhaseNet nl.old.cells clocks.now.rst phase }
+    requires begun { 1 ≤ length steps.now }
+    requires ready { AreReady nl.old.cells clocks.now.rst width phase.period ins.now lines.now steps.now }
+    ensures adds { Adds nl.old nl.new (steps_cells steps.now + 3) 0 }
+    ensures full { IsFullAt result nl.new }
+    ensures column { IfOk result (λ y. IsEarlyColumn nl.new.cells clocks.now.rst width phase.net.0 (first_phase phase) ins.now (λ p. choice_in p steps.now) y.0) }
+{
+    let first = step_in(steps, phase.period - 1 - phase.offset);
+    let chosen = select(nl, clocks, ins, lines, steps, width, phase)?;
+    registered(nl, clocks, chosen, width, steps[first].take)
+}
+
+/// A net that takes by phases what the steps say, with the counter of columns that are chosen early, or of others.
+pub fn column(
+    nl: &mut Netlist,
+    clocks: &Clocks,
+    ins: &[NetId],
+    lines: &[Tapped],
+    steps: &[Step],
+    width: u32,
+    early: bool,
+    phase: PhaseNet,
+) -> Result<NetId, NetFault>
+    requires phase { IsPhaseNet nl.old.cells clocks.now.rst phase }
+    requires begun { 1 ≤ length steps.now }
+    requires ready { AreReady nl.old.cells clocks.now.rst width phase.period ins.now lines.now steps.now }
+    ensures adds { Adds nl.old nl.new (steps_cells steps.now + 3) 0 }
+    ensures full { IsFullAt result nl.new }
+    ensures column { IfOk result (λ y. IsMade early nl.new.cells clocks.now.rst width phase ins.now (λ p. choice_in p steps.now) y.0) }
+{
+    if early {
+        early_column(nl, clocks, ins, lines, steps, width, phase)
+    } else {
+        select(nl, clocks, ins, lines, steps, width, phase)
+    }
 }

@@ -2,6 +2,8 @@
 #![tactic(auto)]
 
 mod column;
+mod counters;
+mod early;
 mod joining;
 mod layouts;
 mod moving;

@@ -1,6 +1,6 @@
 // All columns of a move.
 
-ghost use Rattle.std.specs.Prelude.{◌≡◌, ◌≢◌, ◌<◌, ◌≤◌, ◌+◌, ◌*◌, ◌%◌, sum_by, ◌^◌, ◌∷◌, ◌++◌, [], ℕ, List, length, map, Err, IfOk, OnOk, Some, slice_get};
+ghost use Rattle.std.specs.Prelude.{◌≡◌, ◌≢◌, ◌<◌, ◌≤◌, ◌+◌, ◌*◌, sum_by, min, ◌^◌, ◌∷◌, ◌++◌, [], ℕ, List, length, map, Err, IfOk, OnOk, Some, slice_get};
 ghost use Rattle.ae_sttype.specs.Moves.{delay_of, runs_of};
 ghost use Rattle.ae_netlist.specs.declared.cell.NetId.{NetId as Net};
 ghost use Rattle.ae_netlist.specs.Circuit.{IsNet};
@@ -9,14 +9,17 @@ ghost use Rattle.ae_clocked.specs.Signals.{Adds, Grows, IsFullAt};
 ghost use Rattle.ae_clocked.specs.Phases.{Belongs, KeepsCounters};
 ghost use Rattle.ae_clocked.specs.Delays.{greatest_of, line_cells};
 ghost use Rattle.ae_gather.specs.declared.trips.Step.{Step as Part};
+ghost use Rattle.ae_gather.specs.Early.{AreInTime, counter_for, hastened, is_early};
 ghost use Rattle.ae_gather.specs.Plans.{AreInOrder, AreUsed, AreWithin, IsPlan, choice_in, steps_cells};
 ghost use Rattle.ae_gather.specs.Columns.{AreReady, IsPhaseNet, net_of};
 ghost use Rattle.ae_moves.specs.Trees.{trip_tree};
 ghost use Rattle.ae_gather.specs.Laws.{AreColumns, AreFitting, AreLines, MakesTrips};
 
-use crate::column::select;
-use crate::plan::{Ages, Plan, Steps, planned};
-use crate::trips::PhaseNet;
+use crate::column::column;
+use crate::counters::{counter_for, counters};
+use crate::early::{Schedule, scheduled};
+use crate::plan::{Ages, Steps};
+use crate::trips::Counters;
 use ae_clocked::{Clocks, Tapped, line};
 use ae_moves::Trip;
 use ae_netlist::{NetFault, NetId, Netlist};
@@ -81,31 +84,33 @@ fn all_columns(
     lines: &[Tapped],
     columns: &[Steps],
     widths: &[u32],
-    phase: PhaseNet,
+    early: &[bool],
+    counters: Counters,
 ) -> Result<Vec<NetId>, NetFault>
-    requires phase { IsPhaseNet nl.old.cells clocks.now.rst phase }
+    requires early { length early.now ≡ length columns.now }
+    requires phases { (q : ℕ) → q < length columns.now → IsPhaseNet nl.old.cells clocks.now.rst (counter_for (is_early early.now q) counters) }
     requires long { length widths.now ≡ length columns.now }
     requires begun { (q : ℕ) (steps : List Part) → slice_get columns.now q ≡ Some steps → 1 ≤ length steps }
-    requires ready { (q w : ℕ) (steps : List Part) → slice_get columns.now q ≡ Some steps → slice_get widths.now q ≡ Some w → AreReady nl.old.cells clocks.now.rst w phase.period ins.now lines.now steps }
-    ensures adds { Adds nl.old nl.new (sum_by steps_cells columns.now) 0 }
+    requires ready { (q w : ℕ) (steps : List Part) → slice_get columns.now q ≡ Some steps → slice_get widths.now q ≡ Some w → AreReady nl.old.cells clocks.now.rst w (counter_for (is_early early.now q) counters).period ins.now lines.now steps }
+    ensures adds { Adds nl.old nl.new (sum_by steps_cells columns.now + 3 * length columns.now) 0 }
     ensures full { IsFullAt result nl.new }
-    ensures columns { IfOk result (λ out. AreColumns nl.new.cells clocks.now.rst phase.net.0 ins.now widths.now columns.now out.items) }
+    ensures columns { IfOk result (λ out. AreColumns nl.new.cells clocks.now.rst counters ins.now widths.now early.now columns.now out.items) }
 {
     let mut out = Vec::new(alloc);
     for q in 0..columns.len() {
-        let net = select(nl, clocks, ins, lines, columns[q].all(), widths[q], phase)?;
+        let net = column(
+            nl,
+            clocks,
+            ins,
+            lines,
+            columns[q].all(),
+            widths[q],
+            early[q],
+            counter_for(early[q], counters),
+        )?;
         keep_net(&mut out, net)?;
     }
     Ok(out)
-}
-
-/// The phase in which blocks begin that arrive in one clock and are some clocks late.
-fn offset(arrival: u32, d: u32, period: u32) -> u32
-    requires some { 1 ≤ period }
-    requires most { period ≤ 4096 }
-    ensures { result ≡ (arrival + d) % period }
-{
-    (arrival % period + d % period) % period
 }
 
 /// What a plan says, built: output nets that make every trip, some clocks later, in each block of a period.
@@ -116,7 +121,7 @@ fn build_plan(
     ins: &[NetId],
     widths: &[u32],
     trips: &[Trip],
-    plan: &Plan,
+    schedule: &Schedule,
     period: u32,
     d: u32,
     arrival: u32,
@@ -129,14 +134,18 @@ fn build_plan(
     requires within { AreWithin period d (length ins.now) (length widths.now) trips.now }
     requires used { AreUsed (length widths.now) trips.now }
     requires fitting { AreFitting nl.old.cells ins.now widths.now trips.now }
-    requires lines { length plan.now.lines.items ≡ length ins.now }
-    requires columns { length plan.now.columns.items ≡ length widths.now }
-    requires plan { IsPlan d trips.now plan.now.lines.items plan.now.columns.items }
-    requires taps { (q : ℕ) (ages : List ℕ) → slice_get plan.now.lines.items q ≡ Some ages → length ages ≤ length trips.now }
+    requires some { 1 ≤ length widths.now }
+    requires early { length schedule.now.early.items ≡ length widths.now }
+    requires time { AreInTime d schedule.now.early.items trips.now }
+    requires moved { schedule.now.moved.items ≡ map (hastened schedule.now.early.items) trips.now }
+    requires lines { length schedule.now.plan.lines.items ≡ length ins.now }
+    requires columns { length schedule.now.plan.columns.items ≡ length widths.now }
+    requires plan { IsPlan d schedule.now.moved.items schedule.now.plan.lines.items schedule.now.plan.columns.items }
+    requires taps { (q : ℕ) (ages : List ℕ) → slice_get schedule.now.plan.lines.items q ≡ Some ages → length ages ≤ length trips.now }
     ensures belongs { Belongs clocks.new nl.new.cells }
     ensures keeps { KeepsCounters clocks.old clocks.new }
     ensures grows { Grows nl.old nl.new }
-    ensures cells { length nl.new.cells ≤ length nl.old.cells + (12 + sum_by line_cells plan.now.lines.items + sum_by steps_cells plan.now.columns.items) }
+    ensures cells { length nl.new.cells ≤ length nl.old.cells + (12 * min 2 (length widths.now) + sum_by line_cells schedule.now.plan.lines.items + sum_by steps_cells schedule.now.plan.columns.items + 3 * length schedule.now.plan.columns.items) }
     ensures muls { count_of is_mul nl.new.cells ≡ count_of is_mul nl.old.cells }
     ensures memories { count_of is_memory nl.new.cells ≡ count_of is_memory nl.old.cells }
     ensures whole { OnOk result (AreWhole nl.old.cells → AreWhole nl.new.cells) }
@@ -145,15 +154,19 @@ fn build_plan(
     ensures nets { IfOk result (λ out. (q w : ℕ) (y : Net) → slice_get widths.now q ≡ Some w → slice_get out.items q ≡ Some y → IsNet nl.new.cells y.0 w) }
     ensures trips { IfOk result (λ out. MakesTrips nl.new.cells clocks.old.rst period d arrival ins.now out.items trips.now) }
 {
-    let offset = offset(arrival, d, period);
-    let net = clocks.phase(nl, period, offset)?;
-    let phase = PhaseNet {
-        net,
-        period,
-        offset,
-    };
-    let lines = all_lines(alloc, nl, clocks, ins, &plan.lines)?;
-    let out = all_columns(alloc, nl, clocks, ins, &lines, &plan.columns, widths, phase)?;
+    let counters = counters(nl, clocks, &schedule.early, period, d, arrival)?;
+    let lines = all_lines(alloc, nl, clocks, ins, &schedule.plan.lines)?;
+    let out = all_columns(
+        alloc,
+        nl,
+        clocks,
+        ins,
+        &lines,
+        &schedule.plan.columns,
+        widths,
+        &schedule.early,
+        counters,
+    )?;
     Ok(out)
 }
 
@@ -168,6 +181,7 @@ pub fn gather(
     period: u32,
     d: u32,
     arrival: u32,
+    alone: bool,
 ) -> Result<Vec<NetId>, NetFault>
     requires belongs { Belongs clocks.old nl.old.cells }
     requires lasting { 1 ≤ period }
@@ -194,12 +208,19 @@ pub fn gather(
     ensures nets { IfOk result (λ out. (q w : ℕ) (y : Net) → slice_get widths.now q ≡ Some w → slice_get out.items q ≡ Some y → IsNet nl.new.cells y.0 w) }
     ensures trips { IfOk result (λ out. MakesTrips nl.new.cells clocks.old.rst period d arrival ins.now out.items trips.now) }
 {
-    let plan = match planned(alloc, trips, d, ins.len() as u32, widths.len() as u32) {
-        Ok(plan) => plan,
+    let schedule = match scheduled(
+        alloc,
+        trips,
+        d,
+        ins.len() as u32,
+        widths.len() as u32,
+        alone,
+    ) {
+        Ok(schedule) => schedule,
         Err(_) => return Err(NetFault::Memory),
     };
     let out = build_plan(
-        alloc, nl, clocks, ins, widths, trips, &plan, period, d, arrival,
+        alloc, nl, clocks, ins, widths, trips, &schedule, period, d, arrival,
     )?;
     Ok(out)
 }

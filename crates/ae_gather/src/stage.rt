@@ -25,6 +25,7 @@ pub struct Gather {
     ins: Vec<StType>,
     out: StType,
     source: Vec<Origin>,
+    alone: bool,
 }
 
 impl Model for Gather {
@@ -53,9 +54,27 @@ impl Gather {
         ensures is { IfSome result (λ g. move_of g ≡ record { ins = map st_tree ins.items; out = st_tree out; origins = map origin_tree source.items }) }
     {
         if is_move(&ins, &out, &source) {
-            Some(Gather { ins, out, source })
+            Some(Gather {
+                ins,
+                out,
+                source,
+                alone: false,
+            })
         } else {
             None
+        }
+    }
+
+    /// Says that nothing but this move reads its arguments, so that a choice may stand in front of a register. The
+    /// circuit's words are the same.
+    pub fn alone(self) -> Gather
+        ensures { move_of result ≡ move_of self }
+    {
+        Gather {
+            ins: self.ins,
+            out: self.out,
+            source: self.source,
+            alone: true,
         }
     }
 }
@@ -94,6 +113,7 @@ impl Stage for Gather {
             period,
             d,
             arrival,
+            self.alone,
         )?;
         Ok(Bundle::new(nets))
     }

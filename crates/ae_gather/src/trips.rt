@@ -18,3 +18,10 @@ pub struct PhaseNet {
     pub period: u32,
     pub offset: u32,
 }
+
+/// The counter of the clocks of trips, and the one that is a clock ahead of it.
+#[derive(Clone, Copy, Debug)]
+pub struct Counters {
+    pub later: PhaseNet,
+    pub sooner: PhaseNet,
+}

@@ -1,58 +1,60 @@
 -- One column more.
-use Rattle.std.proofs.Common.{◌≡◌, ◌+◌, length, slice_get, get_or, Some, refl, arith, rules}
+use Rattle.std.proofs.Common.{◌≡◌, ◌+◌, length, slice_get, get_or, false, Some, refl, arith, rules}
 use Rattle.std.proofs.lemmas.Option.{slice_get_read, slice_get-get_or}
 use Rattle.ae_clocked.proofs.Adding.{adds_most, adds_none, adds_trans}
 use Rattle.ae_clocked.specs.Signals.{Adds}
 use Rattle.ae_gather.specs.Plans.{choice_in, steps_cells}
-use Rattle.ae_gather.specs.Columns.{IsColumn}
+use Rattle.ae_gather.specs.Early.{IsMade, counter_for, is_early}
 use Rattle.ae_gather.proofs.Choosing.{all_ready_grows, phase_grows}
 use Rattle.ae_moves.proofs.Lists.{sum_next, sum_part}
 use Rattle.ae_gather.proofs.Building.{columns_begin, columns_more, columns_whole}
 use Rattle.ae_gather.proofs.moving.all_columns.Goals as goal
 
 pub loop-q-init : goal.loop-q-init
-loop-q-init c = record { adds = adds_none _; columns = columns_begin _ _ _ _ _ _ (search rules) }
+loop-q-init c = record { adds = adds_none _; within = omega arith; columns = columns_begin _ _ _ _ _ _ _ (search rules) }
 
-pub select-requires-clause-phase : goal.select-requires-clause-phase
-select-requires-clause-phase c = phase_grows c.loop-q.invariant.adds.grows.extends c.requires.phase
+pub column-requires-clause-phase : goal.column-requires-clause-phase
+column-requires-clause-phase c = rw c.counter_for.ensures (phase_grows c.loop-q.invariant.adds.grows.extends (c.requires.phases c.loop-q.q c.loop-q-test.true))
 
-pub select-requires-clause-begun : goal.select-requires-clause-begun
-select-requires-clause-begun c =
+pub column-requires-clause-begun : goal.column-requires-clause-begun
+column-requires-clause-begun c =
     let there : slice_get c.args.columns.now c.loop-q.q ≡ Some c.index-columns-q.result = slice_get_read c.args.columns.now (length c.args.columns.now) c.loop-q.q c.index-columns-q.result refl c.loop-q-test.true c.index-columns-q.is in
     rw c.all.ensures (c.requires.begun c.loop-q.q _ there)
 
-pub select-requires-clause-ready : goal.select-requires-clause-ready
-select-requires-clause-ready c =
+pub column-requires-clause-ready : goal.column-requires-clause-ready
+column-requires-clause-ready c =
     let there : slice_get c.args.columns.now c.loop-q.q ≡ Some c.index-columns-q.result = slice_get_read c.args.columns.now (length c.args.columns.now) c.loop-q.q c.index-columns-q.result refl c.loop-q-test.true c.index-columns-q.is in
     let wide = slice_get-get_or c.args.widths.now c.loop-q.q 0 (omega (arith, c.loop-q-test.true, c.requires.long)) in
-    rw c.all.ensures (all_ready_grows _ _ _ _ _ _ _ _ c.loop-q.invariant.adds.grows.extends (c.requires.ready c.loop-q.q _ _ there wide))
+    rw (c.all.ensures, c.counter_for.ensures) (all_ready_grows _ _ _ _ _ _ _ _ c.loop-q.invariant.adds.grows.extends (c.requires.ready c.loop-q.q _ _ there wide))
 
 pub loop-q-preserved : goal.loop-q-preserved
 loop-q-preserved c =
     let there : slice_get c.args.columns.now c.loop-q.q ≡ Some c.index-columns-q.result = slice_get_read c.args.columns.now (length c.args.columns.now) c.loop-q.q c.index-columns-q.result refl c.loop-q-test.true c.index-columns-q.is in
     let wide = slice_get-get_or c.args.widths.now c.loop-q.q 0 (omega (arith, c.loop-q-test.true, c.requires.long)) in
-    let new : IsColumn c.select.new.nl.cells c.args.clocks.now.rst (get_or c.args.widths.now c.loop-q.q 0) c.args.phase.net.0 c.args.ins.now (λ p. choice_in p c.index-columns-q.result) c.in_ok-net.net.0 = rw c.all.ensures at c.in_ok-net.ensures.column in
-    let cost : Adds c.loop-q.nl c.select.new.nl (steps_cells c.index-columns-q.result) 0 = rw c.all.ensures at c.in_ok-net.ensures.adds in
+    let new : IsMade (is_early c.args.early.now c.loop-q.q) c.column.new.nl.cells c.args.clocks.now.rst (get_or c.args.widths.now c.loop-q.q 0) (counter_for (is_early c.args.early.now c.loop-q.q) c.args.counters) c.args.ins.now (λ p. choice_in p c.index-columns-q.result) c.in_ok-net.net.0 =
+    rw (c.all.ensures, c.counter_for.ensures) at c.in_ok-net.ensures.column in
+    let cost : Adds c.loop-q.nl c.column.new.nl (steps_cells c.index-columns-q.result + 3) 0 = rw c.all.ensures at c.in_ok-net.ensures.adds in
     record {
       adds = adds_most _ (omega (arith, sum_next steps_cells c.args.columns.now c.loop-q.q _ there)) (adds_trans c.loop-q.invariant.adds cost);
+      within = omega (arith, c.loop-q-test.true);
       columns = rw c.in_ok-keep_net.ensures.ok
-          (columns_more _ _ _ _ c.loop-q.q _ c.args.ins.now c.args.widths.now c.args.columns.now _ _ _ c.in_ok-net.ensures.adds.grows.extends c.loop-q.invariant.columns there wide new);
+          (columns_more _ _ _ c.loop-q.q _ c.args.counters c.args.ins.now c.args.widths.now c.args.early.now c.args.columns.now _ _ _ c.in_ok-net.ensures.adds.grows.extends c.loop-q.invariant.columns there wide new);
     }
 
 pub returns-clause-adds : goal.returns-clause-adds
-returns-clause-adds c = adds_most _ (sum_part steps_cells c.args.columns.now c.loop-q.q) c.loop-q.invariant.adds
+returns-clause-adds c = adds_most _ (omega (arith, sum_part steps_cells c.args.columns.now c.loop-q.q, c.loop-q.invariant.within)) c.loop-q.invariant.adds
 
 pub returns-clause-columns : goal.returns-clause-columns
-returns-clause-columns c = columns_whole _ _ _ c.loop-q.q _ _ c.args.columns.now _ (omega (arith, c.loop-q-test.false)) c.loop-q.invariant.columns
+returns-clause-columns c = columns_whole _ _ c.loop-q.q _ _ _ _ c.args.columns.now _ (omega (arith, c.loop-q-test.false)) c.loop-q.invariant.columns
 
 pub returns-in_err-net-clause-adds : goal.returns-in_err-net-clause-adds
 returns-in_err-net-clause-adds c =
     let there : slice_get c.args.columns.now c.loop-q.q ≡ Some c.index-columns-q.result = slice_get_read c.args.columns.now (length c.args.columns.now) c.loop-q.q c.index-columns-q.result refl c.loop-q-test.true c.index-columns-q.is in
-    let cost : Adds c.loop-q.nl c.select.new.nl (steps_cells c.index-columns-q.result) 0 = rw c.all.ensures at c.in_err-net.ensures.adds in
-    adds_most _ (omega (arith, sum_next steps_cells c.args.columns.now c.loop-q.q _ there, sum_part steps_cells c.args.columns.now (c.loop-q.q + 1))) (adds_trans c.loop-q.invariant.adds cost)
+    let cost : Adds c.loop-q.nl c.column.new.nl (steps_cells c.index-columns-q.result + 3) 0 = rw c.all.ensures at c.in_err-net.ensures.adds in
+    adds_most _ (omega (arith, sum_next steps_cells c.args.columns.now c.loop-q.q _ there, sum_part steps_cells c.args.columns.now (c.loop-q.q + 1), c.loop-q-test.true)) (adds_trans c.loop-q.invariant.adds cost)
 
 pub returns-in_err-keep_net-clause-adds : goal.returns-in_err-keep_net-clause-adds
 returns-in_err-keep_net-clause-adds c =
     let there : slice_get c.args.columns.now c.loop-q.q ≡ Some c.index-columns-q.result = slice_get_read c.args.columns.now (length c.args.columns.now) c.loop-q.q c.index-columns-q.result refl c.loop-q-test.true c.index-columns-q.is in
-    let cost : Adds c.loop-q.nl c.select.new.nl (steps_cells c.index-columns-q.result) 0 = rw c.all.ensures at c.in_ok-net.ensures.adds in
-    adds_most _ (omega (arith, sum_next steps_cells c.args.columns.now c.loop-q.q _ there, sum_part steps_cells c.args.columns.now (c.loop-q.q + 1))) (adds_trans c.loop-q.invariant.adds cost)
+    let cost : Adds c.loop-q.nl c.column.new.nl (steps_cells c.index-columns-q.result + 3) 0 = rw c.all.ensures at c.in_ok-net.ensures.adds in
+    adds_most _ (omega (arith, sum_next steps_cells c.args.columns.now c.loop-q.q _ there, sum_part steps_cells c.args.columns.now (c.loop-q.q + 1), c.loop-q-test.true)) (adds_trans c.loop-q.invariant.adds cost)

@@ -1,4 +1,4 @@
-use Rattle.std.proofs.Common.{sum_by, take}
+use Rattle.std.proofs.Common.{◌+◌, ◌*◌, ◌≤◌, length, sum_by, take}
 use Rattle.ae_clocked.specs.Signals.{Adds}
 use Rattle.ae_gather.specs.Plans.{steps_cells}
 use Rattle.ae_gather.specs.Laws.{AreColumns}
@@ -6,6 +6,7 @@ use Rattle.ae_gather.proofs.moving.all_columns.Given as goal
 
 abbrev pub invariant-loop-q : goal.invariant-loop-q
 invariant-loop-q l = record {
-  adds : Adds l.fn.nl l.nl (sum_by steps_cells (take l.q l.columns)) 0;
-  columns : AreColumns l.nl.cells l.clocks.rst l.phase.net.0 l.ins l.widths (take l.q l.columns) l.out.items;
+  adds : Adds l.fn.nl l.nl (sum_by steps_cells (take l.q l.columns) + 3 * l.q) 0;
+  within : l.q ≤ length l.columns;
+  columns : AreColumns l.nl.cells l.clocks.rst l.counters l.ins l.widths l.early (take l.q l.columns) l.out.items;
 }

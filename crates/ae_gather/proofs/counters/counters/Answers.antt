@@ -1,0 +1,48 @@
+-- One counter or two.
+use Rattle.std.proofs.Common.{◌≡◌, ◌+◌, ◌-◌, ◌%◌, ◌≤◌, true, false, length, arith, rules, ap, ◌∙◌}
+use Rattle.ae_clocked.proofs.Adding.{adds_most, adds_trans}
+use Rattle.ae_ops.proofs.Lateness.{keeps_trans}
+use Rattle.ae_gather.specs.Columns.{IsPhaseNet}
+use Rattle.ae_gather.specs.Early.{is_early}
+use Rattle.ae_gather.proofs.Choosing.{phase_grows}
+use Rattle.ae_gather.proofs.Earliness.{all_false, all_true, two_flags}
+use Rattle.ae_gather.proofs.Scheduled.{has_either, has_later, has_sooner}
+use Rattle.ae_gather.proofs.counters.counters.Goals as goal
+
+pub returns-then-not-has-clause-counters : goal.returns-then-not-has-clause-counters
+returns-then-not-has-clause-counters c = λ q l.
+    let off : c.has.result ≡ false = search rules in
+    has_later _ _ _ _ _ (is_early c.args.early.now q) (all_false c.args.early.now (c.has.ensures.none off) q l) c.in_ok-only.ensures.counts c.in_ok-only.ensures.periodic (c.in_ok-only.ensures.offsets ∙ c.offset-begin.ensures)
+
+pub returns-then-not-has-2-clause-counters : goal.returns-then-not-has-2-clause-counters
+returns-then-not-has-2-clause-counters c = λ q l.
+    let off : c.has-2.result ≡ false = search rules in
+    has_sooner _ _ _ _ _ (is_early c.args.early.now q) (all_true c.args.early.now (c.has-2.ensures.none off) q l) c.in_ok-only-2.ensures.counts c.in_ok-only-2.ensures.periodic
+    (c.in_ok-only-2.ensures.offsets ∙ c.offset-ahead.ensures ∙ ap (λ n. (n + (c.args.period - 1)) % c.args.period) c.offset-begin.ensures)
+
+pub returns-in_err-sooner-clause-keeps : goal.returns-in_err-sooner-clause-keeps
+returns-in_err-sooner-clause-keeps c = keeps_trans c.in_ok-later.ensures.keeps c.in_err-sooner.ensures.keeps
+
+pub returns-in_err-sooner-clause-adds : goal.returns-in_err-sooner-clause-adds
+returns-in_err-sooner-clause-adds c =
+    let p = c.has.ensures.found (search rules) in
+    let q = c.has-2.ensures.found (search rules) in
+    let two : 2 ≤ length c.args.early.now = two_flags c.args.early.now p.0 q.0 p.1 q.1 in
+    adds_most _ (omega arith) (adds_trans c.in_ok-later.ensures.adds c.in_err-sooner.ensures.adds)
+
+pub returns-clause-keeps : goal.returns-clause-keeps
+returns-clause-keeps c = keeps_trans c.in_ok-later.ensures.keeps c.in_ok-sooner.ensures.keeps
+
+pub returns-clause-adds : goal.returns-clause-adds
+returns-clause-adds c =
+    let p = c.has.ensures.found (search rules) in
+    let q = c.has-2.ensures.found (search rules) in
+    let two : 2 ≤ length c.args.early.now = two_flags c.args.early.now p.0 q.0 p.1 q.1 in
+    adds_most _ (omega arith) (adds_trans c.in_ok-later.ensures.adds c.in_ok-sooner.ensures.adds)
+
+pub returns-clause-counters : goal.returns-clause-counters
+returns-clause-counters c = λ q l.
+    let later = phase_grows c.in_ok-sooner.ensures.adds.grows.extends c.in_ok-later.ensures.counts in
+    let sooner : IsPhaseNet c.counting-3.new.nl.cells c.args.clocks.now.rst c.in_ok-sooner.sooner = rw c.in_ok-later.ensures.keeps.rst at c.in_ok-sooner.ensures.counts in
+    has_either _ _ _ _ _ (is_early c.args.early.now q) later c.in_ok-later.ensures.periodic (c.in_ok-later.ensures.offsets ∙ c.offset-begin.ensures)
+    sooner c.in_ok-sooner.ensures.periodic (c.in_ok-sooner.ensures.offsets ∙ c.offset-ahead.ensures ∙ ap (λ n. (n + (c.args.period - 1)) % c.args.period) c.offset-begin.ensures)

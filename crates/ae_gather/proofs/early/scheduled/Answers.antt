@@ -1,0 +1,26 @@
+use Rattle.std.proofs.Common.{◌≡◌, map, arith, ap, ◌∙◌}
+use Rattle.ae_gather.specs.Early.{hastened}
+use Rattle.ae_gather.proofs.Hastened.{delay_hastened, order_hastened, runs_hastened, within_hastened}
+use Rattle.ae_gather.proofs.early.scheduled.Goals as goal
+
+pub planned-requires-clause-within : goal.planned-requires-clause-within
+planned-requires-clause-within c =
+    let moved : c.in_ok-moved.moved.items ≡ map (hastened c.in_ok-early.early.items) c.args.trips.now = rw c.deref.ensures.value at c.in_ok-moved.ensures in
+    rw c.deref-2.ensures.value (within_hastened _ _ _ _ _ _ _ moved c.in_ok-early.ensures.time c.requires.within)
+
+pub planned-requires-clause-order : goal.planned-requires-clause-order
+planned-requires-clause-order c =
+    let moved : c.in_ok-moved.moved.items ≡ map (hastened c.in_ok-early.early.items) c.args.trips.now = rw c.deref.ensures.value at c.in_ok-moved.ensures in
+    rw c.deref-2.ensures.value (order_hastened _ _ _ moved c.requires.order)
+
+pub returns-clause-runs : goal.returns-clause-runs
+returns-clause-runs c =
+    let moved : c.in_ok-moved.moved.items ≡ map (hastened c.in_ok-early.early.items) c.args.trips.now = rw c.deref.ensures.value at c.in_ok-moved.ensures in
+    let runs = rw (c.deref-2.ensures.value, moved) at c.in_ok-plan.ensures.runs in
+    omega (arith, runs, runs_hastened c.args.d c.args.outs c.in_ok-early.early.items c.args.trips.now)
+
+pub returns-clause-delay : goal.returns-clause-delay
+returns-clause-delay c =
+    let moved : c.in_ok-moved.moved.items ≡ map (hastened c.in_ok-early.early.items) c.args.trips.now = rw c.deref.ensures.value at c.in_ok-moved.ensures in
+    let delay = rw (c.deref-2.ensures.value, moved) at c.in_ok-plan.ensures.delay in
+    omega (arith, delay, delay_hastened c.args.d c.args.ins c.in_ok-early.early.items c.args.trips.now)
