@@ -1,22 +1,24 @@
--- Two circuits with the runs of one module are fed alike, and show the same lines.
+-- Two circuits with the runs of one module are fed alike, and show the same lines and sums.
 use Rattle.std.proofs.Common.{ℕ, ◌≡◌, ◌+◌, ◌<◌, ◌^◌, List, [], length, map, get_or, Option, None, Some, All, slice_get, arith, refl, ap, sym, ◌∙◌, subst}
 use Rattle.std.specs.Prelude.{option_map}
 use Rattle.std.proofs.lemmas.List.{length-map}
 use Rattle.std.proofs.lemmas.List.Elements.{All-get_or}
 use Rattle.std.proofs.lemmas.List.Sums.{length-filter}
 use Rattle.std.proofs.lemmas.Option.{none-some, same_Some, slice_get-map}
+use Rattle.ae_sttype.specs.StTree.{StTree}
 use Rattle.ae_netlist.specs.declared.cell.SizedCell.{SizedCell}
 use Rattle.ae_netlist.specs.Circuit.{Circuit}
 use Rattle.ae_netlist.specs.Counts.{is_input, count_of, cells_of}
-use Rattle.ae_netlist.specs.Rows.{AreInputs, filled}
+use Rattle.ae_netlist.specs.Runs.{Clock}
+use Rattle.ae_netlist.specs.Rows.{AreFirsts, AreInputs, HasOneRunWith, IsRunWith, filled}
 use Rattle.ae_vread.specs.ModuleTree.{ModuleTree}
 use Rattle.ae_elab.specs.SameRuns.{BeginAlike, HasSameRuns, HaveEqualOutputs}
 use Rattle.ae_play.specs.Fed.{fed_rows}
 use Rattle.ae_play.specs.Lines.{IsPlayedText, clock_count, shown_words}
-use Rattle.ae_correct.specs.Laws.{FeedsAreAlike, PlaysAreAlike}
+use Rattle.ae_correct.specs.Laws.{FeedsAreAlike, PlaysAreAlike, SumsAreAlike}
 use Rattle.ae_correct.proofs.FedRows.{length_rows}
 use Rattle.ae_correct.proofs.FirstWords.{begins, net_begins}
-use Rattle.ae_correct.proofs.Shown.{lines_alike}
+use Rattle.ae_correct.proofs.Shown.{lines_alike, sums_alike}
 use Rattle.ae_correct.proofs.TakenRows.{input_widths, net_inputs}
 
 -- ---- the inputs
@@ -48,15 +50,20 @@ fed_alike m a b row of_a of_b fits =
           subst (λ n. get_or row k 0 < 2 ^ n) w.2 (fits.fit k w.0 w.1));
     }
 
--- ---- the lines
+-- ---- the runs
 
-pub played_alike : PlaysAreAlike
-played_alike m a b slowdown latency fill ins outs blocks text of_a of_b once firsts fits h =
+-- each run of the one on blocks has a run of the other that shows the same words in each clock after reset
+runs_alike : (m : ModuleTree) (a b : Circuit) (slowdown latency fill : ℕ) (ins : List StTree) (blocks : List (List (List ℕ))) (run : List Clock) → HasSameRuns m a → HasSameRuns m b → HasOneRunWith b.cells
+    → AreFirsts b.cells (filled b.cells fill) → All (AreInputs b.cells) (fed_rows slowdown fill ins blocks (clock_count slowdown latency (length blocks)))
+    → IsRunWith a.cells (fed_rows slowdown fill ins blocks (clock_count slowdown latency (length blocks))) (filled a.cells fill) run
+    → (other : List Clock) × IsRunWith b.cells (fed_rows slowdown fill ins blocks (clock_count slowdown latency (length blocks))) (filled b.cells fill) other
+    × ((c : ℕ) → c < clock_count slowdown latency (length blocks) → shown_words a.outlets run (1 + c) ≡ shown_words b.outlets other (1 + c))
+runs_alike m a b slowdown latency fill ins blocks run of_a of_b once firsts fits runs =
     let count : ℕ = clock_count slowdown latency (length blocks) in
     let rows : List (List ℕ) = fed_rows slowdown fill ins blocks (clock_count slowdown latency (length blocks)) in
-    let r = of_a.of_netlist h.run h.runs.runs in
+    let r = of_a.of_netlist run runs.runs in
     let o = once rows (filled b.cells fill) fits firsts in
-    let long : length r.0 ≡ length rows = r.2.long ∙ h.runs.long in
+    let long : length r.0 ≡ length rows = r.2.long ∙ runs.long in
     let counted : length rows ≡ 1 + count = length_rows slowdown fill ins blocks count in
     let alike : BeginAlike m b r.0 o.0 = record {
       long = long ∙ sym o.1.long;
@@ -64,17 +71,32 @@ played_alike m a b slowdown latency fill ins outs blocks text of_a of_b once fir
           (let within : t < length rows = omega (arith, below, long) in
           let here : AreInputs b.cells (get_or rows t []) = All-get_or (AreInputs b.cells) rows t [] within fits in
           r.2.inputs t below
-          ∙ net_inputs a rows (filled a.cells fill) h.run t h.runs within (fed_alike m b a (get_or rows t []) of_b of_a here)
+          ∙ net_inputs a rows (filled a.cells fill) run t runs within (fed_alike m b a (get_or rows t []) of_b of_a here)
           ∙ sym (net_inputs b rows (filled b.cells fill) o.0 t o.1 within here));
       first = λ some.
-          begins m a r.0 h.run fill of_a r.2 h.runs.begins some
+          begins m a r.0 run fill of_a r.2 runs.begins some
           ∙ sym (net_begins m b o.0 fill of_b o.1.begins (omega (arith, some, long, o.1.long)));
     } in
     let equal : HaveEqualOutputs m b r.0 o.0 = of_b.equal r.0 o.0 r.1 o.1.runs alike in
+    (o.0, o.1, λ c below. (let within : 1 + c < length r.0 = omega (arith, below, long, counted) in sym (r.3.outputs (1 + c) within) ∙ equal.outputs (1 + c) within))
+
+-- ---- the lines and the sums
+
+pub played_alike : PlaysAreAlike
+played_alike m a b slowdown latency fill ins outs blocks text of_a of_b once firsts fits h =
+    let other = runs_alike m a b slowdown latency fill ins blocks h.run of_a of_b once firsts fits h.runs in
     record {
-      run = o.0;
-      runs = o.1;
+      run = other.0;
+      runs = other.1;
       lines = h.lines
-          ∙ lines_alike slowdown latency outs (λ c. shown_words a.outlets h.run (1 + c)) (λ c. shown_words b.outlets o.0 (1 + c)) count
-          (λ c below. (let within : 1 + c < length r.0 = omega (arith, below, long, counted) in sym (r.3.outputs (1 + c) within) ∙ equal.outputs (1 + c) within));
+          ∙ lines_alike slowdown latency outs (λ c. shown_words a.outlets h.run (1 + c)) (λ c. shown_words b.outlets other.0 (1 + c)) (clock_count slowdown latency (length blocks)) other.2;
+    }
+
+pub summed_alike : SumsAreAlike
+summed_alike m a b slowdown latency fill ins outs blocks sums of_a of_b once firsts fits h =
+    let other = runs_alike m a b slowdown latency fill ins blocks h.run of_a of_b once firsts fits h.runs in
+    record {
+      run = other.0;
+      runs = other.1;
+      are = sums_alike slowdown latency outs (λ c. shown_words a.outlets h.run (1 + c)) (λ c. shown_words b.outlets other.0 (1 + c)) (clock_count slowdown latency (length blocks)) sums other.2 h.are;
     }

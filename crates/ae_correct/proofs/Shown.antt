@@ -75,7 +75,7 @@ kept_small test (c ∷ ks) k h = by (test c) (kept_small test ks k h.1)
     by true rest = (h.0, rest)
     by false rest = rest
 
-sums_alike : (slowdown latency : ℕ) (outs : List StTree) (f g : ℕ → List ℕ) (k : ℕ) (sums : Sums) → ((c : ℕ) → c < k → f c ≡ g c) → AreSums slowdown latency outs f k sums → AreSums slowdown latency outs g k sums
+pub sums_alike : (slowdown latency : ℕ) (outs : List StTree) (f g : ℕ → List ℕ) (k : ℕ) (sums : Sums) → ((c : ℕ) → c < k → f c ≡ g c) → AreSums slowdown latency outs f k sums → AreSums slowdown latency outs g k sums
 sums_alike slowdown latency outs f g k sums h s =
     let small = range_small 0 k k (omega arith) in
     let valid : valid_words slowdown latency outs f k ≡ valid_words slowdown latency outs g k =

@@ -70,3 +70,11 @@ PlaysAreAlike =
     → HasSameRuns m a → HasSameRuns m b → HasOneRunWith b.cells → AreFirsts b.cells (filled b.cells fill)
     → All (AreInputs b.cells) (fed_rows slowdown fill ins blocks (clock_count slowdown latency (length blocks)))
     → IsPlayedText a slowdown latency fill ins outs blocks text → IsPlayedText b slowdown latency fill ins outs blocks text
+
+-- the same of sums
+abbrev pub SumsAreAlike : Type 0
+SumsAreAlike =
+    (m : ModuleTree) (a b : Circuit) (slowdown latency fill : ℕ) (ins outs : List StTree) (blocks : List (List (List ℕ))) (sums : Sums)
+    → HasSameRuns m a → HasSameRuns m b → HasOneRunWith b.cells → AreFirsts b.cells (filled b.cells fill)
+    → All (AreInputs b.cells) (fed_rows slowdown fill ins blocks (clock_count slowdown latency (length blocks)))
+    → ArePlayedSums a slowdown latency fill ins outs blocks sums → ArePlayedSums b slowdown latency fill ins outs blocks sums

@@ -1,6 +1,6 @@
 // The module of a circuit.
 
-ghost use Rattle.ae_correct.specs.Laws.{CircuitsAreCorrect, CircuitsAreWritable, FeedsAreAlike, PlaysAreAlike, PlaysAreShown, SumsAreShown};
+ghost use Rattle.ae_correct.specs.Laws.{CircuitsAreCorrect, CircuitsAreWritable, FeedsAreAlike, PlaysAreAlike, PlaysAreShown, SumsAreAlike, SumsAreShown};
 
 use ae_flow::flows_mean;
 
@@ -32,4 +32,10 @@ pub fn sums_are_shown()
 pub fn plays_are_alike()
     ensures feeds { FeedsAreAlike }
     ensures lines { PlaysAreAlike }
+{}
+
+/// A law: the sums of a circuit's run on blocks are those of each circuit that has the runs of the same module, where that
+/// one is sure to have exactly one run on them.
+pub fn sums_are_alike()
+    ensures { SumsAreAlike }
 {}

@@ -4,5 +4,6 @@
 mod laws;
 
 pub use laws::{
-    circuits_are_correct, circuits_are_writable, plays_are_alike, plays_are_shown, sums_are_shown,
+    circuits_are_correct, circuits_are_writable, plays_are_alike, plays_are_shown, sums_are_alike,
+    sums_are_shown,
 };
