@@ -12,10 +12,12 @@ ghost use Rattle.ae_tool.specs.DemoTexts.{IsDemoText, IsSummedRun, demo_blocks, 
 
 use crate::build::{circuit, input_layouts, module_text, output_layouts};
 use crate::plan::{Costed, find_costs, main_instance};
+use crate::read_back::read_back;
 use crate::reply::OutOfMemory;
 use crate::run::clock_count;
 use crate::widths::input_widths;
-use ae_correct::{circuits_are_writable, sums_are_shown};
+use ae_correct::{circuits_are_writable, plays_are_alike, sums_are_alike, sums_are_shown};
+use ae_netlist::{fill_begins, has_one_run_with};
 use ae_play::{Sums, can_be_fed, sum_clocks};
 use ae_verilog::module_keeps;
 use itoa::Buffer;
@@ -87,7 +89,7 @@ fn write_summary(
     write_number(out, "all", sums.whole_sum)
 }
 
-// The text of the module, and the sums of its run on the rows.
+// The text of the module, and the sums of its run on the rows: that of the netlist that the text itself is read as.
 fn summed(
     alloc: Global,
     costed: &Costed,
@@ -111,16 +113,21 @@ fn summed(
     let nl = &lowered.netlist;
     let text = module_text(alloc, costed, slowdown, &lowered)?;
     sums_are_shown();
+    sums_are_alike();
+    plays_are_alike();
     can_be_fed();
     circuits_are_writable();
     module_keeps();
+    has_one_run_with(nl);
+    fill_begins(nl, fill);
+    let played = read_back(alloc, text.as_str())?;
     let _load = costed.timing.load();
     let s = main_instance(&costed.schedule);
     let ins = input_layouts(alloc, s)?;
     let outs = output_layouts(alloc, s)?;
     let latency = costed.timing.latency();
     let sums = sum_clocks(
-        alloc, nl, &ins, &outs, slowdown, latency, words, blocks, fill,
+        alloc, &played, &ins, &outs, slowdown, latency, words, blocks, fill,
     )?;
     Ok((text, sums))
 }
