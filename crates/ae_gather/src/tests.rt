@@ -191,6 +191,26 @@ fn a_shift_takes_no_word_of_another_block(rt: HostRuntime) -> Result<(), Fail> {
     Ok(())
 }
 
+#[test]
+fn a_choice_in_front_of_a_register_begins_with_the_reset(rt: HostRuntime) -> Result<(), Fail> {
+    let alloc = rt.alloc();
+    let blocks = [1, 2, 3, 4, 5, 6, 7, 8, 9, 10, 11, 12];
+    match of_bytes(alloc, 3, bytes(alloc, 3, 0, 2)?, shifted(alloc)?)? {
+        None => assert!(rt; false),
+        Some(shared) => {
+            let stage = shared.alone();
+            assert_eq!(rt; stage.latency(), 0);
+            let seen = column(alloc, &stage, 3, &blocks, 0, 0, 0, 6)?;
+            assert_eq!(rt; seen.as_slice(), [0, 2, 4, 0, 8, 10].as_slice());
+            let seen = column(alloc, &stage, 3, &blocks, 0, 1, 0, 6)?;
+            assert_eq!(rt; seen.as_slice(), [1, 3, 5, 7, 9, 11].as_slice());
+            let seen = column(alloc, &stage, 3, &blocks, 4, 0, 4, 6)?;
+            assert_eq!(rt; seen.as_slice(), [0, 2, 4, 0, 8, 10].as_slice());
+        }
+    }
+    Ok(())
+}
+
 /// Twelve bytes, in order.
 fn in_order(alloc: Global) -> Result<Vec<Origin>, AllocError> {
     let mut source = Vec::new(alloc);

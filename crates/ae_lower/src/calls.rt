@@ -21,7 +21,7 @@ use ae_delay::Timing;
 use ae_flow::flows_fit;
 use ae_netlist::{NetFault, Netlist};
 use ae_ops::Bundle;
-use ae_rewrite::{StFunc, StOp, StProgram};
+use ae_rewrite::{StFunc, StNode, StOp, StProgram};
 use std::alloc::Global;
 
 // Instance number k.
@@ -109,6 +109,54 @@ fn keep_item(
     }
 }
 
+// One more reader.
+fn count_reader(counts: &mut Vec<u32>, item: u32) {
+    let k = item as usize;
+    if k < counts.len() {
+        counts[k] = counts[k].saturating_add(1);
+    }
+}
+
+fn no_readers(alloc: Global, count: usize) -> Result<Vec<u32>, NetFault>
+    ensures fault { result ≢ Err NetFault.Full }
+{
+    let mut counts = Vec::new(alloc);
+    for i in 0..count {
+        match counts.push(0) {
+            Ok(()) => {}
+            Err(_) => return Err(NetFault::Memory),
+        }
+    }
+    Ok(counts)
+}
+
+// How often each item is read, by a node or as a result.
+fn readers(alloc: Global, s: &StFunc) -> Result<Vec<u32>, NetFault>
+    ensures fault { result ≢ Err NetFault.Full }
+{
+    let mut counts = no_readers(alloc, s.ins.len() + s.nodes.len())?;
+    for node in &s.nodes {
+        for item in &node.args {
+            count_reader(&mut counts, *item);
+        }
+    }
+    for item in &s.results {
+        count_reader(&mut counts, *item);
+    }
+    Ok(counts)
+}
+
+// Whether nothing but this node reads its one argument. Only a choice between circuits with the same words hangs on it.
+fn reads_alone(counts: &Vec<u32>, node: &StNode) -> bool {
+    if node.args.len() != 1 {
+        return false;
+    }
+    match counts.get(node.args[0] as usize) {
+        Some(count) => *count == 1,
+        None => false,
+    }
+}
+
 /// The results of instance `k` on bundles whose block 0 begins in clock `at` after reset, all as late as the latest. The
 /// number of cells before each of its nodes is put behind the marks.
 #[cycle(lowering)]
@@ -137,10 +185,11 @@ pub fn lower_instance(
 {
     let s = instance(p, k);
     let arrivals = arrivals_of(a, k);
+    let counts = readers(alloc, s)?;
     let mut items = all_copied(alloc, ins)?;
     for j in 0..s.nodes.len() {
         let mark = nl.len();
-        let made = lower_node(alloc, nl, clocks, p, a, k, j, &items, at)?;
+        let made = lower_node(alloc, nl, clocks, p, a, k, j, &items, at, &counts)?;
         keep_item(&mut items, marks, made, mark)?;
     }
     let end = latest(arrivals, &s.results);
@@ -159,6 +208,7 @@ fn lower_node(
     j: usize,
     items: &[Bundle],
     at: u32,
+    counts: &Vec<u32>,
 ) -> Result<Bundle, NetFault>
     requires belongs { Belongs clocks.old nl.old.cells }
     requires timed { IsTimed (st_func_trees p.now) a.now.arrivals }
@@ -184,7 +234,10 @@ fn lower_node(
         StOp::Body(m) => {
             lower_bodies(alloc, nl, clocks, p, a, *m, node.copies, &args, at + start)
         }
-        _ => build(alloc, nl, clocks, s, node, &args, at + start),
+        _ => {
+            let alone = reads_alone(counts, node);
+            build(alloc, nl, clocks, s, node, &args, at + start, alone)
+        }
     }
 }
 

@@ -66,6 +66,13 @@ fn operation(op: WordOp, s: &StFunc, node: &StNode) -> WordStage
     WordStage::new(op, width, s.budget)
 }
 
+/// A move that may be the only reader of its argument.
+fn reading(moved: Gather, alone: bool) -> Gather
+    ensures { move_of result ≡ move_of moved }
+{
+    if alone { moved.alone() } else { moved }
+}
+
 /// A fold, and a move of its result.
 fn fold_and_move(
     alloc: Global,
@@ -143,7 +150,8 @@ fn part_of(
     parts(alloc, args[0].nets(), count, k, from, l)
 }
 
-/// A node that calls nothing, on arguments whose block 0 begins in clock `at` after reset.
+/// A node that calls nothing, on arguments whose block 0 begins in clock `at` after reset. With `alone` nothing else reads
+/// its argument.
 pub fn build(
     alloc: Global,
     nl: &mut Netlist,
@@ -152,6 +160,7 @@ pub fn build(
     node: &StNode,
     args: &[Bundle],
     at: u32,
+    alone: bool,
 ) -> Result<Bundle, NetFault>
     requires belongs { Belongs clocks.old nl.old.cells }
     requires ready { IsReady nl.old.cells (st_func_tree s.now) (st_node_tree node.now) args.now }
@@ -178,7 +187,8 @@ pub fn build(
         }
         StOp::Move(how) => {
             let stage = moving(alloc, *how, layout(s, node.args[0] as usize), &node.ty)?;
-            place(alloc, nl, clocks, &stage, s, node, args, at)
+            let reader = reading(stage, alone);
+            place(alloc, nl, clocks, &reader, s, node, args, at)
         }
         StOp::Fold {
             op,

@@ -49,8 +49,8 @@ place-requires-in-Move-clause-does c =
     let low : 0 < length c.args.node.now.args.items = only_low c.args.node.now.args.items only.0 in
     let first : c.index.result.now ≡ slice_index c.args.node.now.args.items 0 = get_or_read c.args.node.now.args.items 0 c.index.result.now low c.index.ensures 0 in
     let own : st_tree c.layout.result.now ≡ argument_at (st_func_tree c.args.s.now) (st_node_tree c.args.node.now) 0 = c.layout.ensures ∙ ap (item_layout (item_layouts (st_func_tree c.args.s.now))) first in
-    move_node _ (st_func_tree c.args.s.now) (st_node_tree c.args.node.now) _ c.in-Move.how (move_of c.in_ok-stage-in-Move.stage) c.requires.ready (ap st_op_tree c.in-Move.is)
-    (c.in_ok-stage-in-Move.ensures.is ∙ ap (λ (a : StTree). op_move c.in-Move.how a (st_tree c.args.node.now.ty)) own)
+    move_node _ (st_func_tree c.args.s.now) (st_node_tree c.args.node.now) _ c.in-Move.how (move_of c.reading-reader.result) c.requires.ready (ap st_op_tree c.in-Move.is)
+    (c.reading-reader.ensures ∙ c.in_ok-stage-in-Move.ensures.is ∙ ap (λ (a : StTree). op_move c.in-Move.how a (st_tree c.args.node.now.ty)) own)
 
 -- ---- folds
 
