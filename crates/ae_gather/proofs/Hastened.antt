@@ -36,6 +36,9 @@ within_hastened period d ins outs early trips moved is time h = rw is (record {
   source = λ n t f. (let o = get_unmapped (hastened early) trips n t f in rw (← o.2) (in_hastened ins (is_early early o.0.column) o.0.source (h.source n o.0 o.1)));
 })
 
+pub clocks_hastened : (limit : ℕ) (early : List Bool) (trips moved : List Trip) → moved ≡ map (hastened early) trips → ((n : ℕ) (trip : Trip) → slice_get trips n ≡ Some trip → trip.clock < limit) → (n : ℕ) (trip : Trip) → slice_get moved n ≡ Some trip → trip.clock < limit
+clocks_hastened limit early trips moved is h n t f = (let o = get_unmapped (hastened early) trips n t (rw is at f) in rw (← o.2) (h n o.0 o.1))
+
 pub order_hastened : (early : List Bool) (trips moved : List Trip) → moved ≡ map (hastened early) trips → AreInOrder trips → AreInOrder moved
 order_hastened early trips moved is h = rw is (record {
   each = λ m n a b l f g same. (let o = get_unmapped (hastened early) trips m a f in let p = get_unmapped (hastened early) trips n b g in

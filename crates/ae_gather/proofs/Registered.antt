@@ -24,31 +24,31 @@ use Rattle.ae_gather.specs.Laws.{sourced}
 use Rattle.ae_gather.proofs.TripLaw.{phase_in_block}
 
 -- a register alone, where the word of the first clock is not asked
-pub delayed_column : (a b : List SizedCell) (rst w phase first q age f : ℕ) (ins : List NetId) (choice : ℕ → Choice) (x : ℕ) (r : Result NetId NetFault) → Extends a b → choice first ≡ Delayed q age
-    → IsColumn a rst w phase ins choice x → IfOk r (λ y. IsNet b y.0 w) → IfOk r (λ y. InEveryRunFrom f b (λ run. IsNextOf run y.0 x)) → IfOk r (λ y. IsEarlyColumn b rst w phase first ins choice y.0)
-delayed_column a b rst w phase first q age f ins choice x (Ok y) g late h net next = record {
+pub delayed_column : (a b : List SizedCell) (rst w phase limit first q age f : ℕ) (ins : List NetId) (choice : ℕ → Choice) (x : ℕ) (r : Result NetId NetFault) → Extends a b → choice first ≡ Delayed q age
+    → IsColumn a rst w phase limit ins choice x → IfOk r (λ y. IsNet b y.0 w) → IfOk r (λ y. InEveryRunFrom f b (λ run. IsNextOf run y.0 x)) → IfOk r (λ y. IsEarlyColumn b rst w phase limit first ins choice y.0)
+delayed_column a b rst w phase limit first q age f ins choice x (Ok y) g late h net next = record {
   net = net;
-  words = λ all e run r start reset c le l.
+  words = λ all e run r start reset c small le l.
       let m : start + c + 1 < length run = omega arith in
       let step : word_at run (start + c + 1) y.0 ≡ word_at run (start + c) x = next all (carries_extends f e) run r (start + c) m in
       let at : start + (c + 1) ≡ start + c + 1 = omega arith in
-      ap (λ t. word_at run t y.0) at ∙ step ∙ h.words all (extends_trans g e) run r start reset c le (omega arith);
+      ap (λ t. word_at run t y.0) at ∙ step ∙ h.words all (extends_trans g e) run r start reset c small le (omega arith);
   begins = λ all e run r start reset v chosen l. cc;
 }
-delayed_column a b rst w phase first q age f ins choice x (Err e) g late h net next = net
+delayed_column a b rst w phase limit first q age f ins choice x (Err e) g late h net next = net
 
 -- the word of the choice between a constant in reset and a net
 muxed : (run : List Clock) (t rst k x y k0 : ℕ) → word_at run t k ≡ k0 → word_at run t y ≡ (if word_at run t rst == 1 then word_at run t k else word_at run t x) → word_at run t y ≡ (if word_at run t rst == 1 then k0 else word_at run t x)
 muxed run t rst k x y k0 ek ey = rw ek at ey
 
 -- a register that is set in reset, where the word of the first clock is fixed
-pub reset_column : (a b : List SizedCell) (rst w phase first v fk fm fy : ℕ) (ins : List NetId) (choice : ℕ → Choice) (k m reset_net : NetId) (x : NetId) (r : Result NetId NetFault) → reset_net.0 ≡ rst → Extends a b → choice first ≡ Constant v
-    → IsColumn a rst w phase ins choice x.0 → IfOk r (λ y. IsNet b y.0 w)
+pub reset_column : (a b : List SizedCell) (rst w phase limit first v fk fm fy : ℕ) (ins : List NetId) (choice : ℕ → Choice) (k m reset_net : NetId) (x : NetId) (r : Result NetId NetFault) → reset_net.0 ≡ rst → Extends a b → choice first ≡ Constant v
+    → IsColumn a rst w phase limit ins choice x.0 → IfOk r (λ y. IsNet b y.0 w)
     → InEveryRunFrom fk b (λ run. IsConstant run k.0 v) → InEveryRunFrom fm b (λ run. IsResult run m.0 Mux w (reset_net ∷ k ∷ x ∷ []))
-    → IfOk r (λ y. InEveryRunFrom fy b (λ run. IsNextOf run y.0 m.0)) → IfOk r (λ y. IsEarlyColumn b rst w phase first ins choice y.0)
-reset_column a b rst w phase first v fk fm fy ins choice k m reset_net x (Ok y) same g fixed h net ck cm next = record {
+    → IfOk r (λ y. InEveryRunFrom fy b (λ run. IsNextOf run y.0 m.0)) → IfOk r (λ y. IsEarlyColumn b rst w phase limit first ins choice y.0)
+reset_column a b rst w phase limit first v fk fm fy ins choice k m reset_net x (Ok y) same g fixed h net ck cm next = record {
   net = net;
-  words = λ all e run r start reset c le l.
+  words = λ all e run r start reset c small le l.
       let l1 : start + c + 1 < length run = omega arith in
       let l0 : start + c < length run = omega arith in
       let step : word_at run (start + c + 1) y.0 ≡ word_at run (start + c) m.0 = next all (carries_extends fy e) run r (start + c) l1 in
@@ -57,7 +57,7 @@ reset_column a b rst w phase first v fk fm fy ins choice k m reset_net x (Ok y) 
       let low : word_at run (start + c) rst ≡ 0 = reset.low (start + c) (omega arith) l0 in
       let low_net : word_at run (start + c) reset_net.0 ≡ 0 = rw same low in
       let here : word_at run (start + c) m.0 ≡ word_at run (start + c) x.0 = rw low_net at mux in
-      ap (λ t. word_at run t y.0) at ∙ step ∙ here ∙ h.words all (extends_trans g e) run r start reset c le l0;
+      ap (λ t. word_at run t y.0) at ∙ step ∙ here ∙ h.words all (extends_trans g e) run r start reset c small le l0;
   begins = λ all e run r start reset u chosen l.
       let some : 1 ≤ start = reset.some in
       let t : ℕ = start - 1 in
@@ -73,24 +73,24 @@ reset_column a b rst w phase first v fk fm fy ins choice k m reset_net x (Ok y) 
       let is : v ≡ u = cc in
       ap (λ n. word_at run n y.0) at ∙ step ∙ here ∙ word ∙ is;
 }
-reset_column a b rst w phase first v fk fm fy ins choice k m reset_net x (Err e) same g fixed h net ck cm next = net
+reset_column a b rst w phase limit first v fk fm fy ins choice k m reset_net x (Err e) same g fixed h net ck cm next = net
 
 pub delayed_columns : (a b : List SizedCell) (rst w q age f : ℕ) (x : ℕ) (r : Result NetId NetFault) → Extends a b → IfOk r (λ y. IsNet b y.0 w) → IfOk r (λ y. InEveryRunFrom f b (λ run. IsNextOf run y.0 x))
-    → IfOk r (λ y. (phase p : ℕ) (ins : List NetId) (choice : ℕ → Choice) → choice p ≡ Delayed q age → IsColumn a rst w phase ins choice x → IsEarlyColumn b rst w phase p ins choice y.0)
-delayed_columns a b rst w q age f x (Ok y) g net next = λ phase p ins choice late h. delayed_column a b rst w phase p q age f ins choice x (Ok y) g late h net next
+    → IfOk r (λ y. (phase limit p : ℕ) (ins : List NetId) (choice : ℕ → Choice) → choice p ≡ Delayed q age → IsColumn a rst w phase limit ins choice x → IsEarlyColumn b rst w phase limit p ins choice y.0)
+delayed_columns a b rst w q age f x (Ok y) g net next = λ phase limit p ins choice late h. delayed_column a b rst w phase limit p q age f ins choice x (Ok y) g late h net next
 delayed_columns a b rst w q age f x (Err e) g net next = net
 
 pub reset_columns : (a b : List SizedCell) (rst w v fk fm fy : ℕ) (k m reset_net x : NetId) (r : Result NetId NetFault) → reset_net.0 ≡ rst → Extends a b → IfOk r (λ y. IsNet b y.0 w)
     → InEveryRunFrom fk b (λ run. IsConstant run k.0 v) → InEveryRunFrom fm b (λ run. IsResult run m.0 Mux w (reset_net ∷ k ∷ x ∷ [])) → IfOk r (λ y. InEveryRunFrom fy b (λ run. IsNextOf run y.0 m.0))
-    → IfOk r (λ y. (phase p : ℕ) (ins : List NetId) (choice : ℕ → Choice) → choice p ≡ Constant v → IsColumn a rst w phase ins choice x.0 → IsEarlyColumn b rst w phase p ins choice y.0)
-reset_columns a b rst w v fk fm fy k m reset_net x (Ok y) same g net ck cm next = λ phase p ins choice fixed h. reset_column a b rst w phase p v fk fm fy ins choice k m reset_net x (Ok y) same g fixed h net ck cm next
+    → IfOk r (λ y. (phase limit p : ℕ) (ins : List NetId) (choice : ℕ → Choice) → choice p ≡ Constant v → IsColumn a rst w phase limit ins choice x.0 → IsEarlyColumn b rst w phase limit p ins choice y.0)
+reset_columns a b rst w v fk fm fy k m reset_net x (Ok y) same g net ck cm next = λ phase limit p ins choice fixed h. reset_column a b rst w phase limit p v fk fm fy ins choice k m reset_net x (Ok y) same g fixed h net ck cm next
 reset_columns a b rst w v fk fm fy k m reset_net x (Err e) same g net ck cm next = net
 
 -- what is so of every column is so of this one
-pub early_of : (a b : List SizedCell) (rst w phase p : ℕ) (ins : List NetId) (choice : ℕ → Choice) (x : ℕ) (r : Result NetId NetFault) (first : Choice) → choice p ≡ first → IsColumn a rst w phase ins choice x
-    → IfOk r (λ y. (phase p : ℕ) (ins : List NetId) (choice : ℕ → Choice) → choice p ≡ first → IsColumn a rst w phase ins choice x → IsEarlyColumn b rst w phase p ins choice y.0) → IfOk r (λ y. IsEarlyColumn b rst w phase p ins choice y.0)
-early_of a b rst w phase p ins choice x (Ok y) first is h all = all phase p ins choice is h
-early_of a b rst w phase p ins choice x (Err e) first is h all = all
+pub early_of : (a b : List SizedCell) (rst w phase limit p : ℕ) (ins : List NetId) (choice : ℕ → Choice) (x : ℕ) (r : Result NetId NetFault) (first : Choice) → choice p ≡ first → IsColumn a rst w phase limit ins choice x
+    → IfOk r (λ y. (phase limit p : ℕ) (ins : List NetId) (choice : ℕ → Choice) → choice p ≡ first → IsColumn a rst w phase limit ins choice x → IsEarlyColumn b rst w phase limit p ins choice y.0) → IfOk r (λ y. IsEarlyColumn b rst w phase limit p ins choice y.0)
+early_of a b rst w phase limit p ins choice x (Ok y) first is h all = all phase limit p ins choice is h
+early_of a b rst w phase limit p ins choice x (Err e) first is h all = all
 
 -- ---- a trip of a column that is chosen early
 
@@ -134,13 +134,13 @@ first_offset a p o none some is =
     let less : p - 1 < p = omega arith in
     is ∙ same_offset a p ∙ ap (λ n. n % p) at ∙ mod-eq_of_lt less
 
-pub early_trip : (cells : List SizedCell) (rst w period d arrival offset : ℕ) (ins : List NetId) (steps : List Step) (phase y : NetId) (trip : Trip)
-    → offset ≡ ((arrival + d) % period + (period - 1)) % period → trip.clock < period → IsReached d trip.clock (next_source trip.source) → choice_in trip.clock steps ≡ choice_from d trip.clock (next_source trip.source)
-    → IsCounter cells rst (record { period = period; offset = offset }) phase.0 → IsEarlyColumn cells rst w phase.0 (period - 1 - offset) ins (λ p. choice_in p steps) y.0
+pub early_trip : (cells : List SizedCell) (rst w period d arrival offset limit : ℕ) (ins : List NetId) (steps : List Step) (phase y : NetId) (trip : Trip)
+    → offset ≡ ((arrival + d) % period + (period - 1)) % period → trip.clock < period → trip.clock < limit → IsReached d trip.clock (next_source trip.source) → choice_in trip.clock steps ≡ choice_from d trip.clock (next_source trip.source)
+    → IsCounter cells rst (record { period = period; offset = offset }) phase.0 → IsEarlyColumn cells rst w phase.0 limit (period - 1 - offset) ins (λ p. choice_in p steps) y.0
     → (all : List SizedCell) → Extends cells all → (run : List Clock) → IsRun all run → (start : ℕ) → IsReset run rst start
     → (b : ℕ) → start + (arrival + d + b * period + trip.clock) < length run
     → word_at run (start + (arrival + d + b * period + trip.clock)) y.0 ≡ sourced run start (arrival + b * period) ins trip.source
-early_trip cells rst w period d arrival offset ins steps phase y trip off small reached chooses counter column all e run r start reset b l = by (arrival + d + b * period + trip.clock) refl
+early_trip cells rst w period d arrival offset limit ins steps phase y trip off small below reached chooses counter column all e run r start reset b l = by (arrival + d + b * period + trip.clock) refl
   where
     by : (n : ℕ) → arrival + d + b * period + trip.clock ≡ n → word_at run (start + (arrival + d + b * period + trip.clock)) y.0 ≡ sourced run start (arrival + b * period) ins trip.source
     by zero is =
@@ -156,5 +156,5 @@ early_trip cells rst w period d arrival offset ins steps phase y trip off small 
         let takes : choice_in (word_at run (start + c) phase.0) steps ≡ choice_from d trip.clock (next_source trip.source) = ap (λ p. choice_in p steps) here ∙ chooses in
         let again : arrival + b * period + d + trip.clock ≡ c + 1 = omega arith in
         let old : age_of (choice_from d trip.clock (next_source trip.source)) ≤ c = age_early d trip.clock (arrival + b * period) c trip.source reached again in
-        let word = column.words all e run r start reset c (rw takes old) (omega arith) in
+        let word = column.words all e run r start reset c (rw here below) (rw takes old) (omega arith) in
         ap (λ n. word_at run (start + n) y.0) next ∙ word ∙ ap (taken run start c ins) takes ∙ taken_early run start (arrival + b * period) d trip.clock c ins trip.source reached again

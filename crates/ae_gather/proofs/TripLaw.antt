@@ -39,13 +39,13 @@ taken_is run start a d c ins (Place k column) h =
 taken_is run start a d c ins (Fixed w) h = refl
 
 -- one column
-pub column_trip : (cells : List SizedCell) (rst w period d arrival offset : ℕ) (ins : List NetId) (steps : List Step) (phase y : NetId) (trip : Trip)
-    → offset ≡ (arrival + d) % period → trip.clock < period → IsReached d trip.clock trip.source → choice_in trip.clock steps ≡ choice_of d trip
-    → IsCounter cells rst (record { period = period; offset = offset }) phase.0 → IsColumn cells rst w phase.0 ins (λ p. choice_in p steps) y.0
+pub column_trip : (cells : List SizedCell) (rst w period d arrival offset limit : ℕ) (ins : List NetId) (steps : List Step) (phase y : NetId) (trip : Trip)
+    → offset ≡ (arrival + d) % period → trip.clock < period → trip.clock < limit → IsReached d trip.clock trip.source → choice_in trip.clock steps ≡ choice_of d trip
+    → IsCounter cells rst (record { period = period; offset = offset }) phase.0 → IsColumn cells rst w phase.0 limit ins (λ p. choice_in p steps) y.0
     → (all : List SizedCell) → Extends cells all → (run : List Clock) → IsRun all run → (start : ℕ) → IsReset run rst start
     → (b : ℕ) → start + (arrival + d + b * period + trip.clock) < length run
     → word_at run (start + (arrival + d + b * period + trip.clock)) y.0 ≡ sourced run start (arrival + b * period) ins trip.source
-column_trip cells rst w period d arrival offset ins steps phase y trip off small reached chooses counter column all e run r start reset b l =
+column_trip cells rst w period d arrival offset limit ins steps phase y trip off small below reached chooses counter column all e run r start reset b l =
     let c : ℕ = arrival + d + b * period + trip.clock in
     let at : word_at run (start + c) phase.0 ≡ phase_of period offset c = counter.words all e run r start reset c l in
     let in_block : phase_of period ((arrival + d) % period) c ≡ trip.clock = phase_in_block period (arrival + d) b trip.clock small in
@@ -53,5 +53,5 @@ column_trip cells rst w period d arrival offset ins steps phase y trip off small
     let takes : choice_in (word_at run (start + c) phase.0) steps ≡ choice_of d trip = ap (λ p. choice_in p steps) here ∙ chooses in
     let again : c ≡ arrival + b * period + d + trip.clock = omega arith in
     let old : age_of (choice_of d trip) ≤ c = rw again (age_within d trip.clock (arrival + b * period) trip.source reached) in
-    let word = column.words all e run r start reset c (rw takes old) l in
+    let word = column.words all e run r start reset c (rw here below) (rw takes old) l in
     word ∙ ap (taken run start c ins) takes ∙ ap (λ n. taken run start n ins (choice_of d trip)) again ∙ taken_is run start (arrival + b * period) d trip.clock ins trip.source reached

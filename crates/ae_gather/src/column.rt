@@ -1,21 +1,22 @@
 // One output column: a choice by phases.
 
-ghost use Rattle.std.specs.Prelude.{◌≡◌, ◌<◌, ◌≤◌, ◌+◌, ◌^◌, ℕ, List, Some, length, slice_get, IfOk};
+ghost use Rattle.std.specs.Prelude.{◌≡◌, ◌<◌, ◌≤◌, ◌+◌, ◌^◌, ◌∷◌, [], ℕ, List, Some, length, slice_get, IfOk};
 ghost use Rattle.ae_netlist.specs.declared.cell.NetId.{NetId as Net};
 ghost use Rattle.ae_netlist.specs.Circuit.{IsNet};
-ghost use Rattle.ae_netlist.specs.Runs.{InEveryResetRun};
-ghost use Rattle.ae_clocked.specs.Phases.{IsMark};
+ghost use Rattle.ae_netlist.specs.Runs.{InEveryResetRun, InEveryRunFrom};
+ghost use Rattle.ae_clocked.specs.Signals.{IsResult};
 ghost use Rattle.ae_clocked.specs.Signals.{Adds, IsFullAt};
 ghost use Rattle.ae_moves.specs.declared.trip.Choice.{Choice as Taken};
 ghost use Rattle.ae_gather.specs.declared.trips.Step.{Step as Part};
 ghost use Rattle.ae_gather.specs.Early.{IsEarlyColumn, IsMade, first_phase};
 ghost use Rattle.ae_gather.specs.Plans.{choice_in, later, steps_cells};
-ghost use Rattle.ae_gather.specs.Columns.{AreReady, IsColumn, IsPhaseNet, IsReady, IsSource};
+ghost use Rattle.ae_gather.specs.Columns.{AreReady, IsMarkTo, IsColumn, IsPhaseNet, IsReady, IsSource};
 
 use crate::trips::{PhaseNet, Step};
-use ae_clocked::{Clocks, Tapped, choose, constant, delayed, less, width_at};
+use ae_clocked::{Clocks, Tapped, choose, constant, delayed, less, operate, width_at};
 use ae_moves::Choice;
 use ae_netlist::{NetFault, NetId, Netlist};
+use ae_word::WordOp;
 
 /// The net that has the word of a step.
 fn source(
@@ -51,15 +52,79 @@ fn compared(
     ensures adds { Adds nl.old nl.new 2 0 }
     ensures full { IsFullAt result nl.new }
     ensures net { IfOk result (λ y. IsNet nl.new.cells y.0 1) }
-    ensures marks { IfOk result (λ y. InEveryResetRun nl.new.cells clocks.now.rst (λ run start. IsMark run start y.0 phase.net.0 from)) }
+    ensures marks { IfOk result (λ y. InEveryResetRun nl.new.cells clocks.now.rst (λ run start. IsMarkTo phase.limit run start y.0 phase.net.0 from)) }
 {
     let width = width_at(nl, phase.net);
     let bound = constant(nl, width, u64::from(from))?;
     less(nl, phase.net, bound, width)
 }
 
+/// So many bits that they tell the phases below a limit apart.
+fn bits_below(limit: u32) -> u32
+    requires { limit ≤ 4096 }
+    ensures low { 1 ≤ result }
+    ensures high { result ≤ 12 }
+    ensures enough { limit ≤ 2 ^ result }
+{
+    for bits in 1..12u32 {
+        if limit <= 1u32 << bits {
+            return bits;
+        }
+    }
+    12
+}
+
+/// The low bits of a net.
+fn low_bits(nl: &mut Netlist, x: NetId, width: u32, bits: u32) -> Result<NetId, NetFault>
+    requires net { IsNet nl.old.cells x.0 width }
+    requires low { 1 ≤ bits }
+    requires high { bits ≤ 64 }
+    ensures adds { Adds nl.old nl.new 1 0 }
+    ensures full { IsFullAt result nl.new }
+    ensures net { IfOk result (λ y. IsNet nl.new.cells y.0 bits) }
+    ensures words { IfOk result (λ y. InEveryRunFrom (length nl.old.cells) nl.new.cells (λ run. IsResult run y.0 (WordOp.Cast bits) width (x ∷ x ∷ x ∷ []))) }
+{
+    operate(nl, WordOp::Cast(bits), [x, x, x], bits)
+}
+
+/// The same from the low bits of the counter, where these show the phases below its limit.
+fn compared_low(
+    nl: &mut Netlist,
+    clocks: &Clocks,
+    phase: PhaseNet,
+    from: u32,
+    bits: u32,
+) -> Result<NetId, NetFault>
+    requires phase { IsPhaseNet nl.old.cells clocks.now.rst phase }
+    requires within { from < phase.limit }
+    requires low { 1 ≤ bits }
+    requires high { bits ≤ 12 }
+    requires enough { phase.limit ≤ 2 ^ bits }
+    ensures adds { Adds nl.old nl.new 3 0 }
+    ensures full { IsFullAt result nl.new }
+    ensures net { IfOk result (λ y. IsNet nl.new.cells y.0 1) }
+    ensures marks { IfOk result (λ y. InEveryResetRun nl.new.cells clocks.now.rst (λ run start. IsMarkTo phase.limit run start y.0 phase.net.0 from)) }
+{
+    let width = width_at(nl, phase.net);
+    let shown = low_bits(nl, phase.net, width, bits)?;
+    let bound = constant(nl, bits, u64::from(from))?;
+    less(nl, shown, bound, bits)
+}
+
+/// A mark that stands in a register.
+fn marked(nl: &mut Netlist, clocks: &Clocks, phase: PhaseNet, from: u32) -> Result<NetId, NetFault>
+    requires phase { IsPhaseNet nl.old.cells clocks.now.rst phase }
+    requires within { from < phase.period }
+    ensures adds { Adds nl.old nl.new 9 0 }
+    ensures full { IsFullAt result nl.new }
+    ensures net { IfOk result (λ y. IsNet nl.new.cells y.0 1) }
+    ensures marks { IfOk result (λ y. InEveryResetRun nl.new.cells clocks.now.rst (λ run start. IsMarkTo phase.limit run start y.0 phase.net.0 from)) }
+{
+    clocks.mark(nl, phase.net, phase.period, phase.offset, from)
+}
+
 /// The bit that is 1 in the phases before a number. Where it alone decides it stands in a register, which costs less
-/// than a comparison; many such bits would cost more than the counter's own.
+/// than a comparison; many such bits would cost more than comparisons, which share the low bits of the counter.
 fn before_phase(
     nl: &mut Netlist,
     clocks: &Clocks,
@@ -68,14 +133,18 @@ fn before_phase(
     alone: bool,
 ) -> Result<NetId, NetFault>
     requires phase { IsPhaseNet nl.old.cells clocks.now.rst phase }
-    requires within { from < phase.period }
+    requires within { from < phase.limit }
     ensures adds { Adds nl.old nl.new 9 0 }
     ensures full { IsFullAt result nl.new }
     ensures net { IfOk result (λ y. IsNet nl.new.cells y.0 1) }
-    ensures marks { IfOk result (λ y. InEveryResetRun nl.new.cells clocks.now.rst (λ run start. IsMark run start y.0 phase.net.0 from)) }
+    ensures marks { IfOk result (λ y. InEveryResetRun nl.new.cells clocks.now.rst (λ run start. IsMarkTo phase.limit run start y.0 phase.net.0 from)) }
 {
     if alone {
-        clocks.mark(nl, phase.net, phase.period, phase.offset, from)
+        return marked(nl, clocks, phase, from);
+    }
+    let bits = bits_below(phase.limit);
+    if bits < width_at(nl, phase.net) {
+        compared_low(nl, clocks, phase, from, bits)
     } else {
         compared(nl, clocks, phase, from)
     }
@@ -96,12 +165,12 @@ fn choose_from(
     requires low { 1 ≤ width }
     requires high { width ≤ 64 }
     requires phase { IsPhaseNet nl.old.cells clocks.now.rst phase }
-    requires within { step.now.from < phase.period }
+    requires within { step.now.from < phase.limit }
     requires ready { IsReady nl.old.cells clocks.now.rst width ins.now lines.now step.now.tap step.now.take }
     requires before { IsNet nl.old.cells before.0 width }
     ensures adds { Adds nl.old nl.new 11 0 }
     ensures full { IsFullAt result nl.new }
-    ensures column { IfOk result (λ y. (choice : ℕ → Taken) → IsColumn nl.old.cells clocks.now.rst width phase.net.0 ins.now choice before.0 → IsColumn nl.new.cells clocks.now.rst width phase.net.0 ins.now (λ p. later p (choice p) step.now) y.0) }
+    ensures column { IfOk result (λ y. (choice : ℕ → Taken) → IsColumn nl.old.cells clocks.now.rst width phase.net.0 phase.limit ins.now choice before.0 → IsColumn nl.new.cells clocks.now.rst width phase.net.0 phase.limit ins.now (λ p. later p (choice p) step.now) y.0) }
 {
     let early = before_phase(nl, clocks, phase, step.from, alone)?;
     let taken = source(nl, clocks, ins, lines, step, width)?;
@@ -120,10 +189,10 @@ fn select(
 ) -> Result<NetId, NetFault>
     requires phase { IsPhaseNet nl.old.cells clocks.now.rst phase }
     requires begun { 1 ≤ length steps.now }
-    requires ready { AreReady nl.old.cells clocks.now.rst width phase.period ins.now lines.now steps.now }
+    requires ready { AreReady nl.old.cells clocks.now.rst width phase.limit ins.now lines.now steps.now }
     ensures adds { Adds nl.old nl.new (steps_cells steps.now) 0 }
     ensures full { IsFullAt result nl.new }
-    ensures column { IfOk result (λ y. IsColumn nl.new.cells clocks.now.rst width phase.net.0 ins.now (λ p. choice_in p steps.now) y.0) }
+    ensures column { IfOk result (λ y. IsColumn nl.new.cells clocks.now.rst width phase.net.0 phase.limit ins.now (λ p. choice_in p steps.now) y.0) }
 {
     let alone = steps.len() == 2;
     let mut net = source(nl, clocks, ins, lines, &steps[0], width)?;
@@ -163,7 +232,7 @@ fn set_in_reset(
     requires fits { word < 2 ^ width }
     ensures adds { Adds nl.old nl.new 3 0 }
     ensures full { IsFullAt result nl.new }
-    ensures column { IfOk result (λ y. (phase p : ℕ) (ins : List Net) (choice : ℕ → Taken) → choice p ≡ Choice.Constant word → IsColumn nl.old.cells clocks.now.rst width phase ins choice chosen.0 → IsEarlyColumn nl.new.cells clocks.now.rst width phase p ins choice y.0) }
+    ensures column { IfOk result (λ y. (phase limit p : ℕ) (ins : List Net) (choice : ℕ → Taken) → choice p ≡ Choice.Constant word → IsColumn nl.old.cells clocks.now.rst width phase limit ins choice chosen.0 → IsEarlyColumn nl.new.cells clocks.now.rst width phase limit p ins choice y.0) }
 {
     let fixed = constant(nl, width, word)?;
     let next = choose(nl, clocks.reset(), fixed, chosen, width)?;
@@ -186,7 +255,7 @@ fn registered(
     requires fits { (w : ℕ) → first ≡ Choice.Constant w → w < 2 ^ width }
     ensures adds { Adds nl.old nl.new 3 0 }
     ensures full { IsFullAt result nl.new }
-    ensures column { IfOk result (λ y. (phase p : ℕ) (ins : List Net) (choice : ℕ → Taken) → choice p ≡ first → IsColumn nl.old.cells clocks.now.rst width phase ins choice chosen.0 → IsEarlyColumn nl.new.cells clocks.now.rst width phase p ins choice y.0) }
+    ensures column { IfOk result (λ y. (phase limit p : ℕ) (ins : List Net) (choice : ℕ → Taken) → choice p ≡ first → IsColumn nl.old.cells clocks.now.rst width phase limit ins choice chosen.0 → IsEarlyColumn nl.new.cells clocks.now.rst width phase limit p ins choice y.0) }
 {
     match first {
         Choice::Delayed { column: _, age: _ } => delayed(nl, chosen, width),
@@ -206,10 +275,10 @@ fn early_column(
 ) -> Result<NetId, NetFault>
     requires phase { IsPhaseNet nl.old.cells clocks.now.rst phase }
     requires begun { 1 ≤ length steps.now }
-    requires ready { AreReady nl.old.cells clocks.now.rst width phase.period ins.now lines.now steps.now }
+    requires ready { AreReady nl.old.cells clocks.now.rst width phase.limit ins.now lines.now steps.now }
     ensures adds { Adds nl.old nl.new (steps_cells steps.now + 3) 0 }
     ensures full { IsFullAt result nl.new }
-    ensures column { IfOk result (λ y. IsEarlyColumn nl.new.cells clocks.now.rst width phase.net.0 (first_phase phase) ins.now (λ p. choice_in p steps.now) y.0) }
+    ensures column { IfOk result (λ y. IsEarlyColumn nl.new.cells clocks.now.rst width phase.net.0 phase.limit (first_phase phase) ins.now (λ p. choice_in p steps.now) y.0) }
 {
     let first = step_in(steps, phase.period - 1 - phase.offset);
     let chosen = select(nl, clocks, ins, lines, steps, width, phase)?;
@@ -229,7 +298,7 @@ pub fn column(
 ) -> Result<NetId, NetFault>
     requires phase { IsPhaseNet nl.old.cells clocks.now.rst phase }
     requires begun { 1 ≤ length steps.now }
-    requires ready { AreReady nl.old.cells clocks.now.rst width phase.period ins.now lines.now steps.now }
+    requires ready { AreReady nl.old.cells clocks.now.rst width phase.limit ins.now lines.now steps.now }
     ensures adds { Adds nl.old nl.new (steps_cells steps.now + 3) 0 }
     ensures full { IsFullAt result nl.new }
     ensures column { IfOk result (λ y. IsMade early nl.new.cells clocks.now.rst width phase ins.now (λ p. choice_in p steps.now) y.0) }

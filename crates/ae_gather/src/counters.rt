@@ -25,10 +25,12 @@ fn counting(
     clocks: &mut Clocks,
     period: u32,
     offset: u32,
+    limit: u32,
 ) -> Result<PhaseNet, NetFault>
     requires belongs { Belongs clocks.old nl.old.cells }
     requires low { offset < period }
     requires high { period ≤ 4096 }
+    requires limited { limit ≤ period }
     ensures belongs { Belongs clocks.new nl.new.cells }
     ensures keeps { KeepsCounters clocks.old clocks.new }
     ensures adds { Adds nl.old nl.new 12 0 }
@@ -36,12 +38,14 @@ fn counting(
     ensures counts { IfOk result (λ y. IsPhaseNet nl.new.cells clocks.old.rst y) }
     ensures periodic { IfOk result (λ y. y.period ≡ period) }
     ensures offsets { IfOk result (λ y. y.offset ≡ offset) }
+    ensures limits { IfOk result (λ y. y.limit ≡ limit) }
 {
     let net = clocks.phase(nl, period, offset)?;
     Ok(PhaseNet {
         net,
         period,
         offset,
+        limit,
     })
 }
 
@@ -66,35 +70,37 @@ pub fn counters(
     period: u32,
     d: u32,
     arrival: u32,
+    limit: u32,
 ) -> Result<Counters, NetFault>
     requires belongs { Belongs clocks.old nl.old.cells }
     requires lasting { 1 ≤ period }
     requires limit { period ≤ 4096 }
     requires some { 1 ≤ length early.now }
+    requires limited { limit ≤ period }
     ensures belongs { Belongs clocks.new nl.new.cells }
     ensures keeps { KeepsCounters clocks.old clocks.new }
     ensures adds { Adds nl.old nl.new (12 * min 2 (length early.now)) 0 }
     ensures full { IsFullAt result nl.new }
-    ensures counters { IfOk result (λ y. (q : ℕ) → q < length early.now → HasCounter nl.new.cells clocks.old.rst (arrival + d) period y (is_early early.now q)) }
+    ensures counters { IfOk result (λ y. (q : ℕ) → q < length early.now → HasCounter nl.new.cells clocks.old.rst (arrival + d) period limit y (is_early early.now q)) }
 {
     let begin = offset(arrival, d, period);
     let ahead = offset(begin, period - 1, period);
     if !has(early, true) {
-        let only = counting(nl, clocks, period, begin)?;
+        let only = counting(nl, clocks, period, begin, limit)?;
         return Ok(Counters {
             later: only,
             sooner: only,
         });
     }
     if !has(early, false) {
-        let only = counting(nl, clocks, period, ahead)?;
+        let only = counting(nl, clocks, period, ahead, limit)?;
         return Ok(Counters {
             later: only,
             sooner: only,
         });
     }
-    let later = counting(nl, clocks, period, begin)?;
-    let sooner = counting(nl, clocks, period, ahead)?;
+    let later = counting(nl, clocks, period, begin, limit)?;
+    let sooner = counting(nl, clocks, period, ahead, limit)?;
     Ok(Counters { later, sooner })
 }
 

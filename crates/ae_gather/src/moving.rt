@@ -13,6 +13,7 @@ ghost use Rattle.ae_gather.specs.Early.{AreInTime, counter_for, hastened, is_ear
 ghost use Rattle.ae_gather.specs.Plans.{AreInOrder, AreUsed, AreWithin, IsPlan, choice_in, steps_cells};
 ghost use Rattle.ae_gather.specs.Columns.{AreReady, IsPhaseNet, net_of};
 ghost use Rattle.ae_moves.specs.Trees.{trip_tree};
+ghost use Rattle.ae_moves.specs.declared.trip.Trip.{Trip as Way};
 ghost use Rattle.ae_gather.specs.Laws.{AreColumns, AreFitting, AreLines, MakesTrips};
 
 use crate::column::column;
@@ -91,7 +92,7 @@ fn all_columns(
     requires phases { (q : ℕ) → q < length columns.now → IsPhaseNet nl.old.cells clocks.now.rst (counter_for (is_early early.now q) counters) }
     requires long { length widths.now ≡ length columns.now }
     requires begun { (q : ℕ) (steps : List Part) → slice_get columns.now q ≡ Some steps → 1 ≤ length steps }
-    requires ready { (q w : ℕ) (steps : List Part) → slice_get columns.now q ≡ Some steps → slice_get widths.now q ≡ Some w → AreReady nl.old.cells clocks.now.rst w (counter_for (is_early early.now q) counters).period ins.now lines.now steps }
+    requires ready { (q w : ℕ) (steps : List Part) → slice_get columns.now q ≡ Some steps → slice_get widths.now q ≡ Some w → AreReady nl.old.cells clocks.now.rst w (counter_for (is_early early.now q) counters).limit ins.now lines.now steps }
     ensures adds { Adds nl.old nl.new (sum_by steps_cells columns.now + 3 * length columns.now) 0 }
     ensures full { IsFullAt result nl.new }
     ensures columns { IfOk result (λ out. AreColumns nl.new.cells clocks.now.rst counters ins.now widths.now early.now columns.now out.items) }
@@ -111,6 +112,19 @@ fn all_columns(
         keep_net(&mut out, net)?;
     }
     Ok(out)
+}
+
+/// The least number that no trip's clock reaches.
+fn limit_of(trips: &[Trip], period: u32) -> u32
+    requires within { (n : ℕ) (trip : Way) → slice_get trips.now n ≡ Some trip → trip.clock < period }
+    ensures below { (n : ℕ) (trip : Way) → slice_get trips.now n ≡ Some trip → trip.clock < result }
+    ensures limited { result ≤ period }
+{
+    let mut limit = 0u32;
+    for trip in trips {
+        limit = limit.max(trip.clock + 1);
+    }
+    limit
 }
 
 /// What a plan says, built: output nets that make every trip, some clocks later, in each block of a period.
@@ -154,7 +168,8 @@ fn build_plan(
     ensures nets { IfOk result (λ out. (q w : ℕ) (y : Net) → slice_get widths.now q ≡ Some w → slice_get out.items q ≡ Some y → IsNet nl.new.cells y.0 w) }
     ensures trips { IfOk result (λ out. MakesTrips nl.new.cells clocks.old.rst period d arrival ins.now out.items trips.now) }
 {
-    let counters = counters(nl, clocks, &schedule.early, period, d, arrival)?;
+    let limit = limit_of(trips, period);
+    let counters = counters(nl, clocks, &schedule.early, period, d, arrival, limit)?;
     let lines = all_lines(alloc, nl, clocks, ins, &schedule.plan.lines)?;
     let out = all_columns(
         alloc,

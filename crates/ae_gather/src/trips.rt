@@ -11,12 +11,13 @@ pub struct Step {
     pub tap: u32,
 }
 
-/// The net of a counter, and what it counts.
+/// The net of a counter, what it counts, and a limit below which the phases are in which something is asked.
 #[derive(Clone, Copy, Debug)]
 pub struct PhaseNet {
     pub net: NetId,
     pub period: u32,
     pub offset: u32,
+    pub limit: u32,
 }
 
 /// The counter of the clocks of trips, and the one that is a clock ahead of it.

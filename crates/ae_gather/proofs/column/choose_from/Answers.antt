@@ -14,7 +14,7 @@ pub returns-clause-column : goal.returns-clause-column
 returns-clause-column c =
     let g2 = grows_trans c.in_ok-taken.ensures.adds.grows c.choose.ensures.adds.grows in
     let g1 = grows_trans c.in_ok-early.ensures.adds.grows g2 in
-    columns_more _ _ _ _ _ c.args.phase.net.0 c.args.ins.now c.args.step.now c.args.before c.in_ok-early.early c.in_ok-taken.taken _ _
+    columns_more _ _ _ _ _ c.args.phase.net.0 c.args.phase.limit c.args.ins.now c.args.step.now c.args.before c.in_ok-early.early c.in_ok-taken.taken _ _
     g1.extends c.choose.ensures.adds.grows.extends c.in_ok-taken.ensures.source c.choose.ensures.net
-    (mark_grows _ _ _ c.in_ok-early.early.0 c.args.phase.net.0 c.args.step.now.from g2.extends c.in_ok-early.ensures.marks)
+    (mark_grows _ _ _ c.args.phase.limit c.in_ok-early.early.0 c.args.phase.net.0 c.args.step.now.from g2.extends c.in_ok-early.ensures.marks)
     c.choose.ensures.words

@@ -15,7 +15,7 @@ loop-k-init c =
     record {
       adds = c.in_ok-net.ensures.adds;
       within = c.requires.begun;
-      column = first_column _ _ _ _ _ c.args.steps.now (get_or c.args.steps.now 0 no_step) _ (slice_get-get_or c.args.steps.now 0 no_step c.requires.begun) c.in_ok-net.ensures.source;
+      column = first_column _ _ _ _ _ _ c.args.steps.now (get_or c.args.steps.now 0 no_step) _ (slice_get-get_or c.args.steps.now 0 no_step c.requires.begun) c.in_ok-net.ensures.source;
     }
 
 pub choose_from-requires-clause-phase : goal.choose_from-requires-clause-phase
@@ -35,7 +35,7 @@ loop-k-preserved c =
     record {
       adds = adds_most _ (omega (arith, c.loop-k.auto.k)) (adds_trans c.loop-k.invariant.adds c.in_ok-net-2.ensures.adds);
       within = omega (arith, c.loop-k-test.true);
-      column = next_column _ _ _ _ _ c.args.steps.now c.loop-k.k (get_or c.args.steps.now c.loop-k.k no_step) _ c.loop-k.auto.k c.loop-k-test.true
+      column = next_column _ _ _ _ _ _ c.args.steps.now c.loop-k.k (get_or c.args.steps.now c.loop-k.k no_step) _ c.loop-k.auto.k c.loop-k-test.true
           (slice_get-get_or c.args.steps.now c.loop-k.k no_step c.loop-k-test.true) (c.in_ok-net-2.ensures.column _ c.loop-k.invariant.column);
     }
 
@@ -46,4 +46,4 @@ pub returns-clause-adds : goal.returns-clause-adds
 returns-clause-adds c = adds_most _ (omega (arith, c.loop-k-test.false, c.loop-k.invariant.within)) c.loop-k.invariant.adds
 
 pub returns-clause-column : goal.returns-clause-column
-returns-clause-column c = whole_column _ _ _ _ _ c.args.steps.now c.loop-k.k _ (omega (arith, c.loop-k-test.false)) c.loop-k.invariant.column
+returns-clause-column c = whole_column _ _ _ _ _ _ c.args.steps.now c.loop-k.k _ (omega (arith, c.loop-k-test.false)) c.loop-k.invariant.column

@@ -8,5 +8,5 @@ abbrev pub invariant-loop-k : goal.invariant-loop-k
 invariant-loop-k l = record {
   adds : Adds l.fn.nl l.nl (1 + 11 * (l.k - 1)) 0;
   within : l.k ≤ length l.steps;
-  column : IsColumn l.nl.cells l.clocks.rst l.width l.phase.net.0 l.ins (λ p. choice_in p (take l.k l.steps)) l.net.0;
+  column : IsColumn l.nl.cells l.clocks.rst l.width l.phase.net.0 l.phase.limit l.ins (λ p. choice_in p (take l.k l.steps)) l.net.0;
 }

@@ -9,7 +9,7 @@ use Rattle.ae_gather.specs.Plans.{IsPlan}
 use Rattle.ae_gather.specs.Early.{AreInTime, hastened, is_early}
 use Rattle.ae_gather.proofs.Building.{begun_of, fitting_grows, steps_ready}
 use Rattle.ae_gather.proofs.Choosing.{phase_grows}
-use Rattle.ae_gather.proofs.Hastened.{fitting_hastened, used_hastened, within_hastened}
+use Rattle.ae_gather.proofs.Hastened.{clocks_hastened, fitting_hastened, used_hastened}
 use Rattle.ae_gather.proofs.Scheduled.{columns_trips, columns_nets, has_grows}
 use Rattle.ae_gather.proofs.moving.build_plan.Goals as goal
 
@@ -40,11 +40,11 @@ all_columns-requires-clause-ready c = λ q w steps there wide.
     let plan : IsPlan c.args.d c.args.schedule.now.moved.items c.deref-2.result.now c.deref-4.result.now = rw (c.deref-2.ensures.value, c.deref-4.ensures.value) c.requires.plan in
     let grown = fitting_grows _ _ c.args.ins.now c.args.widths.now c.args.trips.now (grows_trans c.in_ok-counters.ensures.adds.grows c.in_ok-lines.ensures.grows).extends c.requires.fitting in
     let fitting = fitting_hastened _ c.args.ins.now c.args.widths.now c.args.schedule.now.early.items c.args.trips.now c.args.schedule.now.moved.items c.requires.moved grown in
-    let within = within_hastened _ _ _ _ c.args.schedule.now.early.items c.args.trips.now c.args.schedule.now.moved.items c.requires.moved c.requires.time c.requires.within in
+    let below = clocks_hastened _ c.args.schedule.now.early.items c.args.trips.now c.args.schedule.now.moved.items c.requires.moved c.limit_of-limit.ensures.below in
     let inside = slice_get_within c.deref-4.result.now q steps there in
     let has = rw c.deref.ensures.value at (c.in_ok-counters.ensures.counters q (omega (arith, inside, c.requires.early, c.requires.columns, ap length c.deref.ensures.value, ap length c.deref-4.ensures.value))) in
-    rw (c.in_ok-lines.ensures.keeps.rst, c.deref-3.ensures.value, c.deref-5.ensures.value, has.periodic)
-    (steps_ready _ _ w q c.args.period c.args.d _ _ c.args.ins.now c.args.widths.now c.args.schedule.now.moved.items c.deref-2.result.now _ c.deref-4.result.now steps lines fitting within plan there wide)
+    rw (c.in_ok-lines.ensures.keeps.rst, c.deref-3.ensures.value, c.deref-5.ensures.value, has.limits)
+    (steps_ready _ _ w q c.limit_of-limit.result c.args.d c.args.ins.now c.args.widths.now c.args.schedule.now.moved.items c.deref-2.result.now _ c.deref-4.result.now steps lines fitting below plan there wide)
 
 pub returns-in_err-out-clause-belongs : goal.returns-in_err-out-clause-belongs
 returns-in_err-out-clause-belongs c = belongs_grows _ _ _ c.in_err-out.ensures.adds.grows c.in_ok-lines.ensures.belongs
@@ -72,6 +72,6 @@ returns-clause-trips c =
     let plan : IsPlan c.args.d c.args.schedule.now.moved.items c.deref-2.result.now c.deref-4.result.now = rw (c.deref-2.ensures.value, c.deref-4.ensures.value) c.requires.plan in
     let g = grows_trans c.in_ok-lines.ensures.grows c.in_ok-out.ensures.adds.grows in
     let columns = rw (c.in_ok-lines.ensures.keeps.rst, c.in_ok-counters.ensures.keeps.rst, c.deref-5.ensures.value) at c.in_ok-out.ensures.columns in
-    columns_trips _ _ c.args.period c.args.d c.args.arrival _ _ c.in_ok-counters.counters c.args.ins.now _ c.args.widths.now c.args.schedule.now.early.items c.args.trips.now c.args.schedule.now.moved.items c.deref-2.result.now c.deref-4.result.now
-    c.requires.moved c.requires.time c.requires.within plan (omega (arith, c.requires.columns, ap length c.deref-4.ensures.value))
-    (λ q l. has_grows _ _ _ _ _ _ _ g.extends (rw c.deref.ensures.value at (c.in_ok-counters.ensures.counters q (omega (arith, l, c.requires.early, c.requires.columns, ap length c.deref.ensures.value, ap length c.deref-4.ensures.value))))) columns
+    columns_trips _ _ c.args.period c.args.d c.args.arrival c.limit_of-limit.result _ _ c.in_ok-counters.counters c.args.ins.now _ c.args.widths.now c.args.schedule.now.early.items c.args.trips.now c.args.schedule.now.moved.items c.deref-2.result.now c.deref-4.result.now
+    c.requires.moved c.requires.time c.requires.within c.limit_of-limit.ensures.below plan (omega (arith, c.requires.columns, ap length c.deref-4.ensures.value))
+    (λ q l. has_grows _ _ _ _ _ _ _ _ g.extends (rw c.deref.ensures.value at (c.in_ok-counters.ensures.counters q (omega (arith, l, c.requires.early, c.requires.columns, ap length c.deref.ensures.value, ap length c.deref-4.ensures.value))))) columns
