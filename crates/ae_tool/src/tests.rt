@@ -86,7 +86,7 @@ fn builds_behind_the_report_lines(rt: HostRuntime) -> Result<(), Fail> {
 const NOTED: [(&str, &str); 2] = [
     (
         "fn main x:u8\nq = mul x x\nr = add q x\nend r\n",
-        ");\n  // line 2: q, u8\n  wire [7:0] n2 = i0_0_0 * i0_0_0;\n  reg [7:0] n3;\n  reg [7:0] n4;\n  // line 3: r, u8\n  reg [7:0] n5;\n  reg [7:0] n6;\n  wire [7:0] n7 = n4 + n6;\n  reg [7:0] n8;\n  assign o_0_0 = n8;\n  always @(posedge clk) n3 <= n2;\n  always @(posedge clk) n4 <= n3;\n  always @(posedge clk) n5 <= i0_0_0;\n  always @(posedge clk) n6 <= n5;\n  always @(posedge clk) n8 <= n7;\nendmodule\n",
+        ");\n  // line 2: q, u8\n  reg [7:0] n2;\n  wire [7:0] n3 = n2 * n2;\n  reg [7:0] n4;\n  // line 3: r, u8\n  reg [7:0] n5;\n  wire [7:0] n6 = n4 + n5;\n  reg [7:0] n7;\n  assign o_0_0 = n7;\n  always @(posedge clk) n2 <= i0_0_0;\n  always @(posedge clk) n4 <= n3;\n  always @(posedge clk) n5 <= n2;\n  always @(posedge clk) n7 <= n6;\nendmodule\n",
     ),
     (
         "fn main x:u8\np = pair x x\nq = fst p\nr = add q q\ns = pair r r\nend s\n",
