@@ -2,12 +2,11 @@
 """Each of the 64 demos is the module that `build` writes of its program, and has the summary that the meaning of the
 program gives: the latency that the module's report tells, the clocks of so many blocks, and a word for each block, with
 their sum."""
-import pathlib
 import re
-import subprocess
 import sys
 
-TOP = pathlib.Path(__file__).resolve().parent.parent
+from common import aeth
+
 PROGRAM = """fn sum x:u16 y:u16
 z = add x y
 end z
@@ -19,10 +18,11 @@ end d
 """
 
 
-def aeth(words, text):
-    done = subprocess.run([TOP / "aeth", *words], input=text.encode(), capture_output=True)
-    assert done.returncode == 0, (words, done.stdout[-200:])
-    return done.stdout.decode()
+def written(words, text):
+    """What the compiler writes, where it refuses nothing."""
+    status, out = aeth(words, text)
+    assert status == 0, (words, out[-200:])
+    return out
 
 
 def result(words):
@@ -32,8 +32,8 @@ def result(words):
 
 def main(sizes):
     for size in sizes:
-        built, _, summary = aeth(["demo", str(size)], "").partition("%% summary\n")
-        assert built == aeth(["build", str(4 * size)], PROGRAM % (16 * size)), size
+        built, _, summary = written(["demo", size], "").partition("%% summary\n")
+        assert built == written(["build", 4 * size], PROGRAM % (16 * size)), size
         latency = int(re.search(r"^// latency (\d+)$", built, re.M)[1])
         length, blocks = 16 * size, 2 * size
         words = [(size + 37 * k) % 65536 for k in range(blocks * length)]
