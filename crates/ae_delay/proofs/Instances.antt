@@ -221,7 +221,7 @@ node_sound k s i n h f =
 
 -- ---- the nodes so far
 
-length_grown : {A B : Type 0} (step : List B → A → B) (known : List B) (xs : List A) → length (grown step known xs) ≡ length known + length xs
+pub length_grown : {A B : Type 0} (step : List B → A → B) (known : List B) (xs : List A) → length (grown step known xs) ≡ length known + length xs
 length_grown step known [] = omega arith
 length_grown step known (x ∷ xs) = omega (arith, length_grown step (known ++ step known x ∷ []) xs, length-append known (step known x ∷ []))
 
@@ -255,7 +255,7 @@ grown_from step known (x ∷ xs) =
     let r = grown_from step (known ++ step known x ∷ []) xs in
     (step known x ∷ r.0, r.1 ∙ append_assoc known (step known x ∷ []) r.0)
 
-grown_split : {A B : Type 0} (step : List B → A → B) (known : List B) (xs ys : List A) → grown step known (xs ++ ys) ≡ grown step (grown step known xs) ys
+pub grown_split : {A B : Type 0} (step : List B → A → B) (known : List B) (xs ys : List A) → grown step known (xs ++ ys) ≡ grown step (grown step known xs) ys
 grown_split step known [] ys = refl
 grown_split step known (x ∷ xs) ys = grown_split step (known ++ step known x ∷ []) xs ys
 

@@ -5,4 +5,5 @@ pub mod Chains
 pub mod Items
 pub mod Nodes
 pub mod Instances
+pub mod Light
 pub mod Programs

@@ -4,7 +4,6 @@ use Rattle.std.proofs.lemmas.Bool.{cases_eq, cases_lt}
 use Rattle.std.proofs.lemmas.List.{length-map, length-take-le}
 use Rattle.std.proofs.lemmas.List.Sums.{sum_by-append, sum_by-cons}
 use Rattle.std.proofs.lemmas.Option.{same_Some, slice_get_within}
-use Rattle.ae_seq.specs.Typing.{grown}
 use Rattle.ae_moves.proofs.Lists.{get_mapped}
 use Rattle.ae_rewrite.specs.declared.st_program.StFunc.{StFunc}
 use Rattle.ae_rewrite.specs.StProgramTree.{StFuncTree, st_func_tree, st_func_trees}
@@ -15,8 +14,10 @@ use Rattle.ae_delay.specs.declared.weighing.FuncTiming.{FuncTiming}
 use Rattle.ae_delay.specs.Costs.{LineLoad, NodeTiming, all_costs, first_over, func_costs, func_costs_by, line_loads, node_line, node_timings, result_uses, slack_load, too_large}
 use Rattle.ae_delay.specs.Bounds.{IsBounded}
 use Rattle.ae_delay.specs.Weighing.{AreKnown, IsKnown, IsOverAt, IsTimed}
-use Rattle.ae_delay.specs.Timings.{AreFirst, AreTimes, HasMore, Times, item_arrivals}
-use Rattle.ae_delay.proofs.Instances.{grown_more}
+use Rattle.ae_delay.specs.Timings.{AreTimes, Times, item_arrivals}
+use Rattle.ae_delay.specs.Arriving.{AreFirst, HasMore}
+use Rattle.ae_delay.proofs.Instances.{length_grown}
+use Rattle.ae_delay.proofs.Light.{costs_more, load_at, used_light}
 
 -- ---- known costs, with one more
 
@@ -87,9 +88,6 @@ more_within known s t limit old new h e = record { own = t.arrivals.items; added
 pub more_over : (known : List OwnCosts) (s : StFuncTree) (own : List ℕ) (old new : List (List ℕ)) → 1000000000 ≤ (func_costs known s).load → new ≡ old ++ own ∷ [] → HasMore known s old new
 more_over known s own old new h e = record { own = own; added = e; is = λ l. absurd (omega (arith, h, l)) }
 
-pub costs_more : (instances : List StFuncTree) (k : ℕ) (s : StFuncTree) → slice_get instances k ≡ Some s → all_costs (take (k + 1) instances) ≡ all_costs (take k instances) ++ func_costs (all_costs (take k instances)) s ∷ []
-costs_more instances k s f = grown_more func_costs [] instances k s f
-
 pub arrivals_more : (instances : List StFuncTree) (k : ℕ) (s : StFuncTree) (old new : List (List ℕ)) → slice_get instances k ≡ Some s → AreFirst k instances old → HasMore (all_costs (take k instances)) s old new → AreFirst (k + 1) instances new
 arrivals_more instances k s old new f h more = record {
   long = omega (arith, ap length more.added, length-append old (more.own ∷ []), h.long);
@@ -113,10 +111,6 @@ light_cost s ts limit t e h = (h.costs, h.bounded, omega (arith, h.within, e))
 
 -- ---- a whole program
 
-length_grown : {A B : Type 0} (step : List B → A → B) (known : List B) (xs : List A) → length (grown step known xs) ≡ length known + length xs
-length_grown step known [] = omega arith
-length_grown step known (x ∷ xs) = omega (arith, length_grown step (known ++ step known x ∷ []) xs, length-append known (step known x ∷ []))
-
 pub sound_at : (p : List StFunc) (k : ℕ) (s : StFunc) (known : List (Option OwnCosts)) → IsSound (st_func_trees p) → slice_get p k ≡ Some s → AreKnown known (all_costs (take k (st_func_trees p))) → IsSoundFunc (length known) (st_func_tree s)
 sound_at p k s known sound f h =
     let g : slice_get (st_func_trees p) k ≡ Some (st_func_tree s) = get_mapped st_func_tree p k s f in
@@ -130,22 +124,28 @@ known_next p k s known f h = rw (costs_more (st_func_trees p) k (st_func_tree s)
 pub arrivals_next : (p : List StFunc) (k : ℕ) (s : StFunc) (old new : List (List ℕ)) → slice_get p k ≡ Some s → AreFirst k (st_func_trees p) old → HasMore (all_costs (take k (st_func_trees p))) (st_func_tree s) old new → AreFirst (k + 1) (st_func_trees p) new
 arrivals_next p k s old new f h more = arrivals_more (st_func_trees p) k (st_func_tree s) old new (get_mapped st_func_tree p k s f) h more
 
-pub end_times : (p : List StFunc) (last : ℕ) (s : StFunc) (t : FuncTiming) (limit : ℕ) (old : List (List ℕ)) (v : Times) → last ≡ length p - 1 → slice_get p last ≡ Some s → IsTimed (st_func_tree s) (node_timings (all_costs (take last (st_func_trees p))) (st_func_tree s)) limit t
+pub end_times : (p : List StFunc) (last : ℕ) (s : StFunc) (t : FuncTiming) (limit : ℕ) (old : List (List ℕ)) (v : Times) → IsSound (st_func_trees p) → limit < 1000000000 → last ≡ length p - 1 → slice_get p last ≡ Some s → IsTimed (st_func_tree s) (node_timings (all_costs (take last (st_func_trees p))) (st_func_tree s)) limit t
     → AreFirst last (st_func_trees p) old → v.costs ≡ t.costs → v.arrivals ≡ old ++ t.arrivals.items ∷ [] → v.nodes ≡ t.nodes.items → AreTimes (st_func_trees p) v
-end_times p last s t limit old v e f w first ec ea en =
+end_times p last s t limit old v sound few e f w first ec ea en =
     let instances : List StFuncTree = st_func_trees p in
     let g : slice_get instances last ≡ Some (st_func_tree s) = get_mapped st_func_tree p last s f in
     let long : length instances ≡ length p = length-map p st_func_tree in
     let low : last < length instances = slice_get_within instances last (st_func_tree s) g in
     let at : length instances - 1 ≡ last = omega (arith, e, long) in
     let all : AreFirst (last + 1) instances v.arrivals = arrivals_more instances last (st_func_tree s) old v.arrivals g first (more_within (all_costs (take last instances)) (st_func_tree s) t limit old v.arrivals w ea) in
+    let top : (u : StFuncTree) → slice_get instances (length instances - 1) ≡ Some u → load_at instances (length instances - 1) u ≤ limit = λ u h.
+    (let same : st_func_tree s ≡ u = same_Some (st_func_tree s) u (sym g ∙ rw at at h) in
+    let load : t.costs.load ≡ load_at instances last (st_func_tree s) = ap (λ (c : OwnCosts). c.load) w.costs in
+    rw (at, ← same) (omega (arith, load, w.within))) in
     record {
+      many = omega (arith, all.long, low, at);
       costs = λ u h.
           let same : st_func_tree s ≡ u = same_Some (st_func_tree s) u (sym g ∙ rw at at h) in
           rw (at, ← same) (ec ∙ w.costs);
-      arrivals = λ k u h light.
+      arrivals = λ k u h.
           let l : k < length instances = slice_get_within instances k u h in
-          all.each k u (omega arith) h light;
+          let light : load_at instances k u ≤ limit = used_light instances limit sound top k (sound.used k u h) u h in
+          all.each k u (omega arith) h (omega (arith, light, few));
       nodes = λ u h.
           let same : st_func_tree s ≡ u = same_Some (st_func_tree s) u (sym g ∙ rw at at h) in
           rw (at, ← same) (en ∙ w.nodes);

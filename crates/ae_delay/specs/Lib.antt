@@ -4,3 +4,4 @@ pub mod OwnCosts
 pub mod Costs
 pub mod Weighing
 pub mod Timings
+pub mod Arriving

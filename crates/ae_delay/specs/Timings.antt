@@ -1,5 +1,5 @@
 -- The timing of a program: its costs, the arrivals of its items, and what each node of the program function costs.
-use Rattle.std.specs.Prelude.{◌≡◌, ℕ, ◌-◌, ◌<◌, List, [], ◌∷◌, ◌++◌, length, map, take, Some, slice_get}
+use Rattle.std.specs.Prelude.{◌≡◌, ℕ, ◌-◌, List, length, map, take, Some, slice_get}
 use Rattle.ae_rewrite.specs.StProgramTree.{StFuncTree}
 use Rattle.ae_delay.specs.declared.own.OwnCosts.{OwnCosts}
 use Rattle.ae_delay.specs.declared.weighing.Cost.{Cost}
@@ -16,24 +16,13 @@ pub record Times : Type 0 where
 abbrev pub item_arrivals : (known : List OwnCosts) → StFuncTree → List ℕ
 item_arrivals known s = arrivals_of s.ins (node_timings known s)
 
--- the arrivals of each instance with a load below 1,000,000,000
+-- the arrivals of each instance
 abbrev pub AreArrivals : List StFuncTree → List (List ℕ) → Type 0
-AreArrivals instances all =
-    (k : ℕ) (s : StFuncTree) → slice_get instances k ≡ Some s → (func_costs (all_costs (take k instances)) s).load < 1000000000 → slice_get all k ≡ Some (item_arrivals (all_costs (take k instances)) s)
+AreArrivals instances all = (k : ℕ) (s : StFuncTree) → slice_get instances k ≡ Some s → slice_get all k ≡ Some (item_arrivals (all_costs (take k instances)) s)
 
 -- the program function is the last instance
 pub record AreTimes (instances : List StFuncTree) (t : Times) : Type 0 where
   pub costs : (s : StFuncTree) → slice_get instances (length instances - 1) ≡ Some s → t.costs ≡ func_costs (all_costs (take (length instances - 1) instances)) s
+  pub many : length t.arrivals ≡ length instances
   pub arrivals : AreArrivals instances t.arrivals
   pub nodes : (s : StFuncTree) → slice_get instances (length instances - 1) ≡ Some s → t.nodes ≡ map cost_of (node_timings (all_costs (take (length instances - 1) instances)) s)
-
--- the arrivals of one more instance, where its load is below 1,000,000,000
-pub record HasMore (known : List OwnCosts) (s : StFuncTree) (old new : List (List ℕ)) : Type 0 where
-  pub own : List ℕ
-  pub added : new ≡ old ++ own ∷ []
-  pub is : (func_costs known s).load < 1000000000 → own ≡ item_arrivals known s
-
--- the arrivals of so many instances
-pub record AreFirst (count : ℕ) (instances : List StFuncTree) (all : List (List ℕ)) : Type 0 where
-  pub long : length all ≡ count
-  pub each : (k : ℕ) (s : StFuncTree) → k < count → slice_get instances k ≡ Some s → (func_costs (all_costs (take k instances)) s).load < 1000000000 → slice_get all k ≡ Some (item_arrivals (all_costs (take k instances)) s)

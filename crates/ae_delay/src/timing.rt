@@ -7,7 +7,8 @@ ghost use Rattle.ae_rewrite.specs.Sound.{IsSoundFunc};
 ghost use Rattle.ae_delay.specs.declared.own.OwnCosts.{OwnCosts as Owned};
 ghost use Rattle.ae_delay.specs.Costs.{func_costs, too_large};
 ghost use Rattle.ae_delay.specs.Weighing.{AreKnown, IsOverAt};
-ghost use Rattle.ae_delay.specs.Timings.{AreTimes, HasMore};
+ghost use Rattle.ae_delay.specs.Arriving.{HasMore};
+ghost use Rattle.ae_delay.specs.Timings.{AreTimes};
 
 use crate::own::OwnCosts;
 use crate::weighing::{Cost, FuncTiming, Weighed, weigh};

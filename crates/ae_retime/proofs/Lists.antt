@@ -1,26 +1,29 @@
 -- Lists of slacks, chains and arrivals.
-use Rattle.std.proofs.Common.{ℕ, zero, suc, ◌≡◌, ◌+◌, ◌-◌, ◌<◌, ◌≤◌, max, inl, inr, Bool, true, false, List, [], ◌∷◌, ◌++◌, length, map, take, replicate, Some, None, slice_get, get_or, arith, refl, sym, ap, ◌∙◌, length-append}
+use Rattle.std.proofs.Common.{ℕ, zero, suc, ◌≡◌, ◌+◌, ◌-◌, ◌<◌, ◌≤◌, max, inl, inr, List, [], ◌∷◌, ◌++◌, length, map, take, replicate, Some, slice_get, get_or, arith, refl, sym, ap, ◌∙◌, length-append}
 use Rattle.std.specs.List.{range_with_len, flat_map}
-use Rattle.std.specs.Option.{option_and_then}
-use Rattle.std.specs.Bool.{◌==◌}
-use Rattle.std.proofs.lemmas.Bool.{cases_eq, cases_lt, eq-eqb, ne_eqb, eqb-true}
+use Rattle.std.proofs.lemmas.Bool.{cases_eq}
 use Rattle.std.proofs.lemmas.List.{ext_get_or, get_or-replicate, length-map, length-replicate, map-append, take_all}
 use Rattle.std.proofs.lemmas.List.FromFn.{get_or-map-range_with_len, length-map-range_with_len}
-use Rattle.std.proofs.lemmas.Option.{same_Some, slice_get-get_or, slice_get_within}
+use Rattle.std.proofs.lemmas.Option.{same_Some}
 use Rattle.std.proofs.lemmas.Grind.{flat_map-append}
 use Rattle.ae_rewrite.specs.declared.st_program.StNode.{StNode}
 use Rattle.ae_rewrite.specs.declared.st_program.StFunc.{StFunc}
-use Rattle.ae_rewrite.specs.StProgramTree.{StNodeTree, StFuncTree, st_func_tree, st_func_trees, st_node_tree, st_node_trees, st_trees}
-use Rattle.ae_sttype.specs.StTree.{st_tree}
+use Rattle.ae_rewrite.specs.StProgramTree.{StNodeTree, StFuncTree, st_func_tree, st_func_trees, st_node_tree, st_node_trees}
+use Rattle.ae_sttype.specs.StTree.{StTree}
 use Rattle.ae_rewrite.specs.Scheduled.{node_layouts}
 use Rattle.ae_rewrite.specs.Sound.{IsSound, IsSoundFunc, item_layouts}
 use Rattle.ae_rewrite.proofs.Grown.{get_in_front, get_last}
 use Rattle.ae_moves.proofs.Lists.{get_mapped, take_push}
-use Rattle.ae_delay.specs.Costs.{Use, chain_of, latest}
+use Rattle.ae_delay.specs.declared.own.OwnCosts.{OwnCosts}
+use Rattle.ae_delay.specs.Costs.{NodeTiming, Use, all_costs, chain_of, latest, next_timing, node_timings}
+use Rattle.ae_delay.specs.Timings.{AreTimes, Times, item_arrivals}
 use Rattle.ae_delay.specs.Weighing.{deepened, deepened_by}
 use Rattle.ae_delay.proofs.Chains.{AreUses, deepened_at, length_deepened}
-use Rattle.ae_delay.proofs.Instances.{node_sound, uses_below}
-use Rattle.ae_retime.specs.Slacks.{AreArguments, AreByInstance, AreChains, AreSlacks, AreTold, SlackTables, UsesBelow, item_chains, item_uses, joint_slacks, joint_uses, result_slacks, told_arrivals}
+use Rattle.ae_delay.proofs.Instances.{length_grown, node_sound, uses_below}
+use Rattle.ae_retime.specs.Slacks.{AreArguments, AreByInstance, AreChains, AreSlacks, SlackTables, UsesBelow, arrivals_in, item_chains, item_uses, joint_slacks, joint_uses}
+
+pub tree_at : (p : List StFunc) (k : ℕ) (s : StFunc) → slice_get p k ≡ Some s → slice_get (st_func_trees p) k ≡ Some (st_func_tree s)
+tree_at p k s f = get_mapped st_func_tree p k s f
 
 -- ---- nodes
 
@@ -32,57 +35,46 @@ uses_sound k s arrivals long h = record {
 
 -- ---- arrivals
 
-pub told_at : (all : List (List ℕ)) (k i : ℕ) → option_and_then (λ xs. slice_get xs i) (slice_get all k) ≡ slice_get (get_or all k []) i
-told_at [] k zero = refl
-told_at [] k (suc i) = refl
-told_at (xs ∷ all) zero i = refl
-told_at (xs ∷ all) (suc k) i = told_at all k i
+pub layouts_long : (s : StFuncTree) → length (item_layouts s) ≡ length s.ins + length s.nodes
+layouts_long s = omega (arith, length-append s.ins (node_layouts s.nodes), length-map s.nodes (λ (x : StNodeTree). x.type))
 
-pub more_told : (told own : List ℕ) (i clock : ℕ) → slice_get told i ≡ Some clock → own ≡ take i told → own ++ clock ∷ [] ≡ take (i + 1) told
-more_told told own i clock f e = ap (λ xs. xs ++ clock ∷ []) e ∙ sym (take_push told i clock f)
+arrivals_long : (known : List OwnCosts) (s : StFuncTree) → length (item_arrivals known s) ≡ length (item_layouts s)
+arrivals_long known s =
+    let ts : List NodeTiming = node_timings known s in
+    omega (arith, layouts_long s, length-append (map (λ (x : StTree). 0) s.ins) (map (λ (t : NodeTiming). t.arrival) ts), length-map {B = ℕ} s.ins (λ (x : StTree). 0), length-map ts (λ (t : NodeTiming). t.arrival), length_grown (next_timing known s) [] s.nodes)
 
-pub longer_told : (told : List ℕ) (items clock : ℕ) → slice_get told items ≡ Some clock → (length told == items) ≡ false
-longer_told told items clock f = let l : items < length told = slice_get_within told items clock f in ne_eqb (length told) items (λ e. omega arith)
+-- what is told of an instance
+pub record IsTold (instances : List StFuncTree) (k : ℕ) (s : StFuncTree) (own : List ℕ) : Type 0 where
+  pub is : own ≡ arrivals_in instances k s
+  pub long : length own ≡ length (item_layouts s)
+  pub uses : UsesBelow (length own) s
 
--- an item that has no arrival stands past the end
-no_item : (told : List ℕ) (i : ℕ) → slice_get told i ≡ None → length told ≤ i
-no_item told i f = elim (cases_lt i (length told)) [
-  | inl l ↦ (let g : slice_get told i ≡ Some (get_or told i 0) = slice_get-get_or told i 0 l in cc)
-  | inr l ↦ l
-]
+pub told_at : (p : List StFunc) (t : Times) (k : ℕ) (s : StFunc) (own : List ℕ) → IsSound (st_func_trees p) → AreTimes (st_func_trees p) t → slice_get p k ≡ Some s → slice_get t.arrivals k ≡ Some own → IsTold (st_func_trees p) k (st_func_tree s) own
+told_at p t k s own sound times here told =
+    let instances : List StFuncTree = st_func_trees p in
+    let there : slice_get instances k ≡ Some (st_func_tree s) = tree_at p k s here in
+    let is : own ≡ arrivals_in instances k (st_func_tree s) = same_Some own (arrivals_in instances k (st_func_tree s)) (sym told ∙ times.arrivals k (st_func_tree s) there) in
+    let long : length own ≡ length (item_layouts (st_func_tree s)) = ap length is ∙ arrivals_long (all_costs (take k instances)) (st_func_tree s) in
+    record { is = is; long = long; uses = uses_sound k (st_func_tree s) own long (sound.each k (st_func_tree s) there) }
 
-pub all_told : (told own : List ℕ) (items i : ℕ) → slice_get told items ≡ None → i ≤ length told → items ≤ i → i ≤ items → own ≡ take i told → ((length told == items) ≡ true) × (own ≡ told)
-all_told told own items i f low least most e =
-    let past : length told ≤ items = no_item told items f in
-    (eq-eqb (length told) items (omega arith), e ∙ take_all i told (omega arith))
+pub told_many : (p : List StFunc) (t : Times) (count k : ℕ) → AreTimes (st_func_trees p) t → count ≡ length p → k < count → k < length t.arrivals
+told_many p t count k times e low = omega (arith, times.many, length-map p st_func_tree)
 
-pub layouts_long : (s : StFunc) → length (item_layouts (st_func_tree s)) ≡ length s.ins.items + length s.nodes.items
-layouts_long s = omega (arith, length-append (st_trees s.ins.items) (node_layouts (st_node_trees s.nodes.items)), length-map s.ins.items st_tree, length-map s.nodes.items st_node_tree, length-map (st_node_trees s.nodes.items) (λ (x : StNodeTree). x.type))
-
-pub told_uses : (k : ℕ) (s : StFunc) (told own : List ℕ) (items : ℕ) → IsSoundFunc k (st_func_tree s) → items ≡ length s.ins.items + length s.nodes.items → AreTold told items (Some own) → UsesBelow (length own) (st_func_tree s)
-told_uses k s told own items h e t =
-    let same : length told ≡ items = eqb-true (length told) items t.0 in
-    uses_sound k (st_func_tree s) own (omega (arith, ap length t.1, same, layouts_long s)) h
-
-pub told_long : (s : StFunc) (told own : List ℕ) (items : ℕ) → items ≡ length s.ins.items + length s.nodes.items → AreTold told items (Some own) → length own ≡ length (item_layouts (st_func_tree s))
-told_long s told own items e t =
-    let same : length told ≡ items = eqb-true (length told) items t.0 in
-    omega (arith, ap length t.1, same, layouts_long s)
-
-pub told_all : (s : StFunc) (told : List ℕ) (items : ℕ) (is : Bool) → items ≡ length s.ins.items + length s.nodes.items → (length told == items) ≡ is → (length told == length (item_layouts (st_func_tree s))) ≡ is
-told_all s told items is e t = ap (λ n. length told == n) (layouts_long s ∙ sym e) ∙ t
+pub told_last : (p : List StFunc) (t : Times) (count : ℕ) → IsSound (st_func_trees p) → AreTimes (st_func_trees p) t → count ≡ length p → count - 1 < length t.arrivals
+told_last p t count sound times e = omega (arith, times.many, sound.some, length-map p st_func_tree)
 
 -- ---- lists by instance
 
-pub by_more : {X : Type 0} (f : ℕ → StFuncTree → X) (instances : List StFuncTree) (k : ℕ) (s : StFuncTree) (old new : List X) → slice_get instances k ≡ Some s → AreByInstance f instances k old → new ≡ old ++ f k s ∷ [] → AreByInstance f instances (k + 1) new
-by_more f instances k s old new found h e = record {
-  long = omega (arith, ap length e, length-append old (f k s ∷ []), h.long);
+pub by_more : {X : Type 0} (f : ℕ → StFuncTree → X) (instances : List StFuncTree) (k : ℕ) (s : StFuncTree) (x : X) (old new : List X) → slice_get instances k ≡ Some s → AreByInstance f instances k old → new ≡ old ++ x ∷ [] → x ≡ f k s → AreByInstance f instances (k + 1) new
+by_more f instances k s x old new found h e is = record {
+  long = omega (arith, ap length e, length-append old (x ∷ []), h.long);
   each = λ j u l g. elim (cases_eq j k) [
     | inl at ↦
         let g' : slice_get instances k ≡ Some u = rw at at g in
         let same : s ≡ u = same_Some s u (sym found ∙ g') in
-        rw (at, ← same, e, ← h.long) (get_last old (f (length old) s))
-    | inr ne ↦ rw e (get_in_front old (f k s ∷ []) j (f j u) (h.each j u (omega arith) g))
+        let here : slice_get new k ≡ Some x = rw (e, ← h.long) (get_last old x) in
+        rw (at, ← same) (here ∙ ap Some is)
+    | inr ne ↦ rw e (get_in_front old (x ∷ []) j (f j u) (h.each j u (omega arith) g))
   ];
 }
 
@@ -168,15 +160,9 @@ chains_end arrivals s items i results old new ei l long below er eo en =
 
 -- ---- a program
 
-pub sound_at : (p : List StFunc) (k : ℕ) (s : StFunc) → IsSound (st_func_trees p) → slice_get p k ≡ Some s → IsSoundFunc k (st_func_tree s)
-sound_at p k s h f = h.each k (st_func_tree s) (get_mapped st_func_tree p k s f)
-
-pub tree_at : (p : List StFunc) (k : ℕ) (s : StFunc) → slice_get p k ≡ Some s → slice_get (st_func_trees p) k ≡ Some (st_func_tree s)
-tree_at p k s f = get_mapped st_func_tree p k s f
-
-pub matched : (all : List (List ℕ)) (p : List StFunc) (count k : ℕ) (s : StFunc) (t : SlackTables) → count ≡ length p → count ≤ k → k ≤ count → slice_get p (count - 1) ≡ Some s → AreArguments all (st_func_trees p) k t.arguments → AreChains all (st_func_trees p) k t.chains
-    → t.results ≡ result_slacks (told_arrivals all (count - 1)) (st_func_tree s) → AreSlacks all (st_func_trees p) t
-matched all p count k s t e least most f arguments chains results =
+pub matched : (p : List StFunc) (count k : ℕ) (s : StFunc) (own : List ℕ) (t : SlackTables) → count ≡ length p → count ≤ k → k ≤ count → slice_get p (count - 1) ≡ Some s → AreArguments (st_func_trees p) k t.arguments → AreChains (st_func_trees p) k t.chains
+    → own ≡ arrivals_in (st_func_trees p) (count - 1) (st_func_tree s) → t.results ≡ joint_slacks own s.results.items → AreSlacks (st_func_trees p) t
+matched p count k s own t e least most f arguments chains is results =
     let long : k ≡ length (st_func_trees p) = omega (arith, length-map p st_func_tree) in
     let last : length (st_func_trees p) - 1 ≡ count - 1 = omega (arith, length-map p st_func_tree) in
     record {
@@ -184,5 +170,5 @@ matched all p count k s t e least most f arguments chains results =
       chains = rw long at chains;
       results = λ u g.
           let same : st_func_tree s ≡ u = same_Some (st_func_tree s) u (sym (tree_at p (count - 1) s f) ∙ rw last at g) in
-          rw (last, ← same) results;
+          rw (last, ← same) (results ∙ ap (λ xs. joint_slacks xs s.results.items) is);
     }

@@ -1,9 +1,10 @@
--- How long before it is used each item of a program arrives, by the arrivals that its timing tells.
-use Rattle.std.specs.Prelude.{◌≡◌, ℕ, ◌-◌, ◌<◌, List, [], ◌++◌, map, length, true, false, ◌==◌, Option, Some, None, slice_get, slice_index, slice_index_or, if◌then◌else◌}
+-- How long before it is used each item of a program arrives.
+use Rattle.std.specs.Prelude.{◌≡◌, ℕ, ◌-◌, ◌<◌, List, ◌++◌, map, length, take, Some, slice_get, slice_index}
 use Rattle.std.specs.List.{range_with_len, flat_map}
 use Rattle.ae_rewrite.specs.StProgramTree.{StNodeTree, StFuncTree}
 use Rattle.ae_rewrite.specs.Sound.{item_layouts}
-use Rattle.ae_delay.specs.Costs.{Use, chain_of, latest, uses_at}
+use Rattle.ae_delay.specs.Costs.{Use, all_costs, chain_of, latest, uses_at}
+use Rattle.ae_delay.specs.Timings.{item_arrivals}
 use Rattle.ae_delay.specs.Weighing.{AllBelow}
 
 -- what is seen of slacks: those of arguments by instance, node and argument, chains by instance and item, and those of the program's results
@@ -36,36 +37,26 @@ item_chains arrivals s = map (λ i. chain_of (item_uses arrivals s) i) (range_wi
 
 -- ---- of a program
 
--- the arrivals that a timing tells of instance k
-abbrev pub told_arrivals : List (List ℕ) → (k : ℕ) → List ℕ
-told_arrivals all k = slice_index_or all k []
-
--- none where not every item has an arrival, as in a heavy instance
-abbrev pub func_slacks : (arrivals : List ℕ) → StFuncTree → List (List ℕ)
-func_slacks arrivals s = if length arrivals == length (item_layouts s) then argument_slacks arrivals s else []
-
-abbrev pub func_chains : (arrivals : List ℕ) → StFuncTree → List ℕ
-func_chains arrivals s = if length arrivals == length (item_layouts s) then item_chains arrivals s else []
-
-abbrev pub result_slacks : (arrivals : List ℕ) → StFuncTree → List ℕ
-result_slacks arrivals s = if length arrivals == length (item_layouts s) then joint_slacks arrivals s.results else []
+-- the arrivals of the items of instance k
+abbrev pub arrivals_in : List StFuncTree → (k : ℕ) → StFuncTree → List ℕ
+arrivals_in instances k s = item_arrivals (all_costs (take k instances)) s
 
 -- one for each of the first instances: what f says of its number and the instance
 pub record AreByInstance {X : Type 0} (f : ℕ → StFuncTree → X) (instances : List StFuncTree) (count : ℕ) (xs : List X) : Type 0 where
   pub long : length xs ≡ count
   pub each : (k : ℕ) (s : StFuncTree) → k < count → slice_get instances k ≡ Some s → slice_get xs k ≡ Some (f k s)
 
-abbrev pub AreArguments : (all : List (List ℕ)) → List StFuncTree → (count : ℕ) → List (List (List ℕ)) → Type 0
-AreArguments all instances count xs = AreByInstance (λ k s. func_slacks (told_arrivals all k) s) instances count xs
+abbrev pub AreArguments : List StFuncTree → (count : ℕ) → List (List (List ℕ)) → Type 0
+AreArguments instances count xs = AreByInstance (λ k s. argument_slacks (arrivals_in instances k s) s) instances count xs
 
-abbrev pub AreChains : (all : List (List ℕ)) → List StFuncTree → (count : ℕ) → List (List ℕ) → Type 0
-AreChains all instances count xs = AreByInstance (λ k s. func_chains (told_arrivals all k) s) instances count xs
+abbrev pub AreChains : List StFuncTree → (count : ℕ) → List (List ℕ) → Type 0
+AreChains instances count xs = AreByInstance (λ k s. item_chains (arrivals_in instances k s) s) instances count xs
 
--- the slacks by these arrivals; the program function is the last instance
-pub record AreSlacks (all : List (List ℕ)) (instances : List StFuncTree) (t : SlackTables) : Type 0 where
-  pub arguments : AreArguments all instances (length instances) t.arguments
-  pub chains : AreChains all instances (length instances) t.chains
-  pub results : (s : StFuncTree) → slice_get instances (length instances - 1) ≡ Some s → t.results ≡ result_slacks (told_arrivals all (length instances - 1)) s
+-- the program function is the last instance
+pub record AreSlacks (instances : List StFuncTree) (t : SlackTables) : Type 0 where
+  pub arguments : AreArguments instances (length instances) t.arguments
+  pub chains : AreChains instances (length instances) t.chains
+  pub results : (s : StFuncTree) → slice_get instances (length instances - 1) ≡ Some s → t.results ≡ joint_slacks (arrivals_in instances (length instances - 1) s) s.results
 
 -- ---- what the code knows
 
@@ -73,8 +64,3 @@ pub record AreSlacks (all : List (List ℕ)) (instances : List StFuncTree) (t : 
 pub record UsesBelow (count : ℕ) (s : StFuncTree) : Type 0 where
   pub nodes : (i : ℕ) (n : StNodeTree) → slice_get s.nodes i ≡ Some n → AllBelow n.args count
   pub results : AllBelow s.results count
-
--- the arrivals of so many items, or that another number is told
-abbrev pub AreTold : (arrivals : List ℕ) (items : ℕ) → Option (List ℕ) → Type 0
-AreTold arrivals items None = (length arrivals == items) ≡ false
-AreTold arrivals items (Some own) = ((length arrivals == items) ≡ true) × (own ≡ arrivals)

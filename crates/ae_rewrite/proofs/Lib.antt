@@ -14,4 +14,5 @@ pub mod Planning
 pub mod Whole
 mod Accepted
 mod WordKinds
+mod Used
 mod Sound

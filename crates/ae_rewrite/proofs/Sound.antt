@@ -34,6 +34,7 @@ use Rattle.ae_rewrite.proofs.Items.{param-type, typed-node}
 use Rattle.ae_rewrite.proofs.WordKinds.{kind-place, words-atoms, fit-length, fit-at}
 use Rattle.ae_rewrite.proofs.Laid.{Laid, laid, laid_whole}
 use Rattle.ae_rewrite.proofs.Reached.{reached-within}
+use Rattle.ae_rewrite.proofs.Used.{schedule_used}
 
 -- ---- how a sequence is spread
 
@@ -531,4 +532,5 @@ pub schedule_sound : (p : ProgramTree) (slowdown : ℕ) (all : List StFuncTree) 
 schedule_sound p slowdown all good accepted some limit h filled = record {
   some = let inside = slice_get_within all (length all - 1) h.last.instance h.last.here in omega (arith, inside);
   each = λ k s at. func_sound p slowdown all k s good accepted some limit h filled at;
+  used = λ k s at. schedule_used p slowdown all h k s at;
 }

@@ -1,5 +1,5 @@
--- What is sure of every program in space and time: arguments stand above, amounts are within limits, and each operator fits its layouts.
-use Rattle.std.specs.Prelude.{◌≡◌, ℕ, ◌+◌, ◌*◌, ◌%◌, ◌^◌, ◌<◌, ◌≤◌, List, [], ◌∷◌, ◌++◌, length, map, take, Some, slice_get, slice_index_or}
+-- What is sure of every program in space and time: arguments stand above, amounts are within limits, each operator fits its layouts, and each instance is used.
+use Rattle.std.specs.Prelude.{◌≡◌, ℕ, ◌+◌, ◌-◌, ◌*◌, ◌%◌, ◌^◌, ◌<◌, ◌≤◌, List, [], ◌∷◌, ◌++◌, length, map, take, Some, slice_get, slice_index_or}
 use Rattle.ae_word.specs.AtomTree.{WordKind, atom_kinds, unsigned_word}
 use Rattle.ae_sttype.specs.StTree.{StTree, atom, sseq, st_atoms, element_atom, element_words}
 use Rattle.ae_rewrite.specs.declared.st_program.MoveOp.{MoveOp}
@@ -70,7 +70,13 @@ pub record IsSoundFunc (k : ℕ) (s : StFuncTree) : Type 0 where
   pub some_results : 1 ≤ length s.results
   pub few_results : length s.results ≤ 8
 
--- some instances, each of which only calls those before it
+-- the instance is used: it is the program function's, which is the last, or a node of a used one calls it
+pub data IsUsed (instances : List StFuncTree) : (k : ℕ) → Type 0 where
+  as_last : (k : ℕ) → k ≡ length instances - 1 → IsUsed instances k
+  as_called : (k caller j : ℕ) (s : StFuncTree) (n : StNodeTree) → IsUsed instances caller → slice_get instances caller ≡ Some s → slice_get s.nodes j ≡ Some n → n.op ≡ body k → IsUsed instances k
+
+-- some instances, each of which only calls those before it, and is used
 pub record IsSound (instances : List StFuncTree) : Type 0 where
   pub some : 1 ≤ length instances
   pub each : (k : ℕ) (s : StFuncTree) → slice_get instances k ≡ Some s → IsSoundFunc k s
+  pub used : (k : ℕ) (s : StFuncTree) → slice_get instances k ≡ Some s → IsUsed instances k

@@ -1,8 +1,6 @@
 -- What is so of the program function of a costed program, and of its instance.
-use Rattle.std.proofs.Common.{◌≡◌, ℕ, zero, suc, ◌+◌, ◌-◌, ◌<◌, ◌≤◌, Bool, true, false, ◌&&◌, List, [], ◌∷◌, ◌++◌, length, length-append, map, take, sum_by, nat_lt, Some, None, slice_get, refl, ap, sym, ◌∙◌, arith, inl, inr, IsTrue}
+use Rattle.std.proofs.Common.{◌≡◌, ℕ, zero, suc, ◌+◌, ◌-◌, ◌≤◌, Bool, true, false, ◌&&◌, List, [], ◌∷◌, ◌++◌, length, length-append, map, take, Some, slice_get, refl, ap, sym, ◌∙◌, arith, IsTrue}
 use Rattle.std.proofs.lemmas.List.{length-map}
-use Rattle.std.proofs.lemmas.List.Sums.{sum_by-append, sum_by-cons}
-use Rattle.std.proofs.lemmas.Bool.{cases_lt}
 use Rattle.std.proofs.lemmas.Option.{none-some, same_Some}
 use Rattle.std.proofs.lemmas.Bool.Decides.{nat_tests}
 use Rattle.ae_seq.specs.Typing.{grown}
@@ -16,7 +14,7 @@ use Rattle.ae_rewrite.specs.Scheduled.{Keys, HasKey, IsSchedule, AreStNodes, nod
 use Rattle.ae_rewrite.specs.Sound.{IsSound, item_layouts}
 use Rattle.ae_rewrite.proofs.Forms.{formed-of, few-nodes}
 use Rattle.ae_delay.specs.declared.own.OwnCosts.{OwnCosts}
-use Rattle.ae_delay.specs.Costs.{LineLoad, NodeTiming, all_costs, first_over, func_costs, func_costs_by, line_loads, next_timing, node_line, node_timings, result_uses, slack_load, too_large}
+use Rattle.ae_delay.specs.Costs.{NodeTiming, all_costs, func_costs, next_timing, node_timings, too_large}
 use Rattle.ae_delay.specs.Timings.{AreTimes, Times, item_arrivals}
 use Rattle.ae_delay.specs.Weighing.{IsOverAt, cost_of}
 use Rattle.ae_tool.specs.Schedules.{HasLargeLoad, HasMain, IsScheduled, load_limit}
@@ -86,46 +84,15 @@ arrivals_many known s =
     let b : length (item_layouts s) ≡ length s.ins + length (node_layouts s.nodes) = length-append s.ins (node_layouts s.nodes) in
     omega (arith, a, b, length-map {B = ℕ} s.ins (λ (x : StTree). 0), length-map ts (λ (t : NodeTiming). t.arrival), length-map s.nodes (λ (x : StNodeTree). x.type), timings_many known s)
 
-within_limit : (limit sum : ℕ) (ls : List LineLoad) → sum ≤ limit → first_over limit sum ls ≡ None → sum + sum_by (λ (x : LineLoad). x.load) ls ≤ limit
-within_limit limit sum [] few h = omega (arith, few)
-within_limit limit sum (l ∷ ls) few h = elim (cases_lt limit (sum + l.load)) [
-  | inl low ↦
-      let t : nat_lt limit (sum + l.load) ≡ true = search (arith) in
-      let e = rw t at h in
-      absurd (none-some _ (sym e))
-  | inr high ↦
-      let t : nat_lt limit (sum + l.load) ≡ false = search (arith) in
-      let c : sum_by (λ (x : LineLoad). x.load) (l ∷ ls) ≡ l.load + sum_by (λ (x : LineLoad). x.load) ls = sum_by-cons (λ (x : LineLoad). x.load) l ls in
-      omega (arith, c, within_limit limit (sum + l.load) ls high (rw t at h))
-]
-
-node_sum : (ts : List NodeTiming) → sum_by (λ (x : LineLoad). x.load) (map node_line ts) ≡ sum_by (λ (t : NodeTiming). t.load) ts
-node_sum [] = refl
-node_sum (t ∷ ts) = omega (arith, sum_by-cons (λ (x : LineLoad). x.load) (node_line t) (map node_line ts), sum_by-cons (λ (x : NodeTiming). x.load) t ts, node_sum ts)
-
-light : (limit : ℕ) (s : StFuncTree) (ts : List NodeTiming) → first_over limit 0 (line_loads s ts) ≡ None → (func_costs_by s ts).load ≤ limit
-light limit s ts h =
-    let last : LineLoad = record { line = s.end_line; load = slack_load (item_layouts s) (result_uses s ts) } in
-    let a : sum_by (λ (x : LineLoad). x.load) (line_loads s ts) ≡ sum_by (λ (x : LineLoad). x.load) (map node_line ts) + sum_by (λ (x : LineLoad). x.load) (last ∷ []) = sum_by-append (λ (x : LineLoad). x.load) (map node_line ts) (last ∷ []) in
-    let b : sum_by (λ (x : LineLoad). x.load) (last ∷ []) ≡ last.load + 0 = sum_by-cons (λ (x : LineLoad). x.load) last [] in
-    omega (arith, a, b, node_sum ts, within_limit limit 0 (line_loads s ts) (omega arith) h)
-
 abbrev pub main_known : List StFuncTree → List OwnCosts
 main_known all = all_costs (take (length all - 1) all)
 
-main_light : (all : List StFuncTree) (s : StFuncTree) → too_large load_limit all ≡ None → slice_get all (length all - 1) ≡ Some s → (func_costs (main_known all) s).load < 1000000000
-main_light all s h last =
-    let fine : first_over load_limit 0 (line_loads s (node_timings (main_known all) s)) ≡ None = rw last at h in
-    omega (arith, light load_limit s (node_timings (main_known all) s) fine)
-
-pub main_arrivals : (all : List StFuncTree) (s : StFuncTree) (t : Times) → too_large load_limit all ≡ None → AreTimes all t → slice_get all (length all - 1) ≡ Some s → slice_get t.arrivals (length all - 1) ≡ Some (item_arrivals (main_known all) s)
-main_arrivals all s t h times last = times.arrivals (length all - 1) s last (main_light all s h last)
-
-pub arrivals_there : (instances : List StFunc) (t : Times) (s : StFuncTree) (count : ℕ) → count ≡ length instances → too_large load_limit (st_func_trees instances) ≡ None → AreTimes (st_func_trees instances) t
+-- its arrivals are told
+pub arrivals_there : (instances : List StFunc) (t : Times) (s : StFuncTree) (count : ℕ) → count ≡ length instances → AreTimes (st_func_trees instances) t
     → slice_get (st_func_trees instances) (length (st_func_trees instances) - 1) ≡ Some s → slice_get t.arrivals (count - 1) ≡ Some (item_arrivals (main_known (st_func_trees instances)) s)
-arrivals_there instances t s count is fine times last =
+arrivals_there instances t s count is times last =
     let e : count - 1 ≡ length (st_func_trees instances) - 1 = ap (λ n. n - 1) (is ∙ sym (length-map instances st_func_tree)) in
-    ap (λ n. slice_get t.arrivals n) e ∙ main_arrivals (st_func_trees instances) s t fine times last
+    ap (λ n. slice_get t.arrivals n) e ∙ times.arrivals (length (st_func_trees instances) - 1) s last
 
 -- the text of a program with these costs
 pub main_text : (p : ProgramTree) (slowdown : ℕ) (all : List StFuncTree) (f : FuncTree) (s : StFuncTree) (t : Times) (as_all text : List ℕ)

@@ -24,10 +24,10 @@ pub returns-in-Within-clause-timing : goal.returns-in-Within-clause-timing
 returns-in-Within-clause-timing c =
     let at : c.loop-k.k ≡ c.count-last.result - 1 = omega (arith, c.loop-k-test.false, c.loop-k.auto.k-end) in
     let known : AreKnown c.deref.result.now (all_costs (take (c.count-last.result - 1) (st_func_trees c.args.p.now))) = rw c.deref.ensures.value (rw at at c.loop-k.invariant.known) in
-    let w = rw c.in-Within.is at (c.in_ok-t.ensures (all_costs (take (c.count-last.result - 1) (st_func_trees c.args.p.now))) known) in
+    let w = rw (c.in-Within.is, c.from.ensures) at (c.in_ok-t.ensures (all_costs (take (c.count-last.result - 1) (st_func_trees c.args.p.now))) known) in
     let first = rw at at c.loop-k.invariant.arrivals in
     let last : c.count-last.result - 1 ≡ length c.args.p.now - 1 = ap (λ n. n - 1) c.count-last.ensures.count in
-    end_times c.args.p.now (c.count-last.result - 1) c.instance-2.result.now c.in-Within.t _ _ _ last c.instance-2.ensures w first refl
+    end_times c.args.p.now (c.count-last.result - 1) c.instance-2.result.now c.in-Within.t c.args.limit _ _ c.count-last.ensures.sound (omega (arith, c.requires)) last c.instance-2.ensures w first refl
     (ap (map (λ v. v.items)) c.in_ok-push-in-Within.ensures.items ∙ map-append (λ v. v.items) c.loop-k.arrivals.items (c.in-Within.t.arrivals ∷ [])) refl
 
 pub returns-in-Within-clause-fine : goal.returns-in-Within-clause-fine

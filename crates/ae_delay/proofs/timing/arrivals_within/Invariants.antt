@@ -1,7 +1,7 @@
 use Rattle.std.proofs.Common.{map, take}
 use Rattle.ae_rewrite.specs.StProgramTree.{st_func_trees}
 use Rattle.ae_delay.specs.Costs.{all_costs}
-use Rattle.ae_delay.specs.Timings.{AreFirst}
+use Rattle.ae_delay.specs.Arriving.{AreFirst}
 use Rattle.ae_delay.specs.Weighing.{AreKnown}
 use Rattle.ae_delay.proofs.timing.arrivals_within.Given as goal
 

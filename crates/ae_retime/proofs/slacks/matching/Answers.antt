@@ -1,20 +1,38 @@
-use Rattle.std.proofs.Common.{◌-◌}
+use Rattle.std.proofs.Common.{ap, ◌-◌}
 use Rattle.ae_rewrite.specs.StProgramTree.{st_func_tree, st_func_trees}
-use Rattle.ae_retime.specs.Slacks.{func_chains, func_slacks, told_arrivals}
-use Rattle.ae_retime.proofs.Lists.{by_more, matched, sound_at, tree_at}
+use Rattle.ae_retime.specs.Slacks.{argument_slacks, arrivals_in, item_chains}
+use Rattle.ae_retime.proofs.Lists.{by_more, matched, told_at, told_last, told_many, tree_at}
 use Rattle.ae_retime.proofs.slacks.matching.Goals as goal
 
+pub arrivals_of-requires : goal.arrivals_of-requires
+arrivals_of-requires c = told_many c.args.p.now c.args.a.now c.count-count.result c.loop-k.k c.requires c.count-count.ensures.count c.loop-k-test.true
+
 pub add_func-requires : goal.add_func-requires
-add_func-requires c = record { sound = sound_at c.args.p.now c.loop-k.k c.instance.result.now c.count-count.ensures.sound c.instance.ensures }
+add_func-requires c =
+    let told = told_at c.args.p.now c.args.a.now c.loop-k.k c.instance.result.now c.arrivals_of.result.now c.count-count.ensures.sound c.requires c.instance.ensures c.arrivals_of.ensures in
+    record { uses = told.uses; long = told.long }
 
 pub loop-k-preserved : goal.loop-k-preserved
-loop-k-preserved c = record {
-  arguments = by_more (λ k s. func_slacks (told_arrivals c.args.a.now.arrivals k) s) (st_func_trees c.args.p.now) c.loop-k.k (st_func_tree c.instance.result.now) _ _ (tree_at c.args.p.now c.loop-k.k c.instance.result.now c.instance.ensures) c.loop-k.invariant.arguments c.in_ok-add_func.ensures.arguments;
-  chains = by_more (λ k s. func_chains (told_arrivals c.args.a.now.arrivals k) s) (st_func_trees c.args.p.now) c.loop-k.k (st_func_tree c.instance.result.now) _ _ (tree_at c.args.p.now c.loop-k.k c.instance.result.now c.instance.ensures) c.loop-k.invariant.chains c.in_ok-add_func.ensures.chains;
-}
+loop-k-preserved c =
+    let instances = st_func_trees c.args.p.now in
+    let s = st_func_tree c.instance.result.now in
+    let there = tree_at c.args.p.now c.loop-k.k c.instance.result.now c.instance.ensures in
+    let told = told_at c.args.p.now c.args.a.now c.loop-k.k c.instance.result.now c.arrivals_of.result.now c.count-count.ensures.sound c.requires c.instance.ensures c.arrivals_of.ensures in
+    record {
+      arguments = by_more (λ k u. argument_slacks (arrivals_in instances k u) u) instances c.loop-k.k s _ _ _ there c.loop-k.invariant.arguments c.in_ok-add_func.ensures.arguments (ap (λ xs. argument_slacks xs s) told.is);
+      chains = by_more (λ k u. item_chains (arrivals_in instances k u) u) instances c.loop-k.k s _ _ _ there c.loop-k.invariant.chains c.in_ok-add_func.ensures.chains (ap (λ xs. item_chains xs s) told.is);
+    }
 
-pub result_slacks-requires : goal.result_slacks-requires
-result_slacks-requires c = sound_at c.args.p.now (c.count-count.result - 1) c.instance-2.result.now c.count-count.ensures.sound c.instance-2.ensures
+pub arrivals_of-requires-2 : goal.arrivals_of-requires-2
+arrivals_of-requires-2 c = told_last c.args.p.now c.args.a.now c.count-count.result c.count-count.ensures.sound c.requires c.count-count.ensures.count
+
+pub joint_slacks-requires : goal.joint_slacks-requires
+joint_slacks-requires c =
+    let told = told_at c.args.p.now c.args.a.now (c.count-count.result - 1) c.instance-2.result.now c.arrivals_of-2.result.now c.count-count.ensures.sound c.requires c.instance-2.ensures c.arrivals_of-2.ensures in
+    rw c.deref.ensures.value told.uses.results
 
 pub returns : goal.returns
-returns c = matched c.args.a.now.arrivals c.args.p.now c.count-count.result c.loop-k.k c.instance-2.result.now _ c.count-count.ensures.count c.loop-k-test.false c.loop-k.auto.k-end c.instance-2.ensures c.loop-k.invariant.arguments c.loop-k.invariant.chains c.in_ok-results.ensures
+returns c =
+    let told = told_at c.args.p.now c.args.a.now (c.count-count.result - 1) c.instance-2.result.now c.arrivals_of-2.result.now c.count-count.ensures.sound c.requires c.instance-2.ensures c.arrivals_of-2.ensures in
+    matched c.args.p.now c.count-count.result c.loop-k.k c.instance-2.result.now c.arrivals_of-2.result.now _ c.count-count.ensures.count c.loop-k-test.false c.loop-k.auto.k-end c.instance-2.ensures c.loop-k.invariant.arguments c.loop-k.invariant.chains told.is
+    (rw c.deref.ensures.value at c.in_ok-results.ensures)

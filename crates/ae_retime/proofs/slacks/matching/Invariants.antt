@@ -5,6 +5,6 @@ use Rattle.ae_retime.proofs.slacks.matching.Given as goal
 
 abbrev pub invariant-loop-k : goal.invariant-loop-k
 invariant-loop-k l = record {
-  arguments : AreArguments l.a.arrivals (st_func_trees l.p) l.k (map (λ n. map (λ v. v.items) n.items) l.arguments.items);
-  chains : AreChains l.a.arrivals (st_func_trees l.p) l.k (map (λ v. v.items) l.chains.items);
+  arguments : AreArguments (st_func_trees l.p) l.k (map (λ n. map (λ v. v.items) n.items) l.arguments.items);
+  chains : AreChains (st_func_trees l.p) l.k (map (λ v. v.items) l.chains.items);
 }

@@ -10,7 +10,7 @@ use Rattle.ae_tool.proofs.plan.planned.Goals as goal
 pub unreachable-requires : goal.unreachable-requires
 unreachable-requires c =
     let s = st_func_tree c.main_instance-instance.result.now in
-    let there = arrivals_there c.args.costed.now.schedule c.args.costed.now.timing s c.count-last.result c.count-last.ensures.count c.requires.costed.1.within c.requires.times c.main_instance-instance.ensures in
+    let there = arrivals_there c.args.costed.now.schedule c.args.costed.now.timing s c.count-last.result c.count-last.ensures.count c.requires.times c.main_instance-instance.ensures in
     let none = rw c.in-None.is at c.arrivals.ensures in
     none-some _ (none ∙ there)
 
@@ -24,7 +24,7 @@ pub plan_text-requires-clause-arrivals : goal.plan_text-requires-clause-arrivals
 plan_text-requires-clause-arrivals c =
     let s = st_func_tree c.main_instance-instance.result.now in
     let known = main_known (st_func_trees c.args.costed.now.schedule) in
-    let there = arrivals_there c.args.costed.now.schedule c.args.costed.now.timing s c.count-last.result c.count-last.ensures.count c.requires.costed.1.within c.requires.times c.main_instance-instance.ensures in
+    let there = arrivals_there c.args.costed.now.schedule c.args.costed.now.timing s c.count-last.result c.count-last.ensures.count c.requires.times c.main_instance-instance.ensures in
     let some = rw c.in-Some.is at c.arrivals.ensures in
     let same : c.in-Some.arrivals.now ≡ item_arrivals known s = same_Some _ _ (some ∙ there) in
     sym (ap length same ∙ arrivals_many known s)
@@ -33,7 +33,7 @@ pub returns : goal.returns
 returns c =
     let all = st_func_trees c.args.costed.now.schedule in
     let s = st_func_tree c.main_instance-instance.result.now in
-    let there = arrivals_there c.args.costed.now.schedule c.args.costed.now.timing s c.count-last.result c.count-last.ensures.count c.requires.costed.1.within c.requires.times c.main_instance-instance.ensures in
+    let there = arrivals_there c.args.costed.now.schedule c.args.costed.now.timing s c.count-last.result c.count-last.ensures.count c.requires.times c.main_instance-instance.ensures in
     let some = rw c.in-Some.is at c.arrivals.ensures in
     let same : c.in-Some.arrivals.now ≡ item_arrivals (main_known all) s = same_Some _ _ (some ∙ there) in
     main_text (program_tree c.args.costed.now.program) c.args.slowdown all (func_tree c.main_func-func.result.now) s c.args.costed.now.timing c.in-Some.arrivals.now (string_bytes c.in_ok-text.text)

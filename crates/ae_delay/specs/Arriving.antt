@@ -1,0 +1,17 @@
+-- The arrivals of instances that are weighed before the load of the program function is known.
+use Rattle.std.specs.Prelude.{◌≡◌, ℕ, ◌<◌, List, [], ◌∷◌, ◌++◌, length, take, Some, slice_get}
+use Rattle.ae_rewrite.specs.StProgramTree.{StFuncTree}
+use Rattle.ae_delay.specs.declared.own.OwnCosts.{OwnCosts}
+use Rattle.ae_delay.specs.Costs.{all_costs, func_costs}
+use Rattle.ae_delay.specs.Timings.{item_arrivals}
+
+-- the arrivals of one more instance, where its load is below 1,000,000,000
+pub record HasMore (known : List OwnCosts) (s : StFuncTree) (old new : List (List ℕ)) : Type 0 where
+  pub own : List ℕ
+  pub added : new ≡ old ++ own ∷ []
+  pub is : (func_costs known s).load < 1000000000 → own ≡ item_arrivals known s
+
+-- the arrivals of so many instances
+pub record AreFirst (count : ℕ) (instances : List StFuncTree) (all : List (List ℕ)) : Type 0 where
+  pub long : length all ≡ count
+  pub each : (k : ℕ) (s : StFuncTree) → k < count → slice_get instances k ≡ Some s → (func_costs (all_costs (take k instances)) s).load < 1000000000 → slice_get all k ≡ Some (item_arrivals (all_costs (take k instances)) s)
