@@ -2,7 +2,7 @@
 use Rattle.std.proofs.Common.{ℕ, ◌≡◌, ◌<◌, ◌≤◌, List, ◌++◌, ◌∷◌, [], length, set, Result, Ok, Err, IfOk, OnOk, arith, refl, sym, ap, ◌∙◌, length-set}
 use Rattle.std.proofs.lemmas.Option.{slice_get_within}
 use Rattle.ae_word.specs.declared.op.WordOp.{WordOp}
-use Rattle.ae_word.specs.declared.op.WordOp.TheVariants.{Add, Eq, Lt, Mux}
+use Rattle.ae_word.specs.declared.op.WordOp.TheVariants.{Add, Cast, Eq, Lt, Mux, Or, Shl, Xor}
 use Rattle.ae_netlist.specs.declared.cell.NetId.{NetId}
 use Rattle.ae_netlist.specs.declared.cell.Cell.TheVariants.{Const, Op, Reg}
 use Rattle.ae_netlist.specs.declared.cell.SizedCell.{SizedCell}
@@ -92,6 +92,18 @@ less_operation cells a b w p q = let e : width_of cells a.0 ≡ w = net_width p 
 
 pub sum_operation : (cells : List SizedCell) (a b : NetId) (w : ℕ) → IsNet cells a.0 w → IsNet cells b.0 w → IsOperation cells Add (a ∷ b ∷ a ∷ []) w
 sum_operation cells a b w p q = let e : width_of cells a.0 ≡ w = net_width p in record { unsigned = refl; range = tt; operands = rw e (p, q, p); result = sym e }
+
+pub or_operation : (cells : List SizedCell) (a b : NetId) (w : ℕ) → IsNet cells a.0 w → IsNet cells b.0 w → IsOperation cells Or (a ∷ b ∷ a ∷ []) w
+or_operation cells a b w p q = let e : width_of cells a.0 ≡ w = net_width p in record { unsigned = refl; range = tt; operands = rw e (p, q, p); result = sym e }
+
+pub xor_operation : (cells : List SizedCell) (a b : NetId) (w : ℕ) → IsNet cells a.0 w → IsNet cells b.0 w → IsOperation cells Xor (a ∷ b ∷ a ∷ []) w
+xor_operation cells a b w p q = let e : width_of cells a.0 ≡ w = net_width p in record { unsigned = refl; range = tt; operands = rw e (p, q, p); result = sym e }
+
+pub shift_operation : (cells : List SizedCell) (a : NetId) (k w : ℕ) → IsNet cells a.0 w → IsOperation cells (Shl k) (a ∷ a ∷ a ∷ []) w
+shift_operation cells a k w p = let e : width_of cells a.0 ≡ w = net_width p in record { unsigned = refl; range = tt; operands = rw e (p, p, p); result = sym e }
+
+pub cast_operation : (cells : List SizedCell) (a : NetId) (v w : ℕ) → 1 ≤ v → v ≤ 64 → IsNet cells a.0 w → IsOperation cells (Cast v) (a ∷ a ∷ a ∷ []) v
+cast_operation cells a v w low high p = let e : width_of cells a.0 ≡ w = net_width p in record { unsigned = refl; range = (low, high); operands = rw e (p, p, p); result = refl }
 
 pub choose_operation : (cells : List SizedCell) (c a b : NetId) (w : ℕ) → IsNet cells c.0 1 → IsNet cells a.0 w → IsNet cells b.0 w → IsOperation cells Mux (c ∷ a ∷ b ∷ []) w
 choose_operation cells c a b w s p q = let e : width_of cells a.0 ≡ w = net_width p in record { unsigned = refl; range = tt; operands = rw e (s, p, q); result = sym e }

@@ -65,3 +65,15 @@ counter_made old new rst w p o last first y el ef less holds net counts = record
 
 pub keeps_same : (clocks : Kept) → KeepsCounters clocks clocks
 keeps_same clocks = record { rst = refl; counters = λ phase net found. found }
+
+-- the counters go on as one more is made
+pub phase_keeps : (old new : Kept) (p : Phase) (net : NetId) → new.rst ≡ old.rst → ((q : Phase) → kept_at new q ≡ (if same_phase p q then Some net else kept_at old q))
+    → ((n : NetId) → kept_at old p ≡ Some n → new ≡ old) → KeepsCounters old new
+phase_keeps old new p net rst keeps again = record { rst = rst; counters = λ q n found. by q n (same_phase p q) refl found }
+  where
+    by : (q : Phase) (n : NetId) (b : Bool) → same_phase p q ≡ b → kept_at old q ≡ Some n → kept_at new q ≡ Some n
+    by q n true s found =
+        let e : p ≡ q = same_is p q s in
+        let at : kept_at old p ≡ Some n = rw e found in
+        rw (again n at) found
+    by q n false s found = keeps q ∙ rw s found

@@ -1,6 +1,11 @@
 -- What a counter's next word is.
-use Rattle.std.proofs.Common.{ℕ, ◌≡◌, ◌+◌, ◌<◌, ◌≤◌, ◌%◌, ◌^◌, ◌==◌, if◌then◌else◌, Bool, true, false, arith, refl}
+use Rattle.std.proofs.Common.{ℕ, zero, suc, ◌≡◌, ◌+◌, ◌*◌, ◌<◌, ◌≤◌, ◌%◌, ◌^◌, ◌==◌, if◌then◌else◌, Bool, true, false, List, [], length, get_or, arith, refl}
 use Rattle.std.proofs.Math.Pow.{pow-lt}
+use Rattle.std.specs.Int.Bits.{bit_or, bit_xor, xor_self}
+use Rattle.ae_netlist.specs.declared.cell.SizedCell.{SizedCell}
+use Rattle.ae_netlist.specs.Circuit.{IsNet}
+use Rattle.ae_netlist.specs.Runs.{Clock, IsRun, no_clock, word_at}
+use Rattle.ae_netlist.proofs.NextClock.{plain_fits}
 
 pub one_fits : (w : ℕ) → 1 ≤ w → 1 < 2 ^ w
 one_fits w h = pow-lt {i = 0} {j = w} (omega arith)
@@ -18,3 +23,38 @@ pub count_is : (rst r last w turned begin next r' first : ℕ)
     → turned ≡ (if r == last then 0 else (r + 1) % 2 ^ w) → begin ≡ first → next ≡ (if rst == 1 then begin else turned) → r' ≡ next
     → r' ≡ (if rst == 1 then first else (if r == last then 0 else (r + 1) % 2 ^ w))
 count_is rst r last w turned begin next r' first t b n e = rw (e, n, b, t) refl
+
+-- ---- three bits, without an adder
+
+-- the word of a net has no more bits than the net
+pub word_below : (cells : List SizedCell) (run : List Clock) (t n w : ℕ) → IsRun cells run → t < length run → IsNet cells n w → word_at run t n < 2 ^ w
+unfolding word_at
+word_below cells run t n w is l net =
+    let clock : Clock = get_or run t no_clock in
+    rw (← net.wide) (plain_fits net.sized.cell net.sized.width (get_or clock.words n 0) (get_or clock.stores n []) net.plain ((is.shaped t l).holds n net.sized net.found))
+
+ones_of : (r : ℕ) → r < 8 → bit_xor r (if r % 2 == 1 then bit_or (r * 2 % 8) 1 else 1) ≡ (r + 1) % 8
+ones_of zero h = refl
+ones_of (suc zero) h = refl
+ones_of (suc (suc zero)) h = refl
+ones_of (suc (suc (suc zero))) h = refl
+ones_of (suc (suc (suc (suc zero)))) h = refl
+ones_of (suc (suc (suc (suc (suc zero))))) h = refl
+ones_of (suc (suc (suc (suc (suc (suc zero)))))) h = refl
+ones_of (suc (suc (suc (suc (suc (suc (suc zero))))))) h = refl
+ones_of (suc (suc (suc (suc (suc (suc (suc (suc r)))))))) h = absurd (omega arith)
+
+-- the bits that change are these
+pub ones_are : (r one up odd low ones : ℕ)
+    → r < 2 ^ 3 → one ≡ 1 → up ≡ (r * 2 ^ 1) % 2 ^ 3 → odd ≡ bit_or up one → low ≡ r % 2 ^ 1 → ones ≡ (if low == 1 then odd else one)
+    → bit_xor r ones ≡ (r + 1) % 2 ^ 3
+ones_are r one up odd low ones b o u d l n = rw (n, l, d, u, o) (ones_of r b)
+
+flips_are : (v : Bool) (r ones : ℕ) → bit_xor r ones ≡ (r + 1) % 2 ^ 3 → bit_xor r (if (if v then 1 else 0) == 1 then r else ones) ≡ (if v then 0 else (r + 1) % 2 ^ 3)
+flips_are true r ones c = xor_self r
+flips_are false r ones c = c
+
+pub bits_turn : (r last end at ones flips next : ℕ)
+    → end ≡ last → at ≡ (if r == end then 1 else 0) → bit_xor r ones ≡ (r + 1) % 2 ^ 3 → flips ≡ (if at == 1 then r else ones) → next ≡ bit_xor r flips
+    → next ≡ (if r == last then 0 else (r + 1) % 2 ^ 3)
+bits_turn r last end at ones flips next e a o f n = rw (n, f, a, e) (flips_are (r == last) r ones o)

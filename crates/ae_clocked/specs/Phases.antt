@@ -50,3 +50,7 @@ pub record KeepsCounters (old new : Kept) : Type 0 where
 -- from the first clock after reset on, y is 1 where the phase that a net shows is below a number, and else 0
 abbrev pub IsMark : List Clock → (start y phase from : ℕ) → Type 0
 IsMark run start y phase from = (c : ℕ) → start + c < length run → word_at run (start + c) y ≡ (if nat_lt (word_at run (start + c) phase) from then 1 else 0)
+
+-- from the first clock after reset on, y is 1 in the clocks whose phase is below a number, and else 0
+abbrev pub MarksPhases : List Clock → (start y period offset from : ℕ) → Type 0
+MarksPhases run start y period offset from = HasWords run start y (λ c. if nat_lt (phase_of period offset c) from then 1 else 0)

@@ -1,5 +1,5 @@
 -- How a netlist grows, and what one net's words are by those of others.
-use Rattle.std.specs.Prelude.{◌≡◌, ℕ, ◌+◌, ◌-◌, ◌<◌, ◌≤◌, ◌≢◌, ◌==◌, ◌%◌, ◌^◌, if◌then◌else◌, nat_lt, List, length, Some, Result, IfErr, slice_get}
+use Rattle.std.specs.Prelude.{◌≡◌, ℕ, ◌+◌, ◌-◌, ◌<◌, ◌≤◌, ◌≢◌, ◌==◌, ◌%◌, ◌^◌, if◌then◌else◌, List, length, Some, Result, IfErr, slice_get}
 use Rattle.ae_word.specs.declared.op.WordOp.{WordOp}
 use Rattle.ae_word.specs.WordTable.{word_result}
 use Rattle.ae_netlist.specs.declared.cell.NetId.{NetId}
@@ -68,14 +68,16 @@ Counts run r rst width last first =
     (t : ℕ) → t + 1 < length run
     → word_at run (t + 1) r ≡ (if word_at run t rst == 1 then first else (if word_at run t r == last then 0 else (word_at run t r + 1) % 2 ^ width))
 
--- net y says whether one more than the word of r is below a number
-abbrev pub IsMoreBelow : List Clock → ℕ → ℕ → ℕ → Type 0
-IsMoreBelow run y r from = (t : ℕ) → t < length run → word_at run t y ≡ (if nat_lt (word_at run t r + 1) from then 1 else 0)
-
--- net y says, of the word after that of r, whether it is below a number: that word is 0 after the last, and else one more
-abbrev pub IsEarly : List Clock → ℕ → ℕ → ℕ → ℕ → Type 0
-IsEarly run y r last from = (t : ℕ) → t < length run → word_at run t y ≡ (if nat_lt (if word_at run t r == last then 0 else word_at run t r + 1) from then 1 else 0)
+-- net y says whether r has this word
+abbrev pub IsAt : List Clock → ℕ → ℕ → ℕ → Type 0
+IsAt run y r word = (t : ℕ) → t < length run → word_at run t y ≡ (if word_at run t r == word then 1 else 0)
 
 -- net y has first after a clock where rst is 1, and else the word that x had in the clock before
 abbrev pub BeginsWith : List Clock → ℕ → ℕ → ℕ → ℕ → Type 0
 BeginsWith run y rst first x = (t : ℕ) → t + 1 < length run → word_at run (t + 1) y ≡ (if word_at run t rst == 1 then first else word_at run t x)
+
+-- net y has first after a clock where rst is 1, and else turns, once for each of two bits that is 1
+abbrev pub Turns : List Clock → ℕ → ℕ → ℕ → ℕ → ℕ → Type 0
+Turns run y rst first a b =
+    (t : ℕ) → t + 1 < length run
+    → word_at run (t + 1) y ≡ (if word_at run t rst == 1 then first else (if (if word_at run t y == word_at run t a then 1 else 0) == word_at run t b then 1 else 0))

@@ -6,11 +6,10 @@ ghost use Rattle.ae_netlist.specs.Circuit.{IsNet};
 ghost use Rattle.ae_netlist.specs.Runs.{InEveryResetRun};
 ghost use Rattle.ae_clocked.specs.declared.clocks.Phase.{Phase};
 ghost use Rattle.ae_clocked.specs.Signals.{Adds, IsFullAt};
-ghost use Rattle.ae_clocked.specs.Phases.{Belongs, HoldsPhases, IsCounter, IsMark, kept_at, same_phase};
+ghost use Rattle.ae_clocked.specs.Phases.{Belongs, HoldsPhases, IsCounter, IsMark, KeepsCounters, MarksPhases, kept_at, same_phase};
 
 use crate::counter::counter;
-use crate::gates::width_at;
-use crate::marks::{begun, early};
+use crate::marks::marked;
 use ae_netlist::{NetFault, NetId, Netlist};
 use indexmap::IndexMap;
 use std::alloc::Global;
@@ -102,9 +101,9 @@ impl Clocks {
         Ok(net)
     }
 
-    /// The one-bit register that is 1 in those clocks after reset in which the phase is below `from`, and else 0: what a
-    /// comparison of the counter would say, but kept in a register. It takes at most 9 cells. `Full` comes only where the
-    /// netlist has `limit` cells as the call ends; after a refusal it may hold further cells.
+    /// The bit that is 1 in those clocks after reset in which the phase of this counter is below `from`, and else 0: what a
+    /// comparison of the counter would say, but kept in a register, where that is smaller. It takes at most 9 cells. `Full`
+    /// comes only where the netlist has `limit` cells as the call ends; after a refusal it may hold further cells.
     pub fn mark(
         &self,
         nl: &mut Netlist,
@@ -123,10 +122,62 @@ impl Clocks {
         ensures net { IfOk result (λ y. IsNet nl.new.cells y.0 1) }
         ensures marks { IfOk result (λ y. InEveryResetRun nl.new.cells self.now.rst (λ run start. IsMark run start y.0 phase.0 from)) }
     {
-        let width = width_at(nl, phase);
-        let x = early(nl, phase, width, u64::from(period - 1), u64::from(from))?;
-        let first = (period - offset) % period < from;
-        let y = begun(nl, self.rst, first, x)?;
+        let y = marked(nl, self.rst, phase, period, offset, offset, from)?;
+        Ok(y)
+    }
+
+    /// The offset of one of the last counters that were made, if it has this period, or else the wanted one.
+    fn offset_for(&self, period: u32, wanted: u32) -> u32
+        requires wanted { wanted < period }
+        ensures { result < period }
+    {
+        if self
+            .find(Phase {
+                period,
+                offset: wanted,
+            })
+            .is_some()
+        {
+            return wanted;
+        }
+        let count = self.counters.len();
+        for k in 0..count.min(8) {
+            if let Some((phase, _)) = self.counters.get_index(count - 1 - k) {
+                if phase.period == period && phase.offset < period {
+                    return phase.offset;
+                }
+            }
+        }
+        wanted
+    }
+
+    /// The bit that is 1 in the first `from` clocks of each period from the clock `offset` after reset on, and else 0. It is
+    /// told by a counter of that period that was made lately, or by one that is made now and begins in the clock `wanted`:
+    /// where a later stage will ask for a counter, the two can share it. It takes at most 21 cells. `Full` comes only where
+    /// the netlist has `limit` cells as the call ends; after a refusal it may hold further cells.
+    pub fn lead(
+        &mut self,
+        nl: &mut Netlist,
+        period: u32,
+        offset: u32,
+        from: u32,
+        wanted: u32,
+    ) -> Result<NetId, NetFault>
+        requires belongs { Belongs self.old nl.old.cells }
+        requires low { offset < period }
+        requires wanted { wanted < period }
+        requires high { period ≤ 4096 }
+        requires within { from ≤ period }
+        ensures belongs { Belongs self.new nl.new.cells }
+        ensures keeps { KeepsCounters self.old self.new }
+        ensures adds { Adds nl.old nl.new 21 0 }
+        ensures full { IsFullAt result nl.new }
+        ensures net { IfOk result (λ y. IsNet nl.new.cells y.0 1) }
+        ensures marks { IfOk result (λ y. InEveryResetRun nl.new.cells self.old.rst (λ run start. MarksPhases run start y.0 period offset from)) }
+    {
+        let at = self.offset_for(period, wanted);
+        let counter = self.phase(nl, period, at)?;
+        let y = marked(nl, self.rst, counter, period, at, offset, from)?;
         Ok(y)
     }
 }

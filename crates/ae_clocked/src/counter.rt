@@ -1,15 +1,17 @@
 // One counter.
 
-ghost use Rattle.std.specs.Prelude.{◌<◌, ◌≤◌, ◌^◌, ℕ, length, IfOk};
+ghost use Rattle.std.specs.Prelude.{◌≡◌, ◌+◌, ◌<◌, ◌≤◌, ◌%◌, ◌^◌, ℕ, bit_xor, length, IfOk};
 ghost use Rattle.ae_netlist.specs.Circuit.{IsNet};
-ghost use Rattle.ae_netlist.specs.Runs.{InEveryRunFrom};
+ghost use Rattle.ae_netlist.specs.Runs.{InEveryRunFrom, word_at};
 ghost use Rattle.ae_clocked.specs.Signals.{Adds, Counts, IsFullAt, IsTurned};
 
-use crate::gates::{choose, close, constant, equal, register, sum};
+use crate::gates::{
+    choose, close, constant, differ, doubled, either, equal, lowest, register, sum,
+};
 use ae_netlist::{NetFault, NetId, Netlist};
 
-/// The word after that of a counter.
-fn turned(nl: &mut Netlist, r: NetId, width: u32, last: u64) -> Result<NetId, NetFault>
+/// The word after that of a counter, with an adder.
+fn turned_by_sum(nl: &mut Netlist, r: NetId, width: u32, last: u64) -> Result<NetId, NetFault>
     requires low { 1 ≤ width }
     requires high { width ≤ 64 }
     requires net { IsNet nl.old.cells r.0 width }
@@ -28,6 +30,58 @@ fn turned(nl: &mut Netlist, r: NetId, width: u32, last: u64) -> Result<NetId, Ne
     Ok(next)
 }
 
+/// The bits that change where one is added to a word of three bits: the ones at its end, and the zero before them.
+fn changed(nl: &mut Netlist, r: NetId) -> Result<NetId, NetFault>
+    requires net { IsNet nl.old.cells r.0 3 }
+    ensures adds { Adds nl.old nl.new 5 0 }
+    ensures full { IsFullAt result nl.new }
+    ensures net { IfOk result (λ y. IsNet nl.new.cells y.0 3) }
+    ensures words { IfOk result (λ y. InEveryRunFrom (length nl.old.cells) nl.new.cells (λ run. (t : ℕ) → t < length run → bit_xor (word_at run t r.0) (word_at run t y.0) ≡ (word_at run t r.0 + 1) % 2 ^ 3)) }
+{
+    let one = constant(nl, 3, 1)?;
+    let up = doubled(nl, r, 3)?;
+    let odd = either(nl, up, one, 3)?;
+    let low = lowest(nl, r, 3)?;
+    let ones = choose(nl, low, odd, one, 3)?;
+    Ok(ones)
+}
+
+/// The word after that of a counter of three bits, without an adder: each of its bits depends on the three of `r` alone
+/// and fits a lookup table of an FPGA, where a sum would take a carry chain as well.
+fn turned_by_bits(nl: &mut Netlist, r: NetId, last: u64) -> Result<NetId, NetFault>
+    requires net { IsNet nl.old.cells r.0 3 }
+    requires fits { last < 2 ^ 3 }
+    ensures adds { Adds nl.old nl.new 9 0 }
+    ensures full { IsFullAt result nl.new }
+    ensures net { IfOk result (λ y. IsNet nl.new.cells y.0 3) }
+    ensures words { IfOk result (λ y. InEveryRunFrom (length nl.old.cells) nl.new.cells (λ run. IsTurned run y.0 r.0 3 last)) }
+{
+    let end = constant(nl, 3, last)?;
+    let at_end = equal(nl, r, end, 3)?;
+    let ones = changed(nl, r)?;
+    let flips = choose(nl, at_end, r, ones, 3)?;
+    let next = differ(nl, r, flips, 3)?;
+    Ok(next)
+}
+
+/// The word after that of a counter.
+fn turned(nl: &mut Netlist, r: NetId, width: u32, last: u64) -> Result<NetId, NetFault>
+    requires low { 1 ≤ width }
+    requires high { width ≤ 64 }
+    requires net { IsNet nl.old.cells r.0 width }
+    requires fits { last < 2 ^ width }
+    ensures adds { Adds nl.old nl.new 9 0 }
+    ensures full { IsFullAt result nl.new }
+    ensures net { IfOk result (λ y. IsNet nl.new.cells y.0 width) }
+    ensures words { IfOk result (λ y. InEveryRunFrom (length nl.old.cells) nl.new.cells (λ run. IsTurned run y.0 r.0 width last)) }
+{
+    if width == 3 {
+        turned_by_bits(nl, r, last)
+    } else {
+        turned_by_sum(nl, r, width, last)
+    }
+}
+
 /// A register that counts.
 pub fn counter(
     nl: &mut Netlist,
@@ -41,7 +95,7 @@ pub fn counter(
     requires rst { IsNet nl.old.cells rst.0 1 }
     requires last { last < 2 ^ width }
     requires first { first < 2 ^ width }
-    ensures adds { Adds nl.old nl.new 9 0 }
+    ensures adds { Adds nl.old nl.new 12 0 }
     ensures full { IsFullAt result nl.new }
     ensures net { IfOk result (λ y. IsNet nl.new.cells y.0 width) }
     ensures words { IfOk result (λ y. InEveryRunFrom (length nl.old.cells) nl.new.cells (λ run. Counts run y.0 rst.0 width last first)) }

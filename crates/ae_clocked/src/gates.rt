@@ -96,6 +96,60 @@ pub fn sum(nl: &mut Netlist, a: NetId, b: NetId, width: u32) -> Result<NetId, Ne
     operate(nl, WordOp::Add, [a, b, a], width)
 }
 
+/// Adds the bits that are 1 in either of two nets.
+pub fn either(nl: &mut Netlist, a: NetId, b: NetId, width: u32) -> Result<NetId, NetFault>
+    requires low { 1 ≤ width }
+    requires high { width ≤ 64 }
+    requires left { IsNet nl.old.cells a.0 width }
+    requires right { IsNet nl.old.cells b.0 width }
+    ensures adds { Adds nl.old nl.new 1 0 }
+    ensures full { IsFullAt result nl.new }
+    ensures net { IfOk result (λ y. IsNet nl.new.cells y.0 width) }
+    ensures words { IfOk result (λ y. InEveryRunFrom (length nl.old.cells) nl.new.cells (λ run. IsResult run y.0 WordOp.Or width (a ∷ b ∷ a ∷ []))) }
+{
+    operate(nl, WordOp::Or, [a, b, a], width)
+}
+
+/// Adds the bits in which two nets differ.
+pub fn differ(nl: &mut Netlist, a: NetId, b: NetId, width: u32) -> Result<NetId, NetFault>
+    requires low { 1 ≤ width }
+    requires high { width ≤ 64 }
+    requires left { IsNet nl.old.cells a.0 width }
+    requires right { IsNet nl.old.cells b.0 width }
+    ensures adds { Adds nl.old nl.new 1 0 }
+    ensures full { IsFullAt result nl.new }
+    ensures net { IfOk result (λ y. IsNet nl.new.cells y.0 width) }
+    ensures words { IfOk result (λ y. InEveryRunFrom (length nl.old.cells) nl.new.cells (λ run. IsResult run y.0 WordOp.Xor width (a ∷ b ∷ a ∷ []))) }
+{
+    operate(nl, WordOp::Xor, [a, b, a], width)
+}
+
+/// Adds twice a net, modulo 2 to its width.
+pub fn doubled(nl: &mut Netlist, a: NetId, width: u32) -> Result<NetId, NetFault>
+    requires low { 1 ≤ width }
+    requires high { width ≤ 64 }
+    requires net { IsNet nl.old.cells a.0 width }
+    ensures adds { Adds nl.old nl.new 1 0 }
+    ensures full { IsFullAt result nl.new }
+    ensures net { IfOk result (λ y. IsNet nl.new.cells y.0 width) }
+    ensures words { IfOk result (λ y. InEveryRunFrom (length nl.old.cells) nl.new.cells (λ run. IsResult run y.0 (WordOp.Shl 1) width (a ∷ a ∷ a ∷ []))) }
+{
+    operate(nl, WordOp::Shl(1), [a, a, a], width)
+}
+
+/// Adds the lowest bit of a net.
+pub fn lowest(nl: &mut Netlist, a: NetId, width: u32) -> Result<NetId, NetFault>
+    requires low { 1 ≤ width }
+    requires high { width ≤ 64 }
+    requires net { IsNet nl.old.cells a.0 width }
+    ensures adds { Adds nl.old nl.new 1 0 }
+    ensures full { IsFullAt result nl.new }
+    ensures net { IfOk result (λ y. IsNet nl.new.cells y.0 1) }
+    ensures words { IfOk result (λ y. InEveryRunFrom (length nl.old.cells) nl.new.cells (λ run. IsResult run y.0 (WordOp.Cast 1) width (a ∷ a ∷ a ∷ []))) }
+{
+    operate(nl, WordOp::Cast(1), [a, a, a], 1)
+}
+
 /// Adds a net with the word of `a` where the condition is 1, and else that of `b`.
 pub fn choose(
     nl: &mut Netlist,

@@ -1,62 +1,56 @@
-// A comparison of a phase, kept in a register.
+// Marks of the first clocks of each period, kept in registers.
 
-ghost use Rattle.std.specs.Prelude.{◌<◌, ◌≤◌, ◌^◌, ◌+◌, ℕ, length, IfOk, if◌then◌else◌};
+ghost use Rattle.std.specs.Prelude.{◌<◌, ◌≤◌, ◌^◌, ◌+◌, ◌-◌, ◌%◌, ℕ, length, IfOk, if◌then◌else◌};
 ghost use Rattle.ae_netlist.specs.Circuit.{IsNet};
-ghost use Rattle.ae_netlist.specs.Runs.{InEveryRunFrom};
-ghost use Rattle.ae_clocked.specs.Signals.{Adds, BeginsWith, IsEarly, IsFullAt, IsMoreBelow};
+ghost use Rattle.ae_netlist.specs.Runs.{InEveryResetRun, InEveryRunFrom};
+ghost use Rattle.ae_clocked.specs.Signals.{Adds, BeginsWith, IsAt, IsFullAt, Turns};
+ghost use Rattle.ae_clocked.specs.Phases.{IsCounter, MarksPhases};
 
-use crate::gates::{choose, constant, delayed, equal, less};
+use crate::gates::{choose, close, constant, delayed, equal, register, width_at};
 use ae_netlist::{NetFault, NetId, Netlist};
 
-/// The bit that says whether one more than a word is below `from`. Where it never is, it is a constant: synthesis would keep
-/// the comparison with 0.
-fn more_below(nl: &mut Netlist, r: NetId, width: u32, from: u64) -> Result<NetId, NetFault>
+/// The bit that says whether a net has this word.
+fn at_word(nl: &mut Netlist, r: NetId, width: u32, word: u32) -> Result<NetId, NetFault>
     requires low { 1 ≤ width }
     requires high { width ≤ 64 }
     requires net { IsNet nl.old.cells r.0 width }
-    requires within { from ≤ 2 ^ width }
+    requires fits { word < 2 ^ width }
     ensures adds { Adds nl.old nl.new 2 0 }
     ensures full { IsFullAt result nl.new }
     ensures net { IfOk result (λ y. IsNet nl.new.cells y.0 1) }
-    ensures words { IfOk result (λ y. InEveryRunFrom (length nl.old.cells) nl.new.cells (λ run. IsMoreBelow run y.0 r.0 from)) }
+    ensures words { IfOk result (λ y. InEveryRunFrom (length nl.old.cells) nl.new.cells (λ run. IsAt run y.0 r.0 word)) }
 {
-    if from <= 1 {
-        let never = constant(nl, 1, 0)?;
-        return Ok(never);
-    }
-    let bound = constant(nl, width, from - 1)?;
-    let below = less(nl, r, bound, width)?;
-    Ok(below)
+    let bound = constant(nl, width, u64::from(word))?;
+    let at = equal(nl, r, bound, width)?;
+    Ok(at)
 }
 
-/// The bit that says of the word after that of a counter whether it is below `from`.
-pub fn early(
+/// The bit that is 1 in phase `q` of a period that begins in the clock `offset`, by a counter of the same period that begins
+/// in the clock `at`.
+fn at_phase(
     nl: &mut Netlist,
     r: NetId,
-    width: u32,
-    last: u64,
-    from: u64,
+    period: u32,
+    at: u32,
+    offset: u32,
+    q: u32,
 ) -> Result<NetId, NetFault>
-    requires low { 1 ≤ width }
-    requires high { width ≤ 64 }
-    requires net { IsNet nl.old.cells r.0 width }
-    requires last { last < 2 ^ width }
-    requires within { from ≤ last + 1 }
-    ensures adds { Adds nl.old nl.new 6 0 }
+    requires counter { (rst : ℕ) × IsCounter nl.old.cells rst (record { period = period; offset = at }) r.0 }
+    requires begins { at < period }
+    requires low { offset < period }
+    requires high { period ≤ 4096 }
+    requires within { q < period }
+    ensures adds { Adds nl.old nl.new 2 0 }
     ensures full { IsFullAt result nl.new }
     ensures net { IfOk result (λ y. IsNet nl.new.cells y.0 1) }
-    ensures words { IfOk result (λ y. InEveryRunFrom (length nl.old.cells) nl.new.cells (λ run. IsEarly run y.0 r.0 last from)) }
+    ensures words { IfOk result (λ y. InEveryRunFrom (length nl.old.cells) nl.new.cells (λ run. IsAt run y.0 r.0 ((q + (offset + period - at)) % period))) }
 {
-    let end = constant(nl, width, last)?;
-    let at_end = equal(nl, r, end, width)?;
-    let goes_on = more_below(nl, r, width, from)?;
-    let begins = constant(nl, 1, u64::from(0 < from))?;
-    let next = choose(nl, at_end, begins, goes_on, 1)?;
-    Ok(next)
+    let width = width_at(nl, r);
+    at_word(nl, r, width, (q + (offset + period - at)) % period)
 }
 
 /// A register of one bit that takes `first` in a clock where the reset is 1, and else the word of `x`.
-pub fn begun(nl: &mut Netlist, rst: NetId, first: bool, x: NetId) -> Result<NetId, NetFault>
+fn begun(nl: &mut Netlist, rst: NetId, first: bool, x: NetId) -> Result<NetId, NetFault>
     requires rst { IsNet nl.old.cells rst.0 1 }
     requires net { IsNet nl.old.cells x.0 1 }
     ensures adds { Adds nl.old nl.new 3 0 }
@@ -67,5 +61,69 @@ pub fn begun(nl: &mut Netlist, rst: NetId, first: bool, x: NetId) -> Result<NetI
     let begin = constant(nl, 1, u64::from(first))?;
     let next = choose(nl, rst, begin, x, 1)?;
     let y = delayed(nl, next, 1)?;
+    Ok(y)
+}
+
+/// A register of one bit that takes `first` in a clock where the reset is 1, and else turns where one of two bits is 1.
+fn turning(nl: &mut Netlist, rst: NetId, first: bool, a: NetId, b: NetId) -> Result<NetId, NetFault>
+    requires rst { IsNet nl.old.cells rst.0 1 }
+    requires left { IsNet nl.old.cells a.0 1 }
+    requires right { IsNet nl.old.cells b.0 1 }
+    ensures adds { Adds nl.old nl.new 5 0 }
+    ensures full { IsFullAt result nl.new }
+    ensures net { IfOk result (λ y. IsNet nl.new.cells y.0 1) }
+    ensures words { IfOk result (λ y. InEveryRunFrom (length nl.old.cells) nl.new.cells (λ run. Turns run y.0 rst.0 (if first then 1 else 0) a.0 b.0)) }
+{
+    let y = register(nl, 1)?;
+    let once = equal(nl, y, a, 1)?;
+    let after = equal(nl, once, b, 1)?;
+    let begin = constant(nl, 1, u64::from(first))?;
+    let next = choose(nl, rst, begin, after, 1)?;
+    close(nl, y, next);
+    Ok(y)
+}
+
+/// The bit that is 1 in the first `from` clocks of each period from the clock `offset` on, by a counter that begins in the
+/// clock `at`. It stands in a register, but where a bit of the counter itself says it.
+pub fn marked(
+    nl: &mut Netlist,
+    rst: NetId,
+    r: NetId,
+    period: u32,
+    at: u32,
+    offset: u32,
+    from: u32,
+) -> Result<NetId, NetFault>
+    requires rst { IsNet nl.old.cells rst.0 1 }
+    requires counter { IsCounter nl.old.cells rst.0 (record { period = period; offset = at }) r.0 }
+    requires begins { at < period }
+    requires low { offset < period }
+    requires high { period ≤ 4096 }
+    requires within { from ≤ period }
+    ensures adds { Adds nl.old nl.new 9 0 }
+    ensures full { IsFullAt result nl.new }
+    ensures net { IfOk result (λ y. IsNet nl.new.cells y.0 1) }
+    ensures marks { IfOk result (λ y. InEveryResetRun nl.new.cells rst.0 (λ run start. MarksPhases run start y.0 period offset from)) }
+{
+    if from == 0 {
+        let never = constant(nl, 1, 0)?;
+        return Ok(never);
+    }
+    if from == period {
+        let always = constant(nl, 1, 1)?;
+        return Ok(always);
+    }
+    if period == 2 {
+        let now = at_phase(nl, r, period, at, offset, 0)?;
+        return Ok(now);
+    }
+    let first = (period - offset) % period < from;
+    let begins = at_phase(nl, r, period, at, offset, period - 1)?;
+    if from == 1 {
+        let y = begun(nl, rst, first, begins)?;
+        return Ok(y);
+    }
+    let ends = at_phase(nl, r, period, at, offset, from - 1)?;
+    let y = turning(nl, rst, first, begins, ends)?;
     Ok(y)
 }

@@ -53,6 +53,28 @@ fn a_phase_is_made_once_and_counts_from_its_offset(rt: HostRuntime) -> Result<()
     Ok(())
 }
 
+/// The words of the counter of a phase, from clock 0 after reset on.
+fn counted(alloc: Global, period: u32, offset: u32) -> Result<Vec<u64>, Fail>
+    requires low { offset < period }
+    requires high { period ≤ 4096 }
+{
+    let mut nl = Netlist::new(alloc, 64);
+    let rst = reset(&mut nl)?;
+    let mut clocks = Clocks::new(alloc, rst);
+    let net = clocks.phase(&mut nl, period, offset)?;
+    nl.add_output(Port::Plain(0), net)?;
+    words(alloc, &nl, 0, 9)
+}
+
+#[test]
+fn a_phase_of_three_bits_counts_to_its_last_and_round(rt: HostRuntime) -> Result<(), Fail> {
+    let six = counted(rt.alloc(), 6, 2)?;
+    assert_eq!(rt; six.as_slice(), [4, 5, 0, 1, 2, 3, 4, 5, 0].as_slice());
+    let eight = counted(rt.alloc(), 8, 0)?;
+    assert_eq!(rt; eight.as_slice(), [0, 1, 2, 3, 4, 5, 6, 7, 0].as_slice());
+    Ok(())
+}
+
 #[test]
 fn a_phase_finds_no_room_in_a_full_netlist(rt: HostRuntime) -> Result<(), Fail> {
     let mut nl = Netlist::new(rt.alloc(), 2);
@@ -124,5 +146,49 @@ fn a_mark_says_in_which_clocks_a_phase_is_low(rt: HostRuntime) -> Result<(), Fai
     );
     let all = marked(rt.alloc(), 5)?;
     assert_eq!(rt; all.as_slice(), [1; 12].as_slice());
+    Ok(())
+}
+
+/// The words of the mark of a period of 5 from clock 4 on, by a counter that begins in clock 2; the counter that is wanted
+/// is not made.
+fn led(alloc: Global, from: u32) -> Result<Vec<u64>, Fail>
+    requires { from ≤ 5 }
+{
+    let mut nl = Netlist::new(alloc, 64);
+    let rst = reset(&mut nl)?;
+    let mut clocks = Clocks::new(alloc, rst);
+    clocks.phase(&mut nl, 5, 2)?;
+    let mark = clocks.lead(&mut nl, 5, 4, from, 3)?;
+    nl.add_output(Port::Plain(0), mark)?;
+    words(alloc, &nl, 0, 12)
+}
+
+#[test]
+fn a_lead_is_told_by_another_counter(rt: HostRuntime) -> Result<(), Fail> {
+    let one = led(rt.alloc(), 1)?;
+    assert_eq!(rt;
+        one.as_slice(),
+        [0, 0, 0, 0, 1, 0, 0, 0, 0, 1, 0, 0].as_slice()
+    );
+    let three = led(rt.alloc(), 3)?;
+    assert_eq!(rt;
+        three.as_slice(),
+        [1, 1, 0, 0, 1, 1, 1, 0, 0, 1, 1, 1].as_slice()
+    );
+    Ok(())
+}
+
+#[test]
+fn a_lead_makes_the_counter_that_is_wanted(rt: HostRuntime) -> Result<(), Fail> {
+    let mut nl = Netlist::new(rt.alloc(), 64);
+    let rst = reset(&mut nl)?;
+    let mut clocks = Clocks::new(rt.alloc(), rst);
+    let mark = clocks.lead(&mut nl, 2, 1, 1, 0)?;
+    let cells = nl.len();
+    clocks.phase(&mut nl, 2, 0)?;
+    assert_eq!(rt; nl.len(), cells);
+    nl.add_output(Port::Plain(0), mark)?;
+    let seen = words(rt.alloc(), &nl, 0, 4)?;
+    assert_eq!(rt; seen.as_slice(), [0, 1, 0, 1].as_slice());
     Ok(())
 }

@@ -3,8 +3,8 @@ use Rattle.std.proofs.Common.{ℕ, ◌≡◌, ◌+◌, ◌-◌, ◌*◌, ◌/◌
 use Rattle.std.proofs.Math.Nat.{add-mul, mod-add-div'}
 use Rattle.std.proofs.lemmas.Nat.{mod-mul-add}
 use Rattle.ae_netlist.specs.declared.cell.NetId.{NetId}
-use Rattle.ae_netlist.specs.Runs.{Clock, word_at, HasWords}
-use Rattle.ae_clocked.specs.Phases.{phase_of, IsMark as ShowsBelow}
+use Rattle.ae_netlist.specs.Runs.{Clock, word_at}
+use Rattle.ae_clocked.specs.Phases.{phase_of, MarksPhases}
 use Rattle.ae_netlist.specs.declared.cell.SizedCell.{SizedCell}
 use Rattle.ae_netlist.specs.Circuit.{Extends, IsNet}
 use Rattle.ae_netlist.proofs.Growing.{extends_trans, net_later}
@@ -21,18 +21,16 @@ block_phase p k b m l =
     let e : k + b * p + m + p - k % p ≡ (k / p + b + 1) * p + m = omega arith in
     rw e (mod-mul-add (k / p + b + 1) p m l)
 
-pub leads : (run : List Clock) (start p k inner phase y : ℕ) → inner < p → HasWords run start phase (phase_of p (k % p)) → ShowsBelow run start y phase inner → Leads run start y p k inner
-leads run start p k inner phase y less counts marks = record {
+pub leads : (run : List Clock) (start p k inner y : ℕ) → inner < p → MarksPhases run start y p (k % p) inner → Leads run start y p k inner
+leads run start p k inner y less marks = record {
   high = λ b m l long.
-      let c : ℕ = k + b * p + m in
-      let at : word_at run (start + c) phase ≡ m = counts c long ∙ block_phase p k b m (omega arith) in
+      let at : phase_of p (k % p) (k + b * p + m) ≡ m = block_phase p k b m (omega arith) in
       let lt : nat_lt m inner ≡ true = search rules in
-      marks c long ∙ rw (at, lt) refl;
+      marks (k + b * p + m) long ∙ rw (at, lt) refl;
   low = λ b m ge l long.
-      let c : ℕ = k + b * p + m in
-      let at : word_at run (start + c) phase ≡ m = counts c long ∙ block_phase p k b m l in
+      let at : phase_of p (k % p) (k + b * p + m) ≡ m = block_phase p k b m l in
       let lt : nat_lt m inner ≡ false = search rules in
-      marks c long ∙ rw (at, lt) refl;
+      marks (k + b * p + m) long ∙ rw (at, lt) refl;
 }
 
 -- ---- as a netlist grows

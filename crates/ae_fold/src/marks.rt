@@ -12,7 +12,7 @@ use crate::plan::Plan;
 use ae_clocked::Clocks;
 use ae_netlist::{NetFault, NetId, Netlist};
 
-/// A register that is 1 in the first `inner` clocks of each block, where blocks begin `delay` clocks after the arrival.
+/// A bit that is 1 in the first `inner` clocks of each block, where blocks begin `delay` clocks after the arrival.
 fn lead(
     nl: &mut Netlist,
     clocks: &mut Clocks,
@@ -20,6 +20,7 @@ fn lead(
     arrival: u32,
     delay: u32,
     inner: u32,
+    ahead: u32,
 ) -> Result<NetId, NetFault>
     requires belongs { Belongs clocks.old nl.old.cells }
     requires low { inner < period }
@@ -33,18 +34,20 @@ fn lead(
     ensures words { IfOk result (λ y. InEveryResetRun nl.new.cells clocks.old.rst (λ run start. Leads run start y.0 period (arrival + delay) inner)) }
 {
     let offset = (arrival % period + delay) % period;
-    let phase = clocks.phase(nl, period, offset)?;
-    let y = clocks.mark(nl, phase, period, offset, inner)?;
+    let wanted = (arrival % period + ahead % period) % period;
+    let y = clocks.lead(nl, period, offset, inner, wanted)?;
     Ok(y)
 }
 
 /// The net that marks slot 0 of each block, in the clocks in which the folds over its lanes stand, where there are more
-/// slots than one; it takes at most 21 cells.
+/// slots than one; it takes at most 21 cells. `ahead` says how many clocks after the arrival a later stage begins its
+/// blocks, which may then share a counter with it; the words are the same for any.
 pub fn mark(
     nl: &mut Netlist,
     clocks: &mut Clocks,
     plan: Plan,
     arrival: u32,
+    ahead: u32,
 ) -> Result<Option<NetId>, NetFault>
     requires plan { IsPlan plan }
     requires belongs { Belongs clocks.old nl.old.cells }
@@ -55,7 +58,15 @@ pub fn mark(
     ensures marks { IfOk result (λ found. Marks nl.new.cells clocks.old.rst plan.slots plan.period (arrival + plan.levels) plan.inner found) }
 {
     if plan.slots > 1 {
-        let first = lead(nl, clocks, plan.period, arrival, plan.levels, plan.inner)?;
+        let first = lead(
+            nl,
+            clocks,
+            plan.period,
+            arrival,
+            plan.levels,
+            plan.inner,
+            ahead,
+        )?;
         Ok(Some(first))
     } else {
         Ok(None)

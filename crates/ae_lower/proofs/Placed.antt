@@ -24,7 +24,7 @@ use Rattle.ae_rewrite.specs.Scheduled.{AreFilling, IsFilling, node_layouts}
 use Rattle.ae_rewrite.specs.Sound.{IsSoundFunc, IsSoundNode, IsSoundOp, IsSound, item_layout, item_layouts}
 use Rattle.ae_delay.specs.declared.own.OwnCosts.{OwnCosts}
 use Rattle.ae_delay.specs.OwnCosts.{body_costs, op_costs}
-use Rattle.ae_delay.specs.Costs.{NodeTiming, all_costs, func_costs, latest, node_costs, slack_load, uses_at}
+use Rattle.ae_delay.specs.Costs.{NodeTiming, all_costs, latest, node_costs, slack_load, uses_at}
 use Rattle.ae_delay.proofs.Instances.{all_items, node_sound}
 use Rattle.ae_flow.specs.Flow.{Callee, callee, callee_at, callees, first_result, no_callee}
 use Rattle.ae_flow.specs.Fitted.{FitsBody, FitsNode, FitsOp, elements_stream, streams_of}
@@ -66,9 +66,7 @@ pub items_many : (s : StFuncTree) → length (item_layouts s) ≡ length s.ins +
 items_many s = omega (arith, length-append s.ins (node_layouts s.nodes), length-map s.nodes (λ (x : StNodeTree). x.type))
 
 pub arrivals_told : (instances : List StFuncTree) (told : List (List ℕ)) (k at : ℕ) (s : StFuncTree) → IsTimed instances told → ((x : StFuncTree) × IsLight instances k at x) → slice_get instances k ≡ Some s → slice_get told k ≡ Some (arrivals_in instances k s)
-arrivals_told instances told k at s timed light found =
-    let load : (func_costs (all_costs (take k instances)) s).load ≤ 100000 = subst (λ (c : OwnCosts). c.load ≤ 100000) (costs_are instances k s found) (let e = light.1.early in omega (arith, e)) in
-    timed.arrivals k s found (omega (arith, load))
+arrivals_told instances told k at s timed light found = timed.arrivals k s found
 
 -- ---- a node in its place
 

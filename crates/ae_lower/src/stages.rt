@@ -121,7 +121,8 @@ fn element_of(raw: &StType) -> &StType
     }
 }
 
-/// The fold of elements on lanes and in slots into one that comes in the layout `raw`.
+/// The fold of elements on lanes and in slots into one that comes in the layout `raw`; what follows begins its blocks `wait`
+/// clocks later.
 pub fn reducing(
     alloc: Global,
     op: WordOp,
@@ -129,6 +130,7 @@ pub fn reducing(
     lanes: u32,
     raw: &StType,
     budget: u32,
+    wait: u32,
 ) -> Result<Reduce, NetFault>
     requires op { folds op ≡ true }
     requires spread { IsSpread slots lanes }
@@ -141,7 +143,7 @@ pub fn reducing(
 {
     let element = copy(alloc, element_of(raw))?;
     match Reduce::new(op, slots, lanes, element, budget) {
-        Some(reduce) => Ok(reduce),
+        Some(reduce) => Ok(reduce.followed(wait)),
         None => unreachable!(),
     }
 }

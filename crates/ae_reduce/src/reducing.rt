@@ -13,7 +13,8 @@ use ae_fold::{Plan, WordFold, copied, mark, over_slots};
 use ae_netlist::{NetFault, NetId, Netlist};
 use std::alloc::Global;
 
-/// The nets of the folds, by lane and then by word of an element.
+/// The nets of the folds, by lane and then by word of an element. `ahead` says how many clocks after the arrival a later
+/// stage begins its blocks.
 pub fn reduced(
     alloc: Global,
     nl: &mut Netlist,
@@ -22,6 +23,7 @@ pub fn reduced(
     plan: Plan,
     ins: &[NetId],
     arrival: u32,
+    ahead: u32,
 ) -> Result<Vec<NetId>, NetFault>
     requires plan { IsPlan plan }
     requires folds { AreFolds folds.now }
@@ -37,7 +39,7 @@ pub fn reduced(
     ensures long { IfOk result (λ outs. length outs.items ≡ plan.stride) }
     ensures scans { IfOk result (λ outs. AreScans nl.new.cells clocks.old.rst folds.now ins.now plan arrival (plan.levels + wait_of plan.slots) ((plan.lanes - 1) * plan.stride) outs.items) }
 {
-    let found = mark(nl, clocks, plan, arrival)?;
+    let found = mark(nl, clocks, plan, arrival, ahead)?;
     let nets = copied(alloc, ins)?;
     let stride = plan.stride as usize;
     let sums = tree(

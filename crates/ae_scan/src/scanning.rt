@@ -37,7 +37,7 @@ pub fn scanned(
     ensures long { IfOk result (λ outs. length outs.items ≡ plan.lanes * plan.stride) }
     ensures scans { IfOk result (λ outs. AreScans nl.new.cells clocks.old.rst folds.now ins.now plan arrival (plan.levels + wait_of plan.slots) 0 outs.items) }
 {
-    let found = mark(nl, clocks, plan, arrival)?;
+    let found = mark(nl, clocks, plan, arrival, plan.levels)?;
     let nets = copied(alloc, ins)?;
     let stride = plan.stride as usize;
     let lanes = plan.lanes as usize;

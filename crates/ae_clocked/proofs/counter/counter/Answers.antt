@@ -24,16 +24,16 @@ close-requires-clause-next c =
     net_own (register_later later c.in_ok-r.ensures.register) c.in_ok-next.ensures.net
 
 pub returns-in_err-r-clause-adds : goal.returns-in_err-r-clause-adds
-returns-in_err-r-clause-adds c = adds_most 9 (omega arith) (c.in_err-r.ensures.adds)
+returns-in_err-r-clause-adds c = adds_most 12 (omega arith) (c.in_err-r.ensures.adds)
 
 pub returns-in_err-after-clause-adds : goal.returns-in_err-after-clause-adds
-returns-in_err-after-clause-adds c = adds_most 9 (omega arith) (adds_trans c.in_ok-r.ensures.adds c.in_err-after.ensures.adds)
+returns-in_err-after-clause-adds c = adds_most 12 (omega arith) (adds_trans c.in_ok-r.ensures.adds c.in_err-after.ensures.adds)
 
 pub returns-in_err-begin-clause-adds : goal.returns-in_err-begin-clause-adds
-returns-in_err-begin-clause-adds c = adds_most 9 (omega arith) (adds_trans (adds_trans c.in_ok-r.ensures.adds c.in_ok-after.ensures.adds) c.in_err-begin.ensures.adds)
+returns-in_err-begin-clause-adds c = adds_most 12 (omega arith) (adds_trans (adds_trans c.in_ok-r.ensures.adds c.in_ok-after.ensures.adds) c.in_err-begin.ensures.adds)
 
 pub returns-in_err-next-clause-adds : goal.returns-in_err-next-clause-adds
-returns-in_err-next-clause-adds c = adds_most 9 (omega arith) (adds_trans (adds_trans (adds_trans c.in_ok-r.ensures.adds c.in_ok-after.ensures.adds) c.in_ok-begin.ensures.adds) c.in_err-next.ensures.adds)
+returns-in_err-next-clause-adds c = adds_most 12 (omega arith) (adds_trans (adds_trans (adds_trans c.in_ok-r.ensures.adds c.in_ok-after.ensures.adds) c.in_ok-begin.ensures.adds) c.in_err-next.ensures.adds)
 
 pub returns-clause-adds : goal.returns-clause-adds
 returns-clause-adds c = adds_connect (adds_trans (adds_trans (adds_trans c.in_ok-r.ensures.adds c.in_ok-after.ensures.adds) c.in_ok-begin.ensures.adds) c.in_ok-next.ensures.adds) (omega (arith, c.in_ok-r.ensures.fresh)) c.close.ensures

@@ -1,4 +1,4 @@
-use Rattle.ae_gather.proofs.Building.{phase_keeps}
+use Rattle.ae_clocked.proofs.Belonging.{phase_keeps}
 use Rattle.ae_gather.proofs.counters.counting.Goals as goal
 
 pub returns-clause-keeps : goal.returns-clause-keeps

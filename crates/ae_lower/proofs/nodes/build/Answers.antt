@@ -79,20 +79,20 @@ fold_and_move-requires-clause-short c =
     fold_short _ (st_func_tree c.args.s.now) (st_node_tree c.args.node.now) _ c.in-Fold.op c.in-Fold.slots c.in-Fold.lanes (st_tree c.in-Fold.raw) c.in_ok-fold-in-Fold.fold c.requires.ready (ap st_op_tree c.in-Fold.is)
     c.in_ok-fold-in-Fold.ensures.is
 
-pub returns-in_ok-moved-in-Fold-clause-grows : goal.returns-in_ok-moved-in-Fold-clause-grows
-returns-in_ok-moved-in-Fold-clause-grows c =
+pub returns-in_ok-fold-in-Fold-clause-grows : goal.returns-in_ok-fold-in-Fold-clause-grows
+returns-in_ok-fold-in-Fold-clause-grows c =
     node_grows _ _ (st_func_tree c.args.s.now) (st_node_tree c.args.node.now) (part_behind (reduce_part c.in_ok-fold-in-Fold.fold) (gather_part (move_of c.in_ok-moved-in-Fold.moved)))
     (fold_node _ (st_func_tree c.args.s.now) (st_node_tree c.args.node.now) _ c.in-Fold.op c.in-Fold.slots c.in-Fold.lanes (st_tree c.in-Fold.raw) c.in_ok-fold-in-Fold.fold (move_of c.in_ok-moved-in-Fold.moved) c.requires.ready (ap st_op_tree c.in-Fold.is) c.in_ok-fold-in-Fold.ensures.is c.in_ok-moved-in-Fold.ensures.is)
     c.fold_and_move.ensures.grows c.fold_and_move.ensures.cells
 
-pub returns-in_ok-moved-in-Fold-clause-adds : goal.returns-in_ok-moved-in-Fold-clause-adds
-returns-in_ok-moved-in-Fold-clause-adds c =
+pub returns-in_ok-fold-in-Fold-clause-adds : goal.returns-in_ok-fold-in-Fold-clause-adds
+returns-in_ok-fold-in-Fold-clause-adds c =
     node_adds _ _ _ (st_func_tree c.args.s.now) (st_node_tree c.args.node.now) (part_behind (reduce_part c.in_ok-fold-in-Fold.fold) (gather_part (move_of c.in_ok-moved-in-Fold.moved)))
     (fold_node _ (st_func_tree c.args.s.now) (st_node_tree c.args.node.now) _ c.in-Fold.op c.in-Fold.slots c.in-Fold.lanes (st_tree c.in-Fold.raw) c.in_ok-fold-in-Fold.fold (move_of c.in_ok-moved-in-Fold.moved) c.requires.ready (ap st_op_tree c.in-Fold.is) c.in_ok-fold-in-Fold.ensures.is c.in_ok-moved-in-Fold.ensures.is)
     c.fold_and_move.ensures.muls c.fold_and_move.ensures.memories c.fold_and_move.ensures.whole
 
-pub returns-in_ok-moved-in-Fold-clause-built : goal.returns-in_ok-moved-in-Fold-clause-built
-returns-in_ok-moved-in-Fold-clause-built c =
+pub returns-in_ok-fold-in-Fold-clause-built : goal.returns-in_ok-fold-in-Fold-clause-built
+returns-in_ok-fold-in-Fold-clause-built c =
     node_built _ _ _ _ (st_func_tree c.args.s.now) (st_node_tree c.args.node.now) (part_behind (reduce_part c.in_ok-fold-in-Fold.fold) (gather_part (move_of c.in_ok-moved-in-Fold.moved))) _
     (fold_node _ (st_func_tree c.args.s.now) (st_node_tree c.args.node.now) _ c.in-Fold.op c.in-Fold.slots c.in-Fold.lanes (st_tree c.in-Fold.raw) c.in_ok-fold-in-Fold.fold (move_of c.in_ok-moved-in-Fold.moved) c.requires.ready (ap st_op_tree c.in-Fold.is) c.in_ok-fold-in-Fold.ensures.is c.in_ok-moved-in-Fold.ensures.is)
     c.fold_and_move.ensures.bundle c.fold_and_move.ensures.law

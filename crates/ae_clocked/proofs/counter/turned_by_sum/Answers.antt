@@ -1,10 +1,10 @@
--- The nets of a turn, one after another, and what they hold.
+-- The nets of a turn with an adder, one after another, and what they hold.
 use Rattle.std.proofs.Common.{arith}
 use Rattle.ae_netlist.proofs.Carried.{carries_later}
 use Rattle.ae_clocked.proofs.Adding.{adds_most, adds_trans, net_added}
 use Rattle.ae_clocked.proofs.Added.{grows_length, back}
 use Rattle.ae_clocked.proofs.Turns.{one_fits, turn_is}
-use Rattle.ae_clocked.proofs.counter.turned.Goals as goal
+use Rattle.ae_clocked.proofs.counter.turned_by_sum.Goals as goal
 
 pub equal-requires-clause-left : goal.equal-requires-clause-left
 equal-requires-clause-left c = net_added c.in_ok-end.ensures.adds c.requires.net

@@ -1,0 +1,62 @@
+-- The nets of the bits that change, one after another, and what they hold.
+use Rattle.std.proofs.Common.{arith}
+use Rattle.ae_netlist.proofs.Carried.{carries_later}
+use Rattle.ae_clocked.proofs.Adding.{adds_most, adds_trans, net_added}
+use Rattle.ae_clocked.proofs.Added.{grows_length, back}
+use Rattle.ae_clocked.proofs.Turns.{ones_are, word_below}
+use Rattle.ae_clocked.proofs.counter.changed.Goals as goal
+
+pub doubled-requires-clause-net : goal.doubled-requires-clause-net
+doubled-requires-clause-net c = net_added c.in_ok-one.ensures.adds c.requires.net
+
+pub either-requires-clause-right : goal.either-requires-clause-right
+either-requires-clause-right c = net_added c.in_ok-up.ensures.adds c.in_ok-one.ensures.net
+
+pub lowest-requires-clause-net : goal.lowest-requires-clause-net
+lowest-requires-clause-net c = net_added (adds_trans (adds_trans c.in_ok-one.ensures.adds c.in_ok-up.ensures.adds) c.in_ok-odd.ensures.adds) c.requires.net
+
+pub choose-requires-clause-left : goal.choose-requires-clause-left
+choose-requires-clause-left c = net_added c.in_ok-low.ensures.adds c.in_ok-odd.ensures.net
+
+pub choose-requires-clause-right : goal.choose-requires-clause-right
+choose-requires-clause-right c = net_added (adds_trans (adds_trans c.in_ok-up.ensures.adds c.in_ok-odd.ensures.adds) c.in_ok-low.ensures.adds) c.in_ok-one.ensures.net
+
+pub returns-in_err-one-clause-adds : goal.returns-in_err-one-clause-adds
+returns-in_err-one-clause-adds c = adds_most 5 (omega arith) (c.in_err-one.ensures.adds)
+
+pub returns-in_err-up-clause-adds : goal.returns-in_err-up-clause-adds
+returns-in_err-up-clause-adds c = adds_most 5 (omega arith) (adds_trans c.in_ok-one.ensures.adds c.in_err-up.ensures.adds)
+
+pub returns-in_err-odd-clause-adds : goal.returns-in_err-odd-clause-adds
+returns-in_err-odd-clause-adds c = adds_most 5 (omega arith) (adds_trans (adds_trans c.in_ok-one.ensures.adds c.in_ok-up.ensures.adds) c.in_err-odd.ensures.adds)
+
+pub returns-in_err-low-clause-adds : goal.returns-in_err-low-clause-adds
+returns-in_err-low-clause-adds c = adds_most 5 (omega arith) (adds_trans (adds_trans (adds_trans c.in_ok-one.ensures.adds c.in_ok-up.ensures.adds) c.in_ok-odd.ensures.adds) c.in_err-low.ensures.adds)
+
+pub returns-in_err-ones-clause-adds : goal.returns-in_err-ones-clause-adds
+returns-in_err-ones-clause-adds c = adds_most 5 (omega arith) (adds_trans (adds_trans (adds_trans (adds_trans c.in_ok-one.ensures.adds c.in_ok-up.ensures.adds) c.in_ok-odd.ensures.adds) c.in_ok-low.ensures.adds) c.in_err-ones.ensures.adds)
+
+pub returns-clause-adds : goal.returns-clause-adds
+returns-clause-adds c = adds_trans (adds_trans (adds_trans (adds_trans c.in_ok-one.ensures.adds c.in_ok-up.ensures.adds) c.in_ok-odd.ensures.adds) c.in_ok-low.ensures.adds) c.in_ok-ones.ensures.adds
+
+pub returns-clause-words : goal.returns-clause-words
+returns-clause-words c = λ all k5 run is t l.
+    let g1 = c.in_ok-up.ensures.adds.grows in
+    let g2 = c.in_ok-odd.ensures.adds.grows in
+    let g3 = c.in_ok-low.ensures.adds.grows in
+    let g4 = c.in_ok-ones.ensures.adds.grows in
+    let l1 = grows_length c.in_ok-one.ensures.adds.grows in
+    let l2 = grows_length g1 in
+    let l3 = grows_length g2 in
+    let l4 = grows_length g3 in
+    let k4 = back g4 k5 in
+    let k3 = back g3 k4 in
+    let k2 = back g2 k3 in
+    let k1 = back g1 k2 in
+    let net = k5.nets _ _ (net_added (adds_trans (adds_trans (adds_trans (adds_trans c.in_ok-one.ensures.adds c.in_ok-up.ensures.adds) c.in_ok-odd.ensures.adds) c.in_ok-low.ensures.adds) c.in_ok-ones.ensures.adds) c.requires.net) in
+    ones_are _ _ _ _ _ _ (word_below all run t _ _ is l net)
+    (c.in_ok-one.ensures.words all k1 run is t l)
+    (c.in_ok-up.ensures.words all (carries_later _ _ l1 k2) run is t l)
+    (c.in_ok-odd.ensures.words all (carries_later _ _ (omega arith) k3) run is t l)
+    (c.in_ok-low.ensures.words all (carries_later _ _ (omega arith) k4) run is t l)
+    (c.in_ok-ones.ensures.words all (carries_later _ _ (omega arith) k5) run is t l)

@@ -1,0 +1,61 @@
+-- The nets of a turn without an adder, one after another, and what they hold.
+use Rattle.std.proofs.Common.{arith}
+use Rattle.ae_netlist.proofs.Carried.{carries_later}
+use Rattle.ae_clocked.proofs.Adding.{adds_most, adds_trans, net_added}
+use Rattle.ae_clocked.proofs.Added.{grows_length, back}
+use Rattle.ae_clocked.proofs.Turns.{bits_turn}
+use Rattle.ae_clocked.proofs.counter.turned_by_bits.Goals as goal
+
+pub equal-requires-clause-left : goal.equal-requires-clause-left
+equal-requires-clause-left c = net_added c.in_ok-end.ensures.adds c.requires.net
+
+pub changed-requires : goal.changed-requires
+changed-requires c = record { net = net_added (adds_trans c.in_ok-end.ensures.adds c.in_ok-at_end.ensures.adds) c.requires.net }
+
+pub choose-requires-clause-condition : goal.choose-requires-clause-condition
+choose-requires-clause-condition c = net_added c.in_ok-ones.ensures.adds c.in_ok-at_end.ensures.net
+
+pub choose-requires-clause-left : goal.choose-requires-clause-left
+choose-requires-clause-left c = net_added (adds_trans (adds_trans c.in_ok-end.ensures.adds c.in_ok-at_end.ensures.adds) c.in_ok-ones.ensures.adds) c.requires.net
+
+pub differ-requires-clause-left : goal.differ-requires-clause-left
+differ-requires-clause-left c = net_added (adds_trans (adds_trans (adds_trans c.in_ok-end.ensures.adds c.in_ok-at_end.ensures.adds) c.in_ok-ones.ensures.adds) c.in_ok-flips.ensures.adds) c.requires.net
+
+pub returns-in_err-end-clause-adds : goal.returns-in_err-end-clause-adds
+returns-in_err-end-clause-adds c = adds_most 9 (omega arith) (c.in_err-end.ensures.adds)
+
+pub returns-in_err-at_end-clause-adds : goal.returns-in_err-at_end-clause-adds
+returns-in_err-at_end-clause-adds c = adds_most 9 (omega arith) (adds_trans c.in_ok-end.ensures.adds c.in_err-at_end.ensures.adds)
+
+pub returns-in_err-ones-clause-adds : goal.returns-in_err-ones-clause-adds
+returns-in_err-ones-clause-adds c = adds_most 9 (omega arith) (adds_trans (adds_trans c.in_ok-end.ensures.adds c.in_ok-at_end.ensures.adds) c.in_err-ones.ensures.adds)
+
+pub returns-in_err-flips-clause-adds : goal.returns-in_err-flips-clause-adds
+returns-in_err-flips-clause-adds c = adds_most 9 (omega arith) (adds_trans (adds_trans (adds_trans c.in_ok-end.ensures.adds c.in_ok-at_end.ensures.adds) c.in_ok-ones.ensures.adds) c.in_err-flips.ensures.adds)
+
+pub returns-in_err-next-clause-adds : goal.returns-in_err-next-clause-adds
+returns-in_err-next-clause-adds c = adds_most 9 (omega arith) (adds_trans (adds_trans (adds_trans (adds_trans c.in_ok-end.ensures.adds c.in_ok-at_end.ensures.adds) c.in_ok-ones.ensures.adds) c.in_ok-flips.ensures.adds) c.in_err-next.ensures.adds)
+
+pub returns-clause-adds : goal.returns-clause-adds
+returns-clause-adds c = adds_trans (adds_trans (adds_trans (adds_trans c.in_ok-end.ensures.adds c.in_ok-at_end.ensures.adds) c.in_ok-ones.ensures.adds) c.in_ok-flips.ensures.adds) c.in_ok-next.ensures.adds
+
+pub returns-clause-words : goal.returns-clause-words
+returns-clause-words c = λ all k5 run is t l.
+    let g1 = c.in_ok-at_end.ensures.adds.grows in
+    let g2 = c.in_ok-ones.ensures.adds.grows in
+    let g3 = c.in_ok-flips.ensures.adds.grows in
+    let g4 = c.in_ok-next.ensures.adds.grows in
+    let l1 = grows_length c.in_ok-end.ensures.adds.grows in
+    let l2 = grows_length g1 in
+    let l3 = grows_length g2 in
+    let l4 = grows_length g3 in
+    let k4 = back g4 k5 in
+    let k3 = back g3 k4 in
+    let k2 = back g2 k3 in
+    let k1 = back g1 k2 in
+    bits_turn _ c.args.last _ _ _ _ _
+    (c.in_ok-end.ensures.words all k1 run is t l)
+    (c.in_ok-at_end.ensures.words all (carries_later _ _ l1 k2) run is t l)
+    (c.in_ok-ones.ensures.words all (carries_later _ _ (omega arith) k3) run is t l)
+    (c.in_ok-flips.ensures.words all (carries_later _ _ (omega arith) k4) run is t l)
+    (c.in_ok-next.ensures.words all (carries_later _ _ (omega arith) k5) run is t l)

@@ -1,0 +1,59 @@
+-- The nets of a register that turns, one after another, and what they hold.
+use Rattle.std.proofs.Common.{◌<◌, length, arith}
+use Rattle.ae_netlist.specs.Runs.{Carries}
+use Rattle.ae_netlist.proofs.Carried.{carries_later, carries_trans}
+use Rattle.ae_clocked.proofs.Adding.{adds_connect, adds_trans, grows_trans, net_added}
+use Rattle.ae_clocked.proofs.Added.{grows_length, back, connect_carries, net_within, net_own, own_register, register_later}
+use Rattle.ae_clocked.proofs.Marked.{bit_is, turn_after}
+use Rattle.ae_clocked.proofs.marks.turning.Goals as goal
+
+pub choose-requires-clause-condition : goal.choose-requires-clause-condition
+choose-requires-clause-condition c = net_added (adds_trans (adds_trans (adds_trans c.in_ok-y.ensures.adds c.in_ok-once.ensures.adds) c.in_ok-after.ensures.adds) c.in_ok-begin.ensures.adds) c.requires.rst
+
+pub choose-requires-clause-right : goal.choose-requires-clause-right
+choose-requires-clause-right c = net_added c.in_ok-begin.ensures.adds c.in_ok-after.ensures.net
+
+pub close-requires-clause-register : goal.close-requires-clause-register
+close-requires-clause-register c =
+    let later = grows_trans c.in_ok-once.ensures.adds.grows (grows_trans c.in_ok-after.ensures.adds.grows (grows_trans c.in_ok-begin.ensures.adds.grows c.in_ok-next.ensures.adds.grows)) in
+    own_register (register_later later c.in_ok-y.ensures.register)
+
+pub close-requires-clause-next : goal.close-requires-clause-next
+close-requires-clause-next c =
+    let later = grows_trans c.in_ok-once.ensures.adds.grows (grows_trans c.in_ok-after.ensures.adds.grows (grows_trans c.in_ok-begin.ensures.adds.grows c.in_ok-next.ensures.adds.grows)) in
+    net_own (register_later later c.in_ok-y.ensures.register) c.in_ok-next.ensures.net
+
+pub returns-clause-adds : goal.returns-clause-adds
+returns-clause-adds c =
+    adds_connect (adds_trans (adds_trans (adds_trans (adds_trans c.in_ok-y.ensures.adds c.in_ok-once.ensures.adds) c.in_ok-after.ensures.adds) c.in_ok-begin.ensures.adds) c.in_ok-next.ensures.adds)
+    (omega (arith, c.in_ok-y.ensures.fresh)) c.close.ensures
+
+pub returns-clause-net : goal.returns-clause-net
+returns-clause-net c =
+    let later = adds_trans (adds_trans (adds_trans c.in_ok-once.ensures.adds c.in_ok-after.ensures.adds) c.in_ok-begin.ensures.adds) c.in_ok-next.ensures.adds in
+    c.close.ensures.nets _ _ (net_added later c.in_ok-y.ensures.net)
+
+pub returns-clause-words : goal.returns-clause-words
+returns-clause-words c = λ all k run is t l.
+    let fresh = c.in_ok-y.ensures.fresh in
+    let g1 = c.in_ok-after.ensures.adds.grows in
+    let g2 = c.in_ok-begin.ensures.adds.grows in
+    let g3 = c.in_ok-next.ensures.adds.grows in
+    let l1 = grows_length c.in_ok-y.ensures.adds.grows in
+    let l2 = grows_length c.in_ok-once.ensures.adds.grows in
+    let l3 = grows_length g1 in
+    let l4 = grows_length g2 in
+    let y_new : c.in_ok-y.y.0 < length c.register.new.nl.cells = net_within c.in_ok-y.ensures.net in
+    let closed : Carries (length c.register.new.nl.cells) c.choose.new.nl.cells all =
+    carries_trans (connect_carries _ y_new c.close.ensures) (carries_later _ _ l1 k) in
+    let k3 = back g3 closed in
+    let k2 = back g2 k3 in
+    let k1 = back g1 k2 in
+    let l0 : t < length run = omega arith in
+    let begin = rw (bit_is _ _ c.from.ensures) at (c.in_ok-begin.ensures.words all (carries_later _ _ (omega arith) k3) run is t l0) in
+    turn_after _ _ _ _ _ _ _ _ _ _
+    (c.in_ok-once.ensures.words all k1 run is t l0)
+    (c.in_ok-after.ensures.words all (carries_later _ _ l2 k2) run is t l0)
+    begin
+    (c.in_ok-next.ensures.words all (carries_later _ _ (omega arith) closed) run is t l0)
+    (c.close.ensures.words all (carries_later _ _ (omega arith) k) run is t l)
