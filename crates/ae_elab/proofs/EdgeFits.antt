@@ -21,10 +21,11 @@ use Rattle.ae_elab.specs.Named.{AreNets, IsNamed, place_of}
 use Rattle.ae_elab.specs.Edges.{FitsNext, FitNexts, AreFresh, OthersKeep, IsWordNext, IsSoFar, next_at, next_word, next_store}
 use Rattle.ae_elab.specs.declared.statements.Next.{Next}
 use Rattle.ae_elab.specs.declared.statements.Next.TheVariants.{Keep, Word, Write}
+use Rattle.ae_elab.proofs.EdgeLaws.{guard_net_grows}
 use Rattle.ae_elab.proofs.Members.{among_at, among_left, among_right}
 use Rattle.ae_elab.proofs.SoundLaws.{named_width}
 use Rattle.ae_elab.proofs.Words.{net_grows}
-use Rattle.ae_elab.proofs.NetLaws.{name_net}
+use Rattle.ae_elab.proofs.NetLaws.{name_net, nets_grow}
 
 -- an address stays one
 address_later : (a b : List SizedCell) (at depth : ℕ) → Keeps a b → IsAddress a at depth → IsAddress b at depth
@@ -202,3 +203,6 @@ weight_more ifs (when test taken) = let p = weight_more (ifs + 1) taken in omega
 weight_more ifs (either test taken otherwise) = let p = weight_more (ifs + 1) taken in let q = weight_more (ifs + 1) otherwise in omega arith
 weight_more ifs block_end = omega arith
 weight_more ifs (block_more first rest) = let p = weight_more ifs first in let q = weight_more ifs rest in omega arith
+
+-- nets, what they stand for, and what is next, as a netlist grows
+pub ruleset growing = (net_grows, nets_grow, guard_net_grows, nexts_grow, address_grows)

@@ -70,7 +70,7 @@ fn fails(
 }
 
 /// The guard of what is reached only where a bit is 1.
-#[tactic(auto, using(crate::proofs::Words::net_grows, crate::proofs::NetLaws::nets_grow, crate::proofs::EdgeLaws::guard_net_grows, crate::proofs::EdgeFits::nexts_grow, crate::proofs::EdgeFits::address_grows))]
+#[tactic(auto, using(crate::proofs::EdgeFits::growing))]
 fn also(nl: &mut Netlist, from: u32, guard: Option<NetId>, on: NetId) -> Result<NetId, AllocError>
     requires from { from ≤ length nl.old.cells }
     requires guard { IsGuardNet nl.old.cells guard }
@@ -92,7 +92,7 @@ fn also(nl: &mut Netlist, from: u32, guard: Option<NetId>, on: NetId) -> Result<
 }
 
 /// The guard of what is reached only where a bit is 0.
-#[tactic(auto, using(crate::proofs::Words::net_grows, crate::proofs::NetLaws::nets_grow, crate::proofs::EdgeLaws::guard_net_grows, crate::proofs::EdgeFits::nexts_grow, crate::proofs::EdgeFits::address_grows))]
+#[tactic(auto, using(crate::proofs::EdgeFits::growing))]
 fn unless(nl: &mut Netlist, from: u32, guard: Option<NetId>, on: NetId) -> Result<NetId, AllocError>
     requires from { from ≤ length nl.old.cells }
     requires guard { IsGuardNet nl.old.cells guard }
@@ -171,7 +171,7 @@ fn so_far(nexts: &[Next], place: usize, own: NetId) -> NetId
 }
 
 /// A register's next word after `name <= value`.
-#[tactic(auto, using(crate::proofs::Words::net_grows, crate::proofs::NetLaws::nets_grow, crate::proofs::EdgeLaws::guard_net_grows, crate::proofs::EdgeFits::nexts_grow, crate::proofs::EdgeFits::address_grows))]
+#[tactic(auto, using(crate::proofs::EdgeFits::growing))]
 fn assign(
     nl: &mut Netlist,
     from: u32,
@@ -237,7 +237,7 @@ fn written_at(
 }
 
 /// What a memory takes after `name[at] <= value`.
-#[tactic(auto, using(crate::proofs::Words::net_grows, crate::proofs::NetLaws::nets_grow, crate::proofs::EdgeLaws::guard_net_grows, crate::proofs::EdgeFits::nexts_grow, crate::proofs::EdgeFits::address_grows))]
+#[tactic(auto, using(crate::proofs::EdgeFits::growing))]
 fn write(
     nl: &mut Netlist,
     from: u32,
@@ -274,7 +274,7 @@ fn write(
 }
 
 /// What registers and memories take after a statement: at most 8 cells for each unit of its weight.
-#[tactic(auto, using(crate::proofs::Words::net_grows, crate::proofs::NetLaws::nets_grow, crate::proofs::EdgeLaws::guard_net_grows, crate::proofs::EdgeFits::nexts_grow, crate::proofs::EdgeFits::address_grows))]
+#[tactic(auto, using(crate::proofs::EdgeFits::growing))]
 #[cycle(acting)]
 pub fn act(
     nl: &mut Netlist,
@@ -330,7 +330,7 @@ pub fn act(
 }
 
 /// What registers and memories take after the statements of a block.
-#[tactic(auto, using(crate::proofs::Words::net_grows, crate::proofs::NetLaws::nets_grow, crate::proofs::EdgeLaws::guard_net_grows, crate::proofs::EdgeFits::nexts_grow, crate::proofs::EdgeFits::address_grows))]
+#[tactic(auto, using(crate::proofs::EdgeFits::growing))]
 #[cycle(acting)]
 fn act_all(
     nl: &mut Netlist,
