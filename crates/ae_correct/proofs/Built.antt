@@ -12,32 +12,32 @@ use Rattle.ae_eval.specs.Stack.{IsTyped}
 use Rattle.ae_rewrite.specs.StProgramTree.{StFuncTree}
 use Rattle.ae_rewrite.specs.Scheduled.{IsSchedule}
 use Rattle.ae_rewrite.specs.Sound.{item_layout, item_layouts, IsSound}
-use Rattle.ae_flow.specs.Laws.{FlowsMean}
 use Rattle.ae_flow.specs.Fitted.{streams_of}
-use Rattle.ae_lower.specs.Circuits.{last_of, IsCircuitOf}
+use Rattle.ae_lower.specs.Circuits.{last_of, IsCircuitOf, results_of}
 use Rattle.ae_lower.specs.Lowering.{instance_costs}
 use Rattle.ae_lower.specs.Ports.{SizedPort}
 use Rattle.ae_lower.specs.Ports as net_side
-use Rattle.ae_correct.specs.Correct.{ModulePort, port_of, ports_of, ports_from, input_ports, output_ports, program_ports, HaveLayouts, IsCorrect, main_of}
+use Rattle.ae_rewrite.specs.Interface.{HaveLayouts, main_of}
+use Rattle.ae_correct.specs.Correct.{ModulePort, port_of, ports_of, ports_from, input_ports, output_ports, program_ports, IsCorrect}
+use Rattle.ae_lower.proofs.Blocks.{keys_of, program_instance}
 use Rattle.ae_correct.proofs.ModuleClock.{clocked}
 use Rattle.ae_correct.proofs.Nets.{in_net, out_net, ports_filtered}
 use Rattle.ae_correct.proofs.ModulePorts.{from_are}
-use Rattle.ae_correct.proofs.Layouts.{map_map, parameters_laid, results_laid, results_of}
-use Rattle.ae_correct.proofs.Keeps.{IsProgramCircuit, keys_of, ins_of, outs_of, ports, keeps}
+use Rattle.ae_lower.proofs.Layouts.{map_map, parameters_laid, results_laid}
+use Rattle.ae_correct.proofs.Keeps.{IsProgramCircuit, ins_of, outs_of, ports, keeps}
 
 pub program_circuit : (p : ProgramTree) (slowdown : ℕ) (instances : List StFuncTree) (s : StFuncTree) (n : Circuit) → IsTyped p → IsSchedule p slowdown instances → IsSound instances
     → slice_get instances (last_of instances) ≡ Some s → IsCircuitOf instances s n → HasSameRuns (netlist_module n.cells n.outlets (length s.results)) n → IsProgramCircuit p slowdown instances s n
 program_circuit p slowdown instances s n typed h sound found circuit same =
-    let key = h.last in
-    let e : key.instance ≡ s = same_Some key.instance s (sym key.here ∙ found) in
+    let own = program_instance p slowdown instances s h found in
     record {
       typed = typed;
       schedule = h;
       sound = sound;
       found = found;
-      is = h.right (last_of instances) s found;
-      last = subst (λ (x : StFuncTree). x.func ≡ main_of p) e key.is_func;
-      budget = subst (λ (x : StFuncTree). x.budget ≡ slowdown) e key.is_budget;
+      is = own.is;
+      last = own.last;
+      budget = own.budget;
       circuit = circuit;
       same = same;
     }
@@ -66,13 +66,13 @@ module _ (p : ProgramTree) (slowdown : ℕ) (instances : List StFuncTree) (s : S
       ∙ (λ i. clk ∷ rst ∷ (from_are 1 false (λ param lane word. In param lane word) 0 s.ins i ++ from_are many true (λ result lane word. Out result lane word) 0 (results_of s) i))
       ∙ ap (λ k. clk ∷ rst ∷ (ports_from input_ports 0 s.ins ++ ports_from (output_ports k) 0 (results_of s))) as_many
 
-  pub is_correct : FlowsMean → IsCorrect (netlist_module n.cells n.outlets (length s.results)) p slowdown (instance_costs instances (last_of instances)).latency
-  is_correct means = record {
+  pub is_correct : IsCorrect (netlist_module n.cells n.outlets (length s.results)) p slowdown (instance_costs instances (last_of instances)).latency
+  is_correct = record {
     named = refl;
     inputs = s.ins;
     outputs = results_of s;
     layouts = layouts;
     ports = ports_are;
     clocked = clocked n.cells n.outlets (length s.results);
-    keeps = keeps p slowdown instances s n c means;
+    keeps = keeps p slowdown instances s n c;
   }

@@ -18,7 +18,7 @@ use Rattle.ae_lower.specs.Circuits.{columns_in}
 use Rattle.ae_play.specs.Fed.{clock_row, block_row, element_in, fed_rows, layout_row}
 use Rattle.ae_correct.specs.ClockTexts.{fill_word, IsTaken}
 use Rattle.ae_correct.proofs.ModulePorts.{mapped_at}
-use Rattle.ae_correct.proofs.Layouts.{stream_columns}
+use Rattle.ae_lower.proofs.Layouts.{stream_columns}
 use Rattle.ae_correct.proofs.Standing.{element_stands, element_found}
 use Rattle.ae_correct.proofs.Rows.{stood, unfilled, fill_at, rows_at}
 

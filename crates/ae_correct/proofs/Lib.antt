@@ -3,7 +3,6 @@ pub mod ModuleClock
 pub mod Nets
 pub mod ModulePorts
 pub mod Clocks
-pub mod Layouts
 pub mod Keeps
 pub mod Built
 pub mod Written

@@ -16,7 +16,7 @@ use Rattle.ae_play.specs.Fed.{fill_row, lane_words, layout_row, layout_rows, sta
 use Rattle.ae_correct.specs.ClockTexts.{fill_word}
 use Rattle.ae_correct.proofs.ModulePorts.{mapped_at}
 use Rattle.ae_correct.proofs.Places.{columns_more}
-use Rattle.ae_correct.proofs.Layouts.{stream_columns}
+use Rattle.ae_lower.proofs.Layouts.{stream_columns}
 
 -- ---- a lane
 

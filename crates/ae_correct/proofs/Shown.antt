@@ -26,9 +26,9 @@ use Rattle.ae_eval.specs.Lines.{input_types}
 use Rattle.ae_rewrite.specs.StProgramTree.{StFuncTree}
 use Rattle.ae_rewrite.specs.Scheduled.{IsFilling}
 use Rattle.ae_flow.specs.Fitted.{streams_of}
-use Rattle.ae_flow.specs.Laws.{AreValues}
+use Rattle.ae_rewrite.specs.Interface.{AreValues}
 use Rattle.ae_flow.proofs.MeaningLayouts.{AllLaidOut}
-use Rattle.ae_lower.specs.Circuits.{columns_in, last_of}
+use Rattle.ae_lower.specs.Circuits.{columns_in, last_of, results_of}
 use Rattle.ae_play.specs.Fed.{clock_row, fed_rows}
 use Rattle.ae_play.specs.Sums.{ArePlayedSums, AreSums, all_stand, valid_words}
 use Rattle.ae_play.specs.declared.sums.Sums.{Sums}
@@ -36,9 +36,10 @@ use Rattle.ae_play.specs.Lines.{IsPlayedText, clock_count, clock_line, clock_lin
 use Rattle.ae_correct.specs.Correct.{input_ports, wave}
 use Rattle.ae_correct.specs.ClockTexts.{fill_word, AreClockSums, IsClockText, IsFed, IsTaken}
 use Rattle.ae_correct.specs.Laws.{PlaysAreShown, SumsAreShown}
+use Rattle.ae_lower.proofs.Blocks.{keys_of}
 use Rattle.ae_correct.proofs.Nets.{HavePorts}
-use Rattle.ae_correct.proofs.Layouts.{as_many_values, inputs_laid, input_types_are, results_of}
-use Rattle.ae_correct.proofs.Keeps.{IsProgramCircuit, keys_of, ins_of, outs_of, ports}
+use Rattle.ae_lower.proofs.Layouts.{as_many_values, inputs_laid, input_types_are}
+use Rattle.ae_correct.proofs.Keeps.{IsProgramCircuit, ins_of, outs_of, ports}
 use Rattle.ae_correct.proofs.Built.{program_circuit}
 use Rattle.ae_correct.proofs.FedRows.{FillAll, AreWhole, length_rows, row_later, small_column, stands_in_row, free_in_row}
 use Rattle.ae_correct.proofs.FirstWords.{begins}

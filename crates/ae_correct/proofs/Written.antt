@@ -28,13 +28,13 @@ use Rattle.ae_delay.proofs.Instances.{all_items}
 use Rattle.ae_fold.proofs.Kinding.{get_append_cases}
 use Rattle.ae_flow.specs.Fitted.{streams_of}
 use Rattle.ae_flow.proofs.Placed.{as_many}
-use Rattle.ae_lower.specs.Circuits.{columns_in, last_of, IsCircuitOf}
+use Rattle.ae_lower.specs.Circuits.{columns_in, last_of, IsCircuitOf, results_of}
 use Rattle.ae_lower.specs.Lowering.{instance_costs}
 use Rattle.ae_lower.specs.Ports.{SizedPort, input_cell, outlet_port, reset_port, input_ports, output_ports}
 use Rattle.ae_correct.proofs.Places.{IsPortFrom, columns_more, length_from, port_from, same_place}
 use Rattle.ae_correct.proofs.Nets.{HaveInputs, HavePorts, NoInputs, no_more}
 use Rattle.ae_correct.proofs.ModulePorts.{mapped_at}
-use Rattle.ae_correct.proofs.Layouts.{element_columns, stream_columns, results_of}
+use Rattle.ae_lower.proofs.Layouts.{element_columns, stream_columns}
 use Rattle.ae_correct.proofs.Keeps.{circuit_ports, ins_of, outs_of}
 
 -- ---- an entry of a list that a function made

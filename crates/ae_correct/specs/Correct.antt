@@ -1,48 +1,20 @@
 -- When a module is correct for a program: its ports, its clock, and the values that its outputs hold, block after block, by
 -- the space-time types of Durst et al. (PLDI 2020).
-use Rattle.std.specs.Prelude.{◌≡◌, ℕ, zero, suc, ◌+◌, ◌-◌, ◌*◌, ◌≤◌, Bool, true, false, ◌||◌, List, [], ◌∷◌, ◌++◌, length, map, filter, get_or, slice_get, Option, Some, None, codes}
+use Rattle.std.specs.Prelude.{◌≡◌, ℕ, zero, suc, ◌+◌, ◌*◌, ◌≤◌, Bool, true, false, ◌||◌, List, [], ◌∷◌, ◌++◌, length, map, filter, get_or, slice_get, Some, codes}
 use Rattle.ae_word.specs.AtomTree.{WordKind, atom_kinds}
-use Rattle.ae_seqtype.specs.SeqTree.{SeqTree}
 use Rattle.ae_seqtype.specs.ValueTree.{ValueTree, flat}
 use Rattle.ae_sttype.specs.StTree.{StTree, lanes, element_atom, element_words}
 use Rattle.ae_sttype.specs.Slots.{slots}
 use Rattle.ae_sttype.specs.Holds.{Holds}
-use Rattle.ae_rewrite.specs.LayoutRule.{lay_of}
-use Rattle.ae_seq.specs.ProgramTree.{FuncTree, ProgramTree}
-use Rattle.ae_seq.specs.Typing.{◌>>=◌, param_types, type_at}
+use Rattle.ae_seq.specs.ProgramTree.{ProgramTree}
 use Rattle.ae_seq.specs.Meaning.{at, mean}
-use Rattle.ae_flow.specs.Laws.{AreValues}
+use Rattle.ae_rewrite.specs.Interface.{AreValues, HaveLayouts, parameter_types}
 use Rattle.ae_netlist.specs.declared.cell.Port.TheVariants.{In, Out}
 use Rattle.ae_vread.specs.ModuleTree.{NetTree, ModuleTree}
 use Rattle.ae_elab.specs.Names.{is_input_kind, is_output_kind, clock_name}
 use Rattle.ae_elab.specs.Values.{ModuleClock}
 use Rattle.ae_elab.specs.Runs.{clock_at, IsResetRun}
 use Rattle.ae_verilog.specs.NetlistModule.{port_name}
-
--- ---- the types and layouts of a program
-
-abbrev pub main_of : ProgramTree → ℕ
-main_of p = length p.funcs - 1
-
-abbrev pub types_in : Option FuncTree → List SeqTree
-types_in None = []
-types_in (Some f) = param_types f
-
-abbrev pub results_in : Option FuncTree → List ℕ
-results_in None = []
-results_in (Some f) = f.results
-
--- the types of the program function's parameters, and of its results
-abbrev pub parameter_types : ProgramTree → List SeqTree
-parameter_types p = types_in (slice_get p.funcs (main_of p))
-
-abbrev pub result_types : ProgramTree → List (Option SeqTree)
-result_types p = map (type_at p (main_of p)) (results_in (slice_get p.funcs (main_of p)))
-
--- each parameter and each result has this layout, in as many clocks as the slowdown says
-pub record HaveLayouts (p : ProgramTree) (slowdown : ℕ) (inputs outputs : List StTree) : Type 0 where
-  pub parameters : map (λ t. lay_of t slowdown) (parameter_types p) ≡ map Some inputs
-  pub results : map (λ o. o >>= λ t. lay_of t slowdown) (result_types p) ≡ map Some outputs
 
 -- ---- ports
 

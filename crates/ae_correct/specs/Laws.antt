@@ -17,7 +17,7 @@ use Rattle.ae_verilog.specs.NetlistModule.{netlist_module}
 use Rattle.ae_verilog.specs.Written.{IsWritableNetlist}
 use Rattle.ae_lower.specs.Lowering.{instance_costs}
 use Rattle.ae_lower.specs.Circuits.{IsCircuitOf, last_of}
-use Rattle.ae_flow.specs.Laws.{AreValues}
+use Rattle.ae_rewrite.specs.Interface.{AreValues}
 use Rattle.ae_play.specs.Fed.{fed_rows}
 use Rattle.ae_play.specs.Lines.{IsPlayedText, clock_count}
 use Rattle.ae_play.specs.Sums.{ArePlayedSums}

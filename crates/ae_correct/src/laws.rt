@@ -2,8 +2,6 @@
 
 ghost use Rattle.ae_correct.specs.Laws.{CircuitsAreCorrect, CircuitsAreWritable, FeedsAreAlike, PlaysAreAlike, PlaysAreShown, SumsAreAlike, SumsAreShown};
 
-use ae_flow::flows_mean;
-
 /// A law: the circuit of a typed program's schedule, where its load is at most 100,000, can be written as a module.
 pub fn circuits_are_writable()
     ensures { CircuitsAreWritable }
@@ -13,9 +11,7 @@ pub fn circuits_are_writable()
 /// correct for the program.
 pub fn circuits_are_correct()
     ensures { CircuitsAreCorrect }
-{
-    flows_mean();
-}
+{}
 
 /// A law: the lines of a circuit's run on the words of blocks are those of its module on the blocks.
 pub fn plays_are_shown()

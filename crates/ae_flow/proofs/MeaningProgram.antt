@@ -29,7 +29,8 @@ use Rattle.ae_eval.proofs.Items.{entry-at, entry-grown, meaning-of, slice_get-ta
 use Rattle.ae_eval.proofs.Starting.{count-items}
 use Rattle.ae_eval.proofs.Typing.{type-at-is}
 use Rattle.ae_flow.specs.Flow.{Callee, callee, callee_at, callees, first_result, flow, item_words, no_callee, node_words, results_in, words_at}
-use Rattle.ae_flow.specs.Laws.{AreValues, FlowsMean}
+use Rattle.ae_rewrite.specs.Interface.{AreValues}
+use Rattle.ae_flow.specs.Laws.{FlowsMean}
 use Rattle.ae_flow.proofs.MeaningLayouts.{LaysOut, AllLaidOut, lays-out}
 use Rattle.ae_flow.proofs.MeaningBodies.{Computes}
 use Rattle.ae_flow.proofs.MeaningNodes.{Adds, Standing, LaidItems, SizedItems, AllCompute, grown-stands, node-stands}

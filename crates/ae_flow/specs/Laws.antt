@@ -1,11 +1,11 @@
 -- What is proved of the flow of a program's schedule.
-use Rattle.std.specs.Prelude.{◌≡◌, ℕ, ◌<◌, List, [], ◌∷◌, length, map, take, Some, slice_get}
-use Rattle.ae_seqtype.specs.SeqTree.{SeqTree}
-use Rattle.ae_seqtype.specs.ValueTree.{ValueTree, flat, Stands}
+use Rattle.std.specs.Prelude.{◌≡◌, ℕ, ◌<◌, List, length, map, take, Some, slice_get}
+use Rattle.ae_seqtype.specs.ValueTree.{ValueTree, flat}
 use Rattle.ae_seq.specs.ProgramTree.{ProgramTree}
 use Rattle.ae_seq.specs.Meaning.{mean}
 use Rattle.ae_eval.specs.Stack.{IsTyped}
 use Rattle.ae_eval.specs.Lines.{input_types}
+use Rattle.ae_rewrite.specs.Interface.{AreValues}
 use Rattle.ae_rewrite.specs.StProgramTree.{StFuncTree}
 use Rattle.ae_rewrite.specs.Scheduled.{IsSchedule}
 use Rattle.ae_rewrite.specs.Sound.{item_layout, item_layouts, IsSound}
@@ -22,12 +22,6 @@ abbrev pub FlowsFit : Type 0
 FlowsFit =
     (instances : List StFuncTree) (k : ℕ) (s : StFuncTree) (vs : List (List ℕ)) → IsSound instances → AreFitted instances → slice_get instances k ≡ Some s → AllAreWords (streams_of s.ins) vs
     → (i : ℕ) → i < length (item_layouts s) → AreWords (stream_of (item_layout (item_layouts s) i)) (words_at (item_words (callees (take k instances)) s vs) i)
-
--- a value of each type
-abbrev pub AreValues : List SeqTree → List ValueTree → Type 0
-AreValues [] [] = Unit {0}
-AreValues (t ∷ ts) (v ∷ vs) = ((ws : List ℕ) × Stands t ws v) × AreValues ts vs
-AreValues _ _ = ⊥
 
 -- the schedule of a typed program makes of the words of its arguments the words of its results
 abbrev pub FlowsMean : Type 0

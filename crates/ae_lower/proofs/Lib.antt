@@ -26,3 +26,5 @@ pub mod Costing
 pub mod Instances
 pub mod Ending
 pub mod Tidied
+pub mod Layouts
+pub mod Blocks

@@ -21,8 +21,9 @@ use Rattle.ae_tidy.specs.Tidied.{IsTidied, ShowTheSame, shown_ports}
 use Rattle.ae_rewrite.specs.StProgramTree.{StFuncTree}
 use Rattle.ae_rewrite.specs.Sound.{IsSoundFunc}
 use Rattle.ae_flow.specs.Fitted.{streams_of}
-use Rattle.ae_lower.specs.Circuits.{IsCircuitOf, MakesResults}
-use Rattle.ae_lower.specs.Ports.{SizedPort, input_cell, input_ports, input_wave, input_waves, outlet_net, outlet_port, ports_from, reset_port, stream_ports}
+use Rattle.ae_lower.specs.Circuits.{IsCircuitThat, MakesResults}
+use Rattle.ae_rewrite.specs.Blocks.{input_wave, outlet_net}
+use Rattle.ae_lower.specs.Ports.{SizedPort, input_cell, input_ports, input_waves, outlet_port, ports_from, reset_port, stream_ports}
 use Rattle.ae_lower.proofs.Inputs.{length-stream_ports}
 use Rattle.ae_lower.proofs.Results.{holds_same}
 
@@ -146,7 +147,7 @@ tidied_makes instances s old new many sound few inputs t makes run start is_run 
           λ e j w at lt. outputs_same old new many before run _ _ (omega arith) same t.outputs u.2 ∙ made e j w at lt;
     }
 
-pub tidied_circuit : (instances : List StFuncTree) (s : StFuncTree) (old new : Circuit) → ((k : ℕ) × IsSoundFunc k s) → IsCircuitOf instances s old → IsTidied old new → IsCircuitOf instances s new
+pub tidied_circuit : (instances : List StFuncTree) (s : StFuncTree) (old new : Circuit) → ((k : ℕ) × IsSoundFunc k s) → IsCircuitThat MakesResults instances s old → IsTidied old new → IsCircuitThat MakesResults instances s new
 tidied_circuit instances s old new sound c t =
     let ps : List SizedPort = reset_port ∷ input_ports (streams_of s.ins) in
     let many : 1 + length (input_ports (streams_of s.ins)) ≡ length ps = omega arith in

@@ -27,7 +27,7 @@ use Rattle.ae_delay.specs.Costs.{all_costs}
 use Rattle.ae_delay.specs.Timings.{AreTimes, Times}
 use Rattle.ae_flow.specs.Flow.{callees}
 use Rattle.ae_flow.specs.Fitted.{streams_of}
-use Rattle.ae_lower.specs.Circuits.{IsCircuitOf, last_of, result_streams}
+use Rattle.ae_lower.specs.Circuits.{IsCircuitThat, MakesResults, last_of, result_streams}
 use Rattle.ae_lower.specs.Growth.{Adds, GrowsBy}
 use Rattle.ae_lower.specs.Lowering.{AreChosen, IsLight, costs_in, instance_costs}
 use Rattle.ae_lower.specs.Ports.{SizedPort, input_cell, input_ports, lane_ports, output_ports, ports_from, reset_port, stream_ports, word_ports}
@@ -194,7 +194,7 @@ chosen_last instances s cells rst k ins ours bundles theirs zeroed last mine sam
 pub circuit_made : (instances : List StFuncTree) (s : StFuncTree) (a b c : Circuit) (bundles : List (List NetId)) → ((k : ℕ) × IsSoundFunc k s) → slice_get instances (last_of instances) ≡ Some s → HasBegun s a
     → GrowsBy a b (instance_costs instances (last_of instances)).load → Adds a b (instance_costs instances (last_of instances)).muls (instance_costs instances (last_of instances)).mems
     → AreChosen b.cells 0 0 (callees (take (last_of instances) instances)) s (bundles_from 1 (streams_of s.ins)) (instance_costs instances (last_of instances)).latency s.results bundles
-    → AddsOutputs b c (output_ports (result_streams s)) (all_nets bundles) → IsFormed c.cells → HaveNets c.cells c.outlets → IsCircuitOf instances s c
+    → AddsOutputs b c (output_ports (result_streams s)) (all_nets bundles) → IsFormed c.cells → HaveNets c.cells c.outlets → IsCircuitThat MakesResults instances s c
 circuit_made instances s a b c bundles sound found begun grown adds chosen shown formed have =
     let ports : List SizedPort = reset_port ∷ input_ports (streams_of s.ins) in
     let kept : c.cells ≡ b.cells = outputs_cells shown in

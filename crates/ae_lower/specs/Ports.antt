@@ -1,12 +1,13 @@
 -- The ports of a circuit, and the words that stand on them.
-use Rattle.std.specs.Prelude.{ℕ, zero, suc, ◌+◌, List, [], ◌∷◌, ◌++◌, length, map, get_or}
+use Rattle.std.specs.Prelude.{ℕ, zero, suc, ◌+◌, List, [], ◌∷◌, ◌++◌, length, map}
 use Rattle.ae_netlist.specs.declared.cell.Port.{Port}
 use Rattle.ae_netlist.specs.declared.cell.Port.TheVariants.{Reset, In, Out}
 use Rattle.ae_netlist.specs.declared.cell.Cell.TheVariants.{Input}
 use Rattle.ae_netlist.specs.declared.cell.SizedCell.{SizedCell}
 use Rattle.ae_netlist.specs.declared.cell.Outlet.{Outlet}
 use Rattle.ae_netlist.specs.Circuit.{width_of}
-use Rattle.ae_netlist.specs.Runs.{Clock, word_at}
+use Rattle.ae_netlist.specs.Runs.{Clock}
+use Rattle.ae_rewrite.specs.Blocks.{input_wave}
 use Rattle.ae_ops.specs.Waves.{Wave}
 use Rattle.ae_ops.specs.Blocks.{Stream, stream_widths}
 
@@ -53,19 +54,7 @@ outlet_port cells o = record { port = o.port; width = width_of cells o.net.0 }
 
 -- ---- words
 
--- the words of the nets from one on
-abbrev pub input_wave : List Clock → (start first : ℕ) → Wave
-input_wave run start first = λ c q. word_at run (start + c) (first + q)
-
--- those of the inputs of each stream in turn
+-- the words of the inputs of each stream in turn
 abbrev pub input_waves : List Clock → (start first : ℕ) → List Stream → List Wave
 input_waves run start first [] = []
 input_waves run start first (s ∷ ss) = input_wave run start first ∷ input_waves run start (first + length (stream_widths s)) ss
-
--- the net of an output, by its number
-abbrev pub outlet_net : List Outlet → ℕ → ℕ
-outlet_net outlets k = (get_or (map (λ (o : Outlet). o.net) outlets) k (record { 0 = 0 })).0
-
--- the words of the outputs from one on
-abbrev pub output_wave : List Clock → List Outlet → (start first : ℕ) → Wave
-output_wave run outlets start first = λ c q. word_at run (start + c) (outlet_net outlets (first + q))

@@ -11,6 +11,7 @@ use crate::calls::{instance, lower_instance};
 use crate::ports::{add_input, add_inputs, add_results};
 use ae_clocked::Clocks;
 use ae_delay::Timing;
+use ae_flow::flows_mean;
 use ae_netlist::{Netlist, Port};
 use ae_rewrite::StProgram;
 use ae_tidy::tidy;
@@ -38,6 +39,7 @@ pub fn lower(alloc: Global, p: &StProgram, a: &Timing) -> Result<Lowered, AllocE
     ensures circuit { IfOk result (λ l. (s : Tree) → slice_get (st_func_trees p.now) (last_of (st_func_trees p.now)) ≡ Some s → IsCircuitOf (st_func_trees p.now) s l.netlist) }
     ensures marks { IfOk result (λ l. (s : Tree) → slice_get (st_func_trees p.now) (last_of (st_func_trees p.now)) ≡ Some s → AreMarks (length l.netlist.cells) (length s.nodes) l.marks.items) }
 {
+    flows_mean();
     let last = p.count() - 1;
     let s = instance(p, last);
     let _load = a.load();

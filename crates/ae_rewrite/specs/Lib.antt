@@ -6,3 +6,5 @@ pub mod Scheduled
 pub mod Spreads
 pub mod Planned
 pub mod Sound
+pub mod Interface
+pub mod Blocks

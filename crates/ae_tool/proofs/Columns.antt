@@ -16,10 +16,10 @@ use Rattle.ae_rewrite.specs.StProgramTree.{StFuncTree}
 use Rattle.ae_rewrite.specs.Scheduled.{IsFilling, IsInstance, IsSchedule}
 use Rattle.ae_rewrite.specs.Sound.{IsSound, IsSoundFunc, item_layout, item_layouts}
 use Rattle.ae_delay.proofs.Instances.{all_items}
-use Rattle.ae_lower.specs.Circuits.{last_of}
-use Rattle.ae_correct.specs.Correct.{main_of, result_types}
-use Rattle.ae_correct.proofs.Keeps.{keys_of}
-use Rattle.ae_correct.proofs.Layouts.{results_laid, results_of}
+use Rattle.ae_lower.specs.Circuits.{last_of, results_of}
+use Rattle.ae_rewrite.specs.Interface.{main_of, result_types}
+use Rattle.ae_lower.proofs.Blocks.{keys_of}
+use Rattle.ae_lower.proofs.Layouts.{results_laid}
 use Rattle.ae_tool.specs.RunTexts.{layout_columns, output_count}
 use Rattle.ae_tool.proofs.Modules.{few_columns, unmapped}
 

@@ -23,7 +23,7 @@ use Rattle.ae_eval.specs.Stack.{AllFit, FitIn, IsTyped, kinds_of, values_in, val
 use Rattle.ae_eval.specs.Lines.{input_types}
 use Rattle.ae_eval.proofs.Framing.{length-FitIn}
 use Rattle.ae_eval.proofs.Items.{drop-at}
-use Rattle.ae_correct.specs.Correct.{result_types}
+use Rattle.ae_rewrite.specs.Interface.{result_types}
 use Rattle.ae_tool.specs.Inputs.{values_of as row_values_of}
 use Rattle.ae_tool.specs.RunTexts.{input_widths, run_limit}
 use Rattle.ae_tool.specs.Refusals.{refusal_line}

@@ -19,7 +19,7 @@ use Rattle.ae_seq.specs.Typing.{Judged, Signature, Verdict, all_in_size, fine, u
 use Rattle.ae_eval.specs.Stack.{IsTyped, kinds_of, params_for}
 use Rattle.ae_eval.specs.Lines.{input_types, last_func}
 use Rattle.ae_eval.proofs.Items.{and-both, entry-at, few-funcs, func-read}
-use Rattle.ae_correct.specs.Correct.{parameter_types, result_types, results_in, types_in, main_of}
+use Rattle.ae_rewrite.specs.Interface.{parameter_types, result_types, results_in, types_in, main_of}
 use Rattle.ae_tool.specs.Inputs.{type_widths, widths_of}
 use Rattle.ae_tool.specs.RunTexts.{input_widths}
 use Rattle.std.proofs.lemmas.List.{map-append}

@@ -28,7 +28,7 @@ use Rattle.ae_lower.specs.Circuits.{IsCircuitOf}
 use Rattle.ae_lower.specs.Ports.{SizedPort, input_cell, input_ports, lane_ports, ports_from, reset_port, word_ports}
 use Rattle.ae_play.specs.Fed.{blocks_of, fed_rows}
 use Rattle.ae_play.specs.Fits.{CanBeFed, FitBlocks, HasColumns, lane_kinds, value_kinds}
-use Rattle.ae_correct.specs.Correct.{parameter_types}
+use Rattle.ae_rewrite.specs.Interface.{parameter_types}
 use Rattle.ae_tool.specs.EvalRows.{AreBlocks}
 use Rattle.ae_tool.specs.RunTexts.{input_widths}
 use Rattle.ae_tool.proofs.EvalTypes.{same_parameters}

@@ -32,12 +32,12 @@ use Rattle.ae_verilog.specs.ReportLines.{report_lines, is_clean}
 use Rattle.ae_ops.specs.Blocks.{stream_of}
 use Rattle.ae_flow.specs.Fitted.{streams_of}
 use Rattle.ae_lower.specs.Lowering.{costs_in}
-use Rattle.ae_lower.specs.Circuits.{IsCircuitOf, columns_in, last_of}
+use Rattle.ae_lower.specs.Circuits.{IsCircuitOf, columns_in, last_of, results_of}
 use Rattle.ae_lower.specs.Ports as net_side
 use Rattle.ae_lower.specs.Ports.{SizedPort, outlet_port}
 use Rattle.ae_correct.specs.Laws.{CircuitsAreCorrect, CircuitsAreWritable}
 use Rattle.ae_correct.specs.Correct.{ports_of, port_of, is_port}
-use Rattle.ae_correct.proofs.Layouts.{results_of, stream_columns}
+use Rattle.ae_lower.proofs.Layouts.{stream_columns}
 use Rattle.ae_correct.proofs.Keeps.{circuit_ports, ins_of, outs_of}
 use Rattle.ae_correct.proofs.Nets.{in_net, out_net, ports_filtered}
 use Rattle.ae_correct.proofs.Places.{columns_more, length_from}

@@ -18,7 +18,7 @@ use Rattle.ae_delay.specs.Costs.{NodeTiming, all_costs, func_costs, next_timing,
 use Rattle.ae_delay.specs.Timings.{AreTimes, Times, item_arrivals}
 use Rattle.ae_delay.specs.Weighing.{IsOverAt, cost_of}
 use Rattle.ae_tool.specs.Schedules.{HasLargeLoad, HasMain, IsScheduled, load_limit}
-use Rattle.ae_correct.specs.Correct.{main_of}
+use Rattle.ae_rewrite.specs.Interface.{main_of}
 use Rattle.ae_tool.specs.PlanTexts.{IsInstanceOf, plan_text, planned_text}
 use Rattle.ae_tool.specs.CostTables.{AllNamed, cost_table}
 

@@ -12,11 +12,10 @@ use Rattle.ae_parse.specs.Rows.{row_words, words_in}
 use Rattle.ae_eval.specs.Stack.{FitIn, IsTyped, kinds_of}
 use Rattle.ae_eval.specs.Lines.{input_types}
 use Rattle.ae_eval.proofs.Items.{drop-at}
-use Rattle.ae_flow.specs.Laws.{AreValues}
+use Rattle.ae_rewrite.specs.Interface.{AreValues, parameter_types}
 use Rattle.ae_flow.proofs.MeaningLayouts.{AllLaidOut}
 use Rattle.ae_play.specs.Fed.{size_of}
 use Rattle.ae_play.specs.Fed as fed
-use Rattle.ae_correct.specs.Correct.{parameter_types}
 use Rattle.ae_tool.specs.EvalRows.{AreRows, AreBlocks}
 use Rattle.ae_tool.specs.Inputs.{widths_of, values_of, blocks_of}
 use Rattle.std.specs.Prelude.{codes}

@@ -7,7 +7,7 @@ use Rattle.ae_seq.specs.ProgramTree.{ProgramTree}
 use Rattle.ae_rewrite.specs.StProgramTree.{StFuncTree}
 use Rattle.ae_play.specs.Lines.{clock_count}
 use Rattle.ae_play.specs.declared.sums.Sums.{Sums}
-use Rattle.ae_correct.specs.Correct.{parameter_types}
+use Rattle.ae_rewrite.specs.Interface.{parameter_types}
 use Rattle.ae_correct.specs.ClockTexts.{AreClockSums}
 use Rattle.ae_tool.specs.Inputs.{blocks_of}
 use Rattle.ae_tool.specs.PlanTexts.{number_line}

@@ -9,7 +9,7 @@ use Rattle.ae_parse.specs.Rows.{bad_row, row_words}
 use Rattle.ae_tool.specs.declared.status.Status.{Status}
 use Rattle.ae_tool.specs.declared.status.Status.TheVariants.{Ok, BadWords, LongRun}
 use Rattle.ae_tool.specs.Refusals.{refusal_line}
-use Rattle.ae_correct.specs.Correct.{parameter_types, result_types}
+use Rattle.ae_rewrite.specs.Interface.{parameter_types, result_types}
 use Rattle.ae_tool.specs.Inputs.{values_of}
 use Rattle.ae_play.specs.Lines.{spaced}
 use Rattle.ae_tool.specs.RunTexts.{input_widths, run_limit}

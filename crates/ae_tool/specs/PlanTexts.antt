@@ -8,7 +8,7 @@ use Rattle.ae_rewrite.specs.StProgramTree.{StFuncTree}
 use Rattle.ae_rewrite.specs.Sound.{item_layout, item_layouts}
 use Rattle.ae_delay.specs.declared.own.OwnCosts.{OwnCosts}
 use Rattle.ae_delay.specs.Costs.{NodeTiming, arrivals_of, node_timings, func_costs_by, all_costs}
-use Rattle.ae_correct.specs.Correct.{main_of}
+use Rattle.ae_rewrite.specs.Interface.{main_of}
 
 -- the instance of the program function, and the timings of its nodes
 pub record IsMainInstance (p : ProgramTree) (instances : List StFuncTree) (f : FuncTree) (s : StFuncTree) (ts : List NodeTiming) : Type 0 where

@@ -5,7 +5,7 @@ use Rattle.ae_seq.specs.Typing.{Judged, untyped, too_large, refused_line}
 use Rattle.ae_parse.specs.Grammar.{IsProgramText as Reads, bad_line}
 use Rattle.ae_tool.specs.declared.status.Status.{Status}
 use Rattle.ae_tool.specs.declared.status.Status.TheVariants.{BadLine, BadType, TooLarge, Memory}
-use Rattle.ae_correct.specs.Correct.{main_of}
+use Rattle.ae_rewrite.specs.Interface.{main_of}
 
 -- the text is this program, and no line of it is refused
 pub record IsTyped (part : List ℕ) (p : ProgramTree) : Type 0 where

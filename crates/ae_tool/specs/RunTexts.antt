@@ -8,7 +8,7 @@ use Rattle.ae_sttype.specs.Moves.{columns_of}
 use Rattle.ae_rewrite.specs.LayoutRule.{lay_of}
 use Rattle.ae_rewrite.specs.StProgramTree.{StFuncTree}
 use Rattle.ae_play.specs.Lines.{clock_count}
-use Rattle.ae_correct.specs.Correct.{parameter_types, result_types}
+use Rattle.ae_rewrite.specs.Interface.{parameter_types, result_types}
 use Rattle.ae_correct.specs.ClockTexts.{IsClockText}
 use Rattle.ae_tool.specs.declared.status.Status.{Status}
 use Rattle.ae_tool.specs.declared.status.Status.TheVariants.{Ok, BadWords, LongRun}

@@ -10,7 +10,7 @@ ghost use Rattle.ae_parse.specs.Rows.{rows};
 ghost use Rattle.ae_eval.specs.Stack.{AllFit, FitIn, IsTyped, values_of};
 ghost use Rattle.ae_eval.specs.Lines.{input_types, last_func};
 ghost use Rattle.ae_play.specs.Lines.{spaced};
-ghost use Rattle.ae_correct.specs.Correct.{parameter_types, result_types};
+ghost use Rattle.ae_rewrite.specs.Interface.{parameter_types, result_types};
 ghost use Rattle.ae_tool.specs.EvalRows.{AreRows, values_in_row};
 ghost use Rattle.ae_tool.specs.EvalTexts.{IsEvalOf, eval_text, type_words, words_line};
 

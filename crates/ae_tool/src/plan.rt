@@ -6,7 +6,7 @@ ghost use Rattle.ae_seq.specs.Formed.{formed};
 ghost use Rattle.ae_rewrite.specs.StProgramTree.{st_func_tree, st_func_trees};
 ghost use Rattle.ae_delay.specs.Timings.{AreTimes};
 ghost use Rattle.ae_delay.specs.Weighing.{cost_of};
-ghost use Rattle.ae_correct.specs.Correct.{main_of};
+ghost use Rattle.ae_rewrite.specs.Interface.{main_of};
 ghost use Rattle.ae_tool.specs.PlanTexts.{plan_text};
 ghost use Rattle.ae_tool.specs.CostTables.{cost_table};
 ghost use Rattle.ae_tool.specs.Schedules.{HasMain, IsScheduled, IsCosted, IsCostFault, IsPlanned, IsTabled};

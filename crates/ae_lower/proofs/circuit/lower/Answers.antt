@@ -9,7 +9,7 @@ use Rattle.ae_sttype.specs.StTree.{st_tree}
 use Rattle.ae_rewrite.specs.StProgramTree.{StFuncTree, st_func_tree, st_func_trees, st_trees}
 use Rattle.ae_ops.specs.Blocks.{AreBundles}
 use Rattle.ae_flow.specs.Fitted.{streams_of}
-use Rattle.ae_lower.specs.Circuits.{IsCircuitOf, last_of}
+use Rattle.ae_lower.specs.Circuits.{IsCircuitOf, IsCircuitThat, MakesResults, last_of}
 use Rattle.ae_clocked.specs.Phases.{Kept}
 use Rattle.ae_lower.specs.Growth.{Adds, GrowsBy}
 use Rattle.ae_lower.specs.Lowering.{instance_costs}
@@ -18,6 +18,7 @@ use Rattle.ae_tidy.specs.Places.{AreMarks}
 use Rattle.ae_tidy.proofs.Placing.{no_marks}
 use Rattle.ae_lower.proofs.Whole.{HasBegun, begun_bundles, chosen_last, circuit_made, has_begun, inputs_begun, instance_at, last_is, light_enough, reset_belongs}
 use Rattle.ae_lower.proofs.Tidied.{tidied_circuit}
+use Rattle.ae_lower.proofs.Blocks.{program_circuit}
 use Rattle.ae_lower.proofs.circuit.lower.Goals as goal
 
 pub add_inputs-requires : goal.add_inputs-requires
@@ -90,11 +91,12 @@ returns-clause-circuit c s found =
     let chosen = chosen_last instances (st_func_tree f) _ c.new-clocks.result.rst k _ _ _ _ rst last bundles (sym c.deref-3.ensures.value) (c.in-Ok.ensures.results (st_func_tree f) here) in
     let grown = subst (λ m. GrowsBy c.add_inputs.new.nl c.lower_instance.new.nl (instance_costs instances m).load) last c.in-Ok.ensures.grows in
     let adds = subst (λ m. Adds c.add_inputs.new.nl c.lower_instance.new.nl (instance_costs instances m).muls (instance_costs instances m).mems) last c.in-Ok.ensures.adds in
-    let made : IsCircuitOf instances (st_func_tree f) c.add_results.new.nl =
+    let made : IsCircuitThat MakesResults instances (st_func_tree f) c.add_results.new.nl =
     circuit_made instances (st_func_tree f) _ _ _ c.deref-3.result.now (k, c.count-last.ensures.sound.each k (st_func_tree f) here) there begun grown adds chosen c.in_ok-add_results.ensures c.formed.ensures.cells c.formed.ensures.outlets in
-    let whole : IsCircuitOf instances (st_func_tree f) c.in_ok-tidied.tidied.netlist =
+    let whole : IsCircuitThat MakesResults instances (st_func_tree f) c.in_ok-tidied.tidied.netlist =
     tidied_circuit instances (st_func_tree f) c.add_results.new.nl c.in_ok-tidied.tidied.netlist (k, c.count-last.ensures.sound.each k (st_func_tree f) here) made c.in_ok-tidied.ensures.tidied in
-    subst (λ (u : StFuncTree). IsCircuitOf instances u c.in_ok-tidied.tidied.netlist) is whole
+    let meant : IsCircuitOf instances (st_func_tree f) c.in_ok-tidied.tidied.netlist = program_circuit instances (st_func_tree f) c.in_ok-tidied.tidied.netlist c.flows_mean.ensures there whole in
+    subst (λ (u : StFuncTree). IsCircuitOf instances u c.in_ok-tidied.tidied.netlist) is meant
 
 pub returns-clause-marks : goal.returns-clause-marks
 returns-clause-marks c s found =

@@ -2,7 +2,7 @@ use Rattle.std.proofs.Common.{◌∙◌, length}
 use Rattle.ae_seq.specs.ProgramTree.{program_tree, func_tree}
 use Rattle.ae_rewrite.specs.StProgramTree.{st_func_tree, st_func_trees}
 use Rattle.ae_rewrite.specs.Sound.{item_layouts}
-use Rattle.ae_correct.specs.Correct.{main_of}
+use Rattle.ae_rewrite.specs.Interface.{main_of}
 use Rattle.ae_tool.proofs.Noting.{notes_printed}
 use Rattle.ae_tool.proofs.Plans.{main_items, main_named, main_nodes}
 use Rattle.ae_tool.proofs.build.notes.Goals as goal

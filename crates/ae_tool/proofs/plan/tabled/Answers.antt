@@ -8,7 +8,7 @@ use Rattle.ae_seq.specs.declared.program.Node.{Node}
 use Rattle.ae_rewrite.specs.StProgramTree.{st_func_trees}
 use Rattle.ae_rewrite.proofs.Forms.{few-nodes}
 use Rattle.ae_delay.specs.Weighing.{cost_of}
-use Rattle.ae_correct.specs.Correct.{main_of}
+use Rattle.ae_rewrite.specs.Interface.{main_of}
 use Rattle.ae_tool.specs.CostTables.{AllNamed, cost_table}
 use Rattle.ae_tool.specs.Schedules.{HasMain}
 use Rattle.ae_tool.proofs.Plans.{main_costs, main_named, main_table}

@@ -7,7 +7,7 @@ use Rattle.ae_sttype.specs.Size.{IsInSize}
 use Rattle.ae_sttype.specs.Moves.{columns_of}
 use Rattle.ae_rewrite.specs.StProgramTree.{st_func_tree, st_func_trees}
 use Rattle.ae_lower.specs.Circuits.{last_of}
-use Rattle.ae_correct.proofs.Layouts.{results_of}
+use Rattle.ae_lower.specs.Circuits.{results_of}
 use Rattle.ae_tool.proofs.Modules.{small_results, typed_program}
 use Rattle.ae_tool.proofs.Columns.{all_sized, few_layouts, main_is, results_counted}
 use Rattle.ae_tool.proofs.run.output_count.Goals as goal

@@ -4,10 +4,10 @@ use Rattle.ae_sttype.specs.StTree.{StTree, st_tree, time}
 use Rattle.ae_sttype.specs.Size.{IsInSize}
 use Rattle.ae_seq.specs.ProgramTree.{program_tree}
 use Rattle.ae_rewrite.specs.StProgramTree.{st_func_tree, st_func_trees}
-use Rattle.ae_lower.specs.Circuits.{last_of}
-use Rattle.ae_correct.specs.Correct.{parameter_types}
-use Rattle.ae_correct.proofs.Keeps.{keys_of}
-use Rattle.ae_correct.proofs.Layouts.{inputs_laid, results_of}
+use Rattle.ae_lower.specs.Circuits.{last_of, results_of}
+use Rattle.ae_rewrite.specs.Interface.{parameter_types}
+use Rattle.ae_lower.proofs.Blocks.{keys_of}
+use Rattle.ae_lower.proofs.Layouts.{inputs_laid}
 use Rattle.std.specs.Prelude.{string_bytes}
 use Rattle.ae_seqtype.specs.ValueTree.{flat}
 use Rattle.ae_delay.specs.declared.own.OwnCosts.{OwnCosts}

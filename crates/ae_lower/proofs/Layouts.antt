@@ -24,18 +24,18 @@ use Rattle.ae_eval.specs.Lines.{input_types}
 use Rattle.ae_eval.proofs.Accepting.{func-types}
 use Rattle.ae_eval.proofs.Typing.{type-at-is}
 use Rattle.ae_rewrite.specs.LayoutRule.{lay_of}
+use Rattle.ae_rewrite.specs.Interface.{AreValues, main_of, parameter_types, result_types, results_in}
+use Rattle.ae_rewrite.specs.Interface as interface
 use Rattle.ae_rewrite.specs.StProgramTree.{StFuncTree}
 use Rattle.ae_rewrite.specs.Scheduled.{Keys, IsInstance}
 use Rattle.ae_rewrite.specs.Sound.{item_layout, item_layouts}
 use Rattle.ae_rewrite.proofs.Items.{param-type}
 use Rattle.ae_flow.specs.Flow.{words_at}
 use Rattle.ae_flow.specs.Fitted.{streams_of}
-use Rattle.ae_flow.specs.Laws.{AreValues}
 use Rattle.ae_flow.proofs.MeaningLayouts.{LaysOut, AllLaidOut, lays-out}
 use Rattle.ae_flow.proofs.Placed.{item_laid}
 use Rattle.ae_flow.proofs.Widths.{FitWidths, words_of}
-use Rattle.ae_correct.specs.Correct.{HaveLayouts, main_of, parameter_types, result_types, results_in}
-use Rattle.ae_correct.specs.Correct as correct
+use Rattle.ae_lower.specs.Circuits.{results_of}
 
 -- ---- the words of a value in a layout
 
@@ -128,16 +128,12 @@ laid_all clocks (t ∷ ts) (x ∷ ss) h sized =
 whole_sized : (t : SeqTree) → IsTrue (in_size t) → IsTrue (parts_in_size t)
 whole_sized t h = grind (arith, nat_tests)
 
--- the layouts of an instance's results
-abbrev pub results_of : StFuncTree → List StTree
-results_of s = map (item_layout (item_layouts s)) s.results
-
 module _ (p : ProgramTree) (keys : Keys) (s : StFuncTree) (typed : IsTyped p) (h : IsInstance p keys s) (last : s.func ≡ main_of p) where
   known : slice_get p.funcs (main_of p) ≡ Some h.of
   known = sym (ap (slice_get p.funcs) last) ∙ h.known
 
   own_types : parameter_types p ≡ param_types h.of
-  own_types = ap correct.types_in known
+  own_types = ap interface.types_in known
 
   -- the types of its parameters are those that its meaning takes
   pub input_types_are : parameter_types p ≡ input_types p
