@@ -9,5 +9,5 @@ mod weighing;
 
 pub use moves::origins;
 pub use timing::{DelayFault, Timing, arrivals, arrivals_within};
-pub use uses::layout;
+pub use uses::{latest, layout};
 pub use weighing::Cost;

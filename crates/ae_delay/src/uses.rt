@@ -35,8 +35,9 @@ pub(crate) fn item_columns(s: &StFunc, item: usize) -> u64
     u64::from(columns_in(layout(s, item)))
 }
 
-/// The latest arrival of these items, and 0 of none.
-pub(crate) fn latest(arrivals: &[u32], items: &[u32]) -> u32
+/// When the latest of these items of an instance arrives, in clocks after the instance's block, by the arrivals of its
+/// items; 0 of none.
+pub fn latest(arrivals: &[u32], items: &[u32]) -> u32
     requires { AllBelow items.now (length arrivals.now) }
     ensures { result ≡ latest arrivals.now items.now }
 {

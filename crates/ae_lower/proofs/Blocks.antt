@@ -17,7 +17,7 @@ use Rattle.ae_seq.specs.ProgramTree.{ProgramTree}
 use Rattle.ae_seq.specs.Meaning.{at, mean}
 use Rattle.ae_eval.specs.Stack.{IsTyped}
 use Rattle.ae_eval.proofs.Items.{entry-at}
-use Rattle.ae_rewrite.specs.Blocks.{InputsHold, MakesBlocks, OutputsHold, input_wave, output_wave}
+use Rattle.ae_rewrite.specs.Blocks.{InputsHold, MakesBlocks, input_wave, output_wave}
 use Rattle.ae_rewrite.specs.Interface.{AreValues, main_of, parameter_types}
 use Rattle.ae_rewrite.specs.StProgramTree.{StFuncTree}
 use Rattle.ae_rewrite.specs.Scheduled.{Keys, HasKey, IsInstance, IsSchedule}
@@ -26,7 +26,7 @@ use Rattle.ae_flow.specs.Flow.{flow, words_at}
 use Rattle.ae_flow.specs.Fitted.{streams_of}
 use Rattle.ae_flow.specs.Laws.{FlowsMean}
 use Rattle.ae_flow.proofs.MeaningLayouts.{AllLaidOut}
-use Rattle.ae_lower.specs.Circuits.{IsCircuitOf, IsCircuitThat, MakesProgram, MakesResults, columns_in, last_of, result_streams, results_of}
+use Rattle.ae_lower.specs.Circuits.{IsCircuitOf, IsCircuitThat, MakesResults, columns_in, last_of, result_streams, results_of}
 use Rattle.ae_lower.specs.Lowering.{instance_costs}
 use Rattle.ae_lower.specs.Ports.{input_waves}
 use Rattle.ae_lower.proofs.Layouts.{all_words, as_many_values, element_columns, input_types_are, inputs_laid, map_map, stream_columns, words_flat}
@@ -40,7 +40,12 @@ first_columns [] (suc q) = refl
 first_columns (s ∷ ss) zero = refl
 first_columns (s ∷ ss) (suc q) =
     omega (
-    arith, sum_by-cons columns_of s (take q ss), sum_by-cons (λ (x : Stream). length (stream_widths x)) (stream_of s) (take q (streams_of ss)), stream_columns s, first_columns ss q)
+      arith,
+      sum_by-cons columns_of s (take q ss),
+      sum_by-cons (λ (x : Stream). length (stream_widths x)) (stream_of s) (take q (streams_of ss)),
+      stream_columns s,
+      first_columns ss q,
+    )
 
 pub results_streams : (s : StFuncTree) → result_streams s ≡ streams_of (results_of s)
 results_streams s = sym (map_map stream_of (item_layout (item_layouts s)) s.results)

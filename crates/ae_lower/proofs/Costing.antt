@@ -1,10 +1,11 @@
 -- When items arrive, and what the nodes of an instance cost.
 use Rattle.std.proofs.Common.{ℕ, zero, suc, ◌≡◌, ◌+◌, ◌-◌, ◌*◌, ◌<◌, ◌≤◌, inl, inr, max, fold, List, [], ◌∷◌, ◌++◌, append_assoc, length, length-append, map, take, drop, sum_by, get_or, Some, slice_get, slice_index, slice_index_or, arith, refl, ap, sym, ◌∙◌, subst}
+use Rattle.std.specs.Option.{option_map}
 use Rattle.std.proofs.Math.Nat.{mul-le-mul_right}
 use Rattle.std.proofs.lemmas.Bool.{cases_lt}
 use Rattle.std.proofs.lemmas.List.{get_or_append_left, get_or_past, get_or_at, length-map, length-take-le, map-append, take-append-drop, take-take}
 use Rattle.std.proofs.lemmas.List.Sums.{sum_by-cons, sum_by_more, sum_by_more_le, sum_by_push}
-use Rattle.std.proofs.lemmas.Option.{get_or_from_slice_get, none-some, same_Some, slice_get-get_or, slice_get_within}
+use Rattle.std.proofs.lemmas.Option.{get_or_from_slice_get, none-some, same_Some, slice_get-get_or, slice_get-map, slice_get_within}
 use Rattle.ae_seq.specs.Typing.{grown}
 use Rattle.ae_eval.proofs.Items.{entry-grown, slice_get-take, take-grown}
 use Rattle.ae_moves.proofs.Words.{lead_le}
@@ -19,6 +20,7 @@ use Rattle.ae_delay.specs.declared.own.OwnCosts.{OwnCosts}
 use Rattle.ae_delay.specs.OwnCosts.{op_costs, wire_costs}
 use Rattle.ae_delay.specs.Costs.{NodeTiming, Use, all_costs, arrivals_of, func_costs, latest, next_timing, node_costs, node_timings, slack_load, uses_at}
 use Rattle.ae_delay.proofs.Instances.{node_sound}
+use Rattle.ae_retime.specs.Slacks.{joint_slacks}
 use Rattle.ae_lower.specs.Delaying.{delay_load}
 use Rattle.ae_lower.specs.Lowering.{IsNodeAt, arrivals_in, costs_in, instance_costs, timings_in}
 
@@ -49,17 +51,26 @@ uses_same xs ys start (i ∷ is) same =
     ap (λ (v : ℕ). (let u : Use = record { item = i; slack = start - v } in u) ∷ uses_at xs start is) (same 0 i refl)
     ∙ ap (λ us. (let u : Use = record { item = i; slack = start - slice_index ys i } in u) ∷ us) (uses_same xs ys start is (λ r k h. same (suc r) k h))
 
+-- what waits as its slack is as late as the latest
+pub wait_at : (arrivals chosen waits : List ℕ) (r i : ℕ) → waits ≡ joint_slacks arrivals chosen → slice_get chosen r ≡ Some i → slice_index arrivals i + slice_index waits r ≡ latest arrivals chosen
+wait_at arrivals chosen waits r i are found =
+    let slack : ℕ → ℕ = λ a. latest arrivals chosen - slice_index arrivals a in
+    let here : slice_get (map slack chosen) r ≡ Some (slack i) = slice_get-map slack chosen r ∙ ap (option_map slack) found in
+    let is : slice_index waits r ≡ slack i = ap (λ ws. slice_index ws r) are ∙ get_or_from_slice_get (map slack chosen) r (slack i) 0 here in
+    let l : slice_index arrivals i ≤ latest arrivals chosen = latest_at arrivals chosen r i found in
+    omega (arith, is, l)
+
 -- the registers before items whose bundles have the columns of their layouts
 pub delays_cost : (items : List (List NetId)) (arrivals : List ℕ) (start : ℕ) (layouts : List StTree) (chosen : List ℕ)
-    → ((r i : ℕ) → slice_get chosen r ≡ Some i → length (slice_index_or items i []) ≡ columns_of (item_layout layouts i)) → delay_load items arrivals start chosen ≡ slack_load layouts (uses_at arrivals start chosen)
+    → ((r i : ℕ) → slice_get chosen r ≡ Some i → length (slice_index_or items i []) ≡ columns_of (item_layout layouts i)) → delay_load items (map (λ a. start - slice_index arrivals a) chosen) chosen ≡ slack_load layouts (uses_at arrivals start chosen)
 delays_cost items arrivals start layouts [] long = refl
 delays_cost items arrivals start layouts (i ∷ is) long =
-    let f : ℕ → ℕ = λ k. (start - slice_index arrivals k) * length (slice_index_or items k []) in
+    let waits : List ℕ → List ℕ = λ cs. map (λ a. start - slice_index arrivals a) cs in
     let g : Use → ℕ = λ u. u.slack * columns_of (item_layout layouts u.item) in
     let u : Use = record { item = i; slack = start - slice_index arrivals i } in
-    let one : f i ≡ g u = ap (λ n. (start - slice_index arrivals i) * n) (long 0 i refl) in
-    let rest : sum_by f is ≡ sum_by g (uses_at arrivals start is) = delays_cost items arrivals start layouts is (λ r k h. long (suc r) k h) in
-    sum_by-cons f i is ∙ (ap (λ n. n + sum_by f is) one ∙ (ap (λ n. g u + n) rest ∙ sym (sum_by-cons g u (uses_at arrivals start is))))
+    let one : (start - slice_index arrivals i) * length (slice_index_or items i []) ≡ g u = ap (λ n. (start - slice_index arrivals i) * n) (long 0 i refl) in
+    let rest : delay_load items (waits is) is ≡ sum_by g (uses_at arrivals start is) = delays_cost items arrivals start layouts is (λ r k h. long (suc r) k h) in
+    ap (λ n. n + delay_load items (waits is) is) one ∙ (ap (λ n. g u + n) rest ∙ sym (sum_by-cons g u (uses_at arrivals start is)))
 
 -- ---- no latency above the load
 
@@ -71,6 +82,12 @@ own_le a b = omega arith
 
 own_first : (a b c d : ℕ) → a ≤ 1 + a + b + c + d
 own_first a b c d = omega arith
+
+one_of : (a b : ℕ) → 1 ≤ 1 + a + b
+one_of a b = omega arith
+
+one_first : (a b c d : ℕ) → 1 ≤ 1 + a + b + c + d
+one_first a b c d = omega arith
 
 known_early : (known : List OwnCosts) (k : ℕ) → AreEarly known → (slice_index_or known k wire_costs).latency ≤ (slice_index_or known k wire_costs).load
 known_early known k early = elim (cases_lt k (length known)) [
@@ -208,6 +225,33 @@ input_arrival instances k s i l = zero_at s.ins i l where
   zero_at [] r h = absurd (omega arith)
   zero_at (x ∷ xs) zero h = refl
   zero_at (x ∷ xs) (suc r) h = zero_at xs r (omega arith)
+
+op_loads : (known : List OwnCosts) (a s : StTree) (copies : ℕ) (op : StOpTree) → 1 ≤ (op_costs known a s copies op).load
+op_loads known a s copies (word op) = omega arith
+op_loads known a s copies join = omega arith
+op_loads known a s copies first = omega arith
+op_loads known a s copies second = omega arith
+op_loads known a s copies (fixed ws) = omega arith
+op_loads known a s copies (move how) = omega arith
+op_loads known a s copies (fold_op op n m raw) = one_first _ _ _ _
+op_loads known a s copies (scan op n m) = one_of _ _
+op_loads known a s copies (body k) = omega arith
+
+grown_loads : (known : List OwnCosts) (s : StFuncTree) (ns : List StNodeTree) (ts : List NodeTiming) → length ts ≤ sum_by load_of ts → length ts + length ns ≤ sum_by load_of (grown (next_timing known s) ts ns)
+grown_loads known s [] ts h = omega arith
+grown_loads known s (n ∷ ns) ts h =
+    let t : NodeTiming = next_timing known s ts n in
+    let own : 1 ≤ (node_costs known (item_layouts s) n).load = op_loads known (item_layout (item_layouts s) (slice_index n.args 0)) n.type n.copies n.op in
+    let more : sum_by load_of (ts ++ t ∷ []) ≡ sum_by load_of ts + t.load = sum_by_push load_of ts t in
+    let long : length (ts ++ t ∷ []) ≡ length ts + 1 = length-append ts (t ∷ []) in
+    let rest = grown_loads known s ns (ts ++ t ∷ []) (omega (arith, own, more, long)) in
+    omega (arith, rest, long)
+
+-- each node has a load
+pub few_nodes : (instances : List StFuncTree) (k : ℕ) (s : StFuncTree) → slice_get instances k ≡ Some s → length s.nodes ≤ (instance_costs instances k).load
+few_nodes instances k s at =
+    let all = grown_loads (all_costs (take k instances)) s s.nodes [] (omega arith) in
+    subst (λ (c : OwnCosts). length s.nodes ≤ c.load) (sym (costs_are instances k s at)) (omega (arith, all))
 
 -- what is sure of node j
 pub record NodeFacts (instances : List StFuncTree) (k j : ℕ) (s : StFuncTree) (n : StNodeTree) (t : NodeTiming) : Type 0 where

@@ -12,18 +12,19 @@ use Rattle.ae_rewrite.specs.StProgramTree.{join, StNodeTree, StFuncTree}
 use Rattle.ae_rewrite.specs.Scheduled.{IsFilling}
 use Rattle.ae_rewrite.specs.Sound.{IsSoundFunc, IsSound, item_layout, item_layouts}
 use Rattle.ae_delay.specs.declared.own.OwnCosts.{OwnCosts}
-use Rattle.ae_delay.specs.Costs.{NodeTiming, latest, slack_load, uses_at}
+use Rattle.ae_delay.specs.Costs.{NodeTiming, latest, slack_load}
 use Rattle.ae_delay.proofs.Instances.{all_items}
+use Rattle.ae_retime.specs.Slacks.{joint_slacks, joint_uses}
 use Rattle.ae_flow.specs.Flow.{Callee, callees, first_result}
 use Rattle.ae_flow.specs.Fitted.{AreFitted, elements_stream, streams_of}
 use Rattle.ae_flow.specs.Laws.{FlowsFit}
 use Rattle.ae_lower.specs.Growth.{Adds, GrowsBy, IsBuilt}
 use Rattle.ae_lower.specs.Delaying.{AreDelayed, delay_load}
-use Rattle.ae_lower.specs.Lowering.{AreChosen, AreItems, IsNodeAt, arrivals_in, bodies_part, instance_costs, lane_nets, timings_in}
+use Rattle.ae_lower.specs.Lowering.{AreChosen, IsNodeAt, arrivals_in, bodies_part, instance_costs, lane_nets, timings_in}
 use Rattle.ae_lower.proofs.Growing.{adds_trans, adds_up, by_trans}
 use Rattle.ae_lower.proofs.NodeLaw.{items_wait}
 use Rattle.ae_lower.proofs.BodyLaw.{bodies_built, lane_bundles}
-use Rattle.ae_lower.proofs.Costing.{costs_are, latest_at, sums_most, timings_long}
+use Rattle.ae_lower.proofs.Costing.{costs_are, sums_most, timings_long, wait_at}
 use Rattle.ae_lower.proofs.Instances.{AreLowered, AreSpread, bundles_grow, standing}
 use Rattle.ae_lower.proofs.Placed.{items_many, standing_delays}
 
@@ -64,18 +65,17 @@ result_below instances k s chosen sound func same r i found =
     omega (arith, l, items_many s)
 
 -- the delays of the results
-pub results_grow : (instances : List StFuncTree) (k at rst : ℕ) (s : StFuncTree) (ins items : List (List NetId)) (old mid new : Circuit) (own : List ℕ) (start : ℕ) → IsSound instances → slice_get instances k ≡ Some s → own ≡ arrivals_in instances k s → start ≡ latest own s.results
-    → AreLowered instances k at rst s ins old mid (length s.nodes) items → GrowsBy mid new (delay_load items own start s.results) → GrowsBy old new (instance_costs instances k).load
-results_grow instances k at rst s ins items old mid new own start sound func arr es was grows =
+pub results_grow : (instances : List StFuncTree) (k at rst : ℕ) (s : StFuncTree) (ins items : List (List NetId)) (old mid new : Circuit) (waits : List ℕ) → IsSound instances → slice_get instances k ≡ Some s → waits ≡ joint_slacks (arrivals_in instances k s) s.results
+    → AreLowered instances k at rst s ins old mid (length s.nodes) items → GrowsBy mid new (delay_load items waits s.results) → GrowsBy old new (instance_costs instances k).load
+results_grow instances k at rst s ins items old mid new waits sound func ew was grows =
     let ts : List NodeTiming = timings_in instances k s in
+    let arrivals : List ℕ = arrivals_in instances k s in
     let all : take (length s.nodes) ts ≡ ts = take_all (length s.nodes) ts (omega (arith, timings_long instances k s)) in
-    let stand = standing mid.cells rst at (callees (take k instances)) s (arrivals_in instances k s) ins (length s.ins + length s.nodes) items was.have in
-    let delays : delay_load items own start s.results ≡ slack_load (item_layouts s) (uses_at own start s.results) = standing_delays mid.cells s (length s.ins + length s.nodes) items own start s.results stand (result_below instances k s s.results sound func refl) in
-    let same : slack_load (item_layouts s) (uses_at own start s.results) ≡ slack_load (item_layouts s) (uses_at (arrivals_in instances k s) (latest (arrivals_in instances k s) s.results) s.results) =
-    ap (λ (i : ℕ). slack_load (item_layouts s) (uses_at own i s.results)) es ∙ ap (λ (xs : List ℕ). slack_load (item_layouts s) (uses_at xs (latest xs s.results) s.results)) arr in
+    let stand = standing mid.cells rst at (callees (take k instances)) s arrivals ins (length s.ins + length s.nodes) items was.have in
+    let delays : delay_load items waits s.results ≡ slack_load (item_layouts s) (joint_uses arrivals s.results) = standing_delays mid.cells s (length s.ins + length s.nodes) items arrivals waits s.results stand (result_below instances k s s.results sound func refl) ew in
     let nodes : sum_by (λ (t : NodeTiming). t.load) (take (length s.nodes) ts) ≡ sum_by (λ (t : NodeTiming). t.load) ts = ap (sum_by (λ (t : NodeTiming). t.load)) all in
-    let most : sum_by (λ (t : NodeTiming). t.load) (take (length s.nodes) ts) + delay_load items own start s.results ≤ (instance_costs instances k).load =
-    subst (λ (c : OwnCosts). sum_by (λ (t : NodeTiming). t.load) (take (length s.nodes) ts) + delay_load items own start s.results ≤ c.load) (sym (costs_are instances k s func)) (omega (arith, delays, same, nodes)) in
+    let most : sum_by (λ (t : NodeTiming). t.load) (take (length s.nodes) ts) + delay_load items waits s.results ≤ (instance_costs instances k).load =
+    subst (λ (c : OwnCosts). sum_by (λ (t : NodeTiming). t.load) (take (length s.nodes) ts) + delay_load items waits s.results ≤ c.load) (sym (costs_are instances k s func)) (omega (arith, delays, nodes)) in
     by_trans (instance_costs instances k).load most was.grows grows
 
 pub results_add : (instances : List StFuncTree) (k at rst : ℕ) (s : StFuncTree) (ins items : List (List NetId)) (old mid new : Circuit) → slice_get instances k ≡ Some s
@@ -87,18 +87,18 @@ results_add instances k at rst s ins items old mid new func was adds =
     let mems : sum_by (λ (t : NodeTiming). t.mems) (take (length s.nodes) ts) ≡ sum_by (λ (t : NodeTiming). t.mems) ts = ap (sum_by (λ (t : NodeTiming). t.mems)) all in
     subst (λ (c : OwnCosts). Adds old new c.muls c.mems) (sym (costs_are instances k s func)) (adds_up (omega (arith, muls)) (omega (arith, mems)) (adds_trans was.adds adds))
 
-pub results_chosen : (instances : List StFuncTree) (k at rst : ℕ) (s : StFuncTree) (ins items : List (List NetId)) (old mid new : Circuit) (own : List ℕ) (start : ℕ) (results : List (List NetId)) → IsSound instances → slice_get instances k ≡ Some s → own ≡ arrivals_in instances k s → start ≡ latest own s.results
-    → AreLowered instances k at rst s ins old mid (length s.nodes) items → Extends mid.cells new.cells → AreDelayed mid.cells new.cells rst items own start s.results results
+pub results_chosen : (instances : List StFuncTree) (k at rst : ℕ) (s : StFuncTree) (ins items : List (List NetId)) (old mid new : Circuit) (waits : List ℕ) (results : List (List NetId)) → IsSound instances → slice_get instances k ≡ Some s → waits ≡ joint_slacks (arrivals_in instances k s) s.results
+    → AreLowered instances k at rst s ins old mid (length s.nodes) items → Extends mid.cells new.cells → AreDelayed mid.cells new.cells rst items waits s.results results
     → (z : StFuncTree) → slice_get instances k ≡ Some z → AreChosen new.cells rst at (callees (take k instances)) z ins (instance_costs instances k).latency z.results results
-results_chosen instances k at rst s ins items old mid new own start results sound func arr es was up late z found =
+results_chosen instances k at rst s ins items old mid new waits results sound func ew was up late z found =
     let known : List Callee = callees (take k instances) in
+    let arrivals : List ℕ = arrivals_in instances k s in
     let f : IsSoundFunc k s = sound.each k s func in
     let count : ℕ = length s.ins + length s.nodes in
-    let have : AreItems mid.cells rst at known s own ins count items = subst (λ (xs : List ℕ). AreItems mid.cells rst at known s xs ins count items) (sym arr) was.have in
     let fill : (i : ℕ) → i < count → IsFilling s.budget (item_layout (item_layouts s) i) = λ i low. all_items k s f i (omega (arith, items_many s)) in
-    let early : (r i : ℕ) → slice_get s.results r ≡ Some i → slice_index own i ≤ start = λ r i g. (let l = latest_at own s.results r i g in omega (arith, l, es)) in
-    let made : AreChosen new.cells rst at known s ins start s.results results = items_wait mid.cells new.cells rst at known s own ins count items start s.results results up fill (result_below instances k s s.results sound func refl) early have late in
-    let latency : start ≡ (instance_costs instances k).latency = es ∙ (ap (λ xs. latest xs s.results) arr ∙ sym (ap (λ (c : OwnCosts). c.latency) (costs_are instances k s func))) in
+    let in_time : (r i : ℕ) → slice_get s.results r ≡ Some i → slice_index arrivals i + slice_index waits r ≡ latest arrivals s.results = λ r i g. wait_at arrivals s.results waits r i ew g in
+    let made : AreChosen new.cells rst at known s ins (latest arrivals s.results) s.results results = items_wait mid.cells new.cells rst at known s arrivals ins count items (latest arrivals s.results) waits s.results results up fill (result_below instances k s s.results sound func refl) in_time was.have late in
+    let latency : latest arrivals s.results ≡ (instance_costs instances k).latency = sym (ap (λ (c : OwnCosts). c.latency) (costs_are instances k s func)) in
     subst (λ (g : StFuncTree). AreChosen new.cells rst at known g ins (instance_costs instances k).latency g.results results) (same_Some s z (sym func ∙ found))
     (subst (λ (d : ℕ). AreChosen new.cells rst at known s ins d s.results results) latency made)
 

@@ -1,5 +1,5 @@
 -- Items that wait keep their laws, and a node's law follows from those of its arguments.
-use Rattle.std.proofs.Common.{ℕ, suc, ◌≡◌, ◌+◌, ◌-◌, ◌*◌, ◌<◌, ◌≤◌, List, [], ◌∷◌, length, length-append, map, get_or, Some, slice_get, slice_index, arith, refl, ap, sym, ◌∙◌, subst}
+use Rattle.std.proofs.Common.{ℕ, suc, ◌≡◌, ◌+◌, ◌-◌, ◌*◌, ◌<◌, List, [], ◌∷◌, length, length-append, map, get_or, Some, slice_get, slice_index, arith, refl, ap, sym, ◌∙◌, subst}
 use Rattle.std.specs.Option.{option_map}
 use Rattle.std.proofs.lemmas.List.{length-map}
 use Rattle.std.proofs.lemmas.Option.{get_or_from_slice_get, slice_get-get_or, slice_get-map, slice_get_within}
@@ -58,11 +58,11 @@ pub item_grows : {a b : List SizedCell} (rst at : ℕ) (known : List Callee) (s 
 item_grows rst at known s ins d i nets g h = record { there = nets_grow g h.there; law = law_grows rst at (item_part known s d i) ins nets g h.law }
 
 -- some items, all as late as the start
-pub items_wait : (old new : List SizedCell) (rst at : ℕ) (known : List Callee) (s : StFuncTree) (arrivals : List ℕ) (ins : List (List NetId)) (count : ℕ) (items : List (List NetId)) (start : ℕ) (chosen : List ℕ) (bundles : List (List NetId))
+pub items_wait : (old new : List SizedCell) (rst at : ℕ) (known : List Callee) (s : StFuncTree) (arrivals : List ℕ) (ins : List (List NetId)) (count : ℕ) (items : List (List NetId)) (start : ℕ) (waits chosen : List ℕ) (bundles : List (List NetId))
     → Extends old new → ((i : ℕ) → i < count → IsFilling s.budget (item_layout (item_layouts s) i))
-    → ((r i : ℕ) → slice_get chosen r ≡ Some i → i < count) → ((r i : ℕ) → slice_get chosen r ≡ Some i → slice_index arrivals i ≤ start)
-    → AreItems old rst at known s arrivals ins count items → AreDelayed old new rst items arrivals start chosen bundles → AreChosen new rst at known s ins start chosen bundles
-items_wait old new rst at known s arrivals ins count items start chosen bundles g fill below early have late = record {
+    → ((r i : ℕ) → slice_get chosen r ≡ Some i → i < count) → ((r i : ℕ) → slice_get chosen r ≡ Some i → slice_index arrivals i + slice_index waits r ≡ start)
+    → AreItems old rst at known s arrivals ins count items → AreDelayed old new rst items waits chosen bundles → AreChosen new rst at known s ins start chosen bundles
+items_wait old new rst at known s arrivals ins count items start waits chosen bundles g fill below in_time have late = record {
   long = late.long;
   each = λ r i nets fc fb.
       let low : i < count = below r i fc in
@@ -72,12 +72,13 @@ items_wait old new rst at known s arrivals ins count items start chosen bundles 
       let out : Stream = stream_of (item_layout (item_layouts s) i) in
       let means : List (List ℕ) → List ℕ = λ vs. words_at (item_words known s vs) i in
       let a : ℕ = slice_index arrivals i in
-      let sum : a + (start - a) ≡ start = omega (arith, early r i fc) in
+      let w : ℕ = slice_index waits r in
+      let sum : a + w ≡ start = in_time r i fc in
       record {
         there = moved.kept _ one.there;
         law = λ all e run r start_clock reset.
             let waves = map (wave_of run start_clock) ins in
-            let made = delayed (length run - start_clock) at s.budget a (start - a) (streams_of s.ins) out means waves (wave_of run start_clock (get_or items i nets)) (wave_of run start_clock nets)
+            let made = delayed (length run - start_clock) at s.budget a w (streams_of s.ins) out means waves (wave_of run start_clock (get_or items i nets)) (wave_of run start_clock nets)
             (within_budget s.budget (item_layout (item_layouts s) i) (fill i low)) (moved.is_late all e run r start_clock reset) (one.law all (extends_trans g e) run r start_clock reset) in
             subst (λ (d : ℕ). BlockLaw (length run - start_clock) at (plain_part s.budget d (streams_of s.ins) out means) waves (wave_of run start_clock nets)) sum made;
       };

@@ -1,6 +1,6 @@
 -- A node in its place: what it asks of its arguments, and what comes of it.
 use Rattle.std.proofs.Common.{ℕ, ◌≡◌, ◌+◌, ◌*◌, ◌<◌, ◌≤◌, List, [], length, length-append, map, take, sum_by, get_or, Some, slice_get, slice_index, arith, refl, ap, sym, ◌∙◌, subst}
-use Rattle.std.specs.Option.{option_map}
+use Rattle.std.specs.Option.{option_and_then, option_map}
 use Rattle.std.proofs.Math.Nat.{mul-le-mul_right}
 use Rattle.std.proofs.lemmas.List.{length-map, length-take-le}
 use Rattle.std.proofs.lemmas.Option.{get_or_from_slice_get, same_Some, slice_get-get_or, slice_get-map, slice_get_within}
@@ -26,6 +26,7 @@ use Rattle.ae_delay.specs.declared.own.OwnCosts.{OwnCosts}
 use Rattle.ae_delay.specs.OwnCosts.{body_costs, op_costs}
 use Rattle.ae_delay.specs.Costs.{NodeTiming, all_costs, latest, node_costs, slack_load, uses_at}
 use Rattle.ae_delay.proofs.Instances.{all_items, node_sound}
+use Rattle.ae_retime.specs.Slacks.{AreSlacks, SlackTables, joint_slacks, joint_uses}
 use Rattle.ae_flow.specs.Flow.{Callee, callee, callee_at, callees, first_result, no_callee}
 use Rattle.ae_flow.specs.Fitted.{FitsBody, FitsNode, FitsOp, elements_stream, streams_of}
 use Rattle.ae_flow.specs.Laws.{FlowsFit}
@@ -36,7 +37,7 @@ use Rattle.ae_lower.specs.Lowering.{AreChosen, AreItems, AreStanding, IsItem, Is
 use Rattle.ae_lower.proofs.Growing.{adds_trans, adds_up, by_trans}
 use Rattle.ae_lower.proofs.NodeLaw.{items_wait, node_item}
 use Rattle.ae_lower.proofs.BodyLaw.{body_node, columns_long, result_layout}
-use Rattle.ae_lower.proofs.Costing.{NodeFacts, arrivals_long, callee_costs, costs_are, delays_cost, latest_at, node_facts, sums_most, timings_long}
+use Rattle.ae_lower.proofs.Costing.{NodeFacts, arrivals_long, callee_costs, costs_are, delays_cost, node_facts, sums_most, timings_long, wait_at}
 
 abbrev none_layout : StTree
 none_layout = sseq 0 (atom (unsigned_word 1))
@@ -67,6 +68,15 @@ items_many s = omega (arith, length-append s.ins (node_layouts s.nodes), length-
 
 pub arrivals_told : (instances : List StFuncTree) (told : List (List ℕ)) (k at : ℕ) (s : StFuncTree) → IsTimed instances told → ((x : StFuncTree) × IsLight instances k at x) → slice_get instances k ≡ Some s → slice_get told k ≡ Some (arrivals_in instances k s)
 arrivals_told instances told k at s timed light found = timed.arrivals k s found
+
+pub waits_told : (instances : List StFuncTree) (t : SlackTables) (k j : ℕ) (s : StFuncTree) (n : StNodeTree) → AreSlacks instances t → slice_get instances k ≡ Some s → slice_get s.nodes j ≡ Some n
+    → option_and_then (λ nodes. slice_get nodes j) (slice_get t.arguments k) ≡ Some (joint_slacks (arrivals_in instances k s) n.args)
+waits_told instances t k j s n slacks func node =
+    let waits : StNodeTree → List ℕ = λ m. joint_slacks (arrivals_in instances k s) m.args in
+    ap (option_and_then (λ nodes. slice_get nodes j)) (slacks.arguments.each k s (slice_get_within instances k s func) func) ∙ (slice_get-map waits s.nodes j ∙ ap (option_map waits) node)
+
+pub result_waits_told : (instances : List StFuncTree) (t : SlackTables) (k : ℕ) (s : StFuncTree) → AreSlacks instances t → slice_get instances k ≡ Some s → slice_get t.results k ≡ Some (joint_slacks (arrivals_in instances k s) s.results)
+result_waits_told instances t k s slacks func = slacks.results.each k s (slice_get_within instances k s func) func
 
 -- ---- a node in its place
 
@@ -134,17 +144,18 @@ pub standing_widths : (cells : List SizedCell) (s : StFuncTree) (count : ℕ) (i
 standing_widths cells s count items h i nets found = own_widths cells _ nets (h.each i nets found)
 
 -- the registers before some items
-pub standing_delays : (cells : List SizedCell) (s : StFuncTree) (count : ℕ) (items : List (List NetId)) (arrivals : List ℕ) (start : ℕ) (chosen : List ℕ) → AreStanding cells s count items → ((r i : ℕ) → slice_get chosen r ≡ Some i → i < count)
-    → delay_load items arrivals start chosen ≡ slack_load (item_layouts s) (uses_at arrivals start chosen)
-standing_delays cells s count items arrivals start chosen h below = delays_cost items arrivals start (item_layouts s) chosen (λ r i f.
+pub standing_delays : (cells : List SizedCell) (s : StFuncTree) (count : ℕ) (items : List (List NetId)) (arrivals waits chosen : List ℕ) → AreStanding cells s count items → ((r i : ℕ) → slice_get chosen r ≡ Some i → i < count) → waits ≡ joint_slacks arrivals chosen
+    → delay_load items waits chosen ≡ slack_load (item_layouts s) (joint_uses arrivals chosen)
+standing_delays cells s count items arrivals waits chosen h below are =
+    ap (λ ws. delay_load items ws chosen) are ∙ delays_cost items arrivals (latest arrivals chosen) (item_layouts s) chosen (λ r i f.
     (let inside : i < length items = omega (arith, below r i f, h.long) in
     let there : slice_get items i ≡ Some (get_or items i []) = slice_get-get_or items i [] inside in
     (h.each i (get_or items i []) there).long ∙ columns_long (item_layout (item_layouts s) i)))
 
 -- the arguments are bundles for the layouts of their items
-pub args_stand : (old new : List SizedCell) (rst : ℕ) (s : StFuncTree) (count : ℕ) (items : List (List NetId)) (arrivals : List ℕ) (start : ℕ) (chosen : List ℕ) (args : List (List NetId)) → AreStanding old s count items → ((r i : ℕ) → slice_get chosen r ≡ Some i → i < count)
-    → AreDelayed old new rst items arrivals start chosen args → AreBundles new (streams_of (map (item_layout (item_layouts s)) chosen)) args
-args_stand old new rst s count items arrivals start chosen args h below late = record {
+pub args_stand : (old new : List SizedCell) (rst : ℕ) (s : StFuncTree) (count : ℕ) (items : List (List NetId)) (waits chosen : List ℕ) (args : List (List NetId)) → AreStanding old s count items → ((r i : ℕ) → slice_get chosen r ≡ Some i → i < count)
+    → AreDelayed old new rst items waits chosen args → AreBundles new (streams_of (map (item_layout (item_layouts s)) chosen)) args
+args_stand old new rst s count items waits chosen args h below late = record {
   long = late.long ∙ sym (length-map (map (item_layout (item_layouts s)) chosen) stream_of ∙ length-map chosen (item_layout (item_layouts s)));
   each = λ r stream nets fs fn.
       let inside : r < length chosen = omega (arith, slice_get_within args r nets fn, late.long) in
@@ -224,42 +235,35 @@ call_light instances k j m at s n own f h c =
 
 -- ---- what comes of a node
 
--- the registers before the arguments
-delays_are : (instances : List StFuncTree) (k j at : ℕ) (s : StFuncTree) (n : StNodeTree) (own : List ℕ) (cells : List SizedCell) (items : List (List NetId)) (start : ℕ) → IsPlaced instances k j at s n own → AreStanding cells s (length s.ins + j) items
-    → start ≡ latest own n.args → delay_load items own start n.args ≡ slack_load (item_layouts s) (uses_at (arrivals_in instances k s) (latest (arrivals_in instances k s) n.args) n.args)
-delays_are instances k j at s n own cells items start h stand es =
-    standing_delays cells s (length s.ins + j) items own start n.args stand h.below
-    ∙ (ap (λ (i : ℕ). slack_load (item_layouts s) (uses_at own i n.args)) es ∙ ap (λ (xs : List ℕ). slack_load (item_layouts s) (uses_at xs (latest xs n.args) n.args)) h.arrivals)
+-- the registers before the arguments, which wait so long
+pub node_grows : (instances : List StFuncTree) (k j at : ℕ) (s : StFuncTree) (n : StNodeTree) (own waits : List ℕ) (cells : List SizedCell) (items : List (List NetId)) (old mid new : Circuit) (load : ℕ) → (h : IsPlaced instances k j at s n own) → AreStanding cells s (length s.ins + j) items
+    → waits ≡ joint_slacks (arrivals_in instances k s) n.args → load ≤ (node_costs (all_costs (take k instances)) (item_layouts s) n).load → GrowsBy old mid (delay_load items waits n.args) → GrowsBy mid new load → GrowsBy old new h.timing.load
+node_grows instances k j at s n own waits cells items old mid new load h stand ew l a b =
+    by_trans h.timing.load (omega (arith, h.facts.load, standing_delays cells s (length s.ins + j) items (arrivals_in instances k s) waits n.args stand h.below ew, l)) a b
 
--- the delays and then the node itself
-pub node_grows : (instances : List StFuncTree) (k j at : ℕ) (s : StFuncTree) (n : StNodeTree) (own : List ℕ) (cells : List SizedCell) (items : List (List NetId)) (old mid new : Circuit) (load start : ℕ) → (h : IsPlaced instances k j at s n own) → AreStanding cells s (length s.ins + j) items
-    → start ≡ latest own n.args → load ≤ (node_costs (all_costs (take k instances)) (item_layouts s) n).load → GrowsBy old mid (delay_load items own start n.args) → GrowsBy mid new load → GrowsBy old new h.timing.load
-node_grows instances k j at s n own cells items old mid new load start h stand es l a b =
-    by_trans h.timing.load (omega (arith, h.facts.load, delays_are instances k j at s n own cells items start h stand es, l)) a b
-
-pub args_grow : (instances : List StFuncTree) (k j at : ℕ) (s : StFuncTree) (n : StNodeTree) (own : List ℕ) (cells : List SizedCell) (items : List (List NetId)) (old mid : Circuit) (start : ℕ) → (h : IsPlaced instances k j at s n own) → AreStanding cells s (length s.ins + j) items
-    → start ≡ latest own n.args → GrowsBy old mid (delay_load items own start n.args) → GrowsBy old mid h.timing.load
-args_grow instances k j at s n own cells items old mid start h stand es a =
-    let most : delay_load items own start n.args ≤ h.timing.load = omega (arith, h.facts.load, delays_are instances k j at s n own cells items start h stand es) in
+pub args_grow : (instances : List StFuncTree) (k j at : ℕ) (s : StFuncTree) (n : StNodeTree) (own waits : List ℕ) (cells : List SizedCell) (items : List (List NetId)) (old mid : Circuit) → (h : IsPlaced instances k j at s n own) → AreStanding cells s (length s.ins + j) items
+    → waits ≡ joint_slacks (arrivals_in instances k s) n.args → GrowsBy old mid (delay_load items waits n.args) → GrowsBy old mid h.timing.load
+args_grow instances k j at s n own waits cells items old mid h stand ew a =
+    let most : delay_load items waits n.args ≤ h.timing.load = omega (arith, h.facts.load, standing_delays cells s (length s.ins + j) items (arrivals_in instances k s) waits n.args stand h.below ew) in
     record { grows = a.grows; cells = (let c = a.cells in omega (arith, c, most)) }
 
 -- the item of a node
-pub node_placed : (instances : List StFuncTree) (told : List (List ℕ)) (k j at rst : ℕ) (s : StFuncTree) (n : StNodeTree) (own : List ℕ) (items args : List (List NetId)) (old mid new : Circuit) (L start : ℕ) (y : List NetId) → FlowsFit → IsTimed instances told → IsPlaced instances k j at s n own
-    → start ≡ latest own n.args → L ≡ (node_costs (all_costs (take k instances)) (item_layouts s) n).latency → Extends old.cells mid.cells → Extends mid.cells new.cells → AreDelayed old.cells mid.cells rst items own start n.args args
+pub node_placed : (instances : List StFuncTree) (told : List (List ℕ)) (k j at rst : ℕ) (s : StFuncTree) (n : StNodeTree) (own waits : List ℕ) (items args : List (List NetId)) (old mid new : Circuit) (L start : ℕ) (y : List NetId) → FlowsFit → IsTimed instances told → IsPlaced instances k j at s n own
+    → start ≡ latest own n.args → waits ≡ joint_slacks (arrivals_in instances k s) n.args → L ≡ (node_costs (all_costs (take k instances)) (item_layouts s) n).latency → Extends old.cells mid.cells → Extends mid.cells new.cells → AreDelayed old.cells mid.cells rst items waits n.args args
     → IsBuilt new rst (at + start) (node_part (callees (take k instances)) L s n) args y
     → (z : StFuncTree) (ins : List (List NetId)) → slice_get instances k ≡ Some z → AreItems old.cells rst at (callees (take k instances)) z (arrivals_in instances k z) ins (length z.ins + j) items
     → IsItem new.cells rst at (callees (take k instances)) z ins (slice_index (arrivals_in instances k z) (length z.ins + j)) (length z.ins + j) y
-node_placed instances told k j at rst s n own items args old mid new L start y flows timed h es el up on late built z ins found have =
+node_placed instances told k j at rst s n own waits items args old mid new L start y flows timed h es ew el up on late built z ins found have =
     let same : s ≡ z = same_Some s z (sym h.func ∙ found) in
     let known : List Callee = callees (take k instances) in
     let Q : StFuncTree → Type 0 = λ f. AreItems old.cells rst at known f (arrivals_in instances k f) ins (length f.ins + j) items → IsItem new.cells rst at known f ins (slice_index (arrivals_in instances k f) (length f.ins + j)) (length f.ins + j) y in
     let one : Q s = λ items_have.
-    let early : (r i : ℕ) → slice_get n.args r ≡ Some i → slice_index own i ≤ start = λ r i f. (let l = latest_at own n.args r i f in omega (arith, l, es)) in
-    let have_own : AreItems old.cells rst at known s own ins (length s.ins + j) items = subst (λ (xs : List ℕ). AreItems old.cells rst at known s xs ins (length s.ins + j) items) (sym h.arrivals) items_have in
+    let arrived : start ≡ latest (arrivals_in instances k s) n.args = es ∙ ap (λ xs. latest xs n.args) h.arrivals in
+    let in_time : (r i : ℕ) → slice_get n.args r ≡ Some i → slice_index (arrivals_in instances k s) i + slice_index waits r ≡ start = λ r i f. wait_at (arrivals_in instances k s) n.args waits r i ew f ∙ sym arrived in
     let fill : (i : ℕ) → i < length s.ins + j → IsFilling s.budget (item_layout (item_layouts s) i) = λ i low. all_items k s h.sound i (let l : j < length s.nodes = slice_get_within s.nodes j n h.node in omega (arith, items_many s)) in
-    let chosen : AreChosen mid.cells rst at known s ins start n.args args = items_wait old.cells mid.cells rst at known s own ins (length s.ins + j) items start n.args args up fill h.below early have_own late in
+    let chosen : AreChosen mid.cells rst at known s ins start n.args args = items_wait old.cells mid.cells rst at known s (arrivals_in instances k s) ins (length s.ins + j) items start waits n.args args up fill h.below in_time items_have late in
     let made = node_item mid new rst at start L known s j n ins args y (λ vs words i low. flows instances k s vs timed.sound timed.fitted h.func words i low) on h.node h.below chosen built in
-    let arrive : start + L ≡ slice_index (arrivals_in instances k s) (length s.ins + j) = (ap (λ i. i + L) (es ∙ ap (λ xs. latest xs n.args) h.arrivals) ∙ ap (λ i. latest (arrivals_in instances k s) n.args + i) el) ∙ sym h.facts.arrival in
+    let arrive : start + L ≡ slice_index (arrivals_in instances k s) (length s.ins + j) = (ap (λ i. i + L) arrived ∙ ap (λ i. latest (arrivals_in instances k s) n.args + i) el) ∙ sym h.facts.arrival in
     subst (λ (d : ℕ). IsItem new.cells rst at known s ins d (length s.ins + j) y) arrive made in
     subst Q same one have
 
@@ -282,6 +286,16 @@ placed_in funcs told k j at s n own timed light func there is own_told =
 
 pub chosen_below : (instances : List StFuncTree) (k j at : ℕ) (s : StFuncTree) (n : StNodeTree) (own chosen : List ℕ) → IsPlaced instances k j at s n own → chosen ≡ n.args → (r i : ℕ) → slice_get chosen r ≡ Some i → i < length s.ins + j
 chosen_below instances k j at s n own chosen h same r i found = h.below r i (sym (ap (λ xs. slice_get xs r) same) ∙ found)
+
+-- how long each argument waits, and each result
+pub waits_in : (instances : List StFuncTree) (t : SlackTables) (k j at : ℕ) (s : StFuncTree) (n : StNodeTree) (own waits : List ℕ) → AreSlacks instances t → IsPlaced instances k j at s n own
+    → option_and_then (λ nodes. slice_get nodes j) (slice_get t.arguments k) ≡ Some waits → waits ≡ joint_slacks (arrivals_in instances k s) n.args
+waits_in instances t k j at s n own waits slacks h told = same_Some waits (joint_slacks (arrivals_in instances k s) n.args) (sym told ∙ waits_told instances t k j s n slacks h.func h.node)
+
+pub result_waits_in : (funcs : List StFunc) (t : SlackTables) (k : ℕ) (s : StFunc) (waits : List ℕ) → AreSlacks (st_func_trees funcs) t → slice_get funcs k ≡ Some s
+    → slice_get t.results k ≡ Some waits → waits ≡ joint_slacks (arrivals_in (st_func_trees funcs) k (st_func_tree s)) (st_func_tree s).results
+result_waits_in funcs t k s waits slacks func told =
+    same_Some waits (joint_slacks (arrivals_in (st_func_trees funcs) k (st_func_tree s)) (st_func_tree s).results) (sym told ∙ result_waits_told (st_func_trees funcs) t k (st_func_tree s) slacks (func_tree funcs k s func))
 
 pub own_long : (instances : List StFuncTree) (k j at : ℕ) (s : StFuncTree) (n : StNodeTree) (own : List ℕ) → IsPlaced instances k j at s n own → length s.ins + j ≤ length own
 own_long instances k j at s n own h =

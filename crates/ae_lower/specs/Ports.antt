@@ -1,5 +1,5 @@
 -- The ports of a circuit, and the words that stand on them.
-use Rattle.std.specs.Prelude.{ℕ, zero, suc, ◌+◌, List, [], ◌∷◌, ◌++◌, length, map}
+use Rattle.std.specs.Prelude.{ℕ, zero, suc, ◌+◌, List, [], ◌∷◌, ◌++◌, length}
 use Rattle.ae_netlist.specs.declared.cell.Port.{Port}
 use Rattle.ae_netlist.specs.declared.cell.Port.TheVariants.{Reset, In, Out}
 use Rattle.ae_netlist.specs.declared.cell.Cell.TheVariants.{Input}

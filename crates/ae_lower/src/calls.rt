@@ -1,12 +1,14 @@
 // Instances: each call is lowered where it stands.
 
 ghost use Rattle.std.specs.Prelude.{◌≡◌, ◌≢◌, ◌≤◌, ◌<◌, ◌+◌, ◌*◌, ◌++◌, ◌∷◌, [], ℕ, List, length, map, take, IfOk, OnOk, Some, Err, slice_get, slice_index};
+ghost use Rattle.std.specs.Option.{option_and_then};
 ghost use Rattle.ae_netlist.specs.declared.cell.NetId.{NetId as Net};
 ghost use Rattle.ae_clocked.specs.Signals.{IsFullAt};
 ghost use Rattle.ae_clocked.specs.Phases.{Belongs, KeepsCounters};
 ghost use Rattle.ae_ops.specs.Blocks.{AreBundles};
 ghost use Rattle.ae_rewrite.specs.StProgramTree.{StFuncTree as Tree, StNodeTree as Node, st_func_trees};
-ghost use Rattle.ae_delay.specs.Costs.{NodeTiming, latest};
+ghost use Rattle.ae_delay.specs.Costs.{NodeTiming};
+ghost use Rattle.ae_retime.specs.Slacks.{AreSlacks};
 ghost use Rattle.ae_flow.specs.Flow.{callees};
 ghost use Rattle.ae_flow.specs.Fitted.{elements_stream, streams_of};
 ghost use Rattle.ae_lower.specs.Growth.{Adds, GrowsBy, IsBuilt};
@@ -17,10 +19,11 @@ use crate::items::joined;
 use crate::nodes::build;
 use crate::wires::{add, copied, keep_bundle, piece};
 use ae_clocked::Clocks;
-use ae_delay::Timing;
+use ae_delay::{Timing, latest};
 use ae_flow::flows_fit;
 use ae_netlist::{NetFault, Netlist};
 use ae_ops::Bundle;
+use ae_retime::Slacks;
 use ae_rewrite::{StFunc, StNode, StOp, StProgram};
 use std::alloc::Global;
 
@@ -35,7 +38,7 @@ pub fn instance(p: &StProgram, k: u32) -> &StFunc
     }
 }
 
-// The arrivals of its items.
+// When its items arrive.
 fn arrivals_of(a: &Timing, k: u32) -> &[u32]
     requires { (own : List ℕ) × (slice_get a.now.arrivals k ≡ Some own) }
     ensures { slice_get a.now.arrivals k ≡ Some result.now }
@@ -46,16 +49,26 @@ fn arrivals_of(a: &Timing, k: u32) -> &[u32]
     }
 }
 
-// The latest arrival of these items, and 0 of none.
-fn latest(arrivals: &[u32], items: &[u32]) -> u32
-    requires { (r i : ℕ) → slice_get items.now r ≡ Some i → i < length arrivals.now }
-    ensures { result ≡ latest arrivals.now items.now }
+// How long each argument of one of its nodes waits.
+fn waits_of(slacks: &Slacks, k: u32, node: u32) -> &[u32]
+    requires { (own : List ℕ) × (option_and_then (λ nodes. slice_get nodes node) (slice_get slacks.now.arguments k) ≡ Some own) }
+    ensures { option_and_then (λ nodes. slice_get nodes node) (slice_get slacks.now.arguments k) ≡ Some result.now }
 {
-    let mut most = 0u32;
-    for item in items {
-        most = most.max(arrivals[*item as usize]);
+    match slacks.waits(k, node) {
+        Some(waits) => waits,
+        None => unreachable!(),
     }
-    most
+}
+
+// How long each of its results waits.
+fn result_waits_of(slacks: &Slacks, k: u32) -> &[u32]
+    requires { (own : List ℕ) × (slice_get slacks.now.results k ≡ Some own) }
+    ensures { slice_get slacks.now.results k ≡ Some result.now }
+{
+    match slacks.result_waits(k) {
+        Some(waits) => waits,
+        None => unreachable!(),
+    }
 }
 
 // The bundles again.
@@ -166,6 +179,7 @@ pub fn lower_instance(
     clocks: &mut Clocks,
     p: &StProgram,
     a: &Timing,
+    slacks: &Slacks,
     k: u32,
     ins: &[Bundle],
     at: u32,
@@ -173,6 +187,7 @@ pub fn lower_instance(
 ) -> Result<Vec<Bundle>, NetFault>
     requires belongs { Belongs clocks.old nl.old.cells }
     requires timed { IsTimed (st_func_trees p.now) a.now.arrivals }
+    requires slacks { AreSlacks (st_func_trees p.now) slacks.now }
     requires light { (s : Tree) × IsLight (st_func_trees p.now) k at s }
     requires ins { (s : Tree) → slice_get (st_func_trees p.now) k ≡ Some s → AreBundles nl.old.cells (streams_of s.ins) ins.now }
     ensures belongs { Belongs clocks.new nl.new.cells }
@@ -184,16 +199,15 @@ pub fn lower_instance(
     ensures marks { OnOk result ((s : Tree) (count : ℕ) → slice_get (st_func_trees p.now) k ≡ Some s → AreMarks (length nl.old.cells) count marks.old.items → AreMarks (length nl.new.cells) (count + length s.nodes) marks.new.items) }
 {
     let s = instance(p, k);
-    let arrivals = arrivals_of(a, k);
     let counts = readers(alloc, s)?;
     let mut items = all_copied(alloc, ins)?;
     for j in 0..s.nodes.len() {
         let mark = nl.len();
-        let made = lower_node(alloc, nl, clocks, p, a, k, j, &items, at, &counts)?;
+        let made = lower_node(alloc, nl, clocks, p, a, slacks, k, j, &items, at, &counts)?;
         keep_item(&mut items, marks, made, mark)?;
     }
-    let end = latest(arrivals, &s.results);
-    joined(alloc, nl, clocks, &items, arrivals, end, &s.results)
+    let waits = result_waits_of(slacks, k);
+    joined(alloc, nl, clocks, &items, waits, &s.results)
 }
 
 // Node `j` of an instance, on the items before it.
@@ -204,6 +218,7 @@ fn lower_node(
     clocks: &mut Clocks,
     p: &StProgram,
     a: &Timing,
+    slacks: &Slacks,
     k: u32,
     j: usize,
     items: &[Bundle],
@@ -212,6 +227,7 @@ fn lower_node(
 ) -> Result<Bundle, NetFault>
     requires belongs { Belongs clocks.old nl.old.cells }
     requires timed { IsTimed (st_func_trees p.now) a.now.arrivals }
+    requires slacks { AreSlacks (st_func_trees p.now) slacks.now }
     requires light { (s : Tree) × IsLight (st_func_trees p.now) k at s }
     requires node { (s : Tree) → slice_get (st_func_trees p.now) k ≡ Some s → j < length s.nodes }
     requires items { (s : Tree) → slice_get (st_func_trees p.now) k ≡ Some s → AreStanding nl.old.cells s (length s.ins + j) items.now }
@@ -229,10 +245,22 @@ fn lower_node(
     let arrivals = arrivals_of(a, k);
     let node = &s.nodes[j];
     let start = latest(arrivals, &node.args);
-    let args = joined(alloc, nl, clocks, items, arrivals, start, &node.args)?;
+    let waits = waits_of(slacks, k, j as u32);
+    let args = joined(alloc, nl, clocks, items, waits, &node.args)?;
     match &node.op {
         StOp::Body(m) => {
-            lower_bodies(alloc, nl, clocks, p, a, *m, node.copies, &args, at + start)
+            lower_bodies(
+                alloc,
+                nl,
+                clocks,
+                p,
+                a,
+                slacks,
+                *m,
+                node.copies,
+                &args,
+                at + start,
+            )
         }
         _ => {
             let alone = reads_alone(counts, node);
@@ -249,6 +277,7 @@ fn lower_bodies(
     clocks: &mut Clocks,
     p: &StProgram,
     a: &Timing,
+    slacks: &Slacks,
     m: u32,
     copies: u32,
     args: &[Bundle],
@@ -256,6 +285,7 @@ fn lower_bodies(
 ) -> Result<Bundle, NetFault>
     requires belongs { Belongs clocks.old nl.old.cells }
     requires timed { IsTimed (st_func_trees p.now) a.now.arrivals }
+    requires slacks { AreSlacks (st_func_trees p.now) slacks.now }
     requires light { (f : Tree) × IsLight (st_func_trees p.now) m at f }
     requires some { 1 ≤ copies }
     requires args { (f : Tree) → slice_get (st_func_trees p.now) m ≡ Some f → (slots : ℕ) × AreBundles nl.old.cells (map (elements_stream slots copies) f.ins) args.now }
@@ -272,7 +302,7 @@ fn lower_bodies(
     for lane in 0..copies {
         let own = lane_of(alloc, args, copies, lane)?;
         let mut inner = Vec::new(alloc);
-        let results = lower_instance(alloc, nl, clocks, p, a, m, &own, at, &mut inner)?;
+        let results = lower_instance(alloc, nl, clocks, p, a, slacks, m, &own, at, &mut inner)?;
         add(&mut out, results[0].nets())?;
     }
     Ok(Bundle::new(out))

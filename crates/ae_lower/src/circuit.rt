@@ -3,6 +3,7 @@
 ghost use Rattle.std.specs.Prelude.{Some, slice_get, IfOk, length, ◌≡◌};
 ghost use Rattle.ae_rewrite.specs.StProgramTree.{StFuncTree as Tree, st_func_trees};
 ghost use Rattle.ae_delay.specs.Timings.{AreTimes};
+ghost use Rattle.ae_retime.specs.Slacks.{AreSlacks};
 ghost use Rattle.ae_flow.specs.Fitted.{AreFitted};
 ghost use Rattle.ae_lower.specs.Circuits.{IsCircuitOf, last_of};
 ghost use Rattle.ae_tidy.specs.Places.{AreMarks};
@@ -13,6 +14,7 @@ use ae_clocked::Clocks;
 use ae_delay::Timing;
 use ae_flow::flows_mean;
 use ae_netlist::{Netlist, Port};
+use ae_retime::Slacks;
 use ae_rewrite::StProgram;
 use ae_tidy::tidy;
 use std::alloc::{AllocError, Global};
@@ -28,14 +30,20 @@ pub struct Lowered {
     pub marks: Vec<u32>,
 }
 
-/// The circuit of a program, by its timing: the reset and the words of the parameters go in, and in every reset run each
-/// block of them makes the words of the results come out, the latency later. It has at most 16 cells for each unit of the
-/// load, one for the reset and one for each word of the parameters, and none that no output or product needs, but the
-/// inputs. The marks tell where the cells of each node of the program function begin. The error comes only for want of
-/// memory.
-pub fn lower(alloc: Global, p: &StProgram, a: &Timing) -> Result<Lowered, AllocError>
+/// The circuit of a program, by its timing and its slacks: the reset and the words of the parameters go in, and in every
+/// reset run each block of them makes the words of the program's results come out, the latency later. It has at most 16
+/// cells for each unit of the load, one for the reset and one for each word of the parameters, and none that no output or
+/// product needs, but the inputs. The marks tell where the cells of each node of the program function begin. The error
+/// comes only for want of memory.
+pub fn lower(
+    alloc: Global,
+    p: &StProgram,
+    a: &Timing,
+    slacks: &Slacks,
+) -> Result<Lowered, AllocError>
     requires fitted { AreFitted (st_func_trees p.now) }
     requires times { AreTimes (st_func_trees p.now) a.now }
+    requires slacks { AreSlacks (st_func_trees p.now) slacks.now }
     ensures circuit { IfOk result (λ l. (s : Tree) → slice_get (st_func_trees p.now) (last_of (st_func_trees p.now)) ≡ Some s → IsCircuitOf (st_func_trees p.now) s l.netlist) }
     ensures marks { IfOk result (λ l. (s : Tree) → slice_get (st_func_trees p.now) (last_of (st_func_trees p.now)) ≡ Some s → AreMarks (length l.netlist.cells) (length s.nodes) l.marks.items) }
 {
@@ -54,6 +62,7 @@ pub fn lower(alloc: Global, p: &StProgram, a: &Timing) -> Result<Lowered, AllocE
         &mut clocks,
         p,
         a,
+        slacks,
         last,
         &ins,
         0,

@@ -1,6 +1,6 @@
 // The arguments of a node, and the results of an instance, all as late as the latest.
 
-ghost use Rattle.std.specs.Prelude.{◌≡◌, ◌≢◌, ◌≤◌, ◌<◌, ◌-◌, ◌+◌, ◌*◌, ◌++◌, ◌∷◌, [], ℕ, List, length, map, sum_by, IfOk, OnOk, Err, Some, slice_get, slice_index, slice_index_or};
+ghost use Rattle.std.specs.Prelude.{◌≡◌, ◌≢◌, ◌≤◌, ◌<◌, ◌+◌, ◌*◌, ◌++◌, ◌∷◌, [], ℕ, List, length, map, IfOk, OnOk, Err, Some, slice_get, slice_index, slice_index_or};
 ghost use Rattle.ae_netlist.specs.declared.cell.NetId.{NetId as Net};
 ghost use Rattle.ae_netlist.specs.declared.cell.SizedCell.{SizedCell};
 ghost use Rattle.ae_clocked.specs.Signals.{IsFullAt};
@@ -39,32 +39,30 @@ fn later(
     delay(alloc, nl, clocks, bundle, slack)
 }
 
-/// Some items as late as the start, which is not before any of them.
+/// Some items, each so many clocks later.
 pub fn joined(
     alloc: Global,
     nl: &mut Netlist,
     clocks: &mut Clocks,
     items: &[Bundle],
-    arrivals: &[u32],
-    start: u32,
+    waits: &[u32],
     chosen: &[u32],
 ) -> Result<Vec<Bundle>, NetFault>
     requires belongs { Belongs clocks.old nl.old.cells }
     requires nets { (i : ℕ) (nets : List Net) → slice_get items.now i ≡ Some nets → HaveOwnWidths nl.old.cells nets }
     requires below { (r i : ℕ) → slice_get chosen.now r ≡ Some i → i < length items.now }
-    requires arrived { length items.now ≤ length arrivals.now }
-    requires early { (r i : ℕ) → slice_get chosen.now r ≡ Some i → slice_index arrivals.now i ≤ start }
+    requires long { length waits.now ≡ length chosen.now }
     ensures belongs { Belongs clocks.new nl.new.cells }
     ensures keeps { KeepsCounters clocks.old clocks.new }
-    ensures grows { GrowsBy nl.old nl.new (delay_load items.now arrivals.now start chosen.now) }
+    ensures grows { GrowsBy nl.old nl.new (delay_load items.now waits.now chosen.now) }
     ensures adds { OnOk result (Adds nl.old nl.new 0 0) }
     ensures full { IsFullAt result nl.new }
-    ensures delayed { IfOk result (λ v. AreDelayed nl.old.cells nl.new.cells clocks.old.rst items.now arrivals.now start chosen.now v.items) }
+    ensures delayed { IfOk result (λ v. AreDelayed nl.old.cells nl.new.cells clocks.old.rst items.now waits.now chosen.now v.items) }
 {
     let mut late = Vec::new(alloc);
-    for item in chosen {
-        let k = *item as usize;
-        let bundle = later(alloc, nl, clocks, &items[k], start - arrivals[k])?;
+    for r in 0..chosen.len() {
+        let k = chosen[r] as usize;
+        let bundle = later(alloc, nl, clocks, &items[k], waits[r])?;
         keep_bundle(&mut late, bundle)?;
     }
     Ok(late)

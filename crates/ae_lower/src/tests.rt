@@ -7,6 +7,7 @@ use crate::{Lowered, lower};
 use ae_delay::arrivals;
 use ae_flow::schedules_fit;
 use ae_netlist::Netlist;
+use ae_retime::matching;
 use ae_rewrite::schedule;
 use ae_seq::{Func, Node, Op, Param, Program, check};
 use ae_seqtype::SeqType;
@@ -109,8 +110,9 @@ fn circuit_of(
     let _program = typed.program();
     let s = schedule(alloc, &typed, slowdown)?;
     let a = arrivals(alloc, &s)?;
+    let slacks = matching(alloc, &s, &a)?;
     schedules_fit();
-    let lowered = lower(alloc, &s, &a)?;
+    let lowered = lower(alloc, &s, &a, &slacks)?;
     Ok((lowered, a.latency()))
 }
 

@@ -1,5 +1,5 @@
 -- Lists of slacks, chains and arrivals.
-use Rattle.std.proofs.Common.{ℕ, zero, suc, ◌≡◌, ◌+◌, ◌-◌, ◌<◌, ◌≤◌, max, inl, inr, List, [], ◌∷◌, ◌++◌, length, map, take, replicate, Some, slice_get, get_or, arith, refl, sym, ap, ◌∙◌, length-append}
+use Rattle.std.proofs.Common.{ℕ, zero, suc, ◌≡◌, ◌+◌, ◌<◌, ◌≤◌, max, inl, inr, List, [], ◌∷◌, ◌++◌, length, map, take, replicate, Some, slice_get, get_or, arith, refl, sym, ap, ◌∙◌, length-append}
 use Rattle.std.specs.List.{range_with_len, flat_map}
 use Rattle.std.proofs.lemmas.Bool.{cases_eq}
 use Rattle.std.proofs.lemmas.List.{ext_get_or, get_or-replicate, length-map, length-replicate, map-append, take_all}
@@ -20,7 +20,7 @@ use Rattle.ae_delay.specs.Timings.{AreTimes, Times, item_arrivals}
 use Rattle.ae_delay.specs.Weighing.{deepened, deepened_by}
 use Rattle.ae_delay.proofs.Chains.{AreUses, deepened_at, length_deepened}
 use Rattle.ae_delay.proofs.Instances.{length_grown, node_sound, uses_below}
-use Rattle.ae_retime.specs.Slacks.{AreArguments, AreByInstance, AreChains, AreSlacks, SlackTables, UsesBelow, arrivals_in, item_chains, item_uses, joint_slacks, joint_uses}
+use Rattle.ae_retime.specs.Slacks.{AreArguments, AreByInstance, AreChains, AreResults, AreSlacks, SlackTables, UsesBelow, arrivals_in, item_chains, item_uses, joint_slacks, joint_uses}
 
 pub tree_at : (p : List StFunc) (k : ℕ) (s : StFunc) → slice_get p k ≡ Some s → slice_get (st_func_trees p) k ≡ Some (st_func_tree s)
 tree_at p k s f = get_mapped st_func_tree p k s f
@@ -59,9 +59,6 @@ told_at p t k s own sound times here told =
 
 pub told_many : (p : List StFunc) (t : Times) (count k : ℕ) → AreTimes (st_func_trees p) t → count ≡ length p → k < count → k < length t.arrivals
 told_many p t count k times e low = omega (arith, times.many, length-map p st_func_tree)
-
-pub told_last : (p : List StFunc) (t : Times) (count : ℕ) → IsSound (st_func_trees p) → AreTimes (st_func_trees p) t → count ≡ length p → count - 1 < length t.arrivals
-told_last p t count sound times e = omega (arith, times.many, sound.some, length-map p st_func_tree)
 
 -- ---- lists by instance
 
@@ -160,15 +157,11 @@ chains_end arrivals s items i results old new ei l long below er eo en =
 
 -- ---- a program
 
-pub matched : (p : List StFunc) (count k : ℕ) (s : StFunc) (own : List ℕ) (t : SlackTables) → count ≡ length p → count ≤ k → k ≤ count → slice_get p (count - 1) ≡ Some s → AreArguments (st_func_trees p) k t.arguments → AreChains (st_func_trees p) k t.chains
-    → own ≡ arrivals_in (st_func_trees p) (count - 1) (st_func_tree s) → t.results ≡ joint_slacks own s.results.items → AreSlacks (st_func_trees p) t
-matched p count k s own t e least most f arguments chains is results =
+pub matched : (p : List StFunc) (count k : ℕ) (t : SlackTables) → count ≡ length p → count ≤ k → k ≤ count → AreArguments (st_func_trees p) k t.arguments → AreChains (st_func_trees p) k t.chains → AreResults (st_func_trees p) k t.results → AreSlacks (st_func_trees p) t
+matched p count k t e least most arguments chains results =
     let long : k ≡ length (st_func_trees p) = omega (arith, length-map p st_func_tree) in
-    let last : length (st_func_trees p) - 1 ≡ count - 1 = omega (arith, length-map p st_func_tree) in
     record {
       arguments = rw long at arguments;
       chains = rw long at chains;
-      results = λ u g.
-          let same : st_func_tree s ≡ u = same_Some (st_func_tree s) u (sym (tree_at p (count - 1) s f) ∙ rw last at g) in
-          rw (last, ← same) (results ∙ ap (λ xs. joint_slacks xs s.results.items) is);
+      results = rw long at results;
     }

@@ -7,11 +7,11 @@ use Rattle.ae_delay.specs.Costs.{Use, all_costs, chain_of, latest, uses_at}
 use Rattle.ae_delay.specs.Timings.{item_arrivals}
 use Rattle.ae_delay.specs.Weighing.{AllBelow}
 
--- what is seen of slacks: those of arguments by instance, node and argument, chains by instance and item, and those of the program's results
+-- what is seen of slacks: those of arguments by instance, node and argument, chains by instance and item, and those of results by instance
 pub record SlackTables : Type 0 where
   pub arguments : List (List (List ℕ))
   pub chains : List (List ℕ)
-  pub results : List ℕ
+  pub results : List (List ℕ)
 
 -- ---- of an instance with these arrivals
 
@@ -52,11 +52,13 @@ AreArguments instances count xs = AreByInstance (λ k s. argument_slacks (arriva
 abbrev pub AreChains : List StFuncTree → (count : ℕ) → List (List ℕ) → Type 0
 AreChains instances count xs = AreByInstance (λ k s. item_chains (arrivals_in instances k s) s) instances count xs
 
--- the program function is the last instance
+abbrev pub AreResults : List StFuncTree → (count : ℕ) → List (List ℕ) → Type 0
+AreResults instances count xs = AreByInstance (λ k s. joint_slacks (arrivals_in instances k s) s.results) instances count xs
+
 pub record AreSlacks (instances : List StFuncTree) (t : SlackTables) : Type 0 where
   pub arguments : AreArguments instances (length instances) t.arguments
   pub chains : AreChains instances (length instances) t.chains
-  pub results : (s : StFuncTree) → slice_get instances (length instances - 1) ≡ Some s → t.results ≡ joint_slacks (arrivals_in instances (length instances - 1) s) s.results
+  pub results : AreResults instances (length instances) t.results
 
 -- ---- what the code knows
 

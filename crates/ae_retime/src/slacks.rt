@@ -1,11 +1,11 @@
 // The slacks of a program.
 
-ghost use Rattle.std.specs.Prelude.{◌≡◌, ◌<◌, ◌++◌, [], ◌∷◌, length, map, IfOk, OnOk, Some, slice_get};
+ghost use Rattle.std.specs.Prelude.{◌≡◌, ◌<◌, ◌-◌, ◌++◌, [], ◌∷◌, length, map, IfOk, OnOk, Some, slice_get};
 ghost use Rattle.std.specs.Option.{option_and_then, option_map};
 ghost use Rattle.ae_rewrite.specs.StProgramTree.{st_func_tree, st_func_trees};
 ghost use Rattle.ae_rewrite.specs.Sound.{item_layouts};
 ghost use Rattle.ae_delay.specs.Timings.{AreTimes};
-ghost use Rattle.ae_retime.specs.Slacks.{AreSlacks, UsesBelow, argument_slacks, item_chains};
+ghost use Rattle.ae_retime.specs.Slacks.{AreSlacks, UsesBelow, argument_slacks, item_chains, joint_slacks};
 
 use crate::uses::{argument_slacks, item_chains, joint_slacks};
 use ae_delay::Timing;
@@ -18,7 +18,7 @@ use std::marker::Model;
 pub struct Slacks {
     arguments: Vec<Vec<Vec<u32>>>,
     chains: Vec<Vec<u32>>,
-    results: Vec<u32>,
+    results: Vec<Vec<u32>>,
 }
 
 impl Model for Slacks {
@@ -27,7 +27,7 @@ impl Model for Slacks {
 
     ghost Value = { SlackTables };
 
-    ghost view = { λ t. record { arguments = map (λ n. map (λ v. v.items) n.items) t.arguments.items; chains = map (λ v. v.items) t.chains.items; results = t.results.items } };
+    ghost view = { λ t. record { arguments = map (λ n. map (λ v. v.items) n.items) t.arguments.items; chains = map (λ v. v.items) t.chains.items; results = map (λ v. v.items) t.results.items } };
 }
 
 impl Slacks {
@@ -50,12 +50,36 @@ impl Slacks {
         items.get(item as usize).copied()
     }
 
-    /// By how many clocks a result of the program function arrives before the latest; None exactly where there is no
-    /// such result.
+    /// By how many clocks a result of the program function, which is the last instance, arrives before the latest; None
+    /// exactly where there is no such result.
     pub fn result_slack(&self, r: u32) -> Option<u32>
-        ensures { result ≡ slice_get self.now.results r }
+        ensures { result ≡ option_and_then (λ own. slice_get own r) (slice_get self.now.results (length self.now.results - 1)) }
     {
-        self.results.get(r as usize).copied()
+        let own = self.results.last()?;
+        own.get(r as usize).copied()
+    }
+
+    /// By how many clocks each argument of a node arrives before the node's latest; None exactly where there is no such
+    /// node or instance.
+    pub fn waits(&self, instance: u32, node: u32) -> Option<&[u32]>
+        ensures { option_map (λ r. r.now) result ≡ option_and_then (λ nodes. slice_get nodes node) (slice_get self.now.arguments instance) }
+    {
+        let nodes = self.arguments.get(instance as usize)?;
+        match nodes.get(node as usize) {
+            Some(waits) => Some(waits.as_slice()),
+            None => None,
+        }
+    }
+
+    /// By how many clocks each result of an instance arrives before the latest; None exactly where there is no such
+    /// instance.
+    pub fn result_waits(&self, instance: u32) -> Option<&[u32]>
+        ensures { option_map (λ r. r.now) result ≡ slice_get self.now.results instance }
+    {
+        match self.results.get(instance as usize) {
+            Some(waits) => Some(waits.as_slice()),
+            None => None,
+        }
     }
 }
 
@@ -81,21 +105,24 @@ fn arrivals_of(a: &Timing, k: u32) -> &[u32]
     }
 }
 
-// The slacks and chains of one more instance.
+// The slacks and chains of one more instance, and the slacks of its results.
 fn add_func(
     alloc: Global,
     s: &StFunc,
     arrivals: &[u32],
     arguments: &mut Vec<Vec<Vec<u32>>>,
     chains: &mut Vec<Vec<u32>>,
+    results: &mut Vec<Vec<u32>>,
 ) -> Result<(), AllocError>
     requires uses { UsesBelow (length arrivals.now) (st_func_tree s.now) }
     requires long { length arrivals.now ≡ length (item_layouts (st_func_tree s.now)) }
     ensures arguments { OnOk result (map (λ n. map (λ v. v.items) n.items) arguments.new.items ≡ map (λ n. map (λ v. v.items) n.items) arguments.old.items ++ argument_slacks arrivals.now (st_func_tree s.now) ∷ []) }
     ensures chains { OnOk result (map (λ v. v.items) chains.new.items ≡ map (λ v. v.items) chains.old.items ++ item_chains arrivals.now (st_func_tree s.now) ∷ []) }
+    ensures results { OnOk result (map (λ v. v.items) results.new.items ≡ map (λ v. v.items) results.old.items ++ joint_slacks arrivals.now (st_func_tree s.now).results ∷ []) }
 {
     arguments.push(argument_slacks(alloc, s, arrivals)?)?;
     chains.push(item_chains(alloc, s, arrivals)?)?;
+    results.push(joint_slacks(alloc, arrivals, &s.results)?)?;
     Ok(())
 }
 
@@ -107,6 +134,7 @@ pub fn matching(alloc: Global, p: &StProgram, a: &Timing) -> Result<Slacks, Allo
     let count = p.count();
     let mut arguments = Vec::new(alloc);
     let mut chains = Vec::new(alloc);
+    let mut results = Vec::new(alloc);
     for k in 0..count {
         add_func(
             alloc,
@@ -114,10 +142,9 @@ pub fn matching(alloc: Global, p: &StProgram, a: &Timing) -> Result<Slacks, Allo
             arrivals_of(a, k),
             &mut arguments,
             &mut chains,
+            &mut results,
         )?;
     }
-    let last = count - 1;
-    let results = joint_slacks(alloc, arrivals_of(a, last), &instance(p, last).results)?;
     Ok(Slacks {
         arguments,
         chains,

@@ -104,6 +104,7 @@ fn a_sum_waits_for_a_product_beside_it(rt: HostRuntime) -> Result<(), Fail> {
     for (r, wanted) in [(0, Some(0)), (1, Some(1)), (2, None)] {
         assert_eq!(rt; t.result_slack(r), wanted);
     }
+    assert_eq!(rt; t.result_waits(0), Some([0, 1].as_slice()));
     for (item, wanted) in [(0, Some(0)), (1, Some(0)), (2, Some(1)), (3, None)] {
         assert_eq!(rt; t.chain(0, item), wanted);
     }
@@ -159,6 +160,14 @@ fn each_instance_has_its_own_slacks(rt: HostRuntime) -> Result<(), Fail> {
     assert_eq!(rt; t.slack(1, 1, 0), None);
     assert_eq!(rt; t.slack(2, 0, 0), None);
     assert_eq!(rt; t.chain(1, 0), Some(0));
+    assert_eq!(rt; t.waits(0, 1), Some([0, 2].as_slice()));
+    assert_eq!(rt; t.waits(1, 0), Some([0].as_slice()));
+    assert_eq!(rt; t.waits(1, 1), None);
+    assert_eq!(rt; t.waits(2, 0), None);
+    for instance in 0..2 {
+        assert_eq!(rt; t.result_waits(instance), Some([0].as_slice()));
+    }
+    assert_eq!(rt; t.result_waits(2), None);
     assert_eq!(rt; t.result_slack(0), Some(0));
     assert_eq!(rt; t.result_slack(1), None);
     Ok(())

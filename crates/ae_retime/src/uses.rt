@@ -3,24 +3,12 @@
 ghost use Rattle.std.specs.Prelude.{◌≡◌, length, map, IfOk};
 ghost use Rattle.ae_rewrite.specs.StProgramTree.{st_func_tree};
 ghost use Rattle.ae_rewrite.specs.Sound.{item_layouts};
-ghost use Rattle.ae_delay.specs.Costs.{latest};
 ghost use Rattle.ae_delay.specs.Weighing.{AllBelow, deepened};
 ghost use Rattle.ae_retime.specs.Slacks.{UsesBelow, argument_slacks, item_chains, joint_slacks, joint_uses};
 
+use ae_delay::latest;
 use ae_rewrite::StFunc;
 use std::alloc::{AllocError, Global};
-
-// The latest arrival of these items, and 0 of none.
-fn latest(arrivals: &[u32], items: &[u32]) -> u32
-    requires { AllBelow items.now (length arrivals.now) }
-    ensures { result ≡ latest arrivals.now items.now }
-{
-    let mut most = 0u32;
-    for item in items {
-        most = most.max(arrivals[*item as usize]);
-    }
-    most
-}
 
 /// By how many clocks each of these items arrives before the latest.
 pub(crate) fn joint_slacks(

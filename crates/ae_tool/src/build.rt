@@ -25,6 +25,7 @@ use ae_delay::layout;
 use ae_elab::one_run;
 use ae_flow::schedules_fit;
 use ae_lower::{Lowered, lower};
+use ae_retime::matching;
 use ae_rewrite::StFunc;
 use ae_sttype::StType;
 use ae_verilog::{Note, Report, module_keeps, spelled_once, write_module};
@@ -81,7 +82,8 @@ pub fn circuit(alloc: Global, costed: &Costed, slowdown: u32) -> Result<Lowered,
 {
     schedules_fit();
     let _program = costed.program.program();
-    lower(alloc, &costed.schedule, &costed.timing)
+    let slacks = matching(alloc, &costed.schedule, &costed.timing)?;
+    lower(alloc, &costed.schedule, &costed.timing, &slacks)
 }
 
 // What is told of the cells of its lines, by the numbers of the cells before its nodes.

@@ -1,6 +1,6 @@
-use Rattle.std.proofs.Common.{◌≡◌, ◌+◌, ◌<◌, ◌≤◌, ◌*◌, ◌++◌, ◌∷◌, [], List, take, slice_get, slice_index, arith, ap, sym, ◌∙◌, subst, length, ℕ}
+use Rattle.std.proofs.Common.{◌≡◌, ◌+◌, ◌-◌, ◌<◌, ◌≤◌, ◌*◌, ◌++◌, ◌∷◌, [], List, take, slice_get, slice_index, arith, ap, sym, ◌∙◌, subst, length, ℕ}
 use Rattle.std.proofs.lemmas.List.{length-map}
-use Rattle.std.proofs.lemmas.Option.{same_Some}
+use Rattle.std.proofs.lemmas.Option.{same_Some, slice_get_within}
 use Rattle.std.proofs.lemmas.Result.{on_ok_weaker}
 use Rattle.ae_netlist.specs.declared.cell.NetId.{NetId}
 use Rattle.ae_ops.specs.Blocks.{AreBundles}
@@ -16,9 +16,9 @@ use Rattle.ae_lower.specs.Delaying.{AreDelayed, delay_load}
 use Rattle.ae_lower.specs.Nodes.{arguments_of, node_part, plain_costs}
 use Rattle.ae_lower.specs.Lowering.{AreItems, AreStanding, IsItem, IsLight, arrivals_in, bodies_part, instance_costs}
 use Rattle.ae_lower.proofs.Growing.{if_ok_more, keeps_none}
-use Rattle.ae_lower.proofs.Costing.{arrivals_long, latest_at}
+use Rattle.ae_lower.proofs.Costing.{few_nodes}
 use Rattle.ae_lower.proofs.Instances.{AreLowered, AreSpread, head_of, lane_results, more_bodies, more_nodes, no_bodies, no_nodes, standing}
-use Rattle.ae_lower.proofs.Placed.{args_grow, args_stand, arrivals_told, at_node, bodies_placed, call_adds, call_args, call_light, calls_nothing, chosen_below, func_tree, is_call, node_grows, node_placed, node_ready, own_long, placed_in, plain_adds, plain_is, standing_widths}
+use Rattle.ae_lower.proofs.Placed.{args_grow, args_stand, arrivals_told, at_node, bodies_placed, call_adds, call_args, call_light, calls_nothing, chosen_below, func_tree, is_call, node_grows, node_placed, node_ready, own_long, placed_in, result_waits_in, result_waits_told, waits_in, waits_told, plain_adds, plain_is, standing_widths}
 use Rattle.ae_tidy.specs.Places.{AreMarks}
 use Rattle.ae_tidy.proofs.Placing.{marks_later, marks_more}
 use Rattle.ae_netlist.proofs.Growing.{extends_length}
@@ -37,7 +37,7 @@ lower_bodies-returns-in_err-own-clause-grows t c = fewer_bodies c.args.nl.now c.
 pub lower_bodies-lower_instance-requires : goal.lower_bodies-lower_instance-requires
 lower_bodies-lower_instance-requires t c =
     let own = own_lane (st_func_trees c.args.p.now) c.args.m c.args.copies c.loop-lane.lane c.args.args.now c.in_ok-own.own.items c.deref.result.now c.args.nl.now c.loop-lane.nl c.loop-lane-test.true c.loop-lane.invariant.spread.grows.grows.extends c.in_ok-own.ensures.ok c.deref.ensures.value c.requires.args in
-    (omega (arith, c.decreases), (c.loop-lane.invariant.belongs, (c.requires.timed, (c.requires.light, own))))
+    (omega (arith, c.decreases), (c.loop-lane.invariant.belongs, (c.requires.timed, (c.requires.slacks, (c.requires.light, own)))))
 
 pub lower_bodies-returns-in_err-results-clause-keeps : goal.lower_bodies-returns-in_err-results-clause-keeps
 lower_bodies-returns-in_err-results-clause-keeps t c = keeps_trans c.loop-lane.invariant.keeps c.lower_instance.ensures.keeps
@@ -79,8 +79,8 @@ lower_bodies-returns-clause-built t c =
     let built = all_bodies (st_func_trees c.args.p.now) c.args.m c.args.at c.args.clocks.now.rst c.args.copies c.args.args.now c.args.nl.now c.loop-lane.nl c.loop-lane.out.items c.flows_fit.ensures c.requires.timed.sound c.requires.timed.fitted c.requires.some c.requires.args (subst (λ (i : ℕ). AreSpread (st_func_trees c.args.p.now) c.args.m c.args.at c.args.clocks.now.rst c.args.copies c.args.args.now c.args.nl.now c.loop-lane.nl i c.loop-lane.out.items) end c.loop-lane.invariant.spread) in
     rw c.new.ensures built
 
-pub lower_instance-arrivals_of-arrivals-requires : goal.lower_instance-arrivals_of-arrivals-requires
-lower_instance-arrivals_of-arrivals-requires t c = (_, arrivals_told (st_func_trees c.args.p.now) c.args.a.now.arrivals c.args.k c.args.at (st_func_tree c.instance-s.result.now) c.requires.timed c.requires.light (func_tree c.args.p.now c.args.k c.instance-s.result.now c.instance-s.ensures))
+pub lower_instance-result_waits_of-waits-requires : goal.lower_instance-result_waits_of-waits-requires
+lower_instance-result_waits_of-waits-requires t c = (_, result_waits_told (st_func_trees c.args.p.now) c.args.slacks.now c.args.k (st_func_tree c.instance-s.result.now) c.requires.slacks (func_tree c.args.p.now c.args.k c.instance-s.result.now c.instance-s.ensures))
 
 pub lower_instance-lower_node-requires : goal.lower_instance-lower_node-requires
 lower_instance-lower_node-requires t c =
@@ -94,10 +94,13 @@ lower_instance-lower_node-requires t c =
         (
           c.requires.timed,
           (
-            c.requires.light,
+            c.requires.slacks,
             (
-              (λ z at. subst (λ (f : StFuncTree). c.loop-j.j < length f.nodes) (same_Some (st_func_tree c.instance-s.result.now) z (sym found ∙ at)) there),
-              (λ z at. subst (λ (f : StFuncTree). AreStanding c.loop-j.nl.cells f (length f.ins + c.loop-j.j) c.deref.result.now) (same_Some (st_func_tree c.instance-s.result.now) z (sym found ∙ at)) asked),
+              c.requires.light,
+              (
+                (λ z at. subst (λ (f : StFuncTree). c.loop-j.j < length f.nodes) (same_Some (st_func_tree c.instance-s.result.now) z (sym found ∙ at)) there),
+                (λ z at. subst (λ (f : StFuncTree). AreStanding c.loop-j.nl.cells f (length f.ins + c.loop-j.j) c.deref.result.now) (same_Some (st_func_tree c.instance-s.result.now) z (sym found ∙ at)) asked),
+              ),
             ),
           ),
         ),
@@ -120,50 +123,35 @@ lower_instance-returns-in_err-keep_item-clause-grows t c =
     let there : c.loop-j.j < length (st_func_tree c.instance-s.result.now).nodes = omega (arith, c.loop-j-test.true, c.len-j-end.ensures, c.instance-s.result.now.nodes.ok, length-map c.instance-s.result.now.nodes.items st_node_tree) in
     another_node (st_func_trees c.args.p.now) c.args.k c.loop-j.j c.args.at c.args.clocks.now.rst (st_func_tree c.instance-s.result.now) c.args.ins.now c.loop-j.items.items c.args.nl.now c.loop-j.nl c.lower_node.new.nl (func_tree c.args.p.now c.args.k c.instance-s.result.now c.instance-s.ensures) there c.loop-j.invariant.lowered c.lower_node.ensures.grows
 
-pub lower_instance-latest-end-requires : goal.lower_instance-latest-end-requires
-lower_instance-latest-end-requires t c = λ r i f.
-    let arr : c.arrivals_of-arrivals.result.now ≡ arrivals_in (st_func_trees c.args.p.now) c.args.k (st_func_tree c.instance-s.result.now) = same_Some c.arrivals_of-arrivals.result.now (arrivals_in (st_func_trees c.args.p.now) c.args.k (st_func_tree c.instance-s.result.now)) (sym c.arrivals_of-arrivals.ensures ∙ arrivals_told (st_func_trees c.args.p.now) c.args.a.now.arrivals c.args.k c.args.at (st_func_tree c.instance-s.result.now) c.requires.timed c.requires.light (func_tree c.args.p.now c.args.k c.instance-s.result.now c.instance-s.ensures)) in
-    let long : length c.arrivals_of-arrivals.result.now ≡ length (st_func_tree c.instance-s.result.now).ins + length (st_func_tree c.instance-s.result.now).nodes = ap length arr ∙ arrivals_long (st_func_trees c.args.p.now) c.args.k (st_func_tree c.instance-s.result.now) in
-    (let l = result_below (st_func_trees c.args.p.now) c.args.k (st_func_tree c.instance-s.result.now) c.deref-2.result.now c.requires.timed.sound (func_tree c.args.p.now c.args.k c.instance-s.result.now c.instance-s.ensures) c.deref-2.ensures.value r i f in omega (arith, l, long))
-
 pub lower_instance-joined-requires-clause-belongs : goal.lower_instance-joined-requires-clause-belongs
 lower_instance-joined-requires-clause-belongs t c = c.loop-j.invariant.belongs
 
 pub lower_instance-joined-requires-clause-nets : goal.lower_instance-joined-requires-clause-nets
 lower_instance-joined-requires-clause-nets t c = λ i nets f.
     let stand = standing c.loop-j.nl.cells c.args.clocks.now.rst c.args.at (callees (take c.args.k (st_func_trees c.args.p.now))) (st_func_tree c.instance-s.result.now) (arrivals_in (st_func_trees c.args.p.now) c.args.k (st_func_tree c.instance-s.result.now)) c.args.ins.now (length (st_func_tree c.instance-s.result.now).ins + c.loop-j.j) c.loop-j.items.items c.loop-j.invariant.lowered.have in
-    standing_widths c.loop-j.nl.cells (st_func_tree c.instance-s.result.now) (length (st_func_tree c.instance-s.result.now).ins + c.loop-j.j) c.loop-j.items.items stand i nets (sym (ap (λ xs. slice_get xs i) c.deref-3.ensures.value) ∙ f)
+    standing_widths c.loop-j.nl.cells (st_func_tree c.instance-s.result.now) (length (st_func_tree c.instance-s.result.now).ins + c.loop-j.j) c.loop-j.items.items stand i nets (sym (ap (λ xs. slice_get xs i) c.deref-2.ensures.value) ∙ f)
 
 pub lower_instance-joined-requires-clause-below : goal.lower_instance-joined-requires-clause-below
 lower_instance-joined-requires-clause-below t c = λ r i f.
     let end : c.loop-j.j ≡ length (st_func_tree c.instance-s.result.now).nodes = omega (arith, c.loop-j-test.false, c.loop-j.auto.j-end, c.len-j-end.ensures, c.instance-s.result.now.nodes.ok, length-map c.instance-s.result.now.nodes.items st_node_tree) in
-    let l = result_below (st_func_trees c.args.p.now) c.args.k (st_func_tree c.instance-s.result.now) c.deref-4.result.now c.requires.timed.sound (func_tree c.args.p.now c.args.k c.instance-s.result.now c.instance-s.ensures) c.deref-4.ensures.value r i f in
-    omega (arith, l, end, c.loop-j.invariant.lowered.have.long, ap length c.deref-3.ensures.value)
+    let l = result_below (st_func_trees c.args.p.now) c.args.k (st_func_tree c.instance-s.result.now) c.deref-3.result.now c.requires.timed.sound (func_tree c.args.p.now c.args.k c.instance-s.result.now c.instance-s.ensures) c.deref-3.ensures.value r i f in
+    omega (arith, l, end, c.loop-j.invariant.lowered.have.long, ap length c.deref-2.ensures.value)
 
-pub lower_instance-joined-requires-clause-arrived : goal.lower_instance-joined-requires-clause-arrived
-lower_instance-joined-requires-clause-arrived t c =
-    let arr : c.arrivals_of-arrivals.result.now ≡ arrivals_in (st_func_trees c.args.p.now) c.args.k (st_func_tree c.instance-s.result.now) = same_Some c.arrivals_of-arrivals.result.now (arrivals_in (st_func_trees c.args.p.now) c.args.k (st_func_tree c.instance-s.result.now)) (sym c.arrivals_of-arrivals.ensures ∙ arrivals_told (st_func_trees c.args.p.now) c.args.a.now.arrivals c.args.k c.args.at (st_func_tree c.instance-s.result.now) c.requires.timed c.requires.light (func_tree c.args.p.now c.args.k c.instance-s.result.now c.instance-s.ensures)) in
-    let long : length c.arrivals_of-arrivals.result.now ≡ length (st_func_tree c.instance-s.result.now).ins + length (st_func_tree c.instance-s.result.now).nodes = ap length arr ∙ arrivals_long (st_func_trees c.args.p.now) c.args.k (st_func_tree c.instance-s.result.now) in
-    let end : c.loop-j.j ≡ length (st_func_tree c.instance-s.result.now).nodes = omega (arith, c.loop-j-test.false, c.loop-j.auto.j-end, c.len-j-end.ensures, c.instance-s.result.now.nodes.ok, length-map c.instance-s.result.now.nodes.items st_node_tree) in
-    omega (arith, long, end, c.loop-j.invariant.lowered.have.long, ap length c.deref-3.ensures.value)
-
-pub lower_instance-joined-requires-clause-early : goal.lower_instance-joined-requires-clause-early
-lower_instance-joined-requires-clause-early t c = λ r i f.
-    let start : c.latest-end.result ≡ latest c.arrivals_of-arrivals.result.now (st_func_tree c.instance-s.result.now).results = c.latest-end.ensures ∙ ap (latest c.arrivals_of-arrivals.result.now) c.deref-2.ensures.value in
-    let l = latest_at c.arrivals_of-arrivals.result.now (st_func_tree c.instance-s.result.now).results r i (sym (ap (λ xs. slice_get xs r) c.deref-4.ensures.value) ∙ f) in
-    omega (arith, l, start)
+pub lower_instance-joined-requires-clause-long : goal.lower_instance-joined-requires-clause-long
+lower_instance-joined-requires-clause-long t c =
+    let ew = result_waits_in c.args.p.now c.args.slacks.now c.args.k c.instance-s.result.now c.result_waits_of-waits.result.now c.requires.slacks c.instance-s.ensures c.result_waits_of-waits.ensures in
+    ap length ew ∙ (length-map (st_func_tree c.instance-s.result.now).results (λ (a : ℕ). latest (arrivals_in (st_func_trees c.args.p.now) c.args.k (st_func_tree c.instance-s.result.now)) (st_func_tree c.instance-s.result.now).results - slice_index (arrivals_in (st_func_trees c.args.p.now) c.args.k (st_func_tree c.instance-s.result.now)) a) ∙ ap length (sym c.deref-3.ensures.value))
 
 pub lower_instance-returns-clause-keeps : goal.lower_instance-returns-clause-keeps
 lower_instance-returns-clause-keeps t c = keeps_trans c.loop-j.invariant.keeps c.joined.ensures.keeps
 
 pub lower_instance-returns-clause-grows : goal.lower_instance-returns-clause-grows
 lower_instance-returns-clause-grows t c =
-    let arr : c.arrivals_of-arrivals.result.now ≡ arrivals_in (st_func_trees c.args.p.now) c.args.k (st_func_tree c.instance-s.result.now) = same_Some c.arrivals_of-arrivals.result.now (arrivals_in (st_func_trees c.args.p.now) c.args.k (st_func_tree c.instance-s.result.now)) (sym c.arrivals_of-arrivals.ensures ∙ arrivals_told (st_func_trees c.args.p.now) c.args.a.now.arrivals c.args.k c.args.at (st_func_tree c.instance-s.result.now) c.requires.timed c.requires.light (func_tree c.args.p.now c.args.k c.instance-s.result.now c.instance-s.ensures)) in
+    let ew = result_waits_in c.args.p.now c.args.slacks.now c.args.k c.instance-s.result.now c.result_waits_of-waits.result.now c.requires.slacks c.instance-s.ensures c.result_waits_of-waits.ensures in
     let end : c.loop-j.j ≡ length (st_func_tree c.instance-s.result.now).nodes = omega (arith, c.loop-j-test.false, c.loop-j.auto.j-end, c.len-j-end.ensures, c.instance-s.result.now.nodes.ok, length-map c.instance-s.result.now.nodes.items st_node_tree) in
     let all : AreLowered (st_func_trees c.args.p.now) c.args.k c.args.at c.args.clocks.now.rst (st_func_tree c.instance-s.result.now) c.args.ins.now c.args.nl.now c.loop-j.nl (length (st_func_tree c.instance-s.result.now).nodes) c.loop-j.items.items = subst (λ (i : ℕ). AreLowered (st_func_trees c.args.p.now) c.args.k c.args.at c.args.clocks.now.rst (st_func_tree c.instance-s.result.now) c.args.ins.now c.args.nl.now c.loop-j.nl i c.loop-j.items.items) end c.loop-j.invariant.lowered in
-    let start : c.latest-end.result ≡ latest c.arrivals_of-arrivals.result.now (st_func_tree c.instance-s.result.now).results = c.latest-end.ensures ∙ ap (latest c.arrivals_of-arrivals.result.now) c.deref-2.ensures.value in
-    let grown : GrowsBy c.loop-j.nl c.joined.new.nl (delay_load c.loop-j.items.items c.arrivals_of-arrivals.result.now c.latest-end.result (st_func_tree c.instance-s.result.now).results) = subst (λ (xs : List (List NetId)). GrowsBy c.loop-j.nl c.joined.new.nl (delay_load xs c.arrivals_of-arrivals.result.now c.latest-end.result (st_func_tree c.instance-s.result.now).results)) c.deref-3.ensures.value (subst (λ (is : List ℕ). GrowsBy c.loop-j.nl c.joined.new.nl (delay_load c.deref-3.result.now c.arrivals_of-arrivals.result.now c.latest-end.result is)) c.deref-4.ensures.value c.joined.ensures.grows) in
-    results_grow (st_func_trees c.args.p.now) c.args.k c.args.at c.args.clocks.now.rst (st_func_tree c.instance-s.result.now) c.args.ins.now c.loop-j.items.items c.args.nl.now c.loop-j.nl c.joined.new.nl c.arrivals_of-arrivals.result.now c.latest-end.result c.requires.timed.sound (func_tree c.args.p.now c.args.k c.instance-s.result.now c.instance-s.ensures) arr start all grown
+    let grown : GrowsBy c.loop-j.nl c.joined.new.nl (delay_load c.loop-j.items.items c.result_waits_of-waits.result.now (st_func_tree c.instance-s.result.now).results) = subst (λ (xs : List (List NetId)). GrowsBy c.loop-j.nl c.joined.new.nl (delay_load xs c.result_waits_of-waits.result.now (st_func_tree c.instance-s.result.now).results)) c.deref-2.ensures.value (subst (λ (is : List ℕ). GrowsBy c.loop-j.nl c.joined.new.nl (delay_load c.deref-2.result.now c.result_waits_of-waits.result.now is)) c.deref-3.ensures.value c.joined.ensures.grows) in
+    results_grow (st_func_trees c.args.p.now) c.args.k c.args.at c.args.clocks.now.rst (st_func_tree c.instance-s.result.now) c.args.ins.now c.loop-j.items.items c.args.nl.now c.loop-j.nl c.joined.new.nl c.result_waits_of-waits.result.now c.requires.timed.sound (func_tree c.args.p.now c.args.k c.instance-s.result.now c.instance-s.ensures) ew all grown
 
 pub lower_instance-returns-clause-adds : goal.lower_instance-returns-clause-adds
 lower_instance-returns-clause-adds t c =
@@ -173,16 +161,15 @@ lower_instance-returns-clause-adds t c =
 
 pub lower_instance-returns-clause-results : goal.lower_instance-returns-clause-results
 lower_instance-returns-clause-results t c =
-    let arr : c.arrivals_of-arrivals.result.now ≡ arrivals_in (st_func_trees c.args.p.now) c.args.k (st_func_tree c.instance-s.result.now) = same_Some c.arrivals_of-arrivals.result.now (arrivals_in (st_func_trees c.args.p.now) c.args.k (st_func_tree c.instance-s.result.now)) (sym c.arrivals_of-arrivals.ensures ∙ arrivals_told (st_func_trees c.args.p.now) c.args.a.now.arrivals c.args.k c.args.at (st_func_tree c.instance-s.result.now) c.requires.timed c.requires.light (func_tree c.args.p.now c.args.k c.instance-s.result.now c.instance-s.ensures)) in
+    let ew = result_waits_in c.args.p.now c.args.slacks.now c.args.k c.instance-s.result.now c.result_waits_of-waits.result.now c.requires.slacks c.instance-s.ensures c.result_waits_of-waits.ensures in
     let end : c.loop-j.j ≡ length (st_func_tree c.instance-s.result.now).nodes = omega (arith, c.loop-j-test.false, c.loop-j.auto.j-end, c.len-j-end.ensures, c.instance-s.result.now.nodes.ok, length-map c.instance-s.result.now.nodes.items st_node_tree) in
     let all : AreLowered (st_func_trees c.args.p.now) c.args.k c.args.at c.args.clocks.now.rst (st_func_tree c.instance-s.result.now) c.args.ins.now c.args.nl.now c.loop-j.nl (length (st_func_tree c.instance-s.result.now).nodes) c.loop-j.items.items = subst (λ (i : ℕ). AreLowered (st_func_trees c.args.p.now) c.args.k c.args.at c.args.clocks.now.rst (st_func_tree c.instance-s.result.now) c.args.ins.now c.args.nl.now c.loop-j.nl i c.loop-j.items.items) end c.loop-j.invariant.lowered in
-    let start : c.latest-end.result ≡ latest c.arrivals_of-arrivals.result.now (st_func_tree c.instance-s.result.now).results = c.latest-end.ensures ∙ ap (latest c.arrivals_of-arrivals.result.now) c.deref-2.ensures.value in
     if_ok_more c.joined.result _ _ (λ v late.
-    let given : AreDelayed c.loop-j.nl.cells c.joined.new.nl.cells c.args.clocks.now.rst c.loop-j.items.items c.arrivals_of-arrivals.result.now c.latest-end.result (st_func_tree c.instance-s.result.now).results v.items =
-    subst (λ (z : ℕ). AreDelayed c.loop-j.nl.cells c.joined.new.nl.cells z c.loop-j.items.items c.arrivals_of-arrivals.result.now c.latest-end.result (st_func_tree c.instance-s.result.now).results v.items) c.loop-j.invariant.keeps.rst
-    (subst (λ (xs : List (List NetId)). AreDelayed c.loop-j.nl.cells c.joined.new.nl.cells c.loop-j.clocks.rst xs c.arrivals_of-arrivals.result.now c.latest-end.result (st_func_tree c.instance-s.result.now).results v.items) c.deref-3.ensures.value
-    (subst (λ (is : List ℕ). AreDelayed c.loop-j.nl.cells c.joined.new.nl.cells c.loop-j.clocks.rst c.deref-3.result.now c.arrivals_of-arrivals.result.now c.latest-end.result is v.items) c.deref-4.ensures.value late)) in
-    results_chosen (st_func_trees c.args.p.now) c.args.k c.args.at c.args.clocks.now.rst (st_func_tree c.instance-s.result.now) c.args.ins.now c.loop-j.items.items c.args.nl.now c.loop-j.nl c.joined.new.nl c.arrivals_of-arrivals.result.now c.latest-end.result v.items c.requires.timed.sound (func_tree c.args.p.now c.args.k c.instance-s.result.now c.instance-s.ensures) arr start all c.joined.ensures.grows.grows.extends given) c.joined.ensures.delayed
+    let given : AreDelayed c.loop-j.nl.cells c.joined.new.nl.cells c.args.clocks.now.rst c.loop-j.items.items c.result_waits_of-waits.result.now (st_func_tree c.instance-s.result.now).results v.items =
+    subst (λ (z : ℕ). AreDelayed c.loop-j.nl.cells c.joined.new.nl.cells z c.loop-j.items.items c.result_waits_of-waits.result.now (st_func_tree c.instance-s.result.now).results v.items) c.loop-j.invariant.keeps.rst
+    (subst (λ (xs : List (List NetId)). AreDelayed c.loop-j.nl.cells c.joined.new.nl.cells c.loop-j.clocks.rst xs c.result_waits_of-waits.result.now (st_func_tree c.instance-s.result.now).results v.items) c.deref-2.ensures.value
+    (subst (λ (is : List ℕ). AreDelayed c.loop-j.nl.cells c.joined.new.nl.cells c.loop-j.clocks.rst c.deref-2.result.now c.result_waits_of-waits.result.now is v.items) c.deref-3.ensures.value late)) in
+    results_chosen (st_func_trees c.args.p.now) c.args.k c.args.at c.args.clocks.now.rst (st_func_tree c.instance-s.result.now) c.args.ins.now c.loop-j.items.items c.args.nl.now c.loop-j.nl c.joined.new.nl c.result_waits_of-waits.result.now v.items c.requires.timed.sound (func_tree c.args.p.now c.args.k c.instance-s.result.now c.instance-s.ensures) ew all c.joined.ensures.grows.grows.extends given) c.joined.ensures.delayed
 
 pub lower_instance-returns-clause-marks : goal.lower_instance-returns-clause-marks
 lower_instance-returns-clause-marks t c =
@@ -196,6 +183,17 @@ lower_instance-returns-clause-marks t c =
 
 pub lower_node-arrivals_of-arrivals-requires : goal.lower_node-arrivals_of-arrivals-requires
 lower_node-arrivals_of-arrivals-requires t c = (_, arrivals_told (st_func_trees c.args.p.now) c.args.a.now.arrivals c.args.k c.args.at (st_func_tree c.instance-s.result.now) c.requires.timed c.requires.light (func_tree c.args.p.now c.args.k c.instance-s.result.now c.instance-s.ensures))
+
+pub lower_node-overflow_cast-j : goal.lower_node-overflow_cast-j
+lower_node-overflow_cast-j t c =
+    let h = placed_in c.args.p.now c.args.a.now.arrivals c.args.k c.args.j c.args.at c.instance-s.result.now c.index-node.result.now c.arrivals_of-arrivals.result.now c.requires.timed c.requires.light c.instance-s.ensures c.requires.node c.index-node.ensures c.arrivals_of-arrivals.ensures in
+    let there : c.args.j < length (st_func_tree c.instance-s.result.now).nodes = slice_get_within (st_func_tree c.instance-s.result.now).nodes c.args.j (st_node_tree c.index-node.result.now) h.node in
+    omega (arith, there, few_nodes (st_func_trees c.args.p.now) c.args.k (st_func_tree c.instance-s.result.now) h.func, c.requires.light.1.early)
+
+pub lower_node-waits_of-waits-requires : goal.lower_node-waits_of-waits-requires
+lower_node-waits_of-waits-requires t c =
+    let h = placed_in c.args.p.now c.args.a.now.arrivals c.args.k c.args.j c.args.at c.instance-s.result.now c.index-node.result.now c.arrivals_of-arrivals.result.now c.requires.timed c.requires.light c.instance-s.ensures c.requires.node c.index-node.ensures c.arrivals_of-arrivals.ensures in
+    (_, waits_told (st_func_trees c.args.p.now) c.args.slacks.now c.args.k c.args.j (st_func_tree c.instance-s.result.now) (st_node_tree c.index-node.result.now) c.requires.slacks h.func h.node)
 
 pub lower_node-index-node-requires : goal.lower_node-index-node-requires
 lower_node-index-node-requires t c = (let l = c.requires.node (st_func_tree c.instance-s.result.now) (func_tree c.args.p.now c.args.k c.instance-s.result.now c.instance-s.ensures) in omega (arith, l, c.instance-s.result.now.nodes.ok, length-map c.instance-s.result.now.nodes.items st_node_tree))
@@ -215,23 +213,18 @@ lower_node-joined-requires-clause-below t c = λ r i f.
     let h = placed_in c.args.p.now c.args.a.now.arrivals c.args.k c.args.j c.args.at c.instance-s.result.now c.index-node.result.now c.arrivals_of-arrivals.result.now c.requires.timed c.requires.light c.instance-s.ensures c.requires.node c.index-node.ensures c.arrivals_of-arrivals.ensures in
     (let l = chosen_below (st_func_trees c.args.p.now) c.args.k c.args.j c.args.at (st_func_tree c.instance-s.result.now) (st_node_tree c.index-node.result.now) c.arrivals_of-arrivals.result.now c.deref-2.result.now h c.deref-2.ensures.value r i f in omega (arith, l, (c.requires.items (st_func_tree c.instance-s.result.now) h.func).long))
 
-pub lower_node-joined-requires-clause-arrived : goal.lower_node-joined-requires-clause-arrived
-lower_node-joined-requires-clause-arrived t c =
+pub lower_node-joined-requires-clause-long : goal.lower_node-joined-requires-clause-long
+lower_node-joined-requires-clause-long t c =
     let h = placed_in c.args.p.now c.args.a.now.arrivals c.args.k c.args.j c.args.at c.instance-s.result.now c.index-node.result.now c.arrivals_of-arrivals.result.now c.requires.timed c.requires.light c.instance-s.ensures c.requires.node c.index-node.ensures c.arrivals_of-arrivals.ensures in
-    omega (arith, own_long (st_func_trees c.args.p.now) c.args.k c.args.j c.args.at (st_func_tree c.instance-s.result.now) (st_node_tree c.index-node.result.now) c.arrivals_of-arrivals.result.now h, (c.requires.items (st_func_tree c.instance-s.result.now) h.func).long)
-
-pub lower_node-joined-requires-clause-early : goal.lower_node-joined-requires-clause-early
-lower_node-joined-requires-clause-early t c = λ r i f.
-    let start : c.latest-start.result ≡ latest c.arrivals_of-arrivals.result.now (st_node_tree c.index-node.result.now).args = c.latest-start.ensures ∙ ap (latest c.arrivals_of-arrivals.result.now) c.deref.ensures.value in
-    let l = latest_at c.arrivals_of-arrivals.result.now (st_node_tree c.index-node.result.now).args r i (sym (ap (λ xs. slice_get xs r) c.deref-2.ensures.value) ∙ f) in
-    omega (arith, l, start)
+    let ew = waits_in (st_func_trees c.args.p.now) c.args.slacks.now c.args.k c.args.j c.args.at (st_func_tree c.instance-s.result.now) (st_node_tree c.index-node.result.now) c.arrivals_of-arrivals.result.now c.waits_of-waits.result.now c.requires.slacks h c.waits_of-waits.ensures in
+    ap length ew ∙ (length-map (st_node_tree c.index-node.result.now).args (λ (a : ℕ). latest (arrivals_in (st_func_trees c.args.p.now) c.args.k (st_func_tree c.instance-s.result.now)) (st_node_tree c.index-node.result.now).args - slice_index (arrivals_in (st_func_trees c.args.p.now) c.args.k (st_func_tree c.instance-s.result.now)) a) ∙ ap length (sym c.deref-2.ensures.value))
 
 pub lower_node-returns-in_err-args-clause-grows : goal.lower_node-returns-in_err-args-clause-grows
 lower_node-returns-in_err-args-clause-grows t c =
     let h = placed_in c.args.p.now c.args.a.now.arrivals c.args.k c.args.j c.args.at c.instance-s.result.now c.index-node.result.now c.arrivals_of-arrivals.result.now c.requires.timed c.requires.light c.instance-s.ensures c.requires.node c.index-node.ensures c.arrivals_of-arrivals.ensures in
-    let start : c.latest-start.result ≡ latest c.arrivals_of-arrivals.result.now (st_node_tree c.index-node.result.now).args = c.latest-start.ensures ∙ ap (latest c.arrivals_of-arrivals.result.now) c.deref.ensures.value in
-    let delays : GrowsBy c.args.nl.now c.joined.new.nl (delay_load c.args.items.now c.arrivals_of-arrivals.result.now c.latest-start.result (st_node_tree c.index-node.result.now).args) = subst (λ (is : List ℕ). GrowsBy c.args.nl.now c.joined.new.nl (delay_load c.args.items.now c.arrivals_of-arrivals.result.now c.latest-start.result is)) c.deref-2.ensures.value c.joined.ensures.grows in
-    at_node (st_func_trees c.args.p.now) c.args.k c.args.j (st_func_tree c.instance-s.result.now) (st_node_tree c.index-node.result.now) h.timing (λ u. GrowsBy c.args.nl.now c.joined.new.nl u.load) h.is_at (args_grow (st_func_trees c.args.p.now) c.args.k c.args.j c.args.at (st_func_tree c.instance-s.result.now) (st_node_tree c.index-node.result.now) c.arrivals_of-arrivals.result.now c.args.nl.now.cells c.args.items.now c.args.nl.now c.joined.new.nl c.latest-start.result h (c.requires.items (st_func_tree c.instance-s.result.now) h.func) start delays)
+    let ew = waits_in (st_func_trees c.args.p.now) c.args.slacks.now c.args.k c.args.j c.args.at (st_func_tree c.instance-s.result.now) (st_node_tree c.index-node.result.now) c.arrivals_of-arrivals.result.now c.waits_of-waits.result.now c.requires.slacks h c.waits_of-waits.ensures in
+    let delays : GrowsBy c.args.nl.now c.joined.new.nl (delay_load c.args.items.now c.waits_of-waits.result.now (st_node_tree c.index-node.result.now).args) = subst (λ (is : List ℕ). GrowsBy c.args.nl.now c.joined.new.nl (delay_load c.args.items.now c.waits_of-waits.result.now is)) c.deref-2.ensures.value c.joined.ensures.grows in
+    at_node (st_func_trees c.args.p.now) c.args.k c.args.j (st_func_tree c.instance-s.result.now) (st_node_tree c.index-node.result.now) h.timing (λ u. GrowsBy c.args.nl.now c.joined.new.nl u.load) h.is_at (args_grow (st_func_trees c.args.p.now) c.args.k c.args.j c.args.at (st_func_tree c.instance-s.result.now) (st_node_tree c.index-node.result.now) c.arrivals_of-arrivals.result.now c.waits_of-waits.result.now c.args.nl.now.cells c.args.items.now c.args.nl.now c.joined.new.nl h (c.requires.items (st_func_tree c.instance-s.result.now) h.func) ew delays)
 
 pub lower_node-overflow_add-at : goal.lower_node-overflow_add-at
 lower_node-overflow_add-at t c =
@@ -244,8 +237,8 @@ pub lower_node-lower_bodies-requires : goal.lower_node-lower_bodies-requires
 lower_node-lower_bodies-requires t c =
     let h = placed_in c.args.p.now c.args.a.now.arrivals c.args.k c.args.j c.args.at c.instance-s.result.now c.index-node.result.now c.arrivals_of-arrivals.result.now c.requires.timed c.requires.light c.instance-s.ensures c.requires.node c.index-node.ensures c.arrivals_of-arrivals.ensures in
     let start : c.latest-start.result ≡ latest c.arrivals_of-arrivals.result.now (st_node_tree c.index-node.result.now).args = c.latest-start.ensures ∙ ap (latest c.arrivals_of-arrivals.result.now) c.deref.ensures.value in
-    let late : AreDelayed c.args.nl.now.cells c.joined.new.nl.cells c.args.clocks.now.rst c.args.items.now c.arrivals_of-arrivals.result.now c.latest-start.result (st_node_tree c.index-node.result.now).args c.in_ok-args.args.items = subst (λ (is : List ℕ). AreDelayed c.args.nl.now.cells c.joined.new.nl.cells c.args.clocks.now.rst c.args.items.now c.arrivals_of-arrivals.result.now c.latest-start.result is c.in_ok-args.args.items) c.deref-2.ensures.value c.in_ok-args.ensures.delayed in
-    let bundles : AreBundles c.joined.new.nl.cells (streams_of (arguments_of (st_func_tree c.instance-s.result.now) (st_node_tree c.index-node.result.now))) c.deref-in-Body.result.now = subst (λ (bs : List (List NetId)). AreBundles c.joined.new.nl.cells (streams_of (arguments_of (st_func_tree c.instance-s.result.now) (st_node_tree c.index-node.result.now))) bs) (sym c.deref-in-Body.ensures.value) (args_stand c.args.nl.now.cells c.joined.new.nl.cells c.args.clocks.now.rst (st_func_tree c.instance-s.result.now) (length (st_func_tree c.instance-s.result.now).ins + c.args.j) c.args.items.now c.arrivals_of-arrivals.result.now c.latest-start.result (st_node_tree c.index-node.result.now).args c.in_ok-args.args.items (c.requires.items (st_func_tree c.instance-s.result.now) h.func) h.below late) in
+    let late : AreDelayed c.args.nl.now.cells c.joined.new.nl.cells c.args.clocks.now.rst c.args.items.now c.waits_of-waits.result.now (st_node_tree c.index-node.result.now).args c.in_ok-args.args.items = subst (λ (is : List ℕ). AreDelayed c.args.nl.now.cells c.joined.new.nl.cells c.args.clocks.now.rst c.args.items.now c.waits_of-waits.result.now is c.in_ok-args.args.items) c.deref-2.ensures.value c.in_ok-args.ensures.delayed in
+    let bundles : AreBundles c.joined.new.nl.cells (streams_of (arguments_of (st_func_tree c.instance-s.result.now) (st_node_tree c.index-node.result.now))) c.deref-in-Body.result.now = subst (λ (bs : List (List NetId)). AreBundles c.joined.new.nl.cells (streams_of (arguments_of (st_func_tree c.instance-s.result.now) (st_node_tree c.index-node.result.now))) bs) (sym c.deref-in-Body.ensures.value) (args_stand c.args.nl.now.cells c.joined.new.nl.cells c.args.clocks.now.rst (st_func_tree c.instance-s.result.now) (length (st_func_tree c.instance-s.result.now).ins + c.args.j) c.args.items.now c.waits_of-waits.result.now (st_node_tree c.index-node.result.now).args c.in_ok-args.args.items (c.requires.items (st_func_tree c.instance-s.result.now) h.func) h.below late) in
     let op : (st_node_tree c.index-node.result.now).op ≡ body c.in-Body.m = ap st_op_tree c.in-Body.is in
     let call = is_call (st_func_trees c.args.p.now) c.args.k c.args.j c.in-Body.m c.args.at (st_func_tree c.instance-s.result.now) (st_node_tree c.index-node.result.now) c.arrivals_of-arrivals.result.now op h in
     let light : IsLight (st_func_trees c.args.p.now) c.in-Body.m (c.args.at + c.latest-start.result) call.0 = subst (λ (i : ℕ). IsLight (st_func_trees c.args.p.now) c.in-Body.m (c.args.at + i) call.0) (sym start) (call_light (st_func_trees c.args.p.now) c.args.k c.args.j c.in-Body.m c.args.at (st_func_tree c.instance-s.result.now) (st_node_tree c.index-node.result.now) c.arrivals_of-arrivals.result.now call.0 h call.1) in (
@@ -255,10 +248,13 @@ lower_node-lower_bodies-requires t c =
         (
           c.requires.timed,
           (
-            (call.0, light),
+            c.requires.slacks,
             (
-              h.good.some_copies,
-              call_args (st_func_trees c.args.p.now) c.args.k c.in-Body.m (st_func_tree c.instance-s.result.now) (st_node_tree c.index-node.result.now) call.0 c.joined.new.nl.cells c.deref-in-Body.result.now call.1 bundles,
+              (call.0, light),
+              (
+                h.good.some_copies,
+                call_args (st_func_trees c.args.p.now) c.args.k c.in-Body.m (st_func_tree c.instance-s.result.now) (st_node_tree c.index-node.result.now) call.0 c.joined.new.nl.cells c.deref-in-Body.result.now call.1 bundles,
+              ),
             ),
           ),
         ),
@@ -271,13 +267,13 @@ lower_node-returns-in-Body-clause-keeps t c = keeps_trans c.in_ok-args.ensures.k
 pub lower_node-returns-in-Body-clause-grows : goal.lower_node-returns-in-Body-clause-grows
 lower_node-returns-in-Body-clause-grows t c =
     let h = placed_in c.args.p.now c.args.a.now.arrivals c.args.k c.args.j c.args.at c.instance-s.result.now c.index-node.result.now c.arrivals_of-arrivals.result.now c.requires.timed c.requires.light c.instance-s.ensures c.requires.node c.index-node.ensures c.arrivals_of-arrivals.ensures in
-    let start : c.latest-start.result ≡ latest c.arrivals_of-arrivals.result.now (st_node_tree c.index-node.result.now).args = c.latest-start.ensures ∙ ap (latest c.arrivals_of-arrivals.result.now) c.deref.ensures.value in
-    let delays : GrowsBy c.args.nl.now c.joined.new.nl (delay_load c.args.items.now c.arrivals_of-arrivals.result.now c.latest-start.result (st_node_tree c.index-node.result.now).args) = subst (λ (is : List ℕ). GrowsBy c.args.nl.now c.joined.new.nl (delay_load c.args.items.now c.arrivals_of-arrivals.result.now c.latest-start.result is)) c.deref-2.ensures.value c.joined.ensures.grows in
+    let ew = waits_in (st_func_trees c.args.p.now) c.args.slacks.now c.args.k c.args.j c.args.at (st_func_tree c.instance-s.result.now) (st_node_tree c.index-node.result.now) c.arrivals_of-arrivals.result.now c.waits_of-waits.result.now c.requires.slacks h c.waits_of-waits.ensures in
+    let delays : GrowsBy c.args.nl.now c.joined.new.nl (delay_load c.args.items.now c.waits_of-waits.result.now (st_node_tree c.index-node.result.now).args) = subst (λ (is : List ℕ). GrowsBy c.args.nl.now c.joined.new.nl (delay_load c.args.items.now c.waits_of-waits.result.now is)) c.deref-2.ensures.value c.joined.ensures.grows in
     let op : (st_node_tree c.index-node.result.now).op ≡ body c.in-Body.m = ap st_op_tree c.in-Body.is in
     let call = is_call (st_func_trees c.args.p.now) c.args.k c.args.j c.in-Body.m c.args.at (st_func_tree c.instance-s.result.now) (st_node_tree c.index-node.result.now) c.arrivals_of-arrivals.result.now op h in
     let loads : (node_costs (all_costs (take c.args.k (st_func_trees c.args.p.now))) (item_layouts (st_func_tree c.instance-s.result.now)) (st_node_tree c.index-node.result.now)).load ≡ 1 + (st_node_tree c.index-node.result.now).copies * (instance_costs (st_func_trees c.args.p.now) c.in-Body.m).load = ap (λ (o : OwnCosts). o.load) call.1.costs in
     at_node (st_func_trees c.args.p.now) c.args.k c.args.j (st_func_tree c.instance-s.result.now) (st_node_tree c.index-node.result.now) h.timing (λ u. GrowsBy c.args.nl.now c.lower_bodies.new.nl u.load) h.is_at
-    (node_grows (st_func_trees c.args.p.now) c.args.k c.args.j c.args.at (st_func_tree c.instance-s.result.now) (st_node_tree c.index-node.result.now) c.arrivals_of-arrivals.result.now c.args.nl.now.cells c.args.items.now c.args.nl.now c.joined.new.nl c.lower_bodies.new.nl ((st_node_tree c.index-node.result.now).copies * (instance_costs (st_func_trees c.args.p.now) c.in-Body.m).load) c.latest-start.result h (c.requires.items (st_func_tree c.instance-s.result.now) h.func) start (omega (arith, loads)) delays c.lower_bodies.ensures.grows)
+    (node_grows (st_func_trees c.args.p.now) c.args.k c.args.j c.args.at (st_func_tree c.instance-s.result.now) (st_node_tree c.index-node.result.now) c.arrivals_of-arrivals.result.now c.waits_of-waits.result.now c.args.nl.now.cells c.args.items.now c.args.nl.now c.joined.new.nl c.lower_bodies.new.nl ((st_node_tree c.index-node.result.now).copies * (instance_costs (st_func_trees c.args.p.now) c.in-Body.m).load) h (c.requires.items (st_func_tree c.instance-s.result.now) h.func) ew (omega (arith, loads)) delays c.lower_bodies.ensures.grows)
 
 pub lower_node-returns-in-Body-clause-adds : goal.lower_node-returns-in-Body-clause-adds
 lower_node-returns-in-Body-clause-adds t c =
@@ -290,8 +286,9 @@ lower_node-returns-in-Body-clause-adds t c =
 pub lower_node-returns-in-Body-clause-item : goal.lower_node-returns-in-Body-clause-item
 lower_node-returns-in-Body-clause-item t c =
     let h = placed_in c.args.p.now c.args.a.now.arrivals c.args.k c.args.j c.args.at c.instance-s.result.now c.index-node.result.now c.arrivals_of-arrivals.result.now c.requires.timed c.requires.light c.instance-s.ensures c.requires.node c.index-node.ensures c.arrivals_of-arrivals.ensures in
+    let ew = waits_in (st_func_trees c.args.p.now) c.args.slacks.now c.args.k c.args.j c.args.at (st_func_tree c.instance-s.result.now) (st_node_tree c.index-node.result.now) c.arrivals_of-arrivals.result.now c.waits_of-waits.result.now c.requires.slacks h c.waits_of-waits.ensures in
     let start : c.latest-start.result ≡ latest c.arrivals_of-arrivals.result.now (st_node_tree c.index-node.result.now).args = c.latest-start.ensures ∙ ap (latest c.arrivals_of-arrivals.result.now) c.deref.ensures.value in
-    let late : AreDelayed c.args.nl.now.cells c.joined.new.nl.cells c.args.clocks.now.rst c.args.items.now c.arrivals_of-arrivals.result.now c.latest-start.result (st_node_tree c.index-node.result.now).args c.in_ok-args.args.items = subst (λ (is : List ℕ). AreDelayed c.args.nl.now.cells c.joined.new.nl.cells c.args.clocks.now.rst c.args.items.now c.arrivals_of-arrivals.result.now c.latest-start.result is c.in_ok-args.args.items) c.deref-2.ensures.value c.in_ok-args.ensures.delayed in
+    let late : AreDelayed c.args.nl.now.cells c.joined.new.nl.cells c.args.clocks.now.rst c.args.items.now c.waits_of-waits.result.now (st_node_tree c.index-node.result.now).args c.in_ok-args.args.items = subst (λ (is : List ℕ). AreDelayed c.args.nl.now.cells c.joined.new.nl.cells c.args.clocks.now.rst c.args.items.now c.waits_of-waits.result.now is c.in_ok-args.args.items) c.deref-2.ensures.value c.in_ok-args.ensures.delayed in
     let op : (st_node_tree c.index-node.result.now).op ≡ body c.in-Body.m = ap st_op_tree c.in-Body.is in
     let call = is_call (st_func_trees c.args.p.now) c.args.k c.args.j c.in-Body.m c.args.at (st_func_tree c.instance-s.result.now) (st_node_tree c.index-node.result.now) c.arrivals_of-arrivals.result.now op h in
     let latency : (instance_costs (st_func_trees c.args.p.now) c.in-Body.m).latency ≡ (node_costs (all_costs (take c.args.k (st_func_trees c.args.p.now))) (item_layouts (st_func_tree c.instance-s.result.now)) (st_node_tree c.index-node.result.now)).latency = sym (ap (λ (o : OwnCosts). o.latency) call.1.costs) in
@@ -300,7 +297,7 @@ lower_node-returns-in-Body-clause-item t c =
     let whole : IsBuilt c.lower_bodies.new.nl c.args.clocks.now.rst (c.args.at + c.latest-start.result) (bodies_part (callees (take c.in-Body.m (st_func_trees c.args.p.now))) call.0 call.1.fits.slots call.1.fits.rounds (st_node_tree c.index-node.result.now).copies (instance_costs (st_func_trees c.args.p.now) c.in-Body.m).latency) c.in_ok-args.args.items y =
     subst (λ (z : ℕ). IsBuilt c.lower_bodies.new.nl z (c.args.at + c.latest-start.result) (bodies_part (callees (take c.in-Body.m (st_func_trees c.args.p.now))) call.0 call.1.fits.slots call.1.fits.rounds (st_node_tree c.index-node.result.now).copies (instance_costs (st_func_trees c.args.p.now) c.in-Body.m).latency) c.in_ok-args.args.items y) c.in_ok-args.ensures.keeps.rst
     (subst (λ (bs : List (List NetId)). IsBuilt c.lower_bodies.new.nl c.joined.new.clocks.rst (c.args.at + c.latest-start.result) (bodies_part (callees (take c.in-Body.m (st_func_trees c.args.p.now))) call.0 call.1.fits.slots call.1.fits.rounds (st_node_tree c.index-node.result.now).copies (instance_costs (st_func_trees c.args.p.now) c.in-Body.m).latency) bs y) c.deref-in-Body.ensures.value bodies) in
-    node_placed (st_func_trees c.args.p.now) c.args.a.now.arrivals c.args.k c.args.j c.args.at c.args.clocks.now.rst (st_func_tree c.instance-s.result.now) (st_node_tree c.index-node.result.now) c.arrivals_of-arrivals.result.now c.args.items.now c.in_ok-args.args.items c.args.nl.now c.joined.new.nl c.lower_bodies.new.nl (instance_costs (st_func_trees c.args.p.now) c.in-Body.m).latency c.latest-start.result y c.flows_fit.ensures c.requires.timed h start latency
+    node_placed (st_func_trees c.args.p.now) c.args.a.now.arrivals c.args.k c.args.j c.args.at c.args.clocks.now.rst (st_func_tree c.instance-s.result.now) (st_node_tree c.index-node.result.now) c.arrivals_of-arrivals.result.now c.waits_of-waits.result.now c.args.items.now c.in_ok-args.args.items c.args.nl.now c.joined.new.nl c.lower_bodies.new.nl (instance_costs (st_func_trees c.args.p.now) c.in-Body.m).latency c.latest-start.result y c.flows_fit.ensures c.requires.timed h start ew latency
     c.in_ok-args.ensures.grows.grows.extends c.lower_bodies.ensures.grows.grows.extends late
     (bodies_placed (st_func_trees c.args.p.now) c.args.k c.in-Body.m (c.args.at + c.latest-start.result) c.args.clocks.now.rst (st_func_tree c.instance-s.result.now) (st_node_tree c.index-node.result.now) call.0 c.in_ok-args.args.items c.lower_bodies.new.nl y c.requires.timed.sound op call.1 whole)) c.lower_bodies.ensures.built
 
@@ -316,8 +313,8 @@ lower_node-build-requires t c =
     let h = placed_in c.args.p.now c.args.a.now.arrivals c.args.k c.args.j c.args.at c.instance-s.result.now c.index-node.result.now c.arrivals_of-arrivals.result.now c.requires.timed c.requires.light c.instance-s.ensures c.requires.node c.index-node.ensures c.arrivals_of-arrivals.ensures in
     let start : c.latest-start.result ≡ latest c.arrivals_of-arrivals.result.now (st_node_tree c.index-node.result.now).args = c.latest-start.ensures ∙ ap (latest c.arrivals_of-arrivals.result.now) c.deref.ensures.value in
     let early : c.args.at + c.latest-start.result ≤ 100000 = omega (arith, h.early, start) in
-    let late : AreDelayed c.args.nl.now.cells c.joined.new.nl.cells c.args.clocks.now.rst c.args.items.now c.arrivals_of-arrivals.result.now c.latest-start.result (st_node_tree c.index-node.result.now).args c.in_ok-args.args.items = subst (λ (is : List ℕ). AreDelayed c.args.nl.now.cells c.joined.new.nl.cells c.args.clocks.now.rst c.args.items.now c.arrivals_of-arrivals.result.now c.latest-start.result is c.in_ok-args.args.items) c.deref-2.ensures.value c.in_ok-args.ensures.delayed in
-    let bundles : AreBundles c.joined.new.nl.cells (streams_of (arguments_of (st_func_tree c.instance-s.result.now) (st_node_tree c.index-node.result.now))) c.deref-in_default.result.now = subst (λ (bs : List (List NetId)). AreBundles c.joined.new.nl.cells (streams_of (arguments_of (st_func_tree c.instance-s.result.now) (st_node_tree c.index-node.result.now))) bs) (sym c.deref-in_default.ensures.value) (args_stand c.args.nl.now.cells c.joined.new.nl.cells c.args.clocks.now.rst (st_func_tree c.instance-s.result.now) (length (st_func_tree c.instance-s.result.now).ins + c.args.j) c.args.items.now c.arrivals_of-arrivals.result.now c.latest-start.result (st_node_tree c.index-node.result.now).args c.in_ok-args.args.items (c.requires.items (st_func_tree c.instance-s.result.now) h.func) h.below late) in
+    let late : AreDelayed c.args.nl.now.cells c.joined.new.nl.cells c.args.clocks.now.rst c.args.items.now c.waits_of-waits.result.now (st_node_tree c.index-node.result.now).args c.in_ok-args.args.items = subst (λ (is : List ℕ). AreDelayed c.args.nl.now.cells c.joined.new.nl.cells c.args.clocks.now.rst c.args.items.now c.waits_of-waits.result.now is c.in_ok-args.args.items) c.deref-2.ensures.value c.in_ok-args.ensures.delayed in
+    let bundles : AreBundles c.joined.new.nl.cells (streams_of (arguments_of (st_func_tree c.instance-s.result.now) (st_node_tree c.index-node.result.now))) c.deref-in_default.result.now = subst (λ (bs : List (List NetId)). AreBundles c.joined.new.nl.cells (streams_of (arguments_of (st_func_tree c.instance-s.result.now) (st_node_tree c.index-node.result.now))) bs) (sym c.deref-in_default.ensures.value) (args_stand c.args.nl.now.cells c.joined.new.nl.cells c.args.clocks.now.rst (st_func_tree c.instance-s.result.now) (length (st_func_tree c.instance-s.result.now).ins + c.args.j) c.args.items.now c.waits_of-waits.result.now (st_node_tree c.index-node.result.now).args c.in_ok-args.args.items (c.requires.items (st_func_tree c.instance-s.result.now) h.func) h.below late) in
     record {
       belongs = c.in_ok-args.ensures.belongs;
       ready = node_ready (st_func_trees c.args.p.now) c.args.k c.args.j c.args.at (st_func_tree c.instance-s.result.now) (st_node_tree c.index-node.result.now) c.arrivals_of-arrivals.result.now c.joined.new.nl.cells c.deref-in_default.result.now h bundles;
@@ -328,9 +325,10 @@ lower_node-build-requires t c =
 pub lower_node-returns : goal.lower_node-returns
 lower_node-returns t c =
     let h = placed_in c.args.p.now c.args.a.now.arrivals c.args.k c.args.j c.args.at c.instance-s.result.now c.index-node.result.now c.arrivals_of-arrivals.result.now c.requires.timed c.requires.light c.instance-s.ensures c.requires.node c.index-node.ensures c.arrivals_of-arrivals.ensures in
+    let ew = waits_in (st_func_trees c.args.p.now) c.args.slacks.now c.args.k c.args.j c.args.at (st_func_tree c.instance-s.result.now) (st_node_tree c.index-node.result.now) c.arrivals_of-arrivals.result.now c.waits_of-waits.result.now c.requires.slacks h c.waits_of-waits.ensures in
     let start : c.latest-start.result ≡ latest c.arrivals_of-arrivals.result.now (st_node_tree c.index-node.result.now).args = c.latest-start.ensures ∙ ap (latest c.arrivals_of-arrivals.result.now) c.deref.ensures.value in
-    let delays : GrowsBy c.args.nl.now c.joined.new.nl (delay_load c.args.items.now c.arrivals_of-arrivals.result.now c.latest-start.result (st_node_tree c.index-node.result.now).args) = subst (λ (is : List ℕ). GrowsBy c.args.nl.now c.joined.new.nl (delay_load c.args.items.now c.arrivals_of-arrivals.result.now c.latest-start.result is)) c.deref-2.ensures.value c.joined.ensures.grows in
-    let late : AreDelayed c.args.nl.now.cells c.joined.new.nl.cells c.args.clocks.now.rst c.args.items.now c.arrivals_of-arrivals.result.now c.latest-start.result (st_node_tree c.index-node.result.now).args c.in_ok-args.args.items = subst (λ (is : List ℕ). AreDelayed c.args.nl.now.cells c.joined.new.nl.cells c.args.clocks.now.rst c.args.items.now c.arrivals_of-arrivals.result.now c.latest-start.result is c.in_ok-args.args.items) c.deref-2.ensures.value c.in_ok-args.ensures.delayed in
+    let delays : GrowsBy c.args.nl.now c.joined.new.nl (delay_load c.args.items.now c.waits_of-waits.result.now (st_node_tree c.index-node.result.now).args) = subst (λ (is : List ℕ). GrowsBy c.args.nl.now c.joined.new.nl (delay_load c.args.items.now c.waits_of-waits.result.now is)) c.deref-2.ensures.value c.joined.ensures.grows in
+    let late : AreDelayed c.args.nl.now.cells c.joined.new.nl.cells c.args.clocks.now.rst c.args.items.now c.waits_of-waits.result.now (st_node_tree c.index-node.result.now).args c.in_ok-args.args.items = subst (λ (is : List ℕ). AreDelayed c.args.nl.now.cells c.joined.new.nl.cells c.args.clocks.now.rst c.args.items.now c.waits_of-waits.result.now is c.in_ok-args.args.items) c.deref-2.ensures.value c.in_ok-args.ensures.delayed in
     let plain = calls_nothing c.index-node.result.now.op c.in_default.not-Body in
     let same : plain_costs (st_func_tree c.instance-s.result.now) (st_node_tree c.index-node.result.now) ≡ (node_costs (all_costs (take c.args.k (st_func_trees c.args.p.now))) (item_layouts (st_func_tree c.instance-s.result.now)) (st_node_tree c.index-node.result.now)) = plain_is (all_costs (take c.args.k (st_func_trees c.args.p.now))) (st_func_tree c.instance-s.result.now) (st_node_tree c.index-node.result.now) plain in
     let loads : (plain_costs (st_func_tree c.instance-s.result.now) (st_node_tree c.index-node.result.now)).load ≡ (node_costs (all_costs (take c.args.k (st_func_trees c.args.p.now))) (item_layouts (st_func_tree c.instance-s.result.now)) (st_node_tree c.index-node.result.now)).load = ap (λ (o : OwnCosts). o.load) same in
@@ -338,7 +336,7 @@ lower_node-returns t c =
       belongs = c.build.ensures.belongs;
       keeps = keeps_trans c.in_ok-args.ensures.keeps c.build.ensures.keeps;
       grows = at_node (st_func_trees c.args.p.now) c.args.k c.args.j (st_func_tree c.instance-s.result.now) (st_node_tree c.index-node.result.now) h.timing (λ u. GrowsBy c.args.nl.now c.build.new.nl u.load) h.is_at
-          (node_grows (st_func_trees c.args.p.now) c.args.k c.args.j c.args.at (st_func_tree c.instance-s.result.now) (st_node_tree c.index-node.result.now) c.arrivals_of-arrivals.result.now c.args.nl.now.cells c.args.items.now c.args.nl.now c.joined.new.nl c.build.new.nl (plain_costs (st_func_tree c.instance-s.result.now) (st_node_tree c.index-node.result.now)).load c.latest-start.result h (c.requires.items (st_func_tree c.instance-s.result.now) h.func) start (omega (arith, loads)) delays c.build.ensures.grows);
+          (node_grows (st_func_trees c.args.p.now) c.args.k c.args.j c.args.at (st_func_tree c.instance-s.result.now) (st_node_tree c.index-node.result.now) c.arrivals_of-arrivals.result.now c.waits_of-waits.result.now c.args.nl.now.cells c.args.items.now c.args.nl.now c.joined.new.nl c.build.new.nl (plain_costs (st_func_tree c.instance-s.result.now) (st_node_tree c.index-node.result.now)).load h (c.requires.items (st_func_tree c.instance-s.result.now) h.func) ew (omega (arith, loads)) delays c.build.ensures.grows);
       adds = on_ok_weaker c.build.result (λ added. at_node (st_func_trees c.args.p.now) c.args.k c.args.j (st_func_tree c.instance-s.result.now) (st_node_tree c.index-node.result.now) h.timing (λ u. Adds c.args.nl.now c.build.new.nl u.muls u.mems) h.is_at
           (plain_adds c.args.nl.now c.joined.new.nl c.build.new.nl (plain_costs (st_func_tree c.instance-s.result.now) (st_node_tree c.index-node.result.now)) (node_costs (all_costs (take c.args.k (st_func_trees c.args.p.now))) (item_layouts (st_func_tree c.instance-s.result.now)) (st_node_tree c.index-node.result.now)) h.timing same h.facts.muls c.in_ok-args.ensures.adds added)) c.build.ensures.adds;
       full = c.build.ensures.full;
@@ -347,7 +345,7 @@ lower_node-returns t c =
           let whole : IsBuilt c.build.new.nl c.args.clocks.now.rst (c.args.at + c.latest-start.result) (node_part (callees (take c.args.k (st_func_trees c.args.p.now))) (plain_costs (st_func_tree c.instance-s.result.now) (st_node_tree c.index-node.result.now)).latency (st_func_tree c.instance-s.result.now) (st_node_tree c.index-node.result.now)) c.in_ok-args.args.items y =
           subst (λ (z : ℕ). IsBuilt c.build.new.nl z (c.args.at + c.latest-start.result) (node_part (callees (take c.args.k (st_func_trees c.args.p.now))) (plain_costs (st_func_tree c.instance-s.result.now) (st_node_tree c.index-node.result.now)).latency (st_func_tree c.instance-s.result.now) (st_node_tree c.index-node.result.now)) c.in_ok-args.args.items y) c.in_ok-args.ensures.keeps.rst
           (subst (λ (bs : List (List NetId)). IsBuilt c.build.new.nl c.joined.new.clocks.rst (c.args.at + c.latest-start.result) (node_part (callees (take c.args.k (st_func_trees c.args.p.now))) (plain_costs (st_func_tree c.instance-s.result.now) (st_node_tree c.index-node.result.now)).latency (st_func_tree c.instance-s.result.now) (st_node_tree c.index-node.result.now)) bs y) c.deref-in_default.ensures.value bare) in
-          node_placed (st_func_trees c.args.p.now) c.args.a.now.arrivals c.args.k c.args.j c.args.at c.args.clocks.now.rst (st_func_tree c.instance-s.result.now) (st_node_tree c.index-node.result.now) c.arrivals_of-arrivals.result.now c.args.items.now c.in_ok-args.args.items c.args.nl.now c.joined.new.nl c.build.new.nl (plain_costs (st_func_tree c.instance-s.result.now) (st_node_tree c.index-node.result.now)).latency c.latest-start.result y c.flows_fit.ensures c.requires.timed h start (ap (λ (o : OwnCosts). o.latency) same)
+          node_placed (st_func_trees c.args.p.now) c.args.a.now.arrivals c.args.k c.args.j c.args.at c.args.clocks.now.rst (st_func_tree c.instance-s.result.now) (st_node_tree c.index-node.result.now) c.arrivals_of-arrivals.result.now c.waits_of-waits.result.now c.args.items.now c.in_ok-args.args.items c.args.nl.now c.joined.new.nl c.build.new.nl (plain_costs (st_func_tree c.instance-s.result.now) (st_node_tree c.index-node.result.now)).latency c.latest-start.result y c.flows_fit.ensures c.requires.timed h start ew (ap (λ (o : OwnCosts). o.latency) same)
           c.in_ok-args.ensures.grows.grows.extends c.build.ensures.grows.grows.extends late whole) c.build.ensures.built;
     }
 

@@ -1,7 +1,7 @@
-use Rattle.std.proofs.Common.{ap, ◌-◌}
+use Rattle.std.proofs.Common.{ap}
 use Rattle.ae_rewrite.specs.StProgramTree.{st_func_tree, st_func_trees}
-use Rattle.ae_retime.specs.Slacks.{argument_slacks, arrivals_in, item_chains}
-use Rattle.ae_retime.proofs.Lists.{by_more, matched, told_at, told_last, told_many, tree_at}
+use Rattle.ae_retime.specs.Slacks.{argument_slacks, arrivals_in, item_chains, joint_slacks}
+use Rattle.ae_retime.proofs.Lists.{by_more, matched, told_at, told_many, tree_at}
 use Rattle.ae_retime.proofs.slacks.matching.Goals as goal
 
 pub arrivals_of-requires : goal.arrivals_of-requires
@@ -21,18 +21,9 @@ loop-k-preserved c =
     record {
       arguments = by_more (λ k u. argument_slacks (arrivals_in instances k u) u) instances c.loop-k.k s _ _ _ there c.loop-k.invariant.arguments c.in_ok-add_func.ensures.arguments (ap (λ xs. argument_slacks xs s) told.is);
       chains = by_more (λ k u. item_chains (arrivals_in instances k u) u) instances c.loop-k.k s _ _ _ there c.loop-k.invariant.chains c.in_ok-add_func.ensures.chains (ap (λ xs. item_chains xs s) told.is);
+      results = by_more (λ k u. joint_slacks (arrivals_in instances k u) u.results) instances c.loop-k.k s _ _ _ there c.loop-k.invariant.results c.in_ok-add_func.ensures.results (ap (λ xs. joint_slacks xs s.results) told.is);
     }
-
-pub arrivals_of-requires-2 : goal.arrivals_of-requires-2
-arrivals_of-requires-2 c = told_last c.args.p.now c.args.a.now c.count-count.result c.count-count.ensures.sound c.requires c.count-count.ensures.count
-
-pub joint_slacks-requires : goal.joint_slacks-requires
-joint_slacks-requires c =
-    let told = told_at c.args.p.now c.args.a.now (c.count-count.result - 1) c.instance-2.result.now c.arrivals_of-2.result.now c.count-count.ensures.sound c.requires c.instance-2.ensures c.arrivals_of-2.ensures in
-    rw c.deref.ensures.value told.uses.results
 
 pub returns : goal.returns
 returns c =
-    let told = told_at c.args.p.now c.args.a.now (c.count-count.result - 1) c.instance-2.result.now c.arrivals_of-2.result.now c.count-count.ensures.sound c.requires c.instance-2.ensures c.arrivals_of-2.ensures in
-    matched c.args.p.now c.count-count.result c.loop-k.k c.instance-2.result.now c.arrivals_of-2.result.now _ c.count-count.ensures.count c.loop-k-test.false c.loop-k.auto.k-end c.instance-2.ensures c.loop-k.invariant.arguments c.loop-k.invariant.chains told.is
-    (rw c.deref.ensures.value at c.in_ok-results.ensures)
+    matched c.args.p.now c.count-count.result c.loop-k.k _ c.count-count.ensures.count c.loop-k-test.false c.loop-k.auto.k-end c.loop-k.invariant.arguments c.loop-k.invariant.chains c.loop-k.invariant.results
