@@ -24,10 +24,10 @@ use Rattle.ae_vread.specs.ModuleTree.{ModuleTree}
 use Rattle.ae_vread.specs.Spells.{Spells}
 use Rattle.ae_verilog.specs.NetlistModule.{netlist_module}
 use Rattle.ae_rewrite.specs.StProgramTree.{StFuncTree}
-use Rattle.ae_lower.specs.Circuits.{last_of}
+use Rattle.ae_lower.specs.Circuits.{last_of, results_of}
 use Rattle.ae_play.specs.declared.sums.Sums.{Sums}
 use Rattle.ae_correct.specs.ClockTexts.{AreClockSums, IsClockText}
-use Rattle.ae_tool.specs.Building.{IsModuleText, main_costs, result_layouts}
+use Rattle.ae_tool.specs.Building.{IsModuleText, main_costs}
 use Rattle.ae_tool.specs.DemoTexts.{IsSummedRun}
 use Rattle.ae_tool.specs.RunTexts.{IsRunText, input_widths}
 use Rattle.ae_tool.proofs.EvalTypes.{has_columns, same_parameters}
@@ -80,32 +80,32 @@ blocks_words p ss blocks table ws typed laid a =
 
 pub run_text_is : (fill : ℕ) (p : ProgramTree) (slowdown : ℕ) (instances : List StFuncTree) (table : List (List (List ℕ))) (s : StFuncTree) (n : Circuit) (built clocks text : List ℕ) → slice_get instances (last_of instances) ≡ Some s
     → IsModuleText p slowdown instances built → Spells built (netlist_module n.cells n.outlets (length s.results))
-    → IsClockText (netlist_module n.cells n.outlets (length s.results)) slowdown (main_costs instances).latency fill s.ins (result_layouts s) (blocks_of (parameter_types p) table) clocks
+    → IsClockText (netlist_module n.cells n.outlets (length s.results)) slowdown (main_costs instances).latency fill s.ins (results_of s) (blocks_of (parameter_types p) table) clocks
     → text ≡ (built ++ codes "%% clocks\n") ++ clocks → IsRunText fill p slowdown instances table text
 run_text_is fill p slowdown instances table s n built clocks text found m spells shown is =
     let tree : netlist_module n.cells n.outlets (length s.results) ≡ m.tree = m.only (netlist_module n.cells n.outlets (length s.results)) spells in
     let same : s ≡ m.instance = same_Some s m.instance (sym found ∙ m.last) in
     let blocks = blocks_of (parameter_types p) table in
-    let here : IsClockText m.tree slowdown (main_costs instances).latency fill s.ins (result_layouts s) blocks clocks = subst (λ (x : ModuleTree). IsClockText x slowdown (main_costs instances).latency fill s.ins (result_layouts s) blocks clocks) tree shown in
+    let here : IsClockText m.tree slowdown (main_costs instances).latency fill s.ins (results_of s) blocks clocks = subst (λ (x : ModuleTree). IsClockText x slowdown (main_costs instances).latency fill s.ins (results_of s) blocks clocks) tree shown in
     record {
       built = built;
       module_text = m;
       clocks = clocks;
-      shown = subst (λ (x : StFuncTree). IsClockText m.tree slowdown (main_costs instances).latency fill x.ins (result_layouts x) blocks clocks) same here;
+      shown = subst (λ (x : StFuncTree). IsClockText m.tree slowdown (main_costs instances).latency fill x.ins (results_of x) blocks clocks) same here;
       is = is;
     }
 
 -- the same of sums
 pub summed_is : (fill : ℕ) (p : ProgramTree) (slowdown : ℕ) (instances : List StFuncTree) (table : List (List (List ℕ))) (s : StFuncTree) (n : Circuit) (built : List ℕ) (sums : Sums) → slice_get instances (last_of instances) ≡ Some s
     → IsModuleText p slowdown instances built → Spells built (netlist_module n.cells n.outlets (length s.results))
-    → AreClockSums (netlist_module n.cells n.outlets (length s.results)) slowdown (main_costs instances).latency fill s.ins (result_layouts s) (blocks_of (parameter_types p) table) sums
+    → AreClockSums (netlist_module n.cells n.outlets (length s.results)) slowdown (main_costs instances).latency fill s.ins (results_of s) (blocks_of (parameter_types p) table) sums
     → IsSummedRun fill p slowdown instances table built sums
 summed_is fill p slowdown instances table s n built sums found m spells shown =
     let tree : netlist_module n.cells n.outlets (length s.results) ≡ m.tree = m.only (netlist_module n.cells n.outlets (length s.results)) spells in
     let same : s ≡ m.instance = same_Some s m.instance (sym found ∙ m.last) in
     let blocks = blocks_of (parameter_types p) table in
-    let here : AreClockSums m.tree slowdown (main_costs instances).latency fill s.ins (result_layouts s) blocks sums = subst (λ (x : ModuleTree). AreClockSums x slowdown (main_costs instances).latency fill s.ins (result_layouts s) blocks sums) tree shown in
+    let here : AreClockSums m.tree slowdown (main_costs instances).latency fill s.ins (results_of s) blocks sums = subst (λ (x : ModuleTree). AreClockSums x slowdown (main_costs instances).latency fill s.ins (results_of s) blocks sums) tree shown in
     record {
       module_text = m;
-      shown = subst (λ (x : StFuncTree). AreClockSums m.tree slowdown (main_costs instances).latency fill x.ins (result_layouts x) blocks sums) same here;
+      shown = subst (λ (x : StFuncTree). AreClockSums m.tree slowdown (main_costs instances).latency fill x.ins (results_of x) blocks sums) same here;
     }

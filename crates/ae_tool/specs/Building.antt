@@ -1,7 +1,6 @@
 -- The text that a program is built into.
-use Rattle.std.specs.Prelude.{◌≡◌, ℕ, ◌+◌, ◌*◌, ◌≤◌, List, ◌++◌, length, map, Some, slice_get, IsTrue}
+use Rattle.std.specs.Prelude.{◌≡◌, ℕ, ◌+◌, ◌-◌, ◌*◌, ◌≤◌, List, ◌++◌, length, Some, slice_get, IsTrue}
 use Rattle.std.specs.List.{list_all}
-use Rattle.ae_sttype.specs.StTree.{StTree}
 use Rattle.ae_vread.specs.ModuleTree.{ModuleTree}
 use Rattle.ae_vread.specs.Spells.{Spells, stars}
 use Rattle.ae_elab.specs.Faults.{IsWellFormed}
@@ -10,20 +9,15 @@ use Rattle.ae_elab.specs.Weight.{weight}
 use Rattle.ae_verilog.specs.ReportLines.{ReportTree, report_lines, is_clean}
 use Rattle.ae_seq.specs.ProgramTree.{ProgramTree}
 use Rattle.ae_rewrite.specs.StProgramTree.{StFuncTree}
-use Rattle.ae_rewrite.specs.Sound.{item_layout, item_layouts}
 use Rattle.ae_delay.specs.declared.own.OwnCosts.{OwnCosts}
 use Rattle.ae_lower.specs.Lowering.{instance_costs}
-use Rattle.ae_lower.specs.Circuits.{last_of}
+use Rattle.ae_lower.specs.Circuits.{last_of, results_of}
 use Rattle.ae_correct.specs.Correct.{IsCorrect, ports_of}
 use Rattle.ae_tool.specs.Schedules.{IsCosted}
 
 -- what the program function costs
 abbrev pub main_costs : List StFuncTree → OwnCosts
 main_costs instances = instance_costs instances (last_of instances)
-
--- the layouts of an instance's results
-abbrev pub result_layouts : StFuncTree → List StTree
-result_layouts s = map (item_layout (item_layouts s)) s.results
 
 -- what is told of a circuit before its module
 abbrev pub report_of : (slowdown : ℕ) → List StFuncTree → StFuncTree → ReportTree
@@ -33,11 +27,12 @@ report_of slowdown instances s = record {
   muls = (main_costs instances).muls;
   load = (main_costs instances).load;
   ins = s.ins;
-  outs = result_layouts s;
+  outs = results_of s;
 }
 
 -- the text spells one module, which is well formed, has one run on any inputs, and is correct for the program, with the
--- latency that the report tells; it has a `*` for each multiplier, and weighs no more than the load allows
+-- latency that the report tells; it has a `*` for each multiplier, and weighs no more than the load and its ports, all but
+-- the clock, allow
 pub record IsModuleText (p : ProgramTree) (slowdown : ℕ) (instances : List StFuncTree) (text : List ℕ) : Type 0 where
   pub instance : StFuncTree
   pub last : slice_get instances (last_of instances) ≡ Some instance
@@ -48,7 +43,7 @@ pub record IsModuleText (p : ProgramTree) (slowdown : ℕ) (instances : List StF
   pub one_run : HasOneRun tree
   pub correct : IsCorrect tree p slowdown (main_costs instances).latency
   pub products : stars tree ≡ (main_costs instances).muls
-  pub light : weight tree ≤ 64 * (main_costs instances).load + 1 + 4 * length (ports_of tree)
+  pub light : weight tree ≤ 64 * (main_costs instances).load + 1 + 4 * (length (ports_of tree) - 1)
   pub rest : List ℕ
   pub reports : text ≡ report_lines (report_of slowdown instances instance) ++ rest
   pub clean : IsTrue (list_all is_clean text)

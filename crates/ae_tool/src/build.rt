@@ -6,14 +6,14 @@ ghost use Rattle.ae_sttype.specs.StTree.{st_tree};
 ghost use Rattle.ae_rewrite.specs.StProgramTree.{StFuncTree as Tree, st_func_tree, st_func_trees};
 ghost use Rattle.ae_rewrite.specs.Sound.{item_layouts};
 ghost use Rattle.ae_delay.specs.Timings.{AreTimes};
-ghost use Rattle.ae_lower.specs.Circuits.{IsCircuitOf, last_of};
+ghost use Rattle.ae_lower.specs.Circuits.{IsCircuitOf, last_of, results_of};
 ghost use Rattle.ae_tidy.specs.Places.{AreMarks};
 ghost use Rattle.ae_vread.specs.Spells.{Spells};
 ghost use Rattle.ae_verilog.specs.NetlistModule.{netlist_module};
 ghost use Rattle.ae_verilog.specs.Notes.{ArePrinted, note_tree};
 ghost use Rattle.ae_verilog.specs.ReportLines.{report_tree};
 ghost use Rattle.ae_tool.specs.Schedules.{IsCosted};
-ghost use Rattle.ae_tool.specs.Building.{IsModuleText, report_of, result_layouts};
+ghost use Rattle.ae_tool.specs.Building.{IsModuleText, report_of};
 ghost use Rattle.ae_tool.specs.Outcomes.{IsBuilt};
 
 use crate::notes::line_notes;
@@ -45,7 +45,7 @@ pub fn input_layouts(alloc: Global, s: &StFunc) -> Result<Vec<StType>, AllocErro
 // The layouts of an instance's results.
 pub fn output_layouts(alloc: Global, s: &StFunc) -> Result<Vec<StType>, AllocError>
     requires { (i r : ℕ) → slice_get (st_func_tree s.now).results i ≡ Some r → r < length (item_layouts (st_func_tree s.now)) }
-    ensures { IfOk result (λ v. map st_tree v.items ≡ result_layouts (st_func_tree s.now)) }
+    ensures { IfOk result (λ v. map st_tree v.items ≡ results_of (st_func_tree s.now)) }
 {
     let mut layouts = Vec::new(alloc);
     for item in &s.results {
