@@ -1,0 +1,5 @@
+use Rattle.std.proofs.Common.{inl, rules}
+use Rattle.table_circuits.proofs.nets.address.Goals as goal
+
+pub returns : goal.returns
+returns c = record { net = c.in-Some.ensures; inside = inl (rw c.width_at-width.ensures.width at (c.has_room.ensures (search rules))) }

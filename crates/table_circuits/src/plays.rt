@@ -1,0 +1,170 @@
+// What circuits show of their runs on blocks of words.
+
+ghost use Rattle.std.specs.Prelude.{◌≡◌, ◌*◌, ◌<◌, ◌≤◌, ◌^◌, ◌∷◌, [], ℕ, IfSome, IsTrue, All, length, map, slice_index};
+ghost use Rattle.ae_sttype.specs.StTree.{st_tree, time};
+ghost use Rattle.ae_sttype.specs.Size.{IsInSize};
+ghost use Rattle.ae_netlist.specs.declared.cell.SizedCell.{SizedCell};
+ghost use Rattle.ae_netlist.specs.Counts.{cells_of, is_input};
+ghost use Rattle.ae_netlist.specs.Rows.{AreInputs};
+ghost use Rattle.ae_seqtype.specs.SeqTree.{repeated};
+ghost use Rattle.ae_seqtype.specs.ValueTree.{FitKinds};
+ghost use Rattle.table_circuits.specs.Bytes.{byte_kind};
+ghost use Rattle.ae_play.specs.Fed.{blocks_of, fed_rows, size_of};
+ghost use Rattle.ae_play.specs.Lines.{clock_count};
+
+use crate::netlists::{built, parts};
+use crate::numbers::{number, numbers};
+use ae_netlist::Netlist;
+use ae_play::{can_be_fed, sum_clocks, write_clocks};
+use ae_sttype::StType;
+use ae_word::Atom;
+use std::alloc::{AllocError, Global};
+
+// Whether the inputs have these widths.
+fn has_widths(nl: &Netlist, widths: &[u32]) -> bool
+    ensures { IsTrue result → map (λ (sized : SizedCell). sized.width) (cells_of is_input nl.now.cells) ≡ widths.now }
+{
+    if nl.inputs() as usize != widths.len() {
+        return false;
+    }
+    for k in 0..nl.inputs() {
+        match nl.input_width(k) {
+            Some(width) if width == widths[k as usize] => (),
+            _ => return false,
+        }
+    }
+    true
+}
+
+// Whether these are words of eight bits.
+fn are_bytes(words: &[u64]) -> bool
+    ensures { IsTrue result → (k : ℕ) → k < length words.now → slice_index words.now k < 256 }
+{
+    for word in words {
+        if *word >= 256 {
+            return false;
+        }
+    }
+    true
+}
+
+// The number of blocks of two bytes that the words are.
+#[tactic(auto, using(crate::proofs::Fed::bytes_fit))]
+fn byte_pairs(words: &[u64]) -> Option<usize>
+    ensures whole { IfSome result (λ n. length words.now ≡ n * 2) }
+    ensures few { IfSome result (λ n. n ≤ 4096) }
+    ensures fit { IfSome result (λ n. FitKinds words.now (repeated n (byte_kind ∷ byte_kind ∷ []))) }
+{
+    let count = words.len() / 2;
+    if are_bytes(words) && count * 2 == words.len() && count <= 4096 {
+        Some(count)
+    } else {
+        None
+    }
+}
+
+// The lines of a run on blocks, and its sums; parameter and result have one layout.
+fn play(
+    alloc: Global,
+    out: &mut String,
+    nl: &Netlist,
+    layout: &[StType],
+    slowdown: u32,
+    latency: u32,
+    words: &[u64],
+    blocks: usize,
+    fill: u64,
+) -> Result<(), AllocError>
+    requires some { 1 ≤ slowdown }
+    requires most { slowdown ≤ 4096 }
+    requires layout { All (λ s. IsInSize s × (time s ≡ slowdown)) (map st_tree layout.now) }
+    requires few { clock_count slowdown latency blocks < 2 ^ 32 }
+    requires whole { length words.now ≡ blocks * size_of (map st_tree layout.now) }
+    requires rows { (n : ℕ) → All (AreInputs nl.now.cells) (fed_rows slowdown fill (map st_tree layout.now) (blocks_of (map st_tree layout.now) blocks words.now) n) }
+{
+    write_clocks(
+        alloc, out, nl, layout, layout, slowdown, latency, words, blocks, fill,
+    )?;
+    let sums = sum_clocks(
+        alloc, nl, layout, layout, slowdown, latency, words, blocks, fill,
+    )?;
+    writeln!(out, "{sums:?}")
+}
+
+// Two bytes one after the other, and a clock without one: `TSeq 2 1 u8`.
+fn play_slots(
+    alloc: Global,
+    out: &mut String,
+    nl: &Netlist,
+    latency: u32,
+    words: &[u64],
+    fill: u64,
+) -> Result<(), AllocError> {
+    let Some(blocks) = byte_pairs(words) else {
+        return Ok(());
+    };
+    if latency > 4096 {
+        return Ok(());
+    }
+    if !has_widths(nl, &[1, 8]) {
+        return Ok(());
+    }
+    let of = Box::new(alloc, StType::Atom(Atom::Word(8)))?;
+    let layout = vec![in alloc; StType::T { n: 2, i: 1, of }]?;
+    let layout = layout.as_slice();
+    can_be_fed();
+    play(alloc, out, nl, layout, 3, latency, words, blocks, fill)
+}
+
+// Two bytes side by side: `SSeq 2 u8`.
+fn play_lanes(
+    alloc: Global,
+    out: &mut String,
+    nl: &Netlist,
+    latency: u32,
+    words: &[u64],
+    fill: u64,
+) -> Result<(), AllocError> {
+    let Some(blocks) = byte_pairs(words) else {
+        return Ok(());
+    };
+    if latency > 4096 {
+        return Ok(());
+    }
+    if !has_widths(nl, &[1, 8, 8]) {
+        return Ok(());
+    }
+    let of = Box::new(alloc, StType::Atom(Atom::Word(8)))?;
+    let layout = vec![in alloc; StType::S { n: 2, of }]?;
+    let layout = layout.as_slice();
+    can_be_fed();
+    play(alloc, out, nl, layout, 1, latency, words, blocks, fill)
+}
+
+// The words of all blocks.
+fn play_words(
+    alloc: Global,
+    out: &mut String,
+    nl: &Netlist,
+    how: &str,
+    words: &[u64],
+) -> Result<(), AllocError> {
+    writeln!(out, "%% {how}")?;
+    let latency = number(how, 1).unwrap_or(0);
+    let fill = u64::from(number(how, 2).unwrap_or(0));
+    match how.split_whitespace().next() {
+        Some("slots") => play_slots(alloc, out, nl, latency, words, fill),
+        Some("lanes") => play_lanes(alloc, out, nl, latency, words, fill),
+        _ => Ok(()),
+    }
+}
+
+/// A netlist, and the lines and the sums of its run on blocks of two bytes: `slots` one after the other, `lanes` side by
+/// side; behind that stand the latency and the fill.
+pub fn tell(alloc: Global, out: &mut String, head: &str, body: &str) -> Result<(), AllocError> {
+    let (calls, run) = parts(body);
+    let nl = built(alloc, out, head, calls)?;
+    let (how, blocks) = run.split_once("\n").unwrap_or((run, ""));
+    let words = numbers(alloc, blocks)?;
+    play_words(alloc, out, &nl, how, &words)
+}

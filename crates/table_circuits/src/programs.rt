@@ -1,0 +1,87 @@
+// Circuits of programs.
+
+ghost use Rattle.std.specs.Prelude.{◌<◌, ◌≤◌};
+
+use crate::netlists::parts;
+use crate::numbers::number;
+use crate::stepping::step_all;
+use ae_delay::arrivals;
+use ae_flow::schedules_fit;
+use ae_lower::{Lowered, lower};
+use ae_parse::parse;
+use ae_retime::matching;
+use ae_rewrite::schedule;
+use ae_seq::{Typed, check};
+use std::alloc::{AllocError, Global};
+
+// The program of a text with the types of its items.
+fn typed(alloc: Global, text: &str) -> Option<Typed> {
+    if text.len() >= 4_294_967_295 {
+        return None;
+    }
+    let Ok(program) = parse(alloc, text.as_bytes()) else {
+        return None;
+    };
+    match check(alloc, program) {
+        Ok(typed) => Some(typed),
+        Err(_) => None,
+    }
+}
+
+// The circuit of a program under a slowdown, and its latency.
+fn lowered(alloc: Global, typed: &Typed, slowdown: u32) -> Option<(Lowered, u32)>
+    requires some { 0 < slowdown }
+    requires limit { slowdown ≤ 4096 }
+{
+    let _program = typed.program();
+    let Ok(s) = schedule(alloc, typed, slowdown) else {
+        return None;
+    };
+    let Ok(a) = arrivals(alloc, &s) else {
+        return None;
+    };
+    let Ok(slacks) = matching(alloc, &s, &a) else {
+        return None;
+    };
+    schedules_fit();
+    match lower(alloc, &s, &a, &slacks) {
+        Ok(lowered) => Some((lowered, a.latency())),
+        Err(_) => None,
+    }
+}
+
+// The circuit of a program, its marks, and its run on rows of words.
+fn tell_circuit(
+    alloc: Global,
+    out: &mut String,
+    typed: &Typed,
+    slowdown: u32,
+    rows: &str,
+) -> Result<(), AllocError>
+    requires some { 0 < slowdown }
+    requires limit { slowdown ≤ 4096 }
+{
+    let Some((lowered, latency)) = lowered(alloc, typed, slowdown) else {
+        return writeln!(out, "no circuit");
+    };
+    writeln!(
+        out,
+        "latency {latency}, marks {:?}",
+        lowered.marks.as_slice()
+    )?;
+    step_all(alloc, out, &lowered.netlist, rows)
+}
+
+/// A program, its circuit under the slowdown in the first line, and the circuit's run.
+pub fn tell(alloc: Global, out: &mut String, head: &str, body: &str) -> Result<(), AllocError> {
+    let (text, rows) = parts(body);
+    out.push_str(text)?;
+    let slowdown = number(head, 1).unwrap_or(0);
+    let Some(typed) = typed(alloc, text) else {
+        return writeln!(out, "no program");
+    };
+    if slowdown == 0 || slowdown > 4096 {
+        return Ok(());
+    }
+    tell_circuit(alloc, out, &typed, slowdown, rows)
+}
