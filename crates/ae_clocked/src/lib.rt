@@ -6,8 +6,6 @@ mod counter;
 mod gates;
 mod lines;
 mod marks;
-#[cfg(test)]
-mod tests;
 
 pub use clocks::{Clocks, Phase};
 pub use gates::{choose, close, constant, delayed, equal, less, operate, register, sum, width_at};

@@ -8,8 +8,6 @@ pub mod laws;
 mod nodes;
 mod ports;
 mod stages;
-#[cfg(test)]
-mod tests;
 mod wires;
 
 pub use circuit::{Lowered, lower};

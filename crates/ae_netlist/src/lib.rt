@@ -4,8 +4,6 @@
 mod cell;
 mod netlist;
 mod runs;
-#[cfg(test)]
-mod tests;
 
 pub use cell::{Cell, NetId, Outlet, Port, SizedCell};
 pub use netlist::{NetFault, Netlist};

@@ -5,8 +5,6 @@ mod clocks;
 mod fits;
 mod rows;
 mod sums;
-#[cfg(test)]
-mod tests;
 
 pub use clocks::{write_clocks, write_words};
 pub use fits::can_be_fed;

@@ -5,7 +5,5 @@ mod gate;
 mod plan;
 mod settle;
 mod sim;
-#[cfg(test)]
-mod tests;
 
 pub use sim::Sim;

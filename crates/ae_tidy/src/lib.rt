@@ -8,8 +8,6 @@ mod mark;
 mod moved;
 mod seen;
 mod table;
-#[cfg(test)]
-mod tests;
 mod tidying;
 
 pub use tidying::{Tidied, tidy};
