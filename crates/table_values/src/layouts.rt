@@ -5,7 +5,7 @@ ghost use Rattle.ae_sttype.specs.Size.{IsInSize};
 
 use crate::numbers::{number, numbers, write_words};
 use crate::reader::Reader;
-use ae_layout::{lay_out, slots, take_up};
+use ae_layout::{Rows, lay_out, slots, take_up};
 use ae_seqtype::Value;
 use ae_sttype::StType;
 use std::alloc::{AllocError, Global};
@@ -84,6 +84,12 @@ pub fn places(alloc: Global, out: &mut String, text: &str) -> Result<(), AllocEr
     write_places(out, &t)
 }
 
+fn write_columns(out: &mut String, rows: &Rows) -> Result<(), AllocError> {
+    let columns = rows.columns;
+    write!(out, " -> columns {columns}")?;
+    write_words(out, ":", &rows.words)
+}
+
 fn write_rows(
     alloc: Global,
     out: &mut String,
@@ -95,10 +101,8 @@ fn write_rows(
         return out.push_str(" -> no value");
     }
     let rows = lay_out(alloc, value, t, fill)?;
-    let columns = rows.columns;
-    write!(out, " -> columns {columns}")?;
-    write_words(out, ":", &rows.words)?;
     let taken = take_up(alloc, &rows, t)?;
+    write_columns(out, &rows)?;
     write_words(out, ", taken up:", &taken.words)
 }
 

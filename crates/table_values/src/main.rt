@@ -32,18 +32,18 @@ fn answer(alloc: Global, out: &mut String, line: &str) -> Result<(), AllocError>
     }
 }
 
-fn answers(alloc: Global, text: &str) -> Result<String, AllocError> {
-    let mut out = String::new(alloc);
+fn answers(alloc: Global, out: &mut String, text: &str) -> Result<(), AllocError> {
     for line in text.lines() {
         out.push_str(line)?;
-        answer(alloc, &mut out, line)?;
+        answer(alloc, out, line)?;
         out.push_str("\n")?;
     }
-    Ok(out)
+    Ok(())
 }
 
 fn main(rt: HostRuntime) -> io::Result<()> {
     let text = io::read_to_string(rt.alloc(), rt.reader())?;
-    let out = answers(rt.alloc(), text.as_str())?;
+    let mut out = String::new(rt.alloc());
+    answers(rt.alloc(), &mut out, text.as_str())?;
     rt.print(out.as_str())
 }

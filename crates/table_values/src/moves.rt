@@ -59,7 +59,7 @@ fn origins_of(alloc: Global, text: &str) -> Result<Vec<Origin>, AllocError> {
     Ok(all)
 }
 
-/// What trips cost: `latency 0 columns 4 to 4 period 2: 0.0<0 0.1<0.0`.
+/// What trips cost: `after 0 clocks from 4 to 4 columns every 2 clocks: 0.0<0 0.1<0.0`.
 pub fn costs(alloc: Global, out: &mut String, text: &str) -> Result<(), AllocError> {
     let (head, fields) = text.split_once(':').unwrap_or((text, ""));
     let trips = trips_of(alloc, fields)?;
@@ -93,35 +93,39 @@ fn write_trip(out: &mut String, trip: Trip) -> Result<(), AllocError> {
     }
 }
 
+fn write_all(out: &mut String, late: u32, trips: &[Trip]) -> Result<(), AllocError> {
+    write!(out, " -> latency {late}, trips")?;
+    for trip in trips {
+        write_trip(out, *trip)?;
+    }
+    Ok(())
+}
+
 fn write_trips(
     alloc: Global,
     out: &mut String,
     arg: &StType,
     to: &StType,
-    origins: &[Origin],
+    fields: &str,
 ) -> Result<(), AllocError> {
     let ins = from_ref(arg);
     let firsts = [0u32];
-    if !is_move(ins, to, origins) {
+    let origins = origins_of(alloc, fields)?;
+    if !is_move(ins, to, &origins) {
         return out.push_str(" -> no move");
     }
-    let late = latency(ins, to, origins);
-    let trips = all_trips(alloc, ins, &firsts, to, origins)?;
-    write!(out, " -> latency {late}, trips")?;
-    for trip in &trips {
-        write_trip(out, *trip)?;
-    }
-    Ok(())
+    let late = latency(ins, to, &origins);
+    let trips = all_trips(alloc, ins, &firsts, to, &origins)?;
+    write_all(out, late, &trips)
 }
 
 /// The trips of a move: `SSeq 2 u8 to SSeq 2 u8: 1.0 0.0`.
 pub fn trips(alloc: Global, out: &mut String, text: &str) -> Result<(), AllocError> {
     let (head, fields) = text.split_once(':').unwrap_or((text, ""));
     let (arg, to) = head.split_once(" to ").unwrap_or((head, ""));
-    let origins = origins_of(alloc, fields)?;
     let arg = layout_of(alloc, arg)?;
     let to = layout_of(alloc, to)?;
-    write_trips(alloc, out, &arg, &to, &origins)
+    write_trips(alloc, out, &arg, &to, fields)
 }
 
 /// The memories of delay lines of so many clocks.

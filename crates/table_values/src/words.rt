@@ -7,48 +7,41 @@ use crate::numbers::{number, number_at, short};
 use ae_word::{WordOp, apply, arity, fits_width, latency, result_width};
 use std::alloc::AllocError;
 
-// The operators by their names.
-const OPERATORS: [(&str, WordOp); 20] = [
-    ("add", WordOp::Add),
-    ("sub", WordOp::Sub),
-    ("mul", WordOp::Mul),
-    ("and", WordOp::And),
-    ("or", WordOp::Or),
-    ("xor", WordOp::Xor),
-    ("not", WordOp::Not),
-    ("min", WordOp::Min),
-    ("max", WordOp::Max),
-    ("eq", WordOp::Eq),
-    ("lt", WordOp::Lt),
-    ("mux", WordOp::Mux),
-    ("shl", WordOp::Shl(0)),
-    ("shr", WordOp::Shr(0)),
-    ("cast", WordOp::Cast(0)),
-    ("slt", WordOp::SLt),
-    ("smin", WordOp::SMin),
-    ("smax", WordOp::SMax),
-    ("sar", WordOp::Sar(0)),
-    ("scast", WordOp::SCast(0)),
-];
+// The names of the operators, in the order of `operator_at`.
+const NAMES: &str =
+    "add sub mul and or xor not min max eq lt mux shl shr cast slt smin smax sar scast";
 
-// The operator with this number, if it has one.
-fn numbered(op: WordOp, k: u32) -> WordOp {
-    match op {
-        WordOp::Shl(_) => WordOp::Shl(k),
-        WordOp::Shr(_) => WordOp::Shr(k),
-        WordOp::Cast(_) => WordOp::Cast(k),
-        WordOp::Sar(_) => WordOp::Sar(k),
-        WordOp::SCast(_) => WordOp::SCast(k),
-        _ => op,
+fn operator_at(place: usize, k: u32) -> WordOp {
+    match place {
+        1 => WordOp::Sub,
+        2 => WordOp::Mul,
+        3 => WordOp::And,
+        4 => WordOp::Or,
+        5 => WordOp::Xor,
+        6 => WordOp::Not,
+        7 => WordOp::Min,
+        8 => WordOp::Max,
+        9 => WordOp::Eq,
+        10 => WordOp::Lt,
+        11 => WordOp::Mux,
+        12 => WordOp::Shl(k),
+        13 => WordOp::Shr(k),
+        14 => WordOp::Cast(k),
+        15 => WordOp::SLt,
+        16 => WordOp::SMin,
+        17 => WordOp::SMax,
+        18 => WordOp::Sar(k),
+        19 => WordOp::SCast(k),
+        _ => WordOp::Add,
     }
 }
 
 // The operator of a name, with the number that stands behind a point, as `shl.7`; a sum where there is none.
 fn named(text: &str) -> WordOp {
-    let (name, number) = text.split_once('.').unwrap_or((text, "0"));
-    for (said, op) in OPERATORS {
+    let (name, number) = text.split_once('.').unwrap_or((text, ""));
+    for (place, said) in NAMES.split_whitespace().enumerate() {
         if said == name {
-            return numbered(op, short(number));
+            return operator_at(place, short(number));
         }
     }
     WordOp::Add
