@@ -9,8 +9,6 @@ mod plain;
 mod program;
 mod stack;
 mod starts;
-#[cfg(test)]
-mod tests;
 mod words;
 
 pub use program::{eval, fits};

@@ -3,8 +3,6 @@
 
 mod iter;
 mod rows;
-#[cfg(test)]
-mod tests;
 mod walk;
 
 pub use iter::SlotIter;

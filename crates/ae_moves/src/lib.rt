@@ -5,8 +5,6 @@ mod costs;
 mod layouts;
 mod mems;
 mod origins;
-#[cfg(test)]
-mod tests;
 mod trip;
 
 pub use costs::{Costs, are_within, move_costs, trips_latency};

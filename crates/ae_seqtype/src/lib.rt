@@ -2,8 +2,6 @@
 #![tactic(auto)]
 
 mod seq_type;
-#[cfg(test)]
-mod tests;
 mod value;
 
 pub use seq_type::SeqType;

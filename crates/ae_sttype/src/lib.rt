@@ -2,7 +2,5 @@
 #![tactic(auto)]
 
 mod st_type;
-#[cfg(test)]
-mod tests;
 
 pub use st_type::{Slot, StType};

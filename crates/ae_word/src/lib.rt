@@ -4,8 +4,6 @@
 mod atom;
 mod op;
 mod result;
-#[cfg(test)]
-mod tests;
 
 pub use atom::Atom;
 pub use op::{WordOp, arity, folds, latency, op_for, result_width};
