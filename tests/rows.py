@@ -153,6 +153,19 @@ def large():
     yield nets(text) <= 82, f"the module has {nets(text)} nets"
 
 
+def long():
+    """As many lines as a text may have, and one more; and 1,300 functions, each of which calls the one above it."""
+    for nodes in (4094, 4095):
+        text = ["fn main a:u8", *(f"x{k} = not a" for k in range(nodes)), "end a", "", "# nothing", "%%", "no line"]
+        types = ["1 fn main a:u8", *(f"{k + 2} x{k} u8" for k in range(nodes)), "4096 end u8", ""]
+        wanted = (0, "\n".join(types)) if nodes == 4094 else (2, "refused bad line 4097\n")
+        yield aeth(["check"], "\n".join(text)) == wanted, f"a text of {nodes} nodes"
+    calls = "".join(f"fn f{k} a:u8\nn = call f{k - 1} a\nend n\n" for k in range(1, 1300))
+    costs = "slowdown 4096\nlatency 0\nmuls 0\nload 1299\n"
+    items = "".join(f"{line} 0 TSeq 1 4095 u8\n" for line in ("3897 a", "3898 n", "3899 end"))
+    yield aeth(["plan", 4096], f"fn f0 a:u8\nend a\n{calls}") == (0, costs + items), "a chain of 1,300 functions"
+
+
 def simulated():
     """The module of the blur under `sim`: each clock's words come a line later, as the first line is that of reset."""
     slowdown, text, _, _, words = RUNS[-1]
@@ -192,7 +205,7 @@ def deep():
 
 
 def main():
-    answers = [answer for part in (runs, without_rows, large, simulated, heavy, deep) for answer in part()]
+    answers = [answer for part in (runs, without_rows, large, long, simulated, heavy, deep) for answer in part()]
     for right, name in answers:
         if not right:
             print(f"rows: {name}")

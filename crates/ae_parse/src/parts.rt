@@ -32,29 +32,3 @@ pub fn split(text: &[u8]) -> (usize, Option<usize>)
     }
     (text.len(), None)
 }
-
-#[cfg(test)]
-mod tests {
-    use super::*;
-
-    #[test]
-    fn splits_at_the_first_mark(rt: HostRuntime) {
-        let texts: [(&str, usize, Option<usize>); 10] = [
-            ("", 0, None),
-            ("%%", 0, Some(2)),
-            ("%%\n", 0, Some(3)),
-            ("a\n%%\n1 2\n%%\n", 2, Some(5)),
-            ("a\r\n\t%% # rows\r\n1", 3, Some(15)),
-            ("a # %%\n", 7, None),
-            ("# a\n%% b\n% %\n%%%\n%%", 17, Some(19)),
-            ("a\n%%\r\r\n", 7, None),
-            ("a\n\n", 3, None),
-            ("\n\n%%#\n\n", 2, Some(6)),
-        ];
-        for (text, end, start) in texts {
-            let found = split(text.as_bytes());
-            assert_eq!(rt; found.0, end, "end of {text}");
-            assert_eq!(rt; found.1, start, "start of {text}");
-        }
-    }
-}

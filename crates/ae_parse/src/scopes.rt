@@ -54,21 +54,3 @@ impl Scope {
         Ok(true)
     }
 }
-
-#[cfg(test)]
-mod tests {
-    use super::*;
-    use std::test::Fail;
-
-    #[test]
-    fn numbers_names_in_order(rt: HostRuntime) -> Result<(), Fail> {
-        let mut scope = Scope::new(rt.alloc());
-        for (name, is_new) in [("x", true), ("one", true), ("x", false), ("y", true)] {
-            assert_eq!(rt; scope.add(rt.alloc(), name.as_bytes())?, is_new, "{name}");
-        }
-        assert_eq!(rt; scope.find(b"x"), Some(0));
-        assert_eq!(rt; scope.find(b"y"), Some(2));
-        assert_eq!(rt; scope.find(b"z"), None);
-        Ok(())
-    }
-}

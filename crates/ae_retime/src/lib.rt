@@ -3,8 +3,6 @@
 #![tactic(auto)]
 
 mod slacks;
-#[cfg(test)]
-mod tests;
 mod uses;
 
 pub use slacks::{Slacks, matching};

@@ -7,12 +7,8 @@ mod cases;
 mod layout;
 mod plan;
 mod reach;
-#[cfg(test)]
-mod schedule_tests;
 mod schedules;
 mod st_program;
-#[cfg(test)]
-mod tests;
 
 pub use cases::Case;
 pub use layout::{LayFault, lay};

@@ -5,8 +5,6 @@ mod checker;
 mod formed;
 mod line_type;
 mod program;
-#[cfg(test)]
-mod tests;
 
 pub use checker::{CheckFault, Typed, check};
 pub use program::{Func, Node, Op, Param, Program};

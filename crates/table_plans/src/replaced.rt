@@ -1,0 +1,67 @@
+// Programs that no text says: a line has another operator than it was read with.
+
+use crate::programs::{LONGEST, tell_checked};
+use crate::spelled::{number_at, word_at};
+use ae_parse::parse;
+use ae_seq::{Node, Op, Program};
+use ae_word::WordOp;
+use std::alloc::{AllocError, Global};
+
+fn op_of(word: &str, k: u32) -> Op {
+    match word {
+        "select" => Op::Select(k),
+        "shift" => Op::Shift(k),
+        "up" => Op::Up(k),
+        "partition_2" => Op::Partition(2, k),
+        "reduce_max" => Op::Reduce(WordOp::Max),
+        "reduce_sub" => Op::Reduce(WordOp::Sub),
+        "scan_add" => Op::Scan(WordOp::Add),
+        "cast_int" => Op::CastInt(k),
+        "map" => Op::Map(k),
+        _ => Op::Word(WordOp::Not),
+    }
+}
+
+// So many lines of `shift 1`, each of the item above it.
+fn add_shifts(alloc: Global, nodes: &mut Vec<Node>, count: u32) -> Result<(), AllocError> {
+    for item in 1..count {
+        let name = format!(in alloc; "n{item}")?;
+        nodes.push(Node {
+            name,
+            op: Op::Shift(1),
+            args: Vec::from_slice(alloc, &[item])?,
+            line: 2,
+        })?;
+    }
+    Ok(())
+}
+
+// The only line says something else, or so many lines stand there.
+fn replace(alloc: Global, p: &mut Program, word: &str, k: u32) -> Result<(), AllocError> {
+    for func in p.funcs.iter_mut() {
+        if word == "shifts" {
+            add_shifts(alloc, &mut func.nodes, k)?;
+        } else {
+            for node in func.nodes.iter_mut() {
+                node.op = op_of(word, k);
+            }
+        }
+    }
+    Ok(())
+}
+
+/// Whether the program of one line on a type has types: its version, and the line's operator and number.
+pub fn tell_replaced(alloc: Global, out: &mut String, line: &str) -> Result<(), AllocError> {
+    let text = format!(in alloc; "fn main a:{}\nb = shift 1 a\nend b\n", word_at(line, 0))?;
+    if text.len() >= LONGEST {
+        return out.push_str(" too long");
+    }
+    match parse(alloc, text.as_bytes()) {
+        Ok(mut p) => {
+            p.version = number_at(line, 1);
+            replace(alloc, &mut p, word_at(line, 2), number_at(line, 3))?;
+            tell_checked(alloc, out, p)
+        }
+        Err(fault) => write!(out, " {fault}"),
+    }
+}
