@@ -10,8 +10,6 @@ pub mod kinds;
 pub mod names;
 pub mod places;
 pub mod reads;
-#[cfg(test)]
-mod tests;
 pub mod twice;
 pub mod unknown;
 pub mod weigh;

@@ -18,8 +18,6 @@ mod reads;
 mod shape;
 mod sort;
 mod statements;
-#[cfg(test)]
-mod tests;
 mod wires;
 
 pub use build::elaborate;

@@ -10,6 +10,3 @@ pub use sink::{GiveFault, MemSink, Sink, SureSink};
 pub use source::{Failed, MemSource, Source, SureSource};
 pub use std_edge::{StdSink, StdSource};
 pub use transfer::{LoadFault, PutFault, load, put_all};
-
-#[cfg(test)]
-mod tests;

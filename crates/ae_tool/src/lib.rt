@@ -3,33 +3,21 @@
 
 mod build;
 mod call;
-#[cfg(test)]
-mod check_tests;
 mod check_text;
 mod command;
 mod cost_table;
 mod demo;
-#[cfg(test)]
-mod demo_tests;
 mod evaluate;
 mod notes;
 mod plan;
-#[cfg(test)]
-mod plan_tests;
 mod plan_text;
 mod read_back;
 mod refusal;
 mod reply;
 mod run;
-#[cfg(test)]
-mod run_tests;
 mod serve;
 mod sim;
-#[cfg(test)]
-mod sim_tests;
 mod status;
-#[cfg(test)]
-mod tests;
 mod typed;
 mod widths;
 

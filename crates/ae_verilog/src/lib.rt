@@ -8,8 +8,6 @@ mod laws;
 mod names;
 mod notes;
 mod report;
-#[cfg(test)]
-mod tests;
 
 ghost use Rattle.std.specs.Prelude.{◌≡◌, ◌++◌, List, ℕ, All, length, map, IfOk, IsTrue, string_bytes};
 ghost use Rattle.std.specs.List.{list_all};

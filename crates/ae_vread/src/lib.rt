@@ -21,6 +21,3 @@ pub use module::{BinOp, Drive, Expr, NetKind, Stmt, UnOp, VItem, VModule, VNet};
 pub use reader::{VFault, read};
 pub use scan::{TokenFault, tokens};
 pub use token::{Key, Sign, Token};
-
-#[cfg(test)]
-mod tests;

@@ -1,6 +1,8 @@
+// What sources and sinks do where something fails, and over the standard library's readers and writers.
+
 ghost use Rattle.std.specs.Prelude.{◌≤◌};
 
-use crate::{
+use ae_io::{
     LoadFault, MemSink, MemSource, PutFault, StdSink, StdSource, SureSink, SureSource, load,
     put_all,
 };

@@ -1,0 +1,106 @@
+#!/usr/bin/env python3
+"""What the compiler answers where reading or writing fails, at once and in mid-stream, and that it reads nothing where its
+words name no job or a demo. A file that may not grow past some bytes is a sink that fails behind them, and a socket whose
+other end goes away is a source that does."""
+import os
+import resource
+import signal
+import socket
+import subprocess
+import sys
+import tempfile
+
+from common import AETH, TOP
+
+INCREMENT = (TOP / "examples" / "increment.aeth").read_bytes()
+PROGRAM = INCREMENT.split(b"%%")[0]
+FOLDER = os.open("/", os.O_RDONLY)  # a folder is a source that fails at once
+MOST = 16_777_216
+
+
+def answer(words, source, room=None):
+    """Status and output of the compiler on a source, where the output may have so many bytes."""
+
+    def limit():
+        signal.signal(signal.SIGXFSZ, signal.SIG_IGN)
+        resource.setrlimit(resource.RLIMIT_FSIZE, (room, room))
+
+    with tempfile.TemporaryFile() as sink:
+        done = subprocess.run([AETH, *words], stdin=source, stdout=sink, preexec_fn=None if room is None else limit)
+        sink.seek(0)
+        return done.returncode, sink.read()
+
+
+def held(text):
+    """A file with a text, to be read from its beginning."""
+    found = tempfile.TemporaryFile()
+    found.write(text)
+    found.seek(0)
+    return found
+
+
+def breaking(text):
+    """A socket that gives a text and then fails."""
+    near, far = socket.socketpair()
+    near.sendall(b"unread")  # the far end is lost with these bytes unread
+    far.sendall(text)
+    far.close()
+    return near
+
+
+def cases():
+    fault, nothing = b"refused read fault\n", b""
+    for job in (["build", "1"], ["check"], ["eval"]):
+        yield job, FOLDER, None, (9, fault)
+        for text in (b"fn", PROGRAM, b"\n" * 140_000):
+            yield job, breaking(text), None, (9, fault)
+    yield ["build", "1"], held(PROGRAM), 4, (10, b"// a")
+    yield ["eval"], held(INCREMENT), 4, (10, b"2 3 ")
+    for text in (PROGRAM, b"", b"fn main a:[4]u8\nb = shift 5 a\nend b\n", b"\n" * (MOST + 1)):
+        yield ["check"], held(text), 0, (10, nothing)
+    yield ["check"], held(b"\n" * (MOST + 1)), None, (11, b"refused too long\n")
+
+
+OTHER_WORDS = ["", "build", "build 0", "build 04", "build 1 1"]
+OTHER_WORDS += ["run 1", "run 4097 0", "run 1 18446744073709551616", "run 1 00"]
+OTHER_WORDS += ["demo", "demo 0", "demo 01", "demo 65", "demo +1", "demo 1 0"]
+
+
+def untouched():
+    """Words that name no job, and a demo."""
+    for job in map(str.split, OTHER_WORDS):
+        source = held(PROGRAM)
+        yield answer(job, source) == (1, b"refused usage\n") and os.lseek(source.fileno(), 0, os.SEEK_CUR) == 0, job
+        yield answer(job, FOLDER) == (1, b"refused usage\n"), job
+    source = held(PROGRAM)
+    status, text = answer(["demo", "1"], source)
+    yield status == 0 and text.startswith(b"// aeth 1\n// slowdown 4\n"), "demo"
+    yield os.lseek(source.fileno(), 0, os.SEEK_CUR) == 0, "demo"
+    yield answer(["demo", "1"], FOLDER) == (status, text), "demo"
+
+
+def piecewise():
+    """A source that gives a byte at a time."""
+    whole = answer(["run", "1", "0"], held(INCREMENT))
+    with subprocess.Popen([AETH, "run", "1", "0"], stdin=subprocess.PIPE, stdout=subprocess.PIPE, bufsize=0) as running:
+        for byte in INCREMENT:
+            running.stdin.write(bytes([byte]))
+        running.stdin.close()
+        yield (0, running.stdout.read()) == whole, "pieces"
+    yield whole[1].endswith(b"%% clocks\n0 . 1 1 1 1\n1 v 2 3 4 0\n"), "run"
+
+
+def main():
+    answers = [*untouched(), *piecewise()]
+    for words, source, room, wanted in cases():
+        found = answer(words, source, room)
+        answers.append((found == wanted, f"{words} answers {found[0]} {found[1][:60]}, not {wanted}"))
+    for right, name in answers:
+        if not right:
+            print(f"faults: {name}")
+    failed = sum(not right for right, _ in answers)
+    print(f"faults: {len(answers) - failed} passed, {failed} failed")
+    return failed > 0
+
+
+sys.exit(main())
