@@ -6,7 +6,7 @@ use Rattle.std.specs.Char.{is_ascii_digit, digit_value}
 use Rattle.std.specs.Str.Parse.{digits_value, digits_value_after}
 use Rattle.std.proofs.lemmas.Bool.{cases_Bool, cond-true, cond-false}
 use Rattle.std.proofs.lemmas.Bool.Decides.{nat_tests}
-use Rattle.ae_vread.specs.declared.token.Key.{Key}
+use Rattle.ae_vtoken.specs.declared.token.Key.{Key}
 use Rattle.ae_vread.specs.Tables.{keys, signs}
 use Rattle.ae_vread.specs.Tokens.{TokenTree, Name, Unused, Zero, Decimal, Sized, Mark, look_up, is_unused, is_blank, is_letter, is_word_byte, Place, Between, InLine, Opened, InBlock, Closing, after_gap, word_of, base_of, are_digits, constant, sized_of, decimal_of, number_of, token_of, AreTokens, No_more, Then}
 use Rattle.ae_elab.specs.Shape.{IsConstant}

@@ -1,5 +1,5 @@
 -- What the parser knows, apart from where its vectors lie.
-use Rattle.std.specs.Prelude.{string_bytes, option_map}
+use Rattle.std.specs.Prelude.{string_bytes, option_map, Some}
 use Rattle.ae_parse.specs.Grammar.{Head, Known, Part, State}
 use Rattle.ae_parse.specs.View.{params_in, nodes_in, funcs_in}
 use Rattle.ae_parse.specs.declared.fn_lines.Params.{Params}
@@ -18,3 +18,7 @@ part_of p = record { name = string_bytes p.name; params = params_in p.params; no
 
 abbrev pub state_of : Parser → State
 state_of s = record { known = known_of s.known; part = option_map part_of s.part }
+
+-- what is known inside a function
+abbrev pub opened : Known → Part → State
+opened k p = record { known = k; part = Some p }

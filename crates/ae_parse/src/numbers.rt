@@ -1,6 +1,6 @@
 // Decimal numbers.
 
-ghost use Rattle.std.specs.Prelude.{ℕ, ◌≤◌, MatchOption, ◌≡◌, ◌^◌, ◌<◌, Option, Some, None, IsTrue, if◌then◌else◌, nat_lt};
+ghost use Rattle.std.specs.Prelude.{ℕ, ◌≤◌, MatchOption, ◌≡◌, ◌^◌, ◌<◌, Option, Some, None, IsTrue, true, false, length, get_or, if◌then◌else◌, nat_lt};
 ghost use Rattle.std.specs.Fmt.{decimal};
 ghost use Rattle.std.specs.Str.{all_ascii_digits};
 ghost use Rattle.std.specs.Str.Parse.{digits_value};
@@ -45,11 +45,19 @@ pub fn number(digits: &[u8]) -> Option<u64>
     value(digits)
 }
 
+// Whether a zero stands before other bytes.
+fn has_leading_zero(digits: &[u8]) -> bool
+    ensures there { result ≡ true → (1 < length digits.now) × (get_or digits.now 0 0 ≡ 48) }
+    ensures none { result ≡ false → get_or digits.now 0 0 ≡ 48 → length digits.now ≤ 1 }
+{
+    digits.len() > 1 && digits[0] == b'0'
+}
+
 /// The number from `low` to `high` that the bytes write without leading zeros.
 pub fn plain_number(digits: &[u8], low: u32, high: u32) -> Option<u32>
     ensures { MatchOption result ((n : ℕ) → low ≤ n → n ≤ high → digits.now ≡ decimal n → ⊥) (λ n. (low ≤ n) × (n ≤ high) × (digits.now ≡ decimal n)) }
 {
-    if digits.len() > 1 && digits[0] == b'0' {
+    if has_leading_zero(digits) {
         return None;
     }
     let Some(value) = number(digits) else {

@@ -1,12 +1,13 @@
 // The lines of a program text, one after the other.
 
-ghost use Rattle.std.specs.Prelude.{◌≡◌, ◌<◌, IfOk, IfSome, length, option_map, true};
+ghost use Rattle.std.specs.Prelude.{◌≡◌, ◌<◌, IfOk, IfSome, length, option_map, Some, true};
 ghost use Rattle.ae_seq.specs.ProgramTree.{op_tree};
 ghost use Rattle.ae_parse.specs.Cleaned.{all_printed, is_printed};
 ghost use Rattle.ae_parse.specs.Cut.{fields};
 ghost use Rattle.ae_parse.specs.Name.{is_name};
-ghost use Rattle.ae_parse.specs.Grammar.{after_line, begin, begin_named, begun, by_part, ended, ended_with, finish, first_line, inside, is_version_line, node, node_named, node_with, of_version, start, step, with_node};
-ghost use Rattle.ae_parse.specs.StateView.{head_of, known_of, part_of, state_of};
+ghost use Rattle.ae_parse.specs.Grammar.{Known as KnownTree, after_line, begin, begin_named, begun, by_part, ended, ended_with, finish, first_line, inside, is_version_line, node, node_named, node_with, of_version, start, step, with_node};
+ghost use Rattle.ae_parse.specs.Options.{where_ok};
+ghost use Rattle.ae_parse.specs.StateView.{head_of, known_of, part_of, state_of, opened};
 
 use crate::fields::next_field;
 use crate::fn_lines::{Params, read_params};
@@ -49,40 +50,24 @@ pub(crate) struct Parser {
 fn begun(
     alloc: Global,
     number: u32,
-    known: Known,
+    known: &mut Known,
     name: &[u8],
     head: Params,
-) -> Result<Option<Parser>, AllocError>
+) -> Result<Option<Part>, AllocError>
     requires { is_name name.now ≡ true }
-    ensures { IfOk result (λ o. option_map state_of o ≡ begun number (known_of known) name.now (head_of head)) }
+    ensures { IfOk result (λ o. option_map (λ p. opened (known_of known.new) (part_of p)) o ≡ begun number (known_of known.old) name.now (head_of head)) }
 {
-    let Known {
-        version,
-        closed,
-        funcs,
-        mut names,
-    } = known;
-    let Params { params, items } = head;
-    if !names.add(alloc, name)? {
+    if !known.names.add(alloc, name)? {
         return Ok(None);
     }
     let name = name_text(alloc, name)?;
-    let known = Known {
-        version,
-        closed,
-        funcs,
-        names,
-    };
-    let part = Part {
+    let Params { params, items } = head;
+    Ok(Some(Part {
         name,
         params,
         nodes: Vec::new(alloc),
         items,
         line: number,
-    };
-    Ok(Some(Parser {
-        known,
-        part: Some(part),
     }))
 }
 
@@ -90,11 +75,11 @@ fn begun(
 fn begin_named(
     alloc: Global,
     number: u32,
-    known: Known,
+    known: &mut Known,
     name: &[u8],
     line: &[u8],
-) -> Result<Option<Parser>, AllocError>
-    ensures { IfOk result (λ o. option_map state_of o ≡ begin_named number (known_of known) name.now (fields line.now)) }
+) -> Result<Option<Part>, AllocError>
+    ensures { IfOk result (λ o. option_map (λ p. opened (known_of known.new) (part_of p)) o ≡ begin_named number (known_of known.old) name.now (fields line.now)) }
 {
     if !is_name(name) {
         return Ok(None);
@@ -105,15 +90,15 @@ fn begin_named(
     }
 }
 
-// A line outside a function.
+// A function line from what follows its first field.
 fn begin(
     alloc: Global,
     number: u32,
-    known: Known,
+    known: &mut Known,
     first: &[u8],
     line: &[u8],
-) -> Result<Option<Parser>, AllocError>
-    ensures { IfOk result (λ o. option_map state_of o ≡ begin number (known_of known) first.now (fields line.now)) }
+) -> Result<Option<Part>, AllocError>
+    ensures { IfOk result (λ o. option_map (λ p. opened (known_of known.new) (part_of p)) o ≡ begin number (known_of known.old) first.now (fields line.now)) }
 {
     let Some((name, after)) = next_field(line) else {
         return Ok(None);
@@ -126,87 +111,69 @@ fn begin(
 
 // ---- node lines
 
+// Puts a node behind the others, if its name is a new one, and says whether it is.
 fn with_node(
-    number: u32,
-    known: Known,
-    part: Part,
     alloc: Global,
+    number: u32,
+    part: &mut Part,
     name: &[u8],
     op: Op,
     args: Vec<u32>,
-) -> Result<Option<Parser>, AllocError>
+) -> Result<bool, AllocError>
     requires { is_name name.now ≡ true }
-    ensures { IfOk result (λ o. option_map state_of o ≡ with_node number (known_of known) (part_of part) name.now (op_tree op) args.items) }
+    ensures { (k : KnownTree) → IfOk result (λ b. where_ok b (Some (opened k (part_of part.new))) ≡ with_node number k (part_of part.old) name.now (op_tree op) args.items) }
 {
-    let Part {
-        name: func,
-        params,
-        mut nodes,
-        mut items,
-        line,
-    } = part;
-    if !items.add(alloc, name)? {
-        return Ok(None);
+    if !part.items.add(alloc, name)? {
+        return Ok(false);
     }
     let name = name_text(alloc, name)?;
-    nodes.push(Node {
+    part.nodes.push(Node {
         name,
         op,
         args,
         line: number,
     })?;
-    let part = Part {
-        name: func,
-        params,
-        nodes,
-        items,
-        line,
-    };
-    Ok(Some(Parser {
-        known,
-        part: Some(part),
-    }))
+    Ok(true)
 }
 
 // A node line from its operator and what follows that.
 fn node_with(
     alloc: Global,
     number: u32,
-    known: Known,
-    part: Part,
+    part: &mut Part,
     name: &[u8],
     op: Op,
     line: &[u8],
-) -> Result<Option<Parser>, AllocError>
+) -> Result<bool, AllocError>
     requires named { is_name name.now ≡ true }
-    requires few_items { length part.items < 4294967296 }
-    ensures { IfOk result (λ o. option_map state_of o ≡ node_with number (known_of known) (part_of part) name.now (op_tree op, fields line.now)) }
+    requires few_items { length part.old.items < 4294967296 }
+    ensures { (k : KnownTree) → IfOk result (λ b. where_ok b (Some (opened k (part_of part.new))) ≡ node_with number k (part_of part.old) name.now (op_tree op, fields line.now)) }
 {
     let Some(args) = places(alloc, &part.items, line)? else {
-        return Ok(None);
+        return Ok(false);
     };
     if !has_arguments(&op, args.len()) {
-        return Ok(None);
+        return Ok(false);
     }
-    with_node(number, known, part, alloc, name, op, args)
+    with_node(alloc, number, part, name, op, args)
 }
 
 // A node line from what follows its `=`.
 fn node_named(
     alloc: Global,
     number: u32,
-    known: Known,
-    part: Part,
+    known: &Known,
+    part: &mut Part,
     name: &[u8],
     line: &[u8],
-) -> Result<Option<Parser>, AllocError>
+) -> Result<bool, AllocError>
     requires named { is_name name.now ≡ true }
-    requires few_names { length known.names < 4294967296 }
-    requires few_items { length part.items < 4294967296 }
-    ensures { IfOk result (λ o. option_map state_of o ≡ node_named number (known_of known) (part_of part) name.now (fields line.now)) }
+    requires few_names { length known.now.names < 4294967296 }
+    requires few_items { length part.old.items < 4294967296 }
+    ensures { IfOk result (λ b. where_ok b (Some (opened (known_of known.now) (part_of part.new))) ≡ node_named number (known_of known.now) (part_of part.old) name.now (fields line.now)) }
 {
     let Some((word, after)) = next_field(line) else {
-        return Ok(None);
+        return Ok(false);
     };
     let read = read_operator(
         alloc,
@@ -217,29 +184,29 @@ fn node_named(
         after,
     )?;
     let Some((op, args)) = read else {
-        return Ok(None);
+        return Ok(false);
     };
-    node_with(alloc, number, known, part, name, op, args)
+    node_with(alloc, number, part, name, op, args)
 }
 
 // A node line from what follows its name.
 fn node(
     alloc: Global,
     number: u32,
-    known: Known,
-    part: Part,
+    known: &Known,
+    part: &mut Part,
     name: &[u8],
     line: &[u8],
-) -> Result<Option<Parser>, AllocError>
-    requires few_names { length known.names < 4294967296 }
-    requires few_items { length part.items < 4294967296 }
-    ensures { IfOk result (λ o. option_map state_of o ≡ node number (known_of known) (part_of part) name.now (fields line.now)) }
+) -> Result<bool, AllocError>
+    requires few_names { length known.now.names < 4294967296 }
+    requires few_items { length part.old.items < 4294967296 }
+    ensures { IfOk result (λ b. where_ok b (Some (opened (known_of known.now) (part_of part.new))) ≡ node number (known_of known.now) (part_of part.old) name.now (fields line.now)) }
 {
     let Some((equals, after)) = next_field(line) else {
-        return Ok(None);
+        return Ok(false);
     };
     if equals != b"=".as_slice() || !is_name(name) {
-        return Ok(None);
+        return Ok(false);
     }
     node_named(alloc, number, known, part, name, after)
 }
@@ -332,10 +299,36 @@ fn inside(
     ensures { IfOk result (λ o. option_map state_of o ≡ inside number (known_of known) (part_of part) first.now (fields line.now)) }
 {
     if first == b"end".as_slice() {
-        finish(alloc, number, known, part, line)
-    } else {
-        node(alloc, number, known, part, first, line)
+        return finish(alloc, number, known, part, line);
     }
+    let mut part = part;
+    if !node(alloc, number, &known, &mut part, first, line)? {
+        return Ok(None);
+    }
+    Ok(Some(Parser {
+        known,
+        part: Some(part),
+    }))
+}
+
+// A line outside a function.
+fn outside(
+    alloc: Global,
+    number: u32,
+    known: Known,
+    first: &[u8],
+    line: &[u8],
+) -> Result<Option<Parser>, AllocError>
+    ensures { IfOk result (λ o. option_map state_of o ≡ begin number (known_of known) first.now (fields line.now)) }
+{
+    let mut known = known;
+    let Some(part) = begin(alloc, number, &mut known, first, line)? else {
+        return Ok(None);
+    };
+    Ok(Some(Parser {
+        known,
+        part: Some(part),
+    }))
 }
 
 // A line that says something, when the version is known.
@@ -352,7 +345,7 @@ fn by_part(
     ensures { IfOk result (λ o. option_map state_of o ≡ by_part number (known_of known) (option_map part_of part) first.now (fields line.now)) }
 {
     match part {
-        None => begin(alloc, number, known, first, line),
+        None => outside(alloc, number, known, first, line),
         Some(part) => inside(alloc, number, known, part, first, line),
     }
 }

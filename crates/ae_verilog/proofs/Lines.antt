@@ -1,15 +1,15 @@
 -- The lines of a module, and their tokens.
 use Rattle.std.proofs.Common.{◌≡◌, ℕ, ◌-◌, ◌<◌, ◌≤◌, ◌^◌, List, [], ◌∷◌, ◌++◌, true, false, Option, Some, None, refl, sym, ◌∙◌, subst, arith, append_assoc, append-nil}
 use Rattle.std.specs.Prelude.{codes, decimal, nat_lt, if◌then◌else◌}
-use Rattle.ae_vread.specs.declared.token.Key.TheVariants.{Module, EndModule, Input, Output, Wire, Reg, Assign, Always, Posedge, If}
-use Rattle.ae_vread.specs.declared.token.Sign.TheVariants.{Open, Close, Comma, Semicolon, At, Equals, AtMost}
+use Rattle.ae_vtoken.specs.declared.token.Key.TheVariants.{Module, EndModule, Input, Output, Wire, Reg, Assign, Always, Posedge, If}
+use Rattle.ae_vtoken.specs.declared.token.Sign.TheVariants.{Open, Close, Comma, Semicolon, At, Equals, AtMost}
 use Rattle.ae_vread.specs.Tables.{signs, keys, unused_0, unused_1, unused_2, unused_3, unused_4, unused_5, unused_6, unused_7, unused_8, unused_9}
 use Rattle.ae_vread.specs.Tokens.{TokenTree, Name, Word, Mark, Zero, after_gap, Between, token_of, AreTokens, No_more, Then}
 use Rattle.ae_vread.specs.ModuleTree.{ExprTree, name}
 use Rattle.ae_vread.specs.ExprForms.{NumberForm, NameForm}
 use Rattle.ae_vread.specs.StmtForms.{SetForm, PutForm, IfForm}
 use Rattle.ae_vread.specs.Forms.{DriveForm, RegForm, ItemForm, WireDrives, RegItem, AssignItem, AlwaysItem, range_tokens, item_tokens}
-use Rattle.ae_vread.proofs.TokenLemmas.{spaced, mark, blank_then}
+use Rattle.ae_vtoken.proofs.TokenLemmas.{spaced, mark, blank_then}
 use Rattle.ae_verilog.specs.NetlistModule.{clock_name, number_name}
 use Rattle.ae_verilog.specs.Text.{expr_text, range_text, wire_text, value_text, widened_text, register_text, memory_text, register_edge, memory_edge}
 use Rattle.ae_verilog.proofs.Pieces.{IsNameText, IsClean, clean_both, clean_then, number_form, decimal_token, decimal_clean, number_named}

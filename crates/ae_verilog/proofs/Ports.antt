@@ -1,11 +1,11 @@
 -- The ports of a module, and their tokens: the text of a port ends in its name, so a lone byte stands behind it.
 use Rattle.std.proofs.Common.{◌≡◌, ℕ, ◌≤◌, List, [], ◌∷◌, ◌++◌, true, Some, refl, sym, subst, append_assoc}
 use Rattle.std.specs.Prelude.{codes}
-use Rattle.ae_vread.specs.declared.token.Key.TheVariants.{Module}
-use Rattle.ae_vread.specs.declared.token.Sign.TheVariants.{Open, Close, Comma, Semicolon}
+use Rattle.ae_vtoken.specs.declared.token.Key.TheVariants.{Module}
+use Rattle.ae_vtoken.specs.declared.token.Sign.TheVariants.{Open, Close, Comma, Semicolon}
 use Rattle.ae_vread.specs.Tokens.{TokenTree, Name, Word, Mark, token_of, AreTokens}
 use Rattle.ae_vread.specs.Forms.{PortHead, InputHead, OutputHead, PortForm, port_tokens}
-use Rattle.ae_vread.proofs.TokenLemmas.{is_lone, spaced, mark, blank_then}
+use Rattle.ae_vtoken.proofs.TokenLemmas.{is_lone, spaced, mark, blank_then}
 use Rattle.ae_verilog.specs.NetlistModule.{clock_name}
 use Rattle.ae_verilog.specs.Text.{range_text}
 use Rattle.ae_verilog.proofs.Pieces.{IsNameText, IsClean, clean_both, clean_then}

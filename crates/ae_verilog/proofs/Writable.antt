@@ -2,8 +2,8 @@
 use Rattle.std.proofs.Common.{◌≡◌, ℕ, ◌<◌, ◌≤◌, ◌^◌, List, [], ◌∷◌, ◌++◌, Bool, true, Option, Some, None, refl, sym, ap, ◌∙◌, subst, arith, append_assoc, zero, suc}
 use Rattle.std.specs.Prelude.{IsSome, codes, decimal, not, option_map}
 use Rattle.std.proofs.lemmas.Bool.{both_ways}
-use Rattle.ae_vread.specs.declared.token.Sign.{Sign}
-use Rattle.ae_vread.specs.declared.token.Sign.TheVariants.{OpenBracket, CloseBracket, Colon, Question, Tilde}
+use Rattle.ae_vtoken.specs.declared.token.Sign.{Sign}
+use Rattle.ae_vtoken.specs.declared.token.Sign.TheVariants.{OpenBracket, CloseBracket, Colon, Question, Tilde}
 use Rattle.ae_vread.specs.declared.module.UnOp.{UnOp}
 use Rattle.ae_vread.specs.declared.module.UnOp.TheVariants.{Not, Flip}
 use Rattle.ae_vread.specs.declared.module.BinOp.{BinOp}
@@ -12,7 +12,7 @@ use Rattle.ae_vread.specs.Tables.{signs}
 use Rattle.ae_vread.specs.Tokens.{TokenTree, Name, Mark, Sized, look_up, is_letter, token_of, IsLongest, AreTokens}
 use Rattle.ae_vread.specs.ModuleTree.{ExprTree, name, constant, place, part, index, unary, binary, choice, concat_one, concat_more}
 use Rattle.ae_vread.specs.ExprForms.{number_value, ExprForm, NameForm, ConstForm, PartForm, IndexForm, PrefixForm, InfixForm, ChoiceForm, LastPart, MoreParts, infix_sign, expr_tokens, expr_of}
-use Rattle.ae_vread.proofs.TokenLemmas.{is_lone, of_key, spaced, mark, blank_then, token_then}
+use Rattle.ae_vtoken.proofs.TokenLemmas.{is_lone, of_key, spaced, mark, blank_then, token_then}
 use Rattle.ae_verilog.specs.Text.{prefix_text, sign_text, expr_text}
 use Rattle.ae_verilog.proofs.Pieces.{IsNameText, number_form, decimal_token, sized_token, IsClean, clean_both, clean_then, decimal_clean}
 

@@ -3,9 +3,9 @@ use Rattle.std.proofs.Common.{◌≡◌, ℕ, zero, suc, ◌+◌, ◌-◌, ◌<�
 use Rattle.std.specs.Prelude.{nat_le, nat_lt, MatchOption}
 use Rattle.std.proofs.lemmas.Bool.{le-leb, lt-leb, ltb-true, cond-true, cond-false, leb-true, leb-false, cases_Bool}
 use Rattle.std.proofs.lemmas.Option.{cond_some}
-use Rattle.ae_vread.specs.Tokens.{TokenTree, Name, Word, Unused, Zero, Decimal, Sized, Mark}
-use Rattle.ae_vread.specs.declared.token.Sign.{Sign}
-use Rattle.ae_vread.specs.declared.token.Sign.TheVariants.{Open, Close, OpenBracket, CloseBracket, OpenBrace, CloseBrace, Comma, Colon, Question, Plus, Minus, Star, Amp, Bar, Caret, Tilde, Bang, Less, Greater, AtMost, AtLeast, Same, Differs, BothAmp, BothBar, ShiftLeft, ShiftRight}
+use Rattle.ae_vtoken.specs.Tokens.{TokenTree, Name, Word, Unused, Zero, Decimal, Sized, Mark}
+use Rattle.ae_vtoken.specs.declared.token.Sign.{Sign}
+use Rattle.ae_vtoken.specs.declared.token.Sign.TheVariants.{Open, Close, OpenBracket, CloseBracket, OpenBrace, CloseBrace, Comma, Colon, Question, Plus, Minus, Star, Amp, Bar, Caret, Tilde, Bang, Less, Greater, AtMost, AtLeast, Same, Differs, BothAmp, BothBar, ShiftLeft, ShiftRight}
 use Rattle.ae_vread.specs.declared.module.UnOp.{UnOp}
 use Rattle.ae_vread.specs.declared.module.BinOp.{BinOp}
 use Rattle.ae_vread.specs.ModuleTree.{ExprTree, name, constant, place, part, index, unary, binary, choice}

@@ -2,7 +2,7 @@
 use Rattle.std.proofs.Common.{◌≡◌, ℕ, ◌+◌, ◌≤◌, List, [], ◌∷◌, ◌++◌, length, length-append, Bool, true, false, Option, Some, None, refl, sym, ap, ◌∙◌, subst, arith, append_assoc, map}
 use Rattle.std.specs.Prelude.{option_map}
 use Rattle.std.specs.List.{flat_map, AllByRecursion}
-use Rattle.ae_vread.specs.Tokens.{TokenTree, Name, Word, Zero, Mark}
+use Rattle.ae_vtoken.specs.Tokens.{TokenTree, Name, Word, Zero, Mark}
 use Rattle.ae_vread.specs.ModuleTree.{NetTree, DriveTree, nets, assigns, always}
 use Rattle.ae_vread.specs.ExprForms.{NumberForm, ZeroForm, DecimalForm, number_value, expr_tokens, expr_of}
 use Rattle.ae_vread.specs.StmtForms.{stmt_tokens, stmt_of}
@@ -13,8 +13,8 @@ use Rattle.ae_vread.specs.ItemReading.{Entries, Step, range_from, range, net_by,
 use Rattle.ae_vread.specs.Places.{header_tokens, IsApart}
 use Rattle.ae_vread.specs.declared.module.NetKind.{NetKind}
 use Rattle.ae_vread.specs.declared.module.NetKind.TheVariants.{Input, Wire, OutWire}
-use Rattle.ae_vread.specs.declared.token.Key.TheVariants.{Wire as KeyWire, Reg as KeyReg, Input as KeyInput, Else}
-use Rattle.ae_vread.specs.declared.token.Sign.TheVariants.{Open, Close, OpenBracket, Comma, Semicolon, Equals}
+use Rattle.ae_vtoken.specs.declared.token.Key.TheVariants.{Wire as KeyWire, Reg as KeyReg, Input as KeyInput, Else}
+use Rattle.ae_vtoken.specs.declared.token.Sign.TheVariants.{Open, Close, OpenBracket, Comma, Semicolon, Equals}
 use Rattle.ae_vread.proofs.ExprAgain.{Ends, whole_again}
 use Rattle.ae_vread.proofs.StmtAgain.{IsFree, whole_stmt_again, free_from, semicolon_ends}
 use Rattle.ae_vread.proofs.ListLaws.{singles, listed_again, comma_again}

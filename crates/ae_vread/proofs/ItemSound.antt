@@ -3,7 +3,7 @@ use Rattle.std.proofs.Common.{◌≡◌, ℕ, ◌+◌, ◌≤◌, List, [], ◌�
 use Rattle.std.specs.Prelude.{option_map}
 use Rattle.std.specs.List.{flat_map, AllByRecursion}
 use Rattle.std.proofs.lemmas.Option.{cond_some}
-use Rattle.ae_vread.specs.Tokens.{TokenTree, Name, Word, Unused, Zero, Decimal, Sized, Mark}
+use Rattle.ae_vtoken.specs.Tokens.{TokenTree, Name, Word, Unused, Zero, Decimal, Sized, Mark}
 use Rattle.ae_vread.specs.ModuleTree.{NetTree, DriveTree, ItemTree, nets, assigns, always}
 use Rattle.ae_vread.specs.ExprForms.{NumberForm, number_token, number_value, expr_tokens, expr_of}
 use Rattle.ae_vread.specs.StmtForms.{stmt_tokens, stmt_of}
@@ -15,8 +15,8 @@ use Rattle.ae_vread.specs.ItemReading.{Entries, Step, is_zero, after_zero, range
 use Rattle.ae_vread.specs.Places.{IsApart, IsItemOf, header_tokens}
 use Rattle.ae_vread.specs.declared.module.NetKind.{NetKind}
 use Rattle.ae_vread.specs.declared.module.NetKind.TheVariants.{Input, Wire, OutWire, OutReg}
-use Rattle.ae_vread.specs.declared.token.Key.TheVariants.{Module as KeyModule, Input as KeyInput, Output as KeyOutput, Wire as KeyWire, Reg as KeyReg, Assign as KeyAssign, Always as KeyAlways, Posedge}
-use Rattle.ae_vread.specs.declared.token.Sign.TheVariants.{Open, Close, OpenBracket, CloseBracket, Comma, Semicolon, Colon, At, Equals}
+use Rattle.ae_vtoken.specs.declared.token.Key.TheVariants.{Module as KeyModule, Input as KeyInput, Output as KeyOutput, Wire as KeyWire, Reg as KeyReg, Assign as KeyAssign, Always as KeyAlways, Posedge}
+use Rattle.ae_vtoken.specs.declared.token.Sign.TheVariants.{Open, Close, OpenBracket, CloseBracket, Comma, Semicolon, Colon, At, Equals}
 use Rattle.ae_vread.proofs.TokenFronts.{bind_some, mark_was, word_was, name_was, IsNumber, number_was}
 use Rattle.ae_vread.proofs.ExprSound.{IsReading, whole_sound}
 use Rattle.ae_vread.proofs.StmtAgain.{free_to}

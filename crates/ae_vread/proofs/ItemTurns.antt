@@ -11,7 +11,7 @@ use Rattle.ae_vread.specs.declared.module.VNet.{VNet}
 use Rattle.ae_vread.specs.declared.module.NetKind.TheVariants.{Wire}
 use Rattle.ae_vread.specs.declared.reader.Held as c
 use Rattle.ae_vread.specs.declared.reader.VFault.{VFault}
-use Rattle.ae_vread.specs.declared.token.Key.TheVariants.{EndModule}
+use Rattle.ae_vtoken.specs.declared.token.Key.TheVariants.{EndModule}
 
 pub items_first : (m : ℕ) (h : Held) → items m 0 h ≡ items (m - 0) 0 h
 items_first m h = ap (λ n. items n 0 h) (let e : m ≡ m - 0 = omega arith in e)

@@ -1,16 +1,4 @@
-pub mod Examples
-pub mod TokenLemmas
-pub mod Scans
 pub mod Texts
-pub mod GapLemmas
-pub mod Passing
-pub mod Spans
-pub mod TokenAt
-pub mod MarkLemmas
-pub mod OneList
-pub mod DecimalLemmas
-pub mod SizedLemmas
-pub mod Exact
 pub mod Operators
 pub mod ExprAgain
 pub mod TokenFronts

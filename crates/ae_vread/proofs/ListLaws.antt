@@ -1,8 +1,8 @@
 -- Lists of entries with commas between them: what is written is read again, and what is read is written so.
 use Rattle.std.proofs.Common.{◌≡◌, ℕ, zero, suc, ◌+◌, ◌<◌, ◌≤◌, List, [], ◌∷◌, ◌++◌, length, length-append, Option, Some, None, refl, sym, ap, ◌∙◌, subst, arith, append_assoc, append-nil, map}
 use Rattle.std.specs.List.{flat_map, AllByRecursion}
-use Rattle.ae_vread.specs.Tokens.{TokenTree, Mark}
-use Rattle.ae_vread.specs.declared.token.Sign.TheVariants.{Comma}
+use Rattle.ae_vtoken.specs.Tokens.{TokenTree, Mark}
+use Rattle.ae_vtoken.specs.declared.token.Sign.TheVariants.{Comma}
 use Rattle.ae_vread.specs.Forms.{comma_tokens}
 use Rattle.ae_vread.specs.TokenTests.{◌>>=◌, after_mark}
 use Rattle.ae_vread.specs.ItemReading.{Entries, Step, by_entry, entries, listed, comma_of, with_comma}

@@ -1,7 +1,7 @@
 -- From what reading the tokens gives to what a text spells.
 use Rattle.std.proofs.Common.{◌≡◌, ℕ, List, Result, Ok, Err, refl, sym, ap, ◌∙◌, subst}
 use Rattle.std.specs.Prelude.{IfOk}
-use Rattle.ae_vread.specs.Tokens.{TokenTree, AreTokens, IsBadToken}
+use Rattle.ae_vtoken.specs.Tokens.{TokenTree, AreTokens, IsBadToken}
 use Rattle.ae_vread.specs.ModuleTree.{ModuleTree}
 use Rattle.ae_vread.specs.Forms.{module_tokens, module_of}
 use Rattle.ae_vread.specs.Spells.{Spells}
@@ -12,7 +12,7 @@ use Rattle.ae_vread.specs.Refusals.{HasFault, FaultHolds, GivesModule, IsOrMemor
 use Rattle.ae_vread.specs.declared.module.VModule.{VModule}
 use Rattle.ae_vread.specs.declared.reader.VFault.{VFault}
 use Rattle.ae_vread.specs.declared.reader.VFault.TheVariants.{BadToken, BadHeader, BadItem, Memory}
-use Rattle.ae_vread.proofs.OneList.{one_list, not_both, one_place}
+use Rattle.ae_vtoken.proofs.OneList.{one_list, not_both, one_place}
 use Rattle.ae_vread.proofs.ModuleLaws.{IsModule, ModuleMeans, module_means, module_again, bad_header_again, bad_item_again}
 
 abbrev Answer : Type 0

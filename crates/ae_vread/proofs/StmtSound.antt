@@ -1,10 +1,10 @@
 -- What is read as a statement is written so.
 use Rattle.std.proofs.Common.{◌≡◌, ℕ, zero, suc, ◌+◌, ◌≤◌, List, [], ◌∷◌, ◌++◌, length, Bool, true, false, Option, Some, None, refl, sym, ap, ◌∙◌, subst, arith, append_assoc, append-nil, max}
-use Rattle.ae_vread.specs.Tokens.{TokenTree, Name, Word, Unused, Zero, Decimal, Sized, Mark}
-use Rattle.ae_vread.specs.declared.token.Key.{Key}
-use Rattle.ae_vread.specs.declared.token.Key.TheVariants.{If, Else, Begin, End}
-use Rattle.ae_vread.specs.declared.token.Sign.{Sign}
-use Rattle.ae_vread.specs.declared.token.Sign.TheVariants.{Open, Close, OpenBracket, CloseBracket, Semicolon, AtMost}
+use Rattle.ae_vtoken.specs.Tokens.{TokenTree, Name, Word, Unused, Zero, Decimal, Sized, Mark}
+use Rattle.ae_vtoken.specs.declared.token.Key.{Key}
+use Rattle.ae_vtoken.specs.declared.token.Key.TheVariants.{If, Else, Begin, End}
+use Rattle.ae_vtoken.specs.declared.token.Sign.{Sign}
+use Rattle.ae_vtoken.specs.declared.token.Sign.TheVariants.{Open, Close, OpenBracket, CloseBracket, Semicolon, AtMost}
 use Rattle.ae_vread.specs.ModuleTree.{ExprTree, StmtTree, set, put, when, either, block_more, place}
 use Rattle.ae_vread.specs.ExprForms.{number_token, number_value, ExprForm, level, IsFormed, expr_tokens, expr_of, expr_depth}
 use Rattle.ae_vread.specs.StmtForms.{StmtForm, SetForm, PutPlaceForm, PutForm, IfForm, IfElseForm, BlockForm, NoMore, More, is_statement, is_open, IsStatement, test_tokens, stmt_tokens, stmt_of, stmt_depth}

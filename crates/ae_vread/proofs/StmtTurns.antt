@@ -1,8 +1,8 @@
 -- One turn of the loop over the statements of a block.
 use Rattle.std.proofs.Common.{◌≡◌, ℕ, zero, suc, ◌+◌, ◌-◌, ◌<◌, List, Option, Some, None, Result, refl, sym, ap, ◌∙◌, subst, arith}
-use Rattle.ae_vread.specs.Tokens.{TokenTree}
+use Rattle.ae_vtoken.specs.Tokens.{TokenTree}
 use Rattle.ae_vread.specs.declared.reading.ReadFault.{ReadFault}
-use Rattle.ae_vread.specs.declared.token.Key.TheVariants.{End}
+use Rattle.ae_vtoken.specs.declared.token.Key.TheVariants.{End}
 use Rattle.ae_vread.specs.TokenTests.{◌>>=◌, after_word}
 use Rattle.ae_vread.specs.StmtReading.{StmtFound, StmtReader, Body, with_statement, by_end, body, statement_at, statement}
 use Rattle.ae_vread.specs.ReadView.{Gives}

@@ -3,13 +3,13 @@ use Rattle.std.proofs.Common.{◌≡◌, ℕ, List, [], ◌∷◌, Bool, true, f
 use Rattle.std.specs.Prelude.{nat_eq}
 use Rattle.std.proofs.lemmas.Bool.{eqb-true}
 use Rattle.std.proofs.lemmas.Option.{cond_some}
-use Rattle.ae_vread.specs.Tokens.{TokenTree, Name, Word, Unused, Zero, Decimal, Sized, Mark}
+use Rattle.ae_vtoken.specs.Tokens.{TokenTree, Name, Word, Unused, Zero, Decimal, Sized, Mark}
 use Rattle.ae_vread.specs.ExprForms.{NumberForm, ZeroForm, DecimalForm, number_token, number_value}
 use Rattle.ae_vread.specs.TokenTests.{◌>>=◌, sign_number, key_number, is_mark, is_word, after_mark, after_word, name_of_token, first_name, number_of_token, first_number}
-use Rattle.ae_vread.specs.declared.token.Key.{Key}
-use Rattle.ae_vread.specs.declared.token.Key.TheVariants as k
-use Rattle.ae_vread.specs.declared.token.Sign.{Sign}
-use Rattle.ae_vread.specs.declared.token.Sign.TheVariants as s
+use Rattle.ae_vtoken.specs.declared.token.Key.{Key}
+use Rattle.ae_vtoken.specs.declared.token.Key.TheVariants as k
+use Rattle.ae_vtoken.specs.declared.token.Sign.{Sign}
+use Rattle.ae_vtoken.specs.declared.token.Sign.TheVariants as s
 
 -- a step that gave a value had one before it
 pub bind_some : {A B : Type 0} (o : Option A) (f : A → Option B) (y : B) → (o >>= f) ≡ Some y → (x : A) × (o ≡ Some x) × (f x ≡ Some y)

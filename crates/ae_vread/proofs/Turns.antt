@@ -1,12 +1,12 @@
 -- One turn of the loops over operators and over parts.
 use Rattle.std.proofs.Common.{◌≡◌, ℕ, zero, suc, ◌+◌, ◌-◌, ◌<◌, ◌≤◌, List, [], ◌∷◌, Bool, true, false, Option, Some, None, Result, refl, sym, ap, ◌∙◌, subst, arith, length}
-use Rattle.ae_vread.specs.Tokens.{TokenTree}
+use Rattle.ae_vtoken.specs.Tokens.{TokenTree}
 use Rattle.ae_vread.specs.declared.module.BinOp.{BinOp}
 use Rattle.ae_vread.specs.declared.reading.ReadFault.{ReadFault}
 use Rattle.ae_vread.specs.declared.reading.ReadFault.TheVariants.{Syntax, Memory}
-use Rattle.ae_vread.specs.declared.token.Token.{Token}
+use Rattle.ae_vtoken.specs.declared.token.Token.{Token}
 use Rattle.ae_vread.specs.ExprForms.{strength}
-use Rattle.ae_vread.specs.Scan.{views}
+use Rattle.ae_vtoken.specs.Scan.{views}
 use Rattle.ae_vread.specs.TokenTests.{◌>>=◌}
 use Rattle.ae_vread.specs.Reading.{Found, Reader, Parts, with_part, more_parts, parts, infix_at, joined, after_operator, operators, chosen, joined_at, expression}
 use Rattle.ae_vread.specs.ReadView.{Fails, Gives, Goes}
@@ -29,16 +29,16 @@ one_turn read n least x op ts below here =
     ap (λ k. operators read k least x) (let e : 256 - n ≡ suc (256 - (n + 1)) = omega arith in e)
     ∙ ap (after_operator read (operators read (256 - (n + 1)) least) x) here
 
-pub next_turn : (e : Option Found) (read : Reader) (n least : ℕ) (x y z : Found) (op : BinOp) (s : ℕ) (ts : List TokenTree) → n < 256 → s ≡ strength op → e ≡ operators read (256 - n) least x → infix_at least x.rest ≡ Some (op, ts) → read (s + 1) ts ≡ Some y → joined op x y ≡ Some z → e ≡ operators read (256 - (n + 1)) least z
+pub next_turn : (e : Option Found) (read : Reader) (n least : ℕ) (x y z : Found) (op : BinOp) (s : ℕ) (ts : List TokenTree) → n < 256 → s ≡ strength op + 1 → e ≡ operators read (256 - n) least x → infix_at least x.rest ≡ Some (op, ts) → read s ts ≡ Some y → joined op x y ≡ Some z → e ≡ operators read (256 - (n + 1)) least z
 next_turn e read n least x y z op s ts below is so_far here right both =
     so_far ∙ one_turn read n least x op ts below here
-    ∙ ap (λ o. o >>= joined op x >>= operators read (256 - (n + 1)) least) (ap (λ s. read (s + 1) ts) (sym is) ∙ right)
+    ∙ ap (λ o. o >>= joined op x >>= operators read (256 - (n + 1)) least) (ap (λ s. read s ts) (sym is) ∙ right)
     ∙ ap (λ o. o >>= operators read (256 - (n + 1)) least) both
 
-pub failed_turn : (fault : ReadFault) (e : Option Found) (read : Reader) (n least : ℕ) (x : Found) (op : BinOp) (s : ℕ) (ts : List TokenTree) → n < 256 → s ≡ strength op → e ≡ operators read (256 - n) least x → infix_at least x.rest ≡ Some (op, ts) → Fails fault (read (s + 1) ts) → Fails fault e
+pub failed_turn : (fault : ReadFault) (e : Option Found) (read : Reader) (n least : ℕ) (x : Found) (op : BinOp) (s : ℕ) (ts : List TokenTree) → n < 256 → s ≡ strength op + 1 → e ≡ operators read (256 - n) least x → infix_at least x.rest ≡ Some (op, ts) → Fails fault (read s ts) → Fails fault e
 failed_turn Syntax e read n least x op s ts below is so_far here right =
     so_far ∙ one_turn read n least x op ts below here
-    ∙ ap (λ o. o >>= joined op x >>= operators read (256 - (n + 1)) least) (ap (λ s. read (s + 1) ts) (sym is) ∙ right)
+    ∙ ap (λ o. o >>= joined op x >>= operators read (256 - (n + 1)) least) (ap (λ s. read s ts) (sym is) ∙ right)
 failed_turn Memory e read n least x op s ts below is so_far here right = tt
 
 pub last_turn : (e : Option Found) (read : Reader) (n least : ℕ) (x : Found) → 256 ≤ n → e ≡ operators read (256 - n) least x → e ≡ None

@@ -2,14 +2,14 @@
 -- A form keeps every free choice of the text: parentheses, an optional `wire`, the grouping of ports, lists of names.
 use Rattle.std.specs.Prelude.{◌≡◌, ℕ, ◌+◌, ◌≤◌, List, [], ◌∷◌, ◌++◌, Bool, true, false, Option, Some, None, map, min}
 use Rattle.std.specs.List.{flat_map, AllByRecursion}
-use Rattle.ae_vread.specs.Tokens.{TokenTree, Name, Word, Zero, Mark}
+use Rattle.ae_vtoken.specs.Tokens.{TokenTree, Name, Word, Zero, Mark}
 use Rattle.ae_vread.specs.ModuleTree.{NetTree, DriveTree, ItemTree, nets, assigns, always, ModuleTree}
 use Rattle.ae_vread.specs.ExprForms.{NumberForm, number_token, number_value, ExprForm, level, IsFormed, expr_tokens, expr_of, expr_depth}
 use Rattle.ae_vread.specs.StmtForms.{StmtForm, is_statement, IsStatement, stmt_tokens, stmt_of, stmt_depth}
 use Rattle.ae_vread.specs.declared.module.NetKind.{NetKind}
 use Rattle.ae_vread.specs.declared.module.NetKind.TheVariants.{Input, Wire, OutWire, Reg, OutReg, Memory}
-use Rattle.ae_vread.specs.declared.token.Key.TheVariants.{Module as KeyModule, EndModule, Input as KeyInput, Output as KeyOutput, Wire as KeyWire, Reg as KeyReg, Assign as KeyAssign, Always as KeyAlways, Posedge}
-use Rattle.ae_vread.specs.declared.token.Sign.TheVariants.{Open, Close, OpenBracket, CloseBracket, Comma, Semicolon, Colon, At, Equals}
+use Rattle.ae_vtoken.specs.declared.token.Key.TheVariants.{Module as KeyModule, EndModule, Input as KeyInput, Output as KeyOutput, Wire as KeyWire, Reg as KeyReg, Assign as KeyAssign, Always as KeyAlways, Posedge}
+use Rattle.ae_vtoken.specs.declared.token.Sign.TheVariants.{Open, Close, OpenBracket, CloseBracket, Comma, Semicolon, Colon, At, Equals}
 
 -- what a group of ports begins with; spelled tells whether the optional `wire` stands there
 pub data PortHead : Type 0 where

@@ -1,7 +1,7 @@
 -- What the readers of headers, items and modules of the code give, apart from where it lies in memory.
 use Rattle.std.specs.Prelude.{◌≡◌, ℕ, List, [], map, Option, Some, None, Result, Ok, Err, option_map, string_bytes}
 use Rattle.ae_vread.specs.ModuleTree.{ModuleTree}
-use Rattle.ae_vread.specs.Scan.{views}
+use Rattle.ae_vtoken.specs.Scan.{views}
 use Rattle.ae_vread.specs.View.{net_tree, item_tree, module_tree}
 use Rattle.ae_vread.specs.ItemReading as r
 use Rattle.ae_vread.specs.ItemReading.{header_found, item_found, held_of, TreeFault, HeaderFault, ItemFault}

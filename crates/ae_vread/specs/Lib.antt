@@ -1,12 +1,12 @@
+pub use Rattle.ae_vtoken.specs.Tables
+pub use Rattle.ae_vtoken.specs.Tokens
+pub use Rattle.ae_vtoken.specs.Scan
 pub mod ModuleTree
-pub mod Tables
-pub mod Tokens
 pub mod ExprForms
 pub mod StmtForms
 pub mod Forms
 pub mod Spells
 pub mod View
-pub mod Scan
 pub mod TokenTests
 pub mod Reading
 pub mod ReadView

@@ -1,8 +1,8 @@
 -- What the readers of lists and items of the code give, apart from where it lies in memory.
 use Rattle.std.specs.Prelude.{◌≡◌, ℕ, List, [], ◌∷◌, map, Option, Some, None, Result, Ok, Err, string_bytes}
-use Rattle.ae_vread.specs.Tokens.{TokenTree}
+use Rattle.ae_vtoken.specs.Tokens.{TokenTree}
 use Rattle.ae_vread.specs.ModuleTree.{NetTree, DriveTree}
-use Rattle.ae_vread.specs.Scan.{views}
+use Rattle.ae_vtoken.specs.Scan.{views}
 use Rattle.ae_vread.specs.View.{net_tree, drive_tree}
 use Rattle.ae_vread.specs.ItemReading.{Entries}
 use Rattle.ae_vread.specs.declared.lists.NetFound.{NetFound}

@@ -1,11 +1,11 @@
 -- Where the tokens of a text leave the grammar.
 use Rattle.std.specs.Prelude.{◌≡◌, ℕ, List, [], ◌∷◌, ◌++◌, true, length}
 use Rattle.std.specs.List.{flat_map}
-use Rattle.ae_vread.specs.Tokens.{TokenTree, Name, Word, Mark}
+use Rattle.ae_vtoken.specs.Tokens.{TokenTree, Name, Word, Mark}
 use Rattle.ae_vread.specs.StmtForms.{is_open}
 use Rattle.ae_vread.specs.Forms.{PortForm, port_tokens, comma_tokens, ItemForm, WireItem, WireDrives, RegItem, AssignItem, AlwaysItem, item_tokens, IsItem}
-use Rattle.ae_vread.specs.declared.token.Key.TheVariants.{Module, EndModule, Else}
-use Rattle.ae_vread.specs.declared.token.Sign.TheVariants.{Open, Close, Semicolon}
+use Rattle.ae_vtoken.specs.declared.token.Key.TheVariants.{Module, EndModule, Else}
+use Rattle.ae_vtoken.specs.declared.token.Sign.TheVariants.{Open, Close, Semicolon}
 
 -- what stands behind an item is no `else` that would be a part of it
 abbrev pub IsApart : ItemForm → List TokenTree → Type 0

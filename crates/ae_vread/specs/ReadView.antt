@@ -1,7 +1,7 @@
 -- What the readers of the code give, apart from where it lies in memory.
 use Rattle.std.specs.Prelude.{◌≡◌, ℕ, Bool, true, false, List, map, Option, Some, None, Result, Ok, Err}
-use Rattle.ae_vread.specs.Tokens.{TokenTree}
-use Rattle.ae_vread.specs.Scan.{views}
+use Rattle.ae_vtoken.specs.Tokens.{TokenTree}
+use Rattle.ae_vtoken.specs.Scan.{views}
 use Rattle.ae_vread.specs.View.{expr_tree, stmt_tree}
 use Rattle.ae_vread.specs.Reading as r
 use Rattle.ae_vread.specs.Reading.{found, parts_of}

@@ -1,11 +1,11 @@
 -- Reading an expression from a list of tokens, from the left, by the strengths of the operators.
 use Rattle.std.specs.Prelude.{◌≡◌, ℕ, zero, suc, ◌+◌, List, [], ◌∷◌, ◌++◌, Bool, true, false, max, length, Option, Some, None, if◌then◌else◌, nat_lt, nat_le}
-use Rattle.ae_vread.specs.Tokens.{TokenTree, Name, Word, Unused, Zero, Decimal, Sized, Mark}
+use Rattle.ae_vtoken.specs.Tokens.{TokenTree, Name, Word, Unused, Zero, Decimal, Sized, Mark}
 use Rattle.ae_vread.specs.ModuleTree.{ExprTree, name, constant, place, part, index, unary, binary, choice, concat_one, concat_more}
 use Rattle.ae_vread.specs.ExprForms.{strength}
 use Rattle.ae_vread.specs.TokenTests.{◌>>=◌, after_mark, first_number}
-use Rattle.ae_vread.specs.declared.token.Sign.{Sign}
-use Rattle.ae_vread.specs.declared.token.Sign.TheVariants.{Open, OpenBracket, CloseBracket, OpenBrace, CloseBrace, Close, Comma, Question, Colon, Plus, Minus, Star, Amp, Bar, Caret, Tilde, Bang, Less, Greater, AtMost, AtLeast, Same, Differs, BothAmp, BothBar, ShiftLeft, ShiftRight}
+use Rattle.ae_vtoken.specs.declared.token.Sign.{Sign}
+use Rattle.ae_vtoken.specs.declared.token.Sign.TheVariants.{Open, OpenBracket, CloseBracket, OpenBrace, CloseBrace, Close, Comma, Question, Colon, Plus, Minus, Star, Amp, Bar, Caret, Tilde, Bang, Less, Greater, AtMost, AtLeast, Same, Differs, BothAmp, BothBar, ShiftLeft, ShiftRight}
 use Rattle.ae_vread.specs.declared.module.UnOp.{UnOp}
 use Rattle.ae_vread.specs.declared.module.UnOp.TheVariants.{Not, Flip}
 use Rattle.ae_vread.specs.declared.module.BinOp.{BinOp}

@@ -1,6 +1,6 @@
 -- What the reader answers to a text.
 use Rattle.std.specs.Prelude.{◌≡◌, ℕ, List, Result, Ok, Err}
-use Rattle.ae_vread.specs.Tokens.{TokenTree, AreTokens, IsBadToken}
+use Rattle.ae_vtoken.specs.Tokens.{TokenTree, AreTokens, IsBadToken}
 use Rattle.ae_vread.specs.ModuleTree.{ModuleTree}
 use Rattle.ae_vread.specs.Places.{IsBadHeader, IsBadItem}
 use Rattle.ae_vread.specs.View.{module_tree}

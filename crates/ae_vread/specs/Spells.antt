@@ -1,7 +1,7 @@
 -- The module that a text spells, and what can be counted in it.
 use Rattle.std.specs.Prelude.{◌≡◌, ℕ, ◌+◌, List, sum_by}
 use Rattle.std.specs.List.{AllByRecursion}
-use Rattle.ae_vread.specs.Tokens.{AreTokens}
+use Rattle.ae_vtoken.specs.Tokens.{AreTokens}
 use Rattle.ae_vread.specs.Forms.{ModuleForm, module_tokens, module_of, IsItem}
 use Rattle.ae_vread.specs.ModuleTree.{ExprTree, name, constant, place, part, index, unary, binary, choice, concat_one, concat_more, StmtTree, set, put, when, either, block_end, block_more, DriveTree, ItemTree, nets, assigns, always, ModuleTree}
 use Rattle.ae_vread.specs.declared.module.BinOp.{BinOp}

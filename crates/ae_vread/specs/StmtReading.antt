@@ -1,12 +1,12 @@
 -- Reading a statement from a list of tokens, from the left.
 use Rattle.std.specs.Prelude.{◌≡◌, ℕ, zero, suc, ◌+◌, List, [], ◌∷◌, ◌++◌, max, length, Option, Some, None}
-use Rattle.ae_vread.specs.Tokens.{TokenTree, Name, Word}
+use Rattle.ae_vtoken.specs.Tokens.{TokenTree, Name, Word}
 use Rattle.ae_vread.specs.ModuleTree.{StmtTree, set, put, when, either, block_end, block_more, place}
 use Rattle.ae_vread.specs.TokenTests.{◌>>=◌, after_mark, after_word, first_number}
 use Rattle.ae_vread.specs.Reading.{Found, found, deeper, whole_expression}
-use Rattle.ae_vread.specs.declared.token.Key.TheVariants.{If, Else, Begin, End}
-use Rattle.ae_vread.specs.declared.token.Sign.{Sign}
-use Rattle.ae_vread.specs.declared.token.Sign.TheVariants.{Open, Close, OpenBracket, CloseBracket, Semicolon, AtMost}
+use Rattle.ae_vtoken.specs.declared.token.Key.TheVariants.{If, Else, Begin, End}
+use Rattle.ae_vtoken.specs.declared.token.Sign.{Sign}
+use Rattle.ae_vtoken.specs.declared.token.Sign.TheVariants.{Open, Close, OpenBracket, CloseBracket, Semicolon, AtMost}
 
 -- a statement, its depth, and the tokens behind it
 pub record StmtFound : Type 0 where

@@ -1,10 +1,10 @@
 -- Which token stands in front of others.
 use Rattle.std.specs.Prelude.{◌≡◌, ℕ, List, [], ◌∷◌, Bool, true, false, Option, Some, None, nat_eq, if◌then◌else◌}
-use Rattle.ae_vread.specs.Tokens.{TokenTree, Name, Word, Zero, Decimal, Mark}
-use Rattle.ae_vread.specs.declared.token.Key.{Key}
-use Rattle.ae_vread.specs.declared.token.Key.TheVariants as k
-use Rattle.ae_vread.specs.declared.token.Sign.{Sign}
-use Rattle.ae_vread.specs.declared.token.Sign.TheVariants as s
+use Rattle.ae_vtoken.specs.Tokens.{TokenTree, Name, Word, Zero, Decimal, Mark}
+use Rattle.ae_vtoken.specs.declared.token.Key.{Key}
+use Rattle.ae_vtoken.specs.declared.token.Key.TheVariants as k
+use Rattle.ae_vtoken.specs.declared.token.Sign.{Sign}
+use Rattle.ae_vtoken.specs.declared.token.Sign.TheVariants as s
 
 infixl 10 ◌>>=◌
 abbrev pub ◌>>=◌ : {A B : Type 0} → Option A → (A → Option B) → Option B

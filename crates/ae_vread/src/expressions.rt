@@ -1,19 +1,21 @@
 // Reading an expression from the tokens, by the strengths of the operators.
 
-ghost use Rattle.std.specs.Prelude.{◌≡◌, ◌+◌, ◌≤◌, ◌<◌, [], length, option_map, Option};
+ghost use Rattle.std.specs.Prelude.{◌≡◌, ◌+◌, ◌≤◌, ◌<◌, [], length, option_map, Option, Some};
+ghost use Rattle.ae_vread.specs.ModuleTree.{choice, binary};
+ghost use Rattle.ae_vread.specs.View.{expr_tree};
 ghost use Rattle.ae_vread.specs.ExprForms.{strength};
-ghost use Rattle.ae_vread.specs.Scan.{token_view, views};
+ghost use Rattle.ae_vtoken.specs.Scan.{token_view, views};
 ghost use Rattle.ae_vread.specs.TokenTests.{after_mark, first_number};
 ghost use Rattle.ae_vread.specs.Reading as r;
 ghost use Rattle.ae_vread.specs.Reading.{with_part, more_parts, expression, whole_expression, joined_at, chosen, chosen_of, unary_at, operand, named, selected, placed, indexed, parts, parts_of, braced, closed, prefixed, joined, infix_at, infix_of, sign_infix};
 ghost use Rattle.ae_vread.specs.ReadView.{found_view, parts_view, Gives, Continues};
-ghost use Rattle.ae_vread.specs.declared.token.Sign.TheVariants.{OpenBracket, Colon};
+ghost use Rattle.ae_vtoken.specs.declared.token.Sign.TheVariants.{OpenBracket, Colon};
 
 use crate::module::{BinOp, Expr, UnOp};
 use crate::reading::{
     Found, Parts, ReadFault, after_mark, deeper, first_number, want_mark, want_number,
 };
-use crate::token::{Sign, Token};
+use ae_vtoken::{Sign, Token};
 use std::alloc::Global;
 
 /// Reads an expression whose outermost operator is at least so strong and whose parts nest at most so deep.
@@ -58,7 +60,7 @@ fn joined_at<'t, 'a>(
         let Some((op, rest)) = infix_at(least, left.rest) else {
             return Ok(left);
         };
-        let right = expression(alloc, budget, strength(op) + 1, rest)?;
+        let right = expression(alloc, budget, above(op), rest)?;
         left = joined(alloc, op, left, right)?;
     }
     Err(ReadFault::Syntax)
@@ -94,18 +96,20 @@ fn chosen_of<'t, 'a>(
 ) -> Result<Found<'t, 'a>, ReadFault>
     ensures { Gives found_view result (chosen_of (found_view test.entry) (found_view first.entry) (found_view second.entry)) }
 {
-    let depth = deeper(test.depth.max(first.depth.max(second.depth)))?;
-    let Found { tree: a, .. } = test;
-    let Found { tree: b, .. } = first;
-    let Found { tree: c, rest, .. } = second;
-    let a = Box::new(alloc, a)?;
-    let b = Box::new(alloc, b)?;
-    let c = Box::new(alloc, c)?;
-    Ok(Found {
-        tree: Expr::Choose(a, b, c),
-        depth,
-        rest,
-    })
+    let depth = test.depth.max(first.depth.max(second.depth));
+    let rest = second.rest;
+    let tree = choice(alloc, test.tree, first.tree, second.tree)?;
+    let depth = deeper(depth)?;
+    Ok(Found { tree, depth, rest })
+}
+
+fn choice(alloc: Global, test: Expr, first: Expr, second: Expr) -> Result<Expr, ReadFault>
+    ensures { Gives expr_tree result (Some (choice (expr_tree test) (expr_tree first) (expr_tree second))) }
+{
+    let test = Box::new(alloc, test)?;
+    let first = Box::new(alloc, first)?;
+    let second = Box::new(alloc, second)?;
+    Ok(Expr::Choose(test, first, second))
 }
 
 /// An operand, or a prefix and an operand.
@@ -345,24 +349,19 @@ fn joined<'t, 'a>(
 ) -> Result<Found<'t, 'a>, ReadFault>
     ensures { Gives found_view result (joined op (found_view left.entry) (found_view right.entry)) }
 {
-    let Found {
-        tree: first,
-        depth: one,
-        rest: _,
-    } = left;
-    let Found {
-        tree: second,
-        depth: two,
-        rest,
-    } = right;
-    let depth = deeper(one.max(two))?;
-    let first = Box::new(alloc, first)?;
-    let second = Box::new(alloc, second)?;
-    Ok(Found {
-        tree: Expr::Binary(op, first, second),
-        depth,
-        rest,
-    })
+    let depth = left.depth.max(right.depth);
+    let rest = right.rest;
+    let tree = binary(alloc, op, left.tree, right.tree)?;
+    let depth = deeper(depth)?;
+    Ok(Found { tree, depth, rest })
+}
+
+fn binary(alloc: Global, op: BinOp, left: Expr, right: Expr) -> Result<Expr, ReadFault>
+    ensures { Gives expr_tree result (Some (binary op (expr_tree left) (expr_tree right))) }
+{
+    let left = Box::new(alloc, left)?;
+    let right = Box::new(alloc, right)?;
+    Ok(Expr::Binary(op, left, right))
 }
 
 /// The operator in front, where it is at least so strong, and the tokens behind it.
@@ -409,6 +408,13 @@ fn sign_infix(sign: Sign) -> Option<BinOp>
         Sign::BothBar => Some(BinOp::Either),
         _ => None,
     }
+}
+
+/// The least strength of what stands right of an operator, for operators group from the left.
+fn above(op: BinOp) -> u32
+    ensures { result ≡ strength op + 1 }
+{
+    strength(op) + 1
 }
 
 /// How strongly a binary operator binds.

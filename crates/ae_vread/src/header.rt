@@ -1,18 +1,18 @@
 // Reading a module's header from the tokens.
 
 ghost use Rattle.std.specs.Prelude.{◌≡◌, ◌++◌, Some, option_map};
-ghost use Rattle.ae_vread.specs.Scan.{views};
+ghost use Rattle.ae_vtoken.specs.Scan.{views};
 ghost use Rattle.ae_vread.specs.TokenTests.{after_word};
 ghost use Rattle.ae_vread.specs.ItemReading.{without_wire, output_from, port_head, port, with_comma, port_list, header_behind, header};
 ghost use Rattle.ae_vread.specs.ReadView.{Gives};
 ghost use Rattle.ae_vread.specs.ListView.{nets_view};
 ghost use Rattle.ae_vread.specs.ItemView.{header_view};
-ghost use Rattle.ae_vread.specs.declared.token.Key.TheVariants.{Wire as KeyWire, Reg as KeyReg};
+ghost use Rattle.ae_vtoken.specs.declared.token.Key.TheVariants.{Wire as KeyWire, Reg as KeyReg};
 
 use crate::lists::{NetList, net_list, range};
 use crate::module::{NetKind, VNet};
 use crate::reading::{ReadFault, after_mark, after_word, first_name, want_mark, want_word};
-use crate::token::{Key, Sign, Token};
+use ae_vtoken::{Key, Sign, Token};
 use std::alloc::Global;
 
 /// A module's name and ports, and the tokens behind its header.

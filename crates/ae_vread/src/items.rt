@@ -1,7 +1,7 @@
 // Reading a module's items from the tokens.
 
 ghost use Rattle.std.specs.Prelude.{◌≡◌, map, true, false, Some};
-ghost use Rattle.ae_vread.specs.Scan.{views};
+ghost use Rattle.ae_vtoken.specs.Scan.{views};
 ghost use Rattle.ae_vread.specs.View.{net_tree, drive_tree};
 ghost use Rattle.ae_vread.specs.ItemReading.{has_equals, drive_nets, wires, regs, assign_from, clock_from, always_from, wire_item, reg_item, item_at};
 ghost use Rattle.ae_vread.specs.ReadView.{Gives};
@@ -11,7 +11,7 @@ use crate::lists::{DriveList, NetList, drive_list, net, net_list, range, reg_lis
 use crate::module::{Drive, NetKind, VItem, VNet};
 use crate::reading::{ReadFault, after_mark, first_name, want_mark, want_word};
 use crate::statements::{StmtFound, whole_statement};
-use crate::token::{Key, Sign, Token};
+use ae_vtoken::{Key, Sign, Token};
 use std::alloc::Global;
 
 /// An item, what it declares, and the tokens behind it.
@@ -162,8 +162,8 @@ fn always_from<'t, 'a>(
     ensures { Gives item_view result (always_from (views tokens.now)) }
 {
     let (clock, behind) = clock_from(tokens)?;
-    let StmtFound { tree, rest, .. } = whole_statement(alloc, behind)?;
     let clock = String::from_str(alloc, clock)?;
+    let StmtFound { tree, rest, .. } = whole_statement(alloc, behind)?;
     Ok(ItemFound {
         nets: Vec::new(alloc),
         item: VItem::Always { clock, body: tree },

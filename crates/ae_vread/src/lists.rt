@@ -1,18 +1,18 @@
 // Reading lists of names, registers and drives from the tokens.
 
 ghost use Rattle.std.specs.Prelude.{◌≡◌, ◌++◌, Some, option_map};
-ghost use Rattle.ae_vread.specs.Scan.{views};
+ghost use Rattle.ae_vtoken.specs.Scan.{views};
 ghost use Rattle.ae_vread.specs.View.{net_tree};
 ghost use Rattle.ae_vread.specs.TokenTests.{after_mark};
 ghost use Rattle.ae_vread.specs.ItemReading.{one_more, net_by, one_net, comma_net, net_list, after_zero, range, reg_from, one_reg, with_comma, reg_list, drive_tree_of, one_drive, drive_list};
 ghost use Rattle.ae_vread.specs.ReadView.{Gives};
 ghost use Rattle.ae_vread.specs.ListView.{net_found, nets_view, drive_found, drives_view};
-ghost use Rattle.ae_vread.specs.declared.token.Sign.TheVariants.{OpenBracket};
+ghost use Rattle.ae_vtoken.specs.declared.token.Sign.TheVariants.{OpenBracket};
 
 use crate::expressions::whole_expression;
 use crate::module::{Drive, NetKind, VNet};
 use crate::reading::{Found, ReadFault, after_mark, first_name, want_mark, want_number};
-use crate::token::{Sign, Token};
+use ae_vtoken::{Sign, Token};
 use std::alloc::Global;
 
 /// A declared name, and the tokens behind it.

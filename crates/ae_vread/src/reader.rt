@@ -4,20 +4,19 @@ ghost use Rattle.std.specs.Prelude.{◌≡◌, ◌<◌, ◌^◌, length, IfOk, o
 ghost use Rattle.ae_vread.specs.ModuleTree.{ModuleTree};
 ghost use Rattle.ae_vread.specs.Spells.{Spells};
 ghost use Rattle.ae_vread.specs.View.{module_tree};
-ghost use Rattle.ae_vread.specs.Scan.{views};
+ghost use Rattle.ae_vtoken.specs.Scan.{views};
 ghost use Rattle.ae_vread.specs.TokenTests.{after_word};
 ghost use Rattle.ae_vread.specs.ItemReading.{with_item, finished, is_last, items, read_module, item_at};
 ghost use Rattle.ae_vread.specs.ItemView.{item_view, held_view, Makes, GivesHeld, GivesRead};
 ghost use Rattle.ae_vread.specs.declared.reader.VFault.{VFault};
 ghost use Rattle.ae_vread.specs.Refusals.{HasFault, FaultHolds, GivesModule, GivesFault};
-ghost use Rattle.ae_vread.specs.declared.token.Key.TheVariants.{EndModule};
+ghost use Rattle.ae_vtoken.specs.declared.token.Key.TheVariants.{EndModule};
 
 use crate::header::{HeaderFound, header};
 use crate::items::{ItemFound, item_at};
 use crate::module::{VItem, VModule, VNet};
 use crate::reading::{ReadFault, after_word};
-use crate::scan::{TokenFault, tokens};
-use crate::token::{Key, Token};
+use ae_vtoken::{Key, Token, TokenFault, tokens};
 use std::alloc::{AllocError, AllocFailed, Global};
 
 /// Why a text is no module of the profile.

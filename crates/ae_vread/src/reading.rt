@@ -1,13 +1,13 @@
 // Steps over tokens that the readers share.
 
 ghost use Rattle.std.specs.Prelude.{◌≡◌, option_map};
-ghost use Rattle.ae_vread.specs.Scan.{token_view, views};
+ghost use Rattle.ae_vtoken.specs.Scan.{token_view, views};
 ghost use Rattle.ae_vread.specs.TokenTests.{after_mark, after_word, is_mark, is_word, first_name, first_number};
 ghost use Rattle.ae_vread.specs.Reading.{deeper};
 ghost use Rattle.ae_vread.specs.ReadView.{Gives};
 
 use crate::module::Expr;
-use crate::token::{Key, Sign, Token};
+use ae_vtoken::{Key, Sign, Token};
 use std::alloc::{AllocError, AllocFailed};
 
 /// Why nothing was read.

@@ -1,17 +1,19 @@
 // Reading a statement from the tokens.
 
 ghost use Rattle.std.specs.Prelude.{◌≡◌, [], length, Some};
-ghost use Rattle.ae_vread.specs.Scan.{views};
+ghost use Rattle.ae_vtoken.specs.Scan.{views};
 ghost use Rattle.ae_vread.specs.TokenTests.{after_mark, after_word, first_number};
+ghost use Rattle.ae_vread.specs.ModuleTree.{when, either};
+ghost use Rattle.ae_vread.specs.View.{expr_tree, stmt_tree};
 ghost use Rattle.ae_vread.specs.StmtReading.{statement, whole_statement, statement_at, target_from, put_by, put_place, put_from, set_from, assigned, value_then, test_then, choice_from, alone_of, either_of, body, body_of, with_statement, blocked};
 ghost use Rattle.ae_vread.specs.ReadView.{found_view, stmt_view, body_view, Gives};
-ghost use Rattle.ae_vread.specs.declared.token.Key.TheVariants.{Else};
-ghost use Rattle.ae_vread.specs.declared.token.Sign.TheVariants.{OpenBracket};
+ghost use Rattle.ae_vtoken.specs.declared.token.Key.TheVariants.{Else};
+ghost use Rattle.ae_vtoken.specs.declared.token.Sign.TheVariants.{OpenBracket};
 
 use crate::expressions::whole_expression;
 use crate::module::{Expr, Stmt};
 use crate::reading::{Found, ReadFault, after_mark, after_word, deeper, first_number, want_mark};
-use crate::token::{Key, Sign, Token};
+use ae_vtoken::{Key, Sign, Token};
 use std::alloc::Global;
 
 /// A statement, its depth, and the tokens behind it.
@@ -230,26 +232,21 @@ fn alone<'t, 'a>(
 ) -> Result<StmtFound<'t, 'a>, ReadFault>
     ensures { Gives stmt_view result (alone_of (found_view test.entry) (stmt_view first.entry)) }
 {
-    let Found {
-        tree: test,
-        depth: one,
-        rest: _,
-    } = test;
-    let StmtFound {
-        tree,
-        depth: two,
-        rest,
-    } = first;
-    let depth = deeper(one.max(two))?;
-    let yes = Box::new(alloc, tree)?;
-    Ok(StmtFound {
-        tree: Stmt::If {
-            test,
-            yes,
-            no: None,
-        },
-        depth,
-        rest,
+    let depth = test.depth.max(first.depth);
+    let rest = first.rest;
+    let tree = only_if(alloc, test.tree, first.tree)?;
+    let depth = deeper(depth)?;
+    Ok(StmtFound { tree, depth, rest })
+}
+
+fn only_if(alloc: Global, test: Expr, first: Stmt) -> Result<Stmt, ReadFault>
+    ensures { Gives stmt_tree result (Some (when (expr_tree test) (stmt_tree first))) }
+{
+    let yes = Box::new(alloc, first)?;
+    Ok(Stmt::If {
+        test,
+        yes,
+        no: None,
     })
 }
 
@@ -261,20 +258,22 @@ fn either_of<'t, 'a>(
 ) -> Result<StmtFound<'t, 'a>, ReadFault>
     ensures { Gives stmt_view result (either_of (found_view test.entry) (stmt_view first.entry) (stmt_view second.entry)) }
 {
-    let depth = deeper(test.depth.max(first.depth.max(second.depth)))?;
-    let Found { tree: test, .. } = test;
-    let StmtFound { tree: a, .. } = first;
-    let StmtFound { tree: b, rest, .. } = second;
-    let yes = Box::new(alloc, a)?;
-    let no = Box::new(alloc, b)?;
-    Ok(StmtFound {
-        tree: Stmt::If {
-            test,
-            yes,
-            no: Some(no),
-        },
-        depth,
-        rest,
+    let depth = test.depth.max(first.depth.max(second.depth));
+    let rest = second.rest;
+    let tree = choice(alloc, test.tree, first.tree, second.tree)?;
+    let depth = deeper(depth)?;
+    Ok(StmtFound { tree, depth, rest })
+}
+
+fn choice(alloc: Global, test: Expr, first: Stmt, second: Stmt) -> Result<Stmt, ReadFault>
+    ensures { Gives stmt_tree result (Some (either (expr_tree test) (stmt_tree first) (stmt_tree second))) }
+{
+    let yes = Box::new(alloc, first)?;
+    let no = Box::new(alloc, second)?;
+    Ok(Stmt::If {
+        test,
+        yes,
+        no: Some(no),
     })
 }
 

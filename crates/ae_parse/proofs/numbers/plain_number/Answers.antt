@@ -2,11 +2,13 @@ use Rattle.std.proofs.Common.{◌≡◌, ℕ, ◌<◌, ◌^◌, List, Some, None
 use Rattle.std.specs.Fmt.{decimal}
 use Rattle.ae_parse.specs.Number.{number_of}
 use Rattle.ae_parse.proofs.Plain.{zero-led, number-of-decimal, decimal-of-number, one-digit}
-use Rattle.ae_parse.proofs.numbers.plain_number.Goals.{else-digits-gt1-via-then-digits-gt1+else-digits-eq48, else-digits-gt1-via-else-digits-gt1, then-value-from-via-then-value-from, then-value-from-via-else-value-from+then-value-from-2}
+use Rattle.ae_parse.proofs.numbers.plain_number.Goals.{then-value-from-via-then-value-from, then-value-from-via-else-value-from+then-value-from-2}
 use Rattle.ae_parse.proofs.numbers.plain_number.Goals as goal
 
-pub returns-then-digits-eq48 : goal.returns-then-digits-eq48
-returns-then-digits-eq48 c = λ n a b e. zero-led c.args.digits.now c.if-digits-gt1.true c.if-digits-eq48.true n (omega arith) e
+pub returns-then-has_leading_zero : goal.returns-then-has_leading_zero
+returns-then-has_leading_zero c = λ n a b e.
+    let zero = c.has_leading_zero.ensures.there c.if-has_leading_zero.true in
+    zero-led c.args.digits.now zero.0 zero.1 n (omega arith) e
 
 no-number : (ds : List ℕ) (n : ℕ) → number_of ds ≡ None → n < 2 ^ 64 → ds ≡ decimal n → ⊥
 no-number ds n none h e = let s = number-of-decimal ds n h e in cc
@@ -28,8 +30,5 @@ returns-then-value-from c = λ n a b e.
 pub returns : goal.returns
 returns c =
     let ds = c.args.digits.now in
-    let led : get_or ds 0 0 ≡ 48 → length ds ≡ 1 = λ z. elim c.else-digits-gt1.branch [
-      | else-digits-gt1-via-then-digits-gt1+else-digits-eq48 w ↦ absurd (w.if-digits-eq48.false z)
-      | else-digits-gt1-via-else-digits-gt1 w ↦ one-digit ds (omega arith) z
-    ] in
+    let led : get_or ds 0 0 ≡ 48 → length ds ≡ 1 = λ z. one-digit ds (c.has_leading_zero.ensures.none c.if-has_leading_zero.false z) z in
     (omega arith, omega arith, decimal-of-number ds c.in-Some.value (sym c.number.ensures ∙ c.in-Some.is) led)

@@ -1,6 +1,6 @@
 use Rattle.std.proofs.Common.{◌-◌, ◌<◌, length, arith}
 use Rattle.std.proofs.lemmas.Result.{err_from_is_err_and}
-use Rattle.ae_vread.specs.Scan.{views}
+use Rattle.ae_vtoken.specs.Scan.{views}
 use Rattle.ae_vread.specs.Reading.{expression}
 use Rattle.ae_vread.specs.ReadView.{found_view, parts_view}
 use Rattle.ae_vread.proofs.Turns.{length_views, whole_step, next_turn, failed_turn, last_turn, parts_fail, parts_end, parts_next}
@@ -14,12 +14,12 @@ pub joined_at-returns-in_err-right : goal.joined_at-returns-in_err-right
 joined_at-returns-in_err-right t c =
     let exit = err_from_is_err_and c.from_residual-in_err-right.result c.from_residual-in_err-right.ensures.1 in
     rw (exit.1, exit.2)
-    (failed_turn c.in_err-right.field-0.0 _ (expression c.args.budget) c.turn.turn c.args.least (found_view c.turn.left) c.in-Some.op c.strength.result (views c.in-Some.rest.now) c.turn-test.true c.strength.ensures c.turn.invariant c.in-Some.ensures c.in_err-right.ensures)
+    (failed_turn c.in_err-right.field-0.0 _ (expression c.args.budget) c.turn.turn c.args.least (found_view c.turn.left) c.in-Some.op c.above.result (views c.in-Some.rest.now) c.turn-test.true c.above.ensures c.turn.invariant c.in-Some.ensures c.in_err-right.ensures)
 
 -- one operator more
 pub joined_at-turn-preserved : goal.joined_at-turn-preserved
 joined_at-turn-preserved t c =
-    next_turn _ (expression c.args.budget) c.turn.turn c.args.least (found_view c.turn.left) (found_view c.in_ok-right.right) (found_view c.in_ok-left-2.left) c.in-Some.op c.strength.result (views c.in-Some.rest.now) c.turn-test.true c.strength.ensures c.turn.invariant c.in-Some.ensures c.in_ok-right.ensures c.in_ok-left-2.ensures
+    next_turn _ (expression c.args.budget) c.turn.turn c.args.least (found_view c.turn.left) (found_view c.in_ok-right.right) (found_view c.in_ok-left-2.left) c.in-Some.op c.above.result (views c.in-Some.rest.now) c.turn-test.true c.above.ensures c.turn.invariant c.in-Some.ensures c.in_ok-right.ensures c.in_ok-left-2.ensures
 
 pub joined_at-returns : goal.joined_at-returns
 joined_at-returns t c = last_turn _ (expression c.args.budget) c.turn.turn c.args.least (found_view c.turn.left) (omega (arith, c.turn-test.false)) c.turn.invariant

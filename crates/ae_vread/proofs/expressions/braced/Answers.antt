@@ -1,5 +1,5 @@
 use Rattle.std.proofs.Common.{◌∙◌, ap, sym, Some, map}
-use Rattle.ae_vread.specs.Scan.{views}
+use Rattle.ae_vtoken.specs.Scan.{views}
 use Rattle.ae_vread.specs.View.{expr_tree}
 use Rattle.ae_vread.specs.Reading.{found, concat_of}
 use Rattle.ae_vread.specs.TokenTests.{◌>>=◌}

@@ -1,7 +1,7 @@
 use Rattle.std.proofs.Common.{◌<◌, ◌≤◌, ◌∙◌, ap, refl, length, Some, arith}
 use Rattle.std.specs.Prelude.{option_map}
 use Rattle.std.proofs.lemmas.Result.{err_from_is_err_and}
-use Rattle.ae_vread.specs.Scan.{views}
+use Rattle.ae_vtoken.specs.Scan.{views}
 use Rattle.ae_vread.specs.ItemReading.{port, with_comma}
 use Rattle.ae_vread.specs.ListView.{nets_view}
 use Rattle.ae_vread.proofs.Turns.{length_views}

@@ -1,5 +1,5 @@
 use Rattle.std.proofs.Common.{◌≡◌, ◌-◌, length}
-use Rattle.ae_vread.specs.Scan.{views}
+use Rattle.ae_vtoken.specs.Scan.{views}
 use Rattle.ae_vread.specs.ItemReading.{entries, with_comma, port, port_list}
 use Rattle.ae_vread.specs.ListView.{nets_view}
 use Rattle.ae_vread.proofs.header.port_list.Given as goal

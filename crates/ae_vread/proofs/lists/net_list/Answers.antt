@@ -1,6 +1,6 @@
 use Rattle.std.proofs.Common.{◌<◌, ◌≤◌, ◌∙◌, ap, refl, length, Some, arith}
 use Rattle.std.specs.Prelude.{option_map}
-use Rattle.ae_vread.specs.Scan.{views}
+use Rattle.ae_vtoken.specs.Scan.{views}
 use Rattle.ae_vread.specs.ItemReading.{net_by, one_net, comma_net}
 use Rattle.ae_vread.specs.ListView.{net_found, nets_view}
 use Rattle.ae_vread.proofs.Turns.{length_views}

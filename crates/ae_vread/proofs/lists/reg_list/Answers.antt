@@ -1,6 +1,6 @@
 use Rattle.std.proofs.Common.{◌<◌, ◌≤◌, ◌∙◌, ap, refl, length, Some, arith}
 use Rattle.std.specs.Prelude.{option_map}
-use Rattle.ae_vread.specs.Scan.{views}
+use Rattle.ae_vtoken.specs.Scan.{views}
 use Rattle.ae_vread.specs.ItemReading.{one_reg, with_comma}
 use Rattle.ae_vread.specs.ListView.{net_found, nets_view}
 use Rattle.ae_vread.proofs.Turns.{length_views}

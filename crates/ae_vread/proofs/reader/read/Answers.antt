@@ -1,5 +1,5 @@
 use Rattle.std.proofs.Common.{subst}
-use Rattle.ae_vread.specs.Scan.{views}
+use Rattle.ae_vtoken.specs.Scan.{views}
 use Rattle.ae_vread.specs.ItemReading.{read_module}
 use Rattle.ae_vread.specs.ItemView.{GivesRead}
 use Rattle.ae_vread.proofs.ReadLaws.{spelled_of, fault_of, every_module_of, every_fault_of}

@@ -1,5 +1,5 @@
 use Rattle.std.proofs.Common.{◌<◌, length, arith}
-use Rattle.ae_vread.specs.Scan.{views}
+use Rattle.ae_vtoken.specs.Scan.{views}
 use Rattle.ae_vread.specs.StmtReading.{statement}
 use Rattle.ae_vread.specs.ReadView.{stmt_view, body_view}
 use Rattle.ae_vread.proofs.Turns.{length_views}

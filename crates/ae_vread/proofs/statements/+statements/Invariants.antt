@@ -1,6 +1,6 @@
 use Rattle.std.proofs.Common.{◌≡◌, ◌+◌, ◌-◌, ◌*◌, [], length}
 use Rattle.ae_vread.specs.StmtReading.{statement, body, body_of}
-use Rattle.ae_vread.specs.Scan.{views}
+use Rattle.ae_vtoken.specs.Scan.{views}
 use Rattle.ae_vread.specs.ReadView.{body_view}
 use Rattle.ae_vread.proofs.statements.+statements.Given as goal
 

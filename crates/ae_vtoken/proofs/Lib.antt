@@ -1,0 +1,12 @@
+pub mod Examples
+pub mod TokenLemmas
+pub mod Scans
+pub mod GapLemmas
+pub mod Passing
+pub mod Spans
+pub mod TokenAt
+pub mod MarkLemmas
+pub mod OneList
+pub mod DecimalLemmas
+pub mod SizedLemmas
+pub mod Exact
