@@ -5,24 +5,18 @@ mod build;
 mod compounds;
 mod declare;
 mod edges;
-mod fault;
 mod forms;
 mod gates;
-mod judge;
 mod laws;
 mod lower;
 mod order;
 mod outputs;
 mod own;
 mod reads;
-mod shape;
 mod sort;
 mod statements;
-#[cfg(test)]
-mod tests;
 mod wires;
 
+pub use ae_judge::ElabFault;
 pub use build::elaborate;
-pub use fault::ElabFault;
 pub use laws::{guards_do, one_run, same_runs};
-pub use shape::spelled_shape;
