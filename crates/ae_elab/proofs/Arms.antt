@@ -14,9 +14,9 @@ use Rattle.ae_vread.specs.ModuleTree.{ExprTree, name, constant, place, part, ind
 use Rattle.ae_vread.specs.View.{expr_tree}
 use Rattle.ae_vread.specs.Reading.{concat_of}
 use Rattle.ae_vread.proofs.Rows.{concat_view}
-use Rattle.ae_elab.specs.Names.{is_memory}
-use Rattle.ae_elab.specs.Widths.{own_width}
-use Rattle.ae_elab.specs.Values.{ModuleClock, left_width, right_width, binary_result, value_at, own_value}
+use Rattle.ae_judge.specs.Names.{is_memory}
+use Rattle.ae_judge.specs.Widths.{own_width}
+use Rattle.ae_elab.specs.Values.{ModuleClock, left_width, right_width, binary_result, value_at}
 use Rattle.ae_elab.specs.declared.compounds.Way.{Way}
 use Rattle.ae_elab.specs.Shifts.{moved}
 use Rattle.ae_elab.specs.Forms.{IsShiftForm}
@@ -106,7 +106,7 @@ module _ (from : ℕ) (ns : List NetTree) (nets : List (Option NetId)) where
       (h _ _ _ (word_grows g2 (word_grows g1 (p at named))) (word_grows g2 (q at named)) (s at named)))
 
   pub concat_arm : {E : Type 0} (m1 m2 : List SizedCell) (r : Result NetId E) (x u w : ℕ) (ps : List ExprTree) → 1 ≤ length ps
-      → ((at : List ℕ → ℕ) → AreNamed ns nets at → IsWord from m1 x u (λ run t. own_value ns (read at run t) (concat_of ps)))
+      → Has from ns nets m1 x u (concat_of ps)
       → IfOk r (λ y. (f : List Clock → ℕ → ℕ) → IsWord from m1 x u f → IsWord from m2 y.0 w f)
       → IfOk r (λ y. Has from ns nets m2 y.0 w (concat_of ps))
-  concat_arm m1 m2 r x u w ps some p = ok_map r (λ y h at named. same_word _ _ (λ run t. any_width ns (read at run t) ps (own_width ns (concat_of ps)) w some) (h _ (p at named)))
+  concat_arm m1 m2 r x u w ps some p = ok_map r (λ y h at named. same_word _ _ (λ run t. any_width ns (read at run t) ps u w some) (h _ (p at named)))

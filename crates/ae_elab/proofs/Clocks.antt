@@ -5,9 +5,9 @@ use Rattle.std.proofs.lemmas.Bool.{cases_Bool, both_ways, cond-true, cond-false,
 use Rattle.ae_vread.specs.declared.module.NetKind.{NetKind}
 use Rattle.ae_vread.specs.declared.module.NetKind.TheVariants.{Input, Wire, OutWire, Reg, OutReg, Memory}
 use Rattle.ae_vread.specs.ModuleTree.{StmtTree, NetTree, ItemTree, nets, assigns, always, ModuleTree}
-use Rattle.ae_elab.specs.Names.{Among, clock_or, first_clock, is_clock, is_input_kind, is_named, is_one_bit_input, is_output_kind, is_wire_kind, passes}
-use Rattle.ae_elab.specs.Regular.{IsRegular}
-use Rattle.ae_elab.proofs.Members.{same_bytes}
+use Rattle.ae_judge.specs.Names.{Among, clock_or, first_clock, is_clock, is_input_kind, is_named, is_one_bit_input, is_output_kind, is_wire_kind, passes}
+use Rattle.ae_judge.specs.Regular.{IsRegular}
+use Rattle.ae_judge.proofs.Members.{same_bytes}
 use Rattle.ae_elab.proofs.Declared.{found_net, not_false, not_true, right_item, wire_no_input}
 
 pub output_no_input : (k : NetKind) → is_output_kind k ≡ true → is_input_kind k ≡ false

@@ -3,8 +3,8 @@ use Rattle.std.proofs.Common.{ℕ, ◌≡◌, Bool, false, refl}
 use Rattle.ae_vread.specs.ModuleTree.{ExprTree}
 use Rattle.ae_vread.specs.View.{expr_tree, parts_tree, parts_behind}
 use Rattle.ae_vread.specs.declared.module.Expr.{Expr, Name, Const, Place, Part, Index', Unary', Binary', Choose', Concat', Row_of-Expr, end_of-Expr, more_of-Expr}
-use Rattle.ae_elab.specs.Weight.{shift_weight}
-use Rattle.ae_elab.specs.Faults.{is_place}
+use Rattle.ae_judge.specs.Weight.{shift_weight}
+use Rattle.ae_judge.specs.Faults.{is_place}
 
 row_behind : {m : _} → (first : ExprTree) (row : Row_of-Expr m) → (is_place (parts_behind first row) ≡ false) × (shift_weight (parts_behind first row) ≡ 6)
 row_behind first end_of-Expr = (refl, refl)

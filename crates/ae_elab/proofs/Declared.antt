@@ -6,11 +6,11 @@ use Rattle.std.proofs.lemmas.Bool.Decides.{Decides-ltb}
 use Rattle.ae_vread.specs.declared.module.NetKind.{NetKind}
 use Rattle.ae_vread.specs.declared.module.NetKind.TheVariants.{Input, Wire, OutWire, Reg, OutReg, Memory}
 use Rattle.ae_vread.specs.ModuleTree.{ExprTree, StmtTree, set, put, when, either, block_end, block_more, NetTree, DriveTree, ItemTree, nets, assigns, always, ModuleTree}
-use Rattle.ae_elab.specs.Names.{Among, is_input_kind, is_wire_kind, is_register_kind, is_memory_kind, net_named, passes, is_wire, is_register, is_memory, is_clock, names_in, stmt_reads, stmt_targets, target_of, drive_reads, drives_of, item_reads, item_targets, equations}
-use Rattle.ae_elab.specs.Faults.{ItemAt, NetAt, IsDeclaredBefore, may_repeat, is_misused, is_misused_in_stmt, is_misused_in_drive, is_misused_in_item, IsWellFormed}
-use Rattle.ae_elab.specs.Regular.{IsRegular}
+use Rattle.ae_judge.specs.Names.{Among, is_input_kind, is_wire_kind, is_register_kind, is_memory_kind, net_named, passes, is_wire, is_register, is_memory, is_clock, names_in, stmt_reads, stmt_targets, target_of, drive_reads, drives_of, item_reads, item_targets, equations}
+use Rattle.ae_judge.specs.Faults.{ItemAt, NetAt, IsDeclaredBefore, may_repeat, is_misused, is_misused_in_stmt, is_misused_in_drive, is_misused_in_item, IsWellFormed}
+use Rattle.ae_judge.specs.Regular.{IsRegular}
 use Rattle.ae_elab.specs.PlainRun.{drive_named}
-use Rattle.ae_elab.proofs.Members.{same_bytes, bytes_same, among_split, among_at, among_from, among_map, among_unmap, among_flat, among_unflat, among_or_not, some_or_not, find_some, find_none, find_only, none_passes}
+use Rattle.ae_judge.proofs.Members.{same_bytes, bytes_same, among_split, among_at, among_from, among_map, among_unmap, among_flat, among_unflat, among_or_not, some_or_not, find_some, find_none, find_only, none_passes}
 
 -- the name is declared and is not the clock
 pub record IsData (m : ModuleTree) (n : List ℕ) : Type 0 where

@@ -16,7 +16,7 @@ use Rattle.ae_netlist.proofs.Growing.{extends_append, keeps_extends}
 use Rattle.ae_vread.specs.declared.module.NetKind.{NetKind}
 use Rattle.ae_vread.specs.declared.module.NetKind.TheVariants.{Input, Wire, OutWire, Reg, OutReg, Memory}
 use Rattle.ae_vread.specs.ModuleTree.{NetTree, ModuleTree}
-use Rattle.ae_elab.specs.Names.{is_clock, is_input_kind, is_register_kind}
+use Rattle.ae_judge.specs.Names.{is_clock, is_input_kind, is_register_kind}
 use Rattle.ae_elab.specs.SameRuns.{is_input_cell, is_state_cell, cell_depth, input_cells, kind_depth}
 use Rattle.ae_elab.specs.Named.{StandsFor}
 use Rattle.ae_elab.specs.Declaring.{Adds, AreDeclared, ArePlainInputs, IsUnconnected, given_cell, is_data_input, is_given, is_state, number_of, with_nets}

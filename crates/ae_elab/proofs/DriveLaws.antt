@@ -3,10 +3,10 @@ use Rattle.std.proofs.Common.{ℕ, ◌⊎◌, zero, suc, ◌≡◌, ◌+◌, ◌
 use Rattle.std.proofs.lemmas.Bool.{cases_eq}
 use Rattle.std.proofs.lemmas.Option.{slice_get_within, slice_get-get_or}
 use Rattle.ae_vread.specs.ModuleTree.{ExprTree, NetTree, DriveTree, ModuleTree}
-use Rattle.ae_elab.specs.Names.{Among, names_in, equations}
-use Rattle.ae_elab.specs.Faults.{NetAt, Feeds, Reaches, at_once, through, HasLoop, Never}
-use Rattle.ae_elab.specs.Shape.{IsShapely}
-use Rattle.ae_elab.specs.Regular.{IsRegular}
+use Rattle.ae_judge.specs.Names.{Among, names_in, equations}
+use Rattle.ae_judge.specs.Faults.{NetAt, Feeds, Reaches, at_once, through, HasLoop, Never}
+use Rattle.ae_judge.specs.Shape.{IsShapely}
+use Rattle.ae_judge.specs.Regular.{IsRegular}
 use Rattle.ae_elab.specs.Graph as g
 use Rattle.ae_elab.specs.Walks.{Fails}
 use Rattle.ae_elab.specs.declared.sort.OrderFault.{OrderFault}
@@ -16,7 +16,7 @@ use Rattle.ae_elab.specs.Sound.{IsSound}
 use Rattle.ae_elab.specs.Drives.{AreDriven, AreSoundValues, FeedsAt, IsFlat, IsLoopFault, IsWireOrder, noted, places_in, values_of, with_drive}
 use Rattle.ae_elab.proofs.GraphGets.{get_set_other, get_set_same}
 use Rattle.ae_elab.proofs.GraphWalks.{none_loops}
-use Rattle.ae_elab.proofs.Members.{among_from, among_map, among_unmap, among_unflat, some_or_not}
+use Rattle.ae_judge.proofs.Members.{among_from, among_map, among_unmap, among_unflat, some_or_not}
 use Rattle.ae_elab.proofs.Declared.{named_net, driven_net, equation_once, equation_readable}
 use Rattle.ae_elab.proofs.FlatLaws.{needs_read, read_needs, all_targets}
 use Rattle.ae_elab.proofs.SoundOf.{equation_sound, named_of, place_is}

@@ -4,14 +4,14 @@ use Rattle.ae_netlist.specs.declared.cell.NetId.{NetId}
 use Rattle.ae_netlist.specs.Circuit.{Circuit}
 use Rattle.ae_netlist.specs.Runs.{Clock, InEveryRunFrom}
 use Rattle.ae_vread.specs.ModuleTree.{StmtTree, block_end, block_more, NetTree}
-use Rattle.ae_elab.specs.Names.{Among, stmt_targets}
-use Rattle.ae_elab.specs.Weight.{stmt_weight}
+use Rattle.ae_judge.specs.Names.{Among, stmt_targets}
+use Rattle.ae_judge.specs.Weight.{stmt_weight}
 use Rattle.ae_elab.specs.Cells.{Grows}
 use Rattle.ae_elab.specs.Named.{AreNamed, read}
 use Rattle.ae_elab.specs.Guards.{guarded}
 use Rattle.ae_elab.specs.Edges.{IsSoundStmt, IsReadyStmt, IsGuard, FitNexts, AreFresh, OthersKeep, next_read, Acts}
 use Rattle.ae_elab.specs.declared.statements.Next.{Next}
-use Rattle.ae_elab.proofs.Members.{among_left, among_right}
+use Rattle.ae_judge.proofs.Members.{among_left, among_right}
 use Rattle.ae_elab.proofs.Words.{back, grows_refl, grows_trans}
 use Rattle.ae_elab.proofs.EdgeLaws.{guard_grows}
 use Rattle.ae_elab.proofs.EdgeFits.{fresh_left, fresh_right}

@@ -13,7 +13,7 @@ use Rattle.ae_netlist.proofs.Carried.{carries_trans}
 use Rattle.ae_vread.specs.declared.module.NetKind.{NetKind}
 use Rattle.ae_vread.specs.declared.module.NetKind.TheVariants.{Input, Wire, OutWire, Reg as RegName, OutReg, Memory}
 use Rattle.ae_vread.specs.ModuleTree.{NetTree}
-use Rattle.ae_elab.specs.Names.{is_register_kind, is_memory_kind}
+use Rattle.ae_judge.specs.Names.{is_register_kind, is_memory_kind}
 use Rattle.ae_elab.specs.SameRuns.{is_input_cell, is_state_cell, cell_depth}
 use Rattle.ae_elab.specs.Declaring.{IsUnconnected, is_state}
 use Rattle.ae_elab.specs.Connecting.{Connects}

@@ -12,17 +12,17 @@ use Rattle.ae_netlist.proofs.Gets.{get_left, get_set_other}
 use Rattle.ae_vread.specs.declared.module.NetKind.{NetKind}
 use Rattle.ae_vread.specs.declared.module.NetKind.TheVariants.{Input, Wire, OutWire, Reg, OutReg, Memory}
 use Rattle.ae_vread.specs.ModuleTree.{StmtTree, set, put, when, either, block_end, block_more, NetTree}
-use Rattle.ae_elab.specs.Names.{Among, is_memory, is_register, is_register_kind, is_memory_kind, depth_of, depth_of_kind, depth_in, passes}
-use Rattle.ae_elab.specs.Widths.{width_of}
-use Rattle.ae_elab.specs.Weight.{stmt_weight}
-use Rattle.ae_elab.specs.Faults.{IsRepeated}
+use Rattle.ae_judge.specs.Names.{Among, is_memory, is_register, is_register_kind, is_memory_kind, depth_of, depth_of_kind, depth_in, passes}
+use Rattle.ae_judge.specs.Widths.{width_of}
+use Rattle.ae_judge.specs.Weight.{stmt_weight}
+use Rattle.ae_judge.specs.Faults.{IsRepeated}
 use Rattle.ae_elab.specs.Cells.{Grows}
 use Rattle.ae_elab.specs.Named.{AreNets, IsNamed, place_of}
 use Rattle.ae_elab.specs.Edges.{FitsNext, FitNexts, AreFresh, OthersKeep, IsWordNext, IsSoFar, next_at, next_word, next_store}
 use Rattle.ae_elab.specs.declared.statements.Next.{Next}
 use Rattle.ae_elab.specs.declared.statements.Next.TheVariants.{Keep, Word, Write}
 use Rattle.ae_elab.proofs.EdgeLaws.{guard_net_grows}
-use Rattle.ae_elab.proofs.Members.{among_at, among_left, among_right}
+use Rattle.ae_judge.proofs.Members.{among_at, among_left, among_right}
 use Rattle.ae_elab.proofs.SoundLaws.{named_width}
 use Rattle.ae_elab.proofs.Words.{net_grows}
 use Rattle.ae_elab.proofs.NetLaws.{name_net, nets_grow}

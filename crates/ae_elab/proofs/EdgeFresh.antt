@@ -9,17 +9,17 @@ use Rattle.ae_netlist.specs.Runs.{Clock, IsRun, Carries}
 use Rattle.ae_vread.specs.declared.module.NetKind.{NetKind}
 use Rattle.ae_vread.specs.declared.module.NetKind.TheVariants.{Input, Wire, OutWire, Reg, OutReg, Memory}
 use Rattle.ae_vread.specs.ModuleTree.{NetTree, ItemTree, nets, assigns, always, ModuleTree}
-use Rattle.ae_elab.specs.Names.{Among, is_memory, is_memory_kind, is_register_kind, item_targets, net_named, passes}
+use Rattle.ae_judge.specs.Names.{Among, is_memory, is_memory_kind, is_register_kind, item_targets, net_named, passes}
 use Rattle.ae_elab.specs.Runs.{after_items, next_clock}
-use Rattle.ae_elab.specs.Faults.{IsRepeated, may_repeat}
-use Rattle.ae_elab.specs.Regular.{IsRegular}
+use Rattle.ae_judge.specs.Faults.{IsRepeated, may_repeat}
+use Rattle.ae_judge.specs.Regular.{IsRegular}
 use Rattle.ae_elab.specs.Cells.{Grows}
 use Rattle.ae_elab.specs.Named.{AreNamed, place_of, read}
 use Rattle.ae_elab.specs.Declaring.{AreUnconnected, IsUnconnected}
 use Rattle.ae_elab.specs.Edges.{FitsNext, FitNexts, AreFresh, ActsItems, next_word, next_store, next_read}
 use Rattle.ae_elab.specs.declared.statements.Next.{Next}
 use Rattle.ae_elab.specs.declared.statements.Next.TheVariants.{Keep}
-use Rattle.ae_elab.proofs.Members.{among_from, among_unflat}
+use Rattle.ae_judge.proofs.Members.{among_from, among_unflat}
 use Rattle.ae_elab.proofs.Declared.{item_at}
 use Rattle.ae_elab.proofs.EdgeLaws.{same_clocks}
 

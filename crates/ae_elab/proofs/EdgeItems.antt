@@ -6,7 +6,7 @@ use Rattle.ae_netlist.specs.declared.cell.SizedCell.{SizedCell}
 use Rattle.ae_netlist.specs.Circuit.{Circuit}
 use Rattle.ae_netlist.specs.Runs.{Clock, IsRun, Carries}
 use Rattle.ae_vread.specs.ModuleTree.{StmtTree, NetTree, ItemTree, always}
-use Rattle.ae_elab.specs.Names.{item_targets}
+use Rattle.ae_judge.specs.Names.{item_targets}
 use Rattle.ae_elab.specs.Runs.{after_items}
 use Rattle.ae_elab.specs.Cells.{Grows}
 use Rattle.ae_elab.specs.Named.{AreNamed, read}

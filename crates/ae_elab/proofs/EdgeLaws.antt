@@ -18,7 +18,7 @@ use Rattle.ae_elab.specs.Guards.{guarded}
 use Rattle.ae_elab.specs.Edges.{IsGuardNet, IsGuard, IsAddressWord, next_at, next_word, next_store, next_read, Acts}
 use Rattle.ae_elab.specs.declared.statements.Next.{Next}
 use Rattle.ae_elab.specs.declared.statements.Next.TheVariants.{Keep, Word, Write}
-use Rattle.ae_elab.proofs.Members.{same_bytes, bytes_same}
+use Rattle.ae_judge.proofs.Members.{same_bytes, bytes_same}
 use Rattle.ae_elab.proofs.Words.{net_grows, word_grows, back}
 
 pub and_bit : (a b : Bool) → word_result And 1 (bit a) (bit b) (bit a) ≡ bit (a && b)

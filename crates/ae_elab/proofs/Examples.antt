@@ -6,12 +6,12 @@ use Rattle.ae_vread.specs.declared.module.NetKind.TheVariants.{Input, OutWire, O
 use Rattle.ae_vread.specs.declared.module.UnOp.TheVariants.{Flip}
 use Rattle.ae_vread.specs.declared.module.BinOp.TheVariants.{Add, Sub, Shl, Shr, Gt}
 use Rattle.ae_vread.specs.ModuleTree.{ExprTree, name, constant, place, index, unary, binary, concat_one, set, put, when, block_end, block_more, NetTree, ItemTree, nets, assigns, always, ModuleTree}
-use Rattle.ae_elab.specs.Names.{net_named, is_clock, equations}
+use Rattle.ae_judge.specs.Names.{net_named, is_clock, equations}
 use Rattle.ae_elab.specs.Values.{ModuleClock, value_at}
 use Rattle.ae_elab.specs.Runs.{idle_clock, next_clock}
 use Rattle.ae_elab.specs.PlainRun.{drive_named, recomputed, fed, plain_run}
 use Rattle.ae_elab.specs.SameRuns.{output_words}
-use Rattle.ae_elab.specs.Weight.{weight}
+use Rattle.ae_judge.specs.Weight.{weight}
 
 abbrev port : NetKind → ℕ → List ℕ → NetTree
 port kind width n = record { name = n; width = width; ranged = true; kind = kind; item = 0 }

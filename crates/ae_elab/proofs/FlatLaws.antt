@@ -3,10 +3,10 @@ use Rattle.std.proofs.Common.{ℕ, zero, suc, ◌≡◌, ◌+◌, ◌-◌, ◌<�
 use Rattle.std.specs.Prelude.{flat_map}
 use Rattle.std.proofs.lemmas.Option.{slice_get_within}
 use Rattle.ae_vread.specs.ModuleTree.{ExprTree, NetTree}
-use Rattle.ae_elab.specs.Names.{Among}
+use Rattle.ae_judge.specs.Names.{Among}
 use Rattle.ae_elab.specs.Graph.{Needs, IsGraph}
 use Rattle.ae_elab.specs.Drives.{IsFlat, places_in, read_before}
-use Rattle.ae_elab.proofs.Members.{among_at, among_from}
+use Rattle.ae_judge.proofs.Members.{among_at, among_from}
 
 get_front : {X : Type 0} (xs ys : List X) (k : ℕ) (x : X) → k < length xs → slice_get (xs ++ ys) k ≡ Some x → slice_get xs k ≡ Some x
 get_front [] ys k x l h = absurd (omega arith)

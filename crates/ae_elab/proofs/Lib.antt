@@ -1,4 +1,3 @@
-pub mod Members
 pub mod Declared
 pub mod Needs
 pub mod Same
@@ -13,29 +12,16 @@ mod ShiftLaws
 mod CompareLaws
 mod SoundLaws
 mod NetLaws
-pub mod TokenShape
-pub mod Shapely
-pub mod PlaceLemmas
 mod Turns
 mod PartLaws
 mod Constants
 mod Arms
+mod Lowered
 mod FlatLaws
 mod SoundOf
 mod DriveLaws
 mod NameLists
 mod Guarded
-pub mod Parts
-pub mod Misused
-pub mod Loops
-pub mod Wide
-pub mod Weighing
-pub mod Reading
-pub mod Firsts
-pub mod Scan
-pub mod Unknowns
-pub mod Doubled
-pub mod Judged
 pub mod Laid
 pub mod Pairwise
 pub mod ReadRuns
@@ -49,6 +35,7 @@ mod Clocks
 mod EdgeFits
 mod EdgeLaws
 mod EdgeBlocks
+mod Acted
 mod EdgeItems
 mod EdgeConnects
 mod EdgeJoins

@@ -9,13 +9,13 @@ use Rattle.std.proofs.lemmas.Bool.{cases_Bool, cond-true, cond-false, both_ways}
 use Rattle.ae_vread.specs.declared.module.NetKind.{NetKind}
 use Rattle.ae_vread.specs.declared.module.NetKind.TheVariants.{Input, Wire, OutWire, Reg, OutReg, Memory}
 use Rattle.ae_vread.specs.ModuleTree.{ExprTree, StmtTree, put, set, when, either, block_end, block_more, NetTree, DriveTree, ItemTree, nets, assigns, always, ModuleTree}
-use Rattle.ae_elab.specs.Names.{Among, is_input_kind, is_wire_kind, passes, is_input, is_clock, equations}
-use Rattle.ae_elab.specs.Widths.{width_in, width_of}
+use Rattle.ae_judge.specs.Names.{Among, is_input_kind, is_wire_kind, passes, is_input, is_clock, equations}
+use Rattle.ae_judge.specs.Widths.{width_in, width_of}
 use Rattle.ae_elab.specs.Values.{ModuleClock, own_value, assigned, after_stmt}
 use Rattle.ae_elab.specs.Runs.{clock_at, Holds, IsShaped, IsSettled, after_items, next_clock, StepsTo, IsStep, AgreesAt, Agrees, IsRunOn}
-use Rattle.ae_elab.specs.Faults.{IsWellFormed}
+use Rattle.ae_judge.specs.Faults.{IsWellFormed}
 use Rattle.ae_elab.specs.PlainRun.{drive_named, driven_word, recomputed, recomputed_often, settled, fed, plain_clock, clocks_from, plain_run}
-use Rattle.ae_elab.proofs.Members.{same_bytes}
+use Rattle.ae_judge.proofs.Members.{same_bytes}
 use Rattle.ae_elab.proofs.Declared.{regular, named_or_not, net_found, found_drive, drive_of_name, free_kind, other_free, equation_readable}
 use Rattle.ae_elab.proofs.Needs.{by_needs}
 use Rattle.ae_elab.proofs.Same.{assigned_same}

@@ -4,7 +4,7 @@ use Rattle.std.specs.Prelude.{flat_map, option_map}
 use Rattle.std.proofs.lemmas.Bool.{cases_lt}
 use Rattle.ae_vread.specs.ModuleTree.{ExprTree, NetTree, DriveTree, ItemTree, ModuleTree}
 use Rattle.ae_vread.specs.Reading.{concat_of, concat_behind}
-use Rattle.ae_elab.specs.Names.{names_in, drives_of, equations}
+use Rattle.ae_judge.specs.Names.{names_in, drives_of, equations}
 use Rattle.ae_elab.specs.Named.{place_of}
 use Rattle.ae_elab.specs.Drives.{IsFlat, noted, places_in, read_before, with_drive}
 use Rattle.ae_elab.proofs.GraphGets.{get_left, get_pushed}

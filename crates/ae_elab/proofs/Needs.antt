@@ -3,10 +3,10 @@ use Rattle.std.proofs.Common.{ℕ, zero, suc, ◌≡◌, ◌≤◌, ◌⊎◌, i
 use Rattle.std.specs.Prelude.{map}
 use Rattle.std.proofs.lemmas.List.{length-map}
 use Rattle.ae_vread.specs.ModuleTree.{DriveTree, ModuleTree}
-use Rattle.ae_elab.specs.Names.{Among, names_in, target_of, equations}
-use Rattle.ae_elab.specs.Faults.{Feeds, Reaches, at_once, through, IsWellFormed}
+use Rattle.ae_judge.specs.Names.{Among, names_in, target_of, equations}
+use Rattle.ae_judge.specs.Faults.{Feeds, Reaches, at_once, through, IsWellFormed}
 use Rattle.ae_elab.specs.PlainRun.{drive_named}
-use Rattle.ae_elab.proofs.Members.{among_at, among_map, without, among_without, without_shorter}
+use Rattle.ae_judge.proofs.Members.{among_at, among_map, without, among_without, without_shorter}
 use Rattle.ae_elab.proofs.Declared.{regular, named_or_not, driven_net, found_drive, drive_of_name}
 
 -- each name with an equation that a name is or reaches is among these

@@ -12,8 +12,8 @@ use Rattle.ae_netlist.proofs.Growing.{Keeps, keeps_extends, net_width, extends_a
 use Rattle.ae_vread.specs.declared.module.NetKind.{NetKind}
 use Rattle.ae_vread.specs.declared.module.NetKind.TheVariants.{Input, Wire, OutWire, Reg, OutReg, Memory}
 use Rattle.ae_vread.specs.ModuleTree.{NetTree, index, place}
-use Rattle.ae_elab.specs.Names.{net_named, is_memory, is_memory_kind, passes, depth_of, depth_in, depth_of_kind}
-use Rattle.ae_elab.specs.Widths.{width_of}
+use Rattle.ae_judge.specs.Names.{net_named, is_memory, is_memory_kind, passes, depth_of, depth_in, depth_of_kind}
+use Rattle.ae_judge.specs.Widths.{width_of}
 use Rattle.ae_elab.specs.Values.{ModuleClock, value_at}
 use Rattle.ae_elab.specs.Cells.{Grows, IsWord}
 use Rattle.ae_elab.proofs.Declared.{named_net}

@@ -3,12 +3,12 @@ use Rattle.std.proofs.Common.{ℕ, zero, suc, ◌≡◌, ◌<◌, inl, inr, true
 use Rattle.ae_vread.specs.declared.module.NetKind.{NetKind}
 use Rattle.ae_vread.specs.declared.module.NetKind.TheVariants.{Input, Wire, OutWire, Reg, OutReg, Memory}
 use Rattle.ae_vread.specs.ModuleTree.{NetTree, ItemTree, nets, assigns, always, ModuleTree}
-use Rattle.ae_elab.specs.Names.{Among, is_memory_kind, is_wire_kind, passes, is_clock, equations}
+use Rattle.ae_judge.specs.Names.{Among, is_memory_kind, is_wire_kind, passes, is_clock, equations}
 use Rattle.ae_elab.specs.Values.{ModuleClock}
 use Rattle.ae_elab.specs.Runs.{clock_at, IsSettled, after_item, after_items, next_clock, StepsTo, IsStep, AgreesAt, IsRunOn, SameAt, IsSameClock}
-use Rattle.ae_elab.specs.Faults.{IsWellFormed}
+use Rattle.ae_judge.specs.Faults.{IsWellFormed}
 use Rattle.ae_elab.specs.PlainRun.{drive_named}
-use Rattle.ae_elab.proofs.Members.{among_at}
+use Rattle.ae_judge.proofs.Members.{among_at}
 use Rattle.ae_elab.proofs.Declared.{regular, IsData, found_net, equation_readable, body_readable, free_kind, driven_kind}
 use Rattle.ae_elab.proofs.Needs.{by_needs}
 use Rattle.ae_elab.proofs.Same.{IsSameName, assigned_same, stmt_same, stmt_same_store}

@@ -2,7 +2,7 @@
 use Rattle.std.proofs.Common.{◌≡◌, inl, inr, Bool, true, false, List, [], ◌∷◌, map, refl, sym, ap, ◌∙◌}
 use Rattle.std.specs.Prelude.{filter}
 use Rattle.std.proofs.lemmas.Bool.{cases_Bool, cond-true, cond-false}
-use Rattle.ae_elab.specs.Names.{Among}
+use Rattle.ae_judge.specs.Names.{Among}
 
 kept_among : {X : Type 0} (x : X) (ys zs : List X) → ys ≡ zs → Among x ys → Among x zs
 kept_among x ys zs e b = rw e at b

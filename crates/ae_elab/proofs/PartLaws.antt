@@ -7,8 +7,8 @@ use Rattle.std.proofs.lemmas.Nat.{pow-add}
 use Rattle.ae_netlist.specs.declared.cell.NetId.{NetId}
 use Rattle.ae_vread.specs.ModuleTree.{ExprTree, NetTree}
 use Rattle.ae_vread.specs.Reading.{concat_of, concat_behind}
-use Rattle.ae_elab.specs.Widths.{own_width}
-use Rattle.ae_elab.specs.Weight.{expr_weight}
+use Rattle.ae_judge.specs.Widths.{own_width}
+use Rattle.ae_judge.specs.Weight.{expr_weight}
 use Rattle.ae_elab.specs.Values.{ModuleClock, value_at, own_value}
 use Rattle.ae_elab.specs.Parts.{part_weight, joined_from}
 use Rattle.ae_elab.specs.Sound.{IsReadyFor}

@@ -14,10 +14,10 @@ use Rattle.ae_netlist.specs.Runs as netlist
 use Rattle.ae_vread.specs.declared.module.NetKind.{NetKind}
 use Rattle.ae_vread.specs.declared.module.NetKind.TheVariants.{Input as InputName, Wire, OutWire, Reg as RegName, OutReg, Memory}
 use Rattle.ae_vread.specs.ModuleTree.{NetTree, ModuleTree}
-use Rattle.ae_elab.specs.Names.{Among, is_input_kind, is_register_kind, is_memory_kind, is_output_kind, is_clock}
+use Rattle.ae_judge.specs.Names.{Among, is_input_kind, is_register_kind, is_memory_kind, is_output_kind, is_clock}
 use Rattle.ae_elab.specs.Values.{ModuleClock}
 use Rattle.ae_elab.specs.Runs.{idle_clock, clock_at, Holds, IsShaped, IsRun, AgreesAt, IsRunOn, SameAt}
-use Rattle.ae_elab.specs.Faults.{IsWellFormed}
+use Rattle.ae_judge.specs.Faults.{IsWellFormed}
 use Rattle.ae_elab.specs.Named.{StandsFor}
 use Rattle.ae_elab.specs.SameRuns.{inputs_of, outputs_of, states_of, is_input_cell, is_state_cell, input_cells, state_cells, kind_depth, cell_depth, kind_words, cell_words, input_words, output_words, held_words, net_input_words, net_held_words, BeginAlike, HaveEqualOutputs, HasSameRuns}
 use Rattle.ae_elab.specs.Realizes.{Realizes}

@@ -3,11 +3,11 @@ use Rattle.std.proofs.Common.{ℕ, ◌≡◌, ◌==◌, ◌/◌, ◌%◌, ◌^�
 use Rattle.std.specs.Prelude.{if◌then◌else◌}
 use Rattle.std.proofs.lemmas.Bool.{cases_Bool, cond-true, cond-false, or_parts}
 use Rattle.ae_vread.specs.ModuleTree.{ExprTree, name, constant, place, part, index, unary, binary, choice, concat_one, concat_more, StmtTree, set, put, when, either, block_end, block_more, NetTree}
-use Rattle.ae_elab.specs.Names.{Among, is_memory, names_in, stmt_reads}
-use Rattle.ae_elab.specs.Widths.{width_of, own_width}
+use Rattle.ae_judge.specs.Names.{Among, is_memory, names_in, stmt_reads}
+use Rattle.ae_judge.specs.Widths.{width_of, own_width}
 use Rattle.ae_elab.specs.Values.{ModuleClock, operand_width, left_width, right_width, value_at, assigned, after_stmt}
-use Rattle.ae_elab.specs.Faults.{is_misused, is_misused_in_stmt}
-use Rattle.ae_elab.proofs.Members.{among_left, among_right}
+use Rattle.ae_judge.specs.Faults.{is_misused, is_misused_in_stmt}
+use Rattle.ae_judge.proofs.Members.{among_left, among_right}
 
 -- a memory has the same words, and another name the same word
 pub record IsSameName (ns : List NetTree) (c d : ModuleClock) (n : List ℕ) : Type 0 where

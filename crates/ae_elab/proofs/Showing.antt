@@ -11,7 +11,7 @@ use Rattle.ae_netlist.proofs.Gets.{get_push_cases}
 use Rattle.ae_vread.specs.declared.module.NetKind.{NetKind}
 use Rattle.ae_vread.specs.declared.module.NetKind.TheVariants.{Input, Wire, OutWire, Reg, OutReg, Memory}
 use Rattle.ae_vread.specs.ModuleTree.{NetTree}
-use Rattle.ae_elab.specs.Names.{is_output_kind}
+use Rattle.ae_judge.specs.Names.{is_output_kind}
 use Rattle.ae_elab.specs.Named.{StandsFor}
 use Rattle.ae_elab.specs.Declaring.{ArePlainOutlets, is_output, shown, with_nets}
 use Rattle.ae_elab.proofs.Declaring.{with_nets_push}

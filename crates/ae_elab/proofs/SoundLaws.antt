@@ -8,8 +8,8 @@ use Rattle.ae_vread.specs.declared.module.BinOp.{BinOp}
 use Rattle.ae_vread.specs.declared.module.BinOp.TheVariants.{Mul, Add, Sub, Shl, Shr, And, Xor, Or}
 use Rattle.ae_vread.specs.ModuleTree.{ExprTree, name, constant, place, part, index, unary, binary, choice, concat_one, concat_more, NetTree}
 use Rattle.ae_vread.specs.Reading.{concat_of, concat_behind}
-use Rattle.ae_elab.specs.Names.{is_memory}
-use Rattle.ae_elab.specs.Widths.{width_in, width_of, unary_width, binary_width, own_width}
+use Rattle.ae_judge.specs.Names.{is_memory}
+use Rattle.ae_judge.specs.Widths.{width_in, width_of, unary_width, binary_width, own_width}
 use Rattle.ae_elab.specs.Named.{IsNamed}
 use Rattle.ae_elab.specs.Sound.{IsSound}
 

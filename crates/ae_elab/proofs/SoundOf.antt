@@ -5,14 +5,14 @@ use Rattle.std.specs.List.{AllByRecursion}
 use Rattle.std.proofs.lemmas.Bool.{cases_Bool, cond-true, cond-false, or_parts, both_ways, leb-false}
 use Rattle.std.proofs.lemmas.Bool.Decides.{nat_tests}
 use Rattle.ae_vread.specs.ModuleTree.{ExprTree, name, constant, place, part, index, unary, binary, choice, concat_one, concat_more, NetTree, DriveTree, ItemTree, nets, assigns, always, ModuleTree}
-use Rattle.ae_elab.specs.Names.{Among, is_memory, is_ranged, depth_of, depth_of_kind, names_in, drives_of, equations}
-use Rattle.ae_elab.specs.Widths.{width_of, own_width}
-use Rattle.ae_elab.specs.Faults.{NetAt, is_place, is_misused, is_too_large, is_outside_of, is_too_wide, is_too_wide_in_drive, is_too_wide_in_item}
-use Rattle.ae_elab.specs.Shape.{IsLettered, IsConstant, IsPlaced, IsShapely, EachInDrive, EachInItem, IsLetteredItem, IsPlacedItem}
-use Rattle.ae_elab.specs.Regular.{IsRegular}
+use Rattle.ae_judge.specs.Names.{Among, is_memory, is_ranged, depth_of, depth_of_kind, names_in, drives_of, equations}
+use Rattle.ae_judge.specs.Widths.{width_of, own_width}
+use Rattle.ae_judge.specs.Faults.{NetAt, is_place, is_misused, is_too_large, is_outside_of, is_too_wide, is_too_wide_in_drive, is_too_wide_in_item}
+use Rattle.ae_judge.specs.Shape.{IsLettered, IsConstant, IsPlaced, IsShapely, EachInDrive, EachInItem, IsLetteredItem, IsPlacedItem}
+use Rattle.ae_judge.specs.Regular.{IsRegular}
 use Rattle.ae_elab.specs.Named.{IsNamed, place_of}
 use Rattle.ae_elab.specs.Sound.{IsSound, IsSoundIndex, place_number}
-use Rattle.ae_elab.proofs.Members.{same_bytes, bytes_same, among_at, among_left, among_right, none_passes}
+use Rattle.ae_judge.proofs.Members.{same_bytes, bytes_same, among_at, among_left, among_right, none_passes}
 use Rattle.ae_elab.proofs.Declared.{IsData, not_true, not_false, ordered, net_found, drive_at, equation_readable, item_at}
 
 pub not_less : (a b : ℕ) → nat_lt a b ≡ false → b ≤ a

@@ -11,18 +11,18 @@ use Rattle.ae_netlist.proofs.Gets.{get_set_other, get_set_same}
 use Rattle.ae_vread.specs.declared.module.NetKind.{NetKind}
 use Rattle.ae_vread.specs.declared.module.NetKind.TheVariants.{Input, Wire, OutWire, Reg, OutReg, Memory}
 use Rattle.ae_vread.specs.ModuleTree.{ExprTree, name, constant, place, part, index, unary, binary, choice, concat_one, concat_more, NetTree, DriveTree, ModuleTree}
-use Rattle.ae_elab.specs.Names.{Among, is_clock, is_wire_kind, names_in, equations}
-use Rattle.ae_elab.specs.Faults.{NetAt}
-use Rattle.ae_elab.specs.Weight.{drive_weight, expr_weight}
-use Rattle.ae_elab.specs.Shape.{IsShapely}
-use Rattle.ae_elab.specs.Regular.{IsRegular}
+use Rattle.ae_judge.specs.Names.{Among, is_clock, is_wire_kind, names_in, equations}
+use Rattle.ae_judge.specs.Faults.{NetAt}
+use Rattle.ae_judge.specs.Weight.{drive_weight, expr_weight}
+use Rattle.ae_judge.specs.Shape.{IsShapely}
+use Rattle.ae_judge.specs.Regular.{IsRegular}
 use Rattle.ae_elab.specs.Cells.{Grows, IsWord}
 use Rattle.ae_elab.specs.Named.{AreNamed, IsReady, StandsFor, place_of, read}
 use Rattle.ae_elab.specs.Sound.{IsReadyFor}
 use Rattle.ae_elab.specs.Drives.{FeedsAt, IsWireOrder, noted, values_of, with_drive}
 use Rattle.ae_elab.specs.Declaring.{AreDeclared, HasNet, is_given}
 use Rattle.ae_elab.specs.Wiring.{AreWired, IsWiring, KeepsNets, fitted, open_weight}
-use Rattle.ae_elab.proofs.Members.{among_from, among_left, among_right}
+use Rattle.ae_judge.proofs.Members.{among_from, among_left, among_right}
 use Rattle.ae_elab.proofs.Declared.{driven_kind, driven_net, equation_readable, named_net, wire_driven}
 use Rattle.ae_elab.proofs.DriveLaws.{value_driven, value_equation}
 use Rattle.ae_elab.proofs.SoundOf.{named_of, place_is}

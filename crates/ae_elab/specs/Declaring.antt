@@ -9,8 +9,8 @@ use Rattle.ae_netlist.specs.Circuit.{Circuit, new_memory, new_register}
 use Rattle.ae_vread.specs.declared.module.NetKind.{NetKind}
 use Rattle.ae_vread.specs.declared.module.NetKind.TheVariants.{Input, Wire, OutWire, Reg, OutReg, Memory}
 use Rattle.ae_vread.specs.ModuleTree.{NetTree, ModuleTree}
-use Rattle.ae_elab.specs.Names.{is_clock, is_input_kind, is_memory_kind, is_output_kind, is_register_kind}
-use Rattle.ae_elab.specs.Faults.{NetAt}
+use Rattle.ae_judge.specs.Names.{is_clock, is_input_kind, is_memory_kind, is_output_kind, is_register_kind}
+use Rattle.ae_judge.specs.Faults.{NetAt}
 use Rattle.ae_elab.specs.SameRuns.{cell_depth, input_cells, kind_depth, state_cells}
 use Rattle.ae_elab.specs.Named.{StandsFor}
 

@@ -1,8 +1,8 @@
 -- The equations of a module's wires by the places of their names, and the graph of what they read.
 use Rattle.std.specs.Prelude.{◌≡◌, ℕ, ◌<◌, List, [], ◌∷◌, length, Option, Some, None, slice_get, slice_set, replicate, take, map, flat_map}
 use Rattle.ae_vread.specs.ModuleTree.{ExprTree, NetTree, DriveTree, ModuleTree}
-use Rattle.ae_elab.specs.Names.{names_in, equations}
-use Rattle.ae_elab.specs.Faults.{HasLoop, NetAt, Feeds}
+use Rattle.ae_judge.specs.Names.{names_in, equations}
+use Rattle.ae_judge.specs.Faults.{HasLoop, NetAt, Feeds}
 use Rattle.ae_elab.specs.Named.{IsNamed, place_of}
 use Rattle.ae_elab.specs.Sound.{IsSound}
 use Rattle.ae_elab.specs.declared.sort.OrderFault.{OrderFault}

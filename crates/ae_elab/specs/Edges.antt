@@ -1,20 +1,20 @@
 -- What registers and memories take at a clock edge, by nets.
-use Rattle.std.specs.Prelude.{◌≡◌, ℕ, ◌<◌, ◌==◌, ◌≢◌, Bool, true, if◌then◌else◌, List, length, Option, Some, None, get_or, slice_get, slice_set}
+use Rattle.std.specs.Prelude.{◌≡◌, ℕ, ◌+◌, ◌*◌, ◌<◌, ◌≤◌, ◌==◌, ◌≢◌, Bool, true, if◌then◌else◌, List, length, Option, Some, None, get_or, slice_get, slice_set}
 use Rattle.ae_word.specs.WordTable.{bit}
 use Rattle.ae_netlist.specs.declared.cell.NetId.{NetId}
 use Rattle.ae_netlist.specs.declared.cell.SizedCell.{SizedCell}
 use Rattle.ae_netlist.specs.declared.cell.Cell.TheVariants.{Reg, Mem}
-use Rattle.ae_netlist.specs.Circuit.{IsConstantBelow, IsNet, IsWritten, new_memory}
+use Rattle.ae_netlist.specs.Circuit.{Circuit, IsConstantBelow, IsNet, IsWritten, new_memory}
 use Rattle.ae_netlist.specs.Runs.{Clock, word_at, store_at, InEveryRunFrom}
 use Rattle.ae_vread.specs.declared.module.NetKind.{NetKind}
 use Rattle.ae_vread.specs.declared.module.NetKind.TheVariants.{Input, Wire, OutWire, Reg as RegName, OutReg, Memory}
 use Rattle.ae_vread.specs.ModuleTree.{StmtTree, set, put, when, either, block_end, block_more, index, NetTree, ItemTree, nets, assigns, always}
-use Rattle.ae_elab.specs.Names.{Among, is_memory, is_register, is_register_kind}
+use Rattle.ae_judge.specs.Names.{Among, is_memory, is_register, is_register_kind, stmt_targets}
 use Rattle.ae_elab.specs.Values.{ModuleClock}
-use Rattle.ae_elab.specs.Weight.{stmt_weight}
+use Rattle.ae_judge.specs.Weight.{stmt_weight}
 use Rattle.ae_elab.specs.Runs.{after_items}
-use Rattle.ae_elab.specs.Faults.{IsRepeated}
-use Rattle.ae_elab.specs.Cells.{IsWord}
+use Rattle.ae_judge.specs.Faults.{IsRepeated}
+use Rattle.ae_elab.specs.Cells.{Grows, IsWord}
 use Rattle.ae_elab.specs.Named.{AreNamed, IsNamed, IsReady, place_of, read}
 use Rattle.ae_elab.specs.Sound.{IsReadyFor, IsSound}
 use Rattle.ae_elab.specs.Guards.{guarded}
@@ -116,6 +116,16 @@ abbrev pub Acts : ℕ → List NetTree → List (Option NetId) → Option NetId 
 Acts from ns ys guard before after old new s =
     (at : List ℕ → ℕ) (g : List Clock → ℕ → Bool) → AreNamed ns ys at → IsGuard from before guard g
     → InEveryRunFrom from after (λ run. (t : ℕ) → t < length run → next_read ns new at run t ≡ guarded ns (read at run t) s (g run t) (next_read ns old at run t))
+
+-- the netlist has grown by the cells of a guarded statement, at most 8 for each unit of its weight, and what is next is what
+-- the statement makes of it
+pub record IsActed (from : ℕ) (ns : List NetTree) (ys : List (Option NetId)) (guard : Option NetId) (old new : Circuit) (before after : List Next) (s : StmtTree) : Type 0 where
+  pub grows : Grows old new
+  pub more : length old.cells ≤ length new.cells
+  pub few : length new.cells ≤ length old.cells + 8 * stmt_weight 0 s
+  pub nexts : FitNexts ns after new.cells
+  pub others : OthersKeep ns before after (stmt_targets s)
+  pub acts : Acts from ns ys guard old.cells new.cells before after s
 
 -- the same of the statements of an item
 abbrev pub IsActiveItem : List NetTree → List (Option NetId) → ItemTree → Type 0

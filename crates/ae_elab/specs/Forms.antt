@@ -6,8 +6,8 @@ use Rattle.ae_word.specs.WordTable.{HasRange, bit, is_signed, result_width_of, w
 use Rattle.ae_vread.specs.declared.module.BinOp.{BinOp}
 use Rattle.ae_vread.specs.declared.module.BinOp.TheVariants.{Shl, Shr}
 use Rattle.ae_vread.specs.ModuleTree.{ExprTree}
-use Rattle.ae_elab.specs.Widths.{binary_width}
-use Rattle.ae_elab.specs.Weight.{operator_weight, shift_weight}
+use Rattle.ae_judge.specs.Widths.{binary_width}
+use Rattle.ae_judge.specs.Weight.{operator_weight, shift_weight}
 use Rattle.ae_elab.specs.Values.{left_width, right_width, binary_result}
 use Rattle.ae_elab.specs.declared.compounds.Way.{Way}
 use Rattle.ae_elab.specs.declared.forms.Form.{Form}

@@ -7,7 +7,7 @@ use Rattle.ae_netlist.specs.Runs.{Clock, word_at, store_at}
 use Rattle.ae_vread.specs.declared.module.NetKind.{NetKind}
 use Rattle.ae_vread.specs.declared.module.NetKind.TheVariants.{Memory}
 use Rattle.ae_vread.specs.ModuleTree.{NetTree}
-use Rattle.ae_elab.specs.Names.{net_named, depth_of_kind}
+use Rattle.ae_judge.specs.Names.{net_named, depth_of_kind}
 use Rattle.ae_elab.specs.Values.{ModuleClock}
 
 -- the place of a name's declaration, the first where there are more

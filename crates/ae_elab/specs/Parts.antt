@@ -1,8 +1,8 @@
 -- The parts of a concatenation, from the first on.
 use Rattle.std.specs.Prelude.{ℕ, ◌+◌, ◌*◌, ◌^◌, List, [], ◌∷◌}
 use Rattle.ae_vread.specs.ModuleTree.{ExprTree, NetTree}
-use Rattle.ae_elab.specs.Widths.{own_width}
-use Rattle.ae_elab.specs.Weight.{expr_weight}
+use Rattle.ae_judge.specs.Widths.{own_width}
+use Rattle.ae_judge.specs.Weight.{expr_weight}
 use Rattle.ae_elab.specs.Values.{ModuleClock, own_value}
 
 abbrev pub part_weight : ExprTree → ℕ

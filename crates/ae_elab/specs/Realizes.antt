@@ -5,9 +5,9 @@ use Rattle.ae_netlist.specs.declared.cell.Outlet.{Outlet}
 use Rattle.ae_netlist.specs.Circuit.{Circuit}
 use Rattle.ae_netlist.specs.Runs as netlist
 use Rattle.ae_vread.specs.ModuleTree.{NetTree, ModuleTree}
-use Rattle.ae_elab.specs.Names.{Among, is_clock}
+use Rattle.ae_judge.specs.Names.{Among, is_clock}
 use Rattle.ae_elab.specs.Runs.{IsSettled, IsStep}
-use Rattle.ae_elab.specs.Faults.{IsWellFormed}
+use Rattle.ae_judge.specs.Faults.{IsWellFormed}
 use Rattle.ae_elab.specs.Named.{StandsFor, read}
 use Rattle.ae_elab.specs.SameRuns.{inputs_of, outputs_of, states_of, input_cells, state_cells, kind_depth, cell_depth, HasSameRuns}
 

@@ -3,7 +3,7 @@ use Rattle.std.specs.Prelude.{ℕ, ◌≡◌, ◌+◌, ◌<◌, ◌≤◌, ◌^�
 use Rattle.ae_vread.specs.declared.module.NetKind.{NetKind}
 use Rattle.ae_vread.specs.declared.module.NetKind.TheVariants.{Input, Reg, OutReg, Memory}
 use Rattle.ae_vread.specs.ModuleTree.{NetTree, DriveTree, ItemTree, nets, assigns, always, ModuleTree}
-use Rattle.ae_elab.specs.Names.{Among, is_clock, equations}
+use Rattle.ae_judge.specs.Names.{Among, is_clock, equations}
 use Rattle.ae_elab.specs.Values.{ModuleClock, assigned, after_stmt}
 
 unfoldable pub idle_clock : ModuleClock

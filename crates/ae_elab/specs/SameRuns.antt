@@ -10,7 +10,7 @@ use Rattle.ae_netlist.specs.Runs as netlist
 use Rattle.ae_vread.specs.declared.module.NetKind.{NetKind}
 use Rattle.ae_vread.specs.declared.module.NetKind.TheVariants.{Memory}
 use Rattle.ae_vread.specs.ModuleTree.{NetTree, ModuleTree}
-use Rattle.ae_elab.specs.Names.{is_input_kind, is_register_kind, is_memory_kind, is_output_kind, is_clock}
+use Rattle.ae_judge.specs.Names.{is_input_kind, is_register_kind, is_memory_kind, is_output_kind, is_clock}
 use Rattle.ae_elab.specs.Values.{ModuleClock}
 use Rattle.ae_elab.specs.Runs.{clock_at, IsRun}
 

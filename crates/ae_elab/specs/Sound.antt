@@ -2,9 +2,9 @@
 use Rattle.std.specs.Prelude.{◌≡◌, ℕ, ◌+◌, ◌^◌, ◌<◌, ◌≤◌, Bool, true, false, if◌then◌else◌, List, length, Option}
 use Rattle.ae_netlist.specs.declared.cell.NetId.{NetId}
 use Rattle.ae_vread.specs.ModuleTree.{ExprTree, name, constant, place, part, index, unary, binary, choice, concat_one, concat_more, NetTree}
-use Rattle.ae_elab.specs.Names.{is_memory, depth_of}
-use Rattle.ae_elab.specs.Widths.{width_of, own_width}
-use Rattle.ae_elab.specs.Faults.{is_place}
+use Rattle.ae_judge.specs.Names.{is_memory, depth_of}
+use Rattle.ae_judge.specs.Widths.{width_of, own_width}
+use Rattle.ae_judge.specs.Faults.{is_place}
 use Rattle.ae_elab.specs.Named.{IsNamed, IsReady}
 
 -- a declared name that is no memory and has letters

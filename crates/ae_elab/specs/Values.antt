@@ -7,8 +7,8 @@ use Rattle.ae_vread.specs.declared.module.UnOp.TheVariants.{Not, Flip}
 use Rattle.ae_vread.specs.declared.module.BinOp.{BinOp}
 use Rattle.ae_vread.specs.declared.module.BinOp.TheVariants.{Mul, Add, Sub, Shl, Shr, Lt, Le, Gt, Ge, Eq, Ne, And, Xor, Or, Both, Either}
 use Rattle.ae_vread.specs.ModuleTree.{ExprTree, name, constant, place, part, index, unary, binary, choice, concat_one, concat_more, StmtTree, set, put, when, either, block_end, block_more, NetTree}
-use Rattle.ae_elab.specs.Names.{is_memory}
-use Rattle.ae_elab.specs.Widths.{width_of, own_width}
+use Rattle.ae_judge.specs.Names.{is_memory}
+use Rattle.ae_judge.specs.Widths.{width_of, own_width}
 
 -- what stands in one clock, by name: a word, or the words of a memory
 pub record ModuleClock : Type 0 where

@@ -3,10 +3,10 @@ use Rattle.std.specs.Prelude.{ℕ, ◌≡◌, ◌+◌, ◌%◌, ◌^◌, ◌<◌
 use Rattle.ae_netlist.specs.declared.cell.NetId.{NetId}
 use Rattle.ae_netlist.specs.declared.cell.SizedCell.{SizedCell}
 use Rattle.ae_vread.specs.ModuleTree.{ExprTree, NetTree, ModuleTree}
-use Rattle.ae_elab.specs.Names.{is_clock}
-use Rattle.ae_elab.specs.Faults.{NetAt}
-use Rattle.ae_elab.specs.Widths.{own_width}
-use Rattle.ae_elab.specs.Weight.{expr_weight}
+use Rattle.ae_judge.specs.Names.{is_clock}
+use Rattle.ae_judge.specs.Faults.{NetAt}
+use Rattle.ae_judge.specs.Widths.{own_width}
+use Rattle.ae_judge.specs.Weight.{expr_weight}
 use Rattle.ae_elab.specs.Values.{ModuleClock, value_at}
 use Rattle.ae_elab.specs.Cells.{IsWord}
 use Rattle.ae_elab.specs.Named.{AreNamed, AreNets, read}

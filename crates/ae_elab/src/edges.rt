@@ -5,19 +5,19 @@ ghost use Rattle.std.specs.List.{AllByRecursion, flat_map, sum_by};
 ghost use Rattle.ae_netlist.specs.Runs.{Clock, IsRun};
 ghost use Rattle.ae_vread.specs.ModuleTree.{NetTree};
 ghost use Rattle.ae_vread.specs.View.{item_tree, module_tree, net_tree};
-ghost use Rattle.ae_elab.specs.Names.{is_clock, item_targets};
-ghost use Rattle.ae_elab.specs.Faults.{NetAt};
+ghost use Rattle.ae_judge.specs.Names.{is_clock, item_targets};
+ghost use Rattle.ae_judge.specs.Faults.{NetAt};
 ghost use Rattle.ae_elab.specs.Runs.{IsStep};
-ghost use Rattle.ae_elab.specs.Regular.{IsRegular};
-ghost use Rattle.ae_elab.specs.Shape.{IsShapely};
+ghost use Rattle.ae_judge.specs.Regular.{IsRegular};
+ghost use Rattle.ae_judge.specs.Shape.{IsShapely};
 ghost use Rattle.ae_elab.specs.Cells.{Grows, HasRoom};
 ghost use Rattle.ae_elab.specs.Named.{AreNamed, AreNets, read};
 ghost use Rattle.ae_elab.specs.Declaring.{AreUnconnected, HasNet, IsUnconnected, is_state};
 ghost use Rattle.ae_elab.specs.Connecting.{Connects};
 ghost use Rattle.ae_elab.specs.Edges.{ActsItems, AreFresh, FitNexts, FitsNext, IsActiveItem, IsConnected, KeepsConstants, OthersKeep, OthersStay, edge_weight};
 
-use crate::judge::names::Names;
 use crate::statements::{Next, act};
+use ae_judge::Names;
 use ae_netlist::{NetId, Netlist};
 use ae_vread::{VItem, VModule, VNet};
 use std::alloc::{AllocError, Global};
@@ -48,7 +48,10 @@ fn act_item(
     match item {
         VItem::Nets(_) => Ok(()),
         VItem::Assign(_) => Ok(()),
-        VItem::Always { body, .. } => act(nl, from, names, nets, nexts, None, body),
+        VItem::Always { body, .. } => {
+            act(nl, from, names, nets, nexts, None, body)?;
+            Ok(())
+        }
     }
 }
 

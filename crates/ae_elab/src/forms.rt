@@ -4,8 +4,8 @@ ghost use Rattle.std.specs.Prelude.{◌≡◌, ◌<◌, ◌≤◌, ◌+◌, ◌*
 ghost use Rattle.ae_netlist.specs.Circuit.{IsNet};
 ghost use Rattle.ae_netlist.specs.Runs.{Clock};
 ghost use Rattle.ae_vread.specs.View.{expr_tree};
-ghost use Rattle.ae_elab.specs.Widths.{binary_width};
-ghost use Rattle.ae_elab.specs.Weight.{operator_weight, shift_weight};
+ghost use Rattle.ae_judge.specs.Widths.{binary_width};
+ghost use Rattle.ae_judge.specs.Weight.{operator_weight, shift_weight};
 ghost use Rattle.ae_elab.specs.Values.{binary_result, left_width, right_width};
 ghost use Rattle.ae_elab.specs.Cells.{Grows, HasRoom, IsWord};
 ghost use Rattle.ae_elab.specs.ConstantValue.{IsConstantOf};

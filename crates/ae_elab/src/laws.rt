@@ -4,7 +4,7 @@ ghost use Rattle.std.specs.Prelude.{ℕ, List, length, ◌<◌};
 ghost use Rattle.ae_vread.specs.ModuleTree.{ModuleTree};
 ghost use Rattle.ae_elab.specs.Values.{ModuleClock};
 ghost use Rattle.ae_elab.specs.Runs.{HasOneRun, IsRunOn, IsShaped, clock_at};
-ghost use Rattle.ae_elab.specs.Faults.{IsWellFormed};
+ghost use Rattle.ae_judge.specs.Faults.{IsWellFormed};
 ghost use Rattle.ae_elab.specs.PlainRun.{plain_run};
 ghost use Rattle.ae_elab.specs.Guards.{GuardsDo};
 ghost use Rattle.ae_elab.specs.Realizes.{RealizesSo};

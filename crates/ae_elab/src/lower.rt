@@ -1,26 +1,25 @@
 // Expressions as cells.
 
-ghost use Rattle.std.specs.Prelude.{◌≡◌, ◌<◌, ◌≤◌, ◌+◌, ◌*◌, ℕ, List, length, IfOk, IfNone, IfSome, OnOk, false, map};
+ghost use Rattle.std.specs.Prelude.{◌≡◌, ◌≤◌, ◌+◌, ◌*◌, length, IfOk, IfNone, IfSome, false, map};
 ghost use Rattle.std.specs.List.{sum_by};
-ghost use Rattle.ae_netlist.specs.Circuit.{IsNet};
 ghost use Rattle.ae_vread.specs.ModuleTree.{place, unary};
 ghost use Rattle.ae_vread.specs.View.{expr_tree};
 ghost use Rattle.ae_vread.specs.Reading.{concat_of};
-ghost use Rattle.ae_elab.specs.Widths.{own_width};
-ghost use Rattle.ae_elab.specs.Weight.{expr_weight};
-ghost use Rattle.ae_elab.specs.Values.{own_value, value_at};
-ghost use Rattle.ae_elab.specs.Faults.{is_place};
-ghost use Rattle.ae_elab.specs.Cells.{Grows, HasRoom, IsWord};
-ghost use Rattle.ae_elab.specs.Named.{AreNamed, AreNets, read};
+ghost use Rattle.ae_judge.specs.Widths.{own_width};
+ghost use Rattle.ae_judge.specs.Weight.{expr_weight};
+ghost use Rattle.ae_judge.specs.Faults.{is_place};
+ghost use Rattle.ae_elab.specs.Cells.{HasRoom};
+ghost use Rattle.ae_elab.specs.Lowered.{IsLowered};
+ghost use Rattle.ae_elab.specs.Named.{AreNets};
 ghost use Rattle.ae_elab.specs.Sound.{IsReadyFor, IsSound};
 ghost use Rattle.ae_elab.specs.Parts.{part_weight};
 
 use crate::compounds::{chosen, is_zero, linked, moved_by};
 use crate::forms::{combine, fixed_shift, operand_widths};
 use crate::gates::{fixed, gate, widen};
-use crate::judge::names::Names;
 use crate::own::own_width;
 use crate::reads::{read_name, read_part, read_place, read_word};
+use ae_judge::Names;
 use ae_netlist::{NetId, Netlist};
 use ae_vread::{Expr, UnOp};
 use ae_word::WordOp;
@@ -57,12 +56,7 @@ pub fn lower(
     requires high { w ≤ 64 }
     requires within { own_width names.now (expr_tree e.now) ≤ w }
     requires room { HasRoom nl.old (8 * expr_weight (expr_tree e.now) + 1) }
-    ensures grows { OnOk result (Grows nl.old nl.new) }
-    ensures more { OnOk result (length nl.old.cells ≤ length nl.new.cells) }
-    ensures few { OnOk result (length nl.new.cells ≤ length nl.old.cells + 8 * expr_weight (expr_tree e.now) + 1) }
-    ensures net { IfOk result (λ y. IsNet nl.new.cells y.0 w) }
-    ensures nets { OnOk result (AreNets names.now nets.now nl.new.cells) }
-    ensures word { IfOk result (λ y. (at : List ℕ → ℕ) → AreNamed names.now nets.now at → IsWord from nl.new.cells y.0 w (λ run t. value_at names.now (read at run t) w (expr_tree e.now))) }
+    ensures { IfOk result (λ y. IsLowered from names.now nets.now nl.old nl.new (8 * expr_weight (expr_tree e.now) + 1) y.0 w (expr_tree e.now)) }
 {
     match e {
         Expr::Name(name) => read_name(nl, from, names, nets, w, name),
@@ -126,12 +120,7 @@ fn lower_unary(
     requires high { w ≤ 64 }
     requires within { own_width names.now (unary op (expr_tree a.now)) ≤ w }
     requires room { HasRoom nl.old (8 * expr_weight (unary op (expr_tree a.now)) + 1) }
-    ensures grows { OnOk result (Grows nl.old nl.new) }
-    ensures more { OnOk result (length nl.old.cells ≤ length nl.new.cells) }
-    ensures few { OnOk result (length nl.new.cells ≤ length nl.old.cells + 8 * expr_weight (unary op (expr_tree a.now)) + 1) }
-    ensures net { IfOk result (λ y. IsNet nl.new.cells y.0 w) }
-    ensures nets { OnOk result (AreNets names.now nets.now nl.new.cells) }
-    ensures word { IfOk result (λ y. (at : List ℕ → ℕ) → AreNamed names.now nets.now at → IsWord from nl.new.cells y.0 w (λ run t. value_at names.now (read at run t) w (unary op (expr_tree a.now)))) }
+    ensures { IfOk result (λ y. IsLowered from names.now nets.now nl.old nl.new (8 * expr_weight (unary op (expr_tree a.now)) + 1) y.0 w (unary op (expr_tree a.now))) }
 {
     match op {
         UnOp::Not => {
@@ -162,13 +151,8 @@ fn lower_parts(
     requires sound { IsSound names.now (concat_of (map expr_tree parts.now)) }
     requires ready { IsReadyFor names.now nets.now (concat_of (map expr_tree parts.now)) }
     requires room { HasRoom nl.old (8 * sum_by part_weight (map expr_tree parts.now)) }
-    ensures grows { OnOk result (Grows nl.old nl.new) }
-    ensures more { OnOk result (length nl.old.cells ≤ length nl.new.cells) }
-    ensures few { OnOk result (length nl.new.cells ≤ length nl.old.cells + 8 * sum_by part_weight (map expr_tree parts.now)) }
     ensures own { IfOk result (λ r. r.1 ≡ own_width names.now (concat_of (map expr_tree parts.now))) }
-    ensures net { IfOk result (λ r. IsNet nl.new.cells r.0.0 r.1) }
-    ensures nets { OnOk result (AreNets names.now nets.now nl.new.cells) }
-    ensures word { IfOk result (λ r. (at : List ℕ → ℕ) → AreNamed names.now nets.now at → IsWord from nl.new.cells r.0.0 r.1 (λ run t. own_value names.now (read at run t) (concat_of (map expr_tree parts.now)))) }
+    ensures lowered { IfOk result (λ r. IsLowered from names.now nets.now nl.old nl.new (8 * sum_by part_weight (map expr_tree parts.now)) r.0.0 r.1 (concat_of (map expr_tree parts.now))) }
 {
     let first = &parts[0];
     let mut own = own_width(names, first);

@@ -3,18 +3,18 @@
 ghost use Rattle.std.specs.Prelude.{◌≡◌, ◌<◌, ◌^◌, ◌++◌, ◌+◌, ℕ, ◌∷◌, [], IfErr, IfOk, IfSome, List, OnOk, None, flat_map, length, map, option_map, replicate};
 ghost use Rattle.ae_vread.specs.View.{drive_tree, expr_tree, item_tree, module_tree};
 ghost use Rattle.ae_vread.specs.Reading.{concat_of};
-ghost use Rattle.ae_elab.specs.Names.{drives_of, names_in};
-ghost use Rattle.ae_elab.specs.Faults.{HasLoop, Never};
-ghost use Rattle.ae_elab.specs.Shape.{IsShapely};
-ghost use Rattle.ae_elab.specs.Regular.{IsRegular};
+ghost use Rattle.ae_judge.specs.Names.{drives_of, names_in};
+ghost use Rattle.ae_judge.specs.Faults.{HasLoop, Never};
+ghost use Rattle.ae_judge.specs.Shape.{IsShapely};
+ghost use Rattle.ae_judge.specs.Regular.{IsRegular};
 ghost use Rattle.ae_elab.specs.Named.{IsNamed, place_of};
 ghost use Rattle.ae_elab.specs.Sound.{IsSound};
 ghost use Rattle.ae_elab.specs.Drives.{AreDriven, AreSoundValues, IsFlat, IsLoopFault, IsWireOrder, noted, places_in, values_of};
 
-use crate::judge::names::Names;
 use crate::lower::place_number;
 use crate::reads::place_of;
 use crate::sort::{OrderFault, order};
+use ae_judge::Names;
 use ae_vread::{Drive, Expr, VItem, VModule};
 use std::alloc::{AllocError, Global};
 

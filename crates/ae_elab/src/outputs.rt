@@ -6,9 +6,9 @@ ghost use Rattle.ae_vread.specs.View.{module_tree};
 ghost use Rattle.ae_netlist.specs.declared.cell.NetId.{NetId};
 ghost use Rattle.ae_netlist.specs.declared.cell.Outlet.{Outlet};
 ghost use Rattle.ae_netlist.specs.Circuit.{IsNet, width_of};
-ghost use Rattle.ae_elab.specs.Names.{is_output_kind};
-ghost use Rattle.ae_elab.specs.Faults.{NetAt};
-ghost use Rattle.ae_elab.specs.Shape.{IsShapely};
+ghost use Rattle.ae_judge.specs.Names.{is_output_kind};
+ghost use Rattle.ae_judge.specs.Faults.{NetAt};
+ghost use Rattle.ae_judge.specs.Shape.{IsShapely};
 ghost use Rattle.ae_elab.specs.Named.{AreNets};
 ghost use Rattle.ae_elab.specs.Declaring.{ArePlainOutlets, HasNet, is_output, shown, with_nets};
 

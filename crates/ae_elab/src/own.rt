@@ -3,13 +3,13 @@
 ghost use Rattle.std.specs.Prelude.{◌≡◌, ◌≤◌, if◌then◌else◌, map};
 ghost use Rattle.ae_vread.specs.View.{expr_tree};
 ghost use Rattle.ae_vread.specs.Reading.{concat_of};
-ghost use Rattle.ae_elab.specs.Names.{is_memory};
-ghost use Rattle.ae_elab.specs.Widths.{own_width, width_of};
+ghost use Rattle.ae_judge.specs.Names.{is_memory};
+ghost use Rattle.ae_judge.specs.Widths.{own_width, width_of};
 ghost use Rattle.ae_elab.specs.Named.{IsNamed};
 ghost use Rattle.ae_elab.specs.Sound.{IsSound};
 
 use crate::forms::{Form, form_of};
-use crate::judge::names::Names;
+use ae_judge::Names;
 use ae_vread::{Expr, UnOp};
 
 /// The width of a name.

@@ -4,8 +4,8 @@ ghost use Rattle.std.specs.Prelude.{◌≡◌, ◌<◌, ◌≤◌, ◌+◌, ◌-
 ghost use Rattle.ae_netlist.specs.Circuit.{IsAddress, IsMemory, IsNet};
 ghost use Rattle.ae_netlist.specs.Runs.{Clock, store_at};
 ghost use Rattle.ae_vread.specs.ModuleTree.{index as index_tree, name as name_tree, part as part_tree, place as place_tree};
-ghost use Rattle.ae_elab.specs.Names.{depth_of, is_memory};
-ghost use Rattle.ae_elab.specs.Widths.{width_of};
+ghost use Rattle.ae_judge.specs.Names.{depth_of, is_memory};
+ghost use Rattle.ae_judge.specs.Widths.{width_of};
 ghost use Rattle.ae_elab.specs.Values.{value_at};
 ghost use Rattle.ae_elab.specs.Cells.{Grows, HasRoom, IsWord};
 ghost use Rattle.ae_elab.specs.Named.{AreNamed, AreNets, IsNamed, IsReady, place_of, read};
@@ -13,8 +13,8 @@ ghost use Rattle.ae_elab.specs.Sound.{IsWordName, places_of};
 
 use crate::compounds::cut;
 use crate::gates::{push, widen};
-use crate::judge::names::Names;
 use crate::own::name_width;
+use ae_judge::Names;
 use ae_netlist::{Cell, NetId, Netlist};
 use std::alloc::AllocError;
 

@@ -7,22 +7,22 @@ ghost use Rattle.ae_netlist.specs.Runs.{Clock};
 ghost use Rattle.ae_vread.specs.ModuleTree.{index as index_tree, put as put_tree, set as set_tree};
 ghost use Rattle.ae_vread.specs.StmtReading.{block_of};
 ghost use Rattle.ae_vread.specs.View.{expr_tree, stmt_tree};
-ghost use Rattle.ae_elab.specs.Names.{depth_of, is_memory, is_register, stmt_targets};
-ghost use Rattle.ae_elab.specs.Widths.{width_of};
-ghost use Rattle.ae_elab.specs.Weight.{expr_weight, stmt_weight};
+ghost use Rattle.ae_judge.specs.Names.{depth_of, is_memory, is_register, stmt_targets};
+ghost use Rattle.ae_judge.specs.Widths.{width_of};
+ghost use Rattle.ae_judge.specs.Weight.{expr_weight, stmt_weight};
 ghost use Rattle.ae_elab.specs.Values.{own_value};
 ghost use Rattle.ae_elab.specs.Cells.{Grows, HasRoom, IsWord};
 ghost use Rattle.ae_elab.specs.Named.{AreNamed, AreNets, IsNamed, IsReady, read};
 ghost use Rattle.ae_elab.specs.Sound.{IsReadyFor, IsSound};
-ghost use Rattle.ae_elab.specs.Edges.{Acts, AreFresh, FitNexts, IsAddressWord, IsGuard, IsGuardNet, IsReadyStmt, IsSoFar, IsSoundStmt, IsWordNext, OthersKeep};
+ghost use Rattle.ae_elab.specs.Edges.{Acts, AreFresh, FitNexts, IsActed, IsAddressWord, IsGuard, IsGuardNet, IsReadyStmt, IsSoFar, IsSoundStmt, IsWordNext, OthersKeep};
 
 use crate::compounds::is_zero;
 use crate::gates::{fixed, gate, select};
-use crate::judge::names::Names;
 use crate::lower::{lower, place_number};
 use crate::own::{name_width, own_width};
 use crate::reads::{address, net_of, place_of};
 use crate::wires::given_word;
+use ae_judge::Names;
 use ae_netlist::{NetId, Netlist};
 use ae_vread::{Expr, Stmt};
 use ae_word::WordOp;
@@ -231,7 +231,8 @@ fn written_at(
         Some(k) => address(nl, from, k),
         None => {
             let own = own_width(names, at);
-            lower(nl, from, names, nets, own, at)
+            let y = lower(nl, from, names, nets, own, at)?;
+            Ok(y)
         }
     }
 }
@@ -293,12 +294,7 @@ pub fn act(
     requires nexts { FitNexts names.now nexts.old.items nl.old.cells }
     requires fresh { AreFresh names.now nexts.old.items (stmt_targets (stmt_tree stmt.now)) }
     requires room { HasRoom nl.old (8 * stmt_weight 0 (stmt_tree stmt.now)) }
-    ensures grows { OnOk result (Grows nl.old nl.new) }
-    ensures more { OnOk result (length nl.old.cells ≤ length nl.new.cells) }
-    ensures few { OnOk result (length nl.new.cells ≤ length nl.old.cells + 8 * stmt_weight 0 (stmt_tree stmt.now)) }
-    ensures nexts { OnOk result (FitNexts names.now nexts.new.items nl.new.cells) }
-    ensures others { OnOk result (OthersKeep names.now nexts.old.items nexts.new.items (stmt_targets (stmt_tree stmt.now))) }
-    ensures acts { OnOk result (Acts from names.now nets.now guard nl.old.cells nl.new.cells nexts.old.items nexts.new.items (stmt_tree stmt.now)) }
+    ensures { OnOk result (IsActed from names.now nets.now guard nl.old nl.new nexts.old.items nexts.new.items (stmt_tree stmt.now)) }
 {
     match stmt {
         Stmt::Set { name, value } => assign(nl, from, names, nets, nexts, guard, name, value),
@@ -349,12 +345,7 @@ fn act_all(
     requires nexts { FitNexts names.now nexts.old.items nl.old.cells }
     requires fresh { AreFresh names.now nexts.old.items (stmt_targets (block_of (map stmt_tree stmts.now))) }
     requires room { HasRoom nl.old (8 * stmt_weight 0 (block_of (map stmt_tree stmts.now))) }
-    ensures grows { OnOk result (Grows nl.old nl.new) }
-    ensures more { OnOk result (length nl.old.cells ≤ length nl.new.cells) }
-    ensures few { OnOk result (length nl.new.cells ≤ length nl.old.cells + 8 * stmt_weight 0 (block_of (map stmt_tree stmts.now))) }
-    ensures nexts { OnOk result (FitNexts names.now nexts.new.items nl.new.cells) }
-    ensures others { OnOk result (OthersKeep names.now nexts.old.items nexts.new.items (stmt_targets (block_of (map stmt_tree stmts.now)))) }
-    ensures acts { OnOk result (Acts from names.now nets.now guard nl.old.cells nl.new.cells nexts.old.items nexts.new.items (block_of (map stmt_tree stmts.now))) }
+    ensures { OnOk result (IsActed from names.now nets.now guard nl.old nl.new nexts.old.items nexts.new.items (block_of (map stmt_tree stmts.now))) }
 {
     for stmt in stmts {
         act(nl, from, names, nets, nexts, guard, stmt)?;

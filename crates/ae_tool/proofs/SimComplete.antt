@@ -2,8 +2,8 @@
 use Rattle.std.proofs.Common.{ℕ, ◌≡◌, ◌<◌, ◌≤◌, List, Some, None, arith, refl, ap, sym, ◌∙◌, subst}
 use Rattle.std.proofs.lemmas.Option.{none-some}
 use Rattle.ae_vread.specs.ModuleTree.{ModuleTree}
-use Rattle.ae_elab.specs.declared.fault.ElabFault.{ElabFault}
-use Rattle.ae_elab.specs.declared.fault.ElabFault.TheVariants as e
+use Rattle.ae_judge.specs.declared.fault.ElabFault.{ElabFault}
+use Rattle.ae_judge.specs.declared.fault.ElabFault.TheVariants as e
 use Rattle.ae_elab.specs.Faults.{IsFault, IsWellFormed}
 use Rattle.ae_parse.specs.Rows.{bad_row}
 use Rattle.ae_tool.specs.declared.status.VFaultKind.{VFaultKind}

@@ -7,7 +7,7 @@ use Rattle.ae_netlist.specs.Counts.{is_input, count_of, cells_of}
 use Rattle.ae_netlist.specs.Runs.{Clock}
 use Rattle.ae_netlist.specs.Rows.{IsRunWith, filled}
 use Rattle.ae_vread.specs.ModuleTree.{ModuleTree}
-use Rattle.ae_elab.specs.declared.fault.ElabFault.{ElabFault}
+use Rattle.ae_judge.specs.declared.fault.ElabFault.{ElabFault}
 use Rattle.ae_elab.specs.Faults.{IsFault, IsWellFormed}
 use Rattle.ae_tool.specs.declared.status.VFaultKind.{VFaultKind}
 use Rattle.ae_tool.specs.declared.status.Status.{Status}

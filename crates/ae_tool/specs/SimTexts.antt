@@ -7,8 +7,8 @@ use Rattle.ae_vread.specs.Spells.{Spells}
 use Rattle.ae_vread.specs.Refusals.{HasFault}
 use Rattle.ae_vread.specs.declared.reader.VFault.{VFault}
 use Rattle.ae_vread.specs.declared.reader.VFault.TheVariants as v
-use Rattle.ae_elab.specs.declared.fault.ElabFault.{ElabFault}
-use Rattle.ae_elab.specs.declared.fault.ElabFault.TheVariants as e
+use Rattle.ae_judge.specs.declared.fault.ElabFault.{ElabFault}
+use Rattle.ae_judge.specs.declared.fault.ElabFault.TheVariants as e
 use Rattle.ae_elab.specs.Faults.{IsFault, IsWellFormed}
 use Rattle.ae_elab.specs.Values.{ModuleClock}
 use Rattle.ae_elab.specs.Runs.{clock_at, IsRun}

@@ -12,7 +12,7 @@ use Rattle.ae_elab.specs.Names as e
 use Rattle.ae_elab.specs.Widths.{width_in, width_of}
 use Rattle.ae_elab.specs.Values.{ModuleClock, assigned}
 use Rattle.ae_elab.specs.Runs.{IsSettled}
-use Rattle.ae_elab.proofs.Members.{bytes_same, other_bytes, among_at}
+use Rattle.ae_judge.proofs.Members.{bytes_same, other_bytes, among_at}
 use Rattle.ae_verilog.specs.NetlistModule.{clock_name, port_name, number_name, cell_name, net_value, drive}
 use Rattle.ae_verilog.specs.Written.{IsWritableNetlist}
 use Rattle.ae_verilog.proofs.LawNames.{cell_not_clock, clock_not_output}

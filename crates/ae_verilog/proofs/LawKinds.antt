@@ -19,7 +19,7 @@ use Rattle.ae_vread.specs.ModuleTree.{ExprTree, constant, part, index, binary, c
 use Rattle.ae_elab.specs.Names.{Among, is_wire_kind, is_register_kind, is_memory_kind, passes, net_named, is_wire, is_memory, is_ranged, depth_in, depth_of, is_clock, drive_reads, item_reads}
 use Rattle.ae_elab.specs.Widths.{width_of}
 use Rattle.ae_elab.specs.Faults.{is_misused, is_misused_in_stmt, is_misused_in_drive, is_misused_in_item, HasKind, is_too_large, is_outside_of, is_outside, is_too_wide, is_too_wide_in_stmt, is_too_wide_in_drive, is_too_wide_in_item, HasWidth, Never}
-use Rattle.ae_elab.proofs.Members.{among_unflat, among_from}
+use Rattle.ae_judge.proofs.Members.{among_unflat, among_from}
 use Rattle.ae_verilog.specs.NetlistModule.{port_name, number_name, net_name, net_value, op_value}
 use Rattle.ae_verilog.specs.Written.{IsWritableNetlist}
 use Rattle.ae_verilog.proofs.LawNets.{written, cell_net, the_clock, a_cell, an_output, origin, name_of, cell_named, output_named, clock_named}

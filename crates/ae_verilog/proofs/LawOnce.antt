@@ -10,7 +10,7 @@ use Rattle.ae_netlist.specs.declared.cell.Outlet.{Outlet}
 use Rattle.ae_vread.specs.ModuleTree.{NetTree, ItemTree, ModuleTree}
 use Rattle.ae_elab.specs.Names.{Among, is_input_kind, passes, is_input, stmt_targets, target_of, item_targets}
 use Rattle.ae_elab.specs.Faults.{HasTwice, Never}
-use Rattle.ae_elab.proofs.Members.{among_split, among_from, among_at, among_unmap}
+use Rattle.ae_judge.proofs.Members.{among_split, among_from, among_at, among_unmap}
 use Rattle.ae_verilog.specs.NetlistModule.{port_name, cell_name, input_nets, output_net, declared_nets, listed, inputs_of, declared_from}
 use Rattle.ae_verilog.specs.Written.{IsWritableNetlist}
 use Rattle.ae_verilog.proofs.LawNames.{cell_not_clock, cell_not_output, clock_not_output, output_once, cell_once}

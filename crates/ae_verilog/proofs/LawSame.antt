@@ -19,7 +19,7 @@ use Rattle.ae_elab.specs.Names.{Among, is_input_kind, is_register_kind, is_memor
 use Rattle.ae_elab.specs.Values.{ModuleClock}
 use Rattle.ae_elab.specs.Runs.{clock_at, IsRun}
 use Rattle.ae_elab.specs.SameRuns as s
-use Rattle.ae_elab.proofs.Members.{among_unmap}
+use Rattle.ae_judge.proofs.Members.{among_unmap}
 use Rattle.ae_verilog.specs.NetlistModule.{port_name, number_name, cell_name, net_of, clock_net, input_nets, output_net, declared_nets, listed, inputs_of, declared_from}
 use Rattle.ae_verilog.specs.Written.{IsWritableNetlist}
 use Rattle.ae_verilog.proofs.LawNets.{listed_among, written}

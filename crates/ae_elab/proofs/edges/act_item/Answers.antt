@@ -3,15 +3,11 @@ use Rattle.std.specs.Prelude.{string_bytes}
 use Rattle.ae_vread.specs.ModuleTree.{always}
 use Rattle.ae_vread.specs.View.{item_tree, stmt_tree}
 use Rattle.ae_elab.specs.Edges.{ActsItems}
-use Rattle.ae_elab.proofs.Words.{on_ok_map}
 use Rattle.ae_elab.proofs.EdgeItems.{always_acts}
 use Rattle.ae_elab.proofs.edges.act_item.Goals as goal
 
-pub returns-in-Always-clause-acts : goal.returns-in-Always-clause-acts
-returns-in-Always-clause-acts c =
+pub returns-in_ok-act-in-Always-clause-acts : goal.returns-in_ok-act-in-Always-clause-acts
+returns-in_ok-act-in-Always-clause-acts c =
     let e : item_tree c.args.item.now ≡ always (string_bytes c.in-Always.clock) (stmt_tree c.in-Always.body) = rw c.in-Always.is refl in
-    on_ok_map c.act.result
-    (λ a.
     subst (λ i. ActsItems c.args.from c.args.names.now c.args.nets.now c.act.new.nl.cells c.args.nexts.now.items c.act.new.nexts.items (i ∷ [])) (sym e)
-    (always_acts c.args.from c.args.names.now c.args.nets.now c.args.nl.now.cells c.act.new.nl.cells c.args.nexts.now.items c.act.new.nexts.items (string_bytes c.in-Always.clock) (stmt_tree c.in-Always.body) a))
-    c.act.ensures.acts
+    (always_acts c.args.from c.args.names.now c.args.nets.now c.args.nl.now.cells c.act.new.nl.cells c.args.nexts.now.items c.act.new.nexts.items (string_bytes c.in-Always.clock) (stmt_tree c.in-Always.body) c.in_ok-act-in-Always.ensures.acts)

@@ -2,7 +2,7 @@ use Rattle.std.proofs.Common.{ℕ, ◌≡◌, ◌≤◌, ◌+◌, ◌*◌, List,
 use Rattle.std.specs.List.{sum_by}
 use Rattle.ae_netlist.specs.Circuit.{IsNet}
 use Rattle.ae_vread.specs.View.{expr_tree}
-use Rattle.ae_elab.specs.Widths.{own_width}
+use Rattle.ae_judge.specs.Widths.{own_width}
 use Rattle.ae_elab.specs.Cells.{Grows, IsWord}
 use Rattle.ae_elab.specs.Named.{AreNamed, AreNets, read}
 use Rattle.ae_elab.specs.Parts.{part_weight, joined_from}

@@ -4,7 +4,7 @@ use Rattle.std.proofs.lemmas.List.{length-map}
 use Rattle.ae_vread.specs.View.{expr_tree}
 use Rattle.ae_vread.specs.Reading.{concat_of}
 use Rattle.ae_vread.specs.declared.module.Expr.TheViews.{the_lemmas}
-use Rattle.ae_elab.specs.Names.{names_in}
+use Rattle.ae_judge.specs.Names.{names_in}
 use Rattle.ae_elab.specs.Named.{place_of}
 use Rattle.ae_elab.specs.Sound.{IsSound}
 use Rattle.ae_elab.proofs.SoundLaws.{has_part, parts_sound}

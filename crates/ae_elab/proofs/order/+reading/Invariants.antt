@@ -1,7 +1,7 @@
 use Rattle.std.proofs.Common.{◌≡◌, ◌++◌, map, take}
 use Rattle.std.specs.Prelude.{flat_map}
 use Rattle.ae_vread.specs.View.{expr_tree}
-use Rattle.ae_elab.specs.Names.{names_in}
+use Rattle.ae_judge.specs.Names.{names_in}
 use Rattle.ae_elab.specs.Named.{place_of}
 use Rattle.ae_elab.proofs.order.+reading.Given as goal
 

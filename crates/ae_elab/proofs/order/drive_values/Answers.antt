@@ -2,9 +2,9 @@ use Rattle.std.proofs.Common.{◌≡◌, length, map, replicate, None, ap, ◌�
 use Rattle.std.specs.Prelude.{flat_map}
 use Rattle.std.proofs.lemmas.List.{length-map}
 use Rattle.ae_vread.specs.View.{item_tree, net_tree, module_tree}
-use Rattle.ae_elab.specs.Names.{drives_of, equations}
+use Rattle.ae_judge.specs.Names.{drives_of, equations}
 use Rattle.ae_elab.specs.Drives.{noted}
-use Rattle.ae_elab.proofs.Members.{among_at, among_from}
+use Rattle.ae_judge.proofs.Members.{among_at, among_from}
 use Rattle.ae_elab.proofs.Declared.{equation_from}
 use Rattle.ae_elab.proofs.Turns.{at_turn, take_turn, take_whole}
 use Rattle.ae_elab.proofs.DriveLaws.{equations_driven}

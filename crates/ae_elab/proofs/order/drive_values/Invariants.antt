@@ -1,7 +1,7 @@
 use Rattle.std.proofs.Common.{◌≡◌, length, map, take, replicate, None}
 use Rattle.std.specs.Prelude.{flat_map, option_map}
 use Rattle.ae_vread.specs.View.{expr_tree, item_tree}
-use Rattle.ae_elab.specs.Names.{drives_of}
+use Rattle.ae_judge.specs.Names.{drives_of}
 use Rattle.ae_elab.specs.Drives.{noted}
 use Rattle.ae_elab.proofs.order.drive_values.Given as goal
 

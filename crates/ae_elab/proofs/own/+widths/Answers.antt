@@ -6,7 +6,7 @@ use Rattle.ae_vread.specs.View.{expr_tree}
 use Rattle.ae_vread.specs.Reading.{concat_of}
 use Rattle.ae_vread.specs.declared.module.Expr.TheViews.{the_lemmas}
 use Rattle.ae_vread.proofs.Rows.{concat_view}
-use Rattle.ae_elab.specs.Widths.{own_width}
+use Rattle.ae_judge.specs.Widths.{own_width}
 use Rattle.ae_elab.specs.Sound.{IsSound}
 use Rattle.ae_elab.proofs.SoundLaws.{sound_low, sound_high, has_part, parts_width, parts_sound}
 use Rattle.ae_elab.proofs.Turns.{at_turn, sum_turn, sum_turn_le, take_whole}

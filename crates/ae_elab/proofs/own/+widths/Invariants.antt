@@ -1,7 +1,7 @@
 use Rattle.std.proofs.Common.{◌≡◌, take, map}
 use Rattle.std.specs.List.{sum_by}
 use Rattle.ae_vread.specs.View.{expr_tree}
-use Rattle.ae_elab.specs.Widths.{own_width}
+use Rattle.ae_judge.specs.Widths.{own_width}
 use Rattle.ae_elab.proofs.own.+widths.Given as goal
 
 -- the widths of the parts so far

@@ -1,7 +1,7 @@
 use Rattle.std.proofs.Common.{◌≡◌, get_or, true, false, sym, ap, ◌∙◌}
 use Rattle.ae_netlist.specs.Runs.{store_at}
 use Rattle.ae_netlist.proofs.Growing.{keeps_extends}
-use Rattle.ae_elab.specs.Names.{is_memory}
+use Rattle.ae_judge.specs.Names.{is_memory}
 use Rattle.ae_elab.specs.Named.{read}
 use Rattle.ae_elab.proofs.Words.{same_word}
 use Rattle.ae_elab.proofs.NetLaws.{name_net, name_memory, name_word, index_value, bit_value}

@@ -1,19 +1,33 @@
-use Rattle.std.proofs.Common.{◌≡◌, ◌+◌, ◌*◌, ◌<◌, length, map, drop, rules, sym, ap, subst, arith}
+use Rattle.std.proofs.Common.{◌≡◌, ◌+◌, ◌*◌, ◌<◌, length, map, drop, OnOk, rules, sym, ap, subst, arith}
 use Rattle.ae_vread.specs.ModuleTree.{when, either}
 use Rattle.ae_vread.specs.StmtReading.{block_of}
 use Rattle.ae_vread.specs.View.{expr_tree, stmt_tree}
 use Rattle.ae_vread.specs.declared.module.Stmt.TheViews.{the_lemmas}
-use Rattle.ae_elab.specs.Names.{stmt_targets}
-use Rattle.ae_elab.specs.Weight.{stmt_weight}
+use Rattle.ae_judge.specs.Names.{stmt_targets}
+use Rattle.ae_judge.specs.Weight.{stmt_weight}
 use Rattle.ae_elab.specs.Cells.{HasRoom}
-use Rattle.ae_elab.specs.Edges.{IsSoundStmt, IsReadyStmt, AreFresh, OthersKeep, Acts}
+use Rattle.ae_elab.specs.Edges.{IsSoundStmt, IsReadyStmt, AreFresh, IsActed}
 use Rattle.ae_elab.proofs.Words.{grows_trans, net_grows, on_ok_map}
 use Rattle.ae_elab.proofs.NetLaws.{nets_grow}
-use Rattle.ae_elab.proofs.EdgeLaws.{guard_net_grows, on_ok_both, when_acts, either_acts}
-use Rattle.ae_elab.proofs.EdgeFits.{nexts_grow, fresh_left, fresh_right, others_both, weight_more}
-use Rattle.ae_elab.proofs.EdgeBlocks.{IsActing, acting_step, acting_done, next_fresh, drop_turn, drop_done}
-use Rattle.ae_elab.proofs.Parts.{stmts_view}
+use Rattle.ae_elab.proofs.EdgeLaws.{guard_net_grows}
+use Rattle.ae_elab.proofs.EdgeFits.{nexts_grow, fresh_left, fresh_right, weight_more}
+use Rattle.ae_elab.proofs.EdgeBlocks.{IsActing, acting_step, next_fresh, drop_turn, drop_done}
+use Rattle.ae_elab.proofs.Acted.{acted, block_acted, when_acted, either_acted}
+use Rattle.ae_judge.proofs.Parts.{stmts_view}
 use Rattle.ae_elab.proofs.statements.+acting.Goals as goal
+
+-- one assignment
+pub act-returns-in-Set : goal.act-returns-in-Set
+act-returns-in-Set t c =
+    rw c.in-Set.is
+    (acted c.args.from c.args.names.now c.args.nets.now c.args.guard c.assign.result c.args.nl.now c.assign.new.nl c.args.nexts.now.items c.assign.new.nexts.items _
+    c.assign.ensures.grows c.assign.ensures.more c.assign.ensures.few c.assign.ensures.nexts (rw c.deref.ensures at c.assign.ensures.others) (rw c.deref.ensures at c.assign.ensures.acts))
+
+pub act-returns-in-Put : goal.act-returns-in-Put
+act-returns-in-Put t c =
+    rw c.in-Put.is
+    (acted c.args.from c.args.names.now c.args.nets.now c.args.guard c.write.result c.args.nl.now c.write.new.nl c.args.nexts.now.items c.write.new.nexts.items _
+    c.write.ensures.grows c.write.ensures.more c.write.ensures.few c.write.ensures.nexts (rw c.deref-in-Put.ensures at c.write.ensures.others) (rw c.deref-in-Put.ensures at c.write.ensures.acts))
 
 -- a branch
 pub act-act-requires : goal.act-act-requires
@@ -35,28 +49,18 @@ act-act-requires t c =
     let g = grows_trans c.in_ok-zero-in-If-default-default-None.ensures.grows c.in_ok-first-in-If-default-default-None.ensures.grows in
     search (rules, the_lemmas, sound.1, ready.1, fresh, room, nets_grow g c.requires.nets, nexts_grow g c.requires.nexts, c.in_ok-first-in-If-default-default-None.ensures.net)
 
-pub act-returns-in_ok-first-in-If-default-default-None-clause-few : goal.act-returns-in_ok-first-in-If-default-default-None-clause-few
-act-returns-in_ok-first-in-If-default-default-None-clause-few t c =
-    let s = stmt_tree c.deref-in-If-default-default-None.result.now in
-    let e : stmt_tree c.args.stmt.now ≡ when (expr_tree c.in-If-default-default-None.test) (stmt_tree c.deref-in-If-default-default-None.result.now) =
-    search (rules, the_lemmas) in
-    let weight = ap (stmt_weight 0) e in
-    let heavier = weight_more 0 s in
-    let few = c.in_ok-zero-in-If-default-default-None.ensures.few in
-    let few_more = c.in_ok-first-in-If-default-default-None.ensures.few in
-    on_ok_map c.act.result (λ h. omega arith) c.act.ensures.few
-
-pub act-returns-in_ok-first-in-If-default-default-None-clause-acts : goal.act-returns-in_ok-first-in-If-default-default-None-clause-acts
-act-returns-in_ok-first-in-If-default-default-None-clause-acts t c =
+pub act-returns-in_ok-first-in-If-default-default-None : goal.act-returns-in_ok-first-in-If-default-default-None
+act-returns-in_ok-first-in-If-default-default-None t c =
     let e : stmt_tree c.args.stmt.now ≡ when (expr_tree c.in-If-default-default-None.test) (stmt_tree c.deref-in-If-default-default-None.result.now) =
     search (rules, the_lemmas) in
     on_ok_map c.act.result
-    (λ a.
-    subst (Acts c.args.from c.args.names.now c.args.nets.now c.args.guard c.args.nl.now.cells c.act.new.nl.cells c.args.nexts.now.items c.act.new.nexts.items) (sym e)
-    (when_acts c.args.from c.args.names.now c.args.nets.now c.args.guard c.args.nl.now c.fails.new.nl c.unless.new.nl c.act.new.nl c.args.nexts.now.items c.act.new.nexts.items
+    (λ h.
+    subst (IsActed c.args.from c.args.names.now c.args.nets.now c.args.guard c.args.nl.now c.act.new.nl c.args.nexts.now.items c.act.new.nexts.items) (sym e)
+    (when_acted c.args.from c.args.names.now c.args.nets.now c.args.guard c.args.nl.now c.fails.new.nl c.unless.new.nl c.act.new.nl c.args.nexts.now.items c.act.new.nexts.items
     (expr_tree c.in-If-default-default-None.test) (stmt_tree c.deref-in-If-default-default-None.result.now) c.in_ok-zero-in-If-default-default-None.zero c.in_ok-first-in-If-default-default-None.first
-    c.in_ok-zero-in-If-default-default-None.ensures.grows c.in_ok-zero-in-If-default-default-None.ensures.word c.in_ok-first-in-If-default-default-None.ensures.word a))
-    c.act.ensures.acts
+    c.in_ok-zero-in-If-default-default-None.ensures.grows c.in_ok-zero-in-If-default-default-None.ensures.more c.in_ok-zero-in-If-default-default-None.ensures.few c.in_ok-first-in-If-default-default-None.ensures.grows c.in_ok-first-in-If-default-default-None.ensures.more c.in_ok-first-in-If-default-default-None.ensures.few
+    c.in_ok-zero-in-If-default-default-None.ensures.word c.in_ok-first-in-If-default-default-None.ensures.word h))
+    c.act.ensures
 
 -- two branches
 pub act-act-requires-in-If-default-default-Some : goal.act-act-requires-in-If-default-default-Some
@@ -125,48 +129,18 @@ act-act-requires-in-If-default-default-Some-2 t c =
       net_grows c.in_ok-act-in-If-default-default-Some.ensures.grows c.in_ok-second-in-If-default-default-Some.ensures.net,
     )
 
-pub act-returns-in_ok-act-in-If-default-default-Some-clause-grows : goal.act-returns-in_ok-act-in-If-default-default-Some-clause-grows
-act-returns-in_ok-act-in-If-default-default-Some-clause-grows t c =
-    let g = grows_trans c.in_ok-zero-in-If-default-default-Some.ensures.grows (grows_trans c.in_ok-first-in-If-default-default-Some.ensures.grows (grows_trans c.in_ok-second-in-If-default-default-Some.ensures.grows c.in_ok-act-in-If-default-default-Some.ensures.grows)) in
-    on_ok_map c.act-in-If-default-default-Some-2.result (λ h. grows_trans g h) c.act-in-If-default-default-Some-2.ensures.grows
-
-pub act-returns-in_ok-act-in-If-default-default-Some-clause-few : goal.act-returns-in_ok-act-in-If-default-default-Some-clause-few
-act-returns-in_ok-act-in-If-default-default-Some-clause-few t c =
-    let yes = stmt_tree c.deref-in-If-default-default-Some.result.now in
-    let no = stmt_tree c.deref-in-If-default-default-Some-2.result.now in
-    let e : stmt_tree c.args.stmt.now ≡ either (expr_tree c.in-If-default-default-Some.test) (stmt_tree c.deref-in-If-default-default-Some.result.now) (stmt_tree c.deref-in-If-default-default-Some-2.result.now) = search (rules, the_lemmas) in
-    let weight = ap (stmt_weight 0) e in
-    let heavier = weight_more 0 yes in
-    let heavier_too = weight_more 0 no in
-    let few_zero = c.in_ok-zero-in-If-default-default-Some.ensures.few in
-    let few_first = c.in_ok-first-in-If-default-default-Some.ensures.few in
-    let few_second = c.in_ok-second-in-If-default-default-Some.ensures.few in
-    let few_act = c.in_ok-act-in-If-default-default-Some.ensures.few in
-    on_ok_map c.act-in-If-default-default-Some-2.result (λ h. omega arith) c.act-in-If-default-default-Some-2.ensures.few
-
-pub act-returns-in_ok-act-in-If-default-default-Some-clause-others : goal.act-returns-in_ok-act-in-If-default-default-Some-clause-others
-act-returns-in_ok-act-in-If-default-default-Some-clause-others t c =
-    let yes = stmt_tree c.deref-in-If-default-default-Some.result.now in
-    let no = stmt_tree c.deref-in-If-default-default-Some-2.result.now in
+pub act-returns-in_ok-act-in-If-default-default-Some : goal.act-returns-in_ok-act-in-If-default-default-Some
+act-returns-in_ok-act-in-If-default-default-Some t c =
     let e : stmt_tree c.args.stmt.now ≡ either (expr_tree c.in-If-default-default-Some.test) (stmt_tree c.deref-in-If-default-default-Some.result.now) (stmt_tree c.deref-in-If-default-default-Some-2.result.now) = search (rules, the_lemmas) in
     on_ok_map c.act-in-If-default-default-Some-2.result
     (λ h.
-    subst (λ u. OthersKeep c.args.names.now c.args.nexts.now.items c.act-in-If-default-default-Some-2.new.nexts.items (stmt_targets u)) (sym e)
-    (others_both c.args.names.now c.args.nexts.now.items c.act-in-If-default-default-Some.new.nexts.items c.act-in-If-default-default-Some-2.new.nexts.items (stmt_targets yes) (stmt_targets no) c.in_ok-act-in-If-default-default-Some.ensures.others h))
-    c.act-in-If-default-default-Some-2.ensures.others
-
-pub act-returns-in_ok-act-in-If-default-default-Some-clause-acts : goal.act-returns-in_ok-act-in-If-default-default-Some-clause-acts
-act-returns-in_ok-act-in-If-default-default-Some-clause-acts t c =
-    let e : stmt_tree c.args.stmt.now ≡ either (expr_tree c.in-If-default-default-Some.test) (stmt_tree c.deref-in-If-default-default-Some.result.now) (stmt_tree c.deref-in-If-default-default-Some-2.result.now) = search (rules, the_lemmas) in
-    on_ok_both c.act-in-If-default-default-Some-2.result
-    (λ later a.
-    subst (Acts c.args.from c.args.names.now c.args.nets.now c.args.guard c.args.nl.now.cells c.act-in-If-default-default-Some-2.new.nl.cells c.args.nexts.now.items c.act-in-If-default-default-Some-2.new.nexts.items) (sym e)
-    (either_acts c.args.from c.args.names.now c.args.nets.now c.args.guard c.args.nl.now c.fails-in-If-default-default-Some.new.nl c.unless-in-If-default-default-Some.new.nl c.also.new.nl c.act-in-If-default-default-Some.new.nl c.act-in-If-default-default-Some-2.new.nl
+    subst (IsActed c.args.from c.args.names.now c.args.nets.now c.args.guard c.args.nl.now c.act-in-If-default-default-Some-2.new.nl c.args.nexts.now.items c.act-in-If-default-default-Some-2.new.nexts.items) (sym e)
+    (either_acted c.args.from c.args.names.now c.args.nets.now c.args.guard c.args.nl.now c.fails-in-If-default-default-Some.new.nl c.unless-in-If-default-default-Some.new.nl c.also.new.nl c.act-in-If-default-default-Some.new.nl c.act-in-If-default-default-Some-2.new.nl
     c.args.nexts.now.items c.act-in-If-default-default-Some.new.nexts.items c.act-in-If-default-default-Some-2.new.nexts.items
     (expr_tree c.in-If-default-default-Some.test) (stmt_tree c.deref-in-If-default-default-Some.result.now) (stmt_tree c.deref-in-If-default-default-Some-2.result.now) c.in_ok-zero-in-If-default-default-Some.zero c.in_ok-first-in-If-default-default-Some.first c.in_ok-second-in-If-default-default-Some.second
-    c.in_ok-zero-in-If-default-default-Some.ensures.grows c.in_ok-first-in-If-default-default-Some.ensures.grows c.in_ok-second-in-If-default-default-Some.ensures.grows c.in_ok-act-in-If-default-default-Some.ensures.grows later
-    c.in_ok-zero-in-If-default-default-Some.ensures.word c.in_ok-first-in-If-default-default-Some.ensures.word c.in_ok-second-in-If-default-default-Some.ensures.word c.in_ok-act-in-If-default-default-Some.ensures.acts a))
-    c.act-in-If-default-default-Some-2.ensures.grows c.act-in-If-default-default-Some-2.ensures.acts
+    c.in_ok-zero-in-If-default-default-Some.ensures.grows c.in_ok-zero-in-If-default-default-Some.ensures.more c.in_ok-zero-in-If-default-default-Some.ensures.few c.in_ok-first-in-If-default-default-Some.ensures.grows c.in_ok-first-in-If-default-default-Some.ensures.more c.in_ok-first-in-If-default-default-Some.ensures.few c.in_ok-second-in-If-default-default-Some.ensures.grows c.in_ok-second-in-If-default-default-Some.ensures.more c.in_ok-second-in-If-default-default-Some.ensures.few
+    c.in_ok-zero-in-If-default-default-Some.ensures.word c.in_ok-first-in-If-default-default-Some.ensures.word c.in_ok-second-in-If-default-default-Some.ensures.word c.in_ok-act-in-If-default-default-Some.ensures h))
+    c.act-in-If-default-default-Some-2.ensures
 
 -- a block
 pub act-act_all-requires : goal.act-act_all-requires
@@ -178,21 +152,10 @@ act-act_all-requires t c =
     let room = subst (λ u. HasRoom c.args.nl.now (8 * stmt_weight 0 u)) e c.requires.room in
     search (rules, the_lemmas, sound, ready, fresh, room)
 
-pub act-returns-in-Block-clause-few : goal.act-returns-in-Block-clause-few
-act-returns-in-Block-clause-few t c =
+pub act-returns-in-Block : goal.act-returns-in-Block
+act-returns-in-Block t c =
     let e : stmt_tree c.args.stmt.now ≡ block_of (map stmt_tree c.deref-in-Block.result.now) = stmts_view c.args.stmt.now c.in-Block.stmts c.deref-in-Block.result.now c.in-Block.is c.deref-in-Block.ensures.value in
-    let weight = ap (stmt_weight 0) e in
-    on_ok_map c.act_all.result (λ h. omega arith) c.act_all.ensures.few
-
-pub act-returns-in-Block-clause-others : goal.act-returns-in-Block-clause-others
-act-returns-in-Block-clause-others t c =
-    let e : stmt_tree c.args.stmt.now ≡ block_of (map stmt_tree c.deref-in-Block.result.now) = stmts_view c.args.stmt.now c.in-Block.stmts c.deref-in-Block.result.now c.in-Block.is c.deref-in-Block.ensures.value in
-    on_ok_map c.act_all.result (λ h. subst (λ u. OthersKeep c.args.names.now c.args.nexts.now.items c.act_all.new.nexts.items (stmt_targets u)) (sym e) h) c.act_all.ensures.others
-
-pub act-returns-in-Block-clause-acts : goal.act-returns-in-Block-clause-acts
-act-returns-in-Block-clause-acts t c =
-    let e : stmt_tree c.args.stmt.now ≡ block_of (map stmt_tree c.deref-in-Block.result.now) = stmts_view c.args.stmt.now c.in-Block.stmts c.deref-in-Block.result.now c.in-Block.is c.deref-in-Block.ensures.value in
-    on_ok_map c.act_all.result (λ h. subst (Acts c.args.from c.args.names.now c.args.nets.now c.args.guard c.args.nl.now.cells c.act_all.new.nl.cells c.args.nexts.now.items c.act_all.new.nexts.items) (sym e) h) c.act_all.ensures.acts
+    subst (λ u. OnOk c.act_all.result (IsActed c.args.from c.args.names.now c.args.nets.now c.args.guard c.args.nl.now c.act_all.new.nl c.args.nexts.now.items c.act_all.new.nexts.items u)) (sym e) c.act_all.ensures
 
 -- the statements of a block
 pub act_all-act-requires : goal.act_all-act-requires
@@ -233,9 +196,9 @@ act_all-loop-stmt-preserved t c =
     acting_step c.args.from c.args.names.now c.args.nets.now c.args.guard c.args.nl.now c.args.nexts.now.items whole c.loop-stmt.nl c.act.new.nl c.loop-stmt.nexts.items c.act.new.nexts.items (stmt_tree c.stmt-item.result) rest here
     c.in_ok-act.ensures.grows c.in_ok-act.ensures.more c.in_ok-act.ensures.few c.in_ok-act.ensures.nexts c.in_ok-act.ensures.others c.in_ok-act.ensures.acts
 
-pub act_all-returns-clause-acts : goal.act_all-returns-clause-acts
-act_all-returns-clause-acts t c =
+pub act_all-returns : goal.act_all-returns
+act_all-returns t c =
     let whole = block_of (map stmt_tree c.args.stmts.now) in
     let done = drop_done stmt_tree c.args.stmts.now c.loop-stmt.stmt-index (omega arith) in
-    acting_done c.args.from c.args.names.now c.args.nets.now c.args.guard c.args.nl.now c.args.nexts.now.items whole c.loop-stmt.nl c.loop-stmt.nexts.items
+    block_acted c.args.from c.args.names.now c.args.nets.now c.args.guard c.args.nl.now c.loop-stmt.nl c.args.nexts.now.items c.loop-stmt.nexts.items whole
     (subst (λ u. IsActing c.args.from c.args.names.now c.args.nets.now c.args.guard c.args.nl.now c.loop-stmt.nl c.args.nexts.now.items c.loop-stmt.nexts.items whole (block_of u)) done c.loop-stmt.invariant)

@@ -1,7 +1,7 @@
 use Rattle.std.proofs.Common.{◌<◌, ◌%◌, ◌^◌, length, max, inl, arith, sym, ap, ◌∙◌, subst}
 use Rattle.ae_netlist.specs.Circuit.{IsNet}
 use Rattle.ae_vread.specs.View.{expr_tree}
-use Rattle.ae_elab.specs.Widths.{own_width}
+use Rattle.ae_judge.specs.Widths.{own_width}
 use Rattle.ae_elab.specs.Values.{value_at}
 use Rattle.ae_elab.specs.Named.{place_of, read}
 use Rattle.ae_elab.specs.Edges.{IsSoFar, next_at}

@@ -1,6 +1,6 @@
 use Rattle.std.proofs.Common.{ℕ, ◌≡◌, ◌%◌, ◌^◌, max, subst}
 use Rattle.ae_vread.specs.View.{expr_tree}
-use Rattle.ae_elab.specs.Widths.{own_width}
+use Rattle.ae_judge.specs.Widths.{own_width}
 use Rattle.ae_elab.specs.Values.{value_at}
 use Rattle.ae_elab.specs.Cells.{IsWord}
 use Rattle.ae_elab.specs.Named.{read}
@@ -8,6 +8,6 @@ use Rattle.ae_elab.proofs.wires.given_word.Goals as goal
 
 pub returns-clause-word : goal.returns-clause-word
 returns-clause-word c = λ at named.
-    let wide : c.max-wide.result ≡ max (own_width c.args.names.now (expr_tree c.args.e.now)) c.args.width = rw c.own_width.ensures.own at c.max-wide.ensures in
+    let wide : c.given_width-wide.result ≡ max (own_width c.args.names.now (expr_tree c.args.e.now)) c.args.width = c.given_width-wide.ensures.given in
     subst (λ (w : ℕ). IsWord c.args.from c.fit.new.nl.cells c.in_ok-y.y.0 c.args.width (λ run t. value_at c.args.names.now (read at run t) w (expr_tree c.args.e.now) % 2 ^ c.args.width)) wide
     (c.in_ok-y.ensures.word _ (c.in_ok-x.ensures.word at named))

@@ -1,7 +1,0 @@
-use Rattle.std.proofs.Common.{◌≡◌, false, take}
-use Rattle.std.specs.List.{list_any}
-use Rattle.ae_elab.specs.Judging.{is_driven}
-use Rattle.ae_elab.proofs.judge.twice.any_driven.Given as goal
-
-abbrev pub invariant-loop-name : goal.invariant-loop-name
-invariant-loop-name l = list_any (λ s. is_driven l.names l.driven s.now) (take l.name-index l.targets) ≡ false

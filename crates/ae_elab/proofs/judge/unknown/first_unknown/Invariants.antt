@@ -1,7 +1,0 @@
-use Rattle.std.proofs.Common.{◌≡◌, ◌+◌, drop, map}
-use Rattle.ae_vread.specs.View.{item_tree}
-use Rattle.ae_elab.specs.Judging.{first_from, uses_unknown}
-use Rattle.ae_elab.proofs.judge.unknown.first_unknown.Given as goal
-
-abbrev pub invariant-loop-item : goal.invariant-loop-item
-invariant-loop-item l = (l.number ≡ l.item-index) × (first_from (uses_unknown l.names) (l.number + 1) (map item_tree (drop l.item-index l.items)) ≡ first_from (uses_unknown l.names) 1 (map item_tree l.items))

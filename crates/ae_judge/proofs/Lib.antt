@@ -1,0 +1,15 @@
+pub mod Members
+pub mod TokenShape
+pub mod Shapely
+pub mod PlaceLemmas
+pub mod Parts
+pub mod Misused
+pub mod Loops
+pub mod Wide
+pub mod Weighing
+pub mod Reading
+pub mod Firsts
+pub mod Scan
+pub mod Unknowns
+pub mod Doubled
+pub mod Judged

@@ -1,0 +1,87 @@
+-- Concatenations and blocks, by the lists that they hold.
+use mathlib.Core.Former.{Count}
+use Rattle.std.proofs.Common.{◌≡◌, ◌<◌, List, [], ◌∷◌, refl, sym, ap, ◌∙◌, subst, Vec, Global, map, arith}
+use Rattle.std.specs.List.{AllByRecursion}
+use Rattle.ae_vread.specs.ModuleTree.{ExprTree, name, concat_one, concat_more, StmtTree, block_end, block_more}
+use Rattle.ae_vread.specs.View.{expr_tree, parts_tree, parts_behind, stmt_tree, block_tree}
+use Rattle.ae_vread.specs.declared.module.Expr.{Expr, Concat, Concat', Row_of-Expr, end_of-Expr, more_of-Expr, items-the_row-Expr, items_hidden-the_row-Expr-0}
+use Rattle.ae_vread.specs.declared.module.Stmt.{Stmt, Block, Block', Row_of-Stmt, end_of-Stmt, more_of-Stmt, items-the_row-Stmt, items_hidden-the_row-Stmt-0}
+use Rattle.ae_judge.specs.Shape.{IsLettered, IsLetteredStmt}
+
+-- the concatenation of parts; one of none is that of a name of no letters
+abbrev pub concat_behind : ExprTree → List ExprTree → ExprTree
+concat_behind first [] = concat_one first
+concat_behind first (x ∷ xs) = concat_more first (concat_behind x xs)
+
+abbrev pub concat_of : List ExprTree → ExprTree
+concat_of [] = concat_one (name [])
+concat_of (x ∷ xs) = concat_behind x xs
+
+abbrev row_of : Expr → (n : Count) × Row_of-Expr n
+row_of (Concat' _ row) = (_, row)
+row_of _ = (_, end_of-Expr)
+
+behind : (n : _) (row : Row_of-Expr n) (first : ExprTree) → parts_behind first row ≡ concat_behind first (map expr_tree (items-the_row-Expr n row))
+behind n end_of-Expr first = refl
+behind n (more_of-Expr a rest) first = ap (concat_more first) (behind _ rest (expr_tree a))
+
+of_row : (n : _) (row : Row_of-Expr n) → parts_tree row ≡ concat_of (map expr_tree (items-the_row-Expr n row))
+of_row n end_of-Expr = refl
+of_row n (more_of-Expr a rest) = behind _ rest (expr_tree a)
+
+pub concat_view : (parts : Vec Expr Global) → expr_tree (Concat parts) ≡ concat_of (map expr_tree parts.items)
+concat_view parts =
+    let row = row_of (Concat parts) in
+    of_row row.0 row.1 ∙ ap (λ xs. concat_of (map expr_tree xs)) (items_hidden-the_row-Expr-0 parts)
+
+-- the block of statements
+abbrev pub block_of : List StmtTree → StmtTree
+block_of [] = block_end
+block_of (x ∷ xs) = block_more x (block_of xs)
+
+abbrev stmt_row : Stmt → (n : Count) × Row_of-Stmt n
+stmt_row (Block' _ row) = (_, row)
+stmt_row _ = (_, end_of-Stmt)
+
+of_stmts : (n : _) (row : Row_of-Stmt n) → block_tree row ≡ block_of (map stmt_tree (items-the_row-Stmt n row))
+of_stmts n end_of-Stmt = refl
+of_stmts n (more_of-Stmt a rest) = ap (block_more (stmt_tree a)) (of_stmts _ rest)
+
+pub block_view : (parts : Vec Stmt Global) → stmt_tree (Block parts) ≡ block_of (map stmt_tree parts.items)
+block_view parts =
+    let row = stmt_row (Block parts) in
+    of_stmts row.0 row.1 ∙ ap (λ xs. block_of (map stmt_tree xs)) (items_hidden-the_row-Stmt-0 parts)
+
+lettered_behind : (first : ExprTree) (es : List ExprTree) → IsLettered (concat_behind first es) → AllByRecursion IsLettered (first ∷ es)
+lettered_behind first [] h = (h, tt)
+lettered_behind first (x ∷ xs) h = (h.0, lettered_behind x xs h.1)
+
+-- each part of a lettered concatenation is
+pub lettered_parts : (es : List ExprTree) → IsLettered (concat_of es) → AllByRecursion IsLettered es
+lettered_parts [] h = tt
+lettered_parts (x ∷ xs) h = lettered_behind x xs h
+
+-- and there is one
+pub lettered_some : (es : List ExprTree) → IsLettered (concat_of es) → (x : ExprTree) × (xs : List ExprTree) × (es ≡ x ∷ xs)
+lettered_some [] h = absurd (let l : 0 < 0 = h in omega arith)
+lettered_some (x ∷ xs) h = (x, xs, refl)
+
+pub lettered_block : (ss : List StmtTree) → IsLetteredStmt (block_of ss) → AllByRecursion IsLetteredStmt ss
+lettered_block [] h = tt
+lettered_block (s ∷ ss) h = (h.0, lettered_block ss h.1)
+
+pub parts_lettered : (e : Expr) (parts : Vec Expr Global) (xs : List Expr) → e ≡ Concat parts → xs ≡ parts.items → IsLettered (expr_tree e) → AllByRecursion IsLettered (map expr_tree xs)
+parts_lettered e parts xs is same h =
+    subst (λ (ys : List Expr). AllByRecursion IsLettered (map expr_tree ys)) (sym same)
+    (lettered_parts (map expr_tree parts.items) (subst IsLettered (ap expr_tree is ∙ concat_view parts) h))
+
+pub parts_view : (e : Expr) (parts : Vec Expr Global) (xs : List Expr) → e ≡ Concat parts → xs ≡ parts.items → expr_tree e ≡ concat_of (map expr_tree xs)
+parts_view e parts xs is same = ap expr_tree is ∙ concat_view parts ∙ ap (λ (ys : List Expr). concat_of (map expr_tree ys)) (sym same)
+
+pub stmts_lettered : (s : Stmt) (parts : Vec Stmt Global) (xs : List Stmt) → s ≡ Block parts → xs ≡ parts.items → IsLetteredStmt (stmt_tree s) → AllByRecursion IsLetteredStmt (map stmt_tree xs)
+stmts_lettered s parts xs is same h =
+    subst (λ (ys : List Stmt). AllByRecursion IsLetteredStmt (map stmt_tree ys)) (sym same)
+    (lettered_block (map stmt_tree parts.items) (subst IsLetteredStmt (ap stmt_tree is ∙ block_view parts) h))
+
+pub stmts_view : (s : Stmt) (parts : Vec Stmt Global) (xs : List Stmt) → s ≡ Block parts → xs ≡ parts.items → stmt_tree s ≡ block_of (map stmt_tree xs)
+stmts_view s parts xs is same = ap stmt_tree is ∙ block_view parts ∙ ap (λ (ys : List Stmt). block_of (map stmt_tree ys)) (sym same)

@@ -1,0 +1,113 @@
+// The first fault of a module.
+
+ghost use Rattle.std.specs.Prelude.{◌≡◌, IfErr, IfOk, OnOk};
+ghost use Rattle.ae_vread.specs.View.{module_tree};
+ghost use Rattle.ae_judge.specs.Faults.{HasUnknown, HasTwice, HasKind, HasUndriven, HasWidth, IsFault};
+ghost use Rattle.ae_judge.specs.Judging.{IsEarly, IsFirstOf, IsSound, earlier};
+ghost use Rattle.ae_judge.specs.Shape.{IsShapely};
+
+use crate::fault::ElabFault;
+use crate::kinds::{clock_of, first_misuse};
+use crate::names::Names;
+use crate::twice::{first_again, first_twice, first_undriven};
+use crate::unknown::first_unknown;
+use crate::widths::{first_too_large, first_too_wide};
+use ae_vread::VModule;
+use std::alloc::{AllocError, Global};
+
+impl From<AllocError> for ElabFault {
+    ghost use Rattle.std.specs.Prelude.{◌≡◌};
+    ghost use Rattle.ae_judge.specs.declared.fault.ElabFault.TheVariants.{Memory};
+
+    ghost from_gives = { λ _ e. e ≡ Memory };
+
+    fn from(_: AllocError) -> ElabFault {
+        ElabFault::Memory
+    }
+}
+
+/// The lesser of two numbers, where both are there.
+fn earlier(a: Option<u32>, b: Option<u32>) -> Option<u32>
+    ensures { result ≡ earlier a b }
+{
+    match (a, b) {
+        (Some(a), Some(b)) => Some(a.min(b)),
+        (Some(a), None) => Some(a),
+        (None, b) => b,
+    }
+}
+
+/// The first item that uses a name that is not declared before.
+fn unknown_item(alloc: Global, m: &VModule, names: &Names<'_>) -> Result<Option<u32>, AllocError>
+    requires shape { IsShapely (module_tree m.now) }
+    requires names { names.now ≡ (module_tree m.now).nets }
+    ensures { IfOk result (λ o. IsFirstOf (HasUnknown (module_tree m.now)) o) }
+{
+    first_unknown(alloc, names, &m.items)
+}
+
+/// The first item that declares or drives a name again.
+fn twice_item(alloc: Global, m: &VModule, names: &Names<'_>) -> Result<Option<u32>, AllocError>
+    requires shape { IsShapely (module_tree m.now) }
+    requires names { names.now ≡ (module_tree m.now).nets }
+    ensures { IfOk result (λ o. IsFirstOf (HasTwice (module_tree m.now)) o) }
+{
+    let declared = first_again(alloc, &m.nets)?;
+    let driven = first_twice(alloc, names, &m.items)?;
+    Ok(earlier(declared, driven))
+}
+
+/// The first item that uses a name as its kind does not allow.
+fn kind_item(alloc: Global, m: &VModule, names: &Names<'_>) -> Result<Option<u32>, AllocError>
+    requires shape { IsShapely (module_tree m.now) }
+    requires names { names.now ≡ (module_tree m.now).nets }
+    ensures { IfOk result (λ o. IsFirstOf (HasKind (module_tree m.now)) o) }
+{
+    let clock = clock_of(names, &m.items);
+    first_misuse(alloc, names, clock, &m.items)
+}
+
+/// The place of the first net that nothing drives.
+fn undriven_net(alloc: Global, m: &VModule) -> Result<Option<u32>, AllocError>
+    requires shape { IsShapely (module_tree m.now) }
+    ensures { IfOk result (λ o. IsFirstOf (HasUndriven (module_tree m.now)) o) }
+{
+    first_undriven(alloc, &m.nets, &m.items)
+}
+
+/// The first item in which something is out of its range.
+fn width_item(m: &VModule, names: &Names<'_>) -> Option<u32>
+    requires shape { IsShapely (module_tree m.now) }
+    requires names { names.now ≡ (module_tree m.now).nets }
+    ensures { IsFirstOf (HasWidth (module_tree m.now)) result }
+{
+    earlier(first_too_large(&m.nets), first_too_wide(names, &m.items))
+}
+
+/// Whether a module has no fault but, it may be, a loop or too great a weight; else its first fault. Kinds of fault come
+/// in the order of `ElabFault`, each over the whole module. The time is linear in the module, but for concatenations in
+/// one another, whose widths are added up once for each that they stand in.
+pub fn judge(alloc: Global, m: &VModule, names: &Names<'_>) -> Result<(), ElabFault>
+    requires shape { IsShapely (module_tree m.now) }
+    requires names { names.now ≡ (module_tree m.now).nets }
+    ensures sound { OnOk result (IsSound (module_tree m.now)) }
+    ensures fault { IfErr result (λ e. IsFault (module_tree m.now) e) }
+    ensures early { IfErr result (λ e. IsEarly e) }
+{
+    if let Some(item) = unknown_item(alloc, m, names)? {
+        return Err(ElabFault::Unknown { item });
+    }
+    if let Some(item) = twice_item(alloc, m, names)? {
+        return Err(ElabFault::Twice { item });
+    }
+    if let Some(item) = kind_item(alloc, m, names)? {
+        return Err(ElabFault::Kind { item });
+    }
+    if let Some(net) = undriven_net(alloc, m)? {
+        return Err(ElabFault::Undriven { net });
+    }
+    if let Some(item) = width_item(m, names) {
+        return Err(ElabFault::Width { item });
+    }
+    Ok(())
+}
