@@ -10,4 +10,3 @@ pub mod Blocks
 pub mod Bundles
 pub mod Ending
 pub mod Planning
-pub mod Bytes

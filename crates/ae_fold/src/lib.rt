@@ -6,8 +6,6 @@ mod loops;
 mod marks;
 mod plan;
 mod slots;
-#[cfg(test)]
-mod tests;
 mod words;
 
 pub use feedback::joined;

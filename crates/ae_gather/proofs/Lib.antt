@@ -12,4 +12,3 @@ pub mod Typed
 pub mod OneList
 pub mod GatherLaw
 pub mod CodeLaws
-pub mod Pairs

@@ -9,8 +9,6 @@ mod layouts;
 mod moving;
 mod plan;
 mod stage;
-#[cfg(test)]
-mod tests;
 mod trips;
 
 pub use ae_moves::Origin;

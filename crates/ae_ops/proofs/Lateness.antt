@@ -86,9 +86,3 @@ same_width old mid nets bundle k e g own l = net_width (net_later g (own k _ (fo
 
 pub tapped_all : (old new : List SizedCell) (rst d k : ℕ) (nets bundle late made : List NetId) → nets ≡ bundle → made ≡ late → k ≡ length nets → AreTapping old new rst d k nets late → AreTapping old new rst d (length bundle) bundle made
 tapped_all old new rst d k nets bundle late made e m l h = rw (m, ← e, ← l) h
-
-pub own_one : (cells : List SizedCell) (w : ℕ) (y : NetId) (one : List NetId) → one ≡ y ∷ [] → IsNet cells y.0 w → HaveOwnWidths cells one
-own_one cells w y one e h = λ q net found. elim (get_push_cases [] y q net (ap (λ (xs : List NetId). slice_get xs q) (sym e) ∙ found)) [
-  | inl v ↦ (let no : q < 0 = v.1 in absurd (omega arith))
-  | inr v ↦ subst (λ (n : NetId). IsNet cells n.0 (width_of cells n.0)) v.1 (rw (net_width h) h)
-]

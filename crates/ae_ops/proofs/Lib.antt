@@ -2,7 +2,6 @@ pub mod Lateness
 pub mod SignWords
 pub mod Computing
 pub mod WordBlocks
-pub mod Operands
 pub mod Combining
 pub mod Squares
 pub mod Gating

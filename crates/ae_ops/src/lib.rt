@@ -9,8 +9,6 @@ mod make;
 mod square;
 mod stage;
 mod sums;
-#[cfg(test)]
-mod tests;
 mod word;
 
 pub use bundle::Bundle;

@@ -2,4 +2,3 @@ pub mod Treeing
 pub mod Counting
 pub mod ReduceLaw
 pub mod Building
-mod Rows

@@ -3,8 +3,6 @@
 
 mod reducing;
 mod stage;
-#[cfg(test)]
-mod tests;
 mod tree;
 
 pub use stage::Reduce;

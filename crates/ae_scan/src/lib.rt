@@ -4,7 +4,5 @@
 mod scanning;
 mod stage;
 mod sweep;
-#[cfg(test)]
-mod tests;
 
 pub use stage::Scan;

@@ -1,0 +1,9 @@
+use Rattle.ae_netlist.proofs.Growing.{net_later}
+use Rattle.table_stages.proofs.Evenness.{begins, lanes_bundle}
+use Rattle.table_stages.proofs.bench.run_lanes.Goals as goal
+
+pub run-requires-clause-bundles : goal.run-requires-clause-bundles
+run-requires-clause-bundles g c = lanes_bundle _ (g.S.Stage.part c.args.stage.now) c.args.lanes c.args.width _ c.requires.takes c.in_ok-inputs.ensures.nets
+
+pub run-requires-clause-belongs : goal.run-requires-clause-belongs
+run-requires-clause-belongs g c = begins _ _ _ c.new-clocks.ensures (net_later c.in_ok-inputs.ensures.extends c.in_ok-rst.ensures.net)

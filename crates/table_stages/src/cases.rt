@@ -1,0 +1,451 @@
+// What is asked of stages.
+
+ghost use Rattle.std.specs.Prelude.{◌≡◌, ◌≤◌, ◌∷◌, [], IfOk, IfSome, OnOk};
+ghost use Rattle.ae_word.specs.AtomTree.{unsigned_word, word};
+ghost use Rattle.ae_word.specs.WordTable.{HasRange, arity_of};
+ghost use Rattle.ae_sttype.specs.StTree.{atom, sseq, st_tree, tseq};
+ghost use Rattle.ae_netlist.specs.Circuit.{Extends, IsNet};
+ghost use Rattle.ae_clocked.specs.Phases.{Belongs};
+ghost use Rattle.ae_gather.specs.Gathers.{gather_part, move_of};
+ghost use Rattle.table_stages.specs.Even.{TakesLanes};
+
+use crate::bench::{NoRoom, Times, delayed_words, input, over_lanes, run, write_makers};
+use crate::words::{at, numbers, op_named, origins};
+use ae_clocked::{Clocks, choose, constant};
+use ae_fold::{is_fold, levels, plan_of, word_folds};
+use ae_gather::{Gather, Origin};
+use ae_netlist::{NetFault, NetId, Netlist};
+use ae_ops::{Bundle, WordStage};
+use ae_reduce::Reduce;
+use ae_scan::Scan;
+use ae_sttype::StType;
+use ae_word::{Atom, WordOp, arity};
+use std::alloc::{AllocError, Global};
+
+/// The numbers of a fold: what it folds, and in which period.
+#[derive(Clone, Copy)]
+struct Fold {
+    op: WordOp,
+    signed: bool,
+    slots: u32,
+    lanes: u32,
+    clocks: u32,
+    width: u32,
+    period: u32,
+}
+
+// What stands at the two operands of a word stage.
+#[derive(Clone, Copy, PartialEq, Eq)]
+enum Form {
+    // A word each.
+    Apart,
+    // The same word.
+    Same,
+    // A choice of 0 or a word by a bit, on one side or the other.
+    ChoiceLeft,
+    ChoiceRight,
+}
+
+fn refused(out: &mut String) -> Result<(), NoRoom> {
+    out.push_str("refused")?;
+    Ok(())
+}
+
+// So many words one after the other.
+fn row(alloc: Global, signed: bool, width: u32, clocks: u32) -> Result<StType, AllocError>
+    ensures { IfOk result (λ s. st_tree s ≡ tseq clocks 0 (atom (word (record { signed = signed; width = width })))) }
+{
+    let atom = if signed {
+        Atom::Int(width)
+    } else {
+        Atom::Word(width)
+    };
+    let of = Box::new(alloc, StType::Atom(atom))?;
+    Ok(StType::T {
+        n: clocks,
+        i: 0,
+        of,
+    })
+}
+
+// Words in so many clocks, side by side on lanes, and then clocks with none.
+fn grid(alloc: Global, n: u32, i: u32, lanes: u32, width: u32) -> Result<StType, AllocError>
+    ensures { IfOk result (λ t. st_tree t ≡ tseq n i (sseq lanes (atom (unsigned_word width)))) }
+{
+    let of = Box::new(alloc, StType::Atom(Atom::Word(width)))?;
+    let of = Box::new(alloc, StType::S { n: lanes, of })?;
+    Ok(StType::T { n, i, of })
+}
+
+// In each period so many clocks are shown, from the first block on.
+fn blocks(arrival: u32, shown: u32) -> Times {
+    Times {
+        arrival,
+        latency: 0,
+        period: 1,
+        shown,
+        from_0: false,
+    }
+}
+
+fn reduce(alloc: Global, out: &mut String, fold: Fold, words: &[u64]) -> Result<(), NoRoom> {
+    let element = row(alloc, fold.signed, fold.width, fold.clocks)?;
+    match Reduce::new(fold.op, fold.slots, fold.lanes, element, fold.period) {
+        Some(stage) if 1 <= fold.width && fold.width <= 64 => {
+            let times = blocks(0, fold.clocks);
+            over_lanes(alloc, out, &stage, fold.lanes, fold.width, words, times)
+        }
+        _ => refused(out),
+    }
+}
+
+fn scan(alloc: Global, out: &mut String, fold: Fold, words: &[u64]) -> Result<(), NoRoom> {
+    let element = row(alloc, fold.signed, fold.width, fold.clocks)?;
+    match Scan::new(fold.op, fold.slots, fold.lanes, element, fold.period) {
+        Some(stage) if 1 <= fold.width && fold.width <= 64 => {
+            let times = blocks(0, fold.slots.saturating_mul(fold.clocks));
+            over_lanes(alloc, out, &stage, fold.lanes, fold.width, words, times)
+        }
+        _ => refused(out),
+    }
+}
+
+// The numbers that a fold is built by.
+fn plan(alloc: Global, out: &mut String, fold: Fold) -> Result<(), NoRoom> {
+    let element = row(alloc, fold.signed, fold.width, fold.clocks)?;
+    if !is_fold(fold.op, fold.slots, fold.lanes, &element, fold.period) {
+        return refused(out);
+    }
+    let plan = plan_of(fold.slots, fold.lanes, &element, fold.period);
+    write!(out, "{plan:?}")?;
+    Ok(())
+}
+
+// The fold that a case names.
+fn fold_of(head: &str, op: WordOp, numbers: &[u64]) -> Fold {
+    Fold {
+        op,
+        signed: head.contains("signed"),
+        slots: at(numbers, 0),
+        lanes: at(numbers, 1),
+        clocks: at(numbers, 2),
+        width: at(numbers, 3),
+        period: at(numbers, 4),
+    }
+}
+
+// The levels over so many lanes each.
+fn all_levels(out: &mut String, numbers: &[u64]) -> Result<(), NoRoom> {
+    out.push_str("levels")?;
+    for lanes in numbers {
+        if 1 <= *lanes && *lanes <= 4096 {
+            let deep = levels(*lanes as u32);
+            write!(out, " {deep}")?;
+        }
+    }
+    Ok(())
+}
+
+// An unsigned and a signed word.
+fn mixed_pair(alloc: Global, first: u32, second: u32) -> Result<StType, AllocError> {
+    let left = Box::new(alloc, Atom::Word(first))?;
+    let right = Box::new(alloc, Atom::Int(second))?;
+    Ok(StType::Atom(Atom::Pair(left, right)))
+}
+
+// What the words of such a pair are folded by.
+fn pair_folds(
+    alloc: Global,
+    out: &mut String,
+    op: WordOp,
+    first: u32,
+    second: u32,
+) -> Result<(), NoRoom> {
+    let element = mixed_pair(alloc, first, second)?;
+    if !element.in_size() {
+        return refused(out);
+    }
+    let folds = word_folds(alloc, op, &element)?;
+    write!(out, "{folds:?}")?;
+    Ok(())
+}
+
+// A move of one input.
+fn moved(
+    alloc: Global,
+    clocks: u32,
+    lanes: u32,
+    width: u32,
+    out: StType,
+    source: Vec<Origin>,
+) -> Result<Option<Gather>, AllocError>
+    ensures { IfOk result (λ found. IfSome found (λ stage. TakesLanes (gather_part (move_of stage)) lanes width)) }
+{
+    let layout = grid(alloc, clocks, 0, lanes, width)?;
+    let mut ins = Vec::new(alloc);
+    ins.push(layout)?;
+    let found = Gather::new(ins, out, source);
+    Ok(found)
+}
+
+// The same move, alone at its arguments or not.
+fn alone_if(stage: Gather, alone: bool) -> Gather
+    ensures { move_of result ≡ move_of stage }
+{
+    if alone { stage.alone() } else { stage }
+}
+
+fn gather(
+    alloc: Global,
+    out: &mut String,
+    alone: bool,
+    numbers: &[u64],
+    source: &str,
+    words: &[u64],
+) -> Result<(), NoRoom> {
+    let width = at(numbers, 0);
+    let lanes = at(numbers, 2);
+    let layout = grid(alloc, at(numbers, 3), at(numbers, 4), at(numbers, 5), width)?;
+    let source = origins(alloc, source)?;
+    match moved(alloc, at(numbers, 1), lanes, width, layout, source)? {
+        Some(stage) if 1 <= width && width <= 64 => {
+            let stage = alone_if(stage, alone);
+            let times = blocks(at(numbers, 6), at(numbers, 3));
+            over_lanes(alloc, out, &stage, lanes, width, words, times)
+        }
+        _ => refused(out),
+    }
+}
+
+// A word or 0 by a bit, and the bit is 1 for 0.
+fn gated(nl: &mut Netlist, width: u32) -> Result<NetId, NetFault>
+    requires low { 1 ≤ width }
+    requires high { width ≤ 64 }
+    ensures extends { OnOk result (Extends nl.old.cells nl.new.cells) }
+    ensures net { IfOk result (λ y. IsNet nl.new.cells y.0 width) }
+{
+    let bit = input(nl, 1)?;
+    let word = input(nl, width)?;
+    let none = constant(nl, width, 0)?;
+    let chosen = choose(nl, bit, none, word, width)?;
+    Ok(chosen)
+}
+
+// The two operands of a stage.
+#[derive(Clone, Copy)]
+struct Pair {
+    left: NetId,
+    right: NetId,
+}
+
+fn operands(nl: &mut Netlist, form: Form, width: u32) -> Result<Pair, NetFault>
+    requires low { 1 ≤ width }
+    requires high { width ≤ 64 }
+    ensures extends { OnOk result (Extends nl.old.cells nl.new.cells) }
+    ensures left { IfOk result (λ pair. IsNet nl.new.cells pair.left.0 width) }
+    ensures right { IfOk result (λ pair. IsNet nl.new.cells pair.right.0 width) }
+{
+    if form == Form::Same {
+        let left = input(nl, width)?;
+        return Ok(Pair { left, right: left });
+    }
+    if form == Form::Apart {
+        let left = input(nl, width)?;
+        let right = input(nl, width)?;
+        return Ok(Pair { left, right });
+    }
+    let chosen = gated(nl, width)?;
+    let other = input(nl, width)?;
+    if form == Form::ChoiceLeft {
+        Ok(Pair {
+            left: chosen,
+            right: other,
+        })
+    } else {
+        Ok(Pair {
+            left: other,
+            right: chosen,
+        })
+    }
+}
+
+// A word in each clock, shown from the first clock on.
+fn each_clock() -> Times {
+    Times {
+        arrival: 0,
+        latency: 0,
+        period: 1,
+        shown: 1,
+        from_0: true,
+    }
+}
+
+// What an operator makes of one word, or of two.
+fn of_operands(
+    alloc: Global,
+    out: &mut String,
+    nl: &mut Netlist,
+    clocks: &mut Clocks,
+    op: WordOp,
+    pair: Pair,
+    width: u32,
+    words: &[u64],
+) -> Result<(), NoRoom>
+    requires low { 1 ≤ width }
+    requires high { width ≤ 64 }
+    requires range { HasRange op }
+    requires few { arity_of op ≤ 2 }
+    requires belongs { Belongs clocks.old nl.old.cells }
+    requires left { IsNet nl.old.cells pair.left.0 width }
+    requires right { IsNet nl.old.cells pair.right.0 width }
+{
+    let stage = WordStage::new(op, width, 1);
+    let left = Bundle::one(alloc, pair.left)?;
+    if arity(op) == 1 {
+        return run(alloc, out, &stage, nl, clocks, &[left], words, each_clock());
+    }
+    let right = Bundle::one(alloc, pair.right)?;
+    run(
+        alloc,
+        out,
+        &stage,
+        nl,
+        clocks,
+        &[left, right],
+        words,
+        each_clock(),
+    )
+}
+
+fn word_in(
+    alloc: Global,
+    out: &mut String,
+    nl: &mut Netlist,
+    op: WordOp,
+    form: Form,
+    width: u32,
+    words: &[u64],
+) -> Result<(), NoRoom>
+    requires low { 1 ≤ width }
+    requires high { width ≤ 64 }
+    requires range { HasRange op }
+    requires few { arity_of op ≤ 2 }
+{
+    let rst = input(nl, 1)?;
+    let pair = operands(nl, form, width)?;
+    let mut clocks = Clocks::new(alloc, rst);
+    of_operands(alloc, out, nl, &mut clocks, op, pair, width, words)
+}
+
+// The same in a netlist of its own; where the operands have to do with one another, also what makes the result.
+fn word(
+    alloc: Global,
+    out: &mut String,
+    op: WordOp,
+    form: Form,
+    width: u32,
+    words: &[u64],
+) -> Result<(), NoRoom>
+    requires range { HasRange op }
+{
+    if width == 0 || width > 64 || arity(op) > 2 {
+        return refused(out);
+    }
+    let mut nl = Netlist::new(alloc, 65536);
+    word_in(alloc, out, &mut nl, op, form, width, words)?;
+    if form != Form::Apart && arity(op) == 2 {
+        write_makers(out, &nl)?;
+    }
+    Ok(())
+}
+
+// What stands at the operands by what the case says.
+fn form_of(head: &str, op: WordOp) -> Form {
+    if arity(op) == 1 || head.contains("itself") {
+        Form::Same
+    } else if head.contains("choice left") {
+        Form::ChoiceLeft
+    } else if head.contains("choice right") {
+        Form::ChoiceRight
+    } else {
+        Form::Apart
+    }
+}
+
+// The cases that have an operator.
+fn of_operator(
+    alloc: Global,
+    out: &mut String,
+    head: &str,
+    kind: &str,
+    op: WordOp,
+    numbers: &[u64],
+    words: &[u64],
+) -> Result<(), NoRoom>
+    requires range { HasRange op }
+{
+    let fold = fold_of(head, op, numbers);
+    match kind {
+        "reduce" => reduce(alloc, out, fold, words),
+        "scan" => scan(alloc, out, fold, words),
+        "plan" => plan(alloc, out, fold),
+        "folds" => pair_folds(alloc, out, op, at(numbers, 0), at(numbers, 1)),
+        "word" => word(alloc, out, op, form_of(head, op), at(numbers, 0), words),
+        _ => refused(out),
+    }
+}
+
+// A bundle some clocks later.
+fn late(alloc: Global, out: &mut String, numbers: &[u64], words: &[u64]) -> Result<(), NoRoom> {
+    let width = at(numbers, 2);
+    if width == 0 || width > 64 {
+        return refused(out);
+    }
+    delayed_words(alloc, out, at(numbers, 1), width, at(numbers, 0), words)
+}
+
+// The answer to a case by its words.
+fn asked(
+    alloc: Global,
+    out: &mut String,
+    head: &str,
+    numbers: &[u64],
+    words: &[u64],
+) -> Result<(), NoRoom> {
+    let mut names = head.split_whitespace();
+    let kind = names.next().unwrap_or("");
+    let name = names.next().unwrap_or("");
+    match kind {
+        "levels" => all_levels(out, words),
+        "delay" => late(alloc, out, numbers, words),
+        _ => match op_named(name, at(numbers, 1)) {
+            Some(op) => of_operator(alloc, out, head, kind, op, numbers, words),
+            None => refused(out),
+        },
+    }
+}
+
+fn answer_by(
+    alloc: Global,
+    out: &mut String,
+    head: &str,
+    numbers_in_head: &[u64],
+    rest: &str,
+) -> Result<(), NoRoom> {
+    if head.starts_with("gather") {
+        let (source, rest) = rest.split_once('|').unwrap_or((rest, ""));
+        let words = numbers(alloc, rest)?;
+        let alone = head.contains("alone");
+        return gather(alloc, out, alone, numbers_in_head, source, &words);
+    }
+    let words = numbers(alloc, rest)?;
+    asked(alloc, out, head, numbers_in_head, &words)
+}
+
+/// Appends the answer to a case: its head, then behind `|` its words, for a move with the origins and another `|` before
+/// them.
+pub fn answer(alloc: Global, out: &mut String, line: &str) -> Result<(), NoRoom> {
+    let (head, rest) = line.split_once('|').unwrap_or((line, ""));
+    let sizes = numbers(alloc, head)?;
+    answer_by(alloc, out, head, &sizes, rest)
+}
