@@ -106,6 +106,14 @@ runs_step d columns trips i last counts t before had new keeps h is p made read_
       ];
     }
 
+-- the same with a name for the new count
+pub runs_put : (d columns : ℕ) (trips : List TripTree) (i : ℕ) (last : List (Option Choice)) (counts : List ℕ) (t : TripTree) (before : Option Choice) (had : ℕ) (new : Choice) (now : ℕ) →
+    KeepsRuns d columns trips i last counts → i < length trips → t ≡ get_or trips i t → t.column < columns →
+    choice_tree new ≡ choice_from d t.clock t.source → before ≡ get_or last t.column before → had ≡ get_or counts t.column had → now ≡ had + cond (continues (option_map choice_tree before) (choice_tree new)) 0 1 →
+    KeepsRuns d columns trips (i + 1) (set last t.column (Some new)) (set counts t.column now)
+runs_put d columns trips i last counts t before had new now keeps h is p made read_last read_count e =
+    rw e (runs_step d columns trips i last counts t before had new keeps h is p made read_last read_count)
+
 pub runs_none : (d columns : ℕ) (trips : List TripTree) → KeepsRuns d columns trips 0 (replicate columns None) (replicate columns 0)
 runs_none d columns trips = record {
   long_last = length-replicate columns None;

@@ -1,7 +1,7 @@
 // Space-time types, and where their elements stand.
 #![tactic(auto, using(crate::proofs::Bounds::sizes))]
 
-ghost use Rattle.std.specs.Prelude.{◌≡◌, ℕ, ◌*◌, ◌<◌, ◌++◌, ◌↔◌, slice_get, IsTrue, Some, IfOk, OnOk, nat_le};
+ghost use Rattle.std.specs.Prelude.{◌≡◌, ℕ, ◌*◌, ◌/◌, ◌<◌, ◌++◌, ◌↔◌, slice_get, IsTrue, Some, IfOk, OnOk, nat_le, nat_lt};
 ghost use Rattle.std.specs.String.{string_bytes};
 ghost use Rattle.ae_word.specs.AtomTree.{atom_tree};
 ghost use Rattle.ae_sttype.specs.StTree.{st_tree, time, lanes, st_atoms, st_depth, element_atom, element_words};
@@ -180,7 +180,7 @@ impl StType {
             StType::T { n, i: _, of } => {
                 let of: &StType = of;
                 let time = of.time();
-                clock / time < *n && of.live(clock % time)
+                is_valid_slot(clock, time, *n) && of.live(clock % time)
             }
             StType::S { n: _, of } => of.live(clock),
         }
@@ -280,6 +280,14 @@ impl StType {
             StType::S { n, of } => product_within(16384, u64::from(*n), of.few_words()?),
         }
     }
+}
+
+// Whether the clock is in one of the n valid slots of so many clocks, which come before the invalid ones.
+fn is_valid_slot(clock: u32, time: u32, n: u32) -> bool
+    requires { 0 < time }
+    ensures { result ≡ nat_lt (clock / time) n }
+{
+    clock / time < n
 }
 
 // The product, where it is at most the limit.

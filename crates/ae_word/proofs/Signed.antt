@@ -33,14 +33,16 @@ pub code-of_value : (w a : ℕ) → a < 2 ^ w → code w (signed_value w a) ≡ 
 code-of_value w a h = code-by _ w a refl h
 
 -- the code of the smaller, of the greater of two values
-pub code-min_first : (w a b : ℕ) → a < 2 ^ w → int_lt (signed_value w b) (signed_value w a) ≡ false → a ≡ code w (int_min (signed_value w a) (signed_value w b))
-code-min_first w a b h e = rw e (sym (code-of_value w a h))
+pub code-min_first : (w a b : ℕ) → a < 2 ^ w → int_lt (signed_value w b) (signed_value w a) ≡ false → code w (int_min (signed_value w a) (signed_value w b)) ≡ a
+code-min_first w a b h e = rw e (code-of_value w a h)
 
-pub code-min_second : (w a b : ℕ) → b < 2 ^ w → int_lt (signed_value w b) (signed_value w a) ≡ true → b ≡ code w (int_min (signed_value w a) (signed_value w b))
-code-min_second w a b h e = rw e (sym (code-of_value w b h))
+pub code-min_second : (w a b : ℕ) → b < 2 ^ w → int_lt (signed_value w b) (signed_value w a) ≡ true → code w (int_min (signed_value w a) (signed_value w b)) ≡ b
+code-min_second w a b h e = rw e (code-of_value w b h)
 
-pub code-max_first : (w a b : ℕ) → a < 2 ^ w → int_lt (signed_value w b) (signed_value w a) ≡ true → a ≡ code w (int_max (signed_value w a) (signed_value w b))
-code-max_first w a b h e = rw e (sym (code-of_value w a h))
+pub code-max_first : (w a b : ℕ) → a < 2 ^ w → int_lt (signed_value w b) (signed_value w a) ≡ true → code w (int_max (signed_value w a) (signed_value w b)) ≡ a
+code-max_first w a b h e = rw e (code-of_value w a h)
 
-pub code-max_second : (w a b : ℕ) → b < 2 ^ w → int_lt (signed_value w b) (signed_value w a) ≡ false → b ≡ code w (int_max (signed_value w a) (signed_value w b))
-code-max_second w a b h e = rw e (sym (code-of_value w b h))
+pub code-max_second : (w a b : ℕ) → b < 2 ^ w → int_lt (signed_value w b) (signed_value w a) ≡ false → code w (int_max (signed_value w a) (signed_value w b)) ≡ b
+code-max_second w a b h e = rw e (code-of_value w b h)
+
+pub ruleset signed_choices = (code-min_first, code-min_second, code-max_first, code-max_second)

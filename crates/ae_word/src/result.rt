@@ -1,7 +1,7 @@
 // What the operators on words compute.
 
 ghost use Rattle.std.specs.Prelude.{◌≡◌, ◌<◌, ◌≤◌, ◌-◌, ◌*◌, ◌/◌, ◌%◌, ◌^◌, ◌-ℤ◌, pos, nat_lt, not, int_lt};
-ghost use Rattle.std.specs.Int.{int_div_euclid};
+ghost use Rattle.std.specs.Int.{int_div_euclid, int_max, int_min};
 ghost use Rattle.ae_word.specs.WordTable.{HasRange, OperandsFit, code, signed_value, word_result};
 
 use crate::op::WordOp;
@@ -32,8 +32,8 @@ pub fn apply(op: WordOp, width: u32, a: u64, b: u64, c: u64) -> u64
         WordOp::Shr(k) => moved_down(a, k),
         WordOp::Cast(v) => low_bits(a as u128, v),
         WordOp::SLt => u64::from(is_below(a, b, width)),
-        WordOp::SMin => { if is_below(b, a, width) { b } else { a } }
-        WordOp::SMax => { if is_below(b, a, width) { a } else { b } }
+        WordOp::SMin => signed_min(a, b, width),
+        WordOp::SMax => signed_max(a, b, width),
         WordOp::Sar(k) => signed_moved_down(a, k, width),
         WordOp::SCast(v) => signed_low_bits(a, width, v),
     }
@@ -114,6 +114,30 @@ fn is_below(a: u64, b: u64, width: u32) -> bool
         (false, true) => false,
         _ => a < b,
     }
+}
+
+/// The smaller of two signed words.
+#[tactic(auto, using(crate::proofs::Signed::signed_choices))]
+fn signed_min(a: u64, b: u64, width: u32) -> u64
+    requires low { 1 ≤ width }
+    requires wide { width ≤ 64 }
+    requires a_fits { a < 2 ^ width }
+    requires b_fits { b < 2 ^ width }
+    ensures { result ≡ code width (int_min (signed_value width a) (signed_value width b)) }
+{
+    if is_below(b, a, width) { b } else { a }
+}
+
+/// The greater of two signed words.
+#[tactic(auto, using(crate::proofs::Signed::signed_choices))]
+fn signed_max(a: u64, b: u64, width: u32) -> u64
+    requires low { 1 ≤ width }
+    requires wide { width ≤ 64 }
+    requires a_fits { a < 2 ^ width }
+    requires b_fits { b < 2 ^ width }
+    ensures { result ≡ code width (int_max (signed_value width a) (signed_value width b)) }
+{
+    if is_below(b, a, width) { a } else { b }
 }
 
 /// A signed word that is moved down, rounded down.
