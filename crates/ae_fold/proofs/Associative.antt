@@ -27,12 +27,12 @@ or_assoc a b c = same_from_bits _ _ (λ i.
 -- ---- signed words
 
 least_by : (v : Bool) (w a b : ℕ) → a < 2 ^ w → b < 2 ^ w → int_lt (signed_value w b) (signed_value w a) ≡ v → signed_value w (code w (int_min (signed_value w a) (signed_value w b))) ≡ int_min (signed_value w a) (signed_value w b)
-least_by true w a b la lb is = ap (signed_value w) (sym (code-min_second w a b lb is)) ∙ rw is refl
-least_by false w a b la lb is = ap (signed_value w) (sym (code-min_first w a b la is)) ∙ rw is refl
+least_by true w a b la lb is = ap (signed_value w) (code-min_second w a b lb is) ∙ rw is refl
+least_by false w a b la lb is = ap (signed_value w) (code-min_first w a b la is) ∙ rw is refl
 
 greatest_by : (v : Bool) (w a b : ℕ) → a < 2 ^ w → b < 2 ^ w → int_lt (signed_value w b) (signed_value w a) ≡ v → signed_value w (code w (int_max (signed_value w a) (signed_value w b))) ≡ int_max (signed_value w a) (signed_value w b)
-greatest_by true w a b la lb is = ap (signed_value w) (sym (code-max_first w a b la is)) ∙ rw is refl
-greatest_by false w a b la lb is = ap (signed_value w) (sym (code-max_second w a b lb is)) ∙ rw is refl
+greatest_by true w a b la lb is = ap (signed_value w) (code-max_first w a b la is) ∙ rw is refl
+greatest_by false w a b la lb is = ap (signed_value w) (code-max_second w a b lb is) ∙ rw is refl
 
 int_min_assoc : (a b c : ℤ) → int_min (int_min a b) c ≡ int_min a (int_min b c)
 int_min_assoc a b c = omega (arith, ints, clamps)

@@ -54,15 +54,15 @@ raised_less w a b c half left right y low la lb eh el er ey =
     rw (ey, el, er, eh) (ap bit (raised_by (2 ^ (w - 1)) (2 ^ w) w a b refl refl (twice w low) la lb))
 
 least_by : (v : Bool) (w a b c y : ℕ) → a < 2 ^ w → b < 2 ^ w → int_lt (signed_value w b) (signed_value w a) ≡ v → y ≡ (if bit v == 1 then b else a) → y ≡ word_result SMin w a b c
-least_by true w a b c y la lb is e = e ∙ code-min_second w a b lb is
-least_by false w a b c y la lb is e = e ∙ code-min_first w a b la is
+least_by true w a b c y la lb is e = e ∙ sym (code-min_second w a b lb is)
+least_by false w a b c y la lb is e = e ∙ sym (code-min_first w a b la is)
 
 pub least_is : (w a b c turned y : ℕ) → a < 2 ^ w → b < 2 ^ w → turned ≡ bit (int_lt (signed_value w b) (signed_value w a)) → y ≡ (if turned == 1 then b else a) → y ≡ word_result SMin w a b c
 least_is w a b c turned y la lb et ey = least_by (int_lt (signed_value w b) (signed_value w a)) w a b c y la lb refl (rw et at ey)
 
 greatest_by : (v : Bool) (w a b c y : ℕ) → a < 2 ^ w → b < 2 ^ w → int_lt (signed_value w b) (signed_value w a) ≡ v → y ≡ (if bit v == 1 then a else b) → y ≡ word_result SMax w a b c
-greatest_by true w a b c y la lb is e = e ∙ code-max_first w a b la is
-greatest_by false w a b c y la lb is e = e ∙ code-max_second w a b lb is
+greatest_by true w a b c y la lb is e = e ∙ sym (code-max_first w a b la is)
+greatest_by false w a b c y la lb is e = e ∙ sym (code-max_second w a b lb is)
 
 pub greatest_is : (w a b c turned y : ℕ) → a < 2 ^ w → b < 2 ^ w → turned ≡ bit (int_lt (signed_value w b) (signed_value w a)) → y ≡ (if turned == 1 then a else b) → y ≡ word_result SMax w a b c
 greatest_is w a b c turned y la lb et ey = greatest_by (int_lt (signed_value w b) (signed_value w a)) w a b c y la lb refl (rw et at ey)
