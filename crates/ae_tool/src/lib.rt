@@ -12,12 +12,10 @@ mod demo;
 #[cfg(test)]
 mod demo_tests;
 mod evaluate;
-mod notes;
 mod plan;
 #[cfg(test)]
 mod plan_tests;
 mod plan_text;
-mod read_back;
 mod refusal;
 mod reply;
 mod run;
@@ -30,7 +28,6 @@ mod sim_tests;
 mod status;
 #[cfg(test)]
 mod tests;
-mod typed;
 mod widths;
 
 pub use call::aeth;
