@@ -21,7 +21,7 @@ use Rattle.ae_rewrite.specs.Interface.{main_of, result_types}
 use Rattle.ae_lower.proofs.Blocks.{keys_of}
 use Rattle.ae_lower.proofs.Layouts.{results_laid}
 use Rattle.ae_tool.specs.RunTexts.{layout_columns, output_count}
-use Rattle.ae_tool.proofs.Modules.{few_columns, unmapped}
+use Rattle.ae_compile.proofs.Modules.{few_columns, unmapped}
 
 pub counted_next : (xs : List StType) (i count own wide : ℕ) (x : StType) → i < length xs → x ≡ get_or xs i x → IsInSize (st_tree x) → own ≡ lanes (st_tree x) → wide ≡ element_words (st_tree x)
     → count + sum_by columns_of (map st_tree (drop i xs)) ≡ sum_by columns_of (map st_tree xs) → count ≤ i * 16384

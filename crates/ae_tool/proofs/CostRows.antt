@@ -5,7 +5,8 @@ use Rattle.ae_seq.specs.declared.program.Node.{Node}
 use Rattle.ae_seq.specs.ProgramTree.{node_tree}
 use Rattle.ae_seq.specs.Formed.{all_name_bytes}
 use Rattle.ae_delay.specs.declared.weighing.Cost.{Cost}
-use Rattle.ae_tool.specs.CostTables.{AllNamed, cost_row, cost_rows}
+use Rattle.ae_compile.specs.LineNotes.{AllNamed}
+use Rattle.ae_tool.specs.CostTables.{cost_row, cost_rows}
 
 pub named_at : (ns : List Node) (i : ℕ) (n : Node) → AllNamed (map node_tree ns) → i < length ns → n ≡ get_or ns i n → all_name_bytes (node_tree n).name ≡ true
 named_at [] i n h l e = absurd (omega arith)

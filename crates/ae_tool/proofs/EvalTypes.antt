@@ -20,6 +20,7 @@ use Rattle.ae_eval.specs.Stack.{IsTyped, kinds_of, params_for}
 use Rattle.ae_eval.specs.Lines.{input_types, last_func}
 use Rattle.ae_eval.proofs.Items.{and-both, entry-at, few-funcs, func-read}
 use Rattle.ae_rewrite.specs.Interface.{parameter_types, result_types, results_in, types_in, main_of}
+use Rattle.ae_compile.proofs.Counts.{FewItems, few_at}
 use Rattle.ae_tool.specs.Inputs.{type_widths, widths_of}
 use Rattle.ae_tool.specs.RunTexts.{input_widths}
 use Rattle.std.proofs.lemmas.List.{map-append}
@@ -48,55 +49,6 @@ sized_params known (g ∷ fs) zero f h e =
     let P : FuncTree → Type 0 = λ x. all_in_size (param_types x) ≡ true in
     subst P same (fine_size (all_in_size (param_types g)) r.0)
 sized_params known (g ∷ fs) (suc k) f h e = sized_params (known ++ signature known g ∷ []) fs k f (later_none (judged_func known g) _ h) e
-
--- ---- how many parameters and results there are
-
-and_five : (a b c d e : Bool) → (a && b && c && d && e) ≡ true → e ≡ true
-and_five false b c d e h = cc
-and_five true false c d e h = cc
-and_five true true false d e h = cc
-and_five true true true false e h = cc
-and_five true true true true e h = h
-
-and_seven : (a b c d e f g : Bool) → (a && b && c && d && e && f && g) ≡ true → (b ≡ true) × (e ≡ true)
-and_seven false b c d e f g h = cc
-and_seven true false c d e f g h = cc
-and_seven true true false d e f g h = cc
-and_seven true true true false e f g h = cc
-and_seven true true true true false f g h = cc
-and_seven true true true true true f g h = (refl, refl)
-
-most : (v : ℕ) (fs : List FuncTree) → most_results v fs ≤ 8
-most v [] = by (v == 2)
-  where
-    by : (t : Bool) → (if t then 8 else 1) ≤ 8
-    by true = omega arith
-    by false = omega arith
-most v (f ∷ fs) = omega arith
-
-pub record FewItems (f : FuncTree) : Type 0 where
-  pub some : 1 ≤ length f.params
-  pub few : length f.params ≤ 8
-  pub results : length f.results ≤ 8
-
-func_few : (v k m : ℕ) (f : FuncTree) → m ≤ 8 → formed_func v k m f ≡ true → FewItems f
-func_few v k m f b h =
-    let r = and_seven (is_name f.name) (within 1 8 (length f.params)) (formed_params v f.params) (formed_nodes v k (length f.params) f.nodes) (within 1 m (length f.results)) (all_below (item_count f) f.results) (named_items f) h in
-    let p = and-both (nat_le 1 (length f.params)) (nat_le (length f.params) 8) r.0 in
-    let q = and-both (nat_le 1 (length f.results)) (nat_le (length f.results) m) r.1 in
-    let most : length f.results ≤ m = grind (arith, nat_tests, q.1) in
-    record { some = grind (arith, nat_tests, p.0); few = grind (arith, nat_tests, p.1); results = omega (arith, most, b) }
-
-funcs_few : (v i : ℕ) (fs : List FuncTree) (k : ℕ) (f : FuncTree) → formed_funcs v i fs ≡ true → slice_get fs k ≡ Some f → FewItems f
-funcs_few v i [] k f h e = cc
-funcs_few v i (g ∷ fs) zero f h e =
-    let same : g ≡ f = cc in
-    subst FewItems same (func_few v i (most_results v fs) g (most v fs) (and-both (formed_func v i (most_results v fs) g) _ h).0)
-funcs_few v i (g ∷ fs) (suc k) f h e = funcs_few v (i + 1) fs k f (and-both (formed_func v i (most_results v fs) g) _ h).1 e
-
-pub few_at : (p : ProgramTree) (k : ℕ) (f : FuncTree) → IsTyped p → slice_get p.funcs k ≡ Some f → FewItems f
-few_at p k f h e =
-    funcs_few p.version 0 p.funcs k f (and_five (within 1 2 p.version) (nat_le 1 (length p.funcs)) (nat_le (line_count p) 4096) (all_distinct (func_names p.funcs)) (formed_funcs p.version 0 p.funcs) h.is_formed) e
 
 -- ---- the words of a type in size
 

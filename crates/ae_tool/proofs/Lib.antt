@@ -1,4 +1,5 @@
 pub mod Calls
+pub mod Refused
 pub mod Replies
 pub mod RowCounts
 pub mod Pieces
@@ -7,10 +8,9 @@ pub mod EvalSteps
 pub mod CostRows
 pub mod CsvRows
 pub mod Plans
-pub mod Noting
-pub mod Modules
 pub mod Columns
 pub mod Runs
+pub mod Clocks
 pub mod Played
 pub mod Shown
 pub mod Feeding

@@ -1,74 +1,22 @@
--- What is so of the program function of a costed program, and of its instance.
-use Rattle.std.proofs.Common.{◌≡◌, ℕ, zero, suc, ◌+◌, ◌-◌, ◌≤◌, Bool, true, false, ◌&&◌, List, [], ◌∷◌, ◌++◌, length, length-append, map, take, Some, slice_get, refl, ap, sym, ◌∙◌, arith, IsTrue}
+-- What is so of the timing of the program function of a costed program.
+use Rattle.std.proofs.Common.{◌≡◌, ℕ, ◌+◌, ◌-◌, List, [], ◌∷◌, ◌++◌, length, length-append, map, take, Some, slice_get, refl, ap, sym, ◌∙◌, arith}
 use Rattle.std.proofs.lemmas.List.{length-map}
-use Rattle.std.proofs.lemmas.Option.{none-some, same_Some}
-use Rattle.std.proofs.lemmas.Bool.Decides.{nat_tests}
 use Rattle.ae_seq.specs.Typing.{grown}
-use Rattle.ae_seq.specs.ProgramTree.{ProgramTree, FuncTree, NodeTree, ParamTree}
-use Rattle.ae_seq.specs.Formed.{formed, formed_funcs, formed_func, most_results, all_names, all_name_bytes, is_name, named_items, node_names}
+use Rattle.ae_seq.specs.ProgramTree.{ProgramTree, FuncTree}
 use Rattle.ae_sttype.specs.StTree.{StTree}
-use Rattle.ae_rewrite.specs.LayoutRule.{lay_of}
 use Rattle.ae_rewrite.specs.declared.st_program.StFunc.{StFunc}
 use Rattle.ae_rewrite.specs.StProgramTree.{StFuncTree, StNodeTree, st_func_tree, st_func_trees}
-use Rattle.ae_rewrite.specs.Scheduled.{Keys, HasKey, IsSchedule, AreStNodes, node_layouts, param_layouts}
-use Rattle.ae_rewrite.specs.Sound.{IsSound, item_layouts}
-use Rattle.ae_rewrite.proofs.Forms.{formed-of, few-nodes}
-use Rattle.ae_delay.specs.declared.own.OwnCosts.{OwnCosts}
-use Rattle.ae_delay.specs.Costs.{NodeTiming, all_costs, func_costs, next_timing, node_timings, too_large}
-use Rattle.ae_delay.specs.Timings.{AreTimes, Times, item_arrivals}
-use Rattle.ae_delay.specs.Weighing.{IsOverAt, cost_of}
-use Rattle.ae_tool.specs.Schedules.{HasLargeLoad, HasMain, IsScheduled, load_limit}
+use Rattle.ae_rewrite.specs.Scheduled.{IsSchedule, node_layouts}
+use Rattle.ae_rewrite.specs.Sound.{item_layouts}
 use Rattle.ae_rewrite.specs.Interface.{main_of}
-use Rattle.ae_tool.specs.PlanTexts.{IsInstanceOf, plan_text, planned_text}
-use Rattle.ae_tool.specs.CostTables.{AllNamed, cost_table}
-
--- ---- the instance of the program function
-
-record MainInstance (p : ProgramTree) (f : FuncTree) (s : StFuncTree) : Type 0 where
-  items : length (item_layouts s) ≡ length f.params + length f.nodes
-  nodes : length s.nodes ≡ length f.nodes
-  results : s.results ≡ f.results
-
-as_many : (clocks : ℕ) (ps : List ParamTree) (ss : List StTree) → param_layouts clocks ps ≡ map (λ (x : StTree). Some x) ss → length ss ≡ length ps
-as_many clocks ps ss h = sym (length-map ss (λ (x : StTree). Some x)) ∙ (ap length (sym h) ∙ length-map ps (λ (q : ParamTree). lay_of q.type clocks))
-
-nodes_many : (p : ProgramTree) (keys : Keys) (f u i : ℕ) (ns : List NodeTree) (ss : List StNodeTree) → AreStNodes p keys f u i ns ss → length ss ≡ length ns
-nodes_many p keys f u i [] [] h = refl
-nodes_many p keys f u i [] (t ∷ ss) h = absurd h
-nodes_many p keys f u i (n ∷ ns) [] h = absurd h
-nodes_many p keys f u i (n ∷ ns) (t ∷ ss) h = omega (arith, nodes_many p keys f u (i + 1) ns ss h.1)
-
-main_by : (p : ProgramTree) (slowdown : ℕ) (all : List StFuncTree) (f : FuncTree) (s : StFuncTree) → IsSchedule p slowdown all → slice_get p.funcs (main_of p) ≡ Some f → slice_get all (length all - 1) ≡ Some s → MainInstance p f s
-main_by p slowdown all f s h at last =
-    let key = h.last in
-    let same : key.instance ≡ s = same_Some key.instance s (sym key.here ∙ last) in
-    let own = h.right (length all - 1) s last in
-    let number : s.func ≡ main_of p = ap (λ (x : StFuncTree). x.func) (sym same) ∙ key.is_func in
-    let of : own.of ≡ f = same_Some own.of f (sym own.known ∙ (ap (slice_get p.funcs) number ∙ at)) in
-    let params : length s.ins ≡ length own.of.params = as_many s.budget own.of.params s.ins own.ins in
-    let nodes : length s.nodes ≡ length own.of.nodes = nodes_many p (HasKey (take (length all - 1) all)) s.func s.budget (length own.of.params) own.of.nodes s.nodes own.nodes in
-    rw (← of) (record {
-      items = length-append s.ins (node_layouts s.nodes) ∙ omega (arith, params, nodes, length-map s.nodes (λ (x : StNodeTree). x.type));
-      nodes = nodes;
-      results = own.results;
-    })
-
-pub main_items : (p : ProgramTree) (slowdown : ℕ) (all : List StFuncTree) (f : FuncTree) (s : StFuncTree) → IsTrue (formed p) → IsSchedule p slowdown all → IsSound all → slice_get p.funcs (main_of p) ≡ Some f → slice_get all (length all - 1) ≡ Some s → IsInstanceOf f s
-main_items p slowdown all f s good h sound at last =
-    let m = main_by p slowdown all f s h at last in
-    let form = formed-of p (main_of p) f good at in
-    let params : length f.params ≤ 8 = form.few_params in
-    let nodes : length f.nodes ≤ 4096 = few-nodes p (main_of p) f good at in
-    record {
-      items = m.items;
-      few = omega (arith, params, nodes);
-      results = λ i r g. (sound.each (length all - 1) s last).results i r (rw m.results g);
-    }
-
-pub main_nodes : (p : ProgramTree) (slowdown : ℕ) (all : List StFuncTree) (f : FuncTree) (s : StFuncTree) → IsSchedule p slowdown all → slice_get p.funcs (main_of p) ≡ Some f → slice_get all (length all - 1) ≡ Some s → length s.nodes ≡ length f.nodes
-main_nodes p slowdown all f s h at last = (main_by p slowdown all f s h at last).nodes
-
--- ---- the timing of the program function
+use Rattle.ae_delay.specs.declared.own.OwnCosts.{OwnCosts}
+use Rattle.ae_delay.specs.Costs.{NodeTiming, all_costs, func_costs, next_timing, node_timings}
+use Rattle.ae_delay.specs.Timings.{AreTimes, Times, item_arrivals}
+use Rattle.ae_delay.specs.Weighing.{cost_of}
+use Rattle.ae_compile.specs.Mains.{HasMain}
+use Rattle.ae_compile.proofs.Mains.{main_nodes}
+use Rattle.ae_tool.specs.PlanTexts.{plan_text, planned_text}
+use Rattle.ae_tool.specs.CostTables.{cost_table}
 
 length_grown : {A B : Type 0} (step : List B → A → B) (known : List B) (xs : List A) → length (grown step known xs) ≡ length known + length xs
 length_grown step known [] = omega arith
@@ -121,41 +69,3 @@ main_table p all f s t text at last times is = record {
 pub main_costs : (p : ProgramTree) (slowdown : ℕ) (all : List StFuncTree) (f : FuncTree) (s : StFuncTree) (t : Times) → IsSchedule p slowdown all → AreTimes all t → slice_get p.funcs (main_of p) ≡ Some f → slice_get all (length all - 1) ≡ Some s → length t.nodes ≡ length f.nodes
 main_costs p slowdown all f s t h times at last =
     ap length (times.nodes s last) ∙ length-map (node_timings (main_known all) s) cost_of ∙ timings_many (main_known all) s ∙ main_nodes p slowdown all f s h at last
-
--- ---- names
-
-both_left : (a b : Bool) → IsTrue (a && b) → IsTrue a
-both_left true b h = refl
-both_left false b h = h
-
-both_right : (a b : Bool) → IsTrue (a && b) → IsTrue b
-both_right true b h = h
-both_right false b h = cc
-
-name_plain : (n : List ℕ) → IsTrue (is_name n) → all_name_bytes n ≡ true
-name_plain n h = grind (arith, nat_tests)
-
-names_plain : (ns : List NodeTree) → IsTrue (all_names (node_names ns)) → AllNamed ns
-names_plain [] h = tt
-names_plain (n ∷ ns) h = (name_plain n.name (both_left (is_name n.name) (all_names (node_names ns)) h), names_plain ns (both_right (is_name n.name) (all_names (node_names ns)) h))
-
-func_named : (v n m : ℕ) (f : FuncTree) → IsTrue (formed_func v n m f) → AllNamed f.nodes
-func_named v n m f h =
-    let items : IsTrue (named_items f) = both_right _ (named_items f) h in
-    let named : IsTrue (all_names (node_names f.nodes)) = grind (arith, nat_tests) in
-    names_plain f.nodes named
-
-funcs_named : (v n : ℕ) (fs : List FuncTree) (k : ℕ) (f : FuncTree) → IsTrue (formed_funcs v n fs) → slice_get fs k ≡ Some f → AllNamed f.nodes
-funcs_named v n [] k f h at = absurd (none-some f at)
-funcs_named v n (g ∷ fs) zero f h at =
-    let e : g ≡ f = same_Some g f at in
-    rw (← e) (func_named v n (most_results v fs) g (both_left (formed_func v n (most_results v fs) g) (formed_funcs v (n + 1) fs) h))
-funcs_named v n (g ∷ fs) (suc k) f h at = funcs_named v (n + 1) fs k f (both_right (formed_func v n (most_results v fs) g) (formed_funcs v (n + 1) fs) h) at
-
-pub main_named : (p : ProgramTree) (k : ℕ) (f : FuncTree) → IsTrue (formed p) → slice_get p.funcs k ≡ Some f → AllNamed f.nodes
-main_named p k f h at = let own : IsTrue (formed_funcs p.version 0 p.funcs) = grind (arith, nat_tests) in funcs_named p.version 0 p.funcs k f own at
-
--- ---- a load that is too large
-
-pub large_load : (part : List ℕ) (slowdown line load : ℕ) (p : ProgramTree) (all : List StFuncTree) → IsScheduled part slowdown p all → IsOverAt (too_large load_limit all) line load → HasLargeLoad part slowdown line
-large_load part slowdown line load p all h over = record { program = p; typed = h.typed; instances = all; schedule = h.schedule; load = over.total; large = over.at }

@@ -17,17 +17,20 @@ use Rattle.ae_tool.specs.declared.command.Command.TheVariants.{Check, Eval, Plan
 use Rattle.ae_tool.specs.Commands.{IsCommand}
 use Rattle.ae_tool.specs.Inputs.{IsCut, Marked, Unmarked}
 use Rattle.ae_tool.specs.RunTexts.{input_widths, run_size, run_limit, IsRunOf, IsRun, Unbuilt, Played}
-use Rattle.ae_tool.specs.Building.{IsBuiltText, main_costs}
+use Rattle.ae_compile.specs.Building.{IsBuiltText}
+use Rattle.ae_compile.specs.Costing.{main_costs}
 use Rattle.ae_seq.specs.Typing.{refused_line as refused_line_of}
 use Rattle.ae_parse.specs.Grammar.{IsProgramText as Reads, program, refused_line}
-use Rattle.ae_tool.specs.Programs.{IsTyped, IsRefusal}
+use Rattle.ae_compile.specs.Programs.{IsTyped}
+use Rattle.ae_tool.specs.Programs.{IsRefusal}
 use Rattle.ae_rewrite.specs.StProgramTree.{StFuncTree}
 use Rattle.ae_rewrite.specs.Scheduled.{IsSchedule}
 use Rattle.ae_rewrite.specs.FailingLine.{failing_line}
 use Rattle.ae_delay.specs.Weighing.{cost_of}
 use Rattle.ae_tool.specs.PlanTexts.{plan_text}
 use Rattle.ae_tool.specs.CostTables.{cost_table}
-use Rattle.ae_tool.specs.Schedules.{HasCosts, HasLargeLoad, IsAnswered, IsCostRefusal, IsCostText}
+use Rattle.ae_compile.specs.Costing.{HasCosts, HasLargeLoad}
+use Rattle.ae_tool.specs.Schedules.{IsAnswered, IsCostRefusal, IsCostText}
 use Rattle.ae_tool.specs.EvalTexts.{eval_size, IsEvalOf}
 use Rattle.ae_tool.specs.Outcomes.{IsChecked, IsEvaluated, Refused, Ran, IsReply, IsDone, HasResult, HasShortRun, IsAccepted}
 use Rattle.ae_tool.specs.SimTexts.{IsSimulated}

@@ -9,7 +9,7 @@ use Rattle.ae_play.specs.Lines.{clock_count}
 use Rattle.ae_tool.specs.declared.status.Status.{Status}
 use Rattle.ae_tool.specs.declared.status.Status.TheVariants.{LongRun}
 use Rattle.ae_tool.specs.Refusals.{refusal_line}
-use Rattle.ae_tool.specs.Building.{main_costs}
+use Rattle.ae_compile.specs.Costing.{main_costs}
 use Rattle.ae_tool.specs.EvalRows.{AreRows, AreBlocks}
 use Rattle.ae_tool.specs.RunTexts.{IsRunOf, input_widths, output_count, run_limit, run_size}
 use Rattle.ae_tool.proofs.RowCounts.{few_rows}

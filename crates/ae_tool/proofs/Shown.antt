@@ -1,12 +1,12 @@
 -- The lines and the sums of a run are those of the module on the blocks of the rows.
-use Rattle.std.proofs.Common.{◌≡◌, ℕ, zero, suc, ◌+◌, List, [], ◌∷◌, ◌++◌, length, map, take, drop, Some, slice_get, refl, ap, sym, ◌∙◌, subst}
+use Rattle.std.proofs.Common.{◌≡◌, ℕ, zero, suc, ◌+◌, ◌*◌, All, List, [], ◌∷◌, ◌++◌, length, map, take, drop, Some, slice_get, refl, ap, sym, ◌∙◌, subst}
 use Rattle.std.proofs.lemmas.List.{length-map}
 use Rattle.std.proofs.lemmas.Option.{same_Some, slice_get_within}
 use Rattle.ae_word.specs.AtomTree.{WordKind}
 use Rattle.ae_seqtype.specs.SeqTree.{SeqTree, words}
 use Rattle.ae_seqtype.specs.ValueTree.{ValueTree, cut, flat}
 use Rattle.ae_seqtype.proofs.Stands.{length-FitKinds}
-use Rattle.ae_sttype.specs.StTree.{StTree}
+use Rattle.ae_sttype.specs.StTree.{StTree, time}
 use Rattle.ae_seq.specs.ProgramTree.{ProgramTree}
 use Rattle.ae_parse.specs.Rows.{row_words, words_in}
 use Rattle.ae_eval.specs.Stack.{FitIn, IsTyped, kinds_of}
@@ -24,14 +24,22 @@ use Rattle.ae_vread.specs.ModuleTree.{ModuleTree}
 use Rattle.ae_vread.specs.Spells.{Spells}
 use Rattle.ae_verilog.specs.NetlistModule.{netlist_module}
 use Rattle.ae_rewrite.specs.StProgramTree.{StFuncTree}
-use Rattle.ae_lower.specs.Circuits.{last_of, results_of}
+use Rattle.ae_lower.proofs.Blocks.{keys_of}
+use Rattle.ae_lower.proofs.Layouts.{inputs_laid}
+use Rattle.ae_delay.specs.Timings.{Times}
+use Rattle.ae_verilog.specs.Notes.{NoteTree}
+use Rattle.ae_verilog.specs.ReportLines.{ReportTree}
+use Rattle.ae_sttype.specs.Size.{IsInSize}
 use Rattle.ae_play.specs.declared.sums.Sums.{Sums}
 use Rattle.ae_correct.specs.ClockTexts.{AreClockSums, IsClockText}
-use Rattle.ae_tool.specs.Building.{IsModuleText, main_costs}
+use Rattle.ae_compile.specs.Building.{IsModuleText}
+use Rattle.ae_compile.specs.Costing.{IsKnown, main_costs}
+use Rattle.ae_compile.specs.Compiling.{IsCompiled, report_of}
 use Rattle.ae_tool.specs.DemoTexts.{IsSummedRun}
 use Rattle.ae_tool.specs.RunTexts.{IsRunText, input_widths}
 use Rattle.ae_tool.proofs.EvalTypes.{has_columns, same_parameters}
-use Rattle.ae_tool.proofs.EvalSteps.{first_fits, next_row}
+use Rattle.ae_tool.proofs.Columns.{fill_clocks_in, fill_clocks_out, main_is}
+use Rattle.ae_tool.proofs.EvalSteps.{first_fits, next_row, rows_long}
 use Rattle.ae_tool.proofs.Played.{cut_rows, size_laid, values_laid}
 
 -- ---- rows
@@ -76,36 +84,70 @@ blocks_words p ss blocks table ws typed laid a =
     ∙ ap (map (fed.values_of ss)) (cut_rows (length (input_widths p)) table each)
     ∙ each_block (parameter_types p) ss table laid each
 
+-- ---- the layouts that a report tells
+
+pub told_laid : (p : ProgramTree) (slowdown : ℕ) (instances : List StFuncTree) (times : Times) (n : Circuit) (report : ReportTree) (notes : List NoteTree) → IsKnown p slowdown instances times → IsCompiled p slowdown instances n report notes → AllLaidOut (parameter_types p) report.ins
+told_laid p slowdown instances times n report notes k d =
+    let m = main_is p slowdown instances d.instance k.schedule k.sound d.last in
+    subst (AllLaidOut (parameter_types p)) (sym (ap (λ (r : ReportTree). r.ins) d.reported)) (inputs_laid p (keys_of instances) d.instance k.typed m.is m.last)
+
+pub told_ins : (p : ProgramTree) (slowdown : ℕ) (instances : List StFuncTree) (times : Times) (n : Circuit) (report : ReportTree) (notes : List NoteTree) → IsKnown p slowdown instances times → IsCompiled p slowdown instances n report notes
+    → All (λ (t : StTree). IsInSize t × (time t ≡ slowdown)) report.ins
+told_ins p slowdown instances times n report notes k d =
+    subst (All (λ (t : StTree). IsInSize t × (time t ≡ slowdown))) (sym (ap (λ (r : ReportTree). r.ins) d.reported))
+    (fill_clocks_in p slowdown instances d.instance (main_is p slowdown instances d.instance k.schedule k.sound d.last))
+
+pub told_outs : (p : ProgramTree) (slowdown : ℕ) (instances : List StFuncTree) (times : Times) (n : Circuit) (report : ReportTree) (notes : List NoteTree) → IsKnown p slowdown instances times → IsCompiled p slowdown instances n report notes
+    → All (λ (t : StTree). IsInSize t × (time t ≡ slowdown)) report.outs
+told_outs p slowdown instances times n report notes k d =
+    subst (All (λ (t : StTree). IsInSize t × (time t ≡ slowdown))) (sym (ap (λ (r : ReportTree). r.outs) d.reported))
+    (fill_clocks_out p slowdown instances d.instance (main_is p slowdown instances d.instance k.schedule k.sound d.last))
+
+-- the words that a circuit takes are as many as the rows have
+pub told_words : (p : ProgramTree) (slowdown : ℕ) (instances : List StFuncTree) (times : Times) (n : Circuit) (report : ReportTree) (notes : List NoteTree) (blocks : ℕ) (table : List (List (List ℕ))) (ws : List ℕ)
+    → IsKnown p slowdown instances times → IsCompiled p slowdown instances n report notes → AreBlocks p blocks table ws → length ws ≡ blocks * size_of report.ins
+told_words p slowdown instances times n report notes blocks table ws k d a =
+    let size : size_of report.ins ≡ length (input_widths p) = size_laid (parameter_types p) report.ins (told_laid p slowdown instances times n report notes k d) in
+    rows_long p (length (input_widths p)) table ws k.typed a.rows ∙ (λ i. sym a.many i * sym size i)
+
 -- ---- the whole text
 
-pub run_text_is : (fill : ℕ) (p : ProgramTree) (slowdown : ℕ) (instances : List StFuncTree) (table : List (List (List ℕ))) (s : StFuncTree) (n : Circuit) (built clocks text : List ℕ) → slice_get instances (last_of instances) ≡ Some s
-    → IsModuleText p slowdown instances built → Spells built (netlist_module n.cells n.outlets (length s.results))
-    → IsClockText (netlist_module n.cells n.outlets (length s.results)) slowdown (main_costs instances).latency fill s.ins (results_of s) (blocks_of (parameter_types p) table) clocks
+-- one program has one report
+same_report : (p : ProgramTree) (slowdown : ℕ) (instances : List StFuncTree) (n o : Circuit) (report other : ReportTree) (notes more : List NoteTree) → IsCompiled p slowdown instances n report notes → IsCompiled p slowdown instances o other more → report ≡ other
+same_report p slowdown instances n o report other notes more d e =
+    let same : d.instance ≡ e.instance = same_Some d.instance e.instance (sym d.last ∙ e.last) in
+    d.reported ∙ ap (report_of slowdown instances) same ∙ sym e.reported
+
+pub run_text_is : (fill : ℕ) (p : ProgramTree) (slowdown : ℕ) (instances : List StFuncTree) (table : List (List (List ℕ))) (n : Circuit) (report : ReportTree) (notes : List NoteTree) (built clocks text : List ℕ) → IsCompiled p slowdown instances n report notes
+    → IsModuleText p slowdown instances built → Spells built (netlist_module n.cells n.outlets (length report.outs))
+    → IsClockText (netlist_module n.cells n.outlets (length report.outs)) slowdown report.latency fill report.ins report.outs (blocks_of (parameter_types p) table) clocks
     → text ≡ (built ++ codes "%% clocks\n") ++ clocks → IsRunText fill p slowdown instances table text
-run_text_is fill p slowdown instances table s n built clocks text found m spells shown is =
-    let tree : netlist_module n.cells n.outlets (length s.results) ≡ m.tree = m.only (netlist_module n.cells n.outlets (length s.results)) spells in
-    let same : s ≡ m.instance = same_Some s m.instance (sym found ∙ m.last) in
+run_text_is fill p slowdown instances table n report notes built clocks text d m spells shown is =
+    let tree : netlist_module n.cells n.outlets (length report.outs) ≡ m.tree = m.only (netlist_module n.cells n.outlets (length report.outs)) spells in
+    let same : report ≡ m.listing.report = same_report p slowdown instances n m.listing.circuit report m.listing.report notes m.listing.notes d m.listing.compiled in
     let blocks = blocks_of (parameter_types p) table in
-    let here : IsClockText m.tree slowdown (main_costs instances).latency fill s.ins (results_of s) blocks clocks = subst (λ (x : ModuleTree). IsClockText x slowdown (main_costs instances).latency fill s.ins (results_of s) blocks clocks) tree shown in
+    let here : IsClockText m.tree slowdown report.latency fill report.ins report.outs blocks clocks = subst (λ (x : ModuleTree). IsClockText x slowdown report.latency fill report.ins report.outs blocks clocks) tree shown in
+    let late : IsClockText m.tree slowdown (main_costs instances).latency fill report.ins report.outs blocks clocks = subst (λ (l : ℕ). IsClockText m.tree slowdown l fill report.ins report.outs blocks clocks) (ap (λ (r : ReportTree). r.latency) d.reported) here in
     record {
       built = built;
       module_text = m;
       clocks = clocks;
-      shown = subst (λ (x : StFuncTree). IsClockText m.tree slowdown (main_costs instances).latency fill x.ins (results_of x) blocks clocks) same here;
+      shown = subst (λ (r : ReportTree). IsClockText m.tree slowdown (main_costs instances).latency fill r.ins r.outs blocks clocks) same late;
       is = is;
     }
 
 -- the same of sums
-pub summed_is : (fill : ℕ) (p : ProgramTree) (slowdown : ℕ) (instances : List StFuncTree) (table : List (List (List ℕ))) (s : StFuncTree) (n : Circuit) (built : List ℕ) (sums : Sums) → slice_get instances (last_of instances) ≡ Some s
-    → IsModuleText p slowdown instances built → Spells built (netlist_module n.cells n.outlets (length s.results))
-    → AreClockSums (netlist_module n.cells n.outlets (length s.results)) slowdown (main_costs instances).latency fill s.ins (results_of s) (blocks_of (parameter_types p) table) sums
+pub summed_is : (fill : ℕ) (p : ProgramTree) (slowdown : ℕ) (instances : List StFuncTree) (table : List (List (List ℕ))) (n : Circuit) (report : ReportTree) (notes : List NoteTree) (built : List ℕ) (sums : Sums) → IsCompiled p slowdown instances n report notes
+    → IsModuleText p slowdown instances built → Spells built (netlist_module n.cells n.outlets (length report.outs))
+    → AreClockSums (netlist_module n.cells n.outlets (length report.outs)) slowdown report.latency fill report.ins report.outs (blocks_of (parameter_types p) table) sums
     → IsSummedRun fill p slowdown instances table built sums
-summed_is fill p slowdown instances table s n built sums found m spells shown =
-    let tree : netlist_module n.cells n.outlets (length s.results) ≡ m.tree = m.only (netlist_module n.cells n.outlets (length s.results)) spells in
-    let same : s ≡ m.instance = same_Some s m.instance (sym found ∙ m.last) in
+summed_is fill p slowdown instances table n report notes built sums d m spells shown =
+    let tree : netlist_module n.cells n.outlets (length report.outs) ≡ m.tree = m.only (netlist_module n.cells n.outlets (length report.outs)) spells in
+    let same : report ≡ m.listing.report = same_report p slowdown instances n m.listing.circuit report m.listing.report notes m.listing.notes d m.listing.compiled in
     let blocks = blocks_of (parameter_types p) table in
-    let here : AreClockSums m.tree slowdown (main_costs instances).latency fill s.ins (results_of s) blocks sums = subst (λ (x : ModuleTree). AreClockSums x slowdown (main_costs instances).latency fill s.ins (results_of s) blocks sums) tree shown in
+    let here : AreClockSums m.tree slowdown report.latency fill report.ins report.outs blocks sums = subst (λ (x : ModuleTree). AreClockSums x slowdown report.latency fill report.ins report.outs blocks sums) tree shown in
+    let late : AreClockSums m.tree slowdown (main_costs instances).latency fill report.ins report.outs blocks sums = subst (λ (l : ℕ). AreClockSums m.tree slowdown l fill report.ins report.outs blocks sums) (ap (λ (r : ReportTree). r.latency) d.reported) here in
     record {
       module_text = m;
-      shown = subst (λ (x : StFuncTree). AreClockSums m.tree slowdown (main_costs instances).latency fill x.ins (results_of x) blocks sums) same here;
+      shown = subst (λ (r : ReportTree). AreClockSums m.tree slowdown (main_costs instances).latency fill r.ins r.outs blocks sums) same late;
     }

@@ -24,11 +24,6 @@ abbrev pub ArePlain : List (List ℕ) → Type 0
 ArePlain [] = Unit {0}
 ArePlain (f ∷ fs) = (all_name_bytes f ≡ true) × ArePlain fs
 
--- the names of nodes are such fields
-abbrev pub AllNamed : List NodeTree → Type 0
-AllNamed [] = Unit {0}
-AllNamed (n ∷ ns) = (all_name_bytes n.name ≡ true) × AllNamed ns
-
 abbrev pub table_head : List ℕ
 table_head = codes "line,name,op,latency,load,muls\n"
 

@@ -11,9 +11,9 @@ use Rattle.ae_rewrite.specs.Interface.{parameter_types}
 use Rattle.ae_correct.specs.ClockTexts.{AreClockSums}
 use Rattle.ae_tool.specs.Inputs.{blocks_of}
 use Rattle.ae_tool.specs.PlanTexts.{number_line}
-use Rattle.ae_tool.specs.Schedules.{IsCosted}
-use Rattle.ae_lower.specs.Circuits.{results_of}
-use Rattle.ae_tool.specs.Building.{IsModuleText, main_costs}
+use Rattle.ae_compile.specs.Costing.{IsCosted}
+use Rattle.ae_compile.specs.Building.{IsModuleText}
+use Rattle.ae_compile.specs.Costing.{main_costs}
 
 -- the program of a size
 abbrev pub demo_program : (size : ℕ) → List ℕ
@@ -40,7 +40,7 @@ demo_table n = map (map decimal) (cut (demo_blocks n) (16 * n) (demo_words n))
 -- the text of a module that is correct for the program, and the sums of its run on the blocks of the rows
 pub record IsSummedRun (fill : ℕ) (p : ProgramTree) (slowdown : ℕ) (instances : List StFuncTree) (table : List (List (List ℕ))) (built : List ℕ) (sums : Sums) : Type 0 where
   pub module_text : IsModuleText p slowdown instances built
-  pub shown : AreClockSums module_text.tree slowdown (main_costs instances).latency fill module_text.instance.ins (results_of module_text.instance) (blocks_of (parameter_types p) table) sums
+  pub shown : AreClockSums module_text.tree slowdown (main_costs instances).latency fill module_text.listing.report.ins module_text.listing.report.outs (blocks_of (parameter_types p) table) sums
 
 -- the lines of the summary
 abbrev pub summary : (size latency clocks : ℕ) → Sums → List ℕ

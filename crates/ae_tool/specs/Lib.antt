@@ -12,8 +12,6 @@ pub mod Programs
 pub mod Refusals
 pub mod RunTexts
 pub mod Schedules
-pub mod LineNotes
-pub mod Building
 pub mod SimPlaying
 pub mod SimTexts
 pub mod DemoTexts

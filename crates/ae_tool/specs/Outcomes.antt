@@ -13,11 +13,14 @@ use Rattle.ae_tool.specs.declared.command.Command.TheVariants.{Check, Eval, Plan
 use Rattle.ae_tool.specs.Commands.{IsCommand, NamesNone, TakesInput}
 use Rattle.ae_tool.specs.Inputs.{IsCut}
 use Rattle.ae_tool.specs.Refusals.{refusal_line}
-use Rattle.ae_tool.specs.Building.{IsBuiltText, main_costs}
-use Rattle.ae_tool.specs.Programs.{IsTyped, IsRefusal}
+use Rattle.ae_compile.specs.Building.{IsBuiltText}
+use Rattle.ae_compile.specs.Costing.{main_costs}
+use Rattle.ae_compile.specs.Programs.{IsTyped}
+use Rattle.ae_tool.specs.Programs.{IsRefusal}
 use Rattle.ae_tool.specs.DemoTexts.{IsDemoText}
 use Rattle.ae_tool.specs.CheckTexts.{check_text}
-use Rattle.ae_tool.specs.Schedules.{IsAnswered, IsPlanned, IsTabled, HasCosts}
+use Rattle.ae_compile.specs.Costing.{HasCosts}
+use Rattle.ae_tool.specs.Schedules.{IsAnswered, IsPlanned, IsTabled}
 use Rattle.ae_tool.specs.EvalTexts.{eval_size, IsEvalOf}
 use Rattle.ae_tool.specs.RunTexts.{input_widths, run_size, run_limit, IsRun}
 use Rattle.ae_tool.specs.SimTexts.{IsSimulated, IsSimulable}

@@ -1,26 +1,13 @@
 -- The text of `plan`: what a schedule costs, and when and how each item of the program function arrives.
-use Rattle.std.specs.Prelude.{◌≡◌, ℕ, ◌+◌, ◌-◌, ◌<◌, List, [], ◌∷◌, ◌++◌, length, take, flat_map, Some, slice_get, slice_index, codes}
+use Rattle.std.specs.Prelude.{ℕ, ◌+◌, List, [], ◌∷◌, ◌++◌, length, flat_map, slice_index, codes}
 use Rattle.std.specs.Fmt.{decimal}
-use Rattle.ae_seq.specs.ProgramTree.{ParamTree, NodeTree, FuncTree, ProgramTree}
+use Rattle.ae_seq.specs.ProgramTree.{ParamTree, NodeTree, FuncTree}
 use Rattle.ae_sttype.specs.StTree.{StTree}
 use Rattle.ae_sttype.specs.TypeText.{st_text}
 use Rattle.ae_rewrite.specs.StProgramTree.{StFuncTree}
 use Rattle.ae_rewrite.specs.Sound.{item_layout, item_layouts}
 use Rattle.ae_delay.specs.declared.own.OwnCosts.{OwnCosts}
-use Rattle.ae_delay.specs.Costs.{NodeTiming, arrivals_of, node_timings, func_costs_by, all_costs}
-use Rattle.ae_rewrite.specs.Interface.{main_of}
-
--- the instance of the program function, and the timings of its nodes
-pub record IsMainInstance (p : ProgramTree) (instances : List StFuncTree) (f : FuncTree) (s : StFuncTree) (ts : List NodeTiming) : Type 0 where
-  pub func : slice_get p.funcs (main_of p) ≡ Some f
-  pub last : slice_get instances (length instances - 1) ≡ Some s
-  pub timings : ts ≡ node_timings (all_costs (take (length instances - 1) instances)) s
-
--- the instance has a layout for each item of the function, and its results are items
-pub record IsInstanceOf (f : FuncTree) (s : StFuncTree) : Type 0 where
-  pub items : length (item_layouts s) ≡ length f.params + length f.nodes
-  pub few : length f.params + length f.nodes < 4294967296
-  pub results : (i r : ℕ) → slice_get f.results i ≡ Some r → r < length (item_layouts s)
+use Rattle.ae_delay.specs.Costs.{NodeTiming, arrivals_of, func_costs_by}
 
 -- `WORDS NUMBER`
 abbrev pub number_line : (words : List ℕ) (number : ℕ) → List ℕ

@@ -1,22 +1,10 @@
--- The program of an input, and why there is none.
-use Rattle.std.specs.Prelude.{◌≡◌, ℕ, Option, Some, None, List, slice_get}
-use Rattle.ae_seq.specs.ProgramTree.{FuncTree, ProgramTree}
-use Rattle.ae_seq.specs.Typing.{Judged, untyped, too_large, refused_line}
-use Rattle.ae_parse.specs.Grammar.{IsProgramText as Reads, bad_line}
+-- Why an input is no program.
+use Rattle.std.specs.Prelude.{◌≡◌, ℕ, Some, List}
+use Rattle.ae_seq.specs.Typing.{untyped, too_large}
+use Rattle.ae_parse.specs.Grammar.{bad_line}
+use Rattle.ae_compile.specs.Programs.{IsRefusedAt}
 use Rattle.ae_tool.specs.declared.status.Status.{Status}
-use Rattle.ae_tool.specs.declared.status.Status.TheVariants.{BadLine, BadType, TooLarge, Memory}
-use Rattle.ae_rewrite.specs.Interface.{main_of}
-
--- the text is this program, and no line of it is refused
-pub record IsTyped (part : List ℕ) (p : ProgramTree) : Type 0 where
-  pub reads : Reads part p
-  pub typed : refused_line p ≡ None
-
--- the text is a program with a line that is refused so
-pub record IsRefusedAt (part : List ℕ) (judged : Judged) : Type 0 where
-  pub program : ProgramTree
-  pub reads : Reads part program
-  pub refused : refused_line program ≡ Some judged
+use Rattle.ae_tool.specs.declared.status.Status.TheVariants.{BadLine, BadType, TooLarge}
 
 -- the first bad line, or the first line that has no type, or whose type is too large
 abbrev pub IsRefusal : (part : List ℕ) → Status → Type 0
@@ -24,23 +12,3 @@ IsRefusal part (BadLine line) = bad_line part ≡ Some line
 IsRefusal part (BadType line) = IsRefusedAt part (record { line = line; verdict = untyped })
 IsRefusal part (TooLarge line) = IsRefusedAt part (record { line = line; verdict = too_large })
 IsRefusal part _ = ⊥
-
--- where the program function begins
-abbrev pub line_of : Option FuncTree → ℕ
-line_of None = 0
-line_of (Some f) = f.line
-
-abbrev pub main_line : ProgramTree → ℕ
-main_line p = line_of (slice_get p.funcs (main_of p))
-
--- the same, where want of memory says nothing
-abbrev pub IsTypedFault : (part : List ℕ) → Status → Type 0
-IsTypedFault part Memory = Unit {0}
-IsTypedFault part status = IsRefusal part status
-
--- the refused line of a program by its status
-abbrev pub IsTypeFault : Status → ProgramTree → Type 0
-IsTypeFault (BadType line) p = refused_line p ≡ Some (record { line = line; verdict = untyped })
-IsTypeFault (TooLarge line) p = refused_line p ≡ Some (record { line = line; verdict = too_large })
-IsTypeFault Memory p = Unit {0}
-IsTypeFault _ p = ⊥

@@ -14,9 +14,10 @@ use Rattle.ae_tool.specs.declared.status.Status.{Status}
 use Rattle.ae_tool.specs.declared.status.Status.TheVariants.{Ok, BadWords, LongRun}
 use Rattle.ae_tool.specs.Refusals.{refusal_line}
 use Rattle.ae_tool.specs.Inputs.{widths_of, blocks_of}
-use Rattle.ae_tool.specs.Schedules.{IsCosted, IsCostRefusal}
-use Rattle.ae_lower.specs.Circuits.{results_of}
-use Rattle.ae_tool.specs.Building.{IsModuleText, main_costs}
+use Rattle.ae_compile.specs.Costing.{IsCosted}
+use Rattle.ae_tool.specs.Schedules.{IsCostRefusal}
+use Rattle.ae_compile.specs.Building.{IsModuleText}
+use Rattle.ae_compile.specs.Costing.{main_costs}
 
 -- the widths of the words of all parameters
 abbrev pub input_widths : ProgramTree → List ℕ
@@ -43,7 +44,7 @@ pub record IsRunText (fill : ℕ) (p : ProgramTree) (slowdown : ℕ) (instances 
   pub built : List ℕ
   pub module_text : IsModuleText p slowdown instances built
   pub clocks : List ℕ
-  pub shown : IsClockText module_text.tree slowdown (main_costs instances).latency fill module_text.instance.ins (results_of module_text.instance) (blocks_of (parameter_types p) table) clocks
+  pub shown : IsClockText module_text.tree slowdown (main_costs instances).latency fill module_text.listing.report.ins module_text.listing.report.outs (blocks_of (parameter_types p) table) clocks
   pub is : text ≡ (built ++ codes "%% clocks\n") ++ clocks
 
 -- what `run` answers and writes for a costed program and rows: the first wrong row comes before a run that is too long

@@ -6,9 +6,10 @@ ghost use Rattle.ae_seq.specs.ProgramTree.{node_tree, op_tree, word};
 ghost use Rattle.ae_seq.specs.Formed.{all_name_bytes};
 ghost use Rattle.csv.specs.Records.{fields_of};
 ghost use Rattle.csv.specs.Writing.{default_writer, row_text};
-ghost use Rattle.ae_tool.specs.CostTables.{AllNamed, ArePlain, comma_line, cost_row, cost_rows, cost_table, op_word};
+ghost use Rattle.ae_compile.specs.LineNotes.{AllNamed};
+ghost use Rattle.ae_tool.specs.CostTables.{ArePlain, comma_line, cost_row, cost_rows, cost_table, op_word};
 
-use crate::reply::OutOfMemory;
+use ae_compile::OutOfMemory;
 use ae_delay::{Cost, Timing};
 use ae_seq::{Node, Op};
 use ae_word::WordOp;

@@ -3,23 +3,17 @@
 ghost use Rattle.std.specs.Prelude.{◌≡◌, ◌+◌, ◌*◌, ◌<◌, ◌≤◌, ◌^◌, ◌++◌, true, ℕ, List, IfOk, OnOk, replicate, string_bytes};
 ghost use Rattle.ae_seq.specs.ProgramTree.{program_tree};
 ghost use Rattle.ae_rewrite.specs.StProgramTree.{st_func_trees};
-ghost use Rattle.ae_delay.specs.Timings.{AreTimes};
 ghost use Rattle.ae_play.specs.Lines.{clock_count};
 ghost use Rattle.ae_tool.specs.EvalRows.{AreBlocks};
 ghost use Rattle.ae_tool.specs.PlanTexts.{number_line};
-ghost use Rattle.ae_tool.specs.Schedules.{IsCosted};
+ghost use Rattle.ae_compile.specs.Costing.{IsCosted};
+ghost use Rattle.ae_compile.specs.Passes.{IsCompiledProgram, IsCostedProgram};
 ghost use Rattle.ae_tool.specs.DemoTexts.{IsDemoText, IsSummedRun, demo_blocks, demo_program, demo_slowdown, demo_words, summary};
 
-use crate::build::{circuit, input_layouts, module_text, output_layouts};
-use crate::plan::{Costed, find_costs, main_instance};
-use crate::read_back::read_back;
-use crate::reply::OutOfMemory;
 use crate::run::clock_count;
 use crate::widths::input_widths;
-use ae_correct::{circuits_are_writable, plays_are_alike, sums_are_alike, sums_are_shown};
-use ae_netlist::{fill_begins, has_one_run_with};
-use ae_play::{Sums, can_be_fed, sum_clocks};
-use ae_verilog::module_keeps;
+use ae_compile::{Compiled, Costed, OutOfMemory, compile, cost, module_text, play};
+use ae_play::{Sums, sum_clocks};
 use itoa::Buffer;
 use std::alloc::{AllocError, Global};
 
@@ -92,58 +86,47 @@ fn write_summary(
 // The text of the module, and the sums of its run on the rows: that of the netlist that the text itself is read as.
 fn summed(
     alloc: Global,
-    costed: &Costed,
-    slowdown: u32,
+    compiled: &Compiled,
     words: &[u64],
     blocks: usize,
     fill: u64,
 ) -> Result<(String, Sums), OutOfMemory>
-    requires some { 0 < slowdown }
-    requires limit { slowdown ≤ 4096 }
-    requires costed { (part : List ℕ) × IsCosted part slowdown (program_tree costed.now.program) (st_func_trees costed.now.schedule) }
-    requires times { AreTimes (st_func_trees costed.now.schedule) costed.now.timing }
-    requires short { clock_count slowdown costed.now.timing.costs.latency blocks < 2 ^ 32 }
-    requires rows { (table : List (List (List ℕ))) × AreBlocks (program_tree costed.now.program) blocks table words.now }
-    ensures { IfOk result (λ r. (table : List (List (List ℕ))) → AreBlocks (program_tree costed.now.program) blocks table words.now
-        → IsSummedRun fill (program_tree costed.now.program) slowdown (st_func_trees costed.now.schedule) table (string_bytes r.0) r.1) }
+    requires compiled { IsCompiledProgram compiled.now }
+    requires short { clock_count compiled.now.costed.slowdown compiled.now.report.latency blocks < 2 ^ 32 }
+    requires rows { (table : List (List (List ℕ))) × AreBlocks (program_tree compiled.now.costed.program) blocks table words.now }
+    ensures { IfOk result (λ r. (table : List (List (List ℕ))) → AreBlocks (program_tree compiled.now.costed.program) blocks table words.now
+        → IsSummedRun fill (program_tree compiled.now.costed.program) compiled.now.costed.slowdown (st_func_trees compiled.now.costed.schedule) table (string_bytes r.0) r.1) }
 {
-    let _program = costed.program.program();
-    let _count = costed.schedule.count();
-    let lowered = circuit(alloc, costed, slowdown)?;
-    let nl = &lowered.netlist;
-    let text = module_text(alloc, costed, slowdown, &lowered)?;
-    sums_are_shown();
-    sums_are_alike();
-    plays_are_alike();
-    can_be_fed();
-    circuits_are_writable();
-    module_keeps();
-    has_one_run_with(nl);
-    fill_begins(nl, fill);
-    let played = read_back(alloc, text.as_str())?;
-    let _load = costed.timing.load();
-    let s = main_instance(&costed.schedule);
-    let ins = input_layouts(alloc, s)?;
-    let outs = output_layouts(alloc, s)?;
-    let latency = costed.timing.latency();
+    let text = module_text(alloc, compiled)?;
+    let played = play(alloc, compiled, text.as_str(), fill)?;
+    let told = &compiled.report;
+    let slowdown = compiled.costed.slowdown;
     let sums = sum_clocks(
-        alloc, &played, &ins, &outs, slowdown, latency, words, blocks, fill,
+        alloc,
+        &played,
+        &told.ins,
+        &told.outs,
+        slowdown,
+        told.latency,
+        words,
+        blocks,
+        fill,
     )?;
     Ok((text, sums))
 }
 
 // The text of the module, and the summary of its run. No size needs more clocks, or has words of another width.
-fn demo_text(alloc: Global, costed: &Costed, size: u32) -> Result<String, OutOfMemory>
+fn demo_text(alloc: Global, costed: Costed, size: u32) -> Result<String, OutOfMemory>
     requires some { 1 ≤ size }
     requires limit { size ≤ 64 }
-    requires costed { IsCosted (demo_program size) (demo_slowdown size) (program_tree costed.now.program) (st_func_trees costed.now.schedule) }
-    requires times { AreTimes (st_func_trees costed.now.schedule) costed.now.timing }
+    requires is { costed.slowdown ≡ demo_slowdown size }
+    requires known { IsCostedProgram costed }
+    requires costed { IsCosted (demo_program size) (demo_slowdown size) (program_tree costed.program) (st_func_trees costed.schedule) }
     ensures { IfOk result (λ text. IsDemoText size (string_bytes text)) }
 {
-    let slowdown = 4 * size;
     let blocks = (2 * size) as usize;
     let latency = costed.timing.latency();
-    let clocks = clock_count(slowdown, latency, blocks);
+    let clocks = clock_count(costed.slowdown, latency, blocks);
     if clocks > 4_294_967_295 {
         return Err(OutOfMemory);
     }
@@ -152,7 +135,8 @@ fn demo_text(alloc: Global, costed: &Costed, size: u32) -> Result<String, OutOfM
         return Err(OutOfMemory);
     }
     let words = input_words(alloc, size)?;
-    let (mut text, sums) = summed(alloc, costed, slowdown, &words, blocks, 0)?;
+    let compiled = compile(alloc, costed)?;
+    let (mut text, sums) = summed(alloc, &compiled, &words, blocks, 0)?;
     text.push_str("%% summary\n")?;
     write_summary(&mut text, size, latency, clocks, sums)?;
     Ok(text)
@@ -166,8 +150,8 @@ pub fn demo(alloc: Global, size: u32) -> Result<String, OutOfMemory>
     ensures { IfOk result (λ text. IsDemoText size (string_bytes text)) }
 {
     let part = program_text(alloc, size)?;
-    match find_costs(alloc, part.as_bytes(), 4 * size) {
-        Ok(costed) => demo_text(alloc, &costed, size),
+    match cost(alloc, part.as_bytes(), 4 * size) {
+        Ok(costed) => demo_text(alloc, costed, size),
         Err(_) => Err(OutOfMemory),
     }
 }

@@ -14,9 +14,10 @@ ghost use Rattle.ae_rewrite.specs.Interface.{parameter_types, result_types};
 ghost use Rattle.ae_tool.specs.EvalRows.{AreRows, values_in_row};
 ghost use Rattle.ae_tool.specs.EvalTexts.{IsEvalOf, eval_text, type_words, words_line};
 
-use crate::reply::{OutOfMemory, RUN_LIMIT, Reply, refused};
+use crate::reply::{RUN_LIMIT, Reply, refused};
 use crate::status::Status;
 use crate::widths::input_widths;
+use ae_compile::OutOfMemory;
 use ae_eval::eval;
 use ae_parse::{RowFault, read_rows};
 use ae_seq::Typed;

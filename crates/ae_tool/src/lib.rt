@@ -8,17 +8,14 @@ mod command;
 mod cost_table;
 mod demo;
 mod evaluate;
-mod notes;
 mod plan;
 mod plan_text;
-mod read_back;
 mod refusal;
 mod reply;
 mod run;
 mod serve;
 mod sim;
 mod status;
-mod typed;
 mod widths;
 
 pub use call::aeth;

@@ -5,7 +5,8 @@ ghost use Rattle.ae_seq.specs.ProgramTree.{param_tree, node_tree, func_tree};
 ghost use Rattle.ae_sttype.specs.StTree.{st_tree};
 ghost use Rattle.ae_rewrite.specs.StProgramTree.{st_func_tree};
 ghost use Rattle.ae_rewrite.specs.Sound.{item_layouts};
-ghost use Rattle.ae_tool.specs.PlanTexts.{IsInstanceOf, cost_lines, item_line, item_lines, node_item_lines, number_line, param_item_lines, planned_text, result_line};
+ghost use Rattle.ae_compile.specs.Mains.{IsInstanceOf};
+ghost use Rattle.ae_tool.specs.PlanTexts.{cost_lines, item_line, item_lines, node_item_lines, number_line, param_item_lines, planned_text, result_line};
 
 use ae_delay::{Timing, layout};
 use ae_rewrite::StFunc;

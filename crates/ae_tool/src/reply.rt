@@ -1,24 +1,28 @@
 // What a job answers to an input.
 
-ghost use Rattle.std.specs.Prelude.{◌≡◌, ◌<◌, ◌≤◌, ◌^◌, IfOk, length, string_bytes};
+ghost use Rattle.std.specs.Prelude.{◌≡◌, ◌<◌, ◌≤◌, ◌^◌, ℕ, List, IfOk, length, string_bytes};
 ghost use Rattle.ae_parse.specs.Rows.{rows};
+ghost use Rattle.ae_compile.specs.Costing.{IsCostFault};
+ghost use Rattle.ae_compile.specs.Programs.{IsTypedFault};
 ghost use Rattle.ae_tool.specs.Commands.{AreInRange, TakesInput};
 ghost use Rattle.ae_tool.specs.Inputs.{IsCut};
+ghost use Rattle.ae_tool.specs.Programs.{IsRefusal};
 ghost use Rattle.ae_tool.specs.Refusals.{refusal_line};
+ghost use Rattle.ae_tool.specs.Schedules.{IsCostRefusal};
 ghost use Rattle.ae_tool.specs.Outcomes.{IsChecked, IsEvaluated, IsReply, IsDone};
 
 use crate::build::build;
 use crate::check_text::check_text;
 use crate::command::Command;
 use crate::evaluate::evaluate;
-use crate::plan::{cost, plan};
+use crate::plan::{cost_of_lines, plan};
 use crate::refusal::refusal_line;
 use crate::run::run;
 use crate::sim::simulate;
 use crate::status::Status;
-use crate::typed::typed;
+use ae_compile::{CompileFault, OutOfMemory, typed};
 use ae_parse::split;
-use std::alloc::{AllocError, Global};
+use std::alloc::Global;
 
 /// The greatest size of a run.
 pub const RUN_LIMIT: u64 = 4_194_304;
@@ -30,22 +34,26 @@ pub struct Reply {
     pub text: String,
 }
 
-/// There was no memory.
-#[derive(Debug, Drop)]
-pub struct OutOfMemory;
-
-impl From<AllocError> for OutOfMemory {
-    fn from(_: AllocError) -> OutOfMemory {
-        OutOfMemory
-    }
-}
-
 /// The reply to what is refused.
 pub fn refused(alloc: Global, status: Status) -> Result<Reply, OutOfMemory>
     ensures { IfOk result (λ reply. (reply.status ≡ status) × (string_bytes reply.text ≡ refusal_line status)) }
 {
     let text = refusal_line(alloc, status)?;
     Ok(Reply { status, text })
+}
+
+/// The reply to a program that has no circuit; none where there was no memory.
+pub fn refused_program(alloc: Global, fault: CompileFault) -> Result<Reply, OutOfMemory>
+    ensures untyped { IfOk result (λ reply. (part : List ℕ) → IsTypedFault part fault → IsRefusal part reply.status × (string_bytes reply.text ≡ refusal_line reply.status)) }
+    ensures uncosted { IfOk result (λ reply. (part : List ℕ) (slowdown : ℕ) → IsCostFault part slowdown fault → IsCostRefusal part slowdown reply.status × (string_bytes reply.text ≡ refusal_line reply.status)) }
+{
+    match fault {
+        CompileFault::BadLine { line } => refused(alloc, Status::BadLine { line }),
+        CompileFault::BadType { line } => refused(alloc, Status::BadType { line }),
+        CompileFault::TooLarge { line } => refused(alloc, Status::TooLarge { line }),
+        CompileFault::NoSchedule { line } => refused(alloc, Status::NoSchedule { line }),
+        CompileFault::Memory => Err(OutOfMemory),
+    }
 }
 
 // The two parts of an input: the program, and the text of the rows.
@@ -72,8 +80,7 @@ fn check(alloc: Global, part: &[u8]) -> Result<Reply, OutOfMemory>
                 text,
             })
         }
-        Err(Status::Memory) => Err(OutOfMemory),
-        Err(status) => refused(alloc, status),
+        Err(fault) => refused_program(alloc, fault),
     }
 }
 
@@ -85,8 +92,7 @@ fn eval(alloc: Global, part: &[u8], rest: &[u8]) -> Result<Reply, OutOfMemory>
 {
     match typed(alloc, part) {
         Ok(p) => evaluate(alloc, &p, rest),
-        Err(Status::Memory) => Err(OutOfMemory),
-        Err(status) => refused(alloc, status),
+        Err(fault) => refused_program(alloc, fault),
     }
 }
 
@@ -106,7 +112,7 @@ fn answer_parts(
         Command::Check => check(alloc, part),
         Command::Eval => eval(alloc, part, rest),
         Command::Plan { slowdown } => plan(alloc, part, slowdown),
-        Command::Cost { slowdown } => cost(alloc, part, slowdown),
+        Command::Cost { slowdown } => cost_of_lines(alloc, part, slowdown),
         Command::Build { slowdown } => build(alloc, part, slowdown),
         Command::Run { slowdown, fill } => run(alloc, part, rest, slowdown, fill),
         Command::Demo { size: _ } => unreachable!(),

@@ -7,24 +7,20 @@ ghost use Rattle.ae_sttype.specs.Size.{IsInSize};
 ghost use Rattle.ae_sttype.specs.Moves.{columns_of};
 ghost use Rattle.ae_seq.specs.ProgramTree.{program_tree};
 ghost use Rattle.ae_rewrite.specs.StProgramTree.{st_func_trees};
-ghost use Rattle.ae_delay.specs.Timings.{AreTimes};
 ghost use Rattle.ae_play.specs.Lines.{clock_count};
 ghost use Rattle.ae_tool.specs.EvalRows.{AreRows, AreBlocks};
-ghost use Rattle.ae_tool.specs.Schedules.{IsCosted};
+ghost use Rattle.ae_compile.specs.Passes.{IsCompiledProgram, IsCostedProgram};
 ghost use Rattle.ae_tool.specs.RunTexts.{IsRun, IsRunOf, IsRunText, output_count};
 
-use crate::build::{circuit, input_layouts, module_text, output_layouts};
-use crate::plan::{Costed, find_costs, main_instance};
-use crate::read_back::read_back;
-use crate::reply::{OutOfMemory, RUN_LIMIT, Reply, refused};
+use crate::reply::{RUN_LIMIT, Reply, refused, refused_program};
 use crate::status::Status;
 use crate::widths::input_widths;
-use ae_correct::{circuits_are_writable, plays_are_alike, plays_are_shown};
-use ae_netlist::{fill_begins, has_one_run_with};
+use ae_compile::{
+    Compiled, Costed, OutOfMemory, compile, cost, main_instance, module_text, output_layouts, play,
+};
 use ae_parse::{RowFault, read_rows};
-use ae_play::{can_be_fed, write_clocks};
+use ae_play::write_clocks;
 use ae_sttype::StType;
-use ae_verilog::module_keeps;
 use std::alloc::Global;
 
 /// How many clocks a run of so many blocks shows.
@@ -55,13 +51,11 @@ fn count_columns(layouts: &[StType]) -> u64
 }
 
 // How many words all results have in a clock.
-fn output_count(alloc: Global, costed: &Costed, slowdown: u32) -> Result<u64, OutOfMemory>
-    requires costed { (part : List ℕ) × IsCosted part slowdown (program_tree costed.now.program) (st_func_trees costed.now.schedule) }
-    ensures is { IfOk result (λ n. n ≡ output_count (program_tree costed.now.program) slowdown) }
+fn output_count(alloc: Global, costed: &Costed) -> Result<u64, OutOfMemory>
+    requires { IsCostedProgram costed.now }
+    ensures is { IfOk result (λ n. n ≡ output_count (program_tree costed.now.program) costed.now.slowdown) }
     ensures few { IfOk result (λ n. n ≤ 131072) }
 {
-    let _program = costed.program.program();
-    let _count = costed.schedule.count();
     let outs = output_layouts(alloc, main_instance(&costed.schedule))?;
     Ok(count_columns(&outs))
 }
@@ -69,42 +63,33 @@ fn output_count(alloc: Global, costed: &Costed, slowdown: u32) -> Result<u64, Ou
 // The text of the module, and of its run on the rows: that of the netlist that the text itself is read as.
 fn run_text(
     alloc: Global,
-    costed: &Costed,
-    slowdown: u32,
+    compiled: &Compiled,
     words: &[u64],
     blocks: usize,
     fill: u64,
 ) -> Result<String, OutOfMemory>
-    requires some { 0 < slowdown }
-    requires limit { slowdown ≤ 4096 }
-    requires costed { (part : List ℕ) × IsCosted part slowdown (program_tree costed.now.program) (st_func_trees costed.now.schedule) }
-    requires times { AreTimes (st_func_trees costed.now.schedule) costed.now.timing }
-    requires short { clock_count slowdown costed.now.timing.costs.latency blocks < 2 ^ 32 }
-    requires rows { (table : List (List (List ℕ))) × AreBlocks (program_tree costed.now.program) blocks table words.now }
-    ensures { IfOk result (λ text. (table : List (List (List ℕ))) → AreBlocks (program_tree costed.now.program) blocks table words.now
-        → IsRunText fill (program_tree costed.now.program) slowdown (st_func_trees costed.now.schedule) table (string_bytes text)) }
+    requires compiled { IsCompiledProgram compiled.now }
+    requires short { clock_count compiled.now.costed.slowdown compiled.now.report.latency blocks < 2 ^ 32 }
+    requires rows { (table : List (List (List ℕ))) × AreBlocks (program_tree compiled.now.costed.program) blocks table words.now }
+    ensures { IfOk result (λ text. (table : List (List (List ℕ))) → AreBlocks (program_tree compiled.now.costed.program) blocks table words.now
+        → IsRunText fill (program_tree compiled.now.costed.program) compiled.now.costed.slowdown (st_func_trees compiled.now.costed.schedule) table (string_bytes text)) }
 {
-    let _program = costed.program.program();
-    let _count = costed.schedule.count();
-    let lowered = circuit(alloc, costed, slowdown)?;
-    let nl = &lowered.netlist;
-    let mut text = module_text(alloc, costed, slowdown, &lowered)?;
-    plays_are_shown();
-    plays_are_alike();
-    can_be_fed();
-    circuits_are_writable();
-    module_keeps();
-    has_one_run_with(nl);
-    fill_begins(nl, fill);
-    let played = read_back(alloc, text.as_str())?;
+    let mut text = module_text(alloc, compiled)?;
+    let played = play(alloc, compiled, text.as_str(), fill)?;
     text.push_str("%% clocks\n")?;
-    let _load = costed.timing.load();
-    let s = main_instance(&costed.schedule);
-    let ins = input_layouts(alloc, s)?;
-    let outs = output_layouts(alloc, s)?;
-    let latency = costed.timing.latency();
+    let told = &compiled.report;
+    let slowdown = compiled.costed.slowdown;
     write_clocks(
-        alloc, &mut text, &played, &ins, &outs, slowdown, latency, words, blocks, fill,
+        alloc,
+        &mut text,
+        &played,
+        &told.ins,
+        &told.outs,
+        slowdown,
+        told.latency,
+        words,
+        blocks,
+        fill,
     )?;
     Ok(text)
 }
@@ -112,28 +97,24 @@ fn run_text(
 // The reply to rows of words that are right, if the run is not too long.
 fn run_words(
     alloc: Global,
-    costed: &Costed,
-    slowdown: u32,
+    costed: Costed,
     words: &[u64],
     columns: usize,
     fill: u64,
 ) -> Result<Reply, OutOfMemory>
-    requires some { 0 < slowdown }
-    requires limit { slowdown ≤ 4096 }
-    requires costed { (part : List ℕ) × IsCosted part slowdown (program_tree costed.now.program) (st_func_trees costed.now.schedule) }
-    requires times { AreTimes (st_func_trees costed.now.schedule) costed.now.timing }
-    requires rows { (table : List (List (List ℕ))) × AreRows (program_tree costed.now.program) columns table words.now }
-    ensures { IfOk result (λ reply. (table : List (List (List ℕ))) → AreRows (program_tree costed.now.program) columns table words.now
-        → IsRunOf fill (program_tree costed.now.program) slowdown (st_func_trees costed.now.schedule) table reply.status (string_bytes reply.text)) }
+    requires costed { IsCostedProgram costed }
+    requires rows { (table : List (List (List ℕ))) × AreRows (program_tree costed.program) columns table words.now }
+    ensures { IfOk result (λ reply. (table : List (List (List ℕ))) → AreRows (program_tree costed.program) columns table words.now
+        → IsRunOf fill (program_tree costed.program) costed.slowdown (st_func_trees costed.schedule) table reply.status (string_bytes reply.text)) }
 {
-    let _program = costed.program.program();
     let blocks = words.len() / columns;
-    let clocks = clock_count(slowdown, costed.timing.latency(), blocks);
-    let size = clocks * (1 + output_count(alloc, costed, slowdown)?);
+    let clocks = clock_count(costed.slowdown, costed.timing.latency(), blocks);
+    let size = clocks * (1 + output_count(alloc, &costed)?);
     if size > RUN_LIMIT {
         return refused(alloc, Status::LongRun { size });
     }
-    let text = run_text(alloc, costed, slowdown, words, blocks, fill)?;
+    let compiled = compile(alloc, costed)?;
+    let text = run_text(alloc, &compiled, words, blocks, fill)?;
     Ok(Reply {
         status: Status::Ok,
         text,
@@ -141,26 +122,16 @@ fn run_words(
 }
 
 // The reply for a program with costs.
-fn run_rows(
-    alloc: Global,
-    costed: &Costed,
-    rest: &[u8],
-    slowdown: u32,
-    fill: u64,
-) -> Result<Reply, OutOfMemory>
+fn run_rows(alloc: Global, costed: Costed, rest: &[u8], fill: u64) -> Result<Reply, OutOfMemory>
     requires rest { length rest.now < 2 ^ 32 }
-    requires some { 0 < slowdown }
-    requires limit { slowdown ≤ 4096 }
-    requires costed { (part : List ℕ) × IsCosted part slowdown (program_tree costed.now.program) (st_func_trees costed.now.schedule) }
-    requires times { AreTimes (st_func_trees costed.now.schedule) costed.now.timing }
-    ensures { IfOk result (λ reply. IsRunOf fill (program_tree costed.now.program) slowdown (st_func_trees costed.now.schedule) (rows rest.now) reply.status (string_bytes reply.text)) }
+    requires costed { IsCostedProgram costed }
+    ensures { IfOk result (λ reply. IsRunOf fill (program_tree costed.program) costed.slowdown (st_func_trees costed.schedule) (rows rest.now) reply.status (string_bytes reply.text)) }
 {
     let widths = input_widths(alloc, costed.program.program())?;
     match read_rows(alloc, rest, widths.as_slice()) {
         Ok(table) => run_words(
             alloc,
             costed,
-            slowdown,
             table.words.as_slice(),
             table.columns as usize,
             fill,
@@ -184,9 +155,8 @@ pub fn run(
     requires limit { slowdown ≤ 4096 }
     ensures { IfOk result (λ reply. IsRun slowdown fill part.now (rows rest.now) reply.status (string_bytes reply.text)) }
 {
-    match find_costs(alloc, part, slowdown) {
-        Ok(costed) => run_rows(alloc, &costed, rest, slowdown, fill),
-        Err(Status::Memory) => Err(OutOfMemory),
-        Err(status) => refused(alloc, status),
+    match cost(alloc, part, slowdown) {
+        Ok(costed) => run_rows(alloc, costed, rest, fill),
+        Err(fault) => refused_program(alloc, fault),
     }
 }

@@ -12,8 +12,9 @@ ghost use Rattle.ae_play.specs.Lines.{shown_words};
 ghost use Rattle.ae_tool.specs.SimPlaying.{AreSimRows, IsModuleReply, IsNetSim, IsNetText, IsRefusedAs, cell_widths};
 ghost use Rattle.ae_tool.specs.SimTexts.{IsSimulated, module_kind, text_kind, words_of_clock};
 
-use crate::reply::{OutOfMemory, RUN_LIMIT, Reply, refused};
+use crate::reply::{RUN_LIMIT, Reply, refused};
 use crate::status::{Status, VFaultKind};
+use ae_compile::OutOfMemory;
 use ae_elab::{ElabFault, elaborate};
 use ae_netlist::{Cell, Netlist, SizedCell, fill_begins, has_one_run_with};
 use ae_parse::{RowFault, read_rows};

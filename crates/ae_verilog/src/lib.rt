@@ -40,6 +40,7 @@ pub fn write_module(
     ensures reports { IfOk result (λ text. (rest : List ℕ) × (string_bytes text ≡ report_lines (report_tree report.now) ++ rest)) }
     ensures stars { stars (netlist_module nl.now.cells nl.now.outlets (length report.now.outs.items)) ≡ count_of is_mul nl.now.cells }
     ensures clean { IfOk result (λ text. IsTrue (list_all is_clean (string_bytes text))) }
+    ensures text { IfOk result (λ text. string_bytes text ≡ whole_text (report_lines (report_tree report.now)) (map note_tree notes.now) nl.now.cells nl.now.outlets (length report.now.outs.items)) }
 {
     nl.formed();
     let _count = nl.len();

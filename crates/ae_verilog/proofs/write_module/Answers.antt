@@ -24,3 +24,6 @@ returns-clause-clean c =
 
 pub returns-clause-stars : goal.returns-clause-stars
 returns-clause-stars c = one_star_each c.args.nl.now.cells c.args.nl.now.outlets (length c.args.report.now.outs.items)
+
+pub returns-clause-text : goal.returns-clause-text
+returns-clause-text c = rw (c.cells.ensures, c.outlets.ensures, c.as_slice-outs.ensures.value) at c.write_text.ensures.text

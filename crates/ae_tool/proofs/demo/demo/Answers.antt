@@ -1,13 +1,13 @@
 use Rattle.std.proofs.Common.{ℕ, List, ◌≡◌, ◌<◌, length, arith, ap, subst, ◌∙◌}
 use Rattle.ae_seq.specs.ProgramTree.{program_tree}
 use Rattle.ae_rewrite.specs.StProgramTree.{st_func_trees}
-use Rattle.ae_tool.specs.Schedules.{IsCosted}
+use Rattle.ae_compile.specs.Costing.{IsCosted}
 use Rattle.ae_tool.specs.DemoTexts.{demo_slowdown}
 use Rattle.ae_tool.proofs.Demos.{short_program}
 use Rattle.ae_tool.proofs.demo.demo.Goals as goal
 
-pub find_costs-requires-clause-part : goal.find_costs-requires-clause-part
-find_costs-requires-clause-part c = omega (arith, short_program c.args.size c.requires.limit, ap length (c.as_bytes.ensures.value ∙ c.in_ok-part.ensures))
+pub cost-requires-clause-part : goal.cost-requires-clause-part
+cost-requires-clause-part c = omega (arith, short_program c.args.size c.requires.limit, ap length (c.as_bytes.ensures.value ∙ c.in_ok-part.ensures))
 
 pub demo_text-requires-clause-costed : goal.demo_text-requires-clause-costed
 demo_text-requires-clause-costed c =

@@ -9,9 +9,11 @@ use Rattle.ae_rewrite.specs.StProgramTree.{st_func_trees}
 use Rattle.ae_rewrite.proofs.Forms.{few-nodes}
 use Rattle.ae_delay.specs.Weighing.{cost_of}
 use Rattle.ae_rewrite.specs.Interface.{main_of}
-use Rattle.ae_tool.specs.CostTables.{AllNamed, cost_table}
-use Rattle.ae_tool.specs.Schedules.{HasMain}
-use Rattle.ae_tool.proofs.Plans.{main_costs, main_named, main_table}
+use Rattle.ae_compile.specs.LineNotes.{AllNamed}
+use Rattle.ae_tool.specs.CostTables.{cost_table}
+use Rattle.ae_compile.specs.Mains.{HasMain}
+use Rattle.ae_compile.proofs.Mains.{main_named}
+use Rattle.ae_tool.proofs.Plans.{main_costs, main_table}
 use Rattle.ae_tool.proofs.plan.tabled.Goals as goal
 
 pub cost_table-requires-clause-named : goal.cost_table-requires-clause-named
@@ -23,9 +25,9 @@ cost_table-requires-clause-named c =
 pub cost_table-requires-clause-long : goal.cost_table-requires-clause-long
 cost_table-requires-clause-long c =
     let f = func_tree c.main_func-func.result.now in
-    let key = c.requires.costed.2.schedule.last in
-    main_costs (program_tree c.args.costed.now.program) c.requires.costed.1 (st_func_trees c.args.costed.now.schedule) f key.instance c.args.costed.now.timing
-    c.requires.costed.2.schedule c.requires.times c.main_func-func.ensures.last key.here
+    let key = c.requires.schedule.last in
+    main_costs (program_tree c.args.costed.now.program) c.args.costed.now.slowdown (st_func_trees c.args.costed.now.schedule) f key.instance c.args.costed.now.timing
+    c.requires.schedule c.requires.times_are c.main_func-func.ensures.last key.here
     ∙ length-map c.main_func-func.result.now.nodes.items node_tree ∙ ap length (sym c.deref.ensures.value)
 
 pub cost_table-requires-clause-few : goal.cost_table-requires-clause-few
@@ -41,8 +43,8 @@ returns c =
     let all = st_func_trees c.args.costed.now.schedule in
     let f = func_tree c.main_func-func.result.now in
     let costs = c.args.costed.now.timing.nodes in
-    let key = c.requires.costed.2.schedule.last in
+    let key = c.requires.schedule.last in
     let nodes = ap (λ (ns : List Node). cost_table (map node_tree ns) costs) c.deref.ensures.value in
     IfOk-weaker c.cost_table.result (λ (t : String Global). string_bytes t ≡ cost_table (map node_tree c.deref.result.now) costs)
     (λ (t : String Global). HasMain p all (λ g s ts. string_bytes t ≡ cost_table g.nodes (map cost_of ts)))
-    (λ t w. main_table p all f key.instance c.args.costed.now.timing (string_bytes t) c.main_func-func.ensures.last key.here c.requires.times (w ∙ nodes)) c.cost_table.ensures
+    (λ t w. main_table p all f key.instance c.args.costed.now.timing (string_bytes t) c.main_func-func.ensures.last key.here c.requires.times_are (w ∙ nodes)) c.cost_table.ensures

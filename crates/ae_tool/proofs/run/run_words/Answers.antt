@@ -1,4 +1,4 @@
-use Rattle.std.proofs.Common.{◌≡◌, ◌+◌, ◌*◌, ◌≤◌, ◌∙◌, List, ℕ, ap, subst, arith}
+use Rattle.std.proofs.Common.{◌≡◌, ◌+◌, ◌*◌, ◌/◌, ◌≤◌, ◌∙◌, List, ℕ, length, ap, sym, subst, arith}
 use Rattle.std.specs.Prelude.{string_bytes}
 use Rattle.std.proofs.lemmas.Result.{IfOk-weaker}
 use Rattle.ae_seq.specs.ProgramTree.{program_tree}
@@ -6,56 +6,70 @@ use Rattle.ae_rewrite.specs.StProgramTree.{st_func_trees}
 use Rattle.ae_delay.specs.declared.own.OwnCosts.{OwnCosts}
 use Rattle.ae_tool.specs.declared.reply.Reply.{Reply}
 use Rattle.ae_tool.specs.declared.status.Status.TheVariants.{LongRun}
-use Rattle.ae_tool.specs.Building.{main_costs}
+use Rattle.ae_compile.specs.declared.costing.Costed.{Costed}
+use Rattle.ae_compile.specs.Costing.{main_costs}
 use Rattle.ae_tool.specs.Refusals.{refusal_line}
-use Rattle.ae_tool.specs.EvalRows.{AreRows}
-use Rattle.ae_tool.specs.RunTexts.{IsRunOf, run_limit, run_size}
+use Rattle.ae_tool.specs.EvalRows.{AreRows, AreBlocks}
+use Rattle.ae_tool.specs.RunTexts.{IsRunOf, IsRunText, run_limit, run_size}
 use Rattle.ae_tool.proofs.EvalSteps.{column_some, rows_count}
-use Rattle.ae_tool.proofs.Modules.{costs_are, typed_program}
+use Rattle.ae_compile.proofs.Modules.{costs_are}
+use Rattle.ae_tool.proofs.Clocks.{clocks_few}
 use Rattle.ae_tool.proofs.Runs.{blocks_known, run_size_is, run_too_long}
 use Rattle.ae_tool.proofs.run.run_words.Goals as goal
 
 pub nonzero_div-blocks : goal.nonzero_div-blocks
 nonzero_div-blocks c =
-    let p = program_tree c.args.costed.now.program in
-    column_some p c.args.columns c.requires.rows.0 c.args.words.now (typed_program p c.program-program.ensures.is_formed c.program-program.ensures.accepted) c.requires.rows.1
+    let p = program_tree c.args.costed.program in
+    column_some p c.args.columns c.requires.rows.0 c.args.words.now c.requires.costed.typed c.requires.rows.1
 
 pub clock_count-clocks-requires-clause-few : goal.clock_count-clocks-requires-clause-few
 clock_count-clocks-requires-clause-few c =
-    let p = program_tree c.args.costed.now.program in
-    omega (arith, rows_count p c.args.columns c.requires.rows.0 c.args.words.now (typed_program p c.program-program.ensures.is_formed c.program-program.ensures.accepted) c.requires.rows.1, c.requires.rows.1.few)
+    let p = program_tree c.args.costed.program in
+    omega (arith, rows_count p c.args.columns c.requires.rows.0 c.args.words.now c.requires.costed.typed c.requires.rows.1, c.requires.rows.1.few)
 
 pub returns-then-size-gt-RUN_LIMIT : goal.returns-then-size-gt-RUN_LIMIT
 returns-then-size-gt-RUN_LIMIT c =
-    let p = program_tree c.args.costed.now.program in
-    let all = st_func_trees c.args.costed.now.schedule in
+    let p = program_tree c.args.costed.program in
+    let all = st_func_trees c.args.costed.schedule in
     let ws = c.args.words.now in
-    let key = c.requires.costed.1.schedule.last in
+    let key = c.requires.costed.schedule.last in
     let costs = main_costs all in
-    let latency : c.latency.result ≡ costs.latency = c.latency.ensures ∙ ap (λ (k : OwnCosts). k.latency) (costs_are all key.instance c.args.costed.now.timing c.requires.times key.here) in
+    let latency : c.latency.result ≡ costs.latency = c.latency.ensures ∙ ap (λ (k : OwnCosts). k.latency) (costs_are all key.instance c.args.costed.timing c.requires.costed.times_are key.here) in
     let size : ℕ = c.clock_count-clocks.result * (1 + c.in_ok-size.field-0) in
-    let typed = typed_program p c.program-program.ensures.is_formed c.program-program.ensures.accepted in
+    let typed = c.requires.costed.typed in
     IfOk-weaker c.refused.result (λ (r : Reply). (r.status ≡ LongRun size) × (string_bytes r.text ≡ refusal_line (LongRun size)))
-    (λ (r : Reply). (table : List (List (List ℕ))) → AreRows p c.args.columns table ws → IsRunOf c.args.fill p c.args.slowdown all table r.status (string_bytes r.text))
+    (λ (r : Reply). (table : List (List (List ℕ))) → AreRows p c.args.columns table ws → IsRunOf c.args.fill p c.args.costed.slowdown all table r.status (string_bytes r.text))
     (λ r w table a.
-    run_too_long c.args.fill p c.args.slowdown all c.args.columns table ws size r.status (string_bytes r.text) a
-    (run_size_is p c.args.slowdown costs c.args.columns table ws c.latency.result c.clock_count-clocks.result c.in_ok-size.field-0 typed a latency c.clock_count-clocks.ensures.is c.in_ok-size.ensures.is)
+    run_too_long c.args.fill p c.args.costed.slowdown all c.args.columns table ws size r.status (string_bytes r.text) a
+    (run_size_is p c.args.costed.slowdown costs c.args.columns table ws c.latency.result c.clock_count-clocks.result c.in_ok-size.field-0 typed a latency c.clock_count-clocks.ensures.is c.in_ok-size.ensures.is)
     c.if-size-gt-RUN_LIMIT.true w.0 w.1) c.refused.ensures
 
 pub run_text-requires-clause-rows : goal.run_text-requires-clause-rows
 run_text-requires-clause-rows c =
-    let p = program_tree c.args.costed.now.program in
-    (c.requires.rows.0, blocks_known p c.args.columns c.requires.rows.0 c.args.words.now (typed_program p c.program-program.ensures.is_formed c.program-program.ensures.accepted) c.requires.rows.1)
+    let p = program_tree c.args.costed.program in
+    let here = blocks_known p c.args.columns c.requires.rows.0 c.args.words.now c.requires.costed.typed c.requires.rows.1 in
+    (c.requires.rows.0, subst (λ (k : Costed). AreBlocks (program_tree k.program) (length c.args.words.now / c.args.columns) c.requires.rows.0 c.args.words.now) (sym c.in_ok-compiled.ensures.of) here)
+
+pub run_text-requires-clause-short : goal.run_text-requires-clause-short
+run_text-requires-clause-short c =
+    let all = st_func_trees c.args.costed.schedule in
+    let key = c.requires.costed.schedule.last in
+    let latency : c.latency.result ≡ (main_costs all).latency = c.latency.ensures ∙ ap (λ (k : OwnCosts). k.latency) (costs_are all key.instance c.args.costed.timing c.requires.costed.times_are key.here) in
+    clocks_few c.in_ok-compiled.compiled c.args.costed c.latency.result (length c.args.words.now / c.args.columns) c.clock_count-clocks.result c.in_ok-size.field-0 c.in_ok-compiled.ensures.of c.in_ok-compiled.ensures.compiled latency c.clock_count-clocks.ensures.is
+    c.if-size-gt-RUN_LIMIT.false
 
 pub returns : goal.returns
 returns c = λ table a.
-    let p = program_tree c.args.costed.now.program in
-    let all = st_func_trees c.args.costed.now.schedule in
+    let p = program_tree c.args.costed.program in
+    let all = st_func_trees c.args.costed.schedule in
     let ws = c.args.words.now in
-    let key = c.requires.costed.1.schedule.last in
+    let key = c.requires.costed.schedule.last in
     let costs = main_costs all in
-    let latency : c.latency.result ≡ costs.latency = c.latency.ensures ∙ ap (λ (k : OwnCosts). k.latency) (costs_are all key.instance c.args.costed.now.timing c.requires.times key.here) in
-    let typed = typed_program p c.program-program.ensures.is_formed c.program-program.ensures.accepted in
-    let size : c.clock_count-clocks.result * (1 + c.in_ok-size.field-0) ≡ run_size p c.args.slowdown costs.latency table = run_size_is p c.args.slowdown costs c.args.columns table ws c.latency.result c.clock_count-clocks.result c.in_ok-size.field-0 typed a latency c.clock_count-clocks.ensures.is c.in_ok-size.ensures.is in
-    let short : run_size p c.args.slowdown costs.latency table ≤ run_limit = subst (λ n. n ≤ run_limit) size c.if-size-gt-RUN_LIMIT.false in
-    (a.right, short, c.in_ok-text.ensures table (blocks_known p c.args.columns table ws typed a))
+    let latency : c.latency.result ≡ costs.latency = c.latency.ensures ∙ ap (λ (k : OwnCosts). k.latency) (costs_are all key.instance c.args.costed.timing c.requires.costed.times_are key.here) in
+    let typed = c.requires.costed.typed in
+    let size : c.clock_count-clocks.result * (1 + c.in_ok-size.field-0) ≡ run_size p c.args.costed.slowdown costs.latency table = run_size_is p c.args.costed.slowdown costs c.args.columns table ws c.latency.result c.clock_count-clocks.result c.in_ok-size.field-0 typed a latency c.clock_count-clocks.ensures.is c.in_ok-size.ensures.is in
+    let short : run_size p c.args.costed.slowdown costs.latency table ≤ run_limit = subst (λ n. n ≤ run_limit) size c.if-size-gt-RUN_LIMIT.false in
+    let blocks = length ws / c.args.columns in
+    let here = subst (λ (k : Costed). AreBlocks (program_tree k.program) blocks table ws) (sym c.in_ok-compiled.ensures.of) (blocks_known p c.args.columns table ws typed a) in
+    let text = string_bytes c.in_ok-text.text in
+    (a.right, short, subst (λ (k : Costed). IsRunText c.args.fill (program_tree k.program) k.slowdown (st_func_trees k.schedule) table text) c.in_ok-compiled.ensures.of (c.in_ok-text.ensures table here))

@@ -1,0 +1,48 @@
+-- What compiling makes of a costed program.
+use Rattle.std.proofs.Common.{◌≡◌, ℕ, List, length, map, Some, slice_get, ap, sym, ◌∙◌, subst}
+use Rattle.ae_seq.specs.ProgramTree.{FuncTree, ProgramTree}
+use Rattle.ae_rewrite.specs.StProgramTree.{StFuncTree}
+use Rattle.ae_rewrite.specs.Sound.{item_layouts}
+use Rattle.ae_rewrite.specs.Interface.{main_of}
+use Rattle.ae_netlist.specs.Circuit.{Circuit}
+use Rattle.ae_delay.specs.Timings.{Times}
+use Rattle.ae_lower.specs.Circuits.{IsCircuitOf, last_of}
+use Rattle.ae_tidy.specs.Places.{AreMarks}
+use Rattle.ae_verilog.specs.Notes.{ArePrinted, NoteTree}
+use Rattle.ae_verilog.specs.ReportLines.{ReportTree}
+use Rattle.ae_compile.specs.Costing.{IsKnown}
+use Rattle.ae_compile.specs.Compiling.{IsCompiled, report_of}
+use Rattle.ae_compile.specs.LineNotes.{node_notes}
+use Rattle.ae_compile.proofs.Mains.{main_nodes}
+
+-- the parts that are made, each by the program function's instance
+pub record AreMade (p : ProgramTree) (slowdown : ℕ) (instances : List StFuncTree) (n : Circuit) (marks : List ℕ) (report : ReportTree) (notes : List NoteTree) : Type 0 where
+  pub reports : (s : StFuncTree) → slice_get instances (last_of instances) ≡ Some s → report ≡ report_of slowdown instances s
+  pub circuits : (s : StFuncTree) → slice_get instances (last_of instances) ≡ Some s → IsCircuitOf instances s n
+  pub places : (s : StFuncTree) → slice_get instances (last_of instances) ≡ Some s → AreMarks (length n.cells) (length s.nodes) marks
+  pub notes_are : (s : StFuncTree) (f : FuncTree) → slice_get instances (last_of instances) ≡ Some s → slice_get p.funcs (main_of p) ≡ Some f → notes ≡ node_notes (item_layouts s) (length f.params) f.nodes marks
+  pub printed : ArePrinted notes
+
+pub compiled_is : (p : ProgramTree) (slowdown : ℕ) (instances : List StFuncTree) (times : Times) (n : Circuit) (marks : List ℕ) (report : ReportTree) (notes : List NoteTree) → IsKnown p slowdown instances times
+    → AreMade p slowdown instances n marks report notes → IsCompiled p slowdown instances n report notes
+compiled_is p slowdown instances times n marks report notes k m =
+    let key = k.schedule.last in
+    let s = key.instance in
+    let found : slice_get instances (last_of instances) ≡ Some s = key.here in
+    let own = k.schedule.right (last_of instances) s found in
+    let main : slice_get p.funcs (main_of p) ≡ Some own.of = ap (slice_get p.funcs) (sym key.is_func) ∙ own.known in
+    let many : length s.nodes ≡ length own.of.nodes = main_nodes p slowdown instances own.of s k.schedule main found in
+    record {
+      instance = s;
+      last = found;
+      circuit = m.circuits s found;
+      reported = m.reports s found;
+      noted = record {
+        func = own.of;
+        main = main;
+        marks = marks;
+        placed = subst (λ (c : ℕ). AreMarks (length n.cells) c marks) many (m.places s found);
+        are = m.notes_are s own.of found main;
+      };
+      printed = m.printed;
+    }

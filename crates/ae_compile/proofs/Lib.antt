@@ -1,0 +1,9 @@
+pub mod Assembled
+pub mod Counts
+pub mod NoFaults
+pub mod Inputs
+pub mod Large
+pub mod Mains
+pub mod Modules
+mod Noting
+mod Shown

@@ -1,0 +1,30 @@
+-- The circuit of a program under a slowdown, and what is told of it.
+use Rattle.std.specs.Prelude.{◌≡◌, ℕ, List, length, Some, slice_get}
+use Rattle.ae_seq.specs.ProgramTree.{ProgramTree}
+use Rattle.ae_rewrite.specs.StProgramTree.{StFuncTree}
+use Rattle.ae_netlist.specs.Circuit.{Circuit}
+use Rattle.ae_lower.specs.Circuits.{IsCircuitOf, last_of, results_of}
+use Rattle.ae_verilog.specs.Notes.{ArePrinted, NoteTree}
+use Rattle.ae_verilog.specs.ReportLines.{ReportTree}
+use Rattle.ae_compile.specs.Costing.{main_costs}
+use Rattle.ae_compile.specs.LineNotes.{AreLineNotes}
+
+-- what is told of a circuit before its module
+abbrev pub report_of : (slowdown : ℕ) → List StFuncTree → StFuncTree → ReportTree
+report_of slowdown instances s = record {
+  slowdown = slowdown;
+  latency = (main_costs instances).latency;
+  muls = (main_costs instances).muls;
+  load = (main_costs instances).load;
+  ins = s.ins;
+  outs = results_of s;
+}
+
+-- the circuit of a schedule, the report of its costs and layouts, and the notes of the program's lines
+pub record IsCompiled (p : ProgramTree) (slowdown : ℕ) (instances : List StFuncTree) (n : Circuit) (report : ReportTree) (notes : List NoteTree) : Type 0 where
+  pub instance : StFuncTree
+  pub last : slice_get instances (last_of instances) ≡ Some instance
+  pub circuit : IsCircuitOf instances instance n
+  pub reported : report ≡ report_of slowdown instances instance
+  pub noted : AreLineNotes p instance (length n.cells) notes
+  pub printed : ArePrinted notes

@@ -1,0 +1,101 @@
+// What the circuit of a program costs under a slowdown.
+
+ghost use Rattle.std.specs.Prelude.{◌≡◌, ◌<◌, ◌≤◌, ◌-◌, ℕ, IsTrue, List, Some, None, IfOk, IfErr, length, slice_get};
+ghost use Rattle.ae_seq.specs.ProgramTree.{func_tree, program_tree};
+ghost use Rattle.ae_seq.specs.Formed.{formed};
+ghost use Rattle.ae_rewrite.specs.Scheduled.{IsSchedule};
+ghost use Rattle.ae_rewrite.specs.StProgramTree.{st_func_tree, st_func_trees};
+ghost use Rattle.ae_rewrite.specs.Interface.{main_of};
+ghost use Rattle.ae_delay.specs.Timings.{AreTimes};
+ghost use Rattle.ae_compile.specs.Costing.{IsScheduled, IsCosted, IsCostFault, IsKnown};
+
+use crate::faults::CompileFault;
+use crate::typing::typed;
+use ae_delay::{DelayFault, Timing, arrivals};
+use ae_rewrite::{PlanFault, StFunc, StProgram, schedule};
+use ae_seq::{Func, Typed};
+use std::alloc::Global;
+
+/// A program with its schedule under a slowdown, and what that costs.
+#[derive(Drop)]
+pub struct Costed {
+    pub slowdown: u32,
+    pub program: Typed,
+    pub schedule: StProgram,
+    pub timing: Timing,
+}
+
+fn scheduled(alloc: Global, part: &[u8], slowdown: u32) -> Result<(Typed, StProgram), CompileFault>
+    requires part { length part.now < 4294967295 }
+    requires some { 0 < slowdown }
+    requires limit { slowdown ≤ 4096 }
+    ensures scheduled { IfOk result (λ x. IsScheduled part.now slowdown (program_tree x.0) (st_func_trees x.1)) }
+    ensures refused { IfErr result (λ f. IsCostFault part.now slowdown f) }
+{
+    let program = typed(alloc, part)?;
+    match schedule(alloc, &program, slowdown) {
+        Ok(schedule) => Ok((program, schedule)),
+        Err(PlanFault::NoSchedule { line }) => Err(CompileFault::NoSchedule { line }),
+        Err(PlanFault::Memory) => Err(CompileFault::Memory),
+    }
+}
+
+// A program with its schedule and the times of that, in one.
+fn known(slowdown: u32, program: Typed, schedule: StProgram, timing: Timing) -> Costed
+    requires some { 0 < slowdown }
+    requires limit { slowdown ≤ 4096 }
+    requires schedule { IsSchedule (program_tree program) slowdown (st_func_trees schedule) }
+    requires times { AreTimes (st_func_trees schedule) timing }
+    ensures is { result ≡ record { slowdown = slowdown; program = program; schedule = schedule; timing = timing } }
+    ensures known { IsKnown (program_tree program) slowdown (st_func_trees schedule) timing }
+{
+    let _program = program.program();
+    let _count = schedule.count();
+    let _load = timing.load();
+    Costed {
+        slowdown,
+        program,
+        schedule,
+        timing,
+    }
+}
+
+/// The program of a text with its schedule under a slowdown of 1 to 4,096, and the costs of that (docs/COSTS.md); or why it
+/// has none: its first bad line, the first line without a type or past a limit, the first line without a layout, or the
+/// first line at which the load passes 100,000. `Memory` comes only for want of memory.
+pub fn cost(alloc: Global, part: &[u8], slowdown: u32) -> Result<Costed, CompileFault>
+    requires part { length part.now < 4294967295 }
+    requires some { 0 < slowdown }
+    requires limit { slowdown ≤ 4096 }
+    ensures costed { IfOk result (λ c. IsCosted part.now slowdown (program_tree c.program) (st_func_trees c.schedule)) }
+    ensures slowdown { IfOk result (λ c. c.slowdown ≡ slowdown) }
+    ensures known { IfOk result (λ c. IsKnown (program_tree c.program) c.slowdown (st_func_trees c.schedule) c.timing) }
+    ensures refused { IfErr result (λ f. IsCostFault part.now slowdown f) }
+{
+    let (program, schedule) = scheduled(alloc, part, slowdown)?;
+    match arrivals(alloc, &schedule) {
+        Ok(timing) => Ok(known(slowdown, program, schedule, timing)),
+        Err(DelayFault::Large { line, load: _ }) => Err(CompileFault::TooLarge { line }),
+        Err(DelayFault::Memory) => Err(CompileFault::Memory),
+    }
+}
+
+/// The program function, which is the last.
+pub fn main_func(p: &Typed) -> &Func
+    ensures formed { IsTrue (formed (program_tree p.now)) }
+    ensures last { slice_get (program_tree p.now).funcs (main_of (program_tree p.now)) ≡ Some (func_tree result.now) }
+{
+    let funcs = p.program().funcs.as_slice();
+    &funcs[funcs.len() - 1]
+}
+
+/// The instance of the program function, which is the last.
+pub fn main_instance(p: &StProgram) -> &StFunc
+    ensures { slice_get (st_func_trees p.now) (length (st_func_trees p.now) - 1) ≡ Some (st_func_tree result.now) }
+{
+    let last = p.count() - 1;
+    match p.instance(last) {
+        Some(instance) => instance,
+        None => unreachable!(),
+    }
+}

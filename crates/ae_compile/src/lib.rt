@@ -1,0 +1,21 @@
+//! The compiler, as a list of passes: what a program's circuit costs, the circuit with what is told of it, the text of its
+//! module, and the netlist that this text is read back as.
+#![tactic(auto)]
+
+mod circuits;
+mod costing;
+mod faults;
+mod layouts;
+mod notes;
+mod playing;
+mod read_back;
+mod texts;
+mod typing;
+
+pub use circuits::{Compiled, compile};
+pub use costing::{Costed, cost, main_func, main_instance};
+pub use faults::{CompileFault, OutOfMemory};
+pub use layouts::output_layouts;
+pub use playing::play;
+pub use texts::module_text;
+pub use typing::typed;

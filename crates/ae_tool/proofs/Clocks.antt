@@ -1,0 +1,23 @@
+-- A run within the limit has fewer than 2 to the 32 clocks.
+use Rattle.std.proofs.Common.{◌≡◌, ◌+◌, ◌*◌, ◌^◌, ◌<◌, ◌≤◌, ◌∙◌, ℕ, ap, sym, subst, arith}
+use Rattle.ae_rewrite.specs.StProgramTree.{st_func_trees}
+use Rattle.ae_verilog.specs.ReportLines.{ReportTree}
+use Rattle.ae_play.specs.Lines.{clock_count}
+use Rattle.ae_compile.specs.declared.circuits.Compiled.{Compiled}
+use Rattle.ae_compile.specs.declared.costing.Costed.{Costed}
+use Rattle.ae_compile.specs.Costing.{main_costs}
+use Rattle.ae_compile.specs.Passes.{IsCompiledProgram}
+
+-- as many clocks as are counted by the costs
+pub clocks_told : (d : Compiled) (k : Costed) (latency blocks clocks : ℕ) → d.costed ≡ k → IsCompiledProgram d → latency ≡ (main_costs (st_func_trees k.schedule)).latency → clocks ≡ clock_count k.slowdown latency blocks
+    → clock_count d.costed.slowdown d.report.latency blocks ≡ clocks
+clocks_told d k latency blocks clocks same is late count =
+    let told : d.report.latency ≡ latency = ap (λ (r : ReportTree). r.latency) is.compiled.reported ∙ ap (λ (x : Costed). (main_costs (st_func_trees x.schedule)).latency) same ∙ sym late in
+    (λ i. clock_count (same i).slowdown (told i) blocks) ∙ sym count
+
+pub clocks_few : (d : Compiled) (k : Costed) (latency blocks clocks words : ℕ) → d.costed ≡ k → IsCompiledProgram d → latency ≡ (main_costs (st_func_trees k.schedule)).latency → clocks ≡ clock_count k.slowdown latency blocks
+    → clocks * (1 + words) ≤ 4194304 → clock_count d.costed.slowdown d.report.latency blocks < 2 ^ 32
+clocks_few d k latency blocks clocks words same is late count few =
+    let e : clocks * (1 + words) ≡ clocks + clocks * words = omega arith in
+    let less : clocks < 2 ^ 32 = omega (arith, e, few) in
+    subst (λ (n : ℕ). n < 2 ^ 32) (sym (clocks_told d k latency blocks clocks same is late count)) less
