@@ -4,8 +4,8 @@ use Rattle.ae_vread.specs.ModuleTree.{ModuleTree}
 use Rattle.ae_vread.specs.Refusals.{GivesModule}
 use Rattle.ae_vread.specs.declared.reader.VFault.{VFault}
 use Rattle.ae_vread.specs.declared.reader.VFault.TheVariants as v
-use Rattle.ae_elab.specs.declared.fault.ElabFault.{ElabFault}
-use Rattle.ae_elab.specs.declared.fault.ElabFault.TheVariants as e
+use Rattle.ae_judge.specs.declared.fault.ElabFault.{ElabFault}
+use Rattle.ae_judge.specs.declared.fault.ElabFault.TheVariants as e
 use Rattle.ae_elab.specs.Faults.{IsFault, IsWellFormed}
 
 pub only_memory : (m : ModuleTree) (fault : ElabFault) → IsWellFormed m → IsFault m fault → fault ≡ e.Memory
