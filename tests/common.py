@@ -145,17 +145,17 @@ def differs_under_icarus(folder, shown, slowdown, rows):
 
 
 LINTERS = {
-    "iverilog": ["iverilog", "-Wall", "-t", "null", "aeth.v"],
-    "verilator": ["verilator", "--lint-only", "-Wall", "aeth.v"],
-    "yosys": ["yosys", "-q", "-p", "read_verilog aeth.v; hierarchy -check; proc; check -assert"],
+    "iverilog": ["iverilog", "-Wall", "-t", "null", "module.v"],
+    "verilator": ["verilator", "--lint-only", "-Wall", "module.v"],
+    "yosys": ["yosys", "-q", "-p", "read_verilog module.v; hierarchy -check; proc; check -assert"],
 }
 
 
 def lint(folder, module):
     """How many tools took the module without a warning, and what the others said."""
     folder.mkdir()
-    # The tools want the file named like its module.
-    (folder / "aeth.v").write_text(module)
+    # Under a name that is not the module's, of which Verilator would warn.
+    (folder / "module.v").write_text(module)
     passed, said = 0, []
     for tool, command in LINTERS.items():
         if shutil.which(tool):

@@ -1,5 +1,5 @@
 -- The circuit of a program under a slowdown, and what is told of it.
-use Rattle.std.specs.Prelude.{◌≡◌, ℕ, List, length, Some, slice_get}
+use Rattle.std.specs.Prelude.{◌≡◌, ℕ, false, List, length, Some, slice_get}
 use Rattle.ae_seq.specs.ProgramTree.{ProgramTree}
 use Rattle.ae_rewrite.specs.StProgramTree.{StFuncTree}
 use Rattle.ae_netlist.specs.Circuit.{Circuit}
@@ -16,6 +16,7 @@ report_of slowdown instances s = record {
   latency = (main_costs instances).latency;
   muls = (main_costs instances).muls;
   load = (main_costs instances).load;
+  enable = false;
   ins = s.ins;
   outs = results_of s;
 }

@@ -43,6 +43,7 @@ fn report(alloc: Global, costed: &Costed) -> Result<Report, AllocError>
         latency: costed.timing.latency(),
         muls: costed.timing.muls(),
         load: costed.timing.load(),
+        enable: false,
         ins: input_layouts(alloc, s)?,
         outs: output_layouts(alloc, s)?,
     })

@@ -11,6 +11,8 @@ pub struct NetId(pub u32);
 pub enum Port {
     /// The reset, of one bit.
     Reset,
+    /// The enable, of one bit: where it is 0, registers and memories keep their words.
+    Enable,
     /// A word of one lane of a parameter.
     In { param: u32, lane: u32, word: u32 },
     /// A word of one lane of a result.

@@ -13,7 +13,7 @@ use Rattle.ae_sttype.specs.TypeText.{st_text}
 use Rattle.ae_vread.specs.Tokens.{after_gap, Between, InLine}
 use Rattle.ae_verilog.specs.NetlistModule.{listed}
 use Rattle.ae_verilog.specs.Notes.{NoteTree, note_line, is_printed}
-use Rattle.ae_verilog.specs.ReportLines.{ReportTree, number_line, in_line, out_line, report_lines, is_clean}
+use Rattle.ae_verilog.specs.ReportLines.{ReportTree, number_line, enable_line, in_line, out_line, report_lines, is_clean}
 use Rattle.ae_verilog.proofs.Pieces.{clean_both, clean_from}
 use Rattle.ae_verilog.proofs.Lines.{IsTextOf, no_text, both_texts, skip}
 
@@ -107,6 +107,10 @@ spaced_line front a b hf ha hb =
 number_comment : (name : List ℕ) (n : ℕ) → IsInner name → IsTextOf (number_line name n) []
 number_comment name n h = spaced_line (codes " ") name (decimal n) blank h (decimal_inner n)
 
+enable_comment : (b : Bool) → IsTextOf (enable_line b) []
+enable_comment true = comment_line (codes " enable") (record { all = refl })
+enable_comment false = no_text
+
 in_comment : (k : ℕ) (t : StTree) → IsTextOf (in_line k t) []
 in_comment k t = spaced_line (codes " in ") (decimal k) (st_text t) (record { all = refl }) (decimal_inner k) (type_inner t)
 
@@ -155,4 +159,5 @@ report_comments r =
     (both_texts _ _ [] [] (number_comment (codes "latency") r.latency (record { all = refl }))
     (both_texts _ _ [] [] (number_comment (codes "muls") r.muls (record { all = refl }))
     (both_texts _ _ [] [] (number_comment (codes "load") r.load (record { all = refl }))
-    (both_texts _ _ [] [] (listed_comments in_line 0 r.ins in_comment) (listed_comments (out_line (length r.outs)) 0 r.outs (out_comment (length r.outs))))))))
+    (both_texts _ _ [] [] (enable_comment r.enable)
+    (both_texts _ _ [] [] (listed_comments in_line 0 r.ins in_comment) (listed_comments (out_line (length r.outs)) 0 r.outs (out_comment (length r.outs)))))))))

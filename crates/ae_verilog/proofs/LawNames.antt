@@ -8,7 +8,7 @@ use Rattle.std.proofs.lemmas.Fmt.{decimal_injective, decimal_is_IsNumeral}
 use Rattle.std.proofs.lemmas.Bool.{cases_Bool, cond-true, cond-false, eqb-true}
 use Rattle.std.proofs.lemmas.Option.{slice_get_within, get_or_from_slice_get}
 use Rattle.ae_netlist.specs.declared.cell.Port.{Port}
-use Rattle.ae_netlist.specs.declared.cell.Port.TheVariants.{Reset, In, Out, Plain}
+use Rattle.ae_netlist.specs.declared.cell.Port.TheVariants.{Reset, Enable, In, Out, Plain}
 use Rattle.ae_netlist.specs.declared.cell.Cell.{Cell}
 use Rattle.ae_netlist.specs.declared.cell.Cell.TheVariants.{Input, Const, Op, Reg, Mem, Peek}
 use Rattle.ae_netlist.specs.declared.cell.SizedCell.{SizedCell}
@@ -20,6 +20,7 @@ use Rattle.ae_verilog.specs.Written.{IsWritableNetlist}
 -- the numbers of a port have at most 64 bits
 abbrev HasNumbers : Port → Type 0
 HasNumbers Reset = Unit {0}
+HasNumbers Enable = Unit {0}
 HasNumbers (In param lane word) = (param < 2 ^ 64) × (lane < 2 ^ 64) × (word < 2 ^ 64)
 HasNumbers (Out result lane word) = (result < 2 ^ 64) × (lane < 2 ^ 64) × (word < 2 ^ 64)
 HasNumbers (Plain k) = k < 2 ^ 64
@@ -29,6 +30,7 @@ wider k h = omega arith
 
 port_numbers : (p : Port) → PortFits p → HasNumbers p
 port_numbers Reset h = tt
+port_numbers Enable h = tt
 port_numbers (In param lane word) h = (wider param h.0, wider lane h.1, wider word h.2)
 port_numbers (Out result lane word) h = (wider result h.0, wider lane h.1, wider word h.2)
 port_numbers (Plain k) h = wider k h
@@ -81,9 +83,16 @@ tail_same b xs ys e = cc
 input_name_same : (p q : Port) → IsInputPort p → IsInputPort q → HasNumbers p → HasNumbers q → port_name 1 p ≡ port_name 1 q → p ≡ q
 unfolding first_byte
 input_name_same Reset Reset hp hq np nq e = refl
+input_name_same Reset Enable hp hq np nq e = absurd (let h : ◌≡◌ {A = ℕ} 114 101 = ap first_byte e in omega (arith, h))
 input_name_same Reset (In q m v) hp hq np nq e = absurd (let h : ◌≡◌ {A = ℕ} 114 105 = ap first_byte e in omega (arith, h))
 input_name_same Reset (Out q m v) hp hq np nq e = absurd hq
 input_name_same Reset (Plain k) hp hq np nq e = absurd hq
+input_name_same Enable Reset hp hq np nq e = absurd (let h : ◌≡◌ {A = ℕ} 101 114 = ap first_byte e in omega (arith, h))
+input_name_same Enable Enable hp hq np nq e = refl
+input_name_same Enable (In q m v) hp hq np nq e = absurd (let h : ◌≡◌ {A = ℕ} 101 105 = ap first_byte e in omega (arith, h))
+input_name_same Enable (Out q m v) hp hq np nq e = absurd hq
+input_name_same Enable (Plain k) hp hq np nq e = absurd hq
+input_name_same (In p l w) Enable hp hq np nq e = absurd (let h : ◌≡◌ {A = ℕ} 105 101 = ap first_byte e in omega (arith, h))
 input_name_same (In p l w) Reset hp hq np nq e = absurd (let h : ◌≡◌ {A = ℕ} 105 114 = ap first_byte e in omega (arith, h))
 input_name_same (In p l w) (In q m v) hp hq np nq e =
     let r = three_same p l w q m v np.0 np.1 np.2 nq.0 nq.1 nq.2 (tail_same 105 _ _ e) in
@@ -113,9 +122,11 @@ output_name_same outs (Out p l w) (Out q m v) hp hq np nq e = elim (cases_Bool (
       (λ i. Out (r.0 i) (r.1.0 i) (r.1.1 i))
 ]
 output_name_same outs (Out p l w) Reset hp hq np nq e = absurd hq
+output_name_same outs (Out p l w) Enable hp hq np nq e = absurd hq
 output_name_same outs (Out p l w) (In q m v) hp hq np nq e = absurd hq
 output_name_same outs (Out p l w) (Plain k) hp hq np nq e = absurd hq
 output_name_same outs Reset q hp hq np nq e = absurd hp
+output_name_same outs Enable q hp hq np nq e = absurd hp
 output_name_same outs (In p l w) q hp hq np nq e = absurd hp
 output_name_same outs (Plain k) q hp hq np nq e = absurd hp
 
@@ -126,15 +137,39 @@ output_first outs (Out p l w) h = elim (cases_Bool (outs == 1)) [
   | inr more ↦ ap first_byte (output_name_more outs p l w more)
 ]
 output_first outs Reset h = absurd h
+output_first outs Enable h = absurd h
 output_first outs (In p l w) h = absurd h
 output_first outs (Plain k) h = absurd h
 
-input_first : (p : Port) → IsInputPort p → (first_byte (port_name 1 p) ≡ 114) ⊎ (first_byte (port_name 1 p) ≡ 105)
+-- what the name of an input begins with
+data IsFirst (b : ℕ) : Type 0 where
+  of_reset : b ≡ 114 → IsFirst b
+  of_enable : b ≡ 101 → IsFirst b
+  of_word : b ≡ 105 → IsFirst b
+
+input_first : (p : Port) → IsInputPort p → IsFirst (first_byte (port_name 1 p))
 unfolding first_byte
-input_first Reset h = inl refl
-input_first (In p l w) h = inr refl
+input_first Reset h = of_reset refl
+input_first Enable h = of_enable refl
+input_first (In p l w) h = of_word refl
 input_first (Out p l w) h = absurd h
 input_first (Plain k) h = absurd h
+
+-- numbers, the clock and outputs begin with other bytes
+number_not_first : IsFirst 110 → ⊥
+number_not_first (of_reset e) = omega arith
+number_not_first (of_enable e) = omega arith
+number_not_first (of_word e) = omega arith
+
+clock_not_first : IsFirst 99 → ⊥
+clock_not_first (of_reset e) = omega arith
+clock_not_first (of_enable e) = omega arith
+clock_not_first (of_word e) = omega arith
+
+output_not_first : IsFirst 111 → ⊥
+output_not_first (of_reset e) = omega arith
+output_not_first (of_enable e) = omega arith
+output_not_first (of_word e) = omega arith
 
 number_first : (k : ℕ) → first_byte (number_name k) ≡ 110
 unfolding first_byte
@@ -148,13 +183,13 @@ unfolding first_byte
 clock_first = refl
 
 -- a cell's name is that of an input, or its number
-cell_first : (k : ℕ) (c : Cell) → ((port : Port) → c ≡ Input port → IsInputPort port) → (first_byte (cell_name k c) ≡ 114) ⊎ ((first_byte (cell_name k c) ≡ 105) ⊎ (first_byte (cell_name k c) ≡ 110))
-cell_first k (Input port) h = elim (input_first port (h port refl)) [ inl e ↦ inl e | inr e ↦ inr (inl e) ]
-cell_first k (Const v) h = inr (inr (number_first k))
-cell_first k (Op op args) h = inr (inr (number_first k))
-cell_first k (Reg next) h = inr (inr (number_first k))
-cell_first k (Mem depth at next enable) h = inr (inr (number_first k))
-cell_first k (Peek mem at) h = inr (inr (number_first k))
+cell_first : (k : ℕ) (c : Cell) → ((port : Port) → c ≡ Input port → IsInputPort port) → IsFirst (first_byte (cell_name k c)) ⊎ (first_byte (cell_name k c) ≡ 110)
+cell_first k (Input port) h = inl (input_first port (h port refl))
+cell_first k (Const v) h = inr (number_first k)
+cell_first k (Op op args) h = inr (number_first k)
+cell_first k (Reg next) h = inr (number_first k)
+cell_first k (Mem depth at next enable) h = inr (number_first k)
+cell_first k (Peek mem at) h = inr (number_first k)
 
 -- the cell is an input, or it has the name of its number
 pub data IsNamed (k : ℕ) (c : Cell) : Type 0 where
@@ -182,29 +217,25 @@ module _ (cells : List SizedCell) (outlets : List Outlet) (outs : ℕ) (ok : IsW
   is_port : (k : ℕ) (sized : SizedCell) → slice_get cells k ≡ Some sized → (port : Port) → sized.cell ≡ Input port → IsInputPort port
   is_port k sized h port e = ok.ports.inputs k sized.width port (input_at k sized port h e)
 
-  first_of_cell : (k : ℕ) (sized : SizedCell) → slice_get cells k ≡ Some sized → (first_byte (cell_name k sized.cell) ≡ 114) ⊎ ((first_byte (cell_name k sized.cell) ≡ 105) ⊎ (first_byte (cell_name k sized.cell) ≡ 110))
+  first_of_cell : (k : ℕ) (sized : SizedCell) → slice_get cells k ≡ Some sized → IsFirst (first_byte (cell_name k sized.cell)) ⊎ (first_byte (cell_name k sized.cell) ≡ 110)
   first_of_cell k sized h = cell_first k sized.cell (is_port k sized h)
 
-  other_first : (k : ℕ) (sized : SizedCell) (n : List ℕ) (b : ℕ) → slice_get cells k ≡ Some sized → first_byte n ≡ b → (b ≡ 114 → ⊥) → (b ≡ 105 → ⊥) → (b ≡ 110 → ⊥) → cell_name k sized.cell ≡ n → ⊥
-  other_first k sized n b h f x y z e = elim (first_of_cell k sized h) [
-    | inl p ↦ x (sym f ∙ sym (ap first_byte e) ∙ p)
-    | inr r ↦ elim r [ inl p ↦ y (sym f ∙ sym (ap first_byte e) ∙ p) | inr p ↦ z (sym f ∙ sym (ap first_byte e) ∙ p) ]
-  ]
+  other_first : (k : ℕ) (sized : SizedCell) (n : List ℕ) (b : ℕ) → slice_get cells k ≡ Some sized → first_byte n ≡ b → (IsFirst b → ⊥) → (b ≡ 110 → ⊥) → cell_name k sized.cell ≡ n → ⊥
+  other_first k sized n b h f x y e =
+      let same : first_byte (cell_name k sized.cell) ≡ b = ap first_byte e ∙ f in
+      elim (first_of_cell k sized h) [ inl p ↦ x (subst IsFirst same p) | inr p ↦ y (sym same ∙ p) ]
 
   port_not_number : (k : ℕ) (sized : SizedCell) (port : Port) → slice_get cells k ≡ Some sized → sized.cell ≡ Input port → (n : List ℕ) → first_byte n ≡ 110 → cell_name k sized.cell ≡ n → ⊥
   port_not_number k sized port h x n f e =
       let name : first_byte (port_name 1 port) ≡ 110 = ap first_byte (ap (cell_name k) (sym x) ∙ e) ∙ f in
-      elim (input_first port (is_port k sized h port x)) [
-        | inl p ↦ let z : ◌≡◌ {A = ℕ} 114 110 = sym p ∙ name in omega (arith, z)
-        | inr p ↦ let z : ◌≡◌ {A = ℕ} 105 110 = sym p ∙ name in omega (arith, z)
-      ]
+      number_not_first (subst IsFirst name (input_first port (is_port k sized h port x)))
 
   -- a cell's name is not the clock's, and no output's
   pub cell_not_clock : (k : ℕ) (sized : SizedCell) → slice_get cells k ≡ Some sized → cell_name k sized.cell ≡ clock_name → ⊥
-  cell_not_clock k sized h e = other_first k sized clock_name 99 h clock_first (λ z. omega arith) (λ z. omega arith) (λ z. omega arith) e
+  cell_not_clock k sized h e = other_first k sized clock_name 99 h clock_first clock_not_first (λ z. omega arith) e
 
   pub cell_not_output : (k : ℕ) (sized : SizedCell) (j : ℕ) (o : Outlet) → slice_get cells k ≡ Some sized → slice_get outlets j ≡ Some o → cell_name k sized.cell ≡ port_name outs o.port → ⊥
-  cell_not_output k sized j o h g e = other_first k sized (port_name outs o.port) 111 h (output_first outs o.port (ok.ports.outputs j o g)) (λ z. omega arith) (λ z. omega arith) (λ z. omega arith) e
+  cell_not_output k sized j o h g e = other_first k sized (port_name outs o.port) 111 h (output_first outs o.port (ok.ports.outputs j o g)) output_not_first (λ z. omega arith) e
 
   pub clock_not_output : (j : ℕ) (o : Outlet) → slice_get outlets j ≡ Some o → clock_name ≡ port_name outs o.port → ⊥
   clock_not_output j o g e = let h : ◌≡◌ {A = ℕ} 99 111 = sym clock_first ∙ ap first_byte e ∙ output_first outs o.port (ok.ports.outputs j o g) in omega (arith, h)

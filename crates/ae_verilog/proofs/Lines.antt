@@ -84,6 +84,10 @@ pub rst_named : IsNameText (codes "rst")
 unfolding token_of keys unused_0 unused_1 unused_2 unused_3 unused_4 unused_5 unused_6 unused_7 unused_8 unused_9
 rst_named = record { first = 114; more = codes "st"; whole = refl; letter = refl; token = refl; clean = record { all = refl } }
 
+pub en_named : IsNameText (codes "en")
+unfolding token_of keys unused_0 unused_1 unused_2 unused_3 unused_4 unused_5 unused_6 unused_7 unused_8 unused_9
+en_named = record { first = 101; more = codes "n"; whole = refl; letter = refl; token = refl; clean = record { all = refl } }
+
 pub open_token : token_of (codes "(") ≡ Some (Mark Open)
 unfolding token_of signs
 open_token = refl
@@ -169,7 +173,7 @@ widen_on = record { tokens = λ rest us h. skip _ rest us refl h; clean = record
 widen_off : IsTextOf (codes "  // verilator lint_on WIDTH\n") []
 widen_off = record { tokens = λ rest us h. skip _ rest us refl h; clean = record { all = refl } }
 
-pub quiet_line : IsTextOf (codes "// verilator lint_off CMPCONST\n// verilator lint_off UNSIGNED\n// verilator lint_off UNUSEDSIGNAL\n") []
+pub quiet_line : IsTextOf (codes "// verilator lint_off CMPCONST\n// verilator lint_off DECLFILENAME\n// verilator lint_off UNSIGNED\n// verilator lint_off UNUSEDSIGNAL\n") []
 quiet_line = record { tokens = λ rest us h. skip _ rest us refl h; clean = record { all = refl } }
 
 pub widened_line : (width net : ℕ) (value : ExprTree) → width ≤ 64 → net < 2 ^ 64 → IsWritable value → IsTextOf (widened_text width net value) (item_tokens (value_item width net value))

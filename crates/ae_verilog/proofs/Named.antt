@@ -12,7 +12,7 @@ use Rattle.ae_word.specs.declared.op.WordOp.TheVariants.{Add, Sub, Mul, And, Or,
 use Rattle.ae_word.specs.WordTable.{HasRange}
 use Rattle.ae_netlist.specs.declared.cell.NetId.{NetId}
 use Rattle.ae_netlist.specs.declared.cell.Port.{Port}
-use Rattle.ae_netlist.specs.declared.cell.Port.TheVariants.{Reset, In, Out, Plain}
+use Rattle.ae_netlist.specs.declared.cell.Port.TheVariants.{Reset, Enable, In, Out, Plain}
 use Rattle.ae_netlist.specs.declared.cell.Cell.{Cell}
 use Rattle.ae_netlist.specs.declared.cell.Cell.TheVariants.{Input, Const, Op, Reg, Mem, Peek}
 use Rattle.ae_netlist.specs.declared.cell.SizedCell.{SizedCell}
@@ -25,7 +25,7 @@ use Rattle.ae_verilog.specs.NetlistModule.{port_name, cell_name, name_in, net_na
 use Rattle.ae_verilog.specs.Text.{PortFits, CellPortFits}
 use Rattle.ae_verilog.proofs.Pieces.{IsNameText, marked_name, named_both, decimal_named, decimal_starts, number_named, is_name_byte}
 use Rattle.ae_verilog.proofs.Writable.{IsConstant, IsWritable}
-use Rattle.ae_verilog.proofs.Lines.{net_named, rst_named, driven}
+use Rattle.ae_verilog.proofs.Lines.{net_named, rst_named, en_named, driven}
 
 -- numbers joined by _
 two_numbers : (a b : ℕ) → a < 2 ^ 64 → b < 2 ^ 64 → list_all is_name_byte (decimal a ++ (codes "_" ++ decimal b)) ≡ true
@@ -46,6 +46,7 @@ result_named outs result lane word hr hl hw = elim (outs == 1) as (λ t. IsNameT
 
 pub port_named : (outs : ℕ) (port : Port) → PortFits port → IsNameText (port_name outs port)
 port_named outs Reset h = rst_named
+port_named outs Enable h = en_named
 port_named outs (In param lane word) h =
     marked_name 105 _ refl (decimal_starts param (codes "_" ++ (decimal lane ++ (codes "_" ++ decimal word))) (omega (arith, h.0)))
     (three_numbers param lane word (omega (arith, h.0)) (omega (arith, h.1)) (omega (arith, h.2)))

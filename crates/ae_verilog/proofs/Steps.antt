@@ -20,7 +20,7 @@ use Rattle.std.proofs.lemmas.List.{length-map}
 use Rattle.ae_sttype.specs.StTree.{st_tree}
 use Rattle.ae_verilog.specs.NetlistModule.{listed}
 use Rattle.ae_verilog.specs.declared.report.Report.{Report}
-use Rattle.ae_verilog.specs.ReportLines.{report_tree, number_line, in_line, out_line, report_lines}
+use Rattle.ae_verilog.specs.ReportLines.{report_tree, number_line, enable_line, in_line, out_line, report_lines}
 
 pub register_steps : {E : Type 0} (r : Result (Unit {0}) E) (old one two new next : List ℕ) (net : ℕ) →
     one ≡ old ++ (codes "  always @(posedge clk) n" ++ (decimal net ++ codes " <= ")) → two ≡ one ++ next →
@@ -103,29 +103,29 @@ header_steps (Ok u) cells outlets outs old one two three new first second third 
     shape a b = simp append_assoc
 header_steps (Err x) cells outlets outs old one two three new first second third last = tt
 
-pub report_steps : {E : Type 0} (r : Result (Unit {0}) E) (t : Report) (old a b c d e f new : List ℕ) →
+pub report_steps : {E : Type 0} (r : Result (Unit {0}) E) (t : Report) (old a b c d e f g new : List ℕ) →
     a ≡ old ++ codes "// aeth 1\n" → b ≡ a ++ number_line (codes "slowdown") t.slowdown → c ≡ b ++ number_line (codes "latency") t.latency →
-    d ≡ c ++ number_line (codes "muls") t.muls → e ≡ d ++ number_line (codes "load") t.load → f ≡ e ++ listed in_line 0 (map st_tree t.ins.items) →
-    OnOk r (new ≡ f ++ listed (out_line (length t.outs.items)) 0 (map st_tree t.outs.items)) → OnOk r (new ≡ old ++ report_lines (report_tree t))
+    d ≡ c ++ number_line (codes "muls") t.muls → e ≡ d ++ number_line (codes "load") t.load → f ≡ e ++ enable_line t.enable → g ≡ f ++ listed in_line 0 (map st_tree t.ins.items) →
+    OnOk r (new ≡ g ++ listed (out_line (length t.outs.items)) 0 (map st_tree t.outs.items)) → OnOk r (new ≡ old ++ report_lines (report_tree t))
 unfolding report_lines
-report_steps (Ok u) t old a b c d e f new ha hb hc hd he hf last =
+report_steps (Ok u) t old a b c d e f g new ha hb hc hd he hf hg last =
     let outs = listed (out_line (length t.outs.items)) 0 (map st_tree t.outs.items) in
-    last ∙ ap (λ l. l ++ outs) (hf ∙ ap (λ l. l ++ listed in_line 0 (map st_tree t.ins.items)) (he ∙ ap (λ l. l ++ number_line (codes "load") t.load)
-    (hd ∙ ap (λ l. l ++ number_line (codes "muls") t.muls) (hc ∙ ap (λ l. l ++ number_line (codes "latency") t.latency) (hb ∙ ap (λ l. l ++ number_line (codes "slowdown") t.slowdown) ha)))))
-    ∙ shape _ _ _ _ _ _
+    last ∙ ap (λ l. l ++ outs) (hg ∙ ap (λ l. l ++ listed in_line 0 (map st_tree t.ins.items)) (hf ∙ ap (λ l. l ++ enable_line t.enable) (he ∙ ap (λ l. l ++ number_line (codes "load") t.load)
+    (hd ∙ ap (λ l. l ++ number_line (codes "muls") t.muls) (hc ∙ ap (λ l. l ++ number_line (codes "latency") t.latency) (hb ∙ ap (λ l. l ++ number_line (codes "slowdown") t.slowdown) ha))))))
+    ∙ shape _ _ _ _ _ _ _
     ∙ ap (λ n. old ++ (codes "// aeth 1\n" ++ (number_line (codes "slowdown") t.slowdown ++ (number_line (codes "latency") t.latency ++ (number_line (codes "muls") t.muls ++ (number_line (codes "load") t.load
-    ++ (listed in_line 0 (map st_tree t.ins.items) ++ listed (out_line n) 0 (map st_tree t.outs.items)))))))) (sym (length-map t.outs.items st_tree))
+    ++ (enable_line t.enable ++ (listed in_line 0 (map st_tree t.ins.items) ++ listed (out_line n) 0 (map st_tree t.outs.items))))))))) (sym (length-map t.outs.items st_tree))
   where
-    shape : (s l m k ins outs : List ℕ) → ((((((old ++ codes "// aeth 1\n") ++ s) ++ l) ++ m) ++ k) ++ ins) ++ outs ≡ old ++ (codes "// aeth 1\n" ++ (s ++ (l ++ (m ++ (k ++ (ins ++ outs))))))
-    shape s l m k ins outs = simp append_assoc
-report_steps (Err x) t old a b c d e f new ha hb hc hd he hf last = tt
+    shape : (s l m k en ins outs : List ℕ) → (((((((old ++ codes "// aeth 1\n") ++ s) ++ l) ++ m) ++ k) ++ en) ++ ins) ++ outs ≡ old ++ (codes "// aeth 1\n" ++ (s ++ (l ++ (m ++ (k ++ (en ++ (ins ++ outs)))))))
+    shape s l m k en ins outs = simp append_assoc
+report_steps (Err x) t old a b c d e f g new ha hb hc hd he hf hg last = tt
 
 pub text_steps : (report : List ℕ) (notes : List NoteTree) (cells : List SizedCell) (outlets : List Outlet) (outs : ℕ) (a b c d e f g new : List ℕ) →
-    a ≡ [] → b ≡ a ++ report → c ≡ b ++ codes "// verilator lint_off CMPCONST\n// verilator lint_off UNSIGNED\n// verilator lint_off UNUSEDSIGNAL\n" → d ≡ c ++ header_text cells outlets outs →
+    a ≡ [] → b ≡ a ++ report → c ≡ b ++ codes "// verilator lint_off CMPCONST\n// verilator lint_off DECLFILENAME\n// verilator lint_off UNSIGNED\n// verilator lint_off UNUSEDSIGNAL\n" → d ≡ c ++ header_text cells outlets outs →
     e ≡ d ++ noted (λ net (sized : SizedCell). declaration_text cells net sized.width sized.cell) cells 0 notes → f ≡ e ++ flat_map (assignment_text cells outs) outlets →
     g ≡ f ++ listed (λ net (sized : SizedCell). edge_text cells net sized.cell) 0 cells → new ≡ g ++ codes "endmodule\n" → new ≡ whole_text report notes cells outlets outs
 text_steps report notes cells outlets outs a b c d e f g new ha hb hc hd he hf hg last =
-    let quiet : List ℕ = codes "// verilator lint_off CMPCONST\n// verilator lint_off UNSIGNED\n// verilator lint_off UNUSEDSIGNAL\n" in
+    let quiet : List ℕ = codes "// verilator lint_off CMPCONST\n// verilator lint_off DECLFILENAME\n// verilator lint_off UNSIGNED\n// verilator lint_off UNUSEDSIGNAL\n" in
     let head : List ℕ = header_text cells outlets outs in
     let declared : List ℕ = noted (λ net (sized : SizedCell). declaration_text cells net sized.width sized.cell) cells 0 notes in
     let assigned : List ℕ = flat_map (assignment_text cells outs) outlets in

@@ -4,7 +4,7 @@ use Rattle.std.specs.Prelude.{◌≡◌, ℕ, ◌+◌, ◌-◌, ◌<◌, ◌==�
 use Rattle.ae_word.specs.declared.op.WordOp.{WordOp}
 use Rattle.ae_word.specs.declared.op.WordOp.TheVariants.{Add, Sub, Mul, And, Or, Xor, Not, Min, Max, Eq, Lt, Mux, Shl, Shr, Cast, SLt, SMin, SMax, Sar, SCast}
 use Rattle.ae_netlist.specs.declared.cell.Port.{Port}
-use Rattle.ae_netlist.specs.declared.cell.Port.TheVariants.{Reset, In, Out, Plain}
+use Rattle.ae_netlist.specs.declared.cell.Port.TheVariants.{Reset, Enable, In, Out, Plain}
 use Rattle.ae_netlist.specs.declared.cell.Cell.{Cell}
 use Rattle.ae_netlist.specs.declared.cell.Cell.TheVariants.{Input, Const, Op, Reg, Mem, Peek}
 use Rattle.ae_netlist.specs.declared.cell.SizedCell.{SizedCell}
@@ -25,6 +25,7 @@ clock_name = codes "clk"
 -- the name of a port; one of an output names its result where there are several
 abbrev pub port_name : (outs : ℕ) → Port → List ℕ
 port_name outs Reset = codes "rst"
+port_name outs Enable = codes "en"
 port_name outs (In param lane word) = codes "i" ++ (decimal param ++ (codes "_" ++ (decimal lane ++ (codes "_" ++ decimal word))))
 port_name outs (Out result lane word) =
     if outs == 1 then codes "o_" ++ (decimal lane ++ (codes "_" ++ decimal word))
@@ -171,6 +172,7 @@ netlist_module cells outlets outs = record {
 
 abbrev pub IsInputPort : Port → Type 0
 IsInputPort Reset = Unit {0}
+IsInputPort Enable = Unit {0}
 IsInputPort (In param lane word) = Unit {0}
 IsInputPort _ = ⊥
 

@@ -4,7 +4,7 @@ use Rattle.std.specs.List.{flat_map}
 use Rattle.ae_word.specs.declared.op.WordOp.{WordOp}
 use Rattle.ae_word.specs.declared.op.WordOp.TheVariants.{Cast}
 use Rattle.ae_netlist.specs.declared.cell.Port.{Port}
-use Rattle.ae_netlist.specs.declared.cell.Port.TheVariants.{Reset, In, Out, Plain}
+use Rattle.ae_netlist.specs.declared.cell.Port.TheVariants.{Reset, Enable, In, Out, Plain}
 use Rattle.ae_netlist.specs.declared.cell.Cell.{Cell}
 use Rattle.ae_netlist.specs.declared.cell.Cell.TheVariants.{Input, Const, Op, Reg, Mem, Peek}
 use Rattle.ae_netlist.specs.declared.cell.SizedCell.{SizedCell}
@@ -158,14 +158,15 @@ module_text notes cells outlets outs =
     ++ (flat_map (assignment_text cells outs) outlets
     ++ (listed (λ net (sized : SizedCell). edge_text cells net sized.cell) 0 cells ++ codes "endmodule\n")))
 
--- the whole text: the report lines, a line that keeps Verilator from naming bits that nothing reads, and the module
+-- the whole text: the report lines, lines that keep Verilator from naming the file, constant comparisons and bits that nothing reads, and the module
 abbrev pub whole_text : (report : List ℕ) → List NoteTree → List SizedCell → List Outlet → (outs : ℕ) → List ℕ
 whole_text report notes cells outlets outs =
-    report ++ (codes "// verilator lint_off CMPCONST\n// verilator lint_off UNSIGNED\n// verilator lint_off UNUSEDSIGNAL\n" ++ module_text notes cells outlets outs)
+    report ++ (codes "// verilator lint_off CMPCONST\n// verilator lint_off DECLFILENAME\n// verilator lint_off UNSIGNED\n// verilator lint_off UNUSEDSIGNAL\n" ++ module_text notes cells outlets outs)
 
 -- numbers of ports that the type of ports has room for
 abbrev pub PortFits : Port → Type 0
 PortFits Reset = Unit {0}
+PortFits Enable = Unit {0}
 PortFits (In param lane word) = (param < 2 ^ 32) × (lane < 2 ^ 32) × (word < 2 ^ 32)
 PortFits (Out result lane word) = (result < 2 ^ 32) × (lane < 2 ^ 32) × (word < 2 ^ 32)
 PortFits (Plain k) = k < 2 ^ 32

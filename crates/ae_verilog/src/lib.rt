@@ -65,7 +65,7 @@ fn write_text(
     report::write_report(&mut out, report)?;
     write!(
         out,
-        "// verilator lint_off CMPCONST\n// verilator lint_off UNSIGNED\n// verilator lint_off UNUSEDSIGNAL\n"
+        "// verilator lint_off CMPCONST\n// verilator lint_off DECLFILENAME\n// verilator lint_off UNSIGNED\n// verilator lint_off UNUSEDSIGNAL\n"
     )?;
     header::write_header(&mut out, cells, outlets, outs)?;
     cells::write_cells(&mut out, cells, notes)?;

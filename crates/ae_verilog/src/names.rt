@@ -14,6 +14,7 @@ pub fn write_port(out: &mut String, port: Port, outs: usize) -> Result<(), Alloc
 {
     match port {
         Port::Reset => write!(out, "rst"),
+        Port::Enable => write!(out, "en"),
         Port::In { param, lane, word } => write!(out, "i{param}_{lane}_{word}"),
         Port::Out { result, lane, word } => {
             if outs == 1 {

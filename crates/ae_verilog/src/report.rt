@@ -3,7 +3,7 @@
 ghost use Rattle.std.specs.Prelude.{◌≡◌, ◌++◌, length, map, OnOk, string_bytes};
 ghost use Rattle.ae_sttype.specs.StTree.{st_tree};
 ghost use Rattle.ae_verilog.specs.NetlistModule.{listed};
-ghost use Rattle.ae_verilog.specs.ReportLines.{report_tree, number_line, in_line, out_line, report_lines};
+ghost use Rattle.ae_verilog.specs.ReportLines.{report_tree, number_line, enable_line, in_line, out_line, report_lines};
 
 use ae_sttype::StType;
 use std::alloc::AllocError;
@@ -19,6 +19,8 @@ pub struct Report {
     pub muls: u32,
     /// The words of operators, registers and switches (docs/COSTS.md).
     pub load: u32,
+    /// Whether the module has an enable.
+    pub enable: bool,
     /// The layout of each parameter.
     pub ins: Vec<StType>,
     /// The layout of each result. Outputs name their result where there are several.
@@ -34,6 +36,7 @@ pub fn write_report(out: &mut String, report: &Report) -> Result<(), AllocError>
     write_number(out, "latency", report.latency)?;
     write_number(out, "muls", report.muls)?;
     write_number(out, "load", report.load)?;
+    write_enable(out, report.enable)?;
     write_ins(out, report.ins.as_slice())?;
     write_outs(out, report.outs.as_slice())
 }
@@ -42,6 +45,15 @@ fn write_number(out: &mut String, name: &str, number: u32) -> Result<(), AllocEr
     ensures { OnOk result (string_bytes out.new ≡ string_bytes out.old ++ number_line name.now number) }
 {
     write!(out, "// {name} {number}\n")
+}
+
+fn write_enable(out: &mut String, enable: bool) -> Result<(), AllocError>
+    ensures { OnOk result (string_bytes out.new ≡ string_bytes out.old ++ enable_line enable) }
+{
+    if enable {
+        write!(out, "// enable\n")?;
+    }
+    Ok(())
 }
 
 // The layouts of the parameters.

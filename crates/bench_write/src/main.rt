@@ -32,6 +32,7 @@ fn length(alloc: Global, count: u32) -> Result<usize, AllocError> {
         latency: 0,
         muls: 0,
         load: count,
+        enable: false,
         ins: Vec::new(alloc),
         outs: Vec::new(alloc),
     };

@@ -63,6 +63,7 @@ fn nothing(alloc: Global) -> Report {
         latency: 0,
         muls: 0,
         load: 0,
+        enable: false,
         ins: Vec::new(alloc),
         outs: Vec::new(alloc),
     }
