@@ -40,8 +40,8 @@ def commands(block):
 def printed(command, folder):
     """What a command prints."""
     words = "".join(line[2:] for line in command.splitlines(keepends=True))
-    done = subprocess.run(["bash", "-c", words], cwd=folder, stdin=subprocess.DEVNULL, stdout=subprocess.PIPE, stderr=subprocess.STDOUT)
-    text = done.stdout.decode()
+    both = {"stdout": subprocess.PIPE, "stderr": subprocess.STDOUT}
+    text = subprocess.run(["bash", "-c", words], cwd=folder, stdin=subprocess.DEVNULL, **both).stdout.decode()
     return text + "\n" * (text != "" and not text.endswith("\n"))
 
 
