@@ -18,7 +18,7 @@ use Rattle.ae_elab.specs.Names.{is_input_kind, is_output_kind, is_clock}
 use Rattle.ae_elab.specs.SameRuns as same
 use Rattle.ae_verilog.specs.NetlistModule.{IsInputPort, port_name, net_of, number_name, clock_net, input_nets, output_net, declared_nets, declared_from, netlist_module}
 use Rattle.ae_verilog.specs.NetlistModule as netlist
-use Rattle.ae_lower.specs.Ports.{SizedPort, input_cell, outlet_port}
+use Rattle.ae_ports.specs.Ports.{SizedPort, input_cell, outlet_port}
 use Rattle.ae_correct.specs.Correct.{is_port}
 use Rattle.ae_correct.proofs.ModuleClock.{clocked, is_clk}
 
