@@ -1,0 +1,260 @@
+-- The labels of a node, by those of its arguments.
+use Rattle.std.proofs.Common.{◌≡◌, ℕ, zero, suc, ◌+◌, ◌-◌, ◌*◌, ◌/◌, ◌%◌, ◌<◌, ◌≤◌, Bool, true, false, cond, nat_lt, List, [], ◌∷◌, ◌++◌, length, take, drop, map, Some, Vec, Global, slice_get, slice_index, refl, arith, sym, ap, ◌∙◌, subst, append_assoc, length-append, length-drop, if◌then◌else◌}
+use Rattle.std.specs.Prelude.{flat_map}
+use Rattle.std.specs.List.{range_with_len}
+use Rattle.std.proofs.Math.Nat.{mul-le-mul_right}
+use Rattle.std.proofs.lemmas.Nat.{mul-add-lt, div_below, mod_below}
+use Rattle.std.proofs.lemmas.Grind.{flat_map-append}
+use Rattle.std.proofs.lemmas.List.{append-nil, map_push, length-map, length-take-le}
+use Rattle.std.proofs.lemmas.List.Concat.{flat_map-cons}
+use Rattle.std.proofs.lemmas.List.FromFn.{length-map-range_with_len}
+use Rattle.std.proofs.lemmas.Option.{get_or_from_slice_get, none-some, same_Some}
+use Rattle.ae_word.specs.AtomTree.{atom_kinds, atom_words}
+use Rattle.ae_word.proofs.Sizes.{length-atom_kinds}
+use Rattle.ae_sttype.specs.StTree.{StTree, st_atoms, element_atom, element_words}
+use Rattle.ae_sttype.specs.Size.{IsInSize}
+use Rattle.ae_sttype.specs.Moves.{OriginTree, from_input, fixed}
+use Rattle.ae_sttype.proofs.Bounds.{atoms_pos, element_words_pos}
+use Rattle.ae_sttype.proofs.Places.{length-slots}
+use Rattle.ae_moves.specs.declared.trip.Origin.{Origin}
+use Rattle.ae_moves.specs.Trees.{origin_tree}
+use Rattle.ae_moves.proofs.Lists.{get_mapped, take_push}
+use Rattle.ae_eval.specs.Stack.{paired}
+use Rattle.ae_eval.proofs.Windows.{paired-more}
+use Rattle.ae_rewrite.specs.declared.st_program.MoveOp.{MoveOp}
+use Rattle.ae_rewrite.specs.declared.st_program.MoveOp.TheVariants.{Shift, Up, Select, Same}
+use Rattle.ae_rewrite.specs.Sound.{IsMoveFrom, item_layout, item_layouts}
+use Rattle.ae_rewrite.specs.StProgramTree.{StOpTree, StNodeTree, StFuncTree, join, first, second, move}
+use Rattle.ae_delay.specs.Moving.{op_move, origin_from, origin_number}
+use Rattle.ae_delay.proofs.Sourced.{numbered}
+use Rattle.ae_gather.specs.Gathers.{origin_word}
+use Rattle.ae_flow.specs.Flow.{layout_words, node_words, op_words, parts, words_at}
+use Rattle.ae_flow.specs.Fitted.{FitsFirst, FitsMove, FitsOp, FitsPair, FitsSecond}
+use Rattle.ae_fuse.specs.Labels.{IsOwnOrigin, IsReady, is_moving}
+use Rattle.ae_fuse.proofs.NumberSteps.{range-push}
+
+-- ---- moves
+
+own-shifted : (n k c e j : ℕ) (b : Bool) → e < n → j < k → IsOwnOrigin n k (cond b (fixed 0) (from_input 0 (e - c) j))
+own-shifted n k c e j true l g = refl
+own-shifted n k c e j false l g = (refl, omega arith, g)
+
+own-from : (how : MoveOp) (n m k e j : ℕ) → 0 < n → IsMoveFrom how n m → e < m → j < k → IsOwnOrigin n k (origin_from how n m e j)
+own-from (Shift c) n m k e j pos from l g = own-shifted n k c e j (nat_lt e c) (omega (arith, from.0)) g
+own-from (Up c) n m k e j pos from l g = (refl, mod_below e n pos, g)
+own-from (Select c) n m k e j pos from l g = (refl, omega (arith, from), g)
+own-from Same n m k e j pos from l g = (refl, omega (arith, from), g)
+
+-- each origin of a move is in its argument
+pub own-origin : (how : MoveOp) (a s : StTree) → IsInSize a → IsInSize s → FitsMove how a s → (o : ℕ) (x : OriginTree) → slice_get (op_move how a s).origins o ≡ Some x → IsOwnOrigin (st_atoms a) (element_words a) x
+own-origin how a s size out fits o x found =
+    let r = numbered (origin_number how a s) (st_atoms s * element_words s) o x found in
+    let w = element_words_pos s in
+    let same : element_words s ≡ element_words a = ap atom_words (sym fits.0) in
+    let element : o / element_words s < st_atoms s = div_below o (element_words s) (st_atoms s) w r.0 in
+    let word : o % element_words s < element_words s = mod_below o (element_words s) w in
+    subst (IsOwnOrigin (st_atoms a) (element_words a)) r.1
+    (own-from how (st_atoms a) (st_atoms s) (element_words a) (o / element_words s) (o % element_words s) (atoms_pos a size.lengths) fits.1 element (omega (arith, word, same)))
+
+pub own-code : (how : MoveOp) (a s : StTree) (source : List Origin) → IsInSize a → IsInSize s → FitsMove how a s → map origin_tree source ≡ (op_move how a s).origins → (o : ℕ) (x : Origin) → slice_get source o ≡ Some x
+    → IsOwnOrigin (st_atoms a) (element_words a) (origin_tree x)
+own-code how a s source size out fits is o x found = own-origin how a s size out fits o (origin_tree x) (ap (λ os. slice_get os o) (sym is) ∙ get_mapped origin_tree source o x found)
+
+-- where the word of an own origin stands
+pub own-inside : (a : StTree) (labels : List ℕ) (i e j : ℕ) → length labels ≡ layout_words a → IsOwnOrigin (st_atoms a) (element_words a) (from_input i e j) → e * element_words a + j < length labels
+own-inside a labels i e j long own = omega (arith, long, mul-add-lt e (element_words a) j (st_atoms a) own.1 own.2)
+
+pub own-word : (a : StTree) (labels : List ℕ) (i e j x words : ℕ) → words ≡ element_words a → length labels ≡ layout_words a → IsOwnOrigin (st_atoms a) (element_words a) (from_input i e j) → slice_get labels (e * words + j) ≡ Some x
+    → x ≡ origin_word (a ∷ []) (labels ∷ []) (from_input i e j)
+own-word a labels i e j x words wide long own found =
+    sym (get_or_from_slice_get labels (e * words + j) x 0 found)
+    ∙ ap (λ w. slice_index labels (e * w + j)) wide
+    ∙ ap (λ n. origin_word (a ∷ []) (labels ∷ []) (from_input n e j)) (sym own.0)
+
+pub moved-more : (f : OriginTree → ℕ) (source : List Origin) (k label : ℕ) (x : Origin) (old : List ℕ) → slice_get source k ≡ Some x → old ≡ map (λ o. f (origin_tree o)) (take k source) → label ≡ f (origin_tree x)
+    → old ++ label ∷ [] ≡ map (λ o. f (origin_tree o)) (take (k + 1) source)
+moved-more f source k label x old found was is =
+    (λ i. was i ++ is i ∷ []) ∙ sym (map_push (λ (o : Origin). f (origin_tree o)) (take k source) x) ∙ ap (map (λ (o : Origin). f (origin_tree o))) (sym (take_push source k x found))
+
+-- ---- pieces
+
+parts-push : (n k o l : ℕ) (ws : List ℕ) → parts (n + 1) k o l ws ≡ parts n k o l ws ++ take l (drop (n * k + o) ws)
+parts-push n k o l ws =
+    let f : ℕ → List ℕ = λ e. take l (drop (e * k + o) ws) in
+    let z : 0 + n ≡ n = omega arith in
+    ap (flat_map f) (range-push 0 n ∙ ap (λ x. range_with_len 0 n ++ x ∷ []) z)
+    ∙ flat_map-append f (range_with_len 0 n) (n ∷ [])
+    ∙ ap (λ xs. flat_map f (range_with_len 0 n) ++ xs) (flat_map-cons f n [] ∙ append-nil (f n))
+
+pub parts-more : (n k o l : ℕ) (ws old more : List ℕ) → more ≡ take (n * k + o + l - (n * k + o)) (drop (n * k + o) ws) → old ≡ parts n k o l ws → old ++ more ≡ parts (n + 1) k o l ws
+parts-more n k o l ws old more cut was =
+    let size : n * k + o + l - (n * k + o) ≡ l = omega arith in
+    (λ i. was i ++ (cut ∙ ap (λ x. take x (drop (n * k + o) ws)) size) i) ∙ sym (parts-push n k o l ws)
+
+pub pairs-more : (n k l : ℕ) (us vs old one two : List ℕ) → one ≡ take (n * k + k - n * k) (drop (n * k) us) → two ≡ take (n * l + l - n * l) (drop (n * l) vs) → old ≡ paired n k l us vs → (old ++ one) ++ two ≡ paired (n + 1) k l us vs
+pairs-more n k l us vs old one two cut split was =
+    let size : n * k + k - n * k ≡ k = omega arith in
+    let wide : n * l + l - n * l ≡ l = omega arith in
+    (λ i. (was i ++ (cut ∙ ap (λ x. take x (drop (n * k) us)) size) i) ++ (split ∙ ap (λ x. take x (drop (n * l) vs)) wide) i)
+    ∙ append_assoc (paired n k l us vs) (take k (drop (n * k) us)) (take l (drop (n * l) vs)) ∙ sym (paired-more n k l us vs)
+
+pub piece-ends : (e count k from l : ℕ) → e < count → from + l ≤ k → e * k + from + l ≤ count * k
+piece-ends e count k from l low room =
+    let up : (e + 1) * k ≤ count * k = mul-le-mul_right k (let z : e + 1 ≤ count = omega arith in z) in
+    omega arith
+
+-- ---- the arguments of a node
+
+pub pair-sizes : (a b s : StTree) → FitsPair a b s → (st_atoms a ≡ st_atoms s) × (st_atoms b ≡ st_atoms s) × (element_words s ≡ element_words a + element_words b)
+pair-sizes a b s fits = (
+  sym (length-slots a) ∙ ap length fits.first.slots ∙ length-slots s,
+  sym (length-slots b) ∙ ap length fits.second.slots ∙ length-slots s,
+  sym (length-atom_kinds (element_atom s)) ∙ ap length fits.kinds ∙ length-append (atom_kinds (element_atom a)) (atom_kinds (element_atom b)) ∙ (λ i. length-atom_kinds (element_atom a) i + length-atom_kinds (element_atom b) i),
+)
+
+first-part : (a s : StTree) → FitsFirst s a → (st_atoms a ≡ st_atoms s) × (element_words s ≤ element_words a)
+first-part a s h = let z = pair-sizes s h.other a h.pair in (sym z.0, omega (arith, z.2))
+
+second-part : (a s : StTree) → FitsSecond s a → (st_atoms a ≡ st_atoms s) × (element_words s ≤ element_words a)
+second-part a s h = let z = pair-sizes h.other s a h.pair in (sym z.1, omega (arith, z.2))
+
+-- the one argument
+pub record HasOne (xs : List ℕ) (P : ℕ → Type 0) : Type 0 where
+  pub some : 0 < length xs
+  pub only : (a : ℕ) → slice_get xs 0 ≡ Some a → (xs ≡ a ∷ []) × P a
+
+one-is : (x : ℕ) (P : ℕ → Type 0) → P x → HasOne (x ∷ []) P
+one-is x P h = record { some = omega arith; only = λ a e. let same : x ≡ a = same_Some x a e in (ap (λ y. y ∷ []) same, subst P same h) }
+
+move-fits : (before : List StFuncTree) (budget copies : ℕ) (f : ℕ → StTree) (xs : List ℕ) (s : StTree) (how : MoveOp) → FitsOp before budget copies (map f xs) s (move how) → HasOne xs (λ a. FitsMove how (f a) s)
+move-fits before budget copies f [] s how h = absurd h
+move-fits before budget copies f (x ∷ []) s how h = one-is x (λ a. FitsMove how (f a) s) h
+move-fits before budget copies f (x ∷ y ∷ xs) s how h = absurd h
+
+part-fits : (before : List StFuncTree) (budget copies : ℕ) (f : ℕ → StTree) (xs : List ℕ) (s : StTree) (is_first : Bool) → FitsOp before budget copies (map f xs) s (if is_first then first else second)
+    → HasOne xs (λ a. (st_atoms (f a) ≡ st_atoms s) × (element_words s ≤ element_words (f a)))
+part-fits before budget copies f [] s true h = absurd h
+part-fits before budget copies f [] s false h = absurd h
+part-fits before budget copies f (x ∷ []) s true h = one-is x (λ a. (st_atoms (f a) ≡ st_atoms s) × (element_words s ≤ element_words (f a))) (first-part (f x) s h)
+part-fits before budget copies f (x ∷ []) s false h = one-is x (λ a. (st_atoms (f a) ≡ st_atoms s) × (element_words s ≤ element_words (f a))) (second-part (f x) s h)
+part-fits before budget copies f (x ∷ y ∷ xs) s true h = absurd h
+part-fits before budget copies f (x ∷ y ∷ xs) s false h = absurd h
+
+pub record HasTwo (xs : List ℕ) (P : ℕ → ℕ → Type 0) : Type 0 where
+  pub some : 1 < length xs
+  pub only : (a b : ℕ) → slice_get xs 0 ≡ Some a → slice_get xs 1 ≡ Some b → (xs ≡ a ∷ b ∷ []) × P a b
+
+pair-fits : (before : List StFuncTree) (budget copies : ℕ) (f : ℕ → StTree) (xs : List ℕ) (s : StTree) → FitsOp before budget copies (map f xs) s join → HasTwo xs (λ a b. FitsPair (f a) (f b) s)
+pair-fits before budget copies f [] s h = absurd h
+pair-fits before budget copies f (x ∷ []) s h = absurd h
+pair-fits before budget copies f (x ∷ y ∷ []) s h = record {
+  some = omega arith;
+  only = λ a b e g.
+      let same : x ≡ a = same_Some x a e in
+      let other : y ≡ b = same_Some y b g in
+      ((λ i. same i ∷ other i ∷ []), subst (λ z. FitsPair (f z) (f b) s) same (subst (λ z. FitsPair (f x) (f z) s) other h));
+}
+pair-fits before budget copies f (x ∷ y ∷ z ∷ xs) s h = absurd h
+
+module _ (s : StFuncTree) (n : StNodeTree) (labels : List (List ℕ)) (h : IsReady s n labels) where
+  fits-op : (op : StOpTree) → n.op ≡ op → FitsOp h.before s.budget n.copies (map (item_layout (item_layouts s)) n.args) n.type op
+  fits-op op is = subst (FitsOp h.before s.budget n.copies (map (item_layout (item_layouts s)) n.args) n.type) is h.fits
+
+  pub ready-move : (how : MoveOp) → n.op ≡ move how → HasOne n.args (λ a. FitsMove how (item_layout (item_layouts s) a) n.type)
+  ready-move how is = move-fits h.before s.budget n.copies (item_layout (item_layouts s)) n.args n.type how (fits-op (move how) is)
+
+  pub ready-part : (is_first : Bool) → n.op ≡ (if is_first then first else second) → HasOne n.args (λ a. (st_atoms (item_layout (item_layouts s) a) ≡ st_atoms n.type) × (element_words n.type ≤ element_words (item_layout (item_layouts s) a)))
+  ready-part b is = part-fits h.before s.budget n.copies (item_layout (item_layouts s)) n.args n.type b (fits-op (if b then first else second) is)
+
+  pub ready-pair : n.op ≡ join → HasTwo n.args (λ a b. FitsPair (item_layout (item_layouts s) a) (item_layout (item_layouts s) b) n.type)
+  ready-pair is = pair-fits h.before s.budget n.copies (item_layout (item_layouts s)) n.args n.type (fits-op join is)
+
+  pub ready-item : (a : ℕ) → a < length labels → a < length (item_layouts s)
+  ready-item a low = omega (arith, h.below)
+
+-- ---- the words of a node
+
+pub move-words : (layouts : List StTree) (labels : List (List ℕ)) (n : StNodeTree) (how : MoveOp) (a : ℕ) → n.op ≡ move how → n.args ≡ a ∷ []
+    → node_words [] layouts labels n ≡ map (origin_word (item_layout layouts a ∷ []) (words_at labels a ∷ [])) (op_move how (item_layout layouts a) n.type).origins
+move-words layouts labels n how a op args = λ i. op_words [] (map (item_layout layouts) (args i)) n.type (op i) (map (words_at labels) (args i))
+
+pub pair-words : (layouts : List StTree) (labels : List (List ℕ)) (n : StNodeTree) (a b : ℕ) → n.op ≡ join → n.args ≡ a ∷ b ∷ []
+    → node_words [] layouts labels n ≡ paired (st_atoms n.type) (element_words (item_layout layouts a)) (element_words (item_layout layouts b)) (words_at labels a) (words_at labels b)
+pair-words layouts labels n a b op args = λ i. op_words [] (map (item_layout layouts) (args i)) n.type (op i) (map (words_at labels) (args i))
+
+pub part-words : (layouts : List StTree) (labels : List (List ℕ)) (n : StNodeTree) (is_first : Bool) (a : ℕ) → n.op ≡ (if is_first then first else second) → n.args ≡ a ∷ []
+    → node_words [] layouts labels n ≡ parts (st_atoms n.type) (element_words (item_layout layouts a)) (if is_first then 0 else element_words (item_layout layouts a) - element_words n.type) (element_words n.type) (words_at labels a)
+part-words layouts labels n true a op args = λ i. op_words [] (map (item_layout layouts) (args i)) n.type (op i) (map (words_at labels) (args i))
+part-words layouts labels n false a op args = λ i. op_words [] (map (item_layout layouts) (args i)) n.type (op i) (map (words_at labels) (args i))
+
+-- ---- as many labels as words
+
+length-paired : (n k l : ℕ) (us vs : List ℕ) → length us ≡ n * k → length vs ≡ n * l → length (paired n k l us vs) ≡ n * (k + l)
+length-paired zero k l us vs h g = omega arith
+length-paired (suc n) k l us vs h g =
+    let a : length (take k us) ≡ k = length-take-le k us (omega arith) in
+    let b : length (take l vs) ≡ l = length-take-le l vs (omega arith) in
+    let rest = length-paired n k l (drop k us) (drop l vs) (omega (arith, length-drop k us)) (omega (arith, length-drop l vs)) in
+    omega (arith, length-append (take k us ++ take l vs) (paired n k l (drop k us) (drop l vs)), length-append (take k us) (take l vs), a, b, rest)
+
+length-pieces : (f : ℕ → List ℕ) (l a n : ℕ) → ((e : ℕ) → e < a + n → length (f e) ≡ l) → length (flat_map f (range_with_len a n)) ≡ n * l
+length-pieces f l a zero each = omega arith
+length-pieces f l a (suc n) each =
+    let one : length (f a) ≡ l = each a (omega arith) in
+    let rest = length-pieces f l (a + 1) n (λ e h. each e (omega (arith, h))) in
+    ap length (flat_map-cons f a (range_with_len (a + 1) n)) ∙ omega (arith, length-append (f a) (flat_map f (range_with_len (a + 1) n)), one, rest)
+
+length-parts : (n k o l : ℕ) (ws : List ℕ) → length ws ≡ n * k → o + l ≤ k → length (parts n k o l ws) ≡ n * l
+length-parts n k o l ws long room =
+    length-pieces (λ e. take l (drop (e * k + o) ws)) l 0 n (λ e low.
+    let ends = piece-ends e n k o l (omega (arith, low)) room in
+    length-take-le l (drop (e * k + o) ws) (omega (arith, ends, long, length-drop (e * k + o) ws)))
+
+module _ (s : StFuncTree) (n : StNodeTree) (labels : List (List ℕ)) (h : IsReady s n labels) where
+  abbrev layouts : List StTree
+  layouts = item_layouts s
+
+  long-at : (a : ℕ) → a < length labels → length (words_at labels a) ≡ st_atoms (item_layout layouts a) * element_words (item_layout layouts a)
+  long-at a low = h.long a low
+
+  long-move : (how : MoveOp) → n.op ≡ move how → (a : ℕ) → slice_get n.args 0 ≡ Some a → length (node_words [] layouts labels n) ≡ layout_words n.type
+  long-move how is a at =
+      let one = (ready-move s n labels h how is).only a at in
+      ap length (move-words layouts labels n how a is one.0)
+      ∙ length-map (op_move how (item_layout layouts a) n.type).origins (origin_word (item_layout layouts a ∷ []) (words_at labels a ∷ []))
+      ∙ length-map-range_with_len (origin_number how (item_layout layouts a) n.type) 0 (st_atoms n.type * element_words n.type)
+
+  long-part : (b : Bool) → n.op ≡ (if b then first else second) → (a : ℕ) → slice_get n.args 0 ≡ Some a → length (node_words [] layouts labels n) ≡ layout_words n.type
+  long-part b is a at =
+      let one = (ready-part s n labels h b is).only a at in
+      let low = h.args 0 a at in
+      let l : StTree = item_layout layouts a in
+      let long : length (words_at labels a) ≡ st_atoms n.type * element_words l = long-at a low ∙ ap (λ m. m * element_words l) one.1.0 in
+      let room : (if b then 0 else element_words l - element_words n.type) + element_words n.type ≤ element_words l =
+      elim b as (λ v. (if v then 0 else element_words l - element_words n.type) + element_words n.type ≤ element_words l) [ true ↦ omega (arith, one.1.1) | false ↦ omega (arith, one.1.1) ] in
+      ap length (part-words layouts labels n b a is one.0) ∙ length-parts (st_atoms n.type) (element_words l) (if b then 0 else element_words l - element_words n.type) (element_words n.type) (words_at labels a) long room
+
+  long-pair : n.op ≡ join → (a b : ℕ) → slice_get n.args 0 ≡ Some a → slice_get n.args 1 ≡ Some b → length (node_words [] layouts labels n) ≡ layout_words n.type
+  long-pair is a b at to =
+      let two = (ready-pair s n labels h is).only a b at to in
+      let z = pair-sizes _ _ _ two.1 in
+      let l : StTree = item_layout layouts a in
+      let m : StTree = item_layout layouts b in
+      let us : length (words_at labels a) ≡ st_atoms n.type * element_words l = long-at a (h.args 0 a at) ∙ ap (λ x. x * element_words l) z.0 in
+      let vs : length (words_at labels b) ≡ st_atoms n.type * element_words m = long-at b (h.args 1 b to) ∙ ap (λ x. x * element_words m) z.1 in
+      ap length (pair-words layouts labels n a b is two.0) ∙ length-paired (st_atoms n.type) (element_words l) (element_words m) (words_at labels a) (words_at labels b) us vs ∙ ap (λ x. st_atoms n.type * x) (sym z.2)
+
+  head-of : (xs : List ℕ) (k : ℕ) → k < length xs → (a : ℕ) × (slice_get xs k ≡ Some a)
+  head-of [] k low = absurd (omega arith)
+  head-of (x ∷ xs) zero low = (x, refl)
+  head-of (x ∷ xs) (suc k) low = head-of xs k (omega arith)
+
+  long-of : (op : StOpTree) → is_moving op ≡ true → n.op ≡ op → length (node_words [] layouts labels n) ≡ layout_words n.type
+  long-of join moves is = (let two = ready-pair s n labels h is in let a = head-of n.args 0 (omega (arith, two.some)) in let b = head-of n.args 1 (omega (arith, two.some)) in long-pair is a.0 b.0 a.1 b.1)
+  long-of first moves is = (let one = ready-part s n labels h true is in let a = head-of n.args 0 (omega (arith, one.some)) in long-part true is a.0 a.1)
+  long-of second moves is = (let one = ready-part s n labels h false is in let a = head-of n.args 0 (omega (arith, one.some)) in long-part false is a.0 a.1)
+  long-of (move how) moves is = (let one = ready-move s n labels h how is in let a = head-of n.args 0 (omega (arith, one.some)) in long-move how is a.0 a.1)
+  long-of _ moves is = absurd (cc)
+
+  pub node-long : is_moving n.op ≡ true → length (node_words [] (item_layouts s) labels n) ≡ layout_words n.type
+  node-long moves = long-of n.op moves refl

@@ -1,0 +1,17 @@
+pub mod Words
+pub mod Flowing
+pub mod Labels
+pub mod Sameness
+pub mod WordKinds
+pub mod Moves
+pub mod Main
+pub mod Examples
+pub mod NumberSteps
+pub mod LabelSteps
+pub mod ItemSteps
+pub mod SmallMoves
+pub mod CostSteps
+pub mod Schedule
+pub mod ResultSteps
+pub mod WholeSteps
+pub mod Fusing

@@ -1,0 +1,222 @@
+// The labels of the words of all items: the number of the word of the parameters that each is, or 0 for a word 0.
+
+ghost use Rattle.std.specs.Prelude.{◌≡◌, ◌<◌, ◌≤◌, ◌*◌, ◌+◌, ◌++◌, ◌∷◌, [], true, if◌then◌else◌, length, map, IfOk, OnOk, Some, slice_get};
+ghost use Rattle.ae_sttype.specs.StTree.{element_words, st_atoms, st_tree};
+ghost use Rattle.ae_sttype.specs.Size.{IsInSize};
+ghost use Rattle.ae_moves.specs.Trees.{origin_tree};
+ghost use Rattle.ae_eval.specs.Stack.{paired};
+ghost use Rattle.ae_rewrite.specs.StProgramTree.{first, join, move, second, st_func_tree, st_node_tree};
+ghost use Rattle.ae_rewrite.specs.Sound.{item_layouts};
+ghost use Rattle.ae_delay.specs.Moving.{op_move};
+ghost use Rattle.ae_flow.specs.Flow.{item_words, layout_words, node_words, parts, words_at};
+ghost use Rattle.ae_flow.specs.Fitted.{FitsMove, FitsNode};
+ghost use Rattle.ae_gather.specs.Gathers.{origin_word};
+ghost use Rattle.ae_fuse.specs.Labels.{IsOwnOrigin, IsReady, MovesWords, is_moving, layout_numbers};
+
+use crate::numbers::first_labels;
+use ae_delay::{layout, origins};
+use ae_moves::Origin;
+use ae_rewrite::{MoveOp, StFunc, StNode, StOp};
+use ae_sttype::StType;
+use std::alloc::{AllocError, Global};
+
+// The label of an origin, by those of the one argument.
+fn label_of(origin: Origin, arg: &StType, labels: &[u32]) -> u32
+    requires size { IsInSize (st_tree arg.now) }
+    requires own { IsOwnOrigin (st_atoms (st_tree arg.now)) (element_words (st_tree arg.now)) (origin_tree origin) }
+    requires long { length labels.now ≡ layout_words (st_tree arg.now) }
+    ensures { result ≡ origin_word (st_tree arg.now ∷ []) (labels.now ∷ []) (origin_tree origin) }
+{
+    match origin {
+        Origin::Word {
+            input: _,
+            element,
+            word,
+        } => labels[(element * arg.element_words() + word) as usize],
+        Origin::Fixed(_) => 0,
+    }
+}
+
+// The labels of what a move makes of its argument.
+fn moved_labels(
+    alloc: Global,
+    how: MoveOp,
+    arg: &StType,
+    out: &StType,
+    labels: &[u32],
+) -> Result<Vec<u32>, AllocError>
+    requires arg { IsInSize (st_tree arg.now) }
+    requires out { IsInSize (st_tree out.now) }
+    requires fits { FitsMove how (st_tree arg.now) (st_tree out.now) }
+    requires long { length labels.now ≡ layout_words (st_tree arg.now) }
+    ensures { IfOk result (λ v. v.items ≡ map (origin_word (st_tree arg.now ∷ []) (labels.now ∷ [])) (op_move how (st_tree arg.now) (st_tree out.now)).origins) }
+{
+    let source = origins(alloc, how, arg, out)?;
+    let mut moved = Vec::new(alloc);
+    for origin in &source {
+        moved.push(label_of(*origin, arg, labels))?;
+    }
+    Ok(moved)
+}
+
+// More labels at the end.
+fn add(labels: &mut Vec<u32>, more: &[u32]) -> Result<(), AllocError>
+    ensures { OnOk result (labels.new.items ≡ labels.old.items ++ more.now) }
+{
+    labels.extend_from_slice(more)?;
+    Ok(())
+}
+
+// Of each of `count` pieces of `size` labels, `part` labels from number `from` on.
+fn part_labels(
+    alloc: Global,
+    labels: &[u32],
+    count: usize,
+    size: usize,
+    from: usize,
+    part: usize,
+) -> Result<Vec<u32>, AllocError>
+    requires long { length labels.now ≡ count * size }
+    requires inside { from + part ≤ size }
+    ensures { IfOk result (λ v. v.items ≡ parts count size from part labels.now) }
+{
+    let mut taken = Vec::new(alloc);
+    for piece in 0..count {
+        let first = piece * size + from;
+        add(&mut taken, &labels[first..first + part])?;
+    }
+    Ok(taken)
+}
+
+// `count` times `size` labels of the one and then `other` of the second.
+fn paired_labels(
+    alloc: Global,
+    first: &[u32],
+    second: &[u32],
+    count: usize,
+    size: usize,
+    other: usize,
+) -> Result<Vec<u32>, AllocError>
+    requires first { length first.now ≡ count * size }
+    requires second { length second.now ≡ count * other }
+    ensures { IfOk result (λ v. v.items ≡ paired count size other first.now second.now) }
+{
+    let mut both = Vec::new(alloc);
+    for piece in 0..count {
+        add(&mut both, &first[piece * size..piece * size + size])?;
+        add(&mut both, &second[piece * other..piece * other + other])?;
+    }
+    Ok(both)
+}
+
+// The number of argument k of a node.
+fn argument(node: &StNode, k: usize) -> usize
+    requires { k < length node.now.args.items }
+    ensures { slice_get node.now.args.items k ≡ Some result }
+{
+    node.args[k] as usize
+}
+
+/// The labels of an item.
+pub(crate) fn labels_at(labels: &[Vec<u32>], item: usize) -> &[u32]
+    requires { item < length labels.now }
+    ensures { result.now ≡ words_at (map (λ w. w.items) labels.now) item }
+{
+    labels[item].as_slice()
+}
+
+// The labels of what a move makes.
+fn move_node(
+    alloc: Global,
+    how: MoveOp,
+    s: &StFunc,
+    node: &StNode,
+    labels: &[Vec<u32>],
+) -> Result<Vec<u32>, AllocError>
+    requires ready { IsReady (st_func_tree s.now) (st_node_tree node.now) (map (λ w. w.items) labels.now) }
+    requires is { (st_node_tree node.now).op ≡ move how }
+    ensures { IfOk result (λ v. v.items ≡ node_words [] (item_layouts (st_func_tree s.now)) (map (λ w. w.items) labels.now) (st_node_tree node.now)) }
+{
+    let arg = argument(node, 0);
+    moved_labels(alloc, how, layout(s, arg), &node.ty, labels_at(labels, arg))
+}
+
+// The labels of pairs.
+fn pair_node(
+    alloc: Global,
+    s: &StFunc,
+    node: &StNode,
+    labels: &[Vec<u32>],
+) -> Result<Vec<u32>, AllocError>
+    requires ready { IsReady (st_func_tree s.now) (st_node_tree node.now) (map (λ w. w.items) labels.now) }
+    requires is { (st_node_tree node.now).op ≡ join }
+    ensures { IfOk result (λ v. v.items ≡ node_words [] (item_layouts (st_func_tree s.now)) (map (λ w. w.items) labels.now) (st_node_tree node.now)) }
+{
+    let one = argument(node, 0);
+    let two = argument(node, 1);
+    let count = node.ty.atoms() as usize;
+    let size = layout(s, one).element_words() as usize;
+    let other = layout(s, two).element_words() as usize;
+    paired_labels(
+        alloc,
+        labels_at(labels, one),
+        labels_at(labels, two),
+        count,
+        size,
+        other,
+    )
+}
+
+// The labels of the first or the second of pairs.
+fn part_node(
+    alloc: Global,
+    s: &StFunc,
+    node: &StNode,
+    labels: &[Vec<u32>],
+    is_first: bool,
+) -> Result<Vec<u32>, AllocError>
+    requires ready { IsReady (st_func_tree s.now) (st_node_tree node.now) (map (λ w. w.items) labels.now) }
+    requires is { (st_node_tree node.now).op ≡ (if is_first then first else second) }
+    ensures { IfOk result (λ v. v.items ≡ node_words [] (item_layouts (st_func_tree s.now)) (map (λ w. w.items) labels.now) (st_node_tree node.now)) }
+{
+    let arg = argument(node, 0);
+    let count = node.ty.atoms() as usize;
+    let size = layout(s, arg).element_words() as usize;
+    let part = node.ty.element_words() as usize;
+    let from = if is_first { 0 } else { size - part };
+    part_labels(alloc, labels_at(labels, arg), count, size, from, part)
+}
+
+// The labels of a node, by those of the items above it.
+fn node_labels(
+    alloc: Global,
+    s: &StFunc,
+    node: &StNode,
+    labels: &[Vec<u32>],
+) -> Result<Vec<u32>, AllocError>
+    requires ready { IsReady (st_func_tree s.now) (st_node_tree node.now) (map (λ w. w.items) labels.now) }
+    requires moves { is_moving (st_node_tree node.now).op ≡ true }
+    ensures { IfOk result (λ v. v.items ≡ node_words [] (item_layouts (st_func_tree s.now)) (map (λ w. w.items) labels.now) (st_node_tree node.now)) }
+{
+    match &node.op {
+        StOp::Move(how) => move_node(alloc, *how, s, node, labels),
+        StOp::Join => pair_node(alloc, s, node, labels),
+        StOp::First => part_node(alloc, s, node, labels, true),
+        StOp::Second => part_node(alloc, s, node, labels, false),
+        _ => unreachable!(),
+    }
+}
+
+/// The labels of all items, where those of the parameters are numbered from 1 on; an error only for want of memory.
+pub(crate) fn item_labels(alloc: Global, s: &StFunc) -> Result<Vec<Vec<u32>>, AllocError>
+    requires moves { MovesWords (st_func_tree s.now) }
+    ensures labels { IfOk result (λ v. map (λ w. w.items) v.items ≡ item_words [] (st_func_tree s.now) (layout_numbers 1 (st_func_tree s.now).ins)) }
+    ensures long { IfOk result (λ v. length v.items ≡ length (item_layouts (st_func_tree s.now))) }
+{
+    let mut labels = first_labels(alloc, &s.ins)?;
+    for node in &s.nodes {
+        let own = node_labels(alloc, s, node, &labels)?;
+        labels.push(own)?;
+    }
+    Ok(labels)
+}
