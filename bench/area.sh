@@ -1,6 +1,6 @@
 #!/usr/bin/env bash
-# The size of circuits on an iCE40: logic cells of the written module, and of the one by hand beside it where tests/hand has
-# one. yosys makes the cells and nextpnr-ice40 packs and counts them; without nextpnr-ice40 yosys' count of lookup tables
+# The size of circuits on an iCE40: logic cells of the written module, of the one with a stall input, and of the one by hand
+# beside it where tests/hand has one. yosys makes the cells and nextpnr-ice40 packs and counts them; without nextpnr-ice40 yosys' count of lookup tables
 # stands in its place. Without yosys it says so and ends well.
 set -eu
 cd "$(dirname "$0")/.."
@@ -25,19 +25,22 @@ cells() {
 
 # size NAME SLOWDOWN [FILE]: a line for a program of tests/hand, or of the file.
 size() {
-  local ours hand=-
+  local ours stalled=- hand=-
   if ! "$aeth" build "$2" <"${3:-tests/hand/$1.aeth}" >"$dir/ours.v" 2>/dev/null; then
     printf '%-12s %8s %8s\n' "$1" "$2" "$(head -1 "$dir/ours.v")"
     return
   fi
   ours=$(cells aeth "$dir/ours.v")
+  if "$aeth" stall "$2" <"${3:-tests/hand/$1.aeth}" >"$dir/stalled.v" 2>/dev/null; then
+    stalled=$(cells aeth "$dir/stalled.v")
+  fi
   if [ -f "tests/hand/$1_$2.v" ]; then
     hand=$(cells hand "tests/hand/$1_$2.v")
   fi
-  printf '%-12s %8s %8s %8s\n' "$1" "$2" "$ours" "$hand"
+  printf '%-12s %8s %8s %8s %8s\n' "$1" "$2" "$ours" "$stalled" "$hand"
 }
 
-printf '%-12s %8s %8s %8s\n' program slowdown cells "by hand"
+printf '%-12s %8s %8s %8s %8s\n' program slowdown cells stalled "by hand"
 for slowdown in 1 4 2 3 8; do size increment "$slowdown"; done
 for slowdown in 1 2; do size square "$slowdown"; done
 size shift 3

@@ -112,6 +112,13 @@ def input_rows(module, slowdown, rows, clocks):
 
 def bench(module, clocked):
     """A test bench that holds reset for one clock, and prints the outputs in each clock after it."""
+    ins = ports(module, "input")[2:]
+    reset = [1] + [FILL % 2**width for _, width in ins]
+    return clocked_bench(module, [(reset, False)] + [([0, *row], True) for row in clocked])
+
+
+def clocked_bench(module, rows):
+    """A test bench of clocks: the words on the inputs behind `clk` in each, and whether the outputs are printed in it."""
     ins, outs = ports(module, "input")[1:], ports(module, "output")
     held = re.findall(r"^  reg (?:\[(\d+):0\] )?(\w+);$", module, re.M)
     assert len(held) == len(re.findall(r"^  reg ", module, re.M)), "a memory, which this test bench cannot fill"
@@ -121,13 +128,21 @@ def bench(module, clocked):
     joined = ", ".join(f".{name}({name})" for name, _ in [("clk", 1), *ins, *outs])
     lines += [f"  aeth dut({joined});", "  initial begin"]
     lines += [f"    dut.{name} = {int(high or 0) + 1}'d{FILL % 2 ** (int(high or 0) + 1)};" for high, name in held]
-    rows = [[1] + [FILL % 2**width for _, width in ins[1:]]] + [[0] + row for row in clocked]
     form = " ".join(["%0d"] * len(outs))
     shown = ", ".join(name for name, _ in outs)
-    for clock, row in enumerate(rows):
+    for row, printed in rows:
         lines += [f"    {name} = {width}'d{word};" for (name, width), word in zip(ins, row)]
-        lines += ["    #1;"] + ([f'    $display("{form}", {shown});'] if clock else []) + ["    clk = 1; #1; clk = 0;"]
+        lines += ["    #1;"] + ([f'    $display("{form}", {shown});'] if printed else []) + ["    clk = 1; #1; clk = 0;"]
     return "\n".join([*lines, "  end", "endmodule", ""])
+
+
+def lines_under_icarus(folder, text):
+    """What Icarus prints of a module with its bench."""
+    folder.mkdir()
+    (folder / "bench.v").write_text(text)
+    subprocess.run(["iverilog", "-s", "bench", "-o", folder / "bench", folder / "bench.v"], check=True)
+    done = subprocess.run(["vvp", folder / "bench"], check=True, capture_output=True)
+    return done.stdout.decode().splitlines()
 
 
 def differs_under_icarus(folder, shown, slowdown, rows):
@@ -135,11 +150,7 @@ def differs_under_icarus(folder, shown, slowdown, rows):
     module, lines = shown.split("%% clocks\n")
     wanted = [line.split(" ", 2)[2] for line in lines.splitlines()]
     clocked = input_rows(module, slowdown, rows, len(wanted))
-    folder.mkdir()
-    (folder / "bench.v").write_text(module + bench(module, clocked))
-    subprocess.run(["iverilog", "-s", "bench", "-o", folder / "bench", folder / "bench.v"], check=True)
-    done = subprocess.run(["vvp", folder / "bench"], check=True, capture_output=True)
-    found = done.stdout.decode().splitlines()
+    found = lines_under_icarus(folder, module + bench(module, clocked))
     apart = [f"clock {clock}: {other}, not {line}" for clock, (line, other) in enumerate(zip(wanted, found)) if line != other]
     return "" if found == wanted else (apart or [f"{len(found)} lines, not {len(wanted)}"])[0]
 

@@ -1,5 +1,5 @@
 -- What compiling makes of a costed program.
-use Rattle.std.proofs.Common.{◌≡◌, ℕ, List, length, map, Some, slice_get, ap, sym, ◌∙◌, subst}
+use Rattle.std.proofs.Common.{◌≡◌, ℕ, false, List, length, map, Some, slice_get, ap, sym, ◌∙◌, subst}
 use Rattle.ae_seq.specs.ProgramTree.{FuncTree, ProgramTree}
 use Rattle.ae_rewrite.specs.StProgramTree.{StFuncTree}
 use Rattle.ae_rewrite.specs.Sound.{item_layouts}
@@ -13,20 +13,20 @@ use Rattle.ae_correct.specs.Laws.{IsLaidOut}
 use Rattle.ae_tidy.specs.Places.{AreMarks}
 use Rattle.ae_verilog.specs.Notes.{ArePrinted, NoteTree}
 use Rattle.ae_verilog.specs.ReportLines.{ReportTree}
-use Rattle.ae_compile.specs.Costing.{IsKnown, main_costs}
+use Rattle.ae_compile.specs.Costing.{IsKnown, load_limit, main_costs}
 use Rattle.ae_compile.specs.Compiling.{IsCompiled, report_of}
 use Rattle.ae_compile.specs.LineNotes.{node_notes}
 use Rattle.ae_compile.proofs.Mains.{main_nodes}
 
 -- the parts that are made, each by the program function's instance
 pub record AreMade (p : ProgramTree) (slowdown : ℕ) (instances : List StFuncTree) (n : Circuit) (marks : List ℕ) (report : ReportTree) (notes : List NoteTree) : Type 0 where
-  pub reports : (s : StFuncTree) → slice_get instances (last_of instances) ≡ Some s → report ≡ report_of slowdown instances s
+  pub reports : (s : StFuncTree) → slice_get instances (last_of instances) ≡ Some s → report ≡ report_of false slowdown instances s
   pub circuits : (s : StFuncTree) → slice_get instances (last_of instances) ≡ Some s → IsCircuitOf instances s n
   pub places : (s : StFuncTree) → slice_get instances (last_of instances) ≡ Some s → AreMarks (length n.cells) (length s.nodes) marks
   pub notes_are : (s : StFuncTree) (f : FuncTree) → slice_get instances (last_of instances) ≡ Some s → slice_get p.funcs (main_of p) ≡ Some f → notes ≡ node_notes (item_layouts s) (length f.params) f.nodes marks
   pub printed : ArePrinted notes
 
-pub compiled_is : (p : ProgramTree) (slowdown : ℕ) (instances : List StFuncTree) (times : Times) (n : Circuit) (marks : List ℕ) (report : ReportTree) (notes : List NoteTree) → CircuitsAreFor → IsKnown p slowdown instances times
+pub compiled_is : (p : ProgramTree) (slowdown : ℕ) (instances : List StFuncTree) (times : Times) (n : Circuit) (marks : List ℕ) (report : ReportTree) (notes : List NoteTree) → CircuitsAreFor → IsKnown load_limit p slowdown instances times
     → AreMade p slowdown instances n marks report notes → IsCompiled p slowdown instances n report notes
 compiled_is p slowdown instances times n marks report notes law k m =
     let key = k.schedule.last in

@@ -7,3 +7,4 @@ pub mod Mains
 pub mod Modules
 mod Noting
 mod Shown
+mod Enabling

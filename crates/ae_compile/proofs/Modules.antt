@@ -41,9 +41,9 @@ use Rattle.ae_correct.proofs.Nets.{in_net, out_net, ports_filtered}
 use Rattle.ae_correct.proofs.Places.{columns_more, length_from}
 use Rattle.ae_verilog.specs.Notes.{NoteTree}
 use Rattle.ae_verilog.specs.Text.{whole_text}
-use Rattle.ae_compile.specs.Building.{IsModuleText}
+use Rattle.ae_compile.specs.Building.{IsModuleText, IsWritten}
 use Rattle.ae_compile.specs.Compiling.{IsCompiled}
-use Rattle.ae_compile.specs.Costing.{IsKnown, main_costs}
+use Rattle.ae_compile.specs.Costing.{IsKnown, load_limit, main_costs}
 
 -- ---- columns
 
@@ -65,10 +65,10 @@ all_columns (s ∷ ss) h = omega (arith, columns_more (stream_of s) (streams_of 
 
 -- ---- how many ports a circuit has
 
-record HasFewPorts (ins outs : List StTree) (n : Circuit) : Type 0 where
-  inputs : length (net_side.input_ports (streams_of ins)) ≤ 131072
-  outputs : length n.outlets ≤ 131072
-  all : length (ports_of (netlist_module n.cells n.outlets (length outs))) ≡ 2 + length (net_side.input_ports (streams_of ins)) + length n.outlets
+pub record HasFewPorts (ins outs : List StTree) (n : Circuit) : Type 0 where
+  pub inputs : length (net_side.input_ports (streams_of ins)) ≤ 131072
+  pub outputs : length n.outlets ≤ 131072
+  pub all : length (ports_of (netlist_module n.cells n.outlets (length outs))) ≡ 2 + length (net_side.input_ports (streams_of ins)) + length n.outlets
 
 -- an entry of a list that is mapped
 pub record IsMapped {A B : Type 0} (f : A → B) (xs : List A) (k : ℕ) (y : B) : Type 0 where
@@ -89,7 +89,7 @@ small_results instances s sound found q t e =
     let m = unmapped (item_layout (item_layouts s)) s.results q t e in
     subst IsInSize m.is (all_items (last_of instances) s own m.from (own.results q m.from m.found)).size
 
-few_ports : (p : ProgramTree) (slowdown : ℕ) (costs : OwnCosts) (ins outs : List StTree) (n : Circuit) → IsLaidOut p slowdown ins outs → IsCircuitFor p slowdown costs ins outs n → HasFewPorts ins outs n
+pub few_ports : (p : ProgramTree) (slowdown : ℕ) (costs : OwnCosts) (ins outs : List StTree) (n : Circuit) → IsLaidOut p slowdown ins outs → IsCircuitFor p slowdown costs ins outs n → HasFewPorts ins outs n
 few_ports p slowdown costs ins outs n laid c =
     let many : ℕ = length outs in
     let have = circuit_ports p slowdown costs ins outs n c in
@@ -129,7 +129,7 @@ pub record HasModule (n : Circuit) (many : ℕ) : Type 0 where
   pub same : HasSameRuns (netlist_module n.cells n.outlets many) n
   pub formed : IsWellFormed (netlist_module n.cells n.outlets many)
 
-pub module_there : (p : ProgramTree) (slowdown : ℕ) (instances : List StFuncTree) (times : Times) (n : Circuit) (report : ReportTree) (notes : List NoteTree) → HaveWriting → IsKnown p slowdown instances times → IsCompiled p slowdown instances n report notes → HasModule n (length report.outs)
+pub module_there : (p : ProgramTree) (slowdown : ℕ) (instances : List StFuncTree) (times : Times) (n : Circuit) (report : ReportTree) (notes : List NoteTree) → HaveWriting → IsKnown load_limit p slowdown instances times → IsCompiled p slowdown instances n report notes → HasModule n (length report.outs)
 module_there p slowdown instances times n report notes laws k d =
     let many : ℕ = length report.outs in
     let ports = few_ports p slowdown (main_costs instances) report.ins report.outs n d.laid d.circuit in
@@ -138,18 +138,8 @@ module_there p slowdown instances times n report notes laws k d =
     let light = k.light in
     record { same = laws.runs n many writable; formed = laws.formed n many writable (omega (arith, small, light, ports.inputs, ports.outputs)) }
 
--- what is sure of the text that it was written as
-pub record IsTextOf (report : ReportTree) (n : Circuit) (notes : List NoteTree) (text : List ℕ) : Type 0 where
-  pub spells : Spells text (netlist_module n.cells n.outlets (length report.outs))
-  pub stars_are : stars (netlist_module n.cells n.outlets (length report.outs)) ≡ count_of is_mul n.cells
-  pub rest : List ℕ
-  pub reports : text ≡ report_lines report ++ rest
-  pub clean : IsTrue (list_all is_clean text)
-  pub few : length text < 2 ^ 32
-  pub listed : text ≡ whole_text (report_lines report) notes n.cells n.outlets (length report.outs)
-
-pub module_is : (p : ProgramTree) (slowdown : ℕ) (instances : List StFuncTree) (times : Times) (n : Circuit) (report : ReportTree) (notes : List NoteTree) (text : List ℕ) → HaveLaws → IsKnown p slowdown instances times → IsCompiled p slowdown instances n report notes
-    → IsTextOf report n notes text → IsModuleText p slowdown instances text
+pub module_is : (p : ProgramTree) (slowdown : ℕ) (instances : List StFuncTree) (times : Times) (n : Circuit) (report : ReportTree) (notes : List NoteTree) (text : List ℕ) → HaveLaws → IsKnown load_limit p slowdown instances times → IsCompiled p slowdown instances n report notes
+    → IsWritten report n notes text → IsModuleText p slowdown instances text
 module_is p slowdown instances times n report notes text laws k d t =
     let many : ℕ = length report.outs in
     let m : ModuleTree = netlist_module n.cells n.outlets many in

@@ -21,7 +21,7 @@ use Rattle.ae_play.specs.Fits.{CanBeFed, FitBlocks}
 use Rattle.ae_play.specs.Lines.{IsPlayedText, clock_count}
 use Rattle.ae_play.specs.Sums.{ArePlayedSums}
 use Rattle.ae_play.specs.declared.sums.Sums.{Sums}
-use Rattle.ae_compile.specs.Costing.{IsKnown, main_costs}
+use Rattle.ae_compile.specs.Costing.{IsKnown, load_limit, main_costs}
 use Rattle.ae_compile.specs.Compiling.{IsCompiled}
 use Rattle.ae_compile.specs.Playing.{AreProgramBlocks, Shows}
 use Rattle.ae_compile.proofs.Inputs.{circuit_columns}
@@ -38,7 +38,7 @@ pub record HavePlays (n : Circuit) (fill : ℕ) : Type 0 where
   pub begins : AreFirsts n.cells (filled n.cells fill)
 
 module _ (p : ProgramTree) (slowdown fill : ℕ) (instances : List StFuncTree) (times : Times) (n : Circuit) (report : ReportTree) (notes : List NoteTree) (played : Circuit)
-    (laws : HavePlays n fill) (k : IsKnown p slowdown instances times) (d : IsCompiled p slowdown instances n report notes)
+    (laws : HavePlays n fill) (k : IsKnown load_limit p slowdown instances times) (d : IsCompiled p slowdown instances n report notes)
     (same : HasSameRuns (netlist_module n.cells n.outlets (length report.outs)) n) (back : HasSameRuns (netlist_module n.cells n.outlets (length report.outs)) played) where
   abbrev own : ModuleTree
   own = netlist_module n.cells n.outlets (length report.outs)

@@ -1,9 +1,10 @@
 -- The circuit of a program under a slowdown, and what is told of it.
-use Rattle.std.specs.Prelude.{◌≡◌, ℕ, false, List, length, Some, slice_get}
+use Rattle.std.specs.Prelude.{◌≡◌, ℕ, Bool, true, false, List, length, Some, slice_get}
 use Rattle.ae_seq.specs.ProgramTree.{ProgramTree}
 use Rattle.ae_rewrite.specs.StProgramTree.{StFuncTree}
 use Rattle.ae_netlist.specs.Circuit.{Circuit}
 use Rattle.ae_ports.specs.CircuitFor.{IsCircuitFor}
+use Rattle.ae_stall.specs.Stalled.{IsStalled}
 use Rattle.ae_lower.specs.Circuits.{last_of, results_of}
 use Rattle.ae_correct.specs.Laws.{IsLaidOut}
 use Rattle.ae_verilog.specs.Notes.{ArePrinted, NoteTree}
@@ -12,13 +13,13 @@ use Rattle.ae_compile.specs.Costing.{main_costs}
 use Rattle.ae_compile.specs.LineNotes.{AreLineNotes}
 
 -- what is told of a circuit before its module
-abbrev pub report_of : (slowdown : ℕ) → List StFuncTree → StFuncTree → ReportTree
-report_of slowdown instances s = record {
+abbrev pub report_of : (enable : Bool) (slowdown : ℕ) → List StFuncTree → StFuncTree → ReportTree
+report_of enable slowdown instances s = record {
   slowdown = slowdown;
   latency = (main_costs instances).latency;
   muls = (main_costs instances).muls;
   load = (main_costs instances).load;
-  enable = false;
+  enable = enable;
   ins = s.ins;
   outs = results_of s;
 }
@@ -27,8 +28,20 @@ report_of slowdown instances s = record {
 pub record IsCompiled (p : ProgramTree) (slowdown : ℕ) (instances : List StFuncTree) (n : Circuit) (report : ReportTree) (notes : List NoteTree) : Type 0 where
   pub instance : StFuncTree
   pub last : slice_get instances (last_of instances) ≡ Some instance
-  pub reported : report ≡ report_of slowdown instances instance
+  pub reported : report ≡ report_of false slowdown instances instance
   pub laid : IsLaidOut p slowdown report.ins report.outs
   pub circuit : IsCircuitFor p slowdown (main_costs instances) report.ins report.outs n
+  pub noted : AreLineNotes p instance (length n.cells) notes
+  pub printed : ArePrinted notes
+
+-- the same of the circuit with an enable that was made of a circuit for the program
+pub record IsCompiledStalled (p : ProgramTree) (slowdown : ℕ) (instances : List StFuncTree) (n : Circuit) (report : ReportTree) (notes : List NoteTree) : Type 0 where
+  pub instance : StFuncTree
+  pub last : slice_get instances (last_of instances) ≡ Some instance
+  pub reported : report ≡ report_of true slowdown instances instance
+  pub laid : IsLaidOut p slowdown report.ins report.outs
+  pub plain : Circuit
+  pub circuit : IsCircuitFor p slowdown (main_costs instances) report.ins report.outs plain
+  pub stalled : IsStalled plain n
   pub noted : AreLineNotes p instance (length n.cells) notes
   pub printed : ArePrinted notes

@@ -25,10 +25,10 @@ pub record IsScheduled (part : List ℕ) (slowdown : ℕ) (p : ProgramTree) (ins
   pub schedule : IsSchedule p slowdown instances
 
 -- the text is this program, these are the instances of its schedule, and their load is within the limit
-pub record IsCosted (part : List ℕ) (slowdown : ℕ) (p : ProgramTree) (instances : List StFuncTree) : Type 0 where
+pub record IsCosted (limit : ℕ) (part : List ℕ) (slowdown : ℕ) (p : ProgramTree) (instances : List StFuncTree) : Type 0 where
   pub typed : IsTyped part p
   pub schedule : IsSchedule p slowdown instances
-  pub within : too_large load_limit instances ≡ None
+  pub within : too_large limit instances ≡ None
 
 -- the text is a program without a schedule: the line has no layout
 pub record HasNoSchedule (part : List ℕ) (slowdown line : ℕ) : Type 0 where
@@ -37,37 +37,37 @@ pub record HasNoSchedule (part : List ℕ) (slowdown line : ℕ) : Type 0 where
   pub failing : failing_line program slowdown ≡ Some line
 
 -- the sum of its loads passes the limit at the line
-pub record HasLargeLoad (part : List ℕ) (slowdown line : ℕ) : Type 0 where
+pub record HasLargeLoad (limit : ℕ) (part : List ℕ) (slowdown line : ℕ) : Type 0 where
   pub program : ProgramTree
   pub typed : IsTyped part program
   pub instances : List StFuncTree
   pub schedule : IsSchedule program slowdown instances
   pub load : ℕ
-  pub large : too_large load_limit instances ≡ Some (record { line = line; load = load })
+  pub large : too_large limit instances ≡ Some (record { line = line; load = load })
 
 -- the program has a schedule, and the load of each is within the limit
-pub record HasCosts (part : List ℕ) (slowdown : ℕ) : Type 0 where
+pub record HasCosts (limit : ℕ) (part : List ℕ) (slowdown : ℕ) : Type 0 where
   pub program : ProgramTree
   pub typed : IsTyped part program
   pub fine : failing_line program slowdown ≡ None
-  pub within : (instances : List StFuncTree) → IsSchedule program slowdown instances → too_large load_limit instances ≡ None
+  pub within : (instances : List StFuncTree) → IsSchedule program slowdown instances → too_large limit instances ≡ None
 
 -- a line is refused as in any program, or for its layout, or for the load up to it; want of memory says nothing
-abbrev pub IsCostFault : (part : List ℕ) (slowdown : ℕ) → CompileFault → Type 0
-IsCostFault part slowdown (NoSchedule line) = HasNoSchedule part slowdown line
-IsCostFault part slowdown (TooLarge line) = IsTypedFault part (TooLarge line) ⊎ HasLargeLoad part slowdown line
-IsCostFault part slowdown fault = IsTypedFault part fault
+abbrev pub IsCostFault : (limit : ℕ) (part : List ℕ) (slowdown : ℕ) → CompileFault → Type 0
+IsCostFault limit part slowdown (NoSchedule line) = HasNoSchedule part slowdown line
+IsCostFault limit part slowdown (TooLarge line) = IsTypedFault part (TooLarge line) ⊎ HasLargeLoad limit part slowdown line
+IsCostFault limit part slowdown fault = IsTypedFault part fault
 
 -- what the program function costs
 abbrev pub main_costs : List StFuncTree → OwnCosts
 main_costs instances = instance_costs instances (last_of instances)
 
--- a typed program with the schedule under its slowdown, and the times of that, within the limit of load
-pub record IsKnown (p : ProgramTree) (slowdown : ℕ) (instances : List StFuncTree) (times : Times) : Type 0 where
+-- a typed program with the schedule under its slowdown, and the times of that, within a limit of load
+pub record IsKnown (limit : ℕ) (p : ProgramTree) (slowdown : ℕ) (instances : List StFuncTree) (times : Times) : Type 0 where
   pub some : 0 < slowdown
   pub most : slowdown ≤ 4096
   pub typed : IsTypedTree p
   pub schedule : IsSchedule p slowdown instances
   pub sound : IsSound instances
   pub times_are : AreTimes instances times
-  pub light : (main_costs instances).load ≤ 100000
+  pub light : (main_costs instances).load ≤ limit

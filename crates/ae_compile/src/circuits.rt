@@ -23,7 +23,8 @@ use ae_retime::matching;
 use ae_verilog::{Note, Report};
 use std::alloc::{AllocError, Global};
 
-/// A costed program with its circuit, the report of that, and a note for each line of the program function.
+/// A costed program with its circuit, or that with an enable, the report of that, and a note for each line of the program
+/// function.
 #[derive(Drop)]
 pub struct Compiled {
     pub costed: Costed,
@@ -32,10 +33,10 @@ pub struct Compiled {
     pub notes: Vec<Note>,
 }
 
-// What is told of a circuit.
-fn report(alloc: Global, costed: &Costed) -> Result<Report, AllocError>
+// What is told of a circuit, with or without an enable.
+pub fn report(alloc: Global, costed: &Costed, enable: bool) -> Result<Report, AllocError>
     requires { IsCostedProgram costed.now }
-    ensures { IfOk result (λ r. (s : Tree) → slice_get (st_func_trees costed.now.schedule) (last_of (st_func_trees costed.now.schedule)) ≡ Some s → report_tree r ≡ report_of costed.now.slowdown (st_func_trees costed.now.schedule) s) }
+    ensures { IfOk result (λ r. (s : Tree) → slice_get (st_func_trees costed.now.schedule) (last_of (st_func_trees costed.now.schedule)) ≡ Some s → report_tree r ≡ report_of enable costed.now.slowdown (st_func_trees costed.now.schedule) s) }
 {
     let s = main_instance(&costed.schedule);
     Ok(Report {
@@ -43,14 +44,14 @@ fn report(alloc: Global, costed: &Costed) -> Result<Report, AllocError>
         latency: costed.timing.latency(),
         muls: costed.timing.muls(),
         load: costed.timing.load(),
-        enable: false,
+        enable,
         ins: input_layouts(alloc, s)?,
         outs: output_layouts(alloc, s)?,
     })
 }
 
 // The circuit, and where the cells of the lines begin.
-fn circuit(alloc: Global, costed: &Costed) -> Result<Lowered, AllocError>
+pub fn circuit(alloc: Global, costed: &Costed) -> Result<Lowered, AllocError>
     requires { IsCostedProgram costed.now }
     ensures circuit { IfOk result (λ l. (s : Tree) → slice_get (st_func_trees costed.now.schedule) (last_of (st_func_trees costed.now.schedule)) ≡ Some s → IsCircuitOf (st_func_trees costed.now.schedule) s l.netlist) }
     ensures marks { IfOk result (λ l. (s : Tree) → slice_get (st_func_trees costed.now.schedule) (last_of (st_func_trees costed.now.schedule)) ≡ Some s → AreMarks (length l.netlist.cells) (length s.nodes) l.marks.items) }
@@ -61,7 +62,7 @@ fn circuit(alloc: Global, costed: &Costed) -> Result<Lowered, AllocError>
 }
 
 // What is told of the cells of the lines, by the numbers of the cells before them.
-fn notes(alloc: Global, costed: &Costed, marks: &[u32]) -> Result<Vec<Note>, AllocError>
+pub fn notes(alloc: Global, costed: &Costed, marks: &[u32]) -> Result<Vec<Note>, AllocError>
     requires costed { IsCostedProgram costed.now }
     requires marks { (s : Tree) → slice_get (st_func_trees costed.now.schedule) (last_of (st_func_trees costed.now.schedule)) ≡ Some s → length marks.now ≡ length s.nodes }
     ensures are { IfOk result (λ v. (s : Tree) (f : FuncTree) → slice_get (st_func_trees costed.now.schedule) (last_of (st_func_trees costed.now.schedule)) ≡ Some s
@@ -82,7 +83,7 @@ pub fn compile(alloc: Global, costed: Costed) -> Result<Compiled, AllocError>
     ensures compiled { IfOk result IsCompiledProgram }
 {
     circuits_are_for();
-    let report = report(alloc, &costed)?;
+    let report = report(alloc, &costed, false)?;
     let lowered = circuit(alloc, &costed)?;
     let notes = notes(alloc, &costed, &lowered.marks)?;
     Ok(Compiled {

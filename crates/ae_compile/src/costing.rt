@@ -6,15 +6,22 @@ ghost use Rattle.ae_seq.specs.Formed.{formed};
 ghost use Rattle.ae_rewrite.specs.Scheduled.{IsSchedule};
 ghost use Rattle.ae_rewrite.specs.StProgramTree.{st_func_tree, st_func_trees};
 ghost use Rattle.ae_rewrite.specs.Interface.{main_of};
+ghost use Rattle.ae_delay.specs.Costs.{too_large};
 ghost use Rattle.ae_delay.specs.Timings.{AreTimes};
-ghost use Rattle.ae_compile.specs.Costing.{IsScheduled, IsCosted, IsCostFault, IsKnown};
+ghost use Rattle.ae_compile.specs.Costing.{IsScheduled, IsCosted, IsCostFault, IsKnown, load_limit};
 
 use crate::faults::CompileFault;
 use crate::typing::typed;
-use ae_delay::{DelayFault, Timing, arrivals};
+use ae_delay::{DelayFault, Timing, arrivals_within};
 use ae_rewrite::{PlanFault, StFunc, StProgram, schedule};
 use ae_seq::{Func, Typed};
 use std::alloc::Global;
+
+/// The greatest load of a circuit.
+pub const LOAD_LIMIT: u32 = 100_000;
+
+/// The greatest load of a circuit that gets an enable.
+pub const STALL_LIMIT: u32 = 50_000;
 
 /// A program with its schedule under a slowdown, and what that costs.
 #[derive(Drop)]
@@ -30,7 +37,7 @@ fn scheduled(alloc: Global, part: &[u8], slowdown: u32) -> Result<(Typed, StProg
     requires some { 0 < slowdown }
     requires limit { slowdown ≤ 4096 }
     ensures scheduled { IfOk result (λ x. IsScheduled part.now slowdown (program_tree x.0) (st_func_trees x.1)) }
-    ensures refused { IfErr result (λ f. IsCostFault part.now slowdown f) }
+    ensures refused { IfErr result (λ f. (limit : ℕ) → IsCostFault limit part.now slowdown f) }
 {
     let program = typed(alloc, part)?;
     match schedule(alloc, &program, slowdown) {
@@ -47,7 +54,7 @@ fn known(slowdown: u32, program: Typed, schedule: StProgram, timing: Timing) -> 
     requires schedule { IsSchedule (program_tree program) slowdown (st_func_trees schedule) }
     requires times { AreTimes (st_func_trees schedule) timing }
     ensures is { result ≡ record { slowdown = slowdown; program = program; schedule = schedule; timing = timing } }
-    ensures known { IsKnown (program_tree program) slowdown (st_func_trees schedule) timing }
+    ensures known { (load : ℕ) → too_large load (st_func_trees schedule) ≡ None → IsKnown load (program_tree program) slowdown (st_func_trees schedule) timing }
 {
     let _program = program.program();
     let _count = schedule.count();
@@ -61,19 +68,21 @@ fn known(slowdown: u32, program: Typed, schedule: StProgram, timing: Timing) -> 
 }
 
 /// The program of a text with its schedule under a slowdown of 1 to 4,096, and the costs of that (docs/COSTS.md); or why it
-/// has none: its first bad line, the first line without a type or past a limit, the first line without a layout, or the
-/// first line at which the load passes 100,000. `Memory` comes only for want of memory.
-pub fn cost(alloc: Global, part: &[u8], slowdown: u32) -> Result<Costed, CompileFault>
+/// has none: its first bad line, the first line without a type or past a limit of types, the first line without a layout, or
+/// the first line at which the load passes the limit handed in, of at most `LOAD_LIMIT`. `Memory` comes only for want of
+/// memory.
+pub fn cost(alloc: Global, part: &[u8], slowdown: u32, limit: u32) -> Result<Costed, CompileFault>
     requires part { length part.now < 4294967295 }
     requires some { 0 < slowdown }
-    requires limit { slowdown ≤ 4096 }
-    ensures costed { IfOk result (λ c. IsCosted part.now slowdown (program_tree c.program) (st_func_trees c.schedule)) }
+    requires most { slowdown ≤ 4096 }
+    requires limit { limit ≤ load_limit }
+    ensures costed { IfOk result (λ c. IsCosted limit part.now slowdown (program_tree c.program) (st_func_trees c.schedule)) }
     ensures slowdown { IfOk result (λ c. c.slowdown ≡ slowdown) }
-    ensures known { IfOk result (λ c. IsKnown (program_tree c.program) c.slowdown (st_func_trees c.schedule) c.timing) }
-    ensures refused { IfErr result (λ f. IsCostFault part.now slowdown f) }
+    ensures known { IfOk result (λ c. IsKnown limit (program_tree c.program) c.slowdown (st_func_trees c.schedule) c.timing) }
+    ensures refused { IfErr result (λ f. IsCostFault limit part.now slowdown f) }
 {
     let (program, schedule) = scheduled(alloc, part, slowdown)?;
-    match arrivals(alloc, &schedule) {
+    match arrivals_within(alloc, &schedule, limit) {
         Ok(timing) => Ok(known(slowdown, program, schedule, timing)),
         Err(DelayFault::Large { line, load: _ }) => Err(CompileFault::TooLarge { line }),
         Err(DelayFault::Memory) => Err(CompileFault::Memory),

@@ -9,13 +9,15 @@ mod layouts;
 mod notes;
 mod playing;
 mod read_back;
+mod stalling;
 mod texts;
 mod typing;
 
 pub use circuits::{Compiled, compile};
-pub use costing::{Costed, cost, main_func, main_instance};
+pub use costing::{Costed, LOAD_LIMIT, STALL_LIMIT, cost, main_func, main_instance};
 pub use faults::{CompileFault, OutOfMemory};
 pub use layouts::output_layouts;
 pub use playing::play;
-pub use texts::module_text;
+pub use stalling::compile_stalled;
+pub use texts::{module_text, stalled_text};
 pub use typing::typed;

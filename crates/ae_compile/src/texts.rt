@@ -1,20 +1,34 @@
 // The text of a program's module.
 
-ghost use Rattle.std.specs.Prelude.{◌<◌, ◌^◌, IfOk, length, string_bytes};
+ghost use Rattle.std.specs.Prelude.{◌<◌, ◌^◌, IfOk, length, map, string_bytes};
 ghost use Rattle.ae_seq.specs.ProgramTree.{program_tree};
 ghost use Rattle.ae_rewrite.specs.StProgramTree.{st_func_trees};
 ghost use Rattle.ae_vread.specs.Spells.{Spells};
 ghost use Rattle.ae_verilog.specs.NetlistModule.{netlist_module};
+ghost use Rattle.ae_verilog.specs.Notes.{ArePrinted, note_tree};
 ghost use Rattle.ae_verilog.specs.ReportLines.{report_tree};
-ghost use Rattle.ae_compile.specs.Building.{IsModuleText};
-ghost use Rattle.ae_compile.specs.Passes.{IsCompiledProgram};
+ghost use Rattle.ae_compile.specs.Building.{IsModuleText, IsStalledText, IsWritten};
+ghost use Rattle.ae_compile.specs.Passes.{IsCompiledProgram, IsStalledProgram};
 
 use crate::circuits::Compiled;
 use crate::faults::OutOfMemory;
 use ae_correct::{circuits_are_correct, circuits_are_writable};
 use ae_elab::one_run;
+use ae_stalled::{stalled_circuits_are_correct, stalled_circuits_are_writable};
 use ae_verilog::{module_keeps, spelled_once, write_module};
 use std::alloc::Global;
+
+// The text of a circuit, if it has fewer than 2 to the 32 bytes.
+fn written(alloc: Global, compiled: &Compiled) -> Result<String, OutOfMemory>
+    requires { ArePrinted (map note_tree compiled.now.notes.items) }
+    ensures { IfOk result (λ text. IsWritten (report_tree compiled.now.report) compiled.now.netlist (map note_tree compiled.now.notes.items) (string_bytes text)) }
+{
+    let text = write_module(alloc, &compiled.netlist, &compiled.report, &compiled.notes)?;
+    if text.len() > 4_294_967_295 {
+        return Err(OutOfMemory);
+    }
+    Ok(text)
+}
 
 /// The text of a compiled program: its report lines, and then the listing of its circuit with its notes, and nothing else. It
 /// spells exactly one Verilog module, which is well formed and correct for the program, at the slowdown and with the
@@ -30,9 +44,22 @@ pub fn module_text(alloc: Global, compiled: &Compiled) -> Result<String, OutOfMe
     module_keeps();
     one_run();
     spelled_once();
-    let text = write_module(alloc, &compiled.netlist, &compiled.report, &compiled.notes)?;
-    if text.len() > 4_294_967_295 {
-        return Err(OutOfMemory);
-    }
+    let text = written(alloc, compiled)?;
+    Ok(text)
+}
+
+/// The same of a compiled program with an enable: the module is correct for the program in the clocks in which its input `en`
+/// is 1.
+pub fn stalled_text(alloc: Global, compiled: &Compiled) -> Result<String, OutOfMemory>
+    requires { IsStalledProgram compiled.now }
+    ensures { IfOk result (λ text. IsStalledText (program_tree compiled.now.costed.program) compiled.now.costed.slowdown (st_func_trees compiled.now.costed.schedule) (string_bytes text)) }
+{
+    circuits_are_writable();
+    stalled_circuits_are_writable();
+    stalled_circuits_are_correct();
+    module_keeps();
+    one_run();
+    spelled_once();
+    let text = written(alloc, compiled)?;
     Ok(text)
 }

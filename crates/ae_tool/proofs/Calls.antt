@@ -7,7 +7,7 @@ use Rattle.ae_io.specs.Transfer.{TakesAll}
 use Rattle.ae_tool.specs.declared.status.Status.{Status}
 use Rattle.ae_tool.specs.declared.status.Status.TheVariants.{Ok, Usage, BadLine, BadType, TooLarge, NoSchedule, BadWords, BadModule, LongRun, ReadFault, WriteFault, TooLong, Memory}
 use Rattle.ae_tool.specs.declared.command.Command.{Command}
-use Rattle.ae_tool.specs.declared.command.Command.TheVariants.{Check, Eval, Plan, Cost, Build, Run, Sim, Demo}
+use Rattle.ae_tool.specs.declared.command.Command.TheVariants.{Check, Eval, Plan, Cost, Build, Stall, Run, Sim, Demo}
 use Rattle.ae_tool.specs.Commands.{IsCommand, NamesNone, TakesInput}
 use Rattle.ae_tool.specs.Refusals.{refusal_line}
 use Rattle.ae_tool.specs.Outcomes.{input_limit, IsAnswer, IsDone, IsOutcome, is_settled, HasOutcome, MayBeWritten, HasPart, LeavesRest, LeavesInput, RefusesWords, IsAccepted}
@@ -32,6 +32,7 @@ answer_of Eval bytes status text reads few d = (few, d)
 answer_of (Plan slowdown) bytes status text reads few d = (few, d)
 answer_of (Cost slowdown) bytes status text reads few d = (few, d)
 answer_of (Build slowdown) bytes status text reads few d = (few, d)
+answer_of (Stall slowdown) bytes status text reads few d = (few, d)
 answer_of (Run slowdown fill) bytes status text reads few d = (few, d)
 answer_of (Sim fill) bytes status text reads few d = (few, d)
 answer_of (Demo size) bytes status text reads few d = absurd reads
@@ -314,6 +315,7 @@ leaves_of Eval status left left' reads h = h
 leaves_of (Plan slowdown) status left left' reads h = h
 leaves_of (Cost slowdown) status left left' reads h = h
 leaves_of (Build slowdown) status left left' reads h = h
+leaves_of (Stall slowdown) status left left' reads h = h
 leaves_of (Run slowdown fill) status left left' reads h = h
 leaves_of (Sim fill) status left left' reads h = h
 leaves_of (Demo size) status left left' reads h = absurd reads

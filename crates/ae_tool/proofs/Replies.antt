@@ -13,11 +13,12 @@ use Rattle.ae_seq.specs.ProgramTree.{ProgramTree}
 use Rattle.ae_tool.specs.declared.status.Status.{Status}
 use Rattle.ae_tool.specs.declared.status.Status.TheVariants.{Ok, Usage, BadLine, BadType, TooLarge, NoSchedule, BadWords, BadModule, LongRun, ReadFault, WriteFault, TooLong, Memory}
 use Rattle.ae_tool.specs.declared.command.Command.{Command}
-use Rattle.ae_tool.specs.declared.command.Command.TheVariants.{Check, Eval, Plan, Cost, Build, Run, Sim, Demo}
+use Rattle.ae_tool.specs.declared.command.Command.TheVariants.{Check, Eval, Plan, Cost, Build, Stall, Run, Sim, Demo}
 use Rattle.ae_tool.specs.Commands.{IsCommand}
 use Rattle.ae_tool.specs.Inputs.{IsCut, Marked, Unmarked}
 use Rattle.ae_tool.specs.RunTexts.{input_widths, run_size, run_limit, IsRunOf, IsRun, Unbuilt, Played}
-use Rattle.ae_compile.specs.Building.{IsBuiltText}
+use Rattle.ae_stalled.specs.Laws.{stall_limit}
+use Rattle.ae_compile.specs.Building.{IsBuiltStalled, IsBuiltText}
 use Rattle.ae_compile.specs.Costing.{main_costs}
 use Rattle.ae_seq.specs.Typing.{refused_line as refused_line_of}
 use Rattle.ae_parse.specs.Grammar.{IsProgramText as Reads, program, refused_line}
@@ -29,7 +30,7 @@ use Rattle.ae_rewrite.specs.FailingLine.{failing_line}
 use Rattle.ae_delay.specs.Weighing.{cost_of}
 use Rattle.ae_tool.specs.PlanTexts.{plan_text}
 use Rattle.ae_tool.specs.CostTables.{cost_table}
-use Rattle.ae_compile.specs.Costing.{HasCosts, HasLargeLoad}
+use Rattle.ae_compile.specs.Costing.{HasCosts, HasLargeLoad, load_limit}
 use Rattle.ae_tool.specs.Schedules.{IsAnswered, IsCostRefusal, IsCostText}
 use Rattle.ae_tool.specs.EvalTexts.{eval_size, IsEvalOf}
 use Rattle.ae_tool.specs.Outcomes.{IsChecked, IsEvaluated, Refused, Ran, IsReply, IsDone, HasResult, HasShortRun, IsAccepted}
@@ -116,35 +117,35 @@ evaluated_replies : (part : List ℕ) (table : List (List (List ℕ))) (status :
 evaluated_replies part table status text (Refused r e) = refusal_replies part status r
 evaluated_replies part table status text (Ran p t r) = eval_replies p table status text r
 
-cost_refusal_replies : (part : List ℕ) (slowdown : ℕ) (status : Status) → IsCostRefusal part slowdown status → is_reply status ≡ true
-cost_refusal_replies part slowdown Ok b = absurd b
-cost_refusal_replies part slowdown (NoSchedule line) b = refl
-cost_refusal_replies part slowdown (TooLarge line) b = refl
-cost_refusal_replies part slowdown Usage b = refusal_replies part Usage b
-cost_refusal_replies part slowdown (BadLine line) b = refusal_replies part (BadLine line) b
-cost_refusal_replies part slowdown (BadType line) b = refusal_replies part (BadType line) b
-cost_refusal_replies part slowdown (BadWords row column) b = refusal_replies part (BadWords row column) b
-cost_refusal_replies part slowdown (BadModule fault) b = refusal_replies part (BadModule fault) b
-cost_refusal_replies part slowdown (LongRun size) b = refusal_replies part (LongRun size) b
-cost_refusal_replies part slowdown ReadFault b = refusal_replies part ReadFault b
-cost_refusal_replies part slowdown WriteFault b = refusal_replies part WriteFault b
-cost_refusal_replies part slowdown TooLong b = refusal_replies part TooLong b
-cost_refusal_replies part slowdown Memory b = refusal_replies part Memory b
+cost_refusal_replies : (limit : ℕ) (part : List ℕ) (slowdown : ℕ) (status : Status) → IsCostRefusal limit part slowdown status → is_reply status ≡ true
+cost_refusal_replies limit part slowdown Ok b = absurd b
+cost_refusal_replies limit part slowdown (NoSchedule line) b = refl
+cost_refusal_replies limit part slowdown (TooLarge line) b = refl
+cost_refusal_replies limit part slowdown Usage b = refusal_replies part Usage b
+cost_refusal_replies limit part slowdown (BadLine line) b = refusal_replies part (BadLine line) b
+cost_refusal_replies limit part slowdown (BadType line) b = refusal_replies part (BadType line) b
+cost_refusal_replies limit part slowdown (BadWords row column) b = refusal_replies part (BadWords row column) b
+cost_refusal_replies limit part slowdown (BadModule fault) b = refusal_replies part (BadModule fault) b
+cost_refusal_replies limit part slowdown (LongRun size) b = refusal_replies part (LongRun size) b
+cost_refusal_replies limit part slowdown ReadFault b = refusal_replies part ReadFault b
+cost_refusal_replies limit part slowdown WriteFault b = refusal_replies part WriteFault b
+cost_refusal_replies limit part slowdown TooLong b = refusal_replies part TooLong b
+cost_refusal_replies limit part slowdown Memory b = refusal_replies part Memory b
 
-answered_replies : (IsRight : List ℕ → Type 0) (part : List ℕ) (slowdown : ℕ) (status : Status) (text : List ℕ) → IsAnswered IsRight part slowdown status text → is_reply status ≡ true
-answered_replies IsRight part slowdown Ok text b = refl
-answered_replies IsRight part slowdown (NoSchedule line) text b = cost_refusal_replies part slowdown (NoSchedule line) b.0
-answered_replies IsRight part slowdown (TooLarge line) text b = cost_refusal_replies part slowdown (TooLarge line) b.0
-answered_replies IsRight part slowdown Usage text b = cost_refusal_replies part slowdown Usage b.0
-answered_replies IsRight part slowdown (BadLine line) text b = cost_refusal_replies part slowdown (BadLine line) b.0
-answered_replies IsRight part slowdown (BadType line) text b = cost_refusal_replies part slowdown (BadType line) b.0
-answered_replies IsRight part slowdown (BadWords row column) text b = cost_refusal_replies part slowdown (BadWords row column) b.0
-answered_replies IsRight part slowdown (BadModule fault) text b = cost_refusal_replies part slowdown (BadModule fault) b.0
-answered_replies IsRight part slowdown (LongRun size) text b = cost_refusal_replies part slowdown (LongRun size) b.0
-answered_replies IsRight part slowdown ReadFault text b = cost_refusal_replies part slowdown ReadFault b.0
-answered_replies IsRight part slowdown WriteFault text b = cost_refusal_replies part slowdown WriteFault b.0
-answered_replies IsRight part slowdown TooLong text b = cost_refusal_replies part slowdown TooLong b.0
-answered_replies IsRight part slowdown Memory text b = cost_refusal_replies part slowdown Memory b.0
+answered_replies : (limit : ℕ) (IsRight : List ℕ → Type 0) (part : List ℕ) (slowdown : ℕ) (status : Status) (text : List ℕ) → IsAnswered limit IsRight part slowdown status text → is_reply status ≡ true
+answered_replies limit IsRight part slowdown Ok text b = refl
+answered_replies limit IsRight part slowdown (NoSchedule line) text b = cost_refusal_replies limit part slowdown (NoSchedule line) b.0
+answered_replies limit IsRight part slowdown (TooLarge line) text b = cost_refusal_replies limit part slowdown (TooLarge line) b.0
+answered_replies limit IsRight part slowdown Usage text b = cost_refusal_replies limit part slowdown Usage b.0
+answered_replies limit IsRight part slowdown (BadLine line) text b = cost_refusal_replies limit part slowdown (BadLine line) b.0
+answered_replies limit IsRight part slowdown (BadType line) text b = cost_refusal_replies limit part slowdown (BadType line) b.0
+answered_replies limit IsRight part slowdown (BadWords row column) text b = cost_refusal_replies limit part slowdown (BadWords row column) b.0
+answered_replies limit IsRight part slowdown (BadModule fault) text b = cost_refusal_replies limit part slowdown (BadModule fault) b.0
+answered_replies limit IsRight part slowdown (LongRun size) text b = cost_refusal_replies limit part slowdown (LongRun size) b.0
+answered_replies limit IsRight part slowdown ReadFault text b = cost_refusal_replies limit part slowdown ReadFault b.0
+answered_replies limit IsRight part slowdown WriteFault text b = cost_refusal_replies limit part slowdown WriteFault b.0
+answered_replies limit IsRight part slowdown TooLong text b = cost_refusal_replies limit part slowdown TooLong b.0
+answered_replies limit IsRight part slowdown Memory text b = cost_refusal_replies limit part slowdown Memory b.0
 
 run_of_replies : (fill : ℕ) (p : ProgramTree) (slowdown : ℕ) (instances : List StFuncTree) (table : List (List (List ℕ))) (status : Status) (text : List ℕ) → IsRunOf fill p slowdown instances table status text → is_reply status ≡ true
 run_of_replies fill p slowdown instances table Ok text b = refl
@@ -162,15 +163,16 @@ run_of_replies fill p slowdown instances table TooLong text b = absurd b
 run_of_replies fill p slowdown instances table Memory text b = absurd b
 
 run_replies : (slowdown fill : ℕ) (part : List ℕ) (table : List (List (List ℕ))) (status : Status) (text : List ℕ) → IsRun slowdown fill part table status text → is_reply status ≡ true
-run_replies slowdown fill part table status text (Unbuilt r e) = cost_refusal_replies part slowdown status r
+run_replies slowdown fill part table status text (Unbuilt r e) = cost_refusal_replies load_limit part slowdown status r
 run_replies slowdown fill part table status text (Played p instances c r) = run_of_replies fill p slowdown instances table status text r
 
 reply_replies : (command : Command) (part : List ℕ) (table : List (List (List ℕ))) (status : Status) (text : List ℕ) → IsReply command part table status text → is_reply status ≡ true
 reply_replies Check part table status text b = checked_replies part status text b
 reply_replies Eval part table status text b = evaluated_replies part table status text b
-reply_replies (Plan slowdown) part table status text b = answered_replies (IsCostText (plan_text slowdown) part slowdown) part slowdown status text b
-reply_replies (Cost slowdown) part table status text b = answered_replies (IsCostText (λ f s ts. cost_table f.nodes (map cost_of ts)) part slowdown) part slowdown status text b
-reply_replies (Build slowdown) part table status text b = answered_replies (IsBuiltText part slowdown) part slowdown status text b
+reply_replies (Plan slowdown) part table status text b = answered_replies load_limit (IsCostText (plan_text slowdown) part slowdown) part slowdown status text b
+reply_replies (Cost slowdown) part table status text b = answered_replies load_limit (IsCostText (λ f s ts. cost_table f.nodes (map cost_of ts)) part slowdown) part slowdown status text b
+reply_replies (Build slowdown) part table status text b = answered_replies load_limit (IsBuiltText part slowdown) part slowdown status text b
+reply_replies (Stall slowdown) part table status text b = answered_replies stall_limit (IsBuiltStalled part slowdown) part slowdown status text b
 reply_replies (Demo size) part table status text b = absurd b
 reply_replies (Run slowdown fill) part table status text b = run_replies slowdown fill part table status text b
 reply_replies (Sim fill) part table status text b = sim_replies fill part table status text b
@@ -184,7 +186,7 @@ done_replies command bytes status text d = reply_replies command d.part d.table 
 abbrev named_by : List (List ℕ) → Command
 named_by [] = Check
 named_by (w ∷ []) = if bytes_eq w (codes "check") then Check else Eval
-named_by (w ∷ a ∷ []) = if bytes_eq w (codes "plan") then Plan (digits_value 10 a) else if bytes_eq w (codes "cost") then Cost (digits_value 10 a) else if bytes_eq w (codes "sim") then Sim (digits_value 10 a) else if bytes_eq w (codes "demo") then Demo (digits_value 10 a) else Build (digits_value 10 a)
+named_by (w ∷ a ∷ []) = if bytes_eq w (codes "plan") then Plan (digits_value 10 a) else if bytes_eq w (codes "cost") then Cost (digits_value 10 a) else if bytes_eq w (codes "sim") then Sim (digits_value 10 a) else if bytes_eq w (codes "demo") then Demo (digits_value 10 a) else if bytes_eq w (codes "stall") then Stall (digits_value 10 a) else Build (digits_value 10 a)
 named_by (w ∷ a ∷ b ∷ ws) = Run (digits_value 10 a) (digits_value 10 b)
 
 named_is : (ws : List (List ℕ)) (c : Command) → IsCommand ws c → named_by ws ≡ c
@@ -193,6 +195,7 @@ named_is ws Eval h = ap named_by h.0
 named_is ws (Plan s) h = ap named_by h.0 ∙ ap (λ n. Plan n) (digits_value-decimal own s (omega (arith, h.1.1)))
 named_is ws (Cost s) h = ap named_by h.0 ∙ ap (λ n. Cost n) (digits_value-decimal own s (omega (arith, h.1.1)))
 named_is ws (Build s) h = ap named_by h.0 ∙ ap (λ n. Build n) (digits_value-decimal own s (omega (arith, h.1.1)))
+named_is ws (Stall s) h = ap named_by h.0 ∙ ap (λ n. Stall n) (digits_value-decimal own s (omega (arith, h.1.1)))
 named_is ws (Demo s) h = ap named_by h.0 ∙ ap (λ n. Demo n) (digits_value-decimal own s (omega (arith, h.1.1)))
 named_is ws (Run s n) h =
     ap named_by h.0 ∙ ap (λ k. Run k (digits_value 10 (decimal n))) (digits_value-decimal own s (omega (arith, h.1.0.1))) ∙ ap (λ k. Run s k) (digits_value-decimal own n h.1.1)
@@ -345,46 +348,46 @@ evaluated_ok part table status text p t f (Ran q u r) =
     let g : EvalFits q table = subst (λ (x : ProgramTree). EvalFits x table) (one_program part p q t.reads u.reads) f in
     eval_of_ok q table status text g.right g.short r
 
-costs_within : {A : Type 0} (part : List ℕ) (slowdown line : ℕ) → HasCosts part slowdown → HasLargeLoad part slowdown line → A
-costs_within part slowdown line h l =
+costs_within : {A : Type 0} (limit : ℕ) (part : List ℕ) (slowdown line : ℕ) → HasCosts limit part slowdown → HasLargeLoad limit part slowdown line → A
+costs_within limit part slowdown line h l =
     let P : ProgramTree → Type 0 = λ q. IsSchedule q slowdown l.instances in
     let e : None ≡ Some _ = sym (h.within l.instances (subst P (one_program part l.program h.program l.typed.reads h.typed.reads) l.schedule)) ∙ l.large in
     cc
 
-never_cost_refused : {A : Type 0} (part : List ℕ) (slowdown : ℕ) (status : Status) → HasCosts part slowdown → IsCostRefusal part slowdown status → A
-never_cost_refused part slowdown (NoSchedule line) h b =
+never_cost_refused : {A : Type 0} (limit : ℕ) (part : List ℕ) (slowdown : ℕ) (status : Status) → HasCosts limit part slowdown → IsCostRefusal limit part slowdown status → A
+never_cost_refused limit part slowdown (NoSchedule line) h b =
     let e : None ≡ Some line = sym h.fine ∙ ap (λ q. failing_line q slowdown) (one_program part h.program b.program h.typed.reads b.typed.reads) ∙ b.failing in
     cc
-never_cost_refused part slowdown (TooLarge line) h b = elim b [
+never_cost_refused limit part slowdown (TooLarge line) h b = elim b [
   | inl r ↦ never_refused part h.program (TooLarge line) h.typed r
-  | inr l ↦ costs_within part slowdown line h l
+  | inr l ↦ costs_within limit part slowdown line h l
 ]
-never_cost_refused part slowdown Ok h b = absurd b
-never_cost_refused part slowdown Usage h b = never_refused part h.program Usage h.typed b
-never_cost_refused part slowdown (BadLine line) h b = never_refused part h.program (BadLine line) h.typed b
-never_cost_refused part slowdown (BadType line) h b = never_refused part h.program (BadType line) h.typed b
-never_cost_refused part slowdown (BadWords row column) h b = never_refused part h.program (BadWords row column) h.typed b
-never_cost_refused part slowdown (BadModule fault) h b = never_refused part h.program (BadModule fault) h.typed b
-never_cost_refused part slowdown (LongRun size) h b = never_refused part h.program (LongRun size) h.typed b
-never_cost_refused part slowdown ReadFault h b = never_refused part h.program ReadFault h.typed b
-never_cost_refused part slowdown WriteFault h b = never_refused part h.program WriteFault h.typed b
-never_cost_refused part slowdown TooLong h b = never_refused part h.program TooLong h.typed b
-never_cost_refused part slowdown Memory h b = never_refused part h.program Memory h.typed b
+never_cost_refused limit part slowdown Ok h b = absurd b
+never_cost_refused limit part slowdown Usage h b = never_refused part h.program Usage h.typed b
+never_cost_refused limit part slowdown (BadLine line) h b = never_refused part h.program (BadLine line) h.typed b
+never_cost_refused limit part slowdown (BadType line) h b = never_refused part h.program (BadType line) h.typed b
+never_cost_refused limit part slowdown (BadWords row column) h b = never_refused part h.program (BadWords row column) h.typed b
+never_cost_refused limit part slowdown (BadModule fault) h b = never_refused part h.program (BadModule fault) h.typed b
+never_cost_refused limit part slowdown (LongRun size) h b = never_refused part h.program (LongRun size) h.typed b
+never_cost_refused limit part slowdown ReadFault h b = never_refused part h.program ReadFault h.typed b
+never_cost_refused limit part slowdown WriteFault h b = never_refused part h.program WriteFault h.typed b
+never_cost_refused limit part slowdown TooLong h b = never_refused part h.program TooLong h.typed b
+never_cost_refused limit part slowdown Memory h b = never_refused part h.program Memory h.typed b
 
-answered_ok : (IsRight : List ℕ → Type 0) (part : List ℕ) (slowdown : ℕ) (status : Status) (text : List ℕ) → HasCosts part slowdown → IsAnswered IsRight part slowdown status text → status ≡ Ok
-answered_ok IsRight part slowdown Ok text h b = refl
-answered_ok IsRight part slowdown Usage text h b = never_cost_refused part slowdown Usage h b.0
-answered_ok IsRight part slowdown (BadLine line) text h b = never_cost_refused part slowdown (BadLine line) h b.0
-answered_ok IsRight part slowdown (BadType line) text h b = never_cost_refused part slowdown (BadType line) h b.0
-answered_ok IsRight part slowdown (TooLarge line) text h b = never_cost_refused part slowdown (TooLarge line) h b.0
-answered_ok IsRight part slowdown (NoSchedule line) text h b = never_cost_refused part slowdown (NoSchedule line) h b.0
-answered_ok IsRight part slowdown (BadWords row column) text h b = never_cost_refused part slowdown (BadWords row column) h b.0
-answered_ok IsRight part slowdown (BadModule fault) text h b = never_cost_refused part slowdown (BadModule fault) h b.0
-answered_ok IsRight part slowdown (LongRun size) text h b = never_cost_refused part slowdown (LongRun size) h b.0
-answered_ok IsRight part slowdown ReadFault text h b = never_cost_refused part slowdown ReadFault h b.0
-answered_ok IsRight part slowdown WriteFault text h b = never_cost_refused part slowdown WriteFault h b.0
-answered_ok IsRight part slowdown TooLong text h b = never_cost_refused part slowdown TooLong h b.0
-answered_ok IsRight part slowdown Memory text h b = never_cost_refused part slowdown Memory h b.0
+answered_ok : (limit : ℕ) (IsRight : List ℕ → Type 0) (part : List ℕ) (slowdown : ℕ) (status : Status) (text : List ℕ) → HasCosts limit part slowdown → IsAnswered limit IsRight part slowdown status text → status ≡ Ok
+answered_ok limit IsRight part slowdown Ok text h b = refl
+answered_ok limit IsRight part slowdown Usage text h b = never_cost_refused limit part slowdown Usage h b.0
+answered_ok limit IsRight part slowdown (BadLine line) text h b = never_cost_refused limit part slowdown (BadLine line) h b.0
+answered_ok limit IsRight part slowdown (BadType line) text h b = never_cost_refused limit part slowdown (BadType line) h b.0
+answered_ok limit IsRight part slowdown (TooLarge line) text h b = never_cost_refused limit part slowdown (TooLarge line) h b.0
+answered_ok limit IsRight part slowdown (NoSchedule line) text h b = never_cost_refused limit part slowdown (NoSchedule line) h b.0
+answered_ok limit IsRight part slowdown (BadWords row column) text h b = never_cost_refused limit part slowdown (BadWords row column) h b.0
+answered_ok limit IsRight part slowdown (BadModule fault) text h b = never_cost_refused limit part slowdown (BadModule fault) h b.0
+answered_ok limit IsRight part slowdown (LongRun size) text h b = never_cost_refused limit part slowdown (LongRun size) h b.0
+answered_ok limit IsRight part slowdown ReadFault text h b = never_cost_refused limit part slowdown ReadFault h b.0
+answered_ok limit IsRight part slowdown WriteFault text h b = never_cost_refused limit part slowdown WriteFault h b.0
+answered_ok limit IsRight part slowdown TooLong text h b = never_cost_refused limit part slowdown TooLong h b.0
+answered_ok limit IsRight part slowdown Memory text h b = never_cost_refused limit part slowdown Memory h b.0
 
 run_of_ok : (fill : ℕ) (p : ProgramTree) (slowdown : ℕ) (instances : List StFuncTree) (table : List (List (List ℕ))) (status : Status) (text : List ℕ) → bad_row 1 (input_widths p) table ≡ None
     → run_size p slowdown (main_costs instances).latency table ≤ run_limit → IsRunOf fill p slowdown instances table status text → status ≡ Ok
@@ -404,7 +407,7 @@ run_of_ok fill p slowdown instances table TooLong text right short b = absurd b
 run_of_ok fill p slowdown instances table Memory text right short b = absurd b
 
 run_ok : (slowdown fill : ℕ) (part : List ℕ) (table : List (List (List ℕ))) (status : Status) (text : List ℕ) → HasShortRun part slowdown table → IsRun slowdown fill part table status text → status ≡ Ok
-run_ok slowdown fill part table status text h (Unbuilt r e) = never_cost_refused part slowdown status h.costs r
+run_ok slowdown fill part table status text h (Unbuilt r e) = never_cost_refused load_limit part slowdown status h.costs r
 run_ok slowdown fill part table status text h (Played p instances c r) =
     let same : h.program ≡ p = one_program part h.program p h.typed.reads c.typed.reads in
     let schedule : IsSchedule h.program slowdown instances = subst (λ (q : ProgramTree). IsSchedule q slowdown instances) (sym same) c.schedule in
@@ -415,9 +418,10 @@ run_ok slowdown fill part table status text h (Played p instances c r) =
 reply_ok : (command : Command) (part : List ℕ) (table : List (List (List ℕ))) (status : Status) (text : List ℕ) → HasResult command part table → IsReply command part table status text → status ≡ Ok
 reply_ok Check part table status text h b = checked_ok part status text h.0 h.1 b
 reply_ok Eval part table status text h b = evaluated_ok part table status text h.0 h.1 (record { right = h.2; short = h.3 }) b
-reply_ok (Plan slowdown) part table status text h b = answered_ok (IsCostText (plan_text slowdown) part slowdown) part slowdown status text h b
-reply_ok (Cost slowdown) part table status text h b = answered_ok (IsCostText (λ f s ts. cost_table f.nodes (map cost_of ts)) part slowdown) part slowdown status text h b
-reply_ok (Build slowdown) part table status text h b = answered_ok (IsBuiltText part slowdown) part slowdown status text h b
+reply_ok (Plan slowdown) part table status text h b = answered_ok load_limit (IsCostText (plan_text slowdown) part slowdown) part slowdown status text h b
+reply_ok (Cost slowdown) part table status text h b = answered_ok load_limit (IsCostText (λ f s ts. cost_table f.nodes (map cost_of ts)) part slowdown) part slowdown status text h b
+reply_ok (Build slowdown) part table status text h b = answered_ok load_limit (IsBuiltText part slowdown) part slowdown status text h b
+reply_ok (Stall slowdown) part table status text h b = answered_ok stall_limit (IsBuiltStalled part slowdown) part slowdown status text h b
 reply_ok (Demo size) part table status text h b = absurd h
 reply_ok (Run slowdown fill) part table status text h b = run_ok slowdown fill part table status text h b
 reply_ok (Sim fill) part table status text h b = sim_complete fill part table status text h b

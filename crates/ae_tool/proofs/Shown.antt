@@ -33,7 +33,7 @@ use Rattle.ae_sttype.specs.Size.{IsInSize}
 use Rattle.ae_play.specs.declared.sums.Sums.{Sums}
 use Rattle.ae_correct.specs.ClockTexts.{AreClockSums, IsClockText}
 use Rattle.ae_compile.specs.Building.{IsModuleText}
-use Rattle.ae_compile.specs.Costing.{IsKnown, main_costs}
+use Rattle.ae_compile.specs.Costing.{IsKnown, load_limit, main_costs}
 use Rattle.ae_compile.specs.Compiling.{IsCompiled, report_of}
 use Rattle.ae_tool.specs.DemoTexts.{IsSummedRun}
 use Rattle.ae_tool.specs.RunTexts.{IsRunText, input_widths}
@@ -86,18 +86,18 @@ blocks_words p ss blocks table ws typed laid a =
 
 -- ---- the layouts that a report tells
 
-pub told_laid : (p : ProgramTree) (slowdown : ℕ) (instances : List StFuncTree) (times : Times) (n : Circuit) (report : ReportTree) (notes : List NoteTree) → IsKnown p slowdown instances times → IsCompiled p slowdown instances n report notes → AllLaidOut (parameter_types p) report.ins
+pub told_laid : (p : ProgramTree) (slowdown : ℕ) (instances : List StFuncTree) (times : Times) (n : Circuit) (report : ReportTree) (notes : List NoteTree) → IsKnown load_limit p slowdown instances times → IsCompiled p slowdown instances n report notes → AllLaidOut (parameter_types p) report.ins
 told_laid p slowdown instances times n report notes k d =
     let m = main_is p slowdown instances d.instance k.schedule k.sound d.last in
     subst (AllLaidOut (parameter_types p)) (sym (ap (λ (r : ReportTree). r.ins) d.reported)) (inputs_laid p (keys_of instances) d.instance k.typed m.is m.last)
 
-pub told_ins : (p : ProgramTree) (slowdown : ℕ) (instances : List StFuncTree) (times : Times) (n : Circuit) (report : ReportTree) (notes : List NoteTree) → IsKnown p slowdown instances times → IsCompiled p slowdown instances n report notes
+pub told_ins : (p : ProgramTree) (slowdown : ℕ) (instances : List StFuncTree) (times : Times) (n : Circuit) (report : ReportTree) (notes : List NoteTree) → IsKnown load_limit p slowdown instances times → IsCompiled p slowdown instances n report notes
     → All (λ (t : StTree). IsInSize t × (time t ≡ slowdown)) report.ins
 told_ins p slowdown instances times n report notes k d =
     subst (All (λ (t : StTree). IsInSize t × (time t ≡ slowdown))) (sym (ap (λ (r : ReportTree). r.ins) d.reported))
     (fill_clocks_in p slowdown instances d.instance (main_is p slowdown instances d.instance k.schedule k.sound d.last))
 
-pub told_outs : (p : ProgramTree) (slowdown : ℕ) (instances : List StFuncTree) (times : Times) (n : Circuit) (report : ReportTree) (notes : List NoteTree) → IsKnown p slowdown instances times → IsCompiled p slowdown instances n report notes
+pub told_outs : (p : ProgramTree) (slowdown : ℕ) (instances : List StFuncTree) (times : Times) (n : Circuit) (report : ReportTree) (notes : List NoteTree) → IsKnown load_limit p slowdown instances times → IsCompiled p slowdown instances n report notes
     → All (λ (t : StTree). IsInSize t × (time t ≡ slowdown)) report.outs
 told_outs p slowdown instances times n report notes k d =
     subst (All (λ (t : StTree). IsInSize t × (time t ≡ slowdown))) (sym (ap (λ (r : ReportTree). r.outs) d.reported))
@@ -105,7 +105,7 @@ told_outs p slowdown instances times n report notes k d =
 
 -- the words that a circuit takes are as many as the rows have
 pub told_words : (p : ProgramTree) (slowdown : ℕ) (instances : List StFuncTree) (times : Times) (n : Circuit) (report : ReportTree) (notes : List NoteTree) (blocks : ℕ) (table : List (List (List ℕ))) (ws : List ℕ)
-    → IsKnown p slowdown instances times → IsCompiled p slowdown instances n report notes → AreBlocks p blocks table ws → length ws ≡ blocks * size_of report.ins
+    → IsKnown load_limit p slowdown instances times → IsCompiled p slowdown instances n report notes → AreBlocks p blocks table ws → length ws ≡ blocks * size_of report.ins
 told_words p slowdown instances times n report notes blocks table ws k d a =
     let size : size_of report.ins ≡ length (input_widths p) = size_laid (parameter_types p) report.ins (told_laid p slowdown instances times n report notes k d) in
     rows_long p (length (input_widths p)) table ws k.typed a.rows ∙ (λ i. sym a.many i * sym size i)

@@ -3,7 +3,7 @@ use Rattle.std.specs.Prelude.{◌≡◌, ℕ, ◌<◌, ◌≤◌, ◌^◌, List,
 use Rattle.std.specs.Fmt.{decimal}
 use Rattle.std.specs.declared.alloc.Global.{Global}
 use Rattle.ae_tool.specs.declared.command.Command.{Command}
-use Rattle.ae_tool.specs.declared.command.Command.TheVariants.{Check, Eval, Plan, Cost, Build, Run, Sim, Demo}
+use Rattle.ae_tool.specs.declared.command.Command.TheVariants.{Check, Eval, Plan, Cost, Build, Stall, Run, Sim, Demo}
 
 -- the bytes of each word
 abbrev pub word_bytes : List (String Global) → List (List ℕ)
@@ -16,6 +16,7 @@ job_word Eval = codes "eval"
 job_word (Plan slowdown) = codes "plan"
 job_word (Cost slowdown) = codes "cost"
 job_word (Build slowdown) = codes "build"
+job_word (Stall slowdown) = codes "stall"
 job_word (Demo size) = codes "demo"
 job_word (Run slowdown fill) = codes "run"
 job_word (Sim fill) = codes "sim"
@@ -26,6 +27,7 @@ number_words Eval = []
 number_words (Plan slowdown) = decimal slowdown ∷ []
 number_words (Cost slowdown) = decimal slowdown ∷ []
 number_words (Build slowdown) = decimal slowdown ∷ []
+number_words (Stall slowdown) = decimal slowdown ∷ []
 number_words (Demo size) = decimal size ∷ []
 number_words (Run slowdown fill) = decimal slowdown ∷ decimal fill ∷ []
 number_words (Sim fill) = decimal fill ∷ []
@@ -43,6 +45,7 @@ abbrev pub AreInRange : Command → Type 0
 AreInRange (Plan slowdown) = IsSlowdown slowdown
 AreInRange (Cost slowdown) = IsSlowdown slowdown
 AreInRange (Build slowdown) = IsSlowdown slowdown
+AreInRange (Stall slowdown) = IsSlowdown slowdown
 AreInRange (Demo size) = IsDemoSize size
 AreInRange (Run slowdown fill) = IsSlowdown slowdown × (fill < 2 ^ 64)
 AreInRange (Sim fill) = fill < 2 ^ 64

@@ -11,7 +11,7 @@ use Rattle.ae_rewrite.specs.Interface.{parameter_types}
 use Rattle.ae_correct.specs.ClockTexts.{AreClockSums}
 use Rattle.ae_tool.specs.Inputs.{blocks_of}
 use Rattle.ae_tool.specs.PlanTexts.{number_line}
-use Rattle.ae_compile.specs.Costing.{IsCosted}
+use Rattle.ae_compile.specs.Costing.{IsCosted, load_limit}
 use Rattle.ae_compile.specs.Building.{IsModuleText}
 use Rattle.ae_compile.specs.Costing.{main_costs}
 
@@ -52,7 +52,7 @@ summary n latency clocks s =
 pub record IsDemoText (n : ℕ) (text : List ℕ) : Type 0 where
   pub program : ProgramTree
   pub instances : List StFuncTree
-  pub costed : IsCosted (demo_program n) (demo_slowdown n) program instances
+  pub costed : IsCosted load_limit (demo_program n) (demo_slowdown n) program instances
   pub built : List ℕ
   pub sums : Sums
   pub run : IsSummedRun 0 program (demo_slowdown n) instances (demo_table n) built sums

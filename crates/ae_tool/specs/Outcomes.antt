@@ -9,17 +9,18 @@ use Rattle.ae_tool.specs.declared.status.Status.{Status}
 use Rattle.ae_tool.specs.declared.status.Status.TheVariants.{Ok, Usage, ReadFault, WriteFault, TooLong, Memory}
 use Rattle.ae_parse.specs.Rows.{bad_row}
 use Rattle.ae_tool.specs.declared.command.Command.{Command}
-use Rattle.ae_tool.specs.declared.command.Command.TheVariants.{Check, Eval, Plan, Cost, Build, Run, Sim, Demo}
+use Rattle.ae_tool.specs.declared.command.Command.TheVariants.{Check, Eval, Plan, Cost, Build, Stall, Run, Sim, Demo}
 use Rattle.ae_tool.specs.Commands.{IsCommand, NamesNone, TakesInput}
 use Rattle.ae_tool.specs.Inputs.{IsCut}
 use Rattle.ae_tool.specs.Refusals.{refusal_line}
-use Rattle.ae_compile.specs.Building.{IsBuiltText}
+use Rattle.ae_stalled.specs.Laws.{stall_limit}
+use Rattle.ae_compile.specs.Building.{IsBuiltStalled, IsBuiltText}
 use Rattle.ae_compile.specs.Costing.{main_costs}
 use Rattle.ae_compile.specs.Programs.{IsTyped}
 use Rattle.ae_tool.specs.Programs.{IsRefusal}
 use Rattle.ae_tool.specs.DemoTexts.{IsDemoText}
 use Rattle.ae_tool.specs.CheckTexts.{check_text}
-use Rattle.ae_compile.specs.Costing.{HasCosts}
+use Rattle.ae_compile.specs.Costing.{HasCosts, load_limit}
 use Rattle.ae_tool.specs.Schedules.{IsAnswered, IsPlanned, IsTabled}
 use Rattle.ae_tool.specs.EvalTexts.{eval_size, IsEvalOf}
 use Rattle.ae_tool.specs.RunTexts.{input_widths, run_size, run_limit, IsRun}
@@ -31,7 +32,11 @@ input_limit = 16777216
 
 -- what `build` answers and writes
 abbrev pub IsBuilt : (part : List ℕ) (slowdown : ℕ) → Status → (text : List ℕ) → Type 0
-IsBuilt part slowdown status text = IsAnswered (IsBuiltText part slowdown) part slowdown status text
+IsBuilt part slowdown status text = IsAnswered load_limit (IsBuiltText part slowdown) part slowdown status text
+
+-- what `stall` answers and writes
+abbrev pub IsStalled : (part : List ℕ) (slowdown : ℕ) → Status → (text : List ℕ) → Type 0
+IsStalled part slowdown status text = IsAnswered stall_limit (IsBuiltStalled part slowdown) part slowdown status text
 
 -- what `check` answers and writes
 abbrev pub IsChecked : (part : List ℕ) → Status → (text : List ℕ) → Type 0
@@ -50,6 +55,7 @@ IsReply Eval part table status text = IsEvaluated part table status text
 IsReply (Plan slowdown) part table status text = IsPlanned part slowdown status text
 IsReply (Cost slowdown) part table status text = IsTabled part slowdown status text
 IsReply (Build slowdown) part table status text = IsBuilt part slowdown status text
+IsReply (Stall slowdown) part table status text = IsStalled part slowdown status text
 IsReply (Demo size) part table status text = ⊥
 IsReply (Run slowdown fill) part table status text = IsRun slowdown fill part table status text
 IsReply (Sim fill) part table status text = IsSimulated fill part table status text
@@ -113,7 +119,7 @@ RefusesWords status old_faults new_faults old_wants new_wants =
 pub record HasShortRun (part : List ℕ) (slowdown : ℕ) (table : List (List (List ℕ))) : Type 0 where
   pub program : ProgramTree
   pub typed : IsTyped part program
-  pub costs : HasCosts part slowdown
+  pub costs : HasCosts load_limit part slowdown
   pub rows : bad_row 1 (input_widths program) table ≡ None
   pub short : (instances : List StFuncTree) → IsSchedule program slowdown instances → run_size program slowdown (main_costs instances).latency table ≤ run_limit
 
@@ -121,9 +127,10 @@ pub record HasShortRun (part : List ℕ) (slowdown : ℕ) (table : List (List (L
 abbrev pub HasResult : Command → (part : List ℕ) (table : List (List (List ℕ))) → Type 0
 HasResult Check part table = (p : ProgramTree) × IsTyped part p
 HasResult Eval part table = (p : ProgramTree) × IsTyped part p × (bad_row 1 (input_widths p) table ≡ None) × (eval_size p table ≤ run_limit)
-HasResult (Plan slowdown) part table = HasCosts part slowdown
-HasResult (Cost slowdown) part table = HasCosts part slowdown
-HasResult (Build slowdown) part table = HasCosts part slowdown
+HasResult (Plan slowdown) part table = HasCosts load_limit part slowdown
+HasResult (Cost slowdown) part table = HasCosts load_limit part slowdown
+HasResult (Build slowdown) part table = HasCosts load_limit part slowdown
+HasResult (Stall slowdown) part table = HasCosts stall_limit part slowdown
 HasResult (Demo size) part table = ⊥
 HasResult (Run slowdown fill) part table = HasShortRun part slowdown table
 HasResult (Sim fill) part table = IsSimulable part table

@@ -14,7 +14,7 @@ use Rattle.ae_tool.specs.declared.status.Status.{Status}
 use Rattle.ae_tool.specs.declared.status.Status.TheVariants.{Ok, BadWords, LongRun}
 use Rattle.ae_tool.specs.Refusals.{refusal_line}
 use Rattle.ae_tool.specs.Inputs.{widths_of, blocks_of}
-use Rattle.ae_compile.specs.Costing.{IsCosted}
+use Rattle.ae_compile.specs.Costing.{IsCosted, load_limit}
 use Rattle.ae_tool.specs.Schedules.{IsCostRefusal}
 use Rattle.ae_compile.specs.Building.{IsModuleText}
 use Rattle.ae_compile.specs.Costing.{main_costs}
@@ -59,5 +59,5 @@ IsRunOf fill p slowdown instances table _ text = ⊥
 
 -- the program's refusals come before those of the rows
 pub data IsRun (slowdown fill : ℕ) (part : List ℕ) (table : List (List (List ℕ))) (status : Status) (text : List ℕ) : Type 0 where
-  Unbuilt : IsCostRefusal part slowdown status → text ≡ refusal_line status → IsRun slowdown fill part table status text
-  Played : (p : ProgramTree) (instances : List StFuncTree) → IsCosted part slowdown p instances → IsRunOf fill p slowdown instances table status text → IsRun slowdown fill part table status text
+  Unbuilt : IsCostRefusal load_limit part slowdown status → text ≡ refusal_line status → IsRun slowdown fill part table status text
+  Played : (p : ProgramTree) (instances : List StFuncTree) → IsCosted load_limit part slowdown p instances → IsRunOf fill p slowdown instances table status text → IsRun slowdown fill part table status text

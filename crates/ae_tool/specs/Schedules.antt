@@ -4,7 +4,7 @@ use Rattle.ae_seq.specs.ProgramTree.{ProgramTree, FuncTree}
 use Rattle.ae_rewrite.specs.StProgramTree.{StFuncTree}
 use Rattle.ae_delay.specs.Costs.{NodeTiming}
 use Rattle.ae_delay.specs.Weighing.{cost_of}
-use Rattle.ae_compile.specs.Costing.{HasLargeLoad, HasNoSchedule, IsCosted}
+use Rattle.ae_compile.specs.Costing.{HasLargeLoad, HasNoSchedule, IsCosted, load_limit}
 use Rattle.ae_compile.specs.Mains.{HasMain}
 use Rattle.ae_tool.specs.declared.status.Status.{Status}
 use Rattle.ae_tool.specs.declared.status.Status.TheVariants.{Ok, TooLarge, NoSchedule}
@@ -14,26 +14,26 @@ use Rattle.ae_tool.specs.PlanTexts.{plan_text}
 use Rattle.ae_tool.specs.CostTables.{cost_table}
 
 -- a line is refused as in any program, or for its layout, or for the load up to it
-abbrev pub IsCostRefusal : (part : List ℕ) (slowdown : ℕ) → Status → Type 0
-IsCostRefusal part slowdown (NoSchedule line) = HasNoSchedule part slowdown line
-IsCostRefusal part slowdown (TooLarge line) = IsRefusal part (TooLarge line) ⊎ HasLargeLoad part slowdown line
-IsCostRefusal part slowdown status = IsRefusal part status
+abbrev pub IsCostRefusal : (limit : ℕ) (part : List ℕ) (slowdown : ℕ) → Status → Type 0
+IsCostRefusal limit part slowdown (NoSchedule line) = HasNoSchedule part slowdown line
+IsCostRefusal limit part slowdown (TooLarge line) = IsRefusal part (TooLarge line) ⊎ HasLargeLoad limit part slowdown line
+IsCostRefusal limit part slowdown status = IsRefusal part status
 
 -- the text of a costed program
 pub record IsCostText (text_of : FuncTree → StFuncTree → List NodeTiming → List ℕ) (part : List ℕ) (slowdown : ℕ) (text : List ℕ) : Type 0 where
   pub program : ProgramTree
   pub instances : List StFuncTree
-  pub costed : IsCosted part slowdown program instances
+  pub costed : IsCosted load_limit part slowdown program instances
   pub written : HasMain program instances (λ f s ts. text ≡ text_of f s ts)
 
 -- what is answered and written, where a text is right or the program is refused
-abbrev pub IsAnswered : (IsRight : List ℕ → Type 0) → (part : List ℕ) (slowdown : ℕ) → Status → (text : List ℕ) → Type 0
-IsAnswered IsRight part slowdown Ok text = IsRight text
-IsAnswered IsRight part slowdown status text = IsCostRefusal part slowdown status × (text ≡ refusal_line status)
+abbrev pub IsAnswered : (limit : ℕ) (IsRight : List ℕ → Type 0) → (part : List ℕ) (slowdown : ℕ) → Status → (text : List ℕ) → Type 0
+IsAnswered limit IsRight part slowdown Ok text = IsRight text
+IsAnswered limit IsRight part slowdown status text = IsCostRefusal limit part slowdown status × (text ≡ refusal_line status)
 
 -- what `plan` and `cost` answer and write
 abbrev pub IsPlanned : (part : List ℕ) (slowdown : ℕ) → Status → (text : List ℕ) → Type 0
-IsPlanned part slowdown status text = IsAnswered (IsCostText (plan_text slowdown) part slowdown) part slowdown status text
+IsPlanned part slowdown status text = IsAnswered load_limit (IsCostText (plan_text slowdown) part slowdown) part slowdown status text
 
 abbrev pub IsTabled : (part : List ℕ) (slowdown : ℕ) → Status → (text : List ℕ) → Type 0
-IsTabled part slowdown status text = IsAnswered (IsCostText (λ f s ts. cost_table f.nodes (map cost_of ts)) part slowdown) part slowdown status text
+IsTabled part slowdown status text = IsAnswered load_limit (IsCostText (λ f s ts. cost_table f.nodes (map cost_of ts)) part slowdown) part slowdown status text

@@ -5,7 +5,7 @@ ghost use Rattle.ae_tool.specs.Outcomes.{IsBuilt};
 
 use crate::reply::{Reply, refused_program};
 use crate::status::Status;
-use ae_compile::{OutOfMemory, compile, cost, module_text};
+use ae_compile::{LOAD_LIMIT, OutOfMemory, compile, cost, module_text};
 use std::alloc::Global;
 
 /// The text of the program's module, or a refusal; without memory there is no reply.
@@ -15,7 +15,7 @@ pub fn build(alloc: Global, part: &[u8], slowdown: u32) -> Result<Reply, OutOfMe
     requires limit { slowdown ≤ 4096 }
     ensures { IfOk result (λ reply. IsBuilt part.now slowdown reply.status (string_bytes reply.text)) }
 {
-    match cost(alloc, part, slowdown) {
+    match cost(alloc, part, slowdown, LOAD_LIMIT) {
         Ok(costed) => {
             let compiled = compile(alloc, costed)?;
             let text = module_text(alloc, &compiled)?;

@@ -20,7 +20,9 @@ pub enum Command {
     Cost { slowdown: u32 },
     /// `build S`: the text of the program's module.
     Build { slowdown: u32 },
-    /// `run S FILL`: that text, and the lines of the module's run on the rows.
+    /// `stall S`: that text with one more input, `en`, which holds the circuit where it is 0.
+    Stall { slowdown: u32 },
+    /// `run S FILL`: the text of `build S`, and the lines of the module's run on the rows.
     Run { slowdown: u32, fill: u64 },
     /// `sim FILL`: the clock lines of the module that a text spells, on the rows.
     Sim { fill: u64 },
@@ -50,6 +52,7 @@ pub fn demo_size(command: Command) -> Option<u32>
         Command::Plan { slowdown: _ } => None,
         Command::Cost { slowdown: _ } => None,
         Command::Build { slowdown: _ } => None,
+        Command::Stall { slowdown: _ } => None,
         Command::Run {
             slowdown: _,
             fill: _,
@@ -75,6 +78,8 @@ fn two_words(job: &str, number: &str) -> Option<Command>
 {
     if job == "build" {
         build(number)
+    } else if job == "stall" {
+        stall(number)
     } else if job == "plan" {
         plan(number)
     } else if job == "cost" {
@@ -93,6 +98,15 @@ fn build(slowdown: &str) -> Option<Command>
 {
     match slowdown_of(slowdown) {
         Some(slowdown) => Some(Command::Build { slowdown }),
+        None => None,
+    }
+}
+
+fn stall(slowdown: &str) -> Option<Command>
+    ensures { MatchOption result (NamesNone (codes "stall" ∷ slowdown.now ∷ [])) (λ c. IsCommand (codes "stall" ∷ slowdown.now ∷ []) c) }
+{
+    match slowdown_of(slowdown) {
+        Some(slowdown) => Some(Command::Stall { slowdown }),
         None => None,
     }
 }

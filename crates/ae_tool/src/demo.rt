@@ -6,13 +6,13 @@ ghost use Rattle.ae_rewrite.specs.StProgramTree.{st_func_trees};
 ghost use Rattle.ae_play.specs.Lines.{clock_count};
 ghost use Rattle.ae_tool.specs.EvalRows.{AreBlocks};
 ghost use Rattle.ae_tool.specs.PlanTexts.{number_line};
-ghost use Rattle.ae_compile.specs.Costing.{IsCosted};
+ghost use Rattle.ae_compile.specs.Costing.{IsCosted, load_limit};
 ghost use Rattle.ae_compile.specs.Passes.{IsCompiledProgram, IsCostedProgram};
 ghost use Rattle.ae_tool.specs.DemoTexts.{IsDemoText, IsSummedRun, demo_blocks, demo_program, demo_slowdown, demo_words, summary};
 
 use crate::run::clock_count;
 use crate::widths::input_widths;
-use ae_compile::{Compiled, Costed, OutOfMemory, compile, cost, module_text, play};
+use ae_compile::{Compiled, Costed, LOAD_LIMIT, OutOfMemory, compile, cost, module_text, play};
 use ae_play::{Sums, sum_clocks};
 use itoa::Buffer;
 use std::alloc::{AllocError, Global};
@@ -121,7 +121,7 @@ fn demo_text(alloc: Global, costed: Costed, size: u32) -> Result<String, OutOfMe
     requires limit { size ≤ 64 }
     requires is { costed.slowdown ≡ demo_slowdown size }
     requires known { IsCostedProgram costed }
-    requires costed { IsCosted (demo_program size) (demo_slowdown size) (program_tree costed.program) (st_func_trees costed.schedule) }
+    requires costed { IsCosted load_limit (demo_program size) (demo_slowdown size) (program_tree costed.program) (st_func_trees costed.schedule) }
     ensures { IfOk result (λ text. IsDemoText size (string_bytes text)) }
 {
     let blocks = (2 * size) as usize;
@@ -150,7 +150,7 @@ pub fn demo(alloc: Global, size: u32) -> Result<String, OutOfMemory>
     ensures { IfOk result (λ text. IsDemoText size (string_bytes text)) }
 {
     let part = program_text(alloc, size)?;
-    match cost(alloc, part.as_bytes(), 4 * size) {
+    match cost(alloc, part.as_bytes(), 4 * size, LOAD_LIMIT) {
         Ok(costed) => demo_text(alloc, costed, size),
         Err(_) => Err(OutOfMemory),
     }

@@ -15,6 +15,7 @@ mod reply;
 mod run;
 mod serve;
 mod sim;
+mod stall;
 mod status;
 mod widths;
 

@@ -14,7 +14,7 @@ use crate::cost_table::cost_table;
 use crate::plan_text::plan_text;
 use crate::reply::{Reply, refused_program};
 use crate::status::Status;
-use ae_compile::{Costed, OutOfMemory, cost, main_func, main_instance};
+use ae_compile::{Costed, LOAD_LIMIT, OutOfMemory, cost, main_func, main_instance};
 use std::alloc::Global;
 
 fn planned(alloc: Global, costed: &Costed) -> Result<String, OutOfMemory>
@@ -46,7 +46,7 @@ pub fn plan(alloc: Global, part: &[u8], slowdown: u32) -> Result<Reply, OutOfMem
     requires limit { slowdown ≤ 4096 }
     ensures { IfOk result (λ reply. IsPlanned part.now slowdown reply.status (string_bytes reply.text)) }
 {
-    match cost(alloc, part, slowdown) {
+    match cost(alloc, part, slowdown, LOAD_LIMIT) {
         Ok(costed) => {
             let text = planned(alloc, &costed)?;
             Ok(Reply {
@@ -73,7 +73,7 @@ pub fn cost_of_lines(alloc: Global, part: &[u8], slowdown: u32) -> Result<Reply,
     requires limit { slowdown ≤ 4096 }
     ensures { IfOk result (λ reply. IsTabled part.now slowdown reply.status (string_bytes reply.text)) }
 {
-    match cost(alloc, part, slowdown) {
+    match cost(alloc, part, slowdown, LOAD_LIMIT) {
         Ok(costed) => {
             let text = tabled(alloc, &costed)?;
             Ok(Reply {

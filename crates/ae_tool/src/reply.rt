@@ -19,6 +19,7 @@ use crate::plan::{cost_of_lines, plan};
 use crate::refusal::refusal_line;
 use crate::run::run;
 use crate::sim::simulate;
+use crate::stall::stall;
 use crate::status::Status;
 use ae_compile::{CompileFault, OutOfMemory, typed};
 use ae_parse::split;
@@ -45,7 +46,7 @@ pub fn refused(alloc: Global, status: Status) -> Result<Reply, OutOfMemory>
 /// The reply to a program that has no circuit; none where there was no memory.
 pub fn refused_program(alloc: Global, fault: CompileFault) -> Result<Reply, OutOfMemory>
     ensures untyped { IfOk result (λ reply. (part : List ℕ) → IsTypedFault part fault → IsRefusal part reply.status × (string_bytes reply.text ≡ refusal_line reply.status)) }
-    ensures uncosted { IfOk result (λ reply. (part : List ℕ) (slowdown : ℕ) → IsCostFault part slowdown fault → IsCostRefusal part slowdown reply.status × (string_bytes reply.text ≡ refusal_line reply.status)) }
+    ensures uncosted { IfOk result (λ reply. (limit : ℕ) (part : List ℕ) (slowdown : ℕ) → IsCostFault limit part slowdown fault → IsCostRefusal limit part slowdown reply.status × (string_bytes reply.text ≡ refusal_line reply.status)) }
 {
     match fault {
         CompileFault::BadLine { line } => refused(alloc, Status::BadLine { line }),
@@ -114,6 +115,7 @@ fn answer_parts(
         Command::Plan { slowdown } => plan(alloc, part, slowdown),
         Command::Cost { slowdown } => cost_of_lines(alloc, part, slowdown),
         Command::Build { slowdown } => build(alloc, part, slowdown),
+        Command::Stall { slowdown } => stall(alloc, part, slowdown),
         Command::Run { slowdown, fill } => run(alloc, part, rest, slowdown, fill),
         Command::Demo { size: _ } => unreachable!(),
         Command::Sim { fill } => simulate(alloc, part, rest, fill),

@@ -16,7 +16,8 @@ use crate::reply::{RUN_LIMIT, Reply, refused, refused_program};
 use crate::status::Status;
 use crate::widths::input_widths;
 use ae_compile::{
-    Compiled, Costed, OutOfMemory, compile, cost, main_instance, module_text, output_layouts, play,
+    Compiled, Costed, LOAD_LIMIT, OutOfMemory, compile, cost, main_instance, module_text,
+    output_layouts, play,
 };
 use ae_parse::{RowFault, read_rows};
 use ae_play::write_clocks;
@@ -155,7 +156,7 @@ pub fn run(
     requires limit { slowdown ≤ 4096 }
     ensures { IfOk result (λ reply. IsRun slowdown fill part.now (rows rest.now) reply.status (string_bytes reply.text)) }
 {
-    match cost(alloc, part, slowdown) {
+    match cost(alloc, part, slowdown, LOAD_LIMIT) {
         Ok(costed) => run_rows(alloc, costed, rest, fill),
         Err(fault) => refused_program(alloc, fault),
     }

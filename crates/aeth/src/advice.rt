@@ -10,7 +10,8 @@ const USAGE: &str = "usage: aeth JOB < INPUT > OUTPUT
   plan S        what its circuit costs, and when and where each item stands
   cost S        what each line of the program costs, as comma-separated values
   build S       its circuit as a Verilog module
-  run S FILL    that module, and every word of every clock of its run on the rows
+  stall S       the same with one more input, en: where it is 0, the circuit stands still
+  run S FILL    the module of build S, and every word of every clock of its run on the rows
   sim FILL      every word of every clock of any Verilog module, on the rows behind the line %%
   demo N        the module of a program on 16 * N words, and sums of its run; nothing is read
 

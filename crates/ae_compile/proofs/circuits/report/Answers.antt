@@ -1,4 +1,4 @@
-use Rattle.std.proofs.Common.{◌≡◌, false, ◌∙◌, ap, map, sym}
+use Rattle.std.proofs.Common.{◌≡◌, ◌∙◌, ap, map, sym}
 use Rattle.std.proofs.lemmas.Option.{same_Some}
 use Rattle.ae_sttype.specs.StTree.{st_tree}
 use Rattle.ae_rewrite.specs.StProgramTree.{StFuncTree, st_func_tree, st_func_trees}
@@ -22,4 +22,4 @@ returns c = λ s found.
     let load : c.load.result ≡ (main_costs all).load = c.load.ensures.load ∙ ap (λ (k : OwnCosts). k.load) costs in
     let ins : map st_tree c.in_ok-input_layouts.field-0.items ≡ s.ins = c.in_ok-input_layouts.ensures ∙ ap (λ (x : StFuncTree). x.ins) same in
     let outs : map st_tree c.in_ok-output_layouts.field-0.items ≡ results_of s = c.in_ok-output_layouts.ensures ∙ ap results_of same in
-    λ i. record { slowdown = c.args.costed.now.slowdown; latency = latency i; muls = muls i; load = load i; enable = false; ins = ins i; outs = outs i }
+    λ i. record { slowdown = c.args.costed.now.slowdown; latency = latency i; muls = muls i; load = load i; enable = c.args.enable; ins = ins i; outs = outs i }

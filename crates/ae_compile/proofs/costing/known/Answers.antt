@@ -1,11 +1,9 @@
-use Rattle.std.proofs.Common.{◌≤◌, subst}
 use Rattle.ae_rewrite.specs.StProgramTree.{st_func_trees}
-use Rattle.ae_delay.specs.declared.own.OwnCosts.{OwnCosts}
-use Rattle.ae_compile.proofs.Modules.{costs_are}
+use Rattle.ae_compile.proofs.Large.{load_within}
 use Rattle.ae_compile.proofs.costing.known.Goals as goal
 
 pub returns-clause-known : goal.returns-clause-known
-returns-clause-known c =
+returns-clause-known c = λ load within.
     let all = st_func_trees c.args.schedule in
     let key = c.requires.schedule.last in
     record {
@@ -15,5 +13,5 @@ returns-clause-known c =
       schedule = c.requires.schedule;
       sound = c.count-count.ensures.sound;
       times_are = c.requires.times;
-      light = subst (λ (k : OwnCosts). k.load ≤ 100000) (costs_are all key.instance c.args.timing c.requires.times key.here) c.load-load.ensures.limit;
+      light = load_within load all key.instance key.here within;
     }

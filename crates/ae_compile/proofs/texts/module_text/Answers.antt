@@ -1,32 +1,24 @@
-use Rattle.std.proofs.Common.{◌≡◌, ◌++◌, ◌^◌, ◌<◌, ℕ, length, map, arith, sym, subst}
+use Rattle.std.proofs.Common.{map}
 use Rattle.std.specs.Prelude.{string_bytes}
-use Rattle.std.proofs.lemmas.List.{length-map}
-use Rattle.ae_sttype.specs.StTree.{st_tree}
 use Rattle.ae_seq.specs.ProgramTree.{program_tree}
 use Rattle.ae_rewrite.specs.StProgramTree.{st_func_trees}
-use Rattle.ae_netlist.specs.Counts.{count_of, is_mul}
-use Rattle.ae_vread.specs.Spells.{Spells, stars}
-use Rattle.ae_verilog.specs.NetlistModule.{netlist_module}
 use Rattle.ae_verilog.specs.Notes.{note_tree}
-use Rattle.ae_verilog.specs.ReportLines.{report_lines, report_tree}
-use Rattle.ae_verilog.specs.Text.{whole_text}
-use Rattle.ae_compile.proofs.Modules.{HaveLaws, IsTextOf, module_is}
+use Rattle.ae_verilog.specs.ReportLines.{report_tree}
+use Rattle.ae_compile.proofs.Modules.{HaveLaws, module_is}
 use Rattle.ae_compile.proofs.texts.module_text.Goals as goal
 
-pub write_module-requires : goal.write_module-requires
-write_module-requires c = record { printed = rw c.deref.ensures.value c.requires.compiled.printed }
+pub written-requires : goal.written-requires
+written-requires c = c.requires.compiled.printed
 
 pub returns-clause-spells : goal.returns-clause-spells
-returns-clause-spells c =
-    let d = c.args.compiled.now in
-    subst (λ (k : ℕ). Spells (string_bytes c.in_ok-text.text) (netlist_module d.netlist.cells d.netlist.outlets k)) (sym (length-map d.report.outs.items st_tree)) c.in_ok-text.ensures.spells
+returns-clause-spells c = c.in_ok-text.ensures.spells
+
+pub returns-clause-short : goal.returns-clause-short
+returns-clause-short c = c.in_ok-text.ensures.few
 
 pub returns-clause-text : goal.returns-clause-text
 returns-clause-text c =
     let d = c.args.compiled.now in
-    let text = string_bytes c.in_ok-text.text in
-    let report = report_tree d.report in
-    let many = sym (length-map d.report.outs.items st_tree) in
     let laws : HaveLaws = record {
       writing = record { writable = c.circuits_are_writable.ensures; runs = c.module_keeps.ensures.runs; formed = c.module_keeps.ensures.formed };
       correct = c.circuits_are_correct.ensures;
@@ -34,13 +26,5 @@ returns-clause-text c =
       once = c.one_run.ensures.once;
       spelled = c.spelled_once.ensures;
     } in
-    let is : IsTextOf report d.netlist (map note_tree d.notes.items) text = record {
-      spells = subst (λ (k : ℕ). Spells text (netlist_module d.netlist.cells d.netlist.outlets k)) many c.in_ok-text.ensures.spells;
-      stars_are = subst (λ (k : ℕ). stars (netlist_module d.netlist.cells d.netlist.outlets k) ≡ count_of is_mul d.netlist.cells) many c.in_ok-text.ensures.stars;
-      rest = c.in_ok-text.ensures.reports.0;
-      reports = c.in_ok-text.ensures.reports.1;
-      clean = c.in_ok-text.ensures.clean;
-      few = omega (arith, c.len.ensures, c.if-len-gt4294967295.false);
-      listed = subst (λ (k : ℕ). text ≡ whole_text (report_lines report) (map note_tree d.notes.items) d.netlist.cells d.netlist.outlets k) many (rw c.deref.ensures.value at c.in_ok-text.ensures.text);
-    } in
-    module_is (program_tree d.costed.program) d.costed.slowdown (st_func_trees d.costed.schedule) d.costed.timing d.netlist report (map note_tree d.notes.items) text laws c.requires.costed c.requires.compiled is
+    module_is (program_tree d.costed.program) d.costed.slowdown (st_func_trees d.costed.schedule) d.costed.timing d.netlist (report_tree d.report) (map note_tree d.notes.items) (string_bytes c.in_ok-text.text) laws
+    c.requires.costed c.requires.compiled c.in_ok-text.ensures

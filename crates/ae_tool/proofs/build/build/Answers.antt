@@ -4,6 +4,7 @@ use Rattle.ae_seq.specs.ProgramTree.{program_tree}
 use Rattle.ae_rewrite.specs.StProgramTree.{st_func_trees}
 use Rattle.ae_compile.specs.declared.costing.Costed.{Costed}
 use Rattle.ae_compile.specs.Building.{IsBuiltText, IsModuleText}
+use Rattle.ae_compile.specs.Costing.{load_limit}
 use Rattle.ae_tool.proofs.Refused.{answered_refused}
 use Rattle.ae_tool.proofs.build.build.Goals as goal
 
@@ -21,4 +22,4 @@ returns-in_ok-text-in-Ok c =
     }
 
 pub returns-in-Err : goal.returns-in-Err
-returns-in-Err c = answered_refused c.refused_program.result c.in-Err.fault (IsBuiltText c.args.part.now c.args.slowdown) c.args.part.now c.args.slowdown c.in-Err.ensures.refused c.refused_program.ensures.uncosted
+returns-in-Err c = answered_refused c.refused_program.result c.in-Err.fault load_limit (IsBuiltText c.args.part.now c.args.slowdown) c.args.part.now c.args.slowdown c.in-Err.ensures.refused c.refused_program.ensures.uncosted

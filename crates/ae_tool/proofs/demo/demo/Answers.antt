@@ -1,7 +1,7 @@
 use Rattle.std.proofs.Common.{ℕ, List, ◌≡◌, ◌<◌, length, arith, ap, subst, ◌∙◌}
 use Rattle.ae_seq.specs.ProgramTree.{program_tree}
 use Rattle.ae_rewrite.specs.StProgramTree.{st_func_trees}
-use Rattle.ae_compile.specs.Costing.{IsCosted}
+use Rattle.ae_compile.specs.Costing.{IsCosted, load_limit}
 use Rattle.ae_tool.specs.DemoTexts.{demo_slowdown}
 use Rattle.ae_tool.proofs.Demos.{short_program}
 use Rattle.ae_tool.proofs.demo.demo.Goals as goal
@@ -11,4 +11,4 @@ cost-requires-clause-part c = omega (arith, short_program c.args.size c.requires
 
 pub demo_text-requires-clause-costed : goal.demo_text-requires-clause-costed
 demo_text-requires-clause-costed c =
-    subst (λ (part : List ℕ). IsCosted part (demo_slowdown c.args.size) (program_tree c.in-Ok.costed.program) (st_func_trees c.in-Ok.costed.schedule)) (c.as_bytes.ensures.value ∙ c.in_ok-part.ensures) c.in-Ok.ensures.costed
+    subst (λ (part : List ℕ). IsCosted load_limit part (demo_slowdown c.args.size) (program_tree c.in-Ok.costed.program) (st_func_trees c.in-Ok.costed.schedule)) (c.as_bytes.ensures.value ∙ c.in_ok-part.ensures) c.in-Ok.ensures.costed

@@ -4,6 +4,7 @@ use Rattle.std.proofs.lemmas.Result.{IfOk-weaker}
 use Rattle.ae_seq.specs.ProgramTree.{program_tree}
 use Rattle.ae_rewrite.specs.StProgramTree.{st_func_trees}
 use Rattle.ae_parse.specs.Rows.{rows}
+use Rattle.ae_compile.specs.Costing.{load_limit}
 use Rattle.ae_tool.specs.declared.reply.Reply.{Reply}
 use Rattle.ae_tool.specs.RunTexts.{IsRun, IsRunOf, Played, Unbuilt}
 use Rattle.ae_tool.proofs.Refused.{uncosted}
@@ -20,5 +21,5 @@ returns-in-Ok c =
 
 pub returns-in-Err : goal.returns-in-Err
 returns-in-Err c =
-    uncosted c.refused_program.result c.in-Err.fault c.args.part.now c.args.slowdown (λ (r : Reply). IsRun c.args.slowdown c.args.fill c.args.part.now (rows c.args.rest.now) r.status (string_bytes r.text)) c.in-Err.ensures.refused
+    uncosted c.refused_program.result c.in-Err.fault load_limit c.args.part.now c.args.slowdown (λ (r : Reply). IsRun c.args.slowdown c.args.fill c.args.part.now (rows c.args.rest.now) r.status (string_bytes r.text)) c.in-Err.ensures.refused
     (λ r w e. Unbuilt w e) c.refused_program.ensures.uncosted

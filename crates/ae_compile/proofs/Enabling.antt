@@ -1,0 +1,191 @@
+-- The circuit of a program with an enable, and the text of its module.
+use Rattle.std.proofs.Common.{◌≡◌, ℕ, zero, suc, ◌+◌, ◌*◌, ◌^◌, ◌<◌, ◌≤◌, true, List, [], ◌∷◌, ◌++◌, length, length-append, map, take, filter, Some, slice_get, refl, arith, ap, sym, ◌∙◌, subst}
+use Rattle.std.proofs.lemmas.List.{length-map}
+use Rattle.ae_sttype.specs.StTree.{StTree}
+use Rattle.ae_seq.specs.ProgramTree.{FuncTree, ProgramTree}
+use Rattle.ae_rewrite.specs.StProgramTree.{StFuncTree}
+use Rattle.ae_rewrite.specs.Sound.{item_layouts}
+use Rattle.ae_rewrite.specs.Interface.{main_of}
+use Rattle.ae_delay.specs.declared.own.OwnCosts.{OwnCosts}
+use Rattle.ae_delay.specs.Timings.{Times}
+use Rattle.ae_netlist.specs.declared.cell.SizedCell.{SizedCell}
+use Rattle.ae_netlist.specs.declared.cell.Outlet.{Outlet}
+use Rattle.ae_netlist.specs.Circuit.{Circuit}
+use Rattle.ae_vread.specs.ModuleTree.{ModuleTree}
+use Rattle.ae_vread.specs.Spells.{Spells}
+use Rattle.ae_elab.specs.Faults.{IsWellFormed}
+use Rattle.ae_elab.specs.Runs.{HasOneRun}
+use Rattle.ae_elab.specs.SameRuns.{HasSameRuns}
+use Rattle.ae_elab.specs.Weight.{weight}
+use Rattle.ae_verilog.specs.NetlistModule.{netlist_module}
+use Rattle.ae_verilog.specs.Written.{IsWritableNetlist}
+use Rattle.ae_verilog.specs.Notes.{ArePrinted, NoteTree}
+use Rattle.ae_verilog.specs.ReportLines.{ReportTree}
+use Rattle.ae_ports.specs.CircuitFor.{IsCircuitFor}
+use Rattle.ae_ports.specs.Ports.{SizedPort, input_cell, reset_port, streams_of}
+use Rattle.ae_ports.specs.Ports as net_side
+use Rattle.ae_lower.specs.Circuits.{IsCircuitOf, last_of}
+use Rattle.ae_lower.specs.Laws.{CircuitsAreFor}
+use Rattle.ae_tidy.specs.Places.{AreMarks}
+use Rattle.ae_correct.specs.Laws.{IsLaidOut}
+use Rattle.ae_correct.specs.Correct.{is_port, port_of, ports_of}
+use Rattle.ae_correct.proofs.Keeps.{circuit_ports, outs_of}
+use Rattle.ae_correct.proofs.Nets.{HavePorts, in_net, out_net, ports_filtered}
+use Rattle.ae_stall.specs.Copies.{reset_cell}
+use Rattle.ae_stall.specs.Images.{moved, moved_outlet}
+use Rattle.ae_stall.specs.Stalled.{IsStalled}
+use Rattle.ae_stalled.specs.Laws.{StalledCircuitsAreCorrect, StalledCircuitsAreWritable, stall_limit}
+use Rattle.ae_stalled.proofs.Ports.{enable_port, stalled_ports_are}
+use Rattle.ae_compile.specs.Building.{IsStalledText, IsWritten}
+use Rattle.ae_compile.specs.Compiling.{IsCompiledStalled, report_of}
+use Rattle.ae_compile.specs.Costing.{IsKnown, load_limit, main_costs}
+use Rattle.ae_compile.specs.LineNotes.{node_notes}
+use Rattle.ae_compile.proofs.Mains.{main_nodes}
+use Rattle.ae_compile.proofs.Modules.{HaveWriting, few_ports, unmapped}
+
+-- ---- the netlist
+
+-- what `stall` asks of a netlist
+pub record CanBeStalled (n : Circuit) : Type 0 where
+  pub reset : slice_get n.cells 0 ≡ Some reset_cell
+  pub most : length n.cells ≤ 1000000
+
+head_is : (cells : List SizedCell) (p : SizedPort) (ports : List SizedPort) → take (length (p ∷ ports)) cells ≡ map input_cell (p ∷ ports) → slice_get cells 0 ≡ Some (input_cell p)
+head_is [] p ports e = cc
+head_is (c ∷ cells) p ports e = let same : c ≡ input_cell p = cc in ap (λ (x : SizedCell). Some x) same
+
+pub can_be_stalled : (p : ProgramTree) (slowdown : ℕ) (instances : List StFuncTree) (times : Times) (n : Circuit) → CircuitsAreFor → IsKnown load_limit p slowdown instances times → (main_costs instances).load ≤ stall_limit
+    → ((s : StFuncTree) → slice_get instances (last_of instances) ≡ Some s → IsCircuitOf instances s n) → CanBeStalled n
+can_be_stalled p slowdown instances times n law k light circuits =
+    let key = k.schedule.last in
+    let s = key.instance in
+    let made = law p slowdown instances s n k.typed k.schedule k.sound key.here (circuits s key.here) in
+    let laid : IsLaidOut p slowdown s.ins _ = record { typed = k.typed; some = k.some; most = k.most; layouts = made.0 } in
+    let ports = few_ports p slowdown (main_costs instances) s.ins _ n laid made.1 in
+    let load : (main_costs instances).load ≤ 50000 = light in
+    record {
+      reset = head_is n.cells reset_port (net_side.input_ports (streams_of s.ins)) (circuit_ports p slowdown (main_costs instances) s.ins _ n made.1).inputs.first;
+      most = omega (arith, made.1.small, load, ports.inputs);
+    }
+
+-- ---- the marks
+
+moved_low : (m : ℕ) → moved m ≤ m + 1
+moved_low zero = omega arith
+moved_low (suc m) = omega arith
+
+moved_rises : (m n : ℕ) → m ≤ n → moved m ≤ moved n
+moved_rises zero n h = omega arith
+moved_rises (suc m) zero h = absurd (omega (arith, h))
+moved_rises (suc m) (suc n) h = omega (arith, h)
+
+pub marks_moved : (old new count : ℕ) (marks : List ℕ) → old < new → AreMarks old count marks → AreMarks new count (map moved marks)
+marks_moved old new count marks longer h = record {
+  long = length-map marks moved ∙ h.long;
+  within = λ i m e. (let x = unmapped moved marks i m e in let low = h.within i x.from x.found in let up = moved_low x.from in let is = x.is in omega (arith, low, up, is, longer));
+  rising = λ i j m n le e f.
+      (let x = unmapped moved marks i m e in
+      let y = unmapped moved marks j n f in
+      let up = moved_rises x.from y.from (h.rising i j x.from y.from le x.found y.found) in
+      let is = x.is in
+      let are = y.is in
+      omega (arith, up, is, are));
+}
+
+-- ---- the parts in one
+
+-- the parts that are made, each by the program function's instance
+pub record AreMadeStalled (p : ProgramTree) (slowdown : ℕ) (instances : List StFuncTree) (plain n : Circuit) (marks : List ℕ) (report : ReportTree) (notes : List NoteTree) : Type 0 where
+  pub reports : (s : StFuncTree) → slice_get instances (last_of instances) ≡ Some s → report ≡ report_of true slowdown instances s
+  pub circuits : (s : StFuncTree) → slice_get instances (last_of instances) ≡ Some s → IsCircuitOf instances s plain
+  pub stalled : IsStalled plain n
+  pub places : (s : StFuncTree) → slice_get instances (last_of instances) ≡ Some s → AreMarks (length plain.cells) (length s.nodes) marks
+  pub notes_are : (s : StFuncTree) (f : FuncTree) → slice_get instances (last_of instances) ≡ Some s → slice_get p.funcs (main_of p) ≡ Some f → notes ≡ node_notes (item_layouts s) (length f.params) f.nodes (map moved marks)
+  pub printed : ArePrinted notes
+
+pub stalled_made : (p : ProgramTree) (slowdown : ℕ) (instances : List StFuncTree) (times : Times) (plain n : Circuit) (marks : List ℕ) (report : ReportTree) (notes : List NoteTree) → CircuitsAreFor → IsKnown load_limit p slowdown instances times
+    → AreMadeStalled p slowdown instances plain n marks report notes → IsCompiledStalled p slowdown instances n report notes
+stalled_made p slowdown instances times plain n marks report notes law k m =
+    let key = k.schedule.last in
+    let s = key.instance in
+    let found : slice_get instances (last_of instances) ≡ Some s = key.here in
+    let own = k.schedule.right (last_of instances) s found in
+    let main : slice_get p.funcs (main_of p) ≡ Some own.of = ap (slice_get p.funcs) (sym key.is_func) ∙ own.known in
+    let told = m.reports s found in
+    let made = law p slowdown instances s plain k.typed k.schedule k.sound found (m.circuits s found) in
+    let many : length s.nodes ≡ length own.of.nodes = main_nodes p slowdown instances own.of s k.schedule main found in
+    let placed : AreMarks (length n.cells) (length s.nodes) (map moved marks) = marks_moved (length plain.cells) (length n.cells) (length s.nodes) marks m.stalled.longer (m.places s found) in
+    record {
+      instance = s;
+      last = found;
+      reported = told;
+      laid = subst (λ (r : ReportTree). IsLaidOut p slowdown r.ins r.outs) (sym told) (record { typed = k.typed; some = k.some; most = k.most; layouts = made.0 });
+      plain = plain;
+      circuit = subst (λ (r : ReportTree). IsCircuitFor p slowdown (main_costs instances) r.ins r.outs plain) (sym told) made.1;
+      stalled = m.stalled;
+      noted = record {
+        func = own.of;
+        main = main;
+        marks = map moved marks;
+        placed = subst (λ (c : ℕ). AreMarks (length n.cells) c (map moved marks)) many placed;
+        are = m.notes_are s own.of found main;
+      };
+      printed = m.printed;
+    }
+
+-- ---- the module
+
+-- the laws of its text and its correctness
+pub record HaveStalledLaws : Type 0 where
+  pub writing : HaveWriting
+  pub writable : StalledCircuitsAreWritable
+  pub correct : StalledCircuitsAreCorrect
+  pub light : (n : Circuit) (outs : ℕ) → weight (netlist_module n.cells n.outlets outs) ≤ 1 + 4 * length n.cells + 4 * length n.outlets
+  pub once : (m : ModuleTree) → IsWellFormed m → HasOneRun m
+  pub spelled : (text : List ℕ) (m n : ModuleTree) → length text < 2 ^ 32 → Spells text m → Spells text n → m ≡ n
+
+-- how many ports it has: those of the module without the enable, and this
+stalled_ports_many : (p : ProgramTree) (slowdown : ℕ) (costs : OwnCosts) (ins outs : List StTree) (plain n : Circuit) → IsCircuitFor p slowdown costs ins outs plain → IsStalled plain n
+    → length (ports_of (netlist_module n.cells n.outlets (length outs))) ≡ 3 + length (net_side.input_ports (streams_of ins)) + length plain.outlets
+stalled_ports_many p slowdown costs ins outs plain n c still =
+    let many : ℕ = length outs in
+    let given = net_side.input_ports (streams_of ins) in
+    let own = circuit_ports p slowdown costs ins outs plain c in
+    let have : HavePorts n.cells n.outlets (reset_port ∷ enable_port ∷ given) (outs_of outs) = stalled_ports_are plain n reset_port given (outs_of outs) still c.shown own in
+    let shown : length plain.outlets ≡ length (outs_of outs) = sym (length-map plain.outlets (net_side.outlet_port plain.cells)) ∙ ap length own.outputs in
+    let filtered : length (ports_of (netlist_module n.cells n.outlets many)) ≡ 1 + (length (map in_net (reset_port ∷ enable_port ∷ given)) + length (map (out_net many) (outs_of outs))) =
+    length-map (filter is_port (netlist_module n.cells n.outlets many).nets) port_of ∙ ap length (ports_filtered n.cells n.outlets many (reset_port ∷ enable_port ∷ given) (outs_of outs) have)
+    ∙ omega (arith, length-append (map in_net (reset_port ∷ enable_port ∷ given)) (map (out_net many) (outs_of outs))) in
+    omega (arith, filtered, length-map (reset_port ∷ enable_port ∷ given) in_net, length-map (outs_of outs) (out_net many), shown)
+
+pub stalled_is : (p : ProgramTree) (slowdown : ℕ) (instances : List StFuncTree) (n : Circuit) (report : ReportTree) (notes : List NoteTree) (text : List ℕ) → HaveStalledLaws → (main_costs instances).load ≤ stall_limit
+    → IsCompiledStalled p slowdown instances n report notes → IsWritten report n notes text → IsStalledText p slowdown instances text
+stalled_is p slowdown instances n report notes text laws light d t =
+    let costs = main_costs instances in
+    let many : ℕ = length report.outs in
+    let m : ModuleTree = netlist_module n.cells n.outlets many in
+    let load : costs.load ≤ 50000 = light in
+    let ports = few_ports p slowdown costs report.ins report.outs d.plain d.laid d.circuit in
+    let plain_writable : IsWritableNetlist d.plain.cells d.plain.outlets many = laws.writing.writable p slowdown costs report.ins report.outs d.plain d.laid (omega (arith, load)) d.circuit in
+    let plain_same : HasSameRuns (netlist_module d.plain.cells d.plain.outlets many) d.plain = laws.writing.runs d.plain many plain_writable in
+    let writable : IsWritableNetlist n.cells n.outlets many = laws.writable p slowdown costs report.ins report.outs d.plain n d.laid light d.circuit d.stalled in
+    let same : HasSameRuns m n = laws.writing.runs n many writable in
+    let outlets : length n.outlets ≡ length d.plain.outlets = ap (λ (os : List Outlet). length os) d.stalled.outputs ∙ length-map d.plain.outlets moved_outlet in
+    let cells = d.stalled.small in
+    let small = d.circuit.small in
+    let all = stalled_ports_many p slowdown costs report.ins report.outs d.plain n d.circuit d.stalled in
+    let formed : IsWellFormed m = laws.writing.formed n many writable (omega (arith, cells, small, load, ports.inputs, ports.outputs, outlets)) in
+    record {
+      listing = record { circuit = n; report = report; notes = notes; compiled = d; listed = t.listed };
+      tree = m;
+      spells = t.spells;
+      only = λ other spelled. laws.spelled text other m t.few spelled t.spells;
+      formed = formed;
+      one_run = laws.once m formed;
+      correct = laws.correct p slowdown costs report.ins report.outs d.plain n d.laid d.circuit d.stalled plain_same same;
+      products = t.stars_are ∙ (d.stalled.muls ∙ d.circuit.muls);
+      light = omega (arith, laws.light n many, cells, small, all, outlets);
+      rest = t.rest;
+      reports = t.reports;
+      clean = t.clean;
+    }

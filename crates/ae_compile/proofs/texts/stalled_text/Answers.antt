@@ -1,0 +1,25 @@
+use Rattle.std.proofs.Common.{map}
+use Rattle.std.specs.Prelude.{string_bytes}
+use Rattle.ae_seq.specs.ProgramTree.{program_tree}
+use Rattle.ae_rewrite.specs.StProgramTree.{st_func_trees}
+use Rattle.ae_verilog.specs.Notes.{note_tree}
+use Rattle.ae_verilog.specs.ReportLines.{report_tree}
+use Rattle.ae_compile.proofs.Enabling.{HaveStalledLaws, stalled_is}
+use Rattle.ae_compile.proofs.texts.stalled_text.Goals as goal
+
+pub written-requires : goal.written-requires
+written-requires c = c.requires.compiled.printed
+
+pub returns : goal.returns
+returns c =
+    let d = c.args.compiled.now in
+    let laws : HaveStalledLaws = record {
+      writing = record { writable = c.circuits_are_writable.ensures; runs = c.module_keeps.ensures.runs; formed = c.module_keeps.ensures.formed };
+      writable = c.stalled_circuits_are_writable.ensures;
+      correct = c.stalled_circuits_are_correct.ensures;
+      light = c.module_keeps.ensures.light;
+      once = c.one_run.ensures.once;
+      spelled = c.spelled_once.ensures;
+    } in
+    stalled_is (program_tree d.costed.program) d.costed.slowdown (st_func_trees d.costed.schedule) d.netlist (report_tree d.report) (map note_tree d.notes.items) (string_bytes c.in_ok-text.text) laws
+    c.requires.light c.requires.compiled c.in_ok-text.ensures
