@@ -1,5 +1,5 @@
 -- The lines of a module, and their tokens.
-use Rattle.std.proofs.Common.{◌≡◌, ℕ, ◌-◌, ◌<◌, ◌≤◌, ◌^◌, List, [], ◌∷◌, ◌++◌, true, false, Option, Some, None, refl, sym, ◌∙◌, subst, arith, append_assoc, append-nil}
+use Rattle.std.proofs.Common.{◌≡◌, ℕ, ◌-◌, ◌≤◌, List, [], ◌∷◌, ◌++◌, true, false, Option, Some, None, refl, sym, ◌∙◌, subst, arith, append_assoc, append-nil}
 use Rattle.std.specs.Prelude.{codes, decimal, nat_lt, ◌==◌, if◌then◌else◌}
 use Rattle.ae_vtoken.specs.declared.token.Key.TheVariants.{Module, EndModule, Input, Output, Wire, Reg, Assign, Always, Posedge, If}
 use Rattle.ae_vtoken.specs.declared.token.Sign.TheVariants.{Open, Close, Comma, Semicolon, At, Equals, AtMost}

@@ -1,5 +1,5 @@
 -- Expressions as the writer writes them.
-use Rattle.std.proofs.Common.{◌≡◌, ℕ, ◌<◌, ◌≤◌, ◌^◌, List, [], ◌∷◌, ◌++◌, Bool, true, Option, Some, None, refl, sym, ap, ◌∙◌, subst, arith, append_assoc, zero, suc}
+use Rattle.std.proofs.Common.{◌≡◌, ℕ, ◌<◌, ◌≤◌, ◌^◌, List, [], ◌∷◌, ◌++◌, Bool, true, Option, Some, None, refl, sym, ap, ◌∙◌, subst, append_assoc, zero, suc}
 use Rattle.std.specs.Prelude.{IsSome, codes, decimal, not, option_map}
 use Rattle.std.proofs.lemmas.Bool.{both_ways}
 use Rattle.ae_vtoken.specs.declared.token.Sign.{Sign}

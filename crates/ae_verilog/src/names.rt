@@ -47,12 +47,7 @@ pub fn write_net(out: &mut String, names: &Names<'_>, net: NetId) -> Result<(), 
     }
 }
 
-fn write_cell_name(
-    out: &mut String,
-    lines: &[u32],
-    k: usize,
-    cell: Cell,
-) -> Result<(), AllocError>
+fn write_cell_name(out: &mut String, lines: &[u32], k: usize, cell: Cell) -> Result<(), AllocError>
     ensures { OnOk result (string_bytes out.new ≡ string_bytes out.old ++ cell_name (slice_index lines.now) k cell) }
 {
     match cell {

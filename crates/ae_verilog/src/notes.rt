@@ -44,14 +44,14 @@ fn tell_lines(lines: &mut [u32], notes: &[Note])
     requires { (k : ℕ) → slice_index lines.old k ≡ 0 }
     ensures { (k : ℕ) → k < length lines.old → slice_index lines.new k ≡ line_of (map note_tree notes.now) k }
 {
-    let mut open = lines.len();
+    let mut first = lines.len();
     let mut left = notes.len();
     while left > 0 {
         left -= 1;
         let note = &notes[left];
-        let from = open.min(note.cell as usize);
-        set_lines(lines, from, open, note.line);
-        open = from;
+        let from = first.min(note.cell as usize);
+        set_lines(lines, from, first, note.line);
+        first = from;
     }
 }
 

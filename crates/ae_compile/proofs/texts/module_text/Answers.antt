@@ -6,8 +6,7 @@ use Rattle.ae_seq.specs.ProgramTree.{program_tree}
 use Rattle.ae_rewrite.specs.StProgramTree.{st_func_trees}
 use Rattle.ae_netlist.specs.Counts.{count_of, is_mul}
 use Rattle.ae_vread.specs.Spells.{Spells, stars}
-use Rattle.ae_verilog.specs.NetlistModule.{netlist_module}
-use Rattle.ae_verilog.specs.Notes.{note_tree}
+use Rattle.ae_verilog.specs.Notes.{note_tree, noted_module}
 use Rattle.ae_verilog.specs.ReportLines.{report_lines, report_tree}
 use Rattle.ae_verilog.specs.Text.{whole_text}
 use Rattle.ae_compile.proofs.Modules.{HaveLaws, IsTextOf, module_is}
@@ -19,7 +18,7 @@ write_module-requires c = record { printed = rw c.deref.ensures.value c.requires
 pub returns-clause-spells : goal.returns-clause-spells
 returns-clause-spells c =
     let d = c.args.compiled.now in
-    subst (λ (k : ℕ). Spells (string_bytes c.in_ok-text.text) (netlist_module d.netlist.cells d.netlist.outlets k)) (sym (length-map d.report.outs.items st_tree)) c.in_ok-text.ensures.spells
+    subst (λ (k : ℕ). Spells (string_bytes c.in_ok-text.text) (noted_module (map note_tree d.notes.items) d.netlist.cells d.netlist.outlets k)) (sym (length-map d.report.outs.items st_tree)) c.in_ok-text.ensures.spells
 
 pub returns-clause-text : goal.returns-clause-text
 returns-clause-text c =
@@ -35,8 +34,8 @@ returns-clause-text c =
       spelled = c.spelled_once.ensures;
     } in
     let is : IsTextOf report d.netlist (map note_tree d.notes.items) text = record {
-      spells = subst (λ (k : ℕ). Spells text (netlist_module d.netlist.cells d.netlist.outlets k)) many c.in_ok-text.ensures.spells;
-      stars_are = subst (λ (k : ℕ). stars (netlist_module d.netlist.cells d.netlist.outlets k) ≡ count_of is_mul d.netlist.cells) many c.in_ok-text.ensures.stars;
+      spells = subst (λ (k : ℕ). Spells text (noted_module (map note_tree d.notes.items) d.netlist.cells d.netlist.outlets k)) many c.in_ok-text.ensures.spells;
+      stars_are = subst (λ (k : ℕ). stars (noted_module (map note_tree d.notes.items) d.netlist.cells d.netlist.outlets k) ≡ count_of is_mul d.netlist.cells) many c.in_ok-text.ensures.stars;
       rest = c.in_ok-text.ensures.reports.0;
       reports = c.in_ok-text.ensures.reports.1;
       clean = c.in_ok-text.ensures.clean;
