@@ -128,6 +128,7 @@ copied_pass old new keep table made i d own h early c = record {
   source = c.source;
   kept = c.kept;
   only = c.only;
+  rising = c.rising;
 }
 
 late_register : (n : ℕ) (cell : Cell) → late_cell n cell ≡ true → (next : NetId) × (cell ≡ Reg next)
@@ -219,6 +220,7 @@ copied_connect old new keep table made i d width own next to formed h there late
       source = c.source;
       kept = c.kept;
       only = c.only;
+      rising = c.rising;
     }
 
 -- once all are connected, each net has its image

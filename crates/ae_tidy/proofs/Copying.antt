@@ -14,6 +14,7 @@ use Rattle.ae_netlist.proofs.Gets.{get_left, get_pushed, get_push_cases}
 use Rattle.ae_tidy.specs.Images.{Maps, IsImage, IsThere, Stands, is_late, late_in, late_cell, may_merge}
 use Rattle.ae_tidy.specs.Marks.{IsKept, is_root}
 use Rattle.ae_tidy.specs.Copies.{IsCopied, IsMapped}
+use Rattle.ae_tidy.specs.Places.{AreRising}
 use Rattle.ae_tidy.proofs.Shaping.{shape_skip, shape_add}
 
 -- ---- what a cell and its image have in common
@@ -159,6 +160,7 @@ copied_skip old new keep table made i d sized h plain gone c =
         | inl w ↦ c.only n m (record { found = w.0 })
         | inr w ↦ (let q : None ≡ Some (record { 0 = m }) = w.1 in cc)
       ];
+      rising = c.rising;
     }
 
 -- it has one that is there
@@ -210,7 +212,24 @@ copied_merge old new keep table made i sized image net h wide alike early is kep
         | inl w ↦ c.only n m (record { found = w.0 })
         | inr w ↦ (let from : n ≡ i = w.0 ∙ c.long in subst (IsKept keep) (sym from) kept)
       ];
+      rising = c.rising;
     }
+
+-- the cells that were copied so far stand before the next one
+made_within : {old new : List SizedCell} {keep : List Bool} {table : List (Option NetId)} {made : List NetId} {i d : ℕ} → IsCopied old keep new table made i d → (k : ℕ) (a : NetId) → slice_get made k ≡ Some a → a.0 < i
+made_within {table = table} c k a e = let l : a.0 < length table = slice_get_within table a.0 _ (c.source k a e).found in omega (arith, c.long)
+
+rising_more : (made : List NetId) (own : NetId) → ((k : ℕ) (a : NetId) → slice_get made k ≡ Some a → a.0 < own.0) → AreRising made → AreRising (made ++ own ∷ [])
+rising_more made own below r = record {
+  each = λ i j a b l h g. elim (get_push_cases made own j b g) [
+    | inl w ↦ (let le : i < length made = omega (arith, l, w.1) in r.each i j a b l (still made own a i le h) w.0)
+    | inr w ↦
+        let le : i < length made = omega (arith, l, w.0) in
+        let same : own.0 ≡ b.0 = ap (λ (x : NetId). x.0) w.1 in
+        let lt : a.0 < own.0 = below i a (still made own a i le h) in
+        omega arith
+  ];
+}
 
 -- it has one that is made of it
 record IsMade (old new : List SizedCell) (table : List (Option NetId)) (made : List NetId) (i : ℕ) (sized image : SizedCell) : Type 0 where
@@ -270,6 +289,7 @@ copied_made old new keep table made i sized image net own h wide last mine is ke
         | inl w ↦ c.only n m (record { found = w.0 })
         | inr w ↦ (let from : n ≡ i = w.0 ∙ c.long in subst (IsKept keep) (sym from) kept)
       ];
+      rising = rising_more made own (λ k a e. (let l : a.0 < i = made_within c k a e in let same : own.0 ≡ i = ap (λ (x : NetId). x.0) mine in omega arith)) c.rising;
     }
 
 pub copied_add : (old new : List SizedCell) (keep : List Bool) (table : List (Option NetId)) (made : List NetId) (i : ℕ) (sized image : SizedCell) (net own : NetId)

@@ -1,7 +1,11 @@
 pub mod SameRuns
 pub mod Shaping
 pub mod Marking
+pub mod Needing
 pub mod Copying
 pub mod Connecting
+pub mod NeededCopies
 pub mod Whole
 pub mod Placing
+pub mod Cutting
+pub mod Counted

@@ -18,7 +18,7 @@ pub take_found : {X : Type 0} (xs : List X) (i : ℕ) (x : X) → slice_get xs i
 take_found {X = X} xs i x h =
     take_more xs i x (slice_get_within xs i x h) ∙ ap (λ (y : X). take i xs ++ y ∷ []) (get_or_from_slice_get xs i x x h)
 
-count_found : (kind : Cell → Bool) (cells : List SizedCell) (i : ℕ) (sized : SizedCell) → slice_get cells i ≡ Some sized → count_of kind (take (i + 1) cells) ≡ count_of kind (take i cells) + cond (kind sized.cell) 1 0
+pub count_found : (kind : Cell → Bool) (cells : List SizedCell) (i : ℕ) (sized : SizedCell) → slice_get cells i ≡ Some sized → count_of kind (take (i + 1) cells) ≡ count_of kind (take i cells) + cond (kind sized.cell) 1 0
 count_found kind cells i sized h = ap (count_of kind) (take_found cells i sized h) ∙ count_push (λ (x : SizedCell). kind x.cell) (take i cells) sized
 
 filter_other : {X : Type 0} (p : X → Bool) (xs : List X) (y : X) → p y ≡ false → filter p (xs ++ y ∷ []) ≡ filter p xs

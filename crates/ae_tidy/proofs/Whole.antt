@@ -11,21 +11,23 @@ use Rattle.ae_netlist.specs.declared.cell.Cell.{Cell}
 use Rattle.ae_netlist.specs.declared.cell.Cell.TheVariants.{Input, Const, Op, Reg, Mem, Peek}
 use Rattle.ae_netlist.specs.declared.cell.SizedCell.{SizedCell}
 use Rattle.ae_netlist.specs.declared.cell.Outlet.{Outlet}
-use Rattle.ae_netlist.specs.Circuit.{Circuit, IsNet, IsFormed, HaveNets, width_of}
+use Rattle.ae_netlist.specs.Circuit.{CellFits, Circuit, IsNet, IsFormed, HaveNets, width_of}
 use Rattle.ae_netlist.specs.Counts.{AreWhole, IsNumbered, cells_of, count_of, number_of, is_input, is_memory, is_mul}
 use Rattle.ae_netlist.specs.Runs.{word_at, HasOneRun}
 use Rattle.ae_netlist.proofs.Counting.{number_within}
-use Rattle.ae_netlist.proofs.Gets.{get_in_take}
+use Rattle.ae_netlist.proofs.Gets.{get_from_take, get_in_take}
 use Rattle.ae_netlist.proofs.Growing.{width_is, net_width}
 use Rattle.ae_tidy.specs.Images.{Maps, IsImage, AreSimple, Stands, is_simple}
 use Rattle.ae_tidy.specs.Marks.{IsKept, AreMarked, is_root}
 use Rattle.ae_tidy.specs.Copies.{IsCopied, IsMapped, wanted, present}
+use Rattle.ae_tidy.specs.Needed.{IsNeeded}
 use Rattle.ae_tidy.specs.Tidied.{IsTidied}
 use Rattle.ae_tidy.proofs.Shaping.{take_found, whole_count}
 use Rattle.ae_tidy.proofs.SameRuns.{IsAt, AreImages, read_as}
 use Rattle.ae_tidy.proofs.Copying.{image_input}
 use Rattle.ae_tidy.proofs.Connecting.{all_images, net_there}
 use Rattle.ae_tidy.proofs.Marking.{outlet_within}
+use Rattle.ae_tidy.proofs.NeededCopies.{all_needed, heads}
 
 -- ---- a net is known by its number among those of its kind
 
@@ -72,6 +74,21 @@ simple_memories (x ∷ cells) s =
     not_memory (Mem depth at next enable) e = cc
     not_memory (Peek mem at) e = refl
 
+-- a look needs a memory
+no_memories : (cells : List SizedCell) → IsFormed cells → count_of is_memory cells ≡ 0 → AreSimple cells
+no_memories cells formed none = record { each = λ n sized h. simple n sized.width sized.cell h (formed.each n sized h).cell }
+  where
+    no_memory : (n : ℕ) (sized : SizedCell) → slice_get cells n ≡ Some sized → is_memory sized.cell ≡ true → ⊥
+    no_memory n sized h e = let l : number_of is_memory cells n < count_of is_memory cells = number_within is_memory cells n sized h e in omega arith
+
+    simple : (n width : ℕ) (cell : Cell) → slice_get cells n ≡ Some (record { width = width; cell = cell }) → CellFits (take n cells) cells n width cell → is_simple cell ≡ true
+    simple n width (Input port) h fits = refl
+    simple n width (Const k) h fits = refl
+    simple n width (Op op args) h fits = refl
+    simple n width (Reg next) h fits = refl
+    simple n width (Mem depth at next enable) h fits = absurd (no_memory n _ h refl)
+    simple n width (Peek mem at) h fits = absurd (no_memory mem.0 _ (get_from_take cells n mem.0 _ fits.memory.found) refl)
+
 new_simple : (old new : List SizedCell) (keep : List Bool) (table : List (Option NetId)) (made : List NetId) (i d : ℕ) → AreImages old new table → IsCopied old keep new table made i d → AreSimple new
 new_simple old new keep table made i d a c = record {
   each = λ m x h.
@@ -84,9 +101,6 @@ new_simple old new keep table made i d a c = record {
 }
 
 -- ---- outputs
-
-heads : (y x : Outlet) (table : List (Option NetId)) (ys xs : List Outlet) → present (y ∷ ys) ≡ wanted table (x ∷ xs) → ◌≡◌ {A = Port × Option (Option NetId)} (y.port, Some (Some y.net)) (x.port, slice_get table x.net.0)
-heads y x table ys xs e = cc
 
 ports_same : (old new : List SizedCell) (table : List (Option NetId)) (xs ys : List Outlet) → AreImages old new table → present ys ≡ wanted table xs
     → map {B = Port × ℕ} (λ (o : Outlet). (o.port, width_of new o.net.0)) ys ≡ map {B = Port × ℕ} (λ (o : Outlet). (o.port, width_of old o.net.0)) xs
@@ -156,6 +170,7 @@ copied_none old keep = record {
   source = λ m k e. cc;
   kept = λ n l k. absurd (none_below n l);
   only = λ n m k. (let q : None ≡ Some (Some (record { 0 = m })) = k.found in cc);
+  rising = record { each = λ i j a b l h g. cc };
 }
   where
     none_below : (n : ℕ) → n < 0 → ⊥
@@ -164,8 +179,8 @@ copied_none old keep = record {
 -- ---- all together
 
 -- the netlist itself shows the same
-pub tidied_itself : (c : Circuit) → IsFormed c.cells → HaveNets c.cells c.outlets → IsTidied c c
-tidied_itself c formed shown = record {
+pub tidied_itself : (c : Circuit) → (AreSimple c.cells → ⊥) → IsFormed c.cells → HaveNets c.cells c.outlets → IsTidied c c
+tidied_itself c not_simple formed shown = record {
   inputs = refl;
   first = λ k e. refl;
   outputs = refl;
@@ -185,11 +200,12 @@ tidied_itself c formed shown = record {
   muls = refl;
   memories = omega arith;
   limit = omega arith;
+  lean = record { needed = λ none n l. absurd (not_simple (no_memories c.cells formed none)) };
 }
 
-pub tidied : (old new : Circuit) (keep : List Bool) (table : List (Option NetId)) (made : List NetId) (d : ℕ) → IsFormed old.cells → HasOneRun old.cells → AreSimple old.cells → AreMarked old keep
+pub tidied : (old new : Circuit) (keep : List Bool) (table : List (Option NetId)) (made : List NetId) (d : ℕ) → IsFormed old.cells → HasOneRun old.cells → AreSimple old.cells → AreMarked old keep → ((n : ℕ) → IsKept keep n → IsNeeded old n)
     → IsCopied old.cells keep new.cells table made (length old.cells) d → length new.cells ≤ d → present new.outlets ≡ wanted table old.outlets → IsFormed new.cells → HaveNets new.cells new.outlets → new.limit ≤ old.limit → IsTidied old new
-tidied old new keep table made d formed one simple marked c all outlets new_formed shown limit =
+tidied old new keep table made d formed one simple marked only c all outlets new_formed shown limit =
     let a : AreImages old.cells new.cells table = all_images old.cells new.cells keep table made (length old.cells) d all c in
     let whole : take (length old.cells) old.cells ≡ old.cells = take-length old.cells in
     let s : AreSimple new.cells = new_simple old.cells new.cells keep table made (length old.cells) d a c in
@@ -219,6 +235,10 @@ tidied old new keep table made d formed one simple marked c all outlets new_form
       muls = c.shape.muls ∙ ap (count_of is_mul) whole;
       memories = (let none : count_of is_memory new.cells ≡ 0 = simple_memories new.cells s in omega arith);
       limit = limit;
+      lean = record {
+        needed = λ none. all_needed old new keep table made (length old.cells) d a
+            (λ n sized h e. (let l : n < length old.cells = slice_get_within old.cells n sized h in c.kept n l (marked.rooted.roots.each n sized l h e))) outlets c only;
+      };
     }
   where
     input_root : (cell : Cell) → is_input cell ≡ true → is_root cell ≡ true

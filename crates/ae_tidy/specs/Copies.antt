@@ -10,6 +10,7 @@ use Rattle.ae_netlist.specs.Circuit.{IsAllowed, IsNet}
 use Rattle.ae_netlist.specs.Counts.{cells_of, count_of, number_of, is_input, is_mul}
 use Rattle.ae_tidy.specs.Images.{Maps, Stands}
 use Rattle.ae_tidy.specs.Marks.{IsKept}
+use Rattle.ae_tidy.specs.Places.{AreRising}
 
 -- inputs and products are those of the first cells of the old netlist
 pub record HasShape (old new : List SizedCell) (from : ℕ) : Type 0 where
@@ -32,6 +33,7 @@ pub record IsCopied (old : List SizedCell) (keep : List Bool) (new : List SizedC
   pub source : (m : ℕ) (k : NetId) → slice_get made m ≡ Some k → Maps table k.0 m
   pub kept : (n : ℕ) → n < from → IsKept keep n → IsMapped table n
   pub only : (n m : ℕ) → Maps table n m → IsKept keep n
+  pub rising : AreRising made
 
 -- a cell that may be added; a register may name any net that is there
 abbrev pub MayFollow : List SizedCell → ℕ → Cell → Type 0

@@ -5,6 +5,7 @@ use Rattle.ae_netlist.specs.declared.cell.Outlet.{Outlet}
 use Rattle.ae_netlist.specs.Circuit.{Circuit, IsFormed, HaveNets, width_of}
 use Rattle.ae_netlist.specs.Counts.{AreWhole, IsNumbered, cells_of, count_of, number_of, is_input, is_memory, is_mul}
 use Rattle.ae_netlist.specs.Runs.{Clock, word_at, IsRun}
+use Rattle.ae_tidy.specs.Needed.{IsLean}
 
 -- the outputs, in order: the port of each, and how wide the net is that it shows
 abbrev pub shown_ports : Circuit → List (Port × ℕ)
@@ -16,7 +17,8 @@ pub record ShowTheSame (old new : Circuit) (before after : List Clock) : Type 0 
   pub inputs : (t k n m : ℕ) → t < length after → IsNumbered is_input old.cells k n → IsNumbered is_input new.cells k m → word_at before t n ≡ word_at after t m
   pub outputs : (t k : ℕ) (o p : Outlet) → t < length after → slice_get old.outlets k ≡ Some o → slice_get new.outlets k ≡ Some p → word_at before t o.net.0 ≡ word_at after t p.net.0
 
--- inputs, outputs and products are those of the old netlist; every run shows what one of the old netlist shows
+-- inputs, outputs and products are those of the old netlist; every run shows what one of the old netlist shows; and
+-- every cell is needed
 pub record IsTidied (old new : Circuit) : Type 0 where
   pub inputs : cells_of is_input new.cells ≡ cells_of is_input old.cells
   pub first : (k : ℕ) → number_of is_input old.cells k ≡ k → take k new.cells ≡ take k old.cells
@@ -29,3 +31,4 @@ pub record IsTidied (old new : Circuit) : Type 0 where
   pub muls : count_of is_mul new.cells ≡ count_of is_mul old.cells
   pub memories : count_of is_memory new.cells ≤ count_of is_memory old.cells
   pub limit : new.limit ≤ old.limit
+  pub lean : IsLean new

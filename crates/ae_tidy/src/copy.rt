@@ -1,10 +1,11 @@
 // The copy of a netlist: its kept cells in order, equal ones once.
 
-ghost use Rattle.std.specs.Prelude.{◌≡◌, ◌<◌, ◌+◌, [], IfOk, OnOk, length};
+ghost use Rattle.std.specs.Prelude.{◌≡◌, ◌<◌, ◌+◌, ℕ, [], IfOk, OnOk, length};
 ghost use Rattle.ae_tidy.specs.Copies.{IsCopied, present, wanted};
 ghost use Rattle.ae_tidy.specs.Images.{AreSimple};
 ghost use Rattle.ae_tidy.specs.Marks.{AreMarked, IsKept};
-ghost use Rattle.ae_tidy.specs.Places.{AreMarks};
+ghost use Rattle.ae_tidy.specs.Needed.{IsNeeded};
+ghost use Rattle.ae_tidy.specs.Places.{AreMarks, AreMoved};
 ghost use Rattle.ae_tidy.specs.Tidied.{IsTidied};
 
 use crate::append::{add_late, append};
@@ -138,8 +139,10 @@ fn show(nl: &Netlist, _keep: &[bool], new: &mut Netlist, table: &Table) -> Resul
 pub fn copy(alloc: Global, nl: &Netlist, keep: &[bool], marks: &[u32]) -> Result<Tidied, AllocError>
     requires simple { AreSimple nl.now.cells }
     requires marked { AreMarked nl.now keep.now }
+    requires needed { (n : ℕ) → IsKept keep.now n → IsNeeded nl.now n }
     ensures tidied { IfOk result (λ t. IsTidied nl.now t.netlist) }
     ensures marks { IfOk result (λ t. AreMarks (length t.netlist.cells) (length marks.now) t.marks.items) }
+    ensures moved { IfOk result (λ t. (cells count : ℕ) → AreMarks cells count marks.now → AreMoved nl.now.cells t.netlist.cells marks.now t.marks.items) }
 {
     nl.formed();
     has_one_run(nl);

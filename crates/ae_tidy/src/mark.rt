@@ -1,7 +1,8 @@
 // Which nets are kept: a walk over what is read, in breadth, from the outputs, the inputs and the products on.
 
-ghost use Rattle.std.specs.Prelude.{◌≡◌, ◌<◌, ◌+◌, IfOk, OnOk, length, true};
+ghost use Rattle.std.specs.Prelude.{◌≡◌, ◌<◌, ◌+◌, ℕ, IfOk, OnOk, length, true};
 ghost use Rattle.ae_tidy.specs.Marks.{AreFollowed, AreMarked, AreOutputs, AreRooted, AreRoots, EachRead, Grows, IsKept, is_root};
+ghost use Rattle.ae_tidy.specs.Needed.{AreNeeded, IsNeeded, KeepsOnly, Reads};
 
 use crate::look::{cell_at, is_kept, net_at, outlet_at};
 use ae_netlist::{Cell, NetId, Netlist};
@@ -12,6 +13,7 @@ use std::alloc::{AllocError, Global};
 fn reach(keep: &mut Vec<bool>, line: &mut Vec<NetId>, net: NetId) -> Result<(), AllocError>
     requires { net.0 < length keep.old.items }
     ensures grows { OnOk result (Grows keep.old.items line.old.items keep.new.items line.new.items) }
+    ensures only { OnOk result (KeepsOnly (λ n. n ≡ net.0) keep.old.items line.old.items keep.new.items line.new.items) }
     ensures kept { OnOk result (IsKept keep.new.items net.0) }
 {
     if is_kept(keep, net) {
@@ -26,6 +28,7 @@ fn reach(keep: &mut Vec<bool>, line: &mut Vec<NetId>, net: NetId) -> Result<(), 
 fn reach_reads(keep: &mut Vec<bool>, line: &mut Vec<NetId>, cell: Cell) -> Result<(), AllocError>
     requires { EachRead (λ n. n < length keep.old.items) cell }
     ensures grows { OnOk result (Grows keep.old.items line.old.items keep.new.items line.new.items) }
+    ensures only { OnOk result (KeepsOnly (Reads cell) keep.old.items line.old.items keep.new.items line.new.items) }
     ensures kept { OnOk result (EachRead (IsKept keep.new.items) cell) }
 {
     match cell {
@@ -55,6 +58,7 @@ fn reach_root(
 ) -> Result<(), AllocError>
     requires { net.0 < length keep.old.items }
     ensures grows { OnOk result (Grows keep.old.items line.old.items keep.new.items line.new.items) }
+    ensures only { OnOk result (KeepsOnly (λ n. (n ≡ net.0) × (is_root cell ≡ true)) keep.old.items line.old.items keep.new.items line.new.items) }
     ensures kept { OnOk result (is_root cell ≡ true → IsKept keep.new.items net.0) }
 {
     if is_root(cell) {
@@ -67,6 +71,7 @@ fn reach_root(
 fn reach_roots(nl: &Netlist, keep: &mut Vec<bool>, line: &mut Vec<NetId>) -> Result<(), AllocError>
     requires { length keep.old.items ≡ length nl.now.cells }
     ensures grows { OnOk result (Grows keep.old.items line.old.items keep.new.items line.new.items) }
+    ensures only { OnOk result (KeepsOnly (IsNeeded nl.now) keep.old.items line.old.items keep.new.items line.new.items) }
     ensures roots { OnOk result (AreRoots nl.now.cells keep.new.items (length nl.now.cells)) }
 {
     for n in 0..nl.len() {
@@ -84,6 +89,7 @@ fn reach_outputs(
 ) -> Result<(), AllocError>
     requires { length keep.old.items ≡ length nl.now.cells }
     ensures grows { OnOk result (Grows keep.old.items line.old.items keep.new.items line.new.items) }
+    ensures only { OnOk result (KeepsOnly (IsNeeded nl.now) keep.old.items line.old.items keep.new.items line.new.items) }
     ensures outputs { OnOk result (AreOutputs nl.now.outlets keep.new.items (length nl.now.outlets)) }
 {
     nl.formed();
@@ -104,8 +110,10 @@ fn follow_one(
     requires within { k < length line.old.items }
     requires rooted { AreRooted nl.now keep.old.items }
     requires followed { AreFollowed nl.now.cells keep.old.items line.old.items k }
+    requires needed { AreNeeded nl.now keep.old.items line.old.items }
     ensures grows { OnOk result (Grows keep.old.items line.old.items keep.new.items line.new.items) }
     ensures followed { OnOk result (AreFollowed nl.now.cells keep.new.items line.new.items (k + 1)) }
+    ensures needed { OnOk result (AreNeeded nl.now keep.new.items line.new.items) }
 {
     nl.formed();
     let net = net_at(line, k);
@@ -120,7 +128,9 @@ fn follow_one(
 fn follow(nl: &Netlist, keep: &mut Vec<bool>, line: &mut Vec<NetId>) -> Result<(), AllocError>
     requires rooted { AreRooted nl.now keep.old.items }
     requires followed { AreFollowed nl.now.cells keep.old.items line.old.items 0 }
-    ensures { OnOk result (AreMarked nl.now keep.new.items) }
+    requires needed { AreNeeded nl.now keep.old.items line.old.items }
+    ensures marked { OnOk result (AreMarked nl.now keep.new.items) }
+    ensures needed { OnOk result ((n : ℕ) → IsKept keep.new.items n → IsNeeded nl.now n) }
 {
     let mut k = 0;
     while k < line.len() {
@@ -130,9 +140,11 @@ fn follow(nl: &Netlist, keep: &mut Vec<bool>, line: &mut Vec<NetId>) -> Result<(
     Ok(())
 }
 
-/// For each net whether it is kept: the inputs, the products and what outputs show are, and all that a kept net reads.
+/// For each net whether it is kept: the inputs, the products and what outputs show are, and all that a kept net reads, and
+/// no other.
 pub fn mark(alloc: Global, nl: &Netlist) -> Result<Vec<bool>, AllocError>
-    ensures { IfOk result (λ keep. AreMarked nl.now keep.items) }
+    ensures marked { IfOk result (λ keep. AreMarked nl.now keep.items) }
+    ensures needed { IfOk result (λ keep. (n : ℕ) → IsKept keep.items n → IsNeeded nl.now n) }
 {
     let mut keep = vec![in alloc; false; nl.len() as usize]?;
     let mut line = Vec::new(alloc);

@@ -1,8 +1,9 @@
 // Where parts of a netlist begin in its copy.
 
-ghost use Rattle.std.specs.Prelude.{◌≡◌, ◌≤◌, ◌<◌, IfOk, length};
-ghost use Rattle.ae_tidy.specs.Places.{AreMarks};
+ghost use Rattle.std.specs.Prelude.{◌≡◌, ◌≤◌, ◌<◌, ℕ, IfOk, length};
+ghost use Rattle.ae_tidy.specs.Places.{AreBefore, AreCut, AreMarks, AreRising, IsCut};
 
+use crate::look::net_at;
 use ae_netlist::NetId;
 use std::alloc::{AllocError, Global};
 
@@ -10,12 +11,15 @@ use std::alloc::{AllocError, Global};
 fn made_before(made: &[NetId], from: u32, mark: u32) -> u32
     requires few { length made.now < 4294967296 }
     requires sure { from ≤ length made.now }
+    requires rising { AreRising made.now }
     ensures more { from ≤ result }
     ensures within { result ≤ length made.now }
+    ensures cut { AreBefore made.now from mark → IsCut made.now mark result }
 {
     let end = made.len() as u32;
     for count in from..end {
-        if made[count as usize].0 >= mark {
+        let own = net_at(made, count as usize);
+        if own.0 >= mark {
             return count;
         }
     }
@@ -26,7 +30,9 @@ fn made_before(made: &[NetId], from: u32, mark: u32) -> u32
 /// one pass.
 pub fn moved(alloc: Global, made: &[NetId], marks: &[u32]) -> Result<Vec<u32>, AllocError>
     requires few { length made.now < 4294967296 }
-    ensures { IfOk result (λ v. AreMarks (length made.now) (length marks.now) v.items) }
+    requires rising { AreRising made.now }
+    ensures marks { IfOk result (λ v. AreMarks (length made.now) (length marks.now) v.items) }
+    ensures cut { IfOk result (λ v. (cells count : ℕ) → AreMarks cells count marks.now → AreCut made.now marks.now v.items) }
 {
     let mut places = Vec::new(alloc);
     let mut count = 0;
