@@ -1,9 +1,7 @@
 -- What the netlist that a module's text is read back as shows, the module shows.
-use Rattle.std.proofs.Common.{◌≡◌, ◌*◌, ℕ, List, All, length, map, Some, slice_get, ap, sym, ◌∙◌, subst}
-use Rattle.std.proofs.lemmas.List.{length-map}
+use Rattle.std.proofs.Common.{◌≡◌, ℕ, List, All, length, map, subst}
 use Rattle.std.proofs.lemmas.List.Elements.{All-weaker}
-use Rattle.ae_seqtype.specs.ValueTree.{ValueTree, cut, flat}
-use Rattle.ae_sttype.specs.StTree.{StTree}
+use Rattle.ae_seqtype.specs.ValueTree.{ValueTree, flat}
 use Rattle.ae_seq.specs.ProgramTree.{ProgramTree}
 use Rattle.ae_rewrite.specs.StProgramTree.{StFuncTree}
 use Rattle.ae_netlist.specs.Circuit.{Circuit}

@@ -39,6 +39,6 @@ correct lines p slowdown costs ins outs n laid c same = record {
   outputs = outs;
   layouts = laid.layouts;
   ports = ports_are lines p slowdown costs ins outs n c;
-  clocked lines = clocked lines n.cells n.outlets (length outs);
-  keeps lines = keeps lines p slowdown costs ins outs n c same (ins_filling p slowdown ins outs laid) (outs_filling p slowdown ins outs laid);
+  clocked = clocked lines n.cells n.outlets (length outs);
+  keeps = keeps lines p slowdown costs ins outs n c same (ins_filling p slowdown ins outs laid) (outs_filling p slowdown ins outs laid);
 }

@@ -1,4 +1,4 @@
-use Rattle.std.proofs.Common.{◌≡◌, ◌++◌, ◌^◌, ◌<◌, ℕ, length, map, arith, sym, subst}
+use Rattle.std.proofs.Common.{◌≡◌, ℕ, map, arith, sym, subst}
 use Rattle.std.specs.Prelude.{string_bytes}
 use Rattle.std.proofs.lemmas.List.{length-map}
 use Rattle.ae_sttype.specs.StTree.{st_tree}
@@ -18,7 +18,7 @@ write_module-requires c = record { printed = rw c.deref.ensures.value c.requires
 pub returns-clause-spells : goal.returns-clause-spells
 returns-clause-spells c =
     let d = c.args.compiled.now in
-    subst (λ (k : ℕ). Spells (string_bytes c.in_ok-text.text) (noted_module (map note_tree d.notes.items) d.netlist.cells d.netlist.outlets k)) (sym (length-map d.report.outs.items st_tree)) c.in_ok-text.ensures.spells
+    subst (λ (k : ℕ). Spells (string_bytes c.in_ok-text.text) (noted_module (map note_tree d.notes.items) d.netlist.cells d.netlist.outlets k)) (sym (length-map d.report.outs.items st_tree)) (rw c.deref.ensures.value at c.in_ok-text.ensures.spells)
 
 pub returns-clause-text : goal.returns-clause-text
 returns-clause-text c =
@@ -34,8 +34,8 @@ returns-clause-text c =
       spelled = c.spelled_once.ensures;
     } in
     let is : IsTextOf report d.netlist (map note_tree d.notes.items) text = record {
-      spells = subst (λ (k : ℕ). Spells text (noted_module (map note_tree d.notes.items) d.netlist.cells d.netlist.outlets k)) many c.in_ok-text.ensures.spells;
-      stars_are = subst (λ (k : ℕ). stars (noted_module (map note_tree d.notes.items) d.netlist.cells d.netlist.outlets k) ≡ count_of is_mul d.netlist.cells) many c.in_ok-text.ensures.stars;
+      spells = subst (λ (k : ℕ). Spells text (noted_module (map note_tree d.notes.items) d.netlist.cells d.netlist.outlets k)) many (rw c.deref.ensures.value at c.in_ok-text.ensures.spells);
+      stars_are = subst (λ (k : ℕ). stars (noted_module (map note_tree d.notes.items) d.netlist.cells d.netlist.outlets k) ≡ count_of is_mul d.netlist.cells) many (rw c.deref.ensures.value at c.in_ok-text.ensures.stars);
       rest = c.in_ok-text.ensures.reports.0;
       reports = c.in_ok-text.ensures.reports.1;
       clean = c.in_ok-text.ensures.clean;
