@@ -22,7 +22,7 @@ ROWS = [
 
 def register_bits(module):
     """The bits of all registers that a module declares."""
-    declared = re.findall(r"^  reg (?:\[(\d+):0\] )?n\d+;$", module, re.MULTILINE)
+    declared = re.findall(r"^  reg (?:\[(\d+):0\] )?(?:l\d+_)?n\d+;$", module, re.MULTILINE)
     return sum(int(high) + 1 if high else 1 for high in declared)
 
 

@@ -19,7 +19,7 @@ use Rattle.ae_elab.specs.SameRuns.{HasSameRuns}
 use Rattle.ae_elab.specs.Weight.{weight}
 use Rattle.ae_verilog.specs.NetlistModule.{netlist_module}
 use Rattle.ae_verilog.specs.Written.{IsWritableNetlist}
-use Rattle.ae_verilog.specs.Notes.{ArePrinted, NoteTree}
+use Rattle.ae_verilog.specs.Notes.{ArePrinted, NoteTree, lines_of, noted_module}
 use Rattle.ae_verilog.specs.ReportLines.{ReportTree}
 use Rattle.ae_ports.specs.CircuitFor.{IsCircuitFor}
 use Rattle.ae_ports.specs.Ports.{SizedPort, input_cell, reset_port, streams_of}
@@ -61,7 +61,7 @@ can_be_stalled p slowdown instances times n law k light circuits =
     let s = key.instance in
     let made = law p slowdown instances s n k.typed k.schedule k.sound key.here (circuits s key.here) in
     let laid : IsLaidOut p slowdown s.ins _ = record { typed = k.typed; some = k.some; most = k.most; layouts = made.0 } in
-    let ports = few_ports p slowdown (main_costs instances) s.ins _ n laid made.1 in
+    let ports = few_ports (λ net. 0) p slowdown (main_costs instances) s.ins _ n laid made.1 in
     let load : (main_costs instances).load ≤ 50000 = light in
     record {
       reset = head_is n.cells reset_port (net_side.input_ports (streams_of s.ins)) (circuit_ports p slowdown (main_costs instances) s.ins _ n made.1).inputs.first;
@@ -140,21 +140,21 @@ pub record HaveStalledLaws : Type 0 where
   pub writing : HaveWriting
   pub writable : StalledCircuitsAreWritable
   pub correct : StalledCircuitsAreCorrect
-  pub light : (n : Circuit) (outs : ℕ) → weight (netlist_module n.cells n.outlets outs) ≤ 1 + 4 * length n.cells + 4 * length n.outlets
+  pub light : (lines : ℕ → ℕ) (n : Circuit) (outs : ℕ) → weight (netlist_module lines n.cells n.outlets outs) ≤ 1 + 4 * length n.cells + 4 * length n.outlets
   pub once : (m : ModuleTree) → IsWellFormed m → HasOneRun m
   pub spelled : (text : List ℕ) (m n : ModuleTree) → length text < 2 ^ 32 → Spells text m → Spells text n → m ≡ n
 
 -- how many ports it has: those of the module without the enable, and this
-stalled_ports_many : (p : ProgramTree) (slowdown : ℕ) (costs : OwnCosts) (ins outs : List StTree) (plain n : Circuit) → IsCircuitFor p slowdown costs ins outs plain → IsStalled plain n
-    → length (ports_of (netlist_module n.cells n.outlets (length outs))) ≡ 3 + length (net_side.input_ports (streams_of ins)) + length plain.outlets
-stalled_ports_many p slowdown costs ins outs plain n c still =
+stalled_ports_many : (lines : ℕ → ℕ) (p : ProgramTree) (slowdown : ℕ) (costs : OwnCosts) (ins outs : List StTree) (plain n : Circuit) → IsCircuitFor p slowdown costs ins outs plain → IsStalled plain n
+    → length (ports_of (netlist_module lines n.cells n.outlets (length outs))) ≡ 3 + length (net_side.input_ports (streams_of ins)) + length plain.outlets
+stalled_ports_many lines p slowdown costs ins outs plain n c still =
     let many : ℕ = length outs in
     let given = net_side.input_ports (streams_of ins) in
     let own = circuit_ports p slowdown costs ins outs plain c in
     let have : HavePorts n.cells n.outlets (reset_port ∷ enable_port ∷ given) (outs_of outs) = stalled_ports_are plain n reset_port given (outs_of outs) still c.shown own in
     let shown : length plain.outlets ≡ length (outs_of outs) = sym (length-map plain.outlets (net_side.outlet_port plain.cells)) ∙ ap length own.outputs in
-    let filtered : length (ports_of (netlist_module n.cells n.outlets many)) ≡ 1 + (length (map in_net (reset_port ∷ enable_port ∷ given)) + length (map (out_net many) (outs_of outs))) =
-    length-map (filter is_port (netlist_module n.cells n.outlets many).nets) port_of ∙ ap length (ports_filtered n.cells n.outlets many (reset_port ∷ enable_port ∷ given) (outs_of outs) have)
+    let filtered : length (ports_of (netlist_module lines n.cells n.outlets many)) ≡ 1 + (length (map in_net (reset_port ∷ enable_port ∷ given)) + length (map (out_net many) (outs_of outs))) =
+    length-map (filter is_port (netlist_module lines n.cells n.outlets many).nets) port_of ∙ ap length (ports_filtered lines n.cells n.outlets many (reset_port ∷ enable_port ∷ given) (outs_of outs) have)
     ∙ omega (arith, length-append (map in_net (reset_port ∷ enable_port ∷ given)) (map (out_net many) (outs_of outs))) in
     omega (arith, filtered, length-map (reset_port ∷ enable_port ∷ given) in_net, length-map (outs_of outs) (out_net many), shown)
 
@@ -163,18 +163,19 @@ pub stalled_is : (p : ProgramTree) (slowdown : ℕ) (instances : List StFuncTree
 stalled_is p slowdown instances n report notes text laws light d t =
     let costs = main_costs instances in
     let many : ℕ = length report.outs in
-    let m : ModuleTree = netlist_module n.cells n.outlets many in
+    let lines : ℕ → ℕ = lines_of notes (length n.cells) in
+    let m : ModuleTree = noted_module notes n.cells n.outlets many in
     let load : costs.load ≤ 50000 = light in
-    let ports = few_ports p slowdown costs report.ins report.outs d.plain d.laid d.circuit in
+    let ports = few_ports lines p slowdown costs report.ins report.outs d.plain d.laid d.circuit in
     let plain_writable : IsWritableNetlist d.plain.cells d.plain.outlets many = laws.writing.writable p slowdown costs report.ins report.outs d.plain d.laid (omega (arith, load)) d.circuit in
-    let plain_same : HasSameRuns (netlist_module d.plain.cells d.plain.outlets many) d.plain = laws.writing.runs d.plain many plain_writable in
+    let plain_same : HasSameRuns (netlist_module lines d.plain.cells d.plain.outlets many) d.plain = laws.writing.runs lines d.plain many plain_writable in
     let writable : IsWritableNetlist n.cells n.outlets many = laws.writable p slowdown costs report.ins report.outs d.plain n d.laid light d.circuit d.stalled in
-    let same : HasSameRuns m n = laws.writing.runs n many writable in
+    let same : HasSameRuns m n = laws.writing.runs lines n many writable in
     let outlets : length n.outlets ≡ length d.plain.outlets = ap (λ (os : List Outlet). length os) d.stalled.outputs ∙ length-map d.plain.outlets moved_outlet in
     let cells = d.stalled.small in
     let small = d.circuit.small in
-    let all = stalled_ports_many p slowdown costs report.ins report.outs d.plain n d.circuit d.stalled in
-    let formed : IsWellFormed m = laws.writing.formed n many writable (omega (arith, cells, small, load, ports.inputs, ports.outputs, outlets)) in
+    let all = stalled_ports_many lines p slowdown costs report.ins report.outs d.plain n d.circuit d.stalled in
+    let formed : IsWellFormed m = laws.writing.formed lines n many writable (omega (arith, cells, small, load, ports.inputs, ports.outputs, outlets)) in
     record {
       listing = record { circuit = n; report = report; notes = notes; compiled = d; listed = t.listed };
       tree = m;
@@ -182,9 +183,9 @@ stalled_is p slowdown instances n report notes text laws light d t =
       only = λ other spelled. laws.spelled text other m t.few spelled t.spells;
       formed = formed;
       one_run = laws.once m formed;
-      correct = laws.correct p slowdown costs report.ins report.outs d.plain n d.laid d.circuit d.stalled plain_same same;
+      correct = laws.correct lines p slowdown costs report.ins report.outs d.plain n d.laid d.circuit d.stalled plain_same same;
       products = t.stars_are ∙ (d.stalled.muls ∙ d.circuit.muls);
-      light = omega (arith, laws.light n many, cells, small, all, outlets);
+      light = omega (arith, laws.light lines n many, cells, small, all, outlets);
       rest = t.rest;
       reports = t.reports;
       clean = t.clean;

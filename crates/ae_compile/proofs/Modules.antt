@@ -1,5 +1,5 @@
 -- The text of a program's module.
-use Rattle.std.proofs.Common.{◌≡◌, ℕ, ◌+◌, ◌*◌, ◌^◌, ◌<◌, ◌≤◌, zero, suc, List, [], ◌∷◌, ◌++◌, length, map, take, filter, length-append, None, Some, slice_get, IsTrue, refl, arith, ap, sym, ◌∙◌, subst}
+use Rattle.std.proofs.Common.{◌≡◌, ℕ, ◌+◌, ◌*◌, ◌^◌, ◌<◌, ◌≤◌, zero, suc, List, [], ◌∷◌, ◌++◌, length, map, take, filter, length-append, Some, slice_get, IsTrue, refl, arith, ap, sym, ◌∙◌, subst}
 use Rattle.std.proofs.lemmas.List.{length-map}
 use Rattle.std.proofs.lemmas.Option.{same_Some, slice_get_within}
 use Rattle.std.specs.List.{list_all}
@@ -39,7 +39,7 @@ use Rattle.ae_ports.proofs.Columns.{stream_columns}
 use Rattle.ae_correct.proofs.Keeps.{circuit_ports, ins_of, outs_of}
 use Rattle.ae_correct.proofs.Nets.{in_net, out_net, ports_filtered}
 use Rattle.ae_correct.proofs.Places.{columns_more, length_from}
-use Rattle.ae_verilog.specs.Notes.{NoteTree}
+use Rattle.ae_verilog.specs.Notes.{NoteTree, lines_of, noted_module}
 use Rattle.ae_verilog.specs.Text.{whole_text}
 use Rattle.ae_compile.specs.Building.{IsModuleText, IsWritten}
 use Rattle.ae_compile.specs.Compiling.{IsCompiled}
@@ -65,10 +65,10 @@ all_columns (s ∷ ss) h = omega (arith, columns_more (stream_of s) (streams_of 
 
 -- ---- how many ports a circuit has
 
-pub record HasFewPorts (ins outs : List StTree) (n : Circuit) : Type 0 where
+pub record HasFewPorts (lines : ℕ → ℕ) (ins outs : List StTree) (n : Circuit) : Type 0 where
   pub inputs : length (net_side.input_ports (streams_of ins)) ≤ 131072
   pub outputs : length n.outlets ≤ 131072
-  pub all : length (ports_of (netlist_module n.cells n.outlets (length outs))) ≡ 2 + length (net_side.input_ports (streams_of ins)) + length n.outlets
+  pub all : length (ports_of (netlist_module lines n.cells n.outlets (length outs))) ≡ 2 + length (net_side.input_ports (streams_of ins)) + length n.outlets
 
 -- an entry of a list that is mapped
 pub record IsMapped {A B : Type 0} (f : A → B) (xs : List A) (k : ℕ) (y : B) : Type 0 where
@@ -89,14 +89,14 @@ small_results instances s sound found q t e =
     let m = unmapped (item_layout (item_layouts s)) s.results q t e in
     subst IsInSize m.is (all_items (last_of instances) s own m.from (own.results q m.from m.found)).size
 
-pub few_ports : (p : ProgramTree) (slowdown : ℕ) (costs : OwnCosts) (ins outs : List StTree) (n : Circuit) → IsLaidOut p slowdown ins outs → IsCircuitFor p slowdown costs ins outs n → HasFewPorts ins outs n
-few_ports p slowdown costs ins outs n laid c =
+pub few_ports : (lines : ℕ → ℕ) → (p : ProgramTree) (slowdown : ℕ) (costs : OwnCosts) (ins outs : List StTree) (n : Circuit) → IsLaidOut p slowdown ins outs → IsCircuitFor p slowdown costs ins outs n → HasFewPorts lines ins outs n
+few_ports lines p slowdown costs ins outs n laid c =
     let many : ℕ = length outs in
     let have = circuit_ports p slowdown costs ins outs n c in
     let given = net_side.input_ports (streams_of ins) in
     let shown : length n.outlets ≡ length (outs_of outs) = sym (length-map n.outlets (outlet_port n.cells)) ∙ ap length have.outputs in
-    let filtered : length (ports_of (netlist_module n.cells n.outlets many)) ≡ 1 + (length (map in_net (ins_of ins)) + length (map (out_net many) (outs_of outs))) =
-    length-map (filter is_port (netlist_module n.cells n.outlets many).nets) port_of ∙ ap length (ports_filtered n.cells n.outlets many (ins_of ins) (outs_of outs) have) ∙ omega (arith, length-append (map in_net (ins_of ins)) (map (out_net many) (outs_of outs))) in
+    let filtered : length (ports_of (netlist_module lines n.cells n.outlets many)) ≡ 1 + (length (map in_net (ins_of ins)) + length (map (out_net many) (outs_of outs))) =
+    length-map (filter is_port (netlist_module lines n.cells n.outlets many).nets) port_of ∙ ap length (ports_filtered lines n.cells n.outlets many (ins_of ins) (outs_of outs) have) ∙ omega (arith, length-append (map in_net (ins_of ins)) (map (out_net many) (outs_of outs))) in
     let in_columns : length given ≡ columns_in (streams_of ins) = length_from _ 0 (streams_of ins) in
     let out_columns : length (outs_of outs) ≡ columns_in (streams_of outs) = length_from _ 0 (streams_of outs) in
     record {
@@ -113,37 +113,37 @@ costs_are instances s t times found = times.costs s found ∙ ap (costs_in (all_
 -- the laws by which a netlist is written as a module
 pub record HaveWriting : Type 0 where
   pub writable : CircuitsAreWritable
-  pub runs : (n : Circuit) (outs : ℕ) → IsWritableNetlist n.cells n.outlets outs → HasSameRuns (netlist_module n.cells n.outlets outs) n
-  pub formed : (n : Circuit) (outs : ℕ) → IsWritableNetlist n.cells n.outlets outs → 1 + 4 * length n.cells + 4 * length n.outlets ≤ 10000000 → IsWellFormed (netlist_module n.cells n.outlets outs)
+  pub runs : (lines : ℕ → ℕ) (n : Circuit) (outs : ℕ) → IsWritableNetlist n.cells n.outlets outs → HasSameRuns (netlist_module lines n.cells n.outlets outs) n
+  pub formed : (lines : ℕ → ℕ) (n : Circuit) (outs : ℕ) → IsWritableNetlist n.cells n.outlets outs → 1 + 4 * length n.cells + 4 * length n.outlets ≤ 10000000 → IsWellFormed (netlist_module lines n.cells n.outlets outs)
 
 -- and those of its text and its correctness
 pub record HaveLaws : Type 0 where
   pub writing : HaveWriting
   pub correct : CircuitsAreCorrect
-  pub light : (n : Circuit) (outs : ℕ) → weight (netlist_module n.cells n.outlets outs) ≤ 1 + 4 * length n.cells + 4 * length n.outlets
+  pub light : (lines : ℕ → ℕ) (n : Circuit) (outs : ℕ) → weight (netlist_module lines n.cells n.outlets outs) ≤ 1 + 4 * length n.cells + 4 * length n.outlets
   pub once : (m : ModuleTree) → IsWellFormed m → HasOneRun m
   pub spelled : (text : List ℕ) (m n : ModuleTree) → length text < 2 ^ 32 → Spells text m → Spells text n → m ≡ n
 
 -- the module of a compiled program's circuit
-pub record HasModule (n : Circuit) (many : ℕ) : Type 0 where
-  pub same : HasSameRuns (netlist_module n.cells n.outlets many) n
-  pub formed : IsWellFormed (netlist_module n.cells n.outlets many)
+pub record HasModule (n : Circuit) (notes : List NoteTree) (many : ℕ) : Type 0 where
+  pub same : HasSameRuns (noted_module notes n.cells n.outlets many) n
+  pub formed : IsWellFormed (noted_module notes n.cells n.outlets many)
 
-pub module_there : (p : ProgramTree) (slowdown : ℕ) (instances : List StFuncTree) (times : Times) (n : Circuit) (report : ReportTree) (notes : List NoteTree) → HaveWriting → IsKnown load_limit p slowdown instances times → IsCompiled p slowdown instances n report notes → HasModule n (length report.outs)
+pub module_there : (p : ProgramTree) (slowdown : ℕ) (instances : List StFuncTree) (times : Times) (n : Circuit) (report : ReportTree) (notes : List NoteTree) → HaveWriting → IsKnown load_limit p slowdown instances times → IsCompiled p slowdown instances n report notes → HasModule n notes (length report.outs)
 module_there p slowdown instances times n report notes laws k d =
     let many : ℕ = length report.outs in
-    let ports = few_ports p slowdown (main_costs instances) report.ins report.outs n d.laid d.circuit in
+    let ports = few_ports (lines_of notes (length n.cells)) p slowdown (main_costs instances) report.ins report.outs n d.laid d.circuit in
     let writable : IsWritableNetlist n.cells n.outlets many = laws.writable p slowdown (main_costs instances) report.ins report.outs n d.laid k.light d.circuit in
     let small = d.circuit.small in
     let light = k.light in
-    record { same = laws.runs n many writable; formed = laws.formed n many writable (omega (arith, small, light, ports.inputs, ports.outputs)) }
+    record { same = laws.runs (lines_of notes (length n.cells)) n many writable; formed = laws.formed (lines_of notes (length n.cells)) n many writable (omega (arith, small, light, ports.inputs, ports.outputs)) }
 
 pub module_is : (p : ProgramTree) (slowdown : ℕ) (instances : List StFuncTree) (times : Times) (n : Circuit) (report : ReportTree) (notes : List NoteTree) (text : List ℕ) → HaveLaws → IsKnown load_limit p slowdown instances times → IsCompiled p slowdown instances n report notes
     → IsWritten report n notes text → IsModuleText p slowdown instances text
 module_is p slowdown instances times n report notes text laws k d t =
     let many : ℕ = length report.outs in
-    let m : ModuleTree = netlist_module n.cells n.outlets many in
-    let ports = few_ports p slowdown (main_costs instances) report.ins report.outs n d.laid d.circuit in
+    let m : ModuleTree = noted_module notes n.cells n.outlets many in
+    let ports = few_ports (lines_of notes (length n.cells)) p slowdown (main_costs instances) report.ins report.outs n d.laid d.circuit in
     let has = module_there p slowdown instances times n report notes laws.writing k d in
     let small = d.circuit.small in
     record {
@@ -153,9 +153,9 @@ module_is p slowdown instances times n report notes text laws k d t =
       only = λ other spelled. laws.spelled text other m t.few spelled t.spells;
       formed = has.formed;
       one_run = laws.once m has.formed;
-      correct = laws.correct p slowdown (main_costs instances) report.ins report.outs n d.laid d.circuit has.same;
+      correct = laws.correct (lines_of notes (length n.cells)) p slowdown (main_costs instances) report.ins report.outs n d.laid d.circuit has.same;
       products = t.stars_are ∙ d.circuit.muls;
-      light = omega (arith, laws.light n many, small, ports.all);
+      light = omega (arith, laws.light (lines_of notes (length n.cells)) n many, small, ports.all);
       rest = t.rest;
       reports = t.reports;
       clean = t.clean;

@@ -1,9 +1,7 @@
 -- What the netlist that a module's text is read back as shows, the module shows.
-use Rattle.std.proofs.Common.{◌≡◌, ◌*◌, ℕ, List, All, length, map, Some, slice_get, ap, sym, ◌∙◌, subst}
-use Rattle.std.proofs.lemmas.List.{length-map}
+use Rattle.std.proofs.Common.{◌≡◌, ℕ, List, All, length, map, subst}
 use Rattle.std.proofs.lemmas.List.Elements.{All-weaker}
-use Rattle.ae_seqtype.specs.ValueTree.{ValueTree, cut, flat}
-use Rattle.ae_sttype.specs.StTree.{StTree}
+use Rattle.ae_seqtype.specs.ValueTree.{ValueTree, flat}
 use Rattle.ae_seq.specs.ProgramTree.{ProgramTree}
 use Rattle.ae_rewrite.specs.StProgramTree.{StFuncTree}
 use Rattle.ae_netlist.specs.Circuit.{Circuit}
@@ -37,11 +35,11 @@ pub record HavePlays (n : Circuit) (fill : ℕ) : Type 0 where
   pub one : HasOneRunWith n.cells
   pub begins : AreFirsts n.cells (filled n.cells fill)
 
-module _ (p : ProgramTree) (slowdown fill : ℕ) (instances : List StFuncTree) (times : Times) (n : Circuit) (report : ReportTree) (notes : List NoteTree) (played : Circuit)
+module _ (lines : ℕ → ℕ) (p : ProgramTree) (slowdown fill : ℕ) (instances : List StFuncTree) (times : Times) (n : Circuit) (report : ReportTree) (notes : List NoteTree) (played : Circuit)
     (laws : HavePlays n fill) (k : IsKnown load_limit p slowdown instances times) (d : IsCompiled p slowdown instances n report notes)
-    (same : HasSameRuns (netlist_module n.cells n.outlets (length report.outs)) n) (back : HasSameRuns (netlist_module n.cells n.outlets (length report.outs)) played) where
+    (same : HasSameRuns (netlist_module lines n.cells n.outlets (length report.outs)) n) (back : HasSameRuns (netlist_module lines n.cells n.outlets (length report.outs)) played) where
   abbrev own : ModuleTree
-  own = netlist_module n.cells n.outlets (length report.outs)
+  own = netlist_module lines n.cells n.outlets (length report.outs)
 
   lowered_fed : (count : ℕ) (words : List ℕ) → FitBlocks report.ins count words → (clocks : ℕ) → All (AreInputs n.cells) (fed_rows slowdown fill report.ins (blocks_of report.ins count words) clocks)
   lowered_fed count words fit clocks =
@@ -60,7 +58,7 @@ module _ (p : ProgramTree) (slowdown fill : ℕ) (instances : List StFuncTree) (
       laws.lines own played n slowdown report.latency fill report.ins report.outs bs text back same laws.one laws.begins (lowered_fed count words fit (clock_count slowdown report.latency (length bs))) shown in
       let flats : IsPlayedText n slowdown report.latency fill report.ins report.outs (map (map flat) blocks) text =
       subst (λ (cs : List (List (List ℕ))). IsPlayedText n slowdown report.latency fill report.ins report.outs cs text) laid lowered in
-      laws.shown p slowdown (main_costs instances) report.ins report.outs n report.latency fill blocks text d.laid d.circuit same values flats
+      laws.shown lines p slowdown (main_costs instances) report.ins report.outs n report.latency fill blocks text d.laid d.circuit same values flats
 
   sums_shown : (count : ℕ) (words : List ℕ) (blocks : List (List ValueTree)) (sums : Sums) → FitBlocks report.ins count words → AreProgramBlocks p blocks → blocks_of report.ins count words ≡ map (map flat) blocks
       → ArePlayedSums played slowdown report.latency fill report.ins report.outs (blocks_of report.ins count words) sums → AreClockSums own slowdown report.latency fill report.ins report.outs blocks sums
@@ -70,7 +68,7 @@ module _ (p : ProgramTree) (slowdown fill : ℕ) (instances : List StFuncTree) (
       laws.sums own played n slowdown report.latency fill report.ins report.outs bs sums back same laws.one laws.begins (lowered_fed count words fit (clock_count slowdown report.latency (length bs))) shown in
       let flats : ArePlayedSums n slowdown report.latency fill report.ins report.outs (map (map flat) blocks) sums =
       subst (λ (cs : List (List (List ℕ))). ArePlayedSums n slowdown report.latency fill report.ins report.outs cs sums) laid lowered in
-      laws.summed p slowdown (main_costs instances) report.ins report.outs n report.latency fill blocks sums d.laid d.circuit same values flats
+      laws.summed lines p slowdown (main_costs instances) report.ins report.outs n report.latency fill blocks sums d.laid d.circuit same values flats
 
-  pub shows_is : Shows p slowdown report.latency fill report.ins report.outs (netlist_module n.cells n.outlets (length report.outs)) played
+  pub shows_is : Shows p slowdown report.latency fill report.ins report.outs (netlist_module lines n.cells n.outlets (length report.outs)) played
   shows_is = record { feeds = fed_back; lines = lines_shown; sums = sums_shown }

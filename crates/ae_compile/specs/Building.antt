@@ -8,8 +8,7 @@ use Rattle.ae_vread.specs.Spells.{Spells, stars}
 use Rattle.ae_elab.specs.Faults.{IsWellFormed}
 use Rattle.ae_elab.specs.Runs.{HasOneRun}
 use Rattle.ae_elab.specs.Weight.{weight}
-use Rattle.ae_verilog.specs.NetlistModule.{netlist_module}
-use Rattle.ae_verilog.specs.Notes.{NoteTree}
+use Rattle.ae_verilog.specs.Notes.{NoteTree, noted_module}
 use Rattle.ae_verilog.specs.ReportLines.{ReportTree, report_lines, is_clean}
 use Rattle.ae_verilog.specs.Text.{whole_text}
 use Rattle.ae_seq.specs.ProgramTree.{ProgramTree}
@@ -31,8 +30,8 @@ pub record IsListing (IsMade : Circuit → ReportTree → List NoteTree → Type
 
 -- what is sure of the text that a circuit was written as
 pub record IsWritten (report : ReportTree) (n : Circuit) (notes : List NoteTree) (text : List ℕ) : Type 0 where
-  pub spells : Spells text (netlist_module n.cells n.outlets (length report.outs))
-  pub stars_are : stars (netlist_module n.cells n.outlets (length report.outs)) ≡ count_of is_mul n.cells
+  pub spells : Spells text (noted_module notes n.cells n.outlets (length report.outs))
+  pub stars_are : stars (noted_module notes n.cells n.outlets (length report.outs)) ≡ count_of is_mul n.cells
   pub rest : List ℕ
   pub reports : text ≡ report_lines report ++ rest
   pub clean : IsTrue (list_all is_clean text)

@@ -1,9 +1,9 @@
 // Reading a module's text back, for a run.
 
-ghost use Rattle.std.specs.Prelude.{◌<◌, ◌^◌, IfOk, length};
+ghost use Rattle.std.specs.Prelude.{◌<◌, ◌^◌, IfOk, length, map};
 ghost use Rattle.ae_seq.specs.ProgramTree.{program_tree};
 ghost use Rattle.ae_vread.specs.Spells.{Spells};
-ghost use Rattle.ae_verilog.specs.NetlistModule.{netlist_module};
+ghost use Rattle.ae_verilog.specs.Notes.{note_tree, noted_module};
 ghost use Rattle.ae_verilog.specs.ReportLines.{report_tree};
 ghost use Rattle.ae_compile.specs.Passes.{IsCompiledProgram};
 ghost use Rattle.ae_compile.specs.Playing.{Shows};
@@ -29,9 +29,9 @@ pub fn play(
 ) -> Result<Netlist, OutOfMemory>
     requires compiled { IsCompiledProgram compiled.now }
     requires short { length text.now < 2 ^ 32 }
-    requires spells { Spells text.now (netlist_module compiled.now.netlist.cells compiled.now.netlist.outlets (length (report_tree compiled.now.report).outs)) }
+    requires spells { Spells text.now (noted_module (map note_tree compiled.now.notes.items) compiled.now.netlist.cells compiled.now.netlist.outlets (length (report_tree compiled.now.report).outs)) }
     ensures { IfOk result (λ n. Shows (program_tree compiled.now.costed.program) compiled.now.costed.slowdown compiled.now.report.latency fill (report_tree compiled.now.report).ins (report_tree compiled.now.report).outs
-        (netlist_module compiled.now.netlist.cells compiled.now.netlist.outlets (length (report_tree compiled.now.report).outs)) n) }
+        (noted_module (map note_tree compiled.now.notes.items) compiled.now.netlist.cells compiled.now.netlist.outlets (length (report_tree compiled.now.report).outs)) n) }
 {
     plays_are_shown();
     sums_are_shown();

@@ -4,8 +4,7 @@ ghost use Rattle.std.specs.Prelude.{◌<◌, ◌^◌, IfOk, length, map, string_
 ghost use Rattle.ae_seq.specs.ProgramTree.{program_tree};
 ghost use Rattle.ae_rewrite.specs.StProgramTree.{st_func_trees};
 ghost use Rattle.ae_vread.specs.Spells.{Spells};
-ghost use Rattle.ae_verilog.specs.NetlistModule.{netlist_module};
-ghost use Rattle.ae_verilog.specs.Notes.{ArePrinted, note_tree};
+ghost use Rattle.ae_verilog.specs.Notes.{ArePrinted, note_tree, noted_module};
 ghost use Rattle.ae_verilog.specs.ReportLines.{report_tree};
 ghost use Rattle.ae_compile.specs.Building.{IsModuleText, IsStalledText, IsWritten};
 ghost use Rattle.ae_compile.specs.Passes.{IsCompiledProgram, IsStalledProgram};
@@ -35,7 +34,7 @@ fn written(alloc: Global, compiled: &Compiled) -> Result<String, OutOfMemory>
 /// latency that the report tells. The error comes only for want of memory.
 pub fn module_text(alloc: Global, compiled: &Compiled) -> Result<String, OutOfMemory>
     requires { IsCompiledProgram compiled.now }
-    ensures spells { IfOk result (λ text. Spells (string_bytes text) (netlist_module compiled.now.netlist.cells compiled.now.netlist.outlets (length (report_tree compiled.now.report).outs))) }
+    ensures spells { IfOk result (λ text. Spells (string_bytes text) (noted_module (map note_tree compiled.now.notes.items) compiled.now.netlist.cells compiled.now.netlist.outlets (length (report_tree compiled.now.report).outs))) }
     ensures short { IfOk result (λ text. length (string_bytes text) < 2 ^ 32) }
     ensures text { IfOk result (λ text. IsModuleText (program_tree compiled.now.costed.program) compiled.now.costed.slowdown (st_func_trees compiled.now.costed.schedule) (string_bytes text)) }
 {

@@ -21,24 +21,24 @@ use Rattle.ae_correct.proofs.ModulePorts.{from_are}
 use Rattle.ae_correct.proofs.Laid.{ins_filling, outs_filling}
 use Rattle.ae_correct.proofs.Keeps.{circuit_ports, ins_of, outs_of, keeps}
 
-ports_are : (p : ProgramTree) (slowdown : ℕ) (costs : OwnCosts) (ins outs : List StTree) (n : Circuit) → IsCircuitFor p slowdown costs ins outs n → ports_of (netlist_module n.cells n.outlets (length outs)) ≡ program_ports ins outs
-ports_are p slowdown costs ins outs n c =
+ports_are : (lines : ℕ → ℕ) → (p : ProgramTree) (slowdown : ℕ) (costs : OwnCosts) (ins outs : List StTree) (n : Circuit) → IsCircuitFor p slowdown costs ins outs n → ports_of (netlist_module lines n.cells n.outlets (length outs)) ≡ program_ports ins outs
+ports_are lines p slowdown costs ins outs n c =
     let many : ℕ = length outs in
     let in_ports : List SizedPort = net_side.input_ports (streams_of ins) in
     let clk : ModulePort = record { name = codes "clk"; width = 1; is_output = false } in
     let rst : ModulePort = record { name = codes "rst"; width = 1; is_output = false } in
-    ap (map port_of) (ports_filtered n.cells n.outlets many (ins_of ins) (outs_of outs) (circuit_ports p slowdown costs ins outs n c))
+    ap (map port_of) (ports_filtered lines n.cells n.outlets many (ins_of ins) (outs_of outs) (circuit_ports p slowdown costs ins outs n c))
     ∙ ap (λ ps. clk ∷ rst ∷ ps) (map-append port_of (map in_net in_ports) (map (out_net many) (outs_of outs)))
     ∙ (λ i. clk ∷ rst ∷ (map_map port_of in_net in_ports i ++ map_map port_of (out_net many) (outs_of outs) i))
     ∙ (λ i. clk ∷ rst ∷ (from_are 1 false (λ param lane word. In param lane word) 0 ins i ++ from_are many true (λ result lane word. Out result lane word) 0 outs i))
 
 pub correct : CircuitsAreCorrect
-correct p slowdown costs ins outs n laid c same = record {
+correct lines p slowdown costs ins outs n laid c same = record {
   named = refl;
   inputs = ins;
   outputs = outs;
   layouts = laid.layouts;
-  ports = ports_are p slowdown costs ins outs n c;
-  clocked = clocked n.cells n.outlets (length outs);
-  keeps = keeps p slowdown costs ins outs n c same (ins_filling p slowdown ins outs laid) (outs_filling p slowdown ins outs laid);
+  ports = ports_are lines p slowdown costs ins outs n c;
+  clocked = clocked lines n.cells n.outlets (length outs);
+  keeps = keeps lines p slowdown costs ins outs n c same (ins_filling p slowdown ins outs laid) (outs_filling p slowdown ins outs laid);
 }

@@ -45,12 +45,12 @@ taken cells ports rows other t k p h takes below at =
     let there : slice_get cells k ≡ Some (input_cell p) = sym (slice_get-take (length ports) k cells within) ∙ ap (λ cs. slice_get cs k) h.first ∙ mapped_at input_cell ports k p at in
     takes.each t k (input_cell p) below there refl ∙ ap (λ i. get_or (get_or rows t []) i 0) (count_first cells ports k h.first (omega (arith, within)))
 
-module _ (n : Circuit) (many : ℕ) (ss : List StTree) (outs : List SizedPort) (h : HavePorts n.cells n.outlets (reset_port ∷ net_side.input_ports (streams_of ss)) outs) (run : List ModuleClock) (other : List Clock) (rows : List (List ℕ))
-    (alike : BeginAlike (tree n.cells n.outlets many (reset_port ∷ net_side.input_ports (streams_of ss)) outs h) n run other) (takes : TakesRows n.cells rows other) (long : length other ≡ length rows) where
+module _ (lines : ℕ → ℕ) (n : Circuit) (many : ℕ) (ss : List StTree) (outs : List SizedPort) (h : HavePorts n.cells n.outlets (reset_port ∷ net_side.input_ports (streams_of ss)) outs) (run : List ModuleClock) (other : List Clock) (rows : List (List ℕ))
+    (alike : BeginAlike (tree lines n.cells n.outlets many (reset_port ∷ net_side.input_ports (streams_of ss)) outs h) n run other) (takes : TakesRows n.cells rows other) (long : length other ≡ length rows) where
   pub reset_row : (t : ℕ) → t < length run → (clock_at run t).word (codes "rst") ≡ get_or (get_or rows t []) 0 0
   reset_row t below =
       let room : t < length rows = omega (arith, below, alike.long, long) in
-      input_alike n many (reset_port ∷ net_side.input_ports (streams_of ss)) outs h run other alike t 0 reset_port below refl
+      input_alike lines n many (reset_port ∷ net_side.input_ports (streams_of ss)) outs h run other alike t 0 reset_port below refl
       ∙ taken n.cells (reset_port ∷ net_side.input_ports (streams_of ss)) rows other t 0 reset_port h.inputs takes room refl
 
   pub input_row : (t q column : ℕ) (s : StTree) → t < length run → slice_get ss q ≡ Some s → column < length (stream_widths (stream_of s))
@@ -63,6 +63,6 @@ module _ (n : Circuit) (many : ℕ) (ss : List StTree) (outs : List SizedPort) (
       let there : slice_get (net_side.input_ports (streams_of ss)) (columns_in (take q (streams_of ss)) + column) ≡ Some c.port =
       port_there at 0 (streams_of ss) q column (stream_of s) c.port (mapped_at stream_of ss q s found) (ap (λ i. slice_get (stream_ports (at i) (stream_of s)) column) (sym z) ∙ c.here) in
       let place : 1 + columns_in (take q (streams_of ss)) + column ≡ suc (columns_in (take q (streams_of ss)) + column) = omega arith in
-      column_in n many ss outs h run other alike t q column s below found small
+      column_in lines n many ss outs h run other alike t q column s below found small
       ∙ ap (word_at other t) place
       ∙ taken n.cells (reset_port ∷ net_side.input_ports (streams_of ss)) rows other t (suc (columns_in (take q (streams_of ss)) + column)) c.port h.inputs takes room there

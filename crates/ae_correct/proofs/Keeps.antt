@@ -72,8 +72,8 @@ circuit_ports p slowdown costs ins outs n c =
 
 -- ---- blocks
 
-module _ (p : ProgramTree) (slowdown : ℕ) (costs : OwnCosts) (ins outs : List StTree) (n : Circuit) (c : IsCircuitFor p slowdown costs ins outs n)
-    (same : HasSameRuns (netlist_module n.cells n.outlets (length outs)) n) (size_in : AreFilling slowdown ins) (size_out : AreFilling slowdown outs) where
+module _ (lines : ℕ → ℕ) (p : ProgramTree) (slowdown : ℕ) (costs : OwnCosts) (ins outs : List StTree) (n : Circuit) (c : IsCircuitFor p slowdown costs ins outs n)
+    (same : HasSameRuns (netlist_module lines n.cells n.outlets (length outs)) n) (size_in : AreFilling slowdown ins) (size_out : AreFilling slowdown outs) where
   abbrev ports : HavePorts n.cells n.outlets (ins_of ins) (outs_of outs)
   ports = circuit_ports p slowdown costs ins outs n c
 
@@ -81,7 +81,7 @@ module _ (p : ProgramTree) (slowdown : ℕ) (costs : OwnCosts) (ins outs : List 
   many = length outs
 
   abbrev own : ModuleTree
-  own = netlist_module n.cells n.outlets (length outs)
+  own = netlist_module lines n.cells n.outlets (length outs)
 
   -- where the ports of the parameters hold a block, the inputs of the circuit do
   inputs_hold : (run : List ModuleClock) (other : List Clock) (start k : ℕ) (block : List ValueTree) → BeginAlike own n run other → start + (k + slowdown) ≤ length run
@@ -92,7 +92,7 @@ module _ (p : ProgramTree) (slowdown : ℕ) (costs : OwnCosts) (ins outs : List 
         let full : time t ≡ slowdown = fill.time in
         let there : Holds (input_wave other start (1 + columns_in (take q (streams_of ins)))) k (element_words t) (slots t) (flat (at block q)) =
         holds_alike k t (input_wave other start (1 + columns_in (take q (streams_of ins)))) (wave run start (input_ports q t)) (flat (at block q)) fill.size
-        (λ clock column low high small. sym (column_in n many ins (outs_of outs) ports run other alike (start + clock) q column t (omega (arith, full)) found small)) (held.each q t found) in
+        (λ clock column low high small. sym (column_in lines n many ins (outs_of outs) ports run other alike (start + clock) q column t (omega (arith, full)) found small)) (held.each q t found) in
         subst (λ i. Holds (input_wave other start (1 + i)) k (element_words t) (slots t) (flat (at block q))) (sym (first_columns ins q)) there;
   }
 
@@ -106,7 +106,7 @@ module _ (p : ProgramTree) (slowdown : ℕ) (costs : OwnCosts) (ins outs : List 
         let there : Holds (output_wave other n.outlets start (columns_in (take r (streams_of outs)))) k (element_words t) (slots t) (flat (at values r)) =
         subst (λ i. Holds (output_wave other n.outlets start i) k (element_words t) (slots t) (flat (at values r))) (first_columns outs r) (held.each r t found) in
         holds_alike k t (wave run start (output_ports many r t)) (output_wave other n.outlets start (columns_in (take r (streams_of outs)))) (flat (at values r)) fill.size
-        (λ clock column low high small. column_out n many outs (ins_of ins) ports run other equal (start + clock) r column t (omega (arith, full)) found small) there;
+        (λ clock column low high small. column_out lines n many outs (ins_of ins) ports run other equal (start + clock) r column t (omega (arith, full)) found small) there;
   }
 
   pub keeps : KeepsBlocks own p slowdown costs.latency ins outs
@@ -122,6 +122,6 @@ module _ (p : ProgramTree) (slowdown : ℕ) (costs : OwnCosts) (ins outs : List 
         let law_room : start + (costs.latency + (b + 1) * slowdown) ≤ length other = omega (arith, fits, long, same_long) in
         let out_room : start + (costs.latency + b * slowdown + slowdown) ≤ length run = omega (arith, fits, long) in
         let held = inputs_hold run other start (b * slowdown) block w.2 in_room g.1 in
-        let made = c.makes.makes other start b block w.1 (resets n many (net_side.input_ports (streams_of ins)) (outs_of outs) ports run other start w.2 reset) law_room g.0 held in
+        let made = c.makes.makes other start b block w.1 (resets lines n many (net_side.input_ports (streams_of ins)) (outs_of outs) ports run other start w.2 reset) law_room g.0 held in
         outputs_hold run other start (costs.latency + b * slowdown) (mean p block) w.3 out_room made);
   }

@@ -19,37 +19,37 @@ clock_append (nets drives ∷ xs) ys a b = clock_append xs ys a b
 clock_append (assigns drives ∷ xs) ys a b = clock_append xs ys a b
 clock_append (always clock body ∷ xs) ys a b = a
 
-declared_clock : (cells : List SizedCell) (n width : ℕ) (cell : Cell) → IsClock (first_clock (declaration cells n width cell))
-declared_clock cells n width (Input port) = inl refl
-declared_clock cells n width (Const k) = inl refl
-declared_clock cells n width (Op op args) = inl refl
-declared_clock cells n width (Reg next) = inl refl
-declared_clock cells n width (Mem depth at next enable) = inl refl
-declared_clock cells n width (Peek mem at) = inl refl
+declared_clock : (lines : ℕ → ℕ) → (cells : List SizedCell) (n width : ℕ) (cell : Cell) → IsClock (first_clock (declaration lines cells n width cell))
+declared_clock lines cells n width (Input port) = inl refl
+declared_clock lines cells n width (Const k) = inl refl
+declared_clock lines cells n width (Op op args) = inl refl
+declared_clock lines cells n width (Reg next) = inl refl
+declared_clock lines cells n width (Mem depth at next enable) = inl refl
+declared_clock lines cells n width (Peek mem at) = inl refl
 
-edge_clock : (cells : List SizedCell) (n : ℕ) (cell : Cell) → IsClock (first_clock (edge cells n cell))
-edge_clock cells n (Input port) = inl refl
-edge_clock cells n (Const k) = inl refl
-edge_clock cells n (Op op args) = inl refl
-edge_clock cells n (Reg next) = inr refl
-edge_clock cells n (Mem depth at next enable) = inr refl
-edge_clock cells n (Peek mem at) = inl refl
+edge_clock : (lines : ℕ → ℕ) → (cells : List SizedCell) (n : ℕ) (cell : Cell) → IsClock (first_clock (edge lines cells n cell))
+edge_clock lines cells n (Input port) = inl refl
+edge_clock lines cells n (Const k) = inl refl
+edge_clock lines cells n (Op op args) = inl refl
+edge_clock lines cells n (Reg next) = inr refl
+edge_clock lines cells n (Mem depth at next enable) = inr refl
+edge_clock lines cells n (Peek mem at) = inl refl
 
 listed_clock : (g : ℕ → SizedCell → List ItemTree) → ((n : ℕ) (s : SizedCell) → IsClock (first_clock (g n s))) → (k : ℕ) (cells : List SizedCell) → IsClock (first_clock (listed g k cells))
 listed_clock g h k [] = inl refl
 listed_clock g h k (c ∷ cells) = clock_append (g k c) (listed g (k + 1) cells) (h k c) (listed_clock g h (k + 1) cells)
 
-assigned_clock : (cells : List SizedCell) (outs : ℕ) (outlets : List Outlet) → IsClock (first_clock (map (assignment cells outs) outlets))
-assigned_clock cells outs [] = inl refl
-assigned_clock cells outs (o ∷ outlets) = assigned_clock cells outs outlets
+assigned_clock : (lines : ℕ → ℕ) → (cells : List SizedCell) (outs : ℕ) (outlets : List Outlet) → IsClock (first_clock (map (assignment lines cells outs) outlets))
+assigned_clock lines cells outs [] = inl refl
+assigned_clock lines cells outs (o ∷ outlets) = assigned_clock lines cells outs outlets
 
-items_clock : (cells : List SizedCell) (outlets : List Outlet) (outs : ℕ) → IsClock (first_clock (netlist_module cells outlets outs).items)
-items_clock cells outlets outs =
-    let declarations : ℕ → SizedCell → List ItemTree = λ n s. declaration cells n s.width s.cell in
-    let edges : ℕ → SizedCell → List ItemTree = λ n s. edge cells n s.cell in
-    clock_append (listed declarations 0 cells) (map (assignment cells outs) outlets ++ listed edges 0 cells)
-    (listed_clock declarations (λ n s. declared_clock cells n s.width s.cell) 0 cells)
-    (clock_append (map (assignment cells outs) outlets) (listed edges 0 cells) (assigned_clock cells outs outlets) (listed_clock edges (λ n s. edge_clock cells n s.cell) 0 cells))
+items_clock : (lines : ℕ → ℕ) → (cells : List SizedCell) (outlets : List Outlet) (outs : ℕ) → IsClock (first_clock (netlist_module lines cells outlets outs).items)
+items_clock lines cells outlets outs =
+    let declarations : ℕ → SizedCell → List ItemTree = λ n s. declaration lines cells n s.width s.cell in
+    let edges : ℕ → SizedCell → List ItemTree = λ n s. edge lines cells n s.cell in
+    clock_append (listed declarations 0 cells) (map (assignment lines cells outs) outlets ++ listed edges 0 cells)
+    (listed_clock declarations (λ n s. declared_clock lines cells n s.width s.cell) 0 cells)
+    (clock_append (map (assignment lines cells outs) outlets) (listed edges 0 cells) (assigned_clock lines cells outs outlets) (listed_clock edges (λ n s. edge_clock lines cells n s.cell) 0 cells))
 
 clock_or_clk : (rest : List NetTree) (o : Option (List ℕ)) → IsClock o → clock_or (clock_net ∷ rest) o ≡ Some (codes "clk")
 unfolding net_named
@@ -57,8 +57,8 @@ clock_or_clk rest o (inl e) = ap (clock_or (clock_net ∷ rest)) e
 clock_or_clk rest o (inr e) = ap (clock_or (clock_net ∷ rest)) e
 
 -- it is `clk`
-pub clocked : (cells : List SizedCell) (outlets : List Outlet) (outs : ℕ) → clock_name (netlist_module cells outlets outs) ≡ Some (codes "clk")
-clocked cells outlets outs = clock_or_clk _ (first_clock (netlist_module cells outlets outs).items) (items_clock cells outlets outs)
+pub clocked : (lines : ℕ → ℕ) → (cells : List SizedCell) (outlets : List Outlet) (outs : ℕ) → clock_name (netlist_module lines cells outlets outs) ≡ Some (codes "clk")
+clocked lines cells outlets outs = clock_or_clk _ (first_clock (netlist_module lines cells outlets outs).items) (items_clock lines cells outlets outs)
 
 -- a name is that of the clock
 pub is_clk : (m : ModuleTree) (n : List ℕ) → clock_name m ≡ Some (codes "clk") → is_clock m n ≡ bytes_eq (codes "clk") n

@@ -153,19 +153,19 @@ record IsOuter (test : NetTree → Bool) : Type 0 where
   register : (item width : ℕ) (n : List ℕ) → test (net_of RegNet item width n) ≡ false
   memory : (depth item width : ℕ) (n : List ℕ) → test (net_of (MemoryNet depth) item width n) ≡ false
 
-none_in : (test : NetTree → Bool) → IsOuter test → (item n width : ℕ) (cell : Cell) → filter test (declared_nets item n width cell) ≡ []
-none_in test h item n width (Input port) = refl
-none_in test h item n width (Const k) = λ i. cond (h.wire item width (number_name n) i) (net_of WireNet item width (number_name n) ∷ []) []
-none_in test h item n width (Op op args) = λ i. cond (h.wire item width (number_name n) i) (net_of WireNet item width (number_name n) ∷ []) []
-none_in test h item n width (Reg next) = λ i. cond (h.register item width (number_name n) i) (net_of RegNet item width (number_name n) ∷ []) []
-none_in test h item n width (Mem depth at next enable) = λ i. cond (h.memory depth item width (number_name n) i) (net_of (MemoryNet depth) item width (number_name n) ∷ []) []
-none_in test h item n width (Peek mem at) = λ i. cond (h.wire item width (number_name n) i) (net_of WireNet item width (number_name n) ∷ []) []
+none_in : (lines : ℕ → ℕ) → (test : NetTree → Bool) → IsOuter test → (item n width : ℕ) (cell : Cell) → filter test (declared_nets lines item n width cell) ≡ []
+none_in lines test h item n width (Input port) = refl
+none_in lines test h item n width (Const k) = λ i. cond (h.wire item width (number_name lines n) i) (net_of WireNet item width (number_name lines n) ∷ []) []
+none_in lines test h item n width (Op op args) = λ i. cond (h.wire item width (number_name lines n) i) (net_of WireNet item width (number_name lines n) ∷ []) []
+none_in lines test h item n width (Reg next) = λ i. cond (h.register item width (number_name lines n) i) (net_of RegNet item width (number_name lines n) ∷ []) []
+none_in lines test h item n width (Mem depth at next enable) = λ i. cond (h.memory depth item width (number_name lines n) i) (net_of (MemoryNet depth) item width (number_name lines n) ∷ []) []
+none_in lines test h item n width (Peek mem at) = λ i. cond (h.wire item width (number_name lines n) i) (net_of WireNet item width (number_name lines n) ∷ []) []
 
-none_declared : (test : NetTree → Bool) → IsOuter test → (item n : ℕ) (cells : List SizedCell) → filter test (declared_from item n cells) ≡ []
-none_declared test h item n [] = refl
-none_declared test h item n (c ∷ cells) =
-    filter-append test (declared_nets item n c.width c.cell) (declared_from (item + length (declared_nets item n c.width c.cell)) (n + 1) cells)
-    ∙ (λ i. none_in test h item n c.width c.cell i ++ none_declared test h (item + length (declared_nets item n c.width c.cell)) (n + 1) cells i)
+none_declared : (lines : ℕ → ℕ) → (test : NetTree → Bool) → IsOuter test → (item n : ℕ) (cells : List SizedCell) → filter test (declared_from lines item n cells) ≡ []
+none_declared lines test h item n [] = refl
+none_declared lines test h item n (c ∷ cells) =
+    filter-append test (declared_nets lines item n c.width c.cell) (declared_from lines (item + length (declared_nets lines item n c.width c.cell)) (n + 1) cells)
+    ∙ (λ i. none_in lines test h item n c.width c.cell i ++ none_declared lines test h (item + length (declared_nets lines item n c.width c.cell)) (n + 1) cells i)
 
 kept : {X : Type 0} (test : NetTree → Bool) (g : X → NetTree) (xs : List X) → ((n : ℕ) (x : X) → slice_get xs n ≡ Some x → test (g x) ≡ true) → filter test (map g xs) ≡ map g xs
 kept test g [] h = refl
@@ -185,13 +185,13 @@ pub record HavePorts (cells : List SizedCell) (outlets : List Outlet) (ins outs 
   pub outputs : map (outlet_port cells) outlets ≡ outs
   pub inner : (n : ℕ) (p : SizedPort) → slice_get ins n ≡ Some p → IsInputPort p.port
 
-module _ (cells : List SizedCell) (outlets : List Outlet) (many : ℕ) (ins outs : List SizedPort) (h : HavePorts cells outlets ins outs) where
+module _ (lines : ℕ → ℕ) (cells : List SizedCell) (outlets : List Outlet) (many : ℕ) (ins outs : List SizedPort) (h : HavePorts cells outlets ins outs) where
   abbrev pub tree : ModuleTree
-  tree = netlist_module cells outlets many
+  tree = netlist_module lines cells outlets many
 
   filtered : (test : NetTree → Bool) → IsOuter test → filter test tree.nets ≡ filter test (clock_net ∷ []) ++ (filter test (map in_net ins) ++ filter test (map (out_net many) outs))
   filtered test o =
-      let declared : List NetTree = declared_from 1 0 cells in
+      let declared : List NetTree = declared_from lines 1 0 cells in
       let in_nets : List NetTree = map in_net ins in
       let out_nets : List NetTree = map (out_net many) outs in
       let nets : tree.nets ≡ (clock_net ∷ []) ++ (in_nets ++ (out_nets ++ declared)) = λ i. clock_net ∷ (inputs_are cells ins h.inputs i ++ ((outputs_are cells outlets many ∙ ap (map (out_net many)) h.outputs) i ++ declared)) in
@@ -199,7 +199,7 @@ module _ (cells : List SizedCell) (outlets : List Outlet) (many : ℕ) (ins outs
       ∙ filter-append test (clock_net ∷ []) (in_nets ++ (out_nets ++ declared))
       ∙ ap (λ ns. filter test (clock_net ∷ []) ++ ns) (filter-append test in_nets (out_nets ++ declared))
       ∙ ap (λ ns. filter test (clock_net ∷ []) ++ (filter test in_nets ++ ns)) (filter-append test out_nets declared)
-      ∙ ap (λ ns. filter test (clock_net ∷ []) ++ (filter test in_nets ++ (filter test out_nets ++ ns))) (none_declared test o 1 0 cells)
+      ∙ ap (λ ns. filter test (clock_net ∷ []) ++ (filter test in_nets ++ (filter test out_nets ++ ns))) (none_declared lines test o 1 0 cells)
       ∙ ap (λ ns. filter test (clock_net ∷ []) ++ (filter test in_nets ++ ns)) (append-nil (filter test out_nets))
 
   pub ports_filtered : filter is_port tree.nets ≡ clock_net ∷ (map in_net ins ++ map (out_net many) outs)
@@ -209,16 +209,16 @@ module _ (cells : List SizedCell) (outlets : List Outlet) (many : ℕ) (ins outs
 
   -- no other input has the clock's name
   other_name : (port : Port) → IsInputPort port → is_clock tree (port_name 1 port) ≡ false
-  other_name Reset k = is_clk tree (port_name 1 Reset) (clocked cells outlets many)
-  other_name Enable k = is_clk tree (port_name 1 Enable) (clocked cells outlets many)
-  other_name (In param lane word) k = is_clk tree (port_name 1 (In param lane word)) (clocked cells outlets many)
+  other_name Reset k = is_clk tree (port_name 1 Reset) (clocked lines cells outlets many)
+  other_name Enable k = is_clk tree (port_name 1 Enable) (clocked lines cells outlets many)
+  other_name (In param lane word) k = is_clk tree (port_name 1 (In param lane word)) (clocked lines cells outlets many)
   other_name (Out result lane word) k = absurd k
   other_name (Plain n) k = absurd k
 
   pub inputs_filtered : same.inputs_of tree ≡ map in_net ins
   inputs_filtered =
       let test : NetTree → Bool = λ x. is_input_kind x.kind && not (is_clock tree x.name) in
-      let clk : is_clock tree (codes "clk") ≡ true = is_clk tree (codes "clk") (clocked cells outlets many) in
+      let clk : is_clock tree (codes "clk") ≡ true = is_clk tree (codes "clk") (clocked lines cells outlets many) in
       filtered test (record { wire = λ item width n. refl; register = λ item width n. refl; memory = λ depth item width n. refl })
       ∙ (λ i. cond (not (clk i)) (clock_net ∷ []) []
       ++ (kept test in_net ins (λ n p e. ap not (other_name p.port (h.inner n p e))) i ++ dropped test (out_net many) outs (λ n p e. refl) i))

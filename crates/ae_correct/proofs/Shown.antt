@@ -85,14 +85,14 @@ sums_alike slowdown latency outs f g k sums h s =
 
 -- ---- the whole
 
-module _ (p : ProgramTree) (slowdown : ℕ) (costs : OwnCosts) (ins outs : List StTree) (n : Circuit) (laid : IsLaidOut p slowdown ins outs) (c : IsCircuitFor p slowdown costs ins outs n)
-    (same : HasSameRuns (netlist_module n.cells n.outlets (length outs)) n) (latency fill : ℕ) (blocks : List (List ValueTree))
+module _ (lines : ℕ → ℕ) (p : ProgramTree) (slowdown : ℕ) (costs : OwnCosts) (ins outs : List StTree) (n : Circuit) (laid : IsLaidOut p slowdown ins outs) (c : IsCircuitFor p slowdown costs ins outs n)
+    (same : HasSameRuns (netlist_module lines n.cells n.outlets (length outs)) n) (latency fill : ℕ) (blocks : List (List ValueTree))
     (values : (b : ℕ) (block : List ValueTree) → slice_get blocks b ≡ Some block → AreValues (input_types p) block) where
   abbrev many : ℕ
   many = length outs
 
   abbrev own : ModuleTree
-  own = netlist_module n.cells n.outlets (length outs)
+  own = netlist_module lines n.cells n.outlets (length outs)
 
   abbrev count : ℕ
   count = clock_count slowdown latency (length blocks)
@@ -120,7 +120,7 @@ module _ (p : ProgramTree) (slowdown : ℕ) (costs : OwnCosts) (ins outs : List 
     have = circuit_ports p slowdown costs ins outs n c
 
     reset : (t : ℕ) → t < length run → (clock_at run t).word (codes "rst") ≡ get_or (get_or fed t []) 0 0
-    reset = reset_row n many ins (outs_of outs) have run other fed alike with_rows.takes with_rows.long
+    reset = reset_row lines n many ins (outs_of outs) have run other fed alike with_rows.takes with_rows.long
 
     high : (t : ℕ) → t < 1 → t < length run → (clock_at run t).word (codes "rst") ≡ 1
     high zero early below = reset 0 below
@@ -133,7 +133,7 @@ module _ (p : ProgramTree) (slowdown : ℕ) (costs : OwnCosts) (ins outs : List 
     -- the words on the inputs are those of the rows
     on_inputs : (start k q column : ℕ) (x : StTree) → start + k < length run → slice_get ins q ≡ Some x → column < length (stream_widths (stream_of x))
         → wave run start (input_ports q x) k column ≡ get_or (get_or fed (start + k) []) (suc (columns_in (take q (streams_of ins)) + column)) 0
-    on_inputs start k q column x below found small = input_row n many ins (outs_of outs) have run other fed alike with_rows.takes with_rows.long (start + k) q column x below found small
+    on_inputs start k q column x below found small = input_row lines n many ins (outs_of outs) have run other fed alike with_rows.takes with_rows.long (start + k) q column x below found small
 
     holds_at : (b q e j : ℕ) (x : StTree) (w : Slot) (block : List ValueTree) → slice_get blocks b ≡ Some block → slice_get ins q ≡ Some x → slice_get (slots x) e ≡ Some w → j < element_words x
         → wave run 1 (input_ports q x) (b * slowdown + w.clock) (w.lane * element_words x + j) ≡ slice_index (flat (at block q)) (e * element_words x + j)
@@ -217,7 +217,7 @@ module _ (p : ProgramTree) (slowdown : ℕ) (costs : OwnCosts) (ins outs : List 
       is_summed r.0 h.run r.1 rows r.2 r.3 sums are
 
 pub plays : PlaysAreShown
-plays p slowdown costs ins outs n latency fill blocks text laid circuit same values shown = played p slowdown costs ins outs n laid circuit same latency fill blocks values text shown
+plays lines p slowdown costs ins outs n latency fill blocks text laid circuit same values shown = played lines p slowdown costs ins outs n laid circuit same latency fill blocks values text shown
 
 pub sums : SumsAreShown
-sums p slowdown costs ins outs n latency fill blocks summed laid circuit same values shown = played_sums p slowdown costs ins outs n laid circuit same latency fill blocks values summed shown
+sums lines p slowdown costs ins outs n latency fill blocks summed laid circuit same values shown = played_sums lines p slowdown costs ins outs n laid circuit same latency fill blocks values summed shown

@@ -29,7 +29,7 @@ pub record IsLaidOut (p : ProgramTree) (slowdown : ℕ) (ins outs : List StTree)
   pub most : slowdown ≤ 4096
   pub layouts : HaveLayouts p slowdown ins outs
 
--- nothing is asked below of how a circuit was made
+-- nothing is asked below of how a circuit was made, nor of the lines that the names of its module tell
 
 -- a circuit for the program, within the limit of load, can be written as a module
 abbrev pub CircuitsAreWritable : Type 0
@@ -40,24 +40,24 @@ CircuitsAreWritable =
 -- the module that it is written as, where it has the netlist's runs, is correct for the program, with the latency of the costs
 abbrev pub CircuitsAreCorrect : Type 0
 CircuitsAreCorrect =
-    (p : ProgramTree) (slowdown : ℕ) (costs : OwnCosts) (ins outs : List StTree) (n : Circuit) → IsLaidOut p slowdown ins outs → IsCircuitFor p slowdown costs ins outs n
-    → HasSameRuns (netlist_module n.cells n.outlets (length outs)) n → IsCorrect (netlist_module n.cells n.outlets (length outs)) p slowdown costs.latency
+    (lines : ℕ → ℕ) (p : ProgramTree) (slowdown : ℕ) (costs : OwnCosts) (ins outs : List StTree) (n : Circuit) → IsLaidOut p slowdown ins outs → IsCircuitFor p slowdown costs ins outs n
+    → HasSameRuns (netlist_module lines n.cells n.outlets (length outs)) n → IsCorrect (netlist_module lines n.cells n.outlets (length outs)) p slowdown costs.latency
 
 -- the lines of the circuit's run on the words of blocks are those of the module on the blocks
 abbrev pub PlaysAreShown : Type 0
 PlaysAreShown =
-    (p : ProgramTree) (slowdown : ℕ) (costs : OwnCosts) (ins outs : List StTree) (n : Circuit) (latency fill : ℕ) (blocks : List (List ValueTree)) (text : List ℕ)
-    → IsLaidOut p slowdown ins outs → IsCircuitFor p slowdown costs ins outs n → HasSameRuns (netlist_module n.cells n.outlets (length outs)) n
+    (lines : ℕ → ℕ) (p : ProgramTree) (slowdown : ℕ) (costs : OwnCosts) (ins outs : List StTree) (n : Circuit) (latency fill : ℕ) (blocks : List (List ValueTree)) (text : List ℕ)
+    → IsLaidOut p slowdown ins outs → IsCircuitFor p slowdown costs ins outs n → HasSameRuns (netlist_module lines n.cells n.outlets (length outs)) n
     → ((b : ℕ) (block : List ValueTree) → slice_get blocks b ≡ Some block → AreValues (input_types p) block)
-    → IsPlayedText n slowdown latency fill ins outs (map (map flat) blocks) text → IsClockText (netlist_module n.cells n.outlets (length outs)) slowdown latency fill ins outs blocks text
+    → IsPlayedText n slowdown latency fill ins outs (map (map flat) blocks) text → IsClockText (netlist_module lines n.cells n.outlets (length outs)) slowdown latency fill ins outs blocks text
 
 -- the same of sums
 abbrev pub SumsAreShown : Type 0
 SumsAreShown =
-    (p : ProgramTree) (slowdown : ℕ) (costs : OwnCosts) (ins outs : List StTree) (n : Circuit) (latency fill : ℕ) (blocks : List (List ValueTree)) (sums : Sums)
-    → IsLaidOut p slowdown ins outs → IsCircuitFor p slowdown costs ins outs n → HasSameRuns (netlist_module n.cells n.outlets (length outs)) n
+    (lines : ℕ → ℕ) (p : ProgramTree) (slowdown : ℕ) (costs : OwnCosts) (ins outs : List StTree) (n : Circuit) (latency fill : ℕ) (blocks : List (List ValueTree)) (sums : Sums)
+    → IsLaidOut p slowdown ins outs → IsCircuitFor p slowdown costs ins outs n → HasSameRuns (netlist_module lines n.cells n.outlets (length outs)) n
     → ((b : ℕ) (block : List ValueTree) → slice_get blocks b ≡ Some block → AreValues (input_types p) block)
-    → ArePlayedSums n slowdown latency fill ins outs (map (map flat) blocks) sums → AreClockSums (netlist_module n.cells n.outlets (length outs)) slowdown latency fill ins outs blocks sums
+    → ArePlayedSums n slowdown latency fill ins outs (map (map flat) blocks) sums → AreClockSums (netlist_module lines n.cells n.outlets (length outs)) slowdown latency fill ins outs blocks sums
 
 -- what fits the inputs of a circuit fits those of each that has the runs of the same module
 abbrev pub FeedsAreAlike : Type 0

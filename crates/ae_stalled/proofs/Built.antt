@@ -82,8 +82,8 @@ named_out many rs q column s found small =
       is = c.named;
     }
 
-module _ (p : ProgramTree) (slowdown : ℕ) (costs : OwnCosts) (ins outs : List StTree) (n new : Circuit) (laid : IsLaidOut p slowdown ins outs) (c : IsCircuitFor p slowdown costs ins outs n) (still : IsStalled n new)
-    (plain_same : HasSameRuns (netlist_module n.cells n.outlets (length outs)) n) (same : HasSameRuns (netlist_module new.cells new.outlets (length outs)) new) where
+module _ (lines : ℕ → ℕ) (p : ProgramTree) (slowdown : ℕ) (costs : OwnCosts) (ins outs : List StTree) (n new : Circuit) (laid : IsLaidOut p slowdown ins outs) (c : IsCircuitFor p slowdown costs ins outs n) (still : IsStalled n new)
+    (plain_same : HasSameRuns (netlist_module lines n.cells n.outlets (length outs)) n) (same : HasSameRuns (netlist_module lines new.cells new.outlets (length outs)) new) where
   old_ports : HavePorts n.cells n.outlets (ins_of ins) (outs_of outs)
   old_ports = circuit_ports p slowdown costs ins outs n c
 
@@ -94,10 +94,10 @@ module _ (p : ProgramTree) (slowdown : ℕ) (costs : OwnCosts) (ins outs : List 
   many = length outs
 
   abbrev tree : ModuleTree
-  tree = netlist_module new.cells new.outlets (length outs)
+  tree = netlist_module lines new.cells new.outlets (length outs)
 
   abbrev plain : ModuleTree
-  plain = netlist_module n.cells n.outlets (length outs)
+  plain = netlist_module lines n.cells n.outlets (length outs)
 
   outlet_at : (k : ℕ) (port : SizedPort) → slice_get (outs_of outs) k ≡ Some port → (outlet_net n.outlets k < length n.cells) × (outlet_net new.outlets k ≡ moved (outlet_net n.outlets k))
   outlet_at k port found =
@@ -121,7 +121,7 @@ module _ (p : ProgramTree) (slowdown : ℕ) (costs : OwnCosts) (ins outs : List 
 
     tests : (t : ℕ) → t < length run → ((clock_at run t).word enable_name == 1) ≡ is_enabled (get_or other t no_clock)
     unfolding word_at
-    tests t l = ap (λ x. x == 1) (input_alike new many (reset_port ∷ enable_port ∷ net_side.input_ports (streams_of ins)) (outs_of outs) new_ports run other alike t 1 enable_port l refl)
+    tests t l = ap (λ x. x == 1) (input_alike lines new many (reset_port ∷ enable_port ∷ net_side.input_ports (streams_of ins)) (outs_of outs) new_ports run other alike t 1 enable_port l refl)
 
     pairs : AreAligned (λ (x : ModuleClock). x.word enable_name == 1) is_enabled idle_clock no_clock run other
     pairs = aligned (λ (x : ModuleClock). x.word enable_name == 1) is_enabled idle_clock no_clock run other alike.long tests
@@ -164,9 +164,9 @@ module _ (p : ProgramTree) (slowdown : ℕ) (costs : OwnCosts) (ins outs : List 
       in_word t k port l found =
           let h : IsThere t = there t l in
           let inside : k < length n.cells = omega (arith, slice_get_within (ins_of ins) k port found, old_ports.inputs.count, count_by-le-length (λ (x : SizedCell). is_input x.cell) n.cells) in
-          input_alike n many (ins_of ins) (outs_of outs) old_ports r part begin t k port (omega (arith, long)) found
+          input_alike lines n many (ins_of ins) (outs_of outs) old_ports r part begin t k port (omega (arith, long)) found
           ∙ (word_there t k h inside
-          ∙ (sym (input_alike new many (reset_port ∷ enable_port ∷ net_side.input_ports (streams_of ins)) (outs_of outs) new_ports run other alike h.place (moved k) port h.within (moved_port reset_port (net_side.input_ports (streams_of ins)) k port found))
+          ∙ (sym (input_alike lines new many (reset_port ∷ enable_port ∷ net_side.input_ports (streams_of ins)) (outs_of outs) new_ports run other alike h.place (moved k) port h.within (moved_port reset_port (net_side.input_ports (streams_of ins)) k port found))
           ∙ ap (λ (x : ModuleClock). x.word (port_name 1 port.port)) h.left))
 
       out_word : (t k : ℕ) (port : SizedPort) → t < length clocks → slice_get (outs_of outs) k ≡ Some port → (clock_at r t).word (port_name many port.port) ≡ (clock_at clocks t).word (port_name many port.port)
@@ -175,10 +175,10 @@ module _ (p : ProgramTree) (slowdown : ℕ) (costs : OwnCosts) (ins outs : List 
           let o = outlet_at k port found in
           let inside : outlet_net n.outlets k < length n.cells = o.0 in
           let net : outlet_net new.outlets k ≡ moved (outlet_net n.outlets k) = o.1 in
-          output_alike n many (ins_of ins) (outs_of outs) old_ports r part shown t k port (omega (arith, long)) found
+          output_alike lines n many (ins_of ins) (outs_of outs) old_ports r part shown t k port (omega (arith, long)) found
           ∙ (word_there t (outlet_net n.outlets k) h inside
           ∙ (ap (word_at other h.place) (sym net)
-          ∙ (sym (output_alike new many (reset_port ∷ enable_port ∷ net_side.input_ports (streams_of ins)) (outs_of outs) new_ports run other equal h.place k port h.within found)
+          ∙ (sym (output_alike lines new many (reset_port ∷ enable_port ∷ net_side.input_ports (streams_of ins)) (outs_of outs) new_ports run other equal h.place k port h.within found)
           ∙ ap (λ (x : ModuleClock). x.word (port_name many port.port)) h.left)))
 
       -- blocks on the inputs, and on the outputs
@@ -226,7 +226,7 @@ module _ (p : ProgramTree) (slowdown : ℕ) (costs : OwnCosts) (ins outs : List 
         let inside : b < length blocks = slice_get_within blocks b block found in
         let fits : b * slowdown + slowdown ≤ length blocks * slowdown = row_fits b slowdown (length blocks) slowdown inside (omega arith) in
         let same_long = long_is run o w.1 w.2 w.3 r v.2 v.3 in
-        let base : KeepsBlocks plain p slowdown costs.latency ins outs = keeps p slowdown costs ins outs n c plain_same (ins_filling p slowdown ins outs laid) (outs_filling p slowdown ins outs laid) in
+        let base : KeepsBlocks plain p slowdown costs.latency ins outs = keeps lines p slowdown costs ins outs n c plain_same (ins_filling p slowdown ins outs laid) (outs_filling p slowdown ins outs laid) in
         holds_out run o w.1 w.2 w.3 r v.2 v.3 start (costs.latency + b * slowdown) (mean p block) (omega (arith, fits))
         (base.results r start blocks (resets run o w.1 w.2 w.3 r v.2 v.3 start v.1 reset) (omega (arith, same_long))
         (λ d other there. (let g = given d other there in
@@ -245,7 +245,7 @@ module _ (p : ProgramTree) (slowdown : ℕ) (costs : OwnCosts) (ins outs : List 
       let clk : ModulePort = record { name = codes "clk"; width = 1; is_output = false } in
       let rst : ModulePort = record { name = codes "rst"; width = 1; is_output = false } in
       let en : ModulePort = record { name = enable_name; width = 1; is_output = false } in
-      ap (map port_of) (ports_filtered new.cells new.outlets many (reset_port ∷ enable_port ∷ given) (outs_of outs) new_ports)
+      ap (map port_of) (ports_filtered lines new.cells new.outlets many (reset_port ∷ enable_port ∷ given) (outs_of outs) new_ports)
       ∙ ap (λ ps. clk ∷ rst ∷ en ∷ ps) (map-append port_of (map in_net given) (map (out_net many) (outs_of outs)))
       ∙ (λ i. clk ∷ rst ∷ en ∷ (map_map port_of in_net given i ++ map_map port_of (out_net many) (outs_of outs) i))
       ∙ (λ i. clk ∷ rst ∷ en ∷ (from_are 1 false (λ param lane word. In param lane word) 0 ins i ++ from_are many true (λ result lane word. Out result lane word) 0 outs i))
@@ -257,6 +257,6 @@ module _ (p : ProgramTree) (slowdown : ℕ) (costs : OwnCosts) (ins outs : List 
     outputs = outs;
     layouts = laid.layouts;
     ports = faced;
-    clocked = clocked new.cells new.outlets (length outs);
+    clocked = clocked lines new.cells new.outlets (length outs);
     keeps = stalled_keeps;
   }

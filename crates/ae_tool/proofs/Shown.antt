@@ -22,12 +22,11 @@ use Rattle.std.specs.Prelude.{codes}
 use Rattle.ae_netlist.specs.Circuit.{Circuit}
 use Rattle.ae_vread.specs.ModuleTree.{ModuleTree}
 use Rattle.ae_vread.specs.Spells.{Spells}
-use Rattle.ae_verilog.specs.NetlistModule.{netlist_module}
 use Rattle.ae_rewrite.specs.StProgramTree.{StFuncTree}
 use Rattle.ae_lower.proofs.Blocks.{keys_of}
 use Rattle.ae_lower.proofs.Layouts.{inputs_laid}
 use Rattle.ae_delay.specs.Timings.{Times}
-use Rattle.ae_verilog.specs.Notes.{NoteTree}
+use Rattle.ae_verilog.specs.Notes.{NoteTree, noted_module}
 use Rattle.ae_verilog.specs.ReportLines.{ReportTree}
 use Rattle.ae_sttype.specs.Size.{IsInSize}
 use Rattle.ae_play.specs.declared.sums.Sums.{Sums}
@@ -119,11 +118,11 @@ same_report p slowdown instances n o report other notes more d e =
     d.reported ∙ ap (report_of slowdown instances) same ∙ sym e.reported
 
 pub run_text_is : (fill : ℕ) (p : ProgramTree) (slowdown : ℕ) (instances : List StFuncTree) (table : List (List (List ℕ))) (n : Circuit) (report : ReportTree) (notes : List NoteTree) (built clocks text : List ℕ) → IsCompiled p slowdown instances n report notes
-    → IsModuleText p slowdown instances built → Spells built (netlist_module n.cells n.outlets (length report.outs))
-    → IsClockText (netlist_module n.cells n.outlets (length report.outs)) slowdown report.latency fill report.ins report.outs (blocks_of (parameter_types p) table) clocks
+    → IsModuleText p slowdown instances built → Spells built (noted_module notes n.cells n.outlets (length report.outs))
+    → IsClockText (noted_module notes n.cells n.outlets (length report.outs)) slowdown report.latency fill report.ins report.outs (blocks_of (parameter_types p) table) clocks
     → text ≡ (built ++ codes "%% clocks\n") ++ clocks → IsRunText fill p slowdown instances table text
 run_text_is fill p slowdown instances table n report notes built clocks text d m spells shown is =
-    let tree : netlist_module n.cells n.outlets (length report.outs) ≡ m.tree = m.only (netlist_module n.cells n.outlets (length report.outs)) spells in
+    let tree : noted_module notes n.cells n.outlets (length report.outs) ≡ m.tree = m.only (noted_module notes n.cells n.outlets (length report.outs)) spells in
     let same : report ≡ m.listing.report = same_report p slowdown instances n m.listing.circuit report m.listing.report notes m.listing.notes d m.listing.compiled in
     let blocks = blocks_of (parameter_types p) table in
     let here : IsClockText m.tree slowdown report.latency fill report.ins report.outs blocks clocks = subst (λ (x : ModuleTree). IsClockText x slowdown report.latency fill report.ins report.outs blocks clocks) tree shown in
@@ -138,11 +137,11 @@ run_text_is fill p slowdown instances table n report notes built clocks text d m
 
 -- the same of sums
 pub summed_is : (fill : ℕ) (p : ProgramTree) (slowdown : ℕ) (instances : List StFuncTree) (table : List (List (List ℕ))) (n : Circuit) (report : ReportTree) (notes : List NoteTree) (built : List ℕ) (sums : Sums) → IsCompiled p slowdown instances n report notes
-    → IsModuleText p slowdown instances built → Spells built (netlist_module n.cells n.outlets (length report.outs))
-    → AreClockSums (netlist_module n.cells n.outlets (length report.outs)) slowdown report.latency fill report.ins report.outs (blocks_of (parameter_types p) table) sums
+    → IsModuleText p slowdown instances built → Spells built (noted_module notes n.cells n.outlets (length report.outs))
+    → AreClockSums (noted_module notes n.cells n.outlets (length report.outs)) slowdown report.latency fill report.ins report.outs (blocks_of (parameter_types p) table) sums
     → IsSummedRun fill p slowdown instances table built sums
 summed_is fill p slowdown instances table n report notes built sums d m spells shown =
-    let tree : netlist_module n.cells n.outlets (length report.outs) ≡ m.tree = m.only (netlist_module n.cells n.outlets (length report.outs)) spells in
+    let tree : noted_module notes n.cells n.outlets (length report.outs) ≡ m.tree = m.only (noted_module notes n.cells n.outlets (length report.outs)) spells in
     let same : report ≡ m.listing.report = same_report p slowdown instances n m.listing.circuit report m.listing.report notes m.listing.notes d m.listing.compiled in
     let blocks = blocks_of (parameter_types p) table in
     let here : AreClockSums m.tree slowdown report.latency fill report.ins report.outs blocks sums = subst (λ (x : ModuleTree). AreClockSums x slowdown report.latency fill report.ins report.outs blocks sums) tree shown in

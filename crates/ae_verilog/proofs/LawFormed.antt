@@ -10,13 +10,13 @@ use Rattle.ae_verilog.proofs.LawOnce.{none_twice}
 use Rattle.ae_verilog.proofs.LawKinds.{none_misused, none_wide}
 use Rattle.ae_verilog.proofs.LawWeight.{light}
 
-pub well_formed : (cells : List SizedCell) (outlets : List Outlet) (outs : ℕ) → IsWritableNetlist cells outlets outs → 1 + 4 * length cells + 4 * length outlets ≤ 10000000 → IsWellFormed (netlist_module cells outlets outs)
-well_formed cells outlets outs ok small = record {
-  known = none_unknown cells outlets outs ok;
-  once = none_twice cells outlets outs ok;
-  kinds = none_misused cells outlets outs ok;
-  driven = none_undriven cells outlets outs ok;
-  widths = none_wide cells outlets outs ok;
-  no_loop = none_loops cells outlets outs ok;
-  small = let w = light cells outlets outs in omega arith;
+pub well_formed : (lines : ℕ → ℕ) → (cells : List SizedCell) (outlets : List Outlet) (outs : ℕ) → IsWritableNetlist cells outlets outs → 1 + 4 * length cells + 4 * length outlets ≤ 10000000 → IsWellFormed (netlist_module lines cells outlets outs)
+well_formed lines cells outlets outs ok small = record {
+  known = none_unknown lines cells outlets outs ok;
+  once = none_twice lines cells outlets outs ok;
+  kinds = none_misused lines cells outlets outs ok;
+  driven = none_undriven lines cells outlets outs ok;
+  widths = none_wide lines cells outlets outs ok;
+  no_loop = none_loops lines cells outlets outs ok;
+  small = let w = light lines cells outlets outs in omega arith;
 }

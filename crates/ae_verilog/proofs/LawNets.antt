@@ -56,74 +56,74 @@ abbrev pub cell_item : ℕ → Cell → ℕ
 cell_item item (Input port) = 0
 cell_item item _ = item
 
-abbrev pub net_from : ℕ → ℕ → ℕ → Cell → NetTree
-net_from item k width c = net_of (cell_kind c) (cell_item item c) width (cell_name k c)
+abbrev pub net_from : (lines : ℕ → ℕ) → ℕ → ℕ → ℕ → Cell → NetTree
+net_from lines item k width c = net_of (cell_kind c) (cell_item item c) width (cell_name lines k c)
 
-declared_length : (item k width : ℕ) (c : Cell) → length (declared_nets item k width c) ≡ is_other c
-declared_length item k width (Input port) = refl
-declared_length item k width (Const v) = refl
-declared_length item k width (Op op args) = refl
-declared_length item k width (Reg next) = refl
-declared_length item k width (Mem depth at next enable) = refl
-declared_length item k width (Peek mem at) = refl
+declared_length : (lines : ℕ → ℕ) → (item k width : ℕ) (c : Cell) → length (declared_nets lines item k width c) ≡ is_other c
+declared_length lines item k width (Input port) = refl
+declared_length lines item k width (Const v) = refl
+declared_length lines item k width (Op op args) = refl
+declared_length lines item k width (Reg next) = refl
+declared_length lines item k width (Mem depth at next enable) = refl
+declared_length lines item k width (Peek mem at) = refl
 
-of_declared : (item k width : ℕ) (c : Cell) (y : NetTree) → Among y (declared_nets item k width c) → y ≡ net_from item k width c
-of_declared item k width (Input port) y h = absurd h
-of_declared item k width (Const v) y h = elim h [ inl e ↦ sym e | inr none ↦ absurd none ]
-of_declared item k width (Op op args) y h = elim h [ inl e ↦ sym e | inr none ↦ absurd none ]
-of_declared item k width (Reg next) y h = elim h [ inl e ↦ sym e | inr none ↦ absurd none ]
-of_declared item k width (Mem depth at next enable) y h = elim h [ inl e ↦ sym e | inr none ↦ absurd none ]
-of_declared item k width (Peek mem at) y h = elim h [ inl e ↦ sym e | inr none ↦ absurd none ]
+of_declared : (lines : ℕ → ℕ) → (item k width : ℕ) (c : Cell) (y : NetTree) → Among y (declared_nets lines item k width c) → y ≡ net_from lines item k width c
+of_declared lines item k width (Input port) y h = absurd h
+of_declared lines item k width (Const v) y h = elim h [ inl e ↦ sym e | inr none ↦ absurd none ]
+of_declared lines item k width (Op op args) y h = elim h [ inl e ↦ sym e | inr none ↦ absurd none ]
+of_declared lines item k width (Reg next) y h = elim h [ inl e ↦ sym e | inr none ↦ absurd none ]
+of_declared lines item k width (Mem depth at next enable) y h = elim h [ inl e ↦ sym e | inr none ↦ absurd none ]
+of_declared lines item k width (Peek mem at) y h = elim h [ inl e ↦ sym e | inr none ↦ absurd none ]
 
-of_input : (item k width : ℕ) (c : Cell) (y : NetTree) → Among y (input_nets width c) → y ≡ net_from item k width c
-of_input item k width (Input port) y h = elim h [ inl e ↦ sym e | inr none ↦ absurd none ]
-of_input item k width (Const v) y h = absurd h
-of_input item k width (Op op args) y h = absurd h
-of_input item k width (Reg next) y h = absurd h
-of_input item k width (Mem depth at next enable) y h = absurd h
-of_input item k width (Peek mem at) y h = absurd h
+of_input : (lines : ℕ → ℕ) → (item k width : ℕ) (c : Cell) (y : NetTree) → Among y (input_nets width c) → y ≡ net_from lines item k width c
+of_input lines item k width (Input port) y h = elim h [ inl e ↦ sym e | inr none ↦ absurd none ]
+of_input lines item k width (Const v) y h = absurd h
+of_input lines item k width (Op op args) y h = absurd h
+of_input lines item k width (Reg next) y h = absurd h
+of_input lines item k width (Mem depth at next enable) y h = absurd h
+of_input lines item k width (Peek mem at) y h = absurd h
 
-in_either : (item k width : ℕ) (c : Cell) → Among (net_from item k width c) (input_nets width c) ⊎ Among (net_from item k width c) (declared_nets item k width c)
-in_either item k width (Input port) = inl (inl refl)
-in_either item k width (Const v) = inr (inl refl)
-in_either item k width (Op op args) = inr (inl refl)
-in_either item k width (Reg next) = inr (inl refl)
-in_either item k width (Mem depth at next enable) = inr (inl refl)
-in_either item k width (Peek mem at) = inr (inl refl)
+in_either : (lines : ℕ → ℕ) → (item k width : ℕ) (c : Cell) → Among (net_from lines item k width c) (input_nets width c) ⊎ Among (net_from lines item k width c) (declared_nets lines item k width c)
+in_either lines item k width (Input port) = inl (inl refl)
+in_either lines item k width (Const v) = inr (inl refl)
+in_either lines item k width (Op op args) = inr (inl refl)
+in_either lines item k width (Reg next) = inr (inl refl)
+in_either lines item k width (Mem depth at next enable) = inr (inl refl)
+in_either lines item k width (Peek mem at) = inr (inl refl)
 
-among_declared : (y : NetTree) (item k : ℕ) (xs : List SizedCell) (j : ℕ) (x : SizedCell) → slice_get xs j ≡ Some x → Among y (declared_nets (item + others j xs) (k + j) x.width x.cell) → Among y (declared_from item k xs)
-among_declared y item k [] j x h p = absurd (let e : None ≡ Some x = h in cc)
-among_declared y item k (z ∷ xs) zero x h p =
+among_declared : (lines : ℕ → ℕ) → (y : NetTree) (item k : ℕ) (xs : List SizedCell) (j : ℕ) (x : SizedCell) → slice_get xs j ≡ Some x → Among y (declared_nets lines (item + others j xs) (k + j) x.width x.cell) → Among y (declared_from lines item k xs)
+among_declared lines y item k [] j x h p = absurd (let e : None ≡ Some x = h in cc)
+among_declared lines y item k (z ∷ xs) zero x h p =
     let e : x ≡ z = (let o : Some z ≡ Some x = h in cc) in
-    among_left y (declared_nets item k z.width z.cell) _ (subst (λ (u : SizedCell). Among y (declared_nets item k u.width u.cell)) e
-    (subst (λ n. Among y (declared_nets item n x.width x.cell)) (let q : k + 0 ≡ k = omega arith in q) (subst (λ n. Among y (declared_nets n (k + 0) x.width x.cell)) (let q : item + 0 ≡ item = omega arith in q) p)))
-among_declared y item k (z ∷ xs) (suc j) x h p =
-    let long = declared_length item k z.width z.cell in
-    among_right y (declared_nets item k z.width z.cell) _ (among_declared y (item + length (declared_nets item k z.width z.cell)) (k + 1) xs j x h
-    (subst (λ n. Among y (declared_nets (item + length (declared_nets item k z.width z.cell) + others j xs) n x.width x.cell)) (let q : k + suc j ≡ k + 1 + j = omega arith in q)
-    (subst (λ n. Among y (declared_nets n (k + suc j) x.width x.cell)) (let q : item + (is_other z.cell + others j xs) ≡ item + length (declared_nets item k z.width z.cell) + others j xs = omega arith in q) p)))
+    among_left y (declared_nets lines item k z.width z.cell) _ (subst (λ (u : SizedCell). Among y (declared_nets lines item k u.width u.cell)) e
+    (subst (λ n. Among y (declared_nets lines item n x.width x.cell)) (let q : k + 0 ≡ k = omega arith in q) (subst (λ n. Among y (declared_nets lines n (k + 0) x.width x.cell)) (let q : item + 0 ≡ item = omega arith in q) p)))
+among_declared lines y item k (z ∷ xs) (suc j) x h p =
+    let long = declared_length lines item k z.width z.cell in
+    among_right y (declared_nets lines item k z.width z.cell) _ (among_declared lines y (item + length (declared_nets lines item k z.width z.cell)) (k + 1) xs j x h
+    (subst (λ n. Among y (declared_nets lines (item + length (declared_nets lines item k z.width z.cell) + others j xs) n x.width x.cell)) (let q : k + suc j ≡ k + 1 + j = omega arith in q)
+    (subst (λ n. Among y (declared_nets lines n (k + suc j) x.width x.cell)) (let q : item + (is_other z.cell + others j xs) ≡ item + length (declared_nets lines item k z.width z.cell) + others j xs = omega arith in q) p)))
 
-declared_among : (y : NetTree) (item k : ℕ) (xs : List SizedCell) → Among y (declared_from item k xs) → (j : ℕ) × (x : SizedCell) × (slice_get xs j ≡ Some x) × (y ≡ net_from (item + others j xs) (k + j) x.width x.cell)
-declared_among y item k [] h = absurd h
-declared_among y item k (z ∷ xs) h = elim (among_split y (declared_nets item k z.width z.cell) _ h) [
+declared_among : (lines : ℕ → ℕ) → (y : NetTree) (item k : ℕ) (xs : List SizedCell) → Among y (declared_from lines item k xs) → (j : ℕ) × (x : SizedCell) × (slice_get xs j ≡ Some x) × (y ≡ net_from lines (item + others j xs) (k + j) x.width x.cell)
+declared_among lines y item k [] h = absurd h
+declared_among lines y item k (z ∷ xs) h = elim (among_split y (declared_nets lines item k z.width z.cell) _ h) [
   | inl here ↦
       let a : item ≡ item + 0 = omega arith in let b : k ≡ k + 0 = omega arith in
-      (0, z, refl, of_declared item k z.width z.cell y here ∙ (λ i. net_from (a i) (b i) z.width z.cell))
+      (0, z, refl, of_declared lines item k z.width z.cell y here ∙ (λ i. net_from lines (a i) (b i) z.width z.cell))
   | inr later ↦
-      let long = declared_length item k z.width z.cell in
-      let r = declared_among y (item + length (declared_nets item k z.width z.cell)) (k + 1) xs later in
-      let a : item + length (declared_nets item k z.width z.cell) + others r.0 xs ≡ item + (is_other z.cell + others r.0 xs) = omega arith in
+      let long = declared_length lines item k z.width z.cell in
+      let r = declared_among lines y (item + length (declared_nets lines item k z.width z.cell)) (k + 1) xs later in
+      let a : item + length (declared_nets lines item k z.width z.cell) + others r.0 xs ≡ item + (is_other z.cell + others r.0 xs) = omega arith in
       let b : k + 1 + r.0 ≡ k + suc r.0 = omega arith in
-      (suc r.0, r.1, r.2, r.3 ∙ (λ i. net_from (a i) (b i) r.1.width r.1.cell))
+      (suc r.0, r.1, r.2, r.3 ∙ (λ i. net_from lines (a i) (b i) r.1.width r.1.cell))
 ]
 
-module _ (cells : List SizedCell) (outlets : List Outlet) (outs : ℕ) where
+module _ (lines : ℕ → ℕ) (cells : List SizedCell) (outlets : List Outlet) (outs : ℕ) where
   abbrev pub written : ModuleTree
-  written = netlist_module cells outlets outs
+  written = netlist_module lines cells outlets outs
 
   -- the net of cell k
   abbrev pub cell_net : ℕ → SizedCell → NetTree
-  cell_net k x = net_from (1 + others k cells) k x.width x.cell
+  cell_net k x = net_from lines (1 + others k cells) k x.width x.cell
 
   pub data Origin (y : NetTree) : Type 0 where
     the_clock : y ≡ clock_net → Origin y
@@ -136,16 +136,16 @@ module _ (cells : List SizedCell) (outlets : List Outlet) (outs : ℕ) where
     | inr more ↦ elim (among_split y (inputs_of cells) _ more) [
       | inl i ↦
           let r = listed_among (λ net (sized : SizedCell). input_nets sized.width sized.cell) y 0 cells i in
-          a_cell r.0 r.1 r.2 (of_input (1 + others r.0 cells) r.0 r.1.width r.1.cell y r.3)
-      | inr rest ↦ elim (among_split y (map (output_net cells outs) outlets) (declared_from 1 0 cells) rest) [
+          a_cell r.0 r.1 r.2 (of_input lines (1 + others r.0 cells) r.0 r.1.width r.1.cell y r.3)
+      | inr rest ↦ elim (among_split y (map (output_net cells outs) outlets) (declared_from lines 1 0 cells) rest) [
         | inl o ↦
             let r = among_unmap (output_net cells outs) y outlets o in
             let p = among_at r.0 outlets r.1 in
             an_output p.0 r.0 p.1 (sym r.2)
         | inr d ↦
-            let r = declared_among y 1 0 cells d in
+            let r = declared_among lines y 1 0 cells d in
             let b : 0 + r.0 ≡ r.0 = omega arith in
-            a_cell r.0 r.1 r.2 (r.3 ∙ (λ i. net_from (1 + others r.0 cells) (b i) r.1.width r.1.cell))
+            a_cell r.0 r.1 r.2 (r.3 ∙ (λ i. net_from lines (1 + others r.0 cells) (b i) r.1.width r.1.cell))
       ]
     ]
   ]
@@ -154,32 +154,32 @@ module _ (cells : List SizedCell) (outlets : List Outlet) (outs : ℕ) where
   clock_among = inl refl
 
   pub output_among : (j : ℕ) (o : Outlet) → slice_get outlets j ≡ Some o → Among (output_net cells outs o) written.nets
-  output_among j o h = inr (among_right _ (inputs_of cells) _ (among_left _ (map (output_net cells outs) outlets) (declared_from 1 0 cells) (among_map (output_net cells outs) o outlets (among_from o outlets j h))))
+  output_among j o h = inr (among_right _ (inputs_of cells) _ (among_left _ (map (output_net cells outs) outlets) (declared_from lines 1 0 cells) (among_map (output_net cells outs) o outlets (among_from o outlets j h))))
 
   pub cell_among : (k : ℕ) (x : SizedCell) → slice_get cells k ≡ Some x → Among (cell_net k x) written.nets
   cell_among k x h =
       let b : k ≡ 0 + k = omega arith in
-      elim (in_either (1 + others k cells) k x.width x.cell) [
+      elim (in_either lines (1 + others k cells) k x.width x.cell) [
         | inl i ↦ inr (among_left (cell_net k x) (inputs_of cells) _ (among_listed (λ net (sized : SizedCell). input_nets sized.width sized.cell) (cell_net k x) 0 cells k x h i))
-        | inr d ↦ inr (among_right (cell_net k x) (inputs_of cells) _ (among_right (cell_net k x) (map (output_net cells outs) outlets) (declared_from 1 0 cells)
-            (among_declared (cell_net k x) 1 0 cells k x h (subst (λ n. Among (cell_net k x) (declared_nets (1 + others k cells) n x.width x.cell)) b d))))
+        | inr d ↦ inr (among_right (cell_net k x) (inputs_of cells) _ (among_right (cell_net k x) (map (output_net cells outs) outlets) (declared_from lines 1 0 cells)
+            (among_declared lines (cell_net k x) 1 0 cells k x h (subst (λ n. Among (cell_net k x) (declared_nets lines (1 + others k cells) n x.width x.cell)) b d))))
       ]
 
-  pub name_of : (k : ℕ) (x : SizedCell) → slice_get cells k ≡ Some x → net_name cells k ≡ cell_name k x.cell
+  pub name_of : (k : ℕ) (x : SizedCell) → slice_get cells k ≡ Some x → net_name lines cells k ≡ cell_name lines k x.cell
   unfolding net_name
-  name_of k x h = ap (name_in k) h
+  name_of k x h = ap (name_in lines k) h
 
   module _ (ok : IsWritableNetlist cells outlets outs) where
     -- each name is declared once
-    pub cell_named : (k : ℕ) (x : SizedCell) → slice_get cells k ≡ Some x → net_named written.nets (cell_name k x.cell) ≡ Some (cell_net k x)
+    pub cell_named : (k : ℕ) (x : SizedCell) → slice_get cells k ≡ Some x → net_named written.nets (cell_name lines k x.cell) ≡ Some (cell_net k x)
     unfolding net_named
-    cell_named k x h = find_only (λ (y : NetTree). bytes_eq y.name (cell_name k x.cell)) written.nets (cell_net k x) (cell_among k x h) (bytes_same (cell_name k x.cell) (cell_name k x.cell) refl) (λ y a t.
-        let same : y.name ≡ cell_name k x.cell = same_bytes y.name (cell_name k x.cell) t in
+    cell_named k x h = find_only (λ (y : NetTree). bytes_eq y.name (cell_name lines k x.cell)) written.nets (cell_net k x) (cell_among k x h) (bytes_same (cell_name lines k x.cell) (cell_name lines k x.cell) refl) (λ y a t.
+        let same : y.name ≡ cell_name lines k x.cell = same_bytes y.name (cell_name lines k x.cell) t in
         elim (origin y a) [
-          | the_clock e ↦ absurd (cell_not_clock cells outlets outs ok k x h (sym same ∙ ap (λ (z : NetTree). z.name) e))
-          | an_output j o g e ↦ absurd (cell_not_output cells outlets outs ok k x j o h g (sym same ∙ ap (λ (z : NetTree). z.name) e))
+          | the_clock e ↦ absurd (cell_not_clock lines cells outlets outs ok k x h (sym same ∙ ap (λ (z : NetTree). z.name) e))
+          | an_output j o g e ↦ absurd (cell_not_output lines cells outlets outs ok k x j o h g (sym same ∙ ap (λ (z : NetTree). z.name) e))
           | a_cell j z g e ↦
-              let eq : j ≡ k = cell_once cells outlets outs ok j k z x g h (sym (ap (λ (u : NetTree). u.name) e) ∙ same) in
+              let eq : j ≡ k = cell_once lines cells outlets outs ok j k z x g h (sym (ap (λ (u : NetTree). u.name) e) ∙ same) in
               let o : Some z ≡ Some x = sym g ∙ ap (slice_get cells) eq ∙ h in
               let zx : z ≡ x = cc in
               e ∙ (λ i. cell_net (eq i) (zx i))
@@ -190,13 +190,13 @@ module _ (cells : List SizedCell) (outlets : List Outlet) (outs : ℕ) where
     output_named j o h = find_only (λ (y : NetTree). bytes_eq y.name (port_name outs o.port)) written.nets (output_net cells outs o) (output_among j o h) (bytes_same (port_name outs o.port) (port_name outs o.port) refl) (λ y a t.
         let same : y.name ≡ port_name outs o.port = same_bytes y.name (port_name outs o.port) t in
         elim (origin y a) [
-          | the_clock e ↦ absurd (clock_not_output cells outlets outs ok j o h (sym (ap (λ (z : NetTree). z.name) e) ∙ same))
+          | the_clock e ↦ absurd (clock_not_output lines cells outlets outs ok j o h (sym (ap (λ (z : NetTree). z.name) e) ∙ same))
           | an_output i p g e ↦
-              let eq : i ≡ j = output_once cells outlets outs ok i j p o g h (sym (ap (λ (u : NetTree). u.name) e) ∙ same) in
+              let eq : i ≡ j = output_once lines cells outlets outs ok i j p o g h (sym (ap (λ (u : NetTree). u.name) e) ∙ same) in
               let q : Some p ≡ Some o = sym g ∙ ap (slice_get outlets) eq ∙ h in
               let po : p ≡ o = cc in
               e ∙ ap (output_net cells outs) po
-          | a_cell k z g e ↦ absurd (cell_not_output cells outlets outs ok k z j o g h (sym (ap (λ (u : NetTree). u.name) e) ∙ same))
+          | a_cell k z g e ↦ absurd (cell_not_output lines cells outlets outs ok k z j o g h (sym (ap (λ (u : NetTree). u.name) e) ∙ same))
         ])
 
     pub clock_named : net_named written.nets clock_name ≡ Some clock_net
@@ -205,6 +205,6 @@ module _ (cells : List SizedCell) (outlets : List Outlet) (outs : ℕ) where
         let same : y.name ≡ clock_name = same_bytes y.name clock_name t in
         elim (origin y a) [
           | the_clock e ↦ e
-          | an_output i p g e ↦ absurd (clock_not_output cells outlets outs ok i p g (sym same ∙ ap (λ (u : NetTree). u.name) e))
-          | a_cell k z g e ↦ absurd (cell_not_clock cells outlets outs ok k z g (sym (ap (λ (u : NetTree). u.name) e) ∙ same))
+          | an_output i p g e ↦ absurd (clock_not_output lines cells outlets outs ok i p g (sym same ∙ ap (λ (u : NetTree). u.name) e))
+          | a_cell k z g e ↦ absurd (cell_not_clock lines cells outlets outs ok k z g (sym (ap (λ (u : NetTree). u.name) e) ∙ same))
         ])

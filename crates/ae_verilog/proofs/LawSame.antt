@@ -67,7 +67,7 @@ numbered_none : {A : Type 0} (g : ℕ × SizedCell → A) (q : Cell → Bool) (k
 numbered_none g q k x xs e = ap (map g) (cond-false _ ((k, x) ∷ filter (of_kind q) (enumerate_from (k + 1) xs)) (filter (of_kind q) (enumerate_from (k + 1) xs)) e)
 
 -- the numbered cells of a kind, one part each
-module _ {A : Type 0} (f : NetTree → A) (g : ℕ × SizedCell → A) (q : Cell → Bool) where
+module _ (lines : ℕ → ℕ) {A : Type 0} (f : NetTree → A) (g : ℕ × SizedCell → A) (q : Cell → Bool) where
   -- one net for each cell of the kind, and none for another
   abbrev Matches : List NetTree → ℕ × SizedCell → Type 0
   Matches part p = ((q p.1.cell ≡ true) × (map f part ≡ g p ∷ [])) ⊎ ((q p.1.cell ≡ false) × (map f part ≡ []))
@@ -83,14 +83,14 @@ module _ {A : Type 0} (f : NetTree → A) (g : ℕ × SizedCell → A) (q : Cell
         | inr e ↦ (λ i. e.1 i ++ rest i) ∙ sym (numbered_none g q k x xs e.0)
       ]
 
-  declared_numbered : (p : NetTree → Bool) (item k : ℕ) (xs : List SizedCell) → ((i j : ℕ) (x : SizedCell) → slice_get xs j ≡ Some x → Matches (filter p (declared_nets i (k + j) x.width x.cell)) (k + j, x))
-      → map f (filter p (declared_from item k xs)) ≡ map g (filter (of_kind q) (enumerate_from k xs))
+  declared_numbered : (p : NetTree → Bool) (item k : ℕ) (xs : List SizedCell) → ((i j : ℕ) (x : SizedCell) → slice_get xs j ≡ Some x → Matches (filter p (declared_nets lines i (k + j) x.width x.cell)) (k + j, x))
+      → map f (filter p (declared_from lines item k xs)) ≡ map g (filter (of_kind q) (enumerate_from k xs))
   declared_numbered p item k [] h = refl
   declared_numbered p item k (x ∷ xs) h =
-      let first : Matches (filter p (declared_nets item k x.width x.cell)) (k, x) = subst (λ n. Matches (filter p (declared_nets item n x.width x.cell)) (n, x)) (let e : k + 0 ≡ k = omega arith in e) (h item 0 x refl) in
-      let rest = declared_numbered p (item + length (declared_nets item k x.width x.cell)) (k + 1) xs (λ i j y e. subst (λ n. Matches (filter p (declared_nets i n y.width y.cell)) (n, y)) (let z : k + suc j ≡ k + 1 + j = omega arith in z) (h i (suc j) y e)) in
-      ap (map f) (filter_both p (declared_nets item k x.width x.cell) (declared_from (item + length (declared_nets item k x.width x.cell)) (k + 1) xs))
-      ∙ map_parts f (filter p (declared_nets item k x.width x.cell)) (filter p (declared_from (item + length (declared_nets item k x.width x.cell)) (k + 1) xs)) ∙ elim first [
+      let first : Matches (filter p (declared_nets lines item k x.width x.cell)) (k, x) = subst (λ n. Matches (filter p (declared_nets lines item n x.width x.cell)) (n, x)) (let e : k + 0 ≡ k = omega arith in e) (h item 0 x refl) in
+      let rest = declared_numbered p (item + length (declared_nets lines item k x.width x.cell)) (k + 1) xs (λ i j y e. subst (λ n. Matches (filter p (declared_nets lines i n y.width y.cell)) (n, y)) (let z : k + suc j ≡ k + 1 + j = omega arith in z) (h i (suc j) y e)) in
+      ap (map f) (filter_both p (declared_nets lines item k x.width x.cell) (declared_from lines (item + length (declared_nets lines item k x.width x.cell)) (k + 1) xs))
+      ∙ map_parts f (filter p (declared_nets lines item k x.width x.cell)) (filter p (declared_from lines (item + length (declared_nets lines item k x.width x.cell)) (k + 1) xs)) ∙ elim first [
         | inl t ↦ (λ i. t.1 i ++ rest i) ∙ sym (numbered_some g q k x xs t.0)
         | inr e ↦ (λ i. e.1 i ++ rest i) ∙ sym (numbered_none g q k x xs e.0)
       ]
@@ -118,9 +118,9 @@ equal_here : {A : Type 0} (f g : ℕ × SizedCell → A) (q : Cell → Bool) (xs
     → (j : ℕ) (x : SizedCell) → slice_get xs j ≡ Some x → q x.cell ≡ true → f (j, x) ≡ g (j, x)
 equal_here f g q xs h j x at is = let e : 0 + j ≡ j = omega arith in subst (λ k. f (k, x) ≡ g (k, x)) e (equal_at f g q 0 xs h j x at is)
 
-module _ (cells : List SizedCell) (outlets : List Outlet) (outs : ℕ) (ok : IsWritableNetlist cells outlets outs) where
+module _ (lines : ℕ → ℕ) (cells : List SizedCell) (outlets : List Outlet) (outs : ℕ) (ok : IsWritableNetlist cells outlets outs) where
   abbrev m : ModuleTree
-  m = written cells outlets outs
+  m = written lines cells outlets outs
 
   abbrev n : c.Circuit
   n = record { limit = length cells; cells = cells; outlets = outlets }
@@ -132,17 +132,17 @@ module _ (cells : List SizedCell) (outlets : List Outlet) (outs : ℕ) (ok : IsW
   shown = map (output_net cells outs) outlets
 
   abbrev own : List NetTree
-  own = declared_from 1 0 cells
+  own = declared_from lines 1 0 cells
 
   split : (p : NetTree → Bool) → p clock_net ≡ false → filter p m.nets ≡ filter p ins ++ (filter p shown ++ filter p own)
   split p h = cond-false _ _ _ h ∙ filter_both p ins (shown ++ own) ∙ ap (λ l. filter p ins ++ l) (filter_both p shown own)
 
-  ins_are : (y : NetTree) → Among y ins → (k : ℕ) × (x : SizedCell) × (slice_get cells k ≡ Some x) × (y ≡ net_of InputNet 0 x.width (cell_name k x.cell))
+  ins_are : (y : NetTree) → Among y ins → (k : ℕ) × (x : SizedCell) × (slice_get cells k ≡ Some x) × (y ≡ net_of InputNet 0 x.width (cell_name lines k x.cell))
   ins_are y a =
       let r = listed_among (λ net (sized : SizedCell). input_nets sized.width sized.cell) y 0 cells a in
       (r.0, r.1, r.2, an_input r.0 r.1.width r.1.cell y r.3)
     where
-      an_input : (k width : ℕ) (cell : Cell) (y : NetTree) → Among y (input_nets width cell) → y ≡ net_of InputNet 0 width (cell_name k cell)
+      an_input : (k width : ℕ) (cell : Cell) (y : NetTree) → Among y (input_nets width cell) → y ≡ net_of InputNet 0 width (cell_name lines k cell)
       an_input k width (Input port) y a = elim a [ inl e ↦ sym e | inr none ↦ absurd none ]
       an_input k width (Const v) y a = absurd a
       an_input k width (Op op args) y a = absurd a
@@ -153,19 +153,19 @@ module _ (cells : List SizedCell) (outlets : List Outlet) (outs : ℕ) (ok : IsW
   shown_are : (y : NetTree) → Among y shown → (o : Outlet) × (y ≡ output_net cells outs o)
   shown_are y a = let r = among_unmap (output_net cells outs) y outlets a in (r.0, sym r.2)
 
-  own_are : (p : NetTree → Bool) → ((k : NetKind) (item width : ℕ) (name : List ℕ) → is_input_kind k ≡ false → is_output_kind k ≡ false → p (net_of k item width name) ≡ false) → (item k : ℕ) (xs : List SizedCell) → filter p (declared_from item k xs) ≡ []
+  own_are : (p : NetTree → Bool) → ((k : NetKind) (item width : ℕ) (name : List ℕ) → is_input_kind k ≡ false → is_output_kind k ≡ false → p (net_of k item width name) ≡ false) → (item k : ℕ) (xs : List SizedCell) → filter p (declared_from lines item k xs) ≡ []
   own_are p h item k [] = refl
   own_are p h item k (x ∷ xs) =
-      filter_both p (declared_nets item k x.width x.cell) (declared_from (item + length (declared_nets item k x.width x.cell)) (k + 1) xs)
-      ∙ (λ i. by_cell item k x.width x.cell i ++ own_are p h (item + length (declared_nets item k x.width x.cell)) (k + 1) xs i)
+      filter_both p (declared_nets lines item k x.width x.cell) (declared_from lines (item + length (declared_nets lines item k x.width x.cell)) (k + 1) xs)
+      ∙ (λ i. by_cell item k x.width x.cell i ++ own_are p h (item + length (declared_nets lines item k x.width x.cell)) (k + 1) xs i)
     where
-      by_cell : (item k width : ℕ) (cell : Cell) → filter p (declared_nets item k width cell) ≡ []
+      by_cell : (item k width : ℕ) (cell : Cell) → filter p (declared_nets lines item k width cell) ≡ []
       by_cell item k width (Input port) = refl
-      by_cell item k width (Const v) = cond-false _ _ _ (h _ item width (number_name k) refl refl)
-      by_cell item k width (Op op args) = cond-false _ _ _ (h _ item width (number_name k) refl refl)
-      by_cell item k width (Reg next) = cond-false _ _ _ (h _ item width (number_name k) refl refl)
-      by_cell item k width (Mem depth at next enable) = cond-false _ _ _ (h _ item width (number_name k) refl refl)
-      by_cell item k width (Peek mem at) = cond-false _ _ _ (h _ item width (number_name k) refl refl)
+      by_cell item k width (Const v) = cond-false _ _ _ (h _ item width (number_name lines k) refl refl)
+      by_cell item k width (Op op args) = cond-false _ _ _ (h _ item width (number_name lines k) refl refl)
+      by_cell item k width (Reg next) = cond-false _ _ _ (h _ item width (number_name lines k) refl refl)
+      by_cell item k width (Mem depth at next enable) = cond-false _ _ _ (h _ item width (number_name lines k) refl refl)
+      by_cell item k width (Peek mem at) = cond-false _ _ _ (h _ item width (number_name lines k) refl refl)
 
   append_none : {X : Type 0} (xs ys : List X) → ys ≡ [] → xs ++ ys ≡ xs
   append_none xs ys e = ap (λ l. xs ++ l) e ∙ append-nil xs
@@ -174,8 +174,8 @@ module _ (cells : List SizedCell) (outlets : List Outlet) (outs : ℕ) (ok : IsW
   inputs_are : s.inputs_of m ≡ ins
   inputs_are =
       let p : NetTree → Bool = λ (x : NetTree). is_input_kind x.kind && not (is_clock m x.name) in
-      split p (ap not (clock_is_clock cells outlets outs ok))
-      ∙ (λ i. filter_all p ins (λ y a. let r = ins_are y a in ap p r.3 ∙ ap not (cell_no_clock cells outlets outs ok r.0 r.1 r.2)) i
+      split p (ap not (clock_is_clock lines cells outlets outs ok))
+      ∙ (λ i. filter_all p ins (λ y a. let r = ins_are y a in ap p r.3 ∙ ap not (cell_no_clock lines cells outlets outs ok r.0 r.1 r.2)) i
       ++ (filter_none p shown (λ y a. let r = shown_are y a in ap p r.1) i ++ own_are p (λ k item width name a b. ap (λ t. t && not (is_clock m name)) a) 1 0 cells i))
       ∙ append-nil ins
 
@@ -200,10 +200,10 @@ module _ (cells : List SizedCell) (outlets : List Outlet) (outs : ℕ) (ok : IsW
   all_inputs : {A : Type 0} (f : NetTree → A) (g : ℕ × SizedCell → A) → ((k width : ℕ) (port : _) → slice_get cells k ≡ Some (record { width = width; cell = Input port }) → f (net_of InputNet 0 width (port_name 1 port)) ≡ g (k, record { width = width; cell = Input port }))
       → map f (s.inputs_of m) ≡ map g (s.input_cells cells)
   all_inputs f g h =
-      ap (map f) inputs_are ∙ listed_numbered f g s.is_input_cell (λ net (sized : SizedCell). input_nets sized.width sized.cell) 0 cells
-      (λ j x at. let e : j ≡ 0 + j = omega arith in subst (λ k. Matches f g s.is_input_cell (input_nets x.width x.cell) (k, x)) e (by_cell j x.width x.cell at))
+      ap (map f) inputs_are ∙ listed_numbered lines f g s.is_input_cell (λ net (sized : SizedCell). input_nets sized.width sized.cell) 0 cells
+      (λ j x at. let e : j ≡ 0 + j = omega arith in subst (λ k. Matches lines f g s.is_input_cell (input_nets x.width x.cell) (k, x)) e (by_cell j x.width x.cell at))
     where
-      by_cell : (j width : ℕ) (cell : Cell) → slice_get cells j ≡ Some (record { width = width; cell = cell }) → Matches f g s.is_input_cell (input_nets width cell) (j, record { width = width; cell = cell })
+      by_cell : (j width : ℕ) (cell : Cell) → slice_get cells j ≡ Some (record { width = width; cell = cell }) → Matches lines f g s.is_input_cell (input_nets width cell) (j, record { width = width; cell = cell })
       by_cell j width (Input port) at = inl (refl, ap (λ a. a ∷ []) (h j width port at))
       by_cell j width (Const v) at = inr (refl, refl)
       by_cell j width (Op op args) at = inr (refl, refl)
@@ -212,14 +212,14 @@ module _ (cells : List SizedCell) (outlets : List Outlet) (outs : ℕ) (ok : IsW
       by_cell j width (Peek mem place) at = inr (refl, refl)
 
   all_states : {A : Type 0} (f : NetTree → A) (g : ℕ × SizedCell → A)
-      → ((item k width : ℕ) (next : NetId) → slice_get cells k ≡ Some (record { width = width; cell = Reg next }) → f (net_of RegNet item width (number_name k)) ≡ g (k, record { width = width; cell = Reg next }))
-      → ((item k width depth : ℕ) (at next enable : NetId) → slice_get cells k ≡ Some (record { width = width; cell = Mem depth at next enable }) → f (net_of (MemoryNet depth) item width (number_name k)) ≡ g (k, record { width = width; cell = Mem depth at next enable }))
+      → ((item k width : ℕ) (next : NetId) → slice_get cells k ≡ Some (record { width = width; cell = Reg next }) → f (net_of RegNet item width (number_name lines k)) ≡ g (k, record { width = width; cell = Reg next }))
+      → ((item k width depth : ℕ) (at next enable : NetId) → slice_get cells k ≡ Some (record { width = width; cell = Mem depth at next enable }) → f (net_of (MemoryNet depth) item width (number_name lines k)) ≡ g (k, record { width = width; cell = Mem depth at next enable }))
       → map f (s.states_of m) ≡ map g (s.state_cells cells)
   all_states f g registers memories =
-      ap (map f) states_are ∙ declared_numbered f g s.is_state_cell is_state_net 1 0 cells
-      (λ item j x at. let e : j ≡ 0 + j = omega arith in subst (λ k. Matches f g s.is_state_cell (filter is_state_net (declared_nets item k x.width x.cell)) (k, x)) e (by_cell item j x.width x.cell at))
+      ap (map f) states_are ∙ declared_numbered lines f g s.is_state_cell is_state_net 1 0 cells
+      (λ item j x at. let e : j ≡ 0 + j = omega arith in subst (λ k. Matches lines f g s.is_state_cell (filter is_state_net (declared_nets lines item k x.width x.cell)) (k, x)) e (by_cell item j x.width x.cell at))
     where
-      by_cell : (item j width : ℕ) (cell : Cell) → slice_get cells j ≡ Some (record { width = width; cell = cell }) → Matches f g s.is_state_cell (filter is_state_net (declared_nets item j width cell)) (j, record { width = width; cell = cell })
+      by_cell : (item j width : ℕ) (cell : Cell) → slice_get cells j ≡ Some (record { width = width; cell = cell }) → Matches lines f g s.is_state_cell (filter is_state_net (declared_nets lines item j width cell)) (j, record { width = width; cell = cell })
       by_cell item j width (Input port) at = inr (refl, refl)
       by_cell item j width (Const v) at = inr (refl, refl)
       by_cell item j width (Op op args) at = inr (refl, refl)
@@ -232,8 +232,8 @@ module _ (cells : List SizedCell) (outlets : List Outlet) (outs : ℕ) (ok : IsW
 
   -- a clock of the module goes with a clock of the netlist
   record GoesWith (d : ModuleClock) (run : List r.Clock) (t : ℕ) : Type 0 where
-    word : (k : ℕ) (x : SizedCell) → slice_get cells k ≡ Some x → c.IsPlain x.cell → d.word (cell_name k x.cell) ≡ r.word_at run t k
-    store : (k width depth : ℕ) (at next enable : NetId) → slice_get cells k ≡ Some (record { width = width; cell = Mem depth at next enable }) → d.store (number_name k) ≡ r.store_at run t k
+    word : (k : ℕ) (x : SizedCell) → slice_get cells k ≡ Some x → c.IsPlain x.cell → d.word (cell_name lines k x.cell) ≡ r.word_at run t k
+    store : (k width depth : ℕ) (at next enable : NetId) → slice_get cells k ≡ Some (record { width = width; cell = Mem depth at next enable }) → d.store (number_name lines k) ≡ r.store_at run t k
     output : (j : ℕ) (o : Outlet) → slice_get outlets j ≡ Some o → d.word (port_name outs o.port) ≡ r.word_at run t o.net.0
 
   inputs_go : (d : ModuleClock) (run : List r.Clock) (t : ℕ) → GoesWith d run t → s.input_words m d ≡ s.net_input_words n run t
@@ -257,18 +257,18 @@ module _ (cells : List SizedCell) (outlets : List Outlet) (outs : ℕ) (ok : IsW
   show_equal : (run : List ModuleClock) (other : List r.Clock) → ((t : ℕ) → t < length run → GoesWith (clock_at run t) other t) → s.HaveEqualOutputs m n run other
   show_equal run other h = record { outputs = λ t l. outputs_go (clock_at run t) other t (h t l) }
 
-  goes_of : (other : List r.Clock) (is : r.IsRun cells other) (t : ℕ) → t < length other → GoesWith (clock_at (run_by_name cells outlets outs ok other is) t) other t
+  goes_of : (other : List r.Clock) (is : r.IsRun cells other) (t : ℕ) → t < length other → GoesWith (clock_at (run_by_name lines cells outlets outs ok other is) t) other t
   goes_of other is t l = record {
-    word = λ k x at p. by_name_word cells outlets outs ok other is t k x l at;
-    store = λ k width depth place next enable at. by_name_store cells outlets outs ok other is t k _ l at;
-    output = λ j o at. by_name_output cells outlets outs ok other is t j o l at;
+    word = λ k x at p. by_name_word lines cells outlets outs ok other is t k x l at;
+    store = λ k width depth place next enable at. by_name_store lines cells outlets outs ok other is t k _ l at;
+    output = λ j o at. by_name_output lines cells outlets outs ok other is t j o l at;
   }
 
-  goes_from : (run : List ModuleClock) (is : IsRun m run) (t : ℕ) → t < length run → GoesWith (clock_at run t) (run_by_number cells run) t
+  goes_from : (run : List ModuleClock) (is : IsRun m run) (t : ℕ) → t < length run → GoesWith (clock_at run t) (run_by_number lines cells run) t
   goes_from run is t l = record {
-    word = λ k x at p. sym (plain_is cells outlets outs ok run is t k x l at p);
-    store = λ k width depth place next enable at. sym (store_is cells run t k _ l at);
-    output = λ j o at. by_number_output cells outlets outs ok run is t j o l at;
+    word = λ k x at p. sym (plain_is lines cells outlets outs ok run is t k x l at p);
+    store = λ k width depth place next enable at. sym (store_is lines cells run t k _ l at);
+    output = λ j o at. by_number_output lines cells outlets outs ok run is t j o l at;
   }
 
   -- runs of the netlist with equal inputs and equal first words agree
@@ -288,11 +288,11 @@ module _ (cells : List SizedCell) (outlets : List Outlet) (outs : ℕ) (ok : IsW
       equal_here (λ (x : ℕ × SizedCell). s.cell_words x.1.cell (r.word_at other 0 x.0) (r.store_at other 0 x.0)) (λ (x : ℕ × SizedCell). s.cell_words x.1.cell (r.word_at run 0 x.0) (r.store_at run 0 x.0)) s.is_state_cell cells (first z) k _ at refl in
       subst (λ u. r.store_at other u k ≡ r.store_at run u k) (sym z) h
 
-  same_run : (run : List ModuleClock) (other : List r.Clock) → IsRun m run → r.IsRun cells other → s.BeginAlike m n run other → other ≡ run_by_number cells run
+  same_run : (run : List ModuleClock) (other : List r.Clock) → IsRun m run → r.IsRun cells other → s.BeginAlike m n run other → other ≡ run_by_number lines cells run
   same_run run other is is_other begins =
-      let made : List r.Clock = run_by_number cells run in
-      let made_is = by_number_is_run cells outlets outs ok run is in
-      let long : length made ≡ length run = by_number_length cells run in
+      let made : List r.Clock = run_by_number lines cells run in
+      let made_is = by_number_is_run lines cells outlets outs ok run is in
+      let long : length made ≡ length run = by_number_length lines cells run in
       let made_begins = begin run made (sym long) (goes_from run is) in
       let one = one_run cells ok.formed made made_is.shaped in
       let of_other : r.IsRunOn cells made other = record {
@@ -311,15 +311,15 @@ module _ (cells : List SizedCell) (outlets : List Outlet) (outs : ℕ) (ok : IsW
     depths = all_states (λ (x : NetTree). s.kind_depth x.kind) (λ (x : ℕ × SizedCell). s.cell_depth x.1.cell) (λ item k width next at. refl) (λ item k width depth at next enable found. refl);
     equal = λ run other is is_other begins.
         let e = same_run run other is is_other (record { long = begins.long; inputs = begins.inputs; first = begins.first }) in
-        record { outputs = λ t l. outputs_go (clock_at run t) (run_by_number cells run) t (goes_from run is t l) ∙ ap (λ u. s.net_output_words n u t) (sym e) };
+        record { outputs = λ t l. outputs_go (clock_at run t) (run_by_number lines cells run) t (goes_from run is t l) ∙ ap (λ u. s.net_output_words n u t) (sym e) };
     of_module = λ run is.
-        let begins = begin run (run_by_number cells run) (sym (by_number_length cells run)) (goes_from run is) in
-        let shows = show_equal run (run_by_number cells run) (goes_from run is) in
-        (run_by_number cells run, by_number_is_run cells outlets outs ok run is, record { long = begins.long; inputs = begins.inputs; first = begins.first }, record { outputs = shows.outputs });
+        let begins = begin run (run_by_number lines cells run) (sym (by_number_length lines cells run)) (goes_from run is) in
+        let shows = show_equal run (run_by_number lines cells run) (goes_from run is) in
+        (run_by_number lines cells run, by_number_is_run lines cells outlets outs ok run is, record { long = begins.long; inputs = begins.inputs; first = begins.first }, record { outputs = shows.outputs });
     of_netlist = λ other is.
-        let run = run_by_name cells outlets outs ok other is in
-        let long = by_name_length cells outlets outs ok other is in
+        let run = run_by_name lines cells outlets outs ok other is in
+        let long = by_name_length lines cells outlets outs ok other is in
         let begins = begin run other long (λ t l. goes_of other is t (omega arith)) in
         let shows = show_equal run other (λ t l. goes_of other is t (omega arith)) in
-        (run, by_name_is_run cells outlets outs ok other is, record { long = begins.long; inputs = begins.inputs; first = begins.first }, record { outputs = shows.outputs });
+        (run, by_name_is_run lines cells outlets outs ok other is, record { long = begins.long; inputs = begins.inputs; first = begins.first }, record { outputs = shows.outputs });
   }

@@ -26,3 +26,4 @@ pub mod NetlistTree
 pub mod NotedCells
 pub mod Whole
 pub mod StarLaw
+pub mod NoteLines

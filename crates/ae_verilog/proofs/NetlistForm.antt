@@ -29,40 +29,40 @@ input_forms width (Peek mem at) = []
 abbrev pub output_form : List SizedCell → ℕ → Outlet → PortForm
 output_form cells outs outlet = port_form (OutputHead true) (width_of cells outlet.net.0) (port_name outs outlet.port)
 
-abbrev pub declaration_form : List SizedCell → (net width : ℕ) → Cell → List ItemForm
-declaration_form cells net width (Input port) = []
-declaration_form cells net width (Const k) = value_item width net (constant width k true) ∷ []
-declaration_form cells net width (Op op args) = value_item width net (op_value cells width op (operand args 0) (operand args 1) (operand args 2)) ∷ []
-declaration_form cells net width (Reg next) = register_item width net ∷ []
-declaration_form cells net width (Mem depth at next enable) = memory_item width net depth ∷ []
-declaration_form cells net width (Peek mem at) = value_item width net (index (net_name cells mem.0) (net_value cells at.0)) ∷ []
+abbrev pub declaration_form : (lines : ℕ → ℕ) → List SizedCell → (net width : ℕ) → Cell → List ItemForm
+declaration_form lines cells net width (Input port) = []
+declaration_form lines cells net width (Const k) = value_item lines width net (constant width k true) ∷ []
+declaration_form lines cells net width (Op op args) = value_item lines width net (op_value lines cells width op (operand args 0) (operand args 1) (operand args 2)) ∷ []
+declaration_form lines cells net width (Reg next) = register_item lines width net ∷ []
+declaration_form lines cells net width (Mem depth at next enable) = memory_item lines width net depth ∷ []
+declaration_form lines cells net width (Peek mem at) = value_item lines width net (index (net_name lines cells mem.0) (net_value lines cells at.0)) ∷ []
 
-abbrev pub assignment_form : List SizedCell → ℕ → Outlet → ItemForm
-assignment_form cells outs outlet = assign_item (port_name outs outlet.port) (net_name cells outlet.net.0)
+abbrev pub assignment_form : (lines : ℕ → ℕ) → List SizedCell → ℕ → Outlet → ItemForm
+assignment_form lines cells outs outlet = assign_item (port_name outs outlet.port) (net_name lines cells outlet.net.0)
 
-abbrev pub edge_form : List SizedCell → ℕ → Cell → List ItemForm
-edge_form cells net (Input port) = []
-edge_form cells net (Const k) = []
-edge_form cells net (Op op args) = []
-edge_form cells net (Reg next) = register_edge_item (net_name cells next.0) net ∷ []
-edge_form cells net (Mem depth at next enable) = memory_edge_item (net_name cells at.0) (net_name cells next.0) (net_name cells enable.0) net ∷ []
-edge_form cells net (Peek mem at) = []
+abbrev pub edge_form : (lines : ℕ → ℕ) → List SizedCell → ℕ → Cell → List ItemForm
+edge_form lines cells net (Input port) = []
+edge_form lines cells net (Const k) = []
+edge_form lines cells net (Op op args) = []
+edge_form lines cells net (Reg next) = register_edge_item (number_name lines net) (net_name lines cells next.0) ∷ []
+edge_form lines cells net (Mem depth at next enable) = memory_edge_item (number_name lines net) (net_name lines cells at.0) (net_name lines cells next.0) (net_name lines cells enable.0) ∷ []
+edge_form lines cells net (Peek mem at) = []
 
 abbrev pub port_forms : List SizedCell → List Outlet → ℕ → List PortForm
 port_forms cells outlets outs = flat_map (λ (sized : SizedCell). input_forms sized.width sized.cell) cells ++ map (output_form cells outs) outlets
 
-abbrev pub item_forms : List SizedCell → List Outlet → ℕ → List ItemForm
-item_forms cells outlets outs =
-    listed (λ net (sized : SizedCell). declaration_form cells net sized.width sized.cell) 0 cells
-    ++ (map (assignment_form cells outs) outlets
-    ++ listed (λ net (sized : SizedCell). edge_form cells net sized.cell) 0 cells)
+abbrev pub item_forms : (lines : ℕ → ℕ) → List SizedCell → List Outlet → ℕ → List ItemForm
+item_forms lines cells outlets outs =
+    listed (λ net (sized : SizedCell). declaration_form lines cells net sized.width sized.cell) 0 cells
+    ++ (map (assignment_form lines cells outs) outlets
+    ++ listed (λ net (sized : SizedCell). edge_form lines cells net sized.cell) 0 cells)
 
-abbrev pub netlist_form : List SizedCell → List Outlet → ℕ → ModuleForm
-netlist_form cells outlets outs = record {
+abbrev pub netlist_form : (lines : ℕ → ℕ) → List SizedCell → List Outlet → ℕ → ModuleForm
+netlist_form lines cells outlets outs = record {
   name = codes "aeth";
   first = clock_port;
   more = port_forms cells outlets outs;
-  items = item_forms cells outlets outs;
+  items = item_forms lines cells outlets outs;
 }
 
 -- lists

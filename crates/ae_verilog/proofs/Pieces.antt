@@ -1,9 +1,10 @@
 -- The pieces that the writer writes, and which tokens they are.
-use Rattle.std.proofs.Common.{◌≡◌, ℕ, zero, suc, ◌<◌, ◌≤◌, ◌^◌, List, [], ◌∷◌, ◌++◌, length, get_or, Bool, true, false, Some, None, refl, sym, ap, ◌∙◌, subst, arith, append_assoc, append-nil, inl, inr}
-use Rattle.std.specs.Prelude.{◌||◌, not, min, codes, bytes_eq, nat_lt, nat_eq, ◌==◌, decimal, filter}
+use Rattle.std.proofs.Common.{◌≡◌, ℕ, zero, suc, ◌+◌, ◌/◌, ◌%◌, ◌<◌, ◌≤◌, ◌^◌, List, [], ◌∷◌, ◌++◌, length, get_or, Bool, true, false, Some, None, refl, sym, ap, ◌∙◌, subst, arith, append_assoc, append-nil, inl, inr}
+use Rattle.std.specs.Prelude.{◌||◌, not, min, codes, bytes_eq, nat_lt, nat_eq, ◌==◌, decimal, filter, if◌then◌else◌}
+use Rattle.std.specs.Fmt.{digits, digits_onto, digit_glyph}
 use Rattle.std.specs.List.{list_all, list_any, starts_with}
 use Rattle.std.specs.Char.{is_ascii_digit, digit_value}
-use Rattle.std.specs.Str.Parse.{digits_value, AllDigits}
+use Rattle.std.specs.Str.Parse.{digits_value}
 use Rattle.std.proofs.lemmas.Bool.{and_parts, or_cases, both_ways, and_from, or_left, or_right, cond-true, cond-false, lt-ltb, le-leb, ne_eqb, and_left, false_from_ne_true}
 use Rattle.std.proofs.lemmas.Bool.Decides.{nat_tests}
 use Rattle.std.proofs.lemmas.Fmt.{decimal_is_IsNumeral, first_decimal, decimal_digit}
@@ -36,21 +37,37 @@ pub record IsDigits (ds : List ℕ) : Type 0 where
   pub some : 0 < length ds
   pub all : list_all is_ascii_digit ds ≡ true
 
-digit_from : (c : ℕ) → digit_value c < 10 → is_ascii_digit c ≡ true
-digit_from c h = grind (arith, nat_tests)
+glyph_digit : (d : ℕ) → d < 10 → is_ascii_digit (digit_glyph false d) ≡ true
+glyph_digit d h = subst (λ b. is_ascii_digit b ≡ true) (sym (cond-true _ _ _ (lt-ltb d 10 h))) (shown d h)
+  where
+    shown : (d : ℕ) → d < 10 → is_ascii_digit (48 + d) ≡ true
+    shown d h = grind (arith, nat_tests)
 
-digits_from : (ds : List ℕ) → AllDigits 10 ds → list_all is_ascii_digit ds ≡ true
-digits_from [] h = refl
-digits_from (c ∷ cs) h = and_from _ _ (digit_from c h.0) (digits_from cs h.1)
+one_more : (n : ℕ) (ds : List ℕ) → list_all is_ascii_digit ds ≡ true → IsDigits (digit_glyph false (n % 10) ∷ ds)
+one_more n ds h = record { some = omega arith; all = and_from _ _ (glyph_digit (n % 10) (omega arith)) h }
 
-pub decimal_digits : (n : ℕ) → n < 2 ^ 64 → IsDigits (decimal n)
-decimal_digits n h = let numeral = (decimal_is_IsNumeral n h).0 in record { some = numeral.0; all = digits_from _ numeral.1 }
+either_digits : (t : Bool) (xs ys : List ℕ) → IsDigits xs → IsDigits ys → IsDigits (if t then xs else ys)
+either_digits true xs ys hx hy = hx
+either_digits false xs ys hx hy = hy
+
+onto_digits : (k n : ℕ) (ds : List ℕ) → IsDigits ds → IsDigits (digits_onto k 10 false n ds)
+onto_digits zero n ds h = h
+onto_digits (suc k) n ds h =
+    let more = one_more n ds h.all in
+    either_digits (n / 10 == 0) _ _ more (onto_digits k (n / 10) (digit_glyph false (n % 10) ∷ ds) more)
+
+-- however large the number is
+pub decimal_digits : (n : ℕ) → IsDigits (decimal n)
+unfolding digits
+decimal_digits n =
+    let more = one_more n [] refl in
+    either_digits (n / 10 == 0) _ _ more (onto_digits 63 (n / 10) (digit_glyph false (n % 10) ∷ []) more)
 
 digit_clean : (b : ℕ) → is_ascii_digit b ≡ true → is_clean b ≡ true
 digit_clean b h = grind (arith, nat_tests)
 
-pub decimal_clean : (n : ℕ) → n < 2 ^ 64 → IsClean (decimal n)
-decimal_clean n h = record { all = clean_from is_ascii_digit (decimal n) digit_clean (decimal_digits n h).all }
+pub decimal_clean : (n : ℕ) → IsClean (decimal n)
+decimal_clean n = record { all = clean_from is_ascii_digit (decimal n) digit_clean (decimal_digits n).all }
 
 -- what follows digits
 number_on : (ds cs rest : List ℕ) → list_all is_ascii_digit cs ≡ true → number_of ds (cs ++ rest) ≡ number_of (ds ++ cs) rest
@@ -91,7 +108,7 @@ decimal_whole (suc n) h =
 
 pub decimal_token : (n : ℕ) → n < 2 ^ 32 → token_of (decimal n) ≡ Some (number_token (number_form n))
 decimal_token n h =
-    ap token_of (sym (append-nil (decimal n))) ∙ number_piece (decimal n) [] (decimal_digits n (omega arith))
+    ap token_of (sym (append-nil (decimal n))) ∙ number_piece (decimal n) [] (decimal_digits n)
     ∙ ap Some (decimal_whole n h)
 
 no_underscore : (ds : List ℕ) → list_all is_ascii_digit ds ≡ true → filter (λ c. not (c == 95)) ds ≡ ds
@@ -120,8 +137,8 @@ fitting w v small fits = cond-true _ _ _ (and_from _ _ (le-leb w 64 small) (lt-l
 pub sized_token : (w v : ℕ) → 0 < w → w ≤ 64 → v < 2 ^ w → v < 2 ^ 64 → token_of (decimal w ++ (codes "'d" ++ decimal v)) ≡ Some (Sized w v true)
 sized_token w v positive small fits fits64 =
     let w64 : w < 2 ^ 64 = omega arith in
-    let digits = decimal_digits v fits64 in
-    number_piece (decimal w) (codes "'d" ++ decimal v) (decimal_digits w w64)
+    let digits = decimal_digits v in
+    number_piece (decimal w) (codes "'d" ++ decimal v) (decimal_digits w)
     ∙ cond-true _ _ _ (and_from _ _ (ap not (zero_front (decimal w) (first_decimal w positive w64))) (ten_digits (decimal v) digits))
     ∙ ap Some (
     ap (λ m. constant m (digits_value 10 (filter (λ c. not (c == 95)) (decimal v)))) (decimal_is_IsNumeral w w64).1
@@ -216,19 +233,19 @@ digits_named : (ds : List ℕ) → list_all is_ascii_digit ds ≡ true → list_
 digits_named [] h = refl
 digits_named (d ∷ ds) h = let parts = and_parts _ (list_all is_ascii_digit ds) h in and_from _ _ (digit_name d parts.0) (digits_named ds parts.1)
 
-pub decimal_named : (n : ℕ) → n < 2 ^ 64 → list_all is_name_byte (decimal n) ≡ true
-decimal_named n h = digits_named (decimal n) (decimal_digits n h).all
+pub decimal_named : (n : ℕ) → list_all is_name_byte (decimal n) ≡ true
+decimal_named n = digits_named (decimal n) (decimal_digits n).all
 
 starts_digits : (ds rest : List ℕ) → IsDigits ds → starts_marked (ds ++ rest) ≡ true
 starts_digits [] rest h = absurd (omega (arith, h.some))
 starts_digits (d ∷ ds) rest h = or_left _ _ (and_parts _ (list_all is_ascii_digit ds) h.all).0
 
-pub decimal_starts : (n : ℕ) (rest : List ℕ) → n < 2 ^ 64 → starts_marked (decimal n ++ rest) ≡ true
-decimal_starts n rest h = starts_digits (decimal n) rest (decimal_digits n h)
+pub decimal_starts : (n : ℕ) (rest : List ℕ) → starts_marked (decimal n ++ rest) ≡ true
+decimal_starts n rest = starts_digits (decimal n) rest (decimal_digits n)
 
 pub named_both : (xs ys : List ℕ) → list_all is_name_byte xs ≡ true → list_all is_name_byte ys ≡ true → list_all is_name_byte (xs ++ ys) ≡ true
 named_both xs ys hx hy = list_all-append is_name_byte xs ys ∙ and_from _ _ hx hy
 
-pub number_named : (b n : ℕ) → is_letter b ≡ true → n < 2 ^ 64 → IsNameText (b ∷ decimal n)
-number_named b n letter h =
-    marked_name b (decimal n) letter (subst (λ l. starts_marked l ≡ true) (append-nil (decimal n)) (decimal_starts n [] h)) (decimal_named n h)
+pub number_named : (b n : ℕ) → is_letter b ≡ true → IsNameText (b ∷ decimal n)
+number_named b n letter =
+    marked_name b (decimal n) letter (subst (λ l. starts_marked l ≡ true) (append-nil (decimal n)) (decimal_starts n [])) (decimal_named n)

@@ -13,8 +13,8 @@ use Rattle.ae_vread.specs.declared.module.BinOp.{BinOp}
 use Rattle.ae_vread.specs.ModuleTree.{binary, constant}
 use Rattle.std.specs.List.{flat_map}
 use Rattle.ae_netlist.specs.declared.cell.Outlet.{Outlet}
-use Rattle.ae_verilog.specs.Notes.{NoteTree}
-use Rattle.ae_verilog.specs.Text.{sign_text, input_text, output_text, header_text, declaration_text, noted, assignment_text, edge_text, whole_text}
+use Rattle.ae_verilog.specs.Notes.{NoteTree, lines_of}
+use Rattle.ae_verilog.specs.Text.{sign_text, input_text, output_text, header_text, declaration_text, noted, assignment_text, edge_text, module_text, whole_text}
 use Rattle.std.specs.Prelude.{map, length}
 use Rattle.std.proofs.lemmas.List.{length-map}
 use Rattle.ae_sttype.specs.StTree.{st_tree}
@@ -22,63 +22,63 @@ use Rattle.ae_verilog.specs.NetlistModule.{listed}
 use Rattle.ae_verilog.specs.declared.report.Report.{Report}
 use Rattle.ae_verilog.specs.ReportLines.{report_tree, number_line, enable_line, in_line, out_line, report_lines}
 
-pub register_steps : {E : Type 0} (r : Result (Unit {0}) E) (old one two new next : List ℕ) (net : ℕ) →
-    one ≡ old ++ (codes "  always @(posedge clk) n" ++ (decimal net ++ codes " <= ")) → two ≡ one ++ next →
-    OnOk r (new ≡ two ++ codes ";\n") → OnOk r (new ≡ old ++ register_edge next net)
-register_steps (Ok u) old one two new next net first second third =
-    third ∙ ap (λ l. l ++ codes ";\n") (second ∙ ap (λ l. l ++ next) first) ∙ simp append_assoc
-register_steps (Err e) old one two new next net first second third = tt
+pub register_steps : {E : Type 0} (r : Result (Unit {0}) E) (old a b c d new n next : List ℕ) →
+    a ≡ old ++ codes "  always @(posedge clk) " → b ≡ a ++ n → c ≡ b ++ codes " <= " → d ≡ c ++ next →
+    OnOk r (new ≡ d ++ codes ";\n") → OnOk r (new ≡ old ++ register_edge n next)
+register_steps (Ok u) old a b c d new n next ha hb hc hd last =
+    last ∙ ap (λ l. l ++ codes ";\n") (hd ∙ ap (λ l. l ++ next) (hc ∙ ap (λ l. l ++ codes " <= ") (hb ∙ ap (λ l. l ++ n) ha))) ∙ simp append_assoc
+register_steps (Err x) old a b c d new n next ha hb hc hd last = tt
 
-pub memory_steps : {E : Type 0} (r : Result (Unit {0}) E) (old a b c d e f new at next enable : List ℕ) (net : ℕ) →
-    a ≡ old ++ codes "  always @(posedge clk) if (" → b ≡ a ++ enable → c ≡ b ++ (codes ") n" ++ (decimal net ++ codes "[")) →
-    d ≡ c ++ at → e ≡ d ++ codes "] <= " → f ≡ e ++ next →
-    OnOk r (new ≡ f ++ codes ";\n") → OnOk r (new ≡ old ++ memory_edge at next enable net)
-memory_steps (Ok u) old a b c d e f new at next enable net ha hb hc hd he hf last =
-    last ∙ ap (λ l. l ++ codes ";\n") (hf ∙ ap (λ l. l ++ next) (he ∙ ap (λ l. l ++ codes "] <= ") (hd ∙ ap (λ l. l ++ at)
-    (hc ∙ ap (λ l. l ++ (codes ") n" ++ (decimal net ++ codes "["))) (hb ∙ ap (λ l. l ++ enable) ha))))) ∙ simp append_assoc
-memory_steps (Err x) old a b c d e f new at next enable net ha hb hc hd he hf last = tt
+pub memory_steps : {E : Type 0} (r : Result (Unit {0}) E) (old a b c d e f g h new n at next enable : List ℕ) →
+    a ≡ old ++ codes "  always @(posedge clk) if (" → b ≡ a ++ enable → c ≡ b ++ codes ") " → d ≡ c ++ n → e ≡ d ++ codes "[" →
+    f ≡ e ++ at → g ≡ f ++ codes "] <= " → h ≡ g ++ next →
+    OnOk r (new ≡ h ++ codes ";\n") → OnOk r (new ≡ old ++ memory_edge n at next enable)
+memory_steps (Ok u) old a b c d e f g h new n at next enable ha hb hc hd he hf hg hh last =
+    last ∙ ap (λ l. l ++ codes ";\n") (hh ∙ ap (λ l. l ++ next) (hg ∙ ap (λ l. l ++ codes "] <= ") (hf ∙ ap (λ l. l ++ at) (he ∙ ap (λ l. l ++ codes "[")
+    (hd ∙ ap (λ l. l ++ n) (hc ∙ ap (λ l. l ++ codes ") ") (hb ∙ ap (λ l. l ++ enable) ha))))))) ∙ simp append_assoc
+memory_steps (Err x) old a b c d e f g h new n at next enable ha hb hc hd he hf hg hh last = tt
 
 -- a cast to fewer bits
-pub part_steps : {E : Type 0} (r : Result (Unit {0}) E) (cells : List SizedCell) (to a w high : ℕ) (old one new : List ℕ) →
-    w ≡ width_of cells a → to < w → high ≡ to - 1 → one ≡ old ++ net_name cells a →
-    OnOk r (new ≡ one ++ (codes "[" ++ (decimal high ++ codes ":0]"))) → OnOk r (new ≡ old ++ expr_text (cast_to cells to a))
-part_steps (Ok u) cells to a w high old one new wide narrower top first second =
+pub part_steps : (lines : ℕ → ℕ) → {E : Type 0} (r : Result (Unit {0}) E) (cells : List SizedCell) (to a w high : ℕ) (old one new : List ℕ) →
+    w ≡ width_of cells a → to < w → high ≡ to - 1 → one ≡ old ++ net_name lines cells a →
+    OnOk r (new ≡ one ++ (codes "[" ++ (decimal high ++ codes ":0]"))) → OnOk r (new ≡ old ++ expr_text (cast_to lines cells to a))
+part_steps lines (Ok u) cells to a w high old one new wide narrower top first second =
     let test : nat_lt to (width_of cells a) ≡ true = lt-ltb _ _ (omega (arith, wide, narrower)) in
     let low : decimal 0 ≡ codes "0" = one_digit 0 (omega arith) in
     second ∙ ap (λ l. l ++ (codes "[" ++ (decimal high ++ codes ":0]"))) first
-    ∙ append_assoc old (net_name cells a) _
-    ∙ ap (λ n. old ++ (net_name cells a ++ (codes "[" ++ (decimal n ++ codes ":0]")))) top
-    ∙ ap (λ z. old ++ (net_name cells a ++ (codes "[" ++ (decimal (to - 1) ++ (codes ":" ++ (z ++ codes "]")))))) (sym low)
+    ∙ append_assoc old (net_name lines cells a) _
+    ∙ ap (λ n. old ++ (net_name lines cells a ++ (codes "[" ++ (decimal n ++ codes ":0]")))) top
+    ∙ ap (λ z. old ++ (net_name lines cells a ++ (codes "[" ++ (decimal (to - 1) ++ (codes ":" ++ (z ++ codes "]")))))) (sym low)
     ∙ ap (λ e. old ++ expr_text e) (sym (cond-true _ _ _ test))
-part_steps (Err x) cells to a w high old one new wide narrower top first second = tt
+part_steps lines (Err x) cells to a w high old one new wide narrower top first second = tt
 
-shift_same : (cells : List SizedCell) (op : BinOp) (width a by : ℕ) → shift_text (net_name cells a) (sign_text op) width by ≡ expr_text (shifted cells op width a by)
-shift_same cells op width a by = elim (nat_lt by width) as (λ t.
-    (if t then net_name cells a ++ (codes " " ++ (sign_text op ++ (codes " 6'd" ++ decimal by))) else decimal width ++ codes "'d0")
-    ≡ expr_text (if t then binary op (net_value cells a) (constant 6 by true) else constant width 0 true)) [
-      | true ↦ ap (λ s. net_name cells a ++ (codes " " ++ (sign_text op ++ (codes " " ++ (s ++ (codes "'d" ++ decimal by)))))) (sym (one_digit 6 (omega arith)))
+shift_same : (lines : ℕ → ℕ) → (cells : List SizedCell) (op : BinOp) (width a by : ℕ) → shift_text (net_name lines cells a) (sign_text op) width by ≡ expr_text (shifted lines cells op width a by)
+shift_same lines cells op width a by = elim (nat_lt by width) as (λ t.
+    (if t then net_name lines cells a ++ (codes " " ++ (sign_text op ++ (codes " 6'd" ++ decimal by))) else decimal width ++ codes "'d0")
+    ≡ expr_text (if t then binary op (net_value lines cells a) (constant 6 by true) else constant width 0 true)) [
+      | true ↦ ap (λ s. net_name lines cells a ++ (codes " " ++ (sign_text op ++ (codes " " ++ (s ++ (codes "'d" ++ decimal by)))))) (sym (one_digit 6 (omega arith)))
       | false ↦ ap (λ z. decimal width ++ (codes "'d" ++ z)) (sym (one_digit 0 (omega arith)))
     ]
 
-pub shift_steps : {E : Type 0} (r : Result (Unit {0}) E) (cells : List SizedCell) (op : BinOp) (width a by : ℕ) (old new : List ℕ) →
-    OnOk r (new ≡ old ++ shift_text (net_name cells a) (sign_text op) width by) → OnOk r (new ≡ old ++ expr_text (shifted cells op width a by))
-shift_steps (Ok u) cells op width a by old new h = h ∙ ap (λ l. old ++ l) (shift_same cells op width a by)
-shift_steps (Err x) cells op width a by old new h = tt
+pub shift_steps : (lines : ℕ → ℕ) → {E : Type 0} (r : Result (Unit {0}) E) (cells : List SizedCell) (op : BinOp) (width a by : ℕ) (old new : List ℕ) →
+    OnOk r (new ≡ old ++ shift_text (net_name lines cells a) (sign_text op) width by) → OnOk r (new ≡ old ++ expr_text (shifted lines cells op width a by))
+shift_steps lines (Ok u) cells op width a by old new h = h ∙ ap (λ l. old ++ l) (shift_same lines cells op width a by)
+shift_steps lines (Err x) cells op width a by old new h = tt
 
 -- a wire that widens a word, between its two comment lines
-pub widened_steps : {E : Type 0} (r : Result (Unit {0}) E) (cells : List SizedCell) (width net : ℕ) (op : WordOp) (a b c : ℕ) (old one two new : List ℕ) →
+pub widened_steps : (lines : ℕ → ℕ) → {E : Type 0} (r : Result (Unit {0}) E) (cells : List SizedCell) (width net : ℕ) (op : WordOp) (a b c : ℕ) (old one two new : List ℕ) →
     (is_cast op && nat_lt (width_of cells a) width) ≡ true →
-    one ≡ old ++ codes "  // verilator lint_off WIDTH\n" → two ≡ one ++ value_text width net (op_value cells width op a b c) →
-    OnOk r (new ≡ two ++ codes "  // verilator lint_on WIDTH\n") → OnOk r (new ≡ old ++ op_text cells width net op a b c)
-widened_steps (Ok u) cells width net op a b c old one two new wide first second third =
-    let value : List ℕ = value_text width net (op_value cells width op a b c) in
+    one ≡ old ++ codes "  // verilator lint_off WIDTH\n" → two ≡ one ++ value_text lines width net (op_value lines cells width op a b c) →
+    OnOk r (new ≡ two ++ codes "  // verilator lint_on WIDTH\n") → OnOk r (new ≡ old ++ op_text lines cells width net op a b c)
+widened_steps lines (Ok u) cells width net op a b c old one two new wide first second third =
+    let value : List ℕ = value_text lines width net (op_value lines cells width op a b c) in
     third ∙ ap (λ l. l ++ codes "  // verilator lint_on WIDTH\n") (second ∙ ap (λ l. l ++ value) first)
     ∙ shape value
     ∙ ap (λ l. old ++ l) (sym (cond-true _ _ _ wide))
   where
     shape : (value : List ℕ) → ((old ++ codes "  // verilator lint_off WIDTH\n") ++ value) ++ codes "  // verilator lint_on WIDTH\n" ≡ old ++ (codes "  // verilator lint_off WIDTH\n" ++ (value ++ codes "  // verilator lint_on WIDTH\n"))
     shape value = simp append_assoc
-widened_steps (Err x) cells width net op a b c old one two new wide first second third = tt
+widened_steps lines (Err x) cells width net op a b c old one two new wide first second third = tt
 
 pub input_steps : {E : Type 0} (r : Result (Unit {0}) E) (width : ℕ) (port : Port) (old one two new : List ℕ) →
     one ≡ old ++ codes ",\n  input wire " → two ≡ one ++ range_text width → OnOk r (new ≡ two ++ port_name 1 port) →
@@ -120,19 +120,20 @@ report_steps (Ok u) t old a b c d e f g new ha hb hc hd he hf hg last =
     shape s l m k en ins outs = simp append_assoc
 report_steps (Err x) t old a b c d e f g new ha hb hc hd he hf hg last = tt
 
-pub text_steps : (report : List ℕ) (notes : List NoteTree) (cells : List SizedCell) (outlets : List Outlet) (outs : ℕ) (a b c d e f g new : List ℕ) →
+pub text_steps : (lines : ℕ → ℕ) (report : List ℕ) (notes : List NoteTree) (cells : List SizedCell) (outlets : List Outlet) (outs : ℕ) (a b c d e f g new : List ℕ) → lines ≡ lines_of notes (length cells) →
     a ≡ [] → b ≡ a ++ report → c ≡ b ++ codes "// verilator lint_off CMPCONST\n// verilator lint_off DECLFILENAME\n// verilator lint_off UNSIGNED\n// verilator lint_off UNUSEDSIGNAL\n" → d ≡ c ++ header_text cells outlets outs →
-    e ≡ d ++ noted (λ net (sized : SizedCell). declaration_text cells net sized.width sized.cell) cells 0 notes → f ≡ e ++ flat_map (assignment_text cells outs) outlets →
-    g ≡ f ++ listed (λ net (sized : SizedCell). edge_text cells net sized.cell) 0 cells → new ≡ g ++ codes "endmodule\n" → new ≡ whole_text report notes cells outlets outs
-text_steps report notes cells outlets outs a b c d e f g new ha hb hc hd he hf hg last =
+    e ≡ d ++ noted (λ net (sized : SizedCell). declaration_text lines cells net sized.width sized.cell) cells 0 notes → f ≡ e ++ flat_map (assignment_text lines cells outs) outlets →
+    g ≡ f ++ listed (λ net (sized : SizedCell). edge_text lines cells net sized.cell) 0 cells → new ≡ g ++ codes "endmodule\n" → new ≡ whole_text report notes cells outlets outs
+text_steps lines report notes cells outlets outs a b c d e f g new told ha hb hc hd he hf hg last =
     let quiet : List ℕ = codes "// verilator lint_off CMPCONST\n// verilator lint_off DECLFILENAME\n// verilator lint_off UNSIGNED\n// verilator lint_off UNUSEDSIGNAL\n" in
     let head : List ℕ = header_text cells outlets outs in
-    let declared : List ℕ = noted (λ net (sized : SizedCell). declaration_text cells net sized.width sized.cell) cells 0 notes in
-    let assigned : List ℕ = flat_map (assignment_text cells outs) outlets in
-    let edges : List ℕ = listed (λ net (sized : SizedCell). edge_text cells net sized.cell) 0 cells in
+    let declared : List ℕ = noted (λ net (sized : SizedCell). declaration_text lines cells net sized.width sized.cell) cells 0 notes in
+    let assigned : List ℕ = flat_map (assignment_text lines cells outs) outlets in
+    let edges : List ℕ = listed (λ net (sized : SizedCell). edge_text lines cells net sized.cell) 0 cells in
     last ∙ ap (λ l. l ++ codes "endmodule\n") (hg ∙ ap (λ l. l ++ edges) (hf ∙ ap (λ l. l ++ assigned) (he ∙ ap (λ l. l ++ declared)
     (hd ∙ ap (λ l. l ++ head) (hc ∙ ap (λ l. l ++ quiet) (hb ∙ ap (λ l. l ++ report) ha))))))
     ∙ shape report quiet head declared assigned edges (codes "endmodule\n")
+    ∙ ap (λ l. report ++ (quiet ++ module_text l notes cells outlets outs)) told
   where
     shape : (a b c d e f g : List ℕ) → (((((a ++ b) ++ c) ++ d) ++ e) ++ f) ++ g ≡ a ++ (b ++ (c ++ (d ++ (e ++ (f ++ g)))))
     shape a b c d e f g = simp append_assoc

@@ -1,5 +1,5 @@
 -- The text of a netlist's module spells that module.
-use Rattle.std.proofs.Common.{◌≡◌, ℕ, suc, ◌+◌, ◌<◌, ◌≤◌, ◌^◌, List, [], ◌∷◌, ◌++◌, All, length, map, Result, Ok, Err, IfOk, IsTrue, string_bytes, Bool, true, false, Some, refl, sym, ap, ◌∙◌, subst, arith, append_assoc, append-nil}
+use Rattle.std.proofs.Common.{◌≡◌, ℕ, suc, ◌+◌, ◌<◌, ◌≤◌, ◌^◌, List, [], ◌∷◌, ◌++◌, All, length, map, Result, Ok, Err, IfOk, IsTrue, string_bytes, Bool, true, false, Some, refl, sym, ap, ◌∙◌, subst, append_assoc, append-nil}
 use Rattle.std.specs.Prelude.{String, codes, nat_lt, slice_get, ◌&&◌, if◌then◌else◌}
 use Rattle.std.specs.List.{flat_map, list_all}
 use Rattle.std.proofs.lemmas.Option.{slice_get_within, get_or_from_slice_get}
@@ -16,11 +16,11 @@ use Rattle.ae_vread.specs.Tokens.{TokenTree, Mark, Word, AreTokens, No_more}
 use Rattle.ae_vread.specs.Forms.{PortForm, ItemForm, InputHead, port_tokens, comma_tokens, item_tokens, module_tokens}
 use Rattle.ae_vread.specs.Spells.{Spells}
 use Rattle.ae_verilog.specs.ReportLines.{is_clean}
-use Rattle.ae_verilog.specs.NetlistModule.{port_name, net_name, net_value, op_value, listed, netlist_module}
-use Rattle.ae_verilog.specs.Notes.{NoteTree, ArePrinted}
+use Rattle.ae_verilog.specs.NetlistModule.{port_name, number_name, net_name, net_value, op_value, listed, netlist_module}
+use Rattle.ae_verilog.specs.Notes.{NoteTree, ArePrinted, lines_of}
 use Rattle.ae_verilog.specs.Text.{PortFits, CellPortFits, is_cast, value_text, widened_text, op_text, declaration_text, noted, input_text, output_text, header_text, assignment_text, edge_text, module_text, whole_text}
 use Rattle.ae_verilog.proofs.Writable.{IsWritable}
-use Rattle.ae_verilog.proofs.Lines.{IsTextOf, no_text, both_texts, value_item, register_item, memory_item, register_edge_item, memory_edge_item, value_line, widened_line, register_line, memory_line, assign_line, register_edge_line, memory_edge_line, end_line, quiet_line}
+use Rattle.ae_verilog.proofs.Lines.{IsTextOf, no_text, both_texts, value_item, register_item, memory_item, register_edge_item, memory_edge_item, value_line, widened_line, register_line, memory_line, assign_line, register_edge_line, memory_edge_line, end_line, quiet_line, net_named}
 use Rattle.ae_verilog.proofs.Comments.{note_comment}
 use Rattle.ae_verilog.proofs.NotedCells.{listed_text, noted_text}
 use Rattle.ae_verilog.proofs.Ports.{port_form, IsPieceOf, no_piece, both_pieces, input_port, output_port, head_lines, start_tokens}
@@ -43,31 +43,31 @@ single text i h = subst (IsTextOf text) (sym (append-nil (item_tokens i))) h
 
 -- cells
 
-op_line : (cells : List SizedCell) (width net : ℕ) (op : WordOp) (a b c : ℕ) → width ≤ 64 → net < 2 ^ 64 → IsWritable (op_value cells width op a b c) → IsTextOf (op_text cells width net op a b c) (item_tokens (value_item width net (op_value cells width op a b c)))
-op_line cells width net op a b c high numbered w = choose (is_cast op && nat_lt (width_of cells a) width) (op_value cells width op a b c) w
+op_line : (lines : ℕ → ℕ) → (cells : List SizedCell) (width net : ℕ) (op : WordOp) (a b c : ℕ) → width ≤ 64 → IsWritable (op_value lines cells width op a b c) → IsTextOf (op_text lines cells width net op a b c) (item_tokens (value_item lines width net (op_value lines cells width op a b c)))
+op_line lines cells width net op a b c high w = choose (is_cast op && nat_lt (width_of cells a) width) (op_value lines cells width op a b c) w
   where
-    choose : (t : Bool) (value : ExprTree) → IsWritable value → IsTextOf (if t then widened_text width net value else value_text width net value) (item_tokens (value_item width net value))
-    choose true value w = widened_line width net value high numbered w
-    choose false value w = value_line width net value high numbered w
+    choose : (t : Bool) (value : ExprTree) → IsWritable value → IsTextOf (if t then widened_text lines width net value else value_text lines width net value) (item_tokens (value_item lines width net value))
+    choose true value w = widened_line lines width net value high w
+    choose false value w = value_line lines width net value high w
 
-declaration_line : (cells : List SizedCell) (net width : ℕ) (cell : Cell) → width ≤ 64 → net < 2 ^ 64 → IsDeclared cells net width cell → IsTextOf (declaration_text cells net width cell) (flat_map item_tokens (declaration_form cells net width cell))
-declaration_line cells net width (Input port) high numbered h = no_text
-declaration_line cells net width (Const k) high numbered h = single _ (value_item width net (constant width k true)) (value_line width net (constant width k true) high numbered h)
-declaration_line cells net width (Op op args) high numbered h =
-    single _ (value_item width net (op_value cells width op (operand args 0) (operand args 1) (operand args 2))) (op_line cells width net op (operand args 0) (operand args 1) (operand args 2) high numbered h)
-declaration_line cells net width (Reg next) high numbered h = single _ (register_item width net) (register_line width net high numbered)
-declaration_line cells net width (Mem depth at next enable) high numbered h = single _ (memory_item width net depth) (memory_line width net depth high numbered h.1)
-declaration_line cells net width (Peek mem at) high numbered h =
-    single _ (value_item width net (index (net_name cells mem.0) (net_value cells at.0))) (value_line width net (index (net_name cells mem.0) (net_value cells at.0)) high numbered h)
+declaration_line : (lines : ℕ → ℕ) → (cells : List SizedCell) (net width : ℕ) (cell : Cell) → width ≤ 64 → IsDeclared lines cells net width cell → IsTextOf (declaration_text lines cells net width cell) (flat_map item_tokens (declaration_form lines cells net width cell))
+declaration_line lines cells net width (Input port) high h = no_text
+declaration_line lines cells net width (Const k) high h = single _ (value_item lines width net (constant width k true)) (value_line lines width net (constant width k true) high h)
+declaration_line lines cells net width (Op op args) high h =
+    single _ (value_item lines width net (op_value lines cells width op (operand args 0) (operand args 1) (operand args 2))) (op_line lines cells width net op (operand args 0) (operand args 1) (operand args 2) high h)
+declaration_line lines cells net width (Reg next) high h = single _ (register_item lines width net) (register_line lines width net high)
+declaration_line lines cells net width (Mem depth at next enable) high h = single _ (memory_item lines width net depth) (memory_line lines width net depth high h.1)
+declaration_line lines cells net width (Peek mem at) high h =
+    single _ (value_item lines width net (index (net_name lines cells mem.0) (net_value lines cells at.0))) (value_line lines width net (index (net_name lines cells mem.0) (net_value lines cells at.0)) high h)
 
-edge_line : (cells : List SizedCell) (net : ℕ) (cell : Cell) → net < 2 ^ 64 → IsEdged cells cell → IsTextOf (edge_text cells net cell) (flat_map item_tokens (edge_form cells net cell))
-edge_line cells net (Input port) numbered h = no_text
-edge_line cells net (Const k) numbered h = no_text
-edge_line cells net (Op op args) numbered h = no_text
-edge_line cells net (Reg next) numbered h = single _ (register_edge_item (net_name cells next.0) net) (register_edge_line (net_name cells next.0) net numbered h)
-edge_line cells net (Mem depth at next enable) numbered h =
-    single _ (memory_edge_item (net_name cells at.0) (net_name cells next.0) (net_name cells enable.0) net) (memory_edge_line (net_name cells at.0) (net_name cells next.0) (net_name cells enable.0) net numbered h.0 h.1 h.2)
-edge_line cells net (Peek mem at) numbered h = no_text
+edge_line : (lines : ℕ → ℕ) → (cells : List SizedCell) (net : ℕ) (cell : Cell) → IsEdged lines cells cell → IsTextOf (edge_text lines cells net cell) (flat_map item_tokens (edge_form lines cells net cell))
+edge_line lines cells net (Input port) h = no_text
+edge_line lines cells net (Const k) h = no_text
+edge_line lines cells net (Op op args) h = no_text
+edge_line lines cells net (Reg next) h = single _ (register_edge_item (number_name lines net) (net_name lines cells next.0)) (register_edge_line (number_name lines net) (net_name lines cells next.0) (net_named lines net) h)
+edge_line lines cells net (Mem depth at next enable) h =
+    single _ (memory_edge_item (number_name lines net) (net_name lines cells at.0) (net_name lines cells next.0) (net_name lines cells enable.0)) (memory_edge_line (number_name lines net) (net_name lines cells at.0) (net_name lines cells next.0) (net_name lines cells enable.0) (net_named lines net) h.0 h.1 h.2)
+edge_line lines cells net (Peek mem at) h = no_text
 
 single_port : (text : List ℕ) (p : PortForm) → IsPieceOf text (Mark Comma ∷ port_tokens p) → IsPieceOf text (comma_tokens port_tokens (p ∷ []))
 single_port text p h = subst (IsPieceOf text) (sym (append-nil (Mark Comma ∷ port_tokens p))) h
@@ -91,9 +91,9 @@ outlet_fits cells outlets j outlet good e =
 
 -- the head
 
-ports_piece : (cells : List SizedCell) (outlets : List Outlet) (outs : ℕ) → IsGood cells → AreGood cells outlets →
+ports_piece : (lines : ℕ → ℕ) → (cells : List SizedCell) (outlets : List Outlet) (outs : ℕ) → IsGood cells → AreGood cells outlets →
     IsPieceOf (flat_map (λ (sized : SizedCell). input_text sized.width sized.cell) cells ++ flat_map (output_text cells outs) outlets) (comma_tokens port_tokens (port_forms cells outlets outs))
-ports_piece cells outlets outs good shown =
+ports_piece lines cells outlets outs good shown =
     let ins : List PortForm = flat_map (λ (sized : SizedCell). input_forms sized.width sized.cell) cells in
     let tokens : comma_tokens port_tokens (port_forms cells outlets outs) ≡ flat_map (λ (sized : SizedCell). comma_tokens port_tokens (input_forms sized.width sized.cell)) cells ++ flat_map (λ o. Mark Comma ∷ port_tokens (output_form cells outs o)) outlets =
     flat_both (λ p. Mark Comma ∷ port_tokens p) ins (map (output_form cells outs) outlets)
@@ -102,77 +102,77 @@ ports_piece cells outlets outs good shown =
     subst (IsPieceOf (flat_map (λ (sized : SizedCell). input_text sized.width sized.cell) cells ++ flat_map (output_text cells outs) outlets)) (sym tokens)
     (both_pieces _ _ _ _
     (flat_piece (λ (sized : SizedCell). input_text sized.width sized.cell) (λ (sized : SizedCell). comma_tokens port_tokens (input_forms sized.width sized.cell)) cells
-    (λ j sized e. let cell = cell_of cells j sized good e in input_line sized.width sized.cell cell.high (fits_at cells j sized good e)))
+    (λ j sized e. let cell = cell_of lines cells j sized good e in input_line sized.width sized.cell cell.high (fits_at cells j sized good e)))
     (flat_piece (output_text cells outs) (λ o. Mark Comma ∷ port_tokens (output_form cells outs o)) outlets
-    (λ j outlet e. let net = outlet_of cells outlets j outlet good shown.have e in
+    (λ j outlet e. let net = outlet_of lines cells outlets j outlet good shown.have e in
     output_port (width_of cells outlet.net.0) (port_name outs outlet.port) net.high (port_named outs outlet.port (outlet_fits cells outlets j outlet shown e)))))
 
-header_lines : (cells : List SizedCell) (outlets : List Outlet) (outs : ℕ) → IsGood cells → AreGood cells outlets →
+header_lines : (lines : ℕ → ℕ) → (cells : List SizedCell) (outlets : List Outlet) (outs : ℕ) → IsGood cells → AreGood cells outlets →
     IsTextOf (header_text cells outlets outs) (start_tokens ++ (comma_tokens port_tokens (port_forms cells outlets outs) ++ Mark Close ∷ Mark Semicolon ∷ []))
-header_lines cells outlets outs good shown =
+header_lines lines cells outlets outs good shown =
     let inputs : List ℕ = flat_map (λ (sized : SizedCell). input_text sized.width sized.cell) cells in
     let outputs : List ℕ = flat_map (output_text cells outs) outlets in
     subst (λ l. IsTextOf (codes "module aeth (\n  input wire clk" ++ l) (start_tokens ++ (comma_tokens port_tokens (port_forms cells outlets outs) ++ Mark Close ∷ Mark Semicolon ∷ [])))
     (append_assoc inputs outputs (codes "\n);\n"))
-    (head_lines (inputs ++ outputs) (comma_tokens port_tokens (port_forms cells outlets outs)) (ports_piece cells outlets outs good shown))
+    (head_lines (inputs ++ outputs) (comma_tokens port_tokens (port_forms cells outlets outs)) (ports_piece lines cells outlets outs good shown))
 
 -- the items
 
-items_lines : (notes : List NoteTree) (cells : List SizedCell) (outlets : List Outlet) (outs : ℕ) → ArePrinted notes → IsGood cells → AreGood cells outlets →
-    IsTextOf (noted (λ net (sized : SizedCell). declaration_text cells net sized.width sized.cell) cells 0 notes ++ (flat_map (assignment_text cells outs) outlets ++ (listed (λ net (sized : SizedCell). edge_text cells net sized.cell) 0 cells ++ codes "endmodule\n")))
-    (flat_map item_tokens (item_forms cells outlets outs) ++ Word EndModule ∷ [])
-items_lines notes cells outlets outs printed good shown =
-    let declared : List ItemForm = listed (λ net (sized : SizedCell). declaration_form cells net sized.width sized.cell) 0 cells in
-    let assigned : List ItemForm = map (assignment_form cells outs) outlets in
-    let edges : List ItemForm = listed (λ net (sized : SizedCell). edge_form cells net sized.cell) 0 cells in
-    let one : IsTextOf (noted (λ net (sized : SizedCell). declaration_text cells net sized.width sized.cell) cells 0 notes) (flat_map item_tokens declared) =
-    subst (IsTextOf (noted (λ net (sized : SizedCell). declaration_text cells net sized.width sized.cell) cells 0 notes)) (sym (flat_listed item_tokens (λ net (sized : SizedCell). declaration_form cells net sized.width sized.cell) 0 cells))
-    (noted_text (λ net (sized : SizedCell). declaration_text cells net sized.width sized.cell) (λ net (sized : SizedCell). flat_map item_tokens (declaration_form cells net sized.width sized.cell)) cells notes
+items_lines : (lines : ℕ → ℕ) → (notes : List NoteTree) (cells : List SizedCell) (outlets : List Outlet) (outs : ℕ) → ArePrinted notes → IsGood cells → AreGood cells outlets →
+    IsTextOf (noted (λ net (sized : SizedCell). declaration_text lines cells net sized.width sized.cell) cells 0 notes ++ (flat_map (assignment_text lines cells outs) outlets ++ (listed (λ net (sized : SizedCell). edge_text lines cells net sized.cell) 0 cells ++ codes "endmodule\n")))
+    (flat_map item_tokens (item_forms lines cells outlets outs) ++ Word EndModule ∷ [])
+items_lines lines notes cells outlets outs printed good shown =
+    let declared : List ItemForm = listed (λ net (sized : SizedCell). declaration_form lines cells net sized.width sized.cell) 0 cells in
+    let assigned : List ItemForm = map (assignment_form lines cells outs) outlets in
+    let edges : List ItemForm = listed (λ net (sized : SizedCell). edge_form lines cells net sized.cell) 0 cells in
+    let one : IsTextOf (noted (λ net (sized : SizedCell). declaration_text lines cells net sized.width sized.cell) cells 0 notes) (flat_map item_tokens declared) =
+    subst (IsTextOf (noted (λ net (sized : SizedCell). declaration_text lines cells net sized.width sized.cell) cells 0 notes)) (sym (flat_listed item_tokens (λ net (sized : SizedCell). declaration_form lines cells net sized.width sized.cell) 0 cells))
+    (noted_text (λ net (sized : SizedCell). declaration_text lines cells net sized.width sized.cell) (λ net (sized : SizedCell). flat_map item_tokens (declaration_form lines cells net sized.width sized.cell)) cells notes
     (λ i n e. note_comment n (printed i n e))
     (λ j sized e.
-    let cell = cell_of cells j sized good e in
-    declaration_line cells j sized.width sized.cell cell.high (omega (arith, cell.within, good.few)) cell.declared)) in
-    let two : IsTextOf (flat_map (assignment_text cells outs) outlets) (flat_map item_tokens assigned) =
-    subst (IsTextOf (flat_map (assignment_text cells outs) outlets)) (sym (flat_mapped item_tokens (assignment_form cells outs) outlets))
-    (flat_text (assignment_text cells outs) (λ o. item_tokens (assignment_form cells outs o)) outlets (λ j outlet e.
-    let net = outlet_of cells outlets j outlet good shown.have e in
-    assign_line (port_name outs outlet.port) (net_name cells outlet.net.0) (port_named outs outlet.port (outlet_fits cells outlets j outlet shown e)) net.named)) in
-    let three : IsTextOf (listed (λ net (sized : SizedCell). edge_text cells net sized.cell) 0 cells) (flat_map item_tokens edges) =
-    subst (IsTextOf (listed (λ net (sized : SizedCell). edge_text cells net sized.cell) 0 cells)) (sym (flat_listed item_tokens (λ net (sized : SizedCell). edge_form cells net sized.cell) 0 cells))
-    (listed_text _ (λ net (sized : SizedCell). flat_map item_tokens (edge_form cells net sized.cell)) 0 cells (λ j sized e.
-    let cell = cell_of cells j sized good e in
-    edge_line cells (0 + j) sized.cell (omega (arith, cell.within, good.few)) cell.edged)) in
+    let cell = cell_of lines cells j sized good e in
+    declaration_line lines cells j sized.width sized.cell cell.high cell.declared)) in
+    let two : IsTextOf (flat_map (assignment_text lines cells outs) outlets) (flat_map item_tokens assigned) =
+    subst (IsTextOf (flat_map (assignment_text lines cells outs) outlets)) (sym (flat_mapped item_tokens (assignment_form lines cells outs) outlets))
+    (flat_text (assignment_text lines cells outs) (λ o. item_tokens (assignment_form lines cells outs o)) outlets (λ j outlet e.
+    let net = outlet_of lines cells outlets j outlet good shown.have e in
+    assign_line (port_name outs outlet.port) (net_name lines cells outlet.net.0) (port_named outs outlet.port (outlet_fits cells outlets j outlet shown e)) net.named)) in
+    let three : IsTextOf (listed (λ net (sized : SizedCell). edge_text lines cells net sized.cell) 0 cells) (flat_map item_tokens edges) =
+    subst (IsTextOf (listed (λ net (sized : SizedCell). edge_text lines cells net sized.cell) 0 cells)) (sym (flat_listed item_tokens (λ net (sized : SizedCell). edge_form lines cells net sized.cell) 0 cells))
+    (listed_text _ (λ net (sized : SizedCell). flat_map item_tokens (edge_form lines cells net sized.cell)) 0 cells (λ j sized e.
+    let cell = cell_of lines cells j sized good e in
+    edge_line lines cells (0 + j) sized.cell cell.edged)) in
     let whole = both_texts _ _ _ _ one (both_texts _ _ _ _ two (both_texts _ _ _ _ three end_line)) in
     subst (IsTextOf _) (sym (joined_tokens (flat_map item_tokens declared) (flat_map item_tokens assigned) (flat_map item_tokens edges) (Word EndModule ∷ [])
-    (flat_map item_tokens (item_forms cells outlets outs)) (flat_both item_tokens declared (assigned ++ edges) ∙ ap (λ l. flat_map item_tokens declared ++ l) (flat_both item_tokens assigned edges)))) whole
+    (flat_map item_tokens (item_forms lines cells outlets outs)) (flat_both item_tokens declared (assigned ++ edges) ∙ ap (λ l. flat_map item_tokens declared ++ l) (flat_both item_tokens assigned edges)))) whole
   where
     joined_tokens : (a b c d whole : List TokenTree) → whole ≡ a ++ (b ++ c) → whole ++ d ≡ a ++ (b ++ (c ++ d))
     joined_tokens a b c d whole e = ap (λ l. l ++ d) e ∙ append_assoc a (b ++ c) d ∙ ap (λ l. a ++ l) (append_assoc b c d)
 
-module_lines : (notes : List NoteTree) (cells : List SizedCell) (outlets : List Outlet) (outs : ℕ) → ArePrinted notes → IsGood cells → AreGood cells outlets → IsTextOf (module_text notes cells outlets outs) (module_tokens (netlist_form cells outlets outs))
-module_lines notes cells outlets outs printed good shown =
-    subst (IsTextOf (module_text notes cells outlets outs))
-    (head_and_items (comma_tokens port_tokens (port_forms cells outlets outs)) (flat_map item_tokens (item_forms cells outlets outs) ++ Word EndModule ∷ []))
-    (both_texts _ _ _ _ (header_lines cells outlets outs good shown) (items_lines notes cells outlets outs printed good shown))
+module_lines : (lines : ℕ → ℕ) → (notes : List NoteTree) (cells : List SizedCell) (outlets : List Outlet) (outs : ℕ) → ArePrinted notes → IsGood cells → AreGood cells outlets → IsTextOf (module_text lines notes cells outlets outs) (module_tokens (netlist_form lines cells outlets outs))
+module_lines lines notes cells outlets outs printed good shown =
+    subst (IsTextOf (module_text lines notes cells outlets outs))
+    (head_and_items (comma_tokens port_tokens (port_forms cells outlets outs)) (flat_map item_tokens (item_forms lines cells outlets outs) ++ Word EndModule ∷ []))
+    (both_texts _ _ _ _ (header_lines lines cells outlets outs good shown) (items_lines lines notes cells outlets outs printed good shown))
   where
     head_and_items : (ports items : List TokenTree) → (start_tokens ++ (ports ++ Mark Close ∷ Mark Semicolon ∷ [])) ++ items ≡ start_tokens ++ (ports ++ Mark Close ∷ Mark Semicolon ∷ items)
     head_and_items ports items = append_assoc start_tokens (ports ++ Mark Close ∷ Mark Semicolon ∷ []) items ∙ ap (λ l. start_tokens ++ l) (append_assoc ports (Mark Close ∷ Mark Semicolon ∷ []) items)
 
 -- the whole text
-whole_lines : (report : List ℕ) (notes : List NoteTree) (cells : List SizedCell) (outlets : List Outlet) (outs : ℕ) → IsTextOf report [] → ArePrinted notes → IsGood cells → AreGood cells outlets → IsTextOf (whole_text report notes cells outlets outs) (module_tokens (netlist_form cells outlets outs))
+whole_lines : (report : List ℕ) (notes : List NoteTree) (cells : List SizedCell) (outlets : List Outlet) (outs : ℕ) → IsTextOf report [] → ArePrinted notes → IsGood cells → AreGood cells outlets → IsTextOf (whole_text report notes cells outlets outs) (module_tokens (netlist_form (lines_of notes (length cells)) cells outlets outs))
 whole_lines report notes cells outlets outs before printed good shown =
-    both_texts _ _ _ _ before (both_texts _ _ _ _ quiet_line (module_lines notes cells outlets outs printed good shown))
+    both_texts _ _ _ _ before (both_texts _ _ _ _ quiet_line (module_lines (lines_of notes (length cells)) notes cells outlets outs printed good shown))
 
-whole_spelled : (report : List ℕ) (notes : List NoteTree) (cells : List SizedCell) (outlets : List Outlet) (outs : ℕ) → IsTextOf report [] → ArePrinted notes → IsGood cells → AreGood cells outlets → Spells (whole_text report notes cells outlets outs) (netlist_module cells outlets outs)
+whole_spelled : (report : List ℕ) (notes : List NoteTree) (cells : List SizedCell) (outlets : List Outlet) (outs : ℕ) → IsTextOf report [] → ArePrinted notes → IsGood cells → AreGood cells outlets → Spells (whole_text report notes cells outlets outs) (netlist_module (lines_of notes (length cells)) cells outlets outs)
 whole_spelled report notes cells outlets outs before printed good shown =
-    let lines = whole_lines report notes cells outlets outs before printed good shown in
+    let read = whole_lines report notes cells outlets outs before printed good shown in
     let text : List ℕ = whole_text report notes cells outlets outs in
-    let ts : List TokenTree = module_tokens (netlist_form cells outlets outs) in
+    let ts : List TokenTree = module_tokens (netlist_form (lines_of notes (length cells)) cells outlets outs) in
     record {
-      form = netlist_form cells outlets outs;
-      formed = items_formed cells outlets outs;
-      written = subst (λ l. AreTokens l ts) (append-nil text) (subst (AreTokens (text ++ [])) (append-nil ts) (lines.tokens [] [] (No_more [] refl)));
-      tree = tree_back cells outlets outs good shown.have;
+      form = netlist_form (lines_of notes (length cells)) cells outlets outs;
+      formed = items_formed (lines_of notes (length cells)) cells outlets outs;
+      written = subst (λ l. AreTokens l ts) (append-nil text) (subst (AreTokens (text ++ [])) (append-nil ts) (read.tokens [] [] (No_more [] refl)));
+      tree = tree_back (lines_of notes (length cells)) cells outlets outs good shown.have;
     }
 
 whole_clean : (report : List ℕ) (notes : List NoteTree) (cells : List SizedCell) (outlets : List Outlet) (outs : ℕ) → IsTextOf report [] → ArePrinted notes → IsGood cells → AreGood cells outlets → list_all is_clean (whole_text report notes cells outlets outs) ≡ true
@@ -185,9 +185,9 @@ good_from cells formed fits few = record { formed = formed; fits = fits; few = f
 
 pub returns_spelled : {A E : Type 0} (r : Result (String A) E) (report : List ℕ) (notes : List NoteTree) (cells : List SizedCell) (outlets : List Outlet) (outs : ℕ) → IsTextOf report [] → ArePrinted notes → IsFormed cells → HaveNets cells outlets → length cells < 2 ^ 32 →
     IfOk r (λ text. string_bytes text ≡ whole_text report notes cells outlets outs) → IfOk r (λ text. All (λ (sized : SizedCell). CellPortFits sized.cell) cells) → IfOk r (λ text. All (λ (outlet : Outlet). PortFits outlet.port) outlets) →
-    IfOk r (λ text. Spells (string_bytes text) (netlist_module cells outlets outs))
+    IfOk r (λ text. Spells (string_bytes text) (netlist_module (lines_of notes (length cells)) cells outlets outs))
 returns_spelled (Ok text) report notes cells outlets outs before printed formed have few bytes ins shown =
-    subst (λ l. Spells l (netlist_module cells outlets outs)) (sym bytes)
+    subst (λ l. Spells l (netlist_module (lines_of notes (length cells)) cells outlets outs)) (sym bytes)
     (whole_spelled report notes cells outlets outs before printed (good_from cells formed ins few) (record { have = have; fits = shown }))
 returns_spelled (Err x) report notes cells outlets outs before printed formed have few bytes ins shown = tt
 

@@ -1,5 +1,5 @@
 -- Expressions as the writer writes them.
-use Rattle.std.proofs.Common.{◌≡◌, ℕ, ◌<◌, ◌≤◌, ◌^◌, List, [], ◌∷◌, ◌++◌, Bool, true, Option, Some, None, refl, sym, ap, ◌∙◌, subst, arith, append_assoc, zero, suc}
+use Rattle.std.proofs.Common.{◌≡◌, ℕ, ◌<◌, ◌≤◌, ◌^◌, List, [], ◌∷◌, ◌++◌, Bool, true, Option, Some, None, refl, sym, ap, ◌∙◌, subst, append_assoc, zero, suc}
 use Rattle.std.specs.Prelude.{IsSome, codes, decimal, not, option_map}
 use Rattle.std.proofs.lemmas.Bool.{both_ways}
 use Rattle.ae_vtoken.specs.declared.token.Sign.{Sign}
@@ -243,12 +243,12 @@ flip_clean Not text h all = absurd h
 pub expr_clean : (e : ExprTree) → IsWritable e → IsClean (expr_text e)
 expr_clean (name n) w = w.clean
 expr_clean (constant size value fits) w =
-    clean_both (decimal size) (codes "'d" ++ decimal value) (decimal_clean size (omega (arith, w.small)))
-    (clean_then (codes "'d") (decimal value) refl (decimal_clean value w.wide))
+    clean_both (decimal size) (codes "'d" ++ decimal value) (decimal_clean size)
+    (clean_then (codes "'d") (decimal value) refl (decimal_clean value))
 expr_clean (place n) w = absurd w
 expr_clean (part n high low) w =
-    clean_both n _ w.0.clean (clean_then (codes "[") _ refl (clean_both (decimal high) _ (decimal_clean high (omega (arith, w.1)))
-    (clean_then (codes ":") _ refl (clean_both (decimal low) (codes "]") (decimal_clean low (omega (arith, w.2))) (record { all = refl })))))
+    clean_both n _ w.0.clean (clean_then (codes "[") _ refl (clean_both (decimal high) _ (decimal_clean high)
+    (clean_then (codes ":") _ refl (clean_both (decimal low) (codes "]") (decimal_clean low) (record { all = refl })))))
 expr_clean (index n at) w =
     clean_both n _ w.0.clean (clean_then (codes "[") _ refl (clean_both (expr_text at) (codes "]") (expr_clean at w.1) (record { all = refl })))
 expr_clean (unary op a) w = flip_clean op (expr_text a) w.0 (name_clean a w.1)

@@ -1,5 +1,5 @@
 -- The module that a netlist is written as: one declaration for each cell that is no input, one assignment for each
--- output, and one `always` for each register and each memory.
+-- output, and one `always` for each register and each memory. `lines` is the line of each net, 0 where it has none.
 use Rattle.std.specs.Prelude.{◌≡◌, ℕ, ◌+◌, ◌-◌, ◌<◌, ◌==◌, true, nat_lt, List, [], ◌∷◌, ◌++◌, map, length, Option, Some, None, slice_get, codes, decimal, if◌then◌else◌}
 use Rattle.ae_word.specs.declared.op.WordOp.{WordOp}
 use Rattle.ae_word.specs.declared.op.WordOp.TheVariants.{Add, Sub, Mul, And, Or, Xor, Not, Min, Max, Eq, Lt, Mux, Shl, Shr, Cast, SLt, SMin, SMax, Sar, SCast}
@@ -32,21 +32,22 @@ port_name outs (Out result lane word) =
     else codes "o" ++ (decimal result ++ (codes "_" ++ (decimal lane ++ (codes "_" ++ decimal word))))
 port_name outs (Plain k) = codes "p" ++ decimal k
 
--- the name of a net that no input drives
-abbrev pub number_name : ℕ → List ℕ
-number_name net = codes "n" ++ decimal net
+-- the name of a net that no input drives, as `l11_n15` for net 15 of line 11; lines are counted from 1
+unfoldable pub number_name : (lines : ℕ → ℕ) → ℕ → List ℕ
+number_name lines net =
+    if lines net == 0 then codes "n" ++ decimal net else codes "l" ++ (decimal (lines net) ++ (codes "_n" ++ decimal net))
 
-abbrev pub cell_name : ℕ → Cell → List ℕ
-cell_name net (Input port) = port_name 1 port
-cell_name net _ = number_name net
+abbrev pub cell_name : (lines : ℕ → ℕ) → ℕ → Cell → List ℕ
+cell_name lines net (Input port) = port_name 1 port
+cell_name lines net _ = number_name lines net
 
-abbrev pub name_in : ℕ → Option SizedCell → List ℕ
-name_in net None = number_name net
-name_in net (Some sized) = cell_name net sized.cell
+abbrev pub name_in : (lines : ℕ → ℕ) → ℕ → Option SizedCell → List ℕ
+name_in lines net None = number_name lines net
+name_in lines net (Some sized) = cell_name lines net sized.cell
 
 -- the name of a net: that of its port where its cell is an input
-unfoldable pub net_name : List SizedCell → ℕ → List ℕ
-net_name cells net = name_in net (slice_get cells net)
+unfoldable pub net_name : (lines : ℕ → ℕ) → List SizedCell → ℕ → List ℕ
+net_name lines cells net = name_in lines net (slice_get cells net)
 
 -- declared names
 
@@ -66,13 +67,13 @@ abbrev pub output_net : List SizedCell → ℕ → Outlet → NetTree
 output_net cells outs outlet = net_of OutWireNet 0 (width_of cells outlet.net.0) (port_name outs outlet.port)
 
 -- the net that the declaration of a cell declares, as this item
-abbrev pub declared_nets : ℕ → ℕ → ℕ → Cell → List NetTree
-declared_nets item net width (Input port) = []
-declared_nets item net width (Const k) = net_of WireNet item width (number_name net) ∷ []
-declared_nets item net width (Op op args) = net_of WireNet item width (number_name net) ∷ []
-declared_nets item net width (Reg next) = net_of RegNet item width (number_name net) ∷ []
-declared_nets item net width (Mem depth at next enable) = net_of (MemoryNet depth) item width (number_name net) ∷ []
-declared_nets item net width (Peek mem at) = net_of WireNet item width (number_name net) ∷ []
+abbrev pub declared_nets : (lines : ℕ → ℕ) → ℕ → ℕ → ℕ → Cell → List NetTree
+declared_nets lines item net width (Input port) = []
+declared_nets lines item net width (Const k) = net_of WireNet item width (number_name lines net) ∷ []
+declared_nets lines item net width (Op op args) = net_of WireNet item width (number_name lines net) ∷ []
+declared_nets lines item net width (Reg next) = net_of RegNet item width (number_name lines net) ∷ []
+declared_nets lines item net width (Mem depth at next enable) = net_of (MemoryNet depth) item width (number_name lines net) ∷ []
+declared_nets lines item net width (Peek mem at) = net_of WireNet item width (number_name lines net) ∷ []
 
 -- what f makes of each element and its number, where the first has number k
 abbrev pub listed : {X A : Type 0} → (ℕ → X → List A) → ℕ → List X → List A
@@ -84,52 +85,52 @@ abbrev pub inputs_of : List SizedCell → List NetTree
 inputs_of cells = listed (λ net sized. input_nets sized.width sized.cell) 0 cells
 
 -- the nets of declarations: those of the cells from this net on, where the next item has this number
-abbrev pub declared_from : ℕ → ℕ → List SizedCell → List NetTree
-declared_from item net [] = []
-declared_from item net (sized ∷ cells) =
-    declared_nets item net sized.width sized.cell
-    ++ declared_from (item + length (declared_nets item net sized.width sized.cell)) (net + 1) cells
+abbrev pub declared_from : (lines : ℕ → ℕ) → ℕ → ℕ → List SizedCell → List NetTree
+declared_from lines item net [] = []
+declared_from lines item net (sized ∷ cells) =
+    declared_nets lines item net sized.width sized.cell
+    ++ declared_from lines (item + length (declared_nets lines item net sized.width sized.cell)) (net + 1) cells
 
 -- values
 
-abbrev pub net_value : List SizedCell → ℕ → ExprTree
-net_value cells net = name (net_name cells net)
+abbrev pub net_value : (lines : ℕ → ℕ) → List SizedCell → ℕ → ExprTree
+net_value lines cells net = name (net_name lines cells net)
 
-abbrev pub joined : List SizedCell → BinOp → ℕ → ℕ → ExprTree
-joined cells op a b = binary op (net_value cells a) (net_value cells b)
+abbrev pub joined : (lines : ℕ → ℕ) → List SizedCell → BinOp → ℕ → ℕ → ExprTree
+joined lines cells op a b = binary op (net_value lines cells a) (net_value lines cells b)
 
 -- a shift by places within the word; one by the width or more leaves nothing
-abbrev pub shifted : List SizedCell → BinOp → ℕ → ℕ → ℕ → ExprTree
-shifted cells op width a by =
-    if nat_lt by width then binary op (net_value cells a) (constant 6 by true) else constant width 0 true
+abbrev pub shifted : (lines : ℕ → ℕ) → List SizedCell → BinOp → ℕ → ℕ → ℕ → ExprTree
+shifted lines cells op width a by =
+    if nat_lt by width then binary op (net_value lines cells a) (constant 6 by true) else constant width 0 true
 
 -- a word to as many bits or more is the word itself, which its assignment widens by zeros
-abbrev pub cast_to : List SizedCell → ℕ → ℕ → ExprTree
-cast_to cells to a =
-    if nat_lt to (width_of cells a) then part (net_name cells a) (to - 1) 0 else net_value cells a
+abbrev pub cast_to : (lines : ℕ → ℕ) → List SizedCell → ℕ → ℕ → ExprTree
+cast_to lines cells to a =
+    if nat_lt to (width_of cells a) then part (net_name lines cells a) (to - 1) 0 else net_value lines cells a
 
 -- the value of an operator; those that read their operands as signed stand in no netlist
-abbrev pub op_value : List SizedCell → ℕ → WordOp → (a b c : ℕ) → ExprTree
-op_value cells width Add a b c = joined cells Plus a b
-op_value cells width Sub a b c = joined cells Minus a b
-op_value cells width Mul a b c = joined cells Times a b
-op_value cells width And a b c = joined cells Both a b
-op_value cells width Or a b c = joined cells Either a b
-op_value cells width Xor a b c = joined cells Differ a b
-op_value cells width Not a b c = unary Flip (net_value cells a)
-op_value cells width Min a b c = choice (joined cells Less a b) (net_value cells a) (net_value cells b)
-op_value cells width Max a b c = choice (joined cells Less a b) (net_value cells b) (net_value cells a)
-op_value cells width Eq a b c = joined cells Same a b
-op_value cells width Lt a b c = joined cells Less a b
-op_value cells width Mux a b c = choice (net_value cells a) (net_value cells b) (net_value cells c)
-op_value cells width (Shl by) a b c = shifted cells LeftBy width a by
-op_value cells width (Shr by) a b c = shifted cells RightBy width a by
-op_value cells width (Cast to) a b c = cast_to cells to a
-op_value cells width SLt a b c = net_value cells a
-op_value cells width SMin a b c = net_value cells a
-op_value cells width SMax a b c = net_value cells a
-op_value cells width (Sar by) a b c = net_value cells a
-op_value cells width (SCast to) a b c = net_value cells a
+abbrev pub op_value : (lines : ℕ → ℕ) → List SizedCell → ℕ → WordOp → (a b c : ℕ) → ExprTree
+op_value lines cells width Add a b c = joined lines cells Plus a b
+op_value lines cells width Sub a b c = joined lines cells Minus a b
+op_value lines cells width Mul a b c = joined lines cells Times a b
+op_value lines cells width And a b c = joined lines cells Both a b
+op_value lines cells width Or a b c = joined lines cells Either a b
+op_value lines cells width Xor a b c = joined lines cells Differ a b
+op_value lines cells width Not a b c = unary Flip (net_value lines cells a)
+op_value lines cells width Min a b c = choice (joined lines cells Less a b) (net_value lines cells a) (net_value lines cells b)
+op_value lines cells width Max a b c = choice (joined lines cells Less a b) (net_value lines cells b) (net_value lines cells a)
+op_value lines cells width Eq a b c = joined lines cells Same a b
+op_value lines cells width Lt a b c = joined lines cells Less a b
+op_value lines cells width Mux a b c = choice (net_value lines cells a) (net_value lines cells b) (net_value lines cells c)
+op_value lines cells width (Shl by) a b c = shifted lines cells LeftBy width a by
+op_value lines cells width (Shr by) a b c = shifted lines cells RightBy width a by
+op_value lines cells width (Cast to) a b c = cast_to lines cells to a
+op_value lines cells width SLt a b c = net_value lines cells a
+op_value lines cells width SMin a b c = net_value lines cells a
+op_value lines cells width SMax a b c = net_value lines cells a
+op_value lines cells width (Sar by) a b c = net_value lines cells a
+op_value lines cells width (SCast to) a b c = net_value lines cells a
 
 -- items
 
@@ -137,35 +138,35 @@ abbrev pub drive : List ℕ → ExprTree → DriveTree
 drive n value = record { name = n; value = value }
 
 -- the declaration of a cell
-abbrev pub declaration : List SizedCell → ℕ → ℕ → Cell → List ItemTree
-declaration cells net width (Input port) = []
-declaration cells net width (Const k) = nets (drive (number_name net) (constant width k true) ∷ []) ∷ []
-declaration cells net width (Op op args) =
-    nets (drive (number_name net) (op_value cells width op (operand args 0) (operand args 1) (operand args 2)) ∷ []) ∷ []
-declaration cells net width (Reg next) = nets [] ∷ []
-declaration cells net width (Mem depth at next enable) = nets [] ∷ []
-declaration cells net width (Peek mem at) =
-    nets (drive (number_name net) (index (net_name cells mem.0) (net_value cells at.0)) ∷ []) ∷ []
+abbrev pub declaration : (lines : ℕ → ℕ) → List SizedCell → ℕ → ℕ → Cell → List ItemTree
+declaration lines cells net width (Input port) = []
+declaration lines cells net width (Const k) = nets (drive (number_name lines net) (constant width k true) ∷ []) ∷ []
+declaration lines cells net width (Op op args) =
+    nets (drive (number_name lines net) (op_value lines cells width op (operand args 0) (operand args 1) (operand args 2)) ∷ []) ∷ []
+declaration lines cells net width (Reg next) = nets [] ∷ []
+declaration lines cells net width (Mem depth at next enable) = nets [] ∷ []
+declaration lines cells net width (Peek mem at) =
+    nets (drive (number_name lines net) (index (net_name lines cells mem.0) (net_value lines cells at.0)) ∷ []) ∷ []
 
-abbrev pub assignment : List SizedCell → ℕ → Outlet → ItemTree
-assignment cells outs outlet = assigns (drive (port_name outs outlet.port) (net_value cells outlet.net.0) ∷ [])
+abbrev pub assignment : (lines : ℕ → ℕ) → List SizedCell → ℕ → Outlet → ItemTree
+assignment lines cells outs outlet = assigns (drive (port_name outs outlet.port) (net_value lines cells outlet.net.0) ∷ [])
 
 -- what a register or a memory takes at a clock edge
-abbrev pub edge : List SizedCell → ℕ → Cell → List ItemTree
-edge cells net (Reg next) = always clock_name (set (number_name net) (net_value cells next.0)) ∷ []
-edge cells net (Mem depth at next enable) =
-    always clock_name (when (net_value cells enable.0) (put (number_name net) (net_value cells at.0) (net_value cells next.0))) ∷ []
-edge cells net _ = []
+abbrev pub edge : (lines : ℕ → ℕ) → List SizedCell → ℕ → Cell → List ItemTree
+edge lines cells net (Reg next) = always clock_name (set (number_name lines net) (net_value lines cells next.0)) ∷ []
+edge lines cells net (Mem depth at next enable) =
+    always clock_name (when (net_value lines cells enable.0) (put (number_name lines net) (net_value lines cells at.0) (net_value lines cells next.0))) ∷ []
+edge lines cells net _ = []
 
 -- the module of a netlist with so many results
-abbrev pub netlist_module : List SizedCell → List Outlet → (outs : ℕ) → ModuleTree
-netlist_module cells outlets outs = record {
+abbrev pub netlist_module : (lines : ℕ → ℕ) → List SizedCell → List Outlet → (outs : ℕ) → ModuleTree
+netlist_module lines cells outlets outs = record {
   name = codes "aeth";
-  nets = clock_net ∷ (inputs_of cells ++ (map (output_net cells outs) outlets ++ declared_from 1 0 cells));
+  nets = clock_net ∷ (inputs_of cells ++ (map (output_net cells outs) outlets ++ declared_from lines 1 0 cells));
   items =
-      listed (λ net (sized : SizedCell). declaration cells net sized.width sized.cell) 0 cells
-      ++ (map (assignment cells outs) outlets
-      ++ listed (λ net (sized : SizedCell). edge cells net sized.cell) 0 cells);
+      listed (λ net (sized : SizedCell). declaration lines cells net sized.width sized.cell) 0 cells
+      ++ (map (assignment lines cells outs) outlets
+      ++ listed (λ net (sized : SizedCell). edge lines cells net sized.cell) 0 cells);
 }
 
 -- conditions of writing

@@ -15,8 +15,8 @@ use Rattle.ae_vread.specs.declared.module.UnOp.{UnOp}
 use Rattle.ae_vread.specs.declared.module.UnOp.TheVariants.{Not, Flip}
 use Rattle.ae_vread.specs.declared.module.BinOp.{BinOp}
 use Rattle.ae_vread.specs.declared.module.BinOp.TheVariants.{Mul, Add, Sub, Shl, Shr, Lt, Le, Gt, Ge, Eq, Ne, And, Xor, Or, Both, Either}
-use Rattle.ae_verilog.specs.NetlistModule.{port_name, net_name, listed, op_value, net_value}
-use Rattle.ae_verilog.specs.Notes.{NoteTree, note_line}
+use Rattle.ae_verilog.specs.NetlistModule.{port_name, number_name, net_name, listed, op_value, net_value}
+use Rattle.ae_verilog.specs.Notes.{NoteTree, note_line, lines_of}
 
 abbrev pub prefix_text : UnOp → List ℕ
 prefix_text Not = codes "!"
@@ -67,43 +67,43 @@ abbrev pub range_text : ℕ → List ℕ
 range_text width = if nat_lt 1 width then codes "[" ++ (decimal (width - 1) ++ codes ":0] ") else []
 
 -- a wire up to its value
-abbrev pub wire_text : (width net : ℕ) → List ℕ
-wire_text width net = codes "  wire " ++ (range_text width ++ (codes "n" ++ (decimal net ++ codes " = ")))
+abbrev pub wire_text : (lines : ℕ → ℕ) → (width net : ℕ) → List ℕ
+wire_text lines width net = codes "  wire " ++ (range_text width ++ (number_name lines net ++ codes " = "))
 
-abbrev pub register_text : (width net : ℕ) → List ℕ
-register_text width net = codes "  reg " ++ (range_text width ++ (codes "n" ++ (decimal net ++ codes ";\n")))
+abbrev pub register_text : (lines : ℕ → ℕ) → (width net : ℕ) → List ℕ
+register_text lines width net = codes "  reg " ++ (range_text width ++ (number_name lines net ++ codes ";\n"))
 
-abbrev pub memory_text : (width net depth : ℕ) → List ℕ
-memory_text width net depth =
-    codes "  reg " ++ (range_text width ++ (codes "n" ++ (decimal net ++ (codes " [0:" ++ (decimal (depth - 1) ++ codes "];\n")))))
+abbrev pub memory_text : (lines : ℕ → ℕ) → (width net depth : ℕ) → List ℕ
+memory_text lines width net depth =
+    codes "  reg " ++ (range_text width ++ (number_name lines net ++ (codes " [0:" ++ (decimal (depth - 1) ++ codes "];\n"))))
 
-abbrev pub value_text : (width net : ℕ) → ExprTree → List ℕ
-value_text width net value = wire_text width net ++ (expr_text value ++ codes ";\n")
+abbrev pub value_text : (lines : ℕ → ℕ) → (width net : ℕ) → ExprTree → List ℕ
+value_text lines width net value = wire_text lines width net ++ (expr_text value ++ codes ";\n")
 
 -- a wire whose assignment widens a word says so to Verilator
-abbrev pub widened_text : (width net : ℕ) → ExprTree → List ℕ
-widened_text width net value =
-    codes "  // verilator lint_off WIDTH\n" ++ (value_text width net value ++ codes "  // verilator lint_on WIDTH\n")
+abbrev pub widened_text : (lines : ℕ → ℕ) → (width net : ℕ) → ExprTree → List ℕ
+widened_text lines width net value =
+    codes "  // verilator lint_off WIDTH\n" ++ (value_text lines width net value ++ codes "  // verilator lint_on WIDTH\n")
 
 abbrev pub is_cast : WordOp → Bool
 is_cast (Cast to) = true
 is_cast _ = false
 
 -- the wire of an operator
-abbrev pub op_text : List SizedCell → (width net : ℕ) → WordOp → (a b c : ℕ) → List ℕ
-op_text cells width net op a b c =
+abbrev pub op_text : (lines : ℕ → ℕ) → List SizedCell → (width net : ℕ) → WordOp → (a b c : ℕ) → List ℕ
+op_text lines cells width net op a b c =
     if is_cast op && nat_lt (width_of cells a) width
-    then widened_text width net (op_value cells width op a b c)
-    else value_text width net (op_value cells width op a b c)
+    then widened_text lines width net (op_value lines cells width op a b c)
+    else value_text lines width net (op_value lines cells width op a b c)
 
 -- the declaration of a cell
-abbrev pub declaration_text : List SizedCell → (net width : ℕ) → Cell → List ℕ
-declaration_text cells net width (Input port) = []
-declaration_text cells net width (Const k) = value_text width net (constant width k true)
-declaration_text cells net width (Op op args) = op_text cells width net op (operand args 0) (operand args 1) (operand args 2)
-declaration_text cells net width (Reg next) = register_text width net
-declaration_text cells net width (Mem depth at next enable) = memory_text width net depth
-declaration_text cells net width (Peek mem at) = value_text width net (index (net_name cells mem.0) (net_value cells at.0))
+abbrev pub declaration_text : (lines : ℕ → ℕ) → List SizedCell → (net width : ℕ) → Cell → List ℕ
+declaration_text lines cells net width (Input port) = []
+declaration_text lines cells net width (Const k) = value_text lines width net (constant width k true)
+declaration_text lines cells net width (Op op args) = op_text lines cells width net op (operand args 0) (operand args 1) (operand args 2)
+declaration_text lines cells net width (Reg next) = register_text lines width net
+declaration_text lines cells net width (Mem depth at next enable) = memory_text lines width net depth
+declaration_text lines cells net width (Peek mem at) = value_text lines width net (index (net_name lines cells mem.0) (net_value lines cells at.0))
 
 -- the texts of the cells from one on, up to another
 abbrev pub between : (ℕ → SizedCell → List ℕ) → List SizedCell → (from to : ℕ) → List ℕ
@@ -130,38 +130,38 @@ header_text cells outlets outs =
     ++ (flat_map (output_text cells outs) outlets ++ codes "\n);\n"))
 
 -- what drives an output
-abbrev pub assignment_text : List SizedCell → (outs : ℕ) → Outlet → List ℕ
-assignment_text cells outs outlet =
-    codes "  assign " ++ (port_name outs outlet.port ++ (codes " = " ++ (net_name cells outlet.net.0 ++ codes ";\n")))
+abbrev pub assignment_text : (lines : ℕ → ℕ) → List SizedCell → (outs : ℕ) → Outlet → List ℕ
+assignment_text lines cells outs outlet =
+    codes "  assign " ++ (port_name outs outlet.port ++ (codes " = " ++ (net_name lines cells outlet.net.0 ++ codes ";\n")))
 
--- what a register takes at a clock edge
-abbrev pub register_edge : (next : List ℕ) → ℕ → List ℕ
-register_edge next net = codes "  always @(posedge clk) n" ++ (decimal net ++ (codes " <= " ++ (next ++ codes ";\n")))
+-- what a register of this name takes at a clock edge
+abbrev pub register_edge : (n next : List ℕ) → List ℕ
+register_edge n next = codes "  always @(posedge clk) " ++ (n ++ (codes " <= " ++ (next ++ codes ";\n")))
 
--- what a memory takes at a clock edge
-abbrev pub memory_edge : (at next enable : List ℕ) → ℕ → List ℕ
-memory_edge at next enable net =
+-- what a memory of this name takes at a clock edge
+abbrev pub memory_edge : (n at next enable : List ℕ) → List ℕ
+memory_edge n at next enable =
     codes "  always @(posedge clk) if ("
-    ++ (enable ++ (codes ") n" ++ (decimal net ++ (codes "[" ++ (at ++ (codes "] <= " ++ (next ++ codes ";\n")))))))
+    ++ (enable ++ (codes ") " ++ (n ++ (codes "[" ++ (at ++ (codes "] <= " ++ (next ++ codes ";\n")))))))
 
-abbrev pub edge_text : List SizedCell → ℕ → Cell → List ℕ
-edge_text cells net (Reg next) = register_edge (net_name cells next.0) net
-edge_text cells net (Mem depth at next enable) =
-    memory_edge (net_name cells at.0) (net_name cells next.0) (net_name cells enable.0) net
-edge_text cells net _ = []
+abbrev pub edge_text : (lines : ℕ → ℕ) → List SizedCell → ℕ → Cell → List ℕ
+edge_text lines cells net (Reg next) = register_edge (number_name lines net) (net_name lines cells next.0)
+edge_text lines cells net (Mem depth at next enable) =
+    memory_edge (number_name lines net) (net_name lines cells at.0) (net_name lines cells next.0) (net_name lines cells enable.0)
+edge_text lines cells net _ = []
 
 -- the module
-abbrev pub module_text : List NoteTree → List SizedCell → List Outlet → (outs : ℕ) → List ℕ
-module_text notes cells outlets outs =
+abbrev pub module_text : (lines : ℕ → ℕ) → List NoteTree → List SizedCell → List Outlet → (outs : ℕ) → List ℕ
+module_text lines notes cells outlets outs =
     header_text cells outlets outs
-    ++ (noted (λ net (sized : SizedCell). declaration_text cells net sized.width sized.cell) cells 0 notes
-    ++ (flat_map (assignment_text cells outs) outlets
-    ++ (listed (λ net (sized : SizedCell). edge_text cells net sized.cell) 0 cells ++ codes "endmodule\n")))
+    ++ (noted (λ net (sized : SizedCell). declaration_text lines cells net sized.width sized.cell) cells 0 notes
+    ++ (flat_map (assignment_text lines cells outs) outlets
+    ++ (listed (λ net (sized : SizedCell). edge_text lines cells net sized.cell) 0 cells ++ codes "endmodule\n")))
 
 -- the whole text: the report lines, lines that keep Verilator from naming the file, constant comparisons and bits that nothing reads, and the module
 abbrev pub whole_text : (report : List ℕ) → List NoteTree → List SizedCell → List Outlet → (outs : ℕ) → List ℕ
 whole_text report notes cells outlets outs =
-    report ++ (codes "// verilator lint_off CMPCONST\n// verilator lint_off DECLFILENAME\n// verilator lint_off UNSIGNED\n// verilator lint_off UNUSEDSIGNAL\n" ++ module_text notes cells outlets outs)
+    report ++ (codes "// verilator lint_off CMPCONST\n// verilator lint_off DECLFILENAME\n// verilator lint_off UNSIGNED\n// verilator lint_off UNUSEDSIGNAL\n" ++ module_text (lines_of notes (length cells)) notes cells outlets outs)
 
 -- numbers of ports that the type of ports has room for
 abbrev pub PortFits : Port → Type 0

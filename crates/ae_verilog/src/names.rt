@@ -1,6 +1,6 @@
 // The names of ports and nets, and ranges.
 
-ghost use Rattle.std.specs.Prelude.{◌≡◌, ◌++◌, OnOk, string_bytes};
+ghost use Rattle.std.specs.Prelude.{◌≡◌, ◌++◌, OnOk, slice_index, string_bytes};
 ghost use Rattle.ae_verilog.specs.NetlistModule.{port_name, number_name, cell_name, net_name};
 ghost use Rattle.ae_verilog.specs.Text.{range_text, PortFits};
 
@@ -27,30 +27,56 @@ pub fn write_port(out: &mut String, port: Port, outs: usize) -> Result<(), Alloc
     }
 }
 
+// What nets are named by: the cells, and the line of each.
+#[derive(Drop)]
+pub struct Names<'a> {
+    pub cells: &'a [SizedCell],
+    // 0 where a cell has no line
+    pub lines: &'a [u32],
+}
+
 // The name of a net: that of its port for an input, and else its number.
 #[tactic(auto, unfolding(crate::specs::NetlistModule::net_name))]
-pub fn write_net(out: &mut String, cells: &[SizedCell], net: NetId) -> Result<(), AllocError>
-    ensures { OnOk result (string_bytes out.new ≡ string_bytes out.old ++ net_name cells.now net.0) }
+pub fn write_net(out: &mut String, names: &Names<'_>, net: NetId) -> Result<(), AllocError>
+    ensures { OnOk result (string_bytes out.new ≡ string_bytes out.old ++ net_name (slice_index names.now.lines.now) names.now.cells.now net.0) }
 {
-    match cells.get(net.0 as usize) {
-        Some(sized) => write_cell_name(out, net.0, sized.cell),
-        None => write_number(out, net.0),
+    let k = net.0 as usize;
+    match names.cells.get(k) {
+        Some(sized) => write_cell_name(out, names.lines, k, sized.cell),
+        None => write_number(out, names.lines, k),
     }
 }
 
-fn write_cell_name(out: &mut String, net: u32, cell: Cell) -> Result<(), AllocError>
-    ensures { OnOk result (string_bytes out.new ≡ string_bytes out.old ++ cell_name net cell) }
+fn write_cell_name(out: &mut String, lines: &[u32], k: usize, cell: Cell) -> Result<(), AllocError>
+    ensures { OnOk result (string_bytes out.new ≡ string_bytes out.old ++ cell_name (slice_index lines.now) k cell) }
 {
     match cell {
         Cell::Input(port) => write_port(out, port, 1),
-        _ => write_number(out, net),
+        _ => write_number(out, lines, k),
     }
 }
 
-fn write_number(out: &mut String, net: u32) -> Result<(), AllocError>
-    ensures { OnOk result (string_bytes out.new ≡ string_bytes out.old ++ number_name net) }
+// The name of a net that no input drives: its number, behind that of its line where it has one.
+#[tactic(auto, unfolding(crate::specs::NetlistModule::number_name))]
+pub fn write_number(out: &mut String, lines: &[u32], k: usize) -> Result<(), AllocError>
+    ensures { OnOk result (string_bytes out.new ≡ string_bytes out.old ++ number_name (slice_index lines.now) k) }
 {
-    write!(out, "n{net}")
+    let line = line_at(lines, k);
+    if line == 0 {
+        write!(out, "n{k}")
+    } else {
+        write!(out, "l{line}_n{k}")
+    }
+}
+
+// The line of a cell, 0 where it has none.
+fn line_at(lines: &[u32], k: usize) -> u32
+    ensures { result ≡ slice_index lines.now k }
+{
+    match lines.get(k) {
+        Some(line) => *line,
+        None => 0,
+    }
 }
 
 // The range of a declaration, and a blank behind it; a single bit has none.

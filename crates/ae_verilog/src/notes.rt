@@ -1,10 +1,10 @@
 // The lines that tell where cells come from.
 
-ghost use Rattle.std.specs.Prelude.{◌≡◌, ◌++◌, OnOk, string_bytes};
-ghost use Rattle.ae_verilog.specs.Notes.{note_line, note_tree};
+ghost use Rattle.std.specs.Prelude.{◌≡◌, ℕ, ◌<◌, ◌≤◌, ◌++◌, length, map, slice_index, IfOk, OnOk, string_bytes};
+ghost use Rattle.ae_verilog.specs.Notes.{note_line, note_tree, line_of, lines_of};
 
 use ae_sttype::StType;
-use std::alloc::AllocError;
+use std::alloc::{AllocError, Global};
 
 /// A line of a program, and where its cells begin.
 #[derive(Debug, Drop)]
@@ -28,4 +28,42 @@ pub fn write_note(out: &mut String, note: &Note) -> Result<(), AllocError>
     write!(out, "  // line {line}: {name}, ")?;
     note.layout.write_to(out)?;
     write!(out, "\n")
+}
+
+// The line of each of so many cells, 0 where it has none.
+pub fn lines_of(alloc: Global, notes: &[Note], cells: usize) -> Result<Vec<u32>, AllocError>
+    ensures { IfOk result (λ v. slice_index v.items ≡ lines_of (map note_tree notes.now) cells) }
+{
+    let mut lines = vec![in alloc; 0u32; cells]?;
+    tell_lines(lines.as_mut_slice(), notes);
+    Ok(lines)
+}
+
+// From the last note back: each tells the line of the cells from its own on of which no later one tells it.
+fn tell_lines(lines: &mut [u32], notes: &[Note])
+    requires { (k : ℕ) → slice_index lines.old k ≡ 0 }
+    ensures { (k : ℕ) → k < length lines.old → slice_index lines.new k ≡ line_of (map note_tree notes.now) k }
+{
+    let mut first = lines.len();
+    let mut left = notes.len();
+    while left > 0 {
+        left -= 1;
+        let note = &notes[left];
+        let from = first.min(note.cell as usize);
+        set_lines(lines, from, first, note.line);
+        first = from;
+    }
+}
+
+// The line of the cells from one on, up to another.
+fn set_lines(lines: &mut [u32], from: usize, to: usize, line: u32)
+    requires within { to ≤ length lines.old }
+    requires order { from ≤ to }
+    ensures between { (k : ℕ) → from ≤ k → k < to → slice_index lines.new k ≡ line }
+    ensures before { (k : ℕ) → k < from → slice_index lines.new k ≡ slice_index lines.old k }
+    ensures behind { (k : ℕ) → to ≤ k → slice_index lines.new k ≡ slice_index lines.old k }
+{
+    for k in from..to {
+        lines[k] = line;
+    }
 }

@@ -1,5 +1,5 @@
 use Rattle.std.proofs.Common.{length, map, arith}
-use Rattle.ae_verilog.specs.Notes.{note_tree}
+use Rattle.ae_verilog.specs.Notes.{note_tree, lines_of}
 use Rattle.ae_verilog.specs.ReportLines.{report_tree, report_lines}
 use Rattle.ae_verilog.proofs.Comments.{report_comments}
 use Rattle.ae_verilog.proofs.Whole.{returns_spelled, returns_clean, returns_reports}
@@ -23,7 +23,7 @@ returns-clause-clean c =
     (rw (c.cells.ensures, c.outlets.ensures, c.as_slice-outs.ensures.value) at c.write_text.ensures.text) (rw c.cells.ensures at c.write_text.ensures.inputs) (rw c.outlets.ensures at c.write_text.ensures.outputs)
 
 pub returns-clause-stars : goal.returns-clause-stars
-returns-clause-stars c = one_star_each c.args.nl.now.cells c.args.nl.now.outlets (length c.args.report.now.outs.items)
+returns-clause-stars c = one_star_each (lines_of (map note_tree c.args.notes.now) (length c.args.nl.now.cells)) c.args.nl.now.cells c.args.nl.now.outlets (length c.args.report.now.outs.items)
 
 pub returns-clause-text : goal.returns-clause-text
 returns-clause-text c = rw (c.cells.ensures, c.outlets.ensures, c.as_slice-outs.ensures.value) at c.write_text.ensures.text

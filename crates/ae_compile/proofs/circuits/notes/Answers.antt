@@ -1,4 +1,4 @@
-use Rattle.std.proofs.Common.{◌≡◌, ◌∙◌, length}
+use Rattle.std.proofs.Common.{◌∙◌, length}
 use Rattle.ae_seq.specs.ProgramTree.{program_tree, func_tree}
 use Rattle.ae_rewrite.specs.StProgramTree.{st_func_tree, st_func_trees}
 use Rattle.ae_rewrite.specs.Sound.{item_layouts}

@@ -6,8 +6,7 @@ use Rattle.ae_rewrite.specs.StProgramTree.{st_func_trees}
 use Rattle.ae_elab.specs.SameRuns.{HasSameRuns}
 use Rattle.ae_vread.specs.ModuleTree.{ModuleTree}
 use Rattle.ae_vread.specs.Spells.{Spells}
-use Rattle.ae_verilog.specs.NetlistModule.{netlist_module}
-use Rattle.ae_verilog.specs.Notes.{note_tree}
+use Rattle.ae_verilog.specs.Notes.{note_tree, lines_of, noted_module}
 use Rattle.ae_verilog.specs.ReportLines.{report_tree}
 use Rattle.ae_compile.specs.Playing.{Shows}
 use Rattle.ae_compile.proofs.Modules.{HasModule, HaveWriting, module_there}
@@ -19,8 +18,8 @@ read_back-requires-clause-formed c =
     let d = c.args.compiled.now in
     let report = report_tree d.report in
     let writing : HaveWriting = record { writable = c.circuits_are_writable.ensures; runs = c.module_keeps.ensures.runs; formed = c.module_keeps.ensures.formed } in
-    let has : HasModule d.netlist (length report.outs) = module_there (program_tree d.costed.program) d.costed.slowdown (st_func_trees d.costed.schedule) d.costed.timing d.netlist report (map note_tree d.notes.items) writing c.requires.compiled.costed c.requires.compiled.compiled in
-    (netlist_module d.netlist.cells d.netlist.outlets (length report.outs), c.requires.spells, has.formed)
+    let has : HasModule d.netlist (map note_tree d.notes.items) (length report.outs) = module_there (program_tree d.costed.program) d.costed.slowdown (st_func_trees d.costed.schedule) d.costed.timing d.netlist report (map note_tree d.notes.items) writing c.requires.compiled.costed c.requires.compiled.compiled in
+    (noted_module (map note_tree d.notes.items) d.netlist.cells d.netlist.outlets (length report.outs), c.requires.spells, has.formed)
 
 pub returns : goal.returns
 returns c =
@@ -32,7 +31,7 @@ returns c =
     let writing : HaveWriting = record { writable = c.circuits_are_writable.ensures; runs = c.module_keeps.ensures.runs; formed = c.module_keeps.ensures.formed } in
     let k = c.requires.compiled.costed in
     let e = c.requires.compiled.compiled in
-    let has : HasModule d.netlist (length report.outs) = module_there p d.costed.slowdown all d.costed.timing d.netlist report notes writing k e in
+    let has : HasModule d.netlist (map note_tree d.notes.items) (length report.outs) = module_there p d.costed.slowdown all d.costed.timing d.netlist report notes writing k e in
     let laws : HavePlays d.netlist c.args.fill = record {
       shown = c.plays_are_shown.ensures;
       summed = c.sums_are_shown.ensures;
@@ -43,6 +42,6 @@ returns c =
       one = c.has_one_run_with.ensures;
       begins = c.fill_begins.ensures;
     } in
-    let own : ModuleTree = netlist_module d.netlist.cells d.netlist.outlets (length report.outs) in
+    let own : ModuleTree = noted_module (map note_tree d.notes.items) d.netlist.cells d.netlist.outlets (length report.outs) in
     IfOk-weaker c.read_back.result (λ (o : Circuit). (m : ModuleTree) → Spells c.args.text.now m → HasSameRuns m o) (λ (o : Circuit). Shows p d.costed.slowdown report.latency c.args.fill report.ins report.outs own o)
-    (λ o back. shows_is p d.costed.slowdown c.args.fill all d.costed.timing d.netlist report notes o laws k e has.same (back own c.requires.spells)) c.read_back.ensures
+    (λ o back. shows_is (lines_of notes (length d.netlist.cells)) p d.costed.slowdown c.args.fill all d.costed.timing d.netlist report notes o laws k e has.same (back own c.requires.spells)) c.read_back.ensures

@@ -8,8 +8,7 @@ use Rattle.ae_rewrite.specs.StProgramTree.{st_func_trees}
 use Rattle.ae_rewrite.specs.Interface.{parameter_types}
 use Rattle.ae_netlist.specs.Rows.{AreInputs}
 use Rattle.ae_vread.specs.Spells.{Spells}
-use Rattle.ae_verilog.specs.NetlistModule.{netlist_module}
-use Rattle.ae_verilog.specs.Notes.{note_tree}
+use Rattle.ae_verilog.specs.Notes.{note_tree, noted_module}
 use Rattle.ae_verilog.specs.ReportLines.{report_tree}
 use Rattle.ae_play.specs.Fed.{blocks_of, fed_rows, size_of}
 use Rattle.ae_play.specs.Sums.{ArePlayedSums}
@@ -24,7 +23,7 @@ play-requires-clause-short c = subst (λ (bs : List ℕ). length bs < 2 ^ 32) (s
 pub play-requires-clause-spells : goal.play-requires-clause-spells
 play-requires-clause-spells c =
     let d = c.args.compiled.now in
-    subst (λ (bs : List ℕ). Spells bs (netlist_module d.netlist.cells d.netlist.outlets (length (report_tree d.report).outs))) (sym c.as_str.ensures.value) c.in_ok-text.ensures.spells
+    subst (λ (bs : List ℕ). Spells bs (noted_module (map note_tree d.notes.items) d.netlist.cells d.netlist.outlets (length (report_tree d.report).outs))) (sym c.as_str.ensures.value) c.in_ok-text.ensures.spells
 
 pub sum_clocks-requires-clause-ins : goal.sum_clocks-requires-clause-ins
 sum_clocks-requires-clause-ins c =

@@ -1,7 +1,7 @@
-use Rattle.std.proofs.Common.{◌≡◌, ◌++◌, take, string_bytes}
+use Rattle.std.proofs.Common.{◌≡◌, ◌++◌, take, string_bytes, slice_index}
 use Rattle.std.specs.List.{flat_map}
 use Rattle.ae_verilog.specs.Text.{assignment_text}
 use Rattle.ae_verilog.proofs.clocked.write_outlets.Given as goal
 
 abbrev pub invariant-loop-outlet : goal.invariant-loop-outlet
-invariant-loop-outlet l = string_bytes l.out ≡ string_bytes l.fn.out ++ flat_map (assignment_text l.cells l.outs) (take l.outlet-index l.outlets)
+invariant-loop-outlet l = string_bytes l.out ≡ string_bytes l.fn.out ++ flat_map (assignment_text (slice_index l.names.lines.now) l.names.cells.now l.outs) (take l.outlet-index l.outlets)

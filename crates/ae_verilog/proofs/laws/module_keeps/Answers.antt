@@ -4,10 +4,10 @@ use Rattle.ae_verilog.proofs.LawWeight.{light}
 use Rattle.ae_verilog.proofs.LawFormed.{well_formed}
 
 pub returns-clause-runs : goal.returns-clause-runs
-returns-clause-runs c n outs ok = same_runs n.cells n.outlets outs ok n.limit
+returns-clause-runs c lines n outs ok = same_runs lines n.cells n.outlets outs ok n.limit
 
 pub returns-clause-light : goal.returns-clause-light
-returns-clause-light c n outs = light n.cells n.outlets outs
+returns-clause-light c lines n outs = light lines n.cells n.outlets outs
 
 pub returns-clause-formed : goal.returns-clause-formed
-returns-clause-formed c n outs ok small = well_formed n.cells n.outlets outs ok small
+returns-clause-formed c lines n outs ok small = well_formed lines n.cells n.outlets outs ok small
