@@ -6,11 +6,14 @@ use Rattle.ae_rewrite.specs.Sound.{item_layouts}
 use Rattle.ae_rewrite.specs.Interface.{main_of}
 use Rattle.ae_netlist.specs.Circuit.{Circuit}
 use Rattle.ae_delay.specs.Timings.{Times}
+use Rattle.ae_ports.specs.CircuitFor.{IsCircuitFor}
 use Rattle.ae_lower.specs.Circuits.{IsCircuitOf, last_of}
+use Rattle.ae_lower.specs.Laws.{CircuitsAreFor}
+use Rattle.ae_correct.specs.Laws.{IsLaidOut}
 use Rattle.ae_tidy.specs.Places.{AreMarks}
 use Rattle.ae_verilog.specs.Notes.{ArePrinted, NoteTree}
 use Rattle.ae_verilog.specs.ReportLines.{ReportTree}
-use Rattle.ae_compile.specs.Costing.{IsKnown}
+use Rattle.ae_compile.specs.Costing.{IsKnown, main_costs}
 use Rattle.ae_compile.specs.Compiling.{IsCompiled, report_of}
 use Rattle.ae_compile.specs.LineNotes.{node_notes}
 use Rattle.ae_compile.proofs.Mains.{main_nodes}
@@ -23,20 +26,23 @@ pub record AreMade (p : ProgramTree) (slowdown : ℕ) (instances : List StFuncTr
   pub notes_are : (s : StFuncTree) (f : FuncTree) → slice_get instances (last_of instances) ≡ Some s → slice_get p.funcs (main_of p) ≡ Some f → notes ≡ node_notes (item_layouts s) (length f.params) f.nodes marks
   pub printed : ArePrinted notes
 
-pub compiled_is : (p : ProgramTree) (slowdown : ℕ) (instances : List StFuncTree) (times : Times) (n : Circuit) (marks : List ℕ) (report : ReportTree) (notes : List NoteTree) → IsKnown p slowdown instances times
+pub compiled_is : (p : ProgramTree) (slowdown : ℕ) (instances : List StFuncTree) (times : Times) (n : Circuit) (marks : List ℕ) (report : ReportTree) (notes : List NoteTree) → CircuitsAreFor → IsKnown p slowdown instances times
     → AreMade p slowdown instances n marks report notes → IsCompiled p slowdown instances n report notes
-compiled_is p slowdown instances times n marks report notes k m =
+compiled_is p slowdown instances times n marks report notes law k m =
     let key = k.schedule.last in
     let s = key.instance in
     let found : slice_get instances (last_of instances) ≡ Some s = key.here in
     let own = k.schedule.right (last_of instances) s found in
     let main : slice_get p.funcs (main_of p) ≡ Some own.of = ap (slice_get p.funcs) (sym key.is_func) ∙ own.known in
+    let told = m.reports s found in
+    let made = law p slowdown instances s n k.typed k.schedule k.sound found (m.circuits s found) in
     let many : length s.nodes ≡ length own.of.nodes = main_nodes p slowdown instances own.of s k.schedule main found in
     record {
       instance = s;
       last = found;
-      circuit = m.circuits s found;
-      reported = m.reports s found;
+      reported = told;
+      laid = subst (λ (r : ReportTree). IsLaidOut p slowdown r.ins r.outs) (sym told) (record { typed = k.typed; some = k.some; most = k.most; layouts = made.0 });
+      circuit = subst (λ (r : ReportTree). IsCircuitFor p slowdown (main_costs instances) r.ins r.outs n) (sym told) made.1;
       noted = record {
         func = own.of;
         main = main;

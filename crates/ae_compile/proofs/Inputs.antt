@@ -14,10 +14,10 @@ use Rattle.ae_netlist.specs.declared.cell.Port.TheVariants.{In}
 use Rattle.ae_netlist.specs.declared.cell.SizedCell.{SizedCell}
 use Rattle.ae_netlist.specs.Circuit.{Circuit}
 use Rattle.ae_netlist.specs.Counts.{count_of, is_input}
-use Rattle.ae_rewrite.specs.StProgramTree.{StFuncTree}
-use Rattle.ae_flow.specs.Fitted.{streams_of}
-use Rattle.ae_lower.specs.Circuits.{IsCircuitOf}
-use Rattle.ae_lower.specs.Ports.{SizedPort, input_cell, input_ports, lane_ports, ports_from, reset_port, word_ports}
+use Rattle.ae_ports.specs.Ports.{streams_of, SizedPort, input_cell, input_ports, lane_ports, ports_from, reset_port, word_ports}
+use Rattle.ae_ports.specs.CircuitFor.{IsCircuitFor}
+use Rattle.ae_delay.specs.declared.own.OwnCosts.{OwnCosts}
+use Rattle.ae_seq.specs.ProgramTree.{ProgramTree}
 use Rattle.ae_play.specs.Fits.{HasColumns, lane_kinds}
 
 abbrev port_widths : List SizedPort → List ℕ
@@ -74,10 +74,10 @@ cell_widths : (ports : List SizedPort) → map (λ (c : SizedCell). c.width) (ma
 cell_widths [] = refl
 cell_widths (p ∷ ports) = ap (λ ws. p.width ∷ ws) (cell_widths ports)
 
-pub circuit_columns : (instances : List StFuncTree) (s : StFuncTree) (n : Circuit) → IsCircuitOf instances s n → HasColumns n.cells s.ins
-circuit_columns instances s n c =
-    let ports : List SizedPort = reset_port ∷ input_ports (streams_of s.ins) in
-    let long : 1 + length (input_ports (streams_of s.ins)) ≡ length ports = omega arith in
+pub circuit_columns : (p : ProgramTree) (slowdown : ℕ) (costs : OwnCosts) (ins outs : List StTree) (n : Circuit) → IsCircuitFor p slowdown costs ins outs n → HasColumns n.cells ins
+circuit_columns p slowdown costs ins outs n c =
+    let ports : List SizedPort = reset_port ∷ input_ports (streams_of ins) in
+    let long : 1 + length (input_ports (streams_of ins)) ≡ length ports = omega arith in
     ap (map (λ (x : SizedCell). x.width)) (inputs_first n.cells ports (ap (λ k. take k n.cells) (sym long) ∙ c.inputs) (c.no_others ∙ long))
     ∙ cell_widths ports
-    ∙ ap (λ ws. 1 ∷ ws) (all_widths (λ param lane word. In param lane word) 0 s.ins)
+    ∙ ap (λ ws. 1 ∷ ws) (all_widths (λ param lane word. In param lane word) 0 ins)

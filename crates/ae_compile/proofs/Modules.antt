@@ -7,11 +7,9 @@ use Rattle.ae_sttype.specs.StTree.{StTree, lanes, st_atoms, element_words}
 use Rattle.ae_sttype.specs.Size.{IsInSize}
 use Rattle.ae_sttype.proofs.Bounds.{lanes-le-atoms}
 use Rattle.ae_seq.specs.ProgramTree.{ProgramTree}
-use Rattle.ae_eval.specs.Stack.{IsTyped}
 use Rattle.ae_eval.proofs.Items.{entry-at}
 use Rattle.ae_correct.proofs.ModulePorts.{mapped_at}
 use Rattle.ae_rewrite.specs.StProgramTree.{StFuncTree}
-use Rattle.ae_rewrite.specs.Scheduled.{IsSchedule}
 use Rattle.ae_rewrite.specs.Sound.{IsSound, item_layout, item_layouts}
 use Rattle.ae_delay.specs.Costs.{all_costs}
 use Rattle.ae_delay.proofs.Instances.{all_items}
@@ -28,14 +26,16 @@ use Rattle.ae_verilog.specs.NetlistModule.{netlist_module}
 use Rattle.ae_verilog.specs.Written.{IsWritableNetlist}
 use Rattle.ae_verilog.specs.ReportLines.{ReportTree, report_lines, is_clean}
 use Rattle.ae_ops.specs.Blocks.{stream_of}
-use Rattle.ae_flow.specs.Fitted.{streams_of}
+use Rattle.ae_ports.specs.Ports.{streams_of, SizedPort, outlet_port, columns_in}
 use Rattle.ae_lower.specs.Lowering.{costs_in}
-use Rattle.ae_lower.specs.Circuits.{IsCircuitOf, columns_in, last_of, results_of}
-use Rattle.ae_lower.specs.Ports as net_side
-use Rattle.ae_lower.specs.Ports.{SizedPort, outlet_port}
-use Rattle.ae_correct.specs.Laws.{CircuitsAreCorrect, CircuitsAreWritable}
-use Rattle.ae_correct.specs.Correct.{IsCorrect, ports_of, port_of, is_port}
-use Rattle.ae_lower.proofs.Layouts.{stream_columns}
+use Rattle.ae_ports.specs.CircuitFor.{IsCircuitFor}
+use Rattle.ae_delay.specs.declared.own.OwnCosts.{OwnCosts}
+use Rattle.ae_lower.specs.Circuits.{last_of, results_of}
+use Rattle.ae_ports.specs.Ports as net_side
+use Rattle.ae_correct.specs.Laws.{CircuitsAreCorrect, CircuitsAreWritable, IsLaidOut}
+use Rattle.ae_correct.proofs.Laid.{few_ins, few_outs, ins_filling, outs_filling}
+use Rattle.ae_correct.specs.Correct.{ports_of, port_of, is_port}
+use Rattle.ae_ports.proofs.Columns.{stream_columns}
 use Rattle.ae_correct.proofs.Keeps.{circuit_ports, ins_of, outs_of}
 use Rattle.ae_correct.proofs.Nets.{in_net, out_net, ports_filtered}
 use Rattle.ae_correct.proofs.Places.{columns_more, length_from}
@@ -44,7 +44,6 @@ use Rattle.ae_verilog.specs.Text.{whole_text}
 use Rattle.ae_compile.specs.Building.{IsModuleText}
 use Rattle.ae_compile.specs.Compiling.{IsCompiled}
 use Rattle.ae_compile.specs.Costing.{IsKnown, main_costs}
-use Rattle.ae_compile.proofs.Counts.{few_at}
 
 -- ---- columns
 
@@ -66,10 +65,10 @@ all_columns (s ∷ ss) h = omega (arith, columns_more (stream_of s) (streams_of 
 
 -- ---- how many ports a circuit has
 
-record HasFewPorts (s : StFuncTree) (n : Circuit) (many : ℕ) : Type 0 where
-  inputs : length (net_side.input_ports (streams_of s.ins)) ≤ 131072
+record HasFewPorts (ins outs : List StTree) (n : Circuit) : Type 0 where
+  inputs : length (net_side.input_ports (streams_of ins)) ≤ 131072
   outputs : length n.outlets ≤ 131072
-  all : length (ports_of (netlist_module n.cells n.outlets many)) ≡ 2 + length (net_side.input_ports (streams_of s.ins)) + length n.outlets
+  all : length (ports_of (netlist_module n.cells n.outlets (length outs))) ≡ 2 + length (net_side.input_ports (streams_of ins)) + length n.outlets
 
 -- an entry of a list that is mapped
 pub record IsMapped {A B : Type 0} (f : A → B) (xs : List A) (k : ℕ) (y : B) : Type 0 where
@@ -90,26 +89,20 @@ small_results instances s sound found q t e =
     let m = unmapped (item_layout (item_layouts s)) s.results q t e in
     subst IsInSize m.is (all_items (last_of instances) s own m.from (own.results q m.from m.found)).size
 
-few_ports : (p : ProgramTree) (slowdown : ℕ) (instances : List StFuncTree) (s : StFuncTree) (n : Circuit) (many : ℕ) → IsTyped p → IsSchedule p slowdown instances → IsSound instances
-    → slice_get instances (last_of instances) ≡ Some s → IsCircuitOf instances s n → HasFewPorts s n many
-few_ports p slowdown instances s n many typed h sound found c =
-    let own = sound.each (last_of instances) s found in
-    let right = h.right (last_of instances) s found in
-    let few = few_at p s.func right.of typed right.known in
-    let have = circuit_ports instances s n c in
-    let ins = net_side.input_ports (streams_of s.ins) in
-    let outs = outs_of s in
-    let params : length s.ins ≡ length right.of.params = sym (length-map s.ins (λ (x : StTree). Some x)) ∙ ap length (sym right.ins) ∙ length-map right.of.params _ in
-    let results : length (results_of s) ≡ length right.of.results = length-map s.results (item_layout (item_layouts s)) ∙ ap length right.results in
-    let in_columns : length ins ≡ columns_in (streams_of s.ins) = length_from _ 0 (streams_of s.ins) in
-    let out_columns : length outs ≡ columns_in (streams_of (results_of s)) = length_from _ 0 (streams_of (results_of s)) in
-    let shown : length n.outlets ≡ length outs = sym (length-map n.outlets (outlet_port n.cells)) ∙ ap length have.outputs in
-    let filtered : length (ports_of (netlist_module n.cells n.outlets many)) ≡ 1 + (length (map in_net (ins_of s)) + length (map (out_net many) outs)) =
-    length-map (filter is_port (netlist_module n.cells n.outlets many).nets) port_of ∙ ap length (ports_filtered n.cells n.outlets many (ins_of s) outs have) ∙ omega (arith, length-append (map in_net (ins_of s)) (map (out_net many) outs)) in
+few_ports : (p : ProgramTree) (slowdown : ℕ) (costs : OwnCosts) (ins outs : List StTree) (n : Circuit) → IsLaidOut p slowdown ins outs → IsCircuitFor p slowdown costs ins outs n → HasFewPorts ins outs n
+few_ports p slowdown costs ins outs n laid c =
+    let many : ℕ = length outs in
+    let have = circuit_ports p slowdown costs ins outs n c in
+    let given = net_side.input_ports (streams_of ins) in
+    let shown : length n.outlets ≡ length (outs_of outs) = sym (length-map n.outlets (outlet_port n.cells)) ∙ ap length have.outputs in
+    let filtered : length (ports_of (netlist_module n.cells n.outlets many)) ≡ 1 + (length (map in_net (ins_of ins)) + length (map (out_net many) (outs_of outs))) =
+    length-map (filter is_port (netlist_module n.cells n.outlets many).nets) port_of ∙ ap length (ports_filtered n.cells n.outlets many (ins_of ins) (outs_of outs) have) ∙ omega (arith, length-append (map in_net (ins_of ins)) (map (out_net many) (outs_of outs))) in
+    let in_columns : length given ≡ columns_in (streams_of ins) = length_from _ 0 (streams_of ins) in
+    let out_columns : length (outs_of outs) ≡ columns_in (streams_of outs) = length_from _ 0 (streams_of outs) in
     record {
-      inputs = omega (arith, in_columns, params, few.few, all_columns s.ins (λ q t e. (own.ins q t e).size));
-      outputs = omega (arith, shown, out_columns, results, few.results, all_columns (results_of s) (small_results instances s sound found));
-      all = omega (arith, filtered, length-map (ins_of s) in_net, length-map outs (out_net many), shown);
+      inputs = omega (arith, in_columns, few_ins p slowdown ins outs laid, all_columns ins (λ q t e. (ins_filling p slowdown ins outs laid q t e).size));
+      outputs = omega (arith, shown, out_columns, few_outs p slowdown ins outs laid, all_columns outs (λ q t e. (outs_filling p slowdown ins outs laid q t e).size));
+      all = omega (arith, filtered, length-map (ins_of ins) in_net, length-map (outs_of outs) (out_net many), shown);
     }
 
 -- ---- the module
@@ -136,21 +129,14 @@ pub record HasModule (n : Circuit) (many : ℕ) : Type 0 where
   pub same : HasSameRuns (netlist_module n.cells n.outlets many) n
   pub formed : IsWellFormed (netlist_module n.cells n.outlets many)
 
--- its report tells as many results as the program has
-pub results_told : (p : ProgramTree) (slowdown : ℕ) (instances : List StFuncTree) (n : Circuit) (report : ReportTree) (notes : List NoteTree) (d : IsCompiled p slowdown instances n report notes) → length d.instance.results ≡ length report.outs
-results_told p slowdown instances n report notes d = sym (ap (λ (r : ReportTree). length r.outs) d.reported ∙ length-map d.instance.results (item_layout (item_layouts d.instance)))
-
 pub module_there : (p : ProgramTree) (slowdown : ℕ) (instances : List StFuncTree) (times : Times) (n : Circuit) (report : ReportTree) (notes : List NoteTree) → HaveWriting → IsKnown p slowdown instances times → IsCompiled p slowdown instances n report notes → HasModule n (length report.outs)
 module_there p slowdown instances times n report notes laws k d =
-    let s = d.instance in
-    let many : ℕ = length s.results in
-    let ports = few_ports p slowdown instances s n many k.typed k.schedule k.sound d.last d.circuit in
-    let writable : IsWritableNetlist n.cells n.outlets many = laws.writable p slowdown instances s n k.typed k.schedule k.sound d.last k.light d.circuit in
+    let many : ℕ = length report.outs in
+    let ports = few_ports p slowdown (main_costs instances) report.ins report.outs n d.laid d.circuit in
+    let writable : IsWritableNetlist n.cells n.outlets many = laws.writable p slowdown (main_costs instances) report.ins report.outs n d.laid k.light d.circuit in
     let small = d.circuit.small in
     let light = k.light in
-    let well : IsWellFormed (netlist_module n.cells n.outlets many) = laws.formed n many writable (omega (arith, small, light, ports.inputs, ports.outputs)) in
-    let has : HasModule n many = record { same = laws.runs n many writable; formed = well } in
-    subst (HasModule n) (results_told p slowdown instances n report notes d) has
+    record { same = laws.runs n many writable; formed = laws.formed n many writable (omega (arith, small, light, ports.inputs, ports.outputs)) }
 
 -- what is sure of the text that it was written as
 pub record IsTextOf (report : ReportTree) (n : Circuit) (notes : List NoteTree) (text : List ℕ) : Type 0 where
@@ -165,14 +151,10 @@ pub record IsTextOf (report : ReportTree) (n : Circuit) (notes : List NoteTree) 
 pub module_is : (p : ProgramTree) (slowdown : ℕ) (instances : List StFuncTree) (times : Times) (n : Circuit) (report : ReportTree) (notes : List NoteTree) (text : List ℕ) → HaveLaws → IsKnown p slowdown instances times → IsCompiled p slowdown instances n report notes
     → IsTextOf report n notes text → IsModuleText p slowdown instances text
 module_is p slowdown instances times n report notes text laws k d t =
-    let s = d.instance in
     let many : ℕ = length report.outs in
     let m : ModuleTree = netlist_module n.cells n.outlets many in
-    let told : length s.results ≡ many = results_told p slowdown instances n report notes d in
-    let ports = few_ports p slowdown instances s n many k.typed k.schedule k.sound d.last d.circuit in
+    let ports = few_ports p slowdown (main_costs instances) report.ins report.outs n d.laid d.circuit in
     let has = module_there p slowdown instances times n report notes laws.writing k d in
-    let same : HasSameRuns (netlist_module n.cells n.outlets (length s.results)) n = subst (λ (q : ℕ). HasSameRuns (netlist_module n.cells n.outlets q) n) (sym told) has.same in
-    let right : IsCorrect (netlist_module n.cells n.outlets (length s.results)) p slowdown (main_costs instances).latency = laws.correct p slowdown instances s n k.typed k.schedule k.sound d.last d.circuit same in
     let small = d.circuit.small in
     record {
       listing = record { circuit = n; report = report; notes = notes; compiled = d; listed = t.listed };
@@ -181,7 +163,7 @@ module_is p slowdown instances times n report notes text laws k d t =
       only = λ other spelled. laws.spelled text other m t.few spelled t.spells;
       formed = has.formed;
       one_run = laws.once m has.formed;
-      correct = subst (λ (q : ℕ). IsCorrect (netlist_module n.cells n.outlets q) p slowdown (main_costs instances).latency) told right;
+      correct = laws.correct p slowdown (main_costs instances) report.ins report.outs n d.laid d.circuit has.same;
       products = t.stars_are ∙ d.circuit.muls;
       light = omega (arith, laws.light n many, small, ports.all);
       rest = t.rest;

@@ -9,7 +9,6 @@ use Rattle.ae_rewrite.specs.StProgramTree.{StFuncTree}
 use Rattle.ae_netlist.specs.Circuit.{Circuit}
 use Rattle.ae_netlist.specs.Rows.{AreFirsts, AreInputs, HasOneRunWith, filled}
 use Rattle.ae_delay.specs.Timings.{Times}
-use Rattle.ae_lower.specs.Circuits.{results_of}
 use Rattle.ae_vread.specs.ModuleTree.{ModuleTree}
 use Rattle.ae_elab.specs.SameRuns.{HasSameRuns}
 use Rattle.ae_verilog.specs.NetlistModule.{netlist_module}
@@ -18,15 +17,14 @@ use Rattle.ae_verilog.specs.ReportLines.{ReportTree}
 use Rattle.ae_correct.specs.ClockTexts.{AreClockSums, IsClockText}
 use Rattle.ae_correct.specs.Laws.{FeedsAreAlike, PlaysAreAlike, PlaysAreShown, SumsAreAlike, SumsAreShown}
 use Rattle.ae_play.specs.Fed.{blocks_of, fed_rows}
-use Rattle.ae_play.specs.Fits.{CanBeFed, FitBlocks, HasColumns}
+use Rattle.ae_play.specs.Fits.{CanBeFed, FitBlocks}
 use Rattle.ae_play.specs.Lines.{IsPlayedText, clock_count}
 use Rattle.ae_play.specs.Sums.{ArePlayedSums}
 use Rattle.ae_play.specs.declared.sums.Sums.{Sums}
-use Rattle.ae_compile.specs.Costing.{IsKnown}
-use Rattle.ae_compile.specs.Compiling.{IsCompiled, report_of}
+use Rattle.ae_compile.specs.Costing.{IsKnown, main_costs}
+use Rattle.ae_compile.specs.Compiling.{IsCompiled}
 use Rattle.ae_compile.specs.Playing.{AreProgramBlocks, Shows}
 use Rattle.ae_compile.proofs.Inputs.{circuit_columns}
-use Rattle.ae_compile.proofs.Modules.{results_told}
 
 -- the laws of runs, and what is sure of a netlist's runs from the fill
 pub record HavePlays (n : Circuit) (fill : ℕ) : Type 0 where
@@ -45,16 +43,9 @@ module _ (p : ProgramTree) (slowdown fill : ℕ) (instances : List StFuncTree) (
   abbrev own : ModuleTree
   own = netlist_module n.cells n.outlets (length report.outs)
 
-  told : length d.instance.results ≡ length report.outs
-  told = results_told p slowdown instances n report notes d
-
-  same_there : HasSameRuns (netlist_module n.cells n.outlets (length d.instance.results)) n
-  same_there = subst (λ (q : ℕ). HasSameRuns (netlist_module n.cells n.outlets q) n) (sym told) same
-
   lowered_fed : (count : ℕ) (words : List ℕ) → FitBlocks report.ins count words → (clocks : ℕ) → All (AreInputs n.cells) (fed_rows slowdown fill report.ins (blocks_of report.ins count words) clocks)
   lowered_fed count words fit clocks =
-      let e : d.instance.ins ≡ report.ins = sym (ap (λ (r : ReportTree). r.ins) d.reported) in
-      laws.fed n.cells slowdown fill report.ins count words (subst (HasColumns n.cells) e (circuit_columns instances d.instance n d.circuit)) fit clocks
+      laws.fed n.cells slowdown fill report.ins count words (circuit_columns p slowdown (main_costs instances) report.ins report.outs n d.circuit) fit clocks
 
   fed_back : (count : ℕ) (words : List ℕ) → FitBlocks report.ins count words → (clocks : ℕ) → All (AreInputs played.cells) (fed_rows slowdown fill report.ins (blocks_of report.ins count words) clocks)
   fed_back count words fit clocks =
@@ -69,12 +60,7 @@ module _ (p : ProgramTree) (slowdown fill : ℕ) (instances : List StFuncTree) (
       laws.lines own played n slowdown report.latency fill report.ins report.outs bs text back same laws.one laws.begins (lowered_fed count words fit (clock_count slowdown report.latency (length bs))) shown in
       let flats : IsPlayedText n slowdown report.latency fill report.ins report.outs (map (map flat) blocks) text =
       subst (λ (cs : List (List (List ℕ))). IsPlayedText n slowdown report.latency fill report.ins report.outs cs text) laid lowered in
-      let here : IsPlayedText n slowdown report.latency fill d.instance.ins (results_of d.instance) (map (map flat) blocks) text =
-      subst (λ (r : ReportTree). IsPlayedText n slowdown report.latency fill r.ins r.outs (map (map flat) blocks) text) d.reported flats in
-      let clocks : IsClockText (netlist_module n.cells n.outlets (length d.instance.results)) slowdown report.latency fill d.instance.ins (results_of d.instance) blocks text =
-      laws.shown p slowdown instances d.instance n report.latency fill blocks text k.typed k.some k.schedule k.sound d.last d.circuit same_there values here in
-      subst (λ (r : ReportTree). IsClockText own slowdown report.latency fill r.ins r.outs blocks text) (sym d.reported)
-      (subst (λ (q : ℕ). IsClockText (netlist_module n.cells n.outlets q) slowdown report.latency fill d.instance.ins (results_of d.instance) blocks text) told clocks)
+      laws.shown p slowdown (main_costs instances) report.ins report.outs n report.latency fill blocks text d.laid d.circuit same values flats
 
   sums_shown : (count : ℕ) (words : List ℕ) (blocks : List (List ValueTree)) (sums : Sums) → FitBlocks report.ins count words → AreProgramBlocks p blocks → blocks_of report.ins count words ≡ map (map flat) blocks
       → ArePlayedSums played slowdown report.latency fill report.ins report.outs (blocks_of report.ins count words) sums → AreClockSums own slowdown report.latency fill report.ins report.outs blocks sums
@@ -84,12 +70,7 @@ module _ (p : ProgramTree) (slowdown fill : ℕ) (instances : List StFuncTree) (
       laws.sums own played n slowdown report.latency fill report.ins report.outs bs sums back same laws.one laws.begins (lowered_fed count words fit (clock_count slowdown report.latency (length bs))) shown in
       let flats : ArePlayedSums n slowdown report.latency fill report.ins report.outs (map (map flat) blocks) sums =
       subst (λ (cs : List (List (List ℕ))). ArePlayedSums n slowdown report.latency fill report.ins report.outs cs sums) laid lowered in
-      let here : ArePlayedSums n slowdown report.latency fill d.instance.ins (results_of d.instance) (map (map flat) blocks) sums =
-      subst (λ (r : ReportTree). ArePlayedSums n slowdown report.latency fill r.ins r.outs (map (map flat) blocks) sums) d.reported flats in
-      let clocks : AreClockSums (netlist_module n.cells n.outlets (length d.instance.results)) slowdown report.latency fill d.instance.ins (results_of d.instance) blocks sums =
-      laws.summed p slowdown instances d.instance n report.latency fill blocks sums k.typed k.some k.schedule k.sound d.last d.circuit same_there values here in
-      subst (λ (r : ReportTree). AreClockSums own slowdown report.latency fill r.ins r.outs blocks sums) (sym d.reported)
-      (subst (λ (q : ℕ). AreClockSums (netlist_module n.cells n.outlets q) slowdown report.latency fill d.instance.ins (results_of d.instance) blocks sums) told clocks)
+      laws.summed p slowdown (main_costs instances) report.ins report.outs n report.latency fill blocks sums d.laid d.circuit same values flats
 
   pub shows_is : Shows p slowdown report.latency fill report.ins report.outs (netlist_module n.cells n.outlets (length report.outs)) played
   shows_is = record { feeds = fed_back; lines = lines_shown; sums = sums_shown }

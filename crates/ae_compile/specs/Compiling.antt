@@ -3,7 +3,9 @@ use Rattle.std.specs.Prelude.{◌≡◌, ℕ, false, List, length, Some, slice_g
 use Rattle.ae_seq.specs.ProgramTree.{ProgramTree}
 use Rattle.ae_rewrite.specs.StProgramTree.{StFuncTree}
 use Rattle.ae_netlist.specs.Circuit.{Circuit}
-use Rattle.ae_lower.specs.Circuits.{IsCircuitOf, last_of, results_of}
+use Rattle.ae_ports.specs.CircuitFor.{IsCircuitFor}
+use Rattle.ae_lower.specs.Circuits.{last_of, results_of}
+use Rattle.ae_correct.specs.Laws.{IsLaidOut}
 use Rattle.ae_verilog.specs.Notes.{ArePrinted, NoteTree}
 use Rattle.ae_verilog.specs.ReportLines.{ReportTree}
 use Rattle.ae_compile.specs.Costing.{main_costs}
@@ -21,11 +23,12 @@ report_of slowdown instances s = record {
   outs = results_of s;
 }
 
--- the circuit of a schedule, the report of its costs and layouts, and the notes of the program's lines
+-- a circuit for the program with the costs of its schedule, the report of these and of the layouts, and the notes of the program's lines
 pub record IsCompiled (p : ProgramTree) (slowdown : ℕ) (instances : List StFuncTree) (n : Circuit) (report : ReportTree) (notes : List NoteTree) : Type 0 where
   pub instance : StFuncTree
   pub last : slice_get instances (last_of instances) ≡ Some instance
-  pub circuit : IsCircuitOf instances instance n
   pub reported : report ≡ report_of slowdown instances instance
+  pub laid : IsLaidOut p slowdown report.ins report.outs
+  pub circuit : IsCircuitFor p slowdown (main_costs instances) report.ins report.outs n
   pub noted : AreLineNotes p instance (length n.cells) notes
   pub printed : ArePrinted notes

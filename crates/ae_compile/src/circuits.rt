@@ -17,7 +17,7 @@ use crate::costing::{Costed, main_func, main_instance};
 use crate::layouts::{input_layouts, output_layouts};
 use crate::notes::line_notes;
 use ae_flow::schedules_fit;
-use ae_lower::{Lowered, lower};
+use ae_lower::{Lowered, circuits_are_for, lower};
 use ae_netlist::Netlist;
 use ae_retime::matching;
 use ae_verilog::{Note, Report};
@@ -81,6 +81,7 @@ pub fn compile(alloc: Global, costed: Costed) -> Result<Compiled, AllocError>
     ensures of { IfOk result (λ d. d.costed ≡ costed) }
     ensures compiled { IfOk result IsCompiledProgram }
 {
+    circuits_are_for();
     let report = report(alloc, &costed)?;
     let lowered = circuit(alloc, &costed)?;
     let notes = notes(alloc, &costed, &lowered.marks)?;

@@ -19,11 +19,9 @@ use Rattle.ae_verilog.specs.NetlistModule.{port_name}
 use Rattle.ae_sttype.specs.StTree.{StTree}
 use Rattle.ae_ops.specs.Blocks.{stream_of, stream_widths}
 use Rattle.ae_eval.proofs.Items.{entry-at}
-use Rattle.ae_flow.specs.Fitted.{streams_of}
-use Rattle.ae_lower.specs.Circuits.{columns_in}
+use Rattle.ae_ports.specs.Ports.{streams_of, SizedPort, input_cell, outlet_port, ports_from, reset_port, stream_ports, columns_in}
 use Rattle.ae_rewrite.specs.Blocks.{outlet_net}
-use Rattle.ae_lower.specs.Ports.{SizedPort, input_cell, outlet_port, ports_from, reset_port, stream_ports}
-use Rattle.ae_lower.specs.Ports as net_side
+use Rattle.ae_ports.specs.Ports as net_side
 use Rattle.ae_correct.specs.Correct.{input_ports, output_ports, name_of}
 use Rattle.ae_correct.proofs.Places.{port_there}
 use Rattle.ae_correct.proofs.Nets.{HavePorts, in_net, out_net, tree, numbered_inputs, inputs_filtered, outputs_filtered}

@@ -16,10 +16,8 @@ use Rattle.ae_elab.specs.SameRuns.{BeginAlike}
 use Rattle.ae_sttype.specs.StTree.{StTree}
 use Rattle.ae_ops.specs.Blocks.{stream_of, stream_widths}
 use Rattle.ae_eval.proofs.Items.{slice_get-take}
-use Rattle.ae_flow.specs.Fitted.{streams_of}
-use Rattle.ae_lower.specs.Circuits.{columns_in}
-use Rattle.ae_lower.specs.Ports.{SizedPort, input_cell, reset_port, stream_ports}
-use Rattle.ae_lower.specs.Ports as net_side
+use Rattle.ae_ports.specs.Ports.{streams_of, SizedPort, input_cell, reset_port, stream_ports, columns_in}
+use Rattle.ae_ports.specs.Ports as net_side
 use Rattle.ae_correct.specs.Correct.{input_ports, name_of}
 use Rattle.ae_correct.proofs.Places.{port_there}
 use Rattle.ae_correct.proofs.Nets.{HaveInputs, HavePorts, tree}

@@ -13,12 +13,11 @@ use Rattle.ae_sttype.proofs.Places.{slot_at}
 use Rattle.ae_ops.specs.Blocks.{stream_of, stream_widths}
 use Rattle.ae_seq.specs.Meaning.{at}
 use Rattle.ae_rewrite.specs.Scheduled.{IsFilling}
-use Rattle.ae_flow.specs.Fitted.{streams_of}
-use Rattle.ae_lower.specs.Circuits.{columns_in}
+use Rattle.ae_ports.specs.Ports.{streams_of, columns_in}
 use Rattle.ae_play.specs.Fed.{clock_row, block_row, element_in, fed_rows, layout_row}
 use Rattle.ae_correct.specs.ClockTexts.{fill_word, IsTaken}
 use Rattle.ae_correct.proofs.ModulePorts.{mapped_at}
-use Rattle.ae_lower.proofs.Layouts.{stream_columns}
+use Rattle.ae_ports.proofs.Columns.{stream_columns}
 use Rattle.ae_correct.proofs.Standing.{element_stands, element_found}
 use Rattle.ae_correct.proofs.Rows.{stood, unfilled, fill_at, rows_at}
 

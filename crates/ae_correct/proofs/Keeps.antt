@@ -1,6 +1,5 @@
--- The module of a program's circuit keeps blocks: those that its inputs hold give those of the program's results.
+-- The module of a circuit for a program keeps blocks: those that its inputs hold give those of the program's results.
 use Rattle.std.proofs.Common.{ℕ, zero, suc, ◌≡◌, ◌+◌, ◌*◌, ◌<◌, ◌≤◌, List, ◌∷◌, length, map, take, Some, slice_get, arith, ap, sym, ◌∙◌, subst}
-use Rattle.std.proofs.lemmas.List.{length-map}
 use Rattle.std.proofs.lemmas.Nat.{mul-add-lt, row_fits}
 use Rattle.std.proofs.lemmas.Option.{same_Some, slice_get_within, get_or_from_slice_get}
 use Rattle.ae_seqtype.specs.ValueTree.{ValueTree, flat}
@@ -21,20 +20,13 @@ use Rattle.ae_ops.specs.Waves.{Wave}
 use Rattle.ae_ops.specs.Blocks.{Stream, stream_of, stream_widths}
 use Rattle.ae_seq.specs.ProgramTree.{ProgramTree}
 use Rattle.ae_seq.specs.Meaning.{at, mean}
-use Rattle.ae_eval.specs.Stack.{IsTyped}
-use Rattle.ae_rewrite.specs.Interface.{main_of}
-use Rattle.ae_rewrite.specs.Blocks.{InputsHold, MakesBlocks, OutputsHold, input_wave, output_wave}
-use Rattle.ae_rewrite.specs.StProgramTree.{StFuncTree}
-use Rattle.ae_rewrite.specs.Scheduled.{IsFilling, IsInstance, IsSchedule}
-use Rattle.ae_rewrite.specs.Sound.{item_layout, item_layouts, IsSound}
-use Rattle.ae_delay.proofs.Instances.{all_items}
-use Rattle.ae_flow.specs.Fitted.{streams_of}
-use Rattle.ae_lower.specs.Circuits.{columns_in, last_of, result_streams, results_of, IsCircuitOf}
-use Rattle.ae_lower.specs.Lowering.{instance_costs}
-use Rattle.ae_lower.specs.Ports.{SizedPort, reset_port}
-use Rattle.ae_lower.specs.Ports as net_side
-use Rattle.ae_lower.proofs.Layouts.{stream_columns}
-use Rattle.ae_lower.proofs.Blocks.{first_columns, keys_of, result_at, results_streams}
+use Rattle.ae_rewrite.specs.Blocks.{InputsHold, OutputsHold, input_wave, output_wave}
+use Rattle.ae_rewrite.specs.Scheduled.{AreFilling}
+use Rattle.ae_delay.specs.declared.own.OwnCosts.{OwnCosts}
+use Rattle.ae_ports.specs.CircuitFor.{IsCircuitFor}
+use Rattle.ae_ports.specs.Ports.{streams_of, SizedPort, reset_port, columns_in}
+use Rattle.ae_ports.specs.Ports as net_side
+use Rattle.ae_ports.proofs.Columns.{stream_columns, first_columns}
 use Rattle.ae_correct.specs.Correct.{input_ports, output_ports, wave, BundlesHold, KeepsBlocks}
 use Rattle.ae_correct.proofs.Places.{port_from}
 use Rattle.ae_correct.proofs.Nets.{HavePorts}
@@ -63,103 +55,73 @@ inner_ports ss zero p h = subst (λ (x : SizedPort). IsInputPort x.port) (same_S
 inner_ports ss (suc n) p h = let r = port_from (λ param lane word. In param lane word) 0 ss n p h in subst IsInputPort (sym r.port) tt
 
 -- the ports that the module of a circuit has
-abbrev pub ins_of : StFuncTree → List SizedPort
-ins_of s = reset_port ∷ net_side.input_ports (streams_of s.ins)
+abbrev pub ins_of : List StTree → List SizedPort
+ins_of ins = reset_port ∷ net_side.input_ports (streams_of ins)
 
-abbrev pub outs_of : StFuncTree → List SizedPort
-outs_of s = net_side.output_ports (streams_of (results_of s))
+abbrev pub outs_of : List StTree → List SizedPort
+outs_of outs = net_side.output_ports (streams_of outs)
 
-pub circuit_ports : (instances : List StFuncTree) (s : StFuncTree) (n : Circuit) → IsCircuitOf instances s n → HavePorts n.cells n.outlets (ins_of s) (outs_of s)
-circuit_ports instances s n c =
-    let long : 1 + length (net_side.input_ports (streams_of s.ins)) ≡ length (ins_of s) = omega arith in
+pub circuit_ports : (p : ProgramTree) (slowdown : ℕ) (costs : OwnCosts) (ins outs : List StTree) (n : Circuit) → IsCircuitFor p slowdown costs ins outs n → HavePorts n.cells n.outlets (ins_of ins) (outs_of outs)
+circuit_ports p slowdown costs ins outs n c =
+    let long : 1 + length (net_side.input_ports (streams_of ins)) ≡ length (ins_of ins) = omega arith in
     record {
       inputs = record { first = ap (λ k. take k n.cells) (sym long) ∙ c.inputs; count = c.no_others ∙ long };
-      outputs = c.outputs ∙ ap net_side.output_ports (results_streams s);
-      inner = inner_ports (streams_of s.ins);
+      outputs = c.outputs;
+      inner = inner_ports (streams_of ins);
     }
 
 -- ---- blocks
 
--- the circuit of a typed program's schedule, whose last instance this is, and the module that has its runs
-pub record IsProgramCircuit (p : ProgramTree) (slowdown : ℕ) (instances : List StFuncTree) (s : StFuncTree) (n : Circuit) : Type 0 where
-  pub typed : IsTyped p
-  pub schedule : IsSchedule p slowdown instances
-  pub sound : IsSound instances
-  pub found : slice_get instances (last_of instances) ≡ Some s
-  pub is : IsInstance p (keys_of instances) s
-  pub last : s.func ≡ main_of p
-  pub budget : s.budget ≡ slowdown
-  pub circuit : IsCircuitOf instances s n
-  pub same : HasSameRuns (netlist_module n.cells n.outlets (length s.results)) n
-
-module _ (p : ProgramTree) (slowdown : ℕ) (instances : List StFuncTree) (s : StFuncTree) (n : Circuit) (c : IsProgramCircuit p slowdown instances s n) where
-  pub ports : HavePorts n.cells n.outlets (ins_of s) (outs_of s)
-  ports = circuit_ports instances s n c.circuit
-
-  abbrev latency : ℕ
-  latency = (instance_costs instances (last_of instances)).latency
+module _ (p : ProgramTree) (slowdown : ℕ) (costs : OwnCosts) (ins outs : List StTree) (n : Circuit) (c : IsCircuitFor p slowdown costs ins outs n)
+    (same : HasSameRuns (netlist_module n.cells n.outlets (length outs)) n) (size_in : AreFilling slowdown ins) (size_out : AreFilling slowdown outs) where
+  abbrev ports : HavePorts n.cells n.outlets (ins_of ins) (outs_of outs)
+  ports = circuit_ports p slowdown costs ins outs n c
 
   abbrev many : ℕ
-  many = length s.results
+  many = length outs
 
   abbrev own : ModuleTree
-  own = netlist_module n.cells n.outlets (length s.results)
-
-  size_in : (q : ℕ) (t : StTree) → slice_get s.ins q ≡ Some t → IsFilling s.budget t
-  size_in q t at = (c.sound.each (last_of instances) s c.found).ins q t at
-
-  size_out : (r i : ℕ) → slice_get s.results r ≡ Some i → IsFilling s.budget (item_layout (item_layouts s) i)
-  size_out r i at = (let f = c.sound.each (last_of instances) s c.found in all_items (last_of instances) s f i (f.results r i at))
+  own = netlist_module n.cells n.outlets (length outs)
 
   -- where the ports of the parameters hold a block, the inputs of the circuit do
-  inputs_hold : (run : List ModuleClock) (other : List Clock) (start k : ℕ) (block : List ValueTree) → BeginAlike own n run other → start + (k + s.budget) ≤ length run
-      → BundlesHold run start k input_ports s.ins block → InputsHold other start k s.ins block
+  inputs_hold : (run : List ModuleClock) (other : List Clock) (start k : ℕ) (block : List ValueTree) → BeginAlike own n run other → start + (k + slowdown) ≤ length run
+      → BundlesHold run start k input_ports ins block → InputsHold other start k ins block
   inputs_hold run other start k block alike room held = record {
     each = λ q t found.
         let fill = size_in q t found in
-        let full : time t ≡ s.budget = fill.time in
-        let there : Holds (input_wave other start (1 + columns_in (take q (streams_of s.ins)))) k (element_words t) (slots t) (flat (at block q)) =
-        holds_alike k t (input_wave other start (1 + columns_in (take q (streams_of s.ins)))) (wave run start (input_ports q t)) (flat (at block q)) fill.size
-        (λ clock column low high small. sym (column_in n many s.ins (outs_of s) ports run other alike (start + clock) q column t (omega (arith, full)) found small)) (held.each q t found) in
-        subst (λ i. Holds (input_wave other start (1 + i)) k (element_words t) (slots t) (flat (at block q))) (sym (first_columns s.ins q)) there;
+        let full : time t ≡ slowdown = fill.time in
+        let there : Holds (input_wave other start (1 + columns_in (take q (streams_of ins)))) k (element_words t) (slots t) (flat (at block q)) =
+        holds_alike k t (input_wave other start (1 + columns_in (take q (streams_of ins)))) (wave run start (input_ports q t)) (flat (at block q)) fill.size
+        (λ clock column low high small. sym (column_in n many ins (outs_of outs) ports run other alike (start + clock) q column t (omega (arith, full)) found small)) (held.each q t found) in
+        subst (λ i. Holds (input_wave other start (1 + i)) k (element_words t) (slots t) (flat (at block q))) (sym (first_columns ins q)) there;
   }
 
   -- where the outputs of the circuit hold results, the ports of the results do
-  outputs_hold : (run : List ModuleClock) (other : List Clock) (start k : ℕ) (values : List ValueTree) → HaveEqualOutputs own n run other → start + (k + s.budget) ≤ length run
-      → OutputsHold other n.outlets start k (results_of s) values → BundlesHold run start k (output_ports (length (results_of s))) (results_of s) values
+  outputs_hold : (run : List ModuleClock) (other : List Clock) (start k : ℕ) (values : List ValueTree) → HaveEqualOutputs own n run other → start + (k + slowdown) ≤ length run
+      → OutputsHold other n.outlets start k outs values → BundlesHold run start k (output_ports many) outs values
   outputs_hold run other start k values equal room held = record {
     each = λ r t found.
-        let e = result_at s r t found in
-        let fill : IsFilling s.budget t = subst (IsFilling s.budget) e.is (size_out r e.item e.found) in
-        let full : time t ≡ s.budget = fill.time in
-        let as_many : length (results_of s) ≡ many = length-map s.results (item_layout (item_layouts s)) in
-        let there : Holds (output_wave other n.outlets start (columns_in (take r (streams_of (results_of s))))) k (element_words t) (slots t) (flat (at values r)) =
-        subst (λ i. Holds (output_wave other n.outlets start i) k (element_words t) (slots t) (flat (at values r))) (first_columns (results_of s) r) (held.each r t found) in
-        let here : Holds (wave run start (output_ports many r t)) k (element_words t) (slots t) (flat (at values r)) =
-        holds_alike k t (wave run start (output_ports many r t)) (output_wave other n.outlets start (columns_in (take r (streams_of (results_of s))))) (flat (at values r)) fill.size
-        (λ clock column low high small. column_out n many (results_of s) (ins_of s) ports run other equal (start + clock) r column t (omega (arith, full)) found small) there in
-        subst (λ m. Holds (wave run start (output_ports m r t)) k (element_words t) (slots t) (flat (at values r))) (sym as_many) here;
+        let fill = size_out r t found in
+        let full : time t ≡ slowdown = fill.time in
+        let there : Holds (output_wave other n.outlets start (columns_in (take r (streams_of outs)))) k (element_words t) (slots t) (flat (at values r)) =
+        subst (λ i. Holds (output_wave other n.outlets start i) k (element_words t) (slots t) (flat (at values r))) (first_columns outs r) (held.each r t found) in
+        holds_alike k t (wave run start (output_ports many r t)) (output_wave other n.outlets start (columns_in (take r (streams_of outs)))) (flat (at values r)) fill.size
+        (λ clock column low high small. column_out n many outs (ins_of ins) ports run other equal (start + clock) r column t (omega (arith, full)) found small) there;
   }
 
-  blocks_made : MakesBlocks n p s.budget latency s.ins (results_of s)
-  blocks_made = subst (λ d. MakesBlocks n p d latency s.ins (results_of s)) (sym c.budget) (c.circuit.makes p slowdown c.typed c.schedule)
-
-  keeps_own : KeepsBlocks own p s.budget latency s.ins (results_of s)
-  keeps_own = record {
+  pub keeps : KeepsBlocks own p slowdown costs.latency ins outs
+  keeps = record {
     results = λ run start blocks reset long given b block there.
         (let inside : b < length blocks = slice_get_within blocks b block there in
-        let fits : b * s.budget + s.budget ≤ length blocks * s.budget = row_fits b s.budget (length blocks) s.budget inside (omega arith) in
-        let w = c.same.of_module run reset.run_of in
+        let fits : b * slowdown + slowdown ≤ length blocks * slowdown = row_fits b slowdown (length blocks) slowdown inside (omega arith) in
+        let w = same.of_module run reset.run_of in
         let other = w.0 in
         let same_long : length run ≡ length other = w.2.long in
         let g = given b block there in
-        let in_room : start + (b * s.budget + s.budget) ≤ length run = omega (arith, fits, long) in
-        let law_room : start + (latency + (b + 1) * s.budget) ≤ length other = omega (arith, fits, long, same_long) in
-        let out_room : start + (latency + b * s.budget + s.budget) ≤ length run = omega (arith, fits, long) in
-        let held = inputs_hold run other start (b * s.budget) block w.2 in_room g.1 in
-        let made = blocks_made.makes other start b block w.1 (resets n many (net_side.input_ports (streams_of s.ins)) (outs_of s) ports run other start w.2 reset) law_room g.0 held in
-        outputs_hold run other start (latency + b * s.budget) (mean p block) w.3 out_room made);
+        let in_room : start + (b * slowdown + slowdown) ≤ length run = omega (arith, fits, long) in
+        let law_room : start + (costs.latency + (b + 1) * slowdown) ≤ length other = omega (arith, fits, long, same_long) in
+        let out_room : start + (costs.latency + b * slowdown + slowdown) ≤ length run = omega (arith, fits, long) in
+        let held = inputs_hold run other start (b * slowdown) block w.2 in_room g.1 in
+        let made = c.makes.makes other start b block w.1 (resets n many (net_side.input_ports (streams_of ins)) (outs_of outs) ports run other start w.2 reset) law_room g.0 held in
+        outputs_hold run other start (costs.latency + b * slowdown) (mean p block) w.3 out_room made);
   }
-
-  pub keeps : KeepsBlocks own p slowdown latency s.ins (results_of s)
-  keeps = subst (λ d. KeepsBlocks own p d latency s.ins (results_of s)) c.budget keeps_own

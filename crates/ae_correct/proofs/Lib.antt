@@ -3,6 +3,7 @@ pub mod ModuleClock
 pub mod Nets
 pub mod ModulePorts
 pub mod Clocks
+pub mod Laid
 pub mod Keeps
 pub mod Built
 pub mod Written

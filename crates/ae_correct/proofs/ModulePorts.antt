@@ -9,8 +9,7 @@ use Rattle.ae_sttype.specs.StTree.{StTree, lanes, element_atom}
 use Rattle.ae_verilog.specs.NetlistModule.{port_name}
 use Rattle.ae_ops.specs.Blocks.{stream_of, stream_widths}
 use Rattle.ae_eval.proofs.Items.{entry-at}
-use Rattle.ae_flow.specs.Fitted.{streams_of}
-use Rattle.ae_lower.specs.Ports.{SizedPort, word_ports, lane_ports, stream_ports, ports_from}
+use Rattle.ae_ports.specs.Ports.{streams_of, SizedPort, word_ports, lane_ports, stream_ports, ports_from}
 use Rattle.ae_correct.specs.Correct.{ModulePort, bundle_ports, name_of}
 use Rattle.ae_correct.specs.Correct as module_side
 use Rattle.ae_correct.proofs.Places.{length_stream}

@@ -6,7 +6,7 @@ use Rattle.std.proofs.lemmas.List.{append-nil, take-append-drop, length-map}
 use Rattle.std.proofs.lemmas.List.Elements.{filter-append}
 use Rattle.std.proofs.lemmas.List.Sums.{length-filter}
 use Rattle.ae_netlist.specs.declared.cell.Port.{Port}
-use Rattle.ae_netlist.specs.declared.cell.Port.TheVariants.{Reset, In, Out, Plain}
+use Rattle.ae_netlist.specs.declared.cell.Port.TheVariants.{Reset, Enable, In, Out, Plain}
 use Rattle.ae_netlist.specs.declared.cell.Cell.{Cell}
 use Rattle.ae_netlist.specs.declared.cell.Cell.TheVariants.{Input, Const, Op, Reg, Mem, Peek}
 use Rattle.ae_netlist.specs.declared.cell.SizedCell.{SizedCell}
@@ -18,7 +18,7 @@ use Rattle.ae_elab.specs.Names.{is_input_kind, is_output_kind, is_clock}
 use Rattle.ae_elab.specs.SameRuns as same
 use Rattle.ae_verilog.specs.NetlistModule.{IsInputPort, port_name, net_of, number_name, clock_net, input_nets, output_net, declared_nets, declared_from, netlist_module}
 use Rattle.ae_verilog.specs.NetlistModule as netlist
-use Rattle.ae_lower.specs.Ports.{SizedPort, input_cell, outlet_port}
+use Rattle.ae_ports.specs.Ports.{SizedPort, input_cell, outlet_port}
 use Rattle.ae_correct.specs.Correct.{is_port}
 use Rattle.ae_correct.proofs.ModuleClock.{clocked, is_clk}
 
@@ -210,6 +210,7 @@ module _ (cells : List SizedCell) (outlets : List Outlet) (many : ℕ) (ins outs
   -- no other input has the clock's name
   other_name : (port : Port) → IsInputPort port → is_clock tree (port_name 1 port) ≡ false
   other_name Reset k = is_clk tree (port_name 1 Reset) (clocked cells outlets many)
+  other_name Enable k = is_clk tree (port_name 1 Enable) (clocked cells outlets many)
   other_name (In param lane word) k = is_clk tree (port_name 1 (In param lane word)) (clocked cells outlets many)
   other_name (Out result lane word) k = absurd k
   other_name (Plain n) k = absurd k

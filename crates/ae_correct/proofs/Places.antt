@@ -7,8 +7,7 @@ use Rattle.ae_seqtype.proofs.Sizes.{length-repeated}
 use Rattle.ae_ops.specs.Blocks.{Stream, stream_widths}
 use Rattle.ae_rewrite.proofs.Grown.{get_in_front}
 use Rattle.ae_fold.proofs.Kinding.{get_append_cases, get_right}
-use Rattle.ae_lower.specs.Circuits.{columns_in}
-use Rattle.ae_lower.specs.Ports.{SizedPort, word_ports, lane_ports, stream_ports, ports_from}
+use Rattle.ae_ports.specs.Ports.{columns_in, SizedPort, word_ports, lane_ports, stream_ports, ports_from}
 
 -- ---- how many ports there are
 

@@ -9,14 +9,12 @@ use Rattle.ae_word.proofs.Sizes.{length-atom_kinds}
 use Rattle.ae_sttype.specs.StTree.{StTree, lanes, element_atom, element_words}
 use Rattle.ae_ops.specs.Blocks.{stream_of, stream_widths}
 use Rattle.ae_eval.proofs.Items.{entry-at}
-use Rattle.ae_flow.specs.Fitted.{streams_of}
-use Rattle.ae_lower.specs.Circuits.{columns_in}
-use Rattle.ae_lower.proofs.Spreading.{joined_word}
+use Rattle.ae_ports.specs.Ports.{streams_of, columns_in}
+use Rattle.ae_ports.proofs.Columns.{joined_word, stream_columns}
 use Rattle.ae_play.specs.Fed.{fill_row, lane_words, layout_row, layout_rows, standing, stood_word}
 use Rattle.ae_correct.specs.ClockTexts.{fill_word}
 use Rattle.ae_correct.proofs.ModulePorts.{mapped_at}
 use Rattle.ae_correct.proofs.Places.{columns_more}
-use Rattle.ae_lower.proofs.Layouts.{stream_columns}
 
 -- ---- a lane
 

@@ -17,30 +17,26 @@ use Rattle.ae_netlist.specs.Rows.{IsRunWith, filled}
 use Rattle.ae_vread.specs.ModuleTree.{ModuleTree}
 use Rattle.ae_elab.specs.Values.{ModuleClock}
 use Rattle.ae_elab.specs.Runs.{clock_at, IsRun}
-use Rattle.ae_elab.specs.SameRuns.{BeginAlike, HaveEqualOutputs, output_words}
+use Rattle.ae_elab.specs.SameRuns.{BeginAlike, HasSameRuns, HaveEqualOutputs, output_words}
 use Rattle.ae_verilog.specs.NetlistModule.{netlist_module}
 use Rattle.ae_ops.specs.Blocks.{stream_of, stream_widths}
 use Rattle.ae_seq.specs.ProgramTree.{ProgramTree}
 use Rattle.ae_seq.specs.Meaning.{at}
 use Rattle.ae_eval.specs.Lines.{input_types}
-use Rattle.ae_rewrite.specs.StProgramTree.{StFuncTree}
-use Rattle.ae_rewrite.specs.Scheduled.{IsFilling}
-use Rattle.ae_flow.specs.Fitted.{streams_of}
+use Rattle.ae_delay.specs.declared.own.OwnCosts.{OwnCosts}
+use Rattle.ae_ports.specs.CircuitFor.{IsCircuitFor}
+use Rattle.ae_ports.specs.Ports.{streams_of, columns_in}
 use Rattle.ae_rewrite.specs.Interface.{AreValues}
-use Rattle.ae_flow.proofs.MeaningLayouts.{AllLaidOut}
-use Rattle.ae_lower.specs.Circuits.{columns_in, last_of, results_of}
 use Rattle.ae_play.specs.Fed.{clock_row, fed_rows}
 use Rattle.ae_play.specs.Sums.{ArePlayedSums, AreSums, all_stand, valid_words}
 use Rattle.ae_play.specs.declared.sums.Sums.{Sums}
 use Rattle.ae_play.specs.Lines.{IsPlayedText, clock_count, clock_line, clock_lines, shown_words}
 use Rattle.ae_correct.specs.Correct.{input_ports, wave}
 use Rattle.ae_correct.specs.ClockTexts.{fill_word, AreClockSums, IsClockText, IsFed, IsTaken}
-use Rattle.ae_correct.specs.Laws.{PlaysAreShown, SumsAreShown}
-use Rattle.ae_lower.proofs.Blocks.{keys_of}
+use Rattle.ae_correct.specs.Laws.{IsLaidOut, PlaysAreShown, SumsAreShown}
 use Rattle.ae_correct.proofs.Nets.{HavePorts}
-use Rattle.ae_lower.proofs.Layouts.{as_many_values, inputs_laid, input_types_are}
-use Rattle.ae_correct.proofs.Keeps.{IsProgramCircuit, ins_of, outs_of, ports}
-use Rattle.ae_correct.proofs.Built.{program_circuit}
+use Rattle.ae_correct.proofs.Laid.{as_many, ins_filling}
+use Rattle.ae_correct.proofs.Keeps.{circuit_ports, ins_of, outs_of}
 use Rattle.ae_correct.proofs.FedRows.{FillAll, AreWhole, length_rows, row_later, small_column, stands_in_row, free_in_row}
 use Rattle.ae_correct.proofs.FirstWords.{begins}
 use Rattle.ae_correct.proofs.FedInputs.{reset_row, input_row}
@@ -89,43 +85,42 @@ sums_alike slowdown latency outs f g k sums h s =
 
 -- ---- the whole
 
-module _ (p : ProgramTree) (slowdown : ℕ) (instances : List StFuncTree) (s : StFuncTree) (n : Circuit) (c : IsProgramCircuit p slowdown instances s n) (latency fill : ℕ) (blocks : List (List ValueTree))
+module _ (p : ProgramTree) (slowdown : ℕ) (costs : OwnCosts) (ins outs : List StTree) (n : Circuit) (laid : IsLaidOut p slowdown ins outs) (c : IsCircuitFor p slowdown costs ins outs n)
+    (same : HasSameRuns (netlist_module n.cells n.outlets (length outs)) n) (latency fill : ℕ) (blocks : List (List ValueTree))
     (values : (b : ℕ) (block : List ValueTree) → slice_get blocks b ≡ Some block → AreValues (input_types p) block) where
   abbrev many : ℕ
-  many = length s.results
+  many = length outs
 
   abbrev own : ModuleTree
-  own = netlist_module n.cells n.outlets (length s.results)
+  own = netlist_module n.cells n.outlets (length outs)
 
   abbrev count : ℕ
   count = clock_count slowdown latency (length blocks)
 
   abbrev fed : List (List ℕ)
-  fed = fed_rows slowdown fill s.ins (map (map flat) blocks) (clock_count slowdown latency (length blocks))
+  fed = fed_rows slowdown fill ins (map (map flat) blocks) (clock_count slowdown latency (length blocks))
 
-  sizes : FillAll slowdown s.ins
-  sizes q t found = subst (λ d. IsFilling d t) c.budget ((c.sound.each (last_of instances) s c.found).ins q t found)
+  sizes : FillAll slowdown ins
+  sizes = ins_filling p slowdown ins outs laid
 
-  as_many : AreWhole s.ins blocks
-  as_many b block there =
-      let types = input_types_are p (keys_of instances) s c.typed c.is c.last in
-      as_many_values (input_types p) s.ins block (subst (λ ts. AllLaidOut ts s.ins) types (inputs_laid p (keys_of instances) s c.typed c.is c.last)) (values b block there)
+  whole : AreWhole ins blocks
+  whole b block there = as_many p slowdown ins outs block laid (values b block there)
 
   module _ (run : List ModuleClock) (other : List Clock) (runs : IsRun own run) (with_rows : IsRunWith n.cells fed (filled n.cells fill) other) (alike : BeginAlike own n run other) (equal : HaveEqualOutputs own n run other) where
     rows_long : length fed ≡ 1 + count
-    rows_long = length_rows slowdown fill s.ins (map (map flat) blocks) count
+    rows_long = length_rows slowdown fill ins (map (map flat) blocks) count
 
     run_long : length run ≡ 1 + count
     run_long = alike.long ∙ with_rows.long ∙ rows_long
 
-    later : (k : ℕ) → k < count → get_or fed (suc k) [] ≡ clock_row slowdown fill s.ins (map (map flat) blocks) k
-    later = row_later slowdown fill s.ins (map (map flat) blocks) count
+    later : (k : ℕ) → k < count → get_or fed (suc k) [] ≡ clock_row slowdown fill ins (map (map flat) blocks) k
+    later = row_later slowdown fill ins (map (map flat) blocks) count
 
-    abbrev have : HavePorts n.cells n.outlets (ins_of s) (outs_of s)
-    have = ports p slowdown instances s n c
+    abbrev have : HavePorts n.cells n.outlets (ins_of ins) (outs_of outs)
+    have = circuit_ports p slowdown costs ins outs n c
 
     reset : (t : ℕ) → t < length run → (clock_at run t).word (codes "rst") ≡ get_or (get_or fed t []) 0 0
-    reset = reset_row n many s.ins (outs_of s) have run other fed alike with_rows.takes with_rows.long
+    reset = reset_row n many ins (outs_of outs) have run other fed alike with_rows.takes with_rows.long
 
     high : (t : ℕ) → t < 1 → t < length run → (clock_at run t).word (codes "rst") ≡ 1
     high zero early below = reset 0 below
@@ -136,11 +131,11 @@ module _ (p : ProgramTree) (slowdown : ℕ) (instances : List StFuncTree) (s : S
     low (suc t) late below = reset (suc t) below ∙ ap (λ r. get_or r 0 0) (later t (omega (arith, below, run_long)))
 
     -- the words on the inputs are those of the rows
-    on_inputs : (start k q column : ℕ) (x : StTree) → start + k < length run → slice_get s.ins q ≡ Some x → column < length (stream_widths (stream_of x))
-        → wave run start (input_ports q x) k column ≡ get_or (get_or fed (start + k) []) (suc (columns_in (take q (streams_of s.ins)) + column)) 0
-    on_inputs start k q column x below found small = input_row n many s.ins (outs_of s) have run other fed alike with_rows.takes with_rows.long (start + k) q column x below found small
+    on_inputs : (start k q column : ℕ) (x : StTree) → start + k < length run → slice_get ins q ≡ Some x → column < length (stream_widths (stream_of x))
+        → wave run start (input_ports q x) k column ≡ get_or (get_or fed (start + k) []) (suc (columns_in (take q (streams_of ins)) + column)) 0
+    on_inputs start k q column x below found small = input_row n many ins (outs_of outs) have run other fed alike with_rows.takes with_rows.long (start + k) q column x below found small
 
-    holds_at : (b q e j : ℕ) (x : StTree) (w : Slot) (block : List ValueTree) → slice_get blocks b ≡ Some block → slice_get s.ins q ≡ Some x → slice_get (slots x) e ≡ Some w → j < element_words x
+    holds_at : (b q e j : ℕ) (x : StTree) (w : Slot) (block : List ValueTree) → slice_get blocks b ≡ Some block → slice_get ins q ≡ Some x → slice_get (slots x) e ≡ Some w → j < element_words x
         → wave run 1 (input_ports q x) (b * slowdown + w.clock) (w.lane * element_words x + j) ≡ slice_index (flat (at block q)) (e * element_words x + j)
     holds_at b q e j x w block there found slot word =
         let f = sizes q x found in
@@ -156,23 +151,23 @@ module _ (p : ProgramTree) (slowdown : ℕ) (instances : List StFuncTree) (s : S
         let column : ℕ = w.lane * element_words x + j in
         let next : 1 + (b * slowdown + w.clock) ≡ suc (b * slowdown + w.clock) = omega arith in
         on_inputs 1 (b * slowdown + w.clock) q column x (omega (arith, shown, run_long)) found (small_column x w.lane j lane word)
-        ∙ ap (λ t. get_or (get_or fed t []) (suc (columns_in (take q (streams_of s.ins)) + column)) 0) next
-        ∙ ap (λ r. get_or r (suc (columns_in (take q (streams_of s.ins)) + column)) 0) (later (b * slowdown + w.clock) shown)
-        ∙ stands_in_row slowdown fill s.ins blocks count sizes as_many b q e j x w block there found slot word clock lane
+        ∙ ap (λ t. get_or (get_or fed t []) (suc (columns_in (take q (streams_of ins)) + column)) 0) next
+        ∙ ap (λ r. get_or r (suc (columns_in (take q (streams_of ins)) + column)) 0) (later (b * slowdown + w.clock) shown)
+        ∙ stands_in_row slowdown fill ins blocks count sizes whole b q e j x w block there found slot word clock lane
 
-    free_at : (q l j t : ℕ) (x : StTree) → slice_get s.ins q ≡ Some x → l < lanes x → j < element_words x → t < length run → (IsTaken x slowdown (length blocks) l t → ⊥)
+    free_at : (q l j t : ℕ) (x : StTree) → slice_get ins q ≡ Some x → l < lanes x → j < element_words x → t < length run → (IsTaken x slowdown (length blocks) l t → ⊥)
         → wave run 0 (input_ports q x) t (l * element_words x + j) ≡ fill_word fill x j
     free_at q l j t x found lane word below free =
         let z : 0 + t ≡ t = omega arith in
         let column : ℕ = l * element_words x + j in
         on_inputs 0 t q column x (omega (arith, below)) found (small_column x l j lane word)
-        ∙ ap (λ i. get_or (get_or fed i []) (suc (columns_in (take q (streams_of s.ins)) + column)) 0) z
-        ∙ free_in_row slowdown fill s.ins blocks count sizes as_many q l j t x found lane word (omega (arith, below, run_long, rows_long)) free
+        ∙ ap (λ i. get_or (get_or fed i []) (suc (columns_in (take q (streams_of ins)) + column)) 0) z
+        ∙ free_in_row slowdown fill ins blocks count sizes whole q l j t x found lane word (omega (arith, below, run_long, rows_long)) free
 
-    is_fed : IsFed own slowdown fill s.ins blocks run
+    is_fed : IsFed own slowdown fill ins blocks run
     is_fed = record {
       reset = record { run_of = runs; some = omega arith; high = high; low = low };
-      begins = λ first. begins own n run other fill c.same alike with_rows.begins first;
+      begins = λ first. begins own n run other fill same alike with_rows.begins first;
       holds = λ b block there. (record { each = λ q x found e j w slot word. holds_at b q e j x w block there found slot word });
       elsewhere = record { each = λ q l j t x found lane word below free. free_at q l j t x found lane word below free };
     }
@@ -181,50 +176,48 @@ module _ (p : ProgramTree) (slowdown : ℕ) (instances : List StFuncTree) (s : S
     alike_words k below = sym (equal.outputs (1 + k) (omega (arith, below, run_long)))
 
     -- the module's run shows the same lines
-    pub is_shown : (text : List ℕ) → text ≡ clock_lines slowdown latency (results_of s) (λ k. shown_words n.outlets other (1 + k)) count → IsClockText own slowdown latency fill s.ins (results_of s) blocks text
+    pub is_shown : (text : List ℕ) → text ≡ clock_lines slowdown latency outs (λ k. shown_words n.outlets other (1 + k)) count → IsClockText own slowdown latency fill ins outs blocks text
     is_shown text lines = record {
       run = run;
       long = run_long;
       fed = is_fed;
-      lines = lines ∙ lines_alike slowdown latency (results_of s) (λ k. shown_words n.outlets other (1 + k)) (λ k. output_words own (clock_at run (1 + k))) count alike_words;
+      lines = lines ∙ lines_alike slowdown latency outs (λ k. shown_words n.outlets other (1 + k)) (λ k. output_words own (clock_at run (1 + k))) count alike_words;
     }
 
     -- and has the same sums
-    pub is_summed : (sums : Sums) → AreSums slowdown latency (results_of s) (λ k. shown_words n.outlets other (1 + k)) count sums → AreClockSums own slowdown latency fill s.ins (results_of s) blocks sums
+    pub is_summed : (sums : Sums) → AreSums slowdown latency outs (λ k. shown_words n.outlets other (1 + k)) count sums → AreClockSums own slowdown latency fill ins outs blocks sums
     is_summed sums are = record {
       run = run;
       long = run_long;
       fed = is_fed;
-      are = sums_alike slowdown latency (results_of s) (λ k. shown_words n.outlets other (1 + k)) (λ k. output_words own (clock_at run (1 + k))) count sums alike_words are;
+      are = sums_alike slowdown latency outs (λ k. shown_words n.outlets other (1 + k)) (λ k. output_words own (clock_at run (1 + k))) count sums alike_words are;
     }
 
   many_blocks : length (map (map flat) blocks) ≡ length blocks
   many_blocks = length-map blocks (map flat)
 
-  with_rows : (run : List Clock) → IsRunWith n.cells (fed_rows slowdown fill s.ins (map (map flat) blocks) (clock_count slowdown latency (length (map (map flat) blocks)))) (filled n.cells fill) run
+  with_rows : (run : List Clock) → IsRunWith n.cells (fed_rows slowdown fill ins (map (map flat) blocks) (clock_count slowdown latency (length (map (map flat) blocks)))) (filled n.cells fill) run
       → IsRunWith n.cells fed (filled n.cells fill) run
-  with_rows run h = subst (λ k. IsRunWith n.cells (fed_rows slowdown fill s.ins (map (map flat) blocks) (clock_count slowdown latency k)) (filled n.cells fill) run) many_blocks h
+  with_rows run h = subst (λ k. IsRunWith n.cells (fed_rows slowdown fill ins (map (map flat) blocks) (clock_count slowdown latency k)) (filled n.cells fill) run) many_blocks h
 
-  pub played : (text : List ℕ) → IsPlayedText n slowdown latency fill s.ins (results_of s) (map (map flat) blocks) text → IsClockText own slowdown latency fill s.ins (results_of s) blocks text
+  pub played : (text : List ℕ) → IsPlayedText n slowdown latency fill ins outs (map (map flat) blocks) text → IsClockText own slowdown latency fill ins outs blocks text
   played text h =
-      let lines : text ≡ clock_lines slowdown latency (results_of s) (λ k. shown_words n.outlets h.run (1 + k)) count =
-      h.lines ∙ ap (λ k. clock_lines slowdown latency (results_of s) (λ i. shown_words n.outlets h.run (1 + i)) (clock_count slowdown latency k)) many_blocks in
+      let lines : text ≡ clock_lines slowdown latency outs (λ k. shown_words n.outlets h.run (1 + k)) count =
+      h.lines ∙ ap (λ k. clock_lines slowdown latency outs (λ i. shown_words n.outlets h.run (1 + i)) (clock_count slowdown latency k)) many_blocks in
       let rows = with_rows h.run h.runs in
-      let r = c.same.of_netlist h.run rows.runs in
+      let r = same.of_netlist h.run rows.runs in
       is_shown r.0 h.run r.1 rows r.2 r.3 text lines
 
-  pub played_sums : (sums : Sums) → ArePlayedSums n slowdown latency fill s.ins (results_of s) (map (map flat) blocks) sums → AreClockSums own slowdown latency fill s.ins (results_of s) blocks sums
+  pub played_sums : (sums : Sums) → ArePlayedSums n slowdown latency fill ins outs (map (map flat) blocks) sums → AreClockSums own slowdown latency fill ins outs blocks sums
   played_sums sums h =
-      let are : AreSums slowdown latency (results_of s) (λ k. shown_words n.outlets h.run (1 + k)) count sums =
-      subst (λ k. AreSums slowdown latency (results_of s) (λ i. shown_words n.outlets h.run (1 + i)) (clock_count slowdown latency k) sums) many_blocks h.are in
+      let are : AreSums slowdown latency outs (λ k. shown_words n.outlets h.run (1 + k)) count sums =
+      subst (λ k. AreSums slowdown latency outs (λ i. shown_words n.outlets h.run (1 + i)) (clock_count slowdown latency k) sums) many_blocks h.are in
       let rows = with_rows h.run h.runs in
-      let r = c.same.of_netlist h.run rows.runs in
+      let r = same.of_netlist h.run rows.runs in
       is_summed r.0 h.run r.1 rows r.2 r.3 sums are
 
 pub plays : PlaysAreShown
-plays p slowdown instances s n latency fill blocks text typed positive h sound found circuit same values shown =
-    played p slowdown instances s n (program_circuit p slowdown instances s n typed h sound found circuit same) latency fill blocks values text shown
+plays p slowdown costs ins outs n latency fill blocks text laid circuit same values shown = played p slowdown costs ins outs n laid circuit same latency fill blocks values text shown
 
 pub sums : SumsAreShown
-sums p slowdown instances s n latency fill blocks summed typed positive h sound found circuit same values shown =
-    played_sums p slowdown instances s n (program_circuit p slowdown instances s n typed h sound found circuit same) latency fill blocks values summed shown
+sums p slowdown costs ins outs n latency fill blocks summed laid circuit same values shown = played_sums p slowdown costs ins outs n laid circuit same latency fill blocks values summed shown

@@ -19,22 +19,18 @@ use Rattle.ae_sttype.specs.Size.{IsInSize}
 use Rattle.ae_sttype.proofs.Bounds.{atoms_pos, lanes-le-atoms, lanes_below}
 use Rattle.ae_ops.specs.Blocks.{Stream, stream_of, stream_widths}
 use Rattle.ae_seq.specs.ProgramTree.{ProgramTree}
-use Rattle.ae_eval.specs.Stack.{IsTyped}
-use Rattle.ae_eval.proofs.Items.{entry-at, few-items}
-use Rattle.ae_rewrite.specs.StProgramTree.{StFuncTree}
-use Rattle.ae_rewrite.specs.Scheduled.{IsSchedule}
-use Rattle.ae_rewrite.specs.Sound.{item_layout, item_layouts, IsSound, IsSoundFunc}
-use Rattle.ae_delay.proofs.Instances.{all_items}
+use Rattle.ae_eval.proofs.Items.{entry-at}
 use Rattle.ae_fold.proofs.Kinding.{get_append_cases}
-use Rattle.ae_flow.specs.Fitted.{streams_of}
-use Rattle.ae_flow.proofs.Placed.{as_many}
-use Rattle.ae_lower.specs.Circuits.{columns_in, last_of, IsCircuitOf, results_of}
-use Rattle.ae_lower.specs.Lowering.{instance_costs}
-use Rattle.ae_lower.specs.Ports.{SizedPort, input_cell, outlet_port, reset_port, input_ports, output_ports}
+use Rattle.ae_ports.specs.Ports.{streams_of, SizedPort, input_cell, outlet_port, reset_port, input_ports, output_ports, columns_in}
 use Rattle.ae_correct.proofs.Places.{IsPortFrom, columns_more, length_from, port_from, same_place}
 use Rattle.ae_correct.proofs.Nets.{HaveInputs, HavePorts, NoInputs, no_more}
 use Rattle.ae_correct.proofs.ModulePorts.{mapped_at}
-use Rattle.ae_lower.proofs.Layouts.{element_columns, stream_columns}
+use Rattle.ae_ports.proofs.Columns.{element_columns, stream_columns}
+use Rattle.ae_delay.specs.declared.own.OwnCosts.{OwnCosts}
+use Rattle.ae_ports.specs.CircuitFor.{IsCircuitFor}
+use Rattle.ae_rewrite.specs.Scheduled.{AreFilling}
+use Rattle.ae_correct.specs.Laws.{CircuitsAreWritable}
+use Rattle.ae_correct.proofs.Laid.{few_ins, few_outs, ins_filling, outs_filling}
 use Rattle.ae_correct.proofs.Keeps.{circuit_ports, ins_of, outs_of}
 
 -- ---- an entry of a list that a function made
@@ -191,63 +187,54 @@ cell_fits cells ss k width (Reg next) h small few e = tt
 cell_fits cells ss k width (Mem depth at next enable) h small few e = tt
 cell_fits cells ss k width (Peek mem at) h small few e = tt
 
-module _ (instances : List StFuncTree) (s : StFuncTree) (n : Circuit) (sound : IsSoundFunc (last_of instances) s) (params : length s.ins ≤ 8) (light : (instance_costs instances (last_of instances)).load ≤ 100000) (c : IsCircuitOf instances s n) where
-  have : HavePorts n.cells n.outlets (ins_of s) (outs_of s)
-  have = circuit_ports instances s n c
+module _ (p : ProgramTree) (slowdown : ℕ) (costs : OwnCosts) (ins outs : List StTree) (n : Circuit) (fill_ins : AreFilling slowdown ins) (fill_outs : AreFilling slowdown outs)
+    (params : length ins ≤ 8) (results : length outs ≤ 8) (light : costs.load ≤ 100000) (c : IsCircuitFor p slowdown costs ins outs n) where
+  have : HavePorts n.cells n.outlets (ins_of ins) (outs_of outs)
+  have = circuit_ports p slowdown costs ins outs n c
 
-  small_ins : AreSmall s.ins
-  small_ins q t e = (sound.ins q t e).size
+  small_ins : AreSmall ins
+  small_ins q t e = (fill_ins q t e).size
 
-  small_outs : AreSmall (results_of s)
-  small_outs r t e = (let m = unmapped (item_layout (item_layouts s)) s.results r t e in subst IsInSize m.is (all_items (last_of instances) s sound m.from (sound.results r m.from m.found)).size)
-
-  as_many_results : length (results_of s) ≡ length s.results
-  as_many_results = length-map s.results (item_layout (item_layouts s))
-
-  few_outs : length (results_of s) ≤ 8
-  few_outs = omega (arith, as_many_results, sound.few_results)
+  small_outs : AreSmall outs
+  small_outs r t e = (fill_outs r t e).size
 
   -- an output's port
-  shown_at : (k : ℕ) (o : Outlet) → slice_get n.outlets k ≡ Some o → slice_get (outs_of s) k ≡ Some (outlet_port n.cells o)
+  shown_at : (k : ℕ) (o : Outlet) → slice_get n.outlets k ≡ Some o → slice_get (outs_of outs) k ≡ Some (outlet_port n.cells o)
   shown_at k o e = ap (λ ps. slice_get ps k) (sym have.outputs) ∙ mapped_at (outlet_port n.cells) n.outlets k o e
 
-  output_named : (k : ℕ) (o : Outlet) → slice_get n.outlets k ≡ Some o → IsOutputPort (length s.results) o.port
+  output_named : (k : ℕ) (o : Outlet) → slice_get n.outlets k ≡ Some o → IsOutputPort (length outs) o.port
   output_named k o e =
-      let r = port_from out_at 0 (streams_of (results_of s)) k (outlet_port n.cells o) (shown_at k o e) in
-      let within : r.number < length (streams_of (results_of s)) = slice_get_within (streams_of (results_of s)) r.number r.stream r.found in
-      subst (IsOutputPort (length s.results)) (sym r.port) (omega (arith, within, length-map (results_of s) stream_of, as_many_results))
+      let r = port_from out_at 0 (streams_of outs) k (outlet_port n.cells o) (shown_at k o e) in
+      let within : r.number < length (streams_of outs) = slice_get_within (streams_of outs) r.number r.stream r.found in
+      subst (IsOutputPort (length outs)) (sym r.port) (omega (arith, within, length-map outs stream_of))
 
-  have_ports : written.HavePorts n.cells n.outlets (length s.results)
+  have_ports : written.HavePorts n.cells n.outlets (length outs)
   have_ports = record {
-    inputs = λ k width port e. (let r = input_at n.cells (ins_of s) k width port have.inputs e in subst IsInputPort r.is (have.inner k r.sized r.found));
+    inputs = λ k width port e. (let r = input_at n.cells (ins_of ins) k width port have.inputs e in subst IsInputPort r.is (have.inner k r.sized r.found));
     inputs_differ = λ k l v w port e f.
-        (let a = input_at n.cells (ins_of s) k v port have.inputs e in
-        let b = input_at n.cells (ins_of s) l w port have.inputs f in
-        inputs_apart (streams_of s.ins) k l a.sized b.sized a.found b.found (a.is ∙ sym b.is));
+        (let a = input_at n.cells (ins_of ins) k v port have.inputs e in
+        let b = input_at n.cells (ins_of ins) l w port have.inputs f in
+        inputs_apart (streams_of ins) k l a.sized b.sized a.found b.found (a.is ∙ sym b.is));
     outputs = output_named;
-    outputs_differ = λ k l a b e f same. outputs_apart (streams_of (results_of s)) k l (outlet_port n.cells a) (outlet_port n.cells b) (shown_at k a e) (shown_at l b f) same;
+    outputs_differ = λ k l a b e f same. outputs_apart (streams_of outs) k l (outlet_port n.cells a) (outlet_port n.cells b) (shown_at k a e) (shown_at l b f) same;
   }
 
   few_cells : length n.cells < 2 ^ 32
   few_cells =
-      let ports : length (input_ports (streams_of s.ins)) ≡ columns_in (streams_of s.ins) = length_from in_at 0 (streams_of s.ins) in
-      omega (arith, c.small, light, ports, all_columns s.ins small_ins, params)
+      let ports : length (input_ports (streams_of ins)) ≡ columns_in (streams_of ins) = length_from in_at 0 (streams_of ins) in
+      omega (arith, c.small, light, ports, all_columns ins small_ins, params)
 
-  pub is_writable : IsWritableNetlist n.cells n.outlets (length s.results)
+  is_writable : IsWritableNetlist n.cells n.outlets (length outs)
   is_writable = record {
     formed = c.formed;
     shown = c.shown;
     ports = have_ports;
     whole = c.whole;
     few = few_cells;
-    inputs = λ k d within. (let x : SizedCell = get_or n.cells k d in cell_fits n.cells s.ins k x.width x.cell have.inputs small_ins params (slice_get-get_or n.cells k d within));
-    outputs = λ k d within. (let o : Outlet = get_or n.outlets k d in output_port_fits (results_of s) k (outlet_port n.cells o) small_outs few_outs (shown_at k o (slice_get-get_or n.outlets k d within)));
+    inputs = λ k d within. (let x : SizedCell = get_or n.cells k d in cell_fits n.cells ins k x.width x.cell have.inputs small_ins params (slice_get-get_or n.cells k d within));
+    outputs = λ k d within. (let o : Outlet = get_or n.outlets k d in output_port_fits outs k (outlet_port n.cells o) small_outs results (shown_at k o (slice_get-get_or n.outlets k d within)));
   }
 
-pub writable : (p : ProgramTree) (slowdown : ℕ) (instances : List StFuncTree) (s : StFuncTree) (n : Circuit) → IsTyped p → IsSchedule p slowdown instances → IsSound instances
-    → slice_get instances (last_of instances) ≡ Some s → (instance_costs instances (last_of instances)).load ≤ 100000 → IsCircuitOf instances s n → IsWritableNetlist n.cells n.outlets (length s.results)
-writable p slowdown instances s n typed h sound found light c =
-    let right = h.right (last_of instances) s found in
-    let few = few-items p s.func right.of typed right.known in
-    let params : length s.ins ≤ 8 = omega (arith, few.0, as_many s.budget right.of.params s.ins right.ins) in
-    is_writable instances s n (sound.each (last_of instances) s found) params light c
+pub writable : CircuitsAreWritable
+writable p slowdown costs ins outs n laid light c =
+    is_writable p slowdown costs ins outs n (ins_filling p slowdown ins outs laid) (outs_filling p slowdown ins outs laid) (few_ins p slowdown ins outs laid) (few_outs p slowdown ins outs laid) light c

@@ -1,4 +1,4 @@
--- What is proved of the module of a program's circuit.
+-- What is proved of the module of a circuit for a program.
 use Rattle.std.specs.Prelude.{◌≡◌, ℕ, ◌<◌, ◌≤◌, List, length, map, Some, slice_get}
 use Rattle.std.specs.List.{All}
 use Rattle.ae_sttype.specs.StTree.{StTree}
@@ -9,15 +9,12 @@ use Rattle.ae_seq.specs.ProgramTree.{ProgramTree}
 use Rattle.ae_eval.specs.Stack.{IsTyped}
 use Rattle.ae_eval.specs.Lines.{input_types}
 use Rattle.ae_seqtype.specs.ValueTree.{ValueTree, flat}
-use Rattle.ae_rewrite.specs.StProgramTree.{StFuncTree}
-use Rattle.ae_rewrite.specs.Scheduled.{IsSchedule}
-use Rattle.ae_rewrite.specs.Sound.{IsSound, item_layout, item_layouts}
+use Rattle.ae_rewrite.specs.Interface.{AreValues, HaveLayouts}
+use Rattle.ae_delay.specs.declared.own.OwnCosts.{OwnCosts}
+use Rattle.ae_ports.specs.CircuitFor.{IsCircuitFor}
 use Rattle.ae_elab.specs.SameRuns.{HasSameRuns}
 use Rattle.ae_verilog.specs.NetlistModule.{netlist_module}
 use Rattle.ae_verilog.specs.Written.{IsWritableNetlist}
-use Rattle.ae_lower.specs.Lowering.{instance_costs}
-use Rattle.ae_lower.specs.Circuits.{IsCircuitOf, last_of}
-use Rattle.ae_rewrite.specs.Interface.{AreValues}
 use Rattle.ae_play.specs.Fed.{fed_rows}
 use Rattle.ae_play.specs.Lines.{IsPlayedText, clock_count}
 use Rattle.ae_play.specs.Sums.{ArePlayedSums}
@@ -25,39 +22,42 @@ use Rattle.ae_play.specs.declared.sums.Sums.{Sums}
 use Rattle.ae_correct.specs.Correct.{IsCorrect}
 use Rattle.ae_correct.specs.ClockTexts.{AreClockSums, IsClockText}
 
--- the circuit of the schedule of a typed program, within the limit of load, can be written as a module
+-- a typed program whose parameters and results have these layouts under a slowdown within its limits
+pub record IsLaidOut (p : ProgramTree) (slowdown : ℕ) (ins outs : List StTree) : Type 0 where
+  pub typed : IsTyped p
+  pub some : 0 < slowdown
+  pub most : slowdown ≤ 4096
+  pub layouts : HaveLayouts p slowdown ins outs
+
+-- nothing is asked below of how a circuit was made
+
+-- a circuit for the program, within the limit of load, can be written as a module
 abbrev pub CircuitsAreWritable : Type 0
 CircuitsAreWritable =
-    (p : ProgramTree) (slowdown : ℕ) (instances : List StFuncTree) (s : StFuncTree) (n : Circuit) → IsTyped p → IsSchedule p slowdown instances → IsSound instances
-    → slice_get instances (last_of instances) ≡ Some s → (instance_costs instances (last_of instances)).load ≤ 100000 → IsCircuitOf instances s n
-    → IsWritableNetlist n.cells n.outlets (length s.results)
+    (p : ProgramTree) (slowdown : ℕ) (costs : OwnCosts) (ins outs : List StTree) (n : Circuit) → IsLaidOut p slowdown ins outs → costs.load ≤ 100000 → IsCircuitFor p slowdown costs ins outs n
+    → IsWritableNetlist n.cells n.outlets (length outs)
 
 -- the module that it is written as, where it has the netlist's runs, is correct for the program, with the latency of the costs
 abbrev pub CircuitsAreCorrect : Type 0
 CircuitsAreCorrect =
-    (p : ProgramTree) (slowdown : ℕ) (instances : List StFuncTree) (s : StFuncTree) (n : Circuit) → IsTyped p → IsSchedule p slowdown instances → IsSound instances
-    → slice_get instances (last_of instances) ≡ Some s → IsCircuitOf instances s n → HasSameRuns (netlist_module n.cells n.outlets (length s.results)) n
-    → IsCorrect (netlist_module n.cells n.outlets (length s.results)) p slowdown (instance_costs instances (last_of instances)).latency
+    (p : ProgramTree) (slowdown : ℕ) (costs : OwnCosts) (ins outs : List StTree) (n : Circuit) → IsLaidOut p slowdown ins outs → IsCircuitFor p slowdown costs ins outs n
+    → HasSameRuns (netlist_module n.cells n.outlets (length outs)) n → IsCorrect (netlist_module n.cells n.outlets (length outs)) p slowdown costs.latency
 
 -- the lines of the circuit's run on the words of blocks are those of the module on the blocks
 abbrev pub PlaysAreShown : Type 0
 PlaysAreShown =
-    (p : ProgramTree) (slowdown : ℕ) (instances : List StFuncTree) (s : StFuncTree) (n : Circuit) (latency fill : ℕ) (blocks : List (List ValueTree)) (text : List ℕ)
-    → IsTyped p → 0 < slowdown → IsSchedule p slowdown instances → IsSound instances → slice_get instances (last_of instances) ≡ Some s → IsCircuitOf instances s n
-    → HasSameRuns (netlist_module n.cells n.outlets (length s.results)) n
+    (p : ProgramTree) (slowdown : ℕ) (costs : OwnCosts) (ins outs : List StTree) (n : Circuit) (latency fill : ℕ) (blocks : List (List ValueTree)) (text : List ℕ)
+    → IsLaidOut p slowdown ins outs → IsCircuitFor p slowdown costs ins outs n → HasSameRuns (netlist_module n.cells n.outlets (length outs)) n
     → ((b : ℕ) (block : List ValueTree) → slice_get blocks b ≡ Some block → AreValues (input_types p) block)
-    → IsPlayedText n slowdown latency fill s.ins (map (item_layout (item_layouts s)) s.results) (map (map flat) blocks) text
-    → IsClockText (netlist_module n.cells n.outlets (length s.results)) slowdown latency fill s.ins (map (item_layout (item_layouts s)) s.results) blocks text
+    → IsPlayedText n slowdown latency fill ins outs (map (map flat) blocks) text → IsClockText (netlist_module n.cells n.outlets (length outs)) slowdown latency fill ins outs blocks text
 
 -- the same of sums
 abbrev pub SumsAreShown : Type 0
 SumsAreShown =
-    (p : ProgramTree) (slowdown : ℕ) (instances : List StFuncTree) (s : StFuncTree) (n : Circuit) (latency fill : ℕ) (blocks : List (List ValueTree)) (sums : Sums)
-    → IsTyped p → 0 < slowdown → IsSchedule p slowdown instances → IsSound instances → slice_get instances (last_of instances) ≡ Some s → IsCircuitOf instances s n
-    → HasSameRuns (netlist_module n.cells n.outlets (length s.results)) n
+    (p : ProgramTree) (slowdown : ℕ) (costs : OwnCosts) (ins outs : List StTree) (n : Circuit) (latency fill : ℕ) (blocks : List (List ValueTree)) (sums : Sums)
+    → IsLaidOut p slowdown ins outs → IsCircuitFor p slowdown costs ins outs n → HasSameRuns (netlist_module n.cells n.outlets (length outs)) n
     → ((b : ℕ) (block : List ValueTree) → slice_get blocks b ≡ Some block → AreValues (input_types p) block)
-    → ArePlayedSums n slowdown latency fill s.ins (map (item_layout (item_layouts s)) s.results) (map (map flat) blocks) sums
-    → AreClockSums (netlist_module n.cells n.outlets (length s.results)) slowdown latency fill s.ins (map (item_layout (item_layouts s)) s.results) blocks sums
+    → ArePlayedSums n slowdown latency fill ins outs (map (map flat) blocks) sums → AreClockSums (netlist_module n.cells n.outlets (length outs)) slowdown latency fill ins outs blocks sums
 
 -- what fits the inputs of a circuit fits those of each that has the runs of the same module
 abbrev pub FeedsAreAlike : Type 0

@@ -2,13 +2,13 @@
 
 ghost use Rattle.ae_correct.specs.Laws.{CircuitsAreCorrect, CircuitsAreWritable, FeedsAreAlike, PlaysAreAlike, PlaysAreShown, SumsAreAlike, SumsAreShown};
 
-/// A law: the circuit of a typed program's schedule, where its load is at most 100,000, can be written as a module.
+/// A law: a circuit for a typed program, where its load is at most 100,000, can be written as a module, however it was made.
 pub fn circuits_are_writable()
     ensures { CircuitsAreWritable }
 {}
 
-/// A law: the module that the circuit of a typed program's schedule is written as, where it has the circuit's runs, is
-/// correct for the program.
+/// A law: the module that a circuit for a typed program is written as, where it has the circuit's runs, is correct for the
+/// program.
 pub fn circuits_are_correct()
     ensures { CircuitsAreCorrect }
 {}

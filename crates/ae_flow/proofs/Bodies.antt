@@ -9,7 +9,8 @@ use Rattle.ae_ops.specs.Blocks.{Stream, AreWords, AllAreWords, stream_of}
 use Rattle.ae_rewrite.specs.Sound.{item_layout, item_layouts}
 use Rattle.ae_rewrite.specs.StProgramTree.{StFuncTree, body}
 use Rattle.ae_flow.specs.Flow.{Callee, callee_at, element_count, first_result, layout_words, mapped, op_words, pieces}
-use Rattle.ae_flow.specs.Fitted.{FitsBody, elements_stream, streams_of}
+use Rattle.ae_flow.specs.Fitted.{FitsBody, elements_stream}
+use Rattle.ae_ports.specs.Ports.{streams_of}
 use Rattle.ae_flow.proofs.Widths.{FitWidths, all_fit, element_fit, fit_of, repeated_mul}
 use Rattle.ae_flow.proofs.Operands.{widths_of, length-widths_of, words_from}
 

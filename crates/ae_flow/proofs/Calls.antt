@@ -22,7 +22,8 @@ use Rattle.ae_rewrite.specs.StProgramTree.{StOpTree, StFuncTree}
 use Rattle.ae_rewrite.specs.Scheduled.{Keys, HasKey, IsBody, IsInstance, IsSchedule, param_layouts}
 use Rattle.ae_rewrite.specs.Sound.{item_layout, item_layouts}
 use Rattle.ae_flow.specs.Flow.{first_result}
-use Rattle.ae_flow.specs.Fitted.{FitsBody, FitsOp, elements_stream, streams_of}
+use Rattle.ae_flow.specs.Fitted.{FitsBody, FitsOp, elements_stream}
+use Rattle.ae_ports.specs.Ports.{streams_of}
 use Rattle.ae_flow.proofs.Streams.{arranged_stream, seq_laid_too, single}
 use Rattle.ae_flow.proofs.Placed.{AreLaidAs, item_count_is, typed_item}
 use Rattle.ae_flow.proofs.Plain.{HaveTypes}

@@ -17,7 +17,8 @@ use Rattle.ae_rewrite.specs.Sound.{IsRawFor, IsSpread, IsSoundOp, IsSoundFunc, I
 use Rattle.ae_delay.proofs.Instances.{all_items, node_sound}
 use Rattle.ae_fold.proofs.Kinding.{get_right}
 use Rattle.ae_flow.specs.Flow.{Callee, callee, callee_at, callees, first_result, item_words, no_callee, node_words, op_words, words_at}
-use Rattle.ae_flow.specs.Fitted.{FitsOp, AreFitted, streams_of}
+use Rattle.ae_flow.specs.Fitted.{FitsOp, AreFitted}
+use Rattle.ae_ports.specs.Ports.{streams_of}
 use Rattle.ae_flow.proofs.Operands.{word_words, join_words, first_part, second_part, fixed_words, move_words}
 use Rattle.ae_flow.proofs.Folding.{fold_words_fit, scan_words_fit}
 use Rattle.ae_flow.proofs.Bodies.{GivesWords, body_words}

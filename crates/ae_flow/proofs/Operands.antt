@@ -27,7 +27,8 @@ use Rattle.ae_rewrite.specs.Sound.{FixedFits}
 use Rattle.ae_delay.specs.Moving.{origin_number}
 use Rattle.ae_gather.specs.Gathers.{origin_word}
 use Rattle.ae_flow.specs.Flow.{Callee, op_words, words_at, width_of}
-use Rattle.ae_flow.specs.Fitted.{FitsWord, FitsPair, FitsFirst, FitsSecond, FitsMove, streams_of}
+use Rattle.ae_flow.specs.Fitted.{FitsWord, FitsPair, FitsFirst, FitsSecond, FitsMove}
+use Rattle.ae_ports.specs.Ports.{streams_of}
 use Rattle.ae_flow.proofs.Widths.{FitWidths, fit_of, words_of, word_fit, pairs_fit, parts_fit}
 
 -- the widths of an element's words

@@ -18,7 +18,8 @@ use Rattle.ae_ops.specs.Blocks.{stream_of}
 use Rattle.ae_ops.specs.Words.{operand_widths, word_stream}
 use Rattle.ae_rewrite.specs.Calls.{op_by, is_signed, operand, head}
 use Rattle.ae_flow.specs.Flow.{width_of, main_argument, first_width}
-use Rattle.ae_flow.specs.Fitted.{FitsWord, streams_of}
+use Rattle.ae_flow.specs.Fitted.{FitsWord}
+use Rattle.ae_ports.specs.Ports.{streams_of}
 use Rattle.ae_flow.proofs.Streams.{atom_laid}
 use Rattle.ae_flow.proofs.Placed.{IsLaidAs}
 

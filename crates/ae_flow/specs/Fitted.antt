@@ -10,11 +10,8 @@ use Rattle.ae_ops.specs.Words.{operand_widths, word_stream}
 use Rattle.ae_rewrite.specs.declared.st_program.MoveOp.{MoveOp}
 use Rattle.ae_rewrite.specs.StProgramTree.{StOpTree, word, join, first, second, fixed, move, fold, scan, body, StNodeTree, StFuncTree}
 use Rattle.ae_rewrite.specs.Sound.{item_layout, item_layouts, FixedFits, IsMoveFrom}
+use Rattle.ae_ports.specs.Ports.{streams_of}
 use Rattle.ae_flow.specs.Flow.{width_of, first_result}
-
--- where the words of these layouts stand
-abbrev pub streams_of : List StTree → List Stream
-streams_of ss = map stream_of ss
 
 -- where elements of a layout stand that come on so many lanes, in so many slots one after the other
 abbrev pub elements_stream : (slots lanes : ℕ) → StTree → Stream

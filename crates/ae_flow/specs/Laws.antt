@@ -11,7 +11,8 @@ use Rattle.ae_rewrite.specs.Scheduled.{IsSchedule}
 use Rattle.ae_rewrite.specs.Sound.{item_layout, item_layouts, IsSound}
 use Rattle.ae_ops.specs.Blocks.{AllAreWords, AreWords, stream_of}
 use Rattle.ae_flow.specs.Flow.{callees, flow, item_words, words_at}
-use Rattle.ae_flow.specs.Fitted.{AreFitted, streams_of}
+use Rattle.ae_flow.specs.Fitted.{AreFitted}
+use Rattle.ae_ports.specs.Ports.{streams_of}
 
 -- the schedule of a typed program, under a slowdown that there can be, fits
 abbrev pub SchedulesFit : Type 0

@@ -23,29 +23,15 @@ use Rattle.ae_rewrite.specs.StProgramTree.{StFuncTree}
 use Rattle.ae_rewrite.specs.Scheduled.{Keys, HasKey, IsInstance, IsSchedule}
 use Rattle.ae_rewrite.specs.Sound.{item_layout, item_layouts}
 use Rattle.ae_flow.specs.Flow.{flow, words_at}
-use Rattle.ae_flow.specs.Fitted.{streams_of}
+use Rattle.ae_ports.specs.Ports.{streams_of, input_waves, columns_in}
 use Rattle.ae_flow.specs.Laws.{FlowsMean}
 use Rattle.ae_flow.proofs.MeaningLayouts.{AllLaidOut}
-use Rattle.ae_lower.specs.Circuits.{IsCircuitOf, IsCircuitThat, MakesResults, columns_in, last_of, result_streams, results_of}
+use Rattle.ae_lower.specs.Circuits.{IsCircuitOf, IsCircuitThat, MakesResults, last_of, result_streams, results_of}
 use Rattle.ae_lower.specs.Lowering.{instance_costs}
-use Rattle.ae_lower.specs.Ports.{input_waves}
-use Rattle.ae_lower.proofs.Layouts.{all_words, as_many_values, element_columns, input_types_are, inputs_laid, map_map, stream_columns, words_flat}
+use Rattle.ae_lower.proofs.Layouts.{all_words, as_many_values, input_types_are, inputs_laid, words_flat}
+use Rattle.ae_ports.proofs.Columns.{element_columns, map_map, stream_columns, first_columns}
 
 -- ---- columns
-
--- the columns before a layout are the nets of the streams before it
-pub first_columns : (ss : List StTree) (q : ℕ) → first_column ss q ≡ columns_in (take q (streams_of ss))
-first_columns [] zero = refl
-first_columns [] (suc q) = refl
-first_columns (s ∷ ss) zero = refl
-first_columns (s ∷ ss) (suc q) =
-    omega (
-      arith,
-      sum_by-cons columns_of s (take q ss),
-      sum_by-cons (λ (x : Stream). length (stream_widths x)) (stream_of s) (take q (streams_of ss)),
-      stream_columns s,
-      first_columns ss q,
-    )
 
 pub results_streams : (s : StFuncTree) → result_streams s ≡ streams_of (results_of s)
 results_streams s = sym (map_map stream_of (item_layout (item_layouts s)) s.results)

@@ -26,7 +26,8 @@ use Rattle.ae_rewrite.specs.StProgramTree.{StFuncTree, StNodeTree, body}
 use Rattle.ae_rewrite.specs.Scheduled.{AreFilling, IsFilling}
 use Rattle.ae_rewrite.specs.Sound.{item_layout, item_layouts}
 use Rattle.ae_flow.specs.Flow.{Callee, callee, callee_at, element_count, first_result, item_words, mapped, op_words, words_at}
-use Rattle.ae_flow.specs.Fitted.{FitsBody, elements_stream, streams_of}
+use Rattle.ae_flow.specs.Fitted.{FitsBody, elements_stream}
+use Rattle.ae_ports.specs.Ports.{streams_of}
 use Rattle.ae_flow.proofs.Widths.{repeated_mul}
 use Rattle.ae_lower.specs.Parts.{plain_part, from_column, lane_waves, mapped_by, AllTake}
 use Rattle.ae_lower.specs.Growth.{IsBuilt}

@@ -16,7 +16,8 @@ use Rattle.ae_delay.specs.Costs.{NodeTiming, latest, slack_load}
 use Rattle.ae_delay.proofs.Instances.{all_items}
 use Rattle.ae_retime.specs.Slacks.{joint_slacks, joint_uses}
 use Rattle.ae_flow.specs.Flow.{Callee, callees, first_result}
-use Rattle.ae_flow.specs.Fitted.{AreFitted, elements_stream, streams_of}
+use Rattle.ae_flow.specs.Fitted.{AreFitted, elements_stream}
+use Rattle.ae_ports.specs.Ports.{streams_of}
 use Rattle.ae_flow.specs.Laws.{FlowsFit}
 use Rattle.ae_lower.specs.Growth.{Adds, GrowsBy, IsBuilt}
 use Rattle.ae_lower.specs.Delaying.{AreDelayed, delay_load}

@@ -12,14 +12,13 @@ use Rattle.ae_sttype.specs.StTree.{StTree, atom, tseq, sseq, element_atom, eleme
 use Rattle.ae_sttype.specs.Size.{HasLengths, IsInSize}
 use Rattle.ae_sttype.proofs.Bounds.{element_words_pos, lanes_pos}
 use Rattle.ae_rewrite.specs.StProgramTree.{st_trees}
-use Rattle.ae_flow.specs.Fitted.{streams_of}
+use Rattle.ae_ports.specs.Ports.{streams_of, SizedPort, input_cell, input_ports, lane_ports, ports_from, stream_ports, word_ports}
 use Rattle.ae_seqtype.proofs.Sizes.{length-repeated}
 use Rattle.ae_netlist.specs.declared.cell.NetId.{NetId}
 use Rattle.ae_netlist.specs.declared.cell.Port.{Port}
 use Rattle.ae_netlist.specs.declared.cell.Port.TheVariants.{In}
 use Rattle.ae_netlist.specs.Circuit.{Circuit}
 use Rattle.ae_ops.specs.Blocks.{Stream, stream_of, stream_widths}
-use Rattle.ae_lower.specs.Ports.{SizedPort, input_cell, input_ports, lane_ports, ports_from, stream_ports, word_ports}
 use Rattle.ae_lower.specs.PortNets.{AddsInputs, bundles_from, nets_from}
 
 -- ---- lists of ports

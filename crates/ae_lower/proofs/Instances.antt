@@ -18,7 +18,7 @@ use Rattle.ae_rewrite.specs.Scheduled.{node_layouts}
 use Rattle.ae_rewrite.specs.Sound.{item_layout, item_layouts}
 use Rattle.ae_delay.specs.Costs.{NodeTiming}
 use Rattle.ae_flow.specs.Flow.{Callee, callees, first_result, item_words, node_words, words_at}
-use Rattle.ae_flow.specs.Fitted.{streams_of}
+use Rattle.ae_ports.specs.Ports.{streams_of}
 use Rattle.ae_lower.specs.Growth.{Adds, GrowsBy}
 use Rattle.ae_lower.specs.Lowering.{AreChosen, AreItems, AreStanding, IsItem, arrivals_in, instance_costs, lane_nets, timings_in}
 use Rattle.ae_lower.proofs.Growing.{adds_trans, adds_up, by_trans}

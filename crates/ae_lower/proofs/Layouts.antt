@@ -31,11 +31,12 @@ use Rattle.ae_rewrite.specs.Scheduled.{Keys, IsInstance}
 use Rattle.ae_rewrite.specs.Sound.{item_layout, item_layouts}
 use Rattle.ae_rewrite.proofs.Items.{param-type}
 use Rattle.ae_flow.specs.Flow.{words_at}
-use Rattle.ae_flow.specs.Fitted.{streams_of}
+use Rattle.ae_ports.specs.Ports.{streams_of}
 use Rattle.ae_flow.proofs.MeaningLayouts.{LaysOut, AllLaidOut, lays-out}
 use Rattle.ae_flow.proofs.Placed.{item_laid}
 use Rattle.ae_flow.proofs.Widths.{FitWidths, words_of}
 use Rattle.ae_lower.specs.Circuits.{results_of}
+use Rattle.ae_ports.proofs.Columns.{map_map}
 
 -- ---- the words of a value in a layout
 
@@ -101,18 +102,6 @@ pub words_flat : (vs : List ValueTree) (r : ℕ) → words_at (map flat vs) r �
 words_flat [] r = refl
 words_flat (v ∷ vs) zero = refl
 words_flat (v ∷ vs) (suc r) = words_flat vs r
-
--- ---- columns
-
-pub element_columns : (s : StTree) → length (stream_of s).widths ≡ element_words s
-element_columns s = length-map (atom_kinds (element_atom s)) (λ (k : WordKind). k.width) ∙ length-atom_kinds (element_atom s)
-
-pub stream_columns : (s : StTree) → length (stream_widths (stream_of s)) ≡ lanes s * element_words s
-stream_columns s = length-repeated (lanes s) (widths_of (atom_kinds (element_atom s))) ∙ ap (λ k. lanes s * k) (element_columns s)
-
-pub map_map : {A B C : Type 0} (f : B → C) (g : A → B) (xs : List A) → map f (map g xs) ≡ map (λ x. f (g x)) xs
-map_map f g [] = refl
-map_map f g (x ∷ xs) = ap (λ ys. f (g x) ∷ ys) (map_map f g xs)
 
 -- ---- the layouts of parameters and results
 

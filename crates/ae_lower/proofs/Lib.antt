@@ -28,3 +28,4 @@ pub mod Ending
 pub mod Tidied
 pub mod Layouts
 pub mod Blocks
+pub mod Programs

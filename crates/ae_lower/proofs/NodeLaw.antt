@@ -21,7 +21,7 @@ use Rattle.ae_rewrite.specs.Scheduled.{IsFilling, node_layouts}
 use Rattle.ae_rewrite.specs.Sound.{item_layout, item_layouts}
 use Rattle.ae_rewrite.proofs.Grown.{entry}
 use Rattle.ae_flow.specs.Flow.{Callee, item_words, node_words, op_words, words_at}
-use Rattle.ae_flow.specs.Fitted.{streams_of}
+use Rattle.ae_ports.specs.Ports.{streams_of}
 use Rattle.ae_lower.specs.Parts.{plain_part, IsWithin, AllKeep, all_of}
 use Rattle.ae_lower.specs.Growth.{IsBuilt}
 use Rattle.ae_lower.specs.Nodes.{arguments_of, node_part}

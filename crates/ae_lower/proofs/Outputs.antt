@@ -22,7 +22,7 @@ use Rattle.ae_netlist.proofs.Growing.{net_width}
 use Rattle.ae_ops.specs.Waves.{AreNets, HaveOwnWidths}
 use Rattle.ae_ops.specs.Blocks.{Stream, stream_of, stream_widths}
 use Rattle.ae_flow.proofs.Widths.{drop_repeated}
-use Rattle.ae_lower.specs.Ports.{SizedPort, lane_ports, outlet_port, output_ports, stream_ports, word_ports}
+use Rattle.ae_ports.specs.Ports.{SizedPort, lane_ports, outlet_port, output_ports, stream_ports, word_ports}
 use Rattle.ae_lower.specs.Circuits.{item_stream}
 use Rattle.ae_lower.specs.PortNets.{AddsOutputs, net_widths}
 use Rattle.ae_lower.proofs.Inputs.{ports_from_push, sized_port, widths_long, word_ports_push}

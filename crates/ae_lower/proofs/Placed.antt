@@ -28,7 +28,8 @@ use Rattle.ae_delay.specs.Costs.{NodeTiming, all_costs, latest, node_costs, slac
 use Rattle.ae_delay.proofs.Instances.{all_items, node_sound}
 use Rattle.ae_retime.specs.Slacks.{AreSlacks, SlackTables, joint_slacks, joint_uses}
 use Rattle.ae_flow.specs.Flow.{Callee, callee, callee_at, callees, first_result, no_callee}
-use Rattle.ae_flow.specs.Fitted.{FitsBody, FitsNode, FitsOp, elements_stream, streams_of}
+use Rattle.ae_flow.specs.Fitted.{FitsBody, FitsNode, FitsOp, elements_stream}
+use Rattle.ae_ports.specs.Ports.{streams_of}
 use Rattle.ae_flow.specs.Laws.{FlowsFit}
 use Rattle.ae_lower.specs.Growth.{Adds, GrowsBy, IsBuilt}
 use Rattle.ae_lower.specs.Nodes.{CallsNothing, IsReady, arguments_of, node_part, plain_costs}

@@ -10,7 +10,7 @@ use Rattle.ae_ops.specs.Blocks.{Stream, Part, BlockLaw, AllAreWords, AreBundles,
 use Rattle.ae_rewrite.specs.StProgramTree.{StOpTree, StNodeTree, StFuncTree}
 use Rattle.ae_rewrite.specs.Sound.{item_layout, item_layouts}
 use Rattle.ae_flow.specs.Flow.{Callee}
-use Rattle.ae_flow.specs.Fitted.{streams_of}
+use Rattle.ae_ports.specs.Ports.{streams_of}
 use Rattle.ae_lower.specs.Parts.{plain_part}
 use Rattle.ae_lower.specs.Growth.{Adds, GrowsBy, IsBuilt}
 use Rattle.ae_lower.specs.Nodes.{IsNodePart, IsOpPart, arguments_of, node_part, plain_costs}

@@ -26,7 +26,8 @@ use Rattle.ae_rewrite.specs.Scheduled.{IsFilling}
 use Rattle.ae_rewrite.specs.Sound.{FixedFits, IsRawFor, IsSoundOp, IsSpread, item_layout, item_layouts}
 use Rattle.ae_delay.specs.Moving.{constant_move, op_move}
 use Rattle.ae_flow.specs.Flow.{Callee, width_of}
-use Rattle.ae_flow.specs.Fitted.{FitsFold, FitsMove, FitsOp, FitsScan, FitsWord, IsArranged, IsOneOf, streams_of}
+use Rattle.ae_flow.specs.Fitted.{FitsFold, FitsMove, FitsOp, FitsScan, FitsWord, IsArranged, IsOneOf}
+use Rattle.ae_ports.specs.Ports.{streams_of}
 use Rattle.ae_lower.specs.Parts.{part_behind}
 use Rattle.ae_lower.specs.Nodes.{IsNodePart, IsReady, arguments_of}
 use Rattle.ae_lower.proofs.Arranged.{one_size}

@@ -21,11 +21,10 @@ use Rattle.ae_rewrite.specs.StProgramTree.{StFuncTree}
 use Rattle.ae_rewrite.specs.Sound.{IsSoundFunc, item_layout, item_layouts}
 use Rattle.ae_delay.proofs.Instances.{all_items}
 use Rattle.ae_flow.specs.Flow.{callees, flow, item_words, results_in, words_at}
-use Rattle.ae_flow.specs.Fitted.{streams_of}
-use Rattle.ae_lower.specs.Circuits.{MakesResults, columns_in, item_stream, last_of, result_streams}
+use Rattle.ae_ports.specs.Ports.{streams_of, input_waves, columns_in}
+use Rattle.ae_lower.specs.Circuits.{MakesResults, item_stream, last_of, result_streams}
 use Rattle.ae_lower.specs.Lowering.{AreChosen, instance_costs}
 use Rattle.ae_rewrite.specs.Blocks.{input_wave, outlet_net, output_wave}
-use Rattle.ae_lower.specs.Ports.{input_waves}
 use Rattle.ae_lower.specs.PortNets.{bundles_from, nets_from}
 use Rattle.ae_lower.proofs.Inputs.{length-nets_from}
 use Rattle.ae_lower.proofs.Outputs.{all_nets}

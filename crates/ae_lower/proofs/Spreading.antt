@@ -18,8 +18,10 @@ use Rattle.ae_fold.proofs.Blocks.{atom_at, atom_of}
 use Rattle.ae_ops.specs.Waves.{Wave}
 use Rattle.ae_ops.specs.Blocks.{stream_of, BlockLaw, AreWords, AllAreWords, AllHold, HoldsWords}
 use Rattle.ae_flow.specs.Flow.{layout_words, pieces}
-use Rattle.ae_flow.specs.Fitted.{elements_stream, streams_of}
+use Rattle.ae_flow.specs.Fitted.{elements_stream}
+use Rattle.ae_ports.specs.Ports.{streams_of}
 use Rattle.ae_lower.specs.Parts.{plain_part, from_column, lane_waves, mapped_by, AllTake}
+use Rattle.ae_ports.proofs.Columns.{joined_word}
 
 -- the widths of an element's words are as many as its words
 kinds_long : (a : AtomTree) → length (atom_kinds a) ≡ atom_words a
@@ -46,22 +48,6 @@ get_drop (w ∷ ws) (suc n) i d = get_drop ws n i d ∙ ap (λ k. get_or (w ∷ 
 -- word r of piece e, of m words each
 piece_word : (ws : List ℕ) (m e r : ℕ) → r < m → slice_index (take m (drop (e * m) ws)) r ≡ slice_index ws (e * m + r)
 piece_word ws m e r h = get_take (drop (e * m) ws) m r 0 h ∙ get_drop ws (e * m) r 0
-
--- word r of the e-th of lists of m words each, one after the other from number k on
-pub joined_word : (f : ℕ → List ℕ) (m k n e r : ℕ) → ((i : ℕ) → i < k + n → length (f i) ≡ m) → e < n → r < m → slice_index (flat_map f (range_with_len k n)) (e * m + r) ≡ slice_index (f (k + e)) r
-joined_word f m k zero e r long h p = absurd (omega arith)
-joined_word f m k (suc n) zero r long h p =
-    let here : length (f k) ≡ m = long k (omega arith) in
-    let z : zero * m + r ≡ r = omega arith in
-    let s : k + zero ≡ k = omega arith in
-    ap (slice_index (f k ++ flat_map f (range_with_len (k + 1) n))) z ∙ (get_or_append_left (f k) (flat_map f (range_with_len (k + 1) n)) 0 r (omega arith) ∙ ap (λ i. slice_index (f i) r) (sym s))
-joined_word f m k (suc n) (suc e) r long h p =
-    let here : length (f k) ≡ m = long k (omega arith) in
-    let place : suc e * m + r ≡ length (f k) + (e * m + r) = omega arith in
-    let s : k + 1 + e ≡ k + suc e = omega arith in
-    ap (slice_index (f k ++ flat_map f (range_with_len (k + 1) n))) place
-    ∙ (get_or-append-add (f k) (flat_map f (range_with_len (k + 1) n)) (e * m + r) 0
-    ∙ (joined_word f m (k + 1) n e r (λ i l. long i (omega arith)) (omega arith) p ∙ ap (λ i. slice_index (f i) r) s))
 
 -- ---- elements on lanes and in slots
 

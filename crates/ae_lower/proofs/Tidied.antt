@@ -20,10 +20,9 @@ use Rattle.ae_ops.specs.Blocks.{AllHold, Stream, stream_of, stream_widths}
 use Rattle.ae_tidy.specs.Tidied.{IsTidied, ShowTheSame, shown_ports}
 use Rattle.ae_rewrite.specs.StProgramTree.{StFuncTree}
 use Rattle.ae_rewrite.specs.Sound.{IsSoundFunc}
-use Rattle.ae_flow.specs.Fitted.{streams_of}
+use Rattle.ae_ports.specs.Ports.{streams_of, SizedPort, input_cell, input_ports, input_waves, outlet_port, ports_from, reset_port, stream_ports}
 use Rattle.ae_lower.specs.Circuits.{IsCircuitThat, MakesResults}
 use Rattle.ae_rewrite.specs.Blocks.{input_wave, outlet_net}
-use Rattle.ae_lower.specs.Ports.{SizedPort, input_cell, input_ports, input_waves, outlet_port, ports_from, reset_port, stream_ports}
 use Rattle.ae_lower.proofs.Inputs.{length-stream_ports}
 use Rattle.ae_lower.proofs.Results.{holds_same}
 

@@ -26,11 +26,10 @@ use Rattle.ae_rewrite.specs.Sound.{IsSoundFunc}
 use Rattle.ae_delay.specs.Costs.{all_costs}
 use Rattle.ae_delay.specs.Timings.{AreTimes, Times}
 use Rattle.ae_flow.specs.Flow.{callees}
-use Rattle.ae_flow.specs.Fitted.{streams_of}
+use Rattle.ae_ports.specs.Ports.{streams_of, SizedPort, input_cell, input_ports, lane_ports, output_ports, ports_from, reset_port, stream_ports, word_ports}
 use Rattle.ae_lower.specs.Circuits.{IsCircuitThat, MakesResults, last_of, result_streams}
 use Rattle.ae_lower.specs.Growth.{Adds, GrowsBy}
 use Rattle.ae_lower.specs.Lowering.{AreChosen, IsLight, costs_in, instance_costs}
-use Rattle.ae_lower.specs.Ports.{SizedPort, input_cell, input_ports, lane_ports, output_ports, ports_from, reset_port, stream_ports, word_ports}
 use Rattle.ae_lower.specs.PortNets.{AddsOutputs, bundles_from, nets_from}
 use Rattle.ae_lower.proofs.Inputs.{length-nets_from, length-stream_ports}
 use Rattle.ae_lower.proofs.Outputs.{all_nets, outputs_cells}

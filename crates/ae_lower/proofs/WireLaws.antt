@@ -10,7 +10,8 @@ use Rattle.ae_flow.specs.Flow.{parts, words_at}
 use Rattle.ae_ops.specs.Waves.{Wave}
 use Rattle.ae_ops.specs.Blocks.{Stream, BlockLaw, AllAreWords, AllHold, HoldsWords}
 use Rattle.ae_lower.specs.Parts.{plain_part}
-use Rattle.ae_lower.proofs.Spreading.{get_take, get_drop, piece_long, joined_word}
+use Rattle.ae_lower.proofs.Spreading.{get_take, get_drop, piece_long}
+use Rattle.ae_ports.proofs.Columns.{joined_word}
 
 -- ---- words of pairs
 

@@ -14,7 +14,8 @@ use Rattle.ae_rewrite.specs.StProgramTree.{StOpTree, join, first, second, StNode
 use Rattle.ae_rewrite.specs.Sound.{item_layout, item_layouts}
 use Rattle.ae_delay.specs.OwnCosts.{op_costs}
 use Rattle.ae_flow.specs.Flow.{Callee, op_words}
-use Rattle.ae_flow.specs.Fitted.{FitsOp, FitsPair, streams_of}
+use Rattle.ae_flow.specs.Fitted.{FitsOp, FitsPair}
+use Rattle.ae_ports.specs.Ports.{streams_of}
 use Rattle.ae_lower.specs.Parts.{plain_part}
 use Rattle.ae_lower.specs.Wiring.{ArePairs, AreParts}
 use Rattle.ae_lower.specs.Growth.{IsBuilt}

@@ -12,10 +12,9 @@ use Rattle.ae_rewrite.specs.Scheduled.{IsSchedule}
 use Rattle.ae_rewrite.specs.Sound.{item_layout, item_layouts}
 use Rattle.ae_rewrite.specs.Blocks.{output_wave, MakesBlocks}
 use Rattle.ae_flow.specs.Flow.{flow, words_at}
-use Rattle.ae_flow.specs.Fitted.{streams_of}
+use Rattle.ae_ports.specs.Ports.{streams_of, input_cell, input_ports, input_waves, outlet_port, output_ports, reset_port, columns_in}
 use Rattle.ae_lower.specs.Parts.{plain_part}
 use Rattle.ae_lower.specs.Lowering.{instance_costs}
-use Rattle.ae_lower.specs.Ports.{input_cell, input_ports, input_waves, outlet_port, output_ports, reset_port}
 
 -- the number of the program function's instance
 abbrev pub last_of : List StFuncTree → ℕ
@@ -31,10 +30,6 @@ result_streams s = map (item_stream s) s.results
 -- the layouts of an instance's results
 abbrev pub results_of : StFuncTree → List StTree
 results_of s = map (item_layout (item_layouts s)) s.results
-
--- how many columns these streams have
-abbrev pub columns_in : List Stream → ℕ
-columns_in ss = sum_by (λ (s : Stream). length (stream_widths s)) ss
 
 -- in every reset run each block of the arguments' words on the inputs makes the outputs of result r have the words of the
 -- program's result, the latency later

@@ -5,6 +5,5 @@ pub mod Growth
 pub mod Delaying
 pub mod Nodes
 pub mod Lowering
-pub mod Ports
 pub mod PortNets
 pub mod Circuits

@@ -10,7 +10,8 @@ use Rattle.ae_delay.specs.declared.own.OwnCosts.{OwnCosts}
 use Rattle.ae_delay.specs.Costs.{NodeTiming, all_costs, arrivals_of, func_costs, node_timings}
 use Rattle.ae_delay.specs.Timings.{AreArrivals}
 use Rattle.ae_flow.specs.Flow.{Callee, callee, item_words, words_at}
-use Rattle.ae_flow.specs.Fitted.{AreFitted, elements_stream, streams_of}
+use Rattle.ae_flow.specs.Fitted.{AreFitted, elements_stream}
+use Rattle.ae_ports.specs.Ports.{streams_of}
 use Rattle.ae_lower.specs.Parts.{mapped_by, plain_part}
 
 -- item i of an instance as a part, where its blocks arrive so many clocks after the parameters

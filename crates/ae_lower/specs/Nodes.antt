@@ -14,7 +14,8 @@ use Rattle.ae_delay.specs.declared.own.OwnCosts.{OwnCosts}
 use Rattle.ae_delay.specs.OwnCosts.{op_costs}
 use Rattle.ae_delay.specs.Costs.{node_costs}
 use Rattle.ae_flow.specs.Flow.{Callee, op_words}
-use Rattle.ae_flow.specs.Fitted.{FitsNode, streams_of}
+use Rattle.ae_flow.specs.Fitted.{FitsNode}
+use Rattle.ae_ports.specs.Ports.{streams_of}
 use Rattle.ae_lower.specs.Parts.{plain_part, part_behind}
 use Rattle.ae_lower.specs.Wiring.{ArePairs, AreParts}
 

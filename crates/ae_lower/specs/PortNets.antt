@@ -6,7 +6,7 @@ use Rattle.ae_netlist.specs.declared.cell.SizedCell.{SizedCell}
 use Rattle.ae_netlist.specs.declared.cell.Outlet.{Outlet}
 use Rattle.ae_netlist.specs.Circuit.{Circuit, width_of}
 use Rattle.ae_ops.specs.Blocks.{Stream, stream_widths}
-use Rattle.ae_lower.specs.Ports.{SizedPort, input_cell, outlet_port}
+use Rattle.ae_ports.specs.Ports.{SizedPort, input_cell, outlet_port}
 
 -- so many nets, one after the other
 abbrev pub nets_from : (first count : ℕ) → List NetId

@@ -10,7 +10,8 @@ ghost use Rattle.ae_rewrite.specs.StProgramTree.{StFuncTree as Tree, StNodeTree 
 ghost use Rattle.ae_delay.specs.Costs.{NodeTiming};
 ghost use Rattle.ae_retime.specs.Slacks.{AreSlacks};
 ghost use Rattle.ae_flow.specs.Flow.{callees};
-ghost use Rattle.ae_flow.specs.Fitted.{elements_stream, streams_of};
+ghost use Rattle.ae_flow.specs.Fitted.{elements_stream};
+ghost use Rattle.ae_ports.specs.Ports.{streams_of};
 ghost use Rattle.ae_lower.specs.Growth.{Adds, GrowsBy, IsBuilt};
 ghost use Rattle.ae_lower.specs.Lowering.{AreChosen, AreItems, AreStanding, IsItem, IsLight, IsNodeAt, IsTimed, arrivals_in, bodies_part, instance_costs, lane_nets};
 ghost use Rattle.ae_tidy.specs.Places.{AreMarks};

@@ -1,18 +1,9 @@
-// How the block law of a whole follows from those of its parts.
+// What the circuit of a schedule is to its programs.
 
-ghost use Rattle.ae_lower.specs.Laws.{BodiesSpread, DelaysAdd, PartsFollow};
+ghost use Rattle.ae_lower.specs.Laws.{CircuitsAreFor};
 
-/// A law: a delay adds to the latency.
-pub fn delays_add()
-    ensures { DelaysAdd }
-{}
-
-/// A law: a part that follows others, which arrive together, keeps the block law from their inputs on.
-pub fn parts_follow()
-    ensures { PartsFollow }
-{}
-
-/// A law: bodies on lanes, whose blocks follow one another, keep the block law of a map.
-pub fn bodies_spread()
-    ensures { BodiesSpread }
+/// A law: the circuit of a schedule is one for each typed program that has the schedule, by the layouts of its parameters and
+/// results and the costs of its program function.
+pub fn circuits_are_for()
+    ensures { CircuitsAreFor }
 {}

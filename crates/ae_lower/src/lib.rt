@@ -4,10 +4,11 @@
 mod calls;
 mod circuit;
 mod items;
-pub mod laws;
+mod laws;
 mod nodes;
 mod ports;
 mod stages;
 mod wires;
 
 pub use circuit::{Lowered, lower};
+pub use laws::circuits_are_for;

@@ -12,7 +12,7 @@ ghost use Rattle.ae_gather.specs.Gathers.{gather_part, move_of};
 ghost use Rattle.ae_reduce.specs.Reduces.{reduce_part};
 ghost use Rattle.ae_rewrite.specs.StProgramTree.{st_func_tree, st_node_tree, word, join, first, second};
 ghost use Rattle.ae_flow.specs.Flow.{Callee, width_of};
-ghost use Rattle.ae_flow.specs.Fitted.{streams_of};
+ghost use Rattle.ae_ports.specs.Ports.{streams_of};
 ghost use Rattle.ae_lower.specs.Growth.{Adds, GrowsBy, IsBuilt};
 ghost use Rattle.ae_lower.specs.Nodes.{CallsNothing, IsNodePart, IsReady, IsReadyNode, PairsArguments, TakesWords, argument_words, arguments_of, moved_fold, node_part, plain_costs};
 

@@ -11,8 +11,7 @@ ghost use Rattle.ae_ops.specs.Waves.{AreNets, HaveOwnWidths};
 ghost use Rattle.ae_ops.specs.Blocks.{stream_of, stream_widths};
 ghost use Rattle.ae_rewrite.specs.StProgramTree.{st_func_tree, st_trees};
 ghost use Rattle.ae_rewrite.specs.Sound.{IsSoundFunc};
-ghost use Rattle.ae_flow.specs.Fitted.{streams_of};
-ghost use Rattle.ae_lower.specs.Ports.{input_cell, input_ports, output_ports, stream_ports, word_ports};
+ghost use Rattle.ae_ports.specs.Ports.{streams_of, input_cell, input_ports, output_ports, stream_ports, word_ports};
 ghost use Rattle.ae_lower.specs.Circuits.{item_stream, result_streams};
 ghost use Rattle.ae_lower.specs.PortNets.{AddsInputs, AddsOutputs, bundles_from, net_widths};
 

@@ -22,10 +22,9 @@ use Rattle.ae_parse.specs.Rows.{row_words, words_in}
 use Rattle.ae_eval.specs.Stack.{IsTyped, kinds_of}
 use Rattle.ae_eval.specs.Lines.{input_types}
 use Rattle.ae_rewrite.specs.StProgramTree.{StFuncTree}
-use Rattle.ae_flow.specs.Fitted.{streams_of}
+use Rattle.ae_ports.specs.Ports.{streams_of, SizedPort, input_cell, input_ports, lane_ports, ports_from, reset_port, word_ports}
 use Rattle.ae_flow.proofs.MeaningLayouts.{AllLaidOut, LaysOut}
 use Rattle.ae_lower.specs.Circuits.{IsCircuitOf}
-use Rattle.ae_lower.specs.Ports.{SizedPort, input_cell, input_ports, lane_ports, ports_from, reset_port, word_ports}
 use Rattle.ae_play.specs.Fed.{blocks_of, fed_rows}
 use Rattle.ae_play.specs.Fits.{CanBeFed, FitBlocks, HasColumns, lane_kinds, value_kinds}
 use Rattle.ae_rewrite.specs.Interface.{parameter_types}

@@ -15,7 +15,7 @@ pub returns-clause-compiled : goal.returns-clause-compiled
 returns-clause-compiled c = record {
   costed = c.requires;
   compiled = compiled_is (program_tree c.args.costed.program) c.args.costed.slowdown (st_func_trees c.args.costed.schedule) c.args.costed.timing c.in_ok-lowered.lowered.netlist c.in_ok-lowered.lowered.marks.items
-      (report_tree c.in_ok-report.report) (map note_tree c.in_ok-notes.notes.items) c.requires
+      (report_tree c.in_ok-report.report) (map note_tree c.in_ok-notes.notes.items) c.circuits_are_for.ensures c.requires
       (record {
         reports = c.in_ok-report.ensures;
         circuits = c.in_ok-lowered.ensures.circuit;

@@ -10,7 +10,7 @@ use Rattle.ae_rewrite.specs.Sound.{item_layouts}
 use Rattle.ae_delay.specs.declared.own.OwnCosts.{OwnCosts}
 use Rattle.ae_delay.specs.Costs.{all_costs, latest, node_costs}
 use Rattle.ae_flow.specs.Flow.{callees}
-use Rattle.ae_flow.specs.Fitted.{streams_of}
+use Rattle.ae_ports.specs.Ports.{streams_of}
 use Rattle.ae_lower.specs.Growth.{Adds, GrowsBy, IsBuilt}
 use Rattle.ae_lower.specs.Delaying.{AreDelayed, delay_load}
 use Rattle.ae_lower.specs.Nodes.{arguments_of, node_part, plain_costs}

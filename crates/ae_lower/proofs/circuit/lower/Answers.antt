@@ -8,7 +8,7 @@ use Rattle.ae_sttype.specs.declared.st_type.StType.{StType}
 use Rattle.ae_sttype.specs.StTree.{st_tree}
 use Rattle.ae_rewrite.specs.StProgramTree.{StFuncTree, st_func_tree, st_func_trees, st_trees}
 use Rattle.ae_ops.specs.Blocks.{AreBundles}
-use Rattle.ae_flow.specs.Fitted.{streams_of}
+use Rattle.ae_ports.specs.Ports.{streams_of}
 use Rattle.ae_lower.specs.Circuits.{IsCircuitOf, IsCircuitThat, MakesResults, last_of}
 use Rattle.ae_clocked.specs.Phases.{Kept}
 use Rattle.ae_lower.specs.Growth.{Adds, GrowsBy}

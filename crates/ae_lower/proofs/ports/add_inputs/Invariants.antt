@@ -1,7 +1,6 @@
 use Rattle.std.proofs.Common.{◌≡◌, ◌≤◌, ◌++◌, length, map, take}
 use Rattle.ae_rewrite.specs.StProgramTree.{st_trees}
-use Rattle.ae_flow.specs.Fitted.{streams_of}
-use Rattle.ae_lower.specs.Ports.{input_cell, input_ports}
+use Rattle.ae_ports.specs.Ports.{streams_of, input_cell, input_ports}
 use Rattle.ae_lower.specs.PortNets.{bundles_from}
 use Rattle.ae_lower.proofs.ports.add_inputs.Given as goal
 

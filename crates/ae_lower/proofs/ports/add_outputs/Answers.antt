@@ -7,7 +7,7 @@ use Rattle.ae_netlist.specs.declared.cell.Port.TheVariants.{Out}
 use Rattle.ae_sttype.specs.StTree.{element_words, lanes, st_tree}
 use Rattle.ae_ops.specs.Waves.{AreNets, HaveOwnWidths}
 use Rattle.ae_ops.specs.Blocks.{stream_of, stream_widths}
-use Rattle.ae_lower.specs.Ports.{lane_ports}
+use Rattle.ae_ports.specs.Ports.{lane_ports}
 use Rattle.ae_lower.specs.PortNets.{AddsOutputs}
 use Rattle.ae_lower.proofs.Inputs.{widths_long}
 use Rattle.ae_lower.proofs.Outputs.{columns_long, lane_inside, lanes_more, outputs_cells, own_widths, stretch_own}

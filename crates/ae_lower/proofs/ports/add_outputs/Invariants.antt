@@ -2,7 +2,7 @@ use Rattle.std.proofs.Common.{◌*◌, take}
 use Rattle.ae_netlist.specs.declared.cell.Port.TheVariants.{Out}
 use Rattle.ae_sttype.specs.StTree.{st_tree}
 use Rattle.ae_ops.specs.Blocks.{stream_of}
-use Rattle.ae_lower.specs.Ports.{lane_ports}
+use Rattle.ae_ports.specs.Ports.{lane_ports}
 use Rattle.ae_lower.specs.PortNets.{AddsOutputs}
 use Rattle.ae_lower.proofs.ports.add_outputs.Given as goal
 

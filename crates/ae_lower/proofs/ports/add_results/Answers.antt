@@ -8,7 +8,7 @@ use Rattle.ae_sttype.specs.StTree.{StTree, st_tree}
 use Rattle.ae_rewrite.specs.StProgramTree.{st_func_tree}
 use Rattle.ae_ops.specs.Blocks.{stream_of}
 use Rattle.ae_lower.specs.Circuits.{item_stream}
-use Rattle.ae_lower.specs.Ports.{output_ports, stream_ports}
+use Rattle.ae_ports.specs.Ports.{output_ports, stream_ports}
 use Rattle.ae_lower.specs.PortNets.{AddsOutputs}
 use Rattle.ae_lower.proofs.Outputs.{all_nets, result_few, result_grows, result_nets, result_sized, results_few, results_more}
 use Rattle.ae_lower.proofs.ports.add_results.Goals as goal

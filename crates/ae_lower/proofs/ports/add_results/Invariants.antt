@@ -2,7 +2,7 @@ use Rattle.std.proofs.Common.{◌≤◌, ◌*◌, List, flat_map, length, map, t
 use Rattle.ae_netlist.specs.declared.cell.NetId.{NetId}
 use Rattle.ae_rewrite.specs.StProgramTree.{st_func_tree}
 use Rattle.ae_lower.specs.Circuits.{item_stream}
-use Rattle.ae_lower.specs.Ports.{output_ports}
+use Rattle.ae_ports.specs.Ports.{output_ports}
 use Rattle.ae_lower.specs.PortNets.{AddsOutputs}
 use Rattle.ae_lower.proofs.ports.add_results.Given as goal
 

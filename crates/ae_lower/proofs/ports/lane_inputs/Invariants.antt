@@ -1,7 +1,7 @@
 use Rattle.std.proofs.Common.{take, map}
 use Rattle.ae_word.specs.AtomTree.{WordKind, atom_kinds, atom_tree}
 use Rattle.ae_netlist.specs.declared.cell.Port.TheVariants.{In}
-use Rattle.ae_lower.specs.Ports.{word_ports}
+use Rattle.ae_ports.specs.Ports.{word_ports}
 use Rattle.ae_lower.specs.PortNets.{AddsInputs}
 use Rattle.ae_lower.proofs.ports.lane_inputs.Given as goal
 

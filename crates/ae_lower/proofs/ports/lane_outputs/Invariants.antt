@@ -1,6 +1,6 @@
 use Rattle.std.proofs.Common.{take}
 use Rattle.ae_netlist.specs.declared.cell.Port.TheVariants.{Out}
-use Rattle.ae_lower.specs.Ports.{word_ports}
+use Rattle.ae_ports.specs.Ports.{word_ports}
 use Rattle.ae_lower.specs.PortNets.{AddsOutputs, net_widths}
 use Rattle.ae_lower.proofs.ports.lane_outputs.Given as goal
 

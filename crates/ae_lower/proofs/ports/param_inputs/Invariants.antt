@@ -2,7 +2,7 @@ use Rattle.std.proofs.Common.{[]}
 use Rattle.ae_netlist.specs.declared.cell.Port.TheVariants.{In}
 use Rattle.ae_sttype.specs.StTree.{st_tree}
 use Rattle.ae_ops.specs.Blocks.{stream_of}
-use Rattle.ae_lower.specs.Ports.{lane_ports}
+use Rattle.ae_ports.specs.Ports.{lane_ports}
 use Rattle.ae_lower.specs.PortNets.{AddsInputs}
 use Rattle.ae_lower.proofs.ports.param_inputs.Given as goal
 

@@ -1,5 +1,5 @@
 -- The ports of a circuit, and the words that stand on them.
-use Rattle.std.specs.Prelude.{ℕ, zero, suc, ◌+◌, List, [], ◌∷◌, ◌++◌, length}
+use Rattle.std.specs.Prelude.{ℕ, zero, suc, ◌+◌, List, [], ◌∷◌, ◌++◌, length, map, sum_by}
 use Rattle.ae_netlist.specs.declared.cell.Port.{Port}
 use Rattle.ae_netlist.specs.declared.cell.Port.TheVariants.{Reset, In, Out}
 use Rattle.ae_netlist.specs.declared.cell.Cell.TheVariants.{Input}
@@ -9,7 +9,18 @@ use Rattle.ae_netlist.specs.Circuit.{width_of}
 use Rattle.ae_netlist.specs.Runs.{Clock}
 use Rattle.ae_rewrite.specs.Blocks.{input_wave}
 use Rattle.ae_ops.specs.Waves.{Wave}
-use Rattle.ae_ops.specs.Blocks.{Stream, stream_widths}
+use Rattle.ae_ops.specs.Blocks.{Stream, stream_of, stream_widths}
+use Rattle.ae_sttype.specs.StTree.{StTree}
+
+-- ---- columns
+
+-- where the words of these layouts stand
+abbrev pub streams_of : List StTree → List Stream
+streams_of ss = map stream_of ss
+
+-- how many columns these streams have
+abbrev pub columns_in : List Stream → ℕ
+columns_in ss = sum_by (λ (s : Stream). length (stream_widths s)) ss
 
 -- ---- ports
 

@@ -1,0 +1,172 @@
+#!/usr/bin/env python3
+"""The definitions that a reader of a contract has to believe: all that its clauses cite, and what these cite in turn, over the
+`use` lines of specs/ and the types of the code that clauses name.
+
+    definitions.py             compares docs/DEFINITIONS.md, and the number in README.md, with what is there
+    definitions.py --write     writes docs/DEFINITIONS.md anew
+    definitions.py RECORD      counts for one definition, as ae_compile.Building.IsListing: files, definitions and bare lines
+
+Lines are counted bare: without comments, blank lines and imports."""
+import pathlib
+import re
+import sys
+
+TOP = pathlib.Path(__file__).resolve().parent.parent
+CRATES = TOP / "crates"
+WORD = re.compile(r"[^\W\d](?:[\w'-])*|[^\s\w(){}\[\],;.\"]+")
+USE = re.compile(r"^\s*(?:ghost )?use Rattle\.(\w+)\.specs\.([\w.]+?)(?:\.\{([^}]*)\}| as (\w+))?;?\s*$", re.M)
+HEAD = re.compile(r"^(?:pub )?(?:abbrev |unfoldable )?(?:pub )?(?:record |data )?([^\s:]+)(?: [({:]| :|\s*$)")
+
+
+class File:
+    """A file of specs/: its definitions with their bare lines, and what its imports name."""
+
+    def __init__(self, path):
+        self.path, self.definitions, self.names, self.aliases = path, {}, {}, {}
+        text = path.read_text()
+        for crate, module, names, alias in USE.findall(text):
+            if alias:
+                self.aliases[alias] = crate, module
+            for name in filter(None, (it.strip() for it in names.split(","))):
+                first, _, last = name.partition(" as ")
+                self.names[(last or first).strip("◌")] = crate, module, first
+        current = None
+        for line in text.split("\n"):
+            if not line.strip() or line.lstrip().startswith(("--", "use ")):
+                continue
+            if not line[0].isspace():
+                current = self.head(line, current)
+            if current:
+                self.definitions[current].append(line)
+
+    def head(self, line, current):
+        """The definition that a line at the margin belongs to: one that it begins, or that before it."""
+        begins = re.match(r"(pub |abbrev |unfoldable |record |data )", line) or re.match(r"[^\s(]+ :", line)
+        found = HEAD.match(line)
+        if begins and found:
+            self.definitions.setdefault(found[1], [])
+            return found[1]
+        return current
+
+
+FILES = {}
+
+
+def file_of(crate, module):
+    path = CRATES / crate / "specs" / (module.replace(".", "/") + ".antt")
+    if path not in FILES:
+        FILES[path] = File(path) if path.is_file() else None
+    return FILES[path]
+
+
+def type_lines(crate, name):
+    """The lines of a type of the code, and the file that they stand in."""
+    for path in sorted((CRATES / crate / "src").rglob("*.rt")):
+        text = path.read_text()
+        found = re.search(rf"^pub (?:struct|enum) {name}\b.*?(?:^}}|;$)", text, re.M | re.S)
+        if found:
+            return path, [it for it in found[0].split("\n") if it.strip() and not it.lstrip().startswith("//")]
+    return None, []
+
+
+def cited(file, text):
+    """What a text in a file names: (crate, module, name) of each definition, or (crate, None, name) of a type of the code."""
+    found = set()
+    for crate, module, name in re.findall(r"\b(\w+)\.()(\w+)", text):
+        if crate in file.aliases:
+            found.add((*file.aliases[crate], name))
+    for word in WORD.findall(text):
+        if word in file.names:
+            found.add(file.names[word])
+    return found
+
+
+def closure(roots):
+    """All definitions that the roots lead to: name to bare lines, by path."""
+    seen, waiting, counted = set(), list(roots), {}
+    while waiting:
+        crate, module, name = waiting.pop()
+        if (crate, module, name) in seen or crate == "std":
+            continue
+        seen.add((crate, module, name))
+        if module.startswith("declared"):
+            kind = re.sub(r"\.TheVariants$", "", module).rpartition(".")[2]
+            path, lines = type_lines(crate, kind)
+            if path:
+                counted.setdefault(path, {})[kind] = lines
+            continue
+        file = file_of(crate, module)
+        if not file or name.strip("◌") not in {it.strip("◌") for it in file.definitions}:
+            continue
+        own = next(it for it in file.definitions if it.strip("◌") == name.strip("◌"))
+        lines = file.definitions[own]
+        counted.setdefault(file.path, {})[own] = lines
+        text = "\n".join(lines)
+        waiting += cited(file, text)
+        waiting += [(crate, module, it) for it in file.definitions if it != own and it.strip("◌") in set(WORD.findall(text))]
+    return counted
+
+
+def clauses(path, function):
+    """What the clauses of a function of the code name."""
+    text = path.read_text()
+    head = re.search(rf"fn {function}\b.*?\n\{{\n", text, re.S)[0]
+    file = File.__new__(File)
+    file.definitions, file.names, file.aliases = {}, {}, {}
+    for crate, module, names, _ in USE.findall(text):
+        for name in filter(None, (it.strip() for it in names.split(","))):
+            first, _, last = name.partition(" as ")
+            file.names[(last or first).strip("◌")] = crate, module, first
+    return cited(file, head)
+
+
+def sums(counted):
+    return len(counted), sum(len(it) for it in counted.values()), sum(len(lines) for it in counted.values() for lines in it.values())
+
+
+def page():
+    counted = closure(clauses(CRATES / "ae_tool" / "src" / "call.rt", "aeth"))
+    files, names, lines = sums(counted)
+    order = [line.split(":")[0] for line in (TOP / "crates.txt").read_text().split("\n") if ":" in line and not line.startswith("#")]
+    rows = []
+    for path in sorted(counted, key=lambda it: (-order.index(it.relative_to(CRATES).parts[0]), str(it))):
+        own = counted[path]
+        inside = list(FILES[path].definitions) if path in FILES else sorted(own)
+        total = sum(1 for line in path.read_text().split("\n") if line.strip())
+        rows.append(f"| `{path.relative_to(CRATES)}` | {sum(len(it) for it in own.values())} of {total} | {', '.join(f'`{it}`' for it in inside if it in own)} |")
+    return lines, f"""# What the contract of `aeth` cites
+
+Made by `tests/definitions.py --write`, and compared by the gate. The clauses of `aeth` (`crates/ae_tool/src/call.rt`) mean what
+these definitions say: {names} definitions and types of the code in {files} files, {lines:,} lines without comments, blank
+lines and imports. From the top call down:
+
+| File under `crates/` | Lines | Definitions |
+|---|---|---|
+""" + "\n".join(rows) + "\n"
+
+
+def main(*words):
+    if words and words[0] != "--write":
+        crate, module, name = words[0].split(".")
+        counted = closure([(crate, module, name)])
+        print("files {}, definitions {}, bare lines {}".format(*sums(counted)))
+        return 0
+    lines, text = page()
+    at = TOP / "docs" / "DEFINITIONS.md"
+    if words:
+        at.write_text(text)
+        print(f"definitions: {lines} lines")
+        return 0
+    failed = 0
+    if not at.is_file() or at.read_text() != text:
+        print("definitions: docs/DEFINITIONS.md is not what tests/definitions.py --write makes")
+        failed += 1
+    if f"{lines:,} lines" not in (TOP / "README.md").read_text():
+        print(f"definitions: README.md does not tell {lines:,} lines")
+        failed += 1
+    print(f"definitions: {2 - failed} passed, {failed} failed")
+    return failed > 0
+
+
+if __name__ == "__main__":
+    sys.exit(main(*sys.argv[1:]))
