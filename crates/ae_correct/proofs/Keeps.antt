@@ -35,10 +35,10 @@ use Rattle.ae_correct.proofs.Clocks.{column_in, column_out, resets}
 -- ---- waves that agree hold the same words
 
 -- two waves have the same words in the clocks and columns of a layout from clock k on
-abbrev Agree : (k : ℕ) → StTree → (wave other : Wave) → Type 0
+abbrev pub Agree : (k : ℕ) → StTree → (wave other : Wave) → Type 0
 Agree k s wave other = (c q : ℕ) → k ≤ c → c < k + time s → q < length (stream_widths (stream_of s)) → wave c q ≡ other c q
 
-holds_alike : (k : ℕ) (s : StTree) (wave other : Wave) (ws : List ℕ) → IsInSize s → Agree k s wave other → Holds other k (element_words s) (slots s) ws → Holds wave k (element_words s) (slots s) ws
+pub holds_alike : (k : ℕ) (s : StTree) (wave other : Wave) (ws : List ℕ) → IsInSize s → Agree k s wave other → Holds other k (element_words s) (slots s) ws → Holds wave k (element_words s) (slots s) ws
 holds_alike k s wave other ws size agree h e j w found below =
     let within : e < st_atoms s = (let i = slice_get_within (slots s) e w found in omega (arith, i, length-slots s)) in
     let is : slot_of s e ≡ w = get_or_from_slice_get (slots s) e w (slot_at 0 0) found in

@@ -58,12 +58,12 @@ port_in (Input port) other = port
 port_in _ other = other
 
 -- the port of an input, by its number
-record IsPortAt (ports : List SizedPort) (k : ℕ) (port : Port) : Type 0 where
-  sized : SizedPort
-  found : slice_get ports k ≡ Some sized
-  is : sized.port ≡ port
+pub record IsPortAt (ports : List SizedPort) (k : ℕ) (port : Port) : Type 0 where
+  pub sized : SizedPort
+  pub found : slice_get ports k ≡ Some sized
+  pub is : sized.port ≡ port
 
-input_at : (cells : List SizedCell) (ports : List SizedPort) (k width : ℕ) (port : Port) → HaveInputs cells ports → slice_get cells k ≡ Some (record { width = width; cell = Input port }) → IsPortAt ports k port
+pub input_at : (cells : List SizedCell) (ports : List SizedPort) (k width : ℕ) (port : Port) → HaveInputs cells ports → slice_get cells k ≡ Some (record { width = width; cell = Input port }) → IsPortAt ports k port
 input_at cells ports k width port h e =
     let rest : List SizedCell = drop (length ports) cells in
     let c : SizedCell = record { width = width; cell = Input port } in
@@ -101,7 +101,7 @@ in_at param lane word = In param lane word
 abbrev out_at : (result lane word : ℕ) → Port
 out_at result lane word = Out result lane word
 
-inputs_apart : (ss : List Stream) (m n : ℕ) (a b : SizedPort) → slice_get (reset_port ∷ input_ports ss) m ≡ Some a → slice_get (reset_port ∷ input_ports ss) n ≡ Some b → a.port ≡ b.port → m ≡ n
+pub inputs_apart : (ss : List Stream) (m n : ℕ) (a b : SizedPort) → slice_get (reset_port ∷ input_ports ss) m ≡ Some a → slice_get (reset_port ∷ input_ports ss) n ≡ Some b → a.port ≡ b.port → m ≡ n
 inputs_apart ss zero zero a b f g e = refl
 inputs_apart ss zero (suc n) a b f g e =
     let r = port_from in_at 0 ss n b g in
@@ -129,7 +129,7 @@ outputs_apart ss m n a b f g e =
 -- ---- how many ports there are
 
 -- layouts in size
-abbrev AreSmall : List StTree → Type 0
+abbrev pub AreSmall : List StTree → Type 0
 AreSmall ss = (q : ℕ) (s : StTree) → slice_get ss q ≡ Some s → IsInSize s
 
 product_le : (a b c m : ℕ) → a ≤ b → b * c ≤ m → a * c ≤ m
@@ -141,7 +141,7 @@ factor_le a b m p h = grind arith
 few_columns : (s : StTree) → IsInSize s → length (stream_widths (stream_of s)) ≤ 16384
 few_columns s h = (let p = product_le (lanes s) (st_atoms s) (element_words s) 16384 (lanes-le-atoms s h.lengths) h.in_words in omega (arith, p, stream_columns s))
 
-all_columns : (ss : List StTree) → AreSmall ss → columns_in (streams_of ss) ≤ length ss * 16384
+pub all_columns : (ss : List StTree) → AreSmall ss → columns_in (streams_of ss) ≤ length ss * 16384
 all_columns [] h = omega arith
 all_columns (s ∷ ss) h = omega (arith, columns_more (stream_of s) (streams_of ss), few_columns s (h 0 s refl), all_columns ss (λ q t e. h (suc q) t e))
 
@@ -161,7 +161,7 @@ few_numbers at ss n p small few r =
     let words : element_words m.from ≤ 16384 = factor_le (st_atoms m.from) (element_words m.from) 16384 (atoms_pos m.from size.lengths) size.in_words in
     record { number = omega (arith, within); lane_few = omega (arith, lane, lanes_below m.from size); word_few = omega (arith, word, words, element_columns m.from) }
 
-input_port_fits : (ss : List StTree) (k : ℕ) (p : SizedPort) → AreSmall ss → length ss ≤ 8 → slice_get (reset_port ∷ input_ports (streams_of ss)) k ≡ Some p → PortFits p.port
+pub input_port_fits : (ss : List StTree) (k : ℕ) (p : SizedPort) → AreSmall ss → length ss ≤ 8 → slice_get (reset_port ∷ input_ports (streams_of ss)) k ≡ Some p → PortFits p.port
 input_port_fits ss zero p small few h = subst (λ (x : SizedPort). PortFits x.port) (same_Some reset_port p h) tt
 input_port_fits ss (suc k) p small few h =
     let r = port_from in_at 0 (streams_of ss) k p h in

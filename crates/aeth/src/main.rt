@@ -1,6 +1,10 @@
-//! The compiler as a program: its words name a job, standard input is the job's input and standard output its result.
+//! The compiler as a program: its words name a job, standard input is the job's input and standard output its result. On
+//! standard error it says more about a refusal, to a person; no other program has to read that.
 #![tactic(auto)]
 
+mod advice;
+
+use advice::advice;
 use ae_io::{StdSink, StdSource};
 use ae_tool::aeth;
 use std::alloc::Global;
@@ -34,5 +38,9 @@ fn main(rt: HostRuntime) -> ExitCode {
     let mut source = StdSource::new(rt.reader());
     let mut sink = StdSink::new(io::writer(&rt));
     let status = aeth(rt.alloc(), &words, &mut source, &mut sink);
+    if let Some(text) = advice(status) {
+        // Where standard error is closed, nobody wants to read it.
+        let _ = rt.eprintln(text);
+    }
     ExitCode::from(status.number())
 }

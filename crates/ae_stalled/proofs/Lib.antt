@@ -1,0 +1,4 @@
+pub mod Enabled
+pub mod Ports
+pub mod Built
+pub mod Written
