@@ -30,5 +30,5 @@ pub record IsCompiled (p : ProgramTree) (slowdown : ℕ) (instances : List StFun
   pub reported : report ≡ report_of slowdown instances instance
   pub laid : IsLaidOut p slowdown report.ins report.outs
   pub circuit : IsCircuitFor p slowdown (main_costs instances) report.ins report.outs n
-  pub noted : AreLineNotes p instance (length n.cells) notes
+  pub noted : AreLineNotes p instances instance n.cells notes
   pub printed : ArePrinted notes
