@@ -64,7 +64,8 @@ def cells(name, slowdown):
         (path / "module.v").write_text(aeth(["build", slowdown], text_of(name))[1])
         synthesis = "read_verilog module.v; synth_ice40 -top aeth -json module.json"
         subprocess.run(["yosys", "-q", "-p", synthesis], cwd=folder, check=True, capture_output=True)
-        packing = ["nextpnr-ice40", "--hx8k", "--package", "ct256", "--json", "module.json", "--pcf-allow-unconstrained", "--pack-only"]
+        packing = ["nextpnr-ice40", "--hx8k", "--package", "ct256", "--json", "module.json"]
+        packing += ["--pcf-allow-unconstrained", "--pack-only"]
         said = subprocess.run(packing, cwd=folder, check=True, capture_output=True, text=True).stderr
     return [re.search(rf"ICESTORM_{kind}: +(\d+)", said)[1] for kind in ("LC", "RAM")]
 
@@ -95,7 +96,8 @@ def main(words):
         PAGE.write_text(after)
         return 0
     same = before == after
-    print(f"figures: {int(same)} passed, {int(not same)} failed" + ("" if same else ": examples/figures.py --write makes them anew"))
+    how = "" if same else ": examples/figures.py --write makes them anew"
+    print(f"figures: {int(same)} passed, {int(not same)} failed{how}")
     return int(not same)
 
 

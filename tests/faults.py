@@ -26,7 +26,8 @@ def answer(words, source, room=None):
         resource.setrlimit(resource.RLIMIT_FSIZE, (room, room))
 
     with tempfile.TemporaryFile() as sink:
-        done = subprocess.run([AETH, *words], stdin=source, stdout=sink, preexec_fn=None if room is None else limit)
+        before = None if room is None else limit
+        done = subprocess.run([AETH, *words], stdin=source, stdout=sink, stderr=subprocess.DEVNULL, preexec_fn=before)
         sink.seek(0)
         return done.returncode, sink.read()
 

@@ -25,6 +25,7 @@ PROGRAMS = [
     ("a name used twice", "fn main x:u8\ny = not x\ny = not y\nend y\n", "bad line 3", 2),
     ("a + b", "fn main a:u8 b:u8\nc = a + b\nend c\n", "bad line 2", 2),
     ("add(a, b)", "fn main a:u8 b:u8\nc = add(a, b)\nend c\n", "bad line 2", 2),
+    ("an operator in place of a function", "fn main a:[4]u8\nb = map not a\nend b\n", "bad line 2", 2),
     ("no blank beside =", "fn main a:u8 b:u8\nc=add a b\nend c\n", "bad line 2", 2),
     ("a literal as argument", "fn main a:u8\nb = add a 1\nend b\n", "bad line 2", 2),
     ("const i16 -1", "aeth 2\nfn main a:i16\nm = const i16 -1\nend m\n", "bad line 3", 2),

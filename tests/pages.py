@@ -3,6 +3,7 @@
 behind `$ `, and below each what it prints, standard error too. They run at the top of a stand-in for the repository, which is
 the page's own and forgotten afterwards. A command whose tool is missing is skipped. With --write the pages are written anew;
 names behind it, as FPGA, choose pages."""
+import os
 import pathlib
 import re
 import shutil
@@ -40,8 +41,9 @@ def commands(block):
 def printed(command, folder):
     """What a command prints."""
     words = "".join(line[2:] for line in command.splitlines(keepends=True))
-    done = subprocess.run(["bash", "-c", words], cwd=folder, stdin=subprocess.DEVNULL, stdout=subprocess.PIPE, stderr=subprocess.STDOUT)
-    text = done.stdout.decode()
+    how = {"stdin": subprocess.DEVNULL, "stdout": subprocess.PIPE, "stderr": subprocess.STDOUT}
+    how["env"] = os.environ | {"PYTHONDONTWRITEBYTECODE": "1"}
+    text = subprocess.run(["bash", "-c", words], cwd=folder, **how).stdout.decode()
     return text + "\n" * (text != "" and not text.endswith("\n"))
 
 

@@ -18,7 +18,7 @@ passed=0
 failed=0
 for ((k = 0; k < modules; k++)); do
   { cat "$folder/$k.v"; echo '%%'; cat "$folder/$k.rows"; } >"$folder/input"
-  ./aeth sim "$(cat "$folder/$k.fill")" <"$folder/input" >"$folder/ours" 2>"$folder/told"
+  "${AETH:-./aeth}" sim "$(cat "$folder/$k.fill")" <"$folder/input" >"$folder/ours" 2>"$folder/told"
   iverilog -g2001 -o "$folder/play" "$folder/$k.v" "$folder/$k.bench.v" && vvp -n "$folder/play" >"$folder/theirs"
   if [ -s "$folder/theirs" ] && cmp -s "$folder/ours" "$folder/theirs"; then
     passed=$((passed + 1))

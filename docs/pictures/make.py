@@ -3,7 +3,6 @@
 whether they are as they stand there; with --scene it draws examples/scene.pgm, which the first picture begins with."""
 import base64
 import pathlib
-import re
 import struct
 import sys
 import zlib
@@ -87,8 +86,8 @@ def drawn_scene():
     """The scene, and what two examples make of it."""
     seen = read_pgm((TOP / "examples" / "scene.pgm").read_bytes())
     drawing = Drawing(3 * 264 + 8, 232)
-    for place, (words, name) in enumerate([("scene.pgm", ""), ("gaussian_rows", "gaussian_rows"), ("sobel_rows", "sobel_rows")]):
-        shown = filtered((TOP / "examples" / f"{name}.aeth").read_text(), seen) if name else seen
+    for place, words in enumerate(("scene.pgm", "gaussian_rows", "sobel_rows")):
+        shown = filtered((TOP / "examples" / f"{words}.aeth").read_text(), seen) if place else seen
         drawing.image(8 + place * 264, 8, 256, 192, png(shown))
         drawing.text(8 + place * 264 + 128, 222, words, 14, "middle")
     return drawing
@@ -116,39 +115,44 @@ def drawn_layouts():
                     else:
                         drawing.box(x, y, 34, 26, "white", ".", INK)
         top += 28 * lanes + 50
-    drawing.text(70, top - 12, "clocks from the left to the right; a colour is a block, and a point is a slot without an element", 12)
+    drawing.text(70, top - 12, "clocks from the left to the right; a colour is a block, a point a slot without an element", 12)
     return drawing
 
 
-def drawn_pipeline():
-    """The lines of the blur at the slowdown 16, each at the clock in which it arrives."""
+def blur_lines():
+    """Name, arrival, operator and arguments of each line of the blur's program function at the slowdown 16."""
     text = (TOP / "examples" / "blur.aeth").read_text()
-    answer = aeth(["plan", 16], text)[1].splitlines()
-    items = [line.split(" ", 3) for line in answer[4:]]
     lines = text.splitlines()
-    sources = {name: re.split(r"[ =]+", lines[int(number) - 1]) for number, name, _, _ in items if name != "end"}
+    for answer in aeth(["plan", 16], text)[1].splitlines()[4:]:
+        number, name, arrival, _ = answer.split(" ", 3)
+        fields = lines[int(number) - 1].split()
+        if fields[0] == "fn":
+            yield name, int(arrival), "parameter", []
+        elif fields[0] == "end":
+            yield " ".join(fields), int(arrival), "", fields[1:]
+        else:
+            yield name, int(arrival), " ".join(fields[2:4]), fields[3:]
+
+
+def drawn_pipeline():
+    """The lines of the blur, each at the clock in which it arrives."""
     drawing = Drawing(720, 290)
-    found, used = {}, {}
     for clock in range(3):
-        x = 60 + 230 * clock
-        drawing.line([(x + 70, 40), (x + 70, 270)], PALE)
-        drawing.text(x + 70, 28, f"clock {clock}", 13, "middle")
-    for number, name, arrival, _ in items:
-        clock = int(arrival)
+        x = 130 + 230 * clock
+        drawing.line([(x, 40), (x, 270)], PALE)
+        drawing.text(x, 28, f"clock {clock}", 13, "middle")
+    found, used = {}, {}
+    for name, clock, operator, arguments in blur_lines():
         used[clock] = used.get(clock, -1) + 1
-        place = 60 + 230 * clock, 50 + 72 * used[clock]
-        shown = name if name != "end" else lines[int(number) - 1]
-        operator = " ".join(sources[name][1:3]) if name in sources and sources[name][0] != "fn" else ""
-        for argument in (sources[name][1:] if name in sources and sources[name][0] != "fn" else [lines[int(number) - 1].split()[-1]]):
-            if argument in found and found[argument] != place:
-                (fx, fy), (x, y) = found[argument], place
-                beside = fx - 10 - 10 * used[clock]
-                down = [(fx, fy + 22), (beside, fy + 22), (beside, y + 22), (x, y + 22)]
-                drawing.line([(fx + 140, fy + 22), (x, y + 22)] if fx < x else down, "#888888", 2)
-        drawing.box(*place, 140, 44, "#4e79a7" if clock == 0 else "#59a14f" if clock == 1 else "#b07aa1")
-        drawing.text(place[0] + 70, place[1] + 19, shown, 14, "middle", "white")
-        drawing.text(place[0] + 70, place[1] + 36, operator or "parameter" * (name == "row"), 12, "middle", "white")
-        found.setdefault(name, place)
+        x, y = 60 + 230 * clock, 50 + 72 * used[clock]
+        for from_x, from_y in (found[argument] for argument in arguments if argument in found):
+            beside = x - 10 - 10 * used[clock]
+            down = [(from_x, from_y + 22), (beside, from_y + 22), (beside, y + 22), (x, y + 22)]
+            drawing.line([(from_x + 140, from_y + 22), (x, y + 22)] if from_x < x else down, "#888888", 2)
+        drawing.box(x, y, 140, 44, COLOURS[2 * clock])
+        drawing.text(x + 70, y + 19, name, 14, "middle", "white")
+        drawing.text(x + 70, y + 36, operator, 12, "middle", "white")
+        found.setdefault(name, (x, y))
     return drawing
 
 
@@ -174,16 +178,17 @@ def drawn_wave():
     drawing.text(10, 90, "rst")
     drawing.line([(left, 76), (left + step, 76), (left + step, 94), (left + step * clocks, 94)])
     words = [word for row in blocks for word in row]
-    for name, y, row, first in (("i0_0_0", 110, words, 1), ("o_0_0", 150, [line[2] for line in shown if line[1] == "v"], 1 + late)):
+    results = [line[2] for line in shown if line[1] == "v"]
+    for name, y, row, first in (("i0_0_0", 110, words, 1), ("o_0_0", 150, results, 1 + late)):
         drawing.text(10, y + 19, name)
         for clock in range(clocks):
-            block, inside = divmod(clock - first, 4)
+            block = (clock - first) // 4
             x = left + step * clock
             if clock >= first and clock - first < len(row):
                 drawing.box(x, y, step, 28, COLOURS[block], str(row[clock - first]))
             else:
                 drawing.box(x, y, step, 28, "#eeeeee")
-    drawing.text(left, 205, f"A colour is a block of 4 clocks. Grey: any word. The latency is {late}: results lie {late} clock behind.", 12)
+    drawing.text(left, 205, f"A colour is a block of 4 clocks. Grey: any word. The results begin {late} clock later: the latency.", 12)
     return drawing
 
 
