@@ -2,9 +2,9 @@
 use Rattle.std.proofs.Common.{◌≡◌, ℕ, zero, suc, ◌+◌, ◌*◌, ◌^◌, ◌<◌, ◌≤◌, true, List, [], ◌∷◌, ◌++◌, length, length-append, map, take, filter, Some, slice_get, refl, arith, ap, sym, ◌∙◌, subst}
 use Rattle.std.proofs.lemmas.List.{length-map}
 use Rattle.ae_sttype.specs.StTree.{StTree}
-use Rattle.ae_seq.specs.ProgramTree.{FuncTree, ProgramTree}
+use Rattle.ae_seq.specs.ProgramTree.{FuncTree, NodeTree, ProgramTree}
 use Rattle.ae_rewrite.specs.StProgramTree.{StFuncTree}
-use Rattle.ae_rewrite.specs.Sound.{item_layouts}
+use Rattle.ae_rewrite.specs.Sound.{item_layout, item_layouts}
 use Rattle.ae_rewrite.specs.Interface.{main_of}
 use Rattle.ae_delay.specs.declared.own.OwnCosts.{OwnCosts}
 use Rattle.ae_delay.specs.Timings.{Times}
@@ -26,6 +26,8 @@ use Rattle.ae_ports.specs.Ports.{SizedPort, input_cell, reset_port, streams_of}
 use Rattle.ae_ports.specs.Ports as net_side
 use Rattle.ae_lower.specs.Circuits.{IsCircuitOf, last_of}
 use Rattle.ae_lower.specs.Laws.{CircuitsAreFor}
+use Rattle.ae_lower.specs.Stretches.{AreNodeCells}
+use Rattle.ae_tidy.specs.Needed.{IsLean}
 use Rattle.ae_tidy.specs.Places.{AreMarks}
 use Rattle.ae_correct.specs.Laws.{IsLaidOut}
 use Rattle.ae_correct.specs.Correct.{is_port, port_of, ports_of}
@@ -37,11 +39,11 @@ use Rattle.ae_stall.specs.Stalled.{IsStalled}
 use Rattle.ae_stalled.specs.Laws.{StalledCircuitsAreCorrect, StalledCircuitsAreWritable, stall_limit}
 use Rattle.ae_stalled.proofs.Ports.{enable_port, stalled_ports_are}
 use Rattle.ae_compile.specs.Building.{IsStalledText, IsWritten}
-use Rattle.ae_compile.specs.Compiling.{IsCompiledStalled, report_of}
+use Rattle.ae_compile.specs.Compiling.{IsCompiledStalled, moved_note, report_of}
 use Rattle.ae_compile.specs.Costing.{IsKnown, load_limit, main_costs}
-use Rattle.ae_compile.specs.LineNotes.{node_notes}
+use Rattle.ae_compile.specs.LineNotes.{node_note, node_notes}
 use Rattle.ae_compile.proofs.Mains.{main_nodes}
-use Rattle.ae_compile.proofs.Modules.{HaveWriting, few_ports, unmapped}
+use Rattle.ae_compile.proofs.Modules.{HaveWriting, few_ports}
 
 -- ---- the netlist
 
@@ -55,11 +57,11 @@ head_is [] p ports e = cc
 head_is (c ∷ cells) p ports e = let same : c ≡ input_cell p = cc in ap (λ (x : SizedCell). Some x) same
 
 pub can_be_stalled : (p : ProgramTree) (slowdown : ℕ) (instances : List StFuncTree) (times : Times) (n : Circuit) → CircuitsAreFor → IsKnown load_limit p slowdown instances times → (main_costs instances).load ≤ stall_limit
-    → ((s : StFuncTree) → slice_get instances (last_of instances) ≡ Some s → IsCircuitOf instances s n) → CanBeStalled n
-can_be_stalled p slowdown instances times n law k light circuits =
+    → ((s : StFuncTree) → slice_get instances (last_of instances) ≡ Some s → IsCircuitOf instances s n) → IsLean n → CanBeStalled n
+can_be_stalled p slowdown instances times n law k light circuits lean =
     let key = k.schedule.last in
     let s = key.instance in
-    let made = law p slowdown instances s n k.typed k.schedule k.sound key.here (circuits s key.here) in
+    let made = law p slowdown instances s n k.typed k.schedule k.sound key.here (circuits s key.here) lean in
     let laid : IsLaidOut p slowdown s.ins _ = record { typed = k.typed; some = k.some; most = k.most; layouts = made.0 } in
     let ports = few_ports (λ net. 0) p slowdown (main_costs instances) s.ins _ n laid made.1 in
     let load : (main_costs instances).load ≤ 50000 = light in
@@ -68,29 +70,12 @@ can_be_stalled p slowdown instances times n law k light circuits =
       most = omega (arith, made.1.small, load, ports.inputs);
     }
 
--- ---- the marks
+-- ---- the notes
 
-moved_low : (m : ℕ) → moved m ≤ m + 1
-moved_low zero = omega arith
-moved_low (suc m) = omega arith
-
-moved_rises : (m n : ℕ) → m ≤ n → moved m ≤ moved n
-moved_rises zero n h = omega arith
-moved_rises (suc m) zero h = absurd (omega (arith, h))
-moved_rises (suc m) (suc n) h = omega (arith, h)
-
-pub marks_moved : (old new count : ℕ) (marks : List ℕ) → old < new → AreMarks old count marks → AreMarks new count (map moved marks)
-marks_moved old new count marks longer h = record {
-  long = length-map marks moved ∙ h.long;
-  within = λ i m e. (let x = unmapped moved marks i m e in let low = h.within i x.from x.found in let up = moved_low x.from in let is = x.is in omega (arith, low, up, is, longer));
-  rising = λ i j m n le e f.
-      (let x = unmapped moved marks i m e in
-      let y = unmapped moved marks j n f in
-      let up = moved_rises x.from y.from (h.rising i j x.from y.from le x.found y.found) in
-      let is = x.is in
-      let are = y.is in
-      omega (arith, up, is, are));
-}
+notes_moved : (layouts : List StTree) (i : ℕ) (ns : List NodeTree) (ms : List ℕ) → node_notes layouts i ns (map moved ms) ≡ map moved_note (node_notes layouts i ns ms)
+notes_moved layouts i [] ms = refl
+notes_moved layouts i (n ∷ ns) [] = refl
+notes_moved layouts i (n ∷ ns) (m ∷ ms) = ap (λ rest. node_note (moved m) n (item_layout layouts i) ∷ rest) (notes_moved layouts (i + 1) ns ms)
 
 -- ---- the parts in one
 
@@ -99,6 +84,8 @@ pub record AreMadeStalled (p : ProgramTree) (slowdown : ℕ) (instances : List S
   pub reports : (s : StFuncTree) → slice_get instances (last_of instances) ≡ Some s → report ≡ report_of true slowdown instances s
   pub circuits : (s : StFuncTree) → slice_get instances (last_of instances) ≡ Some s → IsCircuitOf instances s plain
   pub stalled : IsStalled plain n
+  pub own : (s : StFuncTree) → slice_get instances (last_of instances) ≡ Some s → AreNodeCells instances (last_of instances) s plain.cells (1 + length (net_side.input_ports (streams_of s.ins))) marks
+  pub lean : IsLean plain
   pub places : (s : StFuncTree) → slice_get instances (last_of instances) ≡ Some s → AreMarks (length plain.cells) (length s.nodes) marks
   pub notes_are : (s : StFuncTree) (f : FuncTree) → slice_get instances (last_of instances) ≡ Some s → slice_get p.funcs (main_of p) ≡ Some f → notes ≡ node_notes (item_layouts s) (length f.params) f.nodes (map moved marks)
   pub printed : ArePrinted notes
@@ -112,9 +99,8 @@ stalled_made p slowdown instances times plain n marks report notes law k m =
     let own = k.schedule.right (last_of instances) s found in
     let main : slice_get p.funcs (main_of p) ≡ Some own.of = ap (slice_get p.funcs) (sym key.is_func) ∙ own.known in
     let told = m.reports s found in
-    let made = law p slowdown instances s plain k.typed k.schedule k.sound found (m.circuits s found) in
+    let made = law p slowdown instances s plain k.typed k.schedule k.sound found (m.circuits s found) m.lean in
     let many : length s.nodes ≡ length own.of.nodes = main_nodes p slowdown instances own.of s k.schedule main found in
-    let placed : AreMarks (length n.cells) (length s.nodes) (map moved marks) = marks_moved (length plain.cells) (length n.cells) (length s.nodes) marks m.stalled.longer (m.places s found) in
     record {
       instance = s;
       last = found;
@@ -123,13 +109,16 @@ stalled_made p slowdown instances times plain n marks report notes law k m =
       plain = plain;
       circuit = subst (λ (r : ReportTree). IsCircuitFor p slowdown (main_costs instances) r.ins r.outs plain) (sym told) made.1;
       stalled = m.stalled;
+      before = node_notes (item_layouts s) (length own.of.params) own.of.nodes marks;
       noted = record {
         func = own.of;
         main = main;
-        marks = map moved marks;
-        placed = subst (λ (c : ℕ). AreMarks (length n.cells) c (map moved marks)) many placed;
-        are = m.notes_are s own.of found main;
+        marks = marks;
+        placed = subst (λ (c : ℕ). AreMarks (length plain.cells) c marks) many (m.places s found);
+        own = m.own s found;
+        are = refl;
       };
+      moved = m.notes_are s own.of found main ∙ notes_moved (item_layouts s) (length own.of.params) own.of.nodes marks;
       printed = m.printed;
     }
 

@@ -1,9 +1,10 @@
 -- The circuit of a program under a slowdown, and what is told of it.
-use Rattle.std.specs.Prelude.{◌≡◌, ℕ, Bool, true, false, List, length, Some, slice_get}
+use Rattle.std.specs.Prelude.{◌≡◌, ℕ, Bool, true, false, List, map, Some, slice_get}
 use Rattle.ae_seq.specs.ProgramTree.{ProgramTree}
 use Rattle.ae_rewrite.specs.StProgramTree.{StFuncTree}
 use Rattle.ae_netlist.specs.Circuit.{Circuit}
 use Rattle.ae_ports.specs.CircuitFor.{IsCircuitFor}
+use Rattle.ae_stall.specs.Images.{moved}
 use Rattle.ae_stall.specs.Stalled.{IsStalled}
 use Rattle.ae_lower.specs.Circuits.{last_of, results_of}
 use Rattle.ae_correct.specs.Laws.{IsLaidOut}
@@ -31,10 +32,14 @@ pub record IsCompiled (p : ProgramTree) (slowdown : ℕ) (instances : List StFun
   pub reported : report ≡ report_of false slowdown instances instance
   pub laid : IsLaidOut p slowdown report.ins report.outs
   pub circuit : IsCircuitFor p slowdown (main_costs instances) report.ins report.outs n
-  pub noted : AreLineNotes p instance (length n.cells) notes
+  pub noted : AreLineNotes p instances instance n.cells notes
   pub printed : ArePrinted notes
 
--- the same of the circuit with an enable that was made of a circuit for the program
+-- a note of a cell behind the enable
+abbrev pub moved_note : NoteTree → NoteTree
+moved_note n = record n { cell = moved n.cell }
+
+-- the same of the circuit with an enable that was made of a circuit for the program, whose notes move with their cells
 pub record IsCompiledStalled (p : ProgramTree) (slowdown : ℕ) (instances : List StFuncTree) (n : Circuit) (report : ReportTree) (notes : List NoteTree) : Type 0 where
   pub instance : StFuncTree
   pub last : slice_get instances (last_of instances) ≡ Some instance
@@ -43,5 +48,7 @@ pub record IsCompiledStalled (p : ProgramTree) (slowdown : ℕ) (instances : Lis
   pub plain : Circuit
   pub circuit : IsCircuitFor p slowdown (main_costs instances) report.ins report.outs plain
   pub stalled : IsStalled plain n
-  pub noted : AreLineNotes p instance (length n.cells) notes
+  pub before : List NoteTree
+  pub noted : AreLineNotes p instances instance plain.cells before
+  pub moved : notes ≡ map moved_note before
   pub printed : ArePrinted notes

@@ -6,6 +6,10 @@ use Rattle.ae_sttype.specs.StTree.{StTree}
 use Rattle.ae_rewrite.specs.StProgramTree.{StFuncTree}
 use Rattle.ae_rewrite.specs.Sound.{item_layout, item_layouts}
 use Rattle.ae_rewrite.specs.Interface.{main_of}
+use Rattle.ae_netlist.specs.declared.cell.SizedCell.{SizedCell}
+use Rattle.ae_ports.specs.Ports.{input_ports, streams_of}
+use Rattle.ae_lower.specs.Circuits.{last_of}
+use Rattle.ae_lower.specs.Stretches.{AreNodeCells}
 use Rattle.ae_tidy.specs.Places.{AreMarks}
 use Rattle.ae_verilog.specs.Notes.{NoteTree}
 
@@ -24,10 +28,11 @@ node_notes layouts i [] ms = []
 node_notes layouts i (n ∷ ns) [] = []
 node_notes layouts i (n ∷ ns) (m ∷ ms) = node_note m n (item_layout layouts i) ∷ node_notes layouts (i + 1) ns ms
 
--- a note for each line of the program function, in order, before a cell of so many each
-pub record AreLineNotes (p : ProgramTree) (s : StFuncTree) (cells : ℕ) (notes : List NoteTree) : Type 0 where
+-- a note for each line of the program function, in order, each where the cells of its line begin
+pub record AreLineNotes (p : ProgramTree) (instances : List StFuncTree) (s : StFuncTree) (cells : List SizedCell) (notes : List NoteTree) : Type 0 where
   pub func : FuncTree
   pub main : slice_get p.funcs (main_of p) ≡ Some func
   pub marks : List ℕ
-  pub placed : AreMarks cells (length func.nodes) marks
+  pub placed : AreMarks (length cells) (length func.nodes) marks
+  pub own : AreNodeCells instances (last_of instances) s cells (1 + length (input_ports (streams_of s.ins))) marks
   pub are : notes ≡ node_notes (item_layouts s) (length func.params) func.nodes marks

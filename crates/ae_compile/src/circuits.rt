@@ -1,11 +1,14 @@
 // The circuit of a program, and what is told of it.
 
-ghost use Rattle.std.specs.Prelude.{◌≡◌, ◌<◌, ◌≤◌, ℕ, IfOk, Some, length, map, slice_get};
+ghost use Rattle.std.specs.Prelude.{◌≡◌, ◌<◌, ◌≤◌, ◌+◌, ℕ, IfOk, Some, length, map, slice_get};
 ghost use Rattle.ae_seq.specs.ProgramTree.{FuncTree, program_tree};
 ghost use Rattle.ae_rewrite.specs.StProgramTree.{StFuncTree as Tree, st_func_trees};
 ghost use Rattle.ae_rewrite.specs.Sound.{item_layouts};
 ghost use Rattle.ae_rewrite.specs.Interface.{main_of};
 ghost use Rattle.ae_lower.specs.Circuits.{IsCircuitOf, last_of};
+ghost use Rattle.ae_lower.specs.Stretches.{AreNodeCells};
+ghost use Rattle.ae_ports.specs.Ports.{input_ports, streams_of};
+ghost use Rattle.ae_tidy.specs.Needed.{IsLean};
 ghost use Rattle.ae_tidy.specs.Places.{AreMarks};
 ghost use Rattle.ae_verilog.specs.Notes.{ArePrinted, note_tree};
 ghost use Rattle.ae_verilog.specs.ReportLines.{report_tree};
@@ -55,6 +58,9 @@ pub fn circuit(alloc: Global, costed: &Costed) -> Result<Lowered, AllocError>
     requires { IsCostedProgram costed.now }
     ensures circuit { IfOk result (λ l. (s : Tree) → slice_get (st_func_trees costed.now.schedule) (last_of (st_func_trees costed.now.schedule)) ≡ Some s → IsCircuitOf (st_func_trees costed.now.schedule) s l.netlist) }
     ensures marks { IfOk result (λ l. (s : Tree) → slice_get (st_func_trees costed.now.schedule) (last_of (st_func_trees costed.now.schedule)) ≡ Some s → AreMarks (length l.netlist.cells) (length s.nodes) l.marks.items) }
+    ensures nodes { IfOk result (λ l. (s : Tree) → slice_get (st_func_trees costed.now.schedule) (last_of (st_func_trees costed.now.schedule)) ≡ Some s
+        → AreNodeCells (st_func_trees costed.now.schedule) (last_of (st_func_trees costed.now.schedule)) s l.netlist.cells (1 + length (input_ports (streams_of s.ins))) l.marks.items) }
+    ensures lean { IfOk result (λ l. IsLean l.netlist) }
 {
     schedules_fit();
     let slacks = matching(alloc, &costed.schedule, &costed.timing)?;

@@ -4,6 +4,7 @@ ghost use Rattle.std.specs.Prelude.{◌≡◌, ◌<◌, ◌≤◌, ℕ, IfOk, So
 ghost use Rattle.ae_netlist.specs.Circuit.{Circuit};
 ghost use Rattle.ae_rewrite.specs.StProgramTree.{StFuncTree as Tree, st_func_trees};
 ghost use Rattle.ae_lower.specs.Circuits.{IsCircuitOf, last_of};
+ghost use Rattle.ae_tidy.specs.Needed.{IsLean};
 ghost use Rattle.ae_stall.specs.Images.{moved};
 ghost use Rattle.ae_stall.specs.Stalled.{IsStalled};
 ghost use Rattle.ae_stalled.specs.Laws.{stall_limit};
@@ -22,6 +23,7 @@ fn stalled_netlist(alloc: Global, costed: &Costed, plain: &Netlist) -> Result<Ne
     requires known { IsCostedProgram costed.now }
     requires light { (main_costs (st_func_trees costed.now.schedule)).load ≤ stall_limit }
     requires circuit { (s : Tree) → slice_get (st_func_trees costed.now.schedule) (last_of (st_func_trees costed.now.schedule)) ≡ Some s → IsCircuitOf (st_func_trees costed.now.schedule) s plain.now }
+    requires lean { IsLean plain.now }
     ensures stalled { IfOk result (λ n. IsStalled plain.now n) }
     ensures few { IfOk result (λ n. length plain.now.cells ≤ 1000000) }
 {

@@ -1,5 +1,5 @@
 -- A circuit that makes of words what a schedule does makes the blocks of its program.
-use Rattle.std.proofs.Common.{ℕ, zero, suc, ◌≡◌, ◌+◌, ◌*◌, ◌<◌, ◌≤◌, List, [], ◌∷◌, length, map, take, Some, slice_get, arith, refl, ap, sym, ◌∙◌, subst}
+use Rattle.std.proofs.Common.{ℕ, suc, ◌≡◌, ◌+◌, ◌*◌, ◌<◌, ◌≤◌, List, [], ◌∷◌, length, map, take, Some, slice_get, arith, refl, ap, sym, ◌∙◌, subst}
 use Rattle.std.proofs.lemmas.List.{length-map}
 use Rattle.std.proofs.lemmas.List.Sums.{sum_by-cons}
 use Rattle.std.proofs.lemmas.Option.{same_Some, slice_get_within, slice_get-map}
@@ -8,7 +8,7 @@ use Rattle.ae_seqtype.specs.ValueTree.{ValueTree, flat}
 use Rattle.ae_sttype.specs.StTree.{StTree, element_words}
 use Rattle.ae_sttype.specs.Slots.{slots}
 use Rattle.ae_sttype.specs.Holds.{Holds}
-use Rattle.ae_sttype.specs.Moves.{columns_of, first_column}
+use Rattle.ae_sttype.specs.Moves.{first_column}
 use Rattle.ae_netlist.specs.Circuit.{Circuit}
 use Rattle.ae_netlist.specs.Runs.{Clock, IsReset, IsRun}
 use Rattle.ae_ops.specs.Waves.{Wave}
@@ -29,7 +29,7 @@ use Rattle.ae_flow.proofs.MeaningLayouts.{AllLaidOut}
 use Rattle.ae_lower.specs.Circuits.{IsCircuitOf, IsCircuitThat, MakesResults, last_of, result_streams, results_of}
 use Rattle.ae_lower.specs.Lowering.{instance_costs}
 use Rattle.ae_lower.proofs.Layouts.{all_words, as_many_values, input_types_are, inputs_laid, words_flat}
-use Rattle.ae_ports.proofs.Columns.{element_columns, map_map, stream_columns, first_columns}
+use Rattle.ae_ports.proofs.Columns.{element_columns, map_map, first_columns}
 
 -- ---- columns
 

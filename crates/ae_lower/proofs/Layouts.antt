@@ -2,19 +2,17 @@
 use Rattle.std.proofs.Common.{ℕ, zero, suc, ◌≡◌, ◌+◌, ◌*◌, ◌<◌, List, [], ◌∷◌, ◌++◌, length, map, Option, Some, IsTrue, slice_get, arith, refl, ap, sym, ◌∙◌, subst, append_assoc}
 use Rattle.std.proofs.Math.Nat.{zero-add, suc-add, zero-mul}
 use Rattle.std.proofs.lemmas.Bool.Decides.{nat_tests}
-use Rattle.std.proofs.lemmas.List.{length-map, map-append}
+use Rattle.std.proofs.lemmas.List.{map-append}
 use Rattle.std.proofs.lemmas.Option.{none-some, same_Some}
 use Rattle.ae_word.specs.AtomTree.{WordKind, atom_kinds}
-use Rattle.ae_word.proofs.Sizes.{length-atom_kinds}
 use Rattle.ae_seqtype.specs.SeqTree.{SeqTree, atom, seq, atoms, atom_of, kinds, repeated, in_size, parts_in_size}
 use Rattle.ae_seqtype.specs.ValueTree.{ValueTree, flat, Fit, FitKinds, Stands}
-use Rattle.ae_seqtype.proofs.Sizes.{length-repeated}
 use Rattle.ae_seqtype.proofs.Stands.{length-Fit, repeated-one}
 use Rattle.ae_seqtype.proofs.Values.{flat-value_of}
-use Rattle.ae_sttype.specs.StTree.{StTree, lanes, element_atom, element_words}
+use Rattle.ae_sttype.specs.StTree.{StTree, element_atom}
 use Rattle.ae_sttype.specs.Slots.{slots}
 use Rattle.ae_sttype.proofs.Places.{length-slots}
-use Rattle.ae_ops.specs.Blocks.{AreWords, AllAreWords, stream_of, stream_widths}
+use Rattle.ae_ops.specs.Blocks.{AreWords, AllAreWords, stream_of}
 use Rattle.ae_seq.specs.ProgramTree.{ProgramTree, ParamTree}
 use Rattle.ae_seq.specs.Typing.{type_at, param_types, types_of_params, ◌>>=◌}
 use Rattle.ae_seq.specs.Meaning.{at}

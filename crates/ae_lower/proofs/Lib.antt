@@ -26,6 +26,7 @@ pub mod Costing
 pub mod Instances
 pub mod Ending
 pub mod Tidied
+pub mod Stretches
 pub mod Layouts
 pub mod Blocks
 pub mod Programs

@@ -1,6 +1,5 @@
 -- The circuit of a schedule is one for each program with it.
 use Rattle.std.proofs.Common.{ℕ, ◌≡◌, ◌<◌, List, length, Some, slice_get, ap, ◌∙◌, subst}
-use Rattle.ae_netlist.specs.Circuit.{Circuit}
 use Rattle.ae_seq.specs.ProgramTree.{ProgramTree}
 use Rattle.ae_eval.specs.Stack.{IsTyped}
 use Rattle.ae_rewrite.specs.Interface.{HaveLayouts}
@@ -25,7 +24,7 @@ layouts p slowdown instances s typed schedule sound found =
     subst (λ d. HaveLayouts p d s.ins (results_of s)) own.budget here
 
 pub circuits_for : CircuitsAreFor
-circuits_for p slowdown instances s n typed schedule sound found c = (
+circuits_for p slowdown instances s n typed schedule sound found c lean = (
   layouts p slowdown instances s typed schedule sound found,
   record {
     inputs = c.inputs;
@@ -38,5 +37,6 @@ circuits_for p slowdown instances s n typed schedule sound found c = (
     small = c.small;
     muls = c.muls;
     memories = c.memories;
+    lean = lean;
   },
 )

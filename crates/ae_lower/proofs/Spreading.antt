@@ -1,11 +1,11 @@
 -- A body on each lane, one block after the other.
-use Rattle.std.proofs.Common.{ℕ, zero, suc, ◌≡◌, ◌+◌, ◌*◌, ◌<◌, ◌≤◌, List, [], ◌∷◌, ◌++◌, length, map, take, drop, get_or, Some, slice_get, slice_index, arith, refl, ap, sym, ◌∙◌, subst, flat_map, length-append, ◌%◌, ◌/◌}
+use Rattle.std.proofs.Common.{ℕ, zero, suc, ◌≡◌, ◌+◌, ◌*◌, ◌<◌, ◌≤◌, List, [], ◌∷◌, length, map, take, drop, get_or, Some, slice_get, slice_index, arith, refl, ap, sym, ◌∙◌, subst, flat_map, length-append, ◌%◌, ◌/◌}
 use Rattle.std.specs.List.{range_with_len}
 use Rattle.std.proofs.Math.Seq.{take-nil}
 use Rattle.ae_netlist.proofs.Gets.{get_from_take}
 use Rattle.std.proofs.Math.Nat.{mul-le-mul_right, mul_assoc, add-mul}
 use Rattle.std.proofs.lemmas.Nat.{mul-add-lt, div-add-mod', mod-mul-add, mod_below}
-use Rattle.std.proofs.lemmas.List.{get_or-append-add, get_or_append_left, length-map, length-take-le}
+use Rattle.std.proofs.lemmas.List.{length-map, length-take-le}
 use Rattle.std.proofs.lemmas.Option.{slice_get_within, none-some}
 use Rattle.ae_word.specs.AtomTree.{AtomTree, WordKind, atom_kinds, atom_words, word, pair}
 use Rattle.ae_sttype.specs.declared.st_type.Slot.{Slot}

@@ -28,7 +28,7 @@ use Rattle.ae_lower.proofs.Results.{holds_same}
 
 -- ---- inputs
 
-all_inputs : (ps : List SizedPort) (n : ℕ) → n ≤ length ps → count_of is_input (take n (map input_cell ps)) ≡ n
+pub all_inputs : (ps : List SizedPort) (n : ℕ) → n ≤ length ps → count_of is_input (take n (map input_cell ps)) ≡ n
 all_inputs ps zero l = refl
 all_inputs [] (suc n) l = absurd (omega arith)
 all_inputs (p ∷ ps) (suc n) l =

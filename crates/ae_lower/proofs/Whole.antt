@@ -124,7 +124,7 @@ whole_inputs ps = record { each = λ m width depth at next enable h. absurd (no_
 
 -- ---- the first cells stay
 
-first_cells : (a b : List SizedCell) → Extends a b → take (length a) b ≡ a
+pub first_cells : (a b : List SizedCell) → Extends a b → take (length a) b ≡ a
 first_cells [] b e = refl
 first_cells (x ∷ xs) [] e = absurd (let h = e.keeps 0 x refl in cc)
 first_cells (x ∷ xs) (y ∷ ys) e =

@@ -1,9 +1,9 @@
 -- What the circuit of a program in space and time is.
-use Rattle.std.specs.Prelude.{◌≡◌, ℕ, ◌+◌, ◌-◌, ◌*◌, ◌≤◌, List, ◌∷◌, length, map, take, sum_by, Some, slice_get}
+use Rattle.std.specs.Prelude.{◌≡◌, ℕ, ◌+◌, ◌-◌, ◌*◌, ◌≤◌, List, ◌∷◌, length, map, take, Some, slice_get}
 use Rattle.ae_netlist.specs.Circuit.{Circuit, IsFormed, HaveNets}
 use Rattle.ae_netlist.specs.Counts.{AreWhole, count_of, is_input, is_memory, is_mul}
 use Rattle.ae_netlist.specs.Runs.{Clock, IsRun, IsReset}
-use Rattle.ae_ops.specs.Blocks.{Stream, BlockLaw, stream_of, stream_widths}
+use Rattle.ae_ops.specs.Blocks.{Stream, BlockLaw, stream_of}
 use Rattle.ae_sttype.specs.StTree.{StTree}
 use Rattle.ae_seq.specs.ProgramTree.{ProgramTree}
 use Rattle.ae_eval.specs.Stack.{IsTyped}

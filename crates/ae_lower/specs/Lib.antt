@@ -5,5 +5,6 @@ pub mod Growth
 pub mod Delaying
 pub mod Nodes
 pub mod Lowering
+pub mod Stretches
 pub mod PortNets
 pub mod Circuits

@@ -14,6 +14,7 @@ ghost use Rattle.ae_flow.specs.Fitted.{elements_stream};
 ghost use Rattle.ae_ports.specs.Ports.{streams_of};
 ghost use Rattle.ae_lower.specs.Growth.{Adds, GrowsBy, IsBuilt};
 ghost use Rattle.ae_lower.specs.Lowering.{AreChosen, AreItems, AreStanding, IsItem, IsLight, IsNodeAt, IsTimed, arrivals_in, bodies_part, instance_costs, lane_nets};
+ghost use Rattle.ae_lower.specs.Stretches.{AreNodeCells};
 ghost use Rattle.ae_tidy.specs.Places.{AreMarks};
 
 use crate::items::joined;
@@ -198,6 +199,7 @@ pub fn lower_instance(
     ensures full { IsFullAt result nl.new }
     ensures results { IfOk result (λ v. (s : Tree) → slice_get (st_func_trees p.now) k ≡ Some s → AreChosen nl.new.cells clocks.old.rst at (callees (take k (st_func_trees p.now))) s ins.now (instance_costs (st_func_trees p.now) k).latency s.results v.items) }
     ensures marks { OnOk result ((s : Tree) (count : ℕ) → slice_get (st_func_trees p.now) k ≡ Some s → AreMarks (length nl.old.cells) count marks.old.items → AreMarks (length nl.new.cells) (count + length s.nodes) marks.new.items) }
+    ensures nodes { OnOk result ((s : Tree) → slice_get (st_func_trees p.now) k ≡ Some s → marks.old.items ≡ [] → AreNodeCells (st_func_trees p.now) k s nl.new.cells (length nl.old.cells) marks.new.items) }
 {
     let s = instance(p, k);
     let counts = readers(alloc, s)?;

@@ -1,11 +1,14 @@
 // The whole circuit.
 
-ghost use Rattle.std.specs.Prelude.{Some, slice_get, IfOk, length, ◌≡◌};
+ghost use Rattle.std.specs.Prelude.{Some, slice_get, IfOk, length, ◌≡◌, ◌+◌};
 ghost use Rattle.ae_rewrite.specs.StProgramTree.{StFuncTree as Tree, st_func_trees};
 ghost use Rattle.ae_delay.specs.Timings.{AreTimes};
 ghost use Rattle.ae_retime.specs.Slacks.{AreSlacks};
 ghost use Rattle.ae_flow.specs.Fitted.{AreFitted};
 ghost use Rattle.ae_lower.specs.Circuits.{IsCircuitOf, last_of};
+ghost use Rattle.ae_lower.specs.Stretches.{AreNodeCells};
+ghost use Rattle.ae_ports.specs.Ports.{input_ports, streams_of};
+ghost use Rattle.ae_tidy.specs.Needed.{IsLean};
 ghost use Rattle.ae_tidy.specs.Places.{AreMarks};
 
 use crate::calls::{instance, lower_instance};
@@ -32,9 +35,10 @@ pub struct Lowered {
 
 /// The circuit of a program, by its timing and its slacks: the reset and the words of the parameters go in, and in every
 /// reset run each block of them makes the words of the program's results come out, the latency later. It has at most 16
-/// cells for each unit of the load, one for the reset and one for each word of the parameters, and none that no output or
-/// product needs, but the inputs. The marks tell where the cells of each node of the program function begin. The error
-/// comes only for want of memory.
+/// cells for each unit of the load, one for the reset and one for each word of the parameters, and where it has no memories
+/// none that no output or product needs, but the inputs. The marks tell where the cells of each node of the program function
+/// begin, behind those of the inputs: up to the next mark there are at most 16 for each unit of the node's own load, and
+/// its products. The error comes only for want of memory.
 pub fn lower(
     alloc: Global,
     p: &StProgram,
@@ -46,6 +50,9 @@ pub fn lower(
     requires slacks { AreSlacks (st_func_trees p.now) slacks.now }
     ensures circuit { IfOk result (λ l. (s : Tree) → slice_get (st_func_trees p.now) (last_of (st_func_trees p.now)) ≡ Some s → IsCircuitOf (st_func_trees p.now) s l.netlist) }
     ensures marks { IfOk result (λ l. (s : Tree) → slice_get (st_func_trees p.now) (last_of (st_func_trees p.now)) ≡ Some s → AreMarks (length l.netlist.cells) (length s.nodes) l.marks.items) }
+    ensures nodes { IfOk result (λ l. (s : Tree) → slice_get (st_func_trees p.now) (last_of (st_func_trees p.now)) ≡ Some s
+        → AreNodeCells (st_func_trees p.now) (last_of (st_func_trees p.now)) s l.netlist.cells (1 + length (input_ports (streams_of s.ins))) l.marks.items) }
+    ensures lean { IfOk result (λ l. IsLean l.netlist) }
 {
     flows_mean();
     let last = p.count() - 1;

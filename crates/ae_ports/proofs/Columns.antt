@@ -50,4 +50,3 @@ joined_word f m k (suc n) (suc e) r long h p =
     ap (slice_index (f k ++ flat_map f (range_with_len (k + 1) n))) place
     ∙ (get_or-append-add (f k) (flat_map f (range_with_len (k + 1) n)) (e * m + r) 0
     ∙ (joined_word f m (k + 1) n e r (λ i l. long i (omega arith)) (omega arith) p ∙ ap (λ i. slice_index (f i) r) s))
-

@@ -20,6 +20,8 @@ returns-clause-compiled c = record {
         reports = c.in_ok-report.ensures;
         circuits = c.in_ok-lowered.ensures.circuit;
         places = c.in_ok-lowered.ensures.marks;
+        own = c.in_ok-lowered.ensures.nodes;
+        lean = c.in_ok-lowered.ensures.lean;
         notes_are = λ s f last main. c.in_ok-notes.ensures.are s f last main ∙ ap (node_notes (item_layouts s) (length f.params) f.nodes) c.deref.ensures.value;
         printed = c.in_ok-notes.ensures.printed;
       });

@@ -14,7 +14,8 @@ use Rattle.ae_ports.specs.Ports.{streams_of}
 use Rattle.ae_lower.specs.Growth.{Adds, GrowsBy, IsBuilt}
 use Rattle.ae_lower.specs.Delaying.{AreDelayed, delay_load}
 use Rattle.ae_lower.specs.Nodes.{arguments_of, node_part, plain_costs}
-use Rattle.ae_lower.specs.Lowering.{AreItems, AreStanding, IsItem, IsLight, arrivals_in, bodies_part, instance_costs}
+use Rattle.ae_lower.specs.Lowering.{AreItems, AreStanding, IsItem, IsLight, arrivals_in, bodies_part, instance_costs, timings_in}
+use Rattle.ae_lower.specs.Stretches.{AreNodeCells, results_load}
 use Rattle.ae_lower.proofs.Growing.{if_ok_more, keeps_none}
 use Rattle.ae_lower.proofs.Costing.{few_nodes}
 use Rattle.ae_lower.proofs.Instances.{AreLowered, AreSpread, head_of, lane_results, more_bodies, more_nodes, no_bodies, no_nodes, standing}
@@ -23,6 +24,7 @@ use Rattle.ae_tidy.specs.Places.{AreMarks}
 use Rattle.ae_tidy.proofs.Placing.{marks_later, marks_more}
 use Rattle.ae_netlist.proofs.Growing.{extends_length}
 use Rattle.ae_lower.proofs.Ending.{all_bodies, another_body, another_node, fewer_bodies, node_there, own_lane, result_below, results_add, results_chosen, results_grow, some_results}
+use Rattle.ae_lower.proofs.Stretches.{marked_end, marked_more, marked_none, results_late}
 use Rattle.ae_lower.proofs.calls.+lowering.Goals as goal
 
 pub lower_bodies-returns-in_err-own-clause-belongs : goal.lower_bodies-returns-in_err-own-clause-belongs
@@ -180,6 +182,21 @@ lower_instance-returns-clause-marks t c =
     let all : AreMarks (length c.loop-j.nl.cells) (count + length (st_func_tree c.instance-s.result.now).nodes) c.loop-j.marks.items = subst (λ (i : ℕ). AreMarks (length c.loop-j.nl.cells) (count + i) c.loop-j.marks.items) end (c.loop-j.invariant.marked count h) in
     marks_later (length c.loop-j.nl.cells) (length c.joined.new.nl.cells) (count + length z.nodes) c.loop-j.marks.items longer
     (subst (λ (f : StFuncTree). AreMarks (length c.loop-j.nl.cells) (count + length f.nodes) c.loop-j.marks.items) (same_Some (st_func_tree c.instance-s.result.now) z (sym here ∙ found)) all)) c.joined.ensures.adds
+
+pub lower_instance-returns-clause-nodes : goal.lower_instance-returns-clause-nodes
+lower_instance-returns-clause-nodes t c =
+    let instances = st_func_trees c.args.p.now in
+    let s = st_func_tree c.instance-s.result.now in
+    let here = func_tree c.args.p.now c.args.k c.instance-s.result.now c.instance-s.ensures in
+    let ew = result_waits_in c.args.p.now c.args.slacks.now c.args.k c.instance-s.result.now c.result_waits_of-waits.result.now c.requires.slacks c.instance-s.ensures c.result_waits_of-waits.ensures in
+    let end : c.loop-j.j ≡ length (st_func_tree c.instance-s.result.now).nodes = omega (arith, c.loop-j-test.false, c.loop-j.auto.j-end, c.len-j-end.ensures, c.instance-s.result.now.nodes.ok, length-map c.instance-s.result.now.nodes.items st_node_tree) in
+    let all : AreLowered (st_func_trees c.args.p.now) c.args.k c.args.at c.args.clocks.now.rst (st_func_tree c.instance-s.result.now) c.args.ins.now c.args.nl.now c.loop-j.nl (length (st_func_tree c.instance-s.result.now).nodes) c.loop-j.items.items = subst (λ (i : ℕ). AreLowered (st_func_trees c.args.p.now) c.args.k c.args.at c.args.clocks.now.rst (st_func_tree c.instance-s.result.now) c.args.ins.now c.args.nl.now c.loop-j.nl i c.loop-j.items.items) end c.loop-j.invariant.lowered in
+    let grown : GrowsBy c.loop-j.nl c.joined.new.nl (delay_load c.loop-j.items.items c.result_waits_of-waits.result.now (st_func_tree c.instance-s.result.now).results) = subst (λ (xs : List (List NetId)). GrowsBy c.loop-j.nl c.joined.new.nl (delay_load xs c.result_waits_of-waits.result.now (st_func_tree c.instance-s.result.now).results)) c.deref-2.ensures.value (subst (λ (is : List ℕ). GrowsBy c.loop-j.nl c.joined.new.nl (delay_load c.deref-2.result.now c.result_waits_of-waits.result.now is)) c.deref-3.ensures.value c.joined.ensures.grows) in
+    let late : GrowsBy c.loop-j.nl c.joined.new.nl (results_load instances c.args.k s) =
+    subst (λ (n : ℕ). GrowsBy c.loop-j.nl c.joined.new.nl n) (results_late instances c.args.k c.args.at c.args.clocks.now.rst s c.args.ins.now c.loop-j.items.items c.args.nl.now c.loop-j.nl c.result_waits_of-waits.result.now c.requires.timed.sound here ew all) grown in
+    on_ok_weaker c.joined.result (λ added z found e.
+    subst (λ (f : StFuncTree). AreNodeCells instances c.args.k f c.joined.new.nl.cells (length c.args.nl.now.cells) c.loop-j.marks.items) (same_Some s z (sym here ∙ found))
+    (marked_end c.args.nl.now c.loop-j.nl c.joined.new.nl (timings_in instances c.args.k s) c.loop-j.j (results_load instances c.args.k s) c.loop-j.marks.items late added (c.loop-j.invariant.nodes e))) c.joined.ensures.adds
 
 pub lower_node-arrivals_of-arrivals-requires : goal.lower_node-arrivals_of-arrivals-requires
 lower_node-arrivals_of-arrivals-requires t c = (_, arrivals_told (st_func_trees c.args.p.now) c.args.a.now.arrivals c.args.k c.args.at (st_func_tree c.instance-s.result.now) c.requires.timed c.requires.light (func_tree c.args.p.now c.args.k c.instance-s.result.now c.instance-s.ensures))
@@ -376,6 +393,7 @@ lower_instance-loop-j-init t c = record {
   keeps = keeps_none c.args.clocks.now;
   lowered = no_nodes (st_func_trees c.args.p.now) c.args.k c.args.at c.args.clocks.now.rst (st_func_tree c.instance-s.result.now) c.args.ins.now c.in_ok-items.items.items c.args.nl.now (c.requires.ins (st_func_tree c.instance-s.result.now) (func_tree c.args.p.now c.args.k c.instance-s.result.now c.instance-s.ensures)) c.in_ok-items.ensures.ok;
   marked = λ count h. subst (λ (i : ℕ). AreMarks (length c.args.nl.now.cells) i c.args.marks.now.items) (let same : count ≡ count + 0 = omega arith in same) h;
+  nodes = λ e. marked_none c.args.nl.now (timings_in (st_func_trees c.args.p.now) c.args.k (st_func_tree c.instance-s.result.now)) c.args.marks.now.items e;
 }
 
 pub lower_instance-loop-j-preserved : goal.lower_instance-loop-j-preserved
@@ -394,4 +412,7 @@ lower_instance-loop-j-preserved t c =
       marked = λ count h. marks_more (length c.loop-j.nl.cells) (length c.lower_node.new.nl.cells) count c.loop-j.j c.loop-j.marks.items c.keep_item.new.marks.items
           (extends_length c.loop-j.nl.cells c.lower_node.new.nl.cells (c.in_ok-made.ensures.grows (st_func_tree c.instance-s.result.now) node.node node.timing node.is_at).grows.extends)
           (c.in_ok-keep_item.ensures.marked ∙ ap (λ (m : ℕ). c.loop-j.marks.items ++ m ∷ []) c.len-mark.ensures) (c.loop-j.invariant.marked count h);
+      nodes = λ e. marked_more c.args.nl.now c.loop-j.nl c.lower_node.new.nl (timings_in (st_func_trees c.args.p.now) c.args.k (st_func_tree c.instance-s.result.now)) c.loop-j.j c.loop-j.marks.items c.keep_item.new.marks.items node.timing
+          node.is_at.timing (c.in_ok-keep_item.ensures.marked ∙ ap (λ (m : ℕ). c.loop-j.marks.items ++ m ∷ []) c.len-mark.ensures)
+          (c.in_ok-made.ensures.grows (st_func_tree c.instance-s.result.now) node.node node.timing node.is_at) (c.in_ok-made.ensures.adds (st_func_tree c.instance-s.result.now) node.node node.timing node.is_at) (c.loop-j.invariant.nodes e);
     }

@@ -3,22 +3,26 @@ use Rattle.std.proofs.Common.{◌≡◌, ◌+◌, ◌-◌, ℕ, arith, List, Som
 use Rattle.std.proofs.lemmas.Option.{same_Some, slice_get-map}
 use Rattle.std.specs.Option.{option_map}
 use Rattle.ae_netlist.specs.declared.cell.NetId.{NetId}
+use Rattle.ae_netlist.specs.declared.cell.SizedCell.{SizedCell}
 use Rattle.ae_netlist.specs.Circuit.{Circuit}
+use Rattle.ae_netlist.specs.Counts.{is_input, number_of}
 use Rattle.ae_sttype.specs.declared.st_type.StType.{StType}
 use Rattle.ae_sttype.specs.StTree.{st_tree}
 use Rattle.ae_rewrite.specs.StProgramTree.{StFuncTree, st_func_tree, st_func_trees, st_trees}
 use Rattle.ae_ops.specs.Blocks.{AreBundles}
-use Rattle.ae_ports.specs.Ports.{streams_of}
+use Rattle.ae_ports.specs.Ports.{input_ports, streams_of}
 use Rattle.ae_lower.specs.Circuits.{IsCircuitOf, IsCircuitThat, MakesResults, last_of}
 use Rattle.ae_clocked.specs.Phases.{Kept}
 use Rattle.ae_lower.specs.Growth.{Adds, GrowsBy}
-use Rattle.ae_lower.specs.Lowering.{instance_costs}
+use Rattle.ae_lower.specs.Lowering.{instance_costs, timings_in}
+use Rattle.ae_lower.specs.Stretches.{AreNodeCells, results_load}
 use Rattle.ae_lower.specs.PortNets.{bundles_from}
 use Rattle.ae_tidy.specs.Places.{AreMarks}
 use Rattle.ae_tidy.proofs.Placing.{no_marks}
 use Rattle.ae_lower.proofs.Whole.{HasBegun, begun_bundles, chosen_last, circuit_made, has_begun, inputs_begun, instance_at, last_is, light_enough, reset_belongs}
 use Rattle.ae_lower.proofs.Tidied.{tidied_circuit}
 use Rattle.ae_lower.proofs.Blocks.{program_circuit}
+use Rattle.ae_lower.proofs.Stretches.{begun_inputs, begun_long, tidied_stretches}
 use Rattle.ae_lower.proofs.circuit.lower.Goals as goal
 
 pub add_inputs-requires : goal.add_inputs-requires
@@ -112,3 +116,38 @@ returns-clause-marks c s found =
     subst (λ (i : ℕ). AreMarks i (length s.nodes) c.lower_instance.new.marks.items) same
     (subst (λ (i : ℕ). AreMarks (length c.lower_instance.new.nl.cells) i c.lower_instance.new.marks.items) (let plain : 0 + length s.nodes ≡ length s.nodes = omega arith in plain) all) in
     c.in_ok-tidied.ensures.marks (length s.nodes) there
+
+pub returns-clause-nodes : goal.returns-clause-nodes
+returns-clause-nodes c s found =
+    let fs = c.args.p.now in
+    let f = c.instance-s.result.now in
+    let k = c.count-last.result - 1 in
+    let last : k ≡ last_of (st_func_trees fs) = last_is fs c.count-last.result c.count-last.ensures.count in
+    let here : slice_get (st_func_trees fs) k ≡ Some s = rw last found in
+    let none : AreMarks (length c.add_inputs.new.nl.cells) 0 c.new-marks.result.items = rw c.new-marks.ensures.items (no_marks (length c.add_inputs.new.nl.cells)) in
+    let all : AreMarks (length c.lower_instance.new.nl.cells) (0 + length s.nodes) c.lower_instance.new.marks.items = c.in-Ok.ensures.marks s 0 here none in
+    let same : length c.lower_instance.new.nl.cells ≡ length c.add_results.new.nl.cells = ap (λ (n : Circuit). length n.cells) (sym c.in_ok-add_results.ensures.added) in
+    let there : AreMarks (length c.add_results.new.nl.cells) (length s.nodes) c.lower_instance.new.marks.items =
+    subst (λ (i : ℕ). AreMarks i (length s.nodes) c.lower_instance.new.marks.items) same
+    (subst (λ (i : ℕ). AreMarks (length c.lower_instance.new.nl.cells) i c.lower_instance.new.marks.items) (let plain : 0 + length s.nodes ≡ length s.nodes = omega arith in plain) all) in
+    let instances : List StFuncTree = st_func_trees fs in
+    let is : st_func_tree f ≡ s = same_Some _ _ (sym (instance_at fs k f c.instance-s.ensures) ∙ here) in
+    let begun : HasBegun (st_func_tree f) c.add_inputs.new.nl = has_begun (st_func_tree f) 2000000 _ _ _ _ c.new-nl.ensures c.in_ok-rst.ensures.added c.in_ok-ins.ensures.cells (ap st_trees c.deref.ensures.value) in
+    let begin : length c.add_inputs.new.nl.cells ≡ 1 + length (input_ports (streams_of s.ins)) =
+    subst (λ (u : StFuncTree). length c.add_inputs.new.nl.cells ≡ 1 + length (input_ports (streams_of u.ins))) is (begun_long (st_func_tree f) c.add_inputs.new.nl begun) in
+    let kept : c.lower_instance.new.nl.cells ≡ c.add_results.new.nl.cells = ap (λ (n : Circuit). n.cells) (sym c.in_ok-add_results.ensures.added) in
+    let front : number_of is_input c.lower_instance.new.nl.cells (length c.add_inputs.new.nl.cells) ≡ length c.add_inputs.new.nl.cells =
+    begun_inputs (st_func_tree f) c.add_inputs.new.nl c.lower_instance.new.nl begun c.in-Ok.ensures.grows.grows.extends in
+    let made : AreNodeCells instances k s c.lower_instance.new.nl.cells (length c.add_inputs.new.nl.cells) c.lower_instance.new.marks.items = c.in-Ok.ensures.nodes s here c.new-marks.ensures.items in
+    let raw : AreNodeCells instances k s c.add_results.new.nl.cells (length c.add_inputs.new.nl.cells) c.lower_instance.new.marks.items =
+    subst (λ (cells : List SizedCell). AreNodeCells instances k s cells (length c.add_inputs.new.nl.cells) c.lower_instance.new.marks.items) kept made in
+    let front_there : number_of is_input c.add_results.new.nl.cells (length c.add_inputs.new.nl.cells) ≡ length c.add_inputs.new.nl.cells =
+    subst (λ (cells : List SizedCell). number_of is_input cells (length c.add_inputs.new.nl.cells) ≡ length c.add_inputs.new.nl.cells) kept front in
+    let whole : AreNodeCells instances k s c.in_ok-tidied.tidied.netlist.cells (length c.add_inputs.new.nl.cells) c.in_ok-tidied.tidied.marks.items =
+    tidied_stretches c.add_results.new.nl c.in_ok-tidied.tidied.netlist (length c.add_inputs.new.nl.cells) (length s.nodes) (timings_in instances k s) (results_load instances k s) c.lower_instance.new.marks.items c.in_ok-tidied.tidied.marks.items
+    c.in_ok-tidied.ensures.tidied there (c.in_ok-tidied.ensures.moved (length s.nodes) there) front_there raw in
+    subst (λ (i : ℕ). AreNodeCells instances i s c.in_ok-tidied.tidied.netlist.cells (1 + length (input_ports (streams_of s.ins))) c.in_ok-tidied.tidied.marks.items) last
+    (subst (λ (b : ℕ). AreNodeCells instances k s c.in_ok-tidied.tidied.netlist.cells b c.in_ok-tidied.tidied.marks.items) begin whole)
+
+pub returns-clause-lean : goal.returns-clause-lean
+returns-clause-lean c = c.in_ok-tidied.ensures.tidied.lean
