@@ -1,0 +1,11 @@
+pub mod Waves
+pub mod WaveText
+pub mod TextWords
+pub mod Codes
+pub mod Forms
+pub mod Readings
+pub mod Machine
+pub mod Rows
+pub mod Held
+pub mod Reads
+pub mod Laws
