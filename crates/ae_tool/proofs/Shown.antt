@@ -1,5 +1,5 @@
 -- The lines and the sums of a run are those of the module on the blocks of the rows.
-use Rattle.std.proofs.Common.{◌≡◌, ℕ, zero, suc, ◌+◌, ◌*◌, All, List, [], ◌∷◌, ◌++◌, length, map, take, drop, Some, slice_get, refl, ap, sym, ◌∙◌, subst}
+use Rattle.std.proofs.Common.{◌≡◌, ℕ, false, zero, suc, ◌+◌, ◌*◌, All, List, [], ◌∷◌, ◌++◌, length, map, take, drop, Some, slice_get, refl, ap, sym, ◌∙◌, subst}
 use Rattle.std.proofs.lemmas.List.{length-map}
 use Rattle.std.proofs.lemmas.Option.{same_Some, slice_get_within}
 use Rattle.ae_word.specs.AtomTree.{WordKind}
@@ -115,7 +115,7 @@ told_words p slowdown instances times n report notes blocks table ws k d a =
 same_report : (p : ProgramTree) (slowdown : ℕ) (instances : List StFuncTree) (n o : Circuit) (report other : ReportTree) (notes more : List NoteTree) → IsCompiled p slowdown instances n report notes → IsCompiled p slowdown instances o other more → report ≡ other
 same_report p slowdown instances n o report other notes more d e =
     let same : d.instance ≡ e.instance = same_Some d.instance e.instance (sym d.last ∙ e.last) in
-    d.reported ∙ ap (report_of slowdown instances) same ∙ sym e.reported
+    d.reported ∙ ap (report_of false slowdown instances) same ∙ sym e.reported
 
 pub run_text_is : (fill : ℕ) (p : ProgramTree) (slowdown : ℕ) (instances : List StFuncTree) (table : List (List (List ℕ))) (n : Circuit) (report : ReportTree) (notes : List NoteTree) (built clocks text : List ℕ) → IsCompiled p slowdown instances n report notes
     → IsModuleText p slowdown instances built → Spells built (noted_module notes n.cells n.outlets (length report.outs))
