@@ -2,6 +2,7 @@
 //! and behind it either lines that are answered one by one, or one program.
 #![tactic(auto)]
 
+mod fused;
 mod layouts;
 mod pieces;
 mod programs;
@@ -49,7 +50,7 @@ fn answer(alloc: Global, out: &mut String, head: &str, text: &str) -> Result<(),
     let given = numbers(alloc, head)?;
     let asked = word_at(head, 0);
     match asked {
-        "read" | "print" | "types" | "instances" | "timings" | "limits" => {
+        "read" | "print" | "types" | "instances" | "timings" | "limits" | "moves" => {
             answer_program(alloc, out, asked, &given, text)
         }
         _ => answer_lines(alloc, out, head, &given, text),

@@ -4,6 +4,7 @@ ghost use Rattle.std.specs.Prelude.{IsTrue};
 ghost use Rattle.ae_seq.specs.Formed.{formed};
 ghost use Rattle.ae_seq.specs.ProgramTree.{program_tree};
 
+use crate::fused::tell_fused;
 use crate::scheduled::tell_schedules;
 use crate::timed::tell_limits;
 use ae_parse::{parse, print};
@@ -106,6 +107,7 @@ fn answer_typed(
     match asked {
         "types" => tell_types(out, p),
         "limits" => tell_limits(alloc, out, p, given),
+        "moves" => tell_fused(alloc, out, p, given),
         _ => tell_schedules(alloc, out, p, asked == "timings", given),
     }
 }

@@ -13,8 +13,8 @@ use std::alloc::{AllocError, Global};
 // More than a table has.
 const MANY: u32 = 100;
 
-// A number, if there is one; whether there was.
-fn tell(out: &mut String, number: Option<u32>) -> Result<bool, AllocError> {
+/// A number, if there is one; whether there was.
+pub fn tell(out: &mut String, number: Option<u32>) -> Result<bool, AllocError> {
     match number {
         Some(number) => {
             write!(out, " {number}")?;
