@@ -66,7 +66,19 @@ def cases():
     yield "a bit of a net without a range", sim, short + "assign b=a[0];endmodule", 7, "refused bad module kind item 1\n"
     yield "a module that is too heavy", sim, heavy(), 7, "refused bad module large\n"
     # No words, or words that no shell would hand on: none of them names a job.
-    for words in ([], [""], ["build", "1 "], ["build", "１"], ["run", 1, 2**64], ["check", "x" * 100_000], ["sim"] + ["0"] * 1000):
+    no_text = "\udcff"  # the byte 255 alone, which is no UTF-8
+    for words in (
+        [],
+        [""],
+        [no_text],
+        ["check", no_text],
+        ["build", "1 "],
+        ["build", "１"],
+        ["run", 1, 2**64],
+        ["check", "x" * 100_000],
+        ["sim"] + ["0"] * 1000,
+        ["0"] * 200_000,
+    ):
         yield "words that name no job", words, "", 1, "refused usage\n"
 
 

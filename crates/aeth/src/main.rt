@@ -12,9 +12,6 @@ use std::env::{self, Env};
 use std::io;
 use std::process::ExitCode;
 
-// The status of a program that could not read its words; no job ends with it.
-const NO_WORDS: u8 = 20;
-
 // The status of a program without memory.
 const NO_MEMORY: u8 = 12;
 
@@ -30,10 +27,9 @@ fn words<R: Env + Alloc<A = Global>>(rt: &R) -> io::Result<Vec<String>> {
 fn main(rt: HostRuntime) -> ExitCode {
     let words = match words(&rt) {
         Ok(words) => words,
-        Err(e) => {
-            let no_memory = e.kind() == io::ErrorKind::OutOfMemory;
-            return ExitCode::from(if no_memory { NO_MEMORY } else { NO_WORDS });
-        }
+        Err(e) if e.kind() == io::ErrorKind::OutOfMemory => return ExitCode::from(NO_MEMORY),
+        // A word that is no UTF-8 names no job, and neither do no words.
+        Err(_) => Vec::new(rt.alloc()),
     };
     let mut source = StdSource::new(rt.reader());
     let mut sink = StdSink::new(io::writer(&rt));
