@@ -1,14 +1,17 @@
 #!/usr/bin/env python3
 """What the compiler answers where reading or writing fails, at once and in mid-stream, and that it reads nothing where its
 words name no job or a demo. A file that may not grow past some bytes is a sink that fails behind them, and a socket whose
-other end goes away is a source that does."""
+other end goes away is a source that does. Then devices: a full one, an endless one, closed ends of pipes, and a terminal."""
 import os
+import pty
 import resource
 import signal
 import socket
 import subprocess
 import sys
 import tempfile
+import time
+import tty
 
 from common import AETH, TOP
 
@@ -16,6 +19,8 @@ INCREMENT = (TOP / "examples" / "increment.aeth").read_bytes()
 PROGRAM = INCREMENT.split(b"%%")[0]
 FOLDER = os.open("/", os.O_RDONLY)  # a folder is a source that fails at once
 MOST = 16_777_216
+SMALL = b"fn main a:u8\nend a\n"
+SECONDS = 20
 
 
 def answer(words, source, room=None):
@@ -91,8 +96,55 @@ def piecewise():
     yield whole[1].endswith(b"%% clocks\n0 . 1 1 1 1\n1 v 2 3 4 0\n"), "run"
 
 
+def checked(**ends):
+    """The same of `check` on a small program, where its input, output or closed streams are given."""
+    done = subprocess.run([AETH, "check"], stderr=subprocess.DEVNULL, timeout=SECONDS, **ends)
+    return done.returncode, done.stdout or b""
+
+
+def hung_up():
+    """A terminal that hangs up behind a program."""
+    near, far = pty.openpty()
+    tty.setraw(far)
+    os.write(near, SMALL)
+    with subprocess.Popen([AETH, "check"], stdin=far, stdout=subprocess.PIPE, stderr=subprocess.DEVNULL) as running:
+        time.sleep(0.3)
+        os.close(near)
+        os.close(far)
+        return running.wait(SECONDS), running.stdout.read()
+
+
+def stopped():
+    """A run that is stopped and goes on while it waits for its input."""
+    with subprocess.Popen([AETH, "check"], stdin=subprocess.PIPE, stdout=subprocess.PIPE, bufsize=0) as running:
+        running.stdin.write(SMALL[:5])
+        for held_up in (signal.SIGSTOP, signal.SIGCONT) * 3:
+            time.sleep(0.05)
+            running.send_signal(held_up)
+        running.stdin.write(SMALL[5:])
+        running.stdin.close()
+        return running.wait(SECONDS), running.stdout.read()
+
+
+def devices():
+    """What each device is, what is answered with it, and what should be."""
+    fault, unwritten = (9, b"refused read fault\n"), (10, b"")
+    with open("/dev/full", "wb") as full, open("/dev/zero", "rb") as endless:
+        yield "a full device", checked(input=SMALL, stdout=full), unwritten
+        yield "an input without end", checked(stdin=endless, stdout=subprocess.PIPE), (11, b"refused too long\n")
+    read, write = os.pipe()
+    os.close(read)
+    yield "a pipe that nobody reads", checked(input=SMALL, stdout=write), unwritten
+    os.close(write)
+    yield "no output", checked(input=SMALL, preexec_fn=lambda: os.close(1)), unwritten
+    yield "no input", checked(stdout=subprocess.PIPE, preexec_fn=lambda: os.close(0)), fault
+    yield "a terminal that hangs up", hung_up(), fault
+    yield "a run that is stopped", stopped(), (0, b"1 fn main a:u8\n2 end u8\n")
+
+
 def main():
     answers = [*untouched(), *piecewise()]
+    answers += [(found == wanted, f"{name}: {found}, not {wanted}") for name, found, wanted in devices()]
     for words, source, room, wanted in cases():
         found = answer(words, source, room)
         answers.append((found == wanted, f"{words} answers {found[0]} {found[1][:60]}, not {wanted}"))
