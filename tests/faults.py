@@ -2,6 +2,7 @@
 """What the compiler answers where reading or writing fails, at once and in mid-stream, and that it reads nothing where its
 words name no job or a demo. A file that may not grow past some bytes is a sink that fails behind them, and a socket whose
 other end goes away is a source that does. Then devices: a full one, an endless one, closed ends of pipes, and a terminal."""
+import fcntl
 import os
 import pty
 import resource
@@ -10,6 +11,7 @@ import socket
 import subprocess
 import sys
 import tempfile
+import termios
 import time
 import tty
 
@@ -108,6 +110,9 @@ def hung_up():
     tty.setraw(far)
     os.write(near, SMALL)
     with subprocess.Popen([AETH, "check"], stdin=far, stdout=subprocess.PIPE, stderr=subprocess.DEVNULL) as running:
+        # Behind the program it waits for more.
+        while int.from_bytes(fcntl.ioctl(far, termios.FIONREAD, b"\0" * 4), sys.byteorder):
+            time.sleep(0.01)
         time.sleep(0.3)
         os.close(near)
         os.close(far)
