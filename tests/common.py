@@ -11,6 +11,14 @@ TOP = pathlib.Path(__file__).resolve().parent.parent
 AETH = os.environ.get("AETH", TOP / "aeth")
 NO_LAYOUT = 5  # the status of a refusal for want of a layout
 FILL = 77
+INCREMENT = """fn inc x:u8
+one = const u8 1
+y = add x one
+end y
+fn main a:[4]u8
+b = map inc a
+end b
+"""
 
 
 def aeth(words, text):
@@ -27,6 +35,24 @@ def examples():
         text = path.read_text()
         lines = [line.split("#")[0].split() for line in text.split("%%", 1)[1].splitlines()[1:]]
         yield path.stem, text, [[int(word) for word in line] for line in lines if line]
+
+
+def runs_of_examples():
+    """Name, slowdown, text, rows and run of each example at each of some slowdowns at which it has layouts."""
+    for name, text, rows in examples():
+        for slowdown in (1, 3, 8):
+            status, shown = aeth(["run", slowdown, FILL], text)
+            if status != NO_LAYOUT:
+                yield name, slowdown, text, rows, shown
+
+
+def told(test, found):
+    """Tells the faults among what was found, "" where there is none, and how many there are; whether there are any."""
+    faults = [fault for fault in found if fault]
+    for fault in faults:
+        print(f"{test}: {fault}")
+    print(f"{test}: {len(found) - len(faults)} passed, {len(faults)} failed")
+    return bool(faults)
 
 
 def side_by_side(task, items):
@@ -145,14 +171,23 @@ def lines_under_icarus(folder, text):
     return done.stdout.decode().splitlines()
 
 
-def differs_under_icarus(folder, shown, slowdown, rows):
-    """What Icarus shows otherwise than the text of a run with the first words FILL, in any clock; "" where nothing."""
+def clock_words(shown):
+    """The module of the text of a run, and the words of its outputs in each clock."""
     module, lines = shown.split("%% clocks\n")
-    wanted = [line.split(" ", 2)[2] for line in lines.splitlines()]
-    clocked = input_rows(module, slowdown, rows, len(wanted))
-    found = lines_under_icarus(folder, module + bench(module, clocked))
+    return module, [line.split(" ", 2)[2] for line in lines.splitlines()]
+
+
+def first_apart(wanted, found):
+    """In which clock another line was found than was wanted; "" where in none."""
     apart = [f"clock {clock}: {other}, not {line}" for clock, (line, other) in enumerate(zip(wanted, found)) if line != other]
     return "" if found == wanted else (apart or [f"{len(found)} lines, not {len(wanted)}"])[0]
+
+
+def differs_under_icarus(folder, shown, slowdown, rows):
+    """What Icarus shows otherwise than the text of a run with the first words FILL, in any clock; "" where nothing."""
+    module, wanted = clock_words(shown)
+    clocked = input_rows(module, slowdown, rows, len(wanted))
+    return first_apart(wanted, lines_under_icarus(folder, module + bench(module, clocked)))
 
 
 LINTERS = {

@@ -3,7 +3,7 @@
 and `eval` gives these results on its rows. Signed words stand in rows as their codes."""
 import sys
 
-from common import aeth, examples, side_by_side
+from common import aeth, examples, side_by_side, told
 
 
 def signed(words, width=16):
@@ -154,11 +154,7 @@ def fault(example):
 
 def main():
     found = list(side_by_side(fault, list(examples())))
-    for line in filter(None, found):
-        print(f"gallery: {line}")
-    failed = sum(map(bool, found))
-    print(f"gallery: {len(found) - failed} passed, {failed} failed")
-    return failed > 0
+    return told("gallery", found)
 
 
 sys.exit(main())

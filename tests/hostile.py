@@ -1,19 +1,11 @@
 #!/usr/bin/env python3
 """Inputs of someone who means ill, or of a program that has gone wrong: at each limit and one past it, cut anywhere, and as
 large as an input may be. Each has its stated answer, and the largest one comes in time."""
+import resource
 import sys
-import time
 
-from common import aeth
+from common import INCREMENT, aeth
 
-INCREMENT = """fn inc x:u8
-one = const u8 1
-y = add x one
-end y
-fn main a:[4]u8
-b = map inc a
-end b
-"""
 SUMMED = """module acc (input wire clk, input wire [3:0] a, output reg [3:0] t);
   always @(posedge clk) t <= t + a;
 endmodule
@@ -82,12 +74,18 @@ def cases():
         yield "words that name no job", words, "", 1, "refused usage\n"
 
 
+def spent():
+    """Seconds of a processor that all runs so far took: unlike those of a clock they do not tell what else the machine does."""
+    used = resource.getrusage(resource.RUSAGE_CHILDREN)
+    return used.ru_utime + used.ru_stime
+
+
 def main():
     passed = failed = 0
     for shows, words, text, status, output in cases():
-        begin = time.monotonic()
+        begin = spent()
         answer = aeth(words, text)
-        took = time.monotonic() - begin
+        took = spent() - begin
         well = answer[0] == status and output in (None, answer[1]) and took < SECONDS
         passed, failed = passed + well, failed + (not well)
         if not well:

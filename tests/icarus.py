@@ -4,7 +4,7 @@ after reset, those of the rows, and those behind them. Without Icarus it says so
 import pathlib
 import tempfile
 
-from common import FILL, NO_LAYOUT, aeth, differs_under_icarus, examples, missing
+from common import differs_under_icarus, missing, runs_of_examples
 
 
 def main():
@@ -12,14 +12,10 @@ def main():
         return
     runs = 0
     with tempfile.TemporaryDirectory() as folder:
-        for name, text, rows in examples():
-            for slowdown in (1, 3, 8):
-                status, shown = aeth(["run", slowdown, FILL], text)
-                if status == NO_LAYOUT:
-                    continue
-                apart = differs_under_icarus(pathlib.Path(folder) / f"{name}{slowdown}", shown, slowdown, rows)
-                assert not apart, (name, slowdown, apart)
-                runs += 1
+        for name, slowdown, _, rows, shown in runs_of_examples():
+            apart = differs_under_icarus(pathlib.Path(folder) / f"{name}{slowdown}", shown, slowdown, rows)
+            assert not apart, (name, slowdown, apart)
+            runs += 1
     print(f"icarus: {runs} runs are the same in every clock")
 
 

@@ -5,7 +5,7 @@ import re
 import subprocess
 import sys
 
-from common import AETH, TOP, side_by_side
+from common import AETH, TOP, side_by_side, told
 
 ADD = "fn add2 x:u8 y:u8\nz = add x y\nend z\n"
 INC = "fn inc x:u8\none = const u8 1\ny = add x one\nend y\n"
@@ -85,11 +85,7 @@ def silent():
 
 def main():
     found = [*side_by_side(fault, CASES), silent()]
-    for line in filter(None, found):
-        print(f"mistakes: {line}")
-    failed = sum(map(bool, found))
-    print(f"mistakes: {len(found) - failed} passed, {failed} failed")
-    return failed > 0
+    return told("mistakes", found)
 
 
 sys.exit(main())

@@ -5,18 +5,9 @@ and the words of the clocks in which results stand."""
 import re
 import sys
 
-from common import TOP, aeth
+from common import INCREMENT, TOP, aeth
 
-INCREMENT = """fn inc x:u8
-one = const u8 1
-y = add x one
-end y
-fn main a:[4]u8
-b = map inc a
-end b
-%%
-1 2 3 255
-"""
+INCREMENTED = INCREMENT + "%%\n1 2 3 255\n"
 SQUARES = """fn f x:u8
 q = mul x x
 r = add q x
@@ -64,9 +55,9 @@ def one_line(result, rows, version=1):
 SUM = one_line(("[4]u8", "reduce add a"), "1 2 3 4")
 SCAN = one_line(("[4]u8", "scan add a"), "1 2 3 4\n5 6 7 8", 2)
 RUNS = [
-    (4, INCREMENT, ["latency 1", "load 5", "out TSeq 4 0 u8"], 5, "1: 2, 2: 3, 3: 4, 4: 0"),
-    (3, INCREMENT, ["latency 1", "load 9", "out TSeq 2 1 SSeq 2 u8"], 4, "1: 2 3, 2: 4 0"),
-    (8, INCREMENT, ["latency 1", "load 5", "out TSeq 4 0 TSeq 1 1 u8"], 9, "1: 2, 3: 3, 5: 4, 7: 0"),
+    (4, INCREMENTED, ["latency 1", "load 5", "out TSeq 4 0 u8"], 5, "1: 2, 2: 3, 3: 4, 4: 0"),
+    (3, INCREMENTED, ["latency 1", "load 9", "out TSeq 2 1 SSeq 2 u8"], 4, "1: 2 3, 2: 4 0"),
+    (8, INCREMENTED, ["latency 1", "load 5", "out TSeq 4 0 TSeq 1 1 u8"], 9, "1: 2, 3: 3, 5: 4, 7: 0"),
     (1, SQUARES, ["latency 3", "muls 2", "load 15"], 4, "3: 12 164"),
     (2, SQUARES, ["latency 3", "muls 1", "load 8"], 5, "3: 12, 4: 164"),
     (3, one_line(("[6]u8", "shift 1 a"), "1 2 3 4 5 6\n7 8 9 10 11 12"), ["latency 0", "load 5"], 6,
@@ -134,7 +125,7 @@ def runs():
 
 
 def without_rows():
-    for text in (INCREMENT.split("%%")[0], INCREMENT.split("1 2 3")[0]):
+    for text in (INCREMENTED.split("%%")[0], INCREMENTED.split("1 2 3")[0]):
         status, shown = aeth(["run", 1, 0], text)
         yield status == 0 and shown.endswith("endmodule\n%% clocks\n"), "no clocks without rows"
 
@@ -146,7 +137,7 @@ def large():
     yield module.count("*") == 32768, "one sign of a product for each multiplier"
     status, shown = aeth(["eval"], one_line(("[1]u8", "up 4096 a"), "\n".join(["7"] * 1023)))
     yield (status, shown) == (0, (" ".join(["7"] * 4096) + "\n") * 1023), "4,190,208 words"
-    status, module = aeth(["build", 1024], INCREMENT.replace("[4]", "[1024]"))
+    status, module = aeth(["build", 1024], INCREMENTED.replace("[4]", "[1024]"))
     text = module_of(module)
     yield status == 0 and "// load 5\n" in module, "1,024 bytes one by one"
     yield weight(text) <= 333, f"the module weighs {weight(text)}"

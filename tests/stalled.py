@@ -6,16 +6,8 @@ import pathlib
 import random
 import tempfile
 
-from common import FILL, NO_LAYOUT, aeth, clocked_bench, examples, input_rows, lines_under_icarus, missing, ports
-
-INCREMENT = """fn inc x:u8
-one = const u8 1
-y = add x one
-end y
-fn main a:[4]u8
-b = map inc a
-end b
-"""
+from common import FILL, INCREMENT, aeth, clock_words, clocked_bench, first_apart, input_rows, lines_under_icarus, missing, ports
+from common import runs_of_examples
 
 
 def stopped_clock():
@@ -40,14 +32,11 @@ def with_stalls(rows, widths, luck):
 
 def differs(folder, shown, stalled, slowdown, rows):
     """What the enabled clocks show otherwise than the lines of `run`; "" where nothing."""
-    module, lines = shown.split("%% clocks\n")
-    wanted = [line.split(" ", 2)[2] for line in lines.splitlines()]
+    module, wanted = clock_words(shown)
     ins = ports(stalled, "input")
     assert [name for name, _ in ins[:3]] == ["clk", "rst", "en"] and ins[3:] == ports(module, "input")[2:]
     clocks = with_stalls(input_rows(module, slowdown, rows, len(wanted)), [width for _, width in ins[3:]], random.Random(slowdown))
-    found = lines_under_icarus(folder, stalled + clocked_bench(stalled, clocks))
-    apart = [f"clock {clock}: {other}, not {line}" for clock, (line, other) in enumerate(zip(wanted, found)) if line != other]
-    return "" if found == wanted else (apart or [f"{len(found)} lines, not {len(wanted)}"])[0]
+    return first_apart(wanted, lines_under_icarus(folder, stalled + clocked_bench(stalled, clocks)))
 
 
 def main():
@@ -56,16 +45,12 @@ def main():
         return
     runs = 0
     with tempfile.TemporaryDirectory() as folder:
-        for name, text, rows in examples():
-            for slowdown in (1, 3, 8):
-                status, shown = aeth(["run", slowdown, FILL], text)
-                if status == NO_LAYOUT:
-                    continue
-                status, stalled = aeth(["stall", slowdown], text)
-                assert status == 0, (name, slowdown, stalled)
-                apart = differs(pathlib.Path(folder) / f"{name}{slowdown}", shown, stalled, slowdown, rows)
-                assert not apart, (name, slowdown, apart)
-                runs += 1
+        for name, slowdown, text, rows, shown in runs_of_examples():
+            status, stalled = aeth(["stall", slowdown], text)
+            assert status == 0, (name, slowdown, stalled)
+            apart = differs(pathlib.Path(folder) / f"{name}{slowdown}", shown, stalled, slowdown, rows)
+            assert not apart, (name, slowdown, apart)
+            runs += 1
     print(f"stalled: {runs} runs with stalls between are the same in every enabled clock")
 
 
