@@ -1,6 +1,6 @@
 -- A copy that goes on by one cell.
-use Rattle.std.proofs.Common.{ℕ, ◌≡◌, ◌+◌, ◌<◌, ◌≤◌, List, [], ◌∷◌, ◌++◌, length, length-append, take, Option, Some, None, slice_get, Bool, true, false, not, inl, inr, arith, refl, ap, sym, ◌∙◌, subst}
-use Rattle.std.proofs.lemmas.Bool.{cases_Bool, cases_lt}
+use Rattle.std.proofs.Common.{ℕ, ◌≡◌, ◌+◌, ◌<◌, ◌≤◌, List, [], ◌∷◌, ◌++◌, length, length-append, take, Option, Some, None, slice_get, Bool, true, false, not, ◌||◌, inl, inr, arith, refl, ap, sym, ◌∙◌, subst}
+use Rattle.std.proofs.lemmas.Bool.{cases_Bool, cases_lt, le-leb}
 use Rattle.std.proofs.lemmas.List.{take-append-le, take_at}
 use Rattle.std.proofs.lemmas.List.Sums.{length-filter}
 use Rattle.std.proofs.lemmas.Option.{slice_get_within}
@@ -8,10 +8,10 @@ use Rattle.ae_netlist.specs.declared.cell.NetId.{NetId}
 use Rattle.ae_netlist.specs.declared.cell.Cell.{Cell}
 use Rattle.ae_netlist.specs.declared.cell.Cell.TheVariants.{Input, Const, Op, Reg, Mem, Peek}
 use Rattle.ae_netlist.specs.declared.cell.SizedCell.{SizedCell}
-use Rattle.ae_netlist.specs.Circuit.{IsPlain, new_register}
+use Rattle.ae_netlist.specs.Circuit.{IsPlain}
 use Rattle.ae_netlist.specs.Counts.{count_of, is_input, is_mul, is_product}
 use Rattle.ae_netlist.proofs.Gets.{get_left, get_pushed, get_push_cases}
-use Rattle.ae_tidy.specs.Images.{Maps, IsImage, IsThere, Stands, is_late, late_in, late_cell, may_merge}
+use Rattle.ae_tidy.specs.Images.{Maps, IsImage, IsThere, Stands, fresh_cell, is_late, late_in, late_cell, may_merge}
 use Rattle.ae_tidy.specs.Marks.{IsKept, is_root}
 use Rattle.ae_tidy.specs.Copies.{IsCopied, IsMapped}
 use Rattle.ae_tidy.specs.Places.{AreRising}
@@ -24,32 +24,32 @@ image_map table more (Input port) image f h = h
 image_map table more (Const k) image f h = h
 image_map table more (Op op args) image f h = (h.0, h.1, f _ _ h.2, f _ _ h.3, f _ _ h.4)
 image_map table more (Reg next) image f h = (h.0, h.1, f _ _ h.2)
-image_map table more (Mem depth at next enable) image f h = absurd h
-image_map table more (Peek mem at) image f h = absurd h
+image_map table more (Mem depth at next enable) image f h = (h.0, h.1, h.2, h.3, f _ _ h.4, f _ _ h.5, f _ _ h.6)
+image_map table more (Peek mem at) image f h = (h.0, h.1, h.2, f _ _ h.3, f _ _ h.4)
 
-pub image_plain : (table : List (Option NetId)) (cell image : Cell) → IsImage table cell image → IsPlain image
-image_plain table (Input port) image h = rw h tt
-image_plain table (Const k) image h = rw h tt
-image_plain table (Op op args) image h = rw h.1 tt
-image_plain table (Reg next) image h = rw h.1 tt
-image_plain table (Mem depth at next enable) image h = absurd h
-image_plain table (Peek mem at) image h = absurd h
+pub image_plain : (table : List (Option NetId)) (cell image : Cell) → IsPlain cell → IsImage table cell image → IsPlain image
+image_plain table (Input port) image p h = rw h tt
+image_plain table (Const k) image p h = rw h tt
+image_plain table (Op op args) image p h = rw h.1 tt
+image_plain table (Reg next) image p h = rw h.1 tt
+image_plain table (Mem depth at next enable) image p h = absurd p
+image_plain table (Peek mem at) image p h = rw h.2 tt
 
 pub image_input : (table : List (Option NetId)) (cell image : Cell) → IsImage table cell image → is_input image ≡ is_input cell
 image_input table (Input port) image h = rw h refl
 image_input table (Const k) image h = rw h refl
 image_input table (Op op args) image h = rw h.1 refl
 image_input table (Reg next) image h = rw h.1 refl
-image_input table (Mem depth at next enable) image h = absurd h
-image_input table (Peek mem at) image h = absurd h
+image_input table (Mem depth at next enable) image h = rw h.3 refl
+image_input table (Peek mem at) image h = rw h.2 refl
 
 pub image_mul : (table : List (Option NetId)) (cell image : Cell) → IsImage table cell image → is_mul image ≡ is_mul cell
 image_mul table (Input port) image h = rw h refl
 image_mul table (Const k) image h = rw h refl
 image_mul table (Op op args) image h = rw h.1 refl
 image_mul table (Reg next) image h = rw h.1 refl
-image_mul table (Mem depth at next enable) image h = absurd h
-image_mul table (Peek mem at) image h = absurd h
+image_mul table (Mem depth at next enable) image h = rw h.3 refl
+image_mul table (Peek mem at) image h = rw h.2 refl
 
 pub image_same : (table : List (Option NetId)) (cell image : Cell) → is_input cell ≡ true → IsImage table cell image → image ≡ cell
 image_same table (Input port) image e h = h
@@ -86,6 +86,50 @@ not_root (Op op args) e = (refl, e)
 not_root (Reg next) e = (refl, e)
 not_root (Mem depth at next enable) e = (refl, e)
 not_root (Peek mem at) e = (refl, e)
+
+-- ---- late cells
+
+-- they are registers and memories
+pub late_input : (n : ℕ) (cell : Cell) → late_cell n cell ≡ true → is_input cell ≡ false
+late_input n (Input port) e = cc
+late_input n (Const k) e = cc
+late_input n (Op op args) e = cc
+late_input n (Reg next) e = refl
+late_input n (Mem depth at next enable) e = refl
+late_input n (Peek mem at) e = cc
+
+pub late_mul : (n : ℕ) (cell : Cell) → late_cell n cell ≡ true → is_mul cell ≡ false
+late_mul n (Input port) e = cc
+late_mul n (Const k) e = cc
+late_mul n (Op op args) e = cc
+late_mul n (Reg next) e = refl
+late_mul n (Mem depth at next enable) e = refl
+late_mul n (Peek mem at) e = cc
+
+pub fresh_input : (own : ℕ) (cell : Cell) → is_input (fresh_cell own cell) ≡ false
+fresh_input own (Mem depth at next enable) = refl
+fresh_input own _ = refl
+
+pub fresh_mul : (own : ℕ) (cell : Cell) → is_mul (fresh_cell own cell) ≡ false
+fresh_mul own (Mem depth at next enable) = refl
+fresh_mul own _ = refl
+
+pub fresh_plain : (own : ℕ) (cell : Cell) → IsPlain cell → IsPlain (fresh_cell own cell)
+fresh_plain own (Mem depth at next enable) p = absurd p
+fresh_plain own (Input port) p = tt
+fresh_plain own (Const k) p = tt
+fresh_plain own (Op op args) p = tt
+fresh_plain own (Reg next) p = tt
+fresh_plain own (Peek mem at) p = tt
+
+-- one that names itself is late
+pub fresh_late : (own : ℕ) (cell : Cell) → late_cell own (fresh_cell own cell) ≡ true
+fresh_late own (Mem depth at next enable) = ap (λ (b : Bool). b || (b || b)) (le-leb own own (omega arith))
+fresh_late own (Input port) = le-leb own own (omega arith)
+fresh_late own (Const k) = le-leb own own (omega arith)
+fresh_late own (Op op args) = le-leb own own (omega arith)
+fresh_late own (Reg next) = le-leb own own (omega arith)
+fresh_late own (Peek mem at) = le-leb own own (omega arith)
 
 pub late_is : (old : List SizedCell) (n : ℕ) (sized : SizedCell) → slice_get old n ≡ Some sized → is_late old n ≡ late_cell n sized.cell
 unfolding is_late
@@ -186,7 +230,9 @@ copied_merge old new keep table made i sized image net h wide alike early is kep
             let s = c.each k.0 net.0 (c.source net.0 k e) in
             let q : Some image ≡ Some s.image = sym is.found ∙ s.there in
             let same : image ≡ s.image = cc in
-            absurd (is.connected (ap (λ (x : SizedCell). x.cell) same ∙ s.fresh f (omega arith)))
+            let names : image.cell ≡ fresh_cell net.0 s.sized.cell = ap (λ (x : SizedCell). x.cell) same ∙ s.fresh f (omega arith) in
+            let both : false ≡ true = sym is.connected ∙ (ap (late_cell net.0) names ∙ fresh_late net.0 s.sized.cell) in
+            cc
       ];
       number = λ e. (let q : true ≡ false = sym e ∙ no_input in cc);
     } in
@@ -237,7 +283,7 @@ record IsMade (old new : List SizedCell) (table : List (Option NetId)) (made : L
   same : is_input sized.cell ≡ true → image ≡ sized
   mul : is_mul image.cell ≡ is_mul sized.cell
   alike : (is_late old i ≡ true → length new < 0) → IsImage table sized.cell image.cell
-  fresh : is_late old i ≡ true → 0 ≤ length new → image.cell ≡ Reg (record { 0 = length new })
+  fresh : is_late old i ≡ true → 0 ≤ length new → image.cell ≡ fresh_cell (length new) sized.cell
 
 copied_made : (old new : List SizedCell) (keep : List Bool) (table : List (Option NetId)) (made : List NetId) (i : ℕ) (sized image : SizedCell) (net own : NetId)
     → slice_get old i ≡ Some sized → image.width ≡ sized.width → net ≡ record { 0 = length new } → own ≡ record { 0 = i } → IsMade old new table made i sized image → IsKept keep i
@@ -308,23 +354,19 @@ copied_add old new keep table made i sized image net own h wide last mine alike 
     same_sized : (a b : SizedCell) → a.width ≡ b.width → a.cell ≡ b.cell → a ≡ b
     same_sized a b p q = ap (λ w. record { width = w; cell = a.cell }) p ∙ ap (λ c. record { width = b.width; cell = c }) q
 
-pub copied_late : (old new : List SizedCell) (keep : List Bool) (table : List (Option NetId)) (made : List NetId) (i width : ℕ) (cell : Cell) (net own : NetId)
-    → slice_get old i ≡ Some (record { width = width; cell = cell }) → net ≡ record { 0 = length new } → own ≡ record { 0 = i } → late_cell i cell ≡ true → IsKept keep i
-    → IsCopied old keep new table made i 0 → IsCopied old keep (new ++ new_register (length new) width ∷ []) (table ++ (Some net) ∷ []) (made ++ own ∷ []) (i + 1) 0
-copied_late old new keep table made i width (Reg next) net own h last mine late kept c =
-    copied_made old new keep table made i (record { width = width; cell = Reg next }) (new_register (length new) width) net own h refl last mine
+pub copied_late : (old new : List SizedCell) (keep : List Bool) (table : List (Option NetId)) (made : List NetId) (i : ℕ) (sized : SizedCell) (net own : NetId)
+    → slice_get old i ≡ Some sized → net ≡ record { 0 = length new } → own ≡ record { 0 = i } → late_cell i sized.cell ≡ true → IsKept keep i → IsCopied old keep new table made i 0
+    → IsCopied old keep (new ++ (record { width = sized.width; cell = fresh_cell (length new) sized.cell }) ∷ []) (table ++ (Some net) ∷ []) (made ++ own ∷ []) (i + 1) 0
+copied_late old new keep table made i sized net own h last mine late kept c =
+    let no_input : is_input sized.cell ≡ false = late_input i sized.cell late in
+    copied_made old new keep table made i sized (record { width = sized.width; cell = fresh_cell (length new) sized.cell }) net own h refl last mine
     (record {
-      input = refl;
-      same = λ e. cc;
-      mul = refl;
-      alike = λ l. absurd (none_below (length new) (l (late_is old i (record { width = width; cell = Reg next }) h ∙ late)));
+      input = fresh_input (length new) sized.cell ∙ sym no_input;
+      same = λ e. (let q : true ≡ false = sym e ∙ no_input in cc);
+      mul = fresh_mul (length new) sized.cell ∙ sym (late_mul i sized.cell late);
+      alike = λ l. absurd (none_below (length new) (l (late_is old i sized h ∙ late)));
       fresh = λ e l. refl;
     }) kept c
   where
     none_below : (n : ℕ) → n < 0 → ⊥
     none_below n l = omega arith
-copied_late old new keep table made i width (Input port) net own h last mine late kept c = cc
-copied_late old new keep table made i width (Const k) net own h last mine late kept c = cc
-copied_late old new keep table made i width (Op op args) net own h last mine late kept c = cc
-copied_late old new keep table made i width (Mem depth at next enable) net own h last mine late kept c = cc
-copied_late old new keep table made i width (Peek mem at) net own h last mine late kept c = cc

@@ -7,7 +7,7 @@ use Rattle.std.proofs.Math.Seq.{take-length}
 use Rattle.ae_netlist.specs.declared.cell.Cell.{Cell}
 use Rattle.ae_netlist.specs.declared.cell.Cell.TheVariants.{Input, Const, Op, Reg, Mem, Peek}
 use Rattle.ae_netlist.specs.declared.cell.SizedCell.{SizedCell}
-use Rattle.ae_netlist.specs.Counts.{count_of, number_of, is_input, is_mul}
+use Rattle.ae_netlist.specs.Counts.{count_of, number_of, is_input, is_memory, is_mul}
 use Rattle.ae_tidy.specs.Places.{AreMadeOf, IsLike, IsMoved}
 use Rattle.ae_tidy.proofs.Shaping.{count_found}
 
@@ -26,6 +26,14 @@ like_input (Op op args) image h = rw h.1 refl
 like_input (Reg next) image h = rw h.1 refl
 like_input (Mem depth at next enable) image h = rw h.3 refl
 like_input (Peek mem at) image h = rw h.2 refl
+
+pub like_memory : (cell image : Cell) → IsLike cell image → is_memory image ≡ is_memory cell
+like_memory (Input port) image h = rw h refl
+like_memory (Const k) image h = rw h refl
+like_memory (Op op args) image h = rw h.1 refl
+like_memory (Reg next) image h = rw h.1 refl
+like_memory (Mem depth at next enable) image h = rw h.3 refl
+like_memory (Peek mem at) image h = rw h.2 refl
 
 number_mono : (kind : Cell → Bool) (cells : List SizedCell) (a b : ℕ) → a ≤ b → number_of kind cells a ≤ number_of kind cells b
 number_mono kind cells a b l =
@@ -60,6 +68,14 @@ made_within : (old new : List SizedCell) (made : ℕ → ℕ) → AreMadeOf old 
 made_within old new made are m l =
     let own = are.each m (get_or new m (record { width = 1; cell = Const 0 })) (slice_get-get_or new m (record { width = 1; cell = Const 0 }) l) in
     slice_get_within old (made m) own.sized own.found
+
+-- of no kind are there more
+pub made_fewer : (kind : Cell → Bool) (old new : List SizedCell) (made : ℕ → ℕ) → ((cell image : Cell) → IsLike cell image → kind image ≡ kind cell) → AreMadeOf old new made → count_of kind new ≤ count_of kind old
+made_fewer kind old new made like are =
+    let all = between_counts kind old new made like are (length new) 0 0 (length old) (omega arith) (omega arith) (λ m am l. (omega arith, made_within old new made are m (omega arith))) in
+    let front : 0 + length new ≡ length new = omega arith in
+    let all2 = rw (front, take-length new, take-length old) at all in
+    omega (arith, all2)
 
 -- where all cells of a kind are in the copy, as many stand before a mark as before
 pub moved_number : (kind : Cell → Bool) (old new : List SizedCell) (made : ℕ → ℕ) → ((cell image : Cell) → IsLike cell image → kind image ≡ kind cell) → AreMadeOf old new made → count_of kind new ≡ count_of kind old

@@ -1,5 +1,5 @@
 -- Where marks are in a copy.
-use Rattle.std.proofs.Common.{ℕ, ◌≡◌, ◌+◌, ◌<◌, ◌≤◌, Bool, List, [], ◌∷◌, ◌++◌, length, Option, Some, slice_get, get_or, inl, inr, arith, refl, ap, sym, ◌∙◌, subst}
+use Rattle.std.proofs.Common.{ℕ, ◌≡◌, ◌+◌, ◌<◌, ◌≤◌, Bool, List, [], ◌∷◌, ◌++◌, length, Option, Some, slice_get, get_or, inl, inr, arith, ap, sym, ◌∙◌, subst}
 use Rattle.std.proofs.lemmas.Bool.{cases_eq, cases_lt}
 use Rattle.std.proofs.lemmas.List.{length_push}
 use Rattle.std.proofs.lemmas.Option.{slice_get_within, slice_get-get_or}
@@ -112,37 +112,18 @@ marks_push cells count next marks more h is a = subst (AreMarks next (count + 1)
 
 -- ---- the copy
 
-like_itself : (cell : Cell) → IsLike cell cell
-like_itself (Input port) = refl
-like_itself (Const k) = refl
-like_itself (Op op args) = (args, refl)
-like_itself (Reg next) = (next, refl)
-like_itself (Mem depth at next enable) = (at, next, enable, refl)
-like_itself (Peek mem at) = (mem, at, refl)
-
 image_like : (table : List (Option NetId)) (cell image : Cell) → IsImage table cell image → IsLike cell image
 image_like table (Input port) image h = h
 image_like table (Const k) image h = h
 image_like table (Op op args) image h = (h.0, h.1)
 image_like table (Reg next) image h = (h.0, h.1)
-image_like table (Mem depth at next enable) image h = absurd h
-image_like table (Peek mem at) image h = absurd h
-
-pub same_moved : (cells : List SizedCell) (count : ℕ) (marks : List ℕ) → AreMarks (length cells) count marks → AreMoved cells cells marks marks
-same_moved cells count marks a = record {
-  made = λ m. m;
-  are = record { each = λ m image h. record { sized = image; found = h; wide = refl; like = like_itself image.cell }; rising = λ i j l b. l };
-  long = refl;
-  each = λ i mark place h g.
-      let q : Some mark ≡ Some place = sym h ∙ g in
-      let same : mark ≡ place = cc in
-      record { within = a.within i place g; before = λ m l. omega arith; behind = λ m l b. omega arith };
-}
+image_like table (Mem depth at next enable) image h = (h.0, h.1, h.2, h.3)
+image_like table (Peek mem at) image h = (h.0, h.1, h.2)
 
 there : (made : List NetId) (m : ℕ) → m < length made → slice_get made m ≡ Some (get_or made m (record { 0 = 0 }))
 there made m l = slice_get-get_or made m (record { 0 = 0 }) l
 
-copied_made_of : (old new : List SizedCell) (keep : List Bool) (table : List (Option NetId)) (made : List NetId) (i d : ℕ) → AreImages old new table → IsCopied old keep new table made i d → AreMadeOf old new (made_of made)
+pub copied_made_of : (old new : List SizedCell) (keep : List Bool) (table : List (Option NetId)) (made : List NetId) (i d : ℕ) → AreImages old new table → IsCopied old keep new table made i d → AreMadeOf old new (made_of made)
 copied_made_of old new keep table made i d a c = record {
   each = λ m image h.
       let l : m < length made = (let b : m < length new = slice_get_within new m image h in omega (arith, c.all_made)) in

@@ -1,3 +1,4 @@
+pub mod Lists
 pub mod SameRuns
 pub mod Shaping
 pub mod Marking

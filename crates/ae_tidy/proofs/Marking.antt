@@ -62,8 +62,8 @@ each_map P Q (Input port) f h = tt
 each_map P Q (Const k) f h = tt
 each_map P Q (Op op args) f h = (f _ h.0, f _ h.1, f _ h.2)
 each_map P Q (Reg next) f h = f _ h
-each_map P Q (Mem depth at next enable) f h = tt
-each_map P Q (Peek mem at) f h = tt
+each_map P Q (Mem depth at next enable) f h = (f _ h.0, f _ h.1, f _ h.2)
+each_map P Q (Peek mem at) f h = (f _ h.0, f _ h.1)
 
 -- the next net of the line is followed
 pub followed_more : (cells : List SizedCell) (keep more : List Bool) (line longer : List NetId) (from : ℕ) (net : NetId) → Grows keep line more longer → AreFollowed cells keep line from → from < length line
@@ -103,18 +103,22 @@ followed_first cells none keep first line g empty = record {
 pub read_is : (keep : List Bool) (i : ℕ) (v b : Bool) → i < length keep → v ≡ get_or keep i v → v ≡ b → slice_get keep i ≡ Some b
 read_is keep i v b l e f = slice_get-get_or keep i v l ∙ ap Some (sym e ∙ f)
 
--- a register or an operator reads nets that are there
+-- a cell reads nets that are there
 pub reads_within : (cells : List SizedCell) (n : ℕ) (sized : SizedCell) → IsFormed cells → slice_get cells n ≡ Some sized → EachRead (λ r. r < length cells) sized.cell
-reads_within cells n sized formed h = cell_within cells n sized.width sized.cell (formed.each n sized h).cell
+reads_within cells n sized formed h = cell_within cells n sized.width sized.cell (slice_get_within cells n sized h) (formed.each n sized h).cell
   where
-    cell_within : (cells : List SizedCell) (n width : ℕ) (cell : Cell) → CellFits (take n cells) cells n width cell → EachRead (λ r. r < length cells) cell
-    cell_within cells n width (Input port) f = tt
-    cell_within cells n width (Const k) f = tt
-    cell_within cells n width (Op op args) f =
+    cell_within : (cells : List SizedCell) (n width : ℕ) (cell : Cell) → n < length cells → CellFits (take n cells) cells n width cell → EachRead (λ r. r < length cells) cell
+    cell_within cells n width (Input port) l f = tt
+    cell_within cells n width (Const k) l f = tt
+    cell_within cells n width (Op op args) l f =
         each_operand op (IsNet (take n cells)) (λ r. r < length cells) args (width_of (take n cells) (main_operand op args)) f.operands (λ m v k. slice_get_within cells m k.sized (get_from_take cells n m k.sized k.found))
-    cell_within cells n width (Reg next) f = slice_get_within cells next.0 f.sized f.found
-    cell_within cells n width (Mem depth at next enable) f = tt
-    cell_within cells n width (Peek mem at) f = tt
+    cell_within cells n width (Reg next) l f = slice_get_within cells next.0 f.sized f.found
+    cell_within cells n width (Mem depth at next enable) l f = elim f.2 [
+      | inl own ↦ (omega (arith, own.at_own), omega (arith, own.next_own), omega (arith, own.enable_own))
+      | inr w ↦ (slice_get_within cells at.0 w.address.net.sized w.address.net.found, slice_get_within cells next.0 w.word.sized w.word.found, slice_get_within cells enable.0 w.bit.sized w.bit.found)
+    ]
+    cell_within cells n width (Peek mem at) l f =
+        (slice_get_within cells mem.0 _ (get_from_take cells n mem.0 _ f.memory.found), slice_get_within cells at.0 f.address.net.sized (get_from_take cells n at.0 f.address.net.sized f.address.net.found))
 
 -- ---- roots and outputs
 

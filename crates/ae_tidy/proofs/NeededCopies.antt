@@ -12,7 +12,7 @@ use Rattle.ae_tidy.specs.Copies.{IsCopied, IsMapped, wanted, present}
 use Rattle.ae_tidy.specs.Images.{IsImage, Maps}
 use Rattle.ae_tidy.specs.Marks.{IsKept, is_root}
 use Rattle.ae_tidy.specs.Needed.{IsNeeded, Reads, as_output, as_root, as_read}
-use Rattle.ae_tidy.proofs.SameRuns.{AreImages}
+use Rattle.ae_tidy.proofs.SameRuns.{AreImages, one_place}
 
 -- ---- outputs, cells and their images
 
@@ -62,8 +62,17 @@ reads_image table (Op op args) image n h r = elim r [
   ]
 ]
 reads_image table (Reg next) image n h r = record { net = h.0.0; maps = rw r h.2; reads = rw h.1 refl }
-reads_image table (Mem depth at next enable) image n h r = absurd h
-reads_image table (Peek mem at) image n h r = absurd h
+reads_image table (Mem depth at next enable) image n h r = elim r [
+  | inl e ↦ record { net = h.0.0; maps = rw e h.4; reads = rw h.3 (inl refl) }
+  | inr s ↦ elim s [
+    | inl e ↦ record { net = h.1.0; maps = rw e h.5; reads = rw h.3 (inr (inl refl)) }
+    | inr e ↦ record { net = h.2.0; maps = rw e h.6; reads = rw h.3 (inr (inr refl)) }
+  ]
+]
+reads_image table (Peek mem at) image n h r = elim r [
+  | inl e ↦ record { net = h.0.0; maps = rw e h.3; reads = rw h.2 (inl refl) }
+  | inr e ↦ record { net = h.1.0; maps = rw e h.4; reads = rw h.2 (inr refl) }
+]
 
 -- ---- by induction on why a net is needed
 
@@ -99,14 +108,6 @@ needed_copy old new table a roots outlets n (as_output m k o h e) = output_copy 
 needed_copy old new table a roots outlets n (as_root m sized h e) = root_copy old new table n sized a (roots n sized h e) h e
 needed_copy old new table a roots outlets n (as_read m reader sized w h r) =
     read_copy old new table n reader sized a (needed_copy old new table a roots outlets reader w) h r
-
-one_place : (table : List (Option NetId)) (n m k : ℕ) → Maps table n m → Maps table n k → m ≡ k
-one_place table n m k p q =
-    let a : NetId = record { 0 = m } in
-    let b : NetId = record { 0 = k } in
-    let both : Some (Some a) ≡ Some (Some b) = sym p.found ∙ q.found in
-    let same : a ≡ b = cc in
-    ap (λ (x : NetId). x.0) same
 
 -- each cell of the copy stands in the place of a kept net
 pub all_needed : (old new : Circuit) (keep : List Bool) (table : List (Option NetId)) (made : List NetId) (i d : ℕ) → AreImages old.cells new.cells table

@@ -1,7 +1,7 @@
 -- The copy, whole, does what the netlist does.
-use Rattle.std.proofs.Common.{ℕ, zero, suc, ◌≡◌, ◌+◌, ◌<◌, ◌≤◌, List, [], ◌∷◌, ◌++◌, length, take, take-take, length-take, map, Option, Some, None, slice_get, get_or, Bool, true, false, cond, inl, inr, arith, refl, ap, sym, ◌∙◌, subst}
-use Rattle.std.proofs.lemmas.Bool.{cases_lt}
-use Rattle.std.proofs.lemmas.List.Sums.{sum_by-cons}
+use Rattle.std.proofs.Common.{ℕ, zero, suc, ◌≡◌, ◌+◌, ◌<◌, ◌≤◌, ◌^◌, List, [], ◌∷◌, ◌++◌, length, take, take-take, length-take, map, Option, Some, None, slice_get, get_or, Bool, true, false, inl, inr, arith, refl, ap, sym, ◌∙◌, subst}
+use Rattle.std.specs.Prelude.{◌==◌}
+use Rattle.std.proofs.lemmas.Bool.{cases_lt, eq-eqb, ne_eqb}
 use Rattle.std.proofs.lemmas.Option.{slice_get_within, slice_get-get_or}
 use Rattle.std.proofs.lemmas.List.{length-map, map-append}
 use Rattle.std.proofs.Math.Seq.{take-length}
@@ -11,19 +11,22 @@ use Rattle.ae_netlist.specs.declared.cell.Cell.{Cell}
 use Rattle.ae_netlist.specs.declared.cell.Cell.TheVariants.{Input, Const, Op, Reg, Mem, Peek}
 use Rattle.ae_netlist.specs.declared.cell.SizedCell.{SizedCell}
 use Rattle.ae_netlist.specs.declared.cell.Outlet.{Outlet}
-use Rattle.ae_netlist.specs.Circuit.{CellFits, Circuit, IsNet, IsFormed, HaveNets, width_of}
+use Rattle.ae_netlist.specs.Circuit.{Circuit, IsNet, IsMemory, IsFormed, HaveNets, width_of}
 use Rattle.ae_netlist.specs.Counts.{AreWhole, IsNumbered, cells_of, count_of, number_of, is_input, is_memory, is_mul}
 use Rattle.ae_netlist.specs.Runs.{word_at, HasOneRun}
 use Rattle.ae_netlist.proofs.Counting.{number_within}
-use Rattle.ae_netlist.proofs.Gets.{get_from_take, get_in_take}
-use Rattle.ae_netlist.proofs.Growing.{width_is, net_width}
-use Rattle.ae_tidy.specs.Images.{Maps, IsImage, AreSimple, Stands, is_simple}
+use Rattle.ae_netlist.proofs.Gets.{get_in_take}
+use Rattle.ae_netlist.proofs.Growing.{width_is, net_width, memory_from_take}
+use Rattle.ae_tidy.specs.Images.{Maps, IsImage, Stands}
 use Rattle.ae_tidy.specs.Marks.{IsKept, AreMarked, is_root}
 use Rattle.ae_tidy.specs.Copies.{IsCopied, IsMapped, wanted, present}
 use Rattle.ae_tidy.specs.Needed.{IsNeeded}
 use Rattle.ae_tidy.specs.Tidied.{IsTidied}
 use Rattle.ae_tidy.proofs.Shaping.{take_found, whole_count}
-use Rattle.ae_tidy.proofs.SameRuns.{IsAt, AreImages, read_as}
+use Rattle.ae_tidy.specs.Places.{made_of}
+use Rattle.ae_tidy.proofs.Counted.{like_memory, made_fewer}
+use Rattle.ae_tidy.proofs.Cutting.{copied_made_of}
+use Rattle.ae_tidy.proofs.SameRuns.{IsAt, AreImages, read_as, same_own}
 use Rattle.ae_tidy.proofs.Copying.{image_input}
 use Rattle.ae_tidy.proofs.Connecting.{all_images, net_there}
 use Rattle.ae_tidy.proofs.Marking.{outlet_within}
@@ -44,61 +47,114 @@ one_number kind cells k n m p q = elim (cases_lt n m) [
         let e : number_of kind (take m cells) n ≡ number_of kind cells n = ap (count_of kind) (take-take n m cells (omega arith)) in
         omega (arith, p.place, q.place)
 
--- ---- no memories
+-- ---- memories
 
-image_simple : (table : List (Option NetId)) (cell image : Cell) → IsImage table cell image → is_simple image ≡ true
-image_simple table (Input port) image h = rw h refl
-image_simple table (Const k) image h = rw h refl
-image_simple table (Op op args) image h = rw h.1 refl
-image_simple table (Reg next) image h = rw h.1 refl
-image_simple table (Mem depth at next enable) image h = absurd h
-image_simple table (Peek mem at) image h = absurd h
+memory_of : (cell image : Cell) (depth : ℕ) (a b c : NetId) (table : List (Option NetId)) → IsImage table cell image → image ≡ Mem depth a b c
+    → (at : NetId) × (next : NetId) × (enable : NetId) × (cell ≡ Mem depth at next enable) × Maps table at.0 a.0 × Maps table enable.0 c.0
+memory_of (Input port) image depth a b c table h e = cc
+memory_of (Const k) image depth a b c table h e = cc
+memory_of (Op op args) image depth a b c table h e = (let q = h.1 in cc)
+memory_of (Reg next) image depth a b c table h e = (let q = h.1 in cc)
+memory_of (Mem words at next enable) image depth a b c table h e =
+    let q : Mem words h.0 h.1 h.2 ≡ Mem depth a b c = sym h.3 ∙ e in
+    let d : words ≡ depth = cc in
+    let p : h.0 ≡ a = cc in
+    let r : h.2 ≡ c = cc in
+    (at, next, enable, ap (λ (k : ℕ). Mem k at next enable) d, subst (λ (x : NetId). Maps table at.0 x.0) p h.4, subst (λ (x : NetId). Maps table enable.0 x.0) r h.6)
+memory_of (Peek mem at) image depth a b c table h e = (let q = h.2 in cc)
 
-simple_whole : (cells : List SizedCell) → AreSimple cells → AreWhole cells
-simple_whole cells s = record { each = λ m width depth at next enable h. (let e : false ≡ true = s.each m _ h in cc) }
+peek_of : (cell image : Cell) (mem from : NetId) (table : List (Option NetId)) → IsImage table cell image → image ≡ Peek mem from → (m : NetId) × (at : NetId) × (cell ≡ Peek m at) × Maps table m.0 mem.0 × Maps table at.0 from.0
+peek_of (Input port) image mem from table h e = cc
+peek_of (Const k) image mem from table h e = cc
+peek_of (Op op args) image mem from table h e = (let q = h.1 in cc)
+peek_of (Reg next) image mem from table h e = (let q = h.1 in cc)
+peek_of (Mem depth at next enable) image mem from table h e = (let q = h.3 in cc)
+peek_of (Peek m at) image mem from table h e =
+    let q : Peek h.0 h.1 ≡ Peek mem from = sym h.2 ∙ e in
+    let p : h.0 ≡ mem = cc in
+    let r : h.1 ≡ from = cc in
+    (m, at, refl, subst (λ (x : NetId). Maps table m.0 x.0) p h.3, subst (λ (x : NetId). Maps table at.0 x.0) r h.4)
 
-simple_memories : (cells : List SizedCell) → AreSimple cells → count_of is_memory cells ≡ 0
-simple_memories [] s = refl
-simple_memories (x ∷ cells) s =
-    let none : is_memory x.cell ≡ false = not_memory x.cell (s.each 0 x refl) in
-    let rest : count_of is_memory cells ≡ 0 = simple_memories cells (record { each = λ n y h. s.each (suc n) y h }) in
-    let z : cond {A = ℕ} (is_memory x.cell) 1 0 ≡ 0 = ap (λ b. cond {A = ℕ} b 1 0) none in
-    let all : count_of is_memory (x ∷ cells) ≡ cond {A = ℕ} (is_memory x.cell) 1 0 + count_of is_memory cells = sum_by-cons (λ (y : SizedCell). cond {A = ℕ} (is_memory y.cell) 1 0) x cells in
-    omega arith
-  where
-    not_memory : (cell : Cell) → is_simple cell ≡ true → is_memory cell ≡ false
-    not_memory (Input port) e = refl
-    not_memory (Const k) e = refl
-    not_memory (Op op args) e = refl
-    not_memory (Reg next) e = refl
-    not_memory (Mem depth at next enable) e = cc
-    not_memory (Peek mem at) e = refl
+-- the old cell of which a new one is made
+record IsOf (old : List SizedCell) (table : List (Option NetId)) (m : ℕ) (sized : SizedCell) : Type 0 where
+  own : ℕ
+  before : SizedCell
+  maps : Maps table own m
+  found : slice_get old own ≡ Some before
+  wide : sized.width ≡ before.width
+  alike : IsImage table before.cell sized.cell
 
--- a look needs a memory
-no_memories : (cells : List SizedCell) → IsFormed cells → count_of is_memory cells ≡ 0 → AreSimple cells
-no_memories cells formed none = record { each = λ n sized h. simple n sized.width sized.cell h (formed.each n sized h).cell }
-  where
-    no_memory : (n : ℕ) (sized : SizedCell) → slice_get cells n ≡ Some sized → is_memory sized.cell ≡ true → ⊥
-    no_memory n sized h e = let l : number_of is_memory cells n < count_of is_memory cells = number_within is_memory cells n sized h e in omega arith
+made_from : (old new : List SizedCell) (keep : List Bool) (table : List (Option NetId)) (made : List NetId) (i d m : ℕ) (sized : SizedCell) → AreImages old new table → IsCopied old keep new table made i d → slice_get new m ≡ Some sized → IsOf old table m sized
+made_from old new keep table made i d m sized a c h =
+    let l : m < length made = (let b : m < length new = slice_get_within new m sized h in omega (arith, c.all_made)) in
+    let own : NetId = get_or made m (record { 0 = 0 }) in
+    let maps : Maps table own.0 m = c.source m own (slice_get-get_or made m (record { 0 = 0 }) l) in
+    let s = a.each own.0 m maps in
+    let q : Some s.image ≡ Some sized = sym s.there ∙ h in
+    let same : s.image ≡ sized = cc in
+    record {
+      own = own.0;
+      before = s.sized;
+      maps = maps;
+      found = s.found;
+      wide = ap (λ (x : SizedCell). x.width) (sym same) ∙ s.wide;
+      alike = subst (λ (x : SizedCell). IsImage table s.sized.cell x.cell) same s.alike;
+    }
 
-    simple : (n width : ℕ) (cell : Cell) → slice_get cells n ≡ Some (record { width = width; cell = cell }) → CellFits (take n cells) cells n width cell → is_simple cell ≡ true
-    simple n width (Input port) h fits = refl
-    simple n width (Const k) h fits = refl
-    simple n width (Op op args) h fits = refl
-    simple n width (Reg next) h fits = refl
-    simple n width (Mem depth at next enable) h fits = absurd (no_memory n _ h refl)
-    simple n width (Peek mem at) h fits = absurd (no_memory mem.0 _ (get_from_take cells n mem.0 _ fits.memory.found) refl)
+-- nets in the places of others are as wide
+place_width : (old new : List SizedCell) (table : List (Option NetId)) (n m : ℕ) → AreImages old new table → Maps table n m → width_of new m ≡ width_of old n
+place_width old new table n m a h = let s = a.each n m h in width_is new m s.image s.there ∙ (s.wide ∙ sym (width_is old n s.sized s.found))
 
-new_simple : (old new : List SizedCell) (keep : List Bool) (table : List (Option NetId)) (made : List NetId) (i d : ℕ) → AreImages old new table → IsCopied old keep new table made i d → AreSimple new
-new_simple old new keep table made i d a c = record {
-  each = λ m x h.
-      let l : m < length made = (let b : m < length new = slice_get_within new m x h in omega (arith, c.all_made)) in
-      let own : NetId = get_or made m (record { 0 = 0 }) in
-      let s = a.each own.0 m (c.source m own (slice_get-get_or made m (record { 0 = 0 }) l)) in
-      let q : Some s.image ≡ Some x = sym s.there ∙ h in
-      let same : s.image ≡ x = cc in
-      subst (λ (y : SizedCell). is_simple y.cell ≡ true) same (image_simple table s.sized.cell s.image.cell s.alike);
+as_sized : (sized : SizedCell) (cell : Cell) → sized.cell ≡ cell → sized ≡ record { width = sized.width; cell = cell }
+as_sized sized cell e = ap (λ (c : Cell). record { width = sized.width; cell = c }) e
+
+-- a memory that takes the place of another is as deep
+same_depth : (old new : List SizedCell) (table : List (Option NetId)) (n m width wide depth words : ℕ) (x y z : NetId) → AreImages old new table → Maps table n m → IsMemory old n width depth → slice_get new m ≡ Some (record { width = wide; cell = Mem words x y z })
+    → depth ≡ words
+same_depth old new table n m width wide depth words x y z a maps k h =
+    let s = a.each n m maps in
+    let q : Some s.sized ≡ Some (record { width = width; cell = Mem depth k.at k.next k.enable }) = sym s.found ∙ k.found in
+    let same : s.sized ≡ record { width = width; cell = Mem depth k.at k.next k.enable } = cc in
+    let like : IsImage table (Mem depth k.at k.next k.enable) s.image.cell = subst (λ (v : SizedCell). IsImage table v.cell s.image.cell) same s.alike in
+    let q2 : Some s.image ≡ Some (record { width = wide; cell = Mem words x y z }) = sym s.there ∙ h in
+    let same2 : s.image ≡ record { width = wide; cell = Mem words x y z } = cc in
+    let r : Mem depth like.0 like.1 like.2 ≡ Mem words x y z = sym like.3 ∙ ap (λ (v : SizedCell). v.cell) same2 in
+    cc
+
+-- the address of a look has room in the memory in the place of its own
+whole_peek : (old new : List SizedCell) (table : List (Option NetId)) (own m width wide depth : ℕ) (mem at x y z : NetId) → IsFormed old → AreImages old new table → AreWhole old
+    → slice_get old own ≡ Some (record { width = width; cell = Peek mem at }) → Maps table mem.0 m → slice_get new m ≡ Some (record { width = wide; cell = Mem depth x y z }) → 2 ^ width_of old at.0 ≤ depth
+whole_peek old new table own m width wide depth mem at x y z formed a w here maps there =
+    let p = (formed.each own _ here).cell in
+    let memory : IsMemory old mem.0 width p.depth = memory_from_take old own mem.0 width p.depth p.memory in
+    let deep : 2 ^ width_of old at.0 ≤ p.depth = (w.each mem.0 width p.depth memory.at memory.next memory.enable memory.found).peeks own width mem at here refl in
+    let same : p.depth ≡ depth = same_depth old new table mem.0 m width wide p.depth depth x y z a maps memory there in
+    subst (λ (k : ℕ). 2 ^ width_of old at.0 ≤ k) same deep
+
+-- whole memories stay whole
+new_whole : (old new : List SizedCell) (keep : List Bool) (table : List (Option NetId)) (made : List NetId) (i d : ℕ) → IsFormed old → AreImages old new table → IsCopied old keep new table made i d → AreWhole old → AreWhole new
+new_whole old new keep table made i d formed a c w = record {
+  each = λ m wide depth x y z h.
+      let o = made_from old new keep table made i d m _ a c h in
+      let k = memory_of o.before.cell (Mem depth x y z) depth x y z table o.alike refl in
+      let there : slice_get old o.own ≡ Some (record { width = o.before.width; cell = Mem depth k.0 k.1 k.2 }) = o.found ∙ ap (λ (v : SizedCell). Some v) (as_sized o.before _ k.3) in
+      let whole = w.each o.own o.before.width depth k.0 k.1 k.2 there in
+      let own : (k.2.0 == o.own) ≡ (z.0 == m) = same_own old new table o.own m o.before.width depth k.0 k.1 k.2 z _ a formed o.maps there h k.5 (λ p. p) in
+      record {
+        connected = λ e. (let q : false ≡ true = sym (ne_eqb k.2.0 o.own whole.connected) ∙ (own ∙ eq-eqb z.0 m e) in cc);
+        deep = rw (place_width old new table k.0.0 x.0 a k.4) whole.deep;
+        peeks = λ n width mem from g e.
+            let p = made_from old new keep table made i d n _ a c g in
+            let v = peek_of p.before.cell (Peek mem from) mem from table p.alike refl in
+            let here : slice_get old p.own ≡ Some (record { width = p.before.width; cell = Peek v.0 v.1 }) = p.found ∙ ap (λ (s : SizedCell). Some s) (as_sized p.before _ v.2) in
+            rw (place_width old new table v.1.0 from.0 a v.4)
+            (whole_peek old new table p.own m p.before.width wide depth v.0 v.1 x y z formed a w here (subst (λ (r : ℕ). Maps table v.0.0 r) e v.3) h);
+      };
 }
+
+-- no memory is made
+few_memories : (old new : List SizedCell) (keep : List Bool) (table : List (Option NetId)) (made : List NetId) (i d : ℕ) → AreImages old new table → IsCopied old keep new table made i d → count_of is_memory new ≤ count_of is_memory old
+few_memories old new keep table made i d a c = made_fewer is_memory old new (made_of made) like_memory (copied_made_of old new keep table made i d a c)
 
 -- ---- outputs
 
@@ -178,43 +234,17 @@ copied_none old keep = record {
 
 -- ---- all together
 
--- the netlist itself shows the same
-pub tidied_itself : (c : Circuit) → (AreSimple c.cells → ⊥) → IsFormed c.cells → HaveNets c.cells c.outlets → IsTidied c c
-tidied_itself c not_simple formed shown = record {
-  inputs = refl;
-  first = λ k e. refl;
-  outputs = refl;
-  runs = λ after r. (
-    after,
-    r,
-    record {
-      long = refl;
-      inputs = λ t k n m l p q. ap (word_at after t) (one_number is_input c.cells k n m p q);
-      outputs = λ t k o p l h g. (let q : Some o ≡ Some p = sym h ∙ g in let same : o ≡ p = cc in ap (λ (x : Outlet). word_at after t x.net.0) same);
-    },
-  );
-  formed = formed;
-  shown = shown;
-  whole = λ w. w;
-  small = omega arith;
-  muls = refl;
-  memories = omega arith;
-  limit = omega arith;
-  lean = record { needed = λ none n l. absurd (not_simple (no_memories c.cells formed none)) };
-}
-
-pub tidied : (old new : Circuit) (keep : List Bool) (table : List (Option NetId)) (made : List NetId) (d : ℕ) → IsFormed old.cells → HasOneRun old.cells → AreSimple old.cells → AreMarked old keep → ((n : ℕ) → IsKept keep n → IsNeeded old n)
+pub tidied : (old new : Circuit) (keep : List Bool) (table : List (Option NetId)) (made : List NetId) (d : ℕ) → IsFormed old.cells → HasOneRun old.cells → AreMarked old keep → ((n : ℕ) → IsKept keep n → IsNeeded old n)
     → IsCopied old.cells keep new.cells table made (length old.cells) d → length new.cells ≤ d → present new.outlets ≡ wanted table old.outlets → IsFormed new.cells → HaveNets new.cells new.outlets → new.limit ≤ old.limit → IsTidied old new
-tidied old new keep table made d formed one simple marked only c all outlets new_formed shown limit =
+tidied old new keep table made d formed one marked only c all outlets new_formed shown limit =
     let a : AreImages old.cells new.cells table = all_images old.cells new.cells keep table made (length old.cells) d all c in
     let whole : take (length old.cells) old.cells ≡ old.cells = take-length old.cells in
-    let s : AreSimple new.cells = new_simple old.cells new.cells keep table made (length old.cells) d a c in
     record {
       inputs = c.shape.inputs ∙ ap (cells_of is_input) whole;
       first = λ k e. c.shape.first k (whole_count old.cells k e) e;
       outputs = ports_same old.cells new.cells table old.outlets new.outlets a outlets;
       runs = λ after r.
-          let u = read_as old.cells new.cells table after one formed simple a r in (
+          let u = read_as old.cells new.cells table after one formed a r in (
             u.0,
             u.1.runs,
             record {
@@ -230,13 +260,13 @@ tidied old new keep table made d formed one simple marked only c all outlets new
           );
       formed = new_formed;
       shown = shown;
-      whole = λ w. simple_whole new.cells s;
+      whole = λ w. new_whole old.cells new.cells keep table made (length old.cells) d formed a c w;
       small = c.shape.few;
       muls = c.shape.muls ∙ ap (count_of is_mul) whole;
-      memories = (let none : count_of is_memory new.cells ≡ 0 = simple_memories new.cells s in omega arith);
+      memories = few_memories old.cells new.cells keep table made (length old.cells) d a c;
       limit = limit;
       lean = record {
-        needed = λ none. all_needed old new keep table made (length old.cells) d a
+        needed = all_needed old new keep table made (length old.cells) d a
             (λ n sized h e. (let l : n < length old.cells = slice_get_within old.cells n sized h in c.kept n l (marked.rooted.roots.each n sized l h e))) outlets c only;
       };
     }

@@ -3,10 +3,10 @@ use Rattle.std.specs.Prelude.{◌≡◌, ℕ, ◌<◌, ◌≤◌, Bool, List, Op
 use Rattle.ae_netlist.specs.declared.cell.NetId.{NetId}
 use Rattle.ae_netlist.specs.declared.cell.Port.{Port}
 use Rattle.ae_netlist.specs.declared.cell.Cell.{Cell}
-use Rattle.ae_netlist.specs.declared.cell.Cell.TheVariants.{Reg}
+use Rattle.ae_netlist.specs.declared.cell.Cell.TheVariants.{Reg, Mem}
 use Rattle.ae_netlist.specs.declared.cell.SizedCell.{SizedCell}
 use Rattle.ae_netlist.specs.declared.cell.Outlet.{Outlet}
-use Rattle.ae_netlist.specs.Circuit.{IsAllowed, IsNet}
+use Rattle.ae_netlist.specs.Circuit.{IsAllowed, IsNet, IsWritten}
 use Rattle.ae_netlist.specs.Counts.{cells_of, count_of, number_of, is_input, is_mul}
 use Rattle.ae_tidy.specs.Images.{Maps, Stands}
 use Rattle.ae_tidy.specs.Marks.{IsKept}
@@ -23,7 +23,7 @@ pub record IsMapped (table : List (Option NetId)) (n : ℕ) : Type 0 where
   pub net : ℕ
   pub maps : Maps table n net
 
--- the first old cells are copied where they are kept, and the late registers below `done` are connected; `made` tells for
+-- the first old cells are copied where they are kept, and the late cells below `done` are connected; `made` tells for
 -- each new cell the old one that it was made of
 pub record IsCopied (old : List SizedCell) (keep : List Bool) (new : List SizedCell) (table : List (Option NetId)) (made : List NetId) (from done : ℕ) : Type 0 where
   pub long : length table ≡ from
@@ -35,9 +35,15 @@ pub record IsCopied (old : List SizedCell) (keep : List Bool) (new : List SizedC
   pub only : (n m : ℕ) → Maps table n m → IsKept keep n
   pub rising : AreRising made
 
--- a cell that may be added; a register may name any net that is there
+-- a memory has words, and not too many
+abbrev pub HasDepth : Cell → Type 0
+HasDepth (Mem depth at next enable) = (1 ≤ depth) × (depth ≤ 65536)
+HasDepth _ = Unit {0}
+
+-- a cell that may be added; a register and a memory may name any nets that are there
 abbrev pub MayFollow : List SizedCell → ℕ → Cell → Type 0
 MayFollow cells width (Reg next) = IsNet cells next.0 width
+MayFollow cells width (Mem depth at next enable) = (1 ≤ depth) × (depth ≤ 65536) × IsWritten cells width depth at.0 next.0 enable.0
 MayFollow cells width cell = IsAllowed cells width cell
 
 -- the outputs so far show the nets in the places of those that the old ones show

@@ -6,7 +6,6 @@ use Rattle.ae_netlist.specs.declared.cell.Cell.TheVariants.{Input, Const, Op, Re
 use Rattle.ae_netlist.specs.declared.cell.SizedCell.{SizedCell}
 use Rattle.ae_netlist.specs.declared.cell.Outlet.{Outlet}
 use Rattle.ae_netlist.specs.Circuit.{Circuit, operand}
-use Rattle.ae_netlist.specs.Counts.{count_of, is_memory}
 use Rattle.ae_tidy.specs.Marks.{IsKept, is_root}
 
 -- the cell reads the net
@@ -24,9 +23,9 @@ pub data IsNeeded (c : Circuit) : (n : ℕ) → Type 0 where
   as_root : (n : ℕ) (sized : SizedCell) → slice_get c.cells n ≡ Some sized → is_root sized.cell ≡ true → IsNeeded c n
   as_read : (n reader : ℕ) (sized : SizedCell) → IsNeeded c reader → slice_get c.cells reader ≡ Some sized → Reads sized.cell n → IsNeeded c n
 
--- every cell is needed, where there are no memories
+-- every cell is needed
 pub record IsLean (c : Circuit) : Type 0 where
-  pub needed : count_of is_memory c.cells ≡ 0 → (n : ℕ) → n < length c.cells → IsNeeded c n
+  pub needed : (n : ℕ) → n < length c.cells → IsNeeded c n
 
 -- of the nets that are kept now, or stand in the line now, the new ones are such nets
 pub record KeepsOnly (P : ℕ → Type 0) (keep : List Bool) (line : List NetId) (more : List Bool) (longer : List NetId) : Type 0 where

@@ -1,20 +1,26 @@
 // Cells added to the copy.
 
 ghost use Rattle.std.specs.Prelude.{◌≡◌, ◌≤◌, ◌++◌, ◌∷◌, [], IfOk, OnOk, length};
-ghost use Rattle.ae_netlist.specs.Circuit.{IsNet, new_register};
-ghost use Rattle.ae_tidy.specs.Copies.{MayFollow};
+ghost use Rattle.ae_netlist.specs.Circuit.{IsNet, IsWritten};
+ghost use Rattle.ae_tidy.specs.Copies.{HasDepth, MayFollow};
+ghost use Rattle.ae_tidy.specs.Images.{fresh_cell};
 
 use ae_netlist::{Cell, NetId, Netlist, SizedCell};
 use std::alloc::AllocError;
 
-/// Adds a register that is connected later.
-pub fn add_late(nl: &mut Netlist, width: u32) -> Result<NetId, AllocError>
+/// Adds a memory as deep as this one, or a register in any other's place, that is connected later.
+pub fn add_late(nl: &mut Netlist, width: u32, cell: Cell) -> Result<NetId, AllocError>
     requires low { 1 ≤ width }
     requires high { width ≤ 64 }
+    requires depth { HasDepth cell }
     ensures net { IfOk result (λ n. n ≡ record { 0 = length nl.old.cells }) }
-    ensures added { OnOk result (nl.new ≡ record nl.old { cells = nl.old.cells ++ new_register (length nl.old.cells) width ∷ [] }) }
+    ensures added { OnOk result (nl.new ≡ record nl.old { cells = nl.old.cells ++ (record { width = width; cell = fresh_cell (length nl.old.cells) cell }) ∷ [] }) }
 {
-    match nl.state(width) {
+    let added = match cell {
+        Cell::Mem { depth, .. } => nl.memory(width, depth),
+        _ => nl.state(width),
+    };
+    match added {
         Ok(net) => Ok(net),
         Err(_) => Err(AllocError),
     }
@@ -28,8 +34,36 @@ fn add_register(nl: &mut Netlist, width: u32, next: NetId) -> Result<NetId, Allo
     ensures net { IfOk result (λ n. n ≡ record { 0 = length nl.old.cells }) }
     ensures added { OnOk result (nl.new ≡ record nl.old { cells = nl.old.cells ++ (record { width = width; cell = Cell.Reg next }) ∷ [] }) }
 {
-    let net = add_late(nl, width)?;
+    let net = add_late(nl, width, Cell::Reg { next })?;
     nl.connect(net, next);
+    Ok(net)
+}
+
+/// Adds a memory that is connected at once.
+fn add_memory(
+    nl: &mut Netlist,
+    width: u32,
+    depth: u32,
+    at: NetId,
+    next: NetId,
+    enable: NetId,
+) -> Result<NetId, AllocError>
+    requires low { 1 ≤ width }
+    requires high { width ≤ 64 }
+    requires some { 1 ≤ depth }
+    requires most { depth ≤ 65536 }
+    requires written { IsWritten nl.old.cells width depth at.0 next.0 enable.0 }
+    ensures net { IfOk result (λ n. n ≡ record { 0 = length nl.old.cells }) }
+    ensures added { OnOk result (nl.new ≡ record nl.old { cells = nl.old.cells ++ (record { width = width; cell = Cell.Mem depth at next enable }) ∷ [] }) }
+{
+    let memory = Cell::Mem {
+        depth,
+        at,
+        next,
+        enable,
+    };
+    let net = add_late(nl, width, memory)?;
+    nl.connect_memory(net, at, next, enable);
     Ok(net)
 }
 
@@ -41,11 +75,19 @@ pub fn append(nl: &mut Netlist, sized: SizedCell) -> Result<NetId, AllocError>
     ensures net { IfOk result (λ n. n ≡ record { 0 = length nl.old.cells }) }
     ensures added { OnOk result (nl.new ≡ record nl.old { cells = nl.old.cells ++ sized ∷ [] }) }
 {
-    if let Cell::Reg { next } = sized.cell {
-        return add_register(nl, sized.width, next);
-    }
-    match nl.add(sized.width, sized.cell) {
-        Ok(net) => Ok(net),
-        Err(_) => Err(AllocError),
+    match sized.cell {
+        Cell::Reg { next } => add_register(nl, sized.width, next),
+        Cell::Mem {
+            depth,
+            at,
+            next,
+            enable,
+        } => add_memory(nl, sized.width, depth, at, next, enable),
+        _ => {
+            match nl.add(sized.width, sized.cell) {
+                Ok(net) => Ok(net),
+                Err(_) => Err(AllocError),
+            }
+        }
     }
 }

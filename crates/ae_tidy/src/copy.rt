@@ -2,7 +2,6 @@
 
 ghost use Rattle.std.specs.Prelude.{◌≡◌, ◌<◌, ◌+◌, ℕ, [], IfOk, OnOk, length};
 ghost use Rattle.ae_tidy.specs.Copies.{IsCopied, present, wanted};
-ghost use Rattle.ae_tidy.specs.Images.{AreSimple};
 ghost use Rattle.ae_tidy.specs.Marks.{AreMarked, IsKept};
 ghost use Rattle.ae_tidy.specs.Needed.{IsNeeded};
 ghost use Rattle.ae_tidy.specs.Places.{AreMarks, AreMoved};
@@ -17,7 +16,7 @@ use crate::tidying::Tidied;
 use ae_netlist::{Cell, NetId, Netlist, SizedCell, has_one_run};
 use std::alloc::{AllocError, Global};
 
-/// Copies cell `n`: a late register without its next net, and an equal cell not again.
+/// Copies cell `n`: a late register or memory without its nets, and an equal cell not again.
 fn copy_kept(
     nl: &Netlist,
     keep: &[bool],
@@ -27,7 +26,6 @@ fn copy_kept(
     seen: &mut Seen,
 ) -> Result<(), AllocError>
     requires below { n < length nl.now.cells }
-    requires simple { AreSimple nl.now.cells }
     requires marked { AreMarked nl.now keep.now }
     requires kept { IsKept keep.now n }
     requires copied { IsCopied nl.now.cells keep.now new.old.cells table.old.at.items table.old.made.items n 0 }
@@ -38,7 +36,7 @@ fn copy_kept(
     nl.formed();
     let sized = cell_at(nl, NetId(n));
     if is_late(NetId(n), sized.cell) {
-        let late = add_late(new, sized.width)?;
+        let late = add_late(new, sized.width, sized.cell)?;
         table.add(NetId(n), late)?;
         return Ok(());
     }
@@ -66,7 +64,6 @@ fn copy_cell(
     seen: &mut Seen,
 ) -> Result<(), AllocError>
     requires below { n < length nl.now.cells }
-    requires simple { AreSimple nl.now.cells }
     requires marked { AreMarked nl.now keep.now }
     requires copied { IsCopied nl.now.cells keep.now new.old.cells table.old.at.items table.old.made.items n 0 }
     ensures copied { OnOk result (IsCopied nl.now.cells keep.now new.new.cells table.new.at.items table.new.made.items (n + 1) 0) }
@@ -82,7 +79,8 @@ fn copy_cell(
     Ok(())
 }
 
-/// Connects cell `m` of the copy, if it is a late register.
+/// Connects cell `m` of the copy, if it is a late register or memory. A memory that is not connected names itself, and so
+/// does its copy.
 fn connect_cell(nl: &Netlist, _keep: &[bool], m: u32, new: &mut Netlist, table: &Table)
     requires below { m < length new.old.cells }
     requires marked { AreMarked nl.now _keep.now }
@@ -98,13 +96,29 @@ fn connect_cell(nl: &Netlist, _keep: &[bool], m: u32, new: &mut Netlist, table: 
     if !is_late(own, sized.cell) {
         return;
     }
-    if let Cell::Reg { next } = sized.cell {
-        let to = table.net(next);
-        new.connect(NetId(m), to);
+    match sized.cell {
+        Cell::Reg { next } => {
+            let to = table.net(next);
+            new.connect(NetId(m), to);
+        }
+        Cell::Mem {
+            depth: _,
+            at,
+            next,
+            enable,
+        } => {
+            if enable.0 != own.0 {
+                let place = table.net(at);
+                let word = table.net(next);
+                let bit = table.net(enable);
+                new.connect_memory(NetId(m), place, word, bit);
+            }
+        }
+        _ => {}
     }
 }
 
-/// Connects the late registers of the copy.
+/// Connects the late registers and memories of the copy.
 fn connect_cells(nl: &Netlist, keep: &[bool], new: &mut Netlist, table: &Table)
     requires marked { AreMarked nl.now keep.now }
     requires copied { IsCopied nl.now.cells keep.now new.old.cells table.now.at.items table.now.made.items (length nl.now.cells) 0 }
@@ -137,7 +151,6 @@ fn show(nl: &Netlist, _keep: &[bool], new: &mut Netlist, table: &Table) -> Resul
 
 /// The kept cells of a netlist, equal ones once, and its outputs; and where the marks are in them.
 pub fn copy(alloc: Global, nl: &Netlist, keep: &[bool], marks: &[u32]) -> Result<Tidied, AllocError>
-    requires simple { AreSimple nl.now.cells }
     requires marked { AreMarked nl.now keep.now }
     requires needed { (n : ℕ) → IsKept keep.now n → IsNeeded nl.now n }
     ensures tidied { IfOk result (λ t. IsTidied nl.now t.netlist) }

@@ -38,6 +38,20 @@ fn reach_reads(keep: &mut Vec<bool>, line: &mut Vec<NetId>, cell: Cell) -> Resul
             reach(keep, line, args[2])?;
         }
         Cell::Reg { next } => reach(keep, line, next)?,
+        Cell::Mem {
+            depth: _,
+            at,
+            next,
+            enable,
+        } => {
+            reach(keep, line, at)?;
+            reach(keep, line, next)?;
+            reach(keep, line, enable)?;
+        }
+        Cell::Peek { mem, at } => {
+            reach(keep, line, mem)?;
+            reach(keep, line, at)?;
+        }
         _ => {}
     }
     Ok(())

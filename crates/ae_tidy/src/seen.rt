@@ -3,6 +3,7 @@
 ghost use Rattle.std.specs.Prelude.{◌≡◌, ◌<◌, IfSome, IsTrue, length, true};
 ghost use Rattle.ae_tidy.specs.Images.{IsThere, may_merge};
 
+use crate::table::is_late;
 use ae_netlist::{Cell, NetId, Netlist, SizedCell};
 use ae_word::WordOp;
 use std::alloc::{AllocError, Global};
@@ -31,7 +32,17 @@ fn code(sized: SizedCell) -> u64 {
             mix(mix(first, u64::from(args[1].0)), u64::from(args[2].0))
         }
         Cell::Reg { next } => mix(3, u64::from(next.0)),
-        _ => 0,
+        Cell::Mem {
+            depth: _,
+            at,
+            next,
+            enable,
+        } => {
+            let first = mix(4, u64::from(at.0));
+            mix(mix(first, u64::from(next.0)), u64::from(enable.0))
+        }
+        Cell::Peek { mem, at } => mix(mix(5, u64::from(mem.0)), u64::from(at.0)),
+        Cell::Input(_) => 0,
     }
 }
 
@@ -39,8 +50,7 @@ fn code(sized: SizedCell) -> u64 {
 fn may_merge(cell: Cell) -> bool
     ensures { result ≡ may_merge cell }
 {
-    matches!(cell, Cell::Const(_) | Cell::Reg { .. })
-        || matches!(cell, Cell::Op(op, _) if !matches!(op, WordOp::Mul))
+    !matches!(cell, Cell::Input(_) | Cell::Op(WordOp::Mul, _))
 }
 
 fn same_op(a: WordOp, b: WordOp) -> bool
@@ -64,17 +74,32 @@ fn same_cell(a: Cell, b: Cell) -> bool
         (Cell::Const(x), Cell::Const(y)) => x == y,
         (Cell::Op(op, args), Cell::Op(other, nets)) => same_op(op, other) && same_args(args, nets),
         (Cell::Reg { next: x }, Cell::Reg { next: y }) => x.0 == y.0,
+        (
+            Cell::Mem {
+                depth,
+                at,
+                next,
+                enable,
+            },
+            Cell::Mem {
+                depth: words,
+                at: place,
+                next: word,
+                enable: bit,
+            },
+        ) => depth == words && at.0 == place.0 && next.0 == word.0 && enable.0 == bit.0,
+        (
+            Cell::Peek { mem, at },
+            Cell::Peek {
+                mem: other,
+                at: place,
+            },
+        ) => { mem.0 == other.0 && at.0 == place.0 }
         _ => false,
     }
 }
 
-fn names_itself(own: NetId, cell: Cell) -> bool
-    ensures { cell ≡ Cell.Reg own → IsTrue result }
-{
-    matches!(cell, Cell::Reg { next } if next.0 == own.0)
-}
-
-/// Whether a net has this cell; a register that names itself is not connected yet.
+/// Whether a net has this cell; a register or a memory that names itself is not connected yet.
 fn has_cell(nl: &Netlist, net: NetId, sized: SizedCell) -> bool
     requires { may_merge sized.cell ≡ true }
     ensures { IsTrue result → IsThere nl.now.cells net.0 sized }
@@ -82,9 +107,7 @@ fn has_cell(nl: &Netlist, net: NetId, sized: SizedCell) -> bool
     let Some(there) = nl.sized(net) else {
         return false;
     };
-    there.width == sized.width
-        && same_cell(sized.cell, there.cell)
-        && !names_itself(net, there.cell)
+    there.width == sized.width && same_cell(sized.cell, there.cell) && !is_late(net, there.cell)
 }
 
 impl Seen {
@@ -101,7 +124,7 @@ impl Seen {
         (code.wrapping_add(k as u64) % many) as usize
     }
 
-    /// A net that has this cell, if it is found; never a register that is not connected yet.
+    /// A net that has this cell, if it is found; never a register or a memory that is not connected yet.
     pub fn find(&self, nl: &Netlist, sized: SizedCell) -> Option<NetId>
         ensures { IfSome result (λ net. IsThere nl.now.cells net.0 sized) }
     {

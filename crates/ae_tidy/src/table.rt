@@ -1,8 +1,8 @@
 // Which net stands in the place of each old one.
 
-ghost use Rattle.std.specs.Prelude.{◌≡◌, ◌++◌, ◌∷◌, [], OnOk, None, Some, nat_le, true};
+ghost use Rattle.std.specs.Prelude.{◌≡◌, ◌++◌, ◌∷◌, [], OnOk, None, Some, nat_le};
 ghost use Rattle.ae_tidy.specs.Copies.{IsMapped};
-ghost use Rattle.ae_tidy.specs.Images.{IsImage, Maps, is_simple, late_cell};
+ghost use Rattle.ae_tidy.specs.Images.{IsImage, Maps, late_cell};
 ghost use Rattle.ae_tidy.specs.Marks.{EachRead};
 
 use ae_netlist::{Cell, NetId};
@@ -15,12 +15,18 @@ pub struct Table {
     pub made: Vec<NetId>,
 }
 
-/// Whether a register's next net does not stand before it.
+/// Whether a register or a memory takes a net that does not stand before it.
 pub fn is_late(own: NetId, cell: Cell) -> bool
     ensures { result ≡ late_cell own.0 cell }
 {
     match cell {
         Cell::Reg { next } => own.0 <= next.0,
+        Cell::Mem {
+            depth: _,
+            at,
+            next,
+            enable,
+        } => own.0 <= at.0 || own.0 <= next.0 || own.0 <= enable.0,
         _ => false,
     }
 }
@@ -77,8 +83,7 @@ impl Table {
 
     /// A cell on the nets in the places of those that it reads.
     pub fn image(&self, cell: Cell) -> Cell
-        requires simple { is_simple cell ≡ true }
-        requires reads { EachRead (IsMapped self.now.at.items) cell }
+        requires { EachRead (IsMapped self.now.at.items) cell }
         ensures { IsImage self.now.at.items cell result }
     {
         match cell {
@@ -90,6 +95,21 @@ impl Table {
             }
             Cell::Reg { next } => Cell::Reg {
                 next: self.net(next),
+            },
+            Cell::Mem {
+                depth,
+                at,
+                next,
+                enable,
+            } => Cell::Mem {
+                depth,
+                at: self.net(at),
+                next: self.net(next),
+                enable: self.net(enable),
+            },
+            Cell::Peek { mem, at } => Cell::Peek {
+                mem: self.net(mem),
+                at: self.net(at),
             },
             _ => cell,
         }

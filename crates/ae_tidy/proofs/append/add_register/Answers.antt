@@ -1,19 +1,16 @@
 -- The register that is connected is the one just added.
-use Rattle.std.proofs.Common.{ℕ, ◌≡◌, List, [], ◌∷◌, ◌++◌, length, set, refl, ap, ◌∙◌}
+use Rattle.std.proofs.Common.{ℕ, ◌≡◌, List, [], ◌∷◌, ◌++◌, length, ap, ◌∙◌}
 use Rattle.ae_netlist.specs.declared.cell.NetId.{NetId}
 use Rattle.ae_netlist.specs.declared.cell.Cell.TheVariants.{Reg}
 use Rattle.ae_netlist.specs.declared.cell.SizedCell.{SizedCell}
 use Rattle.ae_netlist.specs.Circuit.{Circuit, new_register, width_of}
 use Rattle.ae_netlist.proofs.Gets.{get_pushed}
 use Rattle.ae_netlist.proofs.Growing.{width_is, net_later, extends_append}
+use Rattle.ae_tidy.proofs.Lists.{set_last}
 use Rattle.ae_tidy.proofs.append.add_register.Goals as goal
 
 last_wide : (cells : List SizedCell) (w : ℕ) → width_of (cells ++ new_register (length cells) w ∷ []) (length cells) ≡ w
 last_wide cells w = width_is _ _ _ (get_pushed cells (new_register (length cells) w))
-
-set_last : (cells : List SizedCell) (x y : SizedCell) → set (cells ++ x ∷ []) (length cells) y ≡ cells ++ y ∷ []
-set_last [] x y = refl
-set_last (z ∷ cells) x y = ap (λ l. z ∷ l) (set_last cells x y)
 
 pub connect-requires-clause-register : goal.connect-requires-clause-register
 connect-requires-clause-register c =

@@ -35,7 +35,7 @@ pub returns-clause-tidied : goal.returns-clause-tidied
 returns-clause-tidied c =
     let limit : c.show.new.new.limit ≡ length c.args.nl.now.cells = c.in_ok-show.ensures.limit ∙ (c.connect_cells.ensures.limit ∙ c.loop-n.invariant.limit) in
     let copied = rw (← c.in_ok-show.ensures.cells) at c.connect_cells.ensures.copied in
-    tidied c.args.nl.now c.show.new.new c.args.keep.now c.loop-n.table.at.items c.loop-n.table.made.items (length c.show.new.new.cells) c.formed.ensures.cells c.has_one_run.ensures c.requires.simple c.requires.marked c.requires.needed
+    tidied c.args.nl.now c.show.new.new c.args.keep.now c.loop-n.table.at.items c.loop-n.table.made.items (length c.show.new.new.cells) c.formed.ensures.cells c.has_one_run.ensures c.requires.marked c.requires.needed
     copied (omega arith) c.in_ok-show.ensures.shown c.formed-2.ensures.cells c.formed-2.ensures.outlets (omega (arith, c.formed.ensures.limit))
 
 pub returns-clause-moved : goal.returns-clause-moved
