@@ -11,6 +11,7 @@ use Rattle.ae_sttype.specs.Holds.{Holds}
 use Rattle.ae_sttype.proofs.Places.{slot_at, slot_of, slot_below, length-slots}
 use Rattle.ae_netlist.specs.declared.cell.Port.TheVariants.{In}
 use Rattle.ae_netlist.specs.Circuit.{Circuit}
+use Rattle.ae_netlist.specs.Counts.{count_of, is_input}
 use Rattle.ae_netlist.specs.Runs.{Clock}
 use Rattle.ae_vread.specs.ModuleTree.{ModuleTree}
 use Rattle.ae_elab.specs.Values.{ModuleClock}
@@ -20,11 +21,11 @@ use Rattle.ae_ops.specs.Waves.{Wave}
 use Rattle.ae_ops.specs.Blocks.{Stream, stream_of, stream_widths}
 use Rattle.ae_seq.specs.ProgramTree.{ProgramTree}
 use Rattle.ae_seq.specs.Meaning.{at, mean}
-use Rattle.ae_rewrite.specs.Blocks.{InputsHold, OutputsHold, input_wave, output_wave}
+use Rattle.ae_rewrite.specs.Blocks.{InputsHold, MakesBlocks, OutputsHold, input_wave, output_wave}
 use Rattle.ae_rewrite.specs.Scheduled.{AreFilling}
 use Rattle.ae_delay.specs.declared.own.OwnCosts.{OwnCosts}
 use Rattle.ae_ports.specs.CircuitFor.{IsCircuitFor}
-use Rattle.ae_ports.specs.Ports.{streams_of, SizedPort, reset_port, columns_in}
+use Rattle.ae_ports.specs.Ports.{streams_of, SizedPort, reset_port, columns_in, input_cell, outlet_port}
 use Rattle.ae_ports.specs.Ports as net_side
 use Rattle.ae_ports.proofs.Columns.{stream_columns, first_columns}
 use Rattle.ae_correct.specs.Correct.{input_ports, output_ports, wave, BundlesHold, KeepsBlocks}
@@ -61,22 +62,24 @@ ins_of ins = reset_port ∷ net_side.input_ports (streams_of ins)
 abbrev pub outs_of : List StTree → List SizedPort
 outs_of outs = net_side.output_ports (streams_of outs)
 
-pub circuit_ports : (p : ProgramTree) (slowdown : ℕ) (costs : OwnCosts) (ins outs : List StTree) (n : Circuit) → IsCircuitFor p slowdown costs ins outs n → HavePorts n.cells n.outlets (ins_of ins) (outs_of outs)
-circuit_ports p slowdown costs ins outs n c =
+pub ports_there : (ins outs : List StTree) (n : Circuit) → take (1 + length (net_side.input_ports (streams_of ins))) n.cells ≡ map input_cell (ins_of ins) → count_of is_input n.cells ≡ 1 + length (net_side.input_ports (streams_of ins))
+    → map (outlet_port n.cells) n.outlets ≡ outs_of outs → HavePorts n.cells n.outlets (ins_of ins) (outs_of outs)
+ports_there ins outs n inputs no_others outputs =
     let long : 1 + length (net_side.input_ports (streams_of ins)) ≡ length (ins_of ins) = omega arith in
     record {
-      inputs = record { first = ap (λ k. take k n.cells) (sym long) ∙ c.inputs; count = c.no_others ∙ long };
-      outputs = c.outputs;
+      inputs = record { first = ap (λ k. take k n.cells) (sym long) ∙ inputs; count = no_others ∙ long };
+      outputs = outputs;
       inner = inner_ports (streams_of ins);
     }
 
+pub circuit_ports : (p : ProgramTree) (slowdown : ℕ) (costs : OwnCosts) (ins outs : List StTree) (n : Circuit) → IsCircuitFor p slowdown costs ins outs n → HavePorts n.cells n.outlets (ins_of ins) (outs_of outs)
+circuit_ports p slowdown costs ins outs n c = ports_there ins outs n c.inputs c.no_others c.outputs
+
 -- ---- blocks
 
-module _ (lines : ℕ → ℕ) (p : ProgramTree) (slowdown : ℕ) (costs : OwnCosts) (ins outs : List StTree) (n : Circuit) (c : IsCircuitFor p slowdown costs ins outs n)
+-- of a netlist with these ports that makes the blocks of the program, whatever its costs
+module _ (lines : ℕ → ℕ) (p : ProgramTree) (slowdown latency : ℕ) (ins outs : List StTree) (n : Circuit) (ports : HavePorts n.cells n.outlets (ins_of ins) (outs_of outs)) (making : MakesBlocks n p slowdown latency ins outs)
     (same : HasSameRuns (netlist_module lines n.cells n.outlets (length outs)) n) (size_in : AreFilling slowdown ins) (size_out : AreFilling slowdown outs) where
-  abbrev ports : HavePorts n.cells n.outlets (ins_of ins) (outs_of outs)
-  ports = circuit_ports p slowdown costs ins outs n c
-
   abbrev many : ℕ
   many = length outs
 
@@ -109,7 +112,7 @@ module _ (lines : ℕ → ℕ) (p : ProgramTree) (slowdown : ℕ) (costs : OwnCo
         (λ clock column low high small. column_out lines n many outs (ins_of ins) ports run other equal (start + clock) r column t (omega (arith, full)) found small) there;
   }
 
-  pub keeps : KeepsBlocks own p slowdown costs.latency ins outs
+  pub keeps : KeepsBlocks own p slowdown latency ins outs
   keeps = record {
     results = λ run start blocks reset long given b block there.
         (let inside : b < length blocks = slice_get_within blocks b block there in
@@ -119,9 +122,9 @@ module _ (lines : ℕ → ℕ) (p : ProgramTree) (slowdown : ℕ) (costs : OwnCo
         let same_long : length run ≡ length other = w.2.long in
         let g = given b block there in
         let in_room : start + (b * slowdown + slowdown) ≤ length run = omega (arith, fits, long) in
-        let law_room : start + (costs.latency + (b + 1) * slowdown) ≤ length other = omega (arith, fits, long, same_long) in
-        let out_room : start + (costs.latency + b * slowdown + slowdown) ≤ length run = omega (arith, fits, long) in
+        let law_room : start + (latency + (b + 1) * slowdown) ≤ length other = omega (arith, fits, long, same_long) in
+        let out_room : start + (latency + b * slowdown + slowdown) ≤ length run = omega (arith, fits, long) in
         let held = inputs_hold run other start (b * slowdown) block w.2 in_room g.1 in
-        let made = c.makes.makes other start b block w.1 (resets lines n many (net_side.input_ports (streams_of ins)) (outs_of outs) ports run other start w.2 reset) law_room g.0 held in
-        outputs_hold run other start (costs.latency + b * slowdown) (mean p block) w.3 out_room made);
+        let made = making.makes other start b block w.1 (resets lines n many (net_side.input_ports (streams_of ins)) (outs_of outs) ports run other start w.2 reset) law_room g.0 held in
+        outputs_hold run other start (latency + b * slowdown) (mean p block) w.3 out_room made);
   }

@@ -212,10 +212,10 @@ long-take k xs = omega (arith, length-take k xs)
 
 module _ (p : ProgramTree) (slowdown : ℕ) (instances : List StFuncTree) (typed : IsTyped p) (h : IsSchedule p slowdown instances) where
   -- each of the first ones makes what its function means
-  abbrev Before : ℕ → Type 0
+  abbrev pub Before : ℕ → Type 0
   Before k = (m : ℕ) (s : StFuncTree) → m < k → slice_get instances m ≡ Some s → Computes p s.func (callee (callees (take m instances)) s)
 
-  known-compute : (k : ℕ) → Before k → AllCompute p (HasKey (take k instances)) (callees (take k instances))
+  pub known-compute : (k : ℕ) → Before k → AllCompute p (HasKey (take k instances)) (callees (take k instances))
   known-compute k before m func budget key =
       let s = key.instance in
       let low = slice_get_within (take k instances) m s key.here in
@@ -228,7 +228,7 @@ module _ (p : ProgramTree) (slowdown : ℕ) (instances : List StFuncTree) (typed
       let own : callee_at (callees (take k instances)) m ≡ callee (callees (take m instances)) s = get_or_from_slice_get (callees (take k instances)) m _ no_callee entry in
       subst (Computes p func) (sym own) (subst (λ g. Computes p g (callee (callees (take m instances)) s)) key.is_func (before m s within there))
 
-  all-before : (k : ℕ) → Before k
+  pub all-before : (k : ℕ) → Before k
   all-before zero m s lt e = absurd (omega arith)
   all-before (suc k) m s lt e = elim (cases_lt m k) [
     | inl low ↦ all-before k m s low e
@@ -244,7 +244,7 @@ flat-stands : (t : SeqTree) (ws : List ℕ) (v : ValueTree) → Stands t ws v �
 flat-stands t ws v h = ap flat (sym h.value) ∙ flat-value_of t ws (length-Fit t ws h.fits)
 
 -- values and their words
-values-fit : (ts : List SeqTree) (vs : List ValueTree) → AreValues ts vs → AllFit ts (map flat vs) × (values_of ts (map flat vs) ≡ vs)
+pub values-fit : (ts : List SeqTree) (vs : List ValueTree) → AreValues ts vs → AllFit ts (map flat vs) × (values_of ts (map flat vs) ≡ vs)
 values-fit [] [] h = (tt, refl)
 values-fit [] (v ∷ vs) h = absurd h
 values-fit (t ∷ ts) [] h = absurd h

@@ -104,7 +104,7 @@ pub record NodeFits (k : Known) (p : Part) (all items : List (List ℕ)) (m : No
   pub many : has_arguments m.op (length m.args) ≡ true
   pub below : all_below (length p.items) m.args ≡ true
 
-node-read : (n : ℕ) (k : Known) (p : Part) (all items : List (List ℕ)) (m : NodeTree) → NodeFits k p all items m
+pub node-read : (n : ℕ) (k : Known) (p : Part) (all items : List (List ℕ)) (m : NodeTree) → NodeFits k p all items m
     → inside n k p m.name (codes "=" ∷ (op_fields all m.op ++ map (name_at items) m.args)) ≡ Some (node_state n k p m.name m.op m.args)
 node-read n k p all items m f =
     let named = own-name m.name f.name in

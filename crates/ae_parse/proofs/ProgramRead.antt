@@ -76,15 +76,15 @@ func-fits version funcs most f h =
 
 -- ---- a function
 
-length-params : (ps : List ParamTree) → length (param_names ps) ≡ length ps
+pub length-params : (ps : List ParamTree) → length (param_names ps) ≡ length ps
 length-params [] = refl
 length-params (p ∷ ps) = ap (λ n. suc n) (length-params ps)
 
-length-nodes : (ns : List NodeTree) → length (node_names ns) ≡ length ns
+pub length-nodes : (ns : List NodeTree) → length (node_names ns) ≡ length ns
 length-nodes [] = refl
 length-nodes (n ∷ ns) = ap (λ k. suc k) (length-nodes ns)
 
-head-read : (n : ℕ) (k : Known) (f : FuncTree) (funcs most : ℕ) → k.closed ≡ false → FuncFits k.version funcs most f → is_among f.name k.names ≡ false
+pub head-read : (n : ℕ) (k : Known) (f : FuncTree) (funcs most : ℕ) → k.closed ≡ false → FuncFits k.version funcs most f → is_among f.name k.names ≡ false
     → begin n k (codes "fn") (f.name ∷ map param_field f.params) ≡ Some (begun_state n k f.name (record { params = f.params; items = param_names f.params }))
 head-read n k f funcs most shut fits new =
     let h : Head = record { params = f.params; items = param_names f.params } in
@@ -94,7 +94,7 @@ head-read n k f funcs most shut fits new =
     ∙ ap (λ t. where_ok t (Some h) >>= begun n k f.name) fits.few
     ∙ ap (λ t. where_ok (not t) (Some (begun_state n k f.name h))) (known-agree f.name k.names ∙ new)
 
-end-read : (n : ℕ) (k : Known) (p : Part) (items : List (List ℕ)) (rs : List ℕ) → Extends items p.items → all_distinct p.items ≡ true → all_below (length p.items) rs ≡ true
+pub end-read : (n : ℕ) (k : Known) (p : Part) (items : List (List ℕ)) (rs : List ℕ) → Extends items p.items → all_distinct p.items ≡ true → all_below (length p.items) rs ≡ true
     → within 1 (most_results k.version []) (length rs) ≡ true → inside n k p (codes "end") (map (name_at items) rs) ≡ Some (ended n k p rs)
 end-read n k p items rs x d below few =
     ap (λ o. o >>= ended_with n k p) (places-read items p.items [] rs x d below) ∙ ap (λ t. where_ok t (Some (ended n k p rs))) few
@@ -149,7 +149,7 @@ whole-some : (n version : ℕ) (fs : List FuncTree) → 1 ≤ length fs → whol
 whole-some n version [] h = absurd (omega arith)
 whole-some n version (f ∷ fs) h = refl
 
-most-all : (version : ℕ) (fs : List FuncTree) → most_results version fs ≤ most_results version []
+pub most-all : (version : ℕ) (fs : List FuncTree) → most_results version fs ≤ most_results version []
 most-all version [] = omega arith
 most-all version (f ∷ fs) = by (version == 2)
   where
@@ -157,7 +157,7 @@ most-all version (f ∷ fs) = by (version == 2)
     by true = omega arith
     by false = omega arith
 
-still-open : (k : Known) (n : ℕ) (f : FuncTree) (fs : List FuncTree) → within 1 (most_results k.version fs) (length f.results) ≡ true → IsOpen (known_after n k f) fs
+pub still-open : (k : Known) (n : ℕ) (f : FuncTree) (fs : List FuncTree) → within 1 (most_results k.version fs) (length f.results) ≡ true → IsOpen (known_after n k f) fs
 still-open k n f [] h = tt
 still-open k n f (g ∷ fs) h = by (nat_lt 1 (length f.results)) refl
   where
@@ -186,7 +186,7 @@ funcs-read (f ∷ fs) n k all v shut same is d formed_are fit low some =
 
 -- ---- programs
 
-no-version : (name : List ℕ) (ps : List (List ℕ)) → is_version_line (codes "fn") (name ∷ ps) ≡ false
+pub no-version : (name : List ℕ) (ps : List (List ℕ)) → is_version_line (codes "fn") (name ∷ ps) ≡ false
 no-version name [] = refl
 no-version name (p ∷ ps) = refl
 
@@ -200,7 +200,7 @@ first-read f fs all =
     ap (λ t. by_state 1 (if t then Some (record { known = of_version 2 start.known; part = None }) else by_part 1 (of_version 1 start.known) None (codes "fn") (f.name ∷ map param_field f.params)) (reading_of later 2))
     (no-version f.name (map param_field f.params))
 
-open-first : (version : ℕ) (fs : List FuncTree) → IsOpen (opened version) fs
+pub open-first : (version : ℕ) (fs : List FuncTree) → IsOpen (opened version) fs
 open-first version [] = tt
 open-first version (f ∷ fs) = refl
 

@@ -226,7 +226,7 @@ module _ (lines : ℕ → ℕ) (p : ProgramTree) (slowdown : ℕ) (costs : OwnCo
         let inside : b < length blocks = slice_get_within blocks b block found in
         let fits : b * slowdown + slowdown ≤ length blocks * slowdown = row_fits b slowdown (length blocks) slowdown inside (omega arith) in
         let same_long = long_is run o w.1 w.2 w.3 r v.2 v.3 in
-        let base : KeepsBlocks plain p slowdown costs.latency ins outs = keeps lines p slowdown costs ins outs n c plain_same (ins_filling p slowdown ins outs laid) (outs_filling p slowdown ins outs laid) in
+        let base : KeepsBlocks plain p slowdown costs.latency ins outs = keeps lines p slowdown costs.latency ins outs n (circuit_ports p slowdown costs ins outs n c) c.makes plain_same (ins_filling p slowdown ins outs laid) (outs_filling p slowdown ins outs laid) in
         holds_out run o w.1 w.2 w.3 r v.2 v.3 start (costs.latency + b * slowdown) (mean p block) (omega (arith, fits))
         (base.results r start blocks (resets run o w.1 w.2 w.3 r v.2 v.3 start v.1 reset) (omega (arith, same_long))
         (λ d other there. (let g = given d other there in

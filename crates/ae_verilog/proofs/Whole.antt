@@ -163,7 +163,7 @@ whole_lines : (report : List ℕ) (notes : List NoteTree) (cells : List SizedCel
 whole_lines report notes cells outlets outs before printed good shown =
     both_texts _ _ _ _ before (both_texts _ _ _ _ quiet_line (module_lines (lines_of notes (length cells)) notes cells outlets outs printed good shown))
 
-whole_spelled : (report : List ℕ) (notes : List NoteTree) (cells : List SizedCell) (outlets : List Outlet) (outs : ℕ) → IsTextOf report [] → ArePrinted notes → IsGood cells → AreGood cells outlets → Spells (whole_text report notes cells outlets outs) (netlist_module (lines_of notes (length cells)) cells outlets outs)
+pub whole_spelled : (report : List ℕ) (notes : List NoteTree) (cells : List SizedCell) (outlets : List Outlet) (outs : ℕ) → IsTextOf report [] → ArePrinted notes → IsGood cells → AreGood cells outlets → Spells (whole_text report notes cells outlets outs) (netlist_module (lines_of notes (length cells)) cells outlets outs)
 whole_spelled report notes cells outlets outs before printed good shown =
     let read = whole_lines report notes cells outlets outs before printed good shown in
     let text : List ℕ = whole_text report notes cells outlets outs in
@@ -180,7 +180,7 @@ whole_clean report notes cells outlets outs before printed good shown = (whole_l
 
 -- what the writer returns
 
-good_from : (cells : List SizedCell) → IsFormed cells → All (λ (sized : SizedCell). CellPortFits sized.cell) cells → length cells < 2 ^ 32 → IsGood cells
+pub good_from : (cells : List SizedCell) → IsFormed cells → All (λ (sized : SizedCell). CellPortFits sized.cell) cells → length cells < 2 ^ 32 → IsGood cells
 good_from cells formed fits few = record { formed = formed; fits = fits; few = few }
 
 pub returns_spelled : {A E : Type 0} (r : Result (String A) E) (report : List ℕ) (notes : List NoteTree) (cells : List SizedCell) (outlets : List Outlet) (outs : ℕ) → IsTextOf report [] → ArePrinted notes → IsFormed cells → HaveNets cells outlets → length cells < 2 ^ 32 →

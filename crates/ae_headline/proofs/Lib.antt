@@ -1,0 +1,4 @@
+pub mod Meant
+pub mod Same
+pub mod Built
+pub mod Modules

@@ -1,0 +1,54 @@
+-- A listing means, by the Verilog profile, a module that is correct for the program.
+use Rattle.std.proofs.Common.{◌≡◌, ℕ, List, length, subst, Ok}
+use Rattle.ae_vread.specs.ModuleTree.{ModuleTree}
+use Rattle.ae_vread.specs.Spells.{Spells}
+use Rattle.ae_vread.specs.Forms.{module_tokens}
+use Rattle.ae_vread.specs.ItemReading.{read_module}
+use Rattle.ae_vread.proofs.ReadLaws.{spelled_read}
+use Rattle.ae_elab.specs.Faults.{IsWellFormed}
+use Rattle.ae_elab.specs.PlainRun.{plain_run}
+use Rattle.ae_elab.specs.Runs.{HasOneRun}
+use Rattle.ae_elab.proofs.Once.{only_one}
+use Rattle.ae_elab.proofs.Made.{plain_is_run}
+use Rattle.ae_verilog.specs.Notes.{lines_of, noted_module}
+use Rattle.ae_verilog.specs.ReportLines.{report_lines}
+use Rattle.ae_verilog.proofs.Comments.{report_comments}
+use Rattle.ae_verilog.proofs.LawSame.{same_runs}
+use Rattle.ae_verilog.proofs.LawFormed.{well_formed}
+use Rattle.ae_verilog.proofs.Whole.{whole_spelled, good_from}
+use Rattle.ae_correct.proofs.Built.{correct_by}
+use Rattle.ae_correct.proofs.Keeps.{ports_there}
+use Rattle.ae_headline.specs.Listing.{listing}
+use Rattle.ae_headline.specs.Laws.{ListingsMeanModules}
+use Rattle.ae_headline.proofs.Same.{listing_same}
+
+one-tree : (text : List ℕ) (m n : ModuleTree) → Spells text m → Spells text n → m ≡ n
+one-tree text m n one other =
+    let tokens = module_tokens one.form in
+    let read : read_module tokens ≡ Ok m = spelled_read text tokens m one.written one in
+    let again : read_module tokens ≡ Ok n = spelled_read text tokens n one.written other in
+    cc
+
+one-run : (m : ModuleTree) → IsWellFormed m → HasOneRun m
+one-run m ok given shaped =
+    let made = plain_is_run m ok given shaped in
+    (plain_run m given, made, λ other r t l. only_one m ok given (plain_run m given) other made r t l)
+
+pub modules : ListingsMeanModules
+modules p n r notes laid ports makes ok printed small =
+    let outs : ℕ = length r.outs in
+    let lines : ℕ → ℕ = lines_of notes (length n.cells) in
+    let m : ModuleTree = noted_module notes n.cells n.outlets outs in
+    let text : List ℕ = listing r notes n outs in
+    let spelled : Spells text m = subst (λ l. Spells l m) (listing_same r notes n outs)
+    (whole_spelled (report_lines r) notes n.cells n.outlets outs (report_comments r) printed (good_from n.cells ok.formed ok.inputs ok.few) (record { have = ok.shown; fits = ok.outputs })) in
+    let well : IsWellFormed m = well_formed lines n.cells n.outlets outs ok small in
+    let have = ports_there r.ins r.outs n ports.inputs ports.no_others ports.outputs in
+    record {
+      tree = m;
+      spells = spelled;
+      only = λ other is. one-tree text other m is spelled;
+      formed = well;
+      one_run = one-run m well;
+      correct = correct_by lines p r.slowdown r.latency r.ins r.outs n laid have makes (same_runs lines n.cells n.outlets outs ok n.limit);
+    }
