@@ -2,7 +2,8 @@
 """The definitions that a reader of a contract has to believe: all that its clauses cite, and what these cite in turn, over the
 `use` lines of specs/ and the types of the code that clauses name.
 
-    definitions.py             compares docs/DEFINITIONS.md, and the number in README.md, with what is there
+    definitions.py             compares docs/DEFINITIONS.md, and the numbers in README.md, with what is there; the definitions
+                               of the headline are 750 lines at most
     definitions.py --write     writes docs/DEFINITIONS.md anew
     definitions.py RECORD      counts for one definition, as ae_compile.Building.IsListing: files, definitions and bare lines
 
@@ -124,25 +125,47 @@ def sums(counted):
     return len(counted), sum(len(it) for it in counted.values()), sum(len(lines) for it in counted.values() for lines in it.values())
 
 
-def page():
-    counted = closure(clauses(CRATES / "ae_tool" / "src" / "call.rt", "aeth"))
-    files, names, lines = sums(counted)
+def table(counted):
+    """A row for each file, from the highest crate down."""
     order = [line.split(":")[0] for line in (TOP / "crates.txt").read_text().split("\n") if ":" in line and not line.startswith("#")]
-    rows = []
+    rows = ["| File under `crates/` | Lines | Definitions |", "|---|---|---|"]
     for path in sorted(counted, key=lambda it: (-order.index(it.relative_to(CRATES).parts[0]), str(it))):
         own = counted[path]
         inside = list(FILES[path].definitions) if path in FILES else sorted(own)
         total = sum(1 for line in path.read_text().split("\n") if line.strip())
         rows.append(f"| `{path.relative_to(CRATES)}` | {sum(len(it) for it in own.values())} of {total} | {', '.join(f'`{it}`' for it in inside if it in own)} |")
+    return "\n".join(rows) + "\n"
+
+
+HEADLINE = ("ae_headline", "Headline", "IsProgramListing")
+HEADLINE_LIMIT = 750
+
+
+def headline():
+    """What the record of the headline cites: all of it, and how many lines are definitions and how many types of the code."""
+    counted = closure([HEADLINE])
+    code = {path: own for path, own in counted.items() if path.suffix == ".rt"}
+    types = sums(code)[2]
+    return counted, sums(counted)[2] - types, types
+
+
+def page():
+    counted = closure(clauses(CRATES / "ae_tool" / "src" / "call.rt", "aeth"))
+    files, names, lines = sums(counted)
+    short, own, types = headline()
     return lines, f"""# What the contract of `aeth` cites
 
 Made by `tests/definitions.py --write`, and compared by the gate. The clauses of `aeth` (`crates/ae_tool/src/call.rt`) mean what
 these definitions say: {names} definitions and types of the code in {files} files, {lines:,} lines without comments, blank
-lines and imports. From the top call down:
+lines and imports. What the headline alone cites stands at the end. From the top call down:
 
-| File under `crates/` | Lines | Definitions |
-|---|---|---|
-""" + "\n".join(rows) + "\n"
+{table(counted)}
+## What the headline cites
+
+The record `{HEADLINE[2]}` (`crates/{HEADLINE[0]}/specs/{HEADLINE[1]}.antt`), which docs/PROMISES.md begins with, means what these
+say: {own} lines of definitions, and {types} lines of types of the code that they name, in {len(short)} files.
+
+{table(short)}"""
 
 
 def main(*words):
@@ -152,6 +175,8 @@ def main(*words):
         print("files {}, definitions {}, bare lines {}".format(*sums(counted)))
         return 0
     lines, text = page()
+    _, own, types = headline()
+    told = f"{own} lines of definitions and {types} lines of types"
     at = TOP / "docs" / "DEFINITIONS.md"
     if words:
         at.write_text(text)
@@ -164,7 +189,13 @@ def main(*words):
     if f"{lines:,} lines" not in (TOP / "README.md").read_text():
         print(f"definitions: README.md does not tell {lines:,} lines")
         failed += 1
-    print(f"definitions: {2 - failed} passed, {failed} failed")
+    if told not in (TOP / "README.md").read_text():
+        print(f"definitions: README.md does not tell {told}")
+        failed += 1
+    if own > HEADLINE_LIMIT:
+        print(f"definitions: the headline cites {own} lines of definitions, more than {HEADLINE_LIMIT}")
+        failed += 1
+    print(f"definitions: {4 - failed} passed, {failed} failed")
     return failed > 0
 
 

@@ -1,6 +1,7 @@
 pub mod Assembled
 pub mod Counts
 pub mod NoFaults
+pub mod Headlines
 pub mod Inputs
 pub mod Large
 pub mod Mains

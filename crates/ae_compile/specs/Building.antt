@@ -17,6 +17,7 @@ use Rattle.ae_delay.specs.declared.own.OwnCosts.{OwnCosts}
 use Rattle.ae_correct.specs.Correct.{IsCorrect, ports_of}
 use Rattle.ae_stalled.specs.Correct.{IsCorrectStalled}
 use Rattle.ae_stalled.specs.Laws.{stall_limit}
+use Rattle.ae_headline.specs.Headline.{IsProgramListing}
 use Rattle.ae_compile.specs.Costing.{IsCosted, load_limit, main_costs}
 use Rattle.ae_compile.specs.Compiling.{IsCompiled, IsCompiledStalled}
 
@@ -62,8 +63,9 @@ IsModuleText p slowdown instances text = IsListedText (IsCompiled p slowdown ins
 abbrev pub IsStalledText : (p : ProgramTree) (slowdown : ℕ) (instances : List StFuncTree) (text : List ℕ) → Type 0
 IsStalledText p slowdown instances text = IsListedText (IsCompiledStalled p slowdown instances) (λ m. IsCorrectStalled m p slowdown (main_costs instances).latency) (main_costs instances) 128 8 text
 
--- the same of the program of an input
+-- the same of the program of an input, and on one page: the text is the listing of a netlist that does what the program means
 pub record IsBuiltText (part : List ℕ) (slowdown : ℕ) (text : List ℕ) : Type 0 where
+  pub headline : IsProgramListing part slowdown text
   pub program : ProgramTree
   pub instances : List StFuncTree
   pub costed : IsCosted load_limit part slowdown program instances

@@ -45,12 +45,11 @@ pub record HasLargeLoad (limit : ℕ) (part : List ℕ) (slowdown line : ℕ) : 
   pub load : ℕ
   pub large : too_large limit instances ≡ Some (record { line = line; load = load })
 
--- the program has a schedule, and the load of each is within the limit
+-- the text is a program that has a schedule, whose load is within the limit; all its schedules are alike
 pub record HasCosts (limit : ℕ) (part : List ℕ) (slowdown : ℕ) : Type 0 where
   pub program : ProgramTree
-  pub typed : IsTyped part program
-  pub fine : failing_line program slowdown ≡ None
-  pub within : (instances : List StFuncTree) → IsSchedule program slowdown instances → too_large limit instances ≡ None
+  pub instances : List StFuncTree
+  pub costed : IsCosted limit part slowdown program instances
 
 -- a line is refused as in any program, or for its layout, or for the load up to it; want of memory says nothing
 abbrev pub IsCostFault : (limit : ℕ) (part : List ℕ) (slowdown : ℕ) → CompileFault → Type 0

@@ -41,11 +41,11 @@ word-solid version n Mux h = refl
 word-solid version n (Shl k) h = and-both _ _ (small-solid 63 k h (omega arith)) refl
 word-solid version n (Shr k) h = and-both _ _ (small-solid 63 k h (omega arith)) refl
 word-solid version n (Cast v) h = and-both _ _ (width-solid v h) refl
-word-solid version n SLt h = refl
-word-solid version n SMin h = refl
-word-solid version n SMax h = refl
-word-solid version n (Sar k) h = refl
-word-solid version n (SCast k) h = refl
+word-solid version n SLt h = absurd cc
+word-solid version n SMin h = absurd cc
+word-solid version n SMax h = absurd cc
+word-solid version n (Sar k) h = absurd cc
+word-solid version n (SCast k) h = absurd cc
 
 fold-solid : (op : WordOp) → folds op ≡ true → list_all solid (word_fields op) ≡ true
 fold-solid Add h = refl
@@ -63,11 +63,11 @@ fold-solid Mux h = refl
 fold-solid (Shl k) h = absurd cc
 fold-solid (Shr k) h = absurd cc
 fold-solid (Cast k) h = absurd cc
-fold-solid SLt h = refl
-fold-solid SMin h = refl
-fold-solid SMax h = refl
-fold-solid (Sar k) h = refl
-fold-solid (SCast k) h = refl
+fold-solid SLt h = absurd cc
+fold-solid SMin h = absurd cc
+fold-solid SMax h = absurd cc
+fold-solid (Sar k) h = absurd cc
+fold-solid (SCast k) h = absurd cc
 
 name-at : (ns : List (List ℕ)) (k : ℕ) → all_names ns ≡ true → k < length ns → solid (name_at ns k) ≡ true
 name-at [] k h l = absurd (omega arith)

@@ -3,7 +3,7 @@ use Rattle.std.specs.Prelude.{ℕ, ◌+◌, ◌^◌, Bool, true, ◌==◌, nat_l
 use Rattle.std.specs.Fmt.{decimal}
 use Rattle.std.specs.List.{list_all}
 use Rattle.ae_word.specs.declared.op.WordOp.{WordOp}
-use Rattle.ae_word.specs.declared.op.WordOp.TheVariants.{Add, Sub, Mul, And, Or, Xor, Not, Min, Max, Eq, Lt, Mux, Shl, Shr, Cast, SLt, SMin, SMax, Sar, SCast}
+use Rattle.ae_word.specs.declared.op.WordOp.TheVariants.{Add, Sub, Mul, And, Or, Xor, Not, Min, Max, Eq, Lt, Mux, Shl, Shr, Cast}
 use Rattle.ae_seqtype.specs.TypeText.{type_text}
 use Rattle.ae_seq.specs.ProgramTree.{OpTree, word, cast_int, pair, fst, snd, const, zip, call, each, each_two, reduce, scan, shift, up, select, partition, unpartition, ParamTree, NodeTree, FuncTree, ProgramTree}
 use Rattle.ae_seq.specs.Formed.{param_names, node_names, func_names}
@@ -13,7 +13,7 @@ use Rattle.ae_seq.specs.Formed.{param_names, node_names, func_names}
 abbrev pub name_at : List (List ℕ) → ℕ → List ℕ
 name_at names k = get_or names k []
 
--- an operator on words, with its number; the signed ones stand in no text
+-- an operator on words, with its number; the signed ones stand in no text, so they have a field that no line has
 abbrev pub word_fields : WordOp → List (List ℕ)
 word_fields Add = codes "add" ∷ []
 word_fields Sub = codes "sub" ∷ []
@@ -30,11 +30,7 @@ word_fields Mux = codes "mux" ∷ []
 word_fields (Shl k) = codes "shl" ∷ decimal k ∷ []
 word_fields (Shr k) = codes "shr" ∷ decimal k ∷ []
 word_fields (Cast v) = codes "cast" ∷ (117 ∷ decimal v) ∷ []
-word_fields SLt = []
-word_fields SMin = []
-word_fields SMax = []
-word_fields (Sar k) = []
-word_fields (SCast v) = []
+word_fields _ = [] ∷ []
 
 -- an operator and what belongs to it, by the names of the functions
 abbrev pub op_fields : (funcs : List (List ℕ)) → OpTree → List (List ℕ)

@@ -92,7 +92,9 @@ fn put_word_op(out: &mut String, op: WordOp) -> Result<(), AllocError>
         WordOp::Shl(k) => put_numbered(out, "shl", k),
         WordOp::Shr(k) => put_numbered(out, "shr", k),
         WordOp::Cast(v) => put_cast(out, "u", v),
-        WordOp::SLt | WordOp::SMin | WordOp::SMax | WordOp::Sar(_) | WordOp::SCast(_) => Ok(()),
+        WordOp::SLt | WordOp::SMin | WordOp::SMax | WordOp::Sar(_) | WordOp::SCast(_) => {
+            put(out, "")
+        }
     }
 }
 

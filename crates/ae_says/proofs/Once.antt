@@ -5,19 +5,15 @@ use Rattle.std.proofs.lemmas.List.Quantifiers.{position-Some}
 use Rattle.std.specs.Fmt.{decimal}
 use Rattle.std.specs.Str.{all_ascii_digits, bytes_eq}
 use Rattle.std.specs.Str.Parse.{digits_value}
-use Rattle.ae_word.specs.declared.op.WordOp.{WordOp}
-use Rattle.ae_word.specs.declared.op.WordOp.TheVariants.{Add, Sub, Mul, And, Or, Xor, Not, Min, Max, Eq, Lt, Mux, Shl, Shr, Cast, SLt, SMin, SMax, Sar, SCast}
-use Rattle.ae_word.specs.WordTable.{folds}
-use Rattle.ae_seq.specs.ProgramTree.{OpTree, word, cast_int, pair, fst, snd, const, zip, call, each, each_two, reduce, scan, shift, up, select, partition, unpartition, NodeTree, FuncTree, ProgramTree}
-use Rattle.ae_seq.specs.Formed.{all_below, all_distinct, all_names, formed_func, formed_funcs, formed_nodes, func_names, has_arguments, is_line, is_name, is_word_line, item_count, most_results, node_names, param_names, within, line_count}
+use Rattle.ae_seq.specs.ProgramTree.{const, NodeTree, FuncTree, ProgramTree}
+use Rattle.ae_seq.specs.Formed.{all_below, all_distinct, all_names, formed_func, formed_funcs, formed_nodes, func_names, has_arguments, is_line, is_name, item_count, most_results, node_names, param_names, within, line_count}
 use Rattle.ae_parse.specs.Cut.{lines, said, fields}
-use Rattle.ae_parse.specs.Grammar.{Known, Part, State, Head, program, start, reading_from, step, first_line, after_line, by_part, begun, begin_named, params_of, node, node_with, finish, inside, whole, at_end, by_state, of_version, places_after}
+use Rattle.ae_parse.specs.Grammar.{Known, Part, State, Head, program, start, reading_from, step, first_line, after_line, by_part, begun, begin_named, params_of, node, node_with, finish, whole, at_end, by_state, of_version, places_after}
 use Rattle.ae_parse.specs.Name as own
 use Rattle.ae_parse.specs.Number.{is_numeral, number_of}
 use Rattle.ae_parse.specs.Options.{where_ok, ◌>>=◌}
 use Rattle.ae_parse.specs.Parts.{is_mark}
-use Rattle.ae_parse.specs.Printed as printed
-use Rattle.ae_parse.specs.Printed.{nodes_fit, funcs_fit, words_fit}
+use Rattle.ae_parse.specs.Printed.{end_fields, funcs_fit, item_names, name_at, node_fields, nodes_fit, op_fields, param_field, words_fit}
 use Rattle.ae_parse.specs.Scopes.{place}
 use Rattle.ae_parse.specs.TypeForm.{type_of}
 use Rattle.ae_parse.specs.Words.{const_from, with_arguments, words_after}
@@ -33,7 +29,7 @@ use Rattle.ae_parse.proofs.ProgramRead.{FuncFits, IsOpen, end-read, func-fits, h
 use Rattle.ae_parse.proofs.Soundness.{Sound, fresh, going, start-sound, line-sound}
 use Rattle.ae_parse.proofs.StepCases.{begun_state, node_state}
 use Rattle.ae_says.specs.Laws.{TextsSayOne}
-use Rattle.ae_says.specs.Says.{AreLines, IsLine, IsVersion, Line, end_line, func_lines, line_at, name_at, node_line, one, op_fields, plain, program_lines, said_from, same, two, word_fields, zeros}
+use Rattle.ae_says.specs.Says.{AreLines, IsLine, IsVersion, Line, func_said, line_at, node_said, one, plain, funcs_said, said_from, same, two, zeros}
 
 -- ---- a constant's words without the zeros before them are read the same
 
@@ -186,76 +182,13 @@ reading-written (l ∷ ls) ws n s q sound are e = by (is_mark (fields (said l)))
 
 -- ---- the lines of a formed program are read as it
 
-words-same : (op : WordOp) → is_word_line op ≡ true → word_fields op ≡ printed.word_fields op
-words-same SLt h = absurd cc
-words-same SMin h = absurd cc
-words-same SMax h = absurd cc
-words-same (Sar k) h = absurd cc
-words-same (SCast k) h = absurd cc
-words-same Add h = refl
-words-same Sub h = refl
-words-same Mul h = refl
-words-same And h = refl
-words-same Or h = refl
-words-same Xor h = refl
-words-same Not h = refl
-words-same Min h = refl
-words-same Max h = refl
-words-same Eq h = refl
-words-same Lt h = refl
-words-same Mux h = refl
-words-same (Shl k) h = refl
-words-same (Shr k) h = refl
-words-same (Cast k) h = refl
-
-folds-line : (op : WordOp) → folds op ≡ true → is_word_line op ≡ true
-folds-line Add h = refl
-folds-line Mul h = refl
-folds-line And h = refl
-folds-line Or h = refl
-folds-line Xor h = refl
-folds-line Min h = refl
-folds-line Max h = refl
-folds-line Sub h = absurd cc
-folds-line Not h = absurd cc
-folds-line Eq h = absurd cc
-folds-line Lt h = absurd cc
-folds-line Mux h = absurd cc
-folds-line (Shl k) h = absurd cc
-folds-line (Shr k) h = absurd cc
-folds-line (Cast k) h = absurd cc
-folds-line SLt h = absurd cc
-folds-line SMin h = absurd cc
-folds-line SMax h = absurd cc
-folds-line (Sar k) h = absurd cc
-folds-line (SCast k) h = absurd cc
-
-op-same : (version n : ℕ) (all : List (List ℕ)) (op : OpTree) → is_line version n op ≡ true → op_fields all op ≡ printed.op_fields all op
-op-same version n all (word op) h = words-same op h
-op-same version n all (cast_int v) h = refl
-op-same version n all pair h = refl
-op-same version n all fst h = refl
-op-same version n all snd h = refl
-op-same version n all (const t ws) h = refl
-op-same version n all zip h = refl
-op-same version n all (call f) h = refl
-op-same version n all (each f) h = refl
-op-same version n all (each_two f) h = refl
-op-same version n all (reduce op) h = ap (λ fs. codes "reduce" ∷ fs) (words-same op (folds-line op h))
-op-same version n all (scan op) h = ap (λ fs. codes "scan" ∷ fs) (words-same op (folds-line op (and-second (version == 2) _ h)))
-op-same version n all (shift k) h = refl
-op-same version n all (up k) h = refl
-op-same version n all (select k) h = refl
-op-same version n all (partition a b) h = refl
-op-same version n all unpartition h = refl
-
 low-parts : (xs ys : List Line) → AllLow (xs ++ ys) → AllLow xs × AllLow ys
 low-parts [] ys h = (tt, h)
 low-parts (x ∷ xs) ys h = let r = low-parts xs ys h.1 in ((h.0, r.0), r.1)
 
 nodes-run : (ms : List NodeTree) (k : Known) (p : Part) (all items : List (List ℕ)) (rest : List Line) → (k.version == 0) ≡ false → FuncsFound (length k.funcs) all k.names → items ≡ p.items ++ node_names ms → all_distinct items ≡ true
-    → formed_nodes k.version (length k.funcs) (length p.items) ms ≡ true → all_names (node_names ms) ≡ true → nodes_fit ms ≡ true → AllLow (map (node_line all items) ms)
-    → runs (map (node_line all items) ms ++ rest) (record { known = k; part = Some p })
+    → formed_nodes k.version (length k.funcs) (length p.items) ms ≡ true → all_names (node_names ms) ≡ true → nodes_fit ms ≡ true → AllLow (map (node_said all items) ms)
+    → runs (map (node_said all items) ms ++ rest) (record { known = k; part = Some p })
     ≡ runs rest (record { known = k; part = Some (record { name = p.name; params = p.params; nodes = p.nodes ++ ms; items = p.items ++ node_names ms; line = p.line }) })
 nodes-run [] k p all items rest v found is d f names fit low =
     λ i. runs rest (record { known = k; part = Some (record { name = p.name; params = p.params; nodes = sym (append-nil p.nodes) i; items = sym (append-nil p.items) i; line = p.line }) })
@@ -278,12 +211,9 @@ nodes-run (m ∷ ms) k p all items rest v found is d f names fit low =
     let more : p.items ++ m.name ∷ node_names ms ≡ q.items ++ node_names ms = sym (append_assoc p.items (m.name ∷ []) (node_names ms)) in
     let count : length q.items ≡ length p.items + 1 = length-append p.items (m.name ∷ []) in
     let later : formed_nodes k.version (length k.funcs) (length p.items + 1) ms ≡ true = and-second (is_line k.version (length k.funcs) m.op && has_arguments m.op (length m.args) && all_below (length p.items) m.args) _ f in
-    let args : List (List ℕ) = map (name_at items) m.args in
-    let own : step m.line (record { known = k; part = Some p }) (m.name ∷ codes "=" ∷ (op_fields all m.op ++ args)) ≡ Some (node_state m.line k p m.name m.op m.args) =
-    step-later m.line (record { known = k; part = Some p }) m.name (codes "=" ∷ (op_fields all m.op ++ args)) low.0 v
-    ∙ ap (λ fs. inside m.line k p m.name (codes "=" ∷ (fs ++ args))) (op-same k.version (length k.funcs) all m.op node_fits.line)
-    ∙ node-read m.line k p all items m node_fits in
-    ap (λ o. o >>= runs (map (node_line all items) ms ++ rest)) own
+    let own : step m.line (record { known = k; part = Some p }) (node_fields all items m) ≡ Some (node_state m.line k p m.name m.op m.args) =
+    step-later m.line (record { known = k; part = Some p }) m.name (codes "=" ∷ (op_fields all m.op ++ map (name_at items) m.args)) low.0 v ∙ node-read m.line k p all items m node_fits in
+    ap (λ o. o >>= runs (map (node_said all items) ms ++ rest)) own
     ∙ nodes-run ms k q all items rest v found (is ∙ more) d (ap (λ j. formed_nodes k.version (length k.funcs) j ms) count ∙ later) (and-second (is_name m.name) _ names) (and-second (words_fit m.op) _ fit) low.1
     ∙ (λ i. runs rest (record { known = k; part = Some (record { name = p.name; params = p.params; nodes = append_assoc p.nodes (m ∷ []) ms i; items = sym more i; line = p.line }) }))
 
@@ -292,12 +222,12 @@ abbrev known_behind : Known → FuncTree → Known
 known_behind k f = record { version = k.version; closed = nat_lt 1 (length f.results); funcs = k.funcs ++ f ∷ []; names = k.names ++ f.name ∷ [] }
 
 func-run : (most : ℕ) (k : Known) (f : FuncTree) (all : List (List ℕ)) (rest : List Line) → (k.version == 0) ≡ false → k.closed ≡ false → FuncFits k.version (length k.funcs) most f → most ≤ most_results k.version [] → nodes_fit f.nodes ≡ true
-    → Extends all (k.names ++ f.name ∷ []) → all_distinct (k.names ++ f.name ∷ []) ≡ true → length k.names ≡ length k.funcs → AllLow (func_lines all f)
-    → runs (func_lines all f ++ rest) (record { known = k; part = None }) ≡ runs rest (record { known = known_behind k f; part = None })
+    → Extends all (k.names ++ f.name ∷ []) → all_distinct (k.names ++ f.name ∷ []) ≡ true → length k.names ≡ length k.funcs → AllLow (func_said all f)
+    → runs (func_said all f ++ rest) (record { known = k; part = None }) ≡ runs rest (record { known = known_behind k f; part = None })
 func-run most k f all rest v shut fits less fit x d as_many low =
-    let items = param_names f.params ++ node_names f.nodes in
-    let e : Line = end_line items f in
-    let body : List Line = map (node_line all items) f.nodes in
+    let items = item_names f in
+    let e : Line = record { number = f.end_line; fields = end_fields items f.results } in
+    let body : List Line = map (node_said all items) f.nodes in
     let head : Head = record { params = f.params; items = param_names f.params } in
     let s = begun_state f.line k f.name head in
     let p : Part = record { name = f.name; params = f.params; nodes = []; items = param_names f.params; line = f.line } in
@@ -308,7 +238,7 @@ func-run most k f all rest v shut fits less fit x d as_many low =
     let high = leb-true (length f.results) most (and-second (nat_le 1 (length f.results)) _ fits.results) in
     let few : within 1 (most_results k.version []) (length f.results) ≡ true = and-both _ _ (and-first _ _ fits.results) (le-leb (length f.results) (most_results k.version []) (omega arith)) in
     let lows = low-parts body (e ∷ []) low.1 in
-    ap (λ o. o >>= runs ((body ++ e ∷ []) ++ rest)) (step-later f.line (record { known = k; part = None }) (codes "fn") (f.name ∷ map printed.param_field f.params) low.0 v ∙ head-read f.line k f (length k.funcs) most shut fits (distinct-new k.names f.name [] d))
+    ap (λ o. o >>= runs ((body ++ e ∷ []) ++ rest)) (step-later f.line (record { known = k; part = None }) (codes "fn") (f.name ∷ map param_field f.params) low.0 v ∙ head-read f.line k f (length k.funcs) most shut fits (distinct-new k.names f.name [] d))
     ∙ ap (λ ls. runs ls s) (append_assoc body (e ∷ []) rest)
     ∙ nodes-run f.nodes s.known p all items (e ∷ rest) v found refl fits.distinct (ap (λ j. formed_nodes k.version (length k.funcs) j f.nodes) (length-params f.params) ∙ fits.nodes) fits.node_names_are fit lows.0
     ∙ ap (λ o. o >>= runs rest) (step-later f.end_line (record { known = s.known; part = Some q }) (codes "end") (map (name_at items) f.results) lows.1.0 v
@@ -323,7 +253,7 @@ record Behind (ls : List Line) (k : Known) (fs : List FuncTree) : Type 0 where
   funcs : last.known.funcs ≡ k.funcs ++ fs
 
 funcs-run : (fs : List FuncTree) (k : Known) (all : List (List ℕ)) → (k.version == 0) ≡ false → IsOpen k fs → length k.names ≡ length k.funcs → all ≡ k.names ++ func_names fs → all_distinct all ≡ true
-    → formed_funcs k.version (length k.funcs) fs ≡ true → funcs_fit fs ≡ true → AllLow (program_lines all fs) → Behind (program_lines all fs) k fs
+    → formed_funcs k.version (length k.funcs) fs ≡ true → funcs_fit fs ≡ true → AllLow (funcs_said all fs) → Behind (funcs_said all fs) k fs
 funcs-run [] k all v shut as_many is d fine fit low = record { last = record { known = k; part = None }; are = refl; part = refl; version = refl; funcs = sym (append-nil k.funcs) }
 funcs-run (f ∷ fs) k all v shut as_many is d fine fit low =
     let most = most_results k.version fs in
@@ -334,11 +264,11 @@ funcs-run (f ∷ fs) k all v shut as_many is d fine fit low =
     let d_front : all_distinct (k.names ++ f.name ∷ []) ≡ true = distinct-front (k.names ++ f.name ∷ []) (func_names fs) (ap all_distinct (sym front) ∙ d) in
     let more_funcs : length next.funcs ≡ length k.funcs + 1 = length-append k.funcs (f ∷ []) in
     let more_names : length next.names ≡ length k.names + 1 = length-append k.names (f.name ∷ []) in
-    let lows = low-parts (func_lines all f) (program_lines all fs) low in
+    let lows = low-parts (func_said all f) (funcs_said all fs) low in
     let r = funcs-run fs next all v (still-open k 0 f fs fits.results) (omega arith) front d (ap (λ j. formed_funcs k.version j fs) more_funcs ∙ and-second (formed_func k.version (length k.funcs) most f) _ fine) (and-second (nodes_fit f.nodes) _ fit) lows.1 in
     record {
       last = r.last;
-      are = func-run most k f all (program_lines all fs) v shut fits (most-all k.version fs) (and-first _ _ fit) x d_front as_many lows.0 ∙ r.are;
+      are = func-run most k f all (funcs_said all fs) v shut fits (most-all k.version fs) (and-first _ _ fit) x d_front as_many lows.0 ∙ r.are;
       part = r.part;
       version = r.version;
       funcs = r.funcs ∙ append_assoc k.funcs (f ∷ []) fs;
@@ -350,15 +280,15 @@ low-yes : (n : ℕ) → n ≤ 4096 → nat_le n 4096 ≡ true
 low-yes n h = le-leb n 4096 h
 
 -- behind the line of version 2, or at the first function line of version 1
-opened-runs : (version : ℕ) (first : List Line) (all : List (List ℕ)) (fs : List FuncTree) → IsVersion version first → 1 ≤ length fs → AllLow (first ++ program_lines all fs)
-    → runs (first ++ program_lines all fs) start ≡ runs (program_lines all fs) (record { known = opened version; part = None })
+opened-runs : (version : ℕ) (first : List Line) (all : List (List ℕ)) (fs : List FuncTree) → IsVersion version first → 1 ≤ length fs → AllLow (first ++ funcs_said all fs)
+    → runs (first ++ funcs_said all fs) start ≡ runs (funcs_said all fs) (record { known = opened version; part = None })
 opened-runs version first all [] h some low = absurd (omega arith)
 opened-runs version first all (f ∷ fs) one some low =
-    let later : List Line = (map (node_line all (param_names f.params ++ node_names f.nodes)) f.nodes ++ end_line (param_names f.params ++ node_names f.nodes) f ∷ []) ++ program_lines all fs in
-    ap (λ t. where_ok (nat_le f.line 4096) (if t then Some (record { known = of_version 2 start.known; part = None }) else by_part f.line (of_version 1 start.known) None (codes "fn") (f.name ∷ map printed.param_field f.params)) >>= runs later)
-    (no-version f.name (map printed.param_field f.params))
+    let later : List Line = (map (node_said all (item_names f)) f.nodes ++ record { number = f.end_line; fields = end_fields (item_names f) f.results } ∷ []) ++ funcs_said all fs in
+    ap (λ t. where_ok (nat_le f.line 4096) (if t then Some (record { known = of_version 2 start.known; part = None }) else by_part f.line (of_version 1 start.known) None (codes "fn") (f.name ∷ map param_field f.params)) >>= runs later)
+    (no-version f.name (map param_field f.params))
 opened-runs version first all (f ∷ fs) (two n) some low =
-    ap (λ b. where_ok b (Some (record { known = of_version 2 start.known; part = None })) >>= runs (program_lines all (f ∷ fs))) (low-yes n low.0)
+    ap (λ b. where_ok b (Some (record { known = of_version 2 start.known; part = None })) >>= runs (funcs_said all (f ∷ fs))) (low-yes n low.0)
 
 version-some : (version : ℕ) (first : List Line) → IsVersion version first → (version == 0) ≡ false
 version-some version first one = refl
@@ -379,8 +309,8 @@ once text p q read says fine fit =
     let some : 1 ≤ length p.funcs = leb-true 1 (length p.funcs) (and-second (within 1 2 p.version) _ (and-first (within 1 2 p.version && nat_le 1 (length p.funcs)) _ b)) in
     let distinct : all_distinct all ≡ true = and-second (within 1 2 p.version && nat_le 1 (length p.funcs) && nat_le (line_count p) 4096) _ a in
     let funcs : formed_funcs p.version 0 p.funcs ≡ true = and-second (within 1 2 p.version && nat_le 1 (length p.funcs) && nat_le (line_count p) 4096 && all_distinct all) _ fine in
-    let w = reading-written (lines text) (says.first ++ program_lines all p.funcs) 1 start q start-sound says.lines read in
-    let lows = low-parts says.first (program_lines all p.funcs) w.low in
+    let w = reading-written (lines text) (says.first ++ funcs_said all p.funcs) 1 start q start-sound says.lines read in
+    let lows = low-parts says.first (funcs_said all p.funcs) w.low in
     let r = funcs-run p.funcs (opened p.version) all (version-some p.version says.first says.version) (open-first p.version p.funcs) refl refl distinct funcs fit lows.1 in
     let last : w.last ≡ r.last = some-is w.last r.last (sym w.are ∙ opened-runs p.version says.first all p.funcs says.version some w.low ∙ r.are) in
     let own : at_end 0 r.last ≡ program p = whole-is 0 r.last p some r.part r.version r.funcs in

@@ -27,7 +27,14 @@ use Rattle.ae_tool.specs.Programs.{IsRefusal}
 use Rattle.ae_rewrite.specs.StProgramTree.{StFuncTree}
 use Rattle.ae_rewrite.specs.Scheduled.{IsSchedule}
 use Rattle.ae_rewrite.specs.FailingLine.{failing_line}
+use Rattle.ae_delay.specs.declared.own.OwnCosts.{OwnCosts}
+use Rattle.ae_delay.specs.Costs.{all_costs}
 use Rattle.ae_delay.specs.Weighing.{cost_of}
+use Rattle.ae_alike.specs.Alike.{AreAlike}
+use Rattle.ae_alike.proofs.Failing.{schedules_fine}
+use Rattle.ae_alike.proofs.Same.{schedules_alike}
+use Rattle.ae_lower.specs.Lowering.{costs_in}
+use Rattle.ae_lower.specs.Circuits.{last_of}
 use Rattle.ae_tool.specs.PlanTexts.{plan_text}
 use Rattle.ae_tool.specs.CostTables.{cost_table}
 use Rattle.ae_compile.specs.Costing.{HasCosts, HasLargeLoad, load_limit}
@@ -351,28 +358,30 @@ evaluated_ok part table status text p t f (Ran q u r) =
 costs_within : {A : Type 0} (limit : ℕ) (part : List ℕ) (slowdown line : ℕ) → HasCosts limit part slowdown → HasLargeLoad limit part slowdown line → A
 costs_within limit part slowdown line h l =
     let P : ProgramTree → Type 0 = λ q. IsSchedule q slowdown l.instances in
-    let e : None ≡ Some _ = sym (h.within l.instances (subst P (one_program part l.program h.program l.typed.reads h.typed.reads) l.schedule)) ∙ l.large in
+    let alike = schedules_alike h.program slowdown h.instances l.instances h.costed.schedule (subst P (one_program part l.program h.program l.typed.reads h.costed.typed.reads) l.schedule) in
+    let e : None ≡ Some _ = sym h.costed.within ∙ alike.large limit ∙ l.large in
     cc
 
 never_cost_refused : {A : Type 0} (limit : ℕ) (part : List ℕ) (slowdown : ℕ) (status : Status) → HasCosts limit part slowdown → IsCostRefusal limit part slowdown status → A
 never_cost_refused limit part slowdown (NoSchedule line) h b =
-    let e : None ≡ Some line = sym h.fine ∙ ap (λ q. failing_line q slowdown) (one_program part h.program b.program h.typed.reads b.typed.reads) ∙ b.failing in
+    let fine = schedules_fine h.program slowdown h.instances h.costed.schedule in
+    let e : None ≡ Some line = sym fine ∙ ap (λ q. failing_line q slowdown) (one_program part h.program b.program h.costed.typed.reads b.typed.reads) ∙ b.failing in
     cc
 never_cost_refused limit part slowdown (TooLarge line) h b = elim b [
-  | inl r ↦ never_refused part h.program (TooLarge line) h.typed r
+  | inl r ↦ never_refused part h.program (TooLarge line) h.costed.typed r
   | inr l ↦ costs_within limit part slowdown line h l
 ]
 never_cost_refused limit part slowdown Ok h b = absurd b
-never_cost_refused limit part slowdown Usage h b = never_refused part h.program Usage h.typed b
-never_cost_refused limit part slowdown (BadLine line) h b = never_refused part h.program (BadLine line) h.typed b
-never_cost_refused limit part slowdown (BadType line) h b = never_refused part h.program (BadType line) h.typed b
-never_cost_refused limit part slowdown (BadWords row column) h b = never_refused part h.program (BadWords row column) h.typed b
-never_cost_refused limit part slowdown (BadModule fault) h b = never_refused part h.program (BadModule fault) h.typed b
-never_cost_refused limit part slowdown (LongRun size) h b = never_refused part h.program (LongRun size) h.typed b
-never_cost_refused limit part slowdown ReadFault h b = never_refused part h.program ReadFault h.typed b
-never_cost_refused limit part slowdown WriteFault h b = never_refused part h.program WriteFault h.typed b
-never_cost_refused limit part slowdown TooLong h b = never_refused part h.program TooLong h.typed b
-never_cost_refused limit part slowdown Memory h b = never_refused part h.program Memory h.typed b
+never_cost_refused limit part slowdown Usage h b = never_refused part h.program Usage h.costed.typed b
+never_cost_refused limit part slowdown (BadLine line) h b = never_refused part h.program (BadLine line) h.costed.typed b
+never_cost_refused limit part slowdown (BadType line) h b = never_refused part h.program (BadType line) h.costed.typed b
+never_cost_refused limit part slowdown (BadWords row column) h b = never_refused part h.program (BadWords row column) h.costed.typed b
+never_cost_refused limit part slowdown (BadModule fault) h b = never_refused part h.program (BadModule fault) h.costed.typed b
+never_cost_refused limit part slowdown (LongRun size) h b = never_refused part h.program (LongRun size) h.costed.typed b
+never_cost_refused limit part slowdown ReadFault h b = never_refused part h.program ReadFault h.costed.typed b
+never_cost_refused limit part slowdown WriteFault h b = never_refused part h.program WriteFault h.costed.typed b
+never_cost_refused limit part slowdown TooLong h b = never_refused part h.program TooLong h.costed.typed b
+never_cost_refused limit part slowdown Memory h b = never_refused part h.program Memory h.costed.typed b
 
 answered_ok : (limit : ℕ) (IsRight : List ℕ → Type 0) (part : List ℕ) (slowdown : ℕ) (status : Status) (text : List ℕ) → HasCosts limit part slowdown → IsAnswered limit IsRight part slowdown status text → status ≡ Ok
 answered_ok limit IsRight part slowdown Ok text h b = refl
@@ -406,13 +415,20 @@ run_of_ok fill p slowdown instances table WriteFault text right short b = absurd
 run_of_ok fill p slowdown instances table TooLong text right short b = absurd b
 run_of_ok fill p slowdown instances table Memory text right short b = absurd b
 
+costs_same : (instances others : List StFuncTree) → AreAlike instances others → main_costs instances ≡ main_costs others
+costs_same instances others h =
+    ap (costs_in (all_costs (take (last_of instances) instances))) h.here ∙ h.same.costs ∙ sym (ap (costs_in (all_costs (take (last_of others) others))) h.there)
+
 run_ok : (slowdown fill : ℕ) (part : List ℕ) (table : List (List (List ℕ))) (status : Status) (text : List ℕ) → HasShortRun part slowdown table → IsRun slowdown fill part table status text → status ≡ Ok
 run_ok slowdown fill part table status text h (Unbuilt r e) = never_cost_refused load_limit part slowdown status h.costs r
 run_ok slowdown fill part table status text h (Played p instances c r) =
-    let same : h.program ≡ p = one_program part h.program p h.typed.reads c.typed.reads in
-    let schedule : IsSchedule h.program slowdown instances = subst (λ (q : ProgramTree). IsSchedule q slowdown instances) (sym same) c.schedule in
+    let own = h.costs in
+    let same : own.program ≡ p = one_program part own.program p own.costed.typed.reads c.typed.reads in
+    let schedule : IsSchedule own.program slowdown instances = subst (λ (q : ProgramTree). IsSchedule q slowdown instances) (sym same) c.schedule in
+    let costs : main_costs own.instances ≡ main_costs instances = costs_same own.instances instances (schedules_alike own.program slowdown own.instances instances own.costed.schedule schedule) in
     let right : bad_row 1 (input_widths p) table ≡ None = ap (λ (q : ProgramTree). bad_row 1 (input_widths q) table) (sym same) ∙ h.rows in
-    let short : run_size p slowdown (main_costs instances).latency table ≤ run_limit = subst (λ (q : ProgramTree). run_size q slowdown (main_costs instances).latency table ≤ run_limit) same (h.short instances schedule) in
+    let short : run_size p slowdown (main_costs instances).latency table ≤ run_limit = subst (λ (q : ProgramTree). run_size q slowdown (main_costs instances).latency table ≤ run_limit) same
+    (subst (λ (x : OwnCosts). run_size own.program slowdown x.latency table ≤ run_limit) costs h.short) in
     run_of_ok fill p slowdown instances table status text right short r
 
 reply_ok : (command : Command) (part : List ℕ) (table : List (List (List ℕ))) (status : Status) (text : List ℕ) → HasResult command part table → IsReply command part table status text → status ≡ Ok

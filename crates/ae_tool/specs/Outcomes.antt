@@ -3,8 +3,6 @@ use Rattle.std.specs.Prelude.{◌≡◌, ℕ, ◌+◌, ◌<◌, ◌≤◌, Bool,
 use Rattle.ae_io.specs.Counts.{Rose}
 use Rattle.ae_io.specs.Told.{TakesCount}
 use Rattle.ae_seq.specs.ProgramTree.{ProgramTree}
-use Rattle.ae_rewrite.specs.Scheduled.{IsSchedule}
-use Rattle.ae_rewrite.specs.StProgramTree.{StFuncTree}
 use Rattle.ae_tool.specs.declared.status.Status.{Status}
 use Rattle.ae_tool.specs.declared.status.Status.TheVariants.{Ok, Usage, ReadFault, WriteFault, TooLong, Memory}
 use Rattle.ae_parse.specs.Rows.{bad_row}
@@ -117,11 +115,9 @@ RefusesWords status old_faults new_faults old_wants new_wants =
 
 -- the program has costs, the rows have its words, and its run is not too long
 pub record HasShortRun (part : List ℕ) (slowdown : ℕ) (table : List (List (List ℕ))) : Type 0 where
-  pub program : ProgramTree
-  pub typed : IsTyped part program
   pub costs : HasCosts load_limit part slowdown
-  pub rows : bad_row 1 (input_widths program) table ≡ None
-  pub short : (instances : List StFuncTree) → IsSchedule program slowdown instances → run_size program slowdown (main_costs instances).latency table ≤ run_limit
+  pub rows : bad_row 1 (input_widths costs.program) table ≡ None
+  pub short : run_size costs.program slowdown (main_costs costs.instances).latency table ≤ run_limit
 
 -- the job has a result for the two parts of an input; a demo takes none
 abbrev pub HasResult : Command → (part : List ℕ) (table : List (List (List ℕ))) → Type 0

@@ -5,6 +5,7 @@ use Rattle.ae_rewrite.specs.StProgramTree.{st_func_trees}
 use Rattle.ae_compile.specs.declared.costing.Costed.{Costed}
 use Rattle.ae_compile.specs.Building.{IsBuiltText, IsModuleText}
 use Rattle.ae_compile.specs.Costing.{load_limit}
+use Rattle.ae_compile.proofs.Headlines.{headline_of}
 use Rattle.ae_tool.proofs.Refused.{answered_refused}
 use Rattle.ae_tool.proofs.build.build.Goals as goal
 
@@ -14,11 +15,13 @@ returns-in_ok-text-in-Ok c =
     let text = string_bytes c.in_ok-text-in-Ok.text in
     let here : IsModuleText (program_tree k.program) k.slowdown (st_func_trees k.schedule) text =
     subst (λ (x : Costed). IsModuleText (program_tree x.program) x.slowdown (st_func_trees x.schedule) text) c.in_ok-compiled-in-Ok.ensures.of c.in_ok-text-in-Ok.ensures.text in
+    let made : IsModuleText (program_tree k.program) c.args.slowdown (st_func_trees k.schedule) text = subst (λ (s : ℕ). IsModuleText (program_tree k.program) s (st_func_trees k.schedule) text) c.in-Ok.ensures.slowdown here in
     record {
+      headline = headline_of c.args.part.now c.args.slowdown (program_tree k.program) (st_func_trees k.schedule) text c.in-Ok.ensures.costed made;
       program = program_tree k.program;
       instances = st_func_trees k.schedule;
       costed = c.in-Ok.ensures.costed;
-      built = subst (λ (s : ℕ). IsModuleText (program_tree k.program) s (st_func_trees k.schedule) text) c.in-Ok.ensures.slowdown here;
+      built = made;
     }
 
 pub returns-in-Err : goal.returns-in-Err
