@@ -8,14 +8,14 @@ cd "$(dirname "$0")/.."
 dir=$(mktemp -d)
 trap 'rm -rf -- "$dir"' EXIT
 (
-  cd crates/bench_sim
+  cd crates/bench_calls
   # Builds the program, and runs it once on a small netlist.
-  rt run >&2
+  rt run -- step 100 10 </dev/null >&2
 )
 step() {
   local groups=$1 clocks=$2 began ended
   began=$(date +%s%N)
-  crates/bench_sim/out/bench_sim "$groups" "$clocks" >/dev/null
+  crates/bench_calls/out/bench_calls step "$groups" "$clocks" >/dev/null
   ended=$(date +%s%N)
   awk -v c="$((groups * 3 + 2))" -v k="$clocks" -v t="$((ended - began))" \
     'BEGIN { printf "%d cells: %.1f million cells a second\n", c, c * k / t * 1000 }'
@@ -23,7 +23,7 @@ step() {
 step 333 300000
 step 33333 1000
 echo "100,001 cells"
-timed crates/bench_sim/out/bench_sim 33333 10 >/dev/null
+timed crates/bench_calls/out/bench_calls step 33333 10 >/dev/null
 
 python3 - "$dir" <<'PY'
 import random

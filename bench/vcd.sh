@@ -1,7 +1,7 @@
 #!/usr/bin/env bash
 # Times the reading of a wave of 4,194,304 words, and the reading and writing of it: seconds and peak memory.
 set -eu
-cd "$(dirname "$0")/../crates/bench_waves"
+cd "$(dirname "$0")/../crates/bench_calls"
 . ../../bench/timed.sh
 text=$(mktemp)
 trap 'rm -f -- "$text"' EXIT
@@ -16,7 +16,7 @@ for time in range(4194304 // 16):
     print(f"#{time}\n{words}", end="")
 END
 # Builds the program, and runs it once on a small wave.
-rt run -- write <stdin >&2
+rt run -- rewrite <stdin >&2
 command -v /usr/bin/time >/dev/null 2>&1 || apt-get install -y time >/dev/null 2>&1 || true
-timed ./out/bench_waves <"$text"
-timed ./out/bench_waves write <"$text"
+timed ./out/bench_calls waves <"$text"
+timed ./out/bench_calls rewrite <"$text"

@@ -1,13 +1,10 @@
-//! Evaluates a program again and again, and prints how many words it computed: `bench/eval.sh` times it.
-#![tactic(auto)]
+// The evaluator.
 
 use ae_eval::{eval, fits};
 use ae_seq::{Func, Node, Op, Param, Program, check};
 use ae_seqtype::{SeqType, Value};
 use ae_word::{Atom, WordOp};
 use std::alloc::{AllocError, Global};
-use std::env::{self, Env};
-use std::io;
 
 fn sequence(alloc: Global, count: u32, of: SeqType) -> Result<SeqType, AllocError> {
     Ok(SeqType::Seq(count, Box::new(alloc, of)?))
@@ -117,31 +114,27 @@ fn answered(
     Ok((count, last))
 }
 
-// The second word, as a number; 1 where there is none.
-fn times<R: Env + Alloc<A = Global>>(rt: &R) -> io::Result<u32> {
-    for word in env::args(rt)?.skip(2) {
-        if let Ok(count) = word.as_str().parse::<u32>() {
-            return Ok(count);
-        }
-    }
-    Ok(1)
+// Evaluates a program so many times on the words 0, 1, 2 and so on.
+fn evaluate(
+    alloc: Global,
+    out: &mut String,
+    program: Program,
+    words: u64,
+    times: u32,
+) -> Result<(), AllocError> {
+    let inputs = counted(alloc, words)?;
+    let (count, last) = answered(alloc, program, &inputs, times)?;
+    writeln!(out, "{times} times, {count} words, the last is {last}")
 }
 
-// Whether the first word asks for the program that copies.
-fn copying<R: Env + Alloc<A = Global>>(rt: &R) -> io::Result<bool> {
-    for word in env::args(rt)?.skip(1) {
-        return Ok(word.as_str() == "up");
-    }
-    Ok(false)
+/// Five lines on each of 16,384 words, so many times.
+pub fn map(alloc: Global, out: &mut String, times: u32) -> Result<(), AllocError> {
+    let program = five_lines(alloc)?;
+    evaluate(alloc, out, program, 16384, times)
 }
 
-fn main(rt: HostRuntime) -> io::Result<()> {
-    let alloc = rt.alloc();
-    let times = times(&rt)?;
-    let (count, last) = if copying(&rt)? {
-        answered(alloc, copies(alloc)?, &counted(alloc, 1)?, times)?
-    } else {
-        answered(alloc, five_lines(alloc)?, &counted(alloc, 16384)?, times)?
-    };
-    println!(rt; "{times} times, {count} words, the last is {last}")
+/// 4,096 copies of a word, so many times.
+pub fn up(alloc: Global, out: &mut String, times: u32) -> Result<(), AllocError> {
+    let program = copies(alloc)?;
+    evaluate(alloc, out, program, 1, times)
 }

@@ -1,5 +1,4 @@
-//! Builds a move of four words in so many clocks, and prints its cells and its latency: `bench/gather.sh` times it.
-#![tactic(auto)]
+// The building of moves.
 
 ghost use Rattle.std.specs.Prelude.{◌≡◌, ◌∷◌, [], ◌++◌, ◌≤◌, IfOk, IfSome, OnOk};
 ghost use Rattle.ae_word.specs.AtomTree.{unsigned_word};
@@ -15,15 +14,13 @@ use ae_ops::{Bundle, Stage};
 use ae_sttype::StType;
 use ae_word::Atom;
 use std::alloc::{AllocError, Global};
-use std::env::{self, Env};
-use std::io;
 
-// Where the words of the result come from.
+/// Where the words of the result come from.
 #[derive(Clone, Copy)]
-enum Order {
-    // Backwards: the last word comes first.
+pub enum Order {
+    /// Backwards: the last word comes first.
     Reversed,
-    // Each lane has a quarter of the words, one behind the other.
+    /// Each lane has a quarter of the words, one behind the other.
     Transposed,
 }
 
@@ -135,39 +132,20 @@ fn cells(alloc: Global, stage: &Gather, clocks: u16) -> Result<u32, NetFault>
     Ok(nl.len())
 }
 
-// The second word, as a number; 4 where there is none.
-fn clocks<R: Env + Alloc<A = Global>>(rt: &R) -> io::Result<u16> {
-    for word in env::args(rt)?.skip(2) {
-        if let Ok(count) = word.as_str().parse::<u16>() {
-            return Ok(count);
-        }
-    }
-    Ok(4)
-}
-
-// The order that the first word asks for; backwards where it is no other.
-fn asked<R: Env + Alloc<A = Global>>(rt: &R) -> io::Result<Order> {
-    for word in env::args(rt)?.skip(1) {
-        if word.as_str() == "transposed" {
-            return Ok(Order::Transposed);
-        }
-        return Ok(Order::Reversed);
-    }
-    Ok(Order::Reversed)
-}
-
-fn main(rt: HostRuntime) -> io::Result<()> {
-    let alloc = rt.alloc();
-    let order = asked(&rt)?;
-    let clocks = clocks(&rt)?;
+/// Builds a move of four words in so many clocks, and tells its cells and its latency.
+pub fn build(alloc: Global, out: &mut String, order: Order, clocks: u32) -> Result<(), AllocError> {
+    let Ok(clocks) = u16::try_from(clocks) else {
+        return writeln!(out, "no move of {clocks} clocks");
+    };
     let Some(stage) = stage(alloc, order, clocks)? else {
-        return println!(rt; "no move of {clocks} clocks");
+        return writeln!(out, "no move of {clocks} clocks");
     };
     match cells(alloc, &stage, clocks) {
-        Ok(cells) => println!(rt;
+        Ok(cells) => writeln!(
+            out,
             "{clocks} clocks, {cells} cells, latency {}",
             stage.latency()
         ),
-        Err(_) => println!(rt; "no room"),
+        Err(_) => writeln!(out, "no room"),
     }
 }

@@ -1,6 +1,6 @@
 use Rattle.ae_netlist.proofs.Growing.{extends_trans}
-use Rattle.bench_gather.proofs.Lanes.{lanes_more}
-use Rattle.bench_gather.proofs.inputs.Goals as goal
+use Rattle.bench_calls.proofs.Lanes.{lanes_more}
+use Rattle.bench_calls.proofs.moving.inputs.Goals as goal
 
 pub loop-lane-preserved : goal.loop-lane-preserved
 loop-lane-preserved c = record {

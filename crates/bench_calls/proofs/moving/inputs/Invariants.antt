@@ -1,6 +1,6 @@
 use Rattle.ae_netlist.specs.Circuit.{Extends}
-use Rattle.bench_gather.proofs.Lanes.{AreLanes}
-use Rattle.bench_gather.proofs.inputs.Given as goal
+use Rattle.bench_calls.proofs.Lanes.{AreLanes}
+use Rattle.bench_calls.proofs.moving.inputs.Given as goal
 
 abbrev pub invariant-loop-lane : goal.invariant-loop-lane
 invariant-loop-lane l = record {

@@ -1,5 +1,4 @@
-//! Steps a netlist of so many cells for so many clocks, and prints a word of the last: `bench/sim.sh` times it.
-#![tactic(auto)]
+// The steps of the simulator.
 
 ghost use Rattle.std.specs.Prelude.{IfOk, ◌≡◌, length};
 ghost use Rattle.ae_netlist.specs.Circuit.{IsNet};
@@ -9,24 +8,12 @@ use ae_clocked::{choose, constant, less, sum};
 use ae_netlist::{NetFault, NetId, Netlist, Port};
 use ae_sim::Sim;
 use std::alloc::{AllocError, Global};
-use std::env::{self, Env};
-use std::io;
 
 // Two nets, and the netlist's next pair.
 #[derive(Clone, Copy)]
 struct Pair {
     left: NetId,
     right: NetId,
-}
-
-// The word at a place, as a number; another number where there is none.
-fn count<R: Env + Alloc<A = Global>>(rt: &R, place: usize, other: u32) -> io::Result<u32> {
-    for word in env::args(rt)?.skip(place) {
-        if let Ok(count) = word.as_str().parse::<u32>() {
-            return Ok(count);
-        }
-    }
-    Ok(other)
 }
 
 // Three cells: a sum, a comparison with it, and a choice.
@@ -80,12 +67,11 @@ fn run(alloc: Global, nl: &Netlist, clocks: u32) -> Result<u64, AllocError>
     Ok(sim.output(0))
 }
 
-fn main(rt: HostRuntime) -> io::Result<()> {
-    let groups = count(&rt, 1, 100)?;
-    let clocks = count(&rt, 2, 10)?;
-    let Ok(nl) = circuit(rt.alloc(), groups) else {
-        return Ok(());
+/// Steps a netlist of so many groups of three cells for so many clocks, and tells a word of the last.
+pub fn step(alloc: Global, out: &mut String, groups: u32, clocks: u32) -> Result<(), AllocError> {
+    let Ok(nl) = circuit(alloc, groups) else {
+        return writeln!(out, "no room");
     };
-    let word = run(rt.alloc(), &nl, clocks)?;
-    println!(rt; "{groups} groups, {clocks} clocks, {word}")
+    let word = run(alloc, &nl, clocks)?;
+    writeln!(out, "{groups} groups, {clocks} clocks, {word}")
 }

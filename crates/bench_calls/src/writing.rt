@@ -1,0 +1,34 @@
+// The text of a module.
+
+use ae_netlist::{NetFault, Netlist};
+use ae_verilog::{Report, write_module};
+use std::alloc::{AllocError, Global};
+
+// The length of the text of the module of so many registers; 0 where there was no memory for the netlist.
+fn length(alloc: Global, count: u32) -> Result<usize, AllocError> {
+    let mut nl = Netlist::new(alloc, count);
+    for _ in 0..count {
+        match nl.state(8) {
+            Ok(_) => (),
+            Err(NetFault::Full) => return Ok(0),
+            Err(NetFault::Memory) => return Ok(0),
+        }
+    }
+    let report = Report {
+        slowdown: 1,
+        latency: 0,
+        muls: 0,
+        load: count,
+        enable: false,
+        ins: Vec::new(alloc),
+        outs: Vec::new(alloc),
+    };
+    let text = write_module(alloc, &nl, &report, &[])?;
+    Ok(text.len())
+}
+
+/// Writes the module of a netlist of so many registers.
+pub fn write(alloc: Global, out: &mut String, count: u32) -> Result<(), AllocError> {
+    let bytes = length(alloc, count)?;
+    writeln!(out, "{count} cells, {bytes} bytes")
+}
