@@ -1,14 +1,14 @@
 -- Columns and costs, one more at a time.
-use Rattle.std.proofs.Common.{◌≡◌, ℕ, zero, suc, ◌+◌, ◌*◌, ◌<◌, ◌≤◌, inl, inr, List, [], ◌∷◌, ◌++◌, length, take, map, sum_by, get_or, Some, slice_get, refl, arith, sym, ap, ◌∙◌}
+use Rattle.std.proofs.Common.{◌≡◌, ℕ, ◌+◌, ◌<◌, inl, inr, List, [], ◌∷◌, ◌++◌, length, take, map, sum_by, get_or, Some, slice_get, refl, arith, ap, ◌∙◌}
 use Rattle.std.proofs.lemmas.Bool.{cases_lt}
 use Rattle.std.proofs.lemmas.List.{take_more}
 use Rattle.std.proofs.lemmas.List.Sums.{sum_by-cons, sum_by-append}
 use Rattle.ae_sttype.specs.declared.st_type.StType.{StType}
-use Rattle.ae_sttype.specs.StTree.{StTree, st_tree, time}
+use Rattle.ae_sttype.specs.StTree.{st_tree, time}
 use Rattle.ae_sttype.specs.Moves.{columns_of, delay_of, first_column, runs_of}
 use Rattle.ae_moves.specs.declared.trip.Trip.{Trip}
 use Rattle.ae_moves.specs.Trees.{trip_tree}
-use Rattle.ae_moves.specs.Origins.{IsMove, Move, move_latency, move_trips}
+use Rattle.ae_moves.specs.Origins.{Move, move_latency, move_trips}
 use Rattle.ae_moves.specs.Rings.{mems_of}
 use Rattle.ae_moves.proofs.Lists.{get_mapped, take_push}
 use Rattle.ae_netlist.proofs.Gets.{get_left}

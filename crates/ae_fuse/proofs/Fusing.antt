@@ -1,5 +1,5 @@
 -- From an instance that can be moved to its fused program, and from there to the program.
-use Rattle.std.proofs.Common.{◌≡◌, ℕ, zero, suc, ◌+◌, ◌-◌, ◌<◌, ◌≤◌, List, [], ◌∷◌, length, take, map, None, Some, slice_get, refl, arith, sym, ap, ◌∙◌, subst, length-append}
+use Rattle.std.proofs.Common.{◌≡◌, ℕ, suc, ◌+◌, ◌-◌, ◌<◌, ◌≤◌, List, [], ◌∷◌, length, take, map, Option, None, Some, IfSome, slice_get, refl, arith, sym, ap, ◌∙◌, subst, length-append}
 use Rattle.std.specs.Prelude.{true}
 use Rattle.std.specs.List.{range_with_len}
 use Rattle.std.proofs.lemmas.List.{get_or_append_left, length-map}
@@ -14,25 +14,30 @@ use Rattle.ae_seq.specs.ProgramTree.{FuncTree, ProgramTree}
 use Rattle.ae_seq.specs.Typing.{param_types}
 use Rattle.ae_seq.specs.Meaning.{at, item_values}
 use Rattle.ae_seqtype.specs.ValueTree.{ValueTree}
-use Rattle.ae_eval.specs.Stack.{IsTyped, types_in}
+use Rattle.ae_eval.specs.Stack.{IsTyped}
 use Rattle.ae_eval.proofs.Starting.{count-items}
-use Rattle.ae_rewrite.specs.Interface.{main_of}
+use Rattle.ae_rewrite.specs.Interface.{main_of, parameter_types}
 use Rattle.ae_rewrite.specs.Scheduled.{HasKey, IsSchedule, node_layouts}
 use Rattle.ae_rewrite.specs.Sound.{IsSound, item_layout, item_layouts}
 use Rattle.ae_rewrite.specs.StProgramTree.{StFuncTree, st_trees}
 use Rattle.ae_flow.specs.Flow.{item_words}
 use Rattle.ae_flow.specs.Fitted.{AreFitted}
 use Rattle.ae_flow.proofs.Placed.{item_count_is}
-use Rattle.ae_trace.specs.Traces.{is_movement, numbered, traced_move}
+use Rattle.ae_delay.specs.declared.own.OwnCosts.{OwnCosts}
+use Rattle.ae_trace.specs.Traces.{is_movement, least, numbered, trace, traced_move, traced_moves}
+use Rattle.ae_trace.specs.Certificates.{IsCertificate}
 use Rattle.ae_trace.proofs.Typed.{mapped-from}
+use Rattle.ae_fuse.specs.declared.certificate.Certificate.{Certificate}
 use Rattle.ae_fuse.specs.declared.costs.ResultCosts.{ResultCosts}
 use Rattle.ae_fuse.specs.declared.results.FusedResult.{FusedResult}
-use Rattle.ae_fuse.specs.Labels.{MovesWords, layout_numbers}
-use Rattle.ae_fuse.specs.Costing.{arrivals_from, fused_costing, fused_costs, item_move, result_moves}
+use Rattle.ae_fuse.specs.Labels.{layout_numbers}
+use Rattle.ae_fuse.specs.Certified.{IsFirstOf, certificate_tree}
+use Rattle.ae_fuse.specs.Costing.{arrivals_from, fused_costing, fused_costs, item_move, moves_latency, result_moves}
 use Rattle.ae_fuse.specs.Moved.{own_move}
-use Rattle.ae_fuse.specs.Fused.{AreAllCosts, FusedView, IsFusedBy, IsFusedOf, IsMovable, result_move}
+use Rattle.ae_fuse.specs.Fused.{AreAllCosts, FusedView, IsFusedBy, IsFusedOf, IsMovable, outs_of, result_move}
 use Rattle.ae_fuse.proofs.Labels.{counts}
-use Rattle.ae_fuse.proofs.Main.{is-main}
+use Rattle.ae_fuse.proofs.Certifying.{is-certificate}
+use Rattle.ae_fuse.proofs.Main.{is-main, moves-traced}
 use Rattle.ae_fuse.proofs.Schedule.{item-is-move, items-are, moves-words}
 
 abbrev none : StTree
@@ -63,10 +68,17 @@ module _ (s : StFuncTree) (h : IsMovable s) where
       let moves : IsMove (own_move s labels m.0) = each-at labels is m.0 (h.results k m.0 m.1) in
       subst (λ (ts : List StTree). IsMove (result_move ts r)) (sym same) (subst IsMove m.2 moves)
 
+  pub moves-at : (ins : List StTree) (labels : List (List ℕ)) (rs : List FusedResult) → ins ≡ s.ins → labels ≡ own_labels s → map (result_move s.ins) rs ≡ map (own_move s labels) s.results
+      → map (result_move ins) rs ≡ map (own_move s (own_labels s)) s.results
+  moves-at ins labels rs same is all = (λ i. map (result_move (same i)) rs) ∙ all ∙ (λ i. map (own_move s (is i)) s.results)
+
   pub costs-at : (ins : List StTree) (labels : List (List ℕ)) (rs : List FusedResult) (cs : List ResultCosts) → ins ≡ s.ins → labels ≡ own_labels s → map (result_move s.ins) rs ≡ map (own_move s labels) s.results
       → AreAllCosts (map (result_move ins) rs) cs → AreAllCosts (map (own_move s (own_labels s)) s.results) cs
   costs-at ins labels rs cs same is all costs =
-      subst (λ (ms : List Move). AreAllCosts ms cs) ((λ i. map (result_move (same i)) rs) ∙ all ∙ (λ i. map (own_move s (is i)) s.results)) costs
+      subst (λ (ms : List Move). AreAllCosts ms cs) (moves-at ins labels rs same is all) costs
+
+  pub many-at : (labels : List (List ℕ)) (rs : List FusedResult) → map (result_move s.ins) rs ≡ map (own_move s labels) s.results → length rs ≡ length s.results
+  many-at labels rs all = sym (length-map rs (result_move s.ins)) ∙ ap length all ∙ length-map s.results (own_move s labels)
 
 -- ---- the program
 
@@ -91,6 +103,7 @@ module _ (p : ProgramTree) (slowdown : ℕ) (instances : List StFuncTree) (f : F
         words = moves-words p slowdown instances f s moves typed h there last some few sound fitted;
         moves = item-is-move p slowdown instances f s moves typed h there last some few;
         results = own.results;
+        some_results = own.some_results;
         few_results = own.few_results;
       }
 
@@ -114,6 +127,7 @@ module _ (p : ProgramTree) (slowdown : ℕ) (instances : List StFuncTree) (f : F
 
   pub fused-of : (v : FusedView) → IsFusedBy s v → IsFusedOf p instances v
   fused-of v by = record {
+    movement = moves;
     func = f;
     there = there;
     instance = s;
@@ -122,4 +136,13 @@ module _ (p : ProgramTree) (slowdown : ℕ) (instances : List StFuncTree) (f : F
     moves = by.moves ∙ own-moves;
     arrivals = by.arrivals ∙ own-arrivals;
     costs = by.costs ∙ ap fused_costs own-moves;
+    none = by.none;
+    certificate = certified v.certificate by.certificate;
   }
+    where
+      certified : (o : Option Certificate) → IfSome o (λ c. IsFirstOf v.latency (map (own_move s (own_labels s)) s.results) c) → IfSome o (λ c. IsCertificate p s.ins (outs_of s) (certificate_tree c))
+      certified None by_none = tt
+      certified (Some c) first =
+          let same : map (own_move s (own_labels s)) s.results ≡ traced_moves (parameter_types p) s.ins (outs_of s) (trace p) = own-moves ∙ sym (moves-traced p slowdown instances f s moves typed h there last) in
+          let latency : v.latency ≡ least p s.ins (outs_of s) = ap (λ (o : OwnCosts). o.latency) by.costs ∙ ap moves_latency same in
+          is-certificate p s.ins (outs_of s) c latency same first

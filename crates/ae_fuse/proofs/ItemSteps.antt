@@ -1,9 +1,7 @@
 -- The labels of all items, node by node.
-use Rattle.std.proofs.Common.{◌≡◌, ℕ, zero, suc, ◌+◌, ◌*◌, ◌<◌, ◌≤◌, inl, inr, true, List, [], ◌∷◌, ◌++◌, length, take, map, Some, Vec, Global, slice_get, refl, arith, sym, ap, ◌∙◌, subst, length-append}
-use Rattle.std.specs.Prelude.{◌&&◌}
-use Rattle.std.specs.List.{range_with_len}
+use Rattle.std.proofs.Common.{◌≡◌, ℕ, zero, suc, ◌+◌, ◌<◌, inl, inr, true, List, [], ◌∷◌, ◌++◌, length, take, Some, slice_get, refl, arith, sym, ap, ◌∙◌, subst, length-append}
 use Rattle.std.proofs.lemmas.Bool.{and_parts, cases_lt}
-use Rattle.std.proofs.lemmas.List.{get_or_append_left, get_or-append-add, length-map, map_push}
+use Rattle.std.proofs.lemmas.List.{get_or_append_left, get_or-append-add, length-map}
 use Rattle.std.proofs.lemmas.List.FromFn.{length-range_with_len}
 use Rattle.std.proofs.lemmas.Option.{get_or_from_slice_get, none-some, same_Some, slice_get_within}
 use Rattle.ae_word.specs.AtomTree.{unsigned_word}

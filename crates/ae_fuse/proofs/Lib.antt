@@ -14,4 +14,8 @@ pub mod CostSteps
 pub mod Schedule
 pub mod ResultSteps
 pub mod WholeSteps
+pub mod Certifying
 pub mod Fusing
+pub mod Making
+pub mod LateResults
+pub mod Circuits

@@ -118,8 +118,11 @@ moves-same : (ts : List SeqTree) (ins : List StTree) (layout : ℕ → StTree) (
 moves-same ts ins layout value [] = refl
 moves-same ts ins layout value (i ∷ is) = ap (λ ms. traced_move ts ins (layout i) (value i) ∷ ms) (moves-same ts ins layout value is)
 
-pub latency-is-least : LatencyIsLeast
-latency-is-least p slowdown instances f s moves typed h there last =
+-- the moves of the traced results are those of their items
+pub moves-traced : (p : ProgramTree) (slowdown : ℕ) (instances : List StFuncTree) (f : FuncTree) (s : StFuncTree) → is_movement p ≡ true → IsTyped p → IsSchedule p slowdown instances
+    → slice_get p.funcs (main_of p) ≡ Some f → slice_get instances (length instances - 1) ≡ Some s
+    → traced_moves (parameter_types p) s.ins (map (item_layout (item_layouts s)) s.results) (trace p) ≡ map (item_move f s) f.results
+moves-traced p slowdown instances f s moves typed h there last =
     let m = is-main p slowdown instances f s moves typed h there last in
     let k = has-meaning p moves in
     let same : k.func ≡ f = same_Some k.func f (sym k.there ∙ there) in
@@ -133,6 +136,7 @@ latency-is-least p slowdown instances f s moves typed h there last =
     ∙ ap (λ (g : FuncTree). map (at (item_values k.known g (numbered 1 (parameter_types p)))) g.results) same
     ∙ ap (λ vs. map (at vs) f.results) (items-known k.known [] (numbered 1 (parameter_types p)) f.nodes m.moves)
     ∙ ap (λ ts. map (at (item_values [] f (numbered 1 ts))) f.results) types_same in
-    let all : traced_moves (parameter_types p) s.ins (map layout s.results) (trace p) ≡ map (item_move f s) f.results =
-    (λ i. traced_moves (types_same i) s.ins (map layout (results_same i)) (traced_is i)) ∙ moves-same (param_types f) s.ins layout value f.results in
-    sym (ap (greatest move_latency) all)
+    (λ i. traced_moves (types_same i) s.ins (map layout (results_same i)) (traced_is i)) ∙ moves-same (param_types f) s.ins layout value f.results
+
+pub latency-is-least : LatencyIsLeast
+latency-is-least p slowdown instances f s moves typed h there last = sym (ap (greatest move_latency) (moves-traced p slowdown instances f s moves typed h there last))

@@ -1,20 +1,19 @@
 -- What the schedule of a movement program gives: an instance that moves words, each of whose items could be moved straight from the parameters.
-use Rattle.std.proofs.Common.{◌≡◌, ℕ, zero, suc, ◌+◌, ◌-◌, ◌*◌, ◌/◌, ◌%◌, ◌<◌, ◌≤◌, List, [], ◌∷◌, length, take, map, Option, Some, IsTrue, slice_get, refl, arith, sym, ap, ◌∙◌, subst, length-append}
+use Rattle.std.proofs.Common.{◌≡◌, ℕ, zero, suc, ◌+◌, ◌-◌, ◌/◌, ◌%◌, ◌<◌, ◌≤◌, List, [], ◌∷◌, length, take, map, Some, slice_get, refl, arith, sym, ap, ◌∙◌, subst, length-append}
 use Rattle.std.specs.Prelude.{true, nat_lt, if◌then◌else◌}
 use Rattle.std.specs.List.{range_with_len}
 use Rattle.std.proofs.lemmas.List.{length-map}
 use Rattle.std.proofs.lemmas.List.FromFn.{length-range_with_len}
 use Rattle.std.proofs.lemmas.Option.{same_Some, slice_get_within}
 use Rattle.ae_word.specs.AtomTree.{atom_words}
-use Rattle.ae_seqtype.specs.SeqTree.{SeqTree, atom_of, in_size, words}
+use Rattle.ae_seqtype.specs.SeqTree.{SeqTree, atom_of, words}
 use Rattle.ae_seqtype.specs.ValueTree.{ValueTree, flat, value_of}
 use Rattle.ae_seqtype.proofs.Values.{flat-value_of}
 use Rattle.ae_seq.specs.ProgramTree.{FuncTree, ParamTree, ProgramTree}
 use Rattle.ae_seq.specs.Typing.{param_types}
 use Rattle.ae_seq.specs.Meaning.{at, item_values}
-use Rattle.ae_sttype.specs.StTree.{StTree, element_words, time}
-use Rattle.ae_sttype.specs.Size.{IsInSize}
-use Rattle.ae_sttype.specs.Moves.{OriginTree, fixed, from_input}
+use Rattle.ae_sttype.specs.StTree.{StTree, element_words}
+use Rattle.ae_sttype.specs.Moves.{OriginTree, from_input}
 use Rattle.ae_moves.specs.Origins.{IsMove, Move}
 use Rattle.ae_eval.specs.Stack.{IsTyped, types_in}
 use Rattle.ae_rewrite.specs.Interface.{main_of, parameter_types, types_in as some_types}
@@ -31,7 +30,7 @@ use Rattle.ae_flow.proofs.Placed.{as_many, item_count_is, typed_item}
 use Rattle.ae_eval.proofs.Starting.{count-items}
 use Rattle.ae_trace.specs.Traces.{is_movement, numbered, origin_at, origin_numbered}
 use Rattle.ae_trace.proofs.Natural.{map-map, map-same}
-use Rattle.ae_trace.proofs.Laying.{IsLaid, is-laid}
+use Rattle.ae_trace.proofs.Laying.{is-laid}
 use Rattle.ae_trace.proofs.Typed.{AreLaid, are-laid}
 use Rattle.ae_fuse.specs.Labels.{MovesWords, labelled_origin, layout_numbers, layout_origin}
 use Rattle.ae_fuse.specs.Costing.{item_move}

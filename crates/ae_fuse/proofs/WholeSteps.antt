@@ -1,22 +1,18 @@
 -- The whole of a fused program, from its parts.
-use Rattle.std.proofs.Common.{◌≡◌, ℕ, zero, suc, ◌+◌, ◌-◌, ◌*◌, ◌<◌, ◌≤◌, max, Bool, true, false, List, [], ◌∷◌, ◌++◌, length, drop, map, sum_by, Option, None, Some, slice_get, refl, arith, sym, ap, ◌∙◌, subst}
+use Rattle.std.proofs.Common.{◌≡◌, ℕ, zero, suc, ◌+◌, ◌-◌, ◌*◌, ◌<◌, ◌≤◌, max, Bool, true, false, List, [], ◌∷◌, length, drop, sum_by, Some, slice_get, refl, arith, sym, ap, ◌∙◌}
 use Rattle.std.specs.Prelude.{◌&&◌, fold}
-use Rattle.std.specs.List.{range_with_len}
 use Rattle.std.proofs.Math.Seq.{drop-cons}
-use Rattle.std.proofs.lemmas.List.{length-map}
 use Rattle.std.proofs.lemmas.List.Sums.{sum_by-cons}
-use Rattle.std.proofs.lemmas.Option.{get_or_from_slice_get, same_Some, slice_get_within}
-use Rattle.ae_sttype.specs.Moves.{columns_of, greatest}
+use Rattle.std.proofs.lemmas.Option.{get_or_from_slice_get, slice_get_within}
+use Rattle.ae_sttype.specs.Moves.{greatest}
 use Rattle.ae_moves.specs.Origins.{Move, move_latency}
 use Rattle.ae_moves.specs.Rings.{rings}
 use Rattle.ae_seq.specs.ProgramTree.{NodeTree}
 use Rattle.ae_delay.specs.declared.own.OwnCosts.{OwnCosts}
-use Rattle.ae_delay.specs.Moving.{costs_of_move}
-use Rattle.ae_delay.specs.OwnCosts.{moved_costs}
 use Rattle.ae_trace.specs.Traces.{are_movements, is_movement_op}
 use Rattle.ae_fuse.specs.declared.costs.ResultCosts.{ResultCosts}
 use Rattle.ae_fuse.specs.Costing.{fused_costs, moves_latency, result_load, result_mems}
-use Rattle.ae_fuse.specs.Results.{AreCostsOf, AreLight, IsLight, own_latency, own_load, own_mems}
+use Rattle.ae_fuse.specs.Results.{AreCostsOf, AreLight, own_latency, own_load, own_mems}
 use Rattle.ae_fuse.specs.Fused.{AreAllCosts}
 
 -- ---- lines that move words

@@ -1,5 +1,5 @@
 -- The numbers of the words of a movement program's items, by the layouts of its parameters.
-use Rattle.std.specs.Prelude.{◌≡◌, ℕ, zero, suc, ◌+◌, ◌-◌, ◌*◌, ◌/◌, ◌%◌, ◌<◌, ◌≤◌, Bool, true, false, ◌&&◌, nat_lt, if◌then◌else◌, List, [], ◌∷◌, length, map, Some, slice_get}
+use Rattle.std.specs.Prelude.{◌≡◌, ℕ, zero, suc, ◌+◌, ◌-◌, ◌/◌, ◌%◌, ◌<◌, ◌≤◌, Bool, true, false, ◌&&◌, nat_lt, if◌then◌else◌, List, [], ◌∷◌, length, Some, slice_get}
 use Rattle.std.specs.List.{range_with_len}
 use Rattle.ae_sttype.specs.StTree.{StTree, element_words}
 use Rattle.ae_sttype.specs.Size.{IsInSize}

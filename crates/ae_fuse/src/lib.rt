@@ -1,12 +1,17 @@
 //! Movement programs as one move for each result.
 #![tactic(auto)]
 
+mod certificate;
 mod costs;
 mod labelling;
 mod laws;
+mod lowering;
 mod numbers;
 mod results;
 mod whole;
 
-pub use laws::{labels_are_traced, latency_is_least, traced_moves, traced_words};
+pub use certificate::Certificate;
+pub use laws::{
+    labels_are_traced, latency_is_least, moves_make_blocks, traced_moves, traced_words,
+};
 pub use whole::{Fused, fuse};

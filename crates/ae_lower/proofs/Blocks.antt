@@ -54,7 +54,7 @@ all_hold run start k first (s ∷ ss) (v ∷ block) many each =
           subst (λ i. HoldsWords k (stream_of t) (input_wave run start i) (flat (at block q))) place (each (suc q) t found)),
     )
 
-inputs_held : (run : List Clock) (start k : ℕ) (ss : List StTree) (block : List ValueTree) → length block ≡ length ss → InputsHold run start k ss block
+pub inputs_held : (run : List Clock) (start k : ℕ) (ss : List StTree) (block : List ValueTree) → length block ≡ length ss → InputsHold run start k ss block
     → AllHold k (streams_of ss) (input_waves run start 1 (streams_of ss)) (map flat block)
 inputs_held run start k ss block many held =
     all_hold run start k 1 ss block many (λ q s found.

@@ -147,17 +147,17 @@ AtResult result lane word = Out result lane word
 abbrev pub all_nets : List (List NetId) → List NetId
 all_nets bundles = flat_map (λ (b : List NetId). b) bundles
 
-pub results_more : (a b c : Circuit) (f : ℕ → Stream) (chosen : List ℕ) (bundles : List (List NetId)) (r i : ℕ) (nets : List NetId) → slice_get chosen r ≡ Some i → slice_get bundles r ≡ Some nets
+pub results_more : {X : Type 0} (a b c : Circuit) (f : X → Stream) (chosen : List X) (bundles : List (List NetId)) (r : ℕ) (i : X) (nets : List NetId) → slice_get chosen r ≡ Some i → slice_get bundles r ≡ Some nets
     → AddsOutputs a b (output_ports (map f (take r chosen))) (all_nets (take r bundles)) → AddsOutputs b c (stream_ports (Out r) (f i)) nets
     → AddsOutputs a c (output_ports (map f (take (r + 1) chosen))) (all_nets (take (r + 1) bundles))
-results_more a b c f chosen bundles r i nets found has was one =
+results_more {X} a b c f chosen bundles r i nets found has was one =
     let h : r < length chosen = slice_get_within chosen r i found in
     let long : 0 + length (map f (take r chosen)) ≡ r = omega (arith, length-map (take r chosen) f, length-take-le r chosen (omega arith)) in
     let ports : output_ports (map f (take (r + 1) chosen)) ≡ output_ports (map f (take r chosen)) ++ stream_ports (Out r) (f i) =
     ap output_ports (map_more f chosen r i h)
     ∙ (ports_from_push AtResult 0 (map f (take r chosen)) (f (get_or chosen r i))
     ∙ (ap (λ n. output_ports (map f (take r chosen)) ++ stream_ports (AtResult n) (f (get_or chosen r i))) long
-    ∙ ap (λ n. output_ports (map f (take r chosen)) ++ stream_ports (Out r) (f n)) (get_or_from_slice_get chosen r i i found))) in
+    ∙ ap (λ (x : X). output_ports (map f (take r chosen)) ++ stream_ports (Out r) (f x)) (get_or_from_slice_get chosen r i i found))) in
     let more : all_nets (take (r + 1) bundles) ≡ all_nets (take r bundles) ++ nets =
     ap all_nets (take_more bundles r nets (slice_get_within bundles r nets has) ∙ ap (λ (ns : List NetId). take r bundles ++ ns ∷ []) (get_or_from_slice_get bundles r nets nets has))
     ∙ (flat_map-append (λ (b : List NetId). b) (take r bundles) (nets ∷ []) ∙ ap (λ ns. all_nets (take r bundles) ++ ns) (append-nil nets)) in

@@ -1,9 +1,9 @@
 -- The words of the parameters on the inputs, and those of the results on the outputs.
-use Rattle.std.proofs.Common.{ℕ, zero, suc, ◌≡◌, ◌+◌, ◌*◌, ◌<◌, List, [], ◌∷◌, length, map, take, get_or, Some, slice_get, arith, refl, sym, ap, ◌∙◌, subst}
-use Rattle.std.proofs.lemmas.List.{get_or-append-add, get_or_append_left}
+use Rattle.std.proofs.Common.{ℕ, zero, suc, ◌≡◌, ◌+◌, ◌*◌, ◌<◌, List, [], ◌∷◌, length, map, take, get_or, ◌-◌, Some, slice_get, arith, refl, sym, ap, ◌∙◌, subst}
+use Rattle.std.proofs.lemmas.List.{get_or-append-add, get_or_append_left, length-map}
 use Rattle.std.proofs.lemmas.List.FromFn.{get_or-map-range_with_len}
 use Rattle.std.proofs.lemmas.List.Sums.{sum_by-cons}
-use Rattle.std.proofs.lemmas.Option.{get_or_from_slice_get, slice_get-get_or, slice_get-map, slice_get_within}
+use Rattle.std.proofs.lemmas.Option.{get_or_from_slice_get, same_Some, slice_get-get_or, slice_get-map, slice_get_within}
 use Rattle.std.specs.Option.{option_map}
 use Rattle.ae_seqtype.proofs.Sizes.{length-repeated}
 use Rattle.ae_sttype.specs.declared.st_type.Slot.{Slot}
@@ -13,17 +13,18 @@ use Rattle.ae_sttype.proofs.Places.{slot_below, slot_of, stands_from_get}
 use Rattle.ae_netlist.specs.declared.cell.NetId.{NetId}
 use Rattle.ae_netlist.specs.declared.cell.Outlet.{Outlet}
 use Rattle.ae_netlist.specs.Circuit.{Circuit}
-use Rattle.ae_netlist.specs.Runs.{Clock, word_at}
+use Rattle.ae_netlist.specs.Runs.{Clock, IsReset, IsRun, word_at}
 use Rattle.ae_netlist.proofs.Growing.{extends_refl}
 use Rattle.ae_ops.specs.Waves.{Wave, net_word, wave_of}
-use Rattle.ae_ops.specs.Blocks.{AllHold, HoldsWords, Stream, stream_of, stream_widths}
+use Rattle.ae_ops.specs.Blocks.{AllHold, BlockLaw, HoldsWords, KeepsLaw, Stream, stream_of, stream_widths}
 use Rattle.ae_rewrite.specs.StProgramTree.{StFuncTree}
 use Rattle.ae_rewrite.specs.Sound.{IsSoundFunc, item_layout, item_layouts}
 use Rattle.ae_delay.proofs.Instances.{all_items}
-use Rattle.ae_flow.specs.Flow.{callees, flow, item_words, results_in, words_at}
+use Rattle.ae_flow.specs.Flow.{Callee, callees, flow, item_words, results_in, words_at}
 use Rattle.ae_ports.specs.Ports.{streams_of, input_waves, columns_in}
 use Rattle.ae_lower.specs.Circuits.{MakesResults, item_stream, last_of, result_streams}
 use Rattle.ae_lower.specs.Lowering.{AreChosen, instance_costs}
+use Rattle.ae_lower.specs.Parts.{plain_part}
 use Rattle.ae_rewrite.specs.Blocks.{input_wave, outlet_net, output_wave}
 use Rattle.ae_lower.specs.PortNets.{bundles_from, nets_from}
 use Rattle.ae_lower.proofs.Inputs.{length-nets_from}
@@ -69,20 +70,20 @@ inputs_hold run start (t ∷ ts) first k (v ∷ vs) sized h = (
 -- ---- outputs
 
 -- net q of result r is behind those of the results before it
-placed : (f : ℕ → Stream) (chosen : List ℕ) (bundles : List (List NetId)) → ((r i : ℕ) (nets : List NetId) → slice_get chosen r ≡ Some i → slice_get bundles r ≡ Some nets → length nets ≡ length (stream_widths (f i))) → length bundles ≡ length chosen
-    → (r i : ℕ) (nets : List NetId) (q : ℕ) (d : NetId) → slice_get chosen r ≡ Some i → slice_get bundles r ≡ Some nets → q < length nets → get_or (all_nets bundles) (columns_in (take r (map f chosen)) + q) d ≡ get_or nets q d
-placed f [] bundles long same r i nets q d fc fb h = absurd (let no : r < 0 = slice_get_within [] r i fc in omega arith)
-placed f (x ∷ xs) [] long same r i nets q d fc fb h = absurd (let no : r < 0 = slice_get_within [] r nets fb in omega arith)
-placed f (x ∷ xs) (b ∷ bs) long same zero i nets q d fc fb h =
+placed : (ss : List Stream) (bundles : List (List NetId)) → ((r : ℕ) (s : Stream) (nets : List NetId) → slice_get ss r ≡ Some s → slice_get bundles r ≡ Some nets → length nets ≡ length (stream_widths s)) → length bundles ≡ length ss
+    → (r : ℕ) (s : Stream) (nets : List NetId) (q : ℕ) (d : NetId) → slice_get ss r ≡ Some s → slice_get bundles r ≡ Some nets → q < length nets → get_or (all_nets bundles) (columns_in (take r ss) + q) d ≡ get_or nets q d
+placed [] bundles long same r s nets q d fc fb h = absurd (let no : r < 0 = slice_get_within [] r s fc in omega arith)
+placed (x ∷ xs) [] long same r s nets q d fc fb h = absurd (let no : r < 0 = slice_get_within [] r nets fb in omega arith)
+placed (x ∷ xs) (b ∷ bs) long same zero s nets q d fc fb h =
     let is : b ≡ nets = cc in
     let below : q < length b = rw is h in
     ap (λ n. get_or (all_nets (b ∷ bs)) n d) (let z : 0 + q ≡ q = omega arith in z) ∙ (get_or_append_left b (all_nets bs) d q below ∙ ap (λ (ns : List NetId). get_or ns q d) is)
-placed f (x ∷ xs) (b ∷ bs) long same (suc r) i nets q d fc fb h =
-    let size : length b ≡ length (stream_widths (f x)) = long zero x b refl refl in
-    let rest : ℕ = columns_in (take r (map f xs)) in
-    let place : columns_in (take (suc r) (map f (x ∷ xs))) + q ≡ length b + (rest + q) = omega (arith, size, sum_by-cons (λ (s : Stream). length (stream_widths s)) (f x) (take r (map f xs))) in
+placed (x ∷ xs) (b ∷ bs) long same (suc r) s nets q d fc fb h =
+    let size : length b ≡ length (stream_widths x) = long zero x b refl refl in
+    let rest : ℕ = columns_in (take r xs) in
+    let place : columns_in (take (suc r) (x ∷ xs)) + q ≡ length b + (rest + q) = omega (arith, size, sum_by-cons (λ (y : Stream). length (stream_widths y)) x (take r xs)) in
     ap (λ n. get_or (all_nets (b ∷ bs)) n d) place
-    ∙ (get_or-append-add b (all_nets bs) (rest + q) d ∙ placed f xs bs (λ k j ns u v. long (suc k) j ns u v) (omega arith) r i nets q d fc fb h)
+    ∙ (get_or-append-add b (all_nets bs) (rest + q) d ∙ placed xs bs (λ k t ns u v. long (suc k) t ns u v) (omega arith) r s nets q d fc fb h)
 
 wave_outputs : (run : List Clock) (start : ℕ) (outlets : List Outlet) (bundles : List (List NetId)) (first : ℕ) (nets : List NetId) → map (λ (o : Outlet). o.net) outlets ≡ all_nets bundles
     → ((q : ℕ) (d : NetId) → q < length nets → get_or (all_nets bundles) (first + q) d ≡ get_or nets q d) → AgreesOn (length nets) (wave_of run start nets) (output_wave run outlets start first)
@@ -91,6 +92,25 @@ wave_outputs run start outlets bundles first nets show place c q h =
     let none : NetId = record { 0 = 0 } in
     let is : outlet_net outlets (first + q) ≡ (get_or nets q none).0 = ap (λ (n : NetId). n.0) (ap (λ ns. get_or ns (first + q) none) show ∙ place q none h) in
     ap (word_at run (start + c)) is ∙ sym (ap (net_word run (start + c)) (slice_get-get_or nets q none h))
+
+-- bundles for streams, of which one keeps the law of a part, are shown on the outputs: so the outputs keep it
+pub outputs_law : (ins : List StTree) (ss : List Stream) (n : Circuit) (bundles : List (List NetId)) → ((j : ℕ) (t : StTree) → slice_get ins j ≡ Some t → HasLengths t)
+    → ((r : ℕ) (s : Stream) (nets : List NetId) → slice_get ss r ≡ Some s → slice_get bundles r ≡ Some nets → length nets ≡ length (stream_widths s)) → length bundles ≡ length ss → map (λ (o : Outlet). o.net) n.outlets ≡ all_nets bundles
+    → (r T d : ℕ) (t : StTree) (nets : List NetId) (means : List (List ℕ) → List ℕ) → HasLengths t → slice_get ss r ≡ Some (stream_of t) → slice_get bundles r ≡ Some nets
+    → KeepsLaw n.cells 0 0 (plain_part T d (streams_of ins) (stream_of t) means) (bundles_from 1 (streams_of ins)) nets
+    → (run : List Clock) (start : ℕ) → IsRun n.cells run → IsReset run 0 start
+    → BlockLaw (length run - start) 0 (plain_part T d (streams_of ins) (stream_of t) means) (input_waves run start 1 (streams_of ins)) (output_wave run n.outlets start (columns_in (take r ss)))
+outputs_law ins ss n bundles sized long same show r T d t nets means lengths at has keeps run start is_run is_reset =
+    let law = keeps n.cells (extends_refl n.cells) run is_run start is_reset in
+    let place : (q : ℕ) (d : NetId) → q < length nets → get_or (all_nets bundles) (columns_in (take r ss) + q) d ≡ get_or nets q d =
+    λ q d h. placed ss bundles long same r (stream_of t) nets q d at has h in
+    let agree : AgreesOn (length nets) (wave_of run start nets) (output_wave run n.outlets start (columns_in (take r ss))) = wave_outputs run start n.outlets bundles (columns_in (take r ss)) nets show place in
+    let wide : length nets ≡ length (stream_widths (stream_of t)) = long r (stream_of t) nets at has in
+    record {
+      makes = λ b vs ends words holds.
+          let made = law.makes b vs ends words (inputs_hold run start ins 1 _ vs sized holds) in
+          holds_same t lengths _ (wave_of run start nets) (output_wave run n.outlets start (columns_in (take r ss))) _ (rw wide at agree) made;
+    }
 
 -- ---- the words of a result
 
@@ -107,18 +127,22 @@ pub makes_results : (instances : List StFuncTree) (s : StFuncTree) (n : Circuit)
     → AreChosen n.cells 0 0 (callees (take (last_of instances) instances)) s (bundles_from 1 (streams_of s.ins)) (instance_costs instances (last_of instances)).latency s.results bundles
     → map (λ (o : Outlet). o.net) n.outlets ≡ all_nets bundles → MakesResults instances s n
 makes_results instances s n bundles sound found chosen show run start is_run is_reset r i result =
+    let known : List Callee = callees (take (last_of instances) instances) in
+    let d : ℕ = (instance_costs instances (last_of instances)).latency in
     let nets : List NetId = get_or bundles r [] in
     let inside : r < length bundles = omega (arith, slice_get_within s.results r i result, chosen.long) in
     let has : slice_get bundles r ≡ Some nets = slice_get-get_or bundles r [] inside in
     let item = chosen.each r i nets result has in
-    let law = item.law n.cells (extends_refl n.cells) run is_run start is_reset in
     let t : StTree = item_layout (item_layouts s) i in
-    let sized : HasLengths t = (all_items sound.0 s sound.1 i (sound.1.results r i result)).size.lengths in
-    let place : (q : ℕ) (d : NetId) → q < length nets → get_or (all_nets bundles) (columns_in (take r (result_streams s)) + q) d ≡ get_or nets q d =
-    λ q d h. placed (item_stream s) s.results bundles (λ k j ns u v. (chosen.each k j ns u v).there.long) chosen.long r i nets q d result has h in
-    let agree = wave_outputs run start n.outlets bundles (columns_in (take r (result_streams s))) nets show place in
-    record {
-      makes = λ b vs ends words holds.
-          let made = law.makes b vs ends words (inputs_hold run start s.ins 1 _ vs (λ k u f. (sound.1.ins k u f).size.lengths) holds) in
-          rw (flow_word instances s vs r i found result) (holds_same t sized _ (wave_of run start nets) (output_wave run n.outlets start (columns_in (take r (result_streams s)))) _ (rw item.there.long at agree) made);
-    }
+    let lengths : HasLengths t = (all_items sound.0 s sound.1 i (sound.1.results r i result)).size.lengths in
+    let at : slice_get (result_streams s) r ≡ Some (stream_of t) = slice_get-map (item_stream s) s.results r ∙ ap (option_map (item_stream s)) result in
+    let wide : (k : ℕ) (x : Stream) (ns : List NetId) → slice_get (result_streams s) k ≡ Some x → slice_get bundles k ≡ Some ns → length ns ≡ length (stream_widths x) =
+    λ k x ns u v. (let m = mapped_from (item_stream s) s.results k x u in (chosen.each k m.0 ns m.1 v).there.long ∙ ap (λ (y : Stream). length (stream_widths y)) m.2) in
+    let law = outputs_law s.ins (result_streams s) n bundles (λ k u f. (sound.1.ins k u f).size.lengths) wide (chosen.long ∙ sym (length-map s.results (item_stream s))) show
+    r s.budget d t nets (λ vs. words_at (item_words known s vs) i) lengths at has item.law run start is_run is_reset in
+    record { makes = λ b vs ends words holds. rw (flow_word instances s vs r i found result) (law.makes b vs ends words holds) }
+  where
+    mapped_from : {X Y : Type 0} (f : X → Y) (xs : List X) (i : ℕ) (y : Y) → slice_get (map f xs) i ≡ Some y → (x : X) × (slice_get xs i ≡ Some x) × (f x ≡ y)
+    mapped_from f [] i y h = cc
+    mapped_from f (x ∷ xs) zero y h = (x, refl, same_Some (f x) y h)
+    mapped_from f (x ∷ xs) (suc i) y h = mapped_from f xs i y h

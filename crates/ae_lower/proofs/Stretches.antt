@@ -9,6 +9,7 @@ use Rattle.ae_netlist.specs.declared.cell.SizedCell.{SizedCell}
 use Rattle.ae_netlist.specs.Circuit.{Circuit, Extends}
 use Rattle.ae_netlist.specs.Counts.{count_of, number_of, is_input, is_mul}
 use Rattle.ae_netlist.proofs.Gets.{get_push_cases}
+use Rattle.ae_sttype.specs.StTree.{StTree}
 use Rattle.ae_rewrite.specs.StProgramTree.{StFuncTree}
 use Rattle.ae_rewrite.specs.Sound.{IsSound}
 use Rattle.ae_delay.specs.Costs.{NodeTiming}
@@ -26,7 +27,8 @@ use Rattle.ae_lower.proofs.Ending.{result_below}
 use Rattle.ae_lower.proofs.Instances.{AreLowered, standing}
 use Rattle.ae_lower.proofs.Placed.{standing_delays}
 use Rattle.ae_lower.proofs.Tidied.{all_inputs}
-use Rattle.ae_lower.proofs.Whole.{HasBegun, first_cells}
+use Rattle.ae_lower.specs.Ported.{HasBegun}
+use Rattle.ae_lower.proofs.Whole.{first_cells}
 
 -- ---- cells that stay as others are added
 
@@ -47,6 +49,11 @@ stretch_kept mid new from to load products e l s = record {
       omega (arith, a, b, s.muls);
 }
 
+pub extends_long : (mid new : List SizedCell) → Extends mid new → length mid ≤ length new
+extends_long mid new e =
+    let same : length (take (length mid) new) ≡ length mid = ap length (first_cells mid new e) in
+    omega (arith, length-take (length mid) new)
+
 -- the cells from one place on, and those that are added
 stretch_more : (mid new : Circuit) (from load more products added mems : ℕ) → GrowsBy mid new more → Adds mid new added mems → IsStretch mid.cells from (length mid.cells) load products
     → IsStretch new.cells from (length new.cells) (load + more) (products + added)
@@ -58,11 +65,6 @@ stretch_more mid new from load more products added mems g a s =
       few = omega (arith, s.few, g.cells);
       muls = omega (arith, number_all new.cells, number_all mid.cells, front, a.muls, s.muls);
     }
-  where
-    extends_long : (mid new : List SizedCell) → Extends mid new → length mid ≤ length new
-    extends_long mid new e =
-        let same : length (take (length mid) new) ≡ length mid = ap length (first_cells mid new e) in
-        omega (arith, length-take (length mid) new)
 
 stretch_none : (c : Circuit) → IsStretch c.cells (length c.cells) (length c.cells) 0 0
 stretch_none c = record { rising = omega arith; few = omega arith; muls = omega arith }
@@ -197,16 +199,16 @@ results_late instances k at rst s ins items old mid waits sound func ew was =
     standing_delays mid.cells s (length s.ins + length s.nodes) items (arrivals_in instances k s) waits s.results stand (result_below instances k s s.results sound func refl) ew
 
 -- the reset and the words of the parameters stand first
-pub begun_inputs : (s : StFuncTree) (a b : Circuit) → HasBegun s a → Extends a.cells b.cells → number_of is_input b.cells (length a.cells) ≡ length a.cells
-begun_inputs s a b begun e =
-    let ps : List SizedPort = reset_port ∷ input_ports (streams_of s.ins) in
+pub begun_inputs : (ins : List StTree) (a b : Circuit) → HasBegun ins a → Extends a.cells b.cells → number_of is_input b.cells (length a.cells) ≡ length a.cells
+begun_inputs ins a b begun e =
+    let ps : List SizedPort = reset_port ∷ input_ports (streams_of ins) in
     let front : take (length a.cells) b.cells ≡ map input_cell ps = first_cells a.cells b.cells e ∙ begun.cells in
     let long : length a.cells ≡ length ps = ap length begun.cells ∙ length-map ps input_cell in
     let whole : take (length ps) (map input_cell ps) ≡ map input_cell ps = ap (λ n. take n (map input_cell ps)) (sym (length-map ps input_cell)) ∙ take-length (map input_cell ps) in
     ap (count_of is_input) (front ∙ sym whole) ∙ (all_inputs ps (length ps) (omega arith) ∙ sym long)
 
-pub begun_long : (s : StFuncTree) (a : Circuit) → HasBegun s a → length a.cells ≡ 1 + length (input_ports (streams_of s.ins))
-begun_long s a begun = omega (arith, ap length begun.cells, length-map (reset_port ∷ input_ports (streams_of s.ins)) input_cell)
+pub begun_long : (ins : List StTree) (a : Circuit) → HasBegun ins a → length a.cells ≡ 1 + length (input_ports (streams_of ins))
+begun_long ins a begun = omega (arith, ap length begun.cells, length-map (reset_port ∷ input_ports (streams_of ins)) input_cell)
 
 pub tidied_stretches : (old new : Circuit) (begin count : ℕ) (ts : List NodeTiming) (delays : ℕ) (marks places : List ℕ) → IsTidied old new → AreMarks (length old.cells) count marks → AreMoved old.cells new.cells marks places
     → number_of is_input old.cells begin ≡ begin → AreStretches old.cells begin ts delays marks → AreStretches new.cells begin ts delays places

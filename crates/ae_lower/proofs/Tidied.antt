@@ -1,5 +1,5 @@
 -- A tidied circuit is the circuit of the same program.
-use Rattle.std.proofs.Common.{ℕ, zero, suc, ◌≡◌, ◌+◌, ◌<◌, ◌≤◌, List, [], ◌∷◌, length, length-append, map, take, take-take, get_or, inl, inr, Some, slice_get, cond, arith, refl, sym, ap, ◌∙◌}
+use Rattle.std.proofs.Common.{ℕ, zero, suc, ◌≡◌, ◌+◌, ◌-◌, ◌<◌, ◌≤◌, List, [], ◌∷◌, length, length-append, map, take, take-take, get_or, inl, inr, Some, slice_get, cond, arith, refl, sym, ap, ◌∙◌}
 use Rattle.std.proofs.lemmas.Bool.{cases_lt}
 use Rattle.std.proofs.lemmas.List.{length-map, get_or_past, get_or-map}
 use Rattle.std.proofs.lemmas.List.Sums.{length-filter, sum_by-cons}
@@ -12,17 +12,22 @@ use Rattle.ae_netlist.specs.declared.cell.SizedCell.{SizedCell}
 use Rattle.ae_netlist.specs.declared.cell.Outlet.{Outlet}
 use Rattle.ae_netlist.specs.Circuit.{Circuit, width_of}
 use Rattle.ae_netlist.specs.Counts.{IsNumbered, count_of, number_of, is_input}
-use Rattle.ae_netlist.specs.Runs.{Clock, no_clock, word_at}
+use Rattle.ae_netlist.specs.Runs.{Clock, IsReset, IsRun, no_clock, word_at}
 use Rattle.ae_netlist.proofs.Gets.{get_from_take}
 use Rattle.ae_sttype.specs.StTree.{StTree}
 use Rattle.ae_sttype.specs.Size.{HasLengths}
-use Rattle.ae_ops.specs.Blocks.{AllHold, Stream, stream_of, stream_widths}
+use Rattle.ae_ops.specs.Blocks.{AllHold, BlockLaw, Stream, stream_of, stream_widths}
 use Rattle.ae_tidy.specs.Tidied.{IsTidied, ShowTheSame, shown_ports}
 use Rattle.ae_rewrite.specs.StProgramTree.{StFuncTree}
-use Rattle.ae_rewrite.specs.Sound.{IsSoundFunc}
-use Rattle.ae_ports.specs.Ports.{streams_of, SizedPort, input_cell, input_ports, input_waves, outlet_port, ports_from, reset_port, stream_ports}
-use Rattle.ae_lower.specs.Circuits.{IsCircuitThat, MakesResults}
-use Rattle.ae_rewrite.specs.Blocks.{input_wave, outlet_net}
+use Rattle.ae_rewrite.specs.Sound.{IsSoundFunc, item_layout, item_layouts}
+use Rattle.ae_delay.specs.declared.own.OwnCosts.{OwnCosts}
+use Rattle.ae_flow.specs.Flow.{flow, words_at}
+use Rattle.ae_ports.specs.Ports.{columns_in, streams_of, SizedPort, input_cell, input_ports, input_waves, outlet_port, ports_from, reset_port, stream_ports}
+use Rattle.ae_lower.specs.Circuits.{IsCircuitThat, MakesResults, last_of, result_streams}
+use Rattle.ae_lower.specs.Lowering.{instance_costs}
+use Rattle.ae_lower.specs.Parts.{plain_part}
+use Rattle.ae_lower.specs.Ported.{IsPorted}
+use Rattle.ae_rewrite.specs.Blocks.{input_wave, outlet_net, output_wave}
 use Rattle.ae_lower.proofs.Inputs.{length-stream_ports}
 use Rattle.ae_lower.proofs.Results.{holds_same}
 
@@ -127,44 +132,84 @@ same_ports old new e = walk old new new.outlets old.outlets e
 
 -- ---- the law
 
-tidied_makes : (instances : List StFuncTree) (s : StFuncTree) (old new : Circuit) (many : ℕ) → ((k : ℕ) × IsSoundFunc k s) → 1 + length (input_ports (streams_of s.ins)) ≤ many
-    → ((before after : List Clock) → ShowTheSame old new before after → SameInputs many before after) → IsTidied old new → MakesResults instances s old → MakesResults instances s new
-tidied_makes instances s old new many sound few inputs t makes run start is_run reset r i result =
+-- the inputs of both have the same words
+abbrev first_inputs : List StTree → List SizedPort
+first_inputs ins = reset_port ∷ input_ports (streams_of ins)
+
+ported_inputs : (ins : List StTree) (outs : List Stream) (costs : OwnCosts) (old : Circuit) → IsPorted ins outs costs old → take (length (first_inputs ins)) old.cells ≡ map input_cell (first_inputs ins)
+ported_inputs ins outs costs old c =
+    let many : 1 + length (input_ports (streams_of ins)) ≡ length (first_inputs ins) = omega arith in
+    ap (λ n. take n old.cells) (sym many) ∙ c.inputs
+
+tidied_first : (ins : List StTree) (outs : List Stream) (costs : OwnCosts) (old new : Circuit) → IsPorted ins outs costs old → IsTidied old new → take (length (first_inputs ins)) new.cells ≡ take (length (first_inputs ins)) old.cells
+tidied_first ins outs costs old new c t =
+    let ps : List SizedPort = first_inputs ins in
+    let whole : take (length ps) (map input_cell ps) ≡ map input_cell ps = ap (λ n. take n (map input_cell ps)) (sym (length-map ps input_cell)) ∙ take-length (map input_cell ps) in
+    let number : number_of is_input old.cells (length ps) ≡ length ps = ap (count_of is_input) (ported_inputs ins outs costs old c ∙ sym whole) ∙ all_inputs ps (length ps) (omega arith) in
+    t.first (length ps) number
+
+-- a law of the outputs from some column on, by the inputs
+abbrev pub ShowsLaw : (ins : List StTree) (period latency : ℕ) (out : Stream) (means : List (List ℕ) → List ℕ) (column : ℕ) → Circuit → Type 0
+ShowsLaw ins t d out means first n =
+    (run : List Clock) (start : ℕ) → IsRun n.cells run → IsReset run 0 start
+    → BlockLaw (length run - start) 0 (plain_part t d (streams_of ins) out means) (input_waves run start 1 (streams_of ins)) (output_wave run n.outlets start first)
+
+pub tidied_law : (ins : List StTree) (outs : List Stream) (costs : OwnCosts) (old new : Circuit) → ((j : ℕ) (t : StTree) → slice_get ins j ≡ Some t → HasLengths t) → IsPorted ins outs costs old → IsTidied old new
+    → (t d : ℕ) (out : Stream) (means : List (List ℕ) → List ℕ) (first : ℕ) → ShowsLaw ins t d out means first old → ShowsLaw ins t d out means first new
+tidied_law ins outs costs old new sized c t T d out means first law run start is_run reset =
+    let many : ℕ = length (first_inputs ins) in
+    let few : 1 + length (input_ports (streams_of ins)) ≤ many = omega arith in
     let u = t.runs run is_run in
     let before : List Clock = u.0 in
     let long : length before ≡ length run = u.2.long in
-    let same : SameInputs many before run = inputs before run u.2 in
-    let law = makes before start u.1 (record {
+    let front = ported_inputs ins outs costs old c in
+    let same : SameInputs many before run = same_inputs old new (first_inputs ins) before run front (tidied_first ins outs costs old new c t ∙ front) u.2 in
+    let own = law before start u.1 (record {
       some = reset.some;
       high = λ c l b. same c 0 (omega arith) ∙ reset.high c l (omega arith);
       low = λ c l b. same c 0 (omega arith) ∙ reset.low c l (omega arith);
-    }) r i result in
+    }) in
     record {
       makes = λ b vs ends words holds.
-          let made = law.makes b vs (rw long ends) words
-          (inputs_same before run start many (λ param lane word. In param lane word) s.ins 1 0 _ vs same few (λ k v f. (sound.1.ins k v f).size.lengths) holds) in
+          let made = own.makes b vs (rw long ends) words
+          (inputs_same before run start many (λ param lane word. In param lane word) ins 1 0 _ vs same few sized holds) in
           λ e j w at lt. outputs_same old new many before run _ _ (omega arith) same t.outputs u.2 ∙ made e j w at lt;
     }
 
-pub tidied_circuit : (instances : List StFuncTree) (s : StFuncTree) (old new : Circuit) → ((k : ℕ) × IsSoundFunc k s) → IsCircuitThat MakesResults instances s old → IsTidied old new → IsCircuitThat MakesResults instances s new
-tidied_circuit instances s old new sound c t =
-    let ps : List SizedPort = reset_port ∷ input_ports (streams_of s.ins) in
-    let many : 1 + length (input_ports (streams_of s.ins)) ≡ length ps = omega arith in
-    let front : take (length ps) old.cells ≡ map input_cell ps = ap (λ n. take n old.cells) (sym many) ∙ c.inputs in
-    let whole : take (length ps) (map input_cell ps) ≡ map input_cell ps = ap (λ n. take n (map input_cell ps)) (sym (length-map ps input_cell)) ∙ take-length (map input_cell ps) in
-    let number : number_of is_input old.cells (length ps) ≡ length ps = ap (count_of is_input) (front ∙ sym whole) ∙ all_inputs ps (length ps) (omega arith) in
-    let first : take (length ps) new.cells ≡ take (length ps) old.cells = t.first (length ps) number in
+pub tidied_ported : (ins : List StTree) (outs : List Stream) (costs : OwnCosts) (old new : Circuit) → IsPorted ins outs costs old → IsTidied old new → IsPorted ins outs costs new
+tidied_ported ins outs costs old new c t =
+    let many : 1 + length (input_ports (streams_of ins)) ≡ length (first_inputs ins) = omega arith in
     record {
-      inputs = ap (λ n. take n new.cells) many ∙ (first ∙ front);
+      inputs = ap (λ n. take n new.cells) many ∙ (tidied_first ins outs costs old new c t ∙ ported_inputs ins outs costs old c);
       no_others =
           sym (length-filter (λ (x : SizedCell). is_input x.cell) new.cells)
           ∙ (ap (λ (l : List SizedCell). length l) t.inputs ∙ (length-filter (λ (x : SizedCell). is_input x.cell) old.cells ∙ c.no_others));
       outputs = same_ports old new t.outputs ∙ c.outputs;
-      makes = tidied_makes instances s old new (length ps) sound (omega arith) (λ before after s. same_inputs old new ps before after front (first ∙ front) s) t c.makes;
       formed = t.formed;
       shown = t.shown;
       whole = t.whole c.whole;
       small = omega (arith, t.small, c.small);
       muls = t.muls ∙ c.muls;
       memories = omega (arith, t.memories, c.memories);
+    }
+
+pub tidied_circuit : (instances : List StFuncTree) (s : StFuncTree) (old new : Circuit) → ((k : ℕ) × IsSoundFunc k s) → IsPorted s.ins (result_streams s) (instance_costs instances (last_of instances)) old × MakesResults instances s old
+    → IsTidied old new → IsCircuitThat MakesResults instances s new
+tidied_circuit instances s old new sound c t =
+    let costs : OwnCosts = instance_costs instances (last_of instances) in
+    let p = tidied_ported s.ins (result_streams s) costs old new c.0 t in
+    record {
+      inputs = p.inputs;
+      no_others = p.no_others;
+      outputs = p.outputs;
+      makes = λ run start is_run reset r i result.
+          (let before = columns_in (take r (result_streams s)) in
+          tidied_law s.ins (result_streams s) costs old new (λ k v f. (sound.1.ins k v f).size.lengths) c.0 t s.budget costs.latency (stream_of (item_layout (item_layouts s) i)) (λ vs. words_at (flow instances vs) r) before
+          (λ other begin others_run others_reset. c.1 other begin others_run others_reset r i result) run start is_run reset);
+      formed = p.formed;
+      shown = p.shown;
+      whole = p.whole;
+      small = p.small;
+      muls = p.muls;
+      memories = p.memories;
     }

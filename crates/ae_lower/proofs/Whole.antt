@@ -23,14 +23,16 @@ use Rattle.ae_sttype.specs.StTree.{StTree}
 use Rattle.ae_rewrite.specs.declared.st_program.StFunc.{StFunc}
 use Rattle.ae_rewrite.specs.StProgramTree.{StFuncTree, st_func_tree, st_func_trees}
 use Rattle.ae_rewrite.specs.Sound.{IsSoundFunc}
+use Rattle.ae_delay.specs.declared.own.OwnCosts.{OwnCosts}
 use Rattle.ae_delay.specs.Costs.{all_costs}
 use Rattle.ae_delay.specs.Timings.{AreTimes, Times}
 use Rattle.ae_flow.specs.Flow.{callees}
 use Rattle.ae_ports.specs.Ports.{streams_of, SizedPort, input_cell, input_ports, lane_ports, output_ports, ports_from, reset_port, stream_ports, word_ports}
-use Rattle.ae_lower.specs.Circuits.{IsCircuitThat, MakesResults, last_of, result_streams}
+use Rattle.ae_lower.specs.Circuits.{MakesResults, last_of, result_streams}
 use Rattle.ae_lower.specs.Growth.{Adds, GrowsBy}
 use Rattle.ae_lower.specs.Lowering.{AreChosen, IsLight, costs_in, instance_costs}
 use Rattle.ae_lower.specs.PortNets.{AddsOutputs, bundles_from, nets_from}
+use Rattle.ae_lower.specs.Ported.{HasBegun, IsPorted}
 use Rattle.ae_lower.proofs.Inputs.{length-nets_from, length-stream_ports}
 use Rattle.ae_lower.proofs.Outputs.{all_nets, outputs_cells}
 use Rattle.ae_lower.proofs.Results.{makes_results, nets_at}
@@ -134,36 +136,31 @@ first_cells (x ∷ xs) (y ∷ ys) e =
 
 -- ---- the circuit
 
--- a netlist with the inputs alone
-pub record HasBegun (s : StFuncTree) (n : Circuit) : Type 0 where
-  pub cells : n.cells ≡ map input_cell (reset_port ∷ input_ports (streams_of s.ins))
-  pub outlets : n.outlets ≡ []
-
-pub reset_belongs : (s : StFuncTree) (n : Circuit) (clocks : Kept) (rst : NetId) → HasBegun s n → clocks ≡ record { rst = rst.0; counters = [] } → rst.0 ≡ 0 → Belongs clocks n.cells
-reset_belongs s n clocks rst begun are is =
+pub reset_belongs : (ins : List StTree) (n : Circuit) (clocks : Kept) (rst : NetId) → HasBegun ins n → clocks ≡ record { rst = rst.0; counters = [] } → rst.0 ≡ 0 → Belongs clocks n.cells
+reset_belongs ins n clocks rst begun are is =
     let zeroed : clocks ≡ record { rst = 0; counters = [] } = are ∙ ap (λ k. record { rst = k; counters = [] }) is in
     let net : IsNet n.cells 0 1 = rw begun.cells (record { sized = input_cell reset_port; found = refl; plain = tt; wide = refl }) in
     rw zeroed (record { rst = net; counters = λ phase net kept. cc })
 
-pub inputs_begun : (s : StFuncTree) (n : Circuit) → HasBegun s n → AreBundles n.cells (streams_of s.ins) (bundles_from 1 (streams_of s.ins))
-inputs_begun s n begun =
-    let ports : List SizedPort = input_ports (streams_of s.ins) in
+pub inputs_begun : (ins : List StTree) (n : Circuit) → HasBegun ins n → AreBundles n.cells (streams_of ins) (bundles_from 1 (streams_of ins))
+inputs_begun ins n begun =
+    let ports : List SizedPort = input_ports (streams_of ins) in
     let reset : List SizedCell = input_cell reset_port ∷ [] in
     let is : n.cells ≡ reset ++ (map input_cell ports ++ []) = begun.cells ∙ ap (λ cs. input_cell reset_port ∷ cs) (sym (append-nil (map input_cell ports))) in
-    rw is (input_bundles (λ param lane word. In param lane word) 0 (streams_of s.ins) reset [])
+    rw is (input_bundles (λ param lane word. In param lane word) 0 (streams_of ins) reset [])
 
-pub has_begun : (s : StFuncTree) (limit : ℕ) (a b c : Circuit) (ts : List StTree) → a ≡ record { limit = limit; cells = []; outlets = [] } → b ≡ record a { cells = a.cells ++ input_cell reset_port ∷ [] }
-    → c ≡ record b { cells = b.cells ++ map input_cell (input_ports (streams_of ts)) } → ts ≡ s.ins → HasBegun s c
-has_begun s limit a b c ts new reset inputs are =
+pub has_begun : (ins : List StTree) (limit : ℕ) (a b c : Circuit) (ts : List StTree) → a ≡ record { limit = limit; cells = []; outlets = [] } → b ≡ record a { cells = a.cells ++ input_cell reset_port ∷ [] }
+    → c ≡ record b { cells = b.cells ++ map input_cell (input_ports (streams_of ts)) } → ts ≡ ins → HasBegun ins c
+has_begun ins limit a b c ts new reset inputs are =
     let first : b.cells ≡ input_cell reset_port ∷ [] = ap (λ (n : Circuit). n.cells) reset ∙ ap (λ (n : Circuit). n.cells ++ input_cell reset_port ∷ []) new in
     record {
       cells = ap (λ (n : Circuit). n.cells) inputs ∙ (ap (λ cs. cs ++ map input_cell (input_ports (streams_of ts))) first ∙ ap (λ us. input_cell reset_port ∷ map input_cell (input_ports (streams_of us))) are);
       outlets = ap (λ (n : Circuit). n.outlets) inputs ∙ (ap (λ (n : Circuit). n.outlets) reset ∙ ap (λ (n : Circuit). n.outlets) new);
     }
 
-pub begun_bundles : (s : StFuncTree) (limit : ℕ) (a b : Circuit) (ts : List StTree) (bundles : List (List NetId)) → a ≡ record { limit = limit; cells = []; outlets = [] } → b ≡ record a { cells = a.cells ++ input_cell reset_port ∷ [] }
-    → bundles ≡ bundles_from (length b.cells) (streams_of ts) → ts ≡ s.ins → bundles ≡ bundles_from 1 (streams_of s.ins)
-begun_bundles s limit a b ts bundles new reset is are =
+pub begun_bundles : (ins : List StTree) (limit : ℕ) (a b : Circuit) (ts : List StTree) (bundles : List (List NetId)) → a ≡ record { limit = limit; cells = []; outlets = [] } → b ≡ record a { cells = a.cells ++ input_cell reset_port ∷ [] }
+    → bundles ≡ bundles_from (length b.cells) (streams_of ts) → ts ≡ ins → bundles ≡ bundles_from 1 (streams_of ins)
+begun_bundles ins limit a b ts bundles new reset is are =
     let one : length b.cells ≡ 1 = ap (λ (n : Circuit). length n.cells) reset ∙ ap (λ (n : Circuit). length (n.cells ++ input_cell reset_port ∷ [])) new in
     is ∙ (ap (λ n. bundles_from n (streams_of ts)) one ∙ ap (λ us. bundles_from 1 (streams_of us)) are)
 
@@ -190,25 +187,35 @@ chosen_last instances s cells rst k ins ours bundles theirs zeroed last mine sam
     let P : ℕ → ℕ → List (List NetId) → List (List NetId) → Type 0 = λ r m xs ys. AreChosen cells r 0 (callees (take m instances)) s xs (instance_costs instances m).latency s.results ys in
     subst (λ r. P r (last_of instances) ours theirs) zeroed (subst (λ m. P rst m ours theirs) last (subst (λ xs. P rst k xs theirs) mine (subst (λ ys. P rst k ins ys) same h)))
 
-pub circuit_made : (instances : List StFuncTree) (s : StFuncTree) (a b c : Circuit) (bundles : List (List NetId)) → ((k : ℕ) × IsSoundFunc k s) → slice_get instances (last_of instances) ≡ Some s → HasBegun s a
+-- what has grown behind the inputs, with its outputs, has the ports and is within the costs
+pub ported_made : (ins : List StTree) (outs : List Stream) (costs : OwnCosts) (a b c : Circuit) (bundles : List (List NetId)) → HasBegun ins a → GrowsBy a b costs.load → Adds a b costs.muls costs.mems
+    → AddsOutputs b c (output_ports outs) (all_nets bundles) → IsFormed c.cells → HaveNets c.cells c.outlets → IsPorted ins outs costs c × (map (λ (o : Outlet). o.net) c.outlets ≡ all_nets bundles)
+ported_made ins outs costs a b c bundles begun grown adds shown formed have =
+    let ports : List SizedPort = reset_port ∷ input_ports (streams_of ins) in
+    let kept : c.cells ≡ b.cells = outputs_cells shown in
+    let long : length a.cells ≡ 1 + length (input_ports (streams_of ins)) = omega (arith, ap length begun.cells, length-map ports input_cell) in
+    let outlets : c.outlets ≡ shown.outlets =
+    ap (λ (n : Circuit). n.outlets) shown.added ∙ ap (λ os. os ++ shown.outlets) (grown.grows.outlets ∙ begun.outlets) in (
+      record {
+        inputs = rw kept (ap (λ n. take n b.cells) (sym long) ∙ (first_cells a.cells b.cells grown.grows.extends ∙ begun.cells));
+        no_others = rw kept (grown.grows.inputs ∙ (ap (count_of is_input) begun.cells ∙ (count_inputs ports ∙ (let e : length ports ≡ 1 + length (input_ports (streams_of ins)) = omega arith in e))));
+        outputs = rw (outlets, kept) shown.are;
+        formed = formed;
+        shown = have;
+        whole = rw kept (adds.whole (rw begun.cells (whole_inputs ports)));
+        small = rw kept (omega (arith, grown.cells, long));
+        muls = rw kept (omega (arith, adds.muls, ap (count_of is_mul) begun.cells, count_others is_mul ports (λ p. refl)));
+        memories = rw kept (omega (arith, adds.memories, ap (count_of is_memory) begun.cells, count_others is_memory ports (λ p. refl)));
+      },
+      ap (map (λ (o : Outlet). o.net)) outlets ∙ shown.show,
+    )
+
+pub circuit_made : (instances : List StFuncTree) (s : StFuncTree) (a b c : Circuit) (bundles : List (List NetId)) → ((k : ℕ) × IsSoundFunc k s) → slice_get instances (last_of instances) ≡ Some s → HasBegun s.ins a
     → GrowsBy a b (instance_costs instances (last_of instances)).load → Adds a b (instance_costs instances (last_of instances)).muls (instance_costs instances (last_of instances)).mems
     → AreChosen b.cells 0 0 (callees (take (last_of instances) instances)) s (bundles_from 1 (streams_of s.ins)) (instance_costs instances (last_of instances)).latency s.results bundles
-    → AddsOutputs b c (output_ports (result_streams s)) (all_nets bundles) → IsFormed c.cells → HaveNets c.cells c.outlets → IsCircuitThat MakesResults instances s c
+    → AddsOutputs b c (output_ports (result_streams s)) (all_nets bundles) → IsFormed c.cells → HaveNets c.cells c.outlets
+    → IsPorted s.ins (result_streams s) (instance_costs instances (last_of instances)) c × MakesResults instances s c
 circuit_made instances s a b c bundles sound found begun grown adds chosen shown formed have =
-    let ports : List SizedPort = reset_port ∷ input_ports (streams_of s.ins) in
+    let made = ported_made s.ins (result_streams s) (instance_costs instances (last_of instances)) a b c bundles begun grown adds shown formed have in
     let kept : c.cells ≡ b.cells = outputs_cells shown in
-    let long : length a.cells ≡ 1 + length (input_ports (streams_of s.ins)) = omega (arith, ap length begun.cells, length-map ports input_cell) in
-    let outlets : c.outlets ≡ shown.outlets =
-    ap (λ (n : Circuit). n.outlets) shown.added ∙ ap (λ os. os ++ shown.outlets) (grown.grows.outlets ∙ begun.outlets) in
-    record {
-      inputs = rw kept (ap (λ n. take n b.cells) (sym long) ∙ (first_cells a.cells b.cells grown.grows.extends ∙ begun.cells));
-      no_others = rw kept (grown.grows.inputs ∙ (ap (count_of is_input) begun.cells ∙ (count_inputs ports ∙ (let e : length ports ≡ 1 + length (input_ports (streams_of s.ins)) = omega arith in e))));
-      outputs = rw (outlets, kept) shown.are;
-      makes = makes_results instances s c bundles sound found (rw kept chosen) (ap (map (λ (o : Outlet). o.net)) outlets ∙ shown.show);
-      formed = formed;
-      shown = have;
-      whole = rw kept (adds.whole (rw begun.cells (whole_inputs ports)));
-      small = rw kept (omega (arith, grown.cells, long));
-      muls = rw kept (omega (arith, adds.muls, ap (count_of is_mul) begun.cells, count_others is_mul ports (λ p. refl)));
-      memories = rw kept (omega (arith, adds.memories, ap (count_of is_memory) begun.cells, count_others is_memory ports (λ p. refl)));
-    }
+    (made.0, makes_results instances s c bundles sound found (rw kept chosen) made.1)

@@ -7,4 +7,5 @@ pub mod Nodes
 pub mod Lowering
 pub mod Stretches
 pub mod PortNets
+pub mod Ported
 pub mod Circuits

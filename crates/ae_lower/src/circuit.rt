@@ -23,7 +23,7 @@ use ae_tidy::tidy;
 use std::alloc::{AllocError, Global};
 
 /// More cells than a circuit takes: 16 for each unit of the greatest load, the reset, and the words of the parameters.
-const MOST_CELLS: u32 = 2_000_000;
+pub const MOST_CELLS: u32 = 2_000_000;
 
 /// The circuit of a program, and where the cells of its lines begin.
 #[derive(Drop)]

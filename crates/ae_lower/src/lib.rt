@@ -10,5 +10,7 @@ mod ports;
 mod stages;
 mod wires;
 
-pub use circuit::{Lowered, lower};
+pub use circuit::{Lowered, MOST_CELLS, lower};
+pub use items::later;
 pub use laws::circuits_are_for;
+pub use ports::{add_input, add_inputs, add_outputs};

@@ -1,5 +1,4 @@
 use Rattle.std.proofs.Common.{◌≡◌, ◌+◌, ◌∙◌, ℕ, List, Some, slice_get, length, take, sum_by, ap, arith, refl, length-append}
-use Rattle.std.proofs.lemmas.List.{take_all, length-map}
 use Rattle.std.proofs.lemmas.Option.{slice_get_read}
 use Rattle.ae_sttype.specs.StTree.{st_tree}
 use Rattle.ae_sttype.specs.Moves.{columns_of}

@@ -1,8 +1,8 @@
-use Rattle.std.proofs.Common.{◌≡◌, ◌∙◌, ℕ, List, map, length, slice_get, ap, arith}
+use Rattle.std.proofs.Common.{◌∙◌, ℕ, List, map, length, slice_get, ap, arith}
 use Rattle.std.proofs.lemmas.List.{length-map}
 use Rattle.ae_sttype.specs.StTree.{st_tree}
 use Rattle.ae_moves.specs.Trees.{origin_tree, trip_tree}
-use Rattle.ae_moves.specs.Origins.{Move, move_trips}
+use Rattle.ae_moves.specs.Origins.{Move}
 use Rattle.ae_moves.proofs.Words.{latency_small, trips_few}
 use Rattle.ae_delay.proofs.Small.{trips_within}
 use Rattle.ae_fuse.proofs.CostSteps.{costs-are}

@@ -1,6 +1,5 @@
-use Rattle.std.proofs.Common.{◌≡◌, ℕ, ◌+◌, ◌<◌, ◌≤◌, ◌∙◌, List, [], ◌∷◌, ◌++◌, Some, Vec, Global, slice_get, length, map, take, arith, sym, ap, subst, refl, length-append}
-use Rattle.std.proofs.lemmas.List.{length-map, map_push, take_all}
-use Rattle.ae_seq.specs.Typing.{grown}
+use Rattle.std.proofs.Common.{◌≡◌, ℕ, ◌+◌, ◌<◌, ◌∙◌, List, [], ◌∷◌, ◌++◌, Some, Vec, Global, slice_get, length, map, arith, sym, ap, subst, length-append}
+use Rattle.std.proofs.lemmas.List.{map_push}
 use Rattle.ae_sttype.specs.declared.st_type.StType.{StType}
 use Rattle.ae_rewrite.specs.StProgramTree.{st_func_tree, st_node_tree, st_trees}
 use Rattle.ae_rewrite.specs.Scheduled.{node_layouts}

@@ -1,11 +1,10 @@
-use Rattle.std.proofs.Common.{◌≡◌, ◌<◌, ◌∙◌, ◌∷◌, [], ℕ, List, Some, Vec, Global, slice_get, length, map, arith, sym, ap, subst}
+use Rattle.std.proofs.Common.{◌≡◌, ◌∙◌, ◌∷◌, [], ℕ, List, Vec, Global, length, map, arith, sym, ap, subst}
 use Rattle.std.proofs.lemmas.List.{length-map}
 use Rattle.std.proofs.lemmas.Result.{IfOk-weaker}
-use Rattle.ae_sttype.specs.StTree.{StTree, st_tree, st_atoms, element_words}
+use Rattle.ae_sttype.specs.StTree.{StTree, st_tree}
 use Rattle.ae_rewrite.specs.StProgramTree.{st_func_tree, st_node_tree}
-use Rattle.ae_rewrite.specs.Sound.{item_layout, item_layouts}
-use Rattle.ae_flow.specs.Flow.{layout_words, node_words, words_at}
-use Rattle.ae_sttype.specs.Size.{IsInSize}
+use Rattle.ae_rewrite.specs.Sound.{item_layouts}
+use Rattle.ae_flow.specs.Flow.{layout_words, node_words}
 use Rattle.ae_delay.specs.Moving.{op_move}
 use Rattle.ae_gather.specs.Gathers.{origin_word}
 use Rattle.ae_flow.specs.Fitted.{FitsMove}

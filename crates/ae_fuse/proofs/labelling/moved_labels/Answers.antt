@@ -1,4 +1,4 @@
-use Rattle.std.proofs.Common.{◌≡◌, ◌∙◌, ◌∷◌, [], ℕ, List, length, map, get_or, ap, sym, arith}
+use Rattle.std.proofs.Common.{◌∙◌, ◌∷◌, [], ℕ, map, get_or, ap, sym, arith}
 use Rattle.std.proofs.lemmas.List.{take_all}
 use Rattle.std.proofs.lemmas.Option.{slice_get-get_or}
 use Rattle.ae_sttype.specs.StTree.{st_tree}

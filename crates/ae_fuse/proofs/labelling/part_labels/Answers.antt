@@ -1,6 +1,6 @@
 use Rattle.std.proofs.Common.{◌≡◌, ◌∙◌, ap, arith, refl}
 use Rattle.ae_flow.specs.Flow.{parts}
-use Rattle.ae_fuse.proofs.LabelSteps.{parts-more, piece-ends}
+use Rattle.ae_fuse.proofs.LabelSteps.{parts-more}
 use Rattle.ae_fuse.proofs.labelling.part_labels.Goals as goal
 
 pub loop-piece-preserved : goal.loop-piece-preserved

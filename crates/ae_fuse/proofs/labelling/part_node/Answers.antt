@@ -1,10 +1,10 @@
-use Rattle.std.proofs.Common.{◌≡◌, ◌<◌, ◌≤◌, ◌-◌, ◌+◌, ◌*◌, if◌then◌else◌, true, false, Bool, ◌∙◌, ◌∷◌, [], ℕ, List, Some, Vec, Global, slice_get, length, map, arith, sym, ap, refl}
+use Rattle.std.proofs.Common.{◌≡◌, ◌≤◌, ◌-◌, ◌*◌, if◌then◌else◌, true, false, Bool, ◌∙◌, [], ℕ, List, Vec, Global, length, map, arith, sym, ap, refl}
 use Rattle.std.proofs.lemmas.List.{length-map}
 use Rattle.std.proofs.lemmas.Result.{IfOk-weaker}
-use Rattle.ae_sttype.specs.StTree.{StTree, st_tree, st_atoms, element_words}
+use Rattle.ae_sttype.specs.StTree.{element_words}
 use Rattle.ae_rewrite.specs.StProgramTree.{st_func_tree, st_node_tree}
 use Rattle.ae_rewrite.specs.Sound.{item_layout, item_layouts}
-use Rattle.ae_flow.specs.Flow.{layout_words, node_words, words_at}
+use Rattle.ae_flow.specs.Flow.{node_words}
 use Rattle.ae_flow.specs.Flow.{parts}
 use Rattle.ae_fuse.proofs.LabelSteps.{part-words, ready-item, ready-part}
 use Rattle.ae_fuse.proofs.labelling.part_node.Goals as goal

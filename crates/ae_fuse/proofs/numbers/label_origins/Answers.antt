@@ -1,4 +1,4 @@
-use Rattle.std.proofs.Common.{◌∙◌, length, map, get_or, ap, arith}
+use Rattle.std.proofs.Common.{◌∙◌, map, get_or, ap, arith}
 use Rattle.std.proofs.lemmas.List.{take_all}
 use Rattle.std.proofs.lemmas.Option.{slice_get-get_or}
 use Rattle.ae_rewrite.specs.StProgramTree.{st_trees}

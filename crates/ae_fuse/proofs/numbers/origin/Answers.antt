@@ -1,6 +1,6 @@
-use Rattle.std.proofs.Common.{◌≡◌, ◌∙◌, ◌<◌, Some, slice_get, length, arith, refl}
+use Rattle.std.proofs.Common.{◌≡◌, Some, slice_get, length, arith, refl}
 use Rattle.std.proofs.lemmas.Option.{slice_get_read}
-use Rattle.ae_fuse.proofs.NumberSteps.{number-found, number-none, number-step}
+use Rattle.ae_fuse.proofs.NumberSteps.{number-found, number-step}
 use Rattle.ae_fuse.proofs.numbers.origin.Goals as goal
 
 pub loop-i-preserved : goal.loop-i-preserved

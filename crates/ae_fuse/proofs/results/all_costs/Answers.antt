@@ -1,4 +1,4 @@
-use Rattle.std.proofs.Common.{◌≡◌, ◌∙◌, List, Some, slice_get, length, map, take, ap, sym, subst, arith, refl}
+use Rattle.std.proofs.Common.{◌≡◌, List, Some, slice_get, length, map, sym, subst, arith, refl}
 use Rattle.std.proofs.lemmas.List.{length-map, take_all}
 use Rattle.std.proofs.lemmas.Option.{slice_get_read}
 use Rattle.ae_sttype.specs.StTree.{st_tree}
@@ -7,8 +7,6 @@ use Rattle.ae_moves.specs.Trees.{origin_tree}
 use Rattle.ae_moves.specs.Origins.{IsMove, Move}
 use Rattle.ae_moves.proofs.Lists.{get_mapped}
 use Rattle.ae_rewrite.specs.StProgramTree.{st_trees}
-use Rattle.ae_fuse.specs.declared.costs.ResultCosts.{ResultCosts}
-use Rattle.ae_fuse.specs.declared.results.FusedResult.{FusedResult}
 use Rattle.ae_fuse.specs.Results.{AreCostsOf}
 use Rattle.ae_fuse.specs.Fused.{AreAllCosts, result_move}
 use Rattle.ae_fuse.proofs.ResultSteps.{a_move, costs-next, costs-none}

@@ -1,11 +1,9 @@
-use Rattle.std.proofs.Common.{◌≡◌, ◌<◌, ◌∙◌, ◌∷◌, [], ℕ, List, Some, Vec, Global, slice_get, length, map, ap, sym, subst, arith}
+use Rattle.std.proofs.Common.{◌≡◌, ◌∙◌, ℕ, List, Vec, Global, slice_get, length, map, ap, sym, subst, arith}
 use Rattle.std.specs.List.{range_with_len}
 use Rattle.ae_sttype.specs.declared.st_type.StType.{StType}
 use Rattle.ae_sttype.specs.StTree.{st_tree}
-use Rattle.ae_sttype.specs.Moves.{OriginTree}
-use Rattle.ae_moves.specs.declared.trip.Origin.{Origin}
 use Rattle.ae_moves.specs.Trees.{origin_tree}
-use Rattle.ae_moves.specs.Origins.{IsMove, Move, move_latency}
+use Rattle.ae_moves.specs.Origins.{IsMove, move_latency}
 use Rattle.ae_rewrite.specs.StProgramTree.{st_func_tree, st_trees}
 use Rattle.ae_fuse.specs.Labels.{labelled_origin}
 use Rattle.ae_fuse.specs.Moved.{own_move}

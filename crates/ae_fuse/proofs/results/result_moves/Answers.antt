@@ -1,12 +1,10 @@
-use Rattle.std.proofs.Common.{◌≡◌, ◌<◌, ◌∙◌, ◌∷◌, [], ℕ, List, Some, Vec, Global, slice_get, length, map, take, ap, sym, subst, arith}
+use Rattle.std.proofs.Common.{◌≡◌, ◌∙◌, ℕ, List, Vec, Global, slice_get, map, ap, sym, arith}
 use Rattle.std.proofs.lemmas.List.{take_all}
 use Rattle.ae_sttype.specs.declared.st_type.StType.{StType}
 use Rattle.ae_sttype.specs.StTree.{st_tree}
 use Rattle.ae_moves.specs.Trees.{origin_tree}
-use Rattle.ae_moves.specs.Origins.{Move}
 use Rattle.ae_rewrite.specs.StProgramTree.{st_func_tree, st_trees}
 use Rattle.ae_fuse.specs.declared.results.FusedResult.{FusedResult}
-use Rattle.ae_fuse.specs.Labels.{labelled_origin}
 use Rattle.ae_fuse.specs.Moved.{own_move}
 use Rattle.ae_fuse.specs.Fused.{result_move}
 use Rattle.ae_fuse.proofs.ItemSteps.{input-sized}

@@ -1,4 +1,4 @@
-use Rattle.std.proofs.Common.{◌≡◌, ◌≤◌, length, map, take}
+use Rattle.std.proofs.Common.{◌≡◌, ◌≤◌, map, take}
 use Rattle.ae_rewrite.specs.StProgramTree.{st_func_tree}
 use Rattle.ae_fuse.specs.Moved.{own_move}
 use Rattle.ae_fuse.specs.Fused.{result_move}

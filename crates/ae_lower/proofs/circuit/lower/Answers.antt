@@ -19,7 +19,8 @@ use Rattle.ae_lower.specs.Stretches.{AreNodeCells, results_load}
 use Rattle.ae_lower.specs.PortNets.{bundles_from}
 use Rattle.ae_tidy.specs.Places.{AreMarks}
 use Rattle.ae_tidy.proofs.Placing.{no_marks}
-use Rattle.ae_lower.proofs.Whole.{HasBegun, begun_bundles, chosen_last, circuit_made, has_begun, inputs_begun, instance_at, last_is, light_enough, reset_belongs}
+use Rattle.ae_lower.specs.Ported.{HasBegun}
+use Rattle.ae_lower.proofs.Whole.{begun_bundles, chosen_last, circuit_made, has_begun, inputs_begun, instance_at, last_is, light_enough, reset_belongs}
 use Rattle.ae_lower.proofs.Tidied.{tidied_circuit}
 use Rattle.ae_lower.proofs.Blocks.{program_circuit}
 use Rattle.ae_lower.proofs.Stretches.{begun_inputs, begun_long, tidied_stretches}
@@ -36,8 +37,8 @@ add_inputs-requires c k t at =
 pub lower_instance-requires-clause-belongs : goal.lower_instance-requires-clause-belongs
 lower_instance-requires-clause-belongs c =
     let s = st_func_tree c.instance-s.result.now in
-    let begun : HasBegun s c.add_inputs.new.nl = has_begun s 2000000 _ _ _ _ c.new-nl.ensures c.in_ok-rst.ensures.added c.in_ok-ins.ensures.cells (ap st_trees c.deref.ensures.value) in
-    reset_belongs s c.add_inputs.new.nl c.new-clocks.result c.in_ok-rst.rst begun c.new-clocks.ensures
+    let begun : HasBegun s.ins c.add_inputs.new.nl = has_begun s.ins 2000000 _ _ _ _ c.new-nl.ensures c.in_ok-rst.ensures.added c.in_ok-ins.ensures.cells (ap st_trees c.deref.ensures.value) in
+    reset_belongs s.ins c.add_inputs.new.nl c.new-clocks.result c.in_ok-rst.rst begun c.new-clocks.ensures
     (ap (λ (n : NetId). n.0) c.in_ok-rst.ensures.net ∙ ap (λ (n : Circuit). length n.cells) c.new-nl.ensures)
 
 pub lower_instance-requires-clause-light : goal.lower_instance-requires-clause-light
@@ -53,10 +54,10 @@ pub lower_instance-requires-clause-ins : goal.lower_instance-requires-clause-ins
 lower_instance-requires-clause-ins c s found =
     let f = c.instance-s.result.now in
     let is : st_func_tree f ≡ s = same_Some _ _ (sym (instance_at c.args.p.now (c.count-last.result - 1) f c.instance-s.ensures) ∙ found) in
-    let begun : HasBegun (st_func_tree f) c.add_inputs.new.nl = has_begun (st_func_tree f) 2000000 _ _ _ _ c.new-nl.ensures c.in_ok-rst.ensures.added c.in_ok-ins.ensures.cells (ap st_trees c.deref.ensures.value) in
+    let begun : HasBegun (st_func_tree f).ins c.add_inputs.new.nl = has_begun (st_func_tree f).ins 2000000 _ _ _ _ c.new-nl.ensures c.in_ok-rst.ensures.added c.in_ok-ins.ensures.cells (ap st_trees c.deref.ensures.value) in
     let bundles : c.deref-2.result.now ≡ bundles_from 1 (streams_of (st_func_tree f).ins) =
-    c.deref-2.ensures.value ∙ begun_bundles (st_func_tree f) 2000000 _ _ _ _ c.new-nl.ensures c.in_ok-rst.ensures.added c.in_ok-ins.ensures.bundles (ap st_trees c.deref.ensures.value) in
-    let there : AreBundles c.add_inputs.new.nl.cells (streams_of (st_func_tree f).ins) c.deref-2.result.now = rw bundles (inputs_begun (st_func_tree f) c.add_inputs.new.nl begun) in
+    c.deref-2.ensures.value ∙ begun_bundles (st_func_tree f).ins 2000000 _ _ _ _ c.new-nl.ensures c.in_ok-rst.ensures.added c.in_ok-ins.ensures.bundles (ap st_trees c.deref.ensures.value) in
+    let there : AreBundles c.add_inputs.new.nl.cells (streams_of (st_func_tree f).ins) c.deref-2.result.now = rw bundles (inputs_begun (st_func_tree f).ins c.add_inputs.new.nl begun) in
     subst (λ (u : StFuncTree). AreBundles c.add_inputs.new.nl.cells (streams_of u.ins) c.deref-2.result.now) is there
 
 pub add_results-requires-clause-sound : goal.add_results-requires-clause-sound
@@ -87,15 +88,15 @@ returns-clause-circuit c s found =
     let here : slice_get instances k ≡ Some (st_func_tree f) = instance_at fs k f c.instance-s.ensures in
     let there : slice_get instances (last_of instances) ≡ Some (st_func_tree f) = rw last at here in
     let is : st_func_tree f ≡ s = same_Some _ _ (sym there ∙ found) in
-    let begun : HasBegun (st_func_tree f) c.add_inputs.new.nl = has_begun (st_func_tree f) 2000000 _ _ _ _ c.new-nl.ensures c.in_ok-rst.ensures.added c.in_ok-ins.ensures.cells (ap st_trees c.deref.ensures.value) in
+    let begun : HasBegun (st_func_tree f).ins c.add_inputs.new.nl = has_begun (st_func_tree f).ins 2000000 _ _ _ _ c.new-nl.ensures c.in_ok-rst.ensures.added c.in_ok-ins.ensures.cells (ap st_trees c.deref.ensures.value) in
     let bundles : c.deref-2.result.now ≡ bundles_from 1 (streams_of (st_func_tree f).ins) =
-    c.deref-2.ensures.value ∙ begun_bundles (st_func_tree f) 2000000 _ _ _ _ c.new-nl.ensures c.in_ok-rst.ensures.added c.in_ok-ins.ensures.bundles (ap st_trees c.deref.ensures.value) in
+    c.deref-2.ensures.value ∙ begun_bundles (st_func_tree f).ins 2000000 _ _ _ _ c.new-nl.ensures c.in_ok-rst.ensures.added c.in_ok-ins.ensures.bundles (ap st_trees c.deref.ensures.value) in
     let rst : c.new-clocks.result.rst ≡ 0 =
     ap (λ (q : Kept). q.rst) c.new-clocks.ensures ∙ (ap (λ (n : NetId). n.0) c.in_ok-rst.ensures.net ∙ ap (λ (n : Circuit). length n.cells) c.new-nl.ensures) in
     let chosen = chosen_last instances (st_func_tree f) _ c.new-clocks.result.rst k _ _ _ _ rst last bundles (sym c.deref-3.ensures.value) (c.in-Ok.ensures.results (st_func_tree f) here) in
     let grown = subst (λ m. GrowsBy c.add_inputs.new.nl c.lower_instance.new.nl (instance_costs instances m).load) last c.in-Ok.ensures.grows in
     let adds = subst (λ m. Adds c.add_inputs.new.nl c.lower_instance.new.nl (instance_costs instances m).muls (instance_costs instances m).mems) last c.in-Ok.ensures.adds in
-    let made : IsCircuitThat MakesResults instances (st_func_tree f) c.add_results.new.nl =
+    let made =
     circuit_made instances (st_func_tree f) _ _ _ c.deref-3.result.now (k, c.count-last.ensures.sound.each k (st_func_tree f) here) there begun grown adds chosen c.in_ok-add_results.ensures c.formed.ensures.cells c.formed.ensures.outlets in
     let whole : IsCircuitThat MakesResults instances (st_func_tree f) c.in_ok-tidied.tidied.netlist =
     tidied_circuit instances (st_func_tree f) c.add_results.new.nl c.in_ok-tidied.tidied.netlist (k, c.count-last.ensures.sound.each k (st_func_tree f) here) made c.in_ok-tidied.ensures.tidied in
@@ -132,12 +133,12 @@ returns-clause-nodes c s found =
     (subst (λ (i : ℕ). AreMarks (length c.lower_instance.new.nl.cells) i c.lower_instance.new.marks.items) (let plain : 0 + length s.nodes ≡ length s.nodes = omega arith in plain) all) in
     let instances : List StFuncTree = st_func_trees fs in
     let is : st_func_tree f ≡ s = same_Some _ _ (sym (instance_at fs k f c.instance-s.ensures) ∙ here) in
-    let begun : HasBegun (st_func_tree f) c.add_inputs.new.nl = has_begun (st_func_tree f) 2000000 _ _ _ _ c.new-nl.ensures c.in_ok-rst.ensures.added c.in_ok-ins.ensures.cells (ap st_trees c.deref.ensures.value) in
+    let begun : HasBegun (st_func_tree f).ins c.add_inputs.new.nl = has_begun (st_func_tree f).ins 2000000 _ _ _ _ c.new-nl.ensures c.in_ok-rst.ensures.added c.in_ok-ins.ensures.cells (ap st_trees c.deref.ensures.value) in
     let begin : length c.add_inputs.new.nl.cells ≡ 1 + length (input_ports (streams_of s.ins)) =
-    subst (λ (u : StFuncTree). length c.add_inputs.new.nl.cells ≡ 1 + length (input_ports (streams_of u.ins))) is (begun_long (st_func_tree f) c.add_inputs.new.nl begun) in
+    subst (λ (u : StFuncTree). length c.add_inputs.new.nl.cells ≡ 1 + length (input_ports (streams_of u.ins))) is (begun_long (st_func_tree f).ins c.add_inputs.new.nl begun) in
     let kept : c.lower_instance.new.nl.cells ≡ c.add_results.new.nl.cells = ap (λ (n : Circuit). n.cells) (sym c.in_ok-add_results.ensures.added) in
     let front : number_of is_input c.lower_instance.new.nl.cells (length c.add_inputs.new.nl.cells) ≡ length c.add_inputs.new.nl.cells =
-    begun_inputs (st_func_tree f) c.add_inputs.new.nl c.lower_instance.new.nl begun c.in-Ok.ensures.grows.grows.extends in
+    begun_inputs (st_func_tree f).ins c.add_inputs.new.nl c.lower_instance.new.nl begun c.in-Ok.ensures.grows.grows.extends in
     let made : AreNodeCells instances k s c.lower_instance.new.nl.cells (length c.add_inputs.new.nl.cells) c.lower_instance.new.marks.items = c.in-Ok.ensures.nodes s here c.new-marks.ensures.items in
     let raw : AreNodeCells instances k s c.add_results.new.nl.cells (length c.add_inputs.new.nl.cells) c.lower_instance.new.marks.items =
     subst (λ (cells : List SizedCell). AreNodeCells instances k s cells (length c.add_inputs.new.nl.cells) c.lower_instance.new.marks.items) kept made in

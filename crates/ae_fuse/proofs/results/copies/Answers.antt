@@ -4,7 +4,7 @@ use Rattle.std.proofs.lemmas.Option.{slice_get_read}
 use Rattle.ae_sttype.specs.StTree.{st_tree}
 use Rattle.ae_moves.proofs.Lists.{take_push}
 use Rattle.ae_rewrite.specs.StProgramTree.{st_trees}
-use Rattle.ae_fuse.proofs.whole.copies.Goals as goal
+use Rattle.ae_fuse.proofs.results.copies.Goals as goal
 
 pub loop-k-preserved : goal.loop-k-preserved
 loop-k-preserved c =

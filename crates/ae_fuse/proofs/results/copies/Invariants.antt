@@ -1,6 +1,6 @@
 use Rattle.std.proofs.Common.{◌≡◌, ◌≤◌, length, take}
 use Rattle.ae_rewrite.specs.StProgramTree.{st_trees}
-use Rattle.ae_fuse.proofs.whole.copies.Given as goal
+use Rattle.ae_fuse.proofs.results.copies.Given as goal
 
 abbrev pub invariant-loop-k : goal.invariant-loop-k
 invariant-loop-k l = record {

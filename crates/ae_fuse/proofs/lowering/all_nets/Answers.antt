@@ -1,0 +1,46 @@
+-- One result more.
+use Rattle.std.proofs.Common.{◌≡◌, ◌≤◌, ◌+◌, ◌++◌, ◌∷◌, [], ◌∙◌, List, Some, slice_get, length, map, arith, ap, refl, subst}
+use Rattle.std.proofs.lemmas.Option.{slice_get_read}
+use Rattle.ae_moves.specs.Origins.{Move}
+use Rattle.ae_moves.proofs.Lists.{get_mapped}
+use Rattle.ae_ops.proofs.Lateness.{keeps_trans}
+use Rattle.ae_ports.specs.Ports.{streams_of}
+use Rattle.ae_rewrite.specs.StProgramTree.{st_trees}
+use Rattle.ae_tidy.specs.Places.{AreMarks}
+use Rattle.ae_tidy.proofs.Placing.{marks_more}
+use Rattle.ae_lower.proofs.Growing.{adds_trans, adds_up, by_trans}
+use Rattle.ae_lower.proofs.Instances.{bundles_grow}
+use Rattle.ae_lower.proofs.Stretches.{extends_long}
+use Rattle.ae_fuse.specs.Fused.{result_move}
+use Rattle.ae_fuse.proofs.LateResults.{load_next, results_next}
+use Rattle.ae_fuse.proofs.lowering.all_nets.Goals as goal
+
+pub result_nets-requires-clause-args : goal.result_nets-requires-clause-args
+result_nets-requires-clause-args c = bundles_grow (streams_of (st_trees c.args.ins.now)) c.args.args.now c.loop-k.invariant.grows.grows.extends c.requires.args
+
+pub loop-k-preserved : goal.loop-k-preserved
+loop-k-preserved c =
+    let k = c.loop-k.k in
+    let rs = c.args.results.now in
+    let own = c.index-results-k.result in
+    let ins = st_trees c.args.ins.now in
+    let ms : List Move = map (result_move ins) rs in
+    let found = slice_get_read rs (length rs) k own refl (omega arith) c.index-results-k.is in
+    let here : slice_get ms k ≡ Some (result_move ins own) = get_mapped (result_move ins) rs k own found in
+    let was = c.loop-k.invariant in
+    let made = c.in_ok-bundle.ensures in
+    let longer : length c.loop-k.nl.cells ≤ length c.result_nets.new.nl.cells = extends_long _ _ made.grows.grows.extends in
+    let z : 0 + (k + 1) ≡ k + 1 = omega arith in
+    let y : k ≡ 0 + k = omega arith in
+    record {
+      within = omega arith;
+      belongs = made.belongs;
+      keeps = keeps_trans was.keeps made.keeps;
+      grows = by_trans _ (load_next ms k c.args.whole (result_move ins own) here) was.grows made.grows;
+      adds = adds_up (omega arith) (omega arith) (adds_trans was.adds made.adds);
+      moved = results_next c.loop-k.nl c.result_nets.new.nl c.args.clocks.now.rst c.loop-k.clocks.rst c.args.whole ms k (result_move ins own) c.args.args.now c.loop-k.bundles.items c.push.new.self.items c.in_ok-bundle.bundle here was.keeps.rst c.in_ok-push.ensures.items
+          made.grows.grows.extends was.moved made.moved;
+      marks = subst (λ n. AreMarks (length c.result_nets.new.nl.cells) n c.push-in-loop-k.new.self.items) z
+          (marks_more (length c.loop-k.nl.cells) (length c.result_nets.new.nl.cells) 0 k c.loop-k.marks.items c.push-in-loop-k.new.self.items longer (c.in_ok-push-2.ensures.items ∙ ap (λ n. c.loop-k.marks.items ++ n ∷ []) c.len-mark.ensures)
+          (subst (λ n. AreMarks (length c.loop-k.nl.cells) n c.loop-k.marks.items) y was.marks));
+    }

@@ -1,0 +1,142 @@
+// The circuit of a fused program.
+
+ghost use Rattle.std.specs.Prelude.{◌≡◌, ◌<◌, ◌≤◌, ◌+◌, ◌*◌, ◌-◌, ◌++◌, ◌∷◌, ◌^◌, [], ℕ, List, IfOk, OnOk, Some, flat_map, length, map, slice_get, sum_by};
+ghost use Rattle.ae_sttype.specs.StTree.{st_tree};
+ghost use Rattle.ae_sttype.specs.Size.{IsInSize};
+ghost use Rattle.ae_netlist.specs.declared.cell.NetId.{NetId as Net};
+ghost use Rattle.ae_clocked.specs.Phases.{Belongs, KeepsCounters};
+ghost use Rattle.ae_ops.specs.Waves.{AreNets};
+ghost use Rattle.ae_ops.specs.Blocks.{AreBundles, stream_widths};
+ghost use Rattle.ae_moves.specs.Origins.{IsMove, Move, move_latency};
+ghost use Rattle.ae_gather.specs.Gathers.{move_of};
+ghost use Rattle.ae_rewrite.specs.StProgramTree.{st_trees};
+ghost use Rattle.ae_ports.specs.Ports.{output_ports, streams_of};
+ghost use Rattle.ae_tidy.specs.Places.{AreMarks};
+ghost use Rattle.ae_lower.specs.Growth.{Adds, GrowsBy};
+ghost use Rattle.ae_lower.specs.PortNets.{AddsOutputs};
+ghost use Rattle.ae_fuse.specs.declared.results.FusedResult.{FusedResult as Moving};
+ghost use Rattle.ae_fuse.specs.Costing.{result_load};
+ghost use Rattle.ae_fuse.specs.Fused.{result_move};
+ghost use Rattle.ae_fuse.specs.Lowered.{AreLateResults, IsLateResult, result_stream};
+
+use crate::results::{FusedResult, copies};
+use ae_clocked::Clocks;
+use ae_gather::Gather;
+use ae_lower::{add_outputs, later};
+use ae_moves::Origin;
+use ae_netlist::Netlist;
+use ae_ops::{Bundle, Stage};
+use ae_sttype::StType;
+use std::alloc::{AllocError, Global};
+
+// The origins again.
+fn same_origins(alloc: Global, source: &[Origin]) -> Result<Vec<Origin>, AllocError>
+    ensures { IfOk result (λ v. v.items ≡ source.now) }
+{
+    let mut copied = Vec::new(alloc);
+    copied.extend_from_slice(source)?;
+    Ok(copied)
+}
+
+// The move of a result as a stage.
+fn stage(alloc: Global, ins: &[StType], own: &FusedResult) -> Result<Gather, AllocError>
+    requires { IsMove (result_move (st_trees ins.now) own.now) }
+    ensures { IfOk result (λ g. move_of g ≡ result_move (st_trees ins.now) own.now) }
+{
+    let layouts = copies(alloc, ins)?;
+    let out = own.out.copy(alloc)?;
+    let source = same_origins(alloc, &own.source)?;
+    match Gather::new(layouts, out, source) {
+        Some(gather) => Ok(gather),
+        None => unreachable!(),
+    }
+}
+
+// The nets of a result, by its move from the parameters' nets, as late as the latest result.
+fn result_nets(
+    alloc: Global,
+    nl: &mut Netlist,
+    clocks: &mut Clocks,
+    ins: &[StType],
+    own: &FusedResult,
+    args: &[Bundle],
+    whole: u32,
+) -> Result<Bundle, AllocError>
+    requires moves { IsMove (result_move (st_trees ins.now) own.now) }
+    requires latest { move_latency (result_move (st_trees ins.now) own.now) ≤ whole }
+    requires belongs { Belongs clocks.old nl.old.cells }
+    requires args { AreBundles nl.old.cells (streams_of (st_trees ins.now)) args.now }
+    ensures belongs { OnOk result (Belongs clocks.new nl.new.cells) }
+    ensures keeps { OnOk result (KeepsCounters clocks.old clocks.new) }
+    ensures grows { OnOk result (GrowsBy nl.old nl.new (result_load whole (result_move (st_trees ins.now) own.now))) }
+    ensures adds { OnOk result (Adds nl.old nl.new 0 0) }
+    ensures moved { IfOk result (λ b. IsLateResult nl.new.cells clocks.old.rst whole (result_move (st_trees ins.now) own.now) args.now b) }
+{
+    let gather = stage(alloc, ins, own)?;
+    let slack = whole - gather.latency();
+    let bundle = match gather.build(alloc, nl, clocks, args, 0) {
+        Ok(bundle) => bundle,
+        Err(_) => return Err(AllocError),
+    };
+    match later(alloc, nl, clocks, &bundle, slack) {
+        Ok(late) => Ok(late),
+        Err(_) => Err(AllocError),
+    }
+}
+
+/// The nets of all results, and for each the number of the cells before its own.
+#[derive(Drop)]
+pub(crate) struct Built {
+    pub bundles: Vec<Bundle>,
+    pub marks: Vec<u32>,
+}
+
+/// The nets of all results, each by its move from the parameters' nets; an error only for want of memory.
+pub(crate) fn all_nets(
+    alloc: Global,
+    nl: &mut Netlist,
+    clocks: &mut Clocks,
+    ins: &[StType],
+    results: &[FusedResult],
+    args: &[Bundle],
+    whole: u32,
+) -> Result<Built, AllocError>
+    requires moves { (k : ℕ) (r : Moving) → slice_get results.now k ≡ Some r → IsMove (result_move (st_trees ins.now) r) }
+    requires latest { (k : ℕ) (r : Moving) → slice_get results.now k ≡ Some r → move_latency (result_move (st_trees ins.now) r) ≤ whole }
+    requires belongs { Belongs clocks.old nl.old.cells }
+    requires args { AreBundles nl.old.cells (streams_of (st_trees ins.now)) args.now }
+    ensures grows { OnOk result (GrowsBy nl.old nl.new (sum_by (result_load whole) (map (result_move (st_trees ins.now)) results.now))) }
+    ensures adds { OnOk result (Adds nl.old nl.new 0 0) }
+    ensures moved { IfOk result (λ b. AreLateResults nl.new.cells clocks.old.rst whole (map (result_move (st_trees ins.now)) results.now) (length results.now) args.now b.bundles.items) }
+    ensures marks { IfOk result (λ b. AreMarks (length nl.new.cells) (length results.now) b.marks.items) }
+{
+    let mut bundles = Vec::new(alloc);
+    let mut marks = Vec::new(alloc);
+    for k in 0..results.len() {
+        let mark = nl.len();
+        let bundle = result_nets(alloc, nl, clocks, ins, &results[k], args, whole)?;
+        bundles.push(bundle)?;
+        marks.push(mark)?;
+    }
+    Ok(Built { bundles, marks })
+}
+
+/// Adds the outputs of the results, each from its bundle.
+pub(crate) fn show_results(
+    nl: &mut Netlist,
+    results: &[FusedResult],
+    bundles: &[Bundle],
+) -> Result<(), AllocError>
+    requires few { length results.now ≤ 8 }
+    requires sizes { (k : ℕ) (r : Moving) → slice_get results.now k ≡ Some r → IsInSize (st_tree r.out) }
+    requires long { length bundles.now ≡ length results.now }
+    requires nets { (k : ℕ) (r : Moving) (nets : List Net) → slice_get results.now k ≡ Some r → slice_get bundles.now k ≡ Some nets → AreNets nl.old.cells (stream_widths (result_stream r)) nets }
+    requires none { nl.old.outlets ≡ [] }
+    ensures { OnOk result (AddsOutputs nl.old nl.new (output_ports (map result_stream results.now)) (flat_map (λ (b : List Net). b) bundles.now)) }
+{
+    for k in 0..results.len() {
+        let own = &results[k];
+        add_outputs(nl, &bundles[k], &own.out, k as u32)?;
+    }
+    Ok(())
+}
