@@ -8,3 +8,4 @@ pub mod Modules
 mod Noting
 mod Shown
 mod Enabling
+mod Alike
