@@ -9,3 +9,4 @@ pub mod Modules
 mod Noting
 mod Shown
 mod Enabling
+mod Alike

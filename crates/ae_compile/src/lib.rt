@@ -8,6 +8,7 @@ mod faults;
 mod layouts;
 mod notes;
 mod playing;
+mod ports;
 mod read_back;
 mod stalling;
 mod texts;
@@ -18,6 +19,7 @@ pub use costing::{Costed, LOAD_LIMIT, STALL_LIMIT, cost, main_func, main_instanc
 pub use faults::{CompileFault, OutOfMemory};
 pub use layouts::output_layouts;
 pub use playing::play;
+pub use ports::module_ports;
 pub use stalling::compile_stalled;
 pub use texts::{module_text, stalled_text};
 pub use typing::typed;

@@ -11,9 +11,7 @@ ghost use Rattle.ae_compile.specs.Playing.{Shows};
 use crate::circuits::Compiled;
 use crate::faults::OutOfMemory;
 use crate::read_back::read_back;
-use ae_correct::{
-    circuits_are_writable, plays_are_alike, plays_are_shown, sums_are_alike, sums_are_shown,
-};
+use ae_correct::{circuits_are_writable, runs_are_alike, runs_are_shown};
 use ae_netlist::{Netlist, fill_begins, has_one_run_with};
 use ae_play::can_be_fed;
 use ae_verilog::module_keeps;
@@ -33,10 +31,8 @@ pub fn play(
     ensures { IfOk result (λ n. Shows (program_tree compiled.now.costed.program) compiled.now.costed.slowdown compiled.now.report.latency fill (report_tree compiled.now.report).ins (report_tree compiled.now.report).outs
         (noted_module (map note_tree compiled.now.notes.items) compiled.now.netlist.cells compiled.now.netlist.outlets (length (report_tree compiled.now.report).outs)) n) }
 {
-    plays_are_shown();
-    sums_are_shown();
-    plays_are_alike();
-    sums_are_alike();
+    runs_are_shown();
+    runs_are_alike();
     can_be_fed();
     circuits_are_writable();
     module_keeps();

@@ -1,4 +1,4 @@
--- Two circuits with the runs of one module are fed alike, and show the same lines and sums.
+-- Two circuits with the runs of one module are fed alike, and show the same words.
 use Rattle.std.proofs.Common.{ℕ, ◌≡◌, ◌+◌, ◌<◌, ◌^◌, List, [], length, map, get_or, Option, None, Some, All, slice_get, arith, refl, ap, sym, ◌∙◌, subst}
 use Rattle.std.specs.Prelude.{option_map}
 use Rattle.std.proofs.lemmas.List.{length-map}
@@ -14,11 +14,10 @@ use Rattle.ae_netlist.specs.Rows.{AreFirsts, AreInputs, HasOneRunWith, IsRunWith
 use Rattle.ae_vread.specs.ModuleTree.{ModuleTree}
 use Rattle.ae_elab.specs.SameRuns.{BeginAlike, HasSameRuns, HaveEqualOutputs}
 use Rattle.ae_play.specs.Fed.{fed_rows}
-use Rattle.ae_play.specs.Lines.{IsPlayedText, clock_count, shown_words}
-use Rattle.ae_correct.specs.Laws.{FeedsAreAlike, PlaysAreAlike, SumsAreAlike}
+use Rattle.ae_play.specs.Lines.{clock_count, shown_words}
+use Rattle.ae_correct.specs.Laws.{FeedsAreAlike, RunsAreAlike}
 use Rattle.ae_correct.proofs.FedRows.{length_rows}
 use Rattle.ae_correct.proofs.FirstWords.{begins, net_begins}
-use Rattle.ae_correct.proofs.Shown.{lines_alike, sums_alike}
 use Rattle.ae_correct.proofs.TakenRows.{input_widths, net_inputs}
 
 -- ---- the inputs
@@ -53,11 +52,7 @@ fed_alike m a b row of_a of_b fits =
 -- ---- the runs
 
 -- each run of the one on blocks has a run of the other that shows the same words in each clock after reset
-runs_alike : (m : ModuleTree) (a b : Circuit) (slowdown latency fill : ℕ) (ins : List StTree) (blocks : List (List (List ℕ))) (run : List Clock) → HasSameRuns m a → HasSameRuns m b → HasOneRunWith b.cells
-    → AreFirsts b.cells (filled b.cells fill) → All (AreInputs b.cells) (fed_rows slowdown fill ins blocks (clock_count slowdown latency (length blocks)))
-    → IsRunWith a.cells (fed_rows slowdown fill ins blocks (clock_count slowdown latency (length blocks))) (filled a.cells fill) run
-    → (other : List Clock) × IsRunWith b.cells (fed_rows slowdown fill ins blocks (clock_count slowdown latency (length blocks))) (filled b.cells fill) other
-    × ((c : ℕ) → c < clock_count slowdown latency (length blocks) → shown_words a.outlets run (1 + c) ≡ shown_words b.outlets other (1 + c))
+pub runs_alike : RunsAreAlike
 runs_alike m a b slowdown latency fill ins blocks run of_a of_b once firsts fits runs =
     let count : ℕ = clock_count slowdown latency (length blocks) in
     let rows : List (List ℕ) = fed_rows slowdown fill ins blocks (clock_count slowdown latency (length blocks)) in
@@ -79,24 +74,3 @@ runs_alike m a b slowdown latency fill ins blocks run of_a of_b once firsts fits
     } in
     let equal : HaveEqualOutputs m b r.0 o.0 = of_b.equal r.0 o.0 r.1 o.1.runs alike in
     (o.0, o.1, λ c below. (let within : 1 + c < length r.0 = omega (arith, below, long, counted) in sym (r.3.outputs (1 + c) within) ∙ equal.outputs (1 + c) within))
-
--- ---- the lines and the sums
-
-pub played_alike : PlaysAreAlike
-played_alike m a b slowdown latency fill ins outs blocks text of_a of_b once firsts fits h =
-    let other = runs_alike m a b slowdown latency fill ins blocks h.run of_a of_b once firsts fits h.runs in
-    record {
-      run = other.0;
-      runs = other.1;
-      lines = h.lines
-          ∙ lines_alike slowdown latency outs (λ c. shown_words a.outlets h.run (1 + c)) (λ c. shown_words b.outlets other.0 (1 + c)) (clock_count slowdown latency (length blocks)) other.2;
-    }
-
-pub summed_alike : SumsAreAlike
-summed_alike m a b slowdown latency fill ins outs blocks sums of_a of_b once firsts fits h =
-    let other = runs_alike m a b slowdown latency fill ins blocks h.run of_a of_b once firsts fits h.runs in
-    record {
-      run = other.0;
-      runs = other.1;
-      are = sums_alike slowdown latency outs (λ c. shown_words a.outlets h.run (1 + c)) (λ c. shown_words b.outlets other.0 (1 + c)) (clock_count slowdown latency (length blocks)) sums other.2 h.are;
-    }

@@ -1,9 +1,7 @@
--- What a played circuit shows is what its module shows, and so are its sums.
-use Rattle.std.proofs.Common.{ℕ, zero, suc, Bool, true, false, if◌then◌else◌, flat_map, ◌≡◌, ◌+◌, ◌*◌, ◌<◌, ◌≤◌, List, [], ◌∷◌, ◌++◌, length, map, take, get_or, Some, slice_get, slice_index, arith, refl, ap, sym, ◌∙◌, subst}
+-- What a circuit shows of a run on blocks, its module shows.
+use Rattle.std.proofs.Common.{ℕ, zero, suc, All, ◌≡◌, ◌+◌, ◌*◌, ◌<◌, ◌≤◌, List, [], ◌∷◌, ◌++◌, length, map, take, get_or, Some, slice_get, slice_index, arith, refl, ap, sym, ◌∙◌, subst}
 use Rattle.std.specs.Prelude.{codes}
-use Rattle.std.specs.List.{filter, range_with_len, sum}
-use Rattle.std.proofs.lemmas.List.Concat.{flat_map-cons}
-use Rattle.std.proofs.lemmas.List.{length-map}
+use Rattle.std.proofs.lemmas.List.Elements.{All-get_or}
 use Rattle.std.proofs.lemmas.Nat.{row_fits}
 use Rattle.std.proofs.lemmas.Option.{slice_get_within, get_or_from_slice_get}
 use Rattle.ae_seqtype.specs.ValueTree.{ValueTree, flat}
@@ -13,7 +11,7 @@ use Rattle.ae_sttype.specs.Slots.{slots}
 use Rattle.ae_sttype.proofs.Places.{slot_at, slot_of, slot_below, length-slots}
 use Rattle.ae_netlist.specs.Circuit.{Circuit}
 use Rattle.ae_netlist.specs.Runs.{Clock}
-use Rattle.ae_netlist.specs.Rows.{IsRunWith, filled}
+use Rattle.ae_netlist.specs.Rows.{AreInputs, IsRunWith, filled}
 use Rattle.ae_vread.specs.ModuleTree.{ModuleTree}
 use Rattle.ae_elab.specs.Values.{ModuleClock}
 use Rattle.ae_elab.specs.Runs.{clock_at, IsRun}
@@ -28,60 +26,23 @@ use Rattle.ae_ports.specs.CircuitFor.{IsCircuitFor}
 use Rattle.ae_ports.specs.Ports.{streams_of, columns_in}
 use Rattle.ae_rewrite.specs.Interface.{AreValues}
 use Rattle.ae_play.specs.Fed.{clock_row, fed_rows}
-use Rattle.ae_play.specs.Sums.{ArePlayedSums, AreSums, all_stand, valid_words}
-use Rattle.ae_play.specs.declared.sums.Sums.{Sums}
-use Rattle.ae_play.specs.Lines.{IsPlayedText, clock_count, clock_line, clock_lines, shown_words}
+use Rattle.ae_play.specs.Lines.{clock_count, shown_words}
 use Rattle.ae_correct.specs.Correct.{input_ports, wave}
-use Rattle.ae_correct.specs.ClockTexts.{fill_word, AreClockSums, IsClockText, IsFed, IsTaken}
-use Rattle.ae_correct.specs.Laws.{IsLaidOut, PlaysAreShown, SumsAreShown}
+use Rattle.ae_correct.specs.ClockTexts.{fill_word, IsFed, IsTaken}
+use Rattle.ae_correct.specs.Laws.{IsLaidOut, IsShownAs, RunsAreShown}
 use Rattle.ae_correct.proofs.Nets.{HavePorts}
 use Rattle.ae_correct.proofs.Laid.{as_many, ins_filling}
 use Rattle.ae_correct.proofs.Keeps.{circuit_ports, ins_of, outs_of}
 use Rattle.ae_correct.proofs.FedRows.{FillAll, AreWhole, length_rows, row_later, small_column, stands_in_row, free_in_row}
 use Rattle.ae_correct.proofs.FirstWords.{begins}
+use Rattle.ae_correct.proofs.TakenRows.{net_inputs}
 use Rattle.ae_correct.proofs.FedInputs.{reset_row, input_row}
 
--- ---- clocks and lines
+-- ---- clocks
 
 count_is : (slowdown latency k : ℕ) → 0 < k → clock_count slowdown latency k ≡ latency + k * slowdown
 count_is slowdown latency zero h = absurd (omega (arith, h))
 count_is slowdown latency (suc k) h = refl
-
-pub lines_alike : (slowdown latency : ℕ) (outs : List StTree) (f g : ℕ → List ℕ) (k : ℕ) → ((c : ℕ) → c < k → f c ≡ g c) → clock_lines slowdown latency outs f k ≡ clock_lines slowdown latency outs g k
-lines_alike slowdown latency outs f g zero h = refl
-lines_alike slowdown latency outs f g (suc k) h =
-    λ i. lines_alike slowdown latency outs f g k (λ c below. h c (omega (arith, below))) i ++ clock_line slowdown latency outs k (h k (omega arith) i)
-
-abbrev AreBelow : (k : ℕ) → List ℕ → Type 0
-AreBelow k [] = Unit {0}
-AreBelow k (c ∷ ks) = (c < k) × AreBelow k ks
-
-flat_alike : (f g : ℕ → List ℕ) (ks : List ℕ) (k : ℕ) → AreBelow k ks → ((c : ℕ) → c < k → f c ≡ g c) → flat_map f ks ≡ flat_map g ks
-flat_alike f g [] k small h = refl
-flat_alike f g (c ∷ ks) k small h = flat_map-cons f c ks ∙ (λ i. h c small.0 i ++ flat_alike f g ks k small.1 h i) ∙ sym (flat_map-cons g c ks)
-
-range_small : (a n k : ℕ) → a + n ≤ k → AreBelow k (range_with_len a n)
-range_small a zero k h = tt
-range_small a (suc n) k h = (omega arith, range_small (a + 1) n k (omega arith))
-
-kept_small : (test : ℕ → Bool) (ks : List ℕ) (k : ℕ) → AreBelow k ks → AreBelow k (filter test ks)
-kept_small test [] k h = tt
-kept_small test (c ∷ ks) k h = by (test c) (kept_small test ks k h.1)
-  where
-    by : (b : Bool) → AreBelow k (filter test ks) → AreBelow k (if b then c ∷ filter test ks else filter test ks)
-    by true rest = (h.0, rest)
-    by false rest = rest
-
-pub sums_alike : (slowdown latency : ℕ) (outs : List StTree) (f g : ℕ → List ℕ) (k : ℕ) (sums : Sums) → ((c : ℕ) → c < k → f c ≡ g c) → AreSums slowdown latency outs f k sums → AreSums slowdown latency outs g k sums
-sums_alike slowdown latency outs f g k sums h s =
-    let small = range_small 0 k k (omega arith) in
-    let valid : valid_words slowdown latency outs f k ≡ valid_words slowdown latency outs g k =
-    flat_alike f g (filter (all_stand slowdown latency outs) (range_with_len 0 k)) k (kept_small (all_stand slowdown latency outs) (range_with_len 0 k) k small) h in
-    record {
-      valid = s.valid ∙ ap length valid;
-      valid_sum = s.valid_sum ∙ ap sum valid;
-      whole_sum = s.whole_sum ∙ ap sum (flat_alike f g (range_with_len 0 k) k small h);
-    }
 
 -- ---- the whole
 
@@ -175,49 +136,22 @@ module _ (lines : ℕ → ℕ) (p : ProgramTree) (slowdown : ℕ) (costs : OwnCo
     alike_words : (k : ℕ) → k < count → shown_words n.outlets other (1 + k) ≡ output_words own (clock_at run (1 + k))
     alike_words k below = sym (equal.outputs (1 + k) (omega (arith, below, run_long)))
 
-    -- the module's run shows the same lines
-    pub is_shown : (text : List ℕ) → text ≡ clock_lines slowdown latency outs (λ k. shown_words n.outlets other (1 + k)) count → IsClockText own slowdown latency fill ins outs blocks text
-    is_shown text lines = record {
-      run = run;
+    -- the module's run has the same words
+    pub is_shown : All (AreInputs n.cells) fed → IsShownAs own n slowdown latency fill ins blocks other
+    is_shown fits = record {
+      shown = run;
       long = run_long;
       fed = is_fed;
-      lines = lines ∙ lines_alike slowdown latency outs (λ k. shown_words n.outlets other (1 + k)) (λ k. output_words own (clock_at run (1 + k))) count alike_words;
+      inputs = λ k below.
+          let next : 1 + k ≡ suc k = omega arith in
+          let within : 1 + k < length fed = omega (arith, below, rows_long) in
+          sym (ap (λ t. get_or fed t []) next ∙ later k below)
+          ∙ sym (net_inputs n fed (filled n.cells fill) other (1 + k) with_rows within (All-get_or (AreInputs n.cells) fed (1 + k) [] within fits))
+          ∙ sym (alike.inputs (1 + k) (omega (arith, below, run_long)));
+      outputs = alike_words;
     }
 
-    -- and has the same sums
-    pub is_summed : (sums : Sums) → AreSums slowdown latency outs (λ k. shown_words n.outlets other (1 + k)) count sums → AreClockSums own slowdown latency fill ins outs blocks sums
-    is_summed sums are = record {
-      run = run;
-      long = run_long;
-      fed = is_fed;
-      are = sums_alike slowdown latency outs (λ k. shown_words n.outlets other (1 + k)) (λ k. output_words own (clock_at run (1 + k))) count sums alike_words are;
-    }
-
-  many_blocks : length (map (map flat) blocks) ≡ length blocks
-  many_blocks = length-map blocks (map flat)
-
-  with_rows : (run : List Clock) → IsRunWith n.cells (fed_rows slowdown fill ins (map (map flat) blocks) (clock_count slowdown latency (length (map (map flat) blocks)))) (filled n.cells fill) run
-      → IsRunWith n.cells fed (filled n.cells fill) run
-  with_rows run h = subst (λ k. IsRunWith n.cells (fed_rows slowdown fill ins (map (map flat) blocks) (clock_count slowdown latency k)) (filled n.cells fill) run) many_blocks h
-
-  pub played : (text : List ℕ) → IsPlayedText n slowdown latency fill ins outs (map (map flat) blocks) text → IsClockText own slowdown latency fill ins outs blocks text
-  played text h =
-      let lines : text ≡ clock_lines slowdown latency outs (λ k. shown_words n.outlets h.run (1 + k)) count =
-      h.lines ∙ ap (λ k. clock_lines slowdown latency outs (λ i. shown_words n.outlets h.run (1 + i)) (clock_count slowdown latency k)) many_blocks in
-      let rows = with_rows h.run h.runs in
-      let r = same.of_netlist h.run rows.runs in
-      is_shown r.0 h.run r.1 rows r.2 r.3 text lines
-
-  pub played_sums : (sums : Sums) → ArePlayedSums n slowdown latency fill ins outs (map (map flat) blocks) sums → AreClockSums own slowdown latency fill ins outs blocks sums
-  played_sums sums h =
-      let are : AreSums slowdown latency outs (λ k. shown_words n.outlets h.run (1 + k)) count sums =
-      subst (λ k. AreSums slowdown latency outs (λ i. shown_words n.outlets h.run (1 + i)) (clock_count slowdown latency k) sums) many_blocks h.are in
-      let rows = with_rows h.run h.runs in
-      let r = same.of_netlist h.run rows.runs in
-      is_summed r.0 h.run r.1 rows r.2 r.3 sums are
-
-pub plays : PlaysAreShown
-plays lines p slowdown costs ins outs n latency fill blocks text laid circuit same values shown = played lines p slowdown costs ins outs n laid circuit same latency fill blocks values text shown
-
-pub sums : SumsAreShown
-sums lines p slowdown costs ins outs n latency fill blocks summed laid circuit same values shown = played_sums lines p slowdown costs ins outs n laid circuit same latency fill blocks values summed shown
+pub shown : RunsAreShown
+shown lines p slowdown costs ins outs n latency fill blocks run laid circuit same values fits with_rows =
+    let r = same.of_netlist run with_rows.runs in
+    is_shown lines p slowdown costs ins outs n laid circuit same latency fill blocks values r.0 run r.1 with_rows r.2 r.3 fits

@@ -1,4 +1,4 @@
--- The clock lines and the sums of a module: what its outputs show, clock by clock, in the run on given blocks.
+-- The clock lines, the sums and the words of a module: what its outputs show, clock by clock, in the run on given blocks.
 use Rattle.std.specs.Prelude.{◌≡◌, ℕ, ◌+◌, ◌*◌, ◌%◌, ◌^◌, ◌<◌, List, [], ◌∷◌, length, map, replicate, Option, Some, None, slice_get, get_or}
 use Rattle.ae_word.specs.AtomTree.{WordKind, atom_kinds}
 use Rattle.ae_seqtype.specs.ValueTree.{ValueTree}
@@ -8,10 +8,11 @@ use Rattle.ae_sttype.specs.Slots.{slots}
 use Rattle.ae_vread.specs.ModuleTree.{NetTree, ModuleTree}
 use Rattle.ae_elab.specs.Values.{ModuleClock}
 use Rattle.ae_elab.specs.Runs.{clock_at, IsResetRun}
-use Rattle.ae_elab.specs.SameRuns.{states_of, kind_depth, held_words, output_words}
+use Rattle.ae_elab.specs.SameRuns.{states_of, kind_depth, held_words, input_words, output_words}
 use Rattle.ae_play.specs.Lines.{clock_count, clock_lines}
 use Rattle.ae_play.specs.Sums.{AreSums}
 use Rattle.ae_play.specs.declared.sums.Sums.{Sums}
+use Rattle.ae_play.specs.Words.{port_words}
 use Rattle.ae_correct.specs.Correct.{wave, input_ports, BundlesHold}
 
 -- what a register of a width, or a memory of a depth, begins with
@@ -58,3 +59,10 @@ pub record AreClockSums (m : ModuleTree) (slowdown latency fill : ℕ) (inputs o
   pub long : length run ≡ 1 + clock_count slowdown latency (length blocks)
   pub fed : IsFed m slowdown fill inputs blocks run
   pub are : AreSums slowdown latency outputs (λ c. output_words m (clock_at run (1 + c))) (clock_count slowdown latency (length blocks)) sums
+
+-- the words are those of all inputs but the clock, and of all outputs, in the run of this module on the blocks
+pub record AreClockWords (m : ModuleTree) (slowdown latency fill : ℕ) (inputs : List StTree) (blocks : List (List ValueTree)) (words : List ℕ) : Type 0 where
+  pub run : List ModuleClock
+  pub long : length run ≡ 1 + clock_count slowdown latency (length blocks)
+  pub fed : IsFed m slowdown fill inputs blocks run
+  pub are : words ≡ port_words (λ c. input_words m (clock_at run (1 + c))) (λ c. output_words m (clock_at run (1 + c))) (clock_count slowdown latency (length blocks))

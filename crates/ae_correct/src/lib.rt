@@ -3,7 +3,4 @@
 
 mod laws;
 
-pub use laws::{
-    circuits_are_correct, circuits_are_writable, plays_are_alike, plays_are_shown, sums_are_alike,
-    sums_are_shown,
-};
+pub use laws::{circuits_are_correct, circuits_are_writable, runs_are_alike, runs_are_shown};

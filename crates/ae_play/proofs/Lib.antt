@@ -4,3 +4,4 @@ pub mod Playing
 pub mod Standing
 pub mod WordLines
 pub mod Summing
+pub mod PortWords

@@ -5,6 +5,7 @@ use Rattle.std.specs.List.{range_with_len}
 use Rattle.std.proofs.lemmas.List.{append-nil}
 use Rattle.std.proofs.lemmas.List.Elements.{All-get_or}
 use Rattle.std.proofs.lemmas.List.FromFn.{get_or-map-range_with_len, length-map-range_with_len, map-range_with_len_more}
+use Rattle.ae_netlist.specs.declared.cell.Outlet.{Outlet}
 use Rattle.ae_netlist.specs.declared.cell.SizedCell.{SizedCell}
 use Rattle.ae_netlist.specs.Circuit.{Circuit}
 use Rattle.ae_netlist.specs.Runs.{Clock}
@@ -64,62 +65,80 @@ reset_fits P slowdown fill ss blocks all =
 
 -- ---- going over the clocks
 
-pub record Shows (n : Circuit) (slowdown latency fill : ℕ) (ins outs : List StTree) (blocks : List (List (List ℕ))) (count : ℕ) (old : List ℕ) (sim : Simulated) (out : List ℕ) (c : ℕ) : Type 0 where
+-- a simulator that has played the clock of reset and so many clocks after it
+pub record IsAt (n : Circuit) (slowdown fill : ℕ) (ins : List StTree) (blocks : List (List (List ℕ))) (sim : Simulated) (c : ℕ) : Type 0 where
   pub cells_are : sim.cells ≡ n.cells
   pub outlets_are : sim.outlets ≡ n.outlets
   pub played : HasPlayed sim fill (fed_rows slowdown fill ins blocks c)
-  pub lines : (run : List Clock) → IsRunWith n.cells (fed_rows slowdown fill ins blocks count) (filled n.cells fill) run → out ≡ old ++ clock_lines slowdown latency outs (λ k. shown_words n.outlets run (1 + k)) c
 
-pub shows_none : (n : Circuit) (slowdown latency fill : ℕ) (ins outs : List StTree) (blocks : List (List (List ℕ))) (row : List ℕ) (count : ℕ) (old : List ℕ) (sim : Simulated)
-    → sim.cells ≡ n.cells → sim.outlets ≡ n.outlets → row ≡ 1 ∷ fill_row fill ins → HasPlayed sim fill ([] ++ row ∷ []) → Shows n slowdown latency fill ins outs blocks count old sim old 0
-shows_none n slowdown latency fill ins outs blocks row count old sim c o r h = record {
-  cells_are = c;
-  outlets_are = o;
-  played = subst (λ x. HasPlayed sim fill (x ∷ [])) r h;
-  lines = λ run is. sym (append-nil old);
-}
+pub at_begin : (n : Circuit) (slowdown fill : ℕ) (ins : List StTree) (blocks : List (List (List ℕ))) (sim : Simulated) → sim.cells ≡ n.cells → sim.outlets ≡ n.outlets → HasPlayed sim fill ((1 ∷ fill_row fill ins) ∷ [])
+    → IsAt n slowdown fill ins blocks sim 0
+at_begin n slowdown fill ins blocks sim ce oe h = record { cells_are = ce; outlets_are = oe; played = h }
+
+-- the row of its next clock fits it
+pub row_here : (n : Circuit) (slowdown fill : ℕ) (ins : List StTree) (blocks : List (List (List ℕ))) (sim : Simulated) (c : ℕ) → IsAt n slowdown fill ins blocks sim c
+    → ((k : ℕ) → All (AreInputs n.cells) (fed_rows slowdown fill ins blocks k)) → AreInputs sim.cells (clock_row slowdown fill ins blocks c)
+row_here n slowdown fill ins blocks sim c s fit =
+    subst (λ (cs : List SizedCell). AreInputs cs (clock_row slowdown fill ins blocks c)) (sym s.cells_are) (row_fits (AreInputs n.cells) slowdown fill ins blocks fit c)
 
 -- what is known once clock c was stepped with its row
 pub record IsStepped (n : Circuit) (slowdown fill : ℕ) (ins : List StTree) (blocks : List (List (List ℕ))) (count : ℕ) (sim : Simulated) (c : ℕ) : Type 0 where
-  pub played : HasPlayed sim fill (fed_rows slowdown fill ins blocks (c + 1))
+  pub at : IsAt n slowdown fill ins blocks sim (c + 1)
   pub some : 1 ≤ length (fed_rows slowdown fill ins blocks (c + 1))
   pub last : length (fed_rows slowdown fill ins blocks (c + 1)) - 1 ≡ 1 + c
   pub plays : (run : List Clock) → IsRunWith n.cells (fed_rows slowdown fill ins blocks count) (filled n.cells fill) run → Plays sim.cells fill (fed_rows slowdown fill ins blocks (c + 1)) run
 
-pub stepped : (n : Circuit) (slowdown fill : ℕ) (ins : List StTree) (blocks : List (List (List ℕ))) (row : List ℕ) (count : ℕ) (sim : Simulated) (c : ℕ)
-    → c < count → sim.cells ≡ n.cells → row ≡ clock_row slowdown fill ins blocks c → HasPlayed sim fill (fed_rows slowdown fill ins blocks c ++ row ∷ [])
-    → IsStepped n slowdown fill ins blocks count sim c
-stepped n slowdown fill ins blocks row count sim c below ce r h =
+pub stepped : (n : Circuit) (slowdown fill : ℕ) (ins : List StTree) (blocks : List (List (List ℕ))) (count : ℕ) (sim sim' : Simulated) (c : ℕ)
+    → IsAt n slowdown fill ins blocks sim c → c < count → sim'.cells ≡ sim.cells → sim'.outlets ≡ sim.outlets
+    → ((first : ℕ) (rows : List (List ℕ)) → HasPlayed sim first rows → HasPlayed sim' first (rows ++ clock_row slowdown fill ins blocks c ∷ []))
+    → IsStepped n slowdown fill ins blocks count sim' c
+stepped n slowdown fill ins blocks count sim sim' c s below ce oe plays =
     let reset : List ℕ = 1 ∷ fill_row fill ins in
     let each : ℕ → List ℕ = clock_row slowdown fill ins blocks in
     let fed : List (List ℕ) = fed_rows slowdown fill ins blocks (c + 1) in
     let long : length fed ≡ (c + 1) + 1 = length-rows reset each (c + 1) in
     record {
-      played = subst (λ x. HasPlayed sim fill x) (ap (λ x. fed_rows slowdown fill ins blocks c ++ x ∷ []) r ∙ rows_more reset each c) h;
+      at = record {
+        cells_are = ce ∙ s.cells_are;
+        outlets_are = oe ∙ s.outlets_are;
+        played = subst (λ x. HasPlayed sim' fill x) (rows_more reset each c) (plays fill (fed_rows slowdown fill ins blocks c) s.played);
+      };
       some = omega (arith, long);
       last = omega (arith, long);
-      plays = λ run is. subst (λ (cs : List SizedCell). Plays cs fill fed run) (sym ce) (plays_first n.cells reset each count (c + 1) fill run (omega arith) is);
+      plays = λ run is. subst (λ (cs : List SizedCell). Plays cs fill fed run) (sym (ce ∙ s.cells_are)) (plays_first n.cells reset each count (c + 1) fill run (omega arith) is);
     }
 
-pub shows_more : (n : Circuit) (slowdown latency fill : ℕ) (ins outs : List StTree) (blocks : List (List (List ℕ))) (row : List ℕ) (count : ℕ) (old : List ℕ) (sim sim' : Simulated) (out out' : List ℕ) (c : ℕ)
-    → Shows n slowdown latency fill ins outs blocks count old sim out c → c < count → sim'.cells ≡ sim.cells → sim'.outlets ≡ sim.outlets → row ≡ clock_row slowdown fill ins blocks c
-    → HasPlayed sim' fill (fed_rows slowdown fill ins blocks c ++ row ∷ [])
-    → ((fill : ℕ) (rows : List (List ℕ)) (run : List Clock) → HasPlayed sim' fill rows → 1 ≤ length rows → Plays sim'.cells fill rows run → out' ≡ out ++ clock_line slowdown latency outs c (shown_words sim'.outlets run (length rows - 1)))
+-- what is so of the words that the simulator shows is so of those of the run in clock c
+pub shown_now : (n : Circuit) (slowdown fill : ℕ) (ins : List StTree) (blocks : List (List (List ℕ))) (count : ℕ) (sim : Simulated) (c : ℕ) (P : List ℕ → Type 0) → IsStepped n slowdown fill ins blocks count sim c
+    → ((first : ℕ) (rows : List (List ℕ)) (run : List Clock) → HasPlayed sim first rows → 1 ≤ length rows → Plays sim.cells first rows run → P (shown_words sim.outlets run (length rows - 1)))
+    → (run : List Clock) → IsRunWith n.cells (fed_rows slowdown fill ins blocks count) (filled n.cells fill) run → P (shown_words n.outlets run (1 + c))
+shown_now n slowdown fill ins blocks count sim c P s h run is =
+    subst (λ (os : List Outlet). P (shown_words os run (1 + c))) s.at.outlets_are
+    (subst (λ t. P (shown_words sim.outlets run t)) s.last (h fill (fed_rows slowdown fill ins blocks (c + 1)) run s.at.played s.some (s.plays run is)))
+
+-- ---- the lines
+
+pub record Shows (n : Circuit) (slowdown latency fill : ℕ) (ins outs : List StTree) (blocks : List (List (List ℕ))) (count : ℕ) (old : List ℕ) (sim : Simulated) (out : List ℕ) (c : ℕ) : Type 0 where
+  pub at : IsAt n slowdown fill ins blocks sim c
+  pub lines : (run : List Clock) → IsRunWith n.cells (fed_rows slowdown fill ins blocks count) (filled n.cells fill) run → out ≡ old ++ clock_lines slowdown latency outs (λ k. shown_words n.outlets run (1 + k)) c
+
+pub shows_none : (n : Circuit) (slowdown latency fill : ℕ) (ins outs : List StTree) (blocks : List (List (List ℕ))) (count : ℕ) (old : List ℕ) (sim : Simulated)
+    → IsAt n slowdown fill ins blocks sim 0 → Shows n slowdown latency fill ins outs blocks count old sim old 0
+shows_none n slowdown latency fill ins outs blocks count old sim s = record { at = s; lines = λ run is. sym (append-nil old) }
+
+pub shows_more : (n : Circuit) (slowdown latency fill : ℕ) (ins outs : List StTree) (blocks : List (List (List ℕ))) (count : ℕ) (old : List ℕ) (sim sim' : Simulated) (out out' : List ℕ) (c : ℕ)
+    → Shows n slowdown latency fill ins outs blocks count old sim out c → IsStepped n slowdown fill ins blocks count sim' c
+    → ((first : ℕ) (rows : List (List ℕ)) (run : List Clock) → HasPlayed sim' first rows → 1 ≤ length rows → Plays sim'.cells first rows run → out' ≡ out ++ clock_line slowdown latency outs c (shown_words sim'.outlets run (length rows - 1)))
     → Shows n slowdown latency fill ins outs blocks count old sim' out' (c + 1)
-shows_more n slowdown latency fill ins outs blocks row count old sim sim' out out' c s below ce oe r h line =
-    let fed : List (List ℕ) = fed_rows slowdown fill ins blocks (c + 1) in
+shows_more n slowdown latency fill ins outs blocks count old sim sim' out out' c s step line =
     let next : suc c ≡ c + 1 = omega arith in
-    let step = stepped n slowdown fill ins blocks row count sim' c below (ce ∙ s.cells_are) r h in
-    let outs_are : sim'.outlets ≡ n.outlets = oe ∙ s.outlets_are in
     record {
-      cells_are = ce ∙ s.cells_are;
-      outlets_are = outs_are;
-      played = step.played;
+      at = step.at;
       lines = λ run is.
           let shown : ℕ → List ℕ = λ k. shown_words n.outlets run (1 + k) in
-          line fill fed run step.played step.some (step.plays run is)
-          ∙ (λ i. s.lines run is i ++ clock_line slowdown latency outs c (shown_words (outs_are i) run (step.last i)))
-          ∙ append_assoc old (clock_lines slowdown latency outs shown c) (clock_line slowdown latency outs c (shown_words n.outlets run (1 + c)))
+          shown_now n slowdown fill ins blocks count sim' c (λ ws. out' ≡ out ++ clock_line slowdown latency outs c ws) step line run is
+          ∙ (λ i. s.lines run is i ++ clock_line slowdown latency outs c (shown c))
+          ∙ append_assoc old (clock_lines slowdown latency outs shown c) (clock_line slowdown latency outs c (shown c))
           ∙ ap (λ k. old ++ clock_lines slowdown latency outs shown k) next;
     }
 

@@ -1,5 +1,5 @@
 -- The sums of the words of a run, clock by clock.
-use Rattle.std.proofs.Common.{ℕ, zero, suc, ◌≡◌, ◌+◌, ◌*◌, ◌-◌, ◌<◌, ◌≤◌, Bool, true, false, ◌&&◌, if◌then◌else◌, List, [], ◌∷◌, ◌++◌, length, length-append, take, map, flat_map, Some, slice_get, get_or, All, arith, refl, ap, sym, ◌∙◌, subst}
+use Rattle.std.proofs.Common.{ℕ, zero, suc, ◌≡◌, ◌+◌, ◌*◌, ◌-◌, ◌<◌, ◌≤◌, Bool, true, false, ◌&&◌, if◌then◌else◌, List, [], ◌∷◌, ◌++◌, length, length-append, take, flat_map, Some, slice_get, get_or, All, arith, refl, ap, sym, ◌∙◌, subst}
 use Rattle.std.specs.List.{filter, list_all, range_with_len, sum}
 use Rattle.std.proofs.lemmas.Grind.{flat_map-append}
 use Rattle.std.proofs.lemmas.List.{append-nil, length-map, take_all, take_more}
@@ -11,11 +11,11 @@ use Rattle.ae_netlist.specs.Runs.{Clock, word_at}
 use Rattle.ae_netlist.specs.Rows.{AreFirsts, AreInputs, HasOneRunWith, IsRunWith, filled}
 use Rattle.ae_sim.specs.Playing.{Simulated, Plays, HasPlayed}
 use Rattle.ae_sttype.specs.StTree.{StTree}
-use Rattle.ae_play.specs.Fed.{clock_row, fed_rows, fill_row}
+use Rattle.ae_play.specs.Fed.{fed_rows}
 use Rattle.ae_play.specs.Lines.{clock_count, shown_words}
 use Rattle.ae_play.specs.Sums.{AreSums, ArePlayedSums, all_stand, valid_words, words_until}
 use Rattle.ae_play.specs.declared.sums.Sums.{Sums}
-use Rattle.ae_play.proofs.Playing.{stepped}
+use Rattle.ae_play.proofs.Playing.{IsAt, IsStepped, shown_now}
 use Rattle.ae_play.proofs.WordLines.{mapped-at, there}
 
 -- ---- the words of one clock more
@@ -26,7 +26,7 @@ range_more a (suc n) =
     let e : a + 1 + n ≡ a + suc n = omega arith in
     ap (λ ks. a ∷ ks) (range_more (a + 1) n ∙ ap (λ k. range_with_len (a + 1) n ++ k ∷ []) e)
 
-until_more : (n : ℕ) → range_with_len 0 (n + 1) ≡ range_with_len 0 n ++ n ∷ []
+pub until_more : (n : ℕ) → range_with_len 0 (n + 1) ≡ range_with_len 0 n ++ n ∷ []
 until_more n =
     let e : n + 1 ≡ suc n = omega arith in
     let z : 0 + n ≡ n = omega arith in
@@ -35,7 +35,7 @@ until_more n =
 only : (shown : ℕ → List ℕ) (c : ℕ) → flat_map shown (c ∷ []) ≡ shown c
 only shown c = append-nil (shown c)
 
-words_next : (shown : ℕ → List ℕ) (c : ℕ) → words_until shown (c + 1) ≡ words_until shown c ++ shown c
+pub words_next : (shown : ℕ → List ℕ) (c : ℕ) → words_until shown (c + 1) ≡ words_until shown c ++ shown c
 words_next shown c =
     ap (flat_map shown) (until_more c) ∙ flat_map-append shown (range_with_len 0 c) (c ∷ []) ∙ ap (λ ws. words_until shown c ++ ws) (only shown c)
 
@@ -80,21 +80,16 @@ word_sum_all outlets run t k now h e =
 
 -- the sums of the first clocks, and how large they may be: fewer than 2 ^ 32 words in a clock, each below 2 ^ 64
 pub record SumsTo (n : Circuit) (slowdown latency fill : ℕ) (ins outs : List StTree) (blocks : List (List (List ℕ))) (count : ℕ) (sim : Simulated) (sums : Sums) (c : ℕ) : Type 0 where
-  pub cells_are : sim.cells ≡ n.cells
-  pub outlets_are : sim.outlets ≡ n.outlets
-  pub played : HasPlayed sim fill (fed_rows slowdown fill ins blocks c)
+  pub at : IsAt n slowdown fill ins blocks sim c
   pub few : sums.valid ≤ c * 4294967295
   pub small_valid : sums.valid_sum ≤ c * (4294967295 * 18446744073709551615)
   pub small_whole : sums.whole_sum ≤ c * (4294967295 * 18446744073709551615)
   pub are : (run : List Clock) → IsRunWith n.cells (fed_rows slowdown fill ins blocks count) (filled n.cells fill) run → AreSums slowdown latency outs (λ k. shown_words n.outlets run (1 + k)) c sums
 
-pub sums_none : (n : Circuit) (slowdown latency fill : ℕ) (ins outs : List StTree) (blocks : List (List (List ℕ))) (row : List ℕ) (count : ℕ) (sim : Simulated)
-    → sim.cells ≡ n.cells → sim.outlets ≡ n.outlets → row ≡ 1 ∷ fill_row fill ins → HasPlayed sim fill ([] ++ row ∷ [])
-    → SumsTo n slowdown latency fill ins outs blocks count sim (record { valid = 0; valid_sum = 0; whole_sum = 0 }) 0
-sums_none n slowdown latency fill ins outs blocks row count sim c o r h = record {
-  cells_are = c;
-  outlets_are = o;
-  played = subst (λ x. HasPlayed sim fill (x ∷ [])) r h;
+pub sums_none : (n : Circuit) (slowdown latency fill : ℕ) (ins outs : List StTree) (blocks : List (List (List ℕ))) (count : ℕ) (sim : Simulated)
+    → IsAt n slowdown fill ins blocks sim 0 → SumsTo n slowdown latency fill ins outs blocks count sim (record { valid = 0; valid_sum = 0; whole_sum = 0 }) 0
+sums_none n slowdown latency fill ins outs blocks count sim s = record {
+  at = s;
   few = omega arith;
   small_valid = omega arith;
   small_whole = omega arith;
@@ -130,29 +125,21 @@ summed slowdown latency outs shown c outputs words b sums sums' s w stands many 
       whole_sum = w.whole_sum ∙ (λ i. s.whole_sum i + is i) ∙ sym (ap sum (words_next shown c) ∙ sum-append (words_until shown c) (shown c));
     }
 
-pub sums_more : (n : Circuit) (slowdown latency fill : ℕ) (ins outs : List StTree) (blocks : List (List (List ℕ))) (row : List ℕ) (count : ℕ) (sim sim' : Simulated) (sums sums' : Sums) (c outputs words : ℕ) (b : Bool)
-    → SumsTo n slowdown latency fill ins outs blocks count sim sums c → c < count → sim'.cells ≡ sim.cells → sim'.outlets ≡ sim.outlets → row ≡ clock_row slowdown fill ins blocks c
-    → HasPlayed sim' fill (fed_rows slowdown fill ins blocks c ++ row ∷ [])
-    → ((fill : ℕ) (rows : List (List ℕ)) (run : List Clock) → HasPlayed sim' fill rows → 1 ≤ length rows → Plays sim'.cells fill rows run → words ≡ sum (shown_words sim'.outlets run (length rows - 1)))
+pub sums_more : (n : Circuit) (slowdown latency fill : ℕ) (ins outs : List StTree) (blocks : List (List (List ℕ))) (count : ℕ) (sim sim' : Simulated) (sums sums' : Sums) (c outputs words : ℕ) (b : Bool)
+    → SumsTo n slowdown latency fill ins outs blocks count sim sums c → IsStepped n slowdown fill ins blocks count sim' c
+    → ((first : ℕ) (rows : List (List ℕ)) (run : List Clock) → HasPlayed sim' first rows → 1 ≤ length rows → Plays sim'.cells first rows run → words ≡ sum (shown_words sim'.outlets run (length rows - 1)))
     → outputs ≡ length n.outlets → outputs ≤ 4294967295 → words ≤ outputs * 18446744073709551615 → b ≡ all_stand slowdown latency outs c → IsWithClock sums sums' outputs words b
     → SumsTo n slowdown latency fill ins outs blocks count sim' sums' (c + 1)
-sums_more n slowdown latency fill ins outs blocks row count sim sim' sums sums' c outputs words b s below ce oe r h line many few small stands w =
-    let fed : List (List ℕ) = fed_rows slowdown fill ins blocks (c + 1) in
-    let step = stepped n slowdown fill ins blocks row count sim' c below (ce ∙ s.cells_are) r h in
-    let outs_are : sim'.outlets ≡ n.outlets = oe ∙ s.outlets_are in
-    record {
-      cells_are = ce ∙ s.cells_are;
-      outlets_are = outs_are;
-      played = step.played;
-      few = omega (arith, s.few, w.valid, at_most b outputs, few);
-      small_valid = omega (arith, s.small_valid, w.valid_sum, at_most b words, few, small);
-      small_whole = omega (arith, s.small_whole, w.whole_sum, few, small);
-      are = λ run is.
-          let shown : ℕ → List ℕ = λ k. shown_words n.outlets run (1 + k) in
-          let long : length (shown c) ≡ length n.outlets = length-map n.outlets (λ (o : Outlet). word_at run (1 + c) o.net.0) in
-          summed slowdown latency outs shown c outputs words b sums sums' (s.are run is) w stands (many ∙ sym long)
-          (line fill fed run step.played step.some (step.plays run is) ∙ (λ i. sum (shown_words (outs_are i) run (step.last i))));
-    }
+sums_more n slowdown latency fill ins outs blocks count sim sim' sums sums' c outputs words b s step line many few small stands w = record {
+  at = step.at;
+  few = omega (arith, s.few, w.valid, at_most b outputs, few);
+  small_valid = omega (arith, s.small_valid, w.valid_sum, at_most b words, few, small);
+  small_whole = omega (arith, s.small_whole, w.whole_sum, few, small);
+  are = λ run is.
+      let shown : ℕ → List ℕ = λ k. shown_words n.outlets run (1 + k) in
+      let long : length (shown c) ≡ length n.outlets = length-map n.outlets (λ (o : Outlet). word_at run (1 + c) o.net.0) in
+      summed slowdown latency outs shown c outputs words b sums sums' (s.are run is) w stands (many ∙ sym long) (shown_now n slowdown fill ins blocks count sim' c (λ ws. words ≡ sum ws) step line run is);
+}
 
 -- the sums of all clocks
 pub sums_all : (n : Circuit) (slowdown latency fill : ℕ) (ins outs : List StTree) (blocks : List (List (List ℕ))) (number count c : ℕ) (sim : Simulated) (sums : Sums)

@@ -1,5 +1,5 @@
 -- The lines that are written of a run.
-use Rattle.std.proofs.Common.{ℕ, zero, suc, ◌≡◌, ◌+◌, ◌<◌, ◌≤◌, ◌-◌, ◌*◌, ◌%◌, ◌&&◌, Bool, true, false, List, [], ◌∷◌, ◌++◌, length, take, map, Some, slice_get, get_or, nat_eq, nat_le, if◌then◌else◌, arith, refl, ap, sym, ◌∙◌, append_assoc, true≢false}
+use Rattle.std.proofs.Common.{ℕ, zero, suc, ◌≡◌, ◌+◌, ◌<◌, ◌≤◌, ◌-◌, ◌*◌, ◌%◌, ◌&&◌, Bool, true, false, List, [], ◌∷◌, ◌++◌, length, take, map, Some, slice_get, get_or, nat_eq, nat_le, arith, refl, ap, sym, ◌∙◌, append_assoc, true≢false}
 use Rattle.std.specs.Prelude.{Any}
 use Rattle.std.specs.List.{list_any}
 use Rattle.std.specs.Fmt.{decimal}

@@ -2,3 +2,4 @@ pub mod Fed
 pub mod Fits
 pub mod Lines
 pub mod Sums
+pub mod Words

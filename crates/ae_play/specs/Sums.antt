@@ -1,5 +1,5 @@
 -- What is summed of a run.
-use Rattle.std.specs.Prelude.{◌≡◌, ℕ, ◌+◌, Bool, List, length, map, flat_map}
+use Rattle.std.specs.Prelude.{◌≡◌, ℕ, ◌+◌, Bool, List, length, flat_map}
 use Rattle.std.specs.List.{filter, list_all, range_with_len, sum}
 use Rattle.ae_sttype.specs.StTree.{StTree}
 use Rattle.ae_netlist.specs.Circuit.{Circuit}

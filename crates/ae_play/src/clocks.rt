@@ -9,7 +9,7 @@ ghost use Rattle.ae_sim.specs.Playing.{HasPlayed, Plays};
 ghost use Rattle.ae_play.specs.Fed.{blocks_of, clock_row, fed_rows, fill_row, size_of};
 ghost use Rattle.ae_play.specs.Lines.{IsPlayedText, clock_count, clock_line, mark, shown_words, spaced, stands};
 
-use crate::rows::{push_block, push_fill};
+use crate::stepping::{begun, step_clock};
 use ae_netlist::{Netlist, fill_begins, has_one_run_with};
 use ae_sim::Sim;
 use ae_sttype::StType;
@@ -26,48 +26,6 @@ pub fn clock_count(slowdown: u32, latency: u32, blocks: usize) -> u32
         0
     } else {
         latency + blocks as u32 * slowdown
-    }
-}
-
-/// Appends the row of reset.
-pub fn push_reset(row: &mut Vec<u64>, ins: &[StType], fill: u64) -> Result<(), AllocError>
-    requires sized { All IsInSize (map st_tree ins.now) }
-    ensures { OnOk result (row.new.items ≡ row.old.items ++ (1 ∷ fill_row fill (map st_tree ins.now))) }
-{
-    row.push(1)?;
-    push_fill(row, ins, fill)
-}
-
-/// Sets the row to that of a clock after reset.
-pub fn set_row(
-    row: &mut Vec<u64>,
-    ins: &[StType],
-    words: &[u64],
-    blocks: usize,
-    slowdown: u32,
-    clock: u32,
-    fill: u64,
-) -> Result<(), AllocError>
-    requires some { 1 ≤ slowdown }
-    requires ins { All (λ s. IsInSize s × (time s ≡ slowdown)) (map st_tree ins.now) }
-    requires whole { length words.now ≡ blocks * size_of (map st_tree ins.now) }
-    ensures { OnOk result (row.new.items ≡ clock_row slowdown fill (map st_tree ins.now) (blocks_of (map st_tree ins.now) blocks words.now) clock) }
-{
-    row.clear();
-    row.push(0)?;
-    let block = (clock / slowdown) as usize;
-    if block < blocks {
-        let size = words.len() / blocks;
-        let first = block * size;
-        push_block(
-            row,
-            ins,
-            &words[first..first + size],
-            clock % slowdown,
-            fill,
-        )
-    } else {
-        push_fill(row, ins, fill)
     }
 }
 
@@ -175,13 +133,11 @@ pub fn write_clocks(
     ensures { OnOk result ((text : List ℕ) × (string_bytes out.new ≡ string_bytes out.old ++ text) × IsPlayedText nl.now slowdown latency fill (map st_tree ins.now) (map st_tree outs.now) (blocks_of (map st_tree ins.now) blocks words.now) text) }
 {
     let clocks = clock_count(slowdown, latency, blocks);
-    let mut sim = Sim::new(alloc, nl, fill)?;
-    let mut row = Vec::new(alloc);
-    push_reset(&mut row, ins, fill)?;
-    sim.step(row.as_slice());
+    let (mut sim, mut row) = begun(alloc, nl, ins, fill)?;
     for clock in 0..clocks {
-        set_row(&mut row, ins, words, blocks, slowdown, clock, fill)?;
-        sim.step(row.as_slice());
+        step_clock(
+            &mut sim, &mut row, ins, words, blocks, slowdown, clock, fill,
+        )?;
         write_line(out, &sim, nl.outputs(), outs, slowdown, latency, clock)?;
     }
     has_one_run_with(nl);

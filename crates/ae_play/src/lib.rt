@@ -4,8 +4,11 @@
 mod clocks;
 mod fits;
 mod rows;
+mod stepping;
 mod sums;
+mod words;
 
 pub use clocks::{write_clocks, write_words};
 pub use fits::can_be_fed;
 pub use sums::{Sums, sum_clocks};
+pub use words::clock_words;

@@ -11,7 +11,8 @@ ghost use Rattle.ae_play.specs.Fed.{blocks_of, fed_rows, size_of};
 ghost use Rattle.ae_play.specs.Lines.{clock_count, shown_words};
 ghost use Rattle.ae_play.specs.Sums.{ArePlayedSums, all_stand};
 
-use crate::clocks::{clock_count, push_reset, set_row, stands};
+use crate::clocks::{clock_count, stands};
+use crate::stepping::{begun, step_clock};
 use ae_netlist::{Netlist, fill_begins, has_one_run_with};
 use ae_sim::Sim;
 use ae_sttype::StType;
@@ -101,10 +102,7 @@ pub fn sum_clocks(
     ensures { IfOk result (λ sums. ArePlayedSums nl.now slowdown latency fill (map st_tree ins.now) (map st_tree outs.now) (blocks_of (map st_tree ins.now) blocks words.now) sums) }
 {
     let clocks = clock_count(slowdown, latency, blocks);
-    let mut sim = Sim::new(alloc, nl, fill)?;
-    let mut row = Vec::new(alloc);
-    push_reset(&mut row, ins, fill)?;
-    sim.step(row.as_slice());
+    let (mut sim, mut row) = begun(alloc, nl, ins, fill)?;
     let outputs = nl.outputs();
     let mut sums = Sums {
         valid: 0,
@@ -112,8 +110,9 @@ pub fn sum_clocks(
         whole_sum: 0,
     };
     for clock in 0..clocks {
-        set_row(&mut row, ins, words, blocks, slowdown, clock, fill)?;
-        sim.step(row.as_slice());
+        step_clock(
+            &mut sim, &mut row, ins, words, blocks, slowdown, clock, fill,
+        )?;
         let shown = sum_words(&sim, outputs);
         let stands = all_stand(outs, slowdown, latency, clock);
         sums = with_clock(sums, outputs, shown, stands);

@@ -1,5 +1,8 @@
 // Waves.
 
+ghost use Rattle.std.specs.Prelude.{◌≡◌, ◌<◌, length};
+ghost use Rattle.ae_vcd.specs.Waves.{IsFormedWave, wave_tree, word_of};
+
 /// A header declares at most this many variables.
 pub(crate) const MOST_VARIABLES: usize = 300_000;
 
@@ -13,4 +16,16 @@ pub struct Wave {
     pub widths: Vec<u32>,
     pub times: Vec<u64>,
     pub words: Vec<u64>,
+}
+
+impl Wave {
+    /// The word of variable k at the time numbered i.
+    pub fn word(&self, i: usize, k: usize) -> u64
+        requires formed { IsFormedWave (wave_tree self.now) }
+        requires time { i < length self.now.times.items }
+        requires variable { k < length self.now.names.items }
+        ensures { result ≡ word_of (wave_tree self.now) i k }
+    {
+        self.words[i * self.names.len() + k]
+    }
 }

@@ -171,7 +171,7 @@ module _ (lines : ℕ → ℕ) (cells : List SizedCell) (outlets : List Outlet) 
   append_none xs ys e = ap (λ l. xs ++ l) e ∙ append-nil xs
 
   -- the inputs of the module are those of the cells
-  inputs_are : s.inputs_of m ≡ ins
+  pub inputs_are : s.inputs_of m ≡ ins
   inputs_are =
       let p : NetTree → Bool = λ (x : NetTree). is_input_kind x.kind && not (is_clock m x.name) in
       split p (ap not (clock_is_clock lines cells outlets outs ok))
@@ -179,7 +179,7 @@ module _ (lines : ℕ → ℕ) (cells : List SizedCell) (outlets : List Outlet) 
       ++ (filter_none p shown (λ y a. let r = shown_are y a in ap p r.1) i ++ own_are p (λ k item width name a b. ap (λ t. t && not (is_clock m name)) a) 1 0 cells i))
       ∙ append-nil ins
 
-  outputs_are : s.outputs_of m ≡ shown
+  pub outputs_are : s.outputs_of m ≡ shown
   outputs_are =
       let p : NetTree → Bool = λ (x : NetTree). is_output_kind x.kind in
       split p refl

@@ -27,3 +27,4 @@ pub mod NotedCells
 pub mod Whole
 pub mod StarLaw
 pub mod NoteLines
+pub mod PortNets

@@ -3,3 +3,4 @@ pub mod Written
 pub mod Text
 pub mod ReportLines
 pub mod Notes
+pub mod PortNets

@@ -4,6 +4,7 @@
 mod cells;
 mod clocked;
 mod header;
+mod interface;
 mod laws;
 mod names;
 mod notes;
@@ -18,6 +19,7 @@ ghost use Rattle.ae_verilog.specs.ReportLines.{report_tree, report_lines, is_cle
 ghost use Rattle.ae_verilog.specs.Text.{whole_text, PortFits, CellPortFits};
 
 use ae_netlist::{Netlist, Outlet, SizedCell};
+pub use interface::{PortList, ports_of};
 pub use laws::{module_keeps, spelled_once};
 pub use notes::Note;
 pub use report::Report;

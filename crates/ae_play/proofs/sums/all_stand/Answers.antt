@@ -1,4 +1,4 @@
-use Rattle.std.proofs.Common.{◌≡◌, ◌∙◌, ◌+◌, drop, false, true, map, sym}
+use Rattle.std.proofs.Common.{◌≡◌, ◌∙◌, ◌+◌, drop, map, sym}
 use Rattle.ae_sttype.specs.StTree.{st_tree, time}
 use Rattle.ae_sttype.specs.Size.{IsInSize}
 use Rattle.ae_play.specs.Lines.{stands}

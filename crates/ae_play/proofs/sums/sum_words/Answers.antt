@@ -1,4 +1,4 @@
-use Rattle.std.proofs.Common.{◌≡◌, ◌-◌, ◌+◌, ◌*◌, ◌≤◌, length, arith, ap, ◌∙◌}
+use Rattle.std.proofs.Common.{◌-◌, length, arith, ◌∙◌}
 use Rattle.ae_play.proofs.Summing.{word_sum_all, word_sum_more}
 use Rattle.ae_play.proofs.sums.sum_words.Goals as goal
 

@@ -1,5 +1,6 @@
 use Rattle.ae_verilog.proofs.laws.module_keeps.Goals as goal
 use Rattle.ae_verilog.proofs.LawSame.{same_runs}
+use Rattle.ae_verilog.proofs.PortNets.{are_ports}
 use Rattle.ae_verilog.proofs.LawWeight.{light}
 use Rattle.ae_verilog.proofs.LawFormed.{well_formed}
 
@@ -11,3 +12,6 @@ returns-clause-light c lines n outs = light lines n.cells n.outlets outs
 
 pub returns-clause-formed : goal.returns-clause-formed
 returns-clause-formed c lines n outs ok small = well_formed lines n.cells n.outlets outs ok small
+
+pub returns-clause-ports : goal.returns-clause-ports
+returns-clause-ports c lines n outs ok = are_ports lines n outs ok

@@ -1,7 +1,7 @@
 use Rattle.std.proofs.Common.{◌++◌, ◌∷◌, [], map, arith, ap, ◌∙◌}
 use Rattle.ae_sttype.specs.StTree.{st_tree}
 use Rattle.ae_play.proofs.Layouts.{on_ok, row_in_block, row_past_blocks}
-use Rattle.ae_play.proofs.clocks.set_row.Goals as goal
+use Rattle.ae_play.proofs.stepping.set_row.Goals as goal
 
 pub returns-then-block-blocks : goal.returns-then-block-blocks
 returns-then-block-blocks c = on_ok c.push_block.result _ _

@@ -1,0 +1,10 @@
+use Rattle.std.proofs.Common.{◌≡◌, ◌-◌, ◌≤◌, ◌++◌, ℕ, List, length, take}
+use Rattle.ae_netlist.specs.Runs.{Clock}
+use Rattle.ae_sim.specs.Playing.{HasPlayed, Plays}
+use Rattle.ae_play.specs.Lines.{shown_words}
+use Rattle.ae_play.proofs.words.push_outputs.Given as goal
+
+abbrev pub invariant-loop-k : goal.invariant-loop-k
+invariant-loop-k l =
+    (fill : ℕ) (rows : List (List ℕ)) (run : List Clock) → HasPlayed l.fn.sim fill rows → 1 ≤ length rows → Plays l.fn.sim.cells fill rows run
+    → l.words.items ≡ l.fn.words.items ++ take l.k (shown_words l.fn.sim.outlets run (length rows - 1))

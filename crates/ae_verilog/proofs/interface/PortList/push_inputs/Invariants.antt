@@ -1,0 +1,7 @@
+use Rattle.std.proofs.Common.{◌++◌, List, take}
+use Rattle.ae_vread.specs.ModuleTree.{NetTree}
+use Rattle.ae_verilog.specs.PortNets.{HasNets, input_ports}
+use Rattle.ae_verilog.proofs.interface.PortList.push_inputs.Given as goal
+
+abbrev pub invariant-loop-sized : goal.invariant-loop-sized
+invariant-loop-sized l = (before : List NetTree) → HasNets before l.fn.self → HasNets (before ++ input_ports (take l.sized-index l.cells)) l.self
