@@ -5,3 +5,9 @@ pub mod PhaseLemmas
 pub mod Belonging
 pub mod Late
 pub mod Marked
+pub mod RingLaw
+pub mod Storing
+pub mod Behind
+pub mod Making
+pub mod InRow
+pub mod Lining

@@ -6,7 +6,9 @@ mod counter;
 mod gates;
 mod lines;
 mod marks;
+mod ring;
+mod row;
 
 pub use clocks::{Clocks, Phase};
 pub use gates::{choose, close, constant, delayed, equal, less, operate, register, sum, width_at};
-pub use lines::{Tapped, line};
+pub use lines::{Tapped, line, ring_line};

@@ -1,14 +1,17 @@
-// Delay lines.
+// Delay lines: from registers alone, and with rings for what is far.
 
-ghost use Rattle.std.specs.Prelude.{◌≡◌, ◌<◌, ◌≤◌, ◌+◌, ◌^◌, ◌++◌, ◌∷◌, [], ℕ, length, IfOk, OnOk, Some, Err, ◌≢◌, slice_get};
+ghost use Rattle.std.specs.Prelude.{◌≡◌, ◌<◌, ◌≤◌, ◌+◌, ◌*◌, ◌^◌, ◌++◌, ◌∷◌, [], ℕ, length, get_or, IfOk, OnOk, Some, Err, ◌≢◌, slice_get, nat_lt, if◌then◌else◌};
 ghost use Rattle.ae_netlist.specs.Circuit.{IsNet, width_of};
 ghost use Rattle.ae_netlist.specs.Counts.{AreWhole, count_of, is_memory, is_mul};
 ghost use Rattle.ae_clocked.specs.Signals.{Adds, Grows, IsFullAt};
 ghost use Rattle.ae_clocked.specs.Phases.{Belongs, KeepsCounters};
-ghost use Rattle.ae_clocked.specs.Delays.{AreDelays, AreTaps, greatest_of, line_cells};
+ghost use Rattle.ae_clocked.specs.Delays.{AreDelays, AreTaps, IsTap, greatest_of, line_cells};
+ghost use Rattle.ae_clocked.specs.Rings.{AddsMemories, rings};
+ghost use Rattle.ae_clocked.specs.Rows.{AreLinks};
 
 use crate::clocks::Clocks;
 use crate::gates::{delayed, width_at};
+use crate::row::{Link, far_tap, make_row};
 use ae_netlist::{NetFault, NetId, Netlist};
 use std::alloc::Global;
 use std::marker::Model;
@@ -112,6 +115,117 @@ pub fn line(
     let mut tapped = Vec::new(alloc);
     for tap in taps {
         keep(&mut tapped, nets[*tap as usize])?;
+    }
+    Ok(Tapped { nets: tapped })
+}
+
+/// The tap where it is below 8, and else 0.
+fn near_or_none(tap: u32) -> u32
+    ensures { result ≡ (if nat_lt tap 8 then tap else 0) }
+{
+    if tap < 8 { tap } else { 0 }
+}
+
+/// The greatest of the taps below 8, and 0 of none.
+fn nearest(taps: &[u32]) -> u32
+    ensures below { result < 8 }
+    ensures least { result ≤ greatest_of taps.now }
+    ensures each { (k : ℕ) → k < length taps.now → get_or taps.now k 0 < 8 → get_or taps.now k 0 ≤ result }
+{
+    let mut most = 0u32;
+    for tap in taps {
+        most = most.max(near_or_none(*tap));
+    }
+    most
+}
+
+/// The rings of a line, and none where all taps are near.
+fn far_row(
+    alloc: Global,
+    nl: &mut Netlist,
+    clocks: &mut Clocks,
+    x: NetId,
+    width: u32,
+    reach: u32,
+    spare: u32,
+) -> Result<Vec<Link>, NetFault>
+    requires belongs { Belongs clocks.old nl.old.cells }
+    requires low { 1 ≤ width }
+    requires high { width ≤ 64 }
+    requires net { IsNet nl.old.cells x.0 width }
+    ensures belongs { Belongs clocks.new nl.new.cells }
+    ensures keeps { KeepsCounters clocks.old clocks.new }
+    ensures adds { AddsMemories nl.old nl.new (18 * rings reach) (rings reach) }
+    ensures full { IsFullAt result nl.new }
+    ensures long { IfOk result (λ links. length links.items ≡ rings reach) }
+    ensures links { IfOk result (λ links. AreLinks nl.new.cells clocks.old.rst width x.0 reach links.items) }
+{
+    if reach < 8 {
+        return Ok(Vec::new(alloc));
+    }
+    make_row(alloc, nl, clocks, x, width, reach, spare)
+}
+
+/// One tap of a line.
+fn tap_at(
+    nl: &mut Netlist,
+    nets: &[NetId],
+    links: &[Link],
+    width: u32,
+    tap: u32,
+    kept: bool,
+) -> Result<NetId, NetFault>
+    requires low { 1 ≤ width }
+    requires high { width ≤ 64 }
+    requires near { tap < 8 → tap < length nets.now }
+    requires far { 8 ≤ tap → tap ≤ 4096 * length links.now }
+    requires delays { (x : ℕ) × AreDelays nl.old.cells width x nets.now }
+    requires links { 8 ≤ tap → (rst : ℕ) × (x : ℕ) × (reach : ℕ) × AreLinks nl.old.cells rst width x reach links.now × (tap ≤ reach) }
+    ensures adds { Adds nl.old nl.new (if nat_lt 0 tap then 4 else 0) 0 }
+    ensures full { IsFullAt result nl.new }
+    ensures tap { IfOk result (λ y. (rst x reach : ℕ) → AreDelays nl.old.cells width x nets.now → AreLinks nl.old.cells rst width x reach links.now → IsTap nl.new.cells rst width x tap y.0) }
+{
+    if tap < 8 {
+        return Ok(nets[tap as usize]);
+    }
+    far_tap(nl, links, width, tap, kept)
+}
+
+/// The words of `x`, as many clocks later as each tap says: from clock d after reset on, a tap of d has the word that `x`
+/// had d clocks before. Of the greatest tap A and the number n of taps above 0 it takes at most `8 * A + 4 * n` cells, and
+/// a memory for each 4,096 clocks of A where A is 8 or more.
+pub fn ring_line(
+    alloc: Global,
+    nl: &mut Netlist,
+    x: NetId,
+    taps: &[u32],
+    clocks: &mut Clocks,
+) -> Result<Tapped, NetFault>
+    requires belongs { Belongs clocks.old nl.old.cells }
+    requires net { IsNet nl.old.cells x.0 (width_of nl.old.cells x.0) }
+    requires few { length taps.now < 2 ^ 32 }
+    ensures belongs { Belongs clocks.new nl.new.cells }
+    ensures grows { Grows nl.old nl.new }
+    ensures cells { length nl.new.cells ≤ length nl.old.cells + line_cells taps.now }
+    ensures muls { count_of is_mul nl.new.cells ≡ count_of is_mul nl.old.cells }
+    ensures memories { count_of is_memory nl.new.cells ≤ count_of is_memory nl.old.cells + rings (greatest_of taps.now) }
+    ensures whole { OnOk result (AreWhole nl.old.cells → AreWhole nl.new.cells) }
+    ensures full { IsFullAt result nl.new }
+    ensures keeps { KeepsCounters clocks.old clocks.new }
+    ensures taps { IfOk result (λ nets. AreTaps nl.new.cells clocks.old.rst (width_of nl.old.cells x.0) x.0 taps.now nets) }
+{
+    let width = width_at(nl, x);
+    let most = greatest(taps);
+    let near = nearest(taps);
+    let nets = chain(alloc, nl, x, width, near)?;
+    let mut spare = 7 - near;
+    let links = far_row(alloc, nl, clocks, x, width, most, spare)?;
+    spare = spare.saturating_sub(most.saturating_sub(1) / 4096);
+    let mut tapped = Vec::new(alloc);
+    for tap in taps {
+        let net = tap_at(nl, &nets, &links, width, *tap, spare > 0)?;
+        spare = spare.saturating_sub((*tap / 8).min(1));
+        keep(&mut tapped, net)?;
     }
     Ok(Tapped { nets: tapped })
 }

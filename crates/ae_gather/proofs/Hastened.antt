@@ -1,8 +1,8 @@
 -- Trips whose columns are chosen a clock early.
-use Rattle.std.proofs.Common.{ℕ, zero, suc, ◌≡◌, ◌+◌, ◌-◌, ◌*◌, ◌<◌, ◌≤◌, min, max, fold, nat_eq, cond, filter, true, false, Bool, List, ◌∷◌, [], length, map, sum_by, Some, None, slice_get, get_or, arith, refl, sym, ap, ◌∙◌, inl, inr}
+use Rattle.std.proofs.Common.{ℕ, zero, suc, ◌≡◌, ◌+◌, ◌-◌, ◌<◌, ◌≤◌, max, fold, nat_eq, cond, true, false, Bool, List, ◌∷◌, [], map, Some, slice_get, arith, refl, sym, ap, ◌∙◌}
 use Rattle.std.proofs.lemmas.List.Sums.{sum_by-le-sum_by}
 use Rattle.std.specs.List.{range_with_len}
-use Rattle.std.proofs.lemmas.Bool.{cases_eq, eqb-true}
+use Rattle.std.proofs.lemmas.Bool.{eqb-true}
 use Rattle.ae_netlist.specs.declared.cell.NetId.{NetId}
 use Rattle.ae_netlist.specs.declared.cell.SizedCell.{SizedCell}
 use Rattle.ae_sttype.specs.Moves.{ChoiceTree, TripTree, delayed, always, age_from, changes_after, choice_from, choices_of, column_delay, delay_of, runs_of, same_choice, stretches}
@@ -13,7 +13,7 @@ use Rattle.ae_moves.specs.Trees.{source_tree, trip_tree}
 use Rattle.ae_moves.proofs.Lists.{get_mapped}
 use Rattle.ae_gather.specs.Plans.{AreInOrder, AreUsed, AreWithin, IsIn}
 use Rattle.ae_gather.specs.Laws.{AreFitting, FitsColumn}
-use Rattle.ae_gather.specs.Early.{AreInTime, hastened, hastened_source, is_early, next_source}
+use Rattle.ae_gather.specs.Early.{AreInTime, hastened, hastened_source, is_early}
 use Rattle.ae_gather.proofs.Counting.{same_only, same_self}
 
 -- ---- the same trips otherwise
@@ -79,9 +79,12 @@ greatest_hastened d q a b early (t ∷ trips) l =
     let here : age_from d q t.clock (source_tree (hastened_source (is_early early t.column) t.source)) ≤ age_from d q t.clock (source_tree t.source) = age_hastened d q t.clock (is_early early t.column) t.source in
     greatest_hastened d q (max a (age_from d q t.clock (source_tree (hastened_source (is_early early t.column) t.source)))) (max b (age_from d q t.clock (source_tree t.source))) early trips (omega arith)
 
+pub column_hastened : (d q : ℕ) (early : List Bool) (trips : List Trip) → column_delay d q (map trip_tree (map (hastened early) trips)) ≤ column_delay d q (map trip_tree trips)
+column_hastened d q early trips = greatest_hastened d q 0 0 early trips (omega arith)
+
 pub delay_hastened : (d ins : ℕ) (early : List Bool) (trips : List Trip) → delay_of d ins (map trip_tree (map (hastened early) trips)) ≤ delay_of d ins (map trip_tree trips)
 delay_hastened d ins early trips =
-    sum_by-le-sum_by (λ q. column_delay d q (map trip_tree (map (hastened early) trips))) (λ q. column_delay d q (map trip_tree trips)) (range_with_len 0 ins) (λ q. greatest_hastened d q 0 0 early trips (omega arith))
+    sum_by-le-sum_by (λ q. column_delay d q (map trip_tree (map (hastened early) trips))) (λ q. column_delay d q (map trip_tree trips)) (range_with_len 0 ins) (λ q. column_hastened d q early trips)
 
 -- ---- no column has more runs
 

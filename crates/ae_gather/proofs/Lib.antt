@@ -12,3 +12,4 @@ pub mod Typed
 pub mod OneList
 pub mod GatherLaw
 pub mod CodeLaws
+pub mod Memories

@@ -1,20 +1,19 @@
 -- Columns that choose by phases make each trip of each block.
-use Rattle.std.proofs.Common.{ℕ, ◌≡◌, ◌+◌, ◌-◌, ◌*◌, ◌/◌, ◌%◌, ◌<◌, ◌≤◌, List, [], length, Some, slice_get, get_or, arith, refl, ap, ◌∙◌}
+use Rattle.std.proofs.Common.{ℕ, ◌≡◌, ◌+◌, ◌-◌, ◌*◌, ◌/◌, ◌%◌, ◌<◌, ◌≤◌, List, length, arith, refl, ap, ◌∙◌}
 use Rattle.std.proofs.Math.Nat.{add-mul}
 use Rattle.std.proofs.lemmas.Nat.{mod-mul-add, div-add-mod'}
-use Rattle.std.proofs.lemmas.Option.{slice_get_within, slice_get-get_or}
 use Rattle.ae_netlist.specs.declared.cell.NetId.{NetId}
 use Rattle.ae_netlist.specs.declared.cell.SizedCell.{SizedCell}
-use Rattle.ae_netlist.specs.Circuit.{IsNet, Extends}
+use Rattle.ae_netlist.specs.Circuit.{Extends}
 use Rattle.ae_netlist.specs.Runs.{Clock, word_at, IsRun, IsReset}
 use Rattle.ae_clocked.specs.Phases.{phase_of, IsCounter}
 use Rattle.ae_moves.specs.declared.trip.Source.{Source}
 use Rattle.ae_moves.specs.declared.trip.Source.TheVariants.{Place, Fixed}
 use Rattle.ae_moves.specs.declared.trip.Trip.{Trip}
 use Rattle.ae_gather.specs.declared.trips.Step.{Step}
-use Rattle.ae_gather.specs.Plans.{choice_from, choice_of, choice_in, IsReached, AreWithin, IsPlan}
+use Rattle.ae_gather.specs.Plans.{choice_from, choice_of, choice_in, IsReached}
 use Rattle.ae_gather.specs.Columns.{net_of, age_of, taken, IsColumn}
-use Rattle.ae_gather.specs.Laws.{sourced, MakesTrips, AreColumns}
+use Rattle.ae_gather.specs.Laws.{sourced}
 
 -- the phase of clock k of a block, where phase 0 is the first clock of the blocks that begin at s
 pub phase_in_block : (p s b k : ℕ) → k < p → phase_of p (s % p) (s + b * p + k) ≡ k

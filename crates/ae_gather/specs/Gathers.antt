@@ -2,10 +2,11 @@
 use Rattle.std.specs.Prelude.{◌≡◌, ℕ, ◌+◌, ◌*◌, ◌%◌, List, [], map, sum_by, Some, slice_get, slice_index, slice_index_or}
 use Rattle.ae_word.specs.AtomTree.{unsigned_word}
 use Rattle.ae_sttype.specs.declared.st_type.StType.{StType}
-use Rattle.ae_sttype.specs.StTree.{StTree, atom, sseq, st_tree, time, st_atoms, element_atom, element_words}
+use Rattle.ae_sttype.specs.StTree.{StTree, atom, sseq, st_tree, time, element_words}
 use Rattle.ae_sttype.specs.Moves.{OriginTree, from_input, fixed, columns_of, delay_of, runs_of}
 use Rattle.ae_ops.specs.Blocks.{Part, stream_of}
 use Rattle.ae_moves.specs.Origins.{Move, move_trips, move_latency, width_at}
+use Rattle.ae_moves.specs.Rings.{mems_of}
 
 -- what contracts see of a gather
 pub record Layouts : Type 0 where
@@ -31,7 +32,7 @@ gather_part m = record {
   means = λ vs. map (origin_word m.ins vs) m.origins;
   most_cells = 16 * (move_latency m + delay_of (move_latency m) (sum_by columns_of m.ins) (move_trips m) + runs_of (move_latency m) (columns_of m.out) (move_trips m));
   products = 0;
-  most_memories = 0;
+  most_memories = mems_of (time m.out) (move_latency m) (sum_by columns_of m.ins) (move_trips m);
 }
 
 -- the widths of the columns of a layout

@@ -3,15 +3,16 @@
 ghost use Rattle.std.specs.Prelude.{◌≡◌, ◌≢◌, ◌<◌, ◌≤◌, ◌+◌, ◌*◌, sum_by, min, ◌^◌, ◌∷◌, ◌++◌, [], ℕ, List, length, map, Err, IfOk, OnOk, Some, slice_get};
 ghost use Rattle.ae_sttype.specs.Moves.{delay_of, runs_of};
 ghost use Rattle.ae_netlist.specs.declared.cell.NetId.{NetId as Net};
-ghost use Rattle.ae_netlist.specs.Circuit.{IsNet};
+ghost use Rattle.ae_netlist.specs.Circuit.{IsNet, width_of};
 ghost use Rattle.ae_netlist.specs.Counts.{AreWhole, count_of, is_memory, is_mul};
 ghost use Rattle.ae_clocked.specs.Signals.{Adds, Grows, IsFullAt};
 ghost use Rattle.ae_clocked.specs.Phases.{Belongs, KeepsCounters};
-ghost use Rattle.ae_clocked.specs.Delays.{greatest_of, line_cells};
+ghost use Rattle.ae_clocked.specs.Delays.{AreTaps, greatest_of, line_cells};
 ghost use Rattle.ae_gather.specs.declared.trips.Step.{Step as Part};
 ghost use Rattle.ae_gather.specs.Early.{AreInTime, counter_for, hastened, is_early};
-ghost use Rattle.ae_gather.specs.Plans.{AreInOrder, AreUsed, AreWithin, IsPlan, choice_in, steps_cells};
+ghost use Rattle.ae_gather.specs.Plans.{AreInOrder, AreUsed, AreWithin, IsPlan, choice_in, line_mems, lines_mems, steps_cells};
 ghost use Rattle.ae_gather.specs.Columns.{AreReady, IsPhaseNet, net_of};
+ghost use Rattle.ae_moves.specs.Rings.{mems_of};
 ghost use Rattle.ae_moves.specs.Trees.{trip_tree};
 ghost use Rattle.ae_moves.specs.declared.trip.Trip.{Trip as Way};
 ghost use Rattle.ae_gather.specs.Laws.{AreColumns, AreFitting, AreLines, MakesTrips};
@@ -21,7 +22,7 @@ use crate::counters::{counter_for, counters};
 use crate::early::{Schedule, scheduled};
 use crate::plan::{Ages, Steps};
 use crate::trips::Counters;
-use ae_clocked::{Clocks, Tapped, line};
+use ae_clocked::{Clocks, Tapped, line, ring_line};
 use ae_moves::Trip;
 use ae_netlist::{NetFault, NetId, Netlist};
 use std::alloc::Global;
@@ -46,6 +47,36 @@ fn keep_net(nets: &mut Vec<NetId>, net: NetId) -> Result<(), NetFault>
     }
 }
 
+/// The delay line of an input column: of registers alone where one of them would hold all its words, and else with rings for
+/// what is far.
+fn one_line(
+    alloc: Global,
+    nl: &mut Netlist,
+    clocks: &mut Clocks,
+    x: NetId,
+    ages: &[u32],
+    held: bool,
+) -> Result<Tapped, NetFault>
+    requires belongs { Belongs clocks.old nl.old.cells }
+    requires net { IsNet nl.old.cells x.0 (width_of nl.old.cells x.0) }
+    requires few { length ages.now < 2 ^ 32 }
+    ensures belongs { Belongs clocks.new nl.new.cells }
+    ensures keeps { KeepsCounters clocks.old clocks.new }
+    ensures grows { Grows nl.old nl.new }
+    ensures cells { length nl.new.cells ≤ length nl.old.cells + line_cells ages.now }
+    ensures muls { count_of is_mul nl.new.cells ≡ count_of is_mul nl.old.cells }
+    ensures memories { count_of is_memory nl.new.cells ≤ count_of is_memory nl.old.cells + line_mems held ages.now }
+    ensures whole { OnOk result (AreWhole nl.old.cells → AreWhole nl.new.cells) }
+    ensures full { IsFullAt result nl.new }
+    ensures taps { IfOk result (λ nets. AreTaps nl.new.cells clocks.old.rst (width_of nl.old.cells x.0) x.0 ages.now nets) }
+{
+    if held {
+        line(alloc, nl, x, ages, clocks)
+    } else {
+        ring_line(alloc, nl, x, ages, clocks)
+    }
+}
+
 /// A delay line for each input column.
 fn all_lines(
     alloc: Global,
@@ -53,24 +84,26 @@ fn all_lines(
     clocks: &mut Clocks,
     ins: &[NetId],
     ages: &[Ages],
+    held: &[bool],
 ) -> Result<Vec<Tapped>, NetFault>
     requires belongs { Belongs clocks.old nl.old.cells }
     requires nets { (q : ℕ) → q < length ins.now → (w : ℕ) × IsNet nl.old.cells (net_of ins.now q) w }
     requires long { length ages.now ≡ length ins.now }
+    requires held { length held.now ≡ length ages.now }
     requires few { (q : ℕ) (all : List ℕ) → slice_get ages.now q ≡ Some all → length all < 2 ^ 32 }
     ensures belongs { Belongs clocks.new nl.new.cells }
     ensures keeps { KeepsCounters clocks.old clocks.new }
     ensures grows { Grows nl.old nl.new }
     ensures cells { length nl.new.cells ≤ length nl.old.cells + sum_by line_cells ages.now }
     ensures muls { count_of is_mul nl.new.cells ≡ count_of is_mul nl.old.cells }
-    ensures memories { count_of is_memory nl.new.cells ≡ count_of is_memory nl.old.cells }
+    ensures memories { count_of is_memory nl.new.cells ≤ count_of is_memory nl.old.cells + lines_mems held.now ages.now }
     ensures whole { OnOk result (AreWhole nl.old.cells → AreWhole nl.new.cells) }
     ensures full { IsFullAt result nl.new }
     ensures lines { IfOk result (λ lines. AreLines nl.new.cells clocks.old.rst ins.now ages.now lines.items) }
 {
     let mut lines = Vec::new(alloc);
     for q in 0..ages.len() {
-        let tapped = line(alloc, nl, ins[q], ages[q].all(), clocks)?;
+        let tapped = one_line(alloc, nl, clocks, ins[q], ages[q].all(), held[q])?;
         keep_line(&mut lines, tapped)?;
     }
     Ok(lines)
@@ -154,6 +187,7 @@ fn build_plan(
     requires moved { schedule.now.moved.items ≡ map (hastened schedule.now.early.items) trips.now }
     requires lines { length schedule.now.plan.lines.items ≡ length ins.now }
     requires columns { length schedule.now.plan.columns.items ≡ length widths.now }
+    requires held { length schedule.now.held.items ≡ length ins.now }
     requires plan { IsPlan d schedule.now.moved.items schedule.now.plan.lines.items schedule.now.plan.columns.items }
     requires taps { (q : ℕ) (ages : List ℕ) → slice_get schedule.now.plan.lines.items q ≡ Some ages → length ages ≤ length trips.now }
     ensures belongs { Belongs clocks.new nl.new.cells }
@@ -161,7 +195,7 @@ fn build_plan(
     ensures grows { Grows nl.old nl.new }
     ensures cells { length nl.new.cells ≤ length nl.old.cells + (12 * min 2 (length widths.now) + sum_by line_cells schedule.now.plan.lines.items + sum_by steps_cells schedule.now.plan.columns.items + 3 * length schedule.now.plan.columns.items) }
     ensures muls { count_of is_mul nl.new.cells ≡ count_of is_mul nl.old.cells }
-    ensures memories { count_of is_memory nl.new.cells ≡ count_of is_memory nl.old.cells }
+    ensures memories { count_of is_memory nl.new.cells ≤ count_of is_memory nl.old.cells + lines_mems schedule.now.held.items schedule.now.plan.lines.items }
     ensures whole { OnOk result (AreWhole nl.old.cells → AreWhole nl.new.cells) }
     ensures full { IsFullAt result nl.new }
     ensures long { IfOk result (λ out. length out.items ≡ length widths.now) }
@@ -170,7 +204,7 @@ fn build_plan(
 {
     let limit = limit_of(trips, period);
     let counters = counters(nl, clocks, &schedule.early, period, d, arrival, limit)?;
-    let lines = all_lines(alloc, nl, clocks, ins, &schedule.plan.lines)?;
+    let lines = all_lines(alloc, nl, clocks, ins, &schedule.plan.lines, &schedule.held)?;
     let out = all_columns(
         alloc,
         nl,
@@ -216,7 +250,7 @@ pub fn gather(
     ensures grows { Grows nl.old nl.new }
     ensures cells { length nl.new.cells ≤ length nl.old.cells + 16 * (d + delay_of d (length ins.now) (map trip_tree trips.now) + runs_of d (length widths.now) (map trip_tree trips.now)) }
     ensures muls { count_of is_mul nl.new.cells ≡ count_of is_mul nl.old.cells }
-    ensures memories { count_of is_memory nl.new.cells ≡ count_of is_memory nl.old.cells }
+    ensures memories { count_of is_memory nl.new.cells ≤ count_of is_memory nl.old.cells + mems_of period d (length ins.now) (map trip_tree trips.now) }
     ensures whole { OnOk result (AreWhole nl.old.cells → AreWhole nl.new.cells) }
     ensures full { IsFullAt result nl.new }
     ensures long { IfOk result (λ out. length out.items ≡ length widths.now) }
@@ -229,6 +263,7 @@ pub fn gather(
         d,
         ins.len() as u32,
         widths.len() as u32,
+        period,
         alone,
     ) {
         Ok(schedule) => schedule,

@@ -1,7 +1,7 @@
 // The steps of each output column, and the ages with which each input column is used.
 
 ghost use Rattle.std.specs.Prelude.{◌≡◌, ◌<◌, ◌≤◌, ◌+◌, ◌-◌, ◌^◌, ◌∷◌, ◌++◌, [], ℕ, List, length, map, sum_by, IfOk, OnOk, IsTrue, ◌↔◌, Some, slice_get};
-ghost use Rattle.ae_sttype.specs.Moves.{delay_of, runs_of};
+ghost use Rattle.ae_sttype.specs.Moves.{column_delay, delay_of, runs_of};
 ghost use Rattle.ae_clocked.specs.Delays.{greatest_of};
 ghost use Rattle.ae_gather.specs.declared.trips.Step.{Step as Part};
 ghost use Rattle.ae_gather.specs.Plans.{choice_of, choice_from, IsReached, AreInOrder, AreWithin, IsPlan, demanded, IsInLines};
@@ -173,6 +173,7 @@ pub fn planned(
     ensures plan { IfOk result (λ p. IsPlan d trips.now p.lines.items p.columns.items) }
     ensures runs { IfOk result (λ p. sum_by length p.columns.items ≡ runs_of d outs (map trip_tree trips.now)) }
     ensures delay { IfOk result (λ p. sum_by greatest_of p.lines.items ≤ delay_of d ins (map trip_tree trips.now)) }
+    ensures ages { IfOk result (λ p. (q : ℕ) (ages : List ℕ) → slice_get p.lines.items q ≡ Some ages → greatest_of ages ≤ column_delay d q (map trip_tree trips.now)) }
     ensures taps { IfOk result (λ p. sum_by length p.lines.items ≤ sum_by length p.columns.items) }
     ensures few { IfOk result (λ p. (q : ℕ) (ages : List ℕ) → slice_get p.lines.items q ≡ Some ages → length ages ≤ length trips.now) }
 {

@@ -97,7 +97,7 @@ fold_is known budget copies n m op x raw a s one fits is_raw spread fills some =
           let e : element_columns t * (m - 1 + where_many n 1) ≡ p = ap (λ c. c * (m - 1 + where_many n 1)) columns in
           let none : (if is_product op then element_columns t * (m - 1 + where_many n 1) else 0) + 0 ≡ (if is_product op then element_columns t * (m - 1 + where_many n 1) else 0) = omega arith in
           none ∙ (where_product op (element_columns t * (m - 1 + where_many n 1)) ∙ ap (where_mul op) e);
-      memories = refl;
+      memories = omega arith;
     }
 
 -- ---- scans
@@ -132,5 +132,5 @@ scan_is known budget copies n m op x a s arranged fits spread =
       means = λ vs words. scanned_as op t s (n * m) (layout_words s / (n * m)) (slice_index_or vs 0 []) (sym atom) (sym size);
       cells = omega (arith, loads);
       products = where_product op (joins (levels_up m) (element_columns t)) ∙ ap (where_mul op) (ap (λ l. joins l (element_columns t)) log ∙ ap (joins (log_up m)) (sym columns));
-      memories = refl;
+      memories = omega arith;
     }

@@ -49,7 +49,7 @@ word_is known budget copies args arg s op fits = record {
   means = λ vs words. refl;
   cells = omega arith;
   products = where_product op 1;
-  memories = refl;
+  memories = omega arith;
 }
 
 pub move_is : (known : List Callee) (budget copies : ℕ) (a s : StTree) (how : MoveOp) → time s ≡ budget → IsOpPart known budget copies (a ∷ []) a s (move how) (gather_part (op_move how a s))
@@ -61,7 +61,7 @@ move_is known budget copies a s how fills = record {
   means = λ vs words. refl;
   cells = omega arith;
   products = refl;
-  memories = refl;
+  memories = omega arith;
 }
 
 -- ---- constants
@@ -108,5 +108,5 @@ constant_is known budget copies arg s ws fills = record {
   means = λ vs words. constant_words vs ws;
   cells = omega (arith, constant_latency ws s);
   products = refl;
-  memories = refl;
+  memories = omega arith;
 }

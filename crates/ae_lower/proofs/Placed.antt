@@ -316,7 +316,8 @@ call_adds old mid new copies f own t is muls mems a b =
     let en : own.mems ≡ copies * f.mems = ap (λ (o : OwnCosts). o.mems) is in
     adds_up (omega (arith, em, muls)) (omega (arith, en, mems)) (adds_trans a b)
 
-pub plain_adds : (old mid new : Circuit) (plain own : OwnCosts) (t : NodeTiming) → plain ≡ own → t.muls ≡ own.muls → Adds old mid 0 0 → Adds mid new plain.muls 0 → Adds old new t.muls t.mems
-plain_adds old mid new plain own t is muls a b =
+pub plain_adds : (old mid new : Circuit) (plain own : OwnCosts) (t : NodeTiming) → plain ≡ own → t.muls ≡ own.muls → t.mems ≡ own.mems → Adds old mid 0 0 → Adds mid new plain.muls plain.mems → Adds old new t.muls t.mems
+plain_adds old mid new plain own t is muls mems a b =
     let em : plain.muls ≡ own.muls = ap (λ (o : OwnCosts). o.muls) is in
-    adds_up (omega (arith, em, muls)) (omega arith) (adds_trans a b)
+    let en : plain.mems ≡ own.mems = ap (λ (o : OwnCosts). o.mems) is in
+    adds_up (omega (arith, em, muls)) (omega (arith, en, mems)) (adds_trans a b)

@@ -48,7 +48,7 @@ node_grows old new s n p does grows few = record { grows = grows; cells = omega 
 
 pub node_adds : {X E : Type 0} (r : Result X E) (old new : Circuit) (s : StFuncTree) (n : StNodeTree) (p : Part) → ((known : List Callee) → IsNodePart known s n p)
     → OnOk r (count_of is_mul new.cells ≡ count_of is_mul old.cells + p.products) → OnOk r (count_of is_memory new.cells ≤ count_of is_memory old.cells + p.most_memories)
-    → OnOk r (AreWhole old.cells → AreWhole new.cells) → OnOk r (Adds old new (plain_costs s n).muls 0)
+    → OnOk r (AreWhole old.cells → AreWhole new.cells) → OnOk r (Adds old new (plain_costs s n).muls (plain_costs s n).mems)
 node_adds r old new s n p does muls memories whole =
     all_ok r _ _ _ _ (λ a b c. record { muls = omega (arith, a, (does []).products); memories = omega (arith, b, (does []).memories); whole = c }) muls memories whole
 

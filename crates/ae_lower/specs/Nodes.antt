@@ -74,7 +74,7 @@ pub record IsOpPart (known : List Callee) (budget copies : ℕ) (args : List StT
   pub means : (vs : List (List ℕ)) → AllAreWords p.ins vs → p.means vs ≡ op_words known args s op vs
   pub cells : p.most_cells ≤ 16 * (op_costs [] arg s copies op).load
   pub products : p.products ≡ (op_costs [] arg s copies op).muls
-  pub memories : p.most_memories ≡ 0
+  pub memories : p.most_memories ≤ (op_costs [] arg s copies op).mems
 
 abbrev pub IsNodePart : (known : List Callee) → StFuncTree → StNodeTree → Part → Type 0
 IsNodePart known s n p = IsOpPart known s.budget n.copies (arguments_of s n) (item_layout (item_layouts s) (slice_index n.args 0)) n.type n.op p

@@ -45,7 +45,7 @@ fn place<S: Stage>(
     ensures belongs { Belongs clocks.new nl.new.cells }
     ensures keeps { KeepsCounters clocks.old clocks.new }
     ensures grows { GrowsBy nl.old nl.new (plain_costs (st_func_tree s.now) (st_node_tree node.now)).load }
-    ensures adds { OnOk result (Adds nl.old nl.new (plain_costs (st_func_tree s.now) (st_node_tree node.now)).muls 0) }
+    ensures adds { OnOk result (Adds nl.old nl.new (plain_costs (st_func_tree s.now) (st_node_tree node.now)).muls (plain_costs (st_func_tree s.now) (st_node_tree node.now)).mems) }
     ensures full { IsFullAt result nl.new }
     ensures built { IfOk result (λ y. (known : List Callee) → IsBuilt nl.new clocks.old.rst at (node_part known (plain_costs (st_func_tree s.now) (st_node_tree node.now)).latency (st_func_tree s.now) (st_node_tree node.now)) args.now y) }
 {
@@ -169,7 +169,7 @@ pub fn build(
     ensures belongs { Belongs clocks.new nl.new.cells }
     ensures keeps { KeepsCounters clocks.old clocks.new }
     ensures grows { GrowsBy nl.old nl.new (plain_costs (st_func_tree s.now) (st_node_tree node.now)).load }
-    ensures adds { OnOk result (Adds nl.old nl.new (plain_costs (st_func_tree s.now) (st_node_tree node.now)).muls 0) }
+    ensures adds { OnOk result (Adds nl.old nl.new (plain_costs (st_func_tree s.now) (st_node_tree node.now)).muls (plain_costs (st_func_tree s.now) (st_node_tree node.now)).mems) }
     ensures full { IsFullAt result nl.new }
     ensures built { IfOk result (λ y. (known : List Callee) → IsBuilt nl.new clocks.old.rst at (node_part known (plain_costs (st_func_tree s.now) (st_node_tree node.now)).latency (st_func_tree s.now) (st_node_tree node.now)) args.now y) }
 {

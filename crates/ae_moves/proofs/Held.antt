@@ -6,10 +6,10 @@ use Rattle.std.proofs.lemmas.List.Elements.{filter_more}
 use Rattle.std.proofs.lemmas.List.Sums.{sum_by_push}
 use Rattle.std.proofs.lemmas.List.Folds.{list_all-append}
 use Rattle.std.proofs.lemmas.Bool.{cases_eq, cases_lt, eq-eqb, ne_eqb}
-use Rattle.ae_sttype.specs.Moves.{TripTree, SourceTree, place, constant, is_in_column, source_clock, uses_of, are_held, column_delay, IsReached}
+use Rattle.ae_sttype.specs.Moves.{TripTree, SourceTree, place, constant, is_in_column, is_held, source_clock, uses_of, are_held, column_delay, IsReached}
 use Rattle.ae_moves.specs.declared.mems.Usage.{Usage}
 use Rattle.ae_moves.specs.Rings.{rings, column_mems}
-use Rattle.ae_moves.specs.Usages.{AreUsages, usage_mems, usage_of, use_from, used}
+use Rattle.ae_moves.specs.Usages.{AreUsages, usage_held, usage_mems, usage_of, use_from, used}
 
 and_true : (b : Bool) → (b && true) ≡ b
 and_true true = refl
@@ -113,6 +113,25 @@ mems_used period d q trips (x ∷ xs) u age own is ages = rw (is, own, ages) ref
 
 pub mems_is : (period d q : ℕ) (trips : List TripTree) (u : Option Usage) (age : ℕ) → u ≡ usage_of period d (uses_of q trips) → age ≡ column_delay d q trips → usage_mems u age ≡ column_mems period d q trips
 mems_is period d q trips u age is ages = mems_used period d q trips (uses_of q trips) u age refl is ages
+
+-- whether a column is held
+held_used : (period d : ℕ) (uses : List TripTree) → usage_held (usage_of period d uses) ≡ are_held period d uses
+held_used period d [] = refl
+held_used period d (x ∷ xs) = refl
+
+pub held_is : (period d q : ℕ) (trips : List TripTree) (u : Option Usage) → u ≡ usage_of period d (uses_of q trips) → usage_held u ≡ is_held period d q trips
+held_is period d q trips u is = ap usage_held is ∙ held_used period d (uses_of q trips)
+
+pub push_before : (xs : List Bool) (x : Bool) (p : ℕ) → p < length xs → get_or (xs ++ x ∷ []) p false ≡ get_or xs p false
+push_before [] x p l = absurd (omega arith)
+push_before (y ∷ xs) x zero l = refl
+push_before (y ∷ xs) x (suc p) l = push_before xs x p (omega arith)
+
+pub push_last : (xs : List Bool) (x : Bool) (p : ℕ) → length xs ≡ p → get_or (xs ++ x ∷ []) p false ≡ x
+push_last [] x zero e = refl
+push_last [] x (suc p) e = absurd (omega arith)
+push_last (y ∷ xs) x zero e = absurd (omega arith)
+push_last (y ∷ xs) x (suc p) e = push_last xs x p (omega arith)
 
 -- the memories of the first columns
 range_more : (a n : ℕ) → range_with_len a (n + 1) ≡ range_with_len a n ++ (a + n) ∷ []

@@ -1,5 +1,5 @@
 -- The memories of a move's delay lines.
-use Rattle.std.specs.Prelude.{ℕ, ◌+◌, ◌/◌, List, nat_lt, if◌then◌else◌, sum_by}
+use Rattle.std.specs.Prelude.{◌≡◌, ℕ, ◌+◌, ◌/◌, ◌<◌, Bool, false, List, length, get_or, nat_lt, if◌then◌else◌, sum_by}
 use Rattle.std.specs.List.{range_with_len}
 use Rattle.ae_sttype.specs.Moves.{TripTree, column_delay, is_held}
 
@@ -14,3 +14,8 @@ column_mems period d q trips = if is_held period d q trips then 0 else rings (co
 -- those of so many columns
 abbrev pub mems_of : (period d columns : ℕ) → List TripTree → ℕ
 mems_of period d columns trips = sum_by (λ q. column_mems period d q trips) (range_with_len 0 columns)
+
+-- which of so many columns are held
+pub record AreHeld (period d columns : ℕ) (trips : List TripTree) (held : List Bool) : Type 0 where
+  pub long : length held ≡ columns
+  pub each : (q : ℕ) → q < columns → get_or held q false ≡ is_held period d q trips

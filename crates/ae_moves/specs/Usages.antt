@@ -1,5 +1,5 @@
 -- How the words of an input column are taken, use by use.
-use Rattle.std.specs.Prelude.{◌≡◌, ℕ, ◌+◌, ◌-◌, ◌<◌, List, [], ◌∷◌, length, Option, Some, None, ◌&&◌, ◌==◌, nat_le, if◌then◌else◌, slice_index_or, slice_set}
+use Rattle.std.specs.Prelude.{◌≡◌, ℕ, ◌+◌, ◌-◌, ◌<◌, List, [], ◌∷◌, length, Option, Some, None, Bool, false, ◌&&◌, ◌==◌, nat_le, if◌then◌else◌, slice_index_or, slice_set}
 use Rattle.ae_sttype.specs.Moves.{SourceTree, place, constant, TripTree, source_clock, are_held, uses_of}
 use Rattle.ae_moves.specs.declared.mems.Usage.{Usage}
 use Rattle.ae_moves.specs.Rings.{rings}
@@ -23,6 +23,10 @@ usage_of p d (t ∷ ts) = Some (record { clock = source_clock t.source; held = a
 pub record AreUsages (period d columns : ℕ) (trips : List TripTree) (us : List (Option Usage)) : Type 0 where
   pub long : length us ≡ columns
   pub each : (q : ℕ) → q < columns → slice_index_or us q None ≡ usage_of period d (uses_of q trips)
+
+abbrev pub usage_held : Option Usage → Bool
+usage_held None = false
+usage_held (Some u) = u.held
 
 abbrev pub usage_mems : Option Usage → (age : ℕ) → ℕ
 usage_mems None a = rings a

@@ -3,8 +3,8 @@
 ghost use Rattle.std.specs.Prelude.{◌≡◌, ◌≤◌, ◌<◌, ◌^◌, All, IfOk, length};
 ghost use Rattle.ae_moves.specs.Trees.{source_tree, trip_tree, trip_trees};
 ghost use Rattle.ae_moves.specs.Trips.{AreAges, IsWithin};
-ghost use Rattle.ae_moves.specs.Rings.{mems_of, rings};
-ghost use Rattle.ae_moves.specs.Usages.{AreUsages, usage_mems, use_from, used};
+ghost use Rattle.ae_moves.specs.Rings.{AreHeld, mems_of, rings};
+ghost use Rattle.ae_moves.specs.Usages.{AreUsages, usage_held, usage_mems, use_from, used};
 
 use crate::trip::{Source, Trip};
 use std::alloc::{AllocError, Global};
@@ -25,6 +25,37 @@ pub fn rings(clocks: u32) -> u32
         0
     } else {
         (clocks - 1) / 4096 + 1
+    }
+}
+
+/// For each of so many input columns whether it is held: all words that are used of it stand in one clock, and none is used
+/// later than a period, so that one register holds them all. It takes time linear in trips and columns; an error comes only
+/// for want of memory.
+pub fn held_columns(
+    alloc: Global,
+    trips: &[Trip],
+    d: u32,
+    ins: u32,
+    period: u32,
+) -> Result<Vec<bool>, AllocError>
+    requires latency { d ≤ 4096 }
+    requires within { All (λ t. IsWithin d ins 4294967296 (trip_tree t)) trips.now }
+    ensures { IfOk result (λ v. AreHeld period d ins (trip_trees trips.now) v.items) }
+{
+    let usages = all_usages(alloc, trips, d, ins, period)?;
+    let mut held = Vec::new(alloc);
+    for q in 0..usages.len() {
+        held.push(is_held(usages[q]))?;
+    }
+    Ok(held)
+}
+
+fn is_held(usage: Option<Usage>) -> bool
+    ensures { result ≡ usage_held usage }
+{
+    match usage {
+        Some(usage) => usage.held,
+        None => false,
     }
 }
 

@@ -1,4 +1,4 @@
-use Rattle.std.proofs.Common.{◌≡◌, ◌≤◌, ◌<◌, Some, slice_get, get_or, ap, arith, ◌∙◌}
+use Rattle.std.proofs.Common.{◌≡◌, Some, slice_get, get_or, ap, arith, ◌∙◌}
 use Rattle.std.proofs.lemmas.Option.{slice_get-get_or, get_or_from_slice_get}
 use Rattle.ae_moves.specs.declared.trip.Choice.TheVariants.{Delayed}
 use Rattle.ae_gather.specs.declared.trips.Step.{Step}

@@ -1,4 +1,4 @@
-use Rattle.std.proofs.Common.{◌≡◌, ◌<◌, ◌≤◌, ℕ, Some, length, slice_get, take}
+use Rattle.std.proofs.Common.{◌≡◌, ◌<◌, ◌≤◌, Some, length, slice_get, take}
 use Rattle.ae_gather.specs.declared.trips.Step.{Step}
 use Rattle.ae_gather.specs.Plans.{choice_in}
 use Rattle.ae_gather.proofs.column.step_in.Given as goal

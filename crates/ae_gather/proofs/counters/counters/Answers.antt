@@ -1,5 +1,5 @@
 -- One counter or two.
-use Rattle.std.proofs.Common.{◌≡◌, ◌+◌, ◌-◌, ◌%◌, ◌≤◌, true, false, length, arith, rules, ap, ◌∙◌}
+use Rattle.std.proofs.Common.{◌≡◌, ◌+◌, ◌-◌, ◌%◌, ◌≤◌, false, length, arith, rules, ap, ◌∙◌}
 use Rattle.ae_clocked.proofs.Adding.{adds_most, adds_trans}
 use Rattle.ae_ops.proofs.Lateness.{keeps_trans}
 use Rattle.ae_gather.specs.Columns.{IsPhaseNet}

@@ -1,4 +1,4 @@
-use Rattle.std.proofs.Common.{◌≡◌, ◌≢◌, ◌<◌, ℕ, Some, slice_get}
+use Rattle.std.proofs.Common.{◌≢◌, ◌<◌, ℕ, Some, slice_get}
 use Rattle.ae_gather.proofs.counters.has.Given as goal
 
 abbrev pub invariant-loop-q : goal.invariant-loop-q

@@ -1,5 +1,5 @@
 -- One column more.
-use Rattle.std.proofs.Common.{◌≡◌, ◌+◌, length, slice_get, get_or, false, Some, refl, arith, rules}
+use Rattle.std.proofs.Common.{◌≡◌, ◌+◌, length, slice_get, get_or, Some, refl, arith, rules}
 use Rattle.std.proofs.lemmas.Option.{slice_get_read, slice_get-get_or}
 use Rattle.ae_clocked.proofs.Adding.{adds_most, adds_none, adds_trans}
 use Rattle.ae_clocked.specs.Signals.{Adds}

@@ -7,7 +7,7 @@ use Rattle.ae_moves.specs.declared.trip.Trip.{Trip}
 use Rattle.ae_gather.specs.declared.trips.Step.{Step}
 use Rattle.ae_gather.specs.Plans.{choice_of, demanded}
 use Rattle.ae_moves.specs.Trees.{choice_tree, trip_tree}
-use Rattle.ae_gather.proofs.Delays.{ages_more, ages_none, delay_le, in_lines, none_sum, taps_more}
+use Rattle.ae_gather.proofs.Delays.{ages_more, ages_none, column_le, delay_le, in_lines, none_sum, taps_more}
 use Rattle.ae_moves.proofs.Lists.{get_mapped}
 use Rattle.ae_gather.proofs.Planning.{next_step, planned_none, planned_same, planned_more, plan_whole}
 use Rattle.ae_gather.proofs.Counting.{choice_at, choice_is, counted_none, counted_same, counted_more, counts_whole, runs_sum, tree_same}
@@ -101,3 +101,6 @@ returns-clause-runs c =
 
 pub returns-clause-delay : goal.returns-clause-delay
 returns-clause-delay c = delay_le c.args.d c.args.ins c.args.trips.now c.loop-trip.lines.items c.loop-trip.invariant.plan.ins_all c.loop-trip.invariant.ages
+
+pub returns-clause-ages : goal.returns-clause-ages
+returns-clause-ages c = λ q ages found. column_le c.args.d q c.args.trips.now ages (λ j age f. c.loop-trip.invariant.ages.each q j age ages found f)

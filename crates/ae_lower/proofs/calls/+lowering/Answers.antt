@@ -355,7 +355,7 @@ lower_node-returns t c =
       grows = at_node (st_func_trees c.args.p.now) c.args.k c.args.j (st_func_tree c.instance-s.result.now) (st_node_tree c.index-node.result.now) h.timing (λ u. GrowsBy c.args.nl.now c.build.new.nl u.load) h.is_at
           (node_grows (st_func_trees c.args.p.now) c.args.k c.args.j c.args.at (st_func_tree c.instance-s.result.now) (st_node_tree c.index-node.result.now) c.arrivals_of-arrivals.result.now c.waits_of-waits.result.now c.args.nl.now.cells c.args.items.now c.args.nl.now c.joined.new.nl c.build.new.nl (plain_costs (st_func_tree c.instance-s.result.now) (st_node_tree c.index-node.result.now)).load h (c.requires.items (st_func_tree c.instance-s.result.now) h.func) ew (omega (arith, loads)) delays c.build.ensures.grows);
       adds = on_ok_weaker c.build.result (λ added. at_node (st_func_trees c.args.p.now) c.args.k c.args.j (st_func_tree c.instance-s.result.now) (st_node_tree c.index-node.result.now) h.timing (λ u. Adds c.args.nl.now c.build.new.nl u.muls u.mems) h.is_at
-          (plain_adds c.args.nl.now c.joined.new.nl c.build.new.nl (plain_costs (st_func_tree c.instance-s.result.now) (st_node_tree c.index-node.result.now)) (node_costs (all_costs (take c.args.k (st_func_trees c.args.p.now))) (item_layouts (st_func_tree c.instance-s.result.now)) (st_node_tree c.index-node.result.now)) h.timing same h.facts.muls c.in_ok-args.ensures.adds added)) c.build.ensures.adds;
+          (plain_adds c.args.nl.now c.joined.new.nl c.build.new.nl (plain_costs (st_func_tree c.instance-s.result.now) (st_node_tree c.index-node.result.now)) (node_costs (all_costs (take c.args.k (st_func_trees c.args.p.now))) (item_layouts (st_func_tree c.instance-s.result.now)) (st_node_tree c.index-node.result.now)) h.timing same h.facts.muls h.facts.mems c.in_ok-args.ensures.adds added)) c.build.ensures.adds;
       full = c.build.ensures.full;
       item = if_ok_more c.build.result _ _ (λ y built.
           let bare = built (callees (take c.args.k (st_func_trees c.args.p.now))) in

@@ -8,7 +8,7 @@ use Rattle.ae_moves.specs.Origins.{Move, move_trips}
 use Rattle.ae_gather.specs.Gathers.{AreWidths, move_of}
 use Rattle.ae_gather.specs.Joins.{AreJoined}
 use Rattle.ae_moves.proofs.Words.{columns_small, trips_few, latency_small}
-use Rattle.ae_gather.proofs.CodeLaws.{cells_as, columns_pos, firsts_at, law_as, nets_long, used_as, within_as}
+use Rattle.ae_gather.proofs.CodeLaws.{cells_as, columns_pos, firsts_at, law_as, mems_as, nets_long, used_as, within_as}
 use Rattle.ae_gather.proofs.GatherLaw.{fitting, flat_nets, out_nets}
 use Rattle.ae_gather.proofs.Typed.{in_order}
 use Rattle.ae_gather.proofs.stage.GatherStage.build.Goals as goal
@@ -113,3 +113,12 @@ returns-clause-law c =
     let joined : AreJoined c.args.ins.now c.deref-6.result.now c.in_ok-joined.joined.firsts.items = rw c.deref-6.ensures.value c.in_ok-joined.ensures.joined in
     rw (c.new.ensures, ← c.self.view_is)
     (law_as _ _ _ c.args.arrival m c.args.ins.now c.deref-6.result.now c.in_ok-joined.joined.firsts.items c.deref-8.result.now c.in_ok-nets.nets.items _ _ _ c.time-period.ensures d c.in_ok-nets.ensures.long widths c.self.invariant made joined trips c.in_ok-nets.ensures.trips)
+
+pub returns-clause-memories : goal.returns-clause-memories
+returns-clause-memories c =
+    let m : Move = move_of (record { ins = c.self.inside.ins.items; out = c.self.inside.out; origins = map origin_tree c.self.inside.source.items }) in
+    let made = rw (← c.self.view_is) at c.requires.bundles in
+    let trips : map trip_tree c.deref-8.result.now ≡ move_trips m = rw c.deref-8.ensures.value (rw (c.deref.ensures.value, c.deref-3.ensures.value) at c.in_ok-trips.ensures.trips) in
+    let d = rw (c.deref-4.ensures.value, c.deref-5.ensures.value) at c.latency-d.ensures in
+    let nets = ap length c.deref-6.ensures.value ∙ nets_long _ (map st_tree c.self.inside.ins.items) c.args.ins.now _ _ made c.in_ok-joined.ensures.joined in
+    rw (← c.self.view_is) (mems_as m c.deref-8.result.now _ _ _ _ _ c.time-period.ensures d nets trips c.in_ok-nets.ensures.memories)

@@ -1,0 +1,76 @@
+-- The taps of a line, one after another.
+use Rattle.std.proofs.Common.{ℕ, ◌≡◌, ◌+◌, ◌≤◌, ◌++◌, ◌∷◌, [], List, get_or, slice_get, Some, nat_lt, refl, arith}
+use Rattle.std.proofs.lemmas.Option.{slice_get-get_or}
+use Rattle.ae_clocked.specs.Delays.{AreDelays, IsTap}
+use Rattle.ae_clocked.proofs.Adding.{adds_most, adds_none, adds_trans}
+use Rattle.ae_clocked.proofs.Belonging.{belongs_grows}
+use Rattle.ae_clocked.proofs.Late.{below_greatest, taps_more, taps_none}
+use Rattle.ae_clocked.specs.Rows.{AreLinks}
+use Rattle.ae_clocked.proofs.InRow.{links_grow}
+use Rattle.ae_clocked.proofs.Lining.{count_more, count_part, delays_grow, far_within, room, taps_grow}
+use Rattle.ae_clocked.proofs.lines.ring_line.Goals as goal
+
+pub returns-in_err-nets-clause-belongs : goal.returns-in_err-nets-clause-belongs
+returns-in_err-nets-clause-belongs c = belongs_grows _ _ _ c.in_err-nets.ensures.adds.grows c.requires.belongs
+
+pub far_row-requires-clause-belongs : goal.far_row-requires-clause-belongs
+far_row-requires-clause-belongs c = belongs_grows _ _ _ c.in_ok-nets.ensures.adds.grows c.requires.belongs
+
+pub loop-tap-init : goal.loop-tap-init
+loop-tap-init c = record {
+  adds = adds_none _;
+  belongs = c.in_ok-links.ensures.belongs;
+  delays = delays_grow c.in_ok-links.ensures.adds.grows.extends c.in_ok-nets.ensures.delays;
+  links = c.in_ok-links.ensures.links;
+  taps = rw c.new-tapped.ensures.items (taps_none _ _ _ _);
+}
+
+pub tap_at-requires-clause-far : goal.tap_at-requires-clause-far
+tap_at-requires-clause-far c = λ far.
+    let small : get_or c.args.taps.now c.loop-tap.tap-index 0 ≤ c.greatest-most.result = rw c.greatest-most.ensures (below_greatest c.args.taps.now c.loop-tap.tap-index c.loop-tap-test.true) in
+    rw c.deref-in-loop-tap.ensures.value (far_within c.greatest-most.result _ _ far small c.in_ok-links.ensures.long)
+
+pub tap_at-requires-clause-links : goal.tap_at-requires-clause-links
+tap_at-requires-clause-links c = λ far.
+    let small : get_or c.args.taps.now c.loop-tap.tap-index 0 ≤ c.greatest-most.result = rw c.greatest-most.ensures (below_greatest c.args.taps.now c.loop-tap.tap-index c.loop-tap-test.true) in
+    (c.args.clocks.now.rst, c.args.x.0, c.greatest-most.result, rw c.deref-in-loop-tap.ensures.value c.loop-tap.invariant.links, small)
+
+pub returns-in_err-net-clause-belongs : goal.returns-in_err-net-clause-belongs
+returns-in_err-net-clause-belongs c = belongs_grows _ _ _ c.in_err-net.ensures.adds.grows c.loop-tap.invariant.belongs
+
+pub returns-in_err-keep-clause-belongs : goal.returns-in_err-keep-clause-belongs
+returns-in_err-keep-clause-belongs c = belongs_grows _ _ _ c.in_ok-net.ensures.adds.grows c.loop-tap.invariant.belongs
+
+pub returns-in_err-net-clause-cells : goal.returns-in_err-net-clause-cells
+returns-in_err-net-clause-cells c =
+    let count = count_more c.args.taps.now c.loop-tap.tap-index _ c.loop-tap-test.true refl in
+    let part = count_part (λ (t : ℕ). nat_lt 0 t) (c.loop-tap.tap-index + 1) c.args.taps.now in
+    let fits = room c.nearest-near.result c.greatest-most.result c.nearest-near.ensures.below (rw c.greatest-most.ensures c.nearest-near.ensures.least) in
+    rw (← c.greatest-most.ensures) (omega (arith, c.in_ok-nets.ensures.adds.cells, c.in_ok-links.ensures.adds.cells, c.loop-tap.invariant.adds.cells, c.in_err-net.ensures.adds.cells, count, part, fits))
+
+pub returns-in_err-keep-clause-cells : goal.returns-in_err-keep-clause-cells
+returns-in_err-keep-clause-cells c =
+    let count = count_more c.args.taps.now c.loop-tap.tap-index _ c.loop-tap-test.true refl in
+    let part = count_part (λ (t : ℕ). nat_lt 0 t) (c.loop-tap.tap-index + 1) c.args.taps.now in
+    let fits = room c.nearest-near.result c.greatest-most.result c.nearest-near.ensures.below (rw c.greatest-most.ensures c.nearest-near.ensures.least) in
+    rw (← c.greatest-most.ensures) (omega (arith, c.in_ok-nets.ensures.adds.cells, c.in_ok-links.ensures.adds.cells, c.loop-tap.invariant.adds.cells, c.in_ok-net.ensures.adds.cells, count, part, fits))
+
+pub loop-tap-preserved : goal.loop-tap-preserved
+loop-tap-preserved c =
+    let was = c.loop-tap.invariant in
+    let more = c.in_ok-net.ensures in
+    let taps : List ℕ = c.args.taps.now in
+    let tap : ℕ = get_or taps c.loop-tap.tap-index 0 in
+    let there : slice_get taps c.loop-tap.tap-index ≡ Some tap = slice_get-get_or taps c.loop-tap.tap-index 0 c.loop-tap-test.true in
+    let count = count_more taps c.loop-tap.tap-index tap c.loop-tap-test.true refl in
+    let delays : AreDelays c.loop-tap.nl.cells c.width_at-width.result c.args.x.0 c.deref.result.now = rw c.deref.ensures.value was.delays in
+    let links : AreLinks c.loop-tap.nl.cells c.args.clocks.now.rst c.width_at-width.result c.args.x.0 c.greatest-most.result c.deref-in-loop-tap.result.now = rw c.deref-in-loop-tap.ensures.value was.links in
+    let new : IsTap c.tap_at.new.nl.cells c.args.clocks.now.rst c.width_at-width.result c.args.x.0 tap c.in_ok-net.net.0 = more.tap c.args.clocks.now.rst c.args.x.0 c.greatest-most.result delays links in
+    let pushed : c.keep.new.nets.items ≡ c.loop-tap.tapped.items ++ c.in_ok-net.net ∷ [] = c.in_ok-keep.ensures.ok in
+    record {
+      adds = adds_most _ (omega (arith, count)) (adds_trans was.adds more.adds);
+      belongs = belongs_grows _ _ _ more.adds.grows was.belongs;
+      delays = delays_grow more.adds.grows.extends was.delays;
+      links = links_grow more.adds.grows.extends was.links;
+      taps = rw pushed (taps_more _ _ _ _ _ taps _ tap _ (taps_grow more.adds.grows.extends was.taps) there new);
+    }

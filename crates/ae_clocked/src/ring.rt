@@ -1,0 +1,162 @@
+// One ring: a memory that is written in every clock, round and round, and what is read from it.
+
+ghost use Rattle.std.specs.Prelude.{◌≡◌, ◌<◌, ◌≤◌, ◌+◌, ◌^◌, ℕ, length, IfOk, OnOk};
+ghost use Rattle.ae_netlist.specs.Circuit.{IsMemory, IsNet};
+ghost use Rattle.ae_netlist.specs.Runs.{InEveryRunFrom};
+ghost use Rattle.ae_clocked.specs.Signals.{Adds, IsFullAt};
+ghost use Rattle.ae_clocked.specs.Delays.{IsTap};
+ghost use Rattle.ae_clocked.specs.Phases.{Belongs, KeepsCounters};
+ghost use Rattle.ae_clocked.specs.Rings.{AddsMemories, HoldsRing, IsLook, IsRing, IsStore};
+
+use crate::clocks::Clocks;
+use crate::gates::{constant, delayed, sum};
+use ae_netlist::{Cell, NetFault, NetId, Netlist};
+
+/// A memory of 2 to `bits` words, and the counter of its places at which it is written.
+#[derive(Clone, Copy, Debug)]
+pub struct Ring {
+    pub memory: NetId,
+    pub counter: NetId,
+    pub bits: u32,
+}
+
+/// How many words a ring holds.
+fn places(bits: u32) -> u32
+    requires { bits ≤ 12 }
+    ensures holds { result ≡ 2 ^ bits }
+    ensures some { 1 ≤ result }
+    ensures most { result ≤ 4096 }
+{
+    1u32 << bits
+}
+
+/// Adds a memory that takes the word of `x` in every clock, at the place that `at` shows.
+fn store(nl: &mut Netlist, x: NetId, at: NetId, width: u32, bits: u32) -> Result<NetId, NetFault>
+    requires low { 1 ≤ width }
+    requires high { width ≤ 64 }
+    requires few { bits ≤ 12 }
+    requires net { IsNet nl.old.cells x.0 width }
+    requires place { IsNet nl.old.cells at.0 bits }
+    ensures adds { AddsMemories nl.old nl.new 2 1 }
+    ensures full { IsFullAt result nl.new }
+    ensures memory { IfOk result (λ m. IsMemory nl.new.cells m.0 width (2 ^ bits)) }
+    ensures store { IfOk result (λ m. InEveryRunFrom (length nl.old.cells) nl.new.cells (λ run. IsStore run m.0 at.0 x.0 (2 ^ bits))) }
+{
+    let always = constant(nl, 1, 1)?;
+    nl.formed();
+    let depth = places(bits);
+    let m = nl.memory(width, depth)?;
+    nl.connect_memory(m, at, x, always);
+    Ok(m)
+}
+
+/// Adds the word of a memory at the place that `at` shows.
+fn look(nl: &mut Netlist, m: NetId, at: NetId, width: u32, bits: u32) -> Result<NetId, NetFault>
+    requires low { 1 ≤ width }
+    requires high { width ≤ 64 }
+    requires memory { IsMemory nl.old.cells m.0 width (2 ^ bits) }
+    requires place { IsNet nl.old.cells at.0 bits }
+    ensures adds { Adds nl.old nl.new 1 0 }
+    ensures full { IsFullAt result nl.new }
+    ensures net { IfOk result (λ y. IsNet nl.new.cells y.0 width) }
+    ensures words { IfOk result (λ y. InEveryRunFrom (length nl.old.cells) nl.new.cells (λ run. IsLook run y.0 m.0 at.0)) }
+{
+    nl.formed();
+    nl.add(width, Cell::Peek { mem: m, at })
+}
+
+/// The word that `x` had `tap` clocks before, from a ring of `x`.
+fn behind(nl: &mut Netlist, ring: Ring, width: u32, tap: u32) -> Result<NetId, NetFault>
+    requires low { 1 ≤ width }
+    requires high { width ≤ 64 }
+    requires some { 1 ≤ ring.bits }
+    requires few { ring.bits ≤ 12 }
+    requires late { 1 ≤ tap }
+    requires within { tap ≤ 2 ^ ring.bits }
+    requires memory { IsMemory nl.old.cells ring.memory.0 width (2 ^ ring.bits) }
+    requires counter { IsNet nl.old.cells ring.counter.0 ring.bits }
+    ensures adds { Adds nl.old nl.new 3 0 }
+    ensures full { IsFullAt result nl.new }
+    ensures net { IfOk result (λ y. IsNet nl.new.cells y.0 width) }
+    ensures tap { IfOk result (λ y. (rst x : ℕ) → IsRing nl.old.cells rst ring.bits x ring.counter.0 ring.memory.0 → IsTap nl.new.cells rst width x tap y.0) }
+{
+    let all = places(ring.bits);
+    let back = constant(nl, ring.bits, u64::from(all - tap))?;
+    let place = sum(nl, ring.counter, back, ring.bits)?;
+    look(nl, ring.memory, place, width, ring.bits)
+}
+
+/// The same, read a clock before where it may be kept in a register, so that a memory with a registered output serves.
+pub fn ring_tap(
+    nl: &mut Netlist,
+    ring: Ring,
+    width: u32,
+    tap: u32,
+    kept: bool,
+) -> Result<NetId, NetFault>
+    requires low { 1 ≤ width }
+    requires high { width ≤ 64 }
+    requires some { 1 ≤ ring.bits }
+    requires few { ring.bits ≤ 12 }
+    requires late { 1 ≤ tap }
+    requires within { tap ≤ 2 ^ ring.bits }
+    requires memory { IsMemory nl.old.cells ring.memory.0 width (2 ^ ring.bits) }
+    requires counter { IsNet nl.old.cells ring.counter.0 ring.bits }
+    ensures adds { Adds nl.old nl.new 4 0 }
+    ensures full { IsFullAt result nl.new }
+    ensures net { IfOk result (λ y. IsNet nl.new.cells y.0 width) }
+    ensures tap { IfOk result (λ y. (rst x : ℕ) → IsRing nl.old.cells rst ring.bits x ring.counter.0 ring.memory.0 → IsTap nl.new.cells rst width x tap y.0) }
+{
+    if kept && tap > 1 {
+        let word = behind(nl, ring, width, tap - 1)?;
+        delayed(nl, word, width)
+    } else {
+        behind(nl, ring, width, tap)
+    }
+}
+
+/// The bits of a counter of a ring that reaches so far back: from 3 on, the least that hold as many places.
+fn bits_for(reach: u32) -> u32
+    requires { reach ≤ 4096 }
+    ensures low { 3 ≤ result }
+    ensures high { result ≤ 12 }
+    ensures enough { reach ≤ 2 ^ result }
+    ensures least { (v : ℕ) → 3 ≤ v → reach ≤ 2 ^ v → result ≤ v }
+{
+    for bits in 3..12u32 {
+        if reach <= 1u32 << bits {
+            return bits;
+        }
+    }
+    12
+}
+
+/// A ring of the words of a net that reaches so far back. Rings of one depth share their counter.
+pub fn make_ring(
+    nl: &mut Netlist,
+    clocks: &mut Clocks,
+    x: NetId,
+    width: u32,
+    reach: u32,
+) -> Result<Ring, NetFault>
+    requires belongs { Belongs clocks.old nl.old.cells }
+    requires low { 1 ≤ width }
+    requires high { width ≤ 64 }
+    requires most { reach ≤ 4096 }
+    requires net { IsNet nl.old.cells x.0 width }
+    ensures belongs { Belongs clocks.new nl.new.cells }
+    ensures keeps { KeepsCounters clocks.old clocks.new }
+    ensures adds { AddsMemories nl.old nl.new 14 1 }
+    ensures full { IsFullAt result nl.new }
+    ensures ring { IfOk result (λ ring. HoldsRing nl.new.cells clocks.old.rst width x.0 reach ring) }
+{
+    let bits = bits_for(reach);
+    let depth = places(bits);
+    let counter = clocks.phase(nl, depth, 0)?;
+    let memory = store(nl, x, counter, width, bits)?;
+    Ok(Ring {
+        memory,
+        counter,
+        bits,
+    })
+}

@@ -1,0 +1,90 @@
+// Rings in a row, for delays that one ring does not hold.
+
+ghost use Rattle.std.specs.Prelude.{◌≡◌, ◌≢◌, ◌<◌, ◌≤◌, ◌+◌, ◌*◌, ◌/◌, ◌++◌, ◌∷◌, [], ℕ, length, Err, IfOk, OnOk};
+ghost use Rattle.ae_netlist.specs.Circuit.{IsNet};
+ghost use Rattle.ae_clocked.specs.Signals.{Adds, IsFullAt};
+ghost use Rattle.ae_clocked.specs.Phases.{Belongs, KeepsCounters};
+ghost use Rattle.ae_clocked.specs.Delays.{IsTap};
+ghost use Rattle.ae_clocked.specs.Rings.{AddsMemories};
+ghost use Rattle.ae_clocked.specs.Rows.{AreLinks};
+
+use crate::clocks::Clocks;
+use crate::ring::{Ring, make_ring, ring_tap};
+use ae_netlist::{NetFault, NetId, Netlist};
+use std::alloc::Global;
+
+/// A ring in a row: the net whose words it keeps, and the ring.
+#[derive(Clone, Copy, Debug)]
+pub struct Link {
+    pub head: NetId,
+    pub ring: Ring,
+}
+
+fn keep_link(links: &mut Vec<Link>, link: Link) -> Result<(), NetFault>
+    ensures ok { OnOk result (links.new.items ≡ links.old.items ++ link ∷ []) }
+    ensures fault { result ≢ Err NetFault.Full }
+{
+    match links.push(link) {
+        Ok(()) => Ok(()),
+        Err(_) => Err(NetFault::Memory),
+    }
+}
+
+/// Rings in a row that reach so far back: each but the last holds 4,096 words and gives what it loses to the next. In the
+/// first `spare` of them what the next one takes is kept in a register.
+pub fn make_row(
+    alloc: Global,
+    nl: &mut Netlist,
+    clocks: &mut Clocks,
+    x: NetId,
+    width: u32,
+    reach: u32,
+    spare: u32,
+) -> Result<Vec<Link>, NetFault>
+    requires belongs { Belongs clocks.old nl.old.cells }
+    requires low { 1 ≤ width }
+    requires high { width ≤ 64 }
+    requires late { 1 ≤ reach }
+    requires net { IsNet nl.old.cells x.0 width }
+    ensures belongs { Belongs clocks.new nl.new.cells }
+    ensures keeps { KeepsCounters clocks.old clocks.new }
+    ensures adds { AddsMemories nl.old nl.new (18 * ((reach + 4095) / 4096)) ((reach + 4095) / 4096) }
+    ensures full { IsFullAt result nl.new }
+    ensures long { IfOk result (λ links. length links.items ≡ (reach + 4095) / 4096) }
+    ensures links { IfOk result (λ links. AreLinks nl.new.cells clocks.old.rst width x.0 reach links.items) }
+{
+    let last = (reach - 1) / 4096;
+    let mut links = Vec::new(alloc);
+    let mut head = x;
+    for j in 0..last {
+        let ring = make_ring(nl, clocks, head, width, 4096)?;
+        keep_link(&mut links, Link { head, ring })?;
+        head = ring_tap(nl, ring, width, 4096, j < spare)?;
+    }
+    let ring = make_ring(nl, clocks, head, width, reach - 4096 * last)?;
+    keep_link(&mut links, Link { head, ring })?;
+    Ok(links)
+}
+
+/// The word that a net had `tap` clocks before, from rings in a row that reach so far.
+pub fn far_tap(
+    nl: &mut Netlist,
+    links: &[Link],
+    width: u32,
+    tap: u32,
+    kept: bool,
+) -> Result<NetId, NetFault>
+    requires low { 1 ≤ width }
+    requires high { width ≤ 64 }
+    requires late { 1 ≤ tap }
+    requires long { tap ≤ 4096 * length links.now }
+    requires links { (rst : ℕ) × (x : ℕ) × (reach : ℕ) × AreLinks nl.old.cells rst width x reach links.now × (tap ≤ reach) }
+    ensures adds { Adds nl.old nl.new 4 0 }
+    ensures full { IsFullAt result nl.new }
+    ensures net { IfOk result (λ y. IsNet nl.new.cells y.0 width) }
+    ensures tap { IfOk result (λ y. (rst x reach : ℕ) → AreLinks nl.old.cells rst width x reach links.now → IsTap nl.new.cells rst width x tap y.0) }
+{
+    let place = (tap - 1) / 4096;
+    let link = links[place as usize];
+    ring_tap(nl, link.ring, width, tap - 4096 * place, kept)
+}
