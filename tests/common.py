@@ -1,5 +1,5 @@
 """What the scripts here share: the compiler and the other tools as functions, layouts by the report lines of a module, and
-test benches. AETH in the environment names another compiler to be tried than `./aeth`."""
+test benches. AETH and KIT in the environment name other programs to be tried than `./aeth` and `./aethkit`."""
 import concurrent.futures
 import os
 import pathlib
@@ -9,6 +9,7 @@ import subprocess
 
 TOP = pathlib.Path(__file__).resolve().parent.parent
 AETH = os.environ.get("AETH", TOP / "aeth")
+KIT = os.environ.get("KIT", TOP / "aethkit")
 NO_LAYOUT = 5  # the status of a refusal for want of a layout
 FILL = 77
 INCREMENT = """fn inc x:u8
@@ -147,13 +148,17 @@ def clocked_bench(module, rows):
     """A test bench of clocks: the words on the inputs behind `clk` in each, and whether the outputs are printed in it."""
     ins, outs = ports(module, "input")[1:], ports(module, "output")
     held = re.findall(r"^  reg (?:\[(\d+):0\] )?(\w+);$", module, re.M)
-    assert len(held) == len(re.findall(r"^  reg ", module, re.M)), "a memory, which this test bench cannot fill"
-    lines = ["module bench;", "  reg clk = 0;"]
+    stores = re.findall(r"^  reg (?:\[(\d+):0\] )?(\w+) \[0:(\d+)\];$", module, re.M)
+    assert len(held) + len(stores) == len(re.findall(r"^  reg ", module, re.M))
+    lines = ["module bench;", "  reg clk = 0;", "  integer place;"]
     lines += [f"  reg [{width - 1}:0] {name};" for name, width in ins]
     lines += [f"  wire [{width - 1}:0] {name};" for name, width in outs]
     joined = ", ".join(f".{name}({name})" for name, _ in [("clk", 1), *ins, *outs])
     lines += [f"  aeth dut({joined});", "  initial begin"]
     lines += [f"    dut.{name} = {int(high or 0) + 1}'d{FILL % 2 ** (int(high or 0) + 1)};" for high, name in held]
+    for high, name, last in stores:
+        word = f"{int(high or 0) + 1}'d{FILL % 2 ** (int(high or 0) + 1)}"
+        lines += [f"    for (place = 0; place <= {last}; place = place + 1) dut.{name}[place] = {word};"]
     form = " ".join(["%0d"] * len(outs))
     shown = ", ".join(name for name, _ in outs)
     for row, printed in rows:

@@ -11,18 +11,19 @@ import subprocess
 import sys
 import tempfile
 
-from common import AETH, TOP, side_by_side
+from common import AETH, KIT, TOP, side_by_side
 
 BLOCK = re.compile(r"^```console\n(.*?)^```$", re.M | re.S)
 TOOLS = {"iverilog", "vvp", "verilator", "yosys", "nextpnr-ice40", "icepack", "icetime"}
 
 
 def stand_in(folder):
-    """The repository's files by links, with the compiler that is to be tried."""
+    """The repository's files by links, with the programs that are to be tried."""
     for path in TOP.iterdir():
-        if path.name not in ("aeth", ".git"):
+        if path.name not in ("aeth", "aethkit", ".git"):
             (folder / path.name).symlink_to(path)
     (folder / "aeth").symlink_to(AETH)
+    (folder / "aethkit").symlink_to(KIT)
 
 
 def commands(block):

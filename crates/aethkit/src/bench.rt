@@ -1,0 +1,404 @@
+// A test bench for the module of a program.
+
+ghost use Rattle.std.specs.Prelude.{◌<◌, ◌≤◌, length, All, IfOk};
+
+use crate::blocks::{program_part, rows_part};
+use crate::fault::KitFault;
+use crate::items::layout_of;
+use crate::ports::{Bundle, Column, Role};
+use ae_compile::{Costed, LOAD_LIMIT, cost, main_func, main_instance};
+use ae_eval::{eval, fits};
+use ae_parse::read_rows;
+use ae_seqtype::Value;
+use ae_word::Atom;
+use std::alloc::{AllocError, Global};
+
+// The most words that are given and compared.
+const MOST_WORDS: u64 = 1_000_000;
+
+// A block: a value of each parameter, and what the program makes of them.
+#[derive(Drop)]
+struct Block {
+    given: Vec<Value>,
+    wanted: Vec<Value>,
+}
+
+// Words that look like chance, the same for the same seed.
+#[derive(Drop)]
+struct Chance {
+    state: u64,
+}
+
+impl Chance {
+    fn next(&mut self, width: u32) -> u64 {
+        let a = self.state ^ self.state.wrapping_shl(13);
+        let b = a ^ a.wrapping_shr(7);
+        self.state = b ^ b.wrapping_shl(17);
+        if width >= 64 {
+            return self.state;
+        }
+        self.state.wrapping_shr(64 - width.max(1))
+    }
+}
+
+// The parameters' ports.
+fn inputs<'a>(alloc: Global, costed: &'a Costed) -> Result<Vec<Bundle<'a>>, AllocError> {
+    let mut bundles = Vec::new(alloc);
+    for (number, layout) in main_instance(&costed.schedule).ins.iter().enumerate() {
+        bundles.push(Bundle {
+            layout,
+            number,
+            role: Role::Parameter,
+        })?;
+    }
+    Ok(bundles)
+}
+
+// The results' ports.
+fn outputs<'a>(alloc: Global, costed: &'a Costed) -> Result<Vec<Bundle<'a>>, AllocError> {
+    let s = main_instance(&costed.schedule);
+    let role = if s.results.len() == 1 {
+        Role::Result
+    } else {
+        Role::OneResult
+    };
+    let mut bundles = Vec::new(alloc);
+    for (number, item) in s.results.iter().enumerate() {
+        if let Some(layout) = layout_of(s, *item as usize) {
+            bundles.push(Bundle {
+                layout,
+                number,
+                role,
+            })?;
+        }
+    }
+    Ok(bundles)
+}
+
+// Adds the widths of the words of one element.
+fn push_widths(widths: &mut Vec<u32>, atom: &Atom) -> Result<(), AllocError> {
+    if !atom.in_size() {
+        return Ok(());
+    }
+    for word in 0..atom.words() {
+        widths.push(atom.width(word).unwrap_or(64).min(64))?;
+    }
+    Ok(())
+}
+
+// The widths of the words of a row.
+fn widths(alloc: Global, costed: &Costed) -> Result<Vec<u32>, AllocError> {
+    let mut widths = Vec::new(alloc);
+    for param in &main_func(&costed.program).params {
+        let count = if param.ty.in_size() {
+            param.ty.atoms()
+        } else {
+            0
+        };
+        for _ in 0..count {
+            push_widths(&mut widths, param.ty.atom())?;
+        }
+    }
+    Ok(widths)
+}
+
+// The values of the parameters in a row.
+fn values(alloc: Global, costed: &Costed, row: &[u64]) -> Result<Vec<Value>, AllocError> {
+    let mut values = Vec::new(alloc);
+    let mut rest = row;
+    for param in &main_func(&costed.program).params {
+        let count = if param.ty.in_size() {
+            param.ty.words()
+        } else {
+            0
+        };
+        let (own, after) = rest.split_at((count as usize).min(rest.len()));
+        values.push(Value {
+            words: Vec::from_slice(alloc, own)?,
+        })?;
+        rest = after;
+    }
+    Ok(values)
+}
+
+// The block of a row.
+fn block_of(alloc: Global, costed: &Costed, row: &[u64]) -> Result<Option<Block>, AllocError> {
+    let given = values(alloc, costed, row)?;
+    if !fits(&costed.program, &given) {
+        return Ok(None);
+    }
+    let wanted = eval(alloc, &costed.program, &given)?;
+    Ok(Some(Block { given, wanted }))
+}
+
+// The blocks of all rows.
+fn blocks(alloc: Global, costed: &Costed, rest: &[u8]) -> Result<Vec<Block>, KitFault>
+    requires { length rest.now ≤ 16777216 }
+{
+    let widths = widths(alloc, costed)?;
+    let mut blocks = Vec::new(alloc);
+    if widths.is_empty() || widths.len() > 10_000_000 || !widths.iter().all(|w| *w <= 64) {
+        return Ok(blocks);
+    }
+    let table = read_rows(alloc, rest, widths.as_slice())?;
+    for row in table.words.chunks(widths.len()) {
+        if let Some(block) = block_of(alloc, costed, row)? {
+            blocks.push(block)?;
+        }
+    }
+    Ok(blocks)
+}
+
+// The range of a word of more than one bit.
+fn write_range(out: &mut String, width: u32) -> Result<(), AllocError> {
+    if width > 1 {
+        write!(out, "[{}:0] ", width - 1)?;
+    }
+    Ok(())
+}
+
+// A declaration of each port.
+fn write_declarations(
+    out: &mut String,
+    kind: &str,
+    bundles: &[Bundle<'_>],
+) -> Result<(), AllocError> {
+    for bundle in bundles {
+        for number in 0..bundle.columns() {
+            if let Some(column) = bundle.column(number) {
+                write!(out, "  {kind} ")?;
+                write_range(out, column.width)?;
+                bundle.write_name(out, column)?;
+                out.push_str(";\n")?;
+            }
+        }
+    }
+    Ok(())
+}
+
+// What connects each port.
+fn write_connections(out: &mut String, bundles: &[Bundle<'_>]) -> Result<(), AllocError> {
+    for bundle in bundles {
+        for number in 0..bundle.columns() {
+            if let Some(column) = bundle.column(number) {
+                out.push_str(",\n    .")?;
+                bundle.write_name(out, column)?;
+                out.push_str("(")?;
+                bundle.write_name(out, column)?;
+                out.push_str(")")?;
+            }
+        }
+    }
+    Ok(())
+}
+
+// The words of a bundle that are given in a clock, which is that clock of a block; others where nothing is asked.
+fn write_given(
+    out: &mut String,
+    bundle: &Bundle<'_>,
+    block: Option<&Block>,
+    clock: u32,
+    chance: &mut Chance,
+) -> Result<(), AllocError> {
+    for number in 0..bundle.columns() {
+        let Some(column) = bundle.column(number) else {
+            continue;
+        };
+        let asked = match block {
+            Some(block) => match block.given.get(bundle.number) {
+                Some(value) => bundle.word(value, clock, column),
+                None => None,
+            },
+            None => None,
+        };
+        let word = match asked {
+            Some(word) => word,
+            None => chance.next(column.width),
+        };
+        out.push_str("    ")?;
+        bundle.write_name(out, column)?;
+        writeln!(out, " = {}'d{word};", column.width)?;
+    }
+    Ok(())
+}
+
+// The comparison of a word.
+fn write_comparison(
+    out: &mut String,
+    bundle: &Bundle<'_>,
+    column: Column,
+    clock: u64,
+    word: u64,
+) -> Result<(), AllocError> {
+    out.push_str("    compared = compared + 1;\n    if (")?;
+    bundle.write_name(out, column)?;
+    write!(
+        out,
+        " !== {}'d{word}) begin wrong = wrong + 1; $display(\"clock {clock}: ",
+        column.width
+    )?;
+    bundle.write_name(out, column)?;
+    write!(out, " is %0d, and not {word}\", ")?;
+    bundle.write_name(out, column)?;
+    out.push_str("); end\n")
+}
+
+// The comparisons of a bundle in a clock, which is that clock of a block.
+fn write_compared(
+    out: &mut String,
+    bundle: &Bundle<'_>,
+    block: &Block,
+    clock: u64,
+    place: u32,
+) -> Result<(), AllocError> {
+    let Some(value) = block.wanted.get(bundle.number) else {
+        return Ok(());
+    };
+    for number in 0..bundle.columns() {
+        if let Some(column) = bundle.column(number) {
+            if let Some(word) = bundle.word(value, place, column) {
+                write_comparison(out, bundle, column, clock, word)?;
+            }
+        }
+    }
+    Ok(())
+}
+
+// The block that a clock is in, and the clock of that block.
+fn place_of(clock: u64, slowdown: u32) -> (usize, u32)
+    requires { 0 < slowdown }
+{
+    let slowdown = u64::from(slowdown);
+    ((clock / slowdown) as usize, (clock % slowdown) as u32)
+}
+
+// What a bench has to tell of a run.
+#[derive(Drop)]
+struct Run<'a> {
+    ins: Vec<Bundle<'a>>,
+    outs: Vec<Bundle<'a>>,
+    blocks: Vec<Block>,
+    slowdown: u32,
+    latency: u32,
+}
+
+// What is given and compared in a clock.
+fn write_clock(
+    out: &mut String,
+    run: &Run<'_>,
+    clock: u64,
+    chance: &mut Chance,
+) -> Result<(), AllocError>
+    requires { 0 < run.now.slowdown }
+{
+    let (number, place) = place_of(clock, run.slowdown);
+    writeln!(out, "    // clock {clock}")?;
+    for bundle in &run.ins {
+        write_given(out, bundle, run.blocks.get(number), place, chance)?;
+    }
+    out.push_str("    #1\n")?;
+    if clock >= u64::from(run.latency) {
+        let (number, place) = place_of(clock - u64::from(run.latency), run.slowdown);
+        if let Some(block) = run.blocks.get(number) {
+            for bundle in &run.outs {
+                write_compared(out, bundle, block, clock, place)?;
+            }
+        }
+    }
+    out.push_str("    clk = 1;\n    #1 clk = 0;\n")
+}
+
+// How many clocks the run has.
+fn clock_count(run: &Run<'_>) -> u64 {
+    if run.blocks.is_empty() {
+        return 0;
+    }
+    (run.blocks.len() as u64)
+        .saturating_mul(u64::from(run.slowdown))
+        .saturating_add(u64::from(run.latency))
+}
+
+// How many words are given and shown in a clock.
+fn port_count(run: &Run<'_>) -> u64 {
+    let mut count = 0u64;
+    for bundle in &run.ins {
+        count = count.saturating_add(u64::from(bundle.columns()));
+    }
+    for bundle in &run.outs {
+        count = count.saturating_add(u64::from(bundle.columns()));
+    }
+    count
+}
+
+// The bench up to the first clock.
+fn write_head(out: &mut String, run: &Run<'_>, dumps: bool) -> Result<(), AllocError> {
+    let slowdown = run.slowdown;
+    writeln!(
+        out,
+        "// A test bench for the module of `aeth build {slowdown}`, with {} blocks.\n// verilator lint_off DECLFILENAME",
+        run.blocks.len()
+    )?;
+    out.push_str("module bench;\n  reg clk;\n  reg rst;\n")?;
+    write_declarations(out, "reg", &run.ins)?;
+    write_declarations(out, "wire", &run.outs)?;
+    out.push_str(
+        "  integer compared;\n  integer wrong;\n  aeth dut (\n    .clk(clk),\n    .rst(rst)",
+    )?;
+    write_connections(out, &run.ins)?;
+    write_connections(out, &run.outs)?;
+    out.push_str("\n  );\n  initial begin\n")?;
+    if dumps {
+        out.push_str("    $dumpfile(\"bench.vcd\");\n    $dumpvars(0, bench);\n")?;
+    }
+    out.push_str("    compared = 0;\n    wrong = 0;\n    clk = 0;\n    rst = 1;\n")
+}
+
+// The bench.
+fn write_bench(out: &mut String, run: &Run<'_>, fill: u64, dumps: bool) -> Result<(), AllocError>
+    requires { 0 < run.now.slowdown }
+{
+    let mut chance = Chance {
+        state: fill ^ 0x9e37_79b9_7f4a_7c15,
+    };
+    write_head(out, run, dumps)?;
+    for bundle in &run.ins {
+        write_given(out, bundle, None, 0, &mut chance)?;
+    }
+    out.push_str("    #1 clk = 1;\n    #1 clk = 0;\n    rst = 0;\n")?;
+    for clock in 0..clock_count(run) {
+        write_clock(out, run, clock, &mut chance)?;
+    }
+    out.push_str(
+        "    $display(\"%0d words compared, %0d wrong\", compared, wrong);\n    $finish;\n  end\nendmodule\n",
+    )
+}
+
+/// A test bench for the module of the program in the input, on the rows in it: one clock of reset, then the rows as blocks, one
+/// behind the other, and words by chance where nothing is asked. Each word that a result has by the program's meaning is compared
+/// in its clock.
+pub fn bench(
+    alloc: Global,
+    input: &[u8],
+    slowdown: u32,
+    fill: u64,
+    dumps: bool,
+) -> Result<String, KitFault>
+    requires few { length input.now ≤ 16777216 }
+    requires some { 0 < slowdown }
+    requires most { slowdown ≤ 4096 }
+{
+    let costed = cost(alloc, program_part(input), slowdown, LOAD_LIMIT)?;
+    let run = Run {
+        ins: inputs(alloc, &costed)?,
+        outs: outputs(alloc, &costed)?,
+        blocks: blocks(alloc, &costed, rows_part(input))?,
+        slowdown,
+        latency: costed.timing.latency(),
+    };
+    if clock_count(&run).saturating_mul(port_count(&run)) > MOST_WORDS {
+        return Err(KitFault::LongBench);
+    }
+    let mut out = String::new(alloc);
+    write_bench(&mut out, &run, fill, dumps)?;
+    Ok(out)
+}

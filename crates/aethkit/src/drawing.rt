@@ -1,0 +1,137 @@
+// The layouts of a program as text.
+
+ghost use Rattle.std.specs.Prelude.{◌<◌, ◌≤◌, length};
+
+use crate::blocks::program_part;
+use crate::fault::KitFault;
+use crate::items::{Item, clocks, count, element, item_at, lanes};
+use ae_compile::{LOAD_LIMIT, cost};
+use std::alloc::{AllocError, Global};
+
+// The columns of a line, those before the first clock, and the most lanes of a picture.
+const WIDE: u32 = 100;
+
+const LABEL: u32 = 10;
+
+const MOST_LANES: u32 = 16;
+
+// How many digits a number has.
+fn digits(number: u32) -> u32 {
+    match number {
+        0..=9 => 1,
+        10..=99 => 2,
+        100..=999 => 3,
+        1000..=9999 => 4,
+        10000..=99999 => 5,
+        _ => 10,
+    }
+}
+
+// Which clocks and lanes of a layout are shown, and how wide each clock is.
+#[derive(Clone, Copy)]
+struct Frame {
+    clocks: u32,
+    lanes: u32,
+    cell: u32,
+}
+
+fn frame_of(item: Item<'_>) -> Frame {
+    let time = clocks(item.layout);
+    let all = lanes(item.layout);
+    let widest = time
+        .saturating_mul(all)
+        .max(item.arrival.saturating_add(time));
+    let cell = digits(widest).saturating_add(1).max(1);
+    let most = (WIDE - LABEL) / cell;
+    Frame {
+        clocks: if time <= most {
+            time
+        } else {
+            most.saturating_sub(1)
+        },
+        lanes: all.min(MOST_LANES),
+        cell,
+    }
+}
+
+// So many blanks.
+fn indent(out: &mut String, count: u32) -> Result<(), AllocError> {
+    for _ in 0..count {
+        out.push_str(" ")?;
+    }
+    Ok(())
+}
+
+// A number at the right of a cell.
+fn write_cell(out: &mut String, number: u32, cell: u32) -> Result<(), AllocError> {
+    indent(out, cell.saturating_sub(digits(number)))?;
+    write!(out, "{number}")
+}
+
+// A mark where clocks are left out.
+fn write_end(out: &mut String, item: Item<'_>, frame: Frame) -> Result<(), AllocError> {
+    if frame.clocks < clocks(item.layout) {
+        out.push_str(" ..")?;
+    }
+    out.push_str("\n")
+}
+
+// The clocks, each from the first one after the reset.
+fn write_clocks(out: &mut String, item: Item<'_>, frame: Frame) -> Result<(), AllocError> {
+    out.push_str("  clock   ")?;
+    for clock in 0..frame.clocks {
+        write_cell(out, item.arrival.saturating_add(clock), frame.cell)?;
+    }
+    write_end(out, item, frame)
+}
+
+// The elements on a lane, and a point where none stands.
+fn write_lane(out: &mut String, item: Item<'_>, frame: Frame, lane: u32) -> Result<(), AllocError> {
+    write!(out, "  lane {lane:<3}")?;
+    for clock in 0..frame.clocks {
+        match element(item.layout, clock, lane) {
+            Some(number) => write_cell(out, number, frame.cell)?,
+            None => {
+                indent(out, frame.cell.saturating_sub(1))?;
+                out.push_str(".")?;
+            }
+        }
+    }
+    write_end(out, item, frame)
+}
+
+// An item, with what stands where.
+fn write_item(out: &mut String, item: Item<'_>) -> Result<(), AllocError> {
+    write!(out, "\nline {} {}, ", item.line, item.name)?;
+    item.layout.write_to(out)?;
+    out.push_str("\n")?;
+    let frame = frame_of(item);
+    write_clocks(out, item, frame)?;
+    for lane in 0..frame.lanes {
+        write_lane(out, item, frame, lane)?;
+    }
+    let left = lanes(item.layout).saturating_sub(frame.lanes);
+    if left > 0 {
+        writeln!(out, "  and {left} lanes more")?;
+    }
+    Ok(())
+}
+
+/// The layout of each line of the program function in the first block, lanes by clocks, with the numbers of the elements.
+pub fn draw(alloc: Global, input: &[u8], slowdown: u32) -> Result<String, KitFault>
+    requires few { length input.now ≤ 16777216 }
+    requires some { 0 < slowdown }
+    requires most { slowdown ≤ 4096 }
+{
+    let costed = cost(alloc, program_part(input), slowdown, LOAD_LIMIT)?;
+    let mut out = String::new(alloc);
+    let latency = costed.timing.latency();
+    let load = costed.timing.load();
+    writeln!(out, "slowdown {slowdown}, latency {latency}, load {load}")?;
+    for number in 0..count(&costed) {
+        if let Some(item) = item_at(&costed, number) {
+            write_item(&mut out, item)?;
+        }
+    }
+    Ok(out)
+}

@@ -1,0 +1,79 @@
+// Why there is no answer.
+
+use ae_compile::{CompileFault, OutOfMemory};
+use ae_parse::RowFault;
+use std::alloc::{AllocError, AllocFailed};
+use thiserror::Error;
+
+/// Why there is no answer; lines, rows and columns are numbered from 1.
+#[derive(Debug, Drop, Error)]
+pub enum KitFault {
+    #[error("line {line} is no line of a program")]
+    BadLine { line: u32 },
+    #[error("line {line} has no type")]
+    BadType { line: u32 },
+    #[error("line {line} is too large")]
+    TooLarge { line: u32 },
+    #[error("line {line} has no layout")]
+    NoSchedule { line: u32 },
+    #[error("row {row} is not right at column {column}")]
+    BadWords { row: u32, column: u32 },
+    #[error("the bench would have more than 1000000 words")]
+    LongBench,
+    #[error("the input has more than 16777216 bytes")]
+    TooLong,
+    #[error("the input cannot be read")]
+    Read,
+    #[error("out of memory")]
+    Memory,
+}
+
+impl KitFault {
+    /// The exit status.
+    pub fn number(&self) -> u8 {
+        match self {
+            KitFault::Read => 9,
+            KitFault::Memory => 12,
+            _ => 2,
+        }
+    }
+}
+
+impl From<CompileFault> for KitFault {
+    fn from(fault: CompileFault) -> KitFault {
+        match fault {
+            CompileFault::BadLine { line } => KitFault::BadLine { line },
+            CompileFault::BadType { line } => KitFault::BadType { line },
+            CompileFault::TooLarge { line } => KitFault::TooLarge { line },
+            CompileFault::NoSchedule { line } => KitFault::NoSchedule { line },
+            CompileFault::Memory => KitFault::Memory,
+        }
+    }
+}
+
+impl From<RowFault> for KitFault {
+    fn from(fault: RowFault) -> KitFault {
+        match fault {
+            RowFault::BadWords { row, column } => KitFault::BadWords { row, column },
+            RowFault::Memory => KitFault::Memory,
+        }
+    }
+}
+
+impl From<OutOfMemory> for KitFault {
+    fn from(_: OutOfMemory) -> KitFault {
+        KitFault::Memory
+    }
+}
+
+impl From<AllocError> for KitFault {
+    fn from(_: AllocError) -> KitFault {
+        KitFault::Memory
+    }
+}
+
+impl<T: Drop> From<AllocFailed<T>> for KitFault {
+    fn from(_: AllocFailed<T>) -> KitFault {
+        KitFault::Memory
+    }
+}

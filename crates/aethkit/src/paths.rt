@@ -1,0 +1,125 @@
+// The longest chains of operators between registers.
+
+ghost use Rattle.std.specs.Prelude.{◌<◌, ◌≤◌, length};
+
+use crate::blocks::program_part;
+use crate::fault::KitFault;
+use ae_compile::{LOAD_LIMIT, compile, cost};
+use ae_netlist::{Cell, NetId};
+use ae_verilog::Note;
+use ae_word::WordOp;
+use std::alloc::{AllocError, Global};
+
+// Where a chain ends, and how many operators it has.
+#[derive(Clone, Copy)]
+struct Chain {
+    net: usize,
+    operators: u32,
+}
+
+// How many operators stand on the way to a net; 0 of a net that does not stand yet.
+fn depth_at(depths: &[u32], net: NetId) -> u32 {
+    match depths.get(net.0 as usize) {
+        Some(depth) => *depth,
+        None => 0,
+    }
+}
+
+// Whether an operator is logic: shifts by constants and casts are wires.
+fn is_logic(op: WordOp) -> bool {
+    match op {
+        WordOp::Shl(_) | WordOp::Shr(_) | WordOp::Sar(_) | WordOp::Cast(_) | WordOp::SCast(_) => {
+            false
+        }
+        _ => true,
+    }
+}
+
+// How many operators stand on the way to a cell, itself among them, behind cells that all stand before it.
+fn depth_of(depths: &[u32], cell: Cell) -> u32 {
+    match cell {
+        Cell::Op(op, args) => {
+            let [a, b, c] = args;
+            let below = depth_at(depths, a)
+                .max(depth_at(depths, b))
+                .max(depth_at(depths, c));
+            below.saturating_add(u32::from(is_logic(op)))
+        }
+        Cell::Peek { mem: _, at } => depth_at(depths, at).saturating_add(1),
+        Cell::Input(_) | Cell::Const(_) | Cell::Reg { next: _ } => 0,
+        Cell::Mem {
+            depth: _,
+            at: _,
+            next: _,
+            enable: _,
+        } => 0,
+    }
+}
+
+// Writes the chain of a line, unless no operator stands in it.
+fn write_chain(out: &mut String, note: &Note, chain: Chain) -> Result<(), AllocError> {
+    if chain.operators == 0 {
+        return Ok(());
+    }
+    let (line, name) = (note.line, note.name.as_str());
+    let Chain { net, operators } = chain;
+    writeln!(
+        out,
+        "line {line} {name}: {operators} operators, up to l{line}_n{net}"
+    )
+}
+
+// The longest of the chains that end in some cells.
+fn longest(depths: &[u32], from: usize, to: usize) -> Chain {
+    let mut found = Chain {
+        net: from,
+        operators: 0,
+    };
+    for net in from..to {
+        if let Some(operators) = depths.get(net) {
+            if *operators > found.operators {
+                found = Chain {
+                    net,
+                    operators: *operators,
+                };
+            }
+        }
+    }
+    found
+}
+
+// The number of the first cell of a line, and of the first behind the last line.
+fn begin_of(notes: &[Note], number: usize, cells: usize) -> usize {
+    match notes.get(number) {
+        Some(note) => note.cell as usize,
+        None => cells,
+    }
+}
+
+/// The longest chain of operators without a register between them that ends in the cells of each line of the program function, in
+/// the module of `aeth build S`.
+pub fn paths(alloc: Global, input: &[u8], slowdown: u32) -> Result<String, KitFault>
+    requires few { length input.now ≤ 16777216 }
+    requires some { 0 < slowdown }
+    requires most { slowdown ≤ 4096 }
+{
+    let costed = cost(alloc, program_part(input), slowdown, LOAD_LIMIT)?;
+    let compiled = compile(alloc, costed)?;
+    let mut depths = Vec::new(alloc);
+    for sized in compiled.netlist.cells() {
+        let depth = depth_of(&depths, sized.cell);
+        depths.push(depth)?;
+    }
+    let mut out = String::new(alloc);
+    let all = depths.len();
+    for number in 0..compiled.notes.len() {
+        if let Some(note) = compiled.notes.get(number) {
+            let from = begin_of(&compiled.notes, number, all);
+            let to = begin_of(&compiled.notes, number.saturating_add(1), all);
+            write_chain(&mut out, note, longest(&depths, from, to))?;
+        }
+    }
+    let whole = longest(&depths, 0, all).operators;
+    writeln!(out, "longest: {whole} operators")?;
+    Ok(out)
+}

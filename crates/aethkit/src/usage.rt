@@ -1,0 +1,15 @@
+// The words of each request.
+
+pub const USAGE: &str = "usage: aethkit REQUEST < PROGRAM
+
+  slowdowns [FROM TO] [csv] [best]   for each slowdown of the range that has a circuit: latency, load, multipliers, lanes;
+                                     best: only those that need less load than all smaller ones; csv: as comma-separated values
+  draw S [text]                      the layout of each line of the program function, lanes by clocks, as SVG or as text
+  paths S                            the longest chain of operators without a register between them, by the lines of the program
+  bench S FILL [dump]                a test bench for the module of `aeth build S`: it gives it the rows of the input behind
+                                     the line %%, compares each word with the program's meaning, and tells how many were wrong;
+                                     dump: it writes a wave file as well
+
+S, FROM and TO are 1 to 4096. FILL seeds the words that stand where nothing is asked of the wires.
+
+example: aethkit slowdowns 1 64 best < examples/increment.aeth";
