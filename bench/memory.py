@@ -53,6 +53,8 @@ SHAPES = {
     "run_of_many_rows": lambda: (["run", 1, 0], many(ECHO + "%%\n", "7\n", 1_000_000, ""), None),
     "run_at_4096": lambda: (["run", 4096, 0], many("fn main a:[4096]u8\nb = shift 1 a\nend b\n%%\n", "7 " * 4095 + "7\n", 300, ""), None),
     "build_of_squares": lambda: (["build", 1], "fn sq x:u8\ny = mul x x\nend y\nfn row r:[4]u8\ns = map sq r\nend s\nfn main a:[4096][4]u8\nb = map row a\nend b\n", None),
+    "wave_of_many_rows": lambda: (["wave", 1, 0], many(ECHO + "%%\n", "7\n", 1_000_000, ""), None),
+    "dump_of_many_times": lambda: (["unwave"], many("$var wire 1 ! a $end $enddefinitions $end\n", "#%d\n", 1_500_000, ""), None),
     "nested_parentheses": lambda: (["sim", 0], filled(PORTS + "assign b=", "(", ";endmodule"), None),
     "nested_ifs": lambda: (["sim", 0], filled(CLOCKED, "if(a) ", "r<=a;endmodule"), None),
     "items": lambda: (["sim", 0], many(PORTS + "assign b=a;", "wire w%d=a;", 1_000_000, "endmodule"), 2_000_005),

@@ -1,7 +1,7 @@
 #!/usr/bin/env python3
 """Programs and modules that somebody spoiled: bytes, tokens and lines of the examples, of random programs and of random modules
 are changed. Each job gives a stated answer, and the jobs agree: what `check` refuses every job refuses in the same line; `run`
-shows the results of `eval`; `sim` takes the module of `build`; Icarus takes each module that `sim` takes, and shows the same
+shows the results of `eval`; `sim` takes the module of `build`, and `unwave` the dump of `wave`; Icarus takes each module that `sim` takes, and shows the same
 words where ports and registers are as they were.
 
 fuzz.py [COUNT [SEED]]: so many inputs (2,000 unless given), from a seed (1 unless given)."""
@@ -25,6 +25,7 @@ STATED = {
     6: r"refused bad words row \d+ column \d+",
     7: rf"refused bad module ({MODULE_CAUSES})",
     8: r"refused long run \d+",
+    13: r"refused bad wave word \d+",
 }
 EDGES = "0 1 2 3 7 8 63 64 65 255 256 4095 4096 4097 16384 16385 65535 65536 4294967295 4294967296 18446744073709551615 18446744073709551616".split()
 PROGRAM_WORDS = "fn end const call map map2 reduce scan shift select up partition unpartition zip pair fst snd add sub mul min max lt eq mux not shl shr cast aeth 2 u1 u8 u64 i8 i64 u65 [2]u8 [1]u1 [4096][4]u8 (u8,u8) %% # = :".split()
@@ -115,7 +116,7 @@ def answer(words, text):
 def try_program(source, text):
     """What is wrong with the answers to a text as a program, and whether one of its jobs was done."""
     slowdown = source.choice((1, 1, 2, 3, 4, 6, 8, 12, 16, 48, 4096))
-    jobs = [["check"], ["eval"], ["plan", slowdown], ["cost", slowdown], ["build", slowdown], ["stall", slowdown], ["run", slowdown, FILL]]
+    jobs = [["check"], ["eval"], ["plan", slowdown], ["cost", slowdown], ["build", slowdown], ["stall", slowdown], ["run", slowdown, FILL], ["wave", slowdown, FILL]]
     answers, wrong = {}, []
     for job in jobs:
         answers[job[0]], said = answer(job, text)
@@ -126,8 +127,8 @@ def try_program(source, text):
             wrong.append(f"check refuses otherwise than another job: {answers}")
         return wrong, False
     refused = plan[0] != 0
-    if refused and any(answers[job] != plan for job in ("cost", "build", "run")):
-        wrong.append(f"plan refuses otherwise than cost, build or run: {answers}")
+    if refused and any(answers[job] != plan for job in ("cost", "build", "run", "wave")):
+        wrong.append(f"plan refuses otherwise than cost, build, run or wave: {answers}")
     if not refused and (answers["cost"][0] or answers["build"][0]):
         wrong.append(f"cost or build refuses what plan takes: {answers}")
     if plan[0] == 5 and answers["stall"] != plan or answers["stall"][0] not in (0, 4, 5):
@@ -142,6 +143,9 @@ def try_program(source, text):
             shown = None
         if shown != wanted:
             wrong.append(f"run {slowdown} shows other results than eval")
+    status, dump = answers["wave"]
+    if status != run[0] and status != 8 or status == 0 and len(dump) < TEXT_LONGEST and aeth(["unwave"], dump)[0] != 0:
+        wrong.append(f"wave {slowdown}: {status}, {dump[:200]}")
     for job in ("build", "stall"):
         status, module = answers[job]
         if status == 0 and len(module) < TEXT_LONGEST and aeth(["sim", 0], module) != (0, ""):

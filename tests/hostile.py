@@ -57,6 +57,11 @@ def cases():
     yield "a name before its declaration", sim, short + "assign b=w;wire w=a;endmodule", 7, "refused bad module unknown item 1\n"
     yield "a bit of a net without a range", sim, short + "assign b=a[0];endmodule", 7, "refused bad module kind item 1\n"
     yield "a module that is too heavy", sim, heavy(), 7, "refused bad module large\n"
+    unwave, variable = ["unwave"], "$var wire 1 ! a $end "
+    yield "as many variables as a dump may have", unwave, variable * 300_000 + "$enddefinitions $end", 0, ""
+    yield "one variable more", unwave, variable * 300_001 + "$enddefinitions $end", 13, "refused bad wave word 1800000\n"
+    yield "a code of many bytes", unwave, f"$var wire 1 {'!' * 4_000_000} a $end $enddefinitions $end #1 1{'!' * 4_000_000}", 0, "1 1\n"
+    yield "a comment without an end", unwave, "$comment " + "x " * 4_000_000, 13, "refused bad wave word 4000001\n"
     # No words, or words that no shell would hand on: none of them names a job.
     no_text = "\udcff"  # the byte 255 alone, which is no UTF-8
     for words in (

@@ -55,6 +55,7 @@ JOBS = [
     ("an initial", "sim 0", VERILOG + "assign b = a;\ninitial b = 0;\nendmodule\n%%\n", "bad module item 1", 7),
     ("a #(parameter)", "sim 0", "module m #(parameter W = 8) (input wire a);\nendmodule\n%%\n", "bad module token 9", 7),
     ("an unknown name", "sim 0", VERILOG + "assign b = c;\nendmodule\n%%\n", "bad module unknown item 1", 7),
+    ("a register without a first word", "unwave", "$var reg 4 ! r $end $enddefinitions $end #0 bx !", "bad wave word 9", 13),
     ("no Verilog at all", "sim 0", ROWS + "1\n", "bad module header", 7),
 ]
 CASES = [(what, "check", text, answer, status) for what, text, answer, status in PROGRAMS] + JOBS

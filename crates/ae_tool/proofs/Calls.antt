@@ -5,9 +5,9 @@ use Rattle.ae_io.specs.Counts.{Rose}
 use Rattle.ae_io.specs.Told.{Appends, TakesCount}
 use Rattle.ae_io.specs.Transfer.{TakesAll}
 use Rattle.ae_tool.specs.declared.status.Status.{Status}
-use Rattle.ae_tool.specs.declared.status.Status.TheVariants.{Ok, Usage, BadLine, BadType, TooLarge, NoSchedule, BadWords, BadModule, LongRun, ReadFault, WriteFault, TooLong, Memory}
+use Rattle.ae_tool.specs.declared.status.Status.TheVariants.{Ok, Usage, BadLine, BadType, TooLarge, NoSchedule, BadWords, BadModule, LongRun, ReadFault, WriteFault, TooLong, Memory, BadWave}
 use Rattle.ae_tool.specs.declared.command.Command.{Command}
-use Rattle.ae_tool.specs.declared.command.Command.TheVariants.{Check, Eval, Plan, Cost, Build, Stall, Run, Sim, Demo}
+use Rattle.ae_tool.specs.declared.command.Command.TheVariants.{Check, Eval, Plan, Cost, Build, Stall, Run, Wave, Unwave, Sim, Demo}
 use Rattle.ae_tool.specs.Commands.{IsCommand, NamesNone, TakesInput}
 use Rattle.ae_tool.specs.Refusals.{refusal_line}
 use Rattle.ae_tool.specs.Outcomes.{input_limit, IsAnswer, IsDone, IsOutcome, is_settled, HasOutcome, MayBeWritten, HasPart, LeavesRest, LeavesInput, RefusesWords, IsAccepted}
@@ -34,6 +34,8 @@ answer_of (Cost slowdown) bytes status text reads few d = (few, d)
 answer_of (Build slowdown) bytes status text reads few d = (few, d)
 answer_of (Stall slowdown) bytes status text reads few d = (few, d)
 answer_of (Run slowdown fill) bytes status text reads few d = (few, d)
+answer_of (Wave slowdown fill) bytes status text reads few d = (few, d)
+answer_of Unwave bytes status text reads few d = (few, d)
 answer_of (Sim fill) bytes status text reads few d = (few, d)
 answer_of (Demo size) bytes status text reads few d = absurd reads
 
@@ -48,6 +50,7 @@ outcome_by ws command bytes (NoSchedule line) text h job reads few d = (command,
 outcome_by ws command bytes (BadWords row column) text h job reads few d = (command, job, answer_of command bytes (BadWords row column) text reads few d)
 outcome_by ws command bytes (BadModule fault) text h job reads few d = (command, job, answer_of command bytes (BadModule fault) text reads few d)
 outcome_by ws command bytes (LongRun size) text h job reads few d = (command, job, answer_of command bytes (LongRun size) text reads few d)
+outcome_by ws command bytes (BadWave at) text h job reads few d = (command, job, answer_of command bytes (BadWave at) text reads few d)
 outcome_by ws command bytes ReadFault text h job reads few d = cc
 outcome_by ws command bytes WriteFault text h job reads few d = cc
 outcome_by ws command bytes TooLong text h job reads few d = cc
@@ -300,6 +303,7 @@ reply_left (NoSchedule line) bytes left left' h t = none_left left left' bytes t
 reply_left (BadWords row column) bytes left left' h t = none_left left left' bytes t
 reply_left (BadModule fault) bytes left left' h t = none_left left left' bytes t
 reply_left (LongRun size) bytes left left' h t = none_left left left' bytes t
+reply_left (BadWave at) bytes left left' h t = none_left left left' bytes t
 reply_left ReadFault bytes left left' h t = cc
 reply_left WriteFault bytes left left' h t = cc
 reply_left TooLong bytes left left' h t = cc
@@ -317,6 +321,8 @@ leaves_of (Cost slowdown) status left left' reads h = h
 leaves_of (Build slowdown) status left left' reads h = h
 leaves_of (Stall slowdown) status left left' reads h = h
 leaves_of (Run slowdown fill) status left left' reads h = h
+leaves_of (Wave slowdown fill) status left left' reads h = h
+leaves_of Unwave status left left' reads h = h
 leaves_of (Sim fill) status left left' reads h = h
 leaves_of (Demo size) status left left' reads h = absurd reads
 

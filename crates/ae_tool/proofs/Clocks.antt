@@ -15,9 +15,8 @@ clocks_told d k latency blocks clocks same is late count =
     let told : d.report.latency ≡ latency = ap (λ (r : ReportTree). r.latency) is.compiled.reported ∙ ap (λ (x : Costed). (main_costs (st_func_trees x.schedule)).latency) same ∙ sym late in
     (λ i. clock_count (same i).slowdown (told i) blocks) ∙ sym count
 
-pub clocks_few : (d : Compiled) (k : Costed) (latency blocks clocks words : ℕ) → d.costed ≡ k → IsCompiledProgram d → latency ≡ (main_costs (st_func_trees k.schedule)).latency → clocks ≡ clock_count k.slowdown latency blocks
-    → clocks * (1 + words) ≤ 4194304 → clock_count d.costed.slowdown d.report.latency blocks < 2 ^ 32
-clocks_few d k latency blocks clocks words same is late count few =
+-- a size within the limit has few of them
+pub few_clocks : (clocks count words : ℕ) → clocks ≡ count → clocks * (1 + words) ≤ 4194304 → count < 2 ^ 32
+few_clocks clocks count words is few =
     let e : clocks * (1 + words) ≡ clocks + clocks * words = omega arith in
-    let less : clocks < 2 ^ 32 = omega (arith, e, few) in
-    subst (λ (n : ℕ). n < 2 ^ 32) (sym (clocks_told d k latency blocks clocks same is late count)) less
+    omega (arith, e, few, is)

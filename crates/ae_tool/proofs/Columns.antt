@@ -17,10 +17,11 @@ use Rattle.ae_rewrite.specs.Scheduled.{IsFilling, IsInstance, IsSchedule}
 use Rattle.ae_rewrite.specs.Sound.{IsSound, IsSoundFunc, item_layout, item_layouts}
 use Rattle.ae_delay.proofs.Instances.{all_items}
 use Rattle.ae_lower.specs.Circuits.{last_of, results_of}
-use Rattle.ae_rewrite.specs.Interface.{main_of, result_types}
+use Rattle.ae_rewrite.specs.Interface.{HaveLayouts, main_of, parameter_types, result_types}
 use Rattle.ae_lower.proofs.Blocks.{keys_of}
-use Rattle.ae_lower.proofs.Layouts.{results_laid}
-use Rattle.ae_tool.specs.RunTexts.{layout_columns, output_count}
+use Rattle.ae_lower.proofs.Layouts.{parameters_laid, results_laid}
+use Rattle.ae_tool.specs.RunTexts.{input_count, layout_columns, output_count}
+use Rattle.ae_correct.proofs.Laid.{few_ins}
 use Rattle.ae_compile.proofs.Modules.{few_columns, unmapped}
 
 pub counted_next : (xs : List StType) (i count own wide : ℕ) (x : StType) → i < length xs → x ≡ get_or xs i x → IsInSize (st_tree x) → own ≡ lanes (st_tree x) → wide ≡ element_words (st_tree x)
@@ -58,7 +59,7 @@ main_is p slowdown instances s h sound found =
       own = sound.each (last_of instances) s found;
     }
 
-columns_some : (ss : List StTree) → sum_by layout_columns (map (λ (x : StTree). Some x) ss) ≡ sum_by columns_of ss
+pub columns_some : (ss : List StTree) → sum_by layout_columns (map (λ (x : StTree). Some x) ss) ≡ sum_by columns_of ss
 columns_some [] = refl
 columns_some (s ∷ ss) =
     let a : sum_by layout_columns (Some s ∷ map (λ (x : StTree). Some x) ss) ≡ columns_of s + sum_by layout_columns (map (λ (x : StTree). Some x) ss) = sum_by-cons layout_columns (Some s) (map (λ (x : StTree). Some x) ss) in
@@ -69,6 +70,18 @@ pub results_counted : (p : ProgramTree) (slowdown : ℕ) (instances : List StFun
 results_counted p slowdown instances s typed m =
     let laid : map (λ (o : Option SeqTree). o >>= λ t. lay_of t s.budget) (result_types p) ≡ map (λ (x : StTree). Some x) (results_of s) = results_laid p (keys_of instances) s typed m.is m.last m.own.results in
     sym (columns_some (results_of s)) ∙ ap (sum_by layout_columns) (sym laid) ∙ ap (output_count p) m.budget
+
+-- the same of the parameters
+parameters_are : (p : ProgramTree) (slowdown : ℕ) (instances : List StFuncTree) (s : StFuncTree) → IsTyped p → IsMain p slowdown instances s → map (λ t. lay_of t s.budget) (parameter_types p) ≡ map (λ (x : StTree). Some x) s.ins
+parameters_are p slowdown instances s typed m = parameters_laid p (keys_of instances) s typed m.is m.last
+
+pub parameters_counted : (p : ProgramTree) (slowdown : ℕ) (instances : List StFuncTree) (s : StFuncTree) → IsTyped p → IsMain p slowdown instances s → sum_by columns_of s.ins ≡ input_count p slowdown
+parameters_counted p slowdown instances s typed m = sym (columns_some s.ins) ∙ ap (sum_by layout_columns) (sym (parameters_are p slowdown instances s typed m)) ∙ ap (input_count p) m.budget
+
+pub few_parameters : (p : ProgramTree) (slowdown : ℕ) (instances : List StFuncTree) (s : StFuncTree) → 0 < slowdown → slowdown ≤ 4096 → IsTyped p → IsMain p slowdown instances s → length s.ins ≤ 8
+few_parameters p slowdown instances s some most typed m =
+    let here : HaveLayouts p s.budget s.ins (results_of s) = record { parameters = parameters_are p slowdown instances s typed m; results = results_laid p (keys_of instances) s typed m.is m.last m.own.results } in
+    few_ins p slowdown s.ins (results_of s) (record { typed = typed; some = some; most = most; layouts = subst (λ (d : ℕ). HaveLayouts p d s.ins (results_of s)) m.budget here })
 
 -- a list of layouts in size
 pub all_sized : (ss : List StTree) → ((q : ℕ) (t : StTree) → slice_get ss q ≡ Some t → IsInSize t) → All IsInSize ss

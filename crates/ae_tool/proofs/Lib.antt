@@ -19,3 +19,6 @@ pub mod SimRuns
 pub mod SimModule
 pub mod SimComplete
 pub mod Demos
+pub mod WaveForms
+pub mod UnwaveLines
+pub mod WaveShown

@@ -11,11 +11,11 @@ use Rattle.ae_parse.specs.Parts.{is_mark, no_mark, whole_lines}
 use Rattle.ae_parse.specs.Rows.{rows_of, bad_row}
 use Rattle.ae_seq.specs.ProgramTree.{ProgramTree}
 use Rattle.ae_tool.specs.declared.status.Status.{Status}
-use Rattle.ae_tool.specs.declared.status.Status.TheVariants.{Ok, Usage, BadLine, BadType, TooLarge, NoSchedule, BadWords, BadModule, LongRun, ReadFault, WriteFault, TooLong, Memory}
+use Rattle.ae_tool.specs.declared.status.Status.TheVariants.{Ok, Usage, BadLine, BadType, TooLarge, NoSchedule, BadWords, BadModule, LongRun, ReadFault, WriteFault, TooLong, Memory, BadWave}
 use Rattle.ae_tool.specs.declared.command.Command.{Command}
-use Rattle.ae_tool.specs.declared.command.Command.TheVariants.{Check, Eval, Plan, Cost, Build, Stall, Run, Sim, Demo}
-use Rattle.ae_tool.specs.Commands.{IsCommand}
-use Rattle.ae_tool.specs.Inputs.{IsCut, Marked, Unmarked}
+use Rattle.ae_tool.specs.declared.command.Command.TheVariants.{Check, Eval, Plan, Cost, Build, Stall, Run, Wave, Unwave, Sim, Demo}
+use Rattle.ae_tool.specs.Commands.{IsCommand, takes_whole}
+use Rattle.ae_tool.specs.Inputs.{AreParts, IsCut, Marked, Unmarked}
 use Rattle.ae_tool.specs.RunTexts.{input_widths, run_size, run_limit, IsRunOf, IsRun, Unbuilt, Played}
 use Rattle.ae_stalled.specs.Laws.{stall_limit}
 use Rattle.ae_compile.specs.Building.{IsBuiltStalled, IsBuiltText}
@@ -42,6 +42,10 @@ use Rattle.ae_tool.specs.Schedules.{IsAnswered, IsCostRefusal, IsCostText}
 use Rattle.ae_tool.specs.EvalTexts.{eval_size, IsEvalOf}
 use Rattle.ae_tool.specs.Outcomes.{IsChecked, IsEvaluated, Refused, Ran, IsReply, IsDone, HasResult, HasShortRun, IsAccepted}
 use Rattle.ae_tool.specs.SimTexts.{IsSimulated}
+use Rattle.ae_tool.specs.UnwaveTexts.{IsReadable, IsUnwaved}
+use Rattle.ae_vcd.specs.Reads.{size_of}
+use Rattle.ae_tool.specs.declared.run.Form.{Form}
+use Rattle.ae_tool.specs.declared.run.Form.TheVariants.{Lines, Dump}
 use Rattle.ae_tool.proofs.SimComplete.{sim_complete}
 
 -- the answers of jobs
@@ -59,6 +63,7 @@ is_reply ReadFault = false
 is_reply WriteFault = false
 is_reply TooLong = false
 is_reply Memory = false
+is_reply (BadWave at) = true
 
 sim_replies : (fill : ℕ) (part : List ℕ) (table : List (List (List ℕ))) (status : Status) (text : List ℕ) → IsSimulated fill part table status text → is_reply status ≡ true
 sim_replies fill part table Ok text b = refl
@@ -74,6 +79,7 @@ sim_replies fill part table ReadFault text b = absurd b.2
 sim_replies fill part table WriteFault text b = absurd b.2
 sim_replies fill part table TooLong text b = absurd b.2
 sim_replies fill part table Memory text b = absurd b.2
+sim_replies fill part table (BadWave at) text b = absurd b.2
 
 refusal_replies : (part : List ℕ) (status : Status) → IsRefusal part status → is_reply status ≡ true
 refusal_replies part Ok b = absurd b
@@ -89,6 +95,7 @@ refusal_replies part ReadFault b = absurd b
 refusal_replies part WriteFault b = absurd b
 refusal_replies part TooLong b = absurd b
 refusal_replies part Memory b = absurd b
+refusal_replies part (BadWave at) b = absurd b
 
 checked_replies : (part : List ℕ) (status : Status) (text : List ℕ) → IsChecked part status text → is_reply status ≡ true
 checked_replies part Ok text b = refl
@@ -104,6 +111,7 @@ checked_replies part ReadFault text b = refusal_replies part ReadFault b.0
 checked_replies part WriteFault text b = refusal_replies part WriteFault b.0
 checked_replies part TooLong text b = refusal_replies part TooLong b.0
 checked_replies part Memory text b = refusal_replies part Memory b.0
+checked_replies part (BadWave at) text b = refusal_replies part (BadWave at) b.0
 
 eval_replies : (p : ProgramTree) (table : List (List (List ℕ))) (status : Status) (text : List ℕ) → IsEvalOf p table status text → is_reply status ≡ true
 eval_replies p table Ok text b = refl
@@ -119,6 +127,7 @@ eval_replies p table ReadFault text b = absurd b
 eval_replies p table WriteFault text b = absurd b
 eval_replies p table TooLong text b = absurd b
 eval_replies p table Memory text b = absurd b
+eval_replies p table (BadWave at) text b = absurd b
 
 evaluated_replies : (part : List ℕ) (table : List (List (List ℕ))) (status : Status) (text : List ℕ) → IsEvaluated part table status text → is_reply status ≡ true
 evaluated_replies part table status text (Refused r e) = refusal_replies part status r
@@ -138,6 +147,7 @@ cost_refusal_replies limit part slowdown ReadFault b = refusal_replies part Read
 cost_refusal_replies limit part slowdown WriteFault b = refusal_replies part WriteFault b
 cost_refusal_replies limit part slowdown TooLong b = refusal_replies part TooLong b
 cost_refusal_replies limit part slowdown Memory b = refusal_replies part Memory b
+cost_refusal_replies limit part slowdown (BadWave at) b = refusal_replies part (BadWave at) b
 
 answered_replies : (limit : ℕ) (IsRight : List ℕ → Type 0) (part : List ℕ) (slowdown : ℕ) (status : Status) (text : List ℕ) → IsAnswered limit IsRight part slowdown status text → is_reply status ≡ true
 answered_replies limit IsRight part slowdown Ok text b = refl
@@ -153,25 +163,43 @@ answered_replies limit IsRight part slowdown ReadFault text b = cost_refusal_rep
 answered_replies limit IsRight part slowdown WriteFault text b = cost_refusal_replies limit part slowdown WriteFault b.0
 answered_replies limit IsRight part slowdown TooLong text b = cost_refusal_replies limit part slowdown TooLong b.0
 answered_replies limit IsRight part slowdown Memory text b = cost_refusal_replies limit part slowdown Memory b.0
+answered_replies limit IsRight part slowdown (BadWave at) text b = cost_refusal_replies limit part slowdown (BadWave at) b.0
 
-run_of_replies : (fill : ℕ) (p : ProgramTree) (slowdown : ℕ) (instances : List StFuncTree) (table : List (List (List ℕ))) (status : Status) (text : List ℕ) → IsRunOf fill p slowdown instances table status text → is_reply status ≡ true
-run_of_replies fill p slowdown instances table Ok text b = refl
-run_of_replies fill p slowdown instances table Usage text b = absurd b
-run_of_replies fill p slowdown instances table (BadLine line) text b = absurd b
-run_of_replies fill p slowdown instances table (BadType line) text b = absurd b
-run_of_replies fill p slowdown instances table (TooLarge line) text b = absurd b
-run_of_replies fill p slowdown instances table (NoSchedule line) text b = absurd b
-run_of_replies fill p slowdown instances table (BadWords row column) text b = refl
-run_of_replies fill p slowdown instances table (BadModule fault) text b = absurd b
-run_of_replies fill p slowdown instances table (LongRun size) text b = refl
-run_of_replies fill p slowdown instances table ReadFault text b = absurd b
-run_of_replies fill p slowdown instances table WriteFault text b = absurd b
-run_of_replies fill p slowdown instances table TooLong text b = absurd b
-run_of_replies fill p slowdown instances table Memory text b = absurd b
+run_of_replies : (form : Form) (fill : ℕ) (p : ProgramTree) (slowdown : ℕ) (instances : List StFuncTree) (table : List (List (List ℕ))) (status : Status) (text : List ℕ) → IsRunOf form fill p slowdown instances table status text → is_reply status ≡ true
+run_of_replies form fill p slowdown instances table Ok text b = refl
+run_of_replies form fill p slowdown instances table Usage text b = absurd b
+run_of_replies form fill p slowdown instances table (BadLine line) text b = absurd b
+run_of_replies form fill p slowdown instances table (BadType line) text b = absurd b
+run_of_replies form fill p slowdown instances table (TooLarge line) text b = absurd b
+run_of_replies form fill p slowdown instances table (NoSchedule line) text b = absurd b
+run_of_replies form fill p slowdown instances table (BadWords row column) text b = refl
+run_of_replies form fill p slowdown instances table (BadModule fault) text b = absurd b
+run_of_replies form fill p slowdown instances table (LongRun size) text b = refl
+run_of_replies form fill p slowdown instances table ReadFault text b = absurd b
+run_of_replies form fill p slowdown instances table WriteFault text b = absurd b
+run_of_replies form fill p slowdown instances table TooLong text b = absurd b
+run_of_replies form fill p slowdown instances table Memory text b = absurd b
+run_of_replies form fill p slowdown instances table (BadWave at) text b = absurd b
 
-run_replies : (slowdown fill : ℕ) (part : List ℕ) (table : List (List (List ℕ))) (status : Status) (text : List ℕ) → IsRun slowdown fill part table status text → is_reply status ≡ true
-run_replies slowdown fill part table status text (Unbuilt r e) = cost_refusal_replies load_limit part slowdown status r
-run_replies slowdown fill part table status text (Played p instances c r) = run_of_replies fill p slowdown instances table status text r
+unwave_replies : (part : List ℕ) (status : Status) (text : List ℕ) → IsUnwaved part status text → is_reply status ≡ true
+unwave_replies part Ok text b = refl
+unwave_replies part Usage text b = absurd b
+unwave_replies part (BadLine line) text b = absurd b
+unwave_replies part (BadType line) text b = absurd b
+unwave_replies part (TooLarge line) text b = absurd b
+unwave_replies part (NoSchedule line) text b = absurd b
+unwave_replies part (BadWords row column) text b = absurd b
+unwave_replies part (BadModule fault) text b = absurd b
+unwave_replies part (LongRun size) text b = refl
+unwave_replies part ReadFault text b = absurd b
+unwave_replies part WriteFault text b = absurd b
+unwave_replies part TooLong text b = absurd b
+unwave_replies part Memory text b = absurd b
+unwave_replies part (BadWave at) text b = refl
+
+run_replies : (form : Form) (slowdown fill : ℕ) (part : List ℕ) (table : List (List (List ℕ))) (status : Status) (text : List ℕ) → IsRun form slowdown fill part table status text → is_reply status ≡ true
+run_replies form slowdown fill part table status text (Unbuilt r e) = cost_refusal_replies load_limit part slowdown status r
+run_replies form slowdown fill part table status text (Played p instances c r) = run_of_replies form fill p slowdown instances table status text r
 
 reply_replies : (command : Command) (part : List ℕ) (table : List (List (List ℕ))) (status : Status) (text : List ℕ) → IsReply command part table status text → is_reply status ≡ true
 reply_replies Check part table status text b = checked_replies part status text b
@@ -181,7 +209,9 @@ reply_replies (Cost slowdown) part table status text b = answered_replies load_l
 reply_replies (Build slowdown) part table status text b = answered_replies load_limit (IsBuiltText part slowdown) part slowdown status text b
 reply_replies (Stall slowdown) part table status text b = answered_replies stall_limit (IsBuiltStalled part slowdown) part slowdown status text b
 reply_replies (Demo size) part table status text b = absurd b
-reply_replies (Run slowdown fill) part table status text b = run_replies slowdown fill part table status text b
+reply_replies (Run slowdown fill) part table status text b = run_replies Lines slowdown fill part table status text b
+reply_replies (Wave slowdown fill) part table status text b = run_replies Dump slowdown fill part table status text b
+reply_replies Unwave part table status text b = unwave_replies part status text b
 reply_replies (Sim fill) part table status text b = sim_replies fill part table status text b
 
 pub done_replies : (command : Command) (bytes : List ℕ) (status : Status) (text : List ℕ) → IsDone command bytes status text → is_reply status ≡ true
@@ -192,9 +222,9 @@ done_replies command bytes status text d = reply_replies command d.part d.table 
 -- the job that words name, if they name one
 abbrev named_by : List (List ℕ) → Command
 named_by [] = Check
-named_by (w ∷ []) = if bytes_eq w (codes "check") then Check else Eval
+named_by (w ∷ []) = if bytes_eq w (codes "check") then Check else if bytes_eq w (codes "unwave") then Unwave else Eval
 named_by (w ∷ a ∷ []) = if bytes_eq w (codes "plan") then Plan (digits_value 10 a) else if bytes_eq w (codes "cost") then Cost (digits_value 10 a) else if bytes_eq w (codes "sim") then Sim (digits_value 10 a) else if bytes_eq w (codes "demo") then Demo (digits_value 10 a) else if bytes_eq w (codes "stall") then Stall (digits_value 10 a) else Build (digits_value 10 a)
-named_by (w ∷ a ∷ b ∷ ws) = Run (digits_value 10 a) (digits_value 10 b)
+named_by (w ∷ a ∷ b ∷ ws) = if bytes_eq w (codes "wave") then Wave (digits_value 10 a) (digits_value 10 b) else Run (digits_value 10 a) (digits_value 10 b)
 
 named_is : (ws : List (List ℕ)) (c : Command) → IsCommand ws c → named_by ws ≡ c
 named_is ws Check h = ap named_by h.0
@@ -206,6 +236,9 @@ named_is ws (Stall s) h = ap named_by h.0 ∙ ap (λ n. Stall n) (digits_value-d
 named_is ws (Demo s) h = ap named_by h.0 ∙ ap (λ n. Demo n) (digits_value-decimal own s (omega (arith, h.1.1)))
 named_is ws (Run s n) h =
     ap named_by h.0 ∙ ap (λ k. Run k (digits_value 10 (decimal n))) (digits_value-decimal own s (omega (arith, h.1.0.1))) ∙ ap (λ k. Run s k) (digits_value-decimal own n h.1.1)
+named_is ws (Wave s n) h =
+    ap named_by h.0 ∙ ap (λ k. Wave k (digits_value 10 (decimal n))) (digits_value-decimal own s (omega (arith, h.1.0.1))) ∙ ap (λ k. Wave s k) (digits_value-decimal own n h.1.1)
+named_is ws Unwave h = ap named_by h.0
 named_is ws (Sim n) h = ap named_by h.0 ∙ ap (λ n. Sim n) (digits_value-decimal own n h.1)
 
 pub same_command : (ws : List (List ℕ)) (a b : Command) → IsCommand ws a → IsCommand ws b → a ≡ b
@@ -290,6 +323,10 @@ cut_once bytes part part' table table' (Unmarked n p t) (Marked e' s' c' p' t') 
     absurd (marked_has (lines (take e' bytes)) c'.line (lines (drop s' bytes)) c'.mark (ap no_mark (sym c'.cut) ∙ n))
 cut_once bytes part part' table table' (Unmarked n p t) (Unmarked n' p' t') = record { parts = p ∙ sym p'; tables = t ∙ sym t' }
 
+parts_once : (whole : Bool) (bytes part part' : List ℕ) (table table' : List (List (List ℕ))) → AreParts whole bytes part table → AreParts whole bytes part' table' → SameParts part part' table table'
+parts_once true bytes part part' table table' a b = record { parts = a.0 ∙ sym b.0; tables = a.1 ∙ sym b.1 }
+parts_once false bytes part part' table table' a b = cut_once bytes part part' table table' a b
+
 -- ---- where a job has a result it answers it
 
 -- a text is one program
@@ -313,6 +350,7 @@ never_refused part p ReadFault t r = absurd r
 never_refused part p WriteFault t r = absurd r
 never_refused part p TooLong t r = absurd r
 never_refused part p Memory t r = absurd r
+never_refused part p (BadWave at) t r = absurd r
 
 checked_ok : (part : List ℕ) (status : Status) (text : List ℕ) (p : ProgramTree) → IsTyped part p → IsChecked part status text → status ≡ Ok
 checked_ok part Ok text p t b = refl
@@ -328,6 +366,7 @@ checked_ok part ReadFault text p t b = never_refused part p ReadFault t b.0
 checked_ok part WriteFault text p t b = never_refused part p WriteFault t b.0
 checked_ok part TooLong text p t b = never_refused part p TooLong t b.0
 checked_ok part Memory text p t b = never_refused part p Memory t b.0
+checked_ok part (BadWave at) text p t b = never_refused part p (BadWave at) t b.0
 
 eval_of_ok : (p : ProgramTree) (table : List (List (List ℕ))) (status : Status) (text : List ℕ) → bad_row 1 (input_widths p) table ≡ None → eval_size p table ≤ run_limit
     → IsEvalOf p table status text → status ≡ Ok
@@ -344,6 +383,7 @@ eval_of_ok p table ReadFault text right short b = absurd b
 eval_of_ok p table WriteFault text right short b = absurd b
 eval_of_ok p table TooLong text right short b = absurd b
 eval_of_ok p table Memory text right short b = absurd b
+eval_of_ok p table (BadWave at) text right short b = absurd b
 
 record EvalFits (p : ProgramTree) (table : List (List (List ℕ))) : Type 0 where
   right : bad_row 1 (input_widths p) table ≡ None
@@ -382,6 +422,7 @@ never_cost_refused limit part slowdown ReadFault h b = never_refused part h.prog
 never_cost_refused limit part slowdown WriteFault h b = never_refused part h.program WriteFault h.costed.typed b
 never_cost_refused limit part slowdown TooLong h b = never_refused part h.program TooLong h.costed.typed b
 never_cost_refused limit part slowdown Memory h b = never_refused part h.program Memory h.costed.typed b
+never_cost_refused limit part slowdown (BadWave at) h b = never_refused part h.program (BadWave at) h.costed.typed b
 
 answered_ok : (limit : ℕ) (IsRight : List ℕ → Type 0) (part : List ℕ) (slowdown : ℕ) (status : Status) (text : List ℕ) → HasCosts limit part slowdown → IsAnswered limit IsRight part slowdown status text → status ≡ Ok
 answered_ok limit IsRight part slowdown Ok text h b = refl
@@ -397,39 +438,62 @@ answered_ok limit IsRight part slowdown ReadFault text h b = never_cost_refused 
 answered_ok limit IsRight part slowdown WriteFault text h b = never_cost_refused limit part slowdown WriteFault h b.0
 answered_ok limit IsRight part slowdown TooLong text h b = never_cost_refused limit part slowdown TooLong h b.0
 answered_ok limit IsRight part slowdown Memory text h b = never_cost_refused limit part slowdown Memory h b.0
+answered_ok limit IsRight part slowdown (BadWave at) text h b = never_cost_refused limit part slowdown (BadWave at) h b.0
 
-run_of_ok : (fill : ℕ) (p : ProgramTree) (slowdown : ℕ) (instances : List StFuncTree) (table : List (List (List ℕ))) (status : Status) (text : List ℕ) → bad_row 1 (input_widths p) table ≡ None
-    → run_size p slowdown (main_costs instances).latency table ≤ run_limit → IsRunOf fill p slowdown instances table status text → status ≡ Ok
-run_of_ok fill p slowdown instances table Ok text right short b = refl
-run_of_ok fill p slowdown instances table Usage text right short b = absurd b
-run_of_ok fill p slowdown instances table (BadLine line) text right short b = absurd b
-run_of_ok fill p slowdown instances table (BadType line) text right short b = absurd b
-run_of_ok fill p slowdown instances table (TooLarge line) text right short b = absurd b
-run_of_ok fill p slowdown instances table (NoSchedule line) text right short b = absurd b
-run_of_ok fill p slowdown instances table (BadWords row column) text right short b = let e = sym right ∙ b.0 in cc
-run_of_ok fill p slowdown instances table (BadModule fault) text right short b = absurd b
-run_of_ok fill p slowdown instances table (LongRun size) text right short b =
-    let long : run_limit < size = b.1 in let is : size ≡ run_size p slowdown (main_costs instances).latency table = b.2 in absurd (omega (arith, long, is, short))
-run_of_ok fill p slowdown instances table ReadFault text right short b = absurd b
-run_of_ok fill p slowdown instances table WriteFault text right short b = absurd b
-run_of_ok fill p slowdown instances table TooLong text right short b = absurd b
-run_of_ok fill p slowdown instances table Memory text right short b = absurd b
+run_of_ok : (form : Form) (fill : ℕ) (p : ProgramTree) (slowdown : ℕ) (instances : List StFuncTree) (table : List (List (List ℕ))) (status : Status) (text : List ℕ) → bad_row 1 (input_widths p) table ≡ None
+    → run_size form p slowdown (main_costs instances).latency table ≤ run_limit → IsRunOf form fill p slowdown instances table status text → status ≡ Ok
+run_of_ok form fill p slowdown instances table Ok text right short b = refl
+run_of_ok form fill p slowdown instances table Usage text right short b = absurd b
+run_of_ok form fill p slowdown instances table (BadLine line) text right short b = absurd b
+run_of_ok form fill p slowdown instances table (BadType line) text right short b = absurd b
+run_of_ok form fill p slowdown instances table (TooLarge line) text right short b = absurd b
+run_of_ok form fill p slowdown instances table (NoSchedule line) text right short b = absurd b
+run_of_ok form fill p slowdown instances table (BadWords row column) text right short b = let e = sym right ∙ b.0 in cc
+run_of_ok form fill p slowdown instances table (BadModule fault) text right short b = absurd b
+run_of_ok form fill p slowdown instances table (LongRun size) text right short b =
+    let long : run_limit < size = b.1 in let is : size ≡ run_size form p slowdown (main_costs instances).latency table = b.2 in absurd (omega (arith, long, is, short))
+run_of_ok form fill p slowdown instances table ReadFault text right short b = absurd b
+run_of_ok form fill p slowdown instances table WriteFault text right short b = absurd b
+run_of_ok form fill p slowdown instances table TooLong text right short b = absurd b
+run_of_ok form fill p slowdown instances table Memory text right short b = absurd b
+run_of_ok form fill p slowdown instances table (BadWave at) text right short b = absurd b
 
 costs_same : (instances others : List StFuncTree) → AreAlike instances others → main_costs instances ≡ main_costs others
 costs_same instances others h =
     ap (costs_in (all_costs (take (last_of instances) instances))) h.here ∙ h.same.costs ∙ sym (ap (costs_in (all_costs (take (last_of others) others))) h.there)
 
-run_ok : (slowdown fill : ℕ) (part : List ℕ) (table : List (List (List ℕ))) (status : Status) (text : List ℕ) → HasShortRun part slowdown table → IsRun slowdown fill part table status text → status ≡ Ok
-run_ok slowdown fill part table status text h (Unbuilt r e) = never_cost_refused load_limit part slowdown status h.costs r
-run_ok slowdown fill part table status text h (Played p instances c r) =
+run_ok : (form : Form) (slowdown fill : ℕ) (part : List ℕ) (table : List (List (List ℕ))) (status : Status) (text : List ℕ) → HasShortRun form part slowdown table → IsRun form slowdown fill part table status text → status ≡ Ok
+run_ok form slowdown fill part table status text h (Unbuilt r e) = never_cost_refused load_limit part slowdown status h.costs r
+run_ok form slowdown fill part table status text h (Played p instances c r) =
     let own = h.costs in
     let same : own.program ≡ p = one_program part own.program p own.costed.typed.reads c.typed.reads in
     let schedule : IsSchedule own.program slowdown instances = subst (λ (q : ProgramTree). IsSchedule q slowdown instances) (sym same) c.schedule in
     let costs : main_costs own.instances ≡ main_costs instances = costs_same own.instances instances (schedules_alike own.program slowdown own.instances instances own.costed.schedule schedule) in
     let right : bad_row 1 (input_widths p) table ≡ None = ap (λ (q : ProgramTree). bad_row 1 (input_widths q) table) (sym same) ∙ h.rows in
-    let short : run_size p slowdown (main_costs instances).latency table ≤ run_limit = subst (λ (q : ProgramTree). run_size q slowdown (main_costs instances).latency table ≤ run_limit) same
-    (subst (λ (x : OwnCosts). run_size own.program slowdown x.latency table ≤ run_limit) costs h.short) in
-    run_of_ok fill p slowdown instances table status text right short r
+    let short : run_size form p slowdown (main_costs instances).latency table ≤ run_limit = subst (λ (q : ProgramTree). run_size form q slowdown (main_costs instances).latency table ≤ run_limit) same
+    (subst (λ (x : OwnCosts). run_size form own.program slowdown x.latency table ≤ run_limit) costs h.short) in
+    run_of_ok form fill p slowdown instances table status text right short r
+
+unwave_ok : (part : List ℕ) (status : Status) (text : List ℕ) → IsReadable part → IsUnwaved part status text → status ≡ Ok
+unwave_ok part Ok text h b = refl
+unwave_ok part Usage text h b = absurd b
+unwave_ok part (BadLine line) text h b = absurd b
+unwave_ok part (BadType line) text h b = absurd b
+unwave_ok part (TooLarge line) text h b = absurd b
+unwave_ok part (NoSchedule line) text h b = absurd b
+unwave_ok part (BadWords row column) text h b = absurd b
+unwave_ok part (BadModule fault) text h b = absurd b
+unwave_ok part (LongRun size) text h b =
+    let same : h.0 ≡ b.0 = b.1.only h.0 h.1 in
+    let few : size_of h.0 ≤ run_limit = h.2 in
+    let long : run_limit < size = b.2 in
+    let is : size ≡ size_of b.0 = b.3 in
+    absurd (omega (arith, few, long, is, ap size_of same))
+unwave_ok part ReadFault text h b = absurd b
+unwave_ok part WriteFault text h b = absurd b
+unwave_ok part TooLong text h b = absurd b
+unwave_ok part Memory text h b = absurd b
+unwave_ok part (BadWave at) text h b = absurd (b.0.none h.0 h.1)
 
 reply_ok : (command : Command) (part : List ℕ) (table : List (List (List ℕ))) (status : Status) (text : List ℕ) → HasResult command part table → IsReply command part table status text → status ≡ Ok
 reply_ok Check part table status text h b = checked_ok part status text h.0 h.1 b
@@ -439,12 +503,14 @@ reply_ok (Cost slowdown) part table status text h b = answered_ok load_limit (Is
 reply_ok (Build slowdown) part table status text h b = answered_ok load_limit (IsBuiltText part slowdown) part slowdown status text h b
 reply_ok (Stall slowdown) part table status text h b = answered_ok stall_limit (IsBuiltStalled part slowdown) part slowdown status text h b
 reply_ok (Demo size) part table status text h b = absurd h
-reply_ok (Run slowdown fill) part table status text h b = run_ok slowdown fill part table status text h b
+reply_ok (Run slowdown fill) part table status text h b = run_ok Lines slowdown fill part table status text h b
+reply_ok (Wave slowdown fill) part table status text h b = run_ok Dump slowdown fill part table status text h b
+reply_ok Unwave part table status text h b = unwave_ok part status text h b
 reply_ok (Sim fill) part table status text h b = sim_complete fill part table status text h b
 
 pub done_of_accepted : (command : Command) (left : Option (List ℕ)) (i : IsAccepted command left) (status : Status) (text : List ℕ) → IsDone command i.bytes status text → status ≡ Ok
 done_of_accepted command left i status text d =
-    let s = cut_once i.bytes i.part d.part i.table d.table i.cut d.cut in
+    let s = parts_once (takes_whole command) i.bytes i.part d.part i.table d.table i.cut d.cut in
     let P : List ℕ → Type 0 = λ x. HasResult command x i.table in
     let Q : List (List (List ℕ)) → Type 0 = λ x. HasResult command d.part x in
     reply_ok command d.part d.table status text (subst Q s.tables (subst P s.parts i.result)) d.reply

@@ -6,12 +6,13 @@ use Rattle.ae_parse.specs.Rows.{rows, bad_row, words_in}
 use Rattle.ae_rewrite.specs.StProgramTree.{StFuncTree}
 use Rattle.ae_delay.specs.declared.own.OwnCosts.{OwnCosts}
 use Rattle.ae_play.specs.Lines.{clock_count}
+use Rattle.ae_tool.specs.declared.run.Form.{Form}
 use Rattle.ae_tool.specs.declared.status.Status.{Status}
 use Rattle.ae_tool.specs.declared.status.Status.TheVariants.{LongRun}
 use Rattle.ae_tool.specs.Refusals.{refusal_line}
 use Rattle.ae_compile.specs.Costing.{main_costs}
 use Rattle.ae_tool.specs.EvalRows.{AreRows, AreBlocks}
-use Rattle.ae_tool.specs.RunTexts.{IsRunOf, input_widths, output_count, run_limit, run_size}
+use Rattle.ae_tool.specs.RunTexts.{IsRunOf, input_widths, run_limit, run_size, word_count}
 use Rattle.ae_tool.proofs.RowCounts.{few_rows}
 use Rattle.ae_tool.proofs.EvalSteps.{rows_count}
 
@@ -32,14 +33,14 @@ blocks_known p columns table ws typed a = record {
   rows = record { columns_are = refl; few = a.few; right = a.right; words_are = a.words_are };
 }
 
-pub run_size_is : (p : ProgramTree) (slowdown : ℕ) (costs : OwnCosts) (columns : ℕ) (table : List (List (List ℕ))) (ws : List ℕ) (latency clocks outs : ℕ) → IsTyped p → AreRows p columns table ws
-    → latency ≡ costs.latency → clocks ≡ clock_count slowdown latency (length ws / columns) → outs ≡ output_count p slowdown → clocks * (1 + outs) ≡ run_size p slowdown costs.latency table
-run_size_is p slowdown costs columns table ws latency clocks outs typed a el ec eo =
+pub run_size_is : (form : Form) (p : ProgramTree) (slowdown : ℕ) (costs : OwnCosts) (columns : ℕ) (table : List (List (List ℕ))) (ws : List ℕ) (latency clocks words : ℕ) → IsTyped p → AreRows p columns table ws
+    → latency ≡ costs.latency → clocks ≡ clock_count slowdown latency (length ws / columns) → words ≡ word_count form p slowdown → clocks * (1 + words) ≡ run_size form p slowdown costs.latency table
+run_size_is form p slowdown costs columns table ws latency clocks words typed a el ec eo =
     let all : clocks ≡ clock_count slowdown costs.latency (length table) = ec ∙ (λ i. clock_count slowdown (el i) (rows_count p columns table ws typed a i)) in
     λ i. all i * (1 + eo i)
 
-pub run_too_long : (fill : ℕ) (p : ProgramTree) (slowdown : ℕ) (instances : List StFuncTree) (columns : ℕ) (table : List (List (List ℕ))) (ws : List ℕ) (size : ℕ) (status : Status) (text : List ℕ) → AreRows p columns table ws
-    → size ≡ run_size p slowdown (main_costs instances).latency table → run_limit < size → status ≡ LongRun size → text ≡ refusal_line (LongRun size) → IsRunOf fill p slowdown instances table status text
-run_too_long fill p slowdown instances columns table ws size status text a es lt st te =
-    let here : IsRunOf fill p slowdown instances table (LongRun size) text = (a.right, lt, es, te) in
-    subst (λ (x : Status). IsRunOf fill p slowdown instances table x text) (sym st) here
+pub run_too_long : (form : Form) (fill : ℕ) (p : ProgramTree) (slowdown : ℕ) (instances : List StFuncTree) (columns : ℕ) (table : List (List (List ℕ))) (ws : List ℕ) (size : ℕ) (status : Status) (text : List ℕ) → AreRows p columns table ws
+    → size ≡ run_size form p slowdown (main_costs instances).latency table → run_limit < size → status ≡ LongRun size → text ≡ refusal_line (LongRun size) → IsRunOf form fill p slowdown instances table status text
+run_too_long form fill p slowdown instances columns table ws size status text a es lt st te =
+    let here : IsRunOf form fill p slowdown instances table (LongRun size) text = (a.right, lt, es, te) in
+    subst (λ (x : Status). IsRunOf form fill p slowdown instances table x text) (sym st) here

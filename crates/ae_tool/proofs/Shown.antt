@@ -112,7 +112,7 @@ told_words p slowdown instances times n report notes blocks table ws k d a =
 -- ---- the whole text
 
 -- one program has one report
-same_report : (p : ProgramTree) (slowdown : ℕ) (instances : List StFuncTree) (n o : Circuit) (report other : ReportTree) (notes more : List NoteTree) → IsCompiled p slowdown instances n report notes → IsCompiled p slowdown instances o other more → report ≡ other
+pub same_report : (p : ProgramTree) (slowdown : ℕ) (instances : List StFuncTree) (n o : Circuit) (report other : ReportTree) (notes more : List NoteTree) → IsCompiled p slowdown instances n report notes → IsCompiled p slowdown instances o other more → report ≡ other
 same_report p slowdown instances n o report other notes more d e =
     let same : d.instance ≡ e.instance = same_Some d.instance e.instance (sym d.last ∙ e.last) in
     d.reported ∙ ap (report_of false slowdown instances) same ∙ sym e.reported

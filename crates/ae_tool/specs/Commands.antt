@@ -1,9 +1,9 @@
 -- The words that name a job.
-use Rattle.std.specs.Prelude.{◌≡◌, ℕ, ◌<◌, ◌≤◌, ◌^◌, List, [], ◌∷◌, map, codes, String, string_bytes}
+use Rattle.std.specs.Prelude.{◌≡◌, ℕ, ◌<◌, ◌≤◌, ◌^◌, Bool, true, false, List, [], ◌∷◌, map, codes, String, string_bytes}
 use Rattle.std.specs.Fmt.{decimal}
 use Rattle.std.specs.declared.alloc.Global.{Global}
 use Rattle.ae_tool.specs.declared.command.Command.{Command}
-use Rattle.ae_tool.specs.declared.command.Command.TheVariants.{Check, Eval, Plan, Cost, Build, Stall, Run, Sim, Demo}
+use Rattle.ae_tool.specs.declared.command.Command.TheVariants.{Check, Eval, Plan, Cost, Build, Stall, Run, Wave, Unwave, Sim, Demo}
 
 -- the bytes of each word
 abbrev pub word_bytes : List (String Global) → List (List ℕ)
@@ -19,6 +19,8 @@ job_word (Build slowdown) = codes "build"
 job_word (Stall slowdown) = codes "stall"
 job_word (Demo size) = codes "demo"
 job_word (Run slowdown fill) = codes "run"
+job_word (Wave slowdown fill) = codes "wave"
+job_word Unwave = codes "unwave"
 job_word (Sim fill) = codes "sim"
 
 abbrev pub number_words : Command → List (List ℕ)
@@ -30,6 +32,8 @@ number_words (Build slowdown) = decimal slowdown ∷ []
 number_words (Stall slowdown) = decimal slowdown ∷ []
 number_words (Demo size) = decimal size ∷ []
 number_words (Run slowdown fill) = decimal slowdown ∷ decimal fill ∷ []
+number_words (Wave slowdown fill) = decimal slowdown ∷ decimal fill ∷ []
+number_words Unwave = []
 number_words (Sim fill) = decimal fill ∷ []
 
 -- a slowdown within its limits
@@ -48,6 +52,7 @@ AreInRange (Build slowdown) = IsSlowdown slowdown
 AreInRange (Stall slowdown) = IsSlowdown slowdown
 AreInRange (Demo size) = IsDemoSize size
 AreInRange (Run slowdown fill) = IsSlowdown slowdown × (fill < 2 ^ 64)
+AreInRange (Wave slowdown fill) = IsSlowdown slowdown × (fill < 2 ^ 64)
 AreInRange (Sim fill) = fill < 2 ^ 64
 AreInRange _ = Unit {0}
 
@@ -55,6 +60,11 @@ AreInRange _ = Unit {0}
 abbrev pub TakesInput : Command → Type 0
 TakesInput (Demo size) = ⊥
 TakesInput _ = Unit {0}
+
+-- the job takes its input as one part
+abbrev pub takes_whole : Command → Bool
+takes_whole Unwave = true
+takes_whole _ = false
 
 -- the words name this job
 abbrev pub IsCommand : (words : List (List ℕ)) → Command → Type 0

@@ -1,5 +1,5 @@
 -- What an input says: a program, and rows of words behind a line `%%`.
-use Rattle.std.specs.Prelude.{◌≡◌, ℕ, true, List, [], ◌∷◌, ◌++◌, map, take, drop}
+use Rattle.std.specs.Prelude.{◌≡◌, ℕ, Bool, true, false, List, [], ◌∷◌, ◌++◌, map, take, drop}
 use Rattle.ae_word.specs.AtomTree.{WordKind}
 use Rattle.ae_seqtype.specs.SeqTree.{SeqTree, kinds, words}
 use Rattle.ae_seqtype.specs.ValueTree.{ValueTree, value_of}
@@ -11,6 +11,11 @@ use Rattle.ae_parse.specs.Rows.{rows, row_words}
 pub data IsCut (bytes part : List ℕ) (table : List (List (List ℕ))) : Type 0 where
   Marked : (end start : ℕ) → IsSplit bytes end start → part ≡ take end bytes → table ≡ rows (drop start bytes) → IsCut bytes part table
   Unmarked : no_mark (lines bytes) ≡ true → part ≡ bytes → table ≡ [] → IsCut bytes part table
+
+-- what a job takes for the parts of its input: all of it, without rows, or what stands before and behind that line
+abbrev pub AreParts : (whole : Bool) → (bytes part : List ℕ) (table : List (List (List ℕ))) → Type 0
+AreParts true bytes part table = (part ≡ bytes) × (table ≡ [])
+AreParts false bytes part table = IsCut bytes part table
 
 -- the widths of all words of some types, in order
 abbrev pub type_widths : SeqTree → List ℕ

@@ -14,4 +14,6 @@ pub mod RunTexts
 pub mod Schedules
 pub mod SimPlaying
 pub mod SimTexts
+pub mod UnwaveTexts
+pub mod WaveTexts
 pub mod DemoTexts

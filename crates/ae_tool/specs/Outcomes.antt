@@ -7,9 +7,11 @@ use Rattle.ae_tool.specs.declared.status.Status.{Status}
 use Rattle.ae_tool.specs.declared.status.Status.TheVariants.{Ok, Usage, ReadFault, WriteFault, TooLong, Memory}
 use Rattle.ae_parse.specs.Rows.{bad_row}
 use Rattle.ae_tool.specs.declared.command.Command.{Command}
-use Rattle.ae_tool.specs.declared.command.Command.TheVariants.{Check, Eval, Plan, Cost, Build, Stall, Run, Sim, Demo}
-use Rattle.ae_tool.specs.Commands.{IsCommand, NamesNone, TakesInput}
-use Rattle.ae_tool.specs.Inputs.{IsCut}
+use Rattle.ae_tool.specs.declared.command.Command.TheVariants.{Check, Eval, Plan, Cost, Build, Stall, Run, Wave, Unwave, Sim, Demo}
+use Rattle.ae_tool.specs.declared.run.Form.{Form}
+use Rattle.ae_tool.specs.declared.run.Form.TheVariants.{Lines, Dump}
+use Rattle.ae_tool.specs.Commands.{IsCommand, NamesNone, TakesInput, takes_whole}
+use Rattle.ae_tool.specs.Inputs.{AreParts}
 use Rattle.ae_tool.specs.Refusals.{refusal_line}
 use Rattle.ae_stalled.specs.Laws.{stall_limit}
 use Rattle.ae_compile.specs.Building.{IsBuiltStalled, IsBuiltText}
@@ -23,6 +25,7 @@ use Rattle.ae_tool.specs.Schedules.{IsAnswered, IsPlanned, IsTabled}
 use Rattle.ae_tool.specs.EvalTexts.{eval_size, IsEvalOf}
 use Rattle.ae_tool.specs.RunTexts.{input_widths, run_size, run_limit, IsRun}
 use Rattle.ae_tool.specs.SimTexts.{IsSimulated, IsSimulable}
+use Rattle.ae_tool.specs.UnwaveTexts.{IsReadable, IsUnwaved}
 
 -- the most bytes of an input
 abbrev pub input_limit : ℕ
@@ -55,14 +58,16 @@ IsReply (Cost slowdown) part table status text = IsTabled part slowdown status t
 IsReply (Build slowdown) part table status text = IsBuilt part slowdown status text
 IsReply (Stall slowdown) part table status text = IsStalled part slowdown status text
 IsReply (Demo size) part table status text = ⊥
-IsReply (Run slowdown fill) part table status text = IsRun slowdown fill part table status text
+IsReply (Run slowdown fill) part table status text = IsRun Lines slowdown fill part table status text
+IsReply (Wave slowdown fill) part table status text = IsRun Dump slowdown fill part table status text
+IsReply Unwave part table status text = IsUnwaved part status text
 IsReply (Sim fill) part table status text = IsSimulated fill part table status text
 
 -- the same for an input within the limit
 pub record IsDone (command : Command) (bytes : List ℕ) (status : Status) (text : List ℕ) : Type 0 where
   pub part : List ℕ
   pub table : List (List (List ℕ))
-  pub cut : IsCut bytes part table
+  pub cut : AreParts (takes_whole command) bytes part table
   pub reply : IsReply command part table status text
 
 -- what a job answers and writes for the bytes of the input: a demo takes none, and has one answer
@@ -114,10 +119,10 @@ RefusesWords status old_faults new_faults old_wants new_wants =
     (status ≡ Usage) ⊎ (((status ≡ WriteFault) × Rose old_faults new_faults) ⊎ ((status ≡ Memory) × Rose old_wants new_wants))
 
 -- the program has costs, the rows have its words, and its run is not too long
-pub record HasShortRun (part : List ℕ) (slowdown : ℕ) (table : List (List (List ℕ))) : Type 0 where
+pub record HasShortRun (form : Form) (part : List ℕ) (slowdown : ℕ) (table : List (List (List ℕ))) : Type 0 where
   pub costs : HasCosts load_limit part slowdown
   pub rows : bad_row 1 (input_widths costs.program) table ≡ None
-  pub short : run_size costs.program slowdown (main_costs costs.instances).latency table ≤ run_limit
+  pub short : run_size form costs.program slowdown (main_costs costs.instances).latency table ≤ run_limit
 
 -- the job has a result for the two parts of an input; a demo takes none
 abbrev pub HasResult : Command → (part : List ℕ) (table : List (List (List ℕ))) → Type 0
@@ -128,7 +133,9 @@ HasResult (Cost slowdown) part table = HasCosts load_limit part slowdown
 HasResult (Build slowdown) part table = HasCosts load_limit part slowdown
 HasResult (Stall slowdown) part table = HasCosts stall_limit part slowdown
 HasResult (Demo size) part table = ⊥
-HasResult (Run slowdown fill) part table = HasShortRun part slowdown table
+HasResult (Run slowdown fill) part table = HasShortRun Lines part slowdown table
+HasResult (Wave slowdown fill) part table = HasShortRun Dump part slowdown table
+HasResult Unwave part table = IsReadable part
 HasResult (Sim fill) part table = IsSimulable part table
 
 -- the input is told, within the limit, and one for which the job has a result
@@ -138,5 +145,5 @@ pub record IsAccepted (command : Command) (left : Option (List ℕ)) : Type 0 wh
   pub few : length bytes ≤ input_limit
   pub part : List ℕ
   pub table : List (List (List ℕ))
-  pub cut : IsCut bytes part table
+  pub cut : AreParts (takes_whole command) bytes part table
   pub result : HasResult command part table

@@ -3,7 +3,7 @@
 ghost use Rattle.std.specs.Prelude.{◌≡◌, ◌∷◌, [], ℕ, ◌<◌, ◌≤◌, ◌^◌, codes, MatchOption};
 ghost use Rattle.std.specs.Fmt.{decimal};
 ghost use Rattle.ae_tool.specs.declared.command.Command.TheVariants.{Demo};
-ghost use Rattle.ae_tool.specs.Commands.{word_bytes, IsCommand, IsDemoSize, IsSlowdown, NamesNone, TakesInput};
+ghost use Rattle.ae_tool.specs.Commands.{word_bytes, IsCommand, IsDemoSize, IsSlowdown, NamesNone, TakesInput, takes_whole};
 
 use ae_parse::number;
 
@@ -24,6 +24,10 @@ pub enum Command {
     Stall { slowdown: u32 },
     /// `run S FILL`: the text of `build S`, and the lines of the module's run on the rows.
     Run { slowdown: u32, fill: u64 },
+    /// `wave S FILL`: the same text in a comment, and the module's run on the rows as a value change dump.
+    Wave { slowdown: u32, fill: u64 },
+    /// `unwave`: the words of the wave that a value change dump holds.
+    Unwave,
     /// `sim FILL`: the clock lines of the module that a text spells, on the rows.
     Sim { fill: u64 },
     /// `demo N`: the module of a program that grows with N, and what is summed of its run.
@@ -48,7 +52,7 @@ pub fn demo_size(command: Command) -> Option<u32>
 {
     match command {
         Command::Demo { size } => Some(size),
-        Command::Check | Command::Eval => None,
+        Command::Check | Command::Eval | Command::Unwave => None,
         Command::Plan { slowdown: _ } => None,
         Command::Cost { slowdown: _ } => None,
         Command::Build { slowdown: _ } => None,
@@ -57,8 +61,19 @@ pub fn demo_size(command: Command) -> Option<u32>
             slowdown: _,
             fill: _,
         } => None,
+        Command::Wave {
+            slowdown: _,
+            fill: _,
+        } => None,
         Command::Sim { fill: _ } => None,
     }
+}
+
+/// Whether the job takes its input as one part, without rows.
+pub fn takes_whole(command: Command) -> bool
+    ensures { result ≡ takes_whole command }
+{
+    matches!(&command, Command::Unwave)
 }
 
 fn one_word(job: &str) -> Option<Command>
@@ -68,6 +83,8 @@ fn one_word(job: &str) -> Option<Command>
         Some(Command::Check)
     } else if job == "eval" {
         Some(Command::Eval)
+    } else if job == "unwave" {
+        Some(Command::Unwave)
     } else {
         None
     }
@@ -185,6 +202,8 @@ fn three_words(job: &str, slowdown: &str, fill: &str) -> Option<Command>
 {
     if job == "run" {
         run(slowdown, fill)
+    } else if job == "wave" {
+        wave(slowdown, fill)
     } else {
         None
     }
@@ -196,6 +215,18 @@ fn run(slowdown: &str, fill: &str) -> Option<Command>
     match slowdown_of(slowdown) {
         Some(slowdown) => match plain_number(fill.as_bytes()) {
             Some(fill) => Some(Command::Run { slowdown, fill }),
+            None => None,
+        },
+        None => None,
+    }
+}
+
+fn wave(slowdown: &str, fill: &str) -> Option<Command>
+    ensures { MatchOption result (NamesNone (codes "wave" ∷ slowdown.now ∷ fill.now ∷ [])) (λ c. IsCommand (codes "wave" ∷ slowdown.now ∷ fill.now ∷ []) c) }
+{
+    match slowdown_of(slowdown) {
+        Some(slowdown) => match plain_number(fill.as_bytes()) {
+            Some(fill) => Some(Command::Wave { slowdown, fill }),
             None => None,
         },
         None => None,

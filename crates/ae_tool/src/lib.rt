@@ -17,6 +17,8 @@ mod serve;
 mod sim;
 mod stall;
 mod status;
+mod unwave;
+mod wave;
 mod widths;
 
 pub use call::aeth;

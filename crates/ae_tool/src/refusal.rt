@@ -35,6 +35,7 @@ fn write_refusal(out: &mut String, status: Status) -> Result<(), AllocError>
         Status::ReadFault => out.push_str("read fault"),
         Status::TooLong => out.push_str("too long"),
         Status::Memory => out.push_str("memory"),
+        Status::BadWave { at } => write!(out, "bad wave word {at}"),
     }
 }
 

@@ -4,8 +4,8 @@ ghost use Rattle.std.specs.Prelude.{◌≡◌, ◌<◌, ◌≤◌, ◌^◌, ℕ,
 ghost use Rattle.ae_parse.specs.Rows.{rows};
 ghost use Rattle.ae_compile.specs.Costing.{IsCostFault};
 ghost use Rattle.ae_compile.specs.Programs.{IsTypedFault};
-ghost use Rattle.ae_tool.specs.Commands.{AreInRange, TakesInput};
-ghost use Rattle.ae_tool.specs.Inputs.{IsCut};
+ghost use Rattle.ae_tool.specs.Commands.{AreInRange, TakesInput, takes_whole};
+ghost use Rattle.ae_tool.specs.Inputs.{AreParts, IsCut};
 ghost use Rattle.ae_tool.specs.Programs.{IsRefusal};
 ghost use Rattle.ae_tool.specs.Refusals.{refusal_line};
 ghost use Rattle.ae_tool.specs.Schedules.{IsCostRefusal};
@@ -13,14 +13,15 @@ ghost use Rattle.ae_tool.specs.Outcomes.{IsChecked, IsEvaluated, IsReply, IsDone
 
 use crate::build::build;
 use crate::check_text::check_text;
-use crate::command::Command;
+use crate::command::{Command, takes_whole};
 use crate::evaluate::evaluate;
 use crate::plan::{cost_of_lines, plan};
 use crate::refusal::refusal_line;
-use crate::run::run;
+use crate::run::{Form, run};
 use crate::sim::simulate;
 use crate::stall::stall;
 use crate::status::Status;
+use crate::unwave::unwave;
 use ae_compile::{CompileFault, OutOfMemory, typed};
 use ae_parse::split;
 use std::alloc::Global;
@@ -65,6 +66,18 @@ fn cut(bytes: &[u8]) -> (&[u8], &[u8])
     match split(bytes) {
         (end, Some(start)) => (&bytes[..end], &bytes[start..]),
         (end, None) => (&bytes[..end], &bytes[end..]),
+    }
+}
+
+// The parts that a job takes its input as.
+fn parts(command: Command, bytes: &[u8]) -> (&[u8], &[u8])
+    ensures parts { AreParts (takes_whole command) bytes.now result.0.now (rows result.1.now) }
+    ensures shorter { (length result.0.now ≤ length bytes.now) × (length result.1.now ≤ length bytes.now) }
+{
+    if takes_whole(command) {
+        (bytes, &bytes[bytes.len()..])
+    } else {
+        cut(bytes)
     }
 }
 
@@ -116,7 +129,9 @@ fn answer_parts(
         Command::Cost { slowdown } => cost_of_lines(alloc, part, slowdown),
         Command::Build { slowdown } => build(alloc, part, slowdown),
         Command::Stall { slowdown } => stall(alloc, part, slowdown),
-        Command::Run { slowdown, fill } => run(alloc, part, rest, slowdown, fill),
+        Command::Run { slowdown, fill } => run(alloc, part, rest, slowdown, fill, Form::Lines),
+        Command::Wave { slowdown, fill } => run(alloc, part, rest, slowdown, fill, Form::Dump),
+        Command::Unwave => unwave(alloc, part),
         Command::Demo { size: _ } => unreachable!(),
         Command::Sim { fill } => simulate(alloc, part, rest, fill),
     }
@@ -129,6 +144,6 @@ pub fn answer(alloc: Global, command: Command, bytes: &[u8]) -> Result<Reply, Ou
     requires few { length bytes.now < 4294967295 }
     ensures { IfOk result (λ reply. IsDone command bytes.now reply.status (string_bytes reply.text)) }
 {
-    let (part, rest) = cut(bytes);
+    let (part, rest) = parts(command, bytes);
     answer_parts(alloc, command, part, rest)
 }

@@ -1,4 +1,4 @@
-// The job `run`.
+// The jobs `run` and `wave`.
 
 ghost use Rattle.std.specs.Prelude.{◌≡◌, ◌+◌, ◌*◌, ◌/◌, ◌<◌, ◌≤◌, ◌^◌, List, ℕ, length, map, sum_by, All, IfOk, string_bytes};
 ghost use Rattle.ae_parse.specs.Rows.{rows};
@@ -10,10 +10,11 @@ ghost use Rattle.ae_rewrite.specs.StProgramTree.{st_func_trees};
 ghost use Rattle.ae_play.specs.Lines.{clock_count};
 ghost use Rattle.ae_tool.specs.EvalRows.{AreRows, AreBlocks};
 ghost use Rattle.ae_compile.specs.Passes.{IsCompiledProgram, IsCostedProgram};
-ghost use Rattle.ae_tool.specs.RunTexts.{IsRun, IsRunOf, IsRunText, output_count};
+ghost use Rattle.ae_tool.specs.RunTexts.{IsRun, IsRunOf, IsRunText, IsShown, input_count, output_count, run_limit, word_count};
 
 use crate::reply::{RUN_LIMIT, Reply, refused, refused_program};
 use crate::status::Status;
+use crate::wave::wave_text;
 use crate::widths::input_widths;
 use ae_compile::{
     Compiled, Costed, LOAD_LIMIT, OutOfMemory, compile, cost, main_instance, module_text,
@@ -23,6 +24,15 @@ use ae_parse::{RowFault, read_rows};
 use ae_play::write_clocks;
 use ae_sttype::StType;
 use std::alloc::Global;
+
+/// What a run is written as.
+#[derive(Clone, Copy, PartialEq, Eq, Debug)]
+pub enum Form {
+    /// A line for each clock.
+    Lines,
+    /// A value change dump.
+    Dump,
+}
 
 /// How many clocks a run of so many blocks shows.
 pub fn clock_count(slowdown: u32, latency: u32, blocks: usize) -> u64
@@ -61,6 +71,28 @@ fn output_count(alloc: Global, costed: &Costed) -> Result<u64, OutOfMemory>
     Ok(count_columns(&outs))
 }
 
+// How many words all parameters have in a clock.
+fn input_count(costed: &Costed) -> u64
+    requires { IsCostedProgram costed.now }
+    ensures is { result ≡ input_count (program_tree costed.now.program) costed.now.slowdown }
+    ensures few { result ≤ 131072 }
+{
+    count_columns(&main_instance(&costed.schedule).ins)
+}
+
+// How many words are written of a clock.
+fn word_count(alloc: Global, costed: &Costed, form: Form) -> Result<u64, OutOfMemory>
+    requires { IsCostedProgram costed.now }
+    ensures is { IfOk result (λ n. n ≡ word_count form (program_tree costed.now.program) costed.now.slowdown) }
+    ensures few { IfOk result (λ n. n ≤ 262145) }
+{
+    let outs = output_count(alloc, costed)?;
+    match form {
+        Form::Lines => Ok(outs),
+        Form::Dump => Ok(1 + input_count(costed) + outs),
+    }
+}
+
 // The text of the module, and of its run on the rows: that of the netlist that the text itself is read as.
 fn run_text(
     alloc: Global,
@@ -95,6 +127,29 @@ fn run_text(
     Ok(text)
 }
 
+// The text of a run in so many clocks, which are within the limit of its form.
+fn shown(
+    alloc: Global,
+    compiled: &Compiled,
+    words: &[u64],
+    blocks: usize,
+    clocks: u64,
+    fill: u64,
+    form: Form,
+) -> Result<String, OutOfMemory>
+    requires compiled { IsCompiledProgram compiled.now }
+    requires clocks { clocks ≡ clock_count compiled.now.costed.slowdown compiled.now.report.latency blocks }
+    requires small { clocks * (1 + word_count form (program_tree compiled.now.costed.program) compiled.now.costed.slowdown) ≤ run_limit }
+    requires rows { (table : List (List (List ℕ))) × AreBlocks (program_tree compiled.now.costed.program) blocks table words.now }
+    ensures { IfOk result (λ text. (table : List (List (List ℕ))) → AreBlocks (program_tree compiled.now.costed.program) blocks table words.now
+        → IsShown form fill (program_tree compiled.now.costed.program) compiled.now.costed.slowdown (st_func_trees compiled.now.costed.schedule) table (string_bytes text)) }
+{
+    match form {
+        Form::Lines => run_text(alloc, compiled, words, blocks, fill),
+        Form::Dump => wave_text(alloc, compiled, words, blocks, clocks, fill),
+    }
+}
+
 // The reply to rows of words that are right, if the run is not too long.
 fn run_words(
     alloc: Global,
@@ -102,20 +157,21 @@ fn run_words(
     words: &[u64],
     columns: usize,
     fill: u64,
+    form: Form,
 ) -> Result<Reply, OutOfMemory>
     requires costed { IsCostedProgram costed }
     requires rows { (table : List (List (List ℕ))) × AreRows (program_tree costed.program) columns table words.now }
     ensures { IfOk result (λ reply. (table : List (List (List ℕ))) → AreRows (program_tree costed.program) columns table words.now
-        → IsRunOf fill (program_tree costed.program) costed.slowdown (st_func_trees costed.schedule) table reply.status (string_bytes reply.text)) }
+        → IsRunOf form fill (program_tree costed.program) costed.slowdown (st_func_trees costed.schedule) table reply.status (string_bytes reply.text)) }
 {
     let blocks = words.len() / columns;
     let clocks = clock_count(costed.slowdown, costed.timing.latency(), blocks);
-    let size = clocks * (1 + output_count(alloc, &costed)?);
+    let size = clocks * (1 + word_count(alloc, &costed, form)?);
     if size > RUN_LIMIT {
         return refused(alloc, Status::LongRun { size });
     }
     let compiled = compile(alloc, costed)?;
-    let text = run_text(alloc, &compiled, words, blocks, fill)?;
+    let text = shown(alloc, &compiled, words, blocks, clocks, fill, form)?;
     Ok(Reply {
         status: Status::Ok,
         text,
@@ -123,10 +179,16 @@ fn run_words(
 }
 
 // The reply for a program with costs.
-fn run_rows(alloc: Global, costed: Costed, rest: &[u8], fill: u64) -> Result<Reply, OutOfMemory>
+fn run_rows(
+    alloc: Global,
+    costed: Costed,
+    rest: &[u8],
+    fill: u64,
+    form: Form,
+) -> Result<Reply, OutOfMemory>
     requires rest { length rest.now < 2 ^ 32 }
     requires costed { IsCostedProgram costed }
-    ensures { IfOk result (λ reply. IsRunOf fill (program_tree costed.program) costed.slowdown (st_func_trees costed.schedule) (rows rest.now) reply.status (string_bytes reply.text)) }
+    ensures { IfOk result (λ reply. IsRunOf form fill (program_tree costed.program) costed.slowdown (st_func_trees costed.schedule) (rows rest.now) reply.status (string_bytes reply.text)) }
 {
     let widths = input_widths(alloc, costed.program.program())?;
     match read_rows(alloc, rest, widths.as_slice()) {
@@ -136,28 +198,31 @@ fn run_rows(alloc: Global, costed: Costed, rest: &[u8], fill: u64) -> Result<Rep
             table.words.as_slice(),
             table.columns as usize,
             fill,
+            form,
         ),
         Err(RowFault::BadWords { row, column }) => refused(alloc, Status::BadWords { row, column }),
         Err(RowFault::Memory) => Err(OutOfMemory),
     }
 }
 
-/// Builds a program part and runs its module on the rows in the rest of the input; without memory there is no reply.
+/// Builds a program part and runs its module on the rows in the rest of the input, written in this form; without memory
+/// there is no reply.
 pub fn run(
     alloc: Global,
     part: &[u8],
     rest: &[u8],
     slowdown: u32,
     fill: u64,
+    form: Form,
 ) -> Result<Reply, OutOfMemory>
     requires part { length part.now < 4294967295 }
     requires rest { length rest.now < 2 ^ 32 }
     requires some { 0 < slowdown }
     requires limit { slowdown ≤ 4096 }
-    ensures { IfOk result (λ reply. IsRun slowdown fill part.now (rows rest.now) reply.status (string_bytes reply.text)) }
+    ensures { IfOk result (λ reply. IsRun form slowdown fill part.now (rows rest.now) reply.status (string_bytes reply.text)) }
 {
     match cost(alloc, part, slowdown, LOAD_LIMIT) {
-        Ok(costed) => run_rows(alloc, costed, rest, fill),
+        Ok(costed) => run_rows(alloc, costed, rest, fill, form),
         Err(fault) => refused_program(alloc, fault),
     }
 }

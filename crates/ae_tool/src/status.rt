@@ -33,6 +33,8 @@ pub enum Status {
     TooLong,
     /// There was no memory.
     Memory,
+    /// The text is no value change dump of the form that is read; its first bad word, counted from 0.
+    BadWave { at: u32 },
 }
 
 /// What is wrong with a Verilog text: the byte, item or net that is at fault. The header is item 0.
@@ -69,6 +71,7 @@ impl Status {
             Status::WriteFault => 10,
             Status::TooLong => 11,
             Status::Memory => 12,
+            Status::BadWave { at: _ } => 13,
         }
     }
 }

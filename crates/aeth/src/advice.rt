@@ -12,6 +12,8 @@ const USAGE: &str = "usage: aeth JOB < INPUT > OUTPUT
   build S       its circuit as a Verilog module
   stall S       the same with one more input, en: where it is 0, the circuit stands still
   run S FILL    the module of build S, and every word of every clock of its run on the rows
+  wave S FILL   that run as a value change dump, behind the module in a comment
+  unwave        the words of any value change dump of two-valued words, a line for each time
   sim FILL      every word of every clock of any Verilog module, on the rows behind the line %%
   demo N        the module of a program on 16 * N words, and sums of its run; nothing is read
 
@@ -46,6 +48,9 @@ pub fn advice(status: Status) -> Option<&'static str> {
         ),
         Status::LongRun { size: _ } => Some(
             "aeth: a run has at most 4194304 words, clock or row numbers among them: give fewer rows at a time; docs/LIMITS.md",
+        ),
+        Status::BadWave { at: _ } => Some(
+            "aeth: the word, counted from 0, is the first at which the text is no dump of two-valued words: docs/WAVES.md",
         ),
         Status::TooLong => Some("aeth: the input has more than 16777216 bytes; docs/LIMITS.md"),
         _ => Some("aeth: docs/REFUSED.md has the usual causes of each answer, and what to try"),

@@ -1,4 +1,4 @@
-use Rattle.std.proofs.Common.{ℕ, List, ◌≡◌, ◌<◌, length, arith, ap, subst, ◌∙◌}
+use Rattle.std.proofs.Common.{ℕ, List, length, arith, ap, subst, ◌∙◌}
 use Rattle.ae_seq.specs.ProgramTree.{program_tree}
 use Rattle.ae_rewrite.specs.StProgramTree.{st_func_trees}
 use Rattle.ae_compile.specs.Costing.{IsCosted, load_limit}

@@ -1,5 +1,4 @@
-use Rattle.std.proofs.Common.{◌+◌, ◌*◌, ◌%◌, ◌++◌, ◌∷◌, [], ap, sym, ◌∙◌}
-use Rattle.ae_tool.specs.DemoTexts.{demo_word}
+use Rattle.std.proofs.Common.{◌++◌, ◌∷◌, [], sym, ◌∙◌}
 use Rattle.ae_tool.proofs.Demos.{words_more}
 use Rattle.ae_tool.proofs.demo.input_words.Goals as goal
 

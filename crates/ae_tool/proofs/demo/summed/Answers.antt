@@ -1,4 +1,4 @@
-use Rattle.std.proofs.Common.{◌≡◌, ◌∙◌, ◌*◌, ◌^◌, ◌<◌, ◌++◌, ℕ, List, All, length, map, ap, sym, subst}
+use Rattle.std.proofs.Common.{◌≡◌, ◌*◌, ◌^◌, ◌<◌, ℕ, List, All, length, map, sym, subst}
 use Rattle.std.specs.Prelude.{string_bytes}
 use Rattle.ae_sttype.specs.declared.st_type.StType.{StType}
 use Rattle.ae_sttype.specs.StTree.{StTree, st_tree, time}

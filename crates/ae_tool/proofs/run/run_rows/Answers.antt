@@ -41,5 +41,5 @@ returns-in-Ok c =
     let n = c.in-Ok.table.columns in
     let w : c.as_slice.result.now ≡ input_widths p = c.as_slice.ensures.value ∙ c.in_ok-widths.ensures ∙ ap (λ (q : Program). input_widths (program_tree q)) c.program.ensures.program in
     let a : AreRows p n table ws = rows_known p c.args.rest.now c.as_slice.result.now ws n c.requires.rest w c.in-Ok.ensures.table.0 c.in-Ok.ensures.right (c.as_slice-in-Ok.ensures.value ∙ c.in-Ok.ensures.table.1) in
-    IfOk-weaker c.run_words.result (λ (r : Reply). (t : List (List (List ℕ))) → AreRows p n t ws → IsRunOf c.args.fill p c.args.costed.slowdown all t r.status (string_bytes r.text))
-    (λ (r : Reply). IsRunOf c.args.fill p c.args.costed.slowdown all table r.status (string_bytes r.text)) (λ r h. h table a) c.run_words.ensures
+    IfOk-weaker c.run_words.result (λ (r : Reply). (t : List (List (List ℕ))) → AreRows p n t ws → IsRunOf c.args.form c.args.fill p c.args.costed.slowdown all t r.status (string_bytes r.text))
+    (λ (r : Reply). IsRunOf c.args.form c.args.fill p c.args.costed.slowdown all table r.status (string_bytes r.text)) (λ r h. h table a) c.run_words.ensures

@@ -10,10 +10,10 @@ use Rattle.ae_compile.specs.declared.costing.Costed.{Costed}
 use Rattle.ae_compile.specs.Costing.{main_costs}
 use Rattle.ae_tool.specs.Refusals.{refusal_line}
 use Rattle.ae_tool.specs.EvalRows.{AreRows, AreBlocks}
-use Rattle.ae_tool.specs.RunTexts.{IsRunOf, IsRunText, run_limit, run_size}
+use Rattle.ae_tool.specs.RunTexts.{IsRunOf, IsShown, run_limit, run_size, word_count}
 use Rattle.ae_tool.proofs.EvalSteps.{column_some, rows_count}
 use Rattle.ae_compile.proofs.Modules.{costs_are}
-use Rattle.ae_tool.proofs.Clocks.{clocks_few}
+use Rattle.ae_tool.proofs.Clocks.{clocks_told}
 use Rattle.ae_tool.proofs.Runs.{blocks_known, run_size_is, run_too_long}
 use Rattle.ae_tool.proofs.run.run_words.Goals as goal
 
@@ -38,25 +38,30 @@ returns-then-size-gt-RUN_LIMIT c =
     let size : ℕ = c.clock_count-clocks.result * (1 + c.in_ok-size.field-0) in
     let typed = c.requires.costed.typed in
     IfOk-weaker c.refused.result (λ (r : Reply). (r.status ≡ LongRun size) × (string_bytes r.text ≡ refusal_line (LongRun size)))
-    (λ (r : Reply). (table : List (List (List ℕ))) → AreRows p c.args.columns table ws → IsRunOf c.args.fill p c.args.costed.slowdown all table r.status (string_bytes r.text))
+    (λ (r : Reply). (table : List (List (List ℕ))) → AreRows p c.args.columns table ws → IsRunOf c.args.form c.args.fill p c.args.costed.slowdown all table r.status (string_bytes r.text))
     (λ r w table a.
-    run_too_long c.args.fill p c.args.costed.slowdown all c.args.columns table ws size r.status (string_bytes r.text) a
-    (run_size_is p c.args.costed.slowdown costs c.args.columns table ws c.latency.result c.clock_count-clocks.result c.in_ok-size.field-0 typed a latency c.clock_count-clocks.ensures.is c.in_ok-size.ensures.is)
+    run_too_long c.args.form c.args.fill p c.args.costed.slowdown all c.args.columns table ws size r.status (string_bytes r.text) a
+    (run_size_is c.args.form p c.args.costed.slowdown costs c.args.columns table ws c.latency.result c.clock_count-clocks.result c.in_ok-size.field-0 typed a latency c.clock_count-clocks.ensures.is c.in_ok-size.ensures.is)
     c.if-size-gt-RUN_LIMIT.true w.0 w.1) c.refused.ensures
 
-pub run_text-requires-clause-rows : goal.run_text-requires-clause-rows
-run_text-requires-clause-rows c =
-    let p = program_tree c.args.costed.program in
-    let here = blocks_known p c.args.columns c.requires.rows.0 c.args.words.now c.requires.costed.typed c.requires.rows.1 in
-    (c.requires.rows.0, subst (λ (k : Costed). AreBlocks (program_tree k.program) (length c.args.words.now / c.args.columns) c.requires.rows.0 c.args.words.now) (sym c.in_ok-compiled.ensures.of) here)
-
-pub run_text-requires-clause-short : goal.run_text-requires-clause-short
-run_text-requires-clause-short c =
+pub shown-requires-clause-clocks : goal.shown-requires-clause-clocks
+shown-requires-clause-clocks c =
     let all = st_func_trees c.args.costed.schedule in
     let key = c.requires.costed.schedule.last in
     let latency : c.latency.result ≡ (main_costs all).latency = c.latency.ensures ∙ ap (λ (k : OwnCosts). k.latency) (costs_are all key.instance c.args.costed.timing c.requires.costed.times_are key.here) in
-    clocks_few c.in_ok-compiled.compiled c.args.costed c.latency.result (length c.args.words.now / c.args.columns) c.clock_count-clocks.result c.in_ok-size.field-0 c.in_ok-compiled.ensures.of c.in_ok-compiled.ensures.compiled latency c.clock_count-clocks.ensures.is
-    c.if-size-gt-RUN_LIMIT.false
+    sym (clocks_told c.in_ok-compiled.compiled c.args.costed c.latency.result (length c.args.words.now / c.args.columns) c.clock_count-clocks.result c.in_ok-compiled.ensures.of c.in_ok-compiled.ensures.compiled latency c.clock_count-clocks.ensures.is)
+
+pub shown-requires-clause-small : goal.shown-requires-clause-small
+shown-requires-clause-small c =
+    let count : c.in_ok-size.field-0 ≡ word_count c.args.form (program_tree c.in_ok-compiled.compiled.costed.program) c.in_ok-compiled.compiled.costed.slowdown =
+    c.in_ok-size.ensures.is ∙ ap (λ (k : Costed). word_count c.args.form (program_tree k.program) k.slowdown) (sym c.in_ok-compiled.ensures.of) in
+    subst (λ n. c.clock_count-clocks.result * (1 + n) ≤ run_limit) count c.if-size-gt-RUN_LIMIT.false
+
+pub shown-requires-clause-rows : goal.shown-requires-clause-rows
+shown-requires-clause-rows c =
+    let p = program_tree c.args.costed.program in
+    let here = blocks_known p c.args.columns c.requires.rows.0 c.args.words.now c.requires.costed.typed c.requires.rows.1 in
+    (c.requires.rows.0, subst (λ (k : Costed). AreBlocks (program_tree k.program) (length c.args.words.now / c.args.columns) c.requires.rows.0 c.args.words.now) (sym c.in_ok-compiled.ensures.of) here)
 
 pub returns : goal.returns
 returns c = λ table a.
@@ -67,9 +72,10 @@ returns c = λ table a.
     let costs = main_costs all in
     let latency : c.latency.result ≡ costs.latency = c.latency.ensures ∙ ap (λ (k : OwnCosts). k.latency) (costs_are all key.instance c.args.costed.timing c.requires.costed.times_are key.here) in
     let typed = c.requires.costed.typed in
-    let size : c.clock_count-clocks.result * (1 + c.in_ok-size.field-0) ≡ run_size p c.args.costed.slowdown costs.latency table = run_size_is p c.args.costed.slowdown costs c.args.columns table ws c.latency.result c.clock_count-clocks.result c.in_ok-size.field-0 typed a latency c.clock_count-clocks.ensures.is c.in_ok-size.ensures.is in
-    let short : run_size p c.args.costed.slowdown costs.latency table ≤ run_limit = subst (λ n. n ≤ run_limit) size c.if-size-gt-RUN_LIMIT.false in
+    let size : c.clock_count-clocks.result * (1 + c.in_ok-size.field-0) ≡ run_size c.args.form p c.args.costed.slowdown costs.latency table =
+    run_size_is c.args.form p c.args.costed.slowdown costs c.args.columns table ws c.latency.result c.clock_count-clocks.result c.in_ok-size.field-0 typed a latency c.clock_count-clocks.ensures.is c.in_ok-size.ensures.is in
+    let short : run_size c.args.form p c.args.costed.slowdown costs.latency table ≤ run_limit = subst (λ n. n ≤ run_limit) size c.if-size-gt-RUN_LIMIT.false in
     let blocks = length ws / c.args.columns in
     let here = subst (λ (k : Costed). AreBlocks (program_tree k.program) blocks table ws) (sym c.in_ok-compiled.ensures.of) (blocks_known p c.args.columns table ws typed a) in
     let text = string_bytes c.in_ok-text.text in
-    (a.right, short, subst (λ (k : Costed). IsRunText c.args.fill (program_tree k.program) k.slowdown (st_func_trees k.schedule) table text) c.in_ok-compiled.ensures.of (c.in_ok-text.ensures table here))
+    (a.right, short, subst (λ (k : Costed). IsShown c.args.form c.args.fill (program_tree k.program) k.slowdown (st_func_trees k.schedule) table text) c.in_ok-compiled.ensures.of (c.in_ok-text.ensures table here))
