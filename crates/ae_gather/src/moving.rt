@@ -22,7 +22,7 @@ use crate::counters::{counter_for, counters};
 use crate::early::{Schedule, scheduled};
 use crate::plan::{Ages, Steps};
 use crate::trips::Counters;
-use ae_clocked::{Clocks, Tapped, line, ring_line};
+use ae_clocked::{Clocks, Tapped, line, ring_line, width_at};
 use ae_moves::Trip;
 use ae_netlist::{NetFault, NetId, Netlist};
 use std::alloc::Global;
@@ -47,8 +47,30 @@ fn keep_net(nets: &mut Vec<NetId>, net: NetId) -> Result<(), NetFault>
     }
 }
 
-/// The delay line of an input column: of registers alone where one of them would hold all its words, and else with rings for
-/// what is far.
+/// The bits of registers that a memory has to stand for: about as many as there are cells for each block RAM of a small
+/// device.
+const WORTH: u64 = 256;
+
+/// Whether rings are smaller than registers: each read of a ring is kept in a register, for which a line has seven, so that
+/// it is a block RAM of its own, and the registers that are saved are worth as many.
+fn rings_pay(ages: &[u32], width: u32) -> bool {
+    let mut near = 0u32;
+    let mut most = 0u32;
+    let mut far = 0u64;
+    for age in ages {
+        most = most.max(*age);
+        if *age < 8 {
+            near = near.max(*age);
+        } else {
+            far = far.saturating_add(1);
+        }
+    }
+    far <= u64::from(7u32.saturating_sub(near))
+        && u64::from(most).saturating_mul(u64::from(width)) >= far.saturating_mul(WORTH)
+}
+
+/// The delay line of an input column: of registers alone where one of them would hold all its words or where they are
+/// smaller, and else with rings for what is far.
 fn one_line(
     alloc: Global,
     nl: &mut Netlist,
@@ -70,7 +92,8 @@ fn one_line(
     ensures full { IsFullAt result nl.new }
     ensures taps { IfOk result (λ nets. AreTaps nl.new.cells clocks.old.rst (width_of nl.old.cells x.0) x.0 ages.now nets) }
 {
-    if held {
+    let width = width_at(nl, x);
+    if held || !rings_pay(ages, width) {
         line(alloc, nl, x, ages, clocks)
     } else {
         ring_line(alloc, nl, x, ages, clocks)

@@ -9,7 +9,7 @@ use crate::netlists::{Answer, parts, show_output, tell_none};
 use crate::nets::{any_net, net};
 use crate::numbers::number;
 use crate::stepping::step_one;
-use ae_clocked::{Clocks, constant, less, line, width_at};
+use ae_clocked::{Clocks, constant, less, line, ring_line, width_at};
 use ae_netlist::{Cell, NetFault, NetId, Netlist, Port};
 use std::alloc::{AllocError, Global};
 
@@ -101,7 +101,7 @@ fn below(clocks: &Clocks, nl: &mut Netlist, last: NetId, text: &str) -> Answer
     Some(below_of(nl, a, width, word))
 }
 
-// A tap of a line with two taps.
+// A tap of a line with two taps, of registers or with rings for what is far.
 fn tap_of(
     alloc: Global,
     clocks: &mut Clocks,
@@ -109,18 +109,30 @@ fn tap_of(
     x: NetId,
     delays: [u32; 2],
     tap: u32,
+    rings: bool,
 ) -> Result<NetId, NetFault>
     requires belongs { Belongs clocks.old nl.old.cells }
     requires net { IsNet nl.old.cells x.0 (width_of nl.old.cells x.0) }
     requires tap { tap < 2 }
     ensures { Belongs clocks.new nl.new.cells }
 {
-    let tapped = line(alloc, nl, x, &delays, clocks)?;
+    let tapped = if rings {
+        ring_line(alloc, nl, x, &delays, clocks)?
+    } else {
+        line(alloc, nl, x, &delays, clocks)?
+    };
     Ok(tapped.tap(tap))
 }
 
 // A tap of a line of the last answer: two delays, and which of them is the answer.
-fn taps(alloc: Global, clocks: &mut Clocks, nl: &mut Netlist, last: NetId, text: &str) -> Answer
+fn taps(
+    alloc: Global,
+    clocks: &mut Clocks,
+    nl: &mut Netlist,
+    last: NetId,
+    text: &str,
+    rings: bool,
+) -> Answer
     requires { Belongs clocks.old nl.old.cells }
     ensures { Belongs clocks.new nl.new.cells }
 {
@@ -132,7 +144,7 @@ fn taps(alloc: Global, clocks: &mut Clocks, nl: &mut Netlist, last: NetId, text:
     if tap >= 2 {
         return None;
     }
-    Some(tap_of(alloc, clocks, nl, x, delays, tap))
+    Some(tap_of(alloc, clocks, nl, x, delays, tap, rings))
 }
 
 fn output(clocks: &Clocks, nl: &mut Netlist, last: NetId) -> Answer
@@ -152,7 +164,8 @@ fn answer(alloc: Global, clocks: &mut Clocks, nl: &mut Netlist, last: NetId, tex
         "mark" => mark(clocks, nl, text),
         "lead" => lead(clocks, nl, text),
         "below" => below(clocks, nl, last, text),
-        "line" => taps(alloc, clocks, nl, last, text),
+        "line" => taps(alloc, clocks, nl, last, text, false),
+        "rings" => taps(alloc, clocks, nl, last, text, true),
         "output" => output(clocks, nl, last),
         _ => None,
     }
