@@ -2,12 +2,13 @@
 use Rattle.std.proofs.Common.{◌≡◌, ℕ, ◌+◌, false, List, [], ◌∷◌, length, map, refl, arith, sym, ap, ◌∙◌}
 use Rattle.ae_seq.specs.ProgramTree.{NodeTree, ProgramTree}
 use Rattle.ae_sttype.specs.StTree.{StTree}
+use Rattle.ae_eval.specs.Lines.{nodes_for}
 use Rattle.ae_rewrite.specs.StProgramTree.{StFuncTree}
 use Rattle.ae_rewrite.specs.Sound.{item_layouts}
 use Rattle.ae_netlist.specs.declared.cell.SizedCell.{SizedCell}
 use Rattle.ae_verilog.specs.Notes.{NoteTree}
 use Rattle.ae_verilog.specs.ReportLines.{ReportTree}
-use Rattle.ae_headline.specs.Headline.{AreNotes, IsProgramListing, nodes_in}
+use Rattle.ae_headline.specs.Headline.{AreNotes, IsProgramListing}
 use Rattle.ae_headline.specs.Laws.{Tells}
 use Rattle.ae_headline.proofs.Built.{built}
 use Rattle.ae_compile.specs.Building.{IsModuleText}
@@ -25,7 +26,7 @@ notes-are : (p : ProgramTree) (instances : List StFuncTree) (s : StFuncTree) (ce
 notes-are p instances s cells notes h =
     ap (map {B = ℕ × List ℕ} (λ (n : NoteTree). (n.line, n.name))) h.are
     ∙ notes-tell (item_layouts s) (length h.func.params) h.func.nodes h.marks h.placed.long
-    ∙ ap (λ o. map {B = ℕ × List ℕ} (λ (n : NodeTree). (n.line, n.name)) (nodes_in o)) (sym h.main)
+    ∙ ap (λ o. map {B = ℕ × List ℕ} (λ (n : NodeTree). (n.line, n.name)) (nodes_for o)) (sym h.main)
 
 tells-costs : (slowdown : ℕ) (instances : List StFuncTree) (s : StFuncTree) (r : ReportTree) → r ≡ report_of false slowdown instances s → Tells r slowdown (main_costs instances)
 tells-costs slowdown instances s r is = record {

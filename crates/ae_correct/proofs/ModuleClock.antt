@@ -7,7 +7,7 @@ use Rattle.ae_netlist.specs.declared.cell.SizedCell.{SizedCell}
 use Rattle.ae_netlist.specs.declared.cell.Outlet.{Outlet}
 use Rattle.ae_vread.specs.ModuleTree.{NetTree, ItemTree, nets, assigns, always, ModuleTree}
 use Rattle.ae_elab.specs.Names.{first_clock, clock_or, clock_name, is_named, is_clock, net_named}
-use Rattle.ae_verilog.specs.NetlistModule.{clock_net, declaration, assignment, edge, listed, netlist_module}
+use Rattle.ae_verilog.specs.NetlistModule.{clock_net, declaration, assignment, edge, each_numbered, netlist_module}
 
 -- nothing, or the clock
 abbrev IsClock : Option (List ℕ) → Type 0
@@ -35,9 +35,9 @@ edge_clock lines cells n (Reg next) = inr refl
 edge_clock lines cells n (Mem depth at next enable) = inr refl
 edge_clock lines cells n (Peek mem at) = inl refl
 
-listed_clock : (g : ℕ → SizedCell → List ItemTree) → ((n : ℕ) (s : SizedCell) → IsClock (first_clock (g n s))) → (k : ℕ) (cells : List SizedCell) → IsClock (first_clock (listed g k cells))
+listed_clock : (g : ℕ → SizedCell → List ItemTree) → ((n : ℕ) (s : SizedCell) → IsClock (first_clock (g n s))) → (k : ℕ) (cells : List SizedCell) → IsClock (first_clock (each_numbered g k cells))
 listed_clock g h k [] = inl refl
-listed_clock g h k (c ∷ cells) = clock_append (g k c) (listed g (k + 1) cells) (h k c) (listed_clock g h (k + 1) cells)
+listed_clock g h k (c ∷ cells) = clock_append (g k c) (each_numbered g (k + 1) cells) (h k c) (listed_clock g h (k + 1) cells)
 
 assigned_clock : (lines : ℕ → ℕ) → (cells : List SizedCell) (outs : ℕ) (outlets : List Outlet) → IsClock (first_clock (map (assignment lines cells outs) outlets))
 assigned_clock lines cells outs [] = inl refl
@@ -47,9 +47,9 @@ items_clock : (lines : ℕ → ℕ) → (cells : List SizedCell) (outlets : List
 items_clock lines cells outlets outs =
     let declarations : ℕ → SizedCell → List ItemTree = λ n s. declaration lines cells n s.width s.cell in
     let edges : ℕ → SizedCell → List ItemTree = λ n s. edge lines cells n s.cell in
-    clock_append (listed declarations 0 cells) (map (assignment lines cells outs) outlets ++ listed edges 0 cells)
+    clock_append (each_numbered declarations 0 cells) (map (assignment lines cells outs) outlets ++ each_numbered edges 0 cells)
     (listed_clock declarations (λ n s. declared_clock lines cells n s.width s.cell) 0 cells)
-    (clock_append (map (assignment lines cells outs) outlets) (listed edges 0 cells) (assigned_clock lines cells outs outlets) (listed_clock edges (λ n s. edge_clock lines cells n s.cell) 0 cells))
+    (clock_append (map (assignment lines cells outs) outlets) (each_numbered edges 0 cells) (assigned_clock lines cells outs outlets) (listed_clock edges (λ n s. edge_clock lines cells n s.cell) 0 cells))
 
 clock_or_clk : (rest : List NetTree) (o : Option (List ℕ)) → IsClock o → clock_or (clock_net ∷ rest) o ≡ Some (codes "clk")
 unfolding net_named

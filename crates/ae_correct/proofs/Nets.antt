@@ -68,15 +68,15 @@ true_false h = cc
 abbrev nets_in : ℕ → SizedCell → List NetTree
 nets_in n sized = input_nets sized.width sized.cell
 
-listed_from : (cells : List SizedCell) (k j : ℕ) → netlist.listed nets_in k cells ≡ netlist.listed nets_in j cells
+listed_from : (cells : List SizedCell) (k j : ℕ) → netlist.each_numbered nets_in k cells ≡ netlist.each_numbered nets_in j cells
 listed_from [] k j = refl
 listed_from (c ∷ cells) k j = ap (λ ns. nets_in 0 c ++ ns) (listed_from cells (k + 1) (j + 1))
 
-listed_append : (xs ys : List SizedCell) (k : ℕ) → netlist.listed nets_in k (xs ++ ys) ≡ netlist.listed nets_in k xs ++ netlist.listed nets_in 0 ys
+listed_append : (xs ys : List SizedCell) (k : ℕ) → netlist.each_numbered nets_in k (xs ++ ys) ≡ netlist.each_numbered nets_in k xs ++ netlist.each_numbered nets_in 0 ys
 listed_append [] ys k = listed_from ys k 0
-listed_append (x ∷ xs) ys k = ap (λ ns. nets_in 0 x ++ ns) (listed_append xs ys (k + 1)) ∙ sym (append_assoc (nets_in 0 x) (netlist.listed nets_in (k + 1) xs) (netlist.listed nets_in 0 ys))
+listed_append (x ∷ xs) ys k = ap (λ ns. nets_in 0 x ++ ns) (listed_append xs ys (k + 1)) ∙ sym (append_assoc (nets_in 0 x) (netlist.each_numbered nets_in (k + 1) xs) (netlist.each_numbered nets_in 0 ys))
 
-ports_listed : (ports : List SizedPort) (k : ℕ) → netlist.listed nets_in k (map input_cell ports) ≡ map in_net ports
+ports_listed : (ports : List SizedPort) (k : ℕ) → netlist.each_numbered nets_in k (map input_cell ports) ≡ map in_net ports
 ports_listed [] k = refl
 ports_listed (p ∷ ports) k = ap (λ ns. in_net p ∷ ns) (ports_listed ports (k + 1))
 
@@ -88,9 +88,9 @@ no_net width (Reg next) h = refl
 no_net width (Mem depth at next enable) h = refl
 no_net width (Peek mem at) h = refl
 
-none_listed : (cells : List SizedCell) (k : ℕ) → NoInputs cells → netlist.listed nets_in k cells ≡ []
+none_listed : (cells : List SizedCell) (k : ℕ) → NoInputs cells → netlist.each_numbered nets_in k cells ≡ []
 none_listed [] k h = refl
-none_listed (c ∷ cells) k h = ap (λ ns. ns ++ netlist.listed nets_in (k + 1) cells) (no_net c.width c.cell h.0) ∙ none_listed cells (k + 1) h.1
+none_listed (c ∷ cells) k h = ap (λ ns. ns ++ netlist.each_numbered nets_in (k + 1) cells) (no_net c.width c.cell h.0) ∙ none_listed cells (k + 1) h.1
 
 -- the first cells of a netlist are its inputs, and no others
 pub record HaveInputs (cells : List SizedCell) (ports : List SizedPort) : Type 0 where

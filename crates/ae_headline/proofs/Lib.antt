@@ -2,3 +2,4 @@ pub mod Meant
 pub mod Same
 pub mod Built
 pub mod Modules
+pub mod Types

@@ -1,5 +1,5 @@
 -- A listing means, by the Verilog profile, a module that is correct for the program.
-use Rattle.std.proofs.Common.{◌≡◌, ℕ, List, length, subst, Ok}
+use Rattle.std.proofs.Common.{◌≡◌, ◌<◌, ◌≤◌, ℕ, List, length, subst, sym, Ok}
 use Rattle.ae_vread.specs.ModuleTree.{ModuleTree}
 use Rattle.ae_vread.specs.Spells.{Spells}
 use Rattle.ae_vread.specs.Forms.{module_tokens}
@@ -19,8 +19,9 @@ use Rattle.ae_verilog.proofs.Whole.{whole_spelled, good_from}
 use Rattle.ae_correct.proofs.Built.{correct_by}
 use Rattle.ae_correct.proofs.Keeps.{ports_there}
 use Rattle.ae_headline.specs.Listing.{listing}
-use Rattle.ae_headline.specs.Laws.{ListingsMeanModules}
+use Rattle.ae_headline.specs.Laws.{ListingsMeanModules, MeansModule, ProgramListingsMeanModules}
 use Rattle.ae_headline.proofs.Same.{listing_same}
+use Rattle.ae_headline.proofs.Types.{laid_out}
 
 one-tree : (text : List ℕ) (m n : ModuleTree) → Spells text m → Spells text n → m ≡ n
 one-tree text m n one other =
@@ -52,3 +53,11 @@ modules p n r notes laid ports makes ok printed small =
       one_run = one-run m well;
       correct = correct_by lines p r.slowdown r.latency r.ins r.outs n laid have makes (same_runs lines n.cells n.outlets outs ok n.limit);
     }
+
+pub listing_modules : ProgramListingsMeanModules
+listing_modules part slowdown text l typed some most ok printed small =
+    let own : MeansModule l.program l.report.slowdown l.report.latency (listing l.report l.notes l.circuit (length l.report.outs)) =
+    modules l.program l.circuit l.report l.notes
+    (laid_out l.program l.circuit l.report typed (subst (λ s. 0 < s) (sym l.at) some) (subst (λ s. s ≤ 4096) (sym l.at) most) l.computes)
+    l.computes.ports l.computes.makes ok printed small in
+    subst (λ s. MeansModule l.program s l.report.latency text) l.at (subst (MeansModule l.program l.report.slowdown l.report.latency) (sym l.listed) own)

@@ -10,7 +10,7 @@ use Rattle.ae_netlist.specs.declared.cell.Cell.TheVariants.{Input, Const, Op, Re
 use Rattle.ae_netlist.specs.declared.cell.SizedCell.{SizedCell}
 use Rattle.ae_netlist.specs.Circuit.{Circuit, operand, width_of}
 use Rattle.ae_vread.specs.ModuleTree.{binary, constant, part}
-use Rattle.ae_verilog.specs.NetlistModule.{net_name, net_value, listed, op_value, shifted, cast_to}
+use Rattle.ae_verilog.specs.NetlistModule.{net_name, net_value, each_numbered, op_value, shifted, cast_to}
 use Rattle.ae_vread.specs.declared.module.BinOp.{BinOp}
 use Rattle.ae_vread.specs.declared.module.BinOp.TheVariants.{Shl as LeftBy, Shr as RightBy}
 use Rattle.ae_verilog.specs.Notes.{NoteTree, lines_of}
@@ -112,4 +112,4 @@ listing_same r notes n outs i =
     ++ (header_text n.cells n.outlets outs
     ++ (noted (λ net (sized : SizedCell). line_same lines n.cells net sized.width sized.cell i) n.cells 0 notes
     ++ (flat_map (assignment_text lines n.cells outs) n.outlets
-    ++ (listed (λ net (sized : SizedCell). edge_same lines n.cells net sized.cell i) 0 n.cells ++ codes "endmodule\n")))))
+    ++ (each_numbered (λ net (sized : SizedCell). edge_same lines n.cells net sized.cell i) 0 n.cells ++ codes "endmodule\n")))))

@@ -1,6 +1,7 @@
 -- What is proved of listings.
-use Rattle.std.specs.Prelude.{◌≡◌, ℕ, ◌+◌, ◌*◌, ◌≤◌, false, List, length}
+use Rattle.std.specs.Prelude.{◌≡◌, ℕ, ◌+◌, ◌*◌, ◌<◌, ◌≤◌, false, List, length}
 use Rattle.ae_seq.specs.ProgramTree.{ProgramTree}
+use Rattle.ae_eval.specs.Stack.{IsTyped}
 use Rattle.ae_rewrite.specs.StProgramTree.{StFuncTree}
 use Rattle.ae_rewrite.specs.Blocks.{MakesBlocks}
 use Rattle.ae_rewrite.specs.Scheduled.{IsSchedule}
@@ -52,3 +53,10 @@ abbrev pub ListingsMeanModules : Type 0
 ListingsMeanModules =
     (p : ProgramTree) (n : Circuit) (r : ReportTree) (notes : List NoteTree) → IsLaidOut p r.slowdown r.ins r.outs → HasPorts n r.ins r.outs → MakesBlocks n p r.slowdown r.latency r.ins r.outs
     → IsWritableNetlist n.cells n.outlets (length r.outs) → ArePrinted notes → 1 + 4 * length n.cells + 4 * length n.outlets ≤ 10000000 → MeansModule p r.slowdown r.latency (listing r notes n (length r.outs))
+
+-- so does a listing for a typed program, under a slowdown that there can be
+abbrev pub ProgramListingsMeanModules : Type 0
+ProgramListingsMeanModules =
+    (part : List ℕ) (slowdown : ℕ) (text : List ℕ) (l : IsProgramListing part slowdown text) → IsTyped l.program → 0 < slowdown → slowdown ≤ 4096
+    → IsWritableNetlist l.circuit.cells l.circuit.outlets (length l.report.outs) → ArePrinted l.notes → 1 + 4 * length l.circuit.cells + 4 * length l.circuit.outlets ≤ 10000000
+    → MeansModule l.program slowdown l.report.latency text

@@ -7,7 +7,7 @@ use Rattle.ae_netlist.specs.declared.cell.Cell.{Cell}
 use Rattle.ae_netlist.specs.declared.cell.Cell.TheVariants.{Input, Const, Op, Reg, Mem, Peek}
 use Rattle.ae_netlist.specs.declared.cell.SizedCell.{SizedCell}
 use Rattle.ae_netlist.specs.Circuit.{Circuit, operand, width_of}
-use Rattle.ae_verilog.specs.NetlistModule.{number_name, net_name, listed}
+use Rattle.ae_verilog.specs.NetlistModule.{number_name, net_name, each_numbered}
 use Rattle.ae_verilog.specs.Notes.{NoteTree, lines_of}
 use Rattle.ae_verilog.specs.ReportLines.{ReportTree, report_lines}
 use Rattle.ae_verilog.specs.Text.{arms_text, shift_text, range_text, noted, header_text, assignment_text}
@@ -72,4 +72,4 @@ listing r notes n outs =
     ++ (codes "// verilator lint_off CMPCONST\n// verilator lint_off DECLFILENAME\n// verilator lint_off UNSIGNED\n// verilator lint_off UNUSEDSIGNAL\n"
     ++ (header_text n.cells n.outlets outs
     ++ (noted (λ net (sized : SizedCell). cell_line lines n.cells net sized.width sized.cell) n.cells 0 notes
-    ++ (flat_map (assignment_text lines n.cells outs) n.outlets ++ (listed (λ net (sized : SizedCell). edge_line lines n.cells net sized.cell) 0 n.cells ++ codes "endmodule\n")))))
+    ++ (flat_map (assignment_text lines n.cells outs) n.outlets ++ (each_numbered (λ net (sized : SizedCell). edge_line lines n.cells net sized.cell) 0 n.cells ++ codes "endmodule\n")))))

@@ -9,7 +9,7 @@ use Rattle.ae_seq.specs.ProgramTree.{ParamTree, NodeTree}
 use Rattle.ae_seq.specs.Formed.{all_below, all_distinct, all_names, formed_nodes, formed_params, has_arguments, is_among, is_line, is_name, is_spelled, node_names, param_names}
 use Rattle.ae_parse.specs.Grammar.{Known, Part, State, Head, param_of, param_from, with_param, params_after, places_after, with_node, node_on, node_with, node_named, node, finish, inside, by_part, first_line, step, by_state}
 use Rattle.ae_parse.specs.Name as own
-use Rattle.ae_parse.specs.Options.{where_ok, ◌>>=◌}
+use Rattle.ae_seq.specs.Typing.{where_ok, ◌>>=◌}
 use Rattle.ae_parse.specs.Printed.{name_at, op_fields, node_fields, param_field, words_fit, nodes_fit, nodes_from}
 use Rattle.ae_parse.specs.Scopes.{place, is_known}
 use Rattle.ae_parse.specs.TypeForm.{type_of}

@@ -13,9 +13,9 @@ use Rattle.ae_seqtype.specs.TypeText.{type_text}
 use Rattle.ae_seq.specs.ProgramTree.{OpTree, word, cast_int, pair, fst, snd, const, zip, call, each, each_two, reduce, scan, shift, up, select, partition, unpartition}
 use Rattle.ae_seq.specs.Formed.{is_line, is_spelled, within, has_arguments}
 use Rattle.ae_parse.specs.Number.{plain_of}
-use Rattle.ae_parse.specs.Options.{where_ok, ◌>>=◌}
+use Rattle.ae_seq.specs.Typing.{where_ok, ◌>>=◌}
 use Rattle.ae_parse.specs.Printed.{name_at, word_fields, op_fields, words_fit}
-use Rattle.ae_parse.specs.Words.{first_of, plain_op, numbered_op, func_at, func_op, fold_op, cast_to, cast_op, headed_op, words_after, const_of, const_from, two_numbers, partition_from, with_arguments, headed_from, operator_from}
+use Rattle.ae_parse.specs.Words.{first_of, bare_op, numbered_op, func_at, func_op, fold_op, cast_of, cast_op, headed_op, words_after, const_of, const_from, two_numbers, partition_from, with_arguments, headed_from, operator_from}
 use Rattle.ae_parse.proofs.Bools.{and-first, and-second}
 use Rattle.ae_parse.proofs.Plain.{and-both, number-of-decimal}
 use Rattle.ae_parse.proofs.TypeRead.{plain-read, type-read}
@@ -25,7 +25,7 @@ abbrev pub operator_on : (version n : ℕ) → List (List ℕ) → List (List �
 operator_on version n names [] = None
 operator_on version n names (w ∷ fs) = operator_from version n names w fs
 
-headed-is : (version n : ℕ) (names : List (List ℕ)) (w f : List ℕ) (rest : List (List ℕ)) (op : OpTree) → plain_op w ≡ None → bytes_eq w (codes "const") ≡ false → bytes_eq w (codes "partition") ≡ false
+headed-is : (version n : ℕ) (names : List (List ℕ)) (w f : List ℕ) (rest : List (List ℕ)) (op : OpTree) → bare_op w ≡ None → bytes_eq w (codes "const") ≡ false → bytes_eq w (codes "partition") ≡ false
     → headed_op version n names w f ≡ Some op → operator_from version n names w (f ∷ rest) ≡ Some (op, rest)
 headed-is version n names w f rest op a b c d =
     ap (λ o. first_of (with_arguments (f ∷ rest) o) (headed_from version n names w f rest)) a
@@ -46,12 +46,12 @@ fold-first version n names w f op a b e =
     ∙ ap (λ o. first_of o (first_of (fold_op version w f) (cast_op version w f))) b
     ∙ ap (λ o. first_of o (cast_op version w f)) e
 
-cast-read : (version n : ℕ) (names : List (List ℕ)) (t : SeqTree) (op : OpTree) (rest : List (List ℕ)) → is_spelled version t ≡ true → cast_to t ≡ Some op
+cast-read : (version n : ℕ) (names : List (List ℕ)) (t : SeqTree) (op : OpTree) (rest : List (List ℕ)) → is_spelled version t ≡ true → cast_of t ≡ Some op
     → operator_from version n names (codes "cast") (type_text t ∷ rest) ≡ Some (op, rest)
-cast-read version n names t op rest s e = headed-is version n names (codes "cast") (type_text t) rest op refl refl refl (ap (λ o. o >>= cast_to) (type-read version t s) ∙ e)
+cast-read version n names t op rest s e = headed-is version n names (codes "cast") (type_text t) rest op refl refl refl (ap (λ o. o >>= cast_of) (type-read version t s) ∙ e)
 
 -- a number of up to 4,096 and its operator
-number-read : (version n : ℕ) (names : List (List ℕ)) (w : List ℕ) (g : ℕ → OpTree) (low high k : ℕ) (rest : List (List ℕ)) → plain_op w ≡ None → bytes_eq w (codes "const") ≡ false → bytes_eq w (codes "partition") ≡ false
+number-read : (version n : ℕ) (names : List (List ℕ)) (w : List ℕ) (g : ℕ → OpTree) (low high k : ℕ) (rest : List (List ℕ)) → bare_op w ≡ None → bytes_eq w (codes "const") ≡ false → bytes_eq w (codes "partition") ≡ false
     → numbered_op w (decimal k) ≡ option_map g (plain_of low high (decimal k)) → within low high k ≡ true → high < 2 ^ 64 → operator_from version n names w (decimal k ∷ rest) ≡ Some (g k, rest)
 number-read version n names w g low high k rest a b c is h small =
     headed-is version n names w (decimal k) rest (g k) a b c (numbered-first version n names w (decimal k) (g k) (is ∙ ap (option_map g) (plain-read low high k h small)))
@@ -163,7 +163,7 @@ partition-read version n names a b rest h g =
     ap (λ o. with_arguments rest (two_numbers o (plain_of 1 4096 (decimal b)))) (plain-read 1 4096 a h (omega arith)) ∙ ap (λ o. with_arguments rest (two_numbers (Some a) o)) (plain-read 1 4096 b g (omega arith))
 
 -- a function named in a line
-func-op-read : (version n : ℕ) (names : List (List ℕ)) (w f : List ℕ) (g : ℕ → OpTree) (k : ℕ) (rest : List (List ℕ)) → plain_op w ≡ None → bytes_eq w (codes "const") ≡ false → bytes_eq w (codes "partition") ≡ false
+func-op-read : (version n : ℕ) (names : List (List ℕ)) (w f : List ℕ) (g : ℕ → OpTree) (k : ℕ) (rest : List (List ℕ)) → bare_op w ≡ None → bytes_eq w (codes "const") ≡ false → bytes_eq w (codes "partition") ≡ false
     → numbered_op w f ≡ None → func_op n names w f ≡ option_map g (func_at n names f) → func_at n names f ≡ Some k → operator_from version n names w (f ∷ rest) ≡ Some (g k, rest)
 func-op-read version n names w f g k rest a b c none is e = headed-is version n names w f rest (g k) a b c (func-first version n names w f (g k) none (is ∙ ap (option_map g) e))
 

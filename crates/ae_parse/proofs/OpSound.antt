@@ -12,7 +12,7 @@ use Rattle.ae_seq.specs.Formed.{is_line, is_spelled, is_word_line, within}
 use Rattle.ae_parse.specs.Number.{plain_of}
 use Rattle.ae_parse.specs.Scopes.{place}
 use Rattle.ae_parse.specs.TypeForm.{type_of}
-use Rattle.ae_parse.specs.Words.{first_of, found, folding_words, other_words, plain_words, plain_op, numbered_op, below, func_at, func_op, fold_op, cast_to, cast_op, headed_op, words_after, const_from, two_numbers, partition_of, partition_from, with_arguments, headed_from, headed_of, operator_from}
+use Rattle.ae_parse.specs.Words.{first_of, found, folding_words, other_words, plain_words, bare_op, numbered_op, below, func_at, func_op, fold_op, cast_of, cast_op, headed_op, words_after, const_from, two_numbers, partition_of, partition_from, with_arguments, headed_from, headed_of, operator_from}
 use Rattle.ae_parse.proofs.Bools.{and-first, and-second}
 use Rattle.ae_parse.proofs.OptionLemmas.{bind-some, where-some, map-some, some-is}
 use Rattle.ae_parse.proofs.Plain.{and-both}
@@ -38,7 +38,7 @@ first-elim (Some x) p y h f g = f h
 mapped : {A : Type 0} (test : OpTree → Bool) (g : A → OpTree) (o : Option A) (op : OpTree) → ((x : A) → o ≡ Some x → test (g x) ≡ true) → option_map g o ≡ Some op → test op ≡ true
 mapped test g o op each_is h = let m = map-some g o op h in ap test (sym m.2) ∙ each_is m.0 m.1
 
-plain-sound : (version n : ℕ) (w : List ℕ) (op : OpTree) → plain_op w ≡ Some op → is_line version n op ≡ true
+plain-sound : (version n : ℕ) (w : List ℕ) (op : OpTree) → bare_op w ≡ Some op → is_line version n op ≡ true
 plain-sound version n w op h =
     first-elim (option_map word (found w folding_words)) _ op h
     (mapped (is_line version n) word (found w folding_words) op (λ x e. found-all is_word_line w folding_words x refl e))
@@ -105,7 +105,7 @@ cast-sound version n w f op h =
     let a = bind-some (type_of version f) _ _ t.1 in
     of a.0 (spelled-so version f a.0 a.1) a.2
   where
-    of : (t : SeqTree) → is_spelled version t ≡ true → cast_to t ≡ Some op → is_line version n op ≡ true
+    of : (t : SeqTree) → is_spelled version t ≡ true → cast_of t ≡ Some op → is_line version n op ≡ true
     of (atom (atom_word k)) s e = ap (is_line version n) (sym (some-is _ _ e)) ∙ word-cast version k s n
     of (atom (atom_pair a b)) s e = absurd cc
     of (seq m t) s e = absurd cc
@@ -145,7 +145,7 @@ headed-from-sound version n names w f fs q h =
 
 pub operator-sound : (version n : ℕ) (names : List (List ℕ)) (w : List ℕ) (fs : List (List ℕ)) (q : OpTree × List (List ℕ)) → operator_from version n names w fs ≡ Some q → is_line version n q.0 ≡ true
 operator-sound version n names w fs q h =
-    first-elim (with_arguments fs (plain_op w)) _ q h (with-sound version n fs (plain_op w) q (plain-sound version n w)) (headed-of-sound fs)
+    first-elim (with_arguments fs (bare_op w)) _ q h (with-sound version n fs (bare_op w) q (plain-sound version n w)) (headed-of-sound fs)
   where
     headed-of-sound : (gs : List (List ℕ)) → headed_of version n names w gs ≡ Some q → is_line version n q.0 ≡ true
     headed-of-sound [] e = absurd cc

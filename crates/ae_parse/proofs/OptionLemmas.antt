@@ -1,6 +1,6 @@
 -- What a chain of answers says where it has one.
 use Rattle.std.proofs.Common.{◌≡◌, Bool, true, false, Option, Some, None, option_map, refl}
-use Rattle.ae_parse.specs.Options.{where_ok, ◌>>=◌}
+use Rattle.ae_seq.specs.Typing.{where_ok, ◌>>=◌}
 use Rattle.ae_parse.specs.Words.{first_of}
 
 pub bind-some : {A B : Type 0} (o : Option A) (f : A → Option B) (y : B) → (o >>= f) ≡ Some y → (x : A) × (o ≡ Some x) × (f x ≡ Some y)

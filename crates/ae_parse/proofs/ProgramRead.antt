@@ -5,7 +5,7 @@ use Rattle.std.specs.List.{list_all}
 use Rattle.ae_seq.specs.ProgramTree.{ParamTree, NodeTree, FuncTree, ProgramTree}
 use Rattle.ae_seq.specs.Formed.{all_below, all_distinct, all_names, apart, formed, formed_func, formed_funcs, formed_nodes, formed_params, func_lines, func_names, is_among, is_name, item_count, line_count, most_results, node_names, param_names, within}
 use Rattle.ae_parse.specs.Grammar.{Known, Part, Head, program, IsProgramText, no_params, params_of, few_params, begun, begin_named, begin, ended, ended_with, inside, by_part, is_version_line, of_version, by_state, whole, start}
-use Rattle.ae_parse.specs.Options.{where_ok, ◌>>=◌}
+use Rattle.ae_seq.specs.Typing.{where_ok, ◌>>=◌}
 use Rattle.ae_parse.specs.Printed.{name_at, node_fields, param_field, nodes_fit, funcs_fit, nodes_from, func_from, funcs_from, numbered, end_fields, item_names, func_statements, funcs_statements, statements, program_text}
 use Rattle.ae_parse.proofs.Bools.{and-first, and-second}
 use Rattle.ae_parse.proofs.LineRead.{append-none, Extends, extends-append, places-read, funcs-found, params-read, step-later, nodes-read}

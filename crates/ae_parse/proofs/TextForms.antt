@@ -3,9 +3,9 @@ use Rattle.std.proofs.Common.{◌≡◌, ℕ, ◌+◌, ◌<◌, Bool, true, fals
 use Rattle.std.proofs.lemmas.Bool.{leb-true, le-leb, lt-ltb, ltb-true, eqb-true, eq-eqb}
 use Rattle.std.specs.List.{list_all}
 use Rattle.ae_parse.specs.Cut.{lines, put, fields, said, goes_on, no_blank}
-use Rattle.ae_parse.specs.Cleaned.{is_printed, all_printed}
+use Rattle.ae_parse.specs.Cleaned.{may_stand, all_printed}
 use Rattle.ae_parse.specs.Grammar.{State, Reading, step, after_line, by_state, at_end, reading_from}
-use Rattle.ae_parse.specs.Options.{where_ok}
+use Rattle.ae_seq.specs.Typing.{where_ok}
 use Rattle.ae_parse.specs.Parts.{is_mark}
 use Rattle.ae_parse.specs.Printed.{spaced, joined, text_of}
 use Rattle.ae_parse.proofs.Bools.{and-first, and-second}
@@ -44,7 +44,7 @@ not-mark p mark fails b holds = by (nat_eq b mark) refl
     by false e = refl
     by true e = let same : b ≡ mark = eqb-true b mark e in let q : p b ≡ p mark = ap p same in absurd cc
 
-calm-printed : (b : ℕ) → calm b ≡ true → is_printed b ≡ true
+calm-printed : (b : ℕ) → calm b ≡ true → may_stand b ≡ true
 calm-printed b h = by (nat_eq b 32) refl
   where
     a : (nat_le 32 b && nat_lt b 127) ≡ true
@@ -138,7 +138,7 @@ line-read n s (f ∷ g ∷ fs) after h =
     let quiet = joined-calm st h in
     let said_is = said-calm (joined st) quiet in
     let fields_are = fields-joined st h in
-    let printed : all_printed (joined st) ≡ true = all-weaker calm is_printed calm-printed (joined st) quiet in
+    let printed : all_printed (joined st) ≡ true = all-weaker calm may_stand calm-printed (joined st) quiet in
     ap (λ ls. reading_from ls n s) (line-ended (joined st) after quiet)
     ∙ ap (λ l. if is_mark (fields l) then at_end n s else by_state n (after_line n s l) (reading_from (lines after) (n + 1))) said_is
     ∙ ap (λ l. if is_mark l then at_end n s else by_state n (where_ok (all_printed (joined st)) (step n s l)) (reading_from (lines after) (n + 1))) fields_are

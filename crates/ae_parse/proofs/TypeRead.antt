@@ -13,8 +13,8 @@ use Rattle.ae_seqtype.specs.TypeText.{type_text}
 use Rattle.ae_seq.specs.Formed.{is_unsigned, is_spelled, within}
 use Rattle.ae_parse.specs.Name.{is_digit}
 use Rattle.ae_parse.specs.Number.{plain_of}
-use Rattle.ae_parse.specs.Options.{where_ok, ◌>>=◌}
-use Rattle.ae_parse.specs.TypeForm.{digits_of, after_digits, past, kind_of, word_from, pair_from, atom_from, alone, atom_type_of, length_from, sequence_from, type_from, type_of}
+use Rattle.ae_seq.specs.Typing.{where_ok, ◌>>=◌}
+use Rattle.ae_parse.specs.TypeForm.{digits_of, after_digits, past, letter_kind, word_from, pair_from, atom_from, alone, atom_type_of, length_from, sequence_from, type_from, type_of}
 use Rattle.ae_parse.proofs.Bools.{and-first, and-second}
 use Rattle.ae_parse.proofs.Plain.{own, and-both}
 use Rattle.ae_parse.proofs.PlainOf.{plain-some}
@@ -54,7 +54,7 @@ digits-cut (d ∷ ds) rest h e =
 pub plain-read : (low high n : ℕ) → within low high n ≡ true → high < 2 ^ 64 → plain_of low high (decimal n) ≡ Some n
 plain-read low high n w small = plain-some low high n (decimal n) (leb-true low n (and-first _ _ w)) (leb-true n high (and-second (nat_le low n) _ w)) small refl
 
-kind-read : (version : ℕ) (s : Bool) → ((version == 2) || not s) ≡ true → kind_of version (kind_letter s) ≡ Some s
+kind-read : (version : ℕ) (s : Bool) → ((version == 2) || not s) ≡ true → letter_kind version (kind_letter s) ≡ Some s
 kind-read version false h = refl
 kind-read version true h = ap (λ v. where_ok v (Some true)) (or-not (version == 2) h)
   where
@@ -67,8 +67,8 @@ word-read : (version : ℕ) (k : WordKind) (rest : List ℕ) → within 1 64 k.w
 word-read version k rest w s e =
     let high = leb-true k.width 64 (and-second (nat_le 1 k.width) _ w) in
     let d = digits-cut (decimal k.width) rest (decimal-digits k.width (omega arith)) e in
-    (λ i. plain_of 1 64 (d.0 i) >>= λ n. kind_of version (kind_letter k.signed) >>= λ b. Some (word (record { signed = b; width = n }), d.1 i))
-    ∙ ap (λ o. o >>= λ n. kind_of version (kind_letter k.signed) >>= λ b. Some (word (record { signed = b; width = n }), rest)) (plain-read 1 64 k.width w (omega arith))
+    (λ i. plain_of 1 64 (d.0 i) >>= λ n. letter_kind version (kind_letter k.signed) >>= λ b. Some (word (record { signed = b; width = n }), d.1 i))
+    ∙ ap (λ o. o >>= λ n. letter_kind version (kind_letter k.signed) >>= λ b. Some (word (record { signed = b; width = n }), rest)) (plain-read 1 64 k.width w (omega arith))
     ∙ ap (λ o. o >>= λ b. Some (word (record { signed = b; width = k.width }), rest)) (kind-read version k.signed s)
 
 atom-word : (version levels : ℕ) (s : Bool) (bs : List ℕ) → atom_from version levels (kind_letter s ∷ bs) ≡ word_from version (kind_letter s) bs

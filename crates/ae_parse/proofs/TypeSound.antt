@@ -8,8 +8,8 @@ use Rattle.ae_word.specs.AtomTree.{AtomTree, word, pair, pair_depth, widths_in_r
 use Rattle.ae_seqtype.specs.SeqTree.{SeqTree, atom, seq, depth, parts_in_size, atom_of}
 use Rattle.ae_seq.specs.Formed.{is_unsigned, is_spelled, within}
 use Rattle.ae_parse.specs.Number.{is_plain, plain_of}
-use Rattle.ae_parse.specs.Options.{where_ok}
-use Rattle.ae_parse.specs.TypeForm.{digits_of, after_digits, past, kind_of, word_from, pair_from, atom_from, alone, atom_type_of, length_from, sequence_from, type_from, type_of}
+use Rattle.ae_seq.specs.Typing.{where_ok}
+use Rattle.ae_parse.specs.TypeForm.{digits_of, after_digits, past, letter_kind, word_from, pair_from, atom_from, alone, atom_type_of, length_from, sequence_from, type_from, type_of}
 use Rattle.ae_parse.proofs.Bools.{and-first, and-second}
 use Rattle.ae_parse.proofs.OptionLemmas.{bind-some, where-some, some-is}
 use Rattle.ae_parse.proofs.Plain.{and-both}
@@ -32,7 +32,7 @@ plain-within low high ds n e = by (is_plain low high ds) refl e
 pub within-true : (low high n : ℕ) → Within low high n → within low high n ≡ true
 within-true low high n h = let a = h.low_is in let b = h.high_is in and-both _ _ (le-leb low n a) (le-leb n high b)
 
-kind-sound : (version letter : ℕ) (s : Bool) → kind_of version letter ≡ Some s → ((version == 2) || not s) ≡ true
+kind-sound : (version letter : ℕ) (s : Bool) → letter_kind version letter ≡ Some s → ((version == 2) || not s) ≡ true
 kind-sound version letter s e = by (nat_eq letter 117) (version == 2) s e
   where
     by : (b v s : Bool) → (if b then Some false else where_ok (nat_eq letter 105 && v) (Some true)) ≡ Some s → (v || not s) ≡ true
@@ -50,7 +50,7 @@ pub record AtomSound (version levels : ℕ) (a : AtomTree) : Type 0 where
 word-sound : (version letter levels : ℕ) (bs : List ℕ) (q : AtomTree × List ℕ) → word_from version letter bs ≡ Some q → AtomSound version levels q.0
 word-sound version letter levels bs q e =
     let w = bind-some (plain_of 1 64 (digits_of bs)) _ _ e in
-    let k = bind-some (kind_of version letter) _ _ w.2 in
+    let k = bind-some (letter_kind version letter) _ _ w.2 in
     let is : word (record { signed = k.0; width = w.0 }) ≡ q.0 = ap (λ (x : AtomTree × List ℕ). x.0) (some-is _ _ k.2) in
     let s : AtomSound version levels (word (record { signed = k.0; width = w.0 })) = record { widths = within-true 1 64 w.0 (plain-within 1 64 (digits_of bs) w.0 w.1); deep = omega arith; signs = kind-sound version letter k.0 k.1 } in
     rw is at s

@@ -32,24 +32,24 @@ pieces mark [] = [] ∷ []
 pieces mark (b ∷ bs) = if nat_eq b mark then [] ∷ pieces mark bs else put b (pieces mark bs)
 
 -- space and tab
-abbrev pub is_blank : ℕ → Bool
-is_blank b = nat_eq b 32 || nat_eq b 9
+abbrev pub is_gap : ℕ → Bool
+is_gap b = nat_eq b 32 || nat_eq b 9
 
 -- a byte that begins a field, or goes on with the first one
-abbrev pub begun : ℕ → Bool → List (List ℕ) → List (List ℕ)
-begun b true [] = (b ∷ []) ∷ []
-begun b true (f ∷ fs) = (b ∷ f) ∷ fs
-begun b false fs = (b ∷ []) ∷ fs
+abbrev pub fielded : ℕ → Bool → List (List ℕ) → List (List ℕ)
+fielded b true [] = (b ∷ []) ∷ []
+fielded b true (f ∷ fs) = (b ∷ f) ∷ fs
+fielded b false fs = (b ∷ []) ∷ fs
 
 -- whether bytes begin with one of a field
 abbrev pub goes_on : List ℕ → Bool
 goes_on [] = false
-goes_on (b ∷ bs) = not (is_blank b)
+goes_on (b ∷ bs) = not (is_gap b)
 
 -- the fields: the longest pieces without a blank
 abbrev pub fields : List ℕ → List (List ℕ)
 fields [] = []
-fields (b ∷ bs) = if is_blank b then fields bs else begun b (goes_on bs) (fields bs)
+fields (b ∷ bs) = if is_gap b then fields bs else fielded b (goes_on bs) (fields bs)
 
 -- what stands in a line before the comment, and before a CR that ends the line
 abbrev pub said : List ℕ → List ℕ
@@ -60,4 +60,4 @@ said (b ∷ c ∷ bs) = if nat_eq b 35 then [] else b ∷ said (c ∷ bs)
 -- a piece without a blank
 abbrev pub no_blank : List ℕ → Bool
 no_blank [] = true
-no_blank (b ∷ bs) = not (is_blank b) && no_blank bs
+no_blank (b ∷ bs) = not (is_gap b) && no_blank bs

@@ -6,7 +6,7 @@ use Rattle.ae_seq.specs.Formed.{has_arguments, within, most_results}
 use Rattle.ae_parse.specs.Cut.{lines, pieces, said, fields}
 use Rattle.ae_parse.specs.Cleaned.{all_printed}
 use Rattle.ae_parse.specs.Name.{is_name}
-use Rattle.ae_parse.specs.Options.{where_ok, ◌>>=◌}
+use Rattle.ae_seq.specs.Typing.{where_ok, ◌>>=◌}
 use Rattle.ae_parse.specs.Parts.{is_mark}
 use Rattle.ae_parse.specs.Scopes.{place, is_known}
 use Rattle.ae_parse.specs.TypeForm.{type_of}
@@ -208,10 +208,10 @@ abbrev pub IsProgramText : List ℕ → ProgramTree → Type 0
 IsProgramText text p = reading text ≡ program p
 
 -- the line that a reading refuses
-abbrev pub refused_line : Reading → Option ℕ
-refused_line (program p) = None
-refused_line (refused n) = Some n
+abbrev pub line_refused : Reading → Option ℕ
+line_refused (program p) = None
+line_refused (refused n) = Some n
 
 -- the first line that is refused
 abbrev pub bad_line : List ℕ → Option ℕ
-bad_line text = refused_line (reading text)
+bad_line text = line_refused (reading text)

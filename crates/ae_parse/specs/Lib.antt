@@ -3,7 +3,6 @@ pub mod Cut
 pub mod Grammar
 pub mod Name
 pub mod Number
-pub mod Options
 pub mod Parts
 pub mod Printed
 pub mod Refusal

@@ -9,8 +9,8 @@ abbrev pub is_numeral : List ℕ → Bool
 is_numeral ds = nat_le 1 (length ds) && nat_le (length ds) 20 && all_ascii_digits ds
 
 -- the number that a numeral writes, below 2 ^ 64
-abbrev pub number_of : List ℕ → Option ℕ
-number_of ds = if is_numeral ds then (if nat_lt (digits_value 10 ds) (2 ^ 64) then Some (digits_value 10 ds) else None) else None
+abbrev pub numeral_value : List ℕ → Option ℕ
+numeral_value ds = if is_numeral ds then (if nat_lt (digits_value 10 ds) (2 ^ 64) then Some (digits_value 10 ds) else None) else None
 
 -- the number from `low` to `high` that the bytes write without leading zeros
 abbrev pub is_plain : (low high : ℕ) → List ℕ → Bool

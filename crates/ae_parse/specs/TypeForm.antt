@@ -4,7 +4,7 @@ use Rattle.ae_word.specs.AtomTree.{AtomTree, word, pair}
 use Rattle.ae_seqtype.specs.SeqTree.{SeqTree, atom, seq}
 use Rattle.ae_parse.specs.Name.{is_digit}
 use Rattle.ae_parse.specs.Number.{plain_of}
-use Rattle.ae_parse.specs.Options.{where_ok, ◌>>=◌}
+use Rattle.ae_seq.specs.Typing.{where_ok, ◌>>=◌}
 
 -- the digits at the head of some bytes, and what follows them
 abbrev pub digits_of : List ℕ → List ℕ
@@ -21,13 +21,13 @@ past mark [] = None
 past mark (b ∷ bs) = where_ok (nat_eq b mark) (Some bs)
 
 -- `u` for unsigned words, in version 2 also `i` for signed ones
-abbrev pub kind_of : (version letter : ℕ) → Option Bool
-kind_of version letter = if nat_eq letter 117 then Some false else where_ok (nat_eq letter 105 && (version == 2)) (Some true)
+abbrev pub letter_kind : (version letter : ℕ) → Option Bool
+letter_kind version letter = if nat_eq letter 117 then Some false else where_ok (nat_eq letter 105 && (version == 2)) (Some true)
 
 -- a word: a letter and its width of 1 to 64 bits; and what follows it
 abbrev pub word_from : (version letter : ℕ) → List ℕ → Option (AtomTree × List ℕ)
 word_from version letter bs =
-    plain_of 1 64 (digits_of bs) >>= λ w. kind_of version letter >>= λ s. Some (word (record { signed = s; width = w }), after_digits bs)
+    plain_of 1 64 (digits_of bs) >>= λ w. letter_kind version letter >>= λ s. Some (word (record { signed = s; width = w }), after_digits bs)
 
 -- what stands in a pair after `(`: one atom, `,`, another, `)`
 abbrev pub pair_from : (List ℕ → Option (AtomTree × List ℕ)) → List ℕ → Option (AtomTree × List ℕ)

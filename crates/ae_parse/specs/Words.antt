@@ -6,8 +6,8 @@ use Rattle.ae_word.specs.declared.op.WordOp.TheVariants.{Add, Sub, Mul, And, Or,
 use Rattle.ae_word.specs.AtomTree.{word as atom_word}
 use Rattle.ae_seqtype.specs.SeqTree.{SeqTree, atom}
 use Rattle.ae_seq.specs.ProgramTree.{OpTree, word, cast_int, pair, fst, snd, const, zip, call, each, each_two, reduce, scan, shift, up, select, partition, unpartition}
-use Rattle.ae_parse.specs.Number.{number_of, plain_of}
-use Rattle.ae_parse.specs.Options.{where_ok, ◌>>=◌}
+use Rattle.ae_parse.specs.Number.{numeral_value, plain_of}
+use Rattle.ae_seq.specs.Typing.{where_ok, ◌>>=◌}
 use Rattle.ae_parse.specs.Scopes.{place}
 use Rattle.ae_parse.specs.TypeForm.{type_of}
 
@@ -35,8 +35,8 @@ abbrev pub plain_words : List (List ℕ × OpTree)
 plain_words =
     (codes "pair", pair) ∷ (codes "fst", fst) ∷ (codes "snd", snd) ∷ (codes "zip", zip) ∷ (codes "unpartition", unpartition) ∷ []
 
-abbrev pub plain_op : List ℕ → Option OpTree
-plain_op w = first_of (option_map word (found w folding_words)) (first_of (option_map word (found w other_words)) (found w plain_words))
+abbrev pub bare_op : List ℕ → Option OpTree
+bare_op w = first_of (option_map word (found w folding_words)) (first_of (option_map word (found w other_words)) (found w plain_words))
 
 -- a word and a number before the arguments
 abbrev pub numbered_op : List ℕ → List ℕ → Option OpTree
@@ -71,12 +71,12 @@ fold_op version w f =
     else where_ok (bytes_eq w (codes "scan") && (version == 2)) (option_map scan (found f folding_words))
 
 -- the cast to a type that is a word
-abbrev pub cast_to : SeqTree → Option OpTree
-cast_to (atom (atom_word k)) = Some (if k.signed then cast_int k.width else word (Cast k.width))
-cast_to _ = None
+abbrev pub cast_of : SeqTree → Option OpTree
+cast_of (atom (atom_word k)) = Some (if k.signed then cast_int k.width else word (Cast k.width))
+cast_of _ = None
 
 abbrev pub cast_op : (version : ℕ) → List ℕ → List ℕ → Option OpTree
-cast_op version w f = where_ok (bytes_eq w (codes "cast")) (type_of version f >>= cast_to)
+cast_op version w f = where_ok (bytes_eq w (codes "cast")) (type_of version f >>= cast_of)
 
 abbrev pub headed_op : (version n : ℕ) → List (List ℕ) → List ℕ → List ℕ → Option OpTree
 headed_op version n names w f = first_of (numbered_op w f) (first_of (func_op n names w f) (first_of (fold_op version w f) (cast_op version w f)))
@@ -88,7 +88,7 @@ with_arguments fs o = option_map (λ op. (op, fs)) o
 -- the words of a constant after some others
 abbrev pub words_after : List ℕ → List (List ℕ) → Option (List ℕ)
 words_after ws [] = Some ws
-words_after ws (f ∷ fs) = number_of f >>= λ n. words_after (ws ++ n ∷ []) fs
+words_after ws (f ∷ fs) = numeral_value f >>= λ n. words_after (ws ++ n ∷ []) fs
 
 abbrev pub const_of : SeqTree → List (List ℕ) → Option OpTree
 const_of t fs = option_map (λ ws. const t ws) (words_after [] fs)
@@ -122,4 +122,4 @@ headed_of version n names w (f ∷ fs) = headed_from version n names w f fs
 
 -- what the operator of a line is, and the names of its arguments, where n functions are at their ends
 abbrev pub operator_from : (version n : ℕ) → List (List ℕ) → List ℕ → List (List ℕ) → Option (OpTree × List (List ℕ))
-operator_from version n names w fs = first_of (with_arguments fs (plain_op w)) (headed_of version n names w fs)
+operator_from version n names w fs = first_of (with_arguments fs (bare_op w)) (headed_of version n names w fs)

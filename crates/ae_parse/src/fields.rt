@@ -1,10 +1,10 @@
 // Fields of a line.
 
 ghost use Rattle.std.specs.Prelude.{◌≡◌, ◌<◌, ◌≤◌, ◌∷◌, [], false, IfSome, MatchOption, length};
-ghost use Rattle.ae_parse.specs.Cut.{fields, goes_on, is_blank, said};
+ghost use Rattle.ae_parse.specs.Cut.{fields, goes_on, is_gap, said};
 
-fn is_blank(byte: u8) -> bool
-    ensures { result ≡ is_blank byte }
+fn is_gap(byte: u8) -> bool
+    ensures { result ≡ is_gap byte }
 {
     byte == b' ' || byte == b'\t'
 }
@@ -17,7 +17,7 @@ fn after_blanks(said: &[u8]) -> &[u8]
 {
     let mut rest = said;
     while let [byte, after @ ..] = rest {
-        if !is_blank(*byte) {
+        if !is_gap(*byte) {
             return rest;
         }
         rest = after;
@@ -32,7 +32,7 @@ pub fn next_field(line: &[u8]) -> Option<(&[u8], &[u8])>
 {
     let said = after_blanks(line);
     let mut end = 0;
-    while end < said.len() && !is_blank(said[end]) {
+    while end < said.len() && !is_gap(said[end]) {
         end += 1;
     }
     if end == 0 {

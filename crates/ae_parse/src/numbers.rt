@@ -4,7 +4,7 @@ ghost use Rattle.std.specs.Prelude.{ℕ, ◌≤◌, MatchOption, ◌≡◌, ◌^
 ghost use Rattle.std.specs.Fmt.{decimal};
 ghost use Rattle.std.specs.Str.{all_ascii_digits};
 ghost use Rattle.std.specs.Str.Parse.{digits_value};
-ghost use Rattle.ae_parse.specs.Number.{number_of, plain_of};
+ghost use Rattle.ae_parse.specs.Number.{numeral_value, plain_of};
 
 fn are_digits(bytes: &[u8]) -> bool
     ensures { result ≡ all_ascii_digits bytes.now }
@@ -37,7 +37,7 @@ fn value(digits: &[u8]) -> Option<u64>
 
 /// The number that 1 to 20 decimal digits write, leading zeros allowed, if it is below 2^64.
 pub fn number(digits: &[u8]) -> Option<u64>
-    ensures { result ≡ number_of digits.now }
+    ensures { result ≡ numeral_value digits.now }
 {
     if digits.is_empty() || digits.len() > 20 || !are_digits(digits) {
         return None;

@@ -10,7 +10,7 @@ ghost use Rattle.ae_parse.specs.Grammar.{places_after};
 
 use crate::fields::next_field;
 use crate::numbers::{number, plain};
-use crate::op_words::{cast_to, fold_op, func_op, numbered_op, place, plain_op};
+use crate::op_words::{bare_op, cast_of, fold_op, func_op, numbered_op, place};
 use crate::scopes::Scope;
 use crate::types::read_type;
 use ae_seq::Op;
@@ -82,7 +82,7 @@ fn cast_op(alloc: Global, version: u32, word: &[u8], ty: &[u8]) -> Result<Option
         return Ok(None);
     }
     match read_type(alloc, version, ty)? {
-        Some(ty) => Ok(cast_to(&ty)),
+        Some(ty) => Ok(cast_of(&ty)),
         None => Ok(None),
     }
 }
@@ -151,7 +151,7 @@ pub(crate) fn read_operator<'a>(
     requires { length names.now < 4294967296 }
     ensures { IfOk result (λ o. option_map op_rest o ≡ operator_from version funcs names.now word.now (fields line.now)) }
 {
-    if let Some(op) = plain_op(word) {
+    if let Some(op) = bare_op(word) {
         return Ok(Some((op, line)));
     }
     match next_field(line) {

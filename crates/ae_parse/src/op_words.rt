@@ -6,7 +6,7 @@ ghost use Rattle.ae_seqtype.specs.SeqTree.{seq_tree};
 ghost use Rattle.ae_seq.specs.Formed.{has_arguments};
 ghost use Rattle.ae_seq.specs.ProgramTree.{op_tree};
 ghost use Rattle.ae_parse.specs.Scopes.{place};
-ghost use Rattle.ae_parse.specs.Words.{cast_to, fold_op, folding_words, found, func_at, func_op, numbered_op, other_words, plain_op, plain_words};
+ghost use Rattle.ae_parse.specs.Words.{cast_of, fold_op, folding_words, found, func_at, func_op, numbered_op, other_words, bare_op, plain_words};
 
 use crate::numbers::plain;
 use crate::scopes::Scope;
@@ -75,8 +75,8 @@ fn plain_word(word: &[u8]) -> Option<Op>
 }
 
 // The operator of a word whose arguments follow at once.
-pub(crate) fn plain_op(word: &[u8]) -> Option<Op>
-    ensures { option_map op_tree result ≡ plain_op word.now }
+pub(crate) fn bare_op(word: &[u8]) -> Option<Op>
+    ensures { option_map op_tree result ≡ bare_op word.now }
 {
     if let Some(op) = folding_word(word) {
         return Some(Op::Word(op));
@@ -188,8 +188,8 @@ pub(crate) fn fold_op(version: u32, word: &[u8], op: &[u8]) -> Option<Op>
 }
 
 // The cast to a type that is a word.
-pub(crate) fn cast_to(ty: &SeqType) -> Option<Op>
-    ensures { option_map op_tree result ≡ cast_to (seq_tree ty.now) }
+pub(crate) fn cast_of(ty: &SeqType) -> Option<Op>
+    ensures { option_map op_tree result ≡ cast_of (seq_tree ty.now) }
 {
     match ty {
         SeqType::Atom(Atom::Word(width)) => Some(Op::Word(WordOp::Cast(*width))),

@@ -2,11 +2,11 @@
 
 ghost use Rattle.std.specs.Prelude.{◌≡◌, ◌<◌, IfOk, IfSome, length, option_map, Some, true};
 ghost use Rattle.ae_seq.specs.ProgramTree.{op_tree};
-ghost use Rattle.ae_parse.specs.Cleaned.{all_printed, is_printed};
+ghost use Rattle.ae_parse.specs.Cleaned.{all_printed, may_stand};
 ghost use Rattle.ae_parse.specs.Cut.{fields};
 ghost use Rattle.ae_parse.specs.Name.{is_name};
 ghost use Rattle.ae_parse.specs.Grammar.{Known as KnownTree, after_line, begin, begin_named, begun, by_part, ended, ended_with, finish, first_line, inside, is_version_line, node, node_named, node_with, of_version, start, step, with_node};
-ghost use Rattle.ae_parse.specs.Options.{where_ok};
+ghost use Rattle.ae_seq.specs.Typing.{where_ok};
 ghost use Rattle.ae_parse.specs.StateView.{head_of, known_of, part_of, state_of, opened};
 
 use crate::fields::next_field;
@@ -425,8 +425,8 @@ fn step(
     by_part(alloc, number, known, part, first, after)
 }
 
-fn is_printed(byte: u8) -> bool
-    ensures { result ≡ is_printed byte }
+fn may_stand(byte: u8) -> bool
+    ensures { result ≡ may_stand byte }
 {
     byte == b' ' || byte == b'\t' || (byte > 32 && byte < 127)
 }
@@ -435,7 +435,7 @@ fn all_printed(line: &[u8]) -> bool
     ensures { result ≡ all_printed line.now }
 {
     for byte in line {
-        if !is_printed(*byte) {
+        if !may_stand(*byte) {
             return false;
         }
     }

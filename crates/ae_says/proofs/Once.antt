@@ -10,8 +10,8 @@ use Rattle.ae_seq.specs.Formed.{all_below, all_distinct, all_names, formed_func,
 use Rattle.ae_parse.specs.Cut.{lines, said, fields}
 use Rattle.ae_parse.specs.Grammar.{Known, Part, State, Head, program, start, reading_from, step, first_line, after_line, by_part, begun, begin_named, params_of, node, node_with, finish, whole, at_end, by_state, of_version, places_after}
 use Rattle.ae_parse.specs.Name as own
-use Rattle.ae_parse.specs.Number.{is_numeral, number_of}
-use Rattle.ae_parse.specs.Options.{where_ok, ◌>>=◌}
+use Rattle.ae_parse.specs.Number.{is_numeral, numeral_value}
+use Rattle.ae_seq.specs.Typing.{where_ok, ◌>>=◌}
 use Rattle.ae_parse.specs.Parts.{is_mark}
 use Rattle.ae_parse.specs.Printed.{end_fields, funcs_fit, item_names, name_at, node_fields, nodes_fit, op_fields, param_field, words_fit}
 use Rattle.ae_parse.specs.Scopes.{place}
@@ -29,18 +29,19 @@ use Rattle.ae_parse.proofs.ProgramRead.{FuncFits, IsOpen, end-read, func-fits, h
 use Rattle.ae_parse.proofs.Soundness.{Sound, fresh, going, start-sound, line-sound}
 use Rattle.ae_parse.proofs.StepCases.{begun_state, node_state}
 use Rattle.ae_says.specs.Laws.{TextsSayOne}
-use Rattle.ae_says.specs.Says.{AreLines, IsLine, IsVersion, Line, func_said, line_at, node_said, one, plain, funcs_said, said_from, same, two, zeros}
+use Rattle.ae_says.specs.Says.{AreLines, IsLine, IsVersion, Line, func_said, line_at, node_said, one, plain, said_from, same, two, zeros}
+use Rattle.ae_says.proofs.Funcs.{funcs_said}
 
 -- ---- a constant's words without the zeros before them are read the same
 
-small-number : (v n : ℕ) (b : Bool) → nat_lt v (2 ^ 64) ≡ b → (if b then Some v else None) ≡ Some n → (v ≡ n) × (v < 2 ^ 64)
+pub small-number : (v n : ℕ) (b : Bool) → nat_lt v (2 ^ 64) ≡ b → (if b then Some v else None) ≡ Some n → (v ≡ n) × (v < 2 ^ 64)
 small-number v n true h g = (some-is v n g, ltb-true v (2 ^ 64) h)
 small-number v n false h g = absurd cc
 
-plain-number : (f : List ℕ) (n : ℕ) → number_of f ≡ Some n → number_of (plain f) ≡ Some n
+pub plain-number : (f : List ℕ) (n : ℕ) → numeral_value f ≡ Some n → numeral_value (plain f) ≡ Some n
 plain-number f n e = by (is_numeral f) refl e
   where
-    by : (b : Bool) → is_numeral f ≡ b → (if b then (if nat_lt (digits_value 10 f) (2 ^ 64) then Some (digits_value 10 f) else None) else None) ≡ Some n → number_of (plain f) ≡ Some n
+    by : (b : Bool) → is_numeral f ≡ b → (if b then (if nat_lt (digits_value 10 f) (2 ^ 64) then Some (digits_value 10 f) else None) else None) ≡ Some n → numeral_value (plain f) ≡ Some n
     by false h g = absurd cc
     by true h g =
         let s = small-number (digits_value 10 f) n (nat_lt (digits_value 10 f) (2 ^ 64)) refl g in
@@ -48,19 +49,19 @@ plain-number f n e = by (is_numeral f) refl e
         let is : plain f ≡ decimal (digits_value 10 f) = ap (λ b. if b then decimal (digits_value 10 f) else f) digits in
         number-of-decimal (plain f) n (subst (λ k. k < 2 ^ 64) s.0 s.1) (is ∙ ap decimal s.0)
 
-words-plain : (before : List ℕ) (ws : List (List ℕ)) (vs : List ℕ) → words_after before ws ≡ Some vs → words_after before (map plain ws) ≡ Some vs
+pub words-plain : (before : List ℕ) (ws : List (List ℕ)) (vs : List ℕ) → words_after before ws ≡ Some vs → words_after before (map plain ws) ≡ Some vs
 words-plain before [] vs e = e
 words-plain before (f ∷ fs) vs e =
-    let a = bind-some (number_of f) _ _ e in
+    let a = bind-some (numeral_value f) _ _ e in
     ap (λ o. o >>= λ n. words_after (before ++ n ∷ []) (map plain fs)) (plain-number f a.0 a.1) ∙ words-plain (before ++ a.0 ∷ []) fs vs a.2
 
 -- ---- the names of items are names
 
-abbrev ItemsNamed : Option Part → Type 0
+abbrev pub ItemsNamed : Option Part → Type 0
 ItemsNamed None = Unit {0}
 ItemsNamed (Some p) = all_names p.items ≡ true
 
-items-named : (n : ℕ) (s : State) → Sound n s → ItemsNamed s.part
+pub items-named : (n : ℕ) (s : State) → Sound n s → ItemsNamed s.part
 items-named n s (fresh some st) = subst (λ (x : State). ItemsNamed x.part) (sym st) tt
 items-named n s (going g) = of s.part g.part_is
   where
@@ -73,7 +74,7 @@ named-at [] k h low = absurd (omega arith)
 named-at (m ∷ ms) zero h low = and-first _ _ h
 named-at (m ∷ ms) (suc k) h low = named-at ms k (and-second (is_name m) _ h) (omega arith)
 
-no-equals : {A : Type 0} (items : List (List ℕ)) (k : ℕ) → all_names items ≡ true → place (codes "=") items ≡ Some k → A
+pub no-equals : {A : Type 0} (items : List (List ℕ)) (k : ℕ) → all_names items ≡ true → place (codes "=") items ≡ Some k → A
 no-equals items k h e =
     let p = position-Some (bytes_eq (codes "=")) items k [] e in
     let bad : is_name (codes "=") ≡ true = ap is_name (same-bytes (codes "=") (get_or items k []) p.1) ∙ named-at items k h p.0 in
@@ -81,11 +82,11 @@ no-equals items k h e =
 
 -- ---- a line and how it is written
 
-abbrev const_rest : (type : List ℕ) → List (List ℕ) → List (List ℕ)
+abbrev pub const_rest : (type : List ℕ) → List (List ℕ) → List (List ℕ)
 const_rest type ws = codes "=" ∷ codes "const" ∷ type ∷ ws
 
 -- a constant's line, by its words
-abbrev by_words : (n : ℕ) → Known → Part → (name type : List ℕ) → Option (List ℕ) → Option State
+abbrev pub by_words : (n : ℕ) → Known → Part → (name type : List ℕ) → Option (List ℕ) → Option State
 by_words n k p name type o = where_ok (bytes_eq (codes "=") (codes "=") && own.is_name name) (with_arguments [] (type_of k.version type >>= λ u. option_map (λ vs. const u vs) o) >>= node_with n k p name)
 
 part-plain : (n : ℕ) (k : Known) (part : Option Part) (name type : List ℕ) (ws : List (List ℕ)) (t : State) → ItemsNamed part → by_part n k part name (const_rest type ws) ≡ Some t → by_part n k part name (const_rest type (map plain ws)) ≡ Some t
@@ -125,11 +126,11 @@ step-written n s t fs gs h (zeros name type ws a b) g = ap (step n s) b ∙ step
 
 -- ---- the lines of a text that is read
 
-abbrev runs : List Line → State → Option State
+abbrev pub runs : List Line → State → Option State
 runs [] s = Some s
 runs (l ∷ ls) s = step l.number s l.fields >>= runs ls
 
-abbrev AllLow : List Line → Type 0
+abbrev pub AllLow : List Line → Type 0
 AllLow [] = Unit {0}
 AllLow (l ∷ ls) = (l.number ≤ 4096) × AllLow ls
 
@@ -182,7 +183,7 @@ reading-written (l ∷ ls) ws n s q sound are e = by (is_mark (fields (said l)))
 
 -- ---- the lines of a formed program are read as it
 
-low-parts : (xs ys : List Line) → AllLow (xs ++ ys) → AllLow xs × AllLow ys
+pub low-parts : (xs ys : List Line) → AllLow (xs ++ ys) → AllLow xs × AllLow ys
 low-parts [] ys h = (tt, h)
 low-parts (x ∷ xs) ys h = let r = low-parts xs ys h.1 in ((h.0, r.0), r.1)
 
@@ -245,14 +246,14 @@ func-run most k f all rest v shut fits less fit x d as_many low =
     ∙ end-read f.end_line s.known q items f.results (λ j h. refl) fits.distinct (ap (λ j. all_below j f.results) count ∙ fits.below) few)
 
 -- behind functions
-record Behind (ls : List Line) (k : Known) (fs : List FuncTree) : Type 0 where
-  last : State
-  are : runs ls (record { known = k; part = None }) ≡ Some last
-  part : last.part ≡ None
-  version : last.known.version ≡ k.version
-  funcs : last.known.funcs ≡ k.funcs ++ fs
+pub record Behind (ls : List Line) (k : Known) (fs : List FuncTree) : Type 0 where
+  pub last : State
+  pub are : runs ls (record { known = k; part = None }) ≡ Some last
+  pub part : last.part ≡ None
+  pub version : last.known.version ≡ k.version
+  pub funcs : last.known.funcs ≡ k.funcs ++ fs
 
-funcs-run : (fs : List FuncTree) (k : Known) (all : List (List ℕ)) → (k.version == 0) ≡ false → IsOpen k fs → length k.names ≡ length k.funcs → all ≡ k.names ++ func_names fs → all_distinct all ≡ true
+pub funcs-run : (fs : List FuncTree) (k : Known) (all : List (List ℕ)) → (k.version == 0) ≡ false → IsOpen k fs → length k.names ≡ length k.funcs → all ≡ k.names ++ func_names fs → all_distinct all ≡ true
     → formed_funcs k.version (length k.funcs) fs ≡ true → funcs_fit fs ≡ true → AllLow (funcs_said all fs) → Behind (funcs_said all fs) k fs
 funcs-run [] k all v shut as_many is d fine fit low = record { last = record { known = k; part = None }; are = refl; part = refl; version = refl; funcs = sym (append-nil k.funcs) }
 funcs-run (f ∷ fs) k all v shut as_many is d fine fit low =
@@ -280,7 +281,7 @@ low-yes : (n : ℕ) → n ≤ 4096 → nat_le n 4096 ≡ true
 low-yes n h = le-leb n 4096 h
 
 -- behind the line of version 2, or at the first function line of version 1
-opened-runs : (version : ℕ) (first : List Line) (all : List (List ℕ)) (fs : List FuncTree) → IsVersion version first → 1 ≤ length fs → AllLow (first ++ funcs_said all fs)
+pub opened-runs : (version : ℕ) (first : List Line) (all : List (List ℕ)) (fs : List FuncTree) → IsVersion version first → 1 ≤ length fs → AllLow (first ++ funcs_said all fs)
     → runs (first ++ funcs_said all fs) start ≡ runs (funcs_said all fs) (record { known = opened version; part = None })
 opened-runs version first all [] h some low = absurd (omega arith)
 opened-runs version first all (f ∷ fs) one some low =
@@ -290,11 +291,11 @@ opened-runs version first all (f ∷ fs) one some low =
 opened-runs version first all (f ∷ fs) (two n) some low =
     ap (λ b. where_ok b (Some (record { known = of_version 2 start.known; part = None })) >>= runs (funcs_said all (f ∷ fs))) (low-yes n low.0)
 
-version-some : (version : ℕ) (first : List Line) → IsVersion version first → (version == 0) ≡ false
+pub version-some : (version : ℕ) (first : List Line) → IsVersion version first → (version == 0) ≡ false
 version-some version first one = refl
 version-some version first (two n) = refl
 
-whole-is : (m : ℕ) (t : State) (p : ProgramTree) → 1 ≤ length p.funcs → t.part ≡ None → t.known.version ≡ p.version → t.known.funcs ≡ p.funcs → at_end m t ≡ program p
+pub whole-is : (m : ℕ) (t : State) (p : ProgramTree) → 1 ≤ length p.funcs → t.part ≡ None → t.known.version ≡ p.version → t.known.funcs ≡ p.funcs → at_end m t ≡ program p
 whole-is m t p some part version funcs = (λ i. whole m (version i) (funcs i) (part i)) ∙ by p.funcs some
   where
     by : (fs : List FuncTree) → 1 ≤ length fs → whole m p.version fs None ≡ program (record { version = p.version; funcs = fs })

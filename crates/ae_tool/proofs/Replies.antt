@@ -21,7 +21,7 @@ use Rattle.ae_stalled.specs.Laws.{stall_limit}
 use Rattle.ae_compile.specs.Building.{IsBuiltStalled, IsBuiltText}
 use Rattle.ae_compile.specs.Costing.{main_costs}
 use Rattle.ae_seq.specs.Typing.{refused_line as refused_line_of}
-use Rattle.ae_parse.specs.Grammar.{IsProgramText as Reads, program, refused_line}
+use Rattle.ae_parse.specs.Grammar.{IsProgramText as Reads, line_refused, program}
 use Rattle.ae_compile.specs.Programs.{IsTyped}
 use Rattle.ae_tool.specs.Programs.{IsRefusal}
 use Rattle.ae_rewrite.specs.StProgramTree.{StFuncTree}
@@ -337,7 +337,7 @@ one_program part p q a b = let e : program p ≡ program q = sym a ∙ b in cc
 never_refused : {A : Type 0} (part : List ℕ) (p : ProgramTree) (status : Status) → IsTyped part p → IsRefusal part status → A
 never_refused part p Ok t r = absurd r
 never_refused part p Usage t r = absurd r
-never_refused part p (BadLine line) t r = let e : None ≡ Some line = sym (ap refused_line t.reads) ∙ r in cc
+never_refused part p (BadLine line) t r = let e : None ≡ Some line = sym (ap line_refused t.reads) ∙ r in cc
 never_refused part p (BadType line) t r =
     let e : None ≡ Some _ = sym t.typed ∙ ap refused_line_of (one_program part p r.program t.reads r.reads) ∙ r.refused in cc
 never_refused part p (TooLarge line) t r =

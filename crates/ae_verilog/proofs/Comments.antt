@@ -11,7 +11,7 @@ use Rattle.ae_word.specs.AtomText.{kind_letter, atom_text}
 use Rattle.ae_sttype.specs.StTree.{StTree, atom, tseq, sseq}
 use Rattle.ae_sttype.specs.TypeText.{st_text}
 use Rattle.ae_vread.specs.Tokens.{after_gap, Between, InLine}
-use Rattle.ae_verilog.specs.NetlistModule.{listed}
+use Rattle.ae_verilog.specs.NetlistModule.{each_numbered}
 use Rattle.ae_verilog.specs.Notes.{NoteTree, note_line, is_printed}
 use Rattle.ae_verilog.specs.ReportLines.{ReportTree, number_line, enable_line, in_line, out_line, report_lines, is_clean}
 use Rattle.ae_verilog.proofs.Pieces.{clean_both, clean_from}
@@ -121,9 +121,9 @@ out_comment outs k t = choose (outs == 1)
     choose true = comment_line (codes " out " ++ st_text t) (inner_both (codes " out ") (st_text t) (record { all = refl }) (type_inner t))
     choose false = spaced_line (codes " out ") (decimal k) (st_text t) (record { all = refl }) (decimal_inner k) (type_inner t)
 
-listed_comments : (f : ℕ → StTree → List ℕ) (k : ℕ) (ts : List StTree) → ((j : ℕ) (t : StTree) → IsTextOf (f j t) []) → IsTextOf (listed f k ts) []
+listed_comments : (f : ℕ → StTree → List ℕ) (k : ℕ) (ts : List StTree) → ((j : ℕ) (t : StTree) → IsTextOf (f j t) []) → IsTextOf (each_numbered f k ts) []
 listed_comments f k [] each = no_text
-listed_comments f k (t ∷ ts) each = both_texts (f k t) (listed f (k + 1) ts) [] [] (each k t) (listed_comments f (k + 1) ts each)
+listed_comments f k (t ∷ ts) each = both_texts (f k t) (each_numbered f (k + 1) ts) [] [] (each k t) (listed_comments f (k + 1) ts each)
 
 -- lines within the module
 

@@ -12,7 +12,7 @@ use Rattle.ae_vread.specs.ModuleTree.{NetTree, ItemTree}
 use Rattle.ae_elab.specs.Values.{ModuleClock, assigned, with_stored}
 use Rattle.ae_elab.specs.Runs.{after_item, after_items, next_clock}
 use Rattle.ae_judge.proofs.Members.{bytes_same, other_bytes}
-use Rattle.ae_verilog.specs.NetlistModule.{number_name, net_name, net_value, listed, declaration, assignment, edge}
+use Rattle.ae_verilog.specs.NetlistModule.{number_name, net_name, net_value, each_numbered, declaration, assignment, edge}
 use Rattle.ae_verilog.specs.Written.{IsWritableNetlist}
 use Rattle.ae_verilog.proofs.LawNames.{number_same, number_fits}
 use Rattle.ae_verilog.proofs.LawNets.{written, name_of}
@@ -38,11 +38,11 @@ module _ (lines : ℕ → ℕ) (ns : List NetTree) (m : ModuleClock) where
     quiet_declaration k width (Mem depth at after enable) next = refl
     quiet_declaration k width (Peek mem at) next = refl
 
-    quiet_declarations : (s : ℕ) (xs : List SizedCell) (next : ModuleClock) → after_items ns m (listed (λ net (sized : SizedCell). declaration lines cells net sized.width sized.cell) s xs) next ≡ next
+    quiet_declarations : (s : ℕ) (xs : List SizedCell) (next : ModuleClock) → after_items ns m (each_numbered (λ net (sized : SizedCell). declaration lines cells net sized.width sized.cell) s xs) next ≡ next
     quiet_declarations s [] next = refl
     quiet_declarations s (x ∷ xs) next =
-        after_append (declaration lines cells s x.width x.cell) (listed (λ net (sized : SizedCell). declaration lines cells net sized.width sized.cell) (s + 1) xs) next
-        ∙ ap (λ u. after_items ns m (listed (λ net (sized : SizedCell). declaration lines cells net sized.width sized.cell) (s + 1) xs) u) (quiet_declaration s x.width x.cell next)
+        after_append (declaration lines cells s x.width x.cell) (each_numbered (λ net (sized : SizedCell). declaration lines cells net sized.width sized.cell) (s + 1) xs) next
+        ∙ ap (λ u. after_items ns m (each_numbered (λ net (sized : SizedCell). declaration lines cells net sized.width sized.cell) (s + 1) xs) u) (quiet_declaration s x.width x.cell next)
         ∙ quiet_declarations (s + 1) xs next
 
     quiet_assignments : (os : List Outlet) (next : ModuleClock) → after_items ns m (map (assignment lines cells outs) os) next ≡ next
@@ -81,7 +81,7 @@ module _ (lines : ℕ → ℕ) (ns : List NetTree) (m : ModuleClock) where
           store_of_two (m.word (net_name lines cells enable.0) == 0) next (number_name lines j) (m.word (net_name lines cells at.0)) (assigned ns m (number_name lines j) (net_value lines cells after.0)) (differs j h other)
 
       abbrev edges_from : ℕ → List SizedCell → List ItemTree
-      edges_from s xs = listed (λ net (sized : SizedCell). edge lines cells net sized.cell) s xs
+      edges_from s xs = each_numbered (λ net (sized : SizedCell). edge lines cells net sized.cell) s xs
 
       edges_after_word : (s : ℕ) (xs : List SizedCell) (next : ModuleClock) → k < s → s + length xs ≤ 2 ^ 64 → (after_items ns m (edges_from s xs) next).word (number_name lines k) ≡ next.word (number_name lines k)
       edges_after_word s [] next l few = refl

@@ -11,7 +11,7 @@ use Rattle.ae_netlist.specs.Circuit.{operand}
 use Rattle.ae_vread.specs.ModuleTree.{constant, index, StmtTree, set, put, when, block_end, DriveTree, ItemTree, nets, always}
 use Rattle.ae_elab.specs.Names.{Among, drives_of, equations}
 use Rattle.ae_judge.proofs.Members.{among_left, among_right, among_at, among_from, among_map, among_flat, among_unflat}
-use Rattle.ae_verilog.specs.NetlistModule.{clock_name, port_name, number_name, net_name, listed, net_value, op_value, drive, declaration, assignment, edge}
+use Rattle.ae_verilog.specs.NetlistModule.{clock_name, port_name, number_name, net_name, each_numbered, net_value, op_value, drive, declaration, assignment, edge}
 use Rattle.ae_verilog.proofs.LawNets.{among_listed, is_other, others, written}
 
 pub get_append : {X : Type 0} (xs ys : List X) (j : ℕ) (x : X) → slice_get (xs ++ ys) j ≡ Some x → (slice_get xs j ≡ Some x) ⊎ ((i : ℕ) × (j ≡ length xs + i) × (slice_get ys i ≡ Some x))
@@ -45,10 +45,10 @@ total_others (suc n) [] = refl
 total_others (suc n) (x ∷ xs) = ap (λ k. is_other x.cell + k) (total_others n xs)
 
 -- where in a list of parts an element stands
-listed_place : {A : Type 0} (size : Cell → ℕ) (f : ℕ → SizedCell → List A) → ((k : ℕ) (x : SizedCell) → length (f k x) ≡ size x.cell) → (s : ℕ) (xs : List SizedCell) (j : ℕ) (a : A) → slice_get (listed f s xs) j ≡ Some a
+listed_place : {A : Type 0} (size : Cell → ℕ) (f : ℕ → SizedCell → List A) → ((k : ℕ) (x : SizedCell) → length (f k x) ≡ size x.cell) → (s : ℕ) (xs : List SizedCell) (j : ℕ) (a : A) → slice_get (each_numbered f s xs) j ≡ Some a
     → (n : ℕ) × (x : SizedCell) × (i : ℕ) × (slice_get xs n ≡ Some x) × (slice_get (f (s + n) x) i ≡ Some a) × (j ≡ total size n xs + i)
 listed_place size f long s [] j a h = absurd (let e : None ≡ Some a = h in cc)
-listed_place size f long s (y ∷ xs) j a h = elim (get_append (f s y) (listed f (s + 1) xs) j a h) [
+listed_place size f long s (y ∷ xs) j a h = elim (get_append (f s y) (each_numbered f (s + 1) xs) j a h) [
   | inl here ↦ (0, y, j, refl, subst (λ n. slice_get (f n y) j ≡ Some a) (let e : s ≡ s + 0 = omega arith in e) here, (let e : j ≡ 0 + j = omega arith in e))
   | inr later ↦
       let r = listed_place size f long (s + 1) xs later.0 a later.2 in
@@ -59,9 +59,9 @@ listed_place size f long s (y ∷ xs) j a h = elim (get_append (f s y) (listed f
       (suc r.0, r.1, r.2, r.3, subst (λ n. slice_get (f n r.1) r.2 ≡ Some a) e r.4, (let z : j ≡ size y.cell + total size r.0 xs + r.2 = omega arith in z))
 ]
 
-listed_length : {A : Type 0} (size : Cell → ℕ) (f : ℕ → SizedCell → List A) → ((k : ℕ) (x : SizedCell) → length (f k x) ≡ size x.cell) → (s : ℕ) (xs : List SizedCell) → length (listed f s xs) ≡ total size (length xs) xs
+listed_length : {A : Type 0} (size : Cell → ℕ) (f : ℕ → SizedCell → List A) → ((k : ℕ) (x : SizedCell) → length (f k x) ≡ size x.cell) → (s : ℕ) (xs : List SizedCell) → length (each_numbered f s xs) ≡ total size (length xs) xs
 listed_length size f long s [] = refl
-listed_length size f long s (y ∷ xs) = length-append (f s y) (listed f (s + 1) xs) ∙ (λ i. long s y i + listed_length size f long (s + 1) xs i)
+listed_length size f long s (y ∷ xs) = length-append (f s y) (each_numbered f (s + 1) xs) ∙ (λ i. long s y i + listed_length size f long (s + 1) xs i)
 
 abbrev pub is_state : Cell → ℕ
 is_state (Reg next) = 1
@@ -126,10 +126,10 @@ module _ (lines : ℕ → ℕ) (cells : List SizedCell) (outlets : List Outlet) 
   the_edge k (Mem depth at next enable) (suc i) item h = absurd (let e : None ≡ Some item = h in cc)
 
   abbrev pub declarations : List ItemTree
-  declarations = listed (λ net (sized : SizedCell). declaration lines cells net sized.width sized.cell) 0 cells
+  declarations = each_numbered (λ net (sized : SizedCell). declaration lines cells net sized.width sized.cell) 0 cells
 
   abbrev pub edges : List ItemTree
-  edges = listed (λ net (sized : SizedCell). edge lines cells net sized.cell) 0 cells
+  edges = each_numbered (λ net (sized : SizedCell). edge lines cells net sized.cell) 0 cells
 
   -- an item by its place, where the first is 0
   pub data ItemOrigin (j : ℕ) (item : ItemTree) : Type 0 where

@@ -10,21 +10,21 @@ use Rattle.ae_vread.specs.declared.module.NetKind.TheVariants.{Input as InputNet
 use Rattle.ae_vread.specs.ModuleTree.{NetTree, ModuleTree}
 use Rattle.ae_elab.specs.Names.{Among, net_named}
 use Rattle.ae_judge.proofs.Members.{same_bytes, bytes_same, among_left, among_right, among_split, among_at, among_from, among_map, among_unmap, find_only}
-use Rattle.ae_verilog.specs.NetlistModule.{clock_name, port_name, cell_name, name_in, net_name, net_of, clock_net, input_nets, output_net, declared_nets, listed, inputs_of, declared_from, netlist_module}
+use Rattle.ae_verilog.specs.NetlistModule.{clock_name, port_name, cell_name, name_in, net_name, net_of, clock_net, input_nets, output_net, declared_nets, each_numbered, inputs_of, declared_from, netlist_module}
 use Rattle.ae_verilog.specs.Written.{IsWritableNetlist}
 use Rattle.ae_verilog.proofs.LawNames.{cell_not_clock, cell_not_output, clock_not_output, output_once, cell_once}
 
 -- what is in a list of parts that are made one after the other
-pub among_listed : {X A : Type 0} (f : ℕ → X → List A) (a : A) (s : ℕ) (xs : List X) (j : ℕ) (x : X) → slice_get xs j ≡ Some x → Among a (f (s + j) x) → Among a (listed f s xs)
+pub among_listed : {X A : Type 0} (f : ℕ → X → List A) (a : A) (s : ℕ) (xs : List X) (j : ℕ) (x : X) → slice_get xs j ≡ Some x → Among a (f (s + j) x) → Among a (each_numbered f s xs)
 among_listed f a s [] j x h p = absurd (let e : None ≡ Some x = h in cc)
 among_listed f a s (y ∷ xs) zero x h p =
-    among_left a (f s y) (listed f (s + 1) xs) (subst (λ z. Among a (f s z)) (let e : x ≡ y = (let o : Some y ≡ Some x = h in cc) in e) (subst (λ n. Among a (f n x)) (let e : s + 0 ≡ s = omega arith in e) p))
+    among_left a (f s y) (each_numbered f (s + 1) xs) (subst (λ z. Among a (f s z)) (let e : x ≡ y = (let o : Some y ≡ Some x = h in cc) in e) (subst (λ n. Among a (f n x)) (let e : s + 0 ≡ s = omega arith in e) p))
 among_listed f a s (y ∷ xs) (suc j) x h p =
-    among_right a (f s y) (listed f (s + 1) xs) (among_listed f a (s + 1) xs j x h (subst (λ n. Among a (f n x)) (let e : s + suc j ≡ s + 1 + j = omega arith in e) p))
+    among_right a (f s y) (each_numbered f (s + 1) xs) (among_listed f a (s + 1) xs j x h (subst (λ n. Among a (f n x)) (let e : s + suc j ≡ s + 1 + j = omega arith in e) p))
 
-pub listed_among : {X A : Type 0} (f : ℕ → X → List A) (a : A) (s : ℕ) (xs : List X) → Among a (listed f s xs) → (j : ℕ) × (x : X) × (slice_get xs j ≡ Some x) × Among a (f (s + j) x)
+pub listed_among : {X A : Type 0} (f : ℕ → X → List A) (a : A) (s : ℕ) (xs : List X) → Among a (each_numbered f s xs) → (j : ℕ) × (x : X) × (slice_get xs j ≡ Some x) × Among a (f (s + j) x)
 listed_among f a s [] h = absurd h
-listed_among f a s (y ∷ xs) h = elim (among_split a (f s y) (listed f (s + 1) xs) h) [
+listed_among f a s (y ∷ xs) h = elim (among_split a (f s y) (each_numbered f (s + 1) xs) h) [
   | inl here ↦ (0, y, refl, subst (λ n. Among a (f n y)) (let e : s ≡ s + 0 = omega arith in e) here)
   | inr later ↦ let r = listed_among f a (s + 1) xs later in (suc r.0, r.1, r.2, subst (λ n. Among a (f n r.1)) (let e : s + 1 + r.0 ≡ s + suc r.0 = omega arith in e) r.3)
 ]

@@ -17,7 +17,7 @@ use Rattle.ae_elab.specs.Runs.{clock_at, Holds, IsShaped, IsSettled, next_clock,
 use Rattle.ae_elab.specs.PlainRun.{clocks_from}
 use Rattle.ae_judge.proofs.Members.{same_bytes, bytes_same, among_left, among_right, among_split, among_at, among_from, among_map, among_unmap, find_only}
 use Rattle.ae_elab.proofs.Made.{from_length, from_at}
-use Rattle.ae_verilog.specs.NetlistModule.{port_name, cell_name, listed}
+use Rattle.ae_verilog.specs.NetlistModule.{port_name, cell_name, each_numbered}
 use Rattle.ae_verilog.specs.Written.{IsWritableNetlist}
 use Rattle.ae_verilog.proofs.LawNames.{cell_not_output, output_once, cell_once}
 use Rattle.ae_verilog.proofs.LawNets.{among_listed, listed_among, written, cell_net, the_clock, a_cell, an_output, origin, name_of}
@@ -59,14 +59,14 @@ module _ (lines : ℕ → ℕ) (cells : List SizedCell) (outlets : List Outlet) 
   output_entry o = (port_name outs o.port, o.net.0)
 
   table : List (List ℕ × ℕ)
-  table = listed cell_entry 0 cells ++ map output_entry outlets
+  table = each_numbered cell_entry 0 cells ++ map output_entry outlets
 
   net_in : List ℕ → ℕ
   net_in n = number_in (find (λ (e : List ℕ × ℕ). bytes_eq e.0 n) table)
 
   in_table : (e : List ℕ × ℕ) → Among e table → ((k : ℕ) × (x : SizedCell) × (slice_get cells k ≡ Some x) × (e ≡ (cell_name lines k x.cell, k))) ⊎ ((j : ℕ) × (o : Outlet) × (slice_get outlets j ≡ Some o) × (e ≡ output_entry o))
   unfolding table
-  in_table e a = elim (among_split e (listed cell_entry 0 cells) (map output_entry outlets) a) [
+  in_table e a = elim (among_split e (each_numbered cell_entry 0 cells) (map output_entry outlets) a) [
     | inl b ↦
         let p = listed_among cell_entry e 0 cells b in
         let n : 0 + p.0 ≡ p.0 = omega arith in
@@ -78,7 +78,7 @@ module _ (lines : ℕ → ℕ) (cells : List SizedCell) (outlets : List Outlet) 
   unfolding table net_in number_in
   cell_in k x h =
       let n : k ≡ 0 + k = omega arith in
-      let here : Among (cell_name lines k x.cell, k) table = among_left (cell_name lines k x.cell, k) (listed cell_entry 0 cells) (map output_entry outlets) (among_listed cell_entry (cell_name lines k x.cell, k) 0 cells k x h (inl (λ i. (cell_name lines (sym n i) x.cell, sym n i)))) in
+      let here : Among (cell_name lines k x.cell, k) table = among_left (cell_name lines k x.cell, k) (each_numbered cell_entry 0 cells) (map output_entry outlets) (among_listed cell_entry (cell_name lines k x.cell, k) 0 cells k x h (inl (λ i. (cell_name lines (sym n i) x.cell, sym n i)))) in
       ap number_in (find_only (λ (e : List ℕ × ℕ). bytes_eq e.0 (cell_name lines k x.cell)) table (cell_name lines k x.cell, k) here (bytes_same (cell_name lines k x.cell) (cell_name lines k x.cell) refl) (λ e a t.
       let same : e.0 ≡ cell_name lines k x.cell = same_bytes e.0 (cell_name lines k x.cell) t in
       elim (in_table e a) [
@@ -93,7 +93,7 @@ module _ (lines : ℕ → ℕ) (cells : List SizedCell) (outlets : List Outlet) 
   output_in : (j : ℕ) (o : Outlet) → slice_get outlets j ≡ Some o → net_in (port_name outs o.port) ≡ o.net.0
   unfolding table net_in number_in
   output_in j o h =
-      let here : Among (output_entry o) table = among_right (output_entry o) (listed cell_entry 0 cells) (map output_entry outlets) (among_map output_entry o outlets (among_from o outlets j h)) in
+      let here : Among (output_entry o) table = among_right (output_entry o) (each_numbered cell_entry 0 cells) (map output_entry outlets) (among_map output_entry o outlets (among_from o outlets j h)) in
       ap number_in (find_only (λ (e : List ℕ × ℕ). bytes_eq e.0 (port_name outs o.port)) table (output_entry o) here (bytes_same (port_name outs o.port) (port_name outs o.port) refl) (λ e a t.
       let same : e.0 ≡ port_name outs o.port = same_bytes e.0 (port_name outs o.port) t in
       elim (in_table e a) [

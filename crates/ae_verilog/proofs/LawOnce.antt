@@ -11,7 +11,7 @@ use Rattle.ae_vread.specs.ModuleTree.{NetTree, ItemTree, ModuleTree}
 use Rattle.ae_elab.specs.Names.{Among, is_input_kind, passes, is_input, stmt_targets, target_of, item_targets}
 use Rattle.ae_elab.specs.Faults.{HasTwice, Never}
 use Rattle.ae_judge.proofs.Members.{among_split, among_from, among_at, among_unmap}
-use Rattle.ae_verilog.specs.NetlistModule.{port_name, cell_name, input_nets, output_net, declared_nets, listed, inputs_of, declared_from}
+use Rattle.ae_verilog.specs.NetlistModule.{port_name, cell_name, input_nets, output_net, declared_nets, each_numbered, inputs_of, declared_from}
 use Rattle.ae_verilog.specs.Written.{IsWritableNetlist}
 use Rattle.ae_verilog.proofs.LawNames.{cell_not_clock, cell_not_output, clock_not_output, output_once, cell_once}
 use Rattle.ae_verilog.proofs.LawNets.{listed_among, is_other, others, cell_kind, written, cell_named, output_named}
@@ -98,10 +98,10 @@ module _ (lines : ℕ → ℕ) (cells : List SizedCell) (outlets : List Outlet) 
       let same : k ≡ k + 1 + j = cell_once lines cells outlets outs ok k (k + 1 + j) x z hx hz (sym p.named ∙ e ∙ q.named) in
       omega arith
 
-  inputs_apart : (k : ℕ) (xs : List SizedCell) → IsTail k xs → Apart (listed (λ net (sized : SizedCell). input_nets sized.width sized.cell) k xs)
+  inputs_apart : (k : ℕ) (xs : List SizedCell) → IsTail k xs → Apart (each_numbered (λ net (sized : SizedCell). input_nets sized.width sized.cell) k xs)
   inputs_apart k [] h = tt
   inputs_apart k (x ∷ xs) h =
-      apart_both (input_nets x.width x.cell) (listed (λ net (sized : SizedCell). input_nets sized.width sized.cell) (k + 1) xs) (input_apart x.width x.cell) (inputs_apart (k + 1) xs (tail_of k x xs h))
+      apart_both (input_nets x.width x.cell) (each_numbered (λ net (sized : SizedCell). input_nets sized.width sized.cell) (k + 1) xs) (input_apart x.width x.cell) (inputs_apart (k + 1) xs (tail_of k x xs h))
       (λ y u a b e.
       let r = listed_among (λ net (sized : SizedCell). input_nets sized.width sized.cell) u (k + 1) xs b in
       not_later k r.0 x r.1 y u 0 0 (head_of k x xs h) (tail_of k x xs h r.0 r.1 r.2) (an_input lines k x.width x.cell y a) (an_input lines (k + 1 + r.0) r.1.width r.1.cell u r.3) e)

@@ -20,7 +20,7 @@ use Rattle.ae_elab.specs.Values.{ModuleClock}
 use Rattle.ae_elab.specs.Runs.{clock_at, IsRun}
 use Rattle.ae_elab.specs.SameRuns as s
 use Rattle.ae_judge.proofs.Members.{among_unmap}
-use Rattle.ae_verilog.specs.NetlistModule.{port_name, number_name, cell_name, net_of, clock_net, input_nets, output_net, declared_nets, listed, inputs_of, declared_from}
+use Rattle.ae_verilog.specs.NetlistModule.{port_name, number_name, cell_name, net_of, clock_net, input_nets, output_net, declared_nets, each_numbered, inputs_of, declared_from}
 use Rattle.ae_verilog.specs.Written.{IsWritableNetlist}
 use Rattle.ae_verilog.proofs.LawNets.{listed_among, written}
 use Rattle.ae_verilog.proofs.LawClocks.{clock_is_clock, cell_no_clock}
@@ -73,12 +73,12 @@ module _ (lines : ℕ → ℕ) {A : Type 0} (f : NetTree → A) (g : ℕ × Size
   Matches part p = ((q p.1.cell ≡ true) × (map f part ≡ g p ∷ [])) ⊎ ((q p.1.cell ≡ false) × (map f part ≡ []))
 
   listed_numbered : (part : ℕ → SizedCell → List NetTree) (k : ℕ) (xs : List SizedCell) → ((j : ℕ) (x : SizedCell) → slice_get xs j ≡ Some x → Matches (part (k + j) x) (k + j, x))
-      → map f (listed part k xs) ≡ map g (filter (of_kind q) (enumerate_from k xs))
+      → map f (each_numbered part k xs) ≡ map g (filter (of_kind q) (enumerate_from k xs))
   listed_numbered part k [] h = refl
   listed_numbered part k (x ∷ xs) h =
       let first : Matches (part k x) (k, x) = subst (λ n. Matches (part n x) (n, x)) (let e : k + 0 ≡ k = omega arith in e) (h 0 x refl) in
       let rest = listed_numbered part (k + 1) xs (λ j y e. subst (λ n. Matches (part n y) (n, y)) (let z : k + suc j ≡ k + 1 + j = omega arith in z) (h (suc j) y e)) in
-      map_parts f (part k x) (listed part (k + 1) xs) ∙ elim first [
+      map_parts f (part k x) (each_numbered part (k + 1) xs) ∙ elim first [
         | inl t ↦ (λ i. t.1 i ++ rest i) ∙ sym (numbered_some g q k x xs t.0)
         | inr e ↦ (λ i. e.1 i ++ rest i) ∙ sym (numbered_none g q k x xs e.0)
       ]

@@ -13,7 +13,7 @@ use Rattle.ae_netlist.specs.Circuit.{operand, width_of}
 use Rattle.ae_vread.specs.ModuleTree.{ExprTree, part, binary, constant, ItemTree}
 use Rattle.ae_vread.specs.declared.module.BinOp.TheVariants.{Shl as LeftBy, Shr as RightBy}
 use Rattle.ae_elab.specs.Weight.{expr_weight, item_weight, weight}
-use Rattle.ae_verilog.specs.NetlistModule.{net_name, input_nets, output_net, declared_nets, listed, inputs_of, declared_from, net_value, op_value, declaration, assignment, edge, netlist_module}
+use Rattle.ae_verilog.specs.NetlistModule.{net_name, input_nets, output_net, declared_nets, each_numbered, inputs_of, declared_from, net_value, op_value, declaration, assignment, edge, netlist_module}
 
 one_of : (b : Bool) (x y : ExprTree) → expr_weight x ≤ 2 → expr_weight y ≤ 2 → expr_weight (if b then x else y) ≤ 2
 one_of true x y p q = p
@@ -56,15 +56,15 @@ module _ (lines : ℕ → ℕ) (cells : List SizedCell) where
   cell_light item k width (Mem depth at next enable) = omega arith
   cell_light item k width (Peek mem at) = omega arith
 
-  cells_light : (item k : ℕ) (xs : List SizedCell) → length (listed (λ net (sized : SizedCell). input_nets sized.width sized.cell) k xs) + (length (declared_from lines item k xs) + (sum_by item_weight (listed declare k xs) + sum_by item_weight (listed change k xs))) ≤ 4 * length xs
+  cells_light : (item k : ℕ) (xs : List SizedCell) → length (each_numbered (λ net (sized : SizedCell). input_nets sized.width sized.cell) k xs) + (length (declared_from lines item k xs) + (sum_by item_weight (each_numbered declare k xs) + sum_by item_weight (each_numbered change k xs))) ≤ 4 * length xs
   cells_light item k [] = omega arith
   cells_light item k (x ∷ xs) =
       let one = cell_light item k x.width x.cell in
       let rest = cells_light (item + length (declared_nets lines item k x.width x.cell)) (k + 1) xs in
-      let a = length-append (input_nets x.width x.cell) (listed (λ net (sized : SizedCell). input_nets sized.width sized.cell) (k + 1) xs) in
+      let a = length-append (input_nets x.width x.cell) (each_numbered (λ net (sized : SizedCell). input_nets sized.width sized.cell) (k + 1) xs) in
       let b = length-append (declared_nets lines item k x.width x.cell) (declared_from lines (item + length (declared_nets lines item k x.width x.cell)) (k + 1) xs) in
-      let c = sum_by-append item_weight (declare k x) (listed declare (k + 1) xs) in
-      let d = sum_by-append item_weight (change k x) (listed change (k + 1) xs) in
+      let c = sum_by-append item_weight (declare k x) (each_numbered declare (k + 1) xs) in
+      let d = sum_by-append item_weight (change k x) (each_numbered change (k + 1) xs) in
       omega arith
 
   outputs_light : (outs : ℕ) (os : List Outlet) → sum_by item_weight (map (assignment lines cells outs) os) ≤ length os
@@ -78,6 +78,6 @@ module _ (lines : ℕ → ℕ) (cells : List SizedCell) where
       let a = length-append (inputs_of cells) (map (output_net cells outs) outlets ++ declared_from lines 1 0 cells) in
       let b = length-append (map (output_net cells outs) outlets) (declared_from lines 1 0 cells) in
       let c = length-map outlets (output_net cells outs) in
-      let d = sum_by-append item_weight (listed declare 0 cells) (map (assignment lines cells outs) outlets ++ listed change 0 cells) in
-      let e = sum_by-append item_weight (map (assignment lines cells outs) outlets) (listed change 0 cells) in
+      let d = sum_by-append item_weight (each_numbered declare 0 cells) (map (assignment lines cells outs) outlets ++ each_numbered change 0 cells) in
+      let e = sum_by-append item_weight (map (assignment lines cells outs) outlets) (each_numbered change 0 cells) in
       omega arith

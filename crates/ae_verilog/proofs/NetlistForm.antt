@@ -12,7 +12,7 @@ use Rattle.ae_vread.specs.ModuleTree.{constant, index}
 use Rattle.ae_vread.specs.declared.module.NetKind.{NetKind}
 use Rattle.ae_vread.specs.Forms.{PortForm, InputHead, OutputHead, ItemForm, ModuleForm, size_of, net_of}
 use Rattle.ae_verilog.specs.NetlistModule as m
-use Rattle.ae_verilog.specs.NetlistModule.{port_name, number_name, net_name, net_value, op_value, listed, input_nets, output_net, declared_nets, inputs_of, declared_from, declaration, assignment, edge, netlist_module}
+use Rattle.ae_verilog.specs.NetlistModule.{port_name, number_name, net_name, net_value, op_value, each_numbered, input_nets, output_net, declared_nets, inputs_of, declared_from, declaration, assignment, edge, netlist_module}
 use Rattle.ae_verilog.proofs.Pieces.{number_form}
 use Rattle.ae_verilog.proofs.Writable.{number_back}
 use Rattle.ae_verilog.proofs.Lines.{range_form, value_item, register_item, memory_item, assign_item, register_edge_item, memory_edge_item}
@@ -53,9 +53,9 @@ port_forms cells outlets outs = flat_map (λ (sized : SizedCell). input_forms si
 
 abbrev pub item_forms : (lines : ℕ → ℕ) → List SizedCell → List Outlet → ℕ → List ItemForm
 item_forms lines cells outlets outs =
-    listed (λ net (sized : SizedCell). declaration_form lines cells net sized.width sized.cell) 0 cells
+    each_numbered (λ net (sized : SizedCell). declaration_form lines cells net sized.width sized.cell) 0 cells
     ++ (map (assignment_form lines cells outs) outlets
-    ++ listed (λ net (sized : SizedCell). edge_form lines cells net sized.cell) 0 cells)
+    ++ each_numbered (λ net (sized : SizedCell). edge_form lines cells net sized.cell) 0 cells)
 
 abbrev pub netlist_form : (lines : ℕ → ℕ) → List SizedCell → List Outlet → ℕ → ModuleForm
 netlist_form lines cells outlets outs = record {
@@ -75,9 +75,9 @@ pub flat_flat : {X Y A : Type 0} (g : Y → List A) (f : X → List Y) (xs : Lis
 flat_flat g f [] = refl
 flat_flat g f (x ∷ xs) = flat_both g (f x) (flat_map f xs) ∙ ap (λ l. flat_map g (f x) ++ l) (flat_flat g f xs)
 
-pub flat_listed : {X Y A : Type 0} (g : Y → List A) (f : ℕ → X → List Y) (k : ℕ) (xs : List X) → flat_map g (listed f k xs) ≡ listed (λ n x. flat_map g (f n x)) k xs
+pub flat_listed : {X Y A : Type 0} (g : Y → List A) (f : ℕ → X → List Y) (k : ℕ) (xs : List X) → flat_map g (each_numbered f k xs) ≡ each_numbered (λ n x. flat_map g (f n x)) k xs
 flat_listed g f k [] = refl
-flat_listed g f k (x ∷ xs) = flat_both g (f k x) (listed f (k + 1) xs) ∙ ap (λ l. flat_map g (f k x) ++ l) (flat_listed g f (k + 1) xs)
+flat_listed g f k (x ∷ xs) = flat_both g (f k x) (each_numbered f (k + 1) xs) ∙ ap (λ l. flat_map g (f k x) ++ l) (flat_listed g f (k + 1) xs)
 
 pub flat_mapped : {X Y A : Type 0} (g : Y → List A) (f : X → Y) (xs : List X) → flat_map g (map f xs) ≡ flat_map (λ x. g (f x)) xs
 flat_mapped g f [] = refl
@@ -87,9 +87,9 @@ pub map_both : {X A : Type 0} (f : X → A) (xs ys : List X) → map f (xs ++ ys
 map_both f [] ys = refl
 map_both f (x ∷ xs) ys = ap (λ l. f x ∷ l) (map_both f xs ys)
 
-pub map_listed : {X Y A : Type 0} (g : Y → A) (f : ℕ → X → List Y) (k : ℕ) (xs : List X) → map g (listed f k xs) ≡ listed (λ n x. map g (f n x)) k xs
+pub map_listed : {X Y A : Type 0} (g : Y → A) (f : ℕ → X → List Y) (k : ℕ) (xs : List X) → map g (each_numbered f k xs) ≡ each_numbered (λ n x. map g (f n x)) k xs
 map_listed g f k [] = refl
-map_listed g f k (x ∷ xs) = map_both g (f k x) (listed f (k + 1) xs) ∙ ap (λ l. map g (f k x) ++ l) (map_listed g f (k + 1) xs)
+map_listed g f k (x ∷ xs) = map_both g (f k x) (each_numbered f (k + 1) xs) ∙ ap (λ l. map g (f k x) ++ l) (map_listed g f (k + 1) xs)
 
 pub map_map : {X Y A : Type 0} (g : Y → A) (f : X → Y) (xs : List X) → map g (map f xs) ≡ map (λ x. g (f x)) xs
 map_map g f [] = refl
@@ -101,17 +101,17 @@ next_place k j = omega arith
 pub first_place : (k : ℕ) → k + 0 ≡ k
 first_place k = omega arith
 
-pub listed_same : {X A : Type 0} (f g : ℕ → X → List A) (k : ℕ) (xs : List X) → ((j : ℕ) (x : X) → slice_get xs j ≡ Some x → f (k + j) x ≡ g (k + j) x) → listed f k xs ≡ listed g k xs
+pub listed_same : {X A : Type 0} (f g : ℕ → X → List A) (k : ℕ) (xs : List X) → ((j : ℕ) (x : X) → slice_get xs j ≡ Some x → f (k + j) x ≡ g (k + j) x) → each_numbered f k xs ≡ each_numbered g k xs
 listed_same f g k [] same = refl
 listed_same f g k (x ∷ xs) same =
-    ap (λ l. l ++ listed f (k + 1) xs) (subst (λ n. f n x ≡ g n x) (first_place k) (same 0 x refl))
+    ap (λ l. l ++ each_numbered f (k + 1) xs) (subst (λ n. f n x ≡ g n x) (first_place k) (same 0 x refl))
     ∙ ap (λ l. g k x ++ l) (listed_same f g (k + 1) xs (λ j y e. subst (λ n. f n y ≡ g n y) (next_place k j) (same (suc j) y e)))
 
 pub flat_same : {X A : Type 0} (f g : X → List A) (xs : List X) → ((j : ℕ) (x : X) → slice_get xs j ≡ Some x → f x ≡ g x) → flat_map f xs ≡ flat_map g xs
 flat_same f g [] same = refl
 flat_same f g (x ∷ xs) same = ap (λ l. l ++ flat_map f xs) (same 0 x refl) ∙ ap (λ l. g x ++ l) (flat_same f g xs (λ j y e. same (suc j) y e))
 
-pub unnumbered : {X A : Type 0} (f : X → List A) (k : ℕ) (xs : List X) → listed (λ n x. f x) k xs ≡ flat_map f xs
+pub unnumbered : {X A : Type 0} (f : X → List A) (k : ℕ) (xs : List X) → each_numbered (λ n x. f x) k xs ≡ flat_map f xs
 unnumbered f k [] = refl
 unnumbered f k (x ∷ xs) = ap (λ l. f x ++ l) (unnumbered f (k + 1) xs)
 

@@ -13,7 +13,7 @@ use Rattle.ae_vread.specs.ModuleTree.{constant, index, NetTree, nets}
 use Rattle.ae_vread.specs.declared.module.NetKind.TheVariants.{Memory, Input as InputNet, Wire as WireNet, OutWire as OutWireNet, Reg as RegNet}
 use Rattle.ae_vread.specs.Forms.{PortForm, ItemForm, size_of, port_nets, item_nets, nets_from, item_of, module_of, IsItem}
 use Rattle.ae_verilog.specs.NetlistModule as m
-use Rattle.ae_verilog.specs.NetlistModule.{port_name, number_name, net_name, net_value, op_value, listed, input_nets, output_net, declared_nets, inputs_of, declared_from, declaration, assignment, edge, netlist_module, clock_net, drive}
+use Rattle.ae_verilog.specs.NetlistModule.{port_name, number_name, net_name, net_value, op_value, each_numbered, input_nets, output_net, declared_nets, inputs_of, declared_from, declaration, assignment, edge, netlist_module, clock_net, drive}
 use Rattle.ae_verilog.proofs.Pieces.{IsNameText, number_form}
 use Rattle.ae_verilog.proofs.Writable.{IsWritable, expr_back}
 use Rattle.ae_verilog.proofs.Named.{IsGood, name_named, net_inside, all_named, is_constant, op_writable, op_drive}
@@ -152,14 +152,14 @@ as_many lines cells item net width (Reg next) = refl
 as_many lines cells item net width (Mem depth at next enable) = refl
 as_many lines cells item net width (Peek mem at) = refl
 
-all_declared : (lines : ℕ → ℕ) → (cells : List SizedCell) (item net : ℕ) (rest : List SizedCell) → ((j : ℕ) (sized : SizedCell) → slice_get rest j ≡ Some sized → IsCellOf lines cells (net + j) sized) → nets_from item (listed (λ net (sized : SizedCell). declaration_form lines cells net sized.width sized.cell) net rest) ≡ declared_from lines item net rest
+all_declared : (lines : ℕ → ℕ) → (cells : List SizedCell) (item net : ℕ) (rest : List SizedCell) → ((j : ℕ) (sized : SizedCell) → slice_get rest j ≡ Some sized → IsCellOf lines cells (net + j) sized) → nets_from item (each_numbered (λ net (sized : SizedCell). declaration_form lines cells net sized.width sized.cell) net rest) ≡ declared_from lines item net rest
 all_declared lines cells item net [] each = refl
 all_declared lines cells item net (sized ∷ rest) each =
     let here = subst (λ n. IsCellOf lines cells n sized) (first_place net) (each 0 sized refl) in
     let form : List ItemForm = declaration_form lines cells net sized.width sized.cell in
-    nets_both item form (listed (λ net (sized : SizedCell). declaration_form lines cells net sized.width sized.cell) (net + 1) rest)
-    ∙ ap (λ l. l ++ nets_from (item + length form) (listed (λ net (sized : SizedCell). declaration_form lines cells net sized.width sized.cell) (net + 1) rest)) (declared_back lines cells item net sized.width sized.cell here.low here.high here.declared)
-    ∙ ap (λ k. declared_nets lines item net sized.width sized.cell ++ nets_from (item + k) (listed (λ net (sized : SizedCell). declaration_form lines cells net sized.width sized.cell) (net + 1) rest)) (as_many lines cells item net sized.width sized.cell)
+    nets_both item form (each_numbered (λ net (sized : SizedCell). declaration_form lines cells net sized.width sized.cell) (net + 1) rest)
+    ∙ ap (λ l. l ++ nets_from (item + length form) (each_numbered (λ net (sized : SizedCell). declaration_form lines cells net sized.width sized.cell) (net + 1) rest)) (declared_back lines cells item net sized.width sized.cell here.low here.high here.declared)
+    ∙ ap (λ k. declared_nets lines item net sized.width sized.cell ++ nets_from (item + k) (each_numbered (λ net (sized : SizedCell). declaration_form lines cells net sized.width sized.cell) (net + 1) rest)) (as_many lines cells item net sized.width sized.cell)
     ∙ ap (λ l. declared_nets lines item net sized.width sized.cell ++ l) (all_declared lines cells (item + length (declared_nets lines item net sized.width sized.cell)) (net + 1) rest
     (λ j other e. subst (λ n. IsCellOf lines cells n other) (next_place net j) (each (suc j) other e)))
 
@@ -175,18 +175,18 @@ no_edge lines cells net k (Reg next) = refl
 no_edge lines cells net k (Mem depth at next enable) = refl
 no_edge lines cells net k (Peek mem at) = refl
 
-no_edges : (lines : ℕ → ℕ) → (cells : List SizedCell) (net k : ℕ) (rest : List SizedCell) → nets_from k (listed (λ net (sized : SizedCell). edge_form lines cells net sized.cell) net rest) ≡ []
+no_edges : (lines : ℕ → ℕ) → (cells : List SizedCell) (net k : ℕ) (rest : List SizedCell) → nets_from k (each_numbered (λ net (sized : SizedCell). edge_form lines cells net sized.cell) net rest) ≡ []
 no_edges lines cells net k [] = refl
 no_edges lines cells net k (sized ∷ rest) =
-    nets_both k (edge_form lines cells net sized.cell) (listed (λ net (sized : SizedCell). edge_form lines cells net sized.cell) (net + 1) rest)
-    ∙ ap (λ l. l ++ nets_from (k + length (edge_form lines cells net sized.cell)) (listed (λ net (sized : SizedCell). edge_form lines cells net sized.cell) (net + 1) rest)) (no_edge lines cells net k sized.cell)
+    nets_both k (edge_form lines cells net sized.cell) (each_numbered (λ net (sized : SizedCell). edge_form lines cells net sized.cell) (net + 1) rest)
+    ∙ ap (λ l. l ++ nets_from (k + length (edge_form lines cells net sized.cell)) (each_numbered (λ net (sized : SizedCell). edge_form lines cells net sized.cell) (net + 1) rest)) (no_edge lines cells net k sized.cell)
     ∙ no_edges lines cells (net + 1) (k + length (edge_form lines cells net sized.cell)) rest
 
 nets_back : (lines : ℕ → ℕ) → (cells : List SizedCell) (outlets : List Outlet) (outs : ℕ) → IsGood cells → nets_from 1 (item_forms lines cells outlets outs) ≡ declared_from lines 1 0 cells
 nets_back lines cells outlets outs good =
-    let declared : List ItemForm = listed (λ net (sized : SizedCell). declaration_form lines cells net sized.width sized.cell) 0 cells in
+    let declared : List ItemForm = each_numbered (λ net (sized : SizedCell). declaration_form lines cells net sized.width sized.cell) 0 cells in
     let assigned : List ItemForm = map (assignment_form lines cells outs) outlets in
-    let edges : List ItemForm = listed (λ net (sized : SizedCell). edge_form lines cells net sized.cell) 0 cells in
+    let edges : List ItemForm = each_numbered (λ net (sized : SizedCell). edge_form lines cells net sized.cell) 0 cells in
     nets_both 1 declared (assigned ++ edges)
     ∙ ap (λ l. nets_from 1 declared ++ l) (nets_both (1 + length declared) assigned edges
     ∙ ap (λ l. l ++ nets_from (1 + length declared + length assigned) edges) (no_assigned lines cells outs (1 + length declared) outlets)
@@ -215,15 +215,15 @@ edge_back lines cells net (Peek mem at) = refl
 
 items_back : (lines : ℕ → ℕ) → (cells : List SizedCell) (outlets : List Outlet) (outs : ℕ) → IsGood cells → map item_of (item_forms lines cells outlets outs) ≡ (netlist_module lines cells outlets outs).items
 items_back lines cells outlets outs good =
-    let declared : List ItemForm = listed (λ net (sized : SizedCell). declaration_form lines cells net sized.width sized.cell) 0 cells in
+    let declared : List ItemForm = each_numbered (λ net (sized : SizedCell). declaration_form lines cells net sized.width sized.cell) 0 cells in
     let assigned : List ItemForm = map (assignment_form lines cells outs) outlets in
-    let edges : List ItemForm = listed (λ net (sized : SizedCell). edge_form lines cells net sized.cell) 0 cells in
+    let edges : List ItemForm = each_numbered (λ net (sized : SizedCell). edge_form lines cells net sized.cell) 0 cells in
     map_both item_of declared (assigned ++ edges)
     ∙ ap (λ l. l ++ map item_of (assigned ++ edges)) (map_listed item_of (λ net (sized : SizedCell). declaration_form lines cells net sized.width sized.cell) 0 cells
     ∙ listed_same _ (λ net (sized : SizedCell). declaration lines cells net sized.width sized.cell) 0 cells (λ j sized e.
     let cell = cell_of lines cells j sized good e in
     subst (λ n. map item_of (declaration_form lines cells n sized.width sized.cell) ≡ declaration lines cells n sized.width sized.cell) (let z : j ≡ 0 + j = omega arith in z) (declaration_back lines cells j sized.width sized.cell cell.declared)))
-    ∙ ap (λ l. listed (λ net (sized : SizedCell). declaration lines cells net sized.width sized.cell) 0 cells ++ l) (map_both item_of assigned edges
+    ∙ ap (λ l. each_numbered (λ net (sized : SizedCell). declaration lines cells net sized.width sized.cell) 0 cells ++ l) (map_both item_of assigned edges
     ∙ ap (λ l. l ++ map item_of edges) (map_map item_of (assignment_form lines cells outs) outlets)
     ∙ ap (λ l. map (assignment lines cells outs) outlets ++ l) (map_listed item_of (λ net (sized : SizedCell). edge_form lines cells net sized.cell) 0 cells
     ∙ listed_same _ (λ net (sized : SizedCell). edge lines cells net sized.cell) 0 cells (λ j sized e. edge_back lines cells (0 + j) sized.cell)))
@@ -247,9 +247,9 @@ pub all_both : {X : Type 0} (P : X → Type 0) (xs ys : List X) → AllByRecursi
 all_both P [] ys hx hy = hy
 all_both P (x ∷ xs) ys hx hy = (hx.0, all_both P xs ys hx.1 hy)
 
-all_listed : {X Y : Type 0} (P : Y → Type 0) (f : ℕ → X → List Y) (k : ℕ) (xs : List X) → ((n : ℕ) (x : X) → AllByRecursion P (f n x)) → AllByRecursion P (listed f k xs)
+all_listed : {X Y : Type 0} (P : Y → Type 0) (f : ℕ → X → List Y) (k : ℕ) (xs : List X) → ((n : ℕ) (x : X) → AllByRecursion P (f n x)) → AllByRecursion P (each_numbered f k xs)
 all_listed P f k [] each = tt
-all_listed P f k (x ∷ xs) each = all_both P (f k x) (listed f (k + 1) xs) (each k x) (all_listed P f (k + 1) xs each)
+all_listed P f k (x ∷ xs) each = all_both P (f k x) (each_numbered f (k + 1) xs) (each k x) (all_listed P f (k + 1) xs each)
 
 all_mapped : {X Y : Type 0} (P : Y → Type 0) (f : X → Y) (xs : List X) → ((x : X) → P (f x)) → AllByRecursion P (map f xs)
 all_mapped P f [] each = tt
@@ -277,7 +277,7 @@ edge_formed lines cells net (Peek mem at) = tt
 
 pub items_formed : (lines : ℕ → ℕ) → (cells : List SizedCell) (outlets : List Outlet) (outs : ℕ) → AllByRecursion IsItem (item_forms lines cells outlets outs)
 items_formed lines cells outlets outs =
-    all_both IsItem (listed (λ net (sized : SizedCell). declaration_form lines cells net sized.width sized.cell) 0 cells) _
+    all_both IsItem (each_numbered (λ net (sized : SizedCell). declaration_form lines cells net sized.width sized.cell) 0 cells) _
     (all_listed IsItem (λ net (sized : SizedCell). declaration_form lines cells net sized.width sized.cell) 0 cells (λ net sized. declaration_formed lines cells net sized.width sized.cell))
     (all_both IsItem (map (assignment_form lines cells outs) outlets) _ (all_mapped IsItem (assignment_form lines cells outs) outlets (assignment_formed lines cells outs))
     (all_listed IsItem (λ net (sized : SizedCell). edge_form lines cells net sized.cell) 0 cells (λ net sized. edge_formed lines cells net sized.cell)))

@@ -6,7 +6,7 @@ use Rattle.std.proofs.lemmas.List.{take_all, drop-drop, drop_all, length-drop}
 use Rattle.std.proofs.lemmas.Option.{none-some}
 use Rattle.ae_netlist.specs.declared.cell.SizedCell.{SizedCell}
 use Rattle.ae_vread.specs.Tokens.{TokenTree}
-use Rattle.ae_verilog.specs.NetlistModule.{listed}
+use Rattle.ae_verilog.specs.NetlistModule.{each_numbered}
 use Rattle.ae_verilog.specs.Notes.{NoteTree, note_line}
 use Rattle.ae_verilog.specs.Text.{between, noted}
 use Rattle.ae_verilog.proofs.Lines.{IsTextOf, no_text, both_texts}
@@ -14,10 +14,10 @@ use Rattle.ae_verilog.proofs.NetlistForm.{next_place, first_place}
 
 -- lists of texts
 
-pub listed_text : {X : Type 0} (f : ℕ → X → List ℕ) (g : ℕ → X → List TokenTree) (k : ℕ) (xs : List X) → ((j : ℕ) (x : X) → slice_get xs j ≡ Some x → IsTextOf (f (k + j) x) (g (k + j) x)) → IsTextOf (listed f k xs) (listed g k xs)
+pub listed_text : {X : Type 0} (f : ℕ → X → List ℕ) (g : ℕ → X → List TokenTree) (k : ℕ) (xs : List X) → ((j : ℕ) (x : X) → slice_get xs j ≡ Some x → IsTextOf (f (k + j) x) (g (k + j) x)) → IsTextOf (each_numbered f k xs) (each_numbered g k xs)
 listed_text f g k [] each = no_text
 listed_text f g k (x ∷ xs) each =
-    both_texts (f k x) (listed f (k + 1) xs) (g k x) (listed g (k + 1) xs)
+    both_texts (f k x) (each_numbered f (k + 1) xs) (g k x) (each_numbered g (k + 1) xs)
     (subst (λ n. IsTextOf (f n x) (g n x)) (first_place k) (each 0 x refl))
     (listed_text f g (k + 1) xs (λ j y e. subst (λ n. IsTextOf (f n y) (g n y)) (next_place k j) (each (suc j) y e)))
 
@@ -35,25 +35,25 @@ rest_get xs zero j x e = subst (λ n. slice_get xs n ≡ Some x) (let same : j �
 rest_get [] (suc k) j x e = absurd (none-some x e)
 rest_get (y ∷ ys) (suc k) j x e = subst (λ n. slice_get (y ∷ ys) n ≡ Some x) (let same : suc (k + j) ≡ suc k + j = omega arith in same) (rest_get ys k j x e)
 
-listed_parts : {X A : Type 0} (g : ℕ → X → List A) (k n : ℕ) (xs : List X) → listed g k (take n xs) ++ listed g (k + n) (drop n xs) ≡ listed g k xs
-listed_parts g k zero xs = ap (λ m. listed g m xs) (first_place k)
+listed_parts : {X A : Type 0} (g : ℕ → X → List A) (k n : ℕ) (xs : List X) → each_numbered g k (take n xs) ++ each_numbered g (k + n) (drop n xs) ≡ each_numbered g k xs
+listed_parts g k zero xs = ap (λ m. each_numbered g m xs) (first_place k)
 listed_parts g k (suc n) [] = refl
 listed_parts g k (suc n) (x ∷ xs) =
-    append_assoc (g k x) (listed g (k + 1) (take n xs)) (listed g (k + suc n) (drop n xs))
-    ∙ ap (λ m. g k x ++ (listed g (k + 1) (take n xs) ++ listed g m (drop n xs))) (next_place k n)
+    append_assoc (g k x) (each_numbered g (k + 1) (take n xs)) (each_numbered g (k + suc n) (drop n xs))
+    ∙ ap (λ m. g k x ++ (each_numbered g (k + 1) (take n xs) ++ each_numbered g m (drop n xs))) (next_place k n)
     ∙ ap (λ l. g k x ++ l) (listed_parts g (k + 1) n xs)
 
 -- the cells from one on, up to another
 
 between_text : (f : ℕ → SizedCell → List ℕ) (g : ℕ → SizedCell → List TokenTree) (cells : List SizedCell) (k to : ℕ) →
-    ((j : ℕ) (x : SizedCell) → slice_get cells j ≡ Some x → IsTextOf (f j x) (g j x)) → IsTextOf (between f cells k to) (listed g k (take (to - k) (drop k cells)))
+    ((j : ℕ) (x : SizedCell) → slice_get cells j ≡ Some x → IsTextOf (f j x) (g j x)) → IsTextOf (between f cells k to) (each_numbered g k (take (to - k) (drop k cells)))
 between_text f g cells k to each = listed_text f g k (take (to - k) (drop k cells)) (λ j x e. each (k + j) x (rest_get cells k j x (part_get (drop k cells) (to - k) j x e)))
 
 from_one_on : (f : ℕ → SizedCell → List ℕ) (g : ℕ → SizedCell → List TokenTree) (cells : List SizedCell) (k : ℕ) (ns : List NoteTree) →
     ((i : ℕ) (n : NoteTree) → slice_get ns i ≡ Some n → IsTextOf (note_line n) []) →
-    ((j : ℕ) (x : SizedCell) → slice_get cells j ≡ Some x → IsTextOf (f j x) (g j x)) → IsTextOf (noted f cells k ns) (listed g k (drop k cells))
+    ((j : ℕ) (x : SizedCell) → slice_get cells j ≡ Some x → IsTextOf (f j x) (g j x)) → IsTextOf (noted f cells k ns) (each_numbered g k (drop k cells))
 from_one_on f g cells k [] notes each =
-    subst (λ xs. IsTextOf (between f cells k (length cells)) (listed g k xs)) (take_all (length cells - k) (drop k cells) (omega (arith, length-drop k cells))) (between_text f g cells k (length cells) each)
+    subst (λ xs. IsTextOf (between f cells k (length cells)) (each_numbered g k xs)) (take_all (length cells - k) (drop k cells) (omega (arith, length-drop k cells))) (between_text f g cells k (length cells) each)
 from_one_on f g cells k (n ∷ ns) notes each =
     subst (IsTextOf (noted f cells k (n ∷ ns))) tokens
     (both_texts _ _ _ _ (between_text f g cells k n.cell each)
@@ -62,15 +62,15 @@ from_one_on f g cells k (n ∷ ns) notes each =
     past : max k n.cell ≡ k + (n.cell - k)
     past = omega arith
 
-    tokens : listed g k (take (n.cell - k) (drop k cells)) ++ listed g (max k n.cell) (drop (max k n.cell) cells) ≡ listed g k (drop k cells)
+    tokens : each_numbered g k (take (n.cell - k) (drop k cells)) ++ each_numbered g (max k n.cell) (drop (max k n.cell) cells) ≡ each_numbered g k (drop k cells)
     tokens =
-        ap (λ m. listed g k (take (n.cell - k) (drop k cells)) ++ listed g m (drop m cells)) past
-        ∙ ap (λ xs. listed g k (take (n.cell - k) (drop k cells)) ++ listed g (k + (n.cell - k)) xs) (sym (drop-drop (n.cell - k) k cells))
+        ap (λ m. each_numbered g k (take (n.cell - k) (drop k cells)) ++ each_numbered g m (drop m cells)) past
+        ∙ ap (λ xs. each_numbered g k (take (n.cell - k) (drop k cells)) ++ each_numbered g (k + (n.cell - k)) xs) (sym (drop-drop (n.cell - k) k cells))
         ∙ listed_parts g k (n.cell - k) (drop k cells)
 
 pub noted_text : (f : ℕ → SizedCell → List ℕ) (g : ℕ → SizedCell → List TokenTree) (cells : List SizedCell) (ns : List NoteTree) →
     ((i : ℕ) (n : NoteTree) → slice_get ns i ≡ Some n → IsTextOf (note_line n) []) →
-    ((j : ℕ) (x : SizedCell) → slice_get cells j ≡ Some x → IsTextOf (f j x) (g j x)) → IsTextOf (noted f cells 0 ns) (listed g 0 cells)
+    ((j : ℕ) (x : SizedCell) → slice_get cells j ≡ Some x → IsTextOf (f j x) (g j x)) → IsTextOf (noted f cells 0 ns) (each_numbered g 0 cells)
 noted_text f g cells ns notes each = from_one_on f g cells 0 ns notes each
 
 -- loops that write them
@@ -86,9 +86,9 @@ between_more f cells k to d a b whole before inside step h =
 
     one : between f cells k to ≡ f k (get_or cells k d) ++ between f cells (k + 1) to
     one =
-        ap (λ xs. listed f k (take (to - k) xs)) (drop-cons cells k d inside)
-        ∙ ap (λ n. listed f k (take n (get_or cells k d ∷ drop (suc k) cells))) count
-        ∙ ap (λ n. f k (get_or cells k d) ++ listed f (k + 1) (take (to - (k + 1)) (drop n cells))) (let same : suc k ≡ k + 1 = omega arith in same)
+        ap (λ xs. each_numbered f k (take (to - k) xs)) (drop-cons cells k d inside)
+        ∙ ap (λ n. each_numbered f k (take n (get_or cells k d ∷ drop (suc k) cells))) count
+        ∙ ap (λ n. f k (get_or cells k d) ++ each_numbered f (k + 1) (take (to - (k + 1)) (drop n cells))) (let same : suc k ≡ k + 1 = omega arith in same)
 
 -- none is left
 pub between_none : (f : ℕ → SizedCell → List ℕ) (cells : List SizedCell) (k to : ℕ) (a whole : List ℕ) → (to ≤ k) ⊎ (length cells ≤ k) → a ++ between f cells k to ≡ whole → a ≡ whole
@@ -96,8 +96,8 @@ between_none f cells k to a whole end h = sym (append-nil a) ∙ ap (λ l. a ++ 
   where
     none : between f cells k to ≡ []
     none = elim end [
-      | inl past ↦ ap (λ n. listed f k (take n (drop k cells))) (let e : to - k ≡ 0 = omega arith in e)
-      | inr past ↦ ap (λ xs. listed f k (take (to - k) xs)) (drop_all k cells past) ∙ ap (listed f k) (take_all (to - k) [] (omega arith))
+      | inl past ↦ ap (λ n. each_numbered f k (take n (drop k cells))) (let e : to - k ≡ 0 = omega arith in e)
+      | inr past ↦ ap (λ xs. each_numbered f k (take (to - k) xs)) (drop_all k cells past) ∙ ap (each_numbered f k) (take_all (to - k) [] (omega arith))
     ]
 
 -- one more note

@@ -14,7 +14,7 @@ use Rattle.ae_vread.specs.ModuleTree.{constant, part, binary, ItemTree}
 use Rattle.ae_vread.specs.declared.module.BinOp.{BinOp}
 use Rattle.ae_vread.specs.declared.module.BinOp.TheVariants.{Shl as LeftBy, Shr as RightBy}
 use Rattle.ae_vread.specs.Spells.{star, expr_stars, item_stars, stars}
-use Rattle.ae_verilog.specs.NetlistModule.{net_name, net_value, shifted, cast_to, op_value, listed, declaration, assignment, edge, netlist_module}
+use Rattle.ae_verilog.specs.NetlistModule.{net_name, net_value, shifted, cast_to, op_value, each_numbered, declaration, assignment, edge, netlist_module}
 
 abbrev one_for : Bool → ℕ
 one_for t = if t then 1 else 0
@@ -74,11 +74,11 @@ count_more sized xs =
     sum_by-append (λ (s : SizedCell). one_for (is_mul s.cell)) (sized ∷ []) xs
     ∙ ap (λ n. n + count_of is_mul xs) (let e : 0 + one_for (is_mul sized.cell) ≡ one_for (is_mul sized.cell) = omega arith in e)
 
-declared_stars : (lines : ℕ → ℕ) → (cells : List SizedCell) (k : ℕ) (xs : List SizedCell) → sum_by item_stars (listed (λ net (sized : SizedCell). declaration lines cells net sized.width sized.cell) k xs) ≡ count_of is_mul xs
+declared_stars : (lines : ℕ → ℕ) → (cells : List SizedCell) (k : ℕ) (xs : List SizedCell) → sum_by item_stars (each_numbered (λ net (sized : SizedCell). declaration lines cells net sized.width sized.cell) k xs) ≡ count_of is_mul xs
 declared_stars lines cells k [] = refl
 declared_stars lines cells k (sized ∷ xs) =
-    sum_both (declaration lines cells k sized.width sized.cell) (listed (λ net (sized : SizedCell). declaration lines cells net sized.width sized.cell) (k + 1) xs)
-    ∙ ap (λ n. n + sum_by item_stars (listed (λ net (sized : SizedCell). declaration lines cells net sized.width sized.cell) (k + 1) xs)) (declaration_stars lines cells k sized.width sized.cell)
+    sum_both (declaration lines cells k sized.width sized.cell) (each_numbered (λ net (sized : SizedCell). declaration lines cells net sized.width sized.cell) (k + 1) xs)
+    ∙ ap (λ n. n + sum_by item_stars (each_numbered (λ net (sized : SizedCell). declaration lines cells net sized.width sized.cell) (k + 1) xs)) (declaration_stars lines cells k sized.width sized.cell)
     ∙ ap (λ n. one_for (is_mul sized.cell) + n) (declared_stars lines cells (k + 1) xs)
     ∙ sym (count_more sized xs)
 
@@ -96,17 +96,17 @@ edge_stars lines cells net (Reg next) = refl
 edge_stars lines cells net (Mem depth at next enable) = refl
 edge_stars lines cells net (Peek mem at) = refl
 
-edges_stars : (lines : ℕ → ℕ) → (cells : List SizedCell) (k : ℕ) (xs : List SizedCell) → sum_by item_stars (listed (λ net (sized : SizedCell). edge lines cells net sized.cell) k xs) ≡ 0
+edges_stars : (lines : ℕ → ℕ) → (cells : List SizedCell) (k : ℕ) (xs : List SizedCell) → sum_by item_stars (each_numbered (λ net (sized : SizedCell). edge lines cells net sized.cell) k xs) ≡ 0
 edges_stars lines cells k [] = refl
 edges_stars lines cells k (sized ∷ xs) =
-    sum_both (edge lines cells k sized.cell) (listed (λ net (sized : SizedCell). edge lines cells net sized.cell) (k + 1) xs)
+    sum_both (edge lines cells k sized.cell) (each_numbered (λ net (sized : SizedCell). edge lines cells net sized.cell) (k + 1) xs)
     ∙ (let here = edge_stars lines cells k sized.cell in let later = edges_stars lines cells (k + 1) xs in omega (arith, here, later))
 
 pub one_star_each : (lines : ℕ → ℕ) → (cells : List SizedCell) (outlets : List Outlet) (outs : ℕ) → stars (netlist_module lines cells outlets outs) ≡ count_of is_mul cells
 one_star_each lines cells outlets outs =
-    let declared : List ItemTree = listed (λ net (sized : SizedCell). declaration lines cells net sized.width sized.cell) 0 cells in
+    let declared : List ItemTree = each_numbered (λ net (sized : SizedCell). declaration lines cells net sized.width sized.cell) 0 cells in
     let assigned : List ItemTree = map (assignment lines cells outs) outlets in
-    let edges : List ItemTree = listed (λ net (sized : SizedCell). edge lines cells net sized.cell) 0 cells in
+    let edges : List ItemTree = each_numbered (λ net (sized : SizedCell). edge lines cells net sized.cell) 0 cells in
     let one = sum_both declared (assigned ++ edges) in
     let two = sum_both assigned edges in
     let a = declared_stars lines cells 0 cells in

@@ -18,7 +18,7 @@ use Rattle.ae_verilog.specs.Text.{sign_text, input_text, output_text, header_tex
 use Rattle.std.specs.Prelude.{map, length}
 use Rattle.std.proofs.lemmas.List.{length-map}
 use Rattle.ae_sttype.specs.StTree.{st_tree}
-use Rattle.ae_verilog.specs.NetlistModule.{listed}
+use Rattle.ae_verilog.specs.NetlistModule.{each_numbered}
 use Rattle.ae_verilog.specs.declared.report.Report.{Report}
 use Rattle.ae_verilog.specs.ReportLines.{report_tree, number_line, enable_line, in_line, out_line, report_lines}
 
@@ -105,16 +105,16 @@ header_steps (Err x) cells outlets outs old one two three new first second third
 
 pub report_steps : {E : Type 0} (r : Result (Unit {0}) E) (t : Report) (old a b c d e f g new : List ℕ) →
     a ≡ old ++ codes "// aeth 1\n" → b ≡ a ++ number_line (codes "slowdown") t.slowdown → c ≡ b ++ number_line (codes "latency") t.latency →
-    d ≡ c ++ number_line (codes "muls") t.muls → e ≡ d ++ number_line (codes "load") t.load → f ≡ e ++ enable_line t.enable → g ≡ f ++ listed in_line 0 (map st_tree t.ins.items) →
-    OnOk r (new ≡ g ++ listed (out_line (length t.outs.items)) 0 (map st_tree t.outs.items)) → OnOk r (new ≡ old ++ report_lines (report_tree t))
+    d ≡ c ++ number_line (codes "muls") t.muls → e ≡ d ++ number_line (codes "load") t.load → f ≡ e ++ enable_line t.enable → g ≡ f ++ each_numbered in_line 0 (map st_tree t.ins.items) →
+    OnOk r (new ≡ g ++ each_numbered (out_line (length t.outs.items)) 0 (map st_tree t.outs.items)) → OnOk r (new ≡ old ++ report_lines (report_tree t))
 unfolding report_lines
 report_steps (Ok u) t old a b c d e f g new ha hb hc hd he hf hg last =
-    let outs = listed (out_line (length t.outs.items)) 0 (map st_tree t.outs.items) in
-    last ∙ ap (λ l. l ++ outs) (hg ∙ ap (λ l. l ++ listed in_line 0 (map st_tree t.ins.items)) (hf ∙ ap (λ l. l ++ enable_line t.enable) (he ∙ ap (λ l. l ++ number_line (codes "load") t.load)
+    let outs = each_numbered (out_line (length t.outs.items)) 0 (map st_tree t.outs.items) in
+    last ∙ ap (λ l. l ++ outs) (hg ∙ ap (λ l. l ++ each_numbered in_line 0 (map st_tree t.ins.items)) (hf ∙ ap (λ l. l ++ enable_line t.enable) (he ∙ ap (λ l. l ++ number_line (codes "load") t.load)
     (hd ∙ ap (λ l. l ++ number_line (codes "muls") t.muls) (hc ∙ ap (λ l. l ++ number_line (codes "latency") t.latency) (hb ∙ ap (λ l. l ++ number_line (codes "slowdown") t.slowdown) ha))))))
     ∙ shape _ _ _ _ _ _ _
     ∙ ap (λ n. old ++ (codes "// aeth 1\n" ++ (number_line (codes "slowdown") t.slowdown ++ (number_line (codes "latency") t.latency ++ (number_line (codes "muls") t.muls ++ (number_line (codes "load") t.load
-    ++ (enable_line t.enable ++ (listed in_line 0 (map st_tree t.ins.items) ++ listed (out_line n) 0 (map st_tree t.outs.items))))))))) (sym (length-map t.outs.items st_tree))
+    ++ (enable_line t.enable ++ (each_numbered in_line 0 (map st_tree t.ins.items) ++ each_numbered (out_line n) 0 (map st_tree t.outs.items))))))))) (sym (length-map t.outs.items st_tree))
   where
     shape : (s l m k en ins outs : List ℕ) → (((((((old ++ codes "// aeth 1\n") ++ s) ++ l) ++ m) ++ k) ++ en) ++ ins) ++ outs ≡ old ++ (codes "// aeth 1\n" ++ (s ++ (l ++ (m ++ (k ++ (en ++ (ins ++ outs)))))))
     shape s l m k en ins outs = simp append_assoc
@@ -123,13 +123,13 @@ report_steps (Err x) t old a b c d e f g new ha hb hc hd he hf hg last = tt
 pub text_steps : (lines : ℕ → ℕ) (report : List ℕ) (notes : List NoteTree) (cells : List SizedCell) (outlets : List Outlet) (outs : ℕ) (a b c d e f g new : List ℕ) → lines ≡ lines_of notes (length cells) →
     a ≡ [] → b ≡ a ++ report → c ≡ b ++ codes "// verilator lint_off CMPCONST\n// verilator lint_off DECLFILENAME\n// verilator lint_off UNSIGNED\n// verilator lint_off UNUSEDSIGNAL\n" → d ≡ c ++ header_text cells outlets outs →
     e ≡ d ++ noted (λ net (sized : SizedCell). declaration_text lines cells net sized.width sized.cell) cells 0 notes → f ≡ e ++ flat_map (assignment_text lines cells outs) outlets →
-    g ≡ f ++ listed (λ net (sized : SizedCell). edge_text lines cells net sized.cell) 0 cells → new ≡ g ++ codes "endmodule\n" → new ≡ whole_text report notes cells outlets outs
+    g ≡ f ++ each_numbered (λ net (sized : SizedCell). edge_text lines cells net sized.cell) 0 cells → new ≡ g ++ codes "endmodule\n" → new ≡ whole_text report notes cells outlets outs
 text_steps lines report notes cells outlets outs a b c d e f g new told ha hb hc hd he hf hg last =
     let quiet : List ℕ = codes "// verilator lint_off CMPCONST\n// verilator lint_off DECLFILENAME\n// verilator lint_off UNSIGNED\n// verilator lint_off UNUSEDSIGNAL\n" in
     let head : List ℕ = header_text cells outlets outs in
     let declared : List ℕ = noted (λ net (sized : SizedCell). declaration_text lines cells net sized.width sized.cell) cells 0 notes in
     let assigned : List ℕ = flat_map (assignment_text lines cells outs) outlets in
-    let edges : List ℕ = listed (λ net (sized : SizedCell). edge_text lines cells net sized.cell) 0 cells in
+    let edges : List ℕ = each_numbered (λ net (sized : SizedCell). edge_text lines cells net sized.cell) 0 cells in
     last ∙ ap (λ l. l ++ codes "endmodule\n") (hg ∙ ap (λ l. l ++ edges) (hf ∙ ap (λ l. l ++ assigned) (he ∙ ap (λ l. l ++ declared)
     (hd ∙ ap (λ l. l ++ head) (hc ∙ ap (λ l. l ++ quiet) (hb ∙ ap (λ l. l ++ report) ha))))))
     ∙ shape report quiet head declared assigned edges (codes "endmodule\n")

@@ -16,7 +16,7 @@ use Rattle.ae_vread.specs.Tokens.{TokenTree, Mark, Word, AreTokens, No_more}
 use Rattle.ae_vread.specs.Forms.{PortForm, ItemForm, InputHead, port_tokens, comma_tokens, item_tokens, module_tokens}
 use Rattle.ae_vread.specs.Spells.{Spells}
 use Rattle.ae_verilog.specs.ReportLines.{is_clean}
-use Rattle.ae_verilog.specs.NetlistModule.{port_name, number_name, net_name, net_value, op_value, listed, netlist_module}
+use Rattle.ae_verilog.specs.NetlistModule.{port_name, number_name, net_name, net_value, op_value, each_numbered, netlist_module}
 use Rattle.ae_verilog.specs.Notes.{NoteTree, ArePrinted, lines_of}
 use Rattle.ae_verilog.specs.Text.{PortFits, CellPortFits, is_cast, value_text, widened_text, op_text, declaration_text, noted, input_text, output_text, header_text, assignment_text, edge_text, module_text, whole_text}
 use Rattle.ae_verilog.proofs.Writable.{IsWritable}
@@ -119,12 +119,12 @@ header_lines lines cells outlets outs good shown =
 -- the items
 
 items_lines : (lines : ℕ → ℕ) → (notes : List NoteTree) (cells : List SizedCell) (outlets : List Outlet) (outs : ℕ) → ArePrinted notes → IsGood cells → AreGood cells outlets →
-    IsTextOf (noted (λ net (sized : SizedCell). declaration_text lines cells net sized.width sized.cell) cells 0 notes ++ (flat_map (assignment_text lines cells outs) outlets ++ (listed (λ net (sized : SizedCell). edge_text lines cells net sized.cell) 0 cells ++ codes "endmodule\n")))
+    IsTextOf (noted (λ net (sized : SizedCell). declaration_text lines cells net sized.width sized.cell) cells 0 notes ++ (flat_map (assignment_text lines cells outs) outlets ++ (each_numbered (λ net (sized : SizedCell). edge_text lines cells net sized.cell) 0 cells ++ codes "endmodule\n")))
     (flat_map item_tokens (item_forms lines cells outlets outs) ++ Word EndModule ∷ [])
 items_lines lines notes cells outlets outs printed good shown =
-    let declared : List ItemForm = listed (λ net (sized : SizedCell). declaration_form lines cells net sized.width sized.cell) 0 cells in
+    let declared : List ItemForm = each_numbered (λ net (sized : SizedCell). declaration_form lines cells net sized.width sized.cell) 0 cells in
     let assigned : List ItemForm = map (assignment_form lines cells outs) outlets in
-    let edges : List ItemForm = listed (λ net (sized : SizedCell). edge_form lines cells net sized.cell) 0 cells in
+    let edges : List ItemForm = each_numbered (λ net (sized : SizedCell). edge_form lines cells net sized.cell) 0 cells in
     let one : IsTextOf (noted (λ net (sized : SizedCell). declaration_text lines cells net sized.width sized.cell) cells 0 notes) (flat_map item_tokens declared) =
     subst (IsTextOf (noted (λ net (sized : SizedCell). declaration_text lines cells net sized.width sized.cell) cells 0 notes)) (sym (flat_listed item_tokens (λ net (sized : SizedCell). declaration_form lines cells net sized.width sized.cell) 0 cells))
     (noted_text (λ net (sized : SizedCell). declaration_text lines cells net sized.width sized.cell) (λ net (sized : SizedCell). flat_map item_tokens (declaration_form lines cells net sized.width sized.cell)) cells notes
@@ -137,8 +137,8 @@ items_lines lines notes cells outlets outs printed good shown =
     (flat_text (assignment_text lines cells outs) (λ o. item_tokens (assignment_form lines cells outs o)) outlets (λ j outlet e.
     let net = outlet_of lines cells outlets j outlet good shown.have e in
     assign_line (port_name outs outlet.port) (net_name lines cells outlet.net.0) (port_named outs outlet.port (outlet_fits cells outlets j outlet shown e)) net.named)) in
-    let three : IsTextOf (listed (λ net (sized : SizedCell). edge_text lines cells net sized.cell) 0 cells) (flat_map item_tokens edges) =
-    subst (IsTextOf (listed (λ net (sized : SizedCell). edge_text lines cells net sized.cell) 0 cells)) (sym (flat_listed item_tokens (λ net (sized : SizedCell). edge_form lines cells net sized.cell) 0 cells))
+    let three : IsTextOf (each_numbered (λ net (sized : SizedCell). edge_text lines cells net sized.cell) 0 cells) (flat_map item_tokens edges) =
+    subst (IsTextOf (each_numbered (λ net (sized : SizedCell). edge_text lines cells net sized.cell) 0 cells)) (sym (flat_listed item_tokens (λ net (sized : SizedCell). edge_form lines cells net sized.cell) 0 cells))
     (listed_text _ (λ net (sized : SizedCell). flat_map item_tokens (edge_form lines cells net sized.cell)) 0 cells (λ j sized e.
     let cell = cell_of lines cells j sized good e in
     edge_line lines cells (0 + j) sized.cell cell.edged)) in

@@ -76,13 +76,13 @@ declared_nets lines item net width (Mem depth at next enable) = net_of (MemoryNe
 declared_nets lines item net width (Peek mem at) = net_of WireNet item width (number_name lines net) ∷ []
 
 -- what f makes of each element and its number, where the first has number k
-abbrev pub listed : {X A : Type 0} → (ℕ → X → List A) → ℕ → List X → List A
-listed f k [] = []
-listed f k (x ∷ xs) = f k x ++ listed f (k + 1) xs
+abbrev pub each_numbered : {X A : Type 0} → (ℕ → X → List A) → ℕ → List X → List A
+each_numbered f k [] = []
+each_numbered f k (x ∷ xs) = f k x ++ each_numbered f (k + 1) xs
 
 -- the inputs among cells, in order
 abbrev pub inputs_of : List SizedCell → List NetTree
-inputs_of cells = listed (λ net sized. input_nets sized.width sized.cell) 0 cells
+inputs_of cells = each_numbered (λ net sized. input_nets sized.width sized.cell) 0 cells
 
 -- the nets of declarations: those of the cells from this net on, where the next item has this number
 abbrev pub declared_from : (lines : ℕ → ℕ) → ℕ → ℕ → List SizedCell → List NetTree
@@ -164,9 +164,9 @@ netlist_module lines cells outlets outs = record {
   name = codes "aeth";
   nets = clock_net ∷ (inputs_of cells ++ (map (output_net cells outs) outlets ++ declared_from lines 1 0 cells));
   items =
-      listed (λ net (sized : SizedCell). declaration lines cells net sized.width sized.cell) 0 cells
+      each_numbered (λ net (sized : SizedCell). declaration lines cells net sized.width sized.cell) 0 cells
       ++ (map (assignment lines cells outs) outlets
-      ++ listed (λ net (sized : SizedCell). edge lines cells net sized.cell) 0 cells);
+      ++ each_numbered (λ net (sized : SizedCell). edge lines cells net sized.cell) 0 cells);
 }
 
 -- conditions of writing

@@ -3,7 +3,7 @@ use Rattle.std.specs.Prelude.{ℕ, Bool, not, ◌&&◌, ◌==◌, List, [], ◌+
 use Rattle.ae_sttype.specs.StTree.{StTree, st_tree}
 use Rattle.ae_sttype.specs.TypeText.{st_text}
 use Rattle.ae_verilog.specs.declared.report.Report.{Report}
-use Rattle.ae_verilog.specs.NetlistModule.{listed}
+use Rattle.ae_verilog.specs.NetlistModule.{each_numbered}
 
 -- what is told of a module, apart from where its types lie
 pub record ReportTree : Type 0 where
@@ -54,8 +54,8 @@ report_lines r =
     ++ (number_line (codes "muls") r.muls
     ++ (number_line (codes "load") r.load
     ++ (enable_line r.enable
-    ++ (listed in_line 0 r.ins
-    ++ listed (out_line (length r.outs)) 0 r.outs))))))
+    ++ (each_numbered in_line 0 r.ins
+    ++ each_numbered (out_line (length r.outs)) 0 r.outs))))))
 
 -- neither `%` nor `$`
 abbrev pub is_clean : ℕ → Bool

@@ -15,7 +15,7 @@ use Rattle.ae_vread.specs.declared.module.UnOp.{UnOp}
 use Rattle.ae_vread.specs.declared.module.UnOp.TheVariants.{Not, Flip}
 use Rattle.ae_vread.specs.declared.module.BinOp.{BinOp}
 use Rattle.ae_vread.specs.declared.module.BinOp.TheVariants.{Mul, Add, Sub, Shl, Shr, Lt, Le, Gt, Ge, Eq, Ne, And, Xor, Or, Both, Either}
-use Rattle.ae_verilog.specs.NetlistModule.{port_name, number_name, net_name, listed, op_value, net_value}
+use Rattle.ae_verilog.specs.NetlistModule.{port_name, number_name, net_name, each_numbered, op_value, net_value}
 use Rattle.ae_verilog.specs.Notes.{NoteTree, note_line, lines_of}
 
 abbrev pub prefix_text : UnOp → List ℕ
@@ -107,7 +107,7 @@ declaration_text lines cells net width (Peek mem at) = value_text lines width ne
 
 -- the texts of the cells from one on, up to another
 abbrev pub between : (ℕ → SizedCell → List ℕ) → List SizedCell → (from to : ℕ) → List ℕ
-between f cells from to = listed f from (take (to - from) (drop from cells))
+between f cells from to = each_numbered f from (take (to - from) (drop from cells))
 
 -- the texts of the cells from one on, and each note before its cell
 abbrev pub noted : (ℕ → SizedCell → List ℕ) → List SizedCell → (from : ℕ) → List NoteTree → List ℕ
@@ -156,7 +156,7 @@ module_text lines notes cells outlets outs =
     header_text cells outlets outs
     ++ (noted (λ net (sized : SizedCell). declaration_text lines cells net sized.width sized.cell) cells 0 notes
     ++ (flat_map (assignment_text lines cells outs) outlets
-    ++ (listed (λ net (sized : SizedCell). edge_text lines cells net sized.cell) 0 cells ++ codes "endmodule\n")))
+    ++ (each_numbered (λ net (sized : SizedCell). edge_text lines cells net sized.cell) 0 cells ++ codes "endmodule\n")))
 
 -- the whole text: the report lines, lines that keep Verilator from naming the file, constant comparisons and bits that nothing reads, and the module
 abbrev pub whole_text : (report : List ℕ) → List NoteTree → List SizedCell → List Outlet → (outs : ℕ) → List ℕ

@@ -2,7 +2,7 @@
 
 ghost use Rattle.std.specs.Prelude.{◌≡◌, ◌++◌, OnOk, slice_index, string_bytes};
 ghost use Rattle.std.specs.List.{flat_map};
-ghost use Rattle.ae_verilog.specs.NetlistModule.{listed, number_name, net_name};
+ghost use Rattle.ae_verilog.specs.NetlistModule.{each_numbered, number_name, net_name};
 ghost use Rattle.ae_verilog.specs.Text.{assignment_text, edge_text, register_edge, memory_edge};
 
 use crate::names::{Names, write_net, write_number, write_port};
@@ -41,7 +41,7 @@ fn write_outlet(
 
 // What registers and memories take at a clock edge.
 pub fn write_edges(out: &mut String, names: &Names<'_>) -> Result<(), AllocError>
-    ensures { OnOk result (string_bytes out.new ≡ string_bytes out.old ++ listed (λ net sized. edge_text (slice_index names.now.lines.now) names.now.cells.now net sized.cell) 0 names.now.cells.now) }
+    ensures { OnOk result (string_bytes out.new ≡ string_bytes out.old ++ each_numbered (λ net sized. edge_text (slice_index names.now.lines.now) names.now.cells.now net sized.cell) 0 names.now.cells.now) }
 {
     for (k, sized) in names.cells.iter().enumerate() {
         write_edge(out, names, k, *sized)?;

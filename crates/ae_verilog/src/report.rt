@@ -2,7 +2,7 @@
 
 ghost use Rattle.std.specs.Prelude.{◌≡◌, ◌++◌, length, map, OnOk, string_bytes};
 ghost use Rattle.ae_sttype.specs.StTree.{st_tree};
-ghost use Rattle.ae_verilog.specs.NetlistModule.{listed};
+ghost use Rattle.ae_verilog.specs.NetlistModule.{each_numbered};
 ghost use Rattle.ae_verilog.specs.ReportLines.{report_tree, number_line, enable_line, in_line, out_line, report_lines};
 
 use ae_sttype::StType;
@@ -58,7 +58,7 @@ fn write_enable(out: &mut String, enable: bool) -> Result<(), AllocError>
 
 // The layouts of the parameters.
 fn write_ins(out: &mut String, ins: &[StType]) -> Result<(), AllocError>
-    ensures { OnOk result (string_bytes out.new ≡ string_bytes out.old ++ listed in_line 0 (map st_tree ins.now)) }
+    ensures { OnOk result (string_bytes out.new ≡ string_bytes out.old ++ each_numbered in_line 0 (map st_tree ins.now)) }
 {
     for (k, layout) in ins.iter().enumerate() {
         write_in(out, k, layout)?;
@@ -76,7 +76,7 @@ fn write_in(out: &mut String, k: usize, layout: &StType) -> Result<(), AllocErro
 
 // The layouts of the results.
 fn write_outs(out: &mut String, outs: &[StType]) -> Result<(), AllocError>
-    ensures { OnOk result (string_bytes out.new ≡ string_bytes out.old ++ listed (out_line (length outs.now)) 0 (map st_tree outs.now)) }
+    ensures { OnOk result (string_bytes out.new ≡ string_bytes out.old ++ each_numbered (out_line (length outs.now)) 0 (map st_tree outs.now)) }
 {
     for (k, layout) in outs.iter().enumerate() {
         write_out(out, outs.len(), k, layout)?;

@@ -1,6 +1,6 @@
 use Rattle.std.proofs.Common.{◌≡◌, ℕ, ◌<◌, ◌^◌, List, Some, None, length, get_or, sym, ◌∙◌, arith}
 use Rattle.std.specs.Fmt.{decimal}
-use Rattle.ae_parse.specs.Number.{number_of}
+use Rattle.ae_parse.specs.Number.{numeral_value}
 use Rattle.ae_parse.proofs.Plain.{zero-led, number-of-decimal, decimal-of-number, one-digit}
 use Rattle.ae_parse.proofs.numbers.plain_number.Goals.{then-value-from-via-then-value-from, then-value-from-via-else-value-from+then-value-from-2}
 use Rattle.ae_parse.proofs.numbers.plain_number.Goals as goal
@@ -10,13 +10,13 @@ returns-then-has_leading_zero c = λ n a b e.
     let zero = c.has_leading_zero.ensures.there c.if-has_leading_zero.true in
     zero-led c.args.digits.now zero.0 zero.1 n (omega arith) e
 
-no-number : (ds : List ℕ) (n : ℕ) → number_of ds ≡ None → n < 2 ^ 64 → ds ≡ decimal n → ⊥
+no-number : (ds : List ℕ) (n : ℕ) → numeral_value ds ≡ None → n < 2 ^ 64 → ds ≡ decimal n → ⊥
 no-number ds n none h e = let s = number-of-decimal ds n h e in cc
 
 pub returns-in_default : goal.returns-in_default
 returns-in_default c = λ n a b e. no-number c.args.digits.now n (sym c.number.ensures ∙ c.in_default.is) (omega arith) e
 
-same-number : (ds : List ℕ) (n v : ℕ) → number_of ds ≡ Some v → n < 2 ^ 64 → ds ≡ decimal n → v ≡ n
+same-number : (ds : List ℕ) (n v : ℕ) → numeral_value ds ≡ Some v → n < 2 ^ 64 → ds ≡ decimal n → v ≡ n
 same-number ds n v some h e = let s = number-of-decimal ds n h e in cc
 
 pub returns-then-value-from : goal.returns-then-value-from

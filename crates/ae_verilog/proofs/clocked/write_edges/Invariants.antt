@@ -1,7 +1,7 @@
 use Rattle.std.proofs.Common.{◌≡◌, ◌++◌, take, string_bytes, slice_index}
-use Rattle.ae_verilog.specs.NetlistModule.{listed}
+use Rattle.ae_verilog.specs.NetlistModule.{each_numbered}
 use Rattle.ae_verilog.specs.Text.{edge_text}
 use Rattle.ae_verilog.proofs.clocked.write_edges.Given as goal
 
 abbrev pub invariant-loop-k : goal.invariant-loop-k
-invariant-loop-k l = string_bytes l.out ≡ string_bytes l.fn.out ++ listed (λ net sized. edge_text (slice_index l.names.lines.now) l.names.cells.now net sized.cell) 0 (take l.k l.names.cells.now)
+invariant-loop-k l = string_bytes l.out ≡ string_bytes l.fn.out ++ each_numbered (λ net sized. edge_text (slice_index l.names.lines.now) l.names.cells.now net sized.cell) 0 (take l.k l.names.cells.now)
