@@ -10,7 +10,7 @@ use Rattle.ae_netlist.specs.declared.cell.Outlet.{Outlet}
 use Rattle.ae_netlist.specs.Circuit.{Circuit}
 use Rattle.ae_vread.specs.ModuleTree.{NetTree}
 use Rattle.ae_verilog.specs.declared.interface.PortList.{PortList}
-use Rattle.ae_verilog.specs.NetlistModule.{input_nets, inputs_of, listed, output_net}
+use Rattle.ae_verilog.specs.NetlistModule.{input_nets, inputs_of, each_numbered, output_net}
 use Rattle.ae_verilog.specs.PortNets.{ArePorts, HasNets, input_ports}
 use Rattle.ae_verilog.specs.Written.{IsWritableNetlist}
 use Rattle.ae_verilog.proofs.LawSame.{inputs_are, outputs_are}
@@ -23,13 +23,13 @@ width_of_net x = x.width
 
 -- ---- the law
 
-listed_alike : {X A : Type 0} (f : X → List A) (k : ℕ) (xs : List X) → listed (λ _. f) k xs ≡ flat_map f xs
-listed_alike f k [] = refl
-listed_alike f k (x ∷ xs) = ap (λ ys. f x ++ ys) (listed_alike f (k + 1) xs) ∙ sym (flat_map-cons f x xs)
+numbered_alike : {X A : Type 0} (f : X → List A) (k : ℕ) (xs : List X) → each_numbered (λ _. f) k xs ≡ flat_map f xs
+numbered_alike f k [] = refl
+numbered_alike f k (x ∷ xs) = ap (λ ys. f x ++ ys) (numbered_alike f (k + 1) xs) ∙ sym (flat_map-cons f x xs)
 
 pub are_ports : (lines : ℕ → ℕ) (n : Circuit) (outs : ℕ) → IsWritableNetlist n.cells n.outlets outs → ArePorts lines n outs
 are_ports lines n outs ok =
-    λ i. (inputs_are lines n.cells n.outlets outs ok ∙ listed_alike (λ (sized : SizedCell). input_nets sized.width sized.cell) 0 n.cells) i ++ outputs_are lines n.cells n.outlets outs ok i
+    λ i. (inputs_are lines n.cells n.outlets outs ok ∙ numbered_alike (λ (sized : SizedCell). input_nets sized.width sized.cell) 0 n.cells) i ++ outputs_are lines n.cells n.outlets outs ok i
 
 -- ---- ports one by one
 
