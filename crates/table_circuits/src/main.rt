@@ -24,6 +24,7 @@ fn tell(alloc: Global, out: &mut String, case: &str) -> Result<(), AllocError> {
         Some("tidied") => netlists::tell_tidied(alloc, out, head, body),
         Some("counters") => counters::tell(alloc, out, head, body),
         Some("program") => programs::tell(alloc, out, head, body),
+        Some("moved") => programs::tell_by_moves(alloc, out, head, body),
         Some("played") => plays::tell(alloc, out, head, body),
         _ => Ok(()),
     }

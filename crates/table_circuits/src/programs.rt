@@ -7,6 +7,7 @@ use crate::numbers::number;
 use crate::stepping::step_all;
 use ae_delay::arrivals;
 use ae_flow::schedules_fit;
+use ae_fuse::{Certificate, Fused, fuse};
 use ae_lower::{Lowered, lower};
 use ae_parse::parse;
 use ae_retime::matching;
@@ -70,6 +71,81 @@ fn tell_circuit(
         lowered.marks.as_slice()
     )?;
     step_all(alloc, out, &lowered.netlist, rows)
+}
+
+// A program as one move for each result, and the circuit of these.
+fn moved(alloc: Global, typed: &Typed, slowdown: u32) -> Option<(Lowered, Fused)>
+    requires some { 0 < slowdown }
+    requires limit { slowdown ≤ 4096 }
+{
+    let Ok(s) = schedule(alloc, typed, slowdown) else {
+        return None;
+    };
+    let Ok(Some(moves)) = fuse(alloc, typed, &s) else {
+        return None;
+    };
+    if moves.load() > 100_000 {
+        return None;
+    }
+    match moves.lower(alloc) {
+        Ok(lowered) => Some((lowered, moves)),
+        Err(_) => None,
+    }
+}
+
+// The word that shows the latency, and the word that it is.
+fn tell_certificate(out: &mut String, certificate: Option<Certificate>) -> Result<(), AllocError> {
+    let Some(c) = certificate else {
+        return writeln!(out, "no certificate");
+    };
+    writeln!(
+        out,
+        "word {} {} {} clock {} from {} {} {} clock {}",
+        c.result, c.lane, c.word, c.clock, c.param, c.from_lane, c.from_word, c.from_clock
+    )
+}
+
+// The circuit of a program by its moves, and its run on rows of words.
+fn tell_moved(
+    alloc: Global,
+    out: &mut String,
+    typed: &Typed,
+    slowdown: u32,
+    rows: &str,
+) -> Result<(), AllocError>
+    requires some { 0 < slowdown }
+    requires limit { slowdown ≤ 4096 }
+{
+    let Some((lowered, moves)) = moved(alloc, typed, slowdown) else {
+        return writeln!(out, "no moves");
+    };
+    let latency = moves.latency();
+    writeln!(
+        out,
+        "latency {latency}, marks {:?}",
+        lowered.marks.as_slice()
+    )?;
+    tell_certificate(out, moves.certificate())?;
+    step_all(alloc, out, &lowered.netlist, rows)
+}
+
+/// A program that moves words, and its circuit by one move for each result, as `tell` tells others.
+pub fn tell_by_moves(
+    alloc: Global,
+    out: &mut String,
+    head: &str,
+    body: &str,
+) -> Result<(), AllocError> {
+    let (text, rows) = parts(body);
+    out.push_str(text)?;
+    let slowdown = number(head, 1).unwrap_or(0);
+    let Some(typed) = typed(alloc, text) else {
+        return writeln!(out, "no program");
+    };
+    if slowdown == 0 || slowdown > 4096 {
+        return Ok(());
+    }
+    tell_moved(alloc, out, &typed, slowdown, rows)
 }
 
 /// A program, its circuit under the slowdown in the first line, and the circuit's run.
