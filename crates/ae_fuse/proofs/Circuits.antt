@@ -43,7 +43,7 @@ use Rattle.ae_trace.specs.Traces.{trace, traced_move, traced_moves}
 use Rattle.ae_trace.proofs.Firsts.{below-greatest, move-of}
 use Rattle.ae_trace.proofs.Typed.{mapped-from}
 use Rattle.ae_fuse.specs.declared.results.FusedResult.{FusedResult}
-use Rattle.ae_fuse.specs.Costing.{item_move, moves_latency, result_load}
+use Rattle.ae_fuse.specs.Costing.{item_move, moves_latency, result_load, result_mems}
 use Rattle.ae_fuse.specs.Fused.{FusedView, IsFusedOf, costs_in, moves_in, outs_of, result_move}
 use Rattle.ae_fuse.specs.Lowered.{AreLateResults, IsFusedCircuit, IsWhole, MakesMoves, late_part, outs_in, result_stream}
 use Rattle.ae_fuse.proofs.Main.{is-main, moves-traced}
@@ -74,6 +74,9 @@ module _ (f : FusedView) (whole : IsWhole f) where
   pub whole-load : sum_by (result_load f.latency) (moves_in f) ≡ f.load
   whole-load = ap (λ n. sum_by (result_load n) (moves_in f)) whole-latency ∙ sym (ap (λ (o : OwnCosts). o.load) whole.costs)
 
+  pub whole-mems : sum_by (result_mems f.latency) (moves_in f) ≡ f.mems
+  whole-mems = ap (λ n. sum_by (result_mems n) (moves_in f)) whole-latency ∙ sym (ap (λ (o : OwnCosts). o.mems) whole.costs)
+
   pub in-size : (j : ℕ) (t : StTree) → slice_get ins j ≡ Some t → IsInSize t
   in-size j t found =
       let none : FusedResult = get_or f.results 0 (first-of f.results whole.some) in
@@ -96,11 +99,11 @@ module _ (f : FusedView) (whole : IsWhole f) where
   pub at-most-latest : (r : ℕ) (own : FusedResult) → slice_get f.results r ≡ Some own → move_latency (result_move ins own) ≤ f.latency
   at-most-latest r own found = (let low = (below-greatest move_latency (moves_in f) 0 r (result_move ins own) (move-at r own found)).1 in omega (arith, low, whole-latency))
 
-  module _ (a b c : Circuit) (bundles : List (List NetId)) (begun : HasBegun ins a) (grown : GrowsBy a b (sum_by (result_load f.latency) (moves_in f))) (adds : Adds a b 0 0)
+  module _ (a b c : Circuit) (bundles : List (List NetId)) (begun : HasBegun ins a) (grown : GrowsBy a b (sum_by (result_load f.latency) (moves_in f))) (adds : Adds a b 0 (sum_by (result_mems f.latency) (moves_in f)))
       (moved : AreLateResults b.cells 0 f.latency (moves_in f) (length f.results) (bundles_from 1 (streams_of ins)) bundles)
       (shown : AddsOutputs b c (output_ports ss) (all_nets bundles)) (formed : IsFormed c.cells) (have : HaveNets c.cells c.outlets) where
     made : IsPorted ins ss (costs_in f) c × (map (λ o. o.net) c.outlets ≡ all_nets bundles)
-    made = ported_made ins ss (costs_in f) a b c bundles begun (subst (GrowsBy a b) whole-load grown) (adds_up refl (omega arith) adds) shown formed have
+    made = ported_made ins ss (costs_in f) a b c bundles begun (subst (GrowsBy a b) whole-load grown) (adds_up refl (omega (arith, whole-mems)) adds) shown formed have
 
     long-at : (r : ℕ) (s : Stream) (nets : List NetId) → slice_get ss r ≡ Some s → slice_get bundles r ≡ Some nets → length nets ≡ length (stream_widths s)
     long-at r s nets found has =

@@ -24,7 +24,7 @@ use Rattle.ae_lower.proofs.Following.{delayed}
 use Rattle.ae_lower.proofs.NodeLaw.{law_grows, slot_in}
 use Rattle.ae_lower.proofs.Outputs.{columns_long}
 use Rattle.ae_lower.proofs.Placing.{law_as}
-use Rattle.ae_fuse.specs.Costing.{result_load}
+use Rattle.ae_fuse.specs.Costing.{result_load, result_mems}
 use Rattle.ae_fuse.specs.Lowered.{AreLateResults, IsLateResult, late_part}
 
 -- ---- one result
@@ -40,8 +40,9 @@ result_grows old mid new m whole nets late there grows few more =
     let delay : (whole - move_latency m) * length nets ≡ (whole - move_latency m) * columns_of m.out = ap (λ n. (whole - move_latency m) * n) long in
     record { grows = grows_trans grows more.grows; cells = (let c = more.cells in omega (arith, few, c, delay)) }
 
-pub result_adds : (old mid new : Circuit) → count_of is_mul mid.cells ≡ count_of is_mul old.cells + 0 → count_of is_memory mid.cells ≤ count_of is_memory old.cells + 0 → (AreWhole old.cells → AreWhole mid.cells) → Adds mid new 0 0 → Adds old new 0 0
-result_adds old mid new muls memories whole more = record { muls = omega (arith, muls, more.muls); memories = omega (arith, memories, more.memories); whole = λ h. more.whole (whole h) }
+pub result_adds : (old mid new : Circuit) (m : Move) (whole : ℕ) → count_of is_mul mid.cells ≡ count_of is_mul old.cells + 0 → count_of is_memory mid.cells ≤ count_of is_memory old.cells + (gather_part m).most_memories → (AreWhole old.cells → AreWhole mid.cells)
+    → Adds mid new 0 0 → Adds old new 0 (result_mems whole m)
+result_adds old mid new m whole muls memories sound more = record { muls = omega (arith, muls, more.muls); memories = omega (arith, memories, more.memories); whole = λ h. more.whole (sound h) }
 
 -- the law of the move, so much later
 pub result_late : (mid new : Circuit) (rst then_rst : ℕ) (m : Move) (whole : ℕ) (args : List (List NetId)) (nets late : List NetId) → IsMove m → move_latency m ≤ whole → then_rst ≡ rst → Extends mid.cells new.cells
@@ -86,3 +87,6 @@ results_next mid new rst then_rst whole ms k m args bundles more nets found same
 
 pub load_next : (ms : List Move) (k whole : ℕ) (m : Move) → slice_get ms k ≡ Some m → sum_by (result_load whole) (take k ms) + result_load whole m ≤ sum_by (result_load whole) (take (k + 1) ms)
 load_next ms k whole m found = omega (arith, sum_next (result_load whole) ms k m found)
+
+pub mems_next : (ms : List Move) (k whole : ℕ) (m : Move) → slice_get ms k ≡ Some m → sum_by (result_mems whole) (take k ms) + result_mems whole m ≤ sum_by (result_mems whole) (take (k + 1) ms)
+mems_next ms k whole m found = omega (arith, sum_next (result_mems whole) ms k m found)

@@ -35,8 +35,8 @@ pub struct Lowered {
 
 /// The circuit of a program, by its timing and its slacks: the reset and the words of the parameters go in, and in every
 /// reset run each block of them makes the words of the program's results come out, the latency later. It has at most 16
-/// cells for each unit of the load, one for the reset and one for each word of the parameters, and where it has no memories
-/// none that no output or product needs, but the inputs. The marks tell where the cells of each node of the program function
+/// cells for each unit of the load, one for the reset and one for each word of the parameters, and none
+/// that no output or product needs, but the inputs. The marks tell where the cells of each node of the program function
 /// begin, behind those of the inputs: up to the next mark there are at most 16 for each unit of the node's own load, and
 /// its products. The error comes only for want of memory.
 pub fn lower(

@@ -12,7 +12,7 @@ use Rattle.ae_lower.proofs.Growing.{adds_trans, adds_up, by_trans}
 use Rattle.ae_lower.proofs.Instances.{bundles_grow}
 use Rattle.ae_lower.proofs.Stretches.{extends_long}
 use Rattle.ae_fuse.specs.Fused.{result_move}
-use Rattle.ae_fuse.proofs.LateResults.{load_next, results_next}
+use Rattle.ae_fuse.proofs.LateResults.{load_next, mems_next, results_next}
 use Rattle.ae_fuse.proofs.lowering.all_nets.Goals as goal
 
 pub result_nets-requires-clause-args : goal.result_nets-requires-clause-args
@@ -37,7 +37,7 @@ loop-k-preserved c =
       belongs = made.belongs;
       keeps = keeps_trans was.keeps made.keeps;
       grows = by_trans _ (load_next ms k c.args.whole (result_move ins own) here) was.grows made.grows;
-      adds = adds_up (omega arith) (omega arith) (adds_trans was.adds made.adds);
+      adds = adds_up (omega arith) (mems_next ms k c.args.whole (result_move ins own) here) (adds_trans was.adds made.adds);
       moved = results_next c.loop-k.nl c.result_nets.new.nl c.args.clocks.now.rst c.loop-k.clocks.rst c.args.whole ms k (result_move ins own) c.args.args.now c.loop-k.bundles.items c.push.new.self.items c.in_ok-bundle.bundle here was.keeps.rst c.in_ok-push.ensures.items
           made.grows.grows.extends was.moved made.moved;
       marks = subst (λ n. AreMarks (length c.result_nets.new.nl.cells) n c.push-in-loop-k.new.self.items) z

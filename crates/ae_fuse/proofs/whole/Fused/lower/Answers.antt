@@ -11,13 +11,13 @@ use Rattle.ae_moves.proofs.Lists.{get_mapped}
 use Rattle.ae_ports.specs.Ports.{output_ports, streams_of}
 use Rattle.ae_rewrite.specs.StProgramTree.{st_trees}
 use Rattle.ae_tidy.specs.Places.{AreMarks}
-use Rattle.ae_lower.specs.Growth.{GrowsBy}
+use Rattle.ae_lower.specs.Growth.{Adds, GrowsBy}
 use Rattle.ae_lower.specs.PortNets.{AddsOutputs, bundles_from}
 use Rattle.ae_lower.specs.Ported.{HasBegun}
 use Rattle.ae_lower.proofs.Outputs.{all_nets, outputs_cells}
 use Rattle.ae_lower.proofs.Whole.{begun_bundles, has_begun, inputs_begun, reset_belongs}
 use Rattle.ae_fuse.specs.declared.results.FusedResult.{FusedResult}
-use Rattle.ae_fuse.specs.Costing.{result_load}
+use Rattle.ae_fuse.specs.Costing.{result_load, result_mems}
 use Rattle.ae_fuse.specs.Fused.{FusedView, moves_in, result_move}
 use Rattle.ae_fuse.specs.Lowered.{AreLateResults, IsWhole, result_stream}
 use Rattle.ae_fuse.proofs.Circuits.{ShowsMoves, at-most-latest, fused-circuit, late-same, shows-raw, shows-tidied, type-sized}
@@ -76,11 +76,12 @@ returns-clause-circuit c =
     let args : c.deref.result.now ≡ bundles_from 1 (streams_of ins) = c.deref.ensures.value ∙ begun_bundles ins _ _ _ _ _ c.new-nl.ensures c.in_ok-rst.ensures.added c.in_ok-args.ensures.bundles same in
     let rst : c.new-clocks.result.rst ≡ 0 = ap (λ (q : Kept). q.rst) c.new-clocks.ensures ∙ (ap (λ (n : NetId). n.0) c.in_ok-rst.ensures.net ∙ ap (λ (n : Circuit). length n.cells) c.new-nl.ensures) in
     let grown : GrowsBy a b (sum_by (result_load f.latency) (moves_in f)) = subst (GrowsBy a b) (λ i. sum_by (result_load (latency i)) (moves i)) c.in_ok-built.ensures.grows in
+    let added : Adds a b 0 (sum_by (result_mems f.latency) (moves_in f)) = subst (Adds a b 0) (λ i. sum_by (result_mems (latency i)) (moves i)) c.in_ok-built.ensures.adds in
     let moved : AreLateResults b.cells 0 f.latency (moves_in f) (length f.results) (bundles_from 1 (streams_of ins)) bundles =
     subst (AreLateResults b.cells 0 f.latency (moves_in f) (length f.results) (bundles_from 1 (streams_of ins))) (sym c.deref-2.ensures.value) (late-same rst latency moves (ap length results) args c.in_ok-built.ensures.moved) in
     let shown : AddsOutputs b d (output_ports (map result_stream f.results)) (all_nets bundles) =
     subst (λ (rs : List FusedResult). AddsOutputs b d (output_ports (map result_stream rs)) (all_nets bundles)) results c.in_ok-show_results.ensures in
-    let raw : ShowsMoves f d = shows-raw f whole a b d bundles begun grown c.in_ok-built.ensures.adds moved shown c.formed.ensures.cells c.formed.ensures.outlets in
+    let raw : ShowsMoves f d = shows-raw f whole a b d bundles begun grown added moved shown c.formed.ensures.cells c.formed.ensures.outlets in
     let done : ShowsMoves f c.in_ok-tidied.tidied.netlist = shows-tidied f whole d c.in_ok-tidied.tidied.netlist raw c.in_ok-tidied.ensures.tidied in
     fused-circuit f c.in_ok-tidied.tidied.netlist done c.in_ok-tidied.ensures.tidied.lean
 
