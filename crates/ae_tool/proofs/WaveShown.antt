@@ -19,7 +19,7 @@ use Rattle.ae_ops.specs.Blocks.{stream_of}
 use Rattle.ae_ports.specs.Ports.{columns_in, outlet_port, streams_of}
 use Rattle.ae_ports.specs.Ports as net_side
 use Rattle.ae_ports.proofs.Columns.{stream_columns}
-use Rattle.ae_verilog.specs.NetlistModule.{listed}
+use Rattle.ae_verilog.specs.NetlistModule.{each_numbered}
 use Rattle.ae_verilog.specs.Notes.{NoteTree, lines_of, noted_module}
 use Rattle.ae_verilog.specs.ReportLines.{ReportTree, is_clean, report_lines}
 use Rattle.ae_verilog.specs.Text.{assignment_text, declaration_text, edge_text, header_text, noted, whole_text}
@@ -110,7 +110,7 @@ ends_line text report notes n outs is =
     let lint = codes "// verilator lint_off CMPCONST\n// verilator lint_off DECLFILENAME\n// verilator lint_off UNSIGNED\n// verilator lint_off UNUSEDSIGNAL\n" in
     let declared = noted (λ net (sized : SizedCell). declaration_text lines n.cells net sized.width sized.cell) n.cells 0 notes in
     let assigned = flat_map (assignment_text lines n.cells outs) n.outlets in
-    let edges = listed (λ net (sized : SizedCell). edge_text lines n.cells net sized.cell) 0 n.cells in
+    let edges = each_numbered (λ net (sized : SizedCell). edge_text lines n.cells net sized.cell) 0 n.cells in
     let end = codes "endmodule\n" in
     let last : EndsLine end = record { lines = codes "endmodule"; is = refl } in
     subst EndsLine (sym is)
