@@ -1,8 +1,8 @@
 #!/usr/bin/env python3
 """Programs and modules that somebody spoiled: bytes, tokens and lines of the examples, of random programs and of random modules
 are changed. Each job gives a stated answer, and the jobs agree: what `check` refuses every job refuses in the same line; `run`
-shows the results of `eval`; `sim` takes the module of `build`, and `unwave` the dump of `wave`; Icarus takes each module that `sim` takes, and shows the same
-words where ports and registers are as they were.
+shows the results of `eval`; `sim` takes the module of `build`, and `unwave` the dump of `wave`; Icarus takes each module that
+`sim` takes, and shows the same words where ports and registers are as they were.
 
 fuzz.py [COUNT [SEED]]: so many inputs (2,000 unless given), from a seed (1 unless given)."""
 import pathlib
