@@ -1,6 +1,6 @@
 // Counters, marks and delay lines of a netlist with a reset.
 
-ghost use Rattle.std.specs.Prelude.{◌≡◌, ◌<◌, ◌≤◌, ◌^◌, ◌-◌, length};
+ghost use Rattle.std.specs.Prelude.{◌≡◌, ◌<◌, ◌≤◌, ◌^◌, ◌-◌, IfOk, length};
 ghost use Rattle.ae_netlist.specs.Circuit.{IsNet, width_of};
 ghost use Rattle.ae_clocked.specs.Phases.{Belongs};
 ghost use Rattle.ae_clocked.specs.Signals.{Grows};
@@ -9,7 +9,7 @@ use crate::netlists::{Answer, parts, show_output, tell_none};
 use crate::nets::{any_net, net};
 use crate::numbers::number;
 use crate::stepping::step_one;
-use ae_clocked::{Clocks, constant, less, line, ring_line, width_at};
+use ae_clocked::{Clocks, Tapped, constant, less, line, ring_line, width_at};
 use ae_netlist::{Cell, NetFault, NetId, Netlist, Port};
 use std::alloc::{AllocError, Global};
 
@@ -101,7 +101,28 @@ fn below(clocks: &Clocks, nl: &mut Netlist, last: NetId, text: &str) -> Answer
     Some(below_of(nl, a, width, word))
 }
 
-// A tap of a line with two taps, of registers or with rings for what is far.
+// A line with two taps, of registers or with rings for what is far.
+fn two_taps(
+    alloc: Global,
+    clocks: &mut Clocks,
+    nl: &mut Netlist,
+    x: NetId,
+    delays: [u32; 2],
+    rings: bool,
+) -> Result<Tapped, NetFault>
+    requires belongs { Belongs clocks.old nl.old.cells }
+    requires net { IsNet nl.old.cells x.0 (width_of nl.old.cells x.0) }
+    ensures belongs { Belongs clocks.new nl.new.cells }
+    ensures long { IfOk result (λ nets. length nets ≡ 2) }
+{
+    if rings {
+        ring_line(alloc, nl, x, &delays, clocks)
+    } else {
+        line(alloc, nl, x, &delays, clocks)
+    }
+}
+
+// A tap of such a line.
 fn tap_of(
     alloc: Global,
     clocks: &mut Clocks,
@@ -116,11 +137,7 @@ fn tap_of(
     requires tap { tap < 2 }
     ensures { Belongs clocks.new nl.new.cells }
 {
-    let tapped = if rings {
-        ring_line(alloc, nl, x, &delays, clocks)?
-    } else {
-        line(alloc, nl, x, &delays, clocks)?
-    };
+    let tapped = two_taps(alloc, clocks, nl, x, delays, rings)?;
     Ok(tapped.tap(tap))
 }
 
