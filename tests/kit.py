@@ -1,13 +1,14 @@
 #!/usr/bin/env python3
 """The second program, `aethkit`: its table of slowdowns says what `plan` says of each, its text pictures show each element in its
-slot, its longest path is that of the module's wires, and its test benches tell no wrong word of the modules of all examples at three slowdowns, and some of each of twelve
-modules that were spoiled."""
+slot, its names are those of the module's ports and the program's lines, its longest path is that of the module's wires, and its
+test benches tell no wrong word of the modules of all examples at three slowdowns, and some of each of twelve modules that were
+spoiled."""
 import pathlib
 import re
 import subprocess
 import tempfile
 
-from common import KIT, aeth, examples, missing, runs_of_examples, slots, told
+from common import KIT, aeth, examples, missing, ports, runs_of_examples, slots, told
 
 # An example, a slowdown, a piece of its module, and what takes its place.
 SPOILED = [
@@ -104,6 +105,26 @@ def paths_are_right(name, slowdown, text, module):
     return "" if not status and shown.splitlines()[-1] == wanted else f"{name} at {slowdown}: the path is not {wanted}"
 
 
+def names_are_right(name, slowdown, text, module):
+    """The fault of what is said of the names of a module's ports and nets, and of the save file, against module and program."""
+    wanted = [port for port, _ in ports(module, "input")[2:] + ports(module, "output")]
+    lines = text.partition("%%")[0].splitlines()
+    status, shown = kit(["notes", slowdown], text)
+    rows = [line.split() for line in shown.splitlines()]
+    told_ports = [row for row in rows if not row[0].startswith("l")]
+    _, file = kit(["notes", slowdown, "gtkw"], text)
+    aliases = re.findall(r"^\+\{(.*)\} aeth\.(\w+)(?:\[\d+:0\])?$", file, re.M)
+    if status or [row[0] for row in told_ports] != wanted:
+        return f"{name} at {slowdown}: not these are the ports"
+    if aliases != [(" ".join(row[2:]), row[0]) for row in told_ports]:
+        return f"{name} at {slowdown}: the save file has other names"
+    for place, number, word, *_ in rows:
+        said = lines[int(number) - 1].split("#")[0].split()
+        if word not in [field.partition(":")[0] for field in said] or (place[0] == "l" and place != f"l{number}_"):
+            return f"{name} at {slowdown}: {place} is not of line {number}"
+    return ""
+
+
 def wrong_words(folder, bench, module):
     """How many words a bench compared under Icarus, and how many were wrong; and what Icarus said beside that."""
     (folder / "bench.v").write_text(bench)
@@ -122,6 +143,7 @@ def main():
     found = [table_is_right(name, text) for name, text in texts.items()]
     runs = list(runs_of_examples())
     found += [picture_is_right(name, slowdown, text) for name, slowdown, text, _, _ in runs]
+    found += [names_are_right(name, slowdown, text, shown) for name, slowdown, text, _, shown in runs]
     found += [paths_are_right(name, slowdown, text, shown) for name, slowdown, text, _, shown in runs]
     if not missing("iverilog"):
         with tempfile.TemporaryDirectory() as made:

@@ -4,9 +4,8 @@ ghost use Rattle.std.specs.Prelude.{◌<◌, ◌≤◌, length, All, IfOk};
 
 use crate::blocks::{program_part, rows_part};
 use crate::fault::KitFault;
-use crate::items::layout_of;
-use crate::ports::{Bundle, Column, Role};
-use ae_compile::{Costed, LOAD_LIMIT, cost, main_func, main_instance};
+use crate::ports::{Bundle, Column, inputs, outputs, write_range};
+use ae_compile::{Costed, LOAD_LIMIT, cost, main_func};
 use ae_eval::{eval, fits};
 use ae_parse::read_rows;
 use ae_seqtype::Value;
@@ -39,40 +38,6 @@ impl Chance {
         }
         self.state.wrapping_shr(64 - width.max(1))
     }
-}
-
-// The parameters' ports.
-fn inputs<'a>(alloc: Global, costed: &'a Costed) -> Result<Vec<Bundle<'a>>, AllocError> {
-    let mut bundles = Vec::new(alloc);
-    for (number, layout) in main_instance(&costed.schedule).ins.iter().enumerate() {
-        bundles.push(Bundle {
-            layout,
-            number,
-            role: Role::Parameter,
-        })?;
-    }
-    Ok(bundles)
-}
-
-// The results' ports.
-fn outputs<'a>(alloc: Global, costed: &'a Costed) -> Result<Vec<Bundle<'a>>, AllocError> {
-    let s = main_instance(&costed.schedule);
-    let role = if s.results.len() == 1 {
-        Role::Result
-    } else {
-        Role::OneResult
-    };
-    let mut bundles = Vec::new(alloc);
-    for (number, item) in s.results.iter().enumerate() {
-        if let Some(layout) = layout_of(s, *item as usize) {
-            bundles.push(Bundle {
-                layout,
-                number,
-                role,
-            })?;
-        }
-    }
-    Ok(bundles)
 }
 
 // Adds the widths of the words of one element.
@@ -149,14 +114,6 @@ fn blocks(alloc: Global, costed: &Costed, rest: &[u8]) -> Result<Vec<Block>, Kit
     Ok(blocks)
 }
 
-// The range of a word of more than one bit.
-fn write_range(out: &mut String, width: u32) -> Result<(), AllocError> {
-    if width > 1 {
-        write!(out, "[{}:0] ", width - 1)?;
-    }
-    Ok(())
-}
-
 // A declaration of each port.
 fn write_declarations(
     out: &mut String,
@@ -167,7 +124,10 @@ fn write_declarations(
         for number in 0..bundle.columns() {
             if let Some(column) = bundle.column(number) {
                 write!(out, "  {kind} ")?;
-                write_range(out, column.width)?;
+                if column.width > 1 {
+                    write_range(out, column.width)?;
+                    out.push_str(" ")?;
+                }
                 bundle.write_name(out, column)?;
                 out.push_str(";\n")?;
             }

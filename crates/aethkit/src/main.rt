@@ -11,6 +11,7 @@ mod blocks;
 mod drawing;
 mod fault;
 mod items;
+mod notes;
 mod paths;
 mod ports;
 mod request;
@@ -59,6 +60,9 @@ fn answer(alloc: Global, request: &Request, input: &[u8]) -> Result<String, KitF
             Picture::Svg => svg::draw(alloc, input, nearest(*slowdown)),
             Picture::Text => drawing::draw(alloc, input, nearest(*slowdown)),
         },
+        Request::Notes { slowdown, form } => {
+            notes::notes(alloc, input, nearest(*slowdown), *form)
+        }
         Request::Paths { slowdown } => paths::paths(alloc, input, nearest(*slowdown)),
         Request::Bench {
             slowdown,

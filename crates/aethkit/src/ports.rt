@@ -1,9 +1,10 @@
 // The ports of the module of a program, and the words that stand on them.
 
-use crate::items::{clocks, element, element_words, lanes};
+use crate::items::{clocks, element, element_words, lanes, layout_of};
+use ae_compile::{Costed, main_instance};
 use ae_seqtype::Value;
 use ae_sttype::StType;
-use std::alloc::AllocError;
+use std::alloc::{AllocError, Global};
 
 /// The ports of a parameter or a result: a word of each lane.
 #[derive(Clone, Copy)]
@@ -88,4 +89,46 @@ impl Bundle<'_> {
             Role::OneResult => write!(out, "o{number}_{lane}_{word}"),
         }
     }
+}
+
+/// The ports of all parameters.
+pub fn inputs<'a>(alloc: Global, costed: &'a Costed) -> Result<Vec<Bundle<'a>>, AllocError> {
+    let mut bundles = Vec::new(alloc);
+    for (number, layout) in main_instance(&costed.schedule).ins.iter().enumerate() {
+        bundles.push(Bundle {
+            layout,
+            number,
+            role: Role::Parameter,
+        })?;
+    }
+    Ok(bundles)
+}
+
+/// The ports of all results.
+pub fn outputs<'a>(alloc: Global, costed: &'a Costed) -> Result<Vec<Bundle<'a>>, AllocError> {
+    let s = main_instance(&costed.schedule);
+    let role = if s.results.len() == 1 {
+        Role::Result
+    } else {
+        Role::OneResult
+    };
+    let mut bundles = Vec::new(alloc);
+    for (number, item) in s.results.iter().enumerate() {
+        if let Some(layout) = layout_of(s, *item as usize) {
+            bundles.push(Bundle {
+                layout,
+                number,
+                role,
+            })?;
+        }
+    }
+    Ok(bundles)
+}
+
+/// Writes the range of a word of more than one bit, as `[7:0]`.
+pub fn write_range(out: &mut String, width: u32) -> Result<(), AllocError> {
+    if width > 1 {
+        write!(out, "[{}:0]", width - 1)?;
+    }
+    Ok(())
 }

@@ -21,6 +21,14 @@ pub enum Picture {
     Text,
 }
 
+/// How names are told.
+#[derive(Clone, Copy, Debug)]
+pub enum NoteForm {
+    Table,
+    /// For GTKWave.
+    SaveFile,
+}
+
 /// What is asked for.
 #[derive(Clone, Copy, Debug)]
 pub enum Request {
@@ -28,6 +36,10 @@ pub enum Request {
     Draw {
         slowdown: u32,
         picture: Picture,
+    },
+    Notes {
+        slowdown: u32,
+        form: NoteForm,
     },
     Paths {
         slowdown: u32,
@@ -98,6 +110,20 @@ fn draw(words: &[String]) -> Option<Request> {
     }
 }
 
+fn notes(words: &[String]) -> Option<Request> {
+    match words {
+        [slowdown] => Some(Request::Notes {
+            slowdown: slowdown_of(slowdown.as_str())?,
+            form: NoteForm::Table,
+        }),
+        [slowdown, file] if file.as_str() == "gtkw" => Some(Request::Notes {
+            slowdown: slowdown_of(slowdown.as_str())?,
+            form: NoteForm::SaveFile,
+        }),
+        _ => None,
+    }
+}
+
 fn paths(words: &[String]) -> Option<Request> {
     match words {
         [slowdown] => Some(Request::Paths {
@@ -137,6 +163,7 @@ pub fn request_of(words: &[String]) -> Option<Request> {
     match name.as_str() {
         "slowdowns" => slowdowns(rest),
         "draw" => draw(rest),
+        "notes" => notes(rest),
         "paths" => paths(rest),
         "bench" => bench(rest),
         _ => None,

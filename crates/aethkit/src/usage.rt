@@ -5,6 +5,8 @@ pub const USAGE: &str = "usage: aethkit REQUEST < PROGRAM
   slowdowns [FROM TO] [csv] [best]   for each slowdown of the range that has a circuit: latency, load, multipliers, lanes;
                                      best: only those that need less load than all smaller ones; csv: as comma-separated values
   draw S [text]                      the layout of each line of the program function, lanes by clocks, as SVG or as text
+  notes S [gtkw]                     which line and which word of the program each port of its module belongs to, and the nets of
+                                     each line; gtkw: as a save file, by which GTKWave names the signals of `aeth wave S FILL`
   paths S                            the longest chain of operators without a register between them, by the lines of the program
   bench S FILL [dump]                a test bench for the module of `aeth build S`: it gives it the rows of the input behind
                                      the line %%, compares each word with the program's meaning, and tells how many were wrong;
