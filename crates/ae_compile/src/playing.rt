@@ -14,7 +14,7 @@ use crate::read_back::read_back;
 use ae_correct::{circuits_are_writable, runs_are_alike, runs_are_shown};
 use ae_netlist::{Netlist, fill_begins, has_one_run_with};
 use ae_play::can_be_fed;
-use ae_verilog::module_keeps;
+use ae_spelled::module_keeps;
 use std::alloc::Global;
 
 /// The netlist that the text of a compiled program's module is read back as: what it shows of its run on blocks, with

@@ -2,14 +2,16 @@
 
 ghost use Rattle.std.specs.Prelude.{IfOk, length, map};
 ghost use Rattle.ae_verilog.specs.Notes.{lines_of, note_tree};
-ghost use Rattle.ae_verilog.specs.PortNets.{ArePorts, HasNets, port_nets};
+ghost use Rattle.ae_verilog.specs.PortNets.{HasNets, port_nets};
 ghost use Rattle.ae_verilog.specs.ReportLines.{report_tree};
 ghost use Rattle.ae_verilog.specs.Written.{IsWritableNetlist};
+ghost use Rattle.ae_spelled.specs.ModulePorts.{ArePorts};
 ghost use Rattle.ae_compile.specs.Passes.{IsCompiledProgram};
 
 use crate::circuits::Compiled;
 use ae_correct::circuits_are_writable;
-use ae_verilog::{PortList, module_keeps, ports_of};
+use ae_spelled::module_keeps;
+use ae_verilog::{PortList, ports_of};
 use std::alloc::{AllocError, Global};
 
 /// The inputs but the clock, and then the outputs, of the module of a compiled program. The error comes only for want of

@@ -13,8 +13,9 @@ use crate::circuits::Compiled;
 use crate::faults::OutOfMemory;
 use ae_correct::{circuits_are_correct, circuits_are_writable};
 use ae_elab::one_run;
+use ae_spelled::{listings_spell, module_keeps, spelled_once};
 use ae_stalled::{stalled_circuits_are_correct, stalled_circuits_are_writable};
-use ae_verilog::{module_keeps, spelled_once, write_module};
+use ae_verilog::write_module;
 use std::alloc::Global;
 
 // The text of a circuit, if it has fewer than 2 to the 32 bytes.
@@ -22,6 +23,7 @@ fn written(alloc: Global, compiled: &Compiled) -> Result<String, OutOfMemory>
     requires { ArePrinted (map note_tree compiled.now.notes.items) }
     ensures { IfOk result (λ text. IsWritten (report_tree compiled.now.report) compiled.now.netlist (map note_tree compiled.now.notes.items) (string_bytes text)) }
 {
+    listings_spell();
     let text = write_module(alloc, &compiled.netlist, &compiled.report, &compiled.notes)?;
     if text.len() > 4_294_967_295 {
         return Err(OutOfMemory);

@@ -12,10 +12,10 @@ use Rattle.ae_elab.proofs.Once.{only_one}
 use Rattle.ae_elab.proofs.Made.{plain_is_run}
 use Rattle.ae_verilog.specs.Notes.{lines_of, noted_module}
 use Rattle.ae_verilog.specs.ReportLines.{report_lines}
-use Rattle.ae_verilog.proofs.Comments.{report_comments}
-use Rattle.ae_verilog.proofs.LawSame.{same_runs}
-use Rattle.ae_verilog.proofs.LawFormed.{well_formed}
-use Rattle.ae_verilog.proofs.Whole.{whole_spelled, good_from}
+use Rattle.ae_spelled.proofs.Comments.{report_comments}
+use Rattle.ae_spelled.proofs.LawSame.{same_runs}
+use Rattle.ae_spelled.proofs.LawFormed.{well_formed}
+use Rattle.ae_spelled.proofs.Whole.{listing_spelled}
 use Rattle.ae_correct.proofs.Built.{correct_by}
 use Rattle.ae_correct.proofs.Keeps.{ports_there}
 use Rattle.ae_headline.specs.Listing.{listing}
@@ -42,7 +42,7 @@ modules p n r notes laid ports makes ok printed small =
     let m : ModuleTree = noted_module notes n.cells n.outlets outs in
     let text : List ℕ = listing r notes n outs in
     let spelled : Spells text m = subst (λ l. Spells l m) (listing_same r notes n outs)
-    (whole_spelled (report_lines r) notes n.cells n.outlets outs (report_comments r) printed (good_from n.cells ok.formed ok.inputs ok.few) (record { have = ok.shown; fits = ok.outputs })) in
+    (listing_spelled (report_lines r) notes n.cells n.outlets outs (report_comments r) printed (record { formed = ok.formed; shown = ok.shown; few = ok.few; inputs = ok.inputs; outputs = ok.outputs })) in
     let well : IsWellFormed m = well_formed lines n.cells n.outlets outs ok small in
     let have = ports_there r.ins r.outs n ports.inputs ports.no_others ports.outputs in
     record {

@@ -28,7 +28,8 @@ use Rattle.ae_elab.specs.Runs.{Holds, IsRun, clock_at}
 use Rattle.ae_elab.specs.SameRuns.{input_words, inputs_of, output_words, outputs_of}
 use Rattle.ae_elab.proofs.Pairwise.{among_filter}
 use Rattle.ae_verilog.specs.NetlistModule.{input_nets, netlist_module, output_net, port_name}
-use Rattle.ae_verilog.specs.PortNets.{ArePorts, input_ports, port_nets}
+use Rattle.ae_verilog.specs.PortNets.{input_ports, port_nets}
+use Rattle.ae_spelled.specs.ModulePorts.{ArePorts}
 use Rattle.ae_verilog.specs.Text.{CellPortFits, PortFits}
 use Rattle.ae_verilog.specs.Written.{IsWritableNetlist}
 use Rattle.ae_play.specs.Words.{port_words}

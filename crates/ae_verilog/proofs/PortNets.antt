@@ -1,37 +1,21 @@
 -- The ports of a netlist's module.
-use Rattle.std.proofs.Common.{ℕ, ◌≡◌, ◌+◌, ◌<◌, ◌≤◌, List, [], ◌∷◌, ◌++◌, length, map, take, get_or, sym, ap, ◌∙◌, refl, append_assoc, subst}
+use Rattle.std.proofs.Common.{ℕ, ◌≡◌, ◌+◌, ◌<◌, ◌≤◌, List, [], ◌∷◌, ◌++◌, length, map, take, get_or, sym, ap, ◌∙◌, append_assoc, subst}
 use Rattle.std.specs.Prelude.{string_bytes}
 use Rattle.std.specs.List.{flat_map}
 use Rattle.std.proofs.lemmas.List.{append-nil, map-append, take_all, take_more}
 use Rattle.std.proofs.lemmas.Grind.{flat_map-append}
-use Rattle.std.proofs.lemmas.List.Concat.{flat_map-cons}
 use Rattle.ae_netlist.specs.declared.cell.SizedCell.{SizedCell}
 use Rattle.ae_netlist.specs.declared.cell.Outlet.{Outlet}
-use Rattle.ae_netlist.specs.Circuit.{Circuit}
 use Rattle.ae_vread.specs.ModuleTree.{NetTree}
 use Rattle.ae_verilog.specs.declared.interface.PortList.{PortList}
-use Rattle.ae_verilog.specs.NetlistModule.{input_nets, inputs_of, each_numbered, output_net}
-use Rattle.ae_verilog.specs.PortNets.{ArePorts, HasNets, input_ports}
-use Rattle.ae_verilog.specs.Written.{IsWritableNetlist}
-use Rattle.ae_verilog.proofs.LawSame.{inputs_are, outputs_are}
+use Rattle.ae_verilog.specs.NetlistModule.{input_nets, output_net}
+use Rattle.ae_verilog.specs.PortNets.{HasNets, input_ports}
 
 abbrev name_of : NetTree → List ℕ
 name_of x = x.name
 
 abbrev width_of_net : NetTree → ℕ
 width_of_net x = x.width
-
--- ---- the law
-
-numbered_alike : {X A : Type 0} (f : X → List A) (k : ℕ) (xs : List X) → each_numbered (λ _. f) k xs ≡ flat_map f xs
-numbered_alike f k [] = refl
-numbered_alike f k (x ∷ xs) = ap (λ ys. f x ++ ys) (numbered_alike f (k + 1) xs) ∙ sym (flat_map-cons f x xs)
-
-pub are_ports : (lines : ℕ → ℕ) (n : Circuit) (outs : ℕ) → IsWritableNetlist n.cells n.outlets outs → ArePorts lines n outs
-are_ports lines n outs ok =
-    λ i. (inputs_are lines n.cells n.outlets outs ok ∙ numbered_alike (λ (sized : SizedCell). input_nets sized.width sized.cell) 0 n.cells) i ++ outputs_are lines n.cells n.outlets outs ok i
-
--- ---- ports one by one
 
 pub one_port : (before : List NetTree) (old new : PortList) (x : NetTree) → map string_bytes new.names.items ≡ map string_bytes old.names.items ++ x.name ∷ [] → new.widths.items ≡ old.widths.items ++ x.width ∷ []
     → HasNets before old → HasNets (before ++ x ∷ []) new

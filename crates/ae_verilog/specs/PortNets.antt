@@ -3,12 +3,9 @@ use Rattle.std.specs.Prelude.{◌≡◌, ℕ, List, ◌++◌, map, string_bytes}
 use Rattle.std.specs.List.{flat_map}
 use Rattle.ae_netlist.specs.declared.cell.SizedCell.{SizedCell}
 use Rattle.ae_netlist.specs.declared.cell.Outlet.{Outlet}
-use Rattle.ae_netlist.specs.Circuit.{Circuit}
 use Rattle.ae_vread.specs.ModuleTree.{NetTree}
-use Rattle.ae_elab.specs.SameRuns as module_of
 use Rattle.ae_verilog.specs.declared.interface.PortList.{PortList}
-use Rattle.ae_verilog.specs.NetlistModule.{input_nets, netlist_module, output_net}
-use Rattle.ae_verilog.specs.Written.{IsWritableNetlist}
+use Rattle.ae_verilog.specs.NetlistModule.{input_nets, output_net}
 
 -- the inputs among cells, and then the outputs
 abbrev pub input_ports : List SizedCell → List NetTree
@@ -21,8 +18,3 @@ port_nets cells outlets outs = input_ports cells ++ map (output_net cells outs) 
 pub record HasNets (nets : List NetTree) (ports : PortList) : Type 0 where
   pub names : map string_bytes ports.names.items ≡ map (λ (x : NetTree). x.name) nets
   pub widths : ports.widths.items ≡ map (λ (x : NetTree). x.width) nets
-
--- they are the inputs of the netlist's module but its clock, and its outputs
-abbrev pub ArePorts : (lines : ℕ → ℕ) → Circuit → (outs : ℕ) → Type 0
-ArePorts lines n outs =
-    module_of.inputs_of (netlist_module lines n.cells n.outlets outs) ++ module_of.outputs_of (netlist_module lines n.cells n.outlets outs) ≡ port_nets n.cells n.outlets outs

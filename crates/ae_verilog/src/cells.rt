@@ -1,6 +1,6 @@
 // Declarations: one line for each cell that is no input, in their order, and the notes between them.
 
-ghost use Rattle.std.specs.Prelude.{◌≡◌, ◌++◌, ◌&&◌, true, nat_lt, map, codes, slice_index, OnOk, string_bytes};
+ghost use Rattle.std.specs.Prelude.{◌≡◌, ◌<◌, ◌^◌, ◌++◌, ◌&&◌, true, nat_lt, All, map, codes, slice_index, OnOk, string_bytes};
 ghost use Rattle.ae_vread.specs.ModuleTree.{index, constant};
 ghost use Rattle.ae_vread.specs.declared.module.BinOp.TheVariants.{Lt as Less};
 ghost use Rattle.ae_netlist.specs.Circuit.{width_of};
@@ -17,7 +17,8 @@ use std::alloc::AllocError;
 
 // The declarations of all cells, and each note before its cell.
 pub fn write_cells(out: &mut String, names: &Names<'_>, notes: &[Note]) -> Result<(), AllocError>
-    ensures { OnOk result (string_bytes out.new ≡ string_bytes out.old ++ noted (λ net sized. declaration_text (slice_index names.now.lines.now) names.now.cells.now net sized.width sized.cell) names.now.cells.now 0 (map note_tree notes.now)) }
+    ensures text { OnOk result (string_bytes out.new ≡ string_bytes out.old ++ noted (λ net sized. declaration_text (slice_index names.now.lines.now) names.now.cells.now net sized.width sized.cell) names.now.cells.now 0 (map note_tree notes.now)) }
+    ensures fits { OnOk result (All (λ note. note.line < 2 ^ 32) notes.now) }
 {
     let mut from = 0usize;
     for note in notes {

@@ -5,32 +5,27 @@ mod cells;
 mod clocked;
 mod header;
 mod interface;
-mod laws;
 mod names;
 mod notes;
 mod report;
 
-ghost use Rattle.std.specs.Prelude.{◌≡◌, ◌++◌, List, ℕ, All, length, map, IfOk, IsTrue, string_bytes};
-ghost use Rattle.std.specs.List.{list_all};
-ghost use Rattle.ae_netlist.specs.Counts.{count_of, is_mul};
-ghost use Rattle.ae_vread.specs.Spells.{Spells, stars};
-ghost use Rattle.ae_verilog.specs.Notes.{ArePrinted, note_tree, noted_module};
-ghost use Rattle.ae_verilog.specs.ReportLines.{report_tree, report_lines, is_clean};
+ghost use Rattle.std.specs.Prelude.{◌≡◌, All, length, map, IfOk, string_bytes};
+ghost use Rattle.ae_verilog.specs.Notes.{ArePrinted, note_tree};
+ghost use Rattle.ae_verilog.specs.ReportLines.{report_tree, report_lines};
 ghost use Rattle.ae_verilog.specs.Text.{whole_text, PortFits, CellPortFits};
+ghost use Rattle.ae_verilog.specs.Written.{HaveNumbers, IsListable};
 
 use ae_netlist::{Netlist, Outlet, SizedCell};
 pub use interface::{PortList, ports_of};
-pub use laws::{module_keeps, spelled_once};
 pub use notes::Note;
 pub use report::Report;
 use std::alloc::{AllocError, Global};
 
-/// The text of the module `aeth` that a netlist is (docs/VERILOG.md), behind its report lines (docs/OUTPUTS.md): a
-/// Verilog module after IEEE 1364-2001. It spells exactly the names, declarations and items of the netlist's module, with
-/// one `*` for each cell that multiplies and no other, and it has no `%` and no `$`. Each note is a comment line before
-/// the declaration of its cell, behind those of the notes before it, and a net that no input drives is named by its number
-/// behind the line of the last note whose cell is at most the net. Writing takes time linear in the number of cells. The
-/// error comes where there is no memory for the text.
+/// The text of the module `aeth` that a netlist is (docs/VERILOG.md), behind its report lines (docs/OUTPUTS.md): the listing
+/// of the netlist with its notes, byte by byte, of which `ae_spelled::listings_spell` tells what Verilog module it spells.
+/// Each note is a comment line before the declaration of its cell, behind those of the notes before it, and a net that no
+/// input drives is named by its number behind the line of the last note whose cell is at most the net. Writing takes time
+/// linear in the number of cells. The error comes where there is no memory for the text.
 pub fn write_module(
     alloc: Global,
     nl: &Netlist,
@@ -38,11 +33,9 @@ pub fn write_module(
     notes: &[Note],
 ) -> Result<String, AllocError>
     requires printed { ArePrinted (map note_tree notes.now) }
-    ensures spells { IfOk result (λ text. Spells (string_bytes text) (noted_module (map note_tree notes.now) nl.now.cells nl.now.outlets (length report.now.outs.items))) }
-    ensures reports { IfOk result (λ text. (rest : List ℕ) × (string_bytes text ≡ report_lines (report_tree report.now) ++ rest)) }
-    ensures stars { stars (noted_module (map note_tree notes.now) nl.now.cells nl.now.outlets (length report.now.outs.items)) ≡ count_of is_mul nl.now.cells }
-    ensures clean { IfOk result (λ text. IsTrue (list_all is_clean (string_bytes text))) }
     ensures text { IfOk result (λ text. string_bytes text ≡ whole_text (report_lines (report_tree report.now)) (map note_tree notes.now) nl.now.cells nl.now.outlets (length report.now.outs.items)) }
+    ensures listable { IfOk result (λ text. IsListable nl.now.cells nl.now.outlets) }
+    ensures numbers { IfOk result (λ text. HaveNumbers (report_tree report.now) (map note_tree notes.now)) }
 {
     nl.formed();
     let _count = nl.len();
@@ -62,6 +55,7 @@ fn write_text(
     ensures text { IfOk result (λ text. string_bytes text ≡ whole_text (report_lines (report_tree report.now)) (map note_tree notes.now) cells.now outlets.now outs) }
     ensures inputs { IfOk result (λ text. All (λ sized. CellPortFits sized.cell) cells.now) }
     ensures outputs { IfOk result (λ text. All (λ outlet. PortFits outlet.port) outlets.now) }
+    ensures numbers { IfOk result (λ text. HaveNumbers (report_tree report.now) (map note_tree notes.now)) }
 {
     let lines = notes::lines_of(alloc, notes, cells.len())?;
     let names = names::Names {

@@ -1,6 +1,6 @@
 // The lines that tell where cells come from.
 
-ghost use Rattle.std.specs.Prelude.{◌≡◌, ℕ, ◌<◌, ◌≤◌, ◌++◌, length, map, slice_index, IfOk, OnOk, string_bytes};
+ghost use Rattle.std.specs.Prelude.{◌≡◌, ℕ, ◌<◌, ◌≤◌, ◌^◌, ◌++◌, length, map, slice_index, IfOk, OnOk, string_bytes};
 ghost use Rattle.ae_verilog.specs.Notes.{note_line, note_tree, line_of, lines_of};
 
 use ae_sttype::StType;
@@ -21,7 +21,8 @@ pub struct Note {
 
 // The line of a note.
 pub fn write_note(out: &mut String, note: &Note) -> Result<(), AllocError>
-    ensures { OnOk result (string_bytes out.new ≡ string_bytes out.old ++ note_line (note_tree note.now)) }
+    ensures text { OnOk result (string_bytes out.new ≡ string_bytes out.old ++ note_line (note_tree note.now)) }
+    ensures fits { note.now.line < 2 ^ 32 }
 {
     let line = note.line;
     let name = note.name.as_str();

@@ -1,6 +1,6 @@
 // The lines before a module.
 
-ghost use Rattle.std.specs.Prelude.{◌≡◌, ◌++◌, length, map, OnOk, string_bytes};
+ghost use Rattle.std.specs.Prelude.{◌≡◌, ◌<◌, ◌^◌, ◌++◌, length, map, OnOk, string_bytes};
 ghost use Rattle.ae_sttype.specs.StTree.{st_tree};
 ghost use Rattle.ae_verilog.specs.NetlistModule.{each_numbered};
 ghost use Rattle.ae_verilog.specs.ReportLines.{report_tree, number_line, enable_line, in_line, out_line, report_lines};
@@ -29,13 +29,21 @@ pub struct Report {
 
 // The report lines.
 pub fn write_report(out: &mut String, report: &Report) -> Result<(), AllocError>
-    ensures { OnOk result (string_bytes out.new ≡ string_bytes out.old ++ report_lines (report_tree report.now)) }
+    ensures text { OnOk result (string_bytes out.new ≡ string_bytes out.old ++ report_lines (report_tree report.now)) }
+    ensures slowdown { report.now.slowdown < 2 ^ 32 }
+    ensures latency { report.now.latency < 2 ^ 32 }
+    ensures muls { report.now.muls < 2 ^ 32 }
+    ensures load { report.now.load < 2 ^ 32 }
 {
+    let slowdown = report.slowdown;
+    let latency = report.latency;
+    let muls = report.muls;
+    let load = report.load;
     write!(out, "// aeth 1\n")?;
-    write_number(out, "slowdown", report.slowdown)?;
-    write_number(out, "latency", report.latency)?;
-    write_number(out, "muls", report.muls)?;
-    write_number(out, "load", report.load)?;
+    write_number(out, "slowdown", slowdown)?;
+    write_number(out, "latency", latency)?;
+    write_number(out, "muls", muls)?;
+    write_number(out, "load", load)?;
     write_enable(out, report.enable)?;
     write_ins(out, report.ins.as_slice())?;
     write_outs(out, report.outs.as_slice())

@@ -1,29 +1,22 @@
-use Rattle.std.proofs.Common.{length, map, arith}
-use Rattle.ae_verilog.specs.Notes.{note_tree, lines_of}
-use Rattle.ae_verilog.specs.ReportLines.{report_tree, report_lines}
-use Rattle.ae_verilog.proofs.Comments.{report_comments}
-use Rattle.ae_verilog.proofs.Whole.{returns_spelled, returns_clean, returns_reports}
-use Rattle.ae_verilog.proofs.StarLaw.{one_star_each}
+use Rattle.std.proofs.Common.{Result, Ok, Err, IfOk, All, List, ◌<◌, ◌^◌, length, arith}
+use Rattle.ae_netlist.specs.declared.cell.SizedCell.{SizedCell}
+use Rattle.ae_netlist.specs.declared.cell.Outlet.{Outlet}
+use Rattle.ae_netlist.specs.Circuit.{IsFormed, HaveNets}
+use Rattle.ae_verilog.specs.Text.{PortFits, CellPortFits}
+use Rattle.ae_verilog.specs.Written.{IsListable}
 use Rattle.ae_verilog.proofs.write_module.Goals as goal
 
-pub returns-clause-spells : goal.returns-clause-spells
-returns-clause-spells c =
-    let report = report_tree c.args.report.now in
-    returns_spelled c.write_text.result (report_lines report) (map note_tree c.args.notes.now) c.args.nl.now.cells c.args.nl.now.outlets (length c.args.report.now.outs.items) (report_comments report) c.requires.printed c.formed.ensures.cells c.formed.ensures.outlets (omega arith)
-    (rw (c.cells.ensures, c.outlets.ensures, c.as_slice-outs.ensures.value) at c.write_text.ensures.text) (rw c.cells.ensures at c.write_text.ensures.inputs) (rw c.outlets.ensures at c.write_text.ensures.outputs)
-
-pub returns-clause-reports : goal.returns-clause-reports
-returns-clause-reports c =
-    returns_reports c.write_text.result (report_lines (report_tree c.args.report.now)) (map note_tree c.args.notes.now) c.cells.result.now c.outlets.result.now (length c.as_slice-outs.result.now) c.write_text.ensures.text
-
-pub returns-clause-clean : goal.returns-clause-clean
-returns-clause-clean c =
-    let report = report_tree c.args.report.now in
-    returns_clean c.write_text.result (report_lines report) (map note_tree c.args.notes.now) c.args.nl.now.cells c.args.nl.now.outlets (length c.args.report.now.outs.items) (report_comments report) c.requires.printed c.formed.ensures.cells c.formed.ensures.outlets (omega arith)
-    (rw (c.cells.ensures, c.outlets.ensures, c.as_slice-outs.ensures.value) at c.write_text.ensures.text) (rw c.cells.ensures at c.write_text.ensures.inputs) (rw c.outlets.ensures at c.write_text.ensures.outputs)
-
-pub returns-clause-stars : goal.returns-clause-stars
-returns-clause-stars c = one_star_each (lines_of (map note_tree c.args.notes.now) (length c.args.nl.now.cells)) c.args.nl.now.cells c.args.nl.now.outlets (length c.args.report.now.outs.items)
+returns_listable : {A E : Type 0} (r : Result A E) (cells : List SizedCell) (outlets : List Outlet) → IsFormed cells → HaveNets cells outlets → length cells < 2 ^ 32 →
+    IfOk r (λ text. All (λ (sized : SizedCell). CellPortFits sized.cell) cells) → IfOk r (λ text. All (λ (outlet : Outlet). PortFits outlet.port) outlets) → IfOk r (λ text. IsListable cells outlets)
+returns_listable (Ok text) cells outlets formed shown few ins outs = record { formed = formed; shown = shown; few = few; inputs = ins; outputs = outs }
+returns_listable (Err x) cells outlets formed shown few ins outs = tt
 
 pub returns-clause-text : goal.returns-clause-text
 returns-clause-text c = rw (c.cells.ensures, c.outlets.ensures, c.as_slice-outs.ensures.value) at c.write_text.ensures.text
+
+pub returns-clause-listable : goal.returns-clause-listable
+returns-clause-listable c =
+    returns_listable c.write_text.result c.args.nl.now.cells c.args.nl.now.outlets c.formed.ensures.cells c.formed.ensures.outlets (omega arith) (rw c.cells.ensures at c.write_text.ensures.inputs) (rw c.outlets.ensures at c.write_text.ensures.outputs)
+
+pub returns-clause-numbers : goal.returns-clause-numbers
+returns-clause-numbers c = c.write_text.ensures.numbers

@@ -1,9 +1,19 @@
-use Rattle.std.proofs.Common.{map, slice_index, ap, ◌∙◌}
-use Rattle.ae_verilog.specs.Notes.{note_tree}
+use Rattle.std.proofs.Common.{◌<◌, ◌^◌, map, slice_index, ap, ◌∙◌}
+use Rattle.std.proofs.lemmas.List.Elements.{All-map}
+use Rattle.ae_verilog.specs.Notes.{NoteTree, note_tree}
 use Rattle.ae_verilog.proofs.Steps.{text_steps}
 use Rattle.ae_verilog.proofs.write_text.Goals as goal
 
 pub returns-clause-text : goal.returns-clause-text
 returns-clause-text c =
-    text_steps (slice_index c.as_slice.result.now) _ (map note_tree c.args.notes.now) c.args.cells.now c.args.outlets.now c.args.outs _ _ _ _ _ _ _ _ (ap slice_index c.as_slice.ensures.value ∙ c.in_ok-lines.ensures) c.new-out.ensures.bytes c.in_ok-write_report.ensures c.in_ok-write.ensures.bytes c.in_ok-write_header.ensures.text
-    c.in_ok-write_cells.ensures c.in_ok-write_outlets.ensures c.in_ok-write_edges.ensures c.in_ok-write-2.ensures.bytes
+    text_steps (slice_index c.as_slice.result.now) _ (map note_tree c.args.notes.now) c.args.cells.now c.args.outlets.now c.args.outs _ _ _ _ _ _ _ _ (ap slice_index c.as_slice.ensures.value ∙ c.in_ok-lines.ensures) c.new-out.ensures.bytes c.in_ok-write_report.ensures.text c.in_ok-write.ensures.bytes c.in_ok-write_header.ensures.text
+    c.in_ok-write_cells.ensures.text c.in_ok-write_outlets.ensures c.in_ok-write_edges.ensures c.in_ok-write-2.ensures.bytes
+
+pub returns-clause-numbers : goal.returns-clause-numbers
+returns-clause-numbers c = record {
+  slowdown = c.write_report.ensures.slowdown;
+  latency = c.write_report.ensures.latency;
+  muls = c.write_report.ensures.muls;
+  load = c.write_report.ensures.load;
+  lines = All-map (λ (n : NoteTree). n.line < 2 ^ 32) note_tree c.args.notes.now c.in_ok-write_cells.ensures.fits;
+}

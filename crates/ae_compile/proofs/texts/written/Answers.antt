@@ -1,11 +1,11 @@
-use Rattle.std.proofs.Common.{◌≡◌, ℕ, length, map, arith, sym, subst}
+use Rattle.std.proofs.Common.{◌≡◌, ℕ, List, length, map, arith, ap, sym, subst, ◌∙◌}
 use Rattle.std.specs.Prelude.{string_bytes}
+use Rattle.std.specs.List.{list_all}
 use Rattle.std.proofs.lemmas.List.{length-map}
 use Rattle.ae_sttype.specs.StTree.{st_tree}
-use Rattle.ae_netlist.specs.Counts.{count_of, is_mul}
-use Rattle.ae_vread.specs.Spells.{Spells, stars}
-use Rattle.ae_verilog.specs.Notes.{note_tree, noted_module}
-use Rattle.ae_verilog.specs.ReportLines.{report_lines, report_tree}
+use Rattle.ae_vread.specs.Spells.{Spells}
+use Rattle.ae_verilog.specs.Notes.{NoteTree, note_tree, noted_module}
+use Rattle.ae_verilog.specs.ReportLines.{is_clean, report_lines, report_tree}
 use Rattle.ae_verilog.specs.Text.{whole_text}
 use Rattle.ae_compile.proofs.texts.written.Goals as goal
 
@@ -15,15 +15,20 @@ write_module-requires c = record { printed = rw c.deref.ensures.value c.requires
 pub returns : goal.returns
 returns c =
     let d = c.args.compiled.now in
-    let text = string_bytes c.in_ok-text.text in
+    let text : List ℕ = string_bytes c.in_ok-text.text in
     let report = report_tree d.report in
-    let many = sym (length-map d.report.outs.items st_tree) in
+    let notes : List NoteTree = map note_tree d.notes.items in
+    let outs : ℕ = length report.outs in
+    let listed : text ≡ whole_text (report_lines report) notes d.netlist.cells d.netlist.outlets outs =
+    subst (λ (k : ℕ). text ≡ whole_text (report_lines report) notes d.netlist.cells d.netlist.outlets k) (sym (length-map d.report.outs.items st_tree)) (rw c.deref.ensures.value at c.in_ok-text.ensures.text) in
+    let law = c.listings_spell.ensures in
+    let begins = law.reports report notes d.netlist.cells d.netlist.outlets outs in
     record {
-      spells = subst (λ (k : ℕ). Spells text (noted_module (map note_tree d.notes.items) d.netlist.cells d.netlist.outlets k)) many (rw c.deref.ensures.value at c.in_ok-text.ensures.spells);
-      stars_are = subst (λ (k : ℕ). stars (noted_module (map note_tree d.notes.items) d.netlist.cells d.netlist.outlets k) ≡ count_of is_mul d.netlist.cells) many (rw c.deref.ensures.value at c.in_ok-text.ensures.stars);
-      rest = c.in_ok-text.ensures.reports.0;
-      reports = c.in_ok-text.ensures.reports.1;
-      clean = c.in_ok-text.ensures.clean;
+      spells = subst (λ (l : List ℕ). Spells l (noted_module notes d.netlist.cells d.netlist.outlets outs)) (sym listed) (law.spells report notes d.netlist.cells d.netlist.outlets outs c.requires c.in_ok-text.ensures.listable);
+      stars_are = law.stars notes d.netlist.cells d.netlist.outlets outs;
+      rest = begins.0;
+      reports = listed ∙ begins.1;
+      clean = ap (list_all is_clean) listed ∙ law.clean report notes d.netlist.cells d.netlist.outlets outs c.requires c.in_ok-text.ensures.listable;
       few = omega (arith, c.len.ensures, c.if-len-gt4294967295.false);
-      listed = subst (λ (k : ℕ). text ≡ whole_text (report_lines report) (map note_tree d.notes.items) d.netlist.cells d.netlist.outlets k) many (rw c.deref.ensures.value at c.in_ok-text.ensures.text);
+      listed = listed;
     }

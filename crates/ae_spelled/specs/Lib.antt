@@ -1,0 +1,2 @@
+pub mod ModulePorts
+pub mod Short
