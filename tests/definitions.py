@@ -53,8 +53,15 @@ class File:
 FILES = {}
 
 
+def home_of(crate, module):
+    """The crate that a module stands in, where this one only passes it on."""
+    lib = CRATES / crate / "specs" / "Lib.antt"
+    passed = re.search(rf"^pub use Rattle\.(\w+)\.specs\.{re.escape(module)}$", lib.read_text(), re.M) if lib.is_file() else None
+    return home_of(passed[1], module) if passed else crate
+
+
 def file_of(crate, module):
-    path = CRATES / crate / "specs" / (module.replace(".", "/") + ".antt")
+    path = CRATES / home_of(crate, module) / "specs" / (module.replace(".", "/") + ".antt")
     if path not in FILES:
         FILES[path] = File(path) if path.is_file() else None
     return FILES[path]

@@ -17,11 +17,11 @@ use Rattle.ae_vread.specs.declared.module.NetKind.{NetKind}
 use Rattle.ae_vread.specs.declared.module.NetKind.TheVariants.{Input, Wire, OutWire, Reg, OutReg, Memory}
 use Rattle.ae_vread.specs.ModuleTree.{NetTree, ModuleTree}
 use Rattle.ae_judge.specs.Names.{is_clock, is_input_kind, is_register_kind}
-use Rattle.ae_elab.specs.SameRuns.{is_input_cell, is_state_cell, cell_depth, input_cells, kind_depth}
-use Rattle.ae_elab.specs.Named.{StandsFor}
+use Rattle.ae_runs.specs.SameRuns.{is_input_cell, is_state_cell, cell_depth, input_cells, kind_depth}
+use Rattle.ae_runs.specs.Named.{StandsFor}
 use Rattle.ae_elab.specs.Declaring.{Adds, AreDeclared, ArePlainInputs, IsUnconnected, given_cell, is_data_input, is_given, is_state, number_of, with_nets}
-use Rattle.ae_elab.proofs.Words.{left_out}
-use Rattle.ae_elab.proofs.NetLaws.{stands_later}
+use Rattle.ae_gates.proofs.Words.{left_out}
+use Rattle.ae_express.proofs.NetLaws.{stands_later}
 
 -- a cell that passes comes last
 pub taken_in : (check : Cell → Bool) (k : ℕ) (cells : List SizedCell) (c : SizedCell) → check c.cell ≡ true

@@ -14,12 +14,12 @@ use Rattle.ae_vread.specs.declared.module.NetKind.{NetKind}
 use Rattle.ae_vread.specs.declared.module.NetKind.TheVariants.{Input, Wire, OutWire, Reg as RegName, OutReg, Memory}
 use Rattle.ae_vread.specs.ModuleTree.{NetTree}
 use Rattle.ae_judge.specs.Names.{is_register_kind, is_memory_kind}
-use Rattle.ae_elab.specs.SameRuns.{is_input_cell, is_state_cell, cell_depth}
+use Rattle.ae_runs.specs.SameRuns.{is_input_cell, is_state_cell, cell_depth}
 use Rattle.ae_elab.specs.Declaring.{IsUnconnected, is_state}
 use Rattle.ae_elab.specs.Connecting.{Connects}
-use Rattle.ae_elab.specs.Edges.{FitsNext, IsConnected, KeepsConstants, OthersStay}
-use Rattle.ae_elab.specs.declared.statements.Next.{Next}
-use Rattle.ae_elab.specs.declared.statements.Next.TheVariants.{Keep, Word, Write}
+use Rattle.ae_assign.specs.Edges.{FitsNext, IsConnected, KeepsConstants, OthersStay}
+use Rattle.ae_assign.specs.declared.statements.Next.{Next}
+use Rattle.ae_assign.specs.declared.statements.Next.TheVariants.{Keep, Word, Write}
 
 inputs_set : (k : ℕ) (cells : List SizedCell) (r : ℕ) (x y : SizedCell) → slice_get cells r ≡ Some x → is_input_cell x.cell ≡ false → is_input_cell y.cell ≡ false
     → filter (λ (z : ℕ × SizedCell). is_input_cell z.1.cell) (enumerate_from k (set cells r y)) ≡ filter (λ (z : ℕ × SizedCell). is_input_cell z.1.cell) (enumerate_from k cells)

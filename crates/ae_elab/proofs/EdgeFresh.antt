@@ -10,18 +10,18 @@ use Rattle.ae_vread.specs.declared.module.NetKind.{NetKind}
 use Rattle.ae_vread.specs.declared.module.NetKind.TheVariants.{Input, Wire, OutWire, Reg, OutReg, Memory}
 use Rattle.ae_vread.specs.ModuleTree.{NetTree, ItemTree, nets, assigns, always, ModuleTree}
 use Rattle.ae_judge.specs.Names.{Among, is_memory, is_memory_kind, is_register_kind, item_targets, net_named, passes}
-use Rattle.ae_elab.specs.Runs.{after_items, next_clock}
+use Rattle.ae_runs.specs.Runs.{after_items, next_clock}
 use Rattle.ae_judge.specs.Faults.{IsRepeated, may_repeat}
 use Rattle.ae_judge.specs.Regular.{IsRegular}
-use Rattle.ae_elab.specs.Cells.{Grows}
-use Rattle.ae_elab.specs.Named.{AreNamed, place_of, read}
+use Rattle.ae_gates.specs.Cells.{Grows}
+use Rattle.ae_runs.specs.Named.{AreNamed, place_of, read}
 use Rattle.ae_elab.specs.Declaring.{AreUnconnected, IsUnconnected}
-use Rattle.ae_elab.specs.Edges.{FitsNext, FitNexts, AreFresh, ActsItems, next_word, next_store, next_read}
-use Rattle.ae_elab.specs.declared.statements.Next.{Next}
-use Rattle.ae_elab.specs.declared.statements.Next.TheVariants.{Keep}
+use Rattle.ae_assign.specs.Edges.{FitsNext, FitNexts, AreFresh, ActsItems, next_word, next_store, next_read}
+use Rattle.ae_assign.specs.declared.statements.Next.{Next}
+use Rattle.ae_assign.specs.declared.statements.Next.TheVariants.{Keep}
 use Rattle.ae_judge.proofs.Members.{among_from, among_unflat}
-use Rattle.ae_elab.proofs.Declared.{item_at}
-use Rattle.ae_elab.proofs.EdgeLaws.{same_clocks}
+use Rattle.ae_runs.proofs.Declared.{item_at}
+use Rattle.ae_assign.proofs.EdgeLaws.{same_clocks}
 
 kept_all : (n p : ℕ) (k : Next) → slice_get (replicate n Keep) p ≡ Some k → k ≡ Keep
 kept_all zero p k h = absurd (let e : None ≡ Some k = h in cc)

@@ -7,15 +7,15 @@ use Rattle.ae_netlist.specs.Circuit.{Circuit}
 use Rattle.ae_netlist.specs.Runs.{Clock, IsRun, Carries}
 use Rattle.ae_vread.specs.ModuleTree.{StmtTree, NetTree, ItemTree, always}
 use Rattle.ae_judge.specs.Names.{item_targets}
-use Rattle.ae_elab.specs.Runs.{after_items}
-use Rattle.ae_elab.specs.Cells.{Grows}
-use Rattle.ae_elab.specs.Named.{AreNamed, read}
-use Rattle.ae_elab.specs.Edges.{IsActiveItem, FitNexts, AreFresh, OthersKeep, Acts, ActsItems, edge_weight, next_read}
-use Rattle.ae_elab.specs.declared.statements.Next.{Next}
+use Rattle.ae_runs.specs.Runs.{after_items}
+use Rattle.ae_gates.specs.Cells.{Grows}
+use Rattle.ae_runs.specs.Named.{AreNamed, read}
+use Rattle.ae_assign.specs.Edges.{IsActiveItem, FitNexts, AreFresh, OthersKeep, Acts, ActsItems, edge_weight, next_read}
+use Rattle.ae_assign.specs.declared.statements.Next.{Next}
 use Rattle.std.proofs.lemmas.List.Sums.{sum_by-cons}
-use Rattle.ae_elab.proofs.Guarded.{guards_do}
-use Rattle.ae_elab.proofs.Words.{back, grows_refl, grows_trans}
-use Rattle.ae_elab.proofs.EdgeFits.{fresh_left, fresh_right}
+use Rattle.ae_runs.proofs.Guarded.{guards_do}
+use Rattle.ae_gates.proofs.Words.{back, grows_refl, grows_trans}
+use Rattle.ae_assign.proofs.EdgeFits.{fresh_left, fresh_right}
 
 module _ (from : ℕ) (ns : List NetTree) (ys : List (Option NetId)) where
   -- an `always` item, which nothing guards

@@ -11,10 +11,10 @@ use Rattle.ae_judge.specs.Names.{is_register_kind, is_memory_kind}
 use Rattle.ae_judge.specs.Faults.{NetAt}
 use Rattle.ae_elab.specs.Declaring.{AreUnconnected, IsUnconnected, is_state}
 use Rattle.ae_elab.specs.Connecting.{Connects}
-use Rattle.ae_elab.specs.Edges.{FitNexts, IsConnected}
-use Rattle.ae_elab.specs.declared.statements.Next.{Next}
+use Rattle.ae_assign.specs.Edges.{FitNexts, IsConnected}
+use Rattle.ae_assign.specs.declared.statements.Next.{Next}
 use Rattle.ae_elab.proofs.EdgeConnects.{IsJoined, connects_refl, connects_trans}
-use Rattle.ae_elab.proofs.EdgeFits.{nexts_keep, same_or_not}
+use Rattle.ae_assign.proofs.EdgeFits.{nexts_keep, same_or_not}
 
 -- the cell of a net stays, so what it was connected to does
 connected_stays : (k : NetKind) (a b : List SizedCell) (net w : ℕ) (n : Next) → slice_get b net ≡ slice_get a net → IsConnected k a net w n → IsConnected k b net w n

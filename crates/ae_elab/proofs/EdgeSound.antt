@@ -12,14 +12,14 @@ use Rattle.ae_judge.specs.Widths.{width_of, own_width}
 use Rattle.ae_judge.specs.Faults.{NetAt, is_place, is_misused, is_misused_in_stmt, is_outside, is_outside_of, is_too_wide, is_too_wide_in_stmt, is_too_wide_in_item}
 use Rattle.ae_judge.specs.Shape.{IsLettered, IsPlaced, EachInStmt, IsShapely, IsLetteredItem, IsPlacedItem}
 use Rattle.ae_judge.specs.Regular.{IsRegular}
-use Rattle.ae_elab.specs.Named.{IsNamed, IsReady, place_of}
-use Rattle.ae_elab.specs.Sound.{IsSound, IsSoundIndex, place_number}
+use Rattle.ae_runs.specs.Named.{IsNamed, IsReady, place_of}
+use Rattle.ae_order.specs.Sound.{IsSound, IsSoundIndex, place_number}
 use Rattle.ae_elab.specs.Declaring.{HasNet}
-use Rattle.ae_elab.specs.Edges.{IsSoundStmt, IsReadyStmt, IsActiveItem}
+use Rattle.ae_assign.specs.Edges.{IsSoundStmt, IsReadyStmt, IsActiveItem}
 use Rattle.ae_judge.proofs.Members.{among_at, among_from, among_left, among_right}
-use Rattle.ae_elab.proofs.Declared.{IsData, not_true, not_false, declared_or_not, item_at, body_readable}
-use Rattle.ae_elab.proofs.Clocks.{clock_input}
-use Rattle.ae_elab.proofs.SoundOf.{all_at, inside_place, is_the_place, named_of, not_less, not_place, outside_varying, place_is, sound_of}
+use Rattle.ae_runs.proofs.Declared.{IsData, not_true, not_false, declared_or_not, item_at, body_readable}
+use Rattle.ae_runs.proofs.Clocks.{clock_input}
+use Rattle.ae_order.proofs.SoundOf.{all_at, inside_place, is_the_place, named_of, not_less, not_place, outside_varying, place_is, sound_of}
 use Rattle.ae_elab.proofs.Wiring.{ready_for}
 
 register_no_input : (k : NetKind) → is_register_kind k ≡ true → is_input_kind k ≡ false

@@ -11,20 +11,20 @@ use Rattle.ae_vread.specs.declared.module.NetKind.{NetKind}
 use Rattle.ae_vread.specs.declared.module.NetKind.TheVariants.{Input, Wire, OutWire, Reg as RegName, OutReg, Memory}
 use Rattle.ae_vread.specs.ModuleTree.{NetTree, ModuleTree}
 use Rattle.ae_judge.specs.Names.{Among, is_clock, is_input_kind}
-use Rattle.ae_elab.specs.Values.{ModuleClock}
-use Rattle.ae_elab.specs.Runs.{StepsTo, IsStep, next_clock}
+use Rattle.ae_runs.specs.Values.{ModuleClock}
+use Rattle.ae_runs.specs.Runs.{StepsTo, IsStep, next_clock}
 use Rattle.ae_judge.specs.Faults.{NetAt}
 use Rattle.ae_judge.specs.Regular.{IsRegular}
 use Rattle.ae_judge.specs.Shape.{IsShapely}
-use Rattle.ae_elab.specs.Named.{AreNamed, place_of, read}
+use Rattle.ae_runs.specs.Named.{AreNamed, place_of, read}
 use Rattle.ae_elab.specs.Declaring.{HasNet}
 use Rattle.ae_elab.specs.Connecting.{Connects}
-use Rattle.ae_elab.specs.Edges.{FitsNext, FitNexts, IsConnected, next_at, next_word, next_store, next_read, next_net}
-use Rattle.ae_elab.specs.declared.statements.Next.{Next}
-use Rattle.ae_elab.specs.declared.statements.Next.TheVariants.{Keep, Word, Write}
+use Rattle.ae_assign.specs.Edges.{FitsNext, FitNexts, IsConnected, next_at, next_word, next_store, next_read, next_net}
+use Rattle.ae_assign.specs.declared.statements.Next.{Next}
+use Rattle.ae_assign.specs.declared.statements.Next.TheVariants.{Keep, Word, Write}
 use Rattle.ae_judge.proofs.Members.{among_at}
-use Rattle.ae_elab.proofs.Clocks.{clock_input}
-use Rattle.ae_elab.proofs.SoundOf.{place_is}
+use Rattle.ae_runs.proofs.Clocks.{clock_input}
+use Rattle.ae_order.proofs.SoundOf.{place_is}
 
 -- the net that a register takes has what is next
 net_word : (k : Next) (run : List Clock) (t own : ℕ) → word_at run t (next_net k own).0 ≡ next_word k run t own

@@ -14,23 +14,24 @@ use Rattle.ae_vread.specs.declared.module.NetKind.TheVariants.{Input, Wire, OutW
 use Rattle.ae_vread.specs.ModuleTree.{NetTree, DriveTree, ModuleTree}
 use Rattle.ae_judge.specs.Names.{Among, equations, is_memory_kind, is_register_kind, net_named}
 use Rattle.ae_judge.specs.Widths.{width_of}
-use Rattle.ae_elab.specs.Values.{assigned}
-use Rattle.ae_elab.specs.Runs.{IsSettled, IsStep}
-use Rattle.ae_elab.specs.SameRuns.{cell_depth, input_cells, kind_depth, state_cells}
+use Rattle.ae_runs.specs.Values.{assigned}
+use Rattle.ae_runs.specs.Runs.{IsSettled, IsStep}
+use Rattle.ae_runs.specs.SameRuns.{cell_depth, input_cells, kind_depth, state_cells}
 use Rattle.ae_judge.specs.Faults.{NetAt}
 use Rattle.ae_judge.specs.Shape.{IsShapely}
 use Rattle.ae_judge.specs.Regular.{IsRegular}
-use Rattle.ae_elab.specs.Named.{AreNamed, AreNets, IsNamed, StandsFor, place_of, read}
-use Rattle.ae_elab.specs.Realizes.{Realizes}
+use Rattle.ae_runs.specs.Named.{AreNamed, AreNets, IsNamed, StandsFor, place_of, read}
+use Rattle.ae_runs.specs.Realizes.{Realizes}
 use Rattle.ae_elab.specs.Declaring.{AreDeclared, ArePlainInputs, ArePlainOutlets, AreUnconnected, HasNet, HasPlainPorts, IsUnconnected, is_data_input, is_given, is_output, is_state, number_of, with_nets}
-use Rattle.ae_elab.specs.Wiring.{AreWired, KeepsNets, fitted}
+use Rattle.ae_elab.specs.Wiring.{AreWired, KeepsNets}
+use Rattle.ae_express.specs.Lowered.{fitted}
 use Rattle.ae_elab.specs.Connecting.{Connects}
 use Rattle.ae_judge.proofs.Members.{among_at}
-use Rattle.ae_elab.proofs.Declared.{driven_net, net_found}
-use Rattle.ae_elab.proofs.Clocks.{wire_no_clock}
-use Rattle.ae_elab.proofs.DriveLaws.{value_driven}
-use Rattle.ae_elab.proofs.SoundLaws.{named_width}
-use Rattle.ae_elab.proofs.SoundOf.{named_of, place_is}
+use Rattle.ae_runs.proofs.Declared.{driven_net, net_found}
+use Rattle.ae_runs.proofs.Clocks.{wire_no_clock}
+use Rattle.ae_order.proofs.DriveLaws.{value_driven}
+use Rattle.ae_order.proofs.SoundLaws.{named_width}
+use Rattle.ae_order.proofs.SoundOf.{named_of, place_is}
 
 -- the number of a name's net
 abbrev pub at_of : List NetTree → List (Option NetId) → List ℕ → ℕ

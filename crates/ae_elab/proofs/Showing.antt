@@ -12,10 +12,10 @@ use Rattle.ae_vread.specs.declared.module.NetKind.{NetKind}
 use Rattle.ae_vread.specs.declared.module.NetKind.TheVariants.{Input, Wire, OutWire, Reg, OutReg, Memory}
 use Rattle.ae_vread.specs.ModuleTree.{NetTree}
 use Rattle.ae_judge.specs.Names.{is_output_kind}
-use Rattle.ae_elab.specs.Named.{StandsFor}
+use Rattle.ae_runs.specs.Named.{StandsFor}
 use Rattle.ae_elab.specs.Declaring.{ArePlainOutlets, is_output, shown, with_nets}
 use Rattle.ae_elab.proofs.Declaring.{with_nets_push}
-use Rattle.ae_elab.proofs.NetLaws.{own_net}
+use Rattle.ae_express.proofs.NetLaws.{own_net}
 
 -- an output is no memory
 pub output_net : (k : NetKind) (cells : List SizedCell) (n w : ℕ) → is_output_kind k ≡ true → StandsFor k cells n w → IsNet cells n (width_of cells n)

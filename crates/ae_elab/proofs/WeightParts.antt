@@ -6,7 +6,7 @@ use Rattle.std.proofs.lemmas.List.Sums.{sum_by-append, sum_by-cons}
 use Rattle.ae_vread.specs.ModuleTree.{ItemTree, nets, assigns, always, ModuleTree}
 use Rattle.ae_judge.specs.Names.{drives_of, equations}
 use Rattle.ae_judge.specs.Weight.{drive_weight, item_weight, weight}
-use Rattle.ae_elab.specs.Edges.{edge_weight}
+use Rattle.ae_assign.specs.Edges.{edge_weight}
 
 parted : (i : ItemTree) → item_weight i ≡ sum_by drive_weight (drives_of i) + edge_weight i
 parted (nets drives) = omega arith

@@ -16,18 +16,19 @@ use Rattle.ae_judge.specs.Faults.{NetAt}
 use Rattle.ae_judge.specs.Weight.{drive_weight, expr_weight}
 use Rattle.ae_judge.specs.Shape.{IsShapely}
 use Rattle.ae_judge.specs.Regular.{IsRegular}
-use Rattle.ae_elab.specs.Cells.{Grows, IsWord}
-use Rattle.ae_elab.specs.Named.{AreNamed, IsReady, StandsFor, place_of, read}
-use Rattle.ae_elab.specs.Sound.{IsReadyFor}
-use Rattle.ae_elab.specs.Drives.{FeedsAt, IsWireOrder, noted, values_of, with_drive}
+use Rattle.ae_gates.specs.Cells.{Grows, IsWord}
+use Rattle.ae_runs.specs.Named.{AreNamed, IsReady, StandsFor, place_of, read}
+use Rattle.ae_order.specs.Sound.{IsReadyFor}
+use Rattle.ae_order.specs.Drives.{FeedsAt, IsWireOrder, noted, values_of, with_drive}
 use Rattle.ae_elab.specs.Declaring.{AreDeclared, HasNet, is_given}
-use Rattle.ae_elab.specs.Wiring.{AreWired, IsWiring, KeepsNets, fitted, open_weight}
+use Rattle.ae_elab.specs.Wiring.{AreWired, IsWiring, KeepsNets, open_weight}
+use Rattle.ae_express.specs.Lowered.{fitted}
 use Rattle.ae_judge.proofs.Members.{among_from, among_left, among_right}
-use Rattle.ae_elab.proofs.Declared.{driven_kind, driven_net, equation_readable, named_net, wire_driven}
-use Rattle.ae_elab.proofs.DriveLaws.{value_driven, value_equation}
-use Rattle.ae_elab.proofs.SoundOf.{named_of, place_is}
-use Rattle.ae_elab.proofs.Words.{word_grows}
-use Rattle.ae_elab.proofs.NetLaws.{nets_grow}
+use Rattle.ae_runs.proofs.Declared.{driven_kind, driven_net, equation_readable, named_net, wire_driven}
+use Rattle.ae_order.proofs.DriveLaws.{value_driven, value_equation}
+use Rattle.ae_order.proofs.SoundOf.{named_of, place_is}
+use Rattle.ae_gates.proofs.Words.{word_grows}
+use Rattle.ae_express.proofs.NetLaws.{nets_grow}
 
 pub some_at : {X : Type 0} (xs : List X) (p : ℕ) → p < length xs → (x : X) × (slice_get xs p ≡ Some x)
 some_at [] p l = absurd (omega arith)

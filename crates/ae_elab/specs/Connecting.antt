@@ -3,7 +3,7 @@ use Rattle.std.specs.Prelude.{ℕ, ◌≡◌, Option, map}
 use Rattle.ae_netlist.specs.declared.cell.SizedCell.{SizedCell}
 use Rattle.ae_netlist.specs.Circuit.{Circuit, IsMemory}
 use Rattle.ae_netlist.specs.Runs.{Carries}
-use Rattle.ae_elab.specs.SameRuns.{cell_depth, input_cells, state_cells}
+use Rattle.ae_runs.specs.SameRuns.{cell_depth, input_cells, state_cells}
 
 -- only cells before a number have changed: each register and each memory is still one, of its width and depth
 pub record Connects (from : ℕ) (old new : Circuit) : Type 0 where

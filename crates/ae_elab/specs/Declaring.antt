@@ -11,8 +11,8 @@ use Rattle.ae_vread.specs.declared.module.NetKind.TheVariants.{Input, Wire, OutW
 use Rattle.ae_vread.specs.ModuleTree.{NetTree, ModuleTree}
 use Rattle.ae_judge.specs.Names.{is_clock, is_input_kind, is_memory_kind, is_output_kind, is_register_kind}
 use Rattle.ae_judge.specs.Faults.{NetAt}
-use Rattle.ae_elab.specs.SameRuns.{cell_depth, input_cells, kind_depth, state_cells}
-use Rattle.ae_elab.specs.Named.{StandsFor}
+use Rattle.ae_runs.specs.SameRuns.{cell_depth, input_cells, kind_depth, state_cells}
+use Rattle.ae_runs.specs.Named.{StandsFor}
 
 -- an input but the clock, and a register or a memory
 abbrev pub is_data_input : ModuleTree → NetTree → Bool

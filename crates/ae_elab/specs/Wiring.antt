@@ -1,21 +1,16 @@
 -- The nets of wires, each from the value of its equation.
-use Rattle.std.specs.Prelude.{ℕ, ◌≡◌, ◌+◌, ◌%◌, ◌^◌, ◌<◌, ◌≤◌, true, false, max, List, [], ◌∷◌, length, Option, Some, None, slice_get}
+use Rattle.std.specs.Prelude.{ℕ, ◌≡◌, ◌+◌, ◌<◌, ◌≤◌, true, false, List, [], ◌∷◌, length, Option, Some, None, slice_get}
 use Rattle.ae_netlist.specs.declared.cell.NetId.{NetId}
 use Rattle.ae_netlist.specs.declared.cell.SizedCell.{SizedCell}
 use Rattle.ae_vread.specs.ModuleTree.{ExprTree, NetTree, ModuleTree}
 use Rattle.ae_judge.specs.Names.{is_clock}
 use Rattle.ae_judge.specs.Faults.{NetAt}
-use Rattle.ae_judge.specs.Widths.{own_width}
 use Rattle.ae_judge.specs.Weight.{expr_weight}
-use Rattle.ae_elab.specs.Values.{ModuleClock, value_at}
-use Rattle.ae_elab.specs.Cells.{IsWord}
-use Rattle.ae_elab.specs.Named.{AreNamed, AreNets, read}
-use Rattle.ae_elab.specs.Drives.{values_of}
+use Rattle.ae_gates.specs.Cells.{IsWord}
+use Rattle.ae_express.specs.Lowered.{fitted}
+use Rattle.ae_runs.specs.Named.{AreNamed, AreNets, read}
+use Rattle.ae_order.specs.Drives.{values_of}
 use Rattle.ae_elab.specs.Declaring.{HasNet, is_given}
-
--- what a target of this width is given: computed at the greater of both widths, and cut to the target's
-abbrev pub fitted : List NetTree → ModuleClock → (width : ℕ) → ExprTree → ℕ
-fitted ns c width e = value_at ns c (max (own_width ns e) width) e % 2 ^ width
 
 -- each wire that has a net has there what its equation gives it
 abbrev pub AreWires : ModuleTree → ℕ → List (Option NetId) → List SizedCell → Type 0

@@ -7,20 +7,19 @@ ghost use Rattle.ae_judge.specs.Weight.{weight};
 ghost use Rattle.ae_judge.specs.Faults.{IsFault, IsWellFormed};
 ghost use Rattle.ae_judge.specs.Regular.{IsRegular};
 ghost use Rattle.ae_judge.specs.Shape.{IsShapely};
-ghost use Rattle.ae_elab.specs.SameRuns.{HasSameRuns};
-ghost use Rattle.ae_elab.specs.Drives.{IsWireOrder, values_of};
+ghost use Rattle.ae_runs.specs.SameRuns.{HasSameRuns};
+ghost use Rattle.ae_order.specs.Drives.{IsWireOrder, values_of};
 ghost use Rattle.ae_elab.specs.Declaring.{HasPlainPorts};
-ghost use Rattle.ae_elab.specs.Realizes.{Realizes};
+ghost use Rattle.ae_runs.specs.Realizes.{Realizes};
 
 use crate::declare::declare_nets;
 use crate::edges::perform;
-use crate::laws::same_runs;
-use crate::order::{drive_values, wire_order};
 use crate::outputs::add_outputs;
-use crate::sort::OrderFault;
 use crate::wires::add_wires;
-use ae_judge::{ElabFault, Names, is_large, judge, spelled_shape};
+use ae_judge::{ElabFault, Names, judge, spelled_shape};
 use ae_netlist::{Netlist, has_one_run};
+use ae_order::{drive_values, sorted_wires};
+use ae_runs::same_runs;
 use ae_vread::{Expr, VModule};
 use std::alloc::{AllocError, Global};
 
@@ -55,30 +54,21 @@ fn construct(
     Ok(nl)
 }
 
-/// An order of the wires of a module that is well formed, or the module's fault.
-fn sorted_wires(
-    alloc: Global,
-    names: &Names<'_>,
-    m: &VModule,
-    values: &[Option<&Expr>],
-) -> Result<Vec<u32>, ElabFault>
+/// The netlist of a module that has no fault but, it may be, a loop or too great a weight.
+fn ordered(alloc: Global, names: &Names<'_>, m: &VModule) -> Result<Netlist, ElabFault>
     requires names { names.now ≡ (module_tree m.now).nets }
     requires shape { IsShapely (module_tree m.now) }
     requires regular { IsRegular (module_tree m.now) }
-    requires values { map (λ v. option_map (λ e. expr_tree e.now) v) values.now ≡ values_of (module_tree m.now) }
-    ensures sorted { IfOk result (λ order. IsWireOrder (module_tree m.now) order.items) }
     ensures well_formed { OnOk result (IsWellFormed (module_tree m.now)) }
     ensures fault { IfErr result (λ f. IsFault (module_tree m.now) f) }
+    ensures realizes { IfOk result (λ n. (at : List ℕ → ℕ) × Realizes (module_tree m.now) n at) }
+    ensures few { IfOk result (λ n. length n.cells ≤ 8 * weight (module_tree m.now)) }
+    ensures plain { IfOk result (λ n. HasPlainPorts n) }
 {
-    let order = match wire_order(alloc, names, m, values) {
-        Ok(order) => order,
-        Err(OrderFault::Loop(net)) => return Err(ElabFault::Loop { net }),
-        Err(OrderFault::Memory) => return Err(ElabFault::Memory),
-    };
-    if is_large(m) {
-        return Err(ElabFault::Large);
-    }
-    Ok(order)
+    let values = drive_values(alloc, names, m)?;
+    let order = sorted_wires(alloc, names, m, &values)?;
+    let nl = construct(alloc, names, m, &values, &order)?;
+    Ok(nl)
 }
 
 /// The netlist of a module: it has the module's runs, whatever the order of the items. Its inputs are the module's but
@@ -97,9 +87,7 @@ pub fn elaborate(alloc: Global, m: &VModule) -> Result<Netlist, ElabFault>
     spelled_shape();
     let names = Names::of(alloc, &m.nets)?;
     judge(alloc, m, &names)?;
-    let values = drive_values(alloc, &names, m)?;
-    let order = sorted_wires(alloc, &names, m, &values)?;
-    let nl = construct(alloc, &names, m, &values, &order)?;
+    let nl = ordered(alloc, &names, m)?;
     has_one_run(&nl);
     same_runs();
     Ok(nl)

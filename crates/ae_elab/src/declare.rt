@@ -7,10 +7,10 @@ ghost use Rattle.ae_netlist.specs.Circuit.{new_memory, new_register};
 ghost use Rattle.ae_netlist.specs.Counts.{count_of, is_input};
 ghost use Rattle.ae_judge.specs.Regular.{IsRegular};
 ghost use Rattle.ae_judge.specs.Shape.{IsShapely};
-ghost use Rattle.ae_elab.specs.Cells.{HasRoom};
+ghost use Rattle.ae_gates.specs.Cells.{HasRoom};
 ghost use Rattle.ae_elab.specs.Declaring.{Adds, AreDeclared, given_cell};
 
-use crate::gates::push;
+use ae_gates::push;
 use ae_judge::{Names, clock_of, is_named};
 use ae_netlist::{Cell, NetFault, NetId, Netlist, Port};
 use ae_vread::{NetKind, VModule, VNet};

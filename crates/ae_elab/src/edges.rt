@@ -7,23 +7,23 @@ ghost use Rattle.ae_vread.specs.ModuleTree.{NetTree};
 ghost use Rattle.ae_vread.specs.View.{item_tree, module_tree, net_tree};
 ghost use Rattle.ae_judge.specs.Names.{is_clock, item_targets};
 ghost use Rattle.ae_judge.specs.Faults.{NetAt};
-ghost use Rattle.ae_elab.specs.Runs.{IsStep};
+ghost use Rattle.ae_runs.specs.Runs.{IsStep};
 ghost use Rattle.ae_judge.specs.Regular.{IsRegular};
 ghost use Rattle.ae_judge.specs.Shape.{IsShapely};
-ghost use Rattle.ae_elab.specs.Cells.{Grows, HasRoom};
-ghost use Rattle.ae_elab.specs.Named.{AreNamed, AreNets, read};
+ghost use Rattle.ae_gates.specs.Cells.{Grows, HasRoom};
+ghost use Rattle.ae_runs.specs.Named.{AreNamed, AreNets, read};
 ghost use Rattle.ae_elab.specs.Declaring.{AreUnconnected, HasNet, IsUnconnected, is_state};
 ghost use Rattle.ae_elab.specs.Connecting.{Connects};
-ghost use Rattle.ae_elab.specs.Edges.{ActsItems, AreFresh, FitNexts, FitsNext, IsActiveItem, IsConnected, KeepsConstants, OthersKeep, OthersStay, edge_weight};
+ghost use Rattle.ae_assign.specs.Edges.{ActsItems, AreFresh, FitNexts, FitsNext, IsActiveItem, IsConnected, KeepsConstants, OthersKeep, OthersStay, edge_weight};
 
-use crate::statements::{Next, act};
+use ae_assign::{Next, act};
 use ae_judge::Names;
 use ae_netlist::{NetId, Netlist};
 use ae_vread::{VItem, VModule, VNet};
 use std::alloc::{AllocError, Global};
 
 /// What registers and memories take after an item.
-#[tactic(auto, using(crate::proofs::EdgeFits::nexts_grow))]
+#[tactic(auto, using(ae_assign::proofs::EdgeFits::nexts_grow))]
 fn act_item(
     nl: &mut Netlist,
     from: u32,

@@ -2,21 +2,11 @@
 #![tactic(auto)]
 
 mod build;
-mod compounds;
 mod declare;
 mod edges;
-mod forms;
-mod gates;
-mod laws;
-mod lower;
-mod order;
 mod outputs;
-mod own;
-mod reads;
-mod sort;
-mod statements;
 mod wires;
 
 pub use ae_judge::ElabFault;
+pub use ae_runs::{guards_do, one_run, same_runs};
 pub use build::elaborate;
-pub use laws::{guards_do, one_run, same_runs};

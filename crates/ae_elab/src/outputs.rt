@@ -9,7 +9,7 @@ ghost use Rattle.ae_netlist.specs.Circuit.{IsNet, width_of};
 ghost use Rattle.ae_judge.specs.Names.{is_output_kind};
 ghost use Rattle.ae_judge.specs.Faults.{NetAt};
 ghost use Rattle.ae_judge.specs.Shape.{IsShapely};
-ghost use Rattle.ae_elab.specs.Named.{AreNets};
+ghost use Rattle.ae_runs.specs.Named.{AreNets};
 ghost use Rattle.ae_elab.specs.Declaring.{ArePlainOutlets, HasNet, is_output, shown, with_nets};
 
 use ae_netlist::{NetId, Netlist, Port};

@@ -1,69 +1,24 @@
 // The nets of wires.
 
-ghost use Rattle.std.specs.Prelude.{◌≡◌, ◌<◌, ◌≤◌, ◌+◌, ◌*◌, ℕ, List, Some, length, map, max, option_map, slice_get, slice_set, IfOk, OnOk};
+ghost use Rattle.std.specs.Prelude.{◌≡◌, ◌<◌, ◌≤◌, ◌+◌, ◌*◌, ℕ, List, Some, length, map, option_map, slice_get, slice_set, IfOk, OnOk};
 ghost use Rattle.std.specs.List.{sum_by};
-ghost use Rattle.ae_netlist.specs.Circuit.{IsNet};
 ghost use Rattle.ae_vread.specs.ModuleTree.{NetTree};
 ghost use Rattle.ae_vread.specs.View.{expr_tree, module_tree};
 ghost use Rattle.ae_judge.specs.Names.{equations};
 ghost use Rattle.ae_judge.specs.Faults.{NetAt};
-ghost use Rattle.ae_judge.specs.Weight.{drive_weight, expr_weight};
-ghost use Rattle.ae_judge.specs.Widths.{own_width};
+ghost use Rattle.ae_judge.specs.Weight.{drive_weight};
 ghost use Rattle.ae_judge.specs.Regular.{IsRegular};
 ghost use Rattle.ae_judge.specs.Shape.{IsShapely};
-ghost use Rattle.ae_elab.specs.Cells.{Grows, HasRoom, IsWord};
-ghost use Rattle.ae_elab.specs.Named.{AreNamed, AreNets, read};
-ghost use Rattle.ae_elab.specs.Sound.{IsReadyFor, IsSound};
-ghost use Rattle.ae_elab.specs.Drives.{IsWireOrder, values_of};
+ghost use Rattle.ae_gates.specs.Cells.{Grows, HasRoom};
+ghost use Rattle.ae_order.specs.Drives.{IsWireOrder, values_of};
 ghost use Rattle.ae_elab.specs.Declaring.{AreDeclared};
-ghost use Rattle.ae_elab.specs.Wiring.{AreWired, IsWiring, KeepsNets, fitted, open_weight};
+ghost use Rattle.ae_elab.specs.Wiring.{AreWired, IsWiring, KeepsNets, open_weight};
 
-use crate::gates::fit;
-use crate::lower::lower;
-use crate::own::own_width;
+use ae_express::given_word;
 use ae_judge::Names;
 use ae_netlist::{NetId, Netlist};
 use ae_vread::{Expr, VModule};
 use std::alloc::AllocError;
-
-/// The width at which an expression is computed for a target of a width: the greater of both.
-fn given_width(names: &Names<'_>, width: u32, e: &Expr) -> u32
-    requires sound { IsSound names.now (expr_tree e.now) }
-    requires high { width ≤ 64 }
-    ensures given { result ≡ max (own_width names.now (expr_tree e.now)) width }
-    ensures high { result ≤ 64 }
-{
-    own_width(names, e).max(width)
-}
-
-/// What an expression gives a target of a width: computed at the greater of both widths, and cut to the target's. At most
-/// 8 cells for each unit of weight, and two more.
-pub fn given_word(
-    nl: &mut Netlist,
-    from: u32,
-    names: &Names<'_>,
-    nets: &[Option<NetId>],
-    width: u32,
-    e: &Expr,
-) -> Result<NetId, AllocError>
-    requires from { from ≤ length nl.old.cells }
-    requires nets { AreNets names.now nets.now nl.old.cells }
-    requires sound { IsSound names.now (expr_tree e.now) }
-    requires ready { IsReadyFor names.now nets.now (expr_tree e.now) }
-    requires low { 1 ≤ width }
-    requires high { width ≤ 64 }
-    requires room { HasRoom nl.old (8 * expr_weight (expr_tree e.now) + 2) }
-    ensures grows { OnOk result (Grows nl.old nl.new) }
-    ensures more { OnOk result (length nl.old.cells ≤ length nl.new.cells) }
-    ensures few { OnOk result (length nl.new.cells ≤ length nl.old.cells + 8 * expr_weight (expr_tree e.now) + 2) }
-    ensures net { IfOk result (λ y. IsNet nl.new.cells y.0 width) }
-    ensures word { IfOk result (λ y. (at : List ℕ → ℕ) → AreNamed names.now nets.now at → IsWord from nl.new.cells y.0 width (λ run t. fitted names.now (read at run t) width (expr_tree e.now))) }
-{
-    let wide = given_width(names, width, e);
-    let x = lower(nl, from, names, nets, wide, e)?;
-    let y = fit(nl, from, x, wide, width)?;
-    Ok(y)
-}
 
 fn place_at(order: &[u32], turn: usize) -> usize
     requires inside { turn < length order.now }

@@ -8,8 +8,8 @@ use Rattle.ae_vread.proofs.ReadLaws.{spelled_read}
 use Rattle.ae_elab.specs.Faults.{IsWellFormed}
 use Rattle.ae_elab.specs.PlainRun.{plain_run}
 use Rattle.ae_elab.specs.Runs.{HasOneRun}
-use Rattle.ae_elab.proofs.Once.{only_one}
-use Rattle.ae_elab.proofs.Made.{plain_is_run}
+use Rattle.ae_runs.proofs.Once.{only_one}
+use Rattle.ae_runs.proofs.Made.{plain_is_run}
 use Rattle.ae_verilog.specs.Notes.{lines_of, noted_module}
 use Rattle.ae_verilog.specs.ReportLines.{report_lines}
 use Rattle.ae_spelled.proofs.Comments.{report_comments}

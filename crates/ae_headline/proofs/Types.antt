@@ -16,7 +16,7 @@ use Rattle.ae_seq.specs.Formed.{all_below, item_count}
 use Rattle.ae_seq.specs.Meaning.{mean}
 use Rattle.ae_seq.specs.Typing.{type_at, ◌>>=◌}
 use Rattle.ae_netlist.specs.Circuit.{Circuit}
-use Rattle.ae_parse.proofs.Bools.{and-first, and-second}
+use Rattle.ae_fields.proofs.Bools.{and-first, and-second}
 use Rattle.ae_eval.specs.Stack.{IsTyped, types_in}
 use Rattle.ae_seq.proofs.Types.{item-sized}
 use Rattle.ae_eval.proofs.Accepting.{func-types}

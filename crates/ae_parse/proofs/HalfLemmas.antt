@@ -1,8 +1,8 @@
 -- Bytes cut at their only mark.
 use Rattle.std.proofs.Common.{◌≡◌, ℕ, ◌≤◌, Bool, true, false, nat_eq, List, [], ◌∷◌, length, Option, Some, None, is_some, MatchOption, if◌then◌else◌, refl, sym, ap, ◌∙◌, arith}
 use Rattle.std.specs.Borrow.{Bor}
-use Rattle.ae_parse.specs.Cut.{pieces, put}
-use Rattle.ae_parse.specs.Grammar.{two_of}
+use Rattle.ae_fields.specs.Cut.{pieces, put}
+use Rattle.ae_fields.specs.Grammar.{two_of}
 
 length-put : (b : ℕ) (ps : List (List ℕ)) → 1 ≤ length (put b ps)
 length-put b [] = omega arith

@@ -9,13 +9,13 @@ use Rattle.ae_word.specs.WordTable.{folds}
 use Rattle.ae_seqtype.specs.SeqTree.{SeqTree, atom, seq}
 use Rattle.ae_seq.specs.ProgramTree.{OpTree, word, cast_int, const, call, each, each_two, reduce, scan, shift, up, select}
 use Rattle.ae_seq.specs.Formed.{is_line, is_spelled, is_word_line, within}
-use Rattle.ae_parse.specs.Number.{plain_of}
-use Rattle.ae_parse.specs.Scopes.{place}
-use Rattle.ae_parse.specs.TypeForm.{type_of}
-use Rattle.ae_parse.specs.Words.{first_of, found, folding_words, other_words, plain_words, bare_op, numbered_op, below, func_at, func_op, fold_op, cast_of, cast_op, headed_op, words_after, const_from, two_numbers, partition_of, partition_from, with_arguments, headed_from, headed_of, operator_from}
-use Rattle.ae_parse.proofs.Bools.{and-first, and-second}
-use Rattle.ae_parse.proofs.OptionLemmas.{bind-some, where-some, map-some, some-is}
-use Rattle.ae_parse.proofs.Plain.{and-both}
+use Rattle.ae_fields.specs.Number.{plain_of}
+use Rattle.ae_fields.specs.Scopes.{place}
+use Rattle.ae_fields.specs.TypeForm.{type_of}
+use Rattle.ae_fields.specs.Words.{first_of, found, folding_words, other_words, plain_words, bare_op, numbered_op, below, func_at, func_op, fold_op, cast_of, cast_op, headed_op, words_after, const_from, two_numbers, partition_of, partition_from, with_arguments, headed_from, headed_of, operator_from}
+use Rattle.ae_fields.proofs.Bools.{and-first, and-second}
+use Rattle.ae_fields.proofs.OptionLemmas.{bind-some, where-some, map-some, some-is}
+use Rattle.ae_fields.proofs.PlainLemmas.{and-both}
 use Rattle.ae_parse.proofs.TypeSound.{plain-within, within-true, spelled-so}
 
 -- each entry of a table passes a test

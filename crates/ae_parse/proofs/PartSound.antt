@@ -3,15 +3,15 @@ use Rattle.std.proofs.Common.{◌≡◌, ℕ, suc, ◌+◌, ◌<◌, Bool, true,
 use Rattle.std.proofs.lemmas.Bool.{lt-ltb}
 use Rattle.ae_seq.specs.ProgramTree.{OpTree, ParamTree, NodeTree}
 use Rattle.ae_seq.specs.Formed.{all_below, all_distinct, all_names, is_among, is_line, is_name, has_arguments, formed_nodes, formed_params, is_spelled, node_names, param_names, within}
-use Rattle.ae_parse.specs.Cut.{pieces}
-use Rattle.ae_parse.specs.Grammar.{Head, Part, two_of, param_from, no_params, with_param, params_after, params_of, places_after}
-use Rattle.ae_parse.specs.Name as own
-use Rattle.ae_parse.specs.Scopes.{place, is_known}
-use Rattle.ae_parse.specs.TypeForm.{type_of}
-use Rattle.ae_parse.proofs.Bools.{and-first, and-second}
-use Rattle.ae_parse.proofs.NameForms.{named-so, known-agree, distinct-push, names-push, place-below}
-use Rattle.ae_parse.proofs.OptionLemmas.{bind-some, where-some, some-is}
-use Rattle.ae_parse.proofs.Plain.{and-both}
+use Rattle.ae_fields.specs.Cut.{pieces}
+use Rattle.ae_fields.specs.Grammar.{Head, Part, two_of, param_from, no_params, with_param, params_after, params_of, places_after}
+use Rattle.ae_fields.specs.Name as own
+use Rattle.ae_fields.specs.Scopes.{place, is_known}
+use Rattle.ae_fields.specs.TypeForm.{type_of}
+use Rattle.ae_fields.proofs.Bools.{and-first, and-second}
+use Rattle.ae_fields.proofs.NameForms.{named-so, known-agree, distinct-push, names-push, place-below}
+use Rattle.ae_fields.proofs.OptionLemmas.{bind-some, where-some, some-is}
+use Rattle.ae_fields.proofs.PlainLemmas.{and-both}
 use Rattle.ae_parse.proofs.TypeSound.{spelled-so}
 
 below-push : (n : ℕ) (ks : List ℕ) (k : ℕ) → all_below n ks ≡ true → k < n → all_below n (ks ++ k ∷ []) ≡ true

@@ -7,12 +7,12 @@ use Rattle.std.specs.Str.Parse.{digits_value}
 use Rattle.ae_word.specs.AtomTree.{AtomTree, word, pair, pair_depth, widths_in_range}
 use Rattle.ae_seqtype.specs.SeqTree.{SeqTree, atom, seq, depth, parts_in_size, atom_of}
 use Rattle.ae_seq.specs.Formed.{is_unsigned, is_spelled, within}
-use Rattle.ae_parse.specs.Number.{is_plain, plain_of}
+use Rattle.ae_fields.specs.Number.{is_plain, plain_of}
 use Rattle.ae_seq.specs.Typing.{where_ok}
-use Rattle.ae_parse.specs.TypeForm.{digits_of, after_digits, past, letter_kind, word_from, pair_from, atom_from, alone, atom_type_of, length_from, sequence_from, type_from, type_of}
-use Rattle.ae_parse.proofs.Bools.{and-first, and-second}
-use Rattle.ae_parse.proofs.OptionLemmas.{bind-some, where-some, some-is}
-use Rattle.ae_parse.proofs.Plain.{and-both}
+use Rattle.ae_fields.specs.TypeForm.{digits_of, after_digits, past, letter_kind, word_from, pair_from, atom_from, alone, atom_type_of, length_from, sequence_from, type_from, type_of}
+use Rattle.ae_fields.proofs.Bools.{and-first, and-second}
+use Rattle.ae_fields.proofs.OptionLemmas.{bind-some, where-some, some-is}
+use Rattle.ae_fields.proofs.PlainLemmas.{and-both}
 
 pub record Within (low high n : ℕ) : Type 0 where
   pub low_is : low ≤ n

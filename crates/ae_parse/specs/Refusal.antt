@@ -1,6 +1,6 @@
 -- Why texts are refused.
 use Rattle.std.specs.Prelude.{◌≡◌, ℕ, Some, List}
-use Rattle.ae_parse.specs.Grammar.{Reading, bad_line, refused}
+use Rattle.ae_fields.specs.Grammar.{Reading, bad_line, refused}
 use Rattle.ae_parse.specs.declared.program_text.ParseFault.{ParseFault}
 use Rattle.ae_parse.specs.declared.program_text.ParseFault.TheVariants.{BadLine, Memory}
 

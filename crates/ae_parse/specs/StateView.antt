@@ -1,7 +1,7 @@
 -- What the parser knows, apart from where its vectors lie.
 use Rattle.std.specs.Prelude.{string_bytes, option_map, Some}
-use Rattle.ae_parse.specs.Grammar.{Head, Known, Part, State}
-use Rattle.ae_parse.specs.View.{params_in, nodes_in, funcs_in}
+use Rattle.ae_fields.specs.Grammar.{Head, Known, Part, State}
+use Rattle.ae_fields.specs.View.{params_in, nodes_in, funcs_in}
 use Rattle.ae_parse.specs.declared.fn_lines.Params.{Params}
 use Rattle.ae_parse.specs.declared.parser.Known.{Known as KnownCode}
 use Rattle.ae_parse.specs.declared.parser.Part.{Part as PartCode}

@@ -2,16 +2,12 @@
 
 ghost use Rattle.std.specs.Prelude.{◌≡◌, IfOk, option_map};
 ghost use Rattle.ae_seq.specs.ProgramTree.{param_tree};
-ghost use Rattle.ae_parse.specs.Cut.{fields, pieces};
-ghost use Rattle.ae_parse.specs.Grammar.{few_params, no_params, param_from, param_of, params_after, params_of, two_of, with_param};
+ghost use Rattle.ae_fields.specs.Cut.{fields, pieces};
+ghost use Rattle.ae_fields.specs.Grammar.{few_params, no_params, param_from, param_of, params_after, params_of, two_of, with_param};
 ghost use Rattle.ae_parse.specs.StateView.{head_of};
-ghost use Rattle.ae_parse.specs.View.{halves_in};
+ghost use Rattle.ae_fields.specs.View.{halves_in};
 
-use crate::fields::next_field;
-use crate::names::{is_name, name_text};
-use crate::pieces::next_piece;
-use crate::scopes::Scope;
-use crate::types::read_type;
+use ae_fields::{Scope, is_name, name_text, next_field, next_piece, read_type};
 use ae_seq::Param;
 use std::alloc::{AllocError, Global};
 

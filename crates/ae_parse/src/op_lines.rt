@@ -3,16 +3,13 @@
 ghost use Rattle.std.specs.Prelude.{◌≡◌, ◌<◌, [], IfOk, length, option_map};
 ghost use Rattle.ae_seqtype.specs.SeqTree.{seq_tree};
 ghost use Rattle.ae_seq.specs.ProgramTree.{op_tree};
-ghost use Rattle.ae_parse.specs.Cut.{fields};
-ghost use Rattle.ae_parse.specs.View.{items_in, op_rest};
-ghost use Rattle.ae_parse.specs.Words.{cast_op, const_from, const_of, headed_from, headed_of, headed_op, operator_from, partition_from, partition_of, words_after, with_arguments};
-ghost use Rattle.ae_parse.specs.Grammar.{places_after};
+ghost use Rattle.ae_fields.specs.Cut.{fields};
+ghost use Rattle.ae_fields.specs.View.{items_in, op_rest};
+ghost use Rattle.ae_fields.specs.Words.{cast_op, const_from, const_of, headed_from, headed_of, headed_op, operator_from, partition_from, partition_of, words_after, with_arguments};
+ghost use Rattle.ae_fields.specs.Grammar.{places_after};
 
-use crate::fields::next_field;
-use crate::numbers::{number, plain};
 use crate::op_words::{bare_op, cast_of, fold_op, func_op, numbered_op, place};
-use crate::scopes::Scope;
-use crate::types::read_type;
+use ae_fields::{Scope, next_field, number, plain, read_type};
 use ae_seq::Op;
 use ae_seqtype::SeqType;
 use std::alloc::{AllocError, Global};

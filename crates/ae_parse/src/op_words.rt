@@ -5,11 +5,10 @@ ghost use Rattle.ae_word.specs.AtomTree.{atom_tree};
 ghost use Rattle.ae_seqtype.specs.SeqTree.{seq_tree};
 ghost use Rattle.ae_seq.specs.Formed.{has_arguments};
 ghost use Rattle.ae_seq.specs.ProgramTree.{op_tree};
-ghost use Rattle.ae_parse.specs.Scopes.{place};
-ghost use Rattle.ae_parse.specs.Words.{cast_of, fold_op, folding_words, found, func_at, func_op, numbered_op, other_words, bare_op, plain_words};
+ghost use Rattle.ae_fields.specs.Scopes.{place};
+ghost use Rattle.ae_fields.specs.Words.{cast_of, fold_op, folding_words, found, func_at, func_op, numbered_op, other_words, bare_op, plain_words};
 
-use crate::numbers::plain;
-use crate::scopes::Scope;
+use ae_fields::{Scope, plain};
 use ae_seq::Op;
 use ae_seqtype::SeqType;
 use ae_word::{Atom, WordOp, arity};

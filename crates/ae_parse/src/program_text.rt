@@ -3,14 +3,12 @@
 ghost use Rattle.std.specs.Prelude.{◌≡◌, ◌<◌, IfErr, IfOk, IsTrue, MatchResult, length};
 ghost use Rattle.ae_seq.specs.Formed.{formed};
 ghost use Rattle.ae_seq.specs.ProgramTree.{program_tree};
-ghost use Rattle.ae_parse.specs.Grammar.{IsProgramText, at_end, program, refused};
+ghost use Rattle.ae_fields.specs.Grammar.{IsProgramText, at_end, program, refused};
 ghost use Rattle.ae_parse.specs.Refusal.{IsRefused, IsRefusedAs};
 ghost use Rattle.ae_parse.specs.StateView.{state_of};
 
-use crate::fields::said;
-use crate::lines::next_line;
 use crate::parser::{Known, Parser};
-use crate::parts::is_mark;
+use ae_fields::{is_mark, next_line, said};
 use ae_seq::Program;
 use std::alloc::{AllocError, Global};
 use thiserror::Error;

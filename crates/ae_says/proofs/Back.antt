@@ -13,10 +13,10 @@ use Rattle.ae_parse.specs.Number.{is_numeral, numeral_value}
 use Rattle.ae_parse.specs.Parts.{is_mark}
 use Rattle.ae_parse.specs.Scopes.{place}
 use Rattle.ae_parse.specs.Words.{words_after}
-use Rattle.ae_parse.proofs.Bools.{and-first, and-second}
-use Rattle.ae_parse.proofs.OptionLemmas.{bind-some, some-is}
-use Rattle.ae_parse.proofs.Plain.{number-of-decimal}
-use Rattle.ae_parse.proofs.ProgramRead.{opened, open-first}
+use Rattle.ae_fields.proofs.Bools.{and-first, and-second}
+use Rattle.ae_fields.proofs.OptionLemmas.{bind-some, some-is}
+use Rattle.ae_fields.proofs.PlainLemmas.{number-of-decimal}
+use Rattle.ae_print.proofs.ProgramRead.{opened, open-first}
 use Rattle.ae_parse.proofs.Soundness.{Sound, start-sound, line-sound}
 use Rattle.ae_says.specs.Laws.{SaidTextsRead}
 use Rattle.ae_says.specs.Readable.{AreReadable, IsReadable}

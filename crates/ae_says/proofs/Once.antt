@@ -13,21 +13,21 @@ use Rattle.ae_parse.specs.Name as own
 use Rattle.ae_parse.specs.Number.{is_numeral, numeral_value}
 use Rattle.ae_seq.specs.Typing.{where_ok, ◌>>=◌}
 use Rattle.ae_parse.specs.Parts.{is_mark}
-use Rattle.ae_parse.specs.Printed.{end_fields, funcs_fit, item_names, name_at, node_fields, nodes_fit, op_fields, param_field, words_fit}
+use Rattle.ae_print.specs.Printed.{end_fields, funcs_fit, item_names, name_at, node_fields, nodes_fit, op_fields, param_field, words_fit}
 use Rattle.ae_parse.specs.Scopes.{place}
 use Rattle.ae_parse.specs.TypeForm.{type_of}
 use Rattle.ae_parse.specs.Words.{const_from, with_arguments, words_after}
-use Rattle.ae_parse.proofs.Bools.{and-first, and-second}
-use Rattle.ae_parse.proofs.LineRead.{Extends, NodeFits, extends-append, funcs-found, node-read, step-later}
-use Rattle.ae_parse.proofs.NameForms.{distinct-front, distinct-new}
-use Rattle.ae_parse.proofs.OpRead.{FuncsFound}
-use Rattle.ae_parse.proofs.OptionLemmas.{bind-some, map-some, where-some, some-is}
+use Rattle.ae_fields.proofs.Bools.{and-first, and-second}
+use Rattle.ae_print.proofs.LineRead.{Extends, NodeFits, extends-append, funcs-found, node-read, step-later}
+use Rattle.ae_fields.proofs.NameForms.{distinct-front, distinct-new}
+use Rattle.ae_print.proofs.OpRead.{FuncsFound}
+use Rattle.ae_fields.proofs.OptionLemmas.{bind-some, map-some, where-some, some-is}
 use Rattle.ae_parse.proofs.PartSound.{PartSound}
-use Rattle.ae_parse.proofs.Plain.{and-both, number-of-decimal}
-use Rattle.ae_parse.proofs.PlainOf.{same-bytes}
-use Rattle.ae_parse.proofs.ProgramRead.{FuncFits, IsOpen, end-read, func-fits, head-read, length-nodes, length-params, most-all, no-version, opened, open-first, still-open}
+use Rattle.ae_fields.proofs.PlainLemmas.{and-both, number-of-decimal}
+use Rattle.ae_fields.proofs.PlainOf.{same-bytes}
+use Rattle.ae_print.proofs.ProgramRead.{FuncFits, IsOpen, end-read, func-fits, head-read, length-nodes, length-params, most-all, no-version, opened, open-first, still-open}
 use Rattle.ae_parse.proofs.Soundness.{Sound, fresh, going, start-sound, line-sound}
-use Rattle.ae_parse.proofs.StepCases.{begun_state, node_state}
+use Rattle.ae_fields.proofs.StepCases.{begun_state, node_state}
 use Rattle.ae_says.specs.Laws.{TextsSayOne}
 use Rattle.ae_says.specs.Says.{AreLines, IsLine, IsVersion, Line, func_said, line_at, node_said, one, plain, said_from, same, two, zeros}
 use Rattle.ae_says.proofs.Funcs.{funcs_said}

@@ -16,7 +16,7 @@ use Rattle.ae_elab.specs.Values.{ModuleClock}
 use Rattle.ae_elab.specs.Runs.{clock_at, Holds, IsShaped, IsSettled, next_clock, StepsTo, IsStep, IsRun}
 use Rattle.ae_elab.specs.PlainRun.{clocks_from}
 use Rattle.ae_judge.proofs.Members.{same_bytes, bytes_same, among_left, among_right, among_split, among_at, among_from, among_map, among_unmap, find_only}
-use Rattle.ae_elab.proofs.Made.{from_length, from_at}
+use Rattle.ae_runs.proofs.Made.{from_length, from_at}
 use Rattle.ae_verilog.specs.NetlistModule.{port_name, cell_name, each_numbered}
 use Rattle.ae_verilog.specs.Written.{IsWritableNetlist}
 use Rattle.ae_spelled.proofs.LawNames.{cell_not_output, output_once, cell_once}

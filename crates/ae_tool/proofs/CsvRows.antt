@@ -9,7 +9,7 @@ use Rattle.std.proofs.lemmas.Str.Ascii.{IsAscii-nil}
 use Rattle.std.proofs.lemmas.Bool.Decides.{nat_tests}
 use Rattle.std.proofs.lemmas.Fmt.{digits_decimal}
 use Rattle.csv.specs.Writing.{needs_byte, field_text, fields_text, is_blank, row_text, default_writer}
-use Rattle.ae_parse.proofs.Plain.{own}
+use Rattle.ae_fields.proofs.PlainLemmas.{own}
 use Rattle.ae_seq.specs.Formed.{is_name_byte, all_name_bytes}
 use Rattle.ae_tool.specs.CostTables.{ArePlain, comma_line, more_fields}
 

@@ -12,7 +12,7 @@ use Rattle.std.proofs.lemmas.List.{length-drop, length-map, length-take-le, nil_
 use Rattle.std.proofs.lemmas.List.FromFn.{length-map-range_with_len, map-range_with_len_more}
 use Rattle.ae_parse.specs.Number.{is_numeral}
 use Rattle.ae_parse.specs.Rows.{bad_row, is_right, row_words, words_in, wrong_column, wrong_row}
-use Rattle.ae_parse.proofs.Plain.{and-both, own}
+use Rattle.ae_fields.proofs.PlainLemmas.{and-both, own}
 use Rattle.ae_seqtype.specs.ValueTree.{cut}
 use Rattle.ae_seqtype.proofs.Cuts.{length-cut}
 use Rattle.ae_seq.specs.ProgramTree.{ProgramTree}

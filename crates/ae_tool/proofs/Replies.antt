@@ -1,11 +1,11 @@
 -- What a job answers, and that an input is cut in one way alone.
 use Rattle.std.proofs.Common.{ℕ, ◌≡◌, ◌<◌, ◌≤◌, Bool, true, false, not, List, [], ◌∷◌, ◌++◌, length, map, take, drop, Option, Some, None, arith, inl, inr, refl, ap, sym, ◌∙◌, subst, nat_eq, bytes_eq, codes, if◌then◌else◌}
 use Rattle.std.proofs.lemmas.Bool.{eqb-true}
-use Rattle.ae_parse.proofs.Plain.{own}
+use Rattle.ae_fields.proofs.PlainLemmas.{own}
 use Rattle.std.proofs.lemmas.Fmt.{digits_value-decimal}
 use Rattle.std.specs.Fmt.{decimal}
 use Rattle.std.specs.Str.Parse.{digits_value}
-use Rattle.ae_parse.proofs.Bools.{and-first, and-second}
+use Rattle.ae_fields.proofs.Bools.{and-first, and-second}
 use Rattle.ae_parse.specs.Cut.{lines, fields, said, put}
 use Rattle.ae_parse.specs.Parts.{is_mark, no_mark, whole_lines}
 use Rattle.ae_parse.specs.Rows.{rows_of, bad_row}

@@ -12,7 +12,7 @@ use Rattle.std.proofs.Math.Seq.{drop-append_seam, take-append_seam}
 use Rattle.std.specs.Prelude.{option_map}
 use Rattle.ae_parse.specs.Cut.{lines, put, fields, said}
 use Rattle.ae_parse.specs.Rows.{rows, rows_of, with_row, is_right, wrong_column, wrong_row, bad_row, row_words, words_in}
-use Rattle.ae_parse.proofs.Bools.{and-second}
+use Rattle.ae_fields.proofs.Bools.{and-second}
 use Rattle.ae_netlist.specs.declared.cell.SizedCell.{SizedCell}
 use Rattle.ae_netlist.specs.declared.cell.Cell.TheVariants.{Const}
 use Rattle.ae_netlist.specs.Circuit.{Circuit, IsFormed}

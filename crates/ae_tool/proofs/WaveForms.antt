@@ -26,7 +26,7 @@ use Rattle.ae_judge.proofs.Members.{among_at, among_from, among_split, among_unf
 use Rattle.ae_elab.specs.Values.{ModuleClock}
 use Rattle.ae_elab.specs.Runs.{Holds, IsRun, clock_at}
 use Rattle.ae_elab.specs.SameRuns.{input_words, inputs_of, output_words, outputs_of}
-use Rattle.ae_elab.proofs.Pairwise.{among_filter}
+use Rattle.ae_runs.proofs.Pairwise.{among_filter}
 use Rattle.ae_verilog.specs.NetlistModule.{input_nets, netlist_module, output_net, port_name}
 use Rattle.ae_verilog.specs.PortNets.{input_ports, port_nets}
 use Rattle.ae_spelled.specs.ModulePorts.{ArePorts}

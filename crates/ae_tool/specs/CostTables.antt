@@ -3,7 +3,7 @@ use Rattle.std.specs.Prelude.{◌≡◌, ℕ, true, List, [], ◌∷◌, ◌++�
 use Rattle.std.specs.Fmt.{decimal}
 use Rattle.ae_seq.specs.ProgramTree.{NodeTree, OpTree}
 use Rattle.ae_seq.specs.Formed.{all_name_bytes}
-use Rattle.ae_parse.specs.Printed.{op_fields}
+use Rattle.ae_print.specs.Printed.{op_fields}
 use Rattle.ae_delay.specs.declared.weighing.Cost.{Cost}
 
 -- the word of an operator line

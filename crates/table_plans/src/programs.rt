@@ -7,7 +7,8 @@ ghost use Rattle.ae_seq.specs.ProgramTree.{program_tree};
 use crate::fused::tell_fused;
 use crate::scheduled::tell_schedules;
 use crate::timed::tell_limits;
-use ae_parse::{parse, print};
+use ae_parse::parse;
+use ae_print::print;
 use ae_seq::{Program, Typed, check};
 use std::alloc::{AllocError, Global};
 

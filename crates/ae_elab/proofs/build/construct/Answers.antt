@@ -2,9 +2,9 @@ use Rattle.std.proofs.Common.{length, ap, ◌∙◌, arith}
 use Rattle.ae_vread.specs.View.{module_tree}
 use Rattle.ae_netlist.proofs.Growing.{extends_length}
 use Rattle.ae_netlist.specs.Circuit.{Circuit}
-use Rattle.ae_elab.specs.SameRuns.{input_cells}
+use Rattle.ae_runs.specs.SameRuns.{input_cells}
 use Rattle.ae_judge.proofs.Members.{among_from}
-use Rattle.ae_elab.proofs.Clocks.{output_no_clock}
+use Rattle.ae_runs.proofs.Clocks.{output_no_clock}
 use Rattle.ae_elab.proofs.Realizing.{at_of, nets_connected, plain_ports, realizes, still_unconnected}
 use Rattle.ae_elab.proofs.WeightParts.{weight_parts}
 use Rattle.ae_elab.proofs.build.construct.Goals as goal

@@ -4,16 +4,10 @@ use Rattle.ae_elab.proofs.build.elaborate.Goals as goal
 pub judge-requires-clause-shape : goal.judge-requires-clause-shape
 judge-requires-clause-shape c = let s = c.requires.spelled in c.spelled_shape.ensures s.0 (module_tree c.args.m.now) s.1 s.2
 
-pub drive_values-requires-clause-shape : goal.drive_values-requires-clause-shape
-drive_values-requires-clause-shape c = let s = c.requires.spelled in c.spelled_shape.ensures s.0 (module_tree c.args.m.now) s.1 s.2
-
-pub sorted_wires-requires-clause-shape : goal.sorted_wires-requires-clause-shape
-sorted_wires-requires-clause-shape c = let s = c.requires.spelled in c.spelled_shape.ensures s.0 (module_tree c.args.m.now) s.1 s.2
-
-pub construct-requires-clause-shape : goal.construct-requires-clause-shape
-construct-requires-clause-shape c = let s = c.requires.spelled in c.spelled_shape.ensures s.0 (module_tree c.args.m.now) s.1 s.2
+pub ordered-requires-clause-shape : goal.ordered-requires-clause-shape
+ordered-requires-clause-shape c = let s = c.requires.spelled in c.spelled_shape.ensures s.0 (module_tree c.args.m.now) s.1 s.2
 
 pub returns-clause-runs : goal.returns-clause-runs
 returns-clause-runs c =
     let at = c.in_ok-nl.ensures.realizes in
-    c.same_runs.ensures (module_tree c.args.m.now) c.in_ok-nl.nl at.0 c.in_ok-order.ensures.well_formed c.has_one_run.ensures at.1
+    c.same_runs.ensures (module_tree c.args.m.now) c.in_ok-nl.nl at.0 c.in_ok-nl.ensures.well_formed c.has_one_run.ensures at.1

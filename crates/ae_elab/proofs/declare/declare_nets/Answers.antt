@@ -4,8 +4,8 @@ use Rattle.ae_netlist.specs.Counts.{count_of, is_input}
 use Rattle.ae_judge.specs.Names.{depth_of_kind, is_clock}
 use Rattle.ae_elab.specs.Declaring.{Adds, given_cell}
 use Rattle.ae_judge.proofs.Members.{among_from}
-use Rattle.ae_elab.proofs.Turns.{at_turn, take_turn}
-use Rattle.ae_elab.proofs.SoundOf.{sized}
+use Rattle.ae_order.proofs.Turns.{at_turn, take_turn}
+use Rattle.ae_order.proofs.SoundOf.{sized}
 use Rattle.ae_elab.proofs.Declaring.{adds_limit, adds_outlets, declared_more}
 use Rattle.ae_elab.proofs.declare.declare_nets.Goals as goal
 

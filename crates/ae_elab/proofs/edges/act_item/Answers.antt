@@ -2,7 +2,7 @@ use Rattle.std.proofs.Common.{◌≡◌, [], ◌∷◌, refl, sym, subst}
 use Rattle.std.specs.Prelude.{string_bytes}
 use Rattle.ae_vread.specs.ModuleTree.{always}
 use Rattle.ae_vread.specs.View.{item_tree, stmt_tree}
-use Rattle.ae_elab.specs.Edges.{ActsItems}
+use Rattle.ae_assign.specs.Edges.{ActsItems}
 use Rattle.ae_elab.proofs.EdgeItems.{always_acts}
 use Rattle.ae_elab.proofs.edges.act_item.Goals as goal
 

@@ -1,11 +1,11 @@
 use Rattle.std.proofs.Common.{◌≡◌, ◌+◌, ◌*◌, ◌<◌, ◌∷◌, length, map, drop, rules, subst, arith}
 use Rattle.std.specs.List.{sum_by}
 use Rattle.ae_vread.specs.View.{item_tree}
-use Rattle.ae_elab.specs.Cells.{HasRoom}
-use Rattle.ae_elab.specs.Edges.{edge_weight}
+use Rattle.ae_gates.specs.Cells.{HasRoom}
+use Rattle.ae_assign.specs.Edges.{edge_weight}
 use Rattle.std.proofs.lemmas.List.Sums.{sum_by-cons}
-use Rattle.ae_elab.proofs.NetLaws.{nets_grow}
-use Rattle.ae_elab.proofs.EdgeBlocks.{drop_turn, drop_done}
+use Rattle.ae_express.proofs.NetLaws.{nets_grow}
+use Rattle.ae_assign.proofs.EdgeBlocks.{drop_turn, drop_done}
 use Rattle.ae_elab.proofs.EdgeItems.{AreActing, items_done, items_fresh, items_step}
 use Rattle.ae_elab.proofs.edges.act_items.Goals as goal
 

@@ -1,6 +1,6 @@
 use Rattle.ae_vread.specs.View.{net_tree}
-use Rattle.ae_elab.specs.Edges.{FitsNext}
-use Rattle.ae_elab.specs.declared.statements.Next.TheVariants.{Word, Write}
+use Rattle.ae_assign.specs.Edges.{FitsNext}
+use Rattle.ae_assign.specs.declared.statements.Next.TheVariants.{Word, Write}
 use Rattle.ae_elab.proofs.EdgeConnects.{memory_asked, register_asked, word_joined, write_joined}
 use Rattle.ae_elab.proofs.edges.connect.Goals as goal
 

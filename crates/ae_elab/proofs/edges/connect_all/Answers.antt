@@ -2,8 +2,8 @@ use Rattle.std.proofs.Common.{◌<◌, ◌+◌, length, get_or, Some, None, arit
 use Rattle.std.proofs.lemmas.List.{length-map}
 use Rattle.std.proofs.lemmas.Option.{slice_get-get_or, slice_get_within}
 use Rattle.ae_vread.specs.View.{module_tree, net_tree}
-use Rattle.ae_elab.specs.declared.statements.Next.TheVariants.{Keep}
-use Rattle.ae_elab.proofs.Turns.{at_turn}
+use Rattle.ae_assign.specs.declared.statements.Next.TheVariants.{Keep}
+use Rattle.ae_order.proofs.Turns.{at_turn}
 use Rattle.ae_elab.proofs.EdgeJoins.{AreJoined, joins_step, joins_none}
 use Rattle.ae_elab.proofs.edges.connect_all.Goals as goal
 use Rattle.ae_elab.proofs.edges.connect_all.Goals.{in-Some, in_default}

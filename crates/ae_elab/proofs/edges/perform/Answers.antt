@@ -1,8 +1,8 @@
 use Rattle.std.proofs.Common.{◌≡◌, length, map, replicate, arith, sym, ap, ◌∙◌}
 use Rattle.std.proofs.lemmas.List.{length-map}
 use Rattle.ae_vread.specs.View.{item_tree, module_tree, net_tree}
-use Rattle.ae_elab.specs.Edges.{ActsItems}
-use Rattle.ae_elab.specs.declared.statements.Next.TheVariants.{Keep}
+use Rattle.ae_assign.specs.Edges.{ActsItems}
+use Rattle.ae_assign.specs.declared.statements.Next.TheVariants.{Keep}
 use Rattle.ae_elab.proofs.EdgeSteps.{edge_steps}
 use Rattle.ae_elab.proofs.EdgeSound.{items_active}
 use Rattle.ae_elab.proofs.EdgeFresh.{first_fit, first_fresh, first_nexts, items_next, unconnected_grows}

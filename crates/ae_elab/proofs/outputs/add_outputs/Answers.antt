@@ -3,7 +3,7 @@ use Rattle.std.proofs.lemmas.List.{length-map, length-take, take_more}
 use Rattle.ae_vread.specs.View.{module_tree, net_tree}
 use Rattle.ae_netlist.specs.declared.cell.Outlet.{Outlet}
 use Rattle.ae_netlist.specs.Circuit.{Circuit}
-use Rattle.ae_elab.proofs.Turns.{at_turn, take_turn}
+use Rattle.ae_order.proofs.Turns.{at_turn, take_turn}
 use Rattle.ae_elab.proofs.Showing.{got, got_or, output_net, shown_few, shown_more, shown_plain}
 use Rattle.ae_elab.proofs.outputs.add_outputs.Goals as goal
 

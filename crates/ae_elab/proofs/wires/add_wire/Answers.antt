@@ -2,10 +2,10 @@ use Rattle.std.proofs.Common.{◌≡◌, length, Some, None, slice_get, ap, arit
 use Rattle.std.specs.Prelude.{option_map}
 use Rattle.std.proofs.lemmas.List.{length-map}
 use Rattle.ae_vread.specs.View.{expr_tree, module_tree}
-use Rattle.ae_elab.specs.Drives.{values_of}
+use Rattle.ae_order.specs.Drives.{values_of}
 use Rattle.ae_judge.proofs.Members.{among_from}
-use Rattle.ae_elab.proofs.DriveLaws.{values_long, values_sound}
-use Rattle.ae_elab.proofs.SoundOf.{sized}
+use Rattle.ae_order.proofs.DriveLaws.{values_long, values_sound}
+use Rattle.ae_order.proofs.SoundOf.{sized}
 use Rattle.ae_elab.proofs.Wiring.{keeps_set, open_less, some_at, value_ready, wiring_more, wiring_same}
 use Rattle.ae_elab.proofs.wires.add_wire.Goals as goal
 

@@ -1,7 +1,7 @@
 use Rattle.std.proofs.Common.{◌+◌, ◌*◌, ◌≤◌, length}
 use Rattle.ae_vread.specs.View.{module_tree}
-use Rattle.ae_elab.specs.Cells.{Grows}
-use Rattle.ae_elab.specs.Drives.{values_of}
+use Rattle.ae_gates.specs.Cells.{Grows}
+use Rattle.ae_order.specs.Drives.{values_of}
 use Rattle.ae_elab.specs.Wiring.{IsWiring, KeepsNets, open_weight}
 use Rattle.ae_elab.proofs.wires.add_wires.Given as goal
 

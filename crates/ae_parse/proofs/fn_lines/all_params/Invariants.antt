@@ -1,6 +1,6 @@
 use Rattle.std.proofs.Common.{◌≡◌, length}
-use Rattle.ae_parse.specs.Cut.{fields}
-use Rattle.ae_parse.specs.Grammar.{params_after, no_params}
+use Rattle.ae_fields.specs.Cut.{fields}
+use Rattle.ae_fields.specs.Grammar.{params_after, no_params}
 use Rattle.ae_parse.specs.StateView.{head_of}
 use Rattle.ae_parse.proofs.fn_lines.all_params.Given as goal
 

@@ -1,5 +1,5 @@
 use Rattle.std.proofs.Common.{sym, ◌∙◌}
-use Rattle.ae_parse.specs.Cut.{pieces}
+use Rattle.ae_fields.specs.Cut.{pieces}
 use Rattle.ae_parse.proofs.HalfLemmas.{too-many, with-rest}
 use Rattle.ae_parse.proofs.fn_lines.halves.Goals as goal
 

@@ -1,6 +1,6 @@
 use Rattle.std.proofs.Common.{◌≡◌, [], length}
-use Rattle.ae_parse.specs.Cut.{fields}
-use Rattle.ae_parse.specs.Words.{words_after}
+use Rattle.ae_fields.specs.Cut.{fields}
+use Rattle.ae_fields.specs.Words.{words_after}
 use Rattle.ae_parse.proofs.op_lines.const_words.Given as goal
 
 abbrev pub invariant-loop-field : goal.invariant-loop-field

@@ -1,6 +1,6 @@
 use Rattle.std.proofs.Common.{◌≡◌, [], length}
-use Rattle.ae_parse.specs.Cut.{fields}
-use Rattle.ae_parse.specs.Grammar.{places_after}
+use Rattle.ae_fields.specs.Cut.{fields}
+use Rattle.ae_fields.specs.Grammar.{places_after}
 use Rattle.ae_parse.proofs.op_lines.places.Given as goal
 
 abbrev pub invariant-loop-field : goal.invariant-loop-field

@@ -1,5 +1,5 @@
 use Rattle.std.proofs.Common.{◌≡◌, drop}
-use Rattle.ae_parse.specs.Cleaned.{all_printed}
+use Rattle.ae_fields.specs.Cleaned.{all_printed}
 use Rattle.ae_parse.proofs.parser.all_printed.Given as goal
 
 abbrev pub invariant-loop-byte : goal.invariant-loop-byte

@@ -2,9 +2,9 @@ use Rattle.std.proofs.Common.{◌≡◌, ℕ, ◌+◌, ◌<◌, false, if◌then
 use Rattle.ae_seq.specs.ProgramTree.{program_tree}
 use Rattle.ae_seq.specs.Formed.{formed}
 use Rattle.ae_seq.specs.declared.program.Program.{Program}
-use Rattle.ae_parse.specs.Cut.{lines, fields, said}
-use Rattle.ae_parse.specs.Parts.{is_mark}
-use Rattle.ae_parse.specs.Grammar.{State, at_end, program, after_line, by_state, reading, reading_from}
+use Rattle.ae_fields.specs.Cut.{lines, fields, said}
+use Rattle.ae_fields.specs.Parts.{is_mark}
+use Rattle.ae_fields.specs.Grammar.{State, at_end, program, after_line, by_state, reading, reading_from}
 use Rattle.ae_parse.specs.StateView.{state_of, part_of}
 use Rattle.ae_parse.specs.declared.parser.Part.{Part as PartCode}
 use Rattle.ae_parse.specs.declared.program_text.ParseFault.{ParseFault}

@@ -1,6 +1,6 @@
 use Rattle.std.proofs.Common.{length, ◌≡◌, ◌≤◌, ◌+◌}
-use Rattle.ae_parse.specs.Cut.{lines}
-use Rattle.ae_parse.specs.Grammar.{reading, reading_from}
+use Rattle.ae_fields.specs.Cut.{lines}
+use Rattle.ae_fields.specs.Grammar.{reading, reading_from}
 use Rattle.ae_parse.specs.StateView.{state_of}
 use Rattle.ae_parse.proofs.Soundness.{Sound}
 use Rattle.ae_parse.proofs.program_text.parse.Given as goal

@@ -2,7 +2,7 @@ use Rattle.std.proofs.Common.{◌≡◌, ◌∙◌, ℕ, ◌<◌, ◌^◌, ap, s
 use Rattle.std.specs.Fmt.{decimal}
 use Rattle.std.specs.Str.Parse.{digits_value}
 use Rattle.std.proofs.lemmas.Fmt.{digits_value-decimal}
-use Rattle.ae_parse.proofs.Plain.{own}
+use Rattle.ae_fields.proofs.PlainLemmas.{own}
 use Rattle.ae_tool.proofs.command.size_of.Goals.{else-n-ge1-via-then-n-ge1+else-n-le64, else-n-ge1-via-else-n-ge1}
 use Rattle.ae_tool.proofs.command.size_of.Goals as goal
 

@@ -1,0 +1,4 @@
+pub mod EdgeBlocks
+pub mod EdgeFits
+pub mod EdgeLaws
+mod Acted

@@ -1,0 +1,5 @@
+pub mod NetLaws
+pub mod CompareLaws
+mod Arms
+mod Lowered
+mod PartLaws

@@ -1,0 +1,5 @@
+pub use Rattle.ae_gates.specs.Cells
+pub mod Forms
+pub mod Parts
+pub mod Lowered
+pub mod ConstantValue

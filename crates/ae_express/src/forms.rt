@@ -1,0 +1,186 @@
+// Binary operators by the cells that they take.
+
+ghost use Rattle.std.specs.Prelude.{◌≡◌, ◌<◌, ◌≤◌, ◌+◌, ◌*◌, ℕ, List, length, IfNone, IfOk, IfSome, OnOk};
+ghost use Rattle.ae_netlist.specs.Circuit.{IsNet};
+ghost use Rattle.ae_netlist.specs.Runs.{Clock};
+ghost use Rattle.ae_vread.specs.View.{expr_tree};
+ghost use Rattle.ae_judge.specs.Widths.{binary_width};
+ghost use Rattle.ae_judge.specs.Weight.{operator_weight, shift_weight};
+ghost use Rattle.ae_runs.specs.Values.{binary_result, left_width, right_width};
+ghost use Rattle.ae_gates.specs.Cells.{Grows, HasRoom, IsWord};
+ghost use Rattle.ae_express.specs.ConstantValue.{IsConstantOf};
+ghost use Rattle.ae_express.specs.Forms.{IsForm, IsShiftForm, most_cells, relation_result};
+
+use ae_gates::{Way, compared, gate, opposed, shifted, tested};
+use ae_netlist::{NetId, Netlist};
+use ae_vread::{BinOp, Expr};
+use ae_word::WordOp;
+use std::alloc::AllocError;
+
+/// A comparison of two words.
+#[derive(Clone, Copy, PartialEq, Eq, Debug)]
+pub enum Relation {
+    Equal,
+    Differs,
+    Less,
+    AtLeast,
+    Greater,
+    AtMost,
+}
+
+/// What a binary operator is made of.
+#[derive(Clone, Copy, PartialEq, Eq, Debug)]
+pub enum Form {
+    /// One operator on words of the width.
+    Word(WordOp),
+    Shift(Way),
+    Comparison(Relation),
+    /// The opposite of an operator on the bits that say which word is 0.
+    Test(WordOp),
+}
+
+/// What an operator is made of.
+pub fn form_of(op: BinOp) -> Form
+    ensures { IsForm op result }
+{
+    match op {
+        BinOp::Mul => Form::Word(WordOp::Mul),
+        BinOp::Add => Form::Word(WordOp::Add),
+        BinOp::Sub => Form::Word(WordOp::Sub),
+        BinOp::And => Form::Word(WordOp::And),
+        BinOp::Xor => Form::Word(WordOp::Xor),
+        BinOp::Or => Form::Word(WordOp::Or),
+        BinOp::Shl => Form::Shift(Way::Left),
+        BinOp::Shr => Form::Shift(Way::Right),
+        BinOp::Lt => Form::Comparison(Relation::Less),
+        BinOp::Le => Form::Comparison(Relation::AtMost),
+        BinOp::Gt => Form::Comparison(Relation::Greater),
+        BinOp::Ge => Form::Comparison(Relation::AtLeast),
+        BinOp::Eq => Form::Comparison(Relation::Equal),
+        BinOp::Ne => Form::Comparison(Relation::Differs),
+        BinOp::Both => Form::Test(WordOp::Or),
+        BinOp::Either => Form::Test(WordOp::And),
+    }
+}
+
+/// The value of a constant.
+fn constant_value(e: &Expr) -> Option<u64>
+    ensures some { IfSome result (λ k. IsConstantOf k (expr_tree e.now)) }
+    ensures none { IfNone result (shift_weight (expr_tree e.now) ≡ 6) }
+{
+    match e {
+        Expr::Const { value, .. } => Some(*value),
+        _ => None,
+    }
+}
+
+/// The way and the places of a shift by a constant.
+pub fn fixed_shift(op: BinOp, amount: &Expr) -> Option<(Way, u64)>
+    ensures way { IfSome result (λ s. IsShiftForm op s.0) }
+    ensures places { IfSome result (λ s. IsConstantOf s.1 (expr_tree amount.now)) }
+    ensures none { IfNone result (8 * operator_weight op (expr_tree amount.now) ≡ most_cells op + 1) }
+{
+    match form_of(op) {
+        Form::Shift(way) => match constant_value(amount) {
+            Some(places) => Some((way, places)),
+            None => None,
+        },
+        _ => None,
+    }
+}
+
+/// The widths at which both operands are computed, where `w` is handed down, and `a` and `b` are their own.
+pub fn operand_widths(op: BinOp, w: u32, a: u32, b: u32) -> (u32, u32)
+    requires within { binary_width op a b ≤ w }
+    requires high { w ≤ 64 }
+    requires a_low { 1 ≤ a }
+    requires a_high { a ≤ 64 }
+    requires b_low { 1 ≤ b }
+    requires b_high { b ≤ 64 }
+    ensures left { result.0 ≡ left_width op w a b }
+    ensures right { result.1 ≡ right_width op w a b }
+    ensures left_within { a ≤ result.0 }
+    ensures right_within { b ≤ result.1 }
+    ensures left_high { result.0 ≤ 64 }
+    ensures right_high { result.1 ≤ 64 }
+{
+    match form_of(op) {
+        Form::Word(_) => (w, w),
+        Form::Shift(_) => (w, b),
+        Form::Comparison(_) => (a.max(b), a.max(b)),
+        Form::Test(_) => (a, b),
+    }
+}
+
+/// The bit of a comparison of two words of one width, at a width.
+pub fn compare(
+    nl: &mut Netlist,
+    from: u32,
+    how: Relation,
+    a: NetId,
+    b: NetId,
+    own: u32,
+    width: u32,
+) -> Result<NetId, AllocError>
+    requires from { from ≤ length nl.old.cells }
+    requires low { 1 ≤ width }
+    requires high { width ≤ 64 }
+    requires left { IsNet nl.old.cells a.0 own }
+    requires right { IsNet nl.old.cells b.0 own }
+    requires room { HasRoom nl.old 3 }
+    ensures grows { OnOk result (Grows nl.old nl.new) }
+    ensures more { OnOk result (length nl.old.cells ≤ length nl.new.cells) }
+    ensures few { OnOk result (length nl.new.cells ≤ length nl.old.cells + 3) }
+    ensures net { IfOk result (λ y. IsNet nl.new.cells y.0 width) }
+    ensures word { IfOk result (λ y. (f g : List Clock → ℕ → ℕ) → IsWord from nl.old.cells a.0 own f → IsWord from nl.old.cells b.0 own g → IsWord from nl.new.cells y.0 width (λ run t. relation_result how (f run t) (g run t))) }
+{
+    match how {
+        Relation::Equal => compared(nl, from, WordOp::Eq, a, b, own, width),
+        Relation::Differs => opposed(nl, from, WordOp::Eq, a, b, own, width),
+        Relation::Less => compared(nl, from, WordOp::Lt, a, b, own, width),
+        Relation::AtLeast => opposed(nl, from, WordOp::Lt, a, b, own, width),
+        Relation::Greater => compared(nl, from, WordOp::Lt, b, a, own, width),
+        Relation::AtMost => opposed(nl, from, WordOp::Lt, b, a, own, width),
+    }
+}
+
+/// The result of an operator on two words, each at the width at which it is computed, where `w` is handed down, and
+/// `_own_a` and `_own_b` are the operands' own.
+#[tactic(auto, using(ae_gates::proofs::Words::net_grows))]
+pub fn combine(
+    nl: &mut Netlist,
+    from: u32,
+    op: BinOp,
+    w: u32,
+    _own_a: u32,
+    _own_b: u32,
+    x: NetId,
+    wx: u32,
+    y: NetId,
+    wy: u32,
+) -> Result<NetId, AllocError>
+    requires from { from ≤ length nl.old.cells }
+    requires low { 1 ≤ w }
+    requires high { w ≤ 64 }
+    requires x_low { 1 ≤ wx }
+    requires x_high { wx ≤ 64 }
+    requires y_low { 1 ≤ wy }
+    requires y_high { wy ≤ 64 }
+    requires left_width { wx ≡ left_width op w _own_a _own_b }
+    requires right_width { wy ≡ right_width op w _own_a _own_b }
+    requires left { IsNet nl.old.cells x.0 wx }
+    requires right { IsNet nl.old.cells y.0 wy }
+    requires room { HasRoom nl.old (most_cells op) }
+    ensures grows { OnOk result (Grows nl.old nl.new) }
+    ensures more { OnOk result (length nl.old.cells ≤ length nl.new.cells) }
+    ensures few { OnOk result (length nl.new.cells ≤ length nl.old.cells + most_cells op) }
+    ensures net { IfOk result (λ z. IsNet nl.new.cells z.0 w) }
+    ensures word { IfOk result (λ z. (f g : List Clock → ℕ → ℕ) → IsWord from nl.old.cells x.0 wx f → IsWord from nl.old.cells y.0 wy g → IsWord from nl.new.cells z.0 w (λ run t. binary_result op w (f run t) (g run t))) }
+{
+    match form_of(op) {
+        Form::Word(cell) => gate(nl, from, cell, x, y, w, w),
+        Form::Shift(way) => shifted(nl, from, way, x, y, wy, w),
+        Form::Comparison(how) => compare(nl, from, how, x, y, wx, w),
+        Form::Test(cell) => tested(nl, from, cell, x, wx, y, wy, w),
+    }
+}

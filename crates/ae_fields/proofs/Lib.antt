@@ -1,0 +1,14 @@
+pub mod Bools
+pub mod CutLemmas
+pub mod Digits
+pub mod FieldLemmas
+pub mod NameLemmas
+pub mod NameForms
+pub mod OptionLemmas
+pub mod PartLemmas
+pub mod PlainLemmas
+pub mod PlainOf
+pub mod RowLemmas
+pub mod ScopeLemmas
+pub mod StepCases
+pub mod TypeSteps

@@ -1,0 +1,23 @@
+use Rattle.std.proofs.Common.{◌≡◌, ◌∷◌, ◌∙◌, sym, arith, drop, get_or, false}
+use Rattle.std.proofs.lemmas.Grind.{common_steps}
+use Rattle.ae_fields.specs.Cut.{fields, is_gap, goes_on}
+use Rattle.ae_fields.proofs.FieldLemmas.{no_blank-more, goes_on-blank, goes_on-end, fields-taken}
+use Rattle.ae_fields.proofs.fields.next_field.Goals.{then-loop-end-test+else-not-is_gap, else-loop-end-test}
+use Rattle.ae_fields.proofs.fields.next_field.Goals as goal
+
+pub loop-end-preserved : goal.loop-end-preserved
+loop-end-preserved c =
+    let e : is_gap (get_or c.after_blanks-said.result.now c.loop-end.end 0) ≡ false = grind (arith, common_steps) in
+    (grind (arith, common_steps), no_blank-more c.after_blanks-said.result.now c.loop-end.end c.loop-end-test.true c.loop-end.invariant.1 e)
+
+pub returns-clause-cases : goal.returns-clause-cases
+returns-clause-cases c =
+    let xs = c.after_blanks-said.result.now in
+    let k = c.loop-end.end in
+    let g : goes_on (drop k xs) ≡ false = elim c.loop-end-test.branch [
+      | then-loop-end-test+else-not-is_gap w ↦ goes_on-blank xs k w.loop-end-test.true (sym w.is_gap.ensures ∙ w.if-not-is_gap.false)
+      | else-loop-end-test w ↦ goes_on-end xs k (grind (arith, common_steps))
+    ] in
+    sym c.after_blanks-said.ensures.same
+    ∙ fields-taken xs k (grind (arith, common_steps)) c.loop-end.invariant.0 c.loop-end.invariant.1 g
+    ∙ (λ j. sym c.split_at.ensures.front j ∷ fields (sym c.split_at.ensures.back j))

@@ -1,0 +1,12 @@
+pub mod Cut
+pub mod Cleaned
+pub mod Name
+pub mod Number
+pub mod Parts
+pub mod Scopes
+pub mod TypeForm
+pub mod Words
+pub mod Grammar
+pub mod View
+pub mod Rows
+pub mod RowCauses

@@ -1,0 +1,173 @@
+-- The words of nets that were added, by those of their operands.
+use Rattle.std.proofs.Common.{ℕ, ◌≡◌, ◌≢◌, ◌+◌, ◌*◌, ◌%◌, ◌^◌, ◌==◌, ◌<◌, ◌≤◌, if◌then◌else◌, Bool, true, false, List, [], ◌∷◌, ◌++◌, length, arith, refl, ap, ◌∙◌, sym, subst, length-append, Result, Ok, Err, IfOk, OnOk}
+use Rattle.std.specs.List.{filter, enumerate_from}
+use Rattle.std.proofs.Math.Nat.{pow-le-pow_right, mod-eq_of_lt, mul-le-mul_right, add-mul, one-mul}
+use Rattle.std.proofs.lemmas.Nat.{pow-add}
+use Rattle.ae_word.specs.WordTable.{bit, word_result, HasRange, is_signed, result_width_of}
+use Rattle.ae_word.specs.declared.op.WordOp.{WordOp}
+use Rattle.ae_word.specs.declared.op.WordOp.TheVariants.{Mux}
+use Rattle.ae_netlist.specs.declared.cell.NetId.{NetId}
+use Rattle.ae_netlist.specs.declared.cell.Cell.{Cell}
+use Rattle.ae_netlist.specs.declared.cell.Cell.TheVariants.{Input, Const, Op, Reg, Mem, Peek}
+use Rattle.ae_netlist.specs.declared.cell.SizedCell.{SizedCell}
+use Rattle.ae_netlist.specs.Circuit.{Circuit, IsNet, IsPlain, IsOperation, OperandsAre, width_of, main_operand}
+use Rattle.ae_netlist.specs.Runs.{Clock, word_at, IsRun, Carries}
+use Rattle.ae_netlist.proofs.Gets.{get_pushed}
+use Rattle.ae_netlist.proofs.Growing.{net_later, net_width, extends_append, extends_refl, extends_trans}
+use Rattle.ae_netlist.proofs.Carried.{const_word, op_word, carries_later, carries_trans, carries_extends}
+use Rattle.ae_runs.specs.SameRuns.{is_input_cell, is_state_cell}
+use Rattle.ae_runs.proofs.Fits.{net_fits}
+use Rattle.ae_gates.specs.Cells.{Grows, IsWord}
+
+-- a cell that does not pass is left out
+pub left_out : (test : Cell → Bool) (k : ℕ) (cells : List SizedCell) (c : SizedCell) → test c.cell ≡ false
+    → filter (λ (x : ℕ × SizedCell). test x.1.cell) (enumerate_from k (cells ++ c ∷ [])) ≡ filter (λ (x : ℕ × SizedCell). test x.1.cell) (enumerate_from k cells)
+left_out test k [] c h = rw h refl
+left_out test k (x ∷ cells) c h =
+    ap (λ ys. if test x.cell then (k, x) ∷ ys else ys) (left_out test (k + 1) cells c h)
+
+-- how a netlist grows by a cell, and by more
+pub grows_push : (old new : Circuit) (c : SizedCell) → is_input_cell c.cell ≡ false → is_state_cell c.cell ≡ false → new ≡ record old { cells = old.cells ++ c ∷ [] } → Grows old new
+grows_push old new c i s e = rw e (record {
+  extends = extends_append old.cells (c ∷ []);
+  limit = refl;
+  outlets = refl;
+  inputs = left_out is_input_cell 0 old.cells c i;
+  states = left_out is_state_cell 0 old.cells c s;
+})
+
+pub grows_refl : (a : Circuit) → Grows a a
+grows_refl a = record { extends = extends_refl a.cells; limit = refl; outlets = refl; inputs = refl; states = refl }
+
+pub grows_trans : {a b c : Circuit} → Grows a b → Grows b c → Grows a c
+grows_trans p q = record {
+  extends = extends_trans p.extends q.extends;
+  limit = q.limit ∙ p.limit;
+  outlets = q.outlets ∙ p.outlets;
+  inputs = q.inputs ∙ p.inputs;
+  states = q.states ∙ p.states;
+}
+
+pub net_grows : {a b : Circuit} {n w : ℕ} → Grows a b → IsNet a.cells n w → IsNet b.cells n w
+net_grows g h = net_later g.extends h
+
+pub longer : (old new : Circuit) (c : SizedCell) → new ≡ record old { cells = old.cells ++ c ∷ [] } → length new.cells ≡ length old.cells + 1
+longer old new c e = ap (λ (x : Circuit). length x.cells) e ∙ length-append old.cells (c ∷ [])
+
+pub pushed_net : (old new : Circuit) (y : NetId) (w : ℕ) (cell : Cell) → IsPlain cell → y ≡ record { 0 = length old.cells } → new ≡ record old { cells = old.cells ++ (record { width = w; cell = cell }) ∷ [] } → IsNet new.cells y.0 w
+pushed_net old new y w cell p i e = rw (e, i) (record { sized = record { width = w; cell = cell }; found = get_pushed old.cells _; plain = p; wide = refl })
+
+-- what carries the later cells carries the earlier
+pub back : {a b : Circuit} {all : List SizedCell} {from : ℕ} → Grows a b → Carries from b.cells all → Carries from a.cells all
+back {from} g k = carries_trans (carries_extends from g.extends) k
+
+-- a word stays what it is as the netlist grows
+pub word_grows : {from n w : ℕ} {a b : Circuit} {f : List Clock → ℕ → ℕ} → Grows a b → IsWord from a.cells n w f → IsWord from b.cells n w f
+word_grows g h = record { found = net_grows g h.found; words = λ all k run is t l. h.words all (back g k) run is t l }
+
+operands_two : (op : WordOp) (P : ℕ → ℕ → Type 0) (a b : NetId) (w : ℕ) → op ≢ Mux → P a.0 w → P b.0 w → OperandsAre op P (a ∷ b ∷ a ∷ []) w
+operands_two Mux P a b w ne h g = absurd (ne refl)
+operands_two _ P a b w ne h g = (h, g, h)
+
+main_two : (op : WordOp) (a b : NetId) → op ≢ Mux → main_operand op (a ∷ b ∷ a ∷ []) ≡ a.0
+main_two Mux a b ne = absurd (ne refl)
+main_two _ a b ne = refl
+
+pub two_operation : (cells : List SizedCell) (op : WordOp) (a b : NetId) (w r : ℕ) → is_signed op ≡ false → op ≢ Mux → HasRange op → IsNet cells a.0 w → IsNet cells b.0 w → r ≡ result_width_of op w → IsOperation cells op (a ∷ b ∷ a ∷ []) r
+two_operation cells op a b w r plain ne range p q e =
+    let wide : width_of cells (main_operand op (a ∷ b ∷ a ∷ [])) ≡ w = ap (width_of cells) (main_two op a b ne) ∙ net_width p in
+    record { unsigned = plain; range = range; operands = rw wide (operands_two op (IsNet cells) a b w ne p q); result = rw wide e }
+
+pub choose_operation : (cells : List SizedCell) (c a b : NetId) (w : ℕ) → IsNet cells c.0 1 → IsNet cells a.0 w → IsNet cells b.0 w → IsOperation cells Mux (c ∷ a ∷ b ∷ []) w
+choose_operation cells c a b w s p q = let e : width_of cells a.0 ≡ w = net_width p in record { unsigned = refl; range = tt; operands = rw e (s, p, q); result = sym e }
+
+-- the word of an operator
+pub gate_word : (from : ℕ) (old new : Circuit) (y : NetId) (op : WordOp) (a b : NetId) (w r : ℕ) → op ≢ Mux → from ≤ length old.cells → y ≡ record { 0 = length old.cells }
+    → new ≡ record old { cells = old.cells ++ (record { width = r; cell = Op op (a ∷ b ∷ a ∷ []) }) ∷ [] }
+    → (f g : List Clock → ℕ → ℕ) → IsWord from old.cells a.0 w f → IsWord from old.cells b.0 w g → IsWord from new.cells y.0 r (λ run t. word_result op w (f run t) (g run t) (f run t))
+gate_word from old new y op a b w r ne low i e f g fa gb =
+    let args : List NetId = a ∷ b ∷ a ∷ [] in
+    let more : List SizedCell = old.cells ++ (record { width = r; cell = Op op args }) ∷ [] in
+    let main : IsNet old.cells (main_operand op args) w = subst (λ n. IsNet old.cells n w) (sym (main_two op a b ne)) fa.found in
+    rw (e, i) (record {
+      found = record { sized = record { width = r; cell = Op op args }; found = get_pushed old.cells _; plain = tt; wide = refl };
+      words = λ all k run is t l.
+          let before : Carries from old.cells all = carries_trans (carries_extends from (extends_append old.cells _)) k in
+          let z = op_word old.cells op args r w main all (carries_later from (length old.cells) low k) run is t l in
+          let p = fa.words all before run is t l in
+          let q = gb.words all before run is t l in
+          rw (p, q) at z;
+    })
+
+pub select_word : (from : ℕ) (old new : Circuit) (y c a b : NetId) (w : ℕ) → from ≤ length old.cells → y ≡ record { 0 = length old.cells }
+    → new ≡ record old { cells = old.cells ++ (record { width = w; cell = Op Mux (c ∷ a ∷ b ∷ []) }) ∷ [] }
+    → (h f g : List Clock → ℕ → ℕ) → IsWord from old.cells c.0 1 h → IsWord from old.cells a.0 w f → IsWord from old.cells b.0 w g → IsWord from new.cells y.0 w (λ run t. if h run t == 1 then f run t else g run t)
+select_word from old new y c a b w low i e h f g hc fa gb =
+    let args : List NetId = c ∷ a ∷ b ∷ [] in
+    rw (e, i) (record {
+      found = record { sized = record { width = w; cell = Op Mux args }; found = get_pushed old.cells _; plain = tt; wide = refl };
+      words = λ all k run is t l.
+          let before : Carries from old.cells all = carries_trans (carries_extends from (extends_append old.cells _)) k in
+          let z = op_word old.cells Mux args w w fa.found all (carries_later from (length old.cells) low k) run is t l in
+          let o = hc.words all before run is t l in
+          let p = fa.words all before run is t l in
+          let q = gb.words all before run is t l in
+          rw (o, p, q) at z;
+    })
+
+pub fixed_word : (from : ℕ) (old new : Circuit) (y : NetId) (w k : ℕ) → from ≤ length old.cells → y ≡ record { 0 = length old.cells }
+    → new ≡ record old { cells = old.cells ++ (record { width = w; cell = Const k }) ∷ [] } → IsWord from new.cells y.0 w (λ run t. k)
+fixed_word from old new y w k low i e = rw (e, i) (record {
+  found = record { sized = record { width = w; cell = Const k }; found = get_pushed old.cells _; plain = tt; wide = refl };
+  words = λ all c run is t l. const_word old.cells w k all (carries_later from (length old.cells) low c) run is t l;
+})
+
+-- a value that a net has fits
+pub value_fits : (from : ℕ) (cells all : List SizedCell) (run : List Clock) (t n w : ℕ) (f : List Clock → ℕ → ℕ) → IsWord from cells n w f → Carries from cells all → IsRun all run → t < length run → f run t < 2 ^ w
+value_fits from cells all run t n w f h k is l =
+    let e = h.words all k run is t l in
+    rw (← e) (net_fits all run t n w (k.nets n w h.found) is l)
+
+-- a value by another way to it
+pub word_by : {from n w : ℕ} {cells : List SizedCell} (f g : List Clock → ℕ → ℕ) → ((all : List SizedCell) → Carries from cells all → (run : List Clock) → IsRun all run → (t : ℕ) → t < length run → f run t ≡ g run t) → IsWord from cells n w f → IsWord from cells n w g
+word_by f g e h = record { found = h.found; words = λ all k run is t l. h.words all k run is t l ∙ e all k run is t l }
+
+pub same_word : {from n w : ℕ} {cells : List SizedCell} (f g : List Clock → ℕ → ℕ) → ((run : List Clock) (t : ℕ) → f run t ≡ g run t) → IsWord from cells n w f → IsWord from cells n w g
+same_word f g e h = word_by f g (λ all k run is t l. e run t) h
+
+pub widen_word : (from : ℕ) (old new : Circuit) (x y own w : ℕ) → own ≤ w → Grows old new → (f : List Clock → ℕ → ℕ) → IsWord from old.cells x own f → IsWord from new.cells y w (λ run t. f run t % 2 ^ w) → IsWord from new.cells y w f
+widen_word from old new x y own w le grows f p q =
+    word_by (λ run t. f run t % 2 ^ w) f
+    (λ all k run is t l.
+    let small : f run t < 2 ^ own = value_fits from old.cells all run t x own f p (back grows k) is l in
+    let more : 2 ^ own ≤ 2 ^ w = pow-le-pow_right (omega arith) le in
+    mod-eq_of_lt (omega arith)) q
+
+-- a word of its own width is its own remainder
+pub fit_word : (from : ℕ) (cells : List SizedCell) (x w : ℕ) (f : List Clock → ℕ → ℕ) → IsWord from cells x w f → IsWord from cells x w (λ run t. f run t % 2 ^ w)
+fit_word from cells x w f p = word_by f (λ run t. f run t % 2 ^ w) (λ all k run is t l. sym (mod-eq_of_lt (value_fits from cells all run t x w f p k is l))) p
+
+-- a choice by a bit
+pub if_bit : (z : Bool) (f g : ℕ) → (if bit z == 1 then f else g) ≡ (if z then f else g)
+if_bit true f g = refl
+if_bit false f g = refl
+
+link_small : (a b wa wb w : ℕ) → a < 2 ^ wa → b < 2 ^ wb → wa + wb ≤ w → a * 2 ^ wb + b < 2 ^ w
+link_small a b wa wb w ha hb le =
+    let p : 2 ^ (wa + wb) ≤ 2 ^ w = pow-le-pow_right (omega arith) le in
+    let q : 2 ^ (wa + wb) ≡ 2 ^ wa * 2 ^ wb = pow-add 2 wa wb in
+    let r : (a + 1) * 2 ^ wb ≤ 2 ^ wa * 2 ^ wb = mul-le-mul_right (2 ^ wb) (omega arith) in
+    let s : (a + 1) * 2 ^ wb ≡ a * 2 ^ wb + 2 ^ wb = add-mul a 1 (2 ^ wb) ∙ ap (λ k. a * 2 ^ wb + k) (one-mul (2 ^ wb)) in
+    omega arith
+
+-- two words side by side
+pub linked_word : (from : ℕ) (old cells : List SizedCell) (n na nb wa wb w : ℕ) (f g : List Clock → ℕ → ℕ) → wa + wb ≤ w → IsWord from old na wa f → IsWord from old nb wb g → ((all : List SizedCell) → Carries from cells all → Carries from old all)
+    → IsWord from cells n w (λ run t. ((f run t * 2 ^ wb) % 2 ^ w + g run t) % 2 ^ w) → IsWord from cells n w (λ run t. f run t * 2 ^ wb + g run t)
+linked_word from old cells n na nb wa wb w f g le p r carry q =
+    word_by (λ run t. ((f run t * 2 ^ wb) % 2 ^ w + g run t) % 2 ^ w) (λ run t. f run t * 2 ^ wb + g run t)
+    (λ all k run is t l.
+    let x : f run t < 2 ^ wa = value_fits from old all run t na wa f p (carry all k) is l in
+    let y : g run t < 2 ^ wb = value_fits from old all run t nb wb g r (carry all k) is l in
+    let z = link_small _ _ wa wb w x y le in
+    let m : (f run t * 2 ^ wb) % 2 ^ w ≡ f run t * 2 ^ wb = mod-eq_of_lt (omega arith) in
+    rw m (mod-eq_of_lt z)) q

@@ -1,0 +1,36 @@
+use Rattle.std.proofs.Common.{ℕ, List, ◌%◌, ◌^◌, ap, ◌∙◌, arith}
+use Rattle.ae_netlist.specs.Runs.{Clock}
+use Rattle.ae_gates.proofs.Words.{net_grows, grows_trans, word_grows, same_word}
+use Rattle.ae_gates.proofs.ShiftLaws.{stage_moved}
+use Rattle.ae_gates.specs.Shifts.{moved}
+use Rattle.ae_gates.proofs.compounds.stage.Goals as goal
+
+pub select-requires-clause-right : goal.select-requires-clause-right
+select-requires-clause-right c = net_grows (grows_trans c.in_ok-far.ensures.grows c.in_ok-bit.ensures.grows) c.requires.net
+
+pub returns-clause-word : goal.returns-clause-word
+returns-clause-word c = λ f g x y.
+    let g2 = grows_trans c.in_ok-far.ensures.grows c.in_ok-bit.ensures.grows in
+    let held : List Clock → ℕ → ℕ = λ run t. moved c.args.way c.args.width (f run t) (g run t % 2 ^ c.args.i) in
+    let far = same_word _ (λ run t. moved c.args.way c.args.width (held run t) (2 ^ c.args.i))
+    (λ run t. c.shift-op.ensures.word c.args.width (held run t) (held run t) (held run t) ∙ ap (moved c.args.way c.args.width (held run t)) c.power.ensures)
+    (c.in_ok-far.ensures.word held held x x) in
+    let bit = c.in_ok-bit.ensures.word g (word_grows c.in_ok-far.ensures.grows y) in
+    same_word _ _ (λ run t. stage_moved c.args.way c.args.width (f run t) (g run t) c.args.i)
+    (c.in_ok-y.ensures.word _ _ _ bit (word_grows c.in_ok-bit.ensures.grows far) (word_grows g2 x))
+
+pub select-requires-clause-room : goal.select-requires-clause-room
+select-requires-clause-room c =
+    let a = c.in_ok-far.ensures.few in
+    let b = c.in_ok-bit.ensures.few in
+    let m = c.in_ok-far.ensures.grows.limit in
+    let n = c.in_ok-bit.ensures.grows.limit in
+    let r = c.requires.room in
+    omega arith
+
+pub returns-clause-few : goal.returns-clause-few
+returns-clause-few c =
+    let a = c.in_ok-far.ensures.few in
+    let b = c.in_ok-bit.ensures.few in
+    let d = c.in_ok-y.ensures.few in
+    omega arith

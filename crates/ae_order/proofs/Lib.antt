@@ -1,0 +1,12 @@
+pub mod Answered
+pub mod Constants
+pub mod DriveLaws
+pub mod SoundLaws
+pub mod SoundOf
+pub mod Turns
+mod FlatLaws
+mod GraphGets
+mod GraphLeft
+mod GraphWalks
+mod NameLists
+mod PlaceLaws

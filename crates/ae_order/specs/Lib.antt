@@ -1,0 +1,4 @@
+pub mod Graph
+pub mod Walks
+pub mod Sound
+pub mod Drives

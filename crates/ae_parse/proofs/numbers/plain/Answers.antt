@@ -1,6 +1,0 @@
-use Rattle.std.proofs.Common.{arith}
-use Rattle.ae_parse.proofs.PlainOf.{plain-answer}
-use Rattle.ae_parse.proofs.numbers.plain.Goals as goal
-
-pub returns : goal.returns
-returns c = plain-answer c.args.low c.args.high c.args.digits.now c.plain_number.result (omega arith) c.plain_number.ensures

@@ -1,0 +1,2 @@
+pub use Rattle.ae_fields.specs.Grammar
+pub mod Printed
