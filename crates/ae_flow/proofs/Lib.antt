@@ -3,7 +3,7 @@ pub mod Placed
 pub mod Words
 pub mod Spreading
 pub mod Fixed
-pub mod PlainLemmas
+pub mod Plain
 pub mod Calls
 pub mod Scheduling
 pub mod Widths
