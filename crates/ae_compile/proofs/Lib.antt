@@ -10,3 +10,4 @@ mod Noting
 mod Shown
 mod Enabling
 mod Alike
+mod Short

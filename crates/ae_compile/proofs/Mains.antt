@@ -78,18 +78,29 @@ names_plain : (ns : List NodeTree) → IsTrue (all_names (node_names ns)) → Al
 names_plain [] h = tt
 names_plain (n ∷ ns) h = (name_plain n.name (both_left (is_name n.name) (all_names (node_names ns)) h), names_plain ns (both_right (is_name n.name) (all_names (node_names ns)) h))
 
-func_named : (v n m : ℕ) (f : FuncTree) → IsTrue (formed_func v n m f) → AllNamed f.nodes
-func_named v n m f h =
-    let items : IsTrue (named_items f) = both_right _ (named_items f) h in
-    let named : IsTrue (all_names (node_names f.nodes)) = grind (arith, nat_tests) in
-    names_plain f.nodes named
+name_short : (n : List ℕ) → IsTrue (is_name n) → length n ≤ 32
+name_short n h = grind (arith, nat_tests)
 
-funcs_named : (v n : ℕ) (fs : List FuncTree) (k : ℕ) (f : FuncTree) → IsTrue (formed_funcs v n fs) → slice_get fs k ≡ Some f → AllNamed f.nodes
+names_short : (ns : List NodeTree) → IsTrue (all_names (node_names ns)) → (j : ℕ) (n : NodeTree) → slice_get ns j ≡ Some n → length n.name ≤ 32
+names_short [] h j n at = absurd (none-some n at)
+names_short (x ∷ xs) h zero n at = rw (← same_Some x n at) (name_short x.name (both_left (is_name x.name) (all_names (node_names xs)) h))
+names_short (x ∷ xs) h (suc j) n at = names_short xs (both_right (is_name x.name) (all_names (node_names xs)) h) j n at
+
+func_named : (v n m : ℕ) (f : FuncTree) → IsTrue (formed_func v n m f) → IsTrue (all_names (node_names f.nodes))
+func_named v n m f h = let items : IsTrue (named_items f) = both_right _ (named_items f) h in grind (arith, nat_tests)
+
+funcs_named : (v n : ℕ) (fs : List FuncTree) (k : ℕ) (f : FuncTree) → IsTrue (formed_funcs v n fs) → slice_get fs k ≡ Some f → IsTrue (all_names (node_names f.nodes))
 funcs_named v n [] k f h at = absurd (none-some f at)
 funcs_named v n (g ∷ fs) zero f h at =
     let e : g ≡ f = same_Some g f at in
     rw (← e) (func_named v n (most_results v fs) g (both_left (formed_func v n (most_results v fs) g) (formed_funcs v (n + 1) fs) h))
 funcs_named v n (g ∷ fs) (suc k) f h at = funcs_named v (n + 1) fs k f (both_right (formed_func v n (most_results v fs) g) (formed_funcs v (n + 1) fs) h) at
 
+nodes_named : (p : ProgramTree) (k : ℕ) (f : FuncTree) → IsTrue (formed p) → slice_get p.funcs k ≡ Some f → IsTrue (all_names (node_names f.nodes))
+nodes_named p k f h at = let own : IsTrue (formed_funcs p.version 0 p.funcs) = grind (arith, nat_tests) in funcs_named p.version 0 p.funcs k f own at
+
 pub main_named : (p : ProgramTree) (k : ℕ) (f : FuncTree) → IsTrue (formed p) → slice_get p.funcs k ≡ Some f → AllNamed f.nodes
-main_named p k f h at = let own : IsTrue (formed_funcs p.version 0 p.funcs) = grind (arith, nat_tests) in funcs_named p.version 0 p.funcs k f own at
+main_named p k f h at = names_plain f.nodes (nodes_named p k f h at)
+
+pub main_short : (p : ProgramTree) (k : ℕ) (f : FuncTree) → IsTrue (formed p) → slice_get p.funcs k ≡ Some f → (j : ℕ) (n : NodeTree) → slice_get f.nodes j ≡ Some n → length n.name ≤ 32
+main_short p k f h at = names_short f.nodes (nodes_named p k f h at)

@@ -6,6 +6,7 @@ ghost use Rattle.ae_rewrite.specs.StProgramTree.{st_func_trees};
 ghost use Rattle.ae_vread.specs.Spells.{Spells};
 ghost use Rattle.ae_verilog.specs.Notes.{ArePrinted, note_tree, noted_module};
 ghost use Rattle.ae_verilog.specs.ReportLines.{report_tree};
+ghost use Rattle.ae_spelled.specs.Short.{IsShort};
 ghost use Rattle.ae_compile.specs.Building.{IsModuleText, IsStalledText, IsWritten};
 ghost use Rattle.ae_compile.specs.Passes.{IsCompiledProgram, IsStalledProgram};
 
@@ -13,21 +14,20 @@ use crate::circuits::Compiled;
 use crate::faults::OutOfMemory;
 use ae_correct::{circuits_are_correct, circuits_are_writable};
 use ae_elab::one_run;
-use ae_spelled::{listings_spell, module_keeps, spelled_once};
+use ae_spelled::{listings_are_short, listings_spell, module_keeps, spelled_once};
 use ae_stalled::{stalled_circuits_are_correct, stalled_circuits_are_writable};
 use ae_verilog::write_module;
 use std::alloc::Global;
 
-// The text of a circuit, if it has fewer than 2 to the 32 bytes.
+// The text of a circuit that is not too large, with the notes of a program's lines: it has fewer than 2 to the 32 bytes.
 fn written(alloc: Global, compiled: &Compiled) -> Result<String, OutOfMemory>
-    requires { ArePrinted (map note_tree compiled.now.notes.items) }
+    requires printed { ArePrinted (map note_tree compiled.now.notes.items) }
+    requires short { IsShort (report_tree compiled.now.report) (map note_tree compiled.now.notes.items) compiled.now.netlist.cells compiled.now.netlist.outlets }
     ensures { IfOk result (λ text. IsWritten (report_tree compiled.now.report) compiled.now.netlist (map note_tree compiled.now.notes.items) (string_bytes text)) }
 {
     listings_spell();
+    listings_are_short();
     let text = write_module(alloc, &compiled.netlist, &compiled.report, &compiled.notes)?;
-    if text.len() > 4_294_967_295 {
-        return Err(OutOfMemory);
-    }
     Ok(text)
 }
 

@@ -5,10 +5,16 @@ use Rattle.ae_rewrite.specs.StProgramTree.{st_func_trees}
 use Rattle.ae_verilog.specs.Notes.{note_tree}
 use Rattle.ae_verilog.specs.ReportLines.{report_tree}
 use Rattle.ae_compile.proofs.Modules.{HaveLaws, module_is}
+use Rattle.ae_compile.proofs.Short.{compiled_short}
 use Rattle.ae_compile.proofs.texts.module_text.Goals as goal
 
 pub written-requires : goal.written-requires
-written-requires c = c.requires.compiled.printed
+written-requires c =
+    let d = c.args.compiled.now in
+    record {
+      printed = c.requires.compiled.printed;
+      short = compiled_short (program_tree d.costed.program) d.costed.slowdown (st_func_trees d.costed.schedule) d.costed.timing d.netlist (report_tree d.report) (map note_tree d.notes.items) c.requires.costed c.requires.compiled;
+    }
 
 pub returns-clause-spells : goal.returns-clause-spells
 returns-clause-spells c = c.in_ok-text.ensures.spells

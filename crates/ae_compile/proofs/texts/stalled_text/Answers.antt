@@ -5,10 +5,16 @@ use Rattle.ae_rewrite.specs.StProgramTree.{st_func_trees}
 use Rattle.ae_verilog.specs.Notes.{note_tree}
 use Rattle.ae_verilog.specs.ReportLines.{report_tree}
 use Rattle.ae_compile.proofs.Enabling.{HaveStalledLaws, stalled_is}
+use Rattle.ae_compile.proofs.Short.{stalled_short}
 use Rattle.ae_compile.proofs.texts.stalled_text.Goals as goal
 
 pub written-requires : goal.written-requires
-written-requires c = c.requires.compiled.printed
+written-requires c =
+    let d = c.args.compiled.now in
+    record {
+      printed = c.requires.compiled.printed;
+      short = stalled_short (program_tree d.costed.program) d.costed.slowdown (st_func_trees d.costed.schedule) d.costed.timing d.netlist (report_tree d.report) (map note_tree d.notes.items) c.requires.costed c.requires.light c.requires.compiled;
+    }
 
 pub returns : goal.returns
 returns c =

@@ -1,4 +1,4 @@
-use Rattle.std.proofs.Common.{◌≡◌, ℕ, List, length, map, arith, ap, sym, subst, ◌∙◌}
+use Rattle.std.proofs.Common.{◌≡◌, ℕ, ◌<◌, ◌^◌, List, length, map, ap, sym, subst, ◌∙◌}
 use Rattle.std.specs.Prelude.{string_bytes}
 use Rattle.std.specs.List.{list_all}
 use Rattle.std.proofs.lemmas.List.{length-map}
@@ -10,7 +10,7 @@ use Rattle.ae_verilog.specs.Text.{whole_text}
 use Rattle.ae_compile.proofs.texts.written.Goals as goal
 
 pub write_module-requires : goal.write_module-requires
-write_module-requires c = record { printed = rw c.deref.ensures.value c.requires }
+write_module-requires c = record { printed = rw c.deref.ensures.value c.requires.printed }
 
 pub returns : goal.returns
 returns c =
@@ -24,11 +24,12 @@ returns c =
     let law = c.listings_spell.ensures in
     let begins = law.reports report notes d.netlist.cells d.netlist.outlets outs in
     record {
-      spells = subst (λ (l : List ℕ). Spells l (noted_module notes d.netlist.cells d.netlist.outlets outs)) (sym listed) (law.spells report notes d.netlist.cells d.netlist.outlets outs c.requires c.in_ok-text.ensures.listable);
+      spells = subst (λ (l : List ℕ). Spells l (noted_module notes d.netlist.cells d.netlist.outlets outs)) (sym listed) (law.spells report notes d.netlist.cells d.netlist.outlets outs c.requires.printed c.in_ok-text.ensures.listable);
       stars_are = law.stars notes d.netlist.cells d.netlist.outlets outs;
       rest = begins.0;
       reports = listed ∙ begins.1;
-      clean = ap (list_all is_clean) listed ∙ law.clean report notes d.netlist.cells d.netlist.outlets outs c.requires c.in_ok-text.ensures.listable;
-      few = omega (arith, c.len.ensures, c.if-len-gt4294967295.false);
+      clean = ap (list_all is_clean) listed ∙ law.clean report notes d.netlist.cells d.netlist.outlets outs c.requires.printed c.in_ok-text.ensures.listable;
+      few = subst (λ (l : List ℕ). length l < 2 ^ 32) (sym listed)
+          (c.listings_are_short.ensures report notes d.netlist.cells d.netlist.outlets outs c.in_ok-text.ensures.listable (rw c.deref.ensures.value at c.in_ok-text.ensures.numbers) c.requires.short);
       listed = listed;
     }
