@@ -125,7 +125,7 @@ changes_mapped f x (y ∷ xs) = by (same_choice x y) (changes_mapped f y xs) ref
         rw (t, on) (omega (arith, rest))
     by false rest off = rw off (omega (arith, rest, least (same_choice (f x) (f y))))
 
-stretches_mapped : (f : ChoiceTree → ChoiceTree) (xs : List ChoiceTree) → stretches same_choice (map f xs) ≤ stretches same_choice xs
+pub stretches_mapped : (f : ChoiceTree → ChoiceTree) (xs : List ChoiceTree) → stretches same_choice (map f xs) ≤ stretches same_choice xs
 stretches_mapped f [] = omega arith
 stretches_mapped f (x ∷ xs) = omega (arith, changes_mapped f x xs)
 

@@ -13,3 +13,7 @@ pub mod OneList
 pub mod GatherLaw
 pub mod CodeLaws
 pub mod Memories
+pub mod HeldLaw
+pub mod Keeping
+pub mod Taking
+pub mod Settled

@@ -1,6 +1,7 @@
 pub mod Plans
 pub mod Columns
 pub mod Early
+pub mod Held
 pub mod Laws
 pub mod Gathers
 pub mod Joins

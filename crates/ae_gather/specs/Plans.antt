@@ -1,6 +1,5 @@
 -- The trips of a move, and the choices by which an output column makes them.
-use Rattle.std.specs.Prelude.{◌≡◌, ℕ, ◌+◌, ◌-◌, ◌*◌, ◌<◌, ◌≤◌, Bool, false, List, [], ◌∷◌, ◌++◌, length, fold, set, Some, slice_get, get_or, sum_by, nat_lt, if◌then◌else◌}
-use Rattle.std.specs.List.{range_with_len}
+use Rattle.std.specs.Prelude.{◌≡◌, ℕ, ◌+◌, ◌-◌, ◌*◌, ◌<◌, ◌≤◌, List, [], ◌∷◌, ◌++◌, length, fold, set, Some, slice_get, nat_lt, if◌then◌else◌}
 use Rattle.ae_clocked.specs.Delays.{greatest_of}
 use Rattle.ae_clocked.specs.Rings.{rings}
 use Rattle.ae_moves.specs.declared.trip.Source.{Source}
@@ -31,13 +30,9 @@ later phase before step = if nat_lt phase step.from then before else step.take
 abbrev pub steps_cells : List Step → ℕ
 steps_cells steps = 1 + 11 * (length steps - 1)
 
--- the most memories of an input column's line: none where one register would hold its words
-abbrev pub line_mems : Bool → List ℕ → ℕ
-line_mems held ages = if held then 0 else rings (greatest_of ages)
-
--- those of all columns
-abbrev pub lines_mems : List Bool → List (List ℕ) → ℕ
-lines_mems held lines = sum_by (λ q. line_mems (get_or held q false) (get_or lines q [])) (range_with_len 0 (length lines))
+-- the most memories of an input column's line
+abbrev pub line_mems : List ℕ → ℕ
+line_mems ages = rings (greatest_of ages)
 
 -- the choice in a phase, where the first step goes on from the first clock
 unfoldable pub choice_in : (phase : ℕ) → List Step → Choice

@@ -11,7 +11,7 @@ use ae_clocked::Clocks;
 use ae_netlist::{NetFault, Netlist};
 
 /// The phase in which blocks begin that arrive in one clock and are some clocks late.
-fn offset(arrival: u32, d: u32, period: u32) -> u32
+pub fn offset(arrival: u32, d: u32, period: u32) -> u32
     requires some { 1 ≤ period }
     requires most { period ≤ 4096 }
     ensures { result ≡ (arrival + d) % period }

@@ -1,28 +1,25 @@
 // Which columns are chosen a clock early, and what is planned then.
 
 ghost use Rattle.std.specs.Prelude.{◌≡◌, ◌<◌, ◌≤◌, ◌+◌, ◌^◌, ◌++◌, ◌∷◌, [], ℕ, true, false, List, length, map, sum_by, IfOk, OnOk, Some, slice_get};
-ghost use Rattle.ae_sttype.specs.Moves.{delay_of, runs_of};
+ghost use Rattle.ae_sttype.specs.Moves.{column_delay, delay_of, runs_of};
 ghost use Rattle.ae_clocked.specs.Delays.{greatest_of};
-ghost use Rattle.ae_moves.specs.Rings.{mems_of};
 ghost use Rattle.ae_moves.specs.Trees.{trip_tree};
 ghost use Rattle.ae_moves.specs.declared.trip.Trip.{Trip as Way};
 ghost use Rattle.ae_gather.specs.declared.trips.Step.{Step as Part};
-ghost use Rattle.ae_gather.specs.Plans.{AreInOrder, AreWithin, IsPlan, IsReached, lines_mems};
+ghost use Rattle.ae_gather.specs.Plans.{AreInOrder, AreWithin, IsPlan, IsReached};
 ghost use Rattle.ae_gather.specs.Early.{AllComeLate, AreInTime, ComesLate, hastened, is_early};
 
 use crate::plan::{Plan, Steps, planned};
 use crate::trips::Step;
-use ae_moves::{Choice, Source, Trip, held_columns};
+use ae_moves::{Choice, Source, Trip};
 use std::alloc::{AllocError, Global};
 
-/// Which output columns are chosen a clock early, the trips with the words that these take sooner, and their plan; and for
-/// which input columns one register would hold all words that are taken.
+/// Which output columns are chosen a clock early, the trips with the words that these take sooner, and their plan.
 #[derive(Drop)]
 pub struct Schedule {
     pub early: Vec<bool>,
     pub moved: Vec<Trip>,
     pub plan: Plan,
-    pub held: Vec<bool>,
 }
 
 fn comes_late(choice: Choice) -> bool
@@ -148,7 +145,6 @@ pub fn scheduled(
     d: u32,
     ins: u32,
     outs: u32,
-    period: u32,
     alone: bool,
 ) -> Result<Schedule, AllocError>
     requires latency { d ≤ 4096 }
@@ -163,19 +159,12 @@ pub fn scheduled(
     ensures plan { IfOk result (λ s. IsPlan d s.moved.items s.plan.lines.items s.plan.columns.items) }
     ensures runs { IfOk result (λ s. sum_by length s.plan.columns.items ≤ runs_of d outs (map trip_tree trips.now)) }
     ensures delay { IfOk result (λ s. sum_by greatest_of s.plan.lines.items ≤ delay_of d ins (map trip_tree trips.now)) }
-    ensures held { IfOk result (λ s. length s.held.items ≡ ins) }
-    ensures mems { IfOk result (λ s. lines_mems s.held.items s.plan.lines.items ≤ mems_of period d ins (map trip_tree trips.now)) }
+    ensures ages { IfOk result (λ s. (q : ℕ) (ages : List ℕ) → slice_get s.plan.lines.items q ≡ Some ages → greatest_of ages ≤ column_delay d q (map trip_tree trips.now)) }
     ensures taps { IfOk result (λ s. sum_by length s.plan.lines.items ≤ sum_by length s.plan.columns.items) }
     ensures few { IfOk result (λ s. (q : ℕ) (ages : List ℕ) → slice_get s.plan.lines.items q ≡ Some ages → length ages ≤ length trips.now) }
 {
     let early = which_early(alloc, trips, d, ins, outs, alone)?;
     let moved = all_sooner(alloc, trips, &early)?;
     let plan = planned(alloc, &moved, d, ins, outs)?;
-    let held = held_columns(alloc, trips, d, ins, period)?;
-    Ok(Schedule {
-        early,
-        moved,
-        plan,
-        held,
-    })
+    Ok(Schedule { early, moved, plan })
 }

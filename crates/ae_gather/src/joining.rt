@@ -24,11 +24,21 @@ fn keep_first(firsts: &mut Vec<u32>, first: u32) -> Result<(), NetFault>
     }
 }
 
-fn add_all(nets: &mut Vec<NetId>, more: &[NetId]) -> Result<(), NetFault>
+pub(crate) fn add_all(nets: &mut Vec<NetId>, more: &[NetId]) -> Result<(), NetFault>
     ensures ok { OnOk result (nets.new.items ≡ nets.old.items ++ more.now) }
     ensures fault { result ≢ Err NetFault.Full }
 {
     match nets.extend_from_slice(more) {
+        Ok(()) => Ok(()),
+        Err(_) => Err(NetFault::Memory),
+    }
+}
+
+pub(crate) fn keep_net(nets: &mut Vec<NetId>, net: NetId) -> Result<(), NetFault>
+    ensures ok { OnOk result (nets.new.items ≡ nets.old.items ++ net ∷ []) }
+    ensures fault { result ≢ Err NetFault.Full }
+{
+    match nets.push(net) {
         Ok(()) => Ok(()),
         Err(_) => Err(NetFault::Memory),
     }

@@ -4,6 +4,8 @@
 mod column;
 mod counters;
 mod early;
+mod held;
+mod holding;
 mod joining;
 mod layouts;
 mod moving;

@@ -3,14 +3,14 @@
 ghost use Rattle.std.specs.Prelude.{◌≡◌, ◌≢◌, ◌<◌, ◌≤◌, ◌+◌, ◌*◌, sum_by, min, ◌^◌, ◌∷◌, ◌++◌, [], ℕ, List, length, map, Err, IfOk, OnOk, Some, slice_get};
 ghost use Rattle.ae_sttype.specs.Moves.{delay_of, runs_of};
 ghost use Rattle.ae_netlist.specs.declared.cell.NetId.{NetId as Net};
-ghost use Rattle.ae_netlist.specs.Circuit.{IsNet, width_of};
+ghost use Rattle.ae_netlist.specs.Circuit.{IsNet};
 ghost use Rattle.ae_netlist.specs.Counts.{AreWhole, count_of, is_memory, is_mul};
 ghost use Rattle.ae_clocked.specs.Signals.{Adds, Grows, IsFullAt};
 ghost use Rattle.ae_clocked.specs.Phases.{Belongs, KeepsCounters};
-ghost use Rattle.ae_clocked.specs.Delays.{AreTaps, greatest_of, line_cells};
+ghost use Rattle.ae_clocked.specs.Delays.{line_cells};
 ghost use Rattle.ae_gather.specs.declared.trips.Step.{Step as Part};
 ghost use Rattle.ae_gather.specs.Early.{AreInTime, counter_for, hastened, is_early};
-ghost use Rattle.ae_gather.specs.Plans.{AreInOrder, AreUsed, AreWithin, IsPlan, choice_in, line_mems, lines_mems, steps_cells};
+ghost use Rattle.ae_gather.specs.Plans.{AreInOrder, AreUsed, AreWithin, IsPlan, choice_in, line_mems, steps_cells};
 ghost use Rattle.ae_gather.specs.Columns.{AreReady, IsPhaseNet, net_of};
 ghost use Rattle.ae_moves.specs.Rings.{mems_of};
 ghost use Rattle.ae_moves.specs.Trees.{trip_tree};
@@ -20,10 +20,12 @@ ghost use Rattle.ae_gather.specs.Laws.{AreColumns, AreFitting, AreLines, MakesTr
 use crate::column::column;
 use crate::counters::{counter_for, counters};
 use crate::early::{Schedule, scheduled};
+use crate::held::{all_nets, all_settled};
+use crate::joining::keep_net;
 use crate::plan::{Ages, Steps};
 use crate::trips::Counters;
-use ae_clocked::{Clocks, Tapped, line, ring_line, width_at};
-use ae_moves::Trip;
+use ae_clocked::{Clocks, Tapped, ring_line};
+use ae_moves::{Trip, held_columns};
 use ae_netlist::{NetFault, NetId, Netlist};
 use std::alloc::Global;
 
@@ -37,69 +39,6 @@ fn keep_line(lines: &mut Vec<Tapped>, tapped: Tapped) -> Result<(), NetFault>
     }
 }
 
-fn keep_net(nets: &mut Vec<NetId>, net: NetId) -> Result<(), NetFault>
-    ensures ok { OnOk result (nets.new.items ≡ nets.old.items ++ net ∷ []) }
-    ensures fault { result ≢ Err NetFault.Full }
-{
-    match nets.push(net) {
-        Ok(()) => Ok(()),
-        Err(_) => Err(NetFault::Memory),
-    }
-}
-
-/// The bits of registers that a memory has to stand for: about as many as there are cells for each block RAM of a small
-/// device.
-const WORTH: u64 = 256;
-
-/// Whether rings are smaller than registers: each read of a ring is kept in a register, for which a line has seven, so that
-/// it is a block RAM of its own, and the registers that are saved are worth as many.
-fn rings_pay(ages: &[u32], width: u32) -> bool {
-    let mut near = 0u32;
-    let mut most = 0u32;
-    let mut far = 0u64;
-    for age in ages {
-        most = most.max(*age);
-        if *age < 8 {
-            near = near.max(*age);
-        } else {
-            far = far.saturating_add(1);
-        }
-    }
-    far <= u64::from(7u32.saturating_sub(near))
-        && u64::from(most).saturating_mul(u64::from(width)) >= far.saturating_mul(WORTH)
-}
-
-/// The delay line of an input column: of registers alone where one of them would hold all its words or where they are
-/// smaller, and else with rings for what is far.
-fn one_line(
-    alloc: Global,
-    nl: &mut Netlist,
-    clocks: &mut Clocks,
-    x: NetId,
-    ages: &[u32],
-    held: bool,
-) -> Result<Tapped, NetFault>
-    requires belongs { Belongs clocks.old nl.old.cells }
-    requires net { IsNet nl.old.cells x.0 (width_of nl.old.cells x.0) }
-    requires few { length ages.now < 2 ^ 32 }
-    ensures belongs { Belongs clocks.new nl.new.cells }
-    ensures keeps { KeepsCounters clocks.old clocks.new }
-    ensures grows { Grows nl.old nl.new }
-    ensures cells { length nl.new.cells ≤ length nl.old.cells + line_cells ages.now }
-    ensures muls { count_of is_mul nl.new.cells ≡ count_of is_mul nl.old.cells }
-    ensures memories { count_of is_memory nl.new.cells ≤ count_of is_memory nl.old.cells + line_mems held ages.now }
-    ensures whole { OnOk result (AreWhole nl.old.cells → AreWhole nl.new.cells) }
-    ensures full { IsFullAt result nl.new }
-    ensures taps { IfOk result (λ nets. AreTaps nl.new.cells clocks.old.rst (width_of nl.old.cells x.0) x.0 ages.now nets) }
-{
-    let width = width_at(nl, x);
-    if held || !rings_pay(ages, width) {
-        line(alloc, nl, x, ages, clocks)
-    } else {
-        ring_line(alloc, nl, x, ages, clocks)
-    }
-}
-
 /// A delay line for each input column.
 fn all_lines(
     alloc: Global,
@@ -107,26 +46,24 @@ fn all_lines(
     clocks: &mut Clocks,
     ins: &[NetId],
     ages: &[Ages],
-    held: &[bool],
 ) -> Result<Vec<Tapped>, NetFault>
     requires belongs { Belongs clocks.old nl.old.cells }
     requires nets { (q : ℕ) → q < length ins.now → (w : ℕ) × IsNet nl.old.cells (net_of ins.now q) w }
     requires long { length ages.now ≡ length ins.now }
-    requires held { length held.now ≡ length ages.now }
     requires few { (q : ℕ) (all : List ℕ) → slice_get ages.now q ≡ Some all → length all < 2 ^ 32 }
     ensures belongs { Belongs clocks.new nl.new.cells }
     ensures keeps { KeepsCounters clocks.old clocks.new }
     ensures grows { Grows nl.old nl.new }
     ensures cells { length nl.new.cells ≤ length nl.old.cells + sum_by line_cells ages.now }
     ensures muls { count_of is_mul nl.new.cells ≡ count_of is_mul nl.old.cells }
-    ensures memories { count_of is_memory nl.new.cells ≤ count_of is_memory nl.old.cells + lines_mems held.now ages.now }
+    ensures memories { count_of is_memory nl.new.cells ≤ count_of is_memory nl.old.cells + sum_by line_mems ages.now }
     ensures whole { OnOk result (AreWhole nl.old.cells → AreWhole nl.new.cells) }
     ensures full { IsFullAt result nl.new }
     ensures lines { IfOk result (λ lines. AreLines nl.new.cells clocks.old.rst ins.now ages.now lines.items) }
 {
     let mut lines = Vec::new(alloc);
     for q in 0..ages.len() {
-        let tapped = one_line(alloc, nl, clocks, ins[q], ages[q].all(), held[q])?;
+        let tapped = ring_line(alloc, nl, ins[q], ages[q].all(), clocks)?;
         keep_line(&mut lines, tapped)?;
     }
     Ok(lines)
@@ -210,7 +147,6 @@ fn build_plan(
     requires moved { schedule.now.moved.items ≡ map (hastened schedule.now.early.items) trips.now }
     requires lines { length schedule.now.plan.lines.items ≡ length ins.now }
     requires columns { length schedule.now.plan.columns.items ≡ length widths.now }
-    requires held { length schedule.now.held.items ≡ length ins.now }
     requires plan { IsPlan d schedule.now.moved.items schedule.now.plan.lines.items schedule.now.plan.columns.items }
     requires taps { (q : ℕ) (ages : List ℕ) → slice_get schedule.now.plan.lines.items q ≡ Some ages → length ages ≤ length trips.now }
     ensures belongs { Belongs clocks.new nl.new.cells }
@@ -218,7 +154,7 @@ fn build_plan(
     ensures grows { Grows nl.old nl.new }
     ensures cells { length nl.new.cells ≤ length nl.old.cells + (12 * min 2 (length widths.now) + sum_by line_cells schedule.now.plan.lines.items + sum_by steps_cells schedule.now.plan.columns.items + 3 * length schedule.now.plan.columns.items) }
     ensures muls { count_of is_mul nl.new.cells ≡ count_of is_mul nl.old.cells }
-    ensures memories { count_of is_memory nl.new.cells ≤ count_of is_memory nl.old.cells + lines_mems schedule.now.held.items schedule.now.plan.lines.items }
+    ensures memories { count_of is_memory nl.new.cells ≤ count_of is_memory nl.old.cells + sum_by line_mems schedule.now.plan.lines.items }
     ensures whole { OnOk result (AreWhole nl.old.cells → AreWhole nl.new.cells) }
     ensures full { IsFullAt result nl.new }
     ensures long { IfOk result (λ out. length out.items ≡ length widths.now) }
@@ -227,7 +163,7 @@ fn build_plan(
 {
     let limit = limit_of(trips, period);
     let counters = counters(nl, clocks, &schedule.early, period, d, arrival, limit)?;
-    let lines = all_lines(alloc, nl, clocks, ins, &schedule.plan.lines, &schedule.held)?;
+    let lines = all_lines(alloc, nl, clocks, ins, &schedule.plan.lines)?;
     let out = all_columns(
         alloc,
         nl,
@@ -280,20 +216,31 @@ pub fn gather(
     ensures nets { IfOk result (λ out. (q w : ℕ) (y : Net) → slice_get widths.now q ≡ Some w → slice_get out.items q ≡ Some y → IsNet nl.new.cells y.0 w) }
     ensures trips { IfOk result (λ out. MakesTrips nl.new.cells clocks.old.rst period d arrival ins.now out.items trips.now) }
 {
+    if ins.len() > 2147483647 {
+        return Err(NetFault::Memory);
+    }
+    let held = match held_columns(alloc, trips, d, ins.len() as u32, period) {
+        Ok(held) => held,
+        Err(_) => return Err(NetFault::Memory),
+    };
+    let all = all_nets(alloc, nl, clocks, ins, &held, period, d, arrival)?;
+    let settled = match all_settled(alloc, trips, &held, d) {
+        Ok(settled) => settled,
+        Err(_) => return Err(NetFault::Memory),
+    };
     let schedule = match scheduled(
         alloc,
-        trips,
+        &settled,
         d,
-        ins.len() as u32,
+        ins.len() as u32 + ins.len() as u32,
         widths.len() as u32,
-        period,
         alone,
     ) {
         Ok(schedule) => schedule,
         Err(_) => return Err(NetFault::Memory),
     };
     let out = build_plan(
-        alloc, nl, clocks, ins, widths, trips, &schedule, period, d, arrival,
+        alloc, nl, clocks, &all, widths, &settled, &schedule, period, d, arrival,
     )?;
     Ok(out)
 }

@@ -1,15 +1,15 @@
 -- How the columns are used so far, one trip on.
-use Rattle.std.proofs.Common.{◌≡◌, ℕ, ◌+◌, ◌-◌, ◌<◌, ◌≤◌, List, ◌∷◌, [], ◌++◌, length, take, get_or, set, replicate, refl, ap, sym, ◌∙◌, arith, inl, inr, filter, Option, Some, None, Bool, true, false, cond, nat_eq, nat_lt, nat_le, ◌&&◌, zero, suc, sum_by}
-use Rattle.std.specs.List.{range_with_len}
+use Rattle.std.proofs.Common.{◌≡◌, ℕ, ◌+◌, ◌-◌, ◌<◌, ◌≤◌, List, ◌∷◌, [], ◌++◌, length, take, get_or, set, replicate, refl, ap, sym, ◌∙◌, arith, inl, inr, slice_get, filter, Option, Some, None, Bool, true, false, cond, nat_eq, nat_lt, nat_le, ◌&&◌, zero, suc, sum_by}
+use Rattle.std.specs.List.{list_all, range_with_len}
 use Rattle.std.proofs.lemmas.List.{get_or-set_same, get_or-set_other, length-set, length-replicate, get_or-replicate, get_or_read, get_or_default, take_all, append-nil}
 use Rattle.std.proofs.lemmas.List.Elements.{filter_more}
 use Rattle.std.proofs.lemmas.List.Sums.{sum_by_push}
 use Rattle.std.proofs.lemmas.List.Folds.{list_all-append}
-use Rattle.std.proofs.lemmas.Bool.{cases_eq, cases_lt, eq-eqb, ne_eqb}
+use Rattle.std.proofs.lemmas.Bool.{cases_eq, cases_lt, eq-eqb, eqb-true, leb-true, ne_eqb}
 use Rattle.ae_sttype.specs.Moves.{TripTree, SourceTree, place, constant, is_in_column, is_held, source_clock, uses_of, are_held, column_delay, IsReached}
 use Rattle.ae_moves.specs.declared.mems.Usage.{Usage}
-use Rattle.ae_moves.specs.Rings.{rings, column_mems}
-use Rattle.ae_moves.specs.Usages.{AreUsages, usage_held, usage_mems, usage_of, use_from, used}
+use Rattle.ae_moves.specs.Rings.{rings, column_mems, first_clock, held_clock}
+use Rattle.ae_moves.specs.Usages.{AreUsages, held_from, usage_mems, usage_of, use_from, used}
 
 and_true : (b : Bool) → (b && true) ≡ b
 and_true true = refl
@@ -114,24 +114,53 @@ mems_used period d q trips (x ∷ xs) u age own is ages = rw (is, own, ages) ref
 pub mems_is : (period d q : ℕ) (trips : List TripTree) (u : Option Usage) (age : ℕ) → u ≡ usage_of period d (uses_of q trips) → age ≡ column_delay d q trips → usage_mems u age ≡ column_mems period d q trips
 mems_is period d q trips u age is ages = mems_used period d q trips (uses_of q trips) u age refl is ages
 
--- whether a column is held
-held_used : (period d : ℕ) (uses : List TripTree) → usage_held (usage_of period d uses) ≡ are_held period d uses
-held_used period d [] = refl
-held_used period d (x ∷ xs) = refl
+-- the clock of a held column
+clock_used : (period d age : ℕ) (uses : List TripTree) → held_from (usage_of period d uses) age ≡ cond (are_held period d uses && nat_lt 1 age) (Some (first_clock uses)) None
+clock_used period d age [] = refl
+clock_used period d age (x ∷ xs) = refl
 
-pub held_is : (period d q : ℕ) (trips : List TripTree) (u : Option Usage) → u ≡ usage_of period d (uses_of q trips) → usage_held u ≡ is_held period d q trips
-held_is period d q trips u is = ap usage_held is ∙ held_used period d (uses_of q trips)
+pub clock_is : (period d q age : ℕ) (trips : List TripTree) (u : Option Usage) → u ≡ usage_of period d (uses_of q trips) → age ≡ column_delay d q trips → held_from u age ≡ held_clock period d q trips
+clock_is period d q age trips u is ages = ap (λ v. held_from v age) is ∙ ap (held_from (usage_of period d (uses_of q trips))) ages ∙ clock_used period d (column_delay d q trips) (uses_of q trips)
 
-pub push_before : (xs : List Bool) (x : Bool) (p : ℕ) → p < length xs → get_or (xs ++ x ∷ []) p false ≡ get_or xs p false
+pub push_before : {X : Type 0} (xs : List (Option X)) (x : Option X) (p : ℕ) → p < length xs → get_or (xs ++ x ∷ []) p None ≡ get_or xs p None
 push_before [] x p l = absurd (omega arith)
 push_before (y ∷ xs) x zero l = refl
 push_before (y ∷ xs) x (suc p) l = push_before xs x p (omega arith)
 
-pub push_last : (xs : List Bool) (x : Bool) (p : ℕ) → length xs ≡ p → get_or (xs ++ x ∷ []) p false ≡ x
+pub push_last : {X : Type 0} (xs : List (Option X)) (x : Option X) (p : ℕ) → length xs ≡ p → get_or (xs ++ x ∷ []) p None ≡ x
 push_last [] x zero e = refl
 push_last [] x (suc p) e = absurd (omega arith)
 push_last (y ∷ xs) x zero e = absurd (omega arith)
 push_last (y ∷ xs) x (suc p) e = push_last xs x p (omega arith)
+
+-- ---- all uses of a held column
+
+both : (a b : Bool) → (a && b) ≡ true → (a ≡ true) × (b ≡ true)
+both true b h = (refl, h)
+both false b h = cc
+
+each_use : (pass : TripTree → Bool) (q : ℕ) (trips : List TripTree) → list_all pass (uses_of q trips) ≡ true → (n : ℕ) (t : TripTree) → slice_get trips n ≡ Some t → is_in_column q t.source ≡ true → pass t ≡ true
+each_use pass q [] h n t f on = cc
+each_use pass q (x ∷ trips) h n t f on = by (is_in_column q x.source) refl n f (λ all m g. each_use pass q trips all m t g on)
+  where
+    by : (b : Bool) → is_in_column q x.source ≡ b → (m : ℕ) → slice_get (x ∷ trips) m ≡ Some t → (list_all pass (uses_of q trips) ≡ true → (i : ℕ) → slice_get trips i ≡ Some t → pass t ≡ true) → pass t ≡ true
+    by true e zero g rest = let same : x ≡ t = cc in let all : (pass x && list_all pass (uses_of q trips)) ≡ true = rw e at h in rw (← same) (both (pass x) _ all).0
+    by true e (suc m) g rest = let all : (pass x && list_all pass (uses_of q trips)) ≡ true = rw e at h in rest (both (pass x) _ all).1 m g
+    by false e zero g rest = let same : x ≡ t = cc in let off : is_in_column q t.source ≡ false = rw same at e in cc
+    by false e (suc m) g rest = rest (rw e at h) m g
+
+taken_uses : (p d : ℕ) (uses : List TripTree) → are_held p d uses ≡ true → list_all (taken_by p d (first_clock uses)) uses ≡ true
+taken_uses p d [] h = cc
+taken_uses p d (x ∷ xs) h = h
+
+-- each stands in the clock of the first, and is used with an age of at most the period
+pub held_use : (p d q : ℕ) (trips : List TripTree) → is_held p d q trips ≡ true → (n : ℕ) (t : TripTree) → slice_get trips n ≡ Some t → is_in_column q t.source ≡ true
+    → (source_clock t.source ≡ first_clock (uses_of q trips)) × (t.clock + d - source_clock t.source ≤ p)
+held_use p d q trips h n t f on =
+    let k : ℕ = first_clock (uses_of q trips) in
+    let passes : taken_by p d k t ≡ true = each_use (taken_by p d k) q trips (taken_uses p d (uses_of q trips) h) n t f on in
+    let parts = both (nat_eq (source_clock t.source) k) (nat_le (t.clock + d - source_clock t.source) p) passes in
+    (eqb-true (source_clock t.source) k parts.0, leb-true (t.clock + d - source_clock t.source) p parts.1)
 
 -- the memories of the first columns
 range_more : (a n : ℕ) → range_with_len a (n + 1) ≡ range_with_len a n ++ (a + n) ∷ []

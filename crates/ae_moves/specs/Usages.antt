@@ -1,5 +1,5 @@
 -- How the words of an input column are taken, use by use.
-use Rattle.std.specs.Prelude.{◌≡◌, ℕ, ◌+◌, ◌-◌, ◌<◌, List, [], ◌∷◌, length, Option, Some, None, Bool, false, ◌&&◌, ◌==◌, nat_le, if◌then◌else◌, slice_index_or, slice_set}
+use Rattle.std.specs.Prelude.{◌≡◌, ℕ, ◌+◌, ◌-◌, ◌<◌, List, [], ◌∷◌, length, Option, Some, None, ◌&&◌, ◌==◌, nat_le, nat_lt, if◌then◌else◌, slice_index_or, slice_set}
 use Rattle.ae_sttype.specs.Moves.{SourceTree, place, constant, TripTree, source_clock, are_held, uses_of}
 use Rattle.ae_moves.specs.declared.mems.Usage.{Usage}
 use Rattle.ae_moves.specs.Rings.{rings}
@@ -24,9 +24,9 @@ pub record AreUsages (period d columns : ℕ) (trips : List TripTree) (us : List
   pub long : length us ≡ columns
   pub each : (q : ℕ) → q < columns → slice_index_or us q None ≡ usage_of period d (uses_of q trips)
 
-abbrev pub usage_held : Option Usage → Bool
-usage_held None = false
-usage_held (Some u) = u.held
+abbrev pub held_from : Option Usage → (age : ℕ) → Option ℕ
+held_from None a = None
+held_from (Some u) a = if u.held && nat_lt 1 a then Some u.clock else None
 
 abbrev pub usage_mems : Option Usage → (age : ℕ) → ℕ
 usage_mems None a = rings a

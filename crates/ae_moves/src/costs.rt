@@ -111,7 +111,12 @@ pub fn move_costs(
 }
 
 // The greatest age with which each of so many input columns is used.
-fn all_ages(alloc: Global, trips: &[Trip], d: u32, ins: u32) -> Result<Vec<u32>, AllocError>
+pub(crate) fn all_ages(
+    alloc: Global,
+    trips: &[Trip],
+    d: u32,
+    ins: u32,
+) -> Result<Vec<u32>, AllocError>
     requires latency { d ≤ 4096 }
     requires within { All (λ t. IsWithin d ins 4294967296 (trip_tree t)) trips.now }
     ensures { IfOk result (λ v. AreAges d ins (trip_trees trips.now) v.items) }

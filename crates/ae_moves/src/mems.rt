@@ -4,8 +4,9 @@ ghost use Rattle.std.specs.Prelude.{◌≡◌, ◌≤◌, ◌<◌, ◌^◌, All,
 ghost use Rattle.ae_moves.specs.Trees.{source_tree, trip_tree, trip_trees};
 ghost use Rattle.ae_moves.specs.Trips.{AreAges, IsWithin};
 ghost use Rattle.ae_moves.specs.Rings.{AreHeld, mems_of, rings};
-ghost use Rattle.ae_moves.specs.Usages.{AreUsages, usage_held, usage_mems, use_from, used};
+ghost use Rattle.ae_moves.specs.Usages.{AreUsages, held_from, usage_mems, use_from, used};
 
+use crate::costs::all_ages;
 use crate::trip::{Source, Trip};
 use std::alloc::{AllocError, Global};
 
@@ -28,34 +29,36 @@ pub fn rings(clocks: u32) -> u32
     }
 }
 
-/// For each of so many input columns whether it is held: all words that are used of it stand in one clock, and none is used
-/// later than a period, so that one register holds them all. It takes time linear in trips and columns; an error comes only
-/// for want of memory.
+/// For each of so many input columns the clock of its words where it is *held*, that is, where all words that are used of it
+/// stand in one clock and none is used later than a period, so that one register holds them all; and None where it is not,
+/// or where no word is used later than one clock. It takes time linear in trips and columns; an error comes only for want
+/// of memory.
 pub fn held_columns(
     alloc: Global,
     trips: &[Trip],
     d: u32,
     ins: u32,
     period: u32,
-) -> Result<Vec<bool>, AllocError>
+) -> Result<Vec<Option<u32>>, AllocError>
     requires latency { d ≤ 4096 }
     requires within { All (λ t. IsWithin d ins 4294967296 (trip_tree t)) trips.now }
     ensures { IfOk result (λ v. AreHeld period d ins (trip_trees trips.now) v.items) }
 {
+    let ages = all_ages(alloc, trips, d, ins)?;
     let usages = all_usages(alloc, trips, d, ins, period)?;
     let mut held = Vec::new(alloc);
     for q in 0..usages.len() {
-        held.push(is_held(usages[q]))?;
+        held.push(held_from(usages[q], ages[q]))?;
     }
     Ok(held)
 }
 
-fn is_held(usage: Option<Usage>) -> bool
-    ensures { result ≡ usage_held usage }
+fn held_from(usage: Option<Usage>, age: u32) -> Option<u32>
+    ensures { result ≡ held_from usage age }
 {
     match usage {
-        Some(usage) => usage.held,
-        None => false,
+        Some(usage) if usage.held && age > 1 => Some(usage.clock),
+        _ => None,
     }
 }
 

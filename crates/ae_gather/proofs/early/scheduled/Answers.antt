@@ -1,7 +1,5 @@
 use Rattle.std.proofs.Common.{◌≡◌, map, arith}
 use Rattle.ae_gather.specs.Early.{hastened}
-use Rattle.ae_moves.specs.Trees.{trip_tree}
-use Rattle.ae_gather.proofs.Memories.{mems_le, trees_within}
 use Rattle.ae_gather.proofs.Hastened.{column_hastened, delay_hastened, order_hastened, runs_hastened, within_hastened}
 use Rattle.ae_gather.proofs.early.scheduled.Goals as goal
 
@@ -27,12 +25,8 @@ returns-clause-delay c =
     let delay = rw (c.deref-2.ensures.value, moved) at c.in_ok-plan.ensures.delay in
     omega (arith, delay, delay_hastened c.args.d c.args.ins c.in_ok-early.early.items c.args.trips.now)
 
-pub held_columns-requires-clause-within : goal.held_columns-requires-clause-within
-held_columns-requires-clause-within c = trees_within c.args.d c.args.ins c.args.outs c.args.trips.now (omega (arith, c.ranges.outs.fits)) c.requires.within
-
-pub returns-clause-mems : goal.returns-clause-mems
-returns-clause-mems c =
+pub returns-clause-ages : goal.returns-clause-ages
+returns-clause-ages c =
     let moved : c.in_ok-moved.moved.items ≡ map (hastened c.in_ok-early.early.items) c.args.trips.now = rw c.deref.ensures.value at c.in_ok-moved.ensures in
     let ages = rw (c.deref-2.ensures.value, moved) at c.in_ok-plan.ensures.ages in
-    mems_le c.args.period c.args.d c.args.ins (map trip_tree c.args.trips.now) c.in_ok-held.held.items c.in_ok-plan.plan.lines.items c.in_ok-plan.ensures.lines c.in_ok-held.ensures
-    (λ q all found. omega (arith, ages q all found, column_hastened c.args.d q c.in_ok-early.early.items c.args.trips.now))
+    λ q all found. omega (arith, ages q all found, column_hastened c.args.d q c.in_ok-early.early.items c.args.trips.now)

@@ -1,6 +1,6 @@
 -- One line more.
-use Rattle.std.proofs.Common.{ℕ, [], get_or, false, ◌≡◌, ◌+◌, ◌≤◌, length, slice_get, Some, refl, arith, rules}
-use Rattle.std.proofs.lemmas.Option.{slice_get_read, get_or_from_slice_get}
+use Rattle.std.proofs.Common.{ℕ, ◌≡◌, ◌+◌, ◌≤◌, length, slice_get, Some, refl, arith, rules}
+use Rattle.std.proofs.lemmas.Option.{slice_get_read}
 use Rattle.ae_netlist.specs.Circuit.{width_of}
 use Rattle.ae_netlist.proofs.Growing.{net_later}
 use Rattle.ae_clocked.specs.Delays.{AreTaps, line_cells}
@@ -10,7 +10,7 @@ use Rattle.ae_clocked.proofs.Belonging.{keeps_same}
 use Rattle.ae_ops.proofs.Lateness.{keeps_trans}
 use Rattle.ae_gather.specs.Columns.{net_of}
 use Rattle.ae_moves.proofs.Lists.{sum_next, sum_part}
-use Rattle.ae_gather.proofs.Memories.{mems_next, mems_part}
+use Rattle.ae_gather.specs.Plans.{line_mems}
 use Rattle.ae_gather.proofs.Building.{lines_begin, lines_more, lines_whole}
 use Rattle.ae_gather.proofs.moving.all_lines.Goals as goal
 
@@ -27,11 +27,11 @@ loop-q-init c =
       lines = lines_begin _ _ _ _ (search rules);
     }
 
-pub one_line-requires-clause-net : goal.one_line-requires-clause-net
-one_line-requires-clause-net c = own_net (net_later c.loop-q.invariant.grows.extends (c.requires.nets c.loop-q.q (omega (arith, c.loop-q-test.true, c.requires.long))).1)
+pub ring_line-requires-clause-net : goal.ring_line-requires-clause-net
+ring_line-requires-clause-net c = own_net (net_later c.loop-q.invariant.grows.extends (c.requires.nets c.loop-q.q (omega (arith, c.loop-q-test.true, c.requires.long))).1)
 
-pub one_line-requires-clause-few : goal.one_line-requires-clause-few
-one_line-requires-clause-few c =
+pub ring_line-requires-clause-few : goal.ring_line-requires-clause-few
+ring_line-requires-clause-few c =
     let there : slice_get c.args.ages.now c.loop-q.q ≡ Some c.index-ages-q.result = slice_get_read c.args.ages.now (length c.args.ages.now) c.loop-q.q c.index-ages-q.result refl c.loop-q-test.true c.index-ages-q.is in
     rw c.all.ensures (c.requires.few c.loop-q.q _ there)
 
@@ -50,28 +50,26 @@ returns-in_err-keep_line-clause-grows c = grows_trans c.loop-q.invariant.grows c
 pub returns-in_err-tapped-clause-cells : goal.returns-in_err-tapped-clause-cells
 returns-in_err-tapped-clause-cells c =
     let there : slice_get c.args.ages.now c.loop-q.q ≡ Some c.index-ages-q.result = slice_get_read c.args.ages.now (length c.args.ages.now) c.loop-q.q c.index-ages-q.result refl c.loop-q-test.true c.index-ages-q.is in
-    let cost : length c.one_line.new.nl.cells ≤ length c.loop-q.nl.cells + line_cells c.index-ages-q.result = rw c.all.ensures at c.in_err-tapped.ensures.cells in
+    let cost : length c.ring_line.new.nl.cells ≤ length c.loop-q.nl.cells + line_cells c.index-ages-q.result = rw c.all.ensures at c.in_err-tapped.ensures.cells in
     omega (arith, c.loop-q.invariant.cells, cost, sum_next line_cells c.args.ages.now c.loop-q.q _ there, sum_part line_cells c.args.ages.now (c.loop-q.q + 1))
 
 pub returns-in_err-keep_line-clause-cells : goal.returns-in_err-keep_line-clause-cells
 returns-in_err-keep_line-clause-cells c =
     let there : slice_get c.args.ages.now c.loop-q.q ≡ Some c.index-ages-q.result = slice_get_read c.args.ages.now (length c.args.ages.now) c.loop-q.q c.index-ages-q.result refl c.loop-q-test.true c.index-ages-q.is in
-    let cost : length c.one_line.new.nl.cells ≤ length c.loop-q.nl.cells + line_cells c.index-ages-q.result = rw c.all.ensures at c.in_ok-tapped.ensures.cells in
+    let cost : length c.ring_line.new.nl.cells ≤ length c.loop-q.nl.cells + line_cells c.index-ages-q.result = rw c.all.ensures at c.in_ok-tapped.ensures.cells in
     omega (arith, c.loop-q.invariant.cells, cost, sum_next line_cells c.args.ages.now c.loop-q.q _ there, sum_part line_cells c.args.ages.now (c.loop-q.q + 1))
 
 pub returns-in_err-tapped-clause-memories : goal.returns-in_err-tapped-clause-memories
 returns-in_err-tapped-clause-memories c =
     let there : slice_get c.args.ages.now c.loop-q.q ≡ Some c.index-ages-q.result = slice_get_read c.args.ages.now (length c.args.ages.now) c.loop-q.q c.index-ages-q.result refl c.loop-q-test.true c.index-ages-q.is in
     let mems = rw c.all.ensures at c.in_err-tapped.ensures.memories in
-    let next = mems_next c.args.held.now c.args.ages.now c.loop-q.q (get_or c.args.held.now c.loop-q.q false) c.index-ages-q.result refl (get_or_from_slice_get c.args.ages.now c.loop-q.q c.index-ages-q.result [] there) in
-    omega (arith, c.loop-q.invariant.memories, mems, next, mems_part c.args.held.now c.args.ages.now (c.loop-q.q + 1) (omega (arith, c.loop-q-test.true)))
+    omega (arith, c.loop-q.invariant.memories, mems, sum_next line_mems c.args.ages.now c.loop-q.q _ there, sum_part line_mems c.args.ages.now (c.loop-q.q + 1))
 
 pub returns-in_err-keep_line-clause-memories : goal.returns-in_err-keep_line-clause-memories
 returns-in_err-keep_line-clause-memories c =
     let there : slice_get c.args.ages.now c.loop-q.q ≡ Some c.index-ages-q.result = slice_get_read c.args.ages.now (length c.args.ages.now) c.loop-q.q c.index-ages-q.result refl c.loop-q-test.true c.index-ages-q.is in
     let mems = rw c.all.ensures at c.in_ok-tapped.ensures.memories in
-    let next = mems_next c.args.held.now c.args.ages.now c.loop-q.q (get_or c.args.held.now c.loop-q.q false) c.index-ages-q.result refl (get_or_from_slice_get c.args.ages.now c.loop-q.q c.index-ages-q.result [] there) in
-    omega (arith, c.loop-q.invariant.memories, mems, next, mems_part c.args.held.now c.args.ages.now (c.loop-q.q + 1) (omega (arith, c.loop-q-test.true)))
+    omega (arith, c.loop-q.invariant.memories, mems, sum_next line_mems c.args.ages.now c.loop-q.q _ there, sum_part line_mems c.args.ages.now (c.loop-q.q + 1))
 
 pub loop-q-preserved : goal.loop-q-preserved
 loop-q-preserved c =
@@ -79,20 +77,19 @@ loop-q-preserved c =
     let more = c.in_ok-tapped.ensures in
     let there : slice_get c.args.ages.now c.loop-q.q ≡ Some c.index-ages-q.result = slice_get_read c.args.ages.now (length c.args.ages.now) c.loop-q.q c.index-ages-q.result refl c.loop-q-test.true c.index-ages-q.is in
     let x : ℕ = net_of c.args.ins.now c.loop-q.q in
-    let taps : AreTaps c.one_line.new.nl.cells c.args.clocks.now.rst (width_of c.loop-q.nl.cells x) x c.index-ages-q.result c.in_ok-tapped.tapped = rw (was.keeps.rst, c.all.ensures) at more.taps in
-    let cost : length c.one_line.new.nl.cells ≤ length c.loop-q.nl.cells + line_cells c.index-ages-q.result = rw c.all.ensures at more.cells in
+    let taps : AreTaps c.ring_line.new.nl.cells c.args.clocks.now.rst (width_of c.loop-q.nl.cells x) x c.index-ages-q.result c.in_ok-tapped.tapped = rw (was.keeps.rst, c.all.ensures) at more.taps in
+    let cost : length c.ring_line.new.nl.cells ≤ length c.loop-q.nl.cells + line_cells c.index-ages-q.result = rw c.all.ensures at more.cells in
     let mems = rw c.all.ensures at more.memories in
-    let next = mems_next c.args.held.now c.args.ages.now c.loop-q.q (get_or c.args.held.now c.loop-q.q false) c.index-ages-q.result refl (get_or_from_slice_get c.args.ages.now c.loop-q.q c.index-ages-q.result [] there) in
     record {
       belongs = more.belongs;
       keeps = keeps_trans was.keeps more.keeps;
       grows = grows_trans was.grows more.grows;
       cells = omega (arith, was.cells, cost, sum_next line_cells c.args.ages.now c.loop-q.q _ there);
       muls = omega (arith, was.muls, more.muls);
-      memories = omega (arith, was.memories, mems, next);
+      memories = omega (arith, was.memories, mems, sum_next line_mems c.args.ages.now c.loop-q.q _ there);
       whole = λ h. more.whole (was.whole h);
       lines = rw c.in_ok-keep_line.ensures.ok
-          (lines_more c.loop-q.nl.cells c.one_line.new.nl.cells _ _ x c.loop-q.q c.args.ins.now c.args.ages.now _ _ _ more.grows.extends was.lines there refl
+          (lines_more c.loop-q.nl.cells c.ring_line.new.nl.cells _ _ x c.loop-q.q c.args.ins.now c.args.ages.now _ _ _ more.grows.extends was.lines there refl
           (own_net (net_later was.grows.extends (c.requires.nets c.loop-q.q (omega (arith, c.loop-q-test.true, c.requires.long))).1)) taps);
     }
 
@@ -103,4 +100,4 @@ pub returns-clause-lines : goal.returns-clause-lines
 returns-clause-lines c = lines_whole _ _ c.loop-q.q _ c.args.ages.now _ (omega (arith, c.loop-q-test.false)) c.loop-q.invariant.lines
 
 pub returns-clause-memories : goal.returns-clause-memories
-returns-clause-memories c = omega (arith, c.loop-q.invariant.memories, mems_part c.args.held.now c.args.ages.now c.loop-q.q (omega arith))
+returns-clause-memories c = omega (arith, c.loop-q.invariant.memories, sum_part line_mems c.args.ages.now c.loop-q.q)

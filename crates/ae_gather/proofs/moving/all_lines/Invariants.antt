@@ -1,5 +1,4 @@
-use Rattle.std.proofs.Common.{◌≡◌, ◌+◌, ◌≤◌, length, sum_by, take, get_or, false, []}
-use Rattle.std.specs.List.{range_with_len}
+use Rattle.std.proofs.Common.{◌≡◌, ◌+◌, ◌≤◌, length, sum_by, take}
 use Rattle.ae_netlist.specs.Counts.{AreWhole, count_of, is_memory, is_mul}
 use Rattle.ae_clocked.specs.Signals.{Grows}
 use Rattle.ae_clocked.specs.Phases.{Belongs, KeepsCounters}
@@ -15,7 +14,7 @@ invariant-loop-q l = record {
   grows : Grows l.fn.nl l.nl;
   cells : length l.nl.cells ≤ length l.fn.nl.cells + sum_by line_cells (take l.q l.ages);
   muls : count_of is_mul l.nl.cells ≡ count_of is_mul l.fn.nl.cells;
-  memories : count_of is_memory l.nl.cells ≤ count_of is_memory l.fn.nl.cells + sum_by (λ q. line_mems (get_or l.held q false) (get_or l.ages q [])) (range_with_len 0 l.q);
+  memories : count_of is_memory l.nl.cells ≤ count_of is_memory l.fn.nl.cells + sum_by line_mems (take l.q l.ages);
   whole : AreWhole l.fn.nl.cells → AreWhole l.nl.cells;
   lines : AreLines l.nl.cells l.fn.clocks.rst l.ins (take l.q l.ages) l.lines.items;
 }

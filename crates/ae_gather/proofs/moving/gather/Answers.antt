@@ -1,18 +1,210 @@
--- The cells of a plan are within the bound of its trips.
-use Rattle.std.proofs.Common.{arith}
-use Rattle.ae_gather.proofs.Building.{begun_of}
+-- The registers that hold words, and what is built on them, are within the bound of the trips.
+use Rattle.std.proofs.Common.{◌≡◌, ◌+◌, ◌*◌, length, map, arith, ap, ◌∙◌}
+use Rattle.std.proofs.lemmas.List.{length-map}
+use Rattle.ae_clocked.specs.Signals.{Adds}
+use Rattle.ae_clocked.proofs.Adding.{grows_trans}
+use Rattle.ae_moves.specs.Rings.{AreHeld}
+use Rattle.ae_moves.specs.Trees.{trip_tree}
+use Rattle.ae_ops.proofs.Lateness.{keeps_trans}
+use Rattle.ae_gather.specs.Held.{AreKept, kept_count, settled}
+use Rattle.ae_gather.specs.Plans.{AreWithin}
+use Rattle.ae_gather.proofs.Building.{begun_of, fitting_grows}
 use Rattle.ae_gather.proofs.Delays.{gather_cells}
 use Rattle.ae_gather.proofs.Hastened.{used_hastened}
+use Rattle.ae_gather.proofs.Memories.{trees_within}
+use Rattle.ae_gather.proofs.Settled.{delay_all, fitting_settled, kept_few, kept_grows, kept_nets, mems_all, order_settled, runs_settled, trips_settled, used_settled, within_settled}
 use Rattle.ae_gather.proofs.moving.gather.Goals as goal
+
+pub held_columns-requires-clause-within : goal.held_columns-requires-clause-within
+held_columns-requires-clause-within c = trees_within c.args.d _ (length c.args.widths.now) c.args.trips.now c.requires.few_outs (record { clock = λ n t f. omega (arith, c.requires.within.clock n t f, c.requires.limit); column = c.requires.within.column; reached = c.requires.within.reached; source = c.requires.within.source })
+
+pub all_nets-requires-clause-long : goal.all_nets-requires-clause-long
+all_nets-requires-clause-long c = rw c.deref.ensures.value c.in-Ok.ensures.long
+
+pub all_settled-requires-clause-columns : goal.all_settled-requires-clause-columns
+all_settled-requires-clause-columns c = rw c.deref-2.ensures.value (λ n trip f. rw c.in-Ok.ensures.long (c.requires.within.source n trip f))
+
+pub all_settled-requires-clause-clocks : goal.all_settled-requires-clause-clocks
+all_settled-requires-clause-clocks c = λ n trip f. omega (arith, c.requires.within.clock n trip f, c.requires.limit)
+
+pub scheduled-requires-clause-within : goal.scheduled-requires-clause-within
+scheduled-requires-clause-within c =
+    let long : length c.in-Ok.held.items ≡ length c.args.ins.now = c.in-Ok.ensures.long in
+    let within : AreWithin c.args.period c.args.d (length c.in-Ok.held.items) (length c.args.widths.now) c.args.trips.now = rw long c.requires.within in
+    let moves : c.in-Ok-all_settled.settled.items ≡ map (settled c.args.d c.in-Ok.held.items) c.args.trips.now = rw c.deref-2.ensures.value at c.in-Ok-all_settled.ensures in
+    let low : AreWithin 4096 c.args.d (length c.in-Ok.held.items) (length c.args.widths.now) c.args.trips.now = record { clock = λ n t f. omega (arith, within.clock n t f, c.requires.limit); column = within.column; reached = within.reached; source = within.source } in
+    rw c.deref-3.ensures.value (rw long at (within_settled 4096 c.args.d (length c.args.widths.now) c.in-Ok.held.items c.args.trips.now c.in-Ok-all_settled.settled.items moves low))
+
+pub scheduled-requires-clause-order : goal.scheduled-requires-clause-order
+scheduled-requires-clause-order c =
+    let moves : c.in-Ok-all_settled.settled.items ≡ map (settled c.args.d c.in-Ok.held.items) c.args.trips.now = rw c.deref-2.ensures.value at c.in-Ok-all_settled.ensures in
+    rw c.deref-3.ensures.value (order_settled c.args.d c.in-Ok.held.items c.args.trips.now c.in-Ok-all_settled.settled.items moves c.requires.order)
+
+pub scheduled-requires-clause-few : goal.scheduled-requires-clause-few
+scheduled-requires-clause-few c =
+    let moves : c.in-Ok-all_settled.settled.items ≡ map (settled c.args.d c.in-Ok.held.items) c.args.trips.now = rw c.deref-2.ensures.value at c.in-Ok-all_settled.ensures in
+    let count : length c.in-Ok-all_settled.settled.items ≡ length c.args.trips.now = ap length moves ∙ length-map c.args.trips.now (settled c.args.d c.in-Ok.held.items) in
+    rw c.deref-3.ensures.value (omega (arith, count, c.requires.few))
+
+pub build_plan-requires-clause-few : goal.build_plan-requires-clause-few
+build_plan-requires-clause-few c =
+    let moves : c.in-Ok-all_settled.settled.items ≡ map (settled c.args.d c.in-Ok.held.items) c.args.trips.now = rw c.deref-2.ensures.value at c.in-Ok-all_settled.ensures in
+    let count : length c.in-Ok-all_settled.settled.items ≡ length c.args.trips.now = ap length moves ∙ length-map c.args.trips.now (settled c.args.d c.in-Ok.held.items) in
+    rw c.deref-5.ensures.value (omega (arith, count, c.requires.few))
+
+pub build_plan-requires-clause-nets : goal.build_plan-requires-clause-nets
+build_plan-requires-clause-nets c =
+    let long : length c.in-Ok.held.items ≡ length c.args.ins.now = c.in-Ok.ensures.long in
+    let kept : AreKept c.all_nets.new.nl.cells c.args.clocks.now.rst c.args.period c.args.d c.args.arrival c.args.ins.now c.in-Ok.held.items c.in_ok-all.all.items = rw c.deref.ensures.value at c.in_ok-all.ensures.kept in
+    rw c.deref-4.ensures.value (kept_nets _ _ c.args.period c.args.d c.args.arrival c.args.ins.now c.in-Ok.held.items c.in_ok-all.all.items long kept)
+
+pub build_plan-requires-clause-within : goal.build_plan-requires-clause-within
+build_plan-requires-clause-within c =
+    let long : length c.in-Ok.held.items ≡ length c.args.ins.now = c.in-Ok.ensures.long in
+    let within : AreWithin c.args.period c.args.d (length c.in-Ok.held.items) (length c.args.widths.now) c.args.trips.now = rw long c.requires.within in
+    let moves : c.in-Ok-all_settled.settled.items ≡ map (settled c.args.d c.in-Ok.held.items) c.args.trips.now = rw c.deref-2.ensures.value at c.in-Ok-all_settled.ensures in
+    let kept : AreKept c.all_nets.new.nl.cells c.args.clocks.now.rst c.args.period c.args.d c.args.arrival c.args.ins.now c.in-Ok.held.items c.in_ok-all.all.items = rw c.deref.ensures.value at c.in_ok-all.ensures.kept in
+    let count : length c.in_ok-all.all.items ≡ length c.in-Ok.held.items + length c.in-Ok.held.items = omega (arith, kept.long, long) in
+    rw (c.deref-4.ensures.value, c.deref-5.ensures.value, count) (within_settled c.args.period c.args.d (length c.args.widths.now) c.in-Ok.held.items c.args.trips.now c.in-Ok-all_settled.settled.items moves within)
+
+pub build_plan-requires-clause-used : goal.build_plan-requires-clause-used
+build_plan-requires-clause-used c =
+    let moves : c.in-Ok-all_settled.settled.items ≡ map (settled c.args.d c.in-Ok.held.items) c.args.trips.now = rw c.deref-2.ensures.value at c.in-Ok-all_settled.ensures in
+    rw c.deref-5.ensures.value (used_settled c.args.d (length c.args.widths.now) c.in-Ok.held.items c.args.trips.now c.in-Ok-all_settled.settled.items moves c.requires.used)
+
+pub build_plan-requires-clause-fitting : goal.build_plan-requires-clause-fitting
+build_plan-requires-clause-fitting c =
+    let long : length c.in-Ok.held.items ≡ length c.args.ins.now = c.in-Ok.ensures.long in
+    let within : AreWithin c.args.period c.args.d (length c.in-Ok.held.items) (length c.args.widths.now) c.args.trips.now = rw long c.requires.within in
+    let moves : c.in-Ok-all_settled.settled.items ≡ map (settled c.args.d c.in-Ok.held.items) c.args.trips.now = rw c.deref-2.ensures.value at c.in-Ok-all_settled.ensures in
+    let kept : AreKept c.all_nets.new.nl.cells c.args.clocks.now.rst c.args.period c.args.d c.args.arrival c.args.ins.now c.in-Ok.held.items c.in_ok-all.all.items = rw c.deref.ensures.value at c.in_ok-all.ensures.kept in
+    let grown = fitting_grows _ _ c.args.ins.now c.args.widths.now c.args.trips.now c.in_ok-all.ensures.adds.grows.extends c.requires.fitting in
+    rw (c.deref-4.ensures.value, c.deref-5.ensures.value) (fitting_settled _ _ c.args.period c.args.d c.args.arrival (length c.args.widths.now) c.args.ins.now c.in_ok-all.all.items c.args.widths.now c.in-Ok.held.items c.args.trips.now c.in-Ok-all_settled.settled.items moves long kept within grown)
+
+pub build_plan-requires-clause-time : goal.build_plan-requires-clause-time
+build_plan-requires-clause-time c = rw (c.deref-5.ensures.value, ← c.deref-3.ensures.value) c.in-Ok-scheduled.ensures.time
+
+pub build_plan-requires-clause-moved : goal.build_plan-requires-clause-moved
+build_plan-requires-clause-moved c = rw (c.deref-5.ensures.value, ← c.deref-3.ensures.value) c.in-Ok-scheduled.ensures.moved
+
+pub build_plan-requires-clause-lines : goal.build_plan-requires-clause-lines
+build_plan-requires-clause-lines c =
+    let long : length c.in-Ok.held.items ≡ length c.args.ins.now = c.in-Ok.ensures.long in
+    let kept : AreKept c.all_nets.new.nl.cells c.args.clocks.now.rst c.args.period c.args.d c.args.arrival c.args.ins.now c.in-Ok.held.items c.in_ok-all.all.items = rw c.deref.ensures.value at c.in_ok-all.ensures.kept in
+    rw c.deref-4.ensures.value (omega (arith, kept.long, long, c.in-Ok-scheduled.ensures.lines))
+
+pub build_plan-requires-clause-taps : goal.build_plan-requires-clause-taps
+build_plan-requires-clause-taps c = rw (c.deref-5.ensures.value, ← c.deref-3.ensures.value) c.in-Ok-scheduled.ensures.few
+
+pub returns-in_err-all-clause-cells : goal.returns-in_err-all-clause-cells
+returns-in_err-all-clause-cells c =
+    let long : length c.in-Ok.held.items ≡ length c.args.ins.now = c.in-Ok.ensures.long in
+    let held : AreHeld c.args.period c.args.d (length c.in-Ok.held.items) (map trip_tree c.args.trips.now) c.in-Ok.held.items = rw long c.in-Ok.ensures in
+    let within : AreWithin c.args.period c.args.d (length c.in-Ok.held.items) (length c.args.widths.now) c.args.trips.now = rw long c.requires.within in
+    let adds : Adds c.args.nl.now c.all_nets.new.nl (16 * kept_count c.in-Ok.held.items (length c.in-Ok.held.items)) 0 = rw c.deref.ensures.value at c.in_err-all.ensures.adds in
+    omega (arith, adds.cells, kept_few c.args.period c.args.d (length c.args.ins.now) c.in-Ok.held.items c.args.trips.now long within.source held)
+
+pub returns-in-Err-all_settled-clause-cells : goal.returns-in-Err-all_settled-clause-cells
+returns-in-Err-all_settled-clause-cells c =
+    let long : length c.in-Ok.held.items ≡ length c.args.ins.now = c.in-Ok.ensures.long in
+    let held : AreHeld c.args.period c.args.d (length c.in-Ok.held.items) (map trip_tree c.args.trips.now) c.in-Ok.held.items = rw long c.in-Ok.ensures in
+    let within : AreWithin c.args.period c.args.d (length c.in-Ok.held.items) (length c.args.widths.now) c.args.trips.now = rw long c.requires.within in
+    let adds : Adds c.args.nl.now c.all_nets.new.nl (16 * kept_count c.in-Ok.held.items (length c.in-Ok.held.items)) 0 = rw c.deref.ensures.value at c.in_ok-all.ensures.adds in
+    omega (arith, adds.cells, kept_few c.args.period c.args.d (length c.args.ins.now) c.in-Ok.held.items c.args.trips.now long within.source held)
+
+pub returns-in-Err-scheduled-clause-cells : goal.returns-in-Err-scheduled-clause-cells
+returns-in-Err-scheduled-clause-cells c =
+    let long : length c.in-Ok.held.items ≡ length c.args.ins.now = c.in-Ok.ensures.long in
+    let held : AreHeld c.args.period c.args.d (length c.in-Ok.held.items) (map trip_tree c.args.trips.now) c.in-Ok.held.items = rw long c.in-Ok.ensures in
+    let within : AreWithin c.args.period c.args.d (length c.in-Ok.held.items) (length c.args.widths.now) c.args.trips.now = rw long c.requires.within in
+    let adds : Adds c.args.nl.now c.all_nets.new.nl (16 * kept_count c.in-Ok.held.items (length c.in-Ok.held.items)) 0 = rw c.deref.ensures.value at c.in_ok-all.ensures.adds in
+    omega (arith, adds.cells, kept_few c.args.period c.args.d (length c.args.ins.now) c.in-Ok.held.items c.args.trips.now long within.source held)
 
 pub returns-in_err-out-clause-cells : goal.returns-in_err-out-clause-cells
 returns-in_err-out-clause-cells c =
-    let p = c.in-Ok.ensures in
-    let begun = begun_of _ _ _ _ _ p.plan (used_hastened _ _ _ _ p.moved c.requires.used) p.columns in
-    omega (arith, p.columns, c.in_err-out.ensures.cells, gather_cells c.args.d _ _ c.in-Ok.schedule.plan.lines.items c.in-Ok.schedule.plan.columns.items p.delay p.taps p.runs (omega (arith, p.columns, c.requires.some)) begun)
+    let long : length c.in-Ok.held.items ≡ length c.args.ins.now = c.in-Ok.ensures.long in
+    let held : AreHeld c.args.period c.args.d (length c.in-Ok.held.items) (map trip_tree c.args.trips.now) c.in-Ok.held.items = rw long c.in-Ok.ensures in
+    let within : AreWithin c.args.period c.args.d (length c.in-Ok.held.items) (length c.args.widths.now) c.args.trips.now = rw long c.requires.within in
+    let moves : c.in-Ok-all_settled.settled.items ≡ map (settled c.args.d c.in-Ok.held.items) c.args.trips.now = rw c.deref-2.ensures.value at c.in-Ok-all_settled.ensures in
+    let adds : Adds c.args.nl.now c.all_nets.new.nl (16 * kept_count c.in-Ok.held.items (length c.in-Ok.held.items)) 0 = rw c.deref.ensures.value at c.in_ok-all.ensures.adds in
+    let p = c.in-Ok-scheduled.ensures in
+    let used = used_settled c.args.d (length c.args.widths.now) c.in-Ok.held.items c.args.trips.now c.in-Ok-all_settled.settled.items moves c.requires.used in
+    let delay = rw c.deref-3.ensures.value at p.delay in
+    let runs = rw c.deref-3.ensures.value at p.runs in
+    let moved = rw c.deref-3.ensures.value at p.moved in
+    let begun = begun_of _ _ _ _ _ p.plan (used_hastened _ _ _ _ moved used) p.columns in
+    omega (
+      arith,
+      p.columns,
+      adds.cells,
+      c.in_err-out.ensures.cells,
+      gather_cells c.args.d _ _ c.in-Ok-scheduled.schedule.plan.lines.items c.in-Ok-scheduled.schedule.plan.columns.items delay p.taps runs (omega (arith, p.columns, c.requires.some)) begun,
+      delay_all c.args.period c.args.d (length c.args.ins.now) c.in-Ok.held.items c.args.trips.now c.in-Ok-all_settled.settled.items moves long within.source held,
+      runs_settled c.args.d (length c.args.widths.now) c.in-Ok.held.items c.args.trips.now c.in-Ok-all_settled.settled.items moves,
+    )
 
 pub returns-clause-cells : goal.returns-clause-cells
 returns-clause-cells c =
-    let p = c.in-Ok.ensures in
-    let begun = begun_of _ _ _ _ _ p.plan (used_hastened _ _ _ _ p.moved c.requires.used) p.columns in
-    omega (arith, p.columns, c.in_ok-out.ensures.cells, gather_cells c.args.d _ _ c.in-Ok.schedule.plan.lines.items c.in-Ok.schedule.plan.columns.items p.delay p.taps p.runs (omega (arith, p.columns, c.requires.some)) begun)
+    let long : length c.in-Ok.held.items ≡ length c.args.ins.now = c.in-Ok.ensures.long in
+    let held : AreHeld c.args.period c.args.d (length c.in-Ok.held.items) (map trip_tree c.args.trips.now) c.in-Ok.held.items = rw long c.in-Ok.ensures in
+    let within : AreWithin c.args.period c.args.d (length c.in-Ok.held.items) (length c.args.widths.now) c.args.trips.now = rw long c.requires.within in
+    let moves : c.in-Ok-all_settled.settled.items ≡ map (settled c.args.d c.in-Ok.held.items) c.args.trips.now = rw c.deref-2.ensures.value at c.in-Ok-all_settled.ensures in
+    let adds : Adds c.args.nl.now c.all_nets.new.nl (16 * kept_count c.in-Ok.held.items (length c.in-Ok.held.items)) 0 = rw c.deref.ensures.value at c.in_ok-all.ensures.adds in
+    let p = c.in-Ok-scheduled.ensures in
+    let used = used_settled c.args.d (length c.args.widths.now) c.in-Ok.held.items c.args.trips.now c.in-Ok-all_settled.settled.items moves c.requires.used in
+    let delay = rw c.deref-3.ensures.value at p.delay in
+    let runs = rw c.deref-3.ensures.value at p.runs in
+    let moved = rw c.deref-3.ensures.value at p.moved in
+    let begun = begun_of _ _ _ _ _ p.plan (used_hastened _ _ _ _ moved used) p.columns in
+    omega (
+      arith,
+      p.columns,
+      adds.cells,
+      c.in_ok-out.ensures.cells,
+      gather_cells c.args.d _ _ c.in-Ok-scheduled.schedule.plan.lines.items c.in-Ok-scheduled.schedule.plan.columns.items delay p.taps runs (omega (arith, p.columns, c.requires.some)) begun,
+      delay_all c.args.period c.args.d (length c.args.ins.now) c.in-Ok.held.items c.args.trips.now c.in-Ok-all_settled.settled.items moves long within.source held,
+      runs_settled c.args.d (length c.args.widths.now) c.in-Ok.held.items c.args.trips.now c.in-Ok-all_settled.settled.items moves,
+    )
+
+pub returns-in_err-out-clause-memories : goal.returns-in_err-out-clause-memories
+returns-in_err-out-clause-memories c =
+    let long : length c.in-Ok.held.items ≡ length c.args.ins.now = c.in-Ok.ensures.long in
+    let held : AreHeld c.args.period c.args.d (length c.in-Ok.held.items) (map trip_tree c.args.trips.now) c.in-Ok.held.items = rw long c.in-Ok.ensures in
+    let within : AreWithin c.args.period c.args.d (length c.in-Ok.held.items) (length c.args.widths.now) c.args.trips.now = rw long c.requires.within in
+    let moves : c.in-Ok-all_settled.settled.items ≡ map (settled c.args.d c.in-Ok.held.items) c.args.trips.now = rw c.deref-2.ensures.value at c.in-Ok-all_settled.ensures in
+    let p = c.in-Ok-scheduled.ensures in
+    let ages = rw c.deref-3.ensures.value at p.ages in
+    omega (arith, c.in_ok-all.ensures.adds.memories, c.in_err-out.ensures.memories, mems_all c.args.period c.args.d (length c.args.ins.now) c.in-Ok.held.items c.args.trips.now c.in-Ok-all_settled.settled.items c.in-Ok-scheduled.schedule.plan.lines.items moves long within.source held p.lines ages)
+
+pub returns-clause-memories : goal.returns-clause-memories
+returns-clause-memories c =
+    let long : length c.in-Ok.held.items ≡ length c.args.ins.now = c.in-Ok.ensures.long in
+    let held : AreHeld c.args.period c.args.d (length c.in-Ok.held.items) (map trip_tree c.args.trips.now) c.in-Ok.held.items = rw long c.in-Ok.ensures in
+    let within : AreWithin c.args.period c.args.d (length c.in-Ok.held.items) (length c.args.widths.now) c.args.trips.now = rw long c.requires.within in
+    let moves : c.in-Ok-all_settled.settled.items ≡ map (settled c.args.d c.in-Ok.held.items) c.args.trips.now = rw c.deref-2.ensures.value at c.in-Ok-all_settled.ensures in
+    let p = c.in-Ok-scheduled.ensures in
+    let ages = rw c.deref-3.ensures.value at p.ages in
+    omega (arith, c.in_ok-all.ensures.adds.memories, c.in_ok-out.ensures.memories, mems_all c.args.period c.args.d (length c.args.ins.now) c.in-Ok.held.items c.args.trips.now c.in-Ok-all_settled.settled.items c.in-Ok-scheduled.schedule.plan.lines.items moves long within.source held p.lines ages)
+
+pub returns-in_err-out-clause-keeps : goal.returns-in_err-out-clause-keeps
+returns-in_err-out-clause-keeps c = keeps_trans c.in_ok-all.ensures.keeps c.in_err-out.ensures.keeps
+
+pub returns-clause-keeps : goal.returns-clause-keeps
+returns-clause-keeps c = keeps_trans c.in_ok-all.ensures.keeps c.in_ok-out.ensures.keeps
+
+pub returns-in_err-out-clause-grows : goal.returns-in_err-out-clause-grows
+returns-in_err-out-clause-grows c = grows_trans c.in_ok-all.ensures.adds.grows c.in_err-out.ensures.grows
+
+pub returns-clause-grows : goal.returns-clause-grows
+returns-clause-grows c = grows_trans c.in_ok-all.ensures.adds.grows c.in_ok-out.ensures.grows
+
+pub returns-clause-trips : goal.returns-clause-trips
+returns-clause-trips c =
+    let long : length c.in-Ok.held.items ≡ length c.args.ins.now = c.in-Ok.ensures.long in
+    let held : AreHeld c.args.period c.args.d (length c.in-Ok.held.items) (map trip_tree c.args.trips.now) c.in-Ok.held.items = rw long c.in-Ok.ensures in
+    let within : AreWithin c.args.period c.args.d (length c.in-Ok.held.items) (length c.args.widths.now) c.args.trips.now = rw long c.requires.within in
+    let moves : c.in-Ok-all_settled.settled.items ≡ map (settled c.args.d c.in-Ok.held.items) c.args.trips.now = rw c.deref-2.ensures.value at c.in-Ok-all_settled.ensures in
+    let kept : AreKept c.all_nets.new.nl.cells c.args.clocks.now.rst c.args.period c.args.d c.args.arrival c.args.ins.now c.in-Ok.held.items c.in_ok-all.all.items = rw c.deref.ensures.value at c.in_ok-all.ensures.kept in
+    let grown = kept_grows _ _ _ _ _ _ _ _ _ c.in_ok-out.ensures.grows.extends kept in
+    let made = rw (c.deref-4.ensures.value, c.deref-5.ensures.value, c.in_ok-all.ensures.keeps.rst) at c.in_ok-out.ensures.trips in
+    trips_settled _ _ c.args.period c.args.d c.args.arrival (length c.args.widths.now) c.args.ins.now c.in_ok-all.all.items _ c.in-Ok.held.items c.args.trips.now c.in-Ok-all_settled.settled.items moves long grown held within made

@@ -1,0 +1,59 @@
+-- One column more.
+use Rattle.std.proofs.Common.{ℕ, ◌≡◌, ◌+◌, ◌-◌, cond, List, ◌++◌, length, arith, ap, ◌∙◌}
+use Rattle.ae_netlist.specs.declared.cell.NetId.{NetId}
+use Rattle.ae_netlist.proofs.Growing.{net_later}
+use Rattle.ae_clocked.proofs.Added.{own_net}
+use Rattle.ae_clocked.proofs.Adding.{adds_most, adds_none, adds_trans}
+use Rattle.ae_clocked.proofs.Belonging.{keeps_same}
+use Rattle.ae_moves.proofs.Held.{sum_more}
+use Rattle.ae_ops.proofs.Lateness.{keeps_trans}
+use Rattle.ae_gather.specs.Held.{is_kept}
+use Rattle.ae_gather.proofs.Keeping.{kept_begin, kept_more, kept_whole}
+use Rattle.ae_gather.proofs.Memories.{sums_part}
+use Rattle.ae_gather.proofs.held.all_nets.Goals as goal
+
+pub loop-q-init : goal.loop-q-init
+loop-q-init c = record { belongs = c.requires.belongs; keeps = keeps_same _; adds = adds_none _; kept = kept_begin _ _ _ _ _ _ _ _ (c.in_ok-add_all.ensures.ok ∙ ap (λ (xs : List NetId). xs ++ c.args.ins.now) c.new-all.ensures.items) }
+
+pub kept_net-requires-clause-net : goal.kept_net-requires-clause-net
+kept_net-requires-clause-net c = own_net (net_later c.loop-q.invariant.adds.grows.extends (c.requires.nets c.loop-q.q (omega (arith, c.loop-q-test.true, c.requires.long))).1)
+
+pub returns-in_err-net-clause-keeps : goal.returns-in_err-net-clause-keeps
+returns-in_err-net-clause-keeps c = keeps_trans c.loop-q.invariant.keeps c.in_err-net.ensures.keeps
+
+pub returns-in_err-keep_net-clause-keeps : goal.returns-in_err-keep_net-clause-keeps
+returns-in_err-keep_net-clause-keeps c = keeps_trans c.loop-q.invariant.keeps c.in_ok-net.ensures.keeps
+
+pub returns-in_err-net-clause-adds : goal.returns-in_err-net-clause-adds
+returns-in_err-net-clause-adds c =
+    let one = sum_more (λ (q : ℕ). cond (is_kept c.args.held.now q) 1 0) c.loop-q.q in
+    let rest : c.loop-q.q + 1 + (length c.args.held.now - (c.loop-q.q + 1)) ≡ length c.args.held.now = omega (arith, c.loop-q-test.true) in
+    let part = rw rest at (sums_part (λ (q : ℕ). cond (is_kept c.args.held.now q) 1 0) (c.loop-q.q + 1) (length c.args.held.now - (c.loop-q.q + 1))) in
+    adds_most _ (omega (arith, one, part)) (adds_trans c.loop-q.invariant.adds c.in_err-net.ensures.adds)
+
+pub returns-in_err-keep_net-clause-adds : goal.returns-in_err-keep_net-clause-adds
+returns-in_err-keep_net-clause-adds c =
+    let one = sum_more (λ (q : ℕ). cond (is_kept c.args.held.now q) 1 0) c.loop-q.q in
+    let rest : c.loop-q.q + 1 + (length c.args.held.now - (c.loop-q.q + 1)) ≡ length c.args.held.now = omega (arith, c.loop-q-test.true) in
+    let part = rw rest at (sums_part (λ (q : ℕ). cond (is_kept c.args.held.now q) 1 0) (c.loop-q.q + 1) (length c.args.held.now - (c.loop-q.q + 1))) in
+    adds_most _ (omega (arith, one, part)) (adds_trans c.loop-q.invariant.adds c.in_ok-net.ensures.adds)
+
+pub loop-q-preserved : goal.loop-q-preserved
+loop-q-preserved c =
+    let was = c.loop-q.invariant in
+    let more = c.in_ok-net.ensures in
+    record {
+      belongs = more.belongs;
+      keeps = keeps_trans was.keeps more.keeps;
+      adds = (let one = sum_more (λ (q : ℕ). cond (is_kept c.args.held.now q) 1 0) c.loop-q.q in adds_most _ (omega (arith, one)) (adds_trans was.adds more.adds));
+      kept = rw c.in_ok-keep_net.ensures.ok (kept_more c.loop-q.q _ _ _ _ _ _ _ _ _ _ more.adds.grows.extends was.kept (rw was.keeps.rst at more.keeps_word));
+    }
+
+pub returns-clause-adds : goal.returns-clause-adds
+returns-clause-adds c =
+    let rest : c.loop-q.q + (length c.args.held.now - c.loop-q.q) ≡ length c.args.held.now = omega arith in
+    let part = rw rest at (sums_part (λ (q : ℕ). cond (is_kept c.args.held.now q) 1 0) c.loop-q.q (length c.args.held.now - c.loop-q.q)) in
+    adds_most _ (omega (arith, part)) c.loop-q.invariant.adds
+
+pub returns-clause-kept : goal.returns-clause-kept
+returns-clause-kept c = kept_whole c.loop-q.q _ _ _ _ _ _ _ _ (omega (arith, c.loop-q-test.false)) c.requires.long c.loop-q.invariant.kept
