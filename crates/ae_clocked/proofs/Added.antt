@@ -8,12 +8,12 @@ use Rattle.ae_netlist.specs.declared.cell.Cell.TheVariants.{Const, Op, Reg}
 use Rattle.ae_netlist.specs.declared.cell.SizedCell.{SizedCell}
 use Rattle.ae_netlist.specs.declared.netlist.NetFault.{NetFault}
 use Rattle.ae_netlist.specs.Circuit.{Circuit, IsNet, IsRegister, IsOperation, width_of, main_operand, new_register}
-use Rattle.ae_netlist.specs.Counts.{is_input, is_memory, is_mul}
+use Rattle.ae_netlist.specs.Counts.{is_input, is_memory, is_mul, is_register}
 use Rattle.ae_netlist.specs.Runs.{Carries, InEveryRunFrom}
 use Rattle.ae_netlist.proofs.Gets.{get_pushed, get_set_other}
 use Rattle.ae_netlist.proofs.Growing.{net_width, keeps_connected, extends_length, main_is, width_is}
 use Rattle.ae_netlist.proofs.Carried.{const_word, op_word, reg_word, carries_trans, carries_extends}
-use Rattle.ae_clocked.specs.Signals.{Grows, Connects, IsConstant, IsResult}
+use Rattle.ae_clocked.specs.Signals.{Grows, Connects, IsConstant, IsResult, is_test}
 use Rattle.ae_clocked.proofs.Adding.{whole_connected, count_connected}
 
 -- an answer that is the number of the cell that was added
@@ -71,6 +71,8 @@ connects old new r next w reg e = rw e (record {
   muls = count_connected is_mul old.cells r.0 w next reg refl;
   memories = count_connected is_memory old.cells r.0 w next reg refl;
   whole = whole_connected old.cells r.0 w next reg;
+  registers = count_connected is_register old.cells r.0 w next reg refl;
+  tests = count_connected is_test old.cells r.0 w next reg refl;
 })
 
 pub connect_carries : {old new : Circuit} {r next : ℕ} (from : ℕ) → r < from → Connects old new r next → Carries from old.cells new.cells

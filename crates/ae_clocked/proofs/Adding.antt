@@ -185,3 +185,9 @@ adds_connect {base} {old} {new} {r} p l c = record {
   where
     within : (n : ℕ) (sized : SizedCell) → slice_get base.cells n ≡ Some sized → n < length base.cells
     within n sized h = slice_get_within base.cells n sized h
+
+-- one more cell counts once where it is of a kind
+pub counted : {X : Type 0} (kind : Cell → Bool) (old new : Circuit) (r : Result X NetFault) (sized : SizedCell) → OnOk r (new ≡ record old { cells = old.cells ++ sized ∷ [] }) → OnErr r (new ≡ old)
+    → count_of kind new.cells ≤ count_of kind old.cells + cond (kind sized.cell) 1 0
+counted kind old new (Ok x) sized ok err = rw ok (omega (arith, count_push (λ y. kind y.cell) old.cells sized))
+counted kind old new (Err e) sized ok err = rw err (omega arith)

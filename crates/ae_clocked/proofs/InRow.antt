@@ -1,5 +1,6 @@
 -- One more ring in a row.
-use Rattle.std.proofs.Common.{ℕ, ◌≡◌, ◌+◌, ◌-◌, ◌*◌, ◌/◌, ◌<◌, ◌≤◌, min, inl, inr, List, ◌++◌, ◌∷◌, [], length, Some, slice_get, get_or, Result, Ok, Err, IfOk, arith, ◌∙◌, subst}
+use Rattle.std.proofs.Common.{Bool, true, false, nat_lt, if◌then◌else◌, ℕ, ◌≡◌, ◌+◌, ◌-◌, ◌*◌, ◌/◌, ◌<◌, ◌≤◌, min, inl, inr, List, ◌++◌, ◌∷◌, [], length, Some, slice_get, get_or, Result, Ok, Err, IfOk, arith, ◌∙◌, subst}
+use borrow.Author.Tests.{ltb-true}
 use Rattle.std.proofs.lemmas.Option.{slice_get_within, slice_get-get_or}
 use Rattle.ae_netlist.specs.declared.cell.NetId.{NetId}
 use Rattle.ae_netlist.specs.declared.cell.SizedCell.{SizedCell}
@@ -59,3 +60,8 @@ row_tap old new (Ok y) links link w tap k far g found sum taps = λ rst x reach 
 
 pub row_found : (links : List Link) (tap : ℕ) (none : Link) → 1 ≤ tap → tap ≤ 4096 * length links → slice_get links ((tap - 1) / 4096) ≡ Some (get_or links ((tap - 1) / 4096) none)
 row_found links tap none late long = let within : (tap - 1) / 4096 < length links = omega arith in slice_get-get_or links ((tap - 1) / 4096) none within
+
+-- what the next ring takes is kept in a register as long as some are to spare
+pub head_kept : (r0 r1 r2 r3 j spare : ℕ) (kept : Bool) (c0 c1 c2 : ℕ) → nat_lt j spare ≡ kept → r1 + c0 ≤ r0 + c1 + min j spare → r2 + c1 ≤ r1 + c2 → r3 ≤ r2 + (if kept then 1 else 0) → r3 + c0 ≤ r0 + c2 + min (j + 1) spare
+head_kept r0 r1 r2 r3 j spare true c0 c1 c2 e a b d = let l : j < spare = ltb-true j spare e in omega arith
+head_kept r0 r1 r2 r3 j spare false c0 c1 c2 e a b d = omega arith

@@ -1,5 +1,5 @@
 -- The cells of a line, and its taps as the netlist grows.
-use Rattle.std.proofs.Common.{ℕ, zero, suc, ◌≡◌, ◌+◌, ◌*◌, ◌/◌, ◌<◌, ◌≤◌, nat_lt, if◌then◌else◌, cond, Bool, true, false, inl, inr, List, [], ◌∷◌, ◌++◌, take, length, count_by, get_or, arith, refl, ap, ◌∙◌, rules}
+use Rattle.std.proofs.Common.{ℕ, zero, suc, ◌≡◌, ◌+◌, ◌*◌, ◌/◌, ◌<◌, ◌≤◌, nat_lt, nat_le, min, ◌&&◌, if◌then◌else◌, cond, Bool, true, false, inl, inr, List, [], ◌∷◌, ◌++◌, take, length, count_by, get_or, arith, refl, ap, ◌∙◌, rules}
 use Rattle.std.proofs.lemmas.Bool.{cases_lt}
 use Rattle.std.proofs.lemmas.List.{take_more}
 use Rattle.std.proofs.lemmas.List.Sums.{sum_by-cons}
@@ -64,3 +64,13 @@ delays_grow g h = record { each = λ k y found. delay_grows g (h.each k y found)
 
 pub taps_grow : {a b : List SizedCell} {rst w x : ℕ} {taps : List ℕ} {nets : List NetId} → Extends a b → AreTaps a rst w x taps nets → AreTaps b rst w x taps nets
 taps_grow g h = record { long = h.long; each = λ k d y at found. tap_grows g (h.each k d y at found) }
+
+-- a register is taken where one is to spare, and for a far tap
+pub spare_taken : (spare tap : ℕ) → (if nat_lt 0 spare && nat_le 8 tap then 1 else 0) ≤ min spare (min (tap / 8) 1)
+spare_taken spare tap = elim (cases_lt 0 spare) [
+  | inl some ↦ (let t : nat_lt 0 spare ≡ true = search rules in elim (cases_lt tap 8) [
+    | inl near ↦ (let u : nat_le 8 tap ≡ false = search rules in rw (t, u) (omega arith))
+    | inr far ↦ (let u : nat_le 8 tap ≡ true = search rules in rw (t, u) (omega arith))
+  ])
+  | inr none ↦ (let t : nat_lt 0 spare ≡ false = search rules in rw t (omega arith))
+]

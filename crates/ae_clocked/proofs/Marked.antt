@@ -3,6 +3,7 @@ use Rattle.std.proofs.Common.{ℕ, zero, suc, ◌≡◌, ◌≢◌, ◌+◌, ◌
 use Rattle.std.proofs.lemmas.Bool.{cases_eq, cases_lt, ne_eqb}
 use Rattle.std.proofs.Math.Nat.{add-mod_right, mod-add-mod, mod-eq_of_lt, mod-eq-sub-mod}
 use Rattle.std.specs.Int.{from_bool}
+use Rattle.std.specs.Int.Bits.{bit_xor}
 use Rattle.ae_netlist.specs.Runs.{Clock, word_at, IsReset, HasWords}
 use Rattle.ae_clocked.specs.Signals.{BeginsWith, IsAt, Turns}
 use Rattle.ae_clocked.specs.Phases.{phase_of, IsMark, MarksPhases}
@@ -221,3 +222,21 @@ at_word_is r word bound at b e = rw (e, b) refl
 pub turn_after : (rst y a b once after begin next y' first : ℕ) → once ≡ (if y == a then 1 else 0) → after ≡ (if once == b then 1 else 0) → begin ≡ first → next ≡ (if rst == 1 then begin else after) → y' ≡ next
     → y' ≡ (if rst == 1 then first else (if (if y == a then 1 else 0) == b then 1 else 0))
 turn_after rst y a b once after begin next y' first o f g n e = rw (e, n, g, f, o) refl
+
+xor_bits : (y a b : ℕ) → y < 2 → a < 2 → b < 2 → bit_xor (bit_xor y a) b ≡ (if (if y == a then 1 else 0) == b then 1 else 0)
+xor_bits zero zero zero p q r = refl
+xor_bits zero zero (suc zero) p q r = refl
+xor_bits zero (suc zero) zero p q r = refl
+xor_bits zero (suc zero) (suc zero) p q r = refl
+xor_bits (suc zero) zero zero p q r = refl
+xor_bits (suc zero) zero (suc zero) p q r = refl
+xor_bits (suc zero) (suc zero) zero p q r = refl
+xor_bits (suc zero) (suc zero) (suc zero) p q r = refl
+xor_bits (suc (suc y)) a b p q r = absurd (omega arith)
+xor_bits y (suc (suc a)) b p q r = absurd (omega arith)
+xor_bits y a (suc (suc b)) p q r = absurd (omega arith)
+
+-- the same by exclusive ors
+pub turn_xor : (rst y a b once after begin next y' first : ℕ) → y < 2 → a < 2 → b < 2 → once ≡ bit_xor y a → after ≡ bit_xor once b → begin ≡ first → next ≡ (if rst == 1 then begin else after) → y' ≡ next
+    → y' ≡ (if rst == 1 then first else (if (if y == a then 1 else 0) == b then 1 else 0))
+turn_xor rst y a b once after begin next y' first p q r o f g n e = rw (e, n, g, f, o, xor_bits y a b p q r) refl

@@ -7,13 +7,13 @@ use Rattle.ae_netlist.specs.declared.cell.Cell.TheVariants.{Mem, Peek}
 use Rattle.ae_netlist.specs.declared.cell.SizedCell.{SizedCell}
 use Rattle.ae_netlist.specs.declared.netlist.NetFault.{NetFault}
 use Rattle.ae_netlist.specs.Circuit.{Circuit, IsNet, IsMemory, IsFormed, IsWritten, Extends, width_of, depth_of, depth_in, new_memory}
-use Rattle.ae_netlist.specs.Counts.{AreWhole, is_input, is_memory, is_mul}
+use Rattle.ae_netlist.specs.Counts.{AreWhole, is_input, is_memory, is_mul, count_of, is_register}
 use Rattle.ae_netlist.specs.Runs.{word_at, store_at, InEveryRunFrom}
 use Rattle.ae_netlist.proofs.Gets.{get_pushed, get_push_cases}
 use Rattle.ae_netlist.proofs.Growing.{net_later, net_width, width_is, net_from_take, memory_from_take, extends_append}
 use Rattle.ae_netlist.proofs.Carried.{carries_extends, carries_later, carries_trans}
 use Rattle.ae_netlist.proofs.Counting.{count_push}
-use Rattle.ae_clocked.specs.Signals.{Grows, Adds, IsConstant}
+use Rattle.ae_clocked.specs.Signals.{Grows, Adds, IsConstant, is_test}
 use Rattle.ae_clocked.proofs.Added.{IsAdded, grows_length, net_within, own_net}
 use Rattle.ae_clocked.proofs.Adding.{grows_trans, adds_same}
 use Rattle.ae_clocked.specs.Rings.{AddsMemories, IsStore, IsLook}
@@ -230,3 +230,10 @@ stored_words old a c m at x bit w d g one always em ec =
     let last : bit.0 < length a.cells = net_within one in
     let ne : bit.0 ≢ length a.cells = λ e. absurd (omega arith) in
     rw (ec, em) (λ all k run is. store_words a.cells w d at x bit ne all (carries_later _ _ (grows_length g) k) run is (always all (carries_trans (carries_extends _ (extends_append a.cells _)) k) run is))
+
+-- it is no register and compares nothing
+pub stored_registers : (a c : Circuit) (at x bit : NetId) (w d : ℕ) → c ≡ record a { cells = a.cells ++ memory_cell w d at x bit ∷ [] } → count_of is_register c.cells ≤ count_of is_register a.cells
+stored_registers a c at x bit w d ec = rw ec (omega (arith, count_push (λ y. is_register y.cell) a.cells (memory_cell w d at x bit)))
+
+pub stored_tests : (a c : Circuit) (at x bit : NetId) (w d : ℕ) → c ≡ record a { cells = a.cells ++ memory_cell w d at x bit ∷ [] } → count_of is_test c.cells ≤ count_of is_test a.cells
+stored_tests a c at x bit w d ec = rw ec (omega (arith, count_push (λ y. is_test y.cell) a.cells (memory_cell w d at x bit)))

@@ -1,14 +1,27 @@
 -- How a netlist grows, and what one net's words are by those of others.
-use Rattle.std.specs.Prelude.{◌≡◌, ℕ, ◌+◌, ◌-◌, ◌<◌, ◌≤◌, ◌≢◌, ◌==◌, ◌%◌, ◌^◌, if◌then◌else◌, List, length, Some, Result, IfErr, slice_get}
+use Rattle.std.specs.Prelude.{◌≡◌, ℕ, ◌+◌, ◌-◌, ◌<◌, ◌≤◌, ◌≢◌, ◌==◌, ◌%◌, ◌^◌, if◌then◌else◌, Bool, true, false, List, length, Some, Result, IfErr, slice_get}
 use Rattle.ae_word.specs.declared.op.WordOp.{WordOp}
+use Rattle.ae_word.specs.declared.op.WordOp.TheVariants.{Eq, Lt}
 use Rattle.ae_word.specs.WordTable.{word_result}
 use Rattle.ae_netlist.specs.declared.cell.NetId.{NetId}
+use Rattle.ae_netlist.specs.declared.cell.Cell.{Cell}
+use Rattle.ae_netlist.specs.declared.cell.Cell.TheVariants.{Op}
 use Rattle.ae_netlist.specs.declared.cell.SizedCell.{SizedCell}
 use Rattle.ae_netlist.specs.declared.netlist.NetFault.{NetFault}
 use Rattle.ae_netlist.specs.declared.netlist.NetFault.TheVariants.{Full}
 use Rattle.ae_netlist.specs.Circuit.{Circuit, IsNet, Extends, operand}
-use Rattle.ae_netlist.specs.Counts.{AreWhole, count_of, is_input, is_memory, is_mul}
+use Rattle.ae_netlist.specs.Counts.{AreWhole, count_of, is_input, is_memory, is_mul, is_register}
 use Rattle.ae_netlist.specs.Runs.{Clock, word_at, InEveryRunFrom}
+
+-- an operator that compares
+abbrev pub compares : WordOp → Bool
+compares Eq = true
+compares Lt = true
+compares _ = false
+
+abbrev pub is_test : Cell → Bool
+is_test (Op op args) = compares op
+is_test _ = false
 
 -- a netlist that has grown: no cell that was there has changed, nor the limit, and no input and no output was added
 pub record Grows (old new : Circuit) : Type 0 where
@@ -57,6 +70,8 @@ pub record Connects (old new : Circuit) (r next : ℕ) : Type 0 where
   pub muls : count_of is_mul new.cells ≡ count_of is_mul old.cells
   pub memories : count_of is_memory new.cells ≡ count_of is_memory old.cells
   pub whole : AreWhole old.cells → AreWhole new.cells
+  pub registers : count_of is_register new.cells ≡ count_of is_register old.cells
+  pub tests : count_of is_test new.cells ≡ count_of is_test old.cells
 
 -- net y has the word after that of r: 0 after the last, and else one more
 abbrev pub IsTurned : List Clock → ℕ → ℕ → ℕ → ℕ → Type 0

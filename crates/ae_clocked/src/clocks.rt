@@ -1,11 +1,12 @@
 // Counters of clocks, made once for each period and offset.
 
-ghost use Rattle.std.specs.Prelude.{◌≡◌, ◌<◌, ◌≤◌, ℕ, [], IfOk, OnErr, OnOk, Some, Ok, Err, ◌≢◌, if◌then◌else◌};
+ghost use Rattle.std.specs.Prelude.{◌≡◌, ◌+◌, ◌<◌, ◌≤◌, ℕ, [], IfOk, OnErr, OnOk, Some, None, Ok, Err, length, ◌≢◌, if◌then◌else◌};
 ghost use Rattle.ae_netlist.specs.declared.cell.NetId.{NetId};
 ghost use Rattle.ae_netlist.specs.Circuit.{IsNet};
+ghost use Rattle.ae_netlist.specs.Counts.{count_of, is_register};
 ghost use Rattle.ae_netlist.specs.Runs.{InEveryResetRun};
 ghost use Rattle.ae_clocked.specs.declared.clocks.Phase.{Phase};
-ghost use Rattle.ae_clocked.specs.Signals.{Adds, IsFullAt};
+ghost use Rattle.ae_clocked.specs.Signals.{Adds, IsFullAt, is_test};
 ghost use Rattle.ae_clocked.specs.Phases.{Belongs, HoldsPhases, IsCounter, IsMark, KeepsCounters, MarksPhases, kept_at, same_phase};
 
 use crate::counter::counter;
@@ -64,6 +65,7 @@ impl Clocks {
     fn keep(&mut self, phase: Phase, net: NetId) -> Result<(), NetFault>
         ensures kept { OnOk result ((q : Phase) → kept_at self.new q ≡ (if same_phase phase q then Some net else kept_at self.old q)) }
         ensures rst { self.new.rst ≡ self.old.rst }
+        ensures more { OnOk result (kept_at self.old phase ≡ None → length self.new.counters ≡ length self.old.counters + 1) }
         ensures err { OnErr result (self.new ≡ self.old) }
         ensures fault { result ≢ Err NetFault.Full }
     {
@@ -83,6 +85,9 @@ impl Clocks {
         requires high { period ≤ 4096 }
         ensures belongs { Belongs self.new nl.new.cells }
         ensures adds { Adds nl.old nl.new 12 0 }
+        ensures registers { OnOk result (count_of is_register nl.new.cells + length self.old.counters ≤ count_of is_register nl.old.cells + length self.new.counters) }
+        ensures tests { OnOk result (count_of is_test nl.new.cells + length self.old.counters ≤ count_of is_test nl.old.cells + length self.new.counters) }
+        ensures gained { OnOk result (length self.new.counters ≤ length self.old.counters + 1) }
         ensures full { IsFullAt result nl.new }
         ensures rst { self.new.rst ≡ self.old.rst }
         ensures again { (net : NetId) → kept_at self.old (record { period = period; offset = offset }) ≡ Some net → (result ≡ Ok net) × (nl.new ≡ nl.old) × (self.new ≡ self.old) }
@@ -118,6 +123,8 @@ impl Clocks {
         requires high { period ≤ 4096 }
         requires within { from ≤ period }
         ensures adds { Adds nl.old nl.new 9 0 }
+        ensures registers { count_of is_register nl.new.cells ≤ count_of is_register nl.old.cells + 1 }
+        ensures tests { count_of is_test nl.new.cells ≤ count_of is_test nl.old.cells + 2 }
         ensures full { IsFullAt result nl.new }
         ensures net { IfOk result (λ y. IsNet nl.new.cells y.0 1) }
         ensures marks { IfOk result (λ y. InEveryResetRun nl.new.cells self.now.rst (λ run start. IsMark run start y.0 phase.0 from)) }

@@ -2,8 +2,9 @@
 
 ghost use Rattle.std.specs.Prelude.{◌≡◌, ◌+◌, ◌<◌, ◌≤◌, ◌%◌, ◌^◌, ℕ, bit_xor, length, IfOk};
 ghost use Rattle.ae_netlist.specs.Circuit.{IsNet};
+ghost use Rattle.ae_netlist.specs.Counts.{count_of, is_register};
 ghost use Rattle.ae_netlist.specs.Runs.{InEveryRunFrom, word_at};
-ghost use Rattle.ae_clocked.specs.Signals.{Adds, Counts, IsFullAt, IsTurned};
+ghost use Rattle.ae_clocked.specs.Signals.{Adds, Counts, IsFullAt, IsTurned, is_test};
 
 use crate::gates::{
     choose, close, constant, differ, doubled, either, equal, lowest, register, sum,
@@ -17,6 +18,8 @@ fn turned_by_sum(nl: &mut Netlist, r: NetId, width: u32, last: u64) -> Result<Ne
     requires net { IsNet nl.old.cells r.0 width }
     requires fits { last < 2 ^ width }
     ensures adds { Adds nl.old nl.new 6 0 }
+    ensures registers { count_of is_register nl.new.cells ≤ count_of is_register nl.old.cells }
+    ensures tests { count_of is_test nl.new.cells ≤ count_of is_test nl.old.cells + 1 }
     ensures full { IsFullAt result nl.new }
     ensures net { IfOk result (λ y. IsNet nl.new.cells y.0 width) }
     ensures words { IfOk result (λ y. InEveryRunFrom (length nl.old.cells) nl.new.cells (λ run. IsTurned run y.0 r.0 width last)) }
@@ -34,6 +37,8 @@ fn turned_by_sum(nl: &mut Netlist, r: NetId, width: u32, last: u64) -> Result<Ne
 fn changed(nl: &mut Netlist, r: NetId) -> Result<NetId, NetFault>
     requires net { IsNet nl.old.cells r.0 3 }
     ensures adds { Adds nl.old nl.new 5 0 }
+    ensures registers { count_of is_register nl.new.cells ≤ count_of is_register nl.old.cells }
+    ensures tests { count_of is_test nl.new.cells ≤ count_of is_test nl.old.cells }
     ensures full { IsFullAt result nl.new }
     ensures net { IfOk result (λ y. IsNet nl.new.cells y.0 3) }
     ensures words { IfOk result (λ y. InEveryRunFrom (length nl.old.cells) nl.new.cells (λ run. (t : ℕ) → t < length run → bit_xor (word_at run t r.0) (word_at run t y.0) ≡ (word_at run t r.0 + 1) % 2 ^ 3)) }
@@ -52,6 +57,8 @@ fn turned_by_bits(nl: &mut Netlist, r: NetId, last: u64) -> Result<NetId, NetFau
     requires net { IsNet nl.old.cells r.0 3 }
     requires fits { last < 2 ^ 3 }
     ensures adds { Adds nl.old nl.new 9 0 }
+    ensures registers { count_of is_register nl.new.cells ≤ count_of is_register nl.old.cells }
+    ensures tests { count_of is_test nl.new.cells ≤ count_of is_test nl.old.cells + 1 }
     ensures full { IsFullAt result nl.new }
     ensures net { IfOk result (λ y. IsNet nl.new.cells y.0 3) }
     ensures words { IfOk result (λ y. InEveryRunFrom (length nl.old.cells) nl.new.cells (λ run. IsTurned run y.0 r.0 3 last)) }
@@ -71,6 +78,8 @@ fn turned(nl: &mut Netlist, r: NetId, width: u32, last: u64) -> Result<NetId, Ne
     requires net { IsNet nl.old.cells r.0 width }
     requires fits { last < 2 ^ width }
     ensures adds { Adds nl.old nl.new 9 0 }
+    ensures registers { count_of is_register nl.new.cells ≤ count_of is_register nl.old.cells }
+    ensures tests { count_of is_test nl.new.cells ≤ count_of is_test nl.old.cells + 1 }
     ensures full { IsFullAt result nl.new }
     ensures net { IfOk result (λ y. IsNet nl.new.cells y.0 width) }
     ensures words { IfOk result (λ y. InEveryRunFrom (length nl.old.cells) nl.new.cells (λ run. IsTurned run y.0 r.0 width last)) }
@@ -96,6 +105,8 @@ pub fn counter(
     requires last { last < 2 ^ width }
     requires first { first < 2 ^ width }
     ensures adds { Adds nl.old nl.new 12 0 }
+    ensures registers { count_of is_register nl.new.cells ≤ count_of is_register nl.old.cells + 1 }
+    ensures tests { count_of is_test nl.new.cells ≤ count_of is_test nl.old.cells + 1 }
     ensures full { IsFullAt result nl.new }
     ensures net { IfOk result (λ y. IsNet nl.new.cells y.0 width) }
     ensures words { IfOk result (λ y. InEveryRunFrom (length nl.old.cells) nl.new.cells (λ run. Counts run y.0 rst.0 width last first)) }

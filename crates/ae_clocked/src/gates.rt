@@ -1,10 +1,10 @@
 // One cell at a time, with what its net holds in every run.
 
-ghost use Rattle.std.specs.Prelude.{◌≡◌, ◌<◌, ◌≤◌, ◌^◌, ℕ, ◌∷◌, [], length, IfOk, OnOk, OnErr, if◌then◌else◌};
+ghost use Rattle.std.specs.Prelude.{◌≡◌, ◌+◌, ◌<◌, ◌≤◌, ◌^◌, ℕ, ◌∷◌, [], length, IfOk, OnOk, OnErr, if◌then◌else◌};
 ghost use Rattle.ae_netlist.specs.Circuit.{IsNet, IsOperation, IsRegister, main_operand, width_of};
-ghost use Rattle.ae_netlist.specs.Counts.{is_product};
+ghost use Rattle.ae_netlist.specs.Counts.{count_of, is_product, is_register};
 ghost use Rattle.ae_netlist.specs.Runs.{InEveryRunFrom};
-ghost use Rattle.ae_clocked.specs.Signals.{Adds, Connects, IsConstant, IsFullAt, IsNextOf, IsResult};
+ghost use Rattle.ae_clocked.specs.Signals.{Adds, Connects, IsConstant, IsFullAt, IsNextOf, IsResult, compares, is_test};
 
 use ae_netlist::{Cell, NetFault, NetId, Netlist};
 use ae_word::WordOp;
@@ -30,6 +30,8 @@ pub fn constant(nl: &mut Netlist, width: u32, word: u64) -> Result<NetId, NetFau
     requires high { width ≤ 64 }
     requires fits { word < 2 ^ width }
     ensures adds { Adds nl.old nl.new 1 0 }
+    ensures registers { count_of is_register nl.new.cells ≤ count_of is_register nl.old.cells }
+    ensures tests { count_of is_test nl.new.cells ≤ count_of is_test nl.old.cells }
     ensures full { IsFullAt result nl.new }
     ensures net { IfOk result (λ y. IsNet nl.new.cells y.0 width) }
     ensures words { IfOk result (λ y. InEveryRunFrom (length nl.old.cells) nl.new.cells (λ run. IsConstant run y.0 word)) }
@@ -50,6 +52,8 @@ pub fn operate(
     requires operands { IsOperation nl.old.cells op args width }
     ensures adds { OnOk result (Adds nl.old nl.new 1 (if is_product op then 1 else 0)) }
     ensures err { OnErr result (nl.new ≡ nl.old) }
+    ensures registers { count_of is_register nl.new.cells ≤ count_of is_register nl.old.cells }
+    ensures tests { count_of is_test nl.new.cells ≤ count_of is_test nl.old.cells + (if compares op then 1 else 0) }
     ensures full { IsFullAt result nl.new }
     ensures net { IfOk result (λ y. IsNet nl.new.cells y.0 width) }
     ensures words { IfOk result (λ y. InEveryRunFrom (length nl.old.cells) nl.new.cells (λ run. IsResult run y.0 op (width_of nl.old.cells (main_operand op args)) args)) }
@@ -63,6 +67,8 @@ pub fn equal(nl: &mut Netlist, a: NetId, b: NetId, width: u32) -> Result<NetId, 
     requires left { IsNet nl.old.cells a.0 width }
     requires right { IsNet nl.old.cells b.0 width }
     ensures adds { Adds nl.old nl.new 1 0 }
+    ensures registers { count_of is_register nl.new.cells ≤ count_of is_register nl.old.cells }
+    ensures tests { count_of is_test nl.new.cells ≤ count_of is_test nl.old.cells + 1 }
     ensures full { IsFullAt result nl.new }
     ensures net { IfOk result (λ y. IsNet nl.new.cells y.0 1) }
     ensures words { IfOk result (λ y. InEveryRunFrom (length nl.old.cells) nl.new.cells (λ run. IsResult run y.0 WordOp.Eq width (a ∷ b ∷ a ∷ []))) }
@@ -75,6 +81,8 @@ pub fn less(nl: &mut Netlist, a: NetId, b: NetId, width: u32) -> Result<NetId, N
     requires left { IsNet nl.old.cells a.0 width }
     requires right { IsNet nl.old.cells b.0 width }
     ensures adds { Adds nl.old nl.new 1 0 }
+    ensures registers { count_of is_register nl.new.cells ≤ count_of is_register nl.old.cells }
+    ensures tests { count_of is_test nl.new.cells ≤ count_of is_test nl.old.cells + 1 }
     ensures full { IsFullAt result nl.new }
     ensures net { IfOk result (λ y. IsNet nl.new.cells y.0 1) }
     ensures words { IfOk result (λ y. InEveryRunFrom (length nl.old.cells) nl.new.cells (λ run. IsResult run y.0 WordOp.Lt width (a ∷ b ∷ a ∷ []))) }
@@ -89,6 +97,8 @@ pub fn sum(nl: &mut Netlist, a: NetId, b: NetId, width: u32) -> Result<NetId, Ne
     requires left { IsNet nl.old.cells a.0 width }
     requires right { IsNet nl.old.cells b.0 width }
     ensures adds { Adds nl.old nl.new 1 0 }
+    ensures registers { count_of is_register nl.new.cells ≤ count_of is_register nl.old.cells }
+    ensures tests { count_of is_test nl.new.cells ≤ count_of is_test nl.old.cells }
     ensures full { IsFullAt result nl.new }
     ensures net { IfOk result (λ y. IsNet nl.new.cells y.0 width) }
     ensures words { IfOk result (λ y. InEveryRunFrom (length nl.old.cells) nl.new.cells (λ run. IsResult run y.0 WordOp.Add width (a ∷ b ∷ a ∷ []))) }
@@ -103,6 +113,8 @@ pub fn either(nl: &mut Netlist, a: NetId, b: NetId, width: u32) -> Result<NetId,
     requires left { IsNet nl.old.cells a.0 width }
     requires right { IsNet nl.old.cells b.0 width }
     ensures adds { Adds nl.old nl.new 1 0 }
+    ensures registers { count_of is_register nl.new.cells ≤ count_of is_register nl.old.cells }
+    ensures tests { count_of is_test nl.new.cells ≤ count_of is_test nl.old.cells }
     ensures full { IsFullAt result nl.new }
     ensures net { IfOk result (λ y. IsNet nl.new.cells y.0 width) }
     ensures words { IfOk result (λ y. InEveryRunFrom (length nl.old.cells) nl.new.cells (λ run. IsResult run y.0 WordOp.Or width (a ∷ b ∷ a ∷ []))) }
@@ -117,6 +129,8 @@ pub fn differ(nl: &mut Netlist, a: NetId, b: NetId, width: u32) -> Result<NetId,
     requires left { IsNet nl.old.cells a.0 width }
     requires right { IsNet nl.old.cells b.0 width }
     ensures adds { Adds nl.old nl.new 1 0 }
+    ensures registers { count_of is_register nl.new.cells ≤ count_of is_register nl.old.cells }
+    ensures tests { count_of is_test nl.new.cells ≤ count_of is_test nl.old.cells }
     ensures full { IsFullAt result nl.new }
     ensures net { IfOk result (λ y. IsNet nl.new.cells y.0 width) }
     ensures words { IfOk result (λ y. InEveryRunFrom (length nl.old.cells) nl.new.cells (λ run. IsResult run y.0 WordOp.Xor width (a ∷ b ∷ a ∷ []))) }
@@ -130,6 +144,8 @@ pub fn doubled(nl: &mut Netlist, a: NetId, width: u32) -> Result<NetId, NetFault
     requires high { width ≤ 64 }
     requires net { IsNet nl.old.cells a.0 width }
     ensures adds { Adds nl.old nl.new 1 0 }
+    ensures registers { count_of is_register nl.new.cells ≤ count_of is_register nl.old.cells }
+    ensures tests { count_of is_test nl.new.cells ≤ count_of is_test nl.old.cells }
     ensures full { IsFullAt result nl.new }
     ensures net { IfOk result (λ y. IsNet nl.new.cells y.0 width) }
     ensures words { IfOk result (λ y. InEveryRunFrom (length nl.old.cells) nl.new.cells (λ run. IsResult run y.0 (WordOp.Shl 1) width (a ∷ a ∷ a ∷ []))) }
@@ -143,6 +159,8 @@ pub fn lowest(nl: &mut Netlist, a: NetId, width: u32) -> Result<NetId, NetFault>
     requires high { width ≤ 64 }
     requires net { IsNet nl.old.cells a.0 width }
     ensures adds { Adds nl.old nl.new 1 0 }
+    ensures registers { count_of is_register nl.new.cells ≤ count_of is_register nl.old.cells }
+    ensures tests { count_of is_test nl.new.cells ≤ count_of is_test nl.old.cells }
     ensures full { IsFullAt result nl.new }
     ensures net { IfOk result (λ y. IsNet nl.new.cells y.0 1) }
     ensures words { IfOk result (λ y. InEveryRunFrom (length nl.old.cells) nl.new.cells (λ run. IsResult run y.0 (WordOp.Cast 1) width (a ∷ a ∷ a ∷ []))) }
@@ -164,6 +182,8 @@ pub fn choose(
     requires left { IsNet nl.old.cells a.0 width }
     requires right { IsNet nl.old.cells b.0 width }
     ensures adds { Adds nl.old nl.new 1 0 }
+    ensures registers { count_of is_register nl.new.cells ≤ count_of is_register nl.old.cells }
+    ensures tests { count_of is_test nl.new.cells ≤ count_of is_test nl.old.cells }
     ensures full { IsFullAt result nl.new }
     ensures net { IfOk result (λ y. IsNet nl.new.cells y.0 width) }
     ensures words { IfOk result (λ y. InEveryRunFrom (length nl.old.cells) nl.new.cells (λ run. IsResult run y.0 WordOp.Mux width (condition ∷ a ∷ b ∷ []))) }
@@ -176,6 +196,8 @@ pub fn register(nl: &mut Netlist, width: u32) -> Result<NetId, NetFault>
     requires low { 1 ≤ width }
     requires high { width ≤ 64 }
     ensures adds { Adds nl.old nl.new 1 0 }
+    ensures registers { count_of is_register nl.new.cells ≤ count_of is_register nl.old.cells + 1 }
+    ensures tests { count_of is_test nl.new.cells ≤ count_of is_test nl.old.cells }
     ensures full { IsFullAt result nl.new }
     ensures fresh { IfOk result (λ r. r.0 ≡ length nl.old.cells) }
     ensures net { IfOk result (λ r. IsNet nl.new.cells r.0 width) }
@@ -200,6 +222,8 @@ pub fn delayed(nl: &mut Netlist, x: NetId, width: u32) -> Result<NetId, NetFault
     requires high { width ≤ 64 }
     requires net { IsNet nl.old.cells x.0 width }
     ensures adds { Adds nl.old nl.new 1 0 }
+    ensures registers { count_of is_register nl.new.cells ≤ count_of is_register nl.old.cells + 1 }
+    ensures tests { count_of is_test nl.new.cells ≤ count_of is_test nl.old.cells }
     ensures full { IsFullAt result nl.new }
     ensures net { IfOk result (λ y. IsNet nl.new.cells y.0 width) }
     ensures words { IfOk result (λ y. InEveryRunFrom (length nl.old.cells) nl.new.cells (λ run. IsNextOf run y.0 x.0)) }

@@ -1,9 +1,9 @@
 // Delay lines: from registers alone, and with rings for what is far.
 
-ghost use Rattle.std.specs.Prelude.{◌≡◌, ◌<◌, ◌≤◌, ◌+◌, ◌*◌, ◌^◌, ◌++◌, ◌∷◌, [], ℕ, length, get_or, IfOk, OnOk, Some, Err, ◌≢◌, slice_get, nat_lt, if◌then◌else◌};
+ghost use Rattle.std.specs.Prelude.{◌≡◌, ◌<◌, ◌≤◌, ◌+◌, ◌-◌, ◌*◌, ◌/◌, ◌^◌, ◌++◌, ◌∷◌, ◌&&◌, [], ℕ, length, get_or, IfOk, OnOk, Some, Err, ◌≢◌, slice_get, nat_lt, nat_le, min, if◌then◌else◌};
 ghost use Rattle.ae_netlist.specs.Circuit.{IsNet, width_of};
-ghost use Rattle.ae_netlist.specs.Counts.{AreWhole, count_of, is_memory, is_mul};
-ghost use Rattle.ae_clocked.specs.Signals.{Adds, Grows, IsFullAt};
+ghost use Rattle.ae_netlist.specs.Counts.{AreWhole, count_of, is_memory, is_mul, is_register};
+ghost use Rattle.ae_clocked.specs.Signals.{Adds, Grows, IsFullAt, is_test};
 ghost use Rattle.ae_clocked.specs.Phases.{Belongs, KeepsCounters};
 ghost use Rattle.ae_clocked.specs.Delays.{AreDelays, AreTaps, IsTap, greatest_of, line_cells};
 ghost use Rattle.ae_clocked.specs.Rings.{AddsMemories, rings};
@@ -63,6 +63,8 @@ fn chain(
     requires high { width ≤ 64 }
     requires net { IsNet nl.old.cells x.0 width }
     ensures adds { Adds nl.old nl.new count 0 }
+    ensures registers { count_of is_register nl.new.cells ≤ count_of is_register nl.old.cells + count }
+    ensures tests { count_of is_test nl.new.cells ≤ count_of is_test nl.old.cells }
     ensures full { IsFullAt result nl.new }
     ensures delays { IfOk result (λ nets. AreDelays nl.new.cells width x.0 nets.items) }
     ensures long { IfOk result (λ nets. length nets.items ≡ count + 1) }
@@ -156,6 +158,8 @@ fn far_row(
     ensures belongs { Belongs clocks.new nl.new.cells }
     ensures keeps { KeepsCounters clocks.old clocks.new }
     ensures adds { AddsMemories nl.old nl.new (18 * rings reach) (rings reach) }
+    ensures registers { OnOk result (count_of is_register nl.new.cells + length clocks.old.counters ≤ count_of is_register nl.old.cells + length clocks.new.counters + min ((reach + 4095) / 4096 - 1) spare) }
+    ensures tests { OnOk result (count_of is_test nl.new.cells + length clocks.old.counters ≤ count_of is_test nl.old.cells + length clocks.new.counters) }
     ensures full { IsFullAt result nl.new }
     ensures long { IfOk result (λ links. length links.items ≡ rings reach) }
     ensures links { IfOk result (λ links. AreLinks nl.new.cells clocks.old.rst width x.0 reach links.items) }
@@ -182,6 +186,8 @@ fn tap_at(
     requires delays { (x : ℕ) × AreDelays nl.old.cells width x nets.now }
     requires links { 8 ≤ tap → (rst : ℕ) × (x : ℕ) × (reach : ℕ) × AreLinks nl.old.cells rst width x reach links.now × (tap ≤ reach) }
     ensures adds { Adds nl.old nl.new (if nat_lt 0 tap then 4 else 0) 0 }
+    ensures registers { count_of is_register nl.new.cells ≤ count_of is_register nl.old.cells + (if kept && nat_le 8 tap then 1 else 0) }
+    ensures tests { count_of is_test nl.new.cells ≤ count_of is_test nl.old.cells }
     ensures full { IsFullAt result nl.new }
     ensures tap { IfOk result (λ y. (rst x reach : ℕ) → AreDelays nl.old.cells width x nets.now → AreLinks nl.old.cells rst width x reach links.now → IsTap nl.new.cells rst width x tap y.0) }
 {
@@ -210,6 +216,8 @@ pub fn ring_line(
     ensures muls { count_of is_mul nl.new.cells ≡ count_of is_mul nl.old.cells }
     ensures memories { count_of is_memory nl.new.cells ≤ count_of is_memory nl.old.cells + rings (greatest_of taps.now) }
     ensures whole { OnOk result (AreWhole nl.old.cells → AreWhole nl.new.cells) }
+    ensures registers { OnOk result (count_of is_register nl.new.cells + length clocks.old.counters ≤ count_of is_register nl.old.cells + length clocks.new.counters + 7) }
+    ensures tests { OnOk result (count_of is_test nl.new.cells + length clocks.old.counters ≤ count_of is_test nl.old.cells + length clocks.new.counters) }
     ensures full { IsFullAt result nl.new }
     ensures keeps { KeepsCounters clocks.old clocks.new }
     ensures taps { IfOk result (λ nets. AreTaps nl.new.cells clocks.old.rst (width_of nl.old.cells x.0) x.0 taps.now nets) }

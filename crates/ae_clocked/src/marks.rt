@@ -2,11 +2,12 @@
 
 ghost use Rattle.std.specs.Prelude.{◌<◌, ◌≤◌, ◌^◌, ◌+◌, ◌-◌, ◌%◌, ℕ, length, IfOk, if◌then◌else◌};
 ghost use Rattle.ae_netlist.specs.Circuit.{IsNet};
+ghost use Rattle.ae_netlist.specs.Counts.{count_of, is_register};
 ghost use Rattle.ae_netlist.specs.Runs.{InEveryResetRun, InEveryRunFrom};
-ghost use Rattle.ae_clocked.specs.Signals.{Adds, BeginsWith, IsAt, IsFullAt, Turns};
+ghost use Rattle.ae_clocked.specs.Signals.{Adds, BeginsWith, IsAt, IsFullAt, Turns, is_test};
 ghost use Rattle.ae_clocked.specs.Phases.{IsCounter, MarksPhases};
 
-use crate::gates::{choose, close, constant, delayed, equal, register, width_at};
+use crate::gates::{choose, close, constant, delayed, differ, equal, register, width_at};
 use ae_netlist::{NetFault, NetId, Netlist};
 
 /// The bit that says whether a net has this word.
@@ -16,6 +17,8 @@ fn at_word(nl: &mut Netlist, r: NetId, width: u32, word: u32) -> Result<NetId, N
     requires net { IsNet nl.old.cells r.0 width }
     requires fits { word < 2 ^ width }
     ensures adds { Adds nl.old nl.new 2 0 }
+    ensures registers { count_of is_register nl.new.cells ≤ count_of is_register nl.old.cells }
+    ensures tests { count_of is_test nl.new.cells ≤ count_of is_test nl.old.cells + 1 }
     ensures full { IsFullAt result nl.new }
     ensures net { IfOk result (λ y. IsNet nl.new.cells y.0 1) }
     ensures words { IfOk result (λ y. InEveryRunFrom (length nl.old.cells) nl.new.cells (λ run. IsAt run y.0 r.0 word)) }
@@ -41,6 +44,8 @@ fn at_phase(
     requires high { period ≤ 4096 }
     requires within { q < period }
     ensures adds { Adds nl.old nl.new 2 0 }
+    ensures registers { count_of is_register nl.new.cells ≤ count_of is_register nl.old.cells }
+    ensures tests { count_of is_test nl.new.cells ≤ count_of is_test nl.old.cells + 1 }
     ensures full { IsFullAt result nl.new }
     ensures net { IfOk result (λ y. IsNet nl.new.cells y.0 1) }
     ensures words { IfOk result (λ y. InEveryRunFrom (length nl.old.cells) nl.new.cells (λ run. IsAt run y.0 r.0 ((q + (offset + period - at)) % period))) }
@@ -54,6 +59,8 @@ fn begun(nl: &mut Netlist, rst: NetId, first: bool, x: NetId) -> Result<NetId, N
     requires rst { IsNet nl.old.cells rst.0 1 }
     requires net { IsNet nl.old.cells x.0 1 }
     ensures adds { Adds nl.old nl.new 3 0 }
+    ensures registers { count_of is_register nl.new.cells ≤ count_of is_register nl.old.cells + 1 }
+    ensures tests { count_of is_test nl.new.cells ≤ count_of is_test nl.old.cells }
     ensures full { IsFullAt result nl.new }
     ensures net { IfOk result (λ y. IsNet nl.new.cells y.0 1) }
     ensures words { IfOk result (λ y. InEveryRunFrom (length nl.old.cells) nl.new.cells (λ run. BeginsWith run y.0 rst.0 (if first then 1 else 0) x.0)) }
@@ -70,13 +77,15 @@ fn turning(nl: &mut Netlist, rst: NetId, first: bool, a: NetId, b: NetId) -> Res
     requires left { IsNet nl.old.cells a.0 1 }
     requires right { IsNet nl.old.cells b.0 1 }
     ensures adds { Adds nl.old nl.new 5 0 }
+    ensures registers { count_of is_register nl.new.cells ≤ count_of is_register nl.old.cells + 1 }
+    ensures tests { count_of is_test nl.new.cells ≤ count_of is_test nl.old.cells }
     ensures full { IsFullAt result nl.new }
     ensures net { IfOk result (λ y. IsNet nl.new.cells y.0 1) }
     ensures words { IfOk result (λ y. InEveryRunFrom (length nl.old.cells) nl.new.cells (λ run. Turns run y.0 rst.0 (if first then 1 else 0) a.0 b.0)) }
 {
     let y = register(nl, 1)?;
-    let once = equal(nl, y, a, 1)?;
-    let after = equal(nl, once, b, 1)?;
+    let once = differ(nl, y, a, 1)?;
+    let after = differ(nl, once, b, 1)?;
     let begin = constant(nl, 1, u64::from(first))?;
     let next = choose(nl, rst, begin, after, 1)?;
     close(nl, y, next);
@@ -101,6 +110,8 @@ pub fn marked(
     requires high { period ≤ 4096 }
     requires within { from ≤ period }
     ensures adds { Adds nl.old nl.new 9 0 }
+    ensures registers { count_of is_register nl.new.cells ≤ count_of is_register nl.old.cells + 1 }
+    ensures tests { count_of is_test nl.new.cells ≤ count_of is_test nl.old.cells + 2 }
     ensures full { IsFullAt result nl.new }
     ensures net { IfOk result (λ y. IsNet nl.new.cells y.0 1) }
     ensures marks { IfOk result (λ y. InEveryResetRun nl.new.cells rst.0 (λ run start. MarksPhases run start y.0 period offset from)) }

@@ -1,9 +1,10 @@
 // One ring: a memory that is written in every clock, round and round, and what is read from it.
 
-ghost use Rattle.std.specs.Prelude.{◌≡◌, ◌<◌, ◌≤◌, ◌+◌, ◌^◌, ℕ, length, IfOk, OnOk};
+ghost use Rattle.std.specs.Prelude.{◌≡◌, ◌<◌, ◌≤◌, ◌+◌, ◌^◌, ℕ, length, IfOk, OnOk, if◌then◌else◌};
 ghost use Rattle.ae_netlist.specs.Circuit.{IsMemory, IsNet};
+ghost use Rattle.ae_netlist.specs.Counts.{count_of, is_register};
 ghost use Rattle.ae_netlist.specs.Runs.{InEveryRunFrom};
-ghost use Rattle.ae_clocked.specs.Signals.{Adds, IsFullAt};
+ghost use Rattle.ae_clocked.specs.Signals.{Adds, IsFullAt, is_test};
 ghost use Rattle.ae_clocked.specs.Delays.{IsTap};
 ghost use Rattle.ae_clocked.specs.Phases.{Belongs, KeepsCounters};
 ghost use Rattle.ae_clocked.specs.Rings.{AddsMemories, HoldsRing, IsLook, IsRing, IsStore};
@@ -38,6 +39,8 @@ fn store(nl: &mut Netlist, x: NetId, at: NetId, width: u32, bits: u32) -> Result
     requires net { IsNet nl.old.cells x.0 width }
     requires place { IsNet nl.old.cells at.0 bits }
     ensures adds { AddsMemories nl.old nl.new 2 1 }
+    ensures registers { count_of is_register nl.new.cells ≤ count_of is_register nl.old.cells }
+    ensures tests { count_of is_test nl.new.cells ≤ count_of is_test nl.old.cells }
     ensures full { IsFullAt result nl.new }
     ensures memory { IfOk result (λ m. IsMemory nl.new.cells m.0 width (2 ^ bits)) }
     ensures store { IfOk result (λ m. InEveryRunFrom (length nl.old.cells) nl.new.cells (λ run. IsStore run m.0 at.0 x.0 (2 ^ bits))) }
@@ -57,6 +60,8 @@ fn look(nl: &mut Netlist, m: NetId, at: NetId, width: u32, bits: u32) -> Result<
     requires memory { IsMemory nl.old.cells m.0 width (2 ^ bits) }
     requires place { IsNet nl.old.cells at.0 bits }
     ensures adds { Adds nl.old nl.new 1 0 }
+    ensures registers { count_of is_register nl.new.cells ≤ count_of is_register nl.old.cells }
+    ensures tests { count_of is_test nl.new.cells ≤ count_of is_test nl.old.cells }
     ensures full { IsFullAt result nl.new }
     ensures net { IfOk result (λ y. IsNet nl.new.cells y.0 width) }
     ensures words { IfOk result (λ y. InEveryRunFrom (length nl.old.cells) nl.new.cells (λ run. IsLook run y.0 m.0 at.0)) }
@@ -76,6 +81,8 @@ fn behind(nl: &mut Netlist, ring: Ring, width: u32, tap: u32) -> Result<NetId, N
     requires memory { IsMemory nl.old.cells ring.memory.0 width (2 ^ ring.bits) }
     requires counter { IsNet nl.old.cells ring.counter.0 ring.bits }
     ensures adds { Adds nl.old nl.new 3 0 }
+    ensures registers { count_of is_register nl.new.cells ≤ count_of is_register nl.old.cells }
+    ensures tests { count_of is_test nl.new.cells ≤ count_of is_test nl.old.cells }
     ensures full { IsFullAt result nl.new }
     ensures net { IfOk result (λ y. IsNet nl.new.cells y.0 width) }
     ensures tap { IfOk result (λ y. (rst x : ℕ) → IsRing nl.old.cells rst ring.bits x ring.counter.0 ring.memory.0 → IsTap nl.new.cells rst width x tap y.0) }
@@ -103,6 +110,8 @@ pub fn ring_tap(
     requires memory { IsMemory nl.old.cells ring.memory.0 width (2 ^ ring.bits) }
     requires counter { IsNet nl.old.cells ring.counter.0 ring.bits }
     ensures adds { Adds nl.old nl.new 4 0 }
+    ensures registers { count_of is_register nl.new.cells ≤ count_of is_register nl.old.cells + (if kept then 1 else 0) }
+    ensures tests { count_of is_test nl.new.cells ≤ count_of is_test nl.old.cells }
     ensures full { IsFullAt result nl.new }
     ensures net { IfOk result (λ y. IsNet nl.new.cells y.0 width) }
     ensures tap { IfOk result (λ y. (rst x : ℕ) → IsRing nl.old.cells rst ring.bits x ring.counter.0 ring.memory.0 → IsTap nl.new.cells rst width x tap y.0) }
@@ -147,6 +156,8 @@ pub fn make_ring(
     ensures belongs { Belongs clocks.new nl.new.cells }
     ensures keeps { KeepsCounters clocks.old clocks.new }
     ensures adds { AddsMemories nl.old nl.new 14 1 }
+    ensures registers { OnOk result (count_of is_register nl.new.cells + length clocks.old.counters ≤ count_of is_register nl.old.cells + length clocks.new.counters) }
+    ensures tests { OnOk result (count_of is_test nl.new.cells + length clocks.old.counters ≤ count_of is_test nl.old.cells + length clocks.new.counters) }
     ensures full { IsFullAt result nl.new }
     ensures ring { IfOk result (λ ring. HoldsRing nl.new.cells clocks.old.rst width x.0 reach ring) }
 {

@@ -1,8 +1,9 @@
 // Rings in a row, for delays that one ring does not hold.
 
-ghost use Rattle.std.specs.Prelude.{◌≡◌, ◌≢◌, ◌<◌, ◌≤◌, ◌+◌, ◌*◌, ◌/◌, ◌++◌, ◌∷◌, [], ℕ, length, Err, IfOk, OnOk};
+ghost use Rattle.std.specs.Prelude.{◌≡◌, ◌≢◌, ◌<◌, ◌≤◌, ◌+◌, ◌-◌, ◌*◌, ◌/◌, ◌++◌, ◌∷◌, [], ℕ, length, min, Err, IfOk, OnOk, if◌then◌else◌};
 ghost use Rattle.ae_netlist.specs.Circuit.{IsNet};
-ghost use Rattle.ae_clocked.specs.Signals.{Adds, IsFullAt};
+ghost use Rattle.ae_netlist.specs.Counts.{count_of, is_register};
+ghost use Rattle.ae_clocked.specs.Signals.{Adds, IsFullAt, is_test};
 ghost use Rattle.ae_clocked.specs.Phases.{Belongs, KeepsCounters};
 ghost use Rattle.ae_clocked.specs.Delays.{IsTap};
 ghost use Rattle.ae_clocked.specs.Rings.{AddsMemories};
@@ -49,6 +50,8 @@ pub fn make_row(
     ensures belongs { Belongs clocks.new nl.new.cells }
     ensures keeps { KeepsCounters clocks.old clocks.new }
     ensures adds { AddsMemories nl.old nl.new (18 * ((reach + 4095) / 4096)) ((reach + 4095) / 4096) }
+    ensures registers { OnOk result (count_of is_register nl.new.cells + length clocks.old.counters ≤ count_of is_register nl.old.cells + length clocks.new.counters + min ((reach + 4095) / 4096 - 1) spare) }
+    ensures tests { OnOk result (count_of is_test nl.new.cells + length clocks.old.counters ≤ count_of is_test nl.old.cells + length clocks.new.counters) }
     ensures full { IsFullAt result nl.new }
     ensures long { IfOk result (λ links. length links.items ≡ (reach + 4095) / 4096) }
     ensures links { IfOk result (λ links. AreLinks nl.new.cells clocks.old.rst width x.0 reach links.items) }
@@ -80,6 +83,8 @@ pub fn far_tap(
     requires long { tap ≤ 4096 * length links.now }
     requires links { (rst : ℕ) × (x : ℕ) × (reach : ℕ) × AreLinks nl.old.cells rst width x reach links.now × (tap ≤ reach) }
     ensures adds { Adds nl.old nl.new 4 0 }
+    ensures registers { count_of is_register nl.new.cells ≤ count_of is_register nl.old.cells + (if kept then 1 else 0) }
+    ensures tests { count_of is_test nl.new.cells ≤ count_of is_test nl.old.cells }
     ensures full { IsFullAt result nl.new }
     ensures net { IfOk result (λ y. IsNet nl.new.cells y.0 width) }
     ensures tap { IfOk result (λ y. (rst x reach : ℕ) → AreLinks nl.old.cells rst width x reach links.now → IsTap nl.new.cells rst width x tap y.0) }

@@ -1,6 +1,8 @@
-use Rattle.std.proofs.Common.{refl}
-use Rattle.ae_clocked.proofs.Adding.{added, always, full_at}
+use Rattle.std.proofs.Common.{refl, arith}
+use Rattle.ae_clocked.proofs.Adding.{added, always, full_at, counted}
 use Rattle.ae_clocked.proofs.Added.{register_is, register_net, register_fresh}
+use Rattle.ae_netlist.specs.Counts.{is_register}
+use Rattle.ae_clocked.specs.Signals.{is_test}
 use Rattle.ae_clocked.proofs.gates.register.Goals as goal
 
 pub returns-clause-adds : goal.returns-clause-adds
@@ -17,3 +19,9 @@ returns-clause-net c = register_net _ c.state.new.self c.state.result c.args.wid
 
 pub returns-clause-register : goal.returns-clause-register
 returns-clause-register c = register_is _ c.state.new.self c.state.result c.args.width (c.state.ensures.ok, c.state.ensures.added)
+
+pub returns-clause-registers : goal.returns-clause-registers
+returns-clause-registers c = omega (arith, counted is_register _ c.state.new.self c.state.result _ c.state.ensures.added c.state.ensures.err)
+
+pub returns-clause-tests : goal.returns-clause-tests
+returns-clause-tests c = omega (arith, counted is_test _ c.state.new.self c.state.result _ c.state.ensures.added c.state.ensures.err)

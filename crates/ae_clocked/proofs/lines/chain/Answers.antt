@@ -1,5 +1,5 @@
 -- One more register is one clock later.
-use Rattle.std.proofs.Common.{◌≡◌, ◌+◌, ◌∙◌, ap, ◌++◌, ◌∷◌, []}
+use Rattle.std.proofs.Common.{◌≡◌, ◌+◌, ◌∙◌, ap, arith, ◌++◌, ◌∷◌, []}
 use Rattle.std.proofs.lemmas.List.{length_push}
 use Rattle.ae_clocked.specs.Delays.{IsDelay}
 use Rattle.ae_clocked.proofs.Adding.{adds_trans}
@@ -18,4 +18,6 @@ loop-i-preserved c =
       delays = rw pushed (delays_more _ _ _ _ _ _ more.adds.grows.extends old.delays (rw old.long last));
       long = rw pushed (length_push c.loop-i.nets.items c.in_ok-last.last ∙ ap (λ n. n + 1) old.long);
       last = last;
+      registers = omega (arith, old.registers, more.registers);
+      tests = omega (arith, old.tests, more.tests);
     }

@@ -7,7 +7,7 @@ use Rattle.ae_clocked.proofs.Belonging.{belongs_grows}
 use Rattle.ae_clocked.proofs.Late.{below_greatest, taps_more, taps_none}
 use Rattle.ae_clocked.specs.Rows.{AreLinks}
 use Rattle.ae_clocked.proofs.InRow.{links_grow}
-use Rattle.ae_clocked.proofs.Lining.{count_more, count_part, delays_grow, far_within, room, taps_grow}
+use Rattle.ae_clocked.proofs.Lining.{count_more, count_part, delays_grow, far_within, room, spare_taken, taps_grow}
 use Rattle.ae_clocked.proofs.lines.ring_line.Goals as goal
 
 pub returns-in_err-nets-clause-belongs : goal.returns-in_err-nets-clause-belongs
@@ -19,6 +19,8 @@ far_row-requires-clause-belongs c = belongs_grows _ _ _ c.in_ok-nets.ensures.add
 pub loop-tap-init : goal.loop-tap-init
 loop-tap-init c = record {
   adds = adds_none _;
+  registers = omega arith;
+  tests = omega arith;
   belongs = c.in_ok-links.ensures.belongs;
   delays = delays_grow c.in_ok-links.ensures.adds.grows.extends c.in_ok-nets.ensures.delays;
   links = c.in_ok-links.ensures.links;
@@ -69,6 +71,8 @@ loop-tap-preserved c =
     let pushed : c.keep.new.nets.items ≡ c.loop-tap.tapped.items ++ c.in_ok-net.net ∷ [] = c.in_ok-keep.ensures.ok in
     record {
       adds = adds_most _ (omega (arith, count)) (adds_trans was.adds more.adds);
+      registers = omega (arith, spare_taken c.loop-tap.spare tap, was.registers, more.registers);
+      tests = omega (arith, was.tests, more.tests);
       belongs = belongs_grows _ _ _ more.adds.grows was.belongs;
       delays = delays_grow more.adds.grows.extends was.delays;
       links = links_grow more.adds.grows.extends was.links;

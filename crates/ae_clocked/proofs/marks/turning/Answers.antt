@@ -4,7 +4,9 @@ use Rattle.ae_netlist.specs.Runs.{Carries}
 use Rattle.ae_netlist.proofs.Carried.{carries_later, carries_trans}
 use Rattle.ae_clocked.proofs.Adding.{adds_connect, adds_trans, grows_trans, net_added}
 use Rattle.ae_clocked.proofs.Added.{grows_length, back, connect_carries, net_within, net_own, own_register, register_later}
-use Rattle.ae_clocked.proofs.Marked.{bit_is, turn_after}
+use Rattle.ae_netlist.specs.Runs.{word_at}
+use Rattle.ae_clocked.proofs.Turns.{word_below}
+use Rattle.ae_clocked.proofs.Marked.{bit_is, turn_xor}
 use Rattle.ae_clocked.proofs.marks.turning.Goals as goal
 
 pub choose-requires-clause-condition : goal.choose-requires-clause-condition
@@ -51,7 +53,12 @@ returns-clause-words c = λ all k run is t l.
     let k1 = back g1 k2 in
     let l0 : t < length run = omega arith in
     let begin = rw (bit_is _ _ c.from.ensures) at (c.in_ok-begin.ensures.words all (carries_later _ _ (omega arith) k3) run is t l0) in
-    turn_after _ _ _ _ _ _ _ _ _ _
+    let all_added = adds_trans (adds_trans (adds_trans (adds_trans c.in_ok-y.ensures.adds c.in_ok-once.ensures.adds) c.in_ok-after.ensures.adds) c.in_ok-begin.ensures.adds) c.in_ok-next.ensures.adds in
+    let since = adds_trans (adds_trans (adds_trans c.in_ok-once.ensures.adds c.in_ok-after.ensures.adds) c.in_ok-begin.ensures.adds) c.in_ok-next.ensures.adds in
+    let y_bit : word_at run t c.in_ok-y.y.0 < 2 = word_below all run t _ 1 is l0 (k.nets _ _ (c.close.ensures.nets _ _ (net_added since c.in_ok-y.ensures.net))) in
+    let a_bit : word_at run t c.args.a.0 < 2 = word_below all run t _ 1 is l0 (k.nets _ _ (c.close.ensures.nets _ _ (net_added all_added c.requires.left))) in
+    let b_bit : word_at run t c.args.b.0 < 2 = word_below all run t _ 1 is l0 (k.nets _ _ (c.close.ensures.nets _ _ (net_added all_added c.requires.right))) in
+    turn_xor _ _ _ _ _ _ _ _ _ _ y_bit a_bit b_bit
     (c.in_ok-once.ensures.words all k1 run is t l0)
     (c.in_ok-after.ensures.words all (carries_later _ _ l2 k2) run is t l0)
     begin

@@ -1,7 +1,7 @@
 -- A memory is added and connected.
 use Rattle.std.proofs.Common.{arith}
 use Rattle.ae_clocked.proofs.Adding.{net_added}
-use Rattle.ae_clocked.proofs.Storing.{fresh_memory, fresh_written, stored_cells, stored_memory, stored_adds, stored_words}
+use Rattle.ae_clocked.proofs.Storing.{fresh_memory, fresh_written, stored_cells, stored_memory, stored_adds, stored_words, stored_registers, stored_tests}
 use Rattle.ae_clocked.proofs.ring.store.Goals as goal
 
 pub connect_memory-requires-clause-memory : goal.connect_memory-requires-clause-memory
@@ -26,3 +26,13 @@ pub returns-clause-store : goal.returns-clause-store
 returns-clause-store c =
     let cells = stored_cells _ _ _ _ _ _ _ c.args.width c.places-depth.result c.in_ok-m.ensures.ok c.in_ok-m.ensures.added c.connect_memory.ensures in
     rw (← c.places-depth.ensures.holds) (stored_words _ _ _ _ _ _ _ _ _ c.in_ok-always.ensures.adds.grows c.in_ok-always.ensures.net c.in_ok-always.ensures.words c.in_ok-m.ensures.ok cells)
+
+pub returns-clause-registers : goal.returns-clause-registers
+returns-clause-registers c =
+    let cells = stored_cells _ _ _ _ _ _ _ c.args.width c.places-depth.result c.in_ok-m.ensures.ok c.in_ok-m.ensures.added c.connect_memory.ensures in
+    omega (arith, stored_registers _ _ _ _ _ _ _ cells, c.in_ok-always.ensures.registers)
+
+pub returns-clause-tests : goal.returns-clause-tests
+returns-clause-tests c =
+    let cells = stored_cells _ _ _ _ _ _ _ c.args.width c.places-depth.result c.in_ok-m.ensures.ok c.in_ok-m.ensures.added c.connect_memory.ensures in
+    omega (arith, stored_tests _ _ _ _ _ _ _ cells, c.in_ok-always.ensures.tests)

@@ -1,4 +1,6 @@
-use Rattle.std.proofs.Common.{◌≡◌, ◌*◌, length}
+use Rattle.std.proofs.Common.{◌≡◌, ◌+◌, ◌*◌, ◌≤◌, min, length}
+use Rattle.ae_netlist.specs.Counts.{count_of, is_register}
+use Rattle.ae_clocked.specs.Signals.{is_test}
 use Rattle.ae_clocked.specs.Phases.{Belongs, KeepsCounters}
 use Rattle.ae_clocked.specs.Delays.{IsTap}
 use Rattle.ae_clocked.specs.Rings.{AddsMemories}
@@ -10,6 +12,8 @@ invariant-loop-j l = record {
   belongs : Belongs l.clocks l.nl.cells;
   keeps : KeepsCounters l.fn.clocks l.clocks;
   adds : AddsMemories l.fn.nl l.nl (18 * l.j) l.j;
+  registers : count_of is_register l.nl.cells + length l.fn.clocks.counters ≤ count_of is_register l.fn.nl.cells + length l.clocks.counters + min l.j l.spare;
+  tests : count_of is_test l.nl.cells + length l.fn.clocks.counters ≤ count_of is_test l.fn.nl.cells + length l.clocks.counters;
   long : length l.links.items ≡ l.j;
   links : AreLinks l.nl.cells l.fn.clocks.rst l.width l.fn.x.0 l.reach l.links.items;
   head : IsTap l.nl.cells l.fn.clocks.rst l.width l.fn.x.0 (4096 * l.j) l.head.0;
