@@ -1,6 +1,7 @@
 -- One more ring in a row.
 use Rattle.std.proofs.Common.{Bool, true, false, nat_lt, if◌then◌else◌, ℕ, ◌≡◌, ◌+◌, ◌-◌, ◌*◌, ◌/◌, ◌<◌, ◌≤◌, min, inl, inr, List, ◌++◌, ◌∷◌, [], length, Some, slice_get, get_or, Result, Ok, Err, IfOk, arith, ◌∙◌, subst}
 use borrow.Author.Tests.{ltb-true}
+use Rattle.std.proofs.lemmas.Bool.{cases_lt}
 use Rattle.std.proofs.lemmas.Option.{slice_get_within, slice_get-get_or}
 use Rattle.ae_netlist.specs.declared.cell.NetId.{NetId}
 use Rattle.ae_netlist.specs.declared.cell.SizedCell.{SizedCell}
@@ -65,3 +66,10 @@ row_found links tap none late long = let within : (tap - 1) / 4096 < length link
 pub head_kept : (r0 r1 r2 r3 j spare : ℕ) (kept : Bool) (c0 c1 c2 : ℕ) → nat_lt j spare ≡ kept → r1 + c0 ≤ r0 + c1 + min j spare → r2 + c1 ≤ r1 + c2 → r3 ≤ r2 + (if kept then 1 else 0) → r3 + c0 ≤ r0 + c2 + min (j + 1) spare
 head_kept r0 r1 r2 r3 j spare true c0 c1 c2 e a b d = let l : j < spare = ltb-true j spare e in omega arith
 head_kept r0 r1 r2 r3 j spare false c0 c1 c2 e a b d = omega arith
+
+-- the rings of a row but the last share one counter
+pub gained_by : (j a b e : ℕ) → a ≤ e + min j 1 → b ≤ a + 1 → (1 ≤ j → b ≤ a) → b ≤ e + min (j + 1) 1
+gained_by j a b e h more same = elim (cases_lt 0 j) [
+  | inl some ↦ (let l : b ≤ a = same some in omega arith)
+  | inr none ↦ omega arith
+]

@@ -160,6 +160,7 @@ fn far_row(
     ensures adds { AddsMemories nl.old nl.new (18 * rings reach) (rings reach) }
     ensures registers { OnOk result (count_of is_register nl.new.cells + length clocks.old.counters ≤ count_of is_register nl.old.cells + length clocks.new.counters + min ((reach + 4095) / 4096 - 1) spare) }
     ensures tests { OnOk result (count_of is_test nl.new.cells + length clocks.old.counters ≤ count_of is_test nl.old.cells + length clocks.new.counters) }
+    ensures gained { OnOk result (length clocks.new.counters ≤ length clocks.old.counters + 2) }
     ensures full { IsFullAt result nl.new }
     ensures long { IfOk result (λ links. length links.items ≡ rings reach) }
     ensures links { IfOk result (λ links. AreLinks nl.new.cells clocks.old.rst width x.0 reach links.items) }
@@ -199,7 +200,8 @@ fn tap_at(
 
 /// The words of `x`, as many clocks later as each tap says: from clock d after reset on, a tap of d has the word that `x`
 /// had d clocks before. Of the greatest tap A and the number n of taps above 0 it takes at most `8 * A + 4 * n` cells, and
-/// a memory for each 4,096 clocks of A where A is 8 or more.
+/// a memory for each 4,096 clocks of A where A is 8 or more. It makes at most two counters, and beside these at most seven
+/// registers and no comparison.
 pub fn ring_line(
     alloc: Global,
     nl: &mut Netlist,
@@ -218,6 +220,7 @@ pub fn ring_line(
     ensures whole { OnOk result (AreWhole nl.old.cells → AreWhole nl.new.cells) }
     ensures registers { OnOk result (count_of is_register nl.new.cells + length clocks.old.counters ≤ count_of is_register nl.old.cells + length clocks.new.counters + 7) }
     ensures tests { OnOk result (count_of is_test nl.new.cells + length clocks.old.counters ≤ count_of is_test nl.old.cells + length clocks.new.counters) }
+    ensures gained { OnOk result (length clocks.new.counters ≤ length clocks.old.counters + 2) }
     ensures full { IsFullAt result nl.new }
     ensures keeps { KeepsCounters clocks.old clocks.new }
     ensures taps { IfOk result (λ nets. AreTaps nl.new.cells clocks.old.rst (width_of nl.old.cells x.0) x.0 taps.now nets) }

@@ -1,12 +1,13 @@
 // One ring: a memory that is written in every clock, round and round, and what is read from it.
 
-ghost use Rattle.std.specs.Prelude.{◌≡◌, ◌<◌, ◌≤◌, ◌+◌, ◌^◌, ℕ, length, IfOk, OnOk, if◌then◌else◌};
+ghost use Rattle.std.specs.Prelude.{◌≡◌, ◌<◌, ◌≤◌, ◌+◌, ◌^◌, ℕ, length, IfOk, OnOk, Some, if◌then◌else◌};
+ghost use Rattle.ae_netlist.specs.declared.cell.NetId.{NetId as Net};
 ghost use Rattle.ae_netlist.specs.Circuit.{IsMemory, IsNet};
 ghost use Rattle.ae_netlist.specs.Counts.{count_of, is_register};
 ghost use Rattle.ae_netlist.specs.Runs.{InEveryRunFrom};
 ghost use Rattle.ae_clocked.specs.Signals.{Adds, IsFullAt, is_test};
 ghost use Rattle.ae_clocked.specs.Delays.{IsTap};
-ghost use Rattle.ae_clocked.specs.Phases.{Belongs, KeepsCounters};
+ghost use Rattle.ae_clocked.specs.Phases.{Belongs, KeepsCounters, kept_at};
 ghost use Rattle.ae_clocked.specs.Rings.{AddsMemories, HoldsRing, IsLook, IsRing, IsStore};
 
 use crate::clocks::Clocks;
@@ -158,6 +159,9 @@ pub fn make_ring(
     ensures adds { AddsMemories nl.old nl.new 14 1 }
     ensures registers { OnOk result (count_of is_register nl.new.cells + length clocks.old.counters ≤ count_of is_register nl.old.cells + length clocks.new.counters) }
     ensures tests { OnOk result (count_of is_test nl.new.cells + length clocks.old.counters ≤ count_of is_test nl.old.cells + length clocks.new.counters) }
+    ensures gained { OnOk result (length clocks.new.counters ≤ length clocks.old.counters + 1) }
+    ensures far { IfOk result (λ ring. 4096 ≤ reach → kept_at clocks.new (record { period = 4096; offset = 0 }) ≡ Some ring.counter) }
+    ensures again { OnOk result ((net : Net) → 4096 ≤ reach → kept_at clocks.old (record { period = 4096; offset = 0 }) ≡ Some net → clocks.new ≡ clocks.old) }
     ensures full { IsFullAt result nl.new }
     ensures ring { IfOk result (λ ring. HoldsRing nl.new.cells clocks.old.rst width x.0 reach ring) }
 {

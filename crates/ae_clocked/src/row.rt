@@ -52,6 +52,7 @@ pub fn make_row(
     ensures adds { AddsMemories nl.old nl.new (18 * ((reach + 4095) / 4096)) ((reach + 4095) / 4096) }
     ensures registers { OnOk result (count_of is_register nl.new.cells + length clocks.old.counters ≤ count_of is_register nl.old.cells + length clocks.new.counters + min ((reach + 4095) / 4096 - 1) spare) }
     ensures tests { OnOk result (count_of is_test nl.new.cells + length clocks.old.counters ≤ count_of is_test nl.old.cells + length clocks.new.counters) }
+    ensures gained { OnOk result (length clocks.new.counters ≤ length clocks.old.counters + 2) }
     ensures full { IsFullAt result nl.new }
     ensures long { IfOk result (λ links. length links.items ≡ (reach + 4095) / 4096) }
     ensures links { IfOk result (λ links. AreLinks nl.new.cells clocks.old.rst width x.0 reach links.items) }

@@ -1,5 +1,5 @@
 -- A counter is found or made, and a memory at it.
-use Rattle.std.proofs.Common.{arith}
+use Rattle.std.proofs.Common.{◌≡◌, arith, eq-eqb}
 use Rattle.ae_netlist.proofs.Growing.{extends_trans, net_later}
 use Rattle.ae_netlist.proofs.Carried.{every_from}
 use Rattle.ae_clocked.proofs.Belonging.{belongs_grows, phase_keeps}
@@ -50,3 +50,13 @@ returns-clause-ring c =
         takes = every_from _ _ _ c.in_ok-memory.ensures.store;
       };
     }
+
+pub returns-clause-far : goal.returns-clause-far
+returns-clause-far c = λ most.
+    let depth : c.places-depth.result ≡ 4096 = omega (arith, c.places-depth.ensures.holds, c.places-depth.ensures.most, c.bits_for-bits.ensures.enough) in
+    rw (eq-eqb _ _ depth) at (c.in_ok-counter.ensures.keeps (record { period = 4096; offset = 0 }))
+
+pub returns-clause-again : goal.returns-clause-again
+returns-clause-again c = λ net most found.
+    let depth : c.places-depth.result ≡ 4096 = omega (arith, c.places-depth.ensures.holds, c.places-depth.ensures.most, c.bits_for-bits.ensures.enough) in
+    (c.in_ok-counter.ensures.again net (rw depth found)).2

@@ -1,7 +1,8 @@
-use Rattle.std.proofs.Common.{◌≡◌, ◌+◌, ◌*◌, ◌≤◌, min, length}
+use Rattle.std.proofs.Common.{◌≡◌, ◌+◌, ◌*◌, ◌≤◌, min, length, Some}
+use Rattle.ae_netlist.specs.declared.cell.NetId.{NetId}
 use Rattle.ae_netlist.specs.Counts.{count_of, is_register}
 use Rattle.ae_clocked.specs.Signals.{is_test}
-use Rattle.ae_clocked.specs.Phases.{Belongs, KeepsCounters}
+use Rattle.ae_clocked.specs.Phases.{Belongs, KeepsCounters, kept_at}
 use Rattle.ae_clocked.specs.Delays.{IsTap}
 use Rattle.ae_clocked.specs.Rings.{AddsMemories}
 use Rattle.ae_clocked.specs.Rows.{AreLinks}
@@ -14,6 +15,8 @@ invariant-loop-j l = record {
   adds : AddsMemories l.fn.nl l.nl (18 * l.j) l.j;
   registers : count_of is_register l.nl.cells + length l.fn.clocks.counters ≤ count_of is_register l.fn.nl.cells + length l.clocks.counters + min l.j l.spare;
   tests : count_of is_test l.nl.cells + length l.fn.clocks.counters ≤ count_of is_test l.fn.nl.cells + length l.clocks.counters;
+  gained : length l.clocks.counters ≤ length l.fn.clocks.counters + min l.j 1;
+  far : 1 ≤ l.j → (net : NetId) × (kept_at l.clocks (record { period = 4096; offset = 0 }) ≡ Some net);
   long : length l.links.items ≡ l.j;
   links : AreLinks l.nl.cells l.fn.clocks.rst l.width l.fn.x.0 l.reach l.links.items;
   head : IsTap l.nl.cells l.fn.clocks.rst l.width l.fn.x.0 (4096 * l.j) l.head.0;
