@@ -8,6 +8,7 @@ mod command;
 mod cost_table;
 mod demo;
 mod evaluate;
+mod outcomes;
 mod plan;
 mod plan_text;
 mod refusal;
@@ -22,6 +23,8 @@ mod wave;
 mod widths;
 
 pub use call::aeth;
-pub use command::Command;
+pub use command::{Command, command_named, demo_size};
+pub use outcomes::outcome;
 pub use refusal::refusal_line;
+pub use reply::Reply;
 pub use status::{Status, VFaultKind};

@@ -1,0 +1,47 @@
+// What a call answers, without its input and output.
+
+ghost use Rattle.std.specs.Prelude.{List, ℕ, IfOk, string_bytes};
+ghost use Rattle.ae_tool.specs.Commands.{word_bytes, AreInRange, IsCommand, TakesInput};
+ghost use Rattle.ae_tool.specs.Outcomes.{IsOutcome};
+
+use crate::command::{Command, command_named, demo_size};
+use crate::demo::demo;
+use crate::reply::{Reply, answer, refused};
+use crate::status::Status;
+use ae_compile::OutOfMemory;
+use std::alloc::Global;
+
+// The most bytes of an input.
+const INPUT_LIMIT: usize = 16_777_216;
+
+// What a job that takes its input answers.
+fn done(alloc: Global, command: Command, bytes: &[u8]) -> Result<Reply, OutOfMemory>
+    requires range { AreInRange command }
+    requires takes { TakesInput command }
+    ensures { IfOk result (λ reply. (words : List (List ℕ)) → IsCommand words command → IsOutcome words bytes.now reply.status (string_bytes reply.text)) }
+{
+    if bytes.len() > INPUT_LIMIT {
+        return refused(alloc, Status::TooLong);
+    }
+    answer(alloc, command, bytes)
+}
+
+/// What `aeth` answers to these words and this input, and what it writes, where neither its source nor its sink fails; without
+/// memory there is no reply.
+pub fn outcome(alloc: Global, words: &[String], bytes: &[u8]) -> Result<Reply, OutOfMemory>
+    ensures { IfOk result (λ reply. IsOutcome (word_bytes words.now) bytes.now reply.status (string_bytes reply.text)) }
+{
+    match command_named(words) {
+        Some(command) => match demo_size(command) {
+            Some(size) => {
+                let text = demo(alloc, size)?;
+                Ok(Reply {
+                    status: Status::Ok,
+                    text,
+                })
+            }
+            None => done(alloc, command, bytes),
+        },
+        None => refused(alloc, Status::Usage),
+    }
+}
