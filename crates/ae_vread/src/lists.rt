@@ -294,7 +294,7 @@ fn driven<'t, 'a>(alloc: Global, first: DriveFound<'t, 'a>) -> Result<DriveList<
     ensures { Gives drives_view result (Some (drive_found first.entry)) }
 {
     let DriveFound { drive, rest } = first;
-    let mut drives = Vec::new(alloc);
+    let mut drives = Vec::with_capacity(alloc, 1)?;
     drives.push(drive)?;
     Ok(DriveList { drives, rest })
 }
