@@ -8,7 +8,6 @@ mod nets;
 mod numbers;
 mod plays;
 mod programs;
-mod sizes;
 mod stepping;
 
 use std::alloc::{AllocError, Global};
