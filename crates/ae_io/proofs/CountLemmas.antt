@@ -1,5 +1,5 @@
 -- Counts over several calls.
-use Rattle.std.proofs.Common.{◌≡◌, ℕ, ◌+◌, ◌-◌, ◌^◌, ◌<◌, ◌≤◌, ◌⊎◌, inl, inr, arith}
+use Rattle.std.proofs.Common.{ℕ, ◌≤◌, arith}
 use Rattle.ae_io.specs.Counts.{Rose}
 
 -- a count that rose in a later call rose in both

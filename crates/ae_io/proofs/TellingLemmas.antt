@@ -1,5 +1,5 @@
 -- How calls that take or append one after another join.
-use Rattle.std.proofs.Common.{◌≡◌, ℕ, ◌+◌, ◌-◌, ◌≤◌, List, [], ◌++◌, length, take, drop, OnErr, Result, Ok, Err, Option, None, Some, refl, sym, ap, ◌∙◌, subst, append_assoc, arith, length-append, length-take, rules}
+use Rattle.std.proofs.Common.{◌≡◌, ℕ, ◌+◌, ◌≤◌, List, [], ◌++◌, length, take, drop, OnErr, Result, Ok, Err, Option, None, Some, refl, sym, ap, ◌∙◌, subst, append_assoc, arith, length-append}
 use Rattle.std.proofs.lemmas.List.{append-nil, take-append-drop, drop_at, drop-drop, length-take-le, take-take}
 use Rattle.std.proofs.Math.Seq.{take-add}
 use Rattle.ae_io.specs.Told.{Takes, TakesCount, Appends, Stays}

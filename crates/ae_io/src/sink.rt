@@ -1,7 +1,7 @@
 // Where bytes go.
 
 ghost use Rattle.std.specs.Prelude.{◌≡◌, ℕ, ◌↔◌, true, ◌<◌, ◌≤◌, List, [], ◌++◌, length, take, min, Option, Some, IfOk, OnOk, OnErr, IsOk, IsErrOf, is_err};
-ghost use Rattle.ae_io.specs.Counts.{Rose, raised};
+ghost use Rattle.ae_io.specs.Counts.{Rose, Same, raised};
 ghost use Rattle.ae_io.specs.Told.{Appends, Stays};
 ghost use Rattle.ae_io.specs.States.{fails};
 
@@ -33,7 +33,7 @@ pub trait Sink {
     ghost ends: { Self → ℕ };
 
     /// Appends the first bytes of `part`, and answers how many. A fault appends nothing; it comes only where its
-    /// count rose.
+    /// count rose, and the counts of a call that answers a number stay.
     fn give(&mut self, part: &[u8]) -> Result<usize, GiveFault>
         requires { 0 < length part.now }
         ensures some { IfOk result (λ n. 1 ≤ n) }
@@ -42,14 +42,18 @@ pub trait Sink {
         ensures unchanged { OnErr result (Stays (written self.old) (written self.new)) }
         ensures failed { IsErrOf result GiveFault.Failed → Rose (faults self.old) (faults self.new) }
         ensures memory { IsErrOf result GiveFault.Memory → Rose (wants self.old) (wants self.new) }
+        ensures no_fault { OnOk result (Same (faults self.old) (faults self.new)) }
+        ensures no_want { OnOk result (Same (wants self.old) (wants self.new)) }
         ensures no_end { ends self.new ≡ ends self.old }
         ensures faults_kept { faults self.old ≤ faults self.new }
         ensures wants_kept { wants self.old ≤ wants self.new };
 
-    /// Tells the sink the end. It appends nothing; a fault comes only where its count rose.
+    /// Tells the sink the end, which counts as one. It appends nothing; a fault comes only where its count rose.
     fn finish(&mut self) -> Result<(), GiveFault>
         ensures unchanged { Stays (written self.old) (written self.new) }
-        ensures ended { OnOk result (Rose (ends self.old) (ends self.new)) }
+        ensures ended { OnOk result (ends self.new ≡ raised (ends self.old)) }
+        ensures no_fault { OnOk result (Same (faults self.old) (faults self.new)) }
+        ensures no_want { OnOk result (Same (wants self.old) (wants self.new)) }
         ensures no_end { OnErr result (ends self.new ≡ ends self.old) }
         ensures failed { IsErrOf result GiveFault.Failed → Rose (faults self.old) (faults self.new) }
         ensures memory { IsErrOf result GiveFault.Memory → Rose (wants self.old) (wants self.new) }
@@ -127,6 +131,8 @@ impl Sink for MemSink {
         ensures unchanged { OnErr result (Stays (Some self.old.written) (Some self.new.written)) }
         ensures failed { IsErrOf result GiveFault.Failed → Rose self.old.faults self.new.faults }
         ensures memory { IsErrOf result GiveFault.Memory → Rose self.old.wants self.new.wants }
+        ensures no_fault { OnOk result (Same self.old.faults self.new.faults) }
+        ensures no_want { OnOk result (Same self.old.wants self.new.wants) }
         ensures no_end { self.new.ends ≡ self.old.ends }
         ensures faults_kept { self.old.faults ≤ self.new.faults }
         ensures wants_kept { self.old.wants ≤ self.new.wants }
@@ -153,7 +159,9 @@ impl Sink for MemSink {
 
     fn finish(&mut self) -> Result<(), GiveFault>
         ensures unchanged { Stays (Some self.old.written) (Some self.new.written) }
-        ensures ended { OnOk result (Rose self.old.ends self.new.ends) }
+        ensures ended { OnOk result (self.new.ends ≡ raised self.old.ends) }
+        ensures no_fault { OnOk result (Same self.old.faults self.new.faults) }
+        ensures no_want { OnOk result (Same self.old.wants self.new.wants) }
         ensures no_end { OnErr result (self.new.ends ≡ self.old.ends) }
         ensures failed { IsErrOf result GiveFault.Failed → Rose self.old.faults self.new.faults }
         ensures memory { IsErrOf result GiveFault.Memory → Rose self.old.wants self.new.wants }
@@ -224,6 +232,8 @@ impl Sink for SureSink {
         ensures unchanged { OnErr result (Stays (Some self.old.written) (Some self.new.written)) }
         ensures failed { IsErrOf result GiveFault.Failed → Rose 0 0 }
         ensures memory { IsErrOf result GiveFault.Memory → Rose self.old.wants self.new.wants }
+        ensures no_fault { OnOk result (Same 0 0) }
+        ensures no_want { OnOk result (Same self.old.wants self.new.wants) }
         ensures no_end { self.new.ends ≡ self.old.ends }
         ensures faults_kept { 0 ≤ 0 }
         ensures wants_kept { self.old.wants ≤ self.new.wants }
@@ -240,7 +250,9 @@ impl Sink for SureSink {
 
     fn finish(&mut self) -> Result<(), GiveFault>
         ensures unchanged { Stays (Some self.old.written) (Some self.new.written) }
-        ensures ended { OnOk result (Rose self.old.ends self.new.ends) }
+        ensures ended { OnOk result (self.new.ends ≡ raised self.old.ends) }
+        ensures no_fault { OnOk result (Same 0 0) }
+        ensures no_want { OnOk result (Same self.old.wants self.new.wants) }
         ensures no_end { OnErr result (self.new.ends ≡ self.old.ends) }
         ensures failed { IsErrOf result GiveFault.Failed → Rose 0 0 }
         ensures memory { IsErrOf result GiveFault.Memory → Rose self.old.wants self.new.wants }

@@ -1,7 +1,7 @@
 // Where bytes come from.
 
-ghost use Rattle.std.specs.Prelude.{◌≡◌, ℕ, ◌<◌, ◌≤◌, List, length, take, drop, min, Option, Some, IfOk, OnErr, IsOk, is_err};
-ghost use Rattle.ae_io.specs.Counts.{Rose, raised};
+ghost use Rattle.std.specs.Prelude.{◌≡◌, ℕ, ◌<◌, ◌≤◌, List, length, take, drop, min, Option, Some, IfOk, OnOk, OnErr, IsOk, is_err};
+ghost use Rattle.ae_io.specs.Counts.{Rose, Same, raised};
 ghost use Rattle.ae_io.specs.Told.{EndsWhereEmpty, Takes, Stays};
 ghost use Rattle.ae_io.specs.States.{fails};
 
@@ -29,6 +29,7 @@ pub trait Source {
         ensures end { IfOk result (EndsWhereEmpty (left self.old)) }
         ensures failed { OnErr result (Rose (faults self.old) (faults self.new)) }
         ensures unchanged { OnErr result (Stays (left self.old) (left self.new)) }
+        ensures no_fault { OnOk result (Same (faults self.old) (faults self.new)) }
         ensures faults_kept { faults self.old ≤ faults self.new };
 }
 
@@ -99,6 +100,7 @@ impl Source for MemSource {
         ensures end { IfOk result (EndsWhereEmpty (Some self.old.left)) }
         ensures failed { OnErr result (Rose self.old.faults self.new.faults) }
         ensures unchanged { OnErr result (Stays (Some self.old.left) (Some self.new.left)) }
+        ensures no_fault { OnOk result (Same self.old.faults self.new.faults) }
         ensures faults_kept { self.old.faults ≤ self.new.faults }
 
         ensures fails { is_err result ≡ fails self.old.failing self.old.calls }
@@ -171,6 +173,7 @@ impl Source for SureSource {
         ensures end { IfOk result (EndsWhereEmpty (Some self.old)) }
         ensures failed { OnErr result (Rose 0 0) }
         ensures unchanged { OnErr result (Stays (Some self.old) (Some self.new)) }
+        ensures no_fault { OnOk result (Same 0 0) }
         ensures faults_kept { 0 ≤ 0 }
 
         ensures sure { IsOk result }

@@ -1,7 +1,7 @@
 // Std's readers and writers as sources and sinks. What they give or keep is not told.
 
 ghost use Rattle.std.specs.Prelude.{◌≡◌, ℕ, ◌<◌, ◌≤◌, List, length, take, None, IfOk, OnOk, OnErr, IsErrOf};
-ghost use Rattle.ae_io.specs.Counts.{Rose, raised};
+ghost use Rattle.ae_io.specs.Counts.{Rose, Same, raised};
 ghost use Rattle.ae_io.specs.Told.{EndsWhereEmpty, Takes, Appends, Stays};
 
 use crate::{Failed, GiveFault, Sink, Source};
@@ -45,6 +45,7 @@ impl<R: Read> Source for StdSource<R> {
         ensures end { IfOk result (EndsWhereEmpty None) }
         ensures failed { OnErr result (Rose self.old self.new) }
         ensures unchanged { OnErr result (Stays None None) }
+        ensures no_fault { OnOk result (Same self.old self.new) }
         ensures faults_kept { self.old ≤ self.new }
 
         ensures ok { OnOk result (self.new ≡ self.old) }
@@ -108,6 +109,8 @@ impl<W: Write> Sink for StdSink<W> {
         ensures unchanged { OnErr result (Stays None None) }
         ensures failed { IsErrOf result GiveFault.Failed → Rose self.old.faults self.new.faults }
         ensures memory { IsErrOf result GiveFault.Memory → Rose 0 0 }
+        ensures no_fault { OnOk result (Same self.old.faults self.new.faults) }
+        ensures no_want { OnOk result (Same 0 0) }
         ensures no_end { self.new.ends ≡ self.old.ends }
         ensures faults_kept { self.old.faults ≤ self.new.faults }
         ensures wants_kept { 0 ≤ 0 }
@@ -127,7 +130,9 @@ impl<W: Write> Sink for StdSink<W> {
     /// Flushes the writer. It never answers `Memory`.
     fn finish(&mut self) -> Result<(), GiveFault>
         ensures unchanged { Stays None None }
-        ensures ended { OnOk result (Rose self.old.ends self.new.ends) }
+        ensures ended { OnOk result (self.new.ends ≡ raised self.old.ends) }
+        ensures no_fault { OnOk result (Same self.old.faults self.new.faults) }
+        ensures no_want { OnOk result (Same 0 0) }
         ensures no_end { OnErr result (self.new.ends ≡ self.old.ends) }
         ensures failed { IsErrOf result GiveFault.Failed → Rose self.old.faults self.new.faults }
         ensures memory { IsErrOf result GiveFault.Memory → Rose 0 0 }

@@ -2,7 +2,7 @@
 
 ghost use Rattle.std.specs.Prelude.{◌≡◌, ℕ, ◌+◌, ◌^◌, ◌<◌, ◌≤◌, Some, [], IfSome, IfOk, OnOk, OnErr, IsErrOf, vec_len};
 ghost use Rattle.ae_io.specs.declared.transfer.LoadFault.TheVariants.{Read, Memory};
-ghost use Rattle.ae_io.specs.Counts.{Rose};
+ghost use Rattle.ae_io.specs.Counts.{Rose, Same, raised};
 ghost use Rattle.ae_io.specs.Told.{TakesCount, Appends, AppendsPrefix};
 ghost use Rattle.ae_io.specs.Transfer.{put_fault, TakesAll, TakesUpTo};
 
@@ -67,8 +67,8 @@ fn zeros(alloc: Global, n: usize) -> Result<Vec<u8>, AllocError>
 }
 
 /// All bytes that a source has left, at most `limit` of them. `TooLong` comes exactly where there are more: then
-/// `limit + 1` bytes were taken. `Read` comes only where the source failed. After `Read` and `Memory` some of the
-/// bytes were taken.
+/// `limit + 1` bytes were taken. `Read` comes only where the source failed; with every other answer none of its calls did.
+/// After `Read` and `Memory` some of the bytes were taken.
 pub fn load<S: Source>(alloc: Global, source: &mut S, limit: usize) -> Result<Vec<u8>, LoadFault>
     requires { limit < 2 ^ 32 }
 
@@ -77,6 +77,9 @@ pub fn load<S: Source>(alloc: Global, source: &mut S, limit: usize) -> Result<Ve
     ensures too_long { IsErrOf result LoadFault.TooLong → TakesCount (S.left source.old) (S.left source.new) (limit + 1) }
     ensures err { OnErr result (TakesUpTo (S.left source.old) (S.left source.new) (limit + 1)) }
     ensures read { IsErrOf result LoadFault.Read → Rose (S.faults source.old) (S.faults source.new) }
+    ensures no_fault { OnOk result (Same (S.faults source.old) (S.faults source.new)) }
+    ensures long_no_fault { IsErrOf result LoadFault.TooLong → Same (S.faults source.old) (S.faults source.new) }
+    ensures memory_no_fault { IsErrOf result LoadFault.Memory → Same (S.faults source.old) (S.faults source.new) }
     ensures faults_kept { S.faults source.old ≤ S.faults source.new }
 {
     let mut block = zeros(alloc, BLOCK)?;
@@ -95,11 +98,13 @@ pub fn load<S: Source>(alloc: Global, source: &mut S, limit: usize) -> Result<Ve
     }
 }
 
-/// Gives all bytes to a sink and then finishes. `Write` and `Memory` come only where the sink's count of them rose;
-/// then some first bytes were appended.
+/// Gives all bytes to a sink and then finishes, once; where it does, no call of the sink failed. `Write` and `Memory` come
+/// only where the sink's count of them rose; then some first bytes were appended.
 pub fn put_all<K: Sink>(sink: &mut K, bytes: &[u8]) -> Result<(), PutFault>
     ensures ok { OnOk result (Appends (K.written sink.old) (K.written sink.new) bytes.now) }
-    ensures ended { OnOk result (Rose (K.ends sink.old) (K.ends sink.new)) }
+    ensures ended { OnOk result (K.ends sink.new ≡ raised (K.ends sink.old)) }
+    ensures no_fault { OnOk result (Same (K.faults sink.old) (K.faults sink.new)) }
+    ensures no_want { OnOk result (Same (K.wants sink.old) (K.wants sink.new)) }
     ensures prefix { OnErr result (AppendsPrefix (K.written sink.old) (K.written sink.new) bytes.now) }
     ensures no_end { OnErr result (K.ends sink.new ≡ K.ends sink.old) }
     ensures write { IsErrOf result PutFault.Write → Rose (K.faults sink.old) (K.faults sink.new) }

@@ -1,7 +1,6 @@
-use Rattle.std.proofs.Common.{◌≡◌, ℕ, ◌+◌, ◌-◌, ◌≤◌, List, ◌++◌, length, take, arith, rules, refl, sym, subst, vec_len}
+use Rattle.std.proofs.Common.{◌≡◌, ℕ, ◌+◌, List, ◌++◌, length, take, arith, rules, refl, sym, subst}
 use Rattle.std.proofs.lemmas.Grind.{common_steps}
-use Rattle.std.proofs.lemmas.Slice.{pushed}
-use Rattle.ae_io.specs.Told.{Takes, TakesCount}
+use Rattle.ae_io.specs.Told.{Takes}
 use Rattle.ae_io.specs.Transfer.{TakesUpTo}
 use Rattle.ae_io.proofs.TellingLemmas.{takes_more, takes_count_more, on_err}
 use Rattle.ae_io.proofs.transfer.load.Goals as goal
@@ -26,7 +25,7 @@ loop-bytes-preserved g c =
       block = search rules;
       within = search rules;
       taken = subst (λ xs. Takes (g.S.Source.left c.args.source.now) (g.S.Source.left c.take.new.self) xs) (sym longer) (takes_more _ _ _ had (take n c.take.new.buf) c.loop-bytes.invariant.taken c.in_ok-n.ensures.taken);
-      kept = search rules;
+      no_fault = search rules;
     }
 
 pub returns-in_err-extend_from_slice-clause-err : goal.returns-in_err-extend_from_slice-clause-err

@@ -1,5 +1,4 @@
-use Rattle.std.proofs.Common.{◌≡◌, ℕ, ◌+◌, ◌-◌, ◌≤◌, length, take, drop, arith, rules, length-take, length-drop}
-use Rattle.ae_io.specs.Told.{Appends}
+use Rattle.std.proofs.Common.{ℕ, ◌-◌, ◌≤◌, length, take, drop, arith, rules, length-take}
 use Rattle.ae_io.proofs.TellingLemmas.{appends_part}
 use Rattle.ae_io.proofs.transfer.put_all.Goals as goal
 
@@ -13,6 +12,6 @@ loop-at-preserved g c =
       within = omega arith;
       given = appends_part _ _ _ c.args.bytes.now c.loop-at.at n room c.loop-at.invariant.given c.in_ok-at.ensures.appended few;
       no_end = search rules;
-      faults_kept = search rules;
-      wants_kept = search rules;
+      no_fault = search rules;
+      no_want = search rules;
     }

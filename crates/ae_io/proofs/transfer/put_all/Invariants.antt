@@ -7,8 +7,8 @@ invariant-loop-at g l = record {
   within : l.at ≤ length l.bytes;
   given : Appends (g.K.Sink.written l.initial.sink) (g.K.Sink.written l.sink) (take l.at l.bytes);
   no_end : g.K.Sink.ends l.sink ≡ g.K.Sink.ends l.initial.sink;
-  faults_kept : g.K.Sink.faults l.initial.sink ≤ g.K.Sink.faults l.sink;
-  wants_kept : g.K.Sink.wants l.initial.sink ≤ g.K.Sink.wants l.sink;
+  no_fault : g.K.Sink.faults l.sink ≡ g.K.Sink.faults l.initial.sink;
+  no_want : g.K.Sink.wants l.sink ≡ g.K.Sink.wants l.initial.sink;
 }
 
 abbrev pub decreases-loop-at : goal.decreases-loop-at

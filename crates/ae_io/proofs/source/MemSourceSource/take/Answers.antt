@@ -1,4 +1,4 @@
-use Rattle.std.proofs.Common.{◌≡◌, take, drop, arith, rules, sym, ap}
+use Rattle.std.proofs.Common.{◌≡◌, take, drop, arith, ap}
 use Rattle.std.proofs.lemmas.Grind.{common_steps}
 use Rattle.ae_io.specs.States.{SourceState}
 use Rattle.ae_io.proofs.TellingLemmas.{takes_cursor}

@@ -1,4 +1,4 @@
-use Rattle.std.proofs.Common.{◌≡◌, take, drop, arith, rules, sym}
+use Rattle.std.proofs.Common.{◌≡◌, take, drop, arith}
 use Rattle.std.proofs.lemmas.Grind.{common_steps}
 use Rattle.ae_io.proofs.TellingLemmas.{takes_cursor}
 use Rattle.ae_io.proofs.source.SureSourceSource.take.Goals as goal
