@@ -12,7 +12,7 @@ use Rattle.ae_vcd.specs.declared.expected.Expected.TheVariants.{CommentRest, Pie
 use Rattle.ae_vcd.specs.declared.body.Recorded.{Recorded}
 use Rattle.ae_vcd.specs.declared.reader.Reader.{Reader}
 use Rattle.ae_vcd.specs.Codes.{place}
-use Rattle.ae_vcd.specs.Forms.{Binary, Bit, Command, Piece, Silent, Time, Variable, has_time, is_after, is_binary, is_binary_digit, is_bit, is_silent, is_time, takes, variables}
+use Rattle.ae_vcd.specs.Forms.{Binary, Bit, HeaderCommand, Piece, Silent, Time, Variable, has_time, is_after, is_binary, is_binary_digit, is_bit, is_silent, is_time, takes, variables}
 use Rattle.ae_vcd.specs.Machine.{Body, Remark, State, Value, at, has_room, only_if, step, step_body, step_in, time_of}
 use Rattle.ae_vcd.specs.Rows.{words_now}
 use Rattle.ae_vcd.specs.Held.{Answers, Declares, Follows, HasAdvanced, HasTimes, IsReader, Records, begun_in, is_marked, row}
@@ -35,7 +35,7 @@ in_body r s f here = body_place (λ mode. Follows r (at s.commands s.pieces mode
     f
 
 -- what the codes, the times and the place have to be for a state between pieces
-follows_body : (r : Reader) (cs : List Command) (ps : List Piece) → r.expected ≡ PieceHead → Declares r.declared (variables cs) → 1 ≤ length (variables cs) → Records r.recorded r.declared.codes (variables cs) ps → Follows r (at cs ps Body)
+follows_body : (r : Reader) (cs : List HeaderCommand) (ps : List Piece) → r.expected ≡ PieceHead → Declares r.declared (variables cs) → 1 ≤ length (variables cs) → Records r.recorded r.declared.codes (variables cs) ps → Follows r (at cs ps Body)
 follows_body r cs ps here d some h = record {
   expected = here;
   code = tt;
@@ -72,7 +72,7 @@ time_answer r s digits time more numbers b same f here is e adv =
 
 -- ---- bits
 
-bit_step : (cs : List Command) (ps : List Piece) (bit : ℕ) (code : List ℕ) → IsTrue (is_binary_digit bit) → step_body cs ps (bit ∷ code) ≡ only_if (has_time (time_of None ps) && is_bit (variables cs) code) (at cs (ps ++ Bit bit code ∷ []) Body)
+bit_step : (cs : List HeaderCommand) (ps : List Piece) (bit : ℕ) (code : List ℕ) → IsTrue (is_binary_digit bit) → step_body cs ps (bit ∷ code) ≡ only_if (has_time (time_of None ps) && is_bit (variables cs) code) (at cs (ps ++ Bit bit code ∷ []) Body)
 bit_step cs ps bit code h = elim (either (nat_eq bit 48) (nat_eq bit 49) h) [
   | inl e ↦ subst (λ b. step_body cs ps (b ∷ code) ≡ only_if (has_time (time_of None ps) && is_bit (variables cs) code) (at cs (ps ++ Bit b code ∷ []) Body)) (sym (same_byte bit 48 e)) refl
   | inr e ↦ subst (λ b. step_body cs ps (b ∷ code) ≡ only_if (has_time (time_of None ps) && is_bit (variables cs) code) (at cs (ps ++ Bit b code ∷ []) Body)) (sym (same_byte bit 49 e)) refl
@@ -121,7 +121,7 @@ bit_taken r s bit code n now f here h last on e is =
 
 -- ---- binary words
 
-binary_step : (cs : List Command) (ps : List Piece) (letter : ℕ) (digits : List ℕ) → IsTrue (nat_eq letter 98 || nat_eq letter 66) → step_body cs ps (letter ∷ digits) ≡ only_if (has_time (time_of None ps) && (is_binary digits && has_room (variables cs) (digits_value 2 digits))) (at cs ps (Value letter digits))
+binary_step : (cs : List HeaderCommand) (ps : List Piece) (letter : ℕ) (digits : List ℕ) → IsTrue (nat_eq letter 98 || nat_eq letter 66) → step_body cs ps (letter ∷ digits) ≡ only_if (has_time (time_of None ps) && (is_binary digits && has_room (variables cs) (digits_value 2 digits))) (at cs ps (Value letter digits))
 binary_step cs ps letter digits h = elim (either (nat_eq letter 98) (nat_eq letter 66) h) [
   | inl e ↦ subst (λ b. step_body cs ps (b ∷ digits) ≡ only_if (has_time (time_of None ps) && (is_binary digits && has_room (variables cs) (digits_value 2 digits))) (at cs ps (Value b digits))) (sym (same_byte letter 98 e)) refl
   | inr e ↦ subst (λ b. step_body cs ps (b ∷ digits) ≡ only_if (has_time (time_of None ps) && (is_binary digits && has_room (variables cs) (digits_value 2 digits))) (at cs ps (Value b digits))) (sym (same_byte letter 66 e)) refl
@@ -214,7 +214,7 @@ comment_taken r s w f here e =
       holds = (i.some, i.records);
     })
 
-other_step : (cs : List Command) (ps : List Piece) (w : List ℕ) → is_marked w ≡ false → bytes_eq w (codes "$comment") ≡ false → step_body cs ps w ≡ only_if (is_silent w) (at cs (ps ++ Silent w ∷ []) Body)
+other_step : (cs : List HeaderCommand) (ps : List Piece) (w : List ℕ) → is_marked w ≡ false → bytes_eq w (codes "$comment") ≡ false → step_body cs ps w ≡ only_if (is_silent w) (at cs (ps ++ Silent w ∷ []) Body)
 other_step cs ps [] m e = refl
 other_step cs ps (b ∷ bs) m e =
     let p : nat_eq b 35 ≡ false = first (nat_eq b 35) (is_binary_digit b || (nat_eq b 98 || nat_eq b 66)) m in

@@ -11,18 +11,18 @@ use Rattle.std.proofs.lemmas.List.{append_assoc, map-append, take_more}
 use Rattle.std.proofs.lemmas.List.Elements.{All-get_or}
 use Rattle.std.proofs.Math.Pow.{pow_mono}
 use Rattle.std.proofs.Math.Seq.{take-length}
-use Rattle.ae_vcd.specs.Waves.{IsFormedWave, WaveTree, is_code, is_graphic, is_name, word_of}
+use Rattle.ae_vcd.specs.Waves.{IsFormedWave, WaveTree, is_code, is_graphic, is_variable_name, wave_word}
 use Rattle.ae_vcd.specs.WaveText.{body_lines, change_line, change_lines, changed_line, code_of, is_changed, time_lines, var_line, var_lines, wave_text}
-use Rattle.ae_vcd.specs.TextWords.{words}
-use Rattle.ae_vcd.specs.Forms.{AreCommands, AreDump, ArePieces, Binary, Bit, Command, Declare, IsCommand, IsPiece, Other, Piece, Time, Variable, agrees, command_words, end_word, is_after, is_bit, piece_words, takes, variables, words_of_commands, words_of_pieces}
+use Rattle.ae_vcd.specs.TextWords.{text_words}
+use Rattle.ae_vcd.specs.Forms.{AreCommands, AreDump, ArePieces, Binary, Bit, HeaderCommand, Declare, IsHeaderCommand, IsPiece, Other, Piece, Time, Variable, agrees, command_words, end_word, is_after, is_bit, piece_words, takes, variables, words_of_commands, words_of_pieces}
 use Rattle.ae_vcd.specs.Machine.{time_of}
-use Rattle.ae_vcd.specs.Readings.{IsVcd, given, wave_of, words_at}
+use Rattle.ae_vcd.specs.Readings.{IsVcd, given, wave_of, words_at_time}
 use Rattle.ae_vcd.proofs.Reading.{append_none, both, snoc, variables_more}
 use Rattle.ae_vcd.proofs.Sound.{commands_more, commands_words, pieces_more}
 use Rattle.ae_vcd.proofs.Written.{IsBinaryOf, IsDecimal, binary_read, code_is_code, code_itself, codes_differ, decimal_read, word_then}
 use Rattle.ae_vcd.proofs.Meant.{HasCodes, body_pieces, body_time, change_piece, change_pieces, changed_pieces, changes_no_time, quiet_time, time_append, time_pieces, times_meant, wave_variable, wave_variables, words_meant}
 
-name_code : (n : List ℕ) → is_name n ≡ true → is_code n ≡ true
+name_code : (n : List ℕ) → is_variable_name n ≡ true → is_code n ≡ true
 name_code [] e = cc
 name_code (b ∷ bs) e = (both (not (nat_eq b 36)) (is_graphic b && list_all is_graphic bs) e).1
 
@@ -41,23 +41,23 @@ bit_ok d b = elim (cases_lt d 1) [ inl z ↦ (let is : d ≡ 0 = omega arith in 
 
 -- ---- commands
 
-abbrev scale_command : Command
+abbrev scale_command : HeaderCommand
 scale_command = Other (codes "$timescale") (codes "1" ∷ codes "ns" ∷ [])
 
-abbrev scope_command : Command
+abbrev scope_command : HeaderCommand
 scope_command = Other (codes "$scope") (codes "module" ∷ codes "aeth" ∷ [])
 
-abbrev end_command : Command
+abbrev end_command : HeaderCommand
 end_command = Other (codes "$upscope") []
 
-abbrev var_command : WaveTree → (k : ℕ) → Command
+abbrev var_command : WaveTree → (k : ℕ) → HeaderCommand
 var_command w k = Declare (codes "wire") (decimal (get_or w.widths k 0)) (code_of k) (get_or w.names k []) []
 
-abbrev first_commands : WaveTree → (count : ℕ) → List Command
+abbrev first_commands : WaveTree → (count : ℕ) → List HeaderCommand
 first_commands w zero = scale_command ∷ scope_command ∷ []
 first_commands w (suc k) = first_commands w k ++ var_command w k ∷ []
 
-abbrev wave_commands : WaveTree → List Command
+abbrev wave_commands : WaveTree → List HeaderCommand
 wave_commands w = first_commands w (length w.names) ++ end_command ∷ []
 
 agrees_more : (vs : List Variable) (v : Variable) (code : List ℕ) (width : ℕ) → agrees vs code width ≡ true → bytes_eq v.code code ≡ false → agrees (vs ++ v ∷ []) code width ≡ true
@@ -102,8 +102,8 @@ module _ (w : WaveTree) (h : IsFormedWave w) where
   width_in : (k : ℕ) → k < length w.names → (1 ≤ get_or w.widths k 0) × (get_or w.widths k 0 ≤ 64)
   width_in k l = All-get_or (λ v. (1 ≤ v) × (v ≤ 64)) w.widths k 0 (omega (arith, h.sized)) h.wide
 
-  named : (k : ℕ) → k < length w.names → is_name (get_or w.names k []) ≡ true
-  named k l = All-get_or (λ n. IsTrue (is_name n)) w.names k [] l h.named
+  named : (k : ℕ) → k < length w.names → is_variable_name (get_or w.names k []) ≡ true
+  named k l = All-get_or (λ n. IsTrue (is_variable_name n)) w.names k [] l h.named
 
   few : (k : ℕ) → k < length w.names → k < 830584
   few k l = omega (arith, h.most)
@@ -132,7 +132,7 @@ module _ (w : WaveTree) (h : IsFormedWave w) where
   codes_agree k zero width l b = refl
   codes_agree k (suc c) width l b = agrees_more (wave_variables w c) (wave_variable w c) (code_of k) width (codes_agree k c width l (omega arith)) (codes_differ c k (few c (omega arith)) (few k l) (λ e. absurd (omega arith)))
 
-  var_is : (k : ℕ) → k < length w.names → IsCommand (wave_variables w k) (var_command w k)
+  var_is : (k : ℕ) → k < length w.names → IsHeaderCommand (wave_variables w k) (var_command w k)
   var_is k l =
       let n = width_read k l in
       let r = width_in k l in
@@ -142,40 +142,40 @@ module _ (w : WaveTree) (h : IsFormedWave w) where
 
   first_are : (count : ℕ) → count ≤ length w.names → AreCommands [] (first_commands w count)
   first_are zero l = ((refl, refl), ((refl, refl), tt))
-  first_are (suc k) l = commands_more [] (first_commands w k) (var_command w k) (first_are k (omega arith)) (subst (λ (vs : List Variable). IsCommand vs (var_command w k)) (sym (first_variables k)) (var_is k l))
+  first_are (suc k) l = commands_more [] (first_commands w k) (var_command w k) (first_are k (omega arith)) (subst (λ (vs : List Variable). IsHeaderCommand vs (var_command w k)) (sym (first_variables k)) (var_is k l))
 
   commands_are : AreCommands [] (wave_commands w)
   commands_are = commands_more [] (first_commands w (length w.names)) end_command (first_are (length w.names) (omega arith)) (refl, refl)
 
-  var_words : (k : ℕ) (rest : List ℕ) → k < length w.names → words (var_line w k ++ rest) ≡ command_words (var_command w k) ++ words rest
+  var_words : (k : ℕ) (rest : List ℕ) → k < length w.names → text_words (var_line w k ++ rest) ≡ command_words (var_command w k) ++ text_words rest
   var_words k rest l =
       let d : List ℕ = decimal (get_or w.widths k 0) in
       let n : List ℕ = get_or w.names k [] in
       let end : List ℕ = codes " $end\n" in
-      ap (λ (x : List ℕ). codes "$var" ∷ codes "wire" ∷ words x) (append_assoc d (codes " " ++ (code_of k ++ (codes " " ++ (n ++ end)))) rest)
+      ap (λ (x : List ℕ). codes "$var" ∷ codes "wire" ∷ text_words x) (append_assoc d (codes " " ++ (code_of k ++ (codes " " ++ (n ++ end)))) rest)
       ∙ (ap (λ (x : List (List ℕ)). codes "$var" ∷ codes "wire" ∷ x) (word_then d 32 ((code_of k ++ (codes " " ++ (n ++ end))) ++ rest) (width_read k l).code refl)
-      ∙ (ap (λ (x : List ℕ). codes "$var" ∷ codes "wire" ∷ d ∷ words x) (append_assoc (code_of k) (codes " " ++ (n ++ end)) rest)
+      ∙ (ap (λ (x : List ℕ). codes "$var" ∷ codes "wire" ∷ d ∷ text_words x) (append_assoc (code_of k) (codes " " ++ (n ++ end)) rest)
       ∙ (ap (λ (x : List (List ℕ)). codes "$var" ∷ codes "wire" ∷ d ∷ x) (word_then (code_of k) 32 ((n ++ end) ++ rest) (code_is_code k (few k l)) refl)
-      ∙ (ap (λ (x : List ℕ). codes "$var" ∷ codes "wire" ∷ d ∷ code_of k ∷ words x) (append_assoc n end rest)
+      ∙ (ap (λ (x : List ℕ). codes "$var" ∷ codes "wire" ∷ d ∷ code_of k ∷ text_words x) (append_assoc n end rest)
       ∙ ap (λ (x : List (List ℕ)). codes "$var" ∷ codes "wire" ∷ d ∷ code_of k ∷ x) (word_then n 32 (codes "$end\n" ++ rest) (name_code n (named k l)) refl)))))
 
-  vars_words : (count : ℕ) (rest : List ℕ) → count ≤ length w.names → words (codes "$timescale 1 ns $end\n$scope module aeth $end\n" ++ (var_lines w count ++ rest)) ≡ words_of_commands (first_commands w count) ++ words rest
+  vars_words : (count : ℕ) (rest : List ℕ) → count ≤ length w.names → text_words (codes "$timescale 1 ns $end\n$scope module aeth $end\n" ++ (var_lines w count ++ rest)) ≡ words_of_commands (first_commands w count) ++ text_words rest
   vars_words zero rest l = refl
   vars_words (suc k) rest l =
       let begin : List ℕ = codes "$timescale 1 ns $end\n$scope module aeth $end\n" in
-      ap (λ (x : List ℕ). words (begin ++ x)) (append_assoc (var_lines w k) (var_line w k) rest)
+      ap (λ (x : List ℕ). text_words (begin ++ x)) (append_assoc (var_lines w k) (var_line w k) rest)
       ∙ (vars_words k (var_line w k ++ rest) (omega arith)
       ∙ (ap (λ (x : List (List ℕ)). words_of_commands (first_commands w k) ++ x) (var_words k rest l)
-      ∙ (sym (append_assoc (words_of_commands (first_commands w k)) (command_words (var_command w k)) (words rest))
-      ∙ ap (λ (x : List (List ℕ)). x ++ words rest) (sym (commands_words (first_commands w k) (var_command w k))))))
+      ∙ (sym (append_assoc (words_of_commands (first_commands w k)) (command_words (var_command w k)) (text_words rest))
+      ∙ ap (λ (x : List (List ℕ)). x ++ text_words rest) (sym (commands_words (first_commands w k) (var_command w k))))))
 
   -- ---- pieces
 
   below_64 : (word width : ℕ) → width ≤ 64 → word < 2 ^ width → word < 2 ^ 64
   below_64 word width l b = (let p : 2 ^ width ≤ 2 ^ 64 = pow_mono l in omega arith)
 
-  word_small : (i k : ℕ) → i < length w.times → k < length w.names → word_of w i k < 2 ^ 64
-  word_small i k t l = below_64 (word_of w i k) (get_or w.widths k 0) (width_in k l).1 (h.fit i k t l)
+  word_small : (i k : ℕ) → i < length w.times → k < length w.names → wave_word w i k < 2 ^ 64
+  word_small i k t l = below_64 (wave_word w i k) (get_or w.widths k 0) (width_in k l).1 (h.fit i k t l)
 
   own_given : (k width word was : ℕ) → width ≤ 64 → word < 2 ^ width → given (code_of k) (change_piece width word k) was ≡ word
   own_given k width word was l b = cases (width == 1) refl
@@ -216,66 +216,66 @@ module _ (w : WaveTree) (h : IsFormedWave w) where
 
   -- ---- the words of changes and times
 
-  change_words : (i k : ℕ) (rest : List ℕ) → i < length w.times → k < length w.names → words (change_line (get_or w.widths k 0) (word_of w i k) k ++ rest) ≡ piece_words (change_piece (get_or w.widths k 0) (word_of w i k) k) ++ words rest
+  change_words : (i k : ℕ) (rest : List ℕ) → i < length w.times → k < length w.names → text_words (change_line (get_or w.widths k 0) (wave_word w i k) k ++ rest) ≡ piece_words (change_piece (get_or w.widths k 0) (wave_word w i k) k) ++ text_words rest
   change_words i k rest t l = cases (get_or w.widths k 0 == 1) refl
     where
       word : ℕ
-      word = word_of w i k
+      word = wave_word w i k
 
       cases : (c : Bool) → (get_or w.widths k 0 == 1) ≡ c
-          → words ((if c then decimal (word_of w i k) ++ (code_of k ++ codes "\n") else codes "b" ++ (digits 2 false (word_of w i k) ++ (codes " " ++ (code_of k ++ codes "\n")))) ++ rest)
-          ≡ piece_words (if c then Bit (48 + word_of w i k) (code_of k) else Binary 98 (digits 2 false (word_of w i k)) (code_of k)) ++ words rest
+          → text_words ((if c then decimal (wave_word w i k) ++ (code_of k ++ codes "\n") else codes "b" ++ (digits 2 false (wave_word w i k) ++ (codes " " ++ (code_of k ++ codes "\n")))) ++ rest)
+          ≡ piece_words (if c then Bit (48 + wave_word w i k) (code_of k) else Binary 98 (digits 2 false (wave_word w i k)) (code_of k)) ++ text_words rest
       cases true e =
           let one : get_or w.widths k 0 ≡ 1 = eqb-true (get_or w.widths k 0) 1 e in
-          let low : word_of w i k < 2 ^ 1 = subst (λ v. word_of w i k < 2 ^ v) one (h.fit i k t l) in
-          let digit : decimal (word_of w i k) ≡ (48 + word_of w i k) ∷ [] = decimal_digit (word_of w i k) (omega arith) in
-          let g : is_graphic (48 + word_of w i k) ≡ true = bit_graphic (word_of w i k) (omega arith) in
-          ap (λ (x : List ℕ). words ((x ++ (code_of k ++ codes "\n")) ++ rest)) digit
-          ∙ (ap (λ (x : List ℕ). words ((48 + word_of w i k) ∷ x)) (append_assoc (code_of k) (codes "\n") rest)
-          ∙ word_then ((48 + word_of w i k) ∷ code_of k) 10 rest (code_cons (48 + word_of w i k) (code_of k) g (code_all (code_of k) (code_is_code k (few k l)))) refl)
+          let low : wave_word w i k < 2 ^ 1 = subst (λ v. wave_word w i k < 2 ^ v) one (h.fit i k t l) in
+          let digit : decimal (wave_word w i k) ≡ (48 + wave_word w i k) ∷ [] = decimal_digit (wave_word w i k) (omega arith) in
+          let g : is_graphic (48 + wave_word w i k) ≡ true = bit_graphic (wave_word w i k) (omega arith) in
+          ap (λ (x : List ℕ). text_words ((x ++ (code_of k ++ codes "\n")) ++ rest)) digit
+          ∙ (ap (λ (x : List ℕ). text_words ((48 + wave_word w i k) ∷ x)) (append_assoc (code_of k) (codes "\n") rest)
+          ∙ word_then ((48 + wave_word w i k) ∷ code_of k) 10 rest (code_cons (48 + wave_word w i k) (code_of k) g (code_all (code_of k) (code_is_code k (few k l)))) refl)
       cases false e =
-          let ds : List ℕ = digits 2 false (word_of w i k) in
-          let r : IsBinaryOf (word_of w i k) = binary_read (word_of w i k) (word_small i k t l) in
-          ap (λ (x : List ℕ). words (98 ∷ x)) (append_assoc ds (codes " " ++ (code_of k ++ codes "\n")) rest)
+          let ds : List ℕ = digits 2 false (wave_word w i k) in
+          let r : IsBinaryOf (wave_word w i k) = binary_read (wave_word w i k) (word_small i k t l) in
+          ap (λ (x : List ℕ). text_words (98 ∷ x)) (append_assoc ds (codes " " ++ (code_of k ++ codes "\n")) rest)
           ∙ (word_then (98 ∷ ds) 32 ((code_of k ++ codes "\n") ++ rest) (code_cons 98 ds refl r.graphic) refl
-          ∙ (ap (λ (x : List ℕ). (98 ∷ ds) ∷ words x) (append_assoc (code_of k) (codes "\n") rest)
+          ∙ (ap (λ (x : List ℕ). (98 ∷ ds) ∷ text_words x) (append_assoc (code_of k) (codes "\n") rest)
           ∙ ap (λ (x : List (List ℕ)). (98 ∷ ds) ∷ x) (word_then (code_of k) 10 rest (code_is_code k (few k l)) refl)))
 
-  changed_words : (i k : ℕ) (rest : List ℕ) → i < length w.times → k < length w.names → words (changed_line w i k ++ rest) ≡ words_of_pieces (changed_pieces w i k) ++ words rest
+  changed_words : (i k : ℕ) (rest : List ℕ) → i < length w.times → k < length w.names → text_words (changed_line w i k ++ rest) ≡ words_of_pieces (changed_pieces w i k) ++ text_words rest
   changed_words i k rest t l = cases (is_changed w i k)
     where
-      cases : (c : Bool) → words ((if c then change_line (get_or w.widths k 0) (word_of w i k) k else []) ++ rest) ≡ words_of_pieces (if c then change_piece (get_or w.widths k 0) (word_of w i k) k ∷ [] else []) ++ words rest
-      cases true = change_words i k rest t l ∙ ap (λ (x : List (List ℕ)). x ++ words rest) (sym (append_none (piece_words (change_piece (get_or w.widths k 0) (word_of w i k) k))))
+      cases : (c : Bool) → text_words ((if c then change_line (get_or w.widths k 0) (wave_word w i k) k else []) ++ rest) ≡ words_of_pieces (if c then change_piece (get_or w.widths k 0) (wave_word w i k) k ∷ [] else []) ++ text_words rest
+      cases true = change_words i k rest t l ∙ ap (λ (x : List (List ℕ)). x ++ text_words rest) (sym (append_none (piece_words (change_piece (get_or w.widths k 0) (wave_word w i k) k))))
       cases false = refl
 
   pieces_append : (ps qs : List Piece) → words_of_pieces (ps ++ qs) ≡ words_of_pieces ps ++ words_of_pieces qs
   pieces_append [] qs = refl
   pieces_append (p ∷ ps) qs = ap (λ (x : List (List ℕ)). piece_words p ++ x) (pieces_append ps qs) ∙ sym (append_assoc (piece_words p) (words_of_pieces ps) (words_of_pieces qs))
 
-  changes_words : (i count : ℕ) (rest : List ℕ) → i < length w.times → count ≤ length w.names → words (change_lines w i count ++ rest) ≡ words_of_pieces (change_pieces w i count) ++ words rest
+  changes_words : (i count : ℕ) (rest : List ℕ) → i < length w.times → count ≤ length w.names → text_words (change_lines w i count ++ rest) ≡ words_of_pieces (change_pieces w i count) ++ text_words rest
   changes_words i zero rest t l = refl
   changes_words i (suc k) rest t l =
-      ap words (append_assoc (change_lines w i k) (changed_line w i k) rest)
+      ap text_words (append_assoc (change_lines w i k) (changed_line w i k) rest)
       ∙ (changes_words i k (changed_line w i k ++ rest) t (omega arith)
       ∙ (ap (λ (x : List (List ℕ)). words_of_pieces (change_pieces w i k) ++ x) (changed_words i k rest t l)
-      ∙ (sym (append_assoc (words_of_pieces (change_pieces w i k)) (words_of_pieces (changed_pieces w i k)) (words rest))
-      ∙ ap (λ (x : List (List ℕ)). x ++ words rest) (sym (pieces_append (change_pieces w i k) (changed_pieces w i k))))))
+      ∙ (sym (append_assoc (words_of_pieces (change_pieces w i k)) (words_of_pieces (changed_pieces w i k)) (text_words rest))
+      ∙ ap (λ (x : List (List ℕ)). x ++ text_words rest) (sym (pieces_append (change_pieces w i k) (changed_pieces w i k))))))
 
-  time_words : (i : ℕ) (rest : List ℕ) → i < length w.times → words (time_lines w i ++ rest) ≡ words_of_pieces (time_pieces w i) ++ words rest
+  time_words : (i : ℕ) (rest : List ℕ) → i < length w.times → text_words (time_lines w i ++ rest) ≡ words_of_pieces (time_pieces w i) ++ text_words rest
   time_words i rest t =
       let d : List ℕ = decimal (get_or w.times i 0) in
-      ap (λ (x : List ℕ). words (35 ∷ x)) (append_assoc d (codes "\n" ++ change_lines w i (length w.names)) rest)
+      ap (λ (x : List ℕ). text_words (35 ∷ x)) (append_assoc d (codes "\n" ++ change_lines w i (length w.names)) rest)
       ∙ (word_then (35 ∷ d) 10 (change_lines w i (length w.names) ++ rest) (code_cons 35 d refl (time_read i t).graphic) refl
       ∙ ap (λ (x : List (List ℕ)). (35 ∷ d) ∷ x) (changes_words i (length w.names) rest t (omega arith)))
 
-  body_words : (count : ℕ) (rest : List ℕ) → count ≤ length w.times → words (body_lines w count ++ rest) ≡ words_of_pieces (body_pieces w count) ++ words rest
+  body_words : (count : ℕ) (rest : List ℕ) → count ≤ length w.times → text_words (body_lines w count ++ rest) ≡ words_of_pieces (body_pieces w count) ++ text_words rest
   body_words zero rest l = refl
   body_words (suc i) rest l =
-      ap words (append_assoc (body_lines w i) (time_lines w i) rest)
+      ap text_words (append_assoc (body_lines w i) (time_lines w i) rest)
       ∙ (body_words i (time_lines w i ++ rest) (omega arith)
       ∙ (ap (λ (x : List (List ℕ)). words_of_pieces (body_pieces w i) ++ x) (time_words i rest l)
-      ∙ (sym (append_assoc (words_of_pieces (body_pieces w i)) (words_of_pieces (time_pieces w i)) (words rest))
-      ∙ ap (λ (x : List (List ℕ)). x ++ words rest) (sym (pieces_append (body_pieces w i) (time_pieces w i))))))
+      ∙ (sym (append_assoc (words_of_pieces (body_pieces w i)) (words_of_pieces (time_pieces w i)) (text_words rest))
+      ∙ ap (λ (x : List (List ℕ)). x ++ text_words rest) (sym (pieces_append (body_pieces w i) (time_pieces w i))))))
 
   -- ---- the pieces are pieces
 
@@ -293,23 +293,23 @@ module _ (w : WaveTree) (h : IsFormedWave w) where
     | inr le ↦ (let is : c ≡ k = omega arith in rw is (takes_last (wave_variables w k) (wave_variable w k) (code_of k) value (code_itself k) e))
   ]
 
-  change_is : (i k t : ℕ) → i < length w.times → k < length w.names → IsPiece (wave_variables w (length w.names)) (Some t) (change_piece (get_or w.widths k 0) (word_of w i k) k)
+  change_is : (i k t : ℕ) → i < length w.times → k < length w.names → IsPiece (wave_variables w (length w.names)) (Some t) (change_piece (get_or w.widths k 0) (wave_word w i k) k)
   change_is i k t a l = cases (get_or w.widths k 0 == 1) refl
     where
-      cases : (c : Bool) → (get_or w.widths k 0 == 1) ≡ c → IsPiece (wave_variables w (length w.names)) (Some t) (if c then Bit (48 + word_of w i k) (code_of k) else Binary 98 (digits 2 false (word_of w i k)) (code_of k))
+      cases : (c : Bool) → (get_or w.widths k 0 == 1) ≡ c → IsPiece (wave_variables w (length w.names)) (Some t) (if c then Bit (48 + wave_word w i k) (code_of k) else Binary 98 (digits 2 false (wave_word w i k)) (code_of k))
       cases true e =
           let one : get_or w.widths k 0 ≡ 1 = eqb-true (get_or w.widths k 0) 1 e in
-          let low : word_of w i k < 2 ^ 1 = subst (λ v. word_of w i k < 2 ^ v) one (h.fit i k a l) in
-          (bit_ok (word_of w i k) (omega arith), bit_there k (length w.names) l (rw (width_read k l).value e))
+          let low : wave_word w i k < 2 ^ 1 = subst (λ v. wave_word w i k < 2 ^ v) one (h.fit i k a l) in
+          (bit_ok (wave_word w i k) (omega arith), bit_there k (length w.names) l (rw (width_read k l).value e))
       cases false e =
-          let r : IsBinaryOf (word_of w i k) = binary_read (word_of w i k) (word_small i k a l) in
-          (refl, refl, r.binary, takes_there k (length w.names) (digits_value 2 (digits 2 false (word_of w i k))) l (rw (r.value, (width_read k l).value) (lt-ltb (word_of w i k) (2 ^ get_or w.widths k 0) (h.fit i k a l))))
+          let r : IsBinaryOf (wave_word w i k) = binary_read (wave_word w i k) (word_small i k a l) in
+          (refl, refl, r.binary, takes_there k (length w.names) (digits_value 2 (digits 2 false (wave_word w i k))) l (rw (r.value, (width_read k l).value) (lt-ltb (wave_word w i k) (2 ^ get_or w.widths k 0) (h.fit i k a l))))
 
   changed_are : (ps : List Piece) (i k : ℕ) → i < length w.times → k < length w.names → time_of None ps ≡ Some (get_or w.times i 0) → ArePieces (wave_variables w (length w.names)) None ps → ArePieces (wave_variables w (length w.names)) None (ps ++ changed_pieces w i k)
   changed_are ps i k t l e a = cases (is_changed w i k)
     where
-      cases : (c : Bool) → ArePieces (wave_variables w (length w.names)) None (ps ++ (if c then change_piece (get_or w.widths k 0) (word_of w i k) k ∷ [] else []))
-      cases true = pieces_more (wave_variables w (length w.names)) None ps (change_piece (get_or w.widths k 0) (word_of w i k) k) a (subst (λ o. IsPiece (wave_variables w (length w.names)) o (change_piece (get_or w.widths k 0) (word_of w i k) k)) (sym e) (change_is i k (get_or w.times i 0) t l))
+      cases : (c : Bool) → ArePieces (wave_variables w (length w.names)) None (ps ++ (if c then change_piece (get_or w.widths k 0) (wave_word w i k) k ∷ [] else []))
+      cases true = pieces_more (wave_variables w (length w.names)) None ps (change_piece (get_or w.widths k 0) (wave_word w i k) k) a (subst (λ o. IsPiece (wave_variables w (length w.names)) o (change_piece (get_or w.widths k 0) (wave_word w i k) k)) (sym e) (change_is i k (get_or w.times i 0) t l))
       cases false = subst (λ (l : List Piece). ArePieces (wave_variables w (length w.names)) None l) (sym (append_none ps)) a
 
   changes_are : (ps : List Piece) (i count : ℕ) → i < length w.times → count ≤ length w.names → time_of None ps ≡ Some (get_or w.times i 0) → ArePieces (wave_variables w (length w.names)) None ps → ArePieces (wave_variables w (length w.names)) None (ps ++ change_pieces w i count)
@@ -342,26 +342,26 @@ module _ (w : WaveTree) (h : IsFormedWave w) where
 
   -- ---- all together
 
-  text_words : words (wave_text w) ≡ words_of_commands (wave_commands w) ++ (codes "$enddefinitions" ∷ end_word ∷ words_of_pieces (body_pieces w (length w.times)))
-  text_words =
+  whole_words : text_words (wave_text w) ≡ words_of_commands (wave_commands w) ++ (codes "$enddefinitions" ∷ end_word ∷ words_of_pieces (body_pieces w (length w.times)))
+  whole_words =
       let begin : List ℕ = codes "$timescale 1 ns $end\n$scope module aeth $end\n" in
       let end : List ℕ = codes "$upscope $end\n$enddefinitions $end\n" in
       let body : List ℕ = body_lines w (length w.times) in
       let first : List (List ℕ) = words_of_commands (first_commands w (length w.names)) in
-      ap (λ (x : List ℕ). words (begin ++ x)) (append_assoc (var_lines w (length w.names)) end body)
+      ap (λ (x : List ℕ). text_words (begin ++ x)) (append_assoc (var_lines w (length w.names)) end body)
       ∙ (vars_words (length w.names) (end ++ body) (omega arith)
-      ∙ (ap (λ (x : List (List ℕ)). first ++ (codes "$upscope" ∷ end_word ∷ codes "$enddefinitions" ∷ end_word ∷ x)) (ap words (sym (append_none body)) ∙ (body_words (length w.times) [] (omega arith) ∙ append_none (words_of_pieces (body_pieces w (length w.times)))))
+      ∙ (ap (λ (x : List (List ℕ)). first ++ (codes "$upscope" ∷ end_word ∷ codes "$enddefinitions" ∷ end_word ∷ x)) (ap text_words (sym (append_none body)) ∙ (body_words (length w.times) [] (omega arith) ∙ append_none (words_of_pieces (body_pieces w (length w.times)))))
       ∙ (sym (append_assoc first (codes "$upscope" ∷ end_word ∷ []) (codes "$enddefinitions" ∷ end_word ∷ words_of_pieces (body_pieces w (length w.times))))
       ∙ ap (λ (x : List (List ℕ)). x ++ (codes "$enddefinitions" ∷ end_word ∷ words_of_pieces (body_pieces w (length w.times)))) (sym (commands_words (first_commands w (length w.names)) end_command)))))
 
-  dump : AreDump (words (wave_text w))
+  dump : AreDump (text_words (wave_text w))
   dump = record {
     commands = wave_commands w;
     pieces = body_pieces w (length w.times);
     header = commands_are;
     some = (let e : length (variables (wave_commands w)) ≡ length w.names = ap (λ (l : List Variable). length l) all_variables ∙ many (length w.names) in omega (arith, h.some));
     body = subst (λ (vs : List Variable). ArePieces vs None (body_pieces w (length w.times))) (sym all_variables) (body_are (length w.times) (omega arith));
-    is = text_words;
+    is = whole_words;
   }
 
   names_meant : (count : ℕ) → count ≤ length w.names → map (λ (v : Variable). v.name) (wave_variables w count) ≡ take count w.names
@@ -384,7 +384,7 @@ module _ (w : WaveTree) (h : IsFormedWave w) where
       let names : map (λ (v : Variable). v.name) vs ≡ w.names = names_meant (length w.names) (omega arith) ∙ take-length w.names in
       let widths : map (λ (v : Variable). v.width) vs ≡ w.widths = widths_meant (length w.names) (omega arith) ∙ (ap (λ n. take n w.widths) (sym h.sized) ∙ take-length w.widths) in
       let times = times_meant w has_codes in
-      let all = ap (flat_map (words_at vs (body_pieces w (length w.times)))) times ∙ words_meant w has_codes h.whole in
+      let all = ap (flat_map (words_at_time vs (body_pieces w (length w.times)))) times ∙ words_meant w has_codes h.whole in
       sym (λ i. record { names = names i; widths = widths i; times = times i; words = all i })
 
   pub wave_dump : IsVcd (wave_text w) w

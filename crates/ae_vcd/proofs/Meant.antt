@@ -9,12 +9,12 @@ use Rattle.std.proofs.lemmas.List.{get_or-drop, map-append, take_more}
 use Rattle.std.proofs.lemmas.Grind.{flat_map-append}
 use Rattle.std.proofs.Math.Nat.{mul-le-mul_right}
 use Rattle.std.proofs.Math.Seq.{take-length}
-use Rattle.ae_vcd.specs.Waves.{WaveTree, word_of}
+use Rattle.ae_vcd.specs.Waves.{WaveTree, wave_word}
 use Rattle.ae_vcd.specs.WaveText.{code_of, is_changed}
 use Rattle.ae_vcd.specs.Forms.{Binary, Bit, Comment, Piece, Silent, Time, Variable, time_after}
 use Rattle.ae_vcd.specs.Machine.{time_of}
 use Rattle.ae_vcd.specs.Rows.{is_quiet}
-use Rattle.ae_vcd.specs.Readings.{given, last_given, next_time, times_from, up_to, words_at}
+use Rattle.ae_vcd.specs.Readings.{given, last_given, next_time, times_from, up_to, words_at_time}
 use Rattle.ae_vcd.proofs.Reading.{append_none}
 
 -- ---- pieces of lists
@@ -66,7 +66,7 @@ abbrev pub change_piece : (width word k : ℕ) → Piece
 change_piece width word k = if width == 1 then Bit (48 + word) (code_of k) else Binary 98 (digits 2 false word) (code_of k)
 
 abbrev pub changed_pieces : WaveTree → (i k : ℕ) → List Piece
-changed_pieces w i k = if is_changed w i k then change_piece (get_or w.widths k 0) (word_of w i k) k ∷ [] else []
+changed_pieces w i k = if is_changed w i k then change_piece (get_or w.widths k 0) (wave_word w i k) k ∷ [] else []
 
 abbrev pub change_pieces : WaveTree → (i count : ℕ) → List Piece
 change_pieces w i zero = []
@@ -99,7 +99,7 @@ change_quiet t false width word k rest = tt
 
 changes_quiet : (w : WaveTree) (t i count : ℕ) → none_later t (change_pieces w i count)
 changes_quiet w t i zero = tt
-changes_quiet w t i (suc k) = later_append t (change_pieces w i k) (changed_pieces w i k) (changes_quiet w t i k) (change_quiet t (is_changed w i k) (get_or w.widths k 0) (word_of w i k) k [])
+changes_quiet w t i (suc k) = later_append t (change_pieces w i k) (changed_pieces w i k) (changes_quiet w t i k) (change_quiet t (is_changed w i k) (get_or w.widths k 0) (wave_word w i k) k [])
 
 -- ---- times
 
@@ -152,7 +152,7 @@ pub changes_no_time : (w : WaveTree) (i count : ℕ) → is_quiet (change_pieces
 changes_no_time w i zero = tt
 changes_no_time w i (suc k) = quiet_append (change_pieces w i k) (changed_pieces w i k) (changes_no_time w i k) (one (is_changed w i k) (get_or w.widths k 0 == 1))
   where
-    one : (b c : Bool) → is_quiet (if b then (if c then Bit (48 + word_of w i k) (code_of k) else Binary 98 (digits 2 false (word_of w i k)) (code_of k)) ∷ [] else [])
+    one : (b c : Bool) → is_quiet (if b then (if c then Bit (48 + wave_word w i k) (code_of k) else Binary 98 (digits 2 false (wave_word w i k)) (code_of k)) ∷ [] else [])
     one true true = tt
     one true false = tt
     one false c = tt
@@ -163,18 +163,18 @@ pub record HasCodes (w : WaveTree) : Type 0 where
   pub own : (k width word was : ℕ) → k < length w.names → width ≤ 64 → word < 2 ^ width → given (code_of k) (change_piece width word k) was ≡ word
   pub other : (j k width word was : ℕ) → j < length w.names → k < length w.names → j ≢ k → given (code_of k) (change_piece width word j) was ≡ was
   pub read : (i : ℕ) → i < length w.times → digits_value 10 (decimal (get_or w.times i 0)) ≡ get_or w.times i 0
-  pub fit : (i k : ℕ) → i < length w.times → k < length w.names → word_of w i k < 2 ^ get_or w.widths k 0
+  pub fit : (i k : ℕ) → i < length w.times → k < length w.names → wave_word w i k < 2 ^ get_or w.widths k 0
   pub rise : (i j : ℕ) → i < j → j < length w.times → get_or w.times i 0 < get_or w.times j 0
 
 module _ (w : WaveTree) (h : HasCodes w) where
   -- the word of a variable, where it had that of the time before
   abbrev IsBefore : (i k was : ℕ) → Type 0
   IsBefore zero k was = Unit {0}
-  IsBefore (suc i) k was = was ≡ word_of w i k
+  IsBefore (suc i) k was = was ≡ wave_word w i k
 
-  same_word : (i k was : ℕ) → is_changed w i k ≡ false → IsBefore i k was → was ≡ word_of w i k
+  same_word : (i k was : ℕ) → is_changed w i k ≡ false → IsBefore i k was → was ≡ wave_word w i k
   same_word zero k was e b = (let f : ⊥ = cc in absurd f)
-  same_word (suc i) k was e b = b ∙ sym (eqb-true (word_of w (suc i) k) (word_of w i k) (not_false (word_of w (suc i) k == word_of w i k) e))
+  same_word (suc i) k was e b = b ∙ sym (eqb-true (wave_word w (suc i) k) (wave_word w i k) (not_false (wave_word w (suc i) k == wave_word w i k) e))
     where
       not_false : (b : Bool) → not b ≡ false → b ≡ true
       not_false true e = refl
@@ -186,31 +186,31 @@ module _ (w : WaveTree) (h : HasCodes w) where
       last_append (code_of k) was (change_pieces w i c) (changed_pieces w i c)
       ∙ (one (is_changed w i c) (last_given (code_of k) was (change_pieces w i c)) ∙ others_given i k c was l (omega arith))
     where
-      one : (b : Bool) (was : ℕ) → last_given (code_of k) was (if b then change_piece (get_or w.widths c 0) (word_of w i c) c ∷ [] else []) ≡ was
-      one true was = h.other c k (get_or w.widths c 0) (word_of w i c) was (omega arith) l (λ e. absurd (omega arith))
+      one : (b : Bool) (was : ℕ) → last_given (code_of k) was (if b then change_piece (get_or w.widths c 0) (wave_word w i c) c ∷ [] else []) ≡ was
+      one true was = h.other c k (get_or w.widths c 0) (wave_word w i c) was (omega arith) l (λ e. absurd (omega arith))
       one false was = refl
 
-  group_given : (i k count was : ℕ) → i < length w.times → k < length w.names → k < count → count ≤ length w.names → IsBefore i k was → last_given (code_of k) was (change_pieces w i count) ≡ word_of w i k
+  group_given : (i k count was : ℕ) → i < length w.times → k < length w.names → k < count → count ≤ length w.names → IsBefore i k was → last_given (code_of k) was (change_pieces w i count) ≡ wave_word w i k
   group_given i k zero was t l b m before = absurd (omega arith)
   group_given i k (suc c) was t l b m before =
       last_append (code_of k) was (change_pieces w i c) (changed_pieces w i c)
       ∙ elim (cases_lt k c) [
-        | inl lt ↦ ap (λ (v : ℕ). last_given (code_of k) v (changed_pieces w i c)) (group_given i k c was t l lt (omega arith) before) ∙ later (is_changed w i c) (word_of w i k) lt
+        | inl lt ↦ ap (λ (v : ℕ). last_given (code_of k) v (changed_pieces w i c)) (group_given i k c was t l lt (omega arith) before) ∙ later (is_changed w i c) (wave_word w i k) lt
         | inr le ↦
             let is : c ≡ k = omega arith in
             ap (λ (v : ℕ). last_given (code_of k) v (changed_pieces w i c)) (others_given i k c was l (omega arith)) ∙ (ap (λ (j : ℕ). last_given (code_of k) was (changed_pieces w i j)) is ∙ mine (is_changed w i k) refl)
       ]
     where
-      later : (b : Bool) (was : ℕ) → k < c → last_given (code_of k) was (if b then change_piece (get_or w.widths c 0) (word_of w i c) c ∷ [] else []) ≡ was
-      later true was lt = h.other c k (get_or w.widths c 0) (word_of w i c) was (omega arith) l (λ e. absurd (omega arith))
+      later : (b : Bool) (was : ℕ) → k < c → last_given (code_of k) was (if b then change_piece (get_or w.widths c 0) (wave_word w i c) c ∷ [] else []) ≡ was
+      later true was lt = h.other c k (get_or w.widths c 0) (wave_word w i c) was (omega arith) l (λ e. absurd (omega arith))
       later false was lt = refl
 
-      mine : (b : Bool) → is_changed w i k ≡ b → last_given (code_of k) was (if b then change_piece (get_or w.widths k 0) (word_of w i k) k ∷ [] else []) ≡ word_of w i k
-      mine true e = h.own k (get_or w.widths k 0) (word_of w i k) was l (h.wide k l) (h.fit i k t l)
+      mine : (b : Bool) → is_changed w i k ≡ b → last_given (code_of k) was (if b then change_piece (get_or w.widths k 0) (wave_word w i k) k ∷ [] else []) ≡ wave_word w i k
+      mine true e = h.own k (get_or w.widths k 0) (wave_word w i k) was l (h.wide k l) (h.fit i k t l)
       mine false e = same_word i k was e before
 
   -- after the first times, each variable has its word of the last of them
-  body_given : (i k : ℕ) → i < length w.times → k < length w.names → last_given (code_of k) 0 (body_pieces w (suc i)) ≡ word_of w i k
+  body_given : (i k : ℕ) → i < length w.times → k < length w.names → last_given (code_of k) 0 (body_pieces w (suc i)) ≡ wave_word w i k
   body_given zero k t l = group_given 0 k (length w.names) 0 t l l (omega arith) tt
   body_given (suc i) k t l =
       last_append (code_of k) 0 (body_pieces w (suc i)) (time_pieces w (suc i))
@@ -239,7 +239,7 @@ module _ (w : WaveTree) (h : HasCodes w) where
   ]
 
   -- the word of a variable at a time
-  pub word_meant : (i k : ℕ) → i < length w.times → k < length w.names → last_given (code_of k) 0 (up_to (get_or w.times i 0) (body_pieces w (length w.times))) ≡ word_of w i k
+  pub word_meant : (i k : ℕ) → i < length w.times → k < length w.names → last_given (code_of k) 0 (up_to (get_or w.times i 0) (body_pieces w (length w.times))) ≡ wave_word w i k
   word_meant i k t l = ap (last_given (code_of k) 0) (up_to_body i (length w.times) t (omega arith)) ∙ body_given i k t l
 
   -- ---- all times
@@ -288,10 +288,10 @@ module _ (w : WaveTree) (h : HasCodes w) where
       row_room : (i n v : ℕ) → i < n → i * v + v ≤ n * v
       row_room i n v l = (let m : suc i * v ≤ n * v = mul-le-mul_right v l in omega arith)
 
-  first_rows : (count : ℕ) → count ≤ length w.times → length w.words ≡ length w.times * length w.names → flat_map (words_at (wave_variables w (length w.names)) (body_pieces w (length w.times))) (take count w.times) ≡ take (count * length w.names) w.words
+  first_rows : (count : ℕ) → count ≤ length w.times → length w.words ≡ length w.times * length w.names → flat_map (words_at_time (wave_variables w (length w.names)) (body_pieces w (length w.times))) (take count w.times) ≡ take (count * length w.names) w.words
   first_rows zero l whole = (let z : 0 ≡ 0 * length w.names = omega arith in ap (λ n. take n w.words) z)
   first_rows (suc i) l whole =
-      let f : ℕ → List ℕ = words_at (wave_variables w (length w.names)) (body_pieces w (length w.times)) in
+      let f : ℕ → List ℕ = words_at_time (wave_variables w (length w.names)) (body_pieces w (length w.times)) in
       let one : i + 1 ≡ suc i = omega arith in
       let more : take (suc i) w.times ≡ take i w.times ++ get_or w.times i 0 ∷ [] = ap (λ n. take n w.times) (sym one) ∙ take_more w.times i 0 l in
       let next : suc i * length w.names ≡ i * length w.names + length w.names = omega arith in
@@ -304,7 +304,7 @@ module _ (w : WaveTree) (h : HasCodes w) where
       take-add : (a b : ℕ) (l : List ℕ) → take (a + b) l ≡ take a l ++ take b (drop a l)
       take-add = take_add
 
-  pub words_meant : length w.words ≡ length w.times * length w.names → flat_map (words_at (wave_variables w (length w.names)) (body_pieces w (length w.times))) w.times ≡ w.words
+  pub words_meant : length w.words ≡ length w.times * length w.names → flat_map (words_at_time (wave_variables w (length w.names)) (body_pieces w (length w.times))) w.times ≡ w.words
   words_meant whole =
-      ap (flat_map (words_at (wave_variables w (length w.names)) (body_pieces w (length w.times)))) (sym (take-length w.times))
+      ap (flat_map (words_at_time (wave_variables w (length w.names)) (body_pieces w (length w.times)))) (sym (take-length w.times))
       ∙ (first_rows (length w.times) (omega arith) whole ∙ (ap (λ n. take n w.words) (sym whole) ∙ take-length w.words))

@@ -7,7 +7,7 @@ use Rattle.std.proofs.lemmas.Bool.{cases_lt, eq-eqb, lt-ltb, ne_eqb, cases_Bool,
 use Rattle.std.proofs.lemmas.Grind.{flat_map-append}
 use Rattle.ae_vcd.specs.Forms.{Binary, Bit, Comment, Piece, Silent, Time, Variable, time_after}
 use Rattle.ae_vcd.specs.Machine.{time_of}
-use Rattle.ae_vcd.specs.Readings.{last_given, next_time, times_from, up_to, words_at}
+use Rattle.ae_vcd.specs.Readings.{last_given, next_time, times_from, up_to, words_at_time}
 use Rattle.ae_vcd.proofs.Reading.{append_none}
 use Rattle.ae_vcd.specs.Rows.{AllBelow, HasRows, is_quiet, words_now}
 use Rattle.ae_vcd.proofs.Meant.{cut_later, quiet_times, times_append}
@@ -61,15 +61,15 @@ same_rows : (last : ℕ) (f g : ℕ → List ℕ) (ts : List ℕ) → AllBelow l
 same_rows last f g [] h e = refl
 same_rows last f g (t ∷ ts) h e = λ i. e t h.0 i ++ same_rows last f g ts h.1 e i
 
-same_words : (vs : List Variable) (ps qs : List Piece) (t : ℕ) → up_to t ps ≡ up_to t qs → words_at vs ps t ≡ words_at vs qs t
+same_words : (vs : List Variable) (ps qs : List Piece) (t : ℕ) → up_to t ps ≡ up_to t qs → words_at_time vs ps t ≡ words_at_time vs qs t
 same_words vs ps qs t e = ap (λ (l : List Piece). map (λ (v : Variable). last_given v.code 0 l) vs) e
 
 -- at the end the present words are one row more
-pub rows_end : (vs : List Variable) (ps : List Piece) (earlier : List ℕ) (last : ℕ) (rows : List ℕ) → HasRows vs ps earlier last rows → flat_map (words_at vs ps) (times_from None ps) ≡ rows ++ words_now vs ps
+pub rows_end : (vs : List Variable) (ps : List Piece) (earlier : List ℕ) (last : ℕ) (rows : List ℕ) → HasRows vs ps earlier last rows → flat_map (words_at_time vs ps) (times_from None ps) ≡ rows ++ words_now vs ps
 rows_end vs ps earlier last rows h =
-    ap (flat_map (words_at vs ps)) h.times
-    ∙ (flat_map-append (words_at vs ps) earlier (last ∷ [])
-    ∙ (λ i. h.closed i ++ (append_none (words_at vs ps last) ∙ ap (λ (l : List Piece). map (λ (v : Variable). last_given v.code 0 l) vs) h.whole) i))
+    ap (flat_map (words_at_time vs ps)) h.times
+    ∙ (flat_map-append (words_at_time vs ps) earlier (last ∷ [])
+    ∙ (λ i. h.closed i ++ (append_none (words_at_time vs ps last) ∙ ap (λ (l : List Piece). map (λ (v : Variable). last_given v.code 0 l) vs) h.whole) i))
 
 whole_append : (t : ℕ) (ps qs : List Piece) → up_to t ps ≡ ps → up_to t qs ≡ qs → up_to t (ps ++ qs) ≡ ps ++ qs
 whole_append t [] qs h k = k
@@ -126,7 +126,7 @@ rows_quiet vs ps qs earlier last rows q h = record {
   times = times_append None ps qs ∙ (ap (λ l. times_from None ps ++ l) (quiet_times (time_of None ps) qs q) ∙ (append_none (times_from None ps) ∙ h.times));
   time = time_snoc None ps qs ∙ (quiet_same (time_of None ps) qs q ∙ h.time);
   below = h.below;
-  closed = same_rows last (words_at vs (ps ++ qs)) (words_at vs ps) earlier h.below (λ t l. same_words vs (ps ++ qs) ps t (cut_behind t ps qs (has_later t last None ps h.time l tt))) ∙ h.closed;
+  closed = same_rows last (words_at_time vs (ps ++ qs)) (words_at_time vs ps) earlier h.below (λ t l. same_words vs (ps ++ qs) ps t (cut_behind t ps qs (has_later t last None ps h.time l tt))) ∙ h.closed;
   whole = whole_append last ps qs h.whole (quiet_whole last qs q);
 }
 
@@ -140,7 +140,7 @@ rows_again vs ps digits earlier last rows e h =
       times = times_append None ps (Time digits ∷ []) ∙ (ap (λ l. times_from None ps ++ l) none ∙ (append_none (times_from None ps) ∙ h.times));
       time = time_snoc None ps (Time digits ∷ []) ∙ ap (λ n. Some n) e;
       below = h.below;
-      closed = same_rows last (words_at vs (ps ++ Time digits ∷ [])) (words_at vs ps) earlier h.below (λ t l. same_words vs (ps ++ Time digits ∷ []) ps t (cut_later t digits ps [] (omega arith))) ∙ h.closed;
+      closed = same_rows last (words_at_time vs (ps ++ Time digits ∷ [])) (words_at_time vs ps) earlier h.below (λ t l. same_words vs (ps ++ Time digits ∷ []) ps t (cut_later t digits ps [] (omega arith))) ∙ h.closed;
       whole = whole_append last ps (Time digits ∷ []) h.whole (rw not_later refl);
     }
 
@@ -157,7 +157,7 @@ rows_later vs ps digits earlier last rows l h =
       times = times_append None ps (Time digits ∷ []) ∙ (λ i. h.times i ++ one i);
       time = time_snoc None ps (Time digits ∷ []);
       below = all;
-      closed = same_rows (digits_value 10 digits) (words_at vs (ps ++ Time digits ∷ [])) (words_at vs ps) (earlier ++ last ∷ []) all (λ t b. same_words vs (ps ++ Time digits ∷ []) ps t (cut_later t digits ps [] b)) ∙ (ap (flat_map (words_at vs ps)) (sym h.times) ∙ rows_end vs ps earlier last rows h);
+      closed = same_rows (digits_value 10 digits) (words_at_time vs (ps ++ Time digits ∷ [])) (words_at_time vs ps) (earlier ++ last ∷ []) all (λ t b. same_words vs (ps ++ Time digits ∷ []) ps t (cut_later t digits ps [] b)) ∙ (ap (flat_map (words_at_time vs ps)) (sym h.times) ∙ rows_end vs ps earlier last rows h);
       whole = whole_append (digits_value 10 digits) ps (Time digits ∷ []) (later_whole (digits_value 10 digits) last ps (omega arith) h.whole) (rw not_later refl);
     }
 

@@ -8,16 +8,16 @@ use Rattle.std.proofs.lemmas.Bool.{eq-eqb, eqb-true, leb-true, ltb-true}
 use Rattle.std.proofs.lemmas.List.{append_assoc, get_or-append-add, get_or-map, get_or_append_left, length-map}
 use Rattle.std.proofs.lemmas.Slice.Eq.{bytes_eq-Decides}
 use Rattle.std.proofs.lemmas.Nat.{pow_pos}
-use Rattle.ae_vcd.specs.Waves.{IsFormedWave, WaveTree, is_name, most_variables, size_limit, wave_size}
-use Rattle.ae_vcd.specs.Forms.{AreCommands, ArePieces, Binary, Bit, Command, Comment, Declare, IsCommand, IsPiece, Other, Piece, Silent, Time, Variable, agrees, declared, is_after, is_bit, is_time, takes, time_after, variables}
-use Rattle.ae_vcd.specs.Readings.{IsVcd, given, last_given, next_time, times_from, up_to, wave_of, words_at}
+use Rattle.ae_vcd.specs.Waves.{IsFormedWave, WaveTree, is_variable_name, most_variables, size_limit, wave_size}
+use Rattle.ae_vcd.specs.Forms.{AreCommands, ArePieces, Binary, Bit, HeaderCommand, Comment, Declare, IsHeaderCommand, IsPiece, Other, Piece, Silent, Time, Variable, agrees, declared, is_after, is_bit, is_time, takes, time_after, variables}
+use Rattle.ae_vcd.specs.Readings.{IsVcd, given, last_given, next_time, times_from, up_to, wave_of, words_at_time}
 use Rattle.ae_vcd.proofs.Reading.{append_none, both, either}
 
 -- ---- variables
 
 -- what each declared variable is
 pub record IsSized (v : Variable) : Type 0 where
-  pub named : is_name v.name ≡ true
+  pub named : is_variable_name v.name ≡ true
   pub low : 1 ≤ v.width
   pub high : v.width ≤ 64
 
@@ -29,22 +29,22 @@ sized_append : (vs us : List Variable) → EachSized vs → EachSized us → Eac
 sized_append [] us h k = k
 sized_append (v ∷ vs) us h k = (h.0, sized_append vs us h.1 k)
 
-declared_sized : (vs : List Variable) (c : Command) → IsCommand vs c → EachSized (declared c)
+declared_sized : (vs : List Variable) (c : HeaderCommand) → IsHeaderCommand vs c → EachSized (declared c)
 declared_sized vs (Declare kind digits code name rest) h =
     let p = both _ _ h.1 in
     let q = both _ _ p.1 in
     (record { named = h.3; low = leb-true 1 (digits_value 10 digits) q.0; high = leb-true (digits_value 10 digits) 64 q.1 }, tt)
 declared_sized vs (Other word rest) h = tt
 
-pub all_sized : (vs : List Variable) (cs : List Command) → AreCommands vs cs → EachSized (variables cs)
+pub all_sized : (vs : List Variable) (cs : List HeaderCommand) → AreCommands vs cs → EachSized (variables cs)
 all_sized vs [] h = tt
 all_sized vs (c ∷ cs) h = sized_append (declared c) (variables cs) (declared_sized vs c h.0) (all_sized (vs ++ declared c) cs h.1)
 
-pub more_few : (vs : List Variable) (c : Command) → IsCommand vs c → length vs ≤ most_variables → length (vs ++ declared c) ≤ most_variables
+pub more_few : (vs : List Variable) (c : HeaderCommand) → IsHeaderCommand vs c → length vs ≤ most_variables → length (vs ++ declared c) ≤ most_variables
 more_few vs (Declare kind digits code name rest) h l = omega (arith, h.0, length-append vs (declared (Declare kind digits code name rest)))
 more_few vs (Other word rest) h l = omega (arith, ap (λ (x : List Variable). length x) (append_none vs))
 
-pub few_variables : (vs : List Variable) (cs : List Command) → AreCommands vs cs → length vs ≤ most_variables → length (vs ++ variables cs) ≤ most_variables
+pub few_variables : (vs : List Variable) (cs : List HeaderCommand) → AreCommands vs cs → length vs ≤ most_variables → length (vs ++ variables cs) ≤ most_variables
 few_variables vs [] h l = omega (arith, ap (λ (x : List Variable). length x) (append_none vs))
 few_variables vs (c ∷ cs) h l = (let r = few_variables (vs ++ declared c) cs h.1 (more_few vs c h.0 l) in omega (arith, ap (λ (x : List Variable). length x) (append_assoc vs (declared c) (variables cs))))
 
@@ -55,7 +55,7 @@ abbrev AllAgree : List Variable → List Variable → Type 0
 AllAgree vs [] = Unit {0}
 AllAgree vs (u ∷ us) = (agrees vs u.code u.width ≡ true) × AllAgree (vs ++ u ∷ []) us
 
-pub all_agree : (vs : List Variable) (cs : List Command) → AreCommands vs cs → AllAgree vs (variables cs)
+pub all_agree : (vs : List Variable) (cs : List HeaderCommand) → AreCommands vs cs → AllAgree vs (variables cs)
 all_agree vs [] h = tt
 all_agree vs (Declare kind digits code name rest ∷ cs) h = ((both _ _ h.0.2).1, all_agree (vs ++ declared (Declare kind digits code name rest)) cs h.1)
 all_agree vs (Other word rest ∷ cs) h = all_agree vs cs (subst (λ (l : List Variable). AreCommands l cs) (append_none vs) h.1)
@@ -241,11 +241,11 @@ late_all (t ∷ ts) h = all_cons (λ t. t < 2 ^ 64) t ts h.0 (late_all ts h.1)
 
 -- ---- all together
 
-sized_all : (vs : List Variable) → EachSized vs → All (λ n. IsTrue (is_name n)) (map (λ (v : Variable). v.name) vs) × All (λ n. (1 ≤ n) × (n ≤ 64)) (map (λ (v : Variable). v.width) vs)
+sized_all : (vs : List Variable) → EachSized vs → All (λ n. IsTrue (is_variable_name n)) (map (λ (v : Variable). v.name) vs) × All (λ n. (1 ≤ n) × (n ≤ 64)) (map (λ (v : Variable). v.width) vs)
 sized_all [] h = (λ i d l. absurd (omega arith), λ i d l. absurd (omega arith))
 sized_all (v ∷ vs) h =
     let r = sized_all vs h.1 in
-    (all_cons (λ n. IsTrue (is_name n)) v.name (map (λ (v : Variable). v.name) vs) h.0.named r.0, all_cons (λ n. (1 ≤ n) × (n ≤ 64)) v.width (map (λ (v : Variable). v.width) vs) (h.0.low, h.0.high) r.1)
+    (all_cons (λ n. IsTrue (is_variable_name n)) v.name (map (λ (v : Variable). v.name) vs) h.0.named r.0, all_cons (λ n. (1 ≤ n) × (n ≤ 64)) v.width (map (λ (v : Variable). v.width) vs) (h.0.low, h.0.high) r.1)
 
 flat_long : (f : ℕ → List ℕ) (n : ℕ) (ts : List ℕ) → ((t : ℕ) → length (f t) ≡ n) → length (flat_map f ts) ≡ length ts * n
 flat_long f n [] h = (let z : 0 ≡ 0 * n = omega arith in z)
@@ -265,7 +265,7 @@ among_at (v ∷ vs) (suc k) d l = inr (among_at vs k d (omega arith))
 
 pub wave_formed : (text : List ℕ) (w : WaveTree) → IsVcd text w → wave_size (length w.times) (length w.names) ≤ size_limit → IsFormedWave w
 wave_formed text w h small =
-    let cs : List Command = h.dump.commands in
+    let cs : List HeaderCommand = h.dump.commands in
     let ps : List Piece = h.dump.pieces in
     let vs : List Variable = variables cs in
     let own : IsFormedWave (wave_of (variables cs) ps) =
@@ -278,21 +278,21 @@ wave_formed text w h small =
         let widths : length (map (λ (v : Variable). v.width) vs) ≡ length vs = length-map vs (λ (v : Variable). v.width) in
         let all = sized_all vs sized in
         let times = times_rise vs None ps pieces in
-        let rows : (t : ℕ) → length (words_at vs ps t) ≡ length vs = λ t. length-map vs (λ (v : Variable). last_given v.code 0 (up_to t ps)) in
+        let rows : (t : ℕ) → length (words_at_time vs ps t) ≡ length vs = λ t. length-map vs (λ (v : Variable). last_given v.code 0 (up_to t ps)) in
         record {
           some = omega arith;
           most = omega arith;
           named = all.0;
           sized = widths ∙ sym names;
           wide = all.1;
-          whole = flat_long (words_at vs ps) (length vs) (times_from None ps) rows ∙ ap (λ n. length (times_from None ps) * n) (sym names);
+          whole = flat_long (words_at_time vs ps) (length vs) (times_from None ps) rows ∙ ap (λ n. length (times_from None ps) * n) (sym names);
           fit = λ i k a b.
               (let d : Variable = record { width = 0; code = []; name = [] } in
               let low : k < length vs = omega arith in
               let v : Variable = get_or vs k d in
-              let at : get_or (flat_map (words_at vs ps) (times_from None ps)) (i * length (map (λ (v : Variable). v.name) vs) + k) 0 ≡ last_given v.code 0 (up_to (get_or (times_from None ps) i 0) ps) =
-              ap (λ n. get_or (flat_map (words_at vs ps) (times_from None ps)) (i * n + k) 0) names
-              ∙ (flat_at (words_at vs ps) (length vs) (times_from None ps) i k rows a low ∙ get_or-map (λ (v : Variable). last_given v.code 0 (up_to (get_or (times_from None ps) i 0) ps)) vs k d 0 low) in
+              let at : get_or (flat_map (words_at_time vs ps) (times_from None ps)) (i * length (map (λ (v : Variable). v.name) vs) + k) 0 ≡ last_given v.code 0 (up_to (get_or (times_from None ps) i 0) ps) =
+              ap (λ n. get_or (flat_map (words_at_time vs ps) (times_from None ps)) (i * n + k) 0) names
+              ∙ (flat_at (words_at_time vs ps) (length vs) (times_from None ps) i k rows a low ∙ get_or-map (λ (v : Variable). last_given v.code 0 (up_to (get_or (times_from None ps) i 0) ps)) vs k d 0 low) in
               let wide : get_or (map (λ (v : Variable). v.width) vs) k 0 ≡ v.width = get_or-map (λ (v : Variable). v.width) vs k d 0 low in
               rw (at, wide) (last_fits vs v None (up_to (get_or (times_from None ps) i 0) ps) 0 agree (among_at vs k d low) (up_to_are vs None (get_or (times_from None ps) i 0) ps pieces) (pow_pos v.width)));
           rise = λ i l. first_rises (times_from None ps) i times.0 l;

@@ -10,8 +10,8 @@ use Rattle.ae_vcd.specs.declared.expected.Expected.TheVariants.{CodeWord, Comman
 use Rattle.ae_vcd.specs.declared.header.Declared.{Declared}
 use Rattle.ae_vcd.specs.declared.body.Recorded.{Recorded}
 use Rattle.ae_vcd.specs.declared.reader.Reader.{Reader}
-use Rattle.ae_vcd.specs.Waves.{is_code, is_name, most_variables}
-use Rattle.ae_vcd.specs.Forms.{Command, Comment, Declare, Other, Piece, Variable, agrees, declared, end_word, is_number, is_other, is_width, variables}
+use Rattle.ae_vcd.specs.Waves.{is_code, is_variable_name, most_variables}
+use Rattle.ae_vcd.specs.Forms.{HeaderCommand, Comment, Declare, Other, Piece, Variable, agrees, declared, end_word, is_number, is_other, is_width, variables}
 use Rattle.ae_vcd.specs.Machine.{Between, Body, Code, Inside, Kind, Last, Mode, Name, Remark, State, Value, Width, at, only_if, step, step_between, step_in, with_more}
 use Rattle.ae_vcd.specs.Held.{Answers, Declares, Follows, HasCode, Holds, Records, begun_in, behind, behind_head, expected_in, is_body, is_last, is_passed}
 use Rattle.ae_vcd.proofs.Reading.{append_none, both, variables_more}
@@ -90,7 +90,7 @@ granted false r t e f = (let g : ⊥ = cc in absurd g)
 -- ---- words of which nothing is kept
 
 -- the place changes, and nothing else
-pub moved : (r : Reader) (cs : List Command) (ps : List Piece) (mode next : Mode) → Follows r (at cs ps mode) → is_body next ≡ is_body mode → begun_in next ≡ begun_in mode → HasCode next (variables cs) r.code.items → (is_last next ≡ true → 1 ≤ length (variables cs))
+pub moved : (r : Reader) (cs : List HeaderCommand) (ps : List Piece) (mode next : Mode) → Follows r (at cs ps mode) → is_body next ≡ is_body mode → begun_in next ≡ begun_in mode → HasCode next (variables cs) r.code.items → (is_last next ≡ true → 1 ≤ length (variables cs))
     → Follows (record r { expected = expected_in next }) (at cs ps next)
 moved r cs ps mode next f body begun code some = record {
   expected = refl;
@@ -108,7 +108,7 @@ not_last : (b : Bool) (n : ℕ) → b ≡ false → b ≡ true → 1 ≤ n
 not_last true n e h = (let f : ⊥ = cc in absurd f)
 not_last false n e h = (let f : ⊥ = cc in absurd f)
 
-pass_head : (r : Reader) (cs : List Command) (w : List ℕ) → Follows r (at cs [] Between) → Passed (behind_head (length (variables cs)) w) r (step_between cs w)
+pass_head : (r : Reader) (cs : List HeaderCommand) (w : List ℕ) → Follows r (at cs [] Between) → Passed (behind_head (length (variables cs)) w) r (step_between cs w)
 pass_head r cs w f = all (bytes_eq w (codes "$var")) (nat_lt (length (variables cs)) most_variables) (bytes_eq w (codes "$enddefinitions")) (nat_lt 0 (length (variables cs))) (is_other w) (λ e. (let l : 0 < length (variables cs) = ltb-true 0 (length (variables cs)) e in omega arith))
   where
     all : (a b c d e : Bool) → (d ≡ true → 1 ≤ length (variables cs)) → Passed (if a then (if b then Some KindWord else None) else (if c then (if d then Some HeaderEnd else None) else (if e then Some CommandRest else None))) r (if a then only_if b (at cs [] Kind) else (if c then only_if d (at cs [] Last) else only_if e (at cs [] (Inside (Other w [])))))
@@ -119,11 +119,11 @@ pass_head r cs w f = all (bytes_eq w (codes "$var")) (nat_lt (length (variables 
     all false b false d true g = moved r cs [] Between (Inside (Other w [])) f refl refl tt (λ h. not_last false _ refl h)
     all false b false d false g = tt
 
-more_declared : (c : Command) (w : List ℕ) → declared (with_more c w) ≡ declared c
+more_declared : (c : HeaderCommand) (w : List ℕ) → declared (with_more c w) ≡ declared c
 more_declared (Declare kind digits code name rest) w = refl
 more_declared (Other word rest) w = refl
 
-pass_inside : (r : Reader) (cs : List Command) (ps : List Piece) (begun : Command) (w : List ℕ) → Follows r (at cs ps (Inside begun)) → Passed (if bytes_eq w end_word then Some CommandHead else Some CommandRest) r (step_in (Inside begun) cs ps w)
+pass_inside : (r : Reader) (cs : List HeaderCommand) (ps : List Piece) (begun : HeaderCommand) (w : List ℕ) → Follows r (at cs ps (Inside begun)) → Passed (if bytes_eq w end_word then Some CommandHead else Some CommandRest) r (step_in (Inside begun) cs ps w)
 pass_inside r cs ps begun w f = all (bytes_eq w end_word)
   where
     all : (b : Bool) → Passed (if b then Some CommandHead else Some CommandRest) r (if b then Some (at (cs ++ begun ∷ []) ps Between) else Some (at cs ps (Inside (with_more begun w))))
@@ -136,7 +136,7 @@ pass_inside r cs ps begun w f = all (bytes_eq w end_word)
     }
     all false = moved r cs ps (Inside begun) (Inside (with_more begun w)) f refl (more_declared begun w) tt (λ h. not_last false _ refl h)
 
-pass_remark : (r : Reader) (cs : List Command) (ps : List Piece) (begun : List (List ℕ)) (w : List ℕ) → Follows r (at cs ps (Remark begun)) → Passed (if bytes_eq w end_word then Some PieceHead else Some CommentRest) r (step_in (Remark begun) cs ps w)
+pass_remark : (r : Reader) (cs : List HeaderCommand) (ps : List Piece) (begun : List (List ℕ)) (w : List ℕ) → Follows r (at cs ps (Remark begun)) → Passed (if bytes_eq w end_word then Some PieceHead else Some CommentRest) r (step_in (Remark begun) cs ps w)
 pass_remark r cs ps begun w f = all (bytes_eq w end_word)
   where
     all : (b : Bool) → Passed (if b then Some PieceHead else Some CommentRest) r (if b then Some (at cs (ps ++ Comment begun ∷ []) Body) else Some (at cs ps (Remark (begun ++ w ∷ []))))
@@ -149,7 +149,7 @@ pass_remark r cs ps begun w f = all (bytes_eq w end_word)
     }
     all false = moved r cs ps (Remark begun) (Remark (begun ++ w ∷ [])) f refl refl tt (λ h. not_last false _ refl h)
 
-pass_width : (r : Reader) (cs : List Command) (ps : List Piece) (kind w : List ℕ) → Follows r (at cs ps (Width kind)) → Passed (if is_width w then Some (CodeWord (digits_value 10 w)) else None) r (step_in (Width kind) cs ps w)
+pass_width : (r : Reader) (cs : List HeaderCommand) (ps : List Piece) (kind w : List ℕ) → Follows r (at cs ps (Width kind)) → Passed (if is_width w then Some (CodeWord (digits_value 10 w)) else None) r (step_in (Width kind) cs ps w)
 pass_width r cs ps kind w f = all (is_width w) refl
   where
     small : is_width w ≡ true → digits_value 10 w ≤ 64
@@ -159,7 +159,7 @@ pass_width r cs ps kind w f = all (is_width w) refl
     all true e = moved r cs ps (Width kind) (Code kind w) f refl refl (small e) (λ h. not_last false _ refl h)
     all false e = tt
 
-passes : (r : Reader) (cs : List Command) (ps : List Piece) (mode : Mode) (w : List ℕ) (k : ℕ) → k ≡ length (variables cs ++ begun_in mode) → Follows r (at cs ps mode) → is_passed (expected_in mode) ≡ true → Passed (behind (expected_in mode) k w) r (step_in mode cs ps w)
+passes : (r : Reader) (cs : List HeaderCommand) (ps : List Piece) (mode : Mode) (w : List ℕ) (k : ℕ) → k ≡ length (variables cs ++ begun_in mode) → Follows r (at cs ps mode) → is_passed (expected_in mode) ≡ true → Passed (behind (expected_in mode) k w) r (step_in mode cs ps w)
 passes r cs ps Between w k n f e =
     let clean : Follows r (at cs [] Between) = subst (λ (l : List Piece). Follows r (at cs l Between)) f.holds.0 f in
     let m : k ≡ length (variables cs) = n ∙ ap (λ (l : List Variable). length l) (append_none (variables cs)) in
@@ -208,11 +208,11 @@ code_taken r s w width code f here on fits kept = code_place (λ mode. Follows r
     }))
     f
 
-pub name_refused : (r : Reader) (s : State) (w : List ℕ) (width : ℕ) → Follows r s → r.expected ≡ NameWord width → is_name w ≡ false → Answers false r (step s w)
+pub name_refused : (r : Reader) (s : State) (w : List ℕ) (width : ℕ) → Follows r s → r.expected ≡ NameWord width → is_variable_name w ≡ false → Answers false r (step s w)
 name_refused r s w width f here off = name_place (λ mode. Answers false r (step_in mode s.commands s.pieces w)) s.mode width (sym f.expected ∙ here)
-    (λ kind digits code e. refused (is_name w) r (at s.commands s.pieces (Inside (Declare kind digits code w []))) off)
+    (λ kind digits code e. refused (is_variable_name w) r (at s.commands s.pieces (Inside (Declare kind digits code w []))) off)
 
-pub name_taken : (r : Reader) (s : State) (w : List ℕ) (width : ℕ) (more : Declared) (own_code : List ℕ) → own_code ≡ r.code.items → Follows r s → r.expected ≡ NameWord width → is_name w ≡ true
+pub name_taken : (r : Reader) (s : State) (w : List ℕ) (width : ℕ) (more : Declared) (own_code : List ℕ) → own_code ≡ r.code.items → Follows r s → r.expected ≡ NameWord width → is_variable_name w ≡ true
     → ((vs : List Variable) → Declares r.declared vs → agrees vs own_code width ≡ true → width ≤ 64 → Declares more (vs ++ record { width = width; code = own_code; name = w } ∷ []))
     → Answers true (record r { expected = CommandRest; declared = more }) (step s w)
 name_taken r s w width more own_code same f here on add = name_place (λ mode. Follows r (at s.commands s.pieces mode) → Answers true (record r { expected = CommandRest; declared = more }) (step_in mode s.commands s.pieces w)) s.mode width (sym f.expected ∙ here)
@@ -220,7 +220,7 @@ name_taken r s w width more own_code same f here on add = name_place (λ mode. F
     let vs : List Variable = variables s.commands in
     let known : Declares r.declared (variables s.commands) = subst (λ (l : List Variable). Declares r.declared l) (append_none (variables s.commands)) g.declares in
     let own : agrees (variables s.commands) own_code width ≡ true = (λ i. agrees (variables s.commands) ((same ∙ g.code.0) i) (sym e i)) ∙ g.code.1 in
-    granted (is_name w) (record r { expected = CommandRest; declared = more }) (at s.commands s.pieces (Inside (Declare kind digits code w []))) on
+    granted (is_variable_name w) (record r { expected = CommandRest; declared = more }) (at s.commands s.pieces (Inside (Declare kind digits code w []))) on
     (record {
       expected = refl;
       code = tt;

@@ -12,7 +12,7 @@ use Rattle.std.proofs.lemmas.Str.Parse.{tells_digits, tells_all_ascii_digits}
 use Rattle.std.proofs.lemmas.Slice.Eq.{bytes_eq-Decides}
 use Rattle.ae_vcd.specs.Waves.{is_code, is_graphic}
 use Rattle.ae_vcd.specs.WaveText.{code_of}
-use Rattle.ae_vcd.specs.TextWords.{begun, is_blank, words}
+use Rattle.ae_vcd.specs.TextWords.{with_byte, is_white, text_words}
 use Rattle.ae_vcd.specs.Forms.{is_binary, is_binary_digit, is_number}
 use Rattle.ae_vcd.proofs.Reading.{both}
 
@@ -130,7 +130,7 @@ binary_read n l =
 
 -- ---- words of a text
 
-graphic_no_blank : (b : ℕ) → is_graphic b ≡ true → is_blank b ≡ false
+graphic_no_blank : (b : ℕ) → is_graphic b ≡ true → is_white b ≡ false
 graphic_no_blank b e =
     let low : 33 ≤ b = (let p = both (nat_le 33 b) (nat_le b 126) e in leb-true 33 b p.0) in
     let p : nat_eq b 32 ≡ false = ne_eqb b 32 (λ q. absurd (omega arith)) in
@@ -141,17 +141,17 @@ graphic_no_blank b e =
     rw (p, q, r, s, t) refl
 
 -- a word, a blank and the rest
-pub word_then : (x : List ℕ) (b : ℕ) (rest : List ℕ) → is_code x ≡ true → is_blank b ≡ true → words (x ++ b ∷ rest) ≡ x ∷ words rest
+pub word_then : (x : List ℕ) (b : ℕ) (rest : List ℕ) → is_code x ≡ true → is_white b ≡ true → text_words (x ++ b ∷ rest) ≡ x ∷ text_words rest
 word_then [] b rest e f = cc
 word_then (c ∷ []) b rest e f =
     let p = both (is_graphic c) true e in
-    let no : is_blank c ≡ false = graphic_no_blank c p.0 in
+    let no : is_white c ≡ false = graphic_no_blank c p.0 in
     rw (no, f) refl
 word_then (c ∷ d ∷ x) b rest e f =
     let p = both (is_graphic c) (list_all is_graphic (d ∷ x)) e in
     let q = both (is_graphic d) (list_all is_graphic x) p.1 in
-    let no : is_blank c ≡ false = graphic_no_blank c p.0 in
-    let goes : is_blank d ≡ false = graphic_no_blank d q.0 in
-    let later : words ((d ∷ x) ++ b ∷ rest) ≡ (d ∷ x) ∷ words rest = word_then (d ∷ x) b rest p.1 f in
-    ap (λ t. if t then words ((d ∷ x) ++ b ∷ rest) else begun c (not (is_blank d)) (words ((d ∷ x) ++ b ∷ rest))) no
-    ∙ ((λ i. begun c (not (goes i)) (later i)))
+    let no : is_white c ≡ false = graphic_no_blank c p.0 in
+    let goes : is_white d ≡ false = graphic_no_blank d q.0 in
+    let later : text_words ((d ∷ x) ++ b ∷ rest) ≡ (d ∷ x) ∷ text_words rest = word_then (d ∷ x) b rest p.1 f in
+    ap (λ t. if t then text_words ((d ∷ x) ++ b ∷ rest) else with_byte c (not (is_white d)) (text_words ((d ∷ x) ++ b ∷ rest))) no
+    ∙ ((λ i. with_byte c (not (goes i)) (later i)))

@@ -2,8 +2,8 @@
 use Rattle.std.specs.Prelude.{◌≡◌, ℕ, ◌⊎◌, List, [], ◌∷◌, ◌++◌, ◌≤◌, length, true}
 use Rattle.std.specs.List.{list_all}
 use Rattle.ae_vcd.specs.Waves.{IsFormedWave, WaveTree, size_limit, wave_size}
-use Rattle.ae_vcd.specs.TextWords.{words}
-use Rattle.ae_vcd.specs.Reads.{size_of}
+use Rattle.ae_vcd.specs.TextWords.{text_words}
+use Rattle.ae_vcd.specs.Reads.{size_of_wave}
 use Rattle.ae_vcd.specs.WaveText.{commented, is_no_dollar, wave_text}
 use Rattle.ae_vcd.specs.Forms.{AreDump}
 use Rattle.ae_vcd.specs.Readings.{IsBadWord, IsVcd}
@@ -27,7 +27,7 @@ WordsAreJudged = (ws : List (List ℕ)) → HaveOneBadWord ws
 
 -- a dump whose wave is within the limit has no bad word and no other wave, so a reading of it ends in this wave
 abbrev pub DumpsAreRead : Type 0
-DumpsAreRead = (text : List ℕ) (w : WaveTree) → IsVcd text w → size_of w ≤ size_limit → ((at : ℕ) → IsBadWord (words text) at → ⊥) × ((v : WaveTree) → IsVcd text v → (v ≡ w) × (size_of v ≤ size_limit))
+DumpsAreRead = (text : List ℕ) (w : WaveTree) → IsVcd text w → size_of_wave w ≤ size_limit → ((at : ℕ) → IsBadWord (text_words text) at → ⊥) × ((v : WaveTree) → IsVcd text v → (v ≡ w) × (size_of_wave v ≤ size_limit))
 
 -- a comment of whole lines without a `$` may stand before a dump
 abbrev pub CommentsArePassed : Type 0

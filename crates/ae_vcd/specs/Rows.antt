@@ -3,7 +3,7 @@ use Rattle.std.specs.Prelude.{◌≡◌, ℕ, ◌<◌, List, [], ◌∷◌, ◌+
 use Rattle.std.specs.List.{flat_map}
 use Rattle.ae_vcd.specs.Forms.{Piece, Time, Variable}
 use Rattle.ae_vcd.specs.Machine.{time_of}
-use Rattle.ae_vcd.specs.Readings.{last_given, times_from, up_to, words_at}
+use Rattle.ae_vcd.specs.Readings.{last_given, times_from, up_to, words_at_time}
 
 -- no piece is a time
 abbrev pub is_quiet : List Piece → Type 0
@@ -24,5 +24,5 @@ pub record HasRows (vs : List Variable) (ps : List Piece) (earlier : List ℕ) (
   pub times : times_from None ps ≡ earlier ++ last ∷ []
   pub time : time_of None ps ≡ Some last
   pub below : AllBelow last earlier
-  pub closed : flat_map (words_at vs ps) earlier ≡ rows
+  pub closed : flat_map (words_at_time vs ps) earlier ≡ rows
   pub whole : up_to last ps ≡ ps

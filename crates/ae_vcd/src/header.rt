@@ -1,7 +1,7 @@
 // The variables of a header.
 
 ghost use Rattle.std.specs.Prelude.{◌≡◌, ◌++◌, ◌∷◌, [], ◌<◌, ◌≤◌, length, true, IsTrue, IfOk, OnOk, MatchOption, Some, List, string_bytes};
-ghost use Rattle.ae_vcd.specs.Waves.{is_name};
+ghost use Rattle.ae_vcd.specs.Waves.{is_variable_name};
 ghost use Rattle.ae_vcd.specs.Codes.{place};
 ghost use Rattle.ae_vcd.specs.Forms.{Variable, agrees};
 ghost use Rattle.ae_vcd.specs.Held.{Declares, HasNumber, HasWidth, IsNew};
@@ -35,7 +35,7 @@ pub struct Slot {
 
 // The text of a name.
 fn text_of(alloc: Global, name: &[u8]) -> Result<String, AllocError>
-    requires { IsTrue (is_name name.now) }
+    requires { IsTrue (is_variable_name name.now) }
     ensures { IfOk result (λ text. string_bytes text ≡ name.now) }
 {
     let mut text = String::new(alloc);
@@ -106,7 +106,7 @@ impl Declared {
         width: u32,
         name: &[u8],
     ) -> Result<(), AllocError>
-        requires { IsTrue (is_name name.now) }
+        requires { IsTrue (is_variable_name name.now) }
         ensures { (vs : List Variable) → Declares self.old vs → agrees vs code.now width ≡ true → width ≤ 64 → OnOk result (Declares self.new (vs ++ record { width = width; code = code.now; name = name.now } ∷ [])) }
     {
         let number = self.number_of(alloc, code, width)?;

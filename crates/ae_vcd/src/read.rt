@@ -3,11 +3,11 @@
 ghost use Rattle.std.specs.Prelude.{◌≡◌, ℕ, ◌<◌, ◌≤◌, ◌^◌, List, length, Some, Err, IfOk};
 ghost use Rattle.ae_vcd.specs.declared.read.VcdFault.TheVariants.{BadWord, Large};
 ghost use Rattle.ae_vcd.specs.Waves.{IsFormedWave, WaveTree, most_variables, size_limit, wave_tree};
-ghost use Rattle.ae_vcd.specs.TextWords.{words};
+ghost use Rattle.ae_vcd.specs.TextWords.{text_words};
 ghost use Rattle.ae_vcd.specs.Readings.{IsBadWord, IsVcd};
 ghost use Rattle.ae_vcd.specs.Machine.{State, go_on, start};
 ghost use Rattle.ae_vcd.specs.Held.{Follows, IsReader};
-ghost use Rattle.ae_vcd.specs.Reads.{EndsIn, size_of};
+ghost use Rattle.ae_vcd.specs.Reads.{EndsIn, size_of_wave};
 
 use crate::body::Recorded;
 use crate::expected::Expected;
@@ -48,7 +48,7 @@ fn finish(reader: Reader, at: u32) -> Result<Wave, VcdFault>
     requires reader { IsReader reader }
     requires times { reader.recorded.count < 2 ^ 32 }
     requires variables { length reader.declared.numbers.items ≤ most_variables }
-    ensures { (text : List ℕ) (s : State) → go_on (Some start) (words text) ≡ Some s → Follows reader s → at ≡ length (words text) → EndsIn text result }
+    ensures { (text : List ℕ) (s : State) → go_on (Some start) (text_words text) ≡ Some s → Follows reader s → at ≡ length (text_words text) → EndsIn text result }
 {
     let Reader {
         expected,
@@ -74,8 +74,8 @@ fn finish(reader: Reader, at: u32) -> Result<Wave, VcdFault>
 pub fn read_vcd(alloc: Global, text: &[u8]) -> Result<Wave, VcdFault>
     requires { length text.now < 2 ^ 32 }
     ensures wave { IfOk result (λ w. IsVcd text.now (wave_tree w) × IsFormedWave (wave_tree w)) }
-    ensures bad { (at : ℕ) → result ≡ Err (BadWord at) → IsBadWord (words text.now) at }
-    ensures large { (size : ℕ) → result ≡ Err (Large size) → (w : WaveTree) × IsVcd text.now w × (size ≡ size_of w) × (size_limit < size) }
+    ensures bad { (at : ℕ) → result ≡ Err (BadWord at) → IsBadWord (text_words text.now) at }
+    ensures large { (size : ℕ) → result ≡ Err (Large size) → (w : WaveTree) × IsVcd text.now w × (size ≡ size_of_wave w) × (size_limit < size) }
 {
     let mut reader = Reader::new(alloc);
     let mut at = 0;

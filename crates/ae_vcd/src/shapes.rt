@@ -4,7 +4,7 @@ ghost use Rattle.std.specs.Prelude.{◌≡◌, ◌≤◌, ◌^◌, ◌&&◌, ◌
 ghost use Rattle.std.specs.List.{list_all};
 ghost use Rattle.std.specs.Str.{all_ascii_digits, bytes_eq};
 ghost use Rattle.std.specs.Str.Parse.{AllDigits, digits_value};
-ghost use Rattle.ae_vcd.specs.Waves.{is_code, is_graphic, is_name};
+ghost use Rattle.ae_vcd.specs.Waves.{is_code, is_graphic, is_variable_name};
 ghost use Rattle.ae_vcd.specs.Forms.{end_word, is_binary, is_binary_digit, is_number, is_other, is_silent, is_time, is_width};
 
 fn is_graphic(byte: u8) -> bool
@@ -36,7 +36,7 @@ pub fn is_code(word: &[u8]) -> bool
 
 /// Whether a word can be a name: a code that does not begin with `$`.
 pub fn is_name(word: &[u8]) -> bool
-    ensures { result ≡ is_name word.now }
+    ensures { result ≡ is_variable_name word.now }
 {
     let [first, rest @ ..] = word else {
         return false;

@@ -1,7 +1,7 @@
 // Waves.
 
 ghost use Rattle.std.specs.Prelude.{◌≡◌, ◌<◌, length};
-ghost use Rattle.ae_vcd.specs.Waves.{IsFormedWave, wave_tree, word_of};
+ghost use Rattle.ae_vcd.specs.Waves.{IsFormedWave, wave_tree, wave_word};
 
 /// A header declares at most this many variables.
 pub(crate) const MOST_VARIABLES: usize = 300_000;
@@ -24,7 +24,7 @@ impl Wave {
         requires formed { IsFormedWave (wave_tree self.now) }
         requires time { i < length self.now.times.items }
         requires variable { k < length self.now.names.items }
-        ensures { result ≡ word_of (wave_tree self.now) i k }
+        ensures { result ≡ wave_word (wave_tree self.now) i k }
     {
         self.words[i * self.names.len() + k]
     }

@@ -5,7 +5,7 @@ use Rattle.ae_vcd.specs.Waves.{WaveTree, bytes_of, size_limit, wave_tree}
 use Rattle.ae_vcd.specs.Held.{IsClosed}
 use Rattle.ae_vcd.specs.Forms.{variables}
 use Rattle.ae_vcd.specs.Readings.{IsVcd, wave_of}
-use Rattle.ae_vcd.specs.Reads.{size_of}
+use Rattle.ae_vcd.specs.Reads.{size_of_wave}
 use Rattle.ae_vcd.proofs.BodySteps.{time_numbers}
 use Rattle.ae_vcd.proofs.Endings.{end_early, end_size, end_vcd, end_wave}
 use Rattle.ae_vcd.proofs.read.finish.Goals as goal
@@ -31,4 +31,4 @@ returns-in-Ok c = λ text s e f is.
     let w : WaveTree = wave_tree c.wave_of.result in
     let q : w ≡ wave_of (variables s.commands) s.pieces = end_wave c.args.reader s c.close.new.self (wave_tree c.wave_of.result) f here closed small
     (ap (λ (v : Vec (String Global) Global). bytes_of v.items) c.wave_of.ensures.names) (ap (λ (v : Vec ℕ Global). v.items) c.wave_of.ensures.widths) (ap (λ (v : Vec ℕ Global). v.items) c.wave_of.ensures.times) (ap (λ (v : Vec ℕ Global). v.items) c.wave_of.ensures.words) in
-    (subst (λ (w : WaveTree). IsVcd text w) (sym q) (end_vcd c.args.reader text s e f here), subst (λ k. k ≤ size_limit) (end_size c.args.reader s f here ∙ ap size_of (sym q)) small)
+    (subst (λ (w : WaveTree). IsVcd text w) (sym q) (end_vcd c.args.reader text s e f here), subst (λ k. k ≤ size_limit) (end_size c.args.reader s f here ∙ ap size_of_wave (sym q)) small)

@@ -1,5 +1,5 @@
 use Rattle.std.proofs.Common.{◌≡◌, subst, arith}
-use Rattle.ae_vcd.specs.TextWords.{words}
+use Rattle.ae_vcd.specs.TextWords.{text_words}
 use Rattle.ae_vcd.specs.Machine.{step}
 use Rattle.ae_vcd.specs.Readings.{IsBadWord}
 use Rattle.ae_vcd.specs.Held.{Answers}
@@ -10,7 +10,7 @@ use Rattle.ae_vcd.proofs.read.read_vcd.Goals as goal
 pub returns-in-Ok-false-clause-bad : goal.returns-in-Ok-false-clause-bad
 returns-in-Ok-false-clause-bad c = λ at e.
     let q : c.loop-word.at ≡ at = cc in
-    subst (λ k. IsBadWord (words c.args.text.now) k) q
+    subst (λ k. IsBadWord (text_words c.args.text.now) k) q
     (reach_bad c.args.text.now c.loop-word.at c.loop-word.rest.now c.in-Some.word.now c.in-Some.after.now c.loop-word.reader c.step.new.self c.loop-word.invariant.reached c.in-Some.ensures.cases
     (λ s f. subst (λ b. Answers b c.step.new.self (step s c.in-Some.word.now)) c.in-Ok-false.field-0-test (c.in-Ok-false.ensures.answer s f)))
 
@@ -25,7 +25,7 @@ loop-word-preserved c = record {
 pub finish-requires-clause-variables : goal.finish-requires-clause-variables
 finish-requires-clause-variables c =
     let h = reach_end c.args.text.now c.loop-word.at c.loop-word.rest.now c.loop-word.reader c.loop-word.invariant.reached c.in_default.ensures.cases in
-    few_numbers (words c.args.text.now) c.loop-word.reader h.state h.read h.follows
+    few_numbers (text_words c.args.text.now) c.loop-word.reader h.state h.read h.follows
 
 pub returns-clause-wave : goal.returns-clause-wave
 returns-clause-wave c =
