@@ -1,22 +1,30 @@
 // Registers and memories that take what a gate makes.
 
-ghost use Rattle.std.specs.Prelude.{◌≡◌, ℕ, ◌<◌, ◌≤◌, ◌+◌, ◌++◌, ◌∷◌, ◌≢◌, [], OnOk, IfOk, Some, length, slice_get, slice_set};
+ghost use Rattle.std.specs.Prelude.{◌≡◌, ℕ, ◌<◌, ◌≤◌, ◌+◌, ◌++◌, ◌∷◌, ◌≢◌, [], OnOk, IfOk, List, Some, length, slice_get, slice_set};
+ghost use Rattle.ae_netlist.specs.declared.cell.SizedCell.{SizedCell};
 ghost use Rattle.ae_netlist.specs.Circuit.{IsAllowed};
-ghost use Rattle.ae_stall.specs.Copies.{IsPartlyHeld};
-ghost use Rattle.ae_stall.specs.Images.{memory_gate, moved, moved_net, net, register_gate};
+ghost use Rattle.ae_stall.specs.Copies.{IsPartlyHeld, MayBeHeld, reset_cell};
+ghost use Rattle.ae_stall.specs.Held.{IsHeld};
+ghost use Rattle.ae_stall.specs.Images.{memory_gate, net, placed, placed_net, register_gate};
 
 use crate::copy::push;
-use crate::look::{cell_at, moved};
+use crate::look::{cell_at, placed};
 use ae_netlist::{Cell, NetId, Netlist, SizedCell};
 use ae_word::WordOp;
 use std::alloc::AllocError;
 
-/// The enable's net.
-const ENABLE: NetId = NetId(1);
+/// How the copy of a netlist is held: so many more inputs stand behind its first cell, and where this net is 0 it stands
+/// still.
+#[derive(Clone, Copy)]
+pub struct HoldBy {
+    pub more: u32,
+    pub by: NetId,
+}
 
 /// Holds register `n`.
 fn hold_register(
     nl: &Netlist,
+    how: HoldBy,
     n: u32,
     width: u32,
     next: NetId,
@@ -24,16 +32,17 @@ fn hold_register(
 ) -> Result<(), AllocError>
     requires found { slice_get nl.now.cells n ≡ Some (record { width = width; cell = Cell.Reg next }) }
     requires most { length nl.now.cells ≤ 1000000 }
-    requires held { IsPartlyHeld nl.now.cells new.old.cells n }
-    ensures held { OnOk result (IsPartlyHeld nl.now.cells new.new.cells (n + 1)) }
+    requires few { how.more ≤ 1000000 }
+    requires held { (copied : List SizedCell) × IsPartlyHeld how.more how.by.0 nl.now.cells copied new.old.cells n }
+    ensures held { OnOk result ((copied : List SizedCell) → IsPartlyHeld how.more how.by.0 nl.now.cells copied new.old.cells n → IsPartlyHeld how.more how.by.0 nl.now.cells copied new.new.cells (n + 1)) }
     ensures outlets { OnOk result (new.new.outlets ≡ new.old.outlets) }
 {
     nl.formed();
     new.formed();
-    let own = moved(NetId(n));
-    let next = moved(next);
+    let own = placed(how.more, NetId(n));
+    let next = placed(how.more, next);
     let gate = NetId(new.len());
-    push(new, width, Cell::Op(WordOp::Mux, [ENABLE, next, own]))?;
+    push(new, width, Cell::Op(WordOp::Mux, [how.by, next, own]))?;
     new.connect(own, gate);
     Ok(())
 }
@@ -41,6 +50,7 @@ fn hold_register(
 /// Holds memory `n`, which is connected.
 fn hold_memory(
     nl: &Netlist,
+    how: HoldBy,
     n: u32,
     at: NetId,
     next: NetId,
@@ -50,33 +60,35 @@ fn hold_memory(
     requires found { (width depth : ℕ) × (slice_get nl.now.cells n ≡ Some (record { width = width; cell = Cell.Mem depth at next enable })) }
     requires connected { enable.0 ≢ n }
     requires most { length nl.now.cells ≤ 1000000 }
-    requires held { IsPartlyHeld nl.now.cells new.old.cells n }
-    ensures held { OnOk result (IsPartlyHeld nl.now.cells new.new.cells (n + 1)) }
+    requires few { how.more ≤ 1000000 }
+    requires held { (copied : List SizedCell) × IsPartlyHeld how.more how.by.0 nl.now.cells copied new.old.cells n }
+    ensures held { OnOk result ((copied : List SizedCell) → IsPartlyHeld how.more how.by.0 nl.now.cells copied new.old.cells n → IsPartlyHeld how.more how.by.0 nl.now.cells copied new.new.cells (n + 1)) }
     ensures outlets { OnOk result (new.new.outlets ≡ new.old.outlets) }
 {
     nl.formed();
     new.formed();
-    let own = moved(NetId(n));
-    let at = moved(at);
-    let next = moved(next);
-    let enable = moved(enable);
+    let own = placed(how.more, NetId(n));
+    let at = placed(how.more, at);
+    let next = placed(how.more, next);
+    let enable = placed(how.more, enable);
     let gate = NetId(new.len());
-    push(new, 1, Cell::Op(WordOp::And, [ENABLE, enable, ENABLE]))?;
+    push(new, 1, Cell::Op(WordOp::And, [how.by, enable, how.by]))?;
     new.connect_memory(own, at, next, gate);
     Ok(())
 }
 
 /// Holds cell `n`, if it is a register or a memory that is connected.
-pub fn hold_cell(nl: &Netlist, n: u32, new: &mut Netlist) -> Result<(), AllocError>
+fn hold_cell(nl: &Netlist, how: HoldBy, n: u32, new: &mut Netlist) -> Result<(), AllocError>
     requires below { n < length nl.now.cells }
     requires most { length nl.now.cells ≤ 1000000 }
-    requires held { IsPartlyHeld nl.now.cells new.old.cells n }
-    ensures held { OnOk result (IsPartlyHeld nl.now.cells new.new.cells (n + 1)) }
+    requires few { how.more ≤ 1000000 }
+    requires held { (copied : List SizedCell) × IsPartlyHeld how.more how.by.0 nl.now.cells copied new.old.cells n }
+    ensures held { OnOk result ((copied : List SizedCell) → IsPartlyHeld how.more how.by.0 nl.now.cells copied new.old.cells n → IsPartlyHeld how.more how.by.0 nl.now.cells copied new.new.cells (n + 1)) }
     ensures outlets { OnOk result (new.new.outlets ≡ new.old.outlets) }
 {
     let sized = cell_at(nl, NetId(n));
     match sized.cell {
-        Cell::Reg { next } => hold_register(nl, n, sized.width, next, new),
+        Cell::Reg { next } => hold_register(nl, how, n, sized.width, next, new),
         Cell::Mem {
             depth: _,
             at,
@@ -86,8 +98,37 @@ pub fn hold_cell(nl: &Netlist, n: u32, new: &mut Netlist) -> Result<(), AllocErr
             if enable.0 == n {
                 return Ok(());
             }
-            hold_memory(nl, n, at, next, enable, new)
+            hold_memory(nl, how, n, at, next, enable, new)
         }
         _ => Ok(()),
     }
+}
+
+/// Holds all registers and memories of the copy.
+pub fn hold_all(nl: &Netlist, how: HoldBy, new: &mut Netlist) -> Result<(), AllocError>
+    requires reset { slice_get nl.now.cells 0 ≡ Some reset_cell }
+    requires most { length nl.now.cells ≤ 1000000 }
+    requires few { how.more ≤ 1000000 }
+    requires may { MayBeHeld how.more how.by.0 nl.now.cells new.old.cells }
+    ensures held { OnOk result (IsPartlyHeld how.more how.by.0 nl.now.cells new.old.cells new.new.cells (length nl.now.cells)) }
+    ensures outlets { OnOk result (new.new.outlets ≡ new.old.outlets) }
+{
+    for n in 1..nl.len() {
+        hold_cell(nl, how, n, new)?;
+    }
+    Ok(())
+}
+
+/// Holds the copy of a netlist: its registers and memories stay as they are in clocks in which the net is 0, and all other
+/// cells stay as they are. The error comes only for want of memory, or of room for a gate a register and a memory.
+pub fn hold_copy(nl: &Netlist, how: HoldBy, new: &mut Netlist) -> Result<(), AllocError>
+    requires reset { slice_get nl.now.cells 0 ≡ Some reset_cell }
+    requires most { length nl.now.cells ≤ 1000000 }
+    requires few { how.more ≤ 1000000 }
+    requires may { MayBeHeld how.more how.by.0 nl.now.cells new.old.cells }
+    ensures { OnOk result (IsHeld how.more how.by.0 nl.now new.old new.new) }
+{
+    nl.formed();
+    hold_all(nl, how, new)?;
+    Ok(())
 }

@@ -1,4 +1,4 @@
-//! Netlists that stand still where an enable is 0.
+//! Netlists that stand still where a net is 0.
 #![tactic(auto)]
 
 mod copy;
@@ -6,4 +6,6 @@ mod hold;
 mod look;
 mod stalling;
 
+pub use copy::copy_with;
+pub use hold::{HoldBy, hold_copy};
 pub use stalling::stall;

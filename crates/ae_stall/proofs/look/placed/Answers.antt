@@ -1,0 +1,1 @@
+-- Every net but the first stands so many places further on.
