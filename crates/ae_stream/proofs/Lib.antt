@@ -1,0 +1,16 @@
+pub mod Counting
+pub mod Filters
+pub mod Queue
+pub mod Numbers
+pub mod Parts
+pub mod Taking
+pub mod Streaming
+pub mod Gates
+pub mod Extending
+pub mod SoFar
+pub mod Staying
+pub mod Flags
+pub mod Passes
+pub mod Driving
+pub mod Cutting
+pub mod Insides

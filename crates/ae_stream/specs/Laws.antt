@@ -1,0 +1,51 @@
+-- Where a clock stands among the transfers, what passes through a circuit between channels, and what stays there.
+use Rattle.std.specs.Prelude.{◌≡◌, ℕ, ◌+◌, ◌*◌, ◌<◌, Bool, true, List, length, filter, get_or}
+use Rattle.ae_seq.specs.ProgramTree.{ProgramTree}
+use Rattle.ae_sttype.specs.StTree.{StTree}
+use Rattle.ae_netlist.specs.Circuit.{Circuit}
+use Rattle.ae_netlist.specs.Runs.{Clock, HasOneRun, IsReset, IsRun, no_clock}
+use Rattle.ae_rewrite.specs.Blocks.{MakesBlocks}
+use Rattle.ae_stall.specs.Held.{inner_clock}
+use Rattle.ae_stream.specs.Passing.{ByNumber, carries, passing}
+use Rattle.ae_stream.specs.Streams.{Ends, Stays, Streams}
+use Rattle.ae_stream.specs.Control.{AreWithin, Control, IsAround, IsInside}
+use Rattle.ae_stream.specs.Driven.{IsDriven, Row}
+use Rattle.ae_stream.specs.Fed.{CanBeFed}
+use Rattle.ae_stream.specs.Gates.{Gates}
+use Rattle.ae_stream.specs.Inside.{IsHeldInside}
+
+abbrev pub BlocksAreTaken : Type 0
+BlocksAreTaken =
+    (xs : List Clock) (pass : Clock → Bool) (live real : ℕ → Bool) (slowdown b c : ℕ)
+    → ByNumber pass (carries live real slowdown) xs no_clock
+    → c < slowdown → b * slowdown + c < length xs → real b ≡ true → live c ≡ true
+    → (passing real b * passing live slowdown + passing live c < length (filter pass xs))
+    × (get_or (filter pass xs) (passing real b * passing live slowdown + passing live c) no_clock
+    ≡ get_or xs (b * slowdown + c) no_clock)
+
+abbrev pub ControlledCircuitsStream : Type 0
+ControlledCircuitsStream =
+    (x : Control) (ends : Ends) (n : Circuit) (inner : Clock → Clock) (run : List Clock) (start slowdown latency : ℕ)
+    → (p : ProgramTree) (inputs outputs : List StTree) → IsAround x ends n inner run start slowdown latency p inputs outputs
+    → Streams ends run start p slowdown inputs outputs
+
+abbrev pub HeldCircuitsAreInside : Type 0
+HeldCircuitsAreInside =
+    (x : Control) (ends : Ends) (n marked copied new : Circuit) → IsHeldInside x ends n marked copied new
+    → (run : List Clock) → IsRun new.cells run → IsInside x ends n (inner_clock 2 (length n.cells)) run
+
+abbrev pub DrivenCircuitsStream : Type 0
+DrivenCircuitsStream =
+    (x : Control) (g : Gates) (row : Row) (ends : Ends) (n : Circuit) (inner : Clock → Clock) (run : List Clock)
+    → (start slowdown q r : ℕ) (p : ProgramTree) (inputs outputs : List StTree) → 0 < slowdown → r < slowdown
+    → AreWithin inputs slowdown ends.in_columns → AreWithin outputs slowdown ends.columns
+    → HasOneRun n.cells → CanBeFed n.cells p inputs → MakesBlocks n p slowdown (q * slowdown + r) inputs outputs
+    → IsReset run 0 start → IsInside x ends n inner run
+    → IsDriven x g row ends run start slowdown q r inputs outputs
+    → Streams ends run start p slowdown inputs outputs
+
+abbrev pub DrivenCircuitsKeepWords : Type 0
+DrivenCircuitsKeepWords =
+    (x : Control) (g : Gates) (row : Row) (ends : Ends) (run : List Clock) (start slowdown q r : ℕ) (inputs outputs : List StTree)
+    → IsDriven x g row ends run start slowdown q r inputs outputs → ends.sink.valid ≡ x.one
+    → Stays ends ends.columns run start

@@ -1,0 +1,9 @@
+pub mod Passing
+pub mod Queue
+pub mod Streams
+pub mod Control
+pub mod Inside
+pub mod Gates
+pub mod Driven
+pub mod Fed
+pub mod Laws

@@ -1,0 +1,9 @@
+//! Circuits between two channels whose ends say in each clock whether they take part, by valid and ready.
+#![tactic(auto)]
+
+mod laws;
+
+pub use laws::{
+    blocks_are_taken, controlled_circuits_stream, driven_circuits_keep_words,
+    driven_circuits_stream, held_circuits_are_inside,
+};
