@@ -36,13 +36,13 @@ pub record KeptSoFar (count : ℕ) (cells : List SizedCell) (rst period d arriva
 pub keeps_grows : {a b : List SizedCell} {rst period d arrival : ℕ} {held : Option ℕ} {x y : ℕ} → Extends a b → Keeps a rst period d arrival held x y → Keeps b rst period d arrival held x y
 keeps_grows g k = record { width = k.width; from = net_later g k.from; net = net_later g k.net; words = λ c e more f. k.words c e more (extends_trans g f) }
 
-net_before : (nets : List NetId) (y : NetId) (q : ℕ) → q < length nets → net_of (nets ++ y ∷ []) q ≡ net_of nets q
+pub net_before : (nets : List NetId) (y : NetId) (q : ℕ) → q < length nets → net_of (nets ++ y ∷ []) q ≡ net_of nets q
 net_before nets y q l =
     let none : NetId = record { 0 = 0 } in
     let at : slice_get (nets ++ y ∷ []) q ≡ Some (get_or nets q none) = get_left nets (y ∷ []) q (get_or nets q none) (slice_get-get_or nets q none l) in
     ap (λ (n : NetId). n.0) (get_or_from_slice_get (nets ++ y ∷ []) q (get_or nets q none) none at)
 
-net_last : (nets : List NetId) (y : NetId) → net_of (nets ++ y ∷ []) (length nets) ≡ y.0
+pub net_last : (nets : List NetId) (y : NetId) → net_of (nets ++ y ∷ []) (length nets) ≡ y.0
 net_last nets y = ap (λ (n : NetId). n.0) (get_or_from_slice_get (nets ++ y ∷ []) (length nets) y (record { 0 = 0 }) (get_pushed nets y))
 
 pub kept_begin : (cells : List SizedCell) (rst period d arrival : ℕ) (ins : List NetId) (held : List (Option ℕ)) (all : List NetId) → all ≡ ins → KeptSoFar 0 cells rst period d arrival ins held all

@@ -17,3 +17,7 @@ pub mod HeldLaw
 pub mod Keeping
 pub mod Taking
 pub mod Settled
+pub mod Rereads
+pub mod Asked
+pub mod Showing
+pub mod Ringing

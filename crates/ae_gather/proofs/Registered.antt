@@ -103,7 +103,7 @@ same_offset : (a p : ℕ) → (a % p + (p - 1)) % p ≡ (a + (p - 1)) % p
 same_offset a p = add-mod (a % p) (p - 1) p ∙ ap (λ n. (n + (p - 1) % p) % p) (mod-mod a p) ∙ sym (add-mod a (p - 1) p)
 
 -- the phase of the clock before that of a trip, by the counter that is a clock ahead
-sooner_phase : (p a b k c : ℕ) → k < p → a + b * p + k ≡ c + 1 → phase_of p ((a % p + (p - 1)) % p) c ≡ k
+pub sooner_phase : (p a b k c : ℕ) → k < p → a + b * p + k ≡ c + 1 → phase_of p ((a % p + (p - 1)) % p) c ≡ k
 sooner_phase p a b k c small e =
     let o : ℕ = (a % p + (p - 1)) % p in
     let less : o < p = omega arith in

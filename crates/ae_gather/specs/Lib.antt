@@ -2,6 +2,9 @@ pub mod Plans
 pub mod Columns
 pub mod Early
 pub mod Held
+pub mod Reads
+pub mod Readers
+pub mod Readings
 pub mod Laws
 pub mod Gathers
 pub mod Joins

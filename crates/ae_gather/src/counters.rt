@@ -20,7 +20,7 @@ pub fn offset(arrival: u32, d: u32, period: u32) -> u32
 }
 
 /// A counter of phases, made once for each offset.
-fn counting(
+pub fn counting(
     nl: &mut Netlist,
     clocks: &mut Clocks,
     period: u32,

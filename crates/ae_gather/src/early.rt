@@ -56,7 +56,7 @@ fn is_chosen_early(steps: &[Step]) -> bool
     all_come_late(steps)
 }
 
-fn none_early(alloc: Global, count: u32) -> Result<Vec<bool>, AllocError>
+pub fn none_early(alloc: Global, count: u32) -> Result<Vec<bool>, AllocError>
     ensures long { IfOk result (λ v. length v.items ≡ count) }
     ensures none { IfOk result (λ v. (q : ℕ) → is_early v.items q ≡ false) }
 {

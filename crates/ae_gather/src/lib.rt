@@ -2,6 +2,7 @@
 #![tactic(auto)]
 
 mod column;
+mod cost;
 mod counters;
 mod early;
 mod held;
@@ -9,7 +10,11 @@ mod holding;
 mod joining;
 mod layouts;
 mod moving;
+mod places;
 mod plan;
+mod reading;
+mod reads;
+mod rings;
 mod stage;
 mod trips;
 

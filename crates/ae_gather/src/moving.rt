@@ -23,6 +23,7 @@ use crate::early::{Schedule, scheduled};
 use crate::held::{all_nets, all_settled};
 use crate::joining::keep_net;
 use crate::plan::{Ages, Steps};
+use crate::reading::build_best;
 use crate::trips::Counters;
 use ae_clocked::{Clocks, Tapped, ring_line};
 use ae_moves::{Trip, held_columns};
@@ -70,7 +71,7 @@ fn all_lines(
 }
 
 /// A chain of choices for each output column.
-fn all_columns(
+pub fn all_columns(
     alloc: Global,
     nl: &mut Netlist,
     clocks: &Clocks,
@@ -108,7 +109,7 @@ fn all_columns(
 }
 
 /// The least number that no trip's clock reaches.
-fn limit_of(trips: &[Trip], period: u32) -> u32
+pub fn limit_of(trips: &[Trip], period: u32) -> u32
     requires within { (n : ℕ) (trip : Way) → slice_get trips.now n ≡ Some trip → trip.clock < period }
     ensures below { (n : ℕ) (trip : Way) → slice_get trips.now n ≡ Some trip → trip.clock < result }
     ensures limited { result ≤ period }
@@ -121,7 +122,7 @@ fn limit_of(trips: &[Trip], period: u32) -> u32
 }
 
 /// What a plan says, built: output nets that make every trip, some clocks later, in each block of a period.
-fn build_plan(
+pub fn build_plan(
     alloc: Global,
     nl: &mut Netlist,
     clocks: &mut Clocks,
@@ -239,8 +240,8 @@ pub fn gather(
         Ok(schedule) => schedule,
         Err(_) => return Err(NetFault::Memory),
     };
-    let out = build_plan(
-        alloc, nl, clocks, &all, widths, &settled, &schedule, period, d, arrival,
+    let out = build_best(
+        alloc, nl, clocks, &all, widths, &settled, &schedule, period, d, arrival, alone,
     )?;
     Ok(out)
 }

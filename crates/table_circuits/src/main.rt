@@ -8,6 +8,7 @@ mod nets;
 mod numbers;
 mod plays;
 mod programs;
+mod sizes;
 mod stepping;
 
 use std::alloc::{AllocError, Global};

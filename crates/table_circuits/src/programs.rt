@@ -4,6 +4,7 @@ ghost use Rattle.std.specs.Prelude.{◌<◌, ◌≤◌};
 
 use crate::netlists::parts;
 use crate::numbers::number;
+use crate::sizes;
 use crate::stepping::step_all;
 use ae_delay::arrivals;
 use ae_flow::schedules_fit;
@@ -57,6 +58,7 @@ fn tell_circuit(
     out: &mut String,
     typed: &Typed,
     slowdown: u32,
+    head: &str,
     rows: &str,
 ) -> Result<(), AllocError>
     requires some { 0 < slowdown }
@@ -70,6 +72,9 @@ fn tell_circuit(
         "latency {latency}, marks {:?}",
         lowered.marks.as_slice()
     )?;
+    if let (Some(registers), Some(comparisons)) = (number(head, 2), number(head, 3)) {
+        sizes::tell(out, &lowered.netlist, registers, comparisons)?;
+    }
     step_all(alloc, out, &lowered.netlist, rows)
 }
 
@@ -148,7 +153,8 @@ pub fn tell_by_moves(
     tell_moved(alloc, out, &typed, slowdown, rows)
 }
 
-/// A program, its circuit under the slowdown in the first line, and the circuit's run.
+/// A program, its circuit under the slowdown in the first line, how that keeps to the numbers of registers and comparisons
+/// behind it, and the circuit's run.
 pub fn tell(alloc: Global, out: &mut String, head: &str, body: &str) -> Result<(), AllocError> {
     let (text, rows) = parts(body);
     out.push_str(text)?;
@@ -159,5 +165,5 @@ pub fn tell(alloc: Global, out: &mut String, head: &str, body: &str) -> Result<(
     if slowdown == 0 || slowdown > 4096 {
         return Ok(());
     }
-    tell_circuit(alloc, out, &typed, slowdown, rows)
+    tell_circuit(alloc, out, &typed, slowdown, head, rows)
 }

@@ -46,20 +46,25 @@ scheduled-requires-clause-few c =
     let count : length c.in-Ok-all_settled.settled.items ≡ length c.args.trips.now = ap length moves ∙ length-map c.args.trips.now (settled c.args.d c.in-Ok.held.items) in
     rw c.deref-3.ensures.value (omega (arith, count, c.requires.few))
 
-pub build_plan-requires-clause-few : goal.build_plan-requires-clause-few
-build_plan-requires-clause-few c =
+pub build_best-requires-clause-few : goal.build_best-requires-clause-few
+build_best-requires-clause-few c =
     let moves : c.in-Ok-all_settled.settled.items ≡ map (settled c.args.d c.in-Ok.held.items) c.args.trips.now = rw c.deref-2.ensures.value at c.in-Ok-all_settled.ensures in
     let count : length c.in-Ok-all_settled.settled.items ≡ length c.args.trips.now = ap length moves ∙ length-map c.args.trips.now (settled c.args.d c.in-Ok.held.items) in
     rw c.deref-5.ensures.value (omega (arith, count, c.requires.few))
 
-pub build_plan-requires-clause-nets : goal.build_plan-requires-clause-nets
-build_plan-requires-clause-nets c =
+pub build_best-requires-clause-order : goal.build_best-requires-clause-order
+build_best-requires-clause-order c =
+    let moves : c.in-Ok-all_settled.settled.items ≡ map (settled c.args.d c.in-Ok.held.items) c.args.trips.now = rw c.deref-2.ensures.value at c.in-Ok-all_settled.ensures in
+    rw c.deref-5.ensures.value (order_settled c.args.d c.in-Ok.held.items c.args.trips.now c.in-Ok-all_settled.settled.items moves c.requires.order)
+
+pub build_best-requires-clause-nets : goal.build_best-requires-clause-nets
+build_best-requires-clause-nets c =
     let long : length c.in-Ok.held.items ≡ length c.args.ins.now = c.in-Ok.ensures.long in
     let kept : AreKept c.all_nets.new.nl.cells c.args.clocks.now.rst c.args.period c.args.d c.args.arrival c.args.ins.now c.in-Ok.held.items c.in_ok-all.all.items = rw c.deref.ensures.value at c.in_ok-all.ensures.kept in
     rw c.deref-4.ensures.value (kept_nets _ _ c.args.period c.args.d c.args.arrival c.args.ins.now c.in-Ok.held.items c.in_ok-all.all.items long kept)
 
-pub build_plan-requires-clause-within : goal.build_plan-requires-clause-within
-build_plan-requires-clause-within c =
+pub build_best-requires-clause-within : goal.build_best-requires-clause-within
+build_best-requires-clause-within c =
     let long : length c.in-Ok.held.items ≡ length c.args.ins.now = c.in-Ok.ensures.long in
     let within : AreWithin c.args.period c.args.d (length c.in-Ok.held.items) (length c.args.widths.now) c.args.trips.now = rw long c.requires.within in
     let moves : c.in-Ok-all_settled.settled.items ≡ map (settled c.args.d c.in-Ok.held.items) c.args.trips.now = rw c.deref-2.ensures.value at c.in-Ok-all_settled.ensures in
@@ -67,13 +72,13 @@ build_plan-requires-clause-within c =
     let count : length c.in_ok-all.all.items ≡ length c.in-Ok.held.items + length c.in-Ok.held.items = omega (arith, kept.long, long) in
     rw (c.deref-4.ensures.value, c.deref-5.ensures.value, count) (within_settled c.args.period c.args.d (length c.args.widths.now) c.in-Ok.held.items c.args.trips.now c.in-Ok-all_settled.settled.items moves within)
 
-pub build_plan-requires-clause-used : goal.build_plan-requires-clause-used
-build_plan-requires-clause-used c =
+pub build_best-requires-clause-used : goal.build_best-requires-clause-used
+build_best-requires-clause-used c =
     let moves : c.in-Ok-all_settled.settled.items ≡ map (settled c.args.d c.in-Ok.held.items) c.args.trips.now = rw c.deref-2.ensures.value at c.in-Ok-all_settled.ensures in
     rw c.deref-5.ensures.value (used_settled c.args.d (length c.args.widths.now) c.in-Ok.held.items c.args.trips.now c.in-Ok-all_settled.settled.items moves c.requires.used)
 
-pub build_plan-requires-clause-fitting : goal.build_plan-requires-clause-fitting
-build_plan-requires-clause-fitting c =
+pub build_best-requires-clause-fitting : goal.build_best-requires-clause-fitting
+build_best-requires-clause-fitting c =
     let long : length c.in-Ok.held.items ≡ length c.args.ins.now = c.in-Ok.ensures.long in
     let within : AreWithin c.args.period c.args.d (length c.in-Ok.held.items) (length c.args.widths.now) c.args.trips.now = rw long c.requires.within in
     let moves : c.in-Ok-all_settled.settled.items ≡ map (settled c.args.d c.in-Ok.held.items) c.args.trips.now = rw c.deref-2.ensures.value at c.in-Ok-all_settled.ensures in
@@ -81,20 +86,20 @@ build_plan-requires-clause-fitting c =
     let grown = fitting_grows _ _ c.args.ins.now c.args.widths.now c.args.trips.now c.in_ok-all.ensures.adds.grows.extends c.requires.fitting in
     rw (c.deref-4.ensures.value, c.deref-5.ensures.value) (fitting_settled _ _ c.args.period c.args.d c.args.arrival (length c.args.widths.now) c.args.ins.now c.in_ok-all.all.items c.args.widths.now c.in-Ok.held.items c.args.trips.now c.in-Ok-all_settled.settled.items moves long kept within grown)
 
-pub build_plan-requires-clause-time : goal.build_plan-requires-clause-time
-build_plan-requires-clause-time c = rw (c.deref-5.ensures.value, ← c.deref-3.ensures.value) c.in-Ok-scheduled.ensures.time
+pub build_best-requires-clause-time : goal.build_best-requires-clause-time
+build_best-requires-clause-time c = rw (c.deref-5.ensures.value, ← c.deref-3.ensures.value) c.in-Ok-scheduled.ensures.time
 
-pub build_plan-requires-clause-moved : goal.build_plan-requires-clause-moved
-build_plan-requires-clause-moved c = rw (c.deref-5.ensures.value, ← c.deref-3.ensures.value) c.in-Ok-scheduled.ensures.moved
+pub build_best-requires-clause-moved : goal.build_best-requires-clause-moved
+build_best-requires-clause-moved c = rw (c.deref-5.ensures.value, ← c.deref-3.ensures.value) c.in-Ok-scheduled.ensures.moved
 
-pub build_plan-requires-clause-lines : goal.build_plan-requires-clause-lines
-build_plan-requires-clause-lines c =
+pub build_best-requires-clause-lines : goal.build_best-requires-clause-lines
+build_best-requires-clause-lines c =
     let long : length c.in-Ok.held.items ≡ length c.args.ins.now = c.in-Ok.ensures.long in
     let kept : AreKept c.all_nets.new.nl.cells c.args.clocks.now.rst c.args.period c.args.d c.args.arrival c.args.ins.now c.in-Ok.held.items c.in_ok-all.all.items = rw c.deref.ensures.value at c.in_ok-all.ensures.kept in
     rw c.deref-4.ensures.value (omega (arith, kept.long, long, c.in-Ok-scheduled.ensures.lines))
 
-pub build_plan-requires-clause-taps : goal.build_plan-requires-clause-taps
-build_plan-requires-clause-taps c = rw (c.deref-5.ensures.value, ← c.deref-3.ensures.value) c.in-Ok-scheduled.ensures.few
+pub build_best-requires-clause-taps : goal.build_best-requires-clause-taps
+build_best-requires-clause-taps c = rw (c.deref-5.ensures.value, ← c.deref-3.ensures.value) c.in-Ok-scheduled.ensures.few
 
 pub returns-in_err-all-clause-cells : goal.returns-in_err-all-clause-cells
 returns-in_err-all-clause-cells c =

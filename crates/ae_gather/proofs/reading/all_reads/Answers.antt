@@ -1,0 +1,20 @@
+-- One read more.
+use Rattle.std.proofs.Common.{ℕ, ◌≡◌, ◌+◌, ◌*◌, length, arith}
+use Rattle.ae_clocked.proofs.Adding.{adds_most, adds_trans}
+use Rattle.ae_gather.proofs.Ringing.{reads_more, reads_whole, rings_grow}
+use Rattle.ae_gather.proofs.reading.all_reads.Goals as goal
+
+pub read_net-requires-clause-rings : goal.read_net-requires-clause-rings
+read_net-requires-clause-rings c = (c.requires.rings.0, rings_grow c.loop-q.invariant.adds.grows.extends c.requires.rings.1)
+
+pub loop-q-preserved : goal.loop-q-preserved
+loop-q-preserved c =
+    let was = c.loop-q.invariant in
+    let new = c.in_ok-net.ensures in
+    record {
+      adds = adds_most _ (omega arith) (adds_trans was.adds new.adds);
+      reads = λ rst rings. rw c.in_ok-keep_net.ensures.ok (reads_more c.loop-q.q _ _ _ _ _ _ _ _ new.adds.grows.extends (was.reads rst rings) (new.reads rst (rings_grow was.adds.grows.extends rings)));
+    }
+
+pub returns-clause-reads : goal.returns-clause-reads
+returns-clause-reads c = λ rst rings. reads_whole c.loop-q.q _ _ _ _ _ _ _ (omega (arith, c.loop-q-test.false)) (c.loop-q.invariant.reads rst rings)

@@ -1,0 +1,43 @@
+-- One ring more.
+use Rattle.std.proofs.Common.{ℕ, ◌≡◌, ◌+◌, Bool, false, cond, length, slice_get, Some, refl, arith}
+use Rattle.std.proofs.lemmas.Option.{get_or_from_slice_get, slice_get_read}
+use Rattle.ae_netlist.proofs.Growing.{net_later}
+use Rattle.ae_clocked.proofs.Added.{own_net}
+use Rattle.ae_clocked.proofs.Making.{memories_most, memories_trans}
+use Rattle.ae_moves.proofs.Lists.{sum_next, sum_part}
+use Rattle.ae_ops.proofs.Lateness.{keeps_trans}
+use Rattle.ae_gather.proofs.Ringing.{rings_more}
+use Rattle.ae_gather.proofs.reading.all_rings.Goals as goal
+
+pub ring_of-requires-clause-net : goal.ring_of-requires-clause-net
+ring_of-requires-clause-net c = own_net (net_later c.loop-q.invariant.adds.grows.extends (c.requires.nets c.loop-q.q c.loop-q-test.true).1)
+
+pub returns-in_err-ring-clause-adds : goal.returns-in_err-ring-clause-adds
+returns-in_err-ring-clause-adds c =
+    let has : Bool = c.index.result.now in
+    let there : slice_get c.args.reads.now.rings.items c.loop-q.q ≡ Some has = slice_get_read c.args.reads.now.rings.items (length c.args.reads.now.rings.items) c.loop-q.q has refl (omega (arith, c.loop-q-test.true, c.requires.long)) c.index.ensures in
+    let more = sum_next (λ (x : Bool). cond x 1 0) c.args.reads.now.rings.items c.loop-q.q has there in
+    let part = sum_part (λ (x : Bool). cond x 1 0) c.args.reads.now.rings.items (c.loop-q.q + 1) in
+    memories_most _ _ (omega (arith, more, part)) (omega (arith, more, part)) (memories_trans c.loop-q.invariant.adds c.in_err-ring.ensures.adds)
+
+pub returns-in_err-keep_ring-clause-adds : goal.returns-in_err-keep_ring-clause-adds
+returns-in_err-keep_ring-clause-adds c =
+    let has : Bool = c.index.result.now in
+    let there : slice_get c.args.reads.now.rings.items c.loop-q.q ≡ Some has = slice_get_read c.args.reads.now.rings.items (length c.args.reads.now.rings.items) c.loop-q.q has refl (omega (arith, c.loop-q-test.true, c.requires.long)) c.index.ensures in
+    let more = sum_next (λ (x : Bool). cond x 1 0) c.args.reads.now.rings.items c.loop-q.q has there in
+    let part = sum_part (λ (x : Bool). cond x 1 0) c.args.reads.now.rings.items (c.loop-q.q + 1) in
+    memories_most _ _ (omega (arith, more, part)) (omega (arith, more, part)) (memories_trans c.loop-q.invariant.adds c.in_ok-ring.ensures.adds)
+
+pub loop-q-preserved : goal.loop-q-preserved
+loop-q-preserved c =
+    let was = c.loop-q.invariant in
+    let new = c.in_ok-ring.ensures in
+    let has : Bool = c.index.result.now in
+    let there : slice_get c.args.reads.now.rings.items c.loop-q.q ≡ Some has = slice_get_read c.args.reads.now.rings.items (length c.args.reads.now.rings.items) c.loop-q.q has refl (omega (arith, c.loop-q-test.true, c.requires.long)) c.index.ensures in
+    let more = sum_next (λ (x : Bool). cond x 1 0) c.args.reads.now.rings.items c.loop-q.q has there in
+    record {
+      belongs = new.belongs;
+      keeps = keeps_trans was.keeps new.keeps;
+      adds = memories_most _ _ (omega (arith, more)) (omega (arith, more)) (memories_trans was.adds new.adds);
+      rings = rw c.in_ok-keep_ring.ensures.ok (rings_more c.loop-q.q _ _ _ _ _ _ _ has new.adds.grows.extends was.rings (rw was.keeps.rst at new.ring) new.has (get_or_from_slice_get c.args.reads.now.rings.items c.loop-q.q has false there));
+    }

@@ -1,0 +1,8 @@
+use Rattle.std.proofs.Common.{◌≡◌, length}
+use Rattle.ae_gather.proofs.reads.all_uses.Given as goal
+
+abbrev pub invariant-loop-i : goal.invariant-loop-i
+invariant-loop-i l = record { long : length l.all.items ≡ l.i }
+
+abbrev pub invariant-loop-trip : goal.invariant-loop-trip
+invariant-loop-trip l = record { long : length l.all.items ≡ l.outs }
