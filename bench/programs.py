@@ -24,7 +24,7 @@ def blur():
 
 
 def moves():
-    """As many moves of 16,384 words as a program can have. They pass the limit of the load."""
+    """As many moves of 16,384 words as a program can have."""
     nodes = [f"b{k} = shift {k % 4097} {f'b{k - 1}' if k % 2 else 'a'}" for k in range(4094)]
     return ["fn main a:[4096][4]u8", *nodes, "end b4093"]
 

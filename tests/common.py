@@ -30,6 +30,14 @@ def aeth(words, text):
     return done.returncode, done.stdout.decode()
 
 
+def kit(words, text):
+    """Status and output of the second program for these words on a text."""
+    if isinstance(text, str):
+        text = text.encode()
+    done = subprocess.run([KIT, *map(str, words)], input=text, capture_output=True)
+    return done.returncode, done.stdout.decode()
+
+
 def examples():
     """Name, text and rows of each example."""
     for path in sorted((TOP / "examples").glob("*.aeth")):

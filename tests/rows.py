@@ -68,6 +68,7 @@ RUNS = [
     (6, one_line(("[12]u8", "partition 4 3 a"), "0 1 2 3 4 5 6 7 8 9 10 11"), ["latency 2"], 8,
      "2: 0 1 2, 3: 3 4 5, 4: 6 7 8, 5: 9 10 11"),
     (4, one_line(("[4]u8", "select 2 a"), "1 2 3 4"), ["latency 2"], 6, "2: 3"),
+    (4, "fn main a:[4]u8\nb = shift 1 a\nc = select 3 b\nend c\n%%\n1 2 3 4\n", ["latency 2", "load 4"], 6, "2: 3"),
     (1, SMALLER, ["latency 1", "load 23"], 2, "1: 3 2 9"),
     (3, SMALLER, ["latency 1", "load 9"], 4, "1: 3, 2: 2, 3: 9"),
     (1, SIGNED, ["latency 1", "load 7"], 2, "1: 65535 65408"),

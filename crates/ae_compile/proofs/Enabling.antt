@@ -1,5 +1,5 @@
 -- The circuit of a program with an enable, and the text of its module.
-use Rattle.std.proofs.Common.{◌≡◌, ℕ, zero, suc, ◌+◌, ◌*◌, ◌^◌, ◌<◌, ◌≤◌, true, List, [], ◌∷◌, ◌++◌, length, length-append, map, take, filter, Some, slice_get, refl, arith, ap, sym, ◌∙◌, subst}
+use Rattle.std.proofs.Common.{◌≡◌, ℕ, zero, suc, ◌+◌, ◌*◌, ◌^◌, ◌<◌, ◌≤◌, Bool, true, false, if◌then◌else◌, List, [], ◌∷◌, ◌++◌, length, length-append, map, take, filter, Some, slice_get, refl, arith, ap, sym, ◌∙◌, subst}
 use Rattle.std.proofs.lemmas.List.{length-map}
 use Rattle.ae_sttype.specs.StTree.{StTree}
 use Rattle.ae_seq.specs.ProgramTree.{FuncTree, NodeTree, ProgramTree}
@@ -7,7 +7,6 @@ use Rattle.ae_rewrite.specs.StProgramTree.{StFuncTree}
 use Rattle.ae_rewrite.specs.Sound.{item_layout, item_layouts}
 use Rattle.ae_rewrite.specs.Interface.{main_of}
 use Rattle.ae_delay.specs.declared.own.OwnCosts.{OwnCosts}
-use Rattle.ae_delay.specs.Timings.{Times}
 use Rattle.ae_netlist.specs.declared.cell.SizedCell.{SizedCell}
 use Rattle.ae_netlist.specs.declared.cell.Outlet.{Outlet}
 use Rattle.ae_netlist.specs.Circuit.{Circuit}
@@ -24,11 +23,8 @@ use Rattle.ae_verilog.specs.ReportLines.{ReportTree}
 use Rattle.ae_ports.specs.CircuitFor.{IsCircuitFor}
 use Rattle.ae_ports.specs.Ports.{SizedPort, input_cell, reset_port, streams_of}
 use Rattle.ae_ports.specs.Ports as net_side
-use Rattle.ae_lower.specs.Circuits.{IsCircuitOf, last_of}
-use Rattle.ae_lower.specs.Laws.{CircuitsAreFor}
-use Rattle.ae_lower.specs.Stretches.{AreNodeCells}
-use Rattle.ae_tidy.specs.Needed.{IsLean}
-use Rattle.ae_tidy.specs.Places.{AreMarks}
+use Rattle.ae_lower.specs.Circuits.{last_of, results_of}
+use Rattle.ae_trace.specs.Traces.{is_movement}
 use Rattle.ae_correct.specs.Laws.{IsLaidOut}
 use Rattle.ae_correct.specs.Correct.{is_port, port_of, ports_of}
 use Rattle.ae_correct.proofs.Keeps.{circuit_ports, outs_of}
@@ -39,10 +35,11 @@ use Rattle.ae_stall.specs.Stalled.{IsStalled}
 use Rattle.ae_stalled.specs.Laws.{StalledCircuitsAreCorrect, StalledCircuitsAreWritable, stall_limit}
 use Rattle.ae_stalled.proofs.Ports.{enable_port, stalled_ports_are}
 use Rattle.ae_compile.specs.Building.{IsStalledText, IsWritten}
-use Rattle.ae_compile.specs.Compiling.{IsCompiledStalled, moved_note, report_of}
+use Rattle.ae_compile.specs.Compiling.{IsCompiledStalled, IsMadeFor, moved_note, report_of}
+use Rattle.ae_compile.specs.declared.costs.Costs.{Costs}
 use Rattle.ae_compile.specs.Costing.{IsKnown, load_limit, main_costs}
-use Rattle.ae_compile.specs.LineNotes.{node_note, node_notes}
-use Rattle.ae_compile.proofs.Mains.{main_nodes}
+use Rattle.ae_compile.specs.LineNotes.{ArePlaced, OwnCells, item_note, node_note, node_notes, result_notes, told_notes}
+use Rattle.ae_compile.proofs.Mains.{parts_of}
 use Rattle.ae_compile.proofs.Modules.{HaveWriting, few_ports}
 
 -- ---- the netlist
@@ -56,17 +53,17 @@ head_is : (cells : List SizedCell) (p : SizedPort) (ports : List SizedPort) → 
 head_is [] p ports e = cc
 head_is (c ∷ cells) p ports e = let same : c ≡ input_cell p = cc in ap (λ (x : SizedCell). Some x) same
 
-pub can_be_stalled : (p : ProgramTree) (slowdown : ℕ) (instances : List StFuncTree) (times : Times) (n : Circuit) → CircuitsAreFor → IsKnown load_limit p slowdown instances times → (main_costs instances).load ≤ stall_limit
-    → ((s : StFuncTree) → slice_get instances (last_of instances) ≡ Some s → IsCircuitOf instances s n) → IsLean n → CanBeStalled n
-can_be_stalled p slowdown instances times n law k light circuits lean =
+pub can_be_stalled : (p : ProgramTree) (slowdown : ℕ) (instances : List StFuncTree) (costs : Costs) (n : Circuit) → IsKnown load_limit p slowdown instances costs → (main_costs p instances).load ≤ stall_limit
+    → IsMadeFor p slowdown instances n → CanBeStalled n
+can_be_stalled p slowdown instances costs n k light circuit =
     let key = k.schedule.last in
     let s = key.instance in
-    let made = law p slowdown instances s n k.typed k.schedule k.sound key.here (circuits s key.here) lean in
-    let laid : IsLaidOut p slowdown s.ins _ = record { typed = k.typed; some = k.some; most = k.most; layouts = made.0 } in
-    let ports = few_ports (λ net. 0) p slowdown (main_costs instances) s.ins _ n laid made.1 in
-    let load : (main_costs instances).load ≤ 50000 = light in
+    let made = circuit s key.here in
+    let laid : IsLaidOut p slowdown s.ins (results_of s) = record { typed = k.typed; some = k.some; most = k.most; layouts = made.0 } in
+    let ports = few_ports (λ net. 0) p slowdown (main_costs p instances) s.ins (results_of s) n laid made.1 in
+    let load : (main_costs p instances).load ≤ 50000 = light in
     record {
-      reset = head_is n.cells reset_port (net_side.input_ports (streams_of s.ins)) (circuit_ports p slowdown (main_costs instances) s.ins _ n made.1).inputs.first;
+      reset = head_is n.cells reset_port (net_side.input_ports (streams_of s.ins)) (circuit_ports p slowdown (main_costs p instances) s.ins (results_of s) n made.1).inputs.first;
       most = omega (arith, made.1.small, load, ports.inputs);
     }
 
@@ -77,48 +74,54 @@ notes_moved layouts i [] ms = refl
 notes_moved layouts i (n ∷ ns) [] = refl
 notes_moved layouts i (n ∷ ns) (m ∷ ms) = ap (λ rest. node_note (moved m) n (item_layout layouts i) ∷ rest) (notes_moved layouts (i + 1) ns ms)
 
+results_moved : (layouts : List StTree) (f : FuncTree) (is ms : List ℕ) → result_notes layouts f is (map moved ms) ≡ map moved_note (result_notes layouts f is ms)
+results_moved layouts f [] ms = refl
+results_moved layouts f (i ∷ is) [] = refl
+results_moved layouts f (i ∷ is) (m ∷ ms) = ap (λ rest. item_note f i (moved m) (item_layout layouts i) ∷ rest) (results_moved layouts f is ms)
+
+told_moved : (moves : Bool) (layouts : List StTree) (f : FuncTree) (ms : List ℕ) → (if moves then result_notes layouts f f.results (map moved ms) else node_notes layouts (length f.params) f.nodes (map moved ms))
+    ≡ map moved_note (if moves then result_notes layouts f f.results ms else node_notes layouts (length f.params) f.nodes ms)
+told_moved true layouts f ms = results_moved layouts f f.results ms
+told_moved false layouts f ms = notes_moved layouts (length f.params) f.nodes ms
+
 -- ---- the parts in one
 
 -- the parts that are made, each by the program function's instance
 pub record AreMadeStalled (p : ProgramTree) (slowdown : ℕ) (instances : List StFuncTree) (plain n : Circuit) (marks : List ℕ) (report : ReportTree) (notes : List NoteTree) : Type 0 where
-  pub reports : (s : StFuncTree) → slice_get instances (last_of instances) ≡ Some s → report ≡ report_of true slowdown instances s
-  pub circuits : (s : StFuncTree) → slice_get instances (last_of instances) ≡ Some s → IsCircuitOf instances s plain
+  pub reports : (s : StFuncTree) → slice_get instances (last_of instances) ≡ Some s → report ≡ report_of true p slowdown instances s
+  pub circuit : IsMadeFor p slowdown instances plain
   pub stalled : IsStalled plain n
-  pub own : (s : StFuncTree) → slice_get instances (last_of instances) ≡ Some s → AreNodeCells instances (last_of instances) s plain.cells (1 + length (net_side.input_ports (streams_of s.ins))) marks
-  pub lean : IsLean plain
-  pub places : (s : StFuncTree) → slice_get instances (last_of instances) ≡ Some s → AreMarks (length plain.cells) (length s.nodes) marks
-  pub notes_are : (s : StFuncTree) (f : FuncTree) → slice_get instances (last_of instances) ≡ Some s → slice_get p.funcs (main_of p) ≡ Some f → notes ≡ node_notes (item_layouts s) (length f.params) f.nodes (map moved marks)
+  pub own : OwnCells p instances plain.cells marks
+  pub places : ArePlaced p plain.cells marks
+  pub notes_are : (s : StFuncTree) (f : FuncTree) → slice_get instances (last_of instances) ≡ Some s → slice_get p.funcs (main_of p) ≡ Some f → notes ≡ told_notes p f (item_layouts s) (map moved marks)
   pub printed : ArePrinted notes
 
-pub stalled_made : (p : ProgramTree) (slowdown : ℕ) (instances : List StFuncTree) (times : Times) (plain n : Circuit) (marks : List ℕ) (report : ReportTree) (notes : List NoteTree) → CircuitsAreFor → IsKnown load_limit p slowdown instances times
+pub stalled_made : (p : ProgramTree) (slowdown : ℕ) (instances : List StFuncTree) (costs : Costs) (plain n : Circuit) (marks : List ℕ) (report : ReportTree) (notes : List NoteTree) → IsKnown load_limit p slowdown instances costs
     → AreMadeStalled p slowdown instances plain n marks report notes → IsCompiledStalled p slowdown instances n report notes
-stalled_made p slowdown instances times plain n marks report notes law k m =
-    let key = k.schedule.last in
-    let s = key.instance in
-    let found : slice_get instances (last_of instances) ≡ Some s = key.here in
-    let own = k.schedule.right (last_of instances) s found in
-    let main : slice_get p.funcs (main_of p) ≡ Some own.of = ap (slice_get p.funcs) (sym key.is_func) ∙ own.known in
-    let told = m.reports s found in
-    let made = law p slowdown instances s plain k.typed k.schedule k.sound found (m.circuits s found) m.lean in
-    let many : length s.nodes ≡ length own.of.nodes = main_nodes p slowdown instances own.of s k.schedule main found in
+stalled_made p slowdown instances costs plain n marks report notes k m =
+    let parts = parts_of p slowdown instances k.schedule in
+    let s = parts.instance in
+    let f = parts.func in
+    let told = m.reports s parts.last in
+    let made = m.circuit s parts.last in
     record {
       instance = s;
-      last = found;
+      last = parts.last;
       reported = told;
       laid = subst (λ (r : ReportTree). IsLaidOut p slowdown r.ins r.outs) (sym told) (record { typed = k.typed; some = k.some; most = k.most; layouts = made.0 });
       plain = plain;
-      circuit = subst (λ (r : ReportTree). IsCircuitFor p slowdown (main_costs instances) r.ins r.outs plain) (sym told) made.1;
+      circuit = subst (λ (r : ReportTree). IsCircuitFor p slowdown (main_costs p instances) r.ins r.outs plain) (sym told) made.1;
       stalled = m.stalled;
-      before = node_notes (item_layouts s) (length own.of.params) own.of.nodes marks;
+      before = told_notes p f (item_layouts s) marks;
       noted = record {
-        func = own.of;
-        main = main;
+        func = f;
+        main = parts.there;
         marks = marks;
-        placed = subst (λ (c : ℕ). AreMarks (length plain.cells) c marks) many (m.places s found);
-        own = m.own s found;
+        placed = m.places f parts.there;
+        own = λ computes. m.own computes s parts.last;
         are = refl;
       };
-      moved = m.notes_are s own.of found main ∙ notes_moved (item_layouts s) (length own.of.params) own.of.nodes marks;
+      moved = m.notes_are s f parts.last parts.there ∙ told_moved (is_movement p) (item_layouts s) f marks;
       printed = m.printed;
     }
 
@@ -147,10 +150,10 @@ stalled_ports_many lines p slowdown costs ins outs plain n c still =
     ∙ omega (arith, length-append (map in_net (reset_port ∷ enable_port ∷ given)) (map (out_net many) (outs_of outs))) in
     omega (arith, filtered, length-map (reset_port ∷ enable_port ∷ given) in_net, length-map (outs_of outs) (out_net many), shown)
 
-pub stalled_is : (p : ProgramTree) (slowdown : ℕ) (instances : List StFuncTree) (n : Circuit) (report : ReportTree) (notes : List NoteTree) (text : List ℕ) → HaveStalledLaws → (main_costs instances).load ≤ stall_limit
+pub stalled_is : (p : ProgramTree) (slowdown : ℕ) (instances : List StFuncTree) (n : Circuit) (report : ReportTree) (notes : List NoteTree) (text : List ℕ) → HaveStalledLaws → (main_costs p instances).load ≤ stall_limit
     → IsCompiledStalled p slowdown instances n report notes → IsWritten report n notes text → IsStalledText p slowdown instances text
 stalled_is p slowdown instances n report notes text laws light d t =
-    let costs = main_costs instances in
+    let costs = main_costs p instances in
     let many : ℕ = length report.outs in
     let lines : ℕ → ℕ = lines_of notes (length n.cells) in
     let m : ModuleTree = noted_module notes n.cells n.outlets many in

@@ -1,10 +1,11 @@
 -- What is so of the program function of a typed program, and of its instance.
-use Rattle.std.proofs.Common.{◌≡◌, ℕ, zero, suc, ◌+◌, ◌-◌, ◌≤◌, Bool, true, false, ◌&&◌, List, [], ◌∷◌, length, length-append, map, take, Some, slice_get, refl, ap, sym, ◌∙◌, arith, IsTrue}
+use Rattle.std.proofs.Common.{◌≡◌, ℕ, zero, suc, ◌+◌, ◌-◌, ◌≤◌, Bool, true, false, ◌&&◌, List, [], ◌∷◌, ◌++◌, length, length-append, map, take, Some, slice_get, refl, ap, sym, ◌∙◌, arith, IsTrue}
+use Rattle.std.specs.Prelude.{slice_index_or}
 use Rattle.std.proofs.lemmas.List.{length-map}
 use Rattle.std.proofs.lemmas.Option.{none-some, same_Some}
 use Rattle.std.proofs.lemmas.Bool.Decides.{nat_tests}
 use Rattle.ae_seq.specs.ProgramTree.{ProgramTree, FuncTree, NodeTree, ParamTree}
-use Rattle.ae_seq.specs.Formed.{formed, formed_funcs, formed_func, most_results, all_names, all_name_bytes, is_name, named_items, node_names}
+use Rattle.ae_seq.specs.Formed.{formed, formed_funcs, formed_func, most_results, all_names, all_name_bytes, is_name, named_items, node_names, param_names}
 use Rattle.ae_sttype.specs.StTree.{StTree}
 use Rattle.ae_rewrite.specs.LayoutRule.{lay_of}
 use Rattle.ae_rewrite.specs.StProgramTree.{StFuncTree, StNodeTree}
@@ -12,7 +13,9 @@ use Rattle.ae_rewrite.specs.Scheduled.{Keys, HasKey, IsSchedule, AreStNodes, nod
 use Rattle.ae_rewrite.specs.Sound.{IsSound, item_layouts}
 use Rattle.ae_rewrite.specs.Interface.{main_of}
 use Rattle.ae_rewrite.proofs.Forms.{formed-of, few-nodes}
+use Rattle.ae_headline.specs.Headline.{item_name}
 use Rattle.ae_compile.specs.LineNotes.{AllNamed}
+use Rattle.ae_compile.specs.Costing.{HasParts}
 use Rattle.ae_compile.specs.Mains.{IsInstanceOf}
 
 -- ---- the instance of the program function
@@ -61,17 +64,23 @@ main_items p slowdown all f s good h sound at last =
 pub main_nodes : (p : ProgramTree) (slowdown : ℕ) (all : List StFuncTree) (f : FuncTree) (s : StFuncTree) → IsSchedule p slowdown all → slice_get p.funcs (main_of p) ≡ Some f → slice_get all (length all - 1) ≡ Some s → length s.nodes ≡ length f.nodes
 main_nodes p slowdown all f s h at last = (main_by p slowdown all f s h at last).nodes
 
+pub parts_of : (p : ProgramTree) (slowdown : ℕ) (all : List StFuncTree) → IsSchedule p slowdown all → HasParts p all
+parts_of p slowdown all h =
+    let key = h.last in
+    let own = h.right (length all - 1) key.instance key.here in
+    record { func = own.of; there = ap (slice_get p.funcs) (sym key.is_func) ∙ own.known; instance = key.instance; last = key.here }
+
 -- ---- names
 
-both_left : (a b : Bool) → IsTrue (a && b) → IsTrue a
+pub both_left : (a b : Bool) → IsTrue (a && b) → IsTrue a
 both_left true b h = refl
 both_left false b h = h
 
-both_right : (a b : Bool) → IsTrue (a && b) → IsTrue b
+pub both_right : (a b : Bool) → IsTrue (a && b) → IsTrue b
 both_right true b h = h
 both_right false b h = cc
 
-name_plain : (n : List ℕ) → IsTrue (is_name n) → all_name_bytes n ≡ true
+pub name_plain : (n : List ℕ) → IsTrue (is_name n) → all_name_bytes n ≡ true
 name_plain n h = grind (arith, nat_tests)
 
 names_plain : (ns : List NodeTree) → IsTrue (all_names (node_names ns)) → AllNamed ns
@@ -81,26 +90,42 @@ names_plain (n ∷ ns) h = (name_plain n.name (both_left (is_name n.name) (all_n
 name_short : (n : List ℕ) → IsTrue (is_name n) → length n ≤ 32
 name_short n h = grind (arith, nat_tests)
 
+-- so is the name of any item, that of a parameter or of a node
+items_short : (ps ns : List (List ℕ)) → IsTrue (all_names ps) → IsTrue (all_names ns) → (i : ℕ) → length (slice_index_or (ps ++ ns) i []) ≤ 32
+items_short [] [] h g i = omega arith
+items_short [] (n ∷ ns) h g zero = name_short n (both_left (is_name n) (all_names ns) g)
+items_short [] (n ∷ ns) h g (suc i) = items_short [] ns h (both_right (is_name n) (all_names ns) g) i
+items_short (p ∷ ps) ns h g zero = name_short p (both_left (is_name p) (all_names ps) h)
+items_short (p ∷ ps) ns h g (suc i) = items_short ps ns (both_right (is_name p) (all_names ps) h) g i
+
 names_short : (ns : List NodeTree) → IsTrue (all_names (node_names ns)) → (j : ℕ) (n : NodeTree) → slice_get ns j ≡ Some n → length n.name ≤ 32
 names_short [] h j n at = absurd (none-some n at)
 names_short (x ∷ xs) h zero n at = rw (← same_Some x n at) (name_short x.name (both_left (is_name x.name) (all_names (node_names xs)) h))
 names_short (x ∷ xs) h (suc j) n at = names_short xs (both_right (is_name x.name) (all_names (node_names xs)) h) j n at
 
-func_named : (v n m : ℕ) (f : FuncTree) → IsTrue (formed_func v n m f) → IsTrue (all_names (node_names f.nodes))
-func_named v n m f h = let items : IsTrue (named_items f) = both_right _ (named_items f) h in grind (arith, nat_tests)
-
-funcs_named : (v n : ℕ) (fs : List FuncTree) (k : ℕ) (f : FuncTree) → IsTrue (formed_funcs v n fs) → slice_get fs k ≡ Some f → IsTrue (all_names (node_names f.nodes))
+funcs_named : (v n : ℕ) (fs : List FuncTree) (k : ℕ) (f : FuncTree) → IsTrue (formed_funcs v n fs) → slice_get fs k ≡ Some f → IsTrue (named_items f)
 funcs_named v n [] k f h at = absurd (none-some f at)
 funcs_named v n (g ∷ fs) zero f h at =
     let e : g ≡ f = same_Some g f at in
-    rw (← e) (func_named v n (most_results v fs) g (both_left (formed_func v n (most_results v fs) g) (formed_funcs v (n + 1) fs) h))
+    rw (← e) (both_right _ (named_items g) (both_left (formed_func v n (most_results v fs) g) (formed_funcs v (n + 1) fs) h))
 funcs_named v n (g ∷ fs) (suc k) f h at = funcs_named v (n + 1) fs k f (both_right (formed_func v n (most_results v fs) g) (formed_funcs v (n + 1) fs) h) at
 
-nodes_named : (p : ProgramTree) (k : ℕ) (f : FuncTree) → IsTrue (formed p) → slice_get p.funcs k ≡ Some f → IsTrue (all_names (node_names f.nodes))
-nodes_named p k f h at = let own : IsTrue (formed_funcs p.version 0 p.funcs) = grind (arith, nat_tests) in funcs_named p.version 0 p.funcs k f own at
+pub main_items_named : (p : ProgramTree) (k : ℕ) (f : FuncTree) → IsTrue (formed p) → slice_get p.funcs k ≡ Some f → IsTrue (named_items f)
+main_items_named p k f h at = let own : IsTrue (formed_funcs p.version 0 p.funcs) = grind (arith, nat_tests) in funcs_named p.version 0 p.funcs k f own at
+
+nodes_named : (f : FuncTree) → IsTrue (named_items f) → IsTrue (all_names (node_names f.nodes))
+nodes_named f items = grind (arith, nat_tests)
+
+params_named : (f : FuncTree) → IsTrue (named_items f) → IsTrue (all_names (param_names f.params))
+params_named f items = grind (arith, nat_tests)
 
 pub main_named : (p : ProgramTree) (k : ℕ) (f : FuncTree) → IsTrue (formed p) → slice_get p.funcs k ≡ Some f → AllNamed f.nodes
-main_named p k f h at = names_plain f.nodes (nodes_named p k f h at)
+main_named p k f h at = names_plain f.nodes (nodes_named f (main_items_named p k f h at))
 
 pub main_short : (p : ProgramTree) (k : ℕ) (f : FuncTree) → IsTrue (formed p) → slice_get p.funcs k ≡ Some f → (j : ℕ) (n : NodeTree) → slice_get f.nodes j ≡ Some n → length n.name ≤ 32
-main_short p k f h at = names_short f.nodes (nodes_named p k f h at)
+main_short p k f h at = names_short f.nodes (nodes_named f (main_items_named p k f h at))
+
+pub main_item_short : (p : ProgramTree) (k : ℕ) (f : FuncTree) → IsTrue (formed p) → slice_get p.funcs k ≡ Some f → (i : ℕ) → length (item_name f i) ≤ 32
+main_item_short p k f h at =
+    let items : IsTrue (named_items f) = main_items_named p k f h at in
+    items_short (param_names f.params) (node_names f.nodes) (params_named f items) (nodes_named f items)

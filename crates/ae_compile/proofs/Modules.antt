@@ -11,9 +11,7 @@ use Rattle.ae_eval.proofs.Items.{entry-at}
 use Rattle.ae_correct.proofs.ModulePorts.{mapped_at}
 use Rattle.ae_rewrite.specs.StProgramTree.{StFuncTree}
 use Rattle.ae_rewrite.specs.Sound.{IsSound, item_layout, item_layouts}
-use Rattle.ae_delay.specs.Costs.{all_costs}
 use Rattle.ae_delay.proofs.Instances.{all_items}
-use Rattle.ae_delay.specs.Timings.{AreTimes, Times}
 use Rattle.ae_netlist.specs.Circuit.{Circuit}
 use Rattle.ae_netlist.specs.Counts.{count_of, is_mul}
 use Rattle.ae_vread.specs.ModuleTree.{ModuleTree}
@@ -27,7 +25,6 @@ use Rattle.ae_verilog.specs.Written.{IsWritableNetlist}
 use Rattle.ae_verilog.specs.ReportLines.{ReportTree, report_lines, is_clean}
 use Rattle.ae_ops.specs.Blocks.{stream_of}
 use Rattle.ae_ports.specs.Ports.{streams_of, SizedPort, outlet_port, columns_in}
-use Rattle.ae_lower.specs.Lowering.{costs_in}
 use Rattle.ae_ports.specs.CircuitFor.{IsCircuitFor}
 use Rattle.ae_delay.specs.declared.own.OwnCosts.{OwnCosts}
 use Rattle.ae_lower.specs.Circuits.{last_of, results_of}
@@ -43,6 +40,7 @@ use Rattle.ae_verilog.specs.Notes.{NoteTree, lines_of, noted_module}
 use Rattle.ae_verilog.specs.Text.{whole_text}
 use Rattle.ae_compile.specs.Building.{IsModuleText, IsWritten}
 use Rattle.ae_compile.specs.Compiling.{IsCompiled}
+use Rattle.ae_compile.specs.declared.costs.Costs.{Costs}
 use Rattle.ae_compile.specs.Costing.{IsKnown, load_limit, main_costs}
 
 -- ---- columns
@@ -107,9 +105,6 @@ few_ports lines p slowdown costs ins outs n laid c =
 
 -- ---- the module
 
-pub costs_are : (instances : List StFuncTree) (s : StFuncTree) (t : Times) → AreTimes instances t → slice_get instances (last_of instances) ≡ Some s → t.costs ≡ main_costs instances
-costs_are instances s t times found = times.costs s found ∙ ap (costs_in (all_costs (take (last_of instances) instances))) (sym found)
-
 -- the laws by which a netlist is written as a module
 pub record HaveWriting : Type 0 where
   pub writable : CircuitsAreWritable
@@ -129,22 +124,22 @@ pub record HasModule (n : Circuit) (notes : List NoteTree) (many : ℕ) : Type 0
   pub same : HasSameRuns (noted_module notes n.cells n.outlets many) n
   pub formed : IsWellFormed (noted_module notes n.cells n.outlets many)
 
-pub module_there : (p : ProgramTree) (slowdown : ℕ) (instances : List StFuncTree) (times : Times) (n : Circuit) (report : ReportTree) (notes : List NoteTree) → HaveWriting → IsKnown load_limit p slowdown instances times → IsCompiled p slowdown instances n report notes → HasModule n notes (length report.outs)
-module_there p slowdown instances times n report notes laws k d =
+pub module_there : (p : ProgramTree) (slowdown : ℕ) (instances : List StFuncTree) (found : Costs) (n : Circuit) (report : ReportTree) (notes : List NoteTree) → HaveWriting → IsKnown load_limit p slowdown instances found → IsCompiled p slowdown instances n report notes → HasModule n notes (length report.outs)
+module_there p slowdown instances found n report notes laws k d =
     let many : ℕ = length report.outs in
-    let ports = few_ports (lines_of notes (length n.cells)) p slowdown (main_costs instances) report.ins report.outs n d.laid d.circuit in
-    let writable : IsWritableNetlist n.cells n.outlets many = laws.writable p slowdown (main_costs instances) report.ins report.outs n d.laid k.light d.circuit in
+    let ports = few_ports (lines_of notes (length n.cells)) p slowdown (main_costs p instances) report.ins report.outs n d.laid d.circuit in
+    let writable : IsWritableNetlist n.cells n.outlets many = laws.writable p slowdown (main_costs p instances) report.ins report.outs n d.laid k.light d.circuit in
     let small = d.circuit.small in
     let light = k.light in
     record { same = laws.runs (lines_of notes (length n.cells)) n many writable; formed = laws.formed (lines_of notes (length n.cells)) n many writable (omega (arith, small, light, ports.inputs, ports.outputs)) }
 
-pub module_is : (p : ProgramTree) (slowdown : ℕ) (instances : List StFuncTree) (times : Times) (n : Circuit) (report : ReportTree) (notes : List NoteTree) (text : List ℕ) → HaveLaws → IsKnown load_limit p slowdown instances times → IsCompiled p slowdown instances n report notes
+pub module_is : (p : ProgramTree) (slowdown : ℕ) (instances : List StFuncTree) (found : Costs) (n : Circuit) (report : ReportTree) (notes : List NoteTree) (text : List ℕ) → HaveLaws → IsKnown load_limit p slowdown instances found → IsCompiled p slowdown instances n report notes
     → IsWritten report n notes text → IsModuleText p slowdown instances text
-module_is p slowdown instances times n report notes text laws k d t =
+module_is p slowdown instances found n report notes text laws k d t =
     let many : ℕ = length report.outs in
     let m : ModuleTree = noted_module notes n.cells n.outlets many in
-    let ports = few_ports (lines_of notes (length n.cells)) p slowdown (main_costs instances) report.ins report.outs n d.laid d.circuit in
-    let has = module_there p slowdown instances times n report notes laws.writing k d in
+    let ports = few_ports (lines_of notes (length n.cells)) p slowdown (main_costs p instances) report.ins report.outs n d.laid d.circuit in
+    let has = module_there p slowdown instances found n report notes laws.writing k d in
     let small = d.circuit.small in
     record {
       listing = record { circuit = n; report = report; notes = notes; compiled = d; listed = t.listed };
@@ -153,7 +148,7 @@ module_is p slowdown instances times n report notes text laws k d t =
       only = λ other spelled. laws.spelled text other m t.few spelled t.spells;
       formed = has.formed;
       one_run = laws.once m has.formed;
-      correct = laws.correct (lines_of notes (length n.cells)) p slowdown (main_costs instances) report.ins report.outs n d.laid d.circuit has.same;
+      correct = laws.correct (lines_of notes (length n.cells)) p slowdown (main_costs p instances) report.ins report.outs n d.laid d.circuit has.same;
       products = t.stars_are ∙ d.circuit.muls;
       light = omega (arith, laws.light (lines_of notes (length n.cells)) n many, small, ports.all);
       rest = t.rest;

@@ -8,7 +8,6 @@ use Rattle.ae_rewrite.specs.StProgramTree.{StFuncTree}
 use Rattle.ae_netlist.specs.Circuit.{Circuit}
 use Rattle.ae_netlist.specs.Rows.{AreFirsts, AreInputs, HasOneRunWith, IsRunWith, filled}
 use Rattle.ae_netlist.specs.Runs.{Clock}
-use Rattle.ae_delay.specs.Timings.{Times}
 use Rattle.ae_vread.specs.ModuleTree.{ModuleTree}
 use Rattle.ae_elab.specs.Runs.{clock_at}
 use Rattle.ae_elab.specs.SameRuns.{HasSameRuns, input_words, output_words}
@@ -23,6 +22,7 @@ use Rattle.ae_play.specs.Lines.{IsPlayedText, clock_count, clock_lines, shown_wo
 use Rattle.ae_play.specs.Sums.{ArePlayedSums, AreSums}
 use Rattle.ae_play.specs.Words.{ArePlayedWords, port_words}
 use Rattle.ae_play.specs.declared.sums.Sums.{Sums}
+use Rattle.ae_compile.specs.declared.costs.Costs.{Costs}
 use Rattle.ae_compile.specs.Costing.{IsKnown, load_limit, main_costs}
 use Rattle.ae_compile.specs.Compiling.{IsCompiled}
 use Rattle.ae_compile.specs.Playing.{AreProgramBlocks, Shows}
@@ -38,15 +38,15 @@ pub record HavePlays (n : Circuit) (fill : ℕ) : Type 0 where
   pub one : HasOneRunWith n.cells
   pub begins : AreFirsts n.cells (filled n.cells fill)
 
-module _ (lines : ℕ → ℕ) (p : ProgramTree) (slowdown fill : ℕ) (instances : List StFuncTree) (times : Times) (n : Circuit) (report : ReportTree) (notes : List NoteTree) (played : Circuit)
-    (laws : HavePlays n fill) (k : IsKnown load_limit p slowdown instances times) (d : IsCompiled p slowdown instances n report notes)
+module _ (lines : ℕ → ℕ) (p : ProgramTree) (slowdown fill : ℕ) (instances : List StFuncTree) (found : Costs) (n : Circuit) (report : ReportTree) (notes : List NoteTree) (played : Circuit)
+    (laws : HavePlays n fill) (k : IsKnown load_limit p slowdown instances found) (d : IsCompiled p slowdown instances n report notes)
     (same : HasSameRuns (netlist_module lines n.cells n.outlets (length report.outs)) n) (back : HasSameRuns (netlist_module lines n.cells n.outlets (length report.outs)) played) where
   abbrev own : ModuleTree
   own = netlist_module lines n.cells n.outlets (length report.outs)
 
   lowered_fed : (count : ℕ) (words : List ℕ) → FitBlocks report.ins count words → (clocks : ℕ) → All (AreInputs n.cells) (fed_rows slowdown fill report.ins (blocks_of report.ins count words) clocks)
   lowered_fed count words fit clocks =
-      laws.fed n.cells slowdown fill report.ins count words (circuit_columns p slowdown (main_costs instances) report.ins report.outs n d.circuit) fit clocks
+      laws.fed n.cells slowdown fill report.ins count words (circuit_columns p slowdown (main_costs p instances) report.ins report.outs n d.circuit) fit clocks
 
   fed_back : (count : ℕ) (words : List ℕ) → FitBlocks report.ins count words → (clocks : ℕ) → All (AreInputs played.cells) (fed_rows slowdown fill report.ins (blocks_of report.ins count words) clocks)
   fed_back count words fit clocks =
@@ -74,7 +74,7 @@ module _ (lines : ℕ → ℕ) (p : ProgramTree) (slowdown fill : ℕ) (instance
     run_shown run runs =
         let clocks : ℕ = clock_count slowdown report.latency (length bs) in
         let other = laws.alike own played n slowdown report.latency fill report.ins bs run back same laws.one laws.begins (lowered_fed count words fit clocks) runs in
-        let s = laws.shown lines p slowdown (main_costs instances) report.ins report.outs n report.latency fill blocks other.0 d.laid d.circuit same values
+        let s = laws.shown lines p slowdown (main_costs p instances) report.ins report.outs n report.latency fill blocks other.0 d.laid d.circuit same values
         (subst (All (AreInputs n.cells)) rows_laid (lowered_fed count words fit clocks))
         (subst (λ (rows : List (List ℕ)). IsRunWith n.cells rows (filled n.cells fill) other.0) rows_laid other.1) in
         record {

@@ -57,11 +57,11 @@ pub record IsListedText (IsMade : Circuit → ReportTree → List NoteTree → T
 
 -- the text of the program's circuit: its module is correct for the program, with the latency that the report tells
 abbrev pub IsModuleText : (p : ProgramTree) (slowdown : ℕ) (instances : List StFuncTree) (text : List ℕ) → Type 0
-IsModuleText p slowdown instances text = IsListedText (IsCompiled p slowdown instances) (λ m. IsCorrect m p slowdown (main_costs instances).latency) (main_costs instances) 64 4 text
+IsModuleText p slowdown instances text = IsListedText (IsCompiled p slowdown instances) (λ m. IsCorrect m p slowdown (main_costs p instances).latency) (main_costs p instances) 64 4 text
 
 -- the text of its circuit with an enable: the same, where only the clocks count in which the enable is 1
 abbrev pub IsStalledText : (p : ProgramTree) (slowdown : ℕ) (instances : List StFuncTree) (text : List ℕ) → Type 0
-IsStalledText p slowdown instances text = IsListedText (IsCompiledStalled p slowdown instances) (λ m. IsCorrectStalled m p slowdown (main_costs instances).latency) (main_costs instances) 128 8 text
+IsStalledText p slowdown instances text = IsListedText (IsCompiledStalled p slowdown instances) (λ m. IsCorrectStalled m p slowdown (main_costs p instances).latency) (main_costs p instances) 128 8 text
 
 -- the same of the program of an input, and on one page: the text is the listing of a netlist that does what the program means
 pub record IsBuiltText (part : List ℕ) (slowdown : ℕ) (text : List ℕ) : Type 0 where

@@ -3,6 +3,7 @@ use Rattle.std.specs.Prelude.{◌≡◌, ℕ, Bool, true, false, List, map, Some
 use Rattle.ae_seq.specs.ProgramTree.{ProgramTree}
 use Rattle.ae_rewrite.specs.StProgramTree.{StFuncTree}
 use Rattle.ae_netlist.specs.Circuit.{Circuit}
+use Rattle.ae_rewrite.specs.Interface.{HaveLayouts}
 use Rattle.ae_ports.specs.CircuitFor.{IsCircuitFor}
 use Rattle.ae_stall.specs.Images.{moved}
 use Rattle.ae_stall.specs.Stalled.{IsStalled}
@@ -14,24 +15,29 @@ use Rattle.ae_compile.specs.Costing.{main_costs}
 use Rattle.ae_compile.specs.LineNotes.{AreLineNotes}
 
 -- what is told of a circuit before its module
-abbrev pub report_of : (enable : Bool) (slowdown : ℕ) → List StFuncTree → StFuncTree → ReportTree
-report_of enable slowdown instances s = record {
+abbrev pub report_of : (enable : Bool) → ProgramTree → (slowdown : ℕ) → List StFuncTree → StFuncTree → ReportTree
+report_of enable p slowdown instances s = record {
   slowdown = slowdown;
-  latency = (main_costs instances).latency;
-  muls = (main_costs instances).muls;
-  load = (main_costs instances).load;
+  latency = (main_costs p instances).latency;
+  muls = (main_costs p instances).muls;
+  load = (main_costs p instances).load;
   enable = enable;
   ins = s.ins;
   outs = results_of s;
 }
 
--- a circuit for the program with the costs of its schedule, the report of these and of the layouts, and the notes of the program's lines
+-- a circuit for the program, by its costs and the layouts of its instance
+abbrev pub IsMadeFor : ProgramTree → (slowdown : ℕ) → List StFuncTree → Circuit → Type 0
+IsMadeFor p slowdown instances n =
+    (s : StFuncTree) → slice_get instances (last_of instances) ≡ Some s → HaveLayouts p slowdown s.ins (results_of s) × IsCircuitFor p slowdown (main_costs p instances) s.ins (results_of s) n
+
+-- a circuit for the program with its costs, the report of these and of the layouts, and the notes of the program's lines
 pub record IsCompiled (p : ProgramTree) (slowdown : ℕ) (instances : List StFuncTree) (n : Circuit) (report : ReportTree) (notes : List NoteTree) : Type 0 where
   pub instance : StFuncTree
   pub last : slice_get instances (last_of instances) ≡ Some instance
-  pub reported : report ≡ report_of false slowdown instances instance
+  pub reported : report ≡ report_of false p slowdown instances instance
   pub laid : IsLaidOut p slowdown report.ins report.outs
-  pub circuit : IsCircuitFor p slowdown (main_costs instances) report.ins report.outs n
+  pub circuit : IsCircuitFor p slowdown (main_costs p instances) report.ins report.outs n
   pub noted : AreLineNotes p instances instance n.cells notes
   pub printed : ArePrinted notes
 
@@ -43,10 +49,10 @@ moved_note n = record n { cell = moved n.cell }
 pub record IsCompiledStalled (p : ProgramTree) (slowdown : ℕ) (instances : List StFuncTree) (n : Circuit) (report : ReportTree) (notes : List NoteTree) : Type 0 where
   pub instance : StFuncTree
   pub last : slice_get instances (last_of instances) ≡ Some instance
-  pub reported : report ≡ report_of true slowdown instances instance
+  pub reported : report ≡ report_of true p slowdown instances instance
   pub laid : IsLaidOut p slowdown report.ins report.outs
   pub plain : Circuit
-  pub circuit : IsCircuitFor p slowdown (main_costs instances) report.ins report.outs plain
+  pub circuit : IsCircuitFor p slowdown (main_costs p instances) report.ins report.outs plain
   pub stalled : IsStalled plain n
   pub before : List NoteTree
   pub noted : AreLineNotes p instances instance plain.cells before

@@ -1,25 +1,27 @@
 // The circuit of a program, and what is told of it.
 
-ghost use Rattle.std.specs.Prelude.{◌≡◌, ◌<◌, ◌≤◌, ◌+◌, ℕ, IfOk, Some, length, map, slice_get};
+ghost use Rattle.std.specs.Prelude.{◌≡◌, ◌<◌, ◌≤◌, ◌+◌, IfOk, Some, false, length, map, slice_get};
 ghost use Rattle.ae_seq.specs.ProgramTree.{FuncTree, program_tree};
 ghost use Rattle.ae_rewrite.specs.StProgramTree.{StFuncTree as Tree, st_func_trees};
 ghost use Rattle.ae_rewrite.specs.Sound.{item_layouts};
 ghost use Rattle.ae_rewrite.specs.Interface.{main_of};
-ghost use Rattle.ae_lower.specs.Circuits.{IsCircuitOf, last_of};
-ghost use Rattle.ae_lower.specs.Stretches.{AreNodeCells};
-ghost use Rattle.ae_ports.specs.Ports.{input_ports, streams_of};
-ghost use Rattle.ae_tidy.specs.Needed.{IsLean};
-ghost use Rattle.ae_tidy.specs.Places.{AreMarks};
+ghost use Rattle.ae_delay.specs.Timings.{AreTimes};
+ghost use Rattle.ae_lower.specs.Circuits.{last_of};
+ghost use Rattle.ae_trace.specs.Traces.{is_movement};
+ghost use Rattle.ae_fuse.specs.Fused.{IsFusedOf};
 ghost use Rattle.ae_verilog.specs.Notes.{ArePrinted, note_tree};
 ghost use Rattle.ae_verilog.specs.ReportLines.{report_tree};
-ghost use Rattle.ae_compile.specs.Compiling.{report_of};
-ghost use Rattle.ae_compile.specs.LineNotes.{node_notes};
+ghost use Rattle.ae_compile.specs.Compiling.{IsMadeFor, report_of};
+ghost use Rattle.ae_compile.specs.LineNotes.{ArePlaced, OwnCells, told_count, told_notes};
 ghost use Rattle.ae_compile.specs.Passes.{IsCompiledProgram, IsCostedProgram};
 
 use crate::costing::{Costed, main_func, main_instance};
+use crate::costs::Costs;
 use crate::layouts::{input_layouts, output_layouts};
-use crate::notes::line_notes;
+use crate::notes::{end_notes, line_notes};
+use ae_delay::Timing;
 use ae_flow::schedules_fit;
+use ae_fuse::Fused;
 use ae_lower::{Lowered, circuits_are_for, lower};
 use ae_netlist::Netlist;
 use ae_retime::matching;
@@ -27,7 +29,7 @@ use ae_verilog::{Note, Report};
 use std::alloc::{AllocError, Global};
 
 /// A costed program with its circuit, or that with an enable, the report of that, and a note for each line of the program
-/// function.
+/// function, or of one that only moves words for each result.
 #[derive(Drop)]
 pub struct Compiled {
     pub costed: Costed,
@@ -39,46 +41,76 @@ pub struct Compiled {
 // What is told of a circuit, with or without an enable.
 pub fn report(alloc: Global, costed: &Costed, enable: bool) -> Result<Report, AllocError>
     requires { IsCostedProgram costed.now }
-    ensures { IfOk result (λ r. (s : Tree) → slice_get (st_func_trees costed.now.schedule) (last_of (st_func_trees costed.now.schedule)) ≡ Some s → report_tree r ≡ report_of enable costed.now.slowdown (st_func_trees costed.now.schedule) s) }
+    ensures { IfOk result (λ r. (s : Tree) → slice_get (st_func_trees costed.now.schedule) (last_of (st_func_trees costed.now.schedule)) ≡ Some s → report_tree r ≡ report_of enable (program_tree costed.now.program) costed.now.slowdown (st_func_trees costed.now.schedule) s) }
 {
     let s = main_instance(&costed.schedule);
     Ok(Report {
         slowdown: costed.slowdown,
-        latency: costed.timing.latency(),
-        muls: costed.timing.muls(),
-        load: costed.timing.load(),
+        latency: costed.costs.latency(),
+        muls: costed.costs.muls(),
+        load: costed.costs.load() as u32,
         enable,
         ins: input_layouts(alloc, s)?,
         outs: output_layouts(alloc, s)?,
     })
 }
 
-// The circuit, and where the cells of the lines begin.
-pub fn circuit(alloc: Global, costed: &Costed) -> Result<Lowered, AllocError>
-    requires { IsCostedProgram costed.now }
-    ensures circuit { IfOk result (λ l. (s : Tree) → slice_get (st_func_trees costed.now.schedule) (last_of (st_func_trees costed.now.schedule)) ≡ Some s → IsCircuitOf (st_func_trees costed.now.schedule) s l.netlist) }
-    ensures marks { IfOk result (λ l. (s : Tree) → slice_get (st_func_trees costed.now.schedule) (last_of (st_func_trees costed.now.schedule)) ≡ Some s → AreMarks (length l.netlist.cells) (length s.nodes) l.marks.items) }
-    ensures nodes { IfOk result (λ l. (s : Tree) → slice_get (st_func_trees costed.now.schedule) (last_of (st_func_trees costed.now.schedule)) ≡ Some s
-        → AreNodeCells (st_func_trees costed.now.schedule) (last_of (st_func_trees costed.now.schedule)) s l.netlist.cells (1 + length (input_ports (streams_of s.ins))) l.marks.items) }
-    ensures lean { IfOk result (λ l. IsLean l.netlist) }
+// The circuit of the schedule, and where the cells of the lines begin.
+fn plain_circuit(alloc: Global, costed: &Costed, timing: &Timing) -> Result<Lowered, AllocError>
+    requires known { IsCostedProgram costed.now }
+    requires computes { is_movement (program_tree costed.now.program) ≡ false }
+    requires times { AreTimes (st_func_trees costed.now.schedule) timing.now }
+    ensures circuit { IfOk result (λ l. IsMadeFor (program_tree costed.now.program) costed.now.slowdown (st_func_trees costed.now.schedule) l.netlist) }
+    ensures marks { IfOk result (λ l. ArePlaced (program_tree costed.now.program) l.netlist.cells l.marks.items) }
+    ensures nodes { IfOk result (λ l. OwnCells (program_tree costed.now.program) (st_func_trees costed.now.schedule) l.netlist.cells l.marks.items) }
 {
+    circuits_are_for();
     schedules_fit();
-    let slacks = matching(alloc, &costed.schedule, &costed.timing)?;
-    lower(alloc, &costed.schedule, &costed.timing, &slacks)
+    let slacks = matching(alloc, &costed.schedule, timing)?;
+    let lowered = lower(alloc, &costed.schedule, timing, &slacks)?;
+    Ok(lowered)
 }
 
-// What is told of the cells of the lines, by the numbers of the cells before them.
+// The circuit of the moves, and where the cells of the results begin.
+fn moved_circuit(alloc: Global, costed: &Costed, moves: &Fused) -> Result<Lowered, AllocError>
+    requires known { IsCostedProgram costed.now }
+    requires moves { IsFusedOf (program_tree costed.now.program) (st_func_trees costed.now.schedule) moves.now }
+    ensures circuit { IfOk result (λ l. IsMadeFor (program_tree costed.now.program) costed.now.slowdown (st_func_trees costed.now.schedule) l.netlist) }
+    ensures marks { IfOk result (λ l. ArePlaced (program_tree costed.now.program) l.netlist.cells l.marks.items) }
+    ensures nodes { IfOk result (λ l. OwnCells (program_tree costed.now.program) (st_func_trees costed.now.schedule) l.netlist.cells l.marks.items) }
+{
+    let lowered = moves.lower(alloc)?;
+    Ok(lowered)
+}
+
+// The circuit, and where the cells of what is told begin.
+pub fn circuit(alloc: Global, costed: &Costed) -> Result<Lowered, AllocError>
+    requires { IsCostedProgram costed.now }
+    ensures circuit { IfOk result (λ l. IsMadeFor (program_tree costed.now.program) costed.now.slowdown (st_func_trees costed.now.schedule) l.netlist) }
+    ensures marks { IfOk result (λ l. ArePlaced (program_tree costed.now.program) l.netlist.cells l.marks.items) }
+    ensures nodes { IfOk result (λ l. OwnCells (program_tree costed.now.program) (st_func_trees costed.now.schedule) l.netlist.cells l.marks.items) }
+{
+    match &costed.costs {
+        Costs::Plain(timing) => plain_circuit(alloc, costed, timing),
+        Costs::Fused(moves) => moved_circuit(alloc, costed, moves),
+    }
+}
+
+// What is told of the cells of the lines, or of the results, by the numbers of the cells before them.
 pub fn notes(alloc: Global, costed: &Costed, marks: &[u32]) -> Result<Vec<Note>, AllocError>
     requires costed { IsCostedProgram costed.now }
-    requires marks { (s : Tree) → slice_get (st_func_trees costed.now.schedule) (last_of (st_func_trees costed.now.schedule)) ≡ Some s → length marks.now ≡ length s.nodes }
+    requires marks { (f : FuncTree) → slice_get (program_tree costed.now.program).funcs (main_of (program_tree costed.now.program)) ≡ Some f → length marks.now ≡ told_count (program_tree costed.now.program) f }
     ensures are { IfOk result (λ v. (s : Tree) (f : FuncTree) → slice_get (st_func_trees costed.now.schedule) (last_of (st_func_trees costed.now.schedule)) ≡ Some s
         → slice_get (program_tree costed.now.program).funcs (main_of (program_tree costed.now.program)) ≡ Some f
-        → map note_tree v.items ≡ node_notes (item_layouts s) (length f.params) f.nodes marks.now) }
+        → map note_tree v.items ≡ told_notes (program_tree costed.now.program) f (item_layouts s) marks.now) }
     ensures printed { IfOk result (λ v. ArePrinted (map note_tree v.items)) }
 {
     let func = main_func(&costed.program);
     let instance = main_instance(&costed.schedule);
-    line_notes(alloc, func, instance, marks)
+    match &costed.costs {
+        Costs::Plain(_) => line_notes(alloc, func, instance, marks),
+        Costs::Fused(_) => end_notes(alloc, func, instance, marks),
+    }
 }
 
 /// The circuit of a costed program: it makes the program's blocks in every reset run, at the latency of the costs, which
@@ -88,7 +120,6 @@ pub fn compile(alloc: Global, costed: Costed) -> Result<Compiled, AllocError>
     ensures of { IfOk result (λ d. d.costed ≡ costed) }
     ensures compiled { IfOk result IsCompiledProgram }
 {
-    circuits_are_for();
     let report = report(alloc, &costed, false)?;
     let lowered = circuit(alloc, &costed)?;
     let notes = notes(alloc, &costed, &lowered.marks)?;

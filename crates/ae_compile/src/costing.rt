@@ -1,6 +1,6 @@
 // What the circuit of a program costs under a slowdown.
 
-ghost use Rattle.std.specs.Prelude.{◌≡◌, ◌<◌, ◌≤◌, ◌-◌, ℕ, IsTrue, List, Some, None, IfOk, IfErr, length, slice_get};
+ghost use Rattle.std.specs.Prelude.{◌≡◌, ◌<◌, ◌≤◌, ◌-◌, ℕ, IsTrue, Some, None, IfOk, IfErr, OnOk, length, slice_get};
 ghost use Rattle.ae_seq.specs.ProgramTree.{func_tree, program_tree};
 ghost use Rattle.ae_seq.specs.Formed.{formed};
 ghost use Rattle.ae_rewrite.specs.Scheduled.{IsSchedule};
@@ -8,11 +8,13 @@ ghost use Rattle.ae_rewrite.specs.StProgramTree.{st_func_tree, st_func_trees};
 ghost use Rattle.ae_rewrite.specs.Interface.{main_of};
 ghost use Rattle.ae_delay.specs.Costs.{too_large};
 ghost use Rattle.ae_delay.specs.Timings.{AreTimes};
-ghost use Rattle.ae_compile.specs.Costing.{IsScheduled, IsCosted, IsCostFault, IsKnown, load_limit};
+ghost use Rattle.ae_compile.specs.Costing.{AreCosts, IsLargeAt, IsScheduled, IsCosted, IsCostFault, IsKnown, costs_over, load_limit};
 
+use crate::costs::Costs;
 use crate::faults::CompileFault;
 use crate::typing::typed;
 use ae_delay::{DelayFault, Timing, arrivals_within};
+use ae_fuse::fuse;
 use ae_rewrite::{PlanFault, StFunc, StProgram, schedule};
 use ae_seq::{Func, Typed};
 use std::alloc::Global;
@@ -29,7 +31,7 @@ pub struct Costed {
     pub slowdown: u32,
     pub program: Typed,
     pub schedule: StProgram,
-    pub timing: Timing,
+    pub costs: Costs,
 }
 
 fn scheduled(alloc: Global, part: &[u8], slowdown: u32) -> Result<(Typed, StProgram), CompileFault>
@@ -47,23 +49,70 @@ fn scheduled(alloc: Global, part: &[u8], slowdown: u32) -> Result<(Typed, StProg
     }
 }
 
-// A program with its schedule and the times of that, in one.
-fn known(slowdown: u32, program: Typed, schedule: StProgram, timing: Timing) -> Costed
+// A program with its schedule and the costs of that, in one.
+fn known(slowdown: u32, program: Typed, schedule: StProgram, costs: Costs) -> Costed
     requires some { 0 < slowdown }
     requires limit { slowdown ≤ 4096 }
     requires schedule { IsSchedule (program_tree program) slowdown (st_func_trees schedule) }
-    requires times { AreTimes (st_func_trees schedule) timing }
-    ensures is { result ≡ record { slowdown = slowdown; program = program; schedule = schedule; timing = timing } }
-    ensures known { (load : ℕ) → too_large load (st_func_trees schedule) ≡ None → IsKnown load (program_tree program) slowdown (st_func_trees schedule) timing }
+    requires costs { AreCosts (program_tree program) (st_func_trees schedule) costs }
+    ensures is { result ≡ record { slowdown = slowdown; program = program; schedule = schedule; costs = costs } }
+    ensures known { (load : ℕ) → costs_over load (program_tree program) (st_func_trees schedule) ≡ None → IsKnown load (program_tree program) slowdown (st_func_trees schedule) costs }
 {
     let _program = program.program();
     let _count = schedule.count();
-    let _load = timing.load();
     Costed {
         slowdown,
         program,
         schedule,
-        timing,
+        costs,
+    }
+}
+
+// The times of a schedule, if its load is within the limit.
+fn find_times(alloc: Global, schedule: &StProgram, limit: u32) -> Result<Timing, CompileFault>
+    requires { limit ≤ load_limit }
+    ensures times { IfOk result (λ t. AreTimes (st_func_trees schedule.now) t) }
+    ensures within { OnOk result (too_large limit (st_func_trees schedule.now) ≡ None) }
+    ensures refused { IfErr result (λ f. IsLargeAt (too_large limit (st_func_trees schedule.now)) f) }
+{
+    match arrivals_within(alloc, schedule, limit) {
+        Ok(timing) => Ok(timing),
+        Err(DelayFault::Large { line, load: _ }) => Err(CompileFault::TooLarge { line }),
+        Err(DelayFault::Memory) => Err(CompileFault::Memory),
+    }
+}
+
+// The costs of a program with a schedule: of one that only moves words those of its moves, which may be within the limit where
+// the schedule is not, and the other way round.
+fn find_costs(
+    alloc: Global,
+    program: &Typed,
+    schedule: &StProgram,
+    limit: u32,
+) -> Result<Costs, CompileFault>
+    requires schedule { (slowdown : ℕ) × (0 < slowdown) × (slowdown ≤ 4096) × IsSchedule (program_tree program.now) slowdown (st_func_trees schedule.now) }
+    requires limit { limit ≤ load_limit }
+    ensures costs { IfOk result (λ c. AreCosts (program_tree program.now) (st_func_trees schedule.now) c) }
+    ensures within { OnOk result (costs_over limit (program_tree program.now) (st_func_trees schedule.now) ≡ None) }
+    ensures refused { IfErr result (λ f. IsLargeAt (costs_over limit (program_tree program.now) (st_func_trees schedule.now)) f) }
+{
+    let func = main_func(program);
+    match fuse(alloc, program, schedule) {
+        Ok(Some(moves)) => {
+            let load = moves.load();
+            let most = u64::from(limit);
+            if load > most {
+                return Err(CompileFault::TooLarge {
+                    line: func.end_line,
+                });
+            }
+            Ok(Costs::Fused(moves))
+        }
+        Ok(None) => {
+            let timing = find_times(alloc, schedule, limit)?;
+            Ok(Costs::Plain(timing))
+        }
+        Err(_) => Err(CompileFault::Memory),
     }
 }
 
@@ -78,15 +127,12 @@ pub fn cost(alloc: Global, part: &[u8], slowdown: u32, limit: u32) -> Result<Cos
     requires limit { limit ≤ load_limit }
     ensures costed { IfOk result (λ c. IsCosted limit part.now slowdown (program_tree c.program) (st_func_trees c.schedule)) }
     ensures slowdown { IfOk result (λ c. c.slowdown ≡ slowdown) }
-    ensures known { IfOk result (λ c. IsKnown limit (program_tree c.program) c.slowdown (st_func_trees c.schedule) c.timing) }
+    ensures known { IfOk result (λ c. IsKnown limit (program_tree c.program) c.slowdown (st_func_trees c.schedule) c.costs) }
     ensures refused { IfErr result (λ f. IsCostFault limit part.now slowdown f) }
 {
     let (program, schedule) = scheduled(alloc, part, slowdown)?;
-    match arrivals_within(alloc, &schedule, limit) {
-        Ok(timing) => Ok(known(slowdown, program, schedule, timing)),
-        Err(DelayFault::Large { line, load: _ }) => Err(CompileFault::TooLarge { line }),
-        Err(DelayFault::Memory) => Err(CompileFault::Memory),
-    }
+    let costs = find_costs(alloc, &program, &schedule, limit)?;
+    Ok(known(slowdown, program, schedule, costs))
 }
 
 /// The program function, which is the last.

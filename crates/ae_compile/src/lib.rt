@@ -4,6 +4,7 @@
 
 mod circuits;
 mod costing;
+mod costs;
 mod faults;
 mod layouts;
 mod notes;
@@ -16,6 +17,7 @@ mod typing;
 
 pub use circuits::{Compiled, compile};
 pub use costing::{Costed, LOAD_LIMIT, STALL_LIMIT, cost, main_func, main_instance};
+pub use costs::Costs;
 pub use faults::{CompileFault, OutOfMemory};
 pub use layouts::output_layouts;
 pub use playing::play;

@@ -1,12 +1,13 @@
 // Where the cells of the lines of a program begin.
 
-ghost use Rattle.std.specs.Prelude.{◌≡◌, ◌+◌, ◌<◌, ◌≤◌, length, map, IfOk};
+ghost use Rattle.std.specs.Prelude.{◌≡◌, ◌+◌, ◌<◌, ◌≤◌, ℕ, length, map, IfOk, Some, slice_get};
 ghost use Rattle.ae_seq.specs.ProgramTree.{func_tree, node_tree};
 ghost use Rattle.ae_sttype.specs.StTree.{st_tree};
 ghost use Rattle.ae_rewrite.specs.StProgramTree.{st_func_tree};
 ghost use Rattle.ae_rewrite.specs.Sound.{item_layouts};
 ghost use Rattle.ae_verilog.specs.Notes.{note_tree};
-ghost use Rattle.ae_compile.specs.LineNotes.{node_note, node_notes};
+ghost use Rattle.ae_headline.specs.Headline.{item_name};
+ghost use Rattle.ae_compile.specs.LineNotes.{item_note, node_note, node_notes, result_notes};
 ghost use Rattle.ae_compile.specs.Mains.{IsInstanceOf};
 
 use ae_delay::layout;
@@ -49,6 +50,76 @@ fn notes_behind(
         item += 1;
     }
     Ok(notes)
+}
+
+// The name of an item of a function.
+fn item_name(func: &Func, item: usize) -> &str
+    requires { item < length (func_tree func.now).params + length (func_tree func.now).nodes }
+    ensures { result.now ≡ item_name (func_tree func.now) item }
+{
+    let params = func.params.as_slice();
+    let nodes = func.nodes.as_slice();
+    if item < params.len() {
+        let param = &params[item];
+        return param.name.as_str();
+    }
+    let node = &nodes[item - params.len()];
+    node.name.as_str()
+}
+
+// What is told of a result at the end line.
+fn end_note(
+    alloc: Global,
+    cell: u32,
+    func: &Func,
+    item: usize,
+    layout: &StType,
+) -> Result<Note, AllocError>
+    requires { item < length (func_tree func.now).params + length (func_tree func.now).nodes }
+    ensures { IfOk result (λ n. note_tree n ≡ item_note (func_tree func.now) item cell (st_tree layout.now)) }
+{
+    Ok(Note {
+        cell,
+        line: func.end_line,
+        name: String::from_str(alloc, item_name(func, item))?,
+        layout: layout.copy(alloc)?,
+    })
+}
+
+// The same of these items of it.
+fn notes_of_items(
+    alloc: Global,
+    func: &Func,
+    items: &[u32],
+    instance: &StFunc,
+    marks: &[u32],
+) -> Result<Vec<Note>, AllocError>
+    requires many { length (item_layouts (st_func_tree instance.now)) ≡ length (func_tree func.now).params + length (func_tree func.now).nodes }
+    requires there { (i r : ℕ) → slice_get items.now i ≡ Some r → r < length (item_layouts (st_func_tree instance.now)) }
+    requires marks { length marks.now ≡ length items.now }
+    ensures { IfOk result (λ v. map note_tree v.items ≡ result_notes (item_layouts (st_func_tree instance.now)) (func_tree func.now) items.now marks.now) }
+{
+    let mut notes = Vec::new(alloc);
+    for (k, item) in items.iter().enumerate() {
+        let item = *item as usize;
+        let told = end_note(alloc, marks[k], func, item, layout(instance, item))?;
+        notes.push(told)?;
+    }
+    Ok(notes)
+}
+
+/// A note for each result of a function, by the numbers of the cells before those of the results.
+pub fn end_notes(
+    alloc: Global,
+    func: &Func,
+    instance: &StFunc,
+    marks: &[u32],
+) -> Result<Vec<Note>, AllocError>
+    requires instance { IsInstanceOf (func_tree func.now) (st_func_tree instance.now) }
+    requires marks { length marks.now ≡ length (func_tree func.now).results }
+    ensures { IfOk result (λ v. map note_tree v.items ≡ result_notes (item_layouts (st_func_tree instance.now)) (func_tree func.now) (func_tree func.now).results marks.now) }
+{
+    notes_of_items(alloc, func, &func.results, instance, marks)
 }
 
 /// A note for each node of a function, by the numbers of the cells before its nodes.

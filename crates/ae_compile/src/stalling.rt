@@ -2,18 +2,17 @@
 
 ghost use Rattle.std.specs.Prelude.{◌≡◌, ◌<◌, ◌≤◌, ℕ, IfOk, Some, length, map, slice_get};
 ghost use Rattle.ae_netlist.specs.Circuit.{Circuit};
-ghost use Rattle.ae_rewrite.specs.StProgramTree.{StFuncTree as Tree, st_func_trees};
-ghost use Rattle.ae_lower.specs.Circuits.{IsCircuitOf, last_of};
-ghost use Rattle.ae_tidy.specs.Needed.{IsLean};
+ghost use Rattle.ae_seq.specs.ProgramTree.{program_tree};
+ghost use Rattle.ae_rewrite.specs.StProgramTree.{st_func_trees};
 ghost use Rattle.ae_stall.specs.Images.{moved};
 ghost use Rattle.ae_stall.specs.Stalled.{IsStalled};
 ghost use Rattle.ae_stalled.specs.Laws.{stall_limit};
+ghost use Rattle.ae_compile.specs.Compiling.{IsMadeFor};
 ghost use Rattle.ae_compile.specs.Costing.{main_costs};
 ghost use Rattle.ae_compile.specs.Passes.{IsCostedProgram, IsStalledProgram};
 
 use crate::circuits::{Compiled, circuit, notes, report};
 use crate::costing::Costed;
-use ae_lower::circuits_are_for;
 use ae_netlist::Netlist;
 use ae_stall::stall;
 use std::alloc::{AllocError, Global};
@@ -21,13 +20,11 @@ use std::alloc::{AllocError, Global};
 // The same netlist with an enable, of a program's circuit within the limit of load.
 fn stalled_netlist(alloc: Global, costed: &Costed, plain: &Netlist) -> Result<Netlist, AllocError>
     requires known { IsCostedProgram costed.now }
-    requires light { (main_costs (st_func_trees costed.now.schedule)).load ≤ stall_limit }
-    requires circuit { (s : Tree) → slice_get (st_func_trees costed.now.schedule) (last_of (st_func_trees costed.now.schedule)) ≡ Some s → IsCircuitOf (st_func_trees costed.now.schedule) s plain.now }
-    requires lean { IsLean plain.now }
+    requires light { (main_costs (program_tree costed.now.program) (st_func_trees costed.now.schedule)).load ≤ stall_limit }
+    requires circuit { IsMadeFor (program_tree costed.now.program) costed.now.slowdown (st_func_trees costed.now.schedule) plain.now }
     ensures stalled { IfOk result (λ n. IsStalled plain.now n) }
     ensures few { IfOk result (λ n. length plain.now.cells ≤ 1000000) }
 {
-    circuits_are_for();
     stall(alloc, plain)
 }
 
@@ -59,11 +56,10 @@ fn moved_marks(alloc: Global, marks: &[u32]) -> Result<Vec<u32>, AllocError>
 /// want of memory.
 pub fn compile_stalled(alloc: Global, costed: Costed) -> Result<Compiled, AllocError>
     requires known { IsCostedProgram costed }
-    requires light { (main_costs (st_func_trees costed.schedule)).load ≤ stall_limit }
+    requires light { (main_costs (program_tree costed.program) (st_func_trees costed.schedule)).load ≤ stall_limit }
     ensures of { IfOk result (λ d. d.costed ≡ costed) }
     ensures stalled { IfOk result IsStalledProgram }
 {
-    circuits_are_for();
     let report = report(alloc, &costed, true)?;
     let lowered = circuit(alloc, &costed)?;
     let netlist = stalled_netlist(alloc, &costed, &lowered.netlist)?;

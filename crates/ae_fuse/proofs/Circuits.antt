@@ -143,6 +143,17 @@ late-same {cells} {rst} {rst2} {whole} {whole2} {count} {count2} {ms} {ms2} {arg
 
 -- ---- by the program
 
+-- the layouts of the results are those of the instance
+pub outs-same : (f : FusedView) (p : ProgramTree) (slowdown : ℕ) (instances : List StFuncTree) → IsTyped p → IsSchedule p slowdown instances → (is : IsFusedOf p instances f) → outs_in f ≡ outs_of is.instance
+outs-same f p slowdown instances typed h is =
+    let s = is.instance in
+    let m = is-main p slowdown instances is.func s is.movement typed h is.there is.last in
+    let results : s.results ≡ is.func.results = m.instance.results ∙ ap (λ (g : FuncTree). g.results) (same_Some m.instance.of is.func (sym m.instance.known ∙ ap (slice_get p.funcs) m.is_main ∙ is.there)) in
+    sym (map_map (λ (x : Move). x.out) (result_move (st_trees f.ins)) f.results)
+    ∙ ap (map (λ (x : Move). x.out)) is.moves
+    ∙ map_map (λ (x : Move). x.out) (item_move is.func s) is.func.results
+    ∙ ap (map (item_layout (item_layouts s))) (sym results)
+
 module _ (f : FusedView) (n : Circuit) (shows : ShowsMoves f n) (lean : IsLean n) (p : ProgramTree) (slowdown : ℕ) (instances : List StFuncTree) (typed : IsTyped p) (some : 0 < slowdown) (few : slowdown ≤ 4096)
     (h : IsSchedule p slowdown instances) (sound : IsSound instances) (is : IsFusedOf p instances f) where
   abbrev s : StFuncTree
@@ -158,13 +169,7 @@ module _ (f : FusedView) (n : Circuit) (shows : ShowsMoves f n) (lean : IsLean n
   all-moves = is.moves ∙ sym (moves-traced p slowdown instances is.func s is.movement typed h is.there is.last)
 
   same-outs : outs_in f ≡ outs_of s
-  same-outs =
-      let m = is-main p slowdown instances is.func s is.movement typed h is.there is.last in
-      let results : s.results ≡ is.func.results = m.instance.results ∙ ap (λ (g : FuncTree). g.results) (same_Some m.instance.of is.func (sym m.instance.known ∙ ap (slice_get p.funcs) m.is_main ∙ is.there)) in
-      sym (map_map (λ (x : Move). x.out) (result_move given) f.results)
-      ∙ ap (map (λ (x : Move). x.out)) is.moves
-      ∙ map_map (λ (x : Move). x.out) (item_move is.func s) is.func.results
-      ∙ ap (map (item_layout (item_layouts s))) (sym results)
+  same-outs = outs-same f p slowdown instances typed h is
 
   laid : HaveLayouts p slowdown given (outs_in f)
   laid = subst (λ ss. HaveLayouts p slowdown ss (outs_in f)) (sym is.ins) (subst (HaveLayouts p slowdown s.ins) (sym same-outs) (layouts p slowdown instances s typed h sound is.last))

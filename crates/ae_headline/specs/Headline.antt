@@ -1,14 +1,14 @@
 -- The headline: what the text that `build S` writes with Ok is.
-use Rattle.std.specs.Prelude.{◌≡◌, ℕ, ◌+◌, ◌*◌, ◌≤◌, false, List, ◌∷◌, length, map, take, Some, slice_get}
+use Rattle.std.specs.Prelude.{◌≡◌, ℕ, ◌+◌, ◌*◌, ◌≤◌, ◌⊎◌, false, List, [], ◌∷◌, ◌++◌, length, map, take, Some, slice_get, slice_index_or}
 use Rattle.ae_seqtype.specs.SeqTree.{SeqTree}
 use Rattle.ae_seqtype.specs.ValueTree.{ValueTree}
-use Rattle.ae_seq.specs.ProgramTree.{ProgramTree, NodeTree}
+use Rattle.ae_seq.specs.ProgramTree.{ProgramTree, FuncTree, NodeTree}
+use Rattle.ae_seq.specs.Formed.{node_names, param_names}
 use Rattle.ae_seq.specs.Meaning.{mean}
 use Rattle.ae_sttype.specs.StTree.{StTree}
 use Rattle.ae_netlist.specs.Circuit.{Circuit}
 use Rattle.ae_netlist.specs.Counts.{count_of, is_input, is_mul}
 use Rattle.ae_netlist.specs.Runs.{HasOneRun}
-use Rattle.ae_eval.specs.Lines.{nodes_for}
 use Rattle.ae_rewrite.specs.LayoutRule.{lay_of}
 use Rattle.ae_rewrite.specs.Interface.{AreValues, main_of, parameter_types}
 use Rattle.ae_rewrite.specs.Blocks.{MakesBlocks}
@@ -38,9 +38,18 @@ pub record Computes (n : Circuit) (p : ProgramTree) (r : ReportTree) : Type 0 wh
   pub products : count_of is_mul n.cells ≡ r.muls
   pub small : length n.cells ≤ 16 * r.load + 1 + length (input_ports (streams_of r.ins))
 
--- a note for each node of the program function, in order, by its line and its name
+-- the name of an item of a function
+abbrev pub item_name : FuncTree → (item : ℕ) → List ℕ
+item_name f i = slice_index_or (param_names f.params ++ node_names f.nodes) i []
+
+-- the notes tell each node of a function, or each result at its end line, in order, by their lines and names
+abbrev pub AreNotesIn : FuncTree → List (ℕ × List ℕ) → Type 0
+AreNotesIn f told =
+    (told ≡ map {B = ℕ × List ℕ} (λ (n : NodeTree). (n.line, n.name)) f.nodes)
+    ⊎ (told ≡ map {B = ℕ × List ℕ} (λ i. (f.end_line, item_name f i)) f.results)
+
 abbrev pub AreNotes : ProgramTree → List NoteTree → Type 0
-AreNotes p notes = map {B = ℕ × List ℕ} (λ (n : NoteTree). (n.line, n.name)) notes ≡ map {B = ℕ × List ℕ} (λ (n : NodeTree). (n.line, n.name)) (nodes_for (slice_get p.funcs (main_of p)))
+AreNotes p notes = (f : FuncTree) → slice_get p.funcs (main_of p) ≡ Some f → AreNotesIn f (map {B = ℕ × List ℕ} (λ (n : NoteTree). (n.line, n.name)) notes)
 
 -- the text is the listing of such a netlist, for the program that the input says
 pub record IsProgramListing (part : List ℕ) (slowdown : ℕ) (text : List ℕ) : Type 0 where

@@ -31,7 +31,7 @@ pub record Tells (r : ReportTree) (slowdown : ℕ) (costs : OwnCosts) : Type 0 w
   pub no_enable : r.enable ≡ false
 
 -- where a text is read as a typed program that has a schedule, a circuit for the program, however it was made, written with a
--- report of its costs and a note for each line, is a listing for it
+-- report of its costs and its notes, is a listing for it
 abbrev pub BuiltTextsAreListings : Type 0
 BuiltTextsAreListings =
     (part : List ℕ) (p : ProgramTree) (slowdown : ℕ) (instances : List StFuncTree) (costs : OwnCosts) (r : ReportTree) (n : Circuit) (notes : List NoteTree) (text : List ℕ)

@@ -3,7 +3,7 @@
 ghost use Rattle.ae_headline.specs.Laws.{BuiltTextsAreListings, ListingsMeanModules, ProgramListingsMeanModules};
 
 /// A law: where a text is read as a typed program that has a schedule, a circuit for the program, written with a report of its
-/// costs and a note for each line of the program function, is a listing for the program.
+/// costs and the notes of the program function, is a listing for the program.
 pub fn built_texts_are_listings()
     ensures { BuiltTextsAreListings }
 {}

@@ -23,7 +23,7 @@ returns-clause-writable c =
     let d = c.args.compiled.now in
     let report = report_tree d.report in
     let e = c.requires.compiled in
-    c.circuits_are_writable.ensures (program_tree d.costed.program) d.costed.slowdown (main_costs (st_func_trees d.costed.schedule)) report.ins report.outs d.netlist e.laid c.requires.costed.light e.circuit
+    c.circuits_are_writable.ensures (program_tree d.costed.program) d.costed.slowdown (main_costs (program_tree d.costed.program) (st_func_trees d.costed.schedule)) report.ins report.outs d.netlist e.laid c.requires.costed.light e.circuit
 
 pub returns-clause-own : goal.returns-clause-own
 returns-clause-own c =
@@ -31,4 +31,4 @@ returns-clause-own c =
     let report = report_tree d.report in
     let e = c.requires.compiled in
     c.module_keeps.ensures.ports (lines_of (map note_tree d.notes.items) (length d.netlist.cells)) d.netlist (length report.outs)
-    (c.circuits_are_writable.ensures (program_tree d.costed.program) d.costed.slowdown (main_costs (st_func_trees d.costed.schedule)) report.ins report.outs d.netlist e.laid c.requires.costed.light e.circuit)
+    (c.circuits_are_writable.ensures (program_tree d.costed.program) d.costed.slowdown (main_costs (program_tree d.costed.program) (st_func_trees d.costed.schedule)) report.ins report.outs d.netlist e.laid c.requires.costed.light e.circuit)

@@ -4,36 +4,36 @@ use Rattle.ae_seq.specs.ProgramTree.{program_tree}
 use Rattle.ae_rewrite.specs.StProgramTree.{st_func_trees}
 use Rattle.ae_rewrite.specs.Sound.{item_layouts}
 use Rattle.ae_stall.specs.Images.{moved}
-use Rattle.ae_compile.specs.LineNotes.{node_notes}
+use Rattle.ae_compile.specs.LineNotes.{told_notes}
 use Rattle.ae_verilog.specs.Notes.{note_tree}
 use Rattle.ae_verilog.specs.ReportLines.{report_tree}
 use Rattle.ae_compile.proofs.Enabling.{stalled_made}
+use Rattle.ae_compile.proofs.Mains.{parts_of}
 use Rattle.ae_compile.proofs.stalling.compile_stalled.Goals as goal
 
 pub moved_marks-requires : goal.moved_marks-requires
 moved_marks-requires c = λ i m e.
-    let key = c.requires.known.schedule.last in
-    let within = (c.in_ok-lowered.ensures.marks key.instance key.here).within i m (ap (λ ms. slice_get ms i) (sym c.deref.ensures.value) ∙ e) in
+    let parts = parts_of (program_tree c.args.costed.program) c.args.costed.slowdown (st_func_trees c.args.costed.schedule) c.requires.known.schedule in
+    let within = (c.in_ok-lowered.ensures.marks parts.func parts.there).within i m (ap (λ ms. slice_get ms i) (sym c.deref.ensures.value) ∙ e) in
     omega (arith, within, c.in_ok-netlist.ensures.few)
 
 pub notes-requires-clause-marks : goal.notes-requires-clause-marks
-notes-requires-clause-marks c s found =
-    ap length (c.deref-2.ensures.value ∙ (c.in_ok-marks.ensures ∙ ap (map moved) c.deref.ensures.value)) ∙ (length-map c.in_ok-lowered.lowered.marks.items moved ∙ (c.in_ok-lowered.ensures.marks s found).long)
+notes-requires-clause-marks c f main =
+    ap length (c.deref-2.ensures.value ∙ (c.in_ok-marks.ensures ∙ ap (map moved) c.deref.ensures.value)) ∙ (length-map c.in_ok-lowered.lowered.marks.items moved ∙ (c.in_ok-lowered.ensures.marks f main).long)
 
 pub returns-clause-stalled : goal.returns-clause-stalled
 returns-clause-stalled c = record {
   costed = c.requires.known;
   light = c.requires.light;
-  compiled = stalled_made (program_tree c.args.costed.program) c.args.costed.slowdown (st_func_trees c.args.costed.schedule) c.args.costed.timing c.in_ok-lowered.lowered.netlist c.in_ok-netlist.netlist c.in_ok-lowered.lowered.marks.items
-      (report_tree c.in_ok-report.report) (map note_tree c.in_ok-notes.notes.items) c.circuits_are_for.ensures c.requires.known
+  compiled = stalled_made (program_tree c.args.costed.program) c.args.costed.slowdown (st_func_trees c.args.costed.schedule) c.args.costed.costs c.in_ok-lowered.lowered.netlist c.in_ok-netlist.netlist c.in_ok-lowered.lowered.marks.items
+      (report_tree c.in_ok-report.report) (map note_tree c.in_ok-notes.notes.items) c.requires.known
       (record {
         reports = c.in_ok-report.ensures;
-        circuits = c.in_ok-lowered.ensures.circuit;
+        circuit = c.in_ok-lowered.ensures.circuit;
         stalled = c.in_ok-netlist.ensures.stalled;
         own = c.in_ok-lowered.ensures.nodes;
-        lean = c.in_ok-lowered.ensures.lean;
         places = c.in_ok-lowered.ensures.marks;
-        notes_are = λ s f last main. c.in_ok-notes.ensures.are s f last main ∙ ap (node_notes (item_layouts s) (length f.params) f.nodes) (c.deref-2.ensures.value ∙ (c.in_ok-marks.ensures ∙ ap (map moved) c.deref.ensures.value));
+        notes_are = λ s f last main. c.in_ok-notes.ensures.are s f last main ∙ ap (told_notes (program_tree c.args.costed.program) f (item_layouts s)) (c.deref-2.ensures.value ∙ (c.in_ok-marks.ensures ∙ ap (map moved) c.deref.ensures.value));
         printed = c.in_ok-notes.ensures.printed;
       });
 }

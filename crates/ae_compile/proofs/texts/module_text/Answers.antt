@@ -13,7 +13,7 @@ written-requires c =
     let d = c.args.compiled.now in
     record {
       printed = c.requires.compiled.printed;
-      short = compiled_short (program_tree d.costed.program) d.costed.slowdown (st_func_trees d.costed.schedule) d.costed.timing d.netlist (report_tree d.report) (map note_tree d.notes.items) c.requires.costed c.requires.compiled;
+      short = compiled_short (program_tree d.costed.program) d.costed.slowdown (st_func_trees d.costed.schedule) d.costed.costs d.netlist (report_tree d.report) (map note_tree d.notes.items) c.requires.costed c.requires.compiled;
     }
 
 pub returns-clause-spells : goal.returns-clause-spells
@@ -32,5 +32,5 @@ returns-clause-text c =
       once = c.one_run.ensures.once;
       spelled = c.spelled_once.ensures;
     } in
-    module_is (program_tree d.costed.program) d.costed.slowdown (st_func_trees d.costed.schedule) d.costed.timing d.netlist (report_tree d.report) (map note_tree d.notes.items) (string_bytes c.in_ok-text.text) laws
+    module_is (program_tree d.costed.program) d.costed.slowdown (st_func_trees d.costed.schedule) d.costed.costs d.netlist (report_tree d.report) (map note_tree d.notes.items) (string_bytes c.in_ok-text.text) laws
     c.requires.costed c.requires.compiled c.in_ok-text.ensures

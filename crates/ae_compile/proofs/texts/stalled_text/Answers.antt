@@ -13,7 +13,7 @@ written-requires c =
     let d = c.args.compiled.now in
     record {
       printed = c.requires.compiled.printed;
-      short = stalled_short (program_tree d.costed.program) d.costed.slowdown (st_func_trees d.costed.schedule) d.costed.timing d.netlist (report_tree d.report) (map note_tree d.notes.items) c.requires.costed c.requires.light c.requires.compiled;
+      short = stalled_short (program_tree d.costed.program) d.costed.slowdown (st_func_trees d.costed.schedule) d.costed.costs d.netlist (report_tree d.report) (map note_tree d.notes.items) c.requires.costed c.requires.light c.requires.compiled;
     }
 
 pub returns : goal.returns
