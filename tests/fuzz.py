@@ -1,8 +1,8 @@
 #!/usr/bin/env python3
 """Programs and modules that somebody spoiled: bytes, tokens and lines of the examples, of random programs and of random modules
 are changed. Each job gives a stated answer, and the jobs agree: what `check` refuses every job refuses in the same line; `run`
-shows the results of `eval`; `sim` takes the module of `build`, and `unwave` the dump of `wave`; Icarus takes each module that
-`sim` takes, and shows the same words where ports and registers are as they were.
+shows the results of `eval`; `least` tells no greater latency than `plan`; `sim` takes the module of `build`, and `unwave` the
+dump of `wave`; Icarus takes each module that `sim` takes, and shows the same words where ports and registers are as they were.
 
 fuzz.py [COUNT [SEED]]: so many inputs (2,000 unless given), from a seed (1 unless given)."""
 import pathlib
@@ -26,6 +26,7 @@ STATED = {
     7: rf"refused bad module ({MODULE_CAUSES})",
     8: r"refused long run \d+",
     13: r"refused bad wave word \d+",
+    14: r"refused not moves line (\d+)",
 }
 EDGES = "0 1 2 3 7 8 63 64 65 255 256 4095 4096 4097 16384 16385 65535 65536 4294967295 4294967296 18446744073709551615 18446744073709551616".split()
 PROGRAM_WORDS = "fn end const call map map2 reduce scan shift select up partition unpartition zip pair fst snd add sub mul min max lt eq mux not shl shr cast aeth 2 u1 u8 u64 i8 i64 u65 [2]u8 [1]u1 [4096][4]u8 (u8,u8) %% # = :".split()
@@ -108,7 +109,7 @@ def answer(words, text):
     form = STATED.get(status)
     found = form and re.fullmatch(form + "\n", output)
     well = status == 0 or bool(found)
-    if found and status in (2, 3, 4, 5):
+    if found and status in (2, 3, 4, 5, 14):
         well = 1 <= int(found[1]) <= text.count(b"\n") + 2
     return (status, output), [] if well else [f"{words}: status {status}, {output[:200]!r}"]
 
@@ -116,7 +117,7 @@ def answer(words, text):
 def try_program(source, text):
     """What is wrong with the answers to a text as a program, and whether one of its jobs was done."""
     slowdown = source.choice((1, 1, 2, 3, 4, 6, 8, 12, 16, 48, 4096))
-    jobs = [["check"], ["eval"], ["plan", slowdown], ["cost", slowdown], ["build", slowdown], ["stall", slowdown], ["run", slowdown, FILL], ["wave", slowdown, FILL]]
+    jobs = [["check"], ["eval"], ["plan", slowdown], ["cost", slowdown], ["least", slowdown], ["build", slowdown], ["stall", slowdown], ["run", slowdown, FILL], ["wave", slowdown, FILL]]
     answers, wrong = {}, []
     for job in jobs:
         answers[job[0]], said = answer(job, text)
@@ -133,6 +134,11 @@ def try_program(source, text):
         wrong.append(f"cost or build refuses what plan takes: {answers}")
     if plan[0] == 5 and answers["stall"] != plan or answers["stall"][0] not in (0, 4, 5):
         wrong.append(f"stall: {answers['stall']}")
+    least, told = answers["least"]
+    if least not in (0, 5, 14) or least == 5 and answers["least"] != plan or least == 0 and plan[0] == 5:
+        wrong.append(f"least: {answers['least']}, and plan: {plan}")
+    if least == plan[0] == 0 and int(told.split()[1]) > int(plan[1].split()[3]):
+        wrong.append(f"least tells a greater latency than plan: {told}")
     if not refused and (run[0] == 6) != (evaluated[0] == 6):
         wrong.append(f"run and eval read the rows otherwise: {run}, {evaluated}")
     if run[0] == 0 and evaluated[0] == 0:

@@ -62,6 +62,8 @@ def cases():
     yield "one variable more", unwave, variable * 300_001 + "$enddefinitions $end", 13, "refused bad wave word 1800000\n"
     yield "a code of many bytes", unwave, f"$var wire 1 {'!' * 4_000_000} a $end $enddefinitions $end #1 1{'!' * 4_000_000}", 0, "1 1\n"
     yield "a comment without an end", unwave, "$comment " + "x " * 4_000_000, 13, "refused bad wave word 4000001\n"
+    shifts = "".join(f"b{k} = shift 1 {f'b{k - 1}' if k else 'a'}\n" for k in range(4094))
+    yield "as many moves as a program may have", ["least", 4], f"fn main a:[4]u8\n{shifts}end b4093\n", 0, "latency 0\n"
     # No words, or words that no shell would hand on: none of them names a job.
     no_text = "\udcff"  # the byte 255 alone, which is no UTF-8
     for words in (

@@ -46,6 +46,7 @@ PROGRAMS = [
 ]
 JOBS = [
     ("[7]u8 in 4 clocks", "plan 4", "fn main a:[7]u8\nend a\n", "no schedule line 1", 5),
+    ("the least latency of what computes", "least 4", INC + MAIN, "not moves line 6", 14),
     ("a row too short", "eval", ROWS + "1 2 3\n", "bad words row 1 column 4", 6),
     ("a row too long", "eval", ROWS + "1 2 3 4\n1 2 3 4 5\n", "bad words row 2 column 5", 6),
     ("a row with 256", "eval", ROWS + "1 256 3 4\n", "bad words row 1 column 2", 6),

@@ -39,6 +39,8 @@ RUNS = [
     ("eval", example("signed_fir")),
     ("plan 12", example("sobel")),
     ("cost 1", example("blur")),
+    ("least 4", example("rotate")),
+    ("least 4", example("increment")),
     ("build 1", example("increment")),
     ("build 16", example("median_of_three")),
     ("stall 4", example("increment")),

@@ -192,7 +192,44 @@ def drawn_wave():
     return drawing
 
 
-PICTURES = {"scene": drawn_scene, "layouts": drawn_layouts, "pipeline": drawn_pipeline, "wave": drawn_wave}
+MOVED = "fn main a:[4]u8\nb = shift 1 a\nc = select 3 b\nend c\n"
+
+
+def drawn_move():
+    """Two blocks of one move, at its least latency and one clock earlier, by the answers of `least` and `plan`."""
+    told, shown = aeth(["least", 4], MOVED)[1].splitlines()
+    late, (due, came) = int(told.split()[1]), map(int, shown.split()[3::4])
+    time = slots(aeth(["plan", 4], MOVED)[1].splitlines()[4].split(" ", 3)[3])[1]
+    step, left, clocks = 52, 160, 2 * time + late
+    drawing = Drawing(left + step * clocks + 20, 250)
+    drawing.text(10, 22, "clock")
+    for clock in range(clocks):
+        drawing.text(left + step * (clock + 0.5), 22, str(clock), 12, "middle")
+    rows = (("a", 40, [1 + word for word in range(2 * time)], 0), (f"c, {late} clocks later", 110, [], late), (f"c, {late - 1} later", 160, [], late - 1))
+    for name, y, words, first in rows:
+        drawing.text(10, y + 19, name)
+        for clock in range(clocks):
+            x, block, at = left + step * clock, (clock - first) // time, (clock - first) % time
+            if words and clock < len(words):
+                drawing.box(x, y, step, 28, COLOURS[block], str(words[clock]))
+            elif not words and at == due and block in (0, 1):
+                colour, word = (COLOURS[block], str(1 + came + time * block)) if first == late else (COLOURS[4], "?")
+                drawing.box(x, y, step, 28, colour, word)
+            else:
+                drawing.box(x, y, step, 28, "#eeeeee")
+    for block in (0, 1):
+        x = left + step * (came + time * block + 0.5)
+        drawing.line([(x, 68), (x, 110)], INK, 2)
+    lines = (
+        f"Word {1 + came} comes in clock {came} of its block, and stands in clock {due} of the block of c: c is {late} clocks late,",
+        "or its word would have to be known before it comes. Grey: nothing is asked.",
+    )
+    for number, words in enumerate(lines):
+        drawing.text(10, 215 + 18 * number, words, 12)
+    return drawing
+
+
+PICTURES = {"scene": drawn_scene, "layouts": drawn_layouts, "pipeline": drawn_pipeline, "wave": drawn_wave, "move": drawn_move}
 
 
 def main(words):

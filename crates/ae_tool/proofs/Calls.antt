@@ -1,24 +1,24 @@
 -- What follows from how a call may go.
 use Rattle.std.proofs.Common.{ℕ, ◌≡◌, ◌+◌, ◌<◌, ◌≤◌, ◌⊎◌, inl, inr, true, false, List, [], length, take, Option, Some, None, IfSome, arith, refl, ap, sym, ◌∙◌, subst}
 use Rattle.std.proofs.lemmas.List.{take_all}
-use Rattle.ae_io.specs.Counts.{Rose}
+use Rattle.ae_io.specs.Counts.{Rose, Same, raised}
 use Rattle.ae_io.specs.Told.{Appends, TakesCount}
 use Rattle.ae_io.specs.Transfer.{TakesAll}
 use Rattle.ae_tool.specs.declared.status.Status.{Status}
-use Rattle.ae_tool.specs.declared.status.Status.TheVariants.{Ok, Usage, BadLine, BadType, TooLarge, NoSchedule, BadWords, BadModule, LongRun, ReadFault, WriteFault, TooLong, Memory, BadWave}
+use Rattle.ae_tool.specs.declared.status.Status.TheVariants.{Ok, Usage, BadLine, BadType, TooLarge, NoSchedule, BadWords, BadModule, LongRun, ReadFault, WriteFault, TooLong, Memory, BadWave, NotMoves}
 use Rattle.ae_tool.specs.declared.command.Command.{Command}
-use Rattle.ae_tool.specs.declared.command.Command.TheVariants.{Check, Eval, Plan, Cost, Build, Stall, Run, Wave, Unwave, Sim, Demo}
+use Rattle.ae_tool.specs.declared.command.Command.TheVariants.{Check, Eval, Plan, Cost, Least, Build, Stall, Run, Wave, Unwave, Sim, Demo}
 use Rattle.ae_tool.specs.Commands.{IsCommand, NamesNone, TakesInput}
 use Rattle.ae_tool.specs.Refusals.{refusal_line}
 use Rattle.ae_tool.specs.Outcomes.{input_limit, IsAnswer, IsDone, IsOutcome, is_settled, HasOutcome, MayBeWritten, HasPart, LeavesRest, LeavesInput, RefusesWords, IsAccepted}
 use Rattle.ae_tool.proofs.Replies.{is_reply, done_replies, done_of_accepted, same_command}
-use Rattle.ae_tool.specs.Answers.{SourceView, SinkView, Puts, Whole, Failing, Wanting, Refuses, IsMade, Demo_whole, Demo_none, Answers, No_job, Made, Unread, Past_limit, Done, No_room}
+use Rattle.ae_tool.specs.Answers.{SourceView, SinkView, IsEnded, Puts, Whole, Failing, Wanting, Refuses, IsMade, Demo_whole, Demo_none, Answers, No_job, Made, Unread, Past_limit, Done, No_room}
 
 -- a settled answer is that of a text that was written whole
 record IsWhole (text : List ℕ) (status result : Status) (old new : SinkView) : Type 0 where
   same : result ≡ status
   written : Appends old.written new.written text
-  ended : Rose old.ends new.ends
+  ended : IsEnded old new
 
 whole : (text : List ℕ) (status result : Status) (old new : SinkView) → Puts text status result old new → is_settled result ≡ true → IsWhole text status result old new
 whole text status result old new (Whole e a r) h = record { same = e; written = a; ended = r }
@@ -31,6 +31,7 @@ answer_of Check bytes status text reads few d = (few, d)
 answer_of Eval bytes status text reads few d = (few, d)
 answer_of (Plan slowdown) bytes status text reads few d = (few, d)
 answer_of (Cost slowdown) bytes status text reads few d = (few, d)
+answer_of (Least slowdown) bytes status text reads few d = (few, d)
 answer_of (Build slowdown) bytes status text reads few d = (few, d)
 answer_of (Stall slowdown) bytes status text reads few d = (few, d)
 answer_of (Run slowdown fill) bytes status text reads few d = (few, d)
@@ -51,6 +52,7 @@ outcome_by ws command bytes (BadWords row column) text h job reads few d = (comm
 outcome_by ws command bytes (BadModule fault) text h job reads few d = (command, job, answer_of command bytes (BadModule fault) text reads few d)
 outcome_by ws command bytes (LongRun size) text h job reads few d = (command, job, answer_of command bytes (LongRun size) text reads few d)
 outcome_by ws command bytes (BadWave at) text h job reads few d = (command, job, answer_of command bytes (BadWave at) text reads few d)
+outcome_by ws command bytes (NotMoves line) text h job reads few d = (command, job, answer_of command bytes (NotMoves line) text reads few d)
 outcome_by ws command bytes ReadFault text h job reads few d = cc
 outcome_by ws command bytes WriteFault text h job reads few d = cc
 outcome_by ws command bytes TooLong text h job reads few d = cc
@@ -274,12 +276,12 @@ write_fault ws r s s' k k' (Done command job reads bytes text status takes few b
 write_fault ws r s s' k k' (No_room command job reads puts) = puts_write (refusal_line Memory) Memory r k k' puts memory_is_not_write
 
 -- a whole line was ended
-puts_ended : (text : List ℕ) (status r : Status) (k k' : SinkView) → Puts text status r k k' → (r ≡ WriteFault → ⊥) → (r ≡ Memory → ⊥) → Rose k.ends k'.ends
+puts_ended : (text : List ℕ) (status r : Status) (k k' : SinkView) → Puts text status r k k' → (r ≡ WriteFault → ⊥) → (r ≡ Memory → ⊥) → IsEnded k k'
 puts_ended text status r k k' (Whole f a b) w m = b
 puts_ended text status r k k' (Failing f a b) w m = absurd (w f)
 puts_ended text status r k k' (Wanting f a b) w m = absurd (m f)
 
-pub ended : (ws : List (List ℕ)) (r : Status) (s s' : SourceView) (k k' : SinkView) → Answers ws r s s' k k' → (r ≡ WriteFault → ⊥) → (r ≡ Memory → ⊥) → Rose k.ends k'.ends
+pub ended : (ws : List (List ℕ)) (r : Status) (s s' : SourceView) (k k' : SinkView) → Answers ws r s s' k k' → (r ≡ WriteFault → ⊥) → (r ≡ Memory → ⊥) → IsEnded k k'
 ended ws r s s' k k' (No_job other_words same puts) = puts_ended (refusal_line Usage) Usage r k k' puts
 ended ws r s s' k k' (Made size job same (Demo_whole text is puts)) = puts_ended text Ok r k k' puts
 ended ws r s s' k k' (Made size job same (Demo_none puts)) = puts_ended (refusal_line Memory) Memory r k k' puts
@@ -287,6 +289,33 @@ ended ws r s s' k k' (Unread command job reads rose puts) = puts_ended (refusal_
 ended ws r s s' k k' (Past_limit command job reads takes puts) = puts_ended (refusal_line TooLong) TooLong r k k' puts
 ended ws r s s' k k' (Done command job reads bytes text status takes few built puts) = puts_ended text status r k k' puts
 ended ws r s s' k k' (No_room command job reads puts) = puts_ended (refusal_line Memory) Memory r k k' puts
+
+ok_not_memory : {A : Type 0} (r : Status) → r ≡ Ok → r ≡ Memory → A
+ok_not_memory r a b = cc
+
+long_not_memory : {A : Type 0} (r : Status) → r ≡ TooLong → r ≡ Memory → A
+long_not_memory r a b = cc
+
+-- the sink had no memory, or the line that says so was written whole and ended
+abbrev pub TellsMemory : (old new : SinkView) → Type 0
+TellsMemory old new = Rose old.wants new.wants ⊎ (Appends old.written new.written (refusal_line Memory) × (new.ends ≡ raised old.ends))
+
+puts_memory : (text : List ℕ) (status r : Status) (k k' : SinkView) → Puts text status r k k' → (status ≡ Memory → text ≡ refusal_line Memory) → r ≡ Memory → TellsMemory k k'
+puts_memory text status r k k' (Whole f a b) line e =
+    let P : List ℕ → Type 0 = λ t. Appends k.written k'.written t in
+    inr (subst P (line (sym f ∙ e)) a, b.once)
+puts_memory text status r k k' (Failing f a b) line e = write_not_memory r f e
+puts_memory text status r k k' (Wanting f a b) line e = inl b
+
+pub memory_told : (ws : List (List ℕ)) (r : Status) (s s' : SourceView) (k k' : SinkView) → Answers ws r s s' k k' → r ≡ Memory → TellsMemory k k'
+memory_told ws r s s' k k' (No_job other_words same puts) = puts_memory (refusal_line Usage) Usage r k k' puts (λ h. usage_not_memory Usage refl h)
+memory_told ws r s s' k k' (Made size job same (Demo_whole text is puts)) = puts_memory text Ok r k k' puts (λ h. ok_not_memory Ok refl h)
+memory_told ws r s s' k k' (Made size job same (Demo_none puts)) = puts_memory (refusal_line Memory) Memory r k k' puts (λ h. refl)
+memory_told ws r s s' k k' (Unread command job reads rose puts) = puts_memory (refusal_line ReadFault) ReadFault r k k' puts (λ h. read_not_memory ReadFault refl h)
+memory_told ws r s s' k k' (Past_limit command job reads takes puts) = puts_memory (refusal_line TooLong) TooLong r k k' puts (λ h. long_not_memory TooLong refl h)
+memory_told ws r s s' k k' (Done command job reads bytes text status takes few built puts) =
+    puts_memory text status r k k' puts (λ h. not_reply command bytes status Memory text h refl built)
+memory_told ws r s s' k k' (No_room command job reads puts) = puts_memory (refusal_line Memory) Memory r k k' puts (λ h. refl)
 
 -- nothing is left of an input that was read whole
 none_left : (left left' : Option (List ℕ)) (bytes : List ℕ) → TakesAll left left' bytes → IfSome left (λ all. left' ≡ Some [])
@@ -304,6 +333,7 @@ reply_left (BadWords row column) bytes left left' h t = none_left left left' byt
 reply_left (BadModule fault) bytes left left' h t = none_left left left' bytes t
 reply_left (LongRun size) bytes left left' h t = none_left left left' bytes t
 reply_left (BadWave at) bytes left left' h t = none_left left left' bytes t
+reply_left (NotMoves line) bytes left left' h t = none_left left left' bytes t
 reply_left ReadFault bytes left left' h t = cc
 reply_left WriteFault bytes left left' h t = cc
 reply_left TooLong bytes left left' h t = cc
@@ -318,6 +348,7 @@ leaves_of Check status left left' reads h = h
 leaves_of Eval status left left' reads h = h
 leaves_of (Plan slowdown) status left left' reads h = h
 leaves_of (Cost slowdown) status left left' reads h = h
+leaves_of (Least slowdown) status left left' reads h = h
 leaves_of (Build slowdown) status left left' reads h = h
 leaves_of (Stall slowdown) status left left' reads h = h
 leaves_of (Run slowdown fill) status left left' reads h = h

@@ -21,4 +21,6 @@ pub mod SimComplete
 pub mod Demos
 pub mod WaveForms
 pub mod UnwaveLines
+pub mod LeastTold
 pub mod WaveShown
+mod CostsAlike

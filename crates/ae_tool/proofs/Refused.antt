@@ -7,7 +7,7 @@ use Rattle.ae_compile.specs.Costing.{IsCostFault}
 use Rattle.ae_compile.specs.Programs.{IsTypedFault}
 use Rattle.ae_tool.specs.declared.reply.Reply.{Reply}
 use Rattle.ae_tool.specs.declared.status.Status.{Status}
-use Rattle.ae_tool.specs.declared.status.Status.TheVariants.{Ok, Usage, BadLine, BadType, TooLarge, NoSchedule, BadWords, BadModule, LongRun, ReadFault, WriteFault, TooLong, Memory, BadWave}
+use Rattle.ae_tool.specs.declared.status.Status.TheVariants.{Ok, Usage, BadLine, BadType, TooLarge, NoSchedule, BadWords, BadModule, LongRun, ReadFault, WriteFault, TooLong, Memory, BadWave, NotMoves}
 use Rattle.ae_tool.specs.Programs.{IsRefusal}
 use Rattle.ae_tool.specs.Refusals.{refusal_line}
 use Rattle.ae_tool.specs.Schedules.{IsAnswered, IsCostRefusal}
@@ -28,6 +28,7 @@ answered limit R part slowdown WriteFault text h e = (h, e)
 answered limit R part slowdown TooLong text h e = (h, e)
 answered limit R part slowdown Memory text h e = (h, e)
 answered limit R part slowdown (BadWave at) text h e = (h, e)
+answered limit R part slowdown (NotMoves line) text h e = (h, e)
 
 checked : (part : List ℕ) (status : Status) (text : List ℕ) → IsRefusal part status → text ≡ refusal_line status → IsChecked part status text
 checked part Ok text h e = absurd h
@@ -44,6 +45,7 @@ checked part WriteFault text h e = (h, e)
 checked part TooLong text h e = (h, e)
 checked part Memory text h e = (h, e)
 checked part (BadWave at) text h e = (h, e)
+checked part (NotMoves line) text h e = (h, e)
 
 -- the reply to a fault of the costs, and to one of the types
 abbrev pub Uncosted : {E : Type 0} → Result Reply E → CompileFault → Type 0

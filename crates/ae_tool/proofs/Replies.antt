@@ -1,6 +1,7 @@
 -- What a job answers, and that an input is cut in one way alone.
 use Rattle.std.proofs.Common.{ℕ, ◌≡◌, ◌<◌, ◌≤◌, Bool, true, false, not, List, [], ◌∷◌, ◌++◌, length, map, take, drop, Option, Some, None, arith, inl, inr, refl, ap, sym, ◌∙◌, subst, nat_eq, bytes_eq, codes, if◌then◌else◌}
 use Rattle.std.proofs.lemmas.Bool.{eqb-true}
+use Rattle.std.proofs.lemmas.Option.{none-some}
 use Rattle.ae_fields.proofs.PlainLemmas.{own}
 use Rattle.std.proofs.lemmas.Fmt.{digits_value-decimal}
 use Rattle.std.specs.Fmt.{decimal}
@@ -11,9 +12,9 @@ use Rattle.ae_parse.specs.Parts.{is_mark, no_mark, whole_lines}
 use Rattle.ae_parse.specs.Rows.{rows_of, bad_row}
 use Rattle.ae_seq.specs.ProgramTree.{ProgramTree}
 use Rattle.ae_tool.specs.declared.status.Status.{Status}
-use Rattle.ae_tool.specs.declared.status.Status.TheVariants.{Ok, Usage, BadLine, BadType, TooLarge, NoSchedule, BadWords, BadModule, LongRun, ReadFault, WriteFault, TooLong, Memory, BadWave}
+use Rattle.ae_tool.specs.declared.status.Status.TheVariants.{Ok, Usage, BadLine, BadType, TooLarge, NoSchedule, BadWords, BadModule, LongRun, ReadFault, WriteFault, TooLong, Memory, BadWave, NotMoves}
 use Rattle.ae_tool.specs.declared.command.Command.{Command}
-use Rattle.ae_tool.specs.declared.command.Command.TheVariants.{Check, Eval, Plan, Cost, Build, Stall, Run, Wave, Unwave, Sim, Demo}
+use Rattle.ae_tool.specs.declared.command.Command.TheVariants.{Check, Eval, Plan, Cost, Least, Build, Stall, Run, Wave, Unwave, Sim, Demo}
 use Rattle.ae_tool.specs.Commands.{IsCommand, takes_whole}
 use Rattle.ae_tool.specs.Inputs.{AreParts, IsCut, Marked, Unmarked}
 use Rattle.ae_tool.specs.RunTexts.{input_widths, run_size, run_limit, IsRunOf, IsRun, Unbuilt, Played}
@@ -28,24 +29,22 @@ use Rattle.ae_rewrite.specs.StProgramTree.{StFuncTree}
 use Rattle.ae_rewrite.specs.Scheduled.{IsSchedule}
 use Rattle.ae_rewrite.specs.FailingLine.{failing_line}
 use Rattle.ae_delay.specs.declared.own.OwnCosts.{OwnCosts}
-use Rattle.ae_delay.specs.Costs.{all_costs}
-use Rattle.ae_delay.specs.Weighing.{cost_of}
-use Rattle.ae_alike.specs.Alike.{AreAlike}
 use Rattle.ae_alike.proofs.Failing.{schedules_fine}
-use Rattle.ae_alike.proofs.Same.{schedules_alike}
-use Rattle.ae_lower.specs.Lowering.{costs_in}
-use Rattle.ae_lower.specs.Circuits.{last_of}
 use Rattle.ae_tool.specs.PlanTexts.{plan_text}
-use Rattle.ae_tool.specs.CostTables.{cost_table}
-use Rattle.ae_compile.specs.Costing.{HasCosts, HasLargeLoad, load_limit}
+use Rattle.ae_tool.specs.CostTables.{table_text}
+use Rattle.ae_compile.specs.Costing.{HasCosts, HasLargeLoad, costs_over, load_limit}
 use Rattle.ae_tool.specs.Schedules.{IsAnswered, IsCostRefusal, IsCostText}
 use Rattle.ae_tool.specs.EvalTexts.{eval_size, IsEvalOf}
 use Rattle.ae_tool.specs.Outcomes.{IsChecked, IsEvaluated, Refused, Ran, IsReply, IsDone, HasResult, HasShortRun, IsAccepted}
+use Rattle.ae_trace.specs.Traces.{is_movement}
+use Rattle.ae_least.proofs.MovingLines.{none-other}
+use Rattle.ae_tool.specs.LeastAnswers.{HasLeast, IsLeast, IsLeastOf, Told, Untold}
 use Rattle.ae_tool.specs.SimTexts.{IsSimulated}
 use Rattle.ae_tool.specs.UnwaveTexts.{IsReadable, IsUnwaved}
-use Rattle.ae_vcd.specs.Reads.{size_of}
+use Rattle.ae_vcd.specs.Reads.{size_of_wave}
 use Rattle.ae_tool.specs.declared.run.Form.{Form}
 use Rattle.ae_tool.specs.declared.run.Form.TheVariants.{Lines, Dump}
+use Rattle.ae_tool.proofs.CostsAlike.{costs_same, over_same}
 use Rattle.ae_tool.proofs.SimComplete.{sim_complete}
 
 -- the answers of jobs
@@ -64,6 +63,7 @@ is_reply WriteFault = false
 is_reply TooLong = false
 is_reply Memory = false
 is_reply (BadWave at) = true
+is_reply (NotMoves line) = true
 
 sim_replies : (fill : ℕ) (part : List ℕ) (table : List (List (List ℕ))) (status : Status) (text : List ℕ) → IsSimulated fill part table status text → is_reply status ≡ true
 sim_replies fill part table Ok text b = refl
@@ -80,6 +80,7 @@ sim_replies fill part table WriteFault text b = absurd b.2
 sim_replies fill part table TooLong text b = absurd b.2
 sim_replies fill part table Memory text b = absurd b.2
 sim_replies fill part table (BadWave at) text b = absurd b.2
+sim_replies fill part table (NotMoves line) text b = absurd b.2
 
 refusal_replies : (part : List ℕ) (status : Status) → IsRefusal part status → is_reply status ≡ true
 refusal_replies part Ok b = absurd b
@@ -96,6 +97,7 @@ refusal_replies part WriteFault b = absurd b
 refusal_replies part TooLong b = absurd b
 refusal_replies part Memory b = absurd b
 refusal_replies part (BadWave at) b = absurd b
+refusal_replies part (NotMoves line) b = absurd b
 
 checked_replies : (part : List ℕ) (status : Status) (text : List ℕ) → IsChecked part status text → is_reply status ≡ true
 checked_replies part Ok text b = refl
@@ -112,6 +114,7 @@ checked_replies part WriteFault text b = refusal_replies part WriteFault b.0
 checked_replies part TooLong text b = refusal_replies part TooLong b.0
 checked_replies part Memory text b = refusal_replies part Memory b.0
 checked_replies part (BadWave at) text b = refusal_replies part (BadWave at) b.0
+checked_replies part (NotMoves line) text b = refusal_replies part (NotMoves line) b.0
 
 eval_replies : (p : ProgramTree) (table : List (List (List ℕ))) (status : Status) (text : List ℕ) → IsEvalOf p table status text → is_reply status ≡ true
 eval_replies p table Ok text b = refl
@@ -128,6 +131,7 @@ eval_replies p table WriteFault text b = absurd b
 eval_replies p table TooLong text b = absurd b
 eval_replies p table Memory text b = absurd b
 eval_replies p table (BadWave at) text b = absurd b
+eval_replies p table (NotMoves line) text b = absurd b
 
 evaluated_replies : (part : List ℕ) (table : List (List (List ℕ))) (status : Status) (text : List ℕ) → IsEvaluated part table status text → is_reply status ≡ true
 evaluated_replies part table status text (Refused r e) = refusal_replies part status r
@@ -148,6 +152,7 @@ cost_refusal_replies limit part slowdown WriteFault b = refusal_replies part Wri
 cost_refusal_replies limit part slowdown TooLong b = refusal_replies part TooLong b
 cost_refusal_replies limit part slowdown Memory b = refusal_replies part Memory b
 cost_refusal_replies limit part slowdown (BadWave at) b = refusal_replies part (BadWave at) b
+cost_refusal_replies limit part slowdown (NotMoves line) b = refusal_replies part (NotMoves line) b
 
 answered_replies : (limit : ℕ) (IsRight : List ℕ → Type 0) (part : List ℕ) (slowdown : ℕ) (status : Status) (text : List ℕ) → IsAnswered limit IsRight part slowdown status text → is_reply status ≡ true
 answered_replies limit IsRight part slowdown Ok text b = refl
@@ -164,6 +169,7 @@ answered_replies limit IsRight part slowdown WriteFault text b = cost_refusal_re
 answered_replies limit IsRight part slowdown TooLong text b = cost_refusal_replies limit part slowdown TooLong b.0
 answered_replies limit IsRight part slowdown Memory text b = cost_refusal_replies limit part slowdown Memory b.0
 answered_replies limit IsRight part slowdown (BadWave at) text b = cost_refusal_replies limit part slowdown (BadWave at) b.0
+answered_replies limit IsRight part slowdown (NotMoves line) text b = cost_refusal_replies limit part slowdown (NotMoves line) b.0
 
 run_of_replies : (form : Form) (fill : ℕ) (p : ProgramTree) (slowdown : ℕ) (instances : List StFuncTree) (table : List (List (List ℕ))) (status : Status) (text : List ℕ) → IsRunOf form fill p slowdown instances table status text → is_reply status ≡ true
 run_of_replies form fill p slowdown instances table Ok text b = refl
@@ -180,6 +186,7 @@ run_of_replies form fill p slowdown instances table WriteFault text b = absurd b
 run_of_replies form fill p slowdown instances table TooLong text b = absurd b
 run_of_replies form fill p slowdown instances table Memory text b = absurd b
 run_of_replies form fill p slowdown instances table (BadWave at) text b = absurd b
+run_of_replies form fill p slowdown instances table (NotMoves line) text b = absurd b
 
 unwave_replies : (part : List ℕ) (status : Status) (text : List ℕ) → IsUnwaved part status text → is_reply status ≡ true
 unwave_replies part Ok text b = refl
@@ -196,6 +203,28 @@ unwave_replies part WriteFault text b = absurd b
 unwave_replies part TooLong text b = absurd b
 unwave_replies part Memory text b = absurd b
 unwave_replies part (BadWave at) text b = refl
+unwave_replies part (NotMoves line) text b = absurd b
+
+least_of_replies : (p : ProgramTree) (slowdown : ℕ) (status : Status) (text : List ℕ) → IsLeastOf p slowdown status text → is_reply status ≡ true
+least_of_replies p slowdown Ok text b = refl
+least_of_replies p slowdown Usage text b = absurd b
+least_of_replies p slowdown (BadLine line) text b = absurd b
+least_of_replies p slowdown (BadType line) text b = absurd b
+least_of_replies p slowdown (TooLarge line) text b = absurd b
+least_of_replies p slowdown (NoSchedule line) text b = refl
+least_of_replies p slowdown (BadWords row column) text b = absurd b
+least_of_replies p slowdown (BadModule fault) text b = absurd b
+least_of_replies p slowdown (LongRun size) text b = absurd b
+least_of_replies p slowdown ReadFault text b = absurd b
+least_of_replies p slowdown WriteFault text b = absurd b
+least_of_replies p slowdown TooLong text b = absurd b
+least_of_replies p slowdown Memory text b = absurd b
+least_of_replies p slowdown (BadWave at) text b = absurd b
+least_of_replies p slowdown (NotMoves line) text b = refl
+
+least_replies : (part : List ℕ) (slowdown : ℕ) (status : Status) (text : List ℕ) → IsLeast part slowdown status text → is_reply status ≡ true
+least_replies part slowdown status text (Untold r e) = refusal_replies part status r
+least_replies part slowdown status text (Told p t r) = least_of_replies p slowdown status text r
 
 run_replies : (form : Form) (slowdown fill : ℕ) (part : List ℕ) (table : List (List (List ℕ))) (status : Status) (text : List ℕ) → IsRun form slowdown fill part table status text → is_reply status ≡ true
 run_replies form slowdown fill part table status text (Unbuilt r e) = cost_refusal_replies load_limit part slowdown status r
@@ -205,7 +234,8 @@ reply_replies : (command : Command) (part : List ℕ) (table : List (List (List 
 reply_replies Check part table status text b = checked_replies part status text b
 reply_replies Eval part table status text b = evaluated_replies part table status text b
 reply_replies (Plan slowdown) part table status text b = answered_replies load_limit (IsCostText (plan_text slowdown) part slowdown) part slowdown status text b
-reply_replies (Cost slowdown) part table status text b = answered_replies load_limit (IsCostText (λ f s ts. cost_table f.nodes (map cost_of ts)) part slowdown) part slowdown status text b
+reply_replies (Cost slowdown) part table status text b = answered_replies load_limit (IsCostText table_text part slowdown) part slowdown status text b
+reply_replies (Least slowdown) part table status text b = least_replies part slowdown status text b
 reply_replies (Build slowdown) part table status text b = answered_replies load_limit (IsBuiltText part slowdown) part slowdown status text b
 reply_replies (Stall slowdown) part table status text b = answered_replies stall_limit (IsBuiltStalled part slowdown) part slowdown status text b
 reply_replies (Demo size) part table status text b = absurd b
@@ -223,7 +253,7 @@ done_replies command bytes status text d = reply_replies command d.part d.table 
 abbrev named_by : List (List ℕ) → Command
 named_by [] = Check
 named_by (w ∷ []) = if bytes_eq w (codes "check") then Check else if bytes_eq w (codes "unwave") then Unwave else Eval
-named_by (w ∷ a ∷ []) = if bytes_eq w (codes "plan") then Plan (digits_value 10 a) else if bytes_eq w (codes "cost") then Cost (digits_value 10 a) else if bytes_eq w (codes "sim") then Sim (digits_value 10 a) else if bytes_eq w (codes "demo") then Demo (digits_value 10 a) else if bytes_eq w (codes "stall") then Stall (digits_value 10 a) else Build (digits_value 10 a)
+named_by (w ∷ a ∷ []) = if bytes_eq w (codes "plan") then Plan (digits_value 10 a) else if bytes_eq w (codes "cost") then Cost (digits_value 10 a) else if bytes_eq w (codes "sim") then Sim (digits_value 10 a) else if bytes_eq w (codes "demo") then Demo (digits_value 10 a) else if bytes_eq w (codes "stall") then Stall (digits_value 10 a) else if bytes_eq w (codes "least") then Least (digits_value 10 a) else Build (digits_value 10 a)
 named_by (w ∷ a ∷ b ∷ ws) = if bytes_eq w (codes "wave") then Wave (digits_value 10 a) (digits_value 10 b) else Run (digits_value 10 a) (digits_value 10 b)
 
 named_is : (ws : List (List ℕ)) (c : Command) → IsCommand ws c → named_by ws ≡ c
@@ -231,6 +261,7 @@ named_is ws Check h = ap named_by h.0
 named_is ws Eval h = ap named_by h.0
 named_is ws (Plan s) h = ap named_by h.0 ∙ ap (λ n. Plan n) (digits_value-decimal own s (omega (arith, h.1.1)))
 named_is ws (Cost s) h = ap named_by h.0 ∙ ap (λ n. Cost n) (digits_value-decimal own s (omega (arith, h.1.1)))
+named_is ws (Least s) h = ap named_by h.0 ∙ ap (λ n. Least n) (digits_value-decimal own s (omega (arith, h.1.1)))
 named_is ws (Build s) h = ap named_by h.0 ∙ ap (λ n. Build n) (digits_value-decimal own s (omega (arith, h.1.1)))
 named_is ws (Stall s) h = ap named_by h.0 ∙ ap (λ n. Stall n) (digits_value-decimal own s (omega (arith, h.1.1)))
 named_is ws (Demo s) h = ap named_by h.0 ∙ ap (λ n. Demo n) (digits_value-decimal own s (omega (arith, h.1.1)))
@@ -351,6 +382,7 @@ never_refused part p WriteFault t r = absurd r
 never_refused part p TooLong t r = absurd r
 never_refused part p Memory t r = absurd r
 never_refused part p (BadWave at) t r = absurd r
+never_refused part p (NotMoves line) t r = absurd r
 
 checked_ok : (part : List ℕ) (status : Status) (text : List ℕ) (p : ProgramTree) → IsTyped part p → IsChecked part status text → status ≡ Ok
 checked_ok part Ok text p t b = refl
@@ -367,6 +399,7 @@ checked_ok part WriteFault text p t b = never_refused part p WriteFault t b.0
 checked_ok part TooLong text p t b = never_refused part p TooLong t b.0
 checked_ok part Memory text p t b = never_refused part p Memory t b.0
 checked_ok part (BadWave at) text p t b = never_refused part p (BadWave at) t b.0
+checked_ok part (NotMoves line) text p t b = never_refused part p (NotMoves line) t b.0
 
 eval_of_ok : (p : ProgramTree) (table : List (List (List ℕ))) (status : Status) (text : List ℕ) → bad_row 1 (input_widths p) table ≡ None → eval_size p table ≤ run_limit
     → IsEvalOf p table status text → status ≡ Ok
@@ -384,6 +417,7 @@ eval_of_ok p table WriteFault text right short b = absurd b
 eval_of_ok p table TooLong text right short b = absurd b
 eval_of_ok p table Memory text right short b = absurd b
 eval_of_ok p table (BadWave at) text right short b = absurd b
+eval_of_ok p table (NotMoves line) text right short b = absurd b
 
 record EvalFits (p : ProgramTree) (table : List (List (List ℕ))) : Type 0 where
   right : bad_row 1 (input_widths p) table ≡ None
@@ -398,8 +432,9 @@ evaluated_ok part table status text p t f (Ran q u r) =
 costs_within : {A : Type 0} (limit : ℕ) (part : List ℕ) (slowdown line : ℕ) → HasCosts limit part slowdown → HasLargeLoad limit part slowdown line → A
 costs_within limit part slowdown line h l =
     let P : ProgramTree → Type 0 = λ q. IsSchedule q slowdown l.instances in
-    let alike = schedules_alike h.program slowdown h.instances l.instances h.costed.schedule (subst P (one_program part l.program h.program l.typed.reads h.costed.typed.reads) l.schedule) in
-    let e : None ≡ Some _ = sym h.costed.within ∙ alike.large limit ∙ l.large in
+    let same : l.program ≡ h.program = one_program part l.program h.program l.typed.reads h.costed.typed.reads in
+    let over = over_same limit h.program slowdown h.instances l.instances h.costed.schedule (subst P same l.schedule) in
+    let e : None ≡ Some _ = sym h.costed.within ∙ over ∙ sym (ap (λ (q : ProgramTree). costs_over limit q l.instances) same) ∙ l.large in
     cc
 
 never_cost_refused : {A : Type 0} (limit : ℕ) (part : List ℕ) (slowdown : ℕ) (status : Status) → HasCosts limit part slowdown → IsCostRefusal limit part slowdown status → A
@@ -423,6 +458,7 @@ never_cost_refused limit part slowdown WriteFault h b = never_refused part h.pro
 never_cost_refused limit part slowdown TooLong h b = never_refused part h.program TooLong h.costed.typed b
 never_cost_refused limit part slowdown Memory h b = never_refused part h.program Memory h.costed.typed b
 never_cost_refused limit part slowdown (BadWave at) h b = never_refused part h.program (BadWave at) h.costed.typed b
+never_cost_refused limit part slowdown (NotMoves line) h b = never_refused part h.program (NotMoves line) h.costed.typed b
 
 answered_ok : (limit : ℕ) (IsRight : List ℕ → Type 0) (part : List ℕ) (slowdown : ℕ) (status : Status) (text : List ℕ) → HasCosts limit part slowdown → IsAnswered limit IsRight part slowdown status text → status ≡ Ok
 answered_ok limit IsRight part slowdown Ok text h b = refl
@@ -439,9 +475,10 @@ answered_ok limit IsRight part slowdown WriteFault text h b = never_cost_refused
 answered_ok limit IsRight part slowdown TooLong text h b = never_cost_refused limit part slowdown TooLong h b.0
 answered_ok limit IsRight part slowdown Memory text h b = never_cost_refused limit part slowdown Memory h b.0
 answered_ok limit IsRight part slowdown (BadWave at) text h b = never_cost_refused limit part slowdown (BadWave at) h b.0
+answered_ok limit IsRight part slowdown (NotMoves line) text h b = never_cost_refused limit part slowdown (NotMoves line) h b.0
 
 run_of_ok : (form : Form) (fill : ℕ) (p : ProgramTree) (slowdown : ℕ) (instances : List StFuncTree) (table : List (List (List ℕ))) (status : Status) (text : List ℕ) → bad_row 1 (input_widths p) table ≡ None
-    → run_size form p slowdown (main_costs instances).latency table ≤ run_limit → IsRunOf form fill p slowdown instances table status text → status ≡ Ok
+    → run_size form p slowdown (main_costs p instances).latency table ≤ run_limit → IsRunOf form fill p slowdown instances table status text → status ≡ Ok
 run_of_ok form fill p slowdown instances table Ok text right short b = refl
 run_of_ok form fill p slowdown instances table Usage text right short b = absurd b
 run_of_ok form fill p slowdown instances table (BadLine line) text right short b = absurd b
@@ -451,16 +488,13 @@ run_of_ok form fill p slowdown instances table (NoSchedule line) text right shor
 run_of_ok form fill p slowdown instances table (BadWords row column) text right short b = let e = sym right ∙ b.0 in cc
 run_of_ok form fill p slowdown instances table (BadModule fault) text right short b = absurd b
 run_of_ok form fill p slowdown instances table (LongRun size) text right short b =
-    let long : run_limit < size = b.1 in let is : size ≡ run_size form p slowdown (main_costs instances).latency table = b.2 in absurd (omega (arith, long, is, short))
+    let long : run_limit < size = b.1 in let is : size ≡ run_size form p slowdown (main_costs p instances).latency table = b.2 in absurd (omega (arith, long, is, short))
 run_of_ok form fill p slowdown instances table ReadFault text right short b = absurd b
 run_of_ok form fill p slowdown instances table WriteFault text right short b = absurd b
 run_of_ok form fill p slowdown instances table TooLong text right short b = absurd b
 run_of_ok form fill p slowdown instances table Memory text right short b = absurd b
 run_of_ok form fill p slowdown instances table (BadWave at) text right short b = absurd b
-
-costs_same : (instances others : List StFuncTree) → AreAlike instances others → main_costs instances ≡ main_costs others
-costs_same instances others h =
-    ap (costs_in (all_costs (take (last_of instances) instances))) h.here ∙ h.same.costs ∙ sym (ap (costs_in (all_costs (take (last_of others) others))) h.there)
+run_of_ok form fill p slowdown instances table (NotMoves line) text right short b = absurd b
 
 run_ok : (form : Form) (slowdown fill : ℕ) (part : List ℕ) (table : List (List (List ℕ))) (status : Status) (text : List ℕ) → HasShortRun form part slowdown table → IsRun form slowdown fill part table status text → status ≡ Ok
 run_ok form slowdown fill part table status text h (Unbuilt r e) = never_cost_refused load_limit part slowdown status h.costs r
@@ -468,9 +502,9 @@ run_ok form slowdown fill part table status text h (Played p instances c r) =
     let own = h.costs in
     let same : own.program ≡ p = one_program part own.program p own.costed.typed.reads c.typed.reads in
     let schedule : IsSchedule own.program slowdown instances = subst (λ (q : ProgramTree). IsSchedule q slowdown instances) (sym same) c.schedule in
-    let costs : main_costs own.instances ≡ main_costs instances = costs_same own.instances instances (schedules_alike own.program slowdown own.instances instances own.costed.schedule schedule) in
+    let costs : main_costs own.program own.instances ≡ main_costs own.program instances = costs_same own.program slowdown own.instances instances own.costed.schedule schedule in
     let right : bad_row 1 (input_widths p) table ≡ None = ap (λ (q : ProgramTree). bad_row 1 (input_widths q) table) (sym same) ∙ h.rows in
-    let short : run_size form p slowdown (main_costs instances).latency table ≤ run_limit = subst (λ (q : ProgramTree). run_size form q slowdown (main_costs instances).latency table ≤ run_limit) same
+    let short : run_size form p slowdown (main_costs p instances).latency table ≤ run_limit = subst (λ (q : ProgramTree). run_size form q slowdown (main_costs q instances).latency table ≤ run_limit) same
     (subst (λ (x : OwnCosts). run_size form own.program slowdown x.latency table ≤ run_limit) costs h.short) in
     run_of_ok form fill p slowdown instances table status text right short r
 
@@ -485,21 +519,48 @@ unwave_ok part (BadWords row column) text h b = absurd b
 unwave_ok part (BadModule fault) text h b = absurd b
 unwave_ok part (LongRun size) text h b =
     let same : h.0 ≡ b.0 = b.1.only h.0 h.1 in
-    let few : size_of h.0 ≤ run_limit = h.2 in
+    let few : size_of_wave h.0 ≤ run_limit = h.2 in
     let long : run_limit < size = b.2 in
-    let is : size ≡ size_of b.0 = b.3 in
-    absurd (omega (arith, few, long, is, ap size_of same))
+    let is : size ≡ size_of_wave b.0 = b.3 in
+    absurd (omega (arith, few, long, is, ap size_of_wave same))
 unwave_ok part ReadFault text h b = absurd b
 unwave_ok part WriteFault text h b = absurd b
 unwave_ok part TooLong text h b = absurd b
 unwave_ok part Memory text h b = absurd b
 unwave_ok part (BadWave at) text h b = absurd (b.0.none h.0 h.1)
+unwave_ok part (NotMoves line) text h b = absurd b
+
+least_of_ok : (p : ProgramTree) (slowdown : ℕ) (status : Status) (text : List ℕ) → is_movement p ≡ true → failing_line p slowdown ≡ None → IsLeastOf p slowdown status text → status ≡ Ok
+least_of_ok p slowdown Ok text moves laid b = refl
+least_of_ok p slowdown Usage text moves laid b = absurd b
+least_of_ok p slowdown (BadLine line) text moves laid b = absurd b
+least_of_ok p slowdown (BadType line) text moves laid b = absurd b
+least_of_ok p slowdown (TooLarge line) text moves laid b = absurd b
+least_of_ok p slowdown (NoSchedule line) text moves laid b = absurd (none-some line (sym laid ∙ b.1))
+least_of_ok p slowdown (BadWords row column) text moves laid b = absurd b
+least_of_ok p slowdown (BadModule fault) text moves laid b = absurd b
+least_of_ok p slowdown (LongRun size) text moves laid b = absurd b
+least_of_ok p slowdown ReadFault text moves laid b = absurd b
+least_of_ok p slowdown WriteFault text moves laid b = absurd b
+least_of_ok p slowdown TooLong text moves laid b = absurd b
+least_of_ok p slowdown Memory text moves laid b = absurd b
+least_of_ok p slowdown (BadWave at) text moves laid b = absurd b
+least_of_ok p slowdown (NotMoves line) text moves laid b = absurd (none-some line (sym (none-other p moves) ∙ b.0))
+
+least_ok : (part : List ℕ) (slowdown : ℕ) (status : Status) (text : List ℕ) → HasLeast part slowdown → IsLeast part slowdown status text → status ≡ Ok
+least_ok part slowdown status text h (Untold r e) = never_refused part h.0 status h.1 r
+least_ok part slowdown status text h (Told p t r) =
+    let same : h.0 ≡ p = one_program part h.0 p h.1.reads t.reads in
+    let moves : is_movement p ≡ true = ap is_movement (sym same) ∙ h.2 in
+    let laid : failing_line p slowdown ≡ None = ap (λ q. failing_line q slowdown) (sym same) ∙ h.3 in
+    least_of_ok p slowdown status text moves laid r
 
 reply_ok : (command : Command) (part : List ℕ) (table : List (List (List ℕ))) (status : Status) (text : List ℕ) → HasResult command part table → IsReply command part table status text → status ≡ Ok
 reply_ok Check part table status text h b = checked_ok part status text h.0 h.1 b
 reply_ok Eval part table status text h b = evaluated_ok part table status text h.0 h.1 (record { right = h.2; short = h.3 }) b
 reply_ok (Plan slowdown) part table status text h b = answered_ok load_limit (IsCostText (plan_text slowdown) part slowdown) part slowdown status text h b
-reply_ok (Cost slowdown) part table status text h b = answered_ok load_limit (IsCostText (λ f s ts. cost_table f.nodes (map cost_of ts)) part slowdown) part slowdown status text h b
+reply_ok (Cost slowdown) part table status text h b = answered_ok load_limit (IsCostText table_text part slowdown) part slowdown status text h b
+reply_ok (Least slowdown) part table status text h b = least_ok part slowdown status text h b
 reply_ok (Build slowdown) part table status text h b = answered_ok load_limit (IsBuiltText part slowdown) part slowdown status text h b
 reply_ok (Stall slowdown) part table status text h b = answered_ok stall_limit (IsBuiltStalled part slowdown) part slowdown status text h b
 reply_ok (Demo size) part table status text h b = absurd h

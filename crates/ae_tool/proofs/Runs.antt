@@ -40,7 +40,7 @@ run_size_is form p slowdown costs columns table ws latency clocks words typed a 
     λ i. all i * (1 + eo i)
 
 pub run_too_long : (form : Form) (fill : ℕ) (p : ProgramTree) (slowdown : ℕ) (instances : List StFuncTree) (columns : ℕ) (table : List (List (List ℕ))) (ws : List ℕ) (size : ℕ) (status : Status) (text : List ℕ) → AreRows p columns table ws
-    → size ≡ run_size form p slowdown (main_costs instances).latency table → run_limit < size → status ≡ LongRun size → text ≡ refusal_line (LongRun size) → IsRunOf form fill p slowdown instances table status text
+    → size ≡ run_size form p slowdown (main_costs p instances).latency table → run_limit < size → status ≡ LongRun size → text ≡ refusal_line (LongRun size) → IsRunOf form fill p slowdown instances table status text
 run_too_long form fill p slowdown instances columns table ws size status text a es lt st te =
     let here : IsRunOf form fill p slowdown instances table (LongRun size) text = (a.right, lt, es, te) in
     subst (λ (x : Status). IsRunOf form fill p slowdown instances table x text) (sym st) here

@@ -25,13 +25,13 @@ use Rattle.ae_vread.specs.Spells.{Spells}
 use Rattle.ae_rewrite.specs.StProgramTree.{StFuncTree}
 use Rattle.ae_lower.proofs.Blocks.{keys_of}
 use Rattle.ae_lower.proofs.Layouts.{inputs_laid}
-use Rattle.ae_delay.specs.Timings.{Times}
 use Rattle.ae_verilog.specs.Notes.{NoteTree, noted_module}
 use Rattle.ae_verilog.specs.ReportLines.{ReportTree}
 use Rattle.ae_sttype.specs.Size.{IsInSize}
 use Rattle.ae_play.specs.declared.sums.Sums.{Sums}
 use Rattle.ae_correct.specs.ClockTexts.{AreClockSums, IsClockText}
 use Rattle.ae_compile.specs.Building.{IsModuleText}
+use Rattle.ae_compile.specs.declared.costs.Costs.{Costs}
 use Rattle.ae_compile.specs.Costing.{IsKnown, load_limit, main_costs}
 use Rattle.ae_compile.specs.Compiling.{IsCompiled, report_of}
 use Rattle.ae_tool.specs.DemoTexts.{IsSummedRun}
@@ -85,28 +85,28 @@ blocks_words p ss blocks table ws typed laid a =
 
 -- ---- the layouts that a report tells
 
-pub told_laid : (p : ProgramTree) (slowdown : ℕ) (instances : List StFuncTree) (times : Times) (n : Circuit) (report : ReportTree) (notes : List NoteTree) → IsKnown load_limit p slowdown instances times → IsCompiled p slowdown instances n report notes → AllLaidOut (parameter_types p) report.ins
-told_laid p slowdown instances times n report notes k d =
+pub told_laid : (p : ProgramTree) (slowdown : ℕ) (instances : List StFuncTree) (found : Costs) (n : Circuit) (report : ReportTree) (notes : List NoteTree) → IsKnown load_limit p slowdown instances found → IsCompiled p slowdown instances n report notes → AllLaidOut (parameter_types p) report.ins
+told_laid p slowdown instances found n report notes k d =
     let m = main_is p slowdown instances d.instance k.schedule k.sound d.last in
     subst (AllLaidOut (parameter_types p)) (sym (ap (λ (r : ReportTree). r.ins) d.reported)) (inputs_laid p (keys_of instances) d.instance k.typed m.is m.last)
 
-pub told_ins : (p : ProgramTree) (slowdown : ℕ) (instances : List StFuncTree) (times : Times) (n : Circuit) (report : ReportTree) (notes : List NoteTree) → IsKnown load_limit p slowdown instances times → IsCompiled p slowdown instances n report notes
+pub told_ins : (p : ProgramTree) (slowdown : ℕ) (instances : List StFuncTree) (found : Costs) (n : Circuit) (report : ReportTree) (notes : List NoteTree) → IsKnown load_limit p slowdown instances found → IsCompiled p slowdown instances n report notes
     → All (λ (t : StTree). IsInSize t × (time t ≡ slowdown)) report.ins
-told_ins p slowdown instances times n report notes k d =
+told_ins p slowdown instances found n report notes k d =
     subst (All (λ (t : StTree). IsInSize t × (time t ≡ slowdown))) (sym (ap (λ (r : ReportTree). r.ins) d.reported))
     (fill_clocks_in p slowdown instances d.instance (main_is p slowdown instances d.instance k.schedule k.sound d.last))
 
-pub told_outs : (p : ProgramTree) (slowdown : ℕ) (instances : List StFuncTree) (times : Times) (n : Circuit) (report : ReportTree) (notes : List NoteTree) → IsKnown load_limit p slowdown instances times → IsCompiled p slowdown instances n report notes
+pub told_outs : (p : ProgramTree) (slowdown : ℕ) (instances : List StFuncTree) (found : Costs) (n : Circuit) (report : ReportTree) (notes : List NoteTree) → IsKnown load_limit p slowdown instances found → IsCompiled p slowdown instances n report notes
     → All (λ (t : StTree). IsInSize t × (time t ≡ slowdown)) report.outs
-told_outs p slowdown instances times n report notes k d =
+told_outs p slowdown instances found n report notes k d =
     subst (All (λ (t : StTree). IsInSize t × (time t ≡ slowdown))) (sym (ap (λ (r : ReportTree). r.outs) d.reported))
     (fill_clocks_out p slowdown instances d.instance (main_is p slowdown instances d.instance k.schedule k.sound d.last))
 
 -- the words that a circuit takes are as many as the rows have
-pub told_words : (p : ProgramTree) (slowdown : ℕ) (instances : List StFuncTree) (times : Times) (n : Circuit) (report : ReportTree) (notes : List NoteTree) (blocks : ℕ) (table : List (List (List ℕ))) (ws : List ℕ)
-    → IsKnown load_limit p slowdown instances times → IsCompiled p slowdown instances n report notes → AreBlocks p blocks table ws → length ws ≡ blocks * size_of report.ins
-told_words p slowdown instances times n report notes blocks table ws k d a =
-    let size : size_of report.ins ≡ length (input_widths p) = size_laid (parameter_types p) report.ins (told_laid p slowdown instances times n report notes k d) in
+pub told_words : (p : ProgramTree) (slowdown : ℕ) (instances : List StFuncTree) (found : Costs) (n : Circuit) (report : ReportTree) (notes : List NoteTree) (blocks : ℕ) (table : List (List (List ℕ))) (ws : List ℕ)
+    → IsKnown load_limit p slowdown instances found → IsCompiled p slowdown instances n report notes → AreBlocks p blocks table ws → length ws ≡ blocks * size_of report.ins
+told_words p slowdown instances found n report notes blocks table ws k d a =
+    let size : size_of report.ins ≡ length (input_widths p) = size_laid (parameter_types p) report.ins (told_laid p slowdown instances found n report notes k d) in
     rows_long p (length (input_widths p)) table ws k.typed a.rows ∙ (λ i. sym a.many i * sym size i)
 
 -- ---- the whole text
@@ -115,7 +115,7 @@ told_words p slowdown instances times n report notes blocks table ws k d a =
 pub same_report : (p : ProgramTree) (slowdown : ℕ) (instances : List StFuncTree) (n o : Circuit) (report other : ReportTree) (notes more : List NoteTree) → IsCompiled p slowdown instances n report notes → IsCompiled p slowdown instances o other more → report ≡ other
 same_report p slowdown instances n o report other notes more d e =
     let same : d.instance ≡ e.instance = same_Some d.instance e.instance (sym d.last ∙ e.last) in
-    d.reported ∙ ap (report_of false slowdown instances) same ∙ sym e.reported
+    d.reported ∙ ap (report_of false p slowdown instances) same ∙ sym e.reported
 
 pub run_text_is : (fill : ℕ) (p : ProgramTree) (slowdown : ℕ) (instances : List StFuncTree) (table : List (List (List ℕ))) (n : Circuit) (report : ReportTree) (notes : List NoteTree) (built clocks text : List ℕ) → IsCompiled p slowdown instances n report notes
     → IsModuleText p slowdown instances built → Spells built (noted_module notes n.cells n.outlets (length report.outs))
@@ -126,12 +126,12 @@ run_text_is fill p slowdown instances table n report notes built clocks text d m
     let same : report ≡ m.listing.report = same_report p slowdown instances n m.listing.circuit report m.listing.report notes m.listing.notes d m.listing.compiled in
     let blocks = blocks_of (parameter_types p) table in
     let here : IsClockText m.tree slowdown report.latency fill report.ins report.outs blocks clocks = subst (λ (x : ModuleTree). IsClockText x slowdown report.latency fill report.ins report.outs blocks clocks) tree shown in
-    let late : IsClockText m.tree slowdown (main_costs instances).latency fill report.ins report.outs blocks clocks = subst (λ (l : ℕ). IsClockText m.tree slowdown l fill report.ins report.outs blocks clocks) (ap (λ (r : ReportTree). r.latency) d.reported) here in
+    let late : IsClockText m.tree slowdown (main_costs p instances).latency fill report.ins report.outs blocks clocks = subst (λ (l : ℕ). IsClockText m.tree slowdown l fill report.ins report.outs blocks clocks) (ap (λ (r : ReportTree). r.latency) d.reported) here in
     record {
       built = built;
       module_text = m;
       clocks = clocks;
-      shown = subst (λ (r : ReportTree). IsClockText m.tree slowdown (main_costs instances).latency fill r.ins r.outs blocks clocks) same late;
+      shown = subst (λ (r : ReportTree). IsClockText m.tree slowdown (main_costs p instances).latency fill r.ins r.outs blocks clocks) same late;
       is = is;
     }
 
@@ -145,8 +145,8 @@ summed_is fill p slowdown instances table n report notes built sums d m spells s
     let same : report ≡ m.listing.report = same_report p slowdown instances n m.listing.circuit report m.listing.report notes m.listing.notes d m.listing.compiled in
     let blocks = blocks_of (parameter_types p) table in
     let here : AreClockSums m.tree slowdown report.latency fill report.ins report.outs blocks sums = subst (λ (x : ModuleTree). AreClockSums x slowdown report.latency fill report.ins report.outs blocks sums) tree shown in
-    let late : AreClockSums m.tree slowdown (main_costs instances).latency fill report.ins report.outs blocks sums = subst (λ (l : ℕ). AreClockSums m.tree slowdown l fill report.ins report.outs blocks sums) (ap (λ (r : ReportTree). r.latency) d.reported) here in
+    let late : AreClockSums m.tree slowdown (main_costs p instances).latency fill report.ins report.outs blocks sums = subst (λ (l : ℕ). AreClockSums m.tree slowdown l fill report.ins report.outs blocks sums) (ap (λ (r : ReportTree). r.latency) d.reported) here in
     record {
       module_text = m;
-      shown = subst (λ (r : ReportTree). AreClockSums m.tree slowdown (main_costs instances).latency fill r.ins r.outs blocks sums) same late;
+      shown = subst (λ (r : ReportTree). AreClockSums m.tree slowdown (main_costs p instances).latency fill r.ins r.outs blocks sums) same late;
     }

@@ -8,7 +8,7 @@ use Rattle.ae_elab.specs.Faults.{IsFault, IsWellFormed}
 use Rattle.ae_parse.specs.Rows.{bad_row}
 use Rattle.ae_tool.specs.declared.status.VFaultKind.{VFaultKind}
 use Rattle.ae_tool.specs.declared.status.Status.{Status}
-use Rattle.ae_tool.specs.declared.status.Status.TheVariants.{Ok, Usage, BadLine, BadType, TooLarge, NoSchedule, BadWords, BadModule, LongRun, ReadFault, WriteFault, TooLong, Memory, BadWave}
+use Rattle.ae_tool.specs.declared.status.Status.TheVariants.{Ok, Usage, BadLine, BadType, TooLarge, NoSchedule, BadWords, BadModule, LongRun, ReadFault, WriteFault, TooLong, Memory, BadWave, NotMoves}
 use Rattle.ae_tool.specs.RunTexts.{run_limit}
 use Rattle.ae_tool.specs.SimTexts.{IsModuleOf, IsModuleFault, Unread, Misformed, module_kind, row_widths, sim_size, IsSimOf, IsSimulated, IsSimulable}
 
@@ -58,3 +58,4 @@ sim_complete fill part table status text h w = by status w
     by TooLong w = absurd w.2
     by Memory w = absurd w.2
     by (BadWave at) w = absurd w.2
+    by (NotMoves line) w = absurd w.2

@@ -17,7 +17,7 @@ use Rattle.ae_elab.specs.Values.{ModuleClock}
 use Rattle.ae_elab.specs.Runs.{clock_at}
 use Rattle.ae_elab.specs.SameRuns.{inputs_of, outputs_of, output_words, HasSameRuns, BeginAlike, HaveEqualOutputs}
 use Rattle.ae_tool.specs.declared.status.Status.{Status}
-use Rattle.ae_tool.specs.declared.status.Status.TheVariants.{Ok, Usage, BadLine, BadType, TooLarge, NoSchedule, BadWords, BadModule, LongRun, ReadFault, WriteFault, TooLong, Memory, BadWave}
+use Rattle.ae_tool.specs.declared.status.Status.TheVariants.{Ok, Usage, BadLine, BadType, TooLarge, NoSchedule, BadWords, BadModule, LongRun, ReadFault, WriteFault, TooLong, Memory, BadWave, NotMoves}
 use Rattle.ae_tool.specs.RunTexts.{run_limit}
 use Rattle.ae_play.specs.Lines.{shown_words}
 use Rattle.ae_vread.specs.Spells.{Spells}
@@ -114,6 +114,7 @@ sim_of m n fill table status text same h = by status h
     by TooLong w = absurd w
     by Memory w = absurd w
     by (BadWave at) w = absurd w
+    by (NotMoves line) w = absurd w
 
 -- ---- the text
 
@@ -142,6 +143,7 @@ simulated fill part table m status text s (Played formed w) = by status w
     by TooLong w = absurd w
     by Memory w = absurd w
     by (BadWave at) w = absurd w
+    by (NotMoves line) w = absurd w
 
 unread_as : (fill : ℕ) (part : List ℕ) (table : List (List (List ℕ))) (fault : VFault) (status : Status) (text : List ℕ) → IsRefusedAs (text_kind fault) status text → HasFault part fault
     → ((m : ModuleTree) → Spells part m → ⊥) → IsSimulated fill part table status text

@@ -36,7 +36,7 @@ use Rattle.ae_play.specs.Words.{port_words}
 use Rattle.ae_ports.proofs.Columns.{joined_word}
 use Rattle.ae_correct.proofs.ModuleClock.{clocked, is_clk}
 use Rattle.ae_correct.proofs.ModulePorts.{mapped_at}
-use Rattle.ae_vcd.specs.Waves.{IsFormedWave, WaveTree, is_graphic, is_name, most_variables, size_limit, wave_size, word_of}
+use Rattle.ae_vcd.specs.Waves.{IsFormedWave, WaveTree, is_graphic, is_variable_name, most_variables, size_limit, wave_size, wave_word}
 use Rattle.ae_vcd.proofs.Written.{decimal_read}
 use Rattle.ae_tool.specs.WaveTexts.{run_wave, variables_of}
 
@@ -61,7 +61,7 @@ two b c y z = behind (decimal b) (codes "_" ++ decimal c) (number b y) (behind (
 
 -- a name of a variable that is not the clock's
 pub record IsPortName (n : List ℕ) : Type 0 where
-  pub named : is_name n ≡ true
+  pub named : is_variable_name n ≡ true
   pub other : bytes_eq (codes "clk") n ≡ false
 
 port_named : (outs : ℕ) (p : Port) → PortFits p → IsPortName (port_name outs p)
@@ -211,7 +211,7 @@ module _ (lines : ℕ → ℕ) (n : Circuit) (outs : ℕ) (ok : IsWritableNetlis
       record {
         some = omega (arith, some, many);
         most = omega (arith, most, many);
-        named = all_mapped (λ (x : NetTree). x.name) (λ m. IsTrue (is_name m)) vs (λ x a. (variable x a).name.named);
+        named = all_mapped (λ (x : NetTree). x.name) (λ m. IsTrue (is_variable_name m)) vs (λ x a. (variable x a).name.named);
         sized = wide ∙ sym many;
         wide = all_mapped (λ (x : NetTree). x.width) (λ v. (1 ≤ v) × (v ≤ 64)) vs (λ x a. ((variable x a).low, (variable x a).high));
         whole = ap length is ∙ rows_long 0 count ∙ (λ i. sym times i * sym many i);
@@ -220,12 +220,12 @@ module _ (lines : ℕ → ℕ) (n : Circuit) (outs : ℕ) (ok : IsWritableNetlis
             let there : k < length vs = omega (arith, variable', many) in
             let x = entry-at vs k there in
             let z : 0 + i ≡ i = omega arith in
-            let word : word_of (run_wave own count words) i k ≡ (clock_at run (1 + i)).word x.0.name =
+            let word : wave_word (run_wave own count words) i k ≡ (clock_at run (1 + i)).word x.0.name =
             (λ j. get_or (is j) (i * many j + k) 0) ∙ joined_word row (length vs) 0 count i k (λ c h. row_long c) inside there ∙ ap (λ c. slice_index (row c) k) z ∙ ap (λ ws. slice_index ws k) (row_is i)
             ∙ get_or_from_slice_get (map (λ (y : NetTree). (clock_at run (1 + i)).word y.name) vs) k ((clock_at run (1 + i)).word x.0.name) 0 (mapped_at (λ (y : NetTree). (clock_at run (1 + i)).word y.name) vs k x.0 x.1) in
             let width : get_or (map (λ (y : NetTree). y.width) vs) k 0 ≡ x.0.width = get_or_from_slice_get (map (λ (y : NetTree). y.width) vs) k x.0.width 0 (mapped_at (λ (y : NetTree). y.width) vs k x.0 x.1) in
             let fits = word_fits (1 + i) x.0 (omega (arith, inside, long)) (among_from x.0 vs k x.1) in
-            subst (λ b. word_of (run_wave own count words) i k < 2 ^ b) (sym width) (subst (λ a. a < 2 ^ x.0.width) (sym word) fits));
+            subst (λ b. wave_word (run_wave own count words) i k < 2 ^ b) (sym width) (subst (λ a. a < 2 ^ x.0.width) (sym word) fits));
         rise = λ i h.
             (let inside : i + 1 < count = omega (arith, h, times) in
             let a = range_at 0 count i 0 (omega (arith, inside)) in

@@ -64,7 +64,7 @@ counted p slowdown instances n report notes d =
     let lines = lines_of notes (length n.cells) in
     let many : ℕ = length report.outs in
     let own : ModuleTree = noted_module notes n.cells n.outlets many in
-    let have = circuit_ports p slowdown (main_costs instances) report.ins report.outs n d.circuit in
+    let have = circuit_ports p slowdown (main_costs p instances) report.ins report.outs n d.circuit in
     let ins : length (inputs_of own) ≡ length (ins_of report.ins) = ap length (inputs_filtered lines n.cells n.outlets many (ins_of report.ins) (outs_of report.outs) have) ∙ length-map (ins_of report.ins) in_net in
     let outs : length (outputs_of own) ≡ length (outs_of report.outs) = ap length (outputs_filtered lines n.cells n.outlets many (ins_of report.ins) (outs_of report.outs) have) ∙ length-map (outs_of report.outs) (out_net many) in
     let given : sum_by columns_of report.ins ≡ input_count p slowdown = sym (columns_some report.ins) ∙ ap (sum_by layout_columns) (sym d.laid.layouts.parameters) in
@@ -72,7 +72,7 @@ counted p slowdown instances n report notes d =
     let in_columns : length (net_side.input_ports (streams_of report.ins)) ≡ columns_in (streams_of report.ins) = length_from _ 0 (streams_of report.ins) in
     let out_columns : length (outs_of report.outs) ≡ columns_in (streams_of report.outs) = length_from _ 0 (streams_of report.outs) in
     let outlets : length n.outlets ≡ length (outs_of report.outs) = sym (length-map n.outlets (outlet_port n.cells)) ∙ ap length have.outputs in
-    let few = few_ports lines p slowdown (main_costs instances) report.ins report.outs n d.laid d.circuit in
+    let few = few_ports lines p slowdown (main_costs p instances) report.ins report.outs n d.laid d.circuit in
     let both = length-append (inputs_of own) (outputs_of own) in
     record {
       all = omega (arith, both, ins, outs, given, shown, in_columns, out_columns, streams_counted report.ins, streams_counted report.outs);
@@ -143,13 +143,13 @@ wave_text_is fill p slowdown instances table n report notes built words clocks t
     let own : ModuleTree = noted_module notes n.cells n.outlets (length report.outs) in
     let tree : own ≡ m.tree = m.only own spells in
     let same : report ≡ m.listing.report = same_report p slowdown instances n m.listing.circuit report m.listing.report notes m.listing.notes d m.listing.compiled in
-    let latency : report.latency ≡ (main_costs instances).latency = ap (λ (r : ReportTree). r.latency) d.reported in
+    let latency : report.latency ≡ (main_costs p instances).latency = ap (λ (r : ReportTree). r.latency) d.reported in
     let blocks = blocks_of (parameter_types p) table in
     let here : AreClockWords m.tree slowdown report.latency fill report.ins blocks words = subst (λ (x : ModuleTree). AreClockWords x slowdown report.latency fill report.ins blocks words) tree shown in
-    let late : AreClockWords m.tree slowdown (main_costs instances).latency fill report.ins blocks words = subst (λ (l : ℕ). AreClockWords m.tree slowdown l fill report.ins blocks words) latency here in
-    let count : clocks ≡ clock_count slowdown (main_costs instances).latency (length table) = counts ∙ ap (λ l. clock_count slowdown l (length table)) latency in
-    let wave : run_wave own clocks words ≡ run_wave m.tree (clock_count slowdown (main_costs instances).latency (length table)) words = λ i. run_wave (tree i) (count i) words in
-    let w : WaveTree = run_wave m.tree (clock_count slowdown (main_costs instances).latency (length table)) words in
+    let late : AreClockWords m.tree slowdown (main_costs p instances).latency fill report.ins blocks words = subst (λ (l : ℕ). AreClockWords m.tree slowdown l fill report.ins blocks words) latency here in
+    let count : clocks ≡ clock_count slowdown (main_costs p instances).latency (length table) = counts ∙ ap (λ l. clock_count slowdown l (length table)) latency in
+    let wave : run_wave own clocks words ≡ run_wave m.tree (clock_count slowdown (main_costs p instances).latency (length table)) words = λ i. run_wave (tree i) (count i) words in
+    let w : WaveTree = run_wave m.tree (clock_count slowdown (main_costs p instances).latency (length table)) words in
     let whole : text ≡ commented built (wave_text w) = is ∙ ap (λ x. commented built (wave_text x)) wave in
     let ends = ends_line built (report_lines m.listing.report) m.listing.notes m.listing.circuit (length m.listing.report.outs) m.listing.listed in
     let clean : list_all is_no_dollar ends.lines ≡ true =
@@ -159,7 +159,7 @@ wave_text_is fill p slowdown instances table n report notes built words clocks t
       built = built;
       module_text = m;
       words = words;
-      shown = subst (λ (r : ReportTree). AreClockWords m.tree slowdown (main_costs instances).latency fill r.ins blocks words) same late;
+      shown = subst (λ (r : ReportTree). AreClockWords m.tree slowdown (main_costs p instances).latency fill r.ins blocks words) same late;
       is = whole;
       dump = subst (λ t. IsVcd t w) (sym (whole ∙ ap (λ x. commented x (wave_text w)) ends.is)) dump;
     }

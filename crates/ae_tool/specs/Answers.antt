@@ -1,6 +1,6 @@
 -- How a call of the compiler may go.
 use Rattle.std.specs.Prelude.{◌≡◌, ℕ, ◌+◌, ◌≤◌, List, length, Option}
-use Rattle.ae_io.specs.Counts.{Rose}
+use Rattle.ae_io.specs.Counts.{Rose, Same, raised}
 use Rattle.ae_io.specs.Told.{Appends, AppendsPrefix, TakesCount}
 use Rattle.ae_io.specs.Transfer.{TakesAll}
 use Rattle.ae_tool.specs.declared.status.Status.{Status}
@@ -24,9 +24,15 @@ pub record SinkView : Type 0 where
   pub wants : ℕ
   pub ends : ℕ
 
+-- a text was ended, once, and the sink met nothing on the way
+pub record IsEnded (old new : SinkView) : Type 0 where
+  pub once : new.ends ≡ raised old.ends
+  pub no_fault : Same old.faults new.faults
+  pub no_want : Same old.wants new.wants
+
 -- a text was written and ended, and the call answers its status; or the sink took a first part of it alone
 pub data Puts (text : List ℕ) (status result : Status) (old new : SinkView) : Type 0 where
-  Whole : result ≡ status → Appends old.written new.written text → Rose old.ends new.ends → Puts text status result old new
+  Whole : result ≡ status → Appends old.written new.written text → IsEnded old new → Puts text status result old new
   Failing : result ≡ WriteFault → AppendsPrefix old.written new.written text → Rose old.faults new.faults → Puts text status result old new
   Wanting : result ≡ Memory → AppendsPrefix old.written new.written text → Rose old.wants new.wants → Puts text status result old new
 

@@ -3,7 +3,7 @@ use Rattle.std.specs.Prelude.{◌≡◌, ℕ, ◌<◌, ◌≤◌, ◌^◌, Bool,
 use Rattle.std.specs.Fmt.{decimal}
 use Rattle.std.specs.declared.alloc.Global.{Global}
 use Rattle.ae_tool.specs.declared.command.Command.{Command}
-use Rattle.ae_tool.specs.declared.command.Command.TheVariants.{Check, Eval, Plan, Cost, Build, Stall, Run, Wave, Unwave, Sim, Demo}
+use Rattle.ae_tool.specs.declared.command.Command.TheVariants.{Check, Eval, Plan, Cost, Least, Build, Stall, Run, Wave, Unwave, Sim, Demo}
 
 -- the bytes of each word
 abbrev pub word_bytes : List (String Global) → List (List ℕ)
@@ -15,6 +15,7 @@ job_word Check = codes "check"
 job_word Eval = codes "eval"
 job_word (Plan slowdown) = codes "plan"
 job_word (Cost slowdown) = codes "cost"
+job_word (Least slowdown) = codes "least"
 job_word (Build slowdown) = codes "build"
 job_word (Stall slowdown) = codes "stall"
 job_word (Demo size) = codes "demo"
@@ -28,6 +29,7 @@ number_words Check = []
 number_words Eval = []
 number_words (Plan slowdown) = decimal slowdown ∷ []
 number_words (Cost slowdown) = decimal slowdown ∷ []
+number_words (Least slowdown) = decimal slowdown ∷ []
 number_words (Build slowdown) = decimal slowdown ∷ []
 number_words (Stall slowdown) = decimal slowdown ∷ []
 number_words (Demo size) = decimal size ∷ []
@@ -48,6 +50,7 @@ IsDemoSize n = (1 ≤ n) × (n ≤ 64)
 abbrev pub AreInRange : Command → Type 0
 AreInRange (Plan slowdown) = IsSlowdown slowdown
 AreInRange (Cost slowdown) = IsSlowdown slowdown
+AreInRange (Least slowdown) = IsSlowdown slowdown
 AreInRange (Build slowdown) = IsSlowdown slowdown
 AreInRange (Stall slowdown) = IsSlowdown slowdown
 AreInRange (Demo size) = IsDemoSize size

@@ -1,10 +1,17 @@
--- The table of `cost`: for each node line of the program function what it costs, as comma-separated values (RFC 4180).
-use Rattle.std.specs.Prelude.{◌≡◌, ℕ, true, List, [], ◌∷◌, ◌++◌, codes, slice_index_or}
+-- The table of `cost`: for each node line of the program function what it costs, or for the end line of one that only moves
+-- words, as comma-separated values (RFC 4180).
+use Rattle.std.specs.Prelude.{◌≡◌, ℕ, true, List, [], ◌∷◌, ◌++◌, map, codes, slice_index_or, if◌then◌else◌}
 use Rattle.std.specs.Fmt.{decimal}
-use Rattle.ae_seq.specs.ProgramTree.{NodeTree, OpTree}
+use Rattle.ae_seq.specs.ProgramTree.{NodeTree, OpTree, FuncTree, ProgramTree}
 use Rattle.ae_seq.specs.Formed.{all_name_bytes}
 use Rattle.ae_print.specs.Printed.{op_fields}
+use Rattle.ae_rewrite.specs.StProgramTree.{StFuncTree}
+use Rattle.ae_delay.specs.declared.own.OwnCosts.{OwnCosts}
 use Rattle.ae_delay.specs.declared.weighing.Cost.{Cost}
+use Rattle.ae_delay.specs.Costs.{NodeTiming}
+use Rattle.ae_delay.specs.Weighing.{cost_of}
+use Rattle.ae_trace.specs.Traces.{is_movement}
+use Rattle.ae_fuse.specs.Costing.{fused_costing}
 
 -- the word of an operator line
 abbrev pub op_word : OpTree → List ℕ
@@ -38,3 +45,11 @@ cost_rows (n ∷ ns) (c ∷ cs) = cost_row n c ++ cost_rows ns cs
 
 abbrev pub cost_table : List NodeTree → List Cost → List ℕ
 cost_table ns cs = table_head ++ cost_rows ns cs
+
+-- of a program that only moves words one record, for the end line
+abbrev pub fused_table : (line : ℕ) → OwnCosts → List ℕ
+fused_table line c = table_head ++ comma_line (decimal line ∷ codes "end" ∷ codes "fused" ∷ decimal c.latency ∷ decimal c.load ∷ decimal c.muls ∷ [])
+
+-- by the kind of the program
+abbrev pub table_text : ProgramTree → FuncTree → StFuncTree → List NodeTiming → List ℕ
+table_text p f s ts = if is_movement p then fused_table f.end_line (fused_costing f s).costs else cost_table f.nodes (map cost_of ts)

@@ -40,7 +40,7 @@ demo_table n = map (map decimal) (cut (demo_blocks n) (16 * n) (demo_words n))
 -- the text of a module that is correct for the program, and the sums of its run on the blocks of the rows
 pub record IsSummedRun (fill : ℕ) (p : ProgramTree) (slowdown : ℕ) (instances : List StFuncTree) (table : List (List (List ℕ))) (built : List ℕ) (sums : Sums) : Type 0 where
   pub module_text : IsModuleText p slowdown instances built
-  pub shown : AreClockSums module_text.tree slowdown (main_costs instances).latency fill module_text.listing.report.ins module_text.listing.report.outs (blocks_of (parameter_types p) table) sums
+  pub shown : AreClockSums module_text.tree slowdown (main_costs p instances).latency fill module_text.listing.report.ins module_text.listing.report.outs (blocks_of (parameter_types p) table) sums
 
 -- the lines of the summary
 abbrev pub summary : (size latency clocks : ℕ) → Sums → List ℕ
@@ -56,4 +56,4 @@ pub record IsDemoText (n : ℕ) (text : List ℕ) : Type 0 where
   pub built : List ℕ
   pub sums : Sums
   pub run : IsSummedRun 0 program (demo_slowdown n) instances (demo_table n) built sums
-  pub is : text ≡ (built ++ codes "%% summary\n") ++ summary n (main_costs instances).latency (clock_count (demo_slowdown n) (main_costs instances).latency (demo_blocks n)) sums
+  pub is : text ≡ (built ++ codes "%% summary\n") ++ summary n (main_costs program instances).latency (clock_count (demo_slowdown n) (main_costs program instances).latency (demo_blocks n)) sums

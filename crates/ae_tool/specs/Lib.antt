@@ -5,6 +5,7 @@ pub mod CostTables
 pub mod EvalRows
 pub mod EvalTexts
 pub mod Inputs
+pub mod LeastAnswers
 pub mod Numbers
 pub mod Outcomes
 pub mod PlanTexts

@@ -1,7 +1,7 @@
 -- The numbers of statuses.
 use Rattle.std.specs.Prelude.{ℕ}
 use Rattle.ae_tool.specs.declared.status.Status.{Status}
-use Rattle.ae_tool.specs.declared.status.Status.TheVariants.{Ok, Usage, BadLine, BadType, TooLarge, NoSchedule, BadWords, BadModule, LongRun, ReadFault, WriteFault, TooLong, Memory, BadWave}
+use Rattle.ae_tool.specs.declared.status.Status.TheVariants.{Ok, Usage, BadLine, BadType, TooLarge, NoSchedule, BadWords, BadModule, LongRun, ReadFault, WriteFault, TooLong, Memory, BadWave, NotMoves}
 
 abbrev pub status_number : Status → ℕ
 status_number Ok = 0
@@ -18,3 +18,4 @@ status_number WriteFault = 10
 status_number TooLong = 11
 status_number Memory = 12
 status_number (BadWave at) = 13
+status_number (NotMoves line) = 14

@@ -7,7 +7,7 @@ use Rattle.ae_tool.specs.declared.status.Status.{Status}
 use Rattle.ae_tool.specs.declared.status.Status.TheVariants.{Ok, Usage, ReadFault, WriteFault, TooLong, Memory}
 use Rattle.ae_parse.specs.Rows.{bad_row}
 use Rattle.ae_tool.specs.declared.command.Command.{Command}
-use Rattle.ae_tool.specs.declared.command.Command.TheVariants.{Check, Eval, Plan, Cost, Build, Stall, Run, Wave, Unwave, Sim, Demo}
+use Rattle.ae_tool.specs.declared.command.Command.TheVariants.{Check, Eval, Plan, Cost, Least, Build, Stall, Run, Wave, Unwave, Sim, Demo}
 use Rattle.ae_tool.specs.declared.run.Form.{Form}
 use Rattle.ae_tool.specs.declared.run.Form.TheVariants.{Lines, Dump}
 use Rattle.ae_tool.specs.Commands.{IsCommand, NamesNone, TakesInput, takes_whole}
@@ -22,6 +22,7 @@ use Rattle.ae_tool.specs.DemoTexts.{IsDemoText}
 use Rattle.ae_tool.specs.CheckTexts.{check_text}
 use Rattle.ae_compile.specs.Costing.{HasCosts, load_limit}
 use Rattle.ae_tool.specs.Schedules.{IsAnswered, IsPlanned, IsTabled}
+use Rattle.ae_tool.specs.LeastAnswers.{HasLeast, IsLeast}
 use Rattle.ae_tool.specs.EvalTexts.{eval_size, IsEvalOf}
 use Rattle.ae_tool.specs.RunTexts.{input_widths, run_size, run_limit, IsRun}
 use Rattle.ae_tool.specs.SimTexts.{IsSimulated, IsSimulable}
@@ -55,6 +56,7 @@ IsReply Check part table status text = IsChecked part status text
 IsReply Eval part table status text = IsEvaluated part table status text
 IsReply (Plan slowdown) part table status text = IsPlanned part slowdown status text
 IsReply (Cost slowdown) part table status text = IsTabled part slowdown status text
+IsReply (Least slowdown) part table status text = IsLeast part slowdown status text
 IsReply (Build slowdown) part table status text = IsBuilt part slowdown status text
 IsReply (Stall slowdown) part table status text = IsStalled part slowdown status text
 IsReply (Demo size) part table status text = ⊥
@@ -122,7 +124,7 @@ RefusesWords status old_faults new_faults old_wants new_wants =
 pub record HasShortRun (form : Form) (part : List ℕ) (slowdown : ℕ) (table : List (List (List ℕ))) : Type 0 where
   pub costs : HasCosts load_limit part slowdown
   pub rows : bad_row 1 (input_widths costs.program) table ≡ None
-  pub short : run_size form costs.program slowdown (main_costs costs.instances).latency table ≤ run_limit
+  pub short : run_size form costs.program slowdown (main_costs costs.program costs.instances).latency table ≤ run_limit
 
 -- the job has a result for the two parts of an input; a demo takes none
 abbrev pub HasResult : Command → (part : List ℕ) (table : List (List (List ℕ))) → Type 0
@@ -130,6 +132,7 @@ HasResult Check part table = (p : ProgramTree) × IsTyped part p
 HasResult Eval part table = (p : ProgramTree) × IsTyped part p × (bad_row 1 (input_widths p) table ≡ None) × (eval_size p table ≤ run_limit)
 HasResult (Plan slowdown) part table = HasCosts load_limit part slowdown
 HasResult (Cost slowdown) part table = HasCosts load_limit part slowdown
+HasResult (Least slowdown) part table = HasLeast part slowdown
 HasResult (Build slowdown) part table = HasCosts load_limit part slowdown
 HasResult (Stall slowdown) part table = HasCosts stall_limit part slowdown
 HasResult (Demo size) part table = ⊥

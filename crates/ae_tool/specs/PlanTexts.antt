@@ -1,13 +1,14 @@
--- The text of `plan`: what a schedule costs, and when and how each item of the program function arrives.
+-- The text of `plan`: what a program costs, and when and how each item of the program function arrives.
 use Rattle.std.specs.Prelude.{ℕ, ◌+◌, List, [], ◌∷◌, ◌++◌, length, flat_map, slice_index, codes}
 use Rattle.std.specs.Fmt.{decimal}
-use Rattle.ae_seq.specs.ProgramTree.{ParamTree, NodeTree, FuncTree}
+use Rattle.ae_seq.specs.ProgramTree.{ParamTree, NodeTree, FuncTree, ProgramTree}
 use Rattle.ae_sttype.specs.StTree.{StTree}
 use Rattle.ae_sttype.specs.TypeText.{st_text}
 use Rattle.ae_rewrite.specs.StProgramTree.{StFuncTree}
 use Rattle.ae_rewrite.specs.Sound.{item_layout, item_layouts}
 use Rattle.ae_delay.specs.declared.own.OwnCosts.{OwnCosts}
-use Rattle.ae_delay.specs.Costs.{NodeTiming, arrivals_of, func_costs_by}
+use Rattle.ae_delay.specs.Costs.{NodeTiming}
+use Rattle.ae_fuse.specs.Costing.{costing}
 
 -- `WORDS NUMBER`
 abbrev pub number_line : (words : List ℕ) (number : ℕ) → List ℕ
@@ -41,5 +42,5 @@ abbrev pub planned_text : (slowdown : ℕ) → OwnCosts → FuncTree → (arriva
 planned_text slowdown c f as_all layouts = cost_lines slowdown c ++ item_lines f as_all layouts
 
 -- the costs, and then the items and the results of the program function
-abbrev pub plan_text : (slowdown : ℕ) → FuncTree → StFuncTree → List NodeTiming → List ℕ
-plan_text slowdown f s ts = planned_text slowdown (func_costs_by s ts) f (arrivals_of s.ins ts) (item_layouts s)
+abbrev pub plan_text : (slowdown : ℕ) → ProgramTree → FuncTree → StFuncTree → List NodeTiming → List ℕ
+plan_text slowdown p f s ts = planned_text slowdown (costing p f s ts).costs f (costing p f s ts).arrivals (item_layouts s)

@@ -2,7 +2,7 @@
 use Rattle.std.specs.Prelude.{ℕ, List, [], ◌∷◌, ◌++◌, codes}
 use Rattle.std.specs.Fmt.{decimal}
 use Rattle.ae_tool.specs.declared.status.Status.{Status}
-use Rattle.ae_tool.specs.declared.status.Status.TheVariants.{Ok, Usage, BadLine, BadType, TooLarge, NoSchedule, BadWords, BadModule, LongRun, ReadFault, WriteFault, TooLong, Memory, BadWave}
+use Rattle.ae_tool.specs.declared.status.Status.TheVariants.{Ok, Usage, BadLine, BadType, TooLarge, NoSchedule, BadWords, BadModule, LongRun, ReadFault, WriteFault, TooLong, Memory, BadWave, NotMoves}
 use Rattle.ae_tool.specs.declared.status.VFaultKind.{VFaultKind}
 use Rattle.ae_tool.specs.declared.status.VFaultKind.TheVariants.{BadToken, BadHeader, BadItem, Unknown, Twice, Kind, Undriven, Width, Loop, Large}
 
@@ -39,6 +39,7 @@ refusal_text WriteFault = []
 refusal_text TooLong = codes "too long"
 refusal_text Memory = codes "memory"
 refusal_text (BadWave at) = numbered (codes "bad wave word ") at
+refusal_text (NotMoves line) = numbered (codes "not moves line ") line
 
 -- the line of a refusal
 abbrev pub refusal_line : Status → List ℕ

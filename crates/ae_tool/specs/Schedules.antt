@@ -1,9 +1,8 @@
 -- What is answered for the schedule of an input's program under a slowdown.
-use Rattle.std.specs.Prelude.{◌≡◌, ℕ, List, map, ◌⊎◌}
+use Rattle.std.specs.Prelude.{◌≡◌, ℕ, List, ◌⊎◌}
 use Rattle.ae_seq.specs.ProgramTree.{ProgramTree, FuncTree}
 use Rattle.ae_rewrite.specs.StProgramTree.{StFuncTree}
 use Rattle.ae_delay.specs.Costs.{NodeTiming}
-use Rattle.ae_delay.specs.Weighing.{cost_of}
 use Rattle.ae_compile.specs.Costing.{HasLargeLoad, HasNoSchedule, IsCosted, load_limit}
 use Rattle.ae_compile.specs.Mains.{HasMain}
 use Rattle.ae_tool.specs.declared.status.Status.{Status}
@@ -11,7 +10,7 @@ use Rattle.ae_tool.specs.declared.status.Status.TheVariants.{Ok, TooLarge, NoSch
 use Rattle.ae_tool.specs.Refusals.{refusal_line}
 use Rattle.ae_tool.specs.Programs.{IsRefusal}
 use Rattle.ae_tool.specs.PlanTexts.{plan_text}
-use Rattle.ae_tool.specs.CostTables.{cost_table}
+use Rattle.ae_tool.specs.CostTables.{table_text}
 
 -- a line is refused as in any program, or for its layout, or for the load up to it
 abbrev pub IsCostRefusal : (limit : ℕ) (part : List ℕ) (slowdown : ℕ) → Status → Type 0
@@ -20,11 +19,11 @@ IsCostRefusal limit part slowdown (TooLarge line) = IsRefusal part (TooLarge lin
 IsCostRefusal limit part slowdown status = IsRefusal part status
 
 -- the text of a costed program
-pub record IsCostText (text_of : FuncTree → StFuncTree → List NodeTiming → List ℕ) (part : List ℕ) (slowdown : ℕ) (text : List ℕ) : Type 0 where
+pub record IsCostText (text_of : ProgramTree → FuncTree → StFuncTree → List NodeTiming → List ℕ) (part : List ℕ) (slowdown : ℕ) (text : List ℕ) : Type 0 where
   pub program : ProgramTree
   pub instances : List StFuncTree
   pub costed : IsCosted load_limit part slowdown program instances
-  pub written : HasMain program instances (λ f s ts. text ≡ text_of f s ts)
+  pub written : HasMain program instances (λ f s ts. text ≡ text_of program f s ts)
 
 -- what is answered and written, where a text is right or the program is refused
 abbrev pub IsAnswered : (limit : ℕ) (IsRight : List ℕ → Type 0) → (part : List ℕ) (slowdown : ℕ) → Status → (text : List ℕ) → Type 0
@@ -36,4 +35,4 @@ abbrev pub IsPlanned : (part : List ℕ) (slowdown : ℕ) → Status → (text :
 IsPlanned part slowdown status text = IsAnswered load_limit (IsCostText (plan_text slowdown) part slowdown) part slowdown status text
 
 abbrev pub IsTabled : (part : List ℕ) (slowdown : ℕ) → Status → (text : List ℕ) → Type 0
-IsTabled part slowdown status text = IsAnswered load_limit (IsCostText (λ f s ts. cost_table f.nodes (map cost_of ts)) part slowdown) part slowdown status text
+IsTabled part slowdown status text = IsAnswered load_limit (IsCostText table_text part slowdown) part slowdown status text

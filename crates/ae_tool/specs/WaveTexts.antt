@@ -44,6 +44,6 @@ pub record IsWaveText (fill : ℕ) (p : ProgramTree) (slowdown : ℕ) (instances
   pub built : List ℕ
   pub module_text : IsModuleText p slowdown instances built
   pub words : List ℕ
-  pub shown : AreClockWords module_text.tree slowdown (main_costs instances).latency fill module_text.listing.report.ins (blocks_of (parameter_types p) table) words
-  pub is : text ≡ commented built (wave_text (run_wave module_text.tree (clock_count slowdown (main_costs instances).latency (length table)) words))
-  pub dump : IsVcd text (run_wave module_text.tree (clock_count slowdown (main_costs instances).latency (length table)) words)
+  pub shown : AreClockWords module_text.tree slowdown (main_costs p instances).latency fill module_text.listing.report.ins (blocks_of (parameter_types p) table) words
+  pub is : text ≡ commented built (wave_text (run_wave module_text.tree (clock_count slowdown (main_costs p instances).latency (length table)) words))
+  pub dump : IsVcd text (run_wave module_text.tree (clock_count slowdown (main_costs p instances).latency (length table)) words)

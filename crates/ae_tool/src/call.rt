@@ -1,7 +1,7 @@
 // The one call of the compiler.
 
 ghost use Rattle.std.specs.Prelude.{◌≡◌, ◌⊎◌, ℕ, true};
-ghost use Rattle.ae_io.specs.Counts.{Rose};
+ghost use Rattle.ae_io.specs.Counts.{Rose, Same, raised};
 ghost use Rattle.ae_io.specs.Told.{Appends};
 ghost use Rattle.ae_tool.specs.declared.command.Command.{Command};
 ghost use Rattle.ae_tool.specs.declared.command.Command.TheVariants.{Demo};
@@ -21,8 +21,9 @@ use std::alloc::Global;
 /// latency that its report lines tell: README.md says in plain words what that is. `run` shows behind it the module's
 /// run on the rows in the input, every word of every clock; `sim` shows the run of a module that the input spells, and
 /// `demo` sums the run of the module that it writes. `ReadFault` and `WriteFault` come only where the count of faults
-/// of the source or sink that was handed in rose in this call. `Memory` may stand in place of any answer; in place of
-/// `Usage` only where the sink had no memory.
+/// of the source or sink that was handed in rose in this call; with all other answers but `Memory` the sink met nothing, and
+/// its end was told once. `Memory` may stand in place of any answer, in place of `Usage` only where the sink had no memory;
+/// it comes either from the sink, or behind its line, whole and ended.
 pub fn aeth<S: Source, K: Sink>(
     alloc: Global,
     words: &[String],
@@ -36,7 +37,9 @@ pub fn aeth<S: Source, K: Sink>(
     ensures demo { (size : ℕ) → IsCommand (word_bytes words.now) (Demo size) → (Rose (K.faults sink.old) (K.faults sink.new) → ⊥) → (result ≡ Status.Ok) ⊎ (result ≡ Status.Memory) }
     ensures takes_nothing { (size : ℕ) → IsCommand (word_bytes words.now) (Demo size) → (S.left source.new ≡ S.left source.old) × (S.faults source.new ≡ S.faults source.old) }
     ensures left { (command : Command) → is_settled result ≡ true → IsCommand (word_bytes words.now) command → LeavesInput command result (S.left source.old) (S.left source.new) }
-    ensures ended { (result ≡ Status.WriteFault → ⊥) → (result ≡ Status.Memory → ⊥) → Rose (K.ends sink.old) (K.ends sink.new) }
+    ensures ended { (result ≡ Status.WriteFault → ⊥) → (result ≡ Status.Memory → ⊥) → K.ends sink.new ≡ raised (K.ends sink.old) }
+    ensures no_fault { (result ≡ Status.WriteFault → ⊥) → (result ≡ Status.Memory → ⊥) → Same (K.faults sink.old) (K.faults sink.new) }
+    ensures no_want { (result ≡ Status.WriteFault → ⊥) → (result ≡ Status.Memory → ⊥) → Same (K.wants sink.old) (K.wants sink.new) }
 
     ensures usage { result ≡ Status.Usage → NamesNone (word_bytes words.now) }
     ensures other_words { NamesNone (word_bytes words.now) → RefusesWords result (K.faults sink.old) (K.faults sink.new) (K.wants sink.old) (K.wants sink.new) }
@@ -45,6 +48,8 @@ pub fn aeth<S: Source, K: Sink>(
     ensures read { result ≡ Status.ReadFault → Rose (S.faults source.old) (S.faults source.new) }
     ensures read_line { result ≡ Status.ReadFault → Appends (K.written sink.old) (K.written sink.new) (refusal_line Status.ReadFault) }
     ensures write { result ≡ Status.WriteFault → Rose (K.faults sink.old) (K.faults sink.new) }
+    ensures memory { result ≡ Status.Memory → Rose (K.wants sink.old) (K.wants sink.new)
+        ⊎ (Appends (K.written sink.old) (K.written sink.new) (refusal_line Status.Memory) × (K.ends sink.new ≡ raised (K.ends sink.old))) }
 {
     serve(alloc, words, source, sink)
 }

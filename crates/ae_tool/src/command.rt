@@ -18,6 +18,8 @@ pub enum Command {
     Plan { slowdown: u32 },
     /// `cost S`: what each node line costs, as a table.
     Cost { slowdown: u32 },
+    /// `least S`: the least latency of a program that only moves words, and what shows it.
+    Least { slowdown: u32 },
     /// `build S`: the text of the program's module.
     Build { slowdown: u32 },
     /// `stall S`: that text with one more input, `en`, which holds the circuit where it is 0.
@@ -55,6 +57,7 @@ pub fn demo_size(command: Command) -> Option<u32>
         Command::Check | Command::Eval | Command::Unwave => None,
         Command::Plan { slowdown: _ } => None,
         Command::Cost { slowdown: _ } => None,
+        Command::Least { slowdown: _ } => None,
         Command::Build { slowdown: _ } => None,
         Command::Stall { slowdown: _ } => None,
         Command::Run {
@@ -101,6 +104,8 @@ fn two_words(job: &str, number: &str) -> Option<Command>
         plan(number)
     } else if job == "cost" {
         cost(number)
+    } else if job == "least" {
+        least(number)
     } else if job == "demo" {
         demo(number)
     } else if job == "sim" {
@@ -142,6 +147,15 @@ fn cost(slowdown: &str) -> Option<Command>
 {
     match slowdown_of(slowdown) {
         Some(slowdown) => Some(Command::Cost { slowdown }),
+        None => None,
+    }
+}
+
+fn least(slowdown: &str) -> Option<Command>
+    ensures { MatchOption result (NamesNone (codes "least" ∷ slowdown.now ∷ [])) (λ c. IsCommand (codes "least" ∷ slowdown.now ∷ []) c) }
+{
+    match slowdown_of(slowdown) {
+        Some(slowdown) => Some(Command::Least { slowdown }),
         None => None,
     }
 }

@@ -1,21 +1,23 @@
 // The table of the job `cost`.
 
-ghost use Rattle.std.specs.Prelude.{◌≡◌, ◌<◌, ◌++◌, ◌≤◌, ◌∷◌, ℕ, List, map, length, true, IfOk, OnOk, string_bytes, slice_get, Some};
+ghost use Rattle.std.specs.Prelude.{◌≡◌, ◌<◌, ◌++◌, ◌≤◌, [], ◌∷◌, ℕ, List, map, length, true, IfOk, OnOk, string_bytes, slice_get, Some};
+ghost use Rattle.std.specs.Fmt.{decimal};
 ghost use Rattle.std.specs.Option.{option_map};
 ghost use Rattle.ae_seq.specs.ProgramTree.{node_tree, op_tree, word};
 ghost use Rattle.ae_seq.specs.Formed.{all_name_bytes};
 ghost use Rattle.csv.specs.Records.{fields_of};
 ghost use Rattle.csv.specs.Writing.{default_writer, row_text};
+ghost use Rattle.ae_compile.specs.Costing.{load_limit, whole_costs};
 ghost use Rattle.ae_compile.specs.LineNotes.{AllNamed};
-ghost use Rattle.ae_tool.specs.CostTables.{ArePlain, comma_line, cost_row, cost_rows, cost_table, op_word};
+ghost use Rattle.ae_tool.specs.CostTables.{ArePlain, comma_line, cost_row, cost_rows, cost_table, fused_table, op_word, table_head};
 
-use ae_compile::OutOfMemory;
+use ae_compile::{Costs, OutOfMemory};
 use ae_delay::{Cost, Timing};
 use ae_seq::{Node, Op};
 use ae_word::WordOp;
 use csv::{ByteRecord, Error, WriterBuilder};
 use itoa::Buffer;
-use std::alloc::Global;
+use std::alloc::{AllocError, Global};
 use std::str::from_utf8;
 
 fn word_name(op: WordOp) -> &'static str
@@ -98,19 +100,49 @@ fn write_record(alloc: Global, out: &mut String, row: &ByteRecord) -> Result<(),
     }
 }
 
+// The record of a line.
+fn write_row(
+    alloc: Global,
+    out: &mut String,
+    line: u32,
+    name: &str,
+    op: &str,
+    cost: Cost,
+) -> Result<(), OutOfMemory>
+    requires name { all_name_bytes name.now ≡ true }
+    requires op { all_name_bytes op.now ≡ true }
+    ensures { OnOk result (string_bytes out.new ≡ string_bytes out.old ++ comma_line (decimal line ∷ name.now ∷ op.now ∷ decimal cost.latency ∷ decimal cost.load ∷ decimal cost.muls ∷ [])) }
+{
+    let mut row = ByteRecord::new(alloc);
+    row.push_field(Buffer::new().format(line).as_bytes())?;
+    row.push_field(name.as_bytes())?;
+    row.push_field(op.as_bytes())?;
+    row.push_field(Buffer::new().format(cost.latency).as_bytes())?;
+    row.push_field(Buffer::new().format(cost.load).as_bytes())?;
+    row.push_field(Buffer::new().format(cost.muls).as_bytes())?;
+    write_record(alloc, out, &row)
+}
+
 // The record of a node line.
 fn write_cost(alloc: Global, out: &mut String, node: &Node, cost: Cost) -> Result<(), OutOfMemory>
     requires { all_name_bytes (node_tree node.now).name ≡ true }
     ensures { OnOk result (string_bytes out.new ≡ string_bytes out.old ++ cost_row (node_tree node.now) cost) }
 {
-    let mut row = ByteRecord::new(alloc);
-    row.push_field(Buffer::new().format(node.line).as_bytes())?;
-    row.push_field(node.name.as_bytes())?;
-    row.push_field(op_name(&node.op).as_bytes())?;
-    row.push_field(Buffer::new().format(cost.latency).as_bytes())?;
-    row.push_field(Buffer::new().format(cost.load).as_bytes())?;
-    row.push_field(Buffer::new().format(cost.muls).as_bytes())?;
-    write_record(alloc, out, &row)
+    write_row(
+        alloc,
+        out,
+        node.line,
+        node.name.as_str(),
+        op_name(&node.op),
+        cost,
+    )
+}
+
+// The names of the columns.
+fn head(alloc: Global) -> Result<String, AllocError>
+    ensures { IfOk result (λ text. string_bytes text ≡ table_head) }
+{
+    String::from_str(alloc, "line,name,op,latency,load,muls\n")
 }
 
 /// The costs of the node lines of the program function, as comma-separated values under a header.
@@ -120,7 +152,7 @@ pub fn cost_table(alloc: Global, nodes: &[Node], timing: &Timing) -> Result<Stri
     requires few { length nodes.now < 4294967296 }
     ensures { IfOk result (λ text. string_bytes text ≡ cost_table (map node_tree nodes.now) timing.now.nodes) }
 {
-    let mut out = String::from_str(alloc, "line,name,op,latency,load,muls\n")?;
+    let mut out = head(alloc)?;
     let mut number = 0u32;
     for node in nodes {
         let cost = match timing.cost(number) {
@@ -130,5 +162,20 @@ pub fn cost_table(alloc: Global, nodes: &[Node], timing: &Timing) -> Result<Stri
         write_cost(alloc, &mut out, node, cost)?;
         number += 1;
     }
+    Ok(out)
+}
+
+/// The costs of a program that only moves words, all of them at its end line, under the same header.
+pub fn fused_table(alloc: Global, end_line: u32, costs: &Costs) -> Result<String, OutOfMemory>
+    requires { (whole_costs costs.now).load ≤ load_limit }
+    ensures { IfOk result (λ text. string_bytes text ≡ fused_table end_line (whole_costs costs.now)) }
+{
+    let mut out = head(alloc)?;
+    let cost = Cost {
+        latency: costs.latency(),
+        load: costs.load() as u32,
+        muls: costs.muls(),
+    };
+    write_row(alloc, &mut out, end_line, "end", "fused", cost)?;
     Ok(out)
 }

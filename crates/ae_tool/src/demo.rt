@@ -125,7 +125,7 @@ fn demo_text(alloc: Global, costed: Costed, size: u32) -> Result<String, OutOfMe
     ensures { IfOk result (λ text. IsDemoText size (string_bytes text)) }
 {
     let blocks = (2 * size) as usize;
-    let latency = costed.timing.latency();
+    let latency = costed.costs.latency();
     let clocks = clock_count(costed.slowdown, latency, blocks);
     if clocks > 4_294_967_295 {
         return Err(OutOfMemory);

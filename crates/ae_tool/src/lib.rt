@@ -8,6 +8,7 @@ mod command;
 mod cost_table;
 mod demo;
 mod evaluate;
+mod least;
 mod outcomes;
 mod plan;
 mod plan_text;

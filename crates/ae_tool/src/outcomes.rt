@@ -6,13 +6,10 @@ ghost use Rattle.ae_tool.specs.Outcomes.{IsOutcome};
 
 use crate::command::{Command, command_named, demo_size};
 use crate::demo::demo;
-use crate::reply::{Reply, answer, refused};
+use crate::reply::{INPUT_LIMIT, Reply, answer, refused};
 use crate::status::Status;
 use ae_compile::OutOfMemory;
 use std::alloc::Global;
-
-// The most bytes of an input.
-const INPUT_LIMIT: usize = 16_777_216;
 
 // What a job that takes its input answers.
 fn done(alloc: Global, command: Command, bytes: &[u8]) -> Result<Reply, OutOfMemory>

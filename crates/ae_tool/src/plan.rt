@@ -1,37 +1,36 @@
 // The jobs `plan` and `cost`.
 
-ghost use Rattle.std.specs.Prelude.{◌≡◌, ◌<◌, ◌≤◌, IfOk, length, map, string_bytes};
+ghost use Rattle.std.specs.Prelude.{◌≡◌, ◌<◌, ◌≤◌, IfOk, length, string_bytes};
 ghost use Rattle.ae_seq.specs.ProgramTree.{program_tree};
 ghost use Rattle.ae_rewrite.specs.StProgramTree.{st_func_trees};
-ghost use Rattle.ae_delay.specs.Weighing.{cost_of};
 ghost use Rattle.ae_compile.specs.Mains.{HasMain};
 ghost use Rattle.ae_compile.specs.Passes.{IsCostedProgram};
 ghost use Rattle.ae_tool.specs.PlanTexts.{plan_text};
-ghost use Rattle.ae_tool.specs.CostTables.{cost_table};
+ghost use Rattle.ae_tool.specs.CostTables.{table_text};
 ghost use Rattle.ae_tool.specs.Schedules.{IsPlanned, IsTabled};
 
-use crate::cost_table::cost_table;
+use crate::cost_table::{cost_table, fused_table};
 use crate::plan_text::plan_text;
 use crate::reply::{Reply, refused_program};
 use crate::status::Status;
-use ae_compile::{Costed, LOAD_LIMIT, OutOfMemory, cost, main_func, main_instance};
+use ae_compile::{Costed, Costs, LOAD_LIMIT, OutOfMemory, cost, main_func, main_instance};
 use std::alloc::Global;
 
 fn planned(alloc: Global, costed: &Costed) -> Result<String, OutOfMemory>
     requires { IsCostedProgram costed.now }
-    ensures { IfOk result (λ text. HasMain (program_tree costed.now.program) (st_func_trees costed.now.schedule) (λ f s ts. string_bytes text ≡ plan_text costed.now.slowdown f s ts)) }
+    ensures { IfOk result (λ text. HasMain (program_tree costed.now.program) (st_func_trees costed.now.schedule) (λ f s ts. string_bytes text ≡ plan_text costed.now.slowdown (program_tree costed.now.program) f s ts)) }
 {
     let func = main_func(&costed.program);
     let instance = main_instance(&costed.schedule);
     let last = costed.schedule.count() - 1;
-    let arrivals = match costed.timing.arrivals(last) {
+    let arrivals = match costed.costs.arrivals(last) {
         Some(arrivals) => arrivals,
         None => unreachable!(),
     };
     let text = plan_text(
         alloc,
         costed.slowdown,
-        &costed.timing,
+        &costed.costs,
         func,
         instance,
         arrivals,
@@ -60,10 +59,13 @@ pub fn plan(alloc: Global, part: &[u8], slowdown: u32) -> Result<Reply, OutOfMem
 
 fn tabled(alloc: Global, costed: &Costed) -> Result<String, OutOfMemory>
     requires { IsCostedProgram costed.now }
-    ensures { IfOk result (λ text. HasMain (program_tree costed.now.program) (st_func_trees costed.now.schedule) (λ f s ts. string_bytes text ≡ cost_table f.nodes (map cost_of ts))) }
+    ensures { IfOk result (λ text. HasMain (program_tree costed.now.program) (st_func_trees costed.now.schedule) (λ f s ts. string_bytes text ≡ table_text (program_tree costed.now.program) f s ts)) }
 {
     let func = main_func(&costed.program);
-    cost_table(alloc, &func.nodes, &costed.timing)
+    match &costed.costs {
+        Costs::Plain(timing) => cost_table(alloc, &func.nodes, timing),
+        Costs::Fused(_) => fused_table(alloc, func.end_line, &costed.costs),
+    }
 }
 
 /// The table of `cost`, or a refusal.

@@ -5,17 +5,19 @@ ghost use Rattle.ae_seq.specs.ProgramTree.{param_tree, node_tree, func_tree};
 ghost use Rattle.ae_sttype.specs.StTree.{st_tree};
 ghost use Rattle.ae_rewrite.specs.StProgramTree.{st_func_tree};
 ghost use Rattle.ae_rewrite.specs.Sound.{item_layouts};
+ghost use Rattle.ae_compile.specs.Costing.{whole_costs};
 ghost use Rattle.ae_compile.specs.Mains.{IsInstanceOf};
 ghost use Rattle.ae_tool.specs.PlanTexts.{cost_lines, item_line, item_lines, node_item_lines, number_line, param_item_lines, planned_text, result_line};
 
-use ae_delay::{Timing, layout};
+use ae_compile::Costs;
+use ae_delay::layout;
 use ae_rewrite::StFunc;
 use ae_seq::{Func, Node, Param};
 use ae_sttype::StType;
 use itoa::Buffer;
 use std::alloc::{AllocError, Global};
 
-fn write_number(out: &mut String, words: &str, number: u32) -> Result<(), AllocError>
+fn write_number(out: &mut String, words: &str, number: u64) -> Result<(), AllocError>
     ensures { OnOk result (string_bytes out.new ≡ string_bytes out.old ++ number_line words.now number) }
 {
     out.push_str(words)?;
@@ -125,13 +127,13 @@ fn write_results(
 }
 
 // The lines of costs.
-fn write_costs(out: &mut String, slowdown: u32, timing: &Timing) -> Result<(), AllocError>
-    ensures { OnOk result (string_bytes out.new ≡ string_bytes out.old ++ cost_lines slowdown timing.now.costs) }
+fn write_costs(out: &mut String, slowdown: u32, costs: &Costs) -> Result<(), AllocError>
+    ensures { OnOk result (string_bytes out.new ≡ string_bytes out.old ++ cost_lines slowdown (whole_costs costs.now)) }
 {
-    write_number(out, "slowdown", slowdown)?;
-    write_number(out, "latency", timing.latency())?;
-    write_number(out, "muls", timing.muls())?;
-    write_number(out, "load", timing.load())
+    write_number(out, "slowdown", u64::from(slowdown))?;
+    write_number(out, "latency", u64::from(costs.latency()))?;
+    write_number(out, "muls", u64::from(costs.muls()))?;
+    write_number(out, "load", costs.load())
 }
 
 // The lines of a function's items and results.
@@ -155,17 +157,17 @@ fn write_items(
 pub fn plan_text(
     alloc: Global,
     slowdown: u32,
-    timing: &Timing,
+    costs: &Costs,
     func: &Func,
     instance: &StFunc,
     arrivals: &[u32],
 ) -> Result<String, AllocError>
     requires instance { IsInstanceOf (func_tree func.now) (st_func_tree instance.now) }
     requires arrivals { length (item_layouts (st_func_tree instance.now)) ≡ length arrivals.now }
-    ensures { IfOk result (λ text. string_bytes text ≡ planned_text slowdown timing.now.costs (func_tree func.now) arrivals.now (item_layouts (st_func_tree instance.now))) }
+    ensures { IfOk result (λ text. string_bytes text ≡ planned_text slowdown (whole_costs costs.now) (func_tree func.now) arrivals.now (item_layouts (st_func_tree instance.now))) }
 {
     let mut out = String::new(alloc);
-    write_costs(&mut out, slowdown, timing)?;
+    write_costs(&mut out, slowdown, costs)?;
     write_items(&mut out, func, instance, arrivals)?;
     Ok(out)
 }

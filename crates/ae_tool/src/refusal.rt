@@ -36,6 +36,7 @@ fn write_refusal(out: &mut String, status: Status) -> Result<(), AllocError>
         Status::TooLong => out.push_str("too long"),
         Status::Memory => out.push_str("memory"),
         Status::BadWave { at } => write!(out, "bad wave word {at}"),
+        Status::NotMoves { line } => write!(out, "not moves line {line}"),
     }
 }
 

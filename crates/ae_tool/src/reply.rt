@@ -15,6 +15,7 @@ use crate::build::build;
 use crate::check_text::check_text;
 use crate::command::{Command, takes_whole};
 use crate::evaluate::evaluate;
+use crate::least::least;
 use crate::plan::{cost_of_lines, plan};
 use crate::refusal::refusal_line;
 use crate::run::{Form, run};
@@ -25,6 +26,9 @@ use crate::unwave::unwave;
 use ae_compile::{CompileFault, OutOfMemory, typed};
 use ae_parse::split;
 use std::alloc::Global;
+
+/// The most bytes of an input.
+pub const INPUT_LIMIT: usize = 16_777_216;
 
 /// The greatest size of a run.
 pub const RUN_LIMIT: u64 = 4_194_304;
@@ -127,6 +131,7 @@ fn answer_parts(
         Command::Eval => eval(alloc, part, rest),
         Command::Plan { slowdown } => plan(alloc, part, slowdown),
         Command::Cost { slowdown } => cost_of_lines(alloc, part, slowdown),
+        Command::Least { slowdown } => least(alloc, part, slowdown),
         Command::Build { slowdown } => build(alloc, part, slowdown),
         Command::Stall { slowdown } => stall(alloc, part, slowdown),
         Command::Run { slowdown, fill } => run(alloc, part, rest, slowdown, fill, Form::Lines),

@@ -165,7 +165,7 @@ fn run_words(
         → IsRunOf form fill (program_tree costed.program) costed.slowdown (st_func_trees costed.schedule) table reply.status (string_bytes reply.text)) }
 {
     let blocks = words.len() / columns;
-    let clocks = clock_count(costed.slowdown, costed.timing.latency(), blocks);
+    let clocks = clock_count(costed.slowdown, costed.costs.latency(), blocks);
     let size = clocks * (1 + word_count(alloc, &costed, form)?);
     if size > RUN_LIMIT {
         return refused(alloc, Status::LongRun { size });

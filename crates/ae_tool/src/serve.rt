@@ -6,13 +6,10 @@ ghost use Rattle.ae_tool.specs.Commands.{word_bytes, AreInRange, IsCommand, IsDe
 
 use crate::command::{Command, command_named, demo_size};
 use crate::demo::demo;
-use crate::reply::answer;
+use crate::reply::{INPUT_LIMIT, answer};
 use crate::status::Status;
 use ae_io::{LoadFault, PutFault, Sink, Source, load, put_all};
 use std::alloc::Global;
-
-// The most bytes of an input.
-const INPUT_LIMIT: usize = 16_777_216;
 
 // Writes a text whole and answers the status, or what the sink met.
 fn put<K: Sink>(sink: &mut K, text: &[u8], status: Status) -> Status

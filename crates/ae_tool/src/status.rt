@@ -35,6 +35,8 @@ pub enum Status {
     Memory,
     /// The text is no value change dump of the form that is read; its first bad word, counted from 0.
     BadWave { at: u32 },
+    /// The line computes: the program is no movement program.
+    NotMoves { line: u32 },
 }
 
 /// What is wrong with a Verilog text: the byte, item or net that is at fault. The header is item 0.
@@ -72,6 +74,7 @@ impl Status {
             Status::TooLong => 11,
             Status::Memory => 12,
             Status::BadWave { at: _ } => 13,
+            Status::NotMoves { line: _ } => 14,
         }
     }
 }

@@ -9,6 +9,7 @@ const USAGE: &str = "usage: aeth JOB < INPUT > OUTPUT
   eval          the results of the program on each row behind its line %%
   plan S        what its circuit costs, and when and where each item stands
   cost S        what each line of the program costs, as comma-separated values
+  least S       of a program that only moves words: the least latency of all modules, and the words that show it
   build S       its circuit as a Verilog module
   stall S       the same with one more input, en: where it is 0, the circuit stands still
   run S FILL    the module of build S, and every word of every clock of its run on the rows
@@ -51,6 +52,9 @@ pub fn advice(status: Status) -> Option<&'static str> {
         ),
         Status::BadWave { at: _ } => Some(
             "aeth: the word, counted from 0, is the first at which the text is no dump of two-valued words: docs/WAVES.md",
+        ),
+        Status::NotMoves { line: _ } => Some(
+            "aeth: this line computes, and `least` takes programs that only move words: docs/FUSED.md lists the operators",
         ),
         Status::TooLong => Some("aeth: the input has more than 16777216 bytes; docs/LIMITS.md"),
         _ => Some("aeth: docs/REFUSED.md has the usual causes of each answer, and what to try"),

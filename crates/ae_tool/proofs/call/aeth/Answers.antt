@@ -1,4 +1,4 @@
-use Rattle.ae_tool.proofs.Calls.{outcome_of, part_written, ended, usage_words, other_words_refused, read_fault, write_fault, rest_left, completes, demo_completes, takes_nothing}
+use Rattle.ae_tool.proofs.Calls.{outcome_of, part_written, ended, usage_words, other_words_refused, read_fault, write_fault, memory_told, rest_left, completes, demo_completes, takes_nothing}
 use Rattle.ae_tool.proofs.call.aeth.Goals as goal
 
 pub returns-clause-outcome : goal.returns-clause-outcome
@@ -8,7 +8,13 @@ pub returns-clause-part : goal.returns-clause-part
 returns-clause-part g c = part_written _ _ _ _ _ _ c.serve.ensures
 
 pub returns-clause-ended : goal.returns-clause-ended
-returns-clause-ended g c = ended _ _ _ _ _ _ c.serve.ensures
+returns-clause-ended g c w m = (ended _ _ _ _ _ _ c.serve.ensures w m).once
+
+pub returns-clause-no_fault : goal.returns-clause-no_fault
+returns-clause-no_fault g c w m = (ended _ _ _ _ _ _ c.serve.ensures w m).no_fault
+
+pub returns-clause-no_want : goal.returns-clause-no_want
+returns-clause-no_want g c w m = (ended _ _ _ _ _ _ c.serve.ensures w m).no_want
 
 pub returns-clause-usage : goal.returns-clause-usage
 returns-clause-usage g c = usage_words _ _ _ _ _ _ c.serve.ensures
@@ -27,6 +33,9 @@ returns-clause-read_line g c h = (read_fault _ _ _ _ _ _ c.serve.ensures h).1
 
 pub returns-clause-write : goal.returns-clause-write
 returns-clause-write g c = write_fault _ _ _ _ _ _ c.serve.ensures
+
+pub returns-clause-memory : goal.returns-clause-memory
+returns-clause-memory g c = memory_told _ _ _ _ _ _ c.serve.ensures
 
 pub returns-clause-left : goal.returns-clause-left
 returns-clause-left g c = rest_left _ _ _ _ _ _ c.serve.ensures

@@ -5,8 +5,8 @@ use Rattle.ae_seq.specs.ProgramTree.{program_tree}
 use Rattle.ae_rewrite.specs.StProgramTree.{st_func_trees}
 use Rattle.ae_delay.specs.declared.own.OwnCosts.{OwnCosts}
 use Rattle.ae_compile.specs.declared.costing.Costed.{Costed}
-use Rattle.ae_compile.specs.Costing.{main_costs}
-use Rattle.ae_compile.proofs.Modules.{costs_are}
+use Rattle.ae_compile.specs.Costing.{load_limit, main_costs}
+use Rattle.ae_compile.proofs.Made.{known_costs}
 use Rattle.ae_tool.specs.DemoTexts.{IsSummedRun, demo_blocks, demo_slowdown, demo_table, demo_words, summary}
 use Rattle.ae_play.specs.Lines.{clock_count}
 use Rattle.ae_tool.specs.EvalRows.{AreBlocks}
@@ -25,8 +25,7 @@ summed-requires-clause-rows c =
 
 pub summed-requires-clause-short : goal.summed-requires-clause-short
 summed-requires-clause-short c =
-    let key = c.requires.costed.schedule.last in
-    let latency = c.latency-latency.ensures ∙ ap (λ (k : OwnCosts). k.latency) (costs_are (st_func_trees c.args.costed.schedule) key.instance c.args.costed.timing c.requires.known.times_are key.here) in
+    let latency = c.latency-latency.ensures ∙ ap (λ (k : OwnCosts). k.latency) (known_costs load_limit (program_tree c.args.costed.program) c.args.costed.slowdown (st_func_trees c.args.costed.schedule) c.args.costed.costs c.requires.known) in
     let less : c.clock_count-clocks.result < 2 ^ 32 = omega (arith, c.if-clocks-gt4294967295.false) in
     subst (λ (m : ℕ). m < 2 ^ 32) (sym (clocks_told c.in_ok-compiled.compiled c.args.costed c.latency-latency.result (2 * c.args.size) c.clock_count-clocks.result c.in_ok-compiled.ensures.of c.in_ok-compiled.ensures.compiled latency c.clock_count-clocks.ensures.is)) less
 
@@ -35,8 +34,7 @@ returns c =
     let p = program_tree c.args.costed.program in
     let all = st_func_trees c.args.costed.schedule in
     let n = c.args.size in
-    let key = c.requires.costed.schedule.last in
-    let latency : c.latency-latency.result ≡ (main_costs all).latency = c.latency-latency.ensures ∙ ap (λ (k : OwnCosts). k.latency) (costs_are all key.instance c.args.costed.timing c.requires.known.times_are key.here) in
+    let latency : c.latency-latency.result ≡ (main_costs p all).latency = c.latency-latency.ensures ∙ ap (λ (k : OwnCosts). k.latency) (known_costs load_limit p c.args.costed.slowdown all c.args.costed.costs c.requires.known) in
     let wide : input_widths p ≡ replicate (16 * n) 16 = sym (c.deref.ensures.value ∙ c.in_ok-widths.ensures ∙ ap (λ (q : Program). input_widths (program_tree q)) c.program.ensures.program) ∙ c.are_wide.ensures c.if-not-are_wide.false in
     let words : demo_words n ≡ c.deref-2.result.now = sym (c.deref-2.ensures.value ∙ c.in_ok-words.ensures) in
     let here : AreBlocks p (demo_blocks n) (demo_table n) c.deref-2.result.now = subst (λ (ws : List ℕ). AreBlocks p (demo_blocks n) (demo_table n) ws) words (demo_rows p n c.requires.limit wide) in

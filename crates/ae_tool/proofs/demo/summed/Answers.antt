@@ -34,7 +34,7 @@ sum_clocks-requires-clause-ins c =
     let notes = map note_tree d.notes.items in
     let k = c.requires.compiled.costed in
     let e = c.requires.compiled.compiled in
-    subst (λ (xs : List StType). All (λ (t : StTree). IsInSize t × (time t ≡ d.costed.slowdown)) (map st_tree xs)) (sym c.deref.ensures.value) (told_ins p d.costed.slowdown all d.costed.timing d.netlist report notes k e)
+    subst (λ (xs : List StType). All (λ (t : StTree). IsInSize t × (time t ≡ d.costed.slowdown)) (map st_tree xs)) (sym c.deref.ensures.value) (told_ins p d.costed.slowdown all d.costed.costs d.netlist report notes k e)
 
 pub sum_clocks-requires-clause-outs : goal.sum_clocks-requires-clause-outs
 sum_clocks-requires-clause-outs c =
@@ -45,7 +45,7 @@ sum_clocks-requires-clause-outs c =
     let notes = map note_tree d.notes.items in
     let k = c.requires.compiled.costed in
     let e = c.requires.compiled.compiled in
-    subst (λ (xs : List StType). All (λ (t : StTree). IsInSize t × (time t ≡ d.costed.slowdown)) (map st_tree xs)) (sym c.deref-2.ensures.value) (told_outs p d.costed.slowdown all d.costed.timing d.netlist report notes k e)
+    subst (λ (xs : List StType). All (λ (t : StTree). IsInSize t × (time t ≡ d.costed.slowdown)) (map st_tree xs)) (sym c.deref-2.ensures.value) (told_outs p d.costed.slowdown all d.costed.costs d.netlist report notes k e)
 
 pub sum_clocks-requires-clause-whole : goal.sum_clocks-requires-clause-whole
 sum_clocks-requires-clause-whole c =
@@ -57,7 +57,7 @@ sum_clocks-requires-clause-whole c =
     let k = c.requires.compiled.costed in
     let e = c.requires.compiled.compiled in
     subst (λ (xs : List StType). length c.args.words.now ≡ c.args.blocks * size_of (map st_tree xs)) (sym c.deref.ensures.value)
-    (told_words p d.costed.slowdown all d.costed.timing d.netlist report notes c.args.blocks c.requires.rows.0 c.args.words.now k e c.requires.rows.1)
+    (told_words p d.costed.slowdown all d.costed.costs d.netlist report notes c.args.blocks c.requires.rows.0 c.args.words.now k e c.requires.rows.1)
 
 pub sum_clocks-requires-clause-rows : goal.sum_clocks-requires-clause-rows
 sum_clocks-requires-clause-rows c = λ clocks.
@@ -68,7 +68,7 @@ sum_clocks-requires-clause-rows c = λ clocks.
     let notes = map note_tree d.notes.items in
     let k = c.requires.compiled.costed in
     let e = c.requires.compiled.compiled in
-    let laid = told_laid p d.costed.slowdown all d.costed.timing d.netlist report notes k e in
+    let laid = told_laid p d.costed.slowdown all d.costed.costs d.netlist report notes k e in
     let fit = blocks_fit p report.ins c.args.blocks c.requires.rows.0 c.args.words.now k.typed laid c.requires.rows.1 in
     subst (λ (xs : List StType). All (AreInputs c.in_ok-played.played.cells) (fed_rows d.costed.slowdown c.args.fill (map st_tree xs) (blocks_of (map st_tree xs) c.args.blocks c.args.words.now) clocks)) (sym c.deref.ensures.value)
     (c.in_ok-played.ensures.feeds c.args.blocks c.args.words.now fit clocks)
@@ -82,7 +82,7 @@ returns c = λ table a.
     let notes = map note_tree d.notes.items in
     let k = c.requires.compiled.costed in
     let e = c.requires.compiled.compiled in
-    let laid = told_laid p d.costed.slowdown all d.costed.timing d.netlist report notes k e in
+    let laid = told_laid p d.costed.slowdown all d.costed.costs d.netlist report notes k e in
     let fit = blocks_fit p report.ins c.args.blocks table c.args.words.now k.typed laid a in
     let values = blocks_values p c.args.blocks table c.args.words.now k.typed a in
     let words = blocks_words p report.ins c.args.blocks table c.args.words.now k.typed laid a in

@@ -18,7 +18,7 @@ returns-in_ok-text-in-Ok c =
       program = p;
       instances = all;
       costed = c.in-Ok.ensures.costed;
-      written = subst (λ (s : ℕ). HasMain p all (λ f r ts. text ≡ plan_text s f r ts)) c.in-Ok.ensures.slowdown c.in_ok-text-in-Ok.ensures;
+      written = subst (λ (s : ℕ). HasMain p all (λ f r ts. text ≡ plan_text s p f r ts)) c.in-Ok.ensures.slowdown c.in_ok-text-in-Ok.ensures;
     }
 
 pub returns-in-Err : goal.returns-in-Err

@@ -3,15 +3,16 @@ use Rattle.std.specs.Prelude.{string_bytes}
 use Rattle.std.proofs.lemmas.Option.{none-some, same_Some}
 use Rattle.ae_seq.specs.ProgramTree.{program_tree, func_tree}
 use Rattle.ae_rewrite.specs.StProgramTree.{st_func_tree, st_func_trees}
-use Rattle.ae_delay.specs.Timings.{item_arrivals}
+use Rattle.ae_compile.specs.Costing.{load_limit, main_costing, whole_costs}
+use Rattle.ae_compile.proofs.Made.{known_costs}
 use Rattle.ae_compile.proofs.Mains.{main_items}
-use Rattle.ae_tool.proofs.Plans.{arrivals_many, arrivals_there, main_known, main_text}
+use Rattle.ae_tool.proofs.Plans.{arrivals_there, main_arrivals_many, main_text}
 use Rattle.ae_tool.proofs.plan.planned.Goals as goal
 
 pub unreachable-requires : goal.unreachable-requires
 unreachable-requires c =
-    let s = st_func_tree c.main_instance-instance.result.now in
-    let there = arrivals_there c.args.costed.now.schedule c.args.costed.now.timing s c.count-last.result c.count-last.ensures.count c.requires.times_are c.main_instance-instance.ensures in
+    let k = c.args.costed.now in
+    let there = arrivals_there load_limit (program_tree k.program) k.slowdown k.schedule k.costs c.count-last.result c.count-last.ensures.count c.requires in
     let none = rw c.in-None.is at c.arrivals.ensures in
     none-some _ (none ∙ there)
 
@@ -23,19 +24,25 @@ plan_text-requires-clause-instance c =
 
 pub plan_text-requires-clause-arrivals : goal.plan_text-requires-clause-arrivals
 plan_text-requires-clause-arrivals c =
+    let k = c.args.costed.now in
+    let p = program_tree k.program in
+    let all = st_func_trees k.schedule in
+    let f = func_tree c.main_func-func.result.now in
     let s = st_func_tree c.main_instance-instance.result.now in
-    let known = main_known (st_func_trees c.args.costed.now.schedule) in
-    let there = arrivals_there c.args.costed.now.schedule c.args.costed.now.timing s c.count-last.result c.count-last.ensures.count c.requires.times_are c.main_instance-instance.ensures in
+    let there = arrivals_there load_limit p k.slowdown k.schedule k.costs c.count-last.result c.count-last.ensures.count c.requires in
     let some = rw c.in-Some.is at c.arrivals.ensures in
-    let same : c.in-Some.arrivals.now ≡ item_arrivals known s = same_Some _ _ (some ∙ there) in
-    sym (ap length same ∙ arrivals_many known s)
+    let same : c.in-Some.arrivals.now ≡ (main_costing p all).arrivals = same_Some _ _ (some ∙ there) in
+    let items = main_items p k.slowdown all f s c.main_func-func.ensures.formed c.requires.schedule c.requires.sound c.main_func-func.ensures.last c.main_instance-instance.ensures in
+    sym (ap length same ∙ main_arrivals_many p all f s c.main_func-func.ensures.last c.main_instance-instance.ensures items)
 
 pub returns : goal.returns
 returns c =
-    let all = st_func_trees c.args.costed.now.schedule in
+    let k = c.args.costed.now in
+    let p = program_tree k.program in
+    let all = st_func_trees k.schedule in
     let s = st_func_tree c.main_instance-instance.result.now in
-    let there = arrivals_there c.args.costed.now.schedule c.args.costed.now.timing s c.count-last.result c.count-last.ensures.count c.requires.times_are c.main_instance-instance.ensures in
+    let there = arrivals_there load_limit p k.slowdown k.schedule k.costs c.count-last.result c.count-last.ensures.count c.requires in
     let some = rw c.in-Some.is at c.arrivals.ensures in
-    let same : c.in-Some.arrivals.now ≡ item_arrivals (main_known all) s = same_Some _ _ (some ∙ there) in
-    main_text (program_tree c.args.costed.now.program) c.args.costed.now.slowdown all (func_tree c.main_func-func.result.now) s c.args.costed.now.timing c.in-Some.arrivals.now (string_bytes c.in_ok-text.text)
-    c.main_func-func.ensures.last c.main_instance-instance.ensures c.requires.times_are same c.in_ok-text.ensures
+    let same : c.in-Some.arrivals.now ≡ (main_costing p all).arrivals = same_Some _ _ (some ∙ there) in
+    main_text p k.slowdown all (func_tree c.main_func-func.result.now) s (whole_costs k.costs) c.in-Some.arrivals.now (string_bytes c.in_ok-text.text)
+    c.main_func-func.ensures.last c.main_instance-instance.ensures (known_costs load_limit p k.slowdown all k.costs c.requires) same c.in_ok-text.ensures

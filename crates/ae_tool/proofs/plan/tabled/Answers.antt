@@ -7,13 +7,16 @@ use Rattle.ae_seq.specs.ProgramTree.{node_tree, program_tree, func_tree}
 use Rattle.ae_seq.specs.declared.program.Node.{Node}
 use Rattle.ae_rewrite.specs.StProgramTree.{st_func_trees}
 use Rattle.ae_rewrite.proofs.Forms.{few-nodes}
-use Rattle.ae_delay.specs.Weighing.{cost_of}
+use Rattle.ae_delay.specs.declared.own.OwnCosts.{OwnCosts}
 use Rattle.ae_rewrite.specs.Interface.{main_of}
+use Rattle.ae_fuse.specs.Fused.{costs_in}
+use Rattle.ae_compile.specs.Costing.{AreCosts, load_limit, whole_costs}
 use Rattle.ae_compile.specs.LineNotes.{AllNamed}
-use Rattle.ae_tool.specs.CostTables.{cost_table}
+use Rattle.ae_tool.specs.CostTables.{cost_table, fused_table, table_text}
 use Rattle.ae_compile.specs.Mains.{HasMain}
+use Rattle.ae_compile.proofs.Made.{known_costs}
 use Rattle.ae_compile.proofs.Mains.{main_named}
-use Rattle.ae_tool.proofs.Plans.{main_costs, main_table}
+use Rattle.ae_tool.proofs.Plans.{main_fused, main_table, nodes_known}
 use Rattle.ae_tool.proofs.plan.tabled.Goals as goal
 
 pub cost_table-requires-clause-named : goal.cost_table-requires-clause-named
@@ -24,10 +27,12 @@ cost_table-requires-clause-named c =
 
 pub cost_table-requires-clause-long : goal.cost_table-requires-clause-long
 cost_table-requires-clause-long c =
+    let p = program_tree c.args.costed.now.program in
+    let all = st_func_trees c.args.costed.now.schedule in
     let f = func_tree c.main_func-func.result.now in
     let key = c.requires.schedule.last in
-    main_costs (program_tree c.args.costed.now.program) c.args.costed.now.slowdown (st_func_trees c.args.costed.now.schedule) f key.instance c.args.costed.now.timing
-    c.requires.schedule c.requires.times_are c.main_func-func.ensures.last key.here
+    let times = (subst (AreCosts p all) c.in-Plain.is c.requires.costs_are).1 in
+    nodes_known p c.args.costed.now.slowdown all f key.instance c.in-Plain.timing c.requires.schedule times c.main_func-func.ensures.last key.here
     ∙ length-map c.main_func-func.result.now.nodes.items node_tree ∙ ap length (sym c.deref.ensures.value)
 
 pub cost_table-requires-clause-few : goal.cost_table-requires-clause-few
@@ -37,14 +42,32 @@ cost_table-requires-clause-few c =
     let few : length f.nodes ≤ 4096 = few-nodes p (main_of p) f c.main_func-func.ensures.formed c.main_func-func.ensures.last in
     omega (arith, few, length-map c.main_func-func.result.now.nodes.items node_tree, ap length c.deref.ensures.value)
 
-pub returns : goal.returns
-returns c =
+pub fused_table-requires : goal.fused_table-requires
+fused_table-requires c =
+    let k = c.args.costed.now in
+    let costs = known_costs load_limit (program_tree k.program) k.slowdown (st_func_trees k.schedule) k.costs c.requires in
+    subst (λ (x : OwnCosts). x.load ≤ load_limit) (sym costs) c.requires.light
+
+pub returns-in-Plain : goal.returns-in-Plain
+returns-in-Plain c =
     let p = program_tree c.args.costed.now.program in
     let all = st_func_trees c.args.costed.now.schedule in
     let f = func_tree c.main_func-func.result.now in
-    let costs = c.args.costed.now.timing.nodes in
+    let costs = c.in-Plain.timing.nodes in
     let key = c.requires.schedule.last in
+    let are = subst (AreCosts p all) c.in-Plain.is c.requires.costs_are in
     let nodes = ap (λ (ns : List Node). cost_table (map node_tree ns) costs) c.deref.ensures.value in
     IfOk-weaker c.cost_table.result (λ (t : String Global). string_bytes t ≡ cost_table (map node_tree c.deref.result.now) costs)
-    (λ (t : String Global). HasMain p all (λ g s ts. string_bytes t ≡ cost_table g.nodes (map cost_of ts)))
-    (λ t w. main_table p all f key.instance c.args.costed.now.timing (string_bytes t) c.main_func-func.ensures.last key.here c.requires.times_are (w ∙ nodes)) c.cost_table.ensures
+    (λ (t : String Global). HasMain p all (λ g s ts. string_bytes t ≡ table_text p g s ts))
+    (λ t w. main_table p all f key.instance c.in-Plain.timing (string_bytes t) are.0 c.main_func-func.ensures.last key.here are.1 (w ∙ nodes)) c.cost_table.ensures
+
+pub returns-in-Fused : goal.returns-in-Fused
+returns-in-Fused c =
+    let p = program_tree c.args.costed.now.program in
+    let all = st_func_trees c.args.costed.now.schedule in
+    let f = func_tree c.main_func-func.result.now in
+    let is = subst (AreCosts p all) c.in-Fused.is c.requires.costs_are in
+    let whole = ap whole_costs c.in-Fused.is in
+    IfOk-weaker c.fused_table.result (λ (t : String Global). string_bytes t ≡ fused_table f.end_line (whole_costs c.args.costed.now.costs))
+    (λ (t : String Global). HasMain p all (λ g s ts. string_bytes t ≡ table_text p g s ts))
+    (λ t w. main_fused p all f c.in-Fused.field-0 (string_bytes t) c.main_func-func.ensures.last is (w ∙ ap (fused_table f.end_line) whole)) c.fused_table.ensures

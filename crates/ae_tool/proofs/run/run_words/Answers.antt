@@ -7,12 +7,12 @@ use Rattle.ae_delay.specs.declared.own.OwnCosts.{OwnCosts}
 use Rattle.ae_tool.specs.declared.reply.Reply.{Reply}
 use Rattle.ae_tool.specs.declared.status.Status.TheVariants.{LongRun}
 use Rattle.ae_compile.specs.declared.costing.Costed.{Costed}
-use Rattle.ae_compile.specs.Costing.{main_costs}
+use Rattle.ae_compile.specs.Costing.{load_limit, main_costs}
 use Rattle.ae_tool.specs.Refusals.{refusal_line}
 use Rattle.ae_tool.specs.EvalRows.{AreRows, AreBlocks}
 use Rattle.ae_tool.specs.RunTexts.{IsRunOf, IsShown, run_limit, run_size, word_count}
 use Rattle.ae_tool.proofs.EvalSteps.{column_some, rows_count}
-use Rattle.ae_compile.proofs.Modules.{costs_are}
+use Rattle.ae_compile.proofs.Made.{known_costs}
 use Rattle.ae_tool.proofs.Clocks.{clocks_told}
 use Rattle.ae_tool.proofs.Runs.{blocks_known, run_size_is, run_too_long}
 use Rattle.ae_tool.proofs.run.run_words.Goals as goal
@@ -32,9 +32,8 @@ returns-then-size-gt-RUN_LIMIT c =
     let p = program_tree c.args.costed.program in
     let all = st_func_trees c.args.costed.schedule in
     let ws = c.args.words.now in
-    let key = c.requires.costed.schedule.last in
-    let costs = main_costs all in
-    let latency : c.latency.result ≡ costs.latency = c.latency.ensures ∙ ap (λ (k : OwnCosts). k.latency) (costs_are all key.instance c.args.costed.timing c.requires.costed.times_are key.here) in
+    let costs = main_costs p all in
+    let latency : c.latency.result ≡ costs.latency = c.latency.ensures ∙ ap (λ (k : OwnCosts). k.latency) (known_costs load_limit p c.args.costed.slowdown all c.args.costed.costs c.requires.costed) in
     let size : ℕ = c.clock_count-clocks.result * (1 + c.in_ok-size.field-0) in
     let typed = c.requires.costed.typed in
     IfOk-weaker c.refused.result (λ (r : Reply). (r.status ≡ LongRun size) × (string_bytes r.text ≡ refusal_line (LongRun size)))
@@ -46,9 +45,9 @@ returns-then-size-gt-RUN_LIMIT c =
 
 pub shown-requires-clause-clocks : goal.shown-requires-clause-clocks
 shown-requires-clause-clocks c =
+    let p = program_tree c.args.costed.program in
     let all = st_func_trees c.args.costed.schedule in
-    let key = c.requires.costed.schedule.last in
-    let latency : c.latency.result ≡ (main_costs all).latency = c.latency.ensures ∙ ap (λ (k : OwnCosts). k.latency) (costs_are all key.instance c.args.costed.timing c.requires.costed.times_are key.here) in
+    let latency : c.latency.result ≡ (main_costs p all).latency = c.latency.ensures ∙ ap (λ (k : OwnCosts). k.latency) (known_costs load_limit p c.args.costed.slowdown all c.args.costed.costs c.requires.costed) in
     sym (clocks_told c.in_ok-compiled.compiled c.args.costed c.latency.result (length c.args.words.now / c.args.columns) c.clock_count-clocks.result c.in_ok-compiled.ensures.of c.in_ok-compiled.ensures.compiled latency c.clock_count-clocks.ensures.is)
 
 pub shown-requires-clause-small : goal.shown-requires-clause-small
@@ -68,9 +67,8 @@ returns c = λ table a.
     let p = program_tree c.args.costed.program in
     let all = st_func_trees c.args.costed.schedule in
     let ws = c.args.words.now in
-    let key = c.requires.costed.schedule.last in
-    let costs = main_costs all in
-    let latency : c.latency.result ≡ costs.latency = c.latency.ensures ∙ ap (λ (k : OwnCosts). k.latency) (costs_are all key.instance c.args.costed.timing c.requires.costed.times_are key.here) in
+    let costs = main_costs p all in
+    let latency : c.latency.result ≡ costs.latency = c.latency.ensures ∙ ap (λ (k : OwnCosts). k.latency) (known_costs load_limit p c.args.costed.slowdown all c.args.costed.costs c.requires.costed) in
     let typed = c.requires.costed.typed in
     let size : c.clock_count-clocks.result * (1 + c.in_ok-size.field-0) ≡ run_size c.args.form p c.args.costed.slowdown costs.latency table =
     run_size_is c.args.form p c.args.costed.slowdown costs c.args.columns table ws c.latency.result c.clock_count-clocks.result c.in_ok-size.field-0 typed a latency c.clock_count-clocks.ensures.is c.in_ok-size.ensures.is in

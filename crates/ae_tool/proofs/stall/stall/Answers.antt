@@ -12,8 +12,8 @@ use Rattle.ae_tool.proofs.stall.stall.Goals as goal
 pub compile_stalled-requires-clause-known : goal.compile_stalled-requires-clause-known
 compile_stalled-requires-clause-known c =
     let k = c.in-Ok.ensures.known in
-    let load : (main_costs (st_func_trees c.in-Ok.costed.schedule)).load ≤ 50000 = k.light in
-    record { some = k.some; most = k.most; typed = k.typed; schedule = k.schedule; sound = k.sound; times_are = k.times_are; light = omega (arith, load) }
+    let load : (main_costs (program_tree c.in-Ok.costed.program) (st_func_trees c.in-Ok.costed.schedule)).load ≤ 50000 = k.light in
+    record { some = k.some; most = k.most; typed = k.typed; schedule = k.schedule; sound = k.sound; costs_are = k.costs_are; light = omega (arith, load) }
 
 pub compile_stalled-requires-clause-light : goal.compile_stalled-requires-clause-light
 compile_stalled-requires-clause-light c = c.in-Ok.ensures.known.light

@@ -2,8 +2,8 @@ use Rattle.std.proofs.Common.{rules, ◌≡◌, ◌<◌, ◌≤◌, ℕ, List}
 use Rattle.std.specs.Prelude.{string_bytes}
 use Rattle.std.proofs.lemmas.Result.{IfOk-weaker}
 use Rattle.ae_vcd.specs.Waves.{WaveTree, size_limit, wave_tree}
-use Rattle.ae_vcd.specs.TextWords.{words}
-use Rattle.ae_vcd.specs.Reads.{size_of}
+use Rattle.ae_vcd.specs.TextWords.{text_words}
+use Rattle.ae_vcd.specs.Reads.{size_of_wave}
 use Rattle.ae_vcd.specs.Readings.{IsVcd}
 use Rattle.ae_tool.specs.declared.reply.Reply.{Reply}
 use Rattle.ae_tool.specs.declared.status.Status.TheVariants.{BadWave, LongRun}
@@ -22,7 +22,7 @@ pub returns-in-Err-BadWord : goal.returns-in-Err-BadWord
 returns-in-Err-BadWord c =
     let at : ℕ = c.in-Err-BadWord.at in
     let bad = c.in-Err-BadWord.ensures.bad at (search rules) in
-    let judged = c.words_are_judged.ensures (words c.args.part.now) in
+    let judged = c.words_are_judged.ensures (text_words c.args.part.now) in
     let none : IsNoDump c.args.part.now at = record { bad = bad; first = λ k h. judged.one k at h bad; none = λ w v. judged.not_both at v.dump bad } in
     IfOk-weaker c.refused.result (λ (r : Reply). (r.status ≡ BadWave at) × (string_bytes r.text ≡ refusal_line (BadWave at))) (λ (r : Reply). IsUnwaved c.args.part.now r.status (string_bytes r.text))
     (λ r w. unwaved_by c.args.part.now r.status (BadWave at) (string_bytes r.text) w.0 (none, w.1)) c.refused.ensures

@@ -19,13 +19,13 @@ pub clock_words-requires-clause-ins : goal.clock_words-requires-clause-ins
 clock_words-requires-clause-ins c =
     let d = c.args.compiled.now in
     subst (λ (xs : List StType). All (λ (t : StTree). IsInSize t × (time t ≡ d.costed.slowdown)) (map st_tree xs)) (sym c.deref.ensures.value)
-    (told_ins (program_tree d.costed.program) d.costed.slowdown (st_func_trees d.costed.schedule) d.costed.timing d.netlist (report_tree d.report) (map note_tree d.notes.items) c.requires.compiled.costed c.requires.compiled.compiled)
+    (told_ins (program_tree d.costed.program) d.costed.slowdown (st_func_trees d.costed.schedule) d.costed.costs d.netlist (report_tree d.report) (map note_tree d.notes.items) c.requires.compiled.costed c.requires.compiled.compiled)
 
 pub clock_words-requires-clause-whole : goal.clock_words-requires-clause-whole
 clock_words-requires-clause-whole c =
     let d = c.args.compiled.now in
     subst (λ (xs : List StType). length c.args.words.now ≡ c.args.blocks * size_of (map st_tree xs)) (sym c.deref.ensures.value)
-    (told_words (program_tree d.costed.program) d.costed.slowdown (st_func_trees d.costed.schedule) d.costed.timing d.netlist (report_tree d.report) (map note_tree d.notes.items) c.args.blocks c.requires.rows.0 c.args.words.now
+    (told_words (program_tree d.costed.program) d.costed.slowdown (st_func_trees d.costed.schedule) d.costed.costs d.netlist (report_tree d.report) (map note_tree d.notes.items) c.args.blocks c.requires.rows.0 c.args.words.now
     c.requires.compiled.costed c.requires.compiled.compiled c.requires.rows.1)
 
 pub clock_words-requires-clause-rows : goal.clock_words-requires-clause-rows
@@ -34,7 +34,7 @@ clock_words-requires-clause-rows c = λ clocks.
     let p = program_tree d.costed.program in
     let report = report_tree d.report in
     let k = c.requires.compiled.costed in
-    let laid = told_laid p d.costed.slowdown (st_func_trees d.costed.schedule) d.costed.timing d.netlist report (map note_tree d.notes.items) k c.requires.compiled.compiled in
+    let laid = told_laid p d.costed.slowdown (st_func_trees d.costed.schedule) d.costed.costs d.netlist report (map note_tree d.notes.items) k c.requires.compiled.compiled in
     let fit = blocks_fit p report.ins c.args.blocks c.requires.rows.0 c.args.words.now k.typed laid c.requires.rows.1 in
     subst (λ (xs : List StType). All (AreInputs c.in_ok-played.played.cells) (fed_rows d.costed.slowdown c.args.fill (map st_tree xs) (blocks_of (map st_tree xs) c.args.blocks c.args.words.now) clocks)) (sym c.deref.ensures.value)
     (c.in_ok-played.ensures.feeds c.args.blocks c.args.words.now fit clocks)
@@ -45,7 +45,7 @@ returns c = λ table a.
     let p = program_tree d.costed.program in
     let report = report_tree d.report in
     let k = c.requires.compiled.costed in
-    let laid = told_laid p d.costed.slowdown (st_func_trees d.costed.schedule) d.costed.timing d.netlist report (map note_tree d.notes.items) k c.requires.compiled.compiled in
+    let laid = told_laid p d.costed.slowdown (st_func_trees d.costed.schedule) d.costed.costs d.netlist report (map note_tree d.notes.items) k c.requires.compiled.compiled in
     let fit = blocks_fit p report.ins c.args.blocks table c.args.words.now k.typed laid a in
     let values = blocks_values p c.args.blocks table c.args.words.now k.typed a in
     let words = blocks_words p report.ins c.args.blocks table c.args.words.now k.typed laid a in

@@ -1,0 +1,51 @@
+// The first line that does more than move words.
+
+ghost use Rattle.std.specs.Prelude.{◌≡◌, None, Some, map, slice_get, true};
+ghost use Rattle.ae_seq.specs.ProgramTree.{func_tree, node_tree, op_tree, program_tree};
+ghost use Rattle.ae_rewrite.specs.Interface.{main_of};
+ghost use Rattle.ae_trace.specs.Traces.{is_movement, is_movement_op};
+ghost use Rattle.ae_least.specs.Others.{first_other, other_line};
+
+use ae_seq::{Func, Node, Op, Typed};
+
+// Whether a line moves words and computes none.
+fn moves_words(op: &Op) -> bool
+    ensures { result ≡ is_movement_op (op_tree op.now) }
+{
+    match op {
+        Op::Pair | Op::Fst | Op::Snd | Op::Zip => true,
+        Op::Shift(_) | Op::Up(_) | Op::Select(_) => true,
+        Op::Partition(_, _) | Op::Unpartition => true,
+        _ => false,
+    }
+}
+
+fn first_other(nodes: &[Node]) -> Option<u32>
+    ensures { result ≡ first_other (map node_tree nodes.now) }
+{
+    for node in nodes {
+        let moves = moves_words(&node.op);
+        if !moves {
+            return Some(node.line);
+        }
+    }
+    None
+}
+
+// The program function.
+fn main_func(p: &Typed) -> &Func
+    ensures { slice_get (program_tree p.now).funcs (main_of (program_tree p.now)) ≡ Some (func_tree result.now) }
+{
+    let funcs = p.program().funcs.as_slice();
+    &funcs[funcs.len() - 1]
+}
+
+/// The first node line of the program function that does more than move words; None exactly where the program is a movement
+/// program.
+pub(crate) fn other_line(p: &Typed) -> Option<u32>
+    ensures line { result ≡ other_line (program_tree p.now) }
+    ensures moves { result ≡ None → is_movement (program_tree p.now) ≡ true }
+{
+    let func = main_func(p);
+    first_other(&func.nodes)
+}
