@@ -3,12 +3,16 @@
 slot, its names are those of the module's ports and the program's lines, its longest path is that of the module's wires, and its
 test benches tell no wrong word of the modules of all examples at three slowdowns, and some of each of twelve modules that were
 spoiled."""
+import os
 import pathlib
+import pty
 import re
 import subprocess
 import tempfile
+import time
+import xml.etree.ElementTree
 
-from common import KIT, aeth, examples, missing, ports, runs_of_examples, slots, told
+from common import KIT, aeth, examples, kit, missing, ports, runs_of_examples, side_by_side, slots, told
 
 # An example, a slowdown, a piece of its module, and what takes its place.
 SPOILED = [
@@ -25,12 +29,10 @@ SPOILED = [
     ("median_of_three", 1, " ? ", " ^ 1'b1 ? "),
     ("histogram", 1, "==", "!="),
 ]
-
-
-def kit(words, text):
-    """Status and output of the second program."""
-    done = subprocess.run([KIT, *map(str, words)], input=text.encode(), capture_output=True)
-    return done.returncode, done.stdout.decode()
+# An example and a slowdown: pictures with blocks that are folded.
+FOLDED = [("blur", 64), ("transpose", 256), ("integral_image", 64), ("gaussian", 64)]
+# An example and a slowdown: benches under Verilator.
+VERILATED = [("blur", 4), ("luma", 1), ("histogram", 8)]
 
 
 def planned(text, slowdown):
@@ -89,20 +91,93 @@ def picture_is_right(name, slowdown, text):
     return ""
 
 
+def svg_is_right(name, slowdown, text):
+    """The first fault of the SVG picture of a program: which places it shows, by the clocks and lanes beside them."""
+    status, shown = kit(["draw", slowdown], text)
+    _, plan = aeth(["plan", slowdown], text)
+    layouts = [line.split(" ", 3) for line in plan.splitlines()[4:] if line.split(" ", 3)[1] != "end"]
+    items, rects = [], 0
+    for part in xml.etree.ElementTree.fromstring(shown):
+        kind, words = part.get("class"), part.text or ""
+        x, y = float(part.get("x") or 0), float(part.get("y") or 0)
+        if kind == "title" and words.startswith("line "):
+            items.append((words, {}, {}, {}, set()))
+        elif kind == "clock":
+            items[-1][1][x] = int(words)
+        elif kind == "small" and words.startswith("lane "):
+            items[-1][2][y] = int(words.split()[1])
+        elif kind == "number" and words.isdigit():
+            items[-1][3][x, y] = words
+        elif kind == "number":
+            items[-1][4].add(x)
+        rects += kind in ("word", "hole")
+    if status or len(items) != len(layouts):
+        return f"{name} at {slowdown}: {len(items)} rows of {len(layouts)} items"
+    for (title, clocks, lanes, numbers, dots), (line, item, arrival, layout) in zip(items, layouts):
+        places, clock_count, _, _ = slots(layout)
+        elements = {place: str(number) for number, place in enumerate(places)}
+        begin, end = int(arrival), int(arrival) + clock_count
+        if title != f"line {line} {item}, {layout}, from clock {arrival} on" or not {begin, end - 1} <= set(clocks.values()):
+            return f"{name} at {slowdown}: the row of {item}"
+        found = {(clocks[x] - begin, lanes[y]): number for (x, y), number in numbers.items()}
+        wanted = {(clock - begin, lane) for clock in clocks.values() for lane in lanes.values()}
+        if found != {place: elements[place] for place in wanted if place in elements} or bool(dots) != (len(clocks) < clock_count):
+            return f"{name} at {slowdown}: the places of {item}"
+        rects -= len(clocks) * len(lanes)
+    return f"{name} at {slowdown}: {rects} places too many" if rects else ""
+
+
 def longest_path(module):
-    """The most operators between registers: on the way to each wire, by what its line says."""
+    """The most operators between registers, reads of memories among them: on the way to each wire, by what its line says."""
     depths = {}
     for name, value in re.findall(r"^  wire (?:\[\d+:0\] )?(\w+) = (.*);$", module, re.M):
-        logic = re.search(r"[*+&|^~?]| - |==| < ", value) is not None
+        logic = re.search(r"[*+&|^~?]| - |==| < |\w\[[a-z]", value) is not None
         depths[name] = logic + max((depths.get(used, 0) for used in re.findall(r"[a-z]\w*", value)), default=0)
     return max(depths.values(), default=0)
 
 
 def paths_are_right(name, slowdown, text, module):
-    """The fault of what is said of the longest path of a module."""
+    """The fault of what is said of the longest path of a module, and of a bound that it passes by one."""
+    longest = longest_path(module)
+    wanted = f"longest: {longest} operators"
     status, shown = kit(["paths", slowdown], text)
-    wanted = f"longest: {longest_path(module)} operators"
-    return "" if not status and shown.splitlines()[-1] == wanted else f"{name} at {slowdown}: the path is not {wanted}"
+    if status or shown.splitlines()[-1] != wanted:
+        return f"{name} at {slowdown}: the path is not {wanted}"
+    bounds = {most: kit(["paths", slowdown, most], text)[1] for most in (longest, longest - 1) if most >= 0}
+    marked = {most: [f", over {most}" in line for line in lines.splitlines()] for most, lines in bounds.items()}
+    if any(marked[longest]) or longest and not (marked[longest - 1][-1] and any(marked[longest - 1][:-1])):
+        return f"{name} at {slowdown}: not those over the bound are marked"
+    return ""
+
+
+def functions(text):
+    """Name, lines and called functions of each function of a program."""
+    found = {}
+    for number, line in enumerate(text.partition("%%")[0].splitlines(), 1):
+        said = line.split("#")[0].split()
+        if said[:1] == ["fn"]:
+            name, found[said[1]] = said[1], ([], set())
+        elif said[1:2] == ["="]:
+            found[name][0].append((number, said[0]))
+            if said[2] in ("call", "map", "map2"):
+                found[name][1].add(said[3])
+    return found
+
+
+def wanted_prefixes(text):
+    """The lines of a program that the names of nets may belong to: those of the program function, and of what each calls."""
+    found = functions(text)
+    lines = text.splitlines()
+    rows = []
+    for number, item in found[list(found)[-1]][0]:
+        rows.append(f"l{number}_ {number} {item}")
+        said = lines[number - 1].split("#")[0].split()
+        called = {said[3]} if said[2] in ("call", "map", "map2") else set()
+        for name in reversed(found):
+            if name in called:
+                called |= found[name][1]
+                rows += [f"l{number}_ {line} {word} in {name}" for line, word in found[name][0]]
+    return rows
 
 
 def names_are_right(name, slowdown, text, module):
@@ -110,18 +185,18 @@ def names_are_right(name, slowdown, text, module):
     wanted = [port for port, _ in ports(module, "input")[2:] + ports(module, "output")]
     lines = text.partition("%%")[0].splitlines()
     status, shown = kit(["notes", slowdown], text)
-    rows = [line.split() for line in shown.splitlines()]
-    told_ports = [row for row in rows if not row[0].startswith("l")]
+    told_ports = [line.split() for line in shown.splitlines() if not line.startswith("l")]
     _, file = kit(["notes", slowdown, "gtkw"], text)
     aliases = re.findall(r"^\+\{(.*)\} aeth\.(\w+)(?:\[\d+:0\])?$", file, re.M)
     if status or [row[0] for row in told_ports] != wanted:
         return f"{name} at {slowdown}: not these are the ports"
     if aliases != [(" ".join(row[2:]), row[0]) for row in told_ports]:
         return f"{name} at {slowdown}: the save file has other names"
-    for place, number, word, *_ in rows:
-        said = lines[int(number) - 1].split("#")[0].split()
-        if word not in [field.partition(":")[0] for field in said] or (place[0] == "l" and place != f"l{number}_"):
+    for place, number, word, *_ in told_ports:
+        if word not in [field.partition(":")[0] for field in lines[int(number) - 1].split("#")[0].split()]:
             return f"{name} at {slowdown}: {place} is not of line {number}"
+    if [line for line in shown.splitlines() if line.startswith("l")] != wanted_prefixes(text):
+        return f"{name} at {slowdown}: the lines of the nets"
     return ""
 
 
@@ -138,28 +213,99 @@ def wrong_words(folder, bench, module):
     return int(last[1]), int(last[2]), made.stderr
 
 
+def verilated(case):
+    """The fault of a bench under Verilator."""
+    name, slowdown, text = case
+    with tempfile.TemporaryDirectory() as made:
+        folder = pathlib.Path(made)
+        (folder / "bench.v").write_text(kit(["bench", slowdown, 5], text)[1])
+        (folder / "aeth.v").write_text(aeth(["build", slowdown], text)[1])
+        form = ["verilator", "--binary", "--timing", "-Wall", "--top-module", "bench", "bench.v", "aeth.v"]
+        built = subprocess.run(form, cwd=folder, capture_output=True, text=True)
+        if built.returncode or "warning" in (built.stdout + built.stderr).lower():
+            return f"{name} at {slowdown}: verilator: {(built.stderr + built.stdout)[:500]}"
+        shown = subprocess.run([folder / "obj_dir" / "Vbench"], capture_output=True, text=True).stdout
+        right = re.search(r"^[1-9]\d* words compared, 0 wrong$", shown, re.M)
+        return "" if right else f"{name} at {slowdown}: under Verilator {shown[-200:]!r}"
+
+
+def bench_is_right(run):
+    """The fault of a bench under Icarus, on the module of its program."""
+    name, slowdown, text, _, shown = run
+    status, bench = kit(["bench", slowdown, 5], text)
+    with tempfile.TemporaryDirectory() as made:
+        words, wrong, said = wrong_words(pathlib.Path(made), bench, shown.split("%% clocks")[0])
+    return "" if not status and words and not wrong and not said else f"{name} at {slowdown}: {words} words, {wrong} wrong {said}"
+
+
+def bench_finds(case):
+    """The fault of a bench that does not find what is wrong with a module."""
+    name, slowdown, old, new, text = case
+    _, bench = kit(["bench", slowdown, 5], text)
+    head, begin, cells = aeth(["build", slowdown], text)[1].partition("\n);\n")
+    assert old in cells, (name, slowdown, old)
+    with tempfile.TemporaryDirectory() as made:
+        words, wrong, _ = wrong_words(pathlib.Path(made), bench, head + begin + cells.replace(old, new, 1))
+    return "" if wrong else f"{name} at {slowdown}, {old} for {new}: none of {words} words is wrong"
+
+
+def run_is_right(run):
+    """The first fault of what is said of a program at a slowdown."""
+    name, slowdown, text, _, shown = run
+    picture = picture_is_right(name, slowdown, text) or svg_is_right(name, slowdown, text)
+    return picture or names_are_right(name, slowdown, text, shown) or paths_are_right(name, slowdown, text, shown)
+
+
+def dashes_are_taken(text):
+    """The fault of a word that has two dashes before it."""
+    for plain, dashed in ((["slowdowns", 1, 9, "csv"], ["slowdowns", 1, 9, "--csv"]), (["draw", 4, "text"], ["draw", 4, "--text"])):
+        if kit(plain, text) != kit(dashed, text) or kit(plain, text)[0]:
+            return f"{dashed} is not {plain}"
+    return ""
+
+
+def on_terminal(words, text):
+    """What the second program says on standard error where that is a terminal."""
+    leader, follower = pty.openpty()
+    subprocess.run([KIT, *map(str, words)], input=text.encode(), stdout=subprocess.DEVNULL, stderr=follower)
+    os.close(follower)
+    said = b""
+    try:
+        while part := os.read(leader, 4096):
+            said += part
+    except OSError:
+        pass
+    os.close(leader)
+    return said.decode()
+
+
+def progress_is_shown():
+    """The fault of what is shown of a call that takes long: on a terminal how far it is, taken away at the end; else nothing."""
+    text = "fn main a:[512]u8\n" + "".join(f"b{k} = shift 1 {f'b{k - 1}' if k else 'a'}\n" for k in range(40)) + "end b39\n"
+    most, taken = 1, 0.0
+    while taken < 1.6 and most < 4096:
+        most, begin = most * 2, time.monotonic()
+        done = subprocess.run([KIT, "slowdowns", "1", str(most)], input=text.encode(), capture_output=True)
+        taken = time.monotonic() - begin
+        if done.returncode or done.stderr:
+            return f"{most} slowdowns: {done.stderr}"
+    said = on_terminal(["slowdowns", 1, most], text)
+    if not re.fullmatch(rf"(\raethkit: slowdown \d+ of {most} )+\r +\r", said):
+        return f"on a terminal of a search that takes long: {said[:200]!r}"
+    return "" if on_terminal(["slowdowns", 1, 2], "fn main a:u8\nend a\n") == "" else "something is shown of a call that takes no time"
+
+
 def main():
     texts = {name: text for name, text, _ in examples()}
-    found = [table_is_right(name, text) for name, text in texts.items()]
     runs = list(runs_of_examples())
-    found += [picture_is_right(name, slowdown, text) for name, slowdown, text, _, _ in runs]
-    found += [names_are_right(name, slowdown, text, shown) for name, slowdown, text, _, shown in runs]
-    found += [paths_are_right(name, slowdown, text, shown) for name, slowdown, text, _, shown in runs]
+    found = [dashes_are_taken(texts["blur"]), progress_is_shown(), *side_by_side(lambda name: table_is_right(name, texts[name]), texts)]
+    found += side_by_side(run_is_right, runs)
+    found += [svg_is_right(name, slowdown, texts[name]) for name, slowdown in FOLDED]
     if not missing("iverilog"):
-        with tempfile.TemporaryDirectory() as made:
-            folder = pathlib.Path(made)
-            for name, slowdown, text, rows, shown in runs:
-                status, bench = kit(["bench", slowdown, 5], text)
-                words, wrong, said = wrong_words(folder, bench, shown.split("%% clocks")[0])
-                right = not status and words and not wrong and not said
-                found.append("" if right else f"{name} at {slowdown}: {words} words, {wrong} wrong {said}")
-            for name, slowdown, old, new in SPOILED:
-                _, bench = kit(["bench", slowdown, 5], texts[name])
-                head, begin, cells = aeth(["build", slowdown], texts[name])[1].partition("\n);\n")
-                assert old in cells, (name, slowdown, old)
-                module = head + begin + cells.replace(old, new, 1)
-                words, wrong, _ = wrong_words(folder, bench, module)
-                found.append("" if wrong else f"{name} at {slowdown}, {old} for {new}: none of {words} words is wrong")
+        found += side_by_side(bench_is_right, runs)
+        found += side_by_side(bench_finds, [(*case, texts[case[0]]) for case in SPOILED])
+    if not missing("verilator"):
+        found += side_by_side(verilated, [(name, slowdown, texts[name]) for name, slowdown in VERILATED])
     raise SystemExit(told("kit", found))
 
 

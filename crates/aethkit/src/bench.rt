@@ -5,6 +5,7 @@ ghost use Rattle.std.specs.Prelude.{◌<◌, ◌≤◌, length, All, IfOk};
 use crate::blocks::{program_part, rows_part};
 use crate::fault::KitFault;
 use crate::ports::{Bundle, Column, inputs, outputs, write_range};
+use crate::progress::Watch;
 use ae_compile::{Costed, LOAD_LIMIT, cost, main_func};
 use ae_eval::{eval, fits};
 use ae_parse::read_rows;
@@ -96,8 +97,13 @@ fn block_of(alloc: Global, costed: &Costed, row: &[u64]) -> Result<Option<Block>
     Ok(Some(Block { given, wanted }))
 }
 
-// The blocks of all rows.
-fn blocks(alloc: Global, costed: &Costed, rest: &[u8]) -> Result<Vec<Block>, KitFault>
+// The blocks of all rows; each is told.
+fn blocks<W: Watch>(
+    alloc: Global,
+    costed: &Costed,
+    rest: &[u8],
+    watch: &mut W,
+) -> Result<Vec<Block>, KitFault>
     requires { length rest.now ≤ 16777216 }
 {
     let widths = widths(alloc, costed)?;
@@ -106,12 +112,19 @@ fn blocks(alloc: Global, costed: &Costed, rest: &[u8]) -> Result<Vec<Block>, Kit
         return Ok(blocks);
     }
     let table = read_rows(alloc, rest, widths.as_slice())?;
-    for row in table.words.chunks(widths.len()) {
+    let count = short(table.words.len() / widths.len());
+    for (number, row) in table.words.chunks(widths.len()).enumerate() {
+        watch.step("row", short(number), count);
         if let Some(block) = block_of(alloc, costed, row)? {
             blocks.push(block)?;
         }
     }
     Ok(blocks)
+}
+
+// A count as a number of 32 bits, or the greatest.
+fn short(count: usize) -> u32 {
+    count.min(4_294_967_295) as u32
 }
 
 // A declaration of each port.
@@ -336,12 +349,13 @@ fn write_bench(out: &mut String, run: &Run<'_>, fill: u64, dumps: bool) -> Resul
 /// A test bench for the module of the program in the input, on the rows in it: one clock of reset, then the rows as blocks, one
 /// behind the other, and words by chance where nothing is asked. Each word that a result has by the program's meaning is compared
 /// in its clock.
-pub fn bench(
+pub fn bench<W: Watch>(
     alloc: Global,
     input: &[u8],
     slowdown: u32,
     fill: u64,
     dumps: bool,
+    watch: &mut W,
 ) -> Result<String, KitFault>
     requires few { length input.now ≤ 16777216 }
     requires some { 0 < slowdown }
@@ -351,9 +365,9 @@ pub fn bench(
     let run = Run {
         ins: inputs(alloc, &costed)?,
         outs: outputs(alloc, &costed)?,
-        blocks: blocks(alloc, &costed, rows_part(input))?,
+        blocks: blocks(alloc, &costed, rows_part(input), watch)?,
         slowdown,
-        latency: costed.timing.latency(),
+        latency: costed.costs.latency(),
     };
     if clock_count(&run).saturating_mul(port_count(&run)) > MOST_WORDS {
         return Err(KitFault::LongBench);

@@ -35,7 +35,7 @@ pub fn item_at(costed: &Costed, number: usize) -> Option<Item<'_>> {
     let func = main_func(&costed.program);
     let layout = layout_of(main_instance(&costed.schedule), number)?;
     let last = costed.schedule.count().saturating_sub(1);
-    let arrival = *costed.timing.arrivals(last)?.get(number)?;
+    let arrival = *costed.costs.arrivals(last)?.get(number)?;
     if number < func.params.len() {
         let param = func.params.get(number)?;
         return Some(Item {

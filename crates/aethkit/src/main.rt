@@ -1,6 +1,6 @@
-//! A second program beside the compiler: which slowdowns a program has, what its layouts look like, how long its chains
-//! of operators are, and a test bench for its module. It asks the passes of the compiler themselves, and takes no text of the
-//! compiler apart.
+//! A second program beside the compiler: which slowdowns a program has, what its layouts look like, how
+//! long its chains of operators are, a test bench for its module and a wrapper around that. It asks the passes of the compiler
+//! themselves, and takes no text of the compiler apart.
 //!
 //! The exit status is 0 where the whole text was written, 1 where the words ask for nothing, 2 where the input is refused, 9
 //! where reading and 10 where writing failed, and 12 where there was no memory.
@@ -10,23 +10,29 @@ mod bench;
 mod blocks;
 mod drawing;
 mod fault;
+mod frame;
 mod items;
+mod keywords;
 mod notes;
 mod paths;
 mod ports;
+mod progress;
+mod renamed;
 mod request;
 mod slowdowns;
 mod svg;
+mod top;
 mod usage;
 
 ghost use Rattle.std.specs.Prelude.{◌<◌, ◌≤◌};
 
 use crate::fault::KitFault;
+use crate::progress::{Progress, Watch};
 use crate::request::{Picture, Request, request_of};
 use ae_io::{LoadFault, StdSink, StdSource, load, put_all};
-use std::alloc::Global;
+use std::alloc::{AllocError, Global};
 use std::env::{self, Env};
-use std::io;
+use std::io::{self, IsTerminal};
 use std::process::ExitCode;
 
 // The most bytes of an input.
@@ -49,46 +55,121 @@ fn nearest(slowdown: u32) -> u32
     slowdown.max(1).min(4096)
 }
 
+// Whether a request takes the input.
+fn reads_input(request: &Request) -> bool {
+    match request {
+        Request::Draw { is_alone, .. } => !*is_alone,
+        _ => true,
+    }
+}
+
+// The last word.
+fn last(words: &[String]) -> &str {
+    match words.last() {
+        Some(word) => word.as_str(),
+        None => "",
+    }
+}
+
+// A program with one parameter of the type that is spelled so.
+fn alone(alloc: Global, spelled: &str) -> Result<String, AllocError> {
+    format!(in alloc; "aeth 2\nfn main type:{spelled}\nend type\n")
+}
+
+// A picture of the layouts of a program.
+fn drawn(
+    alloc: Global,
+    program: &[u8],
+    slowdown: u32,
+    picture: Picture,
+) -> Result<String, KitFault> {
+    if program.len() > INPUT_LIMIT {
+        return Err(KitFault::TooLong);
+    }
+    match picture {
+        Picture::Svg => svg::draw(alloc, program, nearest(slowdown)),
+        Picture::Text => drawing::draw(alloc, program, nearest(slowdown)),
+    }
+}
+
 // What is answered to a request on an input.
-fn answer(alloc: Global, request: &Request, input: &[u8]) -> Result<String, KitFault> {
+fn answer<W: Watch>(
+    alloc: Global,
+    request: &Request,
+    words: &[String],
+    input: &[u8],
+    watch: &mut W,
+) -> Result<String, KitFault> {
     if input.len() > INPUT_LIMIT {
         return Err(KitFault::TooLong);
     }
     match request {
-        Request::Slowdowns(range) => slowdowns::table(alloc, input, range),
-        Request::Draw { slowdown, picture } => match picture {
-            Picture::Svg => svg::draw(alloc, input, nearest(*slowdown)),
-            Picture::Text => drawing::draw(alloc, input, nearest(*slowdown)),
-        },
+        Request::Slowdowns(range) => slowdowns::table(alloc, input, range, watch),
+        Request::Draw {
+            slowdown,
+            picture,
+            is_alone,
+        } => {
+            if *is_alone {
+                let program = alone(alloc, last(words))?;
+                drawn(alloc, program.as_bytes(), *slowdown, *picture)
+            } else {
+                drawn(alloc, input, *slowdown, *picture)
+            }
+        }
         Request::Notes { slowdown, form } => {
             notes::notes(alloc, input, nearest(*slowdown), *form)
         }
-        Request::Paths { slowdown } => paths::paths(alloc, input, nearest(*slowdown)),
+        Request::Top { slowdown, is_named } => {
+            let name = if *is_named { last(words) } else { "aeth" };
+            top::top(alloc, input, nearest(*slowdown), name)
+        }
+        Request::Paths { slowdown, most } => {
+            paths::paths(alloc, input, nearest(*slowdown), *most)
+        }
         Request::Bench {
             slowdown,
             fill,
             dumps,
-        } => bench::bench(alloc, input, nearest(*slowdown), *fill, *dumps),
+        } => bench::bench(alloc, input, nearest(*slowdown), *fill, *dumps, watch),
+    }
+}
+
+// What is answered to a request on what was read.
+fn answer_read<W: Watch>(
+    alloc: Global,
+    request: &Request,
+    words: &[String],
+    read: Result<Vec<u8>, LoadFault>,
+    watch: &mut W,
+) -> Result<String, KitFault> {
+    match read {
+        Ok(bytes) => answer(alloc, request, words, &bytes, watch),
+        Err(LoadFault::Read) => Err(KitFault::Read),
+        Err(LoadFault::TooLong) => Err(KitFault::TooLong),
+        Err(LoadFault::Memory) => Err(KitFault::Memory),
     }
 }
 
 fn main(rt: HostRuntime) -> ExitCode {
     let alloc = rt.alloc();
-    let asked = match words(&rt) {
-        Ok(words) => request_of(&words),
-        Err(_) => None,
+    let words = match words(&rt) {
+        Ok(words) => words,
+        Err(_) => Vec::new(alloc),
     };
-    let Some(request) = asked else {
+    let Some(request) = request_of(&words) else {
         let _ = rt.eprintln(usage::USAGE);
         return ExitCode::from(1);
     };
-    let mut source = StdSource::new(rt.reader());
-    let answered = match load(alloc, &mut source, INPUT_LIMIT) {
-        Ok(bytes) => answer(alloc, &request, &bytes),
-        Err(LoadFault::Read) => Err(KitFault::Read),
-        Err(LoadFault::TooLong) => Err(KitFault::TooLong),
-        Err(LoadFault::Memory) => Err(KitFault::Memory),
+    let mut progress = Progress::new(&rt, rt.stderr().is_terminal());
+    let answered = if reads_input(&request) {
+        let mut source = StdSource::new(rt.reader());
+        let read = load(alloc, &mut source, INPUT_LIMIT);
+        answer_read(alloc, &request, &words, read, &mut progress)
+    } else {
+        answer(alloc, &request, &words, &[], &mut progress)
     };
+    progress.clear();
     match answered {
         Ok(text) => {
             let mut sink = StdSink::new(io::writer(&rt));

@@ -8,10 +8,11 @@ use crate::items::{Item, item_at};
 use crate::ports::{Bundle, Role, inputs, outputs, write_range};
 use crate::request::NoteForm;
 use ae_compile::{Costed, LOAD_LIMIT, cost, main_func, main_instance};
+use ae_seq::{Func, Op, Program};
 use std::alloc::{AllocError, Global};
 
-// The item of the program function whose words stand on a bundle.
-fn item_of<'a>(costed: &'a Costed, bundle: &Bundle<'_>) -> Option<Item<'a>> {
+/// The item of the program function whose words stand on a bundle.
+pub fn item_of<'a>(costed: &'a Costed, bundle: &Bundle<'_>) -> Option<Item<'a>> {
     match bundle.role {
         Role::Parameter => item_at(costed, bundle.number),
         Role::Result | Role::OneResult => {
@@ -85,17 +86,77 @@ fn write_bundles(
     Ok(())
 }
 
-// A line for each line of the program function: how the names of its nets begin.
-fn write_prefixes(out: &mut String, costed: &Costed) -> Result<(), AllocError> {
+// The function that an operator calls or maps.
+fn called(op: &Op) -> Option<u32> {
+    match op {
+        Op::Call(func) | Op::Map(func) | Op::Map2(func) => Some(*func),
+        _ => None,
+    }
+}
+
+// Marks a function.
+fn mark(marks: &mut Vec<bool>, func: u32) {
+    if let Some(mark) = marks.get_mut(func as usize) {
+        *mark = true;
+    }
+}
+
+// A line for each line of a function, and a mark at each that it calls.
+fn write_inner(
+    out: &mut String,
+    marks: &mut Vec<bool>,
+    line: u32,
+    func: &Func,
+) -> Result<(), AllocError> {
+    for node in &func.nodes {
+        writeln!(
+            out,
+            "l{line}_ {} {} in {}",
+            node.line,
+            node.name.as_str(),
+            func.name.as_str()
+        )?;
+        if let Some(below) = called(&node.op) {
+            mark(marks, below);
+        }
+    }
+    Ok(())
+}
+
+// A line for each line of a function that a line of the program function calls, and of those that it calls: functions stand
+// behind those that they call.
+fn write_called(
+    out: &mut String,
+    alloc: Global,
+    p: &Program,
+    line: u32,
+    func: u32,
+) -> Result<(), AllocError> {
+    let mut marks = vec![in alloc; false; p.funcs.len()]?;
+    mark(&mut marks, func);
+    for func in p.funcs.iter().enumerate().rev() {
+        let (number, func) = func;
+        if marks.get(number).copied() == Some(true) {
+            write_inner(out, &mut marks, line, func)?;
+        }
+    }
+    Ok(())
+}
+
+// A line for each line of the program function: how the names of its nets begin; and for those of the functions that it calls.
+fn write_prefixes(out: &mut String, alloc: Global, costed: &Costed) -> Result<(), AllocError> {
     for node in &main_func(&costed.program).nodes {
         let (line, name) = (node.line, node.name.as_str());
         writeln!(out, "l{line}_ {line} {name}")?;
+        if let Some(func) = called(&node.op) {
+            write_called(out, alloc, costed.program.program(), line, func)?;
+        }
     }
     Ok(())
 }
 
 /// Which line and which word of the program each port of the module of `aeth build S` belongs to, and how the names of the nets
-/// of each line begin; or a save file that shows a dump of `aeth wave S FILL` under these names in GTKWave.
+/// of each line begin, with the lines of the functions that it calls; or a save file that shows a dump of `aeth wave S FILL` under these names in GTKWave.
 pub fn notes(alloc: Global, input: &[u8], slowdown: u32, form: NoteForm) -> Result<String, KitFault>
     requires few { length input.now ≤ 16777216 }
     requires some { 0 < slowdown }
@@ -111,7 +172,7 @@ pub fn notes(alloc: Global, input: &[u8], slowdown: u32, form: NoteForm) -> Resu
     write_bundles(&mut out, &costed, &ins, form)?;
     write_bundles(&mut out, &costed, &outs, form)?;
     if let NoteForm::Table = form {
-        write_prefixes(&mut out, &costed)?;
+        write_prefixes(&mut out, alloc, &costed)?;
     }
     Ok(out)
 }

@@ -56,17 +56,33 @@ fn depth_of(depths: &[u32], cell: Cell) -> u32 {
     }
 }
 
-// Writes the chain of a line, unless no operator stands in it.
-fn write_chain(out: &mut String, note: &Note, chain: Chain) -> Result<(), AllocError> {
+// Writes the chain of a line, unless no operator stands in it, with a mark where it has more than so many.
+fn write_chain(out: &mut String, note: &Note, chain: Chain, most: u32) -> Result<(), AllocError> {
     if chain.operators == 0 {
         return Ok(());
     }
     let (line, name) = (note.line, note.name.as_str());
     let Chain { net, operators } = chain;
-    writeln!(
+    write!(
         out,
         "line {line} {name}: {operators} operators, up to l{line}_n{net}"
-    )
+    )?;
+    if operators > most {
+        write!(out, ", over {most}")?;
+    }
+    out.push_str("\n")
+}
+
+// The longest chain of all, and what may be done where it is too long.
+fn write_whole(out: &mut String, operators: u32, most: u32) -> Result<(), AllocError> {
+    write!(out, "longest: {operators} operators")?;
+    if operators > most {
+        write!(
+            out,
+            ", over {most}: operators of latency 0 have no register behind them (docs/COSTS.md)"
+        )?;
+    }
+    out.push_str("\n")
 }
 
 // The longest of the chains that end in some cells.
@@ -97,8 +113,8 @@ fn begin_of(notes: &[Note], number: usize, cells: usize) -> usize {
 }
 
 /// The longest chain of operators without a register between them that ends in the cells of each line of the program function, in
-/// the module of `aeth build S`.
-pub fn paths(alloc: Global, input: &[u8], slowdown: u32) -> Result<String, KitFault>
+/// the module of `aeth build S`; those with more than so many are marked.
+pub fn paths(alloc: Global, input: &[u8], slowdown: u32, most: u32) -> Result<String, KitFault>
     requires few { length input.now ≤ 16777216 }
     requires some { 0 < slowdown }
     requires most { slowdown ≤ 4096 }
@@ -116,10 +132,10 @@ pub fn paths(alloc: Global, input: &[u8], slowdown: u32) -> Result<String, KitFa
         if let Some(note) = compiled.notes.get(number) {
             let from = begin_of(&compiled.notes, number, all);
             let to = begin_of(&compiled.notes, number.saturating_add(1), all);
-            write_chain(&mut out, note, longest(&depths, from, to))?;
+            write_chain(&mut out, note, longest(&depths, from, to), most)?;
         }
     }
     let whole = longest(&depths, 0, all).operators;
-    writeln!(out, "longest: {whole} operators")?;
+    write_whole(&mut out, whole, most)?;
     Ok(out)
 }

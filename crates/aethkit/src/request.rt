@@ -2,6 +2,8 @@
 
 ghost use Rattle.std.specs.Prelude.{◌<◌, ◌≤◌, IfSome, IfOk};
 
+use crate::keywords::is_keyword;
+use ae_parse::is_name;
 use std::alloc::Global;
 
 /// The slowdowns that are asked for, and how they are shown.
@@ -36,6 +38,8 @@ pub enum Request {
     Draw {
         slowdown: u32,
         picture: Picture,
+        /// The layout of the type in the last word, in place of a program's.
+        is_alone: bool,
     },
     Notes {
         slowdown: u32,
@@ -43,6 +47,13 @@ pub enum Request {
     },
     Paths {
         slowdown: u32,
+        /// The most operators of which nobody has to be told.
+        most: u32,
+    },
+    Top {
+        slowdown: u32,
+        /// The last word is the name of the module.
+        is_named: bool,
     },
     Bench {
         slowdown: u32,
@@ -59,9 +70,17 @@ fn slowdown_of(word: &str) -> Option<u32> {
     }
 }
 
+// A word that chooses something, with or without the dashes that other programs want before it.
+fn plain(word: &str) -> &str {
+    match word.strip_prefix("--") {
+        Some(rest) => rest,
+        None => word,
+    }
+}
+
 // The range with what one more word says of it.
 fn with_word(range: Range, word: &str) -> Option<Range> {
-    match word {
+    match plain(word) {
         "csv" => Some(Range { csv: true, ..range }),
         "best" => Some(Range {
             best: true,
@@ -96,63 +115,83 @@ fn slowdowns(words: &[String]) -> Option<Request> {
     shown(all, words)
 }
 
+// Whether a word chooses this.
+fn says(word: &String, choice: &str) -> bool {
+    plain(word.as_str()) == choice
+}
+
 fn draw(words: &[String]) -> Option<Request> {
-    match words {
-        [slowdown] => Some(Request::Draw {
-            slowdown: slowdown_of(slowdown.as_str())?,
-            picture: Picture::Svg,
-        }),
-        [slowdown, text] if text.as_str() == "text" => Some(Request::Draw {
-            slowdown: slowdown_of(slowdown.as_str())?,
-            picture: Picture::Text,
-        }),
-        _ => None,
-    }
+    let [slowdown, rest @ ..] = words else {
+        return None;
+    };
+    let (picture, is_alone) = match rest {
+        [] => (Picture::Svg, false),
+        [text] if says(text, "text") => (Picture::Text, false),
+        [layout, _] if says(layout, "layout") => (Picture::Svg, true),
+        [text, layout, _] if says(text, "text") && says(layout, "layout") => (Picture::Text, true),
+        _ => return None,
+    };
+    Some(Request::Draw {
+        slowdown: slowdown_of(slowdown.as_str())?,
+        picture,
+        is_alone,
+    })
 }
 
 fn notes(words: &[String]) -> Option<Request> {
-    match words {
-        [slowdown] => Some(Request::Notes {
-            slowdown: slowdown_of(slowdown.as_str())?,
-            form: NoteForm::Table,
-        }),
-        [slowdown, file] if file.as_str() == "gtkw" => Some(Request::Notes {
-            slowdown: slowdown_of(slowdown.as_str())?,
-            form: NoteForm::SaveFile,
-        }),
-        _ => None,
-    }
+    let (slowdown, form) = match words {
+        [slowdown] => (slowdown, NoteForm::Table),
+        [slowdown, file] if says(file, "gtkw") => (slowdown, NoteForm::SaveFile),
+        _ => return None,
+    };
+    Some(Request::Notes {
+        slowdown: slowdown_of(slowdown.as_str())?,
+        form,
+    })
 }
 
 fn paths(words: &[String]) -> Option<Request> {
-    match words {
-        [slowdown] => Some(Request::Paths {
-            slowdown: slowdown_of(slowdown.as_str())?,
-        }),
-        _ => None,
-    }
+    let (slowdown, most) = match words {
+        [slowdown] => (slowdown, u32::MAX),
+        [slowdown, most] => (slowdown, most.as_str().parse::<u32>().ok()?),
+        _ => return None,
+    };
+    Some(Request::Paths {
+        slowdown: slowdown_of(slowdown.as_str())?,
+        most,
+    })
 }
 
-fn bench_of(slowdown: &str, fill: &str, dumps: bool) -> Option<Request> {
-    let slowdown = slowdown_of(slowdown)?;
-    match fill.parse::<u64>() {
-        Ok(fill) => Some(Request::Bench {
-            slowdown,
-            fill,
-            dumps,
-        }),
-        Err(_) => None,
-    }
+// Whether a word can name a module: a name that is no keyword of Verilog.
+fn names_module(word: &str) -> bool {
+    is_name(word.as_bytes()) && !is_keyword(word)
+}
+
+fn top(words: &[String]) -> Option<Request> {
+    let (slowdown, is_named) = match words {
+        [slowdown] => (slowdown, false),
+        [slowdown, option, name] if says(option, "name") && names_module(name.as_str()) => {
+            (slowdown, true)
+        }
+        _ => return None,
+    };
+    Some(Request::Top {
+        slowdown: slowdown_of(slowdown.as_str())?,
+        is_named,
+    })
 }
 
 fn bench(words: &[String]) -> Option<Request> {
-    match words {
-        [slowdown, fill] => bench_of(slowdown.as_str(), fill.as_str(), false),
-        [slowdown, fill, dump] if dump.as_str() == "dump" => {
-            bench_of(slowdown.as_str(), fill.as_str(), true)
-        }
-        _ => None,
-    }
+    let (slowdown, fill, dumps) = match words {
+        [slowdown, fill] => (slowdown, fill, false),
+        [slowdown, fill, dump] if says(dump, "dump") => (slowdown, fill, true),
+        _ => return None,
+    };
+    Some(Request::Bench {
+        slowdown: slowdown_of(slowdown.as_str())?,
+        fill: fill.as_str().parse::<u64>().ok()?,
+        dumps,
+    })
 }
 
 /// What the words ask for, if they ask for something.
@@ -165,6 +204,7 @@ pub fn request_of(words: &[String]) -> Option<Request> {
         "draw" => draw(rest),
         "notes" => notes(rest),
         "paths" => paths(rest),
+        "top" => top(rest),
         "bench" => bench(rest),
         _ => None,
     }

@@ -5,6 +5,7 @@ ghost use Rattle.std.specs.Prelude.{◌<◌, ◌≤◌, length};
 use crate::blocks::program_part;
 use crate::fault::KitFault;
 use crate::items::{lanes, layout_of};
+use crate::progress::Watch;
 use crate::request::Range;
 use ae_compile::{CompileFault, Costed, LOAD_LIMIT, cost, main_instance, typed};
 use std::alloc::{AllocError, Global};
@@ -14,9 +15,9 @@ use std::alloc::{AllocError, Global};
 struct Row {
     slowdown: u32,
     latency: u32,
-    load: u32,
+    load: u64,
     muls: u32,
-    mems: u32,
+    mems: u64,
     ins: u32,
     outs: u32,
 }
@@ -36,10 +37,10 @@ fn row_of(costed: &Costed) -> Row {
     }
     Row {
         slowdown: costed.slowdown,
-        latency: costed.timing.latency(),
-        load: costed.timing.load(),
-        muls: costed.timing.muls(),
-        mems: costed.timing.mems(),
+        latency: costed.costs.latency(),
+        load: costed.costs.load(),
+        muls: costed.costs.muls(),
+        mems: costed.costs.mems(),
         ins,
         outs,
     }
@@ -89,16 +90,22 @@ fn costed(alloc: Global, part: &[u8], slowdown: u32) -> Result<Option<Row>, KitF
     }
 }
 
-/// The table of the slowdowns of the program in the input, in order.
-pub fn table(alloc: Global, input: &[u8], range: &Range) -> Result<String, KitFault>
+/// The table of the slowdowns of the program in the input, in order; each that is tried is told.
+pub fn table<W: Watch>(
+    alloc: Global,
+    input: &[u8],
+    range: &Range,
+    watch: &mut W,
+) -> Result<String, KitFault>
     requires { length input.now ≤ 16777216 }
 {
     let part = program_part(input);
     typed(alloc, part)?;
     let mut out = String::new(alloc);
     write_head(&mut out, range.csv)?;
-    let mut least = u32::MAX;
+    let mut least = u64::MAX;
     for slowdown in range.from.max(1)..range.to.min(4096).saturating_add(1) {
+        watch.step("slowdown", slowdown, range.to);
         if let Some(row) = costed(alloc, part, slowdown)? {
             if !range.best || row.load < least {
                 write_row(&mut out, range.csv, row)?;

@@ -4,24 +4,26 @@ ghost use Rattle.std.specs.Prelude.{◌<◌, ◌≤◌, length};
 
 use crate::blocks::program_part;
 use crate::fault::KitFault;
+use crate::frame::{CLOCK, FOLD, Fold, Frame, end_of, frame_of};
 use crate::items::{Item, clocks, count, element, item_at, lanes};
 use ae_compile::{Costed, LOAD_LIMIT, cost};
 use std::alloc::{AllocError, Global};
 
-// In pixels: the place of clock 0, a clock, a lane, and what stands above the lanes of an item and behind them.
-const LEFT: u32 = 40;
-
-const CLOCK: u32 = 32;
+// In pixels: what stands above all items, a lane, what stands above the lanes of an item, and what behind them.
+const HEAD: u32 = 34;
 
 const LANE: u32 = 20;
 
 const ABOVE: u32 = 34;
 
-const BEHIND: u32 = 12;
-// The most clocks and lanes that are shown.
-const MOST_CLOCKS: u32 = 40;
-
+const BEHIND: u32 = 14;
+// The most lanes that are shown.
 const MOST_LANES: u32 = 16;
+
+// The least width, which the head wants, and the width of a letter of a title.
+const NARROW: u32 = 460;
+
+const LETTER: u32 = 8;
 
 // How many lanes of an item are shown.
 fn shown_lanes(item: Item<'_>) -> u32 {
@@ -34,48 +36,56 @@ fn height(item: Item<'_>) -> u32 {
         .saturating_add(ABOVE + BEHIND)
 }
 
-// How many clocks from the first one on are shown: those of block 0 of all items.
-fn shown_clocks(costed: &Costed) -> u32 {
-    let mut last = 1u32;
-    for number in 0..count(costed) {
-        if let Some(item) = item_at(costed, number) {
-            last = last.max(item.arrival.saturating_add(clocks(item.layout)));
-        }
-    }
-    last.min(MOST_CLOCKS)
+// The middle of a clock.
+fn middle(x: u32) -> u32 {
+    x.saturating_add(CLOCK / 2 - 1)
 }
 
-// A name or a layout; names have letters, digits and `_` alone.
-fn write_title(out: &mut String, item: Item<'_>, y: u32) -> Result<(), AllocError> {
-    write!(
-        out,
-        "<text x=\"{LEFT}\" y=\"{y}\" class=\"title\">line {} {}, ",
-        item.line, item.name
-    )?;
-    item.layout.write_to(out)?;
-    out.push_str("</text>\n")
+// A name, a layout and an arrival; names have letters, digits and `_` alone.
+fn title_of(alloc: Global, item: Item<'_>) -> Result<String, AllocError> {
+    let mut title = format!(in alloc; "line {} {}, ", item.line, item.name)?;
+    item.layout.write_to(&mut title)?;
+    write!(title, ", from clock {} on", item.arrival)?;
+    Ok(title)
 }
 
-// An element in its clock on its lane.
-fn write_element(out: &mut String, x: u32, y: u32, element: u32) -> Result<(), AllocError> {
-    let (width, height) = (CLOCK - 2, LANE - 2);
-    let (middle, base) = (x.saturating_add(CLOCK / 2 - 1), y.saturating_add(LANE - 6));
-    write!(
-        out,
-        "<rect x=\"{x}\" y=\"{y}\" width=\"{width}\" height=\"{height}\" class=\"word\"/>"
-    )?;
+fn write_title(out: &mut String, title: &str, y: u32) -> Result<(), AllocError> {
     writeln!(
         out,
-        "<text x=\"{middle}\" y=\"{base}\" class=\"number\">{element}</text>"
+        "<text x=\"4\" y=\"{y}\" class=\"title\">{title}</text>"
     )
 }
 
-// A place without an element.
-fn write_hole(out: &mut String, x: u32, y: u32) -> Result<(), AllocError> {
+// An element in its clock on its lane, or a place without one.
+fn write_place(out: &mut String, x: u32, y: u32, element: Option<u32>) -> Result<(), AllocError> {
     let (width, height) = (CLOCK - 2, LANE - 2);
+    let class = if element.is_some() { "word" } else { "hole" };
+    write!(
+        out,
+        "<rect x=\"{x}\" y=\"{y}\" width=\"{width}\" height=\"{height}\" class=\"{class}\"/>"
+    )?;
+    if let Some(number) = element {
+        write!(
+            out,
+            "<text x=\"{}\" y=\"{}\" class=\"number\">{number}</text>",
+            middle(x),
+            y.saturating_add(LANE - 6)
+        )?;
+    }
+    out.push_str("\n")
+}
+
+// Whether clocks of an item are among those that are left out.
+fn is_folded(item: Item<'_>, fold: Fold) -> bool {
+    fold.from < end_of(item) && item.arrival < fold.to
+}
+
+// Dots in the place of clocks that are left out.
+fn write_dots(out: &mut String, fold: Fold, y: u32) -> Result<(), AllocError> {
+    let x = fold.x.saturating_add(FOLD / 2 - 1);
     writeln!(
         out,
-        "<rect x=\"{x}\" y=\"{y}\" width=\"{width}\" height=\"{height}\" class=\"hole\"/>"
+        "<text x=\"{x}\" y=\"{y}\" class=\"number\">&#183;&#183;&#183;</text>"
     )
 }
 
@@ -83,83 +93,136 @@ fn write_hole(out: &mut String, x: u32, y: u32) -> Result<(), AllocError> {
 fn write_lane(
     out: &mut String,
     item: Item<'_>,
-    most: u32,
+    frame: &Frame,
     lane: u32,
     y: u32,
 ) -> Result<(), AllocError> {
-    for clock in 0..clocks(item.layout).min(MOST_CLOCKS) {
-        let place = item.arrival.saturating_add(clock);
-        if place < most {
-            let x = LEFT.saturating_add(CLOCK.saturating_mul(place));
-            match element(item.layout, clock, lane) {
-                Some(number) => write_element(out, x, y, number)?,
-                None => write_hole(out, x, y)?,
-            }
+    let base = y.saturating_add(LANE - 6);
+    writeln!(
+        out,
+        "<text x=\"4\" y=\"{base}\" class=\"small\">lane {lane}</text>"
+    )?;
+    for clock in 0..clocks(item.layout) {
+        if let Some(x) = frame.place(item.arrival.saturating_add(clock)) {
+            write_place(out, x, y, element(item.layout, clock, lane))?;
+        }
+    }
+    for fold in &frame.folds {
+        if is_folded(item, *fold) {
+            write_dots(out, *fold, base)?;
         }
     }
     Ok(())
 }
 
-// A mark where clocks or lanes of an item are left out.
-fn write_folded(out: &mut String, item: Item<'_>, most: u32, y: u32) -> Result<(), AllocError> {
-    let end = item.arrival.saturating_add(clocks(item.layout));
-    let lanes_left = lanes(item.layout).saturating_sub(shown_lanes(item));
-    let clocks_left = end.saturating_sub(most);
-    if lanes_left == 0 && clocks_left == 0 {
-        return Ok(());
+// The clocks of an item.
+fn write_clocks(out: &mut String, item: Item<'_>, frame: &Frame, y: u32) -> Result<(), AllocError> {
+    writeln!(out, "<text x=\"4\" y=\"{y}\" class=\"small\">clock</text>")?;
+    for clock in item.arrival..end_of(item) {
+        if let Some(x) = frame.place(clock) {
+            writeln!(
+                out,
+                "<text x=\"{}\" y=\"{y}\" class=\"clock\">{clock}</text>",
+                middle(x)
+            )?;
+        }
     }
-    writeln!(
-        out,
-        "<text x=\"4\" y=\"{y}\" class=\"folded\">.. {clocks_left} clocks and {lanes_left} lanes more</text>"
-    )
+    Ok(())
 }
 
-fn write_item(out: &mut String, item: Item<'_>, most: u32, top: u32) -> Result<(), AllocError> {
-    write_title(out, item, top.saturating_add(20))?;
-    for lane in 0..shown_lanes(item) {
-        let y = top
-            .saturating_add(ABOVE)
-            .saturating_add(LANE.saturating_mul(lane));
-        write_lane(out, item, most, lane, y)?;
-    }
-    let under = top.saturating_add(height(item)).saturating_sub(2);
-    write_folded(out, item, most, under)
-}
-
-// The clocks above all items, and a line where the results begin.
-fn write_axis(out: &mut String, most: u32, latency: u32, high: u32) -> Result<(), AllocError> {
-    for clock in 0..most {
-        let x = LEFT.saturating_add(CLOCK.saturating_mul(clock));
-        let middle = x.saturating_add(CLOCK / 2 - 1);
+// A mark where lanes of an item are left out.
+fn write_left_out(out: &mut String, item: Item<'_>, y: u32) -> Result<(), AllocError> {
+    let left = lanes(item.layout).saturating_sub(shown_lanes(item));
+    if left > 0 {
         writeln!(
             out,
-            "<text x=\"{middle}\" y=\"16\" class=\"number\">{clock}</text>"
-        )?;
-    }
-    if latency < most {
-        let x = LEFT
-            .saturating_add(CLOCK.saturating_mul(latency))
-            .saturating_sub(1);
-        writeln!(
-            out,
-            "<line x1=\"{x}\" y1=\"20\" x2=\"{x}\" y2=\"{high}\" class=\"latency\"/>"
+            "<text x=\"4\" y=\"{y}\" class=\"small\">&#183;&#183;&#183; and {left} lanes more</text>"
         )?;
     }
     Ok(())
 }
 
-const STYLE: &str =
-    "<style>text{font-family:monospace;font-size:11px;fill:#222;paint-order:stroke;stroke:white;stroke-width:3px}.title{font-size:12px}.number{text-anchor:middle;stroke:none}.folded{font-size:9px;fill:#666}.word{fill:#cfe3f7;stroke:#4a78a8}.hole{fill:#f4f4f4;stroke:#ddd}.latency{stroke:#c0392b;stroke-dasharray:4 3}</style>\n";
+fn write_item(
+    out: &mut String,
+    alloc: Global,
+    item: Item<'_>,
+    frame: &Frame,
+    top: u32,
+) -> Result<(), AllocError> {
+    let title = title_of(alloc, item)?;
+    write_title(out, title.as_str(), top.saturating_add(14))?;
+    write_clocks(out, item, frame, top.saturating_add(ABOVE - 4))?;
+    for lane in 0..shown_lanes(item) {
+        let y = top
+            .saturating_add(ABOVE)
+            .saturating_add(LANE.saturating_mul(lane));
+        write_lane(out, item, frame, lane, y)?;
+    }
+    let under = top.saturating_add(height(item)).saturating_sub(4);
+    write_left_out(out, item, under)
+}
 
-fn write_picture(out: &mut String, costed: &Costed) -> Result<(), AllocError> {
-    let most = shown_clocks(costed);
-    let mut high = 24u32;
+// A line where the results begin, with the latency.
+fn write_latency(
+    out: &mut String,
+    frame: &Frame,
+    latency: u32,
+    high: u32,
+) -> Result<(), AllocError> {
+    let Some(place) = frame.place(latency) else {
+        return Ok(());
+    };
+    let x = place.saturating_sub(1);
+    writeln!(
+        out,
+        "<line x1=\"{x}\" y1=\"24\" x2=\"{x}\" y2=\"{high}\" class=\"latency\"/>"
+    )?;
+    writeln!(
+        out,
+        "<text x=\"{place}\" y=\"32\" class=\"late\">latency {latency}</text>"
+    )
+}
+
+// What the picture shows.
+fn write_head(out: &mut String, costed: &Costed) -> Result<(), AllocError> {
+    writeln!(
+        out,
+        "<text x=\"4\" y=\"16\" class=\"title\">slowdown {}, latency {}, load {}: the elements of block 0</text>",
+        costed.slowdown,
+        costed.costs.latency(),
+        costed.costs.load()
+    )
+}
+
+// The width of a picture, in which all titles have room.
+fn wide_enough(alloc: Global, frame: &Frame, costed: &Costed) -> Result<u32, AllocError> {
+    let mut wide = frame.wide.max(NARROW);
+    for number in 0..count(costed) {
+        if let Some(item) = item_at(costed, number) {
+            let title = title_of(alloc, item)?;
+            let letters = title.len().min(100_000) as u32;
+            wide = wide.max(letters.saturating_mul(LETTER));
+        }
+    }
+    Ok(wide.saturating_add(8))
+}
+
+const STYLE: &str =
+    "<style>text{font-family:monospace;font-size:11px;fill:#222}.title{font-size:12px;paint-order:stroke;stroke:white;stroke-width:5px}.number{text-anchor:middle}.clock{text-anchor:middle;font-size:9px;fill:#666}.small{font-size:9px;fill:#666}.word{fill:#cfe3f7;stroke:#4a78a8}.hole{fill:#f4f4f4;stroke:#ddd}.latency{stroke:#c0392b;stroke-dasharray:4 3}.late{font-size:9px;fill:#c0392b}</style>\n";
+
+fn write_picture(
+    out: &mut String,
+    alloc: Global,
+    frame: &Frame,
+    costed: &Costed,
+) -> Result<(), AllocError> {
+    let mut high = HEAD;
     for number in 0..count(costed) {
         if let Some(item) = item_at(costed, number) {
             high = high.saturating_add(height(item));
         }
     }
-    let wide = LEFT.saturating_add(CLOCK.saturating_mul(most)).max(480);
+    let wide = wide_enough(alloc, frame, costed)?;
     writeln!(
         out,
         "<svg xmlns=\"http://www.w3.org/2000/svg\" width=\"{wide}\" height=\"{high}\" viewBox=\"0 0 {wide} {high}\">"
@@ -169,11 +232,12 @@ fn write_picture(out: &mut String, costed: &Costed) -> Result<(), AllocError> {
         out,
         "<rect width=\"{wide}\" height=\"{high}\" fill=\"white\"/>"
     )?;
-    write_axis(out, most, costed.timing.latency(), high)?;
-    let mut top = 24u32;
+    write_latency(out, frame, costed.costs.latency(), high)?;
+    write_head(out, costed)?;
+    let mut top = HEAD;
     for number in 0..count(costed) {
         if let Some(item) = item_at(costed, number) {
-            write_item(out, item, most, top)?;
+            write_item(out, alloc, item, frame, top)?;
             top = top.saturating_add(height(item));
         }
     }
@@ -181,14 +245,16 @@ fn write_picture(out: &mut String, costed: &Costed) -> Result<(), AllocError> {
 }
 
 /// The layout of each line of the program function in the first block: the clocks after the reset from left to right, the lanes
-/// one below the other, and in each place the number of the element that stands there. A dashed line is the latency.
+/// one below the other, and in each place the number of the element that stands there. A dashed line is the latency. Of long
+/// blocks the first and the last clocks are shown, and dots in place of the others.
 pub fn draw(alloc: Global, input: &[u8], slowdown: u32) -> Result<String, KitFault>
     requires few { length input.now ≤ 16777216 }
     requires some { 0 < slowdown }
     requires most { slowdown ≤ 4096 }
 {
     let costed = cost(alloc, program_part(input), slowdown, LOAD_LIMIT)?;
+    let frame = frame_of(alloc, &costed)?;
     let mut out = String::new(alloc);
-    write_picture(&mut out, &costed)?;
+    write_picture(&mut out, alloc, &frame, &costed)?;
     Ok(out)
 }
