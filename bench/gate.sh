@@ -10,7 +10,7 @@ trap 'rm -rf -- "$dir"' EXIT
 git clone -q . "$dir/repository"
 cd "$dir/repository"
 status=0
-python3 -B "$top/bench/gate_times.py" "$dir/table" rt ci >"$top/bench/gate.log" 2>&1 || status=$?
+python3 -B "$top/bench/gate_times.py" "$dir/table" rt ci --anew >"$top/bench/gate.log" 2>&1 || status=$?
 date +%F
 echo "$(rt version), $(nproc) processors"
 cat "$dir/table"
