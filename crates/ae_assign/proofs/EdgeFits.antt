@@ -12,8 +12,8 @@ use Rattle.ae_netlist.proofs.Gets.{get_left, get_set_other}
 use Rattle.ae_vread.specs.declared.module.NetKind.{NetKind}
 use Rattle.ae_vread.specs.declared.module.NetKind.TheVariants.{Input, Wire, OutWire, Reg, OutReg, Memory}
 use Rattle.ae_vread.specs.ModuleTree.{StmtTree, set, put, when, either, block_end, block_more, NetTree}
-use Rattle.ae_judge.specs.Names.{Among, is_memory, is_register, is_register_kind, is_memory_kind, depth_of, depth_of_kind, depth_in, passes}
-use Rattle.ae_judge.specs.Widths.{width_of}
+use Rattle.ae_judge.specs.Names.{Among, is_memory_name, is_register_name, is_register_kind, is_memory_kind, depth_of, depth_of_kind, depth_in, passes}
+use Rattle.ae_judge.specs.Widths.{declared_width}
 use Rattle.ae_judge.specs.Weight.{stmt_weight}
 use Rattle.ae_judge.specs.Faults.{IsRepeated}
 use Rattle.ae_gates.specs.Cells.{Grows}
@@ -105,7 +105,7 @@ module _ (ns : List NetTree) (nexts : List Next) (cells : List SizedCell) (n : L
   pub next_fits : FitsNext cells here.net (next_at ns nexts n)
   next_fits = fit.each (place_of ns n) here.net (next_at ns nexts n) here.at found_next
 
-pub kind_of_register : {ns : List NetTree} {n : List ℕ} (here : IsNamed ns n) → is_register ns n ≡ true → is_register_kind here.net.kind ≡ true
+pub kind_of_register : {ns : List NetTree} {n : List ℕ} (here : IsNamed ns n) → is_register_name ns n ≡ true → is_register_kind here.net.kind ≡ true
 kind_of_register here r = subst (λ o. passes (λ (x : NetTree). is_register_kind x.kind) o ≡ true) here.found r
 
 -- a register takes no write
@@ -139,11 +139,11 @@ not_memory Reg r = refl
 not_memory OutReg r = refl
 not_memory (Memory depth) r = absurd (cc)
 
-pub no_memory : {ns : List NetTree} {n : List ℕ} (here : IsNamed ns n) → is_register ns n ≡ true → is_memory ns n ≡ false
+pub no_memory : {ns : List NetTree} {n : List ℕ} (here : IsNamed ns n) → is_register_name ns n ≡ true → is_memory_name ns n ≡ false
 no_memory here r = ap (passes (λ (x : NetTree). is_memory_kind x.kind)) here.found ∙ not_memory here.net.kind (kind_of_register here r)
 
-pub register_net : (ns : List NetTree) (ys : List (Option NetId)) (nexts : List Next) (a b : Circuit) (n : List ℕ) (w : ℕ) (own net : NetId) (here : IsNamed ns n) → is_register ns n ≡ true → AreNets ns ys a.cells
-    → slice_get ys (place_of ns n) ≡ Some (Some own) → FitNexts ns nexts a.cells → w ≡ width_of ns n → IsSoFar (next_at ns nexts n) own net → Grows a b → IsNet b.cells net.0 w
+pub register_net : (ns : List NetTree) (ys : List (Option NetId)) (nexts : List Next) (a b : Circuit) (n : List ℕ) (w : ℕ) (own net : NetId) (here : IsNamed ns n) → is_register_name ns n ≡ true → AreNets ns ys a.cells
+    → slice_get ys (place_of ns n) ≡ Some (Some own) → FitNexts ns nexts a.cells → w ≡ declared_width ns n → IsSoFar (next_at ns nexts n) own net → Grows a b → IsNet b.cells net.0 w
 register_net ns ys nexts a b n w own net here r nets found fit wide so_far g =
     let mine = name_net ns ys a.cells n own here (no_memory here r) nets found in
     let there = so_far_net a.cells here.net _ own net so_far (next_fits ns nexts a.cells n here fit) (subst (IsNet a.cells own.0) (named_width here) mine) in
@@ -158,7 +158,7 @@ kind_of_memory Reg r = absurd (cc)
 kind_of_memory OutReg r = absurd (cc)
 kind_of_memory (Memory depth) r = refl
 
-pub memory_fits : (ns : List NetTree) (n : List ℕ) (here : IsNamed ns n) (cells : List SizedCell) (at word enable : NetId) (w : ℕ) → is_memory ns n ≡ true → w ≡ width_of ns n
+pub memory_fits : (ns : List NetTree) (n : List ℕ) (here : IsNamed ns n) (cells : List SizedCell) (at word enable : NetId) (w : ℕ) → is_memory_name ns n ≡ true → w ≡ declared_width ns n
     → IsAddress cells at.0 (depth_of ns n) → IsNet cells word.0 w → IsNet cells enable.0 1 → FitsNext cells here.net (Write at word enable)
 memory_fits ns n here cells at word enable w memory wide address net bit =
     let depth : depth_of ns n ≡ depth_of_kind here.net.kind = ap depth_in here.found in (

@@ -9,7 +9,7 @@ use Rattle.ae_netlist.specs.Runs.{Clock, word_at, store_at, InEveryRunFrom}
 use Rattle.ae_vread.specs.declared.module.NetKind.{NetKind}
 use Rattle.ae_vread.specs.declared.module.NetKind.TheVariants.{Input, Wire, OutWire, Reg as RegName, OutReg, Memory}
 use Rattle.ae_vread.specs.ModuleTree.{StmtTree, set, put, when, either, block_end, block_more, index, NetTree, ItemTree, nets, assigns, always}
-use Rattle.ae_judge.specs.Names.{Among, is_memory, is_register, is_register_kind, stmt_targets}
+use Rattle.ae_judge.specs.Names.{Among, is_memory_name, is_register_name, is_register_kind, stmt_targets}
 use Rattle.ae_runs.specs.Values.{ModuleClock}
 use Rattle.ae_judge.specs.Weight.{stmt_weight}
 use Rattle.ae_runs.specs.Runs.{after_items}
@@ -29,8 +29,8 @@ edge_weight (always clock body) = stmt_weight 0 body
 
 -- a statement that assigns registers and memories, and whose expressions have values
 abbrev pub IsSoundStmt : List NetTree → StmtTree → Type 0
-IsSoundStmt ns (set n value) = IsNamed ns n × (is_register ns n ≡ true) × IsSound ns value
-IsSoundStmt ns (put n at value) = IsSound ns (index n at) × (is_memory ns n ≡ true) × IsSound ns value
+IsSoundStmt ns (set n value) = IsNamed ns n × (is_register_name ns n ≡ true) × IsSound ns value
+IsSoundStmt ns (put n at value) = IsSound ns (index n at) × (is_memory_name ns n ≡ true) × IsSound ns value
 IsSoundStmt ns (when test taken) = IsSound ns test × IsSoundStmt ns taken
 IsSoundStmt ns (either test taken otherwise) = IsSound ns test × IsSoundStmt ns taken × IsSoundStmt ns otherwise
 IsSoundStmt ns block_end = Unit {0}
@@ -74,8 +74,8 @@ pub record FitNexts (ns : List NetTree) (nexts : List Next) (cells : List SizedC
 
 -- no memory among these names is to be written yet, and none of them stands there twice
 pub record AreFresh (ns : List NetTree) (nexts : List Next) (targets : List (List ℕ)) : Type 0 where
-  pub kept : (n : List ℕ) → Among n targets → is_memory ns n ≡ true → next_at ns nexts n ≡ Keep
-  pub once : (n : List ℕ) → is_memory ns n ≡ true → IsRepeated n targets → ⊥
+  pub kept : (n : List ℕ) → Among n targets → is_memory_name ns n ≡ true → next_at ns nexts n ≡ Keep
+  pub once : (n : List ℕ) → is_memory_name ns n ≡ true → IsRepeated n targets → ⊥
 
 -- other names take what they took
 abbrev pub OthersKeep : List NetTree → (old new : List Next) → List (List ℕ) → Type 0

@@ -7,8 +7,8 @@ ghost use Rattle.ae_netlist.specs.Runs.{Clock};
 ghost use Rattle.ae_vread.specs.ModuleTree.{index as index_tree, put as put_tree, set as set_tree};
 ghost use Rattle.ae_vread.specs.StmtReading.{block_of};
 ghost use Rattle.ae_vread.specs.View.{expr_tree, stmt_tree};
-ghost use Rattle.ae_judge.specs.Names.{depth_of, is_memory, is_register, stmt_targets};
-ghost use Rattle.ae_judge.specs.Widths.{width_of};
+ghost use Rattle.ae_judge.specs.Names.{depth_of, is_memory_name, is_register_name, stmt_targets};
+ghost use Rattle.ae_judge.specs.Widths.{declared_width};
 ghost use Rattle.ae_judge.specs.Weight.{expr_weight, stmt_weight};
 ghost use Rattle.ae_runs.specs.Values.{own_value};
 ghost use Rattle.ae_gates.specs.Cells.{Grows, HasRoom, IsWord};
@@ -216,7 +216,7 @@ fn written_at(
     requires nets { AreNets names.now nets.now nl.old.cells }
     requires sound { IsSound names.now (index_tree _name.now (expr_tree at.now)) }
     requires ready { IsReadyFor names.now nets.now (index_tree _name.now (expr_tree at.now)) }
-    requires memory { is_memory names.now _name.now ≡ true }
+    requires memory { is_memory_name names.now _name.now ≡ true }
     requires room { HasRoom nl.old (8 * expr_weight (expr_tree at.now) + 1) }
     ensures grows { OnOk result (Grows nl.old nl.new) }
     ensures more { OnOk result (length nl.old.cells ≤ length nl.new.cells) }

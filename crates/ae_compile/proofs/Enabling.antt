@@ -13,7 +13,7 @@ use Rattle.ae_netlist.specs.Circuit.{Circuit}
 use Rattle.ae_vread.specs.ModuleTree.{ModuleTree}
 use Rattle.ae_vread.specs.Spells.{Spells}
 use Rattle.ae_elab.specs.Faults.{IsWellFormed}
-use Rattle.ae_elab.specs.Runs.{HasOneRun}
+use Rattle.ae_elab.specs.Runs.{HasOneModuleRun}
 use Rattle.ae_elab.specs.SameRuns.{HasSameRuns}
 use Rattle.ae_elab.specs.Weight.{weight}
 use Rattle.ae_verilog.specs.NetlistModule.{netlist_module}
@@ -30,7 +30,7 @@ use Rattle.ae_correct.specs.Correct.{is_port, port_of, ports_of}
 use Rattle.ae_correct.proofs.Keeps.{circuit_ports, outs_of}
 use Rattle.ae_correct.proofs.Nets.{HavePorts, in_net, out_net, ports_filtered}
 use Rattle.ae_stall.specs.Copies.{reset_cell}
-use Rattle.ae_stall.specs.Images.{moved, moved_outlet}
+use Rattle.ae_stall.specs.Images.{renumbered, moved_outlet}
 use Rattle.ae_stall.specs.Stalled.{IsStalled}
 use Rattle.ae_stalled.specs.Laws.{StalledCircuitsAreCorrect, StalledCircuitsAreWritable, stall_limit}
 use Rattle.ae_stalled.proofs.Ports.{enable_port, stalled_ports_are}
@@ -69,17 +69,17 @@ can_be_stalled p slowdown instances costs n k light circuit =
 
 -- ---- the notes
 
-notes_moved : (layouts : List StTree) (i : ℕ) (ns : List NodeTree) (ms : List ℕ) → node_notes layouts i ns (map moved ms) ≡ map moved_note (node_notes layouts i ns ms)
+notes_moved : (layouts : List StTree) (i : ℕ) (ns : List NodeTree) (ms : List ℕ) → node_notes layouts i ns (map renumbered ms) ≡ map moved_note (node_notes layouts i ns ms)
 notes_moved layouts i [] ms = refl
 notes_moved layouts i (n ∷ ns) [] = refl
-notes_moved layouts i (n ∷ ns) (m ∷ ms) = ap (λ rest. node_note (moved m) n (item_layout layouts i) ∷ rest) (notes_moved layouts (i + 1) ns ms)
+notes_moved layouts i (n ∷ ns) (m ∷ ms) = ap (λ rest. node_note (renumbered m) n (item_layout layouts i) ∷ rest) (notes_moved layouts (i + 1) ns ms)
 
-results_moved : (layouts : List StTree) (f : FuncTree) (is ms : List ℕ) → result_notes layouts f is (map moved ms) ≡ map moved_note (result_notes layouts f is ms)
+results_moved : (layouts : List StTree) (f : FuncTree) (is ms : List ℕ) → result_notes layouts f is (map renumbered ms) ≡ map moved_note (result_notes layouts f is ms)
 results_moved layouts f [] ms = refl
 results_moved layouts f (i ∷ is) [] = refl
-results_moved layouts f (i ∷ is) (m ∷ ms) = ap (λ rest. item_note f i (moved m) (item_layout layouts i) ∷ rest) (results_moved layouts f is ms)
+results_moved layouts f (i ∷ is) (m ∷ ms) = ap (λ rest. item_note f i (renumbered m) (item_layout layouts i) ∷ rest) (results_moved layouts f is ms)
 
-told_moved : (moves : Bool) (layouts : List StTree) (f : FuncTree) (ms : List ℕ) → (if moves then result_notes layouts f f.results (map moved ms) else node_notes layouts (length f.params) f.nodes (map moved ms))
+told_moved : (moves : Bool) (layouts : List StTree) (f : FuncTree) (ms : List ℕ) → (if moves then result_notes layouts f f.results (map renumbered ms) else node_notes layouts (length f.params) f.nodes (map renumbered ms))
     ≡ map moved_note (if moves then result_notes layouts f f.results ms else node_notes layouts (length f.params) f.nodes ms)
 told_moved true layouts f ms = results_moved layouts f f.results ms
 told_moved false layouts f ms = notes_moved layouts (length f.params) f.nodes ms
@@ -93,7 +93,7 @@ pub record AreMadeStalled (p : ProgramTree) (slowdown : ℕ) (instances : List S
   pub stalled : IsStalled plain n
   pub own : OwnCells p instances plain.cells marks
   pub places : ArePlaced p plain.cells marks
-  pub notes_are : (s : StFuncTree) (f : FuncTree) → slice_get instances (last_of instances) ≡ Some s → slice_get p.funcs (main_of p) ≡ Some f → notes ≡ told_notes p f (item_layouts s) (map moved marks)
+  pub notes_are : (s : StFuncTree) (f : FuncTree) → slice_get instances (last_of instances) ≡ Some s → slice_get p.funcs (main_of p) ≡ Some f → notes ≡ told_notes p f (item_layouts s) (map renumbered marks)
   pub printed : ArePrinted notes
 
 pub stalled_made : (p : ProgramTree) (slowdown : ℕ) (instances : List StFuncTree) (costs : Costs) (plain n : Circuit) (marks : List ℕ) (report : ReportTree) (notes : List NoteTree) → IsKnown load_limit p slowdown instances costs
@@ -133,7 +133,7 @@ pub record HaveStalledLaws : Type 0 where
   pub writable : StalledCircuitsAreWritable
   pub correct : StalledCircuitsAreCorrect
   pub light : (lines : ℕ → ℕ) (n : Circuit) (outs : ℕ) → weight (netlist_module lines n.cells n.outlets outs) ≤ 1 + 4 * length n.cells + 4 * length n.outlets
-  pub once : (m : ModuleTree) → IsWellFormed m → HasOneRun m
+  pub once : (m : ModuleTree) → IsWellFormed m → HasOneModuleRun m
   pub spelled : (text : List ℕ) (m n : ModuleTree) → length text < 2 ^ 32 → Spells text m → Spells text n → m ≡ n
 
 -- how many ports it has: those of the module without the enable, and this

@@ -10,7 +10,7 @@ use Rattle.ae_rewrite.specs.Interface.{main_of}
 use Rattle.ae_rewrite.specs.StProgramTree.{StFuncTree}
 use Rattle.ae_rewrite.specs.Sound.{item_layouts}
 use Rattle.ae_delay.specs.declared.own.OwnCosts.{OwnCosts}
-use Rattle.ae_delay.specs.Costs.{LineLoad, NodeTiming, all_costs, first_over, func_costs, line_loads, node_line, node_timings, result_uses, slack_load, too_large}
+use Rattle.ae_delay.specs.Costs.{LineLoad, NodeTiming, all_costs, first_over, func_costs, line_loads, load_at_line, node_timings, result_uses, slack_load, too_large}
 use Rattle.ae_lower.specs.Lowering.{costs_in, instance_costs}
 use Rattle.ae_trace.specs.Traces.{is_movement}
 use Rattle.ae_fuse.specs.Costing.{Costing, costing, costing_over, fused_costing, scheduled_costing}
@@ -45,14 +45,14 @@ lines_within limit sum (l ∷ ls) h e =
     omega (arith, c, lines_within limit (sum + l.load) ls fits n.1)
 
 -- the lines of nodes, and the end
-load_total : (ts : List NodeTiming) (end : LineLoad) → sum_by (λ (l : LineLoad). l.load) (map node_line ts ++ end ∷ []) ≡ sum_by (λ (t : NodeTiming). t.load) ts + end.load
+load_total : (ts : List NodeTiming) (end : LineLoad) → sum_by (λ (l : LineLoad). l.load) (map load_at_line ts ++ end ∷ []) ≡ sum_by (λ (t : NodeTiming). t.load) ts + end.load
 load_total [] end =
     let c : sum_by (λ (x : LineLoad). x.load) (end ∷ []) ≡ end.load + sum_by (λ (x : LineLoad). x.load) [] = sum_by-cons (λ (x : LineLoad). x.load) end [] in
     let z : sum_by (λ (x : LineLoad). x.load) [] ≡ 0 = refl in
     let y : sum_by (λ (x : NodeTiming). x.load) [] ≡ 0 = refl in
     omega (arith, c, z, y)
 load_total (t ∷ ts) end =
-    let c : sum_by (λ (x : LineLoad). x.load) (node_line t ∷ (map node_line ts ++ end ∷ [])) ≡ t.load + sum_by (λ (x : LineLoad). x.load) (map node_line ts ++ end ∷ []) = sum_by-cons (λ (x : LineLoad). x.load) (node_line t) (map node_line ts ++ end ∷ []) in
+    let c : sum_by (λ (x : LineLoad). x.load) (load_at_line t ∷ (map load_at_line ts ++ end ∷ [])) ≡ t.load + sum_by (λ (x : LineLoad). x.load) (map load_at_line ts ++ end ∷ []) = sum_by-cons (λ (x : LineLoad). x.load) (load_at_line t) (map load_at_line ts ++ end ∷ []) in
     let d : sum_by (λ (x : NodeTiming). x.load) (t ∷ ts) ≡ t.load + sum_by (λ (x : NodeTiming). x.load) ts = sum_by-cons (λ (x : NodeTiming). x.load) t ts in
     c ∙ omega (arith, d, load_total ts end)
 

@@ -17,7 +17,7 @@ use Rattle.ae_netlist.specs.Counts.{count_of, is_mul}
 use Rattle.ae_vread.specs.ModuleTree.{ModuleTree}
 use Rattle.ae_vread.specs.Spells.{Spells, stars}
 use Rattle.ae_elab.specs.Faults.{IsWellFormed}
-use Rattle.ae_elab.specs.Runs.{HasOneRun}
+use Rattle.ae_elab.specs.Runs.{HasOneModuleRun}
 use Rattle.ae_elab.specs.SameRuns.{HasSameRuns}
 use Rattle.ae_elab.specs.Weight.{weight}
 use Rattle.ae_verilog.specs.NetlistModule.{netlist_module}
@@ -116,7 +116,7 @@ pub record HaveLaws : Type 0 where
   pub writing : HaveWriting
   pub correct : CircuitsAreCorrect
   pub light : (lines : ℕ → ℕ) (n : Circuit) (outs : ℕ) → weight (netlist_module lines n.cells n.outlets outs) ≤ 1 + 4 * length n.cells + 4 * length n.outlets
-  pub once : (m : ModuleTree) → IsWellFormed m → HasOneRun m
+  pub once : (m : ModuleTree) → IsWellFormed m → HasOneModuleRun m
   pub spelled : (text : List ℕ) (m n : ModuleTree) → length text < 2 ^ 32 → Spells text m → Spells text n → m ≡ n
 
 -- the module of a compiled program's circuit

@@ -6,7 +6,7 @@ use Rattle.ae_netlist.specs.Counts.{count_of, is_mul}
 use Rattle.ae_vread.specs.ModuleTree.{ModuleTree}
 use Rattle.ae_vread.specs.Spells.{Spells, stars}
 use Rattle.ae_elab.specs.Faults.{IsWellFormed}
-use Rattle.ae_elab.specs.Runs.{HasOneRun}
+use Rattle.ae_elab.specs.Runs.{HasOneModuleRun}
 use Rattle.ae_elab.specs.Weight.{weight}
 use Rattle.ae_verilog.specs.Notes.{NoteTree, noted_module}
 use Rattle.ae_verilog.specs.ReportLines.{ReportTree, report_lines, is_clean}
@@ -47,7 +47,7 @@ pub record IsListedText (IsMade : Circuit → ReportTree → List NoteTree → T
   pub spells : Spells text tree
   pub only : (other : ModuleTree) → Spells text other → other ≡ tree
   pub formed : IsWellFormed tree
-  pub one_run : HasOneRun tree
+  pub one_run : HasOneModuleRun tree
   pub correct : IsRight tree
   pub products : stars tree ≡ costs.muls
   pub light : weight tree ≤ by_load * costs.load + 1 + by_ports * (length (ports_of tree) - 1)

@@ -5,7 +5,7 @@ use Rattle.ae_rewrite.specs.StProgramTree.{StFuncTree}
 use Rattle.ae_netlist.specs.Circuit.{Circuit}
 use Rattle.ae_rewrite.specs.Interface.{HaveLayouts}
 use Rattle.ae_ports.specs.CircuitFor.{IsCircuitFor}
-use Rattle.ae_stall.specs.Images.{moved}
+use Rattle.ae_stall.specs.Images.{renumbered}
 use Rattle.ae_stall.specs.Stalled.{IsStalled}
 use Rattle.ae_lower.specs.Circuits.{last_of, results_of}
 use Rattle.ae_correct.specs.Laws.{IsLaidOut}
@@ -43,7 +43,7 @@ pub record IsCompiled (p : ProgramTree) (slowdown : ℕ) (instances : List StFun
 
 -- a note of a cell behind the enable
 abbrev pub moved_note : NoteTree → NoteTree
-moved_note n = record n { cell = moved n.cell }
+moved_note n = record n { cell = renumbered n.cell }
 
 -- the same of the circuit with an enable that was made of a circuit for the program, whose notes move with their cells
 pub record IsCompiledStalled (p : ProgramTree) (slowdown : ℕ) (instances : List StFuncTree) (n : Circuit) (report : ReportTree) (notes : List NoteTree) : Type 0 where

@@ -18,7 +18,7 @@ use Rattle.ae_compile.specs.declared.costs.Costs.{Costs}
 use Rattle.ae_compile.specs.declared.costs.Costs.TheVariants.{Plain, Fused}
 use Rattle.ae_compile.specs.declared.faults.CompileFault.{CompileFault}
 use Rattle.ae_compile.specs.declared.faults.CompileFault.TheVariants.{Memory, NoSchedule, TooLarge}
-use Rattle.ae_compile.specs.Programs.{IsTyped, IsTypedFault}
+use Rattle.ae_compile.specs.Programs.{IsTypedText, IsTypedFault}
 
 -- the greatest load of a circuit
 abbrev pub load_limit : ℕ
@@ -41,25 +41,25 @@ costs_over limit p instances = costing_over limit (main_costing p instances)
 
 -- the text is this program, and these are the instances of its schedule
 pub record IsScheduled (part : List ℕ) (slowdown : ℕ) (p : ProgramTree) (instances : List StFuncTree) : Type 0 where
-  pub typed : IsTyped part p
+  pub typed : IsTypedText part p
   pub schedule : IsSchedule p slowdown instances
 
 -- the text is this program, these are the instances of its schedule, and their load is within the limit
 pub record IsCosted (limit : ℕ) (part : List ℕ) (slowdown : ℕ) (p : ProgramTree) (instances : List StFuncTree) : Type 0 where
-  pub typed : IsTyped part p
+  pub typed : IsTypedText part p
   pub schedule : IsSchedule p slowdown instances
   pub within : costs_over limit p instances ≡ None
 
 -- the text is a program without a schedule: the line has no layout
 pub record HasNoSchedule (part : List ℕ) (slowdown line : ℕ) : Type 0 where
   pub program : ProgramTree
-  pub typed : IsTyped part program
+  pub typed : IsTypedText part program
   pub failing : failing_line program slowdown ≡ Some line
 
 -- the sum of its loads passes the limit at the line
 pub record HasLargeLoad (limit : ℕ) (part : List ℕ) (slowdown line : ℕ) : Type 0 where
   pub program : ProgramTree
-  pub typed : IsTyped part program
+  pub typed : IsTypedText part program
   pub instances : List StFuncTree
   pub schedule : IsSchedule program slowdown instances
   pub load : ℕ

@@ -8,7 +8,7 @@ use Rattle.ae_compile.specs.declared.faults.CompileFault.TheVariants.{BadLine, B
 use Rattle.ae_rewrite.specs.Interface.{main_of}
 
 -- the text is this program, and no line of it is refused
-pub record IsTyped (part : List ℕ) (p : ProgramTree) : Type 0 where
+pub record IsTypedText (part : List ℕ) (p : ProgramTree) : Type 0 where
   pub reads : Reads part p
   pub typed : refused_line p ≡ None
 

@@ -4,7 +4,7 @@ ghost use Rattle.std.specs.Prelude.{◌≡◌, ◌<◌, ◌≤◌, ℕ, IfOk, So
 ghost use Rattle.ae_netlist.specs.Circuit.{Circuit};
 ghost use Rattle.ae_seq.specs.ProgramTree.{program_tree};
 ghost use Rattle.ae_rewrite.specs.StProgramTree.{st_func_trees};
-ghost use Rattle.ae_stall.specs.Images.{moved};
+ghost use Rattle.ae_stall.specs.Images.{renumbered};
 ghost use Rattle.ae_stall.specs.Stalled.{IsStalled};
 ghost use Rattle.ae_stalled.specs.Laws.{stall_limit};
 ghost use Rattle.ae_compile.specs.Compiling.{IsMadeFor};
@@ -31,7 +31,7 @@ fn stalled_netlist(alloc: Global, costed: &Costed, plain: &Netlist) -> Result<Ne
 // Behind the first cell comes the enable, and then the others.
 fn moved_mark(mark: u32) -> u32
     requires { mark < 4294967295 }
-    ensures { result ≡ moved mark }
+    ensures { result ≡ renumbered mark }
 {
     if mark == 0 {
         return mark;
@@ -42,7 +42,7 @@ fn moved_mark(mark: u32) -> u32
 // Where the cells of the lines begin behind the enable.
 fn moved_marks(alloc: Global, marks: &[u32]) -> Result<Vec<u32>, AllocError>
     requires { (i m : ℕ) → slice_get marks.now i ≡ Some m → m < 4294967295 }
-    ensures { IfOk result (λ v. v.items ≡ map moved marks.now) }
+    ensures { IfOk result (λ v. v.items ≡ map renumbered marks.now) }
 {
     let mut behind = Vec::new(alloc);
     for mark in marks {

@@ -4,7 +4,7 @@ ghost use Rattle.std.specs.Prelude.{◌≡◌, ◌<◌, None, length, IfOk, IfEr
 ghost use Rattle.ae_seq.specs.ProgramTree.{program_tree};
 ghost use Rattle.ae_seq.specs.Formed.{formed};
 ghost use Rattle.ae_seq.specs.Typing.{refused_line};
-ghost use Rattle.ae_compile.specs.Programs.{IsTyped, IsTypedFault, IsTypeFault};
+ghost use Rattle.ae_compile.specs.Programs.{IsTypedText, IsTypedFault, IsTypeFault};
 
 use crate::faults::CompileFault;
 use ae_parse::{ParseFault, parse};
@@ -29,7 +29,7 @@ fn checked(alloc: Global, p: Program) -> Result<Typed, CompileFault>
 /// memory.
 pub fn typed(alloc: Global, part: &[u8]) -> Result<Typed, CompileFault>
     requires { length part.now < 4294967295 }
-    ensures typed { IfOk result (λ t. IsTyped part.now (program_tree t)) }
+    ensures typed { IfOk result (λ t. IsTypedText part.now (program_tree t)) }
     ensures refused { IfErr result (λ s. IsTypedFault part.now s) }
 {
     match parse(alloc, part) {

@@ -22,7 +22,7 @@ use Rattle.ae_eval.proofs.Items.{entry-at}
 use Rattle.ae_ports.specs.Ports.{streams_of, SizedPort, input_cell, outlet_port, ports_from, reset_port, stream_ports, columns_in}
 use Rattle.ae_rewrite.specs.Blocks.{outlet_net}
 use Rattle.ae_ports.specs.Ports as net_side
-use Rattle.ae_correct.specs.Correct.{input_ports, output_ports, name_of}
+use Rattle.ae_correct.specs.Correct.{param_ports, result_ports, name_of}
 use Rattle.ae_correct.proofs.Places.{port_there}
 use Rattle.ae_correct.proofs.Nets.{HavePorts, in_net, out_net, tree, numbered_inputs, inputs_filtered, outputs_filtered}
 use Rattle.ae_correct.proofs.ModulePorts.{mapped_at, column_at}
@@ -77,7 +77,7 @@ resets lines n many ins outs h run other start alike r =
 -- a column of a parameter's ports
 pub column_in : (lines : ℕ → ℕ) → (n : Circuit) (many : ℕ) (ss : List StTree) (outs : List SizedPort) (h : HavePorts n.cells n.outlets (reset_port ∷ net_side.input_ports (streams_of ss)) outs) (run : List ModuleClock) (other : List Clock)
     → BeginAlike (tree lines n.cells n.outlets many (reset_port ∷ net_side.input_ports (streams_of ss)) outs h) n run other → (t q column : ℕ) (s : StTree) → t < length run → slice_get ss q ≡ Some s → column < length (stream_widths (stream_of s))
-    → (clock_at run t).word (get_or (map name_of (input_ports q s)) column []) ≡ word_at other t (1 + columns_in (take q (streams_of ss)) + column)
+    → (clock_at run t).word (get_or (map name_of (param_ports q s)) column []) ≡ word_at other t (1 + columns_in (take q (streams_of ss)) + column)
 column_in lines n many ss outs h run other alike t q column s below found small =
     let at : ℕ → ℕ → ℕ → Port = λ param lane word. In param lane word in
     let c = column_at 1 false (at q) s column small in
@@ -92,7 +92,7 @@ column_in lines n many ss outs h run other alike t q column s below found small 
 -- a column of a result's ports
 pub column_out : (lines : ℕ → ℕ) → (n : Circuit) (many : ℕ) (rs : List StTree) (ins : List SizedPort) (h : HavePorts n.cells n.outlets ins (net_side.output_ports (streams_of rs))) (run : List ModuleClock) (other : List Clock)
     → HaveEqualOutputs (tree lines n.cells n.outlets many ins (net_side.output_ports (streams_of rs)) h) n run other → (t q column : ℕ) (s : StTree) → t < length run → slice_get rs q ≡ Some s → column < length (stream_widths (stream_of s))
-    → (clock_at run t).word (get_or (map name_of (output_ports many q s)) column []) ≡ word_at other t (outlet_net n.outlets (columns_in (take q (streams_of rs)) + column))
+    → (clock_at run t).word (get_or (map name_of (result_ports many q s)) column []) ≡ word_at other t (outlet_net n.outlets (columns_in (take q (streams_of rs)) + column))
 column_out lines n many rs ins h run other equal t q column s below found small =
     let at : ℕ → ℕ → ℕ → Port = λ result lane word. Out result lane word in
     let c = column_at many true (at q) s column small in

@@ -18,7 +18,7 @@ use Rattle.ae_ops.specs.Blocks.{stream_of, stream_widths}
 use Rattle.ae_eval.proofs.Items.{slice_get-take}
 use Rattle.ae_ports.specs.Ports.{streams_of, SizedPort, input_cell, reset_port, stream_ports, columns_in}
 use Rattle.ae_ports.specs.Ports as net_side
-use Rattle.ae_correct.specs.Correct.{input_ports, name_of}
+use Rattle.ae_correct.specs.Correct.{param_ports, name_of}
 use Rattle.ae_correct.proofs.Places.{port_there}
 use Rattle.ae_correct.proofs.Nets.{HaveInputs, HavePorts, tree}
 use Rattle.ae_correct.proofs.ModulePorts.{mapped_at, column_at}
@@ -54,7 +54,7 @@ module _ (lines : ℕ → ℕ) (n : Circuit) (many : ℕ) (ss : List StTree) (ou
       ∙ taken n.cells (reset_port ∷ net_side.input_ports (streams_of ss)) rows other t 0 reset_port h.inputs takes room refl
 
   pub input_row : (t q column : ℕ) (s : StTree) → t < length run → slice_get ss q ≡ Some s → column < length (stream_widths (stream_of s))
-      → (clock_at run t).word (get_or (map name_of (input_ports q s)) column []) ≡ get_or (get_or rows t []) (suc (columns_in (take q (streams_of ss)) + column)) 0
+      → (clock_at run t).word (get_or (map name_of (param_ports q s)) column []) ≡ get_or (get_or rows t []) (suc (columns_in (take q (streams_of ss)) + column)) 0
   input_row t q column s below found small =
       let room : t < length rows = omega (arith, below, alike.long, long) in
       let at : ℕ → ℕ → ℕ → Port = λ param lane word. In param lane word in

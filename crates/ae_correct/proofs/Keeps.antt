@@ -28,7 +28,7 @@ use Rattle.ae_ports.specs.CircuitFor.{IsCircuitFor}
 use Rattle.ae_ports.specs.Ports.{streams_of, SizedPort, reset_port, columns_in, input_cell, outlet_port}
 use Rattle.ae_ports.specs.Ports as net_side
 use Rattle.ae_ports.proofs.Columns.{stream_columns, first_columns}
-use Rattle.ae_correct.specs.Correct.{input_ports, output_ports, wave, BundlesHold, KeepsBlocks}
+use Rattle.ae_correct.specs.Correct.{param_ports, result_ports, wave, BundlesHold, KeepsBlocks}
 use Rattle.ae_correct.proofs.Places.{port_from}
 use Rattle.ae_correct.proofs.Nets.{HavePorts}
 use Rattle.ae_correct.proofs.Clocks.{column_in, column_out, resets}
@@ -88,27 +88,27 @@ module _ (lines : ℕ → ℕ) (p : ProgramTree) (slowdown latency : ℕ) (ins o
 
   -- where the ports of the parameters hold a block, the inputs of the circuit do
   inputs_hold : (run : List ModuleClock) (other : List Clock) (start k : ℕ) (block : List ValueTree) → BeginAlike own n run other → start + (k + slowdown) ≤ length run
-      → BundlesHold run start k input_ports ins block → InputsHold other start k ins block
+      → BundlesHold run start k param_ports ins block → InputsHold other start k ins block
   inputs_hold run other start k block alike room held = record {
     each = λ q t found.
         let fill = size_in q t found in
         let full : time t ≡ slowdown = fill.time in
         let there : Holds (input_wave other start (1 + columns_in (take q (streams_of ins)))) k (element_words t) (slots t) (flat (at block q)) =
-        holds_alike k t (input_wave other start (1 + columns_in (take q (streams_of ins)))) (wave run start (input_ports q t)) (flat (at block q)) fill.size
+        holds_alike k t (input_wave other start (1 + columns_in (take q (streams_of ins)))) (wave run start (param_ports q t)) (flat (at block q)) fill.size
         (λ clock column low high small. sym (column_in lines n many ins (outs_of outs) ports run other alike (start + clock) q column t (omega (arith, full)) found small)) (held.each q t found) in
         subst (λ i. Holds (input_wave other start (1 + i)) k (element_words t) (slots t) (flat (at block q))) (sym (first_columns ins q)) there;
   }
 
   -- where the outputs of the circuit hold results, the ports of the results do
   outputs_hold : (run : List ModuleClock) (other : List Clock) (start k : ℕ) (values : List ValueTree) → HaveEqualOutputs own n run other → start + (k + slowdown) ≤ length run
-      → OutputsHold other n.outlets start k outs values → BundlesHold run start k (output_ports many) outs values
+      → OutputsHold other n.outlets start k outs values → BundlesHold run start k (result_ports many) outs values
   outputs_hold run other start k values equal room held = record {
     each = λ r t found.
         let fill = size_out r t found in
         let full : time t ≡ slowdown = fill.time in
         let there : Holds (output_wave other n.outlets start (columns_in (take r (streams_of outs)))) k (element_words t) (slots t) (flat (at values r)) =
         subst (λ i. Holds (output_wave other n.outlets start i) k (element_words t) (slots t) (flat (at values r))) (first_columns outs r) (held.each r t found) in
-        holds_alike k t (wave run start (output_ports many r t)) (output_wave other n.outlets start (columns_in (take r (streams_of outs)))) (flat (at values r)) fill.size
+        holds_alike k t (wave run start (result_ports many r t)) (output_wave other n.outlets start (columns_in (take r (streams_of outs)))) (flat (at values r)) fill.size
         (λ clock column low high small. column_out lines n many outs (ins_of ins) ports run other equal (start + clock) r column t (omega (arith, full)) found small) there;
   }
 

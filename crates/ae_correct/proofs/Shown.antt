@@ -14,7 +14,7 @@ use Rattle.ae_netlist.specs.Runs.{Clock}
 use Rattle.ae_netlist.specs.Rows.{AreInputs, IsRunWith, filled}
 use Rattle.ae_vread.specs.ModuleTree.{ModuleTree}
 use Rattle.ae_elab.specs.Values.{ModuleClock}
-use Rattle.ae_elab.specs.Runs.{clock_at, IsRun}
+use Rattle.ae_elab.specs.Runs.{clock_at, IsModuleRun}
 use Rattle.ae_elab.specs.SameRuns.{BeginAlike, HasSameRuns, HaveEqualOutputs, output_words}
 use Rattle.ae_verilog.specs.NetlistModule.{netlist_module}
 use Rattle.ae_ops.specs.Blocks.{stream_of, stream_widths}
@@ -27,7 +27,7 @@ use Rattle.ae_ports.specs.Ports.{streams_of, columns_in}
 use Rattle.ae_rewrite.specs.Interface.{AreValues}
 use Rattle.ae_play.specs.Fed.{clock_row, fed_rows}
 use Rattle.ae_play.specs.Lines.{clock_count, shown_words}
-use Rattle.ae_correct.specs.Correct.{input_ports, wave}
+use Rattle.ae_correct.specs.Correct.{param_ports, wave}
 use Rattle.ae_correct.specs.ClockTexts.{fill_word, IsFed, IsTaken}
 use Rattle.ae_correct.specs.Laws.{IsLaidOut, IsShownAs, RunsAreShown}
 use Rattle.ae_correct.proofs.Nets.{HavePorts}
@@ -67,7 +67,7 @@ module _ (lines : ℕ → ℕ) (p : ProgramTree) (slowdown : ℕ) (costs : OwnCo
   whole : AreWhole ins blocks
   whole b block there = as_many p slowdown ins outs block laid (values b block there)
 
-  module _ (run : List ModuleClock) (other : List Clock) (runs : IsRun own run) (with_rows : IsRunWith n.cells fed (filled n.cells fill) other) (alike : BeginAlike own n run other) (equal : HaveEqualOutputs own n run other) where
+  module _ (run : List ModuleClock) (other : List Clock) (runs : IsModuleRun own run) (with_rows : IsRunWith n.cells fed (filled n.cells fill) other) (alike : BeginAlike own n run other) (equal : HaveEqualOutputs own n run other) where
     rows_long : length fed ≡ 1 + count
     rows_long = length_rows slowdown fill ins (map (map flat) blocks) count
 
@@ -93,11 +93,11 @@ module _ (lines : ℕ → ℕ) (p : ProgramTree) (slowdown : ℕ) (costs : OwnCo
 
     -- the words on the inputs are those of the rows
     on_inputs : (start k q column : ℕ) (x : StTree) → start + k < length run → slice_get ins q ≡ Some x → column < length (stream_widths (stream_of x))
-        → wave run start (input_ports q x) k column ≡ get_or (get_or fed (start + k) []) (suc (columns_in (take q (streams_of ins)) + column)) 0
+        → wave run start (param_ports q x) k column ≡ get_or (get_or fed (start + k) []) (suc (columns_in (take q (streams_of ins)) + column)) 0
     on_inputs start k q column x below found small = input_row lines n many ins (outs_of outs) have run other fed alike with_rows.takes with_rows.long (start + k) q column x below found small
 
     holds_at : (b q e j : ℕ) (x : StTree) (w : Slot) (block : List ValueTree) → slice_get blocks b ≡ Some block → slice_get ins q ≡ Some x → slice_get (slots x) e ≡ Some w → j < element_words x
-        → wave run 1 (input_ports q x) (b * slowdown + w.clock) (w.lane * element_words x + j) ≡ slice_index (flat (at block q)) (e * element_words x + j)
+        → wave run 1 (param_ports q x) (b * slowdown + w.clock) (w.lane * element_words x + j) ≡ slice_index (flat (at block q)) (e * element_words x + j)
     holds_at b q e j x w block there found slot word =
         let f = sizes q x found in
         let inside : e < st_atoms x = omega (arith, slice_get_within (slots x) e w slot, length-slots x) in
@@ -117,7 +117,7 @@ module _ (lines : ℕ → ℕ) (p : ProgramTree) (slowdown : ℕ) (costs : OwnCo
         ∙ stands_in_row slowdown fill ins blocks count sizes whole b q e j x w block there found slot word clock lane
 
     free_at : (q l j t : ℕ) (x : StTree) → slice_get ins q ≡ Some x → l < lanes x → j < element_words x → t < length run → (IsTaken x slowdown (length blocks) l t → ⊥)
-        → wave run 0 (input_ports q x) t (l * element_words x + j) ≡ fill_word fill x j
+        → wave run 0 (param_ports q x) t (l * element_words x + j) ≡ fill_word fill x j
     free_at q l j t x found lane word below free =
         let z : 0 + t ≡ t = omega arith in
         let column : ℕ = l * element_words x + j in

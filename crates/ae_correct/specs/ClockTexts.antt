@@ -13,7 +13,7 @@ use Rattle.ae_play.specs.Lines.{clock_count, clock_lines}
 use Rattle.ae_play.specs.Sums.{AreSums}
 use Rattle.ae_play.specs.declared.sums.Sums.{Sums}
 use Rattle.ae_play.specs.Words.{port_words}
-use Rattle.ae_correct.specs.Correct.{wave, input_ports, BundlesHold}
+use Rattle.ae_correct.specs.Correct.{wave, param_ports, BundlesHold}
 
 -- what a register of a width, or a memory of a depth, begins with
 abbrev pub first_words : (fill width : ℕ) → (depth : Option ℕ) → List ℕ
@@ -37,13 +37,13 @@ fill_word fill s j = get_or (map (λ (k : WordKind). fill % 2 ^ k.width) (atom_k
 -- the inputs hold the fill wherever no element of a block stands
 pub record AreFilled (run : List ModuleClock) (slowdown fill blocks : ℕ) (inputs : List StTree) : Type 0 where
   pub each : (k l j t : ℕ) (s : StTree) → slice_get inputs k ≡ Some s → l < lanes s → j < element_words s → t < length run → (IsTaken s slowdown blocks l t → ⊥)
-      → wave run 0 (input_ports k s) t (l * element_words s + j) ≡ fill_word fill s j
+      → wave run 0 (param_ports k s) t (l * element_words s + j) ≡ fill_word fill s j
 
 -- one clock of reset and then the blocks, one behind the other; all else is the fill, modulo 2 to each width
 pub record IsFed (m : ModuleTree) (slowdown fill : ℕ) (inputs : List StTree) (blocks : List (List ValueTree)) (run : List ModuleClock) : Type 0 where
   pub reset : IsResetRun m run 1
   pub begins : 0 < length run → held_words m (clock_at run 0) ≡ map (λ (x : NetTree). first_words fill x.width (kind_depth x.kind)) (states_of m)
-  pub holds : (b : ℕ) (block : List ValueTree) → slice_get blocks b ≡ Some block → BundlesHold run 1 (b * slowdown) input_ports inputs block
+  pub holds : (b : ℕ) (block : List ValueTree) → slice_get blocks b ≡ Some block → BundlesHold run 1 (b * slowdown) param_ports inputs block
   pub elsewhere : AreFilled run slowdown fill (length blocks) inputs
 
 -- the text shows the run of this module on the blocks: every word of every clock after reset

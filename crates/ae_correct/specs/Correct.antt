@@ -35,36 +35,36 @@ abbrev pub ports_of : ModuleTree → List ModulePort
 ports_of m = map port_of (filter is_port m.nets)
 
 -- a port for each word of a lane, from word number k on
-abbrev pub word_ports : (named : ℕ → List ℕ) (is_output : Bool) (k : ℕ) → List WordKind → List ModulePort
-word_ports named out k [] = []
-word_ports named out k (w ∷ ws) = record { name = named k; width = w.width; is_output = out } ∷ word_ports named out (k + 1) ws
+abbrev pub ports_of_words : (named : ℕ → List ℕ) (is_output : Bool) (k : ℕ) → List WordKind → List ModulePort
+ports_of_words named out k [] = []
+ports_of_words named out k (w ∷ ws) = record { name = named k; width = w.width; is_output = out } ∷ ports_of_words named out (k + 1) ws
 
 -- the ports of the first lanes, lane by lane and in it word by word
-abbrev pub lane_ports : (named : ℕ → ℕ → List ℕ) (is_output : Bool) → List WordKind → (lanes : ℕ) → List ModulePort
-lane_ports named out ws zero = []
-lane_ports named out ws (suc l) = lane_ports named out ws l ++ word_ports (named l) out 0 ws
+abbrev pub ports_of_lanes : (named : ℕ → ℕ → List ℕ) (is_output : Bool) → List WordKind → (lanes : ℕ) → List ModulePort
+ports_of_lanes named out ws zero = []
+ports_of_lanes named out ws (suc l) = ports_of_lanes named out ws l ++ ports_of_words (named l) out 0 ws
 
 abbrev pub bundle_ports : (named : ℕ → ℕ → List ℕ) (is_output : Bool) → StTree → List ModulePort
-bundle_ports named out s = lane_ports named out (atom_kinds (element_atom s)) (lanes s)
+bundle_ports named out s = ports_of_lanes named out (atom_kinds (element_atom s)) (lanes s)
 
 -- the ports of a parameter, and those of a result among so many
-abbrev pub input_ports : (param : ℕ) → StTree → List ModulePort
-input_ports param = bundle_ports (λ lane word. port_name 1 (In param lane word)) false
+abbrev pub param_ports : (param : ℕ) → StTree → List ModulePort
+param_ports param = bundle_ports (λ lane word. port_name 1 (In param lane word)) false
 
-abbrev pub output_ports : (outs result : ℕ) → StTree → List ModulePort
-output_ports outs result = bundle_ports (λ lane word. port_name outs (Out result lane word)) true
+abbrev pub result_ports : (outs result : ℕ) → StTree → List ModulePort
+result_ports outs result = bundle_ports (λ lane word. port_name outs (Out result lane word)) true
 
 -- the ports of each layout in turn, where the first has number k
-abbrev pub ports_from : (ℕ → StTree → List ModulePort) → (k : ℕ) → List StTree → List ModulePort
-ports_from bundle k [] = []
-ports_from bundle k (s ∷ ss) = bundle k s ++ ports_from bundle (k + 1) ss
+abbrev pub bundles_from : (ℕ → StTree → List ModulePort) → (k : ℕ) → List StTree → List ModulePort
+bundles_from bundle k [] = []
+bundles_from bundle k (s ∷ ss) = bundle k s ++ bundles_from bundle (k + 1) ss
 
 -- clock, reset, inputs and outputs
 abbrev pub program_ports : (inputs outputs : List StTree) → List ModulePort
 program_ports inputs outputs =
     record { name = codes "clk"; width = 1; is_output = false }
     ∷ record { name = codes "rst"; width = 1; is_output = false }
-    ∷ ports_from input_ports 0 inputs ++ ports_from (output_ports (length outputs)) 0 outputs
+    ∷ bundles_from param_ports 0 inputs ++ bundles_from (result_ports (length outputs)) 0 outputs
 
 -- ---- values on ports
 
@@ -83,8 +83,8 @@ pub record BundlesHold (run : List ModuleClock) (start k : ℕ) (ports : ℕ →
 -- results of each block stand on the outputs, all of them so many clocks later
 pub record KeepsBlocks (m : ModuleTree) (p : ProgramTree) (slowdown latency : ℕ) (inputs outputs : List StTree) : Type 0 where
   pub results : (run : List ModuleClock) (start : ℕ) (blocks : List (List ValueTree)) → IsResetRun m run start → start + (latency + length blocks * slowdown) ≤ length run
-      → ((b : ℕ) (block : List ValueTree) → slice_get blocks b ≡ Some block → AreValues (parameter_types p) block × BundlesHold run start (b * slowdown) input_ports inputs block)
-      → (b : ℕ) (block : List ValueTree) → slice_get blocks b ≡ Some block → BundlesHold run start (latency + b * slowdown) (output_ports (length outputs)) outputs (mean p block)
+      → ((b : ℕ) (block : List ValueTree) → slice_get blocks b ≡ Some block → AreValues (parameter_types p) block × BundlesHold run start (b * slowdown) param_ports inputs block)
+      → (b : ℕ) (block : List ValueTree) → slice_get blocks b ≡ Some block → BundlesHold run start (latency + b * slowdown) (result_ports (length outputs)) outputs (mean p block)
 
 -- the module is correct for the program at a slowdown and with a latency
 pub record IsCorrect (m : ModuleTree) (p : ProgramTree) (slowdown latency : ℕ) : Type 0 where

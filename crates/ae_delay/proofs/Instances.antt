@@ -22,7 +22,7 @@ use Rattle.ae_rewrite.proofs.Grown.{get_of_front, get_last}
 use Rattle.ae_delay.specs.declared.own.OwnCosts.{OwnCosts}
 use Rattle.ae_delay.specs.declared.weighing.Progress.{Progress}
 use Rattle.ae_delay.specs.declared.weighing.FuncTiming.{FuncTiming}
-use Rattle.ae_delay.specs.Costs.{Use, LineLoad, NodeTiming, all_uses, arrivals_of, chain_mems, chain_of, first_over, func_costs_by, func_latency, latest, line_loads, next_timing, node_line, node_timing, node_timings, result_uses, slack_load, uses_at}
+use Rattle.ae_delay.specs.Costs.{Use, LineLoad, NodeTiming, all_uses, arrivals_of, chain_mems, chain_of, first_over, func_costs_by, func_latency, latest, line_loads, next_timing, load_at_line, node_timing, node_timings, result_uses, slack_load, uses_at}
 use Rattle.ae_delay.specs.Weighing.{AllBelow, AreItems, IsNext, IsOverAt, IsProgress, IsTimed, chained, cost_of, deepened}
 use Rattle.ae_delay.proofs.Chains.{AreUses, chain_append, chained_deepened, deepened_at, length_deepened, mems_at, mems_le}
 use Rattle.ae_delay.proofs.Nodes.{latest_le}
@@ -87,7 +87,7 @@ over_not limit n h = search (arith)
 over_yes : (limit n : ℕ) → limit < n → nat_lt limit n ≡ true
 over_yes limit n h = search (arith)
 
-pub over_later : (limit sum : ℕ) (ts : List NodeTiming) (rest : List LineLoad) → sum + sum_by (λ (t : NodeTiming). t.load) ts ≤ limit → first_over limit sum (map node_line ts ++ rest) ≡ first_over limit (sum + sum_by (λ (t : NodeTiming). t.load) ts) rest
+pub over_later : (limit sum : ℕ) (ts : List NodeTiming) (rest : List LineLoad) → sum + sum_by (λ (t : NodeTiming). t.load) ts ≤ limit → first_over limit sum (map load_at_line ts ++ rest) ≡ first_over limit (sum + sum_by (λ (t : NodeTiming). t.load) ts) rest
 over_later limit sum [] rest h = let z : sum + 0 ≡ sum = omega arith in rw z refl
 over_later limit sum (t ∷ ts) rest h =
     let c : sum_by (λ (x : NodeTiming). x.load) (t ∷ ts) ≡ t.load + sum_by (λ (x : NodeTiming). x.load) ts = sum_by-cons (λ (x : NodeTiming). x.load) t ts in
@@ -271,9 +271,9 @@ over_at costs s i limit told n p f g over is =
     let all : node_timings costs s ≡ (ts ++ t ∷ []) ++ r.0 =
     ap (grown (next_timing costs s) []) (sym (take-append-drop (i + 1) s.nodes)) ∙ (grown_split (next_timing costs s) [] (take (i + 1) s.nodes) (drop (i + 1) s.nodes) ∙ (ap (λ xs. grown (next_timing costs s) xs (drop (i + 1) s.nodes)) more ∙ r.1)) in
     let last : List LineLoad = record { line = s.end_line; load = slack_load (item_layouts s) (result_uses s (node_timings costs s)) } ∷ [] in
-    let lines : line_loads s (node_timings costs s) ≡ map node_line ts ++ (node_line t ∷ (map node_line r.0 ++ last)) =
-    ap (λ xs. map node_line xs ++ last) (all ∙ append_assoc ts (t ∷ []) r.0) ∙ (ap (λ xs. xs ++ last) (map-append node_line ts (t ∷ r.0)) ∙ append_assoc (map node_line ts) (node_line t ∷ map node_line r.0) last) in
-    let later = over_later limit 0 ts (node_line t ∷ (map node_line r.0 ++ last)) (omega (arith, g.load, g.within)) in
+    let lines : line_loads s (node_timings costs s) ≡ map load_at_line ts ++ (load_at_line t ∷ (map load_at_line r.0 ++ last)) =
+    ap (λ xs. map load_at_line xs ++ last) (all ∙ append_assoc ts (t ∷ []) r.0) ∙ (ap (λ xs. xs ++ last) (map-append load_at_line ts (t ∷ r.0)) ∙ append_assoc (map load_at_line ts) (load_at_line t ∷ map load_at_line r.0) last) in
+    let later = over_later limit 0 ts (load_at_line t ∷ (map load_at_line r.0 ++ last)) (omega (arith, g.load, g.within)) in
     let past : nat_lt limit (0 + sum_by (λ (x : NodeTiming). x.load) ts + t.load) ≡ true = over_yes limit _ (omega (arith, over, g.load)) in
     record {
       total = 0 + sum_by (λ (x : NodeTiming). x.load) ts + t.load;

@@ -11,7 +11,7 @@ use Rattle.ae_rewrite.specs.Sound.{IsSound, IsSoundFunc, item_layouts}
 use Rattle.ae_rewrite.proofs.Grown.{get_in_front, get_of_front, get_last}
 use Rattle.ae_delay.specs.declared.own.OwnCosts.{OwnCosts}
 use Rattle.ae_delay.specs.declared.weighing.FuncTiming.{FuncTiming}
-use Rattle.ae_delay.specs.Costs.{LineLoad, NodeTiming, all_costs, first_over, func_costs, func_costs_by, line_loads, node_line, node_timings, result_uses, slack_load, too_large}
+use Rattle.ae_delay.specs.Costs.{LineLoad, NodeTiming, all_costs, first_over, func_costs, func_costs_by, line_loads, load_at_line, node_timings, result_uses, slack_load, too_large}
 use Rattle.ae_delay.specs.Bounds.{IsBounded}
 use Rattle.ae_delay.specs.Weighing.{AreKnown, IsKnown, IsOverAt, IsTimed}
 use Rattle.ae_delay.specs.Timings.{AreTimes, Times, item_arrivals}
@@ -66,14 +66,14 @@ passed limit sum (x ∷ xs) l h =
           omega (arith, c, r)
     ]
 
-node_sum : (ts : List NodeTiming) → sum_by (λ (x : LineLoad). x.load) (map node_line ts) ≡ sum_by (λ (t : NodeTiming). t.load) ts
+node_sum : (ts : List NodeTiming) → sum_by (λ (x : LineLoad). x.load) (map load_at_line ts) ≡ sum_by (λ (t : NodeTiming). t.load) ts
 node_sum [] = refl
-node_sum (t ∷ ts) = omega (arith, sum_by-cons (λ (x : LineLoad). x.load) (node_line t) (map node_line ts), sum_by-cons (λ (x : NodeTiming). x.load) t ts, node_sum ts)
+node_sum (t ∷ ts) = omega (arith, sum_by-cons (λ (x : LineLoad). x.load) (load_at_line t) (map load_at_line ts), sum_by-cons (λ (x : NodeTiming). x.load) t ts, node_sum ts)
 
 line_sum : (s : StFuncTree) (ts : List NodeTiming) → sum_by (λ (x : LineLoad). x.load) (line_loads s ts) ≡ (func_costs_by s ts).load
 line_sum s ts =
     let last : LineLoad = record { line = s.end_line; load = slack_load (item_layouts s) (result_uses s ts) } in
-    let a : sum_by (λ (x : LineLoad). x.load) (line_loads s ts) ≡ sum_by (λ (x : LineLoad). x.load) (map node_line ts) + sum_by (λ (x : LineLoad). x.load) (last ∷ []) = sum_by-append (λ (x : LineLoad). x.load) (map node_line ts) (last ∷ []) in
+    let a : sum_by (λ (x : LineLoad). x.load) (line_loads s ts) ≡ sum_by (λ (x : LineLoad). x.load) (map load_at_line ts) + sum_by (λ (x : LineLoad). x.load) (last ∷ []) = sum_by-append (λ (x : LineLoad). x.load) (map load_at_line ts) (last ∷ []) in
     let b : sum_by (λ (x : LineLoad). x.load) (last ∷ []) ≡ last.load + 0 = sum_by-cons (λ (x : LineLoad). x.load) last [] in
     omega (arith, a, b, node_sum ts)
 

@@ -115,12 +115,12 @@ abbrev pub first_over : (limit sum : ℕ) → List LineLoad → Option LineLoad
 first_over limit sum [] = None
 first_over limit sum (l ∷ ls) = if nat_lt limit (sum + l.load) then Some (record { line = l.line; load = sum + l.load }) else first_over limit (sum + l.load) ls
 
-abbrev pub node_line : NodeTiming → LineLoad
-node_line t = record { line = t.line; load = t.load }
+abbrev pub load_at_line : NodeTiming → LineLoad
+load_at_line t = record { line = t.line; load = t.load }
 
 -- the lines of an instance: its nodes, and then its end, where the delays of its results are
 abbrev pub line_loads : StFuncTree → List NodeTiming → List LineLoad
-line_loads s ts = map node_line ts ++ record { line = s.end_line; load = slack_load (item_layouts s) (result_uses s ts) } ∷ []
+line_loads s ts = map load_at_line ts ++ record { line = s.end_line; load = slack_load (item_layouts s) (result_uses s ts) } ∷ []
 
 -- of the program function, which is the last instance
 abbrev pub too_large : (limit : ℕ) → List StFuncTree → Option LineLoad

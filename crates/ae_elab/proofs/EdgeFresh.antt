@@ -9,7 +9,7 @@ use Rattle.ae_netlist.specs.Runs.{Clock, IsRun, Carries}
 use Rattle.ae_vread.specs.declared.module.NetKind.{NetKind}
 use Rattle.ae_vread.specs.declared.module.NetKind.TheVariants.{Input, Wire, OutWire, Reg, OutReg, Memory}
 use Rattle.ae_vread.specs.ModuleTree.{NetTree, ItemTree, nets, assigns, always, ModuleTree}
-use Rattle.ae_judge.specs.Names.{Among, is_memory, is_memory_kind, is_register_kind, item_targets, net_named, passes}
+use Rattle.ae_judge.specs.Names.{Among, is_memory_name, is_memory_kind, is_register_kind, item_targets, net_named, passes}
 use Rattle.ae_runs.specs.Runs.{after_items, next_clock}
 use Rattle.ae_judge.specs.Faults.{IsRepeated, may_repeat}
 use Rattle.ae_judge.specs.Regular.{IsRegular}
@@ -62,7 +62,7 @@ named_memory : (o : Option NetTree) → passes (λ (x : NetTree). is_memory_kind
 named_memory None h = refl
 named_memory (Some x) h = memory_no_register x.kind h
 
-no_repeat_of : (ns : List NetTree) (i : ItemTree) (n : List ℕ) → is_memory ns n ≡ true → may_repeat ns i n ≡ false
+no_repeat_of : (ns : List NetTree) (i : ItemTree) (n : List ℕ) → is_memory_name ns n ≡ true → may_repeat ns i n ≡ false
 no_repeat_of ns (nets drives) n h = refl
 no_repeat_of ns (assigns drives) n h = refl
 no_repeat_of ns (always clock body) n h = named_memory (net_named ns n) h
@@ -90,7 +90,7 @@ repeated_in_parts xs ys n h = elim (place_in_parts xs ys h.0 n h.3) [
 
 module _ (m : ModuleTree) (ok : IsRegular m) where
   -- among the items from number k on
-  never_repeated : (n : List ℕ) → is_memory m.nets n ≡ true → (k : ℕ) (is : List ItemTree) → ((j : ℕ) (i : ItemTree) → slice_get is j ≡ Some i → slice_get m.items (k + j) ≡ Some i) → IsRepeated n (flat_map item_targets is) → ⊥
+  never_repeated : (n : List ℕ) → is_memory_name m.nets n ≡ true → (k : ℕ) (is : List ItemTree) → ((j : ℕ) (i : ItemTree) → slice_get is j ≡ Some i → slice_get m.items (k + j) ≡ Some i) → IsRepeated n (flat_map item_targets is) → ⊥
   never_repeated n memory k [] here h = let e : None ≡ Some n = h.3 in cc
   never_repeated n memory k (i ∷ is) here h =
       let at : slice_get m.items k ≡ Some i = subst (λ j. slice_get m.items j ≡ Some i) (let z : k + 0 ≡ k = omega arith in z) (here 0 i refl) in

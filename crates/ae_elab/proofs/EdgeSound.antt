@@ -7,8 +7,8 @@ use Rattle.ae_netlist.specs.declared.cell.NetId.{NetId}
 use Rattle.ae_vread.specs.declared.module.NetKind.{NetKind}
 use Rattle.ae_vread.specs.declared.module.NetKind.TheVariants.{Input, Wire, OutWire, Reg, OutReg, Memory}
 use Rattle.ae_vread.specs.ModuleTree.{ExprTree, index, StmtTree, set, put, when, either, block_end, block_more, NetTree, ItemTree, nets, assigns, always, ModuleTree}
-use Rattle.ae_judge.specs.Names.{Among, is_input_kind, is_memory, is_memory_kind, is_register, is_register_kind, is_clock, depth_of, names_in, passes, stmt_reads, stmt_targets}
-use Rattle.ae_judge.specs.Widths.{width_of, own_width}
+use Rattle.ae_judge.specs.Names.{Among, is_input_kind, is_memory_name, is_memory_kind, is_register_name, is_register_kind, is_clock, depth_of, names_in, passes, stmt_reads, stmt_targets}
+use Rattle.ae_judge.specs.Widths.{declared_width, own_width}
 use Rattle.ae_judge.specs.Faults.{NetAt, is_place, is_misused, is_misused_in_stmt, is_outside, is_outside_of, is_too_wide, is_too_wide_in_stmt, is_too_wide_in_item}
 use Rattle.ae_judge.specs.Shape.{IsLettered, IsPlaced, EachInStmt, IsShapely, IsLetteredItem, IsPlacedItem}
 use Rattle.ae_judge.specs.Regular.{IsRegular}
@@ -44,19 +44,19 @@ all_from P (x ∷ xs) h = (h 0 x refl, all_from P xs (λ j y e. h (suc j) y e))
 
 module _ (m : ModuleTree) (ok : IsRegular m) (shape : IsShapely m) where
   -- the place of a word in a memory
-  memory_index : (n : List ℕ) (at : ExprTree) → IsNamed m.nets n → is_memory m.nets n ≡ true → ((k : List ℕ) → Among k (names_in at) → IsData m k)
+  memory_index : (n : List ℕ) (at : ExprTree) → IsNamed m.nets n → is_memory_name m.nets n ≡ true → ((k : List ℕ) → Among k (names_in at) → IsData m k)
       → is_misused m.nets at ≡ false → is_too_wide m.nets at ≡ false → is_outside m.nets n at ≡ false → IsLettered at → IsPlaced true at → IsSound m.nets (index n at)
   memory_index n at named memory known right fits inside letters placed = (
     named,
     elim (cases_Bool (is_place at)) [
       | inl t ↦
           let e = is_the_place at t in
-          let within = inside_place (is_memory m.nets n) (width_of m.nets n) (depth_of m.nets n) (own_width m.nets at) (place_number at) (subst (λ u. is_outside_of (is_memory m.nets n) (width_of m.nets n) (depth_of m.nets n) (own_width m.nets at) u ≡ false) e inside) in
+          let within = inside_place (is_memory_name m.nets n) (declared_width m.nets n) (depth_of m.nets n) (own_width m.nets at) (place_number at) (subst (λ u. is_outside_of (is_memory_name m.nets n) (declared_width m.nets n) (depth_of m.nets n) (own_width m.nets at) u ≡ false) e inside) in
           subst (λ b. IsSoundIndex b m.nets n (place_number at) (own_width m.nets at) (IsSound m.nets at)) (sym t) within
       | inr o ↦
           let deep : nat_lt (depth_of m.nets n) (2 ^ own_width m.nets at) ≡ false =
-          sym (outside_varying at (width_of m.nets n) (depth_of m.nets n) (own_width m.nets at) o)
-          ∙ subst (λ b. is_outside_of b (width_of m.nets n) (depth_of m.nets n) (own_width m.nets at) at ≡ false) memory inside in
+          sym (outside_varying at (declared_width m.nets n) (depth_of m.nets n) (own_width m.nets at) o)
+          ∙ subst (λ b. is_outside_of b (declared_width m.nets n) (depth_of m.nets n) (own_width m.nets at) at ≡ false) memory inside in
           subst (λ b. IsSoundIndex b m.nets n (place_number at) (own_width m.nets at) (IsSound m.nets at)) (sym o)
           (record { memory = memory; inside = not_less (depth_of m.nets n) (2 ^ own_width m.nets at) deep; sound = sound_of m ok shape at known right fits letters (not_place at o placed) })
     ],
@@ -131,10 +131,10 @@ module _ (m : ModuleTree) (ok : IsRegular m) (shape : IsShapely m) where
         let y = each (place_of m.nets n) here.net here.at held in
         record { net = y.0; found = y.1 }
 
-    register_ready : (n : List ℕ) (here : IsNamed m.nets n) → is_register m.nets n ≡ true → IsReady m.nets ys n
+    register_ready : (n : List ℕ) (here : IsNamed m.nets n) → is_register_name m.nets n ≡ true → IsReady m.nets ys n
     register_ready n here r = state_ready n here (register_no_input here.net.kind (subst (λ o. passes (λ (x : NetTree). is_register_kind x.kind) o ≡ true) here.found r))
 
-    memory_ready : (n : List ℕ) (here : IsNamed m.nets n) → is_memory m.nets n ≡ true → IsReady m.nets ys n
+    memory_ready : (n : List ℕ) (here : IsNamed m.nets n) → is_memory_name m.nets n ≡ true → IsReady m.nets ys n
     memory_ready n here r = state_ready n here (memory_no_input here.net.kind (subst (λ o. passes (λ (x : NetTree). is_memory_kind x.kind) o ≡ true) here.found r))
 
     stmt_ready : (s : StmtTree) → ((n : List ℕ) → Among n (stmt_reads s) → IsReady m.nets ys n) → IsSoundStmt m.nets s → IsReadyStmt m.nets ys s

@@ -13,7 +13,7 @@ use Rattle.ae_vread.specs.declared.module.NetKind.{NetKind}
 use Rattle.ae_vread.specs.declared.module.NetKind.TheVariants.{Input, Wire, OutWire, Reg, OutReg, Memory}
 use Rattle.ae_vread.specs.ModuleTree.{NetTree, DriveTree, ModuleTree}
 use Rattle.ae_judge.specs.Names.{Among, equations, is_memory_kind, is_register_kind, net_named}
-use Rattle.ae_judge.specs.Widths.{width_of}
+use Rattle.ae_judge.specs.Widths.{declared_width}
 use Rattle.ae_runs.specs.Values.{assigned}
 use Rattle.ae_runs.specs.Runs.{IsSettled, IsStep}
 use Rattle.ae_runs.specs.SameRuns.{cell_depth, input_cells, kind_depth, state_cells}
@@ -85,7 +85,7 @@ module _ (m : ModuleTree) (ok : IsRegular m) (shape : IsShapely m) (nets : List 
       let s : Some y.0 ≡ net = cc in
       at_net p x (Some y.0) hx (keeps p y.0 y.1) ∙ ap number_of s
 
-  named_at : (n : List ℕ) (x : NetTree) → Among x m.nets → x.name ≡ n → (NetAt m (place_of m.nets n) x) × (width_of m.nets n ≡ x.width)
+  named_at : (n : List ℕ) (x : NetTree) → Among x m.nets → x.name ≡ n → (NetAt m (place_of m.nets n) x) × (declared_width m.nets n ≡ x.width)
   named_at n x a e =
       let named = subst (IsNamed m.nets) e (named_of m ok shape x a) in
       let its : net_named m.nets n ≡ Some x = ap (net_named m.nets) (sym e) ∙ net_found m ok x a in

@@ -11,7 +11,7 @@ use Rattle.ae_vread.specs.declared.module.UnOp.TheVariants.{Not, Flip}
 use Rattle.ae_vread.specs.declared.module.BinOp.{BinOp}
 use Rattle.ae_vread.specs.ModuleTree.{ExprTree, name, constant, place, part, index, unary, binary, choice, concat_one, concat_more, NetTree}
 use Rattle.ae_vread.specs.Reading.{concat_of}
-use Rattle.ae_judge.specs.Names.{is_memory}
+use Rattle.ae_judge.specs.Names.{is_memory_name}
 use Rattle.ae_judge.specs.Widths.{own_width}
 use Rattle.ae_runs.specs.Values.{ModuleClock, left_width, right_width, binary_result, value_at}
 use Rattle.ae_gates.specs.declared.compounds.Way.{Way}
@@ -50,7 +50,7 @@ any_width ns c (p ∷ []) u w l = refl
 any_width ns c (p ∷ q ∷ ps) u w l = refl
 
 module _ (from : ℕ) (ns : List NetTree) (nets : List (Option NetId)) where
-  pub index_arm : {E : Type 0} (before cells : List SizedCell) (r : Result NetId E) (n : List ℕ) (x u w : ℕ) (a : ExprTree) → is_memory ns n ≡ true → u ≡ own_width ns a → Has from ns nets before x u a
+  pub index_arm : {E : Type 0} (before cells : List SizedCell) (r : Result NetId E) (n : List ℕ) (x u w : ℕ) (a : ExprTree) → is_memory_name ns n ≡ true → u ≡ own_width ns a → Has from ns nets before x u a
       → IfOk r (λ y. (at : List ℕ → ℕ) (f : List Clock → ℕ → ℕ) → AreNamed ns nets at → IsWord from before x u f → IsWord from cells y.0 w (λ run t. get_or ((read at run t).store n) (f run t) 0))
       → IfOk r (λ y. Has from ns nets cells y.0 w (index n a))
   index_arm before cells r n x u w a memory e p = ok_map r (λ y h at named. same_word _ _

@@ -10,7 +10,7 @@ use Rattle.ae_vread.specs.declared.module.UnOp.TheVariants.{Not, Flip}
 use Rattle.ae_vread.specs.declared.module.BinOp.{BinOp}
 use Rattle.ae_vread.specs.ModuleTree.{ExprTree, name, constant, place, part, index, unary, binary, choice, concat_one, concat_more, NetTree}
 use Rattle.ae_vread.specs.Reading.{concat_of}
-use Rattle.ae_judge.specs.Names.{is_memory}
+use Rattle.ae_judge.specs.Names.{is_memory_name}
 use Rattle.ae_judge.specs.Widths.{own_width}
 use Rattle.ae_judge.specs.Weight.{expr_weight, operator_weight, shift_weight}
 use Rattle.ae_runs.specs.Values.{left_width, right_width, binary_result}
@@ -70,7 +70,7 @@ module _ {E : Type 0} (from : ℕ) (ns : List NetTree) (nets : List (Option NetI
       → Adds r old new k w → IfOk r (λ y. Has from ns nets new.cells y.0 w e) → IfOk r (λ y. IsLowered from ns nets old new most y.0 w e)
   at_once old new r k most w e room ready adds word = lowered from ns nets old old new r k most w e (grows_refl old) (omega arith) (omega arith) ready adds word
 
-  pub index_lowered : (old mid new : Circuit) (r : Result NetId E) (n : List ℕ) (x u w : ℕ) (a : ExprTree) → is_memory ns n ≡ true → u ≡ own_width ns a
+  pub index_lowered : (old mid new : Circuit) (r : Result NetId E) (n : List ℕ) (x u w : ℕ) (a : ExprTree) → is_memory_name ns n ≡ true → u ≡ own_width ns a
       → IsLowered from ns nets old mid (8 * expr_weight a + 1) x u a → Adds r mid new 2 w
       → IfOk r (λ y. (at : List ℕ → ℕ) (f : List Clock → ℕ → ℕ) → AreNamed ns nets at → IsWord from mid.cells x u f → IsWord from new.cells y.0 w (λ run t. get_or ((read at run t).store n) (f run t) 0))
       → IfOk r (λ y. IsLowered from ns nets old new (8 * expr_weight (index n a) + 1) y.0 w (index n a))

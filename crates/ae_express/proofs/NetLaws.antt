@@ -12,8 +12,8 @@ use Rattle.ae_netlist.proofs.Growing.{Keeps, keeps_extends, net_width, extends_a
 use Rattle.ae_vread.specs.declared.module.NetKind.{NetKind}
 use Rattle.ae_vread.specs.declared.module.NetKind.TheVariants.{Input, Wire, OutWire, Reg, OutReg, Memory}
 use Rattle.ae_vread.specs.ModuleTree.{NetTree, index, place}
-use Rattle.ae_judge.specs.Names.{net_named, is_memory, is_memory_kind, passes, depth_of, depth_in, depth_of_kind}
-use Rattle.ae_judge.specs.Widths.{width_of}
+use Rattle.ae_judge.specs.Names.{net_named, is_memory_name, is_memory_kind, passes, depth_of, depth_in, depth_of_kind}
+use Rattle.ae_judge.specs.Widths.{declared_width}
 use Rattle.ae_runs.specs.Values.{ModuleClock, value_at}
 use Rattle.ae_gates.specs.Cells.{Grows, IsWord}
 use Rattle.ae_runs.proofs.Declared.{named_net}
@@ -43,13 +43,13 @@ stands_store Reg cells n w f h = absurd (cc)
 stands_store OutReg cells n w f h = absurd (cc)
 
 -- the net of a name that is no memory
-pub name_net : (ns : List NetTree) (nets : List (Option NetId)) (cells : List SizedCell) (n : List ℕ) (y : NetId) → IsNamed ns n → is_memory ns n ≡ false → AreNets ns nets cells → slice_get nets (place_of ns n) ≡ Some (Some y) → IsNet cells y.0 (width_of ns n)
+pub name_net : (ns : List NetTree) (nets : List (Option NetId)) (cells : List SizedCell) (n : List ℕ) (y : NetId) → IsNamed ns n → is_memory_name ns n ≡ false → AreNets ns nets cells → slice_get nets (place_of ns n) ≡ Some (Some y) → IsNet cells y.0 (declared_width ns n)
 name_net ns nets cells n y h f a g =
     rw (named_width h)
     (stands_word h.net.kind cells y.0 h.net.width (subst (λ o. passes (λ (x : NetTree). is_memory_kind x.kind) o ≡ false) h.found f) (a.each (place_of ns n) h.net y h.at g))
 
 -- and of one that is
-pub name_memory : (ns : List NetTree) (nets : List (Option NetId)) (cells : List SizedCell) (n : List ℕ) (y : NetId) → IsNamed ns n → is_memory ns n ≡ true → AreNets ns nets cells → slice_get nets (place_of ns n) ≡ Some (Some y) → IsMemory cells y.0 (width_of ns n) (depth_of ns n)
+pub name_memory : (ns : List NetTree) (nets : List (Option NetId)) (cells : List SizedCell) (n : List ℕ) (y : NetId) → IsNamed ns n → is_memory_name ns n ≡ true → AreNets ns nets cells → slice_get nets (place_of ns n) ≡ Some (Some y) → IsMemory cells y.0 (declared_width ns n) (depth_of ns n)
 name_memory ns nets cells n y h f a g =
     let e : depth_of ns n ≡ depth_of_kind h.net.kind = ap depth_in h.found in
     rw (named_width h, e)
@@ -92,8 +92,8 @@ varying_address cells n w depth net l = let e : net_width_of cells n ≡ w = net
 pub peek_allowed : (cells : List SizedCell) (w m at depth : ℕ) → IsMemory cells m w depth → IsAddress cells at depth → IsPeek cells w m at
 peek_allowed cells w m at depth p q = record { depth = depth; memory = p; address = q }
 
-pub index_value : (ns : List NetTree) (c : ModuleClock) (n : List ℕ) (k w : ℕ) → is_memory ns n ≡ true → get_or (c.store n) k 0 ≡ value_at ns c w (index n (place k))
+pub index_value : (ns : List NetTree) (c : ModuleClock) (n : List ℕ) (k w : ℕ) → is_memory_name ns n ≡ true → get_or (c.store n) k 0 ≡ value_at ns c w (index n (place k))
 index_value ns c n k w t = sym (cond-true _ _ _ t)
 
-pub bit_value : (ns : List NetTree) (c : ModuleClock) (n : List ℕ) (k w : ℕ) → is_memory ns n ≡ false → c.word n / 2 ^ k % 2 ≡ value_at ns c w (index n (place k))
+pub bit_value : (ns : List NetTree) (c : ModuleClock) (n : List ℕ) (k w : ℕ) → is_memory_name ns n ≡ false → c.word n / 2 ^ k % 2 ≡ value_at ns c w (index n (place k))
 bit_value ns c n k w f = sym (cond-false _ _ _ f)

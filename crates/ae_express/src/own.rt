@@ -3,8 +3,8 @@
 ghost use Rattle.std.specs.Prelude.{◌≡◌, ◌≤◌, if◌then◌else◌, map};
 ghost use Rattle.ae_vread.specs.View.{expr_tree};
 ghost use Rattle.ae_vread.specs.Reading.{concat_of};
-ghost use Rattle.ae_judge.specs.Names.{is_memory};
-ghost use Rattle.ae_judge.specs.Widths.{own_width, width_of};
+ghost use Rattle.ae_judge.specs.Names.{is_memory_name};
+ghost use Rattle.ae_judge.specs.Widths.{own_width, declared_width};
 ghost use Rattle.ae_runs.specs.Named.{IsNamed};
 ghost use Rattle.ae_order.specs.Sound.{IsSound};
 
@@ -15,7 +15,7 @@ use ae_vread::{Expr, UnOp};
 /// The width of a name.
 pub fn name_width(names: &Names<'_>, name: &str) -> u32
     requires named { IsNamed names.now name.now }
-    ensures width { result ≡ width_of names.now name.now }
+    ensures width { result ≡ declared_width names.now name.now }
     ensures low { 1 ≤ result }
     ensures high { result ≤ 64 }
 {
@@ -25,7 +25,7 @@ pub fn name_width(names: &Names<'_>, name: &str) -> u32
 /// The width of one bit or one word of a name.
 fn index_width(names: &Names<'_>, name: &str) -> u32
     requires named { IsNamed names.now name.now }
-    ensures width { result ≡ (if is_memory names.now name.now then width_of names.now name.now else 1) }
+    ensures width { result ≡ (if is_memory_name names.now name.now then declared_width names.now name.now else 1) }
     ensures low { 1 ≤ result }
     ensures high { result ≤ 64 }
 {

@@ -4,8 +4,8 @@ ghost use Rattle.std.specs.Prelude.{◌≡◌, ◌<◌, ◌≤◌, ◌+◌, ◌-
 ghost use Rattle.ae_netlist.specs.Circuit.{IsAddress, IsMemory, IsNet};
 ghost use Rattle.ae_netlist.specs.Runs.{Clock, store_at};
 ghost use Rattle.ae_vread.specs.ModuleTree.{index as index_tree, name as name_tree, part as part_tree, place as place_tree};
-ghost use Rattle.ae_judge.specs.Names.{depth_of, is_memory};
-ghost use Rattle.ae_judge.specs.Widths.{width_of};
+ghost use Rattle.ae_judge.specs.Names.{depth_of, is_memory_name};
+ghost use Rattle.ae_judge.specs.Widths.{declared_width};
 ghost use Rattle.ae_runs.specs.Values.{value_at};
 ghost use Rattle.ae_gates.specs.Cells.{Grows, HasRoom, IsWord};
 ghost use Rattle.ae_runs.specs.Named.{AreNamed, AreNets, IsNamed, IsReady, place_of, read};
@@ -44,7 +44,7 @@ pub fn read_name(
     requires named { IsWordName names.now name.now }
     requires ready { IsReady names.now nets.now name.now }
     requires high { w ≤ 64 }
-    requires within { width_of names.now name.now ≤ w }
+    requires within { declared_width names.now name.now ≤ w }
     requires room { HasRoom nl.old 1 }
     ensures grows { OnOk result (Grows nl.old nl.new) }
     ensures more { OnOk result (length nl.old.cells ≤ length nl.new.cells) }
@@ -74,7 +74,7 @@ pub fn read_part(
     requires named { IsWordName names.now name.now }
     requires ready { IsReady names.now nets.now name.now }
     requires order { low ≤ high }
-    requires inside { high < width_of names.now name.now }
+    requires inside { high < declared_width names.now name.now }
     requires most { w ≤ 64 }
     requires within { high - low + 1 ≤ w }
     requires room { HasRoom nl.old 3 }
@@ -148,7 +148,7 @@ pub fn read_place(
     requires ready { IsReady names.now nets.now name.now }
     requires inside { k < places_of names.now name.now }
     requires high { w ≤ 64 }
-    requires within { (if is_memory names.now name.now then width_of names.now name.now else 1) ≤ w }
+    requires within { (if is_memory_name names.now name.now then declared_width names.now name.now else 1) ≤ w }
     requires room { HasRoom nl.old 3 }
     ensures grows { OnOk result (Grows nl.old nl.new) }
     ensures more { OnOk result (length nl.old.cells ≤ length nl.new.cells) }
@@ -183,11 +183,11 @@ pub fn read_word(
     requires nets { AreNets names.now nets.now nl.old.cells }
     requires named { IsNamed names.now name.now }
     requires ready { IsReady names.now nets.now name.now }
-    requires memory { is_memory names.now name.now ≡ true }
+    requires memory { is_memory_name names.now name.now ≡ true }
     requires inside { 2 ^ own ≤ depth_of names.now name.now }
     requires at { IsNet nl.old.cells at.0 own }
     requires high { w ≤ 64 }
-    requires within { width_of names.now name.now ≤ w }
+    requires within { declared_width names.now name.now ≤ w }
     requires room { HasRoom nl.old 2 }
     ensures grows { OnOk result (Grows nl.old nl.new) }
     ensures more { OnOk result (length nl.old.cells ≤ length nl.new.cells) }

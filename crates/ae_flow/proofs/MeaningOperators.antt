@@ -18,7 +18,7 @@ use Rattle.ae_fold.specs.Folding.{fold_by, word_fold}
 use Rattle.ae_rewrite.specs.declared.cases.Case.{Case}
 use Rattle.ae_rewrite.specs.declared.st_program.MoveOp.TheVariants.{Shift, Up, Select, Same}
 use Rattle.ae_rewrite.specs.LayoutRule.{case_of, inner_of, lanes_of, slots_of, lay_of}
-use Rattle.ae_rewrite.specs.Calls.{Spreading, spread, spread_at, head, operand, is_signed, op_by, plain_op, fold_of, scan_of, shift_of, raw_layout}
+use Rattle.ae_rewrite.specs.Calls.{Spreading, spread, spread_at, head, deciding_argument, is_signed_type, op_by, plain_op, fold_of, scan_of, shift_of, raw_layout}
 use Rattle.ae_rewrite.specs.StProgramTree.{StOpTree, word as st_word, join, first, second, fixed, move, fold}
 use Rattle.ae_eval.specs.Stack.{AreFolds, paired, values_of}
 use Rattle.ae_eval.proofs.Moving.{where_ok-some, shift-room}
@@ -77,12 +77,12 @@ module _ (p : ProgramTree) (f : ℕ) (P : List ℕ → List StTree → List (Lis
 
 -- ---- the operator of a node
 
-operand-plain : (op : WordOp) (is : List ℕ) → (op ≡ Mux → ⊥) → operand op is ≡ head is
+operand-plain : (op : WordOp) (is : List ℕ) → (op ≡ Mux → ⊥) → deciding_argument op is ≡ head is
 operand-plain Mux is h = absurd (h refl)
 operand-plain _ is h = refl
 
-sign-of : (p : ProgramTree) (f i : ℕ) (u : SeqTree) (op : WordOp) (is : List ℕ) → operand op is ≡ i → type_at p f i ≡ Some u → IsSign u (is_signed (type_at p f (operand op is)))
-sign-of p f i u op is e type k same = ap (λ j. is_signed (type_at p f j)) e ∙ ap is_signed (type ∙ ap (λ (z : SeqTree). Some z) same)
+sign-of : (p : ProgramTree) (f i : ℕ) (u : SeqTree) (op : WordOp) (is : List ℕ) → deciding_argument op is ≡ i → type_at p f i ≡ Some u → IsSign u (is_signed_type (type_at p f (deciding_argument op is)))
+sign-of p f i u op is e type k same = ap (λ j. is_signed_type (type_at p f j)) e ∙ ap is_signed_type (type ∙ ap (λ (z : SeqTree). Some z) same)
 
 no-operands : (op : WordOp) (t : SeqTree) → word_type op [] ≡ Some t → ⊥
 no-operands Add t h = none-some t h
@@ -243,18 +243,18 @@ module _ (known : List Callee) (means : List Meaning) (sigs : List Signature) (p
   plain-stands (word op) is [] layouts wss fo h type = absurd (no-operands op t type)
   plain-stands (word op) is (u ∷ []) layouts wss fo h type = by-one p f (Makes (word op) (u ∷ [])) is u layouts wss h (λ i a ws x plain.
       let sign = sign-of p f i u op (i ∷ []) (operand-plain op (i ∷ []) (one-no-choice op u t type)) x.type in
-      rw (← same_Some (st_word (op_by p f op (i ∷ []))) made plain) (one-words op (is_signed (type_at p f (operand op (i ∷ [])))) u t a ws type sign x.layout x.fits))
+      rw (← same_Some (st_word (op_by p f op (i ∷ []))) made plain) (one-words op (is_signed_type (type_at p f (deciding_argument op (i ∷ [])))) u t a ws type sign x.layout x.fits))
   plain-stands (word op) is (u ∷ z ∷ []) layouts wss fo h type = by-two p f (Makes (word op) (u ∷ z ∷ [])) is u z layouts wss h (λ i j a b ws us x y plain.
       let sign = sign-of p f i u op (i ∷ j ∷ []) (operand-plain op (i ∷ j ∷ []) (two-no-choice op u z t type)) x.type in
-      rw (← same_Some (st_word (op_by p f op (i ∷ j ∷ []))) made plain) (two-words op (is_signed (type_at p f (operand op (i ∷ j ∷ [])))) u z t a b ws us type sign x.layout x.fits y.fits))
+      rw (← same_Some (st_word (op_by p f op (i ∷ j ∷ []))) made plain) (two-words op (is_signed_type (type_at p f (deciding_argument op (i ∷ j ∷ [])))) u z t a b ws us type sign x.layout x.fits y.fits))
   plain-stands (word op) is (u ∷ z ∷ w ∷ []) layouts wss fo h type = by-three p f (Makes (word op) (u ∷ z ∷ w ∷ [])) is u z w layouts wss h (λ i j m a b d ws us vs x y q plain.
-      let arm : operand op (i ∷ j ∷ m ∷ []) ≡ j = ap (λ o. operand o (i ∷ j ∷ m ∷ [])) (choice-line op u z w t type).is in
+      let arm : deciding_argument op (i ∷ j ∷ m ∷ []) ≡ j = ap (λ o. deciding_argument o (i ∷ j ∷ m ∷ [])) (choice-line op u z w t type).is in
       let sign = sign-of p f j z op (i ∷ j ∷ m ∷ []) arm y.type in
-      rw (← same_Some (st_word (op_by p f op (i ∷ j ∷ m ∷ []))) made plain) (choice-words op (is_signed (type_at p f (operand op (i ∷ j ∷ m ∷ [])))) u z w t a b d ws us vs type sign y.layout x.fits y.fits q.fits))
+      rw (← same_Some (st_word (op_by p f op (i ∷ j ∷ m ∷ []))) made plain) (choice-words op (is_signed_type (type_at p f (deciding_argument op (i ∷ j ∷ m ∷ [])))) u z w t a b d ws us vs type sign y.layout x.fits y.fits q.fits))
   plain-stands (word op) is (a ∷ b ∷ d ∷ e ∷ us) layouts wss fo h type = absurd (many-operands op a b d e us t type)
   plain-stands (cast_int v) is (u ∷ []) layouts wss fo h type = by-one p f (Makes (cast_int v) (u ∷ [])) is u layouts wss h (λ i a ws x plain.
       let sign = sign-of p f i u (Cast v) (i ∷ []) refl x.type in
-      rw (← same_Some (st_word (op_by p f (Cast v) (i ∷ []))) made plain) (cast-words v (is_signed (type_at p f i)) u t a ws type sign x.layout x.fits))
+      rw (← same_Some (st_word (op_by p f (Cast v) (i ∷ []))) made plain) (cast-words v (is_signed_type (type_at p f i)) u t a ws type sign x.layout x.fits))
   plain-stands (cast_int v) is [] layouts wss fo h type = absurd (none-some t type)
   plain-stands (cast_int v) is (u ∷ z ∷ us) layouts wss fo h type = absurd (none-some t type)
   plain-stands pair is (u ∷ z ∷ []) layouts wss fo h type = by-two p f (Makes pair (u ∷ z ∷ [])) is u z layouts wss h (λ i j a b ws us x y plain.

@@ -16,7 +16,7 @@ use Rattle.ae_eval.proofs.Wording.{one-line, two-line, choice-line}
 use Rattle.ae_sttype.specs.StTree.{StTree}
 use Rattle.ae_ops.specs.Blocks.{stream_of}
 use Rattle.ae_ops.specs.Words.{operand_widths, word_stream}
-use Rattle.ae_rewrite.specs.Calls.{op_by, is_signed, operand, head}
+use Rattle.ae_rewrite.specs.Calls.{op_by, is_signed_type, deciding_argument, head}
 use Rattle.ae_flow.specs.Flow.{width_of, main_argument, first_width}
 use Rattle.ae_flow.specs.Fitted.{FitsWord}
 use Rattle.ae_ports.specs.Ports.{streams_of}
@@ -70,15 +70,15 @@ main_of false Mux h = absurd (omega arith)
 main_of true _ h = refl
 main_of false _ h = refl
 
-operand_of : (op : WordOp) (args : List ℕ) → arity_of op ≤ 2 → operand op args ≡ head args
+operand_of : (op : WordOp) (args : List ℕ) → arity_of op ≤ 2 → deciding_argument op args ≡ head args
 operand_of Mux args h = absurd (omega arith)
 operand_of _ args h = refl
 
 -- ---- an operator on words of a kind
 
--- the operator by the kind of the operand
-op_of : (p : ProgramTree) (f : ℕ) (op : WordOp) (args : List ℕ) (k : WordKind) → type_at p f (operand op args) ≡ Some (atom (word k)) → op_by p f op args ≡ op_for k.signed op
-op_of p f op args k type = ap (λ o. op_for (is_signed o) op) type
+-- the operator by the kind of the deciding_argument
+op_of : (p : ProgramTree) (f : ℕ) (op : WordOp) (args : List ℕ) (k : WordKind) → type_at p f (deciding_argument op args) ≡ Some (atom (word k)) → op_by p f op args ≡ op_for k.signed op
+op_of p f op args k type = ap (λ o. op_for (is_signed_type o) op) type
 
 fits_by : (op : WordOp) (w : ℕ) (ins : List StTree) (s : StTree) → HasRange op → 1 ≤ w → w ≤ 64 → width_of op ins ≡ w → streams_of ins ≡ map word_stream (operand_widths op w) → stream_of s ≡ word_stream (result_width_of op w) → FitsWord op ins s
 fits_by op w ins s range low high is streams out = record { range = range; low = rw is low; high = rw is high; ins = rw is streams; out = rw is out }

@@ -7,7 +7,7 @@ use Rattle.ae_vread.specs.ItemReading.{read_module}
 use Rattle.ae_vread.proofs.ReadLaws.{spelled_read}
 use Rattle.ae_elab.specs.Faults.{IsWellFormed}
 use Rattle.ae_elab.specs.PlainRun.{plain_run}
-use Rattle.ae_elab.specs.Runs.{HasOneRun}
+use Rattle.ae_elab.specs.Runs.{HasOneModuleRun}
 use Rattle.ae_runs.proofs.Once.{only_one}
 use Rattle.ae_runs.proofs.Made.{plain_is_run}
 use Rattle.ae_verilog.specs.Notes.{lines_of, noted_module}
@@ -30,7 +30,7 @@ one-tree text m n one other =
     let again : read_module tokens ≡ Ok n = spelled_read text tokens n one.written other in
     cc
 
-one-run : (m : ModuleTree) → IsWellFormed m → HasOneRun m
+one-run : (m : ModuleTree) → IsWellFormed m → HasOneModuleRun m
 one-run m ok given shaped =
     let made = plain_is_run m ok given shaped in
     (plain_run m given, made, λ other r t l. only_one m ok given (plain_run m given) other made r t l)

@@ -10,7 +10,7 @@ use Rattle.ae_netlist.specs.declared.cell.Cell.TheVariants.{Input, Const, Op, Re
 use Rattle.ae_netlist.specs.declared.cell.SizedCell.{SizedCell}
 use Rattle.ae_netlist.specs.Circuit.{Circuit, operand, width_of}
 use Rattle.ae_vread.specs.ModuleTree.{binary, constant, part}
-use Rattle.ae_verilog.specs.NetlistModule.{net_name, net_value, each_numbered, op_value, shifted, cast_to}
+use Rattle.ae_verilog.specs.NetlistModule.{net_name, net_value, each_numbered, op_expression, shifted_net, cast_to}
 use Rattle.ae_vread.specs.declared.module.BinOp.{BinOp}
 use Rattle.ae_vread.specs.declared.module.BinOp.TheVariants.{Shl as LeftBy, Shr as RightBy}
 use Rattle.ae_verilog.specs.Notes.{NoteTree, lines_of}
@@ -18,7 +18,7 @@ use Rattle.ae_verilog.specs.ReportLines.{ReportTree, report_lines}
 use Rattle.ae_verilog.specs.Text.{expr_text, sign_text, shift_text, op_text, value_text, widened_text, declaration_text, noted, header_text, assignment_text, edge_text, whole_text}
 use Rattle.ae_headline.specs.Listing.{op_line, wire, quiet, cell_line, edge_line, listing}
 
-shift_same : (lines : ℕ → ℕ) (cells : List SizedCell) (sign : BinOp) (w by a : ℕ) → expr_text (shifted lines cells sign w a by) ≡ shift_text (net_name lines cells a) (sign_text sign) w by
+shift_same : (lines : ℕ → ℕ) (cells : List SizedCell) (sign : BinOp) (w by a : ℕ) → expr_text (shifted_net lines cells sign w a by) ≡ shift_text (net_name lines cells a) (sign_text sign) w by
 shift_same lines cells sign w by a = choose (nat_lt by w)
   where
     choose : (t : Bool) → expr_text (if t then binary sign (net_value lines cells a) (constant 6 by true) else constant w 0 true)
@@ -34,7 +34,7 @@ cast_same lines cells to a = choose (nat_lt to (width_of cells a))
     choose true = refl
     choose false = refl
 
-value_same : (lines : ℕ → ℕ) (cells : List SizedCell) (w : ℕ) (op : WordOp) (a b c : ℕ) → expr_text (op_value lines cells w op a b c) ≡ op_line op w (width_of cells a) (net_name lines cells a) (net_name lines cells b) (net_name lines cells c)
+value_same : (lines : ℕ → ℕ) (cells : List SizedCell) (w : ℕ) (op : WordOp) (a b c : ℕ) → expr_text (op_expression lines cells w op a b c) ≡ op_line op w (width_of cells a) (net_name lines cells a) (net_name lines cells b) (net_name lines cells c)
 value_same lines cells w Add a b c = refl
 value_same lines cells w Sub a b c = refl
 value_same lines cells w Mul a b c = refl
@@ -56,14 +56,14 @@ value_same lines cells w SMax a b c = refl
 value_same lines cells w (Sar by) a b c = refl
 value_same lines cells w (SCast to) a b c = refl
 
-plain_value : (lines : ℕ → ℕ) (cells : List SizedCell) (net w a b d : ℕ) (op : WordOp) → value_text lines w net (op_value lines cells w op a b d) ≡ wire lines w net (op_line op w (width_of cells a) (net_name lines cells a) (net_name lines cells b) (net_name lines cells d))
+plain_value : (lines : ℕ → ℕ) (cells : List SizedCell) (net w a b d : ℕ) (op : WordOp) → value_text lines w net (op_expression lines cells w op a b d) ≡ wire lines w net (op_line op w (width_of cells a) (net_name lines cells a) (net_name lines cells b) (net_name lines cells d))
 plain_value lines cells net w a b d op = ap (wire lines w net) (value_same lines cells w op a b d)
 
 op_same : (lines : ℕ → ℕ) (cells : List SizedCell) (net w a b d : ℕ) (op : WordOp)
     → op_text lines cells w net op a b d ≡ quiet op w (width_of cells a) (wire lines w net (op_line op w (width_of cells a) (net_name lines cells a) (net_name lines cells b) (net_name lines cells d)))
 op_same lines cells net w a b d (Cast to) = choose (nat_lt (width_of cells a) w)
   where
-    choose : (t : Bool) → (if t then widened_text lines w net (op_value lines cells w (Cast to) a b d) else value_text lines w net (op_value lines cells w (Cast to) a b d))
+    choose : (t : Bool) → (if t then widened_text lines w net (op_expression lines cells w (Cast to) a b d) else value_text lines w net (op_expression lines cells w (Cast to) a b d))
         ≡ (if t then codes "  // verilator lint_off WIDTH\n" ++ (wire lines w net (op_line (Cast to) w (width_of cells a) (net_name lines cells a) (net_name lines cells b) (net_name lines cells d)) ++ codes "  // verilator lint_on WIDTH\n")
         else wire lines w net (op_line (Cast to) w (width_of cells a) (net_name lines cells a) (net_name lines cells b) (net_name lines cells d)))
     choose true = ap (λ l. codes "  // verilator lint_off WIDTH\n" ++ (l ++ codes "  // verilator lint_on WIDTH\n")) (plain_value lines cells net w a b d (Cast to))

@@ -10,7 +10,7 @@ use Rattle.ae_netlist.specs.Circuit.{Circuit}
 use Rattle.ae_vread.specs.ModuleTree.{ModuleTree}
 use Rattle.ae_vread.specs.Spells.{Spells}
 use Rattle.ae_elab.specs.Faults.{IsWellFormed}
-use Rattle.ae_elab.specs.Runs.{HasOneRun}
+use Rattle.ae_elab.specs.Runs.{HasOneModuleRun}
 use Rattle.ae_ports.specs.CircuitFor.{IsCircuitFor}
 use Rattle.ae_verilog.specs.ReportLines.{ReportTree, report_lines}
 use Rattle.ae_verilog.specs.Notes.{NoteTree, ArePrinted}
@@ -44,7 +44,7 @@ pub record MeansModule (p : ProgramTree) (slowdown latency : ℕ) (text : List �
   pub spells : Spells text tree
   pub only : (other : ModuleTree) → Spells text other → other ≡ tree
   pub formed : IsWellFormed tree
-  pub one_run : HasOneRun tree
+  pub one_run : HasOneModuleRun tree
   pub correct : IsCorrect tree p slowdown latency
 
 -- the listing of any netlist that has the ports of a program and makes its blocks, and is not too large to be written, means

@@ -6,7 +6,7 @@ use Rattle.std.proofs.lemmas.Bool.{cases_Bool, or_cases, and_parts}
 use Rattle.std.proofs.lemmas.Bool.Decides.{nat_tests}
 use Rattle.std.proofs.lemmas.List.{append-nil}
 use Rattle.ae_vread.specs.ModuleTree.{NetTree, ItemTree, ModuleTree}
-use Rattle.ae_judge.specs.Names.{Among, is_input, item_targets}
+use Rattle.ae_judge.specs.Names.{Among, is_input_name, item_targets}
 use Rattle.ae_judge.specs.Shape.{IsShapely}
 use Rattle.ae_judge.specs.Places.{Entry, with_place, HasNames}
 use Rattle.ae_judge.specs.Faults.{ItemAt, DeclaresTwice, DrivesTwice, IsRepeated, may_repeat, HasTwice}
@@ -119,14 +119,14 @@ module _ (ns : List NetTree) where
       by false = refl
 
   abbrev is_taken : List (List ℕ) → List ℕ → Bool
-  is_taken g n = is_input ns n || is_in g n
+  is_taken g n = is_input_name ns n || is_in g n
 
   abbrev twice_test : ℕ → List (List ℕ) → ItemTree → Bool
   twice_test k g i = list_any (is_taken g) (item_targets i) || is_some (scan (repeat_test i) self_name 0 [] (item_targets i))
 
   twice_same : (k : ℕ) (es : List Entry) (given : List (List ℕ)) → HasNames es given → (i : ItemTree) → drives_twice ns es i ≡ twice_test k given i
   twice_same k es given h i =
-      λ j. any_same (is_driven ns es) (is_taken given) (item_targets i) (λ n. ap (λ b. is_input ns n || b) (h n)) j || repeat_scan i 0 [] [] no_names (item_targets i) j
+      λ j. any_same (is_driven ns es) (is_taken given) (item_targets i) (λ n. ap (λ b. is_input_name ns n || b) (h n)) j || repeat_scan i 0 [] [] no_names (item_targets i) j
 
   twice_scan : (k : ℕ) (es : List Entry) (given : List (List ℕ)) → HasNames es given → (is : List ItemTree) → first_twice ns k es is ≡ option_map (λ r. r.0) (scan twice_test item_targets k given is)
   twice_scan k es given h [] = refl
@@ -146,7 +146,7 @@ module _ (m : ModuleTree) where
   -- how an item drives a name twice
   abbrev How : ℕ → ItemTree → List ℕ → Type 0
   How k i n =
-      (is_input m.nets n ≡ true)
+      (is_input_name m.nets n ≡ true)
       ⊎ (((j : ℕ) × (before : ItemTree) × (j < k) × ItemAt m j before × Among n (item_targets before))
       ⊎ (IsRepeated n (item_targets i) × (may_repeat m.nets i n ≡ false)))
 

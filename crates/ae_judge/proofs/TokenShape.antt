@@ -8,7 +8,7 @@ use Rattle.std.proofs.lemmas.Bool.{cases_Bool, cond-true, cond-false}
 use Rattle.std.proofs.lemmas.Bool.Decides.{nat_tests}
 use Rattle.ae_vtoken.specs.declared.token.Key.{Key}
 use Rattle.ae_vread.specs.Tables.{keys, signs}
-use Rattle.ae_vread.specs.Tokens.{TokenTree, Name, Unused, Zero, Decimal, Sized, Mark, look_up, is_unused, is_blank, is_letter, is_word_byte, Place, Between, InLine, Opened, InBlock, Closing, after_gap, word_of, base_of, are_digits, constant, sized_of, decimal_of, number_of, token_of, AreTokens, No_more, Then}
+use Rattle.ae_vread.specs.Tokens.{TokenTree, Name, Unused, Zero, Decimal, Sized, Mark, look_up, is_unused, is_blank, is_word_start, is_word_byte, Place, Between, InLine, Opened, InBlock, Closing, after_gap, word_of, base_of, are_digits, constant, sized_of, decimal_of, number_from, token_of, AreTokens, No_more, Then}
 use Rattle.ae_judge.specs.Shape.{IsConstant}
 
 abbrev pub IsSound : TokenTree → Type 0
@@ -74,7 +74,7 @@ sized_sound d ds (b ∷ bs) t dig h = by (starts_with nat_eq (d ∷ ds) (codes "
     by false s true h =
         subst IsSound (same_some _ t h) (constant_sound (digits_value 10 (d ∷ ds)) _ (after_above (0 * 10 + digit_value d) ds (let q = first_digit d dig s in omega arith)))
 
-number_sound : (d : ℕ) (ds cs : List ℕ) (t : TokenTree) → is_ascii_digit d ≡ true → number_of (d ∷ ds) cs ≡ Some t → IsSound t
+number_sound : (d : ℕ) (ds cs : List ℕ) (t : TokenTree) → is_ascii_digit d ≡ true → number_from (d ∷ ds) cs ≡ Some t → IsSound t
 number_sound d ds [] t dig h = subst IsSound (same_some _ t h) (decimal_sound (d ∷ ds))
 number_sound d ds (c ∷ cs) t dig h = elim (cases_Bool (is_ascii_digit c)) [
   | inl e ↦ number_sound d (ds ++ c ∷ []) cs t dig (sym (cond-true _ _ _ e) ∙ h)
@@ -94,7 +94,7 @@ mark_sound (Some s) t h = subst IsSound (same_some _ t h) tt
 pub token_sound : (piece : List ℕ) (t : TokenTree) → token_of piece ≡ Some t → IsSound t
 unfolding token_of
 token_sound [] t h = absurd (none_some t h)
-token_sound (b ∷ bs) t h = elim (cases_Bool (is_letter b)) [
+token_sound (b ∷ bs) t h = elim (cases_Bool (is_word_start b)) [
   | inl letter ↦
       let h' = sym (cond-true _ _ _ letter) ∙ h in
       elim (cases_Bool (list_all is_word_byte bs)) [

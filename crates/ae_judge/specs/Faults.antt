@@ -4,8 +4,8 @@ use Rattle.std.specs.List.{list_any}
 use Rattle.ae_vread.specs.ModuleTree.{ExprTree, name, constant, place, part, index, unary, binary, choice, concat_one, concat_more, StmtTree, set, put, when, either, block_end, block_more, NetTree, DriveTree, ItemTree, nets, assigns, always, ModuleTree}
 use Rattle.ae_judge.specs.declared.fault.ElabFault.{ElabFault}
 use Rattle.ae_judge.specs.declared.fault.ElabFault.TheVariants.{Unknown, Twice, Kind, Undriven, Width, Loop, Large, Memory}
-use Rattle.ae_judge.specs.Names.{Among, is_input_kind, depth_of_kind, is_input, is_wire, is_register, is_memory, is_ranged, is_one_bit_input, depth_of, is_clock, names_in, stmt_reads, stmt_targets, target_of, item_reads, item_targets, equations}
-use Rattle.ae_judge.specs.Widths.{width_of, own_width}
+use Rattle.ae_judge.specs.Names.{Among, is_input_kind, depth_of_kind, is_input_name, is_wire_name, is_register_name, is_memory_name, is_ranged, is_one_bit_input, depth_of, is_clock, names_in, stmt_reads, stmt_targets, target_of, item_reads, item_targets, equations}
+use Rattle.ae_judge.specs.Widths.{declared_width, own_width}
 use Rattle.ae_judge.specs.Weight.{weight}
 
 -- item k, where the first is 1 and the header 0
@@ -43,12 +43,12 @@ IsRepeated n ns = (p : ℕ) × (q : ℕ) × (p < q) × (slice_get ns p ≡ Some 
 abbrev pub may_repeat : List NetTree → ItemTree → List ℕ → Bool
 may_repeat ns (nets drives) n = false
 may_repeat ns (assigns drives) n = false
-may_repeat ns (always clock body) n = is_register ns n
+may_repeat ns (always clock body) n = is_register_name ns n
 
 -- the header drives the inputs
 abbrev pub DrivesTwice : ModuleTree → ℕ → Type 0
 DrivesTwice m k = (i : ItemTree) × (n : List ℕ) × ItemAt m k i × Among n (item_targets i) × (
-    (is_input m.nets n ≡ true)
+    (is_input_name m.nets n ≡ true)
     ⊎ (((j : ℕ) × (earlier : ItemTree) × (j < k) × ItemAt m j earlier × Among n (item_targets earlier))
     ⊎ (IsRepeated n (item_targets i) × (may_repeat m.nets i n ≡ false))))
 
@@ -62,11 +62,11 @@ is_place _ = false
 -- in the expression a memory stands without an index or is cut, or a name without a range is, or an index of what is no
 -- memory is no decimal number
 abbrev pub is_misused : List NetTree → ExprTree → Bool
-is_misused ns (name n) = is_memory ns n
+is_misused ns (name n) = is_memory_name ns n
 is_misused ns (constant size value fits) = false
 is_misused ns (place k) = false
-is_misused ns (part n high low) = is_memory ns n || not (is_ranged ns n)
-is_misused ns (index n at) = is_misused ns at || (not (is_memory ns n) && not (is_ranged ns n && is_place at))
+is_misused ns (part n high low) = is_memory_name ns n || not (is_ranged ns n)
+is_misused ns (index n at) = is_misused ns at || (not (is_memory_name ns n) && not (is_ranged ns n && is_place at))
 is_misused ns (unary op a) = is_misused ns a
 is_misused ns (binary op a b) = is_misused ns a || is_misused ns b
 is_misused ns (choice test a b) = is_misused ns test || (is_misused ns a || is_misused ns b)
@@ -75,8 +75,8 @@ is_misused ns (concat_more a rest) = is_misused ns a || is_misused ns rest
 
 -- or an assignment without an index is not of a register, or one with an index not of a memory
 abbrev pub is_misused_in_stmt : List NetTree → StmtTree → Bool
-is_misused_in_stmt ns (set n value) = not (is_register ns n) || is_misused ns value
-is_misused_in_stmt ns (put n at value) = not (is_memory ns n) || (is_misused ns at || is_misused ns value)
+is_misused_in_stmt ns (set n value) = not (is_register_name ns n) || is_misused ns value
+is_misused_in_stmt ns (put n at value) = not (is_memory_name ns n) || (is_misused ns at || is_misused ns value)
 is_misused_in_stmt ns (when test taken) = is_misused ns test || is_misused_in_stmt ns taken
 is_misused_in_stmt ns (either test taken otherwise) = is_misused ns test || (is_misused_in_stmt ns taken || is_misused_in_stmt ns otherwise)
 is_misused_in_stmt ns block_end = false
@@ -84,7 +84,7 @@ is_misused_in_stmt ns (block_more first rest) = is_misused_in_stmt ns first || i
 
 -- an equation is not of a wire
 abbrev pub is_misused_in_drive : List NetTree → DriveTree → Bool
-is_misused_in_drive ns d = not (is_wire ns d.name) || is_misused ns d.value
+is_misused_in_drive ns d = not (is_wire_name ns d.name) || is_misused ns d.value
 
 -- the clock of each `always` item is the one clock, an input of one bit
 abbrev pub is_misused_in_item : ModuleTree → ItemTree → Bool
@@ -111,14 +111,14 @@ is_outside_of false width depth w (place k) = nat_le width k
 is_outside_of false width depth w _ = false
 
 abbrev pub is_outside : List NetTree → List ℕ → ExprTree → Bool
-is_outside ns n at = is_outside_of (is_memory ns n) (width_of ns n) (depth_of ns n) (own_width ns at) at
+is_outside ns n at = is_outside_of (is_memory_name ns n) (declared_width ns n) (depth_of ns n) (own_width ns at) at
 
 -- in the expression a constant does not fit, a select or an index may lie outside, or a concatenation has more than 64 bits
 abbrev pub is_too_wide : List NetTree → ExprTree → Bool
 is_too_wide ns (name n) = false
 is_too_wide ns (constant size value fits) = not fits
 is_too_wide ns (place k) = false
-is_too_wide ns (part n high low) = nat_lt high low || nat_le (width_of ns n) high
+is_too_wide ns (part n high low) = nat_lt high low || nat_le (declared_width ns n) high
 is_too_wide ns (index n at) = is_too_wide ns at || is_outside ns n at
 is_too_wide ns (unary op a) = is_too_wide ns a
 is_too_wide ns (binary op a b) = is_too_wide ns a || is_too_wide ns b

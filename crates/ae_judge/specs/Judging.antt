@@ -2,7 +2,7 @@
 use Rattle.std.specs.Prelude.{ℕ, ◌+◌, Bool, false, not, ◌&&◌, ◌||◌, if◌then◌else◌, List, [], ◌∷◌, ◌++◌, Option, Some, None, is_some, min, nat_lt, map, flat_map, find, option_map}
 use Rattle.std.specs.List.{list_any}
 use Rattle.ae_vread.specs.ModuleTree.{NetTree, DriveTree, ItemTree, nets, assigns, always, ModuleTree}
-use Rattle.ae_judge.specs.Names.{net_named, passes, is_input_kind, is_input, is_one_bit_input, is_named, names_in, drive_reads, target_of, stmt_reads, stmt_targets, item_reads, item_targets}
+use Rattle.ae_judge.specs.Names.{net_named, passes, is_input_kind, is_input_name, is_one_bit_input, is_named, names_in, drive_reads, target_of, stmt_reads, stmt_targets, item_reads, item_targets}
 use Rattle.ae_judge.specs.Places.{Entry, place_in, with_place}
 use Rattle.ae_judge.specs.Faults.{Never, IsFirst, may_repeat, is_misused_in_drive, is_misused_in_stmt, is_too_large, HasUnknown, HasTwice, HasKind, HasUndriven, HasWidth}
 use Rattle.ae_judge.specs.declared.fault.ElabFault.{ElabFault}
@@ -62,7 +62,7 @@ first_again es [] = None
 first_again es (x ∷ xs) = if has_place es x.name then Some x.item else first_again (with_place es x.name 0) xs
 
 abbrev pub is_driven : List NetTree → List Entry → List ℕ → Bool
-is_driven ns es n = is_input ns n || has_place es n
+is_driven ns es n = is_input_name ns n || has_place es n
 
 -- a name comes again that may not
 abbrev pub repeats : List NetTree → ItemTree → List Entry → List (List ℕ) → Bool

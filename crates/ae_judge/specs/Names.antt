@@ -46,17 +46,17 @@ abbrev pub passes : (NetTree → Bool) → Option NetTree → Bool
 passes test None = false
 passes test (Some x) = test x
 
-abbrev pub is_input : List NetTree → List ℕ → Bool
-is_input ns n = passes (λ x. is_input_kind x.kind) (net_named ns n)
+abbrev pub is_input_name : List NetTree → List ℕ → Bool
+is_input_name ns n = passes (λ x. is_input_kind x.kind) (net_named ns n)
 
-abbrev pub is_wire : List NetTree → List ℕ → Bool
-is_wire ns n = passes (λ x. is_wire_kind x.kind) (net_named ns n)
+abbrev pub is_wire_name : List NetTree → List ℕ → Bool
+is_wire_name ns n = passes (λ x. is_wire_kind x.kind) (net_named ns n)
 
-abbrev pub is_register : List NetTree → List ℕ → Bool
-is_register ns n = passes (λ x. is_register_kind x.kind) (net_named ns n)
+abbrev pub is_register_name : List NetTree → List ℕ → Bool
+is_register_name ns n = passes (λ x. is_register_kind x.kind) (net_named ns n)
 
-abbrev pub is_memory : List NetTree → List ℕ → Bool
-is_memory ns n = passes (λ x. is_memory_kind x.kind) (net_named ns n)
+abbrev pub is_memory_name : List NetTree → List ℕ → Bool
+is_memory_name ns n = passes (λ x. is_memory_kind x.kind) (net_named ns n)
 
 -- whether it is declared with a range
 abbrev pub is_ranged : List NetTree → List ℕ → Bool

@@ -5,15 +5,15 @@ use Rattle.ae_vread.specs.declared.module.UnOp.TheVariants.{Not, Flip}
 use Rattle.ae_vread.specs.declared.module.BinOp.{BinOp}
 use Rattle.ae_vread.specs.declared.module.BinOp.TheVariants.{Mul, Add, Sub, Shl, Shr, And, Xor, Or}
 use Rattle.ae_vread.specs.ModuleTree.{ExprTree, name, constant, place, part, index, unary, binary, choice, concat_one, concat_more, NetTree}
-use Rattle.ae_judge.specs.Names.{net_named, is_memory}
+use Rattle.ae_judge.specs.Names.{net_named, is_memory_name}
 
-abbrev pub width_in : Option NetTree → ℕ
-width_in None = 0
-width_in (Some x) = x.width
+abbrev pub declared_width_in : Option NetTree → ℕ
+declared_width_in None = 0
+declared_width_in (Some x) = x.width
 
 -- the width with which a name is declared; a memory's is that of its words
-abbrev pub width_of : List NetTree → List ℕ → ℕ
-width_of ns n = width_in (net_named ns n)
+abbrev pub declared_width : List NetTree → List ℕ → ℕ
+declared_width ns n = declared_width_in (net_named ns n)
 
 abbrev pub unary_width : UnOp → ℕ → ℕ
 unary_width Not a = 1
@@ -33,11 +33,11 @@ binary_width _ a b = 1
 
 -- the own width of an expression
 abbrev pub own_width : List NetTree → ExprTree → ℕ
-own_width ns (name n) = width_of ns n
+own_width ns (name n) = declared_width ns n
 own_width ns (constant size value fits) = size
 own_width ns (place k) = 0
 own_width ns (part n high low) = high - low + 1
-own_width ns (index n at) = if is_memory ns n then width_of ns n else 1
+own_width ns (index n at) = if is_memory_name ns n then declared_width ns n else 1
 own_width ns (unary op a) = unary_width op (own_width ns a)
 own_width ns (binary op a b) = binary_width op (own_width ns a) (own_width ns b)
 own_width ns (choice test a b) = max (own_width ns a) (own_width ns b)

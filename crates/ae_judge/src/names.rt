@@ -2,8 +2,8 @@
 
 ghost use Rattle.std.specs.Prelude.{◌≡◌, ◌<◌, IfOk, IfSome, length, map, option_and_then, option_map, slice_get};
 ghost use Rattle.ae_vread.specs.View.{net_tree};
-ghost use Rattle.ae_judge.specs.Names.{net_named, is_input, is_wire, is_register, is_memory, is_ranged, is_one_bit_input, depth_of, is_input_kind, is_wire_kind, is_register_kind, is_memory_kind, depth_of_kind};
-ghost use Rattle.ae_judge.specs.Widths.{width_of};
+ghost use Rattle.ae_judge.specs.Names.{net_named, is_input_name, is_wire_name, is_register_name, is_memory_name, is_ranged, is_one_bit_input, depth_of, is_input_kind, is_wire_kind, is_register_kind, is_memory_kind, depth_of_kind};
+ghost use Rattle.ae_judge.specs.Widths.{declared_width};
 
 use crate::places::Places;
 use ae_vread::{NetKind, VNet};
@@ -60,7 +60,7 @@ impl<'m> Names<'m> {
     }
 
     pub fn is_input(&self, name: &str) -> bool
-        ensures { result ≡ is_input self.now name.now }
+        ensures { result ≡ is_input_name self.now name.now }
     {
         match self.net(name) {
             Some(net) => is_input_kind(net.kind),
@@ -69,7 +69,7 @@ impl<'m> Names<'m> {
     }
 
     pub fn is_wire(&self, name: &str) -> bool
-        ensures { result ≡ is_wire self.now name.now }
+        ensures { result ≡ is_wire_name self.now name.now }
     {
         match self.net(name) {
             Some(net) => is_wire_kind(net.kind),
@@ -78,7 +78,7 @@ impl<'m> Names<'m> {
     }
 
     pub fn is_register(&self, name: &str) -> bool
-        ensures { result ≡ is_register self.now name.now }
+        ensures { result ≡ is_register_name self.now name.now }
     {
         match self.net(name) {
             Some(net) => is_register_kind(net.kind),
@@ -87,7 +87,7 @@ impl<'m> Names<'m> {
     }
 
     pub fn is_memory(&self, name: &str) -> bool
-        ensures { result ≡ is_memory self.now name.now }
+        ensures { result ≡ is_memory_name self.now name.now }
     {
         match self.net(name) {
             Some(net) => is_memory_kind(net.kind),
@@ -116,7 +116,7 @@ impl<'m> Names<'m> {
 
     /// The width in bits; a memory's is that of its words, and that of no net 0.
     pub fn width(&self, name: &str) -> u32
-        ensures { result ≡ width_of self.now name.now }
+        ensures { result ≡ declared_width self.now name.now }
     {
         match self.net(name) {
             Some(net) => net.width,

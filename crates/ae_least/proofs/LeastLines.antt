@@ -18,12 +18,12 @@ use Rattle.ae_fuse.specs.declared.certificate.Certificate.{Certificate}
 use Rattle.ae_fuse.specs.Certified.{certificate_tree}
 use Rattle.ae_fuse.specs.Fused.{FusedView, IsFusedOf, outs_of}
 use Rattle.ae_fuse.specs.Laws.{LatencyIsLeast}
-use Rattle.ae_least.specs.LeastTexts.{latency_line, shown_lines, IsLeastText, IsShown}
+use Rattle.ae_least.specs.LeastTexts.{latency_line, shown_lines, IsLeastText, HasCertificateLine}
 use Rattle.ae_least.proofs.Lower.{none-is-faster}
 
 -- the line of the certificate stands where the least latency is above 0
 shown-by : (p : ProgramTree) (ins outs : List StTree) (latency : ℕ) (o : Option Certificate) → latency ≡ least p ins outs → o ≡ None ↔ latency ≡ 0 → IfSome o (λ c. IsCertificate p ins outs (certificate_tree c))
-    → IsShown p ins outs (shown_lines (length outs) o)
+    → HasCertificateLine p ins outs (shown_lines (length outs) o)
 shown-by p ins outs latency None same none is = inl (sym same ∙ none.0 refl, refl)
 shown-by p ins outs latency (Some c) same none is = inr (certificate_tree c, is, refl)
 

@@ -22,7 +22,7 @@ use Rattle.ae_elab.specs.Names.{Among, is_output_kind, is_clock, clock_name}
 use Rattle.ae_elab.specs.Runs.{clock_at, IsResetRun, SameAt}
 use Rattle.ae_elab.specs.Faults.{IsWellFormed}
 use Rattle.ae_judge.proofs.Members.{bytes_same, same_bytes}
-use Rattle.ae_correct.specs.Correct.{ModulePort, ports_of, program_ports, input_ports, output_ports, wave, BundlesHold, KeepsBlocks}
+use Rattle.ae_correct.specs.Correct.{ModulePort, ports_of, program_ports, param_ports, result_ports, wave, BundlesHold, KeepsBlocks}
 use Rattle.ae_cause.specs.Causal.{BeginAlike}
 use Rattle.ae_cause.proofs.Prefixes.{runs-are-causal}
 use Rattle.ae_trace.specs.Traces.{is_movement, trace, renamed, word_numbered, origin_numbered, traced_move, traced_moves, least}
@@ -115,10 +115,10 @@ module _ (m : ModuleTree) (ok : IsWellFormed m) (ins outs : List StTree) (ports 
   reset-net : IsInputNet m (codes "rst") 1
   reset-net = in-net (record { name = codes "rst"; width = 1; is_output = false }) 114 _ (inr (inl refl)) refl (λ e. omega arith) refl
 
-  column-net : (q : ℕ) (s : StTree) (column : ℕ) (h : HasPort 105 false (input_ports q s) column) → slice_get ins q ≡ Some s → IsInputNet m h.port.name h.port.width
+  column-net : (q : ℕ) (s : StTree) (column : ℕ) (h : HasPort 105 false (param_ports q s) column) → slice_get ins q ≡ Some s → IsInputNet m h.port.name h.port.width
   column-net q s column h found = in-net h.port 105 h.is.tail (input-among ins outs h.port q s found h.there) h.is.named (λ e. omega arith) h.is.way
 
-  out-net : (r : ℕ) (s : StTree) (column : ℕ) (h : HasPort 111 true (output_ports (length outs) r s) column) → slice_get outs r ≡ Some s → IsOutputNet m h.port.name
+  out-net : (r : ℕ) (s : StTree) (column : ℕ) (h : HasPort 111 true (result_ports (length outs) r s) column) → slice_get outs r ≡ Some s → IsOutputNet m h.port.name
   out-net r s column h found =
       let x = net-of-port m h.port (subst (Among h.port) (sym ports) (output-among ins outs h.port r s found h.there)) in
       record {
@@ -156,7 +156,7 @@ module _ (m : ModuleTree) (ok : IsWellFormed m) (ins outs : List StTree) (ports 
     shows-bits : (r : RunsAs m (wanted name k b) n) (slowdown q : ℕ) (s : StTree) → slice_get ins q ≡ Some s → AllWide (atom_kinds (element_atom s)) → 1 + time s ≤ n → ShowsBits r.run slowdown q s
     shows-bits r slowdown q s found wide room clock column early inside =
         let h = input-port q s wide column inside in
-        let e : wave r.run 1 (input_ports q s) clock column ≡ wanted name k b (1 + clock) h.port.name % 2 ^ h.port.width =
+        let e : wave r.run 1 (param_ports q s) clock column ≡ wanted name k b (1 + clock) h.port.name % 2 ^ h.port.width =
         ap (clock_at r.run (1 + clock)).word h.named ∙ shown r h.port.name h.port.width (column-net q s column h found) (1 + clock) (omega arith) in
         let low : wanted name k b (1 + clock) h.port.name ≤ 1 = wanted-small name k b (1 + clock) h.port.name bit in
         let less : wanted name k b (1 + clock) h.port.name % 2 ^ h.port.width ≤ wanted name k b (1 + clock) h.port.name = mod-le _ _ in
@@ -224,13 +224,13 @@ module _ (p : ProgramTree) (slowdown d : ℕ) (m : ModuleTree) (ins outs : List 
     source_place = is-placed source_read.type slowdown w.source source_read.is_laid w.from.place place_below
 
     -- the names of both columns
-    in_port : HasPort 105 false (input_ports w.from.value w.source) q
+    in_port : HasPort 105 false (param_ports w.from.value w.source) q
     in_port = input-port w.from.value w.source source_read.is_laid.own_wide q source_place.column
 
     abbrev out_column : ℕ
     out_column = column_number w.out (o / element_words w.out) (o % element_words w.out)
 
-    out_port : HasPort 111 true (output_ports (length outs) r w.out) out_column
+    out_port : HasPort 111 true (result_ports (length outs) r w.out) out_column
     out_port = output-port (length outs) r w.out out_type.1.own_wide out_column out_place.column
 
     abbrev size : ℕ
@@ -259,14 +259,14 @@ module _ (p : ProgramTree) (slowdown d : ℕ) (m : ModuleTree) (ins outs : List 
       values : AreValues types block
       values = read-values x.run slowdown 0 types ins laid (λ i s found. (let z : i ≡ 0 + i = omega arith in subst (λ j. ShowsBits x.run slowdown j s) z (input_bits i s found)))
 
-      given : (i : ℕ) (own : List ValueTree) → slice_get (block ∷ []) i ≡ Some own → AreValues types own × BundlesHold x.run 1 (i * slowdown) input_ports ins own
+      given : (i : ℕ) (own : List ValueTree) → slice_get (block ∷ []) i ≡ Some own → AreValues types own × BundlesHold x.run 1 (i * slowdown) param_ports ins own
       given zero own found =
           let same : block ≡ own = cc in
           let z : 0 ≡ 0 * slowdown = omega arith in
-          (subst (AreValues types) same values, subst (λ i. BundlesHold x.run 1 i input_ports ins own) z (subst (BundlesHold x.run 1 0 input_ports ins) same (read-holds x.run slowdown types ins laid)))
+          (subst (AreValues types) same values, subst (λ i. BundlesHold x.run 1 i param_ports ins own) z (subst (BundlesHold x.run 1 0 param_ports ins) same (read-holds x.run slowdown types ins laid)))
       given (suc i) own found = absurd (let h : None ≡ Some own = found in cc)
 
-      results : BundlesHold x.run 1 (d + 0 * slowdown) (output_ports (length outs)) outs (mean p block)
+      results : BundlesHold x.run 1 (d + 0 * slowdown) (result_ports (length outs)) outs (mean p block)
       results =
           let one : 1 + (d + length (block ∷ []) * slowdown) ≤ length x.run = omega (arith, x.long) in
           keeps.results x.run 1 (block ∷ []) (resets m ok ins outs ports clocked in_port.port.name k b size bit (omega arith) x) one given 0 block refl
@@ -279,7 +279,7 @@ module _ (p : ProgramTree) (slowdown d : ℕ) (m : ModuleTree) (ins outs : List 
           let inside : w.from.place < words own.type = omega (arith, own.is_laid.words, place_below) in
           let here : wanted in_port.port.name k b (1 + k) in_port.port.name ≡ b = wanted-here in_port.port.name k b (not-reset in_port.port.name in_port.is.tail in_port.is.named) in
           read-word-at x.run slowdown 0 types ins w.from.value w.source own w.from.place inside
-          ∙ ap (λ i. wave x.run 1 (input_ports i w.source) k q) z
+          ∙ ap (λ i. wave x.run 1 (param_ports i w.source) k q) z
           ∙ ap (clock_at x.run (1 + k)).word in_port.named
           ∙ shown m ok ins outs ports clocked in_port.port.name k b size bit (omega arith) x in_port.port.name in_port.port.width
           (column-net m ok ins outs ports clocked w.from.value w.source q in_port w.source_found) (1 + k) (let h = early in omega arith)

@@ -4,7 +4,7 @@ use Rattle.std.proofs.lemmas.Bool.{cases_eq}
 use Rattle.std.proofs.lemmas.List.{take_all, length-map}
 use Rattle.std.proofs.lemmas.List.Elements.{All-get_or, All-from_get_or}
 use Rattle.ae_moves.specs.declared.trip.Source.TheVariants.{Fixed}
-use Rattle.ae_sttype.specs.Moves.{TripTree, SourceTree, place, constant, greatest, lead_from, latency_of, IsReached}
+use Rattle.ae_sttype.specs.Moves.{TripTree, SourceTree, place, constant, greatest, lead_from, latency_of_trips, IsReached}
 use Rattle.ae_moves.specs.declared.trip.Trip.{Trip}
 use Rattle.ae_moves.specs.Trees.{trip_tree, trip_trees}
 use Rattle.ae_moves.specs.Trips.{IsWithin}
@@ -40,7 +40,7 @@ more-columns d ins more c (constant w) h r = tt
 abbrev lead : TripTree → ℕ
 lead t = lead_from t.clock t.source
 
-all-trips : (trips : List Trip) → greatest lead (take (length trips) (trip_trees trips)) ≡ latency_of (trip_trees trips)
+all-trips : (trips : List Trip) → greatest lead (take (length trips) (trip_trees trips)) ≡ latency_of_trips (trip_trees trips)
 all-trips trips = ap (greatest lead) (take_all (length trips) (trip_trees trips) (rw length-map (omega arith)))
 
 tree-get : (trips : List Trip) (i : ℕ) (none : Trip) → get_or (trip_trees trips) i (trip_tree none) ≡ trip_tree (get_or trips i none)
@@ -51,23 +51,23 @@ tree-get (t ∷ ts) (suc i) none = tree-get ts i none
 nothing : Trip
 nothing = record { clock = 0; column = 0; source = Fixed 0 }
 
-pub least : (trips : List Trip) (d ins outs : ℕ) → All (λ (t : Trip). IsWithin d ins outs (trip_tree t)) trips → latency_of (trip_trees trips) ≤ d
+pub least : (trips : List Trip) (d ins outs : ℕ) → All (λ (t : Trip). IsWithin d ins outs (trip_tree t)) trips → latency_of_trips (trip_trees trips) ≤ d
 least trips d ins outs all =
     rw all-trips at (greatest_le lead (trip_trees trips) d (length trips) (trip_tree nothing) (rw length-map (omega arith)) (λ i p.
     rw tree-get (lead-le d ins _ _ (All-get_or (λ (t : Trip). IsWithin d ins outs (trip_tree t)) trips i nothing p all).reached)))
 
-pub enough : (trips : List Trip) (d ins outs : ℕ) → All (λ (t : Trip). IsWithin d ins outs (trip_tree t)) trips → All (λ (t : Trip). IsWithin (latency_of (trip_trees trips)) ins outs (trip_tree t)) trips
+pub enough : (trips : List Trip) (d ins outs : ℕ) → All (λ (t : Trip). IsWithin d ins outs (trip_tree t)) trips → All (λ (t : Trip). IsWithin (latency_of_trips (trip_trees trips)) ins outs (trip_tree t)) trips
 enough trips d ins outs all =
-    All-from_get_or (λ (t : Trip). IsWithin (latency_of (trip_trees trips)) ins outs (trip_tree t)) trips nothing (λ i p.
+    All-from_get_or (λ (t : Trip). IsWithin (latency_of_trips (trip_trees trips)) ins outs (trip_tree t)) trips nothing (λ i p.
     let w = All-get_or (λ (t : Trip). IsWithin d ins outs (trip_tree t)) trips i nothing p all in
     let le : lead (get_or (trip_trees trips) i (trip_tree nothing)) ≤ greatest lead (take (length trips) (trip_trees trips)) = le_greatest lead (trip_trees trips) (length trips) i (trip_tree nothing) p (rw length-map (omega arith)) in
     record {
       clock_in = w.clock_in;
       column_in = w.column_in;
-      reached = reached-by d (latency_of (trip_trees trips)) ins _ _ w.reached (rw (tree-get, all-trips) at le);
+      reached = reached-by d (latency_of_trips (trip_trees trips)) ins _ _ w.reached (rw (tree-get, all-trips) at le);
     })
 
-pub all-of : (trips : List Trip) (i : ℕ) → length trips ≤ i → greatest (λ (t : TripTree). lead_from t.clock t.source) (take i (trip_trees trips)) ≡ latency_of (trip_trees trips)
+pub all-of : (trips : List Trip) (i : ℕ) → length trips ≤ i → greatest (λ (t : TripTree). lead_from t.clock t.source) (take i (trip_trees trips)) ≡ latency_of_trips (trip_trees trips)
 all-of trips i h = ap (greatest lead) (take_all i (trip_trees trips) (rw length-map h))
 
 -- more columns are enough too

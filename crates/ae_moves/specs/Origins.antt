@@ -4,7 +4,7 @@ use Rattle.std.specs.Option.{option_map}
 use Rattle.ae_word.specs.AtomTree.{WordKind, atom_kinds}
 use Rattle.ae_sttype.specs.StTree.{StTree, time, st_atoms, element_atom, element_words}
 use Rattle.ae_sttype.specs.Size.{IsInSize}
-use Rattle.ae_sttype.specs.Moves.{OriginTree, TripTree, from_input, fixed, latency_of, trips_of}
+use Rattle.ae_sttype.specs.Moves.{OriginTree, TripTree, from_input, fixed, latency_of_trips, trips_of}
 
 -- a move: the layouts of its inputs and of its output, and where each output word comes from, in element order
 pub record Move : Type 0 where
@@ -16,7 +16,7 @@ abbrev pub move_trips : Move → List TripTree
 move_trips m = trips_of m.ins m.out m.origins
 
 abbrev pub move_latency : Move → ℕ
-move_latency m = latency_of (move_trips m)
+move_latency m = latency_of_trips (move_trips m)
 
 -- the width of word j of each element
 abbrev pub width_at : StTree → ℕ → Option ℕ

@@ -2,7 +2,7 @@
 
 ghost use Rattle.std.specs.Prelude.{◌≡◌, ◌≤◌, ◌<◌, ◌^◌, ℕ, All, IfOk, IsTrue, ◌↔◌, length, sum, if◌then◌else◌};
 ghost use Rattle.std.specs.Option.{option_map};
-ghost use Rattle.ae_sttype.specs.Moves.{choice_from, delay_of, latency_of, lead_from, runs_of, IsReached};
+ghost use Rattle.ae_sttype.specs.Moves.{choice_from, delay_of, latency_of_trips, lead_from, runs_of, IsReached};
 ghost use Rattle.ae_moves.specs.Trees.{trip_tree, trip_trees, choice_tree, source_tree};
 ghost use Rattle.ae_moves.specs.Trips.{continues, deepened, AreAges, IsWithin};
 ghost use Rattle.ae_moves.specs.Rings.{mems_of};
@@ -64,7 +64,7 @@ pub fn are_within(trips: &[Trip], d: u32, ins: u32, outs: u32) -> bool
 /// The latency of a move, in clocks: as many as its output has to come later than its inputs, so that each word's source
 /// has come.
 pub fn trips_latency(trips: &[Trip]) -> u32
-    ensures latency { result ≡ latency_of (trip_trees trips.now) }
+    ensures latency { result ≡ latency_of_trips (trip_trees trips.now) }
     ensures least { (d ins outs : ℕ) → All (λ t. IsWithin d ins outs (trip_tree t)) trips.now → result ≤ d }
     ensures enough { (d ins outs : ℕ) → All (λ t. IsWithin d ins outs (trip_tree t)) trips.now → All (λ t. IsWithin result ins outs (trip_tree t)) trips.now }
 {

@@ -4,7 +4,7 @@ ghost use Rattle.std.specs.Prelude.{◌≡◌, ◌<◌, ◌+◌, ◌*◌, ◌/�
 ghost use Rattle.ae_sttype.specs.declared.st_type.StType.{StType as Layout};
 ghost use Rattle.ae_sttype.specs.StTree.{element_words, st_atoms, st_tree};
 ghost use Rattle.ae_sttype.specs.Size.{IsInSize};
-ghost use Rattle.ae_sttype.specs.Moves.{column_number, columns_of, first_column, latency_of, lead_from, slot_number, source_of, trips_of};
+ghost use Rattle.ae_sttype.specs.Moves.{column_number, columns_of, first_column, latency_of_trips, lead_from, slot_number, source_of, trips_of};
 ghost use Rattle.ae_moves.specs.Trees.{origin_tree, source_tree, trip_tree};
 ghost use Rattle.ae_moves.specs.Origins.{HasOrigin, IsMove};
 
@@ -116,7 +116,7 @@ fn lead(ins: &[StType], out: &StType, origin: Origin, o: u32) -> u32
 /// The latency of a move: the clocks by which its output comes later than its inputs.
 pub fn latency(ins: &[StType], out: &StType, source: &[Origin]) -> u32
     requires { IsMove (record { ins = map st_tree ins.now; out = st_tree out.now; origins = map origin_tree source.now }) }
-    ensures { result ≡ latency_of (trips_of (map st_tree ins.now) (st_tree out.now) (map origin_tree source.now)) }
+    ensures { result ≡ latency_of_trips (trips_of (map st_tree ins.now) (st_tree out.now) (map origin_tree source.now)) }
 {
     let mut most = 0u32;
     for o in 0..source.len() {

@@ -8,18 +8,18 @@ use Rattle.ae_vread.specs.declared.module.BinOp.{BinOp}
 use Rattle.ae_vread.specs.declared.module.BinOp.TheVariants.{Mul, Add, Sub, Shl, Shr, And, Xor, Or}
 use Rattle.ae_vread.specs.ModuleTree.{ExprTree, name, constant, place, part, index, unary, binary, choice, concat_one, concat_more, NetTree}
 use Rattle.ae_vread.specs.Reading.{concat_of, concat_behind}
-use Rattle.ae_judge.specs.Names.{is_memory}
-use Rattle.ae_judge.specs.Widths.{width_in, width_of, unary_width, binary_width, own_width}
+use Rattle.ae_judge.specs.Names.{is_memory_name}
+use Rattle.ae_judge.specs.Widths.{declared_width_in, declared_width, unary_width, binary_width, own_width}
 use Rattle.ae_runs.specs.Named.{IsNamed}
 use Rattle.ae_order.specs.Sound.{IsSound}
 
-pub named_width : {ns : List NetTree} {n : List ℕ} (h : IsNamed ns n) → width_of ns n ≡ h.net.width
-named_width h = ap width_in h.found
+pub named_width : {ns : List NetTree} {n : List ℕ} (h : IsNamed ns n) → declared_width ns n ≡ h.net.width
+named_width h = ap declared_width_in h.found
 
-pub named_low : {ns : List NetTree} {n : List ℕ} → IsNamed ns n → 1 ≤ width_of ns n
+pub named_low : {ns : List NetTree} {n : List ℕ} → IsNamed ns n → 1 ≤ declared_width ns n
 named_low h = rw (named_width h) h.low
 
-pub named_high : {ns : List NetTree} {n : List ℕ} → IsNamed ns n → width_of ns n ≤ 64
+pub named_high : {ns : List NetTree} {n : List ℕ} → IsNamed ns n → declared_width ns n ≤ 64
 named_high h = rw (named_width h) h.high
 
 binary_low : (op : BinOp) (a b : ℕ) → 1 ≤ a → 1 ≤ b → 1 ≤ binary_width op a b
@@ -62,7 +62,7 @@ module _ (ns : List NetTree) where
   sound_low (constant size value fits) h = h.0
   sound_low (place k) h = absurd h
   sound_low (part n high low) h = omega arith
-  sound_low (index n at) h = (one_or (is_memory ns n) (width_of ns n) (named_low h.0) (named_high h.0)).0
+  sound_low (index n at) h = (one_or (is_memory_name ns n) (declared_width ns n) (named_low h.0) (named_high h.0)).0
   sound_low (unary op a) h = unary_low op (own_width ns a) (sound_low a h)
   sound_low (binary op a b) h = binary_low op (own_width ns a) (own_width ns b) (sound_low a h.0) (sound_low b h.1)
   sound_low (choice test a b) h = let p = sound_low a h.1 in omega arith
@@ -73,8 +73,8 @@ module _ (ns : List NetTree) where
   sound_high (name n) h = named_high h.named
   sound_high (constant size value fits) h = h.1
   sound_high (place k) h = absurd h
-  sound_high (part n high low) h = let p : width_of ns n ≤ 64 = named_high h.0.named in let l = h.1 in let g = h.2 in omega arith
-  sound_high (index n at) h = (one_or (is_memory ns n) (width_of ns n) (named_low h.0) (named_high h.0)).1
+  sound_high (part n high low) h = let p : declared_width ns n ≤ 64 = named_high h.0.named in let l = h.1 in let g = h.2 in omega arith
+  sound_high (index n at) h = (one_or (is_memory_name ns n) (declared_width ns n) (named_low h.0) (named_high h.0)).1
   sound_high (unary op a) h = unary_high op (own_width ns a) (sound_high a h)
   sound_high (binary op a b) h = binary_high op (own_width ns a) (own_width ns b) (sound_high a h.0) (sound_high b h.1)
   sound_high (choice test a b) h = let p = sound_high a h.1 in let q = sound_high b h.2 in omega arith

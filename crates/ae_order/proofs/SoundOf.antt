@@ -5,8 +5,8 @@ use Rattle.std.specs.List.{AllByRecursion}
 use Rattle.std.proofs.lemmas.Bool.{cases_Bool, cond-true, cond-false, or_parts, both_ways, leb-false}
 use Rattle.std.proofs.lemmas.Bool.Decides.{nat_tests}
 use Rattle.ae_vread.specs.ModuleTree.{ExprTree, name, constant, place, part, index, unary, binary, choice, concat_one, concat_more, NetTree, DriveTree, ItemTree, nets, assigns, always, ModuleTree}
-use Rattle.ae_judge.specs.Names.{Among, is_memory, is_ranged, depth_of, depth_of_kind, names_in, drives_of, equations}
-use Rattle.ae_judge.specs.Widths.{width_of, own_width}
+use Rattle.ae_judge.specs.Names.{Among, is_memory_name, is_ranged, depth_of, depth_of_kind, names_in, drives_of, equations}
+use Rattle.ae_judge.specs.Widths.{declared_width, own_width}
 use Rattle.ae_judge.specs.Faults.{NetAt, is_place, is_misused, is_too_large, is_outside_of, is_too_wide, is_too_wide_in_drive, is_too_wide_in_item}
 use Rattle.ae_judge.specs.Shape.{IsLettered, IsConstant, IsPlaced, IsShapely, EachInDrive, EachInItem, IsLetteredItem, IsPlacedItem}
 use Rattle.ae_judge.specs.Regular.{IsRegular}
@@ -98,7 +98,7 @@ module _ (m : ModuleTree) (ok : IsRegular m) (shape : IsShapely m) where
   sound_of (place k) known right fits letters placed = absurd (let s : false ≡ true = placed in cc)
   sound_of (part n high low) known right fits letters placed =
       let p = or_parts _ _ fits in
-      (record { named = named_data n (known n (inl refl)); word = (or_parts _ _ right).0; letters = letters }, not_less high low p.0, leb-false (width_of m.nets n) high p.1)
+      (record { named = named_data n (known n (inl refl)); word = (or_parts _ _ right).0; letters = letters }, not_less high low p.0, leb-false (declared_width m.nets n) high p.1)
   sound_of (index n at) known right fits letters placed =
       let r = or_parts _ _ right in
       let f = or_parts _ _ fits in
@@ -107,13 +107,13 @@ module _ (m : ModuleTree) (ok : IsRegular m) (shape : IsShapely m) where
         elim (cases_Bool (is_place at)) [
           | inl t ↦
               let e = is_the_place at t in
-              let inside = inside_place (is_memory m.nets n) (width_of m.nets n) (depth_of m.nets n) (own_width m.nets at) (place_number at) (subst (λ u. is_outside_of (is_memory m.nets n) (width_of m.nets n) (depth_of m.nets n) (own_width m.nets at) u ≡ false) e f.1) in
+              let inside = inside_place (is_memory_name m.nets n) (declared_width m.nets n) (depth_of m.nets n) (own_width m.nets at) (place_number at) (subst (λ u. is_outside_of (is_memory_name m.nets n) (declared_width m.nets n) (depth_of m.nets n) (own_width m.nets at) u ≡ false) e f.1) in
               subst (λ b. IsSoundIndex b m.nets n (place_number at) (own_width m.nets at) (IsSound m.nets at)) (sym t) inside
           | inr o ↦
-              let memory = must_be_memory (is_memory m.nets n) (is_ranged m.nets n) (subst (λ b. (not (is_memory m.nets n) && not (is_ranged m.nets n && b)) ≡ false) o r.1) in
+              let memory = must_be_memory (is_memory_name m.nets n) (is_ranged m.nets n) (subst (λ b. (not (is_memory_name m.nets n) && not (is_ranged m.nets n && b)) ≡ false) o r.1) in
               let deep : nat_lt (depth_of m.nets n) (2 ^ own_width m.nets at) ≡ false =
-              sym (outside_varying at (width_of m.nets n) (depth_of m.nets n) (own_width m.nets at) o)
-              ∙ subst (λ b. is_outside_of b (width_of m.nets n) (depth_of m.nets n) (own_width m.nets at) at ≡ false) memory f.1 in
+              sym (outside_varying at (declared_width m.nets n) (depth_of m.nets n) (own_width m.nets at) o)
+              ∙ subst (λ b. is_outside_of b (declared_width m.nets n) (depth_of m.nets n) (own_width m.nets at) at ≡ false) memory f.1 in
               subst (λ b. IsSoundIndex b m.nets n (place_number at) (own_width m.nets at) (IsSound m.nets at)) (sym o)
               (record {
                 memory = memory;

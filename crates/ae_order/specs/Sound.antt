@@ -2,15 +2,15 @@
 use Rattle.std.specs.Prelude.{◌≡◌, ℕ, ◌+◌, ◌^◌, ◌<◌, ◌≤◌, Bool, true, false, if◌then◌else◌, List, length, Option}
 use Rattle.ae_netlist.specs.declared.cell.NetId.{NetId}
 use Rattle.ae_vread.specs.ModuleTree.{ExprTree, name, constant, place, part, index, unary, binary, choice, concat_one, concat_more, NetTree}
-use Rattle.ae_judge.specs.Names.{is_memory, depth_of}
-use Rattle.ae_judge.specs.Widths.{width_of, own_width}
+use Rattle.ae_judge.specs.Names.{is_memory_name, depth_of}
+use Rattle.ae_judge.specs.Widths.{declared_width, own_width}
 use Rattle.ae_judge.specs.Faults.{is_place}
 use Rattle.ae_runs.specs.Named.{IsNamed, IsReady}
 
 -- a declared name that is no memory and has letters
 pub record IsWordName (ns : List NetTree) (n : List ℕ) : Type 0 where
   pub named : IsNamed ns n
-  pub word : is_memory ns n ≡ false
+  pub word : is_memory_name ns n ≡ false
   pub letters : 1 ≤ length n
 
 abbrev pub place_number : ExprTree → ℕ
@@ -19,11 +19,11 @@ place_number _ = 0
 
 -- how many places a name has: a memory its words, and another name its bits
 abbrev pub places_of : List NetTree → List ℕ → ℕ
-places_of ns n = if is_memory ns n then depth_of ns n else width_of ns n
+places_of ns n = if is_memory_name ns n then depth_of ns n else declared_width ns n
 
 -- an address that may vary is one of a memory that has room for all its words
 pub record IsVarying (ns : List NetTree) (n : List ℕ) (own : ℕ) (Sound : Type 0) : Type 0 where
-  pub memory : is_memory ns n ≡ true
+  pub memory : is_memory_name ns n ≡ true
   pub inside : 2 ^ own ≤ depth_of ns n
   pub sound : Sound
 
@@ -36,7 +36,7 @@ abbrev pub IsSound : List NetTree → ExprTree → Type 0
 IsSound ns (name n) = IsWordName ns n
 IsSound ns (constant size value fits) = (1 ≤ size) × (size ≤ 64) × (value < 2 ^ size)
 IsSound ns (place k) = ⊥
-IsSound ns (part n high low) = IsWordName ns n × (low ≤ high) × (high < width_of ns n)
+IsSound ns (part n high low) = IsWordName ns n × (low ≤ high) × (high < declared_width ns n)
 IsSound ns (index n at) = IsNamed ns n × IsSoundIndex (is_place at) ns n (place_number at) (own_width ns at) (IsSound ns at)
 IsSound ns (unary op a) = IsSound ns a
 IsSound ns (binary op a b) = IsSound ns a × IsSound ns b

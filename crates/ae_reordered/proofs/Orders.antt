@@ -15,7 +15,7 @@ use Rattle.ae_judge.specs.Names.{Among, drives_of, equations, first_clock, clock
 use Rattle.ae_judge.proofs.Members.{among_at, among_from, among_flat, among_unflat, some_or_not, among_or_not, same_bytes}
 use Rattle.ae_elab.specs.Faults.{IsWellFormed, is_misused_in_item}
 use Rattle.ae_elab.specs.Values.{ModuleClock}
-use Rattle.ae_elab.specs.Runs.{IsRun, StepsTo, clock_at, next_clock}
+use Rattle.ae_elab.specs.Runs.{IsModuleRun, StepsTo, clock_at, next_clock}
 use Rattle.ae_elab.specs.SameRuns.{BeginAlike, HasSameRuns, HaveEqualOutputs, inputs_of}
 use Rattle.ae_reordered.specs.Reordered.{reordered}
 use Rattle.ae_reordered.proofs.Effects.{AreSame, hit, hit_most, hit_none, hits_more, hits_none, none_assigns, one_assigns, same_then, same_back}
@@ -134,7 +134,7 @@ module _ (m : ModuleTree) (items : List ItemTree) (ok : IsWellFormed m) (p : IsP
   abbrev other : ModuleTree
   other = reordered m items
 
-  there : (run : List ModuleClock) → IsRun m run → IsRun other run
+  there : (run : List ModuleClock) → IsModuleRun m run → IsModuleRun other run
   there run r = record {
     shaped = λ t l. record { holds = λ x a c. (r.shaped t l).holds x a (sym (is_clock_same m items ok p x.name) ∙ c) };
     settles = λ t l. record { wires = λ d a. (r.settles t l).wires d (equation_other items m.items m.name m.nets d (IsPermutation-sym m.items items p) a) };
@@ -143,7 +143,7 @@ module _ (m : ModuleTree) (items : List ItemTree) (ok : IsWellFormed m) (p : IsP
     };
   }
 
-  back : (run : List ModuleClock) → IsRun other run → IsRun m run
+  back : (run : List ModuleClock) → IsModuleRun other run → IsModuleRun m run
   back run r = record {
     shaped = λ t l. record { holds = λ x a c. (r.shaped t l).holds x a (is_clock_same m items ok p x.name ∙ c) };
     settles = λ t l. record { wires = λ d a. (r.settles t l).wires d (equation_other m.items items m.name m.nets d p a) };
@@ -152,7 +152,7 @@ module _ (m : ModuleTree) (items : List ItemTree) (ok : IsWellFormed m) (p : IsP
     };
   }
 
-  pub same_runs : (run : List ModuleClock) → IsRun m run ↔ IsRun other run
+  pub same_runs : (run : List ModuleClock) → IsModuleRun m run ↔ IsModuleRun other run
   same_runs run = (there run, back run)
 
   -- ---- a netlist with these runs

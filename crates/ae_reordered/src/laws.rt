@@ -5,7 +5,7 @@ ghost use Rattle.std.specs.List.Sorted.{IsPermutation};
 ghost use Rattle.ae_netlist.specs.Circuit.{Circuit};
 ghost use Rattle.ae_vread.specs.ModuleTree.{ItemTree, ModuleTree};
 ghost use Rattle.ae_elab.specs.Faults.{IsWellFormed};
-ghost use Rattle.ae_elab.specs.Runs.{IsRun};
+ghost use Rattle.ae_elab.specs.Runs.{IsModuleRun};
 ghost use Rattle.ae_elab.specs.SameRuns.{HasSameRuns};
 ghost use Rattle.ae_elab.specs.Values.{ModuleClock};
 ghost use Rattle.ae_reordered.specs.Reordered.{reordered};
@@ -13,6 +13,6 @@ ghost use Rattle.ae_reordered.specs.Reordered.{reordered};
 /// A law: a well-formed module and the same items in another order have the same runs; so what a module is elaborated to has
 /// the runs of each of its orders.
 pub fn orders_are_alike()
-    ensures runs { (m : ModuleTree) (items : List ItemTree) (run : List ModuleClock) → IsWellFormed m → IsPermutation m.items items → IsRun m run ↔ IsRun (reordered m items) run }
+    ensures runs { (m : ModuleTree) (items : List ItemTree) (run : List ModuleClock) → IsWellFormed m → IsPermutation m.items items → IsModuleRun m run ↔ IsModuleRun (reordered m items) run }
     ensures netlists { (m : ModuleTree) (items : List ItemTree) (n : Circuit) → IsWellFormed m → IsPermutation m.items items → HasSameRuns m n → HasSameRuns (reordered m items) n }
 {}

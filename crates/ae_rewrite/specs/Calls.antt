@@ -60,18 +60,18 @@ called_by p f clocks n = call_of n.op clocks (spread_at p f clocks (head n.args)
 
 -- ---- nodes that call nothing
 
-abbrev pub is_signed : Option SeqTree → Bool
-is_signed (Some (atom (atom_word k))) = k.signed
-is_signed _ = false
+abbrev pub is_signed_type : Option SeqTree → Bool
+is_signed_type (Some (atom (atom_word k))) = k.signed
+is_signed_type _ = false
 
 -- an operator goes by the kind of this argument: a choice by its arms
-abbrev pub operand : WordOp → List ℕ → ℕ
-operand Mux args = slice_index_or args 1 0
-operand _ args = head args
+abbrev pub deciding_argument : WordOp → List ℕ → ℕ
+deciding_argument Mux args = slice_index_or args 1 0
+deciding_argument _ args = head args
 
--- the operator by the kind of its operand
+-- the operator by the kind of its deciding_argument
 abbrev pub op_by : ProgramTree → (func : ℕ) → WordOp → List ℕ → WordOp
-op_by p f op args = op_for (is_signed (type_at p f (operand op args))) op
+op_by p f op args = op_for (is_signed_type (type_at p f (deciding_argument op args))) op
 
 -- the one result of a fold, as it comes: at the head of the clocks, in an element's layout
 abbrev pub raw_layout : (clocks inner : ℕ) → StTree → StTree

@@ -8,7 +8,7 @@ ghost use Rattle.ae_seq.specs.Typing.{type_at};
 ghost use Rattle.ae_seq.specs.Trees.{option_lent};
 ghost use Rattle.ae_sttype.specs.StTree.{st_tree};
 ghost use Rattle.ae_rewrite.specs.StProgramTree.{st_op_tree};
-ghost use Rattle.ae_rewrite.specs.Calls.{spread, spread_at, head, called_by, each_call, is_signed, operand, op_by, raw_layout, fold_of, scan_of, shift_of, plain_op};
+ghost use Rattle.ae_rewrite.specs.Calls.{spread, spread_at, head, called_by, each_call, is_signed_type, deciding_argument, op_by, raw_layout, fold_of, scan_of, shift_of, plain_op};
 ghost use Rattle.ae_rewrite.specs.Spreads.{spread_tree, IsFitting, IsShiftOfFew};
 
 use crate::layout::{in_time, lay_part, side_by_side};
@@ -110,7 +110,7 @@ fn each_call(callee: u32, budget: u32, spread: &Spread<'_>) -> Call
 // ---- nodes that call nothing
 
 fn is_signed(t: Option<&SeqType>) -> bool
-    ensures { result ≡ is_signed (option_lent t.entry) }
+    ensures { result ≡ is_signed_type (option_lent t.entry) }
 {
     match t {
         Some(SeqType::Atom(Atom::Int(_))) => true,
@@ -120,7 +120,7 @@ fn is_signed(t: Option<&SeqType>) -> bool
 
 // The argument by whose kind an operator goes.
 fn operand(op: WordOp, args: &[u32]) -> u32
-    ensures { result ≡ operand op args.now }
+    ensures { result ≡ deciding_argument op args.now }
 {
     match op {
         WordOp::Mux => { if args.len() > 1 { args[1] } else { 0 } }

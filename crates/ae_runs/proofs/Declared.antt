@@ -6,7 +6,7 @@ use Rattle.std.proofs.lemmas.Bool.Decides.{Decides-ltb}
 use Rattle.ae_vread.specs.declared.module.NetKind.{NetKind}
 use Rattle.ae_vread.specs.declared.module.NetKind.TheVariants.{Input, Wire, OutWire, Reg, OutReg, Memory}
 use Rattle.ae_vread.specs.ModuleTree.{ExprTree, StmtTree, set, put, when, either, block_end, block_more, NetTree, DriveTree, ItemTree, nets, assigns, always, ModuleTree}
-use Rattle.ae_judge.specs.Names.{Among, is_input_kind, is_wire_kind, is_register_kind, is_memory_kind, net_named, passes, is_wire, is_register, is_memory, is_clock, names_in, stmt_reads, stmt_targets, target_of, drive_reads, drives_of, item_reads, item_targets, equations}
+use Rattle.ae_judge.specs.Names.{Among, is_input_kind, is_wire_kind, is_register_kind, is_memory_kind, net_named, passes, is_wire_name, is_register_name, is_memory_name, is_clock, names_in, stmt_reads, stmt_targets, target_of, drive_reads, drives_of, item_reads, item_targets, equations}
 use Rattle.ae_judge.specs.Faults.{ItemAt, NetAt, IsDeclaredBefore, may_repeat, is_misused, is_misused_in_stmt, is_misused_in_drive, is_misused_in_item, IsWellFormed}
 use Rattle.ae_judge.specs.Regular.{IsRegular}
 use Rattle.ae_runs.specs.PlainRun.{drive_named}
@@ -156,10 +156,10 @@ module _ (m : ModuleTree) (ok : IsRegular m) where
   unfolding equations
   equation_from j i d h a = among_flat drives_of d m.items j i h a
 
-  equation_right : (d : DriveTree) → Among d (equations m) → (is_wire m.nets d.name ≡ true) × (is_misused m.nets d.value ≡ false)
+  equation_right : (d : DriveTree) → Among d (equations m) → (is_wire_name m.nets d.name ≡ true) × (is_misused m.nets d.value ≡ false)
   equation_right d a =
       let r = drive_at d a in
-      let p = or_parts (not (is_wire m.nets d.name)) (is_misused m.nets d.value) (right_drive r.1 d (right_item r.0 r.1 r.2) r.3) in
+      let p = or_parts (not (is_wire_name m.nets d.name)) (is_misused m.nets d.value) (right_drive r.1 d (right_item r.0 r.1 r.2) r.3) in
       (not_false _ p.0, p.1)
 
   -- the net that an equation drives
@@ -272,14 +272,14 @@ module _ (m : ModuleTree) (ok : IsRegular m) where
   target_kind : (s : StmtTree) (x : NetTree) → Among x m.nets → is_misused_in_stmt m.nets s ≡ false → Among x.name (stmt_targets s) → is_wire_kind x.kind ≡ true → ⊥
   target_kind (set n value) x a h t w = elim t [
     | inl e ↦
-        let p : is_register m.nets n ≡ true = not_false _ (or_parts _ _ h).0 in
+        let p : is_register_name m.nets n ≡ true = not_false _ (or_parts _ _ h).0 in
         let q : is_register_kind x.kind ≡ true = subst (λ o. passes (λ (y : NetTree). is_register_kind y.kind) o ≡ true) (found_net n x a (sym e)) p in
         wire_no_register x.kind w q
     | inr none ↦ none
   ]
   target_kind (put n at value) x a h t w = elim t [
     | inl e ↦
-        let p : is_memory m.nets n ≡ true = not_false _ (or_parts _ _ h).0 in
+        let p : is_memory_name m.nets n ≡ true = not_false _ (or_parts _ _ h).0 in
         let q : is_memory_kind x.kind ≡ true = subst (λ o. passes (λ (y : NetTree). is_memory_kind y.kind) o ≡ true) (found_net n x a (sym e)) p in
         wire_no_memory x.kind w q
     | inr none ↦ none

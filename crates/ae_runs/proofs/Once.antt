@@ -5,7 +5,7 @@ use Rattle.ae_vread.specs.declared.module.NetKind.TheVariants.{Input, Wire, OutW
 use Rattle.ae_vread.specs.ModuleTree.{NetTree, ItemTree, nets, assigns, always, ModuleTree}
 use Rattle.ae_judge.specs.Names.{Among, is_memory_kind, is_wire_kind, passes, is_clock, equations}
 use Rattle.ae_runs.specs.Values.{ModuleClock}
-use Rattle.ae_runs.specs.Runs.{clock_at, IsSettled, after_item, after_items, next_clock, StepsTo, IsStep, AgreesAt, IsRunOn, SameAt, IsSameClock}
+use Rattle.ae_runs.specs.Runs.{clock_at, IsSettled, after_item, after_items, next_clock, StepsTo, IsStep, ModuleAgreesAt, IsModuleRunOn, SameAt, IsSameClock}
 use Rattle.ae_judge.specs.Faults.{IsWellFormed}
 use Rattle.ae_runs.specs.PlainRun.{drive_named}
 use Rattle.ae_judge.proofs.Members.{among_at}
@@ -53,7 +53,7 @@ store_of_same OutReg w v s t f h = absurd (cc)
 store_of_same (Memory depth) w v s t f h = h
 
 -- what begins alike, and what goes on alike
-first_free : (k : NetKind) (w v g : ℕ) (s t h : List ℕ) → AgreesAt k 0 w g s h → AgreesAt k 0 v g t h → FreeSame k w v s t
+first_free : (k : NetKind) (w v g : ℕ) (s t h : List ℕ) → ModuleAgreesAt k 0 w g s h → ModuleAgreesAt k 0 v g t h → FreeSame k w v s t
 first_free Input w v g s t h a b = a ∙ sym b
 first_free Wire w v g s t h a b = tt
 first_free OutWire w v g s t h a b = tt
@@ -123,7 +123,7 @@ module _ (m : ModuleTree) (ok : IsWellFormed m) where
 
   -- the next words of a register, and of a memory, are the same
   changed_free : (k : NetKind) (n : List ℕ) (x : NetTree) → x.kind ≡ k → Among x m.nets → x.name ≡ n → is_clock m n ≡ false → (c d : ModuleClock) (t v : ℕ) (w g : ℕ) (s u y : List ℕ)
-      → ((n : List ℕ) → SameFor c d n) → AgreesAt k t w g s y → AgreesAt k t v g u y → StepsTo k ((next_clock m c).word n) w ((next_clock m c).store n) s → StepsTo k ((next_clock m d).word n) v ((next_clock m d).store n) u → FreeSame k w v s u
+      → ((n : List ℕ) → SameFor c d n) → ModuleAgreesAt k t w g s y → ModuleAgreesAt k t v g u y → StepsTo k ((next_clock m c).word n) w ((next_clock m c).store n) s → StepsTo k ((next_clock m d).word n) v ((next_clock m d).store n) u → FreeSame k w v s u
   unfolding next_clock
   changed_free Input n x is a e held c d t v w g s u y h i j p q = i ∙ sym j
   changed_free Wire n x is a e held c d t v w g s u y h i j p q = tt
@@ -138,7 +138,7 @@ module _ (m : ModuleTree) (ok : IsWellFormed m) where
       let same : c.store n ≡ d.store n = store_of_same x.kind _ _ _ _ (ap is_memory_kind is) (h n x a e held) in
       p ∙ items_store_same c d h m.items (λ i b. among_at i m.items b) c d n same ∙ sym q
 
-  run_same : (given run other : List ModuleClock) → IsRunOn m given run → IsRunOn m given other → (t : ℕ) → t < length given → (n : List ℕ) → SameFor (clock_at run t) (clock_at other t) n
+  run_same : (given run other : List ModuleClock) → IsModuleRunOn m given run → IsModuleRunOn m given other → (t : ℕ) → t < length given → (n : List ℕ) → SameFor (clock_at run t) (clock_at other t) n
   run_same given run other p q zero l =
       let a : zero < length run = (let e = p.long in omega arith) in
       let b : zero < length other = (let e = q.long in omega arith) in
@@ -153,5 +153,5 @@ module _ (m : ModuleTree) (ok : IsWellFormed m) where
       settled_same (clock_at run (suc t)) (clock_at other (suc t)) (p.runs.settles (suc t) a) (q.runs.settles (suc t) b)
       (λ x i held. changed_free x.kind x.name x refl i refl held (clock_at run t) (clock_at other t) (suc t) _ _ _ _ _ _ old ((p.agrees (suc t) l).same x i held) ((q.agrees (suc t) l).same x i held) (stepped.steps x i) (stepped_too.steps x i))
 
-  pub only_one : (given run other : List ModuleClock) → IsRunOn m given run → IsRunOn m given other → (t : ℕ) → t < length given → IsSameClock m (clock_at other t) (clock_at run t)
+  pub only_one : (given run other : List ModuleClock) → IsModuleRunOn m given run → IsModuleRunOn m given other → (t : ℕ) → t < length given → IsSameClock m (clock_at other t) (clock_at run t)
   only_one given run other p q t l = record { same = λ x a held. run_same given other run q p t l x.name x a refl held }

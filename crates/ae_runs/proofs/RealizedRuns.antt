@@ -16,7 +16,7 @@ use Rattle.ae_vread.specs.declared.module.NetKind.TheVariants.{Input as InputNam
 use Rattle.ae_vread.specs.ModuleTree.{NetTree, ModuleTree}
 use Rattle.ae_judge.specs.Names.{Among, is_input_kind, is_register_kind, is_memory_kind, is_output_kind, is_clock}
 use Rattle.ae_runs.specs.Values.{ModuleClock}
-use Rattle.ae_runs.specs.Runs.{idle_clock, clock_at, Holds, IsShaped, IsRun, AgreesAt, IsRunOn, SameAt}
+use Rattle.ae_runs.specs.Runs.{idle_clock, clock_at, FitsKind, IsModuleShaped, IsModuleRun, ModuleAgreesAt, IsModuleRunOn, SameAt}
 use Rattle.ae_judge.specs.Faults.{IsWellFormed}
 use Rattle.ae_runs.specs.Named.{StandsFor}
 use Rattle.ae_runs.specs.SameRuns.{inputs_of, outputs_of, states_of, is_input_cell, is_state_cell, input_cells, state_cells, kind_depth, cell_depth, kind_words, cell_words, input_words, output_words, held_words, net_input_words, net_held_words, BeginAlike, HaveEqualOutputs, HasSameRuns}
@@ -118,7 +118,7 @@ module _ (m : ModuleTree) (n : circuit.Circuit) (at : List ℕ → ℕ) (ok : Is
         (filter_among (λ (x : NetTree). is_register_kind x.kind || is_memory_kind x.kind) x m.nets a is)
 
     agree_by : (t : ℕ) (x : NetTree) (k : NetKind) → x.kind ≡ k → input_words m c ≡ input_words m d → (t ≡ 0 → held_words m c ≡ held_words m d) → Among x m.nets → is_clock m x.name ≡ false
-        → AgreesAt k t (c.word x.name) (d.word x.name) (c.store x.name) (d.store x.name)
+        → ModuleAgreesAt k t (c.word x.name) (d.word x.name) (c.store x.name) (d.store x.name)
     agree_by t x InputName is h g a held = input_agree x h a (ap is_input_kind is) held
     agree_by t x Wire is h g a held = tt
     agree_by t x OutWire is h g a held = tt
@@ -127,18 +127,18 @@ module _ (m : ModuleTree) (n : circuit.Circuit) (at : List ℕ → ℕ) (ok : Is
     agree_by t x (Memory depth) is h g a held = λ z. store_of_held x depth (ap kind_depth is) (state_agree x (g z) a (ap (λ k. is_register_kind k || is_memory_kind k) is))
 
   -- a run of the module and one of the netlist that begin alike have equal outputs
-  equal : (run : List ModuleClock) (other : List netlist.Clock) → IsRun m run → netlist.IsRun n.cells other → BeginAlike m n run other → HaveEqualOutputs m n run other
+  equal : (run : List ModuleClock) (other : List netlist.Clock) → IsModuleRun m run → netlist.IsRun n.cells other → BeginAlike m n run other → HaveEqualOutputs m n run other
   equal run other p q b =
       let named = by_name m n at r other in
       let long : length named ≡ length other = by_name_length m n at r other in
       let alike = name_alike other in
       let here : length run ≡ length other = b.long in
-      let itself : IsRunOn m run run = record {
+      let itself : IsModuleRunOn m run run = record {
         long = refl;
         runs = p;
         agrees = λ t l. record { same = λ x a held. agree_by (clock_at run t) (clock_at run t) t x x.kind refl refl (λ z. refl) a held };
       } in
-      let read_back : IsRunOn m run named = record {
+      let read_back : IsModuleRunOn m run named = record {
         long = long ∙ sym here;
         runs = by_name_run m n at r other q;
         agrees = λ t l. record {
@@ -157,7 +157,7 @@ module _ (m : ModuleTree) (n : circuit.Circuit) (at : List ℕ → ℕ) (ok : Is
             ∙ (name_outputs other).outputs t (omega arith);
       }
 
-input_holds : (k : NetKind) (width w : ℕ) (s : List ℕ) → is_input_kind k ≡ true → Holds k width w s → w < 2 ^ width
+input_holds : (k : NetKind) (width w : ℕ) (s : List ℕ) → is_input_kind k ≡ true → FitsKind k width w s → w < 2 ^ width
 input_holds InputName width w s is h = h
 input_holds Wire width w s is h = absurd (cc)
 input_holds OutWire width w s is h = absurd (cc)
@@ -193,7 +193,7 @@ abbrev FitsBy : Option ℕ → ℕ → List ℕ → Type 0
 FitsBy None width s = (w : ℕ) × (s ≡ w ∷ []) × (w < 2 ^ width)
 FitsBy (Some depth) width s = (length s ≡ depth) × All (λ v. v < 2 ^ width) s
 
-fits_kind : (k : NetKind) (width w : ℕ) (s : List ℕ) → Holds k width w s → FitsBy (kind_depth k) width (kind_words k w s)
+fits_kind : (k : NetKind) (width w : ℕ) (s : List ℕ) → FitsKind k width w s → FitsBy (kind_depth k) width (kind_words k w s)
 fits_kind InputName width w s h = (w, refl, h)
 fits_kind Wire width w s h = (w, refl, h)
 fits_kind OutWire width w s h = (w, refl, h)
@@ -268,7 +268,7 @@ module _ (m : ModuleTree) (n : circuit.Circuit) (at : List ℕ → ℕ) (ok : Is
   abbrev laid_by : ModuleClock → netlist.Clock
   laid_by c = laid_clock n.cells (input_words m c) (held_words m c)
 
-  fit_words : (c : ModuleClock) → IsShaped m c → FitInputs (input_cells n.cells) (input_words m c)
+  fit_words : (c : ModuleClock) → IsModuleShaped m c → FitInputs (input_cells n.cells) (input_words m c)
   fit_words c s =
       fit_inputs (λ (x : NetTree). c.word x.name) (inputs_of m) (input_cells n.cells) (inputs_read m n at ok r (λ net width. width))
       (λ x a.
@@ -276,7 +276,7 @@ module _ (m : ModuleTree) (n : circuit.Circuit) (at : List ℕ → ℕ) (ok : Is
       let p = and_parts _ _ k.1 in
       input_holds x.kind x.width (c.word x.name) (c.store x.name) p.0 (s.holds x k.0 (true_not _ p.1)))
 
-  fit_held : (c : ModuleClock) → IsShaped m c → FitStates (state_cells n.cells) (held_words m c)
+  fit_held : (c : ModuleClock) → IsModuleShaped m c → FitStates (state_cells n.cells) (held_words m c)
   fit_held c s =
       fit_states (λ (x : NetTree). kind_words x.kind (c.word x.name) (c.store x.name)) (states_of m) (state_cells n.cells)
       (states_read m n at ok r (λ net width depth. width)) (states_read m n at ok r (λ net width depth. depth))
@@ -284,7 +284,7 @@ module _ (m : ModuleTree) (n : circuit.Circuit) (at : List ℕ → ℕ) (ok : Is
       let k = among_filter (λ (x : NetTree). is_register_kind x.kind || is_memory_kind x.kind) x m.nets a in
       fits_kind x.kind x.width (c.word x.name) (c.store x.name) (s.holds x k.0 (no_input_no_clock m (regular ok) x k.0 (state_no_input x.kind k.1))))
 
-  module _ (run : List ModuleClock) (p : IsRun m run) where
+  module _ (run : List ModuleClock) (p : IsModuleRun m run) where
     abbrev laid_run : List netlist.Clock
     laid_run = map laid_by run
 

@@ -3,16 +3,16 @@ use Rattle.std.proofs.Common.{ℕ, ◌≡◌, ◌==◌, ◌/◌, ◌%◌, ◌^�
 use Rattle.std.specs.Prelude.{if◌then◌else◌}
 use Rattle.std.proofs.lemmas.Bool.{cases_Bool, cond-true, cond-false, or_parts}
 use Rattle.ae_vread.specs.ModuleTree.{ExprTree, name, constant, place, part, index, unary, binary, choice, concat_one, concat_more, StmtTree, set, put, when, either, block_end, block_more, NetTree}
-use Rattle.ae_judge.specs.Names.{Among, is_memory, names_in, stmt_reads}
-use Rattle.ae_judge.specs.Widths.{width_of, own_width}
+use Rattle.ae_judge.specs.Names.{Among, is_memory_name, names_in, stmt_reads}
+use Rattle.ae_judge.specs.Widths.{declared_width, own_width}
 use Rattle.ae_runs.specs.Values.{ModuleClock, operand_width, left_width, right_width, value_at, assigned, after_stmt}
 use Rattle.ae_judge.specs.Faults.{is_misused, is_misused_in_stmt}
 use Rattle.ae_judge.proofs.Members.{among_left, among_right}
 
 -- a memory has the same words, and another name the same word
 pub record IsSameName (ns : List NetTree) (c d : ModuleClock) (n : List ℕ) : Type 0 where
-  pub word : is_memory ns n ≡ false → c.word n ≡ d.word n
-  pub store : is_memory ns n ≡ true → c.store n ≡ d.store n
+  pub word : is_memory_name ns n ≡ false → c.word n ≡ d.word n
+  pub store : is_memory_name ns n ≡ true → c.store n ≡ d.store n
 
 branch_word : (x y : ℕ) (a b c d : ModuleClock) (k : List ℕ) → x ≡ y → a.word k ≡ c.word k → b.word k ≡ d.word k → (if x == 0 then a else b).word k ≡ (if y == 0 then c else d).word k
 branch_word x y a b c d k e p q = elim (cases_Bool (x == 0)) [
@@ -27,8 +27,8 @@ branch_store x y a b c d k e p q = elim (cases_Bool (x == 0)) [
 ]
 
 module _ (ns : List NetTree) (c d : ModuleClock) where
-  index_same : (n : List ℕ) (x y : ℕ) → IsSameName ns c d n → x ≡ y → (if is_memory ns n then get_or (c.store n) x 0 else c.word n / 2 ^ x % 2) ≡ (if is_memory ns n then get_or (d.store n) y 0 else d.word n / 2 ^ y % 2)
-  index_same n x y h e = elim (cases_Bool (is_memory ns n)) [
+  index_same : (n : List ℕ) (x y : ℕ) → IsSameName ns c d n → x ≡ y → (if is_memory_name ns n then get_or (c.store n) x 0 else c.word n / 2 ^ x % 2) ≡ (if is_memory_name ns n then get_or (d.store n) y 0 else d.word n / 2 ^ y % 2)
+  index_same n x y h e = elim (cases_Bool (is_memory_name ns n)) [
     | inl t ↦ cond-true _ _ _ t ∙ ap (λ s. get_or s x 0) (h.store t) ∙ ap (λ k. get_or (d.store n) k 0) e ∙ sym (cond-true _ _ _ t)
     | inr f ↦ cond-false _ _ _ f ∙ ap (λ w. w / 2 ^ x % 2) (h.word f) ∙ ap (λ k. d.word n / 2 ^ k % 2) e ∙ sym (cond-false _ _ _ f)
   ]
@@ -53,7 +53,7 @@ module _ (ns : List NetTree) (c d : ModuleClock) where
       rw (value_same a (λ n x. h n (among_left n (names_in a) (names_in rest) x)) p.0 (own_width ns a), value_same rest (λ n x. h n (among_right n (names_in a) (names_in rest) x)) p.1 (own_width ns rest)) refl
 
   pub assigned_same : (n : List ℕ) (e : ExprTree) → ((k : List ℕ) → Among k (names_in e) → IsSameName ns c d k) → is_misused ns e ≡ false → assigned ns c n e ≡ assigned ns d n e
-  assigned_same n e h r = rw (value_same e h r (max (own_width ns e) (width_of ns n))) refl
+  assigned_same n e h r = rw (value_same e h r (max (own_width ns e) (declared_width ns n))) refl
 
   -- a statement changes a name alike
   pub stmt_same : (s : StmtTree) → ((n : List ℕ) → Among n (stmt_reads s) → IsSameName ns c d n) → is_misused_in_stmt ns s ≡ false

@@ -1,7 +1,7 @@
 -- A plain, slow way to the run of a module: in each clock all wires are computed anew as often as there are wires.
 use Rattle.std.specs.Prelude.{ℕ, zero, suc, if◌then◌else◌, List, [], ◌∷◌, length, Option, Some, None, bytes_eq, find}
 use Rattle.ae_vread.specs.ModuleTree.{NetTree, DriveTree, ModuleTree}
-use Rattle.ae_judge.specs.Names.{is_input, equations}
+use Rattle.ae_judge.specs.Names.{is_input_name, equations}
 use Rattle.ae_runs.specs.Values.{ModuleClock, assigned}
 use Rattle.ae_runs.specs.Runs.{clock_at, next_clock}
 
@@ -26,7 +26,7 @@ settled m c = recomputed_often m c (length (equations m))
 
 -- the inputs as given, and registers and memories as they are next
 unfoldable pub fed : ModuleTree → ModuleClock → ModuleClock → ModuleClock
-fed m given next = record { word = λ n. if is_input m.nets n then given.word n else next.word n; store = next.store }
+fed m given next = record { word = λ n. if is_input_name m.nets n then given.word n else next.word n; store = next.store }
 
 abbrev pub plain_clock : ModuleTree → List ModuleClock → ℕ → ModuleClock
 plain_clock m given zero = settled m (clock_at given 0)

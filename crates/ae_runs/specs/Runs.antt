@@ -13,13 +13,13 @@ abbrev pub clock_at : List ModuleClock → ℕ → ModuleClock
 clock_at run t = get_or run t idle_clock
 
 -- what a clock has for a name: a memory so many words of its width, and another name one word
-abbrev pub Holds : NetKind → (width word : ℕ) → (store : List ℕ) → Type 0
-Holds (Memory depth) width word store = (length store ≡ depth) × All (λ x. x < 2 ^ width) store
-Holds _ width word store = word < 2 ^ width
+abbrev pub FitsKind : NetKind → (width word : ℕ) → (store : List ℕ) → Type 0
+FitsKind (Memory depth) width word store = (length store ≡ depth) × All (λ x. x < 2 ^ width) store
+FitsKind _ width word store = word < 2 ^ width
 
 -- a clock has something for each name but the clock
-pub record IsShaped (m : ModuleTree) (c : ModuleClock) : Type 0 where
-  pub holds : (x : NetTree) → Among x m.nets → is_clock m x.name ≡ false → Holds x.kind x.width (c.word x.name) (c.store x.name)
+pub record IsModuleShaped (m : ModuleTree) (c : ModuleClock) : Type 0 where
+  pub holds : (x : NetTree) → Among x m.nets → is_clock m x.name ≡ false → FitsKind x.kind x.width (c.word x.name) (c.store x.name)
 
 -- each wire has the value of its expression
 pub record IsSettled (m : ModuleTree) (c : ModuleClock) : Type 0 where
@@ -50,34 +50,34 @@ pub record IsStep (m : ModuleTree) (c d : ModuleClock) : Type 0 where
   pub steps : (x : NetTree) → Among x m.nets → StepsTo x.kind ((next_clock m c).word x.name) (d.word x.name) ((next_clock m c).store x.name) (d.store x.name)
 
 -- a run: what is not said of a word here is free
-pub record IsRun (m : ModuleTree) (run : List ModuleClock) : Type 0 where
-  pub shaped : (t : ℕ) → t < length run → IsShaped m (clock_at run t)
+pub record IsModuleRun (m : ModuleTree) (run : List ModuleClock) : Type 0 where
+  pub shaped : (t : ℕ) → t < length run → IsModuleShaped m (clock_at run t)
   pub settles : (t : ℕ) → t < length run → IsSettled m (clock_at run t)
   pub steps : (t : ℕ) → t + 1 < length run → IsStep m (clock_at run t) (clock_at run (t + 1))
 
 -- `rst` is 1 in the first clocks, at least one, and 0 in all others; clocks are counted from start
 pub record IsResetRun (m : ModuleTree) (run : List ModuleClock) (start : ℕ) : Type 0 where
-  pub run_of : IsRun m run
+  pub run_of : IsModuleRun m run
   pub some : 1 ≤ start
   pub high : (t : ℕ) → t < start → t < length run → (clock_at run t).word (codes "rst") ≡ 1
   pub low : (t : ℕ) → start ≤ t → t < length run → (clock_at run t).word (codes "rst") ≡ 0
 
 -- the words that a run may choose are the given ones: those of the inputs, and what registers and memories begin with
-abbrev pub AgreesAt : NetKind → (t : ℕ) → (word given_word : ℕ) → (store given_store : List ℕ) → Type 0
-AgreesAt Input t word given_word store given_store = word ≡ given_word
-AgreesAt Reg t word given_word store given_store = t ≡ 0 → word ≡ given_word
-AgreesAt OutReg t word given_word store given_store = t ≡ 0 → word ≡ given_word
-AgreesAt (Memory depth) t word given_word store given_store = t ≡ 0 → store ≡ given_store
-AgreesAt _ t word given_word store given_store = Unit {0}
+abbrev pub ModuleAgreesAt : NetKind → (t : ℕ) → (word given_word : ℕ) → (store given_store : List ℕ) → Type 0
+ModuleAgreesAt Input t word given_word store given_store = word ≡ given_word
+ModuleAgreesAt Reg t word given_word store given_store = t ≡ 0 → word ≡ given_word
+ModuleAgreesAt OutReg t word given_word store given_store = t ≡ 0 → word ≡ given_word
+ModuleAgreesAt (Memory depth) t word given_word store given_store = t ≡ 0 → store ≡ given_store
+ModuleAgreesAt _ t word given_word store given_store = Unit {0}
 
-pub record Agrees (m : ModuleTree) (t : ℕ) (given c : ModuleClock) : Type 0 where
-  pub same : (x : NetTree) → Among x m.nets → is_clock m x.name ≡ false → AgreesAt x.kind t (c.word x.name) (given.word x.name) (c.store x.name) (given.store x.name)
+pub record ModuleAgrees (m : ModuleTree) (t : ℕ) (given c : ModuleClock) : Type 0 where
+  pub same : (x : NetTree) → Among x m.nets → is_clock m x.name ≡ false → ModuleAgreesAt x.kind t (c.word x.name) (given.word x.name) (c.store x.name) (given.store x.name)
 
 -- a run as long as the given clocks, with their inputs and first words
-pub record IsRunOn (m : ModuleTree) (given run : List ModuleClock) : Type 0 where
+pub record IsModuleRunOn (m : ModuleTree) (given run : List ModuleClock) : Type 0 where
   pub long : length run ≡ length given
-  pub runs : IsRun m run
-  pub agrees : (t : ℕ) → t < length given → Agrees m t (clock_at given t) (clock_at run t)
+  pub runs : IsModuleRun m run
+  pub agrees : (t : ℕ) → t < length given → ModuleAgrees m t (clock_at given t) (clock_at run t)
 
 -- the same words for a name
 abbrev pub SameAt : NetKind → (word other_word : ℕ) → (store other_store : List ℕ) → Type 0
@@ -89,8 +89,8 @@ pub record IsSameClock (m : ModuleTree) (c d : ModuleClock) : Type 0 where
   pub same : (x : NetTree) → Among x m.nets → is_clock m x.name ≡ false → SameAt x.kind (c.word x.name) (d.word x.name) (c.store x.name) (d.store x.name)
 
 -- for any inputs and any first words there is exactly one run
-abbrev pub HasOneRun : ModuleTree → Type 0
-HasOneRun m =
-    (given : List ModuleClock) → ((t : ℕ) → t < length given → IsShaped m (clock_at given t))
-    → (run : List ModuleClock) × IsRunOn m given run
-    × ((other : List ModuleClock) → IsRunOn m given other → (t : ℕ) → t < length given → IsSameClock m (clock_at other t) (clock_at run t))
+abbrev pub HasOneModuleRun : ModuleTree → Type 0
+HasOneModuleRun m =
+    (given : List ModuleClock) → ((t : ℕ) → t < length given → IsModuleShaped m (clock_at given t))
+    → (run : List ModuleClock) × IsModuleRunOn m given run
+    × ((other : List ModuleClock) → IsModuleRunOn m given other → (t : ℕ) → t < length given → IsSameClock m (clock_at other t) (clock_at run t))

@@ -12,7 +12,7 @@ use Rattle.ae_vread.specs.declared.module.NetKind.TheVariants.{Memory}
 use Rattle.ae_vread.specs.ModuleTree.{NetTree, ModuleTree}
 use Rattle.ae_judge.specs.Names.{is_input_kind, is_register_kind, is_memory_kind, is_output_kind, is_clock}
 use Rattle.ae_runs.specs.Values.{ModuleClock}
-use Rattle.ae_runs.specs.Runs.{clock_at, IsRun}
+use Rattle.ae_runs.specs.Runs.{clock_at, IsModuleRun}
 
 -- the inputs of a module but its clock, its outputs, and its registers and memories, each in the order of declaration
 abbrev pub inputs_of : ModuleTree → List NetTree
@@ -95,6 +95,6 @@ pub record HasSameRuns (m : ModuleTree) (n : circuit.Circuit) : Type 0 where
   pub outputs : map (λ (x : NetTree). x.width) (outputs_of m) ≡ map (λ (o : Outlet). circuit.width_of n.cells o.net.0) n.outlets
   pub widths : map (λ (x : NetTree). x.width) (states_of m) ≡ map (λ (x : ℕ × SizedCell). x.1.width) (state_cells n.cells)
   pub depths : map (λ (x : NetTree). kind_depth x.kind) (states_of m) ≡ map (λ (x : ℕ × SizedCell). cell_depth x.1.cell) (state_cells n.cells)
-  pub equal : (run : List ModuleClock) (other : List netlist.Clock) → IsRun m run → netlist.IsRun n.cells other → BeginAlike m n run other → HaveEqualOutputs m n run other
-  pub of_module : (run : List ModuleClock) → IsRun m run → (other : List netlist.Clock) × netlist.IsRun n.cells other × BeginAlike m n run other × HaveEqualOutputs m n run other
-  pub of_netlist : (other : List netlist.Clock) → netlist.IsRun n.cells other → (run : List ModuleClock) × IsRun m run × BeginAlike m n run other × HaveEqualOutputs m n run other
+  pub equal : (run : List ModuleClock) (other : List netlist.Clock) → IsModuleRun m run → netlist.IsRun n.cells other → BeginAlike m n run other → HaveEqualOutputs m n run other
+  pub of_module : (run : List ModuleClock) → IsModuleRun m run → (other : List netlist.Clock) × netlist.IsRun n.cells other × BeginAlike m n run other × HaveEqualOutputs m n run other
+  pub of_netlist : (other : List netlist.Clock) → netlist.IsRun n.cells other → (run : List ModuleClock) × IsModuleRun m run × BeginAlike m n run other × HaveEqualOutputs m n run other

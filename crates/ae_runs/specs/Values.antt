@@ -7,8 +7,8 @@ use Rattle.ae_vread.specs.declared.module.UnOp.TheVariants.{Not, Flip}
 use Rattle.ae_vread.specs.declared.module.BinOp.{BinOp}
 use Rattle.ae_vread.specs.declared.module.BinOp.TheVariants.{Mul, Add, Sub, Shl, Shr, Lt, Le, Gt, Ge, Eq, Ne, And, Xor, Or, Both, Either}
 use Rattle.ae_vread.specs.ModuleTree.{ExprTree, name, constant, place, part, index, unary, binary, choice, concat_one, concat_more, StmtTree, set, put, when, either, block_end, block_more, NetTree}
-use Rattle.ae_judge.specs.Names.{is_memory}
-use Rattle.ae_judge.specs.Widths.{width_of, own_width}
+use Rattle.ae_judge.specs.Names.{is_memory_name}
+use Rattle.ae_judge.specs.Widths.{declared_width, own_width}
 
 -- what stands in one clock, by name: a word, or the words of a memory
 pub record ModuleClock : Type 0 where
@@ -76,7 +76,7 @@ value_at ns c w (constant size value fits) = value
 value_at ns c w (place k) = k
 value_at ns c w (part n high low) = c.word n / 2 ^ low % 2 ^ (high - low + 1)
 value_at ns c w (index n at) =
-    if is_memory ns n
+    if is_memory_name ns n
     then get_or (c.store n) (value_at ns c (own_width ns at) at) 0
     else c.word n / 2 ^ value_at ns c (own_width ns at) at % 2
 value_at ns c w (unary op a) = unary_result op w (value_at ns c (operand_width op w (own_width ns a)) a)
@@ -95,7 +95,7 @@ own_value ns c e = value_at ns c (own_width ns e) e
 
 -- what an assignment gives its target: computed at the greater of both widths, and cut to the target's
 abbrev pub assigned : List NetTree → ModuleClock → List ℕ → ExprTree → ℕ
-assigned ns c n e = value_at ns c (max (own_width ns e) (width_of ns n)) e % 2 ^ width_of ns n
+assigned ns c n e = value_at ns c (max (own_width ns e) (declared_width ns n)) e % 2 ^ declared_width ns n
 
 -- a clock with another word for one name, or another word at one place of a memory
 abbrev pub with_word : ModuleClock → List ℕ → ℕ → ModuleClock

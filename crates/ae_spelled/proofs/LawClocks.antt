@@ -9,7 +9,7 @@ use Rattle.ae_netlist.specs.declared.cell.Outlet.{Outlet}
 use Rattle.ae_netlist.specs.Circuit as c
 use Rattle.ae_vread.specs.ModuleTree.{StmtTree, DriveTree, ItemTree, nets, assigns, always}
 use Rattle.ae_elab.specs.Names as e
-use Rattle.ae_elab.specs.Widths.{width_in, width_of}
+use Rattle.ae_elab.specs.Widths.{declared_width_in, declared_width}
 use Rattle.ae_elab.specs.Values.{ModuleClock, assigned}
 use Rattle.ae_elab.specs.Runs.{IsSettled}
 use Rattle.ae_judge.proofs.Members.{bytes_same, other_bytes, among_at}
@@ -68,8 +68,8 @@ module _ (lines : ℕ → ℕ) (cells : List SizedCell) (outlets : List Outlet) 
   pub output_no_clock : (j : ℕ) (o : Outlet) → slice_get outlets j ≡ Some o → e.is_clock (written lines cells outlets outs) (port_name outs o.port) ≡ false
   output_no_clock j o h = is_clock_when (port_name outs o.port) false (other_bytes clock_name (port_name outs o.port) (λ s. clock_not_output lines cells outlets outs ok j o h s))
 
-  pub output_wide : (j : ℕ) (o : Outlet) → slice_get outlets j ≡ Some o → width_of (written lines cells outlets outs).nets (port_name outs o.port) ≡ c.width_of cells o.net.0
-  output_wide j o h = ap width_in (output_named lines cells outlets outs ok j o h)
+  pub output_wide : (j : ℕ) (o : Outlet) → slice_get outlets j ≡ Some o → declared_width (written lines cells outlets outs).nets (port_name outs o.port) ≡ c.width_of cells o.net.0
+  output_wide j o h = ap declared_width_in (output_named lines cells outlets outs ok j o h)
 
   module _ (m : ModuleClock) (ws : ℕ → ℕ) (ss : ℕ → List ℕ) (r : Reads lines cells outlets outs ok m ws ss) where
     -- the word of a cell that an equation gives is what the cell makes

@@ -10,7 +10,7 @@ use Rattle.ae_netlist.specs.declared.cell.Outlet.{Outlet}
 use Rattle.ae_netlist.specs.Circuit as c
 use Rattle.ae_netlist.specs.Runs as r
 use Rattle.ae_elab.specs.Values.{ModuleClock}
-use Rattle.ae_elab.specs.Runs.{idle_clock, clock_at, Holds, IsRun}
+use Rattle.ae_elab.specs.Runs.{idle_clock, clock_at, FitsKind, IsModuleRun}
 use Rattle.ae_verilog.specs.NetlistModule.{port_name, number_name, cell_name}
 use Rattle.ae_verilog.specs.Written.{IsWritableNetlist}
 use Rattle.ae_spelled.proofs.LawNets.{written, cell_net, cell_among, name_of}
@@ -94,14 +94,14 @@ plain_word lines m k (Reg next) p = refl
 plain_word lines m k (Mem depth at next enable) p = absurd p
 plain_word lines m k (Peek mem at) p = refl
 
-module _ (lines : ℕ → ℕ) (cells : List SizedCell) (outlets : List Outlet) (outs : ℕ) (ok : IsWritableNetlist cells outlets outs) (run : List ModuleClock) (is : IsRun (written lines cells outlets outs) run) where
+module _ (lines : ℕ → ℕ) (cells : List SizedCell) (outlets : List Outlet) (outs : ℕ) (ok : IsWritableNetlist cells outlets outs) (run : List ModuleClock) (is : IsModuleRun (written lines cells outlets outs) run) where
   abbrev other : List r.Clock
   other = run_by_number lines cells run
 
   pub plain_is : (t k : ℕ) (x : SizedCell) → t < length run → slice_get cells k ≡ Some x → c.IsPlain x.cell → r.word_at other t k ≡ (clock_at run t).word (cell_name lines k x.cell)
   plain_is t k x l h p = word_is lines cells run t k x l h ∙ plain_word lines (clock_at run t) k x.cell p
 
-  held : (t k : ℕ) (x : SizedCell) → t < length run → slice_get cells k ≡ Some x → Holds (cell_net lines cells outlets outs k x).kind x.width ((clock_at run t).word (cell_name lines k x.cell)) ((clock_at run t).store (cell_name lines k x.cell))
+  held : (t k : ℕ) (x : SizedCell) → t < length run → slice_get cells k ≡ Some x → FitsKind (cell_net lines cells outlets outs k x).kind x.width ((clock_at run t).word (cell_name lines k x.cell)) ((clock_at run t).store (cell_name lines k x.cell))
   held t k x l h = (is.shaped t l).holds (cell_net lines cells outlets outs k x) (cell_among lines cells outlets outs k x h) (cell_no_clock lines cells outlets outs ok k x h)
 
   plain_held : (t k width : ℕ) (cell : Cell) → t < length run → slice_get cells k ≡ Some (record { width = width; cell = cell }) → c.IsPlain cell → (clock_at run t).word (cell_name lines k cell) < 2 ^ width

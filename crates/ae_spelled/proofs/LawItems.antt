@@ -11,7 +11,7 @@ use Rattle.ae_netlist.specs.Circuit.{operand}
 use Rattle.ae_vread.specs.ModuleTree.{constant, index, StmtTree, set, put, when, block_end, DriveTree, ItemTree, nets, always}
 use Rattle.ae_elab.specs.Names.{Among, drives_of, equations}
 use Rattle.ae_judge.proofs.Members.{among_left, among_right, among_at, among_from, among_map, among_flat, among_unflat}
-use Rattle.ae_verilog.specs.NetlistModule.{clock_name, port_name, number_name, net_name, each_numbered, net_value, op_value, drive, declaration, assignment, edge}
+use Rattle.ae_verilog.specs.NetlistModule.{clock_name, port_name, number_name, net_name, each_numbered, net_value, op_expression, drive, declaration, assignment, edge}
 use Rattle.ae_spelled.proofs.LawNets.{among_listed, is_other, others, written}
 
 pub get_append : {X : Type 0} (xs ys : List X) (j : ℕ) (x : X) → slice_get (xs ++ ys) j ≡ Some x → (slice_get xs j ≡ Some x) ⊎ ((i : ℕ) × (j ≡ length xs + i) × (slice_get ys i ≡ Some x))
@@ -72,7 +72,7 @@ module _ (lines : ℕ → ℕ) (cells : List SizedCell) (outlets : List Outlet) 
   -- the equation of a cell, if it has one
   abbrev pub cell_drives : ℕ → ℕ → Cell → List DriveTree
   cell_drives k width (Const v) = drive (number_name lines k) (constant width v true) ∷ []
-  cell_drives k width (Op op args) = drive (number_name lines k) (op_value lines cells width op (operand args 0) (operand args 1) (operand args 2)) ∷ []
+  cell_drives k width (Op op args) = drive (number_name lines k) (op_expression lines cells width op (operand args 0) (operand args 1) (operand args 2)) ∷ []
   cell_drives k width (Peek mem at) = drive (number_name lines k) (index (net_name lines cells mem.0) (net_value lines cells at.0)) ∷ []
   cell_drives k width _ = []
 

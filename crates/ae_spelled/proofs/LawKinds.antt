@@ -16,11 +16,11 @@ use Rattle.ae_netlist.proofs.Growing.{net_width, net_from_take, memory_from_take
 use Rattle.ae_vread.specs.declared.module.BinOp.{BinOp}
 use Rattle.ae_vread.specs.declared.module.BinOp.TheVariants.{Shl as LeftBy, Shr as RightBy}
 use Rattle.ae_vread.specs.ModuleTree.{ExprTree, constant, part, index, binary, choice, NetTree, DriveTree, ItemTree, ModuleTree}
-use Rattle.ae_elab.specs.Names.{Among, is_wire_kind, is_register_kind, is_memory_kind, passes, net_named, is_wire, is_memory, is_ranged, depth_in, depth_of, is_clock, drive_reads, item_reads}
-use Rattle.ae_elab.specs.Widths.{width_of}
+use Rattle.ae_elab.specs.Names.{Among, is_wire_kind, is_register_kind, is_memory_kind, passes, net_named, is_wire_name, is_memory_name, is_ranged, depth_in, depth_of, is_clock, drive_reads, item_reads}
+use Rattle.ae_elab.specs.Widths.{declared_width}
 use Rattle.ae_elab.specs.Faults.{is_misused, is_misused_in_stmt, is_misused_in_drive, is_misused_in_item, HasKind, is_too_large, is_outside_of, is_outside, is_too_wide, is_too_wide_in_stmt, is_too_wide_in_drive, is_too_wide_in_item, HasWidth, Never}
 use Rattle.ae_judge.proofs.Members.{among_unflat, among_from}
-use Rattle.ae_verilog.specs.NetlistModule.{port_name, number_name, net_name, net_value, op_value}
+use Rattle.ae_verilog.specs.NetlistModule.{port_name, number_name, net_name, net_value, op_expression}
 use Rattle.ae_verilog.specs.Written.{IsWritableNetlist}
 use Rattle.ae_spelled.proofs.LawNets.{written, cell_net, the_clock, a_cell, an_output, origin, name_of, cell_named, output_named, clock_named}
 use Rattle.ae_spelled.proofs.LawItems.{cell_drives, cell_edge, declares, shows, changes, item_origin}
@@ -59,7 +59,7 @@ module _ (lines : ℕ → ℕ) (cells : List SizedCell) (outlets : List Outlet) 
     pub right : is_misused ns e ≡ false
     pub within : is_too_wide ns e ≡ false
 
-  plain_name : (a w : ℕ) → c.IsNet cells a w → is_memory ns (net_name lines cells a) ≡ false
+  plain_name : (a w : ℕ) → c.IsNet cells a w → is_memory_name ns (net_name lines cells a) ≡ false
   plain_name a w h = ap (passes (λ (y : NetTree). is_memory_kind y.kind)) (named_net lines cells outlets outs ok a w h) ∙ plain_kind lines cells outlets outs a h.sized.width h.sized.cell h.plain
 
   ranged_name : (a w : ℕ) → c.IsNet cells a w → 1 < w → is_ranged ns (net_name lines cells a) ≡ true
@@ -94,7 +94,7 @@ module _ (lines : ℕ → ℕ) (cells : List SizedCell) (outlets : List Outlet) 
     within = or_from _ _ (not_less (to - 1) 0 (omega arith)) (ap (λ v. nat_le v (to - 1)) (net_wide lines cells outlets outs ok a w h) ∙ not_most w (to - 1) (omega arith));
   }
 
-  op_sound : (r : ℕ) (op : WordOp) (args : List NetId) → c.IsOperation cells op args r → IsSound (op_value lines cells r op (c.operand args 0) (c.operand args 1) (c.operand args 2))
+  op_sound : (r : ℕ) (op : WordOp) (args : List NetId) → c.IsOperation cells op args r → IsSound (op_expression lines cells r op (c.operand args 0) (c.operand args 1) (c.operand args 2))
   op_sound r Add args h = two_sound _ _ _ _ _ h.operands.0 h.operands.1
   op_sound r Sub args h = two_sound _ _ _ _ _ h.operands.0 h.operands.1
   op_sound r Mul args h = two_sound _ _ _ _ _ h.operands.0 h.operands.1
@@ -121,8 +121,8 @@ module _ (lines : ℕ → ℕ) (cells : List SizedCell) (outlets : List Outlet) 
   deep_name : (k w d : ℕ) → c.IsMemory cells k w d → depth_of ns (net_name lines cells k) ≡ d
   deep_name k w d h = ap depth_in (ap (net_named ns) (name_of lines cells outlets outs k _ h.found) ∙ cell_named lines cells outlets outs ok k _ h.found)
 
-  outside_is : (n : List ℕ) (at : ℕ) (b : Bool) (d w : ℕ) → is_memory ns n ≡ b → depth_of ns n ≡ d → width_of ns (net_name lines cells at) ≡ w → (b ≡ true) → 2 ^ w ≤ d → is_outside ns n (net_value lines cells at) ≡ false
-  outside_is n at true d w is deep wide t h = (λ i. is_outside_of (is i) (width_of ns n) (deep i) (wide i) (net_value lines cells at)) ∙ not_less d (2 ^ w) h
+  outside_is : (n : List ℕ) (at : ℕ) (b : Bool) (d w : ℕ) → is_memory_name ns n ≡ b → depth_of ns n ≡ d → declared_width ns (net_name lines cells at) ≡ w → (b ≡ true) → 2 ^ w ≤ d → is_outside ns n (net_value lines cells at) ≡ false
+  outside_is n at true d w is deep wide t h = (λ i. is_outside_of (is i) (declared_width ns n) (deep i) (wide i) (net_value lines cells at)) ∙ not_less d (2 ^ w) h
   outside_is n at false d w is deep wide t h = absurd (cc)
 
   index_sound : (mem at w d v : ℕ) → c.IsMemory cells mem w d → c.IsNet cells at v → 2 ^ v ≤ d → IsSound (index (net_name lines cells mem) (net_value lines cells at))
@@ -131,16 +131,16 @@ module _ (lines : ℕ → ℕ) (cells : List SizedCell) (outlets : List Outlet) 
     within = or_from _ _ refl (outside_is (net_name lines cells mem) at true d v (memory_named lines cells outlets outs ok mem w d h) (deep_name mem w d h) (net_wide lines cells outlets outs ok at v n) refl l);
   }
 
-  drive_sound : (k width : ℕ) (cell : Cell) → slice_get cells k ≡ Some (record { width = width; cell = cell }) → (d : DriveTree) → Among d (cell_drives lines cells outlets outs k width cell) → (is_wire ns d.name ≡ true) × IsSound d.value
+  drive_sound : (k width : ℕ) (cell : Cell) → slice_get cells k ≡ Some (record { width = width; cell = cell }) → (d : DriveTree) → Among d (cell_drives lines cells outlets outs k width cell) → (is_wire_name ns d.name ≡ true) × IsSound d.value
   drive_sound k width (Input port) h d a = absurd a
   drive_sound k width (Reg next) h d a = absurd a
   drive_sound k width (Mem depth at next enable) h d a = absurd a
   drive_sound k width (Const v) h d a = elim a [
-    | inl e ↦ subst (λ (z : DriveTree). (is_wire ns z.name ≡ true) × IsSound z.value) e (ap (passes (λ (y : NetTree). is_wire_kind y.kind)) (cell_named lines cells outlets outs ok k _ h), constant_sound width v)
+    | inl e ↦ subst (λ (z : DriveTree). (is_wire_name ns z.name ≡ true) × IsSound z.value) e (ap (passes (λ (y : NetTree). is_wire_kind y.kind)) (cell_named lines cells outlets outs ok k _ h), constant_sound width v)
     | inr none ↦ absurd none
   ]
   drive_sound k width (Op op args) h d a = elim a [
-    | inl e ↦ subst (λ (z : DriveTree). (is_wire ns z.name ≡ true) × IsSound z.value) e (
+    | inl e ↦ subst (λ (z : DriveTree). (is_wire_name ns z.name ≡ true) × IsSound z.value) e (
       ap (passes (λ (y : NetTree). is_wire_kind y.kind)) (cell_named lines cells outlets outs ok k _ h),
       op_sound width op args (operation_later (take k cells) cells op args width (λ i v q. net_from_take cells k i v q) (ok.formed.each k _ h).cell),
     )
@@ -154,14 +154,14 @@ module _ (lines : ℕ → ℕ) (cells : List SizedCell) (outlets : List Outlet) 
         let w = ok.whole.each mem.0 width p.depth kept.at kept.next kept.enable kept.found in
         let deep = w.peeks k width mem at h refl in
         let same : c.width_of cells at.0 ≡ c.width_of (take k cells) at.0 = net_width net in
-        subst (λ (z : DriveTree). (is_wire ns z.name ≡ true) × IsSound z.value) e (
+        subst (λ (z : DriveTree). (is_wire_name ns z.name ≡ true) × IsSound z.value) e (
           ap (passes (λ (y : NetTree). is_wire_kind y.kind)) (cell_named lines cells outlets outs ok k _ h),
           index_sound mem.0 at.0 width p.depth (c.width_of (take k cells) at.0) kept net (subst (λ v. 2 ^ v ≤ p.depth) same deep),
         )
     | inr none ↦ absurd none
   ]
 
-  output_is_wire : (j : ℕ) (o : Outlet) → slice_get outlets j ≡ Some o → is_wire ns (port_name outs o.port) ≡ true
+  output_is_wire : (j : ℕ) (o : Outlet) → slice_get outlets j ≡ Some o → is_wire_name ns (port_name outs o.port) ≡ true
   output_is_wire j o h = ap (passes (λ (y : NetTree). is_wire_kind y.kind)) (output_named lines cells outlets outs ok j o h)
 
   edge_sound : (k width : ℕ) (cell : Cell) → slice_get cells k ≡ Some (record { width = width; cell = cell }) → (is_misused_in_stmt ns (cell_edge lines cells outlets outs k cell) ≡ false) × (is_too_wide_in_stmt ns (cell_edge lines cells outlets outs k cell) ≡ false)
@@ -176,7 +176,7 @@ module _ (lines : ℕ → ℕ) (cells : List SizedCell) (outlets : List Outlet) 
   edge_sound k width (Mem depth at next enable) h =
       let w = written_memory k width depth at next enable cells ok.whole ok.formed h in
       let whole = ok.whole.each k width depth at next enable h in
-      let is : is_memory ns (number_name lines k) ≡ true = ap (passes (λ (y : NetTree). is_memory_kind y.kind)) (cell_named lines cells outlets outs ok k _ h) in
+      let is : is_memory_name ns (number_name lines k) ≡ true = ap (passes (λ (y : NetTree). is_memory_kind y.kind)) (cell_named lines cells outlets outs ok k _ h) in
       let deep : depth_of ns (number_name lines k) ≡ depth = ap depth_in (cell_named lines cells outlets outs ok k _ h) in (
         or_from _ _ (plain_name enable.0 1 w.bit) (or_from _ _ (ap not is) (or_from _ _ (plain_name at.0 _ w.address.net) (plain_name next.0 width w.word))),
         or_from _ _ refl (or_from _ _ refl (or_from _ _ (outside_is (number_name lines k) at.0 true depth (c.width_of cells at.0) is deep (net_wide lines cells outlets outs ok at.0 _ w.address.net) refl whole.deep) refl)),

@@ -21,7 +21,7 @@ use Rattle.ae_netlist.proofs.Settled.{each_operand}
 use Rattle.ae_vread.specs.ModuleTree.{ExprTree, constant, index, part}
 use Rattle.ae_vread.specs.declared.module.BinOp.{BinOp}
 use Rattle.ae_vread.specs.declared.module.BinOp.TheVariants.{Shl as LeftBy, Shr as RightBy}
-use Rattle.ae_verilog.specs.NetlistModule.{port_name, number_name, cell_name, name_in, net_name, net_value, op_value, shifted, cast_to}
+use Rattle.ae_verilog.specs.NetlistModule.{port_name, number_name, cell_name, name_in, net_name, net_value, op_expression, shifted_net, cast_to}
 use Rattle.ae_verilog.specs.Text.{PortFits, CellPortFits, sign_text, expr_text, range_text, wire_text, value_text, widened_text, op_text, is_cast, declaration_text, memory_edge, edge_text, input_text, output_text, assignment_text}
 use Rattle.ae_spelled.proofs.Named.{IsGood, fits_at, net_within, net_inside}
 
@@ -115,7 +115,7 @@ module _ (lines : ℕ → ℕ) (numbers : (k : ℕ) → lines k < 2 ^ 32) (cells
   constant_up : (w v : ℕ) → w ≤ 64 → v < 2 ^ 64 → IsUpTo 142 (decimal w ++ (codes "'d" ++ decimal v))
   constant_up w v high below = looser 32 110 _ (both 10 22 (decimal w) _ (digits_32 w (omega arith)) (both 2 20 (codes "'d") _ (short (lit≤ tt)) (digits_64 v below)))
 
-  shift_up : (op : BinOp) (width a by : ℕ) → width ≤ 64 → IsUpTo 2 (sign_text op) → IsUpTo 33 (net_name lines cells a) → IsUpTo 142 (expr_text (shifted lines cells op width a by))
+  shift_up : (op : BinOp) (width a by : ℕ) → width ≤ 64 → IsUpTo 2 (sign_text op) → IsUpTo 33 (net_name lines cells a) → IsUpTo 142 (expr_text (shifted_net lines cells op width a by))
   shift_up op width a by high sign named = elim (cases_Bool (nat_lt by width)) [
     | inl less ↦
         let below : by < 64 = (let l = ltb-true by width less in omega arith) in
@@ -131,7 +131,7 @@ module _ (lines : ℕ → ℕ) (numbers : (k : ℕ) → lines k < 2 ^ 32) (cells
     | false ↦ looser 33 109 _ named
   ]
 
-  op_up : (width : ℕ) (op : WordOp) (a b c : ℕ) → width ≤ 64 → HasRange op → IsUpTo 33 (net_name lines cells a) → IsUpTo 33 (net_name lines cells b) → IsUpTo 33 (net_name lines cells c) → IsUpTo 142 (expr_text (op_value lines cells width op a b c))
+  op_up : (width : ℕ) (op : WordOp) (a b c : ℕ) → width ≤ 64 → HasRange op → IsUpTo 33 (net_name lines cells a) → IsUpTo 33 (net_name lines cells b) → IsUpTo 33 (net_name lines cells c) → IsUpTo 142 (expr_text (op_expression lines cells width op a b c))
   op_up width Add a b c high range ha hb hc = plain_up _ _ (codes "+") ha (short (lit≤ tt)) hb
   op_up width Sub a b c high range ha hb hc = plain_up _ _ (codes "-") ha (short (lit≤ tt)) hb
   op_up width Mul a b c high range ha hb hc = plain_up _ _ (codes "*") ha (short (lit≤ tt)) hb
@@ -166,9 +166,9 @@ module _ (lines : ℕ → ℕ) (numbers : (k : ℕ) → lines k < 2 ^ 32) (cells
       (both 7 42 (codes "  wire ") _ (short (lit≤ tt)) (both 16 26 (range_text width) _ (range_up width high) (both 23 3 (number_name lines net) _ (number_up net below) (short (lit≤ tt)))))
       (both 142 2 (expr_text value) _ h (short (lit≤ tt)))
 
-  operator_up : (width net : ℕ) (op : WordOp) (a b c : ℕ) → width ≤ 64 → net < 2 ^ 32 → IsUpTo 142 (expr_text (op_value lines cells width op a b c)) → IsUpTo 256 (op_text lines cells width net op a b c)
+  operator_up : (width net : ℕ) (op : WordOp) (a b c : ℕ) → width ≤ 64 → net < 2 ^ 32 → IsUpTo 142 (expr_text (op_expression lines cells width op a b c)) → IsUpTo 256 (op_text lines cells width net op a b c)
   operator_up width net op a b c high below h =
-      let value : ExprTree = op_value lines cells width op a b c in
+      let value : ExprTree = op_expression lines cells width op a b c in
       choose_up 256 (is_cast op && nat_lt (width_of cells a) width) (widened_text lines width net value) (value_text lines width net value)
       (looser 252 4 _ (both 30 222 (codes "  // verilator lint_off WIDTH\n") _ (short (lit≤ tt)) (both 193 29 (value_text lines width net value) _ (value_up width net value high below h) (short (lit≤ tt)))))
       (looser 193 63 _ (value_up width net value high below h))

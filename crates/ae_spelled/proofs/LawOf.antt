@@ -13,7 +13,7 @@ use Rattle.ae_netlist.specs.Runs as r
 use Rattle.ae_vread.specs.ModuleTree.{NetTree}
 use Rattle.ae_elab.specs.Names.{Among, is_clock}
 use Rattle.ae_elab.specs.Values.{ModuleClock}
-use Rattle.ae_elab.specs.Runs.{clock_at, Holds, IsShaped, IsSettled, next_clock, StepsTo, IsStep, IsRun}
+use Rattle.ae_elab.specs.Runs.{clock_at, FitsKind, IsModuleShaped, IsSettled, next_clock, StepsTo, IsStep, IsModuleRun}
 use Rattle.ae_elab.specs.PlainRun.{clocks_from}
 use Rattle.ae_judge.proofs.Members.{same_bytes, bytes_same, among_left, among_right, among_split, among_at, among_from, among_map, among_unmap, find_only}
 use Rattle.ae_runs.proofs.Made.{from_length, from_at}
@@ -148,7 +148,7 @@ module _ (lines : ℕ → ℕ) (cells : List SizedCell) (outlets : List Outlet) 
     settled : (t : ℕ) → t < length run → IsSettled (written lines cells outlets outs) (read t)
     settled t l = settled_from lines cells outlets outs ok (read t) (r.word_at run t) (r.store_at run t) (reads t l) (λ k x h. makes t k x.width l x.cell h) (λ j o h. word_of_output t j o h)
 
-    cell_holds : (t k width : ℕ) (cell : Cell) → t < length run → slice_get cells k ≡ Some (record { width = width; cell = cell }) → Holds (cell_net lines cells outlets outs k (record { width = width; cell = cell })).kind width (r.word_at run t k) (r.store_at run t k)
+    cell_holds : (t k width : ℕ) (cell : Cell) → t < length run → slice_get cells k ≡ Some (record { width = width; cell = cell }) → FitsKind (cell_net lines cells outlets outs k (record { width = width; cell = cell })).kind width (r.word_at run t k) (r.store_at run t k)
     cell_holds t k width (Input port) l h = (holds_at t k _ l h).0
     cell_holds t k width (Const v) l h = (holds_at t k _ l h).0
     cell_holds t k width (Op op args) l h = (holds_at t k _ l h).0
@@ -156,16 +156,16 @@ module _ (lines : ℕ → ℕ) (cells : List SizedCell) (outlets : List Outlet) 
     cell_holds t k width (Mem depth at next enable) l h = let p = holds_at t k _ l h in (p.1, p.2)
     cell_holds t k width (Peek mem at) l h = (holds_at t k _ l h).0
 
-    shaped : (t : ℕ) → t < length run → IsShaped (written lines cells outlets outs) (read t)
+    shaped : (t : ℕ) → t < length run → IsModuleShaped (written lines cells outlets outs) (read t)
     shaped t l = record {
       holds = λ y a no_clock. elim (origin lines cells outlets outs y a) [
         | the_clock e ↦ absurd (both_ways _ no_clock (ap (λ (z : NetTree). is_clock (written lines cells outlets outs) z.name) e ∙ clock_is_clock lines cells outlets outs ok))
         | a_cell k x h e ↦
-            subst (λ (z : NetTree). Holds z.kind z.width ((read t).word z.name) ((read t).store z.name)) (sym e)
-            (subst (λ v. Holds (cell_net lines cells outlets outs k x).kind x.width v ((read t).store (cell_name lines k x.cell))) (sym (word_of_cell t k x h))
-            (subst (λ s. Holds (cell_net lines cells outlets outs k x).kind x.width (r.word_at run t k) s) (sym (store_of_cell t k x h)) (cell_holds t k x.width x.cell l h)))
+            subst (λ (z : NetTree). FitsKind z.kind z.width ((read t).word z.name) ((read t).store z.name)) (sym e)
+            (subst (λ v. FitsKind (cell_net lines cells outlets outs k x).kind x.width v ((read t).store (cell_name lines k x.cell))) (sym (word_of_cell t k x h))
+            (subst (λ s. FitsKind (cell_net lines cells outlets outs k x).kind x.width (r.word_at run t k) s) (sym (store_of_cell t k x h)) (cell_holds t k x.width x.cell l h)))
         | an_output j o h e ↦
-            subst (λ (z : NetTree). Holds z.kind z.width ((read t).word z.name) ((read t).store z.name)) (sym e)
+            subst (λ (z : NetTree). FitsKind z.kind z.width ((read t).word z.name) ((read t).store z.name)) (sym e)
             (subst (λ v. v < 2 ^ c.width_of cells o.net.0) (sym (word_of_output t j o h)) (net_fits t o.net.0 _ l (ok.shown.each j o h)))
       ];
     }
@@ -207,9 +207,9 @@ module _ (lines : ℕ → ℕ) (cells : List SizedCell) (outlets : List Outlet) 
     within : (t : ℕ) → t < length run_by_name → t < length run
     within t l = let e = by_name_length in omega arith
 
-    pub by_name_is_run : IsRun (written lines cells outlets outs) run_by_name
+    pub by_name_is_run : IsModuleRun (written lines cells outlets outs) run_by_name
     by_name_is_run = record {
-      shaped = λ t l. subst (IsShaped (written lines cells outlets outs)) (sym (at_is t (within t l))) (shaped t (within t l));
+      shaped = λ t l. subst (IsModuleShaped (written lines cells outlets outs)) (sym (at_is t (within t l))) (shaped t (within t l));
       settles = λ t l. subst (IsSettled (written lines cells outlets outs)) (sym (at_is t (within t l))) (settled t (within t l));
       steps = λ t l.
           let h : t + 1 < length run = within (t + 1) l in

@@ -8,7 +8,7 @@ use Rattle.ae_netlist.specs.declared.cell.Cell.TheVariants.{Input, Const, Op, Re
 use Rattle.ae_netlist.specs.declared.cell.SizedCell.{SizedCell}
 use Rattle.ae_netlist.specs.declared.cell.Outlet.{Outlet}
 use Rattle.ae_vread.specs.ModuleTree.{NetTree, ItemTree, ModuleTree}
-use Rattle.ae_elab.specs.Names.{Among, is_input_kind, passes, is_input, stmt_targets, target_of, item_targets}
+use Rattle.ae_elab.specs.Names.{Among, is_input_kind, passes, is_input_name, stmt_targets, target_of, item_targets}
 use Rattle.ae_elab.specs.Faults.{HasTwice, Never}
 use Rattle.ae_judge.proofs.Members.{among_split, among_from, among_at, among_unmap}
 use Rattle.ae_verilog.specs.NetlistModule.{port_name, cell_name, input_nets, output_net, declared_nets, each_numbered, inputs_of, declared_from}
@@ -217,11 +217,11 @@ module _ (lines : ℕ → ℕ) (cells : List SizedCell) (outlets : List Outlet) 
     ]
   ]
 
-  no_input_target : (j : ℕ) (n : List ℕ) → TargetOrigin j n → is_input m.nets n ≡ false
+  no_input_target : (j : ℕ) (n : List ℕ) → TargetOrigin j n → is_input_name m.nets n ≡ false
   no_input_target j n a = elim a [
-    | by_declaration k x h p e s i ↦ ap (is_input m.nets) e ∙ ap (passes (λ (y : NetTree). is_input_kind y.kind)) (cell_named lines cells outlets outs ok k x h) ∙ i
-    | by_output k o h p e ↦ ap (is_input m.nets) e ∙ ap (passes (λ (y : NetTree). is_input_kind y.kind)) (output_named lines cells outlets outs ok k o h)
-    | by_edge k x h p e s i ↦ ap (is_input m.nets) e ∙ ap (passes (λ (y : NetTree). is_input_kind y.kind)) (cell_named lines cells outlets outs ok k x h) ∙ i
+    | by_declaration k x h p e s i ↦ ap (is_input_name m.nets) e ∙ ap (passes (λ (y : NetTree). is_input_kind y.kind)) (cell_named lines cells outlets outs ok k x h) ∙ i
+    | by_output k o h p e ↦ ap (is_input_name m.nets) e ∙ ap (passes (λ (y : NetTree). is_input_kind y.kind)) (output_named lines cells outlets outs ok k o h)
+    | by_edge k x h p e s i ↦ ap (is_input_name m.nets) e ∙ ap (passes (λ (y : NetTree). is_input_kind y.kind)) (cell_named lines cells outlets outs ok k x h) ∙ i
   ]
 
   few_targets : (j : ℕ) (i : ItemTree) → slice_get m.items j ≡ Some i → length (item_targets i) ≤ 1

@@ -13,7 +13,7 @@ use Rattle.ae_netlist.proofs.Gets.{get_from_take, get_take_within}
 use Rattle.ae_vread.specs.ModuleTree.{ExprTree, binary, constant, part, DriveTree}
 use Rattle.ae_vread.specs.declared.module.BinOp.TheVariants.{Shl as LeftBy, Shr as RightBy}
 use Rattle.ae_elab.specs.Names.{Among, names_in, stmt_reads}
-use Rattle.ae_verilog.specs.NetlistModule.{cell_name, net_name, net_value, op_value}
+use Rattle.ae_verilog.specs.NetlistModule.{cell_name, net_name, net_value, op_expression}
 use Rattle.ae_verilog.specs.Written.{IsWritableNetlist}
 use Rattle.ae_spelled.proofs.LawNets.{name_of}
 use Rattle.ae_spelled.proofs.LawItems.{cell_drives, cell_edge}
@@ -57,7 +57,7 @@ module _ (lines : ℕ → ℕ) (cells : List SizedCell) (outlets : List Outlet) 
   either_one k a w n true x y h p q r = p r
   either_one k a w n false x y h p q r = q r
 
-  op_reads : (k r : ℕ) (op : WordOp) (args : List NetId) (n : List ℕ) → c.IsOperation (take k cells) op args r → Among n (names_in (op_value lines cells r op (c.operand args 0) (c.operand args 1) (c.operand args 2))) → IsCellBelow k n
+  op_reads : (k r : ℕ) (op : WordOp) (args : List NetId) (n : List ℕ) → c.IsOperation (take k cells) op args r → Among n (names_in (op_expression lines cells r op (c.operand args 0) (c.operand args 1) (c.operand args 2))) → IsCellBelow k n
   op_reads k r Add args n h a = two_names k _ _ _ _ n h.operands.0 h.operands.1 a
   op_reads k r Sub args n h a = two_names k _ _ _ _ n h.operands.0 h.operands.1 a
   op_reads k r Mul args n h a = two_names k _ _ _ _ n h.operands.0 h.operands.1 a

@@ -17,7 +17,7 @@ use Rattle.ae_vread.specs.declared.module.NetKind.TheVariants.{Input as InputNet
 use Rattle.ae_vread.specs.ModuleTree.{NetTree, ModuleTree}
 use Rattle.ae_elab.specs.Names.{Among, is_input_kind, is_register_kind, is_memory_kind, is_output_kind, is_clock}
 use Rattle.ae_elab.specs.Values.{ModuleClock}
-use Rattle.ae_elab.specs.Runs.{clock_at, IsRun}
+use Rattle.ae_elab.specs.Runs.{clock_at, IsModuleRun}
 use Rattle.ae_elab.specs.SameRuns as s
 use Rattle.ae_judge.proofs.Members.{among_unmap}
 use Rattle.ae_verilog.specs.NetlistModule.{port_name, number_name, cell_name, net_of, clock_net, input_nets, output_net, declared_nets, each_numbered, inputs_of, declared_from}
@@ -264,7 +264,7 @@ module _ (lines : ℕ → ℕ) (cells : List SizedCell) (outlets : List Outlet) 
     output = λ j o at. by_name_output lines cells outlets outs ok other is t j o l at;
   }
 
-  goes_from : (run : List ModuleClock) (is : IsRun m run) (t : ℕ) → t < length run → GoesWith (clock_at run t) (run_by_number lines cells run) t
+  goes_from : (run : List ModuleClock) (is : IsModuleRun m run) (t : ℕ) → t < length run → GoesWith (clock_at run t) (run_by_number lines cells run) t
   goes_from run is t l = record {
     word = λ k x at p. sym (plain_is lines cells outlets outs ok run is t k x l at p);
     store = λ k width depth place next enable at. sym (store_is lines cells run t k _ l at);
@@ -288,7 +288,7 @@ module _ (lines : ℕ → ℕ) (cells : List SizedCell) (outlets : List Outlet) 
       equal_here (λ (x : ℕ × SizedCell). s.cell_words x.1.cell (r.word_at other 0 x.0) (r.store_at other 0 x.0)) (λ (x : ℕ × SizedCell). s.cell_words x.1.cell (r.word_at run 0 x.0) (r.store_at run 0 x.0)) s.is_state_cell cells (first z) k _ at refl in
       subst (λ u. r.store_at other u k ≡ r.store_at run u k) (sym z) h
 
-  same_run : (run : List ModuleClock) (other : List r.Clock) → IsRun m run → r.IsRun cells other → s.BeginAlike m n run other → other ≡ run_by_number lines cells run
+  same_run : (run : List ModuleClock) (other : List r.Clock) → IsModuleRun m run → r.IsRun cells other → s.BeginAlike m n run other → other ≡ run_by_number lines cells run
   same_run run other is is_other begins =
       let made : List r.Clock = run_by_number lines cells run in
       let made_is = by_number_is_run lines cells outlets outs ok run is in

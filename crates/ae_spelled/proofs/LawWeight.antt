@@ -13,14 +13,14 @@ use Rattle.ae_netlist.specs.Circuit.{operand, width_of}
 use Rattle.ae_vread.specs.ModuleTree.{ExprTree, part, binary, constant, ItemTree}
 use Rattle.ae_vread.specs.declared.module.BinOp.TheVariants.{Shl as LeftBy, Shr as RightBy}
 use Rattle.ae_elab.specs.Weight.{expr_weight, item_weight, weight}
-use Rattle.ae_verilog.specs.NetlistModule.{net_name, input_nets, output_net, declared_nets, each_numbered, inputs_of, declared_from, net_value, op_value, declaration, assignment, edge, netlist_module}
+use Rattle.ae_verilog.specs.NetlistModule.{net_name, input_nets, output_net, declared_nets, each_numbered, inputs_of, declared_from, net_value, op_expression, declaration, assignment, edge, netlist_module}
 
 one_of : (b : Bool) (x y : ExprTree) → expr_weight x ≤ 2 → expr_weight y ≤ 2 → expr_weight (if b then x else y) ≤ 2
 one_of true x y p q = p
 one_of false x y p q = q
 
 module _ (lines : ℕ → ℕ) (cells : List SizedCell) where
-  value_light : (width : ℕ) (op : WordOp) (a b c : ℕ) → expr_weight (op_value lines cells width op a b c) ≤ 2
+  value_light : (width : ℕ) (op : WordOp) (a b c : ℕ) → expr_weight (op_expression lines cells width op a b c) ≤ 2
   value_light width Add a b c = omega arith
   value_light width Sub a b c = omega arith
   value_light width Mul a b c = omega arith

@@ -21,7 +21,7 @@ use Rattle.ae_vread.specs.ModuleTree.{name, constant, part, binary}
 use Rattle.ae_vread.specs.declared.module.BinOp.{BinOp}
 use Rattle.ae_vread.specs.declared.module.BinOp.TheVariants.{Shl as LeftBy, Shr as RightBy}
 use Rattle.ae_vread.specs.Forms.{IsDrive}
-use Rattle.ae_verilog.specs.NetlistModule.{port_name, cell_name, name_in, net_name, net_value, op_value, shifted, cast_to}
+use Rattle.ae_verilog.specs.NetlistModule.{port_name, cell_name, name_in, net_name, net_value, op_expression, shifted_net, cast_to}
 use Rattle.ae_verilog.specs.Text.{PortFits, CellPortFits}
 use Rattle.ae_spelled.proofs.Pieces.{IsNameText, marked_name, named_both, decimal_named, decimal_starts, number_named, is_name_byte}
 use Rattle.ae_spelled.proofs.Writable.{IsConstant, IsWritable}
@@ -129,7 +129,7 @@ is_constant w v low high below = record { positive = low; small = high; below = 
     wide : (w v : ℕ) → w ≤ 64 → v < 2 ^ w → v < 2 ^ 64
     wide w v high below = let most : 2 ^ w ≤ 2 ^ 64 = pow-le-pow_right {n = 2} (lit< tt) high in omega (arith, most, below)
 
-shifted_writable : (lines : ℕ → ℕ) → (cells : List SizedCell) (op : BinOp) (width a by : ℕ) → 1 ≤ width → width ≤ 64 → IsNameText (net_name lines cells a) → IsWritable (shifted lines cells op width a by)
+shifted_writable : (lines : ℕ → ℕ) → (cells : List SizedCell) (op : BinOp) (width a by : ℕ) → 1 ≤ width → width ≤ 64 → IsNameText (net_name lines cells a) → IsWritable (shifted_net lines cells op width a by)
 shifted_writable lines cells op width a by low high named = elim (cases_Bool (nat_lt by width)) [
   | inl less ↦
       let below = ltb-true by width less in
@@ -146,7 +146,7 @@ cast_writable lines cells to a high named = elim (nat_lt to (width_of cells a)) 
   | false ↦ named
 ]
 
-pub op_writable : (lines : ℕ → ℕ) → (cells : List SizedCell) (width : ℕ) (op : WordOp) (a b c : ℕ) → 1 ≤ width → width ≤ 64 → HasRange op → AreNamed lines cells a b c → IsWritable (op_value lines cells width op a b c)
+pub op_writable : (lines : ℕ → ℕ) → (cells : List SizedCell) (width : ℕ) (op : WordOp) (a b c : ℕ) → 1 ≤ width → width ≤ 64 → HasRange op → AreNamed lines cells a b c → IsWritable (op_expression lines cells width op a b c)
 op_writable lines cells width Add a b c low high range n = (n.first, n.second)
 op_writable lines cells width Sub a b c low high range n = (n.first, n.second)
 op_writable lines cells width Mul a b c low high range n = (n.first, n.second)
@@ -173,13 +173,13 @@ op_writable lines cells width (SCast to) a b c low high range n = n.first
 plain_drive : (n v : List ℕ) → IsDrive (driven n (name v))
 plain_drive n v = record { level = lit≤ tt; formed = tt; depth = lit≤ tt }
 
-shifted_left : (lines : ℕ → ℕ) → (cells : List SizedCell) (width a by : ℕ) (n : List ℕ) → IsDrive (driven n (shifted lines cells LeftBy width a by))
+shifted_left : (lines : ℕ → ℕ) → (cells : List SizedCell) (width a by : ℕ) (n : List ℕ) → IsDrive (driven n (shifted_net lines cells LeftBy width a by))
 shifted_left lines cells width a by n = elim (nat_lt by width) as (λ t. IsDrive (driven n (if t then binary LeftBy (net_value lines cells a) (constant 6 by true) else constant width 0 true))) [
   | true ↦ record { level = lit≤ tt; formed = (lit≤ tt, lit< tt, tt, tt); depth = lit≤ tt }
   | false ↦ record { level = lit≤ tt; formed = tt; depth = lit≤ tt }
 ]
 
-shifted_right : (lines : ℕ → ℕ) → (cells : List SizedCell) (width a by : ℕ) (n : List ℕ) → IsDrive (driven n (shifted lines cells RightBy width a by))
+shifted_right : (lines : ℕ → ℕ) → (cells : List SizedCell) (width a by : ℕ) (n : List ℕ) → IsDrive (driven n (shifted_net lines cells RightBy width a by))
 shifted_right lines cells width a by n = elim (nat_lt by width) as (λ t. IsDrive (driven n (if t then binary RightBy (net_value lines cells a) (constant 6 by true) else constant width 0 true))) [
   | true ↦ record { level = lit≤ tt; formed = (lit≤ tt, lit< tt, tt, tt); depth = lit≤ tt }
   | false ↦ record { level = lit≤ tt; formed = tt; depth = lit≤ tt }
@@ -191,7 +191,7 @@ cast_drive lines cells to a n = elim (nat_lt to (width_of cells a)) as (λ t. Is
   | false ↦ record { level = lit≤ tt; formed = tt; depth = lit≤ tt }
 ]
 
-pub op_drive : (lines : ℕ → ℕ) → (cells : List SizedCell) (width : ℕ) (op : WordOp) (a b c : ℕ) (n : List ℕ) → IsDrive (driven n (op_value lines cells width op a b c))
+pub op_drive : (lines : ℕ → ℕ) → (cells : List SizedCell) (width : ℕ) (op : WordOp) (a b c : ℕ) (n : List ℕ) → IsDrive (driven n (op_expression lines cells width op a b c))
 op_drive lines cells width Add a b c n = record { level = lit≤ tt; formed = (lit≤ tt, lit< tt, tt, tt); depth = lit≤ tt }
 op_drive lines cells width Sub a b c n = record { level = lit≤ tt; formed = (lit≤ tt, lit< tt, tt, tt); depth = lit≤ tt }
 op_drive lines cells width Mul a b c n = record { level = lit≤ tt; formed = (lit≤ tt, lit< tt, tt, tt); depth = lit≤ tt }

@@ -12,7 +12,7 @@ use Rattle.ae_vread.specs.ModuleTree.{constant, index}
 use Rattle.ae_vread.specs.declared.module.NetKind.{NetKind}
 use Rattle.ae_vread.specs.Forms.{PortForm, InputHead, OutputHead, ItemForm, ModuleForm, size_of, net_of}
 use Rattle.ae_verilog.specs.NetlistModule as m
-use Rattle.ae_verilog.specs.NetlistModule.{port_name, number_name, net_name, net_value, op_value, each_numbered, input_nets, output_net, declared_nets, inputs_of, declared_from, declaration, assignment, edge, netlist_module}
+use Rattle.ae_verilog.specs.NetlistModule.{port_name, number_name, net_name, net_value, op_expression, each_numbered, input_nets, output_net, declared_nets, inputs_of, declared_from, declaration, assignment, edge, netlist_module}
 use Rattle.ae_spelled.proofs.Pieces.{number_form}
 use Rattle.ae_spelled.proofs.Writable.{number_back}
 use Rattle.ae_spelled.proofs.Lines.{range_form, value_item, register_item, memory_item, assign_item, register_edge_item, memory_edge_item}
@@ -32,7 +32,7 @@ output_form cells outs outlet = port_form (OutputHead true) (width_of cells outl
 abbrev pub declaration_form : (lines : ℕ → ℕ) → List SizedCell → (net width : ℕ) → Cell → List ItemForm
 declaration_form lines cells net width (Input port) = []
 declaration_form lines cells net width (Const k) = value_item lines width net (constant width k true) ∷ []
-declaration_form lines cells net width (Op op args) = value_item lines width net (op_value lines cells width op (operand args 0) (operand args 1) (operand args 2)) ∷ []
+declaration_form lines cells net width (Op op args) = value_item lines width net (op_expression lines cells width op (operand args 0) (operand args 1) (operand args 2)) ∷ []
 declaration_form lines cells net width (Reg next) = register_item lines width net ∷ []
 declaration_form lines cells net width (Mem depth at next enable) = memory_item lines width net depth ∷ []
 declaration_form lines cells net width (Peek mem at) = value_item lines width net (index (net_name lines cells mem.0) (net_value lines cells at.0)) ∷ []

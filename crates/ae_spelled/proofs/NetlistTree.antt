@@ -13,7 +13,7 @@ use Rattle.ae_vread.specs.ModuleTree.{constant, index, NetTree, nets}
 use Rattle.ae_vread.specs.declared.module.NetKind.TheVariants.{Memory, Input as InputNet, Wire as WireNet, OutWire as OutWireNet, Reg as RegNet}
 use Rattle.ae_vread.specs.Forms.{PortForm, ItemForm, size_of, port_nets, item_nets, nets_from, item_of, module_of, IsItem}
 use Rattle.ae_verilog.specs.NetlistModule as m
-use Rattle.ae_verilog.specs.NetlistModule.{port_name, number_name, net_name, net_value, op_value, each_numbered, input_nets, output_net, declared_nets, inputs_of, declared_from, declaration, assignment, edge, netlist_module, clock_net, drive}
+use Rattle.ae_verilog.specs.NetlistModule.{port_name, number_name, net_name, net_value, op_expression, each_numbered, input_nets, output_net, declared_nets, inputs_of, declared_from, declaration, assignment, edge, netlist_module, clock_net, drive}
 use Rattle.ae_spelled.proofs.Pieces.{IsNameText, number_form}
 use Rattle.ae_spelled.proofs.Writable.{IsWritable, expr_back}
 use Rattle.ae_spelled.proofs.Named.{IsGood, name_named, net_inside, all_named, is_constant, op_writable, op_drive}
@@ -23,7 +23,7 @@ use Rattle.ae_spelled.proofs.NetlistForm.{input_forms, output_form, declaration_
 abbrev pub IsDeclared : (lines : ℕ → ℕ) → List SizedCell → (net width : ℕ) → Cell → Type 0
 IsDeclared lines cells net width (Input port) = Unit {0}
 IsDeclared lines cells net width (Const k) = IsWritable (constant width k true)
-IsDeclared lines cells net width (Op op args) = IsWritable (op_value lines cells width op (operand args 0) (operand args 1) (operand args 2))
+IsDeclared lines cells net width (Op op args) = IsWritable (op_expression lines cells width op (operand args 0) (operand args 1) (operand args 2))
 IsDeclared lines cells net width (Reg next) = Unit {0}
 IsDeclared lines cells net width (Mem depth at next enable) = (1 ≤ depth) × (depth ≤ 65536)
 IsDeclared lines cells net width (Peek mem at) = IsWritable (index (net_name lines cells mem.0) (net_value lines cells at.0))
@@ -200,7 +200,7 @@ declaration_back : (lines : ℕ → ℕ) → (cells : List SizedCell) (net width
 declaration_back lines cells net width (Input port) h = refl
 declaration_back lines cells net width (Const k) h = ap (λ v. nets (drive (number_name lines net) v ∷ []) ∷ []) (expr_back (constant width k true) h)
 declaration_back lines cells net width (Op op args) h =
-    ap (λ v. nets (drive (number_name lines net) v ∷ []) ∷ []) (expr_back (op_value lines cells width op (operand args 0) (operand args 1) (operand args 2)) h)
+    ap (λ v. nets (drive (number_name lines net) v ∷ []) ∷ []) (expr_back (op_expression lines cells width op (operand args 0) (operand args 1) (operand args 2)) h)
 declaration_back lines cells net width (Reg next) h = refl
 declaration_back lines cells net width (Mem depth at next enable) h = refl
 declaration_back lines cells net width (Peek mem at) h = ap (λ v. nets (drive (number_name lines net) v ∷ []) ∷ []) (expr_back (index (net_name lines cells mem.0) (net_value lines cells at.0)) h)

@@ -12,7 +12,7 @@ use Rattle.std.proofs.lemmas.Slice.Eq.{bytes_eq-Decides}
 use Rattle.std.proofs.lemmas.List.Folds.{list_all-append}
 use Rattle.ae_vtoken.specs.declared.token.Key.{Key}
 use Rattle.ae_vread.specs.Tables.{keys, unused_0, unused_1, unused_2, unused_3, unused_4, unused_5, unused_6, unused_7, unused_8, unused_9}
-use Rattle.ae_vread.specs.Tokens.{Name, Decimal, Sized, look_up, is_unused, is_letter, is_word_byte, word_of, are_digits, number_of, decimal_of, token_of, constant}
+use Rattle.ae_vread.specs.Tokens.{Name, Decimal, Sized, look_up, is_unused, is_word_start, is_word_byte, word_of, are_digits, number_from, decimal_of, token_of, constant}
 use Rattle.ae_vread.specs.ExprForms.{NumberForm, ZeroForm, DecimalForm, number_token}
 use Rattle.ae_vtoken.proofs.TokenLemmas.{of_key}
 use Rattle.ae_verilog.specs.ReportLines.{is_clean}
@@ -70,17 +70,17 @@ pub decimal_clean : (n : ℕ) → IsClean (decimal n)
 decimal_clean n = record { all = clean_from is_ascii_digit (decimal n) digit_clean (decimal_digits n).all }
 
 -- what follows digits
-number_on : (ds cs rest : List ℕ) → list_all is_ascii_digit cs ≡ true → number_of ds (cs ++ rest) ≡ number_of (ds ++ cs) rest
-number_on ds [] rest h = ap (λ l. number_of l rest) (sym (append-nil ds))
+number_on : (ds cs rest : List ℕ) → list_all is_ascii_digit cs ≡ true → number_from ds (cs ++ rest) ≡ number_from (ds ++ cs) rest
+number_on ds [] rest h = ap (λ l. number_from l rest) (sym (append-nil ds))
 number_on ds (c ∷ cs) rest h =
     let parts = and_parts _ (list_all is_ascii_digit cs) h in
-    cond-true _ _ _ parts.0 ∙ number_on (ds ++ c ∷ []) cs rest parts.1 ∙ ap (λ l. number_of l rest) (append_assoc ds (c ∷ []) cs)
+    cond-true _ _ _ parts.0 ∙ number_on (ds ++ c ∷ []) cs rest parts.1 ∙ ap (λ l. number_from l rest) (append_assoc ds (c ∷ []) cs)
 
-digit_no_letter : (d : ℕ) → is_ascii_digit d ≡ true → is_letter d ≡ false
+digit_no_letter : (d : ℕ) → is_ascii_digit d ≡ true → is_word_start d ≡ false
 digit_no_letter d h = grind (arith, nat_tests)
 
 -- a piece that begins with digits
-number_piece : (ds rest : List ℕ) → IsDigits ds → token_of (ds ++ rest) ≡ number_of ds rest
+number_piece : (ds rest : List ℕ) → IsDigits ds → token_of (ds ++ rest) ≡ number_from ds rest
 unfolding token_of
 number_piece [] rest h = absurd (omega (arith, h.some))
 number_piece (d ∷ ds) rest h =
@@ -189,15 +189,15 @@ pub record IsNameText (n : List ℕ) : Type 0 where
   pub first : ℕ
   pub more : List ℕ
   pub whole : n ≡ first ∷ more
-  pub letter : is_letter first ≡ true
+  pub letter : is_word_start first ≡ true
   pub token : token_of n ≡ Some (Name n)
   pub clean : IsClean n
 
-word_clean : (b : ℕ) → (is_letter b || is_mark b) ≡ true → is_clean b ≡ true
+word_clean : (b : ℕ) → (is_word_start b || is_mark b) ≡ true → is_clean b ≡ true
 word_clean b h = grind (arith, nat_tests)
 
 abbrev pub is_name_byte : ℕ → Bool
-is_name_byte b = is_letter b || is_mark b
+is_name_byte b = is_word_start b || is_mark b
 
 name_byte : (b : ℕ) → is_name_byte b ≡ true → is_word_byte b ≡ true
 name_byte b h = grind (arith, nat_tests)
@@ -206,7 +206,7 @@ word_bytes : (bs : List ℕ) → list_all is_name_byte bs ≡ true → list_all 
 word_bytes [] h = refl
 word_bytes (b ∷ bs) h = let parts = and_parts _ (list_all is_name_byte bs) h in and_from _ _ (name_byte b parts.0) (word_bytes bs parts.1)
 
-marked_token : (b : ℕ) (ds : List ℕ) → is_letter b ≡ true → starts_marked ds ≡ true → list_all is_name_byte ds ≡ true → token_of (b ∷ ds) ≡ Some (Name (b ∷ ds))
+marked_token : (b : ℕ) (ds : List ℕ) → is_word_start b ≡ true → starts_marked ds ≡ true → list_all is_name_byte ds ≡ true → token_of (b ∷ ds) ≡ Some (Name (b ∷ ds))
 unfolding token_of
 marked_token b ds letter marked bytes =
     let second : no_mark_second (b ∷ ds) ≡ false = ap not marked in
@@ -216,7 +216,7 @@ marked_token b ds letter marked bytes =
     ∙ ap Some (cond-false _ _ _ unused)
 
 -- a letter, then a digit or _, then letters, digits and _
-pub marked_name : (b : ℕ) (ds : List ℕ) → is_letter b ≡ true → starts_marked ds ≡ true → list_all is_name_byte ds ≡ true → IsNameText (b ∷ ds)
+pub marked_name : (b : ℕ) (ds : List ℕ) → is_word_start b ≡ true → starts_marked ds ≡ true → list_all is_name_byte ds ≡ true → IsNameText (b ∷ ds)
 marked_name b ds letter marked bytes = record {
   first = b;
   more = ds;
@@ -246,6 +246,6 @@ decimal_starts n rest = starts_digits (decimal n) rest (decimal_digits n)
 pub named_both : (xs ys : List ℕ) → list_all is_name_byte xs ≡ true → list_all is_name_byte ys ≡ true → list_all is_name_byte (xs ++ ys) ≡ true
 named_both xs ys hx hy = list_all-append is_name_byte xs ys ∙ and_from _ _ hx hy
 
-pub number_named : (b n : ℕ) → is_letter b ≡ true → IsNameText (b ∷ decimal n)
+pub number_named : (b n : ℕ) → is_word_start b ≡ true → IsNameText (b ∷ decimal n)
 number_named b n letter =
     marked_name b (decimal n) letter (subst (λ l. starts_marked l ≡ true) (append-nil (decimal n)) (decimal_starts n [])) (decimal_named n)

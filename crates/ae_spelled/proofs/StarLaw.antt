@@ -14,12 +14,12 @@ use Rattle.ae_vread.specs.ModuleTree.{constant, part, binary, ItemTree}
 use Rattle.ae_vread.specs.declared.module.BinOp.{BinOp}
 use Rattle.ae_vread.specs.declared.module.BinOp.TheVariants.{Shl as LeftBy, Shr as RightBy}
 use Rattle.ae_vread.specs.Spells.{star, expr_stars, item_stars, stars}
-use Rattle.ae_verilog.specs.NetlistModule.{net_name, net_value, shifted, cast_to, op_value, each_numbered, declaration, assignment, edge, netlist_module}
+use Rattle.ae_verilog.specs.NetlistModule.{net_name, net_value, shifted_net, cast_to, op_expression, each_numbered, declaration, assignment, edge, netlist_module}
 
 abbrev one_for : Bool → ℕ
 one_for t = if t then 1 else 0
 
-shifted_stars : (lines : ℕ → ℕ) → (cells : List SizedCell) (op : BinOp) (width a by : ℕ) → star op ≡ 0 → expr_stars (shifted lines cells op width a by) ≡ 0
+shifted_stars : (lines : ℕ → ℕ) → (cells : List SizedCell) (op : BinOp) (width a by : ℕ) → star op ≡ 0 → expr_stars (shifted_net lines cells op width a by) ≡ 0
 shifted_stars lines cells op width a by h = elim (nat_lt by width) as (λ t. expr_stars (if t then binary op (net_value lines cells a) (constant 6 by true) else constant width 0 true) ≡ 0) [
   | true ↦ ap (λ n. n + 0) h
   | false ↦ refl
@@ -31,7 +31,7 @@ cast_stars lines cells to a = elim (nat_lt to (width_of cells a)) as (λ t. expr
   | false ↦ refl
 ]
 
-op_stars : (lines : ℕ → ℕ) → (cells : List SizedCell) (width : ℕ) (op : WordOp) (a b c : ℕ) → expr_stars (op_value lines cells width op a b c) ≡ one_for (is_product op)
+op_stars : (lines : ℕ → ℕ) → (cells : List SizedCell) (width : ℕ) (op : WordOp) (a b c : ℕ) → expr_stars (op_expression lines cells width op a b c) ≡ one_for (is_product op)
 op_stars lines cells width Add a b c = refl
 op_stars lines cells width Sub a b c = refl
 op_stars lines cells width Mul a b c = refl
@@ -57,7 +57,7 @@ declaration_stars : (lines : ℕ → ℕ) → (cells : List SizedCell) (net widt
 declaration_stars lines cells net width (Input port) = refl
 declaration_stars lines cells net width (Const k) = refl
 declaration_stars lines cells net width (Op op args) =
-    alone (expr_stars (op_value lines cells width op (operand args 0) (operand args 1) (operand args 2)))
+    alone (expr_stars (op_expression lines cells width op (operand args 0) (operand args 1) (operand args 2)))
     ∙ op_stars lines cells width op (operand args 0) (operand args 1) (operand args 2)
   where
     alone : (n : ℕ) → 0 + (0 + n) ≡ n

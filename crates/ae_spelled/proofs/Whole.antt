@@ -16,7 +16,7 @@ use Rattle.ae_vread.specs.Tokens.{TokenTree, Mark, Word, AreTokens, No_more}
 use Rattle.ae_vread.specs.Forms.{PortForm, ItemForm, InputHead, port_tokens, comma_tokens, item_tokens, module_tokens}
 use Rattle.ae_vread.specs.Spells.{Spells}
 use Rattle.ae_verilog.specs.ReportLines.{is_clean}
-use Rattle.ae_verilog.specs.NetlistModule.{port_name, number_name, net_name, net_value, op_value, each_numbered, netlist_module}
+use Rattle.ae_verilog.specs.NetlistModule.{port_name, number_name, net_name, net_value, op_expression, each_numbered, netlist_module}
 use Rattle.ae_verilog.specs.Notes.{NoteTree, ArePrinted, lines_of}
 use Rattle.ae_verilog.specs.Text.{PortFits, CellPortFits, is_cast, value_text, widened_text, op_text, declaration_text, noted, input_text, output_text, header_text, assignment_text, edge_text, module_text, whole_text}
 use Rattle.ae_verilog.specs.Written.{IsListable}
@@ -44,8 +44,8 @@ single text i h = subst (IsTextOf text) (sym (append-nil (item_tokens i))) h
 
 -- cells
 
-op_line : (lines : ℕ → ℕ) → (cells : List SizedCell) (width net : ℕ) (op : WordOp) (a b c : ℕ) → width ≤ 64 → IsWritable (op_value lines cells width op a b c) → IsTextOf (op_text lines cells width net op a b c) (item_tokens (value_item lines width net (op_value lines cells width op a b c)))
-op_line lines cells width net op a b c high w = choose (is_cast op && nat_lt (width_of cells a) width) (op_value lines cells width op a b c) w
+op_line : (lines : ℕ → ℕ) → (cells : List SizedCell) (width net : ℕ) (op : WordOp) (a b c : ℕ) → width ≤ 64 → IsWritable (op_expression lines cells width op a b c) → IsTextOf (op_text lines cells width net op a b c) (item_tokens (value_item lines width net (op_expression lines cells width op a b c)))
+op_line lines cells width net op a b c high w = choose (is_cast op && nat_lt (width_of cells a) width) (op_expression lines cells width op a b c) w
   where
     choose : (t : Bool) (value : ExprTree) → IsWritable value → IsTextOf (if t then widened_text lines width net value else value_text lines width net value) (item_tokens (value_item lines width net value))
     choose true value w = widened_line lines width net value high w
@@ -55,7 +55,7 @@ declaration_line : (lines : ℕ → ℕ) → (cells : List SizedCell) (net width
 declaration_line lines cells net width (Input port) high h = no_text
 declaration_line lines cells net width (Const k) high h = single _ (value_item lines width net (constant width k true)) (value_line lines width net (constant width k true) high h)
 declaration_line lines cells net width (Op op args) high h =
-    single _ (value_item lines width net (op_value lines cells width op (operand args 0) (operand args 1) (operand args 2))) (op_line lines cells width net op (operand args 0) (operand args 1) (operand args 2) high h)
+    single _ (value_item lines width net (op_expression lines cells width op (operand args 0) (operand args 1) (operand args 2))) (op_line lines cells width net op (operand args 0) (operand args 1) (operand args 2) high h)
 declaration_line lines cells net width (Reg next) high h = single _ (register_item lines width net) (register_line lines width net high)
 declaration_line lines cells net width (Mem depth at next enable) high h = single _ (memory_item lines width net depth) (memory_line lines width net depth high h.1)
 declaration_line lines cells net width (Peek mem at) high h =

@@ -9,7 +9,7 @@ use Rattle.ae_vread.specs.declared.module.UnOp.TheVariants.{Not, Flip}
 use Rattle.ae_vread.specs.declared.module.BinOp.{BinOp}
 use Rattle.ae_vread.specs.declared.module.BinOp.TheVariants.{Mul, Add, Sub, Shl, Shr, Lt, Le, Gt, Ge, Eq, Ne, And, Xor, Or, Both, Either}
 use Rattle.ae_vread.specs.Tables.{signs}
-use Rattle.ae_vread.specs.Tokens.{TokenTree, Name, Mark, Sized, look_up, is_letter, token_of, IsLongest, AreTokens}
+use Rattle.ae_vread.specs.Tokens.{TokenTree, Name, Mark, Sized, look_up, is_word_start, token_of, IsLongest, AreTokens}
 use Rattle.ae_vread.specs.ModuleTree.{ExprTree, name, constant, place, part, index, unary, binary, choice, concat_one, concat_more}
 use Rattle.ae_vread.specs.ExprForms.{number_value, ExprForm, NameForm, ConstForm, PartForm, IndexForm, PrefixForm, InfixForm, ChoiceForm, LastPart, MoreParts, infix_sign, expr_tokens, expr_of}
 use Rattle.ae_vtoken.proofs.TokenLemmas.{is_lone, of_key, spaced, mark, blank_then, token_then}
@@ -110,24 +110,24 @@ tilde_token = refl
 abbrev no_letter_second : List ℕ → Bool
 no_letter_second [] = true
 no_letter_second (b ∷ []) = true
-no_letter_second (b ∷ c ∷ bs) = not (is_letter c)
+no_letter_second (b ∷ c ∷ bs) = not (is_word_start c)
 
 sign_second : (bs : List ℕ) (s : Sign) → look_up bs signs ≡ Some s → no_letter_second bs ≡ true
 unfolding signs
 sign_second bs s h = of_key no_letter_second bs signs s h refl
 
-tilde_second : (c : ℕ) (bs : List ℕ) → is_letter c ≡ true → token_of (126 ∷ c ∷ bs) ≡ None
+tilde_second : (c : ℕ) (bs : List ℕ) → is_word_start c ≡ true → token_of (126 ∷ c ∷ bs) ≡ None
 unfolding token_of
 tilde_second c bs letter = elim (look_up (126 ∷ c ∷ bs) signs) as (λ o. look_up (126 ∷ c ∷ bs) signs ≡ o → option_map Mark o ≡ None) [
   | None ↦ λ e. refl
   | Some s ↦ λ e. absurd (both_ways _ (ap not letter) (sign_second (126 ∷ c ∷ bs) s e))
 ] refl
 
-tilde_longest : (c : ℕ) (rest : List ℕ) → is_letter c ≡ true → IsLongest (126 ∷ []) (c ∷ rest)
+tilde_longest : (c : ℕ) (rest : List ℕ) → is_word_start c ≡ true → IsLongest (126 ∷ []) (c ∷ rest)
 tilde_longest c rest letter [] after e some = refl
 tilde_longest c rest letter (d ∷ more) after e some =
     let same : c ≡ d = cc in
-    absurd (none_some _ (tilde_second d more (ap is_letter (sym same) ∙ letter)) some)
+    absurd (none_some _ (tilde_second d more (ap is_word_start (sym same) ∙ letter)) some)
   where
     none_some : {X : Type 0} (o : Option X) → o ≡ None → IsSome o → ⊥
     none_some None e h = cc

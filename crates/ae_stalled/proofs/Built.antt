@@ -34,7 +34,7 @@ use Rattle.ae_ports.specs.CircuitFor.{IsCircuitFor}
 use Rattle.ae_ports.specs.Ports.{SizedPort, columns_in, outlet_port, reset_port, streams_of}
 use Rattle.ae_ports.specs.Ports as net_side
 use Rattle.ae_ports.proofs.Columns.{map_map}
-use Rattle.ae_correct.specs.Correct.{ModulePort, BundlesHold, KeepsBlocks, input_ports, name_of, output_ports, port_of, ports_from, ports_of, wave}
+use Rattle.ae_correct.specs.Correct.{ModulePort, BundlesHold, KeepsBlocks, param_ports, name_of, result_ports, port_of, bundles_from, ports_of, wave}
 use Rattle.ae_correct.proofs.Clocks.{input_alike, output_alike}
 use Rattle.ae_correct.proofs.Keeps.{circuit_ports, holds_alike, ins_of, outs_of, keeps}
 use Rattle.ae_correct.specs.Laws.{IsLaidOut}
@@ -43,7 +43,7 @@ use Rattle.ae_correct.proofs.ModuleClock.{clocked}
 use Rattle.ae_correct.proofs.ModulePorts.{column_at, from_are, mapped_at}
 use Rattle.ae_correct.proofs.Nets.{HavePorts, in_net, out_net, ports_filtered}
 use Rattle.ae_correct.proofs.Places.{port_there}
-use Rattle.ae_stall.specs.Images.{moved, moved_outlet}
+use Rattle.ae_stall.specs.Images.{renumbered, moved_outlet}
 use Rattle.ae_stall.proofs.Lists.{without_at}
 use Rattle.ae_stall.specs.Stalled.{IsStalled, clock_without, enabled_part, is_enabled}
 use Rattle.ae_stalled.specs.Correct.{AreReset, IsCorrectStalled, KeepsEnabledBlocks, enable_name, enabled_clocks, stalled_ports}
@@ -58,7 +58,7 @@ record IsNamed (many : ℕ) (ports : List SizedPort) (named : List ℕ) : Type 0
   there : slice_get ports place ≡ Some port
   is : named ≡ port_name many port.port
 
-named_in : (ss : List StTree) (q column : ℕ) (s : StTree) → slice_get ss q ≡ Some s → column < length (stream_widths (stream_of s)) → IsNamed 1 (reset_port ∷ net_side.input_ports (streams_of ss)) (get_or (map name_of (input_ports q s)) column [])
+named_in : (ss : List StTree) (q column : ℕ) (s : StTree) → slice_get ss q ≡ Some s → column < length (stream_widths (stream_of s)) → IsNamed 1 (reset_port ∷ net_side.input_ports (streams_of ss)) (get_or (map name_of (param_ports q s)) column [])
 named_in ss q column s found small =
     let at : ℕ → ℕ → ℕ → Port = λ param lane word. In param lane word in
     let c = column_at 1 false (at q) s column small in
@@ -70,7 +70,7 @@ named_in ss q column s found small =
       is = c.named;
     }
 
-named_out : (many : ℕ) (rs : List StTree) (q column : ℕ) (s : StTree) → slice_get rs q ≡ Some s → column < length (stream_widths (stream_of s)) → IsNamed many (net_side.output_ports (streams_of rs)) (get_or (map name_of (output_ports many q s)) column [])
+named_out : (many : ℕ) (rs : List StTree) (q column : ℕ) (s : StTree) → slice_get rs q ≡ Some s → column < length (stream_widths (stream_of s)) → IsNamed many (net_side.output_ports (streams_of rs)) (get_or (map name_of (result_ports many q s)) column [])
 named_out many rs q column s found small =
     let at : ℕ → ℕ → ℕ → Port = λ result lane word. Out result lane word in
     let c = column_at many true (at q) s column small in
@@ -99,17 +99,17 @@ module _ (lines : ℕ → ℕ) (p : ProgramTree) (slowdown : ℕ) (costs : OwnCo
   abbrev plain : ModuleTree
   plain = netlist_module lines n.cells n.outlets (length outs)
 
-  outlet_at : (k : ℕ) (port : SizedPort) → slice_get (outs_of outs) k ≡ Some port → (outlet_net n.outlets k < length n.cells) × (outlet_net new.outlets k ≡ moved (outlet_net n.outlets k))
+  outlet_at : (k : ℕ) (port : SizedPort) → slice_get (outs_of outs) k ≡ Some port → (outlet_net n.outlets k < length n.cells) × (outlet_net new.outlets k ≡ renumbered (outlet_net n.outlets k))
   outlet_at k port found =
       let net_of : Outlet → NetId = λ o. o.net in
       let within : k < length (outs_of outs) = slice_get_within (outs_of outs) k port found in
       let o = entry-at n.outlets k (omega (arith, within, ap (λ (l : List SizedPort). length l) old_ports.outputs, length-map n.outlets (outlet_port n.cells))) in
       let left : outlet_net n.outlets k ≡ o.0.net.0 = ap (λ (x : NetId). x.0) (get_or_from_slice_get (map net_of n.outlets) k o.0.net (record { 0 = 0 }) (mapped_at net_of n.outlets k o.0 o.1)) in
-      let right : outlet_net (map moved_outlet n.outlets) k ≡ moved o.0.net.0 =
+      let right : outlet_net (map moved_outlet n.outlets) k ≡ renumbered o.0.net.0 =
       ap (λ (x : NetId). x.0) (get_or_from_slice_get (map net_of (map moved_outlet n.outlets)) k (moved_outlet o.0).net (record { 0 = 0 }) (mapped_at net_of (map moved_outlet n.outlets) k (moved_outlet o.0) (mapped_at moved_outlet n.outlets k o.0 o.1))) in
       let net = c.shown.each k o.0 o.1 in
       let low : o.0.net.0 < length n.cells = slice_get_within n.cells o.0.net.0 net.sized net.found in
-      (omega (arith, left), ap (λ (l : List Outlet). outlet_net l k) still.outputs ∙ (right ∙ ap moved (sym left)))
+      (omega (arith, left), ap (λ (l : List Outlet). outlet_net l k) still.outputs ∙ (right ∙ ap renumbered (sym left)))
 
   -- a run of the module and one of its netlist
   module _ (run : List ModuleClock) (other : List Clock) (is_run : netlist.IsRun new.cells other) (alike : BeginAlike tree new run other) (equal : HaveEqualOutputs tree new run other) where
@@ -148,7 +148,7 @@ module _ (lines : ℕ → ℕ) (p : ProgramTree) (slowdown : ℕ) (costs : OwnCo
           right = get_or-map (clock_without (length n.cells)) (filter is_enabled other) t no_clock no_clock (omega (arith, pairs.long)) ∙ ap (clock_without (length n.cells)) (sym q.right);
         }
 
-    word_there : (t k : ℕ) (h : IsThere t) → k < length n.cells → word_at part t k ≡ word_at other h.place (moved k)
+    word_there : (t k : ℕ) (h : IsThere t) → k < length n.cells → word_at part t k ≡ word_at other h.place (renumbered k)
     unfolding word_at
     word_there t k h l =
         let shaped = is_run.shaped h.place (let b = h.within in omega (arith, alike.long)) in
@@ -166,7 +166,7 @@ module _ (lines : ℕ → ℕ) (p : ProgramTree) (slowdown : ℕ) (costs : OwnCo
           let inside : k < length n.cells = omega (arith, slice_get_within (ins_of ins) k port found, old_ports.inputs.count, count_by-le-length (λ (x : SizedCell). is_input x.cell) n.cells) in
           input_alike lines n many (ins_of ins) (outs_of outs) old_ports r part begin t k port (omega (arith, long)) found
           ∙ (word_there t k h inside
-          ∙ (sym (input_alike lines new many (reset_port ∷ enable_port ∷ net_side.input_ports (streams_of ins)) (outs_of outs) new_ports run other alike h.place (moved k) port h.within (moved_port reset_port (net_side.input_ports (streams_of ins)) k port found))
+          ∙ (sym (input_alike lines new many (reset_port ∷ enable_port ∷ net_side.input_ports (streams_of ins)) (outs_of outs) new_ports run other alike h.place (renumbered k) port h.within (moved_port reset_port (net_side.input_ports (streams_of ins)) k port found))
           ∙ ap (λ (x : ModuleClock). x.word (port_name 1 port.port)) h.left))
 
       out_word : (t k : ℕ) (port : SizedPort) → t < length clocks → slice_get (outs_of outs) k ≡ Some port → (clock_at r t).word (port_name many port.port) ≡ (clock_at clocks t).word (port_name many port.port)
@@ -174,7 +174,7 @@ module _ (lines : ℕ → ℕ) (p : ProgramTree) (slowdown : ℕ) (costs : OwnCo
           let h : IsThere t = there t l in
           let o = outlet_at k port found in
           let inside : outlet_net n.outlets k < length n.cells = o.0 in
-          let net : outlet_net new.outlets k ≡ moved (outlet_net n.outlets k) = o.1 in
+          let net : outlet_net new.outlets k ≡ renumbered (outlet_net n.outlets k) = o.1 in
           output_alike lines n many (ins_of ins) (outs_of outs) old_ports r part shown t k port (omega (arith, long)) found
           ∙ (word_there t (outlet_net n.outlets k) h inside
           ∙ (ap (word_at other h.place) (sym net)
@@ -182,32 +182,32 @@ module _ (lines : ℕ → ℕ) (p : ProgramTree) (slowdown : ℕ) (costs : OwnCo
           ∙ ap (λ (x : ModuleClock). x.word (port_name many port.port)) h.left)))
 
       -- blocks on the inputs, and on the outputs
-      holds_in : (start k : ℕ) (block : List ValueTree) → start + (k + slowdown) ≤ length clocks → BundlesHold clocks start k input_ports ins block → BundlesHold r start k input_ports ins block
+      holds_in : (start k : ℕ) (block : List ValueTree) → start + (k + slowdown) ≤ length clocks → BundlesHold clocks start k param_ports ins block → BundlesHold r start k param_ports ins block
       holds_in start k block room held = record {
         each = λ q t found.
             let fill : IsFilling slowdown t = ins_filling p slowdown ins outs laid q t found in
-            holds_alike k t (wave r start (input_ports q t)) (wave clocks start (input_ports q t)) (flat (at block q)) fill.size
+            holds_alike k t (wave r start (param_ports q t)) (wave clocks start (param_ports q t)) (flat (at block q)) fill.size
             (λ clock column low high small.
-            (let name : IsNamed 1 (ins_of ins) (get_or (map name_of (input_ports q t)) column []) = named_in ins q column t found small in
+            (let name : IsNamed 1 (ins_of ins) (get_or (map name_of (param_ports q t)) column []) = named_in ins q column t found small in
             let full : time t ≡ slowdown = fill.time in
             ap (clock_at r (start + clock)).word name.is ∙ (in_word (start + clock) name.place name.port (omega (arith, full)) name.there ∙ ap (clock_at clocks (start + clock)).word (sym name.is))))
             (held.each q t found);
       }
 
-      holds_out : (start k : ℕ) (values : List ValueTree) → start + (k + slowdown) ≤ length clocks → BundlesHold r start k (output_ports (length outs)) outs values → BundlesHold clocks start k (output_ports (length outs)) outs values
+      holds_out : (start k : ℕ) (values : List ValueTree) → start + (k + slowdown) ≤ length clocks → BundlesHold r start k (result_ports (length outs)) outs values → BundlesHold clocks start k (result_ports (length outs)) outs values
       holds_out start k values room held = record {
         each = λ q t found.
             let fill : IsFilling slowdown t = outs_filling p slowdown ins outs laid q t found in
-            holds_alike k t (wave clocks start (output_ports (length outs) q t)) (wave r start (output_ports (length outs) q t)) (flat (at values q)) fill.size
+            holds_alike k t (wave clocks start (result_ports (length outs) q t)) (wave r start (result_ports (length outs) q t)) (flat (at values q)) fill.size
             (λ clock column low high small.
-            (let name : IsNamed (length outs) (outs_of outs) (get_or (map name_of (output_ports (length outs) q t)) column []) = named_out (length outs) outs q column t found small in
+            (let name : IsNamed (length outs) (outs_of outs) (get_or (map name_of (result_ports (length outs) q t)) column []) = named_out (length outs) outs q column t found small in
             let full : time t ≡ slowdown = fill.time in
-            let named : get_or (map name_of (output_ports (length outs) q t)) column [] ≡ port_name many name.port.port = name.is in
+            let named : get_or (map name_of (result_ports (length outs) q t)) column [] ≡ port_name many name.port.port = name.is in
             ap (clock_at clocks (start + clock)).word named ∙ (sym (out_word (start + clock) name.place name.port (omega (arith, full)) name.there) ∙ ap (clock_at r (start + clock)).word (sym named))))
             (held.each q t found);
       }
 
-      resets : (start : ℕ) → module_runs.IsRun plain r → AreReset clocks start → IsResetRun plain r start
+      resets : (start : ℕ) → module_runs.IsModuleRun plain r → AreReset clocks start → IsResetRun plain r start
       resets start runs h = record {
         run_of = runs;
         some = h.some;

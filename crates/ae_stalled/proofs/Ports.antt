@@ -14,7 +14,7 @@ use Rattle.ae_verilog.specs.NetlistModule.{IsInputPort}
 use Rattle.ae_ports.specs.Ports.{SizedPort, input_cell, outlet_port}
 use Rattle.ae_correct.proofs.Nets.{HavePorts}
 use Rattle.ae_netlist.proofs.Growing.{width_is}
-use Rattle.ae_stall.specs.Images.{moved, moved_outlet, with_enable}
+use Rattle.ae_stall.specs.Images.{renumbered, moved_outlet, with_enable}
 use Rattle.ae_stall.specs.Stalled.{IsStalled}
 
 abbrev pub enable_port : SizedPort
@@ -34,13 +34,13 @@ longer : (cells : List SizedCell) → 1 ≤ length cells → length (with_enable
 longer [] l = absurd (omega arith)
 longer (x ∷ cells) l = omega arith
 
-outlets_same : (old new : List SizedCell) (os : List Outlet) → ((n : ℕ) (sized : SizedCell) → slice_get old n ≡ Some sized → (cell : Cell) × (slice_get new (moved n) ≡ Some (record { width = sized.width; cell = cell })))
+outlets_same : (old new : List SizedCell) (os : List Outlet) → ((n : ℕ) (sized : SizedCell) → slice_get old n ≡ Some sized → (cell : Cell) × (slice_get new (renumbered n) ≡ Some (record { width = sized.width; cell = cell })))
     → ((k : ℕ) (o : Outlet) → slice_get os k ≡ Some o → IsNet old o.net.0 (width_of old o.net.0)) → map (outlet_port new) (map moved_outlet os) ≡ map (outlet_port old) os
 outlets_same old new [] w h = refl
 outlets_same old new (o ∷ os) w h =
     let net : IsNet old o.net.0 (width_of old o.net.0) = h 0 o refl in
     let there = w o.net.0 net.sized net.found in
-    let same : width_of new (moved o.net.0) ≡ width_of old o.net.0 = width_is new (moved o.net.0) _ there.1 ∙ sym (width_is old o.net.0 net.sized net.found) in
+    let same : width_of new (renumbered o.net.0) ≡ width_of old o.net.0 = width_is new (renumbered o.net.0) _ there.1 ∙ sym (width_is old o.net.0 net.sized net.found) in
     λ i. record { port = o.port; width = same i } ∷ outlets_same old new os w (λ k p e. h (suc k) p e) i
 
 pub stalled_ports_are : (old new : Circuit) (rst : SizedPort) (ins outs : List SizedPort) → IsStalled old new → HaveNets old.cells old.outlets → HavePorts old.cells old.outlets (rst ∷ ins) outs → HavePorts new.cells new.outlets (rst ∷ enable_port ∷ ins) outs
@@ -61,6 +61,6 @@ stalled_ports_are old new rst ins outs s have h =
     inner (suc zero) p e = subst (λ (x : SizedPort). IsInputPort x.port) (same_Some enable_port p e) tt
     inner (suc (suc n)) p e = h.inner (suc n) p e
 
-pub moved_port : (rst : SizedPort) (ins : List SizedPort) (k : ℕ) (p : SizedPort) → slice_get (rst ∷ ins) k ≡ Some p → slice_get (rst ∷ enable_port ∷ ins) (moved k) ≡ Some p
+pub moved_port : (rst : SizedPort) (ins : List SizedPort) (k : ℕ) (p : SizedPort) → slice_get (rst ∷ ins) k ≡ Some p → slice_get (rst ∷ enable_port ∷ ins) (renumbered k) ≡ Some p
 moved_port rst ins zero p e = e
 moved_port rst ins (suc k) p e = e

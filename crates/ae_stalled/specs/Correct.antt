@@ -9,8 +9,8 @@ use Rattle.ae_rewrite.specs.Interface.{AreValues, HaveLayouts, parameter_types}
 use Rattle.ae_vread.specs.ModuleTree.{ModuleTree}
 use Rattle.ae_elab.specs.Names.{clock_name}
 use Rattle.ae_elab.specs.Values.{ModuleClock}
-use Rattle.ae_elab.specs.Runs.{clock_at, IsRun}
-use Rattle.ae_correct.specs.Correct.{BundlesHold, ModulePort, input_ports, output_ports, ports_from, ports_of}
+use Rattle.ae_elab.specs.Runs.{clock_at, IsModuleRun}
+use Rattle.ae_correct.specs.Correct.{BundlesHold, ModulePort, param_ports, result_ports, bundles_from, ports_of}
 
 -- the name of the enable
 abbrev pub enable_name : List ℕ
@@ -29,9 +29,9 @@ pub record AreReset (clocks : List ModuleClock) (start : ℕ) : Type 0 where
 -- in a run whose enabled clocks are reset, where every block of arguments stands on the inputs in them, one behind the other
 -- without a gap, the program's results of each block stand on the outputs in them, all of them so many enabled clocks later
 pub record KeepsEnabledBlocks (m : ModuleTree) (p : ProgramTree) (slowdown latency : ℕ) (inputs outputs : List StTree) : Type 0 where
-  pub results : (run : List ModuleClock) (start : ℕ) (blocks : List (List ValueTree)) → IsRun m run → AreReset (enabled_clocks run) start → start + (latency + length blocks * slowdown) ≤ length (enabled_clocks run)
-      → ((b : ℕ) (block : List ValueTree) → slice_get blocks b ≡ Some block → AreValues (parameter_types p) block × BundlesHold (enabled_clocks run) start (b * slowdown) input_ports inputs block)
-      → (b : ℕ) (block : List ValueTree) → slice_get blocks b ≡ Some block → BundlesHold (enabled_clocks run) start (latency + b * slowdown) (output_ports (length outputs)) outputs (mean p block)
+  pub results : (run : List ModuleClock) (start : ℕ) (blocks : List (List ValueTree)) → IsModuleRun m run → AreReset (enabled_clocks run) start → start + (latency + length blocks * slowdown) ≤ length (enabled_clocks run)
+      → ((b : ℕ) (block : List ValueTree) → slice_get blocks b ≡ Some block → AreValues (parameter_types p) block × BundlesHold (enabled_clocks run) start (b * slowdown) param_ports inputs block)
+      → (b : ℕ) (block : List ValueTree) → slice_get blocks b ≡ Some block → BundlesHold (enabled_clocks run) start (latency + b * slowdown) (result_ports (length outputs)) outputs (mean p block)
 
 -- clock, reset, enable, inputs and outputs
 abbrev pub stalled_ports : (inputs outputs : List StTree) → List ModulePort
@@ -39,7 +39,7 @@ stalled_ports inputs outputs =
     record { name = codes "clk"; width = 1; is_output = false }
     ∷ record { name = codes "rst"; width = 1; is_output = false }
     ∷ record { name = enable_name; width = 1; is_output = false }
-    ∷ ports_from input_ports 0 inputs ++ ports_from (output_ports (length outputs)) 0 outputs
+    ∷ bundles_from param_ports 0 inputs ++ bundles_from (result_ports (length outputs)) 0 outputs
 
 -- the module is correct for the program at a slowdown and with a latency
 pub record IsCorrectStalled (m : ModuleTree) (p : ProgramTree) (slowdown latency : ℕ) : Type 0 where

@@ -3,7 +3,7 @@ use Rattle.std.proofs.Common.{◌≡◌, ℕ, ◌+◌, ◌-◌, ◌/◌, ◌%◌
 use Rattle.std.specs.List.{range_with_len}
 use Rattle.ae_word.specs.AtomTree.{unsigned_word}
 use Rattle.ae_sttype.specs.StTree.{StTree, atom, tseq, sseq}
-use Rattle.ae_sttype.specs.Moves.{OriginTree, from_input, fixed, TripTree, trips_of, latency_of, delay_of, runs_of, held_count, unheld_count, steps_of}
+use Rattle.ae_sttype.specs.Moves.{OriginTree, from_input, fixed, TripTree, trips_of, latency_of_trips, delay_of, runs_of, held_count, unheld_count, steps_of}
 
 abbrev byte : StTree
 byte = atom (unsigned_word 8)
@@ -20,7 +20,7 @@ four_lanes = tseq 2 0 (sseq 4 byte)
 abbrev shifted : ℕ → List TripTree
 shifted k = moved four_lanes four_lanes 8 (λ e. if nat_lt e k then fixed 0 else from_input 0 (e - k) 0)
 
-shift_1_latency : latency_of (shifted 1) ≡ 0
+shift_1_latency : latency_of_trips (shifted 1) ≡ 0
 shift_1_latency = refl
 
 shift_1_delay : delay_of 0 4 (shifted 1) ≡ 1
@@ -40,7 +40,7 @@ shift_2_runs = refl
 abbrev cut_in_four : List TripTree
 cut_in_four = moved (tseq 6 0 (sseq 2 byte)) (tseq 4 2 (sseq 3 byte)) 12 (λ e. from_input 0 e 0)
 
-cut_latency : latency_of cut_in_four ≡ 2
+cut_latency : latency_of_trips cut_in_four ≡ 2
 cut_latency = refl
 
 -- ---- the third of four elements in time
@@ -48,7 +48,7 @@ cut_latency = refl
 abbrev third : List TripTree
 third = moved (tseq 4 0 byte) (tseq 1 0 (tseq 1 3 byte)) 1 (λ e. from_input 0 (2 + e) 0)
 
-third_latency : latency_of third ≡ 2
+third_latency : latency_of_trips third ≡ 2
 third_latency = refl
 
 -- ---- one element four times: one register holds it
@@ -73,7 +73,7 @@ four_times_steps = refl
 abbrev second_row : List TripTree
 second_row = moved (tseq 3 1 (sseq 4 byte)) (tseq 1 0 (tseq 4 0 byte)) 4 (λ e. from_input 0 (4 + e) 0)
 
-second_row_latency : latency_of second_row ≡ 1
+second_row_latency : latency_of_trips second_row ≡ 1
 second_row_latency = refl
 
 second_row_delay : delay_of 1 4 second_row ≡ 6

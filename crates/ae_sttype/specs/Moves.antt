@@ -65,8 +65,8 @@ lead_from c (place k q) = k - c
 lead_from c (constant w) = 0
 
 -- the latency of a move: the clocks by which the output has to come later than the inputs
-abbrev pub latency_of : List TripTree → ℕ
-latency_of trips = greatest (λ (t : TripTree). lead_from t.clock t.source) trips
+abbrev pub latency_of_trips : List TripTree → ℕ
+latency_of_trips trips = greatest (λ (t : TripTree). lead_from t.clock t.source) trips
 
 -- how old a word of the column is when the output takes it with the latency d, and 0 where it takes none of the column
 abbrev pub age_from : (d column clock : ℕ) → SourceTree → ℕ

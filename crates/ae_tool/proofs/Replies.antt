@@ -17,13 +17,13 @@ use Rattle.ae_tool.specs.declared.command.Command.{Command}
 use Rattle.ae_tool.specs.declared.command.Command.TheVariants.{Check, Eval, Plan, Cost, Least, Build, Stall, Run, Wave, Unwave, Sim, Demo}
 use Rattle.ae_tool.specs.Commands.{IsCommand, takes_whole}
 use Rattle.ae_tool.specs.Inputs.{AreParts, IsCut, Marked, Unmarked}
-use Rattle.ae_tool.specs.RunTexts.{input_widths, run_size, run_limit, IsRunOf, IsRun, Unbuilt, Played}
+use Rattle.ae_tool.specs.RunTexts.{input_widths, run_size, run_limit, IsRunOf, IsPlayed, Unbuilt, Played}
 use Rattle.ae_stalled.specs.Laws.{stall_limit}
 use Rattle.ae_compile.specs.Building.{IsBuiltStalled, IsBuiltText}
 use Rattle.ae_compile.specs.Costing.{main_costs}
 use Rattle.ae_seq.specs.Typing.{refused_line as refused_line_of}
 use Rattle.ae_parse.specs.Grammar.{IsProgramText as Reads, line_refused, program}
-use Rattle.ae_compile.specs.Programs.{IsTyped}
+use Rattle.ae_compile.specs.Programs.{IsTypedText}
 use Rattle.ae_tool.specs.Programs.{IsRefusal}
 use Rattle.ae_rewrite.specs.StProgramTree.{StFuncTree}
 use Rattle.ae_rewrite.specs.Scheduled.{IsSchedule}
@@ -226,7 +226,7 @@ least_replies : (part : List ℕ) (slowdown : ℕ) (status : Status) (text : Lis
 least_replies part slowdown status text (Untold r e) = refusal_replies part status r
 least_replies part slowdown status text (Told p t r) = least_of_replies p slowdown status text r
 
-run_replies : (form : Form) (slowdown fill : ℕ) (part : List ℕ) (table : List (List (List ℕ))) (status : Status) (text : List ℕ) → IsRun form slowdown fill part table status text → is_reply status ≡ true
+run_replies : (form : Form) (slowdown fill : ℕ) (part : List ℕ) (table : List (List (List ℕ))) (status : Status) (text : List ℕ) → IsPlayed form slowdown fill part table status text → is_reply status ≡ true
 run_replies form slowdown fill part table status text (Unbuilt r e) = cost_refusal_replies load_limit part slowdown status r
 run_replies form slowdown fill part table status text (Played p instances c r) = run_of_replies form fill p slowdown instances table status text r
 
@@ -365,7 +365,7 @@ one_program : (part : List ℕ) (p q : ProgramTree) → Reads part p → Reads p
 one_program part p q a b = let e : program p ≡ program q = sym a ∙ b in cc
 
 -- a program that is typed is not refused
-never_refused : {A : Type 0} (part : List ℕ) (p : ProgramTree) (status : Status) → IsTyped part p → IsRefusal part status → A
+never_refused : {A : Type 0} (part : List ℕ) (p : ProgramTree) (status : Status) → IsTypedText part p → IsRefusal part status → A
 never_refused part p Ok t r = absurd r
 never_refused part p Usage t r = absurd r
 never_refused part p (BadLine line) t r = let e : None ≡ Some line = sym (ap line_refused t.reads) ∙ r in cc
@@ -384,7 +384,7 @@ never_refused part p Memory t r = absurd r
 never_refused part p (BadWave at) t r = absurd r
 never_refused part p (NotMoves line) t r = absurd r
 
-checked_ok : (part : List ℕ) (status : Status) (text : List ℕ) (p : ProgramTree) → IsTyped part p → IsChecked part status text → status ≡ Ok
+checked_ok : (part : List ℕ) (status : Status) (text : List ℕ) (p : ProgramTree) → IsTypedText part p → IsChecked part status text → status ≡ Ok
 checked_ok part Ok text p t b = refl
 checked_ok part Usage text p t b = never_refused part p Usage t b.0
 checked_ok part (BadLine line) text p t b = never_refused part p (BadLine line) t b.0
@@ -423,7 +423,7 @@ record EvalFits (p : ProgramTree) (table : List (List (List ℕ))) : Type 0 wher
   right : bad_row 1 (input_widths p) table ≡ None
   short : eval_size p table ≤ run_limit
 
-evaluated_ok : (part : List ℕ) (table : List (List (List ℕ))) (status : Status) (text : List ℕ) (p : ProgramTree) → IsTyped part p → EvalFits p table → IsEvaluated part table status text → status ≡ Ok
+evaluated_ok : (part : List ℕ) (table : List (List (List ℕ))) (status : Status) (text : List ℕ) (p : ProgramTree) → IsTypedText part p → EvalFits p table → IsEvaluated part table status text → status ≡ Ok
 evaluated_ok part table status text p t f (Refused r e) = never_refused part p status t r
 evaluated_ok part table status text p t f (Ran q u r) =
     let g : EvalFits q table = subst (λ (x : ProgramTree). EvalFits x table) (one_program part p q t.reads u.reads) f in
@@ -496,7 +496,7 @@ run_of_ok form fill p slowdown instances table Memory text right short b = absur
 run_of_ok form fill p slowdown instances table (BadWave at) text right short b = absurd b
 run_of_ok form fill p slowdown instances table (NotMoves line) text right short b = absurd b
 
-run_ok : (form : Form) (slowdown fill : ℕ) (part : List ℕ) (table : List (List (List ℕ))) (status : Status) (text : List ℕ) → HasShortRun form part slowdown table → IsRun form slowdown fill part table status text → status ≡ Ok
+run_ok : (form : Form) (slowdown fill : ℕ) (part : List ℕ) (table : List (List (List ℕ))) (status : Status) (text : List ℕ) → HasShortRun form part slowdown table → IsPlayed form slowdown fill part table status text → status ≡ Ok
 run_ok form slowdown fill part table status text h (Unbuilt r e) = never_cost_refused load_limit part slowdown status h.costs r
 run_ok form slowdown fill part table status text h (Played p instances c r) =
     let own = h.costs in

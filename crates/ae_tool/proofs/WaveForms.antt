@@ -24,7 +24,7 @@ use Rattle.ae_vread.specs.ModuleTree.{ModuleTree, NetTree}
 use Rattle.ae_judge.specs.Names.{Among, is_clock, is_input_kind, is_output_kind}
 use Rattle.ae_judge.proofs.Members.{among_at, among_from, among_split, among_unflat, among_unmap}
 use Rattle.ae_elab.specs.Values.{ModuleClock}
-use Rattle.ae_elab.specs.Runs.{Holds, IsRun, clock_at}
+use Rattle.ae_elab.specs.Runs.{FitsKind, IsModuleRun, clock_at}
 use Rattle.ae_elab.specs.SameRuns.{input_words, inputs_of, output_words, outputs_of}
 use Rattle.ae_runs.proofs.Pairwise.{among_filter}
 use Rattle.ae_verilog.specs.NetlistModule.{input_nets, netlist_module, output_net, port_name}
@@ -143,7 +143,7 @@ all_mapped f P xs h k d within =
     let e = entry-at xs k (omega (arith, within, length-map xs f)) in
     subst P (sym (get_or_from_slice_get (map f xs) k (f e.0) d (mapped_at f xs k e.0 e.1))) (h e.0 (among_from e.0 xs k e.1))
 
-plain_input : (k : NetKind) (width word : ℕ) (store : List ℕ) → is_input_kind k ≡ true → Holds k width word store → word < 2 ^ width
+plain_input : (k : NetKind) (width word : ℕ) (store : List ℕ) → is_input_kind k ≡ true → FitsKind k width word store → word < 2 ^ width
 plain_input kind.Input width word store e h = h
 plain_input kind.Wire width word store e h = h
 plain_input kind.OutWire width word store e h = h
@@ -151,7 +151,7 @@ plain_input kind.Reg width word store e h = h
 plain_input kind.OutReg width word store e h = h
 plain_input (kind.Memory depth) width word store e h = cc
 
-plain_output : (k : NetKind) (width word : ℕ) (store : List ℕ) → is_output_kind k ≡ true → Holds k width word store → word < 2 ^ width
+plain_output : (k : NetKind) (width word : ℕ) (store : List ℕ) → is_output_kind k ≡ true → FitsKind k width word store → word < 2 ^ width
 plain_output kind.Input width word store e h = h
 plain_output kind.Wire width word store e h = h
 plain_output kind.OutWire width word store e h = h
@@ -163,7 +163,7 @@ both_true : (a b : Bool) → (a && b) ≡ true → a ≡ true
 both_true true b h = refl
 both_true false b h = h
 
-module _ (lines : ℕ → ℕ) (n : Circuit) (outs : ℕ) (ok : IsWritableNetlist n.cells n.outlets outs) (are : ArePorts lines n outs) (run : List ModuleClock) (runs : IsRun (netlist_module lines n.cells n.outlets outs) run) where
+module _ (lines : ℕ → ℕ) (n : Circuit) (outs : ℕ) (ok : IsWritableNetlist n.cells n.outlets outs) (are : ArePorts lines n outs) (run : List ModuleClock) (runs : IsModuleRun (netlist_module lines n.cells n.outlets outs) run) where
   abbrev own : ModuleTree
   own = netlist_module lines n.cells n.outlets outs
 

@@ -19,13 +19,13 @@ abbrev pub function_line : FuncTree → List ℕ
 function_line f = (((decimal f.line ++ codes " fn ") ++ f.name) ++ flat_map param_text f.params) ++ 10 ∷ []
 
 -- `LINE NAME TYPE`
-abbrev pub node_line : Option SeqTree → NodeTree → List ℕ
-node_line t n = ((((decimal n.line ++ 32 ∷ []) ++ n.name) ++ 32 ∷ []) ++ item_text t) ++ 10 ∷ []
+abbrev pub node_text : Option SeqTree → NodeTree → List ℕ
+node_text t n = ((((decimal n.line ++ 32 ∷ []) ++ n.name) ++ 32 ∷ []) ++ item_text t) ++ 10 ∷ []
 
 -- the lines of nodes, where the first is item i of function k
 abbrev pub node_lines : ProgramTree → (k i : ℕ) → List NodeTree → List ℕ
 node_lines p k i [] = []
-node_lines p k i (n ∷ ns) = node_line (type_at p k i) n ++ node_lines p k (i + 1) ns
+node_lines p k i (n ∷ ns) = node_text (type_at p k i) n ++ node_lines p k (i + 1) ns
 
 -- `LINE end` and the types of the results
 abbrev pub result_text : Option SeqTree → List ℕ

@@ -10,7 +10,7 @@ use Rattle.ae_play.specs.declared.sums.Sums.{Sums}
 use Rattle.ae_rewrite.specs.Interface.{parameter_types}
 use Rattle.ae_correct.specs.ClockTexts.{AreClockSums}
 use Rattle.ae_tool.specs.Inputs.{blocks_of}
-use Rattle.ae_tool.specs.PlanTexts.{number_line}
+use Rattle.ae_tool.specs.PlanTexts.{counted_line}
 use Rattle.ae_compile.specs.Costing.{IsCosted, load_limit}
 use Rattle.ae_compile.specs.Building.{IsModuleText}
 use Rattle.ae_compile.specs.Costing.{main_costs}
@@ -45,8 +45,8 @@ pub record IsSummedRun (fill : ℕ) (p : ProgramTree) (slowdown : ℕ) (instance
 -- the lines of the summary
 abbrev pub summary : (size latency clocks : ℕ) → Sums → List ℕ
 summary n latency clocks s =
-    ((((number_line (codes "demo") n ++ number_line (codes "latency") latency) ++ number_line (codes "clocks") clocks) ++ number_line (codes "valid") s.valid) ++ number_line (codes "sum") s.valid_sum)
-    ++ number_line (codes "all") s.whole_sum
+    ((((counted_line (codes "demo") n ++ counted_line (codes "latency") latency) ++ counted_line (codes "clocks") clocks) ++ counted_line (codes "valid") s.valid) ++ counted_line (codes "sum") s.valid_sum)
+    ++ counted_line (codes "all") s.whole_sum
 
 -- the text of the program's module, and the summary of its run on the input
 pub record IsDemoText (n : ℕ) (text : List ℕ) : Type 0 where

@@ -5,7 +5,7 @@ use Rattle.ae_rewrite.specs.FailingLine.{failing_line}
 use Rattle.ae_trace.specs.Traces.{is_movement}
 use Rattle.ae_least.specs.LeastTexts.{IsLeastText}
 use Rattle.ae_least.specs.Others.{other_line}
-use Rattle.ae_compile.specs.Programs.{IsTyped}
+use Rattle.ae_compile.specs.Programs.{IsTypedText}
 use Rattle.ae_tool.specs.declared.status.Status.{Status}
 use Rattle.ae_tool.specs.declared.status.Status.TheVariants.{Ok, NoSchedule, NotMoves}
 use Rattle.ae_tool.specs.Refusals.{refusal_line}
@@ -21,8 +21,8 @@ IsLeastOf p slowdown _ text = ⊥
 -- what `least` answers and writes: the refusals of any program come first
 pub data IsLeast (part : List ℕ) (slowdown : ℕ) (status : Status) (text : List ℕ) : Type 0 where
   Untold : IsRefusal part status → text ≡ refusal_line status → IsLeast part slowdown status text
-  Told : (p : ProgramTree) → IsTyped part p → IsLeastOf p slowdown status text → IsLeast part slowdown status text
+  Told : (p : ProgramTree) → IsTypedText part p → IsLeastOf p slowdown status text → IsLeast part slowdown status text
 
 -- the job has a result: a movement program each of whose lines has a layout
 abbrev pub HasLeast : (part : List ℕ) (slowdown : ℕ) → Type 0
-HasLeast part slowdown = (p : ProgramTree) × IsTyped part p × (is_movement p ≡ true) × (failing_line p slowdown ≡ None)
+HasLeast part slowdown = (p : ProgramTree) × IsTypedText part p × (is_movement p ≡ true) × (failing_line p slowdown ≡ None)

@@ -16,7 +16,7 @@ use Rattle.ae_tool.specs.Refusals.{refusal_line}
 use Rattle.ae_stalled.specs.Laws.{stall_limit}
 use Rattle.ae_compile.specs.Building.{IsBuiltStalled, IsBuiltText}
 use Rattle.ae_compile.specs.Costing.{main_costs}
-use Rattle.ae_compile.specs.Programs.{IsTyped}
+use Rattle.ae_compile.specs.Programs.{IsTypedText}
 use Rattle.ae_tool.specs.Programs.{IsRefusal}
 use Rattle.ae_tool.specs.DemoTexts.{IsDemoText}
 use Rattle.ae_tool.specs.CheckTexts.{check_text}
@@ -24,7 +24,7 @@ use Rattle.ae_compile.specs.Costing.{HasCosts, load_limit}
 use Rattle.ae_tool.specs.Schedules.{IsAnswered, IsPlanned, IsTabled}
 use Rattle.ae_tool.specs.LeastAnswers.{HasLeast, IsLeast}
 use Rattle.ae_tool.specs.EvalTexts.{eval_size, IsEvalOf}
-use Rattle.ae_tool.specs.RunTexts.{input_widths, run_size, run_limit, IsRun}
+use Rattle.ae_tool.specs.RunTexts.{input_widths, run_size, run_limit, IsPlayed}
 use Rattle.ae_tool.specs.SimTexts.{IsSimulated, IsSimulable}
 use Rattle.ae_tool.specs.UnwaveTexts.{IsReadable, IsUnwaved}
 
@@ -37,18 +37,18 @@ abbrev pub IsBuilt : (part : List ℕ) (slowdown : ℕ) → Status → (text : L
 IsBuilt part slowdown status text = IsAnswered load_limit (IsBuiltText part slowdown) part slowdown status text
 
 -- what `stall` answers and writes
-abbrev pub IsStalled : (part : List ℕ) (slowdown : ℕ) → Status → (text : List ℕ) → Type 0
-IsStalled part slowdown status text = IsAnswered stall_limit (IsBuiltStalled part slowdown) part slowdown status text
+abbrev pub IsStallReply : (part : List ℕ) (slowdown : ℕ) → Status → (text : List ℕ) → Type 0
+IsStallReply part slowdown status text = IsAnswered stall_limit (IsBuiltStalled part slowdown) part slowdown status text
 
 -- what `check` answers and writes
 abbrev pub IsChecked : (part : List ℕ) → Status → (text : List ℕ) → Type 0
-IsChecked part Ok text = (p : ProgramTree) × IsTyped part p × (text ≡ check_text p)
+IsChecked part Ok text = (p : ProgramTree) × IsTypedText part p × (text ≡ check_text p)
 IsChecked part status text = IsRefusal part status × (text ≡ refusal_line status)
 
 -- what `eval` answers and writes: the program's refusals come before those of the rows
 pub data IsEvaluated (part : List ℕ) (table : List (List (List ℕ))) (status : Status) (text : List ℕ) : Type 0 where
   Refused : IsRefusal part status → text ≡ refusal_line status → IsEvaluated part table status text
-  Ran : (p : ProgramTree) → IsTyped part p → IsEvalOf p table status text → IsEvaluated part table status text
+  Ran : (p : ProgramTree) → IsTypedText part p → IsEvalOf p table status text → IsEvaluated part table status text
 
 -- what a job answers and writes for the two parts of an input; a demo takes none
 abbrev pub IsReply : Command → (part : List ℕ) (table : List (List (List ℕ))) → Status → (text : List ℕ) → Type 0
@@ -58,10 +58,10 @@ IsReply (Plan slowdown) part table status text = IsPlanned part slowdown status 
 IsReply (Cost slowdown) part table status text = IsTabled part slowdown status text
 IsReply (Least slowdown) part table status text = IsLeast part slowdown status text
 IsReply (Build slowdown) part table status text = IsBuilt part slowdown status text
-IsReply (Stall slowdown) part table status text = IsStalled part slowdown status text
+IsReply (Stall slowdown) part table status text = IsStallReply part slowdown status text
 IsReply (Demo size) part table status text = ⊥
-IsReply (Run slowdown fill) part table status text = IsRun Lines slowdown fill part table status text
-IsReply (Wave slowdown fill) part table status text = IsRun Dump slowdown fill part table status text
+IsReply (Run slowdown fill) part table status text = IsPlayed Lines slowdown fill part table status text
+IsReply (Wave slowdown fill) part table status text = IsPlayed Dump slowdown fill part table status text
 IsReply Unwave part table status text = IsUnwaved part status text
 IsReply (Sim fill) part table status text = IsSimulated fill part table status text
 
@@ -128,8 +128,8 @@ pub record HasShortRun (form : Form) (part : List ℕ) (slowdown : ℕ) (table :
 
 -- the job has a result for the two parts of an input; a demo takes none
 abbrev pub HasResult : Command → (part : List ℕ) (table : List (List (List ℕ))) → Type 0
-HasResult Check part table = (p : ProgramTree) × IsTyped part p
-HasResult Eval part table = (p : ProgramTree) × IsTyped part p × (bad_row 1 (input_widths p) table ≡ None) × (eval_size p table ≤ run_limit)
+HasResult Check part table = (p : ProgramTree) × IsTypedText part p
+HasResult Eval part table = (p : ProgramTree) × IsTypedText part p × (bad_row 1 (input_widths p) table ≡ None) × (eval_size p table ≤ run_limit)
 HasResult (Plan slowdown) part table = HasCosts load_limit part slowdown
 HasResult (Cost slowdown) part table = HasCosts load_limit part slowdown
 HasResult (Least slowdown) part table = HasLeast part slowdown

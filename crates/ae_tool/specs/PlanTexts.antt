@@ -11,8 +11,8 @@ use Rattle.ae_delay.specs.Costs.{NodeTiming}
 use Rattle.ae_fuse.specs.Costing.{costing}
 
 -- `WORDS NUMBER`
-abbrev pub number_line : (words : List ℕ) (number : ℕ) → List ℕ
-number_line words n = ((words ++ 32 ∷ []) ++ decimal n) ++ 10 ∷ []
+abbrev pub counted_line : (words : List ℕ) (number : ℕ) → List ℕ
+counted_line words n = ((words ++ 32 ∷ []) ++ decimal n) ++ 10 ∷ []
 
 -- `LINE NAME ARRIVAL LAYOUT`
 abbrev pub item_line : (line : ℕ) (name : List ℕ) (arrival : ℕ) (layout : StTree) → List ℕ
@@ -31,7 +31,7 @@ abbrev pub result_line : (line : ℕ) (arrivals : List ℕ) (layouts : List StTr
 result_line line as_all layouts r = item_line line (codes "end") (slice_index as_all r) (item_layout layouts r)
 
 abbrev pub cost_lines : (slowdown : ℕ) → OwnCosts → List ℕ
-cost_lines slowdown c = ((number_line (codes "slowdown") slowdown ++ number_line (codes "latency") c.latency) ++ number_line (codes "muls") c.muls) ++ number_line (codes "load") c.load
+cost_lines slowdown c = ((counted_line (codes "slowdown") slowdown ++ counted_line (codes "latency") c.latency) ++ counted_line (codes "muls") c.muls) ++ counted_line (codes "load") c.load
 
 abbrev pub item_lines : FuncTree → (arrivals : List ℕ) (layouts : List StTree) → List ℕ
 item_lines f as_all layouts =

@@ -59,14 +59,14 @@ pub record IsRunText (fill : ℕ) (p : ProgramTree) (slowdown : ℕ) (instances 
   pub is : text ≡ (built ++ codes "%% clocks\n") ++ clocks
 
 -- what a run is written as
-abbrev pub IsShown : Form → (fill : ℕ) (p : ProgramTree) (slowdown : ℕ) (instances : List StFuncTree) (table : List (List (List ℕ))) (text : List ℕ) → Type 0
-IsShown Lines fill p slowdown instances table text = IsRunText fill p slowdown instances table text
-IsShown Dump fill p slowdown instances table text = IsWaveText fill p slowdown instances table text
+abbrev pub IsRunShown : Form → (fill : ℕ) (p : ProgramTree) (slowdown : ℕ) (instances : List StFuncTree) (table : List (List (List ℕ))) (text : List ℕ) → Type 0
+IsRunShown Lines fill p slowdown instances table text = IsRunText fill p slowdown instances table text
+IsRunShown Dump fill p slowdown instances table text = IsWaveText fill p slowdown instances table text
 
 -- what `run` or `wave` answers and writes for a costed program and rows: the first wrong row comes before a run that is too long
 abbrev pub IsRunOf : Form → (fill : ℕ) (p : ProgramTree) (slowdown : ℕ) (instances : List StFuncTree) (table : List (List (List ℕ))) → Status → (text : List ℕ) → Type 0
 IsRunOf form fill p slowdown instances table Ok text =
-    (bad_row 1 (input_widths p) table ≡ None) × (run_size form p slowdown (main_costs p instances).latency table ≤ run_limit) × IsShown form fill p slowdown instances table text
+    (bad_row 1 (input_widths p) table ≡ None) × (run_size form p slowdown (main_costs p instances).latency table ≤ run_limit) × IsRunShown form fill p slowdown instances table text
 IsRunOf form fill p slowdown instances table (BadWords row column) text =
     (bad_row 1 (input_widths p) table ≡ Some (row, column)) × (text ≡ refusal_line (BadWords row column))
 IsRunOf form fill p slowdown instances table (LongRun size) text =
@@ -74,6 +74,6 @@ IsRunOf form fill p slowdown instances table (LongRun size) text =
 IsRunOf form fill p slowdown instances table _ text = ⊥
 
 -- the program's refusals come before those of the rows
-pub data IsRun (form : Form) (slowdown fill : ℕ) (part : List ℕ) (table : List (List (List ℕ))) (status : Status) (text : List ℕ) : Type 0 where
-  Unbuilt : IsCostRefusal load_limit part slowdown status → text ≡ refusal_line status → IsRun form slowdown fill part table status text
-  Played : (p : ProgramTree) (instances : List StFuncTree) → IsCosted load_limit part slowdown p instances → IsRunOf form fill p slowdown instances table status text → IsRun form slowdown fill part table status text
+pub data IsPlayed (form : Form) (slowdown fill : ℕ) (part : List ℕ) (table : List (List (List ℕ))) (status : Status) (text : List ℕ) : Type 0 where
+  Unbuilt : IsCostRefusal load_limit part slowdown status → text ≡ refusal_line status → IsPlayed form slowdown fill part table status text
+  Played : (p : ProgramTree) (instances : List StFuncTree) → IsCosted load_limit part slowdown p instances → IsRunOf form fill p slowdown instances table status text → IsPlayed form slowdown fill part table status text

@@ -11,7 +11,7 @@ use Rattle.ae_judge.specs.declared.fault.ElabFault.{ElabFault}
 use Rattle.ae_judge.specs.declared.fault.ElabFault.TheVariants as e
 use Rattle.ae_elab.specs.Faults.{IsFault, IsWellFormed}
 use Rattle.ae_elab.specs.Values.{ModuleClock}
-use Rattle.ae_elab.specs.Runs.{clock_at, IsRun}
+use Rattle.ae_elab.specs.Runs.{clock_at, IsModuleRun}
 use Rattle.ae_elab.specs.SameRuns.{inputs_of, outputs_of, states_of, kind_depth, input_words, output_words, held_words}
 use Rattle.ae_tool.specs.declared.status.VFaultKind.{VFaultKind}
 use Rattle.ae_tool.specs.declared.status.VFaultKind.TheVariants.{BadToken, BadHeader, BadItem, Unknown, Twice, Kind, Undriven, Width, Loop, Large}
@@ -77,7 +77,7 @@ taken_words inputs row = take inputs (row_words row)
 -- a run as long as the table, with row t at the inputs in clock t; all registers and memories begin as the fill, modulo 2 to each width
 pub record IsSimRun (m : ModuleTree) (fill : ℕ) (table : List (List (List ℕ))) (run : List ModuleClock) : Type 0 where
   pub long : length run ≡ length table
-  pub runs : IsRun m run
+  pub runs : IsModuleRun m run
   pub takes : (t : ℕ) → t < length run → input_words m (clock_at run t) ≡ taken_words (length (inputs_of m)) (get_or table t [])
   pub begins : 0 < length run → held_words m (clock_at run 0) ≡ map (λ (x : NetTree). first_words fill x.width (kind_depth x.kind)) (states_of m)
 

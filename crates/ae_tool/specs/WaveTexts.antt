@@ -6,7 +6,7 @@ use Rattle.ae_rewrite.specs.StProgramTree.{StFuncTree}
 use Rattle.ae_rewrite.specs.Interface.{parameter_types}
 use Rattle.ae_vread.specs.ModuleTree.{NetTree, ModuleTree}
 use Rattle.ae_elab.specs.Values.{ModuleClock}
-use Rattle.ae_elab.specs.Runs.{IsRun, clock_at}
+use Rattle.ae_elab.specs.Runs.{IsModuleRun, clock_at}
 use Rattle.ae_elab.specs.SameRuns.{input_words, inputs_of, output_words, outputs_of}
 use Rattle.ae_play.specs.Lines.{clock_count}
 use Rattle.ae_play.specs.Words.{port_words}
@@ -35,7 +35,7 @@ run_wave m count words = record {
 pub record AreWordsOf (m : ModuleTree) (count : ℕ) (words : List ℕ) : Type 0 where
   pub run : List ModuleClock
   pub long : length run ≡ 1 + count
-  pub runs : IsRun m run
+  pub runs : IsModuleRun m run
   pub are : words ≡ port_words (λ c. input_words m (clock_at run (1 + c))) (λ c. output_words m (clock_at run (1 + c))) count
 
 -- the text of a module that is correct for the program, and the dump of its run on the blocks of the rows; the whole is a

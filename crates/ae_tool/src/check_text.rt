@@ -3,7 +3,7 @@
 ghost use Rattle.std.specs.Prelude.{◌≡◌, ◌++◌, ◌+◌, ◌<◌, ℕ, List, length, map, flat_map, IfOk, OnOk, string_bytes, slice_get, Some, Option};
 ghost use Rattle.ae_seq.specs.ProgramTree.{ParamTree, FuncTree, param_tree, node_tree, func_tree, program_tree};
 ghost use Rattle.ae_seq.specs.Typing.{type_at};
-ghost use Rattle.ae_tool.specs.CheckTexts.{item_text, param_text, function_line, node_line, node_lines, result_text, end_line_text, func_text, func_texts, check_text};
+ghost use Rattle.ae_tool.specs.CheckTexts.{item_text, param_text, function_line, node_text, node_lines, result_text, end_line_text, func_text, func_texts, check_text};
 
 use ae_seq::{Func, Node, Param, Typed};
 use itoa::Buffer;
@@ -50,7 +50,7 @@ fn write_node_line(
     item: u32,
     node: &Node,
 ) -> Result<(), AllocError>
-    ensures { OnOk result (string_bytes out.new ≡ string_bytes out.old ++ node_line (type_at (program_tree p.now) func item) (node_tree node.now)) }
+    ensures { OnOk result (string_bytes out.new ≡ string_bytes out.old ++ node_text (type_at (program_tree p.now) func item) (node_tree node.now)) }
 {
     out.push_str(Buffer::new().format(node.line))?;
     out.push_str(" ")?;

@@ -5,7 +5,7 @@ ghost use Rattle.ae_seq.specs.ProgramTree.{program_tree};
 ghost use Rattle.ae_rewrite.specs.StProgramTree.{st_func_trees};
 ghost use Rattle.ae_play.specs.Lines.{clock_count};
 ghost use Rattle.ae_tool.specs.EvalRows.{AreBlocks};
-ghost use Rattle.ae_tool.specs.PlanTexts.{number_line};
+ghost use Rattle.ae_tool.specs.PlanTexts.{counted_line};
 ghost use Rattle.ae_compile.specs.Costing.{IsCosted, load_limit};
 ghost use Rattle.ae_compile.specs.Passes.{IsCompiledProgram, IsCostedProgram};
 ghost use Rattle.ae_tool.specs.DemoTexts.{IsDemoText, IsSummedRun, demo_blocks, demo_program, demo_slowdown, demo_words, summary};
@@ -56,7 +56,7 @@ fn are_wide(widths: &[u32], count: u32) -> bool
 }
 
 fn write_number(out: &mut String, words: &str, number: u128) -> Result<(), AllocError>
-    ensures { OnOk result (string_bytes out.new ≡ string_bytes out.old ++ number_line words.now number) }
+    ensures { OnOk result (string_bytes out.new ≡ string_bytes out.old ++ counted_line words.now number) }
 {
     out.push_str(words)?;
     out.push_str(" ")?;

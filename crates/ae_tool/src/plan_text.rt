@@ -7,7 +7,7 @@ ghost use Rattle.ae_rewrite.specs.StProgramTree.{st_func_tree};
 ghost use Rattle.ae_rewrite.specs.Sound.{item_layouts};
 ghost use Rattle.ae_compile.specs.Costing.{whole_costs};
 ghost use Rattle.ae_compile.specs.Mains.{IsInstanceOf};
-ghost use Rattle.ae_tool.specs.PlanTexts.{cost_lines, item_line, item_lines, node_item_lines, number_line, param_item_lines, planned_text, result_line};
+ghost use Rattle.ae_tool.specs.PlanTexts.{cost_lines, item_line, item_lines, node_item_lines, counted_line, param_item_lines, planned_text, result_line};
 
 use ae_compile::Costs;
 use ae_delay::layout;
@@ -18,7 +18,7 @@ use itoa::Buffer;
 use std::alloc::{AllocError, Global};
 
 fn write_number(out: &mut String, words: &str, number: u64) -> Result<(), AllocError>
-    ensures { OnOk result (string_bytes out.new ≡ string_bytes out.old ++ number_line words.now number) }
+    ensures { OnOk result (string_bytes out.new ≡ string_bytes out.old ++ counted_line words.now number) }
 {
     out.push_str(words)?;
     out.push_str(" ")?;

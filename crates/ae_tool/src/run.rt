@@ -10,7 +10,7 @@ ghost use Rattle.ae_rewrite.specs.StProgramTree.{st_func_trees};
 ghost use Rattle.ae_play.specs.Lines.{clock_count};
 ghost use Rattle.ae_tool.specs.EvalRows.{AreRows, AreBlocks};
 ghost use Rattle.ae_compile.specs.Passes.{IsCompiledProgram, IsCostedProgram};
-ghost use Rattle.ae_tool.specs.RunTexts.{IsRun, IsRunOf, IsRunText, IsShown, input_count, output_count, run_limit, word_count};
+ghost use Rattle.ae_tool.specs.RunTexts.{IsPlayed, IsRunOf, IsRunText, IsRunShown, input_count, output_count, run_limit, word_count};
 
 use crate::reply::{RUN_LIMIT, Reply, refused, refused_program};
 use crate::status::Status;
@@ -142,7 +142,7 @@ fn shown(
     requires small { clocks * (1 + word_count form (program_tree compiled.now.costed.program) compiled.now.costed.slowdown) ≤ run_limit }
     requires rows { (table : List (List (List ℕ))) × AreBlocks (program_tree compiled.now.costed.program) blocks table words.now }
     ensures { IfOk result (λ text. (table : List (List (List ℕ))) → AreBlocks (program_tree compiled.now.costed.program) blocks table words.now
-        → IsShown form fill (program_tree compiled.now.costed.program) compiled.now.costed.slowdown (st_func_trees compiled.now.costed.schedule) table (string_bytes text)) }
+        → IsRunShown form fill (program_tree compiled.now.costed.program) compiled.now.costed.slowdown (st_func_trees compiled.now.costed.schedule) table (string_bytes text)) }
 {
     match form {
         Form::Lines => run_text(alloc, compiled, words, blocks, fill),
@@ -219,7 +219,7 @@ pub fn run(
     requires rest { length rest.now < 2 ^ 32 }
     requires some { 0 < slowdown }
     requires limit { slowdown ≤ 4096 }
-    ensures { IfOk result (λ reply. IsRun form slowdown fill part.now (rows rest.now) reply.status (string_bytes reply.text)) }
+    ensures { IfOk result (λ reply. IsPlayed form slowdown fill part.now (rows rest.now) reply.status (string_bytes reply.text)) }
 {
     match cost(alloc, part, slowdown, LOAD_LIMIT) {
         Ok(costed) => run_rows(alloc, costed, rest, fill, form),

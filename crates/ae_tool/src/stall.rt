@@ -1,7 +1,7 @@
 // The job `stall`.
 
 ghost use Rattle.std.specs.Prelude.{◌<◌, ◌≤◌, IfOk, length, string_bytes};
-ghost use Rattle.ae_tool.specs.Outcomes.{IsStalled};
+ghost use Rattle.ae_tool.specs.Outcomes.{IsStallReply};
 
 use crate::reply::{Reply, refused_program};
 use crate::status::Status;
@@ -13,7 +13,7 @@ pub fn stall(alloc: Global, part: &[u8], slowdown: u32) -> Result<Reply, OutOfMe
     requires part { length part.now < 4294967295 }
     requires some { 0 < slowdown }
     requires limit { slowdown ≤ 4096 }
-    ensures { IfOk result (λ reply. IsStalled part.now slowdown reply.status (string_bytes reply.text)) }
+    ensures { IfOk result (λ reply. IsStallReply part.now slowdown reply.status (string_bytes reply.text)) }
 {
     match cost(alloc, part, slowdown, STALL_LIMIT) {
         Ok(costed) => {

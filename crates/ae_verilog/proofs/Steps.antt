@@ -6,7 +6,7 @@ use Rattle.ae_netlist.specs.declared.cell.SizedCell.{SizedCell}
 use Rattle.ae_netlist.specs.declared.cell.Port.{Port}
 use Rattle.ae_netlist.specs.Circuit.{width_of}
 use Rattle.ae_word.specs.declared.op.WordOp.{WordOp}
-use Rattle.ae_verilog.specs.NetlistModule.{net_name, net_value, op_value, cast_to, shifted, port_name}
+use Rattle.ae_verilog.specs.NetlistModule.{net_name, net_value, op_expression, cast_to, shifted_net, port_name}
 use Rattle.ae_verilog.specs.Text.{register_edge, memory_edge, expr_text, shift_text, value_text, op_text, is_cast, range_text}
 use Rattle.ae_verilog.proofs.Joining.{one_digit}
 use Rattle.ae_vread.specs.declared.module.BinOp.{BinOp}
@@ -52,7 +52,7 @@ part_steps lines (Ok u) cells to a w high old one new wide narrower top first se
     ∙ ap (λ e. old ++ expr_text e) (sym (cond-true _ _ _ test))
 part_steps lines (Err x) cells to a w high old one new wide narrower top first second = tt
 
-shift_same : (lines : ℕ → ℕ) → (cells : List SizedCell) (op : BinOp) (width a by : ℕ) → shift_text (net_name lines cells a) (sign_text op) width by ≡ expr_text (shifted lines cells op width a by)
+shift_same : (lines : ℕ → ℕ) → (cells : List SizedCell) (op : BinOp) (width a by : ℕ) → shift_text (net_name lines cells a) (sign_text op) width by ≡ expr_text (shifted_net lines cells op width a by)
 shift_same lines cells op width a by = elim (nat_lt by width) as (λ t.
     (if t then net_name lines cells a ++ (codes " " ++ (sign_text op ++ (codes " 6'd" ++ decimal by))) else decimal width ++ codes "'d0")
     ≡ expr_text (if t then binary op (net_value lines cells a) (constant 6 by true) else constant width 0 true)) [
@@ -61,17 +61,17 @@ shift_same lines cells op width a by = elim (nat_lt by width) as (λ t.
     ]
 
 pub shift_steps : (lines : ℕ → ℕ) → {E : Type 0} (r : Result (Unit {0}) E) (cells : List SizedCell) (op : BinOp) (width a by : ℕ) (old new : List ℕ) →
-    OnOk r (new ≡ old ++ shift_text (net_name lines cells a) (sign_text op) width by) → OnOk r (new ≡ old ++ expr_text (shifted lines cells op width a by))
+    OnOk r (new ≡ old ++ shift_text (net_name lines cells a) (sign_text op) width by) → OnOk r (new ≡ old ++ expr_text (shifted_net lines cells op width a by))
 shift_steps lines (Ok u) cells op width a by old new h = h ∙ ap (λ l. old ++ l) (shift_same lines cells op width a by)
 shift_steps lines (Err x) cells op width a by old new h = tt
 
 -- a wire that widens a word, between its two comment lines
 pub widened_steps : (lines : ℕ → ℕ) → {E : Type 0} (r : Result (Unit {0}) E) (cells : List SizedCell) (width net : ℕ) (op : WordOp) (a b c : ℕ) (old one two new : List ℕ) →
     (is_cast op && nat_lt (width_of cells a) width) ≡ true →
-    one ≡ old ++ codes "  // verilator lint_off WIDTH\n" → two ≡ one ++ value_text lines width net (op_value lines cells width op a b c) →
+    one ≡ old ++ codes "  // verilator lint_off WIDTH\n" → two ≡ one ++ value_text lines width net (op_expression lines cells width op a b c) →
     OnOk r (new ≡ two ++ codes "  // verilator lint_on WIDTH\n") → OnOk r (new ≡ old ++ op_text lines cells width net op a b c)
 widened_steps lines (Ok u) cells width net op a b c old one two new wide first second third =
-    let value : List ℕ = value_text lines width net (op_value lines cells width op a b c) in
+    let value : List ℕ = value_text lines width net (op_expression lines cells width op a b c) in
     third ∙ ap (λ l. l ++ codes "  // verilator lint_on WIDTH\n") (second ∙ ap (λ l. l ++ value) first)
     ∙ shape value
     ∙ ap (λ l. old ++ l) (sym (cond-true _ _ _ wide))

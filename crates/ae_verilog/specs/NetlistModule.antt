@@ -96,12 +96,12 @@ declared_from lines item net (sized ∷ cells) =
 abbrev pub net_value : (lines : ℕ → ℕ) → List SizedCell → ℕ → ExprTree
 net_value lines cells net = name (net_name lines cells net)
 
-abbrev pub joined : (lines : ℕ → ℕ) → List SizedCell → BinOp → ℕ → ℕ → ExprTree
-joined lines cells op a b = binary op (net_value lines cells a) (net_value lines cells b)
+abbrev pub binary_nets : (lines : ℕ → ℕ) → List SizedCell → BinOp → ℕ → ℕ → ExprTree
+binary_nets lines cells op a b = binary op (net_value lines cells a) (net_value lines cells b)
 
 -- a shift by places within the word; one by the width or more leaves nothing
-abbrev pub shifted : (lines : ℕ → ℕ) → List SizedCell → BinOp → ℕ → ℕ → ℕ → ExprTree
-shifted lines cells op width a by =
+abbrev pub shifted_net : (lines : ℕ → ℕ) → List SizedCell → BinOp → ℕ → ℕ → ℕ → ExprTree
+shifted_net lines cells op width a by =
     if nat_lt by width then binary op (net_value lines cells a) (constant 6 by true) else constant width 0 true
 
 -- a word to as many bits or more is the word itself, which its assignment widens by zeros
@@ -110,27 +110,27 @@ cast_to lines cells to a =
     if nat_lt to (width_of cells a) then part (net_name lines cells a) (to - 1) 0 else net_value lines cells a
 
 -- the value of an operator; those that read their operands as signed stand in no netlist
-abbrev pub op_value : (lines : ℕ → ℕ) → List SizedCell → ℕ → WordOp → (a b c : ℕ) → ExprTree
-op_value lines cells width Add a b c = joined lines cells Plus a b
-op_value lines cells width Sub a b c = joined lines cells Minus a b
-op_value lines cells width Mul a b c = joined lines cells Times a b
-op_value lines cells width And a b c = joined lines cells Both a b
-op_value lines cells width Or a b c = joined lines cells Either a b
-op_value lines cells width Xor a b c = joined lines cells Differ a b
-op_value lines cells width Not a b c = unary Flip (net_value lines cells a)
-op_value lines cells width Min a b c = choice (joined lines cells Less a b) (net_value lines cells a) (net_value lines cells b)
-op_value lines cells width Max a b c = choice (joined lines cells Less a b) (net_value lines cells b) (net_value lines cells a)
-op_value lines cells width Eq a b c = joined lines cells Same a b
-op_value lines cells width Lt a b c = joined lines cells Less a b
-op_value lines cells width Mux a b c = choice (net_value lines cells a) (net_value lines cells b) (net_value lines cells c)
-op_value lines cells width (Shl by) a b c = shifted lines cells LeftBy width a by
-op_value lines cells width (Shr by) a b c = shifted lines cells RightBy width a by
-op_value lines cells width (Cast to) a b c = cast_to lines cells to a
-op_value lines cells width SLt a b c = net_value lines cells a
-op_value lines cells width SMin a b c = net_value lines cells a
-op_value lines cells width SMax a b c = net_value lines cells a
-op_value lines cells width (Sar by) a b c = net_value lines cells a
-op_value lines cells width (SCast to) a b c = net_value lines cells a
+abbrev pub op_expression : (lines : ℕ → ℕ) → List SizedCell → ℕ → WordOp → (a b c : ℕ) → ExprTree
+op_expression lines cells width Add a b c = binary_nets lines cells Plus a b
+op_expression lines cells width Sub a b c = binary_nets lines cells Minus a b
+op_expression lines cells width Mul a b c = binary_nets lines cells Times a b
+op_expression lines cells width And a b c = binary_nets lines cells Both a b
+op_expression lines cells width Or a b c = binary_nets lines cells Either a b
+op_expression lines cells width Xor a b c = binary_nets lines cells Differ a b
+op_expression lines cells width Not a b c = unary Flip (net_value lines cells a)
+op_expression lines cells width Min a b c = choice (binary_nets lines cells Less a b) (net_value lines cells a) (net_value lines cells b)
+op_expression lines cells width Max a b c = choice (binary_nets lines cells Less a b) (net_value lines cells b) (net_value lines cells a)
+op_expression lines cells width Eq a b c = binary_nets lines cells Same a b
+op_expression lines cells width Lt a b c = binary_nets lines cells Less a b
+op_expression lines cells width Mux a b c = choice (net_value lines cells a) (net_value lines cells b) (net_value lines cells c)
+op_expression lines cells width (Shl by) a b c = shifted_net lines cells LeftBy width a by
+op_expression lines cells width (Shr by) a b c = shifted_net lines cells RightBy width a by
+op_expression lines cells width (Cast to) a b c = cast_to lines cells to a
+op_expression lines cells width SLt a b c = net_value lines cells a
+op_expression lines cells width SMin a b c = net_value lines cells a
+op_expression lines cells width SMax a b c = net_value lines cells a
+op_expression lines cells width (Sar by) a b c = net_value lines cells a
+op_expression lines cells width (SCast to) a b c = net_value lines cells a
 
 -- items
 
@@ -142,7 +142,7 @@ abbrev pub declaration : (lines : ℕ → ℕ) → List SizedCell → ℕ → �
 declaration lines cells net width (Input port) = []
 declaration lines cells net width (Const k) = nets (drive (number_name lines net) (constant width k true) ∷ []) ∷ []
 declaration lines cells net width (Op op args) =
-    nets (drive (number_name lines net) (op_value lines cells width op (operand args 0) (operand args 1) (operand args 2)) ∷ []) ∷ []
+    nets (drive (number_name lines net) (op_expression lines cells width op (operand args 0) (operand args 1) (operand args 2)) ∷ []) ∷ []
 declaration lines cells net width (Reg next) = nets [] ∷ []
 declaration lines cells net width (Mem depth at next enable) = nets [] ∷ []
 declaration lines cells net width (Peek mem at) =

@@ -15,7 +15,7 @@ use Rattle.ae_vread.specs.declared.module.UnOp.{UnOp}
 use Rattle.ae_vread.specs.declared.module.UnOp.TheVariants.{Not, Flip}
 use Rattle.ae_vread.specs.declared.module.BinOp.{BinOp}
 use Rattle.ae_vread.specs.declared.module.BinOp.TheVariants.{Mul, Add, Sub, Shl, Shr, Lt, Le, Gt, Ge, Eq, Ne, And, Xor, Or, Both, Either}
-use Rattle.ae_verilog.specs.NetlistModule.{port_name, number_name, net_name, each_numbered, op_value, net_value}
+use Rattle.ae_verilog.specs.NetlistModule.{port_name, number_name, net_name, each_numbered, op_expression, net_value}
 use Rattle.ae_verilog.specs.Notes.{NoteTree, note_line, lines_of}
 
 abbrev pub prefix_text : UnOp → List ℕ
@@ -93,8 +93,8 @@ is_cast _ = false
 abbrev pub op_text : (lines : ℕ → ℕ) → List SizedCell → (width net : ℕ) → WordOp → (a b c : ℕ) → List ℕ
 op_text lines cells width net op a b c =
     if is_cast op && nat_lt (width_of cells a) width
-    then widened_text lines width net (op_value lines cells width op a b c)
-    else value_text lines width net (op_value lines cells width op a b c)
+    then widened_text lines width net (op_expression lines cells width op a b c)
+    else value_text lines width net (op_expression lines cells width op a b c)
 
 -- the declaration of a cell
 abbrev pub declaration_text : (lines : ℕ → ℕ) → List SizedCell → (net width : ℕ) → Cell → List ℕ

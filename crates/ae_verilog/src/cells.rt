@@ -4,7 +4,7 @@ ghost use Rattle.std.specs.Prelude.{◌≡◌, ◌<◌, ◌^◌, ◌++◌, ◌&&
 ghost use Rattle.ae_vread.specs.ModuleTree.{index, constant};
 ghost use Rattle.ae_vread.specs.declared.module.BinOp.TheVariants.{Lt as Less};
 ghost use Rattle.ae_netlist.specs.Circuit.{width_of};
-ghost use Rattle.ae_verilog.specs.NetlistModule.{op_value, net_value, net_name, cast_to, joined};
+ghost use Rattle.ae_verilog.specs.NetlistModule.{op_expression, net_value, net_name, cast_to, binary_nets};
 ghost use Rattle.ae_verilog.specs.Notes.{note_tree};
 ghost use Rattle.ae_verilog.specs.Text.{between, noted, wire_text, value_text, widened_text, register_text, memory_text, op_text, declaration_text, expr_text, is_cast, arms_text, shift_text};
 
@@ -173,7 +173,7 @@ fn write_wire_of(
     b: NetId,
     c: NetId,
 ) -> Result<(), AllocError>
-    ensures { OnOk result (string_bytes out.new ≡ string_bytes out.old ++ value_text (slice_index names.now.lines.now) width k (op_value (slice_index names.now.lines.now) names.now.cells.now width op a.0 b.0 c.0)) }
+    ensures { OnOk result (string_bytes out.new ≡ string_bytes out.old ++ value_text (slice_index names.now.lines.now) width k (op_expression (slice_index names.now.lines.now) names.now.cells.now width op a.0 b.0 c.0)) }
 {
     write_wire(out, names.lines, k, width)?;
     write_value(out, names, width, op, a, b, c)?;
@@ -190,7 +190,7 @@ fn write_value(
     b: NetId,
     c: NetId,
 ) -> Result<(), AllocError>
-    ensures { OnOk result (string_bytes out.new ≡ string_bytes out.old ++ expr_text (op_value (slice_index names.now.lines.now) names.now.cells.now width op a.0 b.0 c.0)) }
+    ensures { OnOk result (string_bytes out.new ≡ string_bytes out.old ++ expr_text (op_expression (slice_index names.now.lines.now) names.now.cells.now width op a.0 b.0 c.0)) }
 {
     match op {
         WordOp::Add => write_joined(out, names, a, "+", b),
@@ -260,7 +260,7 @@ fn write_less(
     a: NetId,
     b: NetId,
 ) -> Result<(), AllocError>
-    ensures { OnOk result (string_bytes out.new ≡ string_bytes out.old ++ (expr_text (joined (slice_index names.now.lines.now) names.now.cells.now Less low.0 high.0) ++ arms_text (net_name (slice_index names.now.lines.now) names.now.cells.now a.0) (net_name (slice_index names.now.lines.now) names.now.cells.now b.0))) }
+    ensures { OnOk result (string_bytes out.new ≡ string_bytes out.old ++ (expr_text (binary_nets (slice_index names.now.lines.now) names.now.cells.now Less low.0 high.0) ++ arms_text (net_name (slice_index names.now.lines.now) names.now.cells.now a.0) (net_name (slice_index names.now.lines.now) names.now.cells.now b.0))) }
 {
     write_joined(out, names, low, "<", high)?;
     write_arms(out, names, a, b)

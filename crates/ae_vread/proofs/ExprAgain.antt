@@ -8,7 +8,7 @@ use Rattle.ae_vread.specs.declared.module.UnOp.{UnOp}
 use Rattle.ae_vread.specs.declared.module.UnOp.TheVariants.{Not, Flip}
 use Rattle.ae_vread.specs.declared.module.BinOp.{BinOp}
 use Rattle.ae_vread.specs.ModuleTree.{ExprTree, name, constant, place, part, index, unary, binary, choice, concat_one, concat_more}
-use Rattle.ae_vread.specs.ExprForms.{NumberForm, ZeroForm, DecimalForm, number_token, number_value, ExprForm, NameForm, ConstForm, PartForm, PlaceForm, IndexForm, ParensForm, PrefixForm, InfixForm, ChoiceForm, BracesForm, LastPart, MoreParts, prefix_sign, infix_sign, strength, level, IsFormed, expr_tokens, expr_of, expr_depth}
+use Rattle.ae_vread.specs.ExprForms.{NumberForm, ZeroForm, DecimalForm, number_token, number_value, ExprForm, NameForm, ConstForm, PartForm, PlaceForm, IndexForm, ParensForm, PrefixForm, InfixForm, ChoiceForm, BracesForm, LastPart, MoreParts, prefix_sign, infix_sign, strength, level, IsFormedExpr, expr_tokens, expr_of, expr_depth}
 use Rattle.ae_vread.specs.TokenTests.{◌>>=◌, after_mark, first_number}
 use Rattle.ae_vread.specs.Reading.{sign_start, StartPrefix, Found, found, Reader, deeper, closed, placed, indexed, selected, named, Parts, parts_of, with_part, by_comma, more_parts, parts, concat_behind, concat_of, braced, operand, prefixed, unary_from, unary_at, joined, after_operator, operators, chosen_of, by_question, chosen, joined_at, expression, whole_expression}
 use Rattle.ae_vread.proofs.Operators.{OpEnds, strength_below, strength_above, infix_no_bracket, infix_here, infix_not_here, ends_above, above_all}
@@ -76,14 +76,14 @@ deepened n f h = ap (λ o. o >>= λ k. Some (f k)) (deeper_is n h)
 
 -- reading a form leads to the loop behind it
 abbrev pub LeadsOn : ExprForm → Type 0
-LeadsOn f = (d k least : ℕ) (rest : List TokenTree) → IsFormed f → 2 ≤ level f → expr_depth f ≤ suc d → expr_depth f ≤ 256 → k + spine f ≡ 256 → least ≤ level f → OpEnds (level f + 1) rest → after_mark OpenBracket rest ≡ None → joined_at (expression d) least (expr_tokens f ++ rest) ≡ operators (expression d) k least (found_form f rest)
+LeadsOn f = (d k least : ℕ) (rest : List TokenTree) → IsFormedExpr f → 2 ≤ level f → expr_depth f ≤ suc d → expr_depth f ≤ 256 → k + spine f ≡ 256 → least ≤ level f → OpEnds (level f + 1) rest → after_mark OpenBracket rest ≡ None → joined_at (expression d) least (expr_tokens f ++ rest) ≡ operators (expression d) k least (found_form f rest)
 
 -- the form is read, where nothing behind it could be a part of it
 abbrev pub IsRead : ExprForm → Type 0
-IsRead f = (d least : ℕ) (rest : List TokenTree) → IsFormed f → 1 ≤ level f → expr_depth f ≤ d → expr_depth f ≤ 256 → least ≤ level f → Ends least rest → expression d least (expr_tokens f ++ rest) ≡ Some (found_form f rest)
+IsRead f = (d least : ℕ) (rest : List TokenTree) → IsFormedExpr f → 1 ≤ level f → expr_depth f ≤ d → expr_depth f ≤ 256 → least ≤ level f → Ends least rest → expression d least (expr_tokens f ++ rest) ≡ Some (found_form f rest)
 
 abbrev pub IsOperandRead : ExprForm → Type 0
-IsOperandRead f = (d : ℕ) (rest : List TokenTree) → IsFormed f → level f ≡ 13 → expr_depth f ≤ suc d → expr_depth f ≤ 256 → after_mark OpenBracket rest ≡ None → operand (expression d) (expr_tokens f ++ rest) ≡ Some (found_form f rest)
+IsOperandRead f = (d : ℕ) (rest : List TokenTree) → IsFormedExpr f → level f ≡ 13 → expr_depth f ≤ suc d → expr_depth f ≤ 256 → after_mark OpenBracket rest ≡ None → operand (expression d) (expr_tokens f ++ rest) ≡ Some (found_form f rest)
 
 -- the parts inside braces
 
@@ -143,7 +143,7 @@ pub concat_more_of : (x : ExprTree) (xs : List ExprTree) → 1 ≤ length xs →
 concat_more_of x [] h = absurd (omega arith)
 concat_more_of x (y ∷ ys) h = refl
 
-pub concat_trees : (f : ExprForm) → IsFormed f → level f ≡ 0 → concat_of (trees_of f) ≡ expr_of f
+pub concat_trees : (f : ExprForm) → IsFormedExpr f → level f ≡ 0 → concat_of (trees_of f) ≡ expr_of f
 concat_trees (LastPart a) formed h = refl
 concat_trees (MoreParts a parts) formed h =
     concat_more_of (expr_of a) (trees_of parts) (not_parts parts formed.1) ∙ ap (concat_more (expr_of a)) (concat_trees parts formed.3 formed.1)
@@ -159,7 +159,7 @@ concat_trees (ChoiceForm test a b) formed h = absurd (omega (arith, h))
 concat_trees (BracesForm parts) formed h = absurd (omega (arith, h))
 
 abbrev pub ArePartsRead : ExprForm → Type 0
-ArePartsRead p = (d k : ℕ) (before : List ExprTree) (deep : ℕ) (rest : List TokenTree) → IsFormed p → level p ≡ 0 → expr_depth p ≤ d → expr_depth p ≤ 256 → count p ≤ k → parts (expression d) k (parts_of before deep (expr_tokens p ++ Mark CloseBrace ∷ rest)) ≡ Some (parts_of (before ++ trees_of p) (max deep (expr_depth p)) rest)
+ArePartsRead p = (d k : ℕ) (before : List ExprTree) (deep : ℕ) (rest : List TokenTree) → IsFormedExpr p → level p ≡ 0 → expr_depth p ≤ d → expr_depth p ≤ 256 → count p ≤ k → parts (expression d) k (parts_of before deep (expr_tokens p ++ Mark CloseBrace ∷ rest)) ≡ Some (parts_of (before ++ trees_of p) (max deep (expr_depth p)) rest)
 
 -- the law of a form, in each place where it may stand
 pub record Again (f : ExprForm) : Type 0 where
@@ -327,6 +327,6 @@ again (MoreParts a p) = of_parts (MoreParts a p) refl (more_again a p (again a).
 pub read_again : (f : ExprForm) → IsRead f
 read_again f = (again f).reads
 
-pub whole_again : (f : ExprForm) (rest : List TokenTree) → IsFormed f → 1 ≤ level f → expr_depth f ≤ 256 → Ends 1 rest → whole_expression (expr_tokens f ++ rest) ≡ Some (found_form f rest)
+pub whole_again : (f : ExprForm) (rest : List TokenTree) → IsFormedExpr f → 1 ≤ level f → expr_depth f ≤ 256 → Ends 1 rest → whole_expression (expr_tokens f ++ rest) ≡ Some (found_form f rest)
 unfolding whole_expression
 whole_again f rest formed some small ends = read_again f 256 1 rest formed some small small some ends

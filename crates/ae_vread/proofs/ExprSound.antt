@@ -9,7 +9,7 @@ use Rattle.ae_vtoken.specs.declared.token.Sign.TheVariants.{Open, Close, OpenBra
 use Rattle.ae_vread.specs.declared.module.UnOp.{UnOp}
 use Rattle.ae_vread.specs.declared.module.BinOp.{BinOp}
 use Rattle.ae_vread.specs.ModuleTree.{ExprTree, name, constant, place, part, index, unary, binary, choice}
-use Rattle.ae_vread.specs.ExprForms.{NumberForm, number_token, ExprForm, NameForm, ConstForm, PartForm, PlaceForm, IndexForm, ParensForm, PrefixForm, InfixForm, ChoiceForm, BracesForm, LastPart, MoreParts, prefix_sign, infix_sign, strength, level, IsFormed, expr_tokens, expr_of, expr_depth}
+use Rattle.ae_vread.specs.ExprForms.{NumberForm, number_token, ExprForm, NameForm, ConstForm, PartForm, PlaceForm, IndexForm, ParensForm, PrefixForm, InfixForm, ChoiceForm, BracesForm, LastPart, MoreParts, prefix_sign, infix_sign, strength, level, IsFormedExpr, expr_tokens, expr_of, expr_depth}
 use Rattle.ae_vread.specs.TokenTests.{◌>>=◌, after_mark, first_number}
 use Rattle.ae_vread.specs.Reading.{infix_of, sign_infix, sign_start, start_of, Start, StartName, StartConst, StartOpen, StartBrace, StartPrefix, NoStart, Found, found, Reader, deeper, closed, placed, indexed, selected, named, Parts, parts_of, with_part, by_comma, more_parts, parts, concat_of, braced, operand_from, operand, prefixed, unary_from, unary_at, strong_infix, infix_at, joined, after_operator, operators, chosen_of, by_question, chosen, joined_at, expression, whole_expression}
 use Rattle.ae_vread.proofs.TokenFronts.{bind_some, mark_was, IsNumber, number_was}
@@ -63,7 +63,7 @@ infix_is (Mark s) = elim s as (λ s. MatchOption (sign_infix s) (Unit {0}) (λ o
 
 -- the tokens in front are a form with this tree
 pub record IsForm (f : ExprForm) (ts : List TokenTree) (x : Found) : Type 0 where
-  pub formed : IsFormed f
+  pub formed : IsFormedExpr f
   pub same_tree : expr_of f ≡ x.tree
   pub same_depth : expr_depth f ≡ x.depth
   pub small : expr_depth f ≤ 256
@@ -118,7 +118,7 @@ deepened_was n f x h =
     }
 
 -- a form with what was found
-form_found : (f : ExprForm) (ts rest : List TokenTree) (tree : ExprTree) (depth : ℕ) (x : Found) → found tree depth rest ≡ x → IsFormed f → expr_of f ≡ tree → expr_depth f ≡ depth → expr_depth f ≤ 256 → ts ≡ expr_tokens f ++ rest → IsForm f ts x
+form_found : (f : ExprForm) (ts rest : List TokenTree) (tree : ExprTree) (depth : ℕ) (x : Found) → found tree depth rest ≡ x → IsFormedExpr f → expr_of f ≡ tree → expr_depth f ≡ depth → expr_depth f ≤ 256 → ts ≡ expr_tokens f ++ rest → IsForm f ts x
 form_found f ts rest tree depth x same formed is_tree is_depth small whole = record {
   formed = formed;
   same_tree = is_tree ∙ ap (λ (y : Found). y.tree) same;
@@ -182,7 +182,7 @@ named_sound read sound n ts x (Some us) is h =
 -- the parts inside braces
 record AreParts (p q : Parts) : Type 0 where
   form : ExprForm
-  formed : IsFormed form
+  formed : IsFormedExpr form
   none : level form ≡ 0
   trees : q.trees ≡ p.trees ++ trees_of form
   deepest : q.depth ≡ max p.depth (expr_depth form)

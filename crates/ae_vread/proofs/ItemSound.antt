@@ -7,7 +7,7 @@ use Rattle.ae_vtoken.specs.Tokens.{TokenTree, Name, Word, Unused, Zero, Decimal,
 use Rattle.ae_vread.specs.ModuleTree.{NetTree, DriveTree, ItemTree, nets, assigns, always}
 use Rattle.ae_vread.specs.ExprForms.{NumberForm, number_token, number_value, expr_tokens, expr_of}
 use Rattle.ae_vread.specs.StmtForms.{stmt_tokens, stmt_of}
-use Rattle.ae_vread.specs.Forms.{PortHead, InputHead, OutputHead, OutputRegHead, PortForm, DriveForm, RegForm, ItemForm, WireItem, WireDrives, RegItem, AssignItem, AlwaysItem, range_tokens, head_tokens, comma_tokens, name_tokens, port_tokens, drive_tokens, depth_tokens, reg_tokens, item_tokens, net_of, head_kind, port_nets, reg_net, drive_of, item_nets, item_of, IsDrive, IsBody, IsItem}
+use Rattle.ae_vread.specs.Forms.{PortHead, InputHead, OutputHead, OutputRegHead, PortForm, DriveForm, RegForm, ItemForm, WireItem, WireDrives, RegItem, AssignItem, AlwaysItem, range_tokens, head_tokens, comma_tokens, name_tokens, port_tokens, drive_tokens, depth_tokens, reg_tokens, item_tokens, net_of, head_kind, port_nets, reg_net, drive_of, item_nets, item_of, IsDrive, IsModuleBody, IsItem}
 use Rattle.ae_vread.specs.TokenTests.{◌>>=◌, after_mark, after_word, first_name, first_number}
 use Rattle.ae_vread.specs.Reading.{Found, whole_expression}
 use Rattle.ae_vread.specs.StmtReading.{StmtFound, whole_statement}

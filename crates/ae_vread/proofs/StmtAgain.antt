@@ -6,7 +6,7 @@ use Rattle.ae_vtoken.specs.declared.token.Key.TheVariants.{If, Else, Begin, End}
 use Rattle.ae_vtoken.specs.declared.token.Sign.{Sign}
 use Rattle.ae_vtoken.specs.declared.token.Sign.TheVariants.{Open, Close, OpenBracket, CloseBracket, Semicolon, AtMost}
 use Rattle.ae_vread.specs.ModuleTree.{StmtTree, set, put, when, either, block_more, place}
-use Rattle.ae_vread.specs.ExprForms.{NumberForm, ZeroForm, DecimalForm, number_value, ExprForm, level, IsFormed, expr_tokens, expr_of, expr_depth}
+use Rattle.ae_vread.specs.ExprForms.{NumberForm, ZeroForm, DecimalForm, number_value, ExprForm, level, IsFormedExpr, expr_tokens, expr_of, expr_depth}
 use Rattle.ae_vread.specs.StmtForms.{StmtForm, SetForm, PutPlaceForm, PutForm, IfForm, IfElseForm, BlockForm, NoMore, More, is_statement, is_open, IsStatement, test_tokens, stmt_tokens, stmt_of, stmt_depth}
 use Rattle.ae_vread.specs.TokenTests.{◌>>=◌, after_mark, after_word, first_number}
 use Rattle.ae_vread.specs.Reading.{Found, found, deeper}
@@ -22,7 +22,7 @@ abbrev pub IsFree : StmtForm → List TokenTree → Type 0
 IsFree f rest = is_open f ≡ true → after_word Else rest ≡ None
 
 -- an expression before a sign that ends it is read, with the sign
-pub value_again : (f : ExprForm) (s : Sign) (rest : List TokenTree) → IsFormed f → 1 ≤ level f → expr_depth f ≤ 256 → after_mark s (Mark s ∷ rest) ≡ Some rest → Ends 1 (Mark s ∷ rest) → value_then s (expr_tokens f ++ Mark s ∷ rest) ≡ Some (found_form f rest)
+pub value_again : (f : ExprForm) (s : Sign) (rest : List TokenTree) → IsFormedExpr f → 1 ≤ level f → expr_depth f ≤ 256 → after_mark s (Mark s ∷ rest) ≡ Some rest → Ends 1 (Mark s ∷ rest) → value_then s (expr_tokens f ++ Mark s ∷ rest) ≡ Some (found_form f rest)
 value_again f s rest formed some small here ends =
     ap (λ o. o >>= λ x. after_mark s x.rest >>= λ us. Some (found x.tree x.depth us)) (whole_again f (Mark s ∷ rest) formed some small ends)
     ∙ ap (λ o. o >>= λ us. Some (found (expr_of f) (expr_depth f) us)) here
@@ -31,13 +31,13 @@ pub semicolon_ends : (rest : List TokenTree) → Ends 1 (Mark Semicolon ∷ rest
 semicolon_ends rest = record { operator = refl; bracket = refl; question = λ _. refl }
 
 -- a test in its parentheses
-test_again : (f : ExprForm) (read : StmtReader) (ts : List TokenTree) → IsFormed f → 1 ≤ level f → expr_depth f ≤ 256 → statement_at read (test_tokens f ++ ts) ≡ choice_from read (found_form f ts)
+test_again : (f : ExprForm) (read : StmtReader) (ts : List TokenTree) → IsFormedExpr f → 1 ≤ level f → expr_depth f ≤ 256 → statement_at read (test_tokens f ++ ts) ≡ choice_from read (found_form f ts)
 test_again f read ts formed some small =
     ap (λ us. value_then Close us >>= choice_from read) (append_assoc (expr_tokens f) (Mark Close ∷ []) ts)
     ∙ ap (λ o. o >>= choice_from read) (value_again f Close ts formed some small refl (record { operator = refl; bracket = refl; question = λ _. refl }))
 
 -- the value of an assignment
-assigned_again : (f : ExprForm) (rest : List TokenTree) → IsFormed f → 1 ≤ level f → expr_depth f ≤ 256 → assigned (Mark AtMost ∷ (expr_tokens f ++ Mark Semicolon ∷ rest)) ≡ Some (found_form f rest)
+assigned_again : (f : ExprForm) (rest : List TokenTree) → IsFormedExpr f → 1 ≤ level f → expr_depth f ≤ 256 → assigned (Mark AtMost ∷ (expr_tokens f ++ Mark Semicolon ∷ rest)) ≡ Some (found_form f rest)
 assigned_again f rest formed some small = value_again f Semicolon rest formed some small refl (semicolon_ends rest)
 
 -- a statement begins with no `end` and with no `else`

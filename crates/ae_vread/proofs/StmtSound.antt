@@ -6,7 +6,7 @@ use Rattle.ae_vtoken.specs.declared.token.Key.TheVariants.{If, Else, Begin, End}
 use Rattle.ae_vtoken.specs.declared.token.Sign.{Sign}
 use Rattle.ae_vtoken.specs.declared.token.Sign.TheVariants.{Open, Close, OpenBracket, CloseBracket, Semicolon, AtMost}
 use Rattle.ae_vread.specs.ModuleTree.{ExprTree, StmtTree, set, put, when, either, block_more, place}
-use Rattle.ae_vread.specs.ExprForms.{number_token, number_value, ExprForm, level, IsFormed, expr_tokens, expr_of, expr_depth}
+use Rattle.ae_vread.specs.ExprForms.{number_token, number_value, ExprForm, level, IsFormedExpr, expr_tokens, expr_of, expr_depth}
 use Rattle.ae_vread.specs.StmtForms.{StmtForm, SetForm, PutPlaceForm, PutForm, IfForm, IfElseForm, BlockForm, NoMore, More, is_statement, is_open, IsStatement, test_tokens, stmt_tokens, stmt_of, stmt_depth}
 use Rattle.ae_vread.specs.TokenTests.{◌>>=◌, after_mark, after_word, first_number}
 use Rattle.ae_vread.specs.Reading.{Found, found, deeper, whole_expression}
@@ -21,7 +21,7 @@ some_same a b h = cc
 -- an expression up to a sign
 pub record IsValue (s : Sign) (ts : List TokenTree) (x : Found) : Type 0 where
   pub form : ExprForm
-  pub formed : IsFormed form
+  pub formed : IsFormedExpr form
   pub some : 1 ≤ level form
   pub same_tree : expr_of form ≡ x.tree
   pub same_depth : expr_depth form ≡ x.depth
@@ -47,7 +47,7 @@ value_was s ts x h =
 
 record IsAssigned (ts : List TokenTree) (x : Found) : Type 0 where
   value : ExprForm
-  formed : IsFormed value
+  formed : IsFormedExpr value
   some : 1 ≤ level value
   same_tree : expr_of value ≡ x.tree
   same_depth : expr_depth value ≡ x.depth

@@ -101,19 +101,19 @@ level (LastPart a) = 0
 level (MoreParts a parts) = 0
 
 -- a prefix stands before an operand, binary operators group from the left, and `? :` from the right
-abbrev pub IsFormed : ExprForm → Type 0
-IsFormed (NameForm n) = Unit {0}
-IsFormed (ConstForm size value fits) = Unit {0}
-IsFormed (PartForm n high low) = Unit {0}
-IsFormed (PlaceForm n k) = Unit {0}
-IsFormed (IndexForm n at) = (1 ≤ level at) × IsFormed at
-IsFormed (ParensForm a) = (1 ≤ level a) × IsFormed a
-IsFormed (PrefixForm op a) = (level a ≡ 13) × IsFormed a
-IsFormed (InfixForm op a b) = (strength op ≤ level a) × (strength op < level b) × IsFormed a × IsFormed b
-IsFormed (ChoiceForm test a b) = (2 ≤ level test) × (1 ≤ level a) × (1 ≤ level b) × IsFormed test × IsFormed a × IsFormed b
-IsFormed (BracesForm parts) = (level parts ≡ 0) × IsFormed parts
-IsFormed (LastPart a) = (1 ≤ level a) × IsFormed a
-IsFormed (MoreParts a parts) = (1 ≤ level a) × (level parts ≡ 0) × IsFormed a × IsFormed parts
+abbrev pub IsFormedExpr : ExprForm → Type 0
+IsFormedExpr (NameForm n) = Unit {0}
+IsFormedExpr (ConstForm size value fits) = Unit {0}
+IsFormedExpr (PartForm n high low) = Unit {0}
+IsFormedExpr (PlaceForm n k) = Unit {0}
+IsFormedExpr (IndexForm n at) = (1 ≤ level at) × IsFormedExpr at
+IsFormedExpr (ParensForm a) = (1 ≤ level a) × IsFormedExpr a
+IsFormedExpr (PrefixForm op a) = (level a ≡ 13) × IsFormedExpr a
+IsFormedExpr (InfixForm op a b) = (strength op ≤ level a) × (strength op < level b) × IsFormedExpr a × IsFormedExpr b
+IsFormedExpr (ChoiceForm test a b) = (2 ≤ level test) × (1 ≤ level a) × (1 ≤ level b) × IsFormedExpr test × IsFormedExpr a × IsFormedExpr b
+IsFormedExpr (BracesForm parts) = (level parts ≡ 0) × IsFormedExpr parts
+IsFormedExpr (LastPart a) = (1 ≤ level a) × IsFormedExpr a
+IsFormedExpr (MoreParts a parts) = (1 ≤ level a) × (level parts ≡ 0) × IsFormedExpr a × IsFormedExpr parts
 
 abbrev pub expr_tokens : ExprForm → List TokenTree
 expr_tokens (NameForm n) = Name n ∷ []

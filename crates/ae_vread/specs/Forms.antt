@@ -4,7 +4,7 @@ use Rattle.std.specs.Prelude.{◌≡◌, ℕ, ◌+◌, ◌≤◌, List, [], ◌�
 use Rattle.std.specs.List.{flat_map, AllByRecursion}
 use Rattle.ae_vtoken.specs.Tokens.{TokenTree, Name, Word, Zero, Mark}
 use Rattle.ae_vread.specs.ModuleTree.{NetTree, DriveTree, ItemTree, nets, assigns, always, ModuleTree}
-use Rattle.ae_vread.specs.ExprForms.{NumberForm, number_token, number_value, ExprForm, level, IsFormed, expr_tokens, expr_of, expr_depth}
+use Rattle.ae_vread.specs.ExprForms.{NumberForm, number_token, number_value, ExprForm, level, IsFormedExpr, expr_tokens, expr_of, expr_depth}
 use Rattle.ae_vread.specs.StmtForms.{StmtForm, is_statement, IsStatement, stmt_tokens, stmt_of, stmt_depth}
 use Rattle.ae_vread.specs.declared.module.NetKind.{NetKind}
 use Rattle.ae_vread.specs.declared.module.NetKind.TheVariants.{Input, Wire, OutWire, Reg, OutReg, Memory}
@@ -159,10 +159,10 @@ module_of m = record {
 
 pub record IsDrive (d : DriveForm) : Type 0 where
   pub level : 1 ≤ level d.value
-  pub formed : IsFormed d.value
+  pub formed : IsFormedExpr d.value
   pub depth : expr_depth d.value ≤ 256
 
-pub record IsBody (body : StmtForm) : Type 0 where
+pub record IsModuleBody (body : StmtForm) : Type 0 where
   pub statement : is_statement body ≡ true
   pub formed : IsStatement body
   pub depth : stmt_depth body ≤ 256
@@ -172,4 +172,4 @@ IsItem (WireItem range first more) = Unit {0}
 IsItem (WireDrives range first more) = AllByRecursion IsDrive (first ∷ more)
 IsItem (RegItem range first more) = Unit {0}
 IsItem (AssignItem first more) = AllByRecursion IsDrive (first ∷ more)
-IsItem (AlwaysItem clock body) = IsBody body
+IsItem (AlwaysItem clock body) = IsModuleBody body

@@ -2,7 +2,7 @@
 use Rattle.std.specs.Prelude.{◌≡◌, ℕ, ◌+◌, ◌≤◌, List, [], ◌∷◌, ◌++◌, Bool, true, false, max}
 use Rattle.ae_vtoken.specs.Tokens.{TokenTree, Name, Word, Mark}
 use Rattle.ae_vread.specs.ModuleTree.{StmtTree, set, put, when, either, block_end, block_more, place}
-use Rattle.ae_vread.specs.ExprForms.{NumberForm, number_token, number_value, ExprForm, level, IsFormed, expr_tokens, expr_of, expr_depth}
+use Rattle.ae_vread.specs.ExprForms.{NumberForm, number_token, number_value, ExprForm, level, IsFormedExpr, expr_tokens, expr_of, expr_depth}
 use Rattle.ae_vtoken.specs.declared.token.Key.TheVariants.{If, Else, Begin, End}
 use Rattle.ae_vtoken.specs.declared.token.Sign.TheVariants.{Open, Close, OpenBracket, CloseBracket, Semicolon, AtMost}
 
@@ -37,13 +37,13 @@ is_open _ = false
 
 -- an `else` belongs to the nearest `if` that has none
 abbrev pub IsStatement : StmtForm → Type 0
-IsStatement (SetForm n value) = (1 ≤ level value) × IsFormed value
-IsStatement (PutPlaceForm n k value) = (1 ≤ level value) × IsFormed value
-IsStatement (PutForm n at value) = (1 ≤ level at) × (1 ≤ level value) × IsFormed at × IsFormed value
-IsStatement (IfForm test then) = (1 ≤ level test) × (is_statement then ≡ true) × IsFormed test × IsStatement then
+IsStatement (SetForm n value) = (1 ≤ level value) × IsFormedExpr value
+IsStatement (PutPlaceForm n k value) = (1 ≤ level value) × IsFormedExpr value
+IsStatement (PutForm n at value) = (1 ≤ level at) × (1 ≤ level value) × IsFormedExpr at × IsFormedExpr value
+IsStatement (IfForm test then) = (1 ≤ level test) × (is_statement then ≡ true) × IsFormedExpr test × IsStatement then
 IsStatement (IfElseForm test then otherwise) =
     (1 ≤ level test) × (is_statement then ≡ true) × (is_statement otherwise ≡ true) × (is_open then ≡ false)
-    × IsFormed test × IsStatement then × IsStatement otherwise
+    × IsFormedExpr test × IsStatement then × IsStatement otherwise
 IsStatement (BlockForm body) = (is_statement body ≡ false) × IsStatement body
 IsStatement NoMore = Unit {0}
 IsStatement (More first body) =

@@ -12,7 +12,7 @@ use Rattle.std.proofs.lemmas.Bool.{leb-true, lt-ltb, le-ltb, and_from}
 use Rattle.std.proofs.lemmas.List.{drop_more}
 use Rattle.ae_vtoken.proofs.TokenAt.{piece_cons}
 use Rattle.ae_vtoken.specs.Scan.{TokenAt}
-use Rattle.ae_vtoken.specs.Tokens.{is_letter, number_of, decimal_of, token_of, IsLongest}
+use Rattle.ae_vtoken.specs.Tokens.{is_word_start, number_from, decimal_of, token_of, IsLongest}
 
 pub capped_step : (v w d : ℕ) → v ≡ min w 4294967295 → min (v * 10 + d) 4294967295 ≡ min (w * 10 + d) 4294967295
 capped_step v w d h = omega (arith, h)
@@ -22,17 +22,17 @@ capped_more ds i v d within digit h =
     capped_step v (digits_value 10 (take i ds)) d h ∙ ap (λ n. min n 4294967295) (ap (λ k. digits_value 10 (take i ds) * 10 + k) (sym digit) ∙ sym (digits_value_more 10 ds i within))
 
 -- digits in front are taken over
-pub digits_then : (ds xs rest : List ℕ) → list_all is_ascii_digit xs ≡ true → number_of ds (xs ++ rest) ≡ number_of (ds ++ xs) rest
-digits_then ds [] rest h = ap (λ l. number_of l rest) (sym (append-nil ds))
+pub digits_then : (ds xs rest : List ℕ) → list_all is_ascii_digit xs ≡ true → number_from ds (xs ++ rest) ≡ number_from (ds ++ xs) rest
+digits_then ds [] rest h = ap (λ l. number_from l rest) (sym (append-nil ds))
 digits_then ds (x ∷ xs) rest h =
     let parts = and_parts (is_ascii_digit x) (list_all is_ascii_digit xs) h in
-    cond-true _ _ _ parts.0 ∙ digits_then (ds ++ x ∷ []) xs rest parts.1 ∙ ap (λ l. number_of l rest) (append_assoc ds (x ∷ []) xs)
+    cond-true _ _ _ parts.0 ∙ digits_then (ds ++ x ∷ []) xs rest parts.1 ∙ ap (λ l. number_from l rest) (append_assoc ds (x ∷ []) xs)
 
-pub number_token : (b : ℕ) (bs : List ℕ) → is_letter b ≡ false → is_ascii_digit b ≡ true → token_of (b ∷ bs) ≡ number_of (b ∷ []) bs
+pub number_token : (b : ℕ) (bs : List ℕ) → is_word_start b ≡ false → is_ascii_digit b ≡ true → token_of (b ∷ bs) ≡ number_from (b ∷ []) bs
 unfolding token_of
 number_token b bs letter digit = cond-false _ _ _ letter ∙ cond-true _ _ _ digit
 
-pub decimal_token : (b : ℕ) (xs : List ℕ) → is_letter b ≡ false → is_ascii_digit b ≡ true → list_all is_ascii_digit xs ≡ true → token_of (b ∷ xs) ≡ Some (decimal_of (b ∷ xs))
+pub decimal_token : (b : ℕ) (xs : List ℕ) → is_word_start b ≡ false → is_ascii_digit b ≡ true → list_all is_ascii_digit xs ≡ true → token_of (b ∷ xs) ≡ Some (decimal_of (b ∷ xs))
 decimal_token b xs letter digit all =
     ap (λ l. token_of (b ∷ l)) (sym (append-nil xs)) ∙ number_token b (xs ++ []) letter digit ∙ digits_then (b ∷ []) xs [] all
 
@@ -41,11 +41,11 @@ none_some None e some = cc
 none_some (Some x) e some = cc
 
 -- a decimal ends where neither a digit nor a quote stands
-pub decimal_ends : (b : ℕ) (xs rest : List ℕ) → is_letter b ≡ false → is_ascii_digit b ≡ true → list_all is_ascii_digit xs ≡ true → ((c : ℕ) (more : List ℕ) → rest ≡ c ∷ more → (is_ascii_digit c ≡ false) × ((c == 39) ≡ false)) → IsLongest (b ∷ xs) rest
+pub decimal_ends : (b : ℕ) (xs rest : List ℕ) → is_word_start b ≡ false → is_ascii_digit b ≡ true → list_all is_ascii_digit xs ≡ true → ((c : ℕ) (more : List ℕ) → rest ≡ c ∷ more → (is_ascii_digit c ≡ false) × ((c == 39) ≡ false)) → IsLongest (b ∷ xs) rest
 decimal_ends b xs rest letter digit all ends [] after e some = refl
 decimal_ends b xs rest letter digit all ends (c ∷ more) after e some =
     let here = ends c (more ++ after) e in
-    let none : number_of (b ∷ xs) (c ∷ more) ≡ None = cond-false _ _ _ here.0 ∙ cond-false _ _ _ here.1 in
+    let none : number_from (b ∷ xs) (c ∷ more) ≡ None = cond-false _ _ _ here.0 ∙ cond-false _ _ _ here.1 in
     absurd (none_some _ (number_token b (xs ++ c ∷ more) letter digit ∙ digits_then (b ∷ []) xs (c ∷ more) all ∙ none) some)
 
 -- the digit at a place
@@ -70,7 +70,7 @@ rest_front text to ends c more e =
     subst (λ c. (is_ascii_digit c ≡ false) × ((c == 39) ≡ false)) same (ends within)
 
 -- a decimal stands here
-pub decimal_at : (text : List ℕ) (from to : ℕ) → from < length text → from + 1 ≤ to → to ≤ length text → is_letter (get_or text from 0) ≡ false → is_ascii_digit (get_or text from 0) ≡ true → list_all is_ascii_digit (take (to - (from + 1)) (drop (from + 1) text)) ≡ true → (to < length text → (is_ascii_digit (get_or text to 0) ≡ false) × ((get_or text to 0 == 39) ≡ false)) → TokenAt text from to (decimal_of (take (to - from) (drop from text)))
+pub decimal_at : (text : List ℕ) (from to : ℕ) → from < length text → from + 1 ≤ to → to ≤ length text → is_word_start (get_or text from 0) ≡ false → is_ascii_digit (get_or text from 0) ≡ true → list_all is_ascii_digit (take (to - (from + 1)) (drop (from + 1) text)) ≡ true → (to < length text → (is_ascii_digit (get_or text to 0) ≡ false) × ((get_or text to 0 == 39) ≡ false)) → TokenAt text from to (decimal_of (take (to - from) (drop from text)))
 decimal_at text from to within past end letter digit all ends =
     let b : ℕ = get_or text from 0 in
     let bs : List ℕ = take (to - (from + 1)) (drop (from + 1) text) in

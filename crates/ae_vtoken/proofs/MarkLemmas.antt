@@ -8,7 +8,7 @@ use Rattle.std.proofs.lemmas.Bool.{and_parts, cases_Bool, cond-true, cond-false,
 use Rattle.std.proofs.lemmas.Slice.Eq.{bytes_eq-Decides}
 use Rattle.ae_vtoken.specs.declared.token.Sign.{Sign}
 use Rattle.ae_vtoken.specs.Tokens as tok
-use Rattle.ae_vtoken.specs.Tokens.{Mark, is_letter, token_of, look_up, IsLongest, NoToken}
+use Rattle.ae_vtoken.specs.Tokens.{Mark, is_word_start, token_of, look_up, IsLongest, NoToken}
 use Rattle.ae_vtoken.specs.Tables.{signs}
 use Rattle.ae_vtoken.specs.Scan.{TokenAt, sign_in_front}
 
@@ -41,7 +41,7 @@ no_sign_here n text h within = sym (cond-true _ _ _ (le-leb n (length text) with
 
 -- neither a letter nor a digit
 abbrev pub IsOther : ℕ → Type 0
-IsOther b = (is_letter b ≡ false) × (is_ascii_digit b ≡ false)
+IsOther b = (is_word_start b ≡ false) × (is_ascii_digit b ≡ false)
 
 sign_token : (b : ℕ) (bs : List ℕ) → IsOther b → token_of (b ∷ bs) ≡ option_map Mark (look_up (b ∷ bs) signs)
 unfolding token_of

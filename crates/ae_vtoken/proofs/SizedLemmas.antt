@@ -6,7 +6,7 @@ use Rattle.std.specs.Char.{is_ascii_digit, digit_value}
 use Rattle.std.specs.Str.Parse.{digits_value}
 use Rattle.std.proofs.lemmas.Bool.{cond-true, cond-false, cases_Bool}
 use Rattle.std.proofs.lemmas.List.Folds.{list_all-append}
-use Rattle.ae_vtoken.specs.Tokens.{is_letter, base_of, are_digits, constant, sized_of, number_of, decimal_of, token_of, IsLongest}
+use Rattle.ae_vtoken.specs.Tokens.{is_word_start, base_of, are_digits, constant, sized_of, number_from, decimal_of, token_of, IsLongest}
 use Rattle.ae_vtoken.specs.Scan.{NoSized}
 use Rattle.std.proofs.Common.{drop, take, get_or, length-drop, ◌-◌, suc, zero}
 use Rattle.std.proofs.lemmas.List.{drop_more}
@@ -53,7 +53,7 @@ no_sized_digit size k rest h (x ∷ d ∷ ds) after e =
     no_digits size x (d ∷ ds) (left_false (nat_lt (digit_value d) (base_of x)) (list_all (λ c. (c == 95) || nat_lt (digit_value c) (base_of x)) ds) small)
 
 -- a decimal ends where no digit stands, and no quote that makes a constant
-pub decimal_ends_there : (b : ℕ) (xs rest : List ℕ) → is_letter b ≡ false → is_ascii_digit b ≡ true → list_all is_ascii_digit xs ≡ true → ((c : ℕ) (more : List ℕ) → rest ≡ c ∷ more → (is_ascii_digit c ≡ false) × (((c == 39) ≡ false) ⊎ NoSized (b ∷ xs) more)) → IsLongest (b ∷ xs) rest
+pub decimal_ends_there : (b : ℕ) (xs rest : List ℕ) → is_word_start b ≡ false → is_ascii_digit b ≡ true → list_all is_ascii_digit xs ≡ true → ((c : ℕ) (more : List ℕ) → rest ≡ c ∷ more → (is_ascii_digit c ≡ false) × (((c == 39) ≡ false) ⊎ NoSized (b ∷ xs) more)) → IsLongest (b ∷ xs) rest
 decimal_ends_there b xs rest letter digit all ends [] after e some = refl
 decimal_ends_there b xs rest letter digit all ends (c ∷ more) after e some =
     let here = ends c (more ++ after) e in
@@ -67,12 +67,12 @@ decimal_ends_there b xs rest letter digit all ends (c ∷ more) after e some =
     ]
 
 -- a constant
-pub sized_token : (b : ℕ) (xs : List ℕ) (k : ℕ) (ds : List ℕ) → is_letter b ≡ false → is_ascii_digit b ≡ true → list_all is_ascii_digit xs ≡ true → starts_with nat_eq (b ∷ xs) (codes "0") ≡ false → are_digits (base_of k) ds ≡ true → token_of (b ∷ xs ++ 39 ∷ k ∷ ds) ≡ Some (constant (digits_value 10 (b ∷ xs)) (digits_value (base_of k) (filter (λ c. not (c == 95)) ds)))
+pub sized_token : (b : ℕ) (xs : List ℕ) (k : ℕ) (ds : List ℕ) → is_word_start b ≡ false → is_ascii_digit b ≡ true → list_all is_ascii_digit xs ≡ true → starts_with nat_eq (b ∷ xs) (codes "0") ≡ false → are_digits (base_of k) ds ≡ true → token_of (b ∷ xs ++ 39 ∷ k ∷ ds) ≡ Some (constant (digits_value 10 (b ∷ xs)) (digits_value (base_of k) (filter (λ c. not (c == 95)) ds)))
 sized_token b xs k ds letter digit all size digits =
     number_token b (xs ++ 39 ∷ k ∷ ds) letter digit ∙ digits_then (b ∷ []) xs (39 ∷ k ∷ ds) all ∙ cond-true _ _ _ (ap (λ t. not t && are_digits (base_of k) ds) size ∙ digits)
 
 -- and where it ends
-pub sized_ends : (b : ℕ) (xs : List ℕ) (k d : ℕ) (ds rest : List ℕ) → is_letter b ≡ false → is_ascii_digit b ≡ true → list_all is_ascii_digit xs ≡ true → ((c : ℕ) (more : List ℕ) → rest ≡ c ∷ more → ((c == 95) || nat_lt (digit_value c) (base_of k)) ≡ false) → IsLongest (b ∷ xs ++ 39 ∷ k ∷ d ∷ ds) rest
+pub sized_ends : (b : ℕ) (xs : List ℕ) (k d : ℕ) (ds rest : List ℕ) → is_word_start b ≡ false → is_ascii_digit b ≡ true → list_all is_ascii_digit xs ≡ true → ((c : ℕ) (more : List ℕ) → rest ≡ c ∷ more → ((c == 95) || nat_lt (digit_value c) (base_of k)) ≡ false) → IsLongest (b ∷ xs ++ 39 ∷ k ∷ d ∷ ds) rest
 sized_ends b xs k d ds rest letter digit all ends [] after e some = refl
 sized_ends b xs k d ds rest letter digit all ends (c ∷ more) after e some =
     let q : ℕ → Bool = λ c. (c == 95) || nat_lt (digit_value c) (base_of k) in
@@ -102,7 +102,7 @@ zero_size text from to past end first rest =
     let piece = piece_cons text from to (omega (arith, past, end)) (omega (arith, past)) in
     subst (λ p. NoSized p rest) (sym piece) (subst (λ b. NoSized (b ∷ take (to - (from + 1)) (drop (from + 1) text)) rest) (sym first) (no_sized_zero (48 ∷ take (to - (from + 1)) (drop (from + 1) text)) rest refl))
 
-pub decimal_there : (text : List ℕ) (from to : ℕ) → from < length text → from + 1 ≤ to → to ≤ length text → is_letter (get_or text from 0) ≡ false → is_ascii_digit (get_or text from 0) ≡ true → list_all is_ascii_digit (take (to - (from + 1)) (drop (from + 1) text)) ≡ true → (to < length text → is_ascii_digit (get_or text to 0) ≡ false) → (to < length text → ((get_or text to 0 == 39) ≡ false) ⊎ NoSized (take (to - from) (drop from text)) (drop (to + 1) text)) → TokenAt text from to (decimal_of (take (to - from) (drop from text)))
+pub decimal_there : (text : List ℕ) (from to : ℕ) → from < length text → from + 1 ≤ to → to ≤ length text → is_word_start (get_or text from 0) ≡ false → is_ascii_digit (get_or text from 0) ≡ true → list_all is_ascii_digit (take (to - (from + 1)) (drop (from + 1) text)) ≡ true → (to < length text → is_ascii_digit (get_or text to 0) ≡ false) → (to < length text → ((get_or text to 0 == 39) ≡ false) ⊎ NoSized (take (to - from) (drop from text)) (drop (to + 1) text)) → TokenAt text from to (decimal_of (take (to - from) (drop from text)))
 decimal_there text from to within past end letter digit all ends no_quote =
     let b : ℕ = get_or text from 0 in
     let bs : List ℕ = take (to - (from + 1)) (drop (from + 1) text) in
@@ -156,7 +156,7 @@ based_more base m ds i v w within h kept grown =
     ]
 
 -- a constant stands here
-pub sized_here : (text : List ℕ) (from quote to : ℕ) → IsSizedAt text from quote → is_letter (get_or text from 0) ≡ false → list_all is_ascii_digit (take (quote - from) (drop from text)) ≡ true → quote + 2 ≤ to → to ≤ length text → list_all (is_based (base_of (get_or text (quote + 1) 0))) (take (to - (quote + 2)) (drop (quote + 2) text)) ≡ true → (to < length text → is_based (base_of (get_or text (quote + 1) 0)) (get_or text to 0) ≡ false) → TokenAt text from to (constant (digits_value 10 (take (quote - from) (drop from text))) (digits_value (base_of (get_or text (quote + 1) 0)) (digits_of (take (to - (quote + 2)) (drop (quote + 2) text)))))
+pub sized_here : (text : List ℕ) (from quote to : ℕ) → IsSizedAt text from quote → is_word_start (get_or text from 0) ≡ false → list_all is_ascii_digit (take (quote - from) (drop from text)) ≡ true → quote + 2 ≤ to → to ≤ length text → list_all (is_based (base_of (get_or text (quote + 1) 0))) (take (to - (quote + 2)) (drop (quote + 2) text)) ≡ true → (to < length text → is_based (base_of (get_or text (quote + 1) 0)) (get_or text to 0) ≡ false) → TokenAt text from to (constant (digits_value 10 (take (quote - from) (drop from text))) (digits_value (base_of (get_or text (quote + 1) 0)) (digits_of (take (to - (quote + 2)) (drop (quote + 2) text)))))
 sized_here text from quote to here letter digits past end based ends =
     let b : ℕ = get_or text from 0 in
     let k : ℕ = get_or text (quote + 1) 0 in
@@ -199,7 +199,7 @@ sized_here text from quote to here letter digits past end based ends =
     no_zero : (b : ℕ) (xs : List ℕ) → (b == 48) ≡ false → starts_with nat_eq (b ∷ xs) (codes "0") ≡ false
     no_zero b xs h = and_left _ _ (ne_eqb 48 b (λ e. both_ways _ h (eq-eqb b 48 (sym e))))
 
-pub sized_by : (text : List ℕ) (from quote to base : ℕ) → base ≡ base_of (get_or text (quote + 1) 0) → IsSizedAt text from quote → is_letter (get_or text from 0) ≡ false → list_all is_ascii_digit (take (quote - from) (drop from text)) ≡ true → quote + 2 ≤ to → to ≤ length text → list_all (is_based base) (take (to - (quote + 2)) (drop (quote + 2) text)) ≡ true → (to < length text → is_based base (get_or text to 0) ≡ false) → TokenAt text from to (constant (digits_value 10 (take (quote - from) (drop from text))) (digits_value base (digits_of (take (to - (quote + 2)) (drop (quote + 2) text)))))
+pub sized_by : (text : List ℕ) (from quote to base : ℕ) → base ≡ base_of (get_or text (quote + 1) 0) → IsSizedAt text from quote → is_word_start (get_or text from 0) ≡ false → list_all is_ascii_digit (take (quote - from) (drop from text)) ≡ true → quote + 2 ≤ to → to ≤ length text → list_all (is_based base) (take (to - (quote + 2)) (drop (quote + 2) text)) ≡ true → (to < length text → is_based base (get_or text to 0) ≡ false) → TokenAt text from to (constant (digits_value 10 (take (quote - from) (drop from text))) (digits_value base (digits_of (take (to - (quote + 2)) (drop (quote + 2) text)))))
 sized_by text from quote to base same here letter digits past end based ends =
     subst (λ n. list_all (is_based n) (take (to - (quote + 2)) (drop (quote + 2) text)) ≡ true → (to < length text → is_based n (get_or text to 0) ≡ false) → TokenAt text from to (constant (digits_value 10 (take (quote - from) (drop from text))) (digits_value n (digits_of (take (to - (quote + 2)) (drop (quote + 2) text))))))
     (sym same) (sized_here text from quote to here letter digits past end) based ends

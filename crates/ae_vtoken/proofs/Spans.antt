@@ -10,7 +10,7 @@ use Rattle.std.specs.Str.{IsAscii}
 use Rattle.std.specs.Int.{is_in_range}
 use Rattle.std.proofs.Common.{zero, suc, inl, inr}
 use Rattle.std.proofs.lemmas.Bool.{and_parts, or_cases, leb-true, eqb-true}
-use Rattle.ae_vtoken.specs.Tokens.{is_letter, is_word_byte}
+use Rattle.ae_vtoken.specs.Tokens.{is_word_start, is_word_byte}
 
 pub span_more : (q : ℕ → Bool) (text : List ℕ) (from i : ℕ) → from ≤ i → i < length text → list_all q (take (i - from) (drop from text)) ≡ true → q (get_or text i 0) ≡ true → list_all q (take (i + 1 - from) (drop from text)) ≡ true
 span_more q text from i past within so_far here =
@@ -30,15 +30,15 @@ word_more = span_more is_word_byte
 small_range : (low high b : ℕ) → high < 128 → (nat_le low b && nat_le b high) ≡ true → b < 128
 small_range low high b small h = let top = leb-true b high (and_parts (nat_le low b) _ h).1 in omega arith
 
-small_letter : (b : ℕ) → is_letter b ≡ true → b < 128
+small_letter : (b : ℕ) → is_word_start b ≡ true → b < 128
 small_letter b h = elim (or_cases (is_ascii_alphabetic b) _ h) [
   | inl alphabetic ↦ elim (or_cases (is_in_range 65 90 b) _ alphabetic) [ inl upper ↦ small_range 65 90 b (omega arith) upper | inr lower ↦ small_range 97 122 b (omega arith) lower ]
   | inr under ↦ (let e = eqb-true b 95 under in omega arith)
 ]
 
 word_byte_small : (b : ℕ) → is_word_byte b ≡ true → b < 128
-word_byte_small b h = elim (or_cases (is_letter b || is_ascii_digit b) _ h) [
-  | inl other ↦ elim (or_cases (is_letter b) _ other) [
+word_byte_small b h = elim (or_cases (is_word_start b || is_ascii_digit b) _ h) [
+  | inl other ↦ elim (or_cases (is_word_start b) _ other) [
     | inl letter ↦ small_letter b letter
     | inr digit ↦ small_range 48 57 b (omega arith) digit
   ]

@@ -7,12 +7,12 @@ use Rattle.std.proofs.lemmas.List.Folds.{list_all-append}
 use Rattle.std.proofs.lemmas.Bool.{and_parts, and_from, or_left, both_ways, cond-true, cond-false}
 use Rattle.std.proofs.lemmas.Option.{cond_some}
 use Rattle.ae_vtoken.specs.Tokens as tok
-use Rattle.ae_vtoken.specs.Tokens.{is_letter, is_word_byte, token_of, word_of, look_up, IsLongest}
+use Rattle.ae_vtoken.specs.Tokens.{is_word_start, is_word_byte, token_of, word_of, look_up, IsLongest}
 use Rattle.ae_vtoken.specs.Tables.{keys}
 use Rattle.ae_vtoken.specs.Scan.{TokenAt}
 
 -- a word ends where no byte of a word stands
-word_ends : (b : ℕ) (bs rest : List ℕ) → is_letter b ≡ true → ((c : ℕ) (more : List ℕ) → rest ≡ c ∷ more → is_word_byte c ≡ false) → IsLongest (b ∷ bs) rest
+word_ends : (b : ℕ) (bs rest : List ℕ) → is_word_start b ≡ true → ((c : ℕ) (more : List ℕ) → rest ≡ c ∷ more → is_word_byte c ≡ false) → IsLongest (b ∷ bs) rest
 unfolding token_of
 word_ends b bs rest letter ends [] after e some = refl
 word_ends b bs rest letter ends (c ∷ more) after e some =
@@ -24,7 +24,7 @@ word_ends b bs rest letter ends (c ∷ more) after e some =
           absurd (both_ways _ (ends c (more ++ after) e) (and_parts _ _ parts.1).0)
     ] refl some
 
-word_token : (b : ℕ) (bs : List ℕ) → is_letter b ≡ true → list_all is_word_byte bs ≡ true → token_of (b ∷ bs) ≡ Some (word_of (b ∷ bs) (look_up (b ∷ bs) keys))
+word_token : (b : ℕ) (bs : List ℕ) → is_word_start b ≡ true → list_all is_word_byte bs ≡ true → token_of (b ∷ bs) ≡ Some (word_of (b ∷ bs) (look_up (b ∷ bs) keys))
 unfolding token_of
 word_token b bs letter all = cond-true _ _ _ letter ∙ cond-true _ _ _ all
 
@@ -42,7 +42,7 @@ rest_front text to ends c more e =
     let same : get_or text to 0 ≡ c = cc in
     ap is_word_byte (sym same) ∙ ends within
 
-pub word_at : (text : List ℕ) (from to : ℕ) → from < length text → from + 1 ≤ to → to ≤ length text → is_letter (get_or text from 0) ≡ true → list_all is_word_byte (take (to - (from + 1)) (drop (from + 1) text)) ≡ true → (to < length text → is_word_byte (get_or text to 0) ≡ false) → TokenAt text from to (word_of (take (to - from) (drop from text)) (look_up (take (to - from) (drop from text)) keys))
+pub word_at : (text : List ℕ) (from to : ℕ) → from < length text → from + 1 ≤ to → to ≤ length text → is_word_start (get_or text from 0) ≡ true → list_all is_word_byte (take (to - (from + 1)) (drop (from + 1) text)) ≡ true → (to < length text → is_word_byte (get_or text to 0) ≡ false) → TokenAt text from to (word_of (take (to - from) (drop from text)) (look_up (take (to - from) (drop from text)) keys))
 word_at text from to within past end letter all ends =
     let b : ℕ = get_or text from 0 in
     let bs : List ℕ = take (to - (from + 1)) (drop (from + 1) text) in
@@ -54,6 +54,6 @@ word_at text from to within past end letter all ends =
       longest = subst (λ p. IsLongest p (drop to text)) (sym piece) (word_ends b bs (drop to text) letter (rest_front text to ends));
     }
 
-pub all_words : (text : List ℕ) (from to : ℕ) → from < length text → from + 1 ≤ to → is_letter (get_or text from 0) ≡ true → list_all is_word_byte (take (to - (from + 1)) (drop (from + 1) text)) ≡ true → list_all is_word_byte (take (to - from) (drop from text)) ≡ true
+pub all_words : (text : List ℕ) (from to : ℕ) → from < length text → from + 1 ≤ to → is_word_start (get_or text from 0) ≡ true → list_all is_word_byte (take (to - (from + 1)) (drop (from + 1) text)) ≡ true → list_all is_word_byte (take (to - from) (drop from text)) ≡ true
 all_words text from to within past letter all =
     ap (list_all is_word_byte) (piece_cons text from to within past) ∙ and_from _ _ (or_left _ _ (or_left _ _ letter)) all

@@ -8,7 +8,7 @@ use Rattle.std.proofs.lemmas.Bool.{and_parts, ltb-true, lt-ltb, ne_eqb, or_cases
 use Rattle.std.proofs.lemmas.Option.{cond_some}
 use Rattle.std.proofs.lemmas.Slice.Eq.{bytes_eq-Decides}
 use Rattle.ae_vtoken.specs.Tables.{signs}
-use Rattle.ae_vtoken.specs.Tokens.{TokenTree, Mark, look_up, is_blank, is_letter, is_word_byte, after_gap, Between, base_of, are_digits, sized_of, number_of, token_of, IsLongest, AreTokens, No_more, Then}
+use Rattle.ae_vtoken.specs.Tokens.{TokenTree, Mark, look_up, is_blank, is_word_start, is_word_byte, after_gap, Between, base_of, are_digits, sized_of, number_from, token_of, IsLongest, AreTokens, No_more, Then}
 
 -- a blank, or a sign that is a part of no longer sign
 abbrev pub lones : List ℕ
@@ -114,7 +114,7 @@ sized_plain size (b ∷ ds) t h =
     let digits = (and_parts _ _ (cond_some _ _ _ h).0).1 in
     and_from _ _ (plain_from (λ c. not (eqb (base_of c) 0)) b refl (is_base (base_of b) ds digits)) (plain_digits (base_of b) ds (base_small b) digits)
 
-number_plain : (size bs : List ℕ) (t : TokenTree) → number_of size bs ≡ Some t → list_all is_plain bs ≡ true
+number_plain : (size bs : List ℕ) (t : TokenTree) → number_from size bs ≡ Some t → list_all is_plain bs ≡ true
 number_plain size [] t h = refl
 number_plain size (c ∷ cs) t h =
     elim (cases_Bool (is_ascii_digit c)) [
@@ -141,10 +141,10 @@ pub token_together : (bs : List ℕ) (t : TokenTree) → token_of bs ≡ Some t 
 unfolding token_of
 token_together [] t h = cc
 token_together (b ∷ bs) t h =
-    elim (cases_Bool (is_letter b)) [
+    elim (cases_Bool (is_word_start b)) [
       | inl letter ↦
           let word = cond_some _ _ _ (sym (cond-true _ _ _ letter) ∙ h) in
-          together_from (b ∷ bs) (and_from _ _ (plain_from is_letter b refl letter) (all_plain_from is_word_byte bs refl word.0))
+          together_from (b ∷ bs) (and_from _ _ (plain_from is_word_start b refl letter) (all_plain_from is_word_byte bs refl word.0))
       | inr other ↦
           let h' = sym (cond-false _ _ _ other) ∙ h in
           elim (cases_Bool (is_ascii_digit b)) [

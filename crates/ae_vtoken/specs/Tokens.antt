@@ -37,11 +37,11 @@ abbrev pub is_blank : ℕ → Bool
 is_blank b = (b == 32) || (b == 9) || (b == 13) || (b == 10) || (b == 12)
 
 -- what begins a name, and what goes on with it
-abbrev pub is_letter : ℕ → Bool
-is_letter b = is_ascii_alphabetic b || (b == 95)
+abbrev pub is_word_start : ℕ → Bool
+is_word_start b = is_ascii_alphabetic b || (b == 95)
 
 abbrev pub is_word_byte : ℕ → Bool
-is_word_byte b = is_letter b || is_ascii_digit b || (b == 36)
+is_word_byte b = is_word_start b || is_ascii_digit b || (b == 36)
 
 -- where in a gap a text begins; a block comment keeps the text from its slash on
 pub data Place : Type 0 where
@@ -106,18 +106,18 @@ abbrev pub decimal_of : List ℕ → TokenTree
 decimal_of ds = if bytes_eq ds (codes "0") then Zero else Decimal (min (digits_value 10 ds) 4294967295)
 
 -- digits so far, and what stands after them
-abbrev pub number_of : List ℕ → List ℕ → Option TokenTree
-number_of ds [] = Some (decimal_of ds)
-number_of ds (c ∷ cs) =
-    if is_ascii_digit c then number_of (ds ++ c ∷ []) cs
+abbrev pub number_from : List ℕ → List ℕ → Option TokenTree
+number_from ds [] = Some (decimal_of ds)
+number_from ds (c ∷ cs) =
+    if is_ascii_digit c then number_from (ds ++ c ∷ []) cs
     else (if c == 39 then sized_of ds cs else None)
 
 -- the token that a piece of text is, if it is one
 unfoldable pub token_of : List ℕ → Option TokenTree
 token_of [] = None
 token_of (b ∷ bs) =
-    if is_letter b then (if list_all is_word_byte bs then Some (word_of (b ∷ bs) (look_up (b ∷ bs) keys)) else None)
-    else (if is_ascii_digit b then number_of (b ∷ []) bs
+    if is_word_start b then (if list_all is_word_byte bs then Some (word_of (b ∷ bs) (look_up (b ∷ bs) keys)) else None)
+    else (if is_ascii_digit b then number_from (b ∷ []) bs
     else option_map Mark (look_up (b ∷ bs) signs))
 
 -- no longer piece is a token, where rest stands behind the piece

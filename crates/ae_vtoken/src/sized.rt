@@ -4,7 +4,7 @@ ghost use Rattle.std.specs.Prelude.{◌≡◌, ◌≤◌, ◌<◌, ◌+◌, ◌-
 ghost use Rattle.std.specs.Char.{is_ascii_digit, digit_value};
 ghost use Rattle.std.specs.List.{list_all};
 ghost use Rattle.std.specs.Str.Parse.{digits_value};
-ghost use Rattle.ae_vtoken.specs.Tokens.{is_letter, base_of, constant};
+ghost use Rattle.ae_vtoken.specs.Tokens.{is_word_start, base_of, constant};
 ghost use Rattle.ae_vtoken.specs.Scan.{NoSized, IsSizedAt, TokenAt, is_based, token_view};
 
 use crate::decimals::capped;
@@ -153,7 +153,7 @@ fn constant<'a>(size: u32, value: u128) -> Token<'a>
 
 /// The sized constant at from, whose size ends at the quote, and the place behind it.
 pub fn sized<'a>(text: &'a [u8], from: usize, quote: usize) -> (Token<'a>, usize)
-    requires first { is_letter (get_or text.now from 0) ≡ false }
+    requires first { is_word_start (get_or text.now from 0) ≡ false }
     requires digits { list_all is_ascii_digit (take (quote - from) (drop from text.now)) ≡ true }
     requires sized { IsSizedAt text.now from quote }
     ensures { TokenAt text.now from result.1 (token_view result.0) }

@@ -2,7 +2,7 @@
 
 ghost use Rattle.std.specs.Prelude.{◌≡◌, ◌≤◌, ◌<◌, ◌-◌, length, drop, take, get_or, true, false, bytes_eq};
 ghost use Rattle.std.specs.List.{list_all, list_any};
-ghost use Rattle.ae_vtoken.specs.Tokens.{is_letter, is_word_byte, look_up, is_unused, word_of};
+ghost use Rattle.ae_vtoken.specs.Tokens.{is_word_start, is_word_byte, look_up, is_unused, word_of};
 ghost use Rattle.ae_vtoken.specs.Tables.{keys, unused_0, unused_1, unused_2, unused_3, unused_4, unused_5, unused_6, unused_7, unused_8, unused_9};
 ghost use Rattle.ae_vtoken.specs.Scan.{token_view};
 
@@ -10,7 +10,7 @@ use crate::token::{Key, Token};
 
 /// Whether a name or a reserved word begins with the byte.
 pub fn is_letter(b: u8) -> bool
-    ensures { result ≡ is_letter b }
+    ensures { result ≡ is_word_start b }
 {
     b.is_ascii_alphabetic() || b == b'_'
 }

@@ -3,7 +3,7 @@ use Rattle.std.proofs.lemmas.List.{length-map}
 use Rattle.ae_seq.specs.ProgramTree.{program_tree}
 use Rattle.ae_rewrite.specs.StProgramTree.{st_func_trees}
 use Rattle.ae_rewrite.specs.Sound.{item_layouts}
-use Rattle.ae_stall.specs.Images.{moved}
+use Rattle.ae_stall.specs.Images.{renumbered}
 use Rattle.ae_compile.specs.LineNotes.{told_notes}
 use Rattle.ae_verilog.specs.Notes.{note_tree}
 use Rattle.ae_verilog.specs.ReportLines.{report_tree}
@@ -19,7 +19,7 @@ moved_marks-requires c = λ i m e.
 
 pub notes-requires-clause-marks : goal.notes-requires-clause-marks
 notes-requires-clause-marks c f main =
-    ap length (c.deref-2.ensures.value ∙ (c.in_ok-marks.ensures ∙ ap (map moved) c.deref.ensures.value)) ∙ (length-map c.in_ok-lowered.lowered.marks.items moved ∙ (c.in_ok-lowered.ensures.marks f main).long)
+    ap length (c.deref-2.ensures.value ∙ (c.in_ok-marks.ensures ∙ ap (map renumbered) c.deref.ensures.value)) ∙ (length-map c.in_ok-lowered.lowered.marks.items renumbered ∙ (c.in_ok-lowered.ensures.marks f main).long)
 
 pub returns-clause-stalled : goal.returns-clause-stalled
 returns-clause-stalled c = record {
@@ -33,7 +33,7 @@ returns-clause-stalled c = record {
         stalled = c.in_ok-netlist.ensures.stalled;
         own = c.in_ok-lowered.ensures.nodes;
         places = c.in_ok-lowered.ensures.marks;
-        notes_are = λ s f last main. c.in_ok-notes.ensures.are s f last main ∙ ap (told_notes (program_tree c.args.costed.program) f (item_layouts s)) (c.deref-2.ensures.value ∙ (c.in_ok-marks.ensures ∙ ap (map moved) c.deref.ensures.value));
+        notes_are = λ s f last main. c.in_ok-notes.ensures.are s f last main ∙ ap (told_notes (program_tree c.args.costed.program) f (item_layouts s)) (c.deref-2.ensures.value ∙ (c.in_ok-marks.ensures ∙ ap (map renumbered) c.deref.ensures.value));
         printed = c.in_ok-notes.ensures.printed;
       });
 }

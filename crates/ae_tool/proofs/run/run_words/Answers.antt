@@ -10,7 +10,7 @@ use Rattle.ae_compile.specs.declared.costing.Costed.{Costed}
 use Rattle.ae_compile.specs.Costing.{load_limit, main_costs}
 use Rattle.ae_tool.specs.Refusals.{refusal_line}
 use Rattle.ae_tool.specs.EvalRows.{AreRows, AreBlocks}
-use Rattle.ae_tool.specs.RunTexts.{IsRunOf, IsShown, run_limit, run_size, word_count}
+use Rattle.ae_tool.specs.RunTexts.{IsRunOf, IsRunShown, run_limit, run_size, word_count}
 use Rattle.ae_tool.proofs.EvalSteps.{column_some, rows_count}
 use Rattle.ae_compile.proofs.Made.{known_costs}
 use Rattle.ae_tool.proofs.Clocks.{clocks_told}
@@ -76,4 +76,4 @@ returns c = λ table a.
     let blocks = length ws / c.args.columns in
     let here = subst (λ (k : Costed). AreBlocks (program_tree k.program) blocks table ws) (sym c.in_ok-compiled.ensures.of) (blocks_known p c.args.columns table ws typed a) in
     let text = string_bytes c.in_ok-text.text in
-    (a.right, short, subst (λ (k : Costed). IsShown c.args.form c.args.fill (program_tree k.program) k.slowdown (st_func_trees k.schedule) table text) c.in_ok-compiled.ensures.of (c.in_ok-text.ensures table here))
+    (a.right, short, subst (λ (k : Costed). IsRunShown c.args.form c.args.fill (program_tree k.program) k.slowdown (st_func_trees k.schedule) table text) c.in_ok-compiled.ensures.of (c.in_ok-text.ensures table here))
