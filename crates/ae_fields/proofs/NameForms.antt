@@ -2,11 +2,9 @@
 use Rattle.std.proofs.Common.{◌≡◌, ℕ, zero, suc, ◌<◌, Bool, true, false, not, ◌&&◌, ◌||◌, ◌==◌, cond, nat_le, nat_lt, nat_eq, List, [], ◌∷◌, ◌++◌, length, get_or, Some, None, refl, sym, ap, ◌∙◌, codes, arith}
 use Rattle.std.proofs.lemmas.List.Quantifiers.{position-Some}
 use Rattle.std.proofs.lemmas.List.Sums.{position_or_len_is}
-use Rattle.std.proofs.lemmas.Bool.{leb-true, lt-ltb, eqb-true, eq-eqb}
+use Rattle.std.proofs.lemmas.Bool.{lt-ltb, eqb-true, eq-eqb}
 use Rattle.std.specs.Str.{bytes_eq}
-use Rattle.std.specs.List.{list_all}
-use Rattle.ae_seq.specs.Formed.{is_letter, same_bytes, is_among, all_distinct, all_names, all_name_bytes, begins_with_letter, is_name, is_name_byte, within, apart}
-use Rattle.ae_fields.specs.Name as own
+use Rattle.ae_seq.specs.Formed.{same_bytes, is_among, all_distinct, all_names, is_name, apart}
 use Rattle.ae_fields.specs.Scopes.{place, is_known}
 use Rattle.ae_fields.proofs.Bools.{and-first, and-second}
 use Rattle.ae_fields.proofs.PlainLemmas.{and-both}
@@ -21,88 +19,6 @@ same-agree (x ∷ xs) (y ∷ ys) = ap (λ b. nat_eq x y && b) (same-agree xs ys)
 pub known-agree : (n : List ℕ) (ns : List (List ℕ)) → is_known n ns ≡ is_among n ns
 known-agree n [] = refl
 known-agree n (m ∷ ms) = λ i. same-agree n m i || known-agree n ms i
-
-shuffle : (d u l e : Bool) → (d || u || l || e) ≡ (l || u || e || d)
-shuffle true true true true = refl
-shuffle true true true false = refl
-shuffle true true false true = refl
-shuffle true true false false = refl
-shuffle true false true true = refl
-shuffle true false true false = refl
-shuffle true false false true = refl
-shuffle true false false false = refl
-shuffle false true true true = refl
-shuffle false true true false = refl
-shuffle false true false true = refl
-shuffle false true false false = refl
-shuffle false false true true = refl
-shuffle false false true false = refl
-shuffle false false false true = refl
-shuffle false false false false = refl
-
-pub byte-agree : (b : ℕ) → own.is_name_byte b ≡ is_name_byte b
-byte-agree b = shuffle (within 48 57 b) (within 65 90 b) (within 97 122 b) (b == 95)
-
-bytes-named : (bs : List ℕ) → list_all own.is_name_byte bs ≡ all_name_bytes bs
-bytes-named [] = refl
-bytes-named (b ∷ bs) = λ i. byte-agree b i && bytes-named bs i
-
--- a byte of a name that is no digit is a letter
-letter-of : (d u l e : Bool) → (d || u || l || e) ≡ true → not d ≡ true → (l || u || e) ≡ true
-letter-of true u l e h n = absurd cc
-letter-of false true true e h n = refl
-letter-of false true false e h n = refl
-letter-of false false true e h n = refl
-letter-of false false false e h n = h
-
-begins-named : (bs : List ℕ) → own.begins_no_digit bs ≡ true → list_all own.is_name_byte bs ≡ true → begins_with_letter bs ≡ true
-begins-named [] h all = absurd cc
-begins-named (b ∷ bs) h all = letter-of (within 48 57 b) (within 65 90 b) (within 97 122 b) (b == 95) (and-first _ _ all) h
-
--- a name in a text is one of a program
-pub named-so : (bs : List ℕ) → own.is_name bs ≡ true → is_name bs ≡ true
-named-so bs h =
-    let all = and-second (nat_le (length bs) 32 && own.begins_no_digit bs && not (bytes_eq bs (codes "fn")) && not (bytes_eq bs (codes "end"))) _ h in
-    let h4 = and-first _ _ h in
-    let no_end = and-second (nat_le (length bs) 32 && own.begins_no_digit bs && not (bytes_eq bs (codes "fn"))) _ h4 in
-    let h3 = and-first _ _ h4 in
-    let no_fn = and-second (nat_le (length bs) 32 && own.begins_no_digit bs) _ h3 in
-    let h2 = and-first _ _ h3 in
-    let begins = and-second (nat_le (length bs) 32) _ h2 in
-    let short = and-first _ _ h2 in
-    and-both _ _ (and-both _ _ (and-both _ _ (and-both _ _ short (begins-named bs begins all)) (sym (bytes-named bs) ∙ all)) (ap not (sym (same-agree bs (codes "fn"))) ∙ no_fn)) (ap not (sym (same-agree bs (codes "end"))) ∙ no_end)
-
-letter-no-digit : (b : ℕ) → is_letter b ≡ true → not (within 48 57 b) ≡ true
-letter-no-digit b h = by (within 48 57 b) refl
-  where
-    or-elim : {P : Type 0} (x y : Bool) → (x || y) ≡ true → (x ≡ true → P) → (y ≡ true → P) → P
-    or-elim true y e f g = f refl
-    or-elim false y e f g = g e
-
-    by : (t : Bool) → within 48 57 b ≡ t → not t ≡ true
-    by false e = refl
-    by true e =
-        let high = leb-true b 57 (and-second (nat_le 48 b) _ e) in
-        absurd (or-elim (within 97 122 b || within 65 90 b) (b == 95) h
-        (λ h1. or-elim (within 97 122 b) (within 65 90 b) h1
-        (λ x. let l = leb-true 97 b (and-first _ _ x) in omega arith)
-        (λ x. let l = leb-true 65 b (and-first _ _ x) in omega arith))
-        (λ x. let l = eqb-true b 95 x in omega arith))
-
--- a name of a program is one of a text
-pub own-name : (bs : List ℕ) → is_name bs ≡ true → own.is_name bs ≡ true
-own-name bs h =
-    let no_end = and-second (nat_le (length bs) 32 && begins_with_letter bs && all_name_bytes bs && not (same_bytes bs (codes "fn"))) _ h in
-    let h4 = and-first _ _ h in
-    let no_fn = and-second (nat_le (length bs) 32 && begins_with_letter bs && all_name_bytes bs) _ h4 in
-    let h3 = and-first _ _ h4 in
-    let all = and-second (nat_le (length bs) 32 && begins_with_letter bs) _ h3 in
-    let h2 = and-first _ _ h3 in
-    and-both _ _ (and-both _ _ (and-both _ _ (and-both _ _ (and-first _ _ h2) (begins bs (and-second (nat_le (length bs) 32) _ h2))) (ap not (same-agree bs (codes "fn")) ∙ no_fn)) (ap not (same-agree bs (codes "end")) ∙ no_end)) (bytes-named bs ∙ all)
-  where
-    begins : (cs : List ℕ) → begins_with_letter cs ≡ true → own.begins_no_digit cs ≡ true
-    begins [] e = absurd cc
-    begins (c ∷ cs) e = letter-no-digit c e
 
 -- ---- lists of names
 

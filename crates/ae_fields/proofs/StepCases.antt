@@ -5,7 +5,7 @@ use Rattle.std.specs.Str.{bytes_eq}
 use Rattle.ae_seq.specs.ProgramTree.{OpTree}
 use Rattle.ae_seq.specs.Formed.{has_arguments, within, most_results}
 use Rattle.ae_fields.specs.Grammar.{Known, Part, State, Head, params_of, begin, places_after, node, ended, finish, by_part, is_version_line, of_version, first_line, step}
-use Rattle.ae_fields.specs.Name.{is_name}
+use Rattle.ae_seq.specs.Formed.{is_name}
 use Rattle.ae_fields.specs.Scopes.{is_known}
 use Rattle.ae_fields.specs.Words.{operator_from}
 use Rattle.ae_fields.proofs.Bools.{and-second}

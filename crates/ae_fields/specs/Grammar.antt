@@ -2,10 +2,9 @@
 use Rattle.std.specs.Prelude.{◌≡◌, ℕ, ◌+◌, Bool, false, not, ◌&&◌, ◌==◌, nat_le, nat_lt, if◌then◌else◌, List, [], ◌∷◌, ◌++◌, length, Option, Some, None, codes}
 use Rattle.std.specs.Str.{bytes_eq}
 use Rattle.ae_seq.specs.ProgramTree.{OpTree, ParamTree, NodeTree, FuncTree, ProgramTree}
-use Rattle.ae_seq.specs.Formed.{has_arguments, within, most_results}
+use Rattle.ae_seq.specs.Formed.{has_arguments, is_name, within, most_results}
 use Rattle.ae_fields.specs.Cut.{lines, pieces, said, fields}
 use Rattle.ae_fields.specs.Cleaned.{all_printed}
-use Rattle.ae_fields.specs.Name.{is_name}
 use Rattle.ae_seq.specs.Typing.{where_ok, ◌>>=◌}
 use Rattle.ae_fields.specs.Parts.{is_mark}
 use Rattle.ae_fields.specs.Scopes.{place, is_known}

@@ -1,6 +1,5 @@
 pub mod Cut
 pub mod Cleaned
-pub mod Name
 pub mod Number
 pub mod Parts
 pub mod Scopes

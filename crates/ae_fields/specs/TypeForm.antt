@@ -1,10 +1,12 @@
 -- How a field spells a type.
-use Rattle.std.specs.Prelude.{ℕ, zero, suc, Bool, true, false, ◌&&◌, ◌==◌, nat_eq, if◌then◌else◌, List, [], ◌∷◌, Option, Some, None}
+use Rattle.std.specs.Prelude.{ℕ, zero, suc, Bool, true, false, ◌&&◌, ◌==◌, nat_eq, nat_le, if◌then◌else◌, List, [], ◌∷◌, Option, Some, None}
 use Rattle.ae_word.specs.AtomTree.{AtomTree, word, pair}
 use Rattle.ae_seqtype.specs.SeqTree.{SeqTree, atom, seq}
-use Rattle.ae_fields.specs.Name.{is_digit}
 use Rattle.ae_fields.specs.Number.{plain_of}
 use Rattle.ae_seq.specs.Typing.{where_ok, ◌>>=◌}
+
+abbrev pub is_digit : ℕ → Bool
+is_digit b = nat_le 48 b && nat_le b 57
 
 -- the digits at the head of some bytes, and what follows them
 abbrev pub digits_of : List ℕ → List ℕ

@@ -13,7 +13,7 @@ mod types;
 
 pub use fields::{next_field, said};
 pub use lines::next_line;
-pub use names::{is_name, name_text};
+pub use names::name_text;
 pub use numbers::{number, plain, plain_number};
 pub use parts::{is_mark, split};
 pub use pieces::next_piece;

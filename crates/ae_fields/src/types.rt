@@ -4,8 +4,7 @@ ghost use Rattle.std.specs.Prelude.{◌≡◌, IfOk, option_map};
 ghost use Rattle.std.specs.Option.{option_copied};
 ghost use Rattle.ae_word.specs.AtomTree.{atom_tree, pair};
 ghost use Rattle.ae_seqtype.specs.SeqTree.{seq, seq_tree};
-ghost use Rattle.ae_fields.specs.Name.{is_digit};
-ghost use Rattle.ae_fields.specs.TypeForm.{after_digits, atom_from, atom_type_of, digits_of, length_from, pair_from, past, sequence_from, type_from, type_of, word_from};
+ghost use Rattle.ae_fields.specs.TypeForm.{after_digits, atom_from, atom_type_of, digits_of, is_digit, length_from, pair_from, past, sequence_from, type_from, type_of, word_from};
 ghost use Rattle.ae_fields.specs.View.{atom_rest, length_rest};
 
 use crate::numbers::plain;

@@ -5,11 +5,10 @@ use Rattle.ae_seq.specs.ProgramTree.{OpTree, ParamTree, NodeTree}
 use Rattle.ae_seq.specs.Formed.{all_below, all_distinct, all_names, is_among, is_line, is_name, has_arguments, formed_nodes, formed_params, is_spelled, node_names, param_names, within}
 use Rattle.ae_fields.specs.Cut.{pieces}
 use Rattle.ae_fields.specs.Grammar.{Head, Part, two_of, param_from, no_params, with_param, params_after, params_of, places_after}
-use Rattle.ae_fields.specs.Name as own
 use Rattle.ae_fields.specs.Scopes.{place, is_known}
 use Rattle.ae_fields.specs.TypeForm.{type_of}
 use Rattle.ae_fields.proofs.Bools.{and-first, and-second}
-use Rattle.ae_fields.proofs.NameForms.{named-so, known-agree, distinct-push, names-push, place-below}
+use Rattle.ae_fields.proofs.NameForms.{known-agree, distinct-push, names-push, place-below}
 use Rattle.ae_fields.proofs.OptionLemmas.{bind-some, where-some, some-is}
 use Rattle.ae_fields.proofs.PlainLemmas.{and-both}
 use Rattle.ae_parse.proofs.TypeSound.{spelled-so}
@@ -53,7 +52,7 @@ one-param version h g p f e w s =
     let is : record { name = a.0.0; type = c.0 } ≡ p = some-is _ _ c.2 in
     let d = where-some _ _ _ w in
     let g_is : record { params = h.params ++ p ∷ []; items = h.items ++ p.name ∷ [] } ≡ g = some-is _ _ d.1 in
-    let named : is_name p.name ≡ true = ap (λ (x : ParamTree). is_name x.name) (sym is) ∙ named-so a.0.0 b.0 in
+    let named : is_name p.name ≡ true = ap (λ (x : ParamTree). is_name x.name) (sym is) ∙ b.0 in
     let typed : is_spelled version p.type ≡ true = ap (λ (x : ParamTree). is_spelled version x.type) (sym is) ∙ spelled-so version a.0.1 c.0 c.1 in
     let new : is_among p.name h.items ≡ false = sym (known-agree p.name h.items) ∙ not-so (is_known p.name h.items) d.0 in
     let t : HeadSound version (record { params = h.params ++ p ∷ []; items = h.items ++ p.name ∷ [] }) = record {
@@ -98,10 +97,10 @@ append-none : {A : Type 0} (xs : List A) → xs ++ [] ≡ xs
 append-none [] = refl
 append-none (x ∷ xs) = ap (λ ys. x ∷ ys) (append-none xs)
 
-pub begun-sound : (version funcs line : ℕ) (name : List ℕ) (h : Head) → own.is_name name ≡ true → FewParams version h
+pub begun-sound : (version funcs line : ℕ) (name : List ℕ) (h : Head) → is_name name ≡ true → FewParams version h
     → PartSound version funcs (record { name = name; params = h.params; nodes = []; items = h.items; line = line })
 begun-sound version funcs line name h n s = record {
-  name = named-so name n;
+  name = n;
   few = s.few;
   types = s.sound.types;
   nodes = refl;
@@ -136,7 +135,7 @@ length-nodes (n ∷ ns) = ap (λ k. suc k) (length-nodes ns)
 pub items-count : (version funcs : ℕ) (p : Part) → PartSound version funcs p → length p.items ≡ length p.params + length p.nodes
 items-count version funcs p s = ap length s.items ∙ length-append (param_names p.params) (node_names p.nodes) ∙ (λ i. length-params p.params i + length-nodes p.nodes i)
 
-pub node-sound : (version funcs n : ℕ) (p : Part) (name : List ℕ) (op : OpTree) (args : List ℕ) → PartSound version funcs p → own.is_name name ≡ true → is_known name p.items ≡ false
+pub node-sound : (version funcs n : ℕ) (p : Part) (name : List ℕ) (op : OpTree) (args : List ℕ) → PartSound version funcs p → is_name name ≡ true → is_known name p.items ≡ false
     → is_line version funcs op ≡ true → has_arguments op (length args) ≡ true → all_below (length p.items) args ≡ true
     → PartSound version funcs (record { name = p.name; params = p.params; nodes = p.nodes ++ record { name = name; op = op; args = args; line = n } ∷ []; items = p.items ++ name ∷ []; line = p.line })
 node-sound version funcs n p name op args s nm new line many below =
@@ -147,6 +146,6 @@ node-sound version funcs n p name op args s nm new line many below =
       types = s.types;
       nodes = nodes-push version funcs (length p.params) p.nodes node s.nodes line many (ap (λ k. all_below k args) (sym (items-count version funcs p s)) ∙ below);
       items = ap (λ ns. ns ++ name ∷ []) s.items ∙ append_assoc (param_names p.params) (node_names p.nodes) (name ∷ []) ∙ ap (λ ns. param_names p.params ++ ns) (sym (node-names-push p.nodes node));
-      named = names-push p.items name s.named (named-so name nm);
+      named = names-push p.items name s.named nm;
       distinct = distinct-push p.items name s.distinct (sym (known-agree name p.items) ∙ new);
     }

@@ -1,6 +1,5 @@
 pub use Rattle.ae_fields.specs.Cut
 pub use Rattle.ae_fields.specs.Cleaned
-pub use Rattle.ae_fields.specs.Name
 pub use Rattle.ae_fields.specs.Number
 pub use Rattle.ae_fields.specs.Parts
 pub use Rattle.ae_fields.specs.Scopes

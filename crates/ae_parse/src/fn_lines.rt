@@ -7,8 +7,8 @@ ghost use Rattle.ae_fields.specs.Grammar.{few_params, no_params, param_from, par
 ghost use Rattle.ae_parse.specs.StateView.{head_of};
 ghost use Rattle.ae_fields.specs.View.{halves_in};
 
-use ae_fields::{Scope, is_name, name_text, next_field, next_piece, read_type};
-use ae_seq::Param;
+use ae_fields::{Scope, name_text, next_field, next_piece, read_type};
+use ae_seq::{Param, is_name};
 use std::alloc::{AllocError, Global};
 
 // What stands before and behind the only mark.

@@ -8,7 +8,7 @@ mod parser;
 mod program_text;
 
 pub use ae_fields::{
-    RowFault, Scope, Table, is_name, name_text, next_field, next_line, next_piece, number,
-    plain_number, read_rows, said, split,
+    RowFault, Scope, Table, name_text, next_field, next_line, next_piece, number, plain_number,
+    read_rows, said, split,
 };
 pub use program_text::{ParseFault, parse};

@@ -3,7 +3,6 @@
 ghost use Rattle.std.specs.Prelude.{◌≡◌, ◌<◌, ◌≤◌, length, option_map};
 ghost use Rattle.ae_word.specs.AtomTree.{atom_tree};
 ghost use Rattle.ae_seqtype.specs.SeqTree.{seq_tree};
-ghost use Rattle.ae_seq.specs.Formed.{has_arguments};
 ghost use Rattle.ae_seq.specs.ProgramTree.{op_tree};
 ghost use Rattle.ae_fields.specs.Scopes.{place};
 ghost use Rattle.ae_fields.specs.Words.{cast_of, fold_op, folding_words, found, func_at, func_op, numbered_op, other_words, bare_op, plain_words};
@@ -11,7 +10,7 @@ ghost use Rattle.ae_fields.specs.Words.{cast_of, fold_op, folding_words, found, 
 use ae_fields::{Scope, plain};
 use ae_seq::Op;
 use ae_seqtype::SeqType;
-use ae_word::{Atom, WordOp, arity};
+use ae_word::{Atom, WordOp};
 
 // The folding operator of a word.
 fn folding_word(word: &[u8]) -> Option<WordOp>
@@ -194,28 +193,5 @@ pub(crate) fn cast_of(ty: &SeqType) -> Option<Op>
         SeqType::Atom(Atom::Word(width)) => Some(Op::Word(WordOp::Cast(*width))),
         SeqType::Atom(Atom::Int(width)) => Some(Op::CastInt(*width)),
         _ => None,
-    }
-}
-
-// Whether the operator has so many arguments.
-pub(crate) fn has_arguments(op: &Op, count: usize) -> bool
-    ensures { result ≡ has_arguments (op_tree op.now) count }
-{
-    match op {
-        Op::Word(op) => count == arity(*op) as usize,
-        Op::Const(_, _) => count == 0,
-        Op::Pair | Op::Zip | Op::Map2(_) => count == 2,
-        Op::Call(_) => 1 <= count && count <= 8,
-        Op::CastInt(_)
-        | Op::Fst
-        | Op::Snd
-        | Op::Map(_)
-        | Op::Reduce(_)
-        | Op::Scan(_)
-        | Op::Shift(_)
-        | Op::Up(_)
-        | Op::Select(_)
-        | Op::Partition(_, _)
-        | Op::Unpartition => count == 1,
     }
 }

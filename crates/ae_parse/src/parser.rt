@@ -1,19 +1,18 @@
 // The lines of a program text, one after the other.
 
 ghost use Rattle.std.specs.Prelude.{◌≡◌, ◌<◌, IfOk, IfSome, length, option_map, Some, true};
+ghost use Rattle.ae_seq.specs.Formed.{is_name};
 ghost use Rattle.ae_seq.specs.ProgramTree.{op_tree};
 ghost use Rattle.ae_fields.specs.Cleaned.{all_printed, may_stand};
 ghost use Rattle.ae_fields.specs.Cut.{fields};
-ghost use Rattle.ae_fields.specs.Name.{is_name};
 ghost use Rattle.ae_fields.specs.Grammar.{Known as KnownTree, after_line, begin, begin_named, begun, by_part, ended, ended_with, finish, first_line, inside, is_version_line, node, node_named, node_with, of_version, start, step, with_node};
 ghost use Rattle.ae_seq.specs.Typing.{where_ok};
 ghost use Rattle.ae_parse.specs.StateView.{head_of, known_of, part_of, state_of, opened};
 
 use crate::fn_lines::{Params, read_params};
 use crate::op_lines::{places, read_operator};
-use crate::op_words::has_arguments;
-use ae_fields::{Scope, is_name, name_text, next_field};
-use ae_seq::{Func, Node, Op, Param};
+use ae_fields::{Scope, name_text, next_field};
+use ae_seq::{Func, Node, Op, Param, has_arguments, is_name};
 use std::alloc::{AllocError, Global};
 
 /// What came before a function: the version (0 before the first line that says something), whether a function with

@@ -6,16 +6,15 @@ use Rattle.std.specs.Str.{bytes_eq}
 use Rattle.ae_seqtype.specs.TypeText.{type_text}
 use Rattle.ae_seqtype.specs.SeqTree.{parts_in_size, depth}
 use Rattle.ae_seq.specs.ProgramTree.{ParamTree, NodeTree}
-use Rattle.ae_seq.specs.Formed.{all_below, all_distinct, all_names, formed_nodes, formed_params, has_arguments, is_among, is_line, is_name, is_spelled, node_names, param_names}
+use Rattle.ae_seq.specs.Formed.{all_below, all_distinct, all_name_bytes, all_names, begins_with_letter, formed_nodes, formed_params, has_arguments, is_among, is_line, is_name, is_spelled, node_names, param_names, same_bytes}
 use Rattle.ae_fields.specs.Grammar.{Known, Part, State, Head, param_of, param_from, with_param, params_after, places_after, with_node, node_on, node_with, node_named, node, finish, inside, by_part, first_line, step, by_state}
-use Rattle.ae_fields.specs.Name as own
 use Rattle.ae_seq.specs.Typing.{where_ok, ◌>>=◌}
 use Rattle.ae_print.specs.Printed.{name_at, op_fields, node_fields, param_field, words_fit, nodes_fit, nodes_from}
 use Rattle.ae_fields.specs.Scopes.{place, is_known}
 use Rattle.ae_fields.specs.TypeForm.{type_of}
 use Rattle.ae_fields.specs.Words.{below}
 use Rattle.ae_fields.proofs.Bools.{and-first, and-second}
-use Rattle.ae_fields.proofs.NameForms.{own-name, known-agree, place-at, distinct-new, distinct-front}
+use Rattle.ae_fields.proofs.NameForms.{known-agree, place-at, distinct-new, distinct-front, same-agree}
 use Rattle.ae_print.proofs.OpRead.{operator_on, FuncsFound, op-read}
 use Rattle.ae_print.proofs.SolidForms.{param-cut}
 use Rattle.ae_fields.proofs.StepCases.{node_state}
@@ -55,7 +54,7 @@ param-read : (version : ℕ) (p : ParamTree) → is_name p.name ≡ true → is_
 param-read version p n s =
     let parts = and-first (parts_in_size p.type) _ (and-first (parts_in_size p.type && nat_le (depth p.type) 6) _ s) in
     ap (λ o. o >>= param_of version) (param-cut p.name p.type n parts)
-    ∙ ap (λ t. where_ok t (type_of version (type_text p.type) >>= λ u. Some (record { name = p.name; type = u }))) (own-name p.name n)
+    ∙ ap (λ t. where_ok t (type_of version (type_text p.type) >>= λ u. Some (record { name = p.name; type = u }))) (n)
     ∙ ap (λ o. o >>= λ u. Some (record { name = p.name; type = u })) (type-read version p.type s)
 
 new-known : (n : List ℕ) (ns : List (List ℕ)) → is_among n ns ≡ false → not (is_known n ns) ≡ true
@@ -79,11 +78,11 @@ step-later n s f fs h v =
     ap (λ t. where_ok t (if s.known.version == 0 then first_line n s f fs else by_part n s.known s.part f fs)) (le-leb n 4096 h)
     ∙ ap (λ t. if t then first_line n s f fs else by_part n s.known s.part f fs) v
 
-name-no-end : (f : List ℕ) → own.is_name f ≡ true → bytes_eq f (codes "end") ≡ false
+name-no-end : (f : List ℕ) → is_name f ≡ true → bytes_eq f (codes "end") ≡ false
 name-no-end f h = by (bytes_eq f (codes "end")) refl
   where
     no : not (bytes_eq f (codes "end")) ≡ true
-    no = and-second (nat_le (length f) 32 && own.begins_no_digit f && not (bytes_eq f (codes "fn"))) _ (and-first _ _ h)
+    no = ap not (same-agree f (codes "end")) ∙ and-second (nat_le (length f) 32 && begins_with_letter f && all_name_bytes f && not (same_bytes f (codes "fn"))) _ h
 
     by : (t : Bool) → bytes_eq f (codes "end") ≡ t → t ≡ false
     by true e = absurd (let x = sym (ap not e) ∙ no in cc)
@@ -107,7 +106,7 @@ pub record NodeFits (k : Known) (p : Part) (all items : List (List ℕ)) (m : No
 pub node-read : (n : ℕ) (k : Known) (p : Part) (all items : List (List ℕ)) (m : NodeTree) → NodeFits k p all items m
     → inside n k p m.name (codes "=" ∷ (op_fields all m.op ++ map (name_at items) m.args)) ≡ Some (node_state n k p m.name m.op m.args)
 node-read n k p all items m f =
-    let named = own-name m.name f.name in
+    let named : is_name m.name ≡ true = f.name in
     let args : List (List ℕ) = map (name_at items) m.args in
     let fs : List (List ℕ) = op_fields all m.op ++ args in
     ap (λ t. if t then finish n k p (codes "=" ∷ fs) else node n k p m.name (codes "=" ∷ fs)) (name-no-end m.name named)

@@ -9,7 +9,7 @@ use Rattle.ae_seq.specs.Typing.{where_ok, ◌>>=◌}
 use Rattle.ae_print.specs.Printed.{name_at, node_fields, param_field, nodes_fit, funcs_fit, nodes_from, func_from, funcs_from, numbered, end_fields, item_names, func_statements, funcs_statements, statements, program_text}
 use Rattle.ae_fields.proofs.Bools.{and-first, and-second}
 use Rattle.ae_print.proofs.LineRead.{append-none, Extends, extends-append, places-read, funcs-found, params-read, step-later, nodes-read}
-use Rattle.ae_fields.proofs.NameForms.{own-name, known-agree, distinct-new, distinct-front}
+use Rattle.ae_fields.proofs.NameForms.{known-agree, distinct-new, distinct-front}
 use Rattle.ae_print.proofs.OpRead.{FuncsFound}
 use Rattle.ae_fields.proofs.PlainLemmas.{and-both}
 use Rattle.ae_fields.proofs.StepCases.{begun_state}
@@ -89,7 +89,7 @@ pub head-read : (n : ℕ) (k : Known) (f : FuncTree) (funcs most : ℕ) → k.cl
 head-read n k f funcs most shut fits new =
     let h : Head = record { params = f.params; items = param_names f.params } in
     ap (λ t. where_ok (not t) (begin_named n k f.name (map param_field f.params))) shut
-    ∙ ap (λ t. where_ok t (params_of k.version (map param_field f.params) >>= begun n k f.name)) (own-name f.name fits.name)
+    ∙ ap (λ t. where_ok t (params_of k.version (map param_field f.params) >>= begun n k f.name)) fits.name
     ∙ ap (λ o. o >>= few_params >>= begun n k f.name) (params-read k.version no_params f.params fits.types fits.param_names_are (distinct-front (param_names f.params) (node_names f.nodes) fits.distinct))
     ∙ ap (λ t. where_ok t (Some h) >>= begun n k f.name) fits.few
     ∙ ap (λ t. where_ok (not t) (Some (begun_state n k f.name h))) (known-agree f.name k.names ∙ new)

@@ -1,5 +1,5 @@
 -- The fields of a written program may stand in a line.
-use Rattle.std.proofs.Common.{◌≡◌, ℕ, ◌^◌, ◌<◌, Bool, true, false, not, ◌&&◌, ◌||◌, nat_le, nat_lt, nat_eq, List, [], ◌∷◌, ◌++◌, length, Some, if◌then◌else◌, refl, ap, ◌∙◌, arith}
+use Rattle.std.proofs.Common.{◌≡◌, ℕ, ◌^◌, ◌<◌, Bool, true, false, not, ◌&&◌, ◌||◌, ◌==◌, nat_le, nat_lt, nat_eq, List, [], ◌∷◌, ◌++◌, length, Some, if◌then◌else◌, refl, ap, ◌∙◌, arith}
 use Rattle.std.proofs.lemmas.Bool.{leb-true, lt-ltb, eqb-true}
 use Rattle.std.proofs.lemmas.Fmt.{decimal_nonempty}
 use Rattle.std.specs.Fmt.{decimal}
@@ -8,13 +8,11 @@ use Rattle.ae_word.specs.AtomText.{atom_text, kind_letter}
 use Rattle.ae_word.specs.AtomTree.{AtomTree, word, pair, widths_in_range}
 use Rattle.ae_seqtype.specs.SeqTree.{SeqTree, atom, seq, parts_in_size}
 use Rattle.ae_seqtype.specs.TypeText.{type_text}
-use Rattle.ae_seq.specs.Formed.{is_name}
+use Rattle.ae_seq.specs.Formed.{all_name_bytes, is_letter, is_name, is_name_byte, within}
 use Rattle.ae_fields.specs.Cut.{free, pieces, put}
-use Rattle.ae_fields.specs.Name as own
 use Rattle.ae_fields.specs.Grammar.{two_of}
-use Rattle.ae_fields.specs.Name.{is_digit}
+use Rattle.ae_fields.specs.TypeForm.{is_digit}
 use Rattle.ae_fields.proofs.Bools.{and-first, and-second}
-use Rattle.ae_fields.proofs.NameForms.{own-name}
 use Rattle.ae_fields.proofs.NameLemmas.{name-bytes}
 use Rattle.ae_fields.proofs.PlainLemmas.{and-both}
 use Rattle.ae_print.proofs.TextForms.{inked, solid, all-weaker, all-append, not-mark}
@@ -45,20 +43,25 @@ or-elim : {P : Type 0} (a b : Bool) → (a || b) ≡ true → (a ≡ true → P)
 or-elim true b h f g = f refl
 or-elim false b h f g = g h
 
-named-inner : (b : ℕ) → own.is_name_byte b ≡ true → inner_byte b ≡ true
+named-inner : (b : ℕ) → is_name_byte b ≡ true → inner_byte b ≡ true
 named-inner b h =
-    or-elim _ (nat_eq b 95) h
-    (λ h1. or-elim _ (nat_le 97 b && nat_le b 122) h1
-    (λ h2. or-elim (is_digit b) _ h2 (digit-inner b)
+    or-elim (is_letter b) (within 48 57 b) h
+    (λ h1. or-elim (within 97 122 b || within 65 90 b) (b == 95) h1
+    (λ h2. or-elim (within 97 122 b) (within 65 90 b) h2
+    (λ e. let l = leb-true 97 b (and-first _ _ e) in let r = leb-true b 122 (and-second (nat_le 97 b) _ e) in inner-so b (omega arith) (omega arith) (λ x. omega arith))
     (λ e. let l = leb-true 65 b (and-first _ _ e) in let r = leb-true b 90 (and-second (nat_le 65 b) _ e) in inner-so b (omega arith) (omega arith) (λ x. omega arith)))
-    (λ e. let l = leb-true 97 b (and-first _ _ e) in let r = leb-true b 122 (and-second (nat_le 97 b) _ e) in inner-so b (omega arith) (omega arith) (λ x. omega arith)))
-    (λ e. let l = eqb-true b 95 e in inner-so b (omega arith) (omega arith) (λ x. omega arith))
+    (λ e. let l = eqb-true b 95 e in inner-so b (omega arith) (omega arith) (λ x. omega arith)))
+    (digit-inner b)
+
+names-inner : (bs : List ℕ) → all_name_bytes bs ≡ true → list_all inner_byte bs ≡ true
+names-inner [] h = refl
+names-inner (b ∷ bs) h = and-both _ _ (named-inner b (and-first _ _ h)) (names-inner bs (and-second (is_name_byte b) _ h))
 
 inner-inked : (b : ℕ) → inner_byte b ≡ true → inked b ≡ true
 inner-inked b h = and-first _ _ h
 
 pub name-inner : (n : List ℕ) → is_name n ≡ true → list_all inner_byte n ≡ true
-name-inner n h = all-weaker own.is_name_byte inner_byte named-inner n (name-bytes n (own-name n h))
+name-inner n h = names-inner n (name-bytes n h)
 
 pub decimal-inner : (n : ℕ) → n < 2 ^ 64 → list_all inner_byte (decimal n) ≡ true
 decimal-inner n h = all-weaker is_digit inner_byte digit-inner (decimal n) (decimal-digits n h)

@@ -11,10 +11,9 @@ use Rattle.ae_word.specs.AtomTree.{AtomTree, WordKind, word, pair, pair_depth, w
 use Rattle.ae_seqtype.specs.SeqTree.{SeqTree, atom, seq, depth, parts_in_size, atom_of}
 use Rattle.ae_seqtype.specs.TypeText.{type_text}
 use Rattle.ae_seq.specs.Formed.{is_unsigned, is_spelled, within}
-use Rattle.ae_fields.specs.Name.{is_digit}
 use Rattle.ae_fields.specs.Number.{plain_of}
 use Rattle.ae_seq.specs.Typing.{where_ok, ◌>>=◌}
-use Rattle.ae_fields.specs.TypeForm.{digits_of, after_digits, past, letter_kind, word_from, pair_from, atom_from, alone, atom_type_of, length_from, sequence_from, type_from, type_of}
+use Rattle.ae_fields.specs.TypeForm.{is_digit, digits_of, after_digits, past, letter_kind, word_from, pair_from, atom_from, alone, atom_type_of, length_from, sequence_from, type_from, type_of}
 use Rattle.ae_fields.proofs.Bools.{and-first, and-second}
 use Rattle.ae_fields.proofs.PlainLemmas.{own, and-both}
 use Rattle.ae_fields.proofs.PlainOf.{plain-some}

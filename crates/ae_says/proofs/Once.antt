@@ -9,7 +9,6 @@ use Rattle.ae_seq.specs.ProgramTree.{const, NodeTree, FuncTree, ProgramTree}
 use Rattle.ae_seq.specs.Formed.{all_below, all_distinct, all_names, formed_func, formed_funcs, formed_nodes, func_names, has_arguments, is_line, is_name, item_count, most_results, node_names, param_names, within, line_count}
 use Rattle.ae_parse.specs.Cut.{lines, said, fields}
 use Rattle.ae_parse.specs.Grammar.{Known, Part, State, Head, program, start, reading_from, step, first_line, after_line, by_part, begun, begin_named, params_of, node, node_with, finish, whole, at_end, by_state, of_version, places_after}
-use Rattle.ae_parse.specs.Name as own
 use Rattle.ae_parse.specs.Number.{is_numeral, numeral_value}
 use Rattle.ae_seq.specs.Typing.{where_ok, ◌>>=◌}
 use Rattle.ae_parse.specs.Parts.{is_mark}
@@ -87,12 +86,12 @@ const_rest type ws = codes "=" ∷ codes "const" ∷ type ∷ ws
 
 -- a constant's line, by its words
 abbrev pub by_words : (n : ℕ) → Known → Part → (name type : List ℕ) → Option (List ℕ) → Option State
-by_words n k p name type o = where_ok (bytes_eq (codes "=") (codes "=") && own.is_name name) (with_arguments [] (type_of k.version type >>= λ u. option_map (λ vs. const u vs) o) >>= node_with n k p name)
+by_words n k p name type o = where_ok (bytes_eq (codes "=") (codes "=") && is_name name) (with_arguments [] (type_of k.version type >>= λ u. option_map (λ vs. const u vs) o) >>= node_with n k p name)
 
 part-plain : (n : ℕ) (k : Known) (part : Option Part) (name type : List ℕ) (ws : List (List ℕ)) (t : State) → ItemsNamed part → by_part n k part name (const_rest type ws) ≡ Some t → by_part n k part name (const_rest type (map plain ws)) ≡ Some t
 part-plain n k None name type ws t h e =
     let a = where-some (bytes_eq name (codes "fn") && not k.closed) (begin_named n k (codes "=") (codes "const" ∷ type ∷ ws)) t e in
-    let b = where-some (own.is_name (codes "=")) (params_of k.version (codes "const" ∷ type ∷ ws) >>= begun n k (codes "=")) t a.1 in
+    let b = where-some (is_name (codes "=")) (params_of k.version (codes "const" ∷ type ∷ ws) >>= begun n k (codes "=")) t a.1 in
     let bad : true ≡ false = sym b.0 in
     absurd cc
 part-plain n k (Some p) name type ws t h e = by (bytes_eq name (codes "end")) e

@@ -70,14 +70,15 @@ fn begins_with_letter(bytes: &[u8]) -> bool
     }
 }
 
-fn is_name(bytes: &[u8]) -> bool
+/// Whether the bytes are a name: 1 to 32 letters, digits and `_`, the first no digit, and neither `fn` nor `end`.
+pub fn is_name(bytes: &[u8]) -> bool
     ensures { result ≡ is_name bytes.now }
 {
     bytes.len() <= 32
         && begins_with_letter(bytes)
         && all_name_bytes(bytes)
-        && !same_bytes(bytes, &[102, 110])
-        && !same_bytes(bytes, &[101, 110, 100])
+        && !same_bytes(bytes, b"fn")
+        && !same_bytes(bytes, b"end")
 }
 
 fn named_params(params: &[Param]) -> bool
@@ -263,7 +264,8 @@ fn is_line(version: u32, funcs: usize, op: &Op) -> bool
     }
 }
 
-fn has_arguments(op: &Op, count: usize) -> bool
+/// Whether a line of the operator has so many arguments.
+pub fn has_arguments(op: &Op, count: usize) -> bool
     ensures { result ≡ has_arguments (op_tree op.now) count }
 {
     match op {

@@ -7,4 +7,5 @@ mod line_type;
 mod program;
 
 pub use checker::{CheckFault, Typed, check};
+pub use formed::{has_arguments, is_name};
 pub use program::{Func, Node, Op, Param, Program};

@@ -6,7 +6,8 @@ use crate::layouts::{tell_case, tell_layouts, tell_origins};
 use crate::programs::LONGEST;
 use crate::replaced::tell_replaced;
 use crate::spelled::{bytes_of, number_at, word_at};
-use ae_parse::{Scope, is_name, name_text, number, parse, plain_number, read_rows, split};
+use ae_parse::{Scope, name_text, number, parse, plain_number, read_rows, split};
+use ae_seq::is_name;
 use std::alloc::{AllocError, Global};
 
 /// Answers a line by what the case's head asks.
