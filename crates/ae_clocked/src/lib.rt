@@ -12,3 +12,4 @@ mod row;
 pub use clocks::{Clocks, Phase};
 pub use gates::{choose, close, constant, delayed, equal, less, operate, register, sum, width_at};
 pub use lines::{Tapped, line, ring_line};
+pub use ring::{Ring, look, ring_depth, store};

@@ -22,8 +22,8 @@ pub struct Ring {
     pub bits: u32,
 }
 
-/// How many words a ring holds.
-fn places(bits: u32) -> u32
+/// How many words a ring holds whose counter has so many bits.
+pub fn ring_depth(bits: u32) -> u32
     requires { bits ≤ 12 }
     ensures holds { result ≡ 2 ^ bits }
     ensures some { 1 ≤ result }
@@ -33,7 +33,13 @@ fn places(bits: u32) -> u32
 }
 
 /// Adds a memory that takes the word of `x` in every clock, at the place that `at` shows.
-fn store(nl: &mut Netlist, x: NetId, at: NetId, width: u32, bits: u32) -> Result<NetId, NetFault>
+pub fn store(
+    nl: &mut Netlist,
+    x: NetId,
+    at: NetId,
+    width: u32,
+    bits: u32,
+) -> Result<NetId, NetFault>
     requires low { 1 ≤ width }
     requires high { width ≤ 64 }
     requires few { bits ≤ 12 }
@@ -48,14 +54,14 @@ fn store(nl: &mut Netlist, x: NetId, at: NetId, width: u32, bits: u32) -> Result
 {
     let always = constant(nl, 1, 1)?;
     nl.formed();
-    let depth = places(bits);
+    let depth = ring_depth(bits);
     let m = nl.memory(width, depth)?;
     nl.connect_memory(m, at, x, always);
     Ok(m)
 }
 
 /// Adds the word of a memory at the place that `at` shows.
-fn look(nl: &mut Netlist, m: NetId, at: NetId, width: u32, bits: u32) -> Result<NetId, NetFault>
+pub fn look(nl: &mut Netlist, m: NetId, at: NetId, width: u32, bits: u32) -> Result<NetId, NetFault>
     requires low { 1 ≤ width }
     requires high { width ≤ 64 }
     requires memory { IsMemory nl.old.cells m.0 width (2 ^ bits) }
@@ -88,7 +94,7 @@ fn behind(nl: &mut Netlist, ring: Ring, width: u32, tap: u32) -> Result<NetId, N
     ensures net { IfOk result (λ y. IsNet nl.new.cells y.0 width) }
     ensures tap { IfOk result (λ y. (rst x : ℕ) → IsRing nl.old.cells rst ring.bits x ring.counter.0 ring.memory.0 → IsTap nl.new.cells rst width x tap y.0) }
 {
-    let all = places(ring.bits);
+    let all = ring_depth(ring.bits);
     let back = constant(nl, ring.bits, u64::from(all - tap))?;
     let place = sum(nl, ring.counter, back, ring.bits)?;
     look(nl, ring.memory, place, width, ring.bits)
@@ -166,7 +172,7 @@ pub fn make_ring(
     ensures ring { IfOk result (λ ring. HoldsRing nl.new.cells clocks.old.rst width x.0 reach ring) }
 {
     let bits = bits_for(reach);
-    let depth = places(bits);
+    let depth = ring_depth(bits);
     let counter = clocks.phase(nl, depth, 0)?;
     let memory = store(nl, x, counter, width, bits)?;
     Ok(Ring {

@@ -8,7 +8,7 @@ use Rattle.ae_netlist.specs.declared.cell.SizedCell.{SizedCell}
 use Rattle.ae_netlist.specs.Circuit.{Extends, IsMemory, IsNet}
 use Rattle.ae_netlist.proofs.Gets.{get_push_cases, get_left, get_pushed}
 use Rattle.ae_netlist.proofs.Growing.{extends_trans, net_later, net_width}
-use Rattle.ae_gather.specs.declared.rings.Ring.{Ring}
+use Rattle.ae_clocked.specs.declared.ring.Ring.{Ring}
 use Rattle.ae_clocked.proofs.Making.{ring_grows}
 use Rattle.ae_gather.specs.declared.reads.Reads.{Reads}
 use Rattle.ae_gather.specs.Columns.{net_of}

@@ -6,18 +6,9 @@ ghost use Rattle.ae_gather.specs.Plans.{AreWithin, IsIn, IsReached};
 ghost use Rattle.ae_gather.specs.Reads.{ArePlaced, IsPlaceOf, is_read, placed, read_source, read_trip};
 
 use crate::reads::Reads;
+use ae_clocked::ring_depth;
 use ae_moves::{Source, Trip};
 use std::alloc::{AllocError, Global};
-
-/// How many places a ring has.
-pub fn turn(bits: u32) -> u32
-    requires { bits ≤ 12 }
-    ensures holds { result ≡ 2 ^ bits }
-    ensures some { 1 ≤ result }
-    ensures most { result ≤ 4096 }
-{
-    1u32 << bits
-}
 
 /// Whether the word that a column has in a clock is read from its ring for an output column, in the clock in which it is due.
 fn is_read(reads: &Reads, due: u32, clock: u32, column: u32, q: u32) -> bool
@@ -32,7 +23,7 @@ fn is_read(reads: &Reads, due: u32, clock: u32, column: u32, q: u32) -> bool
         Some(x) => {
             x == column
                 && (reads.rings[column as usize]
-                    && (clock + 2 <= due && due <= clock + turn(reads.bits)))
+                    && (clock + 2 <= due && due <= clock + ring_depth(reads.bits)))
         }
         None => false,
     }
@@ -116,7 +107,7 @@ fn place(source: Source, reads: &Reads, due: u32, q: u32, before: u32) -> u32
     match source {
         Source::Place { clock, column } => {
             if is_read(reads, due, clock, column, q) {
-                turn(reads.bits) - (due - clock - 1)
+                ring_depth(reads.bits) - (due - clock - 1)
             } else {
                 before
             }

@@ -2,58 +2,13 @@
 
 ghost use Rattle.std.specs.Prelude.{◌≡◌, ◌≤◌, ◌+◌, ◌^◌, ℕ, length, IfOk, OnOk};
 ghost use Rattle.ae_netlist.specs.Circuit.{IsMemory, IsNet};
-ghost use Rattle.ae_netlist.specs.Runs.{InEveryRunFrom};
 ghost use Rattle.ae_clocked.specs.Signals.{Adds, IsFullAt};
 ghost use Rattle.ae_clocked.specs.Phases.{Belongs, KeepsCounters};
-ghost use Rattle.ae_clocked.specs.Rings.{AddsMemories, IsLook, IsRing, IsStore};
+ghost use Rattle.ae_clocked.specs.Rings.{AddsMemories, IsRing};
 ghost use Rattle.ae_gather.specs.Readers.{IsReader, RingOf};
 
-use crate::places::turn;
-use ae_clocked::{Clocks, constant, delayed, sum};
-use ae_netlist::{Cell, NetFault, NetId, Netlist};
-
-/// A memory of 2 to `bits` words, and the counter of its places at which it is written.
-#[derive(Clone, Copy, Debug)]
-pub struct Ring {
-    pub memory: NetId,
-    pub counter: NetId,
-    pub bits: u32,
-}
-
-/// Adds a memory that takes the word of `x` in every clock, at the place that `at` shows.
-fn store(nl: &mut Netlist, x: NetId, at: NetId, width: u32, bits: u32) -> Result<NetId, NetFault>
-    requires low { 1 ≤ width }
-    requires high { width ≤ 64 }
-    requires few { bits ≤ 12 }
-    requires net { IsNet nl.old.cells x.0 width }
-    requires place { IsNet nl.old.cells at.0 bits }
-    ensures adds { AddsMemories nl.old nl.new 2 1 }
-    ensures full { IsFullAt result nl.new }
-    ensures memory { IfOk result (λ m. IsMemory nl.new.cells m.0 width (2 ^ bits)) }
-    ensures store { IfOk result (λ m. InEveryRunFrom (length nl.old.cells) nl.new.cells (λ run. IsStore run m.0 at.0 x.0 (2 ^ bits))) }
-{
-    let always = constant(nl, 1, 1)?;
-    nl.formed();
-    let depth = turn(bits);
-    let m = nl.memory(width, depth)?;
-    nl.connect_memory(m, at, x, always);
-    Ok(m)
-}
-
-/// Adds the word of a memory at the place that `at` shows.
-fn look(nl: &mut Netlist, m: NetId, at: NetId, width: u32, bits: u32) -> Result<NetId, NetFault>
-    requires low { 1 ≤ width }
-    requires high { width ≤ 64 }
-    requires memory { IsMemory nl.old.cells m.0 width (2 ^ bits) }
-    requires place { IsNet nl.old.cells at.0 bits }
-    ensures adds { Adds nl.old nl.new 1 0 }
-    ensures full { IsFullAt result nl.new }
-    ensures net { IfOk result (λ y. IsNet nl.new.cells y.0 width) }
-    ensures words { IfOk result (λ y. InEveryRunFrom (length nl.old.cells) nl.new.cells (λ run. IsLook run y.0 m.0 at.0)) }
-{
-    nl.formed();
-    nl.add(width, Cell::Peek { mem: m, at })
-}
+use ae_clocked::{Clocks, Ring, delayed, look, ring_depth, store, sum};
+use ae_netlist::{NetFault, NetId, Netlist};
 
 /// A ring of the words of a net, with so many bits for its places. Rings of one depth share their counter.
 pub fn make_ring(
@@ -75,7 +30,7 @@ pub fn make_ring(
     ensures full { IsFullAt result nl.new }
     ensures ring { IfOk result (λ ring. RingOf nl.new.cells clocks.old.rst bits x.0 ring) }
 {
-    let depth = turn(bits);
+    let depth = ring_depth(bits);
     let counter = clocks.phase(nl, depth, 0)?;
     let memory = store(nl, x, counter, width, bits)?;
     Ok(Ring {

@@ -7,7 +7,7 @@ use Rattle.ae_clocked.proofs.Making.{counter_net, counter_counts, memories_after
 use Rattle.ae_gather.proofs.rings.make_ring.Goals as goal
 
 pub store-requires-clause-place : goal.store-requires-clause-place
-store-requires-clause-place c = counter_net _ _ _ c.args.bits _ c.turn-depth.ensures.holds c.requires.some c.in_ok-counter.ensures.counts
+store-requires-clause-place c = counter_net _ _ _ c.args.bits _ c.ring_depth-depth.ensures.holds c.requires.some c.in_ok-counter.ensures.counts
 
 pub store-requires-clause-net : goal.store-requires-clause-net
 store-requires-clause-net c = net_later c.in_ok-counter.ensures.adds.grows.extends c.requires.net
@@ -35,8 +35,8 @@ returns-clause-keeps c = phase_keeps _ _ _ c.in_ok-counter.counter c.in_ok-count
 
 pub returns-clause-ring : goal.returns-clause-ring
 returns-clause-ring c =
-    let place = counter_net _ _ _ c.args.bits _ c.turn-depth.ensures.holds c.requires.some c.in_ok-counter.ensures.counts in
-    let counts = counter_counts _ _ _ c.args.bits _ c.turn-depth.ensures.holds c.in_ok-counter.ensures.counts in
+    let place = counter_net _ _ _ c.args.bits _ c.ring_depth-depth.ensures.holds c.requires.some c.in_ok-counter.ensures.counts in
+    let counts = counter_counts _ _ _ c.args.bits _ c.ring_depth-depth.ensures.holds c.in_ok-counter.ensures.counts in
     let grows = c.in_ok-memory.ensures.adds.grows.extends in
     record {
       width = c.args.width;
