@@ -55,7 +55,7 @@ drive_tree d = record { name = string_bytes d.name; value = expr_tree d.value }
 abbrev pub item_tree : VItem → ItemTree
 item_tree (Nets drives) = nets (map drive_tree drives.items)
 item_tree (Assign drives) = assigns (map drive_tree drives.items)
-item_tree (Always clock body) = always (string_bytes clock) (stmt_tree body)
+item_tree (Always clock body) = always (string_bytes clock) (stmt_tree body.value)
 
 abbrev pub module_tree : VModule → ModuleTree
 module_tree m = record { name = string_bytes m.name; nets = map net_tree m.nets.items; items = map item_tree m.items.items }

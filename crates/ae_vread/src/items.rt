@@ -164,9 +164,10 @@ fn always_from<'t, 'a>(
     let (clock, behind) = clock_from(tokens)?;
     let clock = String::from_str(alloc, clock)?;
     let StmtFound { tree, rest, .. } = whole_statement(alloc, behind)?;
+    let body = Box::new(alloc, tree)?;
     Ok(ItemFound {
         nets: Vec::new(alloc),
-        item: VItem::Always { clock, body: tree },
+        item: VItem::Always { clock, body },
         rest,
     })
 }

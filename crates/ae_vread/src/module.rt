@@ -36,7 +36,7 @@ pub enum VItem {
     /// A declaration: the names that it gives a value.
     Nets(Vec<Drive>),
     Assign(Vec<Drive>),
-    Always { clock: String, body: Stmt },
+    Always { clock: String, body: Box<Stmt> },
 }
 
 #[derive(Debug, Drop)]

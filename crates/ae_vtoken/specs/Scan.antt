@@ -17,7 +17,7 @@ token_view (Word k) = t.Word k
 token_view Unused = t.Unused
 token_view Zero = t.Zero
 token_view (Decimal n) = t.Decimal n
-token_view (Sized size value fits) = t.Sized size value fits
+token_view (Sized value size fits) = t.Sized size value fits
 token_view (Mark s) = t.Mark s
 
 abbrev pub views : List Token → List TokenTree
