@@ -12,6 +12,7 @@ pub mod Budgets
 pub mod Reached
 pub mod Planning
 pub mod Whole
+mod Few
 mod Accepted
 mod WordKinds
 mod Used

@@ -1,6 +1,6 @@
 // The schedule of a program.
 
-ghost use Rattle.std.specs.Prelude.{◌≡◌, ◌<◌, ◌≤◌, ◌+◌, ◌-◌, ◌^◌, ◌++◌, [], ◌∷◌, ℕ, IfOk, OnOk, IsTrue, Some, None, Err, length, map, slice_get, take};
+ghost use Rattle.std.specs.Prelude.{◌≡◌, ◌<◌, ◌≤◌, ◌+◌, ◌-◌, ◌*◌, ◌++◌, [], ◌∷◌, ℕ, IfOk, OnOk, IsTrue, Some, None, Err, length, map, slice_get, take};
 ghost use Rattle.ae_seq.specs.ProgramTree.{program_tree};
 ghost use Rattle.ae_seq.specs.Formed.{formed};
 ghost use Rattle.ae_rewrite.specs.StProgramTree.{st_func_trees, st_func_tree};
@@ -48,17 +48,15 @@ impl<T: Drop> From<AllocFailed<T>> for PlanFault {
 }
 
 // One more instance, and its number.
-fn append(instances: &mut Vec<StFunc>, instance: StFunc) -> Result<u32, PlanFault>
+fn append(instances: &mut Vec<StFunc>, instance: StFunc) -> Result<u32, AllocError>
+    requires few { length instances.old.items < 4096 * 4096 }
     ensures number { IfOk result (λ k. k ≡ length instances.old.items) }
     ensures items { OnOk result (st_func_trees instances.new.items ≡ st_func_trees instances.old.items ++ st_func_tree instance ∷ []) }
-    ensures few { OnOk result (length instances.new.items < 2 ^ 32) }
-    ensures fails { (line : ℕ) → result ≡ Err (PlanFault.NoSchedule line) → ⊥ }
+    ensures more { OnOk result (length instances.new.items ≡ length instances.old.items + 1) }
 {
-    let Ok(count) = u32::try_from(instances.len() + 1) else {
-        return Err(PlanFault::Memory);
-    };
+    let number = instances.len() as u32;
     instances.push(instance)?;
-    Ok(count - 1)
+    Ok(number)
 }
 
 // The plan of a function under the budget; its instance is kept, if there is one.
@@ -76,6 +74,8 @@ fn plan_one(
     requires formed { IsTrue (formed (program_tree p.now)) }
     requires known { AreCallsKnown (program_tree p.now) func budget (row_lists rows.now) }
     requires sound { AreSound (program_tree p.now) (row_lists rows.now) }
+    requires few { length instances.old.items < 4096 * 4096 }
+    ensures few { OnOk result (length instances.new.items ≤ length instances.old.items + 1) }
     ensures made { IfOk result (λ plan. IsMade (program_tree p.now) (row_lists rows.now) func budget plan (st_func_trees instances.old.items) (st_func_trees instances.new.items)) }
     ensures failing { IfOk result (λ plan. IsFailing (program_tree p.now) func budget plan) }
     ensures fails { (line : ℕ) → result ≡ Err (PlanFault.NoSchedule line) → ⊥ }
@@ -106,6 +106,8 @@ fn plan_budgets(
     requires once { IsEachOnce budgets.now }
     requires next { func ≡ length rows.now }
     requires plans { Plans (program_tree p.now) (row_lists rows.now) (st_func_trees instances.old.items) }
+    requires few { length instances.old.items + length budgets.now ≤ 4096 * 4096 }
+    ensures few { OnOk result (length instances.new.items ≤ length instances.old.items + length budgets.now) }
     ensures plans { IfOk result (λ own. Plans (program_tree p.now) (row_lists rows.now ++ own.items ∷ []) (st_func_trees instances.new.items)) }
     ensures budgets { IfOk result (λ own. row_budgets own.items ≡ budgets.now) }
     ensures fails { (line : ℕ) → result ≡ Err (PlanFault.NoSchedule line) → ⊥ }
@@ -134,6 +136,7 @@ fn plan_all(
     requires formed { IsTrue (formed (program_tree p.now)) }
     requires reaches { Reaches (program_tree p.now) slowdown 0 (number_lists needs.now) }
     requires empty { instances.old.items ≡ [] }
+    ensures few { OnOk result (length instances.new.items < 4096 * 4096) }
     ensures plans { IfOk result (λ rows. Plans (program_tree p.now) (row_lists rows.items) (st_func_trees instances.new.items)) }
     ensures budgets { IfOk result (λ rows. all_row_budgets (row_lists rows.items) ≡ number_lists needs.now) }
     ensures fails { (line : ℕ) → result ≡ Err (PlanFault.NoSchedule line) → ⊥ }

@@ -34,8 +34,10 @@ fn hold_register(
     requires most { length nl.now.cells ≤ 1000000 }
     requires few { how.more ≤ 1000000 }
     requires held { (copied : List SizedCell) × IsPartlyHeld how.more how.by.0 nl.now.cells copied new.old.cells n }
+    requires room { length new.old.cells < new.old.limit }
     ensures held { OnOk result ((copied : List SizedCell) → IsPartlyHeld how.more how.by.0 nl.now.cells copied new.old.cells n → IsPartlyHeld how.more how.by.0 nl.now.cells copied new.new.cells (n + 1)) }
     ensures outlets { OnOk result (new.new.outlets ≡ new.old.outlets) }
+    ensures limit { OnOk result (new.new.limit ≡ new.old.limit) }
 {
     nl.formed();
     new.formed();
@@ -62,8 +64,10 @@ fn hold_memory(
     requires most { length nl.now.cells ≤ 1000000 }
     requires few { how.more ≤ 1000000 }
     requires held { (copied : List SizedCell) × IsPartlyHeld how.more how.by.0 nl.now.cells copied new.old.cells n }
+    requires room { length new.old.cells < new.old.limit }
     ensures held { OnOk result ((copied : List SizedCell) → IsPartlyHeld how.more how.by.0 nl.now.cells copied new.old.cells n → IsPartlyHeld how.more how.by.0 nl.now.cells copied new.new.cells (n + 1)) }
     ensures outlets { OnOk result (new.new.outlets ≡ new.old.outlets) }
+    ensures limit { OnOk result (new.new.limit ≡ new.old.limit) }
 {
     nl.formed();
     new.formed();
@@ -83,8 +87,10 @@ fn hold_cell(nl: &Netlist, how: HoldBy, n: u32, new: &mut Netlist) -> Result<(),
     requires most { length nl.now.cells ≤ 1000000 }
     requires few { how.more ≤ 1000000 }
     requires held { (copied : List SizedCell) × IsPartlyHeld how.more how.by.0 nl.now.cells copied new.old.cells n }
+    requires room { length new.old.cells < new.old.limit }
     ensures held { OnOk result ((copied : List SizedCell) → IsPartlyHeld how.more how.by.0 nl.now.cells copied new.old.cells n → IsPartlyHeld how.more how.by.0 nl.now.cells copied new.new.cells (n + 1)) }
     ensures outlets { OnOk result (new.new.outlets ≡ new.old.outlets) }
+    ensures limit { OnOk result (new.new.limit ≡ new.old.limit) }
 {
     let sized = cell_at(nl, NetId(n));
     match sized.cell {
@@ -110,8 +116,10 @@ pub fn hold_all(nl: &Netlist, how: HoldBy, new: &mut Netlist) -> Result<(), Allo
     requires most { length nl.now.cells ≤ 1000000 }
     requires few { how.more ≤ 1000000 }
     requires may { MayBeHeld how.more how.by.0 nl.now.cells new.old.cells }
+    requires room { length new.old.cells + length nl.now.cells ≤ new.old.limit + 1 }
     ensures held { OnOk result (IsPartlyHeld how.more how.by.0 nl.now.cells new.old.cells new.new.cells (length nl.now.cells)) }
     ensures outlets { OnOk result (new.new.outlets ≡ new.old.outlets) }
+    ensures limit { OnOk result (new.new.limit ≡ new.old.limit) }
 {
     for n in 1..nl.len() {
         hold_cell(nl, how, n, new)?;
@@ -120,12 +128,13 @@ pub fn hold_all(nl: &Netlist, how: HoldBy, new: &mut Netlist) -> Result<(), Allo
 }
 
 /// Holds the copy of a netlist: its registers and memories stay as they are in clocks in which the net is 0, and all other
-/// cells stay as they are. The error comes only for want of memory, or of room for a gate a register and a memory.
+/// cells stay as they are. There is room for a gate a register and a memory, and the error comes only for want of memory.
 pub fn hold_copy(nl: &Netlist, how: HoldBy, new: &mut Netlist) -> Result<(), AllocError>
     requires reset { slice_get nl.now.cells 0 ≡ Some reset_cell }
     requires most { length nl.now.cells ≤ 1000000 }
     requires few { how.more ≤ 1000000 }
     requires may { MayBeHeld how.more how.by.0 nl.now.cells new.old.cells }
+    requires room { length new.old.cells + length nl.now.cells ≤ new.old.limit + 1 }
     ensures { OnOk result (IsHeld how.more how.by.0 nl.now new.old new.new) }
 {
     nl.formed();

@@ -1,18 +1,19 @@
 // Cells added to the copy.
 
-ghost use Rattle.std.specs.Prelude.{◌≡◌, ◌≤◌, ◌++◌, ◌∷◌, [], IfOk, OnOk, length};
+ghost use Rattle.std.specs.Prelude.{◌≡◌, ◌<◌, ◌≤◌, ◌++◌, ◌∷◌, [], IfOk, OnOk, length};
 ghost use Rattle.ae_netlist.specs.Circuit.{IsNet, IsWritten};
 ghost use Rattle.ae_tidy.specs.Copies.{HasDepth, MayFollow};
 ghost use Rattle.ae_tidy.specs.Images.{fresh_cell};
 
-use ae_netlist::{Cell, NetId, Netlist, SizedCell};
+use ae_netlist::{Cell, NetFault, NetId, Netlist, SizedCell};
 use std::alloc::AllocError;
 
-/// Adds a memory as deep as this one, or a register in any other's place, that is connected later.
+/// Adds a memory as deep as this one, or a register in any other's place, that is connected later; there is room for it.
 pub fn add_late(nl: &mut Netlist, width: u32, cell: Cell) -> Result<NetId, AllocError>
     requires low { 1 ≤ width }
     requires high { width ≤ 64 }
     requires depth { HasDepth cell }
+    requires room { length nl.old.cells < nl.old.limit }
     ensures net { IfOk result (λ n. n ≡ record { 0 = length nl.old.cells }) }
     ensures added { OnOk result (nl.new ≡ record nl.old { cells = nl.old.cells ++ (record { width = width; cell = fresh_cell (length nl.old.cells) cell }) ∷ [] }) }
 {
@@ -22,15 +23,17 @@ pub fn add_late(nl: &mut Netlist, width: u32, cell: Cell) -> Result<NetId, Alloc
     };
     match added {
         Ok(net) => Ok(net),
-        Err(_) => Err(AllocError),
+        Err(NetFault::Full) => unreachable!(),
+        Err(NetFault::Memory) => Err(AllocError),
     }
 }
 
-/// Adds a register that is connected at once.
+/// Adds a register, for which there is room, that is connected at once.
 fn add_register(nl: &mut Netlist, width: u32, next: NetId) -> Result<NetId, AllocError>
     requires low { 1 ≤ width }
     requires high { width ≤ 64 }
     requires next { IsNet nl.old.cells next.0 width }
+    requires room { length nl.old.cells < nl.old.limit }
     ensures net { IfOk result (λ n. n ≡ record { 0 = length nl.old.cells }) }
     ensures added { OnOk result (nl.new ≡ record nl.old { cells = nl.old.cells ++ (record { width = width; cell = Cell.Reg next }) ∷ [] }) }
 {
@@ -39,7 +42,7 @@ fn add_register(nl: &mut Netlist, width: u32, next: NetId) -> Result<NetId, Allo
     Ok(net)
 }
 
-/// Adds a memory that is connected at once.
+/// Adds a memory, for which there is room, that is connected at once.
 fn add_memory(
     nl: &mut Netlist,
     width: u32,
@@ -53,6 +56,7 @@ fn add_memory(
     requires some { 1 ≤ depth }
     requires most { depth ≤ 65536 }
     requires written { IsWritten nl.old.cells width depth at.0 next.0 enable.0 }
+    requires room { length nl.old.cells < nl.old.limit }
     ensures net { IfOk result (λ n. n ≡ record { 0 = length nl.old.cells }) }
     ensures added { OnOk result (nl.new ≡ record nl.old { cells = nl.old.cells ++ (record { width = width; cell = Cell.Mem depth at next enable }) ∷ [] }) }
 {
@@ -67,11 +71,12 @@ fn add_memory(
     Ok(net)
 }
 
-/// Adds a cell on nets that are there.
+/// Adds a cell, for which there is room, on nets that are there.
 pub fn append(nl: &mut Netlist, sized: SizedCell) -> Result<NetId, AllocError>
     requires low { 1 ≤ sized.width }
     requires high { sized.width ≤ 64 }
     requires follows { MayFollow nl.old.cells sized.width sized.cell }
+    requires room { length nl.old.cells < nl.old.limit }
     ensures net { IfOk result (λ n. n ≡ record { 0 = length nl.old.cells }) }
     ensures added { OnOk result (nl.new ≡ record nl.old { cells = nl.old.cells ++ sized ∷ [] }) }
 {
@@ -86,7 +91,8 @@ pub fn append(nl: &mut Netlist, sized: SizedCell) -> Result<NetId, AllocError>
         _ => {
             match nl.add(sized.width, sized.cell) {
                 Ok(net) => Ok(net),
-                Err(_) => Err(AllocError),
+                Err(NetFault::Full) => unreachable!(),
+                Err(NetFault::Memory) => Err(AllocError),
             }
         }
     }

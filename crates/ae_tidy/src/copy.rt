@@ -29,6 +29,7 @@ fn copy_kept(
     requires marked { AreMarked nl.now keep.now }
     requires kept { IsKept keep.now n }
     requires copied { IsCopied nl.now.cells keep.now new.old.cells table.old.at.items table.old.made.items n 0 }
+    requires room { new.old.limit ≡ length nl.now.cells }
     ensures copied { OnOk result (IsCopied nl.now.cells keep.now new.new.cells table.new.at.items table.new.made.items (n + 1) 0) }
     ensures limit { OnOk result (new.new.limit ≡ new.old.limit) }
     ensures outlets { OnOk result (new.new.outlets ≡ new.old.outlets) }
@@ -66,6 +67,7 @@ fn copy_cell(
     requires below { n < length nl.now.cells }
     requires marked { AreMarked nl.now keep.now }
     requires copied { IsCopied nl.now.cells keep.now new.old.cells table.old.at.items table.old.made.items n 0 }
+    requires room { new.old.limit ≡ length nl.now.cells }
     ensures copied { OnOk result (IsCopied nl.now.cells keep.now new.new.cells table.new.at.items table.new.made.items (n + 1) 0) }
     ensures limit { OnOk result (new.new.limit ≡ new.old.limit) }
     ensures outlets { OnOk result (new.new.outlets ≡ new.old.outlets) }

@@ -1,8 +1,9 @@
-use Rattle.std.proofs.Common.{◌≤◌, arith, rules}
+use Rattle.std.proofs.Common.{◌≤◌, length, ap, arith, rules}
 use Rattle.std.proofs.lemmas.List.{length-map}
 use Rattle.ae_seq.specs.ProgramTree.{program_tree}
 use Rattle.ae_rewrite.specs.Planned.{row_lists, number_lists}
 use Rattle.ae_rewrite.specs.StProgramTree.{st_func_trees}
+use Rattle.ae_rewrite.proofs.Few.{few-budgets}
 use Rattle.ae_rewrite.proofs.Forms.{few-funcs}
 use Rattle.ae_rewrite.proofs.Whole.{all-more, number-list, within-of, known-of}
 use Rattle.ae_rewrite.proofs.schedules.plan_all.Goals as goal
@@ -23,7 +24,7 @@ pub plan_budgets-requires-clause-known : goal.plan_budgets-requires-clause-known
 plan_budgets-requires-clause-known c =
     let at = number-list c.args.needs.now c.loop-f.f c.index-needs-f.result c.loop-f-test.true c.index-needs-f.is in
     rw (c.deref-in-loop-f.ensures.value, c.deref.ensures.value)
-    (λ i u is. known-of (program_tree c.args.p.now) c.args.slowdown c.loop-f.f u (number_lists c.args.needs.now) (row_lists c.loop-f.rows.items) c.requires.formed c.requires.reaches c.loop-f.invariant.are
+    (λ i u is. known-of (program_tree c.args.p.now) c.args.slowdown c.loop-f.f u (number_lists c.args.needs.now) (row_lists c.loop-f.rows.items) c.requires.formed c.requires.reaches c.loop-f.invariant.all.are
     (record { own = c.index-needs-f.result.items; here = at; at = i; is = is }))
 
 pub plan_budgets-requires-clause-once : goal.plan_budgets-requires-clause-once
@@ -31,9 +32,30 @@ plan_budgets-requires-clause-once c =
     let at = number-list c.args.needs.now c.loop-f.f c.index-needs-f.result c.loop-f-test.true c.index-needs-f.is in
     rw c.deref-in-loop-f.ensures.value (c.requires.reaches.once c.loop-f.f _ at)
 
+pub plan_budgets-requires-clause-few : goal.plan_budgets-requires-clause-few
+plan_budgets-requires-clause-few c =
+    let at = number-list c.args.needs.now c.loop-f.f c.index-needs-f.result c.loop-f-test.true c.index-needs-f.is in
+    let own = few-budgets c.index-needs-f.result.items (c.requires.reaches.once c.loop-f.f _ at)
+    (within-of (program_tree c.args.p.now) c.args.slowdown c.loop-f.f (number_lists c.args.needs.now) _ c.requires.time c.requires.limit c.requires.reaches at) in
+    let funcs = few-funcs (program_tree c.args.p.now) c.requires.formed in
+    let count = rw length-map at c.requires.reaches.count in
+    omega (arith, own, funcs, count, c.loop-f.invariant.few, c.loop-f-test.true, ap length c.deref-in-loop-f.ensures.value)
+
 pub loop-f-preserved : goal.loop-f-preserved
 loop-f-preserved c =
     let at = number-list c.args.needs.now c.loop-f.f c.index-needs-f.result c.loop-f-test.true c.index-needs-f.is in
-    rw c.in_ok-append_rows.ensures
-    (all-more (program_tree c.args.p.now) (number_lists c.args.needs.now) (row_lists c.loop-f.rows.items) c.in_ok-own.own.items (st_func_trees c.loop-f.instances.items) _ c.loop-f.f _ c.loop-f.invariant at
-    (rw c.deref.ensures.value at c.in_ok-own.ensures.plans) (rw c.deref-in-loop-f.ensures.value at c.in_ok-own.ensures.budgets))
+    let own = few-budgets c.index-needs-f.result.items (c.requires.reaches.once c.loop-f.f _ at)
+    (within-of (program_tree c.args.p.now) c.args.slowdown c.loop-f.f (number_lists c.args.needs.now) _ c.requires.time c.requires.limit c.requires.reaches at) in
+    record {
+      all =
+          rw c.in_ok-append_rows.ensures
+          (all-more (program_tree c.args.p.now) (number_lists c.args.needs.now) (row_lists c.loop-f.rows.items) c.in_ok-own.own.items (st_func_trees c.loop-f.instances.items) _ c.loop-f.f _ c.loop-f.invariant.all at
+          (rw c.deref.ensures.value at c.in_ok-own.ensures.plans) (rw c.deref-in-loop-f.ensures.value at c.in_ok-own.ensures.budgets));
+      few = omega (arith, own, c.loop-f.invariant.few, c.in_ok-own.ensures.few, ap length c.deref-in-loop-f.ensures.value);
+    }
+
+pub returns-clause-few : goal.returns-clause-few
+returns-clause-few c =
+    let funcs = few-funcs (program_tree c.args.p.now) c.requires.formed in
+    let count = rw length-map at c.requires.reaches.count in
+    omega (arith, funcs, count, c.loop-f.invariant.few)

@@ -8,4 +8,5 @@ invariant-loop-k l = record {
   all : l.k-end ≡ length l.ports;
   cells : l.new.cells ≡ reset_cell ∷ map bit_input (take l.k l.ports);
   outlets : l.new.outlets ≡ l.fn.new.outlets;
+  limit : l.new.limit ≡ l.fn.new.limit;
 }

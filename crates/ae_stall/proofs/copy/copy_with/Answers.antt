@@ -8,4 +8,5 @@ loop-n-init c = record {
   all = c.len-n-end.ensures;
   copied = rw c.in_ok-begin.ensures.cells (copied_none c.args.ports.now c.args.nl.now.cells c.requires.reset);
   outlets = c.in_ok-begin.ensures.outlets ∙ ap (λ v. v.outlets) c.new-new.ensures;
+  limit = c.in_ok-begin.ensures.limit ∙ ap (λ v. v.limit) c.new-new.ensures;
 }

@@ -7,4 +7,5 @@ invariant-loop-n l = record {
   all : l.n-end ≡ length l.nl.cells;
   held : IsPartlyHeld l.how.more l.how.by.0 l.nl.cells l.fn.new.cells l.new.cells l.n;
   outlets : l.new.outlets ≡ l.fn.new.outlets;
+  limit : l.new.limit ≡ l.fn.new.limit;
 }

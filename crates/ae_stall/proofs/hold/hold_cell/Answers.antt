@@ -12,4 +12,5 @@ pub returns-in_default : goal.returns-in_default
 returns-in_default c = record {
   held = λ copied part. held_other c.args.how.more c.args.how.by.0 c.args.nl.now.cells copied c.args.new.now.cells c.args.n c.cell_at-sized.result c.cell_at-sized.ensures c.in_default.not-Reg c.in_default.not-Mem part;
   outlets = refl;
+  limit = refl;
 }
