@@ -1,80 +1,83 @@
 -- The labels of a node, by those of its arguments.
-use Rattle.std.proofs.Common.{◌≡◌, ℕ, zero, suc, ◌+◌, ◌-◌, ◌*◌, ◌/◌, ◌%◌, ◌<◌, ◌≤◌, Bool, true, false, cond, nat_lt, List, [], ◌∷◌, ◌++◌, length, take, drop, map, Some, slice_get, slice_index, refl, arith, sym, ap, ◌∙◌, subst, append_assoc, length-append, length-drop, if◌then◌else◌}
+use Rattle.std.proofs.Common.{◌≡◌, ℕ, zero, suc, ◌+◌, ◌-◌, ◌*◌, ◌/◌, ◌%◌, ◌<◌, ◌≤◌, Bool, true, false, inl, inr, cond, nat_lt, List, [], ◌∷◌, ◌++◌, length, take, drop, map, Some, slice_get, slice_index, refl, arith, sym, ap, ◌∙◌, subst, append_assoc, length-append, length-drop, if◌then◌else◌}
 use Rattle.std.specs.Prelude.{flat_map}
 use Rattle.std.specs.List.{range_with_len}
 use Rattle.std.proofs.Math.Nat.{mul-le-mul_right}
-use Rattle.std.proofs.lemmas.Nat.{mul-add-lt, div_below, mod_below}
+use Rattle.std.proofs.lemmas.Bool.{cases_lt, le-ltb}
+use Rattle.std.proofs.lemmas.Nat.{div-add-mod', mod-mul-add, mod_below, mul-add-lt}
 use Rattle.std.proofs.lemmas.Grind.{flat_map-append}
-use Rattle.std.proofs.lemmas.List.{append-nil, map_push, length-map, length-take-le}
+use Rattle.std.proofs.lemmas.List.{append-nil, length-map, length-take-le}
 use Rattle.std.proofs.lemmas.List.Concat.{flat_map-cons}
 use Rattle.std.proofs.lemmas.List.FromFn.{length-map-range_with_len}
-use Rattle.std.proofs.lemmas.Option.{get_or_from_slice_get, same_Some}
+use Rattle.std.proofs.lemmas.Option.{same_Some}
 use Rattle.ae_word.specs.AtomTree.{atom_kinds, atom_words}
 use Rattle.ae_word.proofs.Sizes.{length-atom_kinds}
 use Rattle.ae_sttype.specs.StTree.{StTree, st_atoms, element_atom, element_words}
-use Rattle.ae_sttype.specs.Size.{IsInSize}
 use Rattle.ae_sttype.specs.Moves.{OriginTree, from_input, fixed}
-use Rattle.ae_sttype.proofs.Bounds.{atoms_pos, element_words_pos}
 use Rattle.ae_sttype.proofs.Places.{length-slots}
-use Rattle.ae_moves.specs.declared.trip.Origin.{Origin}
-use Rattle.ae_moves.specs.Trees.{origin_tree}
-use Rattle.ae_moves.proofs.Lists.{get_mapped, take_push}
+use Rattle.ae_trace.proofs.Natural.{map-map}
 use Rattle.ae_eval.specs.Stack.{paired}
 use Rattle.ae_eval.proofs.Windows.{paired-more}
 use Rattle.ae_rewrite.specs.declared.st_program.MoveOp.{MoveOp}
 use Rattle.ae_rewrite.specs.declared.st_program.MoveOp.TheVariants.{Shift, Up, Select, Same}
-use Rattle.ae_rewrite.specs.Sound.{IsMoveFrom, item_layout, item_layouts}
+use Rattle.ae_rewrite.specs.Sound.{item_layout, item_layouts}
 use Rattle.ae_rewrite.specs.StProgramTree.{StOpTree, StNodeTree, StFuncTree, join, first, second, move}
 use Rattle.ae_delay.specs.Moving.{op_move, origin_from, origin_number}
-use Rattle.ae_delay.proofs.Sourced.{numbered}
 use Rattle.ae_gather.specs.Gathers.{origin_word}
 use Rattle.ae_flow.specs.Flow.{layout_words, node_words, op_words, parts, words_at}
 use Rattle.ae_flow.specs.Fitted.{FitsFirst, FitsMove, FitsOp, FitsPair, FitsSecond}
-use Rattle.ae_fuse.specs.Labels.{IsOwnOrigin, IsReady, is_moving}
+use Rattle.ae_fuse.specs.Labels.{IsReady, is_moving, label_from}
 use Rattle.ae_fuse.proofs.NumberSteps.{range-push}
 
 -- ---- moves
 
-own-shifted : (n k c e j : ℕ) (b : Bool) → e < n → j < k → IsOwnOrigin n k (cond b (fixed 0) (from_input 0 (e - c) j))
-own-shifted n k c e j true l g = refl
-own-shifted n k c e j false l g = (refl, omega arith, g)
+shift-behind : (k w o : ℕ) → 0 < w → k * w ≤ o → k ≤ o / w
+shift-behind k w o some high = elim (cases_lt (o / w) k) [
+  | inl lt ↦ absurd (omega (arith, mul-add-lt (o / w) w (o % w) k lt (mod_below o w some), div-add-mod' o w, high))
+  | inr ge ↦ ge
+]
 
-own-from : (how : MoveOp) (n m k e j : ℕ) → 0 < n → IsMoveFrom how n m → e < m → j < k → IsOwnOrigin n k (origin_from how n m e j)
-own-from (Shift c) n m k e j pos from l g = own-shifted n k c e j (nat_lt e c) (omega (arith, from.0)) g
-own-from (Up c) n m k e j pos from l g = (refl, mod_below e n pos, g)
-own-from (Select c) n m k e j pos from l g = (refl, omega (arith, from), g)
-own-from Same n m k e j pos from l g = (refl, omega (arith, from), g)
+-- word o of what a shift makes, behind the words 0
+pub shifted-late : (ls : List ℕ) (k n m w o : ℕ) → 0 < w → k * w ≤ o → slice_index ls (o - k * w) ≡ label_from ls w (origin_from (Shift k) n m (o / w) (o % w))
+shifted-late ls k n m w o some high =
+    let late : k ≤ o / w = shift-behind k w o some high in
+    let e : k + (o / w - k) ≡ o / w = omega (arith, late) in
+    let size : k * w + (o / w - k) * w ≡ o / w * w = omega (arith, ap (λ q. q * w) e) in
+    let at : (o / w - k) * w + o % w ≡ o - k * w = omega (arith, size, div-add-mod' o w) in
+    ap (slice_index ls) (sym at) ∙ ap (λ b. label_from ls w (cond b (fixed 0) (from_input 0 (o / w - k) (o % w)))) (sym (le-ltb (o / w) k late))
 
--- each origin of a move is in its argument
-pub own-origin : (how : MoveOp) (a s : StTree) → IsInSize a → IsInSize s → FitsMove how a s → (o : ℕ) (x : OriginTree) → slice_get (op_move how a s).origins o ≡ Some x → IsOwnOrigin (st_atoms a) (element_words a) x
-own-origin how a s size out fits o x found =
-    let r = numbered (origin_number how a s) (st_atoms s * element_words s) o x found in
-    let w = element_words_pos s in
-    let same : element_words s ≡ element_words a = ap atom_words (sym fits.0) in
-    let element : o / element_words s < st_atoms s = div_below o (element_words s) (st_atoms s) w r.0 in
-    let word : o % element_words s < element_words s = mod_below o (element_words s) w in
-    subst (IsOwnOrigin (st_atoms a) (element_words a)) r.1
-    (own-from how (st_atoms a) (st_atoms s) (element_words a) (o / element_words s) (o % element_words s) (atoms_pos a size.lengths) fits.1 element (omega (arith, word, same)))
+-- the same of an up
+pub repeated-at : (ls : List ℕ) (c n m w o : ℕ) → 0 < n → 0 < w → slice_index ls (o % (n * w)) ≡ label_from ls w (origin_from (Up c) n m (o / w) (o % w))
+repeated-at ls c n m w o many some =
+    let e : ℕ = o / w % n in
+    let low : e * w + o % w < n * w = omega (arith, mul-add-lt e w (o % w) n (mod_below (o / w) n many) (mod_below o w some)) in
+    let rows : (o / w / n * n + e) * w ≡ o / w * w = ap (λ q. q * w) (div-add-mod' (o / w) n) in
+    let whole : o / w / n * (n * w) + (e * w + o % w) ≡ o = omega (arith, rows, div-add-mod' o w) in
+    let at : o % (n * w) ≡ e * w + o % w = ap (λ p. p % (n * w)) (sym whole) ∙ mod-mul-add (o / w / n) (n * w) (e * w + o % w) low in
+    ap (slice_index ls) at
 
-pub own-code : (how : MoveOp) (a s : StTree) (source : List Origin) → IsInSize a → IsInSize s → FitsMove how a s → map origin_tree source ≡ (op_move how a s).origins → (o : ℕ) (x : Origin) → slice_get source o ≡ Some x
-    → IsOwnOrigin (st_atoms a) (element_words a) (origin_tree x)
-own-code how a s source size out fits is o x found = own-origin how a s size out fits o (origin_tree x) (ap (λ os. slice_get os o) (sym is) ∙ get_mapped origin_tree source o x found)
+shifted-word : (a : StTree) (ls : List ℕ) (e j : ℕ) (b : Bool) → label_from ls (element_words a) (cond b (fixed 0) (from_input 0 e j)) ≡ origin_word (a ∷ []) (ls ∷ []) (cond b (fixed 0) (from_input 0 e j))
+shifted-word a ls e j true = refl
+shifted-word a ls e j false = refl
 
--- where the word of an own origin stands
-pub own-inside : (a : StTree) (labels : List ℕ) (i e j : ℕ) → length labels ≡ layout_words a → IsOwnOrigin (st_atoms a) (element_words a) (from_input i e j) → e * element_words a + j < length labels
-own-inside a labels i e j long own = omega (arith, long, mul-add-lt e (element_words a) j (st_atoms a) own.1 own.2)
+label-word : (how : MoveOp) (a : StTree) (ls : List ℕ) (n m e j : ℕ) → label_from ls (element_words a) (origin_from how n m e j) ≡ origin_word (a ∷ []) (ls ∷ []) (origin_from how n m e j)
+label-word (Shift k) a ls n m e j = shifted-word a ls (e - k) j (nat_lt e k)
+label-word (Up c) a ls n m e j = refl
+label-word (Select k) a ls n m e j = refl
+label-word Same a ls n m e j = refl
 
-pub own-word : (a : StTree) (labels : List ℕ) (i e j x words : ℕ) → words ≡ element_words a → length labels ≡ layout_words a → IsOwnOrigin (st_atoms a) (element_words a) (from_input i e j) → slice_get labels (e * words + j) ≡ Some x
-    → x ≡ origin_word (a ∷ []) (labels ∷ []) (from_input i e j)
-own-word a labels i e j x words wide long own found =
-    sym (get_or_from_slice_get labels (e * words + j) x 0 found)
-    ∙ ap (λ w. slice_index labels (e * w + j)) wide
-    ∙ ap (λ n. origin_word (a ∷ []) (labels ∷ []) (from_input n e j)) (sym own.0)
-
-pub moved-more : (f : OriginTree → ℕ) (source : List Origin) (k label : ℕ) (x : Origin) (old : List ℕ) → slice_get source k ≡ Some x → old ≡ map (λ o. f (origin_tree o)) (take k source) → label ≡ f (origin_tree x)
-    → old ++ label ∷ [] ≡ map (λ o. f (origin_tree o)) (take (k + 1) source)
-moved-more f source k label x old found was is =
-    (λ i. was i ++ is i ∷ []) ∙ sym (map_push (λ (o : Origin). f (origin_tree o)) (take k source) x) ∙ ap (map (λ (o : Origin). f (origin_tree o))) (sym (take_push source k x found))
+-- the labels of all words of a move
+pub moved-all : (how : MoveOp) (a s : StTree) (ls moved : List ℕ) (n m w : ℕ) → FitsMove how a s → n ≡ st_atoms a → m ≡ st_atoms s → w ≡ element_words a
+    → moved ≡ map (λ o. label_from ls w (origin_from how n m (o / w) (o % w))) (range_with_len 0 (m * w)) → moved ≡ map (origin_word (a ∷ []) (ls ∷ [])) (op_move how a s).origins
+moved-all how a s ls moved n m w fits many most wide was =
+    let same : element_words a ≡ element_words s = ap atom_words fits.0 in
+    let word : OriginTree → ℕ = origin_word (a ∷ []) (ls ∷ []) in
+    let from : ℕ → ℕ → OriginTree = origin_from how (st_atoms a) (st_atoms s) in
+    was
+    ∙ (λ i. map (λ o. label_from ls (wide i) (origin_from how (many i) (most i) (o / wide i) (o % wide i))) (range_with_len 0 (most i * wide i)))
+    ∙ (λ i. map (λ o. label-word how a ls (st_atoms a) (st_atoms s) (o / element_words a) (o % element_words a) i) (range_with_len 0 (st_atoms s * element_words a)))
+    ∙ (λ i. map (λ o. word (from (o / same i) (o % same i))) (range_with_len 0 (st_atoms s * same i)))
+    ∙ sym (map-map word (origin_number how a s) (range_with_len 0 (st_atoms s * element_words s)))
 
 -- ---- pieces
 

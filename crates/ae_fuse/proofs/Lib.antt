@@ -7,6 +7,7 @@ pub mod Moves
 pub mod Main
 pub mod Examples
 pub mod NumberSteps
+pub mod ClockSteps
 pub mod LabelSteps
 pub mod ItemSteps
 pub mod SmallMoves

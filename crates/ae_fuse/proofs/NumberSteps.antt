@@ -29,7 +29,7 @@ range-push a (suc n) =
 abbrev pub all_words : List StTree → ℕ
 all_words ss = sum_by layout_words ss
 
-trees-more : (ls : List StType) (k : ℕ) (t : StType) → slice_get ls k ≡ Some t → st_trees (take (k + 1) ls) ≡ st_trees (take k ls) ++ st_tree t ∷ []
+pub trees-more : (ls : List StType) (k : ℕ) (t : StType) → slice_get ls k ≡ Some t → st_trees (take (k + 1) ls) ≡ st_trees (take k ls) ++ st_tree t ∷ []
 trees-more ls k t found = ap st_trees (take_push ls k t found) ∙ map_push st_tree (take k ls) t
 
 -- one parameter more
@@ -52,10 +52,10 @@ numbers-more ls k first count t old own found was at size is =
     ∙ ap (layout_numbers 1) (sym (trees-more ls k t found))
 
 -- the word is one of the first of these layouts, or of the others
-origin-here : (i : ℕ) (s : StTree) (ss : List StTree) (n : ℕ) → n < layout_words s → layout_origin i (s ∷ ss) n ≡ from_input i (n / element_words s) (n % element_words s)
+pub origin-here : (i : ℕ) (s : StTree) (ss : List StTree) (n : ℕ) → n < layout_words s → layout_origin i (s ∷ ss) n ≡ from_input i (n / element_words s) (n % element_words s)
 origin-here i s ss n h = rw (lt-ltb n (layout_words s) h) refl
 
-origin-behind : (i : ℕ) (s : StTree) (ss : List StTree) (n : ℕ) → layout_words s ≤ n → layout_origin i (s ∷ ss) n ≡ layout_origin (i + 1) ss (n - layout_words s)
+pub origin-behind : (i : ℕ) (s : StTree) (ss : List StTree) (n : ℕ) → layout_words s ≤ n → layout_origin i (s ∷ ss) n ≡ layout_origin (i + 1) ss (n - layout_words s)
 origin-behind i s ss n h = rw (le-ltb n (layout_words s) h) refl
 
 trees-drop : (ls : List StType) (k : ℕ) (t : StType) → slice_get ls k ≡ Some t → drop k (st_trees ls) ≡ st_tree t ∷ drop (k + 1) (st_trees ls)

@@ -1,5 +1,6 @@
 pub mod Costing
 pub mod Labels
+pub mod Clocks
 pub mod Results
 pub mod Moved
 pub mod Certified

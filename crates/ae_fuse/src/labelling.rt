@@ -1,39 +1,46 @@
 // The labels of the words of all items: the number of the word of the parameters that each is, or 0 for a word 0.
 
-ghost use Rattle.std.specs.Prelude.{◌≡◌, ◌<◌, ◌≤◌, ◌*◌, ◌+◌, ◌++◌, ◌∷◌, [], true, if◌then◌else◌, length, map, IfOk, OnOk, Some, slice_get};
+ghost use Rattle.std.specs.Prelude.{◌≡◌, ◌<◌, ◌≤◌, ◌*◌, ◌/◌, ◌%◌, ◌+◌, ◌++◌, ◌∷◌, [], true, if◌then◌else◌, length, map, IfOk, OnOk, Some, slice_get};
 ghost use Rattle.ae_sttype.specs.StTree.{element_words, st_atoms, st_tree};
 ghost use Rattle.ae_sttype.specs.Size.{IsInSize};
-ghost use Rattle.ae_moves.specs.Trees.{origin_tree};
 ghost use Rattle.ae_eval.specs.Stack.{paired};
 ghost use Rattle.ae_rewrite.specs.StProgramTree.{first, join, move, second, st_func_tree, st_node_tree};
-ghost use Rattle.ae_rewrite.specs.Sound.{item_layouts};
-ghost use Rattle.ae_delay.specs.Moving.{op_move};
+ghost use Rattle.ae_rewrite.specs.Sound.{IsMoveFrom, item_layouts};
+ghost use Rattle.ae_delay.specs.Moving.{op_move, origin_from};
 ghost use Rattle.ae_flow.specs.Flow.{item_words, layout_words, node_words, parts, words_at};
 ghost use Rattle.ae_flow.specs.Fitted.{FitsMove, FitsNode};
 ghost use Rattle.ae_gather.specs.Gathers.{origin_word};
-ghost use Rattle.ae_fuse.specs.Labels.{IsOwnOrigin, IsReady, MovesWords, is_moving, layout_numbers};
+ghost use Rattle.ae_fuse.specs.Labels.{IsReady, MovesWords, is_moving, label_from, layout_numbers};
 
 use crate::numbers::first_labels;
-use ae_delay::{layout, origins};
-use ae_moves::Origin;
+use ae_delay::layout;
 use ae_rewrite::{MoveOp, StFunc, StNode, StOp};
 use ae_sttype::StType;
 use std::alloc::{AllocError, Global};
 
-// The label of an origin, by those of the one argument.
-fn label_of(origin: Origin, arg: &StType, labels: &[u32]) -> u32
-    requires size { IsInSize (st_tree arg.now) }
-    requires own { IsOwnOrigin (st_atoms (st_tree arg.now)) (element_words (st_tree arg.now)) (origin_tree origin) }
-    requires long { length labels.now ≡ layout_words (st_tree arg.now) }
-    ensures { result ≡ origin_word (st_tree arg.now ∷ []) (labels.now ∷ []) (origin_tree origin) }
+// The label of word `o` of what a move makes of an argument with these labels, where each element has so many words.
+fn moved_label(
+    how: MoveOp,
+    arg_atoms: u32,
+    out_atoms: u32,
+    words: u32,
+    labels: &[u32],
+    o: u32,
+) -> u32
+    requires from { IsMoveFrom how arg_atoms out_atoms }
+    requires some_atoms { 0 < arg_atoms }
+    requires some { 0 < words }
+    requires few { arg_atoms * words ≤ 16384 }
+    requires long { length labels.now ≡ arg_atoms * words }
+    requires below { o < out_atoms * words }
+    ensures { result ≡ label_from labels.now words (origin_from how arg_atoms out_atoms (o / words) (o % words)) }
 {
-    match origin {
-        Origin::Word {
-            input: _,
-            element,
-            word,
-        } => labels[(element * arg.element_words() + word) as usize],
-        Origin::Fixed(_) => 0,
+    match how {
+        MoveOp::Shift(k) if o < k * words => 0,
+        MoveOp::Shift(k) => labels[(o - k * words) as usize],
+        MoveOp::Up(_) => labels[(o % (arg_atoms * words)) as usize],
+        MoveOp::Select(k) => labels[(k * out_atoms * words + o) as usize],
+        MoveOp::Same => labels[o as usize],
     }
 }
 
@@ -51,10 +58,12 @@ fn moved_labels(
     requires long { length labels.now ≡ layout_words (st_tree arg.now) }
     ensures { IfOk result (λ v. v.items ≡ map (origin_word (st_tree arg.now ∷ []) (labels.now ∷ [])) (op_move how (st_tree arg.now) (st_tree out.now)).origins) }
 {
-    let source = origins(alloc, how, arg, out)?;
-    let mut moved = Vec::new(alloc);
-    for origin in &source {
-        moved.push(label_of(*origin, arg, labels))?;
+    let words = arg.element_words();
+    let (arg_atoms, out_atoms) = (arg.atoms(), out.atoms());
+    let count = out_atoms * words;
+    let mut moved = Vec::with_capacity(alloc, count as usize)?;
+    for o in 0..count {
+        moved.push(moved_label(how, arg_atoms, out_atoms, words, labels, o))?;
     }
     Ok(moved)
 }

@@ -2,6 +2,7 @@
 #![tactic(auto)]
 
 mod certificate;
+mod clocks;
 mod costs;
 mod labelling;
 mod laws;

@@ -1,8 +1,11 @@
-use Rattle.std.proofs.Common.{◌≡◌, ◌∷◌, [], map, take}
-use Rattle.ae_sttype.specs.StTree.{st_tree}
-use Rattle.ae_moves.specs.Trees.{origin_tree}
-use Rattle.ae_gather.specs.Gathers.{origin_word}
+use Rattle.std.proofs.Common.{◌≡◌, ◌≤◌, ◌*◌, ◌/◌, ◌%◌, map}
+use Rattle.std.specs.List.{range_with_len}
+use Rattle.ae_delay.specs.Moving.{origin_from}
+use Rattle.ae_fuse.specs.Labels.{label_from}
 use Rattle.ae_fuse.proofs.labelling.moved_labels.Given as goal
 
-abbrev pub invariant-loop-origin : goal.invariant-loop-origin
-invariant-loop-origin l = l.moved.items ≡ map (λ o. origin_word (st_tree l.arg ∷ []) (l.labels ∷ []) (origin_tree o)) (take l.origin-index l.origin-items)
+abbrev pub invariant-loop-o : goal.invariant-loop-o
+invariant-loop-o l = record {
+  moved : l.moved.items ≡ map (λ o. label_from l.labels l.words (origin_from l.how l.arg_atoms l.out_atoms (o / l.words) (o % l.words))) (range_with_len 0 l.o);
+  within : l.o ≤ l.out_atoms * l.words;
+}
