@@ -12,5 +12,7 @@ pub mod Staying
 pub mod Flags
 pub mod Passes
 pub mod Driving
+pub mod Wiring
 pub mod Cutting
 pub mod Insides
+pub mod Marking

@@ -1,5 +1,5 @@
 -- What the registers of the control take.
-use Rattle.std.specs.Prelude.{◌≡◌, ℕ, suc, ◌+◌, ◌-◌, ◌%◌, ◌<◌, ◌==◌, ◌&&◌, nat_lt, if◌then◌else◌, Bool, true, false, List, length, drop, get_or}
+use Rattle.std.specs.Prelude.{◌≡◌, ℕ, suc, ◌+◌, ◌-◌, ◌%◌, ◌<◌, ◌≤◌, ◌==◌, ◌&&◌, nat_lt, if◌then◌else◌, Bool, true, false, List, length, drop, get_or}
 use Rattle.ae_sttype.specs.StTree.{StTree}
 use Rattle.ae_netlist.specs.Runs.{Clock, no_clock}
 use Rattle.ae_stream.specs.Passing.{ByNumber}
@@ -35,16 +35,16 @@ IsRead x row q c =
 abbrev pub next_flag : Row → (j : ℕ) → Clock → Bool
 next_flag row j c = if bit row.last c then bit (row.flag j) c else bit (row.flag (suc j)) c
 
--- the latency is q blocks and r clocks
+-- the latency is q blocks and r clocks, and so many flags and one more are there
 pub record IsDriven (x : Control) (g : Gates) (row : Row) (ends : Ends) (run : List Clock) (start slowdown q r : ℕ)
     (inputs outputs : List StTree) : Type 0 where
   pub resets : (t : ℕ) → t < start → t < length run → bit x.enable (get_or run t no_clock) ≡ true
   pub low : (t : ℕ) → t < length (drop start run) → bit g.reset (get_or (drop start run) t no_clock) ≡ false
   pub gates : (t : ℕ) → t < length (drop start run) → HasGates x g ends (get_or (drop start run) t no_clock)
   pub current : Follows (bit x.enable) (bit g.current) (bit x.here) no_clock (drop start run)
-  pub flag : (j : ℕ) → Follows (bit x.enable) (bit (row.flag (suc j))) (next_flag row j) no_clock (drop start run)
+  pub flag : (j : ℕ) → j ≤ q → Follows (bit x.enable) (bit (row.flag (suc j))) (next_flag row j) no_clock (drop start run)
   pub here : row.flag 0 ≡ x.here
-  pub clear : (j : ℕ) → 0 < length (drop start run)
+  pub clear : (j : ℕ) → j ≤ q → 0 < length (drop start run)
       → bit (row.flag (suc j)) (get_or (drop start run) 0 no_clock) ≡ false
   -- the phases of the clocks in which the circuit steps
   pub first : ByNumber (bit g.first) (λ t. t % slowdown == 0) (steps x start run) no_clock

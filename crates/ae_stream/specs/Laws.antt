@@ -1,18 +1,20 @@
 -- Where a clock stands among the transfers, what passes through a circuit between channels, and what stays there.
-use Rattle.std.specs.Prelude.{◌≡◌, ℕ, ◌+◌, ◌*◌, ◌<◌, Bool, true, List, length, filter, get_or}
+use Rattle.std.specs.Prelude.{◌≡◌, ℕ, ◌+◌, ◌*◌, ◌<◌, ◌≤◌, Bool, true, List, length, filter, get_or}
 use Rattle.ae_seq.specs.ProgramTree.{ProgramTree}
 use Rattle.ae_sttype.specs.StTree.{StTree}
-use Rattle.ae_netlist.specs.Circuit.{Circuit}
-use Rattle.ae_netlist.specs.Runs.{Clock, HasOneRun, IsReset, IsRun, no_clock}
+use Rattle.ae_netlist.specs.Circuit.{Circuit, IsFormed}
+use Rattle.ae_netlist.specs.Runs.{Clock, HasOneRun, HasWords, InEveryResetRun, IsReset, IsRun, no_clock}
 use Rattle.ae_rewrite.specs.Blocks.{MakesBlocks}
-use Rattle.ae_stall.specs.Held.{inner_clock}
+use Rattle.ae_stall.specs.Held.{IsHeld, inner_clock}
+use Rattle.ae_stall.specs.Images.{placed}
 use Rattle.ae_stream.specs.Passing.{ByNumber, carries, passing}
-use Rattle.ae_stream.specs.Streams.{Ends, Stays, Streams}
-use Rattle.ae_stream.specs.Control.{AreWithin, Control, IsAround, IsInside}
+use Rattle.ae_stream.specs.Streams.{Ends, Stays, Streams, bit, is_beat}
+use Rattle.ae_stream.specs.Control.{AreWithin, Control, IsAround, IsInside, steps, word_in}
 use Rattle.ae_stream.specs.Driven.{IsDriven, Row}
 use Rattle.ae_stream.specs.Fed.{CanBeFed}
 use Rattle.ae_stream.specs.Gates.{Gates}
 use Rattle.ae_stream.specs.Inside.{IsHeldInside}
+use Rattle.ae_stream.specs.Wired.{AreQueued, IsMarked, IsWired}
 
 abbrev pub BlocksAreTaken : Type 0
 BlocksAreTaken =
@@ -49,3 +51,19 @@ DrivenCircuitsKeepWords =
     (x : Control) (g : Gates) (row : Row) (ends : Ends) (run : List Clock) (start slowdown q r : ℕ) (inputs outputs : List StTree)
     → IsDriven x g row ends run start slowdown q r inputs outputs → ends.sink.valid ≡ x.one
     → Stays ends ends.columns run start
+
+abbrev pub WiredControlsAreDriven : Type 0
+WiredControlsAreDriven =
+    (x : Control) (g : Gates) (row : Row) (ends : Ends) (wanted : ℕ) (run : List Clock) (start slowdown q r : ℕ)
+    → (inputs outputs : List StTree) → 0 < ends.columns → is_beat inputs 0 ≡ true → IsReset run g.reset start
+    → IsWired x g row ends wanted q run → AreQueued x ends run → IsMarked x g row wanted run start slowdown r inputs outputs
+    → IsDriven x g row ends run start slowdown q r inputs outputs
+
+abbrev pub HeldMarksAreSeen : Type 0
+HeldMarksAreSeen =
+    (x : Control) (marked copied new : Circuit) → IsFormed marked.cells → 0 < length marked.cells
+    → IsHeld 2 x.enable marked copied new → length marked.cells + 2 ≤ length copied.cells
+    → (run : List Clock) (start : ℕ) → IsRun new.cells run → IsReset run 0 start
+    → ((t : ℕ) → t < start → t < length run → bit x.enable (get_or run t no_clock) ≡ true)
+    → (y : ℕ) (f : ℕ → ℕ) → y < length marked.cells → InEveryResetRun marked.cells 0 (λ run start. HasWords run start y f)
+    → (t : ℕ) → t < length (steps x start run) → word_in (placed 2 y) (get_or (steps x start run) t no_clock) ≡ f t

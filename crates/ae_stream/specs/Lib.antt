@@ -5,5 +5,6 @@ pub mod Control
 pub mod Inside
 pub mod Gates
 pub mod Driven
+pub mod Wired
 pub mod Fed
 pub mod Laws

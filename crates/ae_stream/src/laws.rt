@@ -1,6 +1,6 @@
 // What passes through a circuit between two channels.
 
-ghost use Rattle.ae_stream.specs.Laws.{BlocksAreTaken, ControlledCircuitsStream, DrivenCircuitsKeepWords, DrivenCircuitsStream, HeldCircuitsAreInside};
+ghost use Rattle.ae_stream.specs.Laws.{BlocksAreTaken, ControlledCircuitsStream, DrivenCircuitsKeepWords, DrivenCircuitsStream, HeldCircuitsAreInside, HeldMarksAreSeen, WiredControlsAreDriven};
 
 /// A law: of a list of clocks in which blocks follow one another, the clocks that carry words stand in the list of
 /// transfers at the number of their block among the real ones, and of their clock among the live ones.
@@ -29,4 +29,16 @@ pub fn driven_circuits_keep_words()
 /// that netlist, the clocks of each run in which the net is 1 are a run of the circuit, on the columns of both ends.
 pub fn held_circuits_are_inside()
     ensures { HeldCircuitsAreInside }
+{}
+
+/// A law: a control whose gates and registers do, in each clock of a run that begins with reset, what they are to do, and whose
+/// marks are those of the clocks in which the circuit steps, takes what it is to take.
+pub fn wired_controls_are_driven()
+    ensures { WiredControlsAreDriven }
+{}
+
+/// A law: a net that has in every reset run of a netlist the words of a function of the clocks after reset has, where a copy of
+/// the netlist is held by the net that says that the circuit steps, these words in the clocks in which it steps, one by one.
+pub fn held_marks_are_seen()
+    ensures { HeldMarksAreSeen }
 {}

@@ -1,0 +1,9 @@
+use Rattle.ae_netlist.specs.Circuit.{IsNet}
+use Rattle.ae_streamed.specs.Cells.{IsLonger}
+use Rattle.ae_streamed.proofs.parts.any_of.Given as goal
+
+abbrev pub invariant-loop-k : goal.invariant-loop-k
+invariant-loop-k l = record {
+  longer : IsLonger l.fn.nl l.nl;
+  net : IsNet l.nl.cells l.any.0 1;
+}

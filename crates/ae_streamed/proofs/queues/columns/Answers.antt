@@ -1,0 +1,25 @@
+-- One queue more in each turn.
+use Rattle.std.proofs.Common.{◌≡◌, length, arith}
+use Rattle.ae_netlist.proofs.Growing.{net_later}
+use Rattle.ae_streamed.specs.Controls.{net}
+use Rattle.ae_streamed.proofs.Cells.{found_at}
+use Rattle.ae_streamed.proofs.Queueing.{own_width}
+use Rattle.ae_streamed.proofs.Queued.{all_columns, some_more, some_none}
+use Rattle.ae_streamed.proofs.queues.columns.Goals as goal
+
+pub loop-k-init : goal.loop-k-init
+loop-k-init c = some_none c.args.nl.now c.args.c c.args.made.now
+
+pub column-requires-clause-net : goal.column-requires-clause-net
+column-requires-clause-net c =
+    own_width (net_later c.loop-k.invariant.longer.extends (c.requires.nets c.loop-k.k _ (found_at c.args.made.now c.loop-k.k (net 0) c.loop-k-test.true)))
+
+pub loop-k-preserved : goal.loop-k-preserved
+loop-k-preserved c =
+    some_more c.args.nl.now c.loop-k.nl c.column.new.nl c.args.c c.args.made.now c.loop-k.k _ c.loop-k.invariant
+    (found_at c.args.made.now c.loop-k.k (net 0) c.loop-k-test.true) c.in_ok-column.ensures.longer c.in_ok-column.ensures.long c.in_ok-column.ensures.column
+
+pub returns-clause-columns : goal.returns-clause-columns
+returns-clause-columns c =
+    let end : c.loop-k.k ≡ length c.args.made.now = omega (arith, c.loop-k-test.false, c.loop-k.auto.k-end) in
+    all_columns c.args.nl.now c.loop-k.nl c.args.c c.args.made.now (rw end at c.loop-k.invariant)
