@@ -113,6 +113,24 @@ moved_over limit p all v f there h =
     let load : (fused_costing h.func h.instance).costs.load ≡ v.load = sym (ap (λ (o : OwnCosts). o.load) h.costs) in
     ap (costing_over limit) (moved_costing p all v h) ∙ (λ i. first_over limit 0 (record { line = (same i).end_line; load = load i } ∷ []))
 
+-- and where the load of a program that computes is within the limit, no line passes it
+none_over : (limit sum : ℕ) (ls : List LineLoad) → sum + sum_by (λ (l : LineLoad). l.load) ls ≤ limit → first_over limit sum ls ≡ None
+none_over limit sum [] h = refl
+none_over limit sum (l ∷ ls) h =
+    let c : sum_by (λ (x : LineLoad). x.load) (l ∷ ls) ≡ l.load + sum_by (λ (x : LineLoad). x.load) ls = sum_by-cons (λ (x : LineLoad). x.load) l ls in
+    let fits : sum + l.load ≤ limit = omega (arith, h, c) in
+    let t : nat_lt limit (sum + l.load) ≡ false = grind (arith, nat_tests) in
+    ap (λ (b : Bool). if b then Some (record { line = l.line; load = sum + l.load }) else first_over limit (sum + l.load) ls) t ∙ none_over limit (sum + l.load) ls (omega (arith, h, c))
+
+pub plain_within : (limit : ℕ) (p : ProgramTree) (all : List StFuncTree) → is_movement p ≡ false → HasParts p all → (main_costs p all).load ≤ limit → costs_over limit p all ≡ None
+plain_within limit p all computes h light =
+    let s = h.instance in
+    let ts = node_timings (all_costs (take (last_of all) all)) s in
+    let is : main_costing p all ≡ scheduled_costing s ts = plain_costing p all h.func s computes h.there h.last in
+    let load : sum_by (λ (t : NodeTiming). t.load) ts + slack_load (item_layouts s) (result_uses s ts) ≤ limit = subst (λ (c : Costing). c.costs.load ≤ limit) is light in
+    let total = load_total ts (record { line = s.end_line; load = slack_load (item_layouts s) (result_uses s ts) }) in
+    ap (costing_over limit) is ∙ none_over limit 0 (line_loads s ts) (omega (arith, load, total))
+
 -- what was found
 pub costs_found : (p : ProgramTree) (all : List StFuncTree) (c : Costs) → HasParts p all → AreCosts p all c → whole_costs c ≡ main_costs p all
 costs_found p all (Plain t) h are = are.1.costs h.instance h.last ∙ sym (ap (costs_in (all_costs (take (last_of all) all))) h.last) ∙ sym (plain_main p all are.0 h)

@@ -4,11 +4,14 @@ ghost use Rattle.std.specs.Prelude.{◌≡◌, ◌<◌, ◌≤◌, ◌-◌, ℕ,
 ghost use Rattle.ae_seq.specs.ProgramTree.{func_tree, program_tree};
 ghost use Rattle.ae_seq.specs.Formed.{formed};
 ghost use Rattle.ae_rewrite.specs.Scheduled.{IsSchedule};
+ghost use Rattle.ae_rewrite.specs.Sound.{IsSound};
 ghost use Rattle.ae_rewrite.specs.StProgramTree.{st_func_tree, st_func_trees};
 ghost use Rattle.ae_rewrite.specs.Interface.{main_of};
 ghost use Rattle.ae_delay.specs.Costs.{too_large};
 ghost use Rattle.ae_delay.specs.Timings.{AreTimes};
+ghost use Rattle.ae_lower.specs.Circuits.{last_of};
 ghost use Rattle.ae_compile.specs.Costing.{AreCosts, IsLargeAt, IsScheduled, IsCosted, IsCostFault, IsKnown, costs_over, load_limit};
+ghost use Rattle.ae_compile.specs.Passes.{IsCostedProgram};
 
 use crate::costs::Costs;
 use crate::faults::CompileFault;
@@ -18,6 +21,7 @@ use ae_fuse::fuse;
 use ae_rewrite::{PlanFault, StFunc, StProgram, schedule};
 use ae_seq::{Func, Typed};
 use std::alloc::Global;
+use std::marker::Model;
 
 /// The greatest load of a circuit.
 pub const LOAD_LIMIT: u32 = 100_000;
@@ -25,13 +29,78 @@ pub const LOAD_LIMIT: u32 = 100_000;
 /// The greatest load of a circuit that gets an enable.
 pub const STALL_LIMIT: u32 = 50_000;
 
-/// A program with its schedule under a slowdown, and what that costs.
+/// A typed program with its schedule under a slowdown of 1 to 4,096, and the costs of that, whose load is at most
+/// `LOAD_LIMIT`.
 #[derive(Drop)]
 pub struct Costed {
-    pub slowdown: u32,
-    pub program: Typed,
-    pub schedule: StProgram,
-    pub costs: Costs,
+    slowdown: u32,
+    program: Typed,
+    schedule: StProgram,
+    costs: Costs,
+}
+
+impl Model for Costed {
+    ghost use Rattle.std.specs.Coded.{codes};
+    ghost use Rattle.ae_seqtype.specs.contracts.seq_type.SeqType as t;
+    ghost use Rattle.ae_sttype.specs.contracts.st_type.StType as e;
+    ghost use Rattle.ae_compile.specs.Passes.{CostedView, IsCostedProgram};
+
+    ghost Value = { CostedView };
+
+    ghost coded = { Prim.hlevel (codes, e.the_row.coded, t.the_row.coded) };
+
+    ghost view = { λ c. record { slowdown = c.slowdown; program = c.program; schedule = c.schedule; costs = c.costs } };
+
+    ghost invariant = { λ c. IsCostedProgram (record { slowdown = c.slowdown; program = c.program; schedule = c.schedule; costs = c.costs }) };
+}
+
+impl Costed {
+    /// The clocks of a block of the program function.
+    pub fn slowdown(&self) -> u32
+        ensures { result ≡ self.now.slowdown }
+    {
+        self.slowdown
+    }
+
+    /// The program.
+    pub fn program(&self) -> &Typed
+        ensures is { result.now ≡ self.now.program }
+        ensures known { IsCostedProgram self.now }
+    {
+        &self.program
+    }
+
+    /// Its schedule.
+    pub fn schedule(&self) -> &StProgram
+        ensures is { result.now ≡ self.now.schedule }
+        ensures known { IsCostedProgram self.now }
+    {
+        &self.schedule
+    }
+
+    /// The costs of that.
+    pub fn costs(&self) -> &Costs
+        ensures is { result.now ≡ self.now.costs }
+        ensures known { IsCostedProgram self.now }
+    {
+        &self.costs
+    }
+
+    /// The program function, which is the last.
+    pub fn main_func(&self) -> &Func
+        ensures formed { IsTrue (formed (program_tree self.now.program)) }
+        ensures last { slice_get (program_tree self.now.program).funcs (main_of (program_tree self.now.program)) ≡ Some (func_tree result.now) }
+    {
+        main_func(&self.program)
+    }
+
+    /// The instance of the program function, which is the last.
+    pub fn main_instance(&self) -> &StFunc
+        ensures last { slice_get (st_func_trees self.now.schedule) (last_of (st_func_trees self.now.schedule)) ≡ Some (st_func_tree result.now) }
+        ensures known { IsCostedProgram self.now }
+    {
+        main_instance(&self.schedule)
+    }
 }
 
 fn scheduled(alloc: Global, part: &[u8], slowdown: u32) -> Result<(Typed, StProgram), CompileFault>
@@ -39,32 +108,18 @@ fn scheduled(alloc: Global, part: &[u8], slowdown: u32) -> Result<(Typed, StProg
     requires some { 0 < slowdown }
     requires limit { slowdown ≤ 4096 }
     ensures scheduled { IfOk result (λ x. IsScheduled part.now slowdown (program_tree x.0) (st_func_trees x.1)) }
+    ensures formed { IfOk result (λ x. IsTrue (formed (program_tree x.0))) }
+    ensures sound { IfOk result (λ x. IsSound (st_func_trees x.1)) }
     ensures refused { IfErr result (λ f. (limit : ℕ) → IsCostFault limit part.now slowdown f) }
 {
     let program = typed(alloc, part)?;
     match schedule(alloc, &program, slowdown) {
-        Ok(schedule) => Ok((program, schedule)),
+        Ok(schedule) => {
+            let _count = schedule.count();
+            Ok((program, schedule))
+        }
         Err(PlanFault::NoSchedule { line }) => Err(CompileFault::NoSchedule { line }),
         Err(PlanFault::Memory) => Err(CompileFault::Memory),
-    }
-}
-
-// A program with its schedule and the costs of that, in one.
-fn known(slowdown: u32, program: Typed, schedule: StProgram, costs: Costs) -> Costed
-    requires some { 0 < slowdown }
-    requires limit { slowdown ≤ 4096 }
-    requires schedule { IsSchedule (program_tree program) slowdown (st_func_trees schedule) }
-    requires costs { AreCosts (program_tree program) (st_func_trees schedule) costs }
-    ensures is { result ≡ record { slowdown = slowdown; program = program; schedule = schedule; costs = costs } }
-    ensures known { (load : ℕ) → costs_over load (program_tree program) (st_func_trees schedule) ≡ None → IsKnown load (program_tree program) slowdown (st_func_trees schedule) costs }
-{
-    let _program = program.program();
-    let _count = schedule.count();
-    Costed {
-        slowdown,
-        program,
-        schedule,
-        costs,
     }
 }
 
@@ -132,11 +187,16 @@ pub fn cost(alloc: Global, part: &[u8], slowdown: u32, limit: u32) -> Result<Cos
 {
     let (program, schedule) = scheduled(alloc, part, slowdown)?;
     let costs = find_costs(alloc, &program, &schedule, limit)?;
-    Ok(known(slowdown, program, schedule, costs))
+    Ok(Costed {
+        slowdown,
+        program,
+        schedule,
+        costs,
+    })
 }
 
-/// The program function, which is the last.
-pub fn main_func(p: &Typed) -> &Func
+// The program function, which is the last.
+fn main_func(p: &Typed) -> &Func
     ensures formed { IsTrue (formed (program_tree p.now)) }
     ensures last { slice_get (program_tree p.now).funcs (main_of (program_tree p.now)) ≡ Some (func_tree result.now) }
 {
@@ -144,8 +204,8 @@ pub fn main_func(p: &Typed) -> &Func
     &funcs[funcs.len() - 1]
 }
 
-/// The instance of the program function, which is the last.
-pub fn main_instance(p: &StProgram) -> &StFunc
+// The instance of the program function, which is the last.
+fn main_instance(p: &StProgram) -> &StFunc
     ensures { slice_get (st_func_trees p.now) (length (st_func_trees p.now) - 1) ≡ Some (st_func_tree result.now) }
 {
     let last = p.count() - 1;

@@ -16,12 +16,12 @@ mod texts;
 mod typing;
 
 pub use circuits::{Compiled, compile};
-pub use costing::{Costed, LOAD_LIMIT, STALL_LIMIT, cost, main_func, main_instance};
+pub use costing::{Costed, LOAD_LIMIT, STALL_LIMIT, cost};
 pub use costs::Costs;
 pub use faults::{CompileFault, OutOfMemory};
 pub use layouts::output_layouts;
 pub use playing::play;
 pub use ports::module_ports;
-pub use stalling::compile_stalled;
+pub use stalling::{Stalled, compile_stalled};
 pub use texts::{module_text, stalled_text};
 pub use typing::typed;

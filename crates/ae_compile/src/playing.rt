@@ -5,7 +5,6 @@ ghost use Rattle.ae_seq.specs.ProgramTree.{program_tree};
 ghost use Rattle.ae_vread.specs.Spells.{Spells};
 ghost use Rattle.ae_verilog.specs.Notes.{note_tree, noted_module};
 ghost use Rattle.ae_verilog.specs.ReportLines.{report_tree};
-ghost use Rattle.ae_compile.specs.Passes.{IsCompiledProgram};
 ghost use Rattle.ae_compile.specs.Playing.{Shows};
 
 use crate::circuits::Compiled;
@@ -25,18 +24,18 @@ pub fn play(
     text: &str,
     fill: u64,
 ) -> Result<Netlist, OutOfMemory>
-    requires compiled { IsCompiledProgram compiled.now }
     requires short { length text.now < 2 ^ 32 }
-    requires spells { Spells text.now (noted_module (map note_tree compiled.now.notes.items) compiled.now.netlist.cells compiled.now.netlist.outlets (length (report_tree compiled.now.report).outs)) }
+    requires spells { Spells text.now (noted_module (map note_tree compiled.now.notes) compiled.now.netlist.cells compiled.now.netlist.outlets (length (report_tree compiled.now.report).outs)) }
     ensures { IfOk result (λ n. Shows (program_tree compiled.now.costed.program) compiled.now.costed.slowdown compiled.now.report.latency fill (report_tree compiled.now.report).ins (report_tree compiled.now.report).outs
-        (noted_module (map note_tree compiled.now.notes.items) compiled.now.netlist.cells compiled.now.netlist.outlets (length (report_tree compiled.now.report).outs)) n) }
+        (noted_module (map note_tree compiled.now.notes) compiled.now.netlist.cells compiled.now.netlist.outlets (length (report_tree compiled.now.report).outs)) n) }
 {
     runs_are_shown();
     runs_are_alike();
     can_be_fed();
     circuits_are_writable();
     module_keeps();
-    has_one_run_with(&compiled.netlist);
-    fill_begins(&compiled.netlist, fill);
+    let netlist = compiled.netlist();
+    has_one_run_with(netlist);
+    fill_begins(netlist, fill);
     read_back(alloc, text)
 }

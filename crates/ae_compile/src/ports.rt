@@ -17,16 +17,14 @@ use std::alloc::{AllocError, Global};
 /// The inputs but the clock, and then the outputs, of the module of a compiled program. The error comes only for want of
 /// memory.
 pub fn module_ports(alloc: Global, compiled: &Compiled) -> Result<PortList, AllocError>
-    requires { IsCompiledProgram compiled.now }
     ensures nets { IfOk result (λ ports. HasNets (port_nets compiled.now.netlist.cells compiled.now.netlist.outlets (length (report_tree compiled.now.report).outs)) ports) }
     ensures writable { IsWritableNetlist compiled.now.netlist.cells compiled.now.netlist.outlets (length (report_tree compiled.now.report).outs) }
-    ensures own { ArePorts (lines_of (map note_tree compiled.now.notes.items) (length compiled.now.netlist.cells)) compiled.now.netlist (length (report_tree compiled.now.report).outs) }
+    ensures known { IsCompiledProgram compiled.now }
+    ensures own { ArePorts (lines_of (map note_tree compiled.now.notes) (length compiled.now.netlist.cells)) compiled.now.netlist (length (report_tree compiled.now.report).outs) }
 {
     circuits_are_writable();
     module_keeps();
-    ports_of(
-        alloc,
-        &compiled.netlist,
-        compiled.report.outs.as_slice().len(),
-    )
+    let netlist = compiled.netlist();
+    let told = compiled.report();
+    ports_of(alloc, netlist, told.outs.as_slice().len())
 }

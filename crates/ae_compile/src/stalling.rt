@@ -11,21 +11,67 @@ ghost use Rattle.ae_compile.specs.Compiling.{IsMadeFor};
 ghost use Rattle.ae_compile.specs.Costing.{main_costs};
 ghost use Rattle.ae_compile.specs.Passes.{IsCostedProgram, IsStalledProgram};
 
-use crate::circuits::{Compiled, circuit, notes, report};
+use crate::circuits::{circuit, notes, report};
 use crate::costing::Costed;
 use ae_netlist::Netlist;
 use ae_stall::stall;
+use ae_verilog::{Note, Report};
 use std::alloc::{AllocError, Global};
+use std::marker::Model;
 
-// The same netlist with an enable, of a program's circuit within the limit of load.
-fn stalled_netlist(alloc: Global, costed: &Costed, plain: &Netlist) -> Result<Netlist, AllocError>
-    requires known { IsCostedProgram costed.now }
-    requires light { (main_costs (program_tree costed.now.program) (st_func_trees costed.now.schedule)).load ≤ stall_limit }
-    requires circuit { IsMadeFor (program_tree costed.now.program) costed.now.slowdown (st_func_trees costed.now.schedule) plain.now }
-    ensures stalled { IfOk result (λ n. IsStalled plain.now n) }
-    ensures few { IfOk result (λ n. length plain.now.cells ≤ 1000000) }
-{
-    stall(alloc, plain)
+/// The same as `Compiled`, of the circuit with an enable: the load is at most `STALL_LIMIT`.
+#[derive(Drop)]
+pub struct Stalled {
+    costed: Costed,
+    report: Report,
+    netlist: Netlist,
+    notes: Vec<Note>,
+}
+
+impl Model for Stalled {
+    ghost use Rattle.std.specs.Coded.{codes};
+    ghost use Rattle.ae_seqtype.specs.contracts.seq_type.SeqType as t;
+    ghost use Rattle.ae_sttype.specs.contracts.st_type.StType as e;
+    ghost use Rattle.ae_compile.specs.Passes.{CompiledView, IsStalledProgram};
+
+    ghost Value = { CompiledView };
+
+    ghost coded = { Prim.hlevel (codes, e.the_row.coded, t.the_row.coded) };
+
+    ghost view = { λ d. record { costed = d.costed; report = d.report; netlist = d.netlist; notes = d.notes.items } };
+
+    ghost invariant = { λ d. IsStalledProgram (record { costed = d.costed; report = d.report; netlist = d.netlist; notes = d.notes.items }) };
+}
+
+impl Stalled {
+    /// The program, and what it costs.
+    pub fn costed(&self) -> &Costed
+        ensures { result.now ≡ self.now.costed }
+    {
+        &self.costed
+    }
+
+    /// What is told of the circuit.
+    pub fn report(&self) -> &Report
+        ensures { result.now ≡ self.now.report }
+    {
+        &self.report
+    }
+
+    /// The circuit.
+    pub fn netlist(&self) -> &Netlist
+        ensures is { result.now ≡ self.now.netlist }
+        ensures known { IsStalledProgram self.now }
+    {
+        &self.netlist
+    }
+
+    /// The notes, in the order of the cells.
+    pub fn notes(&self) -> &[Note]
+        ensures { result.now ≡ self.now.notes }
+    {
+        self.notes.as_slice()
+    }
 }
 
 // Behind the first cell comes the enable, and then the others.
@@ -54,18 +100,17 @@ fn moved_marks(alloc: Global, marks: &[u32]) -> Result<Vec<u32>, AllocError>
 /// The circuit of a costed program, within the limit of load of these, with an enable: in the clocks in which the enable is 1 it
 /// does what the circuit does, and in the others its registers and memories stay as they are. The error comes only for
 /// want of memory.
-pub fn compile_stalled(alloc: Global, costed: Costed) -> Result<Compiled, AllocError>
-    requires known { IsCostedProgram costed }
-    requires light { (main_costs (program_tree costed.program) (st_func_trees costed.schedule)).load ≤ stall_limit }
+pub fn compile_stalled(alloc: Global, costed: Costed) -> Result<Stalled, AllocError>
+    requires { (main_costs (program_tree costed.program) (st_func_trees costed.schedule)).load ≤ stall_limit }
     ensures of { IfOk result (λ d. d.costed ≡ costed) }
     ensures stalled { IfOk result IsStalledProgram }
 {
     let report = report(alloc, &costed, true)?;
     let lowered = circuit(alloc, &costed)?;
-    let netlist = stalled_netlist(alloc, &costed, &lowered.netlist)?;
+    let netlist = stall(alloc, &lowered.netlist)?;
     let marks = moved_marks(alloc, &lowered.marks)?;
     let notes = notes(alloc, &costed, &marks)?;
-    Ok(Compiled {
+    Ok(Stalled {
         costed,
         report,
         netlist,

@@ -8,26 +8,32 @@ ghost use Rattle.ae_verilog.specs.Notes.{ArePrinted, note_tree, noted_module};
 ghost use Rattle.ae_verilog.specs.ReportLines.{report_tree};
 ghost use Rattle.ae_spelled.specs.Short.{IsShort};
 ghost use Rattle.ae_compile.specs.Building.{IsModuleText, IsStalledText, IsWritten};
-ghost use Rattle.ae_compile.specs.Passes.{IsCompiledProgram, IsStalledProgram};
 
 use crate::circuits::Compiled;
 use crate::faults::OutOfMemory;
+use crate::stalling::Stalled;
 use ae_correct::{circuits_are_correct, circuits_are_writable};
 use ae_elab::one_run;
+use ae_netlist::Netlist;
 use ae_spelled::{listings_are_short, listings_spell, module_keeps, spelled_once};
 use ae_stalled::{stalled_circuits_are_correct, stalled_circuits_are_writable};
-use ae_verilog::write_module;
+use ae_verilog::{Note, Report, write_module};
 use std::alloc::Global;
 
 // The text of a circuit that is not too large, with the notes of a program's lines: it has fewer than 2 to the 32 bytes.
-fn written(alloc: Global, compiled: &Compiled) -> Result<String, OutOfMemory>
-    requires printed { ArePrinted (map note_tree compiled.now.notes.items) }
-    requires short { IsShort (report_tree compiled.now.report) (map note_tree compiled.now.notes.items) compiled.now.netlist.cells compiled.now.netlist.outlets }
-    ensures { IfOk result (λ text. IsWritten (report_tree compiled.now.report) compiled.now.netlist (map note_tree compiled.now.notes.items) (string_bytes text)) }
+fn written(
+    alloc: Global,
+    netlist: &Netlist,
+    report: &Report,
+    notes: &[Note],
+) -> Result<String, OutOfMemory>
+    requires printed { ArePrinted (map note_tree notes.now) }
+    requires short { IsShort (report_tree report.now) (map note_tree notes.now) netlist.now.cells netlist.now.outlets }
+    ensures { IfOk result (λ text. IsWritten (report_tree report.now) netlist.now (map note_tree notes.now) (string_bytes text)) }
 {
     listings_spell();
     listings_are_short();
-    let text = write_module(alloc, &compiled.netlist, &compiled.report, &compiled.notes)?;
+    let text = write_module(alloc, netlist, report, notes)?;
     Ok(text)
 }
 
@@ -35,8 +41,7 @@ fn written(alloc: Global, compiled: &Compiled) -> Result<String, OutOfMemory>
 /// spells exactly one Verilog module, which is well formed and correct for the program, at the slowdown and with the
 /// latency that the report tells. The error comes only for want of memory.
 pub fn module_text(alloc: Global, compiled: &Compiled) -> Result<String, OutOfMemory>
-    requires { IsCompiledProgram compiled.now }
-    ensures spells { IfOk result (λ text. Spells (string_bytes text) (noted_module (map note_tree compiled.now.notes.items) compiled.now.netlist.cells compiled.now.netlist.outlets (length (report_tree compiled.now.report).outs))) }
+    ensures spells { IfOk result (λ text. Spells (string_bytes text) (noted_module (map note_tree compiled.now.notes) compiled.now.netlist.cells compiled.now.netlist.outlets (length (report_tree compiled.now.report).outs))) }
     ensures short { IfOk result (λ text. length (string_bytes text) < 2 ^ 32) }
     ensures text { IfOk result (λ text. IsModuleText (program_tree compiled.now.costed.program) compiled.now.costed.slowdown (st_func_trees compiled.now.costed.schedule) (string_bytes text)) }
 {
@@ -45,15 +50,15 @@ pub fn module_text(alloc: Global, compiled: &Compiled) -> Result<String, OutOfMe
     module_keeps();
     one_run();
     spelled_once();
-    let text = written(alloc, compiled)?;
+    let netlist = compiled.netlist();
+    let text = written(alloc, netlist, compiled.report(), compiled.notes())?;
     Ok(text)
 }
 
 /// The same of a compiled program with an enable: the module is correct for the program in the clocks in which its input `en`
 /// is 1.
-pub fn stalled_text(alloc: Global, compiled: &Compiled) -> Result<String, OutOfMemory>
-    requires { IsStalledProgram compiled.now }
-    ensures { IfOk result (λ text. IsStalledText (program_tree compiled.now.costed.program) compiled.now.costed.slowdown (st_func_trees compiled.now.costed.schedule) (string_bytes text)) }
+pub fn stalled_text(alloc: Global, stalled: &Stalled) -> Result<String, OutOfMemory>
+    ensures { IfOk result (λ text. IsStalledText (program_tree stalled.now.costed.program) stalled.now.costed.slowdown (st_func_trees stalled.now.costed.schedule) (string_bytes text)) }
 {
     circuits_are_writable();
     stalled_circuits_are_writable();
@@ -61,6 +66,7 @@ pub fn stalled_text(alloc: Global, compiled: &Compiled) -> Result<String, OutOfM
     module_keeps();
     one_run();
     spelled_once();
-    let text = written(alloc, compiled)?;
+    let netlist = stalled.netlist();
+    let text = written(alloc, netlist, stalled.report(), stalled.notes())?;
     Ok(text)
 }

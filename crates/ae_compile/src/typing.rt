@@ -30,6 +30,7 @@ fn checked(alloc: Global, p: Program) -> Result<Typed, CompileFault>
 pub fn typed(alloc: Global, part: &[u8]) -> Result<Typed, CompileFault>
     requires { length part.now < 4294967295 }
     ensures typed { IfOk result (λ t. IsTypedText part.now (program_tree t)) }
+    ensures formed { IfOk result (λ t. IsTrue (formed (program_tree t))) }
     ensures refused { IfErr result (λ s. IsTypedFault part.now s) }
 {
     match parse(alloc, part) {

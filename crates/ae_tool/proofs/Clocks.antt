@@ -4,16 +4,14 @@ use Rattle.ae_seq.specs.ProgramTree.{program_tree}
 use Rattle.ae_rewrite.specs.StProgramTree.{st_func_trees}
 use Rattle.ae_verilog.specs.ReportLines.{ReportTree}
 use Rattle.ae_play.specs.Lines.{clock_count}
-use Rattle.ae_compile.specs.declared.circuits.Compiled.{Compiled}
-use Rattle.ae_compile.specs.declared.costing.Costed.{Costed}
 use Rattle.ae_compile.specs.Costing.{main_costs}
-use Rattle.ae_compile.specs.Passes.{IsCompiledProgram}
+use Rattle.ae_compile.specs.Passes.{CompiledView, CostedView, IsCompiledProgram}
 
 -- as many clocks as are counted by the costs
-pub clocks_told : (d : Compiled) (k : Costed) (latency blocks clocks : ℕ) → d.costed ≡ k → IsCompiledProgram d → latency ≡ (main_costs (program_tree k.program) (st_func_trees k.schedule)).latency → clocks ≡ clock_count k.slowdown latency blocks
+pub clocks_told : (d : CompiledView) (k : CostedView) (latency blocks clocks : ℕ) → d.costed ≡ k → IsCompiledProgram d → latency ≡ (main_costs (program_tree k.program) (st_func_trees k.schedule)).latency → clocks ≡ clock_count k.slowdown latency blocks
     → clock_count d.costed.slowdown d.report.latency blocks ≡ clocks
 clocks_told d k latency blocks clocks same is late count =
-    let told : d.report.latency ≡ latency = ap (λ (r : ReportTree). r.latency) is.compiled.reported ∙ ap (λ (x : Costed). (main_costs (program_tree x.program) (st_func_trees x.schedule)).latency) same ∙ sym late in
+    let told : d.report.latency ≡ latency = ap (λ (r : ReportTree). r.latency) is.compiled.reported ∙ ap (λ (x : CostedView). (main_costs (program_tree x.program) (st_func_trees x.schedule)).latency) same ∙ sym late in
     (λ i. clock_count (same i).slowdown (told i) blocks) ∙ sym count
 
 -- a size within the limit has few of them

@@ -7,7 +7,6 @@ ghost use Rattle.ae_play.specs.Lines.{clock_count};
 ghost use Rattle.ae_tool.specs.EvalRows.{AreBlocks};
 ghost use Rattle.ae_tool.specs.PlanTexts.{counted_line};
 ghost use Rattle.ae_compile.specs.Costing.{IsCosted, load_limit};
-ghost use Rattle.ae_compile.specs.Passes.{IsCompiledProgram, IsCostedProgram};
 ghost use Rattle.ae_tool.specs.DemoTexts.{IsDemoText, IsSummedRun, demo_blocks, demo_program, demo_slowdown, demo_words, summary};
 
 use crate::run::clock_count;
@@ -91,7 +90,6 @@ fn summed(
     blocks: usize,
     fill: u64,
 ) -> Result<(String, Sums), OutOfMemory>
-    requires compiled { IsCompiledProgram compiled.now }
     requires short { clock_count compiled.now.costed.slowdown compiled.now.report.latency blocks < 2 ^ 32 }
     requires rows { (table : List (List (List ℕ))) × AreBlocks (program_tree compiled.now.costed.program) blocks table words.now }
     ensures { IfOk result (λ r. (table : List (List (List ℕ))) → AreBlocks (program_tree compiled.now.costed.program) blocks table words.now
@@ -99,8 +97,8 @@ fn summed(
 {
     let text = module_text(alloc, compiled)?;
     let played = play(alloc, compiled, text.as_str(), fill)?;
-    let told = &compiled.report;
-    let slowdown = compiled.costed.slowdown;
+    let told = compiled.report();
+    let slowdown = compiled.costed().slowdown();
     let sums = sum_clocks(
         alloc,
         &played,
@@ -120,17 +118,17 @@ fn demo_text(alloc: Global, costed: Costed, size: u32) -> Result<String, OutOfMe
     requires some { 1 ≤ size }
     requires limit { size ≤ 64 }
     requires is { costed.slowdown ≡ demo_slowdown size }
-    requires known { IsCostedProgram costed }
     requires costed { IsCosted load_limit (demo_program size) (demo_slowdown size) (program_tree costed.program) (st_func_trees costed.schedule) }
     ensures { IfOk result (λ text. IsDemoText size (string_bytes text)) }
 {
     let blocks = (2 * size) as usize;
-    let latency = costed.costs.latency();
-    let clocks = clock_count(costed.slowdown, latency, blocks);
+    let latency = costed.costs().latency();
+    let clocks = clock_count(costed.slowdown(), latency, blocks);
     if clocks > 4_294_967_295 {
         return Err(OutOfMemory);
     }
-    let widths = input_widths(alloc, costed.program.program())?;
+    let program = costed.program();
+    let widths = input_widths(alloc, program.program())?;
     if !are_wide(&widths, 16 * size) {
         return Err(OutOfMemory);
     }

@@ -4,7 +4,6 @@ ghost use Rattle.std.specs.Prelude.{◌≡◌, ◌<◌, ◌≤◌, IfOk, length,
 ghost use Rattle.ae_seq.specs.ProgramTree.{program_tree};
 ghost use Rattle.ae_rewrite.specs.StProgramTree.{st_func_trees};
 ghost use Rattle.ae_compile.specs.Mains.{HasMain};
-ghost use Rattle.ae_compile.specs.Passes.{IsCostedProgram};
 ghost use Rattle.ae_tool.specs.PlanTexts.{plan_text};
 ghost use Rattle.ae_tool.specs.CostTables.{table_text};
 ghost use Rattle.ae_tool.specs.Schedules.{IsPlanned, IsTabled};
@@ -13,28 +12,21 @@ use crate::cost_table::{cost_table, fused_table};
 use crate::plan_text::plan_text;
 use crate::reply::{Reply, refused_program};
 use crate::status::Status;
-use ae_compile::{Costed, Costs, LOAD_LIMIT, OutOfMemory, cost, main_func, main_instance};
+use ae_compile::{Costed, Costs, LOAD_LIMIT, OutOfMemory, cost};
 use std::alloc::Global;
 
 fn planned(alloc: Global, costed: &Costed) -> Result<String, OutOfMemory>
-    requires { IsCostedProgram costed.now }
     ensures { IfOk result (λ text. HasMain (program_tree costed.now.program) (st_func_trees costed.now.schedule) (λ f s ts. string_bytes text ≡ plan_text costed.now.slowdown (program_tree costed.now.program) f s ts)) }
 {
-    let func = main_func(&costed.program);
-    let instance = main_instance(&costed.schedule);
-    let last = costed.schedule.count() - 1;
-    let arrivals = match costed.costs.arrivals(last) {
+    let func = costed.main_func();
+    let instance = costed.main_instance();
+    let costs = costed.costs();
+    let last = costed.schedule().count() - 1;
+    let arrivals = match costs.arrivals(last) {
         Some(arrivals) => arrivals,
         None => unreachable!(),
     };
-    let text = plan_text(
-        alloc,
-        costed.slowdown,
-        &costed.costs,
-        func,
-        instance,
-        arrivals,
-    )?;
+    let text = plan_text(alloc, costed.slowdown(), costs, func, instance, arrivals)?;
     Ok(text)
 }
 
@@ -58,13 +50,13 @@ pub fn plan(alloc: Global, part: &[u8], slowdown: u32) -> Result<Reply, OutOfMem
 }
 
 fn tabled(alloc: Global, costed: &Costed) -> Result<String, OutOfMemory>
-    requires { IsCostedProgram costed.now }
     ensures { IfOk result (λ text. HasMain (program_tree costed.now.program) (st_func_trees costed.now.schedule) (λ f s ts. string_bytes text ≡ table_text (program_tree costed.now.program) f s ts)) }
 {
-    let func = main_func(&costed.program);
-    match &costed.costs {
+    let func = costed.main_func();
+    let costs = costed.costs();
+    match costs {
         Costs::Plain(timing) => cost_table(alloc, &func.nodes, timing),
-        Costs::Fused(_) => fused_table(alloc, func.end_line, &costed.costs),
+        Costs::Fused(_) => fused_table(alloc, func.end_line, costs),
     }
 }
 

@@ -9,7 +9,6 @@ ghost use Rattle.ae_seq.specs.ProgramTree.{program_tree};
 ghost use Rattle.ae_rewrite.specs.StProgramTree.{st_func_trees};
 ghost use Rattle.ae_play.specs.Lines.{clock_count};
 ghost use Rattle.ae_tool.specs.EvalRows.{AreRows, AreBlocks};
-ghost use Rattle.ae_compile.specs.Passes.{IsCompiledProgram, IsCostedProgram};
 ghost use Rattle.ae_tool.specs.RunTexts.{IsPlayed, IsRunOf, IsRunText, IsRunShown, input_count, output_count, run_limit, word_count};
 
 use crate::reply::{RUN_LIMIT, Reply, refused, refused_program};
@@ -17,8 +16,7 @@ use crate::status::Status;
 use crate::wave::wave_text;
 use crate::widths::input_widths;
 use ae_compile::{
-    Compiled, Costed, LOAD_LIMIT, OutOfMemory, compile, cost, main_instance, module_text,
-    output_layouts, play,
+    Compiled, Costed, LOAD_LIMIT, OutOfMemory, compile, cost, module_text, output_layouts, play,
 };
 use ae_parse::{RowFault, read_rows};
 use ae_play::write_clocks;
@@ -63,26 +61,23 @@ fn count_columns(layouts: &[StType]) -> u64
 
 // How many words all results have in a clock.
 fn output_count(alloc: Global, costed: &Costed) -> Result<u64, OutOfMemory>
-    requires { IsCostedProgram costed.now }
     ensures is { IfOk result (λ n. n ≡ output_count (program_tree costed.now.program) costed.now.slowdown) }
     ensures few { IfOk result (λ n. n ≤ 131072) }
 {
-    let outs = output_layouts(alloc, main_instance(&costed.schedule))?;
+    let outs = output_layouts(alloc, costed.main_instance())?;
     Ok(count_columns(&outs))
 }
 
 // How many words all parameters have in a clock.
 fn input_count(costed: &Costed) -> u64
-    requires { IsCostedProgram costed.now }
     ensures is { result ≡ input_count (program_tree costed.now.program) costed.now.slowdown }
     ensures few { result ≤ 131072 }
 {
-    count_columns(&main_instance(&costed.schedule).ins)
+    count_columns(&costed.main_instance().ins)
 }
 
 // How many words are written of a clock.
 fn word_count(alloc: Global, costed: &Costed, form: Form) -> Result<u64, OutOfMemory>
-    requires { IsCostedProgram costed.now }
     ensures is { IfOk result (λ n. n ≡ word_count form (program_tree costed.now.program) costed.now.slowdown) }
     ensures few { IfOk result (λ n. n ≤ 262145) }
 {
@@ -101,7 +96,6 @@ fn run_text(
     blocks: usize,
     fill: u64,
 ) -> Result<String, OutOfMemory>
-    requires compiled { IsCompiledProgram compiled.now }
     requires short { clock_count compiled.now.costed.slowdown compiled.now.report.latency blocks < 2 ^ 32 }
     requires rows { (table : List (List (List ℕ))) × AreBlocks (program_tree compiled.now.costed.program) blocks table words.now }
     ensures { IfOk result (λ text. (table : List (List (List ℕ))) → AreBlocks (program_tree compiled.now.costed.program) blocks table words.now
@@ -110,8 +104,8 @@ fn run_text(
     let mut text = module_text(alloc, compiled)?;
     let played = play(alloc, compiled, text.as_str(), fill)?;
     text.push_str("%% clocks\n")?;
-    let told = &compiled.report;
-    let slowdown = compiled.costed.slowdown;
+    let told = compiled.report();
+    let slowdown = compiled.costed().slowdown();
     write_clocks(
         alloc,
         &mut text,
@@ -137,7 +131,6 @@ fn shown(
     fill: u64,
     form: Form,
 ) -> Result<String, OutOfMemory>
-    requires compiled { IsCompiledProgram compiled.now }
     requires clocks { clocks ≡ clock_count compiled.now.costed.slowdown compiled.now.report.latency blocks }
     requires small { clocks * (1 + word_count form (program_tree compiled.now.costed.program) compiled.now.costed.slowdown) ≤ run_limit }
     requires rows { (table : List (List (List ℕ))) × AreBlocks (program_tree compiled.now.costed.program) blocks table words.now }
@@ -159,13 +152,13 @@ fn run_words(
     fill: u64,
     form: Form,
 ) -> Result<Reply, OutOfMemory>
-    requires costed { IsCostedProgram costed }
     requires rows { (table : List (List (List ℕ))) × AreRows (program_tree costed.program) columns table words.now }
     ensures { IfOk result (λ reply. (table : List (List (List ℕ))) → AreRows (program_tree costed.program) columns table words.now
         → IsRunOf form fill (program_tree costed.program) costed.slowdown (st_func_trees costed.schedule) table reply.status (string_bytes reply.text)) }
 {
+    let costs = costed.costs();
     let blocks = words.len() / columns;
-    let clocks = clock_count(costed.slowdown, costed.costs.latency(), blocks);
+    let clocks = clock_count(costed.slowdown(), costs.latency(), blocks);
     let size = clocks * (1 + word_count(alloc, &costed, form)?);
     if size > RUN_LIMIT {
         return refused(alloc, Status::LongRun { size });
@@ -187,10 +180,10 @@ fn run_rows(
     form: Form,
 ) -> Result<Reply, OutOfMemory>
     requires rest { length rest.now < 2 ^ 32 }
-    requires costed { IsCostedProgram costed }
     ensures { IfOk result (λ reply. IsRunOf form fill (program_tree costed.program) costed.slowdown (st_func_trees costed.schedule) (rows rest.now) reply.status (string_bytes reply.text)) }
 {
-    let widths = input_widths(alloc, costed.program.program())?;
+    let program = costed.program();
+    let widths = input_widths(alloc, program.program())?;
     match read_rows(alloc, rest, widths.as_slice()) {
         Ok(table) => run_words(
             alloc,

@@ -33,18 +33,18 @@ fn run_words(
     blocks: usize,
     fill: u64,
 ) -> Result<Vec<u64>, OutOfMemory>
-    requires compiled { IsCompiledProgram compiled.now }
     requires short { clock_count compiled.now.costed.slowdown compiled.now.report.latency blocks < 2 ^ 32 }
     requires rows { (table : List (List (List ℕ))) × AreBlocks (program_tree compiled.now.costed.program) blocks table words.now }
     requires text { length text.now < 2 ^ 32 }
-    requires spells { Spells text.now (noted_module (map note_tree compiled.now.notes.items) compiled.now.netlist.cells compiled.now.netlist.outlets (length (report_tree compiled.now.report).outs)) }
-    ensures { IfOk result (λ all. (table : List (List (List ℕ))) → AreBlocks (program_tree compiled.now.costed.program) blocks table words.now
-        → AreClockWords (noted_module (map note_tree compiled.now.notes.items) compiled.now.netlist.cells compiled.now.netlist.outlets (length (report_tree compiled.now.report).outs)) compiled.now.costed.slowdown compiled.now.report.latency fill (report_tree compiled.now.report).ins
+    requires spells { Spells text.now (noted_module (map note_tree compiled.now.notes) compiled.now.netlist.cells compiled.now.netlist.outlets (length (report_tree compiled.now.report).outs)) }
+    ensures compiled { IsCompiledProgram compiled.now }
+    ensures words { IfOk result (λ all. (table : List (List (List ℕ))) → AreBlocks (program_tree compiled.now.costed.program) blocks table words.now
+        → AreClockWords (noted_module (map note_tree compiled.now.notes) compiled.now.netlist.cells compiled.now.netlist.outlets (length (report_tree compiled.now.report).outs)) compiled.now.costed.slowdown compiled.now.report.latency fill (report_tree compiled.now.report).ins
         (blocks_of (parameter_types (program_tree compiled.now.costed.program)) table) all.items) }
 {
+    let told = compiled.report();
+    let slowdown = compiled.costed().slowdown();
     let played = play(alloc, compiled, text, fill)?;
-    let told = &compiled.report;
-    let slowdown = compiled.costed.slowdown;
     let all = clock_words(
         alloc,
         &played,
@@ -76,10 +76,9 @@ fn run_wave(
     clocks: u64,
     words: Vec<u64>,
 ) -> Result<Wave, AllocError>
-    requires compiled { IsCompiledProgram compiled.now }
     requires small { clocks * (1 + word_count Dump (program_tree compiled.now.costed.program) compiled.now.costed.slowdown) ≤ run_limit }
-    requires words { AreWordsOf (noted_module (map note_tree compiled.now.notes.items) compiled.now.netlist.cells compiled.now.netlist.outlets (length (report_tree compiled.now.report).outs)) clocks words.items }
-    ensures wave { IfOk result (λ w. wave_tree w ≡ run_wave (noted_module (map note_tree compiled.now.notes.items) compiled.now.netlist.cells compiled.now.netlist.outlets (length (report_tree compiled.now.report).outs)) clocks words.items) }
+    requires words { AreWordsOf (noted_module (map note_tree compiled.now.notes) compiled.now.netlist.cells compiled.now.netlist.outlets (length (report_tree compiled.now.report).outs)) clocks words.items }
+    ensures wave { IfOk result (λ w. wave_tree w ≡ run_wave (noted_module (map note_tree compiled.now.notes) compiled.now.netlist.cells compiled.now.netlist.outlets (length (report_tree compiled.now.report).outs)) clocks words.items) }
     ensures formed { IfOk result (λ w. IsFormedWave (wave_tree w)) }
 {
     let ports = module_ports(alloc, compiled)?;
@@ -113,7 +112,6 @@ pub fn wave_text(
     clocks: u64,
     fill: u64,
 ) -> Result<String, OutOfMemory>
-    requires compiled { IsCompiledProgram compiled.now }
     requires clocks { clocks ≡ clock_count compiled.now.costed.slowdown compiled.now.report.latency blocks }
     requires small { clocks * (1 + word_count Dump (program_tree compiled.now.costed.program) compiled.now.costed.slowdown) ≤ run_limit }
     requires rows { (table : List (List (List ℕ))) × AreBlocks (program_tree compiled.now.costed.program) blocks table words.now }

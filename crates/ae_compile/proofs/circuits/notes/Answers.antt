@@ -1,4 +1,4 @@
-use Rattle.std.proofs.Common.{◌≡◌, ◌∙◌, true, false, Bool, if◌then◌else◌, ap, length, subst}
+use Rattle.std.proofs.Common.{◌≡◌, ◌∙◌, true, false, Bool, if◌then◌else◌, ap, length, sym, subst}
 use Rattle.ae_seq.specs.ProgramTree.{program_tree, func_tree}
 use Rattle.ae_rewrite.specs.StProgramTree.{st_func_tree, st_func_trees}
 use Rattle.ae_rewrite.specs.Sound.{item_layouts}
@@ -11,29 +11,29 @@ use Rattle.ae_compile.proofs.circuits.notes.Goals as goal
 
 pub line_notes-requires-clause-instance : goal.line_notes-requires-clause-instance
 line_notes-requires-clause-instance c =
-    let k = c.requires.costed in
+    let k = c.costs.ensures.known in
     main_items (program_tree c.args.costed.now.program) c.args.costed.now.slowdown (st_func_trees c.args.costed.now.schedule) (func_tree c.main_func-func.result.now) (st_func_tree c.main_instance-instance.result.now)
-    c.main_func-func.ensures.formed k.schedule k.sound c.main_func-func.ensures.last c.main_instance-instance.ensures
+    c.main_func-func.ensures.formed k.schedule k.sound c.main_func-func.ensures.last c.main_instance-instance.ensures.last
 
 pub line_notes-requires-clause-marks : goal.line_notes-requires-clause-marks
 line_notes-requires-clause-marks c =
     let p = program_tree c.args.costed.now.program in
     let f = func_tree c.main_func-func.result.now in
-    let computes : is_movement p ≡ false = (subst (AreCosts p (st_func_trees c.args.costed.now.schedule)) c.in-Plain.is c.requires.costed.costs_are).0 in
-    c.requires.marks f c.main_func-func.ensures.last ∙ ap (λ (b : Bool). if b then length f.results else length f.nodes) computes
+    let computes : is_movement p ≡ false = (subst (AreCosts p (st_func_trees c.args.costed.now.schedule)) (sym c.costs.ensures.is ∙ c.in-Plain.is) c.costs.ensures.known.costs_are).0 in
+    c.requires f c.main_func-func.ensures.last ∙ ap (λ (b : Bool). if b then length f.results else length f.nodes) computes
 
 pub end_notes-requires-clause-instance : goal.end_notes-requires-clause-instance
 end_notes-requires-clause-instance c =
-    let k = c.requires.costed in
+    let k = c.costs.ensures.known in
     main_items (program_tree c.args.costed.now.program) c.args.costed.now.slowdown (st_func_trees c.args.costed.now.schedule) (func_tree c.main_func-func.result.now) (st_func_tree c.main_instance-instance.result.now)
-    c.main_func-func.ensures.formed k.schedule k.sound c.main_func-func.ensures.last c.main_instance-instance.ensures
+    c.main_func-func.ensures.formed k.schedule k.sound c.main_func-func.ensures.last c.main_instance-instance.ensures.last
 
 pub end_notes-requires-clause-marks : goal.end_notes-requires-clause-marks
 end_notes-requires-clause-marks c =
     let p = program_tree c.args.costed.now.program in
     let f = func_tree c.main_func-func.result.now in
-    let moves : is_movement p ≡ true = (subst (AreCosts p (st_func_trees c.args.costed.now.schedule)) c.in-Fused.is c.requires.costed.costs_are).movement in
-    c.requires.marks f c.main_func-func.ensures.last ∙ ap (λ (b : Bool). if b then length f.results else length f.nodes) moves
+    let moves : is_movement p ≡ true = (subst (AreCosts p (st_func_trees c.args.costed.now.schedule)) (sym c.costs.ensures.is ∙ c.in-Fused.is) c.costs.ensures.known.costs_are).movement in
+    c.requires f c.main_func-func.ensures.last ∙ ap (λ (b : Bool). if b then length f.results else length f.nodes) moves
 
 pub returns-in-Plain-clause-are : goal.returns-in-Plain-clause-are
 returns-in-Plain-clause-are c =
@@ -41,8 +41,8 @@ returns-in-Plain-clause-are c =
     let all = st_func_trees c.args.costed.now.schedule in
     let f = func_tree c.main_func-func.result.now in
     let s = st_func_tree c.main_instance-instance.result.now in
-    let computes : is_movement p ≡ false = (subst (AreCosts p all) c.in-Plain.is c.requires.costed.costs_are).0 in
-    nodes_told c.line_notes.result p all f s c.args.marks.now computes c.main_func-func.ensures.last c.main_instance-instance.ensures c.line_notes.ensures
+    let computes : is_movement p ≡ false = (subst (AreCosts p all) (sym c.costs.ensures.is ∙ c.in-Plain.is) c.costs.ensures.known.costs_are).0 in
+    nodes_told c.line_notes.result p all f s c.args.marks.now computes c.main_func-func.ensures.last c.main_instance-instance.ensures.last c.line_notes.ensures
 
 pub returns-in-Plain-clause-printed : goal.returns-in-Plain-clause-printed
 returns-in-Plain-clause-printed c =
@@ -57,8 +57,8 @@ returns-in-Fused-clause-are c =
     let all = st_func_trees c.args.costed.now.schedule in
     let f = func_tree c.main_func-func.result.now in
     let s = st_func_tree c.main_instance-instance.result.now in
-    let moves : is_movement p ≡ true = (subst (AreCosts p all) c.in-Fused.is c.requires.costed.costs_are).movement in
-    results_told c.end_notes.result p all f s c.args.marks.now moves c.main_func-func.ensures.last c.main_instance-instance.ensures c.end_notes.ensures
+    let moves : is_movement p ≡ true = (subst (AreCosts p all) (sym c.costs.ensures.is ∙ c.in-Fused.is) c.costs.ensures.known.costs_are).movement in
+    results_told c.end_notes.result p all f s c.args.marks.now moves c.main_func-func.ensures.last c.main_instance-instance.ensures.last c.end_notes.ensures
 
 pub returns-in-Fused-clause-printed : goal.returns-in-Fused-clause-printed
 returns-in-Fused-clause-printed c =

@@ -11,13 +11,14 @@ use Rattle.ae_compile.proofs.texts.module_text.Goals as goal
 pub written-requires : goal.written-requires
 written-requires c =
     let d = c.args.compiled.now in
+    rw (c.netlist-netlist.ensures.is, c.report.ensures.is, c.notes.ensures)
     record {
-      printed = c.requires.compiled.printed;
-      short = compiled_short (program_tree d.costed.program) d.costed.slowdown (st_func_trees d.costed.schedule) d.costed.costs d.netlist (report_tree d.report) (map note_tree d.notes.items) c.requires.costed c.requires.compiled;
+      printed = c.netlist-netlist.ensures.known.compiled.printed;
+      short = compiled_short (program_tree d.costed.program) d.costed.slowdown (st_func_trees d.costed.schedule) d.costed.costs d.netlist (report_tree d.report) (map note_tree d.notes) c.netlist-netlist.ensures.known.costed c.netlist-netlist.ensures.known.compiled;
     }
 
 pub returns-clause-spells : goal.returns-clause-spells
-returns-clause-spells c = c.in_ok-text.ensures.spells
+returns-clause-spells c = (rw (c.netlist-netlist.ensures.is, c.report.ensures.is, c.notes.ensures) at c.in_ok-text.ensures).spells
 
 pub returns-clause-short : goal.returns-clause-short
 returns-clause-short c = c.in_ok-text.ensures.few
@@ -32,5 +33,5 @@ returns-clause-text c =
       once = c.one_run.ensures.once;
       spelled = c.spelled_once.ensures;
     } in
-    module_is (program_tree d.costed.program) d.costed.slowdown (st_func_trees d.costed.schedule) d.costed.costs d.netlist (report_tree d.report) (map note_tree d.notes.items) (string_bytes c.in_ok-text.text) laws
-    c.requires.costed c.requires.compiled c.in_ok-text.ensures
+    module_is (program_tree d.costed.program) d.costed.slowdown (st_func_trees d.costed.schedule) d.costed.costs d.netlist (report_tree d.report) (map note_tree d.notes) (string_bytes c.in_ok-text.text) laws
+    c.netlist-netlist.ensures.known.costed c.netlist-netlist.ensures.known.compiled (rw (c.netlist-netlist.ensures.is, c.report.ensures.is, c.notes.ensures) at c.in_ok-text.ensures)

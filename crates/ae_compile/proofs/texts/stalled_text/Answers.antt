@@ -10,15 +10,16 @@ use Rattle.ae_compile.proofs.texts.stalled_text.Goals as goal
 
 pub written-requires : goal.written-requires
 written-requires c =
-    let d = c.args.compiled.now in
+    let d = c.args.stalled.now in
+    rw (c.netlist-netlist.ensures.is, c.report.ensures, c.notes.ensures)
     record {
-      printed = c.requires.compiled.printed;
-      short = stalled_short (program_tree d.costed.program) d.costed.slowdown (st_func_trees d.costed.schedule) d.costed.costs d.netlist (report_tree d.report) (map note_tree d.notes.items) c.requires.costed c.requires.light c.requires.compiled;
+      printed = c.netlist-netlist.ensures.known.compiled.printed;
+      short = stalled_short (program_tree d.costed.program) d.costed.slowdown (st_func_trees d.costed.schedule) d.costed.costs d.netlist (report_tree d.report) (map note_tree d.notes) c.netlist-netlist.ensures.known.costed c.netlist-netlist.ensures.known.light c.netlist-netlist.ensures.known.compiled;
     }
 
 pub returns : goal.returns
 returns c =
-    let d = c.args.compiled.now in
+    let d = c.args.stalled.now in
     let laws : HaveStalledLaws = record {
       writing = record { writable = c.circuits_are_writable.ensures; runs = c.module_keeps.ensures.runs; formed = c.module_keeps.ensures.formed };
       writable = c.stalled_circuits_are_writable.ensures;
@@ -27,5 +28,5 @@ returns c =
       once = c.one_run.ensures.once;
       spelled = c.spelled_once.ensures;
     } in
-    stalled_is (program_tree d.costed.program) d.costed.slowdown (st_func_trees d.costed.schedule) d.netlist (report_tree d.report) (map note_tree d.notes.items) (string_bytes c.in_ok-text.text) laws
-    c.requires.light c.requires.compiled c.in_ok-text.ensures
+    stalled_is (program_tree d.costed.program) d.costed.slowdown (st_func_trees d.costed.schedule) d.netlist (report_tree d.report) (map note_tree d.notes) (string_bytes c.in_ok-text.text) laws
+    c.netlist-netlist.ensures.known.light c.netlist-netlist.ensures.known.compiled (rw (c.netlist-netlist.ensures.is, c.report.ensures, c.notes.ensures) at c.in_ok-text.ensures)

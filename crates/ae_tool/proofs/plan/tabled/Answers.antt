@@ -30,9 +30,9 @@ cost_table-requires-clause-long c =
     let p = program_tree c.args.costed.now.program in
     let all = st_func_trees c.args.costed.now.schedule in
     let f = func_tree c.main_func-func.result.now in
-    let key = c.requires.schedule.last in
-    let times = (subst (AreCosts p all) c.in-Plain.is c.requires.costs_are).1 in
-    nodes_known p c.args.costed.now.slowdown all f key.instance c.in-Plain.timing c.requires.schedule times c.main_func-func.ensures.last key.here
+    let key = c.costs-costs.ensures.known.schedule.last in
+    let times = (subst (AreCosts p all) (sym c.costs-costs.ensures.is ∙ c.in-Plain.is) c.costs-costs.ensures.known.costs_are).1 in
+    nodes_known p c.args.costed.now.slowdown all f key.instance c.in-Plain.timing c.costs-costs.ensures.known.schedule times c.main_func-func.ensures.last key.here
     ∙ length-map c.main_func-func.result.now.nodes.items node_tree ∙ ap length (sym c.deref.ensures.value)
 
 pub cost_table-requires-clause-few : goal.cost_table-requires-clause-few
@@ -45,8 +45,8 @@ cost_table-requires-clause-few c =
 pub fused_table-requires : goal.fused_table-requires
 fused_table-requires c =
     let k = c.args.costed.now in
-    let costs = known_costs load_limit (program_tree k.program) k.slowdown (st_func_trees k.schedule) k.costs c.requires in
-    subst (λ (x : OwnCosts). x.load ≤ load_limit) (sym costs) c.requires.light
+    let costs = ap whole_costs c.costs-costs.ensures.is ∙ known_costs load_limit (program_tree k.program) k.slowdown (st_func_trees k.schedule) k.costs c.costs-costs.ensures.known in
+    subst (λ (x : OwnCosts). x.load ≤ load_limit) (sym costs) c.costs-costs.ensures.known.light
 
 pub returns-in-Plain : goal.returns-in-Plain
 returns-in-Plain c =
@@ -54,8 +54,8 @@ returns-in-Plain c =
     let all = st_func_trees c.args.costed.now.schedule in
     let f = func_tree c.main_func-func.result.now in
     let costs = c.in-Plain.timing.nodes in
-    let key = c.requires.schedule.last in
-    let are = subst (AreCosts p all) c.in-Plain.is c.requires.costs_are in
+    let key = c.costs-costs.ensures.known.schedule.last in
+    let are = subst (AreCosts p all) (sym c.costs-costs.ensures.is ∙ c.in-Plain.is) c.costs-costs.ensures.known.costs_are in
     let nodes = ap (λ (ns : List Node). cost_table (map node_tree ns) costs) c.deref.ensures.value in
     IfOk-weaker c.cost_table.result (λ (t : String Global). string_bytes t ≡ cost_table (map node_tree c.deref.result.now) costs)
     (λ (t : String Global). HasMain p all (λ g s ts. string_bytes t ≡ table_text p g s ts))
@@ -66,8 +66,8 @@ returns-in-Fused c =
     let p = program_tree c.args.costed.now.program in
     let all = st_func_trees c.args.costed.now.schedule in
     let f = func_tree c.main_func-func.result.now in
-    let is = subst (AreCosts p all) c.in-Fused.is c.requires.costs_are in
+    let is = subst (AreCosts p all) (sym c.costs-costs.ensures.is ∙ c.in-Fused.is) c.costs-costs.ensures.known.costs_are in
     let whole = ap whole_costs c.in-Fused.is in
-    IfOk-weaker c.fused_table.result (λ (t : String Global). string_bytes t ≡ fused_table f.end_line (whole_costs c.args.costed.now.costs))
+    IfOk-weaker c.fused_table.result (λ (t : String Global). string_bytes t ≡ fused_table f.end_line (whole_costs c.costs-costs.result.now))
     (λ (t : String Global). HasMain p all (λ g s ts. string_bytes t ≡ table_text p g s ts))
     (λ t w. main_fused p all f c.in-Fused.field-0 (string_bytes t) c.main_func-func.ensures.last is (w ∙ ap (fused_table f.end_line) whole)) c.fused_table.ensures

@@ -13,20 +13,20 @@ use Rattle.ae_tool.proofs.Columns.{all_sized, few_layouts, main_is, results_coun
 use Rattle.ae_tool.proofs.run.output_count.Goals as goal
 
 pub output_layouts-requires : goal.output_layouts-requires
-output_layouts-requires c = (c.requires.sound.each (last_of (st_func_trees c.args.costed.now.schedule)) (st_func_tree c.main_instance.result.now) c.main_instance.ensures).results
+output_layouts-requires c = (c.main_instance.ensures.known.sound.each (last_of (st_func_trees c.args.costed.now.schedule)) (st_func_tree c.main_instance.result.now) c.main_instance.ensures.last).results
 
 pub count_columns-requires-clause-sized : goal.count_columns-requires-clause-sized
 count_columns-requires-clause-sized c =
     let s = st_func_tree c.main_instance.result.now in
     let are : map st_tree c.deref.result.now ≡ results_of s = ap (map st_tree) c.deref.ensures.value ∙ c.in_ok-outs.ensures in
-    subst (All IsInSize) (sym are) (all_sized (results_of s) (small_results (st_func_trees c.args.costed.now.schedule) s c.requires.sound c.main_instance.ensures))
+    subst (All IsInSize) (sym are) (all_sized (results_of s) (small_results (st_func_trees c.args.costed.now.schedule) s c.main_instance.ensures.known.sound c.main_instance.ensures.last))
 
 pub count_columns-requires-clause-few : goal.count_columns-requires-clause-few
 count_columns-requires-clause-few c =
     let all = st_func_trees c.args.costed.now.schedule in
     let s = st_func_tree c.main_instance.result.now in
     let are : map st_tree c.deref.result.now ≡ results_of s = ap (map st_tree) c.deref.ensures.value ∙ c.in_ok-outs.ensures in
-    let few : length (results_of s) ≤ 8 = few_layouts all s (c.requires.sound.each (last_of all) s c.main_instance.ensures) in
+    let few : length (results_of s) ≤ 8 = few_layouts all s (c.main_instance.ensures.known.sound.each (last_of all) s c.main_instance.ensures.last) in
     omega (arith, few, ap length are, length-map c.deref.result.now st_tree)
 
 pub returns-clause-is : goal.returns-clause-is
@@ -36,4 +36,4 @@ returns-clause-is c =
     let s = st_func_tree c.main_instance.result.now in
     let are : map st_tree c.deref.result.now ≡ results_of s = ap (map st_tree) c.deref.ensures.value ∙ c.in_ok-outs.ensures in
     c.count_columns.ensures.is ∙ ap (sum_by columns_of) are
-    ∙ results_counted p c.args.costed.now.slowdown all s c.requires.typed (main_is p c.args.costed.now.slowdown all s c.requires.schedule c.requires.sound c.main_instance.ensures)
+    ∙ results_counted p c.args.costed.now.slowdown all s c.main_instance.ensures.known.typed (main_is p c.args.costed.now.slowdown all s c.main_instance.ensures.known.schedule c.main_instance.ensures.known.sound c.main_instance.ensures.last)

@@ -3,27 +3,21 @@ use Rattle.std.specs.Prelude.{string_bytes}
 use Rattle.ae_seq.specs.ProgramTree.{program_tree}
 use Rattle.ae_rewrite.specs.StProgramTree.{st_func_trees}
 use Rattle.ae_stalled.specs.Laws.{stall_limit}
-use Rattle.ae_compile.specs.declared.costing.Costed.{Costed}
+use Rattle.ae_compile.specs.Passes.{CostedView}
 use Rattle.ae_compile.specs.Building.{IsBuiltStalled, IsStalledText}
 use Rattle.ae_compile.specs.Costing.{main_costs}
 use Rattle.ae_tool.proofs.Refused.{answered_refused}
 use Rattle.ae_tool.proofs.stall.stall.Goals as goal
 
-pub compile_stalled-requires-clause-known : goal.compile_stalled-requires-clause-known
-compile_stalled-requires-clause-known c =
-    let k = c.in-Ok.ensures.known in
-    let load : (main_costs (program_tree c.in-Ok.costed.program) (st_func_trees c.in-Ok.costed.schedule)).load ≤ 50000 = k.light in
-    record { some = k.some; most = k.most; typed = k.typed; schedule = k.schedule; sound = k.sound; costs_are = k.costs_are; light = omega (arith, load) }
-
-pub compile_stalled-requires-clause-light : goal.compile_stalled-requires-clause-light
-compile_stalled-requires-clause-light c = c.in-Ok.ensures.known.light
+pub compile_stalled-requires : goal.compile_stalled-requires
+compile_stalled-requires c = c.in-Ok.ensures.known.light
 
 pub returns-in_ok-text-in-Ok : goal.returns-in_ok-text-in-Ok
 returns-in_ok-text-in-Ok c =
     let k = c.in-Ok.costed in
     let text = string_bytes c.in_ok-text-in-Ok.text in
     let here : IsStalledText (program_tree k.program) k.slowdown (st_func_trees k.schedule) text =
-    subst (λ (x : Costed). IsStalledText (program_tree x.program) x.slowdown (st_func_trees x.schedule) text) c.in_ok-compiled-in-Ok.ensures.of c.in_ok-text-in-Ok.ensures in
+    subst (λ (x : CostedView). IsStalledText (program_tree x.program) x.slowdown (st_func_trees x.schedule) text) c.in_ok-compiled-in-Ok.ensures.of c.in_ok-text-in-Ok.ensures in
     record {
       program = program_tree k.program;
       instances = st_func_trees k.schedule;

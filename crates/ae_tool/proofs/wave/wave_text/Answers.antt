@@ -31,15 +31,15 @@ run_words-requires-clause-text c = subst (λ (bs : List ℕ). length bs < 2 ^ 32
 pub run_words-requires-clause-spells : goal.run_words-requires-clause-spells
 run_words-requires-clause-spells c =
     let d = c.args.compiled.now in
-    subst (λ (bs : List ℕ). Spells bs (noted_module (map note_tree d.notes.items) d.netlist.cells d.netlist.outlets (length (report_tree d.report).outs))) (sym c.as_str.ensures.value) c.in_ok-built.ensures.spells
+    subst (λ (bs : List ℕ). Spells bs (noted_module (map note_tree d.notes) d.netlist.cells d.netlist.outlets (length (report_tree d.report).outs))) (sym c.as_str.ensures.value) c.in_ok-built.ensures.spells
 
 pub run_wave-requires-clause-words : goal.run_wave-requires-clause-words
 run_wave-requires-clause-words c =
     let d = c.args.compiled.now in
     let p = program_tree d.costed.program in
-    let own : ModuleTree = noted_module (map note_tree d.notes.items) d.netlist.cells d.netlist.outlets (length (report_tree d.report).outs) in
+    let own : ModuleTree = noted_module (map note_tree d.notes) d.netlist.cells d.netlist.outlets (length (report_tree d.report).outs) in
     as_words_of own d.costed.slowdown d.report.latency c.args.fill (report_tree d.report).ins c.args.blocks (blocks_of (parameter_types p) c.requires.rows.0) c.args.clocks c.in_ok-all.all.items c.requires.clocks
-    (c.requires.rows.1.many ∙ sym (length-map c.requires.rows.0 _)) (c.in_ok-all.ensures c.requires.rows.0 c.requires.rows.1)
+    (c.requires.rows.1.many ∙ sym (length-map c.requires.rows.0 _)) (c.in_ok-all.ensures.words c.requires.rows.0 c.requires.rows.1)
 
 pub returns : goal.returns
 returns c = λ table a.
@@ -47,7 +47,7 @@ returns c = λ table a.
     let p = program_tree d.costed.program in
     let all = st_func_trees d.costed.schedule in
     let report = report_tree d.report in
-    let notes = map note_tree d.notes.items in
+    let notes = map note_tree d.notes in
     let own : ModuleTree = noted_module notes d.netlist.cells d.netlist.outlets (length report.outs) in
     let words : List ℕ = c.in_ok-all.all.items in
     let tree : wave_tree c.in_ok-wave.wave ≡ run_wave own c.args.clocks words = c.in_ok-wave.ensures.wave in
@@ -56,4 +56,4 @@ returns c = λ table a.
     let dump : c.as_str-3.result.now ≡ wave_text (run_wave own c.args.clocks words) = c.as_str-3.ensures.value ∙ c.in_ok-dump.ensures ∙ ap wave_text tree in
     let whole : string_bytes c.in_ok-text.text ≡ commented (string_bytes c.in_ok-built.built) (wave_text (run_wave own c.args.clocks words)) = c.in_ok-text.ensures ∙ (λ i. commented (c.as_str-2.ensures.value i) (dump i)) in
     wave_text_is c.args.fill p d.costed.slowdown all table d.netlist report notes (string_bytes c.in_ok-built.built) words c.args.clocks (string_bytes c.in_ok-text.text)
-    c.requires.compiled.compiled c.in_ok-built.ensures.text c.in_ok-built.ensures.spells (c.in_ok-all.ensures table a) formed c.comments_are_passed.ensures c.texts_are_dumps.ensures counts whole
+    c.in_ok-all.ensures.compiled.compiled c.in_ok-built.ensures.text c.in_ok-built.ensures.spells (c.in_ok-all.ensures.words table a) formed c.comments_are_passed.ensures c.texts_are_dumps.ensures counts whole
