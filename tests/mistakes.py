@@ -90,4 +90,5 @@ def main():
     return told("mistakes", found)
 
 
-sys.exit(main())
+if __name__ == "__main__":
+    sys.exit(main())

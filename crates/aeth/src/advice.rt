@@ -30,31 +30,31 @@ pub fn advice(status: Status) -> Option<&'static str> {
         Status::Ok => None,
         Status::Usage => Some(USAGE),
         Status::BadLine { line: _ } => Some(
-            "aeth: on this line the text leaves the language: docs/REFUSED.md, 'bad line', says what to look for there",
+            "aeth: on this line the text leaves the language: `aethkit why` with these words says where; docs/REFUSED.md, 'bad line'",
         ),
         Status::BadType { line: _ } => Some(
-            "aeth: the arguments of this line have other types than its operator takes: `aeth check` of the lines above tells them; docs/REFUSED.md, 'bad type'",
+            "aeth: the arguments of this line have other types than its operator takes: `aethkit why` with these words tells them; docs/REFUSED.md, 'bad type'",
         ),
         Status::TooLarge { line: _ } => Some(
-            "aeth: this line passes a limit: docs/LIMITS.md has them all; docs/REFUSED.md, 'too large', says what helps",
+            "aeth: this line passes a limit: `aethkit why` with these words says which; docs/LIMITS.md; docs/REFUSED.md, 'too large'",
         ),
         Status::NoSchedule { line: _ } => Some(
-            "aeth: a type of this line has no layout in so many clocks: docs/SLOWDOWN.md says which slowdowns are good; docs/REFUSED.md, 'no schedule'",
+            "aeth: a type of this line has no layout in so many clocks: `aethkit why` with these words tells near ones that have; docs/SLOWDOWN.md",
         ),
         Status::BadWords { row: _, column: _ } => Some(
-            "aeth: a row has one decimal number for each word of all parameters, each below 2 to its width: docs/REFUSED.md, 'bad words'",
+            "aeth: a row has one decimal number for each word of all parameters, each below 2 to its width: `aethkit why` with these words shows which is none; docs/REFUSED.md, 'bad words'",
         ),
         Status::BadModule { fault: _ } => Some(
-            "aeth: the text is no module that can be simulated: docs/VERILOG.md has the whole subset, docs/OUTPUTS.md what the place means",
+            "aeth: the text is no module that can be simulated: `aethkit why` with these words says where; docs/VERILOG.md has the whole subset",
         ),
         Status::LongRun { size: _ } => Some(
-            "aeth: a run has at most 4194304 words, clock or row numbers among them: give fewer rows at a time; docs/LIMITS.md",
+            "aeth: a run has at most 4194304 words, clock or row numbers among them: `aethkit why` with these words says how many rows fit; docs/LIMITS.md",
         ),
         Status::BadWave { at: _ } => Some(
-            "aeth: the word, counted from 0, is the first at which the text is no dump of two-valued words: docs/WAVES.md",
+            "aeth: the word, counted from 0, is the first at which the text is no dump of two-valued words: `aethkit why unwave` shows it; docs/WAVES.md",
         ),
         Status::NotMoves { line: _ } => Some(
-            "aeth: this line computes, and `least` takes programs that only move words: docs/FUSED.md lists the operators",
+            "aeth: this line computes, and `least` takes programs that only move words: `aethkit why` with these words says what it does; docs/FUSED.md",
         ),
         Status::TooLong => Some("aeth: the input has more than 16777216 bytes; docs/LIMITS.md"),
         _ => Some("aeth: docs/REFUSED.md has the usual causes of each answer, and what to try"),

@@ -5,11 +5,11 @@ ghost use Rattle.std.specs.Prelude.{◌<◌, ◌≤◌, length, All, IfOk};
 use crate::blocks::{program_part, rows_part};
 use crate::fault::KitFault;
 use crate::ports::{Bundle, Column, inputs, outputs, write_range};
-use crate::progress::Watch;
-use ae_compile::{Costed, LOAD_LIMIT, cost, main_func};
+use ae_compile::{Costed, LOAD_LIMIT, cost};
 use ae_eval::{eval, fits};
 use ae_parse::read_rows;
 use ae_seqtype::Value;
+use ae_why::Watch;
 use ae_word::Atom;
 use std::alloc::{AllocError, Global};
 
@@ -55,7 +55,7 @@ fn push_widths(widths: &mut Vec<u32>, atom: &Atom) -> Result<(), AllocError> {
 // The widths of the words of a row.
 fn widths(alloc: Global, costed: &Costed) -> Result<Vec<u32>, AllocError> {
     let mut widths = Vec::new(alloc);
-    for param in &main_func(&costed.program).params {
+    for param in &costed.main_func().params {
         let count = if param.ty.in_size() {
             param.ty.atoms()
         } else {
@@ -72,7 +72,7 @@ fn widths(alloc: Global, costed: &Costed) -> Result<Vec<u32>, AllocError> {
 fn values(alloc: Global, costed: &Costed, row: &[u64]) -> Result<Vec<Value>, AllocError> {
     let mut values = Vec::new(alloc);
     let mut rest = row;
-    for param in &main_func(&costed.program).params {
+    for param in &costed.main_func().params {
         let count = if param.ty.in_size() {
             param.ty.words()
         } else {
@@ -90,10 +90,11 @@ fn values(alloc: Global, costed: &Costed, row: &[u64]) -> Result<Vec<Value>, All
 // The block of a row.
 fn block_of(alloc: Global, costed: &Costed, row: &[u64]) -> Result<Option<Block>, AllocError> {
     let given = values(alloc, costed, row)?;
-    if !fits(&costed.program, &given) {
+    let program = costed.program();
+    if !fits(program, &given) {
         return Ok(None);
     }
-    let wanted = eval(alloc, &costed.program, &given)?;
+    let wanted = eval(alloc, program, &given)?;
     Ok(Some(Block { given, wanted }))
 }
 
@@ -367,7 +368,7 @@ pub fn bench<W: Watch>(
         outs: outputs(alloc, &costed)?,
         blocks: blocks(alloc, &costed, rows_part(input), watch)?,
         slowdown,
-        latency: costed.costs.latency(),
+        latency: costed.costs().latency(),
     };
     if clock_count(&run).saturating_mul(port_count(&run)) > MOST_WORDS {
         return Err(KitFault::LongBench);

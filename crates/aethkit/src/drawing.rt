@@ -125,8 +125,8 @@ pub fn draw(alloc: Global, input: &[u8], slowdown: u32) -> Result<String, KitFau
 {
     let costed = cost(alloc, program_part(input), slowdown, LOAD_LIMIT)?;
     let mut out = String::new(alloc);
-    let latency = costed.costs.latency();
-    let load = costed.costs.load();
+    let latency = costed.costs().latency();
+    let load = costed.costs().load();
     writeln!(out, "slowdown {slowdown}, latency {latency}, load {load}")?;
     for number in 0..count(&costed) {
         if let Some(item) = item_at(&costed, number) {

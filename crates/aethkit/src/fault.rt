@@ -18,8 +18,8 @@ pub enum KitFault {
     NoSchedule { line: u32 },
     #[error("row {row} is not right at column {column}")]
     BadWords { row: u32, column: u32 },
-    #[error("the module has no name that could be changed")]
-    NoName,
+    #[error("`aeth` refuses it; `aethkit why` tells why")]
+    Refused,
     #[error("the bench would have more than 1000000 words")]
     LongBench,
     #[error("the input has more than 16777216 bytes")]

@@ -1,6 +1,6 @@
 // The items of the program function: their names, lines and layouts.
 
-use ae_compile::{Costed, main_func, main_instance};
+use ae_compile::Costed;
 use ae_rewrite::StFunc;
 use ae_sttype::StType;
 
@@ -26,16 +26,16 @@ pub struct Item<'a> {
 
 /// How many items the program function has.
 pub fn count(costed: &Costed) -> usize {
-    let func = main_func(&costed.program);
+    let func = costed.main_func();
     func.params.len().saturating_add(func.nodes.len())
 }
 
 /// The item with a number; its parameters come first.
 pub fn item_at(costed: &Costed, number: usize) -> Option<Item<'_>> {
-    let func = main_func(&costed.program);
-    let layout = layout_of(main_instance(&costed.schedule), number)?;
-    let last = costed.schedule.count().saturating_sub(1);
-    let arrival = *costed.costs.arrivals(last)?.get(number)?;
+    let func = costed.main_func();
+    let layout = layout_of(costed.main_instance(), number)?;
+    let last = costed.schedule().count().saturating_sub(1);
+    let arrival = *costed.costs().arrivals(last)?.get(number)?;
     if number < func.params.len() {
         let param = func.params.get(number)?;
         return Some(Item {

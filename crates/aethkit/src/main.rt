@@ -1,4 +1,4 @@
-//! A second program beside the compiler: which slowdowns a program has, what its layouts look like, how
+//! A second program beside the compiler: why an input is refused, which slowdowns a program has, what its layouts look like, how
 //! long its chains of operators are, a test bench for its module and a wrapper around that. It asks the passes of the compiler
 //! themselves, and takes no text of the compiler apart.
 //!
@@ -13,6 +13,7 @@ mod fault;
 mod frame;
 mod items;
 mod keywords;
+mod moves;
 mod notes;
 mod paths;
 mod ports;
@@ -23,13 +24,15 @@ mod slowdowns;
 mod svg;
 mod top;
 mod usage;
+mod why;
 
 ghost use Rattle.std.specs.Prelude.{◌<◌, ◌≤◌};
 
 use crate::fault::KitFault;
-use crate::progress::{Progress, Watch};
+use crate::progress::Progress;
 use crate::request::{Picture, Request, request_of};
 use ae_io::{LoadFault, StdSink, StdSource, load, put_all};
+use ae_why::Watch;
 use std::alloc::{AllocError, Global};
 use std::env::{self, Env};
 use std::io::{self, IsTerminal};
@@ -55,9 +58,18 @@ fn nearest(slowdown: u32) -> u32
     slowdown.max(1).min(4096)
 }
 
+// The words behind the request's own.
+fn behind(words: &[String]) -> &[String] {
+    match words {
+        [_, rest @ ..] => rest,
+        [] => words,
+    }
+}
+
 // Whether a request takes the input.
-fn reads_input(request: &Request) -> bool {
+fn reads_input(request: &Request, words: &[String]) -> bool {
     match request {
+        Request::Why => why::reads_input(behind(words)),
         Request::Draw { is_alone, .. } => !*is_alone,
         _ => true,
     }
@@ -104,6 +116,7 @@ fn answer<W: Watch>(
         return Err(KitFault::TooLong);
     }
     match request {
+        Request::Why => Ok(why::why(alloc, behind(words), input, watch)?),
         Request::Slowdowns(range) => slowdowns::table(alloc, input, range, watch),
         Request::Draw {
             slowdown,
@@ -146,7 +159,10 @@ fn answer_read<W: Watch>(
     match read {
         Ok(bytes) => answer(alloc, request, words, &bytes, watch),
         Err(LoadFault::Read) => Err(KitFault::Read),
-        Err(LoadFault::TooLong) => Err(KitFault::TooLong),
+        Err(LoadFault::TooLong) => match request {
+            Request::Why => Ok(why::too_long(alloc, watch)?),
+            _ => Err(KitFault::TooLong),
+        },
         Err(LoadFault::Memory) => Err(KitFault::Memory),
     }
 }
@@ -162,7 +178,7 @@ fn main(rt: HostRuntime) -> ExitCode {
         return ExitCode::from(1);
     };
     let mut progress = Progress::new(&rt, rt.stderr().is_terminal());
-    let answered = if reads_input(&request) {
+    let answered = if reads_input(&request, &words) {
         let mut source = StdSource::new(rt.reader());
         let read = load(alloc, &mut source, INPUT_LIMIT);
         answer_read(alloc, &request, &words, read, &mut progress)

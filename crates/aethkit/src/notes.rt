@@ -7,7 +7,7 @@ use crate::fault::KitFault;
 use crate::items::{Item, item_at};
 use crate::ports::{Bundle, Role, inputs, outputs, write_range};
 use crate::request::NoteForm;
-use ae_compile::{Costed, LOAD_LIMIT, cost, main_func, main_instance};
+use ae_compile::{Costed, LOAD_LIMIT, cost};
 use ae_seq::{Func, Op, Program};
 use std::alloc::{AllocError, Global};
 
@@ -16,7 +16,7 @@ pub fn item_of<'a>(costed: &'a Costed, bundle: &Bundle<'_>) -> Option<Item<'a>> 
     match bundle.role {
         Role::Parameter => item_at(costed, bundle.number),
         Role::Result | Role::OneResult => {
-            let results = &main_instance(&costed.schedule).results;
+            let results = &costed.main_instance().results;
             item_at(costed, *results.get(bundle.number)? as usize)
         }
     }
@@ -145,11 +145,11 @@ fn write_called(
 
 // A line for each line of the program function: how the names of its nets begin; and for those of the functions that it calls.
 fn write_prefixes(out: &mut String, alloc: Global, costed: &Costed) -> Result<(), AllocError> {
-    for node in &main_func(&costed.program).nodes {
+    for node in &costed.main_func().nodes {
         let (line, name) = (node.line, node.name.as_str());
         writeln!(out, "l{line}_ {line} {name}")?;
         if let Some(func) = called(&node.op) {
-            write_called(out, alloc, costed.program.program(), line, func)?;
+            write_called(out, alloc, costed.program().program(), line, func)?;
         }
     }
     Ok(())

@@ -122,16 +122,17 @@ pub fn paths(alloc: Global, input: &[u8], slowdown: u32, most: u32) -> Result<St
     let costed = cost(alloc, program_part(input), slowdown, LOAD_LIMIT)?;
     let compiled = compile(alloc, costed)?;
     let mut depths = Vec::new(alloc);
-    for sized in compiled.netlist.cells() {
+    for sized in compiled.netlist().cells() {
         let depth = depth_of(&depths, sized.cell);
         depths.push(depth)?;
     }
     let mut out = String::new(alloc);
     let all = depths.len();
-    for number in 0..compiled.notes.len() {
-        if let Some(note) = compiled.notes.get(number) {
-            let from = begin_of(&compiled.notes, number, all);
-            let to = begin_of(&compiled.notes, number.saturating_add(1), all);
+    let notes = compiled.notes();
+    for number in 0..notes.len() {
+        if let Some(note) = notes.get(number) {
+            let from = begin_of(notes, number, all);
+            let to = begin_of(notes, number.saturating_add(1), all);
             write_chain(&mut out, note, longest(&depths, from, to), most)?;
         }
     }

@@ -1,7 +1,7 @@
 // The ports of the module of a program, and the words that stand on them.
 
 use crate::items::{clocks, element, element_words, lanes, layout_of};
-use ae_compile::{Costed, main_instance};
+use ae_compile::Costed;
 use ae_seqtype::Value;
 use ae_sttype::StType;
 use std::alloc::{AllocError, Global};
@@ -94,7 +94,7 @@ impl Bundle<'_> {
 /// The ports of all parameters.
 pub fn inputs<'a>(alloc: Global, costed: &'a Costed) -> Result<Vec<Bundle<'a>>, AllocError> {
     let mut bundles = Vec::new(alloc);
-    for (number, layout) in main_instance(&costed.schedule).ins.iter().enumerate() {
+    for (number, layout) in costed.main_instance().ins.iter().enumerate() {
         bundles.push(Bundle {
             layout,
             number,
@@ -106,7 +106,7 @@ pub fn inputs<'a>(alloc: Global, costed: &'a Costed) -> Result<Vec<Bundle<'a>>, 
 
 /// The ports of all results.
 pub fn outputs<'a>(alloc: Global, costed: &'a Costed) -> Result<Vec<Bundle<'a>>, AllocError> {
-    let s = main_instance(&costed.schedule);
+    let s = costed.main_instance();
     let role = if s.results.len() == 1 {
         Role::Result
     } else {

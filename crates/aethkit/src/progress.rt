@@ -1,13 +1,8 @@
 // What is shown of something that takes long.
 
+use ae_why::Watch;
 use std::rt::Clock;
 use std::time::Instant;
-
-/// Who is told how far something is that may take long.
-pub trait Watch {
-    /// So many of all such things are done.
-    fn step(&mut self, what: &str, done: u32, all: u32);
-}
 
 /// Shows on standard error how far something is that takes over a second, where that is a terminal.
 #[derive(Drop)]

@@ -3,7 +3,7 @@
 ghost use Rattle.std.specs.Prelude.{◌<◌, ◌≤◌, IfSome, IfOk};
 
 use crate::keywords::is_keyword;
-use ae_parse::is_name;
+use ae_seq::is_name;
 use std::alloc::Global;
 
 /// The slowdowns that are asked for, and how they are shown.
@@ -34,6 +34,8 @@ pub enum NoteForm {
 /// What is asked for.
 #[derive(Clone, Copy, Debug)]
 pub enum Request {
+    /// Why `aeth` refuses with the words behind this one.
+    Why,
     Slowdowns(Range),
     Draw {
         slowdown: u32,
@@ -200,6 +202,7 @@ pub fn request_of(words: &[String]) -> Option<Request> {
         return None;
     };
     match name.as_str() {
+        "why" => Some(Request::Why),
         "slowdowns" => slowdowns(rest),
         "draw" => draw(rest),
         "notes" => notes(rest),

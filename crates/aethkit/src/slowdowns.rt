@@ -5,9 +5,9 @@ ghost use Rattle.std.specs.Prelude.{◌<◌, ◌≤◌, length};
 use crate::blocks::program_part;
 use crate::fault::KitFault;
 use crate::items::{lanes, layout_of};
-use crate::progress::Watch;
 use crate::request::Range;
-use ae_compile::{CompileFault, Costed, LOAD_LIMIT, cost, main_instance, typed};
+use ae_compile::{CompileFault, Costed, LOAD_LIMIT, cost, typed};
+use ae_why::Watch;
 use std::alloc::{AllocError, Global};
 
 // What is shown of a slowdown.
@@ -24,7 +24,7 @@ struct Row {
 
 // The lanes of all parameters, and of all results.
 fn row_of(costed: &Costed) -> Row {
-    let s = main_instance(&costed.schedule);
+    let s = costed.main_instance();
     let mut ins = 0u32;
     for layout in &s.ins {
         ins = ins.saturating_add(lanes(layout));
@@ -36,11 +36,11 @@ fn row_of(costed: &Costed) -> Row {
         }
     }
     Row {
-        slowdown: costed.slowdown,
-        latency: costed.costs.latency(),
-        load: costed.costs.load(),
-        muls: costed.costs.muls(),
-        mems: costed.costs.mems(),
+        slowdown: costed.slowdown(),
+        latency: costed.costs().latency(),
+        load: costed.costs().load(),
+        muls: costed.costs().muls(),
+        mems: costed.costs().mems(),
         ins,
         outs,
     }

@@ -188,9 +188,9 @@ fn write_head(out: &mut String, costed: &Costed) -> Result<(), AllocError> {
     writeln!(
         out,
         "<text x=\"4\" y=\"16\" class=\"title\">slowdown {}, latency {}, load {}: the elements of block 0</text>",
-        costed.slowdown,
-        costed.costs.latency(),
-        costed.costs.load()
+        costed.slowdown(),
+        costed.costs().latency(),
+        costed.costs().load()
     )
 }
 
@@ -232,7 +232,7 @@ fn write_picture(
         out,
         "<rect width=\"{wide}\" height=\"{high}\" fill=\"white\"/>"
     )?;
-    write_latency(out, frame, costed.costs.latency(), high)?;
+    write_latency(out, frame, costed.costs().latency(), high)?;
     write_head(out, costed)?;
     let mut top = HEAD;
     for number in 0..count(costed) {

@@ -1,14 +1,15 @@
 // A wrapper around the module of a program, for use in a design.
 
-ghost use Rattle.std.specs.Prelude.{◌<◌, ◌≤◌, length};
+ghost use Rattle.std.specs.Prelude.{◌<◌, ◌≤◌, IfOk, length, string_bytes};
+ghost use Rattle.aethkit.specs.Renamed.{IsTop};
 
 use crate::blocks::program_part;
 use crate::fault::KitFault;
 use crate::items::{Item, item_at, lanes};
 use crate::notes::item_of;
 use crate::ports::{Bundle, Role, inputs, outputs};
-use crate::renamed::renamed;
-use ae_compile::{Costed, LOAD_LIMIT, compile, cost, module_text};
+use crate::renamed::renamed_build;
+use ae_compile::{Costed, LOAD_LIMIT, cost};
 use std::alloc::{AllocError, Global};
 
 // A bundle under the name of its item.
@@ -284,14 +285,17 @@ fn write_top(
 }
 
 // The wrapper.
-fn wrapper(alloc: Global, costed: &Costed, slowdown: u32, name: &str) -> Result<String, AllocError>
+fn wrapper(alloc: Global, input: &[u8], slowdown: u32, name: &str) -> Result<String, KitFault>
+    requires few { length input.now ≤ 16777216 }
     requires some { 0 < slowdown }
+    requires most { slowdown ≤ 4096 }
 {
-    let ins = inputs(alloc, costed)?;
-    let outs = outputs(alloc, costed)?;
-    let ins = ports(alloc, costed, &ins)?;
-    let outs = ports(alloc, costed, &outs)?;
-    let latency = costed.costs.latency();
+    let costed = cost(alloc, program_part(input), slowdown, LOAD_LIMIT)?;
+    let ins = inputs(alloc, &costed)?;
+    let outs = outputs(alloc, &costed)?;
+    let ins = ports(alloc, &costed, &ins)?;
+    let outs = ports(alloc, &costed, &outs)?;
+    let latency = costed.costs().latency();
     let mut out = String::new(alloc);
     write_top(&mut out, name, Clocks { slowdown, latency }, &ins, &outs)?;
     Ok(out)
@@ -305,16 +309,10 @@ pub fn top(alloc: Global, input: &[u8], slowdown: u32, name: &str) -> Result<Str
     requires few { length input.now ≤ 16777216 }
     requires some { 0 < slowdown }
     requires most { slowdown ≤ 4096 }
+    ensures { IfOk result (λ text. IsTop slowdown input.now name.now (string_bytes text)) }
 {
-    let costed = cost(alloc, program_part(input), slowdown, LOAD_LIMIT)?;
-    let wrapper = wrapper(alloc, &costed, slowdown, name)?;
-    let compiled = compile(alloc, costed)?;
-    let module = module_text(alloc, &compiled)?;
-    match renamed(alloc, module.as_str(), name)? {
-        Some(mut text) => {
-            text.push_str(wrapper.as_str())?;
-            Ok(text)
-        }
-        None => Err(KitFault::NoName),
-    }
+    let wrapper = wrapper(alloc, input, slowdown, name)?;
+    let mut text = renamed_build(alloc, input, slowdown, name)?;
+    text.push_str(wrapper.as_str())?;
+    Ok(text)
 }

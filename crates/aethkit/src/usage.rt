@@ -2,6 +2,8 @@
 
 pub const USAGE: &str = "usage: aethkit REQUEST < PROGRAM
 
+  why WORDS                          for the words and the input that `aeth` refuses: the line as it stands, what is wrong in
+                                     it, and what is near it
   slowdowns [FROM TO] [csv] [best]   for each slowdown of the range that has a circuit: latency, load, multipliers, lanes;
                                      best: only those that need less load than all smaller ones; csv: as comma-separated values
   draw S [text] [layout TYPE]        the layout of each line of the program function, lanes by clocks, as SVG or as text; or that

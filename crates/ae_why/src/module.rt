@@ -1,0 +1,407 @@
+// Why a Verilog text is no module that is simulated.
+
+use crate::places::{place_of, push_place, text_of};
+use ae_vread::{VModule, read};
+use std::alloc::{AllocError, Global};
+
+/// What is wrong with a Verilog text: the byte, item or declared name at fault. The header is item 0.
+#[derive(Clone, Copy, PartialEq, Eq, Debug)]
+pub enum ModuleFault {
+    Token(u32),
+    Header,
+    Item(u32),
+    Unknown(u32),
+    Twice(u32),
+    Kind(u32),
+    Undriven(u32),
+    Width(u32),
+    Loop(u32),
+    Large,
+}
+
+// A word or a sign of a text: its bytes from one place to another.
+#[derive(Clone, Copy)]
+struct Lexeme {
+    from: usize,
+    to: usize,
+}
+
+#[derive(Clone, Copy, PartialEq, Eq)]
+enum State {
+    Gap,
+    Word,
+    Line,
+    Block,
+}
+
+fn is_word_byte(byte: u8) -> bool {
+    matches!(byte, b'0'..=b'9' | b'A'..=b'Z' | b'a'..=b'z' | b'_' | b'$' | b'\'')
+}
+
+fn byte_at(text: &[u8], at: usize) -> u8 {
+    match text.get(at) {
+        Some(byte) => *byte,
+        None => b' ',
+    }
+}
+
+// Where a byte leads that is in no word, and whether it is a sign.
+fn after_sign(text: &[u8], at: usize) -> (State, bool) {
+    match (byte_at(text, at), byte_at(text, at.saturating_add(1))) {
+        (b'/', b'/') => (State::Line, false),
+        (b'/', b'*') => (State::Block, false),
+        (b' ' | b'\t' | b'\r' | b'\n' | 12, _) => (State::Gap, false),
+        _ => (State::Gap, true),
+    }
+}
+
+// The words and signs of a text, comments left out.
+fn lexemes(alloc: Global, text: &[u8]) -> Result<Vec<Lexeme>, AllocError> {
+    let mut found = Vec::new(alloc);
+    let mut state = State::Gap;
+    let mut from = 0usize;
+    for (at, byte) in text.iter().enumerate() {
+        if state == State::Line {
+            if *byte == b'\n' {
+                state = State::Gap;
+            }
+        } else if state == State::Block {
+            if *byte == b'/'
+                && byte_at(text, at.saturating_sub(1)) == b'*'
+                && at > from.saturating_add(2)
+            {
+                state = State::Gap;
+            }
+        } else if is_word_byte(*byte) {
+            if state == State::Gap {
+                from = at;
+            }
+            state = State::Word;
+        } else {
+            if state == State::Word {
+                found.push(Lexeme { from, to: at })?;
+            }
+            let (next, is_sign) = after_sign(text, at);
+            state = next;
+            from = at;
+            if is_sign {
+                found.push(Lexeme {
+                    from: at,
+                    to: at.saturating_add(1),
+                })?;
+            }
+        }
+    }
+    if state == State::Word {
+        found.push(Lexeme {
+            from,
+            to: text.len(),
+        })?;
+    }
+    Ok(found)
+}
+
+fn bytes_of(text: &[u8], lexeme: Lexeme) -> &[u8] {
+    match text.get(lexeme.from..lexeme.to) {
+        Some(bytes) => bytes,
+        None => &[],
+    }
+}
+
+fn is_else(text: &[u8], next: Option<&Lexeme>) -> bool {
+    match next {
+        Some(lexeme) => bytes_of(text, *lexeme) == b"else".as_slice(),
+        None => false,
+    }
+}
+
+// An item that is gone through: whether it is a clocked one, and how many `begin` are open in it.
+#[derive(Clone, Copy)]
+struct Open {
+    is_clocked: bool,
+    depth: u32,
+}
+
+// Whether an item may end with a word or sign, and how many `begin` are open behind it.
+fn item_end(open: Open, bytes: &[u8]) -> (bool, u32) {
+    let depth = open.depth;
+    if !open.is_clocked {
+        return (bytes == b";".as_slice(), 0);
+    }
+    if bytes == b"begin".as_slice() {
+        return (false, depth.saturating_add(1));
+    }
+    if bytes == b"end".as_slice() {
+        return (depth <= 1, depth.saturating_sub(1));
+    }
+    (depth == 0 && bytes == b";".as_slice(), depth)
+}
+
+// The number of the word or sign with which each item begins; the header comes first.
+fn item_starts(alloc: Global, text: &[u8], found: &[Lexeme]) -> Result<Vec<usize>, AllocError> {
+    let mut starts = Vec::new(alloc);
+    let mut open: Option<Open> = None;
+    for (number, lexeme) in found.iter().enumerate() {
+        let bytes = bytes_of(text, *lexeme);
+        let own = match open {
+            Some(open) => open,
+            None => {
+                starts.push(number)?;
+                Open {
+                    is_clocked: bytes == b"always".as_slice(),
+                    depth: 0,
+                }
+            }
+        };
+        let (ends, depth) = item_end(own, bytes);
+        let goes_on = own.is_clocked && is_else(text, found.get(number.saturating_add(1)));
+        open = if ends && !goes_on {
+            None
+        } else {
+            Some(Open { depth, ..own })
+        };
+    }
+    Ok(starts)
+}
+
+// The words and signs of item number k, the header's for 0.
+fn item<'a>(found: &'a [Lexeme], starts: &[usize], k: u32) -> &'a [Lexeme] {
+    let from = match starts.get(k as usize) {
+        Some(from) => *from,
+        None => return &[],
+    };
+    let to = match starts.get((k as usize).saturating_add(1)) {
+        Some(to) => *to,
+        None => found.len(),
+    };
+    match found.get(from..to) {
+        Some(item) => item,
+        None => &[],
+    }
+}
+
+// The text of an item in one line, the first words and signs of it.
+fn push_item(out: &mut String, text: &[u8], item: &[Lexeme]) -> Result<(), AllocError> {
+    for lexeme in item.iter().take(40) {
+        out.push_str(" ")?;
+        out.push_str(text_of(bytes_of(text, *lexeme)))?;
+    }
+    if item.len() > 40 {
+        out.push_str(" ..")?;
+    }
+    out.push_str("\n")
+}
+
+// A word or sign marked in its line, with its line and column from 1.
+fn push_lexeme(out: &mut String, text: &[u8], lexeme: Lexeme) -> Result<(), AllocError> {
+    let (line, column) = place_of(text, lexeme.from);
+    writeln!(out, "at line {line}, column {}:", column.saturating_add(1))?;
+    push_place(
+        out,
+        text,
+        lexeme.from,
+        lexeme.to.saturating_sub(lexeme.from),
+    )
+}
+
+// An item: where it begins, its text, and what is wrong.
+fn push_fault(
+    out: &mut String,
+    alloc: Global,
+    text: &[u8],
+    number: u32,
+    what: &str,
+) -> Result<(), AllocError> {
+    let found = lexemes(alloc, text)?;
+    let starts = item_starts(alloc, text, &found)?;
+    let item = item(&found, &starts, number);
+    match item.first() {
+        Some(first) => push_lexeme(out, text, *first)?,
+        None => out.push_str("at the end of the text:\n")?,
+    }
+    write!(out, "item {number} reads")?;
+    push_item(out, text, item)?;
+    writeln!(out, "{what}")
+}
+
+// The module of a text, if it spells one.
+fn module_of(alloc: Global, text: &[u8]) -> Option<VModule> {
+    if text.len() > 16_777_216 {
+        return None;
+    }
+    match read(alloc, text) {
+        Ok(m) => Some(m),
+        Err(_) => None,
+    }
+}
+
+// The first place of a name.
+fn place_of_name(text: &[u8], found: &[Lexeme], name: &str) -> Option<Lexeme> {
+    for lexeme in found {
+        if bytes_of(text, *lexeme) == name.as_bytes() {
+            return Some(*lexeme);
+        }
+    }
+    None
+}
+
+// A declared name, and what is wrong with it.
+fn push_net(
+    out: &mut String,
+    alloc: Global,
+    text: &[u8],
+    net: u32,
+    what: &str,
+) -> Result<(), AllocError> {
+    let Some(m) = module_of(alloc, text) else {
+        return Ok(());
+    };
+    let Some(net) = m.nets.get(net as usize) else {
+        return Ok(());
+    };
+    let found = lexemes(alloc, text)?;
+    if let Some(lexeme) = place_of_name(text, &found, net.name.as_str()) {
+        push_lexeme(out, text, lexeme)?;
+    }
+    writeln!(
+        out,
+        "{}, declared in item {}, {what}",
+        net.name.as_str(),
+        net.item
+    )
+}
+
+fn is_keyword(word: &[u8]) -> bool {
+    match text_of(word) {
+        "module"
+        | "input"
+        | "output"
+        | "wire"
+        | "reg"
+        | "assign"
+        | "always"
+        | "posedge"
+        | "if"
+        | "else"
+        | "begin"
+        | "end"
+        | "endmodule" => true,
+        _ => false,
+    }
+}
+
+fn is_name(word: &[u8]) -> bool {
+    matches!(word.first(), Some(b'a'..=b'z' | b'A'..=b'Z' | b'_')) && !is_keyword(word)
+}
+
+// Whether a name is declared in an item or above it.
+fn is_declared(m: &VModule, word: &[u8], item: u32) -> bool {
+    m.nets
+        .iter()
+        .any(|net| net.item <= item && net.name.as_bytes() == word)
+}
+
+// The first name in an item that is not declared.
+fn unknown_name(text: &[u8], m: &VModule, item: &[Lexeme], number: u32) -> Option<Lexeme> {
+    for lexeme in item {
+        let word = bytes_of(text, *lexeme);
+        if is_name(word) && !is_declared(m, word, number) {
+            return Some(*lexeme);
+        }
+    }
+    None
+}
+
+// An item with a name that is not declared.
+fn push_unknown(
+    out: &mut String,
+    alloc: Global,
+    text: &[u8],
+    number: u32,
+) -> Result<(), AllocError> {
+    push_fault(
+        out,
+        alloc,
+        text,
+        number,
+        "it has a name that is declared below it or nowhere",
+    )?;
+    let Some(m) = module_of(alloc, text) else {
+        return Ok(());
+    };
+    let found = lexemes(alloc, text)?;
+    let starts = item_starts(alloc, text, &found)?;
+    match unknown_name(text, &m, item(&found, &starts, number), number) {
+        Some(lexeme) => push_lexeme(out, text, lexeme),
+        None => Ok(()),
+    }
+}
+
+// A byte in no token.
+fn push_token(out: &mut String, text: &[u8], at: u32) -> Result<(), AllocError> {
+    let (line, column) = place_of(text, at as usize);
+    writeln!(out, "at line {line}, column {}:", column.saturating_add(1))?;
+    push_place(out, text, at as usize, 1)?;
+    match byte_at(text, at as usize) {
+        b'#' => out.push_str("delays and parameters, which # begins, are left out of the subset\n"),
+        b'"' => out.push_str("texts in quotes are left out of the subset\n"),
+        b'$' => out.push_str("system tasks, which $ begins, are left out of the subset\n"),
+        _ => out.push_str(
+            "no name, number or sign of the subset begins with this byte (docs/VERILOG.md)\n",
+        ),
+    }
+}
+
+/// Why a text is no module that is simulated: where it is, in lines and columns from 1, and what is wrong.
+pub fn bad_module(alloc: Global, text: &[u8], fault: ModuleFault) -> Result<String, AllocError> {
+    let mut out = String::new(alloc);
+    match fault {
+        ModuleFault::Token(at) => push_token(&mut out, text, at)?,
+        ModuleFault::Header => {
+            push_fault(
+                &mut out,
+                alloc,
+                text,
+                0,
+                "a text begins with module, a name, ports in parentheses and a semicolon; the module of a program is simulated by `aeth run`",
+            )?;
+        }
+        ModuleFault::Item(item) => {
+            let what =
+                "the items above it are right; this is neither an item of the subset nor an endmodule that ends the text";
+            push_fault(&mut out, alloc, text, item.saturating_add(1), what)?;
+        }
+        ModuleFault::Unknown(item) => push_unknown(&mut out, alloc, text, item)?,
+        ModuleFault::Twice(item) => push_fault(
+            &mut out,
+            alloc,
+            text,
+            item,
+            "it declares or drives a name that is declared or driven above",
+        )?,
+        ModuleFault::Kind(item) => push_fault(
+            &mut out,
+            alloc,
+            text,
+            item,
+            "it uses a name in a way that its kind does not allow: wires are assigned, registers written at the clock, memories have an index",
+        )?,
+        ModuleFault::Undriven(net) => push_net(&mut out, alloc, text, net, "is given no value")?,
+        ModuleFault::Width(item) => push_fault(
+            &mut out,
+            alloc,
+            text,
+            item,
+            "a width, a constant or an index in it is out of its range, which is 1 to 64 bits for words",
+        )?,
+        ModuleFault::Loop(net) => push_net(
+            &mut out,
+            alloc,
+            text,
+            net,
+            "depends on itself without a register between",
+        )?,
+        ModuleFault::Large => out.push_str("the module is past the limits of docs/LIMITS.md\n")?,
+    }
+    Ok(out)
+}
