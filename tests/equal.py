@@ -1,8 +1,9 @@
 #!/usr/bin/env python3
 """The modules of small programs are equal, in all clocks in which results stand, to modules written by hand, for all inputs
 and whatever registers begin with: yosys puts both side by side, and abc proves that no clock tells them apart, without a bound,
-or for two blocks after reset where that takes too long. hand/NAME.aeth is a program, and hand/NAME_S.v the module by hand
-for the slowdown S. A module with a fault is told apart. Without yosys the script says so and ends well.
+or for two blocks after reset where that takes too long; of a picture in memories Icarus plays twelve blocks of random words
+through both. hand/NAME.aeth is a program, and hand/NAME_S.v the module by hand for the slowdown S. A module with a fault is
+told apart. Without yosys the script says so and ends well.
 
 equal.py [NAME_S ..]: these pairs, or all."""
 import pathlib
@@ -16,6 +17,8 @@ from common import TOP, aeth, latency, missing, out_layouts, ports, side_by_side
 HAND = TOP / "tests" / "hand"
 SECONDS = 40
 BOUNDED = ("partition_6", "long_blur_480")
+PLAYED = ("gaussian_4096",)
+BLOCKS = 12
 
 
 def live_words(module, slowdown):
@@ -51,6 +54,37 @@ def miter(module, slowdown):
     return "\n".join([*lines, "  assign apart = stands && (" + " || ".join(tests) + ");", "endmodule", ""])
 
 
+def played(module, slowdown):
+    """A bench that gives the miter random words for some blocks, and counts the clocks in which the modules are apart."""
+    ins = ports(module, "input")[2:]
+    fed = ", ".join(f".{name}(in[{place}][{width - 1}:0])" for place, (name, width) in enumerate(ins))
+    clocks = 1 + latency(module) + BLOCKS * slowdown
+    return f"""module bench;
+  reg clk = 1'd0;
+  reg [63:0] in [0:{len(ins) - 1}];
+  wire apart;
+  integer clock, place, wrong = 0, seed = 1;
+  miter both(.clk(clk), {fed}, .apart(apart));
+  initial begin
+    for (clock = 0; clock < {clocks}; clock = clock + 1) begin
+      for (place = 0; place < {len(ins)}; place = place + 1) in[place] = {{$random(seed), $random(seed)}};
+      #1 if (apart !== 1'd0) wrong = wrong + 1;
+      clk = 1'd1;
+      #1 clk = 1'd0;
+    end
+    $display("%0d wrong", wrong);
+  end
+endmodule
+"""
+
+
+def play(folder):
+    """What Icarus says of both modules, or None where no clock tells them apart."""
+    subprocess.run(["iverilog", "-g2005", "-o", "both", "both.v"], cwd=folder, check=True, capture_output=True)
+    said = subprocess.run(["vvp", "-n", "both"], cwd=folder, check=True, capture_output=True, text=True).stdout
+    return None if said == "0 wrong\n" else said
+
+
 def prove(folder, pair, fault=("", "")):
     """What abc says of a pair, or None where it is proved equal. The fault is a text of the module by hand and another."""
     name, slowdown = re.fullmatch(r"(\w+)_(\d+)", pair).groups()
@@ -58,7 +92,11 @@ def prove(folder, pair, fault=("", "")):
     assert status == 0, (pair, module)
     hand = (HAND / f"{pair}.v").read_text().replace(*fault)
     folder.mkdir()
-    (folder / "both.v").write_text(module + hand + miter(module, int(slowdown)))
+    both = module + hand + miter(module, int(slowdown))
+    if pair in PLAYED:
+        (folder / "both.v").write_text(both + played(module, int(slowdown)))
+        return play(folder)
+    (folder / "both.v").write_text(both)
     gates = "proc; flatten; opt -full; techmap; opt; dffunmap; aigmap; opt_clean"
     made = f"read_verilog both.v; hierarchy -check -top miter; {gates}; write_aiger both.aig"
     subprocess.run(["yosys", "-q", "-p", made], cwd=folder, check=True, capture_output=True)
@@ -73,7 +111,7 @@ def prove(folder, pair, fault=("", "")):
 
 
 def main():
-    if missing("yosys", "yosys-abc"):
+    if missing("yosys", "yosys-abc", "iverilog"):
         return 0
     pairs = sys.argv[1:] or sorted(path.stem for path in HAND.glob("*.v"))
     failed = 0
@@ -81,12 +119,15 @@ def main():
         folder = pathlib.Path(folder)
         told = prove(folder / "fault", "sum_4", ("== 2'd3", "== 2'd2"))
         assert told and "was asserted" in told, told
+        told = prove(folder / "played", "gaussian_4096", ("pixel < 12'd64", "pixel < 12'd65"))
+        assert told and not told.startswith("0 "), told
         for pair, said in zip(pairs, side_by_side(lambda pair: prove(folder / pair, pair), pairs)):
             if said is not None:
                 failed += 1
                 print(f"equal: {pair}: {said}", flush=True)
-    bounded = sum(pair in BOUNDED for pair in pairs)
-    print(f"equal: {len(pairs) - failed} modules are equal to modules by hand, {bounded} of them for two blocks, {failed} failed")
+    bounded, seen = (sum(pair in some for pair in pairs) for some in (BOUNDED, PLAYED))
+    equal = len(pairs) - failed
+    print(f"equal: {equal} modules are equal to modules by hand, {bounded} of them for two blocks, {seen} as played, {failed} failed")
     return failed > 0
 
 
