@@ -67,3 +67,17 @@ paired-step old now next new n i a b k l lt ha hb e f g =
     let more = paired-more i k l (drop a old) (drop b old) in
     let here = rw (drop-drop (i * k) a old, drop-drop (i * l) b old) at more in
     all ∙ append_assoc old (p ++ u) v ∙ ap (λ ys. old ++ ys) (append_assoc p u v ∙ sym here)
+
+-- piece i of n stands within what they all take
+pub piece-within : (at n i size room : ℕ) → i < n → at + n * size ≤ room → at + i * size + size ≤ room
+piece-within at n i size room lt h =
+    let more : (i + 1) * size ≤ n * size = mul-le-mul_right size (let q : i + 1 ≤ n = omega arith in q) in
+    omega (arith, more, h)
+
+-- a list with more behind it is no shorter
+pub kept-length : (old more now : List ℕ) → now ≡ old ++ more → length old ≤ length now
+kept-length old more now e = omega (arith, ap length e, length-append old more)
+
+pub paired-all : (old now : List ℕ) (n i k l a b : ℕ) → i ≡ n → now ≡ old ++ paired i k l (drop a old) (drop b old) →
+    now ≡ old ++ paired n k l (drop a old) (drop b old)
+paired-all old now n i k l a b same e = e ∙ ap (λ j. old ++ paired j k l (drop a old) (drop b old)) same

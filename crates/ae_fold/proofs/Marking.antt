@@ -3,7 +3,7 @@ use Rattle.std.proofs.Common.{ℕ, ◌≡◌, ◌+◌, ◌-◌, ◌*◌, ◌/◌
 use Rattle.std.proofs.Math.Nat.{add-mul, mod-add-div'}
 use Rattle.std.proofs.lemmas.Nat.{mod-mul-add}
 use Rattle.ae_netlist.specs.declared.cell.NetId.{NetId}
-use Rattle.ae_netlist.specs.Runs.{Clock, word_at}
+use Rattle.ae_netlist.specs.Runs.{Clock}
 use Rattle.ae_clocked.specs.Phases.{phase_of, MarksPhases}
 use Rattle.ae_netlist.specs.declared.cell.SizedCell.{SizedCell}
 use Rattle.ae_netlist.specs.Circuit.{Extends, IsNet}

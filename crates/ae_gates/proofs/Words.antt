@@ -1,5 +1,5 @@
 -- The words of nets that were added, by those of their operands.
-use Rattle.std.proofs.Common.{ℕ, ◌≡◌, ◌≢◌, ◌+◌, ◌*◌, ◌%◌, ◌^◌, ◌==◌, ◌<◌, ◌≤◌, if◌then◌else◌, Bool, true, false, List, [], ◌∷◌, ◌++◌, length, arith, refl, ap, ◌∙◌, sym, subst, length-append, Result, Ok, Err, IfOk, OnOk}
+use Rattle.std.proofs.Common.{ℕ, ◌≡◌, ◌≢◌, ◌+◌, ◌*◌, ◌%◌, ◌^◌, ◌==◌, ◌<◌, ◌≤◌, if◌then◌else◌, Bool, true, false, List, [], ◌∷◌, ◌++◌, length, arith, refl, ap, ◌∙◌, sym, subst, length-append}
 use Rattle.std.specs.List.{filter, enumerate_from}
 use Rattle.std.proofs.Math.Nat.{pow-le-pow_right, mod-eq_of_lt, mul-le-mul_right, add-mul, one-mul}
 use Rattle.std.proofs.lemmas.Nat.{pow-add}
@@ -8,10 +8,10 @@ use Rattle.ae_word.specs.declared.op.WordOp.{WordOp}
 use Rattle.ae_word.specs.declared.op.WordOp.TheVariants.{Mux}
 use Rattle.ae_netlist.specs.declared.cell.NetId.{NetId}
 use Rattle.ae_netlist.specs.declared.cell.Cell.{Cell}
-use Rattle.ae_netlist.specs.declared.cell.Cell.TheVariants.{Input, Const, Op, Reg, Mem, Peek}
+use Rattle.ae_netlist.specs.declared.cell.Cell.TheVariants.{Const, Op}
 use Rattle.ae_netlist.specs.declared.cell.SizedCell.{SizedCell}
 use Rattle.ae_netlist.specs.Circuit.{Circuit, IsNet, IsPlain, IsOperation, OperandsAre, width_of, main_operand}
-use Rattle.ae_netlist.specs.Runs.{Clock, word_at, IsRun, Carries}
+use Rattle.ae_netlist.specs.Runs.{Clock, IsRun, Carries}
 use Rattle.ae_netlist.proofs.Gets.{get_pushed}
 use Rattle.ae_netlist.proofs.Growing.{net_later, net_width, extends_append, extends_refl, extends_trans}
 use Rattle.ae_netlist.proofs.Carried.{const_word, op_word, carries_later, carries_trans, carries_extends}

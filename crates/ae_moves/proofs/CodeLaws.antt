@@ -5,6 +5,7 @@ use Rattle.std.proofs.lemmas.Bool.{cases_eq, false≢true}
 use Rattle.std.proofs.lemmas.List.{length-map, map-append}
 use Rattle.std.proofs.lemmas.List.FromFn.{map-range_with_len_more}
 use Rattle.std.proofs.lemmas.List.Sums.{fold-append}
+use Rattle.std.proofs.lemmas.Nat.{div_below}
 use Rattle.std.proofs.lemmas.Option.{slice_get_within, slice_get-get_or, get_or_from_slice_get}
 use Rattle.ae_sttype.specs.declared.st_type.StType.{StType}
 use Rattle.ae_sttype.specs.declared.st_type.Slot.{Slot}
@@ -19,7 +20,7 @@ use Rattle.ae_moves.specs.declared.trip.Trip.{Trip}
 use Rattle.ae_moves.specs.Trees.{origin_tree, source_tree, trip_tree}
 use Rattle.ae_moves.specs.Origins.{HasOrigin, IsMove, width_at}
 use Rattle.ae_moves.proofs.Lists.{get_mapped}
-use Rattle.ae_moves.proofs.Words.{first_below, in_row, origin_at, word_below}
+use Rattle.ae_moves.proofs.Words.{first_below, in_row, origin_at, word_below, words_pos}
 
 -- the layout of an input by its number
 pub mapped_is : (ins : List StType) (i : ℕ) (s : StTree) (r : StType) → slice_get (map st_tree ins) i ≡ Some s → slice_get ins i ≡ Some r → st_tree r ≡ s
@@ -124,3 +125,12 @@ below_one P k n h here l = elim (cases_eq n k) [
 
 pub not_move : (b : Bool) (P Q : Type 0) → (IsTrue b ↔ P) → (Q → P) → b ≡ false → (IsTrue false → Q) × (Q → IsTrue false)
 not_move b P Q h f e = (λ x. absurd (false≢true x), λ q. (let t : b ≡ true = h.1 (f q) in absurd (false≢true (sym e ∙ t))))
+
+-- the slot that was found for an output word, where its element has w words
+pub slot_of_word : (s : StTree) (o w : ℕ) (slot : Slot) → w ≡ element_words s → slice_get (slots s) (o / w) ≡ Some slot →
+    slot ≡ slot_number s (o / element_words s)
+slot_of_word s o w slot e found =
+    sym (get_or_from_slice_get (slots s) (o / w) slot (record { clock = 0; lane = 0 }) found) ∙ ap (λ k. slot_number s (o / k)) e
+
+pub element_below : (s : StTree) (o w : ℕ) → w ≡ element_words s → o < st_atoms s * element_words s → o / w < st_atoms s
+element_below s o w e h = rw e (div_below o (element_words s) (st_atoms s) (omega (arith, words_pos s)) h)

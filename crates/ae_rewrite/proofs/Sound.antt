@@ -515,6 +515,7 @@ func_sound p slowdown all k s good accepted some limit h filled at =
     let long : length (item_layouts s) ≡ length own.of.params + length own.of.nodes = length-append s.ins (node_layouts s.nodes) ∙ omega (arith, count, nodes, length-map s.nodes (λ (x : StNodeTree). x.type)) in
     record {
       ins = fill.ins;
+      few_ins = omega (arith, count, form.few_params);
       nodes = λ i n f. node_sound p all k s own good facts fill i n f;
       results = λ i r f. let low = below-at (item_count own.of) own.of.results i r form.results (rw own.results at f) in omega (arith, low, long);
       some_results = rw own.results form.some_results;

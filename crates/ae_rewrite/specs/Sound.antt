@@ -65,6 +65,7 @@ pub record IsSoundNode (k budget : ℕ) (layouts : List StTree) (n : StNodeTree)
 -- instance number k: each node stands below the parameters and the nodes before it, and each result is one of the items
 pub record IsSoundFunc (k : ℕ) (s : StFuncTree) : Type 0 where
   pub ins : AreFilling s.budget s.ins
+  pub few_ins : length s.ins ≤ 8
   pub nodes : (i : ℕ) (n : StNodeTree) → slice_get s.nodes i ≡ Some n → IsSoundNode k s.budget (s.ins ++ node_layouts (take i s.nodes)) n
   pub results : (i r : ℕ) → slice_get s.results i ≡ Some r → r < length (item_layouts s)
   pub some_results : 1 ≤ length s.results

@@ -9,7 +9,7 @@ use Rattle.ae_seq.specs.declared.checker.CheckFault.TheVariants.{BadType, Large,
 use Rattle.ae_seq.specs.Accepted.{AllSized, IsCausedBy}
 use Rattle.ae_seq.specs.ProgramTree.{FuncTree, NodeTree}
 use Rattle.ae_seq.specs.Signatures.{HaveTypes, result_in, signatures_by}
-use Rattle.ae_seq.specs.Typing.{all_in_size, fine, grown, item_types, judged, judged_func, judged_nodes, node_type, param_types, refused, refused_or, result_type, signature, too_large, untyped, ◌>>=◌, Judged, Signature, Verdict}
+use Rattle.ae_seq.specs.Typing.{all_in_size, fine, grown, item_types, judged, judged_func, judged_nodes, node_type, param_types, refused, refused_or, result_type, signature, size_verdict, too_large, untyped, verdict, ◌>>=◌, Judged, Signature, Verdict}
 
 pub signatures_by-nil : (fs : List FuncTree) → signatures_by fs [] ≡ []
 signatures_by-nil [] = refl
@@ -98,3 +98,34 @@ right false b h = cc
 pub sized-push : (ts : List SeqTree) (t : SeqTree) → IsTrue (all_in_size ts) → in_size t ≡ true → IsTrue (all_in_size (ts ++ t ∷ []))
 sized-push [] t h g = true-and (in_size t) true g refl
 sized-push (u ∷ ts) t h g = true-and (in_size u) _ (left (in_size u) _ h) (sized-push ts t (right (in_size u) _ h) g)
+
+-- ---- the first refused line of a function
+
+pub not-sized : (b : Bool) → (IsTrue b → false ≡ true) → b ≡ false
+not-sized true h = sym (h refl)
+not-sized false h = refl
+
+pub large-params : (known : List Signature) (f : FuncTree) → all_in_size (param_types f) ≡ false →
+    refused (judged_func known f) ≡ Some (record { line = f.line; verdict = too_large })
+large-params known f h =
+    ap (λ b. refused_or (record { line = f.line; verdict = size_verdict b }) (size_verdict b)
+    (refused (judged_nodes known (map Some (param_types f)) f.nodes))) h
+
+pub sized-params : (known : List Signature) (f : FuncTree) → all_in_size (param_types f) ≡ true →
+    refused (judged_func known f) ≡ refused (judged_nodes known (map Some (param_types f)) f.nodes)
+sized-params known f h =
+    ap (λ b. refused_or (record { line = f.line; verdict = size_verdict b }) (size_verdict b)
+    (refused (judged_nodes known (map Some (param_types f)) f.nodes))) h
+
+-- the first node that has no type, or one that is too large
+pub untyped-node : (known : List Signature) (items : List (Option SeqTree)) (n : NodeTree) (ns : List NodeTree) → node_type known items n ≡ None
+    → refused (judged_nodes known items (n ∷ ns)) ≡ Some (record { line = n.line; verdict = untyped })
+untyped-node known items n ns h = ap (λ o. refused_or (record { line = n.line; verdict = verdict o }) (verdict o)
+    (refused (judged_nodes known (items ++ o ∷ []) ns))) h
+
+pub large-node : (known : List Signature) (items : List (Option SeqTree)) (n : NodeTree) (ns : List NodeTree) (t : SeqTree) →
+    node_type known items n ≡ Some t → in_size t ≡ false
+    → refused (judged_nodes known items (n ∷ ns)) ≡ Some (record { line = n.line; verdict = too_large })
+large-node known items n ns t h s =
+    ap (λ o. refused_or (record { line = n.line; verdict = verdict o }) (verdict o) (refused (judged_nodes known (items ++ o ∷ []) ns))) h
+    ∙ ap (λ b. refused_or (record { line = n.line; verdict = size_verdict b }) (size_verdict b) (refused (judged_nodes known (items ++ Some t ∷ []) ns))) s

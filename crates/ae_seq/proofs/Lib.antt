@@ -1,4 +1,5 @@
 mod Examples
 pub mod Items
 pub mod Judging
+pub mod Shapes
 pub mod Types

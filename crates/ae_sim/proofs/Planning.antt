@@ -6,7 +6,9 @@ use Rattle.std.proofs.lemmas.List.Elements.{filter-append}
 use Rattle.std.proofs.lemmas.List.Sums.{count_by-le-length}
 use Rattle.std.proofs.lemmas.Option.{slice_get_within, get_or_from_slice_get}
 use Rattle.ae_netlist.specs.declared.cell.Cell.{Cell}
+use Rattle.ae_netlist.specs.declared.cell.Cell.TheVariants.{Mem}
 use Rattle.ae_netlist.specs.declared.cell.SizedCell.{SizedCell}
+use Rattle.ae_netlist.specs.Circuit.{IsPeek}
 use Rattle.ae_netlist.specs.Counts.{count_of, number_of, cells_of}
 use Rattle.ae_netlist.proofs.Counting.{count_push}
 use Rattle.ae_netlist.proofs.Gets.{get_pushed, get_left}
@@ -62,3 +64,12 @@ steps_next cells n steps step is h = record {
             ap (slice_get (steps ++ step ∷ [])) s ∙ (get_pushed steps step ∙ ap (λ (x : Step). Some x) (is sized (ap (slice_get cells) (sym e) ∙ found) ∙ ap (λ k. step_for cells k sized.width sized.cell) (sym e)))
       ];
 }
+
+-- a memory that a cell looks into stands before it
+pub peek_below : (cells : List SizedCell) (n width m at : ℕ) → IsPeek (take n cells) width m at → m < length cells
+peek_below cells n width m at h =
+    let of : SizedCell = record { width = width; cell = Mem h.depth h.memory.at h.memory.next h.memory.enable } in
+    omega (arith, slice_get_within (take n cells) m of h.memory.found, length-take n cells)
+
+pub same_sized : (cells : List SizedCell) (n : ℕ) (a b : SizedCell) → slice_get cells n ≡ Some a → slice_get cells n ≡ Some b → a ≡ b
+same_sized cells n a b h g = let both : Some a ≡ Some b = sym h ∙ g in cc

@@ -171,6 +171,15 @@ tseq_fits n i t h e c p q =
 pub sseq_fits : (n : ℕ) (t : StTree) → HasLengths (sseq n t) → (e l : ℕ) → e < n * st_atoms t → l < lanes t → e / st_atoms t * lanes t + l < n * lanes t
 sseq_fits n t h e l p q = row_below (e / st_atoms t) l n (lanes t) (div_below e (st_atoms t) n (atoms_pos t h.1) p) q
 
+-- the same with names for the parts, as the code has them
+pub tseq_fits_by : (s t : StTree) (n i size k e c : ℕ) → s ≡ tseq n i t → size ≡ st_atoms t → k ≡ time t → HasLengths s → e < st_atoms s → c < time t →
+    e / size * k + c < time s
+tseq_fits_by s t n i size k e c is sz tm h p q = rw (is, sz, tm) (tseq_fits n i t (rw is at h) e c (rw is at p) q)
+
+pub sseq_fits_by : (s t : StTree) (n size k e l : ℕ) → s ≡ sseq n t → size ≡ st_atoms t → k ≡ lanes t → HasLengths s → e < st_atoms s → l < lanes t →
+    e / size * k + l < lanes s
+sseq_fits_by s t n size k e l is sz ln h p q = rw (is, sz, ln) (sseq_fits n t (rw is at h) e l (rw is at p) q)
+
 pub rest_below : (t : StTree) (e : ℕ) → 0 < st_atoms t → e % st_atoms t < st_atoms t
 rest_below t e h = mod_below e (st_atoms t) h
 

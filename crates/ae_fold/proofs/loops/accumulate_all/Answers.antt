@@ -1,9 +1,9 @@
 -- One loop more.
 use Rattle.std.proofs.Common.{◌≡◌, ◌+◌, ◌-◌, ◌++◌, ◌∷◌, [], length, ap, ◌∙◌, refl, arith}
 use Rattle.std.proofs.lemmas.List.{length_push}
-use Rattle.ae_clocked.proofs.Adding.{adds_same}
+use Rattle.ae_clocked.proofs.Adding.{adds_same, net_added}
 use Rattle.ae_fold.proofs.Feeding.{adds_is, adds_up}
-use Rattle.ae_fold.proofs.Looping.{adds_once, fold_product, loops_more, loops_none, nets_grow, up_once}
+use Rattle.ae_fold.proofs.Looping.{adds_once, fold_product, loops_more, loops_none, nets_grow, up_once, fold_high, fold_low, fold_op}
 use Rattle.ae_fold.proofs.loops.accumulate_all.Goals as goal
 
 pub loop-p-init : goal.loop-p-init
@@ -40,3 +40,47 @@ pub returns-clause-up : goal.returns-clause-up
 returns-clause-up c =
     let e : c.loop-p.p ≡ length c.args.nets.now - c.args.from = omega arith in
     rw (← e) (adds_up _ (omega arith) c.loop-p.invariant.adds)
+
+pub overflow_sub-p-end : goal.overflow_sub-p-end
+overflow_sub-p-end c = omega (arith, c.requires.within)
+
+pub overflow_add-fold : goal.overflow_add-fold
+overflow_add-fold c = omega (arith, c.requires.within, c.loop-p-test.true)
+
+pub overflow_add-from : goal.overflow_add-from
+overflow_add-from c = omega (arith, c.requires.within, c.loop-p-test.true)
+
+pub nonzero_rem-fold : goal.nonzero_rem-fold
+nonzero_rem-fold c = omega (arith, c.requires.folds.some)
+
+pub bounds-folds-from : goal.bounds-folds-from
+bounds-folds-from c = omega (arith, c.requires.folds.some)
+
+pub bounds-nets-from : goal.bounds-nets-from
+bounds-nets-from c = omega (arith, c.requires.within, c.loop-p-test.true)
+
+pub accumulate-requires-clause-low : goal.accumulate-requires-clause-low
+accumulate-requires-clause-low c = fold_low c.args.folds.now (c.args.from + c.loop-p.p) c.requires.folds
+
+pub accumulate-requires-clause-high : goal.accumulate-requires-clause-high
+accumulate-requires-clause-high c = fold_high c.args.folds.now (c.args.from + c.loop-p.p) c.requires.folds
+
+pub accumulate-requires-clause-folds : goal.accumulate-requires-clause-folds
+accumulate-requires-clause-folds c = fold_op c.args.folds.now (c.args.from + c.loop-p.p) c.requires.folds
+
+pub accumulate-requires-clause-first : goal.accumulate-requires-clause-first
+accumulate-requires-clause-first c = net_added c.loop-p.invariant.adds c.requires.first
+
+pub accumulate-requires-clause-lasting : goal.accumulate-requires-clause-lasting
+accumulate-requires-clause-lasting c = c.requires.lasting
+
+pub returns-clause-adds : goal.returns-clause-adds
+returns-clause-adds c =
+    let e : c.loop-p.p ≡ length c.args.nets.now - c.args.from = omega arith in
+    rw e at c.loop-p.invariant.adds
+
+pub returns-clause-long : goal.returns-clause-long
+returns-clause-long c = omega (arith, c.loop-p.invariant.long)
+
+pub returns-clause-loops : goal.returns-clause-loops
+returns-clause-loops c = c.loop-p.invariant.loops

@@ -1,10 +1,10 @@
 -- One net more behind the loops.
-use Rattle.std.proofs.Common.{◌≡◌, ◌+◌, ◌++◌, ◌∷◌, [], ap, ◌∙◌, arith}
+use Rattle.std.proofs.Common.{◌≡◌, ◌+◌, ◌++◌, ◌∷◌, [], ap, ◌∙◌, arith, refl}
 use Rattle.std.proofs.lemmas.List.{length_push}
-use Rattle.ae_clocked.proofs.Adding.{net_added}
-use Rattle.ae_fold.proofs.Feeding.{adds_up}
-use Rattle.ae_fold.proofs.Looping.{adds_once, fold_op, fold_product, nets_grow, up_once}
-use Rattle.ae_fold.proofs.Ending.{back_net, followers_more, loop_there}
+use Rattle.ae_clocked.proofs.Adding.{net_added, adds_same}
+use Rattle.ae_fold.proofs.Feeding.{adds_up, adds_is}
+use Rattle.ae_fold.proofs.Looping.{adds_once, fold_op, fold_product, nets_grow, up_once, fold_high, fold_low}
+use Rattle.ae_fold.proofs.Ending.{back_net, followers_more, loop_there, followers_none}
 use Rattle.ae_fold.proofs.slots.followers.Goals as goal
 
 pub follow-requires-clause-net : goal.follow-requires-clause-net
@@ -44,3 +44,40 @@ pub returns-clause-up : goal.returns-clause-up
 returns-clause-up c =
     let e : c.loop-q.q ≡ c.args.from = omega arith in
     rw (← e) (adds_up _ (omega arith) c.loop-q.invariant.adds)
+
+pub loop-q-init : goal.loop-q-init
+loop-q-init c =
+    rw c.new-outs.ensures.items
+    (record { adds = adds_is (omega arith) (omega arith) (adds_same _ _ 0 refl); long = refl; follow = followers_none _ _ _ _ _ _ })
+
+pub nonzero_rem-fold : goal.nonzero_rem-fold
+nonzero_rem-fold c = omega (arith, c.requires.folds.some)
+
+pub nonzero_rem-q : goal.nonzero_rem-q
+nonzero_rem-q c = omega (arith, c.requires.placed)
+
+pub bounds-folds-q : goal.bounds-folds-q
+bounds-folds-q c = omega (arith, c.requires.folds.some)
+
+pub bounds-nets-q : goal.bounds-nets-q
+bounds-nets-q c = omega (arith, c.requires.last, c.loop-q-test.true)
+
+pub bounds-loops-q : goal.bounds-loops-q
+bounds-loops-q c = omega (arith, c.requires.placed, c.requires.long)
+
+pub follow-requires-clause-low : goal.follow-requires-clause-low
+follow-requires-clause-low c = fold_low c.args.folds.now c.loop-q.q c.requires.folds
+
+pub follow-requires-clause-high : goal.follow-requires-clause-high
+follow-requires-clause-high c = fold_high c.args.folds.now c.loop-q.q c.requires.folds
+
+pub returns-clause-adds : goal.returns-clause-adds
+returns-clause-adds c =
+    let e : c.loop-q.q ≡ c.args.from = omega arith in
+    rw e at c.loop-q.invariant.adds
+
+pub returns-clause-long : goal.returns-clause-long
+returns-clause-long c = omega (arith, c.loop-q.invariant.long)
+
+pub returns-clause-follow : goal.returns-clause-follow
+returns-clause-follow c = c.loop-q.invariant.follow

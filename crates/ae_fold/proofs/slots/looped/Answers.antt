@@ -4,6 +4,7 @@ use Rattle.ae_fold.specs.Folding.{products_in}
 use Rattle.ae_fold.proofs.Feeding.{adds_up, up_trans}
 use Rattle.ae_fold.proofs.Looping.{loops_grow, nets_grow}
 use Rattle.ae_fold.proofs.Ending.{loops_adds, loops_up}
+use Rattle.ae_clocked.proofs.Adding.{net_added}
 use Rattle.ae_fold.proofs.slots.looped.Goals as goal
 
 pub returns-in_err-loops-clause-up : goal.returns-in_err-loops-clause-up
@@ -36,3 +37,21 @@ returns-clause-looped c = record {
   follow = rw c.deref.ensures.value at c.in_ok-outs.ensures.follow;
   is = rw c.deref-2.ensures.value at c.in_ok-append_loops.ensures.ok;
 }
+
+pub accumulate_all-requires-clause-nets : goal.accumulate_all-requires-clause-nets
+accumulate_all-requires-clause-nets c = c.requires.nets
+
+pub accumulate_all-requires-clause-within : goal.accumulate_all-requires-clause-within
+accumulate_all-requires-clause-within c = omega (arith, c.requires.last)
+
+pub followers-requires-clause-folds : goal.followers-requires-clause-folds
+followers-requires-clause-folds c = c.requires.folds
+
+pub followers-requires-clause-first : goal.followers-requires-clause-first
+followers-requires-clause-first c = net_added c.in_ok-loops.ensures.adds c.requires.first
+
+pub followers-requires-clause-backs : goal.followers-requires-clause-backs
+followers-requires-clause-backs c = λ p one found. (c.in_ok-loops.ensures.loops.each p one (rw c.deref.ensures.value at found)).old
+
+pub followers-requires-clause-long : goal.followers-requires-clause-long
+followers-requires-clause-long c = rw c.deref.ensures.value (c.in_ok-loops.ensures.long ∙ omega (arith, c.requires.last))

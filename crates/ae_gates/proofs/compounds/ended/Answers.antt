@@ -1,9 +1,35 @@
-use Rattle.ae_gates.proofs.Words.{net_grows, grows_trans, word_grows, word_by, back}
+use Rattle.std.proofs.Common.{arith}
+use Rattle.ae_gates.proofs.Words.{back, grows_trans, net_grows, word_by, word_grows}
 use Rattle.ae_gates.proofs.ShiftLaws.{ended_moved}
 use Rattle.ae_gates.proofs.compounds.ended.Goals as goal
 
 pub chosen-requires-clause-right : goal.chosen-requires-clause-right
 chosen-requires-clause-right c = net_grows (grows_trans c.in_ok-above.ensures.grows c.in_ok-zero.ensures.grows) c.requires.net
+
+pub fixed-requires-clause-from : goal.fixed-requires-clause-from
+fixed-requires-clause-from c = omega (arith, c.requires.from, c.in_ok-above.ensures.more)
+
+pub fixed-requires-clause-room : goal.fixed-requires-clause-room
+fixed-requires-clause-room c = omega (arith, c.requires.room, c.in_ok-above.ensures.few, c.in_ok-above.ensures.grows.limit)
+
+pub chosen-requires-clause-from : goal.chosen-requires-clause-from
+chosen-requires-clause-from c = omega (arith, c.requires.from, c.in_ok-above.ensures.more, c.in_ok-zero.ensures.more)
+
+pub chosen-requires-clause-test : goal.chosen-requires-clause-test
+chosen-requires-clause-test c = net_grows c.in_ok-zero.ensures.grows c.in_ok-above.ensures.net
+
+pub chosen-requires-clause-room : goal.chosen-requires-clause-room
+chosen-requires-clause-room c =
+    omega (arith, c.requires.room, c.in_ok-above.ensures.few, c.in_ok-zero.ensures.few, c.in_ok-above.ensures.grows.limit, c.in_ok-zero.ensures.grows.limit)
+
+pub returns-clause-grows : goal.returns-clause-grows
+returns-clause-grows c = grows_trans (grows_trans c.in_ok-above.ensures.grows c.in_ok-zero.ensures.grows) c.in_ok-y.ensures.grows
+
+pub returns-clause-more : goal.returns-clause-more
+returns-clause-more c = omega (arith, c.in_ok-above.ensures.more, c.in_ok-zero.ensures.more, c.in_ok-y.ensures.more)
+
+pub returns-clause-few : goal.returns-clause-few
+returns-clause-few c = omega (arith, c.in_ok-above.ensures.few, c.in_ok-zero.ensures.few, c.in_ok-y.ensures.few)
 
 pub returns-clause-word : goal.returns-clause-word
 returns-clause-word c = λ f g x y small.

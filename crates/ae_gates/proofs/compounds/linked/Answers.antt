@@ -1,9 +1,42 @@
 use Rattle.std.proofs.Common.{arith}
-use Rattle.ae_gates.proofs.Words.{net_grows, grows_trans, word_grows, back, linked_word}
+use Rattle.ae_gates.proofs.Words.{back, grows_trans, linked_word, net_grows, word_grows}
 use Rattle.ae_gates.proofs.compounds.linked.Goals as goal
 
 pub widen-requires-2-clause-net : goal.widen-requires-2-clause-net
 widen-requires-2-clause-net c = net_grows (grows_trans c.in_ok-wide.ensures.grows c.in_ok-up.ensures.grows) c.requires.right
+
+pub gate-requires-clause-from : goal.gate-requires-clause-from
+gate-requires-clause-from c = omega (arith, c.requires.from, c.in_ok-wide.ensures.more)
+
+pub gate-requires-clause-room : goal.gate-requires-clause-room
+gate-requires-clause-room c = omega (arith, c.requires.room, c.in_ok-wide.ensures.few, c.in_ok-wide.ensures.grows.limit)
+
+pub widen-requires-2-clause-from : goal.widen-requires-2-clause-from
+widen-requires-2-clause-from c = omega (arith, c.requires.from, c.in_ok-wide.ensures.more, c.in_ok-up.ensures.more)
+
+pub widen-requires-2-clause-room : goal.widen-requires-2-clause-room
+widen-requires-2-clause-room c =
+    omega (arith, c.requires.room, c.in_ok-wide.ensures.few, c.in_ok-up.ensures.few, c.in_ok-wide.ensures.grows.limit, c.in_ok-up.ensures.grows.limit)
+
+pub gate-requires-2-clause-from : goal.gate-requires-2-clause-from
+gate-requires-2-clause-from c = omega (arith, c.requires.from, c.in_ok-wide.ensures.more, c.in_ok-up.ensures.more, c.in_ok-low.ensures.more)
+
+pub gate-requires-2-clause-left : goal.gate-requires-2-clause-left
+gate-requires-2-clause-left c = net_grows c.in_ok-low.ensures.grows c.in_ok-up.ensures.net
+
+pub gate-requires-2-clause-room : goal.gate-requires-2-clause-room
+gate-requires-2-clause-room c =
+    omega (arith, c.requires.room, c.in_ok-wide.ensures.few, c.in_ok-up.ensures.few, c.in_ok-low.ensures.few, c.in_ok-wide.ensures.grows.limit, c.in_ok-up.ensures.grows.limit, c.in_ok-low.ensures.grows.limit)
+
+pub returns-clause-grows : goal.returns-clause-grows
+returns-clause-grows c =
+    grows_trans (grows_trans (grows_trans c.in_ok-wide.ensures.grows c.in_ok-up.ensures.grows) c.in_ok-low.ensures.grows) c.in_ok-y.ensures.grows
+
+pub returns-clause-more : goal.returns-clause-more
+returns-clause-more c = omega (arith, c.in_ok-wide.ensures.more, c.in_ok-up.ensures.more, c.in_ok-low.ensures.more, c.in_ok-y.ensures.more)
+
+pub returns-clause-few : goal.returns-clause-few
+returns-clause-few c = omega (arith, c.in_ok-wide.ensures.few, c.in_ok-up.ensures.few, c.in_ok-low.ensures.few, c.in_ok-y.ensures.few)
 
 pub returns-clause-word : goal.returns-clause-word
 returns-clause-word c = λ f g x y.

@@ -50,5 +50,6 @@ returns-clause-word c = λ f g x y.
     let out = c.loop-i-test.false in
     let within = c.loop-i.auto.i-end in
     let six : c.loop-i.i ≡ 6 = omega arith in
-    let word = subst (λ (k : ℕ). IsWord c.args.from c.loop-i.nl.cells c.loop-i.y.0 c.args.width (λ run t. moved c.args.way c.args.width (f run t) (g run t % 2 ^ k))) six (i.word f g x y) in
+    let word = subst (λ (k : ℕ). IsWord c.args.from c.loop-i.nl.cells c.loop-i.y.0 c.args.width
+    (λ run t. moved c.args.way c.args.width (f run t) (g run t % 2 ^ k))) six (i.word f g x y) in
     c.in_ok-z.ensures.word f g word (word_grows i.grows y) (λ all k run is t l. value_fits _ _ all run t _ _ f x (back i.grows k) is l)

@@ -1,12 +1,33 @@
 use Rattle.std.proofs.Common.{ℕ, List, ◌%◌, ◌^◌, ap, ◌∙◌, arith}
 use Rattle.ae_netlist.specs.Runs.{Clock}
-use Rattle.ae_gates.proofs.Words.{net_grows, grows_trans, word_grows, same_word}
+use Rattle.ae_gates.proofs.Words.{grows_trans, net_grows, same_word, word_grows}
 use Rattle.ae_gates.proofs.ShiftLaws.{stage_moved}
 use Rattle.ae_gates.specs.Shifts.{moved}
 use Rattle.ae_gates.proofs.compounds.stage.Goals as goal
 
 pub select-requires-clause-right : goal.select-requires-clause-right
 select-requires-clause-right c = net_grows (grows_trans c.in_ok-far.ensures.grows c.in_ok-bit.ensures.grows) c.requires.net
+
+pub cut-requires-clause-from : goal.cut-requires-clause-from
+cut-requires-clause-from c = omega (arith, c.requires.from, c.in_ok-far.ensures.more)
+
+pub cut-requires-clause-net : goal.cut-requires-clause-net
+cut-requires-clause-net c = net_grows c.in_ok-far.ensures.grows c.requires.amount
+
+pub cut-requires-clause-room : goal.cut-requires-clause-room
+cut-requires-clause-room c = omega (arith, c.requires.room, c.in_ok-far.ensures.few, c.in_ok-far.ensures.grows.limit)
+
+pub select-requires-clause-from : goal.select-requires-clause-from
+select-requires-clause-from c = omega (arith, c.requires.from, c.in_ok-far.ensures.more, c.in_ok-bit.ensures.more)
+
+pub select-requires-clause-left : goal.select-requires-clause-left
+select-requires-clause-left c = net_grows c.in_ok-bit.ensures.grows c.in_ok-far.ensures.net
+
+pub returns-clause-grows : goal.returns-clause-grows
+returns-clause-grows c = grows_trans (grows_trans c.in_ok-far.ensures.grows c.in_ok-bit.ensures.grows) c.in_ok-y.ensures.grows
+
+pub returns-clause-more : goal.returns-clause-more
+returns-clause-more c = omega (arith, c.in_ok-far.ensures.more, c.in_ok-bit.ensures.more, c.in_ok-y.ensures.more)
 
 pub returns-clause-word : goal.returns-clause-word
 returns-clause-word c = λ f g x y.

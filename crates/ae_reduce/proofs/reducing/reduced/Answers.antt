@@ -1,13 +1,38 @@
 -- The mark, the tree and the loops, one after another.
-use Rattle.std.proofs.Common.{◌≡◌, ◌+◌, ◌-◌, ◌*◌, length, refl, arith}
-use Rattle.ae_clocked.proofs.Adding.{grows_trans}
+use Rattle.std.proofs.Common.{◌≡◌, ◌+◌, ◌-◌, ◌*◌, length, refl, arith, ℕ, ap, ◌∙◌, Option}
+use Rattle.ae_clocked.proofs.Adding.{grows_trans, adds_trans}
 use Rattle.ae_clocked.proofs.Belonging.{belongs_grows}
-use Rattle.ae_fold.proofs.Feeding.{adds_up}
-use Rattle.ae_fold.proofs.Looping.{overs_grow}
+use Rattle.ae_fold.proofs.Feeding.{adds_up, up_trans}
+use Rattle.ae_fold.proofs.Looping.{overs_grow, nets_grow}
 use Rattle.ae_fold.proofs.Marking.{marks_grow, marks_net, marks_wait}
 use Rattle.ae_fold.proofs.Ending.{ends_long, ends_scan}
 use Rattle.ae_reduce.proofs.Counting.{reduce_adds}
+use Rattle.std.proofs.Math.Nat.{mod-eq_of_lt}
+use Rattle.ae_netlist.specs.Circuit.{Circuit}
+use Rattle.ae_netlist.specs.declared.cell.NetId.{NetId}
+use Rattle.ae_clocked.specs.Signals.{Adds}
+use Rattle.ae_fold.specs.declared.plan.Plan.{Plan}
+use Rattle.ae_fold.specs.Folding.{AddsUpTo}
+use Rattle.ae_fold.specs.Rows.{marks_in, wait_of}
+use Rattle.ae_reduce.specs.Reduces.{reduce_cells}
 use Rattle.ae_reduce.proofs.reducing.reduced.Goals as goal
+
+-- where it stopped: behind the mark, in the tree, in the loops
+up_mark : (a b : Circuit) (plan : Plan) → Adds a b 21 0 → AddsUpTo a b (reduce_cells plan)
+up_mark a b plan h = adds_up (reduce_cells plan) (omega arith) h
+
+up_tree : (a b c : Circuit) (plan : Plan) → Adds a b 21 0 → AddsUpTo b c (9 * (plan.lanes * plan.stride) + plan.levels * plan.stride)
+    → AddsUpTo a c (reduce_cells plan)
+up_tree a b c plan x y = up_trans (reduce_cells plan) (omega arith) x y
+
+up_ends : (a b c d : Circuit) (plan : Plan) (mark : Option NetId) (p : ℕ) → marks_in mark ≡ wait_of plan.slots → Adds a b 21 0
+    → Adds b c (9 * (plan.lanes * plan.stride) + plan.levels * plan.stride) p
+    → AddsUpTo c d (marks_in mark * (plan.stride * (plan.inner + 9) + 0 * 10)) → AddsUpTo a d (reduce_cells plan)
+up_ends a b c d plan mark p w x y z =
+    let s : plan.stride * (plan.inner + 9) + 0 * 10 ≡ plan.stride * (plan.inner + 9) = omega arith in
+    let cells : marks_in mark * (plan.stride * (plan.inner + 9) + 0 * 10) ≡ wait_of plan.slots * (plan.stride * (plan.inner + 9)) =
+    ap (λ k. marks_in mark * k) s ∙ ap (λ k. k * (plan.stride * (plan.inner + 9))) w in
+    up_trans (reduce_cells plan) (omega arith) (adds_trans x y) z
 
 pub returns-in_err-sums-clause-belongs : goal.returns-in_err-sums-clause-belongs
 returns-in_err-sums-clause-belongs c = belongs_grows _ _ _ c.in_err-sums.ensures.up.grows c.in_ok-found.ensures.belongs
@@ -41,3 +66,92 @@ returns-clause-scans c =
     ends_scan _ _ c.args.folds.now c.args.ins.now c.args.plan c.args.arrival ((c.args.plan.lanes - 1) * c.args.plan.stride) 0 (c.args.plan.lanes - 1) 0 c.in_ok-sums.sums.items c.in_ok-found.found c.in_ok-outs.outs.items c.requires.plan c.requires.folds c.requires.whole
     refl (omega arith) (omega (arith, c.requires.plan.wide)) (omega (arith, c.in_ok-sums.ensures.long)) (overs_grow c.in_ok-outs.ensures.up.grows.extends (rw c.in_ok-nets.ensures.ok at c.in_ok-sums.ensures.words))
     (marks_grow _ _ _ _ _ _ _ c.in_ok-found.found later.extends c.in_ok-found.ensures.marks) c.in_ok-outs.ensures.ends
+
+pub mark-requires-clause-plan : goal.mark-requires-clause-plan
+mark-requires-clause-plan c = c.requires.plan
+
+pub mark-requires-clause-belongs : goal.mark-requires-clause-belongs
+mark-requires-clause-belongs c = c.requires.belongs
+
+pub returns-in_err-found-clause-belongs : goal.returns-in_err-found-clause-belongs
+returns-in_err-found-clause-belongs c = c.in_err-found.ensures.belongs
+
+pub returns-in_err-found-clause-keeps : goal.returns-in_err-found-clause-keeps
+returns-in_err-found-clause-keeps c = c.in_err-found.ensures.keeps
+
+pub returns-in_err-found-clause-up : goal.returns-in_err-found-clause-up
+returns-in_err-found-clause-up c = up_mark _ _ c.args.plan c.in_err-found.ensures.adds
+
+pub returns-in_err-nets-clause-belongs : goal.returns-in_err-nets-clause-belongs
+returns-in_err-nets-clause-belongs c = c.in_ok-found.ensures.belongs
+
+pub returns-in_err-nets-clause-keeps : goal.returns-in_err-nets-clause-keeps
+returns-in_err-nets-clause-keeps c = c.in_ok-found.ensures.keeps
+
+pub returns-in_err-nets-clause-up : goal.returns-in_err-nets-clause-up
+returns-in_err-nets-clause-up c = up_mark _ _ c.args.plan c.in_ok-found.ensures.adds
+
+pub returns-in_err-sums-clause-keeps : goal.returns-in_err-sums-clause-keeps
+returns-in_err-sums-clause-keeps c = c.in_ok-found.ensures.keeps
+
+pub returns-in_err-outs-clause-keeps : goal.returns-in_err-outs-clause-keeps
+returns-in_err-outs-clause-keeps c = c.in_ok-found.ensures.keeps
+
+pub returns-clause-keeps : goal.returns-clause-keeps
+returns-clause-keeps c = c.in_ok-found.ensures.keeps
+
+pub tree-requires-clause-folds : goal.tree-requires-clause-folds
+tree-requires-clause-folds c = c.requires.folds
+
+pub tree-requires-clause-nets : goal.tree-requires-clause-nets
+tree-requires-clause-nets c = rw c.in_ok-nets.ensures.ok (nets_grow c.in_ok-found.ensures.adds.grows.extends c.requires.nets)
+
+pub tree-requires-clause-long : goal.tree-requires-clause-long
+tree-requires-clause-long c = rw c.in_ok-nets.ensures.ok c.requires.long
+
+pub tree-requires-clause-some : goal.tree-requires-clause-some
+tree-requires-clause-some c = c.requires.plan.wide
+
+pub tree-requires-clause-few : goal.tree-requires-clause-few
+tree-requires-clause-few c = c.requires.plan.few
+
+pub tree-requires-clause-deep : goal.tree-requires-clause-deep
+tree-requires-clause-deep c = c.requires.plan.deep
+
+pub tree-requires-clause-placed : goal.tree-requires-clause-placed
+tree-requires-clause-placed c = c.requires.plan.placed
+
+pub tree-requires-clause-small : goal.tree-requires-clause-small
+tree-requires-clause-small c = c.requires.plan.small
+
+pub tree-requires-clause-whole : goal.tree-requires-clause-whole
+tree-requires-clause-whole c = c.requires.whole
+
+pub over_slots-requires-clause-folds : goal.over_slots-requires-clause-folds
+over_slots-requires-clause-folds c = c.requires.folds
+
+pub over_slots-requires-clause-nets : goal.over_slots-requires-clause-nets
+over_slots-requires-clause-nets c = c.in_ok-sums.ensures.nets
+
+pub over_slots-requires-clause-lasting : goal.over_slots-requires-clause-lasting
+over_slots-requires-clause-lasting c = c.requires.plan.lasting
+
+pub over_slots-requires-clause-placed : goal.over_slots-requires-clause-placed
+over_slots-requires-clause-placed c = c.requires.plan.placed
+
+pub over_slots-requires-clause-whole : goal.over_slots-requires-clause-whole
+over_slots-requires-clause-whole c = c.requires.whole
+
+pub over_slots-requires-clause-last : goal.over_slots-requires-clause-last
+over_slots-requires-clause-last c = omega (arith, c.in_ok-sums.ensures.long)
+
+pub over_slots-requires-clause-lanes : goal.over_slots-requires-clause-lanes
+over_slots-requires-clause-lanes c = mod-eq_of_lt (omega (arith, c.requires.plan.placed))
+
+pub returns-in_err-sums-clause-up : goal.returns-in_err-sums-clause-up
+returns-in_err-sums-clause-up c = up_tree _ _ _ c.args.plan c.in_ok-found.ensures.adds c.in_err-sums.ensures.up
+
+pub returns-in_err-outs-clause-up : goal.returns-in_err-outs-clause-up
+returns-in_err-outs-clause-up c =
+    up_ends _ _ _ _ c.args.plan c.in_ok-found.found _ (marks_wait _ _ _ _ _ _ c.in_ok-found.found c.in_ok-found.ensures.marks) c.in_ok-found.ensures.adds
+    c.in_ok-sums.ensures.adds c.in_err-outs.ensures.up

@@ -1,10 +1,28 @@
 -- One pair more.
-use Rattle.std.proofs.Common.{◌≡◌, ◌+◌, ◌*◌, ◌/◌, ◌++◌, ◌∷◌, [], min, length, ap, ◌∙◌, arith}
+use Rattle.std.proofs.Common.{◌≡◌, ◌+◌, ◌*◌, ◌/◌, ◌++◌, ◌∷◌, [], min, length, ap, ◌∙◌, arith, ℕ, ◌≤◌, refl, sym}
 use Rattle.std.proofs.lemmas.List.{length_push}
-use Rattle.ae_fold.proofs.Feeding.{adds_up}
-use Rattle.ae_fold.proofs.Looping.{fold_product, nets_grow}
-use Rattle.ae_reduce.proofs.Treeing.{adds_pair, halves, left_below, left_net, pairs_more, least, right_net, up_pair}
+use Rattle.ae_fold.proofs.Feeding.{adds_up, adds_is}
+use Rattle.ae_fold.proofs.Looping.{fold_product, nets_grow, fold_low, fold_high, fold_op}
+use Rattle.ae_reduce.proofs.Treeing.{adds_pair, halves, left_below, left_net, pairs_more, least, right_net, up_pair, pairs_none}
+use Rattle.std.proofs.Math.Nat.{mul-le-mul_right}
+use Rattle.std.proofs.lemmas.Nat.{div-add-mod'}
+use Rattle.ae_netlist.specs.Circuit.{Circuit}
+use Rattle.ae_clocked.specs.Signals.{Adds}
+use Rattle.ae_clocked.proofs.Adding.{adds_same}
+use Rattle.ae_fold.specs.Folding.{products_in}
 use Rattle.ae_reduce.proofs.tree.level.Goals as goal
+
+adds_first : (a : Circuit) (n muls : ℕ) → Adds a a (0 + 8 * min 0 n) (min 0 n * muls)
+adds_first a n muls =
+    let z : min 0 n ≡ 0 = omega arith in
+    let none : 0 * muls ≡ 0 = omega arith in
+    adds_is (omega arith) (sym (ap (λ k. k * muls) z ∙ none)) (adds_same a a 0 refl)
+
+lanes_small : (lanes stride : ℕ) → lanes ≤ 4096 → stride ≤ 16384 → lanes * stride ≤ 67108864
+lanes_small lanes stride few small = let up : lanes * stride ≤ 4096 * stride = mul-le-mul_right stride few in omega arith
+
+level_small : (lanes stride : ℕ) → lanes ≤ 4096 → stride ≤ 16384 → (lanes + 1) / 2 * stride ≤ 67108864
+level_small lanes stride few small = lanes_small ((lanes + 1) / 2) stride (omega arith) small
 
 pub pair-requires-clause-there : goal.pair-requires-clause-there
 pair-requires-clause-there c = omega (arith, left_below c.args.lanes c.args.stride c.loop-q.q c.requires.placed c.loop-q-test.true)
@@ -45,3 +63,61 @@ pub returns-clause-up : goal.returns-clause-up
 returns-clause-up c =
     let h = halves c.args.lanes c.args.stride in
     adds_up _ (omega arith) c.loop-q.invariant.adds
+
+pub loop-q-init : goal.loop-q-init
+loop-q-init c =
+    rw c.new-outs.ensures.items
+    (record { adds = adds_first _ (c.args.lanes / 2 * c.args.stride) (products_in c.args.folds.now); long = refl; pairs = pairs_none _ _ _ _ })
+
+pub overflow_add-q-end : goal.overflow_add-q-end
+overflow_add-q-end c = omega (arith, c.requires.few)
+
+pub overflow_mul-q-end : goal.overflow_mul-q-end
+overflow_mul-q-end c = omega (arith, level_small c.args.lanes c.args.stride c.requires.few c.requires.small)
+
+pub nonzero_rem-fold : goal.nonzero_rem-fold
+nonzero_rem-fold c = omega (arith, c.requires.folds.some)
+
+pub bounds-folds-q : goal.bounds-folds-q
+bounds-folds-q c = omega (arith, c.requires.folds.some)
+
+pub nonzero_div-left : goal.nonzero_div-left
+nonzero_div-left c = omega (arith, c.requires.placed)
+
+pub overflow_mul-left : goal.overflow_mul-left
+overflow_mul-left c =
+    omega (arith, div-add-mod' c.loop-q.q c.args.stride, c.loop-q-test.true, level_small c.args.lanes c.args.stride c.requires.few c.requires.small)
+
+pub overflow_add-left : goal.overflow_add-left
+overflow_add-left c =
+    omega (
+      arith,
+      left_below c.args.lanes c.args.stride c.loop-q.q c.requires.placed c.loop-q-test.true,
+      lanes_small c.args.lanes c.args.stride c.requires.few
+          c.requires.small,
+    )
+
+pub overflow_add-left-in-loop-q : goal.overflow_add-left-in-loop-q
+overflow_add-left-in-loop-q c =
+    omega (
+      arith,
+      left_below c.args.lanes c.args.stride c.loop-q.q c.requires.placed c.loop-q-test.true,
+      lanes_small c.args.lanes c.args.stride c.requires.few
+          c.requires.small,
+      c.requires.small,
+    )
+
+pub pair-requires-clause-low : goal.pair-requires-clause-low
+pair-requires-clause-low c = fold_low c.args.folds.now c.loop-q.q c.requires.folds
+
+pub pair-requires-clause-high : goal.pair-requires-clause-high
+pair-requires-clause-high c = fold_high c.args.folds.now c.loop-q.q c.requires.folds
+
+pub pair-requires-clause-folds : goal.pair-requires-clause-folds
+pair-requires-clause-folds c = fold_op c.args.folds.now c.loop-q.q c.requires.folds
+
+pub returns-clause-long : goal.returns-clause-long
+returns-clause-long c = omega (arith, c.loop-q.invariant.long)
+
+pub returns-clause-pairs : goal.returns-clause-pairs
+returns-clause-pairs c = c.loop-q.invariant.pairs

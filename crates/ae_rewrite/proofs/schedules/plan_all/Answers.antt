@@ -5,7 +5,7 @@ use Rattle.ae_rewrite.specs.Planned.{row_lists, number_lists}
 use Rattle.ae_rewrite.specs.StProgramTree.{st_func_trees}
 use Rattle.ae_rewrite.proofs.Few.{few-budgets}
 use Rattle.ae_rewrite.proofs.Forms.{few-funcs}
-use Rattle.ae_rewrite.proofs.Whole.{all-more, number-list, within-of, known-of}
+use Rattle.ae_rewrite.proofs.Whole.{all-end, all-more, all-start, number-list, rows-long, within-of, known-of}
 use Rattle.ae_rewrite.proofs.schedules.plan_all.Goals as goal
 
 pub overflow_cast-f : goal.overflow_cast-f
@@ -59,3 +59,37 @@ returns-clause-few c =
     let funcs = few-funcs (program_tree c.args.p.now) c.requires.formed in
     let count = rw length-map at c.requires.reaches.count in
     omega (arith, funcs, count, c.loop-f.invariant.few)
+
+pub loop-f-init : goal.loop-f-init
+loop-f-init c =
+    rw c.new-rows.ensures.items
+    (record {
+      all = all-start (program_tree c.args.p.now) (number_lists c.args.needs.now) (st_func_trees c.args.instances.now.items)
+          (ap st_func_trees c.requires.empty);
+      few = omega (arith, ap length c.requires.empty);
+    })
+
+pub plan_budgets-requires-clause-there : goal.plan_budgets-requires-clause-there
+plan_budgets-requires-clause-there c = let count = rw length-map at c.requires.reaches.count in omega (arith, count, c.loop-f-test.true)
+
+pub plan_budgets-requires-clause-next : goal.plan_budgets-requires-clause-next
+plan_budgets-requires-clause-next c =
+    let long =
+    rows-long (program_tree c.args.p.now) (number_lists c.args.needs.now) (row_lists c.loop-f.rows.items) (st_func_trees c.loop-f.instances.items)
+    c.loop-f.f c.loop-f.invariant.all
+    (rw length-map c.loop-f-test.true)
+    in
+    let same = simp length-map at long in
+    omega (arith, same, ap length c.deref.ensures.value)
+
+pub plan_budgets-requires-clause-plans : goal.plan_budgets-requires-clause-plans
+plan_budgets-requires-clause-plans c = rw c.deref.ensures.value c.loop-f.invariant.all.plans
+
+pub returns-clause-plans : goal.returns-clause-plans
+returns-clause-plans c = c.loop-f.invariant.all.plans
+
+pub returns-clause-budgets : goal.returns-clause-budgets
+returns-clause-budgets c =
+    (all-end (program_tree c.args.p.now) (number_lists c.args.needs.now) (row_lists c.loop-f.rows.items) (st_func_trees c.loop-f.instances.items) c.loop-f.f
+    c.loop-f.invariant.all
+    (rw length-map c.loop-f-test.false)).1

@@ -1,13 +1,28 @@
 -- The mark, the sweep and the loops, one after another.
-use Rattle.std.proofs.Common.{◌-◌, ◌*◌, ◌∙◌, refl, arith}
+use Rattle.std.proofs.Common.{◌-◌, ◌*◌, ◌∙◌, refl, arith, ℕ, ◌≤◌}
 use Rattle.ae_clocked.proofs.Adding.{grows_trans}
 use Rattle.ae_clocked.proofs.Belonging.{belongs_grows}
 use Rattle.ae_fold.proofs.Feeding.{adds_up}
-use Rattle.ae_fold.proofs.Looping.{overs_grow}
+use Rattle.ae_fold.proofs.Looping.{overs_grow, nets_grow}
 use Rattle.ae_fold.proofs.Marking.{marks_grow, marks_net, marks_wait}
 use Rattle.ae_fold.proofs.Ending.{ends_long, ends_scan}
 use Rattle.ae_scan.proofs.Counting.{last_lane, last_lane_is, scan_adds, up_loops, up_sweep, whole_lanes}
+use Rattle.std.proofs.Math.Nat.{mul-le-mul_right}
+use Rattle.ae_netlist.specs.Circuit.{Circuit}
+use Rattle.ae_clocked.specs.Signals.{Adds}
+use Rattle.ae_fold.specs.declared.plan.Plan.{Plan}
+use Rattle.ae_fold.specs.Folding.{AddsUpTo}
+use Rattle.ae_scan.specs.Scans.{scan_cells}
 use Rattle.ae_scan.proofs.scanning.scanned.Goals as goal
+
+-- the mark alone
+up_mark : (a b : Circuit) (plan : Plan) → Adds a b 21 0 → AddsUpTo a b (scan_cells plan)
+up_mark a b plan h = adds_up (scan_cells plan) (omega arith) h
+
+last_small : (lanes stride : ℕ) → lanes ≤ 4096 → stride ≤ 16384 → (lanes - 1) * stride ≤ 67108864
+last_small lanes stride few small =
+    let up : (lanes - 1) * stride ≤ 4096 * stride = mul-le-mul_right stride (let n : lanes - 1 ≤ 4096 = omega arith in n) in
+    omega arith
 
 pub returns-in_err-sums-clause-belongs : goal.returns-in_err-sums-clause-belongs
 returns-in_err-sums-clause-belongs c = belongs_grows _ _ _ c.in_err-sums.ensures.up.grows c.in_ok-found.ensures.belongs
@@ -54,3 +69,87 @@ returns-in_err-sums-clause-up c = up_sweep _ _ _ c.args.plan c.in_ok-found.ensur
 
 pub returns-in_err-outs-clause-up : goal.returns-in_err-outs-clause-up
 returns-in_err-outs-clause-up c = up_loops _ _ _ _ c.args.plan c.in_ok-found.found _ _ (marks_wait _ _ _ _ _ _ c.in_ok-found.found c.in_ok-found.ensures.marks) refl c.in_ok-found.ensures.adds c.in_ok-sums.ensures.adds c.in_err-outs.ensures.up
+
+pub mark-requires-clause-plan : goal.mark-requires-clause-plan
+mark-requires-clause-plan c = c.requires.plan
+
+pub mark-requires-clause-belongs : goal.mark-requires-clause-belongs
+mark-requires-clause-belongs c = c.requires.belongs
+
+pub returns-in_err-found-clause-belongs : goal.returns-in_err-found-clause-belongs
+returns-in_err-found-clause-belongs c = c.in_err-found.ensures.belongs
+
+pub returns-in_err-found-clause-keeps : goal.returns-in_err-found-clause-keeps
+returns-in_err-found-clause-keeps c = c.in_err-found.ensures.keeps
+
+pub returns-in_err-found-clause-up : goal.returns-in_err-found-clause-up
+returns-in_err-found-clause-up c = up_mark _ _ c.args.plan c.in_err-found.ensures.adds
+
+pub returns-in_err-nets-clause-belongs : goal.returns-in_err-nets-clause-belongs
+returns-in_err-nets-clause-belongs c = c.in_ok-found.ensures.belongs
+
+pub returns-in_err-nets-clause-keeps : goal.returns-in_err-nets-clause-keeps
+returns-in_err-nets-clause-keeps c = c.in_ok-found.ensures.keeps
+
+pub returns-in_err-nets-clause-up : goal.returns-in_err-nets-clause-up
+returns-in_err-nets-clause-up c = up_mark _ _ c.args.plan c.in_ok-found.ensures.adds
+
+pub returns-in_err-sums-clause-keeps : goal.returns-in_err-sums-clause-keeps
+returns-in_err-sums-clause-keeps c = c.in_ok-found.ensures.keeps
+
+pub returns-in_err-outs-clause-keeps : goal.returns-in_err-outs-clause-keeps
+returns-in_err-outs-clause-keeps c = c.in_ok-found.ensures.keeps
+
+pub returns-clause-keeps : goal.returns-clause-keeps
+returns-clause-keeps c = c.in_ok-found.ensures.keeps
+
+pub sweep-requires-clause-folds : goal.sweep-requires-clause-folds
+sweep-requires-clause-folds c = c.requires.folds
+
+pub sweep-requires-clause-nets : goal.sweep-requires-clause-nets
+sweep-requires-clause-nets c = rw c.in_ok-nets.ensures.ok (nets_grow c.in_ok-found.ensures.adds.grows.extends c.requires.nets)
+
+pub sweep-requires-clause-long : goal.sweep-requires-clause-long
+sweep-requires-clause-long c = rw c.in_ok-nets.ensures.ok c.requires.long
+
+pub sweep-requires-clause-some : goal.sweep-requires-clause-some
+sweep-requires-clause-some c = c.requires.plan.wide
+
+pub sweep-requires-clause-few : goal.sweep-requires-clause-few
+sweep-requires-clause-few c = c.requires.plan.few
+
+pub sweep-requires-clause-deep : goal.sweep-requires-clause-deep
+sweep-requires-clause-deep c = c.requires.plan.deep
+
+pub sweep-requires-clause-placed : goal.sweep-requires-clause-placed
+sweep-requires-clause-placed c = c.requires.plan.placed
+
+pub sweep-requires-clause-small : goal.sweep-requires-clause-small
+sweep-requires-clause-small c = c.requires.plan.small
+
+pub sweep-requires-clause-whole : goal.sweep-requires-clause-whole
+sweep-requires-clause-whole c = c.requires.whole
+
+pub over_slots-requires-clause-folds : goal.over_slots-requires-clause-folds
+over_slots-requires-clause-folds c = c.requires.folds
+
+pub over_slots-requires-clause-nets : goal.over_slots-requires-clause-nets
+over_slots-requires-clause-nets c = c.in_ok-sums.ensures.nets
+
+pub over_slots-requires-clause-lasting : goal.over_slots-requires-clause-lasting
+over_slots-requires-clause-lasting c = c.requires.plan.lasting
+
+pub over_slots-requires-clause-placed : goal.over_slots-requires-clause-placed
+over_slots-requires-clause-placed c = c.requires.plan.placed
+
+pub over_slots-requires-clause-whole : goal.over_slots-requires-clause-whole
+over_slots-requires-clause-whole c = c.requires.whole
+
+pub sweep-requires-clause-least : goal.sweep-requires-clause-least
+sweep-requires-clause-least c = c.requires.plan.least
+
+pub overflow_sub-last : goal.overflow_sub-last
+overflow_sub-last c = omega (arith, c.requires.plan.wide)
+
+pub overflow_mul-last : goal.overflow_mul-last
+overflow_mul-last c = omega (arith, last_small c.args.plan.lanes c.args.plan.stride c.requires.plan.few c.requires.plan.small)

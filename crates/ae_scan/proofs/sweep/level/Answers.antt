@@ -1,10 +1,20 @@
 -- One net more.
-use Rattle.std.proofs.Common.{◌≡◌, ◌+◌, ◌++◌, ◌∷◌, [], length, ap, ◌∙◌, arith}
+use Rattle.std.proofs.Common.{◌≡◌, ◌+◌, ◌++◌, ◌∷◌, [], length, ap, ◌∙◌, arith, ℕ, ◌-◌, ◌*◌, refl, sym}
 use Rattle.std.proofs.lemmas.List.{length_push}
-use Rattle.ae_fold.proofs.Feeding.{adds_up}
+use Rattle.ae_fold.proofs.Feeding.{adds_up, adds_is}
 use Rattle.ae_fold.proofs.Looping.{fold_high, fold_low, fold_op, fold_product, nets_grow, up_once}
-use Rattle.ae_scan.proofs.Sweeping.{adds_join, before_net, joins_more}
+use Rattle.ae_scan.proofs.Sweeping.{adds_join, before_net, joins_more, joins_none}
+use Rattle.ae_netlist.specs.Circuit.{Circuit}
+use Rattle.ae_clocked.specs.Signals.{Adds}
+use Rattle.ae_clocked.proofs.Adding.{adds_same}
+use Rattle.ae_fold.specs.Folding.{products_in}
 use Rattle.ae_scan.proofs.sweep.level.Goals as goal
+
+adds_first : (a : Circuit) (reach muls : ℕ) → Adds a a (0 * 9) ((0 - reach) * muls)
+adds_first a reach muls =
+    let z : 0 - reach ≡ 0 = omega arith in
+    let none : 0 * muls ≡ 0 = omega arith in
+    adds_is (omega arith) (sym (ap (λ k. k * muls) z ∙ none)) (adds_same a a 0 refl)
 
 pub join-requires-clause-low : goal.join-requires-clause-low
 join-requires-clause-low c = fold_low c.args.folds.now c.loop-q.q c.requires.folds
@@ -48,3 +58,23 @@ pub returns-clause-up : goal.returns-clause-up
 returns-clause-up c =
     let e : c.loop-q.q ≡ length c.args.nets.now = omega arith in
     rw (← e) (adds_up _ (omega arith) c.loop-q.invariant.adds)
+
+pub loop-q-init : goal.loop-q-init
+loop-q-init c =
+    rw c.new-outs.ensures.items
+    (record { adds = adds_first _ c.args.reach (products_in c.args.folds.now); long = refl; joins = joins_none _ _ _ _ })
+
+pub nonzero_rem-fold : goal.nonzero_rem-fold
+nonzero_rem-fold c = omega (arith, c.requires.folds.some)
+
+pub bounds-folds-q : goal.bounds-folds-q
+bounds-folds-q c = omega (arith, c.requires.folds.some)
+
+pub join-requires-clause-there : goal.join-requires-clause-there
+join-requires-clause-there c = c.loop-q-test.true
+
+pub returns-clause-long : goal.returns-clause-long
+returns-clause-long c = omega (arith, c.loop-q.invariant.long)
+
+pub returns-clause-joins : goal.returns-clause-joins
+returns-clause-joins c = c.loop-q.invariant.joins

@@ -1,7 +1,12 @@
 -- The stage's circuit, by what it stands on.
-use Rattle.std.proofs.Common.{arith}
+use Rattle.std.proofs.Common.{arith, ℕ, ◌+◌, ◌≤◌}
 use Rattle.ae_reduce.proofs.Building.{build_bundle, build_cells, build_folds, build_law, build_long, build_nets, build_of, build_products, build_whole}
+use Rattle.ae_clocked.proofs.Adding.{grows_refl}
+use Rattle.ae_clocked.proofs.Belonging.{keeps_same}
 use Rattle.ae_reduce.proofs.stage.ReduceStage.build.Goals as goal
+
+at_least : (a more : ℕ) → a ≤ a + more
+at_least a more = omega arith
 
 pub reduced-requires-clause-folds : goal.reduced-requires-clause-folds
 reduced-requires-clause-folds c =
@@ -57,3 +62,63 @@ returns-clause-law c =
     (build_law _ _ _ _ _ _ _ _ _ _ _
     (build_of _ _ _ _ _ c.args.ins.now _ _ c.self.invariant c.deref.ensures.value c.in_ok-folds.ensures.folds c.plan_of-plan.ensures.plan c.plan_of-plan.ensures.numbers (rw (← c.self.view_is) at c.requires.bundles) c.index-ins-0.is c.nets-nets.ensures)
     c.new.ensures c.in_ok-outs.ensures.long c.in_ok-outs.ensures.scans)
+
+pub plan_of-plan-requires-clause-slots_some : goal.plan_of-plan-requires-clause-slots_some
+plan_of-plan-requires-clause-slots_some c = c.self.invariant.slots_some
+
+pub plan_of-plan-requires-clause-lanes_some : goal.plan_of-plan-requires-clause-lanes_some
+plan_of-plan-requires-clause-lanes_some c = c.self.invariant.lanes_some
+
+pub plan_of-plan-requires-clause-lanes_most : goal.plan_of-plan-requires-clause-lanes_most
+plan_of-plan-requires-clause-lanes_most c = c.self.invariant.lanes_most
+
+pub plan_of-plan-requires-clause-element : goal.plan_of-plan-requires-clause-element
+plan_of-plan-requires-clause-element c = c.self.invariant.element
+
+pub plan_of-plan-requires-clause-period_most : goal.plan_of-plan-requires-clause-period_most
+plan_of-plan-requires-clause-period_most c = c.self.invariant.period_most
+
+pub plan_of-plan-requires-clause-room : goal.plan_of-plan-requires-clause-room
+plan_of-plan-requires-clause-room c = c.self.invariant.room
+
+pub reduced-requires-clause-plan : goal.reduced-requires-clause-plan
+reduced-requires-clause-plan c = c.plan_of-plan.ensures.plan
+
+pub reduced-requires-clause-belongs : goal.reduced-requires-clause-belongs
+reduced-requires-clause-belongs c = c.requires.belongs
+
+pub returns-in_err-folds-clause-belongs : goal.returns-in_err-folds-clause-belongs
+returns-in_err-folds-clause-belongs c = c.requires.belongs
+
+pub returns-in_err-folds-clause-keeps : goal.returns-in_err-folds-clause-keeps
+returns-in_err-folds-clause-keeps c = keeps_same _
+
+pub returns-in_err-folds-clause-grows : goal.returns-in_err-folds-clause-grows
+returns-in_err-folds-clause-grows c = grows_refl _
+
+pub returns-in_err-folds-clause-cells : goal.returns-in_err-folds-clause-cells
+returns-in_err-folds-clause-cells c = at_least _ _
+
+pub returns-in_err-outs-clause-belongs : goal.returns-in_err-outs-clause-belongs
+returns-in_err-outs-clause-belongs c = c.in_err-outs.ensures.belongs
+
+pub returns-in_err-outs-clause-keeps : goal.returns-in_err-outs-clause-keeps
+returns-in_err-outs-clause-keeps c = c.in_err-outs.ensures.keeps
+
+pub returns-in_err-outs-clause-grows : goal.returns-in_err-outs-clause-grows
+returns-in_err-outs-clause-grows c = c.in_err-outs.ensures.up.grows
+
+pub returns-clause-belongs : goal.returns-clause-belongs
+returns-clause-belongs c = c.in_ok-outs.ensures.belongs
+
+pub returns-clause-keeps : goal.returns-clause-keeps
+returns-clause-keeps c = c.in_ok-outs.ensures.keeps
+
+pub returns-clause-grows : goal.returns-clause-grows
+returns-clause-grows c = c.in_ok-outs.ensures.up.grows
+
+pub returns-clause-memories : goal.returns-clause-memories
+returns-clause-memories c = omega (arith, c.in_ok-outs.ensures.adds.memories)
+
+pub returns-clause-whole : goal.returns-clause-whole
+returns-clause-whole c = c.in_ok-outs.ensures.adds.whole
