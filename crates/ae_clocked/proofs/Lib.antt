@@ -11,3 +11,4 @@ pub mod Behind
 pub mod Making
 pub mod InRow
 pub mod Lining
+pub mod Keeping

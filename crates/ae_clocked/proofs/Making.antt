@@ -4,7 +4,7 @@ use Rattle.std.proofs.lemmas.Bool.{cases_lt}
 use Rattle.std.proofs.Math.Nat.{add-mod_right}
 use Rattle.std.proofs.Math.Pow.{pow-lt}
 use Rattle.ae_netlist.specs.declared.cell.SizedCell.{SizedCell}
-use Rattle.ae_netlist.specs.Circuit.{Circuit, IsNet, Extends}
+use Rattle.ae_netlist.specs.Circuit.{Circuit, IsMemory, IsNet, Extends}
 use Rattle.ae_netlist.specs.Runs.{HasWords, InEveryResetRun}
 use Rattle.ae_netlist.proofs.Growing.{extends_trans, net_later}
 use Rattle.ae_clocked.specs.Phases.{IsCounter, phase_of}
@@ -40,13 +40,16 @@ ring_grows g h = record {
   takes = λ all e run is. h.takes all (extends_trans g e) run is;
 }
 
+pub memory_grows : {a b : List SizedCell} {m w d : ℕ} → Extends a b → IsMemory a m w d → IsMemory b m w d
+memory_grows g h = record { at = h.at; next = h.next; enable = h.enable; found = g.keeps _ _ h.found }
+
 pub holds_grows : {a b : List SizedCell} {rst w x reach : ℕ} {ring : Ring} → Extends a b → HoldsRing a rst w x reach ring → HoldsRing b rst w x reach ring
 holds_grows g h = record {
   low = h.low;
   high = h.high;
   reaches = h.reaches;
   least = h.least;
-  memory = record { at = h.memory.at; next = h.memory.next; enable = h.memory.enable; found = g.keeps _ _ h.memory.found };
+  memory = memory_grows g h.memory;
   counter = net_later g h.counter;
   ring = ring_grows g h.ring;
 }

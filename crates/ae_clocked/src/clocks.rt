@@ -31,14 +31,11 @@ pub struct Clocks {
 }
 
 impl Model for Clocks {
-    ghost use Rattle.std.specs.Prelude.{◌<◌, ◌^◌, length};
     ghost use Rattle.ae_clocked.specs.Phases.{Kept};
 
     ghost Value = { Kept };
 
     ghost view = { λ c. record { rst = c.rst.0; counters = c.counters.entries } };
-
-    ghost invariant = { λ c. length c.counters.entries < 2 ^ 32 };
 }
 
 impl Clocks {
@@ -60,10 +57,10 @@ impl Clocks {
     }
 
     /// How many counters are kept.
-    pub fn made(&self) -> u32
+    pub fn made(&self) -> usize
         ensures { result ≡ length self.now.counters }
     {
-        self.counters.len() as u32
+        self.counters.len()
     }
 
     fn find(&self, phase: Phase) -> Option<NetId>
@@ -79,9 +76,6 @@ impl Clocks {
         ensures err { OnErr result (self.new ≡ self.old) }
         ensures fault { result ≢ Err NetFault.Full }
     {
-        if self.counters.len() >= 4294967295 {
-            return Err(NetFault::Memory);
-        }
         match self.counters.insert(phase, net) {
             Ok(_) => Ok(()),
             Err(_) => Err(NetFault::Memory),

@@ -52,7 +52,7 @@ fn keep(nets: &mut Vec<NetId>, net: NetId) -> Result<(), NetFault>
 }
 
 /// Registers one after another: net k is k clocks late.
-fn chain(
+pub(crate) fn chain(
     alloc: Global,
     nl: &mut Netlist,
     x: NetId,

@@ -7,3 +7,4 @@ pub mod Nodes
 pub mod Instances
 pub mod Light
 pub mod Programs
+pub mod UseLaws

@@ -1,6 +1,7 @@
 -- What the code finds in layouts and origins.
-use Rattle.std.proofs.Common.{ℕ, ◌≡◌, ◌+◌, ◌*◌, ◌%◌, ◌<◌, ◌≤◌, inl, inr, false, List, ◌∷◌, ◌++◌, [], length, map, sum_by, Option, Some, None, slice_get, get_or, option_map, arith, ap, ◌∙◌}
+use Rattle.std.proofs.Common.{ℕ, suc, ◌≡◌, ◌+◌, ◌*◌, ◌%◌, ◌<◌, ◌≤◌, inl, inr, false, List, ◌∷◌, ◌++◌, [], length, map, sum_by, Option, Some, None, slice_get, get_or, option_map, arith, ap, refl, sym, ◌∙◌}
 use Rattle.std.proofs.lemmas.List.{take_all}
+use Rattle.std.proofs.lemmas.List.Sums.{sum_by-cons}
 use Rattle.std.proofs.lemmas.Option.{slice_get-get_or}
 use Rattle.ae_sttype.specs.StTree.{StTree, lanes, time, element_atom, element_words}
 use Rattle.ae_sttype.specs.Size.{IsInSize}
@@ -19,9 +20,9 @@ use Rattle.ae_gather.proofs.GatherLaw.{bundles_long, firsts_same, gather_law}
 use Rattle.ae_moves.specs.declared.trip.Trip.{Trip}
 use Rattle.ae_moves.specs.Rings.{mems_of}
 use Rattle.ae_moves.specs.Trees.{trip_tree}
-use Rattle.ae_moves.specs.Origins.{IsMove, Move, move_latency, move_trips, width_at}
+use Rattle.ae_moves.specs.Origins.{AllInSize, IsMove, Move, move_latency, move_trips, width_at}
 use Rattle.ae_gather.specs.Gathers.{AreWidths, gather_part}
-use Rattle.ae_moves.proofs.Words.{in_row, words_pos}
+use Rattle.ae_moves.proofs.Words.{columns_small, in_row, words_pos}
 use Rattle.ae_gather.proofs.Typed.{used, within}
 
 -- one width more
@@ -54,6 +55,17 @@ pub nets_long : (cells : List SizedCell) (ins : List StTree) (bundles : List (Li
 nets_long cells ins bundles nets firsts h joined =
     let long : length ins ≤ length bundles = omega (arith, bundles_long cells ins bundles h) in
     joined.long ∙ (firsts_same cells ins bundles h (length bundles) ∙ ap (sum_by columns_of) (take_all (length bundles) ins long))
+
+columns_few : (ins : List StTree) → ((i : ℕ) (s : StTree) → slice_get ins i ≡ Some s → IsInSize s) → sum_by columns_of ins ≤ 16384 * length ins
+columns_few [] sized = omega arith
+columns_few (s ∷ ss) sized = omega (arith, sum_by-cons columns_of s ss, columns_small s (sized 0 s refl), columns_few ss (λ i t e. sized (suc i) t e))
+
+pub nets_few : (cells : List SizedCell) (ins : List StTree) (bundles : List (List NetId)) (clocks : ℕ) → AreBundles cells (map stream_of ins) bundles → AllInSize ins clocks → length ins ≤ 65536 → sum_by length bundles < 2147483648
+nets_few cells ins bundles clocks h sized few =
+    let long : length bundles ≡ length ins = bundles_long cells ins bundles h in
+    let all : sum_by length bundles ≡ sum_by columns_of ins =
+    sym (ap (sum_by length) (take_all (length bundles) bundles (omega arith))) ∙ firsts_same cells ins bundles h (length bundles) ∙ ap (sum_by columns_of) (take_all (length bundles) ins (omega (arith, long))) in
+    omega (arith, all, columns_few ins (λ i s e. (sized i s e).0))
 
 pub columns_pos : (s : StTree) → IsInSize s → 1 ≤ columns_of s
 columns_pos s h = omega (arith, in_row 0 0 (lanes s) (element_words s) (lanes_pos s h.lengths) (words_pos s))

@@ -1,11 +1,11 @@
 -- A move between layouts as a part of a circuit: each output word is that of its origin, or it is fixed.
-use Rattle.std.specs.Prelude.{◌≡◌, ℕ, ◌+◌, ◌*◌, ◌%◌, List, [], map, sum_by, Some, slice_get, slice_index, slice_index_or}
+use Rattle.std.specs.Prelude.{◌≡◌, ℕ, ◌+◌, ◌*◌, ◌%◌, ◌≤◌, List, [], length, map, sum_by, Some, slice_get, slice_index, slice_index_or}
 use Rattle.ae_word.specs.AtomTree.{unsigned_word}
 use Rattle.ae_sttype.specs.declared.st_type.StType.{StType}
 use Rattle.ae_sttype.specs.StTree.{StTree, atom, sseq, st_tree, time, element_words}
 use Rattle.ae_sttype.specs.Moves.{OriginTree, from_input, fixed, columns_of, delay_of, runs_of}
 use Rattle.ae_ops.specs.Blocks.{Part, stream_of}
-use Rattle.ae_moves.specs.Origins.{Move, move_trips, move_latency, width_at}
+use Rattle.ae_moves.specs.Origins.{IsMove, Move, move_trips, move_latency, width_at}
 use Rattle.ae_moves.specs.Rings.{mems_of}
 
 -- what contracts see of a gather
@@ -16,6 +16,11 @@ pub record Layouts : Type 0 where
 
 abbrev pub move_of : Layouts → Move
 move_of l = record { ins = map st_tree l.ins; out = st_tree l.out; origins = l.origins }
+
+-- a move of so few inputs that all their columns have numbers of 32 bits
+pub record IsGather (m : Move) : Type 0 where
+  pub move : IsMove m
+  pub few : length m.ins ≤ 65536
 
 -- the word of an origin among the words of the inputs
 abbrev pub origin_word : List StTree → List (List ℕ) → OriginTree → ℕ

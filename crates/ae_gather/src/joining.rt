@@ -1,6 +1,6 @@
 // The nets of several bundles as one list.
 
-ghost use Rattle.std.specs.Prelude.{◌≡◌, ◌≢◌, ◌<◌, ◌^◌, ◌++◌, ◌∷◌, [], length, IfOk, OnOk, Err};
+ghost use Rattle.std.specs.Prelude.{◌≡◌, ◌≢◌, ◌<◌, ◌^◌, ◌++◌, ◌∷◌, [], length, sum_by, IfOk, OnOk, Err};
 ghost use Rattle.ae_gather.specs.Joins.{AreJoined};
 
 use ae_netlist::{NetFault, NetId};
@@ -44,23 +44,18 @@ pub(crate) fn keep_net(nets: &mut Vec<NetId>, net: NetId) -> Result<(), NetFault
     }
 }
 
-/// Joins the bundles, where numbers of 32 bits count their nets.
+/// Joins the bundles, which have few enough nets for numbers of 32 bits.
 pub fn join(alloc: Global, ins: &[Bundle]) -> Result<Joined, NetFault>
+    requires few { sum_by length ins.now < 2 ^ 31 }
     ensures joined { IfOk result (λ j. AreJoined ins.now j.nets.items j.firsts.items) }
-    ensures few { IfOk result (λ j. length j.nets.items < 2 ^ 32) }
+    ensures few { IfOk result (λ j. length j.nets.items < 2 ^ 31) }
     ensures fault { result ≢ Err NetFault.Full }
 {
     let mut nets = Vec::new(alloc);
     let mut firsts = Vec::new(alloc);
     for k in 0..ins.len() {
-        if nets.len() > 4294967295 {
-            return Err(NetFault::Memory);
-        }
         keep_first(&mut firsts, nets.len() as u32)?;
         add_all(&mut nets, ins[k].nets())?;
-    }
-    if nets.len() > 4294967295 {
-        return Err(NetFault::Memory);
     }
     Ok(Joined { nets, firsts })
 }

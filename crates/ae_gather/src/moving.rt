@@ -197,7 +197,7 @@ pub fn gather(
     requires limit { period ≤ 4096 }
     requires latency { d ≤ 4096 }
     requires few { length trips.now < 2 ^ 32 }
-    requires few_ins { length ins.now < 2 ^ 32 }
+    requires few_ins { length ins.now < 2 ^ 31 }
     requires few_outs { length widths.now < 2 ^ 32 }
     requires some { 1 ≤ length widths.now }
     requires nets { (q : ℕ) → q < length ins.now → (w : ℕ) × IsNet nl.old.cells (net_of ins.now q) w }
@@ -217,9 +217,6 @@ pub fn gather(
     ensures nets { IfOk result (λ out. (q w : ℕ) (y : Net) → slice_get widths.now q ≡ Some w → slice_get out.items q ≡ Some y → IsNet nl.new.cells y.0 w) }
     ensures trips { IfOk result (λ out. MakesTrips nl.new.cells clocks.old.rst period d arrival ins.now out.items trips.now) }
 {
-    if ins.len() > 2147483647 {
-        return Err(NetFault::Memory);
-    }
     let held = match held_columns(alloc, trips, d, ins.len() as u32, period) {
         Ok(held) => held,
         Err(_) => return Err(NetFault::Memory),

@@ -6,7 +6,7 @@ ghost use Rattle.ae_sttype.specs.StTree.{element_words, st_atoms, st_tree, time}
 ghost use Rattle.ae_sttype.specs.Size.{IsInSize};
 ghost use Rattle.ae_moves.specs.Origins.{AllInSize, AreOrigins, HasOrigin, IsMove, width_at};
 ghost use Rattle.ae_moves.specs.Trees.{origin_tree};
-ghost use Rattle.ae_gather.specs.Gathers.{gather_part, move_of};
+ghost use Rattle.ae_gather.specs.Gathers.{IsGather, gather_part, move_of};
 
 use crate::joining::join;
 use crate::layouts::{all_trips, all_widths};
@@ -18,6 +18,9 @@ use ae_ops::{Bundle, Stage};
 use ae_sttype::StType;
 use std::alloc::Global;
 use std::marker::Model;
+
+/// The most inputs of a move. So the numbers of their columns have 32 bits.
+const MOST_ARGUMENTS: usize = 65536;
 
 /// A move between layouts: each word of the output is that of its origin, or it is fixed.
 #[derive(Drop)]
@@ -32,9 +35,8 @@ impl Model for Gather {
     ghost use Rattle.std.specs.Prelude.{map};
     ghost use Rattle.std.specs.Coded.{codes};
     ghost use Rattle.ae_sttype.specs.contracts.st_type.StType as e;
-    ghost use Rattle.ae_moves.specs.Origins.{IsMove};
     ghost use Rattle.ae_moves.specs.Trees.{origin_tree};
-    ghost use Rattle.ae_gather.specs.Gathers.{Layouts, move_of};
+    ghost use Rattle.ae_gather.specs.Gathers.{IsGather, Layouts, move_of};
 
     ghost Value = { Layouts };
 
@@ -42,18 +44,20 @@ impl Model for Gather {
 
     ghost view = { λ g. record { ins = g.ins.items; out = g.out; origins = map origin_tree g.source.items } };
 
-    ghost invariant = { λ g. IsMove (move_of (record { ins = g.ins.items; out = g.out; origins = map origin_tree g.source.items })) };
+    ghost invariant = { λ g. IsGather (move_of (record { ins = g.ins.items; out = g.out; origins = map origin_tree g.source.items })) };
 }
 
 impl Gather {
     /// The move between these layouts, where `source` has one entry for each output word, by element and then by word.
     /// None exactly where a type is not in size, their times differ, there are more or fewer entries, an origin is not
-    /// there, or its width is not that of its output word or too small for the fixed word. Takes no memory.
+    /// there, its width is not that of its output word or too small for the fixed word, or more than 65,536 layouts come
+    /// in. Takes no memory.
     pub fn new(ins: Vec<StType>, out: StType, source: Vec<Origin>) -> Option<Gather>
-        ensures some { IsSome result ↔ IsMove (record { ins = map st_tree ins.items; out = st_tree out; origins = map origin_tree source.items }) }
+        ensures some { IsSome result ↔ IsGather (record { ins = map st_tree ins.items; out = st_tree out; origins = map origin_tree source.items }) }
         ensures is { IfSome result (λ g. move_of g ≡ record { ins = map st_tree ins.items; out = st_tree out; origins = map origin_tree source.items }) }
     {
-        if is_move(&ins, &out, &source) {
+        let few = ins.len() <= MOST_ARGUMENTS;
+        if few && is_move(&ins, &out, &source) {
             Some(Gather {
                 ins,
                 out,
@@ -98,10 +102,10 @@ impl Stage for Gather {
         ins: &[Bundle],
         arrival: u32,
     ) -> Result<Bundle, NetFault> {
+        let period = self.out.time();
         let joined = join(alloc, ins)?;
         let trips = all_trips(alloc, &self.ins, &joined.firsts, &self.out, &self.source)?;
         let widths = all_widths(alloc, &self.out)?;
-        let period = self.out.time();
         let d = latency(&self.ins, &self.out, &self.source);
         let nets = gather(
             alloc,

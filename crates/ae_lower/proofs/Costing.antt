@@ -20,7 +20,7 @@ use Rattle.ae_delay.specs.declared.own.OwnCosts.{OwnCosts}
 use Rattle.ae_delay.specs.OwnCosts.{op_costs, wire_costs}
 use Rattle.ae_delay.specs.Costs.{NodeTiming, Use, all_costs, arrivals_of, func_costs, latest, next_timing, node_costs, node_timings, slack_load, uses_at}
 use Rattle.ae_delay.proofs.Instances.{node_sound}
-use Rattle.ae_retime.specs.Slacks.{joint_slacks}
+use Rattle.ae_retime.specs.Slacks.{joint_slacks, joint_uses}
 use Rattle.ae_lower.specs.Delaying.{delay_load}
 use Rattle.ae_lower.specs.Lowering.{IsNodeAt, arrivals_in, costs_in, instance_costs, timings_in}
 
@@ -260,6 +260,7 @@ pub record NodeFacts (instances : List StFuncTree) (k j : ℕ) (s : StFuncTree) 
   pub load : t.load ≡ (node_costs (all_costs (take k instances)) (item_layouts s) n).load + slack_load (item_layouts s) (uses_at (arrivals_in instances k s) (latest (arrivals_in instances k s) n.args) n.args)
   pub muls : t.muls ≡ (node_costs (all_costs (take k instances)) (item_layouts s) n).muls
   pub mems : t.mems ≡ (node_costs (all_costs (take k instances)) (item_layouts s) n).mems
+  pub uses : t.uses ≡ joint_uses (arrivals_in instances k s) n.args
 
 pub node_facts : (instances : List StFuncTree) (k j : ℕ) (s : StFuncTree) (n : StNodeTree) (t : NodeTiming) → IsSound instances → IsNodeAt instances k j s n t → ((r i : ℕ) → slice_get n.args r ≡ Some i → i < length s.ins + j) → NodeFacts instances k j s n t
 unfolding AllEarly
@@ -278,6 +279,8 @@ node_facts instances k j s n t sound h below =
     (let low : i < length s.ins + j = below r i f in
     sym (ap (λ xs. slice_index xs i) split ∙ get_or_append_left (arrivals_of s.ins before) (map (λ (x : NodeTiming). x.arrival) (drop j ts)) 0 i (omega arith))) in
     let lates : latest (arrivals_of s.ins before) n.args ≡ latest (arrivals_in instances k s) n.args = greatest_same (λ a. slice_index (arrivals_of s.ins before) a) (λ a. slice_index (arrivals_in instances k s) a) 0 n.args reads in
+    let used : uses_at (arrivals_of s.ins before) (latest (arrivals_of s.ins before) n.args) n.args ≡ joint_uses (arrivals_in instances k s) n.args =
+    ap (λ i. uses_at (arrivals_of s.ins before) i n.args) lates ∙ uses_same (arrivals_of s.ins before) (arrivals_in instances k s) (latest (arrivals_in instances k s) n.args) n.args reads in
     let early : AllEarly s.ins (grown (next_timing known s) [] (take j s.nodes)) = grown_early known s (take j s.nodes) []
     (λ i m f. sound_copied instances k s sound h.func i m (take_at j i s.nodes m f)) (all_early instances k sound) (no_early s.ins) in
     let sums : latest (arrivals_of s.ins before) n.args ≤ sum_by load_of before = subst (λ (us : List NodeTiming). latest (arrivals_of s.ins us) n.args ≤ sum_by load_of us) (sym first_ones)
@@ -289,10 +292,10 @@ node_facts instances k j s n t sound h below =
     record {
       start = subst (λ i. i ≤ sum_by load_of before) lates sums;
       arrival = own ∙ ap (λ i. i + (node_costs known (item_layouts s) n).latency) lates;
-      load = ap load_of is ∙ ap (λ us. (node_costs known (item_layouts s) n).load + slack_load (item_layouts s) us)
-          (ap (λ i. uses_at (arrivals_of s.ins before) i n.args) lates ∙ uses_same (arrivals_of s.ins before) (arrivals_in instances k s) (latest (arrivals_in instances k s) n.args) n.args reads);
+      load = ap load_of is ∙ ap (λ us. (node_costs known (item_layouts s) n).load + slack_load (item_layouts s) us) used;
       muls = ap (λ (x : NodeTiming). x.muls) is;
       mems = ap (λ (x : NodeTiming). x.mems) is;
+      uses = ap (λ (x : NodeTiming). x.uses) is ∙ used;
     } where
       take_at : (c i : ℕ) (xs : List StNodeTree) (m : StNodeTree) → slice_get (take c xs) i ≡ Some m → slice_get xs i ≡ Some m
       take_at c i xs m f = get_from_take xs c i m f

@@ -12,21 +12,21 @@ use Rattle.ae_rewrite.specs.StProgramTree.{join, StNodeTree, StFuncTree}
 use Rattle.ae_rewrite.specs.Scheduled.{IsFilling}
 use Rattle.ae_rewrite.specs.Sound.{IsSoundFunc, IsSound, item_layout, item_layouts}
 use Rattle.ae_delay.specs.declared.own.OwnCosts.{OwnCosts}
-use Rattle.ae_delay.specs.Costs.{NodeTiming, latest, slack_load}
+use Rattle.ae_delay.specs.Costs.{NodeTiming, all_uses, chain_mems, latest, slack_load}
 use Rattle.ae_delay.proofs.Instances.{all_items}
 use Rattle.ae_retime.specs.Slacks.{joint_slacks, joint_uses}
 use Rattle.ae_flow.specs.Flow.{Callee, callees, first_result}
 use Rattle.ae_flow.specs.Fitted.{AreFitted, elements_stream}
 use Rattle.ae_ports.specs.Ports.{streams_of}
 use Rattle.ae_flow.specs.Laws.{FlowsFit}
-use Rattle.ae_lower.specs.Growth.{Adds, GrowsBy, IsBuilt}
+use Rattle.ae_lower.specs.Growth.{Adds, GrowsBy, IsBuilt, Spends}
 use Rattle.ae_lower.specs.Delaying.{AreDelayed, delay_load}
 use Rattle.ae_lower.specs.Lowering.{AreChosen, IsNodeAt, arrivals_in, bodies_part, instance_costs, lane_nets, timings_in}
-use Rattle.ae_lower.proofs.Growing.{adds_trans, adds_up, by_trans}
+use Rattle.ae_lower.proofs.Growing.{by_trans, spends_trans}
 use Rattle.ae_lower.proofs.NodeLaw.{items_wait}
 use Rattle.ae_lower.proofs.BodyLaw.{bodies_built, lane_bundles}
 use Rattle.ae_lower.proofs.Costing.{costs_are, sums_most, timings_long, wait_at}
-use Rattle.ae_lower.proofs.Instances.{AreLowered, AreSpread, bundles_grow, standing}
+use Rattle.ae_lower.proofs.Instances.{AreLowered, AreSpread, HaveSpent, bundles_grow, standing}
 use Rattle.ae_lower.proofs.Placed.{items_many, standing_delays}
 
 -- ---- nodes
@@ -79,14 +79,19 @@ results_grow instances k at rst s ins items old mid new waits sound func ew was 
     subst (λ (c : OwnCosts). sum_by (λ (t : NodeTiming). t.load) (take (length s.nodes) ts) + delay_load items waits s.results ≤ c.load) (sym (costs_are instances k s func)) (omega (arith, delays, nodes)) in
     by_trans (instance_costs instances k).load most was.grows grows
 
-pub results_add : (instances : List StFuncTree) (k at rst : ℕ) (s : StFuncTree) (ins items : List (List NetId)) (old mid new : Circuit) → slice_get instances k ≡ Some s
-    → AreLowered instances k at rst s ins old mid (length s.nodes) items → Adds mid new 0 0 → Adds old new (instance_costs instances k).muls (instance_costs instances k).mems
-results_add instances k at rst s ins items old mid new func was adds =
+pub results_add : (instances : List StFuncTree) (k : ℕ) (s : StFuncTree) (old mid new : Circuit) (most left less : ℕ) → slice_get instances k ≡ Some s → most ≤ chain_mems (item_layouts s) (all_uses s (timings_in instances k s))
+    → HaveSpent instances k s old mid (length s.nodes) most left → Spends mid new 0 0 left less → Adds old new (instance_costs instances k).muls (instance_costs instances k).mems
+results_add instances k s old mid new most left less func few was adds =
     let ts : List NodeTiming = timings_in instances k s in
     let all : take (length s.nodes) ts ≡ ts = take_all (length s.nodes) ts (omega (arith, timings_long instances k s)) in
     let muls : sum_by (λ (t : NodeTiming). t.muls) (take (length s.nodes) ts) ≡ sum_by (λ (t : NodeTiming). t.muls) ts = ap (sum_by (λ (t : NodeTiming). t.muls)) all in
     let mems : sum_by (λ (t : NodeTiming). t.mems) (take (length s.nodes) ts) ≡ sum_by (λ (t : NodeTiming). t.mems) ts = ap (sum_by (λ (t : NodeTiming). t.mems)) all in
-    subst (λ (c : OwnCosts). Adds old new c.muls c.mems) (sym (costs_are instances k s func)) (adds_up (omega (arith, muls)) (omega (arith, mems)) (adds_trans was.adds adds))
+    let whole = spends_trans was adds in
+    subst (λ (c : OwnCosts). Adds old new c.muls c.mems) (sym (costs_are instances k s func)) (record {
+      muls = omega (arith, muls, whole.muls);
+      memories = omega (arith, mems, few, whole.memories);
+      whole = whole.whole;
+    })
 
 pub results_chosen : (instances : List StFuncTree) (k at rst : ℕ) (s : StFuncTree) (ins items : List (List NetId)) (old mid new : Circuit) (waits : List ℕ) (results : List (List NetId)) → IsSound instances → slice_get instances k ≡ Some s → waits ≡ joint_slacks (arrivals_in instances k s) s.results
     → AreLowered instances k at rst s ins old mid (length s.nodes) items → Extends mid.cells new.cells → AreDelayed mid.cells new.cells rst items waits s.results results

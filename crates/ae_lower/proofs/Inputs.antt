@@ -11,6 +11,7 @@ use Rattle.ae_sttype.specs.declared.st_type.StType.{StType}
 use Rattle.ae_sttype.specs.StTree.{StTree, atom, tseq, sseq, element_atom, element_words, lanes, st_tree}
 use Rattle.ae_sttype.specs.Size.{HasLengths, IsInSize}
 use Rattle.ae_sttype.proofs.Bounds.{element_words_pos, lanes_pos}
+use Rattle.ae_moves.proofs.Words.{columns_small}
 use Rattle.ae_rewrite.specs.StProgramTree.{st_trees}
 use Rattle.ae_ports.specs.Ports.{streams_of, SizedPort, input_cell, input_ports, lane_ports, ports_from, stream_ports, word_ports}
 use Rattle.ae_seqtype.proofs.Sizes.{length-repeated}
@@ -102,6 +103,13 @@ inputs_trans {a} {b} {c} {x} {y} {z} {ps} {qs} p q =
           ∙ (sym (nets_from_add (length a.cells) (length ps) (length qs)) ∙ ap (nets_from (length a.cells)) (sym (length-append ps qs))))));
     }
 
+-- how many cells there are then, and may be
+pub inputs_long : {a b : Circuit} {x y : List NetId} {ps : List SizedPort} → AddsInputs a b x y ps → length b.cells ≡ length a.cells + length ps
+inputs_long {a} {b} {x} {y} {ps} h = ap (λ (n : Circuit). length n.cells) h.cells ∙ (length-append a.cells (map input_cell ps) ∙ ap (λ n. length a.cells + n) (length-map ps input_cell))
+
+pub inputs_limit : {a b : Circuit} {x y : List NetId} {ps : List SizedPort} → AddsInputs a b x y ps → b.limit ≡ a.limit
+inputs_limit h = ap (λ (n : Circuit). n.limit) h.cells
+
 -- one input
 pub inputs_one : (a b : Circuit) (x y : List NetId) (net : NetId) (p : SizedPort) → b ≡ record a { cells = a.cells ++ input_cell p ∷ [] } → net ≡ record { 0 = length a.cells } → y ≡ x ++ net ∷ [] → AddsInputs a b x y (p ∷ [])
 inputs_one a b x y net p made is pushed = record { cells = made; nets = pushed ∙ ap (λ (n : NetId). x ++ n ∷ []) is }
@@ -187,6 +195,13 @@ params_few b c k t bundle size few one =
     ap (λ (n : Circuit). length n.cells) one.cells ∙ (length-append b.cells (map input_cell (stream_ports (In k) s)) ∙ ap (λ n. length b.cells + n) (length-map (stream_ports (In k) s) input_cell)) in
     let some : 1 ≤ lanes (st_tree t) * length s.widths = some_product (lanes (st_tree t)) (length s.widths) (lanes_pos (st_tree t) size.lengths) (omega (arith, widths_long (st_tree t), element_words_pos (st_tree t))) in
     omega (arith, long, length-lane_ports (In k) s.widths s.lanes)
+
+-- and at most as many as a type has words
+pub params_most : (b c : Circuit) (k : ℕ) (t : StType) (bundle : List NetId) → IsInSize (st_tree t) → AddsInputs b c [] bundle (stream_ports (In k) (stream_of (st_tree t))) → length c.cells ≤ length b.cells + 16384
+params_most b c k t bundle size one =
+    let s : Stream = stream_of (st_tree t) in
+    let lanes : lanes (st_tree t) * length s.widths ≡ lanes (st_tree t) * element_words (st_tree t) = ap (λ n. lanes (st_tree t) * n) (widths_long (st_tree t)) in
+    omega (arith, inputs_long one, length-lane_ports (In k) s.widths s.lanes, lanes, columns_small (st_tree t) size)
 
 pub sized_atom : (s : StTree) → HasLengths s → IsTrue (atom_in_size (element_atom s))
 sized_atom (atom a) h = h

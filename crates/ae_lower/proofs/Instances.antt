@@ -19,9 +19,9 @@ use Rattle.ae_rewrite.specs.Sound.{item_layout, item_layouts}
 use Rattle.ae_delay.specs.Costs.{NodeTiming}
 use Rattle.ae_flow.specs.Flow.{Callee, callees, first_result, item_words, node_words, words_at}
 use Rattle.ae_ports.specs.Ports.{streams_of}
-use Rattle.ae_lower.specs.Growth.{Adds, GrowsBy}
+use Rattle.ae_lower.specs.Growth.{Adds, GrowsBy, Spends}
 use Rattle.ae_lower.specs.Lowering.{AreChosen, AreItems, AreStanding, IsItem, arrivals_in, instance_costs, lane_nets, timings_in}
-use Rattle.ae_lower.proofs.Growing.{adds_trans, adds_up, by_trans}
+use Rattle.ae_lower.proofs.Growing.{adds_trans, adds_up, by_trans, spends_trans, spends_up}
 use Rattle.ae_lower.proofs.Delaying.{nets_grow}
 use Rattle.ae_lower.proofs.NodeLaw.{item_grows, many_words}
 use Rattle.ae_lower.proofs.BodyLaw.{AreLanes, more_lanes, no_lanes}
@@ -30,7 +30,6 @@ use Rattle.ae_lower.proofs.Costing.{input_arrival, sums_more}
 -- the first nodes of an instance are lowered
 pub record AreLowered (instances : List StFuncTree) (k at rst : ℕ) (s : StFuncTree) (ins : List (List NetId)) (old new : Circuit) (j : ℕ) (items : List (List NetId)) : Type 0 where
   pub grows : GrowsBy old new (sum_by (λ (t : NodeTiming). t.load) (take j (timings_in instances k s)))
-  pub adds : Adds old new (sum_by (λ (t : NodeTiming). t.muls) (take j (timings_in instances k s))) (sum_by (λ (t : NodeTiming). t.mems) (take j (timings_in instances k s)))
   pub have : AreItems new.cells rst at (callees (take k instances)) s (arrivals_in instances k s) ins (length s.ins + j) items
 
 -- the first bodies are lowered
@@ -93,7 +92,6 @@ adds_none a = record { muls = omega arith; memories = omega arith; whole = λ h.
 pub no_nodes : (instances : List StFuncTree) (k at rst : ℕ) (s : StFuncTree) (ins items : List (List NetId)) (old : Circuit) → AreBundles old.cells (streams_of s.ins) ins → items ≡ ins → AreLowered instances k at rst s ins old old 0 items
 no_nodes instances k at rst s ins items old h same = subst (λ (xs : List (List NetId)). AreLowered instances k at rst s ins old old 0 xs) (sym same) (record {
   grows = grows_none old _;
-  adds = adds_none old;
   have = record {
     long = omega (arith, h.long, length-map s.ins stream_of);
     each = λ i nets found.
@@ -103,12 +101,11 @@ no_nodes instances k at rst s ins items old h same = subst (λ (xs : List (List 
 })
 
 pub more_nodes : (instances : List StFuncTree) (k at rst : ℕ) (s : StFuncTree) (ins : List (List NetId)) (old mid new : Circuit) (j : ℕ) (items all : List (List NetId)) (made : List NetId) (t : NodeTiming)
-    → slice_get (timings_in instances k s) j ≡ Some t → all ≡ items ++ made ∷ [] → GrowsBy mid new t.load → Adds mid new t.muls t.mems
+    → slice_get (timings_in instances k s) j ≡ Some t → all ≡ items ++ made ∷ [] → GrowsBy mid new t.load
     → IsItem new.cells rst at (callees (take k instances)) s ins (slice_index (arrivals_in instances k s) (length s.ins + j)) (length s.ins + j) made
     → AreLowered instances k at rst s ins old mid j items → AreLowered instances k at rst s ins old new (j + 1) all
-more_nodes instances k at rst s ins old mid new j items all made t timing same grows adds own was = subst (λ (xs : List (List NetId)). AreLowered instances k at rst s ins old new (j + 1) xs) (sym same) (record {
+more_nodes instances k at rst s ins old mid new j items all made t timing same grows own was = subst (λ (xs : List (List NetId)). AreLowered instances k at rst s ins old new (j + 1) xs) (sym same) (record {
   grows = by_trans _ (let e = sums_more (λ (x : NodeTiming). x.load) instances k j s t timing in omega (arith, e)) was.grows grows;
-  adds = adds_up (sym (sums_more (λ (x : NodeTiming). x.muls) instances k j s t timing)) (let e = sums_more (λ (x : NodeTiming). x.mems) instances k j s t timing in omega (arith, e)) (adds_trans was.adds adds);
   have = record {
     long = omega (arith, length_push items made, was.have.long);
     each = λ i nets found. elim (get_push_cases items made i nets found) [
@@ -120,6 +117,15 @@ more_nodes instances k at rst s ins old mid new j items all made t timing same g
     ];
   };
 })
+
+-- the products and memories of the first nodes, where so many memories were left at first and are left now
+abbrev pub HaveSpent : (instances : List StFuncTree) (k : ℕ) (s : StFuncTree) (old new : Circuit) (j most left : ℕ) → Type 0
+HaveSpent instances k s old new j most left = Spends old new (sum_by (λ (t : NodeTiming). t.muls) (take j (timings_in instances k s))) (sum_by (λ (t : NodeTiming). t.mems) (take j (timings_in instances k s))) most left
+
+pub more_spent : (instances : List StFuncTree) (k : ℕ) (s : StFuncTree) (old mid new : Circuit) (j most left less : ℕ) (t : NodeTiming) → slice_get (timings_in instances k s) j ≡ Some t → Spends mid new t.muls t.mems left less
+    → HaveSpent instances k s old mid j most left → HaveSpent instances k s old new (j + 1) most less
+more_spent instances k s old mid new j most left less t timing adds was =
+    spends_up (sym (sums_more (λ (x : NodeTiming). x.muls) instances k j s t timing)) (let e = sums_more (λ (x : NodeTiming). x.mems) instances k j s t timing in omega (arith, e)) (spends_trans was adds)
 
 pub standing : (cells : List SizedCell) (rst at : ℕ) (known : List Callee) (s : StFuncTree) (arrivals : List ℕ) (ins : List (List NetId)) (count : ℕ) (items : List (List NetId)) → AreItems cells rst at known s arrivals ins count items → AreStanding cells s count items
 standing cells rst at known s arrivals ins count items h = record { long = h.long; each = λ i nets found. (h.each i nets found).there }

@@ -30,3 +30,4 @@ pub mod Stretches
 pub mod Layouts
 pub mod Blocks
 pub mod Programs
+pub mod Waiting

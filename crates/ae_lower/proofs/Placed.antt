@@ -26,16 +26,16 @@ use Rattle.ae_delay.specs.declared.own.OwnCosts.{OwnCosts}
 use Rattle.ae_delay.specs.OwnCosts.{body_costs, op_costs}
 use Rattle.ae_delay.specs.Costs.{NodeTiming, all_costs, latest, node_costs, slack_load, uses_at}
 use Rattle.ae_delay.proofs.Instances.{all_items, node_sound}
-use Rattle.ae_retime.specs.Slacks.{AreSlacks, SlackTables, joint_slacks, joint_uses}
+use Rattle.ae_retime.specs.Slacks.{AreSlacks, SlackTables, item_chains, joint_slacks, joint_uses}
 use Rattle.ae_flow.specs.Flow.{Callee, callee, callee_at, callees, first_result, no_callee}
 use Rattle.ae_flow.specs.Fitted.{FitsBody, FitsNode, FitsOp, elements_stream}
 use Rattle.ae_ports.specs.Ports.{streams_of}
 use Rattle.ae_flow.specs.Laws.{FlowsFit}
-use Rattle.ae_lower.specs.Growth.{Adds, GrowsBy, IsBuilt}
+use Rattle.ae_lower.specs.Growth.{Adds, GrowsBy, IsBuilt, Spends}
 use Rattle.ae_lower.specs.Nodes.{CallsNothing, IsReady, arguments_of, node_part, plain_costs}
 use Rattle.ae_lower.specs.Delaying.{AreDelayed, delay_load}
 use Rattle.ae_lower.specs.Lowering.{AreChosen, AreItems, AreStanding, IsItem, IsLight, IsNodeAt, IsTimed, arrivals_in, bodies_part, instance_costs, timings_in}
-use Rattle.ae_lower.proofs.Growing.{adds_trans, adds_up, by_trans}
+use Rattle.ae_lower.proofs.Growing.{by_trans, spends_more, spends_up}
 use Rattle.ae_lower.proofs.NodeLaw.{items_wait, node_item}
 use Rattle.ae_lower.proofs.BodyLaw.{body_node, columns_long, result_layout}
 use Rattle.ae_lower.proofs.Costing.{NodeFacts, arrivals_long, callee_costs, costs_are, delays_cost, node_facts, sums_most, timings_long, wait_at}
@@ -78,6 +78,9 @@ waits_told instances t k j s n slacks func node =
 
 pub result_waits_told : (instances : List StFuncTree) (t : SlackTables) (k : ℕ) (s : StFuncTree) → AreSlacks instances t → slice_get instances k ≡ Some s → slice_get t.results k ≡ Some (joint_slacks (arrivals_in instances k s) s.results)
 result_waits_told instances t k s slacks func = slacks.results.each k s (slice_get_within instances k s func) func
+
+pub chains_told : (instances : List StFuncTree) (t : SlackTables) (k : ℕ) (s : StFuncTree) → AreSlacks instances t → slice_get instances k ≡ Some s → slice_get t.chains k ≡ Some (item_chains (arrivals_in instances k s) s)
+chains_told instances t k s slacks func = slacks.chains.each k s (slice_get_within instances k s func) func
 
 -- ---- a node in its place
 
@@ -298,6 +301,10 @@ pub result_waits_in : (funcs : List StFunc) (t : SlackTables) (k : ℕ) (s : StF
 result_waits_in funcs t k s waits slacks func told =
     same_Some waits (joint_slacks (arrivals_in (st_func_trees funcs) k (st_func_tree s)) (st_func_tree s).results) (sym told ∙ result_waits_told (st_func_trees funcs) t k (st_func_tree s) slacks (func_tree funcs k s func))
 
+pub chains_in : (instances : List StFuncTree) (t : SlackTables) (k : ℕ) (s : StFuncTree) (chains : List ℕ) → AreSlacks instances t → slice_get instances k ≡ Some s
+    → slice_get t.chains k ≡ Some chains → chains ≡ item_chains (arrivals_in instances k s) s
+chains_in instances t k s chains slacks func told = same_Some chains (item_chains (arrivals_in instances k s) s) (sym told ∙ chains_told instances t k s slacks func)
+
 pub own_long : (instances : List StFuncTree) (k j at : ℕ) (s : StFuncTree) (n : StNodeTree) (own : List ℕ) → IsPlaced instances k j at s n own → length s.ins + j ≤ length own
 own_long instances k j at s n own h =
     let there : j < length s.nodes = slice_get_within s.nodes j n h.node in
@@ -310,14 +317,16 @@ call_args instances k m s n f cells args c bundles z found =
     subst (λ (g : StFuncTree). (slots : ℕ) × AreBundles cells (map (elements_stream slots n.copies) g.ins) args) same
     (c.fits.slots, subst (λ (ss : List Stream). AreBundles cells ss args) c.fits.ins bundles)
 
-pub call_adds : (old mid new : Circuit) (copies : ℕ) (f own : OwnCosts) (t : NodeTiming) → own ≡ body_costs copies f → t.muls ≡ own.muls → t.mems ≡ own.mems → Adds old mid 0 0 → Adds mid new (copies * f.muls) (copies * f.mems) → Adds old new t.muls t.mems
-call_adds old mid new copies f own t is muls mems a b =
+pub call_spends : (old mid new : Circuit) (copies : ℕ) (f own : OwnCosts) (t : NodeTiming) (before left : ℕ) → own ≡ body_costs copies f → t.muls ≡ own.muls → t.mems ≡ own.mems
+    → Spends old mid 0 0 before left → Adds mid new (copies * f.muls) (copies * f.mems) → Spends old new t.muls t.mems before left
+call_spends old mid new copies f own t before left is muls mems a b =
     let em : own.muls ≡ copies * f.muls = ap (λ (o : OwnCosts). o.muls) is in
     let en : own.mems ≡ copies * f.mems = ap (λ (o : OwnCosts). o.mems) is in
-    adds_up (omega (arith, em, muls)) (omega (arith, en, mems)) (adds_trans a b)
+    spends_up (omega (arith, em, muls)) (omega (arith, en, mems)) (spends_more a b)
 
-pub plain_adds : (old mid new : Circuit) (plain own : OwnCosts) (t : NodeTiming) → plain ≡ own → t.muls ≡ own.muls → t.mems ≡ own.mems → Adds old mid 0 0 → Adds mid new plain.muls plain.mems → Adds old new t.muls t.mems
-plain_adds old mid new plain own t is muls mems a b =
+pub plain_spends : (old mid new : Circuit) (plain own : OwnCosts) (t : NodeTiming) (before left : ℕ) → plain ≡ own → t.muls ≡ own.muls → t.mems ≡ own.mems
+    → Spends old mid 0 0 before left → Adds mid new plain.muls plain.mems → Spends old new t.muls t.mems before left
+plain_spends old mid new plain own t before left is muls mems a b =
     let em : plain.muls ≡ own.muls = ap (λ (o : OwnCosts). o.muls) is in
     let en : plain.mems ≡ own.mems = ap (λ (o : OwnCosts). o.mems) is in
-    adds_up (omega (arith, em, muls)) (omega (arith, en, mems)) (adds_trans a b)
+    spends_up (omega (arith, em, muls)) (omega (arith, en, mems)) (spends_more a b)

@@ -19,7 +19,7 @@ use Rattle.ae_ports.specs.Ports.{SizedPort, input_cell, input_ports, reset_port,
 use Rattle.ae_tidy.specs.Places.{AreMarks, AreMoved, IsMoved}
 use Rattle.ae_tidy.specs.Tidied.{IsTidied}
 use Rattle.ae_tidy.proofs.Counted.{like_input, like_mul, moved_apart, moved_end, moved_number}
-use Rattle.ae_lower.specs.Growth.{Adds, GrowsBy}
+use Rattle.ae_lower.specs.Growth.{GrowsBy}
 use Rattle.ae_lower.specs.Delaying.{delay_load}
 use Rattle.ae_lower.specs.Lowering.{arrivals_in}
 use Rattle.ae_lower.specs.Stretches.{AreStretches, IsStretch, results_load}
@@ -55,15 +55,15 @@ extends_long mid new e =
     omega (arith, length-take (length mid) new)
 
 -- the cells from one place on, and those that are added
-stretch_more : (mid new : Circuit) (from load more products added mems : ℕ) → GrowsBy mid new more → Adds mid new added mems → IsStretch mid.cells from (length mid.cells) load products
+stretch_more : (mid new : Circuit) (from load more products added : ℕ) → GrowsBy mid new more → count_of is_mul new.cells ≡ count_of is_mul mid.cells + added → IsStretch mid.cells from (length mid.cells) load products
     → IsStretch new.cells from (length new.cells) (load + more) (products + added)
-stretch_more mid new from load more products added mems g a s =
+stretch_more mid new from load more products added g a s =
     let longer : length mid.cells ≤ length new.cells = extends_long mid.cells new.cells g.grows.extends in
     let front : number_of is_mul new.cells from ≡ number_of is_mul mid.cells from = number_kept mid.cells new.cells from g.grows.extends s.rising in
     record {
       rising = omega (arith, s.rising, longer);
       few = omega (arith, s.few, g.cells);
-      muls = omega (arith, number_all new.cells, number_all mid.cells, front, a.muls, s.muls);
+      muls = omega (arith, number_all new.cells, number_all mid.cells, front, a, s.muls);
     }
 
 stretch_none : (c : Circuit) → IsStretch c.cells (length c.cells) (length c.cells) 0 0
@@ -90,7 +90,7 @@ marked_none c ts marks is = subst (HaveMarks c c ts 0) (sym is) (record {
   };
 })
 
-pub marked_more : (old mid new : Circuit) (ts : List NodeTiming) (j : ℕ) (marks more : List ℕ) (t : NodeTiming) → slice_get ts j ≡ Some t → more ≡ marks ++ length mid.cells ∷ [] → GrowsBy mid new t.load → Adds mid new t.muls t.mems
+pub marked_more : (old mid new : Circuit) (ts : List NodeTiming) (j : ℕ) (marks more : List ℕ) (t : NodeTiming) → slice_get ts j ≡ Some t → more ≡ marks ++ length mid.cells ∷ [] → GrowsBy mid new t.load → count_of is_mul new.cells ≡ count_of is_mul mid.cells + t.muls
     → HaveMarks old mid ts j marks → HaveMarks old new ts (j + 1) more
 marked_more old mid new ts j marks more t timing is g a was = subst (HaveMarks old new ts (j + 1)) (sym is) (record {
   long = omega (arith, length_push marks (length mid.cells), was.long);
@@ -129,18 +129,18 @@ marked_more old mid new ts j marks more t timing is g a was = subst (HaveMarks o
 })
   where
     own : IsStretch new.cells (length mid.cells) (length new.cells) t.load t.muls
-    own = let s = stretch_more mid new (length mid.cells) 0 t.load 0 t.muls t.mems g a (stretch_none mid) in record { rising = s.rising; few = omega (arith, s.few); muls = omega (arith, s.muls) }
+    own = let s = stretch_more mid new (length mid.cells) 0 t.load 0 t.muls g a (stretch_none mid) in record { rising = s.rising; few = omega (arith, s.few); muls = omega (arith, s.muls) }
 
     behind : (i n : ℕ) → slice_get (marks ++ length mid.cells ∷ []) (i + 1) ≡ Some n → i ≡ length marks → ⊥
     behind i n k e = let l : i + 1 < length (marks ++ length mid.cells ∷ []) = slice_get_within (marks ++ length mid.cells ∷ []) (i + 1) n k in omega (arith, length_push marks (length mid.cells))
 
 -- the delays of the results stand behind the last node's cells
-pub marked_end : (old mid new : Circuit) (ts : List NodeTiming) (j delays : ℕ) (marks : List ℕ) → GrowsBy mid new delays → Adds mid new 0 0 → HaveMarks old mid ts j marks → AreStretches new.cells (length old.cells) ts delays marks
+pub marked_end : (old mid new : Circuit) (ts : List NodeTiming) (j delays : ℕ) (marks : List ℕ) → GrowsBy mid new delays → count_of is_mul new.cells ≡ count_of is_mul mid.cells + 0 → HaveMarks old mid ts j marks → AreStretches new.cells (length old.cells) ts delays marks
 marked_end old mid new ts j delays marks g a was = record {
   first = was.are.first;
   between = λ i m n t f h k. stretch_kept mid.cells new.cells m n t.load t.muls g.grows.extends (was.within (i + 1) n k) (was.are.between i m n t f h k);
   last = λ i m t f h e.
-      let s = stretch_more mid new m (t.load + 0) delays t.muls 0 0 g a (was.are.last i m t f h e) in
+      let s = stretch_more mid new m (t.load + 0) delays t.muls 0 g a (was.are.last i m t f h e) in
       record { rising = s.rising; few = omega (arith, s.few); muls = omega (arith, s.muls) };
 }
 

@@ -18,6 +18,12 @@ pub record Adds (old new : Circuit) (products most : ℕ) : Type 0 where
   pub memories : count_of is_memory new.cells ≤ count_of is_memory old.cells + most
   pub whole : AreWhole old.cells → AreWhole new.cells
 
+-- by exactly so many products, and at most so many memories beside those that were left and are not any more
+pub record Spends (old new : Circuit) (products most before left : ℕ) : Type 0 where
+  pub muls : count_of is_mul new.cells ≡ count_of is_mul old.cells + products
+  pub memories : count_of is_memory new.cells + left ≤ count_of is_memory old.cells + before + most
+  pub whole : AreWhole old.cells → AreWhole new.cells
+
 -- nets that keep the law of a part for arguments whose block 0 begins in clock `at` after reset
 pub record IsBuilt (new : Circuit) (rst at : ℕ) (p : Part) (ins : List (List NetId)) (out : List NetId) : Type 0 where
   pub nets : AreNets new.cells (stream_widths p.out) out

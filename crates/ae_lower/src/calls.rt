@@ -5,6 +5,7 @@ ghost use Rattle.std.specs.Option.{option_and_then};
 ghost use Rattle.ae_netlist.specs.declared.cell.NetId.{NetId as Net};
 ghost use Rattle.ae_clocked.specs.Signals.{IsFullAt};
 ghost use Rattle.ae_clocked.specs.Phases.{Belongs, KeepsCounters};
+ghost use Rattle.ae_clocked.specs.KeptRings.{RingsBelong};
 ghost use Rattle.ae_ops.specs.Blocks.{AreBundles};
 ghost use Rattle.ae_rewrite.specs.StProgramTree.{StFuncTree as Tree, StNodeTree as Node, st_func_trees};
 ghost use Rattle.ae_delay.specs.Costs.{NodeTiming};
@@ -12,15 +13,15 @@ ghost use Rattle.ae_retime.specs.Slacks.{AreSlacks};
 ghost use Rattle.ae_flow.specs.Flow.{callees};
 ghost use Rattle.ae_flow.specs.Fitted.{elements_stream};
 ghost use Rattle.ae_ports.specs.Ports.{streams_of};
-ghost use Rattle.ae_lower.specs.Growth.{Adds, GrowsBy, IsBuilt};
+ghost use Rattle.ae_lower.specs.Growth.{Adds, GrowsBy, IsBuilt, Spends};
 ghost use Rattle.ae_lower.specs.Lowering.{AreChosen, AreItems, AreStanding, IsItem, IsLight, IsNodeAt, IsTimed, arrivals_in, bodies_part, instance_costs, lane_nets};
 ghost use Rattle.ae_lower.specs.Stretches.{AreNodeCells};
 ghost use Rattle.ae_tidy.specs.Places.{AreMarks};
 
-use crate::items::joined;
+use crate::items::{joined, waiting_memories};
 use crate::nodes::build;
 use crate::wires::{add, copied, keep_bundle, piece};
-use ae_clocked::Clocks;
+use ae_clocked::{Clocks, Rings};
 use ae_delay::{Timing, latest};
 use ae_flow::flows_fit;
 use ae_netlist::{NetFault, Netlist};
@@ -58,6 +59,17 @@ fn waits_of(slacks: &Slacks, k: u32, node: u32) -> &[u32]
 {
     match slacks.waits(k, node) {
         Some(waits) => waits,
+        None => unreachable!(),
+    }
+}
+
+// How long each of its items waits at most.
+fn chains_of(slacks: &Slacks, k: u32) -> &[u32]
+    requires { (own : List ℕ) × (slice_get slacks.now.chains k ≡ Some own) }
+    ensures { slice_get slacks.now.chains k ≡ Some result.now }
+{
+    match slacks.chains(k) {
+        Some(chains) => chains,
         None => unreachable!(),
     }
 }
@@ -203,14 +215,21 @@ pub fn lower_instance(
 {
     let s = instance(p, k);
     let counts = readers(alloc, s)?;
+    let chains = chains_of(slacks, k);
+    let most = waiting_memories(s, chains);
+    let mut kept = Rings::new(alloc, most);
     let mut items = all_copied(alloc, ins)?;
     for j in 0..s.nodes.len() {
         let mark = nl.len();
-        let made = lower_node(alloc, nl, clocks, p, a, slacks, k, j, &items, at, &counts)?;
+        let made = lower_node(
+            alloc, nl, clocks, &mut kept, p, a, slacks, k, j, &items, at, &counts,
+        )?;
         keep_item(&mut items, marks, made, mark)?;
     }
     let waits = result_waits_of(slacks, k);
-    joined(alloc, nl, clocks, &items, waits, &s.results)
+    joined(
+        alloc, nl, clocks, &mut kept, chains, &items, waits, &s.results,
+    )
 }
 
 // Node `j` of an instance, on the items before it.
@@ -219,6 +238,7 @@ fn lower_node(
     alloc: Global,
     nl: &mut Netlist,
     clocks: &mut Clocks,
+    kept: &mut Rings,
     p: &StProgram,
     a: &Timing,
     slacks: &Slacks,
@@ -229,6 +249,7 @@ fn lower_node(
     counts: &Vec<u32>,
 ) -> Result<Bundle, NetFault>
     requires belongs { Belongs clocks.old nl.old.cells }
+    requires rings { RingsBelong kept.old clocks.old.rst nl.old.cells }
     requires timed { IsTimed (st_func_trees p.now) a.now.arrivals }
     requires slacks { AreSlacks (st_func_trees p.now) slacks.now }
     requires light { (s : Tree) × IsLight (st_func_trees p.now) k at s }
@@ -236,8 +257,9 @@ fn lower_node(
     requires items { (s : Tree) → slice_get (st_func_trees p.now) k ≡ Some s → AreStanding nl.old.cells s (length s.ins + j) items.now }
     ensures belongs { Belongs clocks.new nl.new.cells }
     ensures keeps { KeepsCounters clocks.old clocks.new }
+    ensures rings { OnOk result (RingsBelong kept.new clocks.old.rst nl.new.cells) }
     ensures grows { (s : Tree) (n : Node) (t : NodeTiming) → IsNodeAt (st_func_trees p.now) k j s n t → GrowsBy nl.old nl.new t.load }
-    ensures adds { OnOk result ((s : Tree) (n : Node) (t : NodeTiming) → IsNodeAt (st_func_trees p.now) k j s n t → Adds nl.old nl.new t.muls t.mems) }
+    ensures spends { OnOk result ((s : Tree) (n : Node) (t : NodeTiming) → IsNodeAt (st_func_trees p.now) k j s n t → Spends nl.old nl.new t.muls t.mems kept.old.left kept.new.left) }
     ensures full { IsFullAt result nl.new }
     ensures item { IfOk result (λ y. (s : Tree) (ins : List (List Net)) → slice_get (st_func_trees p.now) k ≡ Some s
         → AreItems nl.old.cells clocks.old.rst at (callees (take k (st_func_trees p.now))) s (arrivals_in (st_func_trees p.now) k s) ins (length s.ins + j) items.now
@@ -249,7 +271,8 @@ fn lower_node(
     let node = &s.nodes[j];
     let start = latest(arrivals, &node.args);
     let waits = waits_of(slacks, k, j as u32);
-    let args = joined(alloc, nl, clocks, items, waits, &node.args)?;
+    let chains = chains_of(slacks, k);
+    let args = joined(alloc, nl, clocks, kept, chains, items, waits, &node.args)?;
     match &node.op {
         StOp::Body(m) => {
             lower_bodies(

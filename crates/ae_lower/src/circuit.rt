@@ -16,7 +16,7 @@ use crate::ports::{add_input, add_inputs, add_results};
 use ae_clocked::Clocks;
 use ae_delay::Timing;
 use ae_flow::flows_mean;
-use ae_netlist::{Netlist, Port};
+use ae_netlist::{NetFault, Netlist, Port};
 use ae_retime::Slacks;
 use ae_rewrite::StProgram;
 use ae_tidy::tidy;
@@ -76,7 +76,8 @@ pub fn lower(
         &mut marks,
     ) {
         Ok(results) => results,
-        Err(_) => return Err(AllocError),
+        Err(NetFault::Full) => unreachable!(),
+        Err(NetFault::Memory) => return Err(AllocError),
     };
     add_results(&mut nl, s, &results)?;
     nl.formed();

@@ -1,6 +1,6 @@
 // The ports of a circuit: one for each word of each lane.
 
-ghost use Rattle.std.specs.Prelude.{◌≡◌, ◌<◌, ◌≤◌, ◌+◌, ◌-◌, ◌^◌, ◌++◌, ◌∷◌, [], ℕ, IfOk, IsTrue, List, OnOk, Some, flat_map, length, map, slice_get};
+ghost use Rattle.std.specs.Prelude.{◌≡◌, ◌<◌, ◌≤◌, ◌+◌, ◌-◌, ◌*◌, ◌^◌, ◌++◌, ◌∷◌, [], ℕ, IfOk, IsTrue, List, OnOk, Some, flat_map, length, map, slice_get};
 ghost use Rattle.ae_word.specs.AtomTree.{WordKind, atom_in_size, atom_kinds, atom_tree, atom_words};
 ghost use Rattle.ae_sttype.specs.declared.st_type.StType.{StType as Layout};
 ghost use Rattle.ae_sttype.specs.StTree.{st_tree};
@@ -16,7 +16,7 @@ ghost use Rattle.ae_lower.specs.Circuits.{item_stream, result_streams};
 ghost use Rattle.ae_lower.specs.PortNets.{AddsInputs, AddsOutputs, bundles_from, net_widths};
 
 use ae_delay::layout;
-use ae_netlist::{Cell, NetId, Netlist, Port};
+use ae_netlist::{Cell, NetFault, NetId, Netlist, Port};
 use ae_ops::Bundle;
 use ae_rewrite::StFunc;
 use ae_sttype::StType;
@@ -37,20 +37,22 @@ fn word_width(atom: &Atom, word: u32) -> u32
     }
 }
 
-/// Adds an input.
+/// Adds an input, for which there is room. The error comes only for want of memory.
 pub fn add_input(nl: &mut Netlist, width: u32, port: Port) -> Result<NetId, AllocError>
     requires low { 1 ≤ width }
     requires high { width ≤ 64 }
+    requires room { length nl.old.cells < nl.old.limit }
     ensures net { IfOk result (λ n. n ≡ record { 0 = length nl.old.cells }) }
     ensures added { OnOk result (nl.new ≡ record nl.old { cells = nl.old.cells ++ input_cell (record { port = port; width = width }) ∷ [] }) }
 {
     match nl.add(width, Cell::Input(port)) {
         Ok(net) => Ok(net),
-        Err(_) => Err(AllocError),
+        Err(NetFault::Full) => unreachable!(),
+        Err(NetFault::Memory) => Err(AllocError),
     }
 }
 
-/// Adds the inputs of one lane, and keeps their nets.
+/// Adds the inputs of one lane, for which there is room, and keeps their nets.
 fn lane_inputs(
     nl: &mut Netlist,
     nets: &mut Vec<NetId>,
@@ -58,7 +60,8 @@ fn lane_inputs(
     param: u32,
     lane: u32,
 ) -> Result<(), AllocError>
-    requires { IsTrue (atom_in_size (atom_tree atom.now)) }
+    requires in_size { IsTrue (atom_in_size (atom_tree atom.now)) }
+    requires room { length nl.old.cells + atom_words (atom_tree atom.now) ≤ nl.old.limit }
     ensures { OnOk result (AddsInputs nl.old nl.new nets.old.items nets.new.items (word_ports (In param lane) 0 (map (λ (k : WordKind). k.width) (atom_kinds (atom_tree atom.now))))) }
 {
     for word in 0..atom.words() {
@@ -69,14 +72,15 @@ fn lane_inputs(
     Ok(())
 }
 
-/// Adds the inputs of one parameter, and answers their nets.
+/// Adds the inputs of one parameter, for which there is room, and answers their nets.
 fn param_inputs(
     alloc: Global,
     nl: &mut Netlist,
     layout: &StType,
     param: u32,
 ) -> Result<Bundle, AllocError>
-    requires { IsInSize (st_tree layout.now) }
+    requires in_size { IsInSize (st_tree layout.now) }
+    requires room { length nl.old.cells + 16384 ≤ nl.old.limit }
     ensures { IfOk result (λ b. AddsInputs nl.old nl.new [] b (stream_ports (In param) (stream_of (st_tree layout.now)))) }
 {
     let mut nets = Vec::new(alloc);
@@ -86,13 +90,16 @@ fn param_inputs(
     Ok(Bundle::new(nets))
 }
 
-/// Adds an input for each word of each lane of parameters of these layouts, and answers their nets.
+/// Adds an input for each word of each lane of parameters of these layouts, for all of which there is room, and answers
+/// their nets. The error comes only for want of memory.
 pub fn add_inputs(
     alloc: Global,
     nl: &mut Netlist,
     layouts: &[StType],
 ) -> Result<Vec<Bundle>, AllocError>
-    requires { (k : ℕ) (t : Layout) → slice_get layouts.now k ≡ Some t → IsInSize (st_tree t) }
+    requires in_size { (k : ℕ) (t : Layout) → slice_get layouts.now k ≡ Some t → IsInSize (st_tree t) }
+    requires room { length nl.old.cells + 16384 * length layouts.now ≤ nl.old.limit }
+    ensures few { OnOk result (length nl.new.cells ≤ length nl.old.cells + 16384 * length layouts.now) }
     ensures cells { OnOk result (nl.new ≡ record nl.old { cells = nl.old.cells ++ map input_cell (input_ports (streams_of (st_trees layouts.now))) }) }
     ensures bundles { IfOk result (λ v. v.items ≡ bundles_from (length nl.old.cells) (streams_of (st_trees layouts.now))) }
 {

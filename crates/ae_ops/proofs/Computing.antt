@@ -1,5 +1,5 @@
 -- The cells of one operator, and what their nets hold.
-use Rattle.std.proofs.Common.{ℕ, ◌≡◌, ◌+◌, ◌<◌, ◌≤◌, ◌^◌, Bool, true, false, if◌then◌else◌, List, ◌∷◌, [], length, Some, slice_get, get_or, Result, Ok, Err, OnOk, OnErr, IfOk, arith, refl, sym, ap, ◌∙◌, subst}
+use Rattle.std.proofs.Common.{ℕ, ◌≡◌, ◌<◌, ◌≤◌, ◌^◌, false, List, ◌∷◌, [], length, get_or, Result, Ok, Err, OnOk, OnErr, IfOk, arith, refl, sym, ap, ◌∙◌}
 use Rattle.ae_word.specs.declared.op.WordOp.{WordOp}
 use Rattle.ae_word.specs.declared.op.WordOp.TheVariants.{Eq, Lt, Mul, Mux, Shr, Cast, SLt, SMin, SMax, Sar, SCast}
 use Rattle.ae_word.specs.WordTable.{HasRange, arity_of, is_signed, result_width_of}
@@ -10,7 +10,7 @@ use Rattle.ae_netlist.specs.declared.cell.SizedCell.{SizedCell}
 use Rattle.ae_netlist.specs.declared.netlist.NetFault.{NetFault}
 use Rattle.ae_netlist.specs.Circuit.{Circuit, IsNet, IsPlain, IsOperation, OperandsAre, main_operand, operand, width_of}
 use Rattle.ae_netlist.specs.Counts.{is_product}
-use Rattle.ae_netlist.specs.Runs.{Clock, CellHolds, InEveryRunFrom, IsRun, no_clock, word_at}
+use Rattle.ae_netlist.specs.Runs.{Clock, CellHolds, InEveryRunFrom, IsRun, word_at}
 use Rattle.ae_netlist.proofs.Growing.{main_is, net_later, net_width}
 use Rattle.ae_clocked.specs.Signals.{Adds, Grows, IsResult}
 use Rattle.ae_ops.specs.Signs.{IsBySign}
@@ -97,3 +97,12 @@ pub cast_words : (old new : Circuit) (r : Result NetId NetFault) (op : WordOp) (
     → IfOk r (λ y. InEveryRunFrom (length old.cells) new.cells (λ run. IsResult run y.0 op w args))
 cast_words old new (Ok y) op args v w is g net h = rw is (λ all e run r t l. h all e run r t l ∙ cast_is v w _ 0 0 (held_fits all run t (operand args 0) w r l (e.nets _ _ (net_later g.extends net))))
 cast_words old new (Err e) op args v w is g net h = h
+
+-- what holds whatever a call answers
+pub passed_with : {X : Type 0} {P : Type 0} (r : Result X NetFault) → P → OnOk r P
+passed_with (Ok x) p = p
+passed_with (Err e) p = tt
+
+pub refused_with : {X : Type 0} {P : Type 0} (r : Result X NetFault) → P → OnErr r P
+refused_with (Ok x) p = tt
+refused_with (Err e) p = p

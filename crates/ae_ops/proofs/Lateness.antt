@@ -1,15 +1,17 @@
 -- Nets that tap others, one by one, are these others some clocks later.
-use Rattle.std.proofs.Common.{ℕ, ◌≡◌, ◌+◌, ◌-◌, ◌*◌, ◌<◌, ◌≤◌, inl, inr, nat_lt, List, ◌++◌, ◌∷◌, [], length, Some, None, slice_get, get_or, arith, refl, sym, ap, ◌∙◌, subst}
+use Rattle.std.proofs.Common.{ℕ, ◌≡◌, ◌+◌, ◌-◌, ◌*◌, ◌<◌, ◌≤◌, inl, inr, max, nat_lt, List, ◌++◌, ◌∷◌, [], length, Some, None, slice_get, get_or, arith, refl, sym, ap, ◌∙◌, subst}
 use Rattle.std.proofs.lemmas.Bool.{cases_lt}
 use Rattle.std.proofs.lemmas.List.{length_push}
 use Rattle.std.proofs.lemmas.List.Sums.{count_by-le-length}
+use Rattle.std.proofs.Math.Nat.{mul-le-mul_right}
 use Rattle.std.proofs.lemmas.Option.{slice_get-get_or, slice_get_past, slice_get_within}
 use Rattle.ae_netlist.specs.declared.cell.NetId.{NetId}
 use Rattle.ae_netlist.specs.declared.cell.SizedCell.{SizedCell}
 use Rattle.ae_netlist.specs.Circuit.{IsNet, Extends, width_of}
 use Rattle.ae_netlist.proofs.Gets.{get_push_cases}
 use Rattle.ae_netlist.proofs.Growing.{extends_trans, net_later, net_width}
-use Rattle.ae_clocked.specs.Delays.{IsTap, line_cells}
+use Rattle.ae_clocked.specs.Delays.{IsTap, greatest_of, line_cells}
+use Rattle.ae_clocked.specs.Rings.{rings}
 use Rattle.ae_clocked.specs.Phases.{Kept, KeepsCounters}
 use Rattle.ae_ops.specs.Waves.{AreLate, AreNets, HaveOwnWidths, wave_of}
 
@@ -73,6 +75,10 @@ keeps_trans p q = record { rst = q.rst ∙ p.rst; counters = λ phase net h. q.c
 pub line_one : (d : ℕ) → line_cells (d ∷ []) ≤ 8 * d + 4
 line_one d = omega (arith, count_by-le-length (λ tap. nat_lt 0 tap) (d ∷ []))
 
+-- its memories
+pub rings_one : (d : ℕ) → rings (greatest_of (d ∷ [])) ≡ rings d
+rings_one d = let e : max 0 d ≡ d = omega arith in ap rings e
+
 found_at : (nets bundle : List NetId) (k : ℕ) → nets ≡ bundle → k < length nets → slice_get bundle k ≡ Some (get_or nets k (record { 0 = 0 }))
 found_at nets bundle k e l = ap (λ (xs : List NetId). slice_get xs k) (sym e) ∙ there nets k l
 
@@ -86,3 +92,9 @@ same_width old mid nets bundle k e g own l = net_width (net_later g (own k _ (fo
 
 pub tapped_all : (old new : List SizedCell) (rst d k : ℕ) (nets bundle late made : List NetId) → nets ≡ bundle → made ≡ late → k ≡ length nets → AreTapping old new rst d k nets late → AreTapping old new rst d (length bundle) bundle made
 tapped_all old new rst d k nets bundle late made e m l h = rw (m, ← e, ← l) h
+
+-- so many cells for each of some nets of a bundle are at most so many for each of all
+pub cells_within : (old now k x : ℕ) (nets bundle : List NetId) → nets ≡ bundle → k ≤ length nets → now ≤ old + k * x → now ≤ old + length bundle * x
+cells_within old now k x nets bundle e l h =
+    let more : k * x ≤ length bundle * x = mul-le-mul_right x (rw e at l) in
+    omega (arith, h, more)

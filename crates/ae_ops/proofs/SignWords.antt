@@ -1,14 +1,12 @@
 -- The signed operators, word by word.
-use Rattle.std.proofs.Common.{add-one, ◌≡◌, ℕ, pos, negsuc, ◌+◌, ◌-◌, ◌*◌, ◌/◌, ◌%◌, ◌^◌, ◌<◌, ◌≤◌, ◌==◌, if◌then◌else◌, Bool, true, false, nat_lt, int_lt, refl, arith, sym, ap, ◌∙◌, inl, inr}
-use Rattle.std.specs.Int.{int_min, int_max, int_div_euclid}
-use Rattle.std.proofs.lemmas.Int.{ints}
+use Rattle.std.proofs.Common.{add-one, ◌≡◌, ℕ, ◌+◌, ◌-◌, ◌*◌, ◌/◌, ◌%◌, ◌^◌, ◌<◌, ◌≤◌, ◌==◌, if◌then◌else◌, Bool, true, false, nat_lt, int_lt, refl, arith, sym, ap, ◌∙◌, inl, inr}
 use Rattle.std.proofs.lemmas.Bool.{cases_lt}
 use Rattle.std.proofs.lemmas.Bool.Decides.{nat_tests}
 use Rattle.std.proofs.lemmas.Nat.{pow_pos}
 use Rattle.std.proofs.Math.Nat.{add-mod_right, mod-eq_of_lt, div-le_self, pow-suc}
 use Rattle.ae_word.specs.declared.op.WordOp.{WordOp}
 use Rattle.ae_word.specs.declared.op.WordOp.TheVariants.{Shr, Cast, Sar, SCast, SLt, SMin, SMax}
-use Rattle.ae_word.specs.WordTable.{bit, code, result_width_of, signed_value, word_result}
+use Rattle.ae_word.specs.WordTable.{bit, result_width_of, signed_value, word_result}
 use Rattle.ae_word.proofs.Signed.{value-negative, value-positive, code-positive, code-min_first, code-min_second, code-max_first, code-max_second}
 use Rattle.ae_ops.specs.Signs.{by_half, complemented}
 

@@ -4,10 +4,11 @@ ghost use Rattle.std.specs.Prelude.{◌≡◌, ◌≤◌, ◌+◌, ◌*◌, ◌+
 ghost use Rattle.ae_netlist.specs.Counts.{AreWhole, count_of, is_memory, is_mul};
 ghost use Rattle.ae_clocked.specs.Signals.{Grows, IsFullAt};
 ghost use Rattle.ae_clocked.specs.Phases.{Belongs, KeepsCounters};
+ghost use Rattle.ae_clocked.specs.Rings.{rings};
 ghost use Rattle.ae_ops.specs.Waves.{AreLate, AreNets, HaveOwnWidths};
 
 use crate::bundle::Bundle;
-use ae_clocked::{Clocks, line};
+use ae_clocked::{Clocks, ring_line};
 use ae_netlist::{NetFault, NetId, Netlist};
 use std::alloc::Global;
 
@@ -22,8 +23,8 @@ fn keep(nets: &mut Vec<NetId>, net: NetId) -> Result<(), NetFault>
 }
 
 /// The bundle, some clocks later: from clock `slack` after reset on, each net has the word that the one at its place had
-/// `slack` clocks before. `Full` comes only where the netlist has `limit` cells as the call ends; after a refusal it may
-/// hold further cells.
+/// `slack` clocks before. What waits 8 clocks or longer stands in rings. `Full` comes only where the netlist has `limit`
+/// cells as the call ends; after a refusal it may hold further cells.
 pub fn delay(
     alloc: Global,
     nl: &mut Netlist,
@@ -38,7 +39,7 @@ pub fn delay(
     ensures grows { Grows nl.old nl.new }
     ensures cells { length nl.new.cells ≤ length nl.old.cells + length bundle.now * (8 * slack + 4) }
     ensures muls { count_of is_mul nl.new.cells ≡ count_of is_mul nl.old.cells }
-    ensures memories { count_of is_memory nl.new.cells ≡ count_of is_memory nl.old.cells }
+    ensures memories { count_of is_memory nl.new.cells ≤ count_of is_memory nl.old.cells + length bundle.now * rings slack }
     ensures whole { OnOk result (AreWhole nl.old.cells → AreWhole nl.new.cells) }
     ensures full { IsFullAt result nl.new }
     ensures nets { IfOk result (λ late. (widths : List ℕ) → AreNets nl.old.cells widths bundle.now → AreNets nl.new.cells widths late) }
@@ -47,7 +48,7 @@ pub fn delay(
     let nets = bundle.nets();
     let mut late = Vec::new(alloc);
     for net in nets {
-        let tapped = line(alloc, nl, *net, &[slack], clocks)?;
+        let tapped = ring_line(alloc, nl, *net, &[slack], clocks)?;
         keep(&mut late, tapped.tap(0))?;
     }
     Ok(Bundle::new(late))

@@ -35,14 +35,18 @@ pub fn make(nl: &mut Netlist, op: WordOp, args: [NetId; 3], width: u32) -> Resul
     ensures net { IfOk result (λ made. IsNet nl.new.cells made.net.0 (result_width_of op width)) }
     ensures words { IfOk result (λ made. InEveryRun nl.new.cells (λ run. IsResultLater run made.net.0 made.late op width args)) }
 {
-    if op == WordOp::Mul && args[0] == args[1] {
-        let net = square(nl, args[0], width)?;
-        return Ok(Made { net, late: 1 });
+    match op {
+        WordOp::Mul if args[0] == args[1] => {
+            let net = square(nl, args[0], width)?;
+            Ok(Made { net, late: 1 })
+        }
+        WordOp::Add => {
+            let net = sum_of(nl, args[0], args[1], width)?;
+            Ok(Made { net, late: 0 })
+        }
+        _ => {
+            let net = compute(nl, op, args, width)?;
+            Ok(Made { net, late: 0 })
+        }
     }
-    if op == WordOp::Add {
-        let net = sum_of(nl, args[0], args[1], width)?;
-        return Ok(Made { net, late: 0 });
-    }
-    let net = compute(nl, op, args, width)?;
-    Ok(Made { net, late: 0 })
 }

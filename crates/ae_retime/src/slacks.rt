@@ -50,6 +50,16 @@ impl Slacks {
         items.get(item as usize).copied()
     }
 
+    /// The longest delays of an instance's items, in clocks; None exactly where there is no such instance.
+    pub fn chains(&self, instance: u32) -> Option<&[u32]>
+        ensures { option_map (λ r. r.now) result ≡ slice_get self.now.chains instance }
+    {
+        match self.chains.get(instance as usize) {
+            Some(chains) => Some(chains.as_slice()),
+            None => None,
+        }
+    }
+
     /// By how many clocks a result of the program function, which is the last instance, arrives before the latest; None
     /// exactly where there is no such result.
     pub fn result_slack(&self, r: u32) -> Option<u32>

@@ -60,3 +60,67 @@ returns-clause-words c = λ all k5 run is t l.
     (c.in_ok-odd.ensures.words all (carries_later _ _ (omega arith) k3) run is t l)
     (c.in_ok-low.ensures.words all (carries_later _ _ (omega arith) k4) run is t l)
     (c.in_ok-ones.ensures.words all (carries_later _ _ (omega arith) k5) run is t l)
+
+pub returns-in_err-one-clause-registers : goal.returns-in_err-one-clause-registers
+returns-in_err-one-clause-registers c = omega (arith, c.in_err-one.ensures.registers)
+
+pub returns-in_err-one-clause-tests : goal.returns-in_err-one-clause-tests
+returns-in_err-one-clause-tests c = omega (arith, c.in_err-one.ensures.tests)
+
+pub returns-in_err-up-clause-registers : goal.returns-in_err-up-clause-registers
+returns-in_err-up-clause-registers c = omega (arith, c.in_ok-one.ensures.registers, c.in_err-up.ensures.registers)
+
+pub returns-in_err-up-clause-tests : goal.returns-in_err-up-clause-tests
+returns-in_err-up-clause-tests c = omega (arith, c.in_ok-one.ensures.tests, c.in_err-up.ensures.tests)
+
+pub returns-in_err-odd-clause-registers : goal.returns-in_err-odd-clause-registers
+returns-in_err-odd-clause-registers c = omega (arith, c.in_ok-one.ensures.registers, c.in_ok-up.ensures.registers, c.in_err-odd.ensures.registers)
+
+pub returns-in_err-odd-clause-tests : goal.returns-in_err-odd-clause-tests
+returns-in_err-odd-clause-tests c = omega (arith, c.in_ok-one.ensures.tests, c.in_ok-up.ensures.tests, c.in_err-odd.ensures.tests)
+
+pub returns-in_err-low-clause-registers : goal.returns-in_err-low-clause-registers
+returns-in_err-low-clause-registers c =
+    omega (arith, c.in_ok-one.ensures.registers, c.in_ok-up.ensures.registers, c.in_ok-odd.ensures.registers, c.in_err-low.ensures.registers)
+
+pub returns-in_err-low-clause-tests : goal.returns-in_err-low-clause-tests
+returns-in_err-low-clause-tests c = omega (arith, c.in_ok-one.ensures.tests, c.in_ok-up.ensures.tests, c.in_ok-odd.ensures.tests, c.in_err-low.ensures.tests)
+
+pub returns-in_err-ones-clause-registers : goal.returns-in_err-ones-clause-registers
+returns-in_err-ones-clause-registers c =
+    omega (
+      arith,
+      c.in_ok-one.ensures.registers,
+      c.in_ok-up.ensures.registers,
+      c.in_ok-odd.ensures.registers,
+      c.in_ok-low.ensures.registers,
+      c.in_err-ones.ensures.registers,
+    )
+
+pub returns-in_err-ones-clause-tests : goal.returns-in_err-ones-clause-tests
+returns-in_err-ones-clause-tests c =
+    omega (arith, c.in_ok-one.ensures.tests, c.in_ok-up.ensures.tests, c.in_ok-odd.ensures.tests, c.in_ok-low.ensures.tests, c.in_err-ones.ensures.tests)
+
+pub returns-clause-registers : goal.returns-clause-registers
+returns-clause-registers c =
+    omega (
+      arith,
+      c.in_ok-one.ensures.registers,
+      c.in_ok-up.ensures.registers,
+      c.in_ok-odd.ensures.registers,
+      c.in_ok-low.ensures.registers,
+      c.in_ok-ones.ensures.registers,
+    )
+
+pub returns-clause-tests : goal.returns-clause-tests
+returns-clause-tests c =
+    omega (arith, c.in_ok-one.ensures.tests, c.in_ok-up.ensures.tests, c.in_ok-odd.ensures.tests, c.in_ok-low.ensures.tests, c.in_ok-ones.ensures.tests)
+
+pub either-requires-clause-left : goal.either-requires-clause-left
+either-requires-clause-left c = c.in_ok-up.ensures.net
+
+pub choose-requires-clause-condition : goal.choose-requires-clause-condition
+choose-requires-clause-condition c = c.in_ok-low.ensures.net
+
+pub returns-clause-net : goal.returns-clause-net
+returns-clause-net c = c.in_ok-ones.ensures.net

@@ -62,3 +62,44 @@ returns-clause-words c = λ all k run is t l.
     (c.in_ok-begin.ensures.words all (carries_later _ _ l2 k3) run is t l0)
     (c.in_ok-next.ensures.words all (carries_later _ _ (omega arith) closed) run is t l0)
     (c.close.ensures.words all (carries_later _ _ (omega arith) k) run is t l)
+
+pub returns-in_err-r-clause-registers : goal.returns-in_err-r-clause-registers
+returns-in_err-r-clause-registers c = omega (arith, c.in_err-r.ensures.registers)
+
+pub returns-in_err-r-clause-tests : goal.returns-in_err-r-clause-tests
+returns-in_err-r-clause-tests c = omega (arith, c.in_err-r.ensures.tests)
+
+pub returns-in_err-after-clause-registers : goal.returns-in_err-after-clause-registers
+returns-in_err-after-clause-registers c = omega (arith, c.in_ok-r.ensures.registers, c.in_err-after.ensures.registers)
+
+pub returns-in_err-after-clause-tests : goal.returns-in_err-after-clause-tests
+returns-in_err-after-clause-tests c = omega (arith, c.in_ok-r.ensures.tests, c.in_err-after.ensures.tests)
+
+pub returns-in_err-begin-clause-registers : goal.returns-in_err-begin-clause-registers
+returns-in_err-begin-clause-registers c = omega (arith, c.in_ok-r.ensures.registers, c.in_ok-after.ensures.registers, c.in_err-begin.ensures.registers)
+
+pub returns-in_err-begin-clause-tests : goal.returns-in_err-begin-clause-tests
+returns-in_err-begin-clause-tests c = omega (arith, c.in_ok-r.ensures.tests, c.in_ok-after.ensures.tests, c.in_err-begin.ensures.tests)
+
+pub returns-in_err-next-clause-registers : goal.returns-in_err-next-clause-registers
+returns-in_err-next-clause-registers c =
+    omega (arith, c.in_ok-r.ensures.registers, c.in_ok-after.ensures.registers, c.in_ok-begin.ensures.registers, c.in_err-next.ensures.registers)
+
+pub returns-in_err-next-clause-tests : goal.returns-in_err-next-clause-tests
+returns-in_err-next-clause-tests c =
+    omega (arith, c.in_ok-r.ensures.tests, c.in_ok-after.ensures.tests, c.in_ok-begin.ensures.tests, c.in_err-next.ensures.tests)
+
+pub returns-clause-registers : goal.returns-clause-registers
+returns-clause-registers c =
+    omega (
+      arith,
+      c.in_ok-r.ensures.registers,
+      c.in_ok-after.ensures.registers,
+      c.in_ok-begin.ensures.registers,
+      c.in_ok-next.ensures.registers,
+      c.close.ensures.registers,
+    )
+
+pub returns-clause-tests : goal.returns-clause-tests
+returns-clause-tests c =
+    omega (arith, c.in_ok-r.ensures.tests, c.in_ok-after.ensures.tests, c.in_ok-begin.ensures.tests, c.in_ok-next.ensures.tests, c.close.ensures.tests)

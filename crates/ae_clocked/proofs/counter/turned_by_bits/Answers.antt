@@ -59,3 +59,71 @@ returns-clause-words c = λ all k5 run is t l.
     (c.in_ok-ones.ensures.words all (carries_later _ _ (omega arith) k3) run is t l)
     (c.in_ok-flips.ensures.words all (carries_later _ _ (omega arith) k4) run is t l)
     (c.in_ok-next.ensures.words all (carries_later _ _ (omega arith) k5) run is t l)
+
+pub returns-in_err-end-clause-registers : goal.returns-in_err-end-clause-registers
+returns-in_err-end-clause-registers c = omega (arith, c.in_err-end.ensures.registers)
+
+pub returns-in_err-end-clause-tests : goal.returns-in_err-end-clause-tests
+returns-in_err-end-clause-tests c = omega (arith, c.in_err-end.ensures.tests)
+
+pub returns-in_err-at_end-clause-registers : goal.returns-in_err-at_end-clause-registers
+returns-in_err-at_end-clause-registers c = omega (arith, c.in_ok-end.ensures.registers, c.in_err-at_end.ensures.registers)
+
+pub returns-in_err-at_end-clause-tests : goal.returns-in_err-at_end-clause-tests
+returns-in_err-at_end-clause-tests c = omega (arith, c.in_ok-end.ensures.tests, c.in_err-at_end.ensures.tests)
+
+pub returns-in_err-ones-clause-registers : goal.returns-in_err-ones-clause-registers
+returns-in_err-ones-clause-registers c = omega (arith, c.in_ok-end.ensures.registers, c.in_ok-at_end.ensures.registers, c.in_err-ones.ensures.registers)
+
+pub returns-in_err-ones-clause-tests : goal.returns-in_err-ones-clause-tests
+returns-in_err-ones-clause-tests c = omega (arith, c.in_ok-end.ensures.tests, c.in_ok-at_end.ensures.tests, c.in_err-ones.ensures.tests)
+
+pub returns-in_err-flips-clause-registers : goal.returns-in_err-flips-clause-registers
+returns-in_err-flips-clause-registers c =
+    omega (arith, c.in_ok-end.ensures.registers, c.in_ok-at_end.ensures.registers, c.in_ok-ones.ensures.registers, c.in_err-flips.ensures.registers)
+
+pub returns-in_err-flips-clause-tests : goal.returns-in_err-flips-clause-tests
+returns-in_err-flips-clause-tests c =
+    omega (arith, c.in_ok-end.ensures.tests, c.in_ok-at_end.ensures.tests, c.in_ok-ones.ensures.tests, c.in_err-flips.ensures.tests)
+
+pub returns-in_err-next-clause-registers : goal.returns-in_err-next-clause-registers
+returns-in_err-next-clause-registers c =
+    omega (
+      arith,
+      c.in_ok-end.ensures.registers,
+      c.in_ok-at_end.ensures.registers,
+      c.in_ok-ones.ensures.registers,
+      c.in_ok-flips.ensures.registers,
+      c.in_err-next.ensures.registers,
+    )
+
+pub returns-in_err-next-clause-tests : goal.returns-in_err-next-clause-tests
+returns-in_err-next-clause-tests c =
+    omega (arith, c.in_ok-end.ensures.tests, c.in_ok-at_end.ensures.tests, c.in_ok-ones.ensures.tests, c.in_ok-flips.ensures.tests, c.in_err-next.ensures.tests)
+
+pub returns-clause-registers : goal.returns-clause-registers
+returns-clause-registers c =
+    omega (
+      arith,
+      c.in_ok-end.ensures.registers,
+      c.in_ok-at_end.ensures.registers,
+      c.in_ok-ones.ensures.registers,
+      c.in_ok-flips.ensures.registers,
+      c.in_ok-next.ensures.registers,
+    )
+
+pub returns-clause-tests : goal.returns-clause-tests
+returns-clause-tests c =
+    omega (arith, c.in_ok-end.ensures.tests, c.in_ok-at_end.ensures.tests, c.in_ok-ones.ensures.tests, c.in_ok-flips.ensures.tests, c.in_ok-next.ensures.tests)
+
+pub equal-requires-clause-right : goal.equal-requires-clause-right
+equal-requires-clause-right c = c.in_ok-end.ensures.net
+
+pub choose-requires-clause-right : goal.choose-requires-clause-right
+choose-requires-clause-right c = c.in_ok-ones.ensures.net
+
+pub differ-requires-clause-right : goal.differ-requires-clause-right
+differ-requires-clause-right c = c.in_ok-flips.ensures.net
+
+pub returns-clause-net : goal.returns-clause-net
+returns-clause-net c = c.in_ok-next.ensures.net

@@ -66,3 +66,103 @@ returns-clause-words c = λ all k6 run is t l.
     (c.in_ok-up.ensures.words all (carries_later _ _ (omega arith) k4) run is t l)
     (c.in_ok-zero.ensures.words all (carries_later _ _ (omega arith) k5) run is t l)
     (c.in_ok-next.ensures.words all (carries_later _ _ (omega arith) k6) run is t l)
+
+pub returns-in_err-end-clause-registers : goal.returns-in_err-end-clause-registers
+returns-in_err-end-clause-registers c = omega (arith, c.in_err-end.ensures.registers)
+
+pub returns-in_err-end-clause-tests : goal.returns-in_err-end-clause-tests
+returns-in_err-end-clause-tests c = omega (arith, c.in_err-end.ensures.tests)
+
+pub returns-in_err-at_end-clause-registers : goal.returns-in_err-at_end-clause-registers
+returns-in_err-at_end-clause-registers c = omega (arith, c.in_ok-end.ensures.registers, c.in_err-at_end.ensures.registers)
+
+pub returns-in_err-at_end-clause-tests : goal.returns-in_err-at_end-clause-tests
+returns-in_err-at_end-clause-tests c = omega (arith, c.in_ok-end.ensures.tests, c.in_err-at_end.ensures.tests)
+
+pub returns-in_err-one-clause-registers : goal.returns-in_err-one-clause-registers
+returns-in_err-one-clause-registers c = omega (arith, c.in_ok-end.ensures.registers, c.in_ok-at_end.ensures.registers, c.in_err-one.ensures.registers)
+
+pub returns-in_err-one-clause-tests : goal.returns-in_err-one-clause-tests
+returns-in_err-one-clause-tests c = omega (arith, c.in_ok-end.ensures.tests, c.in_ok-at_end.ensures.tests, c.in_err-one.ensures.tests)
+
+pub returns-in_err-up-clause-registers : goal.returns-in_err-up-clause-registers
+returns-in_err-up-clause-registers c =
+    omega (arith, c.in_ok-end.ensures.registers, c.in_ok-at_end.ensures.registers, c.in_ok-one.ensures.registers, c.in_err-up.ensures.registers)
+
+pub returns-in_err-up-clause-tests : goal.returns-in_err-up-clause-tests
+returns-in_err-up-clause-tests c = omega (arith, c.in_ok-end.ensures.tests, c.in_ok-at_end.ensures.tests, c.in_ok-one.ensures.tests, c.in_err-up.ensures.tests)
+
+pub returns-in_err-zero-clause-registers : goal.returns-in_err-zero-clause-registers
+returns-in_err-zero-clause-registers c =
+    omega (
+      arith,
+      c.in_ok-end.ensures.registers,
+      c.in_ok-at_end.ensures.registers,
+      c.in_ok-one.ensures.registers,
+      c.in_ok-up.ensures.registers,
+      c.in_err-zero.ensures.registers,
+    )
+
+pub returns-in_err-zero-clause-tests : goal.returns-in_err-zero-clause-tests
+returns-in_err-zero-clause-tests c =
+    omega (arith, c.in_ok-end.ensures.tests, c.in_ok-at_end.ensures.tests, c.in_ok-one.ensures.tests, c.in_ok-up.ensures.tests, c.in_err-zero.ensures.tests)
+
+pub returns-in_err-next-clause-registers : goal.returns-in_err-next-clause-registers
+returns-in_err-next-clause-registers c =
+    omega (
+      arith,
+      c.in_ok-end.ensures.registers,
+      c.in_ok-at_end.ensures.registers,
+      c.in_ok-one.ensures.registers,
+      c.in_ok-up.ensures.registers,
+      c.in_ok-zero.ensures.registers,
+      c.in_err-next.ensures.registers,
+    )
+
+pub returns-in_err-next-clause-tests : goal.returns-in_err-next-clause-tests
+returns-in_err-next-clause-tests c =
+    omega (
+      arith,
+      c.in_ok-end.ensures.tests,
+      c.in_ok-at_end.ensures.tests,
+      c.in_ok-one.ensures.tests,
+      c.in_ok-up.ensures.tests,
+      c.in_ok-zero.ensures.tests,
+      c.in_err-next.ensures.tests,
+    )
+
+pub returns-clause-registers : goal.returns-clause-registers
+returns-clause-registers c =
+    omega (
+      arith,
+      c.in_ok-end.ensures.registers,
+      c.in_ok-at_end.ensures.registers,
+      c.in_ok-one.ensures.registers,
+      c.in_ok-up.ensures.registers,
+      c.in_ok-zero.ensures.registers,
+      c.in_ok-next.ensures.registers,
+    )
+
+pub returns-clause-tests : goal.returns-clause-tests
+returns-clause-tests c =
+    omega (
+      arith,
+      c.in_ok-end.ensures.tests,
+      c.in_ok-at_end.ensures.tests,
+      c.in_ok-one.ensures.tests,
+      c.in_ok-up.ensures.tests,
+      c.in_ok-zero.ensures.tests,
+      c.in_ok-next.ensures.tests,
+    )
+
+pub equal-requires-clause-right : goal.equal-requires-clause-right
+equal-requires-clause-right c = c.in_ok-end.ensures.net
+
+pub sum-requires-clause-right : goal.sum-requires-clause-right
+sum-requires-clause-right c = c.in_ok-one.ensures.net
+
+pub choose-requires-clause-left : goal.choose-requires-clause-left
+choose-requires-clause-left c = c.in_ok-zero.ensures.net
+
+pub returns-clause-net : goal.returns-clause-net
+returns-clause-net c = c.in_ok-next.ensures.net

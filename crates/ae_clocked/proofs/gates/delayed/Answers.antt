@@ -11,3 +11,18 @@ close-requires-clause-next c = net_own c.in_ok-r.ensures.register (net_added c.i
 
 pub returns-clause-adds : goal.returns-clause-adds
 returns-clause-adds c = adds_connect c.in_ok-r.ensures.adds (omega (arith, c.in_ok-r.ensures.fresh)) c.close.ensures
+
+pub returns-in_err-r-clause-adds : goal.returns-in_err-r-clause-adds
+returns-in_err-r-clause-adds c = c.in_err-r.ensures.adds
+
+pub returns-clause-registers : goal.returns-clause-registers
+returns-clause-registers c = omega (arith, c.in_ok-r.ensures.registers, c.close.ensures.registers)
+
+pub returns-clause-tests : goal.returns-clause-tests
+returns-clause-tests c = omega (arith, c.in_ok-r.ensures.tests, c.close.ensures.tests)
+
+pub returns-clause-net : goal.returns-clause-net
+returns-clause-net c = c.close.ensures.nets _ _ c.in_ok-r.ensures.net
+
+pub returns-clause-words : goal.returns-clause-words
+returns-clause-words c = rw (← c.in_ok-r.ensures.fresh) c.close.ensures.words

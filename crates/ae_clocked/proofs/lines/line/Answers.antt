@@ -2,7 +2,8 @@
 use Rattle.std.proofs.Common.{ℕ, ◌≡◌, ◌+◌, ◌≤◌, List, ◌++◌, ◌∷◌, [], length, get_or, slice_get, Some, refl, arith}
 use Rattle.std.proofs.lemmas.Option.{slice_get-get_or, slice_get_read}
 use Rattle.ae_clocked.proofs.Belonging.{belongs_grows, keeps_same}
-use Rattle.ae_clocked.proofs.Late.{late_taps, taps_more, below_greatest}
+use Rattle.ae_clocked.proofs.Late.{late_taps, taps_more, below_greatest, taps_none}
+use Rattle.std.proofs.lemmas.List.{take_all}
 use Rattle.ae_clocked.proofs.lines.line.Goals as goal
 
 pub returns-in_err-nets-clause-belongs : goal.returns-in_err-nets-clause-belongs
@@ -40,3 +41,59 @@ index-requires c =
     let small : get_or c.args.taps.now c.loop-tap.tap-index 0 ≤ c.greatest.result = rw c.greatest.ensures (below_greatest c.args.taps.now c.loop-tap.tap-index c.loop-tap-test.true) in
     let long : length c.in_ok-nets.nets.items ≡ c.greatest.result + 1 = c.in_ok-nets.ensures.long in
     first_of (omega arith, grind arith)
+
+pub chain-requires-clause-low : goal.chain-requires-clause-low
+chain-requires-clause-low c = c.width_at-width.ensures.low
+
+pub chain-requires-clause-high : goal.chain-requires-clause-high
+chain-requires-clause-high c = c.width_at-width.ensures.high
+
+pub chain-requires-clause-net : goal.chain-requires-clause-net
+chain-requires-clause-net c = rw c.width_at-width.ensures.width c.requires.net
+
+pub loop-tap-init : goal.loop-tap-init
+loop-tap-init c = rw c.new-tapped.ensures.items (taps_none _ _ _ _)
+
+pub returns-in_err-nets-clause-grows : goal.returns-in_err-nets-clause-grows
+returns-in_err-nets-clause-grows c = c.in_err-nets.ensures.adds.grows
+
+pub returns-in_err-nets-clause-cells : goal.returns-in_err-nets-clause-cells
+returns-in_err-nets-clause-cells c = omega (arith, c.in_err-nets.ensures.adds.cells, c.greatest.ensures)
+
+pub returns-in_err-nets-clause-muls : goal.returns-in_err-nets-clause-muls
+returns-in_err-nets-clause-muls c = omega (arith, c.in_err-nets.ensures.adds.muls)
+
+pub returns-in_err-nets-clause-memories : goal.returns-in_err-nets-clause-memories
+returns-in_err-nets-clause-memories c = c.in_err-nets.ensures.adds.memories
+
+pub returns-in_err-keep-clause-grows : goal.returns-in_err-keep-clause-grows
+returns-in_err-keep-clause-grows c = c.in_ok-nets.ensures.adds.grows
+
+pub returns-in_err-keep-clause-cells : goal.returns-in_err-keep-clause-cells
+returns-in_err-keep-clause-cells c = omega (arith, c.in_ok-nets.ensures.adds.cells, c.greatest.ensures)
+
+pub returns-in_err-keep-clause-muls : goal.returns-in_err-keep-clause-muls
+returns-in_err-keep-clause-muls c = omega (arith, c.in_ok-nets.ensures.adds.muls)
+
+pub returns-in_err-keep-clause-memories : goal.returns-in_err-keep-clause-memories
+returns-in_err-keep-clause-memories c = c.in_ok-nets.ensures.adds.memories
+
+pub returns-clause-grows : goal.returns-clause-grows
+returns-clause-grows c = c.in_ok-nets.ensures.adds.grows
+
+pub returns-clause-cells : goal.returns-clause-cells
+returns-clause-cells c = omega (arith, c.in_ok-nets.ensures.adds.cells, c.greatest.ensures)
+
+pub returns-clause-muls : goal.returns-clause-muls
+returns-clause-muls c = omega (arith, c.in_ok-nets.ensures.adds.muls)
+
+pub returns-clause-memories : goal.returns-clause-memories
+returns-clause-memories c = c.in_ok-nets.ensures.adds.memories
+
+pub returns-clause-whole : goal.returns-clause-whole
+returns-clause-whole c = c.in_ok-nets.ensures.adds.whole
+
+pub returns-clause-taps : goal.returns-clause-taps
+returns-clause-taps c =
+    let whole = take_all c.loop-tap.tap-index c.args.taps.now c.loop-tap-test.false in
+    rw (← c.width_at-width.ensures.width) (rw whole at c.loop-tap.invariant)

@@ -2,12 +2,13 @@
 use Rattle.std.proofs.Common.{ℕ, ◌≡◌, ◌+◌, ◌≤◌, ◌++◌, ◌∷◌, [], List, get_or, slice_get, Some, nat_lt, refl, arith}
 use Rattle.std.proofs.lemmas.Option.{slice_get-get_or}
 use Rattle.ae_clocked.specs.Delays.{AreDelays, IsTap}
-use Rattle.ae_clocked.proofs.Adding.{adds_most, adds_none, adds_trans}
-use Rattle.ae_clocked.proofs.Belonging.{belongs_grows}
+use Rattle.ae_clocked.proofs.Adding.{adds_most, adds_none, adds_trans, grows_trans, net_added}
+use Rattle.ae_clocked.proofs.Belonging.{belongs_grows, keeps_same}
 use Rattle.ae_clocked.proofs.Late.{below_greatest, taps_more, taps_none}
 use Rattle.ae_clocked.specs.Rows.{AreLinks}
 use Rattle.ae_clocked.proofs.InRow.{links_grow}
 use Rattle.ae_clocked.proofs.Lining.{count_more, count_part, delays_grow, far_within, room, spare_taken, taps_grow}
+use Rattle.std.proofs.lemmas.List.{take_all}
 use Rattle.ae_clocked.proofs.lines.ring_line.Goals as goal
 
 pub returns-in_err-nets-clause-belongs : goal.returns-in_err-nets-clause-belongs
@@ -78,3 +79,166 @@ loop-tap-preserved c =
       links = links_grow more.adds.grows.extends was.links;
       taps = rw pushed (taps_more _ _ _ _ _ taps _ tap _ (taps_grow more.adds.grows.extends was.taps) there new);
     }
+
+pub chain-requires-clause-low : goal.chain-requires-clause-low
+chain-requires-clause-low c = c.width_at-width.ensures.low
+
+pub chain-requires-clause-high : goal.chain-requires-clause-high
+chain-requires-clause-high c = c.width_at-width.ensures.high
+
+pub chain-requires-clause-net : goal.chain-requires-clause-net
+chain-requires-clause-net c = rw c.width_at-width.ensures.width c.requires.net
+
+pub far_row-requires-clause-low : goal.far_row-requires-clause-low
+far_row-requires-clause-low c = c.width_at-width.ensures.low
+
+pub far_row-requires-clause-high : goal.far_row-requires-clause-high
+far_row-requires-clause-high c = c.width_at-width.ensures.high
+
+pub far_row-requires-clause-net : goal.far_row-requires-clause-net
+far_row-requires-clause-net c = net_added c.in_ok-nets.ensures.adds (rw c.width_at-width.ensures.width c.requires.net)
+
+pub tap_at-requires-clause-low : goal.tap_at-requires-clause-low
+tap_at-requires-clause-low c = c.width_at-width.ensures.low
+
+pub tap_at-requires-clause-high : goal.tap_at-requires-clause-high
+tap_at-requires-clause-high c = c.width_at-width.ensures.high
+
+pub tap_at-requires-clause-near : goal.tap_at-requires-clause-near
+tap_at-requires-clause-near c = λ small.
+    let most = c.nearest-near.ensures.each c.loop-tap.tap-index c.loop-tap-test.true small in
+    rw c.deref.ensures.value (omega (arith, most, c.in_ok-nets.ensures.long))
+
+pub tap_at-requires-clause-delays : goal.tap_at-requires-clause-delays
+tap_at-requires-clause-delays c = (c.args.x.0, rw c.deref.ensures.value c.loop-tap.invariant.delays)
+
+pub returns-in_err-nets-clause-grows : goal.returns-in_err-nets-clause-grows
+returns-in_err-nets-clause-grows c = c.in_err-nets.ensures.adds.grows
+
+pub returns-in_err-nets-clause-cells : goal.returns-in_err-nets-clause-cells
+returns-in_err-nets-clause-cells c = omega (arith, c.in_err-nets.ensures.adds.cells, c.nearest-near.ensures.least)
+
+pub returns-in_err-nets-clause-muls : goal.returns-in_err-nets-clause-muls
+returns-in_err-nets-clause-muls c = omega (arith, c.in_err-nets.ensures.adds.muls)
+
+pub returns-in_err-nets-clause-memories : goal.returns-in_err-nets-clause-memories
+returns-in_err-nets-clause-memories c = omega (arith, c.in_err-nets.ensures.adds.memories)
+
+pub returns-in_err-nets-clause-keeps : goal.returns-in_err-nets-clause-keeps
+returns-in_err-nets-clause-keeps c = keeps_same _
+
+pub returns-in_err-links-clause-belongs : goal.returns-in_err-links-clause-belongs
+returns-in_err-links-clause-belongs c = c.in_err-links.ensures.belongs
+
+pub returns-in_err-links-clause-grows : goal.returns-in_err-links-clause-grows
+returns-in_err-links-clause-grows c = grows_trans c.in_ok-nets.ensures.adds.grows c.in_err-links.ensures.adds.grows
+
+pub returns-in_err-links-clause-cells : goal.returns-in_err-links-clause-cells
+returns-in_err-links-clause-cells c =
+    rw (← c.greatest-most.ensures) (omega (
+      arith,
+      c.in_ok-nets.ensures.adds.cells,
+      c.in_err-links.ensures.adds.cells,
+      room c.nearest-near.result
+          c.greatest-most.result c.nearest-near.ensures.below (rw c.greatest-most.ensures c.nearest-near.ensures.least),
+    ))
+
+pub returns-in_err-links-clause-muls : goal.returns-in_err-links-clause-muls
+returns-in_err-links-clause-muls c = omega (arith, c.in_ok-nets.ensures.adds.muls, c.in_err-links.ensures.adds.muls)
+
+pub returns-in_err-links-clause-memories : goal.returns-in_err-links-clause-memories
+returns-in_err-links-clause-memories c =
+    rw (← c.greatest-most.ensures) (omega (arith, c.in_ok-nets.ensures.adds.memories, c.in_err-links.ensures.adds.memories))
+
+pub returns-in_err-links-clause-keeps : goal.returns-in_err-links-clause-keeps
+returns-in_err-links-clause-keeps c = c.in_err-links.ensures.keeps
+
+pub returns-in_err-net-clause-grows : goal.returns-in_err-net-clause-grows
+returns-in_err-net-clause-grows c =
+    grows_trans (grows_trans c.in_ok-nets.ensures.adds.grows c.in_ok-links.ensures.adds.grows)
+    (grows_trans c.loop-tap.invariant.adds.grows c.in_err-net.ensures.adds.grows)
+
+pub returns-in_err-net-clause-muls : goal.returns-in_err-net-clause-muls
+returns-in_err-net-clause-muls c =
+    omega (arith, c.in_ok-nets.ensures.adds.muls, c.in_ok-links.ensures.adds.muls, c.loop-tap.invariant.adds.muls, c.in_err-net.ensures.adds.muls)
+
+pub returns-in_err-net-clause-memories : goal.returns-in_err-net-clause-memories
+returns-in_err-net-clause-memories c =
+    rw (← c.greatest-most.ensures) (omega (
+      arith,
+      c.in_ok-nets.ensures.adds.memories,
+      c.in_ok-links.ensures.adds.memories,
+      c.loop-tap.invariant.adds.memories,
+      c.in_err-net.ensures.adds.memories,
+    ))
+
+pub returns-in_err-net-clause-keeps : goal.returns-in_err-net-clause-keeps
+returns-in_err-net-clause-keeps c = c.in_ok-links.ensures.keeps
+
+pub returns-in_err-keep-clause-grows : goal.returns-in_err-keep-clause-grows
+returns-in_err-keep-clause-grows c =
+    grows_trans (grows_trans c.in_ok-nets.ensures.adds.grows c.in_ok-links.ensures.adds.grows)
+    (grows_trans c.loop-tap.invariant.adds.grows c.in_ok-net.ensures.adds.grows)
+
+pub returns-in_err-keep-clause-muls : goal.returns-in_err-keep-clause-muls
+returns-in_err-keep-clause-muls c =
+    omega (arith, c.in_ok-nets.ensures.adds.muls, c.in_ok-links.ensures.adds.muls, c.loop-tap.invariant.adds.muls, c.in_ok-net.ensures.adds.muls)
+
+pub returns-in_err-keep-clause-memories : goal.returns-in_err-keep-clause-memories
+returns-in_err-keep-clause-memories c =
+    rw (← c.greatest-most.ensures) (omega (
+      arith,
+      c.in_ok-nets.ensures.adds.memories,
+      c.in_ok-links.ensures.adds.memories,
+      c.loop-tap.invariant.adds.memories,
+      c.in_ok-net.ensures.adds.memories,
+    ))
+
+pub returns-in_err-keep-clause-keeps : goal.returns-in_err-keep-clause-keeps
+returns-in_err-keep-clause-keeps c = c.in_ok-links.ensures.keeps
+
+pub returns-clause-belongs : goal.returns-clause-belongs
+returns-clause-belongs c = c.loop-tap.invariant.belongs
+
+pub returns-clause-grows : goal.returns-clause-grows
+returns-clause-grows c = grows_trans (grows_trans c.in_ok-nets.ensures.adds.grows c.in_ok-links.ensures.adds.grows) c.loop-tap.invariant.adds.grows
+
+pub returns-clause-cells : goal.returns-clause-cells
+returns-clause-cells c =
+    let whole = take_all c.loop-tap.tap-index c.args.taps.now c.loop-tap-test.false in
+    let taken = rw whole at c.loop-tap.invariant.adds.cells in
+    rw (← c.greatest-most.ensures) (omega (
+      arith,
+      c.in_ok-nets.ensures.adds.cells,
+      c.in_ok-links.ensures.adds.cells,
+      taken,
+      room c.nearest-near.result
+          c.greatest-most.result c.nearest-near.ensures.below (rw c.greatest-most.ensures c.nearest-near.ensures.least),
+    ))
+
+pub returns-clause-muls : goal.returns-clause-muls
+returns-clause-muls c = omega (arith, c.in_ok-nets.ensures.adds.muls, c.in_ok-links.ensures.adds.muls, c.loop-tap.invariant.adds.muls)
+
+pub returns-clause-memories : goal.returns-clause-memories
+returns-clause-memories c =
+    rw (← c.greatest-most.ensures) (omega (arith, c.in_ok-nets.ensures.adds.memories, c.in_ok-links.ensures.adds.memories, c.loop-tap.invariant.adds.memories))
+
+pub returns-clause-whole : goal.returns-clause-whole
+returns-clause-whole c = λ h. c.loop-tap.invariant.adds.whole (c.in_ok-links.ensures.adds.whole (c.in_ok-nets.ensures.adds.whole h))
+
+pub returns-clause-registers : goal.returns-clause-registers
+returns-clause-registers c = omega (arith, c.in_ok-nets.ensures.registers, c.in_ok-links.ensures.registers, c.loop-tap.invariant.registers)
+
+pub returns-clause-tests : goal.returns-clause-tests
+returns-clause-tests c = omega (arith, c.in_ok-nets.ensures.tests, c.in_ok-links.ensures.tests, c.loop-tap.invariant.tests)
+
+pub returns-clause-gained : goal.returns-clause-gained
+returns-clause-gained c = c.in_ok-links.ensures.gained
+
+pub returns-clause-keeps : goal.returns-clause-keeps
+returns-clause-keeps c = c.in_ok-links.ensures.keeps
+
+pub returns-clause-taps : goal.returns-clause-taps
+returns-clause-taps c =
+    let whole = take_all c.loop-tap.tap-index c.args.taps.now c.loop-tap-test.false in
+    rw (← c.width_at-width.ensures.width) (rw whole at c.loop-tap.invariant.taps)

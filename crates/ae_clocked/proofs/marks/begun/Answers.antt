@@ -3,6 +3,7 @@ use Rattle.std.proofs.Common.{arith, refl}
 use Rattle.ae_netlist.proofs.Carried.{carries_later}
 use Rattle.ae_clocked.proofs.Added.{grows_length, back}
 use Rattle.ae_clocked.proofs.Marked.{bit_is}
+use Rattle.ae_clocked.proofs.Adding.{adds_most, adds_trans, net_added}
 use Rattle.ae_clocked.proofs.marks.begun.Goals as goal
 
 pub returns-clause-words : goal.returns-clause-words
@@ -16,3 +17,54 @@ returns-clause-words c = λ all k3 run is t l.
     let begin = rw (bit_is _ _ c.from.ensures) at (c.in_ok-begin.ensures.words all k1 run is t (omega arith)) in
     let next = c.in_ok-next.ensures.words all (carries_later _ _ l1 k2) run is t (omega arith) in
     rw (c.in_ok-y.ensures.words all (carries_later _ _ (omega arith) k3) run is t l, next, begin) refl
+
+pub choose-requires-clause-condition : goal.choose-requires-clause-condition
+choose-requires-clause-condition c = net_added c.in_ok-begin.ensures.adds c.requires.rst
+
+pub choose-requires-clause-left : goal.choose-requires-clause-left
+choose-requires-clause-left c = c.in_ok-begin.ensures.net
+
+pub choose-requires-clause-right : goal.choose-requires-clause-right
+choose-requires-clause-right c = net_added c.in_ok-begin.ensures.adds c.requires.net
+
+pub delayed-requires-clause-net : goal.delayed-requires-clause-net
+delayed-requires-clause-net c = c.in_ok-next.ensures.net
+
+pub returns-clause-net : goal.returns-clause-net
+returns-clause-net c = c.in_ok-y.ensures.net
+
+pub returns-in_err-begin-clause-adds : goal.returns-in_err-begin-clause-adds
+returns-in_err-begin-clause-adds c = adds_most 3 (omega arith) c.in_err-begin.ensures.adds
+
+pub returns-in_err-begin-clause-registers : goal.returns-in_err-begin-clause-registers
+returns-in_err-begin-clause-registers c = omega (arith, c.in_err-begin.ensures.registers)
+
+pub returns-in_err-begin-clause-tests : goal.returns-in_err-begin-clause-tests
+returns-in_err-begin-clause-tests c = omega (arith, c.in_err-begin.ensures.tests)
+
+pub returns-in_err-next-clause-adds : goal.returns-in_err-next-clause-adds
+returns-in_err-next-clause-adds c = adds_most 3 (omega arith) (adds_trans c.in_ok-begin.ensures.adds c.in_err-next.ensures.adds)
+
+pub returns-in_err-next-clause-registers : goal.returns-in_err-next-clause-registers
+returns-in_err-next-clause-registers c = omega (arith, c.in_ok-begin.ensures.registers, c.in_err-next.ensures.registers)
+
+pub returns-in_err-next-clause-tests : goal.returns-in_err-next-clause-tests
+returns-in_err-next-clause-tests c = omega (arith, c.in_ok-begin.ensures.tests, c.in_err-next.ensures.tests)
+
+pub returns-in_err-y-clause-adds : goal.returns-in_err-y-clause-adds
+returns-in_err-y-clause-adds c = adds_trans (adds_trans c.in_ok-begin.ensures.adds c.in_ok-next.ensures.adds) c.in_err-y.ensures.adds
+
+pub returns-in_err-y-clause-registers : goal.returns-in_err-y-clause-registers
+returns-in_err-y-clause-registers c = omega (arith, c.in_ok-begin.ensures.registers, c.in_ok-next.ensures.registers, c.in_err-y.ensures.registers)
+
+pub returns-in_err-y-clause-tests : goal.returns-in_err-y-clause-tests
+returns-in_err-y-clause-tests c = omega (arith, c.in_ok-begin.ensures.tests, c.in_ok-next.ensures.tests, c.in_err-y.ensures.tests)
+
+pub returns-clause-adds : goal.returns-clause-adds
+returns-clause-adds c = adds_trans (adds_trans c.in_ok-begin.ensures.adds c.in_ok-next.ensures.adds) c.in_ok-y.ensures.adds
+
+pub returns-clause-registers : goal.returns-clause-registers
+returns-clause-registers c = omega (arith, c.in_ok-begin.ensures.registers, c.in_ok-next.ensures.registers, c.in_ok-y.ensures.registers)
+
+pub returns-clause-tests : goal.returns-clause-tests
+returns-clause-tests c = omega (arith, c.in_ok-begin.ensures.tests, c.in_ok-next.ensures.tests, c.in_ok-y.ensures.tests)

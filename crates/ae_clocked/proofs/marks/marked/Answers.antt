@@ -2,7 +2,7 @@
 use Rattle.std.proofs.Common.{◌≡◌, ◌-◌, ◌<◌, ◌≤◌, arith}
 use Rattle.ae_netlist.proofs.Growing.{extends_trans}
 use Rattle.ae_netlist.proofs.Carried.{carries_extends}
-use Rattle.ae_clocked.proofs.Adding.{adds_most, adds_trans}
+use Rattle.ae_clocked.proofs.Adding.{adds_most, adds_trans, net_added}
 use Rattle.ae_clocked.proofs.Belonging.{counter_grows}
 use Rattle.ae_clocked.proofs.Marked.{always_marks, alternates, at_is, begins_marks, never_marks, turns_mark}
 use Rattle.ae_clocked.proofs.marks.marked.Goals as goal
@@ -65,3 +65,135 @@ returns-clause-marks c = λ all e run is start reset.
     counts (c.in_ok-ends.ensures.words all (carries_extends _ e2) run is) in
     turns_mark run _ _ _ _ c.args.period c.args.offset c.requires.counter.width c.args.from start c.requires.low c.requires.counter.holds.enough some few last leaves
     (c.in_ok-y-2.ensures.words all (carries_extends _ e) run is) reset
+
+pub at_phase-requires-clause-counter : goal.at_phase-requires-clause-counter
+at_phase-requires-clause-counter c = (c.args.rst.0, c.requires.counter)
+
+pub at_phase-requires-2-clause-counter : goal.at_phase-requires-2-clause-counter
+at_phase-requires-2-clause-counter c = (c.args.rst.0, c.requires.counter)
+
+pub begun-requires-clause-rst : goal.begun-requires-clause-rst
+begun-requires-clause-rst c = net_added c.in_ok-begins.ensures.adds c.requires.rst
+
+pub begun-requires-clause-net : goal.begun-requires-clause-net
+begun-requires-clause-net c = c.in_ok-begins.ensures.net
+
+pub turning-requires-clause-rst : goal.turning-requires-clause-rst
+turning-requires-clause-rst c = net_added (adds_trans c.in_ok-begins.ensures.adds c.in_ok-ends.ensures.adds) c.requires.rst
+
+pub turning-requires-clause-left : goal.turning-requires-clause-left
+turning-requires-clause-left c = net_added c.in_ok-ends.ensures.adds c.in_ok-begins.ensures.net
+
+pub turning-requires-clause-right : goal.turning-requires-clause-right
+turning-requires-clause-right c = c.in_ok-ends.ensures.net
+
+pub returns-in_err-never-clause-adds : goal.returns-in_err-never-clause-adds
+returns-in_err-never-clause-adds c = adds_most 9 (omega arith) c.in_err-never.ensures.adds
+
+pub returns-in_err-never-clause-registers : goal.returns-in_err-never-clause-registers
+returns-in_err-never-clause-registers c = omega (arith, c.in_err-never.ensures.registers)
+
+pub returns-in_err-never-clause-tests : goal.returns-in_err-never-clause-tests
+returns-in_err-never-clause-tests c = omega (arith, c.in_err-never.ensures.tests)
+
+pub returns-in_err-always-clause-adds : goal.returns-in_err-always-clause-adds
+returns-in_err-always-clause-adds c = adds_most 9 (omega arith) c.in_err-always.ensures.adds
+
+pub returns-in_err-always-clause-registers : goal.returns-in_err-always-clause-registers
+returns-in_err-always-clause-registers c = omega (arith, c.in_err-always.ensures.registers)
+
+pub returns-in_err-always-clause-tests : goal.returns-in_err-always-clause-tests
+returns-in_err-always-clause-tests c = omega (arith, c.in_err-always.ensures.tests)
+
+pub returns-in_err-now-clause-adds : goal.returns-in_err-now-clause-adds
+returns-in_err-now-clause-adds c = adds_most 9 (omega arith) c.in_err-now.ensures.adds
+
+pub returns-in_err-now-clause-registers : goal.returns-in_err-now-clause-registers
+returns-in_err-now-clause-registers c = omega (arith, c.in_err-now.ensures.registers)
+
+pub returns-in_err-now-clause-tests : goal.returns-in_err-now-clause-tests
+returns-in_err-now-clause-tests c = omega (arith, c.in_err-now.ensures.tests)
+
+pub returns-in_err-begins-clause-adds : goal.returns-in_err-begins-clause-adds
+returns-in_err-begins-clause-adds c = adds_most 9 (omega arith) c.in_err-begins.ensures.adds
+
+pub returns-in_err-begins-clause-registers : goal.returns-in_err-begins-clause-registers
+returns-in_err-begins-clause-registers c = omega (arith, c.in_err-begins.ensures.registers)
+
+pub returns-in_err-begins-clause-tests : goal.returns-in_err-begins-clause-tests
+returns-in_err-begins-clause-tests c = omega (arith, c.in_err-begins.ensures.tests)
+
+pub returns-then-from-eq0-clause-adds : goal.returns-then-from-eq0-clause-adds
+returns-then-from-eq0-clause-adds c = adds_most 9 (omega arith) c.in_ok-never.ensures.adds
+
+pub returns-then-from-eq0-clause-registers : goal.returns-then-from-eq0-clause-registers
+returns-then-from-eq0-clause-registers c = omega (arith, c.in_ok-never.ensures.registers)
+
+pub returns-then-from-eq0-clause-tests : goal.returns-then-from-eq0-clause-tests
+returns-then-from-eq0-clause-tests c = omega (arith, c.in_ok-never.ensures.tests)
+
+pub returns-then-from-period-clause-adds : goal.returns-then-from-period-clause-adds
+returns-then-from-period-clause-adds c = adds_most 9 (omega arith) c.in_ok-always.ensures.adds
+
+pub returns-then-from-period-clause-registers : goal.returns-then-from-period-clause-registers
+returns-then-from-period-clause-registers c = omega (arith, c.in_ok-always.ensures.registers)
+
+pub returns-then-from-period-clause-tests : goal.returns-then-from-period-clause-tests
+returns-then-from-period-clause-tests c = omega (arith, c.in_ok-always.ensures.tests)
+
+pub returns-then-period-eq2-clause-adds : goal.returns-then-period-eq2-clause-adds
+returns-then-period-eq2-clause-adds c = adds_most 9 (omega arith) c.in_ok-now.ensures.adds
+
+pub returns-then-period-eq2-clause-registers : goal.returns-then-period-eq2-clause-registers
+returns-then-period-eq2-clause-registers c = omega (arith, c.in_ok-now.ensures.registers)
+
+pub returns-then-period-eq2-clause-tests : goal.returns-then-period-eq2-clause-tests
+returns-then-period-eq2-clause-tests c = omega (arith, c.in_ok-now.ensures.tests)
+
+pub returns-in_err-y-clause-registers : goal.returns-in_err-y-clause-registers
+returns-in_err-y-clause-registers c = omega (arith, c.in_ok-begins.ensures.registers, c.in_err-y.ensures.registers)
+
+pub returns-in_err-y-clause-tests : goal.returns-in_err-y-clause-tests
+returns-in_err-y-clause-tests c = omega (arith, c.in_ok-begins.ensures.tests, c.in_err-y.ensures.tests)
+
+pub returns-then-from-eq1-clause-registers : goal.returns-then-from-eq1-clause-registers
+returns-then-from-eq1-clause-registers c = omega (arith, c.in_ok-begins.ensures.registers, c.in_ok-y.ensures.registers)
+
+pub returns-then-from-eq1-clause-tests : goal.returns-then-from-eq1-clause-tests
+returns-then-from-eq1-clause-tests c = omega (arith, c.in_ok-begins.ensures.tests, c.in_ok-y.ensures.tests)
+
+pub returns-in_err-ends-clause-adds : goal.returns-in_err-ends-clause-adds
+returns-in_err-ends-clause-adds c = adds_most 9 (omega arith) (adds_trans c.in_ok-begins.ensures.adds c.in_err-ends.ensures.adds)
+
+pub returns-in_err-ends-clause-registers : goal.returns-in_err-ends-clause-registers
+returns-in_err-ends-clause-registers c = omega (arith, c.in_ok-begins.ensures.registers, c.in_err-ends.ensures.registers)
+
+pub returns-in_err-ends-clause-tests : goal.returns-in_err-ends-clause-tests
+returns-in_err-ends-clause-tests c = omega (arith, c.in_ok-begins.ensures.tests, c.in_err-ends.ensures.tests)
+
+pub returns-in_err-y-2-clause-registers : goal.returns-in_err-y-2-clause-registers
+returns-in_err-y-2-clause-registers c = omega (arith, c.in_ok-begins.ensures.registers, c.in_ok-ends.ensures.registers, c.in_err-y-2.ensures.registers)
+
+pub returns-in_err-y-2-clause-tests : goal.returns-in_err-y-2-clause-tests
+returns-in_err-y-2-clause-tests c = omega (arith, c.in_ok-begins.ensures.tests, c.in_ok-ends.ensures.tests, c.in_err-y-2.ensures.tests)
+
+pub returns-clause-registers : goal.returns-clause-registers
+returns-clause-registers c = omega (arith, c.in_ok-begins.ensures.registers, c.in_ok-ends.ensures.registers, c.in_ok-y-2.ensures.registers)
+
+pub returns-clause-tests : goal.returns-clause-tests
+returns-clause-tests c = omega (arith, c.in_ok-begins.ensures.tests, c.in_ok-ends.ensures.tests, c.in_ok-y-2.ensures.tests)
+
+pub returns-then-from-eq0-clause-net : goal.returns-then-from-eq0-clause-net
+returns-then-from-eq0-clause-net c = c.in_ok-never.ensures.net
+
+pub returns-then-from-period-clause-net : goal.returns-then-from-period-clause-net
+returns-then-from-period-clause-net c = c.in_ok-always.ensures.net
+
+pub returns-then-period-eq2-clause-net : goal.returns-then-period-eq2-clause-net
+returns-then-period-eq2-clause-net c = c.in_ok-now.ensures.net
+
+pub returns-then-from-eq1-clause-net : goal.returns-then-from-eq1-clause-net
+returns-then-from-eq1-clause-net c = c.in_ok-y.ensures.net
+
+pub returns-clause-net : goal.returns-clause-net
+returns-clause-net c = c.in_ok-y-2.ensures.net

@@ -2,7 +2,7 @@
 use Rattle.std.proofs.Common.{◌<◌, length, arith}
 use Rattle.ae_netlist.specs.Runs.{Carries}
 use Rattle.ae_netlist.proofs.Carried.{carries_later, carries_trans}
-use Rattle.ae_clocked.proofs.Adding.{adds_connect, adds_trans, grows_trans, net_added}
+use Rattle.ae_clocked.proofs.Adding.{adds_connect, adds_trans, grows_trans, net_added, adds_most}
 use Rattle.ae_clocked.proofs.Added.{grows_length, back, connect_carries, net_within, net_own, own_register, register_later}
 use Rattle.ae_netlist.specs.Runs.{word_at}
 use Rattle.ae_clocked.proofs.Turns.{word_below}
@@ -64,3 +64,103 @@ returns-clause-words c = λ all k run is t l.
     begin
     (c.in_ok-next.ensures.words all (carries_later _ _ (omega arith) closed) run is t l0)
     (c.close.ensures.words all (carries_later _ _ (omega arith) k) run is t l)
+
+pub differ-requires-clause-left : goal.differ-requires-clause-left
+differ-requires-clause-left c = c.in_ok-y.ensures.net
+
+pub differ-requires-clause-right : goal.differ-requires-clause-right
+differ-requires-clause-right c = net_added c.in_ok-y.ensures.adds c.requires.left
+
+pub differ-requires-2-clause-left : goal.differ-requires-2-clause-left
+differ-requires-2-clause-left c = c.in_ok-once.ensures.net
+
+pub differ-requires-2-clause-right : goal.differ-requires-2-clause-right
+differ-requires-2-clause-right c = net_added (adds_trans c.in_ok-y.ensures.adds c.in_ok-once.ensures.adds) c.requires.right
+
+pub choose-requires-clause-left : goal.choose-requires-clause-left
+choose-requires-clause-left c = c.in_ok-begin.ensures.net
+
+pub returns-in_err-y-clause-adds : goal.returns-in_err-y-clause-adds
+returns-in_err-y-clause-adds c = adds_most 5 (omega arith) c.in_err-y.ensures.adds
+
+pub returns-in_err-y-clause-registers : goal.returns-in_err-y-clause-registers
+returns-in_err-y-clause-registers c = omega (arith, c.in_err-y.ensures.registers)
+
+pub returns-in_err-y-clause-tests : goal.returns-in_err-y-clause-tests
+returns-in_err-y-clause-tests c = omega (arith, c.in_err-y.ensures.tests)
+
+pub returns-in_err-once-clause-adds : goal.returns-in_err-once-clause-adds
+returns-in_err-once-clause-adds c = adds_most 5 (omega arith) (adds_trans c.in_ok-y.ensures.adds c.in_err-once.ensures.adds)
+
+pub returns-in_err-once-clause-registers : goal.returns-in_err-once-clause-registers
+returns-in_err-once-clause-registers c = omega (arith, c.in_ok-y.ensures.registers, c.in_err-once.ensures.registers)
+
+pub returns-in_err-once-clause-tests : goal.returns-in_err-once-clause-tests
+returns-in_err-once-clause-tests c = omega (arith, c.in_ok-y.ensures.tests, c.in_err-once.ensures.tests)
+
+pub returns-in_err-after-clause-adds : goal.returns-in_err-after-clause-adds
+returns-in_err-after-clause-adds c =
+    adds_most 5 (omega arith) (adds_trans (adds_trans c.in_ok-y.ensures.adds c.in_ok-once.ensures.adds) c.in_err-after.ensures.adds)
+
+pub returns-in_err-after-clause-registers : goal.returns-in_err-after-clause-registers
+returns-in_err-after-clause-registers c = omega (arith, c.in_ok-y.ensures.registers, c.in_ok-once.ensures.registers, c.in_err-after.ensures.registers)
+
+pub returns-in_err-after-clause-tests : goal.returns-in_err-after-clause-tests
+returns-in_err-after-clause-tests c = omega (arith, c.in_ok-y.ensures.tests, c.in_ok-once.ensures.tests, c.in_err-after.ensures.tests)
+
+pub returns-in_err-begin-clause-adds : goal.returns-in_err-begin-clause-adds
+returns-in_err-begin-clause-adds c =
+    adds_most 5 (omega arith) (adds_trans (adds_trans (adds_trans c.in_ok-y.ensures.adds c.in_ok-once.ensures.adds) c.in_ok-after.ensures.adds)
+    c.in_err-begin.ensures.adds)
+
+pub returns-in_err-begin-clause-registers : goal.returns-in_err-begin-clause-registers
+returns-in_err-begin-clause-registers c =
+    omega (arith, c.in_ok-y.ensures.registers, c.in_ok-once.ensures.registers, c.in_ok-after.ensures.registers, c.in_err-begin.ensures.registers)
+
+pub returns-in_err-begin-clause-tests : goal.returns-in_err-begin-clause-tests
+returns-in_err-begin-clause-tests c =
+    omega (arith, c.in_ok-y.ensures.tests, c.in_ok-once.ensures.tests, c.in_ok-after.ensures.tests, c.in_err-begin.ensures.tests)
+
+pub returns-in_err-next-clause-adds : goal.returns-in_err-next-clause-adds
+returns-in_err-next-clause-adds c =
+    adds_trans (adds_trans (adds_trans (adds_trans c.in_ok-y.ensures.adds c.in_ok-once.ensures.adds) c.in_ok-after.ensures.adds) c.in_ok-begin.ensures.adds)
+    c.in_err-next.ensures.adds
+
+pub returns-in_err-next-clause-registers : goal.returns-in_err-next-clause-registers
+returns-in_err-next-clause-registers c =
+    omega (
+      arith,
+      c.in_ok-y.ensures.registers,
+      c.in_ok-once.ensures.registers,
+      c.in_ok-after.ensures.registers,
+      c.in_ok-begin.ensures.registers,
+      c.in_err-next.ensures.registers,
+    )
+
+pub returns-in_err-next-clause-tests : goal.returns-in_err-next-clause-tests
+returns-in_err-next-clause-tests c =
+    omega (arith, c.in_ok-y.ensures.tests, c.in_ok-once.ensures.tests, c.in_ok-after.ensures.tests, c.in_ok-begin.ensures.tests, c.in_err-next.ensures.tests)
+
+pub returns-clause-registers : goal.returns-clause-registers
+returns-clause-registers c =
+    omega (
+      arith,
+      c.in_ok-y.ensures.registers,
+      c.in_ok-once.ensures.registers,
+      c.in_ok-after.ensures.registers,
+      c.in_ok-begin.ensures.registers,
+      c.in_ok-next.ensures.registers,
+      c.close.ensures.registers,
+    )
+
+pub returns-clause-tests : goal.returns-clause-tests
+returns-clause-tests c =
+    omega (
+      arith,
+      c.in_ok-y.ensures.tests,
+      c.in_ok-once.ensures.tests,
+      c.in_ok-after.ensures.tests,
+      c.in_ok-begin.ensures.tests,
+      c.in_ok-next.ensures.tests,
+      c.close.ensures.tests,
+    )

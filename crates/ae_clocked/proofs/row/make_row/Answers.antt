@@ -1,13 +1,63 @@
 -- One ring more, and what the next one takes.
-use Rattle.std.proofs.Common.{ℕ, ◌≡◌, ◌+◌, ◌-◌, ◌*◌, ◌/◌, min, ◌++◌, ◌∷◌, [], length, ◌≤◌, nat_lt, arith, refl, ap, ◌∙◌}
+use Rattle.std.proofs.Common.{ℕ, ◌≡◌, ◌+◌, ◌-◌, ◌*◌, ◌/◌, min, ◌++◌, ◌∷◌, [], length, nat_lt, arith, refl, ap, ◌∙◌}
 use Rattle.std.proofs.lemmas.List.{length_push}
 use Rattle.ae_clocked.specs.Delays.{IsTap}
 use Rattle.ae_clocked.specs.Phases.{Kept}
-use Rattle.ae_clocked.proofs.Belonging.{belongs_grows}
+use Rattle.ae_clocked.proofs.Adding.{adds_none}
+use Rattle.ae_clocked.proofs.Belonging.{belongs_grows, keeps_same}
 use Rattle.ae_clocked.specs.Rings.{HoldsRing}
-use Rattle.ae_clocked.proofs.Making.{memories_before, memories_most, memories_trans, tap_grows}
-use Rattle.ae_clocked.proofs.InRow.{gained_by, head_kept, keeps_trans, links_grow, links_more, next_head}
+use Rattle.ae_clocked.proofs.Making.{memories_before, memories_most, memories_of, memories_trans, tap_grows}
+use Rattle.ae_clocked.proofs.InRow.{gained_by, head_kept, keeps_trans, links_grow, links_more, links_none, next_head, tap_none}
 use Rattle.ae_clocked.proofs.row.make_row.Goals as goal
+
+pub loop-j-init : goal.loop-j-init
+loop-j-init c = record {
+  belongs = c.requires.belongs;
+  keeps = keeps_same _;
+  adds = memories_of (adds_none _);
+  registers = omega arith;
+  tests = omega arith;
+  gained = omega arith;
+  far = λ some. absurd (omega arith);
+  long = rw c.new-links.ensures.items refl;
+  links = rw c.new-links.ensures.items (links_none _ _ _ _ _);
+  head = tap_none _ _ _ _ c.requires.net;
+}
+
+pub returns-in_err-ring-clause-keeps : goal.returns-in_err-ring-clause-keeps
+returns-in_err-ring-clause-keeps c = keeps_trans c.loop-j.invariant.keeps c.in_err-ring.ensures.keeps
+
+pub returns-in_err-ring-clause-adds : goal.returns-in_err-ring-clause-adds
+returns-in_err-ring-clause-adds c = memories_most _ _ (omega arith) (omega arith) (memories_trans c.loop-j.invariant.adds c.in_err-ring.ensures.adds)
+
+pub returns-in_err-keep_link-clause-keeps : goal.returns-in_err-keep_link-clause-keeps
+returns-in_err-keep_link-clause-keeps c = keeps_trans c.loop-j.invariant.keeps c.in_ok-ring.ensures.keeps
+
+pub returns-in_err-keep_link-clause-adds : goal.returns-in_err-keep_link-clause-adds
+returns-in_err-keep_link-clause-adds c = memories_most _ _ (omega arith) (omega arith) (memories_trans c.loop-j.invariant.adds c.in_ok-ring.ensures.adds)
+
+pub returns-in_err-keep_link-clause-belongs : goal.returns-in_err-keep_link-clause-belongs
+returns-in_err-keep_link-clause-belongs c = c.in_ok-ring.ensures.belongs
+
+pub ring_tap-requires-clause-some : goal.ring_tap-requires-clause-some
+ring_tap-requires-clause-some c = omega (arith, c.in_ok-ring.ensures.ring.low)
+
+pub ring_tap-requires-clause-few : goal.ring_tap-requires-clause-few
+ring_tap-requires-clause-few c = c.in_ok-ring.ensures.ring.high
+
+pub ring_tap-requires-clause-memory : goal.ring_tap-requires-clause-memory
+ring_tap-requires-clause-memory c = c.in_ok-ring.ensures.ring.memory
+
+pub ring_tap-requires-clause-counter : goal.ring_tap-requires-clause-counter
+ring_tap-requires-clause-counter c = c.in_ok-ring.ensures.ring.counter
+
+pub returns-in_err-head-clause-keeps : goal.returns-in_err-head-clause-keeps
+returns-in_err-head-clause-keeps c = keeps_trans c.loop-j.invariant.keeps c.in_ok-ring.ensures.keeps
+
+pub returns-in_err-head-clause-adds : goal.returns-in_err-head-clause-adds
+returns-in_err-head-clause-adds c =
+    memories_most _ _ (omega arith) (omega arith) (memories_before (memories_trans c.loop-j.invariant.adds c.in_ok-ring.ensures.adds)
+    c.in_err-head.ensures.adds)
 
 pub returns-in_err-head-clause-belongs : goal.returns-in_err-head-clause-belongs
 returns-in_err-head-clause-belongs c = belongs_grows _ _ _ c.in_err-head.ensures.adds.grows c.in_ok-ring.ensures.belongs
@@ -48,5 +98,45 @@ returns-clause-links c =
     let holds : HoldsRing c.make_ring-2.new.nl.cells rst c.args.width c.loop-j.head.0 (c.args.reach - 4096 * ((c.args.reach - 1) / 4096)) c.in_ok-ring-2.ring = rw was.keeps.rst at more.ring in
     let tap : IsTap c.make_ring-2.new.nl.cells rst c.args.width c.args.x.0 (4096 * c.loop-j.j) c.loop-j.head.0 = tap_grows more.adds.grows.extends was.head in
     let left : c.args.reach - 4096 * ((c.args.reach - 1) / 4096) ≡ min 4096 (c.args.reach - 4096 * c.loop-j.j) = omega arith in
-    let pushed : c.keep_link-2.new.links.items ≡ c.loop-j.links.items ++ (record { head = c.loop-j.head; ring = c.in_ok-ring-2.ring }) ∷ [] = c.in_ok-keep_link-2.ensures.ok in
+    let pushed : c.keep_link-2.new.links.items ≡ c.loop-j.links.items ++
+    (record { head = c.loop-j.head; ring = c.in_ok-ring-2.ring }) ∷ [] = c.in_ok-keep_link-2.ensures.ok in
     rw pushed (links_more _ _ _ _ _ _ _ c.loop-j.j _ _ more.adds.grows.extends was.long was.links tap left holds)
+
+pub returns-in_err-ring-2-clause-keeps : goal.returns-in_err-ring-2-clause-keeps
+returns-in_err-ring-2-clause-keeps c = keeps_trans c.loop-j.invariant.keeps c.in_err-ring-2.ensures.keeps
+
+pub returns-in_err-ring-2-clause-adds : goal.returns-in_err-ring-2-clause-adds
+returns-in_err-ring-2-clause-adds c = memories_most _ _ (omega arith) (omega arith) (memories_trans c.loop-j.invariant.adds c.in_err-ring-2.ensures.adds)
+
+pub returns-in_err-keep_link-2-clause-keeps : goal.returns-in_err-keep_link-2-clause-keeps
+returns-in_err-keep_link-2-clause-keeps c = keeps_trans c.loop-j.invariant.keeps c.in_ok-ring-2.ensures.keeps
+
+pub returns-in_err-keep_link-2-clause-adds : goal.returns-in_err-keep_link-2-clause-adds
+returns-in_err-keep_link-2-clause-adds c = memories_most _ _ (omega arith) (omega arith) (memories_trans c.loop-j.invariant.adds c.in_ok-ring-2.ensures.adds)
+
+pub returns-in_err-keep_link-2-clause-belongs : goal.returns-in_err-keep_link-2-clause-belongs
+returns-in_err-keep_link-2-clause-belongs c = c.in_ok-ring-2.ensures.belongs
+
+pub returns-clause-belongs : goal.returns-clause-belongs
+returns-clause-belongs c = c.in_ok-ring-2.ensures.belongs
+
+pub returns-clause-keeps : goal.returns-clause-keeps
+returns-clause-keeps c = keeps_trans c.loop-j.invariant.keeps c.in_ok-ring-2.ensures.keeps
+
+pub returns-clause-adds : goal.returns-clause-adds
+returns-clause-adds c = memories_most _ _ (omega arith) (omega arith) (memories_trans c.loop-j.invariant.adds c.in_ok-ring-2.ensures.adds)
+
+pub returns-clause-registers : goal.returns-clause-registers
+returns-clause-registers c = omega (arith, c.loop-j.invariant.registers, c.in_ok-ring-2.ensures.registers)
+
+pub returns-clause-tests : goal.returns-clause-tests
+returns-clause-tests c = omega (arith, c.loop-j.invariant.tests, c.in_ok-ring-2.ensures.tests)
+
+pub returns-clause-gained : goal.returns-clause-gained
+returns-clause-gained c = omega (arith, c.loop-j.invariant.gained, c.in_ok-ring-2.ensures.gained)
+
+pub returns-clause-long : goal.returns-clause-long
+returns-clause-long c =
+    let pushed : c.keep_link-2.new.links.items ≡ c.loop-j.links.items ++
+    (record { head = c.loop-j.head; ring = c.in_ok-ring-2.ring }) ∷ [] = c.in_ok-keep_link-2.ensures.ok in
+    rw pushed (length_push c.loop-j.links.items _ ∙ omega (arith, c.loop-j.invariant.long))

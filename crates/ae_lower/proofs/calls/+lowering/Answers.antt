@@ -1,4 +1,4 @@
-use Rattle.std.proofs.Common.{◌≡◌, ◌+◌, ◌-◌, ◌<◌, ◌≤◌, ◌*◌, ◌++◌, ◌∷◌, [], List, take, slice_get, slice_index, arith, ap, sym, ◌∙◌, subst, length, ℕ}
+use Rattle.std.proofs.Common.{◌≡◌, ◌+◌, ◌-◌, ◌<◌, ◌≤◌, ◌*◌, ◌++◌, ◌∷◌, [], List, take, slice_get, slice_index, arith, ap, sym, refl, ◌∙◌, subst, length, ℕ}
 use Rattle.std.proofs.lemmas.List.{length-map}
 use Rattle.std.proofs.lemmas.Option.{same_Some, slice_get_within}
 use Rattle.std.proofs.lemmas.Result.{on_ok_weaker}
@@ -11,20 +11,23 @@ use Rattle.ae_delay.specs.declared.own.OwnCosts.{OwnCosts}
 use Rattle.ae_delay.specs.Costs.{all_costs, latest, node_costs}
 use Rattle.ae_flow.specs.Flow.{callees}
 use Rattle.ae_ports.specs.Ports.{streams_of}
-use Rattle.ae_lower.specs.Growth.{Adds, GrowsBy, IsBuilt}
+use Rattle.ae_lower.specs.Growth.{GrowsBy, IsBuilt, Spends}
 use Rattle.ae_lower.specs.Delaying.{AreDelayed, delay_load}
 use Rattle.ae_lower.specs.Nodes.{arguments_of, node_part, plain_costs}
 use Rattle.ae_lower.specs.Lowering.{AreItems, AreStanding, IsItem, IsLight, arrivals_in, bodies_part, instance_costs, timings_in}
 use Rattle.ae_lower.specs.Stretches.{AreNodeCells, results_load}
-use Rattle.ae_lower.proofs.Growing.{if_ok_more, keeps_none}
+use Rattle.ae_lower.proofs.Growing.{if_ok_more, keeps_none, spends_none}
 use Rattle.ae_lower.proofs.Costing.{few_nodes}
-use Rattle.ae_lower.proofs.Instances.{AreLowered, AreSpread, head_of, lane_results, more_bodies, more_nodes, no_bodies, no_nodes, standing}
-use Rattle.ae_lower.proofs.Placed.{args_grow, args_stand, arrivals_told, at_node, bodies_placed, call_adds, call_args, call_light, calls_nothing, chosen_below, func_tree, is_call, node_grows, node_placed, node_ready, own_long, placed_in, result_waits_in, result_waits_told, waits_in, waits_told, plain_adds, plain_is, standing_widths}
+use Rattle.ae_lower.proofs.Instances.{AreLowered, AreSpread, HaveSpent, head_of, lane_results, more_bodies, more_nodes, more_spent, no_bodies, no_nodes, standing}
+use Rattle.ae_lower.proofs.Placed.{args_grow, args_stand, arrivals_told, at_node, bodies_placed, call_args, call_light, call_spends, calls_nothing, chains_in, chains_told, chosen_below, func_tree, is_call, node_grows, node_placed, node_ready, own_long, placed_in, result_waits_in, result_waits_told, waits_in, waits_told, plain_is, plain_spends, standing_widths}
 use Rattle.ae_tidy.specs.Places.{AreMarks}
 use Rattle.ae_tidy.proofs.Placing.{marks_later, marks_more}
 use Rattle.ae_netlist.proofs.Growing.{extends_length}
 use Rattle.ae_lower.proofs.Ending.{all_bodies, another_body, another_node, fewer_bodies, node_there, own_lane, result_below, results_add, results_chosen, results_grow, some_results}
 use Rattle.ae_lower.proofs.Stretches.{marked_end, marked_more, marked_none, results_late}
+use Rattle.ae_clocked.specs.KeptRings.{RingsBelong}
+use Rattle.ae_clocked.proofs.Keeping.{no_rings, rings_grow}
+use Rattle.ae_lower.proofs.Waiting.{chains_long, layouts_small, left_first}
 use Rattle.ae_lower.proofs.calls.+lowering.Goals as goal
 
 pub lower_bodies-returns-in_err-own-clause-belongs : goal.lower_bodies-returns-in_err-own-clause-belongs
@@ -84,24 +87,38 @@ lower_bodies-returns-clause-built t c =
 pub lower_instance-result_waits_of-waits-requires : goal.lower_instance-result_waits_of-waits-requires
 lower_instance-result_waits_of-waits-requires t c = (_, result_waits_told (st_func_trees c.args.p.now) c.args.slacks.now c.args.k (st_func_tree c.instance-s.result.now) c.requires.slacks (func_tree c.args.p.now c.args.k c.instance-s.result.now c.instance-s.ensures))
 
+pub lower_instance-chains_of-chains-requires : goal.lower_instance-chains_of-chains-requires
+lower_instance-chains_of-chains-requires t c = (_, chains_told (st_func_trees c.args.p.now) c.args.slacks.now c.args.k (st_func_tree c.instance-s.result.now) c.requires.slacks (func_tree c.args.p.now c.args.k c.instance-s.result.now c.instance-s.ensures))
+
+pub lower_instance-waiting_memories-most-requires : goal.lower_instance-waiting_memories-most-requires
+lower_instance-waiting_memories-most-requires t c =
+    let func = func_tree c.args.p.now c.args.k c.instance-s.result.now c.instance-s.ensures in
+    let are = chains_in (st_func_trees c.args.p.now) c.args.slacks.now c.args.k (st_func_tree c.instance-s.result.now) c.chains_of-chains.result.now c.requires.slacks func c.chains_of-chains.ensures in
+    let long = chains_long (st_func_trees c.args.p.now) c.args.k (st_func_tree c.instance-s.result.now) c.chains_of-chains.result.now are in
+    record { long = long; sizes = λ i l. layouts_small (st_func_trees c.args.p.now) c.args.k (st_func_tree c.instance-s.result.now) c.requires.timed.sound func i (omega (arith, l, long)) }
+
 pub lower_instance-lower_node-requires : goal.lower_instance-lower_node-requires
 lower_instance-lower_node-requires t c =
     let found = func_tree c.args.p.now c.args.k c.instance-s.result.now c.instance-s.ensures in
     let there : c.loop-j.j < length (st_func_tree c.instance-s.result.now).nodes = omega (arith, c.loop-j-test.true, c.len-j-end.ensures, c.instance-s.result.now.nodes.ok, length-map c.instance-s.result.now.nodes.items st_node_tree) in
     let stand = standing c.loop-j.nl.cells c.args.clocks.now.rst c.args.at (callees (take c.args.k (st_func_trees c.args.p.now))) (st_func_tree c.instance-s.result.now) (arrivals_in (st_func_trees c.args.p.now) c.args.k (st_func_tree c.instance-s.result.now)) c.args.ins.now (length (st_func_tree c.instance-s.result.now).ins + c.loop-j.j) c.loop-j.items.items c.loop-j.invariant.lowered.have in
+    let rings : RingsBelong c.loop-j.kept c.loop-j.clocks.rst c.loop-j.nl.cells = rw c.loop-j.invariant.keeps.rst c.loop-j.invariant.rings in
     let asked : AreStanding c.loop-j.nl.cells (st_func_tree c.instance-s.result.now) (length (st_func_tree c.instance-s.result.now).ins + c.loop-j.j) c.deref.result.now = subst (λ (xs : List (List NetId)). AreStanding c.loop-j.nl.cells (st_func_tree c.instance-s.result.now) (length (st_func_tree c.instance-s.result.now).ins + c.loop-j.j) xs) (sym c.deref.ensures.value) stand in (
       omega (arith, c.decreases),
       (
         c.loop-j.invariant.belongs,
         (
-          c.requires.timed,
+          rings,
           (
-            c.requires.slacks,
+            c.requires.timed,
             (
-              c.requires.light,
+              c.requires.slacks,
               (
-                (λ z at. subst (λ (f : StFuncTree). c.loop-j.j < length f.nodes) (same_Some (st_func_tree c.instance-s.result.now) z (sym found ∙ at)) there),
-                (λ z at. subst (λ (f : StFuncTree). AreStanding c.loop-j.nl.cells f (length f.ins + c.loop-j.j) c.deref.result.now) (same_Some (st_func_tree c.instance-s.result.now) z (sym found ∙ at)) asked),
+                c.requires.light,
+                (
+                  (λ z at. subst (λ (f : StFuncTree). c.loop-j.j < length f.nodes) (same_Some (st_func_tree c.instance-s.result.now) z (sym found ∙ at)) there),
+                  (λ z at. subst (λ (f : StFuncTree). AreStanding c.loop-j.nl.cells f (length f.ins + c.loop-j.j) c.deref.result.now) (same_Some (st_func_tree c.instance-s.result.now) z (sym found ∙ at)) asked),
+                ),
               ),
             ),
           ),
@@ -127,6 +144,9 @@ lower_instance-returns-in_err-keep_item-clause-grows t c =
 
 pub lower_instance-joined-requires-clause-belongs : goal.lower_instance-joined-requires-clause-belongs
 lower_instance-joined-requires-clause-belongs t c = c.loop-j.invariant.belongs
+
+pub lower_instance-joined-requires-clause-rings : goal.lower_instance-joined-requires-clause-rings
+lower_instance-joined-requires-clause-rings t c = rw c.loop-j.invariant.keeps.rst c.loop-j.invariant.rings
 
 pub lower_instance-joined-requires-clause-nets : goal.lower_instance-joined-requires-clause-nets
 lower_instance-joined-requires-clause-nets t c = λ i nets f.
@@ -157,9 +177,13 @@ lower_instance-returns-clause-grows t c =
 
 pub lower_instance-returns-clause-adds : goal.lower_instance-returns-clause-adds
 lower_instance-returns-clause-adds t c =
+    let func = func_tree c.args.p.now c.args.k c.instance-s.result.now c.instance-s.ensures in
     let end : c.loop-j.j ≡ length (st_func_tree c.instance-s.result.now).nodes = omega (arith, c.loop-j-test.false, c.loop-j.auto.j-end, c.len-j-end.ensures, c.instance-s.result.now.nodes.ok, length-map c.instance-s.result.now.nodes.items st_node_tree) in
-    let all : AreLowered (st_func_trees c.args.p.now) c.args.k c.args.at c.args.clocks.now.rst (st_func_tree c.instance-s.result.now) c.args.ins.now c.args.nl.now c.loop-j.nl (length (st_func_tree c.instance-s.result.now).nodes) c.loop-j.items.items = subst (λ (i : ℕ). AreLowered (st_func_trees c.args.p.now) c.args.k c.args.at c.args.clocks.now.rst (st_func_tree c.instance-s.result.now) c.args.ins.now c.args.nl.now c.loop-j.nl i c.loop-j.items.items) end c.loop-j.invariant.lowered in
-    on_ok_weaker c.joined.result (λ added. results_add (st_func_trees c.args.p.now) c.args.k c.args.at c.args.clocks.now.rst (st_func_tree c.instance-s.result.now) c.args.ins.now c.loop-j.items.items c.args.nl.now c.loop-j.nl c.joined.new.nl (func_tree c.args.p.now c.args.k c.instance-s.result.now c.instance-s.ensures) all added) c.joined.ensures.adds
+    let all : HaveSpent (st_func_trees c.args.p.now) c.args.k (st_func_tree c.instance-s.result.now) c.args.nl.now c.loop-j.nl (length (st_func_tree c.instance-s.result.now).nodes) c.waiting_memories-most.result c.loop-j.kept.left =
+    subst (λ (i : ℕ). HaveSpent (st_func_trees c.args.p.now) c.args.k (st_func_tree c.instance-s.result.now) c.args.nl.now c.loop-j.nl i c.waiting_memories-most.result c.loop-j.kept.left) end c.loop-j.invariant.spent in
+    let are = chains_in (st_func_trees c.args.p.now) c.args.slacks.now c.args.k (st_func_tree c.instance-s.result.now) c.chains_of-chains.result.now c.requires.slacks func c.chains_of-chains.ensures in
+    let few = left_first (st_func_trees c.args.p.now) c.args.k (st_func_tree c.instance-s.result.now) c.chains_of-chains.result.now c.waiting_memories-most.result c.requires.timed.sound func are c.waiting_memories-most.ensures in
+    on_ok_weaker c.joined.result (λ added. results_add (st_func_trees c.args.p.now) c.args.k (st_func_tree c.instance-s.result.now) c.args.nl.now c.loop-j.nl c.joined.new.nl c.waiting_memories-most.result c.loop-j.kept.left c.joined.new.kept.left func few all added) c.joined.ensures.spends
 
 pub lower_instance-returns-clause-results : goal.lower_instance-returns-clause-results
 lower_instance-returns-clause-results t c =
@@ -181,7 +205,7 @@ lower_instance-returns-clause-marks t c =
     on_ok_weaker c.joined.result (λ added z count found h.
     let all : AreMarks (length c.loop-j.nl.cells) (count + length (st_func_tree c.instance-s.result.now).nodes) c.loop-j.marks.items = subst (λ (i : ℕ). AreMarks (length c.loop-j.nl.cells) (count + i) c.loop-j.marks.items) end (c.loop-j.invariant.marked count h) in
     marks_later (length c.loop-j.nl.cells) (length c.joined.new.nl.cells) (count + length z.nodes) c.loop-j.marks.items longer
-    (subst (λ (f : StFuncTree). AreMarks (length c.loop-j.nl.cells) (count + length f.nodes) c.loop-j.marks.items) (same_Some (st_func_tree c.instance-s.result.now) z (sym here ∙ found)) all)) c.joined.ensures.adds
+    (subst (λ (f : StFuncTree). AreMarks (length c.loop-j.nl.cells) (count + length f.nodes) c.loop-j.marks.items) (same_Some (st_func_tree c.instance-s.result.now) z (sym here ∙ found)) all)) c.joined.ensures.spends
 
 pub lower_instance-returns-clause-nodes : goal.lower_instance-returns-clause-nodes
 lower_instance-returns-clause-nodes t c =
@@ -196,7 +220,7 @@ lower_instance-returns-clause-nodes t c =
     subst (λ (n : ℕ). GrowsBy c.loop-j.nl c.joined.new.nl n) (results_late instances c.args.k c.args.at c.args.clocks.now.rst s c.args.ins.now c.loop-j.items.items c.args.nl.now c.loop-j.nl c.result_waits_of-waits.result.now c.requires.timed.sound here ew all) grown in
     on_ok_weaker c.joined.result (λ added z found e.
     subst (λ (f : StFuncTree). AreNodeCells instances c.args.k f c.joined.new.nl.cells (length c.args.nl.now.cells) c.loop-j.marks.items) (same_Some s z (sym here ∙ found))
-    (marked_end c.args.nl.now c.loop-j.nl c.joined.new.nl (timings_in instances c.args.k s) c.loop-j.j (results_load instances c.args.k s) c.loop-j.marks.items late added (c.loop-j.invariant.nodes e))) c.joined.ensures.adds
+    (marked_end c.args.nl.now c.loop-j.nl c.joined.new.nl (timings_in instances c.args.k s) c.loop-j.j (results_load instances c.args.k s) c.loop-j.marks.items late added.muls (c.loop-j.invariant.nodes e))) c.joined.ensures.spends
 
 pub lower_node-arrivals_of-arrivals-requires : goal.lower_node-arrivals_of-arrivals-requires
 lower_node-arrivals_of-arrivals-requires t c = (_, arrivals_told (st_func_trees c.args.p.now) c.args.a.now.arrivals c.args.k c.args.at (st_func_tree c.instance-s.result.now) c.requires.timed c.requires.light (func_tree c.args.p.now c.args.k c.instance-s.result.now c.instance-s.ensures))
@@ -219,6 +243,9 @@ pub lower_node-latest-start-requires : goal.lower_node-latest-start-requires
 lower_node-latest-start-requires t c = λ r i f.
     let h = placed_in c.args.p.now c.args.a.now.arrivals c.args.k c.args.j c.args.at c.instance-s.result.now c.index-node.result.now c.arrivals_of-arrivals.result.now c.requires.timed c.requires.light c.instance-s.ensures c.requires.node c.index-node.ensures c.arrivals_of-arrivals.ensures in
     (let l = chosen_below (st_func_trees c.args.p.now) c.args.k c.args.j c.args.at (st_func_tree c.instance-s.result.now) (st_node_tree c.index-node.result.now) c.arrivals_of-arrivals.result.now c.deref.result.now h c.deref.ensures.value r i f in omega (arith, l, own_long (st_func_trees c.args.p.now) c.args.k c.args.j c.args.at (st_func_tree c.instance-s.result.now) (st_node_tree c.index-node.result.now) c.arrivals_of-arrivals.result.now h))
+
+pub lower_node-chains_of-chains-requires : goal.lower_node-chains_of-chains-requires
+lower_node-chains_of-chains-requires t c = (_, chains_told (st_func_trees c.args.p.now) c.args.slacks.now c.args.k (st_func_tree c.instance-s.result.now) c.requires.slacks (func_tree c.args.p.now c.args.k c.instance-s.result.now c.instance-s.ensures))
 
 pub lower_node-joined-requires-clause-nets : goal.lower_node-joined-requires-clause-nets
 lower_node-joined-requires-clause-nets t c =
@@ -292,13 +319,16 @@ lower_node-returns-in-Body-clause-grows t c =
     at_node (st_func_trees c.args.p.now) c.args.k c.args.j (st_func_tree c.instance-s.result.now) (st_node_tree c.index-node.result.now) h.timing (λ u. GrowsBy c.args.nl.now c.lower_bodies.new.nl u.load) h.is_at
     (node_grows (st_func_trees c.args.p.now) c.args.k c.args.j c.args.at (st_func_tree c.instance-s.result.now) (st_node_tree c.index-node.result.now) c.arrivals_of-arrivals.result.now c.waits_of-waits.result.now c.args.nl.now.cells c.args.items.now c.args.nl.now c.joined.new.nl c.lower_bodies.new.nl ((st_node_tree c.index-node.result.now).copies * (instance_costs (st_func_trees c.args.p.now) c.in-Body.m).load) h (c.requires.items (st_func_tree c.instance-s.result.now) h.func) ew (omega (arith, loads)) delays c.lower_bodies.ensures.grows)
 
-pub lower_node-returns-in-Body-clause-adds : goal.lower_node-returns-in-Body-clause-adds
-lower_node-returns-in-Body-clause-adds t c =
+pub lower_node-returns-in-Body-clause-spends : goal.lower_node-returns-in-Body-clause-spends
+lower_node-returns-in-Body-clause-spends t c =
     let h = placed_in c.args.p.now c.args.a.now.arrivals c.args.k c.args.j c.args.at c.instance-s.result.now c.index-node.result.now c.arrivals_of-arrivals.result.now c.requires.timed c.requires.light c.instance-s.ensures c.requires.node c.index-node.ensures c.arrivals_of-arrivals.ensures in
     let op : (st_node_tree c.index-node.result.now).op ≡ body c.in-Body.m = ap st_op_tree c.in-Body.is in
     let call = is_call (st_func_trees c.args.p.now) c.args.k c.args.j c.in-Body.m c.args.at (st_func_tree c.instance-s.result.now) (st_node_tree c.index-node.result.now) c.arrivals_of-arrivals.result.now op h in
-    on_ok_weaker c.lower_bodies.result (λ added. at_node (st_func_trees c.args.p.now) c.args.k c.args.j (st_func_tree c.instance-s.result.now) (st_node_tree c.index-node.result.now) h.timing (λ u. Adds c.args.nl.now c.lower_bodies.new.nl u.muls u.mems) h.is_at
-    (call_adds c.args.nl.now c.joined.new.nl c.lower_bodies.new.nl (st_node_tree c.index-node.result.now).copies (instance_costs (st_func_trees c.args.p.now) c.in-Body.m) (node_costs (all_costs (take c.args.k (st_func_trees c.args.p.now))) (item_layouts (st_func_tree c.instance-s.result.now)) (st_node_tree c.index-node.result.now)) h.timing call.1.costs h.facts.muls h.facts.mems c.in_ok-args.ensures.adds added)) c.lower_bodies.ensures.adds
+    on_ok_weaker c.lower_bodies.result (λ added. at_node (st_func_trees c.args.p.now) c.args.k c.args.j (st_func_tree c.instance-s.result.now) (st_node_tree c.index-node.result.now) h.timing (λ u. Spends c.args.nl.now c.lower_bodies.new.nl u.muls u.mems c.args.kept.now.left c.joined.new.kept.left) h.is_at
+    (call_spends c.args.nl.now c.joined.new.nl c.lower_bodies.new.nl (st_node_tree c.index-node.result.now).copies (instance_costs (st_func_trees c.args.p.now) c.in-Body.m) (node_costs (all_costs (take c.args.k (st_func_trees c.args.p.now))) (item_layouts (st_func_tree c.instance-s.result.now)) (st_node_tree c.index-node.result.now)) h.timing c.args.kept.now.left c.joined.new.kept.left call.1.costs h.facts.muls h.facts.mems c.in_ok-args.ensures.spends added)) c.lower_bodies.ensures.adds
+
+pub lower_node-returns-in-Body-clause-rings : goal.lower_node-returns-in-Body-clause-rings
+lower_node-returns-in-Body-clause-rings t c = on_ok_weaker c.lower_bodies.result (λ added. rings_grow c.lower_bodies.ensures.grows.grows.extends c.in_ok-args.ensures.rings) c.lower_bodies.ensures.adds
 
 pub lower_node-returns-in-Body-clause-item : goal.lower_node-returns-in-Body-clause-item
 lower_node-returns-in-Body-clause-item t c =
@@ -354,8 +384,9 @@ lower_node-returns t c =
       keeps = keeps_trans c.in_ok-args.ensures.keeps c.build.ensures.keeps;
       grows = at_node (st_func_trees c.args.p.now) c.args.k c.args.j (st_func_tree c.instance-s.result.now) (st_node_tree c.index-node.result.now) h.timing (λ u. GrowsBy c.args.nl.now c.build.new.nl u.load) h.is_at
           (node_grows (st_func_trees c.args.p.now) c.args.k c.args.j c.args.at (st_func_tree c.instance-s.result.now) (st_node_tree c.index-node.result.now) c.arrivals_of-arrivals.result.now c.waits_of-waits.result.now c.args.nl.now.cells c.args.items.now c.args.nl.now c.joined.new.nl c.build.new.nl (plain_costs (st_func_tree c.instance-s.result.now) (st_node_tree c.index-node.result.now)).load h (c.requires.items (st_func_tree c.instance-s.result.now) h.func) ew (omega (arith, loads)) delays c.build.ensures.grows);
-      adds = on_ok_weaker c.build.result (λ added. at_node (st_func_trees c.args.p.now) c.args.k c.args.j (st_func_tree c.instance-s.result.now) (st_node_tree c.index-node.result.now) h.timing (λ u. Adds c.args.nl.now c.build.new.nl u.muls u.mems) h.is_at
-          (plain_adds c.args.nl.now c.joined.new.nl c.build.new.nl (plain_costs (st_func_tree c.instance-s.result.now) (st_node_tree c.index-node.result.now)) (node_costs (all_costs (take c.args.k (st_func_trees c.args.p.now))) (item_layouts (st_func_tree c.instance-s.result.now)) (st_node_tree c.index-node.result.now)) h.timing same h.facts.muls h.facts.mems c.in_ok-args.ensures.adds added)) c.build.ensures.adds;
+      rings = on_ok_weaker c.build.result (λ added. rings_grow c.build.ensures.grows.grows.extends c.in_ok-args.ensures.rings) c.build.ensures.adds;
+      spends = on_ok_weaker c.build.result (λ added. at_node (st_func_trees c.args.p.now) c.args.k c.args.j (st_func_tree c.instance-s.result.now) (st_node_tree c.index-node.result.now) h.timing (λ u. Spends c.args.nl.now c.build.new.nl u.muls u.mems c.args.kept.now.left c.joined.new.kept.left) h.is_at
+          (plain_spends c.args.nl.now c.joined.new.nl c.build.new.nl (plain_costs (st_func_tree c.instance-s.result.now) (st_node_tree c.index-node.result.now)) (node_costs (all_costs (take c.args.k (st_func_trees c.args.p.now))) (item_layouts (st_func_tree c.instance-s.result.now)) (st_node_tree c.index-node.result.now)) h.timing c.args.kept.now.left c.joined.new.kept.left same h.facts.muls h.facts.mems c.in_ok-args.ensures.spends added)) c.build.ensures.adds;
       full = c.build.ensures.full;
       item = if_ok_more c.build.result _ _ (λ y built.
           let bare = built (callees (take c.args.k (st_func_trees c.args.p.now))) in
@@ -391,6 +422,8 @@ pub lower_instance-loop-j-init : goal.lower_instance-loop-j-init
 lower_instance-loop-j-init t c = record {
   belongs = c.requires.belongs;
   keeps = keeps_none c.args.clocks.now;
+  rings = rw c.new-kept.ensures (no_rings _ _ _ refl);
+  spent = rw c.new-kept.ensures (spends_none c.args.nl.now c.waiting_memories-most.result);
   lowered = no_nodes (st_func_trees c.args.p.now) c.args.k c.args.at c.args.clocks.now.rst (st_func_tree c.instance-s.result.now) c.args.ins.now c.in_ok-items.items.items c.args.nl.now (c.requires.ins (st_func_tree c.instance-s.result.now) (func_tree c.args.p.now c.args.k c.instance-s.result.now c.instance-s.ensures)) c.in_ok-items.ensures.ok;
   marked = λ count h. subst (λ (i : ℕ). AreMarks (length c.args.nl.now.cells) i c.args.marks.now.items) (let same : count ≡ count + 0 = omega arith in same) h;
   nodes = λ e. marked_none c.args.nl.now (timings_in (st_func_trees c.args.p.now) c.args.k (st_func_tree c.instance-s.result.now)) c.args.marks.now.items e;
@@ -406,13 +439,16 @@ lower_instance-loop-j-preserved t c =
     record {
       belongs = c.in_ok-made.ensures.belongs;
       keeps = keeps_trans c.loop-j.invariant.keeps c.in_ok-made.ensures.keeps;
+      rings = rw c.loop-j.invariant.keeps.rst at c.in_ok-made.ensures.rings;
+      spent = more_spent (st_func_trees c.args.p.now) c.args.k (st_func_tree c.instance-s.result.now) c.args.nl.now c.loop-j.nl c.lower_node.new.nl c.loop-j.j c.waiting_memories-most.result c.loop-j.kept.left c.lower_node.new.kept.left node.timing
+          node.is_at.timing (c.in_ok-made.ensures.spends (st_func_tree c.instance-s.result.now) node.node node.timing node.is_at) c.loop-j.invariant.spent;
       lowered = more_nodes (st_func_trees c.args.p.now) c.args.k c.args.at c.args.clocks.now.rst (st_func_tree c.instance-s.result.now) c.args.ins.now c.args.nl.now c.loop-j.nl c.lower_node.new.nl c.loop-j.j c.loop-j.items.items c.keep_item.new.items.items c.in_ok-made.made node.timing
-          node.is_at.timing c.in_ok-keep_item.ensures.ok (c.in_ok-made.ensures.grows (st_func_tree c.instance-s.result.now) node.node node.timing node.is_at) (c.in_ok-made.ensures.adds (st_func_tree c.instance-s.result.now) node.node node.timing node.is_at)
+          node.is_at.timing c.in_ok-keep_item.ensures.ok (c.in_ok-made.ensures.grows (st_func_tree c.instance-s.result.now) node.node node.timing node.is_at)
           (subst (λ (z : ℕ). IsItem c.lower_node.new.nl.cells z c.args.at (callees (take c.args.k (st_func_trees c.args.p.now))) (st_func_tree c.instance-s.result.now) c.args.ins.now (slice_index (arrivals_in (st_func_trees c.args.p.now) c.args.k (st_func_tree c.instance-s.result.now)) (length (st_func_tree c.instance-s.result.now).ins + c.loop-j.j)) (length (st_func_tree c.instance-s.result.now).ins + c.loop-j.j) c.in_ok-made.made) c.loop-j.invariant.keeps.rst made) c.loop-j.invariant.lowered;
       marked = λ count h. marks_more (length c.loop-j.nl.cells) (length c.lower_node.new.nl.cells) count c.loop-j.j c.loop-j.marks.items c.keep_item.new.marks.items
           (extends_length c.loop-j.nl.cells c.lower_node.new.nl.cells (c.in_ok-made.ensures.grows (st_func_tree c.instance-s.result.now) node.node node.timing node.is_at).grows.extends)
           (c.in_ok-keep_item.ensures.marked ∙ ap (λ (m : ℕ). c.loop-j.marks.items ++ m ∷ []) c.len-mark.ensures) (c.loop-j.invariant.marked count h);
       nodes = λ e. marked_more c.args.nl.now c.loop-j.nl c.lower_node.new.nl (timings_in (st_func_trees c.args.p.now) c.args.k (st_func_tree c.instance-s.result.now)) c.loop-j.j c.loop-j.marks.items c.keep_item.new.marks.items node.timing
           node.is_at.timing (c.in_ok-keep_item.ensures.marked ∙ ap (λ (m : ℕ). c.loop-j.marks.items ++ m ∷ []) c.len-mark.ensures)
-          (c.in_ok-made.ensures.grows (st_func_tree c.instance-s.result.now) node.node node.timing node.is_at) (c.in_ok-made.ensures.adds (st_func_tree c.instance-s.result.now) node.node node.timing node.is_at) (c.loop-j.invariant.nodes e);
+          (c.in_ok-made.ensures.grows (st_func_tree c.instance-s.result.now) node.node node.timing node.is_at) (c.in_ok-made.ensures.spends (st_func_tree c.instance-s.result.now) node.node node.timing node.is_at).muls (c.loop-j.invariant.nodes e);
     }

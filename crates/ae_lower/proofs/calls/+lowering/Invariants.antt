@@ -1,9 +1,10 @@
 use Rattle.std.proofs.Common.{ℕ, ◌≡◌, [], ◌+◌, ◌*◌, ◌≤◌, length}
 use Rattle.ae_clocked.specs.Phases.{Belongs, KeepsCounters}
+use Rattle.ae_clocked.specs.KeptRings.{RingsBelong}
 use Rattle.ae_rewrite.specs.StProgramTree.{st_func_tree, st_func_trees}
 use Rattle.ae_tidy.specs.Places.{AreMarks}
 use Rattle.ae_lower.specs.Lowering.{timings_in}
-use Rattle.ae_lower.proofs.Instances.{AreLowered, AreSpread}
+use Rattle.ae_lower.proofs.Instances.{AreLowered, AreSpread, HaveSpent}
 use Rattle.ae_lower.proofs.Stretches.{HaveMarks}
 use Rattle.ae_lower.proofs.calls.+lowering.Given as goal
 
@@ -28,6 +29,8 @@ abbrev pub invariant-lower_instance-loop-j : goal.invariant-lower_instance-loop-
 invariant-lower_instance-loop-j l = record {
   belongs : Belongs l.clocks l.nl.cells;
   keeps : KeepsCounters l.fn.clocks l.clocks;
+  rings : RingsBelong l.kept l.fn.clocks.rst l.nl.cells;
+  spent : HaveSpent (st_func_trees l.p) l.k (st_func_tree l.s) l.fn.nl l.nl l.j l.most l.kept.left;
   lowered : AreLowered (st_func_trees l.p) l.k l.at l.fn.clocks.rst (st_func_tree l.s) l.ins l.fn.nl l.nl l.j l.items.items;
   marked : (count : ℕ) → AreMarks (length l.fn.nl.cells) count l.fn.marks.items → AreMarks (length l.nl.cells) (count + l.j) l.marks.items;
   nodes : l.fn.marks.items ≡ [] → HaveMarks l.fn.nl l.nl (timings_in (st_func_trees l.p) l.k (st_func_tree l.s)) l.j l.marks.items;

@@ -1,5 +1,6 @@
 -- The circuit from its parts.
-use Rattle.std.proofs.Common.{◌≡◌, ◌+◌, ◌-◌, ℕ, arith, List, Some, slice_get, length, sym, ap, ◌∙◌, subst}
+use Rattle.std.proofs.Common.{◌≡◌, ◌+◌, ◌-◌, ◌++◌, ◌∷◌, [], ℕ, arith, List, Some, slice_get, length, refl, sym, ap, ◌∙◌, subst}
+use Rattle.std.proofs.lemmas.List.{length-map}
 use Rattle.std.proofs.lemmas.Option.{same_Some, slice_get-map}
 use Rattle.std.specs.Option.{option_map}
 use Rattle.ae_netlist.specs.declared.cell.NetId.{NetId}
@@ -10,7 +11,7 @@ use Rattle.ae_sttype.specs.declared.st_type.StType.{StType}
 use Rattle.ae_sttype.specs.StTree.{st_tree}
 use Rattle.ae_rewrite.specs.StProgramTree.{StFuncTree, st_func_tree, st_func_trees, st_trees}
 use Rattle.ae_ops.specs.Blocks.{AreBundles}
-use Rattle.ae_ports.specs.Ports.{input_ports, streams_of}
+use Rattle.ae_ports.specs.Ports.{input_cell, input_ports, reset_port, streams_of}
 use Rattle.ae_lower.specs.Circuits.{IsCircuitOf, IsCircuitThat, MakesResults, last_of}
 use Rattle.ae_clocked.specs.Phases.{Kept}
 use Rattle.ae_lower.specs.Growth.{Adds, GrowsBy}
@@ -20,14 +21,37 @@ use Rattle.ae_lower.specs.PortNets.{bundles_from}
 use Rattle.ae_tidy.specs.Places.{AreMarks}
 use Rattle.ae_tidy.proofs.Placing.{no_marks}
 use Rattle.ae_lower.specs.Ported.{HasBegun}
-use Rattle.ae_lower.proofs.Whole.{begun_bundles, chosen_last, circuit_made, has_begun, inputs_begun, instance_at, last_is, light_enough, reset_belongs}
+use Rattle.ae_lower.proofs.Whole.{begun_bundles, chosen_last, circuit_made, has_begun, inputs_begun, instance_at, last_is, light_enough, load_small, reset_belongs}
 use Rattle.ae_lower.proofs.Tidied.{tidied_circuit}
 use Rattle.ae_lower.proofs.Blocks.{program_circuit}
 use Rattle.ae_lower.proofs.Stretches.{begun_inputs, begun_long, tidied_stretches}
 use Rattle.ae_lower.proofs.circuit.lower.Goals as goal
 
-pub add_inputs-requires : goal.add_inputs-requires
-add_inputs-requires c k t at =
+pub add_inputs-requires-clause-room : goal.add_inputs-requires-clause-room
+add_inputs-requires-clause-room c =
+    let fs = c.args.p.now in
+    let f = c.instance-s.result.now in
+    let sound = c.count-last.ensures.sound.each (c.count-last.result - 1) (st_func_tree f) (instance_at fs (c.count-last.result - 1) f c.instance-s.ensures) in
+    let one : length c.add_input.new.nl.cells ≡ 1 = ap (λ (n : Circuit). length n.cells) c.in_ok-rst.ensures.added ∙ ap (λ (n : Circuit). length (n.cells ++ input_cell reset_port ∷ [])) c.new-nl.ensures in
+    let limit = ap (λ (n : Circuit). n.limit) c.in_ok-rst.ensures.added ∙ ap (λ (n : Circuit). n.limit) c.new-nl.ensures in
+    omega (arith, one, limit, sound.few_ins, length-map f.ins.items st_tree, ap length c.deref.ensures.value)
+
+pub unreachable-requires : goal.unreachable-requires
+unreachable-requires c =
+    let fs = c.args.p.now in
+    let f = c.instance-s.result.now in
+    let k = c.count-last.result - 1 in
+    let here : slice_get (st_func_trees fs) k ≡ Some (st_func_tree f) = instance_at fs k f c.instance-s.ensures in
+    let sound = c.count-last.ensures.sound.each k (st_func_tree f) here in
+    let load = load_small (st_func_trees fs) c.args.a.now (st_func_tree f) k c.requires.times c.load-load.ensures.limit (last_is fs c.count-last.result c.count-last.ensures.count) here in
+    let one : length c.add_input.new.nl.cells ≡ 1 = ap (λ (n : Circuit). length n.cells) c.in_ok-rst.ensures.added ∙ ap (λ (n : Circuit). length (n.cells ++ input_cell reset_port ∷ [])) c.new-nl.ensures in
+    let limit =
+    ap (λ (n : Circuit). n.limit) c.in_ok-ins.ensures.cells ∙ ap (λ (n : Circuit). n.limit) c.in_ok-rst.ensures.added ∙ ap (λ (n : Circuit). n.limit) c.new-nl.ensures in
+    let full : length c.lower_instance.new.nl.cells ≡ c.lower_instance.new.nl.limit = c.in-Err-Full.ensures.full c.in-Err-Full.field-0-is in
+    omega (arith, one, limit, load, full, sound.few_ins, length-map f.ins.items st_tree, ap length c.deref.ensures.value, c.in_ok-ins.ensures.few, c.lower_instance.ensures.grows.cells, c.lower_instance.ensures.grows.grows.limit)
+
+pub add_inputs-requires-clause-in_size : goal.add_inputs-requires-clause-in_size
+add_inputs-requires-clause-in_size c k t at =
     let fs = c.args.p.now in
     let f = c.instance-s.result.now in
     let sound = c.count-last.ensures.sound.each (c.count-last.result - 1) (st_func_tree f) (instance_at fs (c.count-last.result - 1) f c.instance-s.ensures) in
@@ -37,7 +61,7 @@ add_inputs-requires c k t at =
 pub lower_instance-requires-clause-belongs : goal.lower_instance-requires-clause-belongs
 lower_instance-requires-clause-belongs c =
     let s = st_func_tree c.instance-s.result.now in
-    let begun : HasBegun s.ins c.add_inputs.new.nl = has_begun s.ins 2000000 _ _ _ _ c.new-nl.ensures c.in_ok-rst.ensures.added c.in_ok-ins.ensures.cells (ap st_trees c.deref.ensures.value) in
+    let begun : HasBegun s.ins c.add_inputs.new.nl = has_begun s.ins _ _ _ _ _ c.new-nl.ensures c.in_ok-rst.ensures.added c.in_ok-ins.ensures.cells (ap st_trees c.deref.ensures.value) in
     reset_belongs s.ins c.add_inputs.new.nl c.new-clocks.result c.in_ok-rst.rst begun c.new-clocks.ensures
     (ap (λ (n : NetId). n.0) c.in_ok-rst.ensures.net ∙ ap (λ (n : Circuit). length n.cells) c.new-nl.ensures)
 
@@ -54,9 +78,9 @@ pub lower_instance-requires-clause-ins : goal.lower_instance-requires-clause-ins
 lower_instance-requires-clause-ins c s found =
     let f = c.instance-s.result.now in
     let is : st_func_tree f ≡ s = same_Some _ _ (sym (instance_at c.args.p.now (c.count-last.result - 1) f c.instance-s.ensures) ∙ found) in
-    let begun : HasBegun (st_func_tree f).ins c.add_inputs.new.nl = has_begun (st_func_tree f).ins 2000000 _ _ _ _ c.new-nl.ensures c.in_ok-rst.ensures.added c.in_ok-ins.ensures.cells (ap st_trees c.deref.ensures.value) in
+    let begun : HasBegun (st_func_tree f).ins c.add_inputs.new.nl = has_begun (st_func_tree f).ins _ _ _ _ _ c.new-nl.ensures c.in_ok-rst.ensures.added c.in_ok-ins.ensures.cells (ap st_trees c.deref.ensures.value) in
     let bundles : c.deref-2.result.now ≡ bundles_from 1 (streams_of (st_func_tree f).ins) =
-    c.deref-2.ensures.value ∙ begun_bundles (st_func_tree f).ins 2000000 _ _ _ _ c.new-nl.ensures c.in_ok-rst.ensures.added c.in_ok-ins.ensures.bundles (ap st_trees c.deref.ensures.value) in
+    c.deref-2.ensures.value ∙ begun_bundles (st_func_tree f).ins _ _ _ _ _ c.new-nl.ensures c.in_ok-rst.ensures.added c.in_ok-ins.ensures.bundles (ap st_trees c.deref.ensures.value) in
     let there : AreBundles c.add_inputs.new.nl.cells (streams_of (st_func_tree f).ins) c.deref-2.result.now = rw bundles (inputs_begun (st_func_tree f).ins c.add_inputs.new.nl begun) in
     subst (λ (u : StFuncTree). AreBundles c.add_inputs.new.nl.cells (streams_of u.ins) c.deref-2.result.now) is there
 
@@ -88,9 +112,9 @@ returns-clause-circuit c s found =
     let here : slice_get instances k ≡ Some (st_func_tree f) = instance_at fs k f c.instance-s.ensures in
     let there : slice_get instances (last_of instances) ≡ Some (st_func_tree f) = rw last at here in
     let is : st_func_tree f ≡ s = same_Some _ _ (sym there ∙ found) in
-    let begun : HasBegun (st_func_tree f).ins c.add_inputs.new.nl = has_begun (st_func_tree f).ins 2000000 _ _ _ _ c.new-nl.ensures c.in_ok-rst.ensures.added c.in_ok-ins.ensures.cells (ap st_trees c.deref.ensures.value) in
+    let begun : HasBegun (st_func_tree f).ins c.add_inputs.new.nl = has_begun (st_func_tree f).ins _ _ _ _ _ c.new-nl.ensures c.in_ok-rst.ensures.added c.in_ok-ins.ensures.cells (ap st_trees c.deref.ensures.value) in
     let bundles : c.deref-2.result.now ≡ bundles_from 1 (streams_of (st_func_tree f).ins) =
-    c.deref-2.ensures.value ∙ begun_bundles (st_func_tree f).ins 2000000 _ _ _ _ c.new-nl.ensures c.in_ok-rst.ensures.added c.in_ok-ins.ensures.bundles (ap st_trees c.deref.ensures.value) in
+    c.deref-2.ensures.value ∙ begun_bundles (st_func_tree f).ins _ _ _ _ _ c.new-nl.ensures c.in_ok-rst.ensures.added c.in_ok-ins.ensures.bundles (ap st_trees c.deref.ensures.value) in
     let rst : c.new-clocks.result.rst ≡ 0 =
     ap (λ (q : Kept). q.rst) c.new-clocks.ensures ∙ (ap (λ (n : NetId). n.0) c.in_ok-rst.ensures.net ∙ ap (λ (n : Circuit). length n.cells) c.new-nl.ensures) in
     let chosen = chosen_last instances (st_func_tree f) _ c.new-clocks.result.rst k _ _ _ _ rst last bundles (sym c.deref-3.ensures.value) (c.in-Ok.ensures.results (st_func_tree f) here) in
@@ -133,7 +157,7 @@ returns-clause-nodes c s found =
     (subst (λ (i : ℕ). AreMarks (length c.lower_instance.new.nl.cells) i c.lower_instance.new.marks.items) (let plain : 0 + length s.nodes ≡ length s.nodes = omega arith in plain) all) in
     let instances : List StFuncTree = st_func_trees fs in
     let is : st_func_tree f ≡ s = same_Some _ _ (sym (instance_at fs k f c.instance-s.ensures) ∙ here) in
-    let begun : HasBegun (st_func_tree f).ins c.add_inputs.new.nl = has_begun (st_func_tree f).ins 2000000 _ _ _ _ c.new-nl.ensures c.in_ok-rst.ensures.added c.in_ok-ins.ensures.cells (ap st_trees c.deref.ensures.value) in
+    let begun : HasBegun (st_func_tree f).ins c.add_inputs.new.nl = has_begun (st_func_tree f).ins _ _ _ _ _ c.new-nl.ensures c.in_ok-rst.ensures.added c.in_ok-ins.ensures.cells (ap st_trees c.deref.ensures.value) in
     let begin : length c.add_inputs.new.nl.cells ≡ 1 + length (input_ports (streams_of s.ins)) =
     subst (λ (u : StFuncTree). length c.add_inputs.new.nl.cells ≡ 1 + length (input_ports (streams_of u.ins))) is (begun_long (st_func_tree f).ins c.add_inputs.new.nl begun) in
     let kept : c.lower_instance.new.nl.cells ≡ c.add_results.new.nl.cells = ap (λ (n : Circuit). n.cells) (sym c.in_ok-add_results.ensures.added) in

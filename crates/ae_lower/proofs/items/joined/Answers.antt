@@ -1,15 +1,19 @@
 -- One bundle more, and the growth so far.
 use Rattle.std.proofs.Common.{◌≡◌, length, take, arith}
 use Rattle.std.proofs.lemmas.List.{length-take-le, take_more}
+use Rattle.ae_clocked.proofs.Adding.{grows_refl}
 use Rattle.ae_ops.proofs.Lateness.{keeps_trans}
-use Rattle.ae_lower.proofs.Growing.{adds_trans, adds_up, by_trans}
-use Rattle.ae_lower.proofs.Delaying.{delay_more, delay_most, delayed_more, item_at, own_grow}
+use Rattle.ae_lower.proofs.Growing.{by_trans, keeps_none, spends_none, spends_trans, spends_up}
+use Rattle.ae_lower.proofs.Delaying.{delay_more, delay_most, delayed_more, delayed_none, item_at, own_grow}
 use Rattle.ae_lower.proofs.items.joined.Goals as goal
 
-pub later-requires-clause-nets : goal.later-requires-clause-nets
-later-requires-clause-nets c =
+pub waited-requires-clause-nets : goal.waited-requires-clause-nets
+waited-requires-clause-nets c =
     own_grow c.index-items-k.result c.loop-r.invariant.grows.grows.extends
     (c.requires.nets _ _ (item_at c.args.items.now c.args.chosen.now c.loop-r.r c.index-items-k.result c.requires.below c.loop-r-test.true c.index-items-k.is))
+
+pub waited-requires-clause-rings : goal.waited-requires-clause-rings
+waited-requires-clause-rings c = rw c.loop-r.invariant.keeps.rst c.loop-r.invariant.rings
 
 pub returns-in_err-bundle-clause-grows : goal.returns-in_err-bundle-clause-grows
 returns-in_err-bundle-clause-grows c =
@@ -23,6 +27,16 @@ returns-in_err-keep_bundle-clause-grows c =
     (item_at c.args.items.now c.args.chosen.now c.loop-r.r c.index-items-k.result c.requires.below c.loop-r-test.true c.index-items-k.is) c.requires.long c.loop-r-test.true)
     c.loop-r.invariant.grows c.in_ok-bundle.ensures.grows
 
+pub loop-r-init : goal.loop-r-init
+loop-r-init c = record {
+  belongs = c.requires.belongs;
+  keeps = keeps_none c.args.clocks.now;
+  grows = record { grows = grows_refl c.args.nl.now; cells = omega arith };
+  rings = c.requires.rings;
+  spends = spends_none c.args.nl.now c.args.kept.now.left;
+  delayed = rw c.new-late.ensures.items (delayed_none _ _ _ _);
+}
+
 pub loop-r-preserved : goal.loop-r-preserved
 loop-r-preserved c =
     let was = c.loop-r.invariant in
@@ -33,7 +47,8 @@ loop-r-preserved c =
       belongs = made.belongs;
       keeps = keeps_trans was.keeps made.keeps;
       grows = by_trans _ (delay_more c.args.items.now c.args.waits.now c.args.chosen.now c.loop-r.r c.index-items-k.result at c.requires.long c.loop-r-test.true) was.grows made.grows;
-      adds = adds_up (omega arith) (omega arith) (adds_trans was.adds made.adds);
+      rings = rw was.keeps.rst at made.rings;
+      spends = spends_up (omega arith) (omega arith) (spends_trans was.spends made.spends);
       delayed = rw (c.in_ok-keep_bundle.ensures.ok, take_more c.args.chosen.now c.loop-r.r 0 c.loop-r-test.true)
           (delayed_more _ _ _ _ c.args.items.now c.args.waits.now c.loop-r.r _ _ c.loop-r.late.items c.index-items-k.result c.in_ok-bundle.bundle
           many was.grows.grows.extends made.grows.grows.extends at made.nets (rw was.keeps.rst at made.late) was.delayed);

@@ -1,11 +1,19 @@
 -- One word more, until there are no more.
-use Rattle.std.proofs.Common.{map, arith}
-use Rattle.std.proofs.lemmas.List.{length-map, take_all}
-use Rattle.ae_word.specs.AtomTree.{WordKind, atom_kinds, atom_tree}
+use Rattle.std.proofs.Common.{◌≡◌, ◌<◌, length, map, take, arith, ◌∙◌}
+use Rattle.std.proofs.lemmas.List.{length-map, length-take-le, take_all}
+use Rattle.ae_word.specs.AtomTree.{WordKind, atom_kinds, atom_tree, atom_words}
 use Rattle.ae_word.proofs.Sizes.{length-atom_kinds}
 use Rattle.ae_netlist.specs.declared.cell.Port.TheVariants.{In}
-use Rattle.ae_lower.proofs.Inputs.{lane_more}
+use Rattle.ae_lower.proofs.Inputs.{inputs_limit, inputs_long, lane_more, length-word_ports}
 use Rattle.ae_lower.proofs.ports.lane_inputs.Goals as goal
+
+pub add_input-requires-clause-room : goal.add_input-requires-clause-room
+add_input-requires-clause-room c =
+    let widths = map (λ (k : WordKind). k.width) (atom_kinds (atom_tree c.args.atom.now)) in
+    let all : length widths ≡ atom_words (atom_tree c.args.atom.now) = length-map (atom_kinds (atom_tree c.args.atom.now)) (λ (k : WordKind). k.width) ∙ length-atom_kinds (atom_tree c.args.atom.now) in
+    let below : c.loop-word.word < atom_words (atom_tree c.args.atom.now) = omega arith in
+    let few : length (take c.loop-word.word widths) ≡ c.loop-word.word = length-take-le c.loop-word.word widths (omega (arith, all, below)) in
+    omega (arith, inputs_long c.loop-word.invariant, inputs_limit c.loop-word.invariant, length-word_ports (In c.args.param c.args.lane) 0 (take c.loop-word.word widths), few, below, c.requires.room)
 
 pub loop-word-preserved : goal.loop-word-preserved
 loop-word-preserved c =

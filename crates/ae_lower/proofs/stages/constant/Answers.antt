@@ -1,4 +1,4 @@
-use Rattle.std.proofs.Common.{◌≡◌, map, true, false}
+use Rattle.std.proofs.Common.{◌≡◌, map, true, false, arith}
 use Rattle.ae_sttype.specs.StTree.{st_tree}
 use Rattle.ae_sttype.specs.Moves.{fixed}
 use Rattle.ae_moves.specs.Trees.{origin_tree}
@@ -9,7 +9,8 @@ pub unreachable-requires : goal.unreachable-requires
 unreachable-requires c =
     let e : map origin_tree c.in_ok-source.source.items ≡ map fixed c.args.fixed.now = all_fixed c.args.fixed.now c.in_ok-source.source.items c.in_ok-source.ensures.ok in
     let t : st_tree c.in_ok-layout.layout ≡ st_tree c.args.out.now = c.in_ok-layout.ensures.ok in
-    let is : false ≡ true = c.in-None.ensures.some.1 (rw (e, t, c.new.ensures.items) (constant_is_move c.args.fixed.now (st_tree c.args.out.now) c.requires.out c.requires.fits)) in
+    let is : false ≡ true =
+    c.in-None.ensures.some.1 (rw (e, t, c.new.ensures.items) (record { move = constant_is_move c.args.fixed.now (st_tree c.args.out.now) c.requires.out c.requires.fits; few = omega arith })) in
     cc
 
 pub returns-clause-is : goal.returns-clause-is

@@ -1,4 +1,4 @@
-use Rattle.std.proofs.Common.{◌≡◌, ◌∙◌, [], ◌∷◌, map, ap, true, false}
+use Rattle.std.proofs.Common.{◌≡◌, ◌∙◌, [], ◌∷◌, map, ap, true, false, arith}
 use Rattle.ae_sttype.specs.StTree.{StTree, st_tree}
 use Rattle.ae_moves.specs.Trees.{origin_tree}
 use Rattle.ae_delay.specs.Moving.{op_move}
@@ -13,5 +13,5 @@ unreachable-requires c =
     let is : false ≡ true =
     c.in-None.ensures.some.1
     (rw (e, t, i)
-    (op_is_move c.args.how (st_tree c.args.arg.now) (st_tree c.args.out.now) c.requires.arg c.requires.out c.requires.time c.requires.fits.0 c.requires.fits.1)) in
+    (record { move = op_is_move c.args.how (st_tree c.args.arg.now) (st_tree c.args.out.now) c.requires.arg c.requires.out c.requires.time c.requires.fits.0 c.requires.fits.1; few = omega arith })) in
     cc

@@ -1,12 +1,66 @@
 -- Both results, and a choice by the sign.
 use Rattle.std.proofs.Common.{◌∙◌, arith}
 use Rattle.ae_netlist.proofs.Carried.{carries_later}
+use Rattle.ae_clocked.proofs.Adding.{adds_most, adds_trans, net_added}
 use Rattle.ae_clocked.proofs.Added.{back, grows_length}
 use Rattle.ae_ops.proofs.SignWords.{chosen, half_fits}
 use Rattle.ae_ops.proofs.compute.by_sign.Goals as goal
 
 pub constant-requires-clause-fits : goal.constant-requires-clause-fits
 constant-requires-clause-fits c = rw c.half.ensures (half_fits c.args.width c.requires.low)
+
+pub less-requires-clause-left : goal.less-requires-clause-left
+less-requires-clause-left c = net_added c.in_ok-middle.ensures.adds c.requires.net
+
+pub on_one-requires-clause-net : goal.on_one-requires-clause-net
+on_one-requires-clause-net c = net_added c.in_ok-positive.ensures.adds (net_added c.in_ok-middle.ensures.adds c.requires.net)
+
+pub complemented-requires-clause-net : goal.complemented-requires-clause-net
+complemented-requires-clause-net c =
+    net_added c.in_ok-made.ensures.adds (net_added c.in_ok-positive.ensures.adds (net_added c.in_ok-middle.ensures.adds c.requires.net))
+
+pub choose-requires-clause-low : goal.choose-requires-clause-low
+choose-requires-clause-low c = rw c.result_width.ensures c.requires.to_low
+
+pub choose-requires-clause-high : goal.choose-requires-clause-high
+choose-requires-clause-high c = rw c.result_width.ensures c.requires.to_high
+
+pub choose-requires-clause-condition : goal.choose-requires-clause-condition
+choose-requires-clause-condition c = net_added c.in_ok-turned.ensures.adds (net_added c.in_ok-made.ensures.adds c.in_ok-positive.ensures.net)
+
+pub choose-requires-clause-left : goal.choose-requires-clause-left
+choose-requires-clause-left c = rw c.result_width.ensures (net_added c.in_ok-turned.ensures.adds c.in_ok-made.ensures.net)
+
+pub choose-requires-clause-right : goal.choose-requires-clause-right
+choose-requires-clause-right c = rw c.result_width.ensures c.in_ok-turned.ensures.net
+
+pub returns-in_err-middle-clause-adds : goal.returns-in_err-middle-clause-adds
+returns-in_err-middle-clause-adds c = adds_most 7 (omega arith) c.in_err-middle.ensures.adds
+
+pub returns-in_err-positive-clause-adds : goal.returns-in_err-positive-clause-adds
+returns-in_err-positive-clause-adds c = adds_most 7 (omega arith) (adds_trans c.in_ok-middle.ensures.adds c.in_err-positive.ensures.adds)
+
+pub returns-in_err-made-clause-adds : goal.returns-in_err-made-clause-adds
+returns-in_err-made-clause-adds c =
+    adds_most 7 (omega arith) (adds_trans (adds_trans c.in_ok-middle.ensures.adds c.in_ok-positive.ensures.adds) c.in_err-made.ensures.adds)
+
+pub returns-in_err-turned-clause-adds : goal.returns-in_err-turned-clause-adds
+returns-in_err-turned-clause-adds c =
+    adds_most 7 (omega arith) (adds_trans (adds_trans (adds_trans c.in_ok-middle.ensures.adds c.in_ok-positive.ensures.adds) c.in_ok-made.ensures.adds)
+    c.in_err-turned.ensures.adds)
+
+pub returns-in_err-chosen-clause-adds : goal.returns-in_err-chosen-clause-adds
+returns-in_err-chosen-clause-adds c =
+    adds_trans (adds_trans (adds_trans (adds_trans c.in_ok-middle.ensures.adds c.in_ok-positive.ensures.adds) c.in_ok-made.ensures.adds)
+    c.in_ok-turned.ensures.adds) c.in_err-chosen.ensures.adds
+
+pub returns-clause-adds : goal.returns-clause-adds
+returns-clause-adds c =
+    adds_trans (adds_trans (adds_trans (adds_trans c.in_ok-middle.ensures.adds c.in_ok-positive.ensures.adds) c.in_ok-made.ensures.adds)
+    c.in_ok-turned.ensures.adds) c.in_ok-chosen.ensures.adds
+
+pub returns-clause-net : goal.returns-clause-net
+returns-clause-net c = rw (← c.result_width.ensures) c.in_ok-chosen.ensures.net
 
 pub returns-clause-words : goal.returns-clause-words
 returns-clause-words c = λ all k5 run is t l.

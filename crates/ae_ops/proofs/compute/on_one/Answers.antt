@@ -7,7 +7,8 @@ use Rattle.ae_ops.proofs.compute.on_one.Goals as goal
 pub operate-requires-clause-operands : goal.operate-requires-clause-operands
 operate-requires-clause-operands c =
     rw c.result_width.ensures
-    (operation_of _ _ _ c.args.width c.requires.unsigned c.requires.range (one_operands c.args.op (IsNet c.args.nl.now.cells) c.args.a c.args.width c.requires.one c.requires.net))
+    (operation_of _ _ _ c.args.width c.requires.unsigned c.requires.range
+    (one_operands c.args.op (IsNet c.args.nl.now.cells) c.args.a c.args.width c.requires.one c.requires.net))
 
 pub returns-clause-words : goal.returns-clause-words
 returns-clause-words c =

@@ -1,11 +1,13 @@
 -- One line more, and at the end a line for each net.
-use Rattle.std.proofs.Common.{ℕ, ◌≡◌, ◌++◌, ◌∷◌, [], arith, refl}
+use Rattle.std.proofs.Common.{ℕ, ◌≡◌, ◌+◌, ◌*◌, ◌++◌, ◌∷◌, [], arith, refl}
 use Rattle.ae_clocked.proofs.Adding.{grows_trans}
-use Rattle.ae_ops.proofs.Lateness.{keeps_trans, late_of, line_one, nets_of, own_later, same_width, tapped_all, tapping_more, there}
+use Rattle.ae_clocked.specs.Rings.{rings}
+use Rattle.ae_ops.proofs.Lateness.{cells_within, keeps_trans, late_of, line_one, nets_of, own_later, rings_one, same_width, tapped_all, tapping_more, there}
 use Rattle.ae_ops.proofs.late.delay.Goals as goal
 
-pub line-requires-clause-net : goal.line-requires-clause-net
-line-requires-clause-net c = own_later _ _ c.nets-nets.result.now _ c.loop-net.net-index c.nets-nets.ensures c.loop-net.invariant.grows.extends c.requires.nets c.loop-net-test.true
+pub ring_line-requires-clause-net : goal.ring_line-requires-clause-net
+ring_line-requires-clause-net c =
+    own_later _ _ c.nets-nets.result.now _ c.loop-net.net-index c.nets-nets.ensures c.loop-net.invariant.grows.extends c.requires.nets c.loop-net-test.true
 
 pub returns-in_err-tapped-clause-keeps : goal.returns-in_err-tapped-clause-keeps
 returns-in_err-tapped-clause-keeps c = keeps_trans c.loop-net.invariant.keeps c.in_err-tapped.ensures.keeps
@@ -18,6 +20,44 @@ returns-in_err-keep-clause-keeps c = keeps_trans c.loop-net.invariant.keeps c.in
 
 pub returns-in_err-keep-clause-grows : goal.returns-in_err-keep-clause-grows
 returns-in_err-keep-clause-grows c = grows_trans c.loop-net.invariant.grows c.in_ok-tapped.ensures.grows
+
+pub returns-in_err-tapped-clause-cells : goal.returns-in_err-tapped-clause-cells
+returns-in_err-tapped-clause-cells c =
+    let was = c.loop-net.invariant in
+    cells_within _ _ (c.loop-net.net-index + 1) (8 * c.args.slack + 4) c.nets-nets.result.now c.args.bundle.now c.nets-nets.ensures
+    (omega (arith, c.loop-net-test.true))
+    (omega (arith, was.cells, c.in_err-tapped.ensures.cells, line_one c.args.slack))
+
+pub returns-in_err-keep-clause-cells : goal.returns-in_err-keep-clause-cells
+returns-in_err-keep-clause-cells c =
+    let was = c.loop-net.invariant in
+    cells_within _ _ (c.loop-net.net-index + 1) (8 * c.args.slack + 4) c.nets-nets.result.now c.args.bundle.now c.nets-nets.ensures
+    (omega (arith, c.loop-net-test.true))
+    (omega (arith, was.cells, c.in_ok-tapped.ensures.cells, line_one c.args.slack))
+
+pub returns-clause-cells : goal.returns-clause-cells
+returns-clause-cells c =
+    cells_within _ _ c.loop-net.net-index (8 * c.args.slack + 4) c.nets-nets.result.now c.args.bundle.now c.nets-nets.ensures c.loop-net.auto.net-index-end
+    c.loop-net.invariant.cells
+
+pub returns-in_err-tapped-clause-memories : goal.returns-in_err-tapped-clause-memories
+returns-in_err-tapped-clause-memories c =
+    let was = c.loop-net.invariant in
+    cells_within _ _ (c.loop-net.net-index + 1) (rings c.args.slack) c.nets-nets.result.now c.args.bundle.now c.nets-nets.ensures
+    (omega (arith, c.loop-net-test.true))
+    (omega (arith, was.memories, c.in_err-tapped.ensures.memories, rings_one c.args.slack))
+
+pub returns-in_err-keep-clause-memories : goal.returns-in_err-keep-clause-memories
+returns-in_err-keep-clause-memories c =
+    let was = c.loop-net.invariant in
+    cells_within _ _ (c.loop-net.net-index + 1) (rings c.args.slack) c.nets-nets.result.now c.args.bundle.now c.nets-nets.ensures
+    (omega (arith, c.loop-net-test.true))
+    (omega (arith, was.memories, c.in_ok-tapped.ensures.memories, rings_one c.args.slack))
+
+pub returns-clause-memories : goal.returns-clause-memories
+returns-clause-memories c =
+    cells_within _ _ c.loop-net.net-index (rings c.args.slack) c.nets-nets.result.now c.args.bundle.now c.nets-nets.ensures
+    c.loop-net.auto.net-index-end c.loop-net.invariant.memories
 
 pub loop-net-preserved : goal.loop-net-preserved
 loop-net-preserved c =
@@ -32,7 +72,7 @@ loop-net-preserved c =
       grows = grows_trans was.grows more.grows;
       cells = omega (arith, was.cells, more.cells, line_one c.args.slack);
       muls = omega (arith, was.muls, more.muls);
-      memories = omega (arith, was.memories, more.memories);
+      memories = omega (arith, was.memories, more.memories, rings_one c.args.slack);
       whole = λ h. more.whole (was.whole h);
       taps = rw kept
           (tapping_more _ _ _ _ _ _ _ _ _ _ c.tap.result more.grows.extends was.taps (there c.nets-nets.result.now k c.loop-net-test.true)

@@ -1,5 +1,59 @@
-use Rattle.ae_ops.proofs.Squares.{at_once}
+-- A square, a sum, and any other result.
+use Rattle.std.proofs.Common.{arith, refl, sym}
+use Rattle.std.proofs.lemmas.Bool.{eqb-true}
+use Rattle.ae_word.specs.declared.op.WordOp.TheVariants.{Add, Mul}
+use Rattle.ae_netlist.specs.Circuit.{IsNet}
+use Rattle.ae_clocked.proofs.Adding.{adds_most}
+use Rattle.ae_ops.proofs.Computing.{pair_operands, refused_with}
+use Rattle.ae_ops.proofs.Squares.{at_once, square_words, sum_words}
 use Rattle.ae_ops.proofs.make.make.Goals as goal
 
-pub returns-clause-words : goal.returns-clause-words
-returns-clause-words c = at_once c.args.nl.now c.compute.new.nl c.in_ok-net-3.net c.args.op c.args.width c.args.args c.in_ok-net-3.ensures.words
+pub square-requires-clause-net : goal.square-requires-clause-net
+square-requires-clause-net c = (pair_operands Mul (IsNet c.args.nl.now.cells) c.args.args c.args.width refl (rw c.in-Mul.is at c.requires.operands)).0
+
+pub returns-in_err-net-in-Mul-clause-err : goal.returns-in_err-net-in-Mul-clause-err
+returns-in_err-net-in-Mul-clause-err c = refused_with _ c.in_err-net-in-Mul.ensures.err
+
+pub returns-in_ok-net-in-Mul-clause-adds : goal.returns-in_ok-net-in-Mul-clause-adds
+returns-in_ok-net-in-Mul-clause-adds c = rw c.in-Mul.is c.in_ok-net-in-Mul.ensures.adds
+
+pub returns-in_ok-net-in-Mul-clause-net : goal.returns-in_ok-net-in-Mul-clause-net
+returns-in_ok-net-in-Mul-clause-net c = rw c.in-Mul.is c.in_ok-net-in-Mul.ensures.net
+
+pub returns-in_ok-net-in-Mul-clause-late : goal.returns-in_ok-net-in-Mul-clause-late
+returns-in_ok-net-in-Mul-clause-late c = rw c.in-Mul.is (omega arith)
+
+pub returns-in_ok-net-in-Mul-clause-words : goal.returns-in_ok-net-in-Mul-clause-words
+returns-in_ok-net-in-Mul-clause-words c =
+    rw c.in-Mul.is (square_words _ _ _ c.args.width c.args.args refl (sym (eqb-true _ _ (sym c.if-eq.ensures))) c.in_ok-net-in-Mul.ensures.words)
+
+pub sum_of-requires-clause-left : goal.sum_of-requires-clause-left
+sum_of-requires-clause-left c = (pair_operands Add (IsNet c.args.nl.now.cells) c.args.args c.args.width refl (rw c.in-Add.is at c.requires.operands)).0
+
+pub sum_of-requires-clause-right : goal.sum_of-requires-clause-right
+sum_of-requires-clause-right c = (pair_operands Add (IsNet c.args.nl.now.cells) c.args.args c.args.width refl (rw c.in-Add.is at c.requires.operands)).1
+
+pub returns-in_err-net-in-Add-clause-err : goal.returns-in_err-net-in-Add-clause-err
+returns-in_err-net-in-Add-clause-err c = refused_with _ (adds_most 9 (omega arith) c.in_err-net-in-Add.ensures.adds)
+
+pub returns-in_ok-net-in-Add-clause-adds : goal.returns-in_ok-net-in-Add-clause-adds
+returns-in_ok-net-in-Add-clause-adds c = rw c.in-Add.is (adds_most 9 (omega arith) c.in_ok-net-in-Add.ensures.adds)
+
+pub returns-in_ok-net-in-Add-clause-net : goal.returns-in_ok-net-in-Add-clause-net
+returns-in_ok-net-in-Add-clause-net c = rw c.in-Add.is c.in_ok-net-in-Add.ensures.net
+
+pub returns-in_ok-net-in-Add-clause-words : goal.returns-in_ok-net-in-Add-clause-words
+returns-in_ok-net-in-Add-clause-words c = rw c.in-Add.is (sum_words _ _ c.args.width c.args.args _ _ refl refl c.in_ok-net-in-Add.ensures.words)
+
+pub returns-in_err-net-in_default-clause-err : goal.returns-in_err-net-in_default-clause-err
+returns-in_err-net-in_default-clause-err c = refused_with _ (adds_most 9 (omega arith) c.in_err-net-in_default.ensures.err)
+
+pub returns-in_ok-net-in_default-clause-adds : goal.returns-in_ok-net-in_default-clause-adds
+returns-in_ok-net-in_default-clause-adds c = adds_most 9 (omega arith) c.in_ok-net-in_default.ensures.adds
+
+pub returns-in_ok-net-in_default-clause-net : goal.returns-in_ok-net-in_default-clause-net
+returns-in_ok-net-in_default-clause-net c = c.in_ok-net-in_default.ensures.net
+
+pub returns-in_ok-net-in_default-clause-words : goal.returns-in_ok-net-in_default-clause-words
+returns-in_ok-net-in_default-clause-words c =
+    at_once c.args.nl.now c.compute.new.nl c.in_ok-net-in_default.net c.args.op c.args.width c.args.args c.in_ok-net-in_default.ensures.words

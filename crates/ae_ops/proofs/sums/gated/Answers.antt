@@ -1,9 +1,25 @@
 -- The sum of both words, and the choice behind it.
-use Rattle.std.proofs.Common.{◌==◌, if◌then◌else◌, ap, ◌∙◌}
+use Rattle.std.proofs.Common.{◌==◌, if◌then◌else◌, ap, arith, ◌∙◌}
 use Rattle.ae_netlist.specs.Runs.{word_at}
 use Rattle.ae_netlist.proofs.Carried.{carries_later}
+use Rattle.ae_clocked.proofs.Adding.{adds_most, adds_trans, net_added}
 use Rattle.ae_clocked.proofs.Added.{back, grows_length}
 use Rattle.ae_ops.proofs.sums.gated.Goals as goal
+
+pub choose-requires-clause-condition : goal.choose-requires-clause-condition
+choose-requires-clause-condition c = net_added c.in_ok-whole.ensures.adds c.requires.condition
+
+pub choose-requires-clause-left : goal.choose-requires-clause-left
+choose-requires-clause-left c = net_added c.in_ok-whole.ensures.adds c.requires.left
+
+pub returns-in_err-whole-clause-adds : goal.returns-in_err-whole-clause-adds
+returns-in_err-whole-clause-adds c = adds_most 2 (omega arith) c.in_err-whole.ensures.adds
+
+pub returns-in_err-chosen-clause-adds : goal.returns-in_err-chosen-clause-adds
+returns-in_err-chosen-clause-adds c = adds_trans c.in_ok-whole.ensures.adds c.in_err-chosen.ensures.adds
+
+pub returns-clause-adds : goal.returns-clause-adds
+returns-clause-adds c = adds_trans c.in_ok-whole.ensures.adds c.in_ok-chosen.ensures.adds
 
 pub returns-clause-words : goal.returns-clause-words
 returns-clause-words c = λ all k2 run is t l.
