@@ -14,12 +14,14 @@ use Rattle.ae_ops.specs.Blocks.{stream_of, stream_widths}
 use Rattle.ae_seq.specs.Meaning.{at}
 use Rattle.ae_rewrite.specs.Scheduled.{IsFilling}
 use Rattle.ae_ports.specs.Ports.{streams_of, columns_in}
-use Rattle.ae_play.specs.Fed.{clock_row, block_row, element_in, fed_rows, layout_row}
+use Rattle.ae_layout.specs.Standing.{element_in, layout_row}
+use Rattle.ae_layout.proofs.Standing.{element_stands, element_found}
+use Rattle.ae_layout.proofs.RowWords.{stood, unfilled}
+use Rattle.ae_play.specs.Fed.{clock_row, block_row, fed_rows}
 use Rattle.ae_correct.specs.ClockTexts.{fill_word, IsTaken}
 use Rattle.ae_correct.proofs.ModulePorts.{mapped_at}
 use Rattle.ae_ports.proofs.Columns.{stream_columns}
-use Rattle.ae_correct.proofs.Standing.{element_stands, element_found}
-use Rattle.ae_correct.proofs.Rows.{stood, unfilled, fill_at, rows_at}
+use Rattle.ae_correct.proofs.Rows.{fill_at, rows_at}
 
 -- layouts in size, each as many clocks as the slowdown
 abbrev pub FillAll : (slowdown : ℕ) → List StTree → Type 0

@@ -7,7 +7,6 @@ pub mod Laid
 pub mod Keeps
 pub mod Built
 pub mod Written
-pub mod Standing
 pub mod Rows
 pub mod FirstWords
 pub mod FedInputs

@@ -1,3 +1,5 @@
 pub mod Left
 pub mod PieceLemmas
-pub mod FillLemmas
+pub mod Standing
+pub mod RowWords
+pub mod LaidOut

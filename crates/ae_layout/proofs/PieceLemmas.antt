@@ -1,18 +1,19 @@
 -- Words that are pushed piece by piece.
-use Rattle.std.proofs.Common.{◌≡◌, ℕ, ◌+◌, ◌*◌, ◌/◌, ◌%◌, ◌<◌, ◌≤◌, List, ◌++◌, [], length, take, drop, get_or, refl, ap, sym, ◌∙◌, arith, inl, inr, Option, Some, None, IfSome, slice_get, length-append}
-use Rattle.std.proofs.lemmas.List.{get_or_append_left, get_or-append-add, get_or-take, get_or-drop, length-take, length-drop}
-use Rattle.std.proofs.lemmas.Nat.{mul-add-lt, mul-le, div-mul-add, mod-mul-add, div_below, mod_below, div-add-mod'}
+use Rattle.std.proofs.Common.{◌≡◌, ℕ, zero, suc, ◌+◌, ◌*◌, ◌<◌, ◌≤◌, List, ◌++◌, [], ◌∷◌, length, take, drop, get_or, flat_map, refl, ap, sym, ◌∙◌, subst, arith, inl, inr, Some, slice_get, length-append}
+use Rattle.std.specs.List.{range_with_len}
+use Rattle.std.proofs.lemmas.Grind.{flat_map-append}
+use Rattle.std.proofs.lemmas.List.{append-nil, get_or_append_left, get_or-append-add, get_or-take, get_or-drop, length-take, length-drop}
+use Rattle.std.proofs.lemmas.Nat.{mul-add-lt, mul-le}
 use Rattle.std.proofs.lemmas.Bool.{cases_lt}
-use Rattle.std.proofs.lemmas.Option.{get_or_from_slice_get, none-some, same_Some}
+use Rattle.std.proofs.lemmas.Option.{get_or_from_slice_get}
 use Rattle.ae_sttype.specs.declared.st_type.Slot.{Slot}
 use Rattle.ae_sttype.specs.StTree.{StTree, time, lanes, st_atoms, element_words}
-use Rattle.ae_sttype.specs.Slots.{slots, IsElementAt}
-use Rattle.ae_sttype.specs.Size.{HasLengths, IsInSize}
-use Rattle.ae_sttype.proofs.Bounds.{lanes-le-atoms, lanes_below}
-use Rattle.ae_sttype.proofs.Places.{slot_of, slot_at, slot_below, Stands, stands_from_get}
-use Rattle.ae_sttype.specs.Holds.{Holds, IsFree}
+use Rattle.ae_sttype.specs.Slots.{slots}
+use Rattle.ae_sttype.specs.Size.{IsInSize}
+use Rattle.ae_sttype.proofs.Bounds.{lanes-le-atoms}
+use Rattle.ae_sttype.proofs.Places.{slot_of, slot_at, stands_from_get}
+use Rattle.ae_sttype.specs.Holds.{Holds}
 use Rattle.ae_layout.specs.Rows.{rows_run}
-use Rattle.ae_layout.specs.Pieces.{Fills, piece_of}
 
 -- the first n pieces of the words, where R says what word j of piece q is
 pub record Pieces (R : ℕ → ℕ → ℕ → Type 0) (width n : ℕ) (words : List ℕ) : Type 0 where
@@ -34,6 +35,35 @@ piece_more R width n words piece ps long new = record {
         rw (at, get_or-append-add words piece j 0, e) (new j h)
   ];
 }
+
+-- piece q is the q-th list
+abbrev pub Joined : (f : ℕ → List ℕ) → ℕ → ℕ → ℕ → Type 0
+Joined f q j x = x ≡ get_or (f q) j 0
+
+range_more : (a n : ℕ) → range_with_len a (suc n) ≡ range_with_len a n ++ (a + n) ∷ []
+range_more a zero = let z : a ≡ a + 0 = omega arith in ap (λ k. k ∷ []) z
+range_more a (suc n) =
+    let e : a + 1 + n ≡ a + suc n = omega arith in
+    ap (λ ks. a ∷ ks) (range_more (a + 1) n ∙ ap (λ k. range_with_len (a + 1) n ++ k ∷ []) e)
+
+pub until_more : (n : ℕ) → range_with_len 0 (n + 1) ≡ range_with_len 0 n ++ n ∷ []
+until_more n =
+    let e : n + 1 ≡ suc n = omega arith in
+    let z : 0 + n ≡ n = omega arith in
+    ap (range_with_len 0) e ∙ range_more 0 n ∙ ap (λ k. range_with_len 0 n ++ k ∷ []) z
+
+pub joined_next : (f : ℕ → List ℕ) (n : ℕ) → flat_map f (range_with_len 0 (n + 1)) ≡ flat_map f (range_with_len 0 n) ++ f n
+joined_next f n =
+    ap (flat_map f) (until_more n) ∙ flat_map-append f (range_with_len 0 n) (n ∷ []) ∙ ap (λ ws. flat_map f (range_with_len 0 n) ++ ws) (append-nil (f n))
+
+-- lists of one length, one after the other
+pub joined : (f : ℕ → List ℕ) (width n : ℕ) → ((i : ℕ) → length (f i) ≡ width) → Pieces (Joined f) width n (flat_map f (range_with_len 0 n))
+joined f width zero long = no_pieces (Joined f) width
+joined f width (suc n) long =
+    let next : n + 1 ≡ suc n = omega arith in
+    let more : Pieces (Joined f) width (n + 1) (flat_map f (range_with_len 0 (n + 1))) =
+    subst (Pieces (Joined f) width (n + 1)) (sym (joined_next f n)) (piece_more (Joined f) width n (flat_map f (range_with_len 0 n)) (f n) (joined f width n long) (long n) (λ j h. refl)) in
+    subst (λ m. Pieces (Joined f) width m (flat_map f (range_with_len 0 m))) next more
 
 -- ---- taking up
 
@@ -69,75 +99,3 @@ holds_taken s width n rows words ps all e j w at h =
 
 pub columns_below : (s : StTree) (width : ℕ) → IsInSize s → width ≡ element_words s → lanes s * width ≤ 16384
 columns_below s width h is = rw is (omega (arith, mul-le (lanes s) (element_words s) (st_atoms s) (element_words s) (lanes-le-atoms s h.lengths) (omega arith), h.in_words))
-
--- ---- laying out
-
--- word j at place p, the p mod lanes-th lane of clock p / lanes
-pub record Put (s : StTree) (width : ℕ) (value fills : List ℕ) (p j x : ℕ) : Type 0 where
-  pub element : (e : ℕ) → slice_get (slots s) e ≡ Some (slot_at (p / lanes s) (p % lanes s)) → x ≡ get_or value (e * width + j) 0
-  pub free : IsFree s (p / lanes s) (p % lanes s) → x ≡ get_or fills j 0
-
-put_none : (s : StTree) (width : ℕ) (value fills : List ℕ) (p j : ℕ) → IsElementAt s (p / lanes s) (p % lanes s) None → Put s width value fills p j (get_or fills j 0)
-put_none s width value fills p j f = record { element = λ e at. absurd (none-some e ((f e).1 at)); free = λ _. refl }
-
-put_some : (s : StTree) (width : ℕ) (value fills : List ℕ) (p j e : ℕ) → length fills ≡ width → IsElementAt s (p / lanes s) (p % lanes s) (Some e) → j < width →
-    Put s width value fills p j (get_or (take (length fills) (drop (e * length fills) value)) j 0)
-put_some s width value fills p j e long f h = record {
-  element = λ e' at. rw (long, get_or-take width (drop (e * width) value) j 0 h, get_or-drop (e * width) value j 0) (ap (λ i. get_or value (i * width + j) 0) (same_Some e e' ((f e').1 at)));
-  free = λ none. absurd (none e ((f e).0 refl));
-}
-
-put_piece : (s : StTree) (width : ℕ) (value fills : List ℕ) (p j : ℕ) (o : Option ℕ) → length fills ≡ width → IsElementAt s (p / lanes s) (p % lanes s) o → j < width →
-    Put s width value fills p j (get_or (piece_of value fills o) j 0)
-put_piece s width value fills p j None long f h = put_none s width value fills p j f
-put_piece s width value fills p j (Some e) long f h = put_some s width value fills p j e long f h
-
--- an element's words lie within the value
-pub element_within : (s : StTree) (c l e width : ℕ) (value : List ℕ) → IsElementAt s c l (Some e) → length value ≡ st_atoms s * width → e * width + width ≤ length value
-element_within s c l e width value f long =
-    let st = stands_from_get s e c l ((f e).0 refl) in
-    omega (arith, long, mul-le (e + 1) width (st_atoms s) width (omega (arith, st.below)) (omega arith))
-
-pub within_if_some : (s : StTree) (c l width : ℕ) (value : List ℕ) (o : Option ℕ) → IsElementAt s c l o → length value ≡ st_atoms s * width → IfSome o (λ e. e * width + width ≤ length value)
-within_if_some s c l width value None f long = tt
-within_if_some s c l width value (Some e) f long = element_within s c l e width value f long
-
-piece_long : (s : StTree) (width : ℕ) (value fills : List ℕ) (c l : ℕ) (o : Option ℕ) → length fills ≡ width → length value ≡ st_atoms s * width → IsElementAt s c l o → length (piece_of value fills o) ≡ width
-piece_long s width value fills c l None long all f = long
-piece_long s width value fills c l (Some e) long all f =
-    rw (long, length-take, length-drop) (omega (arith, element_within s c l e width value f all))
-
-pub put_more : (s : StTree) (width n : ℕ) (value fills words : List ℕ) (o : Option ℕ) → Pieces (Put s width value fills) width n words → length fills ≡ width → length value ≡ st_atoms s * width →
-    IsElementAt s (n / lanes s) (n % lanes s) o → Pieces (Put s width value fills) width (n + 1) (words ++ piece_of value fills o)
-put_more s width n value fills words o ps long all f =
-    piece_more (Put s width value fills) width n words (piece_of value fills o) ps (piece_long s width value fills _ _ o long all f)
-    (λ j h. put_piece s width value fills n j o long f h)
-
-same_slot : (a b c d : ℕ) → a ≡ c → b ≡ d → slot_at a b ≡ slot_at c d
-same_slot a b c d p q = cc
-
--- a place in its row
-same_place : (c l k width j : ℕ) → (c * k + l) * width + j ≡ c * (k * width) + (l * width + j)
-same_place c l k width j = omega arith
-
-pub holds_put : (s : StTree) (width n : ℕ) (value fills words : List ℕ) → HasLengths s → Pieces (Put s width value fills) width n words → time s * lanes s ≤ n →
-    Holds (rows_run (lanes s * width) words) 0 width (slots s) value
-holds_put s width n value fills words lengths ps all e j w at h =
-    let st = stands_from_get s e w.clock w.lane at in
-    let b = slot_below s lengths e st.below in
-    let c_in : w.clock < time s = rw st.is at b.0 in
-    let l_in : w.lane < lanes s = rw st.is at b.1 in
-    let p = w.clock * lanes s + w.lane in
-    let p_in : p < n = omega (arith, mul-add-lt w.clock (lanes s) w.lane (time s) c_in l_in, all) in
-    let here : slice_get (slots s) e ≡ Some (slot_at (p / lanes s) (p % lanes s)) =
-    at ∙ ap Some (same_slot w.clock w.lane _ _ (sym (div-mul-add w.clock (lanes s) w.lane l_in)) (sym (mod-mul-add w.clock (lanes s) w.lane l_in))) in
-    ap (λ i. get_or words i 0) (let z : (0 + w.clock) * (lanes s * width) + (w.lane * width + j) ≡ p * width + j = omega (arith, same_place w.clock w.lane (lanes s) width j) in z)
-    ∙ (ps.each p j p_in h).element e here
-
-pub fills_put : (s : StTree) (width n : ℕ) (value fills words : List ℕ) → Pieces (Put s width value fills) width n words → time s * lanes s ≤ n →
-    Fills (rows_run (lanes s * width) words) (time s) (lanes s) width s fills
-fills_put s width n value fills words ps all c l j c_in l_in h free =
-    let p = c * lanes s + l in
-    let p_in : p < n = omega (arith, mul-add-lt c (lanes s) l (time s) c_in l_in, all) in
-    ap (λ i. get_or words i 0) (sym (same_place c l (lanes s) width j))
-    ∙ (ps.each p j p_in h).free (rw (div-mul-add c (lanes s) l l_in, mod-mul-add c (lanes s) l l_in) free)

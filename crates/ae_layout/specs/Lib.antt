@@ -1,3 +1,3 @@
+pub mod Standing
 pub mod Rows
-pub mod Pieces
 pub mod Rest

@@ -1,17 +1,15 @@
 // Values laid out on rows, and taken up again.
 
-ghost use Rattle.std.specs.Prelude.{◌≡◌, ℕ, ◌+◌, ◌*◌, ◌%◌, ◌^◌, ◌<◌, ◌≤◌, IfOk, IfSome, length, slice_index, vec_len};
-ghost use Rattle.ae_word.specs.AtomTree.{atom_tree, atom_words, pair_depth};
+ghost use Rattle.std.specs.Prelude.{◌≡◌, ◌*◌, IfOk, length, vec_len};
 ghost use Rattle.ae_sttype.specs.StTree.{st_tree, time, lanes, st_atoms, element_words};
 ghost use Rattle.ae_sttype.specs.Slots.{slots};
 ghost use Rattle.ae_sttype.specs.Size.{IsInSize};
 ghost use Rattle.ae_sttype.specs.Holds.{Holds};
-ghost use Rattle.ae_layout.specs.Rows.{rows_run, fill_words, IsFilled};
-ghost use Rattle.ae_layout.specs.Pieces.{Fills, piece_of};
+ghost use Rattle.ae_layout.specs.Rows.{rows_run, IsFilled};
 
+use crate::row::push_layout;
 use ae_seqtype::Value;
 use ae_sttype::StType;
-use ae_word::Atom;
 use std::alloc::{AllocError, Global};
 
 /// A row of words for each clock, one after the other; the columns of a row are by lane and then by word.
@@ -31,82 +29,12 @@ pub fn lay_out(alloc: Global, v: &Value, s: &StType, fill: u64) -> Result<Rows, 
     ensures holds { IfOk result (λ rows. Holds (rows_run rows.columns rows.words.items) 0 (element_words (st_tree s.now)) (slots (st_tree s.now)) v.now) }
     ensures filled { IfOk result (λ rows. IsFilled (rows_run rows.columns rows.words.items) (st_tree s.now) fill) }
 {
-    let fills = fills(alloc, s.atom(), fill)?;
-    let words = laid_words(alloc, &v.words, s, &fills)?;
+    let mut words = Vec::new(alloc);
+    for clock in 0..s.time() {
+        push_layout(&mut words, s, &v.words, Some(clock), fill)?;
+    }
     let columns = s.lanes() * s.element_words();
     Ok(Rows { columns, words })
-}
-
-// The fill for each word of an atom.
-fn fills(alloc: Global, atom: &Atom, fill: u64) -> Result<Vec<u64>, AllocError>
-    requires { pair_depth (atom_tree atom.now) ≤ 6 }
-    ensures { IfOk result (λ fills. fills.items ≡ fill_words (atom_tree atom.now) fill) }
-{
-    let mut fills = Vec::new(alloc);
-    for j in 0..atom.words() {
-        fills.push(fill_at(atom, j, fill))?;
-    }
-    Ok(fills)
-}
-
-// The fill for word j of an atom, or 0 where it has no word j.
-fn fill_at(atom: &Atom, j: u32, fill: u64) -> u64
-    ensures { result ≡ slice_index (fill_words (atom_tree atom.now) fill) j }
-{
-    match atom.width(j) {
-        Some(width) => low_bits(fill, width),
-        None => 0,
-    }
-}
-
-// The word modulo 2 to a width.
-fn low_bits(word: u64, width: u32) -> u64
-    ensures { result ≡ word % 2 ^ width }
-{
-    if width < 64 {
-        word % (1 << width)
-    } else {
-        word
-    }
-}
-
-// The words of the rows, clock by clock and lane by lane: those of the element there, or the fills.
-fn laid_words(
-    alloc: Global,
-    value: &[u64],
-    of: &StType,
-    fills: &[u64],
-) -> Result<Vec<u64>, AllocError>
-    requires in_size { IsInSize (st_tree of.now) }
-    requires words { length fills.now ≡ element_words (st_tree of.now) }
-    requires value { length value.now ≡ st_atoms (st_tree of.now) * element_words (st_tree of.now) }
-    ensures long { IfOk result (λ rows. vec_len rows ≡ time (st_tree of.now) * lanes (st_tree of.now) * element_words (st_tree of.now)) }
-    ensures holds { IfOk result (λ rows. Holds (rows_run (lanes (st_tree of.now) * element_words (st_tree of.now)) rows.items) 0 (element_words (st_tree of.now)) (slots (st_tree of.now)) value.now) }
-    ensures fills { IfOk result (λ rows. Fills (rows_run (lanes (st_tree of.now) * element_words (st_tree of.now)) rows.items) (time (st_tree of.now)) (lanes (st_tree of.now)) (element_words (st_tree of.now)) (st_tree of.now) fills.now) }
-{
-    let width = fills.len();
-    let lanes = of.lanes();
-    let places = of.time() * lanes;
-    let mut words = Vec::new(alloc);
-    for place in 0..places {
-        let element = of.element(place / lanes, place % lanes);
-        words.extend_from_slice(piece(value, fills, element))?;
-    }
-    Ok(words)
-}
-
-// The words of the element, or the fills where there is none.
-fn piece<'a>(value: &'a [u64], fills: &'a [u64], element: Option<u32>) -> &'a [u64]
-    requires { IfSome element (λ e. e * length fills.now + length fills.now ≤ length value.now) }
-    ensures { result.now ≡ piece_of value.now fills.now element }
-{
-    match element {
-        Some(e) => {
-            let start = e as usize * fills.len();
-            &value[start..start + fills.len()]
-        }
-        None => fills,
-    }
 }
 
 /// The value whose words stand in the slots of the rows. An error comes only for want of memory.

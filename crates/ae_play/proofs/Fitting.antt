@@ -9,6 +9,7 @@ use Rattle.std.proofs.lemmas.List.Elements.{All-from_get_or}
 use Rattle.std.proofs.lemmas.List.Sums.{length-filter, sum_by-cons}
 use Rattle.std.proofs.lemmas.Option.{slice_get-get_or, slice_get-map, slice_get_within}
 use Rattle.ae_word.specs.AtomTree.{WordKind, atom_kinds}
+use Rattle.ae_word.proofs.Sizes.{length-atom_kinds}
 use Rattle.ae_seqtype.specs.SeqTree.{repeated}
 use Rattle.ae_seqtype.specs.ValueTree.{FitKinds}
 use Rattle.ae_seqtype.proofs.Sizes.{length-repeated}
@@ -17,11 +18,12 @@ use Rattle.ae_sttype.specs.StTree.{StTree, element_atom, element_words, lanes, s
 use Rattle.ae_netlist.specs.declared.cell.SizedCell.{SizedCell}
 use Rattle.ae_netlist.specs.Counts.{cells_of, is_input}
 use Rattle.ae_netlist.specs.Rows.{AreInputs}
-use Rattle.ae_play.specs.Fed.{block_row, blocks_of, clock_row, fed_rows, fill_row, lane_words, layout_row, layout_rows, size_of, standing, stood_word, values_of}
+use Rattle.ae_layout.specs.Standing.{lane_words, layout_row, standing, stood_word}
+use Rattle.ae_layout.proofs.Standing.{element_below}
+use Rattle.ae_play.specs.Fed.{block_row, blocks_of, clock_row, fed_rows, fill_row, layout_rows, size_of, values_of}
 use Rattle.ae_play.specs.Fits.{CanBeFed, FitBlocks, lane_kinds, value_kinds}
 use Rattle.ae_play.proofs.Layouts.{block_at, no_block}
 use Rattle.ae_play.proofs.Playing.{length-rows, later_row}
-use Rattle.ae_play.proofs.Standing.{element_below, kinds_long}
 
 -- ---- lists of words that fit
 
@@ -75,7 +77,7 @@ layout_fits fill s value c h =
     (λ e i k is at.
     let first : 0 + i ≡ i = omega arith in
     let word : slice_index value (e * length ks + i) < 2 ^ k.width = word_fits (st_atoms s) e i k ks value (element_below s c l e is) at h in
-    subst (λ n. slice_index value (e * n + (0 + i)) < 2 ^ k.width) (kinds_long (element_atom s)) (subst (λ n. slice_index value (e * length ks + n) < 2 ^ k.width) (sym first) word)))
+    subst (λ n. slice_index value (e * n + (0 + i)) < 2 ^ k.width) (length-atom_kinds (element_atom s)) (subst (λ n. slice_index value (e * length ks + n) < 2 ^ k.width) (sym first) word)))
     0 (lanes s)
 
 blank_fits : (fill : ℕ) (s : StTree) → FitKinds (layout_row fill s [] None) (lane_kinds s)
@@ -88,7 +90,7 @@ fill_fits fill [] = tt
 fill_fits fill (s ∷ ss) = rw (flat_map-cons lane_kinds s ss) (FitKinds-append (layout_row fill s [] None) (fill_row fill ss) (lane_kinds s) (flat_map lane_kinds ss) (blank_fits fill s) (fill_fits fill ss))
 
 value_long : (s : StTree) → length (value_kinds s) ≡ st_atoms s * element_words s
-value_long s = length-repeated (st_atoms s) (atom_kinds (element_atom s)) ∙ ap (λ n. st_atoms s * n) (kinds_long (element_atom s))
+value_long s = length-repeated (st_atoms s) (atom_kinds (element_atom s)) ∙ ap (λ n. st_atoms s * n) (length-atom_kinds (element_atom s))
 
 rows_fit : (fill : ℕ) (ss : List StTree) (ws : List ℕ) (c : ℕ) → FitKinds ws (flat_map value_kinds ss) → FitKinds (layout_rows fill ss (values_of ss ws) c) (flat_map lane_kinds ss)
 rows_fit fill [] ws c h = tt

@@ -10,9 +10,10 @@ use Rattle.std.proofs.lemmas.List.Sums.{sum_by-cons}
 use Rattle.ae_seqtype.specs.ValueTree.{cut}
 use Rattle.ae_seqtype.proofs.Cuts.{length-cut}
 use Rattle.ae_sttype.specs.declared.st_type.StType.{StType}
-use Rattle.ae_sttype.specs.StTree.{StTree, st_tree, st_atoms, element_words, time}
+use Rattle.ae_sttype.specs.StTree.{StTree, st_tree, st_atoms, element_words}
 use Rattle.ae_sttype.specs.Size.{IsInSize}
-use Rattle.ae_play.specs.Fed.{block_row, blocks_of, clock_row, fill_row, layout_row, layout_rows, size_of, values_of}
+use Rattle.ae_layout.specs.Standing.{layout_row}
+use Rattle.ae_play.specs.Fed.{block_row, blocks_of, clock_row, fill_row, layout_rows, size_of, values_of}
 
 pub on_ok : {X E : Type 0} (r : Result X E) (P Q : Type 0) → (P → Q) → OnOk r P → OnOk r Q
 on_ok (Ok x) P Q f h = f h
@@ -63,20 +64,17 @@ size_more first n s ss rest is was =
     omega (arith, one, was)
 
 -- one of the layouts, whose words begin there
-pub record IsPart (ins : List StType) (first n clock i : ℕ) (s : StType) : Type 0 where
+pub record IsPart (ins : List StType) (first n i : ℕ) (s : StType) : Type 0 where
   pub sized : IsInSize (st_tree s)
-  pub within : clock < time (st_tree s)
   pub next : drop i (map st_tree ins) ≡ st_tree s ∷ drop (i + 1) (map st_tree ins)
   pub left : (first + st_atoms (st_tree s) * element_words (st_tree s)) + size_of (drop (i + 1) (map st_tree ins)) ≡ n
 
-pub part_there : (ins : List StType) (first n clock i : ℕ) (s : StType) → i < length ins → s ≡ get_or ins i s → All (λ t. IsInSize t × (clock < time t)) (map st_tree ins)
-    → first + size_of (drop i (map st_tree ins)) ≡ n → IsPart ins first n clock i s
-part_there ins first n clock i s h is all left =
+pub part_there : (ins : List StType) (first n i : ℕ) (s : StType) → i < length ins → s ≡ get_or ins i s → All IsInSize (map st_tree ins)
+    → first + size_of (drop i (map st_tree ins)) ≡ n → IsPart ins first n i s
+part_there ins first n i s h is all left =
     let at = tree_there ins i s h is in
-    let sized = tree_holds (λ t. IsInSize t × (clock < time t)) ins i s at all in
     record {
-      sized = sized.0;
-      within = sized.1;
+      sized = tree_holds IsInSize ins i s at all;
       next = next_tree ins i s at;
       left = size_more first n (st_tree s) (drop i (map st_tree ins)) (drop (i + 1) (map st_tree ins)) (next_tree ins i s at) left;
     }

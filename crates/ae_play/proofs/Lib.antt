@@ -1,7 +1,6 @@
 pub mod Fitting
 pub mod Layouts
 pub mod Playing
-pub mod Standing
 pub mod WordLines
 pub mod Summing
 pub mod PortWords

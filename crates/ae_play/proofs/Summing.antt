@@ -11,6 +11,7 @@ use Rattle.ae_netlist.specs.Runs.{Clock, word_at}
 use Rattle.ae_netlist.specs.Rows.{AreFirsts, AreInputs, HasOneRunWith, IsRunWith, filled}
 use Rattle.ae_sim.specs.Playing.{Simulated, Plays, HasPlayed}
 use Rattle.ae_sttype.specs.StTree.{StTree}
+use Rattle.ae_layout.proofs.PieceLemmas.{joined_next, until_more}
 use Rattle.ae_play.specs.Fed.{fed_rows}
 use Rattle.ae_play.specs.Lines.{clock_count, shown_words}
 use Rattle.ae_play.specs.Sums.{AreSums, ArePlayedSums, all_stand, valid_words, words_until}
@@ -20,24 +21,11 @@ use Rattle.ae_play.proofs.WordLines.{mapped-at, there}
 
 -- ---- the words of one clock more
 
-range_more : (a n : ℕ) → range_with_len a (suc n) ≡ range_with_len a n ++ (a + n) ∷ []
-range_more a zero = let z : a ≡ a + 0 = omega arith in ap (λ k. k ∷ []) z
-range_more a (suc n) =
-    let e : a + 1 + n ≡ a + suc n = omega arith in
-    ap (λ ks. a ∷ ks) (range_more (a + 1) n ∙ ap (λ k. range_with_len (a + 1) n ++ k ∷ []) e)
-
-pub until_more : (n : ℕ) → range_with_len 0 (n + 1) ≡ range_with_len 0 n ++ n ∷ []
-until_more n =
-    let e : n + 1 ≡ suc n = omega arith in
-    let z : 0 + n ≡ n = omega arith in
-    ap (range_with_len 0) e ∙ range_more 0 n ∙ ap (λ k. range_with_len 0 n ++ k ∷ []) z
-
 only : (shown : ℕ → List ℕ) (c : ℕ) → flat_map shown (c ∷ []) ≡ shown c
 only shown c = append-nil (shown c)
 
 pub words_next : (shown : ℕ → List ℕ) (c : ℕ) → words_until shown (c + 1) ≡ words_until shown c ++ shown c
-words_next shown c =
-    ap (flat_map shown) (until_more c) ∙ flat_map-append shown (range_with_len 0 c) (c ∷ []) ∙ ap (λ ws. words_until shown c ++ ws) (only shown c)
+words_next shown c = joined_next shown c
 
 abbrev taken : (stands : Bool) → List ℕ → List ℕ
 taken b ws = if b then ws else []

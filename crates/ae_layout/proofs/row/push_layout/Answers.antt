@@ -1,9 +1,9 @@
 use Rattle.std.proofs.Common.{arith, ap}
 use Rattle.ae_word.specs.AtomTree.{atom_kinds}
 use Rattle.ae_sttype.specs.StTree.{element_atom, element_words, lanes, st_tree}
-use Rattle.ae_play.specs.Fed.{lane_words, standing}
-use Rattle.ae_play.proofs.Standing.{lanes_more}
-use Rattle.ae_play.proofs.rows.push_layout.Goals as goal
+use Rattle.ae_layout.specs.Standing.{lane_words, standing}
+use Rattle.ae_layout.proofs.RowWords.{lanes_more}
+use Rattle.ae_layout.proofs.row.push_layout.Goals as goal
 
 pub loop-lane-preserved : goal.loop-lane-preserved
 loop-lane-preserved c =

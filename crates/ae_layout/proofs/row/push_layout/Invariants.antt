@@ -2,8 +2,8 @@ use Rattle.std.proofs.Common.{◌≡◌, ◌++◌, ◌-◌, ◌≤◌, flat_map}
 use Rattle.std.specs.List.{range_with_len}
 use Rattle.ae_word.specs.AtomTree.{atom_kinds}
 use Rattle.ae_sttype.specs.StTree.{element_atom, element_words, lanes, st_tree}
-use Rattle.ae_play.specs.Fed.{lane_words, layout_row, standing}
-use Rattle.ae_play.proofs.rows.push_layout.Given as goal
+use Rattle.ae_layout.specs.Standing.{lane_words, layout_row, standing}
+use Rattle.ae_layout.proofs.row.push_layout.Given as goal
 
 abbrev pub invariant-loop-lane : goal.invariant-loop-lane
 invariant-loop-lane l = record {

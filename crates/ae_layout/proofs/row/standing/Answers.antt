@@ -1,8 +1,8 @@
 use Rattle.std.proofs.Common.{ap, sym, ◌∙◌}
 use Rattle.ae_sttype.specs.StTree.{st_tree}
-use Rattle.ae_play.specs.Fed.{standing}
-use Rattle.ae_play.proofs.Standing.{element_is, stands_below}
-use Rattle.ae_play.proofs.rows.standing.Goals as goal
+use Rattle.ae_layout.specs.Standing.{standing}
+use Rattle.ae_layout.proofs.Standing.{element_is, stands_below}
+use Rattle.ae_layout.proofs.row.standing.Goals as goal
 
 pub returns-in-Some-clause-is : goal.returns-in-Some-clause-is
 returns-in-Some-clause-is c =

@@ -1,14 +1,15 @@
 -- Which element of a layout stands in a clock on a lane: no two elements have one slot.
-use Rattle.std.proofs.Common.{ℕ, zero, suc, ◌≡◌, ◌+◌, ◌*◌, ◌/◌, ◌%◌, ◌&&◌, nat_eq, Bool, true, false, ◌⊎◌, List, [], ◌∷◌, Option, Some, None, slice_get, inl, inr, arith, refl, ap, sym, ◌∙◌}
+use Rattle.std.proofs.Common.{ℕ, zero, suc, ◌≡◌, ◌+◌, ◌*◌, ◌/◌, ◌%◌, ◌<◌, ◌&&◌, nat_eq, Bool, true, false, ◌⊎◌, List, [], ◌∷◌, Option, Some, None, slice_get, inl, inr, arith, refl, ap, sym, ◌∙◌}
 use Rattle.std.proofs.lemmas.Bool.Decides.{nat_tests}
 use Rattle.std.proofs.lemmas.Nat.{div-add-mod'}
-use Rattle.std.proofs.lemmas.Option.{none-some, same_Some}
+use Rattle.std.proofs.lemmas.Option.{none-some, same_Some, slice_get_within}
 use Rattle.ae_sttype.specs.declared.st_type.Slot.{Slot}
 use Rattle.ae_sttype.specs.StTree.{StTree, atom, tseq, sseq, st_atoms}
-use Rattle.ae_sttype.specs.Slots.{slots}
+use Rattle.ae_sttype.specs.Slots.{slots, IsElementAt}
 use Rattle.ae_sttype.specs.Size.{HasLengths}
-use Rattle.ae_sttype.proofs.Places.{Stands, slot_at, tseq_stands, sseq_stands, stands_from_get}
-use Rattle.ae_play.specs.Fed.{element_in, found_from}
+use Rattle.ae_sttype.specs.Holds.{IsFree}
+use Rattle.ae_sttype.proofs.Places.{Stands, slot_at, length-slots, tseq_stands, sseq_stands, stands_from_get}
+use Rattle.ae_layout.specs.Standing.{element_in, found_from}
 
 -- ---- one element in a slot
 
@@ -74,6 +75,32 @@ unfolding element_in
 found_or s c l e None h at is = absurd (not_found 0 c l (slots s) e is at)
 found_or s c l e (Some n) h at is = ap Some (one_stands s h n e c l (stands_from_get s n c l (element_stands s c l n is)) (stands_from_get s e c l at))
 
--- and each element is found in its slot
+-- each element is found in its slot
 pub element_found : (s : StTree) (c l e : ℕ) → HasLengths s → slice_get (slots s) e ≡ Some (slot_at c l) → element_in s c l ≡ Some e
 element_found s c l e h at = found_or s c l e (element_in s c l) h at refl
+
+pub element_below : (s : StTree) (c l e : ℕ) → element_in s c l ≡ Some e → e < st_atoms s
+element_below s c l e is = omega (arith, slice_get_within (slots s) e _ (element_stands s c l e is), length-slots s)
+
+none_by : (s : StTree) (c l : ℕ) (o : Option ℕ) → IsFree s c l → element_in s c l ≡ o → o ≡ None
+none_by s c l None free is = refl
+none_by s c l (Some e) free is = absurd (free e (element_stands s c l e is))
+
+-- and none where the lane is free
+pub none_found : (s : StTree) (c l : ℕ) → IsFree s c l → element_in s c l ≡ None
+none_found s c l free = none_by s c l (element_in s c l) free refl
+
+-- ---- what the code finds
+
+by_found : (s : StTree) (c l : ℕ) (o f : Option ℕ) → IsElementAt s c l o → element_in s c l ≡ f → o ≡ f
+unfolding element_in
+by_found s c l o (Some n) h is = (h n).1 (element_stands s c l n is)
+by_found s c l None None h is = refl
+by_found s c l (Some e) None h is = absurd (not_found 0 c l (slots s) e is ((h e).0 refl))
+
+pub element_is : (s : StTree) (c l : ℕ) (o : Option ℕ) → IsElementAt s c l o → o ≡ element_in s c l
+element_is s c l o h = by_found s c l o (element_in s c l) h refl
+
+-- what stands, stands below the number of elements
+pub stands_below : (s : StTree) (c l e : ℕ) (o : Option ℕ) → IsElementAt s c l o → o ≡ Some e → e < st_atoms s
+stands_below s c l e o h is = omega (arith, slice_get_within (slots s) e _ ((h e).0 is), length-slots s)

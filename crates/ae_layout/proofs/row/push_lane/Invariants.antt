@@ -1,8 +1,8 @@
 use Rattle.std.proofs.Common.{◌≡◌, ◌++◌, drop}
 use Rattle.ae_word.specs.AtomTree.{atom_kinds}
 use Rattle.ae_sttype.specs.StTree.{element_atom, element_words, st_tree}
-use Rattle.ae_play.specs.Fed.{lane_words}
-use Rattle.ae_play.proofs.rows.push_lane.Given as goal
+use Rattle.ae_layout.specs.Standing.{lane_words}
+use Rattle.ae_layout.proofs.row.push_lane.Given as goal
 
 abbrev pub invariant-loop-j : goal.invariant-loop-j
 invariant-loop-j l =
