@@ -1,6 +1,6 @@
 // The job `demo`.
 
-ghost use Rattle.std.specs.Prelude.{◌≡◌, ◌+◌, ◌*◌, ◌<◌, ◌≤◌, ◌^◌, ◌++◌, true, ℕ, List, IfOk, OnOk, replicate, string_bytes};
+ghost use Rattle.std.specs.Prelude.{◌≡◌, ◌+◌, ◌*◌, ◌<◌, ◌≤◌, ◌^◌, ◌++◌, ℕ, List, IfOk, OnOk, codes, string_bytes};
 ghost use Rattle.ae_seq.specs.ProgramTree.{program_tree};
 ghost use Rattle.ae_rewrite.specs.StProgramTree.{st_func_trees};
 ghost use Rattle.ae_play.specs.Lines.{clock_count};
@@ -10,8 +10,10 @@ ghost use Rattle.ae_compile.specs.Costing.{IsCosted, load_limit};
 ghost use Rattle.ae_tool.specs.DemoTexts.{IsDemoText, IsSummedRun, demo_blocks, demo_program, demo_slowdown, demo_words, summary};
 
 use crate::run::clock_count;
-use crate::widths::input_widths;
-use ae_compile::{Compiled, Costed, LOAD_LIMIT, OutOfMemory, compile, cost, module_text, play};
+use ae_compile::{
+    CompileFault, Compiled, Costed, LOAD_LIMIT, OutOfMemory, compile, cost, module_text, play,
+};
+use ae_demo::demos_are_accepted;
 use ae_play::{Sums, sum_clocks};
 use itoa::Buffer;
 use std::alloc::{AllocError, Global};
@@ -37,21 +39,6 @@ fn input_words(alloc: Global, size: u32) -> Result<Vec<u64>, AllocError>
         words.push(u64::from((size + 37 * k) % 65536))?;
     }
     Ok(words)
-}
-
-// Whether there are so many widths, all of 16 bits.
-fn are_wide(widths: &[u32], count: u32) -> bool
-    ensures { result ≡ true → widths.now ≡ replicate count 16 }
-{
-    if widths.len() != count as usize {
-        return false;
-    }
-    for width in widths {
-        if *width != 16 {
-            return false;
-        }
-    }
-    true
 }
 
 fn write_number(out: &mut String, words: &str, number: u128) -> Result<(), AllocError>
@@ -80,6 +67,22 @@ fn write_summary(
     write_number(out, "valid", u128::from(sums.valid))?;
     write_number(out, "sum", sums.valid_sum)?;
     write_number(out, "all", sums.whole_sum)
+}
+
+// The text, and the summary behind it.
+fn with_summary(
+    text: String,
+    size: u32,
+    latency: u32,
+    clocks: u64,
+    sums: Sums,
+) -> Result<String, OutOfMemory>
+    ensures { IfOk result (λ whole. string_bytes whole ≡ (string_bytes text ++ codes "%% summary\n") ++ summary size latency clocks sums) }
+{
+    let mut whole = text;
+    whole.push_str("%% summary\n")?;
+    write_summary(&mut whole, size, latency, clocks, sums)?;
+    Ok(whole)
 }
 
 // The text of the module, and the sums of its run on the rows: that of the netlist that the text itself is read as.
@@ -113,7 +116,7 @@ fn summed(
     Ok((text, sums))
 }
 
-// The text of the module, and the summary of its run. No size needs more clocks, or has words of another width.
+// The text of the module, and the summary of its run.
 fn demo_text(alloc: Global, costed: Costed, size: u32) -> Result<String, OutOfMemory>
     requires some { 1 ≤ size }
     requires limit { size ≤ 64 }
@@ -121,35 +124,37 @@ fn demo_text(alloc: Global, costed: Costed, size: u32) -> Result<String, OutOfMe
     requires costed { IsCosted load_limit (demo_program size) (demo_slowdown size) (program_tree costed.program) (st_func_trees costed.schedule) }
     ensures { IfOk result (λ text. IsDemoText size (string_bytes text)) }
 {
+    demos_are_accepted();
     let blocks = (2 * size) as usize;
     let latency = costed.costs().latency();
     let clocks = clock_count(costed.slowdown(), latency, blocks);
-    if clocks > 4_294_967_295 {
-        return Err(OutOfMemory);
-    }
-    let program = costed.program();
-    let widths = input_widths(alloc, program.program())?;
-    if !are_wide(&widths, 16 * size) {
-        return Err(OutOfMemory);
-    }
     let words = input_words(alloc, size)?;
     let compiled = compile(alloc, costed)?;
-    let (mut text, sums) = summed(alloc, &compiled, &words, blocks, 0)?;
-    text.push_str("%% summary\n")?;
-    write_summary(&mut text, size, latency, clocks, sums)?;
-    Ok(text)
+    let (text, sums) = summed(alloc, &compiled, &words, blocks, 0)?;
+    with_summary(text, size, latency, clocks, sums)
+}
+
+// What is left of a program's faults where it is accepted.
+fn memory_alone(fault: CompileFault) -> OutOfMemory
+    requires { fault ≡ CompileFault.Memory }
+{
+    match fault {
+        CompileFault::Memory => OutOfMemory,
+        _ => unreachable!(),
+    }
 }
 
 /// The text of the module of the generated program of a size, and the summary of its run on the generated input; without
-/// memory there is no text. The program is refused at no size.
+/// memory there is no text. The program is refused at no size, by a law.
 pub fn demo(alloc: Global, size: u32) -> Result<String, OutOfMemory>
     requires some { 1 ≤ size }
     requires limit { size ≤ 64 }
     ensures { IfOk result (λ text. IsDemoText size (string_bytes text)) }
 {
+    demos_are_accepted();
     let part = program_text(alloc, size)?;
     match cost(alloc, part.as_bytes(), 4 * size, LOAD_LIMIT) {
         Ok(costed) => demo_text(alloc, costed, size),
-        Err(_) => Err(OutOfMemory),
+        Err(fault) => Err(memory_alone(fault)),
     }
 }

@@ -1,0 +1,3 @@
+mod SmallMoves
+mod Layouts
+mod Accepted
