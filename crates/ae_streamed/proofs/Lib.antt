@@ -4,3 +4,11 @@ pub mod Wiring
 pub mod Queued
 pub mod Standing
 pub mod Queueing
+pub mod Beats
+pub mod Phasing
+pub mod Bits
+pub mod Gained
+pub mod Within
+pub mod Last
+pub mod Copied
+pub mod Between

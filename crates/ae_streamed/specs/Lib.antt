@@ -1,3 +1,5 @@
 pub mod Cells
 pub mod Controls
 pub mod Columns
+pub mod Beats
+pub mod Between

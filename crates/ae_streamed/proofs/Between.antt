@@ -1,0 +1,175 @@
+-- A marked circuit with a control around it stands between two channels.
+use Rattle.std.proofs.Common.{ℕ, zero, suc, ◌≡◌, ◌+◌, ◌*◌, ◌/◌, ◌%◌, ◌-◌, ◌<◌, ◌≤◌, Bool, true, false, List, [], ◌∷◌, length, sum_by, Some, slice_get, get_or, arith, refl, sym, ap, ◌∙◌, subst}
+use Rattle.std.specs.Prelude.{◌||◌, ◌==◌, nat_lt, if◌then◌else◌}
+use Rattle.std.proofs.lemmas.List.{length-map}
+use Rattle.std.proofs.Math.Nat.{div-le_self}
+use Rattle.std.proofs.lemmas.Nat.{div-add-mod', div_below, mod_below}
+use Rattle.ae_seq.specs.ProgramTree.{ProgramTree}
+use Rattle.ae_sttype.specs.StTree.{StTree}
+use Rattle.ae_sttype.specs.Moves.{columns_of}
+use Rattle.ae_netlist.specs.declared.cell.Outlet.{Outlet}
+use Rattle.ae_netlist.specs.declared.cell.SizedCell.{SizedCell}
+use Rattle.ae_netlist.specs.Circuit.{Circuit, HaveNets, IsFormed}
+use Rattle.ae_netlist.proofs.Growing.{extends_length}
+use Rattle.ae_netlist.specs.Runs.{Clock, HasOneRun, IsReset, IsRun, no_clock, word_at}
+use Rattle.ae_clocked.specs.Signals.{Grows}
+use Rattle.ae_rewrite.specs.Blocks.{MakesBlocks, outlet_net}
+use Rattle.ae_stall.specs.Held.{inner_clock}
+use Rattle.ae_stall.specs.Images.{placed, placed_net}
+use Rattle.ae_stream.specs.Passing.{ByNumber}
+use Rattle.ae_stream.specs.Queue.{next_a}
+use Rattle.ae_stream.specs.Streams.{Ends, Stays, Streams, bit, is_beat, is_transfer}
+use Rattle.ae_stream.specs.Control.{AreWithin, Control, IsInside, steps, word_in}
+use Rattle.ae_stream.specs.Driven.{IsDriven, late_clock}
+use Rattle.ae_stream.specs.Fed.{CanBeFed}
+use Rattle.ae_stream.specs.Laws.{DrivenCircuitsKeepWords, DrivenCircuitsStream, HeldCircuitsAreInside, HeldMarksAreSeen, WiredControlsAreDriven}
+use Rattle.ae_stream.specs.Wired.{AreQueued, FromEach, IsMarked, IsWired}
+use Rattle.ae_streamed.specs.declared.marking.Marks.{Marks}
+use Rattle.ae_streamed.specs.Beats.{HasMarks, IsBitOf}
+use Rattle.ae_streamed.specs.Between.{IsStream, IsWrapped, channel_ends, copied_nets, wires_of}
+use Rattle.ae_streamed.specs.Columns.{net_at}
+use Rattle.ae_streamed.specs.Controls.{control_of, ends_of}
+use Rattle.ae_streamed.proofs.Cells.{net_within}
+use Rattle.ae_streamed.proofs.Phasing.{bit_of}
+
+-- ---- outputs
+
+-- where the copy has the net of an output
+made_at : (outlets : List Outlet) (q : ℕ) → net_at (copied_nets outlets) q ≡ placed 2 (outlet_net outlets q)
+made_at [] q = refl
+made_at (o ∷ outlets) zero = refl
+made_at (o ∷ outlets) (suc q) = made_at outlets q
+
+outlet_found : (outlets : List Outlet) (q : ℕ) → q < length outlets → (o : Outlet) × (slice_get outlets q ≡ Some o) × (outlet_net outlets q ≡ o.net.0)
+outlet_found [] q l = absurd (omega arith)
+outlet_found (o ∷ outlets) zero l = (o, refl, refl)
+outlet_found (o ∷ outlets) (suc q) l = outlet_found outlets q (omega arith)
+
+outlet_within : (n : Circuit) → HaveNets n.cells n.outlets → (q : ℕ) → q < length n.outlets → outlet_net n.outlets q < length n.cells
+outlet_within n have q l =
+    let o = outlet_found n.outlets q l in
+    subst (λ k. k < length n.cells) (sym o.2) (net_within (have.each q o.0 o.1))
+
+or_left : (a b : Bool) → a ≡ true → (a || b) ≡ true
+or_left true b h = refl
+or_left false b h = (let e : false ≡ true = h in absurd (grind (arith, e)))
+
+first_inputs : (q : ℕ) → 3 + q ≡ placed 2 (1 + q)
+first_inputs q =
+    let e : 1 + q ≡ suc q = omega arith in
+    let f : 3 + q ≡ suc (2 + q) = omega arith in
+    f ∙ sym (ap (placed 2) e)
+
+module _ (n marked new : Circuit) (m : Marks) (slowdown latency : ℕ) (inputs outputs : List StTree)
+    (some : 0 < slowdown) (formed : IsFormed n.cells) (have : HaveNets n.cells n.outlets) (one : HasOneRun n.cells) (grows : Grows n marked) (formed_marked : IsFormed marked.cells)
+    (marks : HasMarks marked.cells m slowdown (latency % slowdown) inputs outputs) (wrapped : IsWrapped marked new m (latency / slowdown))
+    (ins : AreWithin inputs slowdown (sum_by columns_of inputs)) (outs : AreWithin outputs slowdown (sum_by columns_of outputs))
+    (fits : sum_by columns_of inputs < length n.cells) (shows : length n.outlets ≡ sum_by columns_of outputs) (any : 0 < sum_by columns_of outputs)
+    (lies_inside : HeldCircuitsAreInside) (are_seen : HeldMarksAreSeen) (are_driven : WiredControlsAreDriven) (they_stream : DrivenCircuitsStream) (they_keep : DrivenCircuitsKeepWords) where
+  abbrev columns : ℕ
+  columns = length n.outlets
+
+  abbrev second : ℕ → ℕ
+  second k = wrapped.at + 4 * k + 1
+
+  -- the control, and its ends
+  abbrev x : Control
+  x = control_of wrapped.by wrapped.control.takes wrapped.control.here wrapped.control.shows (net_at (copied_nets marked.outlets)) second
+
+  abbrev own : Ends
+  own = ends_of (wires_of m) wrapped.by (sum_by columns_of inputs) columns (λ q. 3 + q) (λ q. outlet_net new.outlets (2 + q))
+
+  own_is : own ≡ channel_ends (sum_by columns_of inputs) columns new.outlets
+  own_is =
+      ap (λ k. record own { source = record { valid = 1; ready = k } }) (sym wrapped.shown.asks)
+      ∙ ap (λ k. record own { source = record { valid = 1; ready = outlet_net new.outlets 0 }; sink = record { valid = k; ready = 2 } }) (sym wrapped.shown.one)
+
+  long : length n.cells ≤ length marked.cells
+  long = extends_length n.cells marked.cells grows.extends
+
+  module _ (run : List Clock) (start : ℕ) (r : IsRun new.cells run) (reset : IsReset run 0 start) where
+    keeps : (k : ℕ) (sized : SizedCell) → length marked.cells + 2 ≤ k → slice_get new.cells k ≡ Some sized → slice_get new.cells k ≡ Some sized
+    keeps k sized low h = h
+
+    wired : IsWired x wrapped.control.gates wrapped.control.row own (placed 2 m.wants.0) (latency / slowdown) run
+    wired = wrapped.control.wired (net_at (copied_nets marked.outlets)) second (λ q. 3 + q) (λ q. outlet_net new.outlets (2 + q)) (sum_by columns_of inputs) columns new.cells keeps run r
+
+    queued : AreQueued x own run
+    queued =
+        let q = wrapped.columns.queued (wires_of m) wrapped.control.takes wrapped.control.here wrapped.control.shows (sum_by columns_of inputs) (λ q. 3 + q) new.cells
+        (λ k sized low h. h) run r (wrapped.control.moves new.cells keeps run r) in
+        let size : length (copied_nets marked.outlets) ≡ columns = length-map marked.outlets (λ (o : Outlet). placed_net 2 o.net) ∙ ap length grows.outlets in
+        let same : length marked.outlets ≡ columns = ap length grows.outlets in
+        record {
+          shown = λ k l.
+              let at : outlet_net new.outlets (2 + k) ≡ wrapped.at + 4 * k = wrapped.shown.columns k (omega (arith, same, l)) in
+              subst (λ y. FromEach (λ c next. word_in y next ≡ next_a (bit x.one c) (bit x.two c) (is_transfer own.sink c) (word_in y c) (word_in (x.second k) c) (word_in (x.made k) c)) run)
+              (sym at) (q.shown k (omega (arith, size, l)));
+          second = λ k l. q.second k (omega (arith, size, l));
+        }
+
+    inside : IsInside x own n (inner_clock 2 (length n.cells)) run
+    inside = lies_inside x own n marked wrapped.copied new (record {
+      formed = formed;
+      first = grows.extends;
+      some = omega (arith, fits);
+      held = wrapped.held;
+      longer = wrapped.longer;
+      ins = λ q b. (omega (arith, b, fits), first_inputs q);
+      outs = λ q b. (outlet_within n have q b, ap (λ o. net_at (copied_nets o) q) grows.outlets ∙ made_at n.outlets q);
+    }) run r
+
+    reset_there : IsReset run wrapped.control.gates.reset start
+    reset_there = subst (λ y. IsReset run y start) (sym wrapped.control.reset) reset
+
+    on : (t : ℕ) → t < start → t < length run → bit x.enable (get_or run t no_clock) ≡ true
+    unfolding word_at
+    on t b l =
+        (wired.gates t l).enable
+        ∙ or_left (bit wrapped.control.gates.reset (get_or run t no_clock)) _ (high t b l)
+      where
+        high : (t : ℕ) → t < start → t < length run → bit wrapped.control.gates.reset (get_or run t no_clock) ≡ true
+        high t b l = ap (λ k. k == 1) (reset_there.high t b l)
+
+    seen : (y : ℕ) (passes : ℕ → Bool) → IsBitOf marked.cells 0 y passes → ByNumber (bit (placed 2 y)) passes (steps x start run) no_clock
+    seen y passes h t l =
+        bit_of (passes t) (word_in (placed 2 y) (get_or (steps x start run) t no_clock))
+        (are_seen x marked wrapped.copied new formed_marked (omega (arith, fits, long)) wrapped.held wrapped.longer run start r reset on y (λ c. if passes c then 1 else 0) (net_within h.net) h.words t l)
+
+    marked_run : IsMarked x wrapped.control.gates wrapped.control.row (placed 2 m.wants.0) run start slowdown (latency % slowdown) inputs outputs
+    marked_run = record {
+      first = subst (λ y. ByNumber (bit y) (λ t. t % slowdown == 0) (steps x start run) no_clock) (sym wrapped.control.first) (seen m.first.0 _ marks.first);
+      last = subst (λ y. ByNumber (bit y) (λ t. t % slowdown == slowdown - 1) (steps x start run) no_clock) (sym wrapped.control.last) (seen m.last.0 _ marks.last);
+      wants = seen m.wants.0 _ marks.wants;
+      late = subst (λ y. ByNumber (bit y) (λ t. is_beat outputs (late_clock slowdown (latency % slowdown) (t % slowdown))) (steps x start run) no_clock) (sym wrapped.control.late) (seen m.late.0 _ marks.late);
+      behind = subst (λ y. ByNumber (bit y) (λ t. nat_lt (t % slowdown) (latency % slowdown)) (steps x start run) no_clock) (sym wrapped.control.behind) (seen m.behind.0 _ marks.behind);
+    }
+
+    driven : IsDriven x wrapped.control.gates wrapped.control.row own run start slowdown (latency / slowdown) (latency % slowdown) inputs outputs
+    driven = are_driven x wrapped.control.gates wrapped.control.row own (placed 2 m.wants.0) run start slowdown (latency / slowdown) (latency % slowdown) inputs outputs
+        (omega (arith, shows, any)) ins.first reset_there wired queued marked_run
+
+    streams_own : (p : ProgramTree) → CanBeFed n.cells p inputs → MakesBlocks n p slowdown latency inputs outputs → Streams own run start p slowdown inputs outputs
+    streams_own p fed makes = they_stream x wrapped.control.gates wrapped.control.row own n (inner_clock 2 (length n.cells)) run start slowdown (latency / slowdown) (latency % slowdown) p inputs outputs
+        some (mod_below latency slowdown some) ins (subst (AreWithin outputs slowdown) (sym shows) outs) one fed
+        (subst (λ k. MakesBlocks n p slowdown k inputs outputs) (sym (div-add-mod' latency slowdown)) makes) reset inside driven
+
+    stays_own : Stays own columns run start
+    stays_own = they_keep x wrapped.control.gates wrapped.control.row own run start slowdown (latency / slowdown) (latency % slowdown) inputs outputs driven refl
+
+  pub is_stream : IsStream n new slowdown latency inputs outputs
+  is_stream = record {
+    valid = wrapped.valid;
+    ready = wrapped.ready;
+    shown = wrapped.shown.long ∙ ap (λ o. 2 + length o) grows.outlets;
+    streams = λ p fed makes run start r reset. subst (λ e. Streams e run start p slowdown inputs outputs) own_is (streams_own run start r reset p fed makes);
+    stays = λ run start r reset. subst (λ e. Stays e columns run start) own_is (stays_own run start r reset);
+  }
+
+-- no more blocks than the latency has, and one
+pub wait_few : (latency slowdown last : ℕ) → 0 < slowdown → last < slowdown → (latency + last) / slowdown ≤ latency / slowdown + 1
+wait_few latency slowdown last some low =
+    omega (arith, div_below (latency + last) slowdown (latency / slowdown + 2) some (omega (arith, div-add-mod' latency slowdown, mod_below latency slowdown some, low)))
+
+pub blocks_few : (latency slowdown : ℕ) → 0 < slowdown → latency / slowdown ≤ latency
+blocks_few latency slowdown some = div-le_self latency slowdown

@@ -1,0 +1,184 @@
+-- A control behind a copy, the outputs, and the copy held.
+use Rattle.std.proofs.Common.{ℕ, zero, suc, ◌≡◌, ◌+◌, ◌*◌, ◌<◌, inl, inr, List, [], ◌∷◌, ◌++◌, length, length-append, Some, slice_get, arith, refl, sym, ap, ◌∙◌, subst}
+use Rattle.std.proofs.lemmas.List.{length-map}
+use Rattle.std.specs.Prelude.{◌⊎◌, ◌≢◌}
+use Rattle.std.proofs.lemmas.Bool.{cases_eq}
+use Rattle.std.proofs.lemmas.Option.{slice_get_within}
+use Rattle.ae_netlist.specs.declared.cell.NetId.{NetId}
+use Rattle.ae_netlist.specs.declared.cell.Outlet.{Outlet}
+use Rattle.ae_netlist.specs.declared.cell.Port.{Port}
+use Rattle.ae_netlist.specs.declared.cell.Port.TheVariants.{Plain}
+use Rattle.ae_netlist.specs.declared.cell.Cell.{Cell}
+use Rattle.ae_netlist.specs.declared.cell.Cell.TheVariants.{Input, Const, Op, Reg, Mem, Peek}
+use Rattle.ae_netlist.specs.declared.cell.SizedCell.{SizedCell}
+use Rattle.ae_netlist.specs.Circuit.{Circuit, Extends, HaveNets, IsNet, IsPlain, width_of}
+use Rattle.ae_netlist.proofs.Growing.{extends_length, net_later}
+use Rattle.ae_rewrite.specs.Blocks.{outlet_net}
+use Rattle.ae_stall.specs.Copies.{IsCopied, MayBeHeld, reset_cell}
+use Rattle.ae_stall.specs.Held.{IsHeld}
+use Rattle.ae_stall.specs.Images.{fresh, placed, placed_net}
+use Rattle.ae_streamed.specs.declared.driver.Controlled.{Controlled}
+use Rattle.ae_streamed.specs.declared.driver.Wires.{Wires}
+use Rattle.ae_streamed.specs.declared.marking.Marks.{Marks}
+use Rattle.ae_streamed.specs.Between.{AreMarkNets, AreShownBy, HasDriver, IsWrapped, copied_nets, wires_of}
+use Rattle.ae_streamed.specs.Cells.{IsLonger, KeepsFrom}
+use Rattle.ae_streamed.specs.Columns.{AreColumns}
+use Rattle.ae_streamed.specs.Controls.{AreWires, HasControlNets, IsControl, net}
+use Rattle.ae_streamed.proofs.Cells.{longer_trans, net_within}
+use Rattle.ae_streamed.proofs.Within.{of_mapped}
+use Rattle.ae_streamed.proofs.Queueing.{own_width}
+
+-- ---- a control and its queues go on to be what they are where their cells are kept
+
+control_kept : {from blocks : ℕ} {a b : List SizedCell} {w : Wires} {c : Controlled} → KeepsFrom from a b → IsControl from a w blocks c → IsControl from b w blocks c
+control_kept k h = record {
+  gates = h.gates;
+  row = h.row;
+  takes = h.takes;
+  here = h.here;
+  shows = h.shows;
+  reset = h.reset;
+  first = h.first;
+  last = h.last;
+  late = h.late;
+  behind = h.behind;
+  wired = λ made second ins outs in_columns columns all keeps. h.wired made second ins outs in_columns columns all (λ n sized l f. keeps n sized l (k n sized l f));
+  moves = λ all keeps. h.moves all (λ n sized l f. keeps n sized l (k n sized l f));
+}
+
+columns_kept : {from : ℕ} {a b : List SizedCell} {c : Controlled} {made : List NetId} → KeepsFrom from a b → AreColumns from a c made → AreColumns from b c made
+columns_kept {from = from} k h = record {
+  nets = λ q l. (let one = h.nets q l in (one.0, record { sized = one.1.sized; found = k (from + 4 * q) one.1.sized (omega arith) one.1.found; plain = one.1.plain; wide = one.1.wide }));
+  queued = λ w takes here shows in_columns ins all keeps. h.queued w takes here shows in_columns ins all (λ n sized l f. keeps n sized l (k n sized l f));
+}
+
+nets_later : {from : ℕ} {a b : List SizedCell} {c : Controlled} → Extends a b → HasControlNets from a c → HasControlNets from b c
+nets_later e h = record {
+  behind = h.behind;
+  enable = net_later e h.enable;
+  asks = net_later e h.asks;
+  one = net_later e h.one;
+  two = net_later e h.two;
+  moves = net_later e h.moves;
+}
+
+pub has_driver : (old one two new : Circuit) (m : Marks) (w : Wires) (blocks at : ℕ) (made : List NetId) (c : Controlled) → w ≡ wires_of m → IsLonger old one → IsControl (length old.cells) one.cells w blocks c
+    → HasControlNets (length old.cells) one.cells c → at ≡ length one.cells → IsLonger one two → AreColumns (length one.cells) two.cells c made
+    → new.cells ≡ two.cells → new.limit ≡ two.limit → AreShownBy c at (length made) new.outlets → HasDriver old new m blocks made c
+has_driver old one two new m w blocks at made c is first control nets here then_two columns cells limit shown =
+    let both : IsLonger old two = longer_trans first then_two in
+    record {
+      extends = subst (Extends old.cells) (sym cells) both.extends;
+      limit = limit ∙ both.limit;
+      control = subst (λ v. IsControl (length old.cells) new.cells v blocks c) is
+          (subst (λ v. IsControl (length old.cells) v w blocks c) (sym cells) (control_kept (λ n sized l f. then_two.extends.keeps n sized f) control));
+      nets = subst (λ v. HasControlNets (length old.cells) v c) (sym cells) (nets_later then_two.extends nets);
+      at = at;
+      behind = omega (arith, here, extends_length old.cells one.cells first.extends);
+      columns = subst (λ v. AreColumns v new.cells c made) (sym here) (subst (λ v. AreColumns (length one.cells) v c made) (sym cells) columns);
+      shown = shown;
+    }
+
+-- ---- outputs
+
+outlet_left : (outlets : List Outlet) (o : Outlet) (k : ℕ) → k < length outlets → outlet_net (outlets ++ o ∷ []) k ≡ outlet_net outlets k
+outlet_left [] o k l = absurd (omega arith)
+outlet_left (x ∷ outlets) o zero l = refl
+outlet_left (x ∷ outlets) o (suc k) l = outlet_left outlets o k (omega arith)
+
+outlet_last : (outlets : List Outlet) (o : Outlet) → outlet_net (outlets ++ o ∷ []) (length outlets) ≡ o.net.0
+outlet_last [] o = refl
+outlet_last (x ∷ outlets) o = outlet_last outlets o
+
+abbrev output : (number n : ℕ) → Outlet
+output number n = record { port = Plain number; net = net n }
+
+pub shown_none : (c : Controlled) (at : ℕ) (none one two : List Outlet) → none ≡ [] → one ≡ none ++ output 0 c.asks.0 ∷ [] → two ≡ one ++ output 1 c.one.0 ∷ [] → AreShownBy c at 0 two
+shown_none c at none one two en e1 e2 = rw (e2, e1, en) (record { long = refl; asks = refl; one = refl; columns = λ k l. absurd (omega arith) })
+
+pub shown_more : (c : Controlled) (at count number : ℕ) (before after : List Outlet) → AreShownBy c at count before → after ≡ before ++ output number (at + 4 * count) ∷ [] → AreShownBy c at (count + 1) after
+shown_more c at count number before after h e =
+    let o : Outlet = output number (at + 4 * count) in
+    rw e (record {
+      long = omega (arith, length-append before (o ∷ []), h.long);
+      asks = outlet_left before o 0 (omega (arith, h.long)) ∙ h.asks;
+      one = outlet_left before o 1 (omega (arith, h.long)) ∙ h.one;
+      columns = λ k l. column k l (cases_eq k count);
+    })
+  where
+    column : (k : ℕ) → k < count + 1 → (k ≡ count) ⊎ (k ≢ count) → outlet_net (before ++ output number (at + 4 * count) ∷ []) (2 + k) ≡ at + 4 * k
+    column k l (inl same) =
+        let o : Outlet = output number (at + 4 * count) in
+        let far : 2 + k ≡ length before = omega (arith, h.long, same) in
+        ap (outlet_net (before ++ o ∷ [])) far ∙ (outlet_last before o ∙ ap (λ v. at + 4 * v) (sym same))
+    column k l (inr apart) = outlet_left before (output number (at + 4 * count)) (2 + k) (omega (arith, h.long, apart)) ∙ h.columns k (omega (arith, apart))
+
+-- ---- the copy
+
+abbrev ports : List Port
+ports = Plain 0 ∷ Plain 1 ∷ []
+
+fresh_plain : (more own : ℕ) (cell : Cell) → IsPlain cell → IsPlain (fresh more own cell)
+fresh_plain more own (Input port) h = tt
+fresh_plain more own (Const k) h = tt
+fresh_plain more own (Op op args) h = tt
+fresh_plain more own (Reg next) h = tt
+fresh_plain more own (Mem depth at next enable) h = h
+fresh_plain more own (Peek mem at) h = tt
+
+pub copied_net : {old new : List SizedCell} {n w : ℕ} → IsCopied ports old new (length old) → IsNet old n w → IsNet new (placed 2 n) w
+copied_net {n = n} c h = record {
+  sized = record { width = h.sized.width; cell = fresh 2 n h.sized.cell };
+  found = (c.each n h.sized (net_within h) h.found).there;
+  plain = fresh_plain 2 n h.sized.cell h.plain;
+  wide = h.wide;
+}
+
+pub copied_wires : (old new : List SizedCell) (m : Marks) → slice_get old 0 ≡ Some reset_cell → AreMarkNets old m → IsCopied ports old new (length old) → AreWires new (wires_of m)
+copied_wires old new m reset marks c = record {
+  reset = copied_net c (record { sized = reset_cell; found = reset; plain = tt; wide = refl });
+  valid = record { sized = _; found = c.inputs 0 (Plain 0) refl; plain = tt; wide = refl };
+  ready = record { sized = _; found = c.inputs 1 (Plain 1) refl; plain = tt; wide = refl };
+  first = copied_net c marks.first;
+  last = copied_net c marks.last;
+  wants = copied_net c marks.wants;
+  late = copied_net c marks.late;
+  behind = copied_net c marks.behind;
+}
+
+-- the nets of the outputs stand in the copy
+pub made_nets : (old new : List SizedCell) (outlets : List Outlet) (made : List NetId) → made ≡ copied_nets outlets → HaveNets old outlets → IsCopied ports old new (length old)
+    → (k : ℕ) (n : NetId) → slice_get made k ≡ Some n → IsNet new n.0 (width_of new n.0)
+made_nets old new outlets made is have c k n found =
+    let o = of_mapped (λ (o : Outlet). placed_net 2 o.net) outlets k n (ap (λ v. slice_get v k) (sym is) ∙ found) in
+    subst (λ (v : NetId). IsNet new v.0 (width_of new v.0)) o.2 (own_width (copied_net c (have.each k o.0 o.1)))
+
+pub may_be_held : (old copied driven : Circuit) (m : Marks) (blocks : ℕ) (made : List NetId) (c : Controlled) → slice_get old.cells 0 ≡ Some reset_cell → IsCopied ports old.cells copied.cells (length old.cells)
+    → HasDriver copied driven m blocks made c → MayBeHeld 2 c.enable.0 old.cells driven.cells
+may_be_held old copied driven m blocks made c reset h d = record {
+  some = h.some;
+  many = omega (arith, h.long, extends_length copied.cells driven.cells d.extends);
+  apart = inr (omega (arith, h.long, d.nets.behind));
+  bit = d.nets.enable;
+  each = λ n sized found. record { there = d.extends.keeps (placed 2 n) _ (h.each n sized (slice_get_within old.cells n sized found) found).there };
+}
+
+pub is_wrapped : (marked copied driven new : Circuit) (m : Marks) (blocks : ℕ) (made : List NetId) (c : Controlled) → made ≡ copied_nets marked.outlets → IsCopied ports marked.cells copied.cells (length marked.cells)
+    → HasDriver copied driven m blocks made c → IsHeld 2 c.enable.0 marked driven new → IsWrapped marked new m blocks
+is_wrapped marked copied driven new m blocks made c is h d held =
+    let size : length copied.cells ≡ length marked.cells + 2 = h.long in
+    let keeps : KeepsFrom (length marked.cells + 2) driven.cells new.cells = λ n sized l f. held.keeps n sized (inr l) f in
+    let later : KeepsFrom d.at driven.cells new.cells = λ n sized l f. held.keeps n sized (inr (omega (arith, size, d.behind, l))) f in
+    let many : length made ≡ length marked.outlets = ap length is ∙ length-map marked.outlets (λ (o : Outlet). placed_net 2 o.net) in
+    record {
+      by = c;
+      copied = driven;
+      held = held;
+      longer = omega (arith, size, extends_length copied.cells driven.cells d.extends);
+      valid = held.keeps 1 _ (inl (omega arith, omega arith)) (d.extends.keeps 1 _ (h.inputs 0 (Plain 0) refl));
+      ready = held.keeps 2 _ (inl (omega arith, omega arith)) (d.extends.keeps 2 _ (h.inputs 1 (Plain 1) refl));
+      control = control_kept keeps (subst (λ v. IsControl v driven.cells (wires_of m) blocks c) size d.control);
+      at = d.at;
+      columns = columns_kept later (subst (AreColumns d.at driven.cells c) is d.columns);
+      shown = subst (λ v. AreShownBy c d.at v new.outlets) many (subst (AreShownBy c d.at (length made)) (sym held.outlets) d.shown);
+    }

@@ -1,0 +1,39 @@
+-- The bit of a layout, by its form.
+use Rattle.std.proofs.Common.{◌≡◌, true, ◌<◌, ap, arith, subst}
+use Rattle.ae_sttype.specs.StTree.{st_depth, st_tree, sseq, time, tseq}
+use Rattle.ae_sttype.proofs.Bounds.{part_of_sseq, part_of_tseq}
+use Rattle.ae_streamed.proofs.Bits.{atom_told, bit_later, constant_bit, in_sseq_gained, in_tseq_gained, times}
+use Rattle.ae_streamed.proofs.layouts.+slot_beat.Goals as goal
+
+pub returns-in_ok-y-in-Atom : goal.returns-in_ok-y-in-Atom
+returns-in_ok-y-in-Atom t c =
+    constant_bit c.args.nl.now c.constant.new.nl c.args.clocks.now c.in_ok-y-in-Atom.y.0 true _ c.requires.belongs c.in_ok-y-in-Atom.ensures.adds.grows c.in_ok-y-in-Atom.ensures.net c.in_ok-y-in-Atom.ensures.words
+    (λ k. atom_told (st_tree c.args.layout.now) _ c.args.offset k (ap st_tree c.in-Atom.is))
+
+pub slot_beat-requires : goal.slot_beat-requires
+slot_beat-requires t c =
+    let is : st_tree c.args.layout.now ≡ tseq c.in-T.n c.in-T.i (st_tree c.deref-of.result.now) = cc (ap st_tree c.in-T.is) in
+    let size = part_of_tseq (st_tree c.args.layout.now) (st_tree c.deref-of.result.now) c.in-T.n c.in-T.i is c.requires.in_size in
+    let at = times (st_tree c.args.layout.now) (st_tree c.deref-of.result.now) c.in-T.n c.in-T.i c.time-span.result c.args.offset is c.time-span.ensures c.requires.in_size c.requires.low in
+    (omega (arith, ap st_depth is), (c.requires.belongs, (size, at.rest)))
+
+pub slot_beat-requires-in-S : goal.slot_beat-requires-in-S
+slot_beat-requires-in-S t c =
+    let is : st_tree c.args.layout.now ≡ sseq c.in-S.n (st_tree c.deref-of-in-S.result.now) = cc (ap st_tree c.in-S.is) in
+    let size = part_of_sseq (st_tree c.args.layout.now) (st_tree c.deref-of-in-S.result.now) c.in-S.n is c.requires.in_size in
+    (omega (arith, ap st_depth is), (c.requires.belongs, (size, subst (λ v. c.args.offset < time v) is c.requires.low)))
+
+pub both-requires-clause-right : goal.both-requires-clause-right
+both-requires-clause-right t c = (bit_later c.in_ok-here-in-T.ensures.grows c.in_ok-inner-in-T.ensures.told).net
+
+pub returns-in_ok-y-in-T : goal.returns-in_ok-y-in-T
+returns-in_ok-y-in-T t c =
+    let is : st_tree c.args.layout.now ≡ tseq c.in-T.n c.in-T.i (st_tree c.deref-of.result.now) = cc (ap st_tree c.in-T.is) in
+    in_tseq_gained c.args.nl.now c.slot_beat.new.nl c.period_bit.new.nl c.both.new.nl c.args.clocks.now c.slot_beat.new.clocks c.period_bit.new.clocks c.in_ok-inner-in-T.inner.0 c.in_ok-here-in-T.here.0 c.in_ok-y-in-T.y.0 c.args.offset
+    c.in_ok-y-in-T.ensures.grows c.in_ok-y-in-T.ensures.told (st_tree c.args.layout.now) (st_tree c.deref-of.result.now) c.in-T.n c.in-T.i c.time-span.result is c.time-span.ensures c.requires.in_size.lengths c.requires.low
+    c.in_ok-inner-in-T.ensures c.in_ok-here-in-T.ensures
+
+pub returns-in_ok-y-in-S : goal.returns-in_ok-y-in-S
+returns-in_ok-y-in-S t c =
+    in_sseq_gained c.args.nl.now c.slot_beat-in-S.new.nl c.args.clocks.now c.slot_beat-in-S.new.clocks c.in_ok-y-in-S.y.0 c.args.offset (st_tree c.args.layout.now) (st_tree c.deref-of-in-S.result.now) c.in-S.n (cc (ap st_tree c.in-S.is)) c.requires.in_size.lengths
+    c.in_ok-y-in-S.ensures

@@ -1,0 +1,12 @@
+-- The gate of two bits.
+use Rattle.ae_clocked.proofs.Added.{or_operation}
+use Rattle.ae_streamed.proofs.Bits.{or_bit}
+use Rattle.ae_netlist.specs.Circuit.{width_of}
+use Rattle.ae_streamed.proofs.layouts.either.Goals as goal
+
+pub operate-requires-clause-operands : goal.operate-requires-clause-operands
+operate-requires-clause-operands c = or_operation c.args.nl.now.cells c.args.a c.args.b 1 c.requires.left c.requires.right
+
+pub returns-clause-told : goal.returns-clause-told
+returns-clause-told c = λ rst f g p q.
+    or_bit c.args.nl.now c.operate.new.nl rst c.args.a.0 c.args.b.0 c.in_ok-y.y.0 (width_of c.args.nl.now.cells c.args.a.0) f g c.in_ok-y.ensures.adds.grows c.in_ok-y.ensures.net c.in_ok-y.ensures.words p q

@@ -1,0 +1,57 @@
+// The bits that mark the clocks of a circuit.
+
+ghost use Rattle.std.specs.Prelude.{◌≡◌, ◌%◌, ◌≤◌, IfOk, OnOk, map};
+ghost use Rattle.ae_sttype.specs.StTree.{st_tree};
+ghost use Rattle.ae_netlist.specs.Circuit.{IsNet};
+ghost use Rattle.ae_clocked.specs.Signals.{Grows};
+ghost use Rattle.ae_streamed.specs.Beats.{AreLayouts, HasMarks};
+
+use crate::layouts::{beat, period_bit};
+use ae_clocked::Clocks;
+use ae_netlist::{NetFault, NetId, Netlist};
+use ae_sttype::StType;
+use std::alloc::Global;
+
+/// The bits that mark the clocks of a circuit: the first and the last clock of a block; that elements of the parameters stand
+/// in a clock of a block, and that elements of the results do, as late as the latency says; that these are of the block before.
+#[derive(Clone, Copy)]
+pub struct Marks {
+    pub first: NetId,
+    pub last: NetId,
+    pub wants: NetId,
+    pub late: NetId,
+    pub behind: NetId,
+}
+
+/// Adds the marks of a circuit, whose reset is cell 0, by counters of their own.
+pub fn add_marks(
+    alloc: Global,
+    nl: &mut Netlist,
+    inputs: &[StType],
+    outputs: &[StType],
+    slowdown: u32,
+    latency: u32,
+) -> Result<Marks, NetFault>
+    requires reset { IsNet nl.old.cells 0 1 }
+    requires some { 1 ≤ slowdown }
+    requires most { slowdown ≤ 4096 }
+    requires inputs { AreLayouts slowdown inputs.now }
+    requires outputs { AreLayouts slowdown outputs.now }
+    ensures grows { OnOk result (Grows nl.old nl.new) }
+    ensures marks { IfOk result (λ m. HasMarks nl.new.cells m slowdown (latency % slowdown) (map st_tree inputs.now) (map st_tree outputs.now)) }
+{
+    let mut clocks = Clocks::new(alloc, NetId(0));
+    let rest = latency % slowdown;
+    let first = period_bit(nl, &mut clocks, slowdown, 0, 1)?;
+    let last = period_bit(nl, &mut clocks, slowdown, slowdown - 1, 1)?;
+    let wants = beat(nl, &mut clocks, inputs, slowdown, 0)?;
+    let late = beat(nl, &mut clocks, outputs, slowdown, rest)?;
+    let behind = period_bit(nl, &mut clocks, slowdown, 0, rest)?;
+    Ok(Marks {
+        first,
+        last,
+        wants,
+        late,
+        behind,
+    })
+}

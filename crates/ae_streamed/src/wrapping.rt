@@ -1,0 +1,202 @@
+// A marked circuit between two channels: a copy of it, the control and the queues around it, and the outputs.
+
+ghost use Rattle.std.specs.Prelude.{◌≡◌, ◌+◌, ◌*◌, ◌<◌, ◌≤◌, ◌++◌, ◌∷◌, [], OnOk, IfOk, ℕ, Some, length, map, slice_get};
+ghost use Rattle.ae_netlist.specs.declared.cell.Port.TheVariants.{Plain};
+ghost use Rattle.ae_netlist.specs.Circuit.{HaveNets, IsNet, width_of};
+ghost use Rattle.ae_stall.specs.Copies.{IsCopied, MayBeHeld, reset_cell};
+ghost use Rattle.ae_stall.specs.Held.{IsHeld};
+ghost use Rattle.ae_stall.specs.Images.{placed_net};
+ghost use Rattle.ae_streamed.specs.Between.{AreMarkNets, AreShownBy, HasDriver, IsWrapped, copied_nets, wires_of};
+ghost use Rattle.ae_streamed.specs.Controls.{AreWires};
+
+use crate::driver::{Controlled, Wires, control};
+use crate::marking::Marks;
+use crate::queues::columns;
+use ae_netlist::{NetFault, NetId, Netlist, Outlet, Port};
+use ae_stall::{HoldBy, copy_with, hold_copy};
+use std::alloc::Global;
+
+/// The most cells of a circuit between two channels.
+const LIMIT: u32 = 4000000;
+
+/// Where the copy has a net.
+fn placed(nl: &Netlist, net: NetId) -> NetId
+    requires there { net.0 < length nl.now.cells }
+    requires most { length nl.now.cells ≤ 1000000 }
+    ensures { result ≡ placed_net 2 net }
+{
+    if net.0 == 0 {
+        return net;
+    }
+    let _cells = nl.len();
+    NetId(net.0 + 2)
+}
+
+/// What the control reads.
+fn placed_wires(nl: &Netlist, m: Marks) -> Wires
+    requires most { length nl.now.cells ≤ 1000000 }
+    requires marks { AreMarkNets nl.now.cells m }
+    ensures { result ≡ wires_of m }
+{
+    let first = placed(nl, m.first);
+    let last = placed(nl, m.last);
+    let wants = placed(nl, m.wants);
+    let late = placed(nl, m.late);
+    let behind = placed(nl, m.behind);
+    Wires {
+        reset: NetId(0),
+        valid: NetId(1),
+        ready: NetId(2),
+        first,
+        last,
+        wants,
+        late,
+        behind,
+    }
+}
+
+/// The copy of a netlist, with two more inputs.
+fn copied(alloc: Global, nl: &Netlist) -> Result<Netlist, NetFault>
+    requires reset { slice_get nl.now.cells 0 ≡ Some reset_cell }
+    requires most { length nl.now.cells ≤ 1000000 }
+    ensures limit { IfOk result (λ new. new.limit ≡ 4000000) }
+    ensures copied { IfOk result (λ new. IsCopied (Plain 0 ∷ Plain 1 ∷ []) nl.now.cells new.cells (length nl.now.cells)) }
+    ensures none { IfOk result (λ new. new.outlets ≡ []) }
+{
+    let ports = [Port::Plain(0), Port::Plain(1)];
+    match copy_with(alloc, nl, &ports, LIMIT) {
+        Ok(new) => Ok(new),
+        Err(_) => Err(NetFault::Memory),
+    }
+}
+
+fn keep(nets: &mut Vec<NetId>, net: NetId) -> Result<(), NetFault>
+    ensures { OnOk result (nets.new.items ≡ nets.old.items ++ net ∷ []) }
+{
+    match nets.push(net) {
+        Ok(()) => Ok(()),
+        Err(_) => Err(NetFault::Memory),
+    }
+}
+
+fn outlet_at(nl: &Netlist, k: u32) -> Outlet
+    requires { k < length nl.now.outlets }
+    ensures { slice_get nl.now.outlets k ≡ Some result }
+{
+    nl.outlets()[k as usize]
+}
+
+/// Where the copy has the nets of the outputs.
+fn outlet_nets(alloc: Global, nl: &Netlist) -> Result<Vec<NetId>, NetFault>
+    requires most { length nl.now.cells ≤ 1000000 }
+    ensures { IfOk result (λ nets. nets.items ≡ copied_nets nl.now.outlets) }
+{
+    nl.formed();
+    let mut nets = Vec::new(alloc);
+    for k in 0..nl.outputs() {
+        let outlet = outlet_at(nl, k);
+        let net = placed(nl, outlet.net);
+        keep(&mut nets, net)?;
+    }
+    Ok(nets)
+}
+
+/// Adds an output, by its number.
+fn show(new: &mut Netlist, number: u32, net: NetId) -> Result<(), NetFault>
+    requires net { IsNet new.old.cells net.0 (width_of new.old.cells net.0) }
+    requires room { length new.old.outlets < 4294967295 }
+    ensures { OnOk result (new.new ≡ record new.old { outlets = new.old.outlets ++ (record { port = Plain number; net = net }) ∷ [] }) }
+{
+    match new.add_output(Port::Plain(number), net) {
+        Ok(()) => Ok(()),
+        Err(_) => Err(NetFault::Memory),
+    }
+}
+
+/// Adds the outputs: that the source is asked, that words stand at the sink, and the words of so many queues.
+fn show_all(new: &mut Netlist, c: Controlled, at: u32, count: u32) -> Result<(), NetFault>
+    requires none { new.old.outlets ≡ [] }
+    requires asks { IsNet new.old.cells c.asks.0 1 }
+    requires one { IsNet new.old.cells c.one.0 1 }
+    requires nets { (k : ℕ) → k < count → IsNet new.old.cells (at + 4 * k) (width_of new.old.cells (at + 4 * k)) }
+    requires few { count ≤ 1000000000 }
+    ensures cells { OnOk result (new.new.cells ≡ new.old.cells) }
+    ensures limit { OnOk result (new.new.limit ≡ new.old.limit) }
+    ensures shown { OnOk result (AreShownBy c at count new.new.outlets) }
+{
+    let _cells = new.len();
+    show(new, 0, c.asks)?;
+    show(new, 1, c.one)?;
+    for k in 0..count {
+        show(new, 2 + k, NetId(at + 4 * k))?;
+    }
+    Ok(())
+}
+
+/// Adds the control of a copied circuit, a queue for each of these nets, and the outputs.
+fn drive(
+    new: &mut Netlist,
+    w: Wires,
+    blocks: u32,
+    wait: u32,
+    made: &[NetId],
+) -> Result<Controlled, NetFault>
+    requires marks { (m : Marks) × (w ≡ wires_of m) }
+    requires few { blocks ≤ 1000000 }
+    requires waits { wait ≤ blocks + 1 }
+    requires limit { new.old.limit ≡ 4000000 }
+    requires none { new.old.outlets ≡ [] }
+    requires wires { AreWires new.old.cells w }
+    requires nets { (k : ℕ) (net : NetId) → slice_get made.now k ≡ Some net → IsNet new.old.cells net.0 (width_of new.old.cells net.0) }
+    requires columns { length made.now ≤ 1000000000 }
+    ensures { IfOk result (λ c. (m : Marks) → w ≡ wires_of m → HasDriver new.old new.new m blocks made.now c) }
+{
+    let c = control(new, w, blocks, wait)?;
+    let at = new.len();
+    columns(new, c, made)?;
+    show_all(new, c, at, made.len() as u32)?;
+    Ok(c)
+}
+
+/// Holds the copy of a netlist.
+fn hold(nl: &Netlist, by: NetId, new: &mut Netlist) -> Result<(), NetFault>
+    requires reset { slice_get nl.now.cells 0 ≡ Some reset_cell }
+    requires most { length nl.now.cells ≤ 1000000 }
+    requires may { MayBeHeld 2 by.0 nl.now.cells new.old.cells }
+    requires room { length new.old.cells + length nl.now.cells ≤ new.old.limit + 1 }
+    ensures { OnOk result (IsHeld 2 by.0 nl.now new.old new.new) }
+{
+    match hold_copy(nl, HoldBy { more: 2, by }, new) {
+        Ok(()) => Ok(()),
+        Err(_) => Err(NetFault::Memory),
+    }
+}
+
+/// A marked circuit with a control around it, whose latency is so many blocks and some clocks; as long as one of the first `wait`
+/// blocks before the one at the inputs is real it steps on. `Full` comes only where 4,000,000 cells do not suffice.
+pub fn wrap(
+    alloc: Global,
+    nl: &Netlist,
+    m: Marks,
+    blocks: u32,
+    wait: u32,
+) -> Result<Netlist, NetFault>
+    requires reset { slice_get nl.now.cells 0 ≡ Some reset_cell }
+    requires most { length nl.now.cells ≤ 1000000 }
+    requires outlets { length nl.now.outlets ≤ 1000000000 }
+    requires marks { AreMarkNets nl.now.cells m }
+    requires few { blocks ≤ 1000000 }
+    requires waits { wait ≤ blocks + 1 }
+    ensures { IfOk result (λ new. IsWrapped nl.now new m blocks) }
+{
+    nl.formed();
+    let mut new = copied(alloc, nl)?;
+    let w = placed_wires(nl, m);
+    let made = outlet_nets(alloc, nl)?;
+    let c = drive(&mut new, w, blocks, wait, &made)?;
+    if new.len() > LIMIT - nl.len() {
+        return Err(NetFault::Full);
+    }
+    hold(nl, c.enable, &mut new)?;
+    Ok(new)
+}
