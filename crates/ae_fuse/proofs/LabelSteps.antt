@@ -1,14 +1,13 @@
 -- The labels of a node, by those of its arguments.
-use Rattle.std.proofs.Common.{◌≡◌, ℕ, zero, suc, ◌+◌, ◌-◌, ◌*◌, ◌/◌, ◌%◌, ◌<◌, ◌≤◌, Bool, true, false, inl, inr, cond, nat_lt, List, [], ◌∷◌, ◌++◌, length, take, drop, map, Some, slice_get, slice_index, refl, arith, sym, ap, ◌∙◌, subst, append_assoc, length-append, length-drop, if◌then◌else◌}
+use Rattle.std.proofs.Common.{◌≡◌, ℕ, ◌+◌, ◌-◌, ◌*◌, ◌/◌, ◌%◌, ◌<◌, ◌≤◌, Bool, true, false, inl, inr, cond, nat_lt, List, [], ◌∷◌, ◌++◌, length, take, drop, map, Some, slice_get, slice_index, refl, arith, sym, ap, ◌∙◌, subst, append_assoc, length-append, if◌then◌else◌}
 use Rattle.std.specs.Prelude.{flat_map}
 use Rattle.std.specs.List.{range_with_len}
 use Rattle.std.proofs.Math.Nat.{mul-le-mul_right}
 use Rattle.std.proofs.lemmas.Bool.{cases_lt, le-ltb}
 use Rattle.std.proofs.lemmas.Nat.{div-add-mod', mod-mul-add, mod_below, mul-add-lt}
 use Rattle.std.proofs.lemmas.Grind.{flat_map-append}
-use Rattle.std.proofs.lemmas.List.{append-nil, length-map, length-take-le}
+use Rattle.std.proofs.lemmas.List.{append-nil}
 use Rattle.std.proofs.lemmas.List.Concat.{flat_map-cons}
-use Rattle.std.proofs.lemmas.List.FromFn.{length-map-range_with_len}
 use Rattle.std.proofs.lemmas.Option.{same_Some}
 use Rattle.ae_word.specs.AtomTree.{atom_kinds, atom_words}
 use Rattle.ae_word.proofs.Sizes.{length-atom_kinds}
@@ -24,9 +23,9 @@ use Rattle.ae_rewrite.specs.Sound.{item_layout, item_layouts}
 use Rattle.ae_rewrite.specs.StProgramTree.{StOpTree, StNodeTree, StFuncTree, join, first, second, move}
 use Rattle.ae_delay.specs.Moving.{op_move, origin_from, origin_number}
 use Rattle.ae_gather.specs.Gathers.{origin_word}
-use Rattle.ae_flow.specs.Flow.{layout_words, node_words, op_words, parts, words_at}
+use Rattle.ae_flow.specs.Flow.{node_words, op_words, parts, words_at}
 use Rattle.ae_flow.specs.Fitted.{FitsFirst, FitsMove, FitsOp, FitsPair, FitsSecond}
-use Rattle.ae_fuse.specs.Labels.{IsReady, is_moving, label_from}
+use Rattle.ae_fuse.specs.Labels.{IsReady, label_from}
 use Rattle.ae_fuse.proofs.NumberSteps.{range-push}
 
 -- ---- moves
@@ -189,75 +188,3 @@ pub part-words : (layouts : List StTree) (labels : List (List ℕ)) (n : StNodeT
     → node_words [] layouts labels n ≡ parts (st_atoms n.type) (element_words (item_layout layouts a)) (if is_first then 0 else element_words (item_layout layouts a) - element_words n.type) (element_words n.type) (words_at labels a)
 part-words layouts labels n true a op args = λ i. op_words [] (map (item_layout layouts) (args i)) n.type (op i) (map (words_at labels) (args i))
 part-words layouts labels n false a op args = λ i. op_words [] (map (item_layout layouts) (args i)) n.type (op i) (map (words_at labels) (args i))
-
--- ---- as many labels as words
-
-length-paired : (n k l : ℕ) (us vs : List ℕ) → length us ≡ n * k → length vs ≡ n * l → length (paired n k l us vs) ≡ n * (k + l)
-length-paired zero k l us vs h g = omega arith
-length-paired (suc n) k l us vs h g =
-    let a : length (take k us) ≡ k = length-take-le k us (omega arith) in
-    let b : length (take l vs) ≡ l = length-take-le l vs (omega arith) in
-    let rest = length-paired n k l (drop k us) (drop l vs) (omega (arith, length-drop k us)) (omega (arith, length-drop l vs)) in
-    omega (arith, length-append (take k us ++ take l vs) (paired n k l (drop k us) (drop l vs)), length-append (take k us) (take l vs), a, b, rest)
-
-length-pieces : (f : ℕ → List ℕ) (l a n : ℕ) → ((e : ℕ) → e < a + n → length (f e) ≡ l) → length (flat_map f (range_with_len a n)) ≡ n * l
-length-pieces f l a zero each = omega arith
-length-pieces f l a (suc n) each =
-    let one : length (f a) ≡ l = each a (omega arith) in
-    let rest = length-pieces f l (a + 1) n (λ e h. each e (omega (arith, h))) in
-    ap length (flat_map-cons f a (range_with_len (a + 1) n)) ∙ omega (arith, length-append (f a) (flat_map f (range_with_len (a + 1) n)), one, rest)
-
-length-parts : (n k o l : ℕ) (ws : List ℕ) → length ws ≡ n * k → o + l ≤ k → length (parts n k o l ws) ≡ n * l
-length-parts n k o l ws long room =
-    length-pieces (λ e. take l (drop (e * k + o) ws)) l 0 n (λ e low.
-    let ends = piece-ends e n k o l (omega (arith, low)) room in
-    length-take-le l (drop (e * k + o) ws) (omega (arith, ends, long, length-drop (e * k + o) ws)))
-
-module _ (s : StFuncTree) (n : StNodeTree) (labels : List (List ℕ)) (h : IsReady s n labels) where
-  abbrev layouts : List StTree
-  layouts = item_layouts s
-
-  long-at : (a : ℕ) → a < length labels → length (words_at labels a) ≡ st_atoms (item_layout layouts a) * element_words (item_layout layouts a)
-  long-at a low = h.long a low
-
-  long-move : (how : MoveOp) → n.op ≡ move how → (a : ℕ) → slice_get n.args 0 ≡ Some a → length (node_words [] layouts labels n) ≡ layout_words n.type
-  long-move how is a at =
-      let one = (ready-move s n labels h how is).only a at in
-      ap length (move-words layouts labels n how a is one.0)
-      ∙ length-map (op_move how (item_layout layouts a) n.type).origins (origin_word (item_layout layouts a ∷ []) (words_at labels a ∷ []))
-      ∙ length-map-range_with_len (origin_number how (item_layout layouts a) n.type) 0 (st_atoms n.type * element_words n.type)
-
-  long-part : (b : Bool) → n.op ≡ (if b then first else second) → (a : ℕ) → slice_get n.args 0 ≡ Some a → length (node_words [] layouts labels n) ≡ layout_words n.type
-  long-part b is a at =
-      let one = (ready-part s n labels h b is).only a at in
-      let low = h.args 0 a at in
-      let l : StTree = item_layout layouts a in
-      let long : length (words_at labels a) ≡ st_atoms n.type * element_words l = long-at a low ∙ ap (λ m. m * element_words l) one.1.0 in
-      let room : (if b then 0 else element_words l - element_words n.type) + element_words n.type ≤ element_words l =
-      elim b as (λ v. (if v then 0 else element_words l - element_words n.type) + element_words n.type ≤ element_words l) [ true ↦ omega (arith, one.1.1) | false ↦ omega (arith, one.1.1) ] in
-      ap length (part-words layouts labels n b a is one.0) ∙ length-parts (st_atoms n.type) (element_words l) (if b then 0 else element_words l - element_words n.type) (element_words n.type) (words_at labels a) long room
-
-  long-pair : n.op ≡ join → (a b : ℕ) → slice_get n.args 0 ≡ Some a → slice_get n.args 1 ≡ Some b → length (node_words [] layouts labels n) ≡ layout_words n.type
-  long-pair is a b at to =
-      let two = (ready-pair s n labels h is).only a b at to in
-      let z = pair-sizes _ _ _ two.1 in
-      let l : StTree = item_layout layouts a in
-      let m : StTree = item_layout layouts b in
-      let us : length (words_at labels a) ≡ st_atoms n.type * element_words l = long-at a (h.args 0 a at) ∙ ap (λ x. x * element_words l) z.0 in
-      let vs : length (words_at labels b) ≡ st_atoms n.type * element_words m = long-at b (h.args 1 b to) ∙ ap (λ x. x * element_words m) z.1 in
-      ap length (pair-words layouts labels n a b is two.0) ∙ length-paired (st_atoms n.type) (element_words l) (element_words m) (words_at labels a) (words_at labels b) us vs ∙ ap (λ x. st_atoms n.type * x) (sym z.2)
-
-  head-of : (xs : List ℕ) (k : ℕ) → k < length xs → (a : ℕ) × (slice_get xs k ≡ Some a)
-  head-of [] k low = absurd (omega arith)
-  head-of (x ∷ xs) zero low = (x, refl)
-  head-of (x ∷ xs) (suc k) low = head-of xs k (omega arith)
-
-  long-of : (op : StOpTree) → is_moving op ≡ true → n.op ≡ op → length (node_words [] layouts labels n) ≡ layout_words n.type
-  long-of join moves is = (let two = ready-pair s n labels h is in let a = head-of n.args 0 (omega (arith, two.some)) in let b = head-of n.args 1 (omega (arith, two.some)) in long-pair is a.0 b.0 a.1 b.1)
-  long-of first moves is = (let one = ready-part s n labels h true is in let a = head-of n.args 0 (omega (arith, one.some)) in long-part true is a.0 a.1)
-  long-of second moves is = (let one = ready-part s n labels h false is in let a = head-of n.args 0 (omega (arith, one.some)) in long-part false is a.0 a.1)
-  long-of (move how) moves is = (let one = ready-move s n labels h how is in let a = head-of n.args 0 (omega (arith, one.some)) in long-move how is a.0 a.1)
-  long-of _ moves is = absurd (cc)
-
-  pub node-long : is_moving n.op ≡ true → length (node_words [] (item_layouts s) labels n) ≡ layout_words n.type
-  node-long moves = long-of n.op moves refl

@@ -13,6 +13,7 @@ use Rattle.ae_clocked.specs.Signals.{Grows}
 use Rattle.ae_clocked.proofs.Adding.{grows_trans}
 use Rattle.ae_ops.specs.Waves.{AreLate, AreNets, wave_of}
 use Rattle.ae_ops.specs.Blocks.{BlockLaw, KeepsLaw, stream_of, stream_widths}
+use Rattle.ae_moves.specs.Rings.{rings}
 use Rattle.ae_moves.specs.Origins.{IsMove, Move, move_latency}
 use Rattle.ae_moves.proofs.Lists.{sum_next}
 use Rattle.ae_gather.specs.Gathers.{gather_part, origin_word}
@@ -40,9 +41,14 @@ result_grows old mid new m whole nets late there grows few more =
     let delay : (whole - move_latency m) * length nets ≡ (whole - move_latency m) * columns_of m.out = ap (λ n. (whole - move_latency m) * n) long in
     record { grows = grows_trans grows more.grows; cells = (let c = more.cells in omega (arith, few, c, delay)) }
 
-pub result_adds : (old mid new : Circuit) (m : Move) (whole : ℕ) → count_of is_mul mid.cells ≡ count_of is_mul old.cells + 0 → count_of is_memory mid.cells ≤ count_of is_memory old.cells + (gather_part m).most_memories → (AreWhole old.cells → AreWhole mid.cells)
-    → Adds mid new 0 0 → Adds old new 0 (result_mems whole m)
-result_adds old mid new m whole muls memories sound more = record { muls = omega (arith, muls, more.muls); memories = omega (arith, memories, more.memories); whole = λ h. more.whole (sound h) }
+pub part_small : (m : Move) (whole : ℕ) → (gather_part m).most_cells ≤ 16 * result_load whole m
+part_small m whole = omega arith
+
+pub result_adds : (old mid new : Circuit) (m : Move) (whole : ℕ) (nets : List NetId) → AreNets mid.cells (stream_widths (stream_of m.out)) nets → count_of is_mul mid.cells ≡ count_of is_mul old.cells + 0 → count_of is_memory mid.cells ≤ count_of is_memory old.cells + (gather_part m).most_memories → (AreWhole old.cells → AreWhole mid.cells)
+    → Adds mid new 0 (length nets * rings (whole - move_latency m)) → Adds old new 0 (result_mems whole m)
+result_adds old mid new m whole nets there muls memories sound more =
+    let delay : length nets * rings (whole - move_latency m) ≡ columns_of m.out * rings (whole - move_latency m) = ap (λ n. n * rings (whole - move_latency m)) (columns_long mid.cells m.out nets there) in
+    record { muls = omega (arith, muls, more.muls); memories = omega (arith, memories, more.memories, delay); whole = λ h. more.whole (sound h) }
 
 -- the law of the move, so much later
 pub result_late : (mid new : Circuit) (rst then_rst : ℕ) (m : Move) (whole : ℕ) (args : List (List NetId)) (nets late : List NetId) → IsMove m → move_latency m ≤ whole → then_rst ≡ rst → Extends mid.cells new.cells

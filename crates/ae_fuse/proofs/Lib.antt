@@ -15,6 +15,8 @@ pub mod CostSteps
 pub mod Schedule
 pub mod ResultSteps
 pub mod WholeSteps
+pub mod WantedSteps
+pub mod NodeSteps
 pub mod Certifying
 pub mod Fusing
 pub mod Making

@@ -121,10 +121,11 @@ module _ (p : ProgramTree) (slowdown : ℕ) (instances : List StFuncTree) (f : F
   abbrev labels : List (List ℕ)
   labels = item_words [] s (layout_numbers 1 s.ins)
 
-  words-are : (i : ℕ) → words_at labels i ≡ flat (at values i)
-  words-are i =
-      ap (λ ls. words_at (item_words [] s ls) i) (numbers-are slowdown 1 (param_types f) s.ins laid)
-      ∙ ap (λ xs. words_at xs i) (all-labels p instances f s main) ∙ index-flat values i
+  labels-are : labels ≡ map flat values
+  labels-are = ap (item_words [] s) (numbers-are slowdown 1 (param_types f) s.ins laid) ∙ all-labels p instances f s main
+
+  pub words-are : (i : ℕ) → words_at labels i ≡ flat (at values i)
+  words-are i = ap (λ xs. words_at xs i) labels-are ∙ index-flat values i
 
   pub items-are : (i : ℕ) → item_move f s i ≡ own_move s labels i
   items-are i =

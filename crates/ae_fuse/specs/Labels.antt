@@ -61,4 +61,4 @@ pub record IsReady (s : StFuncTree) (n : StNodeTree) (labels : List (List ℕ)) 
   pub sizes : (i : ℕ) → i < length (item_layouts s) → IsInSize (item_layout (item_layouts s) i)
   pub below : length labels ≤ length (item_layouts s)
   pub args : (i a : ℕ) → slice_get n.args i ≡ Some a → a < length labels
-  pub long : (a : ℕ) → a < length labels → length (words_at labels a) ≡ layout_words (item_layout (item_layouts s) a)
+  pub long : (i a : ℕ) → slice_get n.args i ≡ Some a → length (words_at labels a) ≡ layout_words (item_layout (item_layouts s) a)

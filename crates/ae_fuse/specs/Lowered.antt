@@ -27,9 +27,10 @@ use Rattle.ae_fuse.specs.Fused.{FusedView, IsFusedOf, costs_in, moves_in, result
 
 -- ---- what is sure of every fused program
 
--- each result has a move straight from the parameters, and the costs are those of the moves
+-- each result has a move straight from the parameters, of which there are few, and the costs are those of the moves
 pub record IsWhole (f : FusedView) : Type 0 where
   pub moves : (k : ℕ) (r : FusedResult) → slice_get f.results k ≡ Some r → IsMove (result_move (st_trees f.ins) r)
+  pub few_ins : length f.ins ≤ 8
   pub some : 0 < length f.results
   pub few : length f.results ≤ 8
   pub costs : costs_in f ≡ fused_costs (moves_in f)

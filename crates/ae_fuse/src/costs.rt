@@ -14,6 +14,14 @@ use ae_moves::{Origin, all_trips, latency, move_costs, rings};
 use ae_sttype::StType;
 use std::alloc::{AllocError, Global};
 
+/// What the moves of all results cost together: the latency in clocks, the load and the memories.
+#[derive(Clone, Copy, Debug, PartialEq, Eq)]
+pub struct FusedCosts {
+    pub latency: u32,
+    pub load: u64,
+    pub mems: u64,
+}
+
 /// What the move of a result costs by itself: its latency in clocks, its load and its memories; and the columns of the
 /// result's layout.
 #[derive(Clone, Copy, Debug, PartialEq, Eq)]

@@ -1,4 +1,4 @@
-// The labels of the words of all items: the number of the word of the parameters that each is, or 0 for a word 0.
+// The labels of the words of items: the number of the word of the parameters that each is, or 0 for a word 0.
 
 ghost use Rattle.std.specs.Prelude.{◌≡◌, ◌<◌, ◌≤◌, ◌*◌, ◌/◌, ◌%◌, ◌+◌, ◌++◌, ◌∷◌, [], true, if◌then◌else◌, length, map, IfOk, OnOk, Some, slice_get};
 ghost use Rattle.ae_sttype.specs.StTree.{element_words, st_atoms, st_tree};
@@ -7,12 +7,11 @@ ghost use Rattle.ae_eval.specs.Stack.{paired};
 ghost use Rattle.ae_rewrite.specs.StProgramTree.{first, join, move, second, st_func_tree, st_node_tree};
 ghost use Rattle.ae_rewrite.specs.Sound.{IsMoveFrom, item_layouts};
 ghost use Rattle.ae_delay.specs.Moving.{op_move, origin_from};
-ghost use Rattle.ae_flow.specs.Flow.{item_words, layout_words, node_words, parts, words_at};
+ghost use Rattle.ae_flow.specs.Flow.{layout_words, node_words, parts, words_at};
 ghost use Rattle.ae_flow.specs.Fitted.{FitsMove, FitsNode};
 ghost use Rattle.ae_gather.specs.Gathers.{origin_word};
-ghost use Rattle.ae_fuse.specs.Labels.{IsReady, MovesWords, is_moving, label_from, layout_numbers};
+ghost use Rattle.ae_fuse.specs.Labels.{IsReady, is_moving, label_from};
 
-use crate::numbers::first_labels;
 use ae_delay::layout;
 use ae_rewrite::{MoveOp, StFunc, StNode, StOp};
 use ae_sttype::StType;
@@ -196,8 +195,8 @@ fn part_node(
     part_labels(alloc, labels_at(labels, arg), count, size, from, part)
 }
 
-// The labels of a node, by those of the items above it.
-fn node_labels(
+/// The labels of a node, by those of its arguments; an error only for want of memory.
+pub(crate) fn node_labels(
     alloc: Global,
     s: &StFunc,
     node: &StNode,
@@ -214,18 +213,4 @@ fn node_labels(
         StOp::Second => part_node(alloc, s, node, labels, false),
         _ => unreachable!(),
     }
-}
-
-/// The labels of all items, where those of the parameters are numbered from 1 on; an error only for want of memory.
-pub(crate) fn item_labels(alloc: Global, s: &StFunc) -> Result<Vec<Vec<u32>>, AllocError>
-    requires moves { MovesWords (st_func_tree s.now) }
-    ensures labels { IfOk result (λ v. map (λ w. w.items) v.items ≡ item_words [] (st_func_tree s.now) (layout_numbers 1 (st_func_tree s.now).ins)) }
-    ensures long { IfOk result (λ v. length v.items ≡ length (item_layouts (st_func_tree s.now))) }
-{
-    let mut labels = first_labels(alloc, &s.ins)?;
-    for node in &s.nodes {
-        let own = node_labels(alloc, s, node, &labels)?;
-        labels.push(own)?;
-    }
-    Ok(labels)
 }

@@ -4,14 +4,19 @@
 mod certificate;
 mod clocks;
 mod costs;
+mod kept;
 mod labelling;
 mod laws;
 mod lowering;
 mod numbers;
 mod results;
+mod tracing;
+mod wanted;
 mod whole;
 
 pub use certificate::Certificate;
+pub use costs::FusedCosts;
+pub use kept::{WordLabels, labels_of};
 pub use laws::{
     labels_are_traced, latency_is_least, moves_make_blocks, traced_moves, traced_words,
 };

@@ -8,7 +8,7 @@ ghost use Rattle.ae_clocked.specs.Phases.{Belongs, KeepsCounters};
 ghost use Rattle.ae_ops.specs.Waves.{AreNets};
 ghost use Rattle.ae_ops.specs.Blocks.{AreBundles, stream_widths};
 ghost use Rattle.ae_moves.specs.Origins.{IsMove, Move, move_latency};
-ghost use Rattle.ae_gather.specs.Gathers.{move_of};
+ghost use Rattle.ae_gather.specs.Gathers.{IsGather, move_of};
 ghost use Rattle.ae_rewrite.specs.StProgramTree.{st_trees};
 ghost use Rattle.ae_ports.specs.Ports.{output_ports, streams_of};
 ghost use Rattle.ae_tidy.specs.Places.{AreMarks};
@@ -24,7 +24,7 @@ use ae_clocked::Clocks;
 use ae_gather::Gather;
 use ae_lower::{add_outputs, later};
 use ae_moves::Origin;
-use ae_netlist::Netlist;
+use ae_netlist::{NetFault, Netlist};
 use ae_ops::{Bundle, Stage};
 use ae_sttype::StType;
 use std::alloc::{AllocError, Global};
@@ -45,7 +45,7 @@ fn stage(
     own: &FusedResult,
     alone: bool,
 ) -> Result<Gather, AllocError>
-    requires { IsMove (result_move (st_trees ins.now) own.now) }
+    requires { IsGather (result_move (st_trees ins.now) own.now) }
     ensures { IfOk result (λ g. move_of g ≡ result_move (st_trees ins.now) own.now) }
 {
     let layouts = copies(alloc, ins)?;
@@ -63,7 +63,7 @@ fn stage(
     }
 }
 
-// The nets of a result, by its move from the parameters' nets, as late as the latest result.
+// The nets of a result, for which there is room, by its move from the parameters' nets, as late as the latest result.
 fn result_nets(
     alloc: Global,
     nl: &mut Netlist,
@@ -76,6 +76,7 @@ fn result_nets(
     requires latest { move_latency (move_of gather) ≤ whole }
     requires belongs { Belongs clocks.old nl.old.cells }
     requires args { AreBundles nl.old.cells (streams_of (move_of gather).ins) args.now }
+    requires room { length nl.old.cells + 16 * result_load whole (move_of gather) < nl.old.limit }
     ensures belongs { OnOk result (Belongs clocks.new nl.new.cells) }
     ensures keeps { OnOk result (KeepsCounters clocks.old clocks.new) }
     ensures grows { OnOk result (GrowsBy nl.old nl.new (result_load whole (move_of gather))) }
@@ -85,11 +86,13 @@ fn result_nets(
     let slack = whole - gather.latency();
     let bundle = match gather.build(alloc, nl, clocks, args, 0) {
         Ok(bundle) => bundle,
-        Err(_) => return Err(AllocError),
+        Err(NetFault::Full) => unreachable!(),
+        Err(NetFault::Memory) => return Err(AllocError),
     };
     match later(alloc, nl, clocks, &bundle, slack) {
         Ok(late) => Ok(late),
-        Err(_) => Err(AllocError),
+        Err(NetFault::Full) => unreachable!(),
+        Err(NetFault::Memory) => Err(AllocError),
     }
 }
 
@@ -100,7 +103,8 @@ pub(crate) struct Built {
     pub marks: Vec<u32>,
 }
 
-/// The nets of all results, each by its move from the parameters' nets; an error only for want of memory.
+/// The nets of all results, for which there is room, each by its move from the parameters' nets; an error only for want of
+/// memory.
 pub(crate) fn all_nets(
     alloc: Global,
     nl: &mut Netlist,
@@ -114,6 +118,8 @@ pub(crate) fn all_nets(
     requires latest { (k : ℕ) (r : Moving) → slice_get results.now k ≡ Some r → move_latency (result_move (st_trees ins.now) r) ≤ whole }
     requires belongs { Belongs clocks.old nl.old.cells }
     requires args { AreBundles nl.old.cells (streams_of (st_trees ins.now)) args.now }
+    requires few { length ins.now ≤ 8 }
+    requires room { length nl.old.cells + 16 * sum_by (result_load whole) (map (result_move (st_trees ins.now)) results.now) < nl.old.limit }
     ensures grows { OnOk result (GrowsBy nl.old nl.new (sum_by (result_load whole) (map (result_move (st_trees ins.now)) results.now))) }
     ensures adds { OnOk result (Adds nl.old nl.new 0 (sum_by (result_mems whole) (map (result_move (st_trees ins.now)) results.now))) }
     ensures moved { IfOk result (λ b. AreLateResults nl.new.cells clocks.old.rst whole (map (result_move (st_trees ins.now)) results.now) (length results.now) args.now b.bundles.items) }

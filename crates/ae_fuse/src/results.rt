@@ -13,10 +13,14 @@ ghost use Rattle.ae_flow.specs.Flow.{layout_words};
 ghost use Rattle.ae_fuse.specs.Labels.{MovesWords, labelled_origin};
 ghost use Rattle.ae_fuse.specs.Clocks.{label_clocks};
 ghost use Rattle.ae_fuse.specs.Moved.{own_move};
+ghost use Rattle.ae_fuse.specs.Costing.{fused_costs};
 ghost use Rattle.ae_fuse.specs.Fused.{AreAllCosts, result_move};
+ghost use Rattle.ae_fuse.specs.Slowdowns.{told_costs};
 
 use crate::clocks::{element_clocks, label_clocks, lateness};
-use crate::costs::{ResultCosts, all_columns, result_costs};
+use crate::costs::{
+    FusedCosts, ResultCosts, all_columns, latest_result, result_costs, whole_load, whole_mems,
+};
 use crate::labelling::labels_at;
 use crate::numbers::label_origins;
 use ae_delay::layout;
@@ -32,8 +36,8 @@ pub(crate) struct FusedResult {
     pub source: Vec<Origin>,
 }
 
-// When an item in this layout with these labels could arrive, by the clocks of the numbers of all words.
-fn item_arrival(
+/// When an item in this layout with these labels could arrive, by the clocks of the numbers of all words.
+pub(crate) fn item_arrival(
     alloc: Global,
     sources: &[u32],
     out: &StType,
@@ -47,14 +51,14 @@ fn item_arrival(
     Ok(lateness(sources, labels, &elements, out.element_words()))
 }
 
-/// When the items could arrive, each by one move from all parameters; an error only for want of memory.
+/// When the first items could arrive, each by one move from all parameters; an error only for want of memory.
 pub(crate) fn item_arrivals(
     alloc: Global,
     s: &StFunc,
     labels: &[Vec<u32>],
 ) -> Result<Vec<u32>, AllocError>
     requires moves { MovesWords (st_func_tree s.now) }
-    requires many { length labels.now ≡ length (item_layouts (st_func_tree s.now)) }
+    requires many { length labels.now ≤ length (item_layouts (st_func_tree s.now)) }
     requires each { (i : ℕ) → i < length labels.now → IsMove (own_move (st_func_tree s.now) (map (λ w. w.items) labels.now) i) }
     ensures { IfOk result (λ v. v.items ≡ map (λ i. move_latency (own_move (st_func_tree s.now) (map (λ w. w.items) labels.now) i)) (range_with_len 0 (length labels.now))) }
 {
@@ -117,6 +121,29 @@ pub(crate) fn all_costs(
         costs.push(cost)?;
     }
     Ok(costs)
+}
+
+/// What the moves of all results cost together, where all leave with the latest; an error only for want of memory.
+pub(crate) fn together(
+    alloc: Global,
+    ins: &[StType],
+    moves: &[FusedResult],
+) -> Result<FusedCosts, AllocError>
+    requires sizes { (k : ℕ) (t : Layout) → slice_get ins.now k ≡ Some t → IsInSize (st_tree t) }
+    requires few { length ins.now ≤ 8 }
+    requires few_moves { length moves.now ≤ 8 }
+    requires moves { (k : ℕ) (r : Moving) → slice_get moves.now k ≡ Some r → IsMove (result_move (st_trees ins.now) r) }
+    ensures { IfOk result (λ c. told_costs c ≡ fused_costs (map (result_move (st_trees ins.now)) moves.now)) }
+{
+    let costs = all_costs(alloc, ins, moves)?;
+    let latency = latest_result(&costs);
+    let load = whole_load(&costs, latency);
+    let mems = whole_mems(&costs, latency);
+    Ok(FusedCosts {
+        latency,
+        load,
+        mems,
+    })
 }
 
 /// The layouts again.

@@ -10,13 +10,13 @@ ghost use Rattle.ae_rewrite.specs.StProgramTree.{st_func_tree, st_func_trees, st
 ghost use Rattle.ae_trace.specs.Traces.{are_movements, is_movement, is_movement_op};
 ghost use Rattle.ae_tidy.specs.Places.{AreMarks};
 ghost use Rattle.ae_fuse.specs.Fused.{IsFusedBy, IsFusedOf, IsMovable};
+ghost use Rattle.ae_fuse.specs.Slowdowns.{IsMovableMain};
 ghost use Rattle.ae_fuse.specs.Lowered.{IsFusedCircuit};
 
 use crate::certificate::{Certificate, certify};
-use crate::costs::{latest_result, whole_load, whole_mems};
-use crate::labelling::item_labels;
 use crate::lowering::{all_nets, show_results};
-use crate::results::{FusedResult, all_costs, copies, item_arrivals, result_moves};
+use crate::results::{FusedResult, copies, result_moves, together};
+use crate::tracing::traced;
 use ae_clocked::Clocks;
 use ae_flow::schedules_fit;
 use ae_lower::{Lowered, MOST_CELLS, add_input, add_inputs};
@@ -187,27 +187,36 @@ fn main_instance(s: &StProgram) -> &StFunc
     }
 }
 
+/// The instance of the program function, where all of that's lines move words: each of its items could be moved straight from
+/// the parameters.
+pub(crate) fn movable_instance<'s>(p: &Typed, s: &'s StProgram) -> Option<&'s StFunc>
+    requires schedule { (slowdown : ℕ) × (0 < slowdown) × (slowdown ≤ 4096) × IsSchedule (program_tree p.now) slowdown (st_func_trees s.now) }
+    ensures some { IsSome result ↔ (is_movement (program_tree p.now) ≡ true) }
+    ensures instance { IfSome result (λ i. IsMovableMain (program_tree p.now) (st_func_trees s.now) (st_func_tree i.now)) }
+{
+    schedules_fit();
+    let func = main_func(p);
+    let moves = all_move(func);
+    if moves { Some(main_instance(s)) } else { None }
+}
+
 // The moves of an instance, each of whose items could be moved straight from the parameters.
 fn fuse_instance(alloc: Global, s: &StFunc) -> Result<Fused, AllocError>
     requires movable { IsMovable (st_func_tree s.now) }
     ensures { IfOk result (λ f. IsFusedBy (st_func_tree s.now) f) }
 {
-    let labels = item_labels(alloc, s)?;
-    let arrivals = item_arrivals(alloc, s, &labels)?;
-    let results = result_moves(alloc, s, &labels)?;
+    let traced = traced(alloc, s)?;
+    let results = result_moves(alloc, s, &traced.labels)?;
     let ins = copies(alloc, &s.ins)?;
-    let costs = all_costs(alloc, &ins, &results)?;
-    let latency = latest_result(&costs);
-    let load = whole_load(&costs, latency);
-    let mems = whole_mems(&costs, latency);
-    let certificate = certify(&ins, &results, latency);
+    let costs = together(alloc, &ins, &results)?;
+    let certificate = certify(&ins, &results, costs.latency);
     Ok(Fused {
         ins,
         results,
-        arrivals,
-        latency,
-        load,
-        mems,
+        arrivals: traced.arrivals,
+        latency: costs.latency,
+        load: costs.load,
+        mems: costs.mems,
         certificate,
     })
 }
@@ -219,13 +228,11 @@ pub fn fuse(alloc: Global, p: &Typed, s: &StProgram) -> Result<Option<Fused>, Al
     ensures some { IfOk result (λ o. IsSome o ↔ (is_movement (program_tree p.now) ≡ true)) }
     ensures is { IfOk result (λ o. IfSome o (λ f. IsFusedOf (program_tree p.now) (st_func_trees s.now) f)) }
 {
-    schedules_fit();
-    let func = main_func(p);
-    let moves = all_move(func);
-    if !moves {
-        return Ok(None);
+    match movable_instance(p, s) {
+        Some(instance) => {
+            let fused = fuse_instance(alloc, instance)?;
+            Ok(Some(fused))
+        }
+        None => Ok(None),
     }
-    let instance = main_instance(s);
-    let fused = fuse_instance(alloc, instance)?;
-    Ok(Some(fused))
 }

@@ -28,7 +28,7 @@ moved_labels-requires-clause-fits c =
 
 pub moved_labels-requires-clause-long : goal.moved_labels-requires-clause-long
 moved_labels-requires-clause-long c =
-    ap length c.labels_at.ensures ∙ c.requires.ready.long c.argument-arg.result (c.requires.ready.args 0 c.argument-arg.result c.argument-arg.ensures) ∙ ap layout_words (sym c.layout.ensures)
+    ap length c.labels_at.ensures ∙ c.requires.ready.long 0 c.argument-arg.result c.argument-arg.ensures ∙ ap layout_words (sym c.layout.ensures)
 
 pub returns : goal.returns
 returns c =

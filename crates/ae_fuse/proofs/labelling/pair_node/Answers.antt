@@ -40,7 +40,7 @@ paired_labels-requires-clause-first c =
     let two = ready-pair (st_func_tree c.args.s.now) (st_node_tree c.args.node.now) (map (λ (w : Vec ℕ Global). w.items) c.args.labels.now) c.requires.ready c.requires.is in
     let z = pair-sizes _ _ _ (two.only c.argument-one.result c.argument-two.result c.argument-one.ensures c.argument-two.ensures).1 in
     let wide : c.element_words-size.result ≡ element_words (item_layout (item_layouts (st_func_tree c.args.s.now)) c.argument-one.result) = c.element_words-size.ensures ∙ ap element_words c.layout.ensures in
-    ap length c.labels_at.ensures ∙ c.requires.ready.long c.argument-one.result (c.requires.ready.args 0 c.argument-one.result c.argument-one.ensures)
+    ap length c.labels_at.ensures ∙ c.requires.ready.long 0 c.argument-one.result c.argument-one.ensures
     ∙ (λ i. (z.0 ∙ sym c.atoms-count.ensures) i * sym wide i)
 
 pub paired_labels-requires-clause-second : goal.paired_labels-requires-clause-second
@@ -48,7 +48,7 @@ paired_labels-requires-clause-second c =
     let two = ready-pair (st_func_tree c.args.s.now) (st_node_tree c.args.node.now) (map (λ (w : Vec ℕ Global). w.items) c.args.labels.now) c.requires.ready c.requires.is in
     let z = pair-sizes _ _ _ (two.only c.argument-one.result c.argument-two.result c.argument-one.ensures c.argument-two.ensures).1 in
     let wide : c.element_words-other.result ≡ element_words (item_layout (item_layouts (st_func_tree c.args.s.now)) c.argument-two.result) = c.element_words-other.ensures ∙ ap element_words c.layout-2.ensures in
-    ap length c.labels_at-2.ensures ∙ c.requires.ready.long c.argument-two.result (c.requires.ready.args 1 c.argument-two.result c.argument-two.ensures)
+    ap length c.labels_at-2.ensures ∙ c.requires.ready.long 1 c.argument-two.result c.argument-two.ensures
     ∙ (λ i. (z.1 ∙ sym c.atoms-count.ensures) i * sym wide i)
 
 pub returns : goal.returns

@@ -34,7 +34,7 @@ part_labels-requires-clause-long c =
     let one = ready-part (st_func_tree c.args.s.now) (st_node_tree c.args.node.now) (map (λ (w : Vec ℕ Global). w.items) c.args.labels.now) c.requires.ready c.args.is_first c.requires.is in
     let own = (one.only c.argument-arg.result c.argument-arg.ensures).1 in
     let wide : c.element_words-size.result ≡ element_words (item_layout (item_layouts (st_func_tree c.args.s.now)) c.argument-arg.result) = c.element_words-size.ensures ∙ ap element_words c.layout.ensures in
-    ap length c.labels_at.ensures ∙ c.requires.ready.long c.argument-arg.result (c.requires.ready.args 0 c.argument-arg.result c.argument-arg.ensures)
+    ap length c.labels_at.ensures ∙ c.requires.ready.long 0 c.argument-arg.result c.argument-arg.ensures
     ∙ (λ i. (own.0 ∙ sym c.atoms-count.ensures) i * sym wide i)
 
 pub part_labels-requires-clause-inside : goal.part_labels-requires-clause-inside

@@ -1,8 +1,10 @@
 -- One result more.
 use Rattle.std.proofs.Common.{◌≡◌, ◌≤◌, ◌+◌, ◌++◌, ◌∷◌, [], ◌∙◌, List, Some, slice_get, length, map, arith, ap, refl, subst, sym}
+use Rattle.std.proofs.lemmas.List.{length-map}
 use Rattle.std.proofs.lemmas.Option.{slice_get_read}
+use Rattle.ae_sttype.specs.StTree.{st_tree}
 use Rattle.ae_moves.specs.Origins.{IsMove, Move, move_latency}
-use Rattle.ae_moves.proofs.Lists.{get_mapped}
+use Rattle.ae_moves.proofs.Lists.{get_mapped, sum_part}
 use Rattle.ae_ops.specs.Blocks.{AreBundles}
 use Rattle.ae_ops.proofs.Lateness.{keeps_trans}
 use Rattle.ae_ports.specs.Ports.{streams_of}
@@ -13,16 +15,35 @@ use Rattle.ae_lower.proofs.Growing.{adds_trans, adds_up, by_trans}
 use Rattle.ae_lower.proofs.Instances.{bundles_grow}
 use Rattle.ae_lower.proofs.Stretches.{extends_long}
 use Rattle.ae_lower.specs.Growth.{Adds, GrowsBy}
+use Rattle.ae_gather.specs.Gathers.{move_of}
 use Rattle.ae_fuse.specs.Costing.{result_load, result_mems}
 use Rattle.ae_fuse.specs.Fused.{result_move}
 use Rattle.ae_fuse.specs.Lowered.{IsLateResult}
 use Rattle.ae_fuse.proofs.LateResults.{load_next, mems_next, results_next}
 use Rattle.ae_fuse.proofs.lowering.all_nets.Goals as goal
 
+pub stage-requires : goal.stage-requires
+stage-requires c =
+    let found = slice_get_read c.args.results.now (length c.args.results.now) c.loop-k.k c.index-results-k.result refl (omega arith) c.index-results-k.is in
+    record { move = c.requires.moves c.loop-k.k c.index-results-k.result found; few = omega (arith, c.requires.few, length-map c.args.ins.now st_tree) }
+
 pub result_nets-requires-clause-args : goal.result_nets-requires-clause-args
 result_nets-requires-clause-args c =
     subst (λ (m : Move). AreBundles c.loop-k.nl.cells (streams_of m.ins) c.args.args.now) (sym c.in_ok-gather.ensures)
     (bundles_grow (streams_of (st_trees c.args.ins.now)) c.args.args.now c.loop-k.invariant.grows.grows.extends c.requires.args)
+
+pub result_nets-requires-clause-room : goal.result_nets-requires-clause-room
+result_nets-requires-clause-room c =
+    let k = c.loop-k.k in
+    let rs = c.args.results.now in
+    let own = c.index-results-k.result in
+    let ins = st_trees c.args.ins.now in
+    let ms : List Move = map (result_move ins) rs in
+    let found = slice_get_read rs (length rs) k own refl (omega arith) c.index-results-k.is in
+    let here : slice_get ms k ≡ Some (result_move ins own) = get_mapped (result_move ins) rs k own found in
+    let load : result_load c.args.whole (move_of c.in_ok-gather.gather) ≡ result_load c.args.whole (result_move ins own) = ap (result_load c.args.whole) c.in_ok-gather.ensures in
+    let was = c.loop-k.invariant.grows in
+    omega (arith, load, was.cells, was.grows.limit, load_next ms k c.args.whole (result_move ins own) here, sum_part (result_load c.args.whole) ms (k + 1), c.requires.room)
 
 pub result_nets-requires-clause-moves : goal.result_nets-requires-clause-moves
 result_nets-requires-clause-moves c =

@@ -1,17 +1,35 @@
 -- A move, and its delay.
-use Rattle.std.proofs.Common.{◌-◌, ◌*◌, length, subst}
+use Rattle.std.proofs.Common.{◌≡◌, ◌-◌, ◌*◌, arith, length, refl, subst}
+use Rattle.ae_moves.specs.Rings.{rings}
 use Rattle.ae_moves.specs.Origins.{move_latency}
 use Rattle.ae_gather.specs.Gathers.{move_of}
 use Rattle.ae_ops.specs.Waves.{AreLate, AreNets}
 use Rattle.ae_ops.specs.Blocks.{stream_of, stream_widths}
 use Rattle.ae_ops.proofs.Lateness.{keeps_trans}
-use Rattle.ae_lower.specs.Growth.{GrowsBy}
+use Rattle.ae_lower.specs.Growth.{Adds, GrowsBy}
 use Rattle.ae_lower.proofs.Outputs.{own_widths}
-use Rattle.ae_fuse.proofs.LateResults.{result_adds, result_grows, result_late}
+use Rattle.ae_fuse.proofs.LateResults.{part_small, result_adds, result_grows, result_late}
 use Rattle.ae_fuse.proofs.lowering.result_nets.Goals as goal
 
 pub later-requires-clause-nets : goal.later-requires-clause-nets
 later-requires-clause-nets c = own_widths c.in-Ok.ensures.bundle
+
+-- no move takes more cells than there is room for
+pub unreachable-requires : goal.unreachable-requires
+unreachable-requires c =
+    let mid = c.build.new.nl in
+    let full : length mid.cells ≡ mid.limit = c.in-Err-Full.ensures.full c.in-Err-Full.field-0-is in
+    omega (arith, full, c.build.ensures.cells, c.build.ensures.grows.limit, c.requires.room, part_small (move_of c.args.gather) c.args.whole)
+
+pub unreachable-requires-in-Err-Full-later : goal.unreachable-requires-in-Err-Full-later
+unreachable-requires-in-Err-Full-later c =
+    let nets = c.in-Ok.bundle in
+    let mid = c.build.new.nl in
+    let new = c.later.new.nl in
+    let more = subst (λ d. GrowsBy mid new ((c.args.whole - d) * length nets)) c.latency.ensures c.later.ensures.grows in
+    let grown = result_grows c.args.nl.now mid new (move_of c.args.gather) c.args.whole nets c.requires.latest c.in-Ok.ensures.bundle c.build.ensures.grows c.build.ensures.cells more in
+    let full : length new.cells ≡ new.limit = c.in-Err-Full-later.ensures.full c.in-Err-Full-later.field-0-is in
+    omega (arith, grown.cells, grown.grows.limit, full, c.requires.room)
 
 pub returns-in-Ok-later-clause-keeps : goal.returns-in-Ok-later-clause-keeps
 returns-in-Ok-later-clause-keeps c = keeps_trans c.build.ensures.keeps c.later.ensures.keeps
@@ -36,4 +54,5 @@ returns-in-Ok-later-clause-moved c =
 
 pub returns-in-Ok-later-clause-adds : goal.returns-in-Ok-later-clause-adds
 returns-in-Ok-later-clause-adds c =
-    result_adds c.args.nl.now c.build.new.nl c.later.new.nl (move_of c.args.gather) c.args.whole c.in-Ok.ensures.muls c.in-Ok.ensures.memories c.in-Ok.ensures.whole c.in-Ok-later.ensures.adds
+    let more = subst (λ d. Adds c.build.new.nl c.later.new.nl 0 (length c.in-Ok.bundle * rings (c.args.whole - d))) c.latency.ensures c.in-Ok-later.ensures.adds in
+    result_adds c.args.nl.now c.build.new.nl c.later.new.nl (move_of c.args.gather) c.args.whole c.in-Ok.bundle c.in-Ok.ensures.bundle c.in-Ok.ensures.muls c.in-Ok.ensures.memories c.in-Ok.ensures.whole more

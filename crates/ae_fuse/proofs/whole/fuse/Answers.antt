@@ -1,29 +1,13 @@
-use Rattle.std.proofs.Common.{◌≡◌, ◌∙◌, true, ap, rules}
-use Rattle.ae_seq.specs.ProgramTree.{func_tree, program_tree}
+use Rattle.ae_seq.specs.ProgramTree.{program_tree}
 use Rattle.ae_rewrite.specs.StProgramTree.{st_func_tree, st_func_trees}
-use Rattle.ae_trace.specs.Traces.{are_movements, is_movement, is_movement_func}
-use Rattle.ae_fuse.proofs.Fusing.{fused-of, movable}
+use Rattle.ae_fuse.proofs.Fusing.{fused-of}
 use Rattle.ae_fuse.proofs.whole.fuse.Goals as goal
 
 pub fuse_instance-requires : goal.fuse_instance-requires
-fuse_instance-requires c =
-    let p = program_tree c.args.p.now in
-    let f = func_tree c.main_func-func.result.now in
-    let s = st_func_tree c.main_instance-instance.result.now in
-    let h = c.requires.schedule in
-    let all : are_movements f.nodes ≡ true = first_of (cc, search rules) in
-    let moves : is_movement p ≡ true = ap is_movement_func c.main_func-func.ensures.there ∙ all in
-    record {
-      movable = movable p h.0 (st_func_trees c.args.s.now) f s moves c.main_func-func.ensures.typed h.3 c.main_func-func.ensures.there c.main_instance-instance.ensures.last h.1 h.2 c.main_instance-instance.ensures.sound
-          (c.schedules_fit.ensures p h.0 (st_func_trees c.args.s.now) c.main_func-func.ensures.typed h.1 h.3);
-    }
+fuse_instance-requires c = record { movable = c.in-Some.ensures.instance.movable }
 
-pub returns-clause-is : goal.returns-clause-is
-returns-clause-is c =
-    let p = program_tree c.args.p.now in
-    let f = func_tree c.main_func-func.result.now in
-    let s = st_func_tree c.main_instance-instance.result.now in
+pub returns-in_ok-fused-in-Some-clause-is : goal.returns-in_ok-fused-in-Some-clause-is
+returns-in_ok-fused-in-Some-clause-is c =
     let h = c.requires.schedule in
-    let all : are_movements f.nodes ≡ true = first_of (cc, search rules) in
-    let moves : is_movement p ≡ true = ap is_movement_func c.main_func-func.ensures.there ∙ all in
-    fused-of p h.0 (st_func_trees c.args.s.now) f s moves c.main_func-func.ensures.typed h.3 c.main_func-func.ensures.there c.main_instance-instance.ensures.last h.1 h.2 c.in_ok-fused.fused c.in_ok-fused.ensures
+    let m = c.in-Some.ensures.instance in
+    fused-of (program_tree c.args.p.now) h.0 (st_func_trees c.args.s.now) m.func (st_func_tree c.in-Some.instance.now) m.movement m.typed h.3 m.there m.last h.1 h.2 c.in_ok-fused-in-Some.fused c.in_ok-fused-in-Some.ensures

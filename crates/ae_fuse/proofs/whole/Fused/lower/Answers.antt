@@ -1,5 +1,5 @@
 -- The circuit from its parts.
-use Rattle.std.proofs.Common.{◌≡◌, ◌≤◌, ◌∙◌, List, slice_get, length, map, sum_by, ap, refl, sym, subst}
+use Rattle.std.proofs.Common.{◌≡◌, ◌≤◌, ◌++◌, ◌∷◌, [], ◌∙◌, List, slice_get, length, map, sum_by, ap, arith, refl, sym, subst}
 use Rattle.ae_netlist.specs.declared.cell.NetId.{NetId}
 use Rattle.ae_netlist.specs.declared.cell.SizedCell.{SizedCell}
 use Rattle.ae_netlist.specs.Circuit.{Circuit}
@@ -8,7 +8,7 @@ use Rattle.ae_sttype.specs.StTree.{StTree}
 use Rattle.ae_clocked.specs.Phases.{Kept}
 use Rattle.ae_moves.specs.Origins.{move_latency}
 use Rattle.ae_moves.proofs.Lists.{get_mapped}
-use Rattle.ae_ports.specs.Ports.{output_ports, streams_of}
+use Rattle.ae_ports.specs.Ports.{input_cell, output_ports, reset_port, streams_of}
 use Rattle.ae_rewrite.specs.StProgramTree.{st_trees}
 use Rattle.ae_tidy.specs.Places.{AreMarks}
 use Rattle.ae_lower.specs.Growth.{Adds, GrowsBy}
@@ -20,11 +20,41 @@ use Rattle.ae_fuse.specs.declared.results.FusedResult.{FusedResult}
 use Rattle.ae_fuse.specs.Costing.{result_load, result_mems}
 use Rattle.ae_fuse.specs.Fused.{FusedView, moves_in, result_move}
 use Rattle.ae_fuse.specs.Lowered.{AreLateResults, IsWhole, result_stream}
-use Rattle.ae_fuse.proofs.Circuits.{ShowsMoves, at-most-latest, fused-circuit, late-same, shows-raw, shows-tidied, type-sized}
+use Rattle.ae_fuse.proofs.Circuits.{ShowsMoves, at-most-latest, fused-circuit, late-same, shows-raw, shows-tidied, type-sized, whole-load}
 use Rattle.ae_fuse.proofs.whole.Fused.lower.Goals as goal
 
-pub add_inputs-requires : goal.add_inputs-requires
-add_inputs-requires c k t found =
+pub add_inputs-requires-clause-room : goal.add_inputs-requires-clause-room
+add_inputs-requires-clause-room c =
+    let f = c.args.self.now in
+    let whole : IsWhole f = subst IsWhole c.self.view_is c.self.invariant in
+    let ins : c.as_slice-ins.result.now ≡ f.ins = c.as_slice-ins.ensures.value ∙ ap (λ (v : FusedView). v.ins) c.self.view_is in
+    let one : length c.add_input.new.nl.cells ≡ 1 = ap (λ (n : Circuit). length n.cells) c.in_ok-rst.ensures.added ∙ ap (λ (n : Circuit). length (n.cells ++ input_cell reset_port ∷ [])) c.new-nl.ensures in
+    let limit = ap (λ (n : Circuit). n.limit) c.in_ok-rst.ensures.added ∙ ap (λ (n : Circuit). n.limit) c.new-nl.ensures in
+    omega (arith, one, limit, whole.few_ins, ap length ins)
+
+pub all_nets-requires-clause-few : goal.all_nets-requires-clause-few
+all_nets-requires-clause-few c =
+    let f = c.args.self.now in
+    let whole : IsWhole f = subst IsWhole c.self.view_is c.self.invariant in
+    let ins : c.as_slice-ins.result.now ≡ f.ins = c.as_slice-ins.ensures.value ∙ ap (λ (v : FusedView). v.ins) c.self.view_is in
+    omega (arith, whole.few_ins, ap length ins)
+
+pub all_nets-requires-clause-room : goal.all_nets-requires-clause-room
+all_nets-requires-clause-room c =
+    let f = c.args.self.now in
+    let whole : IsWhole f = subst IsWhole c.self.view_is c.self.invariant in
+    let ins : c.as_slice-ins.result.now ≡ f.ins = c.as_slice-ins.ensures.value ∙ ap (λ (v : FusedView). v.ins) c.self.view_is in
+    let results : c.as_slice-results.result.now ≡ f.results = c.as_slice-results.ensures.value ∙ ap (λ (v : FusedView). v.results) c.self.view_is in
+    let latency : c.self.inside.latency ≡ f.latency = ap (λ (v : FusedView). v.latency) c.self.view_is in
+    let moves : map (result_move (st_trees c.as_slice-ins.result.now)) c.as_slice-results.result.now ≡ moves_in f = λ i. map (result_move (st_trees (ins i))) (results i) in
+    let load : sum_by (result_load c.self.inside.latency) (map (result_move (st_trees c.as_slice-ins.result.now)) c.as_slice-results.result.now) ≡ f.load = (λ i. sum_by (result_load (latency i)) (moves i)) ∙ whole-load f whole in
+    let one : length c.add_input.new.nl.cells ≡ 1 = ap (λ (n : Circuit). length n.cells) c.in_ok-rst.ensures.added ∙ ap (λ (n : Circuit). length (n.cells ++ input_cell reset_port ∷ [])) c.new-nl.ensures in
+    let limit =
+    ap (λ (n : Circuit). n.limit) c.in_ok-args.ensures.cells ∙ ap (λ (n : Circuit). n.limit) c.in_ok-rst.ensures.added ∙ ap (λ (n : Circuit). n.limit) c.new-nl.ensures in
+    omega (arith, one, limit, load, c.requires.light, whole.few_ins, ap length ins, c.in_ok-args.ensures.few)
+
+pub add_inputs-requires-clause-in_size : goal.add_inputs-requires-clause-in_size
+add_inputs-requires-clause-in_size c k t found =
     let f = c.args.self.now in
     let whole : IsWhole f = subst IsWhole c.self.view_is c.self.invariant in
     let ins : c.as_slice-ins.result.now ≡ f.ins = c.as_slice-ins.ensures.value ∙ ap (λ (v : FusedView). v.ins) c.self.view_is in
