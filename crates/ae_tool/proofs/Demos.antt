@@ -1,11 +1,9 @@
 -- The input of a demo: its words, and that their rows are right.
-use Rattle.std.proofs.Common.{◌≡◌, ℕ, zero, suc, ◌+◌, ◌*◌, ◌-◌, ◌%◌, ◌^◌, ◌<◌, ◌≤◌, Bool, true, ◌&&◌, nat_lt, if◌then◌else◌, List, [], ◌∷◌, ◌++◌, length, length-append, map, take, drop, replicate, get_or, Option, Some, None, arith, refl, ap, sym, ◌∙◌, subst}
+use Rattle.std.proofs.Common.{◌≡◌, ℕ, zero, suc, ◌+◌, ◌*◌, ◌-◌, ◌%◌, ◌^◌, ◌<◌, ◌≤◌, true, nat_lt, if◌then◌else◌, List, [], ◌∷◌, ◌++◌, length, length-append, map, take, drop, replicate, Some, None, arith, refl, ap, sym, ◌∙◌}
 use Rattle.std.specs.Prelude.{codes}
 use Rattle.std.specs.Fmt.{decimal}
 use Rattle.std.specs.List.{range_with_len}
-use Rattle.std.specs.Str.Parse.{digits_value}
 use Rattle.std.proofs.Math.Nat.{mod-lt}
-use Rattle.std.proofs.Math.Seq.{drop-cons}
 use Rattle.std.proofs.lemmas.Bool.{le-leb, lt-ltb}
 use Rattle.std.proofs.lemmas.Fmt.{decimal_nonempty, digits_decimal, digits_value-decimal, length-decimal-le}
 use Rattle.std.proofs.lemmas.List.{length-drop, length-map, length-take-le, nil_from_length, take-append-drop}
@@ -38,15 +36,6 @@ short_program n h =
     let fronts : length front ≤ 1000 = omega arith in
     let backs : length back ≤ 1000 = omega arith in
     omega (arith, length-append (front ++ decimal (16 * n)) back, length-append front (decimal (16 * n)), digits, fronts, backs)
-
--- ---- widths
-
-pub wide_next : (ws : List ℕ) (i count : ℕ) → get_or ws i 0 ≡ 16 → i < length ws → length ws ≡ count → (drop i ws ≡ replicate (count - i) 16 → ws ≡ replicate count 16)
-    → drop (i + 1) ws ≡ replicate (count - (i + 1)) 16 → ws ≡ replicate count 16
-wide_next ws i count e below long rest h =
-    let less : count - i ≡ suc (count - (i + 1)) = omega (arith, below, long) in
-    let next : suc i ≡ i + 1 = omega arith in
-    rest (drop-cons ws i 0 below ∙ (λ j. e j ∷ (ap (λ k. drop k ws) next ∙ h) j) ∙ sym (ap (λ k. replicate k 16) less))
 
 -- ---- words
 

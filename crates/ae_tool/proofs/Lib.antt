@@ -19,6 +19,7 @@ pub mod SimRuns
 pub mod SimModule
 pub mod SimComplete
 pub mod Demos
+mod DemoFits
 pub mod WaveForms
 pub mod UnwaveLines
 pub mod LeastTold

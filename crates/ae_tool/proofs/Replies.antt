@@ -32,7 +32,9 @@ use Rattle.ae_delay.specs.declared.own.OwnCosts.{OwnCosts}
 use Rattle.ae_alike.proofs.Failing.{schedules_fine}
 use Rattle.ae_tool.specs.PlanTexts.{plan_text}
 use Rattle.ae_tool.specs.CostTables.{table_text}
-use Rattle.ae_compile.specs.Costing.{HasCosts, HasLargeLoad, costs_over, load_limit}
+use Rattle.ae_compile.specs.declared.faults.CompileFault.{CompileFault}
+use Rattle.ae_compile.specs.declared.faults.CompileFault.TheVariants as faults
+use Rattle.ae_compile.specs.Costing.{HasCosts, HasLargeLoad, IsCostFault, costs_over, load_limit}
 use Rattle.ae_tool.specs.Schedules.{IsAnswered, IsCostRefusal, IsCostText}
 use Rattle.ae_tool.specs.EvalTexts.{eval_size, IsEvalOf}
 use Rattle.ae_tool.specs.Outcomes.{IsChecked, IsEvaluated, Refused, Ran, IsReply, IsDone, HasResult, HasShortRun, IsAccepted}
@@ -459,6 +461,17 @@ never_cost_refused limit part slowdown TooLong h b = never_refused part h.progra
 never_cost_refused limit part slowdown Memory h b = never_refused part h.program Memory h.costed.typed b
 never_cost_refused limit part slowdown (BadWave at) h b = never_refused part h.program (BadWave at) h.costed.typed b
 never_cost_refused limit part slowdown (NotMoves line) h b = never_refused part h.program (NotMoves line) h.costed.typed b
+
+-- nor does it fail, but for want of memory
+pub only_memory : (limit : ℕ) (part : List ℕ) (slowdown : ℕ) (fault : CompileFault) → HasCosts limit part slowdown → IsCostFault limit part slowdown fault → fault ≡ faults.Memory
+only_memory limit part slowdown (faults.BadLine line) h b = never_refused part h.program (BadLine line) h.costed.typed b
+only_memory limit part slowdown (faults.BadType line) h b = never_refused part h.program (BadType line) h.costed.typed b
+only_memory limit part slowdown (faults.TooLarge line) h b = elim b [
+  | inl r ↦ never_refused part h.program (TooLarge line) h.costed.typed r
+  | inr l ↦ costs_within limit part slowdown line h l
+]
+only_memory limit part slowdown (faults.NoSchedule line) h b = never_cost_refused limit part slowdown (NoSchedule line) h b
+only_memory limit part slowdown faults.Memory h b = refl
 
 answered_ok : (limit : ℕ) (IsRight : List ℕ → Type 0) (part : List ℕ) (slowdown : ℕ) (status : Status) (text : List ℕ) → HasCosts limit part slowdown → IsAnswered limit IsRight part slowdown status text → status ≡ Ok
 answered_ok limit IsRight part slowdown Ok text h b = refl

@@ -1,6 +1,8 @@
 // The job `sim FILL`.
 
-ghost use Rattle.std.specs.Prelude.{◌≡◌, ◌++◌, ◌<◌, ◌≤◌, ◌^◌, ◌-◌, ◌∷◌, [], List, ℕ, length, map, All, IfOk, OnOk, string_bytes};
+ghost use Rattle.std.specs.Prelude.{◌≡◌, ◌++◌, ◌<◌, ◌≤◌, ◌^◌, ◌-◌, ◌∷◌, [], List, ℕ, length, map, All, IfErr, IfOk, OnOk, string_bytes};
+ghost use Rattle.ae_judge.specs.Faults.{IsFault, IsWellFormed};
+ghost use Rattle.ae_runs.specs.SameRuns.{HasSameRuns};
 ghost use Rattle.ae_netlist.specs.declared.cell.SizedCell.{SizedCell};
 ghost use Rattle.ae_netlist.specs.Counts.{is_input, count_of, cells_of};
 ghost use Rattle.ae_netlist.specs.Runs.{Clock};
@@ -178,13 +180,23 @@ fn run_netlist(alloc: Global, nl: &Netlist, rest: &[u8], fill: u64) -> Result<Re
     }
 }
 
-// The reply for a module that a text spells.
-fn run_module(alloc: Global, m: &VModule, rest: &[u8], fill: u64) -> Result<Reply, OutOfMemory>
-    requires spelled { (text : List ℕ) × (length text < 2 ^ 32) × Spells text (module_tree m.now) }
-    requires rest { length rest.now < 2 ^ 32 }
-    ensures { IfOk result (λ reply. IsModuleReply fill (module_tree m.now) (rows rest.now) reply.status (string_bytes reply.text)) }
+// The netlist of a module, which is not kept.
+fn netlist_of(alloc: Global, m: VModule) -> Result<Netlist, ElabFault>
+    requires spelled { (text : List ℕ) × (length text < 2 ^ 32) × Spells text (module_tree m) }
+    ensures well_formed { OnOk result (IsWellFormed (module_tree m)) }
+    ensures fault { IfErr result (λ f. IsFault (module_tree m) f) }
+    ensures runs { IfOk result (λ n. HasSameRuns (module_tree m) n) }
 {
-    match elaborate(alloc, m) {
+    elaborate(alloc, &m)
+}
+
+// The reply for a module that a text spells.
+fn run_module(alloc: Global, m: VModule, rest: &[u8], fill: u64) -> Result<Reply, OutOfMemory>
+    requires spelled { (text : List ℕ) × (length text < 2 ^ 32) × Spells text (module_tree m) }
+    requires rest { length rest.now < 2 ^ 32 }
+    ensures { IfOk result (λ reply. IsModuleReply fill (module_tree m) (rows rest.now) reply.status (string_bytes reply.text)) }
+{
+    match netlist_of(alloc, m) {
         Ok(nl) => run_netlist(alloc, &nl, rest, fill),
         Err(fault) => refused_as(alloc, module_kind(fault)),
     }
@@ -200,7 +212,7 @@ pub fn simulate(alloc: Global, part: &[u8], rest: &[u8], fill: u64) -> Result<Re
     ensures { IfOk result (λ reply. IsSimulated fill part.now (rows rest.now) reply.status (string_bytes reply.text)) }
 {
     match read(alloc, part) {
-        Ok(m) => run_module(alloc, &m, rest, fill),
+        Ok(m) => run_module(alloc, m, rest, fill),
         Err(fault) => refused_as(alloc, text_kind(&fault)),
     }
 }

@@ -1,5 +1,5 @@
 use Rattle.std.proofs.Common.{◌∷◌, ◌++◌, [], ap, sym, ◌∙◌}
-use Rattle.ae_play.proofs.Summing.{until_more}
+use Rattle.ae_layout.proofs.PieceLemmas.{until_more}
 use Rattle.ae_tool.proofs.wave.times.Goals as goal
 
 pub loop-time-preserved : goal.loop-time-preserved
