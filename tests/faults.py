@@ -119,6 +119,27 @@ def hung_up():
         return running.wait(SECONDS), running.stdout.read()
 
 
+def growing():
+    """A program, and empty lines that somebody writes behind it while it is read: whether one of its beginnings is answered."""
+    with tempfile.NamedTemporaryFile() as file:
+        file.write(SMALL)
+        file.flush()
+        ends = {"stdout": subprocess.PIPE, "stderr": subprocess.DEVNULL}
+        with open(file.name, "rb") as source, subprocess.Popen([AETH, "check"], stdin=source, **ends) as running:
+            while running.poll() is None and file.tell() < 4 * MOST:
+                file.write(b"\n" * 65536)
+                file.flush()
+            found = running.wait(SECONDS), running.stdout.read()
+    return found in ((0, b"1 fn main a:u8\n2 end u8\n"), (11, b"refused too long\n")) or found
+
+
+def huge():
+    """A file of 2 GiB."""
+    with tempfile.TemporaryFile() as file:
+        file.truncate(2**31)
+        return checked(stdin=file, stdout=subprocess.PIPE)
+
+
 def stopped():
     """A run that is stopped and goes on while it waits for its input."""
     with subprocess.Popen([AETH, "check"], stdin=subprocess.PIPE, stdout=subprocess.PIPE, bufsize=0) as running:
@@ -143,6 +164,8 @@ def devices():
     os.close(write)
     yield "no output", checked(input=SMALL, preexec_fn=lambda: os.close(1)), unwritten
     yield "no input", checked(stdout=subprocess.PIPE, preexec_fn=lambda: os.close(0)), fault
+    yield "2 GiB", huge(), (11, b"refused too long\n")
+    yield "a file that grows", growing(), True
     yield "a terminal that hangs up", hung_up(), fault
     yield "a run that is stopped", stopped(), (0, b"1 fn main a:u8\n2 end u8\n")
 

@@ -1,10 +1,14 @@
 #!/usr/bin/env python3
 """Inputs of someone who means ill, or of a program that has gone wrong: at each limit and one past it, cut anywhere, and as
 large as an input may be. Each has its stated answer, and the largest one comes in time."""
+import os
+import pathlib
 import resource
+import subprocess
 import sys
+import tempfile
 
-from common import INCREMENT, aeth
+from common import AETH, INCREMENT, aeth, missing
 
 SUMMED = """module acc (input wire clk, input wire [3:0] a, output reg [3:0] t);
   always @(posedge clk) t <= t + a;
@@ -81,6 +85,20 @@ def cases():
         yield "words that name no job", words, "", 1, "refused usage\n"
 
 
+def many_words():
+    """What it shows, and the answer to more and longer words than a system hands on."""
+    if missing("cc"):
+        return
+    with tempfile.TemporaryDirectory() as folder:
+        library = pathlib.Path(folder) / "words.so"
+        source = pathlib.Path(__file__).with_name("words.c")
+        subprocess.run(["cc", "-O1", "-shared", "-fPIC", "-o", library, source, "-ldl"], check=True)
+        for shows, count, size in (("a million words", 1_000_000, 1), ("a word of 100 MB", 1, 100_000_000)):
+            given = {**os.environ, "LD_PRELOAD": str(library), "WORDS_COUNT": str(count), "WORDS_SIZE": str(size)}
+            done = subprocess.run([AETH, "check"], input=b"", capture_output=True, env=given)
+            yield shows, (done.returncode, done.stdout.decode())
+
+
 def spent():
     """Seconds of a processor that all runs so far took: unlike those of a clock they do not tell what else the machine does."""
     used = resource.getrusage(resource.RUSAGE_CHILDREN)
@@ -97,6 +115,11 @@ def main():
         passed, failed = passed + well, failed + (not well)
         if not well:
             print(f"hostile: {shows}: status {answer[0]}, {answer[1][:200]!r} after {took:.1f} s")
+    for shows, answer in many_words():
+        well = answer == (1, "refused usage\n")
+        passed, failed = passed + well, failed + (not well)
+        if not well:
+            print(f"hostile: {shows}: {answer}")
     print(f"hostile: {passed} passed, {failed} failed")
     return failed > 0
 

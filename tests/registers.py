@@ -1,8 +1,8 @@
 #!/usr/bin/env python3
 """How many bits of registers the modules of small programs have, worked out by hand: no contract asks for the fewest, but a
 stage that no longer shares a counter, or keeps a word twice, shows here without a synthesis tool. A row is the program in
-tests/hand, the slowdown, and the bits. What waits long stands in memories, and what is held in one register: rows with bounds
-show that more clocks take hardly more registers."""
+tests/hand, the slowdown, and the bits. What waits long stands in memories, within a line and between lines, and what is held in one register: rows
+with bounds show that more clocks take hardly more registers."""
 import re
 import sys
 
@@ -25,6 +25,7 @@ BOUNDS = [
     ("signed_fir", 1024, 1.5 * 329),
     ("gain", 1024, 100),  # the gain, two clocks of a product, a clock of 1,024 and a mark
     ("gaussian", 4096, 16 * 10 + 100),  # ten words of 16 bits, and counters
+    ("matrix_vector", 1024, 1500),  # the product of each row waits 784 clocks for the last one: 12,544 bits in registers
 ]
 
 
