@@ -1,14 +1,14 @@
 -- Bodies: an instance of the called function fits the layouts of a node's arguments and its own, element by element.
-use Rattle.std.proofs.Common.{◌≡◌, ℕ, zero, suc, ◌<◌, ◌≤◌, ◌==◌, nat_lt, List, [], ◌∷◌, length, map, take, Some, refl, ap, sym, ◌∙◌, arith, IsTrue, slice_get, slice_index_or, subst}
+use Rattle.std.proofs.Common.{◌≡◌, ℕ, suc, ◌<◌, ◌≤◌, ◌==◌, nat_lt, List, [], ◌∷◌, length, map, take, Some, refl, ap, sym, ◌∙◌, arith, IsTrue, slice_get, slice_index_or, subst}
 use Rattle.std.proofs.lemmas.Bool.{eqb-true}
 use Rattle.std.proofs.lemmas.Bool.Decides.{nat_tests}
 use Rattle.std.proofs.lemmas.List.{length-take}
-use Rattle.std.proofs.lemmas.Option.{same_Some, slice_get_within, get_or_from_slice_get}
-use Rattle.ae_seqtype.specs.SeqTree.{SeqTree, seq}
+use Rattle.std.proofs.lemmas.Option.{none-some, same_Some, slice_get_within, get_or_from_slice_get}
+use Rattle.ae_seqtype.specs.SeqTree.{SeqTree, atom, seq}
 use Rattle.ae_seq.specs.ProgramTree.{ProgramTree, FuncTree, ParamTree, OpTree, call, each, each_two}
 use Rattle.ae_seq.specs.Formed.{is_line}
 use Rattle.ae_seq.specs.Signatures.{result_in}
-use Rattle.ae_seq.specs.Typing.{called, op_type, signatures, types_of_params, ◌>>=◌}
+use Rattle.ae_seq.specs.Typing.{Signature, called, each_type, each_two_type, op_type, signatures, type_at, types_of_params, ◌>>=◌}
 use Rattle.ae_eval.specs.Stack.{IsTyped, first_type, params_for, params_in, result_of, types_in}
 use Rattle.ae_eval.proofs.Items.{call-facts, option-both, slice_get-take}
 use Rattle.ae_eval.proofs.Moving.{where_ok-some}
@@ -25,8 +25,8 @@ use Rattle.ae_flow.specs.Flow.{first_result}
 use Rattle.ae_flow.specs.Fitted.{FitsBody, FitsOp, elements_stream}
 use Rattle.ae_ports.specs.Ports.{streams_of}
 use Rattle.ae_flow.proofs.Streams.{arranged_stream, seq_laid_too, single}
-use Rattle.ae_flow.proofs.Placed.{AreLaidAs, item_count_is, typed_item}
-use Rattle.ae_flow.proofs.Plain.{HaveTypes}
+use Rattle.ae_flow.proofs.Placed.{AreLaidAs, IsLaidAs, item_count_is, typed_item}
+use Rattle.ae_flow.proofs.Plain.{HaveTypes, one_argument, two_arguments}
 use Rattle.ae_flow.proofs.Spreading.{IsSpreadOver, spread_over, spread_is}
 
 -- ---- lists of layouts
@@ -156,16 +156,15 @@ record CallsFor (p : ProgramTree) (budget copies : ℕ) (c : Call) (ins : List S
 below_of : (g m : ℕ) → IsTrue (nat_lt g m) → g < m
 below_of g m h = grind (arith, nat_tests)
 
-calls_for : (p : ProgramTree) (f budget v copies : ℕ) (op : OpTree) (args : List ℕ) (ts : List SeqTree) (ins : List StTree) (t : SeqTree) (s : StTree) (c : Call) → IsTyped p → f < length p.funcs → 0 < budget → IsTrue (is_line v f op) → HaveTypes p f args ts
-    → AreLaidAs ts budget ins → op_type (signatures (take f p.funcs)) op ts ≡ Some t → lay_of t budget ≡ Some s → call_of op budget (spread_at p f budget (head args)) ≡ Some c → copies ≡ c.copies → CallsFor p budget copies c ins s
-calls_for p f budget v copies (call g) args ts ins t s c typed known some line h l is out at many =
-    let e : record { func = g; budget = budget; copies = 1 } ≡ c = same_Some _ c at in
-    let facts = call-facts p f g ts t typed (below_of g f line) known is in
-    rw (← e) (record { params = ts; result = t; is_params = facts.params; is_result = facts.result; fits = λ k callee. call_body budget copies ts t ins s k (many ∙ sym (ap (λ (x : Call). x.copies) e)) callee l out })
-calls_for p f budget v copies (each g) (a ∷ []) (seq n u ∷ []) (x ∷ []) t s c typed known some line h l is out at many =
-    let z = spread_over n u budget x some l.0 in
+-- the same on elements
+each_calls : (p : ProgramTree) (f budget v copies g a : ℕ) (u : SeqTree) (x : StTree) (t : SeqTree) (s : StTree) (c : Call) → IsTyped p → f < length p.funcs
+    → 0 < budget → IsTrue (nat_lt g f) → type_at p f a ≡ Some u → IsLaidAs u budget x → each_type (signatures (take f p.funcs)) g u ≡ Some t
+    → lay_of t budget ≡ Some s → each_call g budget (spread_at p f budget a) ≡ Some c → copies ≡ c.copies → CallsFor p budget copies c (x ∷ []) s
+each_calls p f budget v copies g a (atom i) x t s c typed known some line h l is out at many = absurd (none-some t is)
+each_calls p f budget v copies g a (seq n u) x t s c typed known some line h l is out at many =
+    let z = spread_over n u budget x some l in
     let made : Call = record { func = g; budget = inner_of n budget z.arranged.case; copies = lanes_of n budget z.arranged.case } in
-    let e : made ≡ c = same_Some made c (sym (ap (each_call g budget) (spread_is p f budget a n u x z.arranged h.0)) ∙ at) in
+    let e : made ≡ c = same_Some made c (sym (ap (each_call g budget) (spread_is p f budget a n u x z.arranged h)) ∙ at) in
     let r = option-both (called (signatures (take f p.funcs)) g (u ∷ [])) (λ (w : SeqTree). Some (seq n w)) t is in
     let facts = call-facts p f g (u ∷ []) r.0 typed (below_of g f line) known r.1 in
     let whole : seq n r.0 ≡ t = same_Some (seq n r.0) t r.2 in
@@ -174,27 +173,73 @@ calls_for p f budget v copies (each g) (a ∷ []) (seq n u ∷ []) (x ∷ []) t 
       result = r.0;
       is_params = facts.params;
       is_result = facts.result;
-      fits = λ k callee. spread_body n budget copies u r.0 x s (x ∷ []) k z (many ∙ sym (ap (λ (y : Call). y.copies) e)) callee.clocks (one_stream n budget u x k z callee.ins) callee.out (subst (λ (q : SeqTree). lay_of q budget ≡ Some s) (sym whole) out);
+      fits = λ k callee. spread_body n budget copies u r.0 x s (x ∷ []) k z (many ∙ sym (ap (λ (y : Call). y.copies) e)) callee.clocks
+          (one_stream n budget u x k z callee.ins) callee.out (subst (λ (q : SeqTree). lay_of q budget ≡ Some s) (sym whole) out);
     })
-calls_for p f budget v copies (each_two g) (a ∷ b ∷ []) (seq n u ∷ seq m w ∷ []) (x ∷ y ∷ []) t s c typed known some line h l is out at many =
+
+each_two_calls : (p : ProgramTree) (f budget v copies g a : ℕ) (u w : SeqTree) (x y : StTree) (t : SeqTree) (s : StTree) (c : Call) → IsTyped p
+    → f < length p.funcs → 0 < budget → IsTrue (nat_lt g f) → type_at p f a ≡ Some u → IsLaidAs u budget x → IsLaidAs w budget y
+    → each_two_type (signatures (take f p.funcs)) g u w ≡ Some t → lay_of t budget ≡ Some s → each_call g budget (spread_at p f budget a) ≡ Some c
+    → copies ≡ c.copies → CallsFor p budget copies c (x ∷ y ∷ []) s
+each_two_calls p f budget v copies g a (atom i) w x y t s c typed known some line h l last is out at many = absurd (none-some t is)
+each_two_calls p f budget v copies g a (seq n u) (atom i) x y t s c typed known some line h l last is out at many = absurd (none-some t is)
+each_two_calls p f budget v copies g a (seq n u) (seq m w) x y t s c typed known some line h l last is out at many =
     let o = where_ok-some (n == m) (called (signatures (take f p.funcs)) g (u ∷ w ∷ []) >>= λ (i : SeqTree). Some (seq n i)) t is in
     let same : n ≡ m = eqb-true n m o.0 in
-    let z = spread_over n u budget x some l.0 in
+    let z = spread_over n u budget x some l in
     let made : Call = record { func = g; budget = inner_of n budget z.arranged.case; copies = lanes_of n budget z.arranged.case } in
-    let e : made ≡ c = same_Some made c (sym (ap (each_call g budget) (spread_is p f budget a n u x z.arranged h.0)) ∙ at) in
+    let e : made ≡ c = same_Some made c (sym (ap (each_call g budget) (spread_is p f budget a n u x z.arranged h)) ∙ at) in
     let r = option-both (called (signatures (take f p.funcs)) g (u ∷ w ∷ [])) (λ (i : SeqTree). Some (seq n i)) t o.1 in
     let facts = call-facts p f g (u ∷ w ∷ []) r.0 typed (below_of g f line) known r.1 in
     let whole : seq n r.0 ≡ t = same_Some (seq n r.0) t r.2 in
-    let second : lay_of (seq n w) budget ≡ Some y = subst (λ (i : ℕ). lay_of (seq i w) budget ≡ Some y) (sym same) l.1.0.laid in
+    let second : lay_of (seq n w) budget ≡ Some y = subst (λ (i : ℕ). lay_of (seq i w) budget ≡ Some y) (sym same) last.laid in
     rw (← e) (record {
       params = u ∷ w ∷ [];
       result = r.0;
       is_params = facts.params;
       is_result = facts.result;
-      fits = λ k callee. spread_body n budget copies u r.0 x s (x ∷ y ∷ []) k z (many ∙ sym (ap (λ (i : Call). i.copies) e)) callee.clocks (two_streams n budget u w x y k z second callee.ins) callee.out (subst (λ (q : SeqTree). lay_of q budget ≡ Some s) (sym whole) out);
+      fits = λ k callee. spread_body n budget copies u r.0 x s (x ∷ y ∷ []) k z (many ∙ sym (ap (λ (i : Call). i.copies) e)) callee.clocks
+          (two_streams n budget u w x y k z second callee.ins) callee.out (subst (λ (q : SeqTree). lay_of q budget ≡ Some s) (sym whole) out);
     })
-calls_for p f budget v copies _ _ _ _ t s c typed known some line h l is out at many =
-    first_of (cc, search arith)
+
+-- as many arguments as types, and of types as the line takes
+counted : (p : ProgramTree) (f : ℕ) (args : List ℕ) (ts : List SeqTree) → HaveTypes p f args ts → length args ≡ length ts
+counted p f [] [] h = refl
+counted p f [] (t ∷ ts) h = absurd h
+counted p f (a ∷ args) [] h = absurd h
+counted p f (a ∷ args) (t ∷ ts) h = ap suc (counted p f args ts h.1)
+
+one_type : (known : List Signature) (g : ℕ) (ts : List SeqTree) (t : SeqTree) → op_type known (each g) ts ≡ Some t → length ts ≡ 1
+one_type known g [] t is = absurd (none-some t is)
+one_type known g (u ∷ []) t is = refl
+one_type known g (u ∷ w ∷ ts) t is = absurd (none-some t is)
+
+two_types : (known : List Signature) (g : ℕ) (ts : List SeqTree) (t : SeqTree) → op_type known (each_two g) ts ≡ Some t → length ts ≡ 2
+two_types known g [] t is = absurd (none-some t is)
+two_types known g (u ∷ []) t is = absurd (none-some t is)
+two_types known g (u ∷ w ∷ []) t is = refl
+two_types known g (u ∷ w ∷ z ∷ ts) t is = absurd (none-some t is)
+
+-- what has to be shown of arguments
+abbrev MakesCalls : (p : ProgramTree) (f budget copies : ℕ) (op : OpTree) (t : SeqTree) (s : StTree) (c : Call) → List ℕ → List SeqTree → List StTree → Type 0
+MakesCalls p f budget copies op t s c args ts ins =
+    op_type (signatures (take f p.funcs)) op ts ≡ Some t → call_of op budget (spread_at p f budget (head args)) ≡ Some c → CallsFor p budget copies c ins s
+
+calls_for : (p : ProgramTree) (f budget v copies : ℕ) (op : OpTree) (args : List ℕ) (ts : List SeqTree) (ins : List StTree) (t : SeqTree) (s : StTree) (c : Call) → IsTyped p → f < length p.funcs → 0 < budget → IsTrue (is_line v f op) → HaveTypes p f args ts
+    → AreLaidAs ts budget ins → op_type (signatures (take f p.funcs)) op ts ≡ Some t → lay_of t budget ≡ Some s → call_of op budget (spread_at p f budget (head args)) ≡ Some c → copies ≡ c.copies → CallsFor p budget copies c ins s
+calls_for p f budget v copies (call g) args ts ins t s c typed known some line h l is out at many =
+    let e : record { func = g; budget = budget; copies = 1 } ≡ c = same_Some _ c at in
+    let facts = call-facts p f g ts t typed (below_of g f line) known is in
+    rw (← e) (record { params = ts; result = t; is_params = facts.params; is_result = facts.result; fits = λ k callee. call_body budget copies ts t ins s k (many ∙ sym (ap (λ (x : Call). x.copies) e)) callee l out })
+calls_for p f budget v copies (each g) args ts ins t s c typed known some line h l is out at many =
+    one_argument p f budget (MakesCalls p f budget copies (each g) t s c) args ts ins
+    (counted p f args ts h ∙ one_type (signatures (take f p.funcs)) g ts t is) h l
+    (λ a u x type laid is at. each_calls p f budget v copies g a u x t s c typed known some line type laid is out at many) is at
+calls_for p f budget v copies (each_two g) args ts ins t s c typed known some line h l is out at many =
+    two_arguments p f budget (MakesCalls p f budget copies (each_two g) t s c) args ts ins
+    (counted p f args ts h ∙ two_types (signatures (take f p.funcs)) g ts t is) h l
+    (λ a b u w x y type too laid last is at. each_two_calls p f budget v copies g a u w x y t s c typed known some line type laid last is out at many) is at
+calls_for p f budget v copies _ args ts ins t s c typed known some line h l is out at many = absurd (none-some c at)
 
 -- the body of such a call fits
 pub call_fits : (p : ProgramTree) (slowdown k : ℕ) (all : List StFuncTree) (f budget v copies : ℕ) (op : OpTree) (args : List ℕ) (ts : List SeqTree) (ins : List StTree) (t : SeqTree) (s : StTree) (c : Call) (made : StOpTree) → IsTyped p → IsSchedule p slowdown all
