@@ -26,7 +26,7 @@ use Rattle.ae_stream.specs.Laws.{DrivenCircuitsKeepWords, DrivenCircuitsStream, 
 use Rattle.ae_stream.specs.Wired.{AreQueued, FromEach, IsMarked, IsWired}
 use Rattle.ae_streamed.specs.declared.marking.Marks.{Marks}
 use Rattle.ae_streamed.specs.Beats.{HasMarks, IsBitOf}
-use Rattle.ae_streamed.specs.Between.{IsStream, IsWrapped, channel_ends, copied_nets, wires_of}
+use Rattle.ae_streamed.specs.Between.{IsStream, IsWrapped, channel_ends, copied_nets, ports_of, sink_valid, source_ready, wires_of}
 use Rattle.ae_streamed.specs.Columns.{net_at}
 use Rattle.ae_streamed.specs.Controls.{control_of, ends_of}
 use Rattle.ae_streamed.proofs.Cells.{net_within}
@@ -161,10 +161,20 @@ module _ (n marked new : Circuit) (m : Marks) (slowdown latency : ℕ) (inputs o
   is_stream = record {
     valid = wrapped.valid;
     ready = wrapped.ready;
-    shown = wrapped.shown.long ∙ ap (λ o. 2 + length o) grows.outlets;
+    ports = wrapped.shown.ports ∙ ap (λ o. source_ready ∷ sink_valid ∷ ports_of o) grows.outlets;
     streams = λ p fed makes run start r reset. subst (λ e. Streams e run start p slowdown inputs outputs) own_is (streams_own run start r reset p fed makes);
     stays = λ run start r reset. subst (λ e. Stays e columns run start) own_is (stays_own run start r reset);
   }
+
+-- a circuit and the same with another limit
+pub same_stream : (n new : Circuit) (slowdown latency limit : ℕ) (inputs outputs : List StTree) → IsStream (record n { limit = limit }) new slowdown latency inputs outputs → IsStream n new slowdown latency inputs outputs
+same_stream n new slowdown latency limit inputs outputs h = record {
+  valid = h.valid;
+  ready = h.ready;
+  ports = h.ports;
+  streams = λ p fed m. h.streams p fed (record { makes = m.makes });
+  stays = h.stays;
+}
 
 -- no more blocks than the latency has, and one
 pub wait_few : (latency slowdown last : ℕ) → 0 < slowdown → last < slowdown → (latency + last) / slowdown ≤ latency / slowdown + 1

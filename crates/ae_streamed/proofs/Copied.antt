@@ -1,13 +1,12 @@
 -- A control behind a copy, the outputs, and the copy held.
-use Rattle.std.proofs.Common.{ℕ, zero, suc, ◌≡◌, ◌+◌, ◌*◌, ◌<◌, inl, inr, List, [], ◌∷◌, ◌++◌, length, length-append, Some, slice_get, arith, refl, sym, ap, ◌∙◌, subst}
-use Rattle.std.proofs.lemmas.List.{length-map}
+use Rattle.std.proofs.Common.{ℕ, zero, suc, ◌≡◌, ◌+◌, ◌*◌, ◌<◌, inl, inr, List, [], ◌∷◌, ◌++◌, length, length-append, take, Some, slice_get, arith, refl, sym, ap, ◌∙◌, subst}
+use Rattle.std.proofs.Math.Seq.{take-length}
 use Rattle.std.specs.Prelude.{◌⊎◌, ◌≢◌}
 use Rattle.std.proofs.lemmas.Bool.{cases_eq}
 use Rattle.std.proofs.lemmas.Option.{slice_get_within}
 use Rattle.ae_netlist.specs.declared.cell.NetId.{NetId}
 use Rattle.ae_netlist.specs.declared.cell.Outlet.{Outlet}
 use Rattle.ae_netlist.specs.declared.cell.Port.{Port}
-use Rattle.ae_netlist.specs.declared.cell.Port.TheVariants.{Plain}
 use Rattle.ae_netlist.specs.declared.cell.Cell.{Cell}
 use Rattle.ae_netlist.specs.declared.cell.Cell.TheVariants.{Input, Const, Op, Reg, Mem, Peek}
 use Rattle.ae_netlist.specs.declared.cell.SizedCell.{SizedCell}
@@ -20,11 +19,11 @@ use Rattle.ae_stall.specs.Images.{fresh, placed, placed_net}
 use Rattle.ae_streamed.specs.declared.driver.Controlled.{Controlled}
 use Rattle.ae_streamed.specs.declared.driver.Wires.{Wires}
 use Rattle.ae_streamed.specs.declared.marking.Marks.{Marks}
-use Rattle.ae_streamed.specs.Between.{AreMarkNets, AreShownBy, HasDriver, IsWrapped, copied_nets, wires_of}
+use Rattle.ae_streamed.specs.Between.{AreMarkNets, AreShownBy, HasDriver, IsWrapped, channel_inputs, copied_nets, ports_of, sink_ready, sink_valid, source_ready, source_valid, wires_of}
 use Rattle.ae_streamed.specs.Cells.{IsLonger, KeepsFrom}
 use Rattle.ae_streamed.specs.Columns.{AreColumns}
 use Rattle.ae_streamed.specs.Controls.{AreWires, HasControlNets, IsControl, net}
-use Rattle.ae_streamed.proofs.Cells.{longer_trans, net_within}
+use Rattle.ae_streamed.proofs.Cells.{longer_trans, net_within, next_first}
 use Rattle.ae_streamed.proofs.Within.{of_mapped}
 use Rattle.ae_streamed.proofs.Queueing.{own_width}
 
@@ -62,10 +61,10 @@ nets_later e h = record {
   moves = net_later e h.moves;
 }
 
-pub has_driver : (old one two new : Circuit) (m : Marks) (w : Wires) (blocks at : ℕ) (made : List NetId) (c : Controlled) → w ≡ wires_of m → IsLonger old one → IsControl (length old.cells) one.cells w blocks c
+pub has_driver : (old one two new : Circuit) (m : Marks) (w : Wires) (blocks at : ℕ) (made : List NetId) (outlets : List Outlet) (c : Controlled) → w ≡ wires_of m → IsLonger old one → IsControl (length old.cells) one.cells w blocks c
     → HasControlNets (length old.cells) one.cells c → at ≡ length one.cells → IsLonger one two → AreColumns (length one.cells) two.cells c made
-    → new.cells ≡ two.cells → new.limit ≡ two.limit → AreShownBy c at (length made) new.outlets → HasDriver old new m blocks made c
-has_driver old one two new m w blocks at made c is first control nets here then_two columns cells limit shown =
+    → new.cells ≡ two.cells → new.limit ≡ two.limit → AreShownBy c at outlets new.outlets → HasDriver old new m blocks made outlets c
+has_driver old one two new m w blocks at made outlets c is first control nets here then_two columns cells limit shown =
     let both : IsLonger old two = longer_trans first then_two in
     record {
       extends = subst (Extends old.cells) (sym cells) both.extends;
@@ -90,33 +89,54 @@ outlet_last : (outlets : List Outlet) (o : Outlet) → outlet_net (outlets ++ o 
 outlet_last [] o = refl
 outlet_last (x ∷ outlets) o = outlet_last outlets o
 
-abbrev output : (number n : ℕ) → Outlet
-output number n = record { port = Plain number; net = net n }
+abbrev output : Port → (n : ℕ) → Outlet
+output port n = record { port = port; net = net n }
 
-pub shown_none : (c : Controlled) (at : ℕ) (none one two : List Outlet) → none ≡ [] → one ≡ none ++ output 0 c.asks.0 ∷ [] → two ≡ one ++ output 1 c.one.0 ∷ [] → AreShownBy c at 0 two
-shown_none c at none one two en e1 e2 = rw (e2, e1, en) (record { long = refl; asks = refl; one = refl; columns = λ k l. absurd (omega arith) })
+ports_append : (outlets : List Outlet) (o : Outlet) → ports_of (outlets ++ o ∷ []) ≡ ports_of outlets ++ o.port ∷ []
+ports_append [] o = refl
+ports_append (x ∷ outlets) o = ap (λ v. x.port ∷ v) (ports_append outlets o)
 
-pub shown_more : (c : Controlled) (at count number : ℕ) (before after : List Outlet) → AreShownBy c at count before → after ≡ before ++ output number (at + 4 * count) ∷ [] → AreShownBy c at (count + 1) after
-shown_more c at count number before after h e =
-    let o : Outlet = output number (at + 4 * count) in
+-- the first so many of some outputs are shown
+pub record AreFirstShown (c : Controlled) (at count : ℕ) (old outlets : List Outlet) : Type 0 where
+  pub ports : ports_of outlets ≡ source_ready ∷ sink_valid ∷ ports_of (take count old)
+  pub long : length outlets ≡ 2 + count
+  pub asks : outlet_net outlets 0 ≡ c.asks.0
+  pub one : outlet_net outlets 1 ≡ c.one.0
+  pub columns : (k : ℕ) → k < count → outlet_net outlets (2 + k) ≡ at + 4 * k
+
+pub shown_none : (c : Controlled) (at : ℕ) (old none one two : List Outlet) → none ≡ [] → one ≡ none ++ output source_ready c.asks.0 ∷ [] → two ≡ one ++ output sink_valid c.one.0 ∷ []
+    → AreFirstShown c at 0 old two
+shown_none c at old none one two en e1 e2 = rw (e2, e1, en) (record { ports = refl; long = refl; asks = refl; one = refl; columns = λ k l. absurd (omega (arith, l)) })
+
+pub shown_more : (c : Controlled) (at count : ℕ) (old before after : List Outlet) (o : Outlet) → slice_get old count ≡ Some o → AreFirstShown c at count old before
+    → after ≡ before ++ output o.port (at + 4 * count) ∷ [] → AreFirstShown c at (count + 1) old after
+shown_more c at count old before after x found h e =
+    let o : Outlet = output x.port (at + 4 * count) in
     rw e (record {
+      ports = ports_append before o ∙ (ap (λ v. v ++ x.port ∷ []) h.ports ∙ ap (λ v. source_ready ∷ sink_valid ∷ v) (sym (next_first (λ (o : Outlet). o.port) old count x found)));
       long = omega (arith, length-append before (o ∷ []), h.long);
       asks = outlet_left before o 0 (omega (arith, h.long)) ∙ h.asks;
       one = outlet_left before o 1 (omega (arith, h.long)) ∙ h.one;
       columns = λ k l. column k l (cases_eq k count);
     })
   where
-    column : (k : ℕ) → k < count + 1 → (k ≡ count) ⊎ (k ≢ count) → outlet_net (before ++ output number (at + 4 * count) ∷ []) (2 + k) ≡ at + 4 * k
+    column : (k : ℕ) → k < count + 1 → (k ≡ count) ⊎ (k ≢ count) → outlet_net (before ++ output x.port (at + 4 * count) ∷ []) (2 + k) ≡ at + 4 * k
     column k l (inl same) =
-        let o : Outlet = output number (at + 4 * count) in
+        let o : Outlet = output x.port (at + 4 * count) in
         let far : 2 + k ≡ length before = omega (arith, h.long, same) in
         ap (outlet_net (before ++ o ∷ [])) far ∙ (outlet_last before o ∙ ap (λ v. at + 4 * v) (sym same))
-    column k l (inr apart) = outlet_left before (output number (at + 4 * count)) (2 + k) (omega (arith, h.long, apart)) ∙ h.columns k (omega (arith, apart))
+    column k l (inr apart) = outlet_left before (output x.port (at + 4 * count)) (2 + k) (omega (arith, h.long, apart)) ∙ h.columns k (omega (arith, l, apart))
+
+pub all_shown : (c : Controlled) (at count : ℕ) (old outlets : List Outlet) → count ≡ length old → AreFirstShown c at count old outlets → AreShownBy c at old outlets
+all_shown c at count old outlets end h = record {
+  ports = h.ports ∙ ap (λ v. source_ready ∷ sink_valid ∷ ports_of v) (ap (λ k. take k old) end ∙ take-length old);
+  long = h.long ∙ ap (λ k. 2 + k) end;
+  asks = h.asks;
+  one = h.one;
+  columns = λ k l. h.columns k (omega (arith, l, end));
+}
 
 -- ---- the copy
-
-abbrev ports : List Port
-ports = Plain 0 ∷ Plain 1 ∷ []
 
 fresh_plain : (more own : ℕ) (cell : Cell) → IsPlain cell → IsPlain (fresh more own cell)
 fresh_plain more own (Input port) h = tt
@@ -126,7 +146,7 @@ fresh_plain more own (Reg next) h = tt
 fresh_plain more own (Mem depth at next enable) h = h
 fresh_plain more own (Peek mem at) h = tt
 
-pub copied_net : {old new : List SizedCell} {n w : ℕ} → IsCopied ports old new (length old) → IsNet old n w → IsNet new (placed 2 n) w
+pub copied_net : {old new : List SizedCell} {n w : ℕ} → IsCopied channel_inputs old new (length old) → IsNet old n w → IsNet new (placed 2 n) w
 copied_net {n = n} c h = record {
   sized = record { width = h.sized.width; cell = fresh 2 n h.sized.cell };
   found = (c.each n h.sized (net_within h) h.found).there;
@@ -134,11 +154,11 @@ copied_net {n = n} c h = record {
   wide = h.wide;
 }
 
-pub copied_wires : (old new : List SizedCell) (m : Marks) → slice_get old 0 ≡ Some reset_cell → AreMarkNets old m → IsCopied ports old new (length old) → AreWires new (wires_of m)
+pub copied_wires : (old new : List SizedCell) (m : Marks) → slice_get old 0 ≡ Some reset_cell → AreMarkNets old m → IsCopied channel_inputs old new (length old) → AreWires new (wires_of m)
 copied_wires old new m reset marks c = record {
   reset = copied_net c (record { sized = reset_cell; found = reset; plain = tt; wide = refl });
-  valid = record { sized = _; found = c.inputs 0 (Plain 0) refl; plain = tt; wide = refl };
-  ready = record { sized = _; found = c.inputs 1 (Plain 1) refl; plain = tt; wide = refl };
+  valid = record { sized = _; found = c.inputs 0 source_valid refl; plain = tt; wide = refl };
+  ready = record { sized = _; found = c.inputs 1 sink_ready refl; plain = tt; wide = refl };
   first = copied_net c marks.first;
   last = copied_net c marks.last;
   wants = copied_net c marks.wants;
@@ -147,15 +167,15 @@ copied_wires old new m reset marks c = record {
 }
 
 -- the nets of the outputs stand in the copy
-pub made_nets : (old new : List SizedCell) (outlets : List Outlet) (made : List NetId) → made ≡ copied_nets outlets → HaveNets old outlets → IsCopied ports old new (length old)
+pub made_nets : (old new : List SizedCell) (outlets : List Outlet) (made : List NetId) → made ≡ copied_nets outlets → HaveNets old outlets → IsCopied channel_inputs old new (length old)
     → (k : ℕ) (n : NetId) → slice_get made k ≡ Some n → IsNet new n.0 (width_of new n.0)
 made_nets old new outlets made is have c k n found =
     let o = of_mapped (λ (o : Outlet). placed_net 2 o.net) outlets k n (ap (λ v. slice_get v k) (sym is) ∙ found) in
     subst (λ (v : NetId). IsNet new v.0 (width_of new v.0)) o.2 (own_width (copied_net c (have.each k o.0 o.1)))
 
-pub may_be_held : (old copied driven : Circuit) (m : Marks) (blocks : ℕ) (made : List NetId) (c : Controlled) → slice_get old.cells 0 ≡ Some reset_cell → IsCopied ports old.cells copied.cells (length old.cells)
-    → HasDriver copied driven m blocks made c → MayBeHeld 2 c.enable.0 old.cells driven.cells
-may_be_held old copied driven m blocks made c reset h d = record {
+pub may_be_held : (old copied driven : Circuit) (m : Marks) (blocks : ℕ) (made : List NetId) (outlets : List Outlet) (c : Controlled) → slice_get old.cells 0 ≡ Some reset_cell → IsCopied channel_inputs old.cells copied.cells (length old.cells)
+    → HasDriver copied driven m blocks made outlets c → MayBeHeld 2 c.enable.0 old.cells driven.cells
+may_be_held old copied driven m blocks made outlets c reset h d = record {
   some = h.some;
   many = omega (arith, h.long, extends_length copied.cells driven.cells d.extends);
   apart = inr (omega (arith, h.long, d.nets.behind));
@@ -163,22 +183,21 @@ may_be_held old copied driven m blocks made c reset h d = record {
   each = λ n sized found. record { there = d.extends.keeps (placed 2 n) _ (h.each n sized (slice_get_within old.cells n sized found) found).there };
 }
 
-pub is_wrapped : (marked copied driven new : Circuit) (m : Marks) (blocks : ℕ) (made : List NetId) (c : Controlled) → made ≡ copied_nets marked.outlets → IsCopied ports marked.cells copied.cells (length marked.cells)
-    → HasDriver copied driven m blocks made c → IsHeld 2 c.enable.0 marked driven new → IsWrapped marked new m blocks
+pub is_wrapped : (marked copied driven new : Circuit) (m : Marks) (blocks : ℕ) (made : List NetId) (c : Controlled) → made ≡ copied_nets marked.outlets → IsCopied channel_inputs marked.cells copied.cells (length marked.cells)
+    → HasDriver copied driven m blocks made marked.outlets c → IsHeld 2 c.enable.0 marked driven new → IsWrapped marked new m blocks
 is_wrapped marked copied driven new m blocks made c is h d held =
     let size : length copied.cells ≡ length marked.cells + 2 = h.long in
     let keeps : KeepsFrom (length marked.cells + 2) driven.cells new.cells = λ n sized l f. held.keeps n sized (inr l) f in
     let later : KeepsFrom d.at driven.cells new.cells = λ n sized l f. held.keeps n sized (inr (omega (arith, size, d.behind, l))) f in
-    let many : length made ≡ length marked.outlets = ap length is ∙ length-map marked.outlets (λ (o : Outlet). placed_net 2 o.net) in
     record {
       by = c;
       copied = driven;
       held = held;
       longer = omega (arith, size, extends_length copied.cells driven.cells d.extends);
-      valid = held.keeps 1 _ (inl (omega arith, omega arith)) (d.extends.keeps 1 _ (h.inputs 0 (Plain 0) refl));
-      ready = held.keeps 2 _ (inl (omega arith, omega arith)) (d.extends.keeps 2 _ (h.inputs 1 (Plain 1) refl));
+      valid = held.keeps 1 _ (inl (omega arith, omega arith)) (d.extends.keeps 1 _ (h.inputs 0 source_valid refl));
+      ready = held.keeps 2 _ (inl (omega arith, omega arith)) (d.extends.keeps 2 _ (h.inputs 1 sink_ready refl));
       control = control_kept keeps (subst (λ v. IsControl v driven.cells (wires_of m) blocks c) size d.control);
       at = d.at;
       columns = columns_kept later (subst (AreColumns d.at driven.cells c) is d.columns);
-      shown = subst (λ v. AreShownBy c d.at v new.outlets) many (subst (AreShownBy c d.at (length made)) (sym held.outlets) d.shown);
+      shown = subst (AreShownBy c d.at marked.outlets) (sym held.outlets) d.shown;
     }

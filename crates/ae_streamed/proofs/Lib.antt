@@ -8,6 +8,7 @@ pub mod Beats
 pub mod Phasing
 pub mod Bits
 pub mod Gained
+pub mod Remade
 pub mod Within
 pub mod Last
 pub mod Copied

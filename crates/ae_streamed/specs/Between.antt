@@ -1,11 +1,12 @@
 -- A circuit between two channels, as a netlist.
-use Rattle.std.specs.Prelude.{◌≡◌, ℕ, ◌+◌, ◌*◌, ◌<◌, ◌≤◌, List, length, map, sum_by, Some, slice_get}
+use Rattle.std.specs.Prelude.{◌≡◌, ℕ, ◌+◌, ◌*◌, ◌<◌, ◌≤◌, List, [], ◌∷◌, length, map, sum_by, Some, slice_get}
 use Rattle.ae_seq.specs.ProgramTree.{ProgramTree}
 use Rattle.ae_sttype.specs.StTree.{StTree}
 use Rattle.ae_sttype.specs.Moves.{columns_of}
 use Rattle.ae_netlist.specs.declared.cell.NetId.{NetId}
 use Rattle.ae_netlist.specs.declared.cell.Outlet.{Outlet}
-use Rattle.ae_netlist.specs.declared.cell.Port.TheVariants.{Plain}
+use Rattle.ae_netlist.specs.declared.cell.Port.{Port}
+use Rattle.ae_netlist.specs.declared.cell.Port.TheVariants.{In, Out}
 use Rattle.ae_netlist.specs.declared.cell.SizedCell.{SizedCell}
 use Rattle.ae_netlist.specs.Circuit.{Circuit, Extends, IsNet}
 use Rattle.ae_netlist.specs.Runs.{Clock, IsReset, IsRun}
@@ -19,6 +20,28 @@ use Rattle.ae_streamed.specs.declared.driver.Wires.{Wires}
 use Rattle.ae_streamed.specs.declared.marking.Marks.{Marks}
 use Rattle.ae_streamed.specs.Controls.{HasControlNets, IsControl, net}
 use Rattle.ae_streamed.specs.Columns.{AreColumns}
+
+-- ---- its ports
+
+-- that words stand at the source, and that those at the sink are taken: words of a lane of a number that no layout has
+abbrev pub source_valid : Port
+source_valid = In 0 4294967295 0
+
+abbrev pub sink_ready : Port
+sink_ready = In 0 4294967295 1
+
+abbrev pub channel_inputs : List Port
+channel_inputs = source_valid ∷ sink_ready ∷ []
+
+-- that the source is asked, and that words stand at the sink, in the same way
+abbrev pub source_ready : Port
+source_ready = Out 0 4294967295 0
+
+abbrev pub sink_valid : Port
+sink_valid = Out 0 4294967295 1
+
+abbrev pub ports_of : List Outlet → List Port
+ports_of outlets = map (λ (o : Outlet). o.port) outlets
 
 -- ---- how it is made: a copy of the circuit and its marks with two more inputs behind the reset, and a control
 
@@ -46,15 +69,17 @@ pub record AreMarkNets (cells : List SizedCell) (m : Marks) : Type 0 where
 abbrev pub copied_nets : List Outlet → List NetId
 copied_nets outlets = map (λ (o : Outlet). placed_net 2 o.net) outlets
 
--- outputs: that the source is asked, that words stand at the sink, and every fourth net from one on, so many
-pub record AreShownBy (c : Controlled) (at count : ℕ) (outlets : List Outlet) : Type 0 where
-  pub long : length outlets ≡ 2 + count
+-- outputs: that the source is asked, that words stand at the sink, and for each old output one: every fourth net
+pub record AreShownBy (c : Controlled) (at : ℕ) (old outlets : List Outlet) : Type 0 where
+  pub ports : ports_of outlets ≡ source_ready ∷ sink_valid ∷ ports_of old
+  pub long : length outlets ≡ 2 + length old
   pub asks : outlet_net outlets 0 ≡ c.asks.0
   pub one : outlet_net outlets 1 ≡ c.one.0
-  pub columns : (k : ℕ) → k < count → outlet_net outlets (2 + k) ≡ at + 4 * k
+  pub columns : (k : ℕ) → k < length old → outlet_net outlets (2 + k) ≡ at + 4 * k
 
 -- behind these cells come a control and queues for these nets, and they are shown
-pub record HasDriver (old new : Circuit) (m : Marks) (blocks : ℕ) (made : List NetId) (c : Controlled) : Type 0 where
+pub record HasDriver (old new : Circuit) (m : Marks) (blocks : ℕ) (made : List NetId) (outlets : List Outlet)
+    (c : Controlled) : Type 0 where
   pub extends : Extends old.cells new.cells
   pub limit : new.limit ≡ old.limit
   pub control : IsControl (length old.cells) new.cells (wires_of m) blocks c
@@ -62,7 +87,7 @@ pub record HasDriver (old new : Circuit) (m : Marks) (blocks : ℕ) (made : List
   pub at : ℕ
   pub behind : length old.cells ≤ at
   pub columns : AreColumns at new.cells c made
-  pub shown : AreShownBy c at (length made) new.outlets
+  pub shown : AreShownBy c at outlets new.outlets
 
 -- a copy of a marked netlist, held by the control that is around it
 pub record IsWrapped (marked new : Circuit) (m : Marks) (blocks : ℕ) : Type 0 where
@@ -70,12 +95,12 @@ pub record IsWrapped (marked new : Circuit) (m : Marks) (blocks : ℕ) : Type 0 
   pub copied : Circuit
   pub held : IsHeld 2 by.enable.0 marked copied new
   pub longer : length marked.cells + 2 ≤ length copied.cells
-  pub valid : slice_get new.cells 1 ≡ Some (bit_input (Plain 0))
-  pub ready : slice_get new.cells 2 ≡ Some (bit_input (Plain 1))
+  pub valid : slice_get new.cells 1 ≡ Some (bit_input source_valid)
+  pub ready : slice_get new.cells 2 ≡ Some (bit_input sink_ready)
   pub control : IsControl (length marked.cells + 2) new.cells (wires_of m) blocks by
   pub at : ℕ
   pub columns : AreColumns at new.cells by (copied_nets marked.outlets)
-  pub shown : AreShownBy by at (length marked.outlets) new.outlets
+  pub shown : AreShownBy by at marked.outlets new.outlets
 
 -- ---- what it does
 
@@ -101,9 +126,9 @@ InResetRuns cells P = (run : List Clock) (start : ℕ) → IsRun cells run → I
 -- the circuit stands between two channels: of each program whose blocks it makes, the sink gets the results of what the
 -- source gave, at whatever pace both go, and words that stand at the sink stay until they are taken
 pub record IsStream (old new : Circuit) (slowdown latency : ℕ) (inputs outputs : List StTree) : Type 0 where
-  pub valid : slice_get new.cells 1 ≡ Some (bit_input (Plain 0))
-  pub ready : slice_get new.cells 2 ≡ Some (bit_input (Plain 1))
-  pub shown : length new.outlets ≡ 2 + length old.outlets
+  pub valid : slice_get new.cells 1 ≡ Some (bit_input source_valid)
+  pub ready : slice_get new.cells 2 ≡ Some (bit_input sink_ready)
+  pub ports : ports_of new.outlets ≡ source_ready ∷ sink_valid ∷ ports_of old.outlets
   pub streams : (p : ProgramTree) → CanBeFed old.cells p inputs → MakesBlocks old p slowdown latency inputs outputs
       → InResetRuns new.cells (λ run start.
       Streams (ends_for inputs (length old.outlets) new) run start p slowdown inputs outputs)

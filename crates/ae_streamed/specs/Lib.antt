@@ -3,3 +3,4 @@ pub mod Controls
 pub mod Columns
 pub mod Beats
 pub mod Between
+pub mod Room

@@ -6,6 +6,7 @@ mod layouts;
 mod marking;
 mod parts;
 mod queues;
+mod room;
 mod streaming;
 mod wrapping;
 
@@ -13,3 +14,4 @@ pub use driver::{Controlled, Wires, control};
 pub use marking::{Marks, add_marks};
 pub use queues::columns;
 pub use streaming::stream;
+pub use wrapping::{SINK_READY, SINK_VALID, SOURCE_READY, SOURCE_VALID};

@@ -9,6 +9,7 @@ ghost use Rattle.ae_streamed.specs.Beats.{AreLayouts, IsLastBeat};
 ghost use Rattle.ae_streamed.specs.Between.{IsStream};
 
 use crate::marking::add_marks;
+use crate::room::with_limit;
 use crate::wrapping::wrap;
 use ae_netlist::{NetFault, Netlist, has_one_run};
 use ae_stream::{
@@ -19,7 +20,7 @@ use ae_sttype::StType;
 use std::alloc::Global;
 
 // How many cells a circuit may have with the marks of its clocks.
-const MOST_MARKED: u32 = 1_000_000;
+const MARKED_LIMIT: u32 = 1_000_000;
 
 /// The last clock in which an element of a layout stands.
 fn last_clock(layout: &StType) -> u32
@@ -61,40 +62,36 @@ fn last_beat(layouts: &[StType], slowdown: u32) -> u32
 /// circuit has the reset at cell 0, behind it an input for each column of the parameters, and an output for each column of the
 /// results; its blocks take `slowdown` clocks. A transfer at the source takes the words of one clock of a block in which
 /// elements of the parameters stand, and one at the sink gives those of a clock in which elements of the results do. `Full`
-/// comes where the cells do not suffice: the limit of the circuit, or 1,000,000, for it and the marks of its clocks, and
-/// 4,000,000 for all.
+/// comes where the cells do not suffice: 1,000,000 for the circuit and the marks of its clocks, and 4,000,000 for all.
 pub fn stream(
     alloc: Global,
-    nl: Netlist,
+    nl: &Netlist,
     inputs: &[StType],
     outputs: &[StType],
     slowdown: u32,
     latency: u32,
 ) -> Result<Netlist, NetFault>
-    requires reset { slice_get nl.cells 0 ≡ Some reset_cell }
+    requires reset { slice_get nl.now.cells 0 ≡ Some reset_cell }
     requires some { 1 ≤ slowdown }
     requires most { slowdown ≤ 4096 }
     requires inputs { AreLayouts slowdown inputs.now }
     requires outputs { AreLayouts slowdown outputs.now }
     requires late { latency ≤ 1000000 }
-    requires ins { sum_by columns_of (map st_tree inputs.now) < length nl.cells }
-    requires outs { length nl.outlets ≡ sum_by columns_of (map st_tree outputs.now) }
-    requires few { length nl.outlets ≤ 1000000000 }
-    ensures { IfOk result (λ new. IsStream nl new slowdown latency (map st_tree inputs.now) (map st_tree outputs.now)) }
+    requires ins { sum_by columns_of (map st_tree inputs.now) < length nl.now.cells }
+    requires outs { length nl.now.outlets ≡ sum_by columns_of (map st_tree outputs.now) }
+    requires few { length nl.now.outlets ≤ 1000000000 }
+    ensures { IfOk result (λ new. IsStream nl.now new slowdown latency (map st_tree inputs.now) (map st_tree outputs.now)) }
 {
     nl.formed();
-    has_one_run(&nl);
+    has_one_run(nl);
     held_circuits_are_inside();
     held_marks_are_seen();
     wired_controls_are_driven();
     driven_circuits_stream();
     driven_circuits_keep_words();
-    let mut marked = nl;
+    let mut marked = with_limit(alloc, nl, MARKED_LIMIT)?;
     let m = add_marks(alloc, &mut marked, inputs, outputs, slowdown, latency)?;
     marked.formed();
-    if marked.len() > MOST_MARKED {
-        return Err(NetFault::Full);
-    }
     let wait = (latency + last_beat(outputs, slowdown)) / slowdown;
     let new = wrap(alloc, &marked, m, latency / slowdown, wait)?;
     Ok(new)

@@ -1,12 +1,11 @@
 // A marked circuit between two channels: a copy of it, the control and the queues around it, and the outputs.
 
 ghost use Rattle.std.specs.Prelude.{◌≡◌, ◌+◌, ◌*◌, ◌<◌, ◌≤◌, ◌++◌, ◌∷◌, [], OnOk, IfOk, ℕ, Some, length, map, slice_get};
-ghost use Rattle.ae_netlist.specs.declared.cell.Port.TheVariants.{Plain};
 ghost use Rattle.ae_netlist.specs.Circuit.{HaveNets, IsNet, width_of};
 ghost use Rattle.ae_stall.specs.Copies.{IsCopied, MayBeHeld, reset_cell};
 ghost use Rattle.ae_stall.specs.Held.{IsHeld};
 ghost use Rattle.ae_stall.specs.Images.{placed_net};
-ghost use Rattle.ae_streamed.specs.Between.{AreMarkNets, AreShownBy, HasDriver, IsWrapped, copied_nets, wires_of};
+ghost use Rattle.ae_streamed.specs.Between.{AreMarkNets, AreShownBy, HasDriver, IsWrapped, channel_inputs, copied_nets, wires_of};
 ghost use Rattle.ae_streamed.specs.Controls.{AreWires};
 
 use crate::driver::{Controlled, Wires, control};
@@ -18,6 +17,32 @@ use std::alloc::Global;
 
 /// The most cells of a circuit between two channels.
 const LIMIT: u32 = 4000000;
+
+/// That words stand at the source, and that those at the sink are taken: words of a lane of a number that no layout has.
+pub const SOURCE_VALID: Port = Port::In {
+    param: 0,
+    lane: 4294967295,
+    word: 0,
+};
+
+pub const SINK_READY: Port = Port::In {
+    param: 0,
+    lane: 4294967295,
+    word: 1,
+};
+
+/// That the source is asked, and that words stand at the sink, in the same way.
+pub const SOURCE_READY: Port = Port::Out {
+    result: 0,
+    lane: 4294967295,
+    word: 0,
+};
+
+pub const SINK_VALID: Port = Port::Out {
+    result: 0,
+    lane: 4294967295,
+    word: 1,
+};
 
 /// Where the copy has a net.
 fn placed(nl: &Netlist, net: NetId) -> NetId
@@ -60,10 +85,10 @@ fn copied(alloc: Global, nl: &Netlist) -> Result<Netlist, NetFault>
     requires reset { slice_get nl.now.cells 0 ≡ Some reset_cell }
     requires most { length nl.now.cells ≤ 1000000 }
     ensures limit { IfOk result (λ new. new.limit ≡ 4000000) }
-    ensures copied { IfOk result (λ new. IsCopied (Plain 0 ∷ Plain 1 ∷ []) nl.now.cells new.cells (length nl.now.cells)) }
+    ensures copied { IfOk result (λ new. IsCopied channel_inputs nl.now.cells new.cells (length nl.now.cells)) }
     ensures none { IfOk result (λ new. new.outlets ≡ []) }
 {
-    let ports = [Port::Plain(0), Port::Plain(1)];
+    let ports = [SOURCE_VALID, SINK_READY];
     match copy_with(alloc, nl, &ports, LIMIT) {
         Ok(new) => Ok(new),
         Err(_) => Err(NetFault::Memory),
@@ -101,40 +126,43 @@ fn outlet_nets(alloc: Global, nl: &Netlist) -> Result<Vec<NetId>, NetFault>
     Ok(nets)
 }
 
-/// Adds an output, by its number.
-fn show(new: &mut Netlist, number: u32, net: NetId) -> Result<(), NetFault>
+/// Adds an output.
+fn show(new: &mut Netlist, port: Port, net: NetId) -> Result<(), NetFault>
     requires net { IsNet new.old.cells net.0 (width_of new.old.cells net.0) }
     requires room { length new.old.outlets < 4294967295 }
-    ensures { OnOk result (new.new ≡ record new.old { outlets = new.old.outlets ++ (record { port = Plain number; net = net }) ∷ [] }) }
+    ensures { OnOk result (new.new ≡ record new.old { outlets = new.old.outlets ++ (record { port = port; net = net }) ∷ [] }) }
 {
-    match new.add_output(Port::Plain(number), net) {
+    match new.add_output(port, net) {
         Ok(()) => Ok(()),
         Err(_) => Err(NetFault::Memory),
     }
 }
 
-/// Adds the outputs: that the source is asked, that words stand at the sink, and the words of so many queues.
-fn show_all(new: &mut Netlist, c: Controlled, at: u32, count: u32) -> Result<(), NetFault>
+/// Adds the outputs: that the source is asked, that words stand at the sink, and the words of a queue for each output of the
+/// netlist.
+fn show_all(nl: &Netlist, new: &mut Netlist, c: Controlled, at: u32) -> Result<(), NetFault>
     requires none { new.old.outlets ≡ [] }
     requires asks { IsNet new.old.cells c.asks.0 1 }
     requires one { IsNet new.old.cells c.one.0 1 }
-    requires nets { (k : ℕ) → k < count → IsNet new.old.cells (at + 4 * k) (width_of new.old.cells (at + 4 * k)) }
-    requires few { count ≤ 1000000000 }
+    requires nets { (k : ℕ) → k < length nl.now.outlets → IsNet new.old.cells (at + 4 * k) (width_of new.old.cells (at + 4 * k)) }
+    requires few { length nl.now.outlets ≤ 1000000000 }
     ensures cells { OnOk result (new.new.cells ≡ new.old.cells) }
     ensures limit { OnOk result (new.new.limit ≡ new.old.limit) }
-    ensures shown { OnOk result (AreShownBy c at count new.new.outlets) }
+    ensures shown { OnOk result (AreShownBy c at nl.now.outlets new.new.outlets) }
 {
     let _cells = new.len();
-    show(new, 0, c.asks)?;
-    show(new, 1, c.one)?;
-    for k in 0..count {
-        show(new, 2 + k, NetId(at + 4 * k))?;
+    show(new, SOURCE_READY, c.asks)?;
+    show(new, SINK_VALID, c.one)?;
+    for k in 0..nl.outputs() {
+        let outlet = outlet_at(nl, k);
+        show(new, outlet.port, NetId(at + 4 * k))?;
     }
     Ok(())
 }
 
 /// Adds the control of a copied circuit, a queue for each of these nets, and the outputs.
 fn drive(
+    nl: &Netlist,
     new: &mut Netlist,
     w: Wires,
     blocks: u32,
@@ -148,13 +176,14 @@ fn drive(
     requires none { new.old.outlets ≡ [] }
     requires wires { AreWires new.old.cells w }
     requires nets { (k : ℕ) (net : NetId) → slice_get made.now k ≡ Some net → IsNet new.old.cells net.0 (width_of new.old.cells net.0) }
-    requires columns { length made.now ≤ 1000000000 }
-    ensures { IfOk result (λ c. (m : Marks) → w ≡ wires_of m → HasDriver new.old new.new m blocks made.now c) }
+    requires columns { length nl.now.outlets ≤ 1000000000 }
+    requires shown { length made.now ≡ length nl.now.outlets }
+    ensures { IfOk result (λ c. (m : Marks) → w ≡ wires_of m → HasDriver new.old new.new m blocks made.now nl.now.outlets c) }
 {
     let c = control(new, w, blocks, wait)?;
     let at = new.len();
     columns(new, c, made)?;
-    show_all(new, c, at, made.len() as u32)?;
+    show_all(nl, new, c, at)?;
     Ok(c)
 }
 
@@ -193,7 +222,7 @@ pub fn wrap(
     let mut new = copied(alloc, nl)?;
     let w = placed_wires(nl, m);
     let made = outlet_nets(alloc, nl)?;
-    let c = drive(&mut new, w, blocks, wait, &made)?;
+    let c = drive(nl, &mut new, w, blocks, wait, &made)?;
     if new.len() > LIMIT - nl.len() {
         return Err(NetFault::Full);
     }

@@ -115,5 +115,5 @@ pub fn streamed(
     if nl.outputs() > 1_000_000_000 {
         return None;
     }
-    Some(stream(alloc, nl, ins, outs, slowdown, latency))
+    Some(stream(alloc, &nl, ins, outs, slowdown, latency))
 }

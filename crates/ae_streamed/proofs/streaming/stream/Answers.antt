@@ -1,22 +1,27 @@
--- The marks, and what is put around them.
-use Rattle.std.proofs.Common.{length, map, refl, ap, arith}
+-- The netlist with room, its marks, and what is put around them.
+use Rattle.std.proofs.Common.{◌≡◌, ◌∙◌, Some, slice_get, length, map, refl, ap, arith}
 use Rattle.ae_sttype.specs.StTree.{st_tree}
+use Rattle.ae_netlist.specs.Circuit.{Circuit}
 use Rattle.ae_stall.specs.Copies.{reset_cell}
-use Rattle.ae_streamed.proofs.Between.{blocks_few, is_stream, wait_few}
+use Rattle.ae_streamed.proofs.Between.{blocks_few, is_stream, same_stream, wait_few}
 use Rattle.ae_streamed.proofs.Within.{some_columns, within}
 use Rattle.ae_streamed.proofs.streaming.stream.Goals as goal
 
+first_is : (a b : Circuit) → a.cells ≡ b.cells → slice_get b.cells 0 ≡ Some reset_cell → slice_get a.cells 0 ≡ Some reset_cell
+first_is a b e h = ap (λ v. slice_get v 0) e ∙ h
+
 pub add_marks-requires-clause-reset : goal.add_marks-requires-clause-reset
-add_marks-requires-clause-reset c = record { sized = reset_cell; found = c.requires.reset; plain = tt; wide = refl }
+add_marks-requires-clause-reset c = record { sized = reset_cell; found = first_is c.in_ok-marked.marked c.args.nl.now (ap (λ (v : Circuit). v.cells) c.in_ok-marked.ensures) c.requires.reset; plain = tt; wide = refl }
 
 pub wrap-requires-clause-reset : goal.wrap-requires-clause-reset
-wrap-requires-clause-reset c = c.in_ok-m.ensures.grows.extends.keeps 0 reset_cell c.requires.reset
+wrap-requires-clause-reset c =
+    c.in_ok-m.ensures.grows.extends.keeps 0 reset_cell (first_is c.in_ok-marked.marked c.args.nl.now (ap (λ (v : Circuit). v.cells) c.in_ok-marked.ensures) c.requires.reset)
 
 pub wrap-requires-clause-most : goal.wrap-requires-clause-most
-wrap-requires-clause-most c = omega (arith, c.len.ensures, c.if-len-gt-MOST_MARKED.false)
+wrap-requires-clause-most c = omega (arith, c.formed-2.ensures.limit, c.in_ok-m.ensures.grows.limit, ap (λ (v : Circuit). v.limit) c.in_ok-marked.ensures)
 
 pub wrap-requires-clause-outlets : goal.wrap-requires-clause-outlets
-wrap-requires-clause-outlets c = omega (arith, ap length c.in_ok-m.ensures.grows.outlets, c.requires.few)
+wrap-requires-clause-outlets c = omega (arith, ap length c.in_ok-m.ensures.grows.outlets, ap (λ (v : Circuit). length v.outlets) c.in_ok-marked.ensures, c.requires.few)
 
 pub wrap-requires-clause-marks : goal.wrap-requires-clause-marks
 wrap-requires-clause-marks c =
@@ -32,7 +37,9 @@ wrap-requires-clause-waits c =
 
 pub returns : goal.returns
 returns c =
-    is_stream c.args.nl c.add_marks.new.nl c.in_ok-new.new c.in_ok-m.m c.args.slowdown c.args.latency (map st_tree c.args.inputs.now) (map st_tree c.args.outputs.now)
-    c.requires.some c.formed.ensures.cells c.formed.ensures.outlets c.has_one_run.ensures c.in_ok-m.ensures.grows c.formed-2.ensures.cells c.in_ok-m.ensures.marks c.in_ok-new.ensures
+    let roomy : Circuit = record c.args.nl.now { limit = 1000000 } in
+    same_stream c.args.nl.now c.in_ok-new.new c.args.slowdown c.args.latency 1000000 (map st_tree c.args.inputs.now) (map st_tree c.args.outputs.now)
+    (is_stream roomy c.add_marks.new.nl c.in_ok-new.new c.in_ok-m.m c.args.slowdown c.args.latency (map st_tree c.args.inputs.now) (map st_tree c.args.outputs.now)
+    c.requires.some c.formed.ensures.cells c.formed.ensures.outlets c.has_one_run.ensures (rw c.in_ok-marked.ensures at c.in_ok-m.ensures.grows) c.formed-2.ensures.cells c.in_ok-m.ensures.marks c.in_ok-new.ensures
     (within c.args.inputs.now c.args.slowdown c.requires.inputs) (within c.args.outputs.now c.args.slowdown c.requires.outputs) c.requires.ins c.requires.outs (some_columns c.args.outputs.now c.args.slowdown c.requires.outputs)
-    c.held_circuits_are_inside.ensures c.held_marks_are_seen.ensures c.wired_controls_are_driven.ensures c.driven_circuits_stream.ensures c.driven_circuits_keep_words.ensures
+    c.held_circuits_are_inside.ensures c.held_marks_are_seen.ensures c.wired_controls_are_driven.ensures c.driven_circuits_stream.ensures c.driven_circuits_keep_words.ensures)

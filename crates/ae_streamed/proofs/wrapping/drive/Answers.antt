@@ -1,5 +1,5 @@
 -- The control, the queues, and the outputs.
-use Rattle.std.proofs.Common.{◌+◌, ◌*◌, sym, ◌∙◌, subst}
+use Rattle.std.proofs.Common.{◌+◌, ◌*◌, arith, sym, ◌∙◌, subst}
 use Rattle.ae_netlist.specs.Circuit.{IsNet, width_of}
 use Rattle.ae_netlist.proofs.Growing.{net_later}
 use Rattle.ae_streamed.proofs.Copied.{has_driver}
@@ -20,10 +20,10 @@ show_all-requires-clause-one c = net_later c.in_ok-columns.ensures.longer.extend
 
 pub show_all-requires-clause-nets : goal.show_all-requires-clause-nets
 show_all-requires-clause-nets c = λ k l.
-    subst (λ v. IsNet c.columns.new.nl.cells (v + 4 * k) (width_of c.columns.new.nl.cells (v + 4 * k))) (sym c.len-at.ensures) (own_width (c.in_ok-columns.ensures.columns.nets k l).1)
+    subst (λ v. IsNet c.columns.new.nl.cells (v + 4 * k) (width_of c.columns.new.nl.cells (v + 4 * k))) (sym c.len-at.ensures) (own_width (c.in_ok-columns.ensures.columns.nets k (omega (arith, l, c.requires.shown))).1)
 
 pub returns : goal.returns
 returns c = λ m is.
-    has_driver c.args.new.now c.control.new.nl c.columns.new.nl c.show_all.new.new m c.args.w c.args.blocks c.len-at.result c.args.made.now c.in_ok-c.c is
+    has_driver c.args.new.now c.control.new.nl c.columns.new.nl c.show_all.new.new m c.args.w c.args.blocks c.len-at.result c.args.made.now c.args.nl.now.outlets c.in_ok-c.c is
     c.in_ok-c.ensures.longer c.in_ok-c.ensures.control c.in_ok-c.ensures.nets c.len-at.ensures c.in_ok-columns.ensures.longer c.in_ok-columns.ensures.columns
     c.in_ok-show_all.ensures.cells c.in_ok-show_all.ensures.limit c.in_ok-show_all.ensures.shown

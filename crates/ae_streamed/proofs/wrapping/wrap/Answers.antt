@@ -18,12 +18,12 @@ pub drive-requires-clause-nets : goal.drive-requires-clause-nets
 drive-requires-clause-nets c =
     made_nets c.args.nl.now.cells c.in_ok-new.new.cells c.args.nl.now.outlets c.deref.result.now (c.deref.ensures.value ∙ c.in_ok-made.ensures) c.formed.ensures.outlets c.in_ok-new.ensures.copied
 
-pub drive-requires-clause-columns : goal.drive-requires-clause-columns
-drive-requires-clause-columns c = omega (arith, ap length c.in_ok-made.ensures, length-map c.args.nl.now.outlets (λ (o : Outlet). placed_net 2 o.net), c.requires.outlets)
+pub drive-requires-clause-shown : goal.drive-requires-clause-shown
+drive-requires-clause-shown c = ap length (c.deref.ensures.value ∙ c.in_ok-made.ensures) ∙ length-map c.args.nl.now.outlets (λ (o : Outlet). placed_net 2 o.net)
 
 pub hold-requires-clause-may : goal.hold-requires-clause-may
 hold-requires-clause-may c =
-    may_be_held c.args.nl.now c.in_ok-new.new c.drive.new.new c.args.m c.args.blocks c.deref.result.now c.in_ok-c.c c.requires.reset c.in_ok-new.ensures.copied (c.in_ok-c.ensures c.args.m c.placed_wires-w.ensures)
+    may_be_held c.args.nl.now c.in_ok-new.new c.drive.new.new c.args.m c.args.blocks c.deref.result.now c.args.nl.now.outlets c.in_ok-c.c c.requires.reset c.in_ok-new.ensures.copied (c.in_ok-c.ensures c.args.m c.placed_wires-w.ensures)
 
 pub hold-requires-clause-room : goal.hold-requires-clause-room
 hold-requires-clause-room c = (let d = c.in_ok-c.ensures c.args.m c.placed_wires-w.ensures in omega (arith, d.limit, c.in_ok-new.ensures.limit))
