@@ -114,10 +114,7 @@ fn scheduled(alloc: Global, part: &[u8], slowdown: u32) -> Result<(Typed, StProg
 {
     let program = typed(alloc, part)?;
     match schedule(alloc, &program, slowdown) {
-        Ok(schedule) => {
-            let _count = schedule.count();
-            Ok((program, schedule))
-        }
+        Ok(schedule) => Ok((program, schedule)),
         Err(PlanFault::NoSchedule { line }) => Err(CompileFault::NoSchedule { line }),
         Err(PlanFault::Memory) => Err(CompileFault::Memory),
     }

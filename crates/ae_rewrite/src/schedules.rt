@@ -4,6 +4,7 @@ ghost use Rattle.std.specs.Prelude.{◌≡◌, ◌<◌, ◌≤◌, ◌+◌, ◌-
 ghost use Rattle.ae_seq.specs.ProgramTree.{program_tree};
 ghost use Rattle.ae_seq.specs.Formed.{formed};
 ghost use Rattle.ae_rewrite.specs.StProgramTree.{st_func_trees, st_func_tree};
+ghost use Rattle.ae_rewrite.specs.Sound.{IsSound};
 ghost use Rattle.ae_rewrite.specs.FailingLine.{failing, failing_line};
 ghost use Rattle.ae_rewrite.specs.Scheduled.{AllFilled, IsSchedule, IsInstance, HasKey};
 ghost use Rattle.ae_rewrite.specs.Planned.{Plans, Reaches, AreCallsKnown, AreSound, IsMade, IsFailing, IsEachOnce, row_lists, number_lists, all_row_budgets, row_budgets, HasPlan};
@@ -166,6 +167,7 @@ pub fn schedule(alloc: Global, p: &Typed, slowdown: u32) -> Result<StProgram, Pl
     requires limit { slowdown ≤ 4096 }
     ensures schedule { IfOk result (λ s. IsSchedule (program_tree p.now) slowdown (st_func_trees s)) }
     ensures layouts { IfOk result (λ s. AllFilled (st_func_trees s)) }
+    ensures sound { IfOk result (λ s. IsSound (st_func_trees s)) }
     ensures fine { OnOk result (failing_line (program_tree p.now) slowdown ≡ None) }
     ensures failing { (line : ℕ) → result ≡ Err (PlanFault.NoSchedule line) → failing_line (program_tree p.now) slowdown ≡ Some line }
 {

@@ -31,3 +31,15 @@ new-requires-clause-sound c =
     (rw c.deref.ensures.value at c.in_ok-rows.ensures.budgets) c.in_ok-rows.ensures.plans
     (rw c.deref-2.ensures.value at c.in_ok-whole.ensures.instance) (c.in_ok-whole.ensures.key.0 ∙ c.main_of.ensures.main) c.in_ok-whole.ensures.key.1 c.in_ok-append.ensures.items)
     (rw c.in_ok-append.ensures.items (filled-more _ (st_func_tree c.in_ok-whole.whole) c.in_ok-rows.ensures.plans.filled c.in_ok-whole.ensures.filled))
+
+pub returns-clause-sound : goal.returns-clause-sound
+returns-clause-sound c =
+    rw c.new.ensures
+    (schedule_sound (program_tree c.args.p.now) c.args.slowdown _ c.program-program.ensures.is_formed c.program-program.ensures.accepted c.requires.some
+    c.requires.limit
+    (schedule-of (program_tree c.args.p.now) c.args.slowdown (number_lists c.in_ok-needs.needs.items) (row_lists c.in_ok-rows.rows.items) _ _
+    (st_func_tree c.in_ok-whole.whole) c.in_ok-needs.ensures
+    (rw c.deref.ensures.value at c.in_ok-rows.ensures.budgets) c.in_ok-rows.ensures.plans
+    (rw c.deref-2.ensures.value at c.in_ok-whole.ensures.instance) (c.in_ok-whole.ensures.key.0 ∙ c.main_of.ensures.main) c.in_ok-whole.ensures.key.1
+    c.in_ok-append.ensures.items)
+    (rw c.in_ok-append.ensures.items (filled-more _ (st_func_tree c.in_ok-whole.whole) c.in_ok-rows.ensures.plans.filled c.in_ok-whole.ensures.filled)))
