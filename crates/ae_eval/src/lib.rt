@@ -11,4 +11,4 @@ mod stack;
 mod starts;
 mod words;
 
-pub use program::{eval, fits};
+pub use program::{Evaluator, eval, fits};

@@ -16,6 +16,7 @@ use crate::starts::{all_starts, place_of};
 use ae_seq::Typed;
 use ae_seqtype::Value;
 use std::alloc::{AllocError, Global};
+use std::marker::Model;
 
 /// Whether there is one value for each parameter of the program function, in order, and each fits its type.
 pub fn fits(p: &Typed, inputs: &[Value]) -> bool
@@ -33,20 +34,71 @@ pub fn fits(p: &Typed, inputs: &[Value]) -> bool
     true
 }
 
+/// A program that is ready to be evaluated, row after row: where the items of its functions stand is worked out once.
+#[derive(Drop)]
+pub struct Evaluator<'a> {
+    program: &'a Typed,
+    starts: Vec<Vec<usize>>,
+}
+
+impl<'a> Model for Evaluator<'a> {
+    ghost use Rattle.std.specs.Coded.{codes};
+    ghost use Rattle.ae_seqtype.specs.contracts.seq_type.SeqType as e;
+    ghost use Rattle.ae_seq.specs.declared.program.Program.{Program};
+    ghost use Rattle.ae_seq.specs.ProgramTree.{program_tree};
+    ghost use Rattle.ae_eval.specs.Stack.{HaveStarts, starts_of};
+
+    ghost Value = { Program };
+
+    ghost coded = { Prim.hlevel (codes, e.the_row.coded) };
+
+    ghost view = { λ e. e.program.now };
+
+    ghost invariant = { λ e. HaveStarts (program_tree e.program.now) (starts_of e.starts.items) };
+}
+
+impl Evaluator<'_> {
+    /// Makes a program ready. An error comes only for want of memory.
+    pub fn new(alloc: Global, program: &Typed) -> Result<Evaluator<'_>, AllocError>
+        ensures { IfOk result (λ e. e ≡ program.now) }
+    {
+        let starts = all_starts(alloc, program)?;
+        Ok(Evaluator { program, starts })
+    }
+
+    /// The program.
+    pub fn program(&self) -> &Typed
+        ensures { result.now ≡ self.now }
+    {
+        self.program
+    }
+
+    /// The results of the program function on a value for each of its parameters, in order (docs/LANGUAGE.md), each value
+    /// as its words in row-major order. An error comes only for want of memory.
+    pub fn eval(&self, alloc: Global, inputs: &[Value]) -> Result<Vec<Value>, AllocError>
+        requires { AllFit (input_types (program_tree self.now)) inputs.now }
+        ensures words { IfOk result (λ vs. vs.items
+            ≡ map flat (mean (program_tree self.now) (values_of (input_types (program_tree self.now)) inputs.now))) }
+        ensures fits { IfOk result (λ vs. AllFit (output_types (program_tree self.now)) vs.items) }
+    {
+        let last = last_func(self.program);
+        let mut stack = Vec::new(alloc);
+        push_inputs(&mut stack, inputs)?;
+        eval_func(self.program, &self.starts, last, &mut stack, 0)?;
+        outputs(alloc, self.program, &self.starts, last, &stack)
+    }
+}
+
 /// The results of the program function on a value for each of its parameters, in order (docs/LANGUAGE.md), each value as
-/// its words in row-major order. An error comes only for want of memory.
+/// its words in row-major order; of many rows an evaluator answers them sooner. An error comes only for want of memory.
 pub fn eval(alloc: Global, p: &Typed, inputs: &[Value]) -> Result<Vec<Value>, AllocError>
     requires { AllFit (input_types (program_tree p.now)) inputs.now }
     ensures words { IfOk result (λ vs. vs.items
         ≡ map flat (mean (program_tree p.now) (values_of (input_types (program_tree p.now)) inputs.now))) }
     ensures fits { IfOk result (λ vs. AllFit (output_types (program_tree p.now)) vs.items) }
 {
-    let last = last_func(p);
-    let starts = all_starts(alloc, p)?;
-    let mut stack = Vec::new(alloc);
-    push_inputs(&mut stack, inputs)?;
-    eval_func(p, &starts, last, &mut stack, 0)?;
-    outputs(alloc, p, &starts, last, &stack)
+    let evaluator = Evaluator::new(alloc, p)?;
+    evaluator.eval(alloc, inputs)
 }
 
 // The number of the program function.

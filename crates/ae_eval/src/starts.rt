@@ -59,7 +59,6 @@ fn append(found: &mut Vec<Vec<usize>>, own: Vec<usize>) -> Result<(), AllocError
 
 /// For each function where its items begin, and where they end, counted in words from its first argument.
 pub fn all_starts(alloc: Global, p: &Typed) -> Result<Vec<Vec<usize>>, AllocError>
-    requires { IsTyped (program_tree p.now) }
     ensures { IfOk result (λ v. HaveStarts (program_tree p.now) (starts_of v.items)) }
 {
     let mut found = Vec::new(alloc);

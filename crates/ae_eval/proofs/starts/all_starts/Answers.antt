@@ -9,6 +9,9 @@ use Rattle.ae_eval.proofs.starts.all_starts.Goals as goal
 pub loop-func-init : goal.loop-func-init
 loop-func-init c = record { count = ap (λ xs. length (starts_of xs)) c.new-found.ensures.items; starts = λ k h. absurd (omega (arith, h)) }
 
+pub func_starts-requires-clause-typed : goal.func_starts-requires-clause-typed
+func_starts-requires-clause-typed c = record { is_formed = c.program.ensures.is_formed; accepted = c.program.ensures.accepted }
+
 pub loop-func-preserved : goal.loop-func-preserved
 loop-func-preserved c =
     let starts = starts_of c.loop-func.found.items in
