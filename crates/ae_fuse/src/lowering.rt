@@ -51,15 +51,11 @@ fn stage(
     let layouts = copies(alloc, ins)?;
     let out = own.out.copy(alloc)?;
     let source = same_origins(alloc, &own.source)?;
-    match Gather::new(layouts, out, source) {
-        Some(gather) => {
-            if alone {
-                Ok(gather.alone())
-            } else {
-                Ok(gather)
-            }
-        }
-        None => unreachable!(),
+    let gather = Gather::of_move(layouts, out, source);
+    if alone {
+        Ok(gather.alone())
+    } else {
+        Ok(gather)
     }
 }
 

@@ -58,14 +58,22 @@ impl Gather {
     {
         let few = ins.len() <= MOST_ARGUMENTS;
         if few && is_move(&ins, &out, &source) {
-            Some(Gather {
-                ins,
-                out,
-                source,
-                alone: false,
-            })
+            Some(Gather::of_move(ins, out, source))
         } else {
             None
+        }
+    }
+
+    /// The same of what is known to be such a move: nothing is tested.
+    pub fn of_move(ins: Vec<StType>, out: StType, source: Vec<Origin>) -> Gather
+        requires { IsGather (record { ins = map st_tree ins.items; out = st_tree out; origins = map origin_tree source.items }) }
+        ensures { move_of result ≡ record { ins = map st_tree ins.items; out = st_tree out; origins = map origin_tree source.items } }
+    {
+        Gather {
+            ins,
+            out,
+            source,
+            alone: false,
         }
     }
 

@@ -61,10 +61,7 @@ pub fn constant(alloc: Global, fixed: &[u64], out: &StType) -> Result<Gather, Ne
 {
     let source = words(alloc, fixed)?;
     let layout = copy(alloc, out)?;
-    match Gather::new(Vec::new(alloc), layout, source) {
-        Some(gather) => Ok(gather),
-        None => unreachable!(),
-    }
+    Ok(Gather::of_move(Vec::new(alloc), layout, source))
 }
 
 fn sources(alloc: Global, how: MoveOp, arg: &StType, out: &StType) -> Result<Vec<Origin>, NetFault>
@@ -103,10 +100,7 @@ pub fn moving(alloc: Global, how: MoveOp, arg: &StType, out: &StType) -> Result<
     let source = sources(alloc, how, arg, out)?;
     let ins = one(alloc, copy(alloc, arg)?)?;
     let layout = copy(alloc, out)?;
-    match Gather::new(ins, layout, source) {
-        Some(gather) => Ok(gather),
-        None => unreachable!(),
-    }
+    Ok(Gather::of_move(ins, layout, source))
 }
 
 // The layout of the one element that comes in this one.

@@ -1,17 +1,18 @@
-use Rattle.std.proofs.Common.{◌≡◌, ◌∙◌, [], ◌∷◌, map, ap, true, false, arith}
+use Rattle.std.proofs.Common.{◌≡◌, ◌∙◌, [], ◌∷◌, map, ap, arith}
 use Rattle.ae_sttype.specs.StTree.{StTree, st_tree}
 use Rattle.ae_moves.specs.Trees.{origin_tree}
 use Rattle.ae_delay.specs.Moving.{op_move}
 use Rattle.ae_delay.proofs.Sourced.{op_is_move}
 use Rattle.ae_lower.proofs.stages.moving.Goals as goal
 
-pub unreachable-requires : goal.unreachable-requires
-unreachable-requires c =
+pub of_move-requires : goal.of_move-requires
+of_move-requires c =
     let e : map origin_tree c.in_ok-source.source.items ≡ (op_move c.args.how (st_tree c.args.arg.now) (st_tree c.args.out.now)).origins = c.in_ok-source.ensures.ok in
     let t : st_tree c.in_ok-layout.layout ≡ st_tree c.args.out.now = c.in_ok-layout.ensures.ok in
     let i : map st_tree c.in_ok-ins.ins.items ≡ st_tree c.args.arg.now ∷ [] = ap (map st_tree) c.in_ok-ins.ensures.ok ∙ ap (λ (x : StTree). x ∷ []) c.in_ok-copy.ensures.ok in
-    let is : false ≡ true =
-    c.in-None.ensures.some.1
-    (rw (e, t, i)
-    (record { move = op_is_move c.args.how (st_tree c.args.arg.now) (st_tree c.args.out.now) c.requires.arg c.requires.out c.requires.time c.requires.fits.0 c.requires.fits.1; few = omega arith })) in
-    cc
+    rw (e, t, i)
+    (record {
+      move = op_is_move c.args.how (st_tree c.args.arg.now) (st_tree c.args.out.now) c.requires.arg c.requires.out c.requires.time
+          c.requires.fits.0 c.requires.fits.1;
+      few = omega arith;
+    })
