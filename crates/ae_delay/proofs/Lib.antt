@@ -5,6 +5,7 @@ pub mod Chains
 pub mod Items
 pub mod Nodes
 pub mod Instances
+pub mod Meeting
 pub mod Light
 pub mod Programs
 pub mod UseLaws

@@ -11,11 +11,11 @@ use Rattle.ae_rewrite.specs.Sound.{IsSound, IsSoundFunc, item_layouts}
 use Rattle.ae_rewrite.proofs.Grown.{get_in_front, get_of_front, get_last}
 use Rattle.ae_delay.specs.declared.own.OwnCosts.{OwnCosts}
 use Rattle.ae_delay.specs.declared.weighing.FuncTiming.{FuncTiming}
-use Rattle.ae_delay.specs.Costs.{LineLoad, NodeTiming, all_costs, first_over, func_costs, func_costs_by, line_loads, load_at_line, node_timings, result_uses, slack_load, too_large}
+use Rattle.ae_delay.specs.Costs.{LineLoad, NodeTiming, all_costs, first_over, func_costs, func_costs_by, line_loads, load_at_line, meets_of, node_timings, result_uses, slack_load, too_large}
 use Rattle.ae_delay.specs.Bounds.{IsBounded}
 use Rattle.ae_delay.specs.Weighing.{AreKnown, IsKnown, IsOverAt, IsTimed}
-use Rattle.ae_delay.specs.Timings.{AreTimes, Times, item_arrivals}
-use Rattle.ae_delay.specs.Arriving.{AreFirst, HasMore}
+use Rattle.ae_delay.specs.Timings.{AreTimes, Times, item_arrivals, item_meets}
+use Rattle.ae_delay.specs.Arriving.{AreFirst, AreToldFirst, HasMore, HasOneMore, HaveMoreMet}
 use Rattle.ae_delay.proofs.Instances.{length_grown}
 use Rattle.ae_delay.proofs.Light.{costs_more, load_at, used_light}
 
@@ -85,26 +85,32 @@ heavy s ts line sum h = omega (arith, passed 999999999 0 (line_loads s ts) _ h.a
 pub more_within : (known : List OwnCosts) (s : StFuncTree) (t : FuncTiming) (limit : ℕ) (old new : List (List ℕ)) → IsTimed s (node_timings known s) limit t → new ≡ old ++ t.arrivals.items ∷ [] → HasMore known s old new
 more_within known s t limit old new h e = record { own = t.arrivals.items; added = e; is = λ l. h.arrivals }
 
-pub more_over : (known : List OwnCosts) (s : StFuncTree) (own : List ℕ) (old new : List (List ℕ)) → 1000000000 ≤ (func_costs known s).load → new ≡ old ++ own ∷ [] → HasMore known s old new
-more_over known s own old new h e = record { own = own; added = e; is = λ l. absurd (omega (arith, h, l)) }
+pub met_within : (known : List OwnCosts) (s : StFuncTree) (t : FuncTiming) (limit : ℕ) (old new : List (List ℕ)) → IsTimed s (node_timings known s) limit t
+    → t.meets.items ≡ meets_of t.arrivals.items s.nodes → new ≡ old ++ t.meets.items ∷ [] → HaveMoreMet known s old new
+met_within known s t limit old new h met e = record { own = t.meets.items; added = e; is = λ l. met ∙ ap (λ xs. meets_of xs s.nodes) h.arrivals }
 
-pub arrivals_more : (instances : List StFuncTree) (k : ℕ) (s : StFuncTree) (old new : List (List ℕ)) → slice_get instances k ≡ Some s → AreFirst k instances old → HasMore (all_costs (take k instances)) s old new → AreFirst (k + 1) instances new
-arrivals_more instances k s old new f h more = record {
+pub more_over : (told : List OwnCosts → StFuncTree → List ℕ) (known : List OwnCosts) (s : StFuncTree) (own : List ℕ) (old new : List (List ℕ)) → 1000000000 ≤ (func_costs known s).load → new ≡ old ++ own ∷ []
+    → HasOneMore told known s old new
+more_over told known s own old new h e = record { own = own; added = e; is = λ l. absurd (omega (arith, h, l)) }
+
+pub told_more : (told : List OwnCosts → StFuncTree → List ℕ) (instances : List StFuncTree) (k : ℕ) (s : StFuncTree) (old new : List (List ℕ)) → slice_get instances k ≡ Some s → AreToldFirst told k instances old
+    → HasOneMore told (all_costs (take k instances)) s old new → AreToldFirst told (k + 1) instances new
+told_more told instances k s old new f h more = record {
   long = omega (arith, ap length more.added, length-append old (more.own ∷ []), h.long);
   each = λ j u l g light. elim (cases_eq j k) [
     | inl e ↦
         let g' : slice_get instances k ≡ Some u = rw e at g in
         let same : s ≡ u = same_Some s u (sym f ∙ g') in
         let light' : (func_costs (all_costs (take k instances)) s).load < 1000000000 = rw (same, ← e) light in
-        let own : more.own ≡ item_arrivals (all_costs (take k instances)) s = more.is light' in
+        let own : more.own ≡ told (all_costs (take k instances)) s = more.is light' in
         let at : slice_get new k ≡ Some more.own = rw (more.added, ← h.long) (get_last old more.own) in
         rw (e, ← same) (at ∙ ap Some own)
-    | inr ne ↦ rw more.added (get_in_front old (more.own ∷ []) j (item_arrivals (all_costs (take j instances)) u) (h.each j u (omega arith) g light))
+    | inr ne ↦ rw more.added (get_in_front old (more.own ∷ []) j (told (all_costs (take j instances)) u) (h.each j u (omega arith) g light))
   ];
 }
 
-pub nothing_arrives : (instances : List StFuncTree) → AreFirst 0 instances []
-nothing_arrives instances = record { long = refl; each = λ k s l f light. absurd (omega arith) }
+pub nothing_told : (told : List OwnCosts → StFuncTree → List ℕ) (instances : List StFuncTree) → AreToldFirst told 0 instances []
+nothing_told told instances = record { long = refl; each = λ k s l f light. absurd (omega arith) }
 
 pub light_cost : (s : StFuncTree) (ts : List NodeTiming) (limit : ℕ) (t : FuncTiming) → limit ≡ 999999999 → IsTimed s ts limit t → (t.costs ≡ func_costs_by s ts) × IsBounded t.costs × (t.costs.load < 1000000000)
 light_cost s ts limit t e h = (h.costs, h.bounded, omega (arith, h.within, e))
@@ -121,18 +127,26 @@ sound_at p k s known sound f h =
 pub known_next : (p : List StFunc) (k : ℕ) (s : StFunc) (known : List (Option OwnCosts)) → slice_get p k ≡ Some s → AreKnown known (all_costs (take k (st_func_trees p)) ++ func_costs (all_costs (take k (st_func_trees p))) (st_func_tree s) ∷ []) → AreKnown known (all_costs (take (k + 1) (st_func_trees p)))
 known_next p k s known f h = rw (costs_more (st_func_trees p) k (st_func_tree s) (get_mapped st_func_tree p k s f)) h
 
-pub arrivals_next : (p : List StFunc) (k : ℕ) (s : StFunc) (old new : List (List ℕ)) → slice_get p k ≡ Some s → AreFirst k (st_func_trees p) old → HasMore (all_costs (take k (st_func_trees p))) (st_func_tree s) old new → AreFirst (k + 1) (st_func_trees p) new
-arrivals_next p k s old new f h more = arrivals_more (st_func_trees p) k (st_func_tree s) old new (get_mapped st_func_tree p k s f) h more
+pub told_next : (told : List OwnCosts → StFuncTree → List ℕ) (p : List StFunc) (k : ℕ) (s : StFunc) (old new : List (List ℕ)) → slice_get p k ≡ Some s → AreToldFirst told k (st_func_trees p) old
+    → HasOneMore told (all_costs (take k (st_func_trees p))) (st_func_tree s) old new → AreToldFirst told (k + 1) (st_func_trees p) new
+told_next told p k s old new f h more = told_more told (st_func_trees p) k (st_func_tree s) old new (get_mapped st_func_tree p k s f) h more
 
-pub end_times : (p : List StFunc) (last : ℕ) (s : StFunc) (t : FuncTiming) (limit : ℕ) (old : List (List ℕ)) (v : Times) → IsSound (st_func_trees p) → limit < 1000000000 → last ≡ length p - 1 → slice_get p last ≡ Some s → IsTimed (st_func_tree s) (node_timings (all_costs (take last (st_func_trees p))) (st_func_tree s)) limit t
-    → AreFirst last (st_func_trees p) old → v.costs ≡ t.costs → v.arrivals ≡ old ++ t.arrivals.items ∷ [] → v.nodes ≡ t.nodes.items → AreTimes (st_func_trees p) v
-end_times p last s t limit old v sound few e f w first ec ea en =
+pub end_times : (p : List StFunc) (last : ℕ) (s : StFunc) (t : FuncTiming) (limit : ℕ) (old met : List (List ℕ)) (v : Times) → IsSound (st_func_trees p) → limit < 1000000000 → last ≡ length p - 1 → slice_get p last ≡ Some s → IsTimed (st_func_tree s) (node_timings (all_costs (take last (st_func_trees p))) (st_func_tree s)) limit t
+    → t.meets.items ≡ meets_of t.arrivals.items (st_func_tree s).nodes → AreFirst last (st_func_trees p) old → AreToldFirst item_meets last
+    (st_func_trees p) met
+    → v.costs ≡ t.costs → v.arrivals ≡ old ++ t.arrivals.items ∷ [] → v.meets ≡ met ++ t.meets.items ∷ [] → v.nodes ≡ t.nodes.items → AreTimes
+    (st_func_trees p) v
+end_times p last s t limit old met v sound few e f w together first first_met ec ea em en =
     let instances : List StFuncTree = st_func_trees p in
     let g : slice_get instances last ≡ Some (st_func_tree s) = get_mapped st_func_tree p last s f in
     let long : length instances ≡ length p = length-map p st_func_tree in
     let low : last < length instances = slice_get_within instances last (st_func_tree s) g in
     let at : length instances - 1 ≡ last = omega (arith, e, long) in
-    let all : AreFirst (last + 1) instances v.arrivals = arrivals_more instances last (st_func_tree s) old v.arrivals g first (more_within (all_costs (take last instances)) (st_func_tree s) t limit old v.arrivals w ea) in
+    let all : AreFirst (last + 1) instances v.arrivals = told_more item_arrivals instances last (st_func_tree s) old v.arrivals g first
+    (more_within (all_costs (take last instances)) (st_func_tree s) t limit old v.arrivals w ea) in
+    let all_met : AreToldFirst item_meets (last + 1) instances v.meets =
+    told_more item_meets instances last (st_func_tree s) met v.meets g first_met
+    (met_within (all_costs (take last instances)) (st_func_tree s) t limit met v.meets w together em) in
     let top : (u : StFuncTree) → slice_get instances (length instances - 1) ≡ Some u → load_at instances (length instances - 1) u ≤ limit = λ u h.
     (let same : st_func_tree s ≡ u = same_Some (st_func_tree s) u (sym g ∙ rw at at h) in
     let load : t.costs.load ≡ load_at instances last (st_func_tree s) = ap (λ (c : OwnCosts). c.load) w.costs in
@@ -146,6 +160,10 @@ end_times p last s t limit old v sound few e f w first ec ea en =
           let l : k < length instances = slice_get_within instances k u h in
           let light : load_at instances k u ≤ limit = used_light instances limit sound top k (sound.used k u h) u h in
           all.each k u (omega arith) h (omega (arith, light, few));
+      meets = λ k u h.
+          let l : k < length instances = slice_get_within instances k u h in
+          let light : load_at instances k u ≤ limit = used_light instances limit sound top k (sound.used k u h) u h in
+          all_met.each k u (omega arith) h (omega (arith, light, few));
       nodes = λ u h.
           let same : st_func_tree s ≡ u = same_Some (st_func_tree s) u (sym g ∙ rw at at h) in
           rw (at, ← same) (en ∙ w.nodes);

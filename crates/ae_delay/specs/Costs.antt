@@ -20,6 +20,10 @@ pub record Use : Type 0 where
 abbrev pub latest : (arrivals : List ℕ) → (items : List ℕ) → ℕ
 latest arrivals items = greatest (λ a. slice_index arrivals a) items
 
+-- when all arguments of each of these nodes have come
+abbrev pub meets_of : (arrivals : List ℕ) → List StNodeTree → List ℕ
+meets_of arrivals ns = map (λ (n : StNodeTree). latest arrivals n.args) ns
+
 -- items that are used together in clock `start`
 abbrev pub uses_at : (arrivals : List ℕ) (start : ℕ) → (items : List ℕ) → List Use
 uses_at arrivals start items = map (λ a. record { item = a; slack = start - slice_index arrivals a }) items

@@ -7,7 +7,7 @@ ghost use Rattle.ae_rewrite.specs.Sound.{IsSoundFunc};
 ghost use Rattle.ae_delay.specs.declared.own.OwnCosts.{OwnCosts as Owned};
 ghost use Rattle.ae_delay.specs.Costs.{func_costs, too_large};
 ghost use Rattle.ae_delay.specs.Weighing.{AreKnown, IsOverAt};
-ghost use Rattle.ae_delay.specs.Arriving.{HasMore};
+ghost use Rattle.ae_delay.specs.Arriving.{HasMore, HaveMoreMet};
 ghost use Rattle.ae_delay.specs.Timings.{AreTimes};
 
 use crate::own::OwnCosts;
@@ -49,11 +49,13 @@ impl<T: Drop> From<AllocFailed<T>> for DelayFault {
     }
 }
 
-/// When the items of a program's instances arrive, in clocks after their blocks, and what the program function costs.
+/// When the items of a program's instances arrive and when all arguments of their nodes have come, in clocks after their
+/// blocks, and what the program function costs.
 #[derive(Drop)]
 pub struct Timing {
     costs: OwnCosts,
     arrivals: Vec<Vec<u32>>,
+    meets: Vec<Vec<u32>>,
     nodes: Vec<Cost>,
 }
 
@@ -64,7 +66,7 @@ impl Model for Timing {
 
     ghost Value = { Times };
 
-    ghost view = { λ t. record { costs = t.costs; arrivals = map (λ v. v.items) t.arrivals.items; nodes = t.nodes.items } };
+    ghost view = { λ t. record { costs = t.costs; arrivals = map (λ v. v.items) t.arrivals.items; meets = map (λ v. v.items) t.meets.items; nodes = t.nodes.items } };
 
     ghost invariant = { λ t. IsBounded t.costs × (t.costs.load ≤ 100000) };
 }
@@ -117,6 +119,17 @@ impl Timing {
         }
     }
 
+    /// When all arguments of each node of an instance have come, in clocks after the instance's block; None exactly where
+    /// there is no such instance.
+    pub fn meets(&self, instance: u32) -> Option<&[u32]>
+        ensures { option_map (λ r. r.now) result ≡ slice_get self.now.meets instance }
+    {
+        match self.meets.get(instance as usize) {
+            Some(meets) => Some(meets.as_slice()),
+            None => None,
+        }
+    }
+
     /// What a node of the program function costs; None exactly where there is no such node.
     pub fn cost(&self, node: u32) -> Option<Cost>
         ensures { result ≡ slice_get self.now.nodes node }
@@ -136,32 +149,38 @@ fn instance(p: &StProgram, k: u32) -> &StFunc
     }
 }
 
-// The costs of one more instance, and the arrivals of its items; none where it is heavy.
+// The costs of one more instance, the arrivals of its items, and when the arguments of its nodes have come; none where it
+// is heavy.
 fn weigh_next(
     alloc: Global,
     s: &StFunc,
     known: &mut Vec<Option<OwnCosts>>,
     arrivals: &mut Vec<Vec<u32>>,
+    meets: &mut Vec<Vec<u32>>,
 ) -> Result<(), AllocError>
     requires sound { IsSoundFunc (length known.old.items) (st_func_tree s.now) }
     requires known { (costs : List Owned) × AreKnown known.old.items costs }
     ensures known { OnOk result ((costs : List Owned) → AreKnown known.old.items costs → AreKnown known.new.items (costs ++ func_costs costs (st_func_tree s.now) ∷ [])) }
     ensures arrivals { OnOk result ((costs : List Owned) → AreKnown known.old.items costs → HasMore costs (st_func_tree s.now) (map (λ v. v.items) arrivals.old.items) (map (λ v. v.items) arrivals.new.items)) }
+    ensures meets { OnOk result ((costs : List Owned) → AreKnown known.old.items costs → HaveMoreMet costs (st_func_tree s.now) (map (λ v. v.items) meets.old.items) (map (λ v. v.items) meets.new.items)) }
 {
     match weigh(alloc, known, s, 999_999_999)? {
         Weighed::Within(t) => {
             let FuncTiming {
                 costs,
                 arrivals: own,
+                meets: met,
                 nodes: _,
             } = t;
             known.push(Some(costs))?;
             arrivals.push(own)?;
+            meets.push(met)?;
             Ok(())
         }
         Weighed::Over { line: _, load: _ } => {
             known.push(None)?;
             arrivals.push(Vec::new(alloc))?;
+            meets.push(Vec::new(alloc))?;
             Ok(())
         }
     }
@@ -188,20 +207,24 @@ pub fn arrivals_within(alloc: Global, p: &StProgram, limit: u32) -> Result<Timin
     let last = p.count() - 1;
     let mut known = Vec::new(alloc);
     let mut arrivals = Vec::new(alloc);
+    let mut meets = Vec::new(alloc);
     for k in 0..last {
-        weigh_next(alloc, instance(p, k), &mut known, &mut arrivals)?;
+        weigh_next(alloc, instance(p, k), &mut known, &mut arrivals, &mut meets)?;
     }
     match weigh(alloc, &known, instance(p, last), u64::from(limit))? {
         Weighed::Within(t) => {
             let FuncTiming {
                 costs,
                 arrivals: own,
+                meets: met,
                 nodes,
             } = t;
             arrivals.push(own)?;
+            meets.push(met)?;
             Ok(Timing {
                 costs,
                 arrivals,
+                meets,
                 nodes,
             })
         }

@@ -1,6 +1,6 @@
 // The costs of an instance, node by node.
 
-ghost use Rattle.std.specs.Prelude.{◌≡◌, ◌<◌, ◌≤◌, ◌+◌, ◌*◌, ℕ, List, [], length, sum_by, IfOk, Some, slice_get, slice_index};
+ghost use Rattle.std.specs.Prelude.{◌≡◌, ◌<◌, ◌≤◌, ◌+◌, ◌*◌, ℕ, List, [], length, sum_by, ◌++◌, ◌∷◌, IfOk, Some, None, slice_get, slice_index};
 ghost use Rattle.std.specs.List.{range_with_len};
 ghost use Rattle.ae_sttype.specs.StTree.{st_tree};
 ghost use Rattle.ae_sttype.specs.Moves.{columns_of};
@@ -10,8 +10,9 @@ ghost use Rattle.ae_rewrite.specs.Sound.{IsSoundNode, IsSoundFunc, item_layout, 
 ghost use Rattle.ae_delay.specs.declared.own.OwnCosts.{OwnCosts as Owned};
 ghost use Rattle.ae_delay.specs.Bounds.{IsBounded};
 ghost use Rattle.ae_delay.specs.OwnCosts.{body_costs, wire_costs};
-ghost use Rattle.ae_delay.specs.Costs.{NodeTiming as Timed, node_costs, node_timing, node_timings};
-ghost use Rattle.ae_delay.specs.Weighing.{AllBelow, AreItems, AreKnown, HasProgress, IsAdvance, IsKnown, IsProgress, IsWeighed, chained};
+ghost use Rattle.ae_delay.specs.declared.weighing.FuncTiming.{FuncTiming as FuncTimes};
+ghost use Rattle.ae_delay.specs.Costs.{NodeTiming as Timed, latest, node_costs, node_timing, node_timings};
+ghost use Rattle.ae_delay.specs.Weighing.{AllBelow, AreItems, AreKnown, HasProgress, HaveMet, IsAdvance, IsKnown, IsProgress, IsWeighed, chained};
 
 use crate::moves::{costs_of, costs_of_words};
 use crate::own::{
@@ -31,11 +32,12 @@ pub struct Cost {
     pub muls: u32,
 }
 
-/// The nodes of an instance so far: the arrivals of its items, the longest delay of each item, what each node costs, and
-/// the sums.
+/// The nodes of an instance so far: the arrivals of its items, when all arguments of each node have come, the longest delay
+/// of each item, what each node costs, and the sums.
 #[derive(Drop)]
 pub(crate) struct Progress {
     pub arrivals: Vec<u32>,
+    pub meets: Vec<u32>,
     pub chains: Vec<u32>,
     pub costs: Vec<Cost>,
     pub load: u64,
@@ -69,11 +71,12 @@ fn body_node(known: &[Option<OwnCosts>], k: u32, copies: u32) -> Option<OwnCosts
     }
 }
 
-/// An instance: its costs, the arrivals of its items, and what each node costs.
+/// An instance: its costs, the arrivals of its items, when all arguments of each node have come, and what each node costs.
 #[derive(Drop)]
 pub(crate) struct FuncTiming {
     pub costs: OwnCosts,
     pub arrivals: Vec<u32>,
+    pub meets: Vec<u32>,
     pub nodes: Vec<Cost>,
 }
 
@@ -137,7 +140,8 @@ fn add_node(
     requires limit { limit < 1000000000 }
     requires progress { HasProgress (st_func_tree s.now) limit progress.old }
     requires arrived { AllBelow node.now.args.items (length progress.old.arrivals.items) }
-    ensures { IfOk result (λ over. (costs : List Owned) → AreKnown known.now costs → IsAdvance (item_layouts (st_func_tree s.now)) (node_timing costs (item_layouts (st_func_tree s.now)) progress.old.arrivals.items (st_node_tree node.now)) limit progress.old progress.new over) }
+    ensures meets { IfOk result (λ over. over ≡ None → progress.new.meets.items ≡ progress.old.meets.items ++ latest progress.old.arrivals.items node.now.args.items ∷ []) }
+    ensures advance { IfOk result (λ over. (costs : List Owned) → AreKnown known.now costs → IsAdvance (item_layouts (st_func_tree s.now)) (node_timing costs (item_layouts (st_func_tree s.now)) progress.old.arrivals.items (st_node_tree node.now)) limit progress.old progress.new over) }
 {
     let own = match node_costs(alloc, known, s, node)? {
         None => return Ok(Some(1_000_000_000)),
@@ -156,6 +160,7 @@ fn add_node(
         load: load as u32,
         muls: own.muls as u32,
     })?;
+    progress.meets.push(start)?;
     progress.load = sum;
     progress.muls += own.muls;
     progress.mems += own.mems;
@@ -184,10 +189,12 @@ fn finish(s: &StFunc, progress: Progress, limit: u64) -> Weighed
     requires limit { limit < 1000000000 }
     requires progress { HasProgress (st_func_tree s.now) limit progress }
     requires whole { length progress.arrivals.items ≡ length (item_layouts (st_func_tree s.now)) }
-    ensures { (ts : List Timed) → IsProgress (st_func_tree s.now) ts limit progress → IsWeighed (st_func_tree s.now) ts limit result }
+    ensures meets { (t : FuncTimes) → result ≡ Weighed.Within t → (t.arrivals ≡ progress.arrivals) × (t.meets ≡ progress.meets) }
+    ensures weighed { (ts : List Timed) → IsProgress (st_func_tree s.now) ts limit progress → IsWeighed (st_func_tree s.now) ts limit result }
 {
     let Progress {
         arrivals,
+        meets,
         mut chains,
         costs,
         load,
@@ -212,16 +219,19 @@ fn finish(s: &StFunc, progress: Progress, limit: u64) -> Weighed
             mems,
         },
         arrivals,
+        meets,
         nodes: costs,
     })
 }
 
 // Before the first node: the parameters arrive in clock 0.
 fn start(alloc: Global, s: &StFunc) -> Result<Progress, AllocError>
-    ensures { IfOk result (λ p. (limit : ℕ) → IsProgress (st_func_tree s.now) [] limit p) }
+    ensures meets { IfOk result (λ p. p.meets.items ≡ []) }
+    ensures progress { IfOk result (λ p. (limit : ℕ) → IsProgress (st_func_tree s.now) [] limit p) }
 {
     Ok(Progress {
         arrivals: vec![in alloc; 0u32; s.ins.len()]?,
+        meets: Vec::new(alloc),
         chains: vec![in alloc; 0u32; s.ins.len() + s.nodes.len()]?,
         costs: Vec::new(alloc),
         load: 0,
@@ -240,7 +250,8 @@ pub(crate) fn weigh(
     requires sound { IsSoundFunc (length known.now) (st_func_tree s.now) }
     requires known { (costs : List Owned) × AreKnown known.now costs }
     requires limit { limit < 1000000000 }
-    ensures { IfOk result (λ w. (costs : List Owned) → AreKnown known.now costs → IsWeighed (st_func_tree s.now) (node_timings costs (st_func_tree s.now)) limit w) }
+    ensures meets { IfOk result (HaveMet (st_func_tree s.now)) }
+    ensures weighed { IfOk result (λ w. (costs : List Owned) → AreKnown known.now costs → IsWeighed (st_func_tree s.now) (node_timings costs (st_func_tree s.now)) limit w) }
 {
     let mut progress = start(alloc, s)?;
     for node in &s.nodes {

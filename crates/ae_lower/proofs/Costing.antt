@@ -1,5 +1,5 @@
 -- When items arrive, and what the nodes of an instance cost.
-use Rattle.std.proofs.Common.{ℕ, zero, suc, ◌≡◌, ◌+◌, ◌-◌, ◌*◌, ◌<◌, ◌≤◌, inl, inr, max, fold, List, [], ◌∷◌, ◌++◌, append_assoc, length, length-append, map, take, drop, sum_by, get_or, Some, slice_get, slice_index, slice_index_or, arith, refl, ap, sym, ◌∙◌, subst}
+use Rattle.std.proofs.Common.{ℕ, zero, suc, Bool, true, false, ◌==◌, ◌≡◌, ◌+◌, ◌-◌, ◌*◌, ◌<◌, ◌≤◌, inl, inr, max, fold, List, [], ◌∷◌, ◌++◌, append_assoc, length, length-append, map, take, drop, sum_by, get_or, Some, slice_get, slice_index, slice_index_or, arith, refl, ap, sym, ◌∙◌, subst}
 use Rattle.std.specs.Option.{option_map}
 use Rattle.std.proofs.Math.Nat.{mul-le-mul_right}
 use Rattle.std.proofs.lemmas.Bool.{cases_lt}
@@ -59,6 +59,18 @@ wait_at arrivals chosen waits r i are found =
     let is : slice_index waits r ≡ slack i = ap (λ ws. slice_index ws r) are ∙ get_or_from_slice_get (map slack chosen) r (slack i) 0 here in
     let l : slice_index arrivals i ≤ latest arrivals chosen = latest_at arrivals chosen r i found in
     omega (arith, is, l)
+
+pub waits_long : (arrivals chosen waits : List ℕ) → waits ≡ joint_slacks arrivals chosen → length waits ≡ length chosen
+waits_long arrivals chosen waits are = ap length are ∙ length-map chosen (λ a. latest arrivals chosen - slice_index arrivals a)
+
+-- where there is an item, and where there is none
+pub some_wait : (none : Bool) (count : ℕ) → none ≡ (count == 0) → none ≡ false → 0 < count
+some_wait none zero is no = cc
+some_wait none (suc n) is no = omega arith
+
+pub none_wait : (none : Bool) (arrivals chosen : List ℕ) → none ≡ (length chosen == 0) → none ≡ true → 0 ≡ latest arrivals chosen
+none_wait none arrivals [] is yes = refl
+none_wait none arrivals (i ∷ is) same yes = cc
 
 -- the registers before items whose bundles have the columns of their layouts
 pub delays_cost : (items : List (List NetId)) (arrivals : List ℕ) (start : ℕ) (layouts : List StTree) (chosen : List ℕ)

@@ -8,8 +8,8 @@ ghost use Rattle.ae_clocked.specs.Phases.{Belongs, KeepsCounters};
 ghost use Rattle.ae_clocked.specs.KeptRings.{RingsBelong};
 ghost use Rattle.ae_ops.specs.Blocks.{AreBundles};
 ghost use Rattle.ae_rewrite.specs.StProgramTree.{StFuncTree as Tree, StNodeTree as Node, st_func_trees};
-ghost use Rattle.ae_delay.specs.Costs.{NodeTiming};
-ghost use Rattle.ae_retime.specs.Slacks.{AreSlacks};
+ghost use Rattle.ae_delay.specs.Costs.{NodeTiming, latest};
+ghost use Rattle.ae_retime.specs.Slacks.{AreSlacks, joint_slacks};
 ghost use Rattle.ae_flow.specs.Flow.{callees};
 ghost use Rattle.ae_flow.specs.Fitted.{elements_stream};
 ghost use Rattle.ae_ports.specs.Ports.{streams_of};
@@ -22,7 +22,7 @@ use crate::items::{joined, waiting_memories};
 use crate::nodes::build;
 use crate::wires::{add, copied, keep_bundle, piece};
 use ae_clocked::{Clocks, Rings};
-use ae_delay::{Timing, latest};
+use ae_delay::Timing;
 use ae_flow::flows_fit;
 use ae_netlist::{NetFault, Netlist};
 use ae_ops::Bundle;
@@ -83,6 +83,19 @@ fn result_waits_of(slacks: &Slacks, k: u32) -> &[u32]
         Some(waits) => waits,
         None => unreachable!(),
     }
+}
+
+// When these items, each with so long a wait, have all come: as the first does after its wait; 0 of none.
+fn start_of(arrivals: &[u32], waits: &[u32], items: &[u32]) -> u32
+    requires below { (r i : ℕ) → slice_get items.now r ≡ Some i → i < length arrivals.now }
+    requires waits { waits.now ≡ joint_slacks arrivals.now items.now }
+    requires early { latest arrivals.now items.now ≤ 100000 }
+    ensures { result ≡ latest arrivals.now items.now }
+{
+    if items.is_empty() {
+        return 0;
+    }
+    arrivals[items[0] as usize] + waits[0]
 }
 
 // The bundles again.
@@ -269,8 +282,8 @@ fn lower_node(
     let s = instance(p, k);
     let arrivals = arrivals_of(a, k);
     let node = &s.nodes[j];
-    let start = latest(arrivals, &node.args);
     let waits = waits_of(slacks, k, j as u32);
+    let start = start_of(arrivals, waits, &node.args);
     let chains = chains_of(slacks, k);
     let args = joined(alloc, nl, clocks, kept, chains, items, waits, &node.args)?;
     match &node.op {

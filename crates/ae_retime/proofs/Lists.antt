@@ -4,7 +4,7 @@ use Rattle.std.specs.List.{range_with_len, flat_map}
 use Rattle.std.proofs.lemmas.Bool.{cases_eq}
 use Rattle.std.proofs.lemmas.List.{ext_get_or, get_or-replicate, length-map, length-replicate, map-append, take_all}
 use Rattle.std.proofs.lemmas.List.FromFn.{get_or-map-range_with_len, length-map-range_with_len}
-use Rattle.std.proofs.lemmas.Option.{same_Some}
+use Rattle.std.proofs.lemmas.Option.{get_or_from_slice_get, same_Some, slice_get_within}
 use Rattle.std.proofs.lemmas.Grind.{flat_map-append}
 use Rattle.ae_rewrite.specs.declared.st_program.StNode.{StNode}
 use Rattle.ae_rewrite.specs.declared.st_program.StFunc.{StFunc}
@@ -15,7 +15,7 @@ use Rattle.ae_rewrite.specs.Sound.{IsSound, IsSoundFunc, item_layouts}
 use Rattle.ae_rewrite.proofs.Grown.{get_in_front, get_last}
 use Rattle.ae_moves.proofs.Lists.{get_mapped, take_push}
 use Rattle.ae_delay.specs.declared.own.OwnCosts.{OwnCosts}
-use Rattle.ae_delay.specs.Costs.{NodeTiming, Use, all_costs, chain_of, latest, next_timing, node_timings}
+use Rattle.ae_delay.specs.Costs.{NodeTiming, Use, all_costs, chain_of, latest, meets_of, next_timing, node_timings}
 use Rattle.ae_delay.specs.Timings.{AreTimes, Times, item_arrivals}
 use Rattle.ae_delay.specs.Weighing.{deepened, deepened_by}
 use Rattle.ae_delay.proofs.Chains.{AreUses, deepened_at, length_deepened}
@@ -59,6 +59,28 @@ told_at p t k s own sound times here told =
 
 pub told_many : (p : List StFunc) (t : Times) (count k : ℕ) → AreTimes (st_func_trees p) t → count ≡ length p → k < count → k < length t.arrivals
 told_many p t count k times e low = omega (arith, times.many, length-map p st_func_tree)
+
+pub met_many : (p : List StFunc) (t : Times) (k : ℕ) (s : StFunc) → AreTimes (st_func_trees p) t → slice_get p k ≡ Some s → k < length t.meets
+met_many p t k s times here =
+    let there : slice_get (st_func_trees p) k ≡ Some (st_func_tree s) = tree_at p k s here in
+    slice_get_within t.meets k _ (times.meets k (st_func_tree s) there)
+
+-- when the arguments of each node have come, by the arrivals that are told
+pub met_at : (p : List StFunc) (t : Times) (k : ℕ) (s : StFunc) (own met : List ℕ) → AreTimes (st_func_trees p) t → slice_get p k ≡ Some s → own ≡ arrivals_in (st_func_trees p) k (st_func_tree s) → slice_get t.meets k ≡ Some met
+    → met ≡ meets_of own (st_func_tree s).nodes
+met_at p t k s own met times here is told =
+    let there : slice_get (st_func_trees p) k ≡ Some (st_func_tree s) = tree_at p k s here in
+    same_Some met _ (sym told ∙ times.meets k (st_func_tree s) there) ∙ ap (λ xs. meets_of xs (st_func_tree s).nodes) (sym is)
+
+pub meets_long : (arrivals : List ℕ) (s : StFunc) (meets : List ℕ) → meets ≡ meets_of arrivals (st_func_tree s).nodes → length meets ≡ length s.nodes.items
+meets_long arrivals s meets e =
+    ap length e ∙ (length-map (st_func_tree s).nodes (λ (n : StNodeTree). latest arrivals n.args) ∙ length-map s.nodes.items st_node_tree)
+
+pub meets_at : (arrivals : List ℕ) (nodes : List StNodeTree) (meets : List ℕ) (j : ℕ) (n : StNodeTree) (args : List ℕ) → meets ≡ meets_of arrivals nodes → slice_get nodes j ≡ Some n → args ≡ n.args
+    → get_or meets j 0 ≡ latest arrivals args
+meets_at arrivals nodes meets j n args e f ea =
+    ap (λ ms. get_or ms j 0) e ∙ (get_or_from_slice_get (meets_of arrivals nodes) j (latest arrivals n.args) 0
+    (get_mapped (λ (m : StNodeTree). latest arrivals m.args) nodes j n f) ∙ ap (latest arrivals) (sym ea))
 
 -- ---- lists by instance
 

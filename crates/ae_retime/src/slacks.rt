@@ -4,11 +4,12 @@ ghost use Rattle.std.specs.Prelude.{◌≡◌, ◌<◌, ◌-◌, ◌++◌, [], �
 ghost use Rattle.std.specs.Option.{option_and_then, option_map};
 ghost use Rattle.ae_rewrite.specs.StProgramTree.{st_func_tree, st_func_trees};
 ghost use Rattle.ae_rewrite.specs.Sound.{item_layouts};
+ghost use Rattle.ae_delay.specs.Costs.{meets_of};
 ghost use Rattle.ae_delay.specs.Timings.{AreTimes};
 ghost use Rattle.ae_retime.specs.Slacks.{AreSlacks, UsesBelow, argument_slacks, item_chains, joint_slacks};
 
 use crate::uses::{argument_slacks, item_chains, joint_slacks};
-use ae_delay::Timing;
+use ae_delay::{Timing, latest};
 use ae_rewrite::{StFunc, StProgram};
 use std::alloc::{AllocError, Global};
 use std::marker::Model;
@@ -115,24 +116,38 @@ fn arrivals_of(a: &Timing, k: u32) -> &[u32]
     }
 }
 
+// When all arguments of the nodes of instance number k have come.
+fn met_in(a: &Timing, k: u32) -> &[u32]
+    requires { k < length a.now.meets }
+    ensures { slice_get a.now.meets k ≡ Some result.now }
+{
+    match a.meets(k) {
+        Some(meets) => meets,
+        None => unreachable!(),
+    }
+}
+
 // The slacks and chains of one more instance, and the slacks of its results.
 fn add_func(
     alloc: Global,
     s: &StFunc,
     arrivals: &[u32],
+    meets: &[u32],
     arguments: &mut Vec<Vec<Vec<u32>>>,
     chains: &mut Vec<Vec<u32>>,
     results: &mut Vec<Vec<u32>>,
 ) -> Result<(), AllocError>
     requires uses { UsesBelow (length arrivals.now) (st_func_tree s.now) }
     requires long { length arrivals.now ≡ length (item_layouts (st_func_tree s.now)) }
+    requires meets { meets.now ≡ meets_of arrivals.now (st_func_tree s.now).nodes }
     ensures arguments { OnOk result (map (λ n. map (λ v. v.items) n.items) arguments.new.items ≡ map (λ n. map (λ v. v.items) n.items) arguments.old.items ++ argument_slacks arrivals.now (st_func_tree s.now) ∷ []) }
     ensures chains { OnOk result (map (λ v. v.items) chains.new.items ≡ map (λ v. v.items) chains.old.items ++ item_chains arrivals.now (st_func_tree s.now) ∷ []) }
     ensures results { OnOk result (map (λ v. v.items) results.new.items ≡ map (λ v. v.items) results.old.items ++ joint_slacks arrivals.now (st_func_tree s.now).results ∷ []) }
 {
-    arguments.push(argument_slacks(alloc, s, arrivals)?)?;
-    chains.push(item_chains(alloc, s, arrivals)?)?;
-    results.push(joint_slacks(alloc, arrivals, &s.results)?)?;
+    let end = latest(arrivals, &s.results);
+    arguments.push(argument_slacks(alloc, s, arrivals, meets)?)?;
+    chains.push(item_chains(alloc, s, arrivals, meets, end)?)?;
+    results.push(joint_slacks(alloc, arrivals, end, &s.results)?)?;
     Ok(())
 }
 
@@ -150,6 +165,7 @@ pub fn matching(alloc: Global, p: &StProgram, a: &Timing) -> Result<Slacks, Allo
             alloc,
             instance(p, k),
             arrivals_of(a, k),
+            met_in(a, k),
             &mut arguments,
             &mut chains,
             &mut results,

@@ -13,8 +13,8 @@ overflow_add-start c =
     let own = rw c.in-Some.is at (c.in_ok-node_costs.ensures c.requires.known.0 c.requires.known.1) in
     omega (arith, is, early, h.within, c.requires.limit, own.1.latency, own.2)
 
-pub returns : goal.returns
-returns c = λ costs known.
+pub returns-clause-advance : goal.returns-clause-advance
+returns-clause-advance c = λ costs known.
     let h = c.requires.progress.1 in
     let is : c.latest-start.result ≡ latest c.args.progress.now.arrivals.items c.args.node.now.args.items = rw (c.deref.ensures.value, c.deref-2.ensures.value) at c.latest-start.ensures in
     let early : latest c.args.progress.now.arrivals.items c.args.node.now.args.items ≤ c.args.progress.now.load = latest_le _ _ _ c.requires.arrived h.early in

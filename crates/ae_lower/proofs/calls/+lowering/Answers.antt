@@ -9,6 +9,7 @@ use Rattle.ae_rewrite.specs.StProgramTree.{StFuncTree, body, st_func_tree, st_fu
 use Rattle.ae_rewrite.specs.Sound.{item_layouts}
 use Rattle.ae_delay.specs.declared.own.OwnCosts.{OwnCosts}
 use Rattle.ae_delay.specs.Costs.{all_costs, latest, node_costs}
+use Rattle.ae_retime.specs.Slacks.{joint_slacks}
 use Rattle.ae_flow.specs.Flow.{callees}
 use Rattle.ae_ports.specs.Ports.{streams_of}
 use Rattle.ae_lower.specs.Growth.{GrowsBy, IsBuilt, Spends}
@@ -239,10 +240,34 @@ lower_node-waits_of-waits-requires t c =
 pub lower_node-index-node-requires : goal.lower_node-index-node-requires
 lower_node-index-node-requires t c = (let l = c.requires.node (st_func_tree c.instance-s.result.now) (func_tree c.args.p.now c.args.k c.instance-s.result.now c.instance-s.ensures) in omega (arith, l, c.instance-s.result.now.nodes.ok, length-map c.instance-s.result.now.nodes.items st_node_tree))
 
-pub lower_node-latest-start-requires : goal.lower_node-latest-start-requires
-lower_node-latest-start-requires t c = λ r i f.
-    let h = placed_in c.args.p.now c.args.a.now.arrivals c.args.k c.args.j c.args.at c.instance-s.result.now c.index-node.result.now c.arrivals_of-arrivals.result.now c.requires.timed c.requires.light c.instance-s.ensures c.requires.node c.index-node.ensures c.arrivals_of-arrivals.ensures in
-    (let l = chosen_below (st_func_trees c.args.p.now) c.args.k c.args.j c.args.at (st_func_tree c.instance-s.result.now) (st_node_tree c.index-node.result.now) c.arrivals_of-arrivals.result.now c.deref.result.now h c.deref.ensures.value r i f in omega (arith, l, own_long (st_func_trees c.args.p.now) c.args.k c.args.j c.args.at (st_func_tree c.instance-s.result.now) (st_node_tree c.index-node.result.now) c.arrivals_of-arrivals.result.now h))
+pub lower_node-start_of-start-requires-clause-below : goal.lower_node-start_of-start-requires-clause-below
+lower_node-start_of-start-requires-clause-below t c = λ r i f.
+    let h = placed_in c.args.p.now c.args.a.now.arrivals c.args.k c.args.j c.args.at c.instance-s.result.now c.index-node.result.now
+    c.arrivals_of-arrivals.result.now c.requires.timed c.requires.light c.instance-s.ensures c.requires.node c.index-node.ensures
+    c.arrivals_of-arrivals.ensures in
+    (let l = chosen_below (st_func_trees c.args.p.now) c.args.k c.args.j c.args.at (st_func_tree c.instance-s.result.now)
+    (st_node_tree c.index-node.result.now) c.arrivals_of-arrivals.result.now c.deref.result.now h c.deref.ensures.value r i f in omega
+    (arith, l, own_long (st_func_trees c.args.p.now) c.args.k c.args.j c.args.at (st_func_tree c.instance-s.result.now)
+    (st_node_tree c.index-node.result.now) c.arrivals_of-arrivals.result.now h))
+
+pub lower_node-start_of-start-requires-clause-waits : goal.lower_node-start_of-start-requires-clause-waits
+lower_node-start_of-start-requires-clause-waits t c =
+    let h = placed_in c.args.p.now c.args.a.now.arrivals c.args.k c.args.j c.args.at c.instance-s.result.now c.index-node.result.now
+    c.arrivals_of-arrivals.result.now c.requires.timed c.requires.light c.instance-s.ensures c.requires.node c.index-node.ensures
+    c.arrivals_of-arrivals.ensures in
+    let ew = waits_in (st_func_trees c.args.p.now) c.args.slacks.now c.args.k c.args.j c.args.at (st_func_tree c.instance-s.result.now)
+    (st_node_tree c.index-node.result.now) c.arrivals_of-arrivals.result.now c.waits_of-waits.result.now c.requires.slacks h c.waits_of-waits.ensures in
+    ew ∙ (ap (λ xs. joint_slacks xs (st_node_tree c.index-node.result.now).args) (sym h.arrivals) ∙ ap (joint_slacks c.arrivals_of-arrivals.result.now)
+    (sym c.deref.ensures.value))
+
+pub lower_node-start_of-start-requires-clause-early : goal.lower_node-start_of-start-requires-clause-early
+lower_node-start_of-start-requires-clause-early t c =
+    let h = placed_in c.args.p.now c.args.a.now.arrivals c.args.k c.args.j c.args.at c.instance-s.result.now c.index-node.result.now
+    c.arrivals_of-arrivals.result.now c.requires.timed c.requires.light c.instance-s.ensures c.requires.node c.index-node.ensures
+    c.arrivals_of-arrivals.ensures in
+    let same : latest c.arrivals_of-arrivals.result.now c.deref.result.now ≡ latest c.arrivals_of-arrivals.result.now
+    (st_node_tree c.index-node.result.now).args = ap (latest c.arrivals_of-arrivals.result.now) c.deref.ensures.value in
+    omega (arith, h.early, same)
 
 pub lower_node-chains_of-chains-requires : goal.lower_node-chains_of-chains-requires
 lower_node-chains_of-chains-requires t c = (_, chains_told (st_func_trees c.args.p.now) c.args.slacks.now c.args.k (st_func_tree c.instance-s.result.now) c.requires.slacks (func_tree c.args.p.now c.args.k c.instance-s.result.now c.instance-s.ensures))
@@ -273,19 +298,19 @@ lower_node-returns-in_err-args-clause-grows t c =
 pub lower_node-overflow_add-at : goal.lower_node-overflow_add-at
 lower_node-overflow_add-at t c =
     let h = placed_in c.args.p.now c.args.a.now.arrivals c.args.k c.args.j c.args.at c.instance-s.result.now c.index-node.result.now c.arrivals_of-arrivals.result.now c.requires.timed c.requires.light c.instance-s.ensures c.requires.node c.index-node.ensures c.arrivals_of-arrivals.ensures in
-    let start : c.latest-start.result ≡ latest c.arrivals_of-arrivals.result.now (st_node_tree c.index-node.result.now).args = c.latest-start.ensures ∙ ap (latest c.arrivals_of-arrivals.result.now) c.deref.ensures.value in
-    let early : c.args.at + c.latest-start.result ≤ 100000 = omega (arith, h.early, start) in
+    let start : c.start_of-start.result ≡ latest c.arrivals_of-arrivals.result.now (st_node_tree c.index-node.result.now).args = c.start_of-start.ensures ∙ ap (latest c.arrivals_of-arrivals.result.now) c.deref.ensures.value in
+    let early : c.args.at + c.start_of-start.result ≤ 100000 = omega (arith, h.early, start) in
     omega (arith, early)
 
 pub lower_node-lower_bodies-requires : goal.lower_node-lower_bodies-requires
 lower_node-lower_bodies-requires t c =
     let h = placed_in c.args.p.now c.args.a.now.arrivals c.args.k c.args.j c.args.at c.instance-s.result.now c.index-node.result.now c.arrivals_of-arrivals.result.now c.requires.timed c.requires.light c.instance-s.ensures c.requires.node c.index-node.ensures c.arrivals_of-arrivals.ensures in
-    let start : c.latest-start.result ≡ latest c.arrivals_of-arrivals.result.now (st_node_tree c.index-node.result.now).args = c.latest-start.ensures ∙ ap (latest c.arrivals_of-arrivals.result.now) c.deref.ensures.value in
+    let start : c.start_of-start.result ≡ latest c.arrivals_of-arrivals.result.now (st_node_tree c.index-node.result.now).args = c.start_of-start.ensures ∙ ap (latest c.arrivals_of-arrivals.result.now) c.deref.ensures.value in
     let late : AreDelayed c.args.nl.now.cells c.joined.new.nl.cells c.args.clocks.now.rst c.args.items.now c.waits_of-waits.result.now (st_node_tree c.index-node.result.now).args c.in_ok-args.args.items = subst (λ (is : List ℕ). AreDelayed c.args.nl.now.cells c.joined.new.nl.cells c.args.clocks.now.rst c.args.items.now c.waits_of-waits.result.now is c.in_ok-args.args.items) c.deref-2.ensures.value c.in_ok-args.ensures.delayed in
     let bundles : AreBundles c.joined.new.nl.cells (streams_of (arguments_of (st_func_tree c.instance-s.result.now) (st_node_tree c.index-node.result.now))) c.deref-in-Body.result.now = subst (λ (bs : List (List NetId)). AreBundles c.joined.new.nl.cells (streams_of (arguments_of (st_func_tree c.instance-s.result.now) (st_node_tree c.index-node.result.now))) bs) (sym c.deref-in-Body.ensures.value) (args_stand c.args.nl.now.cells c.joined.new.nl.cells c.args.clocks.now.rst (st_func_tree c.instance-s.result.now) (length (st_func_tree c.instance-s.result.now).ins + c.args.j) c.args.items.now c.waits_of-waits.result.now (st_node_tree c.index-node.result.now).args c.in_ok-args.args.items (c.requires.items (st_func_tree c.instance-s.result.now) h.func) h.below late) in
     let op : (st_node_tree c.index-node.result.now).op ≡ body c.in-Body.m = ap st_op_tree c.in-Body.is in
     let call = is_call (st_func_trees c.args.p.now) c.args.k c.args.j c.in-Body.m c.args.at (st_func_tree c.instance-s.result.now) (st_node_tree c.index-node.result.now) c.arrivals_of-arrivals.result.now op h in
-    let light : IsLight (st_func_trees c.args.p.now) c.in-Body.m (c.args.at + c.latest-start.result) call.0 = subst (λ (i : ℕ). IsLight (st_func_trees c.args.p.now) c.in-Body.m (c.args.at + i) call.0) (sym start) (call_light (st_func_trees c.args.p.now) c.args.k c.args.j c.in-Body.m c.args.at (st_func_tree c.instance-s.result.now) (st_node_tree c.index-node.result.now) c.arrivals_of-arrivals.result.now call.0 h call.1) in (
+    let light : IsLight (st_func_trees c.args.p.now) c.in-Body.m (c.args.at + c.start_of-start.result) call.0 = subst (λ (i : ℕ). IsLight (st_func_trees c.args.p.now) c.in-Body.m (c.args.at + i) call.0) (sym start) (call_light (st_func_trees c.args.p.now) c.args.k c.args.j c.in-Body.m c.args.at (st_func_tree c.instance-s.result.now) (st_node_tree c.index-node.result.now) c.arrivals_of-arrivals.result.now call.0 h call.1) in (
       omega (arith, c.decreases, call.1.earlier),
       (
         c.in_ok-args.ensures.belongs,
@@ -334,32 +359,32 @@ pub lower_node-returns-in-Body-clause-item : goal.lower_node-returns-in-Body-cla
 lower_node-returns-in-Body-clause-item t c =
     let h = placed_in c.args.p.now c.args.a.now.arrivals c.args.k c.args.j c.args.at c.instance-s.result.now c.index-node.result.now c.arrivals_of-arrivals.result.now c.requires.timed c.requires.light c.instance-s.ensures c.requires.node c.index-node.ensures c.arrivals_of-arrivals.ensures in
     let ew = waits_in (st_func_trees c.args.p.now) c.args.slacks.now c.args.k c.args.j c.args.at (st_func_tree c.instance-s.result.now) (st_node_tree c.index-node.result.now) c.arrivals_of-arrivals.result.now c.waits_of-waits.result.now c.requires.slacks h c.waits_of-waits.ensures in
-    let start : c.latest-start.result ≡ latest c.arrivals_of-arrivals.result.now (st_node_tree c.index-node.result.now).args = c.latest-start.ensures ∙ ap (latest c.arrivals_of-arrivals.result.now) c.deref.ensures.value in
+    let start : c.start_of-start.result ≡ latest c.arrivals_of-arrivals.result.now (st_node_tree c.index-node.result.now).args = c.start_of-start.ensures ∙ ap (latest c.arrivals_of-arrivals.result.now) c.deref.ensures.value in
     let late : AreDelayed c.args.nl.now.cells c.joined.new.nl.cells c.args.clocks.now.rst c.args.items.now c.waits_of-waits.result.now (st_node_tree c.index-node.result.now).args c.in_ok-args.args.items = subst (λ (is : List ℕ). AreDelayed c.args.nl.now.cells c.joined.new.nl.cells c.args.clocks.now.rst c.args.items.now c.waits_of-waits.result.now is c.in_ok-args.args.items) c.deref-2.ensures.value c.in_ok-args.ensures.delayed in
     let op : (st_node_tree c.index-node.result.now).op ≡ body c.in-Body.m = ap st_op_tree c.in-Body.is in
     let call = is_call (st_func_trees c.args.p.now) c.args.k c.args.j c.in-Body.m c.args.at (st_func_tree c.instance-s.result.now) (st_node_tree c.index-node.result.now) c.arrivals_of-arrivals.result.now op h in
     let latency : (instance_costs (st_func_trees c.args.p.now) c.in-Body.m).latency ≡ (node_costs (all_costs (take c.args.k (st_func_trees c.args.p.now))) (item_layouts (st_func_tree c.instance-s.result.now)) (st_node_tree c.index-node.result.now)).latency = sym (ap (λ (o : OwnCosts). o.latency) call.1.costs) in
     if_ok_more c.lower_bodies.result _ _ (λ y built.
     let bodies = built call.0 call.1.fits.slots call.1.fits.rounds call.1.called call.1.fits.few in
-    let whole : IsBuilt c.lower_bodies.new.nl c.args.clocks.now.rst (c.args.at + c.latest-start.result) (bodies_part (callees (take c.in-Body.m (st_func_trees c.args.p.now))) call.0 call.1.fits.slots call.1.fits.rounds (st_node_tree c.index-node.result.now).copies (instance_costs (st_func_trees c.args.p.now) c.in-Body.m).latency) c.in_ok-args.args.items y =
-    subst (λ (z : ℕ). IsBuilt c.lower_bodies.new.nl z (c.args.at + c.latest-start.result) (bodies_part (callees (take c.in-Body.m (st_func_trees c.args.p.now))) call.0 call.1.fits.slots call.1.fits.rounds (st_node_tree c.index-node.result.now).copies (instance_costs (st_func_trees c.args.p.now) c.in-Body.m).latency) c.in_ok-args.args.items y) c.in_ok-args.ensures.keeps.rst
-    (subst (λ (bs : List (List NetId)). IsBuilt c.lower_bodies.new.nl c.joined.new.clocks.rst (c.args.at + c.latest-start.result) (bodies_part (callees (take c.in-Body.m (st_func_trees c.args.p.now))) call.0 call.1.fits.slots call.1.fits.rounds (st_node_tree c.index-node.result.now).copies (instance_costs (st_func_trees c.args.p.now) c.in-Body.m).latency) bs y) c.deref-in-Body.ensures.value bodies) in
-    node_placed (st_func_trees c.args.p.now) c.args.a.now.arrivals c.args.k c.args.j c.args.at c.args.clocks.now.rst (st_func_tree c.instance-s.result.now) (st_node_tree c.index-node.result.now) c.arrivals_of-arrivals.result.now c.waits_of-waits.result.now c.args.items.now c.in_ok-args.args.items c.args.nl.now c.joined.new.nl c.lower_bodies.new.nl (instance_costs (st_func_trees c.args.p.now) c.in-Body.m).latency c.latest-start.result y c.flows_fit.ensures c.requires.timed h start ew latency
+    let whole : IsBuilt c.lower_bodies.new.nl c.args.clocks.now.rst (c.args.at + c.start_of-start.result) (bodies_part (callees (take c.in-Body.m (st_func_trees c.args.p.now))) call.0 call.1.fits.slots call.1.fits.rounds (st_node_tree c.index-node.result.now).copies (instance_costs (st_func_trees c.args.p.now) c.in-Body.m).latency) c.in_ok-args.args.items y =
+    subst (λ (z : ℕ). IsBuilt c.lower_bodies.new.nl z (c.args.at + c.start_of-start.result) (bodies_part (callees (take c.in-Body.m (st_func_trees c.args.p.now))) call.0 call.1.fits.slots call.1.fits.rounds (st_node_tree c.index-node.result.now).copies (instance_costs (st_func_trees c.args.p.now) c.in-Body.m).latency) c.in_ok-args.args.items y) c.in_ok-args.ensures.keeps.rst
+    (subst (λ (bs : List (List NetId)). IsBuilt c.lower_bodies.new.nl c.joined.new.clocks.rst (c.args.at + c.start_of-start.result) (bodies_part (callees (take c.in-Body.m (st_func_trees c.args.p.now))) call.0 call.1.fits.slots call.1.fits.rounds (st_node_tree c.index-node.result.now).copies (instance_costs (st_func_trees c.args.p.now) c.in-Body.m).latency) bs y) c.deref-in-Body.ensures.value bodies) in
+    node_placed (st_func_trees c.args.p.now) c.args.a.now.arrivals c.args.k c.args.j c.args.at c.args.clocks.now.rst (st_func_tree c.instance-s.result.now) (st_node_tree c.index-node.result.now) c.arrivals_of-arrivals.result.now c.waits_of-waits.result.now c.args.items.now c.in_ok-args.args.items c.args.nl.now c.joined.new.nl c.lower_bodies.new.nl (instance_costs (st_func_trees c.args.p.now) c.in-Body.m).latency c.start_of-start.result y c.flows_fit.ensures c.requires.timed h start ew latency
     c.in_ok-args.ensures.grows.grows.extends c.lower_bodies.ensures.grows.grows.extends late
-    (bodies_placed (st_func_trees c.args.p.now) c.args.k c.in-Body.m (c.args.at + c.latest-start.result) c.args.clocks.now.rst (st_func_tree c.instance-s.result.now) (st_node_tree c.index-node.result.now) call.0 c.in_ok-args.args.items c.lower_bodies.new.nl y c.requires.timed.sound op call.1 whole)) c.lower_bodies.ensures.built
+    (bodies_placed (st_func_trees c.args.p.now) c.args.k c.in-Body.m (c.args.at + c.start_of-start.result) c.args.clocks.now.rst (st_func_tree c.instance-s.result.now) (st_node_tree c.index-node.result.now) call.0 c.in_ok-args.args.items c.lower_bodies.new.nl y c.requires.timed.sound op call.1 whole)) c.lower_bodies.ensures.built
 
 pub lower_node-overflow_add-at-in_default : goal.lower_node-overflow_add-at-in_default
 lower_node-overflow_add-at-in_default t c =
     let h = placed_in c.args.p.now c.args.a.now.arrivals c.args.k c.args.j c.args.at c.instance-s.result.now c.index-node.result.now c.arrivals_of-arrivals.result.now c.requires.timed c.requires.light c.instance-s.ensures c.requires.node c.index-node.ensures c.arrivals_of-arrivals.ensures in
-    let start : c.latest-start.result ≡ latest c.arrivals_of-arrivals.result.now (st_node_tree c.index-node.result.now).args = c.latest-start.ensures ∙ ap (latest c.arrivals_of-arrivals.result.now) c.deref.ensures.value in
-    let early : c.args.at + c.latest-start.result ≤ 100000 = omega (arith, h.early, start) in
+    let start : c.start_of-start.result ≡ latest c.arrivals_of-arrivals.result.now (st_node_tree c.index-node.result.now).args = c.start_of-start.ensures ∙ ap (latest c.arrivals_of-arrivals.result.now) c.deref.ensures.value in
+    let early : c.args.at + c.start_of-start.result ≤ 100000 = omega (arith, h.early, start) in
     omega (arith, early)
 
 pub lower_node-build-requires : goal.lower_node-build-requires
 lower_node-build-requires t c =
     let h = placed_in c.args.p.now c.args.a.now.arrivals c.args.k c.args.j c.args.at c.instance-s.result.now c.index-node.result.now c.arrivals_of-arrivals.result.now c.requires.timed c.requires.light c.instance-s.ensures c.requires.node c.index-node.ensures c.arrivals_of-arrivals.ensures in
-    let start : c.latest-start.result ≡ latest c.arrivals_of-arrivals.result.now (st_node_tree c.index-node.result.now).args = c.latest-start.ensures ∙ ap (latest c.arrivals_of-arrivals.result.now) c.deref.ensures.value in
-    let early : c.args.at + c.latest-start.result ≤ 100000 = omega (arith, h.early, start) in
+    let start : c.start_of-start.result ≡ latest c.arrivals_of-arrivals.result.now (st_node_tree c.index-node.result.now).args = c.start_of-start.ensures ∙ ap (latest c.arrivals_of-arrivals.result.now) c.deref.ensures.value in
+    let early : c.args.at + c.start_of-start.result ≤ 100000 = omega (arith, h.early, start) in
     let late : AreDelayed c.args.nl.now.cells c.joined.new.nl.cells c.args.clocks.now.rst c.args.items.now c.waits_of-waits.result.now (st_node_tree c.index-node.result.now).args c.in_ok-args.args.items = subst (λ (is : List ℕ). AreDelayed c.args.nl.now.cells c.joined.new.nl.cells c.args.clocks.now.rst c.args.items.now c.waits_of-waits.result.now is c.in_ok-args.args.items) c.deref-2.ensures.value c.in_ok-args.ensures.delayed in
     let bundles : AreBundles c.joined.new.nl.cells (streams_of (arguments_of (st_func_tree c.instance-s.result.now) (st_node_tree c.index-node.result.now))) c.deref-in_default.result.now = subst (λ (bs : List (List NetId)). AreBundles c.joined.new.nl.cells (streams_of (arguments_of (st_func_tree c.instance-s.result.now) (st_node_tree c.index-node.result.now))) bs) (sym c.deref-in_default.ensures.value) (args_stand c.args.nl.now.cells c.joined.new.nl.cells c.args.clocks.now.rst (st_func_tree c.instance-s.result.now) (length (st_func_tree c.instance-s.result.now).ins + c.args.j) c.args.items.now c.waits_of-waits.result.now (st_node_tree c.index-node.result.now).args c.in_ok-args.args.items (c.requires.items (st_func_tree c.instance-s.result.now) h.func) h.below late) in
     record {
@@ -373,7 +398,7 @@ pub lower_node-returns : goal.lower_node-returns
 lower_node-returns t c =
     let h = placed_in c.args.p.now c.args.a.now.arrivals c.args.k c.args.j c.args.at c.instance-s.result.now c.index-node.result.now c.arrivals_of-arrivals.result.now c.requires.timed c.requires.light c.instance-s.ensures c.requires.node c.index-node.ensures c.arrivals_of-arrivals.ensures in
     let ew = waits_in (st_func_trees c.args.p.now) c.args.slacks.now c.args.k c.args.j c.args.at (st_func_tree c.instance-s.result.now) (st_node_tree c.index-node.result.now) c.arrivals_of-arrivals.result.now c.waits_of-waits.result.now c.requires.slacks h c.waits_of-waits.ensures in
-    let start : c.latest-start.result ≡ latest c.arrivals_of-arrivals.result.now (st_node_tree c.index-node.result.now).args = c.latest-start.ensures ∙ ap (latest c.arrivals_of-arrivals.result.now) c.deref.ensures.value in
+    let start : c.start_of-start.result ≡ latest c.arrivals_of-arrivals.result.now (st_node_tree c.index-node.result.now).args = c.start_of-start.ensures ∙ ap (latest c.arrivals_of-arrivals.result.now) c.deref.ensures.value in
     let delays : GrowsBy c.args.nl.now c.joined.new.nl (delay_load c.args.items.now c.waits_of-waits.result.now (st_node_tree c.index-node.result.now).args) = subst (λ (is : List ℕ). GrowsBy c.args.nl.now c.joined.new.nl (delay_load c.args.items.now c.waits_of-waits.result.now is)) c.deref-2.ensures.value c.joined.ensures.grows in
     let late : AreDelayed c.args.nl.now.cells c.joined.new.nl.cells c.args.clocks.now.rst c.args.items.now c.waits_of-waits.result.now (st_node_tree c.index-node.result.now).args c.in_ok-args.args.items = subst (λ (is : List ℕ). AreDelayed c.args.nl.now.cells c.joined.new.nl.cells c.args.clocks.now.rst c.args.items.now c.waits_of-waits.result.now is c.in_ok-args.args.items) c.deref-2.ensures.value c.in_ok-args.ensures.delayed in
     let plain = calls_nothing c.index-node.result.now.op c.in_default.not-Body in
@@ -390,10 +415,10 @@ lower_node-returns t c =
       full = c.build.ensures.full;
       item = if_ok_more c.build.result _ _ (λ y built.
           let bare = built (callees (take c.args.k (st_func_trees c.args.p.now))) in
-          let whole : IsBuilt c.build.new.nl c.args.clocks.now.rst (c.args.at + c.latest-start.result) (node_part (callees (take c.args.k (st_func_trees c.args.p.now))) (plain_costs (st_func_tree c.instance-s.result.now) (st_node_tree c.index-node.result.now)).latency (st_func_tree c.instance-s.result.now) (st_node_tree c.index-node.result.now)) c.in_ok-args.args.items y =
-          subst (λ (z : ℕ). IsBuilt c.build.new.nl z (c.args.at + c.latest-start.result) (node_part (callees (take c.args.k (st_func_trees c.args.p.now))) (plain_costs (st_func_tree c.instance-s.result.now) (st_node_tree c.index-node.result.now)).latency (st_func_tree c.instance-s.result.now) (st_node_tree c.index-node.result.now)) c.in_ok-args.args.items y) c.in_ok-args.ensures.keeps.rst
-          (subst (λ (bs : List (List NetId)). IsBuilt c.build.new.nl c.joined.new.clocks.rst (c.args.at + c.latest-start.result) (node_part (callees (take c.args.k (st_func_trees c.args.p.now))) (plain_costs (st_func_tree c.instance-s.result.now) (st_node_tree c.index-node.result.now)).latency (st_func_tree c.instance-s.result.now) (st_node_tree c.index-node.result.now)) bs y) c.deref-in_default.ensures.value bare) in
-          node_placed (st_func_trees c.args.p.now) c.args.a.now.arrivals c.args.k c.args.j c.args.at c.args.clocks.now.rst (st_func_tree c.instance-s.result.now) (st_node_tree c.index-node.result.now) c.arrivals_of-arrivals.result.now c.waits_of-waits.result.now c.args.items.now c.in_ok-args.args.items c.args.nl.now c.joined.new.nl c.build.new.nl (plain_costs (st_func_tree c.instance-s.result.now) (st_node_tree c.index-node.result.now)).latency c.latest-start.result y c.flows_fit.ensures c.requires.timed h start ew (ap (λ (o : OwnCosts). o.latency) same)
+          let whole : IsBuilt c.build.new.nl c.args.clocks.now.rst (c.args.at + c.start_of-start.result) (node_part (callees (take c.args.k (st_func_trees c.args.p.now))) (plain_costs (st_func_tree c.instance-s.result.now) (st_node_tree c.index-node.result.now)).latency (st_func_tree c.instance-s.result.now) (st_node_tree c.index-node.result.now)) c.in_ok-args.args.items y =
+          subst (λ (z : ℕ). IsBuilt c.build.new.nl z (c.args.at + c.start_of-start.result) (node_part (callees (take c.args.k (st_func_trees c.args.p.now))) (plain_costs (st_func_tree c.instance-s.result.now) (st_node_tree c.index-node.result.now)).latency (st_func_tree c.instance-s.result.now) (st_node_tree c.index-node.result.now)) c.in_ok-args.args.items y) c.in_ok-args.ensures.keeps.rst
+          (subst (λ (bs : List (List NetId)). IsBuilt c.build.new.nl c.joined.new.clocks.rst (c.args.at + c.start_of-start.result) (node_part (callees (take c.args.k (st_func_trees c.args.p.now))) (plain_costs (st_func_tree c.instance-s.result.now) (st_node_tree c.index-node.result.now)).latency (st_func_tree c.instance-s.result.now) (st_node_tree c.index-node.result.now)) bs y) c.deref-in_default.ensures.value bare) in
+          node_placed (st_func_trees c.args.p.now) c.args.a.now.arrivals c.args.k c.args.j c.args.at c.args.clocks.now.rst (st_func_tree c.instance-s.result.now) (st_node_tree c.index-node.result.now) c.arrivals_of-arrivals.result.now c.waits_of-waits.result.now c.args.items.now c.in_ok-args.args.items c.args.nl.now c.joined.new.nl c.build.new.nl (plain_costs (st_func_tree c.instance-s.result.now) (st_node_tree c.index-node.result.now)).latency c.start_of-start.result y c.flows_fit.ensures c.requires.timed h start ew (ap (λ (o : OwnCosts). o.latency) same)
           c.in_ok-args.ensures.grows.grows.extends c.build.ensures.grows.grows.extends late whole) c.build.ensures.built;
     }
 

@@ -22,7 +22,7 @@ pub loop-item-preserved : goal.loop-item-preserved
 loop-item-preserved c =
     let a = get_or c.args.items.now c.loop-item.item-index 0 in
     let below = item_below c.args.items.now (length c.args.chains.now.items) c.loop-item.item-index c.requires.below c.loop-item-test.true in
-    let slack = c.saturating_sub-slack.ensures ∙ ap (λ m. m - get_or c.args.arrivals.now a 0) c.latest-most.ensures in
+    let slack = c.saturating_sub-slack.ensures ∙ ap (λ m. m - get_or c.args.arrivals.now a 0) c.requires.most in
     record {
       chains = deepened_next c.args.chains.now.items c.args.arrivals.now (latest c.args.arrivals.now c.args.items.now) c.args.items.now c.loop-item.chains.items
           c.loop-item.item-index c.index-before.result.now c.max.result c.loop-item-test.true (omega (arith, below, c.loop-item.invariant.long))

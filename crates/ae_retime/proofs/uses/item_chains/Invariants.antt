@@ -5,9 +5,9 @@ use Rattle.ae_delay.specs.Weighing.{deepened}
 use Rattle.ae_retime.specs.Slacks.{joint_uses}
 use Rattle.ae_retime.proofs.uses.item_chains.Given as goal
 
-abbrev pub invariant-loop-node : goal.invariant-loop-node
-invariant-loop-node l = record {
-  nodes : l.node-items ≡ l.s.nodes.items;
+abbrev pub invariant-loop-j : goal.invariant-loop-j
+invariant-loop-j l = record {
   long : length l.chains.items ≡ length l.arrivals;
-  chains : l.chains.items ≡ deepened (replicate (length l.arrivals) 0) (flat_map (λ (n : StNodeTree). joint_uses l.arrivals n.args) (take l.node-index (st_func_tree l.s).nodes));
+  chains : l.chains.items ≡ deepened (replicate (length l.arrivals) 0)
+      (flat_map (λ (n : StNodeTree). joint_uses l.arrivals n.args) (take l.j (st_func_tree l.s).nodes));
 }
