@@ -18,7 +18,7 @@ use crate::reply::{RUN_LIMIT, Reply, refused};
 use crate::status::Status;
 use crate::widths::input_widths;
 use ae_compile::OutOfMemory;
-use ae_eval::eval;
+use ae_eval::Evaluator;
 use ae_parse::{RowFault, read_rows};
 use ae_seq::Typed;
 use ae_seqtype::Value;
@@ -96,12 +96,16 @@ fn joined(alloc: Global, values: &[Value]) -> Result<Vec<u64>, AllocError>
 }
 
 // The words of all results on the values of a row.
-fn row_results(alloc: Global, p: &Typed, row: &[u64]) -> Result<Vec<u64>, AllocError>
-    requires { FitIn (input_types (program_tree p.now)) row.now }
-    ensures { IfOk result (λ words. words.items ≡ flat_map flat (mean (program_tree p.now) (values_in_row (program_tree p.now) row.now))) }
+fn row_results(
+    alloc: Global,
+    evaluator: &Evaluator<'_>,
+    row: &[u64],
+) -> Result<Vec<u64>, AllocError>
+    requires { FitIn (input_types (program_tree evaluator.now)) row.now }
+    ensures { IfOk result (λ words. words.items ≡ flat_map flat (mean (program_tree evaluator.now) (values_in_row (program_tree evaluator.now) row.now))) }
 {
-    let values = row_values(alloc, p, row)?;
-    let results = eval(alloc, p, &values)?;
+    let values = row_values(alloc, evaluator.program(), row)?;
+    let results = evaluator.eval(alloc, &values)?;
     joined(alloc, &results)
 }
 
@@ -135,11 +139,12 @@ fn eval_text(alloc: Global, p: &Typed, words: &[u64], columns: usize) -> Result<
     ensures { IfOk result (λ text. (table : List (List (List ℕ))) → AreRows (program_tree p.now) columns table words.now
         → string_bytes text ≡ eval_text (program_tree p.now) table) }
 {
+    let evaluator = Evaluator::new(alloc, p)?;
     let mut out = String::new(alloc);
     let mut rest = words;
     for _ in 0..words.len() / columns {
         let (row, after) = rest.split_at(columns);
-        let results = row_results(alloc, p, row)?;
+        let results = row_results(alloc, &evaluator, row)?;
         write_line(&mut out, &results)?;
         rest = after;
     }
