@@ -1,9 +1,19 @@
 use Rattle.std.proofs.Common.{◌≤◌, ◌^◌, ◌∙◌, arith}
 use Rattle.ae_clocked.specs.Signals.{IsConstant}
 use Rattle.ae_clocked.proofs.Added.{own_net}
+use Rattle.ae_clocked.proofs.Adding.{adds_most, adds_trans}
 use Rattle.ae_netlist.proofs.Growing.{net_later, net_width}
 use Rattle.ae_gather.proofs.Choosing.{compared_marks, from_grows}
 use Rattle.ae_gather.proofs.column.compared.Goals as goal
+
+bound_room : 1 ≤ 2
+bound_room = omega arith
+
+pub returns-in_err-bound-clause-adds : goal.returns-in_err-bound-clause-adds
+returns-in_err-bound-clause-adds c = adds_most 2 bound_room c.in_err-bound.ensures.adds
+
+pub returns-clause-adds : goal.returns-clause-adds
+returns-clause-adds c = adds_trans c.in_ok-bound.ensures.adds c.less.ensures.adds
 
 pub width_at-width-requires : goal.width_at-width-requires
 width_at-width-requires c = own_net c.requires.phase.counts.is_net

@@ -1,10 +1,25 @@
-use Rattle.std.proofs.Common.{arith}
+use Rattle.std.proofs.Common.{◌≤◌, arith}
 use Rattle.ae_clocked.specs.Signals.{IsConstant}
 use Rattle.ae_clocked.proofs.Added.{own_net}
-use Rattle.ae_clocked.proofs.Adding.{grows_trans}
+use Rattle.ae_clocked.proofs.Adding.{adds_most, adds_trans, grows_trans}
 use Rattle.ae_netlist.proofs.Growing.{net_later}
 use Rattle.ae_gather.proofs.Choosing.{from_grows, low_marks}
 use Rattle.ae_gather.proofs.column.compared_low.Goals as goal
+
+shown_room : 1 ≤ 3
+shown_room = omega arith
+
+bound_room : 2 ≤ 3
+bound_room = omega arith
+
+pub returns-in_err-shown-clause-adds : goal.returns-in_err-shown-clause-adds
+returns-in_err-shown-clause-adds c = adds_most 3 shown_room c.in_err-shown.ensures.adds
+
+pub returns-in_err-bound-clause-adds : goal.returns-in_err-bound-clause-adds
+returns-in_err-bound-clause-adds c = adds_most 3 bound_room (adds_trans c.in_ok-shown.ensures.adds c.in_err-bound.ensures.adds)
+
+pub returns-clause-adds : goal.returns-clause-adds
+returns-clause-adds c = adds_trans (adds_trans c.in_ok-shown.ensures.adds c.in_ok-bound.ensures.adds) c.less.ensures.adds
 
 pub width_at-width-requires : goal.width_at-width-requires
 width_at-width-requires c = own_net c.requires.phase.counts.is_net

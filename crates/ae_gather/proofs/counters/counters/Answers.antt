@@ -1,5 +1,5 @@
 -- One counter or two.
-use Rattle.std.proofs.Common.{◌≡◌, ◌+◌, ◌-◌, ◌%◌, ◌≤◌, false, length, arith, rules, ap, ◌∙◌}
+use Rattle.std.proofs.Common.{ℕ, ◌*◌, min, ◌≡◌, ◌+◌, ◌-◌, ◌%◌, ◌≤◌, false, length, arith, rules, ap, ◌∙◌}
 use Rattle.ae_clocked.proofs.Adding.{adds_most, adds_trans}
 use Rattle.ae_ops.proofs.Lateness.{keeps_trans}
 use Rattle.ae_gather.specs.Columns.{IsPhaseNet}
@@ -46,3 +46,22 @@ returns-clause-counters c = λ q l.
     let sooner : IsPhaseNet c.counting-3.new.nl.cells c.args.clocks.now.rst c.in_ok-sooner.sooner = rw c.in_ok-later.ensures.keeps.rst at c.in_ok-sooner.ensures.counts in
     has_either _ _ _ _ _ _ (is_early c.args.early.now q) later c.in_ok-later.ensures.periodic c.in_ok-later.ensures.limits (c.in_ok-later.ensures.offsets ∙ c.offset-begin.ensures)
     sooner c.in_ok-sooner.ensures.periodic c.in_ok-sooner.ensures.limits (c.in_ok-sooner.ensures.offsets ∙ c.offset-ahead.ensures ∙ ap (λ n. (n + (c.args.period - 1)) % c.args.period) c.offset-begin.ensures)
+
+-- one counter takes no more than there is room for
+one_room : (n : ℕ) → 1 ≤ n → 12 ≤ 12 * min 2 n
+one_room n h = omega arith
+
+pub returns-in_err-only-clause-adds : goal.returns-in_err-only-clause-adds
+returns-in_err-only-clause-adds c = adds_most _ (one_room _ c.requires.some) c.in_err-only.ensures.adds
+
+pub returns-then-not-has-clause-adds : goal.returns-then-not-has-clause-adds
+returns-then-not-has-clause-adds c = adds_most _ (one_room _ c.requires.some) c.in_ok-only.ensures.adds
+
+pub returns-in_err-only-2-clause-adds : goal.returns-in_err-only-2-clause-adds
+returns-in_err-only-2-clause-adds c = adds_most _ (one_room _ c.requires.some) c.in_err-only-2.ensures.adds
+
+pub returns-then-not-has-2-clause-adds : goal.returns-then-not-has-2-clause-adds
+returns-then-not-has-2-clause-adds c = adds_most _ (one_room _ c.requires.some) c.in_ok-only-2.ensures.adds
+
+pub returns-in_err-later-clause-adds : goal.returns-in_err-later-clause-adds
+returns-in_err-later-clause-adds c = adds_most _ (one_room _ c.requires.some) c.in_err-later.ensures.adds

@@ -1,11 +1,11 @@
 -- The counter of the output's blocks, and the register that follows it.
-use Rattle.std.proofs.Common.{ℕ, ◌≡◌, ◌+◌, ◌-◌, ◌%◌, ◌<◌, arith, ap, ◌∙◌}
+use Rattle.std.proofs.Common.{ℕ, ◌≡◌, ◌+◌, ◌-◌, ◌%◌, ◌<◌, ◌≤◌, arith, ap, ◌∙◌}
 use Rattle.std.proofs.lemmas.Nat.{mod_below}
 use Rattle.std.proofs.Math.Nat.{mod-add-mod}
 use Rattle.ae_netlist.specs.Circuit.{width_of}
 use Rattle.ae_netlist.proofs.Growing.{net_later, net_width}
 use Rattle.ae_clocked.proofs.Added.{own_net}
-use Rattle.ae_clocked.proofs.Adding.{adds_trans}
+use Rattle.ae_clocked.proofs.Adding.{adds_most, adds_trans}
 use Rattle.ae_clocked.proofs.Belonging.{belongs_grows, phase_keeps}
 use Rattle.ae_gather.specs.Held.{held_phase}
 use Rattle.ae_gather.proofs.held.held_net.Goals as goal
@@ -45,3 +45,15 @@ returns-clause-held c =
     let sum : c.args.clock + (t - c.args.d % t) ≡ c.args.clock + t - c.args.d % t = omega arith in
     let phase : (c.args.clock % t + (t - c.args.d % t)) % t ≡ held_phase t c.args.d c.args.clock = mod-add-mod c.args.clock t (t - c.args.d % t) ∙ ap (λ n. n % t) sum in
     rw (← wide, ← phase, ← c.offset-begin.ensures) (c.in_ok-y.ensures.held c.args.clocks.now.rst c.in_ok-counter.ensures.counts)
+
+counter_room : 12 ≤ 16
+counter_room = omega arith
+
+pub returns-in_err-counter-clause-adds : goal.returns-in_err-counter-clause-adds
+returns-in_err-counter-clause-adds c = adds_most 16 counter_room c.in_err-counter.ensures.adds
+
+pub hold-requires-clause-begins : goal.hold-requires-clause-begins
+hold-requires-clause-begins c = rw c.offset-begin.ensures (mod_below _ _ c.requires.lasting)
+
+pub hold-requires-clause-within : goal.hold-requires-clause-within
+hold-requires-clause-within c = mod_below _ _ c.requires.lasting

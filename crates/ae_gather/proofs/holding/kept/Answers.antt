@@ -1,8 +1,8 @@
 -- The nets of a register that is written in the clocks of one phase, one after another, and what they hold.
-use Rattle.std.proofs.Common.{◌<◌, ◌∙◌, length, arith}
+use Rattle.std.proofs.Common.{◌<◌, ◌≤◌, ◌∙◌, length, arith}
 use Rattle.ae_netlist.specs.Runs.{Carries}
 use Rattle.ae_netlist.proofs.Carried.{carries_later, carries_trans}
-use Rattle.ae_clocked.proofs.Adding.{adds_connect, adds_trans, net_added}
+use Rattle.ae_clocked.proofs.Adding.{adds_connect, adds_most, adds_trans, net_added}
 use Rattle.ae_clocked.proofs.Added.{grows_length, back, connect_carries, net_within, net_own, own_register, register_later}
 use Rattle.ae_gather.proofs.HeldLaw.{kept_is}
 use Rattle.ae_gather.proofs.holding.kept.Goals as goal
@@ -50,3 +50,29 @@ returns-clause-words c = λ all k run is t l.
     (c.in_ok-begins.ensures.words all (carries_later _ _ l1 k2) run is t l0)
     (c.in_ok-next.ensures.words all closed run is t l0)
     (c.close.ensures.words all (carries_later _ _ (omega (arith, fresh, l1, l2)) k) run is t l)
+
+begin_room : 1 ≤ 4
+begin_room = omega arith
+
+begins_room : 2 ≤ 4
+begins_room = omega arith
+
+register_room : 3 ≤ 4
+register_room = omega arith
+
+pub returns-in_err-begin-clause-adds : goal.returns-in_err-begin-clause-adds
+returns-in_err-begin-clause-adds c = adds_most 4 begin_room c.in_err-begin.ensures.adds
+
+pub returns-in_err-begins-clause-adds : goal.returns-in_err-begins-clause-adds
+returns-in_err-begins-clause-adds c = adds_most 4 begins_room (adds_trans c.in_ok-begin.ensures.adds c.in_err-begins.ensures.adds)
+
+pub returns-in_err-y-clause-adds : goal.returns-in_err-y-clause-adds
+returns-in_err-y-clause-adds c =
+    adds_most 4 register_room (adds_trans (adds_trans c.in_ok-begin.ensures.adds c.in_ok-begins.ensures.adds) c.in_err-y.ensures.adds)
+
+pub returns-in_err-next-clause-adds : goal.returns-in_err-next-clause-adds
+returns-in_err-next-clause-adds c =
+    adds_trans (adds_trans (adds_trans c.in_ok-begin.ensures.adds c.in_ok-begins.ensures.adds) c.in_ok-y.ensures.adds) c.in_err-next.ensures.adds
+
+pub constant-requires-clause-fits : goal.constant-requires-clause-fits
+constant-requires-clause-fits c = rw (c.from.ensures, c.width_at-bits.ensures.width) c.requires.fits

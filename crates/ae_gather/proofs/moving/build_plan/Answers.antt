@@ -1,16 +1,115 @@
 -- The counters, the lines and the columns of a plan.
-use Rattle.std.proofs.Common.{length, arith, ap}
+use Rattle.std.proofs.Common.{ℕ, ◌≡◌, ◌+◌, ◌*◌, ◌≤◌, min, sum_by, length, arith, ap, refl, sym, ◌∙◌}
 use Rattle.std.proofs.lemmas.Option.{slice_get_within}
 use Rattle.ae_netlist.proofs.Growing.{net_later}
+use Rattle.ae_clocked.specs.Delays.{line_cells}
 use Rattle.ae_clocked.proofs.Adding.{grows_trans}
 use Rattle.ae_clocked.proofs.Belonging.{belongs_grows}
 use Rattle.ae_ops.proofs.Lateness.{keeps_trans}
-use Rattle.ae_gather.specs.Plans.{IsPlan}
+use Rattle.ae_gather.specs.Plans.{IsPlan, line_mems, steps_cells}
 use Rattle.ae_gather.proofs.Building.{begun_of, fitting_grows, steps_ready}
 use Rattle.ae_gather.proofs.Choosing.{phase_grows}
 use Rattle.ae_gather.proofs.Hastened.{clocks_hastened, fitting_hastened, used_hastened}
 use Rattle.ae_gather.proofs.Scheduled.{columns_trips, columns_nets, has_grows}
 use Rattle.ae_gather.proofs.moving.build_plan.Goals as goal
+
+-- ---- what is added, from what the counters, the lines and the columns add
+
+counters_room : (a b m n l s k : ℕ) → m ≡ n → b ≤ a + m → b ≤ a + (n + l + s + k)
+counters_room a b m n l s k e h = omega arith
+
+lines_room : (a b c m n i l s k : ℕ) → m ≡ n → i ≡ l → b ≤ a + m → c ≤ b + i → c ≤ a + (n + l + s + k)
+lines_room a b c m n i l s k e f h g = omega arith
+
+columns_room : (a b c d m n i l j s o k : ℕ) → m ≡ n → i ≡ l → j ≡ s → o ≡ k → b ≤ a + m → c ≤ b + i → d ≤ c + (j + o) → d ≤ a + (n + l + s + k)
+columns_room a b c d m n i l j s o k e f p q h g r = omega arith
+
+no_more : (a b : ℕ) → b ≡ a + 0 → b ≡ a
+no_more a b h = omega arith
+
+memories_room : (a b c d i l : ℕ) → i ≡ l → b ≡ a → c ≤ b + i → d ≡ c → d ≤ a + l
+memories_room a b c d i l e h g r = omega arith
+
+same_room : (a b l : ℕ) → b ≡ a → b ≤ a + l
+same_room a b l h = omega arith
+
+pub limit_of-limit-requires : goal.limit_of-limit-requires
+limit_of-limit-requires c = record { within = c.requires.within.clock }
+
+pub returns-in_err-counters-clause-grows : goal.returns-in_err-counters-clause-grows
+returns-in_err-counters-clause-grows c = c.in_err-counters.ensures.adds.grows
+
+pub returns-in_err-counters-clause-cells : goal.returns-in_err-counters-clause-cells
+returns-in_err-counters-clause-cells c =
+    counters_room _ _ _ _ _ _ _ (ap (λ xs. 12 * min 2 (length xs)) c.deref.ensures.value ∙ ap (λ n. 12 * min 2 n) c.requires.early)
+    c.in_err-counters.ensures.adds.cells
+
+pub returns-in_err-counters-clause-muls : goal.returns-in_err-counters-clause-muls
+returns-in_err-counters-clause-muls c = no_more _ _ c.in_err-counters.ensures.adds.muls
+
+pub returns-in_err-counters-clause-memories : goal.returns-in_err-counters-clause-memories
+returns-in_err-counters-clause-memories c = same_room _ _ _ c.in_err-counters.ensures.adds.memories
+
+pub returns-in_err-lines-clause-cells : goal.returns-in_err-lines-clause-cells
+returns-in_err-lines-clause-cells c =
+    lines_room _ _ _ _ _ _ _ _ _ (ap (λ xs. 12 * min 2 (length xs)) c.deref.ensures.value ∙ ap (λ n. 12 * min 2 n) c.requires.early)
+    (ap (sum_by line_cells) c.deref-2.ensures.value) c.in_ok-counters.ensures.adds.cells c.in_err-lines.ensures.cells
+
+pub returns-in_err-lines-clause-muls : goal.returns-in_err-lines-clause-muls
+returns-in_err-lines-clause-muls c = c.in_err-lines.ensures.muls ∙ no_more _ _ c.in_ok-counters.ensures.adds.muls
+
+pub returns-in_err-lines-clause-memories : goal.returns-in_err-lines-clause-memories
+returns-in_err-lines-clause-memories c =
+    memories_room _ _ _ _ _ _ (ap (sum_by line_mems) c.deref-2.ensures.value) c.in_ok-counters.ensures.adds.memories c.in_err-lines.ensures.memories refl
+
+pub returns-in_err-out-clause-cells : goal.returns-in_err-out-clause-cells
+returns-in_err-out-clause-cells c =
+    columns_room _ _ _ _ _ _ _ _ _ _ _ _ (ap (λ xs. 12 * min 2 (length xs)) c.deref.ensures.value ∙ ap (λ n. 12 * min 2 n) c.requires.early)
+    (ap (sum_by line_cells) c.deref-2.ensures.value)
+    (ap (sum_by steps_cells) c.deref-4.ensures.value) (ap (λ xs. 3 * length xs) c.deref-4.ensures.value) c.in_ok-counters.ensures.adds.cells
+    c.in_ok-lines.ensures.cells c.in_err-out.ensures.adds.cells
+
+pub returns-in_err-out-clause-muls : goal.returns-in_err-out-clause-muls
+returns-in_err-out-clause-muls c = no_more _ _ c.in_err-out.ensures.adds.muls ∙ (c.in_ok-lines.ensures.muls ∙ no_more _ _ c.in_ok-counters.ensures.adds.muls)
+
+pub returns-in_err-out-clause-memories : goal.returns-in_err-out-clause-memories
+returns-in_err-out-clause-memories c =
+    memories_room _ _ _ _ _ _ (ap (sum_by line_mems) c.deref-2.ensures.value) c.in_ok-counters.ensures.adds.memories c.in_ok-lines.ensures.memories
+    c.in_err-out.ensures.adds.memories
+
+pub returns-clause-cells : goal.returns-clause-cells
+returns-clause-cells c =
+    columns_room _ _ _ _ _ _ _ _ _ _ _ _ (ap (λ xs. 12 * min 2 (length xs)) c.deref.ensures.value ∙ ap (λ n. 12 * min 2 n) c.requires.early)
+    (ap (sum_by line_cells) c.deref-2.ensures.value)
+    (ap (sum_by steps_cells) c.deref-4.ensures.value) (ap (λ xs. 3 * length xs) c.deref-4.ensures.value) c.in_ok-counters.ensures.adds.cells
+    c.in_ok-lines.ensures.cells c.in_ok-out.ensures.adds.cells
+
+pub returns-clause-muls : goal.returns-clause-muls
+returns-clause-muls c = no_more _ _ c.in_ok-out.ensures.adds.muls ∙ (c.in_ok-lines.ensures.muls ∙ no_more _ _ c.in_ok-counters.ensures.adds.muls)
+
+pub returns-clause-memories : goal.returns-clause-memories
+returns-clause-memories c =
+    memories_room _ _ _ _ _ _ (ap (sum_by line_mems) c.deref-2.ensures.value) c.in_ok-counters.ensures.adds.memories c.in_ok-lines.ensures.memories
+    c.in_ok-out.ensures.adds.memories
+
+pub returns-clause-whole : goal.returns-clause-whole
+returns-clause-whole c = λ h. c.in_ok-out.ensures.adds.whole (c.in_ok-lines.ensures.whole (c.in_ok-counters.ensures.adds.whole h))
+
+pub returns-clause-long : goal.returns-clause-long
+returns-clause-long c = c.in_ok-out.ensures.columns.long ∙ (ap length c.deref-4.ensures.value ∙ c.requires.columns)
+
+pub counters-requires-clause-limited : goal.counters-requires-clause-limited
+counters-requires-clause-limited c = c.limit_of-limit.ensures.limited
+
+pub all_lines-requires-clause-long : goal.all_lines-requires-clause-long
+all_lines-requires-clause-long c = ap length c.deref-2.ensures.value ∙ c.requires.lines
+
+pub all_columns-requires-clause-early : goal.all_columns-requires-clause-early
+all_columns-requires-clause-early c =
+    ap length c.deref-5.ensures.value ∙ (c.requires.early ∙ (sym c.requires.columns ∙ sym (ap length c.deref-4.ensures.value)))
+
+pub all_columns-requires-clause-long : goal.all_columns-requires-clause-long
+all_columns-requires-clause-long c = sym c.requires.columns ∙ sym (ap length c.deref-4.ensures.value)
 
 pub counters-requires-clause-some : goal.counters-requires-clause-some
 counters-requires-clause-some c = omega (arith, c.requires.some, c.requires.early, ap length c.deref.ensures.value)

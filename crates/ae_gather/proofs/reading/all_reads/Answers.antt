@@ -1,6 +1,6 @@
 -- One read more.
-use Rattle.std.proofs.Common.{ℕ, ◌≡◌, ◌+◌, ◌*◌, length, arith}
-use Rattle.ae_clocked.proofs.Adding.{adds_most, adds_trans}
+use Rattle.std.proofs.Common.{ℕ, ◌+◌, ◌*◌, ◌<◌, ◌≤◌, length, arith}
+use Rattle.ae_clocked.proofs.Adding.{adds_most, adds_trans, net_added}
 use Rattle.ae_gather.proofs.Ringing.{reads_more, reads_whole, rings_grow}
 use Rattle.ae_gather.proofs.reading.all_reads.Goals as goal
 
@@ -18,3 +18,21 @@ loop-q-preserved c =
 
 pub returns-clause-reads : goal.returns-clause-reads
 returns-clause-reads c = λ rst rings. reads_whole c.loop-q.q _ _ _ _ _ _ _ (omega (arith, c.loop-q-test.false)) (c.loop-q.invariant.reads rst rings)
+
+read_room : (q n : ℕ) → q < n → 3 * q + 3 ≤ 3 * n
+read_room q n h = omega arith
+
+pub read_net-requires-clause-place : goal.read_net-requires-clause-place
+read_net-requires-clause-place c =
+    let l : c.loop-q.q < length c.args.reads.now.from.items = omega (arith, c.loop-q-test.true, c.len-q-end.ensures) in
+    net_added c.loop-q.invariant.adds (c.requires.places c.loop-q.q l)
+
+pub returns-in_err-net-clause-adds : goal.returns-in_err-net-clause-adds
+returns-in_err-net-clause-adds c =
+    let l : c.loop-q.q < length c.args.reads.now.from.items = omega (arith, c.loop-q-test.true, c.len-q-end.ensures) in
+    adds_most _ (read_room _ _ l) (adds_trans c.loop-q.invariant.adds c.in_err-net.ensures.adds)
+
+pub returns-in_err-keep_net-clause-adds : goal.returns-in_err-keep_net-clause-adds
+returns-in_err-keep_net-clause-adds c =
+    let l : c.loop-q.q < length c.args.reads.now.from.items = omega (arith, c.loop-q-test.true, c.len-q-end.ensures) in
+    adds_most _ (read_room _ _ l) (adds_trans c.loop-q.invariant.adds c.in_ok-net.ensures.adds)

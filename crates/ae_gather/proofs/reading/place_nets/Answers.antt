@@ -1,8 +1,8 @@
 -- The counter that is a clock ahead, and columns of fixed words by it.
-use Rattle.std.proofs.Common.{ℕ, ◌≡◌, ◌+◌, ◌-◌, ◌%◌, [], length, get_or, slice_get, Some, arith, refl, ap, ◌∙◌}
+use Rattle.std.proofs.Common.{ℕ, ◌≡◌, ◌+◌, ◌-◌, ◌%◌, ◌≤◌, [], get_or, slice_get, Some, arith, refl, ap, ◌∙◌}
 use Rattle.std.proofs.lemmas.Option.{slice_get-get_or}
 use Rattle.ae_netlist.specs.declared.cell.NetId.{NetId}
-use Rattle.ae_clocked.proofs.Adding.{adds_trans}
+use Rattle.ae_clocked.proofs.Adding.{adds_most, adds_same, adds_trans}
 use Rattle.ae_clocked.proofs.Belonging.{belongs_grows}
 use Rattle.ae_gather.proofs.Building.{begun_of, fitting_grows, steps_ready}
 use Rattle.ae_gather.proofs.Choosing.{phase_grows}
@@ -51,3 +51,15 @@ returns-clause-shows c =
     let offsets = c.in_ok-phase.ensures.offsets ∙ c.offset-ahead.ensures ∙ ap (λ n. (n + (t - 1)) % t) c.offset-begin.ensures in
     places_shown _ _ c.args.period c.args.d c.args.arrival c.args.limit c.args.outs c.in_ok-phase.phase _ c.in-Ok.widths.items c.in-Ok-none_early.early.items c.args.reading.now.places.items c.args.reading.now.plan.lines.items c.args.reading.now.plan.columns.items c.in_ok-out.out.items
     c.requires.within c.requires.below c.requires.plan c.requires.columns c.in-Ok.ensures.long c.in-Ok-none_early.ensures.none refl (phase_grows c.in_ok-out.ensures.adds.grows.extends c.in_ok-phase.ensures.counts) c.in_ok-phase.ensures.periodic c.in_ok-phase.ensures.limits offsets made
+
+counter_room : (n : ℕ) → 12 ≤ 12 + n
+counter_room n = omega arith
+
+pub returns-in-Err-clause-adds : goal.returns-in-Err-clause-adds
+returns-in-Err-clause-adds c = adds_same _ _ _ refl
+
+pub returns-in-Err-none_early-clause-adds : goal.returns-in-Err-none_early-clause-adds
+returns-in-Err-none_early-clause-adds c = adds_same _ _ _ refl
+
+pub returns-in_err-phase-clause-adds : goal.returns-in_err-phase-clause-adds
+returns-in_err-phase-clause-adds c = adds_most _ (counter_room _) c.in_err-phase.ensures.adds
