@@ -3,6 +3,7 @@ use Rattle.std.proofs.Common.{ℕ, zero, suc, Bool, true, false, ◌==◌, ◌�
 use Rattle.std.specs.Option.{option_map}
 use Rattle.std.proofs.Math.Nat.{mul-le-mul_right}
 use Rattle.std.proofs.lemmas.Bool.{cases_lt}
+use Rattle.std.proofs.lemmas.Bool.Decides.{nat_tests}
 use Rattle.std.proofs.lemmas.List.{get_or_append_left, get_or_past, get_or_at, length-map, length-take-le, map-append, take-append-drop, take-take}
 use Rattle.std.proofs.lemmas.List.Sums.{sum_by-cons, sum_by_more, sum_by_more_le, sum_by_push}
 use Rattle.std.proofs.lemmas.Option.{get_or_from_slice_get, none-some, same_Some, slice_get-get_or, slice_get-map, slice_get_within}
@@ -65,12 +66,18 @@ waits_long arrivals chosen waits are = ap length are ∙ length-map chosen (λ a
 
 -- where there is an item, and where there is none
 pub some_wait : (none : Bool) (count : ℕ) → none ≡ (count == 0) → none ≡ false → 0 < count
-some_wait none zero is no = cc
-some_wait none (suc n) is no = omega arith
+some_wait none zero is some = cc
+some_wait none (suc n) is some = omega arith
+
+is_zero : (count : ℕ) → (count == 0) ≡ true → count ≡ 0
+is_zero count h = grind (arith, nat_tests)
+
+latest_of_none : (arrivals chosen : List ℕ) → length chosen ≡ 0 → 0 ≡ latest arrivals chosen
+latest_of_none arrivals [] e = refl
+latest_of_none arrivals (i ∷ is) e = absurd (omega (arith, e))
 
 pub none_wait : (none : Bool) (arrivals chosen : List ℕ) → none ≡ (length chosen == 0) → none ≡ true → 0 ≡ latest arrivals chosen
-none_wait none arrivals [] is yes = refl
-none_wait none arrivals (i ∷ is) same yes = cc
+none_wait none arrivals chosen is so = latest_of_none arrivals chosen (is_zero (length chosen) (sym is ∙ so))
 
 -- the registers before items whose bundles have the columns of their layouts
 pub delays_cost : (items : List (List NetId)) (arrivals : List ℕ) (start : ℕ) (layouts : List StTree) (chosen : List ℕ)

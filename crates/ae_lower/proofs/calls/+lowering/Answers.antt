@@ -246,9 +246,12 @@ lower_node-start_of-start-requires-clause-below t c = λ r i f.
     c.arrivals_of-arrivals.result.now c.requires.timed c.requires.light c.instance-s.ensures c.requires.node c.index-node.ensures
     c.arrivals_of-arrivals.ensures in
     (let l = chosen_below (st_func_trees c.args.p.now) c.args.k c.args.j c.args.at (st_func_tree c.instance-s.result.now)
-    (st_node_tree c.index-node.result.now) c.arrivals_of-arrivals.result.now c.deref.result.now h c.deref.ensures.value r i f in omega
-    (arith, l, own_long (st_func_trees c.args.p.now) c.args.k c.args.j c.args.at (st_func_tree c.instance-s.result.now)
-    (st_node_tree c.index-node.result.now) c.arrivals_of-arrivals.result.now h))
+    (st_node_tree c.index-node.result.now) c.arrivals_of-arrivals.result.now c.deref.result.now h c.deref.ensures.value r i f in omega (
+      arith,
+      l,
+      own_long (st_func_trees c.args.p.now) c.args.k c.args.j c.args.at (st_func_tree c.instance-s.result.now)
+          (st_node_tree c.index-node.result.now) c.arrivals_of-arrivals.result.now h,
+    ))
 
 pub lower_node-start_of-start-requires-clause-waits : goal.lower_node-start_of-start-requires-clause-waits
 lower_node-start_of-start-requires-clause-waits t c =

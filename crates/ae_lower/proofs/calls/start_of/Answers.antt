@@ -1,4 +1,4 @@
-use Rattle.std.proofs.Common.{◌<◌, length, get_or, arith}
+use Rattle.std.proofs.Common.{length, get_or, arith}
 use Rattle.std.proofs.lemmas.Option.{slice_get-get_or}
 use Rattle.ae_lower.proofs.Costing.{none_wait, some_wait, wait_at, waits_long}
 use Rattle.ae_lower.proofs.calls.start_of.Goals as goal
