@@ -1,7 +1,7 @@
 -- How many words layouts have in a clock.
-use Rattle.std.proofs.Common.{◌≡◌, ℕ, ◌+◌, ◌*◌, ◌<◌, ◌≤◌, List, [], ◌∷◌, length, map, drop, Some, slice_get, sum_by, get_or, All, Option, refl, arith, ap, sym, ◌∙◌, subst}
-use Rattle.std.proofs.lemmas.List.{drop_more, get_or-map, length-map}
-use Rattle.std.proofs.lemmas.List.Sums.{sum_by-cons}
+use Rattle.std.proofs.Common.{◌≡◌, ℕ, ◌+◌, ◌*◌, ◌<◌, ◌≤◌, List, [], ◌∷◌, ◌++◌, length, map, take, drop, Some, slice_get, sum_by, get_or, All, Option, refl, arith, ap, sym, ◌∙◌, subst}
+use Rattle.std.proofs.lemmas.List.{drop_more, get_or-map, length-map, map-append, take_more}
+use Rattle.std.proofs.lemmas.List.Sums.{sum_by-cons, sum_by_push}
 use Rattle.ae_sttype.specs.declared.st_type.StType.{StType}
 use Rattle.ae_sttype.specs.StTree.{StTree, st_tree, time, lanes, element_words}
 use Rattle.ae_sttype.specs.Size.{IsInSize}
@@ -24,15 +24,30 @@ use Rattle.ae_tool.specs.RunTexts.{input_count, layout_columns, output_count}
 use Rattle.ae_correct.proofs.Laid.{few_ins}
 use Rattle.ae_compile.proofs.Modules.{few_columns, unmapped}
 
-pub counted_next : (xs : List StType) (i count own wide : ℕ) (x : StType) → i < length xs → x ≡ get_or xs i x → IsInSize (st_tree x) → own ≡ lanes (st_tree x) → wide ≡ element_words (st_tree x)
+pub counted_next : (xs : List StType) (i count wide : ℕ) (x : StType) → i < length xs → x ≡ get_or xs i x → wide ≡ columns_of (st_tree x) → wide ≤ 16384
     → count + sum_by columns_of (map st_tree (drop i xs)) ≡ sum_by columns_of (map st_tree xs) → count ≤ i * 16384
-    → (count + own * wide + sum_by columns_of (map st_tree (drop (i + 1) xs)) ≡ sum_by columns_of (map st_tree xs)) × (count + own * wide ≤ (i + 1) * 16384)
-counted_next xs i count own wide x lt at size eo ew e few =
+    → (count + wide + sum_by columns_of (map st_tree (drop (i + 1) xs)) ≡ sum_by columns_of (map st_tree xs)) × (count + wide ≤ (i + 1) * 16384)
+counted_next xs i count wide x lt at is low e few =
     let split : drop i xs ≡ x ∷ drop (i + 1) xs = drop_more xs i x lt ∙ ap (λ y. y ∷ drop (i + 1) xs) (sym at) in
-    let product : own * wide ≡ columns_of (st_tree x) = λ k. eo k * ew k in
     let more : sum_by columns_of (map st_tree (x ∷ drop (i + 1) xs)) ≡ columns_of (st_tree x) + sum_by columns_of (map st_tree (drop (i + 1) xs)) = sum_by-cons columns_of (st_tree x) (map st_tree (drop (i + 1) xs)) in
     let whole : sum_by columns_of (map st_tree (drop i xs)) ≡ sum_by columns_of (map st_tree (x ∷ drop (i + 1) xs)) = ap (λ ys. sum_by columns_of (map st_tree ys)) split in
-    (omega (arith, e, whole, more, product), omega (arith, few, product, few_columns (st_tree x) size))
+    (omega (arith, e, whole, more, is), omega (arith, few, low))
+
+-- a layout more of those of some items
+pub items_next : (f : ℕ → StTree) (items : List ℕ) (i count wide : ℕ) → i < length items → wide ≡ columns_of (f (get_or items i 0)) → wide ≤ 16384
+    → count ≡ sum_by columns_of (map f (take i items)) → count ≤ i * 16384
+    → (count + wide ≡ sum_by columns_of (map f (take (i + 1) items))) × (count + wide ≤ (i + 1) * 16384)
+items_next f items i count wide lt is low e few =
+    let more : map f (take (i + 1) items) ≡ map f (take i items) ++ f (get_or items i 0) ∷ [] = ap (map f) (take_more items i 0 lt) ∙ map-append f (take i items) (get_or items i 0 ∷ []) in
+    let sum : sum_by columns_of (map f (take (i + 1) items)) ≡ sum_by columns_of (map f (take i items)) + columns_of (f (get_or items i 0)) =
+    ap (sum_by columns_of) more ∙ sum_by_push columns_of (map f (take i items)) (f (get_or items i 0)) in
+    (omega (arith, e, sum, is), omega (arith, few, low))
+
+-- the columns of a layout
+pub columns_are : (own wide : ℕ) (x : StTree) → IsInSize x → own ≡ lanes x → wide ≡ element_words x → (own * wide ≡ columns_of x) × (own * wide ≤ 16384)
+columns_are own wide x size eo ew =
+    let product : own * wide ≡ columns_of x = λ k. eo k * ew k in
+    (product, omega (arith, product, few_columns x size))
 
 pub sized_at : (xs : List StType) (i : ℕ) (x : StType) → All IsInSize (map st_tree xs) → i < length xs → x ≡ get_or xs i x → IsInSize (st_tree x)
 sized_at xs i x h lt e =

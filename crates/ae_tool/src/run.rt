@@ -1,12 +1,14 @@
 // The jobs `run` and `wave`.
 
-ghost use Rattle.std.specs.Prelude.{◌≡◌, ◌+◌, ◌*◌, ◌/◌, ◌<◌, ◌≤◌, ◌^◌, List, ℕ, length, map, sum_by, All, IfOk, string_bytes};
+ghost use Rattle.std.specs.Prelude.{◌≡◌, ◌+◌, ◌*◌, ◌/◌, ◌<◌, ◌≤◌, ◌^◌, List, ℕ, length, map, sum_by, All, IfOk, Some, slice_get, string_bytes};
 ghost use Rattle.ae_parse.specs.Rows.{rows};
-ghost use Rattle.ae_sttype.specs.StTree.{st_tree};
+ghost use Rattle.ae_sttype.specs.StTree.{StTree, st_tree};
 ghost use Rattle.ae_sttype.specs.Size.{IsInSize};
 ghost use Rattle.ae_sttype.specs.Moves.{columns_of};
 ghost use Rattle.ae_seq.specs.ProgramTree.{program_tree};
-ghost use Rattle.ae_rewrite.specs.StProgramTree.{st_func_trees};
+ghost use Rattle.ae_rewrite.specs.StProgramTree.{st_func_tree, st_func_trees};
+ghost use Rattle.ae_rewrite.specs.Sound.{item_layouts};
+ghost use Rattle.ae_lower.specs.Circuits.{results_of};
 ghost use Rattle.ae_play.specs.Lines.{clock_count};
 ghost use Rattle.ae_tool.specs.EvalRows.{AreRows, AreBlocks};
 ghost use Rattle.ae_tool.specs.RunTexts.{IsPlayed, IsRunOf, IsRunText, IsRunShown, input_count, output_count, run_limit, word_count};
@@ -15,11 +17,11 @@ use crate::reply::{RUN_LIMIT, Reply, refused, refused_program};
 use crate::status::Status;
 use crate::wave::wave_text;
 use crate::widths::input_widths;
-use ae_compile::{
-    Compiled, Costed, LOAD_LIMIT, OutOfMemory, compile, cost, module_text, output_layouts, play,
-};
+use ae_compile::{Compiled, Costed, LOAD_LIMIT, OutOfMemory, compile, cost, module_text, play};
+use ae_delay::layout;
 use ae_parse::{RowFault, read_rows};
 use ae_play::write_clocks;
+use ae_rewrite::StFunc;
 use ae_sttype::StType;
 use std::alloc::Global;
 
@@ -45,6 +47,15 @@ pub fn clock_count(slowdown: u32, latency: u32, blocks: usize) -> u64
     u64::from(latency) + blocks as u64 * u64::from(slowdown)
 }
 
+// How many words a layout has in a clock.
+fn columns(layout: &StType) -> u64
+    requires { IsInSize (st_tree layout.now) }
+    ensures is { result ≡ columns_of (st_tree layout.now) }
+    ensures few { result ≤ 16384 }
+{
+    u64::from(layout.lanes()) * u64::from(layout.element_words())
+}
+
 // How many words the layouts have in a clock.
 fn count_columns(layouts: &[StType]) -> u64
     requires sized { All IsInSize (map st_tree layouts.now) }
@@ -54,18 +65,32 @@ fn count_columns(layouts: &[StType]) -> u64
 {
     let mut count = 0;
     for layout in layouts {
-        count += u64::from(layout.lanes()) * u64::from(layout.element_words());
+        count += columns(layout);
+    }
+    count
+}
+
+// How many words the layouts of an instance's results have in a clock.
+fn count_results(s: &StFunc) -> u64
+    requires below { (i r : ℕ) → slice_get (st_func_tree s.now).results i ≡ Some r → r < length (item_layouts (st_func_tree s.now)) }
+    requires sized { (q : ℕ) (t : StTree) → slice_get (results_of (st_func_tree s.now)) q ≡ Some t → IsInSize t }
+    requires few { length (results_of (st_func_tree s.now)) ≤ 8 }
+    ensures is { result ≡ sum_by columns_of (results_of (st_func_tree s.now)) }
+    ensures few { result ≤ 131072 }
+{
+    let mut count = 0;
+    for item in &s.results {
+        count += columns(layout(s, *item as usize));
     }
     count
 }
 
 // How many words all results have in a clock.
-fn output_count(alloc: Global, costed: &Costed) -> Result<u64, OutOfMemory>
-    ensures is { IfOk result (λ n. n ≡ output_count (program_tree costed.now.program) costed.now.slowdown) }
-    ensures few { IfOk result (λ n. n ≤ 131072) }
+fn output_count(costed: &Costed) -> u64
+    ensures is { result ≡ output_count (program_tree costed.now.program) costed.now.slowdown }
+    ensures few { result ≤ 131072 }
 {
-    let outs = output_layouts(alloc, costed.main_instance())?;
-    Ok(count_columns(&outs))
+    count_results(costed.main_instance())
 }
 
 // How many words all parameters have in a clock.
@@ -77,14 +102,14 @@ fn input_count(costed: &Costed) -> u64
 }
 
 // How many words are written of a clock.
-fn word_count(alloc: Global, costed: &Costed, form: Form) -> Result<u64, OutOfMemory>
-    ensures is { IfOk result (λ n. n ≡ word_count form (program_tree costed.now.program) costed.now.slowdown) }
-    ensures few { IfOk result (λ n. n ≤ 262145) }
+fn word_count(costed: &Costed, form: Form) -> u64
+    ensures is { result ≡ word_count form (program_tree costed.now.program) costed.now.slowdown }
+    ensures few { result ≤ 262145 }
 {
-    let outs = output_count(alloc, costed)?;
+    let outs = output_count(costed);
     match form {
-        Form::Lines => Ok(outs),
-        Form::Dump => Ok(1 + input_count(costed) + outs),
+        Form::Lines => outs,
+        Form::Dump => 1 + input_count(costed) + outs,
     }
 }
 
@@ -159,7 +184,7 @@ fn run_words(
     let costs = costed.costs();
     let blocks = words.len() / columns;
     let clocks = clock_count(costed.slowdown(), costs.latency(), blocks);
-    let size = clocks * (1 + word_count(alloc, &costed, form)?);
+    let size = clocks * (1 + word_count(&costed, form));
     if size > RUN_LIMIT {
         return refused(alloc, Status::LongRun { size });
     }

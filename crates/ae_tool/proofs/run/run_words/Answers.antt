@@ -34,13 +34,13 @@ returns-then-size-gt-RUN_LIMIT c =
     let ws = c.args.words.now in
     let costs = main_costs p all in
     let latency : c.latency.result ≡ costs.latency = c.latency.ensures ∙ ap (λ (k : OwnCosts). k.latency) (ap whole_costs c.costs-costs.ensures.is ∙ known_costs load_limit p c.args.costed.slowdown all c.args.costed.costs c.costs-costs.ensures.known) in
-    let size : ℕ = c.clock_count-clocks.result * (1 + c.in_ok-size.field-0) in
+    let size : ℕ = c.clock_count-clocks.result * (1 + c.word_count.result) in
     let typed = c.costs-costs.ensures.known.typed in
     IfOk-weaker c.refused.result (λ (r : Reply). (r.status ≡ LongRun size) × (string_bytes r.text ≡ refusal_line (LongRun size)))
     (λ (r : Reply). (table : List (List (List ℕ))) → AreRows p c.args.columns table ws → IsRunOf c.args.form c.args.fill p c.args.costed.slowdown all table r.status (string_bytes r.text))
     (λ r w table a.
     run_too_long c.args.form c.args.fill p c.args.costed.slowdown all c.args.columns table ws size r.status (string_bytes r.text) a
-    (run_size_is c.args.form p c.args.costed.slowdown costs c.args.columns table ws c.latency.result c.clock_count-clocks.result c.in_ok-size.field-0 typed a latency (rw c.slowdown.ensures at c.clock_count-clocks.ensures.is) c.in_ok-size.ensures.is)
+    (run_size_is c.args.form p c.args.costed.slowdown costs c.args.columns table ws c.latency.result c.clock_count-clocks.result c.word_count.result typed a latency (rw c.slowdown.ensures at c.clock_count-clocks.ensures.is) c.word_count.ensures.is)
     c.if-size-gt-RUN_LIMIT.true w.0 w.1) c.refused.ensures
 
 pub shown-requires-clause-clocks : goal.shown-requires-clause-clocks
@@ -52,8 +52,8 @@ shown-requires-clause-clocks c =
 
 pub shown-requires-clause-small : goal.shown-requires-clause-small
 shown-requires-clause-small c =
-    let count : c.in_ok-size.field-0 ≡ word_count c.args.form (program_tree c.in_ok-compiled.compiled.costed.program) c.in_ok-compiled.compiled.costed.slowdown =
-    c.in_ok-size.ensures.is ∙ ap (λ (k : CostedView). word_count c.args.form (program_tree k.program) k.slowdown) (sym c.in_ok-compiled.ensures.of) in
+    let count : c.word_count.result ≡ word_count c.args.form (program_tree c.in_ok-compiled.compiled.costed.program) c.in_ok-compiled.compiled.costed.slowdown =
+    c.word_count.ensures.is ∙ ap (λ (k : CostedView). word_count c.args.form (program_tree k.program) k.slowdown) (sym c.in_ok-compiled.ensures.of) in
     subst (λ n. c.clock_count-clocks.result * (1 + n) ≤ run_limit) count c.if-size-gt-RUN_LIMIT.false
 
 pub shown-requires-clause-rows : goal.shown-requires-clause-rows
@@ -70,8 +70,8 @@ returns c = λ table a.
     let costs = main_costs p all in
     let latency : c.latency.result ≡ costs.latency = c.latency.ensures ∙ ap (λ (k : OwnCosts). k.latency) (ap whole_costs c.costs-costs.ensures.is ∙ known_costs load_limit p c.args.costed.slowdown all c.args.costed.costs c.costs-costs.ensures.known) in
     let typed = c.costs-costs.ensures.known.typed in
-    let size : c.clock_count-clocks.result * (1 + c.in_ok-size.field-0) ≡ run_size c.args.form p c.args.costed.slowdown costs.latency table =
-    run_size_is c.args.form p c.args.costed.slowdown costs c.args.columns table ws c.latency.result c.clock_count-clocks.result c.in_ok-size.field-0 typed a latency (rw c.slowdown.ensures at c.clock_count-clocks.ensures.is) c.in_ok-size.ensures.is in
+    let size : c.clock_count-clocks.result * (1 + c.word_count.result) ≡ run_size c.args.form p c.args.costed.slowdown costs.latency table =
+    run_size_is c.args.form p c.args.costed.slowdown costs c.args.columns table ws c.latency.result c.clock_count-clocks.result c.word_count.result typed a latency (rw c.slowdown.ensures at c.clock_count-clocks.ensures.is) c.word_count.ensures.is in
     let short : run_size c.args.form p c.args.costed.slowdown costs.latency table ≤ run_limit = subst (λ n. n ≤ run_limit) size c.if-size-gt-RUN_LIMIT.false in
     let blocks = length ws / c.args.columns in
     let here = subst (λ (k : CostedView). AreBlocks (program_tree k.program) blocks table ws) (sym c.in_ok-compiled.ensures.of) (blocks_known p c.args.columns table ws typed a) in
