@@ -5,8 +5,6 @@ ghost use Rattle.std.specs.Fmt.{decimal};
 ghost use Rattle.std.specs.Option.{option_map};
 ghost use Rattle.ae_seq.specs.ProgramTree.{node_tree, op_tree, word};
 ghost use Rattle.ae_seq.specs.Formed.{all_name_bytes};
-ghost use Rattle.csv.specs.Records.{fields_of};
-ghost use Rattle.csv.specs.Writing.{default_writer, row_text};
 ghost use Rattle.ae_compile.specs.Costing.{load_limit, whole_costs};
 ghost use Rattle.ae_compile.specs.LineNotes.{AllNamed};
 ghost use Rattle.ae_tool.specs.CostTables.{ArePlain, comma_line, cost_row, cost_rows, cost_table, fused_table, op_word, table_head};
@@ -15,10 +13,8 @@ use ae_compile::{Costs, OutOfMemory};
 use ae_delay::{Cost, Timing};
 use ae_seq::{Node, Op};
 use ae_word::WordOp;
-use csv::{ByteRecord, Error, WriterBuilder};
 use itoa::Buffer;
 use std::alloc::{AllocError, Global};
-use std::str::from_utf8;
 
 fn word_name(op: WordOp) -> &'static str
     ensures word { result.now ≡ op_word (word op) }
@@ -70,72 +66,44 @@ fn op_name(op: &Op) -> &'static str
     }
 }
 
-// The text of a record; into a vector writing fails only for want of memory.
-fn record_text(alloc: Global, row: &ByteRecord) -> Result<Vec<u8>, Error>
-    ensures { IfOk result (λ v. v.items ≡ row_text default_writer (fields_of row.now)) }
+// A field behind others, with a comma before it.
+fn write_field(out: &mut String, field: &str) -> Result<(), AllocError>
+    ensures { OnOk result (string_bytes out.new ≡ string_bytes out.old ++ 44 ∷ field.now) }
 {
-    let mut writer = WriterBuilder::new().from_writer(Vec::new(alloc));
-    writer.write_byte_record(row)?;
-    match writer.into_inner() {
-        Ok(text) => Ok(text),
-        Err(e) => Err(e.into_error()),
-    }
+    out.push_str(",")?;
+    out.push_str(field)?;
+    Ok(())
 }
 
-// A record of plain fields, at least two.
-fn write_record(alloc: Global, out: &mut String, row: &ByteRecord) -> Result<(), OutOfMemory>
-    requires some { 2 ≤ length (fields_of row.now) }
-    requires plain { ArePlain (fields_of row.now) }
-    ensures { OnOk result (string_bytes out.new ≡ string_bytes out.old ++ comma_line (fields_of row.now)) }
-{
-    let Ok(text) = record_text(alloc, row) else {
-        return Err(OutOfMemory);
-    };
-    match from_utf8(text.as_slice()) {
-        Ok(text) => {
-            out.push_str(text)?;
-            Ok(())
-        }
-        Err(_) => unreachable!(),
-    }
-}
-
-// The record of a line.
+// The record of a line. Its fields are letters, digits and `_` alone, so that none needs quotes.
 fn write_row(
-    alloc: Global,
     out: &mut String,
     line: u32,
     name: &str,
     op: &str,
     cost: Cost,
-) -> Result<(), OutOfMemory>
+) -> Result<(), AllocError>
     requires name { all_name_bytes name.now ≡ true }
     requires op { all_name_bytes op.now ≡ true }
-    ensures { OnOk result (string_bytes out.new ≡ string_bytes out.old ++ comma_line (decimal line ∷ name.now ∷ op.now ∷ decimal cost.latency ∷ decimal cost.load ∷ decimal cost.muls ∷ [])) }
+    ensures text { OnOk result (string_bytes out.new ≡ string_bytes out.old ++ comma_line (decimal line ∷ name.now ∷ op.now ∷ decimal cost.latency ∷ decimal cost.load ∷ decimal cost.muls ∷ [])) }
+    ensures plain { OnOk result (ArePlain (decimal line ∷ name.now ∷ op.now ∷ decimal cost.latency ∷ decimal cost.load ∷ decimal cost.muls ∷ [])) }
 {
-    let mut row = ByteRecord::new(alloc);
-    row.push_field(Buffer::new().format(line).as_bytes())?;
-    row.push_field(name.as_bytes())?;
-    row.push_field(op.as_bytes())?;
-    row.push_field(Buffer::new().format(cost.latency).as_bytes())?;
-    row.push_field(Buffer::new().format(cost.load).as_bytes())?;
-    row.push_field(Buffer::new().format(cost.muls).as_bytes())?;
-    write_record(alloc, out, &row)
+    out.push_str(Buffer::new().format(line))?;
+    write_field(out, name)?;
+    write_field(out, op)?;
+    write_field(out, Buffer::new().format(cost.latency))?;
+    write_field(out, Buffer::new().format(cost.load))?;
+    write_field(out, Buffer::new().format(cost.muls))?;
+    out.push_str("\n")?;
+    Ok(())
 }
 
 // The record of a node line.
-fn write_cost(alloc: Global, out: &mut String, node: &Node, cost: Cost) -> Result<(), OutOfMemory>
+fn write_cost(out: &mut String, node: &Node, cost: Cost) -> Result<(), AllocError>
     requires { all_name_bytes (node_tree node.now).name ≡ true }
     ensures { OnOk result (string_bytes out.new ≡ string_bytes out.old ++ cost_row (node_tree node.now) cost) }
 {
-    write_row(
-        alloc,
-        out,
-        node.line,
-        node.name.as_str(),
-        op_name(&node.op),
-        cost,
-    )
+    write_row(out, node.line, node.name.as_str(), op_name(&node.op), cost)
 }
 
 // The names of the columns.
@@ -159,7 +127,7 @@ pub fn cost_table(alloc: Global, nodes: &[Node], timing: &Timing) -> Result<Stri
             Some(cost) => cost,
             None => unreachable!(),
         };
-        write_cost(alloc, &mut out, node, cost)?;
+        write_cost(&mut out, node, cost)?;
         number += 1;
     }
     Ok(out)
@@ -176,6 +144,6 @@ pub fn fused_table(alloc: Global, end_line: u32, costs: &Costs) -> Result<String
         load: costs.load() as u32,
         muls: costs.muls(),
     };
-    write_row(alloc, &mut out, end_line, "end", "fused", cost)?;
+    write_row(&mut out, end_line, "end", "fused", cost)?;
     Ok(out)
 }
