@@ -1,13 +1,16 @@
 #!/usr/bin/env python3
 """The second program, `aethkit`: its table of slowdowns says what `plan` says of each, its text pictures show each element in its
-slot, its names are those of the module's ports and the program's lines, its longest path is that of the module's wires, and its
-test benches tell no wrong word of the modules of all examples at three slowdowns, and some of each of twelve modules that were
-spoiled."""
+slot, its names are those of the module's ports and nets and the program's lines, its longest path is that of the module's wires,
+and its test benches tell no wrong word of the modules of all examples at three slowdowns, and some of each of twelve modules that
+were spoiled, under Icarus and, of a few, under Verilator.
+
+kit.py verilator: those benches under Verilator alone, of all of these; by hand, as it takes long."""
 import os
 import pathlib
 import pty
 import re
 import subprocess
+import sys
 import tempfile
 import time
 import xml.etree.ElementTree
@@ -31,8 +34,10 @@ SPOILED = [
 ]
 # An example and a slowdown: pictures with blocks that are folded.
 FOLDED = [("blur", 64), ("transpose", 256), ("integral_image", 64), ("gaussian", 64)]
-# An example and a slowdown: benches under Verilator.
-VERILATED = [("blur", 4), ("luma", 1), ("histogram", 8)]
+# A type that is long to tell, and a name as long as one may be.
+LONG = f"aeth 2\nfn main {'a' * 32}:{'[2]' * 6}((u64,(i64,u64)),(((i64,u64),(u64,u64)),((u64,i64),((u64,u64),(u64,(u64,u64))))))\nend {'a' * 32}\n"
+# An example and a slowdown: benches under Verilator in each run.
+VERILATED = [("blur", 8), ("luma", 1), ("histogram", 8)]
 
 
 def planned(text, slowdown):
@@ -77,8 +82,11 @@ def picture_is_right(name, slowdown, text):
     pictures = shown.split("\n\n")[1:]
     if status or len(pictures) != len(layouts):
         return f"{name} at {slowdown}: {len(pictures)} pictures of {len(layouts)} items"
-    for picture, (_, item, arrival, layout) in zip(pictures, layouts):
-        lines = [line[10:].removesuffix(" ..").split() for line in picture.splitlines()[1:] if not line.startswith("  and")]
+    for picture, (number, item, arrival, layout) in zip(pictures, layouts):
+        title, _, rest = picture.partition("\n  clock")
+        lines = [line[10:].removesuffix(" ..").split() for line in ("  clock" + rest).splitlines() if not line.startswith("  and")]
+        if "".join(title.split()) != f"line{number}{item},{layout}".replace(" ", ""):
+            return f"{name} at {slowdown}: the title of {item}"
         places = {place: str(number) for number, place in enumerate(slots(layout)[0])}
         clocks = len(lines[0])
         if lines[0] != [str(int(arrival) + clock) for clock in range(clocks)]:
@@ -150,34 +158,112 @@ def paths_are_right(name, slowdown, text, module):
     return ""
 
 
+def operation(said):
+    """The operator that a line computes with, and by how much it shifts or to which width it casts; None where it does not."""
+    word = said[3] if said[2] in ("reduce", "scan") else said[2]
+    if word in ("shl", "shr"):
+        return word, int(said[3])
+    if word == "cast":
+        return (word, int(said[3][1:])) if said[3][0] == "u" else None
+    return (word, 0) if word in ("add", "sub", "mul", "and", "or", "xor", "not", "min", "max", "eq", "lt", "mux") else None
+
+
 def functions(text):
-    """Name, lines and called functions of each function of a program."""
+    """Of each function of a program the lines, each with its fields, and the functions that it calls; and its end line."""
     found = {}
     for number, line in enumerate(text.partition("%%")[0].splitlines(), 1):
         said = line.split("#")[0].split()
         if said[:1] == ["fn"]:
-            name, found[said[1]] = said[1], ([], set())
+            name, found[said[1]] = said[1], ([], set(), [])
+        elif said[:1] == ["end"]:
+            found[name][2].extend([number, *said[1:]])
         elif said[1:2] == ["="]:
-            found[name][0].append((number, said[0]))
-            if said[2] in ("call", "map", "map2"):
-                found[name][1].add(said[3])
+            found[name][0].append((number, said))
+            found[name][1].update(callee(said))
     return found
 
 
-def wanted_prefixes(text):
+def callee(said):
+    """The function that a line calls or maps, in a set."""
+    return {said[3]} if said[2] in ("call", "map", "map2") else set()
+
+
+def reached(found, said):
+    """The functions that a line calls, and those that these call, the last first."""
+    called = callee(said)
+    for name in reversed(found):
+        if name in called:
+            called |= found[name][1]
+            yield name
+
+
+def is_moved(text, module):
+    """Whether a program is made by one move for each result: then its module has cells of the end line."""
+    number = list(functions(text).values())[-1][2][0]
+    return re.search(rf"^  // line {number}: ", module, re.M) is not None
+
+
+def wanted_prefixes(text, module):
     """The lines of a program that the names of nets may belong to: those of the program function, and of what each calls."""
     found = functions(text)
-    lines = text.splitlines()
+    lines, _, (end, *results) = found[list(found)[-1]]
+    if is_moved(text, module):
+        return [f"l{end}_ {end} {result} end" for result in results]
     rows = []
-    for number, item in found[list(found)[-1]][0]:
-        rows.append(f"l{number}_ {number} {item}")
-        said = lines[number - 1].split("#")[0].split()
-        called = {said[3]} if said[2] in ("call", "map", "map2") else set()
-        for name in reversed(found):
-            if name in called:
-                called |= found[name][1]
-                rows += [f"l{number}_ {line} {word} in {name}" for line, word in found[name][0]]
+    for number, said in lines:
+        rows.append(f"l{number}_ {number} {said[0]} {said[2]}")
+        for name in reached(found, said):
+            rows += [f"l{number}_ {line} {inner[0]} {inner[2]} in {name}" for line, inner in found[name][0]]
     return rows
+
+
+def cell(kind, width, array, value):
+    """The cell of a declaration, and by how much it shifts or to which width it casts."""
+    if kind == "reg":
+        return ("memory" if array else "register"), 0
+    if chosen := re.fullmatch(r"(\w+) < (\w+) \? (\w+) : \w+", value):
+        return ("min or max" if chosen[1] == chosen[2] else "min" if chosen[1] == chosen[3] else "max"), 0
+    if shift := re.fullmatch(r"\w+ (<<|>>) \d+'d(\d+)", value):
+        return ("shl" if shift[1] == "<<" else "shr"), int(shift[2])
+    if re.fullmatch(r"\w+|\w+\[\d+:\d+\]", value):
+        return "cast", width
+    signs = {"?": "mux", "==": "eq", "<": "lt", "+": "add", "-": "sub", "*": "mul", "&": "and", "|": "or", "^": "xor"}
+    if found := re.fullmatch(r"\w+ (\S+) .*", value):
+        return signs[found[1]], 0
+    return ("not" if value[0] == "~" else "const" if "'d" in value else "read"), 0
+
+
+def wanted_nets(text, module):
+    """The number and the row of each net of a module, by its declarations and comments and the lines of the program; and its cell."""
+    found, name = functions(text), ""
+    operators = {number: said for lines, _, _ in found.values() for number, said in lines}
+    form = r"  (?:// line (\d+): (\w+),.*|(wire|reg) (?:\[(\d+):0\] )?l\d+_(n\d+)( \[\d+:\d+\])?(?: = (.*))?;)"
+    for line, told, kind, high, net, array, value in re.findall(rf"^{form}$", module, re.M):
+        if line:
+            number, name, said = int(line), told, operators.get(int(line), ["", "", "end"])
+            inner = [(at, *row) for func in reached(found, said) for at, words in found[func][0] for row in [(words[0], func, operation(words))]]
+            continue
+        word, much = cell(kind, int(high or 0) + 1, array, value)
+        same = [f", {at} {item} in {func}" for at, item, func, made in inner if made == (word, much)]
+        last = f", one of {len(same)} lines" if len(same) > 1 else "".join(same)
+        yield f"l{number}_{net}", f"l{number}_{net} {number} {name} {said[2]}: {word}{last}", word
+
+
+def nets_are_right(name, slowdown, text, module):
+    """The fault of what is said of each net of a module, as a table and as a save file."""
+    wanted = list(wanted_nets(text, module))
+    status, shown = kit(["notes", slowdown, "nets"], text)
+    rows = [row for row in shown.splitlines() if re.match(r"l\d+_n\d", row)]
+    _, file = kit(["notes", slowdown, "nets", "gtkw"], text)
+    aliases = re.findall(r"^\+\{(l\d+_n\d.*)\} bench\.dut\.(\w+)(?:\[\d+:0\])?$", file, re.M)
+    if status or [row.split()[0] for row in rows] != [net for net, _, _ in wanted]:
+        return f"{name} at {slowdown}: not these are the nets"
+    for row, (_, right, word) in zip(rows, wanted):
+        if row != right and word != "min or max":
+            return f"{name} at {slowdown}: {row} and not {right}"
+    if aliases != [(row, net) for row, (net, _, word) in zip(rows, wanted) if word != "memory"]:
+        return f"{name} at {slowdown}: the nets of the save file"
+    return ""
 
 
 def names_are_right(name, slowdown, text, module):
@@ -185,7 +271,7 @@ def names_are_right(name, slowdown, text, module):
     wanted = [port for port, _ in ports(module, "input")[2:] + ports(module, "output")]
     lines = text.partition("%%")[0].splitlines()
     status, shown = kit(["notes", slowdown], text)
-    told_ports = [line.split() for line in shown.splitlines() if not line.startswith("l")]
+    told_ports = [line.split() for line in shown.splitlines() if not re.match(r"l\d+_ ", line)]
     _, file = kit(["notes", slowdown, "gtkw"], text)
     aliases = re.findall(r"^\+\{(.*)\} aeth\.(\w+)(?:\[\d+:0\])?$", file, re.M)
     if status or [row[0] for row in told_ports] != wanted:
@@ -195,9 +281,9 @@ def names_are_right(name, slowdown, text, module):
     for place, number, word, *_ in told_ports:
         if word not in [field.partition(":")[0] for field in lines[int(number) - 1].split("#")[0].split()]:
             return f"{name} at {slowdown}: {place} is not of line {number}"
-    if [line for line in shown.splitlines() if line.startswith("l")] != wanted_prefixes(text):
+    if [line for line in shown.splitlines() if re.match(r"l\d+_ ", line)] != wanted_prefixes(text, module):
         return f"{name} at {slowdown}: the lines of the nets"
-    return ""
+    return nets_are_right(name, slowdown, text, module)
 
 
 def wrong_words(folder, bench, module):
@@ -213,39 +299,37 @@ def wrong_words(folder, bench, module):
     return int(last[1]), int(last[2]), made.stderr
 
 
-def verilated(case):
-    """The fault of a bench under Verilator."""
-    name, slowdown, text = case
-    with tempfile.TemporaryDirectory() as made:
-        folder = pathlib.Path(made)
-        (folder / "bench.v").write_text(kit(["bench", slowdown, 5], text)[1])
-        (folder / "aeth.v").write_text(aeth(["build", slowdown], text)[1])
-        form = ["verilator", "--binary", "--timing", "-Wall", "--top-module", "bench", "bench.v", "aeth.v"]
-        built = subprocess.run(form, cwd=folder, capture_output=True, text=True)
-        if built.returncode or "warning" in (built.stdout + built.stderr).lower():
-            return f"{name} at {slowdown}: verilator: {(built.stderr + built.stdout)[:500]}"
-        shown = subprocess.run([folder / "obj_dir" / "Vbench"], capture_output=True, text=True).stdout
-        right = re.search(r"^[1-9]\d* words compared, 0 wrong$", shown, re.M)
-        return "" if right else f"{name} at {slowdown}: under Verilator {shown[-200:]!r}"
+def verilated_words(folder, bench, module):
+    """The same under Verilator."""
+    (folder / "bench.v").write_text(bench)
+    (folder / "aeth.v").write_text(module)
+    form = ["verilator", "--binary", "--timing", "-Wall", "-MAKEFLAGS", "OPT_FAST=-O0 OPT_GLOBAL=-O0", "--top-module", "bench"]
+    built = subprocess.run([*form, "bench.v", "aeth.v"], cwd=folder, capture_output=True, text=True)
+    said = built.stdout + built.stderr
+    if built.returncode or "warning" in said.lower():
+        return 0, 0, said[:500]
+    shown = subprocess.run([folder / "obj_dir" / "Vbench"], capture_output=True, text=True).stdout
+    last = re.search(r"^(\d+) words compared, (\d+) wrong$", shown, re.M)
+    return (int(last[1]), int(last[2]), "") if last else (0, 0, shown[-200:])
 
 
-def bench_is_right(run):
-    """The fault of a bench under Icarus, on the module of its program."""
+def bench_is_right(run, compared=wrong_words):
+    """The fault of a bench under Icarus, or by another way to compare, on the module of its program."""
     name, slowdown, text, _, shown = run
     status, bench = kit(["bench", slowdown, 5], text)
     with tempfile.TemporaryDirectory() as made:
-        words, wrong, said = wrong_words(pathlib.Path(made), bench, shown.split("%% clocks")[0])
+        words, wrong, said = compared(pathlib.Path(made), bench, shown.split("%% clocks")[0])
     return "" if not status and words and not wrong and not said else f"{name} at {slowdown}: {words} words, {wrong} wrong {said}"
 
 
-def bench_finds(case):
+def bench_finds(case, compared=wrong_words):
     """The fault of a bench that does not find what is wrong with a module."""
     name, slowdown, old, new, text = case
     _, bench = kit(["bench", slowdown, 5], text)
     head, begin, cells = aeth(["build", slowdown], text)[1].partition("\n);\n")
     assert old in cells, (name, slowdown, old)
     with tempfile.TemporaryDirectory() as made:
-        words, wrong, _ = wrong_words(pathlib.Path(made), bench, head + begin + cells.replace(old, new, 1))
+        words, wrong, _ = compared(pathlib.Path(made), bench, head + begin + cells.replace(old, new, 1))
     return "" if wrong else f"{name} at {slowdown}, {old} for {new}: none of {words} words is wrong"
 
 
@@ -281,7 +365,8 @@ def on_terminal(words, text):
 
 def progress_is_shown():
     """The fault of what is shown of a call that takes long: on a terminal how far it is, taken away at the end; else nothing."""
-    text = "fn main a:[512]u8\n" + "".join(f"b{k} = shift 1 {f'b{k - 1}' if k else 'a'}\n" for k in range(40)) + "end b39\n"
+    shifts = "".join(f"b{k} = shift 1 {f'b{k - 1}' if k else 'a'}\n" for k in range(40))
+    text = f"fn twice x:u8\ny = add x x\nend y\nfn main a:[512]u8\n{shifts}z = map twice b39\nend z\n"
     most, taken = 1, 0.0
     while taken < 1.6 and most < 4096:
         most, begin = most * 2, time.monotonic()
@@ -295,17 +380,27 @@ def progress_is_shown():
     return "" if on_terminal(["slowdowns", 1, 2], "fn main a:u8\nend a\n") == "" else "something is shown of a call that takes no time"
 
 
+def under_verilator(runs, spoiled):
+    """The faults of benches under Verilator, on modules and on spoiled ones."""
+    found = list(side_by_side(lambda run: bench_is_right(run, verilated_words), runs))
+    return found + list(side_by_side(lambda case: bench_finds(case, verilated_words), spoiled))
+
+
 def main():
     texts = {name: text for name, text, _ in examples()}
     runs = list(runs_of_examples())
+    spoiled = [(*case, texts[case[0]]) for case in SPOILED]
+    if sys.argv[1:] == ["verilator"]:
+        raise SystemExit(told("kit", under_verilator(runs, spoiled)))
     found = [dashes_are_taken(texts["blur"]), progress_is_shown(), *side_by_side(lambda name: table_is_right(name, texts[name]), texts)]
     found += side_by_side(run_is_right, runs)
     found += [svg_is_right(name, slowdown, texts[name]) for name, slowdown in FOLDED]
+    found += [picture_is_right("a long type", slowdown, LONG) for slowdown in (1, 64)]
     if not missing("iverilog"):
         found += side_by_side(bench_is_right, runs)
-        found += side_by_side(bench_finds, [(*case, texts[case[0]]) for case in SPOILED])
+        found += side_by_side(bench_finds, spoiled)
     if not missing("verilator"):
-        found += side_by_side(verilated, [(name, slowdown, texts[name]) for name, slowdown in VERILATED])
+        found += under_verilator([run for run in runs if run[:2] in VERILATED], spoiled[:1])
     raise SystemExit(told("kit", found))
 
 

@@ -13,6 +13,9 @@ const WIDE: u32 = 100;
 
 const LABEL: u32 = 10;
 
+// The columns before what of a title stands on a further line.
+const INDENT: u32 = 4;
+
 const MOST_LANES: u32 = 16;
 
 // How many digits a number has.
@@ -100,10 +103,47 @@ fn write_lane(out: &mut String, item: Item<'_>, frame: Frame, lane: u32) -> Resu
     write_end(out, item, frame)
 }
 
+// A further line of a title; how many columns stand in it.
+fn write_break(out: &mut String) -> Result<u32, AllocError> {
+    out.push_str("\n    ")?;
+    Ok(INDENT)
+}
+
+// A word of a title behind so many columns, on a further line where it has no room; how many columns stand in the last line.
+fn write_title_word(out: &mut String, word: &str, column: u32) -> Result<u32, AllocError> {
+    let wide = word.len().min(1000) as u32;
+    let mut column = column;
+    if column > INDENT && column.saturating_add(wide) >= WIDE {
+        column = write_break(out)?;
+    } else if column > 0 {
+        out.push(' ')?;
+        column = column.saturating_add(1);
+    }
+    for letter in word.chars() {
+        if column >= WIDE {
+            column = write_break(out)?;
+        }
+        out.push(letter)?;
+        column = column.saturating_add(1);
+    }
+    Ok(column)
+}
+
+// The line of an item: its name and its layout.
+fn write_title(out: &mut String, alloc: Global, item: Item<'_>) -> Result<(), AllocError> {
+    let mut title = format!(in alloc; "line {} {}, ", item.line, item.name)?;
+    item.layout.write_to(&mut title)?;
+    let mut column = 0u32;
+    for word in title.as_str().split(' ') {
+        column = write_title_word(out, word, column)?;
+    }
+    Ok(())
+}
+
 // An item, with what stands where.
-fn write_item(out: &mut String, item: Item<'_>) -> Result<(), AllocError> {
-    write!(out, "\nline {} {}, ", item.line, item.name)?;
-    item.layout.write_to(out)?;
+fn write_item(out: &mut String, alloc: Global, item: Item<'_>) -> Result<(), AllocError> {
+    out.push_str("\n")?;
+    write_title(out, alloc, item)?;
     out.push_str("\n")?;
     let frame = frame_of(item);
     write_clocks(out, item, frame)?;
@@ -130,7 +170,7 @@ pub fn draw(alloc: Global, input: &[u8], slowdown: u32) -> Result<String, KitFau
     writeln!(out, "slowdown {slowdown}, latency {latency}, load {load}")?;
     for number in 0..count(&costed) {
         if let Some(item) = item_at(&costed, number) {
-            write_item(&mut out, item)?;
+            write_item(&mut out, alloc, item)?;
         }
     }
     Ok(out)

@@ -5,10 +5,12 @@ ghost use Rattle.std.specs.Prelude.{◌<◌, ◌≤◌, length};
 use crate::blocks::program_part;
 use crate::fault::KitFault;
 use crate::items::{Item, item_at};
+use crate::nets::write_nets;
+use crate::operators::{operator, reached};
 use crate::ports::{Bundle, Role, inputs, outputs, write_range};
 use crate::request::NoteForm;
-use ae_compile::{Costed, LOAD_LIMIT, cost};
-use ae_seq::{Func, Op, Program};
+use ae_compile::{Costed, Costs, LOAD_LIMIT, compile, cost};
+use ae_seq::Func;
 use std::alloc::{AllocError, Global};
 
 /// The item of the program function whose words stand on a bundle.
@@ -51,7 +53,12 @@ fn write_ports(out: &mut String, bundle: &Bundle<'_>, item: Item<'_>) -> Result<
 }
 
 // The signals of a bundle in a save file: a comment with the line, and each port under the name of its word.
-fn write_signals(out: &mut String, bundle: &Bundle<'_>, item: Item<'_>) -> Result<(), AllocError> {
+fn write_signals(
+    out: &mut String,
+    bundle: &Bundle<'_>,
+    item: Item<'_>,
+    form: NoteForm,
+) -> Result<(), AllocError> {
     write!(out, "@200\n-line {} {}, ", item.line, item.name)?;
     item.layout.write_to(out)?;
     out.push_str("\n@24\n")?;
@@ -59,7 +66,7 @@ fn write_signals(out: &mut String, bundle: &Bundle<'_>, item: Item<'_>) -> Resul
         if let Some(column) = bundle.column(number) {
             out.push_str("+{")?;
             write_word(out, bundle, item, column.lane, column.word)?;
-            out.push_str("} aeth.")?;
+            write!(out, "}} {}.", form.scope())?;
             bundle.write_name(out, column)?;
             write_range(out, column.width)?;
             out.push_str("\n")?;
@@ -77,68 +84,40 @@ fn write_bundles(
 ) -> Result<(), AllocError> {
     for bundle in bundles {
         if let Some(item) = item_of(costed, bundle) {
-            match form {
-                NoteForm::Table => write_ports(out, bundle, item)?,
-                NoteForm::SaveFile => write_signals(out, bundle, item)?,
+            if form.is_file {
+                write_signals(out, bundle, item, form)?;
+            } else {
+                write_ports(out, bundle, item)?;
             }
         }
     }
     Ok(())
 }
 
-// The function that an operator calls or maps.
-fn called(op: &Op) -> Option<u32> {
-    match op {
-        Op::Call(func) | Op::Map(func) | Op::Map2(func) => Some(*func),
-        _ => None,
-    }
-}
-
-// Marks a function.
-fn mark(marks: &mut Vec<bool>, func: u32) {
-    if let Some(mark) = marks.get_mut(func as usize) {
-        *mark = true;
-    }
-}
-
-// A line for each line of a function, and a mark at each that it calls.
-fn write_inner(
+// The ports, as lines of a table or as signals of a save file.
+fn write_all_ports(
     out: &mut String,
-    marks: &mut Vec<bool>,
-    line: u32,
-    func: &Func,
+    alloc: Global,
+    costed: &Costed,
+    form: NoteForm,
 ) -> Result<(), AllocError> {
+    let ins = inputs(alloc, costed)?;
+    let outs = outputs(alloc, costed)?;
+    write_bundles(out, costed, &ins, form)?;
+    write_bundles(out, costed, &outs, form)
+}
+
+// A line for each line of a function.
+fn write_inner(out: &mut String, line: u32, func: &Func) -> Result<(), AllocError> {
     for node in &func.nodes {
         writeln!(
             out,
-            "l{line}_ {} {} in {}",
+            "l{line}_ {} {} {} in {}",
             node.line,
             node.name.as_str(),
+            operator(&node.op),
             func.name.as_str()
         )?;
-        if let Some(below) = called(&node.op) {
-            mark(marks, below);
-        }
-    }
-    Ok(())
-}
-
-// A line for each line of a function that a line of the program function calls, and of those that it calls: functions stand
-// behind those that they call.
-fn write_called(
-    out: &mut String,
-    alloc: Global,
-    p: &Program,
-    line: u32,
-    func: u32,
-) -> Result<(), AllocError> {
-    let mut marks = vec![in alloc; false; p.funcs.len()]?;
-    mark(&mut marks, func);
-    for func in p.funcs.iter().enumerate().rev() {
-        let (number, func) = func;
-        if marks.get(number).copied() == Some(true) {
-            write_inner(out, &mut marks, line, func)?;
-        }
     }
     Ok(())
 }
@@ -147,32 +126,57 @@ fn write_called(
 fn write_prefixes(out: &mut String, alloc: Global, costed: &Costed) -> Result<(), AllocError> {
     for node in &costed.main_func().nodes {
         let (line, name) = (node.line, node.name.as_str());
-        writeln!(out, "l{line}_ {line} {name}")?;
-        if let Some(func) = called(&node.op) {
-            write_called(out, alloc, costed.program().program(), line, func)?;
+        writeln!(out, "l{line}_ {line} {name} {}", operator(&node.op))?;
+        for func in &reached(alloc, costed.program().program(), &node.op)? {
+            write_inner(out, line, func)?;
         }
     }
     Ok(())
 }
 
+// The same of a program that only moves words: its module has a move for each result.
+fn write_moves(
+    out: &mut String,
+    costed: &Costed,
+    bundles: &[Bundle<'_>],
+) -> Result<(), AllocError> {
+    let line = costed.main_func().end_line;
+    for bundle in bundles {
+        if let Some(item) = item_of(costed, bundle) {
+            writeln!(out, "l{line}_ {line} {} end", item.name)?;
+        }
+    }
+    Ok(())
+}
+
+// How the names of nets begin.
+fn write_lines(out: &mut String, alloc: Global, costed: &Costed) -> Result<(), AllocError> {
+    match costed.costs() {
+        Costs::Plain(_) => write_prefixes(out, alloc, costed),
+        Costs::Fused(_) => write_moves(out, costed, &outputs(alloc, costed)?),
+    }
+}
+
 /// Which line and which word of the program each port of the module of `aeth build S` belongs to, and how the names of the nets
-/// of each line begin, with the lines of the functions that it calls; or a save file that shows a dump of `aeth wave S FILL` under these names in GTKWave.
+/// of each line begin, with its operator and the lines of the functions that it calls; or each net, with its line, its cell and
+/// the line of a called function that has the cell's operator; or a save file that shows these names in GTKWave, of the ports in
+/// a dump of `aeth wave S FILL`, and with the nets in one of the bench of `bench S FILL dump`.
 pub fn notes(alloc: Global, input: &[u8], slowdown: u32, form: NoteForm) -> Result<String, KitFault>
     requires few { length input.now ≤ 16777216 }
     requires some { 0 < slowdown }
     requires most { slowdown ≤ 4096 }
 {
     let costed = cost(alloc, program_part(input), slowdown, LOAD_LIMIT)?;
-    let ins = inputs(alloc, &costed)?;
-    let outs = outputs(alloc, &costed)?;
     let mut out = String::new(alloc);
-    if let NoteForm::SaveFile = form {
-        out.push_str("@28\naeth.rst\n")?;
+    if form.is_file {
+        writeln!(out, "@28\n{}.rst", form.scope())?;
     }
-    write_bundles(&mut out, &costed, &ins, form)?;
-    write_bundles(&mut out, &costed, &outs, form)?;
-    if let NoteForm::Table = form {
-        write_prefixes(&mut out, alloc, &costed)?;
+    write_all_ports(&mut out, alloc, &costed, form)?;
+    if form.has_nets {
+        let compiled = compile(alloc, costed)?;
+        write_nets(&mut out, alloc, &compiled, form)?;
+    } else if !form.is_file {
+        write_lines(&mut out, alloc, &costed)?;
     }
     Ok(out)
 }

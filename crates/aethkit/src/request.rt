@@ -25,10 +25,18 @@ pub enum Picture {
 
 /// How names are told.
 #[derive(Clone, Copy, Debug)]
-pub enum NoteForm {
-    Table,
-    /// For GTKWave.
-    SaveFile,
+pub struct NoteForm {
+    /// The nets too.
+    pub has_nets: bool,
+    /// As a save file of GTKWave.
+    pub is_file: bool,
+}
+
+impl NoteForm {
+    /// Where the signals stand in the dump that a save file shows: with the nets that of a test bench.
+    pub fn scope(self) -> &'static str {
+        if self.has_nets { "bench.dut" } else { "aeth" }
+    }
 }
 
 /// What is asked for.
@@ -141,14 +149,19 @@ fn draw(words: &[String]) -> Option<Request> {
 }
 
 fn notes(words: &[String]) -> Option<Request> {
-    let (slowdown, form) = match words {
-        [slowdown] => (slowdown, NoteForm::Table),
-        [slowdown, file] if says(file, "gtkw") => (slowdown, NoteForm::SaveFile),
+    let [slowdown, rest @ ..] = words else {
+        return None;
+    };
+    let (has_nets, is_file) = match rest {
+        [] => (false, false),
+        [nets] if says(nets, "nets") => (true, false),
+        [file] if says(file, "gtkw") => (false, true),
+        [nets, file] if says(nets, "nets") && says(file, "gtkw") => (true, true),
         _ => return None,
     };
     Some(Request::Notes {
         slowdown: slowdown_of(slowdown.as_str())?,
-        form,
+        form: NoteForm { has_nets, is_file },
     })
 }
 

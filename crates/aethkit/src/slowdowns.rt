@@ -1,14 +1,31 @@
 // The slowdowns of a program.
 
-ghost use Rattle.std.specs.Prelude.{◌<◌, ◌≤◌, length};
+ghost use Rattle.std.specs.Prelude.{◌≡◌, ◌<◌, ◌≤◌, ℕ, IfOk, IfSome, length};
+ghost use Rattle.ae_seq.specs.ProgramTree.{program_tree};
+ghost use Rattle.ae_rewrite.specs.Scheduled.{IsSchedule};
+ghost use Rattle.ae_rewrite.specs.StProgramTree.{st_func_trees};
+ghost use Rattle.ae_fuse.specs.Slowdowns.{AreLabels};
 
 use crate::blocks::program_part;
 use crate::fault::KitFault;
 use crate::items::{lanes, layout_of};
 use crate::request::Range;
-use ae_compile::{CompileFault, Costed, LOAD_LIMIT, cost, typed};
+use ae_compile::{LOAD_LIMIT, typed};
+use ae_delay::{DelayFault, arrivals_within};
+use ae_fuse::{WordLabels, labels_of};
+use ae_rewrite::{PlanFault, StFunc, StProgram, schedule};
+use ae_seq::Typed;
 use ae_why::Watch;
 use std::alloc::{AllocError, Global};
+
+// What a circuit costs.
+#[derive(Clone, Copy)]
+struct Costs {
+    latency: u32,
+    load: u64,
+    muls: u32,
+    mems: u64,
+}
 
 // What is shown of a slowdown.
 #[derive(Clone, Copy)]
@@ -22,9 +39,8 @@ struct Row {
     outs: u32,
 }
 
-// The lanes of all parameters, and of all results.
-fn row_of(costed: &Costed) -> Row {
-    let s = costed.main_instance();
+// The row of a slowdown, with the lanes of all parameters and of all results.
+fn row_of(slowdown: u32, costs: Costs, s: &StFunc) -> Row {
     let mut ins = 0u32;
     for layout in &s.ins {
         ins = ins.saturating_add(lanes(layout));
@@ -36,11 +52,11 @@ fn row_of(costed: &Costed) -> Row {
         }
     }
     Row {
-        slowdown: costed.slowdown(),
-        latency: costed.costs().latency(),
-        load: costed.costs().load(),
-        muls: costed.costs().muls(),
-        mems: costed.costs().mems(),
+        slowdown,
+        latency: costs.latency,
+        load: costs.load,
+        muls: costs.muls,
+        mems: costs.mems,
         ins,
         outs,
     }
@@ -77,17 +93,104 @@ fn write_row(out: &mut String, csv: bool, row: Row) -> Result<(), AllocError> {
     }
 }
 
-// What a slowdown costs, where it has a circuit.
-fn costed(alloc: Global, part: &[u8], slowdown: u32) -> Result<Option<Row>, KitFault>
-    requires part { length part.now < 4294967295 }
+// The labels of a program that only moves words, by its schedule at slowdown 1, where each program has one.
+fn kept_labels(alloc: Global, program: &Typed) -> Result<Option<WordLabels>, KitFault>
+    ensures { IfOk result (λ o. IfSome o (λ l. AreLabels (program_tree program.now) l)) }
+{
+    match schedule(alloc, program, 1) {
+        Ok(schedule) => {
+            let found = labels_of(alloc, program, &schedule)?;
+            Ok(found)
+        }
+        Err(PlanFault::NoSchedule { line: _ }) => Ok(None),
+        Err(PlanFault::Memory) => Err(KitFault::Memory),
+    }
+}
+
+// What the moves of a program cost under a schedule, if that is not too much.
+fn moved(
+    alloc: Global,
+    program: &Typed,
+    labels: &WordLabels,
+    schedule: &StProgram,
+) -> Result<Option<Costs>, KitFault>
+    requires schedule { (slowdown : ℕ) × (0 < slowdown) × (slowdown ≤ 4096) × IsSchedule (program_tree program.now) slowdown (st_func_trees schedule.now) }
+    requires labels { AreLabels (program_tree program.now) labels.now }
+{
+    let costs = labels.costs(alloc, program, schedule)?;
+    if costs.load > u64::from(LOAD_LIMIT) {
+        return Ok(None);
+    }
+    Ok(Some(Costs {
+        latency: costs.latency,
+        load: costs.load,
+        muls: 0,
+        mems: costs.mems,
+    }))
+}
+
+// What the lines of a program cost under a schedule, if that is not too much.
+fn computed(alloc: Global, schedule: &StProgram) -> Result<Option<Costs>, KitFault> {
+    match arrivals_within(alloc, schedule, LOAD_LIMIT) {
+        Ok(timing) => Ok(Some(Costs {
+            latency: timing.latency(),
+            load: u64::from(timing.load()),
+            muls: timing.muls(),
+            mems: u64::from(timing.mems()),
+        })),
+        Err(DelayFault::Large { line: _, load: _ }) => Ok(None),
+        Err(DelayFault::Memory) => Err(KitFault::Memory),
+    }
+}
+
+// What a slowdown costs, where it has a circuit. The labels of a program that only moves words are made once for all slowdowns.
+fn costed(
+    alloc: Global,
+    program: &Typed,
+    labels: &Option<WordLabels>,
+    slowdown: u32,
+) -> Result<Option<Row>, KitFault>
     requires some { 0 < slowdown }
     requires most { slowdown ≤ 4096 }
+    requires labels { IfSome labels.now (λ l. AreLabels (program_tree program.now) l) }
 {
-    match cost(alloc, part, slowdown, LOAD_LIMIT) {
-        Ok(costed) => Ok(Some(row_of(&costed))),
-        Err(CompileFault::Memory) => Err(KitFault::Memory),
-        Err(_) => Ok(None),
+    let schedule = match schedule(alloc, program, slowdown) {
+        Ok(schedule) => schedule,
+        Err(PlanFault::NoSchedule { line: _ }) => return Ok(None),
+        Err(PlanFault::Memory) => return Err(KitFault::Memory),
+    };
+    let costs = match labels {
+        Some(labels) => moved(alloc, program, labels, &schedule)?,
+        None => computed(alloc, &schedule)?,
+    };
+    match (costs, schedule.instance(schedule.count().saturating_sub(1))) {
+        (Some(costs), Some(main)) => Ok(Some(row_of(slowdown, costs, main))),
+        _ => Ok(None),
     }
+}
+
+// A row for each slowdown of a range that has a circuit; each that is tried is told.
+fn write_rows<W: Watch>(
+    out: &mut String,
+    alloc: Global,
+    program: &Typed,
+    labels: &Option<WordLabels>,
+    range: &Range,
+    watch: &mut W,
+) -> Result<(), KitFault>
+    requires { IfSome labels.now (λ l. AreLabels (program_tree program.now) l) }
+{
+    let mut least = u64::MAX;
+    for slowdown in range.from.max(1)..range.to.min(4096).saturating_add(1) {
+        watch.step("slowdown", slowdown, range.to);
+        if let Some(row) = costed(alloc, program, labels, slowdown)? {
+            if !range.best || row.load < least {
+                write_row(out, range.csv, row)?;
+            }
+            least = least.min(row.load);
+        }
+    }
+    Ok(())
 }
 
 /// The table of the slowdowns of the program in the input, in order; each that is tried is told.
@@ -99,19 +202,10 @@ pub fn table<W: Watch>(
 ) -> Result<String, KitFault>
     requires { length input.now ≤ 16777216 }
 {
-    let part = program_part(input);
-    typed(alloc, part)?;
+    let program = typed(alloc, program_part(input))?;
+    let labels = kept_labels(alloc, &program)?;
     let mut out = String::new(alloc);
     write_head(&mut out, range.csv)?;
-    let mut least = u64::MAX;
-    for slowdown in range.from.max(1)..range.to.min(4096).saturating_add(1) {
-        watch.step("slowdown", slowdown, range.to);
-        if let Some(row) = costed(alloc, part, slowdown)? {
-            if !range.best || row.load < least {
-                write_row(&mut out, range.csv, row)?;
-            }
-            least = least.min(row.load);
-        }
-    }
+    write_rows(&mut out, alloc, &program, &labels, range, watch)?;
     Ok(out)
 }
