@@ -22,6 +22,8 @@ pub enum KitFault {
     Refused,
     #[error("the bench would have more than 1000000 words")]
     LongBench,
+    #[error("the circuit would have too many cells")]
+    LargeStream,
     #[error("the input has more than 16777216 bytes")]
     TooLong,
     #[error("the input cannot be read")]

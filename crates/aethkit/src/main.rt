@@ -23,6 +23,7 @@ mod progress;
 mod renamed;
 mod request;
 mod slowdowns;
+mod stream;
 mod svg;
 mod top;
 mod usage;
@@ -138,6 +139,10 @@ fn answer<W: Watch>(
         Request::Top { slowdown, is_named } => {
             let name = if *is_named { last(words) } else { "aeth" };
             top::top(alloc, input, nearest(*slowdown), name)
+        }
+        Request::Stream { slowdown, is_named } => {
+            let name = if *is_named { last(words) } else { "aeth" };
+            stream::stream(alloc, input, nearest(*slowdown), name)
         }
         Request::Paths { slowdown, most } => {
             paths::paths(alloc, input, nearest(*slowdown), *most)

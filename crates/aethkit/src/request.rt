@@ -65,6 +65,11 @@ pub enum Request {
         /// The last word is the name of the module.
         is_named: bool,
     },
+    Stream {
+        slowdown: u32,
+        /// The last word is the name of the module.
+        is_named: bool,
+    },
     Bench {
         slowdown: u32,
         fill: u64,
@@ -182,7 +187,8 @@ fn names_module(word: &str) -> bool {
     is_name(word.as_bytes()) && !is_keyword(word)
 }
 
-fn top(words: &[String]) -> Option<Request> {
+// A slowdown, and whether a name for the module stands behind it.
+fn named(words: &[String]) -> Option<(u32, bool)> {
     let (slowdown, is_named) = match words {
         [slowdown] => (slowdown, false),
         [slowdown, option, name] if says(option, "name") && names_module(name.as_str()) => {
@@ -190,10 +196,17 @@ fn top(words: &[String]) -> Option<Request> {
         }
         _ => return None,
     };
-    Some(Request::Top {
-        slowdown: slowdown_of(slowdown.as_str())?,
-        is_named,
-    })
+    Some((slowdown_of(slowdown.as_str())?, is_named))
+}
+
+fn top(words: &[String]) -> Option<Request> {
+    let (slowdown, is_named) = named(words)?;
+    Some(Request::Top { slowdown, is_named })
+}
+
+fn stream(words: &[String]) -> Option<Request> {
+    let (slowdown, is_named) = named(words)?;
+    Some(Request::Stream { slowdown, is_named })
 }
 
 fn bench(words: &[String]) -> Option<Request> {
@@ -221,6 +234,7 @@ pub fn request_of(words: &[String]) -> Option<Request> {
         "notes" => notes(rest),
         "paths" => paths(rest),
         "top" => top(rest),
+        "stream" => stream(rest),
         "bench" => bench(rest),
         _ => None,
     }

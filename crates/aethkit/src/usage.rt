@@ -15,6 +15,8 @@ pub const USAGE: &str = "usage: aethkit REQUEST < PROGRAM
   top S [name NAME]                  the module of `aeth build S`, and a wrapper around it: a port for each parameter and result,
                                      by its name, and strobes that tell when blocks begin and when results stand; NAME in place of
                                      `aeth`, so that several fit into one design
+  stream S [name NAME]               the module of the program's circuit between two channels with valid and ready: words come in and
+                                     results go out at whatever pace both sides go
   paths S [MOST]                     the longest chain of operators without a register between them, by the lines of the program;
                                      those of more than MOST operators are marked
   bench S FILL [dump]                a test bench for the module of `aeth build S`: it gives it the rows of the input behind
