@@ -368,7 +368,7 @@ def progress_is_shown():
     shifts = "".join(f"b{k} = shift 1 {f'b{k - 1}' if k else 'a'}\n" for k in range(40))
     text = f"fn twice x:u8\ny = add x x\nend y\nfn main a:[512]u8\n{shifts}z = map twice b39\nend z\n"
     most, taken = 1, 0.0
-    while taken < 1.6 and most < 4096:
+    while taken < 3 and most < 4096:
         most, begin = most * 2, time.monotonic()
         done = subprocess.run([KIT, "slowdowns", "1", str(most)], input=text.encode(), capture_output=True)
         taken = time.monotonic() - begin
