@@ -52,6 +52,10 @@ op_fields funcs (select k) = codes "select" ∷ decimal k ∷ []
 op_fields funcs (partition n m) = codes "partition" ∷ decimal n ∷ decimal m ∷ []
 op_fields funcs unpartition = codes "unpartition" ∷ []
 
+-- the word that it begins with
+abbrev pub op_word : OpTree → List ℕ
+op_word op = get_or (op_fields [] op) 0 []
+
 -- ---- statements, as lists of fields
 
 abbrev pub node_fields : (funcs items : List (List ℕ)) → NodeTree → List (List ℕ)

@@ -12,6 +12,7 @@ ghost use Rattle.ae_seq.specs.ProgramTree.{op_tree};
 ghost use Rattle.ae_seq.specs.Trees.{func_trees, node_trees, param_trees};
 ghost use Rattle.ae_print.specs.Printed.{name_at, op_fields, spaced, word_fields, words_fit};
 
+use crate::op_names::{op_name, word_name};
 use ae_seq::{Func, Node, Op, Param};
 use ae_seqtype::SeqType;
 use ae_word::WordOp;
@@ -77,24 +78,25 @@ fn put_word_op(out: &mut String, op: WordOp) -> Result<(), AllocError>
     ensures { OnOk result (string_bytes out.new ≡ string_bytes out.old ++ spaced (word_fields op)) }
 {
     match op {
-        WordOp::Add => put(out, "add"),
-        WordOp::Sub => put(out, "sub"),
-        WordOp::Mul => put(out, "mul"),
-        WordOp::And => put(out, "and"),
-        WordOp::Or => put(out, "or"),
-        WordOp::Xor => put(out, "xor"),
-        WordOp::Not => put(out, "not"),
-        WordOp::Min => put(out, "min"),
-        WordOp::Max => put(out, "max"),
-        WordOp::Eq => put(out, "eq"),
-        WordOp::Lt => put(out, "lt"),
-        WordOp::Mux => put(out, "mux"),
-        WordOp::Shl(k) => put_numbered(out, "shl", k),
-        WordOp::Shr(k) => put_numbered(out, "shr", k),
+        WordOp::Shl(k) | WordOp::Shr(k) => put_numbered(out, word_name(op), k),
         WordOp::Cast(v) => put_cast(out, "u", v),
-        WordOp::SLt | WordOp::SMin | WordOp::SMax | WordOp::Sar(_) | WordOp::SCast(_) => {
-            put(out, "")
-        }
+        WordOp::Add
+        | WordOp::Sub
+        | WordOp::Mul
+        | WordOp::And
+        | WordOp::Or
+        | WordOp::Xor
+        | WordOp::Not
+        | WordOp::Min
+        | WordOp::Max
+        | WordOp::Eq
+        | WordOp::Lt
+        | WordOp::Mux
+        | WordOp::SLt
+        | WordOp::SMin
+        | WordOp::SMax
+        | WordOp::Sar(_)
+        | WordOp::SCast(_) => put(out, word_name(op)),
     }
 }
 
@@ -154,21 +156,12 @@ pub(crate) fn put_op(
     match op {
         Op::Word(op) => put_word_op(out, *op),
         Op::CastInt(v) => put_cast(out, "i", *v),
-        Op::Pair => put(out, "pair"),
-        Op::Fst => put(out, "fst"),
-        Op::Snd => put(out, "snd"),
+        Op::Pair | Op::Fst | Op::Snd | Op::Zip | Op::Unpartition => put(out, op_name(op)),
         Op::Const(ty, words) => put_const(out, ty, words),
-        Op::Zip => put(out, "zip"),
-        Op::Call(f) => put_func(out, "call", funcs, *f),
-        Op::Map(f) => put_func(out, "map", funcs, *f),
-        Op::Map2(f) => put_func(out, "map2", funcs, *f),
-        Op::Reduce(op) => put_fold(out, "reduce", *op),
-        Op::Scan(op) => put_fold(out, "scan", *op),
-        Op::Shift(k) => put_numbered(out, "shift", *k),
-        Op::Up(n) => put_numbered(out, "up", *n),
-        Op::Select(k) => put_numbered(out, "select", *k),
+        Op::Call(f) | Op::Map(f) | Op::Map2(f) => put_func(out, op_name(op), funcs, *f),
+        Op::Reduce(by) | Op::Scan(by) => put_fold(out, op_name(op), *by),
+        Op::Shift(k) | Op::Up(k) | Op::Select(k) => put_numbered(out, op_name(op), *k),
         Op::Partition(n, m) => put_partition(out, *n, *m),
-        Op::Unpartition => put(out, "unpartition"),
     }
 }
 

@@ -1,10 +1,10 @@
 -- The table of `cost`: for each node line of the program function what it costs, or for the end line of one that only moves
 -- words, as comma-separated values (RFC 4180).
-use Rattle.std.specs.Prelude.{◌≡◌, ℕ, true, List, [], ◌∷◌, ◌++◌, map, codes, slice_index_or, if◌then◌else◌}
+use Rattle.std.specs.Prelude.{◌≡◌, ℕ, true, List, [], ◌∷◌, ◌++◌, map, codes, if◌then◌else◌}
 use Rattle.std.specs.Fmt.{decimal}
-use Rattle.ae_seq.specs.ProgramTree.{NodeTree, OpTree, FuncTree, ProgramTree}
+use Rattle.ae_seq.specs.ProgramTree.{NodeTree, FuncTree, ProgramTree}
 use Rattle.ae_seq.specs.Formed.{all_name_bytes}
-use Rattle.ae_print.specs.Printed.{op_fields}
+use Rattle.ae_print.specs.Printed.{op_word}
 use Rattle.ae_rewrite.specs.StProgramTree.{StFuncTree}
 use Rattle.ae_delay.specs.declared.own.OwnCosts.{OwnCosts}
 use Rattle.ae_delay.specs.declared.weighing.Cost.{Cost}
@@ -12,10 +12,6 @@ use Rattle.ae_delay.specs.Costs.{NodeTiming}
 use Rattle.ae_delay.specs.Weighing.{cost_of}
 use Rattle.ae_trace.specs.Traces.{is_movement}
 use Rattle.ae_fuse.specs.Costing.{fused_costing}
-
--- the word of an operator line
-abbrev pub op_word : OpTree → List ℕ
-op_word op = slice_index_or (op_fields [] op) 0 []
 
 -- fields with commas between them, and LF behind the last
 abbrev pub more_fields : List (List ℕ) → List ℕ

@@ -3,68 +3,18 @@
 ghost use Rattle.std.specs.Prelude.{◌≡◌, ◌<◌, ◌++◌, ◌≤◌, [], ◌∷◌, ℕ, List, map, length, true, IfOk, OnOk, string_bytes, slice_get, Some};
 ghost use Rattle.std.specs.Fmt.{decimal};
 ghost use Rattle.std.specs.Option.{option_map};
-ghost use Rattle.ae_seq.specs.ProgramTree.{node_tree, op_tree, word};
+ghost use Rattle.ae_seq.specs.ProgramTree.{node_tree};
 ghost use Rattle.ae_seq.specs.Formed.{all_name_bytes};
 ghost use Rattle.ae_compile.specs.Costing.{load_limit, whole_costs};
 ghost use Rattle.ae_compile.specs.LineNotes.{AllNamed};
-ghost use Rattle.ae_tool.specs.CostTables.{ArePlain, comma_line, cost_row, cost_rows, cost_table, fused_table, op_word, table_head};
+ghost use Rattle.ae_tool.specs.CostTables.{ArePlain, comma_line, cost_row, cost_rows, cost_table, fused_table, table_head};
 
 use ae_compile::{Costs, OutOfMemory};
 use ae_delay::{Cost, Timing};
-use ae_seq::{Node, Op};
-use ae_word::WordOp;
+use ae_print::op_name;
+use ae_seq::Node;
 use itoa::Buffer;
 use std::alloc::{AllocError, Global};
-
-fn word_name(op: WordOp) -> &'static str
-    ensures word { result.now ≡ op_word (word op) }
-    ensures plain { all_name_bytes result.now ≡ true }
-{
-    match op {
-        WordOp::Add => "add",
-        WordOp::Sub => "sub",
-        WordOp::Mul => "mul",
-        WordOp::And => "and",
-        WordOp::Or => "or",
-        WordOp::Xor => "xor",
-        WordOp::Not => "not",
-        WordOp::Min => "min",
-        WordOp::Max => "max",
-        WordOp::Eq => "eq",
-        WordOp::Lt => "lt",
-        WordOp::Mux => "mux",
-        WordOp::Shl(_) => "shl",
-        WordOp::Shr(_) => "shr",
-        WordOp::Cast(_) => "cast",
-        WordOp::SLt | WordOp::SMin | WordOp::SMax | WordOp::Sar(_) | WordOp::SCast(_) => "",
-    }
-}
-
-// The word of an operator line.
-fn op_name(op: &Op) -> &'static str
-    ensures word { result.now ≡ op_word (op_tree op.now) }
-    ensures plain { all_name_bytes result.now ≡ true }
-{
-    match op {
-        Op::Word(op) => word_name(*op),
-        Op::CastInt(_) => "cast",
-        Op::Pair => "pair",
-        Op::Fst => "fst",
-        Op::Snd => "snd",
-        Op::Const(_, _) => "const",
-        Op::Zip => "zip",
-        Op::Call(_) => "call",
-        Op::Map(_) => "map",
-        Op::Map2(_) => "map2",
-        Op::Reduce(_) => "reduce",
-        Op::Scan(_) => "scan",
-        Op::Shift(_) => "shift",
-        Op::Up(_) => "up",
-        Op::Select(_) => "select",
-        Op::Partition(_, _) => "partition",
-        Op::Unpartition => "unpartition",
-    }
-}
 
 // A field behind others, with a comma before it.
 fn write_field(out: &mut String, field: &str) -> Result<(), AllocError>

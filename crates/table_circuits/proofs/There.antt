@@ -2,10 +2,13 @@
 use Rattle.std.proofs.Common.{ℕ, ◌≡◌, List, [], Some, slice_get, ap}
 use Rattle.ae_netlist.specs.declared.cell.NetId.{NetId}
 use Rattle.ae_netlist.specs.declared.cell.Cell.{Cell}
-use Rattle.ae_netlist.specs.declared.cell.Cell.TheVariants.{Reg, Mem}
+use Rattle.ae_netlist.specs.declared.cell.Cell.TheVariants.{Input, Reg, Mem}
+use Rattle.ae_netlist.specs.declared.cell.Port.{Port}
+use Rattle.ae_netlist.specs.declared.cell.Port.TheVariants.{Reset}
 use Rattle.ae_netlist.specs.declared.cell.SizedCell.{SizedCell}
 use Rattle.ae_netlist.specs.Circuit.{IsAddress, IsMemory, IsNet, IsPlain, IsRegister, IsWritten, depth_of, depth_in, width_of, width_in}
 use Rattle.ae_clocked.specs.Phases.{Belongs}
+use Rattle.ae_stall.specs.Copies.{reset_cell}
 
 pub net_there : (cells : List SizedCell) (n w : ℕ) (sized : SizedCell) → slice_get cells n ≡ Some sized → sized.width ≡ w → IsPlain sized.cell → IsNet cells n w
 net_there cells n w sized found wide plain = record { sized = sized; found = found; plain = plain; wide = wide }
@@ -35,3 +38,7 @@ written_there {cells} {m} {w} {depth} h a n e =
 
 pub belongs_new : (cells : List SizedCell) (rst : ℕ) → IsNet cells rst 1 → Belongs (record { rst = rst; counters = [] }) cells
 belongs_new cells rst h = record { rst = h; counters = λ phase net found. cc }
+
+pub reset_there : (cells : List SizedCell) (v : ℕ) (cell : Cell) (port : Port) → slice_get cells 0 ≡ Some (record { width = v; cell = cell }) → v ≡ 1 → cell ≡ Input port → port ≡ Reset
+    → slice_get cells 0 ≡ Some reset_cell
+reset_there cells v cell port found wide is named = rw (wide, is, named) at found

@@ -2,6 +2,8 @@
 //! outputs show.
 #![tactic(auto)]
 
+mod channels;
+mod circuits;
 mod counters;
 mod netlists;
 mod nets;
@@ -10,6 +12,8 @@ mod plays;
 mod programs;
 mod sizes;
 mod stepping;
+mod streams;
+mod transfers;
 
 use std::alloc::{AllocError, Global};
 use std::io;
@@ -27,6 +31,7 @@ fn tell(alloc: Global, out: &mut String, case: &str) -> Result<(), AllocError> {
         Some("program") => programs::tell(alloc, out, head, body),
         Some("moved") => programs::tell_by_moves(alloc, out, head, body),
         Some("played") => plays::tell(alloc, out, head, body),
+        Some("stream") => streams::tell(alloc, out, head, body),
         _ => Ok(()),
     }
 }

@@ -10,7 +10,7 @@ use ae_sim::Sim;
 use std::alloc::{AllocError, Global};
 
 /// Whether a row has one word for each input, each below two to its width.
-fn fits(nl: &Netlist, row: &[u64]) -> bool
+pub fn fits(nl: &Netlist, row: &[u64]) -> bool
     ensures { IsTrue result → AreInputs nl.now.cells row.now }
 {
     if nl.inputs() as usize != row.len() {

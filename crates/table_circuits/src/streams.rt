@@ -1,11 +1,4 @@
-//! A table of cases: each puts a small circuit between two channels and lets words pass; printed is what comes out.
-#![tactic(auto)]
-
-mod channels;
-mod circuits;
-mod nets;
-mod numbers;
-mod transfers;
+// Small circuits between two channels, and what passes there.
 
 use crate::channels::streamed;
 use crate::circuits::{built, layouts};
@@ -13,7 +6,6 @@ use crate::numbers::number;
 use crate::transfers::tell_transfers;
 use ae_netlist::{NetFault, Netlist};
 use std::alloc::{AllocError, Global};
-use std::io;
 
 // The circuit of a first line between two channels: its limit of cells, how many bytes come one after the other and how many
 // clocks without one, how many parameters it has, and its latency.
@@ -44,14 +36,14 @@ fn made(alloc: Global, head: &str) -> Result<Option<Result<Netlist, NetFault>>, 
     Ok(streamed(alloc, nl, &ins, &outs, slowdown, latency))
 }
 
-// A case: what is made of its first line, and, behind `%%`, how many clocks it runs, in which of them words stand at the source,
-// and in which the sink takes; a further line has the words of one transfer at the source.
-fn tell(alloc: Global, out: &mut String, case: &str) -> Result<(), AllocError> {
-    let Some((head, run)) = case.split_once("%% ") else {
+/// What is made of the first line, and, behind `%%`, how many clocks it runs, in which of them words stand at the source, and in
+/// which the sink takes; a further line has the words of one transfer at the source.
+pub fn tell(alloc: Global, out: &mut String, head: &str, body: &str) -> Result<(), AllocError> {
+    let Some((notes, run)) = body.split_once("%% ") else {
         return Ok(());
     };
     let (how, rows) = run.split_once("\n").unwrap_or((run, ""));
-    writeln!(out, "{head}%% {how}")?;
+    writeln!(out, "{notes}%% {how}")?;
     match made(alloc, head)? {
         None => writeln!(out, "no circuit"),
         Some(Err(fault)) => writeln!(out, "{fault:?}"),
@@ -62,14 +54,4 @@ fn tell(alloc: Global, out: &mut String, case: &str) -> Result<(), AllocError> {
             tell_transfers(alloc, out, &nl, how, rows)
         }
     }
-}
-
-fn main(rt: HostRuntime) -> io::Result<()> {
-    let text = io::read_to_string(rt.alloc(), rt.reader())?;
-    let mut out = String::new(rt.alloc());
-    for case in text.as_str().split("\n\n") {
-        tell(rt.alloc(), &mut out, case)?;
-        out.push_str("\n")?;
-    }
-    rt.print(out.as_str())
 }

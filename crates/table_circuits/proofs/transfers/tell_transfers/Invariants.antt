@@ -1,5 +1,5 @@
 use Rattle.std.proofs.Common.{◌≡◌}
-use Rattle.table_streams.proofs.transfers.tell_transfers.Given as goal
+use Rattle.table_circuits.proofs.transfers.tell_transfers.Given as goal
 
 abbrev pub invariant-loop-clock : goal.invariant-loop-clock
 invariant-loop-clock l = record {

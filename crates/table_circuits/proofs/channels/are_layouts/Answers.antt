@@ -2,8 +2,8 @@
 use Rattle.std.proofs.Common.{inl, inr, arith, sym}
 use Rattle.std.proofs.lemmas.Bool.{cases_eq}
 use Rattle.std.proofs.lemmas.Option.{slice_get_within}
-use Rattle.table_streams.proofs.Layouts.{same_layout}
-use Rattle.table_streams.proofs.channels.are_layouts.Goals as goal
+use Rattle.table_circuits.proofs.Layouts.{same_layout}
+use Rattle.table_circuits.proofs.channels.are_layouts.Goals as goal
 
 pub loop-k-preserved : goal.loop-k-preserved
 loop-k-preserved c = λ i y l f. elim (cases_eq i c.loop-k.k) [

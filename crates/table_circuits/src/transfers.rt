@@ -4,29 +4,10 @@ ghost use Rattle.std.specs.Prelude.{◌≡◌, ◌<◌, ◌≤◌, ◌^◌, IsTr
 ghost use Rattle.ae_netlist.specs.Rows.{AreInputs};
 
 use crate::numbers::number;
+use crate::stepping::fits;
 use ae_netlist::Netlist;
 use ae_sim::Sim;
 use std::alloc::{AllocError, Global};
-
-// Whether a row has one word for each input, each below two to its width.
-fn fits(nl: &Netlist, row: &[u64]) -> bool
-    ensures { IsTrue result → AreInputs nl.now.cells row.now }
-{
-    if nl.inputs() as usize != row.len() {
-        return false;
-    }
-    for k in 0..nl.inputs() {
-        match nl.input_width(k) {
-            Some(width) => {
-                if width >= 64 || row[k as usize] >= 1u64 << width {
-                    return false;
-                }
-            }
-            None => return false,
-        }
-    }
-    true
-}
 
 // Whether a pattern, which comes again and again, has a 1 in this clock.
 fn has_one(pattern: &str, clock: u32) -> bool {

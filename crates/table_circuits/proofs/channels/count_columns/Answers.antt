@@ -1,6 +1,6 @@
 use Rattle.std.proofs.Common.{arith}
-use Rattle.table_streams.proofs.Layouts.{counted_next, sized_at}
-use Rattle.table_streams.proofs.channels.count_columns.Goals as goal
+use Rattle.table_circuits.proofs.Layouts.{counted_next, sized_at}
+use Rattle.table_circuits.proofs.channels.count_columns.Goals as goal
 
 pub lanes-requires : goal.lanes-requires
 lanes-requires c = sized_at c.args.layouts.now c.args.slowdown c.loop-k.k c.index-layouts-k.result c.requires c.loop-k-test.true c.index-layouts-k.is

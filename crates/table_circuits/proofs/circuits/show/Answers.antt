@@ -1,5 +1,5 @@
 use Rattle.ae_clocked.proofs.Added.{own_net}
-use Rattle.table_streams.proofs.circuits.show.Goals as goal
+use Rattle.table_circuits.proofs.circuits.show.Goals as goal
 
 pub add_output-requires-clause-net : goal.add_output-requires-clause-net
 add_output-requires-clause-net c = own_net c.in-Some.ensures

@@ -1,5 +1,5 @@
 use Rattle.ae_clocked.proofs.Added.{own_register, net_own}
-use Rattle.table_streams.proofs.circuits.late.Goals as goal
+use Rattle.table_circuits.proofs.circuits.late.Goals as goal
 
 pub connect-requires-clause-register : goal.connect-requires-clause-register
 connect-requires-clause-register c = own_register c.in-Some.ensures
