@@ -1,5 +1,7 @@
 pub mod Sourced
 pub mod Small
+pub mod AlikeMoves
+pub mod SameAtoms
 pub mod Owned
 pub mod Chains
 pub mod Items

@@ -1,5 +1,6 @@
 pub mod Bounds
 pub mod Moving
+pub mod Alike
 pub mod OwnCosts
 pub mod Costs
 pub mod Weighing

@@ -10,6 +10,7 @@ ghost use Rattle.ae_delay.specs.Weighing.{AreKnown, IsOverAt};
 ghost use Rattle.ae_delay.specs.Arriving.{HasMore, HaveMoreMet};
 ghost use Rattle.ae_delay.specs.Timings.{AreTimes};
 
+use crate::known::KnownMoves;
 use crate::own::OwnCosts;
 use crate::weighing::{Cost, FuncTiming, Weighed, weigh};
 use ae_rewrite::{StFunc, StProgram};
@@ -153,6 +154,7 @@ fn instance(p: &StProgram, k: u32) -> &StFunc
 // is heavy.
 fn weigh_next(
     alloc: Global,
+    moves: &mut KnownMoves,
     s: &StFunc,
     known: &mut Vec<Option<OwnCosts>>,
     arrivals: &mut Vec<Vec<u32>>,
@@ -164,7 +166,7 @@ fn weigh_next(
     ensures arrivals { OnOk result ((costs : List Owned) → AreKnown known.old.items costs → HasMore costs (st_func_tree s.now) (map (λ v. v.items) arrivals.old.items) (map (λ v. v.items) arrivals.new.items)) }
     ensures meets { OnOk result ((costs : List Owned) → AreKnown known.old.items costs → HaveMoreMet costs (st_func_tree s.now) (map (λ v. v.items) meets.old.items) (map (λ v. v.items) meets.new.items)) }
 {
-    match weigh(alloc, known, s, 999_999_999)? {
+    match weigh(alloc, moves, known, s, 999_999_999)? {
         Weighed::Within(t) => {
             let FuncTiming {
                 costs,
@@ -204,14 +206,37 @@ pub fn arrivals_within(alloc: Global, p: &StProgram, limit: u32) -> Result<Timin
     ensures fine { OnOk result (too_large limit (st_func_trees p.now) ≡ None) }
     ensures large { (line load : ℕ) → result ≡ Err (DelayFault.Large line load) → IsOverAt (too_large limit (st_func_trees p.now)) line load }
 {
+    arrivals_reusing(alloc, p, limit, &mut KnownMoves::new(alloc))
+}
+
+/// The same, with what is known of moves. Those of the program are known then too: with these, the timing of a program at
+/// another slowdown takes less time.
+pub fn arrivals_reusing(
+    alloc: Global,
+    p: &StProgram,
+    limit: u32,
+    moves: &mut KnownMoves,
+) -> Result<Timing, DelayFault>
+    requires { limit ≤ 100000 }
+    ensures timing { IfOk result (λ t. AreTimes (st_func_trees p.now) t) }
+    ensures fine { OnOk result (too_large limit (st_func_trees p.now) ≡ None) }
+    ensures large { (line load : ℕ) → result ≡ Err (DelayFault.Large line load) → IsOverAt (too_large limit (st_func_trees p.now)) line load }
+{
     let last = p.count() - 1;
     let mut known = Vec::new(alloc);
     let mut arrivals = Vec::new(alloc);
     let mut meets = Vec::new(alloc);
     for k in 0..last {
-        weigh_next(alloc, instance(p, k), &mut known, &mut arrivals, &mut meets)?;
+        weigh_next(
+            alloc,
+            moves,
+            instance(p, k),
+            &mut known,
+            &mut arrivals,
+            &mut meets,
+        )?;
     }
-    match weigh(alloc, &known, instance(p, last), u64::from(limit))? {
+    match weigh(alloc, moves, &known, instance(p, last), u64::from(limit))? {
         Weighed::Within(t) => {
             let FuncTiming {
                 costs,

@@ -14,7 +14,8 @@ ghost use Rattle.ae_delay.specs.declared.weighing.FuncTiming.{FuncTiming as Func
 ghost use Rattle.ae_delay.specs.Costs.{NodeTiming as Timed, latest, node_costs, node_timing, node_timings};
 ghost use Rattle.ae_delay.specs.Weighing.{AllBelow, AreItems, AreKnown, HasProgress, HaveMet, IsAdvance, IsKnown, IsProgress, IsWeighed, chained};
 
-use crate::moves::{costs_of, costs_of_words};
+use crate::known::KnownMoves;
+use crate::moves::costs_of_words;
 use crate::own::{
     OwnCosts, body_costs, constant_costs, fold_costs, moved_costs, scan_costs, wire_costs,
     word_costs,
@@ -91,6 +92,7 @@ pub(crate) enum Weighed {
 // What a node costs by itself, where it is light.
 fn node_costs(
     alloc: Global,
+    moves: &mut KnownMoves,
     known: &[Option<OwnCosts>],
     s: &StFunc,
     node: &StNode,
@@ -108,7 +110,7 @@ fn node_costs(
             Ok(light(constant_costs(costs)))
         }
         StOp::Move(how) => {
-            let costs = costs_of(alloc, *how, layout(s, node.args[0] as usize), &node.ty)?;
+            let costs = moves.costs(alloc, *how, layout(s, node.args[0] as usize), &node.ty)?;
             Ok(light(moved_costs(costs)))
         }
         StOp::Fold {
@@ -117,7 +119,7 @@ fn node_costs(
             lanes,
             raw,
         } => {
-            let costs = costs_of(alloc, MoveOp::Same, raw, &node.ty)?;
+            let costs = moves.costs(alloc, MoveOp::Same, raw, &node.ty)?;
             Ok(light(fold_costs(*op, *slots, *lanes, raw, costs)))
         }
         StOp::Scan { op, slots, lanes } => { Ok(light(scan_costs(*op, *slots, *lanes, &node.ty))) }
@@ -128,6 +130,7 @@ fn node_costs(
 // One node more; the sum of loads, up to 1,000,000,000, where it passes the limit.
 fn add_node(
     alloc: Global,
+    moves: &mut KnownMoves,
     known: &[Option<OwnCosts>],
     s: &StFunc,
     node: &StNode,
@@ -143,7 +146,7 @@ fn add_node(
     ensures meets { IfOk result (λ over. over ≡ None → progress.new.meets.items ≡ progress.old.meets.items ++ latest progress.old.arrivals.items node.now.args.items ∷ []) }
     ensures advance { IfOk result (λ over. (costs : List Owned) → AreKnown known.now costs → IsAdvance (item_layouts (st_func_tree s.now)) (node_timing costs (item_layouts (st_func_tree s.now)) progress.old.arrivals.items (st_node_tree node.now)) limit progress.old progress.new over) }
 {
-    let own = match node_costs(alloc, known, s, node)? {
+    let own = match node_costs(alloc, moves, known, s, node)? {
         None => return Ok(Some(1_000_000_000)),
         Some(own) => own,
     };
@@ -240,9 +243,10 @@ fn start(alloc: Global, s: &StFunc) -> Result<Progress, AllocError>
     })
 }
 
-/// The costs of an instance by those before it, where the sum of its loads is within the limit.
+/// The costs of an instance by those before it and by the moves that are known, where the sum of its loads is within the limit.
 pub(crate) fn weigh(
     alloc: Global,
+    moves: &mut KnownMoves,
     known: &[Option<OwnCosts>],
     s: &StFunc,
     limit: u64,
@@ -255,7 +259,7 @@ pub(crate) fn weigh(
 {
     let mut progress = start(alloc, s)?;
     for node in &s.nodes {
-        match add_node(alloc, known, s, node, &mut progress, limit)? {
+        match add_node(alloc, moves, known, s, node, &mut progress, limit)? {
             None => {}
             Some(load) => {
                 return Ok(Weighed::Over {

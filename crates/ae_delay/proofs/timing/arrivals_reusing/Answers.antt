@@ -5,7 +5,7 @@ use Rattle.ae_delay.specs.Costs.{all_costs}
 use Rattle.ae_delay.specs.Timings.{item_arrivals, item_meets}
 use Rattle.ae_delay.specs.Weighing.{AreKnown}
 use Rattle.ae_delay.proofs.Programs.{end_fine, end_large, end_times, known_next, sound_at, told_next}
-use Rattle.ae_delay.proofs.timing.arrivals_within.Goals as goal
+use Rattle.ae_delay.proofs.timing.arrivals_reusing.Goals as goal
 
 pub weigh_next-requires-clause-sound : goal.weigh_next-requires-clause-sound
 weigh_next-requires-clause-sound c = sound_at c.args.p.now c.loop-k.k c.instance.result.now c.loop-k.known.items c.count-last.ensures.sound c.instance.ensures c.loop-k.invariant.known

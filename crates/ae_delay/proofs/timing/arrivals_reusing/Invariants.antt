@@ -4,7 +4,7 @@ use Rattle.ae_delay.specs.Costs.{all_costs}
 use Rattle.ae_delay.specs.Arriving.{AreFirst, AreToldFirst}
 use Rattle.ae_delay.specs.Timings.{item_meets}
 use Rattle.ae_delay.specs.Weighing.{AreKnown}
-use Rattle.ae_delay.proofs.timing.arrivals_within.Given as goal
+use Rattle.ae_delay.proofs.timing.arrivals_reusing.Given as goal
 
 abbrev pub invariant-loop-k : goal.invariant-loop-k
 invariant-loop-k l = record {
