@@ -57,6 +57,7 @@ is_stream_text p slowdown instances n between report notes name listing text d s
       stream = stream;
       streams = stream.streams p fed (subst (λ k. MakesBlocks n p k report.latency report.ins report.outs) (sym clocks) (subst (λ k. MakesBlocks n p slowdown k report.ins report.outs) (sym late) d.circuit.makes));
       stays = stream.stays;
+      goes_on = stream.goes_on;
       listing = listing;
       is_listing = listed;
       named = named;

@@ -13,6 +13,9 @@ pub mod Flags
 pub mod Passes
 pub mod Driving
 pub mod Wiring
+pub mod Stepping
+pub mod Rate
+pub mod Progress
 pub mod Cutting
 pub mod Insides
 pub mod Marking

@@ -1,4 +1,5 @@
--- Where a clock stands among the transfers, what passes through a circuit between channels, and what stays there.
+-- Where a clock stands among the transfers, what passes through a circuit between channels, what stays there, and
+-- that it goes on.
 use Rattle.std.specs.Prelude.{◌≡◌, ℕ, ◌+◌, ◌*◌, ◌<◌, ◌≤◌, Bool, true, List, length, filter, get_or}
 use Rattle.ae_seq.specs.ProgramTree.{ProgramTree}
 use Rattle.ae_sttype.specs.StTree.{StTree}
@@ -14,6 +15,7 @@ use Rattle.ae_stream.specs.Driven.{IsDriven, Row}
 use Rattle.ae_stream.specs.Fed.{CanBeFed}
 use Rattle.ae_stream.specs.Gates.{Gates}
 use Rattle.ae_stream.specs.Inside.{IsHeldInside}
+use Rattle.ae_stream.specs.Progress.{GoesOn}
 use Rattle.ae_stream.specs.Wired.{AreQueued, IsMarked, IsWired}
 
 abbrev pub BlocksAreTaken : Type 0
@@ -51,6 +53,13 @@ DrivenCircuitsKeepWords =
     (x : Control) (g : Gates) (row : Row) (ends : Ends) (run : List Clock) (start slowdown q r : ℕ) (inputs outputs : List StTree)
     → IsDriven x g row ends run start slowdown q r inputs outputs → ends.sink.valid ≡ x.one
     → Stays ends ends.columns run start
+
+abbrev pub DrivenCircuitsGoOn : Type 0
+DrivenCircuitsGoOn =
+    (x : Control) (g : Gates) (row : Row) (ends : Ends) (run : List Clock) (start slowdown q r : ℕ) (inputs outputs : List StTree)
+    → 0 < slowdown → r < slowdown
+    → IsDriven x g row ends run start slowdown q r inputs outputs → ends.sink.valid ≡ x.one
+    → GoesOn ends run start slowdown (q * slowdown + r) inputs outputs
 
 abbrev pub WiredControlsAreDriven : Type 0
 WiredControlsAreDriven =

@@ -7,4 +7,5 @@ pub mod Gates
 pub mod Driven
 pub mod Wired
 pub mod Fed
+pub mod Progress
 pub mod Laws

@@ -1,6 +1,6 @@
 // What passes through a circuit between two channels.
 
-ghost use Rattle.ae_stream.specs.Laws.{BlocksAreTaken, ControlledCircuitsStream, DrivenCircuitsKeepWords, DrivenCircuitsStream, HeldCircuitsAreInside, HeldMarksAreSeen, WiredControlsAreDriven};
+ghost use Rattle.ae_stream.specs.Laws.{BlocksAreTaken, ControlledCircuitsStream, DrivenCircuitsGoOn, DrivenCircuitsKeepWords, DrivenCircuitsStream, HeldCircuitsAreInside, HeldMarksAreSeen, WiredControlsAreDriven};
 
 /// A law: of a list of clocks in which blocks follow one another, the clocks that carry words stand in the list of
 /// transfers at the number of their block among the real ones, and of their clock among the live ones.
@@ -23,6 +23,12 @@ pub fn driven_circuits_stream()
 /// A law: words that stand at the sink of such a control and are not taken stand there in the next clock, the same.
 pub fn driven_circuits_keep_words()
     ensures { DrivenCircuitsKeepWords }
+{}
+
+/// A law: such a control goes on. It asks the source at least once in as many clocks in a row as a block has, and one more, in
+/// which the sink takes; and as long as both ends go in each clock, so does the circuit.
+pub fn driven_circuits_go_on()
+    ensures { DrivenCircuitsGoOn }
 {}
 
 /// A law: where a copy of a netlist is held by the net that says that the circuit steps, and the circuit is the first cells of

@@ -4,7 +4,7 @@
 mod laws;
 
 pub use laws::{
-    blocks_are_taken, controlled_circuits_stream, driven_circuits_keep_words,
-    driven_circuits_stream, held_circuits_are_inside, held_marks_are_seen,
-    wired_controls_are_driven,
+    blocks_are_taken, controlled_circuits_stream, driven_circuits_go_on,
+    driven_circuits_keep_words, driven_circuits_stream, held_circuits_are_inside,
+    held_marks_are_seen, wired_controls_are_driven,
 };

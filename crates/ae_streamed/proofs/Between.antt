@@ -22,7 +22,8 @@ use Rattle.ae_stream.specs.Streams.{Ends, Stays, Streams, bit, is_beat, is_trans
 use Rattle.ae_stream.specs.Control.{AreWithin, Control, IsInside, steps, word_in}
 use Rattle.ae_stream.specs.Driven.{IsDriven, late_clock}
 use Rattle.ae_stream.specs.Fed.{CanBeFed}
-use Rattle.ae_stream.specs.Laws.{DrivenCircuitsKeepWords, DrivenCircuitsStream, HeldCircuitsAreInside, HeldMarksAreSeen, WiredControlsAreDriven}
+use Rattle.ae_stream.specs.Laws.{DrivenCircuitsGoOn, DrivenCircuitsKeepWords, DrivenCircuitsStream, HeldCircuitsAreInside, HeldMarksAreSeen, WiredControlsAreDriven}
+use Rattle.ae_stream.specs.Progress.{GoesOn}
 use Rattle.ae_stream.specs.Wired.{AreQueued, FromEach, IsMarked, IsWired}
 use Rattle.ae_streamed.specs.declared.marking.Marks.{Marks}
 use Rattle.ae_streamed.specs.Beats.{HasMarks, IsBitOf}
@@ -65,7 +66,7 @@ module _ (n marked new : Circuit) (m : Marks) (slowdown latency : ℕ) (inputs o
     (marks : HasMarks marked.cells m slowdown (latency % slowdown) inputs outputs) (wrapped : IsWrapped marked new m (latency / slowdown))
     (ins : AreWithin inputs slowdown (sum_by columns_of inputs)) (outs : AreWithin outputs slowdown (sum_by columns_of outputs))
     (fits : sum_by columns_of inputs < length n.cells) (shows : length n.outlets ≡ sum_by columns_of outputs) (any : 0 < sum_by columns_of outputs)
-    (lies_inside : HeldCircuitsAreInside) (are_seen : HeldMarksAreSeen) (are_driven : WiredControlsAreDriven) (they_stream : DrivenCircuitsStream) (they_keep : DrivenCircuitsKeepWords) where
+    (lies_inside : HeldCircuitsAreInside) (are_seen : HeldMarksAreSeen) (are_driven : WiredControlsAreDriven) (they_stream : DrivenCircuitsStream) (they_keep : DrivenCircuitsKeepWords) (they_go_on : DrivenCircuitsGoOn) where
   abbrev columns : ℕ
   columns = length n.outlets
 
@@ -157,6 +158,10 @@ module _ (n marked new : Circuit) (m : Marks) (slowdown latency : ℕ) (inputs o
     stays_own : Stays own columns run start
     stays_own = they_keep x wrapped.control.gates wrapped.control.row own run start slowdown (latency / slowdown) (latency % slowdown) inputs outputs driven refl
 
+    goes_on_own : GoesOn own run start slowdown latency inputs outputs
+    goes_on_own = subst (λ k. GoesOn own run start slowdown k inputs outputs) (div-add-mod' latency slowdown)
+        (they_go_on x wrapped.control.gates wrapped.control.row own run start slowdown (latency / slowdown) (latency % slowdown) inputs outputs some (mod_below latency slowdown some) driven refl)
+
   pub is_stream : IsStream n new slowdown latency inputs outputs
   is_stream = record {
     valid = wrapped.valid;
@@ -164,6 +169,7 @@ module _ (n marked new : Circuit) (m : Marks) (slowdown latency : ℕ) (inputs o
     ports = wrapped.shown.ports ∙ ap (λ o. source_ready ∷ sink_valid ∷ ports_of o) grows.outlets;
     streams = λ p fed makes run start r reset. subst (λ e. Streams e run start p slowdown inputs outputs) own_is (streams_own run start r reset p fed makes);
     stays = λ run start r reset. subst (λ e. Stays e columns run start) own_is (stays_own run start r reset);
+    goes_on = λ run start r reset. subst (λ e. GoesOn e run start slowdown latency inputs outputs) own_is (goes_on_own run start r reset);
   }
 
 -- a circuit and the same with another limit
@@ -174,6 +180,7 @@ same_stream n new slowdown latency limit inputs outputs h = record {
   ports = h.ports;
   streams = λ p fed m. h.streams p fed (record { makes = m.makes });
   stays = h.stays;
+  goes_on = h.goes_on;
 }
 
 -- no more blocks than the latency has, and one

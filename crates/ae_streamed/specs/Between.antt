@@ -15,6 +15,7 @@ use Rattle.ae_stall.specs.Held.{IsHeld}
 use Rattle.ae_stall.specs.Images.{bit_input, placed_net}
 use Rattle.ae_stream.specs.Streams.{Ends, Stays, Streams}
 use Rattle.ae_stream.specs.Fed.{CanBeFed}
+use Rattle.ae_stream.specs.Progress.{GoesOn}
 use Rattle.ae_streamed.specs.declared.driver.Controlled.{Controlled}
 use Rattle.ae_streamed.specs.declared.driver.Wires.{Wires}
 use Rattle.ae_streamed.specs.declared.marking.Marks.{Marks}
@@ -124,7 +125,7 @@ abbrev pub InResetRuns : List SizedCell → (List Clock → (start : ℕ) → Ty
 InResetRuns cells P = (run : List Clock) (start : ℕ) → IsRun cells run → IsReset run 0 start → P run start
 
 -- the circuit stands between two channels: of each program whose blocks it makes, the sink gets the results of what the
--- source gave, at whatever pace both go, and words that stand at the sink stay until they are taken
+-- source gave, at whatever pace both go, words that stand at the sink stay until they are taken, and it goes on
 pub record IsStream (old new : Circuit) (slowdown latency : ℕ) (inputs outputs : List StTree) : Type 0 where
   pub valid : slice_get new.cells 1 ≡ Some (bit_input source_valid)
   pub ready : slice_get new.cells 2 ≡ Some (bit_input sink_ready)
@@ -134,3 +135,5 @@ pub record IsStream (old new : Circuit) (slowdown latency : ℕ) (inputs outputs
       Streams (ends_for inputs (length old.outlets) new) run start p slowdown inputs outputs)
   pub stays : InResetRuns new.cells (λ run start.
       Stays (ends_for inputs (length old.outlets) new) (length old.outlets) run start)
+  pub goes_on : InResetRuns new.cells (λ run start.
+      GoesOn (ends_for inputs (length old.outlets) new) run start slowdown latency inputs outputs)

@@ -13,8 +13,8 @@ use crate::room::with_limit;
 use crate::wrapping::wrap;
 use ae_netlist::{NetFault, Netlist, has_one_run};
 use ae_stream::{
-    driven_circuits_keep_words, driven_circuits_stream, held_circuits_are_inside,
-    held_marks_are_seen, wired_controls_are_driven,
+    driven_circuits_go_on, driven_circuits_keep_words, driven_circuits_stream,
+    held_circuits_are_inside, held_marks_are_seen, wired_controls_are_driven,
 };
 use ae_sttype::StType;
 use std::alloc::Global;
@@ -89,6 +89,7 @@ pub fn stream(
     wired_controls_are_driven();
     driven_circuits_stream();
     driven_circuits_keep_words();
+    driven_circuits_go_on();
     let mut marked = with_limit(alloc, nl, MARKED_LIMIT)?;
     let m = add_marks(alloc, &mut marked, inputs, outputs, slowdown, latency)?;
     marked.formed();

@@ -42,4 +42,4 @@ returns c =
     (is_stream roomy c.add_marks.new.nl c.in_ok-new.new c.in_ok-m.m c.args.slowdown c.args.latency (map st_tree c.args.inputs.now) (map st_tree c.args.outputs.now)
     c.requires.some c.formed.ensures.cells c.formed.ensures.outlets c.has_one_run.ensures (rw c.in_ok-marked.ensures at c.in_ok-m.ensures.grows) c.formed-2.ensures.cells c.in_ok-m.ensures.marks c.in_ok-new.ensures
     (within c.args.inputs.now c.args.slowdown c.requires.inputs) (within c.args.outputs.now c.args.slowdown c.requires.outputs) c.requires.ins c.requires.outs (some_columns c.args.outputs.now c.args.slowdown c.requires.outputs)
-    c.held_circuits_are_inside.ensures c.held_marks_are_seen.ensures c.wired_controls_are_driven.ensures c.driven_circuits_stream.ensures c.driven_circuits_keep_words.ensures)
+    c.held_circuits_are_inside.ensures c.held_marks_are_seen.ensures c.wired_controls_are_driven.ensures c.driven_circuits_stream.ensures c.driven_circuits_keep_words.ensures c.driven_circuits_go_on.ensures)
