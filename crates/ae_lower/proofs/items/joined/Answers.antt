@@ -1,6 +1,6 @@
 -- One bundle more, and the growth so far.
 use Rattle.std.proofs.Common.{◌≡◌, length, take, arith}
-use Rattle.std.proofs.lemmas.List.{length-take-le, take_more}
+use Rattle.std.proofs.lemmas.List.{length-take-le, take_all, take_more}
 use Rattle.ae_clocked.proofs.Adding.{grows_refl}
 use Rattle.ae_ops.proofs.Lateness.{keeps_trans}
 use Rattle.ae_lower.proofs.Growing.{by_trans, keeps_none, spends_none, spends_trans, spends_up}
@@ -26,6 +26,43 @@ returns-in_err-keep_bundle-clause-grows c =
     by_trans _ (delay_most c.args.items.now c.args.waits.now c.args.chosen.now c.loop-r.r c.index-items-k.result
     (item_at c.args.items.now c.args.chosen.now c.loop-r.r c.index-items-k.result c.requires.below c.loop-r-test.true c.index-items-k.is) c.requires.long c.loop-r-test.true)
     c.loop-r.invariant.grows c.in_ok-bundle.ensures.grows
+
+pub returns-in_err-bundle-clause-keeps : goal.returns-in_err-bundle-clause-keeps
+returns-in_err-bundle-clause-keeps c = keeps_trans c.loop-r.invariant.keeps c.in_err-bundle.ensures.keeps
+
+pub returns-in_err-keep_bundle-clause-keeps : goal.returns-in_err-keep_bundle-clause-keeps
+returns-in_err-keep_bundle-clause-keeps c = keeps_trans c.loop-r.invariant.keeps c.in_ok-bundle.ensures.keeps
+
+pub returns-clause-grows : goal.returns-clause-grows
+returns-clause-grows c =
+    let all : take c.loop-r.r c.args.chosen.now ≡ c.args.chosen.now = take_all c.loop-r.r c.args.chosen.now c.loop-r-test.false in
+    rw all at c.loop-r.invariant.grows
+
+pub returns-clause-delayed : goal.returns-clause-delayed
+returns-clause-delayed c =
+    let all : take c.loop-r.r c.args.chosen.now ≡ c.args.chosen.now = take_all c.loop-r.r c.args.chosen.now c.loop-r-test.false in
+    rw all at c.loop-r.invariant.delayed
+
+pub returns-in_err-bundle-clause-belongs : goal.returns-in_err-bundle-clause-belongs
+returns-in_err-bundle-clause-belongs c = c.in_err-bundle.ensures.belongs
+
+pub returns-in_err-keep_bundle-clause-belongs : goal.returns-in_err-keep_bundle-clause-belongs
+returns-in_err-keep_bundle-clause-belongs c = c.in_ok-bundle.ensures.belongs
+
+pub returns-clause-belongs : goal.returns-clause-belongs
+returns-clause-belongs c = c.loop-r.invariant.belongs
+
+pub returns-clause-keeps : goal.returns-clause-keeps
+returns-clause-keeps c = c.loop-r.invariant.keeps
+
+pub returns-clause-rings : goal.returns-clause-rings
+returns-clause-rings c = c.loop-r.invariant.rings
+
+pub returns-clause-spends : goal.returns-clause-spends
+returns-clause-spends c = c.loop-r.invariant.spends
+
+pub waited-requires-clause-belongs : goal.waited-requires-clause-belongs
+waited-requires-clause-belongs c = c.loop-r.invariant.belongs
 
 pub loop-r-init : goal.loop-r-init
 loop-r-init c = record {

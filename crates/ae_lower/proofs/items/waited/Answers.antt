@@ -35,6 +35,24 @@ pub returns-in_err-keep_net-clause-grows : goal.returns-in_err-keep_net-clause-g
 returns-in_err-keep_net-clause-grows c =
     within c.args.slack (c.loop-net.net-index + 1) (length c.args.bundle.now) (omega (arith, c.loop-net-test.true, ap length c.nets-nets.ensures)) (next_tap c.args.slack c.loop-net.net-index c.loop-net.invariant.adds c.in_ok-tap.ensures.adds)
 
+pub tap-requires-clause-belongs : goal.tap-requires-clause-belongs
+tap-requires-clause-belongs c = c.loop-net.invariant.belongs
+
+pub returns-in_err-tap-clause-belongs : goal.returns-in_err-tap-clause-belongs
+returns-in_err-tap-clause-belongs c = c.in_err-tap.ensures.belongs
+
+pub returns-in_err-keep_net-clause-belongs : goal.returns-in_err-keep_net-clause-belongs
+returns-in_err-keep_net-clause-belongs c = c.in_ok-tap.ensures.belongs
+
+pub returns-clause-belongs : goal.returns-clause-belongs
+returns-clause-belongs c = c.loop-net.invariant.belongs
+
+pub returns-clause-keeps : goal.returns-clause-keeps
+returns-clause-keeps c = c.loop-net.invariant.keeps
+
+pub returns-clause-rings : goal.returns-clause-rings
+returns-clause-rings c = c.loop-net.invariant.rings
+
 pub loop-net-init : goal.loop-net-init
 loop-net-init c = record {
   belongs = c.requires.belongs;

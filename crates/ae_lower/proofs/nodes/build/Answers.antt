@@ -1,17 +1,33 @@
-use Rattle.std.proofs.Common.{◌≡◌, true, false, ◌∙◌, ◌<◌, length, slice_index, ap, sym}
+use Rattle.std.proofs.Common.{ℕ, ◌≡◌, ◌≢◌, true, false, ◌∙◌, ◌<◌, length, slice_index, Result, Ok, Err, arith, ap, sym}
 use Rattle.std.proofs.lemmas.List.{get_or_read}
+use Rattle.ae_netlist.specs.declared.netlist.NetFault.{NetFault}
+use Rattle.ae_netlist.specs.declared.netlist.NetFault.TheVariants.{Full}
+use Rattle.ae_netlist.specs.Circuit.{Circuit}
+use Rattle.ae_clocked.specs.Signals.{IsFullAt}
+use Rattle.ae_clocked.proofs.Adding.{grows_refl}
+use Rattle.ae_clocked.proofs.Belonging.{keeps_same}
 use Rattle.ae_sttype.specs.StTree.{StTree, st_tree}
 use Rattle.ae_gather.specs.Gathers.{gather_part, move_of}
 use Rattle.ae_reduce.specs.Reduces.{reduce_part}
 use Rattle.ae_rewrite.specs.StProgramTree.{st_func_tree, st_node_tree, st_op_tree}
 use Rattle.ae_rewrite.specs.Sound.{item_layout, item_layouts}
 use Rattle.ae_delay.specs.Moving.{constant_move, op_move}
+use Rattle.ae_lower.specs.Growth.{GrowsBy}
 use Rattle.ae_lower.specs.Parts.{part_behind}
 use Rattle.ae_lower.proofs.Placing.{if_made, node_adds, node_built, node_bundles, node_grows}
 use Rattle.ae_lower.proofs.Folded.{fold_typed}
 use Rattle.ae_lower.proofs.Ready.{argument_at, fixed_node, fold_follows, fold_node, fold_shape, fold_short, move_node, only_low, ready_below, ready_item, ready_move, ready_some, scan_node}
 use Rattle.ae_lower.proofs.WireNodes.{join_built, part_built}
 use Rattle.ae_lower.proofs.nodes.build.Goals as goal
+
+-- ---- where no cell is added
+
+none_added : (a : Circuit) (load : ℕ) → GrowsBy a a load
+none_added a load = record { grows = grows_refl a; cells = omega arith }
+
+not_full : {X : Type 0} (r : Result X NetFault) (a : Circuit) → r ≢ Err Full → IsFullAt r a
+not_full (Ok x) a h = tt
+not_full (Err e) a h = λ is. absurd (h (ap Err is))
 
 -- ---- constants
 
@@ -123,3 +139,30 @@ returns-in-Second-clause-built c =
     if_made c.part_of-in-Second.result _ _
     (λ y are known. part_built known (st_func_tree c.args.s.now) (st_node_tree c.args.node.now) c.args.nl.now c.args.clocks.now.rst c.args.at c.args.args.now false y c.requires.ready (ap st_op_tree c.in-Second.is) are)
     c.part_of-in-Second.ensures.parts
+
+pub returns-in-Join-clause-keeps : goal.returns-in-Join-clause-keeps
+returns-in-Join-clause-keeps c = keeps_same _
+
+pub returns-in-Join-clause-grows : goal.returns-in-Join-clause-grows
+returns-in-Join-clause-grows c = none_added _ _
+
+pub returns-in-Join-clause-full : goal.returns-in-Join-clause-full
+returns-in-Join-clause-full c = not_full c.pairs_of.result c.args.nl.now c.pairs_of.ensures.fault
+
+pub returns-in-First-clause-keeps : goal.returns-in-First-clause-keeps
+returns-in-First-clause-keeps c = keeps_same _
+
+pub returns-in-First-clause-grows : goal.returns-in-First-clause-grows
+returns-in-First-clause-grows c = none_added _ _
+
+pub returns-in-First-clause-full : goal.returns-in-First-clause-full
+returns-in-First-clause-full c = not_full c.part_of.result c.args.nl.now c.part_of.ensures.fault
+
+pub returns-in-Second-clause-keeps : goal.returns-in-Second-clause-keeps
+returns-in-Second-clause-keeps c = keeps_same _
+
+pub returns-in-Second-clause-grows : goal.returns-in-Second-clause-grows
+returns-in-Second-clause-grows c = none_added _ _
+
+pub returns-in-Second-clause-full : goal.returns-in-Second-clause-full
+returns-in-Second-clause-full c = not_full c.part_of-in-Second.result c.args.nl.now c.part_of-in-Second.ensures.fault
