@@ -9,6 +9,42 @@ use Rattle.ae_gather.proofs.Earliness.{all_false, all_true, two_flags}
 use Rattle.ae_gather.proofs.Scheduled.{has_either, has_later, has_sooner}
 use Rattle.ae_gather.proofs.counters.counters.Goals as goal
 
+pub returns-in_err-only-clause-belongs : goal.returns-in_err-only-clause-belongs
+returns-in_err-only-clause-belongs c = c.in_err-only.ensures.belongs
+
+pub returns-in_err-only-clause-keeps : goal.returns-in_err-only-clause-keeps
+returns-in_err-only-clause-keeps c = c.in_err-only.ensures.keeps
+
+pub returns-then-not-has-clause-belongs : goal.returns-then-not-has-clause-belongs
+returns-then-not-has-clause-belongs c = c.in_ok-only.ensures.belongs
+
+pub returns-then-not-has-clause-keeps : goal.returns-then-not-has-clause-keeps
+returns-then-not-has-clause-keeps c = c.in_ok-only.ensures.keeps
+
+pub returns-in_err-only-2-clause-belongs : goal.returns-in_err-only-2-clause-belongs
+returns-in_err-only-2-clause-belongs c = c.in_err-only-2.ensures.belongs
+
+pub returns-in_err-only-2-clause-keeps : goal.returns-in_err-only-2-clause-keeps
+returns-in_err-only-2-clause-keeps c = c.in_err-only-2.ensures.keeps
+
+pub returns-then-not-has-2-clause-belongs : goal.returns-then-not-has-2-clause-belongs
+returns-then-not-has-2-clause-belongs c = c.in_ok-only-2.ensures.belongs
+
+pub returns-then-not-has-2-clause-keeps : goal.returns-then-not-has-2-clause-keeps
+returns-then-not-has-2-clause-keeps c = c.in_ok-only-2.ensures.keeps
+
+pub returns-in_err-later-clause-belongs : goal.returns-in_err-later-clause-belongs
+returns-in_err-later-clause-belongs c = c.in_err-later.ensures.belongs
+
+pub returns-in_err-later-clause-keeps : goal.returns-in_err-later-clause-keeps
+returns-in_err-later-clause-keeps c = c.in_err-later.ensures.keeps
+
+pub returns-in_err-sooner-clause-belongs : goal.returns-in_err-sooner-clause-belongs
+returns-in_err-sooner-clause-belongs c = c.in_err-sooner.ensures.belongs
+
+pub returns-clause-belongs : goal.returns-clause-belongs
+returns-clause-belongs c = c.in_ok-sooner.ensures.belongs
+
 pub returns-then-not-has-clause-counters : goal.returns-then-not-has-clause-counters
 returns-then-not-has-clause-counters c = λ q l.
     let off : c.has.result ≡ false = search rules in

@@ -12,6 +12,21 @@ use Rattle.ae_gather.proofs.Keeping.{kept_begin, kept_more, kept_whole}
 use Rattle.ae_gather.proofs.Memories.{sums_part}
 use Rattle.ae_gather.proofs.held.all_nets.Goals as goal
 
+pub kept_net-requires-clause-belongs : goal.kept_net-requires-clause-belongs
+kept_net-requires-clause-belongs c = c.loop-q.invariant.belongs
+
+pub returns-in_err-net-clause-belongs : goal.returns-in_err-net-clause-belongs
+returns-in_err-net-clause-belongs c = c.in_err-net.ensures.belongs
+
+pub returns-in_err-keep_net-clause-belongs : goal.returns-in_err-keep_net-clause-belongs
+returns-in_err-keep_net-clause-belongs c = c.in_ok-net.ensures.belongs
+
+pub returns-clause-belongs : goal.returns-clause-belongs
+returns-clause-belongs c = c.loop-q.invariant.belongs
+
+pub returns-clause-keeps : goal.returns-clause-keeps
+returns-clause-keeps c = c.loop-q.invariant.keeps
+
 pub loop-q-init : goal.loop-q-init
 loop-q-init c = record { belongs = c.requires.belongs; keeps = keeps_same _; adds = adds_none _; kept = kept_begin _ _ _ _ _ _ _ _ (c.in_ok-add_all.ensures.ok ∙ ap (λ (xs : List NetId). xs ++ c.args.ins.now) c.new-all.ensures.items) }
 

@@ -1,5 +1,5 @@
 -- One line more.
-use Rattle.std.proofs.Common.{ℕ, ◌≡◌, ◌+◌, ◌≤◌, length, slice_get, Some, refl, arith, rules}
+use Rattle.std.proofs.Common.{ℕ, ◌≡◌, ◌∙◌, ◌+◌, ◌≤◌, length, slice_get, Some, refl, arith, rules}
 use Rattle.std.proofs.lemmas.Option.{slice_get_read}
 use Rattle.ae_netlist.specs.Circuit.{width_of}
 use Rattle.ae_netlist.proofs.Growing.{net_later}
@@ -13,6 +13,36 @@ use Rattle.ae_moves.proofs.Lists.{sum_next, sum_part}
 use Rattle.ae_gather.specs.Plans.{line_mems}
 use Rattle.ae_gather.proofs.Building.{lines_begin, lines_more, lines_whole}
 use Rattle.ae_gather.proofs.moving.all_lines.Goals as goal
+
+pub ring_line-requires-clause-belongs : goal.ring_line-requires-clause-belongs
+ring_line-requires-clause-belongs c = c.loop-q.invariant.belongs
+
+pub returns-in_err-tapped-clause-belongs : goal.returns-in_err-tapped-clause-belongs
+returns-in_err-tapped-clause-belongs c = c.in_err-tapped.ensures.belongs
+
+pub returns-in_err-tapped-clause-muls : goal.returns-in_err-tapped-clause-muls
+returns-in_err-tapped-clause-muls c = c.in_err-tapped.ensures.muls ∙ c.loop-q.invariant.muls
+
+pub returns-in_err-keep_line-clause-belongs : goal.returns-in_err-keep_line-clause-belongs
+returns-in_err-keep_line-clause-belongs c = c.in_ok-tapped.ensures.belongs
+
+pub returns-in_err-keep_line-clause-muls : goal.returns-in_err-keep_line-clause-muls
+returns-in_err-keep_line-clause-muls c = c.in_ok-tapped.ensures.muls ∙ c.loop-q.invariant.muls
+
+pub returns-clause-belongs : goal.returns-clause-belongs
+returns-clause-belongs c = c.loop-q.invariant.belongs
+
+pub returns-clause-keeps : goal.returns-clause-keeps
+returns-clause-keeps c = c.loop-q.invariant.keeps
+
+pub returns-clause-grows : goal.returns-clause-grows
+returns-clause-grows c = c.loop-q.invariant.grows
+
+pub returns-clause-muls : goal.returns-clause-muls
+returns-clause-muls c = c.loop-q.invariant.muls
+
+pub returns-clause-whole : goal.returns-clause-whole
+returns-clause-whole c = c.loop-q.invariant.whole
 
 pub loop-q-init : goal.loop-q-init
 loop-q-init c =

@@ -1,5 +1,5 @@
 -- The registers that hold words, and what is built on them, are within the bound of the trips.
-use Rattle.std.proofs.Common.{◌≡◌, ◌+◌, ◌*◌, length, map, arith, ap, ◌∙◌}
+use Rattle.std.proofs.Common.{ℕ, ◌≡◌, ◌<◌, ◌≤◌, ◌+◌, ◌*◌, length, map, min, arith, ap, ◌∙◌}
 use Rattle.std.proofs.lemmas.List.{length-map}
 use Rattle.ae_clocked.specs.Signals.{Adds}
 use Rattle.ae_clocked.proofs.Adding.{grows_trans}
@@ -15,8 +15,11 @@ use Rattle.ae_gather.proofs.Memories.{trees_within}
 use Rattle.ae_gather.proofs.Settled.{delay_all, fitting_settled, kept_few, kept_grows, kept_nets, mems_all, order_settled, runs_settled, trips_settled, used_settled, within_settled}
 use Rattle.ae_gather.proofs.moving.gather.Goals as goal
 
+below_limit : (a b n : ℕ) → a < b → b ≤ n → a < n
+below_limit a b n h l = omega arith
+
 pub held_columns-requires-clause-within : goal.held_columns-requires-clause-within
-held_columns-requires-clause-within c = trees_within c.args.d _ (length c.args.widths.now) c.args.trips.now c.requires.few_outs (record { clock = λ n t f. omega (arith, c.requires.within.clock n t f, c.requires.limit); column = c.requires.within.column; reached = c.requires.within.reached; source = c.requires.within.source })
+held_columns-requires-clause-within c = trees_within c.args.d _ (length c.args.widths.now) c.args.trips.now c.requires.few_outs (record { clock = λ n t f. below_limit _ _ _ (c.requires.within.clock n t f) c.requires.limit; column = c.requires.within.column; reached = c.requires.within.reached; source = c.requires.within.source })
 
 pub all_nets-requires-clause-long : goal.all_nets-requires-clause-long
 all_nets-requires-clause-long c = rw c.deref.ensures.value c.in-Ok.ensures.long
@@ -25,14 +28,14 @@ pub all_settled-requires-clause-columns : goal.all_settled-requires-clause-colum
 all_settled-requires-clause-columns c = rw c.deref-2.ensures.value (λ n trip f. rw c.in-Ok.ensures.long (c.requires.within.source n trip f))
 
 pub all_settled-requires-clause-clocks : goal.all_settled-requires-clause-clocks
-all_settled-requires-clause-clocks c = λ n trip f. omega (arith, c.requires.within.clock n trip f, c.requires.limit)
+all_settled-requires-clause-clocks c = λ n trip f. below_limit _ _ _ (c.requires.within.clock n trip f) c.requires.limit
 
 pub scheduled-requires-clause-within : goal.scheduled-requires-clause-within
 scheduled-requires-clause-within c =
     let long : length c.in-Ok.held.items ≡ length c.args.ins.now = c.in-Ok.ensures.long in
     let within : AreWithin c.args.period c.args.d (length c.in-Ok.held.items) (length c.args.widths.now) c.args.trips.now = rw long c.requires.within in
     let moves : c.in-Ok-all_settled.settled.items ≡ map (settled c.args.d c.in-Ok.held.items) c.args.trips.now = rw c.deref-2.ensures.value at c.in-Ok-all_settled.ensures in
-    let low : AreWithin 4096 c.args.d (length c.in-Ok.held.items) (length c.args.widths.now) c.args.trips.now = record { clock = λ n t f. omega (arith, within.clock n t f, c.requires.limit); column = within.column; reached = within.reached; source = within.source } in
+    let low : AreWithin 4096 c.args.d (length c.in-Ok.held.items) (length c.args.widths.now) c.args.trips.now = record { clock = λ n t f. below_limit _ _ _ (within.clock n t f) c.requires.limit; column = within.column; reached = within.reached; source = within.source } in
     rw c.deref-3.ensures.value (rw long at (within_settled 4096 c.args.d (length c.args.widths.now) c.in-Ok.held.items c.args.trips.now c.in-Ok-all_settled.settled.items moves low))
 
 pub scheduled-requires-clause-order : goal.scheduled-requires-clause-order
@@ -101,13 +104,31 @@ build_best-requires-clause-lines c =
 pub build_best-requires-clause-taps : goal.build_best-requires-clause-taps
 build_best-requires-clause-taps c = rw (c.deref-5.ensures.value, ← c.deref-3.ensures.value) c.in-Ok-scheduled.ensures.few
 
+-- ---- room for what registers and the plan take
+
+kept_room : (a b d k delay runs : ℕ) → b ≤ a + 16 * k → k ≤ delay → b ≤ a + 16 * (d + delay + runs)
+kept_room a b d k delay runs h f = omega arith
+
+plan_room : (a b c d k delay runs i r m n l s t : ℕ) → n ≡ m → b ≤ a + 16 * k → c ≤ b + (m + l + s + t) → n + l + s + t ≤ 16 * (d + i + r) →
+    i + k ≤ delay → r ≤ runs → c ≤ a + 16 * (d + delay + runs)
+plan_room a b c d k delay runs i r m n l s t e f g h p q = omega arith
+
+no_more : (a b : ℕ) → b ≡ a + 0 → b ≡ a
+no_more a b h = omega arith
+
+same_memories : (a b l : ℕ) → b ≡ a → b ≤ a + l
+same_memories a b l h = omega arith
+
+plan_memories : (a b c l m : ℕ) → b ≡ a → c ≤ b + l → l ≤ m → c ≤ a + m
+plan_memories a b c l m e f g = omega arith
+
 pub returns-in_err-all-clause-cells : goal.returns-in_err-all-clause-cells
 returns-in_err-all-clause-cells c =
     let long : length c.in-Ok.held.items ≡ length c.args.ins.now = c.in-Ok.ensures.long in
     let held : AreHeld c.args.period c.args.d (length c.in-Ok.held.items) (map trip_tree c.args.trips.now) c.in-Ok.held.items = rw long c.in-Ok.ensures in
     let within : AreWithin c.args.period c.args.d (length c.in-Ok.held.items) (length c.args.widths.now) c.args.trips.now = rw long c.requires.within in
     let adds : Adds c.args.nl.now c.all_nets.new.nl (16 * kept_count c.in-Ok.held.items (length c.in-Ok.held.items)) 0 = rw c.deref.ensures.value at c.in_err-all.ensures.adds in
-    omega (arith, adds.cells, kept_few c.args.period c.args.d (length c.args.ins.now) c.in-Ok.held.items c.args.trips.now long within.source held)
+    kept_room _ _ _ _ _ _ adds.cells (kept_few c.args.period c.args.d (length c.args.ins.now) c.in-Ok.held.items c.args.trips.now long within.source held)
 
 pub returns-in-Err-all_settled-clause-cells : goal.returns-in-Err-all_settled-clause-cells
 returns-in-Err-all_settled-clause-cells c =
@@ -115,7 +136,7 @@ returns-in-Err-all_settled-clause-cells c =
     let held : AreHeld c.args.period c.args.d (length c.in-Ok.held.items) (map trip_tree c.args.trips.now) c.in-Ok.held.items = rw long c.in-Ok.ensures in
     let within : AreWithin c.args.period c.args.d (length c.in-Ok.held.items) (length c.args.widths.now) c.args.trips.now = rw long c.requires.within in
     let adds : Adds c.args.nl.now c.all_nets.new.nl (16 * kept_count c.in-Ok.held.items (length c.in-Ok.held.items)) 0 = rw c.deref.ensures.value at c.in_ok-all.ensures.adds in
-    omega (arith, adds.cells, kept_few c.args.period c.args.d (length c.args.ins.now) c.in-Ok.held.items c.args.trips.now long within.source held)
+    kept_room _ _ _ _ _ _ adds.cells (kept_few c.args.period c.args.d (length c.args.ins.now) c.in-Ok.held.items c.args.trips.now long within.source held)
 
 pub returns-in-Err-scheduled-clause-cells : goal.returns-in-Err-scheduled-clause-cells
 returns-in-Err-scheduled-clause-cells c =
@@ -123,7 +144,7 @@ returns-in-Err-scheduled-clause-cells c =
     let held : AreHeld c.args.period c.args.d (length c.in-Ok.held.items) (map trip_tree c.args.trips.now) c.in-Ok.held.items = rw long c.in-Ok.ensures in
     let within : AreWithin c.args.period c.args.d (length c.in-Ok.held.items) (length c.args.widths.now) c.args.trips.now = rw long c.requires.within in
     let adds : Adds c.args.nl.now c.all_nets.new.nl (16 * kept_count c.in-Ok.held.items (length c.in-Ok.held.items)) 0 = rw c.deref.ensures.value at c.in_ok-all.ensures.adds in
-    omega (arith, adds.cells, kept_few c.args.period c.args.d (length c.args.ins.now) c.in-Ok.held.items c.args.trips.now long within.source held)
+    kept_room _ _ _ _ _ _ adds.cells (kept_few c.args.period c.args.d (length c.args.ins.now) c.in-Ok.held.items c.args.trips.now long within.source held)
 
 pub returns-in_err-out-clause-cells : goal.returns-in_err-out-clause-cells
 returns-in_err-out-clause-cells c =
@@ -138,15 +159,10 @@ returns-in_err-out-clause-cells c =
     let runs = rw c.deref-3.ensures.value at p.runs in
     let moved = rw c.deref-3.ensures.value at p.moved in
     let begun = begun_of _ _ _ _ _ p.plan (used_hastened _ _ _ _ moved used) p.columns in
-    omega (
-      arith,
-      p.columns,
-      adds.cells,
-      c.in_err-out.ensures.cells,
-      gather_cells c.args.d _ _ c.in-Ok-scheduled.schedule.plan.lines.items c.in-Ok-scheduled.schedule.plan.columns.items delay p.taps runs (omega (arith, p.columns, c.requires.some)) begun,
-      delay_all c.args.period c.args.d (length c.args.ins.now) c.in-Ok.held.items c.args.trips.now c.in-Ok-all_settled.settled.items moves long within.source held,
-      runs_settled c.args.d (length c.args.widths.now) c.in-Ok.held.items c.args.trips.now c.in-Ok-all_settled.settled.items moves,
-    )
+    plan_room _ _ _ _ _ _ _ _ _ _ _ _ _ _ (ap (λ n. 12 * min 2 n) p.columns) adds.cells c.in_err-out.ensures.cells
+    (gather_cells c.args.d _ _ c.in-Ok-scheduled.schedule.plan.lines.items c.in-Ok-scheduled.schedule.plan.columns.items delay p.taps runs (rw p.columns c.requires.some) begun)
+    (delay_all c.args.period c.args.d (length c.args.ins.now) c.in-Ok.held.items c.args.trips.now c.in-Ok-all_settled.settled.items moves long within.source held)
+    (runs_settled c.args.d (length c.args.widths.now) c.in-Ok.held.items c.args.trips.now c.in-Ok-all_settled.settled.items moves)
 
 pub returns-clause-cells : goal.returns-clause-cells
 returns-clause-cells c =
@@ -161,15 +177,10 @@ returns-clause-cells c =
     let runs = rw c.deref-3.ensures.value at p.runs in
     let moved = rw c.deref-3.ensures.value at p.moved in
     let begun = begun_of _ _ _ _ _ p.plan (used_hastened _ _ _ _ moved used) p.columns in
-    omega (
-      arith,
-      p.columns,
-      adds.cells,
-      c.in_ok-out.ensures.cells,
-      gather_cells c.args.d _ _ c.in-Ok-scheduled.schedule.plan.lines.items c.in-Ok-scheduled.schedule.plan.columns.items delay p.taps runs (omega (arith, p.columns, c.requires.some)) begun,
-      delay_all c.args.period c.args.d (length c.args.ins.now) c.in-Ok.held.items c.args.trips.now c.in-Ok-all_settled.settled.items moves long within.source held,
-      runs_settled c.args.d (length c.args.widths.now) c.in-Ok.held.items c.args.trips.now c.in-Ok-all_settled.settled.items moves,
-    )
+    plan_room _ _ _ _ _ _ _ _ _ _ _ _ _ _ (ap (λ n. 12 * min 2 n) p.columns) adds.cells c.in_ok-out.ensures.cells
+    (gather_cells c.args.d _ _ c.in-Ok-scheduled.schedule.plan.lines.items c.in-Ok-scheduled.schedule.plan.columns.items delay p.taps runs (rw p.columns c.requires.some) begun)
+    (delay_all c.args.period c.args.d (length c.args.ins.now) c.in-Ok.held.items c.args.trips.now c.in-Ok-all_settled.settled.items moves long within.source held)
+    (runs_settled c.args.d (length c.args.widths.now) c.in-Ok.held.items c.args.trips.now c.in-Ok-all_settled.settled.items moves)
 
 pub returns-in_err-out-clause-memories : goal.returns-in_err-out-clause-memories
 returns-in_err-out-clause-memories c =
@@ -179,7 +190,8 @@ returns-in_err-out-clause-memories c =
     let moves : c.in-Ok-all_settled.settled.items ≡ map (settled c.args.d c.in-Ok.held.items) c.args.trips.now = rw c.deref-2.ensures.value at c.in-Ok-all_settled.ensures in
     let p = c.in-Ok-scheduled.ensures in
     let ages = rw c.deref-3.ensures.value at p.ages in
-    omega (arith, c.in_ok-all.ensures.adds.memories, c.in_err-out.ensures.memories, mems_all c.args.period c.args.d (length c.args.ins.now) c.in-Ok.held.items c.args.trips.now c.in-Ok-all_settled.settled.items c.in-Ok-scheduled.schedule.plan.lines.items moves long within.source held p.lines ages)
+    plan_memories _ _ _ _ _ c.in_ok-all.ensures.adds.memories c.in_err-out.ensures.memories
+    (mems_all c.args.period c.args.d (length c.args.ins.now) c.in-Ok.held.items c.args.trips.now c.in-Ok-all_settled.settled.items c.in-Ok-scheduled.schedule.plan.lines.items moves long within.source held p.lines ages)
 
 pub returns-clause-memories : goal.returns-clause-memories
 returns-clause-memories c =
@@ -189,7 +201,47 @@ returns-clause-memories c =
     let moves : c.in-Ok-all_settled.settled.items ≡ map (settled c.args.d c.in-Ok.held.items) c.args.trips.now = rw c.deref-2.ensures.value at c.in-Ok-all_settled.ensures in
     let p = c.in-Ok-scheduled.ensures in
     let ages = rw c.deref-3.ensures.value at p.ages in
-    omega (arith, c.in_ok-all.ensures.adds.memories, c.in_ok-out.ensures.memories, mems_all c.args.period c.args.d (length c.args.ins.now) c.in-Ok.held.items c.args.trips.now c.in-Ok-all_settled.settled.items c.in-Ok-scheduled.schedule.plan.lines.items moves long within.source held p.lines ages)
+    plan_memories _ _ _ _ _ c.in_ok-all.ensures.adds.memories c.in_ok-out.ensures.memories
+    (mems_all c.args.period c.args.d (length c.args.ins.now) c.in-Ok.held.items c.args.trips.now c.in-Ok-all_settled.settled.items c.in-Ok-scheduled.schedule.plan.lines.items moves long within.source held p.lines ages)
+
+pub returns-in_err-all-clause-muls : goal.returns-in_err-all-clause-muls
+returns-in_err-all-clause-muls c = no_more _ _ c.in_err-all.ensures.adds.muls
+
+pub returns-in_err-all-clause-memories : goal.returns-in_err-all-clause-memories
+returns-in_err-all-clause-memories c = same_memories _ _ _ c.in_err-all.ensures.adds.memories
+
+pub returns-in-Err-all_settled-clause-muls : goal.returns-in-Err-all_settled-clause-muls
+returns-in-Err-all_settled-clause-muls c = no_more _ _ c.in_ok-all.ensures.adds.muls
+
+pub returns-in-Err-all_settled-clause-memories : goal.returns-in-Err-all_settled-clause-memories
+returns-in-Err-all_settled-clause-memories c = same_memories _ _ _ c.in_ok-all.ensures.adds.memories
+
+pub returns-in-Err-scheduled-clause-muls : goal.returns-in-Err-scheduled-clause-muls
+returns-in-Err-scheduled-clause-muls c = no_more _ _ c.in_ok-all.ensures.adds.muls
+
+pub returns-in-Err-scheduled-clause-memories : goal.returns-in-Err-scheduled-clause-memories
+returns-in-Err-scheduled-clause-memories c = same_memories _ _ _ c.in_ok-all.ensures.adds.memories
+
+pub returns-in_err-out-clause-belongs : goal.returns-in_err-out-clause-belongs
+returns-in_err-out-clause-belongs c = c.in_err-out.ensures.belongs
+
+pub returns-in_err-out-clause-muls : goal.returns-in_err-out-clause-muls
+returns-in_err-out-clause-muls c = c.in_err-out.ensures.muls ∙ no_more _ _ c.in_ok-all.ensures.adds.muls
+
+pub returns-clause-belongs : goal.returns-clause-belongs
+returns-clause-belongs c = c.in_ok-out.ensures.belongs
+
+pub returns-clause-muls : goal.returns-clause-muls
+returns-clause-muls c = c.in_ok-out.ensures.muls ∙ no_more _ _ c.in_ok-all.ensures.adds.muls
+
+pub returns-clause-whole : goal.returns-clause-whole
+returns-clause-whole c = λ h. c.in_ok-out.ensures.whole (c.in_ok-all.ensures.adds.whole h)
+
+pub returns-clause-long : goal.returns-clause-long
+returns-clause-long c = c.in_ok-out.ensures.long
+
+pub returns-clause-nets : goal.returns-clause-nets
+returns-clause-nets c = c.in_ok-out.ensures.nets
 
 pub returns-in_err-out-clause-keeps : goal.returns-in_err-out-clause-keeps
 returns-in_err-out-clause-keeps c = keeps_trans c.in_ok-all.ensures.keeps c.in_err-out.ensures.keeps

@@ -1,5 +1,6 @@
 -- One ring more.
-use Rattle.std.proofs.Common.{ℕ, ◌≡◌, ◌+◌, Bool, false, cond, length, slice_get, Some, refl, arith}
+use Rattle.std.proofs.Common.{ℕ, ◌≡◌, ◌≤◌, ◌+◌, Bool, false, cond, length, take, slice_get, Some, refl, arith}
+use Rattle.std.proofs.lemmas.List.{take_all}
 use Rattle.std.proofs.lemmas.Option.{get_or_from_slice_get, slice_get_read}
 use Rattle.ae_netlist.proofs.Growing.{net_later}
 use Rattle.ae_clocked.proofs.Added.{own_net}
@@ -27,6 +28,30 @@ returns-in_err-keep_ring-clause-adds c =
     let more = sum_next (λ (x : Bool). cond x 1 0) c.args.reads.now.rings.items c.loop-q.q has there in
     let part = sum_part (λ (x : Bool). cond x 1 0) c.args.reads.now.rings.items (c.loop-q.q + 1) in
     memories_most _ _ (omega (arith, more, part)) (omega (arith, more, part)) (memories_trans c.loop-q.invariant.adds c.in_ok-ring.ensures.adds)
+
+pub returns-in_err-ring-clause-belongs : goal.returns-in_err-ring-clause-belongs
+returns-in_err-ring-clause-belongs c = c.in_err-ring.ensures.belongs
+
+pub returns-in_err-ring-clause-keeps : goal.returns-in_err-ring-clause-keeps
+returns-in_err-ring-clause-keeps c = keeps_trans c.loop-q.invariant.keeps c.in_err-ring.ensures.keeps
+
+pub returns-in_err-keep_ring-clause-belongs : goal.returns-in_err-keep_ring-clause-belongs
+returns-in_err-keep_ring-clause-belongs c = c.in_ok-ring.ensures.belongs
+
+pub returns-in_err-keep_ring-clause-keeps : goal.returns-in_err-keep_ring-clause-keeps
+returns-in_err-keep_ring-clause-keeps c = keeps_trans c.loop-q.invariant.keeps c.in_ok-ring.ensures.keeps
+
+pub returns-clause-belongs : goal.returns-clause-belongs
+returns-clause-belongs c = c.loop-q.invariant.belongs
+
+pub returns-clause-keeps : goal.returns-clause-keeps
+returns-clause-keeps c = c.loop-q.invariant.keeps
+
+pub returns-clause-adds : goal.returns-clause-adds
+returns-clause-adds c =
+    let end : length c.args.reads.now.rings.items ≤ c.loop-q.q = rw c.requires.long at c.loop-q-test.false in
+    let all : take c.loop-q.q c.args.reads.now.rings.items ≡ c.args.reads.now.rings.items = take_all c.loop-q.q c.args.reads.now.rings.items end in
+    rw all at c.loop-q.invariant.adds
 
 pub loop-q-preserved : goal.loop-q-preserved
 loop-q-preserved c =

@@ -1,5 +1,5 @@
 -- Rings, the places that are read, what is read, and the plan on it.
-use Rattle.std.proofs.Common.{ℕ, ◌≡◌, ◌+◌, ◌*◌, length, map, arith, refl, ap, ◌∙◌}
+use Rattle.std.proofs.Common.{ℕ, ◌≡◌, ◌≤◌, ◌+◌, ◌*◌, length, map, arith, refl, ap, ◌∙◌}
 use Rattle.std.proofs.lemmas.List.{length-map}
 use Rattle.ae_netlist.proofs.Growing.{net_later}
 use Rattle.ae_clocked.proofs.Adding.{grows_trans}
@@ -14,6 +14,108 @@ use Rattle.ae_gather.proofs.Rereads.{fitting_read, order_read, placed_trip, trip
 use Rattle.ae_gather.proofs.Ringing.{reads_later, reads_nets, rings_grow}
 use Rattle.ae_gather.proofs.Showing.{fits_placed, shows_later}
 use Rattle.ae_gather.proofs.reading.build_reading.Goals as goal
+
+-- ---- room for what rings, places, reads and the plan take
+
+rings_room : (a b r o s l p m : ℕ) → b ≤ a + 14 * r → b ≤ a + (12 + 14 * r + 6 * o + s + l + p + m + 3 * o)
+rings_room a b r o s l p m f = omega arith
+
+places_room : (a b c r o s l p m : ℕ) → b ≤ a + 14 * r → c ≤ b + (12 + (s + 3 * o)) → c ≤ a + (12 + 14 * r + 6 * o + s + l + p + m + 3 * o)
+places_room a b c r o s l p m f g = omega arith
+
+reads_room : (a b c d r o s l p m k : ℕ) → k ≡ o → b ≤ a + 14 * r → c ≤ b + (12 + (s + 3 * o)) → d ≤ c + 3 * k →
+    d ≤ a + (12 + 14 * r + 6 * o + s + l + p + m + 3 * o)
+reads_room a b c d r o s l p m k e f g h = omega arith
+
+plan_room : (a b c d e r o s l p m k j : ℕ) → k ≡ o → j ≡ o → b ≤ a + 14 * r → c ≤ b + (12 + (s + 3 * o)) → d ≤ c + 3 * k →
+    e ≤ d + (m + l + p + 3 * j) → e ≤ a + (12 + 14 * r + 6 * o + s + l + p + m + 3 * o)
+plan_room a b c d e r o s l p m k j q n f g h i = omega arith
+
+kept_muls : (a b c : ℕ) → b ≡ a → c ≡ b + 0 → c ≡ a
+kept_muls a b c e f = omega arith
+
+rings_memories : (a b r l : ℕ) → b ≤ a + r → b ≤ a + (r + l)
+rings_memories a b r l f = omega arith
+
+plan_memories : (a b c r l : ℕ) → b ≤ a + r → c ≤ b + l → c ≤ a + (r + l)
+plan_memories a b c r l f g = omega arith
+
+pub returns-in_err-rings-clause-cells : goal.returns-in_err-rings-clause-cells
+returns-in_err-rings-clause-cells c = rings_room _ _ _ _ _ _ _ _ c.in_err-rings.ensures.adds.cells
+
+pub returns-in_err-rings-clause-memories : goal.returns-in_err-rings-clause-memories
+returns-in_err-rings-clause-memories c = rings_memories _ _ _ _ c.in_err-rings.ensures.adds.memories
+
+pub returns-in_err-places-clause-belongs : goal.returns-in_err-places-clause-belongs
+returns-in_err-places-clause-belongs c = c.in_err-places.ensures.belongs
+
+pub returns-in_err-places-clause-cells : goal.returns-in_err-places-clause-cells
+returns-in_err-places-clause-cells c = places_room _ _ _ _ _ _ _ _ _ c.in_ok-rings.ensures.adds.cells c.in_err-places.ensures.adds.cells
+
+pub returns-in_err-places-clause-muls : goal.returns-in_err-places-clause-muls
+returns-in_err-places-clause-muls c = kept_muls _ _ _ c.in_ok-rings.ensures.adds.muls c.in_err-places.ensures.adds.muls
+
+pub returns-in_err-places-clause-memories : goal.returns-in_err-places-clause-memories
+returns-in_err-places-clause-memories c = rw c.in_err-places.ensures.adds.memories (rings_memories _ _ _ _ c.in_ok-rings.ensures.adds.memories)
+
+pub returns-in_err-all-clause-cells : goal.returns-in_err-all-clause-cells
+returns-in_err-all-clause-cells c =
+    let h = c.requires.reading in
+    reads_room _ _ _ _ _ _ _ _ _ _ _ h.from c.in_ok-rings.ensures.adds.cells c.in_ok-places.ensures.adds.cells c.in_err-all.ensures.adds.cells
+
+pub returns-in_err-all-clause-muls : goal.returns-in_err-all-clause-muls
+returns-in_err-all-clause-muls c =
+    kept_muls _ _ _ (kept_muls _ _ _ c.in_ok-rings.ensures.adds.muls c.in_ok-places.ensures.adds.muls) c.in_err-all.ensures.adds.muls
+
+pub returns-in_err-all-clause-memories : goal.returns-in_err-all-clause-memories
+returns-in_err-all-clause-memories c =
+    rw (c.in_err-all.ensures.adds.memories, c.in_ok-places.ensures.adds.memories) (rings_memories _ _ _ _ c.in_ok-rings.ensures.adds.memories)
+
+pub returns-in_err-out-clause-belongs : goal.returns-in_err-out-clause-belongs
+returns-in_err-out-clause-belongs c = c.in_err-out.ensures.belongs
+
+pub returns-in_err-out-clause-cells : goal.returns-in_err-out-clause-cells
+returns-in_err-out-clause-cells c =
+    let h = c.requires.reading in
+    plan_room _ _ _ _ _ _ _ _ _ _ _ _ _ h.from h.columns c.in_ok-rings.ensures.adds.cells c.in_ok-places.ensures.adds.cells
+    c.in_ok-all.ensures.adds.cells c.in_err-out.ensures.cells
+
+pub returns-in_err-out-clause-muls : goal.returns-in_err-out-clause-muls
+returns-in_err-out-clause-muls c =
+    c.in_err-out.ensures.muls ∙ kept_muls _ _ _ (kept_muls _ _ _ c.in_ok-rings.ensures.adds.muls c.in_ok-places.ensures.adds.muls) c.in_ok-all.ensures.adds.muls
+
+pub returns-in_err-out-clause-memories : goal.returns-in_err-out-clause-memories
+returns-in_err-out-clause-memories c =
+    plan_memories _ _ _ _ _ (rw (c.in_ok-all.ensures.adds.memories, c.in_ok-places.ensures.adds.memories) c.in_ok-rings.ensures.adds.memories)
+    c.in_err-out.ensures.memories
+
+pub returns-clause-belongs : goal.returns-clause-belongs
+returns-clause-belongs c = c.in_ok-out.ensures.belongs
+
+pub returns-clause-cells : goal.returns-clause-cells
+returns-clause-cells c =
+    let h = c.requires.reading in
+    plan_room _ _ _ _ _ _ _ _ _ _ _ _ _ h.from h.columns c.in_ok-rings.ensures.adds.cells c.in_ok-places.ensures.adds.cells
+    c.in_ok-all.ensures.adds.cells c.in_ok-out.ensures.cells
+
+pub returns-clause-muls : goal.returns-clause-muls
+returns-clause-muls c =
+    c.in_ok-out.ensures.muls ∙ kept_muls _ _ _ (kept_muls _ _ _ c.in_ok-rings.ensures.adds.muls c.in_ok-places.ensures.adds.muls) c.in_ok-all.ensures.adds.muls
+
+pub returns-clause-memories : goal.returns-clause-memories
+returns-clause-memories c =
+    plan_memories _ _ _ _ _ (rw (c.in_ok-all.ensures.adds.memories, c.in_ok-places.ensures.adds.memories) c.in_ok-rings.ensures.adds.memories)
+    c.in_ok-out.ensures.memories
+
+pub returns-clause-whole : goal.returns-clause-whole
+returns-clause-whole c = λ h.
+    c.in_ok-out.ensures.whole (c.in_ok-all.ensures.adds.whole (c.in_ok-places.ensures.adds.whole (c.in_ok-rings.ensures.adds.whole h)))
+
+pub returns-clause-long : goal.returns-clause-long
+returns-clause-long c = c.in_ok-out.ensures.long
+
+pub returns-clause-nets : goal.returns-clause-nets
+returns-clause-nets c = c.in_ok-out.ensures.nets
 
 pub all_rings-requires-clause-long : goal.all_rings-requires-clause-long
 all_rings-requires-clause-long c = let h = c.requires.reading in omega (arith, h.rings)

@@ -23,6 +23,18 @@ all_columns-requires-clause-ready c = λ q w steps there wide.
     rw (c.deref-3.ensures.value, c.in-Ok-none_early.ensures.none q, c.in_ok-phase.ensures.limits)
     (steps_ready _ _ w q c.args.limit c.args.d [] c.in-Ok.widths.items c.args.reading.now.places.items c.args.reading.now.plan.lines.items [] c.args.reading.now.plan.columns.items steps lines fitting c.requires.below c.requires.plan here width)
 
+pub returns-in_err-phase-clause-belongs : goal.returns-in_err-phase-clause-belongs
+returns-in_err-phase-clause-belongs c = c.in_err-phase.ensures.belongs
+
+pub returns-in_err-phase-clause-keeps : goal.returns-in_err-phase-clause-keeps
+returns-in_err-phase-clause-keeps c = c.in_err-phase.ensures.keeps
+
+pub returns-in_err-out-clause-keeps : goal.returns-in_err-out-clause-keeps
+returns-in_err-out-clause-keeps c = c.in_ok-phase.ensures.keeps
+
+pub returns-clause-keeps : goal.returns-clause-keeps
+returns-clause-keeps c = c.in_ok-phase.ensures.keeps
+
 pub returns-in_err-out-clause-belongs : goal.returns-in_err-out-clause-belongs
 returns-in_err-out-clause-belongs c = belongs_grows _ _ _ c.in_err-out.ensures.adds.grows c.in_ok-phase.ensures.belongs
 
