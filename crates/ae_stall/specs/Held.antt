@@ -1,11 +1,11 @@
 -- When a copy of a netlist stands still in the clocks in which some net is 0.
-use Rattle.std.specs.Prelude.{◌≡◌, ◌≢◌, ℕ, suc, ◌+◌, ◌<◌, ◌≤◌, ◌==◌, Bool, List, ◌++◌, length, map, take, drop, Some, slice_get, get_or}
+use Rattle.std.specs.Prelude.{◌≡◌, ◌≢◌, ℕ, suc, ◌+◌, ◌<◌, ◌≤◌, ◌==◌, Bool, List, [], ◌∷◌, ◌++◌, length, map, take, drop, Some, slice_get, get_or}
 use Rattle.std.specs.List.{filter}
 use Rattle.ae_netlist.specs.declared.cell.Cell.{Cell}
 use Rattle.ae_netlist.specs.declared.cell.Cell.TheVariants.{Reg, Mem}
 use Rattle.ae_netlist.specs.declared.cell.SizedCell.{SizedCell}
 use Rattle.ae_netlist.specs.Circuit.{Circuit, IsNet}
-use Rattle.ae_netlist.specs.Runs.{Clock, word_at, store_at, IsRun}
+use Rattle.ae_netlist.specs.Runs.{Clock, no_clock, word_at, store_at, IsRun}
 use Rattle.ae_stall.specs.Images.{IsApart, placed}
 use Rattle.ae_stall.specs.Copies.{HaveSameKinds}
 
@@ -24,6 +24,14 @@ inner_clock more count c = record { words = without_inputs more count c.words; s
 unfoldable pub held_part : (more by count : ℕ) → List Clock → List Clock
 held_part more by count run = map (inner_clock more count) (filter (is_one by) run)
 
+-- the elements before one that pass, in order, and that one, whether it passes or not
+abbrev pub until : {X : Type 0} → (X → Bool) → (t : ℕ) → List X → (d : X) → List X
+until pass t xs d = filter pass (take t xs) ++ get_or xs t d ∷ []
+
+-- the clocks before one in which the net is 1, and that one
+unfoldable pub seen_part : (more by count t : ℕ) → List Clock → List Clock
+seen_part more by count t run = map (inner_clock more count) (until (is_one by) t run no_clock)
+
 -- what a register and a memory hold in a clock is what they hold in the next
 abbrev pub Stays : List Clock → (t net : ℕ) → Cell → Type 0
 Stays run t net (Reg next) = word_at run (t + 1) net ≡ word_at run t net
@@ -31,9 +39,11 @@ Stays run t net (Mem depth at next enable) = store_at run (t + 1) net ≡ store_
 Stays run t net _ = Unit {0}
 
 -- behind the first cell of the copy stand so many more inputs. The part of each run in which the holding net is 1 is a run of
--- the old netlist; where it is not, the copy's registers and memories stay as they are. All that is no part of the copy is as it was
+-- the old netlist, with any clock behind it too; where it is not, the copy's registers and memories stay as they are. All that is no part of the copy is as it was
 pub record IsHeld (more by : ℕ) (old copied new : Circuit) : Type 0 where
   pub runs : (run : List Clock) → IsRun new.cells run → IsRun old.cells (held_part more by (length old.cells) run)
+  pub sees : (run : List Clock) → IsRun new.cells run → (t : ℕ) → t < length run
+      → IsRun old.cells (seen_part more by (length old.cells) t run)
   pub stays : (run : List Clock) → IsRun new.cells run → (t n : ℕ) (sized : SizedCell) → t + 1 < length run
       → word_at run t by ≢ 1 → slice_get old.cells n ≡ Some sized → Stays run t (placed more n) sized.cell
   pub widths : (n : ℕ) (sized : SizedCell) → slice_get old.cells n ≡ Some sized

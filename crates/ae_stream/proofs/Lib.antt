@@ -15,6 +15,8 @@ pub mod Driving
 pub mod Wiring
 pub mod Stepping
 pub mod Rate
+pub mod Balance
+pub mod Draining
 pub mod Progress
 pub mod Cutting
 pub mod Insides

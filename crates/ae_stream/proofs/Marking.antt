@@ -1,59 +1,111 @@
--- Nets that have certain words in every reset run have them in the clocks in which the circuit steps.
-use Rattle.std.proofs.Common.{ℕ, ◌≡◌, ◌+◌, ◌-◌, ◌<◌, ◌≤◌, List, length, length-drop, drop, get_or, true, arith, sym, ◌∙◌}
-use Rattle.std.proofs.lemmas.List.{get_or-drop}
+-- Nets that have certain words in every reset run have those of the number of steps before in each clock behind the reset.
+use Rattle.std.proofs.Common.{ℕ, zero, suc, ◌≡◌, ◌+◌, ◌-◌, ◌<◌, ◌≤◌, ◌++◌, List, [], ◌∷◌, length, length-append, length-drop, length-take, map, take, drop, get_or, Bool, true, cond, arith, refl, ap, sym, ◌∙◌}
+use Rattle.std.specs.List.{filter}
+use Rattle.std.proofs.lemmas.List.{get_or-append_right, get_or-drop, get_or-map, get_or-take, get_or_append_left, get_or_push, length-map}
 use Rattle.ae_netlist.specs.Circuit.{Circuit, IsFormed}
 use Rattle.ae_netlist.specs.Runs.{Clock, no_clock, word_at, HasWords, InEveryResetRun, IsReset, IsRun, IsShaped}
 use Rattle.ae_netlist.proofs.Growing.{extends_refl}
-use Rattle.ae_stall.specs.Held.{IsHeld, inner_clock}
+use Rattle.ae_stall.specs.Held.{IsHeld, inner_clock, seen_part, until}
 use Rattle.ae_stall.specs.Images.{placed}
-use Rattle.ae_stall.proofs.Lists.{without_inputs_at}
-use Rattle.ae_stream.specs.Streams.{Ends, bit}
-use Rattle.ae_stream.specs.Control.{Control, IsInside, steps, word_in}
-use Rattle.ae_stream.proofs.Insides.{inside}
-use Rattle.ae_stream.proofs.Driving.{each_step}
-use Rattle.ae_stream.proofs.Streaming.{Inner, inside_run, reset_within}
+use Rattle.ae_stall.proofs.Lists.{IsFound, all_until, without_inputs_at}
+use Rattle.ae_stream.specs.Passing.{passing}
+use Rattle.ae_stream.specs.Streams.{bit}
+use Rattle.ae_stream.specs.Control.{Control, steps_before, word_in}
+use Rattle.ae_stream.proofs.Parts.{passed_length}
 
--- ends without columns
-abbrev none : Ends
-none = record {
-  in_columns = 0;
-  columns = 0;
-  source = record { valid = 0; ready = 0 };
-  sink = record { valid = 0; ready = 0 };
-  ins = λ q. q;
-  outs = λ q. q;
-}
+-- where the first elements pass, those that pass up to one behind them are these and those that pass among the others
+until_behind : {X : Type 0} (pass : X → Bool) (start t : ℕ) (xs : List X) (d : X) → ((k : ℕ) → k < start → k < length xs → pass (get_or xs k d) ≡ true) → start + t < length xs → until pass (start + t) xs d ≡ take start xs ++ until pass t (drop start xs) d
+until_behind pass zero t xs d h l = (let e : 0 + t ≡ t = omega arith in rw e refl)
+until_behind pass (suc start) t [] d h l = absurd (omega arith)
+until_behind {X = X} pass (suc start) t (x ∷ xs) d h l =
+    let rest : until pass (start + t) xs d ≡ take start xs ++ until pass t (drop start xs) d = until_behind pass start t xs d (λ k a b. h (suc k) (omega arith) (omega arith)) (omega arith) in
+    let e : suc start + t ≡ suc (start + t) = omega arith in
+    let on : pass x ≡ true = h 0 (omega arith) (omega arith) in
+    ap (λ k. until pass k (x ∷ xs) d) e
+    ∙ (ap (λ v. cond {A = List X} v (x ∷ filter pass (take (start + t) xs)) (filter pass (take (start + t) xs)) ++ get_or xs (start + t) d ∷ []) on
+    ∙ ap (λ ys. x ∷ ys) rest)
+
+-- the last of them stands behind those before it that pass
+until_last : {X : Type 0} (pass : X → Bool) (t : ℕ) (xs : List X) (d : X) → t < length xs → (length (until pass t xs d) ≡ passing (λ k. pass (get_or xs k d)) t + 1) × (get_or (until pass t xs d) (passing (λ k. pass (get_or xs k d)) t) d ≡ get_or xs t d)
+until_last {X = X} pass t xs d l =
+    let cut : length (take t xs) ≡ t = omega (arith, length-take t xs, l) in
+    let many : length (filter pass (take t xs)) ≡ passing (λ k. pass (get_or xs k d)) t =
+    passed_length pass (λ k. pass (get_or xs k d)) (take t xs) d (λ k b. ap pass (get_or-take t xs k d (omega (arith, b, cut)))) ∙ ap (passing (λ k. pass (get_or xs k d))) cut in
+    (length-append (filter pass (take t xs)) (get_or xs t d ∷ []) ∙ omega (arith, many), get_or_push (filter pass (take t xs)) (get_or xs t d) d (passing (λ k. pass (get_or xs k d)) t) many)
 
 module _ (x : Control) (marked copied new : Circuit) (formed : IsFormed marked.cells) (some : 0 < length marked.cells) (held : IsHeld 2 x.enable marked copied new)
     (longer : length marked.cells + 2 ≤ length copied.cells) (run : List Clock) (start : ℕ) (r : IsRun new.cells run) (reset : IsReset run 0 start)
     (on : (t : ℕ) → t < start → t < length run → bit x.enable (get_or run t no_clock) ≡ true) where
-  whole : IsInside x none marked (inner_clock 2 (length marked.cells)) run
-  whole = inside x none marked marked copied new (record {
-    formed = formed;
-    first = extends_refl marked.cells;
-    some = some;
-    held = held;
-    longer = longer;
-    ins = λ q b. absurd (omega arith);
-    outs = λ q b. absurd (omega arith);
-  }) run r
+  -- ---- the clocks that are seen up to one behind the reset
 
-  -- the word of a net in a clock in which the circuit steps is that of its place
-  placed_word : (y t : ℕ) → y < length marked.cells → t < length (steps x start run) → word_in y (inner_clock 2 (length marked.cells) (get_or (steps x start run) t no_clock)) ≡ word_in (placed 2 y) (get_or (steps x start run) t no_clock)
-  placed_word y t b l = each_step x run start (λ c. word_in y (inner_clock 2 (length marked.cells) c) ≡ word_in (placed 2 y) c) in_rest t l
-    where
-      in_rest : (t : ℕ) → t < length (drop start run) → word_in y (inner_clock 2 (length marked.cells) (get_or (drop start run) t no_clock)) ≡ word_in (placed 2 y) (get_or (drop start run) t no_clock)
-      in_rest t l =
-          let e : get_or (drop start run) t no_clock ≡ get_or run (start + t) no_clock = get_or-drop start run t no_clock in
-          let size : length (drop start run) ≡ length run - start = length-drop start run in
-          let s : IsShaped new.cells (get_or run (start + t) no_clock) = r.shaped (start + t) (omega arith) in
-          rw e (without_inputs_at 2 (length marked.cells) (get_or run (start + t) no_clock).words y 0 b (omega (arith, s.words, held.longer, longer)))
+  module _ (t : ℕ) (within : t < length (drop start run)) where
+    size : length (drop start run) ≡ length run - start
+    size = length-drop start run
+
+    abbrev chosen : List Clock
+    chosen = until (bit x.enable) (start + t) run no_clock
+
+    abbrev later : List Clock
+    later = until (bit x.enable) t (drop start run) no_clock
+
+    abbrev part : List Clock
+    part = map (inner_clock 2 (length marked.cells)) chosen
+
+    is_run : IsRun marked.cells part
+    unfolding seen_part
+    is_run = held.sees run r (start + t) (omega (arith, size, within))
+
+    joined : chosen ≡ take start run ++ later
+    joined = until_behind (bit x.enable) start t run no_clock on (omega (arith, size, within))
+
+    firsts : length (take start run) ≡ start
+    firsts = omega (arith, length-take start run, size, within)
+
+    long : length chosen ≡ start + length later
+    long = ap length joined ∙ (length-append (take start run) later ∙ omega (arith, firsts))
+
+    -- the word of a net there is that of its place in a clock of the run
+    word : (k i y : ℕ) → k < length chosen → i < length run → get_or chosen k no_clock ≡ get_or run i no_clock → y < length marked.cells → word_at part k y ≡ word_at run i (placed 2 y)
+    unfolding word_at
+    word k i y l b e n =
+        let s : IsShaped new.cells (get_or run i no_clock) = r.shaped i b in
+        ap (word_in y) (get_or-map (inner_clock 2 (length marked.cells)) chosen k no_clock no_clock l ∙ ap (inner_clock 2 (length marked.cells)) e)
+        ∙ without_inputs_at 2 (length marked.cells) (get_or run i no_clock).words y 0 n (omega (arith, s.words, held.longer, longer))
+
+    first_at : (k : ℕ) → k < start → get_or chosen k no_clock ≡ get_or run k no_clock
+    first_at k l = ap (λ c. get_or c k no_clock) joined ∙ (get_or_append_left (take start run) later no_clock k (omega (arith, firsts, l)) ∙ get_or-take start run k no_clock l)
+
+    later_at : (k : ℕ) → get_or chosen (start + k) no_clock ≡ get_or later k no_clock
+    later_at k =
+        let e : start + k - start ≡ k = omega arith in
+        ap (λ c. get_or c (start + k) no_clock) joined ∙ (get_or-append_right (take start run) later start (start + k) no_clock firsts (omega arith) ∙ ap (λ i. get_or later i no_clock) e)
+
+    resets : IsReset part 0 start
+    resets = record {
+      some = reset.some;
+      high = λ k a b.
+          let l : k < length chosen = omega (arith, b, length-map chosen (inner_clock 2 (length marked.cells))) in
+          word k k 0 l (omega (arith, a, size, within)) (first_at k a) some ∙ reset.high k a (omega (arith, a, size, within));
+      low = λ k a b.
+          let l : k < length chosen = omega (arith, b, length-map chosen (inner_clock 2 (length marked.cells))) in
+          let e : start + (k - start) ≡ k = omega (arith, a) in
+          let found : IsFound (drop start run) no_clock (get_or later (k - start) no_clock) = (all_until (bit x.enable) t (drop start run) no_clock within).found (k - start) (omega (arith, long, l, a)) in
+          let inside : found.at < length (drop start run) = found.within in
+          let is : get_or chosen k no_clock ≡ get_or run (start + found.at) no_clock = ap (λ i. get_or chosen i no_clock) (sym e) ∙ (later_at (k - start) ∙ (sym found.is ∙ get_or-drop start run found.at no_clock)) in
+          word k (start + found.at) 0 l (omega (arith, inside, size)) is some ∙ reset.low (start + found.at) (omega arith) (omega (arith, inside, size));
+    }
+
+    pub seen : (y : ℕ) (f : ℕ → ℕ) → y < length marked.cells → InEveryResetRun marked.cells 0 (λ run start. HasWords run start y f) → word_in (placed 2 y) (get_or (drop start run) t no_clock) ≡ f (steps_before x start run t)
+    unfolding word_at
+    seen y f b words =
+        let n : ℕ = steps_before x start run t in
+        let last = until_last (bit x.enable) t (drop start run) no_clock within in
+        let far : start + n < length chosen = omega (arith, long, last.0) in
+        let is : get_or chosen (start + n) no_clock ≡ get_or run (start + t) no_clock = later_at n ∙ (last.1 ∙ get_or-drop start run t no_clock) in
+        ap (word_in (placed 2 y)) (get_or-drop start run t no_clock)
+        ∙ (sym (word (start + n) (start + t) y far (omega (arith, size, within)) is b)
+        ∙ words marked.cells (extends_refl marked.cells) part is_run start resets n (omega (arith, far, length-map chosen (inner_clock 2 (length marked.cells)))))
 
   pub marks_seen : (y : ℕ) (f : ℕ → ℕ) → y < length marked.cells → InEveryResetRun marked.cells 0 (λ run start. HasWords run start y f)
-      → (t : ℕ) → t < length (steps x start run) → word_in (placed 2 y) (get_or (steps x start run) t no_clock) ≡ f t
-  unfolding word_at
-  marks_seen y f b words t l =
-      let i : Inner x marked (inner_clock 2 (length marked.cells)) run start = inside_run x none marked (inner_clock 2 (length marked.cells)) run start on whole reset (reset_within x run start t l) in
-      let is_run : IsRun marked.cells i.all = rw i.is_all whole.runs in
-      let far : start + t < length i.all = omega (arith, i.long, l) in
-      sym (placed_word y t b l) ∙ (sym (i.word t y l) ∙ words marked.cells (extends_refl marked.cells) i.all is_run start i.reset t far)
+      → (t : ℕ) → t < length (drop start run) → word_in (placed 2 y) (get_or (drop start run) t no_clock) ≡ f (steps_before x start run t)
+  marks_seen y f b words t l = seen t l y f b words

@@ -1,14 +1,14 @@
 -- Which clocks behind the reset are steps of the circuit, and how many steps are before them.
 use Rattle.std.proofs.Common.{ℕ, zero, suc, ◌≡◌, ◌+◌, ◌-◌, ◌*◌, ◌/◌, ◌%◌, ◌<◌, ◌≤◌, ◌⊎◌, inl, inr, List, length, drop, get_or, Bool, true, false, arith, refl, ap, sym, ◌∙◌}
-use Rattle.std.specs.Prelude.{◌&&◌, ◌||◌, ◌==◌, not}
+use Rattle.std.specs.Prelude.{◌&&◌, ◌||◌, not}
 use Rattle.std.proofs.lemmas.Bool.{cases_lt, eq-eqb}
 use Rattle.std.proofs.lemmas.Nat.{div-add-mod', mod-mul-add, mod_below}
 use Rattle.ae_sttype.specs.StTree.{StTree}
 use Rattle.ae_netlist.specs.Runs.{Clock, no_clock}
-use Rattle.ae_stream.specs.Passing.{one_if, passing}
+use Rattle.ae_stream.specs.Passing.{one_if}
 use Rattle.ae_stream.specs.Queue.{IsAfter, IsFair, next_two}
 use Rattle.ae_stream.specs.Streams.{Ends, bit, is_transfer}
-use Rattle.ae_stream.specs.Control.{Control, queue_of, steps}
+use Rattle.ae_stream.specs.Control.{Control, queue_of, steps, steps_before}
 use Rattle.ae_stream.specs.Gates.{Gates, HasGates, may_go}
 use Rattle.ae_stream.specs.Driven.{IsDriven, Row}
 use Rattle.ae_stream.proofs.Filters.{passed_at}
@@ -76,7 +76,7 @@ module _ (x : Control) (g : Gates) (row : Row) (ends : Ends) (run : List Clock) 
 
   -- so many steps are before a clock
   abbrev pub stepped : ℕ → ℕ
-  stepped t = passing goes t
+  stepped t = steps_before x start run t
 
   -- a step stands among the steps behind those before it
   pub step_at : (t : ℕ) → t < length rest → goes t ≡ true → (stepped t < length (steps x start run)) × (get_or (steps x start run) (stepped t) no_clock ≡ at t)
@@ -118,7 +118,7 @@ module _ (x : Control) (g : Gates) (row : Row) (ends : Ends) (run : List Clock) 
   asks_first t l two y z =
       let c : Clock = at t in
       let gates : HasGates x g ends c = h.gates t l in
-      let first : bit g.first c ≡ true = by_step (bit g.first) (λ t. t % slowdown == 0) h.first t l y ∙ eq-eqb (stepped t % slowdown) 0 z in
+      let first : bit g.first c ≡ true = h.first t l ∙ eq-eqb (stepped t % slowdown) 0 z in
       gates.ready ∙ (λ i. not (two i) && (gates.begins first i && (first i || bit g.current c)))
 
   -- steps in a row count on

@@ -1,17 +1,16 @@
 -- A control that is wired and marked is driven.
-use Rattle.std.proofs.Common.{ℕ, zero, suc, ◌≡◌, ◌+◌, ◌-◌, ◌%◌, ◌<◌, ◌≤◌, List, length, length-drop, drop, get_or, Bool, true, false, arith, refl, ap, sym, ◌∙◌, subst}
+use Rattle.std.proofs.Common.{ℕ, zero, suc, ◌≡◌, ◌+◌, ◌-◌, ◌*◌, ◌%◌, ◌<◌, ◌≤◌, inl, inr, List, length, length-drop, drop, get_or, Bool, true, false, arith, refl, ap, sym, ◌∙◌, subst}
 use Rattle.std.specs.Prelude.{◌&&◌, ◌||◌, ◌==◌, not, if◌then◌else◌}
 use Rattle.std.proofs.lemmas.List.{get_or-drop}
-use Rattle.std.proofs.lemmas.Bool.{eqb-true}
+use Rattle.std.proofs.lemmas.Bool.{cases_lt, eqb-true}
 use Rattle.ae_sttype.specs.StTree.{StTree}
 use Rattle.ae_netlist.specs.Runs.{Clock, no_clock, word_at, IsReset}
 use Rattle.ae_stream.specs.Queue.{IsFair, IsQueue, next_a, next_b, next_one, next_two}
 use Rattle.ae_stream.specs.Streams.{Ends, bit, is_beat, is_transfer}
-use Rattle.ae_stream.specs.Control.{Control, steps, queue_of, word_in}
+use Rattle.ae_stream.specs.Control.{Control, queue_of, steps_before, word_in}
 use Rattle.ae_stream.specs.Gates.{Gates, HasGates, may_go}
 use Rattle.ae_stream.specs.Driven.{IsDriven, IsRead, Row, next_flag}
 use Rattle.ae_stream.specs.Wired.{AreQueued, FromEach, InEach, IsCleared, IsMarked, IsWired, is_put}
-use Rattle.ae_stream.proofs.Driving.{each_step}
 
 -- where two stand in the next clock, one does
 second_has_first : (one two push pop : Bool) → next_two one two push pop ≡ true → next_one one two push pop ≡ true
@@ -33,8 +32,8 @@ taken_or : (first wanted beat : Bool) → wanted ≡ beat → (first ≡ true �
 taken_or true wanted beat e b = sym (b refl)
 taken_or false wanted beat e b = e
 
-module _ (x : Control) (g : Gates) (row : Row) (ends : Ends) (wanted : ℕ) (run : List Clock) (start slowdown q r : ℕ) (inputs outputs : List StTree)
-    (any : 0 < ends.columns) (beat : is_beat inputs 0 ≡ true) (reset : IsReset run g.reset start) (w : IsWired x g row ends wanted q run)
+module _ (x : Control) (g : Gates) (row : Row) (ends : Ends) (wanted wait : ℕ) (run : List Clock) (start slowdown q r : ℕ) (inputs outputs : List StTree)
+    (any : 0 < ends.columns) (waits : (c : ℕ) → is_beat outputs c ≡ true → q * slowdown + r + c < suc wait * slowdown) (beat : is_beat inputs 0 ≡ true) (reset : IsReset run g.reset start) (w : IsWired x g row ends wanted q wait run)
     (words : AreQueued x ends run) (m : IsMarked x g row wanted run start slowdown r inputs outputs) where
   abbrev rest : List Clock
   rest = drop start run
@@ -129,9 +128,10 @@ module _ (x : Control) (g : Gates) (row : Row) (ends : Ends) (wanted : ℕ) (run
     clear = λ j few. clear (bit (row.flag (suc j))) (turned j) (w.flag j few);
     first = m.first;
     last = m.last;
+    busy = λ t j c l y from. each (λ k. bit (row.flag (suc j)) k ≡ true → bit g.busy k ≡ true) (w.busy j (soon j c y from)) t l;
     takes = λ t l.
-        each_step x run start (λ c. bit x.takes c ≡ (bit g.first c || bit wanted c)) (each (λ c. bit x.takes c ≡ (bit g.first c || bit wanted c)) w.takes) t l
-        ∙ taken_or (bit g.first (get_or (steps x start run) t no_clock)) (bit wanted (get_or (steps x start run) t no_clock)) (is_beat inputs (t % slowdown)) (m.wants t l) (λ h. (let z : t % slowdown ≡ 0 = zero_of (t % slowdown) (sym (m.first t l) ∙ h) in ap (is_beat inputs) z ∙ beat));
+        each (λ c. bit x.takes c ≡ (bit g.first c || bit wanted c)) w.takes t l
+        ∙ taken_or (bit g.first (get_or rest t no_clock)) (bit wanted (get_or rest t no_clock)) (is_beat inputs (steps_before x start run t % slowdown)) (m.wants t l) (λ h. (let z : steps_before x start run t % slowdown ≡ 0 = zero_of (steps_before x start run t % slowdown) (sym (m.first t l) ∙ h) in ap (is_beat inputs) z ∙ beat));
     late = m.late;
     behind = m.behind;
     shows = each (IsRead x row q) w.shows;
@@ -142,3 +142,14 @@ module _ (x : Control) (g : Gates) (row : Row) (ends : Ends) (wanted : ℕ) (run
     where
       zero_of : (n : ℕ) → (n == 0) ≡ true → n ≡ 0
       zero_of n h = eqb-true n 0 h
+
+      soon : (j c : ℕ) → is_beat outputs c ≡ true → suc j * slowdown ≤ q * slowdown + r + c → j < wait
+      soon j c y from = elim (cases_lt j wait) [
+        | inl l ↦ l
+        | inr far ↦
+            let e : suc wait + (j - wait) ≡ suc j = omega (arith, far) in
+            let wide : (suc wait + (j - wait)) * slowdown ≡ suc wait * slowdown + (j - wait) * slowdown = omega arith in
+            let more : suc j * slowdown ≡ suc wait * slowdown + (j - wait) * slowdown = ap (λ k. k * slowdown) (sym e) ∙ wide in
+            let below : q * slowdown + r + c < suc wait * slowdown = waits c y in
+            absurd (omega (arith, more, below, from))
+      ]

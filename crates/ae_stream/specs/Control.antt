@@ -9,7 +9,7 @@ use Rattle.ae_sttype.specs.Moves.{first_column}
 use Rattle.ae_netlist.specs.Circuit.{Circuit}
 use Rattle.ae_netlist.specs.Runs.{Clock, no_clock, IsReset, IsRun}
 use Rattle.ae_rewrite.specs.Blocks.{outlet_net}
-use Rattle.ae_stream.specs.Passing.{ByNumber, carries}
+use Rattle.ae_stream.specs.Passing.{ByNumber, carries, passing}
 use Rattle.ae_stream.specs.Queue.{Queue, IsQueue}
 use Rattle.ae_stream.specs.Streams.{Ends, MakesBlocksSoFar, bit, is_beat, is_transfer}
 
@@ -28,6 +28,15 @@ pub record Control : Type 0 where
 -- the clocks behind the reset in which the circuit steps
 unfoldable pub steps : Control → (start : ℕ) → List Clock → List Clock
 steps x start run = filter (bit x.enable) (drop start run)
+
+-- how many of these are before a clock behind the reset
+abbrev pub steps_before : Control → (start : ℕ) → List Clock → ℕ → ℕ
+steps_before x start run t = passing (λ k. bit x.enable (get_or (drop start run) k no_clock)) t
+
+-- a test of each clock behind the reset says what a test of the number of steps before it says, whether it is a step or not
+abbrev pub BySteps : Control → (start : ℕ) → List Clock → (Clock → Bool) → (ℕ → Bool) → Type 0
+BySteps x start run pass number =
+    (t : ℕ) → t < length (drop start run) → pass (get_or (drop start run) t no_clock) ≡ number (steps_before x start run t)
 
 -- whether a block is real, as its first clock says
 unfoldable pub is_real : Control → (start slowdown : ℕ) → List Clock → ℕ → Bool

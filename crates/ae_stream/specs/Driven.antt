@@ -1,11 +1,10 @@
 -- What the registers of the control take.
-use Rattle.std.specs.Prelude.{◌≡◌, ℕ, suc, ◌+◌, ◌-◌, ◌%◌, ◌<◌, ◌≤◌, ◌==◌, ◌&&◌, nat_lt, if◌then◌else◌, Bool, true, false, List, length, drop, get_or}
+use Rattle.std.specs.Prelude.{◌≡◌, ℕ, suc, ◌+◌, ◌-◌, ◌*◌, ◌%◌, ◌<◌, ◌≤◌, ◌==◌, ◌&&◌, nat_lt, if◌then◌else◌, Bool, true, false, List, length, drop, get_or}
 use Rattle.ae_sttype.specs.StTree.{StTree}
 use Rattle.ae_netlist.specs.Runs.{Clock, no_clock}
-use Rattle.ae_stream.specs.Passing.{ByNumber}
 use Rattle.ae_stream.specs.Streams.{Ends, bit, is_beat}
 use Rattle.ae_stream.specs.Queue.{IsQueue}
-use Rattle.ae_stream.specs.Control.{Control, steps, queue_of}
+use Rattle.ae_stream.specs.Control.{BySteps, Control, queue_of}
 use Rattle.ae_stream.specs.Gates.{Gates, HasGates}
 
 -- a part of each element that becomes what f makes of the element before, if that one passes, and else stays
@@ -46,13 +45,16 @@ pub record IsDriven (x : Control) (g : Gates) (row : Row) (ends : Ends) (run : L
   pub here : row.flag 0 ≡ x.here
   pub clear : (j : ℕ) → j ≤ q → 0 < length (drop start run)
       → bit (row.flag (suc j)) (get_or (drop start run) 0 no_clock) ≡ false
-  -- the phases of the clocks in which the circuit steps
-  pub first : ByNumber (bit g.first) (λ t. t % slowdown == 0) (steps x start run) no_clock
-  pub last : ByNumber (bit row.last) (λ t. t % slowdown == slowdown - 1) (steps x start run) no_clock
-  pub takes : ByNumber (bit x.takes) (λ t. is_beat inputs (t % slowdown)) (steps x start run) no_clock
-  pub late : ByNumber (bit row.late) (λ t. is_beat outputs (late_clock slowdown r (t % slowdown)))
-      (steps x start run) no_clock
-  pub behind : ByNumber (bit row.behind) (λ t. nat_lt (t % slowdown) r) (steps x start run) no_clock
+  -- it is busy where a block has begun before that is real, and of whose results some are still to come
+  pub busy : (t j c : ℕ) → t < length (drop start run) → is_beat outputs c ≡ true → suc j * slowdown ≤ q * slowdown + r + c
+      → bit (row.flag (suc j)) (get_or (drop start run) t no_clock) ≡ true
+      → bit g.busy (get_or (drop start run) t no_clock) ≡ true
+  -- the phases of the clocks by the steps before them
+  pub first : BySteps x start run (bit g.first) (λ t. t % slowdown == 0)
+  pub last : BySteps x start run (bit row.last) (λ t. t % slowdown == slowdown - 1)
+  pub takes : BySteps x start run (bit x.takes) (λ t. is_beat inputs (t % slowdown))
+  pub late : BySteps x start run (bit row.late) (λ t. is_beat outputs (late_clock slowdown r (t % slowdown)))
+  pub behind : BySteps x start run (bit row.behind) (λ t. nat_lt (t % slowdown) r)
   pub shows : (t : ℕ) → t < length (drop start run) → IsRead x row q (get_or (drop start run) t no_clock)
   pub any : 0 < ends.columns
   pub queue : (column : ℕ) → column < ends.columns → IsQueue (queue_of x ends column) (drop start run) no_clock

@@ -1,6 +1,6 @@
 -- Where a clock stands among the transfers, what passes through a circuit between channels, what stays there, and
 -- that it goes on.
-use Rattle.std.specs.Prelude.{◌≡◌, ℕ, ◌+◌, ◌*◌, ◌<◌, ◌≤◌, Bool, true, List, length, filter, get_or}
+use Rattle.std.specs.Prelude.{◌≡◌, ℕ, suc, ◌+◌, ◌*◌, ◌<◌, ◌≤◌, Bool, true, List, length, drop, filter, get_or}
 use Rattle.ae_seq.specs.ProgramTree.{ProgramTree}
 use Rattle.ae_sttype.specs.StTree.{StTree}
 use Rattle.ae_netlist.specs.Circuit.{Circuit, IsFormed}
@@ -10,7 +10,7 @@ use Rattle.ae_stall.specs.Held.{IsHeld, inner_clock}
 use Rattle.ae_stall.specs.Images.{placed}
 use Rattle.ae_stream.specs.Passing.{ByNumber, carries, passing}
 use Rattle.ae_stream.specs.Streams.{Ends, Stays, Streams, bit, is_beat}
-use Rattle.ae_stream.specs.Control.{AreWithin, Control, IsAround, IsInside, steps, word_in}
+use Rattle.ae_stream.specs.Control.{AreWithin, Control, IsAround, IsInside, steps_before, word_in}
 use Rattle.ae_stream.specs.Driven.{IsDriven, Row}
 use Rattle.ae_stream.specs.Fed.{CanBeFed}
 use Rattle.ae_stream.specs.Gates.{Gates}
@@ -57,15 +57,17 @@ DrivenCircuitsKeepWords =
 abbrev pub DrivenCircuitsGoOn : Type 0
 DrivenCircuitsGoOn =
     (x : Control) (g : Gates) (row : Row) (ends : Ends) (run : List Clock) (start slowdown q r : ℕ) (inputs outputs : List StTree)
-    → 0 < slowdown → r < slowdown
+    → 0 < slowdown → r < slowdown → is_beat inputs 0 ≡ true
     → IsDriven x g row ends run start slowdown q r inputs outputs → ends.sink.valid ≡ x.one
     → GoesOn ends run start slowdown (q * slowdown + r) inputs outputs
 
 abbrev pub WiredControlsAreDriven : Type 0
 WiredControlsAreDriven =
-    (x : Control) (g : Gates) (row : Row) (ends : Ends) (wanted : ℕ) (run : List Clock) (start slowdown q r : ℕ)
-    → (inputs outputs : List StTree) → 0 < ends.columns → is_beat inputs 0 ≡ true → IsReset run g.reset start
-    → IsWired x g row ends wanted q run → AreQueued x ends run → IsMarked x g row wanted run start slowdown r inputs outputs
+    (x : Control) (g : Gates) (row : Row) (ends : Ends) (wanted wait : ℕ) (run : List Clock) (start slowdown q r : ℕ)
+    → (inputs outputs : List StTree) → 0 < ends.columns
+    → ((c : ℕ) → is_beat outputs c ≡ true → q * slowdown + r + c < suc wait * slowdown)
+    → is_beat inputs 0 ≡ true → IsReset run g.reset start
+    → IsWired x g row ends wanted q wait run → AreQueued x ends run → IsMarked x g row wanted run start slowdown r inputs outputs
     → IsDriven x g row ends run start slowdown q r inputs outputs
 
 abbrev pub HeldMarksAreSeen : Type 0
@@ -75,4 +77,5 @@ HeldMarksAreSeen =
     → (run : List Clock) (start : ℕ) → IsRun new.cells run → IsReset run 0 start
     → ((t : ℕ) → t < start → t < length run → bit x.enable (get_or run t no_clock) ≡ true)
     → (y : ℕ) (f : ℕ → ℕ) → y < length marked.cells → InEveryResetRun marked.cells 0 (λ run start. HasWords run start y f)
-    → (t : ℕ) → t < length (steps x start run) → word_in (placed 2 y) (get_or (steps x start run) t no_clock) ≡ f t
+    → (t : ℕ) → t < length (drop start run)
+    → word_in (placed 2 y) (get_or (drop start run) t no_clock) ≡ f (steps_before x start run t)

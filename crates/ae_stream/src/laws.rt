@@ -26,7 +26,8 @@ pub fn driven_circuits_keep_words()
 {}
 
 /// A law: such a control goes on. It asks the source at least once in as many clocks in a row as a block has, and one more, in
-/// which the sink takes; and as long as both ends go in each clock, so does the circuit.
+/// which the sink takes; as long as both ends go in each clock, so does the circuit; and where the sink takes and the source does
+/// not stop inside a block, the results of all whole blocks come out soon, without further input.
 pub fn driven_circuits_go_on()
     ensures { DrivenCircuitsGoOn }
 {}
@@ -38,13 +39,13 @@ pub fn held_circuits_are_inside()
 {}
 
 /// A law: a control whose gates and registers do, in each clock of a run that begins with reset, what they are to do, and whose
-/// marks are those of the clocks in which the circuit steps, takes what it is to take.
+/// marks tell how many clocks before were steps of the circuit, takes what it is to take.
 pub fn wired_controls_are_driven()
     ensures { WiredControlsAreDriven }
 {}
 
 /// A law: a net that has in every reset run of a netlist the words of a function of the clocks after reset has, where a copy of
-/// the netlist is held by the net that says that the circuit steps, these words in the clocks in which it steps, one by one.
+/// the netlist is held by the net that says that the circuit steps, in each clock the word of the number of steps before it.
 pub fn held_marks_are_seen()
     ensures { HeldMarksAreSeen }
 {}

@@ -1,5 +1,5 @@
 -- A marked circuit with a control around it stands between two channels.
-use Rattle.std.proofs.Common.{ℕ, zero, suc, ◌≡◌, ◌+◌, ◌*◌, ◌/◌, ◌%◌, ◌-◌, ◌<◌, ◌≤◌, Bool, true, false, List, [], ◌∷◌, length, sum_by, Some, slice_get, get_or, arith, refl, sym, ap, ◌∙◌, subst}
+use Rattle.std.proofs.Common.{ℕ, zero, suc, ◌≡◌, ◌+◌, ◌*◌, ◌/◌, ◌%◌, ◌-◌, ◌<◌, ◌≤◌, Bool, true, false, List, [], ◌∷◌, length, sum_by, Some, slice_get, drop, get_or, arith, refl, sym, ap, ◌∙◌, subst}
 use Rattle.std.specs.Prelude.{◌||◌, ◌==◌, nat_lt, if◌then◌else◌}
 use Rattle.std.proofs.lemmas.List.{length-map}
 use Rattle.std.proofs.Math.Nat.{div-le_self}
@@ -16,10 +16,9 @@ use Rattle.ae_clocked.specs.Signals.{Grows}
 use Rattle.ae_rewrite.specs.Blocks.{MakesBlocks, outlet_net}
 use Rattle.ae_stall.specs.Held.{inner_clock}
 use Rattle.ae_stall.specs.Images.{placed, placed_net}
-use Rattle.ae_stream.specs.Passing.{ByNumber}
 use Rattle.ae_stream.specs.Queue.{next_a}
 use Rattle.ae_stream.specs.Streams.{Ends, Stays, Streams, bit, is_beat, is_transfer}
-use Rattle.ae_stream.specs.Control.{AreWithin, Control, IsInside, steps, word_in}
+use Rattle.ae_stream.specs.Control.{AreWithin, BySteps, Control, IsInside, steps_before, word_in}
 use Rattle.ae_stream.specs.Driven.{IsDriven, late_clock}
 use Rattle.ae_stream.specs.Fed.{CanBeFed}
 use Rattle.ae_stream.specs.Laws.{DrivenCircuitsGoOn, DrivenCircuitsKeepWords, DrivenCircuitsStream, HeldCircuitsAreInside, HeldMarksAreSeen, WiredControlsAreDriven}
@@ -61,9 +60,9 @@ first_inputs q =
     let f : 3 + q ≡ suc (2 + q) = omega arith in
     f ∙ sym (ap (placed 2) e)
 
-module _ (n marked new : Circuit) (m : Marks) (slowdown latency : ℕ) (inputs outputs : List StTree)
+module _ (n marked new : Circuit) (m : Marks) (slowdown latency wait : ℕ) (inputs outputs : List StTree)
     (some : 0 < slowdown) (formed : IsFormed n.cells) (have : HaveNets n.cells n.outlets) (one : HasOneRun n.cells) (grows : Grows n marked) (formed_marked : IsFormed marked.cells)
-    (marks : HasMarks marked.cells m slowdown (latency % slowdown) inputs outputs) (wrapped : IsWrapped marked new m (latency / slowdown))
+    (marks : HasMarks marked.cells m slowdown (latency % slowdown) inputs outputs) (wrapped : IsWrapped marked new m (latency / slowdown) wait) (waits : (c : ℕ) → is_beat outputs c ≡ true → latency + c < suc wait * slowdown)
     (ins : AreWithin inputs slowdown (sum_by columns_of inputs)) (outs : AreWithin outputs slowdown (sum_by columns_of outputs))
     (fits : sum_by columns_of inputs < length n.cells) (shows : length n.outlets ≡ sum_by columns_of outputs) (any : 0 < sum_by columns_of outputs)
     (lies_inside : HeldCircuitsAreInside) (are_seen : HeldMarksAreSeen) (are_driven : WiredControlsAreDriven) (they_stream : DrivenCircuitsStream) (they_keep : DrivenCircuitsKeepWords) (they_go_on : DrivenCircuitsGoOn) where
@@ -92,7 +91,7 @@ module _ (n marked new : Circuit) (m : Marks) (slowdown latency : ℕ) (inputs o
     keeps : (k : ℕ) (sized : SizedCell) → length marked.cells + 2 ≤ k → slice_get new.cells k ≡ Some sized → slice_get new.cells k ≡ Some sized
     keeps k sized low h = h
 
-    wired : IsWired x wrapped.control.gates wrapped.control.row own (placed 2 m.wants.0) (latency / slowdown) run
+    wired : IsWired x wrapped.control.gates wrapped.control.row own (placed 2 m.wants.0) (latency / slowdown) wait run
     wired = wrapped.control.wired (net_at (copied_nets marked.outlets)) second (λ q. 3 + q) (λ q. outlet_net new.outlets (2 + q)) (sum_by columns_of inputs) columns new.cells keeps run r
 
     queued : AreQueued x own run
@@ -132,23 +131,23 @@ module _ (n marked new : Circuit) (m : Marks) (slowdown latency : ℕ) (inputs o
         high : (t : ℕ) → t < start → t < length run → bit wrapped.control.gates.reset (get_or run t no_clock) ≡ true
         high t b l = ap (λ k. k == 1) (reset_there.high t b l)
 
-    seen : (y : ℕ) (passes : ℕ → Bool) → IsBitOf marked.cells 0 y passes → ByNumber (bit (placed 2 y)) passes (steps x start run) no_clock
+    seen : (y : ℕ) (passes : ℕ → Bool) → IsBitOf marked.cells 0 y passes → BySteps x start run (bit (placed 2 y)) passes
     seen y passes h t l =
-        bit_of (passes t) (word_in (placed 2 y) (get_or (steps x start run) t no_clock))
+        bit_of (passes (steps_before x start run t)) (word_in (placed 2 y) (get_or (drop start run) t no_clock))
         (are_seen x marked wrapped.copied new formed_marked (omega (arith, fits, long)) wrapped.held wrapped.longer run start r reset on y (λ c. if passes c then 1 else 0) (net_within h.net) h.words t l)
 
     marked_run : IsMarked x wrapped.control.gates wrapped.control.row (placed 2 m.wants.0) run start slowdown (latency % slowdown) inputs outputs
     marked_run = record {
-      first = subst (λ y. ByNumber (bit y) (λ t. t % slowdown == 0) (steps x start run) no_clock) (sym wrapped.control.first) (seen m.first.0 _ marks.first);
-      last = subst (λ y. ByNumber (bit y) (λ t. t % slowdown == slowdown - 1) (steps x start run) no_clock) (sym wrapped.control.last) (seen m.last.0 _ marks.last);
+      first = subst (λ y. BySteps x start run (bit y) (λ t. t % slowdown == 0)) (sym wrapped.control.first) (seen m.first.0 _ marks.first);
+      last = subst (λ y. BySteps x start run (bit y) (λ t. t % slowdown == slowdown - 1)) (sym wrapped.control.last) (seen m.last.0 _ marks.last);
       wants = seen m.wants.0 _ marks.wants;
-      late = subst (λ y. ByNumber (bit y) (λ t. is_beat outputs (late_clock slowdown (latency % slowdown) (t % slowdown))) (steps x start run) no_clock) (sym wrapped.control.late) (seen m.late.0 _ marks.late);
-      behind = subst (λ y. ByNumber (bit y) (λ t. nat_lt (t % slowdown) (latency % slowdown)) (steps x start run) no_clock) (sym wrapped.control.behind) (seen m.behind.0 _ marks.behind);
+      late = subst (λ y. BySteps x start run (bit y) (λ t. is_beat outputs (late_clock slowdown (latency % slowdown) (t % slowdown)))) (sym wrapped.control.late) (seen m.late.0 _ marks.late);
+      behind = subst (λ y. BySteps x start run (bit y) (λ t. nat_lt (t % slowdown) (latency % slowdown))) (sym wrapped.control.behind) (seen m.behind.0 _ marks.behind);
     }
 
     driven : IsDriven x wrapped.control.gates wrapped.control.row own run start slowdown (latency / slowdown) (latency % slowdown) inputs outputs
-    driven = are_driven x wrapped.control.gates wrapped.control.row own (placed 2 m.wants.0) run start slowdown (latency / slowdown) (latency % slowdown) inputs outputs
-        (omega (arith, shows, any)) ins.first reset_there wired queued marked_run
+    driven = are_driven x wrapped.control.gates wrapped.control.row own (placed 2 m.wants.0) wait run start slowdown (latency / slowdown) (latency % slowdown) inputs outputs
+        (omega (arith, shows, any)) (λ c y. omega (arith, waits c y, div-add-mod' latency slowdown)) ins.first reset_there wired queued marked_run
 
     streams_own : (p : ProgramTree) → CanBeFed n.cells p inputs → MakesBlocks n p slowdown latency inputs outputs → Streams own run start p slowdown inputs outputs
     streams_own p fed makes = they_stream x wrapped.control.gates wrapped.control.row own n (inner_clock 2 (length n.cells)) run start slowdown (latency / slowdown) (latency % slowdown) p inputs outputs
@@ -160,7 +159,7 @@ module _ (n marked new : Circuit) (m : Marks) (slowdown latency : ℕ) (inputs o
 
     goes_on_own : GoesOn own run start slowdown latency inputs outputs
     goes_on_own = subst (λ k. GoesOn own run start slowdown k inputs outputs) (div-add-mod' latency slowdown)
-        (they_go_on x wrapped.control.gates wrapped.control.row own run start slowdown (latency / slowdown) (latency % slowdown) inputs outputs some (mod_below latency slowdown some) driven refl)
+        (they_go_on x wrapped.control.gates wrapped.control.row own run start slowdown (latency / slowdown) (latency % slowdown) inputs outputs some (mod_below latency slowdown some) ins.first driven refl)
 
   pub is_stream : IsStream n new slowdown latency inputs outputs
   is_stream = record {
@@ -187,6 +186,13 @@ same_stream n new slowdown latency limit inputs outputs h = record {
 pub wait_few : (latency slowdown last : ℕ) → 0 < slowdown → last < slowdown → (latency + last) / slowdown ≤ latency / slowdown + 1
 wait_few latency slowdown last some low =
     omega (arith, div_below (latency + last) slowdown (latency / slowdown + 2) some (omega (arith, div-add-mod' latency slowdown, mod_below latency slowdown some, low)))
+
+-- enough blocks for the last result of each
+pub wait_long : (latency slowdown last c : ℕ) → 0 < slowdown → c ≤ last → latency + c < suc ((latency + last) / slowdown) * slowdown
+wait_long latency slowdown last c some low =
+    let d : ℕ = (latency + last) / slowdown in
+    let wide : suc d * slowdown ≡ d * slowdown + slowdown = omega arith in
+    omega (arith, wide, div-add-mod' (latency + last) slowdown, mod_below (latency + last) slowdown some, low)
 
 pub blocks_few : (latency slowdown : ℕ) → 0 < slowdown → latency / slowdown ≤ latency
 blocks_few latency slowdown some = div-le_self latency slowdown

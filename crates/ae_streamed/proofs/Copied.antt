@@ -29,7 +29,7 @@ use Rattle.ae_streamed.proofs.Queueing.{own_width}
 
 -- ---- a control and its queues go on to be what they are where their cells are kept
 
-control_kept : {from blocks : ℕ} {a b : List SizedCell} {w : Wires} {c : Controlled} → KeepsFrom from a b → IsControl from a w blocks c → IsControl from b w blocks c
+control_kept : {from blocks wait : ℕ} {a b : List SizedCell} {w : Wires} {c : Controlled} → KeepsFrom from a b → IsControl from a w blocks wait c → IsControl from b w blocks wait c
 control_kept k h = record {
   gates = h.gates;
   row = h.row;
@@ -61,16 +61,16 @@ nets_later e h = record {
   moves = net_later e h.moves;
 }
 
-pub has_driver : (old one two new : Circuit) (m : Marks) (w : Wires) (blocks at : ℕ) (made : List NetId) (outlets : List Outlet) (c : Controlled) → w ≡ wires_of m → IsLonger old one → IsControl (length old.cells) one.cells w blocks c
+pub has_driver : (old one two new : Circuit) (m : Marks) (w : Wires) (blocks wait at : ℕ) (made : List NetId) (outlets : List Outlet) (c : Controlled) → w ≡ wires_of m → IsLonger old one → IsControl (length old.cells) one.cells w blocks wait c
     → HasControlNets (length old.cells) one.cells c → at ≡ length one.cells → IsLonger one two → AreColumns (length one.cells) two.cells c made
-    → new.cells ≡ two.cells → new.limit ≡ two.limit → AreShownBy c at outlets new.outlets → HasDriver old new m blocks made outlets c
-has_driver old one two new m w blocks at made outlets c is first control nets here then_two columns cells limit shown =
+    → new.cells ≡ two.cells → new.limit ≡ two.limit → AreShownBy c at outlets new.outlets → HasDriver old new m blocks wait made outlets c
+has_driver old one two new m w blocks wait at made outlets c is first control nets here then_two columns cells limit shown =
     let both : IsLonger old two = longer_trans first then_two in
     record {
       extends = subst (Extends old.cells) (sym cells) both.extends;
       limit = limit ∙ both.limit;
-      control = subst (λ v. IsControl (length old.cells) new.cells v blocks c) is
-          (subst (λ v. IsControl (length old.cells) v w blocks c) (sym cells) (control_kept (λ n sized l f. then_two.extends.keeps n sized f) control));
+      control = subst (λ v. IsControl (length old.cells) new.cells v blocks wait c) is
+          (subst (λ v. IsControl (length old.cells) v w blocks wait c) (sym cells) (control_kept (λ n sized l f. then_two.extends.keeps n sized f) control));
       nets = subst (λ v. HasControlNets (length old.cells) v c) (sym cells) (nets_later then_two.extends nets);
       at = at;
       behind = omega (arith, here, extends_length old.cells one.cells first.extends);
@@ -173,9 +173,9 @@ made_nets old new outlets made is have c k n found =
     let o = of_mapped (λ (o : Outlet). placed_net 2 o.net) outlets k n (ap (λ v. slice_get v k) (sym is) ∙ found) in
     subst (λ (v : NetId). IsNet new v.0 (width_of new v.0)) o.2 (own_width (copied_net c (have.each k o.0 o.1)))
 
-pub may_be_held : (old copied driven : Circuit) (m : Marks) (blocks : ℕ) (made : List NetId) (outlets : List Outlet) (c : Controlled) → slice_get old.cells 0 ≡ Some reset_cell → IsCopied channel_inputs old.cells copied.cells (length old.cells)
-    → HasDriver copied driven m blocks made outlets c → MayBeHeld 2 c.enable.0 old.cells driven.cells
-may_be_held old copied driven m blocks made outlets c reset h d = record {
+pub may_be_held : (old copied driven : Circuit) (m : Marks) (blocks wait : ℕ) (made : List NetId) (outlets : List Outlet) (c : Controlled) → slice_get old.cells 0 ≡ Some reset_cell → IsCopied channel_inputs old.cells copied.cells (length old.cells)
+    → HasDriver copied driven m blocks wait made outlets c → MayBeHeld 2 c.enable.0 old.cells driven.cells
+may_be_held old copied driven m blocks wait made outlets c reset h d = record {
   some = h.some;
   many = omega (arith, h.long, extends_length copied.cells driven.cells d.extends);
   apart = inr (omega (arith, h.long, d.nets.behind));
@@ -183,9 +183,9 @@ may_be_held old copied driven m blocks made outlets c reset h d = record {
   each = λ n sized found. record { there = d.extends.keeps (placed 2 n) _ (h.each n sized (slice_get_within old.cells n sized found) found).there };
 }
 
-pub is_wrapped : (marked copied driven new : Circuit) (m : Marks) (blocks : ℕ) (made : List NetId) (c : Controlled) → made ≡ copied_nets marked.outlets → IsCopied channel_inputs marked.cells copied.cells (length marked.cells)
-    → HasDriver copied driven m blocks made marked.outlets c → IsHeld 2 c.enable.0 marked driven new → IsWrapped marked new m blocks
-is_wrapped marked copied driven new m blocks made c is h d held =
+pub is_wrapped : (marked copied driven new : Circuit) (m : Marks) (blocks wait : ℕ) (made : List NetId) (c : Controlled) → made ≡ copied_nets marked.outlets → IsCopied channel_inputs marked.cells copied.cells (length marked.cells)
+    → HasDriver copied driven m blocks wait made marked.outlets c → IsHeld 2 c.enable.0 marked driven new → IsWrapped marked new m blocks wait
+is_wrapped marked copied driven new m blocks wait made c is h d held =
     let size : length copied.cells ≡ length marked.cells + 2 = h.long in
     let keeps : KeepsFrom (length marked.cells + 2) driven.cells new.cells = λ n sized l f. held.keeps n sized (inr l) f in
     let later : KeepsFrom d.at driven.cells new.cells = λ n sized l f. held.keeps n sized (inr (omega (arith, size, d.behind, l))) f in
@@ -196,7 +196,7 @@ is_wrapped marked copied driven new m blocks made c is h d held =
       longer = omega (arith, size, extends_length copied.cells driven.cells d.extends);
       valid = held.keeps 1 _ (inl (omega arith, omega arith)) (d.extends.keeps 1 _ (h.inputs 0 source_valid refl));
       ready = held.keeps 2 _ (inl (omega arith, omega arith)) (d.extends.keeps 2 _ (h.inputs 1 sink_ready refl));
-      control = control_kept keeps (subst (λ v. IsControl v driven.cells (wires_of m) blocks c) size d.control);
+      control = control_kept keeps (subst (λ v. IsControl v driven.cells (wires_of m) blocks wait c) size d.control);
       at = d.at;
       columns = columns_kept later (subst (AreColumns d.at driven.cells c) is d.columns);
       shown = subst (AreShownBy c d.at marked.outlets) (sym held.outlets) d.shown;

@@ -11,7 +11,7 @@ use Rattle.ae_netlist.proofs.Growing.{net_later}
 use Rattle.ae_streamed.specs.declared.driver.Places.{Places}
 use Rattle.ae_streamed.specs.declared.driver.Wires.{Wires}
 use Rattle.ae_streamed.specs.Cells.{AreChoices, AreConnected, CanConnect, HasRegisters, IsLonger, choice, taking}
-use Rattle.ae_streamed.specs.Controls.{AreWires, HasBegun, HasCells, HasControlNets, HasFlagGates, IsControl, IsFlagGate, flag_net, gate_rows, net, row}
+use Rattle.ae_streamed.specs.Controls.{AreWires, HasAny, HasBegun, HasCells, HasControlNets, HasFlagGates, IsControl, IsFlagGate, any_net, flag_net, gate_rows, net, row}
 use Rattle.ae_streamed.proofs.Cells.{get_behind, get_mapped, longer_by, longer_refl, longer_trans}
 use Rattle.ae_streamed.proofs.Tables.{fit}
 use Rattle.ae_streamed.proofs.Tables.Fit.{before, none}
@@ -68,6 +68,25 @@ wires_later a b w e h = record {
   late = net_later e h.late;
   behind = net_later e h.behind;
 }
+
+-- ---- one of several bits
+
+pub any_none : (cells : List SizedCell) (first low high at : ℕ) → HasAny cells first 0 low high at low
+any_none cells first low high at = record { last = refl; each = λ k l. absurd (omega arith) }
+
+pub any_more : (a b : Circuit) (first k low high at y : ℕ) → HasAny a.cells first k low high at y → length a.cells ≡ at + k → b ≡ record a { cells = a.cells ++ choice 1 (row (first + k) high y) ∷ [] } → HasAny b.cells first (k + 1) low high at (at + k)
+any_more a b first k low high at y h long e =
+    let x : SizedCell = choice 1 (row (first + k) high y) in
+    let one : k + 1 ≡ suc k = omega arith in
+    let longer : IsLonger a b = longer_by a b (x ∷ []) e in
+    let there : slice_get b.cells (at + k) ≡ Some x = rw e (get_behind a.cells (x ∷ []) (at + k) 0 x (omega (arith, long)) refl) in
+    record {
+      last = sym (ap (any_net low at) one);
+      each = λ i l. elim (cases_eq i k) [
+        | inl same ↦ rw same (there ∙ ap (λ n. Some (choice 1 (row (first + k) high n))) h.last)
+        | inr apart ↦ longer.extends.keeps _ _ (h.each i (omega (arith, l, apart)))
+      ];
+    }
 
 -- ---- the gates of flags
 
@@ -160,8 +179,8 @@ module _ (s0 s1 s2 s3 s4 : Circuit) (w : Wires) (at : Places) (busy : NetId) (be
     can_connect = record { registers = λ k l. (net (at.base + 2 + k), register_cell k l); nets = next_net }
 
     module _ (s5 : Circuit) (connected : AreConnected s4 s5 (at.base + 2) (at.gates + 21) (at.blocks + 4)) where
-      pub has_cells : HasCells s5.cells w at busy
-      has_cells = record {
+      pub has_cells : (wait : ℕ) → HasAny s2.cells (at.base + 5) wait at.base (at.base + 1) (at.base + at.blocks + 6) busy.0 → HasCells s5.cells w at wait busy
+      has_cells wait any = record {
         low = connected.others at.base _ (inl (omega arith)) (rw base (kept _ _ begin.low));
         high = connected.others (at.base + 1) _ (inl (omega arith)) (rw base (kept _ _ begin.high));
         gates = λ k nets found. connected.others (at.gates + k) _ (inr (omega (arith, behind))) (flags.longer.extends.keeps _ _ (gate_cell k nets found));
@@ -170,6 +189,10 @@ module _ (s0 s1 s2 s3 s4 : Circuit) (w : Wires) (at : Places) (busy : NetId) (be
           clears = connected.others (at.gates + 27 + 2 * j) _ (inr (omega (arith, behind))) (flags.each j l).clears;
         };
         registers = λ k l. connected.each k l;
+        any = record {
+          last = any.last;
+          each = λ k l. connected.others (at.base + at.blocks + 6 + k) _ (inr (omega arith)) (flags.longer.extends.keeps _ _ (longer3.extends.keeps _ _ (any.each k l)));
+        };
       }
 
       pub all_longer : IsLonger s0 s5
@@ -183,8 +206,8 @@ module _ (s0 s1 s2 s3 s4 : Circuit) (w : Wires) (at : Places) (busy : NetId) (be
         outlets = connected.outlets ∙ (flags.longer.outlets ∙ (longer3.outlets ∙ (more.outlets ∙ begin.longer.outlets)));
       }
 
-      pub controls : IsControl (length s0.cells) s5.cells w at.blocks (record { enable = net (at.gates + 7); asks = net (at.gates + 10); one = net (at.base + 3); two = net (at.base + 4); moves = net (at.gates + 19) })
-      controls = is_control s5.cells (length s0.cells) w at busy (omega (arith, base)) (omega (arith, base, behind)) has_cells
+      pub controls : (wait : ℕ) → HasAny s2.cells (at.base + 5) wait at.base (at.base + 1) (at.base + at.blocks + 6) busy.0 → IsControl (length s0.cells) s5.cells w at.blocks wait (record { enable = net (at.gates + 7); asks = net (at.gates + 10); one = net (at.base + 3); two = net (at.base + 4); moves = net (at.gates + 19) })
+      controls wait any = is_control s5.cells (length s0.cells) w at wait busy (omega (arith, base)) (omega (arith, base, behind)) (has_cells wait any)
 
       gate_bit : (k : ℕ) → k < 26 → IsNet s5.cells (at.gates + k) 1
       gate_bit k l = connected.nets _ _ (net_later flags.longer.extends (gate_net k l))

@@ -1,6 +1,7 @@
 -- What the cells of a control make so in every run.
-use Rattle.std.proofs.Common.{ℕ, ◌≡◌, ◌+◌, ◌*◌, ◌<◌, ◌≤◌, List, length, Some, slice_get, get_or, Bool, true, false, arith, refl, sym, ap, ◌∙◌}
+use Rattle.std.proofs.Common.{ℕ, zero, suc, ◌≡◌, ◌+◌, ◌*◌, ◌<◌, ◌≤◌, inl, inr, List, length, Some, slice_get, get_or, Bool, true, false, arith, refl, sym, ap, ◌∙◌}
 use Rattle.std.specs.Prelude.{◌&&◌, ◌||◌, ◌==◌, not, if◌then◌else◌}
+use Rattle.std.proofs.lemmas.Bool.{cases_eq}
 use Rattle.ae_netlist.specs.declared.cell.NetId.{NetId}
 use Rattle.ae_netlist.specs.declared.cell.Cell.TheVariants.{Const}
 use Rattle.ae_netlist.specs.declared.cell.SizedCell.{SizedCell}
@@ -13,7 +14,7 @@ use Rattle.ae_streamed.specs.declared.driver.Controlled.{Controlled}
 use Rattle.ae_streamed.specs.declared.driver.Places.{Places}
 use Rattle.ae_streamed.specs.declared.driver.Wires.{Wires}
 use Rattle.ae_streamed.specs.Cells.{KeepsFrom, choice, taking}
-use Rattle.ae_streamed.specs.Controls.{HasCells, IsControl, IsFlagGate, control_of, ends_of, flag_net, gate_rows, net, row}
+use Rattle.ae_streamed.specs.Controls.{HasCells, IsControl, IsFlagGate, any_net, control_of, ends_of, flag_net, gate_rows, net, row}
 
 -- ---- gates of bits
 
@@ -89,7 +90,7 @@ moves_is false ready = refl
 
 -- ---- in a run
 
-module _ (all : List SizedCell) (w : Wires) (at : Places) (busy : NetId) (h : HasCells all w at busy) (run : List Clock) (r : IsRun all run) where
+module _ (all : List SizedCell) (w : Wires) (at : Places) (wait : ℕ) (busy : NetId) (h : HasCells all w at wait busy) (run : List Clock) (r : IsRun all run) where
   abbrev g : ℕ
   g = at.gates
 
@@ -216,12 +217,29 @@ module _ (all : List SizedCell) (w : Wires) (at : Places) (busy : NetId) (h : Ha
   first_takes : (t : ℕ) → t < length run → bit w.first.0 (get_or run t no_clock) ≡ true → bit (g + 1) (get_or run t no_clock) ≡ true
   first_takes t l on = takes_at t l ∙ ap (λ v. v || bit w.wants.0 (get_or run t no_clock)) on
 
+  -- a bit of several that is 1 makes what is made of them 1
+  any_at : (k : ℕ) → k ≤ wait → (j : ℕ) → j < k → (t : ℕ) → t < length run → bit (at.base + 5 + j) (get_or run t no_clock) ≡ true → bit (any_net at.base (at.base + at.blocks + 6) k) (get_or run t no_clock) ≡ true
+  any_at zero few j soon t l on = absurd (omega arith)
+  any_at (suc k) few j soon t l on =
+      let c : Clock = get_or run t no_clock in
+      let is = choice_at (at.base + at.blocks + 6 + k) (at.base + 5 + k) (at.base + 1) (any_net at.base (at.base + at.blocks + 6) k) (h.any.each k (omega (arith, few))) t l in
+      elim (cases_eq j k) [
+        | inl same ↦
+            let here : bit (at.base + 5 + k) c ≡ true = ap (λ n. bit (at.base + 5 + n) c) (sym same) ∙ on in
+            is ∙ (ap (λ v. if v then bit (at.base + 1) c else bit (any_net at.base (at.base + at.blocks + 6) k) c) here ∙ high t l)
+        | inr apart ↦ is ∙ either (bit (at.base + 5 + k) c) (high t l) (any_at k (omega (arith, few)) j (omega (arith, soon, apart)) t l on)
+      ]
+    where
+      either : (v : Bool) {a b : Bool} → a ≡ true → b ≡ true → (if v then a else b) ≡ true
+      either true e f = e
+      either false e f = f
+
   abbrev pub nets : Controlled
   nets = record { enable = net (g + 7); asks = net (g + 10); one = net (at.base + 3); two = net (at.base + 4); moves = net (g + 19) }
 
   pub wired : (made second ins outs : ℕ → ℕ) (in_columns columns : ℕ)
       → IsWired (control_of nets (g + 1) g (g + 12) made second) (record { reset = w.reset.0; first = w.first.0; current = at.base + 2; busy = busy.0 })
-      (record { flag = flag_net at; last = w.last.0; late = w.late.0; behind = w.behind.0 }) (ends_of w nets in_columns columns ins outs) w.wants.0 at.blocks run
+      (record { flag = flag_net at; last = w.last.0; late = w.late.0; behind = w.behind.0 }) (ends_of w nets in_columns columns ins outs) w.wants.0 at.blocks wait run
   wired made second ins outs in_columns columns = record {
     here = refl;
     valid = refl;
@@ -230,23 +248,25 @@ module _ (all : List SizedCell) (w : Wires) (at : Places) (busy : NetId) (h : Ha
     shows = shows_at;
     current = current_at;
     flag = flag_at;
+    busy = λ j soon t l on. ap (λ n. bit n (get_or run t no_clock)) h.any.last ∙ any_at wait (omega arith) j soon t l on;
     one = one_at;
     two = two_at;
   }
 
 -- the cells stand in every netlist that has the cells from the first of them on
-pub cells_kept : (cells all : List SizedCell) (from : ℕ) (w : Wires) (at : Places) (busy : NetId) → from ≤ at.base → from ≤ at.gates → KeepsFrom from cells all → HasCells cells w at busy → HasCells all w at busy
-cells_kept cells all from w at busy low high k h = record {
+pub cells_kept : (cells all : List SizedCell) (from : ℕ) (w : Wires) (at : Places) (wait : ℕ) (busy : NetId) → from ≤ at.base → from ≤ at.gates → KeepsFrom from cells all → HasCells cells w at wait busy → HasCells all w at wait busy
+cells_kept cells all from w at wait busy low high k h = record {
   low = k at.base _ low h.low;
   high = k (at.base + 1) _ (omega arith) h.high;
   gates = λ i nets there. k (at.gates + i) _ (omega arith) (h.gates i nets there);
   flags = λ j l. record { turns = k (at.gates + 26 + 2 * j) _ (omega arith) (h.flags j l).turns; clears = k (at.gates + 27 + 2 * j) _ (omega arith) (h.flags j l).clears };
   registers = λ i l. k (at.base + 2 + i) _ (omega arith) (h.registers i l);
+  any = record { last = h.any.last; each = λ i l. k (at.base + at.blocks + 6 + i) _ (omega arith) (h.any.each i l) };
 }
 
-pub is_control : (cells : List SizedCell) (from : ℕ) (w : Wires) (at : Places) (busy : NetId) → from ≤ at.base → from ≤ at.gates → HasCells cells w at busy
-    → IsControl from cells w at.blocks (record { enable = net (at.gates + 7); asks = net (at.gates + 10); one = net (at.base + 3); two = net (at.base + 4); moves = net (at.gates + 19) })
-is_control cells from w at busy low high h = record {
+pub is_control : (cells : List SizedCell) (from : ℕ) (w : Wires) (at : Places) (wait : ℕ) (busy : NetId) → from ≤ at.base → from ≤ at.gates → HasCells cells w at wait busy
+    → IsControl from cells w at.blocks wait (record { enable = net (at.gates + 7); asks = net (at.gates + 10); one = net (at.base + 3); two = net (at.base + 4); moves = net (at.gates + 19) })
+is_control cells from w at wait busy low high h = record {
   gates = record { reset = w.reset.0; first = w.first.0; current = at.base + 2; busy = busy.0 };
   row = record { flag = flag_net at; last = w.last.0; late = w.late.0; behind = w.behind.0 };
   takes = at.gates + 1;
@@ -257,6 +277,6 @@ is_control cells from w at busy low high h = record {
   last = refl;
   late = refl;
   behind = refl;
-  wired = λ made second ins outs in_columns columns all k run r. wired all w at busy (cells_kept cells all from w at busy low high k h) run r made second ins outs in_columns columns;
-  moves = λ all k run r. moves_at all w at busy (cells_kept cells all from w at busy low high k h) run r;
+  wired = λ made second ins outs in_columns columns all k run r. wired all w at wait busy (cells_kept cells all from w at wait busy low high k h) run r made second ins outs in_columns columns;
+  moves = λ all k run r. moves_at all w at wait busy (cells_kept cells all from w at wait busy low high k h) run r;
 }

@@ -79,11 +79,11 @@ pub record AreShownBy (c : Controlled) (at : ℕ) (old outlets : List Outlet) : 
   pub columns : (k : ℕ) → k < length old → outlet_net outlets (2 + k) ≡ at + 4 * k
 
 -- behind these cells come a control and queues for these nets, and they are shown
-pub record HasDriver (old new : Circuit) (m : Marks) (blocks : ℕ) (made : List NetId) (outlets : List Outlet)
+pub record HasDriver (old new : Circuit) (m : Marks) (blocks wait : ℕ) (made : List NetId) (outlets : List Outlet)
     (c : Controlled) : Type 0 where
   pub extends : Extends old.cells new.cells
   pub limit : new.limit ≡ old.limit
-  pub control : IsControl (length old.cells) new.cells (wires_of m) blocks c
+  pub control : IsControl (length old.cells) new.cells (wires_of m) blocks wait c
   pub nets : HasControlNets (length old.cells) new.cells c
   pub at : ℕ
   pub behind : length old.cells ≤ at
@@ -91,14 +91,14 @@ pub record HasDriver (old new : Circuit) (m : Marks) (blocks : ℕ) (made : List
   pub shown : AreShownBy c at outlets new.outlets
 
 -- a copy of a marked netlist, held by the control that is around it
-pub record IsWrapped (marked new : Circuit) (m : Marks) (blocks : ℕ) : Type 0 where
+pub record IsWrapped (marked new : Circuit) (m : Marks) (blocks wait : ℕ) : Type 0 where
   pub by : Controlled
   pub copied : Circuit
   pub held : IsHeld 2 by.enable.0 marked copied new
   pub longer : length marked.cells + 2 ≤ length copied.cells
   pub valid : slice_get new.cells 1 ≡ Some (bit_input source_valid)
   pub ready : slice_get new.cells 2 ≡ Some (bit_input sink_ready)
-  pub control : IsControl (length marked.cells + 2) new.cells (wires_of m) blocks by
+  pub control : IsControl (length marked.cells + 2) new.cells (wires_of m) blocks wait by
   pub at : ℕ
   pub columns : AreColumns at new.cells by (copied_nets marked.outlets)
   pub shown : AreShownBy by at marked.outlets new.outlets

@@ -97,8 +97,17 @@ pub record HasFlagGates (old new : Circuit) (reset : NetId) (at : Places) (count
   pub long : length new.cells ≡ length old.cells + 2 * count
   pub each : (j : ℕ) → j < count → IsFlagGate new.cells reset at j
 
--- all cells of the control, with a net for what is still to come
-pub record HasCells (cells : List SizedCell) (w : Wires) (at : Places) (busy : NetId) : Type 0 where
+-- whether one of so many bits is 1, which stand one behind the other: a choice for each, where the one before it says what is so else
+abbrev pub any_net : (low at count : ℕ) → ℕ
+any_net low at zero = low
+any_net low at (suc k) = at + k
+
+pub record HasAny (cells : List SizedCell) (first count low high at y : ℕ) : Type 0 where
+  pub last : y ≡ any_net low at count
+  pub each : (k : ℕ) → k < count → slice_get cells (at + k) ≡ Some (choice 1 (row (first + k) high (any_net low at k)))
+
+-- all cells of the control, with a net that is 1 where one of the first so many flags is
+pub record HasCells (cells : List SizedCell) (w : Wires) (at : Places) (wait : ℕ) (busy : NetId) : Type 0 where
   pub low : slice_get cells at.base ≡ Some (record { width = 1; cell = Const 0 })
   pub high : slice_get cells (at.base + 1) ≡ Some (record { width = 1; cell = Const 1 })
   pub gates : (k : ℕ) (nets : List NetId) → slice_get (gate_rows w at busy) k ≡ Some nets
@@ -106,6 +115,7 @@ pub record HasCells (cells : List SizedCell) (w : Wires) (at : Places) (busy : N
   pub flags : (j : ℕ) → j < at.blocks + 1 → IsFlagGate cells w.reset at j
   pub registers : (k : ℕ) → k < at.blocks + 4
       → slice_get cells (at.base + 2 + k) ≡ Some (taking 1 (net (at.gates + 21 + 2 * k)))
+  pub any : HasAny cells (at.base + 5) wait at.base (at.base + 1) (at.base + at.blocks + 6) busy.0
 
 -- the nets of the control, and the ends of the two channels, with those of the columns
 abbrev pub control_of : Controlled → (takes here shows : ℕ) → (made second : ℕ → ℕ) → Control
@@ -134,8 +144,9 @@ ends_of w c in_columns columns ins outs = record {
 abbrev pub MovesOn : Wires → Controlled → List Clock → Type 0
 MovesOn w c run = InEach (λ k. bit c.moves.0 k ≡ ((bit c.one.0 k && bit w.ready.0 k) || not (bit c.one.0 k))) run
 
--- in every run a control is wired behind these cells that reads these nets, and the words at the sink move on
-pub record IsControl (from : ℕ) (cells : List SizedCell) (w : Wires) (blocks : ℕ) (c : Controlled) : Type 0 where
+-- in every run a control is wired behind these cells that reads these nets, and the words at the sink move on; it is busy as long
+-- as one of the first so many flags is 1
+pub record IsControl (from : ℕ) (cells : List SizedCell) (w : Wires) (blocks wait : ℕ) (c : Controlled) : Type 0 where
   pub gates : Gates
   pub row : Row
   pub takes : ℕ
@@ -147,7 +158,7 @@ pub record IsControl (from : ℕ) (cells : List SizedCell) (w : Wires) (blocks :
   pub late : row.late ≡ w.late.0
   pub behind : row.behind ≡ w.behind.0
   pub wired : (made second ins outs : ℕ → ℕ) (in_columns columns : ℕ) → InRunsFrom from cells (λ run.
-      IsWired (control_of c takes here shows made second) gates row (ends_of w c in_columns columns ins outs) w.wants.0 blocks run)
+      IsWired (control_of c takes here shows made second) gates row (ends_of w c in_columns columns ins outs) w.wants.0 blocks wait run)
   pub moves : InRunsFrom from cells (MovesOn w c)
 
 -- what others read of it are nets of one bit, and the one that says that the circuit steps stands behind these cells

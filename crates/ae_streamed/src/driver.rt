@@ -147,7 +147,7 @@ pub fn control(nl: &mut Netlist, w: Wires, blocks: u32, wait: u32) -> Result<Con
     requires many { nl.old.limit ≤ 4000000000 }
     requires nets { AreWires nl.old.cells w }
     ensures longer { OnOk result (IsLonger nl.old nl.new) }
-    ensures control { IfOk result (λ c. IsControl (length nl.old.cells) nl.new.cells w blocks c) }
+    ensures control { IfOk result (λ c. IsControl (length nl.old.cells) nl.new.cells w blocks wait c) }
     ensures nets { IfOk result (λ c. HasControlNets (length nl.old.cells) nl.new.cells c) }
 {
     nl.formed();

@@ -3,6 +3,7 @@
 ghost use Rattle.std.specs.Prelude.{◌≡◌, ◌+◌, ◌<◌, ◌≤◌, ◌++◌, OnOk, IfOk, ℕ, length, map};
 ghost use Rattle.ae_netlist.specs.Circuit.{IsNet};
 ghost use Rattle.ae_streamed.specs.Cells.{AreChoices, AreConnected, CanConnect, HasRegisters, IsLonger, choice};
+ghost use Rattle.ae_streamed.specs.Controls.{HasAny};
 
 use ae_netlist::{Cell, NetFault, NetId, Netlist};
 use ae_word::WordOp;
@@ -55,6 +56,7 @@ pub fn any_of(
     requires high { IsNet nl.old.cells high.0 1 }
     ensures longer { OnOk result (IsLonger nl.old nl.new) }
     ensures net { IfOk result (λ y. IsNet nl.new.cells y.0 1) }
+    ensures any { IfOk result (λ y. HasAny nl.new.cells first count low.0 high.0 (length nl.old.cells) y.0) }
 {
     let mut any = low;
     for k in 0..count {

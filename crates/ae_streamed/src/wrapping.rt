@@ -178,7 +178,7 @@ fn drive(
     requires nets { (k : ℕ) (net : NetId) → slice_get made.now k ≡ Some net → IsNet new.old.cells net.0 (width_of new.old.cells net.0) }
     requires columns { length nl.now.outlets ≤ 1000000000 }
     requires shown { length made.now ≡ length nl.now.outlets }
-    ensures { IfOk result (λ c. (m : Marks) → w ≡ wires_of m → HasDriver new.old new.new m blocks made.now nl.now.outlets c) }
+    ensures { IfOk result (λ c. (m : Marks) → w ≡ wires_of m → HasDriver new.old new.new m blocks wait made.now nl.now.outlets c) }
 {
     let c = control(new, w, blocks, wait)?;
     let at = new.len();
@@ -216,7 +216,7 @@ pub fn wrap(
     requires marks { AreMarkNets nl.now.cells m }
     requires few { blocks ≤ 1000000 }
     requires waits { wait ≤ blocks + 1 }
-    ensures { IfOk result (λ new. IsWrapped nl.now new m blocks) }
+    ensures { IfOk result (λ new. IsWrapped nl.now new m blocks wait) }
 {
     nl.formed();
     let mut new = copied(alloc, nl)?;

@@ -1,9 +1,15 @@
 -- All cells of the control, one call after another.
-use Rattle.std.proofs.Common.{◌+◌, sym, arith}
+use Rattle.std.proofs.Common.{ℕ, ◌≡◌, ◌+◌, length, subst, sym, arith}
+use Rattle.ae_netlist.specs.Circuit.{Circuit}
 use Rattle.ae_netlist.proofs.Growing.{net_later}
+use Rattle.ae_streamed.specs.Controls.{HasAny, HasBegun}
 use Rattle.ae_streamed.proofs.Cells.{longer_length}
 use Rattle.ae_streamed.proofs.Standing.{all_longer, can_connect, control_nets, controls, gate_net, gates_long, longer3, own_at, wires_later}
 use Rattle.ae_streamed.proofs.driver.control.Goals as goal
+
+-- they stand behind the registers
+any_bits : (old begun grown : Circuit) (blocks wait base busy : ℕ) → base ≡ length old.cells → HasBegun old begun blocks → HasAny grown.cells (base + 5) wait base (base + 1) (length begun.cells) busy → HasAny grown.cells (base + 5) wait base (base + 1) (base + blocks + 6) busy
+any_bits old begun grown blocks wait base busy is begin h = (let e : length begun.cells ≡ base + blocks + 6 = omega (arith, begin.long, is) in subst (λ n. HasAny grown.cells (base + 5) wait base (base + 1) n busy) e h)
 
 pub any_of-requires-clause-bits : goal.any_of-requires-clause-bits
 any_of-requires-clause-bits c = λ k l. own_at c.args.nl.now c.begin.new.nl c.args.blocks c.in_ok-begin.ensures _ (5 + k) (omega (arith, c.len-base.ensures)) (omega (arith, c.requires.waits))
@@ -60,6 +66,7 @@ returns-clause-longer c = all_longer c.args.nl.now c.begin.new.nl c.any_of.new.n
 
 pub returns-clause-control : goal.returns-clause-control
 returns-clause-control c = controls c.args.nl.now c.begin.new.nl c.any_of.new.nl c.gates.new.nl c.flag_gates.new.nl c.args.w (record { base = c.len-base.result; blocks = c.args.blocks; gates = c.len-g.result }) c.in_ok-busy.busy c.in_ok-begin.ensures c.in_ok-busy.ensures.longer c.len-base.ensures c.len-g.ensures (omega (arith, c.in_ok-begin.ensures.long, longer_length c.in_ok-busy.ensures.longer, c.len-base.ensures, c.len-g.ensures)) c.in_ok-gates.ensures c.in_ok-flag_gates.ensures c.connect_all.new.nl c.connect_all.ensures
+    c.args.wait (any_bits c.args.nl.now c.begin.new.nl c.any_of.new.nl c.args.blocks c.args.wait c.len-base.result c.in_ok-busy.busy.0 c.len-base.ensures c.in_ok-begin.ensures c.in_ok-busy.ensures.any)
 
 pub returns-clause-nets : goal.returns-clause-nets
 returns-clause-nets c = control_nets c.args.nl.now c.begin.new.nl c.any_of.new.nl c.gates.new.nl c.flag_gates.new.nl c.args.w (record { base = c.len-base.result; blocks = c.args.blocks; gates = c.len-g.result }) c.in_ok-busy.busy c.in_ok-begin.ensures c.in_ok-busy.ensures.longer c.len-base.ensures c.len-g.ensures (omega (arith, c.in_ok-begin.ensures.long, longer_length c.in_ok-busy.ensures.longer, c.len-base.ensures, c.len-g.ensures)) c.in_ok-gates.ensures c.in_ok-flag_gates.ensures c.connect_all.new.nl c.connect_all.ensures

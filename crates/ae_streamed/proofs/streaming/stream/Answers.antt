@@ -1,9 +1,9 @@
 -- The netlist with room, its marks, and what is put around them.
-use Rattle.std.proofs.Common.{◌≡◌, ◌∙◌, Some, slice_get, length, map, refl, ap, arith}
+use Rattle.std.proofs.Common.{◌≡◌, ◌+◌, ◌/◌, ◌∙◌, Some, slice_get, length, map, refl, ap, arith}
 use Rattle.ae_sttype.specs.StTree.{st_tree}
 use Rattle.ae_netlist.specs.Circuit.{Circuit}
 use Rattle.ae_stall.specs.Copies.{reset_cell}
-use Rattle.ae_streamed.proofs.Between.{blocks_few, is_stream, same_stream, wait_few}
+use Rattle.ae_streamed.proofs.Between.{blocks_few, is_stream, same_stream, wait_few, wait_long}
 use Rattle.ae_streamed.proofs.Within.{some_columns, within}
 use Rattle.ae_streamed.proofs.streaming.stream.Goals as goal
 
@@ -39,7 +39,7 @@ pub returns : goal.returns
 returns c =
     let roomy : Circuit = record c.args.nl.now { limit = 1000000 } in
     same_stream c.args.nl.now c.in_ok-new.new c.args.slowdown c.args.latency 1000000 (map st_tree c.args.inputs.now) (map st_tree c.args.outputs.now)
-    (is_stream roomy c.add_marks.new.nl c.in_ok-new.new c.in_ok-m.m c.args.slowdown c.args.latency (map st_tree c.args.inputs.now) (map st_tree c.args.outputs.now)
-    c.requires.some c.formed.ensures.cells c.formed.ensures.outlets c.has_one_run.ensures (rw c.in_ok-marked.ensures at c.in_ok-m.ensures.grows) c.formed-2.ensures.cells c.in_ok-m.ensures.marks c.in_ok-new.ensures
+    (is_stream roomy c.add_marks.new.nl c.in_ok-new.new c.in_ok-m.m c.args.slowdown c.args.latency ((c.args.latency + c.last_beat.result) / c.args.slowdown) (map st_tree c.args.inputs.now) (map st_tree c.args.outputs.now)
+    c.requires.some c.formed.ensures.cells c.formed.ensures.outlets c.has_one_run.ensures (rw c.in_ok-marked.ensures at c.in_ok-m.ensures.grows) c.formed-2.ensures.cells c.in_ok-m.ensures.marks c.in_ok-new.ensures (λ k y. wait_long c.args.latency c.args.slowdown c.last_beat.result k c.requires.some (c.last_beat.ensures.last.greatest k y))
     (within c.args.inputs.now c.args.slowdown c.requires.inputs) (within c.args.outputs.now c.args.slowdown c.requires.outputs) c.requires.ins c.requires.outs (some_columns c.args.outputs.now c.args.slowdown c.requires.outputs)
     c.held_circuits_are_inside.ensures c.held_marks_are_seen.ensures c.wired_controls_are_driven.ensures c.driven_circuits_stream.ensures c.driven_circuits_keep_words.ensures c.driven_circuits_go_on.ensures)

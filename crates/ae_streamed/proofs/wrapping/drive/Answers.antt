@@ -24,6 +24,6 @@ show_all-requires-clause-nets c = λ k l.
 
 pub returns : goal.returns
 returns c = λ m is.
-    has_driver c.args.new.now c.control.new.nl c.columns.new.nl c.show_all.new.new m c.args.w c.args.blocks c.len-at.result c.args.made.now c.args.nl.now.outlets c.in_ok-c.c is
+    has_driver c.args.new.now c.control.new.nl c.columns.new.nl c.show_all.new.new m c.args.w c.args.blocks c.args.wait c.len-at.result c.args.made.now c.args.nl.now.outlets c.in_ok-c.c is
     c.in_ok-c.ensures.longer c.in_ok-c.ensures.control c.in_ok-c.ensures.nets c.len-at.ensures c.in_ok-columns.ensures.longer c.in_ok-columns.ensures.columns
     c.in_ok-show_all.ensures.cells c.in_ok-show_all.ensures.limit c.in_ok-show_all.ensures.shown

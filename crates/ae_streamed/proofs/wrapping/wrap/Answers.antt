@@ -23,12 +23,12 @@ drive-requires-clause-shown c = ap length (c.deref.ensures.value ∙ c.in_ok-mad
 
 pub hold-requires-clause-may : goal.hold-requires-clause-may
 hold-requires-clause-may c =
-    may_be_held c.args.nl.now c.in_ok-new.new c.drive.new.new c.args.m c.args.blocks c.deref.result.now c.args.nl.now.outlets c.in_ok-c.c c.requires.reset c.in_ok-new.ensures.copied (c.in_ok-c.ensures c.args.m c.placed_wires-w.ensures)
+    may_be_held c.args.nl.now c.in_ok-new.new c.drive.new.new c.args.m c.args.blocks c.args.wait c.deref.result.now c.args.nl.now.outlets c.in_ok-c.c c.requires.reset c.in_ok-new.ensures.copied (c.in_ok-c.ensures c.args.m c.placed_wires-w.ensures)
 
 pub hold-requires-clause-room : goal.hold-requires-clause-room
 hold-requires-clause-room c = (let d = c.in_ok-c.ensures c.args.m c.placed_wires-w.ensures in omega (arith, d.limit, c.in_ok-new.ensures.limit))
 
 pub returns : goal.returns
 returns c =
-    is_wrapped c.args.nl.now c.in_ok-new.new c.drive.new.new c.hold.new.new c.args.m c.args.blocks c.deref.result.now c.in_ok-c.c (c.deref.ensures.value ∙ c.in_ok-made.ensures) c.in_ok-new.ensures.copied
+    is_wrapped c.args.nl.now c.in_ok-new.new c.drive.new.new c.hold.new.new c.args.m c.args.blocks c.args.wait c.deref.result.now c.in_ok-c.c (c.deref.ensures.value ∙ c.in_ok-made.ensures) c.in_ok-new.ensures.copied
     (c.in_ok-c.ensures c.args.m c.placed_wires-w.ensures) c.in_ok-hold.ensures
