@@ -340,6 +340,35 @@ def run_is_right(run):
     return picture or names_are_right(name, slowdown, text, shown) or paths_are_right(name, slowdown, text, shown)
 
 
+def known_moves_are_right():
+    """The fault of rows of a table in which moves are known from the rows above, against the table of one slowdown."""
+    text = """fn g x:(u8,u8) y:(u8,u8)
+p = fst x
+q = snd y
+r = add p q
+z = pair r p
+end z
+fn main a:[64](u8,u8)
+s = shift 3 a
+t = map2 g s a
+u = shift 40 t
+v = partition 8 8 u
+w = shift 1 v
+x = unpartition w
+y = map2 g x s
+k = select 3 v
+m = up 8 k
+n = unpartition m
+b = shift 3 n
+o = map2 g b y
+end o
+"""
+    _, shown = kit(["slowdowns", 1, 300, "csv"], text)
+    rows = shown.splitlines()[1:]
+    alone = [row for slowdown in range(1, 301) for row in kit(["slowdowns", slowdown, slowdown, "csv"], text)[1].splitlines()[1:]]
+    return "" if rows and rows == alone else "the table with known moves is not that of each slowdown alone"
+
+
 def dashes_are_taken(text):
     """The fault of a word that has two dashes before it."""
     for plain, dashed in ((["slowdowns", 1, 9, "csv"], ["slowdowns", 1, 9, "--csv"]), (["draw", 4, "text"], ["draw", 4, "--text"])):
@@ -365,8 +394,9 @@ def on_terminal(words, text):
 
 def progress_is_shown():
     """The fault of what is shown of a call that takes long: on a terminal how far it is, taken away at the end; else nothing."""
-    shifts = "".join(f"b{k} = shift 1 {f'b{k - 1}' if k else 'a'}\n" for k in range(40))
-    text = f"fn twice x:u8\ny = add x x\nend y\nfn main a:[512]u8\n{shifts}z = map twice b39\nend z\n"
+    # More different moves than are known at a time: each is weighed at each slowdown.
+    shifts = "".join(f"b{k} = shift {k + 1} {f'b{k - 1}' if k else 'a'}\n" for k in range(260))
+    text = f"fn twice x:u8\ny = add x x\nend y\nfn main a:[512]u8\n{shifts}z = map twice b259\nend z\n"
     most, taken = 1, 0.0
     while taken < 3 and most < 4096:
         most, begin = most * 2, time.monotonic()
@@ -392,7 +422,7 @@ def main():
     spoiled = [(*case, texts[case[0]]) for case in SPOILED]
     if sys.argv[1:] == ["verilator"]:
         raise SystemExit(told("kit", under_verilator(runs, spoiled)))
-    found = [dashes_are_taken(texts["blur"]), progress_is_shown(), *side_by_side(lambda name: table_is_right(name, texts[name]), texts)]
+    found = [dashes_are_taken(texts["blur"]), known_moves_are_right(), progress_is_shown(), *side_by_side(lambda name: table_is_right(name, texts[name]), texts)]
     found += side_by_side(run_is_right, runs)
     found += [svg_is_right(name, slowdown, texts[name]) for name, slowdown in FOLDED]
     found += [picture_is_right("a long type", slowdown, LONG) for slowdown in (1, 64)]

@@ -11,7 +11,7 @@ use crate::fault::KitFault;
 use crate::items::{lanes, layout_of};
 use crate::request::Range;
 use ae_compile::{LOAD_LIMIT, typed};
-use ae_delay::{DelayFault, arrivals_within};
+use ae_delay::{DelayFault, KnownMoves, arrivals_reusing};
 use ae_fuse::{WordLabels, labels_of};
 use ae_rewrite::{PlanFault, StFunc, StProgram, schedule};
 use ae_seq::Typed;
@@ -130,8 +130,12 @@ fn moved(
 }
 
 // What the lines of a program cost under a schedule, if that is not too much.
-fn computed(alloc: Global, schedule: &StProgram) -> Result<Option<Costs>, KitFault> {
-    match arrivals_within(alloc, schedule, LOAD_LIMIT) {
+fn computed(
+    alloc: Global,
+    schedule: &StProgram,
+    moves: &mut KnownMoves,
+) -> Result<Option<Costs>, KitFault> {
+    match arrivals_reusing(alloc, schedule, LOAD_LIMIT, moves) {
         Ok(timing) => Ok(Some(Costs {
             latency: timing.latency(),
             load: u64::from(timing.load()),
@@ -143,11 +147,13 @@ fn computed(alloc: Global, schedule: &StProgram) -> Result<Option<Costs>, KitFau
     }
 }
 
-// What a slowdown costs, where it has a circuit. The labels of a program that only moves words are made once for all slowdowns.
+// What a slowdown costs, where it has a circuit. The labels of a program that only moves words are made once for all
+// slowdowns, and moves of other programs that cost the same at several slowdowns are weighed once.
 fn costed(
     alloc: Global,
     program: &Typed,
     labels: &Option<WordLabels>,
+    moves: &mut KnownMoves,
     slowdown: u32,
 ) -> Result<Option<Row>, KitFault>
     requires some { 0 < slowdown }
@@ -161,7 +167,7 @@ fn costed(
     };
     let costs = match labels {
         Some(labels) => moved(alloc, program, labels, &schedule)?,
-        None => computed(alloc, &schedule)?,
+        None => computed(alloc, &schedule, moves)?,
     };
     match (costs, schedule.instance(schedule.count().saturating_sub(1))) {
         (Some(costs), Some(main)) => Ok(Some(row_of(slowdown, costs, main))),
@@ -180,10 +186,11 @@ fn write_rows<W: Watch>(
 ) -> Result<(), KitFault>
     requires { IfSome labels.now (λ l. AreLabels (program_tree program.now) l) }
 {
+    let mut moves = KnownMoves::new(alloc);
     let mut least = u64::MAX;
     for slowdown in range.from.max(1)..range.to.min(4096).saturating_add(1) {
         watch.step("slowdown", slowdown, range.to);
-        if let Some(row) = costed(alloc, program, labels, slowdown)? {
+        if let Some(row) = costed(alloc, program, labels, &mut moves, slowdown)? {
             if !range.best || row.load < least {
                 write_row(out, range.csv, row)?;
             }
