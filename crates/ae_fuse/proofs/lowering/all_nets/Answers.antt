@@ -1,6 +1,6 @@
 -- One result more.
-use Rattle.std.proofs.Common.{◌≡◌, ◌≤◌, ◌+◌, ◌++◌, ◌∷◌, [], ◌∙◌, List, Some, slice_get, length, map, arith, ap, refl, subst, sym}
-use Rattle.std.proofs.lemmas.List.{length-map}
+use Rattle.std.proofs.Common.{ℕ, ◌≡◌, ◌≤◌, ◌+◌, ◌++◌, ◌∷◌, [], ◌∙◌, List, Some, slice_get, length, map, take, arith, ap, refl, subst, sym}
+use Rattle.std.proofs.lemmas.List.{length-map, take_all}
 use Rattle.std.proofs.lemmas.Option.{slice_get_read}
 use Rattle.ae_sttype.specs.StTree.{st_tree}
 use Rattle.ae_moves.specs.Origins.{IsMove, Move, move_latency}
@@ -21,6 +21,32 @@ use Rattle.ae_fuse.specs.Fused.{result_move}
 use Rattle.ae_fuse.specs.Lowered.{IsLateResult}
 use Rattle.ae_fuse.proofs.LateResults.{load_next, mems_next, results_next}
 use Rattle.ae_fuse.proofs.lowering.all_nets.Goals as goal
+
+same_end : (k n : ℕ) → k ≤ n → n ≤ k → k ≡ n
+same_end k n h l = omega arith
+
+pub returns-clause-grows : goal.returns-clause-grows
+returns-clause-grows c =
+    let ms : List Move = map (result_move (st_trees c.args.ins.now)) c.args.results.now in
+    let long : length ms ≤ c.loop-k.k = rw (length-map c.args.results.now (result_move (st_trees c.args.ins.now))) c.loop-k-test.false in
+    let all : take c.loop-k.k ms ≡ ms = take_all c.loop-k.k ms long in
+    rw all at c.loop-k.invariant.grows
+
+pub returns-clause-adds : goal.returns-clause-adds
+returns-clause-adds c =
+    let ms : List Move = map (result_move (st_trees c.args.ins.now)) c.args.results.now in
+    let long : length ms ≤ c.loop-k.k = rw (length-map c.args.results.now (result_move (st_trees c.args.ins.now))) c.loop-k-test.false in
+    let all : take c.loop-k.k ms ≡ ms = take_all c.loop-k.k ms long in
+    rw all at c.loop-k.invariant.adds
+
+pub returns-clause-moved : goal.returns-clause-moved
+returns-clause-moved c = rw (same_end _ _ c.loop-k.invariant.within c.loop-k-test.false) at c.loop-k.invariant.moved
+
+pub returns-clause-marks : goal.returns-clause-marks
+returns-clause-marks c = rw (same_end _ _ c.loop-k.invariant.within c.loop-k-test.false) at c.loop-k.invariant.marks
+
+pub result_nets-requires-clause-belongs : goal.result_nets-requires-clause-belongs
+result_nets-requires-clause-belongs c = c.loop-k.invariant.belongs
 
 pub stage-requires : goal.stage-requires
 stage-requires c =

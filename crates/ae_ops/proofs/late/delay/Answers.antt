@@ -1,5 +1,5 @@
 -- One line more, and at the end a line for each net.
-use Rattle.std.proofs.Common.{ℕ, ◌≡◌, ◌+◌, ◌*◌, ◌++◌, ◌∷◌, [], arith, refl}
+use Rattle.std.proofs.Common.{ℕ, ◌≡◌, ◌∙◌, ◌+◌, ◌*◌, ◌++◌, ◌∷◌, [], arith, refl}
 use Rattle.ae_clocked.proofs.Adding.{grows_trans}
 use Rattle.ae_clocked.specs.Rings.{rings}
 use Rattle.ae_ops.proofs.Lateness.{cells_within, keeps_trans, late_of, line_one, nets_of, own_later, rings_one, same_width, tapped_all, tapping_more, there}
@@ -8,6 +8,36 @@ use Rattle.ae_ops.proofs.late.delay.Goals as goal
 pub ring_line-requires-clause-net : goal.ring_line-requires-clause-net
 ring_line-requires-clause-net c =
     own_later _ _ c.nets-nets.result.now _ c.loop-net.net-index c.nets-nets.ensures c.loop-net.invariant.grows.extends c.requires.nets c.loop-net-test.true
+
+pub ring_line-requires-clause-belongs : goal.ring_line-requires-clause-belongs
+ring_line-requires-clause-belongs c = c.loop-net.invariant.belongs
+
+pub returns-in_err-tapped-clause-belongs : goal.returns-in_err-tapped-clause-belongs
+returns-in_err-tapped-clause-belongs c = c.in_err-tapped.ensures.belongs
+
+pub returns-in_err-tapped-clause-muls : goal.returns-in_err-tapped-clause-muls
+returns-in_err-tapped-clause-muls c = c.in_err-tapped.ensures.muls ∙ c.loop-net.invariant.muls
+
+pub returns-in_err-keep-clause-belongs : goal.returns-in_err-keep-clause-belongs
+returns-in_err-keep-clause-belongs c = c.in_ok-tapped.ensures.belongs
+
+pub returns-in_err-keep-clause-muls : goal.returns-in_err-keep-clause-muls
+returns-in_err-keep-clause-muls c = c.in_ok-tapped.ensures.muls ∙ c.loop-net.invariant.muls
+
+pub returns-clause-belongs : goal.returns-clause-belongs
+returns-clause-belongs c = c.loop-net.invariant.belongs
+
+pub returns-clause-keeps : goal.returns-clause-keeps
+returns-clause-keeps c = c.loop-net.invariant.keeps
+
+pub returns-clause-grows : goal.returns-clause-grows
+returns-clause-grows c = c.loop-net.invariant.grows
+
+pub returns-clause-muls : goal.returns-clause-muls
+returns-clause-muls c = c.loop-net.invariant.muls
+
+pub returns-clause-whole : goal.returns-clause-whole
+returns-clause-whole c = c.loop-net.invariant.whole
 
 pub returns-in_err-tapped-clause-keeps : goal.returns-in_err-tapped-clause-keeps
 returns-in_err-tapped-clause-keeps c = keeps_trans c.loop-net.invariant.keeps c.in_err-tapped.ensures.keeps
@@ -71,7 +101,7 @@ loop-net-preserved c =
       keeps = keeps_trans was.keeps more.keeps;
       grows = grows_trans was.grows more.grows;
       cells = omega (arith, was.cells, more.cells, line_one c.args.slack);
-      muls = omega (arith, was.muls, more.muls);
+      muls = more.muls ∙ was.muls;
       memories = omega (arith, was.memories, more.memories, rings_one c.args.slack);
       whole = λ h. more.whole (was.whole h);
       taps = rw kept
