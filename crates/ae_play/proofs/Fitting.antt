@@ -23,7 +23,7 @@ use Rattle.ae_layout.proofs.Standing.{element_below}
 use Rattle.ae_play.specs.Fed.{block_row, blocks_of, clock_row, fed_rows, fill_row, layout_rows, size_of, values_of}
 use Rattle.ae_play.specs.Fits.{CanBeFed, FitBlocks, lane_kinds, value_kinds}
 use Rattle.ae_play.proofs.Layouts.{block_at, no_block}
-use Rattle.ae_play.proofs.Playing.{length-rows, later_row}
+use Rattle.ae_play.proofs.PlayedRuns.{length-rows, later_row}
 
 -- ---- lists of words that fit
 

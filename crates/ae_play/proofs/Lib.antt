@@ -1,6 +1,9 @@
 pub mod Fitting
 pub mod Layouts
-pub mod Playing
+pub mod PlayedRuns
+pub mod Keeping
 pub mod WordLines
 pub mod Summing
 pub mod PortWords
+pub mod Texts
+pub mod SpacedWords

@@ -1,63 +1,25 @@
 -- The lines that are written of a run.
-use Rattle.std.proofs.Common.{ℕ, zero, suc, ◌≡◌, ◌+◌, ◌<◌, ◌≤◌, ◌-◌, ◌*◌, ◌%◌, ◌&&◌, Bool, true, false, List, [], ◌∷◌, ◌++◌, length, take, map, Some, slice_get, get_or, nat_eq, nat_le, arith, refl, ap, sym, ◌∙◌, append_assoc, true≢false}
+use Rattle.std.proofs.Common.{ℕ, zero, suc, ◌≡◌, ◌+◌, ◌≤◌, ◌-◌, ◌*◌, ◌%◌, ◌&&◌, Bool, true, false, List, [], ◌∷◌, ◌++◌, map, nat_eq, nat_le, arith, refl, ap, sym, ◌∙◌, append_assoc, true≢false}
 use Rattle.std.specs.Prelude.{Any}
 use Rattle.std.specs.List.{list_any}
 use Rattle.std.specs.Fmt.{decimal}
-use Rattle.std.proofs.lemmas.List.{take_more, append-nil, take_all, length-map}
+use Rattle.std.proofs.lemmas.List.{append-nil}
 use Rattle.std.proofs.lemmas.List.Folds.{Any-from_list_any, list_any-from_Any}
 use Rattle.std.proofs.lemmas.Bool.{le-leb}
 use Rattle.std.proofs.lemmas.Bool.Decides.{nat_tests}
-use Rattle.ae_netlist.specs.declared.cell.Outlet.{Outlet}
-use Rattle.ae_netlist.specs.Runs.{Clock, word_at}
 use Rattle.ae_sttype.specs.declared.st_type.Slot.{Slot}
 use Rattle.ae_sttype.specs.StTree.{StTree}
 use Rattle.ae_sttype.specs.Slots.{slots, IsLive}
-use Rattle.ae_play.specs.Lines.{clock_count, shown_words, spaced, stands}
+use Rattle.ae_play.specs.Keeps.{Keeps}
+use Rattle.ae_play.specs.Lines.{clock_count, clock_line, clock_lines, spaced, stands}
 
-abbrev spaced_word : ℕ → List ℕ
-spaced_word w = 32 ∷ decimal w
-
-spaced-push : (ws : List ℕ) (w : ℕ) → spaced (ws ++ w ∷ []) ≡ spaced ws ++ spaced_word w
-spaced-push [] w = append-nil (spaced_word w)
-spaced-push (x ∷ xs) w = ap (λ t. spaced_word x ++ t) (spaced-push xs w) ∙ sym (append_assoc (spaced_word x) (spaced xs) (spaced_word w))
-
-pub record IsThere {X : Type 0} (xs : List X) (k : ℕ) : Type 0 where
-  pub x : X
-  pub found : slice_get xs k ≡ Some x
-
-pub there : {X : Type 0} (xs : List X) (k : ℕ) → k < length xs → IsThere xs k
-there [] k h = absurd (omega arith)
-there (x ∷ xs) zero h = record { x = x; found = refl }
-there (x ∷ xs) (suc k) h = let r = there xs k (omega arith) in record { x = r.x; found = r.found }
-
-pub mapped-at : {X Y : Type 0} (g : X → Y) (xs : List X) (k : ℕ) (x : X) (d : Y) → slice_get xs k ≡ Some x → get_or (map g xs) k d ≡ g x
-mapped-at g [] k x d h = cc
-mapped-at g (y ∷ xs) zero x d h = cc
-mapped-at g (y ∷ xs) (suc k) x d h = mapped-at g xs k x d h
-
--- one word more
-pub words_more : (outlets : List Outlet) (run : List Clock) (t k word : ℕ) (old now spacing new : List ℕ) → k < length outlets
-    → ((o : Outlet) → slice_get outlets k ≡ Some o → word ≡ word_at run t o.net.0)
-    → now ≡ old ++ spaced (take k (shown_words outlets run t)) → spacing ≡ now ++ 32 ∷ [] → new ≡ spacing ++ decimal word → new ≡ old ++ spaced (take (k + 1) (shown_words outlets run t))
-words_more outlets run t k word old now spacing new h is now_is spacing_is new_is =
-    let ws = shown_words outlets run t in
-    let o = there outlets k h in
-    let long : length ws ≡ length outlets = length-map outlets (λ (x : Outlet). word_at run t x.net.0) in
-    let last : get_or ws k 0 ≡ word = mapped-at (λ (x : Outlet). word_at run t x.net.0) outlets k o.x 0 o.found ∙ sym (is o.x o.found) in
-    new_is
-    ∙ ap (λ x. x ++ decimal word) (spacing_is ∙ ap (λ x. x ++ 32 ∷ []) now_is)
-    ∙ append_assoc (old ++ spaced (take k ws)) (32 ∷ []) (decimal word)
-    ∙ append_assoc old (spaced (take k ws)) (spaced_word word)
-    ∙ ap (λ x. old ++ x) (sym (spaced-push (take k ws) word) ∙ ap (λ w. spaced (take k ws ++ w ∷ [])) (sym last) ∙ ap spaced (sym (take_more ws k 0 (omega (arith, h, long)))))
-
-pub words_none : (outlets : List Outlet) (run : List Clock) (t : ℕ) (old : List ℕ) → old ≡ old ++ spaced (take 0 (shown_words outlets run t))
-words_none outlets run t old = sym (append-nil old)
-
-pub words_all : (outlets : List Outlet) (run : List Clock) (t k : ℕ) (old now : List ℕ) → length outlets ≤ k → now ≡ old ++ spaced (take k (shown_words outlets run t)) → now ≡ old ++ spaced (shown_words outlets run t)
-words_all outlets run t k old now h e =
-    let ws = shown_words outlets run t in
-    let long : length ws ≡ length outlets = length-map outlets (λ (x : Outlet). word_at run t x.net.0) in
-    e ∙ ap (λ x. old ++ spaced x) (take_all k ws (omega (arith, h, long)))
+-- a word more
+pub spaced_more : (w : ℕ) (ws rest now spacing new all : List ℕ) → ws ≡ w ∷ rest → spacing ≡ now ++ 32 ∷ [] → new ≡ spacing ++ decimal w → now ++ spaced ws ≡ all → new ++ spaced rest ≡ all
+spaced_more w ws rest now spacing new all is spacing_is new_is was =
+    ap (λ x. x ++ spaced rest) (new_is ∙ ap (λ x. x ++ decimal w) spacing_is ∙ append_assoc now (32 ∷ []) (decimal w))
+    ∙ append_assoc now (32 ∷ decimal w) (spaced rest)
+    ∙ ap (λ x. now ++ spaced x) (sym is)
+    ∙ was
 
 -- ---- clocks in which a result stands
 
@@ -110,6 +72,15 @@ line_is number marks ws old numbered parted marked worded new a b d e f =
 pub marks_more : (mark_of : StTree → ℕ) (s : StTree) (ss rest : List StTree) (text now new all : List ℕ) → ss ≡ s ∷ rest → text ≡ mark_of s ∷ [] → new ≡ now ++ text → now ++ map mark_of ss ≡ all → new ++ map mark_of rest ≡ all
 marks_more mark_of s ss rest text now new all is marked made was =
     ap (λ ys. ys ++ map mark_of rest) (made ∙ ap (λ ys. now ++ ys) marked) ∙ append_assoc now (mark_of s ∷ []) (map mark_of rest) ∙ (ap (λ ts. now ++ map mark_of ts) (sym is) ∙ was)
+
+-- the lines of all clocks, whatever else what is kept has
+pub lines_kept : {K : Type 0} (content : K → List ℕ) (slowdown latency : ℕ) (outs : List StTree) (row shown : ℕ → List ℕ) (first : K) (n : ℕ) (last : K)
+    → Keeps (λ c r ws old new. content new ≡ content old ++ clock_line slowdown latency outs c ws) row shown first n last → content last ≡ content first ++ clock_lines slowdown latency outs shown n
+lines_kept content slowdown latency outs row shown first zero last k = ap content k ∙ sym (append-nil (content first))
+lines_kept content slowdown latency outs row shown first (suc c) last k =
+    k.2
+    ∙ ap (λ x. x ++ clock_line slowdown latency outs c (shown c)) (lines_kept content slowdown latency outs row shown first c k.0 k.1)
+    ∙ append_assoc (content first) (clock_lines slowdown latency outs shown c) (clock_line slowdown latency outs c (shown c))
 
 -- ---- how many clocks
 

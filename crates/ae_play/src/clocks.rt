@@ -6,11 +6,12 @@ ghost use Rattle.ae_sttype.specs.Size.{IsInSize};
 ghost use Rattle.ae_netlist.specs.Rows.{AreInputs};
 ghost use Rattle.ae_netlist.specs.Runs.{Clock};
 ghost use Rattle.ae_sim.specs.Playing.{HasPlayed, Plays};
-ghost use Rattle.ae_play.specs.Fed.{blocks_of, clock_row, fed_rows, fill_row, size_of};
+ghost use Rattle.ae_play.specs.Fed.{blocks_of, fed_rows, size_of};
 ghost use Rattle.ae_play.specs.Lines.{IsPlayedText, clock_count, clock_line, mark, shown_words, spaced, stands};
 
-use crate::stepping::{begun, step_clock};
-use ae_netlist::{Netlist, fill_begins, has_one_run_with};
+use crate::blocks::{Blocks, play_blocks};
+use crate::stepping::Monitor;
+use ae_netlist::Netlist;
 use ae_sim::Sim;
 use ae_sttype::StType;
 use itoa::Buffer;
@@ -69,6 +70,17 @@ fn write_marks(
     Ok(())
 }
 
+// Appends words, each with a space before it.
+fn write_spaced(out: &mut String, words: &[u64]) -> Result<(), AllocError>
+    ensures { OnOk result (string_bytes out.new ≡ string_bytes out.old ++ spaced words.now) }
+{
+    for word in words {
+        out.push_str(" ")?;
+        out.push_str(Buffer::new().format(*word))?;
+    }
+    Ok(())
+}
+
 /// Appends the words of the outputs in the last clock, each with a space before it; `outputs` is how many there are. The
 /// error comes only for want of memory.
 pub fn write_words(out: &mut String, sim: &Sim<'_>, outputs: u32) -> Result<(), AllocError>
@@ -83,28 +95,35 @@ pub fn write_words(out: &mut String, sim: &Sim<'_>, outputs: u32) -> Result<(), 
     Ok(())
 }
 
-// The line of a clock.
-fn write_line(
-    out: &mut String,
-    sim: &Sim<'_>,
-    outputs: u32,
-    outs: &[StType],
+// Writes the line of each clock.
+#[derive(Clone, Copy)]
+struct LineWriter<'a> {
+    outs: &'a [StType],
     slowdown: u32,
     latency: u32,
-    clock: u32,
-) -> Result<(), AllocError>
-    requires outputs { outputs ≡ length sim.now.outlets }
-    requires sized { All (λ s. IsInSize s × (time s ≡ slowdown)) (map st_tree outs.now) }
-    requires some { 1 ≤ slowdown }
-    ensures { OnOk result ((fill : ℕ) (rows : List (List ℕ)) (run : List Clock) → HasPlayed sim.now fill rows → 1 ≤ length rows → Plays sim.now.cells fill rows run
-        → string_bytes out.new ≡ string_bytes out.old ++ clock_line slowdown latency (map st_tree outs.now) clock (shown_words sim.now.outlets run (length rows - 1))) }
-{
-    out.push_str(Buffer::new().format(clock))?;
-    out.push_str(" ")?;
-    write_marks(out, outs, slowdown, latency, clock)?;
-    write_words(out, sim, outputs)?;
-    out.push_str("\n")?;
-    Ok(())
+}
+
+impl Monitor for LineWriter<'_> {
+    type Kept = String;
+
+    ghost within = { λ m c out. (1 ≤ m.slowdown) × All (λ s. IsInSize s × (time s ≡ m.slowdown)) (map st_tree m.outs.now) };
+
+    ghost takes = { λ m c row words old new. string_bytes new ≡ string_bytes old ++ clock_line m.slowdown m.latency (map st_tree m.outs.now) c words };
+
+    fn take(
+        &self,
+        out: &mut String,
+        clock: u32,
+        _row: &[u64],
+        words: &[u64],
+    ) -> Result<(), AllocError> {
+        out.push_str(Buffer::new().format(clock))?;
+        out.push_str(" ")?;
+        write_marks(out, self.outs, self.slowdown, self.latency, clock)?;
+        write_spaced(out, words)?;
+        out.push_str("\n")?;
+        Ok(())
+    }
 }
 
 /// Appends the lines of the clocks after reset in which a circuit takes blocks of words, each value's in row-major order,
@@ -133,14 +152,17 @@ pub fn write_clocks(
     ensures { OnOk result ((text : List ℕ) × (string_bytes out.new ≡ string_bytes out.old ++ text) × IsPlayedText nl.now slowdown latency fill (map st_tree ins.now) (map st_tree outs.now) (blocks_of (map st_tree ins.now) blocks words.now) text) }
 {
     let clocks = clock_count(slowdown, latency, blocks);
-    let (mut sim, mut row) = begun(alloc, nl, ins, fill)?;
-    for clock in 0..clocks {
-        step_clock(
-            &mut sim, &mut row, ins, words, blocks, slowdown, clock, fill,
-        )?;
-        write_line(out, &sim, nl.outputs(), outs, slowdown, latency, clock)?;
-    }
-    has_one_run_with(nl);
-    fill_begins(nl, fill);
-    Ok(())
+    let fed = Blocks {
+        ins,
+        words,
+        count: blocks,
+        slowdown,
+        fill,
+    };
+    let writer = LineWriter {
+        outs,
+        slowdown,
+        latency,
+    };
+    play_blocks(alloc, nl, &fed, clocks, &writer, out)
 }

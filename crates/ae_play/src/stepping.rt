@@ -1,102 +1,94 @@
-// The steps of a run on blocks.
+// The stepping of a circuit.
 
-ghost use Rattle.std.specs.Prelude.{◌≡◌, ◌*◌, ◌≤◌, ◌++◌, ◌∷◌, [], ℕ, List, length, map, OnOk, IfOk, All};
-ghost use Rattle.ae_sttype.specs.StTree.{st_tree, time};
-ghost use Rattle.ae_sttype.specs.Size.{IsInSize};
+ghost use Rattle.std.specs.Prelude.{◌≡◌, ◌+◌, ◌-◌, ◌<◌, ◌≤◌, ◌^◌, ◌++◌, ℕ, ⊤, List, length, map, OnOk};
+ghost use Rattle.std.specs.List.{range_with_len};
 ghost use Rattle.ae_netlist.specs.Rows.{AreInputs};
-ghost use Rattle.ae_sim.specs.Playing.{HasPlayed};
-ghost use Rattle.ae_play.specs.Fed.{blocks_of, clock_row, fill_row, size_of};
+ghost use Rattle.ae_netlist.specs.Runs.{Clock};
+ghost use Rattle.ae_sim.specs.Playing.{HasPlayed, Plays};
+ghost use Rattle.ae_play.specs.Keeps.{Keeps};
+ghost use Rattle.ae_play.specs.Lines.{shown_words};
 
-use crate::rows::{push_block, push_fill};
-use ae_netlist::Netlist;
 use ae_sim::Sim;
-use ae_sttype::StType;
 use std::alloc::{AllocError, Global};
 
-// Appends the row of reset.
-fn push_reset(row: &mut Vec<u64>, ins: &[StType], fill: u64) -> Result<(), AllocError>
-    requires sized { All IsInSize (map st_tree ins.now) }
-    ensures { OnOk result (row.new.items ≡ row.old.items ++ (1 ∷ fill_row fill (map st_tree ins.now))) }
-{
-    row.push(1)?;
-    push_fill(row, ins, fill)
+/// What stands on a circuit's inputs, clock by clock.
+pub trait Stimulus {
+    /// What holds in a clock for which it has words.
+    ghost has: { Self → ℕ → Type 0 } = { λ _ _. ⊤ };
+
+    /// The words of a clock, one for each input.
+    ghost given: { Self → ℕ → List ℕ };
+
+    /// Sets the row to the words of a clock. The error comes only for want of memory.
+    fn set(&self, row: &mut Vec<u64>, clock: u32) -> Result<(), AllocError>
+        requires { has self.now clock }
+        ensures { OnOk result (row.new.items ≡ given self.now clock) };
 }
 
-// Sets the row to that of a clock after reset.
-fn set_row(
-    row: &mut Vec<u64>,
-    ins: &[StType],
-    words: &[u64],
-    blocks: usize,
-    slowdown: u32,
-    clock: u32,
-    fill: u64,
-) -> Result<(), AllocError>
-    requires some { 1 ≤ slowdown }
-    requires ins { All (λ s. IsInSize s × (time s ≡ slowdown)) (map st_tree ins.now) }
-    requires whole { length words.now ≡ blocks * size_of (map st_tree ins.now) }
-    ensures { OnOk result (row.new.items ≡ clock_row slowdown fill (map st_tree ins.now) (blocks_of (map st_tree ins.now) blocks words.now) clock) }
+/// What is kept of a run, clock by clock.
+pub trait Monitor {
+    type Kept;
+
+    /// What holds of what is kept before a clock.
+    ghost within: { Self → ℕ → Self.Kept → Type 0 } = { λ _ _ _. ⊤ };
+
+    /// What a clock makes of it, by its number, the words of the inputs and those of the outputs.
+    ghost takes: { Self → ℕ → List ℕ → List ℕ → Self.Kept → Self.Kept → Type 0 };
+
+    /// Takes a clock with the words of the inputs and those of the outputs. The error comes only for want of memory.
+    fn take(
+        &self,
+        kept: &mut Self::Kept,
+        clock: u32,
+        row: &[u64],
+        words: &[u64],
+    ) -> Result<(), AllocError>
+        requires within { within self.now clock kept.old }
+        requires few { length words.now < 2 ^ 32 }
+        ensures takes { OnOk result (takes self.now clock row.now words.now kept.old kept.new) }
+        ensures within { OnOk result (within self.now (clock + 1) kept.new) };
+}
+
+// Sets the words to those of the outputs in the last clock.
+fn set_words(words: &mut Vec<u64>, sim: &Sim<'_>, outputs: u32) -> Result<(), AllocError>
+    requires { outputs ≡ length sim.now.outlets }
+    ensures long { OnOk result (length words.new.items ≡ outputs) }
+    ensures are { OnOk result ((fill : ℕ) (rows : List (List ℕ)) (run : List Clock) → HasPlayed sim.now fill rows → 1 ≤ length rows → Plays sim.now.cells fill rows run
+        → words.new.items ≡ shown_words sim.now.outlets run (length rows - 1)) }
 {
-    row.clear();
-    row.push(0)?;
-    let block = (clock / slowdown) as usize;
-    if block < blocks {
-        let size = words.len() / blocks;
-        let first = block * size;
-        push_block(
-            row,
-            ins,
-            &words[first..first + size],
-            clock % slowdown,
-            fill,
-        )
-    } else {
-        push_fill(row, ins, fill)
+    words.clear();
+    for k in 0..outputs {
+        words.push(sim.output(k))?;
     }
+    Ok(())
 }
 
-/// A simulator of the circuit after a clock of reset, with the fill in registers and memories and on the inputs; and the
-/// row of that clock. The error comes only for want of memory.
-pub fn begun<'n>(
+/// Steps a circuit over so many clocks with the words that the stimulus gives, and hands each clock to the monitor;
+/// `outputs` is how many outputs the circuit has. The work grows with the clocks times the circuit's cells and ports. The
+/// error comes only for want of memory.
+pub fn play<S: Stimulus, M: Monitor>(
     alloc: Global,
-    nl: &'n Netlist,
-    ins: &[StType],
-    fill: u64,
-) -> Result<(Sim<'n>, Vec<u64>), AllocError>
-    requires sized { All IsInSize (map st_tree ins.now) }
-    requires row { AreInputs nl.now.cells (1 ∷ fill_row fill (map st_tree ins.now)) }
-    ensures cells { IfOk result (λ r. r.0.cells ≡ nl.now.cells) }
-    ensures outlets { IfOk result (λ r. r.0.outlets ≡ nl.now.outlets) }
-    ensures plays { IfOk result (λ r. HasPlayed r.0 fill ((1 ∷ fill_row fill (map st_tree ins.now)) ∷ [])) }
-{
-    let mut sim = Sim::new(alloc, nl, fill)?;
-    let mut row = Vec::new(alloc);
-    push_reset(&mut row, ins, fill)?;
-    sim.step(row.as_slice());
-    Ok((sim, row))
-}
-
-/// Steps a clock after reset, and leaves its row. The error comes only for want of memory.
-pub fn step_clock(
     sim: &mut Sim<'_>,
-    row: &mut Vec<u64>,
-    ins: &[StType],
-    words: &[u64],
-    blocks: usize,
-    slowdown: u32,
-    clock: u32,
-    fill: u64,
+    outputs: u32,
+    stimulus: &S,
+    clocks: u32,
+    monitor: &M,
+    kept: &mut M::Kept,
 ) -> Result<(), AllocError>
-    requires some { 1 ≤ slowdown }
-    requires ins { All (λ s. IsInSize s × (time s ≡ slowdown)) (map st_tree ins.now) }
-    requires whole { length words.now ≡ blocks * size_of (map st_tree ins.now) }
-    requires row { AreInputs sim.old.cells (clock_row slowdown fill (map st_tree ins.now) (blocks_of (map st_tree ins.now) blocks words.now) clock) }
-    ensures row { OnOk result (row.new.items ≡ clock_row slowdown fill (map st_tree ins.now) (blocks_of (map st_tree ins.now) blocks words.now) clock) }
-    ensures cells { OnOk result (sim.new.cells ≡ sim.old.cells) }
-    ensures outlets { OnOk result (sim.new.outlets ≡ sim.old.outlets) }
-    ensures plays { OnOk result ((first : ℕ) (rows : List (List ℕ)) → HasPlayed sim.old first rows → HasPlayed sim.new first (rows ++ clock_row slowdown fill (map st_tree ins.now) (blocks_of (map st_tree ins.now) blocks words.now) clock ∷ [])) }
+    requires outputs { outputs ≡ length sim.old.outlets }
+    requires has { (c : ℕ) → c < clocks → S.has stimulus.now c }
+    requires rows { (c : ℕ) → c < clocks → AreInputs sim.old.cells (S.given stimulus.now c) }
+    requires within { M.within monitor.now 0 kept.old }
+    ensures { OnOk result ((fill : ℕ) (rows : List (List ℕ)) (run : List Clock) → HasPlayed sim.old fill rows → Plays sim.old.cells fill (rows ++ map (S.given stimulus.now) (range_with_len 0 clocks)) run
+        → Keeps (M.takes monitor.now) (S.given stimulus.now) (λ c. shown_words sim.old.outlets run (length rows + c)) kept.old clocks kept.new) }
 {
-    set_row(row, ins, words, blocks, slowdown, clock, fill)?;
-    sim.step(row.as_slice());
+    let mut row = Vec::new(alloc);
+    let mut words = Vec::new(alloc);
+    for clock in 0..clocks {
+        stimulus.set(&mut row, clock)?;
+        sim.step(row.as_slice());
+        set_words(&mut words, sim, outputs)?;
+        monitor.take(kept, clock, row.as_slice(), words.as_slice())?;
+    }
     Ok(())
 }

@@ -5,16 +5,15 @@ ghost use Rattle.std.specs.List.{sum};
 ghost use Rattle.ae_sttype.specs.StTree.{st_tree, time};
 ghost use Rattle.ae_sttype.specs.Size.{IsInSize};
 ghost use Rattle.ae_netlist.specs.Rows.{AreInputs};
-ghost use Rattle.ae_netlist.specs.Runs.{Clock};
-ghost use Rattle.ae_sim.specs.Playing.{HasPlayed, Plays};
 ghost use Rattle.ae_play.specs.Fed.{blocks_of, fed_rows, size_of};
-ghost use Rattle.ae_play.specs.Lines.{clock_count, shown_words};
+ghost use Rattle.ae_play.specs.Lines.{clock_count};
 ghost use Rattle.ae_play.specs.Sums.{ArePlayedSums, all_stand};
+ghost use Rattle.ae_play.specs.WordSums.{AreWithClock, HaveRoom};
 
+use crate::blocks::{Blocks, play_blocks};
 use crate::clocks::{clock_count, stands};
-use crate::stepping::{begun, step_clock};
-use ae_netlist::{Netlist, fill_begins, has_one_run_with};
-use ae_sim::Sim;
+use crate::stepping::Monitor;
+use ae_netlist::Netlist;
 use ae_sttype::StType;
 use std::alloc::{AllocError, Global};
 
@@ -43,18 +42,17 @@ fn all_stand(outs: &[StType], slowdown: u32, latency: u32, clock: u32) -> bool
     true
 }
 
-// The sum of the words of the outputs.
-fn sum_words(sim: &Sim<'_>, outputs: u32) -> u128
-    requires { outputs ≡ length sim.now.outlets }
-    ensures is { (fill : ℕ) (rows : List (List ℕ)) (run : List Clock) → HasPlayed sim.now fill rows → 1 ≤ length rows → Plays sim.now.cells fill rows run
-        → result ≡ sum (shown_words sim.now.outlets run (length rows - 1)) }
-    ensures few { result ≤ outputs * 18446744073709551615 }
+// The sum of words.
+fn sum_words(words: &[u64]) -> u128
+    requires { length words.now < 2 ^ 32 }
+    ensures is { result ≡ sum words.now }
+    ensures few { result ≤ length words.now * 18446744073709551615 }
 {
-    let mut words = 0;
-    for k in 0..outputs {
-        words += u128::from(sim.output(k));
+    let mut all = 0;
+    for word in words {
+        all += u128::from(*word);
     }
-    words
+    all
 }
 
 // The sums with those of one clock more, in which so many outputs show words with this sum.
@@ -75,6 +73,34 @@ fn with_clock(sums: Sums, outputs: u32, words: u128, stands: bool) -> Sums
         }
     } else {
         Sums { whole_sum, ..sums }
+    }
+}
+
+// Sums the words of each clock.
+#[derive(Clone, Copy)]
+struct WordSummer<'a> {
+    outs: &'a [StType],
+    slowdown: u32,
+    latency: u32,
+}
+
+impl Monitor for WordSummer<'_> {
+    type Kept = Sums;
+
+    ghost within = { λ m c sums. (1 ≤ m.slowdown) × All (λ s. IsInSize s × (time s ≡ m.slowdown)) (map st_tree m.outs.now) × HaveRoom c sums };
+
+    ghost takes = { λ m c row words old new. AreWithClock (all_stand m.slowdown m.latency (map st_tree m.outs.now) c) words old new };
+
+    fn take(
+        &self,
+        sums: &mut Sums,
+        clock: u32,
+        _row: &[u64],
+        words: &[u64],
+    ) -> Result<(), AllocError> {
+        let stands = all_stand(self.outs, self.slowdown, self.latency, clock);
+        *sums = with_clock(*sums, words.len() as u32, sum_words(words), stands);
+        Ok(())
     }
 }
 
@@ -102,22 +128,23 @@ pub fn sum_clocks(
     ensures { IfOk result (λ sums. ArePlayedSums nl.now slowdown latency fill (map st_tree ins.now) (map st_tree outs.now) (blocks_of (map st_tree ins.now) blocks words.now) sums) }
 {
     let clocks = clock_count(slowdown, latency, blocks);
-    let (mut sim, mut row) = begun(alloc, nl, ins, fill)?;
-    let outputs = nl.outputs();
+    let fed = Blocks {
+        ins,
+        words,
+        count: blocks,
+        slowdown,
+        fill,
+    };
+    let summer = WordSummer {
+        outs,
+        slowdown,
+        latency,
+    };
     let mut sums = Sums {
         valid: 0,
         valid_sum: 0,
         whole_sum: 0,
     };
-    for clock in 0..clocks {
-        step_clock(
-            &mut sim, &mut row, ins, words, blocks, slowdown, clock, fill,
-        )?;
-        let shown = sum_words(&sim, outputs);
-        let stands = all_stand(outs, slowdown, latency, clock);
-        sums = with_clock(sums, outputs, shown, stands);
-    }
-    has_one_run_with(nl);
-    fill_begins(nl, fill);
+    play_blocks(alloc, nl, &fed, clocks, &summer, &mut sums)?;
     Ok(sums)
 }

@@ -4,29 +4,37 @@ ghost use Rattle.std.specs.Prelude.{◌≡◌, ◌-◌, ◌*◌, ◌<◌, ◌≤
 ghost use Rattle.ae_sttype.specs.StTree.{st_tree, time};
 ghost use Rattle.ae_sttype.specs.Size.{IsInSize};
 ghost use Rattle.ae_netlist.specs.Rows.{AreInputs};
-ghost use Rattle.ae_netlist.specs.Runs.{Clock};
-ghost use Rattle.ae_sim.specs.Playing.{HasPlayed, Plays};
 ghost use Rattle.ae_play.specs.Fed.{blocks_of, fed_rows, size_of};
-ghost use Rattle.ae_play.specs.Lines.{clock_count, shown_words};
+ghost use Rattle.ae_play.specs.Lines.{clock_count};
 ghost use Rattle.ae_play.specs.Words.{ArePlayedWords};
 
+use crate::blocks::{Blocks, play_blocks};
 use crate::clocks::clock_count;
-use crate::stepping::{begun, step_clock};
-use ae_netlist::{Netlist, fill_begins, has_one_run_with};
-use ae_sim::Sim;
+use crate::stepping::Monitor;
+use ae_netlist::Netlist;
 use ae_sttype::StType;
 use std::alloc::{AllocError, Global};
 
-// Appends the words of the outputs in the last clock.
-fn push_outputs(words: &mut Vec<u64>, sim: &Sim<'_>, outputs: u32) -> Result<(), AllocError>
-    requires { outputs ≡ length sim.now.outlets }
-    ensures { OnOk result ((fill : ℕ) (rows : List (List ℕ)) (run : List Clock) → HasPlayed sim.now fill rows → 1 ≤ length rows → Plays sim.now.cells fill rows run
-        → words.new.items ≡ words.old.items ++ shown_words sim.now.outlets run (length rows - 1)) }
-{
-    for k in 0..outputs {
-        words.push(sim.output(k))?;
+// Keeps the words of all ports of each clock.
+#[derive(Clone, Copy)]
+struct WordKeeper;
+
+impl Monitor for WordKeeper {
+    type Kept = Vec<u64>;
+
+    ghost takes = { λ m c row words old new. new.items ≡ (old.items ++ row) ++ words };
+
+    fn take(
+        &self,
+        all: &mut Vec<u64>,
+        _clock: u32,
+        row: &[u64],
+        words: &[u64],
+    ) -> Result<(), AllocError> {
+        all.extend_from_slice(row)?;
+        all.extend_from_slice(words)?;
+        Ok(())
     }
-    Ok(())
 }
 
 /// The words of all inputs, and then of all outputs, of each clock after reset in which a circuit takes blocks of words,
@@ -50,16 +58,14 @@ pub fn clock_words(
     ensures { IfOk result (λ all. ArePlayedWords nl.now slowdown latency fill (map st_tree ins.now) (blocks_of (map st_tree ins.now) blocks words.now) all.items) }
 {
     let clocks = clock_count(slowdown, latency, blocks);
-    let (mut sim, mut row) = begun(alloc, nl, ins, fill)?;
+    let fed = Blocks {
+        ins,
+        words,
+        count: blocks,
+        slowdown,
+        fill,
+    };
     let mut all = Vec::new(alloc);
-    for clock in 0..clocks {
-        step_clock(
-            &mut sim, &mut row, ins, words, blocks, slowdown, clock, fill,
-        )?;
-        all.extend_from_slice(row.as_slice())?;
-        push_outputs(&mut all, &sim, nl.outputs())?;
-    }
-    has_one_run_with(nl);
-    fill_begins(nl, fill);
+    play_blocks(alloc, nl, &fed, clocks, &WordKeeper, &mut all)?;
     Ok(all)
 }

@@ -1,6 +1,6 @@
 use Rattle.std.proofs.Common.{◌-◌, ◌++◌, length, arith, ap, ◌∙◌}
 use Rattle.std.specs.Prelude.{string_bytes}
-use Rattle.ae_play.proofs.WordLines.{words_none, words_more, words_all}
+use Rattle.ae_play.proofs.SpacedWords.{words_none, words_more, words_all}
 use Rattle.ae_play.proofs.clocks.write_words.Goals as goal
 
 pub loop-k-init : goal.loop-k-init

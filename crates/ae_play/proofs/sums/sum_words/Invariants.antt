@@ -1,11 +1,6 @@
-use Rattle.std.proofs.Common.{◌≡◌, ◌-◌, ◌*◌, ◌≤◌, ℕ, List, length, take}
+use Rattle.std.proofs.Common.{◌≡◌, ◌+◌, ◌*◌, ◌≤◌, drop}
 use Rattle.std.specs.List.{sum}
-use Rattle.ae_netlist.specs.Runs.{Clock}
-use Rattle.ae_sim.specs.Playing.{HasPlayed, Plays}
-use Rattle.ae_play.specs.Lines.{shown_words}
 use Rattle.ae_play.proofs.sums.sum_words.Given as goal
 
-abbrev pub invariant-loop-k : goal.invariant-loop-k
-invariant-loop-k l =
-    ((fill : ℕ) (rows : List (List ℕ)) (run : List Clock) → HasPlayed l.fn.sim fill rows → 1 ≤ length rows → Plays l.fn.sim.cells fill rows run
-    → l.words ≡ sum (take l.k (shown_words l.fn.sim.outlets run (length rows - 1)))) × (l.words ≤ l.k * 18446744073709551615)
+abbrev pub invariant-loop-word : goal.invariant-loop-word
+invariant-loop-word l = (l.all + sum (drop l.word-index l.words) ≡ sum l.words) × (l.all ≤ l.word-index * 18446744073709551615)

@@ -1,46 +1,12 @@
-use Rattle.std.proofs.Common.{map, ap, sym, length, arith, ◌∙◌}
-use Rattle.ae_netlist.specs.Rows.{AreInputs}
+use Rattle.std.proofs.Common.{map}
 use Rattle.ae_sttype.specs.StTree.{st_tree}
 use Rattle.ae_play.specs.Fed.{blocks_of}
 use Rattle.ae_play.proofs.Layouts.{block_count}
-use Rattle.ae_play.proofs.Playing.{at_begin, reset_fits, row_here, stepped}
-use Rattle.ae_play.proofs.PortWords.{words_all, words_more, words_none}
+use Rattle.ae_play.proofs.Texts.{words_played}
 use Rattle.ae_play.proofs.words.clock_words.Goals as goal
-
-pub begun-requires-clause-row : goal.begun-requires-clause-row
-begun-requires-clause-row c =
-    let ins = map st_tree c.args.ins.now in
-    reset_fits (AreInputs c.args.nl.now.cells) c.args.slowdown c.args.fill ins (blocks_of ins c.args.blocks c.args.words.now) c.requires.rows
-
-pub loop-clock-init : goal.loop-clock-init
-loop-clock-init c =
-    let ins = map st_tree c.args.ins.now in
-    let blocks = blocks_of ins c.args.blocks c.args.words.now in
-    words_none c.args.nl.now c.args.slowdown c.args.fill ins blocks c.clock_count-clocks.result c.in_ok-sim.sim c.new-all.result.items
-    (at_begin c.args.nl.now c.args.slowdown c.args.fill ins blocks c.in_ok-sim.sim c.in_ok-sim.ensures.cells c.in_ok-sim.ensures.outlets c.in_ok-sim.ensures.plays)
-    c.new-all.ensures.items
-
-pub step_clock-requires-clause-row : goal.step_clock-requires-clause-row
-step_clock-requires-clause-row c =
-    let ins = map st_tree c.args.ins.now in
-    row_here c.args.nl.now c.args.slowdown c.args.fill ins (blocks_of ins c.args.blocks c.args.words.now) c.loop-clock.sim c.loop-clock.clock c.loop-clock.invariant.at c.requires.rows
-
-pub push_outputs-requires : goal.push_outputs-requires
-push_outputs-requires c = c.outputs.ensures ∙ ap length (sym (c.in_ok-step_clock.ensures.outlets ∙ c.loop-clock.invariant.at.outlets_are))
-
-pub loop-clock-preserved : goal.loop-clock-preserved
-loop-clock-preserved c =
-    let ins = map st_tree c.args.ins.now in
-    let blocks = blocks_of ins c.args.blocks c.args.words.now in
-    words_more c.args.nl.now c.args.slowdown c.args.fill ins blocks c.as_slice.result.now c.clock_count-clocks.result c.loop-clock.sim c.step_clock.new.sim
-    c.loop-clock.all.items c.extend_from_slice.new.self.items c.push_outputs.new.words.items c.loop-clock.clock c.loop-clock.invariant
-    (stepped c.args.nl.now c.args.slowdown c.args.fill ins blocks c.clock_count-clocks.result c.loop-clock.sim c.step_clock.new.sim c.loop-clock.clock c.loop-clock.invariant.at c.loop-clock-test.true
-    c.in_ok-step_clock.ensures.cells c.in_ok-step_clock.ensures.outlets c.in_ok-step_clock.ensures.plays)
-    (c.as_slice.ensures.value ∙ c.in_ok-step_clock.ensures.row) c.in_ok-extend_from_slice.ensures.items c.in_ok-push_outputs.ensures
 
 pub returns : goal.returns
 returns c =
     let ins = map st_tree c.args.ins.now in
-    words_all c.args.nl.now c.args.slowdown c.args.latency c.args.fill ins (blocks_of ins c.args.blocks c.args.words.now) c.args.blocks c.clock_count-clocks.result c.loop-clock.clock
-    c.loop-clock.sim c.loop-clock.all.items c.loop-clock.invariant (block_count ins c.args.blocks c.args.words.now) c.clock_count-clocks.ensures
-    (omega (arith, c.loop-clock-test.false, c.loop-clock.auto.clock-end)) c.has_one_run_with.ensures c.fill_begins.ensures c.requires.rows
+    words_played (λ v. v.items) c.args.nl.now c.args.slowdown c.args.latency c.args.fill ins (blocks_of ins c.args.blocks c.args.words.now) c.args.blocks c.clock_count-clocks.result c.new-all.result c.play_blocks.new.kept
+    c.new-all.ensures.items (block_count ins c.args.blocks c.args.words.now) c.clock_count-clocks.ensures c.in_ok-play_blocks.ensures
