@@ -244,8 +244,8 @@ def wanted_nets(text, module):
             inner = [(at, *row) for func in reached(found, said) for at, words in found[func][0] for row in [(words[0], func, operation(words))]]
             continue
         word, much = cell(kind, int(high or 0) + 1, array, value)
-        same = [f", {at} {item} in {func}" for at, item, func, made in inner if made == (word, much)]
-        last = f", one of {len(same)} lines" if len(same) > 1 else "".join(same)
+        same = [f"{at} {item} in {func}" for at, item, func, made in inner if made == (word, much)]
+        last = "".join(f"{' or ' if k else ', '}{row}" for k, row in enumerate(same[:3])) + " or others" * (len(same) > 3)
         yield f"l{number}_{net}", f"l{number}_{net} {number} {name} {said[2]}: {word}{last}", word
 
 

@@ -10,34 +10,28 @@ use ae_verilog::Note;
 use ae_word::WordOp;
 use std::alloc::{AllocError, Global};
 
-// The first line of called functions that computes with an operator, and how many there are.
+// A line of a called function, and the operator with which it computes.
 #[derive(Clone, Copy)]
 struct Inner<'a> {
     op: WordOp,
     func: &'a Func,
     node: &'a Node,
-    count: u32,
 }
 
-// Adds a line of a called function.
-fn add_inner<'a>(
-    inner: &mut Vec<Inner<'a>>,
-    op: WordOp,
-    func: &'a Func,
-    node: &'a Node,
-) -> Result<(), AllocError> {
-    for known in inner.iter_mut() {
-        if known.op == op {
-            known.count = known.count.saturating_add(1);
-            return Ok(());
+// How many lines with the operator of a cell are named.
+const MOST_LINES: usize = 3;
+
+// Adds a line, unless more with its operator are known than are named.
+fn add_inner<'a>(inner: &mut Vec<Inner<'a>>, line: Inner<'a>) -> Result<(), AllocError> {
+    let mut count = 0usize;
+    for known in inner.iter() {
+        if known.op == line.op {
+            count = count.saturating_add(1);
         }
     }
-    inner.push(Inner {
-        op,
-        func,
-        node,
-        count: 1,
-    })?;
+    if count <= MOST_LINES {
+        inner.push(line)?;
+    }
     Ok(())
 }
 
@@ -45,13 +39,13 @@ fn add_inner<'a>(
 fn add_lines<'a>(inner: &mut Vec<Inner<'a>>, func: &'a Func) -> Result<(), AllocError> {
     for node in &func.nodes {
         if let Some(op) = computed(&node.op) {
-            add_inner(inner, op, func, node)?;
+            add_inner(inner, Inner { op, func, node })?;
         }
     }
     Ok(())
 }
 
-// The lines that compute of all functions that an operator calls, by their operators.
+// The lines that compute of all functions that an operator calls.
 fn inner_lines<'a>(alloc: Global, p: &'a Program, op: &Op) -> Result<Vec<Inner<'a>>, AllocError> {
     let mut inner = Vec::new(alloc);
     for func in &reached(alloc, p, op)? {
@@ -77,18 +71,21 @@ fn cell_word(cell: Cell) -> &'static str {
     }
 }
 
-// The line of a called function that has the operator of a cell, or how many there are.
-fn write_line(out: &mut String, inner: &[Inner<'_>], cell: Cell) -> Result<(), AllocError> {
+// The lines of called functions that have the operator of a cell.
+fn write_inner(out: &mut String, inner: &[Inner<'_>], cell: Cell) -> Result<(), AllocError> {
     let Cell::Op(op, _) = cell else {
         return Ok(());
     };
+    let mut told = 0usize;
     for known in inner {
         if known.op == op {
-            if known.count > 1 {
-                return write!(out, ", one of {} lines", known.count);
+            if told == MOST_LINES {
+                return out.push_str(" or others");
             }
             let (line, name) = (known.node.line, known.node.name.as_str());
-            return write!(out, ", {line} {name} in {}", known.func.name.as_str());
+            out.push_str(if told == 0 { ", " } else { " or " })?;
+            write!(out, "{line} {name} in {}", known.func.name.as_str())?;
+            told = told.saturating_add(1);
         }
     }
     Ok(())
@@ -107,7 +104,7 @@ fn write_net(out: &mut String, line: &Line<'_>, net: usize, cell: Cell) -> Resul
     let (number, name, operator) = (line.note.line, line.note.name.as_str(), line.operator);
     let word = cell_word(cell);
     write!(out, "l{number}_n{net} {number} {name} {operator}: {word}")?;
-    write_line(out, &line.inner, cell)
+    write_inner(out, &line.inner, cell)
 }
 
 // The same as a signal of a save file; a dump has no memories.
@@ -182,7 +179,7 @@ fn line_of<'a>(
 }
 
 /// A line for each net of the module but those of ports: its name, the line of the program with its operator, the cell, and the
-/// line of a called function that has the operator of the cell.
+/// lines of called functions that have the operator of the cell.
 pub fn write_nets(
     out: &mut String,
     alloc: Global,

@@ -159,7 +159,7 @@ fn write_lines(out: &mut String, alloc: Global, costed: &Costed) -> Result<(), A
 
 /// Which line and which word of the program each port of the module of `aeth build S` belongs to, and how the names of the nets
 /// of each line begin, with its operator and the lines of the functions that it calls; or each net, with its line, its cell and
-/// the line of a called function that has the cell's operator; or a save file that shows these names in GTKWave, of the ports in
+/// the lines of called functions that have the cell's operator; or a save file that shows these names in GTKWave, of the ports in
 /// a dump of `aeth wave S FILL`, and with the nets in one of the bench of `bench S FILL dump`.
 pub fn notes(alloc: Global, input: &[u8], slowdown: u32, form: NoteForm) -> Result<String, KitFault>
     requires few { length input.now ≤ 16777216 }
