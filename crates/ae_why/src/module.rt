@@ -1,11 +1,12 @@
 // Why a Verilog text is no module that is simulated.
 
+use crate::names::is_known;
 use crate::places::{place_of, push_place, text_of};
 use ae_vread::{VModule, read};
 use std::alloc::{AllocError, Global};
 
 /// What is wrong with a Verilog text: the byte, item or declared name at fault. The header is item 0.
-#[derive(Clone, Copy, PartialEq, Eq, Debug)]
+#[derive(Clone, Copy)]
 pub enum ModuleFault {
     Token(u32),
     Header,
@@ -271,27 +272,25 @@ fn push_net(
     )
 }
 
-fn is_keyword(word: &[u8]) -> bool {
-    match text_of(word) {
-        "module"
-        | "input"
-        | "output"
-        | "wire"
-        | "reg"
-        | "assign"
-        | "always"
-        | "posedge"
-        | "if"
-        | "else"
-        | "begin"
-        | "end"
-        | "endmodule" => true,
-        _ => false,
-    }
-}
+const KEYWORDS: [&str; 13] = [
+    "module",
+    "input",
+    "output",
+    "wire",
+    "reg",
+    "assign",
+    "always",
+    "posedge",
+    "if",
+    "else",
+    "begin",
+    "end",
+    "endmodule",
+];
 
 fn is_name(word: &[u8]) -> bool {
-    matches!(word.first(), Some(b'a'..=b'z' | b'A'..=b'Z' | b'_')) && !is_keyword(word)
+    matches!(word.first(), Some(b'a'..=b'z' | b'A'..=b'Z' | b'_'))
+        && !is_known(text_of(word), &KEYWORDS)
 }
 
 // Whether a name is declared in an item or above it.

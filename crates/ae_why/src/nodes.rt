@@ -32,14 +32,10 @@ pub fn name_fault(name: &str) -> &'static str {
     }
 }
 
-fn is_written_sign(text: &str) -> bool {
-    match text {
-        "+" | "-" | "*" | "/" | "%" | "&" | "|" | "^" | "<" | ">" | "<<" | ">>" | "==" | "?" => {
-            true
-        }
-        _ => false,
-    }
-}
+// The signs that operators have in other languages.
+const SIGNS: [&str; 14] = [
+    "+", "-", "*", "/", "%", "&", "|", "^", "<", ">", "<<", ">>", "==", "?",
+];
 
 fn has_byte(text: &str, wanted: u8) -> bool {
     text.as_bytes().iter().any(|byte| *byte == wanted)
@@ -53,7 +49,7 @@ fn unknown_operator(
     rest: &[Field<'_>],
 ) -> Result<Finding, AllocError> {
     if let [sign, ..] = rest {
-        if is_written_sign(sign.text) {
+        if is_known(sign.text, &SIGNS) {
             return of_field(
                 alloc,
                 sign,
