@@ -19,7 +19,6 @@ pub use circuits::{Compiled, compile};
 pub use costing::{Costed, LOAD_LIMIT, STALL_LIMIT, cost};
 pub use costs::Costs;
 pub use faults::{CompileFault, OutOfMemory};
-pub use layouts::output_layouts;
 pub use playing::play;
 pub use ports::module_ports;
 pub use stalling::{Stalled, compile_stalled};

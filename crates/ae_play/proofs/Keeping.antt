@@ -14,16 +14,16 @@ use Rattle.ae_play.specs.Lines.{shown_words}
 
 -- ---- the words of the outputs
 
-pub record IsThere {X : Type 0} (xs : List X) (k : ℕ) : Type 0 where
-  pub x : X
-  pub found : slice_get xs k ≡ Some x
+record IsThere {X : Type 0} (xs : List X) (k : ℕ) : Type 0 where
+  x : X
+  found : slice_get xs k ≡ Some x
 
-pub there : {X : Type 0} (xs : List X) (k : ℕ) → k < length xs → IsThere xs k
+there : {X : Type 0} (xs : List X) (k : ℕ) → k < length xs → IsThere xs k
 there [] k h = absurd (omega arith)
 there (x ∷ xs) zero h = record { x = x; found = refl }
 there (x ∷ xs) (suc k) h = let r = there xs k (omega arith) in record { x = r.x; found = r.found }
 
-pub mapped-at : {X Y : Type 0} (g : X → Y) (xs : List X) (k : ℕ) (x : X) (d : Y) → slice_get xs k ≡ Some x → get_or (map g xs) k d ≡ g x
+mapped-at : {X Y : Type 0} (g : X → Y) (xs : List X) (k : ℕ) (x : X) (d : Y) → slice_get xs k ≡ Some x → get_or (map g xs) k d ≡ g x
 mapped-at g [] k x d h = cc
 mapped-at g (y ∷ xs) zero x d h = cc
 mapped-at g (y ∷ xs) (suc k) x d h = mapped-at g xs k x d h

@@ -6,4 +6,3 @@ pub mod WordLines
 pub mod Summing
 pub mod PortWords
 pub mod Texts
-pub mod SpacedWords

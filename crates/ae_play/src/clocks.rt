@@ -4,15 +4,12 @@ ghost use Rattle.std.specs.Prelude.{◌≡◌, ◌+◌, ◌-◌, ◌*◌, ◌/�
 ghost use Rattle.ae_sttype.specs.StTree.{st_tree, time};
 ghost use Rattle.ae_sttype.specs.Size.{IsInSize};
 ghost use Rattle.ae_netlist.specs.Rows.{AreInputs};
-ghost use Rattle.ae_netlist.specs.Runs.{Clock};
-ghost use Rattle.ae_sim.specs.Playing.{HasPlayed, Plays};
 ghost use Rattle.ae_play.specs.Fed.{blocks_of, fed_rows, size_of};
-ghost use Rattle.ae_play.specs.Lines.{IsPlayedText, clock_count, clock_line, mark, shown_words, spaced, stands};
+ghost use Rattle.ae_play.specs.Lines.{IsPlayedText, clock_count, clock_line, mark, spaced, stands};
 
 use crate::blocks::{Blocks, play_blocks};
 use crate::stepping::Monitor;
 use ae_netlist::Netlist;
-use ae_sim::Sim;
 use ae_sttype::StType;
 use itoa::Buffer;
 use std::alloc::{AllocError, Global};
@@ -70,27 +67,13 @@ fn write_marks(
     Ok(())
 }
 
-// Appends words, each with a space before it.
-fn write_spaced(out: &mut String, words: &[u64]) -> Result<(), AllocError>
+/// Appends words, each with a space before it. The error comes only for want of memory.
+pub fn write_words(out: &mut String, words: &[u64]) -> Result<(), AllocError>
     ensures { OnOk result (string_bytes out.new ≡ string_bytes out.old ++ spaced words.now) }
 {
     for word in words {
         out.push_str(" ")?;
         out.push_str(Buffer::new().format(*word))?;
-    }
-    Ok(())
-}
-
-/// Appends the words of the outputs in the last clock, each with a space before it; `outputs` is how many there are. The
-/// error comes only for want of memory.
-pub fn write_words(out: &mut String, sim: &Sim<'_>, outputs: u32) -> Result<(), AllocError>
-    requires { outputs ≡ length sim.now.outlets }
-    ensures { OnOk result ((fill : ℕ) (rows : List (List ℕ)) (run : List Clock) → HasPlayed sim.now fill rows → 1 ≤ length rows → Plays sim.now.cells fill rows run
-        → string_bytes out.new ≡ string_bytes out.old ++ spaced (shown_words sim.now.outlets run (length rows - 1))) }
-{
-    for k in 0..outputs {
-        out.push_str(" ")?;
-        out.push_str(Buffer::new().format(sim.output(k)))?;
     }
     Ok(())
 }
@@ -120,7 +103,7 @@ impl Monitor for LineWriter<'_> {
         out.push_str(Buffer::new().format(clock))?;
         out.push_str(" ")?;
         write_marks(out, self.outs, self.slowdown, self.latency, clock)?;
-        write_spaced(out, words)?;
+        write_words(out, words)?;
         out.push_str("\n")?;
         Ok(())
     }

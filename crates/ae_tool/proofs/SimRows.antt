@@ -97,7 +97,7 @@ width_at (x ∷ ws) k w h = h
 pub inputs_long : (cells : List SizedCell) → length (map (λ (s : SizedCell). s.width) (cells_of is_input cells)) ≡ count_of is_input cells
 inputs_long cells = length-map (cells_of is_input cells) (λ (s : SizedCell). s.width) ∙ length-filter (λ (s : SizedCell). is_input s.cell) cells
 
-inputs_within : (cells : List SizedCell) → count_of is_input cells ≤ length (cell_widths cells)
+pub inputs_within : (cells : List SizedCell) → count_of is_input cells ≤ length (cell_widths cells)
 inputs_within cells =
     let ws : List ℕ = map (λ (s : SizedCell). s.width) (cells_of is_input cells) in
     let long : length ws ≡ count_of is_input cells = inputs_long cells in
@@ -183,19 +183,6 @@ next_row cells columns table k ws rest a lt e =
       fits = taken_fits cells row right;
       back = ap (drop columns) form ∙ ap (λ n. drop n (row ++ after)) (sym own) ∙ drop-append_seam row after;
     }
-
--- what the inputs take of the next row
-pub taken_row : (cells : List SizedCell) (columns : ℕ) (table : List (List (List ℕ))) (k : ℕ) (rest : List ℕ) (inputs : ℕ) (row : List ℕ) → NextRow cells columns table k rest
-    → inputs ≡ count_of is_input cells → row ≡ take columns rest → take inputs row ≡ taken_words (count_of is_input cells) (get_or table k [])
-taken_row cells columns table k rest inputs row n ei er =
-    ap (λ m. take m row) ei ∙ ap (take (count_of is_input cells)) (er ∙ n.front)
-
-pub taken_long : (cells : List SizedCell) (columns : ℕ) (table : List (List (List ℕ))) (k : ℕ) (rest : List ℕ) (inputs : ℕ) (row : List ℕ) → NextRow cells columns table k rest
-    → inputs ≡ count_of is_input cells → row ≡ take columns rest → inputs ≡ length (take inputs row)
-taken_long cells columns table k rest inputs row n ei er =
-    let same : length row ≡ length (row_words (get_or table k [])) = ap length (er ∙ n.front) in
-    let enough : count_of is_input cells ≤ length (row_words (get_or table k [])) = n.enough in
-    sym (length-take-le inputs row (omega (arith, same, enough, ei)))
 
 -- ---- the size, and what is answered
 

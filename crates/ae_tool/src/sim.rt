@@ -1,16 +1,13 @@
 // The job `sim FILL`.
 
-ghost use Rattle.std.specs.Prelude.{◌≡◌, ◌++◌, ◌<◌, ◌≤◌, ◌^◌, ◌-◌, ◌∷◌, [], List, ℕ, length, map, All, IfErr, IfOk, OnOk, string_bytes};
+ghost use Rattle.std.specs.Prelude.{◌≡◌, ◌+◌, ◌*◌, ◌++◌, ◌<◌, ◌≤◌, ◌^◌, ◌∷◌, [], List, ℕ, length, map, take, drop, IfErr, IfOk, OnOk, string_bytes};
 ghost use Rattle.ae_judge.specs.Faults.{IsFault, IsWellFormed};
 ghost use Rattle.ae_runs.specs.SameRuns.{HasSameRuns};
 ghost use Rattle.ae_netlist.specs.declared.cell.SizedCell.{SizedCell};
 ghost use Rattle.ae_netlist.specs.Counts.{is_input, count_of, cells_of};
-ghost use Rattle.ae_netlist.specs.Runs.{Clock};
 ghost use Rattle.ae_parse.specs.Rows.{rows};
 ghost use Rattle.ae_vread.specs.Spells.{Spells};
 ghost use Rattle.ae_vread.specs.View.{module_tree};
-ghost use Rattle.ae_sim.specs.Playing.{HasPlayed, Plays};
-ghost use Rattle.ae_play.specs.Lines.{shown_words};
 ghost use Rattle.ae_tool.specs.SimPlaying.{AreSimRows, IsModuleReply, IsNetSim, IsNetText, IsRefusedAs, cell_widths};
 ghost use Rattle.ae_tool.specs.SimTexts.{IsSimulated, module_kind, text_kind, words_of_clock};
 
@@ -20,7 +17,7 @@ use ae_compile::OutOfMemory;
 use ae_elab::{ElabFault, elaborate};
 use ae_netlist::{Cell, Netlist, SizedCell, fill_begins, has_one_run_with};
 use ae_parse::{RowFault, read_rows};
-use ae_play::write_words;
+use ae_play::{Monitor, Stimulus, play, write_words};
 use ae_sim::Sim;
 use ae_vread::{VFault, VModule, read};
 use itoa::Buffer;
@@ -95,16 +92,47 @@ fn row_widths(alloc: Global, nl: &Netlist) -> Result<Vec<u32>, AllocError>
     Ok(widths)
 }
 
-// The line of a clock.
-fn write_line(out: &mut String, sim: &Sim<'_>, outputs: u32, clock: usize) -> Result<(), AllocError>
-    requires { outputs ≡ length sim.now.outlets }
-    ensures { OnOk result ((fill : ℕ) (rows : List (List ℕ)) (run : List Clock) → HasPlayed sim.now fill rows → 1 ≤ length rows → Plays sim.now.cells fill rows run
-        → string_bytes out.new ≡ string_bytes out.old ++ words_of_clock clock (shown_words sim.now.outlets run (length rows - 1))) }
-{
-    out.push_str(Buffer::new().format(clock))?;
-    write_words(out, sim, outputs)?;
-    out.push_str("\n")?;
-    Ok(())
+// Rows of words that stand one after the other; the inputs take the first words of each.
+#[derive(Clone, Copy)]
+struct Rows<'a> {
+    words: &'a [u64],
+    columns: usize,
+    inputs: usize,
+}
+
+impl Stimulus for Rows<'_> {
+    ghost has = { λ r c. c * r.columns + r.inputs ≤ length r.words.now };
+
+    ghost given = { λ r c. take r.inputs (drop (c * r.columns) r.words.now) };
+
+    fn set(&self, row: &mut Vec<u64>, clock: u32) -> Result<(), AllocError> {
+        let first = clock as usize * self.columns;
+        row.clear();
+        row.extend_from_slice(&self.words[first..first + self.inputs])
+    }
+}
+
+// Writes the line of each clock.
+#[derive(Clone, Copy)]
+struct ClockWriter;
+
+impl Monitor for ClockWriter {
+    type Kept = String;
+
+    ghost takes = { λ m c row words old new. string_bytes new ≡ string_bytes old ++ words_of_clock c words };
+
+    fn take(
+        &self,
+        out: &mut String,
+        clock: u32,
+        _row: &[u64],
+        words: &[u64],
+    ) -> Result<(), AllocError> {
+        out.push_str(Buffer::new().format(clock))?;
+        write_words(out, words)?;
+        out.push_str("\n")?;
+        Ok(())
+    }
 }
 
 // The lines of the netlist's run on rows of words that are right.
@@ -121,16 +149,23 @@ fn run_text(
 {
     has_one_run_with(nl);
     fill_begins(nl, fill);
-    let inputs = nl.inputs() as usize;
+    let rows = Rows {
+        words,
+        columns,
+        inputs: nl.inputs() as usize,
+    };
+    let clocks = (words.len() / columns) as u32;
     let mut out = String::new(alloc);
     let mut sim = Sim::new(alloc, nl, fill)?;
-    let mut rest = words;
-    for clock in 0..words.len() / columns {
-        let (row, after) = rest.split_at(columns);
-        sim.step(&row[..inputs]);
-        write_line(&mut out, &sim, nl.outputs(), clock)?;
-        rest = after;
-    }
+    play(
+        alloc,
+        &mut sim,
+        nl.outputs(),
+        &rows,
+        clocks,
+        &ClockWriter,
+        &mut out,
+    )?;
     Ok(out)
 }
 
