@@ -1,10 +1,11 @@
 // Which line of the program each net of its module belongs to.
 
-use crate::operators::{computed, operator, reached, word_of};
+use crate::operators::{computed, reached, word_of};
 use crate::ports::write_range;
 use crate::request::NoteForm;
 use ae_compile::{Compiled, Costs};
 use ae_netlist::{Cell, SizedCell};
+use ae_print::op_name;
 use ae_seq::{Func, Node, Op, Program};
 use ae_verilog::Note;
 use ae_word::WordOp;
@@ -166,7 +167,7 @@ fn line_of<'a>(
     };
     let (operator, inner) = match node {
         Some(node) => (
-            operator(&node.op),
+            op_name(&node.op),
             inner_lines(alloc, costed.program().program(), &node.op)?,
         ),
         None => ("end", Vec::new(alloc)),

@@ -6,10 +6,11 @@ use crate::blocks::program_part;
 use crate::fault::KitFault;
 use crate::items::{Item, item_at};
 use crate::nets::write_nets;
-use crate::operators::{operator, reached};
+use crate::operators::reached;
 use crate::ports::{Bundle, Role, inputs, outputs, write_range};
 use crate::request::NoteForm;
 use ae_compile::{Costed, Costs, LOAD_LIMIT, compile, cost};
+use ae_print::op_name;
 use ae_seq::Func;
 use std::alloc::{AllocError, Global};
 
@@ -115,7 +116,7 @@ fn write_inner(out: &mut String, line: u32, func: &Func) -> Result<(), AllocErro
             "l{line}_ {} {} {} in {}",
             node.line,
             node.name.as_str(),
-            operator(&node.op),
+            op_name(&node.op),
             func.name.as_str()
         )?;
     }
@@ -126,7 +127,7 @@ fn write_inner(out: &mut String, line: u32, func: &Func) -> Result<(), AllocErro
 fn write_prefixes(out: &mut String, alloc: Global, costed: &Costed) -> Result<(), AllocError> {
     for node in &costed.main_func().nodes {
         let (line, name) = (node.line, node.name.as_str());
-        writeln!(out, "l{line}_ {line} {name} {}", operator(&node.op))?;
+        writeln!(out, "l{line}_ {line} {name} {}", op_name(&node.op))?;
         for func in &reached(alloc, costed.program().program(), &node.op)? {
             write_inner(out, line, func)?;
         }

@@ -1,51 +1,25 @@
 // The operators of lines: their words, what they compute with, and the functions that they call.
 
+use ae_print::word_name;
 use ae_seq::{Func, Op, Program};
 use ae_word::WordOp;
 use std::alloc::{AllocError, Global};
 
-/// The word of an operator on words; those of signed words are written as the others.
-pub fn word_of(op: WordOp) -> &'static str {
+// The operator that stands in a text for one on signed words.
+fn as_written(op: WordOp) -> WordOp {
     match op {
-        WordOp::Add => "add",
-        WordOp::Sub => "sub",
-        WordOp::Mul => "mul",
-        WordOp::And => "and",
-        WordOp::Or => "or",
-        WordOp::Xor => "xor",
-        WordOp::Not => "not",
-        WordOp::Min | WordOp::SMin => "min",
-        WordOp::Max | WordOp::SMax => "max",
-        WordOp::Eq => "eq",
-        WordOp::Lt | WordOp::SLt => "lt",
-        WordOp::Mux => "mux",
-        WordOp::Shl(_) => "shl",
-        WordOp::Shr(_) | WordOp::Sar(_) => "shr",
-        WordOp::Cast(_) | WordOp::SCast(_) => "cast",
+        WordOp::SLt => WordOp::Lt,
+        WordOp::SMin => WordOp::Min,
+        WordOp::SMax => WordOp::Max,
+        WordOp::Sar(by) => WordOp::Shr(by),
+        WordOp::SCast(to) => WordOp::Cast(to),
+        _ => op,
     }
 }
 
-/// The word that an operator begins with on its line.
-pub fn operator(op: &Op) -> &'static str {
-    match op {
-        Op::Word(op) => word_of(*op),
-        Op::CastInt(_) => "cast",
-        Op::Pair => "pair",
-        Op::Fst => "fst",
-        Op::Snd => "snd",
-        Op::Const(_, _) => "const",
-        Op::Zip => "zip",
-        Op::Call(_) => "call",
-        Op::Map(_) => "map",
-        Op::Map2(_) => "map2",
-        Op::Reduce(_) => "reduce",
-        Op::Scan(_) => "scan",
-        Op::Shift(_) => "shift",
-        Op::Up(_) => "up",
-        Op::Select(_) => "select",
-        Op::Partition(_, _) => "partition",
-        Op::Unpartition => "unpartition",
-    }
+/// The word of an operator on words; those of signed words are written as the others.
+pub fn word_of(op: WordOp) -> &'static str {
+    word_name(as_written(op))
 }
 
 /// The operator on words that a line computes with, if it has one.
