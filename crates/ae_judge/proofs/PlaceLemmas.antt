@@ -1,13 +1,14 @@
 -- Names with places, one by one.
 use Rattle.std.proofs.Common.{ℕ, zero, suc, ◌≡◌, ◌+◌, ◌<◌, Bool, true, false, ◌||◌, List, [], ◌∷◌, ◌++◌, length, Option, Some, None, is_some, if◌then◌else◌, refl, sym, ap, ◌∙◌, subst, inl, inr, arith, length-append, slice_get, map}
-use Rattle.std.specs.Prelude.{bytes_eq, find, option_and_then, Vec, take, string_bytes}
+use Rattle.std.specs.Prelude.{bytes_eq, find, option_and_then, take, string_bytes, unwrap_or, nat_eq}
 use Rattle.std.proofs.Common.{get_or}
 use Rattle.std.proofs.lemmas.List.{take_more, length-take, length-map, get_or-map}
 use Rattle.ae_vread.specs.View.{net_tree}
 use Rattle.ae_vread.specs.declared.module.VNet.{VNet}
 use Rattle.std.specs.List.{list_any}
-use Rattle.std.specs.declared.alloc.Global.{Global}
+use Rattle.std.specs.Borrow.{Bor}
 use Rattle.std.proofs.lemmas.Bool.{cases_Bool, cond-true, cond-false, both_ways}
+use Rattle.std.proofs.lemmas.Bool.Decides.{nat_tests}
 use Rattle.indexmap.specs.IndexMap.{insert_entry}
 use Rattle.std.specs.Map.{lookup}
 use Rattle.ae_vread.specs.ModuleTree.{NetTree}
@@ -146,21 +147,35 @@ finds_none = (λ n. refl, λ n p e. absurd (let s : None ≡ Some p = e in cc))
 -- the entries of the code
 
 abbrev pub CodeEntry : Type 0
-CodeEntry = Vec ℕ Global × ℕ
+CodeEntry = Bor (List ℕ) × ℕ
 
-pub lookup_place : (n : List ℕ) (es : List CodeEntry) → lookup (λ (k : Vec ℕ Global). bytes_eq n k.items) es ≡ place_in (places_of es) n
+pub lookup_place : (n : List ℕ) (es : List CodeEntry) → lookup (λ (k : Bor (List ℕ)). bytes_eq n k.now) es ≡ place_in (places_of es) n
 lookup_place n [] = refl
-lookup_place n (e ∷ es) = ap (λ o. if bytes_eq n e.0.items then Some e.1 else o) (lookup_place n es)
+lookup_place n (e ∷ es) = ap (λ o. if bytes_eq n e.0.now then Some e.1 else o) (lookup_place n es)
 
-pub insert_place : (eq : Vec ℕ Global → Vec ℕ Global → Bool) → ((k x : Vec ℕ Global) → eq k x ≡ bytes_eq k.items x.items) → (es : List CodeEntry) (k : Vec ℕ Global) (p : ℕ)
-    → is_some (place_in (places_of es) k.items) ≡ false → places_of (insert_entry eq es k p) ≡ places_of es ++ (k.items, p) ∷ []
-insert_place eq same [] k p none = refl
-insert_place eq same (e ∷ es) k p none = elim (cases_Bool (bytes_eq k.items e.0.items)) [
-  | inl h ↦ absurd (let f : true ≡ false = sym (ap is_some (cond-true _ (Some e.1) (place_in (places_of es) k.items) h)) ∙ none in cc)
-  | inr h ↦
-      ap (λ c. places_of (if c then (e.0, p) ∷ es else e ∷ insert_entry eq es k p)) (same k e.0 ∙ h)
-      ∙ ap (λ xs. (e.0.items, e.1) ∷ xs) (insert_place eq same es k p (sym (ap is_some (cond-false _ (Some e.1) (place_in (places_of es) k.items) h)) ∙ none))
-]
+-- the entries after a name is put in, unless it is there
+pub put_place : (eq : Bor (List ℕ) → Bor (List ℕ) → Bool) → ((k x : Bor (List ℕ)) → eq k x ≡ bytes_eq k.now x.now) → (es : List CodeEntry) (k : Bor (List ℕ)) (p : ℕ)
+    → places_of (insert_entry eq es k (unwrap_or (lookup (eq k) es) p)) ≡ with_place (places_of es) k.now p
+put_place eq same [] k p = refl
+put_place eq same (e ∷ es) k p =
+    by (put_place eq same es k p) (eq k e.0)
+    ∙ ap (λ c. if is_some (if c then Some e.1 else place_in (places_of es) k.now) then places_of (e ∷ es) else places_of (e ∷ es) ++ (k.now, p) ∷ []) (same k e.0)
+  where
+    front : (b : Bool) (x : Entry) (xs ys : List Entry) → x ∷ (if b then xs else xs ++ ys) ≡ (if b then x ∷ xs else (x ∷ xs) ++ ys)
+    front true x xs ys = refl
+    front false x xs ys = refl
+
+    by : places_of (insert_entry eq es k (unwrap_or (lookup (eq k) es) p)) ≡ with_place (places_of es) k.now p → (c : Bool) → places_of (if c then (e.0, unwrap_or (if c then Some e.1 else lookup (eq k) es) p) ∷ es else e ∷ insert_entry eq es k (unwrap_or (if c then Some e.1 else lookup (eq k) es) p))
+        ≡ (if is_some (if c then Some e.1 else place_in (places_of es) k.now) then places_of (e ∷ es) else places_of (e ∷ es) ++ (k.now, p) ∷ [])
+    by rest true = refl
+    by rest false =
+        ap (λ xs. (e.0.now, e.1) ∷ xs) rest
+        ∙ front (is_some (place_in (places_of es) k.now)) (e.0.now, e.1) (places_of es) ((k.now, p) ∷ [])
+
+-- a name was there where there are not more than before
+pub same_length : (b : Bool) (n : ℕ) → nat_eq (n + (if b then 0 else 1)) n ≡ b
+same_length true n = grind (arith, nat_tests)
+same_length false n = grind (arith, nat_tests)
 
 -- the next net of the code
 pub finds_next : (vs : List VNet) (es : List Entry) (i : ℕ) (d : VNet) → i < length vs → Finds (take i (map net_tree vs)) es → Finds (take (i + 1) (map net_tree vs)) (with_place es (string_bytes (get_or vs i d).name) i)

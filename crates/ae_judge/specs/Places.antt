@@ -1,7 +1,7 @@
 -- Names with places, and the places of a module's nets.
-use Rattle.std.specs.Prelude.{ℕ, ◌≡◌, ◌<◌, List, [], ◌∷◌, ◌++◌, Option, Some, None, is_some, if◌then◌else◌, bytes_eq, length, map, slice_get, Vec, option_and_then}
+use Rattle.std.specs.Prelude.{ℕ, ◌≡◌, ◌<◌, List, [], ◌∷◌, ◌++◌, Option, Some, None, is_some, if◌then◌else◌, bytes_eq, length, map, slice_get, option_and_then}
 use Rattle.std.specs.List.{list_any}
-use Rattle.std.specs.declared.alloc.Global.{Global}
+use Rattle.std.specs.Borrow.{Bor}
 use Rattle.ae_vread.specs.ModuleTree.{NetTree}
 use Rattle.ae_judge.specs.Names.{net_named}
 
@@ -19,8 +19,8 @@ abbrev pub with_place : List Entry → List ℕ → ℕ → List Entry
 with_place es n p = if is_some (place_in es n) then es else es ++ (n, p) ∷ []
 
 -- the entries of the code
-abbrev pub places_of : List (Vec ℕ Global × ℕ) → List Entry
-places_of es = map (λ (e : Vec ℕ Global × ℕ). (e.0.items, e.1)) es
+abbrev pub places_of : List (Bor (List ℕ) × ℕ) → List Entry
+places_of es = map (λ (e : Bor (List ℕ) × ℕ). (e.0.now, e.1)) es
 
 -- these names have places, and no others
 abbrev pub HasNames : List Entry → List (List ℕ) → Type 0

@@ -53,7 +53,7 @@ fn twice_item(alloc: Global, m: &VModule, names: &Names<'_>) -> Result<Option<u3
     ensures { IfOk result (λ o. IsFirstOf (HasTwice (module_tree m.now)) o) }
 {
     let declared = first_again(alloc, &m.nets)?;
-    let driven = first_twice(alloc, names, &m.items)?;
+    let driven = first_twice(alloc, names, m.nets.len(), &m.items)?;
     Ok(earlier(declared, driven))
 }
 

@@ -14,7 +14,7 @@ use std::marker::Model;
 #[derive(Drop)]
 pub struct Names<'m> {
     nets: &'m [VNet],
-    places: Places,
+    places: Places<'m>,
 }
 
 impl<'m> Model for Names<'m> {
@@ -35,9 +35,9 @@ impl<'m> Names<'m> {
     pub fn of(alloc: Global, nets: &'m [VNet]) -> Result<Names<'m>, AllocError>
         ensures { IfOk result (λ t. t ≡ map net_tree nets.now) }
     {
-        let mut places = Places::new(alloc);
+        let mut places = Places::with_room(alloc, nets.len())?;
         'net: for place in 0..nets.len() {
-            places.put(alloc, nets[place].name.as_str(), place)?;
+            places.put(nets[place].name.as_str(), place)?;
         }
         Ok(Names { nets, places })
     }

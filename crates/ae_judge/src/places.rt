@@ -1,19 +1,19 @@
 // Names with places.
 
-ghost use Rattle.std.specs.Prelude.{◌≡◌, [], OnOk, is_some};
+ghost use Rattle.std.specs.Prelude.{◌≡◌, [], IfOk, OnOk, is_some};
 ghost use Rattle.ae_judge.specs.Places.{place_in, with_place};
 
 use indexmap::IndexMap;
 use std::alloc::{AllocError, Global};
 use std::marker::Model;
 
-/// Names, each with the place that it was first put in with. A look-up takes the time of its name.
+/// Names, each with the place that it was first put in with. A look-up takes the time of its name; the names are borrowed.
 #[derive(Drop)]
-pub struct Places {
-    first: IndexMap<Vec<u8>, usize>,
+pub struct Places<'m> {
+    first: IndexMap<&'m str, usize>,
 }
 
-impl Model for Places {
+impl<'m> Model for Places<'m> {
     ghost use Rattle.std.specs.Prelude.{List, ℕ};
     ghost use Rattle.ae_judge.specs.Places.{Entry, places_of};
 
@@ -22,9 +22,9 @@ impl Model for Places {
     ghost view = { λ s. places_of s.first.entries };
 }
 
-impl Places {
+impl<'m> Places<'m> {
     /// No names.
-    pub fn new(alloc: Global) -> Places
+    pub fn new(alloc: Global) -> Places<'m>
         ensures { result ≡ [] }
     {
         Places {
@@ -32,11 +32,20 @@ impl Places {
         }
     }
 
+    /// No names, and room for so many.
+    pub fn with_room(alloc: Global, count: usize) -> Result<Places<'m>, AllocError>
+        ensures { IfOk result (λ p. p ≡ []) }
+    {
+        Ok(Places {
+            first: IndexMap::with_capacity(alloc, count)?,
+        })
+    }
+
     /// The place of a name.
     pub fn find(&self, name: &str) -> Option<usize>
         ensures { result ≡ place_in self.now name.now }
     {
-        self.first.get(name.as_bytes()).copied()
+        self.first.get(name).copied()
     }
 
     /// Whether a name is there.
@@ -46,16 +55,13 @@ impl Places {
         self.find(name).is_some()
     }
 
-    /// Puts a name in, unless it is there.
-    pub fn put(&mut self, alloc: Global, name: &str, place: usize) -> Result<(), AllocError>
-        ensures { OnOk result (self.new ≡ with_place self.old name.now place) }
+    /// Puts a name in, unless it is there, and tells whether it was.
+    pub fn put(&mut self, name: &'m str, place: usize) -> Result<bool, AllocError>
+        ensures put { OnOk result (self.new ≡ with_place self.old name.now place) }
+        ensures there { IfOk result (λ b. b ≡ is_some (place_in self.old name.now)) }
     {
-        if self.has(name) {
-            return Ok(());
-        }
-        let mut key = Vec::new(alloc);
-        key.extend_from_slice(name.as_bytes())?;
-        self.first.insert(key, place)?;
-        Ok(())
+        let before = self.first.len();
+        self.first.entry(name)?.or_insert(place);
+        Ok(self.first.len() == before)
     }
 }

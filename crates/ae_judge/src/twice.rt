@@ -17,33 +17,32 @@ use std::alloc::{AllocError, Global};
 pub fn first_again(alloc: Global, nets: &[VNet]) -> Result<Option<u32>, AllocError>
     ensures { IfOk result (λ o. o ≡ first_again [] (map net_tree nets.now)) }
 {
-    let mut seen = Places::new(alloc);
+    let mut seen = Places::with_room(alloc, nets.len())?;
     for net in nets {
-        if seen.has(net.name.as_str()) {
+        if seen.put(net.name.as_str(), 0)? {
             return Ok(Some(net.item));
         }
-        seen.put(alloc, net.name.as_str(), 0)?;
     }
     Ok(None)
 }
 
-fn put_names(alloc: Global, names: &[&str], into: &mut Places) -> Result<(), AllocError>
+fn put_names<'m>(names: &[&'m str], into: &mut Places<'m>) -> Result<(), AllocError>
     ensures { OnOk result (into.new ≡ with_names into.old (map (λ s. s.now) names.now)) }
 {
     for name in names {
-        into.put(alloc, name, 0)?;
+        into.put(name, 0)?;
     }
     Ok(())
 }
 
-fn is_driven(names: &Names<'_>, driven: &Places, name: &str) -> bool
+fn is_driven(names: &Names<'_>, driven: &Places<'_>, name: &str) -> bool
     ensures { result ≡ is_driven names.now driven.now name.now }
 {
     names.is_input(name) || driven.has(name)
 }
 
 /// Whether one of the names is an input or driven by an earlier item.
-fn any_driven(names: &Names<'_>, driven: &Places, targets: &[&str]) -> bool
+fn any_driven(names: &Names<'_>, driven: &Places<'_>, targets: &[&str]) -> bool
     ensures { result ≡ list_any (is_driven names.now driven.now) (map (λ s. s.now) targets.now) }
 {
     for name in targets {
@@ -74,12 +73,14 @@ fn repeats(
 ) -> Result<bool, AllocError>
     ensures { IfOk result (λ b. b ≡ repeats names.now (item_tree item.now) [] (map (λ s. s.now) targets.now)) }
 {
-    let mut seen = Places::new(alloc);
+    if targets.len() < 2 {
+        return Ok(false);
+    }
+    let mut seen = Places::with_room(alloc, targets.len())?;
     for name in targets {
-        if seen.has(name) && !may_repeat(names, item, name) {
+        if seen.put(name, 0)? && !may_repeat(names, item, name) {
             return Ok(true);
         }
-        seen.put(alloc, name, 0)?;
     }
     Ok(false)
 }
@@ -87,7 +88,7 @@ fn repeats(
 fn drives_twice(
     alloc: Global,
     names: &Names<'_>,
-    driven: &Places,
+    driven: &Places<'_>,
     item: &VItem,
     targets: &[&str],
 ) -> Result<bool, AllocError>
@@ -100,16 +101,18 @@ fn drives_twice(
     repeats(alloc, names, item, targets)
 }
 
-/// The number of the first item that drives a name that is driven before: an input, by the header.
+/// The number of the first item that drives a name that is driven before: an input, by the header. There is room for `count`
+/// driven names from the start.
 pub fn first_twice(
     alloc: Global,
     names: &Names<'_>,
+    count: usize,
     items: &[VItem],
 ) -> Result<Option<u32>, AllocError>
     requires few { length items.now < 2 ^ 32 }
     ensures { IfOk result (λ o. o ≡ first_twice names.now 1 [] (map item_tree items.now)) }
 {
-    let mut driven = Places::new(alloc);
+    let mut driven = Places::with_room(alloc, count)?;
     let mut number: u32 = 0;
     for item in items {
         number += 1;
@@ -117,32 +120,32 @@ pub fn first_twice(
         if drives_twice(alloc, names, &driven, item, &targets)? {
             return Ok(Some(number));
         }
-        put_names(alloc, &targets, &mut driven)?;
+        put_names(&targets, &mut driven)?;
     }
     Ok(None)
 }
 
-/// The names that items drive.
-fn all_driven(alloc: Global, items: &[VItem]) -> Result<Places, AllocError>
+/// The names that items drive, with room for `count` from the start.
+fn all_driven<'m>(alloc: Global, count: usize, items: &'m [VItem]) -> Result<Places<'m>, AllocError>
     ensures { IfOk result (λ p. p ≡ with_names [] (flat_map item_targets (map item_tree items.now))) }
 {
-    let mut driven = Places::new(alloc);
+    let mut driven = Places::with_room(alloc, count)?;
     for item in items {
         let targets = item_targets(alloc, item)?;
-        put_names(alloc, &targets, &mut driven)?;
+        put_names(&targets, &mut driven)?;
     }
     Ok(driven)
 }
 
 /// Whether the net is no input, and its name none of those that are driven.
-fn is_undriven(driven: &Places, net: &VNet) -> bool
+fn is_undriven(driven: &Places<'_>, net: &VNet) -> bool
     ensures { result ≡ is_undriven driven.now (net_tree net.now) }
 {
     !is_input_kind(net.kind) && !driven.has(net.name.as_str())
 }
 
 /// The place of the first net that is not.
-fn first_outside(driven: &Places, nets: &[VNet]) -> Option<u32>
+fn first_outside(driven: &Places<'_>, nets: &[VNet]) -> Option<u32>
     requires few { length nets.now < 2 ^ 32 }
     ensures { result ≡ first_from (λ _. is_undriven driven.now) 0 (map net_tree nets.now) }
 {
@@ -165,6 +168,6 @@ pub fn first_undriven(
     requires few { length nets.now < 2 ^ 32 }
     ensures { IfOk result (λ o. o ≡ first_from (λ _. is_undriven (with_names [] (flat_map item_targets (map item_tree items.now)))) 0 (map net_tree nets.now)) }
 {
-    let driven = all_driven(alloc, items)?;
+    let driven = all_driven(alloc, nets.len(), items)?;
     Ok(first_outside(&driven, nets))
 }

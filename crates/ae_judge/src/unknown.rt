@@ -2,15 +2,15 @@
 
 ghost use Rattle.std.specs.Prelude.{◌≡◌, ◌<◌, ◌++◌, ◌^◌, IfOk, length, map, []};
 ghost use Rattle.std.specs.List.{list_any, AllByRecursion};
-ghost use Rattle.ae_vread.specs.View.{drive_tree, item_tree};
-ghost use Rattle.ae_judge.specs.Shape.{IsLetteredDrive, IsLetteredItem};
-ghost use Rattle.ae_judge.specs.Names.{item_reads, item_targets};
+ghost use Rattle.ae_vread.specs.View.{expr_tree, drive_tree, item_tree};
+ghost use Rattle.ae_judge.specs.Shape.{IsLettered, IsLetteredDrive, IsLetteredItem};
+ghost use Rattle.ae_judge.specs.Names.{names_in, item_reads, item_targets};
 ghost use Rattle.ae_judge.specs.Judging.{item_clock, first_from, is_declared_before, is_unknown, drives_unknown, uses_unknown};
 
 use crate::names::Names;
 use crate::places::Places;
 use crate::reads::{names_in, push_item_reads, push_item_targets, push_name};
-use ae_vread::{Drive, VItem};
+use ae_vread::{Drive, Expr, VItem};
 use std::alloc::{AllocError, Global};
 
 fn is_declared_before(names: &Names<'_>, number: u32, name: &str) -> bool
@@ -23,13 +23,13 @@ fn is_declared_before(names: &Names<'_>, number: u32, name: &str) -> bool
 }
 
 /// Whether the name is neither declared before the item nor given.
-fn is_unknown(names: &Names<'_>, number: u32, given: &Places, name: &str) -> bool
+fn is_unknown(names: &Names<'_>, number: u32, given: &Places<'_>, name: &str) -> bool
     ensures { result ≡ is_unknown names.now number given.now name.now }
 {
     !is_declared_before(names, number, name) && !given.has(name)
 }
 
-fn any_unknown(names: &Names<'_>, number: u32, given: &Places, used: &[&str]) -> bool
+fn any_unknown(names: &Names<'_>, number: u32, given: &Places<'_>, used: &[&str]) -> bool
     ensures { result ≡ list_any (is_unknown names.now number given.now) (map (λ s. s.now) used.now) }
 {
     for name in used {
@@ -38,6 +38,21 @@ fn any_unknown(names: &Names<'_>, number: u32, given: &Places, used: &[&str]) ->
         }
     }
     false
+}
+
+/// Whether the value uses a name that is neither declared before the item nor given.
+fn value_unknown(
+    alloc: Global,
+    names: &Names<'_>,
+    number: u32,
+    given: &Places<'_>,
+    value: &Expr,
+) -> Result<bool, AllocError>
+    requires lettered { IsLettered (expr_tree value.now) }
+    ensures { IfOk result (λ b. b ≡ list_any (is_unknown names.now number given.now) (names_in (expr_tree value.now))) }
+{
+    let used = names_in(alloc, value)?;
+    Ok(any_unknown(names, number, given, &used))
 }
 
 /// Whether a value of a declaration uses a name that is neither declared before nor given a value before it.
@@ -50,13 +65,12 @@ fn drives_unknown(
     requires lettered { AllByRecursion IsLetteredDrive (map drive_tree drives.now) }
     ensures { IfOk result (λ b. b ≡ drives_unknown names.now number [] (map drive_tree drives.now)) }
 {
-    let mut given = Places::new(alloc);
+    let mut given = Places::with_room(alloc, drives.len())?;
     for drive in drives {
-        let used = names_in(alloc, &drive.value)?;
-        if any_unknown(names, number, &given, &used) {
+        if value_unknown(alloc, names, number, &given, &drive.value)? {
             return Ok(true);
         }
-        given.put(alloc, drive.name.as_str(), 0)?;
+        given.put(drive.name.as_str(), 0)?;
     }
     Ok(false)
 }

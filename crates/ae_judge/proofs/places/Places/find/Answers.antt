@@ -7,5 +7,5 @@ pub returns : goal.returns
 returns c =
     let es : List CodeEntry = c.self.inside.first.entries in
     let v : places_of es ≡ c.args.self.now = c.self.view_is in
-    c.copied.ensures ∙ c.get.ensures.value ∙ lookup_place c.as_bytes.result.now es
-    ∙ (λ i. place_in (v i) (c.as_bytes.ensures.value i))
+    c.copied.ensures ∙ c.get.ensures.value ∙ lookup_place c.args.name.now es
+    ∙ (λ i. place_in (v i) c.args.name.now)
