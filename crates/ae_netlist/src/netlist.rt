@@ -33,7 +33,7 @@ impl Model for Netlist {
 
     ghost view = { λ n. record { limit = n.limit; cells = n.cells.items; outlets = n.outlets.items } };
 
-    ghost invariant = { λ n. (length n.cells.items ≤ n.limit) × IsFormed n.cells.items × HaveNets n.cells.items n.outlets.items × AreNumbered is_input n.cells.items n.inputs.items × (length n.outlets.items < 2 ^ 32) };
+    ghost invariant = { λ n. (length n.cells.items ≤ n.limit) × IsFormed n.cells.items × HaveNets n.cells.items n.outlets.items × AreNumbered is_input n.cells.items n.inputs.items × (length n.outlets.items < 2 ^ 32) × (n.limit < 2 ^ 32) };
 }
 
 impl Netlist {
@@ -64,7 +64,6 @@ impl Netlist {
     pub fn len(&self) -> u32
         ensures { result ≡ length self.now.cells }
     {
-        let _limit = self.limit;
         self.cells.len() as u32
     }
 
@@ -113,7 +112,6 @@ impl Netlist {
     pub fn inputs(&self) -> u32
         ensures { result ≡ count_of is_input self.now.cells }
     {
-        let _limit = self.limit;
         self.inputs.len() as u32
     }
 

@@ -25,5 +25,4 @@ pub fn fill_begins(netlist: &Netlist, fill: u64)
     ensures { AreFirsts netlist.now.cells (filled netlist.now.cells fill) }
 {
     netlist.formed();
-    let _fill = fill;
 }

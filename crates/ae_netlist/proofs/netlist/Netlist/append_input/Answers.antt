@@ -20,4 +20,5 @@ invariant_of-self-in-Ok-push c =
       nets_later _ _ _ (keeps_extends (extends_append _ _)) c.self.invariant.2,
       numbers_push is_input _ c.args.sized _ net c.requires.input (grind (arith, c.len-net.ensures)) c.self.invariant.3,
       c.self.invariant.4,
+      c.self.invariant.5,
     )

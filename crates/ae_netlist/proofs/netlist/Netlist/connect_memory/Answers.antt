@@ -24,6 +24,7 @@ invariant_of-self c =
       nets_later _ _ _ (keeps_written _ _ _ _ c.args.at c.args.next c.args.enable mem) c.self.invariant.2,
       numbers_replaced is_input _ _ _ _ _ mem.found refl c.self.invariant.3,
       c.self.invariant.4,
+      c.self.invariant.5,
     )
 
 pub returns-in-Mem : goal.returns-in-Mem
