@@ -72,7 +72,6 @@ fn copy_cell(
     ensures limit { OnOk result (new.new.limit ≡ new.old.limit) }
     ensures outlets { OnOk result (new.new.outlets ≡ new.old.outlets) }
 {
-    let _sized = cell_at(nl, NetId(n));
     if !is_kept(keep, NetId(n)) {
         table.skip()?;
         return Ok(());
