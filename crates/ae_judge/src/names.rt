@@ -47,7 +47,6 @@ impl<'m> Names<'m> {
         ensures within { IfSome result (λ p. p < length self.now) }
         ensures net { option_and_then (slice_get self.now) result ≡ net_named self.now name.now }
     {
-        let _ = &self.nets;
         self.places.find(name)
     }
 
