@@ -136,10 +136,7 @@ pub fn reducing(
     ensures fault { result ≢ Err NetFault.Full }
 {
     let element = copy(alloc, element_of(raw))?;
-    match Reduce::new(op, slots, lanes, element, budget) {
-        Some(reduce) => Ok(reduce.followed(wait)),
-        None => unreachable!(),
-    }
+    Ok(Reduce::of_shape(op, slots, lanes, element, budget).followed(wait))
 }
 
 // The layout of the elements that come on so many lanes.
@@ -181,8 +178,5 @@ pub fn scanning(
     ensures fault { result ≢ Err NetFault.Full }
 {
     let element = copy(alloc, elements_of(out, lanes))?;
-    match Scan::new(op, slots, lanes, element, budget) {
-        Some(scan) => Ok(scan),
-        None => unreachable!(),
-    }
+    Ok(Scan::of_shape(op, slots, lanes, element, budget))
 }

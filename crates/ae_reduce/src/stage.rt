@@ -51,16 +51,24 @@ impl Reduce {
         ensures is { IfSome result (λ r. r ≡ record { op = op; slots = slots; lanes = lanes; element = element; period = period }) }
     {
         if is_fold(op, slots, lanes, &element, period) {
-            Some(Reduce {
-                op,
-                slots,
-                lanes,
-                element,
-                period,
-                ahead: levels(lanes),
-            })
+            Some(Reduce::of_shape(op, slots, lanes, element, period))
         } else {
             None
+        }
+    }
+
+    /// `new`, where the fold is known to be one. Takes no memory.
+    pub fn of_shape(op: WordOp, slots: u32, lanes: u32, element: StType, period: u32) -> Reduce
+        requires { IsFoldShape (record { op = op; slots = slots; lanes = lanes; element = element; period = period }) }
+        ensures { result ≡ record { op = op; slots = slots; lanes = lanes; element = element; period = period } }
+    {
+        Reduce {
+            op,
+            slots,
+            lanes,
+            element,
+            period,
+            ahead: levels(lanes),
         }
     }
 

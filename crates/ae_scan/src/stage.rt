@@ -49,15 +49,23 @@ impl Scan {
         ensures is { IfSome result (λ r. r ≡ record { op = op; slots = slots; lanes = lanes; element = element; period = period }) }
     {
         if is_fold(op, slots, lanes, &element, period) {
-            Some(Scan {
-                op,
-                slots,
-                lanes,
-                element,
-                period,
-            })
+            Some(Scan::of_shape(op, slots, lanes, element, period))
         } else {
             None
+        }
+    }
+
+    /// `new`, where the scan is known to be one. Takes no memory.
+    pub fn of_shape(op: WordOp, slots: u32, lanes: u32, element: StType, period: u32) -> Scan
+        requires { IsFoldShape (record { op = op; slots = slots; lanes = lanes; element = element; period = period }) }
+        ensures { result ≡ record { op = op; slots = slots; lanes = lanes; element = element; period = period } }
+    {
+        Scan {
+            op,
+            slots,
+            lanes,
+            element,
+            period,
         }
     }
 }

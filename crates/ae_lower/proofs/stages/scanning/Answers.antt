@@ -1,15 +1,15 @@
-use Rattle.std.proofs.Common.{◌≡◌, ◌∙◌, true, false, refl, sym, subst}
+use Rattle.std.proofs.Common.{◌≡◌, ◌∙◌, refl, sym, subst}
 use Rattle.ae_sttype.specs.StTree.{StTree, st_tree}
 use Rattle.ae_fold.specs.Shapes.{FoldShape}
 use Rattle.ae_flow.specs.Fitted.{IsArranged}
 use Rattle.ae_lower.proofs.Arranged.{arranged_size}
 use Rattle.ae_lower.proofs.stages.scanning.Goals as goal
 
-pub unreachable-requires : goal.unreachable-requires
-unreachable-requires c =
+pub of_shape-requires : goal.of_shape-requires
+of_shape-requires c =
     let t : StTree = c.requires.arranged.0 in
     let e : st_tree c.in_ok-element.element ≡ t = c.in_ok-element.ensures.ok ∙ c.elements_of.ensures c.args.slots t c.requires.arranged.1.0 in
-    let is : false ≡ true = c.in-None.ensures.some.1 (record {
+    record {
       op = c.requires.op;
       slots_some = c.requires.spread.some_slots;
       slots_most = c.requires.spread.few_slots;
@@ -19,8 +19,7 @@ unreachable-requires c =
       period_some = c.requires.some;
       period_most = c.requires.most;
       room = rw e c.requires.arranged.1.1;
-    }) in
-    cc
+    }
 
 pub returns-clause-is : goal.returns-clause-is
 returns-clause-is c =
@@ -28,4 +27,4 @@ returns-clause-is c =
     let e : st_tree c.in_ok-element.element ≡ t = c.in_ok-element.ensures.ok ∙ c.elements_of.ensures c.args.slots t c.requires.arranged.1.0 in
     let P : FoldShape → Type 0 =
     λ r. (r.op ≡ c.args.op) × (r.slots ≡ c.args.slots) × (r.lanes ≡ c.args.lanes) × (r.period ≡ c.args.budget) × IsArranged c.args.slots c.args.lanes (st_tree r.element) (st_tree c.args.out.now) in
-    subst P (sym c.in-Some.ensures.is) (refl, refl, refl, refl, rw e c.requires.arranged.1.0)
+    subst P (sym c.of_shape.ensures) (refl, refl, refl, refl, rw e c.requires.arranged.1.0)
