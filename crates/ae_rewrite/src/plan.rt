@@ -15,7 +15,7 @@ ghost use Rattle.ae_rewrite.specs.Planned.{row_lists, IsRowAt, IsNodeAt, IsPlann
 
 use crate::calls::{Call, called_by, plain_op};
 use crate::{LayFault, PlanFault, StFunc, StNode, StOp, lay};
-use ae_seq::{Func, Node, Typed};
+use ae_seq::{Func, Node, Program, Typed};
 use ae_seqtype::SeqType;
 use ae_sttype::StType;
 use std::alloc::{AllocError, Global};
@@ -173,12 +173,12 @@ pub fn func_of(p: &Typed, func: u32) -> &Func
 }
 
 /// The number of the program function, which is the last.
-pub fn main_of(p: &Typed) -> u32
+pub fn main_of(p: &Program) -> u32
     requires formed { IsTrue (formed (program_tree p.now)) }
     ensures main { result ≡ length (program_tree p.now).funcs - 1 }
     ensures there { result < length (program_tree p.now).funcs }
 {
-    (p.program().funcs.as_slice().len() - 1) as u32
+    (p.funcs.as_slice().len() - 1) as u32
 }
 
 fn param_count(f: &Func) -> u32

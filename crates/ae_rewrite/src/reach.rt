@@ -108,7 +108,7 @@ pub fn reached(alloc: Global, p: &Typed, slowdown: u32) -> Result<Vec<Vec<u32>>,
     requires formed { IsTrue (formed (program_tree p.now)) }
     ensures { IfOk result (λ v. Reaches (program_tree p.now) slowdown 0 (number_lists v.items)) }
 {
-    let main = main_of(p);
+    let main = main_of(p.program());
     let mut needs = empty_lists(alloc, main as usize)?;
     visit(p, &mut needs, main, slowdown)?;
     let mut func = main;

@@ -171,11 +171,11 @@ pub fn schedule(alloc: Global, p: &Typed, slowdown: u32) -> Result<StProgram, Pl
     ensures fine { OnOk result (failing_line (program_tree p.now) slowdown ≡ None) }
     ensures failing { (line : ℕ) → result ≡ Err (PlanFault.NoSchedule line) → failing_line (program_tree p.now) slowdown ≡ Some line }
 {
-    let _program = p.program();
+    let main = main_of(p.program());
     let needs = reached(alloc, p, slowdown)?;
     let mut instances = Vec::new(alloc);
     let rows = plan_all(alloc, p, slowdown, &needs, &mut instances)?;
-    let whole = plan_func(alloc, p, &rows, main_of(p), slowdown)?;
+    let whole = plan_func(alloc, p, &rows, main, slowdown)?;
     append(&mut instances, whole)?;
     Ok(StProgram::new(instances))
 }

@@ -8,5 +8,5 @@ pub overflow_cast-result : goal.overflow_cast-result
 overflow_cast-result c =
     let e = few-funcs (program_tree c.args.p.now) c.requires.formed in
     let few = simp length-map at e in
-    let n : length c.as_slice.result.now ≤ 4096 = rw (c.as_slice.ensures.value, c.program.ensures.program) few in
+    let n : length c.as_slice.result.now ≤ 4096 = rw c.as_slice.ensures.value few in
     search rules

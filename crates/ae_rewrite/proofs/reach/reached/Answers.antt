@@ -8,7 +8,7 @@ use Rattle.ae_rewrite.proofs.reach.reached.Goals as goal
 
 pub loop-func-init : goal.loop-func-init
 loop-func-init c = record {
-  reaches = reaches-start (program_tree c.args.p.now) c.args.slowdown c.main_of-main.result (number_lists c.in_ok-needs.needs.items) _ c.main_of-main.ensures.main
+  reaches = reaches-start (program_tree c.args.p.now) c.args.slowdown c.main_of-main.result (number_lists c.in_ok-needs.needs.items) _ (rw c.program.ensures.program at c.main_of-main.ensures.main)
       (rw length-map c.in_ok-needs.ensures.count) c.in_ok-needs.ensures.empty c.in_ok-visit.ensures.added c.in_ok-visit.ensures.closed;
   low = omega arith;
 }
