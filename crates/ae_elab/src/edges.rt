@@ -93,7 +93,6 @@ fn connect(nl: &mut Netlist, _from: u32, x: &VNet, net: NetId, next: Next)
     ensures stays { is_state (net_tree x.now) ≡ false → nl.new ≡ nl.old }
     ensures connected { IsConnected (net_tree x.now).kind nl.new.cells net.0 (net_tree x.now).width next }
 {
-    let _kind = x.kind;
     match next {
         Next::Keep => (),
         Next::Word(word) => nl.connect(net, word),

@@ -183,7 +183,6 @@ fn wire_order(
     ensures no_loop { OnOk result (Never (HasLoop (module_tree m.now))) }
     ensures fault { IfErr result (IsLoopFault (module_tree m.now)) }
 {
-    let _nets = &m.nets;
     match graph_of(alloc, names, values) {
         Ok(graph) => order(alloc, &graph.starts, &graph.targets),
         Err(_) => Err(OrderFault::Memory),
