@@ -9,13 +9,13 @@ mod names;
 mod notes;
 mod report;
 
-ghost use Rattle.std.specs.Prelude.{◌≡◌, All, length, map, IfOk, string_bytes};
+ghost use Rattle.std.specs.Prelude.{◌≡◌, ◌<◌, ◌^◌, All, length, map, IfOk, string_bytes};
 ghost use Rattle.ae_verilog.specs.Notes.{ArePrinted, note_tree};
 ghost use Rattle.ae_verilog.specs.ReportLines.{report_tree, report_lines};
 ghost use Rattle.ae_verilog.specs.Text.{whole_text, PortFits, CellPortFits};
 ghost use Rattle.ae_verilog.specs.Written.{HaveNumbers, IsListable};
 
-use ae_netlist::{Netlist, Outlet, SizedCell};
+use ae_netlist::Netlist;
 pub use interface::{PortList, ports_of};
 pub use notes::Note;
 pub use report::Report;
@@ -38,26 +38,27 @@ pub fn write_module(
     ensures numbers { IfOk result (λ text. HaveNumbers (report_tree report.now) (map note_tree notes.now)) }
 {
     nl.formed();
-    let _count = nl.len();
     let outs = report.outs.as_slice().len();
-    write_text(alloc, nl.cells(), nl.outlets(), outs, report, notes)
+    write_text(alloc, nl, outs, report, notes)
 }
 
 // The same, where there are so many results.
 fn write_text(
     alloc: Global,
-    cells: &[SizedCell],
-    outlets: &[Outlet],
+    nl: &Netlist,
     outs: usize,
     report: &Report,
     notes: &[Note],
 ) -> Result<String, AllocError>
-    ensures text { IfOk result (λ text. string_bytes text ≡ whole_text (report_lines (report_tree report.now)) (map note_tree notes.now) cells.now outlets.now outs) }
-    ensures inputs { IfOk result (λ text. All (λ sized. CellPortFits sized.cell) cells.now) }
-    ensures outputs { IfOk result (λ text. All (λ outlet. PortFits outlet.port) outlets.now) }
+    ensures text { IfOk result (λ text. string_bytes text ≡ whole_text (report_lines (report_tree report.now)) (map note_tree notes.now) nl.now.cells nl.now.outlets outs) }
+    ensures few { length nl.now.cells < 2 ^ 32 }
+    ensures inputs { IfOk result (λ text. All (λ sized. CellPortFits sized.cell) nl.now.cells) }
+    ensures outputs { IfOk result (λ text. All (λ outlet. PortFits outlet.port) nl.now.outlets) }
     ensures numbers { IfOk result (λ text. HaveNumbers (report_tree report.now) (map note_tree notes.now)) }
 {
-    let lines = notes::lines_of(alloc, notes, cells.len())?;
+    let cells = nl.cells();
+    let outlets = nl.outlets();
+    let lines = notes::lines_of(alloc, notes, nl.len() as usize)?;
     let names = names::Names {
         cells,
         lines: lines.as_slice(),

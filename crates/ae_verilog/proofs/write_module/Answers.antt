@@ -1,4 +1,4 @@
-use Rattle.std.proofs.Common.{Result, Ok, Err, IfOk, All, List, ◌<◌, ◌^◌, length, arith}
+use Rattle.std.proofs.Common.{Result, Ok, Err, IfOk, All, List, ◌<◌, ◌^◌, length}
 use Rattle.ae_netlist.specs.declared.cell.SizedCell.{SizedCell}
 use Rattle.ae_netlist.specs.declared.cell.Outlet.{Outlet}
 use Rattle.ae_netlist.specs.Circuit.{IsFormed, HaveNets}
@@ -12,11 +12,11 @@ returns_listable (Ok text) cells outlets formed shown few ins outs = record { fo
 returns_listable (Err x) cells outlets formed shown few ins outs = tt
 
 pub returns-clause-text : goal.returns-clause-text
-returns-clause-text c = rw (c.cells.ensures, c.outlets.ensures, c.as_slice-outs.ensures.value) at c.write_text.ensures.text
+returns-clause-text c = rw c.as_slice-outs.ensures.value at c.write_text.ensures.text
 
 pub returns-clause-listable : goal.returns-clause-listable
 returns-clause-listable c =
-    returns_listable c.write_text.result c.args.nl.now.cells c.args.nl.now.outlets c.formed.ensures.cells c.formed.ensures.outlets (omega arith) (rw c.cells.ensures at c.write_text.ensures.inputs) (rw c.outlets.ensures at c.write_text.ensures.outputs)
+    returns_listable c.write_text.result c.args.nl.now.cells c.args.nl.now.outlets c.formed.ensures.cells c.formed.ensures.outlets c.write_text.ensures.few c.write_text.ensures.inputs c.write_text.ensures.outputs
 
 pub returns-clause-numbers : goal.returns-clause-numbers
 returns-clause-numbers c = c.write_text.ensures.numbers
