@@ -1,5 +1,5 @@
 -- What stands in the rows of blocks, one behind the other: the words of each element in its slot, and the fill elsewhere.
-use Rattle.std.proofs.Common.{ℕ, zero, suc, ◌≡◌, ◌+◌, ◌*◌, ◌/◌, ◌%◌, ◌<◌, List, [], length, map, take, get_or, Option, Some, None, slice_get, slice_index, arith, refl, ap, ◌∙◌}
+use Rattle.std.proofs.Common.{ℕ, zero, suc, ◌≡◌, ◌+◌, ◌*◌, ◌/◌, ◌%◌, ◌<◌, List, [], length, map, take, get_or, Option, Some, None, slice_get, arith, refl, ap, ◌∙◌}
 use Rattle.std.specs.Option.{option_map}
 use Rattle.std.proofs.lemmas.List.{length-map}
 use Rattle.std.proofs.lemmas.List.FromFn.{get_or-map-range_with_len, length-map-range_with_len}
@@ -53,7 +53,7 @@ module _ (slowdown fill : ℕ) (ss : List StTree) (blocks : List (List ValueTree
 
   -- the word of an element that stands, in its clock of block b
   pub stands_in_row : (b q e j : ℕ) (s : StTree) (w : Slot) (block : List ValueTree) → slice_get blocks b ≡ Some block → slice_get ss q ≡ Some s → slice_get (slots s) e ≡ Some w → j < element_words s → w.clock < time s → w.lane < lanes s
-      → get_or (clock_row slowdown fill ss words (b * slowdown + w.clock)) (suc (columns_in (take q (streams_of ss)) + (w.lane * element_words s + j))) 0 ≡ slice_index (flat (at block q)) (e * element_words s + j)
+      → get_or (clock_row slowdown fill ss words (b * slowdown + w.clock)) (suc (columns_in (take q (streams_of ss)) + (w.lane * element_words s + j))) 0 ≡ get_or (flat (at block q)) (e * element_words s + j) 0
   stands_in_row b q e j s w block there found slot word clock lane =
       let f = sized q s found in
       let in_block : w.clock < slowdown = omega (arith, clock, f.time) in

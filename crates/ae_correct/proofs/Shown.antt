@@ -1,5 +1,5 @@
 -- What a circuit shows of a run on blocks, its module shows.
-use Rattle.std.proofs.Common.{ℕ, zero, suc, All, ◌≡◌, ◌+◌, ◌*◌, ◌<◌, ◌≤◌, List, [], ◌∷◌, ◌++◌, length, map, take, get_or, Some, slice_get, slice_index, arith, refl, ap, sym, ◌∙◌, subst}
+use Rattle.std.proofs.Common.{ℕ, zero, suc, All, ◌≡◌, ◌+◌, ◌*◌, ◌<◌, ◌≤◌, List, [], ◌∷◌, ◌++◌, length, map, take, get_or, Some, slice_get, arith, refl, ap, sym, ◌∙◌, subst}
 use Rattle.std.specs.Prelude.{codes}
 use Rattle.std.proofs.lemmas.List.Elements.{All-get_or}
 use Rattle.std.proofs.lemmas.Nat.{row_fits}
@@ -97,7 +97,7 @@ module _ (lines : ℕ → ℕ) (p : ProgramTree) (slowdown : ℕ) (costs : OwnCo
     on_inputs start k q column x below found small = input_row lines n many ins (outs_of outs) have run other fed alike with_rows.takes with_rows.long (start + k) q column x below found small
 
     holds_at : (b q e j : ℕ) (x : StTree) (w : Slot) (block : List ValueTree) → slice_get blocks b ≡ Some block → slice_get ins q ≡ Some x → slice_get (slots x) e ≡ Some w → j < element_words x
-        → wave run 1 (param_ports q x) (b * slowdown + w.clock) (w.lane * element_words x + j) ≡ slice_index (flat (at block q)) (e * element_words x + j)
+        → wave run 1 (param_ports q x) (b * slowdown + w.clock) (w.lane * element_words x + j) ≡ get_or (flat (at block q)) (e * element_words x + j) 0
     holds_at b q e j x w block there found slot word =
         let f = sizes q x found in
         let inside : e < st_atoms x = omega (arith, slice_get_within (slots x) e w slot, length-slots x) in

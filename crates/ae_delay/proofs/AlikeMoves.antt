@@ -1,6 +1,6 @@
 -- Moves between layouts that differ only in the invalid slots at their end cost the same, but for what depends on the clocks
 -- in which blocks follow one another.
-use Rattle.std.proofs.Common.{ℕ, zero, suc, ◌≡◌, ◌+◌, ◌-◌, ◌*◌, ◌/◌, ◌%◌, ◌<◌, ◌≤◌, inl, inr, ◌⊎◌, Bool, true, false, ◌&&◌, cond, nat_eq, nat_le, List, [], ◌∷◌, map, sum_by, Some, slice_get, slice_index_or, arith, refl, sym, ap, ◌∙◌}
+use Rattle.std.proofs.Common.{ℕ, zero, suc, ◌≡◌, ◌+◌, ◌-◌, ◌*◌, ◌/◌, ◌%◌, ◌<◌, ◌≤◌, inl, inr, ◌⊎◌, Bool, true, false, ◌&&◌, cond, nat_eq, nat_le, List, [], ◌∷◌, map, sum_by, Some, slice_get, get_or, arith, refl, sym, ap, ◌∙◌}
 use Rattle.std.specs.List.{range_with_len, list_all}
 use Rattle.std.proofs.lemmas.Bool.{cases_eq, le-leb}
 use Rattle.std.proofs.lemmas.List.Sums.{sum_by-cons}
@@ -35,7 +35,7 @@ trips_by source out origins =
     map (λ o. let t : TripTree = record {
       clock = (slot_number out (o / element_words out)).clock;
       column = column_number out (o / element_words out) (o % element_words out);
-      source = source (slice_index_or origins o (fixed 0));
+      source = source (get_or origins o (fixed 0));
     } in t) (range_with_len 0 (st_atoms out * element_words out))
 
 out_trimmed : (source : OriginTree → SourceTree) (out : StTree) (origins : List OriginTree) → trips_by source out origins ≡ trips_by source (trimmed out) origins
@@ -62,14 +62,14 @@ abbrev trip_by : (source : OriginTree → SourceTree) (out : StTree) (origins : 
 trip_by source out origins o = record {
   clock = (slot_number out (o / element_words out)).clock;
   column = column_number out (o / element_words out) (o % element_words out);
-  source = source (slice_index_or origins o (fixed 0));
+  source = source (get_or origins o (fixed 0));
 }
 
 trips_from : (a out : StTree) (origins : List OriginTree) → trips_by (source_of (a ∷ [])) out origins ≡ trips_by (source_of (trimmed a ∷ [])) out origins
 trips_from a out origins =
     same_map (trip_by (source_of (a ∷ [])) out origins) (trip_by (source_of (trimmed a ∷ [])) out origins)
     (λ o. ap (λ (s : SourceTree). let t : TripTree = record { clock = (slot_number out (o / element_words out)).clock; column = column_number out (o / element_words out) (o % element_words out); source = s } in t)
-    (source_trimmed a (slice_index_or origins o (fixed 0))))
+    (source_trimmed a (get_or origins o (fixed 0))))
     (range_with_len 0 (st_atoms out * element_words out))
 
 trips_trimmed : (how : MoveOp) (a s : StTree) → move_trips (op_move how a s) ≡ move_trips (op_move how (trimmed a) (trimmed s))

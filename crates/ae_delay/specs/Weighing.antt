@@ -1,5 +1,5 @@
 -- What the code knows of costs: those of a heavy instance only as heavy.
-use Rattle.std.specs.Prelude.{◌≡◌, ℕ, ◌+◌, ◌*◌, ◌<◌, ◌≤◌, min, max, List, [], ◌∷◌, ◌++◌, map, length, sum_by, fold, Option, Some, None, slice_get, slice_index, slice_set}
+use Rattle.std.specs.Prelude.{◌≡◌, ℕ, ◌+◌, ◌*◌, ◌<◌, ◌≤◌, min, max, List, [], ◌∷◌, ◌++◌, map, length, sum_by, fold, Option, Some, None, slice_get, get_or, slice_set}
 use Rattle.std.specs.List.{range_with_len, flat_map}
 use Rattle.ae_sttype.specs.StTree.{StTree}
 use Rattle.ae_sttype.specs.Moves.{columns_of}
@@ -33,7 +33,7 @@ AllBelow items count = (i a : ℕ) → slice_get items i ≡ Some a → a < coun
 
 -- the longest delays by item, with those of these uses
 abbrev pub deepened_by : List ℕ → Use → List ℕ
-deepened_by cs u = slice_set cs u.item (max (slice_index cs u.item) u.slack)
+deepened_by cs u = slice_set cs u.item (max (get_or cs u.item 0) u.slack)
 
 abbrev pub deepened : List ℕ → List Use → List ℕ
 deepened cs us = fold deepened_by cs us
@@ -60,13 +60,13 @@ IsAdvance layouts t limit old new (Some sum) = (limit < old.load + t.load) × (s
 
 -- the registers of chains of these lengths
 abbrev pub chained : (layouts : List StTree) → (chains : List ℕ) → ℕ
-chained layouts cs = sum_by (λ i. columns_of (item_layout layouts i) * slice_index cs i) (range_with_len 0 (length layouts))
+chained layouts cs = sum_by (λ i. columns_of (item_layout layouts i) * get_or cs i 0) (range_with_len 0 (length layouts))
 
 -- these nodes have come, and their loads together are within the limit
 pub record IsProgress (s : StFuncTree) (ts : List NodeTiming) (limit : ℕ) (p : Progress) : Type 0 where
   pub arrivals : p.arrivals.items ≡ arrivals_of s.ins ts
   pub long : length p.chains.items ≡ length (item_layouts s)
-  pub chains : (i : ℕ) → i < length (item_layouts s) → slice_index p.chains.items i ≡ chain_of (flat_map (λ (t : NodeTiming). t.uses) ts) i
+  pub chains : (i : ℕ) → i < length (item_layouts s) → get_or p.chains.items i 0 ≡ chain_of (flat_map (λ (t : NodeTiming). t.uses) ts) i
   pub costs : p.costs.items ≡ map cost_of ts
   pub load : p.load ≡ sum_by (λ (t : NodeTiming). t.load) ts
   pub muls : p.muls ≡ sum_by (λ (t : NodeTiming). t.muls) ts

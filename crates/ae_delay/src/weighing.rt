@@ -1,6 +1,6 @@
 // The costs of an instance, node by node.
 
-ghost use Rattle.std.specs.Prelude.{◌≡◌, ◌<◌, ◌≤◌, ◌+◌, ◌*◌, ℕ, List, [], length, sum_by, ◌++◌, ◌∷◌, IfOk, Some, None, slice_get, slice_index};
+ghost use Rattle.std.specs.Prelude.{◌≡◌, ◌<◌, ◌≤◌, ◌+◌, ◌*◌, ℕ, List, [], length, sum_by, ◌++◌, ◌∷◌, IfOk, Some, None, slice_get, get_or};
 ghost use Rattle.std.specs.List.{range_with_len};
 ghost use Rattle.ae_sttype.specs.StTree.{st_tree};
 ghost use Rattle.ae_sttype.specs.Moves.{columns_of};
@@ -175,7 +175,7 @@ fn chain_mems(s: &StFunc, chains: &[u32]) -> u64
     requires items { AreItems s.now.budget (item_layouts (st_func_tree s.now)) }
     requires long { length chains.now ≡ length (item_layouts (st_func_tree s.now)) }
     requires few { chained (item_layouts (st_func_tree s.now)) chains.now < 1000000000 }
-    ensures { result ≡ sum_by (λ i. columns_of (item_layout (item_layouts (st_func_tree s.now)) i) * rings (slice_index chains.now i)) (range_with_len 0 (length (item_layouts (st_func_tree s.now)))) }
+    ensures { result ≡ sum_by (λ i. columns_of (item_layout (item_layouts (st_func_tree s.now)) i) * rings (get_or chains.now i 0)) (range_with_len 0 (length (item_layouts (st_func_tree s.now)))) }
 {
     let mut sum = 0u64;
     for i in 0..chains.len() {

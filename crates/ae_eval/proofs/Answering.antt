@@ -1,5 +1,5 @@
 -- Values that go in and come out.
-use Rattle.std.proofs.Common.{◌≡◌, ℕ, suc, ◌+◌, ◌<◌, ◌≤◌, List, [], ◌∷◌, ◌++◌, length, take, drop, map, get_or, Option, Some, None, slice_get, slice_index_or, refl, arith, sym, ap, ◌∙◌, subst, append-nil}
+use Rattle.std.proofs.Common.{◌≡◌, ℕ, suc, ◌+◌, ◌<◌, ◌≤◌, List, [], ◌∷◌, ◌++◌, length, take, drop, map, get_or, Option, Some, None, slice_get, refl, arith, sym, ap, ◌∙◌, subst, append-nil}
 use Rattle.std.specs.List.{concat}
 use Rattle.std.proofs.lemmas.List.{length-map, map-append, take_more, take_all, drop_all}
 use Rattle.std.proofs.lemmas.List.Folds.{concat-append}
@@ -124,7 +124,7 @@ mean-is p stack old inputs h known fit eo e =
     let args = values_of (params_in p k) inputs in
     let given : values_in (params_in p k) old ≡ args = ap (values_in (params_in p k)) eo ∙ all-values (params_in p k) inputs fit in
     let items : values_in (types_in p k) stack ≡ item_values means f args = e.values ∙ ap (items_in p k) given ∙ ap (λ o. values_for means o args) at-k.1 in
-    let function : slice_index_or (meanings p.funcs) k no_function ≡ meaning means f = get_or_from_slice_get (meanings p.funcs) k (meaning means f) no_function (meaning-of p k f at-k.1) in
+    let function : get_or (meanings p.funcs) k no_function ≡ meaning means f = get_or_from_slice_get (meanings p.funcs) k (meaning means f) no_function (meaning-of p k f at-k.1) in
     ap (λ is. map (at (values_in (types_in p k) stack)) is) (ap results_for at-k.1) ∙ ap (λ vs. map (at vs) f.results) items ∙ sym (ap (λ (m : Meaning). m args) function)
 
 pub outputs-first : (p : ProgramTree) (k : ℕ) (stack : List ℕ) (found : List (List ℕ)) → found ≡ [] → Outputs p k stack [] found

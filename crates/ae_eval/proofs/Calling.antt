@@ -1,5 +1,5 @@
 -- Functions on a stack: node by node, and a call.
-use Rattle.std.proofs.Common.{◌≡◌, ℕ, ◌+◌, ◌<◌, ◌≤◌, true, List, [], ◌∷◌, length, take, drop, map, Option, Some, slice_get, slice_index, slice_index_or, arith, sym, ap, ◌∙◌, subst, length-take}
+use Rattle.std.proofs.Common.{◌≡◌, ℕ, ◌+◌, ◌<◌, ◌≤◌, true, List, [], ◌∷◌, length, take, drop, map, Option, Some, slice_get, get_or, arith, sym, ap, ◌∙◌, subst, length-take}
 use Rattle.std.proofs.lemmas.List.{drop_all, get_or-take, length-map}
 use Rattle.std.proofs.lemmas.Option.{slice_get_within, get_or_from_slice_get}
 use Rattle.std.proofs.lemmas.Bool.Decides.{nat_tests}
@@ -81,7 +81,7 @@ at-first g [] r h = cc
 at-first g (x ∷ xs) r h = let same : x ≡ r = cc in ap g same
 
 pub call-pushed : (p : ProgramTree) (k base : ℕ) (old mid new : List ℕ) → IsTyped p → k < length p.funcs → Evaluated p k base old mid
-    → Pushed (result_of p k) (take base mid) new (at (values_in (types_in p k) (drop base mid)) (slice_index (results_in p k) 0))
+    → Pushed (result_of p k) (take base mid) new (at (values_in (types_in p k) (drop base mid)) (get_or (results_in p k) 0 0))
     → Pushed (result_of p k) (take base old) new (applied (meanings p.funcs) k (values_in (params_in p k) (drop base old)))
 call-pushed p k base old mid new h known e push =
     let at-k = entry-at p.funcs k known in
@@ -92,10 +92,10 @@ call-pushed p k base old mid new h known e push =
     let some = form.some in
     let first = entry-at f.results 0 (omega arith) in
     let r = first.0 in
-    let item : slice_index (results_in p k) 0 ≡ r = ap (λ o. slice_index (results_for o) 0) at-k.1 ∙ get_or_from_slice_get f.results 0 r 0 first.1 in
+    let item : get_or (results_in p k) 0 0 ≡ r = ap (λ o. get_or (results_for o) 0 0) at-k.1 ∙ get_or_from_slice_get f.results 0 r 0 first.1 in
     let items : values_in (types_in p k) (drop base mid) ≡ item_values means f args = e.values ∙ ap (λ o. values_for means o args) at-k.1 in
-    let function : slice_index_or (meanings p.funcs) k no_function ≡ meaning means f = get_or_from_slice_get (meanings p.funcs) k (meaning means f) no_function (meaning-of p k f at-k.1) in
-    let value : at (values_in (types_in p k) (drop base mid)) (slice_index (results_in p k) 0) ≡ applied (meanings p.funcs) k args =
+    let function : get_or (meanings p.funcs) k no_function ≡ meaning means f = get_or_from_slice_get (meanings p.funcs) k (meaning means f) no_function (meaning-of p k f at-k.1) in
+    let value : at (values_in (types_in p k) (drop base mid)) (get_or (results_in p k) 0 0) ≡ applied (meanings p.funcs) k args =
     ap (at (values_in (types_in p k) (drop base mid))) item ∙ ap (λ vs. at vs r) items
     ∙ sym (ap (λ (m : Meaning). at (m args) 0) function ∙ at-first (at (item_values means f args)) f.results r first.1) in
     let P : List ℕ → Type 0 = λ ys. Pushed (result_of p k) ys new (applied (meanings p.funcs) k args) in

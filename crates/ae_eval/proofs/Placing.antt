@@ -1,5 +1,5 @@
 -- Items and their words on a stack.
-use Rattle.std.proofs.Common.{◌≡◌, ℕ, ◌+◌, ◌<◌, ◌≤◌, List, [], ◌∷◌, ◌++◌, length, take, drop, map, get_or, Option, Some, None, slice_get, slice_index, refl, arith, sym, ap, ◌∙◌, subst, length-append, length-drop}
+use Rattle.std.proofs.Common.{◌≡◌, ℕ, ◌+◌, ◌<◌, ◌≤◌, List, [], ◌∷◌, ◌++◌, length, take, drop, map, get_or, Option, Some, None, slice_get, refl, arith, sym, ap, ◌∙◌, subst, length-append, length-drop}
 use Rattle.std.proofs.lemmas.List.{map-append, take_all, drop_all, take-append-drop, take-take, drop-drop, take-append-le, drop-append-le, take_more}
 use Rattle.std.proofs.lemmas.Option.{slice_get_within, get_or_from_slice_get}
 use Rattle.ae_seqtype.specs.SeqTree.{SeqTree, words}
@@ -53,19 +53,19 @@ first-by (Some f) ts r t h e = ap (λ (o : Option ℕ). o >>= λ k. slice_get ts
 
 pub kept-result : (p : ProgramTree) (k base r start size : ℕ) (old new : List ℕ) (t : SeqTree) → base ≤ length old → FitIn (types_in p k) (drop base old) → slice_get (results_in p k) 0 ≡ Some r → slice_get (types_in p k) r ≡ Some t
     → start ≡ base + words_of (take r (types_in p k)) → size ≡ words t → new ≡ take base old ++ take size (drop start old)
-    → Pushed (result_of p k) (take base old) new (at (values_in (types_in p k) (drop base old)) (slice_index (results_in p k) 0))
+    → Pushed (result_of p k) (take base old) new (at (values_in (types_in p k) (drop base old)) (get_or (results_in p k) 0 0))
 kept-result p k base r start size old new t above fit first e es ew en =
     let ts = types_in p k in
     let q = placed-in ts base r old t above fit e in
     let own : result_of p k ≡ Some t = first-by (slice_get p.funcs k) ts r t first e in
-    let item : slice_index (results_in p k) 0 ≡ r = get_or_from_slice_get (results_in p k) 0 r 0 first in
+    let item : get_or (results_in p k) 0 0 ≡ r = get_or_from_slice_get (results_in p k) 0 r 0 first in
     let out : take size (drop start old) ≡ window t (base + words_of (take r ts)) old = ap (λ n. take n (drop start old)) ew ∙ ap (λ s. window t s old) es in
-    let value : at (values_in ts (drop base old)) (slice_index (results_in p k) 0) ≡ value_of t (take size (drop start old)) =
+    let value : at (values_in ts (drop base old)) (get_or (results_in p k) 0 0) ≡ value_of t (take size (drop start old)) =
     ap (at (values_in ts (drop base old))) item ∙ q.value ∙ ap (value_of t) (sym out) in
-    pushed-on (result_of p k) (take base old) new (take size (drop start old)) (at (values_in ts (drop base old)) (slice_index (results_in p k) 0)) en
+    pushed-on (result_of p k) (take base old) new (take size (drop start old)) (at (values_in ts (drop base old)) (get_or (results_in p k) 0 0)) en
     (λ u g.
     let same : t ≡ u = cc in
-    let P : SeqTree → Type 0 = λ z. Stands z (take size (drop start old)) (at (values_in ts (drop base old)) (slice_index (results_in p k) 0)) in
+    let P : SeqTree → Type 0 = λ z. Stands z (take size (drop start old)) (at (values_in ts (drop base old)) (get_or (results_in p k) 0 0)) in
     subst P same (record { fits = subst (Fit t) (sym out) q.fits.fits; value = sym value }))
 
 pub result-room : (p : ProgramTree) (k base r start size : ℕ) (old : List ℕ) (t : SeqTree) → base ≤ length old → FitIn (types_in p k) (drop base old) → slice_get (types_in p k) r ≡ Some t

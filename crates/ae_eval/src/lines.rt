@@ -1,6 +1,6 @@
 // The lines of functions that call no function, and what goes over a call.
 
-ghost use Rattle.std.specs.Prelude.{◌≡◌, ◌∷◌, [], ◌++◌, ◌+◌, ◌≤◌, ◌<◌, ℕ, All, Some, OnOk, IfOk, IsTrue, length, slice_get, slice_index, take, drop};
+ghost use Rattle.std.specs.Prelude.{◌≡◌, ◌∷◌, [], ◌++◌, ◌+◌, ◌≤◌, ◌<◌, ℕ, All, Some, OnOk, IfOk, IsTrue, length, slice_get, get_or, take, drop};
 ghost use Rattle.ae_seqtype.specs.SeqTree.{in_size, seq_tree};
 ghost use Rattle.ae_seq.specs.ProgramTree.{node_tree, program_tree};
 ghost use Rattle.ae_seq.specs.Trees.{node_trees, param_trees};
@@ -70,7 +70,7 @@ pub fn keep_result(p: &Typed, starts: &[Vec<usize>], func: usize, stack: &mut Ve
     requires base { base ≤ length stack.old.items }
     requires fits { FitIn (types_in (program_tree p.now) func) (drop base stack.old.items) }
     ensures { Pushed (result_of (program_tree p.now) func) (take base stack.old.items) stack.new.items
-        (at (values_in (types_in (program_tree p.now) func) (drop base stack.old.items)) (slice_index (results_in (program_tree p.now) func) 0)) }
+        (at (values_in (types_in (program_tree p.now) func) (drop base stack.old.items)) (get_or (results_in (program_tree p.now) func) 0 0)) }
 {
     let item = first_result(p, func);
     let result = place_of(p, starts, func, item, base);

@@ -1,5 +1,5 @@
 -- Bodies: an instance of the called function fits the layouts of a node's arguments and its own, element by element.
-use Rattle.std.proofs.Common.{◌≡◌, ℕ, suc, ◌<◌, ◌≤◌, ◌==◌, nat_lt, List, [], ◌∷◌, length, map, take, Some, refl, ap, sym, ◌∙◌, arith, IsTrue, slice_get, slice_index_or, subst}
+use Rattle.std.proofs.Common.{◌≡◌, ℕ, suc, ◌<◌, ◌≤◌, ◌==◌, nat_lt, List, [], ◌∷◌, length, map, take, Some, refl, ap, sym, ◌∙◌, arith, IsTrue, slice_get, get_or, subst}
 use Rattle.std.proofs.lemmas.Bool.{eqb-true}
 use Rattle.std.proofs.lemmas.Bool.Decides.{nat_tests}
 use Rattle.std.proofs.lemmas.List.{length-take}
@@ -68,7 +68,7 @@ pub record IsCallee (ts : List SeqTree) (t : SeqTree) (budget : ℕ) (f : StFunc
   pub ins : AllLays ts budget f.ins
   pub out : lay_of t budget ≡ Some (item_layout (item_layouts f) (first_result f))
 
-first_of_results : (of : FuncTree) (ts : List SeqTree) (t : SeqTree) → result_in of ts ≡ Some t → slice_get ts (slice_index_or of.results 0 0) ≡ Some t
+first_of_results : (of : FuncTree) (ts : List SeqTree) (t : SeqTree) → result_in of ts ≡ Some t → slice_get ts (get_or of.results 0 0) ≡ Some t
 first_of_results of ts t h =
     let r = option-both (slice_get of.results 0) (λ (k : ℕ). slice_get ts k) t h in
     rw (get_or_from_slice_get of.results 0 r.0 0 r.1) r.2
@@ -78,7 +78,7 @@ callee_is p keys f h func budget ts t typed is clocks params result =
     let own : params_in p f.func ≡ types_of_params h.of.params = ap params_for h.known in
     let same : types_of_params h.of.params ≡ ts = sym own ∙ (ap (params_in p) is ∙ params) in
     let first : result_in h.of (types_in p f.func) ≡ Some t = sym (ap (first_type (types_in p f.func)) h.known) ∙ (ap (result_of p) is ∙ result) in
-    let at : slice_get (types_in p f.func) (first_result f) ≡ Some t = ap (λ (rs : List ℕ). slice_get (types_in p f.func) (slice_index_or rs 0 0)) h.results ∙ first_of_results h.of (types_in p f.func) t first in
+    let at : slice_get (types_in p f.func) (first_result f) ≡ Some t = ap (λ (rs : List ℕ). slice_get (types_in p f.func) (get_or rs 0 0)) h.results ∙ first_of_results h.of (types_in p f.func) t first in
     let within = slice_get_within (types_in p f.func) (first_result f) t at in
     let long : length (item_layouts f) ≡ length (types_in p f.func) = item_count_is p keys f h ∙ sym (count-items p f.func h.of typed h.known) in
     let laid = typed_item p keys f h (first_result f) t typed at (omega (arith, within, long)) in

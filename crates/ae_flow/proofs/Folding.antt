@@ -1,5 +1,5 @@
 -- Folds and scans give words that fit.
-use Rattle.std.proofs.Common.{◌≡◌, ℕ, ◌+◌, ◌-◌, ◌*◌, ◌/◌, ◌%◌, ◌<◌, ◌≤◌, ◌^◌, true, List, [], ◌∷◌, length, map, Some, slice_get, slice_index, refl, ap, sym, ◌∙◌, arith, subst, inl, inr, mul_assoc}
+use Rattle.std.proofs.Common.{◌≡◌, ℕ, ◌+◌, ◌-◌, ◌*◌, ◌/◌, ◌%◌, ◌<◌, ◌≤◌, ◌^◌, true, List, [], ◌∷◌, length, map, Some, slice_get, get_or, refl, ap, sym, ◌∙◌, arith, subst, inl, inr, mul_assoc}
 use Rattle.std.specs.List.{range_with_len}
 use Rattle.std.proofs.Math.Nat.{mul-div_cancel_left}
 use Rattle.std.proofs.lemmas.Nat.{mod_below, div_below, div-add-mod'}
@@ -37,8 +37,8 @@ one_fold : (op : WordOp) (t : StTree) (n m e p : ℕ) (v : List ℕ) → folds o
 one_fold op t n m e p v is_fold size h below inside =
     let all : AllFit (element_folds op t) (n * m) (st_atoms t * element_words t) v = words_fit op t n m v h in
     let by = fold_op (element_folds op t) p (are_folds op t is_fold size) in
-    let row : Fit (fold_at (element_folds op t) p).width (λ i. slice_index v (i * (st_atoms t * element_words t) + p)) e = record { each = λ i few. all i p (omega (arith, few, below)) inside } in
-    fold_fits (fold_at (element_folds op t) p).op (fold_at (element_folds op t) p).width (λ i. slice_index v (i * (st_atoms t * element_words t) + p)) e by row
+    let row : Fit (fold_at (element_folds op t) p).width (λ i. get_or v (i * (st_atoms t * element_words t) + p) 0) e = record { each = λ i few. all i p (omega (arith, few, below)) inside } in
+    fold_fits (fold_at (element_folds op t) p).op (fold_at (element_folds op t) p).width (λ i. get_or v (i * (st_atoms t * element_words t) + p) 0) e by row
 
 -- the same where the words are those of a layout with the atom and as many elements
 like_fold : (op : WordOp) (t s : StTree) (n m e p : ℕ) (v : List ℕ) → folds op ≡ true → IsInSize t → element_atom t ≡ element_atom s → st_atoms t ≡ st_atoms s → AreWords (elements_stream n m t) v → e < n * m → p < st_atoms s * element_words s

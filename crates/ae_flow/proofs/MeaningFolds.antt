@@ -1,5 +1,5 @@
 -- Folds and scans of words are those of the values that have them.
-use Rattle.std.proofs.Common.{◌≡◌, ℕ, zero, suc, ◌+◌, ◌-◌, ◌*◌, ◌/◌, ◌%◌, ◌<◌, ◌≤◌, Bool, true, false, List, [], ◌∷◌, length, take, drop, map, get_or, Some, IsTrue, slice_get, slice_index, refl, arith, sym, ap, ◌∙◌, subst, length-take}
+use Rattle.std.proofs.Common.{◌≡◌, ℕ, zero, suc, ◌+◌, ◌-◌, ◌*◌, ◌/◌, ◌%◌, ◌<◌, ◌≤◌, Bool, true, false, List, [], ◌∷◌, length, take, drop, map, get_or, Some, IsTrue, slice_get, refl, arith, sym, ap, ◌∙◌, subst, length-take}
 use Rattle.std.specs.Option.{option_map}
 use Rattle.std.proofs.lemmas.List.{take_more, take_all, length-map, get_or-take, get_or-drop}
 use Rattle.std.proofs.lemmas.List.FromFn.{fill_by_all}
@@ -85,14 +85,14 @@ get-combined op (l ∷ ks) (x ∷ us) (y ∷ vs) (suc p) k e a b = get-combined 
 abbrev pub folded_words : WordOp → SeqTree → List ℕ → ℕ → List ℕ
 folded_words op t ws e = table (words t) (λ p. word_fold (folds_of op (atom_of t)) (words t) ws p e)
 
-piece-at : (k o i : ℕ) (ws : List ℕ) → i < k → get_or (take k (drop o ws)) i 0 ≡ slice_index ws (o + i)
+piece-at : (k o i : ℕ) (ws : List ℕ) → i < k → get_or (take k (drop o ws)) i 0 ≡ get_or ws (o + i) 0
 piece-at k o i ws lt = get_or-take k (drop o ws) i 0 lt ∙ get_or-drop o ws i 0
 
 first-words : (op : WordOp) (t : SeqTree) (ws : List ℕ) → length (take (words t) (drop (0 * words t) ws)) ≡ words t → take (words t) (drop (0 * words t) ws) ≡ folded_words op t ws 0
 first-words op t ws long =
     let F = folds_of op (atom_of t) in
     fill_by_all (λ p. word_fold F (words t) ws p 0) (take (words t) (drop (0 * words t) ws)) (words t) 0 long
-    (λ p lt. piece-at (words t) (0 * words t) p ws lt ∙ sym (fold-first (fold_at F p).op (fold_at F p).width (λ i. slice_index ws (i * words t + p))))
+    (λ p lt. piece-at (words t) (0 * words t) p ws lt ∙ sym (fold-first (fold_at F p).op (fold_at F p).width (λ i. get_or ws (i * words t + p) 0)))
 
 next-word : (op : WordOp) (t : SeqTree) (ws : List ℕ) (e p : ℕ) → IsTrue (folds op) → p < words t → length (take (words t) (drop (suc e * words t) ws)) ≡ words t
     → get_or (combined op (kinds t) (folded_words op t ws e) (take (words t) (drop (suc e * words t) ws))) p 0 ≡ word_fold (folds_of op (atom_of t)) (words t) ws p (suc e)
@@ -103,13 +103,13 @@ next-word op t ws e p fo lt long =
     let there : slice_get (kinds t) p ≡ Some k = slice_get-get_or (kinds t) p (record { signed = false; width = 0 }) (omega arith) in
     let by = fold-here op t p k lt there in
     let x = word_fold F (words t) ws p e in
-    let y = slice_index ws (suc e * words t + p) in
+    let y = get_or ws (suc e * words t + p) 0 in
     get-combined op (kinds t) (folded_words op t ws e) (take (words t) (drop (suc e * words t) ws)) p k there (length-table (words t) _ ∙ size) (long ∙ size)
     ∙ ap (λ z. coded op k z (get_or (take (words t) (drop (suc e * words t) ws)) p 0) 0) (get-table (words t) (λ p. word_fold F (words t) ws p e) p 0 lt)
     ∙ ap (λ z. coded op k x z 0) (piece-at (words t) (suc e * words t) p ws lt)
     ∙ no-third op k.signed k.width x y 0 x fo
     ∙ ap (λ (z : WordFold). combine z.op z.width x y) (sym by)
-    ∙ sym (fold-next (fold_at F p).op (fold_at F p).width (λ i. slice_index ws (i * words t + p)) e)
+    ∙ sym (fold-next (fold_at F p).op (fold_at F p).width (λ i. get_or ws (i * words t + p) 0) e)
 
 next-words : (op : WordOp) (t : SeqTree) (ws : List ℕ) (e : ℕ) → IsTrue (folds op) → length (take (words t) (drop (suc e * words t) ws)) ≡ words t
     → combined op (kinds t) (folded_words op t ws e) (take (words t) (drop (suc e * words t) ws)) ≡ folded_words op t ws (suc e)

@@ -1,5 +1,5 @@
 -- Each instance makes of the words of values the words of what its function means, and so does the whole schedule.
-use Rattle.std.proofs.Common.{◌≡◌, ℕ, zero, suc, ◌+◌, ◌-◌, ◌<◌, ◌≤◌, List, [], ◌∷◌, ◌++◌, length, take, map, Some, IsTrue, slice_get, slice_index_or, refl, arith, sym, ap, ◌∙◌, subst, inl, inr, length-take, take-take}
+use Rattle.std.proofs.Common.{◌≡◌, ℕ, zero, suc, ◌+◌, ◌-◌, ◌<◌, ◌≤◌, List, [], ◌∷◌, ◌++◌, length, take, map, Some, IsTrue, slice_get, get_or, refl, arith, sym, ap, ◌∙◌, subst, inl, inr, length-take, take-take}
 use Rattle.std.specs.Option.{option_map}
 use Rattle.std.proofs.lemmas.Bool.{cases_lt}
 use Rattle.std.proofs.lemmas.Bool.Decides.{nat_tests}
@@ -182,7 +182,7 @@ module _ (p : ProgramTree) (keys : Keys) (s : StFuncTree) (typed : IsTyped p) (h
       option_and_then_some (λ k. slice_get types k) (slice_get h.of.results 0) u own (λ r here there. (r, here, there))
 
   first-is : (r : ℕ) → slice_get h.of.results 0 ≡ Some r → first_result s ≡ r
-  first-is r e = ap (λ is. slice_index_or is 0 0) h.results ∙ get_or_from_slice_get h.of.results 0 r 0 e
+  first-is r e = ap (λ is. get_or is 0 0) h.results ∙ get_or_from_slice_get h.of.results 0 r 0 e
 
   at-first : (g : ℕ → ValueTree) (xs : List ℕ) (r : ℕ) → slice_get xs 0 ≡ Some r → at (map g xs) 0 ≡ g r
   at-first g [] r e = absurd (none-some r e)
@@ -198,7 +198,7 @@ module _ (p : ProgramTree) (keys : Keys) (s : StFuncTree) (typed : IsTyped p) (h
         let args = values_of (params_in p s.func) wss in
         let st = items-stand known all wss fit in
         let one = st.each r.0 u (slice_get_within types r.0 u r.2) r.2 in
-        let function : slice_index_or (meanings p.funcs) s.func no_function ≡ meaning means h.of = get_or_from_slice_get (meanings p.funcs) s.func (meaning means h.of) no_function (meaning-of p s.func h.of h.known) in
+        let function : get_or (meanings p.funcs) s.func no_function ≡ meaning means h.of = get_or_from_slice_get (meanings p.funcs) s.func (meaning means h.of) no_function (meaning-of p s.func h.of h.known) in
         let value : at (item_values means h.of args) r.0 ≡ applied (meanings p.funcs) s.func args = sym (ap (λ (m : Meaning). at (m args) 0) function ∙ at-first (at (item_values means h.of args)) h.of.results r.0 r.1) in
         let P : ℕ → Type 0 = λ k. Stands u (words_at (item_words known s wss) k) (applied (meanings p.funcs) s.func args) in
         let Q : ValueTree → Type 0 = λ v. Stands u (words_at (item_words known s wss) r.0) v in
@@ -284,7 +284,7 @@ flows-mean p slowdown instances vs typed h values =
     let means = take f (meanings p.funcs) in
     let st = items-stand p keys s typed right known all (map flat vs) args.0 in
     let own = subst (λ xs. Standing (types_in p f) (length (types_in p f)) (item_words known s (map flat vs)) (item_values means right.of xs)) args.1 st in
-    let function : slice_index_or (meanings p.funcs) f no_function ≡ meaning means right.of = get_or_from_slice_get (meanings p.funcs) f (meaning means right.of) no_function (meaning-of p f right.of right.known) in
-    let meant : map (at (item_values means right.of vs)) right.of.results ≡ mean p vs = sym (ap (λ (m : Meaning). m vs) function) ∙ ap (λ j. slice_index_or (meanings p.funcs) j no_function vs) last in
+    let function : get_or (meanings p.funcs) f no_function ≡ meaning means right.of = get_or_from_slice_get (meanings p.funcs) f (meaning means right.of) no_function (meaning-of p f right.of right.known) in
+    let meant : map (at (item_values means right.of vs)) right.of.results ≡ mean p vs = sym (ap (λ (m : Meaning). m vs) function) ∙ ap (λ j. get_or (meanings p.funcs) j no_function vs) last in
     ap (λ o. results_in known o (map flat vs)) h.last.here ∙ ap (map (words_at (item_words known s (map flat vs)))) right.results
     ∙ items-flat (types_in p f) (item_words known s (map flat vs)) (item_values means right.of vs) right.of.results own ∙ ap (map flat) meant

@@ -1,5 +1,5 @@
 -- Operators on words, pairs and constants make the words of their values.
-use Rattle.std.proofs.Common.{◌≡◌, ℕ, zero, suc, ◌+◌, ◌-◌, ◌*◌, ◌<◌, ◌≤◌, ◌^◌, ◌==◌, Bool, true, false, List, [], ◌∷◌, ◌++◌, length, take, drop, map, Option, Some, None, IsTrue, slice_index, refl, arith, sym, ap, ◌∙◌, subst, append-nil, length-append, length-drop}
+use Rattle.std.proofs.Common.{◌≡◌, ℕ, zero, suc, ◌+◌, ◌-◌, ◌*◌, ◌<◌, ◌≤◌, ◌^◌, ◌==◌, Bool, true, false, List, [], ◌∷◌, ◌++◌, length, take, drop, map, Option, Some, None, IsTrue, get_or, refl, arith, sym, ap, ◌∙◌, subst, append-nil, length-append, length-drop}
 use Rattle.std.proofs.lemmas.Bool.Decides.{nat_tests}
 use Rattle.std.proofs.lemmas.List.{take_all, take_at, drop_at, take-append-le, drop-append-le}
 use Rattle.std.proofs.lemmas.Option.{none-some, same_Some, option_and_then_some}
@@ -53,7 +53,7 @@ main-first : (op : WordOp) (b : Bool) → (op ≡ Mux → ⊥) → main_argument
 main-first op b h = main-for b op ∙ main-plain op h
 
 width-is : (s : SeqTree) (a : StTree) (k : WordKind) → LaysOut s a → s ≡ atom (word k) → first_width a ≡ k.width
-width-is s a k h e = ap (λ z. slice_index (map (λ (q : WordKind). q.width) (atom_kinds z)) 0) (h.atom ∙ ap atom_of e)
+width-is s a k h e = ap (λ z. get_or (map (λ (q : WordKind). q.width) (atom_kinds z)) 0 0) (h.atom ∙ ap atom_of e)
 
 -- ---- words
 
@@ -64,14 +64,14 @@ word-in k (x ∷ y ∷ ws) h = absurd h.1
 
 record WordIn (s : SeqTree) (ws : List ℕ) (k : WordKind) : Type 0 where
   word : ℕ
-  is : slice_index ws 0 ≡ word
+  is : get_or ws 0 0 ≡ word
   small : word < 2 ^ k.width
   value : value_of s ws ≡ number k word
 
 word-of : (s : SeqTree) (ws : List ℕ) (k : WordKind) → s ≡ atom (word k) → Fit s ws → WordIn s ws k
 word-of s ws k e h =
     let one = word-in k ws (subst (λ z. Fit z ws) e h) in
-    record { word = one.0; is = ap (λ us. slice_index us 0) one.1; small = one.2; value = ap (λ z. value_of z ws) e ∙ ap (atom_value (word k)) one.1 }
+    record { word = one.0; is = ap (λ us. get_or us 0 0) one.1; small = one.2; value = ap (λ z. value_of z ws) e ∙ ap (atom_value (word k)) one.1 }
 
 word-stands : (op : WordOp) (k : WordKind) (u : SeqTree) (x y z r : ℕ) → u ≡ atom (word (result_kind op k)) → r ≡ coded op k x y z → OperandsFit (op_for k.signed op) k.width x y z
     → result_width_of (op_for k.signed op) k.width ≡ (result_kind op k).width → Stands u (r ∷ []) (number (result_kind op k) (coded op k x y z))
@@ -90,26 +90,26 @@ abbrev pub IsSign : SeqTree → Bool → Type 0
 IsSign s b = (k : WordKind) → s ≡ atom (word k) → b ≡ k.signed
 
 pub one-words : (op : WordOp) (b : Bool) (s u : SeqTree) (a : StTree) (ws : List ℕ) → word_type op (s ∷ []) ≡ Some u → IsSign s b → LaysOut s a → Fit s ws
-    → Stands u (word_result (op_for b op) (width_of (op_for b op) (a ∷ [])) (slice_index ws 0) 0 0 ∷ []) (word_value op (value_of s ws ∷ []))
+    → Stands u (word_result (op_for b op) (width_of (op_for b op) (a ∷ [])) (get_or ws 0 0) 0 0 ∷ []) (word_value op (value_of s ws ∷ []))
 one-words op b s u a ws type sign l h =
     let r = one-line op s u type in
     let k = r.kind in
     let x = word-of s ws k r.first h in
     let width : width_of (op_for b op) (a ∷ []) ≡ k.width = ap (λ i. first_width (item_layout (a ∷ []) i)) (main-first op b (one-no-choice op s u type)) ∙ width-is s a k l r.first in
-    let same = coded-is op b k (width_of (op_for b op) (a ∷ [])) (slice_index ws 0) 0 0 x.word 0 0 (sign k r.first) width x.is refl refl in
+    let same = coded-is op b k (width_of (op_for b op) (a ∷ [])) (get_or ws 0 0) 0 0 x.word 0 0 (sign k r.first) width x.is refl refl in
     let value : word_value op (value_of s ws ∷ []) ≡ number (result_kind op k) (coded op k x.word 0 0) =
     ap (λ v. word_value op (v ∷ [])) x.value ∙ ap (λ q. number (result_kind op q) (coded op q x.word 0 0)) (r.by (number k x.word)) in
     rw value (word-stands op k u x.word 0 0 _ r.result same (r.fit x.word 0 0 x.small) r.wide)
 
 pub two-words : (op : WordOp) (b : Bool) (s z u : SeqTree) (a c : StTree) (ws us : List ℕ) → word_type op (s ∷ z ∷ []) ≡ Some u → IsSign s b → LaysOut s a → Fit s ws → Fit z us
-    → Stands u (word_result (op_for b op) (width_of (op_for b op) (a ∷ c ∷ [])) (slice_index ws 0) (slice_index us 0) 0 ∷ []) (word_value op (value_of s ws ∷ value_of z us ∷ []))
+    → Stands u (word_result (op_for b op) (width_of (op_for b op) (a ∷ c ∷ [])) (get_or ws 0 0) (get_or us 0 0) 0 ∷ []) (word_value op (value_of s ws ∷ value_of z us ∷ []))
 two-words op b s z u a c ws us type sign l h g =
     let r = two-line op s z u type in
     let k = r.kind in
     let x = word-of s ws k r.first h in
     let y = word-of z us k r.second g in
     let width : width_of (op_for b op) (a ∷ c ∷ []) ≡ k.width = ap (λ i. first_width (item_layout (a ∷ c ∷ []) i)) (main-first op b (two-no-choice op s z u type)) ∙ width-is s a k l r.first in
-    let same = coded-is op b k (width_of (op_for b op) (a ∷ c ∷ [])) (slice_index ws 0) (slice_index us 0) 0 x.word y.word 0 (sign k r.first) width x.is y.is refl in
+    let same = coded-is op b k (width_of (op_for b op) (a ∷ c ∷ [])) (get_or ws 0 0) (get_or us 0 0) 0 x.word y.word 0 (sign k r.first) width x.is y.is refl in
     let value : word_value op (value_of s ws ∷ value_of z us ∷ []) ≡ number (result_kind op k) (coded op k x.word y.word 0) =
     ap (λ v. word_value op (v ∷ value_of z us ∷ [])) x.value ∙ ap (λ v. word_value op (number k x.word ∷ v ∷ [])) y.value
     ∙ ap (λ q. number (result_kind op q) (coded op q x.word y.word 0)) (r.by (number k x.word) (number k y.word)) in
@@ -124,7 +124,7 @@ choice-wide true w = refl
 choice-wide false w = refl
 
 choice-words-core : (b : Bool) (t s z u : SeqTree) (a c d : StTree) (ts ws us : List ℕ) → Choice Mux t s z u → IsSign s b → LaysOut s c → Fit t ts → Fit s ws → Fit z us
-    → Stands u (word_result (op_for b Mux) (width_of (op_for b Mux) (a ∷ c ∷ d ∷ [])) (slice_index ts 0) (slice_index ws 0) (slice_index us 0) ∷ []) (word_value Mux (value_of t ts ∷ value_of s ws ∷ value_of z us ∷ []))
+    → Stands u (word_result (op_for b Mux) (width_of (op_for b Mux) (a ∷ c ∷ d ∷ [])) (get_or ts 0 0) (get_or ws 0 0) (get_or us 0 0) ∷ []) (word_value Mux (value_of t ts ∷ value_of s ws ∷ value_of z us ∷ []))
 choice-words-core b t s z u a c d ts ws us r sign l f h g =
     let k = r.kind in
     let e = word-of t ts (record { signed = false; width = 1 }) r.test f in
@@ -132,18 +132,18 @@ choice-words-core b t s z u a c d ts ws us r sign l f h g =
     let y = word-of z us k r.second g in
     let bit : e.word < 2 = e.small in
     let width : width_of (op_for b Mux) (a ∷ c ∷ d ∷ []) ≡ k.width = ap (λ i. first_width (item_layout (a ∷ c ∷ d ∷ []) i)) (main-for b Mux) ∙ width-is s c k l r.first in
-    let same = coded-is Mux b k (width_of (op_for b Mux) (a ∷ c ∷ d ∷ [])) (slice_index ts 0) (slice_index ws 0) (slice_index us 0) e.word x.word y.word (sign k r.first) width e.is x.is y.is in
+    let same = coded-is Mux b k (width_of (op_for b Mux) (a ∷ c ∷ d ∷ [])) (get_or ts 0 0) (get_or ws 0 0) (get_or us 0 0) e.word x.word y.word (sign k r.first) width e.is x.is y.is in
     let value : word_value Mux (value_of t ts ∷ value_of s ws ∷ value_of z us ∷ []) ≡ number k (coded Mux k e.word x.word y.word) =
     ap (λ v. word_value Mux (v ∷ value_of s ws ∷ value_of z us ∷ [])) e.value ∙ ap (λ v. word_value Mux (number (record { signed = false; width = 1 }) e.word ∷ v ∷ value_of z us ∷ [])) x.value
     ∙ ap (λ v. word_value Mux (number (record { signed = false; width = 1 }) e.word ∷ number k x.word ∷ v ∷ [])) y.value in
     rw value (word-stands Mux k u e.word x.word y.word _ r.result same (choice-fit k.signed k.width e.word x.word y.word bit x.small y.small) (choice-wide k.signed k.width))
 
 pub choice-words : (op : WordOp) (b : Bool) (t s z u : SeqTree) (a c d : StTree) (ts ws us : List ℕ) → word_type op (t ∷ s ∷ z ∷ []) ≡ Some u → IsSign s b → LaysOut s c → Fit t ts → Fit s ws → Fit z us
-    → Stands u (word_result (op_for b op) (width_of (op_for b op) (a ∷ c ∷ d ∷ [])) (slice_index ts 0) (slice_index ws 0) (slice_index us 0) ∷ []) (word_value op (value_of t ts ∷ value_of s ws ∷ value_of z us ∷ []))
+    → Stands u (word_result (op_for b op) (width_of (op_for b op) (a ∷ c ∷ d ∷ [])) (get_or ts 0 0) (get_or ws 0 0) (get_or us 0 0) ∷ []) (word_value op (value_of t ts ∷ value_of s ws ∷ value_of z us ∷ []))
 choice-words op b t s z u a c d ts ws us type sign l f h g =
     let r = choice-line op t s z u type in
     let P : WordOp → Type 0 = λ o. Choice o t s z u
-    → Stands u (word_result (op_for b o) (width_of (op_for b o) (a ∷ c ∷ d ∷ [])) (slice_index ts 0) (slice_index ws 0) (slice_index us 0) ∷ []) (word_value o (value_of t ts ∷ value_of s ws ∷ value_of z us ∷ [])) in
+    → Stands u (word_result (op_for b o) (width_of (op_for b o) (a ∷ c ∷ d ∷ [])) (get_or ts 0 0) (get_or ws 0 0) (get_or us 0 0) ∷ []) (word_value o (value_of t ts ∷ value_of s ws ∷ value_of z us ∷ [])) in
     subst P (sym r.is) (λ m. choice-words-core b t s z u a c d ts ws us m sign l f h g) r
 
 as-there : (a : AtomTree) (o : Option SeqTree) (u : SeqTree) → as_word a o ≡ Some u → (t : SeqTree) × (o ≡ Some t) × (u ≡ atom a)
@@ -151,7 +151,7 @@ as-there a None u h = absurd (none-some u h)
 as-there a (Some t) u h = (t, refl, sym (same_Some (atom a) u h))
 
 pub cast-words : (v : ℕ) (b : Bool) (s u : SeqTree) (a : StTree) (ws : List ℕ) → as_word (signed_word v) (one_word (s ∷ [])) ≡ Some u → IsSign s b → LaysOut s a → Fit s ws
-    → Stands u (word_result (op_for b (Cast v)) (width_of (op_for b (Cast v)) (a ∷ [])) (slice_index ws 0) 0 0 ∷ []) (cast_value v (value_of s ws))
+    → Stands u (word_result (op_for b (Cast v)) (width_of (op_for b (Cast v)) (a ∷ [])) (get_or ws 0 0) 0 0 ∷ []) (cast_value v (value_of s ws))
 cast-words v b s u a ws type sign l h =
     let o = as-there (signed_word v) (one_word (s ∷ [])) u type in
     let plain : word_type (Cast v) (s ∷ []) ≡ Some (atom (unsigned_word v)) = ap (as_word (unsigned_word v)) o.1 in
@@ -159,12 +159,12 @@ cast-words v b s u a ws type sign l h =
     let k = line.kind in
     let x = word-of s ws k line.first h in
     let width : width_of (op_for b (Cast v)) (a ∷ []) ≡ k.width = ap (λ i. first_width (item_layout (a ∷ []) i)) (main-first (Cast v) b (one-no-choice (Cast v) s _ plain)) ∙ width-is s a k l line.first in
-    let same = coded-is (Cast v) b k (width_of (op_for b (Cast v)) (a ∷ [])) (slice_index ws 0) 0 0 x.word 0 0 (sign k line.first) width x.is refl refl in
+    let same = coded-is (Cast v) b k (width_of (op_for b (Cast v)) (a ∷ [])) (get_or ws 0 0) 0 0 x.word 0 0 (sign k line.first) width x.is refl refl in
     let small : coded (Cast v) k x.word 0 0 < 2 ^ v = subst (λ w. coded (Cast v) k x.word 0 0 < 2 ^ w) line.wide (word_fits (op_for k.signed (Cast v)) k.width x.word 0 0 (line.fit x.word 0 0 x.small)) in
     let value : cast_value v (value_of s ws) ≡ number (record { signed = true; width = v }) (coded (Cast v) k x.word 0 0) = ap (cast_value v) x.value in
     let i : WordKind = record { signed = true; width = v } in
     let r = coded (Cast v) k x.word 0 0 in
-    let made = word_result (op_for b (Cast v)) (width_of (op_for b (Cast v)) (a ∷ [])) (slice_index ws 0) 0 0 in
+    let made = word_result (op_for b (Cast v)) (width_of (op_for b (Cast v)) (a ∷ [])) (get_or ws 0 0) 0 0 in
     let P : ValueTree → Type 0 = λ z. Stands u (made ∷ []) z in
     let Q : SeqTree → Type 0 = λ z. Stands z (made ∷ []) (number i r) in
     let R : ℕ → Type 0 = λ z. Stands (atom (signed_word v)) (z ∷ []) (number i r) in

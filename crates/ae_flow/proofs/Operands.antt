@@ -1,5 +1,5 @@
 -- Operators on words and on pairs, moves and fixed words give words that fit.
-use Rattle.std.proofs.Common.{◌≡◌, ℕ, ◌+◌, ◌-◌, ◌*◌, ◌/◌, ◌%◌, ◌<◌, ◌^◌, nat_lt, cond, Bool, true, false, List, [], ◌∷◌, ◌++◌, length, length-append, map, append-nil, Option, Some, None, slice_get, slice_index, refl, ap, sym, ◌∙◌, arith, subst}
+use Rattle.std.proofs.Common.{◌≡◌, ℕ, ◌+◌, ◌-◌, ◌*◌, ◌/◌, ◌%◌, ◌<◌, ◌^◌, nat_lt, cond, Bool, true, false, List, [], ◌∷◌, ◌++◌, length, length-append, map, append-nil, Option, Some, None, slice_get, get_or, refl, ap, sym, ◌∙◌, arith, subst}
 use Rattle.std.specs.Option.{option_map}
 use Rattle.std.specs.List.{range_with_len}
 use Rattle.std.proofs.lemmas.Nat.{pow_pos, mod-mul-add, mod_below}
@@ -71,10 +71,10 @@ table_fits s f h =
 
 -- ---- operators on words
 
-one_word : (w : ℕ) (v : List ℕ) → AreWords (word_stream w) v → slice_index v 0 < 2 ^ w
+one_word : (w : ℕ) (v : List ℕ) → AreWords (word_stream w) v → get_or v 0 0 < 2 ^ w
 one_word w v h = word_fit (word_stream w) v 0 w h refl
 
-operands_fit : (op : WordOp) (w : ℕ) (vs : List (List ℕ)) → AllAreWords (map word_stream (operand_widths op w)) vs → OperandsFit op w (slice_index (words_at vs 0) 0) (slice_index (words_at vs 1) 0) (slice_index (words_at vs 2) 0)
+operands_fit : (op : WordOp) (w : ℕ) (vs : List (List ℕ)) → AllAreWords (map word_stream (operand_widths op w)) vs → OperandsFit op w (get_or (words_at vs 0) 0 0) (get_or (words_at vs 1) 0 0) (get_or (words_at vs 2) 0 0)
 operands_fit Not w vs h = one_word w (words_at vs 0) (first_words (word_stream w) [] vs h)
 operands_fit (Shl k) w vs h = one_word w (words_at vs 0) (first_words (word_stream w) [] vs h)
 operands_fit (Shr k) w vs h = one_word w (words_at vs 0) (first_words (word_stream w) [] vs h)

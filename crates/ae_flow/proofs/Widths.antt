@@ -1,5 +1,5 @@
 -- Words that fit widths, word by word, and pieces of them.
-use Rattle.std.proofs.Common.{◌≡◌, ℕ, zero, suc, ◌+◌, ◌-◌, ◌*◌, ◌%◌, ◌<◌, ◌≤◌, ◌^◌, List, [], ◌∷◌, ◌++◌, length, take, drop, Some, slice_get, slice_index, get_or, refl, ap, sym, ◌∙◌, arith, append_assoc, ⊎_elim}
+use Rattle.std.proofs.Common.{◌≡◌, ℕ, zero, suc, ◌+◌, ◌-◌, ◌*◌, ◌%◌, ◌<◌, ◌≤◌, ◌^◌, List, [], ◌∷◌, ◌++◌, length, take, drop, Some, slice_get, get_or, refl, ap, sym, ◌∙◌, arith, append_assoc, ⊎_elim}
 use Rattle.std.specs.List.{range_with_len, flat_map}
 use Rattle.std.proofs.Math.Nat.{mod-eq-sub-mod, mod-eq_of_lt}
 use Rattle.std.proofs.Math.Seq.{take-append_seam, drop-append_seam}
@@ -124,7 +124,7 @@ words_of s ws h =
     }
 
 -- a word at a place, and 0 past the end
-pub word_fit : (s : Stream) (ws : List ℕ) (i w : ℕ) → AreWords s ws → slice_get s.widths (i % length s.widths) ≡ Some w → slice_index ws i < 2 ^ w
+pub word_fit : (s : Stream) (ws : List ℕ) (i w : ℕ) → AreWords s ws → slice_get s.widths (i % length s.widths) ≡ Some w → get_or ws i 0 < 2 ^ w
 word_fit s ws i w h g = ⊎_elim
     (λ (lt : i < length ws). h.fit i (get_or ws i 0) w (slice_get-get_or ws i 0 lt) g)
     (λ (ge : length ws ≤ i). let e : get_or ws i 0 ≡ 0 = past ws i ge in let p = pow_pos w in rw e p)

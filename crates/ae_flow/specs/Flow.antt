@@ -1,5 +1,5 @@
 -- What a program in space and time makes of the words of a block, in row-major order, instance by instance.
-use Rattle.std.specs.Prelude.{ℕ, ◌+◌, ◌-◌, ◌*◌, ◌/◌, ◌%◌, List, [], ◌∷◌, length, map, take, drop, flat_map, slice_index, slice_index_or, Option, Some, None, slice_get}
+use Rattle.std.specs.Prelude.{ℕ, ◌+◌, ◌-◌, ◌*◌, ◌/◌, ◌%◌, List, [], ◌∷◌, length, map, take, drop, flat_map, get_or, Option, Some, None, slice_get}
 use Rattle.std.specs.List.{range_with_len}
 use Rattle.ae_word.specs.declared.op.WordOp.{WordOp}
 use Rattle.ae_word.specs.declared.op.WordOp.TheVariants.{Mux}
@@ -21,7 +21,7 @@ layout_words s = st_atoms s * element_words s
 
 -- the words of argument k, of item k
 abbrev pub words_at : List (List ℕ) → ℕ → List ℕ
-words_at vs k = slice_index_or vs k []
+words_at vs k = get_or vs k []
 
 -- ---- plain operators
 
@@ -32,7 +32,7 @@ main_argument _ = 0
 
 -- the width of the first word of each element
 abbrev pub first_width : StTree → ℕ
-first_width s = slice_index (map (λ (k : WordKind). k.width) (atom_kinds (element_atom s))) 0
+first_width s = get_or (map (λ (k : WordKind). k.width) (atom_kinds (element_atom s))) 0 0
 
 abbrev pub width_of : WordOp → List StTree → ℕ
 width_of op args = first_width (item_layout args (main_argument op))
@@ -61,7 +61,7 @@ unfoldable pub no_callee : Callee
 no_callee = record { ins = []; out = sseq 0 (atom (unsigned_word 1)); flow = λ vs. [] }
 
 abbrev pub callee_at : List Callee → ℕ → Callee
-callee_at known k = slice_index_or known k no_callee
+callee_at known k = get_or known k no_callee
 
 -- element e of each argument, where an element is a block of the callee's parameter
 abbrev pub pieces : List StTree → (e : ℕ) → List (List ℕ) → List (List ℕ)
@@ -82,7 +82,7 @@ element_count c s = st_atoms s / st_atoms c.out
 -- the words that an operator makes of the words of its arguments
 abbrev pub op_words : (known : List Callee) (args : List StTree) (out : StTree) → StOpTree → List (List ℕ) → List ℕ
 op_words known args s (word op) vs =
-    word_result op (width_of op args) (slice_index (words_at vs 0) 0) (slice_index (words_at vs 1) 0) (slice_index (words_at vs 2) 0) ∷ []
+    word_result op (width_of op args) (get_or (words_at vs 0) 0 0) (get_or (words_at vs 1) 0 0) (get_or (words_at vs 2) 0 0) ∷ []
 op_words known args s join vs = paired (st_atoms s) (element_words (item_layout args 0)) (element_words (item_layout args 1)) (words_at vs 0) (words_at vs 1)
 op_words known args s first vs = parts (st_atoms s) (element_words (item_layout args 0)) 0 (element_words s) (words_at vs 0)
 op_words known args s second vs =
@@ -102,7 +102,7 @@ abbrev pub item_words : (known : List Callee) → StFuncTree → List (List ℕ)
 item_words known s vs = grown (node_words known (item_layouts s)) vs s.nodes
 
 abbrev pub first_result : StFuncTree → ℕ
-first_result s = slice_index_or s.results 0 0
+first_result s = get_or s.results 0 0
 
 abbrev pub callee : List Callee → StFuncTree → Callee
 callee known s = record {

@@ -1,5 +1,5 @@
 -- The words of a block, and their folds.
-use Rattle.std.proofs.Common.{ℕ, suc, ◌≡◌, ◌+◌, ◌-◌, ◌*◌, ◌/◌, ◌%◌, ◌^◌, ◌<◌, ◌≤◌, List, length, map, get_or, Some, slice_get, slice_index, arith, refl, sym, ap, ◌∙◌}
+use Rattle.std.proofs.Common.{ℕ, suc, ◌≡◌, ◌+◌, ◌-◌, ◌*◌, ◌/◌, ◌%◌, ◌^◌, ◌<◌, ◌≤◌, List, length, map, get_or, Some, slice_get, arith, refl, sym, ap, ◌∙◌}
 use Rattle.std.specs.List.{range_with_len}
 use Rattle.std.proofs.Math.Nat.{suc-mul, add-mul, mul_assoc, mul-le-mul_right}
 use Rattle.std.proofs.lemmas.Nat.{mod-mul-add, div-mul-add, mul-add-lt, div-add-mod', div_below, mod_below}
@@ -89,7 +89,7 @@ wave_word run start nets c q l = ap (net_word run (start + c)) (slice_get-get_or
 -- word j of atom a of the element in slot q and lane l stands on the net at its place, in its clock
 pub held_word : (t : StTree) (n m stride k : ℕ) (run : List Clock) (start : ℕ) (bundle : List NetId) (v : List ℕ) → stride ≡ lanes t * element_words t → length bundle ≡ m * stride
     → Holds (wave_of run start bundle) k (element_words t) (slots (tseq n 0 (sseq m t))) v → (q l a j : ℕ) (s : Slot) → q < n → l < m → slice_get (slots t) a ≡ Some s → s.lane < lanes t → j < element_words t
-    → row_word run (start + (k + q * time t + s.clock)) bundle stride (s.lane * element_words t + j) l ≡ slice_index v ((q * m + l) * (st_atoms t * element_words t) + (a * element_words t + j))
+    → row_word run (start + (k + q * time t + s.clock)) bundle stride (s.lane * element_words t + j) l ≡ get_or v ((q * m + l) * (st_atoms t * element_words t) + (a * element_words t + j)) 0
 held_word t n m stride k run start bundle v es long h q l a j s lq ll found low lj =
     let w : ℕ = element_words t in
     let p : ℕ = s.lane * w + j in
@@ -112,12 +112,12 @@ pub scan_word : (t : StTree) (plan : Plan) (k d b : ℕ) (run : List Clock) (sta
     → length bundle ≡ plan.lanes * plan.stride → length folds ≡ element_words t
     → Holds (wave_of run start bundle) (k + b * plan.period) (element_words t) (slots (tseq plan.slots 0 (sseq plan.lanes t))) v
     → (q l a j : ℕ) (s : Slot) → q < plan.slots → l < plan.lanes → slice_get (slots t) a ≡ Some s → s.clock < time t → s.lane < lanes t → j < element_words t → fold ≡ fold_at folds (a * element_words t + j)
-    → Fit fold.width (λ i. slice_index v (i * (st_atoms t * element_words t) + (a * element_words t + j))) (q * plan.lanes + l)
+    → Fit fold.width (λ i. get_or v (i * (st_atoms t * element_words t) + (a * element_words t + j)) 0) (q * plan.lanes + l)
     → Scans fold bundle plan k d (s.lane * element_words t + j) l run start y → start + (k + b * plan.period + q * time t + s.clock + d) < length run
     → word_at run (start + (k + b * plan.period + q * time t + s.clock + d)) y ≡ word_fold folds (st_atoms t * element_words t) v (a * element_words t + j) (q * plan.lanes + l)
 scan_word t plan k d b run start y fold folds bundle v es et long words held q l a j s lq ll found lc low lj is fit scans within =
     rw (← is, ← et)
-    (scans b q s.clock (λ i. slice_index v (i * (st_atoms t * element_words t) + (a * element_words t + j))) lq (omega arith) (rw et within) fit
+    (scans b q s.clock (λ i. get_or v (i * (st_atoms t * element_words t) + (a * element_words t + j)) 0) lq (omega arith) (rw et within) fit
     (λ n i ln li. rw et (held_word t plan.slots plan.lanes plan.stride (k + b * plan.period) run start bundle v es long held n i a j s (omega arith) li found low lj)))
 
 -- ---- the block of one fold, and of all prefixes
@@ -161,9 +161,9 @@ same_fold folds w n a j x words lj e =
 
 -- words that fit, by element and then by word
 abbrev pub AllFit : (folds : List WordFold) → (count size : ℕ) → List ℕ → Type 0
-AllFit folds count size v = (i p : ℕ) → i < count → p < size → slice_index v (i * size + p) < 2 ^ (fold_at folds p).width
+AllFit folds count size v = (i p : ℕ) → i < count → p < size → get_or v (i * size + p) 0 < 2 ^ (fold_at folds p).width
 
-pub fit_of : (folds : List WordFold) (fold : WordFold) (n m size : ℕ) (v : List ℕ) (q l p : ℕ) → q < n → l < m → p < size → fold ≡ fold_at folds p → AllFit folds (n * m) size v → Fit fold.width (λ i. slice_index v (i * size + p)) (q * m + l)
+pub fit_of : (folds : List WordFold) (fold : WordFold) (n m size : ℕ) (v : List ℕ) (q l p : ℕ) → q < n → l < m → p < size → fold ≡ fold_at folds p → AllFit folds (n * m) size v → Fit fold.width (λ i. get_or v (i * size + p) 0) (q * m + l)
 fit_of folds fold n m size v q l p lq ll lp is h = record {
   each = λ i li. (let below : q * m + l < n * m = omega (arith, mul-add-lt q m l n lq ll) in rw is (h i p (omega arith) lp));
 }

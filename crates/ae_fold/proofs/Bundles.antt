@@ -1,5 +1,5 @@
 -- The nets of a bundle, and the words of a block, by what they are folded by.
-use Rattle.std.proofs.Common.{ℕ, zero, suc, ◌≡◌, ◌+◌, ◌*◌, ◌/◌, ◌%◌, ◌<◌, false, List, ◌∷◌, [], length, map, get_or, Some, slice_get, slice_index, arith, refl, sym, ap, ◌∙◌, subst}
+use Rattle.std.proofs.Common.{ℕ, zero, suc, ◌≡◌, ◌+◌, ◌*◌, ◌/◌, ◌%◌, ◌<◌, false, List, ◌∷◌, [], length, map, get_or, Some, slice_get, arith, refl, sym, ap, ◌∙◌, subst}
 use Rattle.std.specs.Option.{option_map}
 use Rattle.std.proofs.Math.Nat.{suc-mul, mul_assoc}
 use Rattle.std.proofs.lemmas.Nat.{div-add-mod', div_below, mod-mul-add, mod_below, mul-add-lt}
@@ -113,7 +113,7 @@ words_fit op t n m v h = λ i p li lp.
     let a3 : i * st_atoms t * w ≡ i * size = mul_assoc i (st_atoms t) w in
     let at : x ≡ i * st_atoms t * w + p = omega arith in
     let turn : x % w ≡ p % w = ap (λ k. k % w) at ∙ mod_cut (i * st_atoms t) w p (element_words_pos t) in
-    h.fit x (slice_index v x) _ (slice_get-get_or v x 0 below) (rw (long, turn) (width_is op t p))
+    h.fit x (get_or v x 0) _ (slice_get-get_or v x 0 below) (rw (long, turn) (width_is op t p))
 
 -- ---- the one bundle of a part
 

@@ -1,5 +1,5 @@
 -- What the words of an element are folded by.
-use Rattle.std.specs.Prelude.{◌≡◌, ℕ, ◌+◌, ◌*◌, ◌%◌, ◌<◌, ◌≤◌, ◌^◌, if◌then◌else◌, List, length, get_or, Some, slice_get, slice_index}
+use Rattle.std.specs.Prelude.{◌≡◌, ℕ, ◌+◌, ◌*◌, ◌%◌, ◌<◌, ◌≤◌, ◌^◌, if◌then◌else◌, List, length, get_or, Some, slice_get}
 use Rattle.ae_word.specs.declared.op.WordOp.{WordOp}
 use Rattle.ae_word.specs.declared.op.WordOp.TheVariants.{Add}
 use Rattle.ae_word.specs.AtomTree.{WordKind}
@@ -24,7 +24,7 @@ fold_at folds q = get_or folds (q % length folds) (record { op = Add; width = 0 
 
 -- the left fold of words p of elements 0 to e, where an element has so many words
 abbrev pub word_fold : List WordFold → (size : ℕ) → (value : List ℕ) → (p e : ℕ) → ℕ
-word_fold folds size value p e = fold_to (fold_at folds p).op (fold_at folds p).width (λ i. slice_index value (i * size + p)) e
+word_fold folds size value p e = fold_to (fold_at folds p).op (fold_at folds p).width (λ i. get_or value (i * size + p) 0) e
 
 -- the products of a cell of the operator
 abbrev pub product_of : WordOp → ℕ

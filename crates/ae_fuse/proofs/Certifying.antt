@@ -1,6 +1,5 @@
 -- The first word that stands so many clocks before its source.
-use Rattle.std.proofs.Common.{◌≡◌, ℕ, ◌+◌, ◌-◌, ◌*◌, ◌/◌, ◌<◌, ◌≤◌, inl, inr, Bool, false, List, map, Option, None, Some, slice_get, slice_index_or, refl, arith, sym, ap, ◌∙◌, subst}
-use Rattle.std.specs.Prelude.{slice_index}
+use Rattle.std.proofs.Common.{◌≡◌, ℕ, ◌+◌, ◌-◌, ◌*◌, ◌/◌, ◌<◌, ◌≤◌, inl, inr, Bool, false, List, map, Option, None, Some, slice_get, get_or, refl, arith, sym, ap, ◌∙◌, subst}
 use Rattle.std.specs.Option.{is_some}
 use Rattle.std.proofs.lemmas.Bool.{cases_lt, false≢true}
 use Rattle.std.proofs.lemmas.Nat.{div-add-mod', mod_below}
@@ -137,9 +136,9 @@ module _ (p : ProgramTree) (ins outs : List StTree) (c : Certificate) (h : IsFir
       let more = h.some in
       omega (arith, lead, most, enough, more)
 
-  traced : origin_numbered types (slice_index (flat (at (trace p) c.result)) (own.place / w * w + c.word)) ≡ from_input c.param own.way.from_element c.from_word
+  traced : origin_numbered types (get_or (flat (at (trace p) c.result)) (own.place / w * w + c.word) 0) ≡ from_input c.param own.way.from_element c.from_word
   traced =
-      ap (λ n. origin_numbered types (slice_index (flat (at (trace p) c.result)) n)) whole
+      ap (λ n. origin_numbered types (get_or (flat (at (trace p) c.result)) n 0)) whole
       ∙ sym (origin-map (origin_numbered types) refl (flat (at (trace p) c.result)) own.place)
       ∙ get_or_from_slice_get (origins c.result) own.place own.origin (fixed 0) own.here
       ∙ own.way.comes
@@ -164,7 +163,7 @@ module _ (p : ProgramTree) (ins outs : List StTree) (c : Certificate) (h : IsFir
     traced = traced;
     late = late;
     first = λ r o s found below order.
-        (let there : slice_index_or outs r (sseq 0 (atom (unsigned_word 1))) ≡ s = index-there outs r s (sseq 0 (atom (unsigned_word 1))) found in
+        (let there : get_or outs r (sseq 0 (atom (unsigned_word 1))) ≡ s = index-there outs r s (sseq 0 (atom (unsigned_word 1))) found in
         subst (λ (y : StTree). lead_at (traced_move types ins y (at (trace p) r)) o < least p ins outs) (sym there) (earlier r o s found below (subst (ComesBefore r o c.result) whole order)));
   }
 

@@ -1,5 +1,5 @@
 -- Tables of clocks, one step at a time, and the arrivals of items by them.
-use Rattle.std.proofs.Common.{◌≡◌, ℕ, zero, suc, ◌+◌, ◌-◌, ◌*◌, ◌/◌, ◌%◌, ◌<◌, inl, inr, List, [], ◌∷◌, ◌++◌, length, take, map, get_or, Some, slice_get, slice_index, refl, arith, sym, ap, ◌∙◌, append_assoc, max}
+use Rattle.std.proofs.Common.{◌≡◌, ℕ, zero, suc, ◌+◌, ◌-◌, ◌*◌, ◌/◌, ◌%◌, ◌<◌, inl, inr, List, [], ◌∷◌, ◌++◌, length, take, map, get_or, Some, slice_get, refl, arith, sym, ap, ◌∙◌, append_assoc, max}
 use Rattle.std.specs.Prelude.{flat_map, fold}
 use Rattle.std.specs.List.{range_with_len}
 use Rattle.std.proofs.lemmas.Bool.{cases_lt}
@@ -44,13 +44,13 @@ sseq-clocks n t = copied-clocks n 0 (lanes t) (slots t)
 pub length-element_clocks : (s : StTree) → length (element_clocks s) ≡ st_atoms s
 length-element_clocks s = length-map (slots s) (λ (w : Slot). w.clock) ∙ length-slots s
 
-element-clock : (s : StTree) (e : ℕ) → e < st_atoms s → slice_index (element_clocks s) e ≡ (slot_number s e).clock
+element-clock : (s : StTree) (e : ℕ) → e < st_atoms s → get_or (element_clocks s) e 0 ≡ (slot_number s e).clock
 element-clock s e low = get_or-map (λ (w : Slot). w.clock) (slots s) e (slot_at 0 0) 0 (omega (arith, low, length-slots s))
 
 pub clock-early : (s : StTree) → IsInSize s → (k c : ℕ) → slice_get (element_clocks s) k ≡ Some c → c < 4096
 clock-early s size k c found =
     let low : k < st_atoms s = omega (arith, slice_get_within (element_clocks s) k c found, length-element_clocks s) in
-    let is : slice_index (element_clocks s) k ≡ c = get_or_from_slice_get (element_clocks s) k c 0 found in
+    let is : get_or (element_clocks s) k 0 ≡ c = get_or_from_slice_get (element_clocks s) k c 0 found in
     let b : (slot_number s k).clock < time s = (slot_below s size.lengths k low).0 in
     omega (arith, b, size.in_time, is, element-clock s k low)
 
@@ -84,18 +84,18 @@ words-next ls k t old now found was is =
 source-is : (ins : List StTree) (i e j : ℕ) (s : StTree) → slice_get ins i ≡ Some s → source_clock (source_of ins (from_input i e j)) ≡ (slot_number s e).clock
 source-is ins i e j s found = ap (λ (t : StTree). (slot_number t e).clock) (get_or_from_slice_get ins i s (sseq 0 (atom (unsigned_word 1))) found)
 
-spread-at : (w : ℕ) (ks : List ℕ) (n : ℕ) → n < length ks * w → slice_index (spread w ks) n ≡ slice_index ks (n / w)
-spread-at w ks n low = get_or-map-range_with_len (λ o. slice_index ks (o / w)) 0 (length ks * w) n n 0 low (omega arith)
+spread-at : (w : ℕ) (ks : List ℕ) (n : ℕ) → n < length ks * w → get_or (spread w ks) n 0 ≡ get_or ks (n / w) 0
+spread-at w ks n low = get_or-map-range_with_len (λ o. get_or ks (o / w) 0) 0 (length ks * w) n n 0 low (omega arith)
 
 length-words : (s : StTree) → length (word_clocks s) ≡ layout_words s
 length-words s =
-    length-map-range_with_len (λ o. slice_index (element_clocks s) (o / element_words s)) 0 (length (element_clocks s) * element_words s) ∙ ap (λ n. n * element_words s) (length-element_clocks s)
+    length-map-range_with_len (λ o. get_or (element_clocks s) (o / element_words s) 0) 0 (length (element_clocks s) * element_words s) ∙ ap (λ n. n * element_words s) (length-element_clocks s)
 
-origin-clock : (ins : List StTree) (i : ℕ) (ss : List StTree) (n : ℕ) → ((k : ℕ) (s : StTree) → slice_get ss k ≡ Some s → slice_get ins (i + k) ≡ Some s) → slice_index (flat_map word_clocks ss) n ≡ source_clock (source_of ins (layout_origin i ss n))
+origin-clock : (ins : List StTree) (i : ℕ) (ss : List StTree) (n : ℕ) → ((k : ℕ) (s : StTree) → slice_get ss k ≡ Some s → slice_get ins (i + k) ≡ Some s) → get_or (flat_map word_clocks ss) n 0 ≡ source_clock (source_of ins (layout_origin i ss n))
 origin-clock ins i [] n h = refl
 origin-clock ins i (s ∷ ss) n h =
     let clock : OriginTree → ℕ = λ x. source_clock (source_of ins x) in
-    ap (λ xs. slice_index xs n) (flat_map-cons word_clocks s ss)
+    ap (λ xs. get_or xs n 0) (flat_map-cons word_clocks s ss)
     ∙ elim (cases_lt n (layout_words s)) [
       | inl lt ↦
           let z : i + 0 ≡ i = omega arith in
@@ -111,7 +111,7 @@ origin-clock ins i (s ∷ ss) n h =
           ∙ sym (ap clock (origin-behind i s ss n ge))
     ]
 
-label-clock : (ss : List StTree) (label : ℕ) → slice_index (label_clocks ss) label ≡ source_clock (source_of ss (labelled_origin ss label))
+label-clock : (ss : List StTree) (label : ℕ) → get_or (label_clocks ss) label 0 ≡ source_clock (source_of ss (labelled_origin ss label))
 label-clock ss zero = refl
 label-clock ss (suc n) = origin-clock ss 0 ss n (λ k s f. (let e : 0 + k ≡ k = omega arith in ap (slice_get ss) e ∙ f))
 
@@ -129,8 +129,8 @@ lead-at : (ins : List StTree) (out : StTree) (labels : List ℕ) (o : ℕ) → o
 lead-at ins out labels o low below =
     let w : ℕ = element_words out in
     let c : ℕ = (slot_number out (o / w)).clock in
-    let at : slice_index (element_clocks out) (o / w) ≡ c = element-clock out (o / w) (div_below o w (st_atoms out) (element_words_pos out) below) in
-    (λ i. label-clock ins (slice_index labels o) i - at i)
+    let at : get_or (element_clocks out) (o / w) 0 ≡ c = element-clock out (o / w) (div_below o w (st_atoms out) (element_words_pos out) below) in
+    (λ i. label-clock ins (get_or labels o 0) i - at i)
     ∙ ap (λ x. source_clock (source_of ins x) - c) (sym (get_or-map (labelled_origin ins) labels o 0 (fixed 0) low))
     ∙ sym (lead-is c (source_of ins (get_or (map (labelled_origin ins) labels) o (fixed 0))))
 

@@ -1,6 +1,6 @@
 -- The schedule of a movement program has one instance that calls nothing, and it does the same whatever the words are.
-use Rattle.std.proofs.Common.{◌≡◌, ℕ, zero, suc, ◌+◌, ◌-◌, ◌*◌, ◌<◌, inl, inr, true, List, [], ◌∷◌, ◌++◌, length, take, drop, map, Option, None, Some, slice_get, slice_index_or, refl, arith, sym, ap, ◌∙◌, subst}
-use Rattle.std.specs.Prelude.{flat_map, slice_index, nat_lt, ◌&&◌}
+use Rattle.std.proofs.Common.{◌≡◌, ℕ, zero, suc, ◌+◌, ◌-◌, ◌*◌, ◌<◌, inl, inr, true, List, [], ◌∷◌, ◌++◌, length, take, drop, map, Option, None, Some, slice_get, get_or, refl, arith, sym, ap, ◌∙◌, subst}
+use Rattle.std.specs.Prelude.{flat_map, nat_lt, ◌&&◌}
 use Rattle.std.specs.List.{range_with_len}
 use Rattle.std.proofs.lemmas.Bool.{and_parts, cases_Bool, cond-true, cond-false}
 use Rattle.std.proofs.lemmas.List.{map-append}
@@ -118,7 +118,7 @@ module _ (f : ℕ → ℕ) (kept : f 0 ≡ 0) where
   at-all (ws ∷ wss) zero = refl
   at-all (ws ∷ wss) (suc k) = at-all wss k
 
-  index-kept : (ws : List ℕ) (k : ℕ) → slice_index (map f ws) k ≡ f (slice_index ws k)
+  index-kept : (ws : List ℕ) (k : ℕ) → get_or (map f ws) k 0 ≡ f (get_or ws k 0)
   index-kept [] k = sym kept
   index-kept (w ∷ ws) zero = refl
   index-kept (w ∷ ws) (suc k) = index-kept ws k
@@ -142,8 +142,8 @@ module _ (f : ℕ → ℕ) (kept : f 0 ≡ 0) where
 
   input-all : (ins : List StTree) (wss : List (List ℕ)) (i e j : ℕ) → origin_word ins (all wss) (from_input i e j) ≡ f (origin_word ins wss (from_input i e j))
   input-all ins wss i e j =
-      let o = e * element_words (slice_index_or ins i (st_sseq 0 (st_atom (unsigned_word 1)))) + j in
-      ap (λ ws. slice_index ws o) (at-all wss i) ∙ index-kept (words_at wss i) o
+      let o = e * element_words (get_or ins i (st_sseq 0 (st_atom (unsigned_word 1)))) + j in
+      ap (λ ws. get_or ws o 0) (at-all wss i) ∙ index-kept (words_at wss i) o
 
   from-all : (ins : List StTree) (wss : List (List ℕ)) (how : MoveOp) (n m e j : ℕ) → origin_word ins (all wss) (origin_from how n m e j) ≡ f (origin_word ins wss (origin_from how n m e j))
   from-all ins wss (Shift k) n m e j = elim (cases_Bool (nat_lt e k)) [

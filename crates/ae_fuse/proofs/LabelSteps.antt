@@ -1,5 +1,5 @@
 -- The labels of a node, by those of its arguments.
-use Rattle.std.proofs.Common.{◌≡◌, ℕ, ◌+◌, ◌-◌, ◌*◌, ◌/◌, ◌%◌, ◌<◌, ◌≤◌, Bool, true, false, inl, inr, cond, nat_lt, List, [], ◌∷◌, ◌++◌, length, take, drop, map, Some, slice_get, slice_index, refl, arith, sym, ap, ◌∙◌, subst, append_assoc, length-append, if◌then◌else◌}
+use Rattle.std.proofs.Common.{◌≡◌, ℕ, ◌+◌, ◌-◌, ◌*◌, ◌/◌, ◌%◌, ◌<◌, ◌≤◌, Bool, true, false, inl, inr, cond, nat_lt, List, [], ◌∷◌, ◌++◌, length, take, drop, map, Some, slice_get, get_or, refl, arith, sym, ap, ◌∙◌, subst, append_assoc, length-append, if◌then◌else◌}
 use Rattle.std.specs.Prelude.{flat_map}
 use Rattle.std.specs.List.{range_with_len}
 use Rattle.std.proofs.Math.Nat.{mul-le-mul_right}
@@ -37,23 +37,23 @@ shift-behind k w o some high = elim (cases_lt (o / w) k) [
 ]
 
 -- word o of what a shift makes, behind the words 0
-pub shifted-late : (ls : List ℕ) (k n m w o : ℕ) → 0 < w → k * w ≤ o → slice_index ls (o - k * w) ≡ label_from ls w (origin_from (Shift k) n m (o / w) (o % w))
+pub shifted-late : (ls : List ℕ) (k n m w o : ℕ) → 0 < w → k * w ≤ o → get_or ls (o - k * w) 0 ≡ label_from ls w (origin_from (Shift k) n m (o / w) (o % w))
 shifted-late ls k n m w o some high =
     let late : k ≤ o / w = shift-behind k w o some high in
     let e : k + (o / w - k) ≡ o / w = omega (arith, late) in
     let size : k * w + (o / w - k) * w ≡ o / w * w = omega (arith, ap (λ q. q * w) e) in
     let at : (o / w - k) * w + o % w ≡ o - k * w = omega (arith, size, div-add-mod' o w) in
-    ap (slice_index ls) (sym at) ∙ ap (λ b. label_from ls w (cond b (fixed 0) (from_input 0 (o / w - k) (o % w)))) (sym (le-ltb (o / w) k late))
+    ap (λ i. get_or ls i 0) (sym at) ∙ ap (λ b. label_from ls w (cond b (fixed 0) (from_input 0 (o / w - k) (o % w)))) (sym (le-ltb (o / w) k late))
 
 -- the same of an up
-pub repeated-at : (ls : List ℕ) (c n m w o : ℕ) → 0 < n → 0 < w → slice_index ls (o % (n * w)) ≡ label_from ls w (origin_from (Up c) n m (o / w) (o % w))
+pub repeated-at : (ls : List ℕ) (c n m w o : ℕ) → 0 < n → 0 < w → get_or ls (o % (n * w)) 0 ≡ label_from ls w (origin_from (Up c) n m (o / w) (o % w))
 repeated-at ls c n m w o many some =
     let e : ℕ = o / w % n in
     let low : e * w + o % w < n * w = omega (arith, mul-add-lt e w (o % w) n (mod_below (o / w) n many) (mod_below o w some)) in
     let rows : (o / w / n * n + e) * w ≡ o / w * w = ap (λ q. q * w) (div-add-mod' (o / w) n) in
     let whole : o / w / n * (n * w) + (e * w + o % w) ≡ o = omega (arith, rows, div-add-mod' o w) in
     let at : o % (n * w) ≡ e * w + o % w = ap (λ p. p % (n * w)) (sym whole) ∙ mod-mul-add (o / w / n) (n * w) (e * w + o % w) low in
-    ap (slice_index ls) at
+    ap (λ i. get_or ls i 0) at
 
 shifted-word : (a : StTree) (ls : List ℕ) (e j : ℕ) (b : Bool) → label_from ls (element_words a) (cond b (fixed 0) (from_input 0 e j)) ≡ origin_word (a ∷ []) (ls ∷ []) (cond b (fixed 0) (from_input 0 e j))
 shifted-word a ls e j true = refl

@@ -1,6 +1,6 @@
 -- The labels that a schedule makes of numbered words are those of the trace: no bits of the arguments tell them apart.
 use Rattle.std.proofs.Common.{◌≡◌, ℕ, zero, suc, ◌+◌, ◌-◌, ◌<◌, ◌≤◌, ◌==◌, inl, inr, Bool, true, false, nat_le, List, [], ◌∷◌, ◌++◌, length, take, drop, map, get_or, Some, IsTrue, slice_get, refl, arith, sym, ap, ◌∙◌, subst, if◌then◌else◌, length-take, length-drop}
-use Rattle.std.specs.Prelude.{flat_map, slice_index}
+use Rattle.std.specs.Prelude.{flat_map}
 use Rattle.std.specs.List.{range_with_len}
 use Rattle.std.proofs.lemmas.Bool.{and_parts, cases_Bool, cond-true, cond-false}
 use Rattle.std.proofs.lemmas.Bool.Decides.{nat_tests}
@@ -74,7 +74,7 @@ values-of-bits (t ∷ ts) bits sized long small =
 abbrev pub bits_by : (ℕ → ℕ) → ℕ → List ℕ
 bits_by f n = map f (range_with_len 0 n)
 
-table-at : (f : ℕ → ℕ) (n i : ℕ) → i < n → slice_index (bits_by f n) i ≡ f i
+table-at : (f : ℕ → ℕ) (n i : ℕ) → i < n → get_or (bits_by f n) i 0 ≡ f i
 table-at f n i l = get_or-map-range_with_len f 0 n i i 0 l (omega arith)
 
 abbrev pub one_at : ℕ → ℕ → ℕ
@@ -124,8 +124,8 @@ same-number most zero (suc m) p q all each = absurd (differ _ (sym all) (table-a
 same-number most (suc n) zero p q all each = absurd (differ _ all (table-at one_everywhere most n (omega arith)))
 same-number most (suc n) (suc m) p q all each =
     let e = each n (omega arith) in
-    let here : slice_index (bits_by (one_at n) most) n ≡ 1 = table-at (one_at n) most n (omega arith) ∙ (let t : (n == n) ≡ true = grind (arith, nat_tests) in cond-true _ 1 0 t) in
-    let there : slice_index (bits_by (one_at n) most) m ≡ one_at n m = table-at (one_at n) most m (omega arith) in
+    let here : get_or (bits_by (one_at n) most) n 0 ≡ 1 = table-at (one_at n) most n (omega arith) ∙ (let t : (n == n) ≡ true = grind (arith, nat_tests) in cond-true _ 1 0 t) in
+    let there : get_or (bits_by (one_at n) most) m 0 ≡ one_at n m = table-at (one_at n) most m (omega arith) in
     elim (cases_Bool (m == n)) [
       | inl t ↦ (let s : m ≡ n = grind (arith, nat_tests) in ap suc (sym s))
       | inr f ↦ absurd (differ _ (there ∙ cond-false _ 1 0 f) (sym e ∙ here))

@@ -1,5 +1,5 @@
 -- The labels of the items of an instance, node by node: those of a node come from those of its arguments alone.
-use Rattle.std.proofs.Common.{◌≡◌, ℕ, zero, suc, ◌+◌, ◌<◌, ◌≤◌, inl, inr, List, [], ◌∷◌, ◌++◌, length, map, Some, slice_get, slice_index, refl, arith, sym, ap, ◌∙◌, subst, length-append}
+use Rattle.std.proofs.Common.{◌≡◌, ℕ, zero, suc, ◌+◌, ◌<◌, ◌≤◌, inl, inr, List, [], ◌∷◌, ◌++◌, length, map, Some, slice_get, get_or, refl, arith, sym, ap, ◌∙◌, subst, length-append}
 use Rattle.std.specs.List.{range_with_len}
 use Rattle.std.proofs.lemmas.Bool.{cases_lt}
 use Rattle.std.proofs.lemmas.List.{get_or_append_left, get_or-append-add, length-map}
@@ -94,8 +94,8 @@ module _ (s : StFuncTree) (h : IsMovable s) where
     long-here = full-long (length s.ins + j) place-low ∙ ap layout_words (layout-of-node s j n found)
 
   -- one item more, and labels that are let go of
-  pub live-next : (last : List ℕ) (j : ℕ) (ls freed kept : List (List ℕ)) (own : List ℕ) → length ls ≡ length s.ins + j → ((a : ℕ) → j < slice_index last a → a < length ls → words_at ls a ≡ words_at (own_labels s) a)
-      → own ≡ words_at (own_labels s) (length s.ins + j) → KeepWanted last j (ls ++ own ∷ []) freed → KeepWanted last j freed kept → (a : ℕ) → j + 1 < slice_index last a → a < length kept → words_at kept a ≡ words_at (own_labels s) a
+  pub live-next : (last : List ℕ) (j : ℕ) (ls freed kept : List (List ℕ)) (own : List ℕ) → length ls ≡ length s.ins + j → ((a : ℕ) → j < get_or last a 0 → a < length ls → words_at ls a ≡ words_at (own_labels s) a)
+      → own ≡ words_at (own_labels s) (length s.ins + j) → KeepWanted last j (ls ++ own ∷ []) freed → KeepWanted last j freed kept → (a : ℕ) → j + 1 < get_or last a 0 → a < length kept → words_at kept a ≡ words_at (own_labels s) a
   live-next last j ls freed kept own many live is one two a wanted low =
       two.same a wanted ∙ one.same a wanted ∙ elim (cases_lt a (length ls)) [
         | inl lt ↦ get_or_append_left ls (own ∷ []) [] a lt ∙ live a (omega (arith, wanted)) lt

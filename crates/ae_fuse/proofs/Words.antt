@@ -1,6 +1,6 @@
 -- The word of an origin is the word of its number.
-use Rattle.std.proofs.Common.{◌≡◌, ℕ, zero, suc, ◌+◌, ◌*◌, ◌/◌, ◌%◌, List, [], ◌∷◌, map, None, Some, slice_get, slice_index_or, refl, arith, sym, ap, ◌∙◌, subst, ⊎_elim}
-use Rattle.std.specs.Prelude.{flat_map, slice_index, true}
+use Rattle.std.proofs.Common.{◌≡◌, ℕ, zero, suc, ◌+◌, ◌*◌, ◌/◌, ◌%◌, List, [], ◌∷◌, map, None, Some, slice_get, get_or, refl, arith, sym, ap, ◌∙◌, subst, ⊎_elim}
+use Rattle.std.specs.Prelude.{flat_map, true}
 use Rattle.std.proofs.lemmas.Nat.{div-add-mod'}
 use Rattle.ae_word.specs.AtomTree.{atom_words}
 use Rattle.ae_seqtype.specs.SeqTree.{SeqTree, atom_of}
@@ -18,7 +18,7 @@ use Rattle.ae_trace.proofs.Origins.{HasNone, StandsAt, origin-cases, flat-rename
 use Rattle.ae_trace.proofs.Laying.{IsLaid}
 use Rattle.ae_trace.proofs.Typed.{AreLaid}
 
-pub index-flat : (vs : List ValueTree) (i : ℕ) → slice_index_or (map flat vs) i [] ≡ flat (at vs i)
+pub index-flat : (vs : List ValueTree) (i : ℕ) → get_or (map flat vs) i [] ≡ flat (at vs i)
 index-flat [] i = refl
 index-flat (v ∷ vs) zero = refl
 index-flat (v ∷ vs) (suc i) = index-flat vs i
@@ -35,13 +35,13 @@ layout-there slowdown (x ∷ ts) [] h k t f = absurd h
 layout-there slowdown (x ∷ ts) (s ∷ ss) h zero t f = (let e : x ≡ t = cc in record { layout = s; found = refl; laid = subst (λ y. IsLaid y slowdown s) e h.0 })
 layout-there slowdown (x ∷ ts) (s ∷ ss) h (suc k) t f = (let r = layout-there slowdown ts ss h.1 k t f in record { layout = r.layout; found = r.found; laid = r.laid })
 
-pub index-there : (ss : List StTree) (k : ℕ) (s e : StTree) → slice_get ss k ≡ Some s → slice_index_or ss k e ≡ s
+pub index-there : (ss : List StTree) (k : ℕ) (s e : StTree) → slice_get ss k ≡ Some s → get_or ss k e ≡ s
 index-there [] k s e f = absurd (let h : None ≡ Some s = f in cc)
 index-there (x ∷ ss) zero s e f = cc
 index-there (x ∷ ss) (suc k) s e f = index-there ss k s e f
 
 module _ (slowdown : ℕ) (ts : List SeqTree) (ins : List StTree) (laid : AreLaid slowdown ts ins) (vs : List ValueTree) (values : AreValues ts vs) where
-  found-word : (n : ℕ) (w : StandsAt 0 ts n) → origin_word ins (map flat vs) (origin_numbered ts (suc n)) ≡ slice_index (flat_map flat vs) n
+  found-word : (n : ℕ) (w : StandsAt 0 ts n) → origin_word ins (map flat vs) (origin_numbered ts (suc n)) ≡ get_or (flat_map flat vs) n 0
   found-word n w =
       let l = layout-there slowdown ts ins laid w.value w.type w.found in
       let size : atom_words (atom_of w.type) ≡ element_words l.layout = ap atom_words (sym l.laid.laid.atom) in
@@ -50,12 +50,12 @@ module _ (slowdown : ℕ) (ts : List SeqTree) (ins : List StTree) (laid : AreLai
       let is : origin_numbered ts (suc n) ≡ from_input w.value (w.place / k) (w.place % k) = w.is ∙ (λ i. from_input (z i) (w.place / size i) (w.place % size i)) in
       let whole : w.place / k * k + w.place % k ≡ w.place = div-add-mod' w.place k in
       ap (origin_word ins (map flat vs)) is
-      ∙ ap (λ (x : StTree). slice_index (slice_index_or (map flat vs) w.value []) (w.place / k * element_words x + w.place % k)) (index-there ins w.value l.layout _ l.found)
-      ∙ ap (λ ws. slice_index ws (w.place / k * k + w.place % k)) (index-flat vs w.value)
-      ∙ ap (slice_index (flat (at vs w.value))) whole
+      ∙ ap (λ (x : StTree). get_or (get_or (map flat vs) w.value []) (w.place / k * element_words x + w.place % k) 0) (index-there ins w.value l.layout _ l.found)
+      ∙ ap (λ ws. get_or ws (w.place / k * k + w.place % k) 0) (index-flat vs w.value)
+      ∙ ap (λ i. get_or (flat (at vs w.value)) i 0) whole
       ∙ sym (w.word vs values)
 
-  no-word : (n : ℕ) (h : HasNone 0 ts n) → origin_word ins (map flat vs) (origin_numbered ts (suc n)) ≡ slice_index (flat_map flat vs) n
+  no-word : (n : ℕ) (h : HasNone 0 ts n) → origin_word ins (map flat vs) (origin_numbered ts (suc n)) ≡ get_or (flat_map flat vs) n 0
   no-word n h = ap (origin_word ins (map flat vs)) h.is ∙ sym (h.word vs values)
 
   pub number-word : (label : ℕ) → origin_word ins (map flat vs) (origin_numbered ts label) ≡ word_numbered (flat_map flat vs) label

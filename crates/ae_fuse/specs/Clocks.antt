@@ -1,5 +1,5 @@
 -- The clocks in which words stand: those of the elements of a layout, and those of the numbered words of the parameters.
-use Rattle.std.specs.Prelude.{ℕ, zero, suc, ◌+◌, ◌-◌, ◌*◌, ◌/◌, List, [], ◌∷◌, ◌++◌, flat_map, length, map, slice_index}
+use Rattle.std.specs.Prelude.{ℕ, zero, suc, ◌+◌, ◌-◌, ◌*◌, ◌/◌, List, [], ◌∷◌, ◌++◌, flat_map, length, map, get_or}
 use Rattle.std.specs.List.{range_with_len}
 use Rattle.ae_sttype.specs.declared.st_type.Slot.{Slot}
 use Rattle.ae_sttype.specs.StTree.{StTree, element_words}
@@ -16,7 +16,7 @@ clock_copies (suc q) c ks = clock_copies q c ks ++ map (λ k. q * c + k) ks
 
 -- those of the words of elements with these clocks, by element and then by word
 abbrev pub spread : (words : ℕ) → List ℕ → List ℕ
-spread w ks = map (λ o. slice_index ks (o / w)) (range_with_len 0 (length ks * w))
+spread w ks = map (λ o. get_or ks (o / w) 0) (range_with_len 0 (length ks * w))
 
 -- those of all words of a layout
 abbrev pub word_clocks : StTree → List ℕ
@@ -28,4 +28,4 @@ label_clocks ss = 0 ∷ flat_map word_clocks ss
 
 -- by how many clocks word o stands before the word of its number, or 0, by the clocks of the numbers and those of its elements
 abbrev pub lead_of : (sources labels elements : List ℕ) (words o : ℕ) → ℕ
-lead_of sources labels elements w o = slice_index sources (slice_index labels o) - slice_index elements (o / w)
+lead_of sources labels elements w o = get_or sources (get_or labels o 0) 0 - get_or elements (o / w) 0

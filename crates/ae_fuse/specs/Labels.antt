@@ -1,5 +1,5 @@
 -- The numbers of the words of a movement program's items, by the layouts of its parameters.
-use Rattle.std.specs.Prelude.{◌≡◌, ℕ, zero, suc, ◌+◌, ◌-◌, ◌*◌, ◌/◌, ◌%◌, ◌<◌, ◌≤◌, Bool, true, false, ◌&&◌, nat_lt, if◌then◌else◌, List, [], ◌∷◌, length, Some, slice_get, slice_index}
+use Rattle.std.specs.Prelude.{◌≡◌, ℕ, zero, suc, ◌+◌, ◌-◌, ◌*◌, ◌/◌, ◌%◌, ◌<◌, ◌≤◌, Bool, true, false, ◌&&◌, nat_lt, if◌then◌else◌, List, [], ◌∷◌, length, Some, slice_get, get_or}
 use Rattle.std.specs.List.{range_with_len}
 use Rattle.ae_sttype.specs.StTree.{StTree, element_words}
 use Rattle.ae_sttype.specs.Size.{IsInSize}
@@ -41,7 +41,7 @@ labelled_origin ss (suc n) = layout_origin 0 ss n
 
 -- the word of an origin among those of the one argument of a move, whose elements have so many words
 abbrev pub label_from : (labels : List ℕ) (words : ℕ) → OriginTree → ℕ
-label_from ls w (from_input i e j) = slice_index ls (e * w + j)
+label_from ls w (from_input i e j) = get_or ls (e * w + j) 0
 label_from ls w (fixed v) = v
 
 -- ---- what is sure of an instance all of whose nodes move words, and of a node whose arguments have their labels

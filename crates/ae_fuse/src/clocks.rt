@@ -1,6 +1,6 @@
 // The clocks in which words stand, in tables that are made in one pass.
 
-ghost use Rattle.std.specs.Prelude.{◌≡◌, ◌<◌, ◌≤◌, ◌*◌, ◌+◌, ◌++◌, ℕ, length, map, IfOk, OnOk, Some, slice_get, slice_index};
+ghost use Rattle.std.specs.Prelude.{◌≡◌, ◌<◌, ◌≤◌, ◌*◌, ◌+◌, ◌++◌, ℕ, length, map, IfOk, OnOk, Some, slice_get, get_or};
 ghost use Rattle.std.specs.List.{range_with_len};
 ghost use Rattle.ae_sttype.specs.declared.st_type.StType.{StType as Layout};
 ghost use Rattle.ae_sttype.specs.StTree.{st_tree};
@@ -99,7 +99,7 @@ pub(crate) fn label_clocks(alloc: Global, ins: &[StType]) -> Result<Vec<u32>, Al
 
 // The clock of the word of a number, and 0 where there is none.
 fn source_clock(sources: &[u32], label: u32) -> u32
-    ensures { result ≡ slice_index sources.now label }
+    ensures { result ≡ get_or sources.now label 0 }
 {
     match sources.get(label as usize) {
         Some(clock) => *clock,

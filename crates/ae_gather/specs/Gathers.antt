@@ -1,5 +1,5 @@
 -- A move between layouts as a part of a circuit: each output word is that of its origin, or it is fixed.
-use Rattle.std.specs.Prelude.{◌≡◌, ℕ, ◌+◌, ◌*◌, ◌%◌, ◌≤◌, List, [], length, map, sum_by, Some, slice_get, slice_index, slice_index_or}
+use Rattle.std.specs.Prelude.{◌≡◌, ℕ, ◌+◌, ◌*◌, ◌%◌, ◌≤◌, List, [], length, map, sum_by, Some, slice_get, get_or}
 use Rattle.ae_word.specs.AtomTree.{unsigned_word}
 use Rattle.ae_sttype.specs.declared.st_type.StType.{StType}
 use Rattle.ae_sttype.specs.StTree.{StTree, atom, sseq, st_tree, time, element_words}
@@ -24,7 +24,7 @@ pub record IsGather (m : Move) : Type 0 where
 
 -- the word of an origin among the words of the inputs
 abbrev pub origin_word : List StTree → List (List ℕ) → OriginTree → ℕ
-origin_word ins vs (from_input i e j) = slice_index (slice_index_or vs i []) (e * element_words (slice_index_or ins i (sseq 0 (atom (unsigned_word 1)))) + j)
+origin_word ins vs (from_input i e j) = get_or (get_or vs i []) (e * element_words (get_or ins i (sseq 0 (atom (unsigned_word 1)))) + j) 0
 origin_word ins vs (fixed w) = w
 
 -- a move as a part of a circuit

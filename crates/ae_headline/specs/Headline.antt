@@ -1,5 +1,5 @@
 -- The headline: what the text that `build S` writes with Ok is.
-use Rattle.std.specs.Prelude.{◌≡◌, ℕ, ◌+◌, ◌*◌, ◌≤◌, ◌⊎◌, false, List, [], ◌∷◌, ◌++◌, length, map, take, Some, slice_get, slice_index_or}
+use Rattle.std.specs.Prelude.{◌≡◌, ℕ, ◌+◌, ◌*◌, ◌≤◌, ◌⊎◌, false, List, [], ◌∷◌, ◌++◌, length, map, take, Some, slice_get, get_or}
 use Rattle.ae_seqtype.specs.SeqTree.{SeqTree}
 use Rattle.ae_seqtype.specs.ValueTree.{ValueTree}
 use Rattle.ae_seq.specs.ProgramTree.{ProgramTree, FuncTree, NodeTree}
@@ -40,7 +40,7 @@ pub record Computes (n : Circuit) (p : ProgramTree) (r : ReportTree) : Type 0 wh
 
 -- the name of an item of a function
 abbrev pub item_name : FuncTree → (item : ℕ) → List ℕ
-item_name f i = slice_index_or (param_names f.params ++ node_names f.nodes) i []
+item_name f i = get_or (param_names f.params ++ node_names f.nodes) i []
 
 -- the notes tell each node of a function, or each result at its end line, in order, by their lines and names
 abbrev pub AreNotesIn : FuncTree → List (ℕ × List ℕ) → Type 0

@@ -1,5 +1,5 @@
 -- The words of a layout in one clock: lane by lane, and in it word by word.
-use Rattle.std.proofs.Common.{ℕ, zero, suc, ◌≡◌, ◌+◌, ◌-◌, ◌*◌, ◌%◌, ◌^◌, ◌<◌, ◌≤◌, false, List, [], ◌∷◌, ◌++◌, length, map, drop, get_or, Option, Some, None, option_map, slice_get, slice_index, flat_map, arith, refl, ap, sym, ◌∙◌}
+use Rattle.std.proofs.Common.{ℕ, zero, suc, ◌≡◌, ◌+◌, ◌-◌, ◌*◌, ◌%◌, ◌^◌, ◌<◌, ◌≤◌, false, List, [], ◌∷◌, ◌++◌, length, map, drop, get_or, Option, Some, None, option_map, slice_get, flat_map, arith, refl, ap, sym, ◌∙◌}
 use Rattle.std.specs.List.{range_with_len}
 use Rattle.std.proofs.Math.ListN.{drop_of_length-le}
 use Rattle.std.proofs.Math.Nat.{mod-eq_of_lt}
@@ -93,10 +93,10 @@ module _ (fill : ℕ) (s : StTree) (value : List ℕ) (o : Option ℕ) where
       ∙ word_of_lane fill (element_words s) value (standing s o l) 0 j k kinds at
       ∙ ap (λ i. stood_word fill k.width (element_words s) value i (standing s o l)) z
 
-  pub stood : (l j e : ℕ) → l < lanes s → j < element_words s → standing s o l ≡ Some e → get_or (layout_row fill s value o) (l * element_words s + j) 0 ≡ slice_index value (e * element_words s + j)
+  pub stood : (l j e : ℕ) → l < lanes s → j < element_words s → standing s o l ≡ Some e → get_or (layout_row fill s value o) (l * element_words s + j) 0 ≡ get_or value (e * element_words s + j) 0
   stood l j e below small is = let k = kind_at j small in row_word l j k.0 below small k.1 ∙ ap (stood_word fill k.0.width (element_words s) value j) is
 
-  pub unfilled : (l j : ℕ) → l < lanes s → j < element_words s → standing s o l ≡ None → get_or (layout_row fill s value o) (l * element_words s + j) 0 ≡ slice_index (fill_words (element_atom s) fill) j
+  pub unfilled : (l j : ℕ) → l < lanes s → j < element_words s → standing s o l ≡ None → get_or (layout_row fill s value o) (l * element_words s + j) 0 ≡ get_or (fill_words (element_atom s) fill) j 0
   unfilled l j below small is =
       let k = kind_at j small in
       let width : WordKind → ℕ = λ x. fill % 2 ^ x.width in

@@ -1,5 +1,5 @@
 -- What stands on the wires of a layout in one clock: the words of elements, and the fill elsewhere.
-use Rattle.std.specs.Prelude.{ℕ, ◌+◌, ◌*◌, ◌%◌, ◌^◌, ◌&&◌, nat_eq, if◌then◌else◌, List, [], ◌∷◌, flat_map, Option, Some, None, slice_index}
+use Rattle.std.specs.Prelude.{ℕ, ◌+◌, ◌*◌, ◌%◌, ◌^◌, ◌&&◌, nat_eq, if◌then◌else◌, List, [], ◌∷◌, flat_map, Option, Some, None, get_or}
 use Rattle.std.specs.List.{range_with_len}
 use Rattle.ae_word.specs.AtomTree.{WordKind, atom_kinds}
 use Rattle.ae_sttype.specs.declared.st_type.Slot.{Slot}
@@ -23,7 +23,7 @@ standing s (Some c) l = element_in s c l
 -- word j of an element that stands, and else the fill
 abbrev pub stood_word : (fill width words : ℕ) → (value : List ℕ) (j : ℕ) → Option ℕ → ℕ
 stood_word fill width words value j None = fill % 2 ^ width
-stood_word fill width words value j (Some e) = slice_index value (e * words + j)
+stood_word fill width words value j (Some e) = get_or value (e * words + j) 0
 
 -- the words of a lane, from word j on, where this element stands or none
 abbrev pub lane_words : (fill words : ℕ) → (value : List ℕ) → Option ℕ → (j : ℕ) → List WordKind → List ℕ

@@ -1,5 +1,5 @@
 -- Layouts of elements: their parts, and the widths of their first words.
-use Rattle.std.proofs.Common.{ℕ, ◌≡◌, ◌<◌, inl, inr, List, [], ◌∷◌, length, map, Some, None, slice_get, slice_index, option_map, arith, refl}
+use Rattle.std.proofs.Common.{ℕ, ◌≡◌, ◌<◌, inl, inr, List, [], ◌∷◌, length, map, Some, None, slice_get, get_or, option_map, arith, refl}
 use Rattle.ae_word.specs.AtomTree.{WordKind}
 use Rattle.ae_sttype.specs.StTree.{StTree, sseq}
 use Rattle.ae_sttype.specs.Size.{IsInSize}
@@ -21,7 +21,7 @@ one_size t s h size = elim h [
   | inr h ↦ part_of_tseq s t 1 h.0 h.1 size
 ]
 
-pub first_is : (ks : List WordKind) (w : ℕ) → option_map (λ (k : WordKind). k.width) (slice_get ks 0) ≡ Some w → w ≡ slice_index (map (λ (k : WordKind). k.width) ks) 0
+pub first_is : (ks : List WordKind) (w : ℕ) → option_map (λ (k : WordKind). k.width) (slice_get ks 0) ≡ Some w → w ≡ get_or (map (λ (k : WordKind). k.width) ks) 0 0
 first_is [] w h = cc
 first_is (k ∷ ks) w h = (let same : Some k.width ≡ Some w = h in cc)
 

@@ -1,5 +1,5 @@
 -- Bundles that are delayed one by one.
-use Rattle.std.proofs.Common.{ℕ, zero, suc, ◌≡◌, ◌+◌, ◌*◌, ◌<◌, ◌≤◌, inl, inr, List, ◌++◌, ◌∷◌, [], length, take, Some, slice_get, slice_index, slice_index_or, get_or, arith, refl, sym, ap, ◌∙◌, subst}
+use Rattle.std.proofs.Common.{ℕ, zero, suc, ◌≡◌, ◌+◌, ◌*◌, ◌<◌, ◌≤◌, inl, inr, List, ◌++◌, ◌∷◌, [], length, take, Some, slice_get, get_or, arith, refl, sym, ap, ◌∙◌, subst}
 use Rattle.std.proofs.lemmas.List.{length_push, length-take-le, take_more}
 use Rattle.std.proofs.lemmas.Option.{get_or_from_slice_get, slice_get-get_or, slice_get_read, slice_get_within}
 use Rattle.ae_netlist.specs.declared.cell.NetId.{NetId}
@@ -31,7 +31,7 @@ delayed_none old rst items waits = record { long = refl; each = λ r i nets late
 
 -- one more
 pub delayed_more : (old mid new : List SizedCell) (rst : ℕ) (items : List (List NetId)) (waits : List ℕ) (count i : ℕ) (chosen : List ℕ) (bundles : List (List NetId)) (nets late : List NetId) → length chosen ≡ count
-    → Extends old mid → Extends mid new → slice_get items i ≡ Some nets → ((widths : List ℕ) → AreNets mid widths nets → AreNets new widths late) → AreLate new rst (slice_index waits count) nets late
+    → Extends old mid → Extends mid new → slice_get items i ≡ Some nets → ((widths : List ℕ) → AreNets mid widths nets → AreNets new widths late) → AreLate new rst (get_or waits count 0) nets late
     → AreDelayed old mid rst items waits chosen bundles → AreDelayed old new rst items waits (chosen ++ i ∷ []) (bundles ++ late ∷ [])
 delayed_more old mid new rst items waits count i chosen bundles nets late many up g at own is was = record {
   long = length_push bundles late ∙ (ap (λ n. n + 1) was.long ∙ sym (length_push chosen i));
@@ -46,7 +46,7 @@ delayed_more old mid new rst items waits count i chosen bundles nets late many u
           let same : Some nets ≡ Some xs = sym at ∙ (ap (slice_get items) u.1 ∙ fi) in
           let is_nets : nets ≡ xs = cc in
           let place : count ≡ r = omega (arith, u.0) in
-          let P : ℕ → List NetId → List NetId → Type 0 = λ q ns ls. IsDelayed old new rst (slice_index waits q) ns ls in
+          let P : ℕ → List NetId → List NetId → Type 0 = λ q ns ls. IsDelayed old new rst (get_or waits q 0) ns ls in
           let made : P count nets late = record { kept = λ widths h. own widths (nets_grow up h); is_late = is } in
           subst (λ (ls : List NetId). P r xs ls) v.1 (subst (λ (ns : List NetId). P r ns late) is_nets (subst (λ (q : ℕ). P q nets late) place made))
     ]
@@ -66,11 +66,11 @@ no_load items [] = refl
 no_load items (w ∷ ws) = refl
 
 load_push : (items : List (List NetId)) (waits chosen : List ℕ) (i : ℕ) → length chosen < length waits
-    → delay_load items waits (chosen ++ i ∷ []) ≡ delay_load items waits chosen + slice_index waits (length chosen) * length (slice_index_or items i [])
+    → delay_load items waits (chosen ++ i ∷ []) ≡ delay_load items waits chosen + get_or waits (length chosen) 0 * length (get_or items i [])
 load_push items [] chosen i h = absurd (omega arith)
 load_push items (w ∷ ws) [] i h = let e : delay_load items ws [] ≡ 0 = no_load items ws in omega (arith, e)
 load_push items (w ∷ ws) (c ∷ cs) i h =
-    let rest : delay_load items ws (cs ++ i ∷ []) ≡ delay_load items ws cs + slice_index ws (length cs) * length (slice_index_or items i []) = load_push items ws cs i (omega arith) in
+    let rest : delay_load items ws (cs ++ i ∷ []) ≡ delay_load items ws cs + get_or ws (length cs) 0 * length (get_or items i []) = load_push items ws cs i (omega arith) in
     omega (arith, rest)
 
 load_front : (items : List (List NetId)) (waits chosen : List ℕ) (n : ℕ) → delay_load items waits (take n chosen) ≤ delay_load items waits chosen
@@ -81,16 +81,16 @@ load_front items (w ∷ ws) (c ∷ cs) zero = omega arith
 load_front items (w ∷ ws) (c ∷ cs) (suc n) = let rest : delay_load items ws (take n cs) ≤ delay_load items ws cs = load_front items ws cs n in omega (arith, rest)
 
 pub delay_more : (items : List (List NetId)) (waits chosen : List ℕ) (j : ℕ) (nets : List NetId) → slice_get items (get_or chosen j 0) ≡ Some nets → length waits ≡ length chosen → j < length chosen
-    → delay_load items waits (take j chosen) + slice_index waits j * length nets ≤ delay_load items waits (take (j + 1) chosen)
+    → delay_load items waits (take j chosen) + get_or waits j 0 * length nets ≤ delay_load items waits (take (j + 1) chosen)
 delay_more items waits chosen j nets at long h =
     let i : ℕ = get_or chosen j 0 in
     let many : length (take j chosen) ≡ j = length-take-le j chosen (omega arith) in
     let next : delay_load items waits (take (j + 1) chosen) ≡ delay_load items waits (take j chosen ++ i ∷ []) = ap (delay_load items waits) (take_more chosen j 0 h) in
-    let all : delay_load items waits (take j chosen ++ i ∷ []) ≡ delay_load items waits (take j chosen) + slice_index waits (length (take j chosen)) * length (slice_index_or items i []) = load_push items waits (take j chosen) i (omega (arith, many)) in
-    let own : slice_index waits (length (take j chosen)) * length (slice_index_or items i []) ≡ slice_index waits j * length nets =
-    ap (λ n. slice_index waits n * length (slice_index_or items i [])) many ∙ ap (λ ns. slice_index waits j * length ns) (get_or_from_slice_get items i nets [] at) in
+    let all : delay_load items waits (take j chosen ++ i ∷ []) ≡ delay_load items waits (take j chosen) + get_or waits (length (take j chosen)) 0 * length (get_or items i []) = load_push items waits (take j chosen) i (omega (arith, many)) in
+    let own : get_or waits (length (take j chosen)) 0 * length (get_or items i []) ≡ get_or waits j 0 * length nets =
+    ap (λ n. get_or waits n 0 * length (get_or items i [])) many ∙ ap (λ ns. get_or waits j 0 * length ns) (get_or_from_slice_get items i nets [] at) in
     omega (arith, next, all, own)
 
 pub delay_most : (items : List (List NetId)) (waits chosen : List ℕ) (j : ℕ) (nets : List NetId) → slice_get items (get_or chosen j 0) ≡ Some nets → length waits ≡ length chosen → j < length chosen
-    → delay_load items waits (take j chosen) + slice_index waits j * length nets ≤ delay_load items waits chosen
+    → delay_load items waits (take j chosen) + get_or waits j 0 * length nets ≤ delay_load items waits chosen
 delay_most items waits chosen j nets at long h = omega (arith, delay_more items waits chosen j nets at long h, load_front items waits chosen (j + 1))

@@ -1,5 +1,5 @@
 -- After the last node, and after the last body.
-use Rattle.std.proofs.Common.{ℕ, ◌≡◌, ◌+◌, ◌*◌, ◌<◌, ◌≤◌, List, [], length, map, take, sum_by, get_or, Some, slice_get, slice_index, arith, refl, ap, sym, ◌∙◌, subst}
+use Rattle.std.proofs.Common.{ℕ, ◌≡◌, ◌+◌, ◌*◌, ◌<◌, ◌≤◌, List, [], length, map, take, sum_by, get_or, Some, slice_get, arith, refl, ap, sym, ◌∙◌, subst}
 use Rattle.std.proofs.Math.Nat.{mul-le-mul_right}
 use Rattle.std.proofs.lemmas.List.{take_all}
 use Rattle.std.proofs.lemmas.Option.{same_Some, slice_get-get_or}
@@ -102,7 +102,7 @@ results_chosen instances k at rst s ins items old mid new waits results sound fu
     let f : IsSoundFunc k s = sound.each k s func in
     let count : ℕ = length s.ins + length s.nodes in
     let fill : (i : ℕ) → i < count → IsFilling s.budget (item_layout (item_layouts s) i) = λ i low. all_items k s f i (omega (arith, items_many s)) in
-    let in_time : (r i : ℕ) → slice_get s.results r ≡ Some i → slice_index arrivals i + slice_index waits r ≡ latest arrivals s.results = λ r i g. wait_at arrivals s.results waits r i ew g in
+    let in_time : (r i : ℕ) → slice_get s.results r ≡ Some i → get_or arrivals i 0 + get_or waits r 0 ≡ latest arrivals s.results = λ r i g. wait_at arrivals s.results waits r i ew g in
     let made : AreChosen new.cells rst at known s ins (latest arrivals s.results) s.results results = items_wait mid.cells new.cells rst at known s arrivals ins count items (latest arrivals s.results) waits s.results results up fill (result_below instances k s s.results sound func refl) in_time was.have late in
     let latency : latest arrivals s.results ≡ (instance_costs instances k).latency = sym (ap (λ (c : OwnCosts). c.latency) (costs_are instances k s func)) in
     subst (λ (g : StFuncTree). AreChosen new.cells rst at known g ins (instance_costs instances k).latency g.results results) (same_Some s z (sym func ∙ found))

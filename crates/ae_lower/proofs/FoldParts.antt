@@ -1,5 +1,5 @@
 -- Folds and scans as parts, and what they cost.
-use Rattle.std.proofs.Common.{ℕ, ◌≡◌, ◌+◌, ◌-◌, ◌*◌, ◌/◌, ◌%◌, ◌^◌, ◌<◌, ◌≤◌, List, [], ◌∷◌, length, map, slice_index, slice_index_or, if◌then◌else◌, arith, refl, sym, ap, ◌∙◌}
+use Rattle.std.proofs.Common.{ℕ, ◌≡◌, ◌+◌, ◌-◌, ◌*◌, ◌/◌, ◌%◌, ◌^◌, ◌<◌, ◌≤◌, List, [], ◌∷◌, length, map, get_or, if◌then◌else◌, arith, refl, sym, ap, ◌∙◌}
 use Rattle.std.specs.List.{range_with_len}
 use Rattle.std.proofs.Math.Nat.{mul-le-mul}
 use Rattle.std.proofs.lemmas.Grind.{same_number_lists}
@@ -49,7 +49,7 @@ same_words raw s ws long same =
     let low : k < layout_words s = omega (arith, below, all) in
     let place : k / element_words s * element_words raw + k % element_words s ≡ k = ap (λ a. k / element_words s * atom_words a + k % element_words s) same ∙ whole_again k (element_words s) in
     get_or-map (origin_word (raw ∷ []) (ws ∷ [])) (map f numbers) k (f k) 0 (omega (arith, low, count))
-    ∙ (ap (origin_word (raw ∷ []) (ws ∷ [])) (get_or-map-range_with_len f 0 (layout_words s) k k (f k) low (let z : 0 + k ≡ k = omega arith in z)) ∙ ap (slice_index ws) place))
+    ∙ (ap (origin_word (raw ∷ []) (ws ∷ [])) (get_or-map-range_with_len f 0 (layout_words s) k k (f k) low (let z : 0 + k ≡ k = omega arith in z)) ∙ ap (λ i. get_or ws i 0) place))
 
 -- ---- folds
 
@@ -86,7 +86,7 @@ fold_is known budget copies n m op x raw a s one fits is_raw spread fills some =
       ins = ap (λ z. z ∷ []) (sym (fits.ins ∙ ap (elements_stream n m) same));
       out = refl;
       means = λ vs words.
-          let v : List ℕ = slice_index_or vs 0 [] in
+          let v : List ℕ = get_or vs 0 [] in
           let said : folded op t (n * m) v ≡ fold_words op s (layout_words s) (n * m) v = folded_as op t s (n * m) v atom atoms in
           let long : length (folded op t (n * m) v) ≡ layout_words s =
           ap length said ∙ length-map-range_with_len (λ p. word_fold (map (fold_by op) (atom_kinds (element_atom s))) (layout_words s) v p (n * m - 1)) 0 (layout_words s) in
@@ -129,7 +129,7 @@ scan_is known budget copies n m op x a s arranged fits spread =
       latency = ap (λ l. l + where_many n 1) log;
       ins = ap (λ z. z ∷ []) (sym given);
       out = sym stands;
-      means = λ vs words. scanned_as op t s (n * m) (layout_words s / (n * m)) (slice_index_or vs 0 []) (sym atom) (sym size);
+      means = λ vs words. scanned_as op t s (n * m) (layout_words s / (n * m)) (get_or vs 0 []) (sym atom) (sym size);
       cells = omega (arith, loads);
       products = where_product op (joins (levels_up m) (element_columns t)) ∙ ap (where_mul op) (ap (λ l. joins l (element_columns t)) log ∙ ap (joins (log_up m)) (sym columns));
       memories = omega arith;

@@ -1,5 +1,5 @@
 -- A fold of words of elements makes words of one element.
-use Rattle.std.proofs.Common.{ℕ, ◌≡◌, true, ◌+◌, ◌-◌, ◌*◌, ◌%◌, ◌^◌, ◌<◌, ◌≤◌, List, [], ◌∷◌, ◌++◌, length, get_or, Some, slice_get, slice_index, slice_index_or, arith, sym, ap, ◌∙◌}
+use Rattle.std.proofs.Common.{ℕ, ◌≡◌, true, ◌+◌, ◌-◌, ◌*◌, ◌%◌, ◌^◌, ◌<◌, ◌≤◌, List, [], ◌∷◌, ◌++◌, length, get_or, Some, slice_get, arith, sym, ap, ◌∙◌}
 use Rattle.std.proofs.Math.Nat.{mul-le-mul}
 use Rattle.std.proofs.lemmas.List.{append-nil}
 use Rattle.std.proofs.lemmas.List.FromFn.{length-map-range_with_len}
@@ -42,7 +42,7 @@ word_fits : (op : WordOp) (t : StTree) (n m : ℕ) (v : List ℕ) (p : ℕ) → 
     → word_fold (element_folds op t) (element_size t) v p (n * m - 1) < 2 ^ (fold_at (element_folds op t) p).width
 word_fits op t n m v p ok size some low h =
     let all : AllFit (element_folds op t) (n * m) (element_size t) v = words_fit op t n m v h in
-    fold_fits (fold_at (element_folds op t) p).op (fold_at (element_folds op t) p).width (λ i. slice_index v (i * element_size t + p)) (n * m - 1)
+    fold_fits (fold_at (element_folds op t) p).op (fold_at (element_folds op t) p).width (λ i. get_or v (i * element_size t + p) 0) (n * m - 1)
     (fold_op (element_folds op t) p (are_folds op t ok size)) (record { each = λ i li. all i p (omega (arith, li, some)) low })
 
 -- the fold of words of elements are words of one
@@ -57,7 +57,7 @@ folded_words op t n m v ok size some h = record {
 }
 
 fold_typed_by : (op : WordOp) (t : StTree) (n m : ℕ) (vs : List (List ℕ)) → folds op ≡ true → IsInSize t → 1 ≤ n * m → AllAreWords (stream_of (tseq n 0 (sseq m t)) ∷ []) vs
-    → AllAreWords (stream_of t ∷ []) (folded op t (n * m) (slice_index_or vs 0 []) ∷ [])
+    → AllAreWords (stream_of t ∷ []) (folded op t (n * m) (get_or vs 0 []) ∷ [])
 fold_typed_by op t n m [] ok size some h = absurd h
 fold_typed_by op t n m (v ∷ []) ok size some h = (folded_words op t n m v ok size some h.0, tt)
 fold_typed_by op t n m (v ∷ u ∷ vs) ok size some h = absurd h.1

@@ -1,5 +1,5 @@
 -- Node after node, and body after body.
-use Rattle.std.proofs.Common.{ℕ, zero, suc, ◌≡◌, ◌+◌, ◌*◌, ◌<◌, ◌≤◌, inl, inr, List, [], ◌∷◌, ◌++◌, length, length-append, map, take, sum_by, get_or, Some, slice_get, slice_index, arith, refl, ap, sym, ◌∙◌, subst}
+use Rattle.std.proofs.Common.{ℕ, zero, suc, ◌≡◌, ◌+◌, ◌*◌, ◌<◌, ◌≤◌, inl, inr, List, [], ◌∷◌, ◌++◌, length, length-append, map, take, sum_by, get_or, Some, slice_get, arith, refl, ap, sym, ◌∙◌, subst}
 use Rattle.std.specs.Option.{option_map}
 use Rattle.std.proofs.lemmas.List.{get_or_append_left, length-map, length_push}
 use Rattle.std.proofs.lemmas.Option.{get_or_from_slice_get, none-some, same_Some, slice_get-get_or, slice_get-map, slice_get_within}
@@ -102,18 +102,18 @@ no_nodes instances k at rst s ins items old h same = subst (λ (xs : List (List 
 
 pub more_nodes : (instances : List StFuncTree) (k at rst : ℕ) (s : StFuncTree) (ins : List (List NetId)) (old mid new : Circuit) (j : ℕ) (items all : List (List NetId)) (made : List NetId) (t : NodeTiming)
     → slice_get (timings_in instances k s) j ≡ Some t → all ≡ items ++ made ∷ [] → GrowsBy mid new t.load
-    → IsItem new.cells rst at (callees (take k instances)) s ins (slice_index (arrivals_in instances k s) (length s.ins + j)) (length s.ins + j) made
+    → IsItem new.cells rst at (callees (take k instances)) s ins (get_or (arrivals_in instances k s) (length s.ins + j) 0) (length s.ins + j) made
     → AreLowered instances k at rst s ins old mid j items → AreLowered instances k at rst s ins old new (j + 1) all
 more_nodes instances k at rst s ins old mid new j items all made t timing same grows own was = subst (λ (xs : List (List NetId)). AreLowered instances k at rst s ins old new (j + 1) xs) (sym same) (record {
   grows = by_trans _ (let e = sums_more (λ (x : NodeTiming). x.load) instances k j s t timing in omega (arith, e)) was.grows grows;
   have = record {
     long = omega (arith, length_push items made, was.have.long);
     each = λ i nets found. elim (get_push_cases items made i nets found) [
-      | inl h ↦ item_grows rst at (callees (take k instances)) s ins (slice_index (arrivals_in instances k s) i) i nets grows.grows.extends (was.have.each i nets h.0)
+      | inl h ↦ item_grows rst at (callees (take k instances)) s ins (get_or (arrivals_in instances k s) i 0) i nets grows.grows.extends (was.have.each i nets h.0)
       | inr h ↦
           let place : length s.ins + j ≡ i = omega (arith, h.0, was.have.long) in
-          subst (λ (ns : List NetId). IsItem new.cells rst at (callees (take k instances)) s ins (slice_index (arrivals_in instances k s) i) i ns) h.1
-          (subst (λ (q : ℕ). IsItem new.cells rst at (callees (take k instances)) s ins (slice_index (arrivals_in instances k s) q) q made) place own)
+          subst (λ (ns : List NetId). IsItem new.cells rst at (callees (take k instances)) s ins (get_or (arrivals_in instances k s) i 0) i ns) h.1
+          (subst (λ (q : ℕ). IsItem new.cells rst at (callees (take k instances)) s ins (get_or (arrivals_in instances k s) q 0) q made) place own)
     ];
   };
 })

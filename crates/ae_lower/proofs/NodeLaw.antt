@@ -1,5 +1,5 @@
 -- Items that wait keep their laws, and a node's law follows from those of its arguments.
-use Rattle.std.proofs.Common.{ℕ, suc, ◌≡◌, ◌+◌, ◌-◌, ◌*◌, ◌<◌, List, [], ◌∷◌, length, length-append, map, get_or, Some, slice_get, slice_index, arith, refl, ap, sym, ◌∙◌, subst}
+use Rattle.std.proofs.Common.{ℕ, suc, ◌≡◌, ◌+◌, ◌-◌, ◌*◌, ◌<◌, List, [], ◌∷◌, length, length-append, map, get_or, Some, slice_get, arith, refl, ap, sym, ◌∙◌, subst}
 use Rattle.std.specs.Option.{option_map}
 use Rattle.std.proofs.lemmas.List.{length-map}
 use Rattle.std.proofs.lemmas.Option.{get_or_from_slice_get, slice_get-get_or, slice_get-map, slice_get_within}
@@ -60,7 +60,7 @@ item_grows rst at known s ins d i nets g h = record { there = nets_grow g h.ther
 -- some items, all as late as the start
 pub items_wait : (old new : List SizedCell) (rst at : ℕ) (known : List Callee) (s : StFuncTree) (arrivals : List ℕ) (ins : List (List NetId)) (count : ℕ) (items : List (List NetId)) (start : ℕ) (waits chosen : List ℕ) (bundles : List (List NetId))
     → Extends old new → ((i : ℕ) → i < count → IsFilling s.budget (item_layout (item_layouts s) i))
-    → ((r i : ℕ) → slice_get chosen r ≡ Some i → i < count) → ((r i : ℕ) → slice_get chosen r ≡ Some i → slice_index arrivals i + slice_index waits r ≡ start)
+    → ((r i : ℕ) → slice_get chosen r ≡ Some i → i < count) → ((r i : ℕ) → slice_get chosen r ≡ Some i → get_or arrivals i 0 + get_or waits r 0 ≡ start)
     → AreItems old rst at known s arrivals ins count items → AreDelayed old new rst items waits chosen bundles → AreChosen new rst at known s ins start chosen bundles
 items_wait old new rst at known s arrivals ins count items start waits chosen bundles g fill below in_time have late = record {
   long = late.long;
@@ -71,8 +71,8 @@ items_wait old new rst at known s arrivals ins count items start waits chosen bu
       let moved = late.each r i (get_or items i nets) nets fc here fb in
       let out : Stream = stream_of (item_layout (item_layouts s) i) in
       let means : List (List ℕ) → List ℕ = λ vs. words_at (item_words known s vs) i in
-      let a : ℕ = slice_index arrivals i in
-      let w : ℕ = slice_index waits r in
+      let a : ℕ = get_or arrivals i 0 in
+      let w : ℕ = get_or waits r 0 in
       let sum : a + w ≡ start = in_time r i fc in
       record {
         there = moved.kept _ one.there;

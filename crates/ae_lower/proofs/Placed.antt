@@ -1,5 +1,5 @@
 -- A node in its place: what it asks of its arguments, and what comes of it.
-use Rattle.std.proofs.Common.{ℕ, ◌≡◌, ◌+◌, ◌*◌, ◌<◌, ◌≤◌, List, [], length, length-append, map, take, sum_by, get_or, Some, slice_get, slice_index, arith, refl, ap, sym, ◌∙◌, subst}
+use Rattle.std.proofs.Common.{ℕ, ◌≡◌, ◌+◌, ◌*◌, ◌<◌, ◌≤◌, List, [], length, length-append, map, take, sum_by, get_or, Some, slice_get, arith, refl, ap, sym, ◌∙◌, subst}
 use Rattle.std.specs.Option.{option_and_then, option_map}
 use Rattle.std.proofs.Math.Nat.{mul-le-mul_right}
 use Rattle.std.proofs.lemmas.List.{length-map, length-take-le}
@@ -187,7 +187,7 @@ plain_same known a s copies (scan op n m) h = refl
 plain_same known a s copies (body k) h = absurd h
 
 pub plain_is : (known : List OwnCosts) (s : StFuncTree) (n : StNodeTree) → CallsNothing n.op → plain_costs s n ≡ node_costs known (item_layouts s) n
-plain_is known s n h = plain_same known (item_layout (item_layouts s) (slice_index n.args 0)) n.type n.copies n.op h
+plain_is known s n h = plain_same known (item_layout (item_layouts s) (get_or n.args 0 0)) n.type n.copies n.op h
 
 pub node_ready : (instances : List StFuncTree) (k j at : ℕ) (s : StFuncTree) (n : StNodeTree) (own : List ℕ) (cells : List SizedCell) (args : List (List NetId)) → IsPlaced instances k j at s n own → AreBundles cells (streams_of (arguments_of s n)) args → IsReady cells s n args
 node_ready instances k j at s n own cells args h bundles = record {
@@ -221,7 +221,7 @@ is_call instances k j m at s n own is h =
         called = sym (slice_get-take k m instances below) ∙ fit.1;
         fits = fit.2;
         known = get_or_from_slice_get (callees (take k instances)) m (callee (callees (take m instances)) f) no_callee entry;
-        costs = ap (λ o. op_costs (all_costs (take k instances)) (item_layout (item_layouts s) (slice_index n.args 0)) n.type n.copies o) is ∙ ap (body_costs n.copies) (callee_costs instances k m f below fit.1);
+        costs = ap (λ o. op_costs (all_costs (take k instances)) (item_layout (item_layouts s) (get_or n.args 0 0)) n.type n.copies o) is ∙ ap (body_costs n.copies) (callee_costs instances k m f below fit.1);
       },
     )
 
@@ -256,18 +256,18 @@ pub node_placed : (instances : List StFuncTree) (told : List (List ℕ)) (k j at
     → start ≡ latest own n.args → waits ≡ joint_slacks (arrivals_in instances k s) n.args → L ≡ (node_costs (all_costs (take k instances)) (item_layouts s) n).latency → Extends old.cells mid.cells → Extends mid.cells new.cells → AreDelayed old.cells mid.cells rst items waits n.args args
     → IsBuilt new rst (at + start) (node_part (callees (take k instances)) L s n) args y
     → (z : StFuncTree) (ins : List (List NetId)) → slice_get instances k ≡ Some z → AreItems old.cells rst at (callees (take k instances)) z (arrivals_in instances k z) ins (length z.ins + j) items
-    → IsItem new.cells rst at (callees (take k instances)) z ins (slice_index (arrivals_in instances k z) (length z.ins + j)) (length z.ins + j) y
+    → IsItem new.cells rst at (callees (take k instances)) z ins (get_or (arrivals_in instances k z) (length z.ins + j) 0) (length z.ins + j) y
 node_placed instances told k j at rst s n own waits items args old mid new L start y flows timed h es ew el up on late built z ins found have =
     let same : s ≡ z = same_Some s z (sym h.func ∙ found) in
     let known : List Callee = callees (take k instances) in
-    let Q : StFuncTree → Type 0 = λ f. AreItems old.cells rst at known f (arrivals_in instances k f) ins (length f.ins + j) items → IsItem new.cells rst at known f ins (slice_index (arrivals_in instances k f) (length f.ins + j)) (length f.ins + j) y in
+    let Q : StFuncTree → Type 0 = λ f. AreItems old.cells rst at known f (arrivals_in instances k f) ins (length f.ins + j) items → IsItem new.cells rst at known f ins (get_or (arrivals_in instances k f) (length f.ins + j) 0) (length f.ins + j) y in
     let one : Q s = λ items_have.
     let arrived : start ≡ latest (arrivals_in instances k s) n.args = es ∙ ap (λ xs. latest xs n.args) h.arrivals in
-    let in_time : (r i : ℕ) → slice_get n.args r ≡ Some i → slice_index (arrivals_in instances k s) i + slice_index waits r ≡ start = λ r i f. wait_at (arrivals_in instances k s) n.args waits r i ew f ∙ sym arrived in
+    let in_time : (r i : ℕ) → slice_get n.args r ≡ Some i → get_or (arrivals_in instances k s) i 0 + get_or waits r 0 ≡ start = λ r i f. wait_at (arrivals_in instances k s) n.args waits r i ew f ∙ sym arrived in
     let fill : (i : ℕ) → i < length s.ins + j → IsFilling s.budget (item_layout (item_layouts s) i) = λ i low. all_items k s h.sound i (let l : j < length s.nodes = slice_get_within s.nodes j n h.node in omega (arith, items_many s)) in
     let chosen : AreChosen mid.cells rst at known s ins start n.args args = items_wait old.cells mid.cells rst at known s (arrivals_in instances k s) ins (length s.ins + j) items start waits n.args args up fill h.below in_time items_have late in
     let made = node_item mid new rst at start L known s j n ins args y (λ vs words i low. flows instances k s vs timed.sound timed.fitted h.func words i low) on h.node h.below chosen built in
-    let arrive : start + L ≡ slice_index (arrivals_in instances k s) (length s.ins + j) = (ap (λ i. i + L) arrived ∙ ap (λ i. latest (arrivals_in instances k s) n.args + i) el) ∙ sym h.facts.arrival in
+    let arrive : start + L ≡ get_or (arrivals_in instances k s) (length s.ins + j) 0 = (ap (λ i. i + L) arrived ∙ ap (λ i. latest (arrivals_in instances k s) n.args + i) el) ∙ sym h.facts.arrival in
     subst (λ (d : ℕ). IsItem new.cells rst at known s ins d (length s.ins + j) y) arrive made in
     subst Q same one have
 

@@ -1,5 +1,5 @@
 -- What is known of a node that is ready, by its operator.
-use Rattle.std.proofs.Common.{ℕ, ◌≡◌, true, ◌+◌, ◌-◌, ◌*◌, ◌<◌, ◌≤◌, List, [], ◌∷◌, length, map, Some, slice_get, slice_index, arith, refl, sym, ap, ◌∙◌, subst}
+use Rattle.std.proofs.Common.{ℕ, ◌≡◌, true, ◌+◌, ◌-◌, ◌*◌, ◌<◌, ◌≤◌, List, [], ◌∷◌, length, map, Some, slice_get, get_or, arith, refl, sym, ap, ◌∙◌, subst}
 use Rattle.std.proofs.Math.Nat.{mul-le-mul_right}
 use Rattle.std.proofs.lemmas.List.{length-map}
 use Rattle.std.proofs.lemmas.Option.{slice_get-get_or}
@@ -39,27 +39,27 @@ use Rattle.ae_lower.proofs.Streams.{one_only, one_stream}
 
 -- the layout of argument k
 abbrev pub argument_at : StFuncTree → StNodeTree → ℕ → StTree
-argument_at s n k = item_layout (item_layouts s) (slice_index n.args k)
+argument_at s n k = item_layout (item_layouts s) (get_or n.args k 0)
 
 pub ready_some : (cells : List SizedCell) (s : StFuncTree) (n : StNodeTree) (args : List (List NetId)) → IsReady cells s n args → 1 ≤ s.budget
 ready_some cells s n args h = omega (arith, time_pos n.type h.layout.size.lengths, h.layout.time)
 
-pub ready_below : (cells : List SizedCell) (s : StFuncTree) (n : StNodeTree) (args : List (List NetId)) (k : ℕ) → IsReady cells s n args → k < length n.args → slice_index n.args k < length (item_layouts s)
-ready_below cells s n args k h low = h.below k (slice_index n.args k) (slice_get-get_or n.args k 0 low)
+pub ready_below : (cells : List SizedCell) (s : StFuncTree) (n : StNodeTree) (args : List (List NetId)) (k : ℕ) → IsReady cells s n args → k < length n.args → get_or n.args k 0 < length (item_layouts s)
+ready_below cells s n args k h low = h.below k (get_or n.args k 0) (slice_get-get_or n.args k 0 low)
 
 pub ready_item : (cells : List SizedCell) (s : StFuncTree) (n : StNodeTree) (args : List (List NetId)) (k : ℕ) → IsReady cells s n args → k < length n.args → IsFilling s.budget (argument_at s n k)
-ready_item cells s n args k h low = h.items (slice_index n.args k) (argument_at s n k) (slice_get-get_or (item_layouts s) (slice_index n.args k) (sseq 0 (atom (unsigned_word 1))) (ready_below cells s n args k h low))
+ready_item cells s n args k h low = h.items (get_or n.args k 0) (argument_at s n k) (slice_get-get_or (item_layouts s) (get_or n.args k 0) (sseq 0 (atom (unsigned_word 1))) (ready_below cells s n args k h low))
 
 -- a list of one
 pub record IsOnly (xs : List ℕ) : Type 0 where
-  pub is : xs ≡ slice_index xs 0 ∷ []
+  pub is : xs ≡ get_or xs 0 0 ∷ []
 
 pub only_low : (xs : List ℕ) → IsOnly xs → 0 < length xs
 only_low xs h = (let one : length xs ≡ 1 = ap length h.is in omega (arith, one))
 
 -- ---- moves
 
-move_fits : (before : List StFuncTree) (budget copies : ℕ) (f : ℕ → StTree) (xs : List ℕ) (s : StTree) (how : MoveOp) → FitsOp before budget copies (map f xs) s (move how) → IsOnly xs × FitsMove how (f (slice_index xs 0)) s
+move_fits : (before : List StFuncTree) (budget copies : ℕ) (f : ℕ → StTree) (xs : List ℕ) (s : StTree) (how : MoveOp) → FitsOp before budget copies (map f xs) s (move how) → IsOnly xs × FitsMove how (f (get_or xs 0 0)) s
 move_fits before budget copies f [] s how h = absurd h
 move_fits before budget copies f (x ∷ []) s how h = (record { is = refl }, h)
 move_fits before budget copies f (x ∷ y ∷ xs) s how h = absurd h
@@ -72,7 +72,7 @@ pub move_node : (cells : List SizedCell) (s : StFuncTree) (n : StNodeTree) (args
     → (known : List Callee) → IsNodePart known s n (gather_part m)
 move_node cells s n args how m h e is known =
     let one = ready_move cells s n args how h e in
-    of_node known s n (slice_index n.args 0 ∷ []) (move how) (gather_part m) e one.0.is (rw is (move_is known s.budget n.copies (argument_at s n 0) n.type how h.layout.time))
+    of_node known s n (get_or n.args 0 0 ∷ []) (move how) (gather_part m) e one.0.is (rw is (move_is known s.budget n.copies (argument_at s n 0) n.type how h.layout.time))
 
 -- ---- constants
 
@@ -99,7 +99,7 @@ IsFoldOf op n m budget Fits f = (f.op ≡ op) × (f.slots ≡ n) × (f.lanes ≡
 shape_as : (f : FoldShape) (op : WordOp) (n m budget : ℕ) → f.op ≡ op → f.slots ≡ n → f.lanes ≡ m → f.period ≡ budget → f ≡ record { op = op; slots = n; lanes = m; element = f.element; period = budget }
 shape_as f op n m budget eo es el ep = rw (← eo, ← es, ← el, ← ep) refl
 
-fold_fits : (before : List StFuncTree) (budget copies : ℕ) (f : ℕ → StTree) (xs : List ℕ) (s raw : StTree) (op : WordOp) (n m : ℕ) → FitsOp before budget copies (map f xs) s (fold op n m raw) → IsOnly xs × FitsFold budget op n m raw (f (slice_index xs 0)) s
+fold_fits : (before : List StFuncTree) (budget copies : ℕ) (f : ℕ → StTree) (xs : List ℕ) (s raw : StTree) (op : WordOp) (n m : ℕ) → FitsOp before budget copies (map f xs) s (fold op n m raw) → IsOnly xs × FitsFold budget op n m raw (f (get_or xs 0 0)) s
 fold_fits before budget copies f [] s raw op n m h = absurd h
 fold_fits before budget copies f (x ∷ []) s raw op n m h = (record { is = refl }, h)
 fold_fits before budget copies f (x ∷ y ∷ xs) s raw op n m h = absurd h
@@ -132,7 +132,7 @@ fold_node cells s n args op k m raw f mv h e is moved known =
     let sound = raw_fold cells s n args op k m raw h e in
     let P : FoldShape → Type 0 = λ g. IsNodePart known s n (part_behind (reduce_part g) (gather_part mv)) in
     subst P (sym (shape_as f op k m s.budget is.0 is.1 is.2 is.3))
-    (of_node known s n (slice_index n.args 0 ∷ []) (fold op k m raw) _ e fits.0.is (rw moved (fold_is known s.budget n.copies k m op f.element raw (argument_at s n 0) n.type is.4 fits.1 sound.0 sound.1 h.layout.time (ready_some cells s n args h))))
+    (of_node known s n (get_or n.args 0 0 ∷ []) (fold op k m raw) _ e fits.0.is (rw moved (fold_is known s.budget n.copies k m op f.element raw (argument_at s n 0) n.type is.4 fits.1 sound.0 sound.1 h.layout.time (ready_some cells s n args h))))
 
 -- the move takes what the fold gives
 pub fold_follows : (raw s : StTree) (f : FoldShape) (mv : Move) → IsOneOf (st_tree f.element) raw → mv ≡ op_move Same raw s → (gather_part mv).ins ≡ (reduce_part f).out ∷ []
@@ -150,7 +150,7 @@ fold_short cells s n args op k m raw f h e is =
     let levels = log_same f.lanes (omega (arith, is.2, sound.1.some_lanes)) (omega (arith, is.2, sound.1.few_lanes)) in
     omega (arith, wait, levels, log_few f.lanes)
 
-scan_fits : (before : List StFuncTree) (budget copies : ℕ) (f : ℕ → StTree) (xs : List ℕ) (s : StTree) (op : WordOp) (n m : ℕ) → FitsOp before budget copies (map f xs) s (scan op n m) → IsOnly xs × FitsScan budget op n m (f (slice_index xs 0)) s
+scan_fits : (before : List StFuncTree) (budget copies : ℕ) (f : ℕ → StTree) (xs : List ℕ) (s : StTree) (op : WordOp) (n m : ℕ) → FitsOp before budget copies (map f xs) s (scan op n m) → IsOnly xs × FitsScan budget op n m (f (get_or xs 0 0)) s
 scan_fits before budget copies f [] s op n m h = absurd h
 scan_fits before budget copies f (x ∷ []) s op n m h = (record { is = refl }, h)
 scan_fits before budget copies f (x ∷ y ∷ xs) s op n m h = absurd h
@@ -171,7 +171,7 @@ pub scan_node : (cells : List SizedCell) (s : StFuncTree) (n : StNodeTree) (args
 scan_node cells s n args op k m f h e is known =
     let fits = ready_scan cells s n args op k m h e in
     subst (λ g. IsNodePart known s n (scan_part g)) (sym (shape_as f op k m s.budget is.0 is.1 is.2 is.3))
-    (of_node known s n (slice_index n.args 0 ∷ []) (scan op k m) _ e fits.0.is (scan_is known s.budget n.copies k m op f.element (argument_at s n 0) n.type is.4 fits.1 fits.2))
+    (of_node known s n (get_or n.args 0 0 ∷ []) (scan op k m) _ e fits.0.is (scan_is known s.budget n.copies k m op f.element (argument_at s n 0) n.type is.4 fits.1 fits.2))
 
 -- the layout of an item that is found among the arguments
 pub found_item : (cells : List SizedCell) (s : StFuncTree) (n : StNodeTree) (args : List (List NetId)) (k a : ℕ) → IsReady cells s n args → slice_get n.args k ≡ Some a → IsFilling s.budget (item_layout (item_layouts s) a)

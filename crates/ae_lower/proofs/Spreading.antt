@@ -1,5 +1,5 @@
 -- A body on each lane, one block after the other.
-use Rattle.std.proofs.Common.{ℕ, zero, suc, ◌≡◌, ◌+◌, ◌*◌, ◌<◌, ◌≤◌, List, [], ◌∷◌, length, map, take, drop, get_or, Some, slice_get, slice_index, arith, refl, ap, sym, ◌∙◌, subst, flat_map, length-append, ◌%◌, ◌/◌}
+use Rattle.std.proofs.Common.{ℕ, zero, suc, ◌≡◌, ◌+◌, ◌*◌, ◌<◌, ◌≤◌, List, [], ◌∷◌, length, map, take, drop, get_or, Some, slice_get, arith, refl, ap, sym, ◌∙◌, subst, flat_map, length-append, ◌%◌, ◌/◌}
 use Rattle.std.specs.List.{range_with_len}
 use Rattle.std.proofs.Math.Seq.{take-nil}
 use Rattle.ae_netlist.proofs.Gets.{get_from_take}
@@ -46,7 +46,7 @@ get_drop [] (suc n) i d = refl
 get_drop (w ∷ ws) (suc n) i d = get_drop ws n i d ∙ ap (λ k. get_or (w ∷ ws) k d) (let e : suc (n + i) ≡ suc n + i = omega arith in e)
 
 -- word r of piece e, of m words each
-piece_word : (ws : List ℕ) (m e r : ℕ) → r < m → slice_index (take m (drop (e * m) ws)) r ≡ slice_index ws (e * m + r)
+piece_word : (ws : List ℕ) (m e r : ℕ) → r < m → get_or (take m (drop (e * m) ws)) r 0 ≡ get_or ws (e * m + r) 0
 piece_word ws m e r h = get_take (drop (e * m) ws) m r 0 h ∙ get_drop ws (e * m) r 0
 
 -- ---- elements on lanes and in slots
@@ -118,11 +118,11 @@ join wave k n m t f long each e j w at lt =
     ∙ (ap (wave c) column
     ∙ (ap (λ x. wave c (p.l * columns_of t + (p.s.lane * x + j))) (sym wide)
     ∙ (held
-    ∙ (ap (λ x. slice_index (f i) (p.a * x + j)) wide
-    ∙ (ap (λ x. slice_index (f x) (p.a * W + j)) (sym number_is)
+    ∙ (ap (λ x. get_or (f i) (p.a * x + j) 0) wide
+    ∙ (ap (λ x. get_or (f x) (p.a * W + j) 0) (sym number_is)
     ∙ (sym made
-    ∙ (ap (slice_index all) (sym word)
-    ∙ ap (λ x. slice_index all (e * x + j)) (sym wide)))))))))))
+    ∙ (ap (λ i. get_or all i 0) (sym word)
+    ∙ ap (λ x. get_or all (e * x + j) 0) (sym wide)))))))))))
 
 -- ---- the law
 

@@ -1,5 +1,5 @@
 -- The memories that the items of an instance wait in are those of its costs.
-use Rattle.std.proofs.Common.{ℕ, zero, suc, ◌≡◌, ◌+◌, ◌*◌, ◌<◌, ◌≤◌, List, [], ◌∷◌, ◌++◌, length, length-append, map, sum_by, take, Some, slice_get, slice_index, arith, refl, ap, sym, ◌∙◌}
+use Rattle.std.proofs.Common.{ℕ, zero, suc, ◌≡◌, ◌+◌, ◌*◌, ◌<◌, ◌≤◌, List, [], ◌∷◌, ◌++◌, length, length-append, map, sum_by, take, Some, slice_get, get_or, arith, refl, ap, sym, ◌∙◌}
 use Rattle.std.specs.List.{range_with_len, flat_map}
 use Rattle.std.proofs.Math.Nat.{mul-le-mul_right}
 use Rattle.std.proofs.lemmas.List.{length-map, length-take-le}
@@ -52,11 +52,11 @@ sum_same f g (suc n) h =
 
 -- the memories of lines as long as the longest wait of each item
 abbrev pub mems_by : (layouts : List StTree) (chains : List ℕ) → ℕ → ℕ
-mems_by layouts chains i = columns_of (item_layout layouts i) * rings (slice_index chains i)
+mems_by layouts chains i = columns_of (item_layout layouts i) * rings (get_or chains i 0)
 
 chains_sum : (layouts : List StTree) (us : List Use) (chains : List ℕ) → chains ≡ map (λ i. chain_of us i) (range_with_len 0 (length layouts)) → sum_by (mems_by layouts chains) (range_with_len 0 (length layouts)) ≡ chain_mems layouts us
 chains_sum layouts us chains are = sum_same (mems_by layouts chains) (λ i. columns_of (item_layout layouts i) * rings (chain_of us i)) (length layouts) (λ i l.
-    (let at : slice_index chains i ≡ chain_of us i = rw are (get_or-map-range_with_len (λ j. chain_of us j) 0 (length layouts) i i 0 l (omega arith)) in
+    (let at : get_or chains i 0 ≡ chain_of us i = rw are (get_or-map-range_with_len (λ j. chain_of us j) 0 (length layouts) i i 0 l (omega arith)) in
     ap (λ n. columns_of (item_layout layouts i) * rings n) at))
 
 pub chains_long : (instances : List StFuncTree) (k : ℕ) (s : StFuncTree) (chains : List ℕ) → chains ≡ item_chains (arrivals_in instances k s) s → length chains ≡ length (item_layouts s)
@@ -80,7 +80,7 @@ layouts_small instances k s sound func i l = (all_items k s (sound.each k s func
 -- ---- the sum so far
 
 -- one item more, where a product or a sum that does not fit is told as less
-pub next_most : (layouts : List StTree) (chains : List ℕ) (i sum next columns each : ℕ) → columns ≤ columns_of (item_layout layouts i) → each ≡ rings (slice_index chains i)
+pub next_most : (layouts : List StTree) (chains : List ℕ) (i sum next columns each : ℕ) → columns ≤ columns_of (item_layout layouts i) → each ≡ rings (get_or chains i 0)
     → sum ≤ sum_by (mems_by layouts chains) (range_with_len 0 i) → next ≤ sum + columns * each → next ≤ sum_by (mems_by layouts chains) (range_with_len 0 (i + 1))
 next_most layouts chains i sum next columns each few is was l =
     let up : columns * each ≤ columns_of (item_layout layouts i) * each = mul-le-mul_right each few in

@@ -1,5 +1,5 @@
 -- The block law of wires: pairs of elements, and their parts.
-use Rattle.std.proofs.Common.{ℕ, zero, suc, ◌≡◌, ◌+◌, ◌-◌, ◌*◌, ◌<◌, ◌≤◌, inl, inr, List, [], ◌∷◌, ◌++◌, length, length-append, take, drop, Some, slice_get, slice_index, arith, ap, sym, ◌∙◌, subst}
+use Rattle.std.proofs.Common.{ℕ, zero, suc, ◌≡◌, ◌+◌, ◌-◌, ◌*◌, ◌<◌, ◌≤◌, inl, inr, List, [], ◌∷◌, ◌++◌, length, length-append, take, drop, Some, slice_get, get_or, arith, ap, sym, ◌∙◌, subst}
 use Rattle.std.proofs.Math.Nat.{mul-le-mul_right}
 use Rattle.std.proofs.lemmas.List.{get_or-append-add, get_or_append_left, length-drop}
 use Rattle.std.proofs.lemmas.Bool.{cases_lt}
@@ -20,32 +20,32 @@ pair_long : (k l : ℕ) (us vs : List ℕ) → k ≤ length us → l ≤ length 
 pair_long k l us vs h g = omega (arith, length-append (take k us) (take l vs), piece_long us 0 k (omega arith), piece_long vs 0 l (omega arith))
 
 -- a word behind the first pair
-behind : (n k l e j : ℕ) (us vs : List ℕ) → k ≤ length us → l ≤ length vs → slice_index (paired (suc n) k l us vs) (suc e * (k + l) + j) ≡ slice_index (paired n k l (drop k us) (drop l vs)) (e * (k + l) + j)
+behind : (n k l e j : ℕ) (us vs : List ℕ) → k ≤ length us → l ≤ length vs → get_or (paired (suc n) k l us vs) (suc e * (k + l) + j) 0 ≡ get_or (paired n k l (drop k us) (drop l vs)) (e * (k + l) + j) 0
 behind n k l e j us vs h g =
     let place : suc e * (k + l) + j ≡ length (take k us ++ take l vs) + (e * (k + l) + j) = omega (arith, pair_long k l us vs h g) in
-    ap (slice_index ((take k us ++ take l vs) ++ paired n k l (drop k us) (drop l vs))) place
+    ap (λ i. get_or ((take k us ++ take l vs) ++ paired n k l (drop k us) (drop l vs)) i 0) place
     ∙ get_or-append-add (take k us ++ take l vs) (paired n k l (drop k us) (drop l vs)) (e * (k + l) + j) 0
 
-next_word : (k e j : ℕ) (us : List ℕ) → slice_index (drop k us) (e * k + j) ≡ slice_index us (suc e * k + j)
-next_word k e j us = get_drop us k (e * k + j) 0 ∙ ap (slice_index us) (let e : k + (e * k + j) ≡ suc e * k + j = omega arith in e)
+next_word : (k e j : ℕ) (us : List ℕ) → get_or (drop k us) (e * k + j) 0 ≡ get_or us (suc e * k + j) 0
+next_word k e j us = get_drop us k (e * k + j) 0 ∙ ap (λ i. get_or us i 0) (let e : k + (e * k + j) ≡ suc e * k + j = omega arith in e)
 
 -- word j of the first part of pair e
-pub paired_first : (n k l e j : ℕ) (us vs : List ℕ) → n * k ≤ length us → n * l ≤ length vs → e < n → j < k → slice_index (paired n k l us vs) (e * (k + l) + j) ≡ slice_index us (e * k + j)
+pub paired_first : (n k l e j : ℕ) (us vs : List ℕ) → n * k ≤ length us → n * l ≤ length vs → e < n → j < k → get_or (paired n k l us vs) (e * (k + l) + j) 0 ≡ get_or us (e * k + j) 0
 paired_first zero k l e j us vs h g p q = absurd (omega arith)
 paired_first (suc n) k l zero j us vs h g p q =
     let here : length (take k us) ≡ k = piece_long us 0 k (omega arith) in
     let z : zero * (k + l) + j ≡ j = omega arith in
     let y : zero * k + j ≡ j = omega arith in
     let first : j < length (take k us ++ take l vs) = omega (arith, length-append (take k us) (take l vs)) in
-    ap (slice_index ((take k us ++ take l vs) ++ paired n k l (drop k us) (drop l vs))) z
+    ap (λ i. get_or ((take k us ++ take l vs) ++ paired n k l (drop k us) (drop l vs)) i 0) z
     ∙ (get_or_append_left (take k us ++ take l vs) (paired n k l (drop k us) (drop l vs)) 0 j first
-    ∙ (get_or_append_left (take k us) (take l vs) 0 j (omega arith) ∙ (get_take us k j 0 q ∙ ap (slice_index us) (sym y))))
+    ∙ (get_or_append_left (take k us) (take l vs) 0 j (omega arith) ∙ (get_take us k j 0 q ∙ ap (λ i. get_or us i 0) (sym y))))
 paired_first (suc n) k l (suc e) j us vs h g p q =
     behind n k l e j us vs (omega arith) (omega arith)
     ∙ (paired_first n k l e j (drop k us) (drop l vs) (omega (arith, length-drop k us)) (omega (arith, length-drop l vs)) (omega arith) q ∙ next_word k e j us)
 
 -- word j of the second part of pair e
-pub paired_second : (n k l e j : ℕ) (us vs : List ℕ) → n * k ≤ length us → n * l ≤ length vs → e < n → j < l → slice_index (paired n k l us vs) (e * (k + l) + (k + j)) ≡ slice_index vs (e * l + j)
+pub paired_second : (n k l e j : ℕ) (us vs : List ℕ) → n * k ≤ length us → n * l ≤ length vs → e < n → j < l → get_or (paired n k l us vs) (e * (k + l) + (k + j)) 0 ≡ get_or vs (e * l + j) 0
 paired_second zero k l e j us vs h g p q = absurd (omega arith)
 paired_second (suc n) k l zero j us vs h g p q =
     let here : length (take k us) ≡ k = piece_long us 0 k (omega arith) in
@@ -53,23 +53,23 @@ paired_second (suc n) k l zero j us vs h g p q =
     let y : zero * l + j ≡ j = omega arith in
     let w : k + j ≡ length (take k us) + j = omega arith in
     let first : k + j < length (take k us ++ take l vs) = omega (arith, pair_long k l us vs (omega arith) (omega arith)) in
-    ap (slice_index ((take k us ++ take l vs) ++ paired n k l (drop k us) (drop l vs))) z
+    ap (λ i. get_or ((take k us ++ take l vs) ++ paired n k l (drop k us) (drop l vs)) i 0) z
     ∙ (get_or_append_left (take k us ++ take l vs) (paired n k l (drop k us) (drop l vs)) 0 (k + j) first
-    ∙ (ap (slice_index (take k us ++ take l vs)) w
-    ∙ (get_or-append-add (take k us) (take l vs) j 0 ∙ (get_take vs l j 0 q ∙ ap (slice_index vs) (sym y)))))
+    ∙ (ap (λ i. get_or (take k us ++ take l vs) i 0) w
+    ∙ (get_or-append-add (take k us) (take l vs) j 0 ∙ (get_take vs l j 0 q ∙ ap (λ i. get_or vs i 0) (sym y)))))
 paired_second (suc n) k l (suc e) j us vs h g p q =
     behind n k l e (k + j) us vs (omega arith) (omega arith)
     ∙ (paired_second n k l e j (drop k us) (drop l vs) (omega (arith, length-drop k us)) (omega (arith, length-drop l vs)) (omega arith) q ∙ next_word l e j vs)
 
 -- word j of part e of so many
-pub part_word : (n k o l e j : ℕ) (ws : List ℕ) → n * k ≤ length ws → o + l ≤ k → e < n → j < l → slice_index (parts n k o l ws) (e * l + j) ≡ slice_index ws (e * k + (o + j))
+pub part_word : (n k o l e j : ℕ) (ws : List ℕ) → n * k ≤ length ws → o + l ≤ k → e < n → j < l → get_or (parts n k o l ws) (e * l + j) 0 ≡ get_or ws (e * k + (o + j)) 0
 part_word n k o l e j ws h g p q =
     let f : ℕ → List ℕ = λ i. take l (drop (i * k + o) ws) in
     let long : (i : ℕ) → i < 0 + n → length (f i) ≡ l = λ i lt.
     (let up : (i + 1) * k ≤ n * k = mul-le-mul_right k (let z : i + 1 ≤ n = omega arith in z) in piece_long ws (i * k + o) l (omega arith)) in
     let z : 0 + e ≡ e = omega arith in
     let place : e * k + o + j ≡ e * k + (o + j) = omega arith in
-    joined_word f l 0 n e j long p q ∙ (ap (λ i. slice_index (f i) j) z ∙ (get_take (drop (e * k + o) ws) l j 0 q ∙ (get_drop ws (e * k + o) j 0 ∙ ap (slice_index ws) place)))
+    joined_word f l 0 n e j long p q ∙ (ap (λ i. get_or (f i) j 0) z ∙ (get_take (drop (e * k + o) ws) l j 0 q ∙ (get_drop ws (e * k + o) j 0 ∙ ap (λ i. get_or ws i 0) place)))
 
 -- ---- the laws
 
@@ -105,8 +105,8 @@ pairs_hold at lanes k l us vs ps slots n m first second pairs ws xs lu lv lp cou
           ∙ (wires.firsts c w.lane j lane low
           ∙ (ap (λ x. first c (w.lane * x + j)) (sym lu)
           ∙ (held
-          ∙ (ap (λ x. slice_index ws (e * x + j)) lu
-          ∙ (sym (paired_first n k l e j ws xs (omega arith) (omega arith) inside low) ∙ ap (λ x. slice_index (paired n k l ws xs) (e * x + j)) (sym lp))))))
+          ∙ (ap (λ x. get_or ws (e * x + j) 0) lu
+          ∙ (sym (paired_first n k l e j ws xs (omega arith) (omega arith) inside low) ∙ ap (λ x. get_or (paired n k l ws xs) (e * x + j) 0) (sym lp))))))
       | inr high ↦
           let i : ℕ = j - k in
           let place : j ≡ k + i = omega arith in
@@ -117,9 +117,9 @@ pairs_hold at lanes k l us vs ps slots n m first second pairs ws xs lu lv lp cou
           ∙ (wires.seconds c w.lane i lane low
           ∙ (ap (λ x. second c (w.lane * x + i)) (sym lv)
           ∙ (held
-          ∙ (ap (λ x. slice_index xs (e * x + i)) lv
+          ∙ (ap (λ x. get_or xs (e * x + i) 0) lv
           ∙ (sym (paired_second n k l e i ws xs (omega arith) (omega arith) inside low)
-          ∙ (ap (λ x. slice_index (paired n k l ws xs) (e * (k + l) + x)) (sym place) ∙ ap (λ x. slice_index (paired n k l ws xs) (e * x + j)) (sym lp))))))))
+          ∙ (ap (λ x. get_or (paired n k l ws xs) (e * (k + l) + x) 0) (sym place) ∙ ap (λ x. get_or (paired n k l ws xs) (e * x + j) 0) (sym lp))))))))
     ]
 
 pairs_made : (a t lanes k l n m : ℕ) (us vs ps : List ℕ) (slots : List Slot) (first second pairs : Wave) → length us ≡ k → length vs ≡ l → length ps ≡ k + l → n ≡ length slots
@@ -150,8 +150,8 @@ part_holds at lanes k o l n m us ps slots whole part ws lu lp inside count on wi
     ∙ (wires.each c w.lane j lane low
     ∙ (ap (λ x. whole c (w.lane * x + (o + j))) (sym lu)
     ∙ (held
-    ∙ (ap (λ x. slice_index ws (e * x + (o + j))) lu
-    ∙ (sym (part_word n k o l e j ws (omega arith) inside below low) ∙ ap (λ x. slice_index (parts n k o l ws) (e * x + j)) (sym lp))))))
+    ∙ (ap (λ x. get_or ws (e * x + (o + j)) 0) lu
+    ∙ (sym (part_word n k o l e j ws (omega arith) inside below low) ∙ ap (λ x. get_or (parts n k o l ws) (e * x + j) 0) (sym lp))))))
 
 part_made : (a t lanes k o l n m : ℕ) (us ps : List ℕ) (slots : List Slot) (whole part : Wave) → length us ≡ k → length ps ≡ l → o + l ≤ k → n ≡ length slots
     → AreOnLanes lanes slots → IsPartOf lanes k o l whole part → (b : ℕ) (values : List (List ℕ))

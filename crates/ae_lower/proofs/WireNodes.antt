@@ -1,5 +1,5 @@
 -- Nodes that pair elements, or take parts of them.
-use Rattle.std.proofs.Common.{ℕ, suc, ◌≡◌, ◌-◌, ◌*◌, ◌<◌, Bool, true, false, cond, List, [], ◌∷◌, length, map, slice_index, slice_index_or, arith, refl, sym, ap, ◌∙◌, subst}
+use Rattle.std.proofs.Common.{ℕ, suc, ◌≡◌, ◌-◌, ◌*◌, ◌<◌, Bool, true, false, cond, List, [], ◌∷◌, length, map, get_or, arith, refl, sym, ap, ◌∙◌, subst}
 use Rattle.std.proofs.lemmas.List.{length-map}
 use Rattle.std.proofs.lemmas.Option.{slice_get-get_or}
 use Rattle.ae_netlist.specs.declared.cell.NetId.{NetId}
@@ -25,7 +25,7 @@ use Rattle.ae_lower.proofs.Wired.{IsPartIn, first_in, pair_keeps, pair_nets, par
 
 -- the nets of argument k
 abbrev bundle_at : List (List NetId) → ℕ → List NetId
-bundle_at args k = slice_index_or args k []
+bundle_at args k = get_or args k []
 
 pub arguments_long : (cells : List SizedCell) (s : StFuncTree) (n : StNodeTree) (args : List (List NetId)) → IsReady cells s n args → length args ≡ length n.args
 arguments_long cells s n args h = h.bundles.long ∙ (length-map (arguments_of s n) stream_of ∙ length-map n.args (item_layout (item_layouts s)))
@@ -34,7 +34,7 @@ pub argument_nets : (cells : List SizedCell) (s : StFuncTree) (n : StNodeTree) (
     → AreNets cells (stream_widths (stream_of (argument_at s n k))) (bundle_at args k)
 argument_nets cells s n args k h low =
     h.bundles.each k (stream_of (argument_at s n k)) (bundle_at args k)
-    (get_mapped stream_of (arguments_of s n) k (argument_at s n k) (get_mapped (item_layout (item_layouts s)) n.args k (slice_index n.args k) (slice_get-get_or n.args k 0 low)))
+    (get_mapped stream_of (arguments_of s n) k (argument_at s n k) (get_mapped (item_layout (item_layouts s)) n.args k (get_or n.args k 0) (slice_get-get_or n.args k 0 low)))
     (slice_get-get_or args k [] (omega (arith, low, arguments_long cells s n args h)))
 
 pub argument_columns : (cells : List SizedCell) (s : StFuncTree) (n : StNodeTree) (args : List (List NetId)) (k : ℕ) → IsReady cells s n args → k < length n.args
@@ -56,13 +56,13 @@ two_bundles (x ∷ y ∷ z ∷ xs) h = absurd (let more : length (x ∷ y ∷ z 
 wire_built : (known : List Callee) (s : StFuncTree) (n : StNodeTree) (items : List ℕ) (op : StOpTree) (new : Circuit) (rst at : ℕ) (args given : List (List NetId)) (y : List NetId) → n.op ≡ op → n.args ≡ items → args ≡ given
     → AreNets new.cells (stream_widths (stream_of n.type)) y
     → KeepsLaw new.cells rst at
-    (plain_part s.budget (op_costs [] (item_layout (item_layouts s) (slice_index items 0)) n.type n.copies op).latency (streams_of (map (item_layout (item_layouts s)) items)) (stream_of n.type)
+    (plain_part s.budget (op_costs [] (item_layout (item_layouts s) (get_or items 0 0)) n.type n.copies op).latency (streams_of (map (item_layout (item_layouts s)) items)) (stream_of n.type)
     (op_words known (map (item_layout (item_layouts s)) items) n.type op)) given y
     → IsBuilt new rst at (node_part known (plain_costs s n).latency s n) args y
 wire_built known s n items op new rst at args given y eo ea eg nets law =
     let P : StOpTree → List ℕ → List (List NetId) → Type 0 = λ o xs bundles.
     KeepsLaw new.cells rst at
-    (plain_part s.budget (op_costs [] (item_layout (item_layouts s) (slice_index xs 0)) n.type n.copies o).latency (streams_of (map (item_layout (item_layouts s)) xs)) (stream_of n.type)
+    (plain_part s.budget (op_costs [] (item_layout (item_layouts s) (get_or xs 0 0)) n.type n.copies o).latency (streams_of (map (item_layout (item_layouts s)) xs)) (stream_of n.type)
     (op_words known (map (item_layout (item_layouts s)) xs) n.type o)) bundles y in
     record { nets = nets; law = subst (λ o. P o n.args args) (sym eo) (subst (λ xs. P op xs args) (sym ea) (subst (λ bundles. P op items bundles) (sym eg) law)) }
 
@@ -70,12 +70,12 @@ wire_built known s n items op new rst at args given y eo ea eg nets law =
 
 -- a list of two
 pub record IsTwo (xs : List ℕ) : Type 0 where
-  pub is : xs ≡ slice_index xs 0 ∷ slice_index xs 1 ∷ []
+  pub is : xs ≡ get_or xs 0 0 ∷ get_or xs 1 0 ∷ []
 
 pub two_long : (xs : List ℕ) → IsTwo xs → length xs ≡ 2
 two_long xs h = ap length h.is
 
-join_fits : (before : List StFuncTree) (budget copies : ℕ) (f : ℕ → StTree) (xs : List ℕ) (s : StTree) → FitsOp before budget copies (map f xs) s join → IsTwo xs × FitsPair (f (slice_index xs 0)) (f (slice_index xs 1)) s
+join_fits : (before : List StFuncTree) (budget copies : ℕ) (f : ℕ → StTree) (xs : List ℕ) (s : StTree) → FitsOp before budget copies (map f xs) s join → IsTwo xs × FitsPair (f (get_or xs 0 0)) (f (get_or xs 1 0)) s
 join_fits before budget copies f [] s h = absurd h
 join_fits before budget copies f (x ∷ []) s h = absurd h
 join_fits before budget copies f (x ∷ y ∷ []) s h = (record { is = refl }, h)
@@ -98,7 +98,7 @@ join_built known s n new rst at args y h e are =
     let own : ArePairs (bundle_at args 0) (bundle_at args 1) (lanes n.type) (element_words a) (element_words b) y =
     subst (λ k. ArePairs (bundle_at args 0) (bundle_at args 1) (lanes n.type) k (element_words b) y) ea
     (subst (λ l. ArePairs (bundle_at args 0) (bundle_at args 1) (lanes n.type) (element_words (item_layout (arguments_of s n) 0)) l y) eb are) in
-    wire_built known s n (slice_index n.args 0 ∷ slice_index n.args 1 ∷ []) join new rst at args (bundle_at args 0 ∷ bundle_at args 1 ∷ []) y e two.0.is (two_bundles args (arguments_long new.cells s n args h ∙ long))
+    wire_built known s n (get_or n.args 0 0 ∷ get_or n.args 1 0 ∷ []) join new rst at args (bundle_at args 0 ∷ bundle_at args 1 ∷ []) y e two.0.is (two_bundles args (arguments_long new.cells s n args h ∙ long))
     (pair_nets new.cells a b n.type (bundle_at args 0) (bundle_at args 1) y two.1 (argument_nets new.cells s n args 0 h (omega (arith, long))) (argument_nets new.cells s n args 1 h (omega (arith, long))) own)
     (pair_keeps new.cells rst at s.budget a b n.type (bundle_at args 0) (bundle_at args 1) y h.layout.size two.1 own)
 
@@ -108,7 +108,7 @@ join_built known s n new rst at args y h e are =
 abbrev pub part_from : Bool → (a s : StTree) → ℕ
 part_from b a s = cond b 0 (element_words a - element_words s)
 
-part_fits : (before : List StFuncTree) (budget copies : ℕ) (f : ℕ → StTree) (xs : List ℕ) (s : StTree) (b : Bool) → FitsOp before budget copies (map f xs) s (cond b first second) → IsOnly xs × IsPartIn s (f (slice_index xs 0)) (part_from b (f (slice_index xs 0)) s)
+part_fits : (before : List StFuncTree) (budget copies : ℕ) (f : ℕ → StTree) (xs : List ℕ) (s : StTree) (b : Bool) → FitsOp before budget copies (map f xs) s (cond b first second) → IsOnly xs × IsPartIn s (f (get_or xs 0 0)) (part_from b (f (get_or xs 0 0)) s)
 part_fits before budget copies f [] s true h = absurd h
 part_fits before budget copies f [] s false h = absurd h
 part_fits before budget copies f (x ∷ []) s true h = (record { is = refl }, first_in s (f x) h)
@@ -143,6 +143,6 @@ part_built known s n new rst at args b y h e are =
     let eg : args ≡ bundle_at args 0 ∷ [] = one_bundle args (arguments_long new.cells s n args h ∙ long) in
     let own : AreParts (bundle_at args 0) (lanes n.type) (element_words a) (part_from b a n.type) (element_words n.type) y =
     subst (λ x. AreParts (bundle_at args 0) (lanes n.type) (element_words x) (part_from b x n.type) (element_words n.type) y) ea are in
-    wire_built known s n (slice_index n.args 0 ∷ []) (cond b first second) new rst at args (bundle_at args 0 ∷ []) y e one.0.is eg
+    wire_built known s n (get_or n.args 0 0 ∷ []) (cond b first second) new rst at args (bundle_at args 0 ∷ []) y e one.0.is eg
     (part_nets new.cells n.type a (part_from b a n.type) (bundle_at args 0) y one.1 (argument_nets new.cells s n args 0 h low) own)
-    (part_law known s n (slice_index n.args 0) new rst at b (bundle_at args 0) y (subst (λ bundles. IsReady new.cells s n bundles) eg h) one.1 own)
+    (part_law known s n (get_or n.args 0 0) new rst at b (bundle_at args 0) y (subst (λ bundles. IsReady new.cells s n bundles) eg h) one.1 own)

@@ -1,5 +1,5 @@
 -- What it is that an instance was lowered.
-use Rattle.std.specs.Prelude.{◌≡◌, ℕ, ◌+◌, ◌*◌, ◌/◌, ◌≤◌, List, length, map, take, drop, Option, Some, None, slice_get, slice_index}
+use Rattle.std.specs.Prelude.{◌≡◌, ℕ, ◌+◌, ◌*◌, ◌/◌, ◌≤◌, List, length, map, take, drop, Option, Some, None, slice_get, get_or}
 use Rattle.ae_netlist.specs.declared.cell.NetId.{NetId}
 use Rattle.ae_netlist.specs.declared.cell.SizedCell.{SizedCell}
 use Rattle.ae_ops.specs.Waves.{AreNets}
@@ -31,7 +31,7 @@ pub record AreStanding (cells : List SizedCell) (s : StFuncTree) (count : ℕ) (
 -- so many items, each at its arrival
 pub record AreItems (cells : List SizedCell) (rst at : ℕ) (known : List Callee) (s : StFuncTree) (arrivals : List ℕ) (ins : List (List NetId)) (count : ℕ) (items : List (List NetId)) : Type 0 where
   pub long : length items ≡ count
-  pub each : (i : ℕ) (nets : List NetId) → slice_get items i ≡ Some nets → IsItem cells rst at known s ins (slice_index arrivals i) i nets
+  pub each : (i : ℕ) (nets : List NetId) → slice_get items i ≡ Some nets → IsItem cells rst at known s ins (get_or arrivals i 0) i nets
 
 -- bundles for some items, all so late
 pub record AreChosen (cells : List SizedCell) (rst at : ℕ) (known : List Callee) (s : StFuncTree) (ins : List (List NetId)) (latency : ℕ) (chosen : List ℕ) (bundles : List (List NetId)) : Type 0 where

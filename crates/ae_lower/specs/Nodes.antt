@@ -1,5 +1,5 @@
 -- A node as a part of a circuit.
-use Rattle.std.specs.Prelude.{◌≡◌, ℕ, ◌*◌, ◌<◌, ◌≤◌, List, [], length, map, Some, slice_get, slice_index, slice_index_or}
+use Rattle.std.specs.Prelude.{◌≡◌, ℕ, ◌*◌, ◌<◌, ◌≤◌, List, [], length, map, Some, slice_get, get_or}
 use Rattle.ae_sttype.specs.StTree.{StTree, lanes, element_words}
 use Rattle.ae_netlist.specs.declared.cell.NetId.{NetId}
 use Rattle.ae_netlist.specs.declared.cell.SizedCell.{SizedCell}
@@ -55,11 +55,11 @@ argument_words s n k = element_words (item_layout (arguments_of s n) k)
 
 -- on each lane, the nets of an element of the first argument and then those of the second
 abbrev pub PairsArguments : StFuncTree → StNodeTree → (args : List (List NetId)) → (out : List NetId) → Type 0
-PairsArguments s n args out = ArePairs (slice_index_or args 0 []) (slice_index_or args 1 []) (lanes n.type) (argument_words s n 0) (argument_words s n 1) out
+PairsArguments s n args out = ArePairs (get_or args 0 []) (get_or args 1 []) (lanes n.type) (argument_words s n 0) (argument_words s n 1) out
 
 -- on each lane, the nets of some words of an element of the argument, from one on
 abbrev pub TakesWords : StFuncTree → StNodeTree → (from : ℕ) → (args : List (List NetId)) → (out : List NetId) → Type 0
-TakesWords s n from args out = AreParts (slice_index_or args 0 []) (lanes n.type) (argument_words s n 0) from (element_words n.type) out
+TakesWords s n from args out = AreParts (get_or args 0 []) (lanes n.type) (argument_words s n 0) from (element_words n.type) out
 
 -- a fold, and a move of its result
 abbrev pub moved_fold : FoldShape → Layouts → Part
@@ -77,4 +77,4 @@ pub record IsOpPart (known : List Callee) (budget copies : ℕ) (args : List StT
   pub memories : p.most_memories ≤ (op_costs [] arg s copies op).mems
 
 abbrev pub IsNodePart : (known : List Callee) → StFuncTree → StNodeTree → Part → Type 0
-IsNodePart known s n p = IsOpPart known s.budget n.copies (arguments_of s n) (item_layout (item_layouts s) (slice_index n.args 0)) n.type n.op p
+IsNodePart known s n p = IsOpPart known s.budget n.copies (arguments_of s n) (item_layout (item_layouts s) (get_or n.args 0 0)) n.type n.op p

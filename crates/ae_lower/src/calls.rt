@@ -1,6 +1,6 @@
 // Instances: each call is lowered where it stands.
 
-ghost use Rattle.std.specs.Prelude.{◌≡◌, ◌≢◌, ◌≤◌, ◌<◌, ◌+◌, ◌*◌, ◌++◌, ◌∷◌, [], ℕ, List, length, map, take, IfOk, OnOk, Some, Err, slice_get, slice_index};
+ghost use Rattle.std.specs.Prelude.{◌≡◌, ◌≢◌, ◌≤◌, ◌<◌, ◌+◌, ◌*◌, ◌++◌, ◌∷◌, [], ℕ, List, length, map, take, IfOk, OnOk, Some, Err, slice_get, get_or};
 ghost use Rattle.std.specs.Option.{option_and_then};
 ghost use Rattle.ae_netlist.specs.declared.cell.NetId.{NetId as Net};
 ghost use Rattle.ae_clocked.specs.Signals.{IsFullAt};
@@ -276,7 +276,7 @@ fn lower_node(
     ensures full { IsFullAt result nl.new }
     ensures item { IfOk result (λ y. (s : Tree) (ins : List (List Net)) → slice_get (st_func_trees p.now) k ≡ Some s
         → AreItems nl.old.cells clocks.old.rst at (callees (take k (st_func_trees p.now))) s (arrivals_in (st_func_trees p.now) k s) ins (length s.ins + j) items.now
-        → IsItem nl.new.cells clocks.old.rst at (callees (take k (st_func_trees p.now))) s ins (slice_index (arrivals_in (st_func_trees p.now) k s) (length s.ins + j)) (length s.ins + j) y) }
+        → IsItem nl.new.cells clocks.old.rst at (callees (take k (st_func_trees p.now))) s ins (get_or (arrivals_in (st_func_trees p.now) k s) (length s.ins + j) 0) (length s.ins + j) y) }
 {
     flows_fit();
     let s = instance(p, k);

@@ -1,6 +1,6 @@
 // The arguments of a node, and the results of an instance, all as late as the latest.
 
-ghost use Rattle.std.specs.Prelude.{◌≡◌, ◌≢◌, ◌≤◌, ◌<◌, ◌+◌, ◌*◌, ◌++◌, ◌∷◌, [], ℕ, List, length, map, sum_by, IfOk, OnOk, Err, Some, slice_get, slice_index, slice_index_or};
+ghost use Rattle.std.specs.Prelude.{◌≡◌, ◌≢◌, ◌≤◌, ◌<◌, ◌+◌, ◌*◌, ◌++◌, ◌∷◌, [], ℕ, List, length, map, sum_by, IfOk, OnOk, Err, Some, slice_get, get_or};
 ghost use Rattle.std.specs.List.{range_with_len};
 ghost use Rattle.ae_sttype.specs.StTree.{st_tree};
 ghost use Rattle.ae_sttype.specs.Size.{IsInSize};
@@ -70,7 +70,7 @@ fn with_each(most: u32, columns: u32, each: u32) -> u32
 pub fn waiting_memories(s: &StFunc, chains: &[u32]) -> u32
     requires long { length chains.now ≡ length (item_layouts (st_func_tree s.now)) }
     requires sizes { (i : ℕ) → i < length chains.now → IsInSize (item_layout (item_layouts (st_func_tree s.now)) i) }
-    ensures { result ≤ sum_by (λ i. columns_of (item_layout (item_layouts (st_func_tree s.now)) i) * rings (slice_index chains.now i)) (range_with_len 0 (length chains.now)) }
+    ensures { result ≤ sum_by (λ i. columns_of (item_layout (item_layouts (st_func_tree s.now)) i) * rings (get_or chains.now i 0)) (range_with_len 0 (length chains.now)) }
 {
     let mut most = 0u32;
     for i in 0..chains.len() {

@@ -1,6 +1,5 @@
 -- An operator on words keeps the law of blocks.
 use Rattle.std.proofs.Common.{ℕ, zero, suc, ◌≡◌, ◌+◌, ◌-◌, ◌*◌, ◌<◌, ◌≤◌, ◌^◌, List, ◌∷◌, [], length, map, Some, slice_get, get_or, Result, Ok, Err, IfOk, OnOk, arith, refl, sym, ap, ◌∙◌, subst}
-use Rattle.std.specs.Prelude.{slice_index}
 use Rattle.std.proofs.Math.Nat.{add-mul}
 use Rattle.std.proofs.lemmas.List.{length-map}
 use Rattle.std.proofs.lemmas.Option.{slice_get_within, slice_get-get_or}
@@ -24,15 +23,15 @@ use Rattle.ae_ops.specs.Words.{IsResultLater, first_net, operand_widths, operand
 
 -- ---- one word
 
-one_slot : (wave : ℕ → ℕ → ℕ) (k : ℕ) (ws : List ℕ) → wave k 0 ≡ slice_index ws 0 → Holds wave k 1 ((record { clock = 0; lane = 0 }) ∷ []) ws
+one_slot : (wave : ℕ → ℕ → ℕ) (k : ℕ) (ws : List ℕ) → wave k 0 ≡ get_or ws 0 0 → Holds wave k 1 ((record { clock = 0; lane = 0 }) ∷ []) ws
 one_slot wave k ws h zero zero slot found small =
     let s : record { clock = 0; lane = 0 } ≡ slot = cc in
     let t : k + 0 ≡ k = omega arith in
-    subst (λ (i : Slot). wave (k + i.clock) (i.lane * 1 + 0) ≡ slice_index ws (0 * 1 + 0)) s (rw t h)
+    subst (λ (i : Slot). wave (k + i.clock) (i.lane * 1 + 0) ≡ get_or ws (0 * 1 + 0) 0) s (rw t h)
 one_slot wave k ws h zero (suc j) slot found small = absurd (omega arith)
 one_slot wave k ws h (suc e) j slot found small = cc
 
-slot_held : (wave : ℕ → ℕ → ℕ) (k : ℕ) (ws : List ℕ) → Holds wave k 1 ((record { clock = 0; lane = 0 }) ∷ []) ws → wave k 0 ≡ slice_index ws 0
+slot_held : (wave : ℕ → ℕ → ℕ) (k : ℕ) (ws : List ℕ) → Holds wave k 1 ((record { clock = 0; lane = 0 }) ∷ []) ws → wave k 0 ≡ get_or ws 0 0
 slot_held wave k ws h = let t : k + 0 ≡ k = omega arith in rw t at (h 0 0 (record { clock = 0; lane = 0 }) refl (omega arith))
 
 -- ---- values and nets, operand by operand

@@ -1,5 +1,5 @@
 -- The stage of one operator on words, which stand in the first clock of each period.
-use Rattle.std.specs.Prelude.{◌≡◌, ◌<◌, length, ℕ, ◌+◌, ◌*◌, nat_lt, if◌then◌else◌, List, [], ◌∷◌, map, replicate, get_or, slice_index, slice_index_or}
+use Rattle.std.specs.Prelude.{◌≡◌, ◌<◌, length, ℕ, ◌+◌, ◌*◌, nat_lt, if◌then◌else◌, List, [], ◌∷◌, map, replicate, get_or}
 use Rattle.ae_word.specs.declared.op.WordOp.{WordOp}
 use Rattle.ae_word.specs.declared.op.WordOp.TheVariants.{Mux}
 use Rattle.ae_word.specs.WordTable.{arity_of, latency_of, result_width_of, word_result}
@@ -20,7 +20,7 @@ operand_widths op w = replicate (arity_of op) w
 
 -- the one word of value k
 abbrev pub word_of : List (List ℕ) → ℕ → ℕ
-word_of vs k = slice_index (slice_index_or vs k []) 0
+word_of vs k = get_or (get_or vs k []) 0 0
 
 -- what contracts see of a word stage
 pub record Operation : Type 0 where

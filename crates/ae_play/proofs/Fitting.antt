@@ -1,5 +1,5 @@
 -- The rows of blocks whose words fit are inputs of a circuit that has their columns.
-use Rattle.std.proofs.Common.{ℕ, zero, suc, ◌≡◌, ◌+◌, ◌*◌, ◌/◌, ◌%◌, ◌^◌, ◌<◌, ◌≤◌, ◌⊎◌, inl, inr, List, [], ◌∷◌, length, length-append, false, map, drop, take, get_or, Option, Some, None, slice_get, slice_index, flat_map, arith, refl, ap, sym, ◌∙◌, subst}
+use Rattle.std.proofs.Common.{ℕ, zero, suc, ◌≡◌, ◌+◌, ◌*◌, ◌/◌, ◌%◌, ◌^◌, ◌<◌, ◌≤◌, ◌⊎◌, inl, inr, List, [], ◌∷◌, length, length-append, false, map, drop, take, get_or, Option, Some, None, slice_get, flat_map, arith, refl, ap, sym, ◌∙◌, subst}
 use Rattle.std.specs.List.{range_with_len}
 use Rattle.std.proofs.Math.Nat.{mod-lt, zero-mul}
 use Rattle.std.proofs.lemmas.Nat.{pow_pos}
@@ -42,7 +42,7 @@ piece_fits (suc n) (suc e) ks ws below h =
     let sum : suc e * length ks ≡ length ks + e * length ks = omega arith in
     rw (sum, ← drop-drop (e * length ks) (length ks) ws) (piece_fits n e ks (drop (length ks) ws) (omega arith) ((FitKinds-split ks (repeated n ks) ws h).1))
 
-word_fits : (n e j : ℕ) (k : WordKind) (ks : List WordKind) (ws : List ℕ) → e < n → slice_get ks j ≡ Some k → FitKinds ws (repeated n ks) → slice_index ws (e * length ks + j) < 2 ^ k.width
+word_fits : (n e j : ℕ) (k : WordKind) (ks : List WordKind) (ws : List ℕ) → e < n → slice_get ks j ≡ Some k → FitKinds ws (repeated n ks) → get_or ws (e * length ks + j) 0 < 2 ^ k.width
 word_fits n e j k ks ws below at h =
     let within : j < length ks = slice_get_within ks j k at in
     let same : get_or (take (length ks) (drop (e * length ks) ws)) j 0 ≡ get_or ws (e * length ks + j) 0 = get_or-take (length ks) (drop (e * length ks) ws) j 0 within ∙ get_or-drop (e * length ks) ws j 0 in
@@ -54,19 +54,19 @@ again_fits f ks each a (suc n) = rw (flat_map-cons f a (range_with_len (a + 1) n
 
 -- ---- rows
 
-stood_fits : (fill width words : ℕ) (value : List ℕ) (j : ℕ) (o : Option ℕ) → ((e : ℕ) → o ≡ Some e → slice_index value (e * words + j) < 2 ^ width) → stood_word fill width words value j o < 2 ^ width
+stood_fits : (fill width words : ℕ) (value : List ℕ) (j : ℕ) (o : Option ℕ) → ((e : ℕ) → o ≡ Some e → get_or value (e * words + j) 0 < 2 ^ width) → stood_word fill width words value j o < 2 ^ width
 stood_fits fill width words value j None h = mod-lt fill (pow_pos width)
 stood_fits fill width words value j (Some e) h = h e refl
 
-lane_fits : (fill words : ℕ) (value : List ℕ) (o : Option ℕ) (j : ℕ) (ks : List WordKind) → ((e i : ℕ) (k : WordKind) → o ≡ Some e → slice_get ks i ≡ Some k → slice_index value (e * words + (j + i)) < 2 ^ k.width)
+lane_fits : (fill words : ℕ) (value : List ℕ) (o : Option ℕ) (j : ℕ) (ks : List WordKind) → ((e i : ℕ) (k : WordKind) → o ≡ Some e → slice_get ks i ≡ Some k → get_or value (e * words + (j + i)) 0 < 2 ^ k.width)
     → FitKinds (lane_words fill words value o j ks) ks
 lane_fits fill words value o j [] h = tt
 lane_fits fill words value o j (k ∷ ks) h =
     let first : j + 0 ≡ j = omega arith in (
-      stood_fits fill k.width words value j o (λ e is. subst (λ n. slice_index value (e * words + n) < 2 ^ k.width) first (h e 0 k is refl)),
+      stood_fits fill k.width words value j o (λ e is. subst (λ n. get_or value (e * words + n) 0 < 2 ^ k.width) first (h e 0 k is refl)),
       lane_fits fill words value o (j + 1) ks (λ e i l is at.
           let next : j + suc i ≡ (j + 1) + i = omega arith in
-          subst (λ n. slice_index value (e * words + n) < 2 ^ l.width) next (h e (suc i) l is at)),
+          subst (λ n. get_or value (e * words + n) 0 < 2 ^ l.width) next (h e (suc i) l is at)),
     )
 
 layout_fits : (fill : ℕ) (s : StTree) (value : List ℕ) (c : ℕ) → FitKinds value (value_kinds s) → FitKinds (layout_row fill s value (Some c)) (lane_kinds s)
@@ -76,8 +76,8 @@ layout_fits fill s value c h =
     (λ l. lane_fits fill (element_words s) value (standing s (Some c) l) 0 ks
     (λ e i k is at.
     let first : 0 + i ≡ i = omega arith in
-    let word : slice_index value (e * length ks + i) < 2 ^ k.width = word_fits (st_atoms s) e i k ks value (element_below s c l e is) at h in
-    subst (λ n. slice_index value (e * n + (0 + i)) < 2 ^ k.width) (length-atom_kinds (element_atom s)) (subst (λ n. slice_index value (e * length ks + n) < 2 ^ k.width) (sym first) word)))
+    let word : get_or value (e * length ks + i) 0 < 2 ^ k.width = word_fits (st_atoms s) e i k ks value (element_below s c l e is) at h in
+    subst (λ n. get_or value (e * n + (0 + i)) 0 < 2 ^ k.width) (length-atom_kinds (element_atom s)) (subst (λ n. get_or value (e * length ks + n) 0 < 2 ^ k.width) (sym first) word)))
     0 (lanes s)
 
 blank_fits : (fill : ℕ) (s : StTree) → FitKinds (layout_row fill s [] None) (lane_kinds s)

@@ -1,5 +1,5 @@
 -- The columns of layouts, and words of lists that are joined.
-use Rattle.std.proofs.Common.{ℕ, zero, suc, ◌≡◌, ◌+◌, ◌*◌, ◌<◌, List, [], ◌∷◌, ◌++◌, length, map, take, slice_index, flat_map, arith, refl, ap, sym, ◌∙◌}
+use Rattle.std.proofs.Common.{ℕ, zero, suc, ◌≡◌, ◌+◌, ◌*◌, ◌<◌, List, [], ◌∷◌, ◌++◌, length, map, take, get_or, flat_map, arith, refl, ap, sym, ◌∙◌}
 use Rattle.std.specs.List.{range_with_len}
 use Rattle.std.proofs.lemmas.List.{get_or-append-add, get_or_append_left, length-map}
 use Rattle.std.proofs.lemmas.List.Sums.{sum_by-cons}
@@ -36,17 +36,17 @@ first_columns (s ∷ ss) (suc q) =
     )
 
 -- word r of the e-th of lists of m words each, one after the other from number k on
-pub joined_word : (f : ℕ → List ℕ) (m k n e r : ℕ) → ((i : ℕ) → i < k + n → length (f i) ≡ m) → e < n → r < m → slice_index (flat_map f (range_with_len k n)) (e * m + r) ≡ slice_index (f (k + e)) r
+pub joined_word : (f : ℕ → List ℕ) (m k n e r : ℕ) → ((i : ℕ) → i < k + n → length (f i) ≡ m) → e < n → r < m → get_or (flat_map f (range_with_len k n)) (e * m + r) 0 ≡ get_or (f (k + e)) r 0
 joined_word f m k zero e r long h p = absurd (omega arith)
 joined_word f m k (suc n) zero r long h p =
     let here : length (f k) ≡ m = long k (omega arith) in
     let z : zero * m + r ≡ r = omega arith in
     let s : k + zero ≡ k = omega arith in
-    ap (slice_index (f k ++ flat_map f (range_with_len (k + 1) n))) z ∙ (get_or_append_left (f k) (flat_map f (range_with_len (k + 1) n)) 0 r (omega arith) ∙ ap (λ i. slice_index (f i) r) (sym s))
+    ap (λ i. get_or (f k ++ flat_map f (range_with_len (k + 1) n)) i 0) z ∙ (get_or_append_left (f k) (flat_map f (range_with_len (k + 1) n)) 0 r (omega arith) ∙ ap (λ i. get_or (f i) r 0) (sym s))
 joined_word f m k (suc n) (suc e) r long h p =
     let here : length (f k) ≡ m = long k (omega arith) in
     let place : suc e * m + r ≡ length (f k) + (e * m + r) = omega arith in
     let s : k + 1 + e ≡ k + suc e = omega arith in
-    ap (slice_index (f k ++ flat_map f (range_with_len (k + 1) n))) place
+    ap (λ i. get_or (f k ++ flat_map f (range_with_len (k + 1) n)) i 0) place
     ∙ (get_or-append-add (f k) (flat_map f (range_with_len (k + 1) n)) (e * m + r) 0
-    ∙ (joined_word f m (k + 1) n e r (λ i l. long i (omega arith)) (omega arith) p ∙ ap (λ i. slice_index (f i) r) s))
+    ∙ (joined_word f m (k + 1) n e r (λ i l. long i (omega arith)) (omega arith) p ∙ ap (λ i. get_or (f i) r 0) s))

@@ -1,5 +1,5 @@
 -- How long before it is used each item of a program arrives.
-use Rattle.std.specs.Prelude.{◌≡◌, ℕ, ◌-◌, ◌<◌, List, ◌++◌, map, length, take, Some, slice_get, slice_index}
+use Rattle.std.specs.Prelude.{◌≡◌, ℕ, ◌-◌, ◌<◌, List, ◌++◌, map, length, take, Some, slice_get, get_or}
 use Rattle.std.specs.List.{range_with_len, flat_map}
 use Rattle.ae_rewrite.specs.StProgramTree.{StNodeTree, StFuncTree}
 use Rattle.ae_rewrite.specs.Sound.{item_layouts}
@@ -21,7 +21,7 @@ joint_uses arrivals items = uses_at arrivals (latest arrivals items) items
 
 -- by how many clocks each of them arrives before the latest
 abbrev pub joint_slacks : (arrivals items : List ℕ) → List ℕ
-joint_slacks arrivals items = map (λ a. latest arrivals items - slice_index arrivals a) items
+joint_slacks arrivals items = map (λ a. latest arrivals items - get_or arrivals a 0) items
 
 -- of each node's arguments
 abbrev pub argument_slacks : (arrivals : List ℕ) → StFuncTree → List (List ℕ)

@@ -1,5 +1,5 @@
 -- Items of a function under a budget: their layouts, and what each node calls.
-use Rattle.std.specs.Prelude.{ℕ, ◌-◌, ◌*◌, ◌/◌, Bool, false, nat_eq, if◌then◌else◌, List, Option, Some, None, option_map, slice_index_or}
+use Rattle.std.specs.Prelude.{ℕ, ◌-◌, ◌*◌, ◌/◌, Bool, false, nat_eq, if◌then◌else◌, List, Option, Some, None, option_map, get_or}
 use Rattle.ae_word.specs.declared.op.WordOp.{WordOp}
 use Rattle.ae_word.specs.declared.op.WordOp.TheVariants.{Cast, Mux}
 use Rattle.ae_word.specs.AtomTree.{word as atom_word}
@@ -40,7 +40,7 @@ inner clocks s = inner_of s.count clocks s.case
 
 -- the first item that a node takes
 abbrev pub head : List ℕ → ℕ
-head args = slice_index_or args 0 0
+head args = get_or args 0 0
 
 -- ---- calls
 
@@ -66,7 +66,7 @@ is_signed_type _ = false
 
 -- an operator goes by the kind of this argument: a choice by its arms
 abbrev pub deciding_argument : WordOp → List ℕ → ℕ
-deciding_argument Mux args = slice_index_or args 1 0
+deciding_argument Mux args = get_or args 1 0
 deciding_argument _ args = head args
 
 -- the operator by the kind of its deciding_argument

@@ -1,5 +1,5 @@
 -- What a program computes, on values as nested lists.
-use Rattle.std.specs.Prelude.{◌≡◌, ℕ, zero, suc, ◌+◌, ◌-◌, ◌*◌, Bool, true, false, List, [], ◌∷◌, ◌++◌, length, take, drop, map, slice_index_or}
+use Rattle.std.specs.Prelude.{◌≡◌, ℕ, zero, suc, ◌+◌, ◌-◌, ◌*◌, Bool, true, false, List, [], ◌∷◌, ◌++◌, length, take, drop, map, get_or}
 use Rattle.ae_word.specs.declared.op.WordOp.{WordOp}
 use Rattle.ae_word.specs.declared.op.WordOp.TheVariants.{Add, Sub, Mul, And, Or, Xor, Not, Min, Max, Eq, Lt, Mux, Shl, Shr, Cast, SLt, SMin, SMax, Sar, SCast}
 use Rattle.ae_word.specs.AtomTree.{WordKind}
@@ -17,11 +17,11 @@ abbrev pub no_function : Meaning
 no_function vs = []
 
 abbrev pub at : List ValueTree → ℕ → ValueTree
-at vs k = slice_index_or vs k end
+at vs k = get_or vs k end
 
 -- the first result of function number k
 abbrev pub applied : List Meaning → ℕ → List ValueTree → ValueTree
-applied known k vs = at (slice_index_or known k no_function vs) 0
+applied known k vs = at (get_or known k no_function vs) 0
 
 -- ---- words
 
@@ -149,7 +149,7 @@ meanings fs = grown meaning [] fs
 
 -- the results of function number f on these arguments
 abbrev pub mean_of : ProgramTree → (func : ℕ) → List ValueTree → List ValueTree
-mean_of p f vs = slice_index_or (meanings p.funcs) f no_function vs
+mean_of p f vs = get_or (meanings p.funcs) f no_function vs
 
 -- the results of the program function
 abbrev pub mean : ProgramTree → List ValueTree → List ValueTree

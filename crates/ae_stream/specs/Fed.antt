@@ -1,5 +1,5 @@
 -- Clocks that show the words of a block.
-use Rattle.std.specs.Prelude.{◌≡◌, ℕ, ◌+◌, ◌*◌, ◌<◌, List, Some, slice_get, slice_index, get_or}
+use Rattle.std.specs.Prelude.{◌≡◌, ℕ, ◌+◌, ◌*◌, ◌<◌, List, Some, slice_get, get_or}
 use Rattle.ae_seqtype.specs.ValueTree.{ValueTree, flat}
 use Rattle.ae_seq.specs.ProgramTree.{ProgramTree}
 use Rattle.ae_seq.specs.Meaning.{at}
@@ -21,7 +21,7 @@ pub record ShowsClock (cells : List SizedCell) (inputs : List StTree) (block : L
   pub words : (q : ℕ) (s : StTree) (e j : ℕ) (w : Slot) → slice_get inputs q ≡ Some s → slice_get (slots s) e ≡ Some w
       → j < element_words s → w.clock ≡ c
       → get_or clock.words (1 + (first_column inputs q + (w.lane * element_words s + j))) 0
-      ≡ slice_index (flat (at block q)) (e * element_words s + j)
+      ≡ get_or (flat (at block q)) (e * element_words s + j) 0
 
 -- net n is an input
 pub record IsInput (cells : List SizedCell) (n : ℕ) : Type 0 where

@@ -1,5 +1,5 @@
 -- When the wires of a run hold a value.
-use Rattle.std.specs.Prelude.{◌≡◌, ℕ, ◌+◌, ◌*◌, ◌<◌, List, Some, slice_get, slice_index}
+use Rattle.std.specs.Prelude.{◌≡◌, ℕ, ◌+◌, ◌*◌, ◌<◌, List, Some, slice_get, get_or}
 use Rattle.ae_sttype.specs.declared.st_type.Slot.{Slot}
 use Rattle.ae_sttype.specs.StTree.{StTree}
 use Rattle.ae_sttype.specs.Slots.{slots}
@@ -7,7 +7,7 @@ use Rattle.ae_sttype.specs.Slots.{slots}
 -- a run gives a word for each clock and column: from clock k on, each slot has the words of its element, where an element has so many words
 abbrev pub Holds : (run : ℕ → ℕ → ℕ) (k words : ℕ) → List Slot → (value : List ℕ) → Type 0
 Holds run k words places value =
-    (e j : ℕ) (w : Slot) → slice_get places e ≡ Some w → j < words → run (k + w.clock) (w.lane * words + j) ≡ slice_index value (e * words + j)
+    (e j : ℕ) (w : Slot) → slice_get places e ≡ Some w → j < words → run (k + w.clock) (w.lane * words + j) ≡ get_or value (e * words + j) 0
 
 -- no element stands in the clock on the lane
 abbrev pub IsFree : StTree → (clock lane : ℕ) → Type 0

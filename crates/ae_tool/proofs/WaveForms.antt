@@ -1,5 +1,5 @@
 -- The wave of a module's run is one that can be written.
-use Rattle.std.proofs.Common.{ℕ, zero, suc, ◌≡◌, ◌+◌, ◌*◌, ◌^◌, ◌<◌, ◌≤◌, ◌==◌, ◌&&◌, ◌⊎◌, inl, inr, Bool, true, false, if◌then◌else◌, List, [], ◌∷◌, ◌++◌, length, length-append, map, flat_map, get_or, Some, slice_get, slice_index, bytes_eq, codes, arith, refl, ap, sym, ◌∙◌, subst}
+use Rattle.std.proofs.Common.{ℕ, zero, suc, ◌≡◌, ◌+◌, ◌*◌, ◌^◌, ◌<◌, ◌≤◌, ◌==◌, ◌&&◌, ◌⊎◌, inl, inr, Bool, true, false, if◌then◌else◌, List, [], ◌∷◌, ◌++◌, length, length-append, map, flat_map, get_or, Some, slice_get, bytes_eq, codes, arith, refl, ap, sym, ◌∙◌, subst}
 use Rattle.std.specs.Prelude.{All, IsTrue, not}
 use Rattle.std.specs.List.{list_all, range_with_len}
 use Rattle.std.specs.Fmt.{decimal}
@@ -221,7 +221,7 @@ module _ (lines : ℕ → ℕ) (n : Circuit) (outs : ℕ) (ok : IsWritableNetlis
             let x = entry-at vs k there in
             let z : 0 + i ≡ i = omega arith in
             let word : wave_word (run_wave own count words) i k ≡ (clock_at run (1 + i)).word x.0.name =
-            (λ j. get_or (is j) (i * many j + k) 0) ∙ joined_word row (length vs) 0 count i k (λ c h. row_long c) inside there ∙ ap (λ c. slice_index (row c) k) z ∙ ap (λ ws. slice_index ws k) (row_is i)
+            (λ j. get_or (is j) (i * many j + k) 0) ∙ joined_word row (length vs) 0 count i k (λ c h. row_long c) inside there ∙ ap (λ c. get_or (row c) k 0) z ∙ ap (λ ws. get_or ws k 0) (row_is i)
             ∙ get_or_from_slice_get (map (λ (y : NetTree). (clock_at run (1 + i)).word y.name) vs) k ((clock_at run (1 + i)).word x.0.name) 0 (mapped_at (λ (y : NetTree). (clock_at run (1 + i)).word y.name) vs k x.0 x.1) in
             let width : get_or (map (λ (y : NetTree). y.width) vs) k 0 ≡ x.0.width = get_or_from_slice_get (map (λ (y : NetTree). y.width) vs) k x.0.width 0 (mapped_at (λ (y : NetTree). y.width) vs k x.0 x.1) in
             let fits = word_fits (1 + i) x.0 (omega (arith, inside, long)) (among_from x.0 vs k x.1) in

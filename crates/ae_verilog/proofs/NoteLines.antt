@@ -1,13 +1,13 @@
 -- The line of each cell, found from the last note back.
 use Rattle.std.proofs.Common.{◌≡◌, ℕ, zero, suc, ◌+◌, ◌<◌, ◌≤◌, inl, inr, List, [], ◌∷◌, ◌++◌, length, map, take, drop, get_or, Bool, true, false, Option, Some, None, refl, sym, ap, ◌∙◌, arith}
-use Rattle.std.specs.Prelude.{reverse, find, min, nat_le, nat_lt, cond, slice_index}
+use Rattle.std.specs.Prelude.{reverse, find, min, nat_le, nat_lt, cond}
 use Rattle.std.specs.Option.{option_or}
 use Rattle.std.proofs.Math.Seq.{drop-cons, take-append_seam}
 use Rattle.std.proofs.lemmas.Bool.{cases_Bool, cond-true, cond-false, le-leb, leb-true, ltb-true, false_from_ne_true}
 use Rattle.std.proofs.lemmas.Bool.Decides.{nat_tests}
 use Rattle.std.proofs.lemmas.List.{reverse-append, drop_all}
 use Rattle.std.proofs.lemmas.List.Folds.{find-append}
-use Rattle.ae_verilog.specs.Notes.{NoteTree, line_in, line_of, lines_of}
+use Rattle.ae_verilog.specs.Notes.{NoteTree, line_in, line_of, lines_of, table_line}
 
 not_less : (a b : ℕ) → nat_lt a b ≡ false → b ≤ a
 not_less a b h = grind (arith, nat_tests)
@@ -76,10 +76,10 @@ module _ {X : Type 0} (g : X → NoteTree) (notes : List X) where
   ]
 
 -- the table of lines
-pub lines_are : (table : List ℕ) (notes : List NoteTree) (cells : ℕ) → length table ≡ cells → ((k : ℕ) → k < cells → get_or table k 0 ≡ line_of notes k) → slice_index table ≡ lines_of notes cells
+pub lines_are : (table : List ℕ) (notes : List NoteTree) (cells : ℕ) → length table ≡ cells → ((k : ℕ) → k < cells → get_or table k 0 ≡ line_of notes k) → table_line table ≡ lines_of notes cells
 lines_are table notes cells long told = λ i k. each k i
   where
-    each : (k : ℕ) → slice_index table k ≡ lines_of notes cells k
+    each : (k : ℕ) → get_or table k 0 ≡ lines_of notes cells k
     each k = elim (cases_Bool (nat_lt k cells)) [
       | inl inside ↦ told k (ltb-true k cells inside) ∙ sym (cond-true _ _ _ inside)
       | inr outside ↦ past table k (omega (arith, not_less k cells outside, long)) ∙ sym (cond-false _ _ _ outside)

@@ -1,5 +1,5 @@
 -- The comment lines within a module and the names of its nets, which tell where its cells come from.
-use Rattle.std.specs.Prelude.{◌≡◌, ℕ, Bool, ◌&&◌, nat_le, nat_lt, List, ◌++◌, reverse, find, length, Option, Some, None, slice_get, codes, decimal, IsTrue, string_bytes, if◌then◌else◌}
+use Rattle.std.specs.Prelude.{◌≡◌, ℕ, Bool, ◌&&◌, nat_le, nat_lt, List, ◌++◌, reverse, find, length, get_or, Option, Some, None, slice_get, codes, decimal, IsTrue, string_bytes, if◌then◌else◌}
 use Rattle.std.specs.List.{list_all}
 use Rattle.ae_sttype.specs.StTree.{StTree, st_tree}
 use Rattle.ae_sttype.specs.TypeText.{st_text}
@@ -36,6 +36,10 @@ line_of notes net = line_in (find (λ (n : NoteTree). nat_le n.cell net) (revers
 -- the same of each of so many cells; what is no cell has no line
 abbrev pub lines_of : List NoteTree → (cells : ℕ) → ℕ → ℕ
 lines_of notes cells net = if nat_lt net cells then line_of notes net else 0
+
+-- the line that a table has for a net: 0, which is no line, past its end
+abbrev pub table_line : List ℕ → ℕ → ℕ
+table_line table net = get_or table net 0
 
 -- the module of a netlist with such notes
 abbrev pub noted_module : List NoteTree → List SizedCell → List Outlet → (outs : ℕ) → ModuleTree

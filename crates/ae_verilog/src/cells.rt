@@ -1,11 +1,11 @@
 // Declarations: one line for each cell that is no input, in their order, and the notes between them.
 
-ghost use Rattle.std.specs.Prelude.{◌≡◌, ◌<◌, ◌^◌, ◌++◌, ◌&&◌, true, nat_lt, All, map, codes, slice_index, OnOk, string_bytes};
+ghost use Rattle.std.specs.Prelude.{◌≡◌, ◌<◌, ◌^◌, ◌++◌, ◌&&◌, true, nat_lt, All, map, codes, OnOk, string_bytes};
 ghost use Rattle.ae_vread.specs.ModuleTree.{index, constant};
 ghost use Rattle.ae_vread.specs.declared.module.BinOp.TheVariants.{Lt as Less};
 ghost use Rattle.ae_netlist.specs.Circuit.{width_of};
 ghost use Rattle.ae_verilog.specs.NetlistModule.{op_expression, net_value, net_name, cast_to, binary_nets};
-ghost use Rattle.ae_verilog.specs.Notes.{note_tree};
+ghost use Rattle.ae_verilog.specs.Notes.{note_tree, table_line};
 ghost use Rattle.ae_verilog.specs.Text.{between, noted, wire_text, value_text, widened_text, register_text, memory_text, op_text, declaration_text, expr_text, is_cast, arms_text, shift_text};
 
 use crate::header::width_at;
@@ -17,7 +17,7 @@ use std::alloc::AllocError;
 
 // The declarations of all cells, and each note before its cell.
 pub fn write_cells(out: &mut String, names: &Names<'_>, notes: &[Note]) -> Result<(), AllocError>
-    ensures text { OnOk result (string_bytes out.new ≡ string_bytes out.old ++ noted (λ net sized. declaration_text (slice_index names.now.lines.now) names.now.cells.now net sized.width sized.cell) names.now.cells.now 0 (map note_tree notes.now)) }
+    ensures text { OnOk result (string_bytes out.new ≡ string_bytes out.old ++ noted (λ net sized. declaration_text (table_line names.now.lines.now) names.now.cells.now net sized.width sized.cell) names.now.cells.now 0 (map note_tree notes.now)) }
     ensures fits { OnOk result (All (λ note. note.line < 2 ^ 32) notes.now) }
 {
     let mut from = 0usize;
@@ -37,7 +37,7 @@ fn write_between(
     from: usize,
     to: usize,
 ) -> Result<(), AllocError>
-    ensures { OnOk result (string_bytes out.new ≡ string_bytes out.old ++ between (λ net sized. declaration_text (slice_index names.now.lines.now) names.now.cells.now net sized.width sized.cell) names.now.cells.now from to) }
+    ensures { OnOk result (string_bytes out.new ≡ string_bytes out.old ++ between (λ net sized. declaration_text (table_line names.now.lines.now) names.now.cells.now net sized.width sized.cell) names.now.cells.now from to) }
 {
     let end = to.min(names.cells.len());
     for k in from..end {
@@ -53,7 +53,7 @@ fn write_cell(
     k: usize,
     sized: SizedCell,
 ) -> Result<(), AllocError>
-    ensures { OnOk result (string_bytes out.new ≡ string_bytes out.old ++ declaration_text (slice_index names.now.lines.now) names.now.cells.now k sized.width sized.cell) }
+    ensures { OnOk result (string_bytes out.new ≡ string_bytes out.old ++ declaration_text (table_line names.now.lines.now) names.now.cells.now k sized.width sized.cell) }
 {
     let width = sized.width;
     match sized.cell {
@@ -68,7 +68,7 @@ fn write_cell(
 
 // A wire, up to its value.
 fn write_wire(out: &mut String, lines: &[u32], k: usize, width: u32) -> Result<(), AllocError>
-    ensures { OnOk result (string_bytes out.new ≡ string_bytes out.old ++ wire_text (slice_index lines.now) width k) }
+    ensures { OnOk result (string_bytes out.new ≡ string_bytes out.old ++ wire_text (table_line lines.now) width k) }
 {
     write!(out, "  wire ")?;
     write_range(out, width)?;
@@ -83,14 +83,14 @@ fn write_constant(
     width: u32,
     value: u64,
 ) -> Result<(), AllocError>
-    ensures { OnOk result (string_bytes out.new ≡ string_bytes out.old ++ value_text (slice_index lines.now) width k (constant width value true)) }
+    ensures { OnOk result (string_bytes out.new ≡ string_bytes out.old ++ value_text (table_line lines.now) width k (constant width value true)) }
 {
     write_wire(out, lines, k, width)?;
     write!(out, "{width}'d{value};\n")
 }
 
 fn write_register(out: &mut String, lines: &[u32], k: usize, width: u32) -> Result<(), AllocError>
-    ensures { OnOk result (string_bytes out.new ≡ string_bytes out.old ++ register_text (slice_index lines.now) width k) }
+    ensures { OnOk result (string_bytes out.new ≡ string_bytes out.old ++ register_text (table_line lines.now) width k) }
 {
     write!(out, "  reg ")?;
     write_range(out, width)?;
@@ -105,7 +105,7 @@ fn write_memory(
     width: u32,
     depth: u32,
 ) -> Result<(), AllocError>
-    ensures { OnOk result (string_bytes out.new ≡ string_bytes out.old ++ memory_text (slice_index lines.now) width k depth) }
+    ensures { OnOk result (string_bytes out.new ≡ string_bytes out.old ++ memory_text (table_line lines.now) width k depth) }
 {
     let last = depth.saturating_sub(1);
     write!(out, "  reg ")?;
@@ -122,7 +122,7 @@ fn write_peek(
     mem: NetId,
     at: NetId,
 ) -> Result<(), AllocError>
-    ensures { OnOk result (string_bytes out.new ≡ string_bytes out.old ++ value_text (slice_index names.now.lines.now) width k (index (net_name (slice_index names.now.lines.now) names.now.cells.now mem.0) (net_value (slice_index names.now.lines.now) names.now.cells.now at.0))) }
+    ensures { OnOk result (string_bytes out.new ≡ string_bytes out.old ++ value_text (table_line names.now.lines.now) width k (index (net_name (table_line names.now.lines.now) names.now.cells.now mem.0) (net_value (table_line names.now.lines.now) names.now.cells.now at.0))) }
 {
     write_wire(out, names.lines, k, width)?;
     write_net(out, names, mem)?;
@@ -142,7 +142,7 @@ fn write_op(
     b: NetId,
     c: NetId,
 ) -> Result<(), AllocError>
-    ensures { OnOk result (string_bytes out.new ≡ string_bytes out.old ++ op_text (slice_index names.now.lines.now) names.now.cells.now width k op a.0 b.0 c.0) }
+    ensures { OnOk result (string_bytes out.new ≡ string_bytes out.old ++ op_text (table_line names.now.lines.now) names.now.cells.now width k op a.0 b.0 c.0) }
 {
     if widens(names.cells, width, op, a) {
         write!(out, "  // verilator lint_off WIDTH\n")?;
@@ -173,7 +173,7 @@ fn write_wire_of(
     b: NetId,
     c: NetId,
 ) -> Result<(), AllocError>
-    ensures { OnOk result (string_bytes out.new ≡ string_bytes out.old ++ value_text (slice_index names.now.lines.now) width k (op_expression (slice_index names.now.lines.now) names.now.cells.now width op a.0 b.0 c.0)) }
+    ensures { OnOk result (string_bytes out.new ≡ string_bytes out.old ++ value_text (table_line names.now.lines.now) width k (op_expression (table_line names.now.lines.now) names.now.cells.now width op a.0 b.0 c.0)) }
 {
     write_wire(out, names.lines, k, width)?;
     write_value(out, names, width, op, a, b, c)?;
@@ -190,7 +190,7 @@ fn write_value(
     b: NetId,
     c: NetId,
 ) -> Result<(), AllocError>
-    ensures { OnOk result (string_bytes out.new ≡ string_bytes out.old ++ expr_text (op_expression (slice_index names.now.lines.now) names.now.cells.now width op a.0 b.0 c.0)) }
+    ensures { OnOk result (string_bytes out.new ≡ string_bytes out.old ++ expr_text (op_expression (table_line names.now.lines.now) names.now.cells.now width op a.0 b.0 c.0)) }
 {
     match op {
         WordOp::Add => write_joined(out, names, a, "+", b),
@@ -223,7 +223,7 @@ fn write_joined(
     sign: &str,
     b: NetId,
 ) -> Result<(), AllocError>
-    ensures { OnOk result (string_bytes out.new ≡ string_bytes out.old ++ (net_name (slice_index names.now.lines.now) names.now.cells.now a.0 ++ (codes " " ++ (sign.now ++ (codes " " ++ net_name (slice_index names.now.lines.now) names.now.cells.now b.0))))) }
+    ensures { OnOk result (string_bytes out.new ≡ string_bytes out.old ++ (net_name (table_line names.now.lines.now) names.now.cells.now a.0 ++ (codes " " ++ (sign.now ++ (codes " " ++ net_name (table_line names.now.lines.now) names.now.cells.now b.0))))) }
 {
     write_net(out, names, a)?;
     write!(out, " {sign} ")?;
@@ -231,7 +231,7 @@ fn write_joined(
 }
 
 fn write_flipped(out: &mut String, names: &Names<'_>, a: NetId) -> Result<(), AllocError>
-    ensures { OnOk result (string_bytes out.new ≡ string_bytes out.old ++ (codes "~" ++ net_name (slice_index names.now.lines.now) names.now.cells.now a.0)) }
+    ensures { OnOk result (string_bytes out.new ≡ string_bytes out.old ++ (codes "~" ++ net_name (table_line names.now.lines.now) names.now.cells.now a.0)) }
 {
     write!(out, "~")?;
     write_net(out, names, a)
@@ -245,7 +245,7 @@ fn write_choice(
     a: NetId,
     b: NetId,
 ) -> Result<(), AllocError>
-    ensures { OnOk result (string_bytes out.new ≡ string_bytes out.old ++ (net_name (slice_index names.now.lines.now) names.now.cells.now test.0 ++ arms_text (net_name (slice_index names.now.lines.now) names.now.cells.now a.0) (net_name (slice_index names.now.lines.now) names.now.cells.now b.0))) }
+    ensures { OnOk result (string_bytes out.new ≡ string_bytes out.old ++ (net_name (table_line names.now.lines.now) names.now.cells.now test.0 ++ arms_text (net_name (table_line names.now.lines.now) names.now.cells.now a.0) (net_name (table_line names.now.lines.now) names.now.cells.now b.0))) }
 {
     write_net(out, names, test)?;
     write_arms(out, names, a, b)
@@ -260,7 +260,7 @@ fn write_less(
     a: NetId,
     b: NetId,
 ) -> Result<(), AllocError>
-    ensures { OnOk result (string_bytes out.new ≡ string_bytes out.old ++ (expr_text (binary_nets (slice_index names.now.lines.now) names.now.cells.now Less low.0 high.0) ++ arms_text (net_name (slice_index names.now.lines.now) names.now.cells.now a.0) (net_name (slice_index names.now.lines.now) names.now.cells.now b.0))) }
+    ensures { OnOk result (string_bytes out.new ≡ string_bytes out.old ++ (expr_text (binary_nets (table_line names.now.lines.now) names.now.cells.now Less low.0 high.0) ++ arms_text (net_name (table_line names.now.lines.now) names.now.cells.now a.0) (net_name (table_line names.now.lines.now) names.now.cells.now b.0))) }
 {
     write_joined(out, names, low, "<", high)?;
     write_arms(out, names, a, b)
@@ -268,7 +268,7 @@ fn write_less(
 
 // The arms of a choice behind its test.
 fn write_arms(out: &mut String, names: &Names<'_>, a: NetId, b: NetId) -> Result<(), AllocError>
-    ensures { OnOk result (string_bytes out.new ≡ string_bytes out.old ++ arms_text (net_name (slice_index names.now.lines.now) names.now.cells.now a.0) (net_name (slice_index names.now.lines.now) names.now.cells.now b.0)) }
+    ensures { OnOk result (string_bytes out.new ≡ string_bytes out.old ++ arms_text (net_name (table_line names.now.lines.now) names.now.cells.now a.0) (net_name (table_line names.now.lines.now) names.now.cells.now b.0)) }
 {
     write!(out, " ? ")?;
     write_net(out, names, a)?;
@@ -285,7 +285,7 @@ fn write_shift(
     sign: &str,
     by: u32,
 ) -> Result<(), AllocError>
-    ensures { OnOk result (string_bytes out.new ≡ string_bytes out.old ++ shift_text (net_name (slice_index names.now.lines.now) names.now.cells.now a.0) sign.now width by) }
+    ensures { OnOk result (string_bytes out.new ≡ string_bytes out.old ++ shift_text (net_name (table_line names.now.lines.now) names.now.cells.now a.0) sign.now width by) }
 {
     if by < width {
         write_net(out, names, a)?;
@@ -297,7 +297,7 @@ fn write_shift(
 
 // A word to as many bits or fewer.
 fn write_cast(out: &mut String, names: &Names<'_>, a: NetId, to: u32) -> Result<(), AllocError>
-    ensures { OnOk result (string_bytes out.new ≡ string_bytes out.old ++ expr_text (cast_to (slice_index names.now.lines.now) names.now.cells.now to a.0)) }
+    ensures { OnOk result (string_bytes out.new ≡ string_bytes out.old ++ expr_text (cast_to (table_line names.now.lines.now) names.now.cells.now to a.0)) }
 {
     if to < width_at(names.cells, a) {
         let high = to.saturating_sub(1);

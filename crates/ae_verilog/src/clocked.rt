@@ -1,9 +1,10 @@
 // What drives the outputs, and what happens at a clock edge.
 
-ghost use Rattle.std.specs.Prelude.{◌≡◌, ◌++◌, OnOk, slice_index, string_bytes};
+ghost use Rattle.std.specs.Prelude.{◌≡◌, ◌++◌, OnOk, string_bytes};
 ghost use Rattle.std.specs.List.{flat_map};
 ghost use Rattle.ae_verilog.specs.NetlistModule.{each_numbered, number_name, net_name};
 ghost use Rattle.ae_verilog.specs.Text.{assignment_text, edge_text, register_edge, memory_edge};
+ghost use Rattle.ae_verilog.specs.Notes.{table_line};
 
 use crate::names::{Names, write_net, write_number, write_port};
 use ae_netlist::{Cell, NetId, Outlet, SizedCell};
@@ -16,7 +17,7 @@ pub fn write_outlets(
     outlets: &[Outlet],
     outs: usize,
 ) -> Result<(), AllocError>
-    ensures { OnOk result (string_bytes out.new ≡ string_bytes out.old ++ flat_map (assignment_text (slice_index names.now.lines.now) names.now.cells.now outs) outlets.now) }
+    ensures { OnOk result (string_bytes out.new ≡ string_bytes out.old ++ flat_map (assignment_text (table_line names.now.lines.now) names.now.cells.now outs) outlets.now) }
 {
     for outlet in outlets {
         write_outlet(out, names, *outlet, outs)?;
@@ -30,7 +31,7 @@ fn write_outlet(
     outlet: Outlet,
     outs: usize,
 ) -> Result<(), AllocError>
-    ensures { OnOk result (string_bytes out.new ≡ string_bytes out.old ++ assignment_text (slice_index names.now.lines.now) names.now.cells.now outs outlet) }
+    ensures { OnOk result (string_bytes out.new ≡ string_bytes out.old ++ assignment_text (table_line names.now.lines.now) names.now.cells.now outs outlet) }
 {
     write!(out, "  assign ")?;
     write_port(out, outlet.port, outs)?;
@@ -41,7 +42,7 @@ fn write_outlet(
 
 // What registers and memories take at a clock edge.
 pub fn write_edges(out: &mut String, names: &Names<'_>) -> Result<(), AllocError>
-    ensures { OnOk result (string_bytes out.new ≡ string_bytes out.old ++ each_numbered (λ net sized. edge_text (slice_index names.now.lines.now) names.now.cells.now net sized.cell) 0 names.now.cells.now) }
+    ensures { OnOk result (string_bytes out.new ≡ string_bytes out.old ++ each_numbered (λ net sized. edge_text (table_line names.now.lines.now) names.now.cells.now net sized.cell) 0 names.now.cells.now) }
 {
     for (k, sized) in names.cells.iter().enumerate() {
         write_edge(out, names, k, *sized)?;
@@ -55,7 +56,7 @@ fn write_edge(
     k: usize,
     sized: SizedCell,
 ) -> Result<(), AllocError>
-    ensures { OnOk result (string_bytes out.new ≡ string_bytes out.old ++ edge_text (slice_index names.now.lines.now) names.now.cells.now k sized.cell) }
+    ensures { OnOk result (string_bytes out.new ≡ string_bytes out.old ++ edge_text (table_line names.now.lines.now) names.now.cells.now k sized.cell) }
 {
     match sized.cell {
         Cell::Reg { next } => write_register_edge(out, names, k, next),
@@ -75,7 +76,7 @@ fn write_register_edge(
     k: usize,
     next: NetId,
 ) -> Result<(), AllocError>
-    ensures { OnOk result (string_bytes out.new ≡ string_bytes out.old ++ register_edge (number_name (slice_index names.now.lines.now) k) (net_name (slice_index names.now.lines.now) names.now.cells.now next.0)) }
+    ensures { OnOk result (string_bytes out.new ≡ string_bytes out.old ++ register_edge (number_name (table_line names.now.lines.now) k) (net_name (table_line names.now.lines.now) names.now.cells.now next.0)) }
 {
     write!(out, "  always @(posedge clk) ")?;
     write_number(out, names.lines, k)?;
@@ -92,7 +93,7 @@ fn write_memory_edge(
     next: NetId,
     enable: NetId,
 ) -> Result<(), AllocError>
-    ensures { OnOk result (string_bytes out.new ≡ string_bytes out.old ++ memory_edge (number_name (slice_index names.now.lines.now) k) (net_name (slice_index names.now.lines.now) names.now.cells.now at.0) (net_name (slice_index names.now.lines.now) names.now.cells.now next.0) (net_name (slice_index names.now.lines.now) names.now.cells.now enable.0)) }
+    ensures { OnOk result (string_bytes out.new ≡ string_bytes out.old ++ memory_edge (number_name (table_line names.now.lines.now) k) (net_name (table_line names.now.lines.now) names.now.cells.now at.0) (net_name (table_line names.now.lines.now) names.now.cells.now next.0) (net_name (table_line names.now.lines.now) names.now.cells.now enable.0)) }
 {
     write!(out, "  always @(posedge clk) if (")?;
     write_net(out, names, enable)?;

@@ -1,8 +1,9 @@
 // The names of ports and nets, and ranges.
 
-ghost use Rattle.std.specs.Prelude.{◌≡◌, ◌++◌, OnOk, slice_index, string_bytes};
+ghost use Rattle.std.specs.Prelude.{◌≡◌, ◌++◌, OnOk, get_or, string_bytes};
 ghost use Rattle.ae_verilog.specs.NetlistModule.{port_name, number_name, cell_name, net_name};
 ghost use Rattle.ae_verilog.specs.Text.{range_text, PortFits};
+ghost use Rattle.ae_verilog.specs.Notes.{table_line};
 
 use ae_netlist::{Cell, NetId, Port, SizedCell};
 use std::alloc::AllocError;
@@ -38,7 +39,7 @@ pub struct Names<'a> {
 // The name of a net: that of its port for an input, and else its number.
 #[tactic(auto, unfolding(crate::specs::NetlistModule::net_name))]
 pub fn write_net(out: &mut String, names: &Names<'_>, net: NetId) -> Result<(), AllocError>
-    ensures { OnOk result (string_bytes out.new ≡ string_bytes out.old ++ net_name (slice_index names.now.lines.now) names.now.cells.now net.0) }
+    ensures { OnOk result (string_bytes out.new ≡ string_bytes out.old ++ net_name (table_line names.now.lines.now) names.now.cells.now net.0) }
 {
     let k = net.0 as usize;
     match names.cells.get(k) {
@@ -48,7 +49,7 @@ pub fn write_net(out: &mut String, names: &Names<'_>, net: NetId) -> Result<(), 
 }
 
 fn write_cell_name(out: &mut String, lines: &[u32], k: usize, cell: Cell) -> Result<(), AllocError>
-    ensures { OnOk result (string_bytes out.new ≡ string_bytes out.old ++ cell_name (slice_index lines.now) k cell) }
+    ensures { OnOk result (string_bytes out.new ≡ string_bytes out.old ++ cell_name (table_line lines.now) k cell) }
 {
     match cell {
         Cell::Input(port) => write_port(out, port, 1),
@@ -59,7 +60,7 @@ fn write_cell_name(out: &mut String, lines: &[u32], k: usize, cell: Cell) -> Res
 // The name of a net that no input drives: its number, behind that of its line where it has one.
 #[tactic(auto, unfolding(crate::specs::NetlistModule::number_name))]
 pub fn write_number(out: &mut String, lines: &[u32], k: usize) -> Result<(), AllocError>
-    ensures { OnOk result (string_bytes out.new ≡ string_bytes out.old ++ number_name (slice_index lines.now) k) }
+    ensures { OnOk result (string_bytes out.new ≡ string_bytes out.old ++ number_name (table_line lines.now) k) }
 {
     let line = line_at(lines, k);
     if line == 0 {
@@ -71,7 +72,7 @@ pub fn write_number(out: &mut String, lines: &[u32], k: usize) -> Result<(), All
 
 // The line of a cell, 0 where it has none.
 fn line_at(lines: &[u32], k: usize) -> u32
-    ensures { result ≡ slice_index lines.now k }
+    ensures { result ≡ get_or lines.now k 0 }
 {
     match lines.get(k) {
         Some(line) => *line,

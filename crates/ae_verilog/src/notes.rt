@@ -1,7 +1,7 @@
 // The lines that tell where cells come from.
 
-ghost use Rattle.std.specs.Prelude.{◌≡◌, ℕ, ◌<◌, ◌≤◌, ◌^◌, ◌++◌, length, map, slice_index, IfOk, OnOk, string_bytes};
-ghost use Rattle.ae_verilog.specs.Notes.{note_line, note_tree, line_of, lines_of};
+ghost use Rattle.std.specs.Prelude.{◌≡◌, ℕ, ◌<◌, ◌≤◌, ◌^◌, ◌++◌, length, map, get_or, IfOk, OnOk, string_bytes};
+ghost use Rattle.ae_verilog.specs.Notes.{note_line, note_tree, line_of, lines_of, table_line};
 
 use ae_sttype::StType;
 use std::alloc::{AllocError, Global};
@@ -33,7 +33,7 @@ pub fn write_note(out: &mut String, note: &Note) -> Result<(), AllocError>
 
 // The line of each of so many cells, 0 where it has none.
 pub fn lines_of(alloc: Global, notes: &[Note], cells: usize) -> Result<Vec<u32>, AllocError>
-    ensures { IfOk result (λ v. slice_index v.items ≡ lines_of (map note_tree notes.now) cells) }
+    ensures { IfOk result (λ v. table_line v.items ≡ lines_of (map note_tree notes.now) cells) }
 {
     let mut lines = vec![in alloc; 0u32; cells]?;
     tell_lines(lines.as_mut_slice(), notes);
@@ -42,8 +42,8 @@ pub fn lines_of(alloc: Global, notes: &[Note], cells: usize) -> Result<Vec<u32>,
 
 // From the last note back: each tells the line of the cells from its own on of which no later one tells it.
 fn tell_lines(lines: &mut [u32], notes: &[Note])
-    requires { (k : ℕ) → slice_index lines.old k ≡ 0 }
-    ensures { (k : ℕ) → k < length lines.old → slice_index lines.new k ≡ line_of (map note_tree notes.now) k }
+    requires { (k : ℕ) → get_or lines.old k 0 ≡ 0 }
+    ensures { (k : ℕ) → k < length lines.old → get_or lines.new k 0 ≡ line_of (map note_tree notes.now) k }
 {
     let mut first = lines.len();
     let mut left = notes.len();
@@ -60,9 +60,9 @@ fn tell_lines(lines: &mut [u32], notes: &[Note])
 fn set_lines(lines: &mut [u32], from: usize, to: usize, line: u32)
     requires within { to ≤ length lines.old }
     requires order { from ≤ to }
-    ensures between { (k : ℕ) → from ≤ k → k < to → slice_index lines.new k ≡ line }
-    ensures before { (k : ℕ) → k < from → slice_index lines.new k ≡ slice_index lines.old k }
-    ensures behind { (k : ℕ) → to ≤ k → slice_index lines.new k ≡ slice_index lines.old k }
+    ensures between { (k : ℕ) → from ≤ k → k < to → get_or lines.new k 0 ≡ line }
+    ensures before { (k : ℕ) → k < from → get_or lines.new k 0 ≡ get_or lines.old k 0 }
+    ensures behind { (k : ℕ) → to ≤ k → get_or lines.new k 0 ≡ get_or lines.old k 0 }
 {
     for k in from..to {
         lines[k] = line;

@@ -1,6 +1,6 @@
 // What circuits show of their runs on blocks of words.
 
-ghost use Rattle.std.specs.Prelude.{◌≡◌, ◌*◌, ◌<◌, ◌≤◌, ◌^◌, ◌∷◌, [], ℕ, IfSome, IsTrue, All, length, map, slice_index};
+ghost use Rattle.std.specs.Prelude.{◌≡◌, ◌*◌, ◌<◌, ◌≤◌, ◌^◌, ◌∷◌, [], ℕ, IfSome, IsTrue, All, length, map, get_or};
 ghost use Rattle.ae_sttype.specs.StTree.{st_tree, time};
 ghost use Rattle.ae_sttype.specs.Size.{IsInSize};
 ghost use Rattle.ae_netlist.specs.declared.cell.SizedCell.{SizedCell};
@@ -38,7 +38,7 @@ fn has_widths(nl: &Netlist, widths: &[u32]) -> bool
 
 // Whether these are words of eight bits.
 fn are_bytes(words: &[u64]) -> bool
-    ensures { IsTrue result → (k : ℕ) → k < length words.now → slice_index words.now k < 256 }
+    ensures { IsTrue result → (k : ℕ) → k < length words.now → get_or words.now k 0 < 256 }
 {
     for word in words {
         if *word >= 256 {

@@ -1,4 +1,4 @@
-use Rattle.std.proofs.Common.{◌≡◌, ◌*◌, sum_by, slice_index}
+use Rattle.std.proofs.Common.{◌≡◌, ◌*◌, sum_by, get_or}
 use Rattle.std.specs.List.{range_with_len}
 use Rattle.ae_sttype.specs.Moves.{columns_of}
 use Rattle.ae_moves.specs.Rings.{rings}
@@ -7,4 +7,4 @@ use Rattle.ae_rewrite.specs.Sound.{item_layout, item_layouts}
 use Rattle.ae_delay.proofs.weighing.chain_mems.Given as goal
 
 abbrev pub invariant-loop-i : goal.invariant-loop-i
-invariant-loop-i l = l.sum ≡ sum_by (λ i. columns_of (item_layout (item_layouts (st_func_tree l.s)) i) * rings (slice_index l.chains i)) (range_with_len 0 l.i)
+invariant-loop-i l = l.sum ≡ sum_by (λ i. columns_of (item_layout (item_layouts (st_func_tree l.s)) i) * rings (get_or l.chains i 0)) (range_with_len 0 l.i)

@@ -1,9 +1,9 @@
-use Rattle.std.proofs.Common.{◌≡◌, ◌≤◌, ◌*◌, ◌/◌, ◌++◌, length, map, slice_index}
+use Rattle.std.proofs.Common.{◌≡◌, ◌≤◌, ◌*◌, ◌/◌, ◌++◌, length, map, get_or}
 use Rattle.std.specs.List.{range_with_len}
 use Rattle.ae_fuse.proofs.clocks.add_words.Given as goal
 
 abbrev pub invariant-loop-o : goal.invariant-loop-o
 invariant-loop-o l = record {
-  clocks : l.clocks.items ≡ l.initial.clocks.items ++ map (λ o. slice_index l.elements (o / l.words)) (range_with_len 0 l.o);
+  clocks : l.clocks.items ≡ l.initial.clocks.items ++ map (λ o. get_or l.elements (o / l.words) 0) (range_with_len 0 l.o);
   within : l.o ≤ length l.elements * l.words;
 }

@@ -1,4 +1,4 @@
-use Rattle.std.proofs.Common.{◌≡◌, ◌+◌, ◌-◌, ◌<◌, ◌≤◌, ◌*◌, ◌++◌, ◌∷◌, [], List, take, slice_get, slice_index, arith, ap, sym, refl, ◌∙◌, subst, length, ℕ}
+use Rattle.std.proofs.Common.{◌≡◌, ◌+◌, ◌-◌, ◌<◌, ◌≤◌, ◌*◌, ◌++◌, ◌∷◌, [], List, take, slice_get, get_or, arith, ap, sym, refl, ◌∙◌, subst, length, ℕ}
 use Rattle.std.proofs.lemmas.List.{length-map}
 use Rattle.std.proofs.lemmas.Option.{same_Some, slice_get_within}
 use Rattle.std.proofs.lemmas.Result.{on_ok_weaker}
@@ -163,7 +163,7 @@ lower_instance-joined-requires-clause-below t c = λ r i f.
 pub lower_instance-joined-requires-clause-long : goal.lower_instance-joined-requires-clause-long
 lower_instance-joined-requires-clause-long t c =
     let ew = result_waits_in c.args.p.now c.args.slacks.now c.args.k c.instance-s.result.now c.result_waits_of-waits.result.now c.requires.slacks c.instance-s.ensures c.result_waits_of-waits.ensures in
-    ap length ew ∙ (length-map (st_func_tree c.instance-s.result.now).results (λ (a : ℕ). latest (arrivals_in (st_func_trees c.args.p.now) c.args.k (st_func_tree c.instance-s.result.now)) (st_func_tree c.instance-s.result.now).results - slice_index (arrivals_in (st_func_trees c.args.p.now) c.args.k (st_func_tree c.instance-s.result.now)) a) ∙ ap length (sym c.deref-3.ensures.value))
+    ap length ew ∙ (length-map (st_func_tree c.instance-s.result.now).results (λ (a : ℕ). latest (arrivals_in (st_func_trees c.args.p.now) c.args.k (st_func_tree c.instance-s.result.now)) (st_func_tree c.instance-s.result.now).results - get_or (arrivals_in (st_func_trees c.args.p.now) c.args.k (st_func_tree c.instance-s.result.now)) a 0) ∙ ap length (sym c.deref-3.ensures.value))
 
 pub lower_instance-returns-clause-keeps : goal.lower_instance-returns-clause-keeps
 lower_instance-returns-clause-keeps t c = keeps_trans c.loop-j.invariant.keeps c.joined.ensures.keeps
@@ -289,7 +289,7 @@ pub lower_node-joined-requires-clause-long : goal.lower_node-joined-requires-cla
 lower_node-joined-requires-clause-long t c =
     let h = placed_in c.args.p.now c.args.a.now.arrivals c.args.k c.args.j c.args.at c.instance-s.result.now c.index-node.result.now c.arrivals_of-arrivals.result.now c.requires.timed c.requires.light c.instance-s.ensures c.requires.node c.index-node.ensures c.arrivals_of-arrivals.ensures in
     let ew = waits_in (st_func_trees c.args.p.now) c.args.slacks.now c.args.k c.args.j c.args.at (st_func_tree c.instance-s.result.now) (st_node_tree c.index-node.result.now) c.arrivals_of-arrivals.result.now c.waits_of-waits.result.now c.requires.slacks h c.waits_of-waits.ensures in
-    ap length ew ∙ (length-map (st_node_tree c.index-node.result.now).args (λ (a : ℕ). latest (arrivals_in (st_func_trees c.args.p.now) c.args.k (st_func_tree c.instance-s.result.now)) (st_node_tree c.index-node.result.now).args - slice_index (arrivals_in (st_func_trees c.args.p.now) c.args.k (st_func_tree c.instance-s.result.now)) a) ∙ ap length (sym c.deref-2.ensures.value))
+    ap length ew ∙ (length-map (st_node_tree c.index-node.result.now).args (λ (a : ℕ). latest (arrivals_in (st_func_trees c.args.p.now) c.args.k (st_func_tree c.instance-s.result.now)) (st_node_tree c.index-node.result.now).args - get_or (arrivals_in (st_func_trees c.args.p.now) c.args.k (st_func_tree c.instance-s.result.now)) a 0) ∙ ap length (sym c.deref-2.ensures.value))
 
 pub lower_node-returns-in_err-args-clause-grows : goal.lower_node-returns-in_err-args-clause-grows
 lower_node-returns-in_err-args-clause-grows t c =
@@ -472,7 +472,7 @@ lower_instance-loop-j-preserved t c =
           node.is_at.timing (c.in_ok-made.ensures.spends (st_func_tree c.instance-s.result.now) node.node node.timing node.is_at) c.loop-j.invariant.spent;
       lowered = more_nodes (st_func_trees c.args.p.now) c.args.k c.args.at c.args.clocks.now.rst (st_func_tree c.instance-s.result.now) c.args.ins.now c.args.nl.now c.loop-j.nl c.lower_node.new.nl c.loop-j.j c.loop-j.items.items c.keep_item.new.items.items c.in_ok-made.made node.timing
           node.is_at.timing c.in_ok-keep_item.ensures.ok (c.in_ok-made.ensures.grows (st_func_tree c.instance-s.result.now) node.node node.timing node.is_at)
-          (subst (λ (z : ℕ). IsItem c.lower_node.new.nl.cells z c.args.at (callees (take c.args.k (st_func_trees c.args.p.now))) (st_func_tree c.instance-s.result.now) c.args.ins.now (slice_index (arrivals_in (st_func_trees c.args.p.now) c.args.k (st_func_tree c.instance-s.result.now)) (length (st_func_tree c.instance-s.result.now).ins + c.loop-j.j)) (length (st_func_tree c.instance-s.result.now).ins + c.loop-j.j) c.in_ok-made.made) c.loop-j.invariant.keeps.rst made) c.loop-j.invariant.lowered;
+          (subst (λ (z : ℕ). IsItem c.lower_node.new.nl.cells z c.args.at (callees (take c.args.k (st_func_trees c.args.p.now))) (st_func_tree c.instance-s.result.now) c.args.ins.now (get_or (arrivals_in (st_func_trees c.args.p.now) c.args.k (st_func_tree c.instance-s.result.now)) (length (st_func_tree c.instance-s.result.now).ins + c.loop-j.j) 0) (length (st_func_tree c.instance-s.result.now).ins + c.loop-j.j) c.in_ok-made.made) c.loop-j.invariant.keeps.rst made) c.loop-j.invariant.lowered;
       marked = λ count h. marks_more (length c.loop-j.nl.cells) (length c.lower_node.new.nl.cells) count c.loop-j.j c.loop-j.marks.items c.keep_item.new.marks.items
           (extends_length c.loop-j.nl.cells c.lower_node.new.nl.cells (c.in_ok-made.ensures.grows (st_func_tree c.instance-s.result.now) node.node node.timing node.is_at).grows.extends)
           (c.in_ok-keep_item.ensures.marked ∙ ap (λ (m : ℕ). c.loop-j.marks.items ++ m ∷ []) c.len-mark.ensures) (c.loop-j.invariant.marked count h);

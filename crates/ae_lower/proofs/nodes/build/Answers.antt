@@ -1,4 +1,4 @@
-use Rattle.std.proofs.Common.{ℕ, ◌≡◌, ◌≢◌, true, false, ◌∙◌, ◌<◌, length, slice_index, Result, Ok, Err, arith, ap, sym}
+use Rattle.std.proofs.Common.{ℕ, ◌≡◌, ◌≢◌, true, false, ◌∙◌, ◌<◌, length, get_or, Result, Ok, Err, arith, ap, sym}
 use Rattle.std.proofs.lemmas.List.{get_or_read}
 use Rattle.ae_netlist.specs.declared.netlist.NetFault.{NetFault}
 use Rattle.ae_netlist.specs.declared.netlist.NetFault.TheVariants.{Full}
@@ -42,28 +42,28 @@ pub layout-requires : goal.layout-requires
 layout-requires c =
     let only = ready_move _ (st_func_tree c.args.s.now) (st_node_tree c.args.node.now) _ c.in-Move.how c.requires.ready (ap st_op_tree c.in-Move.is) in
     let low : 0 < length c.args.node.now.args.items = only_low c.args.node.now.args.items only.0 in
-    let first : c.index.result.now ≡ slice_index c.args.node.now.args.items 0 = get_or_read c.args.node.now.args.items 0 c.index.result.now low c.index.ensures 0 in
+    let first : c.index.result.now ≡ get_or c.args.node.now.args.items 0 0 = get_or_read c.args.node.now.args.items 0 c.index.result.now low c.index.ensures 0 in
     rw first (ready_below _ (st_func_tree c.args.s.now) (st_node_tree c.args.node.now) _ 0 c.requires.ready low)
 
 pub moving-requires-clause-arg : goal.moving-requires-clause-arg
 moving-requires-clause-arg c =
     let only = ready_move _ (st_func_tree c.args.s.now) (st_node_tree c.args.node.now) _ c.in-Move.how c.requires.ready (ap st_op_tree c.in-Move.is) in
     let low : 0 < length c.args.node.now.args.items = only_low c.args.node.now.args.items only.0 in
-    let first : c.index.result.now ≡ slice_index c.args.node.now.args.items 0 = get_or_read c.args.node.now.args.items 0 c.index.result.now low c.index.ensures 0 in
+    let first : c.index.result.now ≡ get_or c.args.node.now.args.items 0 0 = get_or_read c.args.node.now.args.items 0 c.index.result.now low c.index.ensures 0 in
     rw (c.layout.ensures, first) (ready_item _ (st_func_tree c.args.s.now) (st_node_tree c.args.node.now) _ 0 c.requires.ready low).size
 
 pub moving-requires-clause-time : goal.moving-requires-clause-time
 moving-requires-clause-time c =
     let only = ready_move _ (st_func_tree c.args.s.now) (st_node_tree c.args.node.now) _ c.in-Move.how c.requires.ready (ap st_op_tree c.in-Move.is) in
     let low : 0 < length c.args.node.now.args.items = only_low c.args.node.now.args.items only.0 in
-    let first : c.index.result.now ≡ slice_index c.args.node.now.args.items 0 = get_or_read c.args.node.now.args.items 0 c.index.result.now low c.index.ensures 0 in
+    let first : c.index.result.now ≡ get_or c.args.node.now.args.items 0 0 = get_or_read c.args.node.now.args.items 0 c.index.result.now low c.index.ensures 0 in
     rw (c.layout.ensures, first) ((ready_item _ (st_func_tree c.args.s.now) (st_node_tree c.args.node.now) _ 0 c.requires.ready low).time ∙ sym c.requires.ready.layout.time)
 
 pub place-requires-in-Move-clause-does : goal.place-requires-in-Move-clause-does
 place-requires-in-Move-clause-does c =
     let only = ready_move _ (st_func_tree c.args.s.now) (st_node_tree c.args.node.now) _ c.in-Move.how c.requires.ready (ap st_op_tree c.in-Move.is) in
     let low : 0 < length c.args.node.now.args.items = only_low c.args.node.now.args.items only.0 in
-    let first : c.index.result.now ≡ slice_index c.args.node.now.args.items 0 = get_or_read c.args.node.now.args.items 0 c.index.result.now low c.index.ensures 0 in
+    let first : c.index.result.now ≡ get_or c.args.node.now.args.items 0 0 = get_or_read c.args.node.now.args.items 0 c.index.result.now low c.index.ensures 0 in
     let own : st_tree c.layout.result.now ≡ argument_at (st_func_tree c.args.s.now) (st_node_tree c.args.node.now) 0 = c.layout.ensures ∙ ap (item_layout (item_layouts (st_func_tree c.args.s.now))) first in
     move_node _ (st_func_tree c.args.s.now) (st_node_tree c.args.node.now) _ c.in-Move.how (move_of c.reading-reader.result) c.requires.ready (ap st_op_tree c.in-Move.is)
     (c.reading-reader.ensures ∙ c.in_ok-stage-in-Move.ensures.is ∙ ap (λ (a : StTree). op_move c.in-Move.how a (st_tree c.args.node.now.ty)) own)
