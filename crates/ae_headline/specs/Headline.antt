@@ -38,7 +38,7 @@ pub record Computes (n : Circuit) (p : ProgramTree) (r : ReportTree) : Type 0 wh
   pub products : count_of is_mul n.cells ≡ r.muls
   pub small : length n.cells ≤ 16 * r.load + 1 + length (input_ports (streams_of r.ins))
 
--- the name of an item of a function
+-- the name of an item of a function; the default is read of no item
 abbrev pub item_name : FuncTree → (item : ℕ) → List ℕ
 item_name f i = get_or (param_names f.params ++ node_names f.nodes) i []
 

@@ -79,7 +79,7 @@ pub record IsAddress (cells : List SizedCell) (at depth : ℕ) : Type 0 where
   pub net : IsNet cells at (width_of cells at)
   pub inside : (2 ^ width_of cells at ≤ depth) ⊎ IsConstantBelow cells at depth
 
--- operand k of an operator
+-- operand k of an operator, which has three, so the default is not read
 abbrev pub operand : List NetId → ℕ → ℕ
 operand args k = (get_or args k (record { 0 = 0 })).0
 

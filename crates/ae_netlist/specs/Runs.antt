@@ -14,7 +14,7 @@ pub record Clock : Type 0 where
 unfoldable pub no_clock : Clock
 no_clock = record { words = []; stores = [] }
 
--- the word of a net in a clock of a run
+-- the word of a net in a clock of a run; of formed cells no equation reads past the clocks or the nets
 unfoldable pub word_at : List Clock → ℕ → ℕ → ℕ
 word_at run t net = get_or (get_or run t no_clock).words net 0
 
@@ -31,7 +31,7 @@ CellHolds (Reg next) width w store = (w < 2 ^ width) × (store ≡ [])
 CellHolds (Mem depth at next enable) width w store = (w ≡ 0) × (length store ≡ depth) × All (λ v. v < 2 ^ width) store
 CellHolds (Peek mem at) width w store = (w < 2 ^ width) × (store ≡ [])
 
--- in a clock a net's word is the one that its cell makes of the words of that clock
+-- in a clock a net's word is the one that its cell makes of the words of that clock; a formed peek reads places of its memory alone
 abbrev pub Settles : List SizedCell → List Clock → ℕ → ℕ → Cell → Type 0
 Settles cells run t net (Input port) = Unit {0}
 Settles cells run t net (Const k) = word_at run t net ≡ k

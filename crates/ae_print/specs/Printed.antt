@@ -10,6 +10,7 @@ use Rattle.ae_seq.specs.Formed.{param_names, node_names, func_names}
 
 -- ---- fields
 
+-- the name of a function above; the default is read of none
 abbrev pub name_at : List (List ℕ) → ℕ → List ℕ
 name_at names k = get_or names k []
 

@@ -20,7 +20,7 @@ use Rattle.ae_rewrite.specs.Interface.{AreValues, parameter_types}
 abbrev pub input_wave : List Clock → (start first : ℕ) → (clock column : ℕ) → ℕ
 input_wave run start first = λ c q. word_at run (start + c) (first + q)
 
--- the net of an output, by its number
+-- the net of an output, by its number; the default is read of none
 abbrev pub outlet_net : List Outlet → ℕ → ℕ
 outlet_net outlets k = (get_or (map (λ (o : Outlet). o.net) outlets) k (record { 0 = 0 })).0
 

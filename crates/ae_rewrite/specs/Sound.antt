@@ -11,7 +11,7 @@ use Rattle.ae_rewrite.specs.Scheduled.{IsFilling, AreFilling, node_layouts}
 abbrev pub item_layouts : StFuncTree → List StTree
 item_layouts s = s.ins ++ node_layouts s.nodes
 
--- the layout of item a
+-- the layout of item a; the default is read of no item
 abbrev pub item_layout : List StTree → (a : ℕ) → StTree
 item_layout layouts a = get_or layouts a (sseq 0 (atom (unsigned_word 1)))
 

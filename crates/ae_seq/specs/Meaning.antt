@@ -16,10 +16,11 @@ Meaning = List ValueTree → List ValueTree
 abbrev pub no_function : Meaning
 no_function vs = []
 
+-- value k of a list; a program that has types names none that is not there, so the default is not read
 abbrev pub at : List ValueTree → ℕ → ValueTree
 at vs k = get_or vs k end
 
--- the first result of function number k
+-- the first result of function number k, which is one of those above
 abbrev pub applied : List Meaning → ℕ → List ValueTree → ValueTree
 applied known k vs = at (get_or known k no_function vs) 0
 
@@ -147,7 +148,7 @@ meaning known f vs = map (at (item_values known f vs)) f.results
 abbrev pub meanings : List FuncTree → List Meaning
 meanings fs = grown meaning [] fs
 
--- the results of function number f on these arguments
+-- the results of function number f on these arguments, where there is such a function
 abbrev pub mean_of : ProgramTree → (func : ℕ) → List ValueTree → List ValueTree
 mean_of p f vs = get_or (meanings p.funcs) f no_function vs
 

@@ -38,7 +38,7 @@ abbrev pub cut : {A : Type 0} → ℕ → ℕ → List A → List (List A)
 cut zero k ws = []
 cut (suc n) k ws = take k ws ∷ cut n k (drop k ws)
 
--- the value of a type that has these words
+-- the value of a type that has these words; there is one for each atom, so the default is not read
 abbrev pub atom_value : AtomTree → List ℕ → ValueTree
 atom_value (word k) ws = number k (get_or ws 0 0)
 atom_value (pair a b) ws = both (atom_value a (take (atom_words a) ws)) (atom_value b (drop (atom_words a) ws))

@@ -4,7 +4,8 @@ use Rattle.ae_sttype.specs.declared.st_type.Slot.{Slot}
 use Rattle.ae_sttype.specs.StTree.{StTree}
 use Rattle.ae_sttype.specs.Slots.{slots}
 
--- a run gives a word for each clock and column: from clock k on, each slot has the words of its element, where an element has so many words
+-- a run gives a word for each clock and column: from clock k on, each slot has the words of its element, where an element has so many words;
+-- a value that fits has them all, so the default is not read
 abbrev pub Holds : (run : ℕ → ℕ → ℕ) (k words : ℕ) → List Slot → (value : List ℕ) → Type 0
 Holds run k words places value =
     (e j : ℕ) (w : Slot) → slice_get places e ≡ Some w → j < words → run (k + w.clock) (w.lane * words + j) ≡ get_or value (e * words + j) 0

@@ -26,7 +26,7 @@ pub record TripTree : Type 0 where
 abbrev pub columns_of : StTree → ℕ
 columns_of s = lanes s * element_words s
 
--- the slot of element e
+-- the slot of element e; the default is read of no element of the layout
 abbrev pub slot_number : StTree → ℕ → Slot
 slot_number s e = get_or (slots s) e (record { clock = 0; lane = 0 })
 
@@ -43,7 +43,7 @@ source_of ins (from_input i e j) =
     place (slot_number s e).clock (first_column ins i + column_number s e j)
 source_of ins (fixed w) = constant w
 
--- the trips of all output words, in element order and then by word
+-- the trips of all output words, in element order and then by word; each has its origin, so no default is read
 abbrev pub trip_number : (ins : List StTree) (out : StTree) (origins : List OriginTree) (number : ℕ) → TripTree
 trip_number ins out origins o =
     let words = element_words out in record {
