@@ -24,6 +24,7 @@ use Rattle.ae_netlist.specs.Circuit.{Circuit}
 use Rattle.ae_netlist.specs.Counts.{count_of, is_input}
 use Rattle.ae_netlist.specs.Rows.{AreFirsts, AreInputs, HasOneRunWith, IsRunWith, filled}
 use Rattle.ae_netlist.specs.Runs.{Clock, no_clock, word_at}
+use Rattle.ae_netlist.proofs.Shapes.{clock_shaped}
 use Rattle.ae_seq.specs.ProgramTree.{ProgramTree}
 use Rattle.ae_eval.proofs.Items.{slice_get-take}
 use Rattle.ae_rewrite.specs.Interface.{AreValues, parameter_types}
@@ -212,7 +213,7 @@ module _ (p : ProgramTree) (slowdown : ℕ) (costs : OwnCosts) (ins outs : List 
     shown : ShowsClock n.cells ins block clock (get_or run (suc clock) no_clock)
     unfolding word_at
     shown = record {
-      shaped = is_run.runs.shaped (suc clock) (omega (arith, is_run.long, long));
+      shaped = clock_shaped is_run.runs (suc clock) (omega (arith, is_run.long, long));
       low = word 0 reset_port refl;
       words = λ q s e j w found slot small now.
           let f = ins_filling p slowdown ins outs laid q s found in

@@ -13,6 +13,7 @@ use Rattle.ae_netlist.proofs.Gets.{get_pushed, get_push_cases}
 use Rattle.ae_netlist.proofs.Growing.{net_later, net_width, width_is, net_from_take, memory_from_take, extends_append}
 use Rattle.ae_netlist.proofs.Carried.{carries_extends, carries_later, carries_trans}
 use Rattle.ae_netlist.proofs.Counting.{count_push}
+use Rattle.ae_netlist.proofs.Shapes.{clock_shaped, cell_holds}
 use Rattle.ae_clocked.specs.Signals.{Grows, Adds, IsConstant, is_test}
 use Rattle.ae_clocked.proofs.Added.{IsAdded, grows_length, net_within, own_net}
 use Rattle.ae_clocked.proofs.Adding.{grows_trans, adds_same}
@@ -166,7 +167,7 @@ unfolding store_at
 store_words cells w d at next enable ne = λ all c run r always.
     let there : slice_get all (length cells) ≡ Some (memory_cell w d at next enable) = c.keeps (length cells) _ (omega arith) (get_pushed cells _) in
     record {
-      long = λ t l. ((r.shaped t l).holds (length cells) _ there).1;
+      long = λ t l. (cell_holds (clock_shaped r t l) (length cells) _ there).1;
       takes = λ t l.
           let other : (enable.0 == length cells) ≡ false = ne_eqb enable.0 (length cells) ne in
           let one : word_at run t enable.0 ≡ 1 = always t (omega arith) in

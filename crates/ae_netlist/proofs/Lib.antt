@@ -3,6 +3,7 @@ pub mod Growing
 pub mod Counting
 pub mod Settled
 pub mod Fits
+pub mod Shapes
 pub mod NextClock
 pub mod OneRun
 pub mod Carried

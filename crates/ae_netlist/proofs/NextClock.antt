@@ -14,6 +14,7 @@ use Rattle.ae_netlist.specs.Circuit.{IsNet, IsPlain, CellFits, IsFormed}
 use Rattle.ae_netlist.specs.Runs.{Clock, CellHolds, IsShaped}
 use Rattle.ae_netlist.proofs.Settled.{cell_word, settle, settle_length, settled}
 use Rattle.ae_netlist.proofs.Fits.{words_fit}
+use Rattle.ae_netlist.proofs.Shapes.{cell_holds, each_holds}
 
 -- the word of a cell that is not made of others in its clock, after the clock before, if there is one
 abbrev pub free_word : Option Clock → Clock → ℕ → Cell → ℕ
@@ -77,7 +78,7 @@ any_fits (Mem depth at next enable) width w store h = let e : w ≡ 0 = h.0 in r
 any_fits (Peek mem at) width w store h = h.0
 
 net_holds : (cells : List SizedCell) (p : Clock) (m w : ℕ) → IsShaped cells p → IsNet cells m w → get_or p.words m 0 < 2 ^ w
-net_holds cells p m w s k = rw (← k.wide) (plain_fits k.sized.cell k.sized.width (get_or p.words m 0) (get_or p.stores m []) k.plain (s.holds m k.sized k.found))
+net_holds cells p m w s k = rw (← k.wide) (plain_fits k.sized.cell k.sized.width (get_or p.words m 0) (get_or p.stores m []) k.plain (cell_holds s m k.sized k.found))
 
 -- what a memory holds, and that nothing else has a store
 abbrev pub StoreHolds : Cell → ℕ → List ℕ → Type 0
@@ -112,7 +113,7 @@ choice P false x y p q = q
 
 store_steps : (cells : List SizedCell) (prev : Option Clock) (g : Clock) (n width : ℕ) (cell : Cell) → IsShapedIfAny cells prev → IsShaped cells g
     → slice_get cells n ≡ Some (record { width = width; cell = cell }) → CellFits (take n cells) cells n width cell → StoreHolds cell width (stepped_store prev g n cell)
-store_steps cells None g n width cell sp sg h fits = store_of_cell cell width (get_or g.words n 0) (get_or g.stores n []) (sg.holds n (record { width = width; cell = cell }) h)
+store_steps cells None g n width cell sp sg h fits = store_of_cell cell width (get_or g.words n 0) (get_or g.stores n []) (cell_holds sg n (record { width = width; cell = cell }) h)
 store_steps cells (Some p) g n width (Input port) sp sg h fits = refl
 store_steps cells (Some p) g n width (Const k) sp sg h fits = refl
 store_steps cells (Some p) g n width (Op op args) sp sg h fits = refl
@@ -121,7 +122,7 @@ store_steps cells (Some p) g n width (Mem depth at next enable) sp sg h fits =
     let cell : Cell = Mem depth at next enable in
     let P : List ℕ → Type 0 = StoreHolds cell width in
     let old : List ℕ = get_or p.stores n [] in
-    let kept : P old = store_of_cell cell width (get_or p.words n 0) old (sp.holds n (record { width = width; cell = cell }) h) in
+    let kept : P old = store_of_cell cell width (get_or p.words n 0) old (cell_holds sp n (record { width = width; cell = cell }) h) in
     elim fits.2 [
       | inl u ↦ let t : (n == n) ≡ true = eq-eqb n n refl in rw (u.enable_own, t) kept
       | inr u ↦
@@ -133,13 +134,13 @@ store_steps cells (Some p) g n width (Peek mem at) sp sg h fits = refl
 
 free_steps : (cells : List SizedCell) (prev : Option Clock) (g : Clock) (n width : ℕ) (cell : Cell) → IsShapedIfAny cells prev → IsShaped cells g
     → slice_get cells n ≡ Some (record { width = width; cell = cell }) → CellFits (take n cells) cells n width cell → free_word prev g n cell < 2 ^ width
-free_steps cells None g n width cell sp sg h fits = any_fits cell width (get_or g.words n 0) (get_or g.stores n []) (sg.holds n (record { width = width; cell = cell }) h)
+free_steps cells None g n width cell sp sg h fits = any_fits cell width (get_or g.words n 0) (get_or g.stores n []) (cell_holds sg n (record { width = width; cell = cell }) h)
 free_steps cells (Some p) g n width (Reg next) sp sg h fits = net_holds cells p next.0 width sp fits
-free_steps cells (Some p) g n width (Input port) sp sg h fits = any_fits (Input port) width (get_or g.words n 0) (get_or g.stores n []) (sg.holds n _ h)
-free_steps cells (Some p) g n width (Const k) sp sg h fits = any_fits (Const k) width (get_or g.words n 0) (get_or g.stores n []) (sg.holds n _ h)
-free_steps cells (Some p) g n width (Op op args) sp sg h fits = any_fits (Op op args) width (get_or g.words n 0) (get_or g.stores n []) (sg.holds n _ h)
-free_steps cells (Some p) g n width (Mem depth at next enable) sp sg h fits = any_fits (Mem depth at next enable) width (get_or g.words n 0) (get_or g.stores n []) (sg.holds n _ h)
-free_steps cells (Some p) g n width (Peek mem at) sp sg h fits = any_fits (Peek mem at) width (get_or g.words n 0) (get_or g.stores n []) (sg.holds n _ h)
+free_steps cells (Some p) g n width (Input port) sp sg h fits = any_fits (Input port) width (get_or g.words n 0) (get_or g.stores n []) (cell_holds sg n _ h)
+free_steps cells (Some p) g n width (Const k) sp sg h fits = any_fits (Const k) width (get_or g.words n 0) (get_or g.stores n []) (cell_holds sg n _ h)
+free_steps cells (Some p) g n width (Op op args) sp sg h fits = any_fits (Op op args) width (get_or g.words n 0) (get_or g.stores n []) (cell_holds sg n _ h)
+free_steps cells (Some p) g n width (Mem depth at next enable) sp sg h fits = any_fits (Mem depth at next enable) width (get_or g.words n 0) (get_or g.stores n []) (cell_holds sg n _ h)
+free_steps cells (Some p) g n width (Peek mem at) sp sg h fits = any_fits (Peek mem at) width (get_or g.words n 0) (get_or g.stores n []) (cell_holds sg n _ h)
 
 -- what stands at a sized in the next clock
 pub record IsNext (cells : List SizedCell) (prev : Option Clock) (g k : Clock) (n : ℕ) (sized : SizedCell) : Type 0 where
@@ -176,8 +177,8 @@ next_shaped cells prev g formed sp sg =
     record {
       words = settle_length cells free stores [] cells ∙ omega arith;
       stores = length-map-range_with_len stores 0 (length cells);
-      holds = λ n sized h.
+      holds = each_holds cells (next_clock cells prev g) (λ n sized h.
           let at = next_at cells prev g n sized formed h in
           holds_by_cell cells free stores (settle cells free stores [] cells) n sized.cell sized.width (get_or (settle cells free stores [] cells) n 0) (get_or (map stores (range_with_len 0 (length cells))) n [])
-          at.word (fit n sized h) (rw at.store (store_holds n sized h));
+          at.word (fit n sized h) (rw at.store (store_holds n sized h)));
     }

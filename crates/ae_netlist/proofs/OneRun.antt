@@ -10,6 +10,7 @@ use Rattle.ae_netlist.specs.Runs.{Clock, no_clock, word_at, store_at, CellHolds,
 use Rattle.ae_netlist.proofs.Gets.{get_from_take}
 use Rattle.ae_netlist.proofs.Settled.{cell_word, IsSettled, settled_once}
 use Rattle.ae_netlist.proofs.NextClock.{free_word, stepped_store, in_cell, free_in, store_in, next_clock, IsShapedIfAny, IsNext, next_at, next_shaped}
+use Rattle.ae_netlist.proofs.Shapes.{clock_shaped, each_shaped, cell_holds}
 
 abbrev IsFree : Cell → Type 0
 IsFree (Input port) = Unit {0}
@@ -137,7 +138,7 @@ made_run cells given formed shaped =
     record {
       long = long;
       runs = record {
-        shaped = λ t b. all_shaped cells given run formed shaped h t (omega arith);
+        shaped = each_shaped cells run (λ t b. all_shaped cells given run formed shaped h t (omega arith));
         settles = λ t n sized b found. settles_at cells given run t n sized.width sized.cell formed h (omega arith) found;
         steps = λ t n sized b found. steps_at cells given run t n sized.width sized.cell formed h (omega arith) found;
       };
@@ -161,15 +162,15 @@ free_is cells given run t n width (Peek mem at) r b found f = absurd f
 -- so does what stands in each store
 shape_at : (cells : List SizedCell) (given run : List Clock) (t n : ℕ) (sized : SizedCell) → IsRunOn cells given run → t < length given → slice_get cells n ≡ Some sized → CellHolds sized.cell sized.width (get_or (get_or run t no_clock).words n 0) (get_or (get_or run t no_clock).stores n [])
 shape_at cells given run t n sized r b found =
-    (r.runs.shaped t (let e : length run ≡ length given = r.long in omega arith)).holds n sized found
+    cell_holds (clock_shaped r.runs t (let e : length run ≡ length given = r.long in omega arith)) n sized found
 
 store_is : (cells : List SizedCell) (given run : List Clock) (t n width : ℕ) (cell : Cell) → IsGiven cells given → IsRunOn cells given run → t < length given → slice_get cells n ≡ Some (record { width = width; cell = cell }) → get_or (get_or run t no_clock).stores n [] ≡ stepped_store (before None run t) (get_or given t no_clock) n cell
 unfolding word_at store_at
-store_is cells given run zero n width (Input port) s r b found = (shape_at cells given run zero n _ r b found).1 ∙ sym ((s zero b).holds n _ found).1
-store_is cells given run zero n width (Const k) s r b found = (shape_at cells given run zero n _ r b found).1 ∙ sym ((s zero b).holds n _ found).1
-store_is cells given run zero n width (Op op args) s r b found = (shape_at cells given run zero n _ r b found).1 ∙ sym ((s zero b).holds n _ found).1
-store_is cells given run zero n width (Reg next) s r b found = (shape_at cells given run zero n _ r b found).1 ∙ sym ((s zero b).holds n _ found).1
-store_is cells given run zero n width (Peek mem at) s r b found = (shape_at cells given run zero n _ r b found).1 ∙ sym ((s zero b).holds n _ found).1
+store_is cells given run zero n width (Input port) s r b found = (shape_at cells given run zero n _ r b found).1 ∙ sym (cell_holds (s zero b) n _ found).1
+store_is cells given run zero n width (Const k) s r b found = (shape_at cells given run zero n _ r b found).1 ∙ sym (cell_holds (s zero b) n _ found).1
+store_is cells given run zero n width (Op op args) s r b found = (shape_at cells given run zero n _ r b found).1 ∙ sym (cell_holds (s zero b) n _ found).1
+store_is cells given run zero n width (Reg next) s r b found = (shape_at cells given run zero n _ r b found).1 ∙ sym (cell_holds (s zero b) n _ found).1
+store_is cells given run zero n width (Peek mem at) s r b found = (shape_at cells given run zero n _ r b found).1 ∙ sym (cell_holds (s zero b) n _ found).1
 store_is cells given run zero n width (Mem depth at next enable) s r b found = r.agrees.same zero n _ b found refl
 store_is cells given run (suc t) n width (Input port) s r b found = (shape_at cells given run (suc t) n _ r b found).1
 store_is cells given run (suc t) n width (Const k) s r b found = (shape_at cells given run (suc t) n _ r b found).1
@@ -217,7 +218,7 @@ run_is_next cells given run t formed s r b =
     let made : Clock = next_clock cells prev g in
     let e : length run ≡ length given = r.long in
     let l : t < length run = omega arith in
-    let shape : IsShaped cells k = r.runs.shaped t l in
+    let shape : IsShaped cells k = clock_shaped r.runs t l in
     let made_shape : IsShaped cells made = next_shaped cells prev g formed (before_shaped cells given run t r b) (s t b) in
     let mine : IsSettled cells (free_in cells prev g) (store_in cells prev g) k.words =
     record { each = λ n sized found. word_is cells given run t n sized.width sized.cell formed s r b found } in
@@ -238,11 +239,9 @@ run_is_next cells given run t formed s r b =
 
     before_shaped : (cells : List SizedCell) (given run : List Clock) (t : ℕ) → IsRunOn cells given run → t < length given → IsShapedIfAny cells (before None run t)
     before_shaped cells given run zero r b = tt
-    before_shaped cells given run (suc t) r b = r.runs.shaped t (let e : length run ≡ length given = r.long in omega arith)
+    before_shaped cells given run (suc t) r b = clock_shaped r.runs t (let e : length run ≡ length given = r.long in omega arith)
 
 pub one_run : (cells : List SizedCell) → IsFormed cells → HasOneRun cells
-one_run cells formed = λ given shaped. (
-  run_on cells None given,
-  made_run cells given formed shaped,
-  λ other r. only_one cells None given other r.long (λ t b. run_is_next cells given other t formed shaped r b),
-)
+one_run cells formed = λ given each. (
+    let shaped : IsGiven cells given = λ t b. each t (get_or given t no_clock) (slice_get-get_or given t no_clock b) in
+    (run_on cells None given, made_run cells given formed shaped, λ other r. only_one cells None given other r.long (λ t b. run_is_next cells given other t formed shaped r b)))

@@ -60,11 +60,11 @@ Steps run t net (Peek mem at) = Unit {0}
 pub record IsShaped (cells : List SizedCell) (clock : Clock) : Type 0 where
   pub words : length clock.words ≡ length cells
   pub stores : length clock.stores ≡ length cells
-  pub holds : (n : ℕ) (sized : SizedCell) → slice_get cells n ≡ Some sized → CellHolds sized.cell sized.width (get_or clock.words n 0) (get_or clock.stores n [])
+  pub holds : (n w : ℕ) (x : SizedCell) (ws : List ℕ) → slice_get cells n ≡ Some x → slice_get clock.words n ≡ Some w → slice_get clock.stores n ≡ Some ws → CellHolds x.cell x.width w ws
 
 -- a run: what is not said of a word here is free
 pub record IsRun (cells : List SizedCell) (run : List Clock) : Type 0 where
-  pub shaped : (t : ℕ) → t < length run → IsShaped cells (get_or run t no_clock)
+  pub shaped : (t : ℕ) (clock : Clock) → slice_get run t ≡ Some clock → IsShaped cells clock
   pub settles : (t n : ℕ) (sized : SizedCell) → t < length run → slice_get cells n ≡ Some sized → Settles cells run t n sized.cell
   pub steps : (t n : ℕ) (sized : SizedCell) → t + 1 < length run → slice_get cells n ≡ Some sized → Steps run t n sized.cell
 
@@ -116,5 +116,5 @@ pub record IsRunOn (cells : List SizedCell) (given run : List Clock) : Type 0 wh
 -- for any inputs and any first words there is exactly one run
 abbrev pub HasOneRun : List SizedCell → Type 0
 HasOneRun cells =
-    (given : List Clock) → ((t : ℕ) → t < length given → IsShaped cells (get_or given t no_clock))
+    (given : List Clock) → ((t : ℕ) (clock : Clock) → slice_get given t ≡ Some clock → IsShaped cells clock)
     → (run : List Clock) × IsRunOn cells given run × ((other : List Clock) → IsRunOn cells given other → other ≡ run)

@@ -12,6 +12,7 @@ use Rattle.ae_netlist.specs.Circuit.{Circuit, IsNet, IsPlain, IsOperation, Opera
 use Rattle.ae_netlist.specs.Counts.{is_product}
 use Rattle.ae_netlist.specs.Runs.{Clock, CellHolds, InEveryRunFrom, IsRun, word_at}
 use Rattle.ae_netlist.proofs.Growing.{main_is, net_later, net_width}
+use Rattle.ae_netlist.proofs.Shapes.{clock_shaped, cell_holds}
 use Rattle.ae_clocked.specs.Signals.{Adds, Grows, IsResult}
 use Rattle.ae_ops.specs.Signs.{IsBySign}
 use Rattle.ae_ops.proofs.SignWords.{cast_is, sar_is}
@@ -28,7 +29,7 @@ plain_fits (Peek mem at) w x store p h = h.0
 -- the word of a net fits its width
 pub held_fits : (all : List SizedCell) (run : List Clock) (t n w : ℕ) → IsRun all run → t < length run → IsNet all n w → word_at run t n < 2 ^ w
 unfolding word_at
-held_fits all run t n w r l net = rw (← net.wide) (plain_fits net.sized.cell net.sized.width _ _ net.plain ((r.shaped t l).holds n net.sized net.found))
+held_fits all run t n w r l net = rw (← net.wide) (plain_fits net.sized.cell net.sized.width _ _ net.plain (cell_holds (clock_shaped r t l) n net.sized net.found))
 
 pub operation_of : (cells : List SizedCell) (op : WordOp) (args : List NetId) (w : ℕ) → is_signed op ≡ false → HasRange op → OperandsAre op (IsNet cells) args w → IsOperation cells op args (result_width_of op w)
 operation_of cells op args w plain range h =

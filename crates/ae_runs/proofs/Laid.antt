@@ -6,6 +6,7 @@ use Rattle.ae_netlist.specs.declared.cell.Cell.{Cell}
 use Rattle.ae_netlist.specs.declared.cell.Cell.TheVariants.{Input, Const, Op, Reg, Mem, Peek}
 use Rattle.ae_netlist.specs.declared.cell.SizedCell.{SizedCell}
 use Rattle.ae_netlist.specs.Runs.{Clock, CellHolds, IsShaped}
+use Rattle.ae_netlist.proofs.Shapes.{each_holds}
 use Rattle.ae_runs.specs.SameRuns.{is_input_cell, is_state_cell, input_cells, state_cells, cell_words}
 
 -- the word and the store of a cell, where ws are the words of the inputs and ss those held by the states from it on
@@ -103,7 +104,7 @@ pub laid_shaped : (cells : List SizedCell) (ws : List ℕ) (ss : List (List ℕ)
 laid_shaped cells ws ss f g = record {
   words = laid_length (λ (e : ℕ × List ℕ). e.0) cells ws ss;
   stores = laid_length (λ (e : ℕ × List ℕ). e.1) cells ws ss;
-  holds = hold_at cells (laid cells ws ss) (all_hold 0 cells ws ss f g);
+  holds = each_holds cells (laid_clock cells ws ss) (hold_at cells (laid cells ws ss) (all_hold 0 cells ws ss f g));
 }
 
 -- read at the inputs, and at the states, the words are the given ones

@@ -3,6 +3,7 @@ use Rattle.std.proofs.Common.{ℕ, ◌≡◌, ◌+◌, ◌<◌, List, length, ar
 use Rattle.ae_netlist.specs.declared.cell.SizedCell.{SizedCell}
 use Rattle.ae_netlist.specs.Circuit.{Circuit}
 use Rattle.ae_netlist.specs.Runs as netlist
+use Rattle.ae_netlist.proofs.Shapes.{clock_shaped, cell_holds}
 use Rattle.ae_vread.specs.declared.module.NetKind.{NetKind}
 use Rattle.ae_vread.specs.declared.module.NetKind.TheVariants.{Input, Wire, OutWire, Reg, OutReg, Memory}
 use Rattle.ae_vread.specs.ModuleTree.{ModuleTree}
@@ -22,7 +23,7 @@ stands_hold Wire cells run t net width r l s = net_fits cells run t net width s 
 stands_hold OutWire cells run t net width r l s = net_fits cells run t net width s r l
 stands_hold Reg cells run t net width r l s = net_fits cells run t net width s r l
 stands_hold OutReg cells run t net width r l s = net_fits cells run t net width s r l
-stands_hold (Memory depth) cells run t net width r l s = let h = (r.shaped t l).holds net _ s.found in (h.1, h.2)
+stands_hold (Memory depth) cells run t net width r l s = let h = cell_holds (clock_shaped r t l) net _ s.found in (h.1, h.2)
 
 module _ (m : ModuleTree) (n : Circuit) (at : List ℕ → ℕ) (r : Realizes m n at) where
   -- the run by name

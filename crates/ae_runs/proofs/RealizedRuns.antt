@@ -11,6 +11,7 @@ use Rattle.ae_netlist.specs.declared.cell.SizedCell.{SizedCell}
 use Rattle.ae_netlist.specs.declared.cell.Outlet.{Outlet}
 use Rattle.ae_netlist.specs.Circuit as circuit
 use Rattle.ae_netlist.specs.Runs as netlist
+use Rattle.ae_netlist.proofs.Shapes.{each_shaped}
 use Rattle.ae_vread.specs.declared.module.NetKind.{NetKind}
 use Rattle.ae_vread.specs.declared.module.NetKind.TheVariants.{Input as InputName, Wire, OutWire, Reg as RegName, OutReg, Memory}
 use Rattle.ae_vread.specs.ModuleTree.{NetTree, ModuleTree}
@@ -327,7 +328,7 @@ module _ (m : ModuleTree) (n : circuit.Circuit) (at : List ℕ → ℕ) (ok : Is
 
     of_module : netlist.HasOneRun n.cells → (other : List netlist.Clock) × netlist.IsRun n.cells other × BeginAlike m n run other × HaveEqualOutputs m n run other
     of_module one =
-        let made = one laid_run laid_run_shaped in
+        let made = one laid_run (each_shaped n.cells laid_run laid_run_shaped) in
         let alike = begins made.0 made.1 in
         (made.0, made.1.runs, alike, equal m n at ok r run made.0 p made.1.runs alike)
 

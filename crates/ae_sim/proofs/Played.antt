@@ -15,6 +15,7 @@ use Rattle.ae_netlist.specs.Rows.{Firsts}
 use Rattle.ae_netlist.proofs.Gets.{get_from_take}
 use Rattle.ae_netlist.proofs.Settled.{cell_word, IsSettled, settled_once}
 use Rattle.ae_netlist.proofs.Given.{word_in, store_in}
+use Rattle.ae_netlist.proofs.Shapes.{clock_shaped, cell_holds}
 use Rattle.ae_sim.specs.Playing.{Plays, HasPlayed}
 
 -- a run that plays a row more plays these
@@ -42,7 +43,7 @@ clock_word cells held row run t n width (Input port) formed r b found a = rw fou
 clock_word cells held row run t n width (Const k) formed r b found a = r.settles t n _ b found
 clock_word cells held row run t n width (Op op args) formed r b found a = r.settles t n _ b found
 clock_word cells held row run t n width (Reg next) formed r b found a = rw found (sym (a.registers n _ found refl))
-clock_word cells held row run t n width (Mem depth at next enable) formed r b found a = ((r.shaped t b).holds n _ found).0
+clock_word cells held row run t n width (Mem depth at next enable) formed r b found a = (cell_holds (clock_shaped r t b) n _ found).0
 clock_word cells held row run t n width (Peek mem at) formed r b found a =
     let fits = (formed.each n (record { width = width; cell = Peek mem at }) found).cell in
     let kept : SizedCell = record { width = width; cell = Mem fits.depth fits.memory.at fits.memory.next fits.memory.enable } in
@@ -82,7 +83,7 @@ other_net cells n m width v depth at to enable found net e =
 
 memory_word : (cells : List SizedCell) (run : List Clock) (t n width depth : ℕ) (at to enable : NetId) → IsRun cells run → t < length run → slice_get cells n ≡ Some (record { width = width; cell = Mem depth at to enable }) → word_at run t n ≡ 0
 unfolding word_at
-memory_word cells run t n width depth at to enable r b found = ((r.shaped t b).holds n _ found).0
+memory_word cells run t n width depth at to enable r b found = (cell_holds (clock_shaped r t b) n _ found).0
 
 memory_played : (cells : List SizedCell) (held next : Firsts) (row new : List ℕ) (run : List Clock) (t n width : ℕ) (cell : Cell) → is_memory cell ≡ true → IsFormed cells → IsRun cells run → t + 1 < length run
     → slice_get cells n ≡ Some (record { width = width; cell = cell }) → ((i : ℕ) → i < length cells → get_or new i 0 ≡ word_at run t i) → Agrees cells held row run t → HasTurned cells held next new

@@ -9,6 +9,7 @@ use Rattle.ae_netlist.specs.declared.cell.SizedCell.{SizedCell}
 use Rattle.ae_netlist.specs.declared.cell.Outlet.{Outlet}
 use Rattle.ae_netlist.specs.Circuit as c
 use Rattle.ae_netlist.specs.Runs as r
+use Rattle.ae_netlist.proofs.Shapes.{each_shaped, each_holds}
 use Rattle.ae_elab.specs.Values.{ModuleClock}
 use Rattle.ae_elab.specs.Runs.{idle_clock, clock_at, FitsKind, IsModuleRun}
 use Rattle.ae_verilog.specs.NetlistModule.{port_name, number_name, cell_name}
@@ -134,11 +135,11 @@ module _ (lines : ℕ → ℕ) (cells : List SizedCell) (outlets : List Outlet) 
   shaped t l = subst (r.IsShaped cells) (sym (clock_is lines cells run t l)) (record {
     words = words_long lines (clock_at run t) 0 cells;
     stores = stores_long lines (clock_at run t) 0 cells;
-    holds = λ k x h.
+    holds = each_holds cells (numbered lines cells (clock_at run t)) (λ k x h.
         let n : 0 + k ≡ k = omega arith in
         let w : get_or (words_from lines (clock_at run t) 0 cells) k 0 ≡ own_word lines (clock_at run t) k x.cell = word_from lines (clock_at run t) 0 cells k x h ∙ (λ i. own_word lines (clock_at run t) (n i) x.cell) in
         let s : get_or (stores_from lines (clock_at run t) 0 cells) k [] ≡ own_store lines (clock_at run t) k x.cell = store_from lines (clock_at run t) 0 cells k x h ∙ (λ i. own_store lines (clock_at run t) (n i) x.cell) in
-        subst (λ v. r.CellHolds x.cell x.width v (get_or (stores_from lines (clock_at run t) 0 cells) k [])) (sym w) (subst (r.CellHolds x.cell x.width (own_word lines (clock_at run t) k x.cell)) (sym s) (cell_holds t k x.width x.cell l h));
+        subst (λ v. r.CellHolds x.cell x.width v (get_or (stores_from lines (clock_at run t) 0 cells) k [])) (sym w) (subst (r.CellHolds x.cell x.width (own_word lines (clock_at run t) k x.cell)) (sym s) (cell_holds t k x.width x.cell l h)));
   })
 
   settles : (t k width : ℕ) (cell : Cell) → t < length run → slice_get cells k ≡ Some (record { width = width; cell = cell }) → r.Settles cells other t k cell
@@ -172,7 +173,7 @@ module _ (lines : ℕ → ℕ) (cells : List SizedCell) (outlets : List Outlet) 
 
   pub by_number_is_run : r.IsRun cells other
   by_number_is_run = record {
-    shaped = λ t l. shaped t (within t l);
+    shaped = each_shaped cells other (λ t l. shaped t (within t l));
     settles = λ t k x l h. settles t k x.width x.cell (within t l) h;
     steps = λ t k x l h. steps t k x.width x.cell (within (t + 1) l) h;
   }

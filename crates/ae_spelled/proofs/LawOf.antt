@@ -10,6 +10,7 @@ use Rattle.ae_netlist.specs.declared.cell.Outlet.{Outlet}
 use Rattle.ae_netlist.specs.Circuit as c
 use Rattle.ae_netlist.specs.Counts as c_counts
 use Rattle.ae_netlist.specs.Runs as r
+use Rattle.ae_netlist.proofs.Shapes.{clock_shaped, cell_holds as net_holds}
 use Rattle.ae_vread.specs.ModuleTree.{NetTree}
 use Rattle.ae_elab.specs.Names.{Among, is_clock}
 use Rattle.ae_elab.specs.Values.{ModuleClock}
@@ -124,7 +125,7 @@ module _ (lines : ℕ → ℕ) (cells : List SizedCell) (outlets : List Outlet) 
 
     holds_at : (t k : ℕ) (x : SizedCell) → t < length run → slice_get cells k ≡ Some x → r.CellHolds x.cell x.width (r.word_at run t k) (r.store_at run t k)
     unfolding r.word_at r.store_at
-    holds_at t k x l h = (is.shaped t l).holds k x h
+    holds_at t k x l h = net_holds (clock_shaped is t l) k x h
 
     net_fits : (t a w : ℕ) → t < length run → c.IsNet cells a w → r.word_at run t a < 2 ^ w
     net_fits t a w l h = subst (λ v. r.word_at run t a < 2 ^ v) h.wide (plain_fits h.sized.cell h.sized.width _ _ h.plain (holds_at t a h.sized l h.found))

@@ -17,6 +17,7 @@ use Rattle.std.proofs.lemmas.List.Sums.{count_by-le-length}
 use Rattle.ae_netlist.specs.Circuit.{Circuit}
 use Rattle.ae_netlist.specs.Runs as netlist
 use Rattle.ae_netlist.specs.Runs.{Clock, no_clock, word_at}
+use Rattle.ae_netlist.proofs.Shapes.{clock_shaped}
 use Rattle.ae_vread.specs.ModuleTree.{ModuleTree}
 use Rattle.ae_elab.specs.Values.{ModuleClock}
 use Rattle.ae_elab.specs.Runs.{IsResetRun, clock_at, idle_clock}
@@ -151,7 +152,7 @@ module _ (lines : ℕ → ℕ) (p : ProgramTree) (slowdown : ℕ) (costs : OwnCo
     word_there : (t k : ℕ) (h : IsThere t) → k < length n.cells → word_at part t k ≡ word_at other h.place (renumbered k)
     unfolding word_at
     word_there t k h l =
-        let shaped = is_run.shaped h.place (let b = h.within in omega (arith, alike.long)) in
+        let shaped = clock_shaped is_run h.place (let b = h.within in omega (arith, alike.long)) in
         rw h.right (without_at (length n.cells) (get_or other h.place no_clock).words k 0 l (omega (arith, shaped.words, still.longer)))
 
     -- ---- a run of the module without the enable

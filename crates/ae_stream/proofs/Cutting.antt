@@ -15,6 +15,7 @@ use Rattle.ae_netlist.specs.Runs.{Clock, no_clock, word_at, store_at, IsShaped, 
 use Rattle.ae_netlist.proofs.Gets.{get_from_take, get_take_within}
 use Rattle.ae_netlist.proofs.Growing.{extends_length, width_is}
 use Rattle.ae_netlist.proofs.Settled.{each_operand}
+use Rattle.ae_netlist.proofs.Shapes.{clock_shaped, each_shaped, cell_holds, each_holds}
 use Rattle.ae_stream.specs.Inside.{first_nets}
 
 -- what holds of both first operands holds of the main one
@@ -49,12 +50,14 @@ module _ (old all : List SizedCell) (formed : IsFormed old) (e : Extends old all
   shaped : (t : ℕ) → t < length run → IsShaped old (get_or part t no_clock)
   shaped t l =
       let c : Clock = get_or run t no_clock in
-      let s : IsShaped all c = r.shaped t l in
+      let s : IsShaped all c = clock_shaped r t l in
       let many : length old ≤ length all = extends_length old all e in
       let cut : IsShaped old (first_nets (length old) c) = record {
         words = omega (arith, s.words, many, length-take (length old) c.words);
         stores = omega (arith, s.stores, many, length-take (length old) c.stores);
-        holds = λ n sized h. (let b : n < length old = slice_get_within old n sized h in rw (get_or-take (length old) c.words n 0 b, get_or-take (length old) c.stores n [] b) (s.holds n sized (e.keeps n sized h)));
+        holds = each_holds old (first_nets (length old) c) (λ n sized h.
+            let b : n < length old = slice_get_within old n sized h in
+            rw (get_or-take (length old) c.words n 0 b, get_or-take (length old) c.stores n [] b) (cell_holds s n sized (e.keeps n sized h)));
       } in
       subst (λ (k : Clock). IsShaped old k) (sym (place t l)) cut
 
@@ -104,7 +107,7 @@ module _ (old all : List SizedCell) (formed : IsFormed old) (e : Extends old all
 
   pub first_run : IsRun old part
   first_run = record {
-    shaped = λ t l. shaped t (omega (arith, size));
+    shaped = each_shaped old part (λ t l. shaped t (omega (arith, size)));
     settles = λ t n sized l h. settles t n sized.width sized.cell (omega (arith, size)) h (formed.each n sized h).cell (r.settles t n sized (omega (arith, size)) (e.keeps n sized h));
     steps = λ t n sized l h. steps t n sized.width sized.cell (omega (arith, size)) (slice_get_within old n sized h) (formed.each n sized h).cell (r.steps t n sized (omega (arith, size)) (e.keeps n sized h));
   }

@@ -5,6 +5,7 @@ use Rattle.std.proofs.lemmas.List.{take-take}
 use Rattle.ae_netlist.specs.Circuit.{Circuit}
 use Rattle.ae_netlist.specs.Runs.{Clock, no_clock, IsRun, IsShaped}
 use Rattle.ae_netlist.proofs.Growing.{extends_length}
+use Rattle.ae_netlist.proofs.Shapes.{clock_shaped}
 use Rattle.ae_rewrite.specs.Blocks.{outlet_net}
 use Rattle.ae_stall.specs.Images.{placed}
 use Rattle.ae_stall.specs.Held.{held_part, inner_clock, without_inputs}
@@ -40,7 +41,7 @@ module _ (x : Control) (ends : Ends) (n marked copied new : Circuit) (h : IsHeld
 
   word : (t k : ℕ) → t < length run → k < length n.cells → word_in k (inner (get_or run t no_clock)) ≡ word_in (placed 2 k) (get_or run t no_clock)
   word t k l b =
-      let s : IsShaped new.cells (get_or run t no_clock) = r.shaped t l in
+      let s : IsShaped new.cells (get_or run t no_clock) = clock_shaped r t l in
       without_inputs_at 2 (length n.cells) (get_or run t no_clock).words k 0 b (omega (arith, s.words, h.held.longer, h.longer, many))
 
   pub inside : IsInside x ends n inner run

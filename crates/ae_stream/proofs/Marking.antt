@@ -5,6 +5,7 @@ use Rattle.std.proofs.lemmas.List.{get_or-append_right, get_or-drop, get_or-map,
 use Rattle.ae_netlist.specs.Circuit.{Circuit, IsFormed}
 use Rattle.ae_netlist.specs.Runs.{Clock, no_clock, word_at, HasWords, InEveryResetRun, IsReset, IsRun, IsShaped}
 use Rattle.ae_netlist.proofs.Growing.{extends_refl}
+use Rattle.ae_netlist.proofs.Shapes.{clock_shaped}
 use Rattle.ae_stall.specs.Held.{IsHeld, inner_clock, seen_part, until}
 use Rattle.ae_stall.specs.Images.{placed}
 use Rattle.ae_stall.proofs.Lists.{IsFound, all_until, without_inputs_at}
@@ -68,7 +69,7 @@ module _ (x : Control) (marked copied new : Circuit) (formed : IsFormed marked.c
     word : (k i y : ℕ) → k < length chosen → i < length run → get_or chosen k no_clock ≡ get_or run i no_clock → y < length marked.cells → word_at part k y ≡ word_at run i (placed 2 y)
     unfolding word_at
     word k i y l b e n =
-        let s : IsShaped new.cells (get_or run i no_clock) = r.shaped i b in
+        let s : IsShaped new.cells (get_or run i no_clock) = clock_shaped r i b in
         ap (word_in y) (get_or-map (inner_clock 2 (length marked.cells)) chosen k no_clock no_clock l ∙ ap (inner_clock 2 (length marked.cells)) e)
         ∙ without_inputs_at 2 (length marked.cells) (get_or run i no_clock).words y 0 n (omega (arith, s.words, held.longer, longer))
 

@@ -20,6 +20,7 @@ use Rattle.ae_netlist.specs.Runs.{Clock, no_clock, word_at, store_at, CellHolds,
 use Rattle.ae_netlist.proofs.Gets.{get_take_within}
 use Rattle.ae_netlist.proofs.Growing.{width_is}
 use Rattle.ae_netlist.proofs.Settled.{each_operand}
+use Rattle.ae_netlist.proofs.Shapes.{clock_shaped, each_shaped, cell_holds, each_holds}
 use Rattle.ae_tidy.specs.Images.{Maps, IsImage}
 use Rattle.ae_tidy.proofs.Copying.{image_plain}
 
@@ -104,16 +105,16 @@ read_holds old new table run t n sized (Some (Some m)) a r l h e =
     let same : at.sized ≡ sized = (let q : Some at.sized ≡ Some sized = sym at.found ∙ h in cc) in
     let w : at.image.width ≡ sized.width = at.wide ∙ ap (λ (x : SizedCell). x.width) same in
     let like : IsImage table sized.cell at.image.cell = subst (λ (x : SizedCell). IsImage table x.cell at.image.cell) same at.alike in
-    rw (← w) (holds_back table sized.cell at.image.cell at.image.width _ _ like ((r.shaped t l).holds m.0 at.image at.there))
+    rw (← w) (holds_back table sized.cell at.image.cell at.image.width _ _ like (cell_holds (clock_shaped r t l) m.0 at.image at.there))
 
 read_shaped : (old new : List SizedCell) (table : List (Option NetId)) (run : List Clock) (t : ℕ) → AreImages old new table → IsRun new run → t < length run → IsShaped old (read_clock old table run t)
 read_shaped old new table run t a r l = record {
   words = length-map-range_with_len (read_word run table t) 0 (length old);
   stores = length-map-range_with_len (read_store old run table t) 0 (length old);
-  holds = λ n sized h.
+  holds = each_holds old (read_clock old table run t) (λ n sized h.
       let b : n < length old = slice_get_within old n sized h in
       rw (get_or-map-range_with_len (read_word run table t) 0 (length old) n n 0 b (omega arith), get_or-map-range_with_len (read_store old run table t) 0 (length old) n n [] b (omega arith))
-      (read_holds old new table run t n sized (slice_get table n) a r l h refl);
+      (read_holds old new table run t n sized (slice_get table n) a r l h refl));
 }
 
 -- a net has one place
@@ -157,7 +158,7 @@ steps_of new run t m image cell r l there is = subst (λ (c : Cell). Steps run t
 -- what nets hold in a clock of a run
 holds_at : (cells : List SizedCell) (run : List Clock) (t n : ℕ) (sized : SizedCell) → IsRun cells run → t < length run → slice_get cells n ≡ Some sized → CellHolds sized.cell sized.width (word_at run t n) (store_at run t n)
 unfolding word_at store_at
-holds_at cells run t n sized r l h = (r.shaped t l).holds n sized h
+holds_at cells run t n sized r l h = cell_holds (clock_shaped r t l) n sized h
 
 -- a memory names itself exactly where the one in its place does
 pub same_own : (old new : List SizedCell) (table : List (Option NetId)) (n m width depth : ℕ) (at next enable to : NetId) (image : SizedCell) → AreImages old new table → IsFormed old → Maps table n m
@@ -277,7 +278,8 @@ pub read_as : (old new : List SizedCell) (table : List (Option NetId)) (after : 
     → (before : List Clock) × IsReadAs old new table before after
 read_as old new table after one formed a r =
     let long : length (read_run old table after) ≡ length after = read_length old table after in
-    let found = one (read_run old table after) (λ t l. let k : t < length after = (rw long at l) in rw (read_is old table after t k) (read_shaped old new table after t a r k)) in
+    let found = one (read_run old table after)
+    (each_shaped old (read_run old table after) (λ t l. let k : t < length after = (rw long at l) in rw (read_is old table after t k) (read_shaped old new table after t a r k))) in
     let same : length found.0 ≡ length after = found.1.long ∙ long in (
       found.0,
       record {
