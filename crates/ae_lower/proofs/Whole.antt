@@ -179,11 +179,11 @@ light_enough instances t s k times limit last found =
     let same : instance_costs instances k ≡ t.costs = rw last are in
     record { found = found; early = rw same (omega arith) }
 
-pub load_small : (instances : List StFuncTree) (t : Times) (s : StFuncTree) (k : ℕ) → AreTimes instances t → t.costs.load ≤ 100000 → k ≡ last_of instances → slice_get instances k ≡ Some s → (instance_costs instances k).load ≤ 100000
-load_small instances t s k times limit last found =
+pub load_is : (instances : List StFuncTree) (t : Times) (s : StFuncTree) (k : ℕ) → AreTimes instances t → k ≡ last_of instances → slice_get instances k ≡ Some s → (instance_costs instances k).load ≡ t.costs.load
+load_is instances t s k times last found =
     let there : slice_get instances (last_of instances) ≡ Some s = rw last at found in
     let are : instance_costs instances (last_of instances) ≡ t.costs = ap (costs_in (all_costs (take (last_of instances) instances))) there ∙ sym (times.costs s there) in
-    rw (last, are) limit
+    rw (last, are) refl
 
 -- the results by the numbers that they have here
 pub chosen_last : (instances : List StFuncTree) (s : StFuncTree) (cells : List SizedCell) (rst k : ℕ) (ins ours bundles theirs : List (List NetId)) → rst ≡ 0 → k ≡ last_of instances → ins ≡ ours → bundles ≡ theirs

@@ -22,7 +22,10 @@ use ae_rewrite::StProgram;
 use ae_tidy::tidy;
 use std::alloc::{AllocError, Global};
 
-/// More cells than a circuit takes: 16 for each unit of the greatest load, the reset, and the words of the parameters.
+/// More cells than the reset and the words of the parameters take.
+const MOST_INPUTS: u32 = 400_000;
+
+/// More cells than a circuit takes: those, and 16 for each unit of the greatest load.
 pub const MOST_CELLS: u32 = 2_000_000;
 
 /// The circuit of a program, and where the cells of its lines begin.
@@ -57,8 +60,7 @@ pub fn lower(
     flows_mean();
     let last = p.count() - 1;
     let s = instance(p, last);
-    let _load = a.load();
-    let mut nl = Netlist::new(alloc, MOST_CELLS);
+    let mut nl = Netlist::new(alloc, MOST_INPUTS + 16 * a.load());
     let rst = add_input(&mut nl, 1, Port::Reset)?;
     let ins = add_inputs(alloc, &mut nl, &s.ins)?;
     let mut clocks = Clocks::new(alloc, rst);

@@ -21,7 +21,7 @@ use Rattle.ae_lower.specs.PortNets.{bundles_from}
 use Rattle.ae_tidy.specs.Places.{AreMarks}
 use Rattle.ae_tidy.proofs.Placing.{no_marks}
 use Rattle.ae_lower.specs.Ported.{HasBegun}
-use Rattle.ae_lower.proofs.Whole.{begun_bundles, chosen_last, circuit_made, has_begun, inputs_begun, instance_at, last_is, light_enough, load_small, reset_belongs}
+use Rattle.ae_lower.proofs.Whole.{begun_bundles, chosen_last, circuit_made, has_begun, inputs_begun, instance_at, last_is, light_enough, load_is, reset_belongs}
 use Rattle.ae_lower.proofs.Tidied.{tidied_circuit}
 use Rattle.ae_lower.proofs.Blocks.{program_circuit}
 use Rattle.ae_lower.proofs.Stretches.{begun_inputs, begun_long, tidied_stretches}
@@ -43,12 +43,12 @@ unreachable-requires c =
     let k = c.count-last.result - 1 in
     let here : slice_get (st_func_trees fs) k ≡ Some (st_func_tree f) = instance_at fs k f c.instance-s.ensures in
     let sound = c.count-last.ensures.sound.each k (st_func_tree f) here in
-    let load = load_small (st_func_trees fs) c.args.a.now (st_func_tree f) k c.requires.times c.load-load.ensures.limit (last_is fs c.count-last.result c.count-last.ensures.count) here in
+    let load = load_is (st_func_trees fs) c.args.a.now (st_func_tree f) k c.requires.times (last_is fs c.count-last.result c.count-last.ensures.count) here in
     let one : length c.add_input.new.nl.cells ≡ 1 = ap (λ (n : Circuit). length n.cells) c.in_ok-rst.ensures.added ∙ ap (λ (n : Circuit). length (n.cells ++ input_cell reset_port ∷ [])) c.new-nl.ensures in
     let limit =
     ap (λ (n : Circuit). n.limit) c.in_ok-ins.ensures.cells ∙ ap (λ (n : Circuit). n.limit) c.in_ok-rst.ensures.added ∙ ap (λ (n : Circuit). n.limit) c.new-nl.ensures in
     let full : length c.lower_instance.new.nl.cells ≡ c.lower_instance.new.nl.limit = c.in-Err-Full.ensures.full c.in-Err-Full.field-0-is in
-    omega (arith, one, limit, load, full, sound.few_ins, length-map f.ins.items st_tree, ap length c.deref.ensures.value, c.in_ok-ins.ensures.few, c.lower_instance.ensures.grows.cells, c.lower_instance.ensures.grows.grows.limit)
+    omega (arith, one, limit, load, c.load.ensures.load, full, sound.few_ins, length-map f.ins.items st_tree, ap length c.deref.ensures.value, c.in_ok-ins.ensures.few, c.lower_instance.ensures.grows.cells, c.lower_instance.ensures.grows.grows.limit)
 
 pub add_inputs-requires-clause-in_size : goal.add_inputs-requires-clause-in_size
 add_inputs-requires-clause-in_size c k t at =
@@ -70,7 +70,7 @@ lower_instance-requires-clause-light c =
     let fs = c.args.p.now in
     let f = c.instance-s.result.now in (
       st_func_tree f,
-      light_enough (st_func_trees fs) c.args.a.now (st_func_tree f) (c.count-last.result - 1) c.requires.times c.load-load.ensures.limit
+      light_enough (st_func_trees fs) c.args.a.now (st_func_tree f) (c.count-last.result - 1) c.requires.times c.load.ensures.limit
           (last_is fs c.count-last.result c.count-last.ensures.count) (instance_at fs (c.count-last.result - 1) f c.instance-s.ensures),
     )
 
