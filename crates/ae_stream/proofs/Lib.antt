@@ -13,6 +13,7 @@ pub mod Flags
 pub mod Passes
 pub mod Driving
 pub mod Wiring
+pub mod Paths
 pub mod Stepping
 pub mod Rate
 pub mod Balance

@@ -1,5 +1,5 @@
 -- Where a clock stands among the transfers, what passes through a circuit between channels, what stays there, and
--- that it goes on.
+-- that it goes on and follows nothing within a clock.
 use Rattle.std.specs.Prelude.{◌≡◌, ℕ, suc, ◌+◌, ◌*◌, ◌<◌, ◌≤◌, Bool, true, List, length, drop, filter, get_or}
 use Rattle.ae_seq.specs.ProgramTree.{ProgramTree}
 use Rattle.ae_sttype.specs.StTree.{StTree}
@@ -14,6 +14,7 @@ use Rattle.ae_stream.specs.Control.{AreWithin, Control, IsAround, IsInside, step
 use Rattle.ae_stream.specs.Driven.{IsDriven, Row}
 use Rattle.ae_stream.specs.Fed.{CanBeFed}
 use Rattle.ae_stream.specs.Gates.{Gates}
+use Rattle.ae_stream.specs.Paths.{HasNoPaths, IsComplete}
 use Rattle.ae_stream.specs.Inside.{IsHeldInside}
 use Rattle.ae_stream.specs.Progress.{GoesOn}
 use Rattle.ae_stream.specs.Wired.{AreQueued, IsMarked, IsWired}
@@ -60,6 +61,12 @@ DrivenCircuitsGoOn =
     → 0 < slowdown → r < slowdown → is_beat inputs 0 ≡ true
     → IsDriven x g row ends run start slowdown q r inputs outputs → ends.sink.valid ≡ x.one
     → GoesOn ends run start slowdown (q * slowdown + r) inputs outputs
+
+abbrev pub WiredControlsHaveNoPaths : Type 0
+WiredControlsHaveNoPaths =
+    (x : Control) (g : Gates) (row : Row) (ends : Ends) (wanted wait : ℕ) (a b : List Clock) (start slowdown q r : ℕ)
+    → (inputs outputs : List StTree) → 1 ≤ start → IsComplete x g row ends wanted q wait a start slowdown r inputs outputs
+    → IsComplete x g row ends wanted q wait b start slowdown r inputs outputs → HasNoPaths ends a b start
 
 abbrev pub WiredControlsAreDriven : Type 0
 WiredControlsAreDriven =

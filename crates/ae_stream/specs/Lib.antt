@@ -7,5 +7,6 @@ pub mod Gates
 pub mod Driven
 pub mod Wired
 pub mod Fed
+pub mod Paths
 pub mod Progress
 pub mod Laws

@@ -1,6 +1,6 @@
 // What passes through a circuit between two channels.
 
-ghost use Rattle.ae_stream.specs.Laws.{BlocksAreTaken, ControlledCircuitsStream, DrivenCircuitsGoOn, DrivenCircuitsKeepWords, DrivenCircuitsStream, HeldCircuitsAreInside, HeldMarksAreSeen, WiredControlsAreDriven};
+ghost use Rattle.ae_stream.specs.Laws.{BlocksAreTaken, ControlledCircuitsStream, DrivenCircuitsGoOn, DrivenCircuitsKeepWords, DrivenCircuitsStream, HeldCircuitsAreInside, HeldMarksAreSeen, WiredControlsAreDriven, WiredControlsHaveNoPaths};
 
 /// A law: of a list of clocks in which blocks follow one another, the clocks that carry words stand in the list of
 /// transfers at the number of their block among the real ones, and of their clock among the live ones.
@@ -48,4 +48,10 @@ pub fn wired_controls_are_driven()
 /// the netlist is held by the net that says that the circuit steps, in each clock the word of the number of steps before it.
 pub fn held_marks_are_seen()
     ensures { HeldMarksAreSeen }
+{}
+
+/// A law: what such a control says at its ports in a clock behind the reset, that it asks the source, that words stand at the sink,
+/// and these words, is settled by the clocks before.
+pub fn wired_controls_have_no_paths()
+    ensures { WiredControlsHaveNoPaths }
 {}
