@@ -9,10 +9,11 @@ use Rattle.ae_sttype.specs.StTree.{StTree}
 use Rattle.ae_sttype.specs.Moves.{columns_of}
 use Rattle.ae_netlist.specs.declared.cell.Outlet.{Outlet}
 use Rattle.ae_netlist.specs.declared.cell.SizedCell.{SizedCell}
-use Rattle.ae_netlist.specs.Circuit.{Circuit, HaveNets, IsFormed}
+use Rattle.ae_netlist.specs.Circuit.{Circuit, HaveNets, IsFormed, IsNet}
 use Rattle.ae_netlist.proofs.Growing.{extends_length}
 use Rattle.ae_netlist.specs.Runs.{Clock, HasOneRun, IsReset, IsRun, no_clock, word_at}
-use Rattle.ae_clocked.specs.Signals.{Grows}
+use Rattle.ae_clocked.specs.Signals.{Adds, Grows}
+use Rattle.ae_clocked.proofs.Turns.{word_below}
 use Rattle.ae_rewrite.specs.Blocks.{MakesBlocks, outlet_net}
 use Rattle.ae_stall.specs.Held.{inner_clock}
 use Rattle.ae_stall.specs.Images.{placed, placed_net}
@@ -21,13 +22,15 @@ use Rattle.ae_stream.specs.Streams.{Ends, Stays, Streams, bit, is_beat, is_trans
 use Rattle.ae_stream.specs.Control.{AreWithin, BySteps, Control, IsInside, steps_before, word_in}
 use Rattle.ae_stream.specs.Driven.{IsDriven, late_clock}
 use Rattle.ae_stream.specs.Fed.{CanBeFed}
-use Rattle.ae_stream.specs.Laws.{DrivenCircuitsGoOn, DrivenCircuitsKeepWords, DrivenCircuitsStream, HeldCircuitsAreInside, HeldMarksAreSeen, WiredControlsAreDriven}
+use Rattle.ae_stream.specs.Laws.{DrivenCircuitsGoOn, DrivenCircuitsKeepWords, DrivenCircuitsStream, HeldCircuitsAreInside, HeldMarksAreSeen, WiredControlsAreDriven, WiredControlsHaveNoPaths}
+use Rattle.ae_stream.specs.Paths.{HasNoPaths, IsComplete}
 use Rattle.ae_stream.specs.Progress.{GoesOn}
 use Rattle.ae_stream.specs.Wired.{AreQueued, FromEach, IsMarked, IsWired}
 use Rattle.ae_streamed.specs.declared.marking.Marks.{Marks}
 use Rattle.ae_streamed.specs.Beats.{HasMarks, IsBitOf}
 use Rattle.ae_streamed.specs.Between.{IsStream, IsWrapped, channel_ends, copied_nets, ports_of, sink_valid, source_ready, wires_of}
 use Rattle.ae_streamed.specs.Columns.{net_at}
+use Rattle.ae_streamed.specs.Count.{mark_cells}
 use Rattle.ae_streamed.specs.Controls.{control_of, ends_of}
 use Rattle.ae_streamed.proofs.Cells.{net_within}
 use Rattle.ae_streamed.proofs.Phasing.{bit_of}
@@ -61,11 +64,12 @@ first_inputs q =
     f ∙ sym (ap (placed 2) e)
 
 module _ (n marked new : Circuit) (m : Marks) (slowdown latency wait : ℕ) (inputs outputs : List StTree)
-    (some : 0 < slowdown) (formed : IsFormed n.cells) (have : HaveNets n.cells n.outlets) (one : HasOneRun n.cells) (grows : Grows n marked) (formed_marked : IsFormed marked.cells)
+    (some : 0 < slowdown) (formed : IsFormed n.cells) (have : HaveNets n.cells n.outlets) (one : HasOneRun n.cells) (adds : Adds n marked (mark_cells inputs outputs) 0) (formed_marked : IsFormed marked.cells)
     (marks : HasMarks marked.cells m slowdown (latency % slowdown) inputs outputs) (wrapped : IsWrapped marked new m (latency / slowdown) wait) (waits : (c : ℕ) → is_beat outputs c ≡ true → latency + c < suc wait * slowdown)
     (ins : AreWithin inputs slowdown (sum_by columns_of inputs)) (outs : AreWithin outputs slowdown (sum_by columns_of outputs))
     (fits : sum_by columns_of inputs < length n.cells) (shows : length n.outlets ≡ sum_by columns_of outputs) (any : 0 < sum_by columns_of outputs)
-    (lies_inside : HeldCircuitsAreInside) (are_seen : HeldMarksAreSeen) (are_driven : WiredControlsAreDriven) (they_stream : DrivenCircuitsStream) (they_keep : DrivenCircuitsKeepWords) (they_go_on : DrivenCircuitsGoOn) where
+    (lies_inside : HeldCircuitsAreInside) (are_seen : HeldMarksAreSeen) (are_driven : WiredControlsAreDriven) (they_stream : DrivenCircuitsStream) (they_keep : DrivenCircuitsKeepWords) (they_go_on : DrivenCircuitsGoOn)
+    (they_have_no_paths : WiredControlsHaveNoPaths) where
   abbrev columns : ℕ
   columns = length n.outlets
 
@@ -83,6 +87,9 @@ module _ (n marked new : Circuit) (m : Marks) (slowdown latency wait : ℕ) (inp
   own_is =
       ap (λ k. record own { source = record { valid = 1; ready = k } }) (sym wrapped.shown.asks)
       ∙ ap (λ k. record own { source = record { valid = 1; ready = outlet_net new.outlets 0 }; sink = record { valid = k; ready = 2 } }) (sym wrapped.shown.one)
+
+  grows : Grows n marked
+  grows = adds.grows
 
   long : length n.cells ≤ length marked.cells
   long = extends_length n.cells marked.cells grows.extends
@@ -161,14 +168,33 @@ module _ (n marked new : Circuit) (m : Marks) (slowdown latency wait : ℕ) (inp
     goes_on_own = subst (λ k. GoesOn own run start slowdown k inputs outputs) (div-add-mod' latency slowdown)
         (they_go_on x wrapped.control.gates wrapped.control.row own run start slowdown (latency / slowdown) (latency % slowdown) inputs outputs some (mod_below latency slowdown some) ins.first driven refl)
 
+    complete : IsComplete x wrapped.control.gates wrapped.control.row own (placed 2 m.wants.0) (latency / slowdown) wait run start slowdown (latency % slowdown) inputs outputs
+    complete = record {
+      wired = wired;
+      queued = queued;
+      marked = marked_run;
+      asks = λ t l. word_below new.cells run t wrapped.by.asks.0 1 r l wrapped.asks;
+      stands = λ t l. word_below new.cells run t wrapped.by.one.0 1 r l wrapped.stands;
+    }
+
+  no_paths_own : (a b : List Clock) (start : ℕ) → IsRun new.cells a → IsReset a 0 start → IsRun new.cells b → IsReset b 0 start → HasNoPaths own a b start
+  no_paths_own a b start ra reset rb reset_b =
+      they_have_no_paths x wrapped.control.gates wrapped.control.row own (placed 2 m.wants.0) wait a b start slowdown (latency / slowdown) (latency % slowdown) inputs outputs reset.some
+      (complete a start ra reset) (complete b start rb reset_b)
+
   pub is_stream : IsStream n new slowdown latency inputs outputs
   is_stream = record {
     valid = wrapped.valid;
     ready = wrapped.ready;
     ports = wrapped.shown.ports ∙ ap (λ o. source_ready ∷ sink_valid ∷ ports_of o) grows.outlets;
+    asks = subst (λ k. IsNet new.cells k 1) (sym wrapped.shown.asks) wrapped.asks;
+    stands = subst (λ k. IsNet new.cells k 1) (sym wrapped.shown.one) wrapped.stands;
     streams = λ p fed makes run start r reset. subst (λ e. Streams e run start p slowdown inputs outputs) own_is (streams_own run start r reset p fed makes);
     stays = λ run start r reset. subst (λ e. Stays e columns run start) own_is (stays_own run start r reset);
     goes_on = λ run start r reset. subst (λ e. GoesOn e run start slowdown latency inputs outputs) own_is (goes_on_own run start r reset);
+    no_paths = λ a start ra reset b rb reset_b. subst (λ e. HasNoPaths e a b start) own_is (no_paths_own a b start ra reset rb reset_b);
+    few = omega (arith, wrapped.few, adds.cells, ap length grows.outlets);
+    muls = omega (arith, wrapped.muls, adds.muls);
   }
 
 -- a circuit and the same with another limit
@@ -177,9 +203,14 @@ same_stream n new slowdown latency limit inputs outputs h = record {
   valid = h.valid;
   ready = h.ready;
   ports = h.ports;
+  asks = h.asks;
+  stands = h.stands;
   streams = λ p fed m. h.streams p fed (record { makes = m.makes });
   stays = h.stays;
   goes_on = h.goes_on;
+  no_paths = h.no_paths;
+  few = h.few;
+  muls = h.muls;
 }
 
 -- no more blocks than the latency has, and one

@@ -1,14 +1,17 @@
 -- Cells that are added one behind the other, and registers that are connected one after another.
-use Rattle.std.proofs.Common.{ℕ, zero, suc, ◌≡◌, ◌+◌, ◌-◌, ◌*◌, ◌<◌, ◌≤◌, inl, inr, List, [], ◌∷◌, ◌++◌, length, length-append, length-set, map, take, set, Some, slice_get, get_or, arith, refl, sym, ap, ◌∙◌}
+use Rattle.std.proofs.Common.{ℕ, zero, suc, ◌≡◌, ◌+◌, ◌-◌, ◌*◌, ◌<◌, ◌≤◌, inl, inr, List, [], ◌∷◌, ◌++◌, length, length-append, length-set, map, take, set, cond, Some, slice_get, get_or, arith, refl, sym, ap, ◌∙◌}
 use Rattle.std.proofs.lemmas.Bool.{cases_eq}
+use Rattle.std.proofs.lemmas.List.Sums.{sum_by-append, sum_by-cons}
 use Rattle.std.proofs.lemmas.Option.{slice_get_within}
 use Rattle.ae_word.specs.declared.op.WordOp.TheVariants.{Mux}
 use Rattle.ae_netlist.specs.declared.cell.NetId.{NetId}
 use Rattle.ae_netlist.specs.declared.cell.Cell.TheVariants.{Reg}
 use Rattle.ae_netlist.specs.declared.cell.SizedCell.{SizedCell}
 use Rattle.ae_netlist.specs.Circuit.{Circuit, IsNet, IsOperation, IsRegister, new_register, operand, width_of}
+use Rattle.ae_netlist.specs.Counts.{count_of, is_mul}
 use Rattle.ae_netlist.proofs.Gets.{get_left, get_pushed, get_set_other, get_set_same}
 use Rattle.ae_netlist.proofs.Growing.{net_later, net_width, width_is, extends_append, extends_length, extends_refl, extends_trans, keeps_connected}
+use Rattle.ae_clocked.proofs.Adding.{count_connected}
 use Rattle.ae_streamed.specs.Cells.{AreChoices, AreConnected, CanConnect, HasRegisters, IsLonger, StandsBefore, choice, taking}
 
 -- ---- lists
@@ -75,14 +78,27 @@ choice_allowed cells width gates k nets h found =
 
 -- ---- longer netlists
 
+plain_append : (cells more : List SizedCell) → count_of is_mul more ≡ 0 → count_of is_mul (cells ++ more) ≡ count_of is_mul cells
+plain_append cells more none =
+    let e : count_of is_mul (cells ++ more) ≡ count_of is_mul cells + count_of is_mul more = sum_by-append (λ (s : SizedCell). cond (is_mul s.cell) 1 0) cells more in
+    omega (arith, e, none)
+
+-- choices multiply nothing
+pub choices_plain : (width : ℕ) (gates : List (List NetId)) → count_of is_mul (map (choice width) gates) ≡ 0
+choices_plain width [] = refl
+choices_plain width (x ∷ gates) =
+    let e : count_of is_mul (map (choice width) (x ∷ gates)) ≡ 0 + count_of is_mul (map (choice width) gates) =
+    sum_by-cons (λ (s : SizedCell). cond (is_mul s.cell) 1 0) (choice width x) (map (choice width) gates) in
+    omega (arith, e, choices_plain width gates)
+
 pub longer_refl : (a : Circuit) → IsLonger a a
-longer_refl a = record { extends = extends_refl a.cells; limit = refl; outlets = refl }
+longer_refl a = record { extends = extends_refl a.cells; limit = refl; outlets = refl; muls = refl }
 
 pub longer_trans : {a b c : Circuit} → IsLonger a b → IsLonger b c → IsLonger a c
-longer_trans p q = record { extends = extends_trans p.extends q.extends; limit = q.limit ∙ p.limit; outlets = q.outlets ∙ p.outlets }
+longer_trans p q = record { extends = extends_trans p.extends q.extends; limit = q.limit ∙ p.limit; outlets = q.outlets ∙ p.outlets; muls = q.muls ∙ p.muls }
 
-pub longer_by : (a b : Circuit) (more : List SizedCell) → b ≡ record a { cells = a.cells ++ more } → IsLonger a b
-longer_by a b more e = rw e (record { extends = extends_append a.cells more; limit = refl; outlets = refl })
+pub longer_by : (a b : Circuit) (more : List SizedCell) → b ≡ record a { cells = a.cells ++ more } → count_of is_mul more ≡ 0 → IsLonger a b
+longer_by a b more e none = rw e (record { extends = extends_append a.cells more; limit = refl; outlets = refl; muls = plain_append a.cells more none })
 
 -- ---- registers
 
@@ -95,7 +111,7 @@ registers_more a b new k h e =
     let last : slice_get (b.cells ++ sized ∷ []) (length a.cells + k) ≡ Some (new_register (length a.cells + k) 1) =
     ap (slice_get (b.cells ++ sized ∷ [])) (sym h.long) ∙ (get_pushed b.cells sized ∙ ap (λ n. Some (new_register n 1)) h.long) in
     rw e (record {
-      longer = longer_trans h.longer (longer_by b _ (sized ∷ []) refl);
+      longer = longer_trans h.longer (longer_by b _ (sized ∷ []) refl refl);
       long = omega (arith, length-append b.cells (sized ∷ []), h.long);
       each = λ i l. elim (cases_eq i k) [
         | inl same ↦ ap (λ n. slice_get (b.cells ++ sized ∷ []) (length a.cells + n)) same ∙ (last ∙ ap (λ n. Some (new_register (length a.cells + n) 1)) (sym same))
@@ -106,7 +122,7 @@ registers_more a b new k h e =
 -- ---- connected registers
 
 pub connected_none : (a : Circuit) (first next : ℕ) → AreConnected a a first next 0
-connected_none a first next = record { each = λ k l. absurd (omega arith); others = λ n sized o h. h; nets = λ n w h. h; long = refl; limit = refl; outlets = refl }
+connected_none a first next = record { each = λ k l. absurd (omega arith); others = λ n sized o h. h; nets = λ n w h. h; long = refl; limit = refl; outlets = refl; muls = refl }
 
 -- the next one is still as it was
 pub still_register : (a b : Circuit) (first count next k : ℕ) → CanConnect a.cells first count next → AreConnected a b first next k → k < count → IsRegister b.cells (first + k) 1
@@ -131,6 +147,7 @@ connected_more a b new first count next k w can h l is e =
       long = length-set b.cells (first + k) sized ∙ h.long;
       limit = h.limit;
       outlets = h.outlets;
+      muls = count_connected is_mul b.cells (first + k) 1 (record { 0 = next + 2 * k }) reg refl ∙ h.muls;
     })
 
 -- ---- what is there

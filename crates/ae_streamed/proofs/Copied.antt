@@ -1,5 +1,5 @@
 -- A control behind a copy, the outputs, and the copy held.
-use Rattle.std.proofs.Common.{ℕ, zero, suc, ◌≡◌, ◌+◌, ◌*◌, ◌<◌, inl, inr, List, [], ◌∷◌, ◌++◌, length, length-append, take, Some, slice_get, arith, refl, sym, ap, ◌∙◌, subst}
+use Rattle.std.proofs.Common.{ℕ, zero, suc, ◌≡◌, ◌+◌, ◌*◌, ◌<◌, ◌≤◌, inl, inr, List, [], ◌∷◌, ◌++◌, length, length-append, take, Some, slice_get, arith, refl, sym, ap, ◌∙◌, subst}
 use Rattle.std.proofs.Math.Seq.{take-length}
 use Rattle.std.specs.Prelude.{◌⊎◌, ◌≢◌}
 use Rattle.std.proofs.lemmas.Bool.{cases_eq}
@@ -11,6 +11,7 @@ use Rattle.ae_netlist.specs.declared.cell.Cell.{Cell}
 use Rattle.ae_netlist.specs.declared.cell.Cell.TheVariants.{Input, Const, Op, Reg, Mem, Peek}
 use Rattle.ae_netlist.specs.declared.cell.SizedCell.{SizedCell}
 use Rattle.ae_netlist.specs.Circuit.{Circuit, Extends, HaveNets, IsNet, IsPlain, width_of}
+use Rattle.ae_netlist.specs.Counts.{count_of, is_mul}
 use Rattle.ae_netlist.proofs.Growing.{extends_length, net_later}
 use Rattle.ae_rewrite.specs.Blocks.{outlet_net}
 use Rattle.ae_stall.specs.Copies.{IsCopied, MayBeHeld, reset_cell}
@@ -22,6 +23,7 @@ use Rattle.ae_streamed.specs.declared.marking.Marks.{Marks}
 use Rattle.ae_streamed.specs.Between.{AreMarkNets, AreShownBy, HasDriver, IsWrapped, channel_inputs, copied_nets, ports_of, sink_ready, sink_valid, source_ready, source_valid, wires_of}
 use Rattle.ae_streamed.specs.Cells.{IsLonger, KeepsFrom}
 use Rattle.ae_streamed.specs.Columns.{AreColumns}
+use Rattle.ae_streamed.specs.Count.{control_cells}
 use Rattle.ae_streamed.specs.Controls.{AreWires, HasControlNets, IsControl, net}
 use Rattle.ae_streamed.proofs.Cells.{longer_trans, net_within, next_first}
 use Rattle.ae_streamed.proofs.Within.{of_mapped}
@@ -54,6 +56,8 @@ columns_kept {from = from} k h = record {
 nets_later : {from : ℕ} {a b : List SizedCell} {c : Controlled} → Extends a b → HasControlNets from a c → HasControlNets from b c
 nets_later e h = record {
   behind = h.behind;
+  asks_behind = h.asks_behind;
+  one_behind = h.one_behind;
   enable = net_later e h.enable;
   asks = net_later e h.asks;
   one = net_later e h.one;
@@ -69,6 +73,7 @@ has_driver old one two new m w blocks wait at made outlets c is first control ne
     record {
       extends = subst (Extends old.cells) (sym cells) both.extends;
       limit = limit ∙ both.limit;
+      muls = ap (count_of is_mul) cells ∙ both.muls;
       control = subst (λ v. IsControl (length old.cells) new.cells v blocks wait c) is
           (subst (λ v. IsControl (length old.cells) v w blocks wait c) (sym cells) (control_kept (λ n sized l f. then_two.extends.keeps n sized f) control));
       nets = subst (λ v. HasControlNets (length old.cells) v c) (sym cells) (nets_later then_two.extends nets);
@@ -183,9 +188,12 @@ may_be_held old copied driven m blocks wait made outlets c reset h d = record {
   each = λ n sized found. record { there = d.extends.keeps (placed 2 n) _ (h.each n sized (slice_get_within old.cells n sized found) found).there };
 }
 
+net_kept : {from : ℕ} {a b : List SizedCell} {n width : ℕ} → KeepsFrom from a b → from ≤ n → IsNet a n width → IsNet b n width
+net_kept {n = n} keeps low h = record { sized = h.sized; found = keeps n h.sized low h.found; plain = h.plain; wide = h.wide }
+
 pub is_wrapped : (marked copied driven new : Circuit) (m : Marks) (blocks wait : ℕ) (made : List NetId) (c : Controlled) → made ≡ copied_nets marked.outlets → IsCopied channel_inputs marked.cells copied.cells (length marked.cells)
-    → HasDriver copied driven m blocks wait made marked.outlets c → IsHeld 2 c.enable.0 marked driven new → IsWrapped marked new m blocks wait
-is_wrapped marked copied driven new m blocks wait made c is h d held =
+    → HasDriver copied driven m blocks wait made marked.outlets c → IsHeld 2 c.enable.0 marked driven new → length driven.cells ≤ length copied.cells + control_cells blocks + 4 * length marked.outlets → IsWrapped marked new m blocks wait
+is_wrapped marked copied driven new m blocks wait made c is h d held few =
     let size : length copied.cells ≡ length marked.cells + 2 = h.long in
     let keeps : KeepsFrom (length marked.cells + 2) driven.cells new.cells = λ n sized l f. held.keeps n sized (inr l) f in
     let later : KeepsFrom d.at driven.cells new.cells = λ n sized l f. held.keeps n sized (inr (omega (arith, size, d.behind, l))) f in
@@ -197,6 +205,10 @@ is_wrapped marked copied driven new m blocks wait made c is h d held =
       valid = held.keeps 1 _ (inl (omega arith, omega arith)) (d.extends.keeps 1 _ (h.inputs 0 source_valid refl));
       ready = held.keeps 2 _ (inl (omega arith, omega arith)) (d.extends.keeps 2 _ (h.inputs 1 sink_ready refl));
       control = control_kept keeps (subst (λ v. IsControl v driven.cells (wires_of m) blocks wait c) size d.control);
+      asks = net_kept keeps (omega (arith, size, d.nets.asks_behind)) d.nets.asks;
+      stands = net_kept keeps (omega (arith, size, d.nets.one_behind)) d.nets.one;
+      few = omega (arith, size, few, held.small);
+      muls = held.kinds.muls ∙ (d.muls ∙ (h.kinds.muls ∙ ap (count_of is_mul) (take-length marked.cells)));
       at = d.at;
       columns = columns_kept later (subst (AreColumns d.at driven.cells c) is d.columns);
       shown = subst (AreShownBy c d.at marked.outlets) (sym held.outlets) d.shown;

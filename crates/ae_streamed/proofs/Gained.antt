@@ -24,9 +24,6 @@ module _ (a b c d e f : Circuit) (k0 k1 k2 k3 k4 k5 : Kept) (m : Marks) (slowdow
   from_c : Grows c f
   from_c = grows_trans wants.grows (grows_trans late.grows behind.grows)
 
-  pub marks_grow : Grows a f
-  marks_grow = grows_trans first.grows (grows_trans last.grows from_c)
-
   r1 : k1.rst ≡ 0
   r1 = first.rst ∙ reset
 

@@ -12,4 +12,5 @@ pub mod Remade
 pub mod Within
 pub mod Last
 pub mod Copied
+pub mod Counted
 pub mod Between

@@ -5,8 +5,10 @@ use Rattle.ae_netlist.specs.declared.cell.NetId.{NetId}
 use Rattle.ae_netlist.specs.declared.cell.Cell.TheVariants.{Reg}
 use Rattle.ae_netlist.specs.declared.cell.SizedCell.{SizedCell}
 use Rattle.ae_netlist.specs.Circuit.{Circuit, IsNet, IsRegister, new_register, width_of}
+use Rattle.ae_netlist.specs.Counts.{count_of, is_mul}
 use Rattle.ae_netlist.proofs.Gets.{get_pushed, get_set_other, get_set_same}
 use Rattle.ae_netlist.proofs.Growing.{net_later, net_width, width_is}
+use Rattle.ae_clocked.proofs.Adding.{count_connected}
 use Rattle.ae_streamed.specs.declared.driver.Controlled.{Controlled}
 use Rattle.ae_streamed.specs.Cells.{AreChoices, IsLonger, choice, taking}
 use Rattle.ae_streamed.specs.Controls.{net, row}
@@ -19,6 +21,10 @@ use Rattle.ae_streamed.proofs.Tables.Fit.{before, none}
 pub own_width : {cells : List SizedCell} {n w : ℕ} → IsNet cells n w → IsNet cells n (width_of cells n)
 own_width h = rw (net_width h) h
 
+-- a register more
+pub longer_one : (a b : Circuit) (w : ℕ) → b ≡ record a { cells = a.cells ++ new_register (length a.cells) w ∷ [] } → (length b.cells ≡ length a.cells + 1) × (b.limit ≡ a.limit)
+longer_one a b w e = (ap (λ (v : Circuit). length v.cells) e ∙ length-append a.cells (new_register (length a.cells) w ∷ []), ap (λ (v : Circuit). v.limit) e)
+
 module _ (s0 s1 s2 : Circuit) (c : Controlled) (made : NetId) (w at : ℕ) (is : at ≡ length s0.cells)
     (e1 : s1 ≡ record s0 { cells = s0.cells ++ new_register (length s0.cells) w ∷ [] }) (e2 : s2 ≡ record s1 { cells = s1.cells ++ new_register (length s1.cells) w ∷ [] }) where
   l1 : length s1.cells ≡ at + 1
@@ -28,10 +34,10 @@ module _ (s0 s1 s2 : Circuit) (c : Controlled) (made : NetId) (w at : ℕ) (is :
   l2 = rw e2 (omega (arith, length-append s1.cells (new_register (length s1.cells) w ∷ []), l1))
 
   longer1 : IsLonger s0 s1
-  longer1 = longer_by s0 s1 _ e1
+  longer1 = longer_by s0 s1 _ e1 refl
 
   longer2 : IsLonger s1 s2
-  longer2 = longer_by s1 s2 _ e2
+  longer2 = longer_by s1 s2 _ e2 refl
 
   first1 : slice_get s1.cells at ≡ Some (taking w (net at))
   first1 = rw (e1, is) (get_pushed s0.cells (new_register (length s0.cells) w))
@@ -52,7 +58,7 @@ module _ (s0 s1 s2 : Circuit) (c : Controlled) (made : NetId) (w at : ℕ) (is :
 
   module _ (s3 : Circuit) (e3 : s3 ≡ record s2 { cells = s2.cells ++ map (choice w) (row c.two.0 (at + 1) made.0 ∷ row c.moves.0 (at + 2) at ∷ []) }) where
     longer3 : IsLonger s2 s3
-    longer3 = longer_by s2 s3 _ e3
+    longer3 = longer_by s2 s3 _ e3 refl
 
     first3 : slice_get s3.cells at ≡ Some (taking w (net at))
     first3 = longer3.extends.keeps at _ first2
@@ -131,4 +137,7 @@ module _ (s0 s1 s2 : Circuit) (c : Controlled) (made : NetId) (w at : ℕ) (is :
           };
           limit = ap (λ (v : Circuit). v.limit) e5 ∙ (ap (λ (v : Circuit). v.limit) e4 ∙ (longer3.limit ∙ (longer2.limit ∙ longer1.limit)));
           outlets = ap (λ (v : Circuit). v.outlets) e5 ∙ (ap (λ (v : Circuit). v.outlets) e4 ∙ (longer3.outlets ∙ (longer2.outlets ∙ longer1.outlets)));
+          muls = ap (count_of is_mul) cells5 ∙ (count_connected is_mul s4.cells (at + 1) w (net (at + 2)) (record { next = net (at + 1); found = second4 }) refl
+              ∙ (ap (count_of is_mul) cells4 ∙ (count_connected is_mul s3.cells at w (net (at + 3)) (record { next = net at; found = first3 }) refl
+              ∙ (longer3.muls ∙ (longer2.muls ∙ longer1.muls)))));
         }

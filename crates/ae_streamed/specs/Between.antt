@@ -1,5 +1,5 @@
 -- A circuit between two channels, as a netlist.
-use Rattle.std.specs.Prelude.{◌≡◌, ℕ, ◌+◌, ◌*◌, ◌<◌, ◌≤◌, List, [], ◌∷◌, length, map, sum_by, Some, slice_get}
+use Rattle.std.specs.Prelude.{◌≡◌, ℕ, ◌+◌, ◌*◌, ◌/◌, ◌<◌, ◌≤◌, List, [], ◌∷◌, length, map, sum_by, Some, slice_get}
 use Rattle.ae_seq.specs.ProgramTree.{ProgramTree}
 use Rattle.ae_sttype.specs.StTree.{StTree}
 use Rattle.ae_sttype.specs.Moves.{columns_of}
@@ -9,18 +9,21 @@ use Rattle.ae_netlist.specs.declared.cell.Port.{Port}
 use Rattle.ae_netlist.specs.declared.cell.Port.TheVariants.{In, Out}
 use Rattle.ae_netlist.specs.declared.cell.SizedCell.{SizedCell}
 use Rattle.ae_netlist.specs.Circuit.{Circuit, Extends, IsNet}
+use Rattle.ae_netlist.specs.Counts.{count_of, is_mul}
 use Rattle.ae_netlist.specs.Runs.{Clock, IsReset, IsRun}
 use Rattle.ae_rewrite.specs.Blocks.{MakesBlocks, outlet_net}
 use Rattle.ae_stall.specs.Held.{IsHeld}
 use Rattle.ae_stall.specs.Images.{bit_input, placed_net}
 use Rattle.ae_stream.specs.Streams.{Ends, Stays, Streams}
 use Rattle.ae_stream.specs.Fed.{CanBeFed}
+use Rattle.ae_stream.specs.Paths.{HasNoPaths}
 use Rattle.ae_stream.specs.Progress.{GoesOn}
 use Rattle.ae_streamed.specs.declared.driver.Controlled.{Controlled}
 use Rattle.ae_streamed.specs.declared.driver.Wires.{Wires}
 use Rattle.ae_streamed.specs.declared.marking.Marks.{Marks}
 use Rattle.ae_streamed.specs.Controls.{HasControlNets, IsControl, net}
 use Rattle.ae_streamed.specs.Columns.{AreColumns}
+use Rattle.ae_streamed.specs.Count.{stream_cells, wrapped_cells}
 
 -- ---- its ports
 
@@ -83,6 +86,7 @@ pub record HasDriver (old new : Circuit) (m : Marks) (blocks wait : ℕ) (made :
     (c : Controlled) : Type 0 where
   pub extends : Extends old.cells new.cells
   pub limit : new.limit ≡ old.limit
+  pub muls : count_of is_mul new.cells ≡ count_of is_mul old.cells
   pub control : IsControl (length old.cells) new.cells (wires_of m) blocks wait c
   pub nets : HasControlNets (length old.cells) new.cells c
   pub at : ℕ
@@ -99,6 +103,10 @@ pub record IsWrapped (marked new : Circuit) (m : Marks) (blocks wait : ℕ) : Ty
   pub valid : slice_get new.cells 1 ≡ Some (bit_input source_valid)
   pub ready : slice_get new.cells 2 ≡ Some (bit_input sink_ready)
   pub control : IsControl (length marked.cells + 2) new.cells (wires_of m) blocks wait by
+  pub asks : IsNet new.cells by.asks.0 1
+  pub stands : IsNet new.cells by.one.0 1
+  pub few : length new.cells ≤ wrapped_cells (length marked.cells) (length marked.outlets) blocks
+  pub muls : count_of is_mul new.cells ≡ count_of is_mul marked.cells
   pub at : ℕ
   pub columns : AreColumns at new.cells by (copied_nets marked.outlets)
   pub shown : AreShownBy by at marked.outlets new.outlets
@@ -106,7 +114,7 @@ pub record IsWrapped (marked new : Circuit) (m : Marks) (blocks wait : ℕ) : Ty
 -- ---- what it does
 
 -- the ends of both channels. Inputs: the reset, that words stand at the source, that those at the sink are taken, and
--- the columns of the source. Outputs: that the source is asked, that words stand at the sink, and the columns of the sink
+-- the columns of the source. Outputs: that the source is asked, that words stand at the sink, and its columns
 abbrev pub channel_ends : (in_columns columns : ℕ) → List Outlet → Ends
 channel_ends in_columns columns outlets = record {
   in_columns = in_columns;
@@ -125,11 +133,14 @@ abbrev pub InResetRuns : List SizedCell → (List Clock → (start : ℕ) → Ty
 InResetRuns cells P = (run : List Clock) (start : ℕ) → IsRun cells run → IsReset run 0 start → P run start
 
 -- the circuit stands between two channels: of each program whose blocks it makes, the sink gets the results of what the
--- source gave, at whatever pace both go, words that stand at the sink stay until they are taken, and it goes on
+-- source gave, at whatever pace both go, words that stand at the sink stay until they are taken, and it goes on; no
+-- path leads from an input to an output within a clock. It has few cells beside twice the circuit, and no more products
 pub record IsStream (old new : Circuit) (slowdown latency : ℕ) (inputs outputs : List StTree) : Type 0 where
   pub valid : slice_get new.cells 1 ≡ Some (bit_input source_valid)
   pub ready : slice_get new.cells 2 ≡ Some (bit_input sink_ready)
   pub ports : ports_of new.outlets ≡ source_ready ∷ sink_valid ∷ ports_of old.outlets
+  pub asks : IsNet new.cells (outlet_net new.outlets 0) 1
+  pub stands : IsNet new.cells (outlet_net new.outlets 1) 1
   pub streams : (p : ProgramTree) → CanBeFed old.cells p inputs → MakesBlocks old p slowdown latency inputs outputs
       → InResetRuns new.cells (λ run start.
       Streams (ends_for inputs (length old.outlets) new) run start p slowdown inputs outputs)
@@ -137,3 +148,7 @@ pub record IsStream (old new : Circuit) (slowdown latency : ℕ) (inputs outputs
       Stays (ends_for inputs (length old.outlets) new) (length old.outlets) run start)
   pub goes_on : InResetRuns new.cells (λ run start.
       GoesOn (ends_for inputs (length old.outlets) new) run start slowdown latency inputs outputs)
+  pub no_paths : InResetRuns new.cells (λ a start. (b : List Clock) → IsRun new.cells b → IsReset b 0 start
+      → HasNoPaths (ends_for inputs (length old.outlets) new) a b start)
+  pub few : length new.cells ≤ stream_cells old inputs outputs (latency / slowdown)
+  pub muls : count_of is_mul new.cells ≡ count_of is_mul old.cells

@@ -5,6 +5,7 @@ use Rattle.ae_netlist.specs.declared.cell.NetId.{NetId}
 use Rattle.ae_netlist.specs.declared.cell.Cell.TheVariants.{Op, Reg}
 use Rattle.ae_netlist.specs.declared.cell.SizedCell.{SizedCell}
 use Rattle.ae_netlist.specs.Circuit.{Circuit, Extends, IsNet, new_register, operand}
+use Rattle.ae_netlist.specs.Counts.{count_of, is_mul}
 use Rattle.ae_netlist.specs.Runs.{Clock, IsRun}
 
 -- the second of three nets where the first is 1, and else the third
@@ -27,11 +28,12 @@ pub record IsChoice (cells : List SizedCell) (width count : ℕ) (nets : List Ne
 pub record AreChoices (cells : List SizedCell) (width : ℕ) (gates : List (List NetId)) : Type 0 where
   pub each : (k : ℕ) (nets : List NetId) → slice_get gates k ≡ Some nets → IsChoice cells width k nets
 
--- a netlist with more cells behind its own, and the same outputs
+-- a netlist with more cells behind its own, none of which multiplies, and the same outputs
 pub record IsLonger (old new : Circuit) : Type 0 where
   pub extends : Extends old.cells new.cells
   pub limit : new.limit ≡ old.limit
   pub outlets : new.outlets ≡ old.outlets
+  pub muls : count_of is_mul new.cells ≡ count_of is_mul old.cells
 
 -- behind its own cells come so many registers of one bit, each of which names itself
 pub record HasRegisters (old new : Circuit) (count : ℕ) : Type 0 where
@@ -53,6 +55,7 @@ pub record AreConnected (old new : Circuit) (first next count : ℕ) : Type 0 wh
   pub long : length new.cells ≡ length old.cells
   pub limit : new.limit ≡ old.limit
   pub outlets : new.outlets ≡ old.outlets
+  pub muls : count_of is_mul new.cells ≡ count_of is_mul old.cells
 
 -- another netlist has the cells from a number on as they are here
 abbrev pub KeepsFrom : (from : ℕ) (cells all : List SizedCell) → Type 0

@@ -161,9 +161,12 @@ pub record IsControl (from : ℕ) (cells : List SizedCell) (w : Wires) (blocks w
       IsWired (control_of c takes here shows made second) gates row (ends_of w c in_columns columns ins outs) w.wants.0 blocks wait run)
   pub moves : InRunsFrom from cells (MovesOn w c)
 
--- what others read of it are nets of one bit, and the one that says that the circuit steps stands behind these cells
+-- what others read of it are nets of one bit; those that say that the circuit steps, and what the ends are told, stand behind these
+-- cells
 pub record HasControlNets (from : ℕ) (cells : List SizedCell) (c : Controlled) : Type 0 where
   pub behind : from ≤ c.enable.0
+  pub asks_behind : from ≤ c.asks.0
+  pub one_behind : from ≤ c.one.0
   pub enable : IsNet cells c.enable.0 1
   pub asks : IsNet cells c.asks.0 1
   pub one : IsNet cells c.one.0 1

@@ -1,9 +1,10 @@
 // The control of a circuit between two channels: its gates and its registers.
 
-ghost use Rattle.std.specs.Prelude.{◌≡◌, ◌+◌, ◌<◌, ◌≤◌, ◌++◌, OnOk, IfOk, ℕ, length, map};
+ghost use Rattle.std.specs.Prelude.{◌≡◌, ◌+◌, ◌*◌, ◌<◌, ◌≤◌, ◌++◌, OnOk, IfOk, ℕ, length, map};
 ghost use Rattle.ae_netlist.specs.Circuit.{IsNet};
 ghost use Rattle.ae_streamed.specs.Cells.{IsLonger, InRunsFrom, choice};
 ghost use Rattle.ae_streamed.specs.Controls.{AreBits, AreWires, HasBegun, HasControlNets, HasFlagGates, IsControl, flag_net, gate_rows, net};
+ghost use Rattle.ae_streamed.specs.Count.{IsFullFor, control_cells};
 
 use crate::parts::{any_of, choices, connect_all, registers};
 use ae_netlist::{Cell, NetFault, NetId, Netlist};
@@ -58,7 +59,8 @@ fn flag(at: Places, j: u32) -> NetId
 /// Adds the constants and the registers.
 fn begin(nl: &mut Netlist, blocks: u32) -> Result<(), NetFault>
     requires few { blocks ≤ 1000000 }
-    ensures { OnOk result (HasBegun nl.old nl.new blocks) }
+    ensures begun { OnOk result (HasBegun nl.old nl.new blocks) }
+    ensures full { IsFullFor result nl.old (blocks + 6) }
 {
     nl.add(1, Cell::Const(0))?;
     nl.add(1, Cell::Const(1))?;
@@ -72,7 +74,8 @@ fn gates(nl: &mut Netlist, w: Wires, at: Places, busy: NetId) -> Result<(), NetF
     requires blocks { at.base + at.blocks + 6 ≤ at.gates }
     requires here { at.gates ≡ length nl.old.cells }
     requires bits { AreBits nl.old.cells w at busy.0 }
-    ensures { OnOk result (nl.new ≡ record nl.old { cells = nl.old.cells ++ map (choice 1) (gate_rows w at busy) }) }
+    ensures added { OnOk result (nl.new ≡ record nl.old { cells = nl.old.cells ++ map (choice 1) (gate_rows w at busy) }) }
+    ensures full { IsFullFor result nl.old 26 }
 {
     let (low, high) = (NetId(at.base), NetId(at.base + 1));
     let (current, one, two) = (NetId(at.base + 2), NetId(at.base + 3), NetId(at.base + 4));
@@ -123,7 +126,8 @@ fn flag_gates(nl: &mut Netlist, reset: NetId, at: Places) -> Result<(), NetFault
     requires reset { IsNet nl.old.cells reset.0 1 }
     requires own { (k : ℕ) → k < at.blocks + 6 → IsNet nl.old.cells (at.base + k) 1 }
     requires gates { (k : ℕ) → k < 26 → IsNet nl.old.cells (at.gates + k) 1 }
-    ensures { OnOk result (HasFlagGates nl.old nl.new reset at (at.blocks + 1)) }
+    ensures flags { OnOk result (HasFlagGates nl.old nl.new reset at (at.blocks + 1)) }
+    ensures full { IsFullFor result nl.old (2 * (at.blocks + 1)) }
 {
     let (low, turns, g) = (NetId(at.base), NetId(at.gates + 20), at.gates + 26);
     for j in 0..at.blocks + 1 {
@@ -140,13 +144,15 @@ fn flag_gates(nl: &mut Netlist, reset: NetId, at: Places) -> Result<(), NetFault
 
 /// Adds the control of a circuit whose latency is so many blocks and some clocks: it says in which clocks the circuit steps,
 /// so that in any run in which the nets mark its clocks the words that pass are those of the blocks. As long as one of the
-/// first `wait` flags is 1 it steps on by empty blocks.
+/// first `wait` flags is 1 it steps on by empty blocks. `Full` comes only where there is no room for its cells.
 pub fn control(nl: &mut Netlist, w: Wires, blocks: u32, wait: u32) -> Result<Controlled, NetFault>
     requires few { blocks ≤ 1000000 }
     requires waits { wait ≤ blocks + 1 }
     requires many { nl.old.limit ≤ 4000000000 }
     requires nets { AreWires nl.old.cells w }
     ensures longer { OnOk result (IsLonger nl.old nl.new) }
+    ensures few { OnOk result (length nl.new.cells ≤ length nl.old.cells + control_cells blocks) }
+    ensures full { IsFullFor result nl.old (control_cells blocks) }
     ensures control { IfOk result (λ c. IsControl (length nl.old.cells) nl.new.cells w blocks wait c) }
     ensures nets { IfOk result (λ c. HasControlNets (length nl.old.cells) nl.new.cells c) }
 {

@@ -1,14 +1,15 @@
 // The clocks of a block in which elements stand, as nets.
 
-ghost use Rattle.std.specs.Prelude.{◌≡◌, ◌+◌, ◌*◌, ◌<◌, ◌≤◌, ◌&&◌, ◌||◌, nat_lt, Bool, IfOk, OnOk, ℕ, Some, slice_get, map};
+ghost use Rattle.std.specs.Prelude.{◌≡◌, ◌+◌, ◌*◌, ◌<◌, ◌≤◌, ◌&&◌, ◌||◌, nat_lt, Bool, IfOk, ℕ, Some, slice_get, map};
 ghost use Rattle.ae_sttype.specs.StTree.{st_tree, time};
 ghost use Rattle.ae_sttype.specs.Size.{IsInSize};
 ghost use Rattle.ae_sttype.specs.Slots.{slots};
 ghost use Rattle.ae_netlist.specs.Circuit.{IsNet};
-ghost use Rattle.ae_clocked.specs.Signals.{Grows};
+ghost use Rattle.ae_clocked.specs.Signals.{Adds, IsFullAt};
 ghost use Rattle.ae_clocked.specs.Phases.{Belongs, phase_of};
 ghost use Rattle.ae_stream.specs.Streams.{in_clock, is_beat};
 ghost use Rattle.ae_streamed.specs.Beats.{GainsBit, IsBitOf};
+ghost use Rattle.ae_streamed.specs.Count.{any_beat_cells, beat_cells};
 
 use ae_clocked::{Clocks, constant, operate};
 use ae_netlist::{NetFault, NetId, Netlist};
@@ -19,7 +20,8 @@ use ae_word::WordOp;
 fn both(nl: &mut Netlist, a: NetId, b: NetId) -> Result<NetId, NetFault>
     requires left { IsNet nl.old.cells a.0 1 }
     requires right { IsNet nl.old.cells b.0 1 }
-    ensures grows { OnOk result (Grows nl.old nl.new) }
+    ensures adds { Adds nl.old nl.new 1 0 }
+    ensures full { IsFullAt result nl.new }
     ensures told { IfOk result (λ y. (rst : ℕ) (f g : ℕ → Bool) → IsBitOf nl.old.cells rst a.0 f → IsBitOf nl.old.cells rst b.0 g → IsBitOf nl.new.cells rst y.0 (λ c. f c && g c)) }
 {
     let y = operate(nl, WordOp::And, [a, b, a], 1)?;
@@ -30,7 +32,8 @@ fn both(nl: &mut Netlist, a: NetId, b: NetId) -> Result<NetId, NetFault>
 fn either(nl: &mut Netlist, a: NetId, b: NetId) -> Result<NetId, NetFault>
     requires left { IsNet nl.old.cells a.0 1 }
     requires right { IsNet nl.old.cells b.0 1 }
-    ensures grows { OnOk result (Grows nl.old nl.new) }
+    ensures adds { Adds nl.old nl.new 1 0 }
+    ensures full { IsFullAt result nl.new }
     ensures told { IfOk result (λ y. (rst : ℕ) (f g : ℕ → Bool) → IsBitOf nl.old.cells rst a.0 f → IsBitOf nl.old.cells rst b.0 g → IsBitOf nl.new.cells rst y.0 (λ c. f c || g c)) }
 {
     let y = operate(nl, WordOp::Or, [a, b, a], 1)?;
@@ -49,7 +52,9 @@ pub fn period_bit(
     requires low { offset < period }
     requires high { period ≤ 4096 }
     requires within { from ≤ period }
-    ensures { IfOk result (λ y. GainsBit nl.old nl.new clocks.old clocks.new y.0 (λ c. nat_lt (phase_of period offset c) from)) }
+    ensures adds { Adds nl.old nl.new 21 0 }
+    ensures full { IsFullAt result nl.new }
+    ensures gains { IfOk result (λ y. GainsBit nl.old nl.new clocks.old clocks.new y.0 (λ c. nat_lt (phase_of period offset c) from)) }
 {
     let y = clocks.lead(nl, period, offset, from, 0)?;
     Ok(y)
@@ -66,7 +71,9 @@ fn slot_beat(
     requires belongs { Belongs clocks.old nl.old.cells }
     requires in_size { IsInSize (st_tree layout.now) }
     requires low { offset < time (st_tree layout.now) }
-    ensures { IfOk result (λ y. GainsBit nl.old nl.new clocks.old clocks.new y.0 (λ c. in_clock (slots (st_tree layout.now)) (phase_of (time (st_tree layout.now)) offset c))) }
+    ensures adds { Adds nl.old nl.new (beat_cells (st_tree layout.now)) 0 }
+    ensures full { IsFullAt result nl.new }
+    ensures gains { IfOk result (λ y. GainsBit nl.old nl.new clocks.old clocks.new y.0 (λ c. in_clock (slots (st_tree layout.now)) (phase_of (time (st_tree layout.now)) offset c))) }
 {
     match layout {
         StType::Atom(_) => {
@@ -101,7 +108,9 @@ pub fn beat(
     requires belongs { Belongs clocks.old nl.old.cells }
     requires sizes { (k : ℕ) (layout : StType) → slice_get layouts.now k ≡ Some layout → IsInSize (st_tree layout) × (time (st_tree layout) ≡ slowdown) }
     requires low { offset < slowdown }
-    ensures { IfOk result (λ y. GainsBit nl.old nl.new clocks.old clocks.new y.0 (λ c. is_beat (map st_tree layouts.now) (phase_of slowdown offset c))) }
+    ensures adds { Adds nl.old nl.new (any_beat_cells (map st_tree layouts.now)) 0 }
+    ensures full { IsFullAt result nl.new }
+    ensures gains { IfOk result (λ y. GainsBit nl.old nl.new clocks.old clocks.new y.0 (λ c. is_beat (map st_tree layouts.now) (phase_of slowdown offset c))) }
 {
     let mut any = constant(nl, 1, 0)?;
     for k in 0..layouts.len() {

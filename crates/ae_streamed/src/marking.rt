@@ -1,10 +1,11 @@
 // The bits that mark the clocks of a circuit.
 
-ghost use Rattle.std.specs.Prelude.{◌≡◌, ◌%◌, ◌≤◌, IfOk, OnOk, map};
+ghost use Rattle.std.specs.Prelude.{◌≡◌, ◌%◌, ◌≤◌, IfOk, map};
 ghost use Rattle.ae_sttype.specs.StTree.{st_tree};
 ghost use Rattle.ae_netlist.specs.Circuit.{IsNet};
-ghost use Rattle.ae_clocked.specs.Signals.{Grows};
+ghost use Rattle.ae_clocked.specs.Signals.{Adds, IsFullAt};
 ghost use Rattle.ae_streamed.specs.Beats.{AreLayouts, HasMarks};
+ghost use Rattle.ae_streamed.specs.Count.{mark_cells};
 
 use crate::layouts::{beat, period_bit};
 use ae_clocked::Clocks;
@@ -37,7 +38,8 @@ pub fn add_marks(
     requires most { slowdown ≤ 4096 }
     requires inputs { AreLayouts slowdown inputs.now }
     requires outputs { AreLayouts slowdown outputs.now }
-    ensures grows { OnOk result (Grows nl.old nl.new) }
+    ensures adds { Adds nl.old nl.new (mark_cells (map st_tree inputs.now) (map st_tree outputs.now)) 0 }
+    ensures full { IsFullAt result nl.new }
     ensures marks { IfOk result (λ m. HasMarks nl.new.cells m slowdown (latency % slowdown) (map st_tree inputs.now) (map st_tree outputs.now)) }
 {
     let mut clocks = Clocks::new(alloc, NetId(0));

@@ -4,13 +4,15 @@ ghost use Rattle.std.specs.Prelude.{◌≡◌, ◌+◌, ◌<◌, ◌≤◌, ◌+
 ghost use Rattle.ae_netlist.specs.Circuit.{IsNet};
 ghost use Rattle.ae_streamed.specs.Cells.{AreChoices, AreConnected, CanConnect, HasRegisters, IsLonger, choice};
 ghost use Rattle.ae_streamed.specs.Controls.{HasAny};
+ghost use Rattle.ae_streamed.specs.Count.{IsFullFor};
 
 use ae_netlist::{Cell, NetFault, NetId, Netlist};
 use ae_word::WordOp;
 
 /// Adds so many registers of one bit that are still to be connected.
 pub fn registers(nl: &mut Netlist, count: u32) -> Result<(), NetFault>
-    ensures { OnOk result (HasRegisters nl.old nl.new count) }
+    ensures registers { OnOk result (HasRegisters nl.old nl.new count) }
+    ensures full { IsFullFor result nl.old count }
 {
     for i in 0..count {
         nl.state(1)?;
@@ -23,7 +25,8 @@ pub fn choices(nl: &mut Netlist, width: u32, gates: &[[NetId; 3]]) -> Result<(),
     requires low { 1 ≤ width }
     requires high { width ≤ 64 }
     requires fit { AreChoices nl.old.cells width gates.now }
-    ensures { OnOk result (nl.new ≡ record nl.old { cells = nl.old.cells ++ map (choice width) gates.now }) }
+    ensures added { OnOk result (nl.new ≡ record nl.old { cells = nl.old.cells ++ map (choice width) gates.now }) }
+    ensures full { IsFullFor result nl.old (length gates.now) }
 {
     for k in 0..gates.len() {
         nl.add(width, Cell::Op(WordOp::Mux, gates[k]))?;
@@ -55,6 +58,8 @@ pub fn any_of(
     requires low { IsNet nl.old.cells low.0 1 }
     requires high { IsNet nl.old.cells high.0 1 }
     ensures longer { OnOk result (IsLonger nl.old nl.new) }
+    ensures long { OnOk result (length nl.new.cells ≡ length nl.old.cells + count) }
+    ensures full { IsFullFor result nl.old count }
     ensures net { IfOk result (λ y. IsNet nl.new.cells y.0 1) }
     ensures any { IfOk result (λ y. HasAny nl.new.cells first count low.0 high.0 (length nl.old.cells) y.0) }
 {

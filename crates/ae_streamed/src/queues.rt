@@ -4,6 +4,7 @@ ghost use Rattle.std.specs.Prelude.{◌≡◌, ◌+◌, ◌*◌, ◌<◌, ◌≤
 ghost use Rattle.ae_netlist.specs.Circuit.{IsNet, width_of};
 ghost use Rattle.ae_streamed.specs.Cells.{IsLonger};
 ghost use Rattle.ae_streamed.specs.Columns.{AreColumns, HasColumn};
+ghost use Rattle.ae_streamed.specs.Count.{IsFullFor};
 
 use crate::driver::Controlled;
 use crate::parts::choices;
@@ -31,6 +32,7 @@ fn column(nl: &mut Netlist, c: Controlled, made: NetId) -> Result<(), NetFault>
     requires moves { IsNet nl.old.cells c.moves.0 1 }
     requires net { IsNet nl.old.cells made.0 (width_of nl.old.cells made.0) }
     ensures longer { OnOk result (IsLonger nl.old nl.new) }
+    ensures full { IsFullFor result nl.old 4 }
     ensures long { OnOk result (length nl.new.cells ≡ length nl.old.cells + 4) }
     ensures column { OnOk result (HasColumn nl.new.cells c made (length nl.old.cells)) }
 {
@@ -60,6 +62,8 @@ pub fn columns(nl: &mut Netlist, c: Controlled, made: &[NetId]) -> Result<(), Ne
     requires moves { IsNet nl.old.cells c.moves.0 1 }
     requires nets { (k : ℕ) (net : NetId) → slice_get made.now k ≡ Some net → IsNet nl.old.cells net.0 (width_of nl.old.cells net.0) }
     ensures longer { OnOk result (IsLonger nl.old nl.new) }
+    ensures long { OnOk result (length nl.new.cells ≡ length nl.old.cells + 4 * length made.now) }
+    ensures full { IsFullFor result nl.old (4 * length made.now) }
     ensures columns { OnOk result (AreColumns (length nl.old.cells) nl.new.cells c made.now) }
 {
     for k in 0..made.len() {

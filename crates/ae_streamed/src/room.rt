@@ -1,6 +1,6 @@
 // The same netlist with room for more cells: what `tidy` makes has none.
 
-ghost use Rattle.std.specs.Prelude.{◌≡◌, ◌+◌, ◌<◌, ◌↔◌, [], IsTrue, OnOk, IfOk, Some, length, slice_get};
+ghost use Rattle.std.specs.Prelude.{◌≡◌, ◌+◌, ◌<◌, ◌↔◌, ◌≢◌, [], Err, IsTrue, OnOk, IfErr, IfOk, Some, length, slice_get};
 ghost use Rattle.ae_netlist.specs.Circuit.{NamesItself};
 ghost use Rattle.ae_streamed.specs.Room.{IsBegun, IsMade};
 
@@ -26,6 +26,7 @@ fn begin_cell(nl: &Netlist, n: u32, new: &mut Netlist) -> Result<(), NetFault>
     requires below { n < length nl.now.cells }
     requires begun { IsBegun nl.now.cells new.old.cells n }
     ensures begun { OnOk result (IsBegun nl.now.cells new.new.cells (n + 1)) }
+    ensures full { IfErr result (λ fault. fault ≡ NetFault.Full → length new.old.cells ≡ new.old.limit) }
     ensures limit { OnOk result (new.new.limit ≡ new.old.limit) }
     ensures outlets { OnOk result (new.new.outlets ≡ new.old.outlets) }
 {
@@ -83,6 +84,7 @@ fn connect_cell(nl: &Netlist, n: u32, new: &mut Netlist)
 fn begin(nl: &Netlist, new: &mut Netlist) -> Result<(), NetFault>
     requires none { new.old.cells ≡ [] }
     ensures begun { OnOk result (IsBegun nl.now.cells new.new.cells (length nl.now.cells)) }
+    ensures full { IfErr result (λ fault. fault ≡ NetFault.Full → new.old.limit < length nl.now.cells) }
     ensures limit { OnOk result (new.new.limit ≡ new.old.limit) }
     ensures outlets { OnOk result (new.new.outlets ≡ new.old.outlets) }
 {
@@ -108,6 +110,7 @@ fn connect(nl: &Netlist, new: &mut Netlist)
 fn show(nl: &Netlist, new: &mut Netlist) -> Result<(), NetFault>
     requires cells { new.old.cells ≡ nl.now.cells }
     requires none { new.old.outlets ≡ [] }
+    ensures fault { result ≢ Err NetFault.Full }
     ensures cells { OnOk result (new.new.cells ≡ nl.now.cells) }
     ensures limit { OnOk result (new.new.limit ≡ new.old.limit) }
     ensures outlets { OnOk result (new.new.outlets ≡ nl.now.outlets) }
@@ -125,7 +128,8 @@ fn show(nl: &Netlist, new: &mut Netlist) -> Result<(), NetFault>
 
 /// The same netlist with another limit. `Full` comes only where it has more cells than this.
 pub fn with_limit(alloc: Global, nl: &Netlist, limit: u32) -> Result<Netlist, NetFault>
-    ensures { IfOk result (λ new. new ≡ record nl.now { limit = limit }) }
+    ensures same { IfOk result (λ new. new ≡ record nl.now { limit = limit }) }
+    ensures full { IfErr result (λ fault. fault ≡ NetFault.Full → limit < length nl.now.cells) }
 {
     let mut new = Netlist::new(alloc, limit);
     begin(nl, &mut new)?;

@@ -1,12 +1,13 @@
 // Circuits between two channels.
 
-ghost use Rattle.std.specs.Prelude.{◌≡◌, ◌+◌, ◌<◌, ◌≤◌, ◌∷◌, [], IfOk, Some, length, map, max, slice_get, sum_by};
+ghost use Rattle.std.specs.Prelude.{◌≡◌, ◌+◌, ◌/◌, ◌<◌, ◌≤◌, ◌∷◌, [], IfOk, Some, length, map, max, slice_get, sum_by};
 ghost use Rattle.ae_sttype.specs.StTree.{st_tree};
 ghost use Rattle.ae_sttype.specs.Size.{IsInSize};
 ghost use Rattle.ae_sttype.specs.Moves.{columns_of};
 ghost use Rattle.ae_stall.specs.Copies.{reset_cell};
 ghost use Rattle.ae_streamed.specs.Beats.{AreLayouts, IsLastBeat};
 ghost use Rattle.ae_streamed.specs.Between.{IsStream};
+ghost use Rattle.ae_streamed.specs.Count.{IsFullForStream};
 
 use crate::marking::add_marks;
 use crate::room::with_limit;
@@ -15,6 +16,7 @@ use ae_netlist::{NetFault, Netlist, has_one_run};
 use ae_stream::{
     driven_circuits_go_on, driven_circuits_keep_words, driven_circuits_stream,
     held_circuits_are_inside, held_marks_are_seen, wired_controls_are_driven,
+    wired_controls_have_no_paths,
 };
 use ae_sttype::StType;
 use std::alloc::Global;
@@ -62,7 +64,8 @@ fn last_beat(layouts: &[StType], slowdown: u32) -> u32
 /// circuit has the reset at cell 0, behind it an input for each column of the parameters, and an output for each column of the
 /// results; its blocks take `slowdown` clocks. A transfer at the source takes the words of one clock of a block in which
 /// elements of the parameters stand, and one at the sink gives those of a clock in which elements of the results do. `Full`
-/// comes where the cells do not suffice: 1,000,000 for the circuit and the marks of its clocks, and 4,000,000 for all.
+/// comes only where the cells do not suffice that it may need at most: 1,000,000 for the circuit and the marks of its clocks, and
+/// 4,000,000 for all.
 pub fn stream(
     alloc: Global,
     nl: &Netlist,
@@ -80,7 +83,8 @@ pub fn stream(
     requires ins { sum_by columns_of (map st_tree inputs.now) < length nl.now.cells }
     requires outs { length nl.now.outlets ≡ sum_by columns_of (map st_tree outputs.now) }
     requires few { length nl.now.outlets ≤ 1000000000 }
-    ensures { IfOk result (λ new. IsStream nl.now new slowdown latency (map st_tree inputs.now) (map st_tree outputs.now)) }
+    ensures stream { IfOk result (λ new. IsStream nl.now new slowdown latency (map st_tree inputs.now) (map st_tree outputs.now)) }
+    ensures full { IsFullForStream result nl.now (map st_tree inputs.now) (map st_tree outputs.now) (latency / slowdown) }
 {
     nl.formed();
     has_one_run(nl);
@@ -90,6 +94,7 @@ pub fn stream(
     driven_circuits_stream();
     driven_circuits_keep_words();
     driven_circuits_go_on();
+    wired_controls_have_no_paths();
     let mut marked = with_limit(alloc, nl, MARKED_LIMIT)?;
     let m = add_marks(alloc, &mut marked, inputs, outputs, slowdown, latency)?;
     marked.formed();

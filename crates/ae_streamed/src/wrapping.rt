@@ -1,12 +1,13 @@
 // A marked circuit between two channels: a copy of it, the control and the queues around it, and the outputs.
 
-ghost use Rattle.std.specs.Prelude.{◌≡◌, ◌+◌, ◌*◌, ◌<◌, ◌≤◌, ◌++◌, ◌∷◌, [], OnOk, IfOk, ℕ, Some, length, map, slice_get};
+ghost use Rattle.std.specs.Prelude.{◌≡◌, ◌+◌, ◌*◌, ◌<◌, ◌≤◌, ◌++◌, ◌∷◌, [], ◌≢◌, Err, OnOk, IfErr, IfOk, ℕ, Some, length, map, slice_get};
 ghost use Rattle.ae_netlist.specs.Circuit.{HaveNets, IsNet, width_of};
 ghost use Rattle.ae_stall.specs.Copies.{IsCopied, MayBeHeld, reset_cell};
 ghost use Rattle.ae_stall.specs.Held.{IsHeld};
 ghost use Rattle.ae_stall.specs.Images.{placed_net};
 ghost use Rattle.ae_streamed.specs.Between.{AreMarkNets, AreShownBy, HasDriver, IsWrapped, channel_inputs, copied_nets, wires_of};
 ghost use Rattle.ae_streamed.specs.Controls.{AreWires};
+ghost use Rattle.ae_streamed.specs.Count.{IsFullFor, control_cells, wrapped_cells};
 
 use crate::driver::{Controlled, Wires, control};
 use crate::marking::Marks;
@@ -53,7 +54,6 @@ fn placed(nl: &Netlist, net: NetId) -> NetId
     if net.0 == 0 {
         return net;
     }
-    let _cells = nl.len();
     NetId(net.0 + 2)
 }
 
@@ -85,6 +85,7 @@ fn copied(alloc: Global, nl: &Netlist) -> Result<Netlist, NetFault>
     requires reset { slice_get nl.now.cells 0 ≡ Some reset_cell }
     requires most { length nl.now.cells ≤ 1000000 }
     ensures limit { IfOk result (λ new. new.limit ≡ 4000000) }
+    ensures fault { result ≢ Err NetFault.Full }
     ensures copied { IfOk result (λ new. IsCopied channel_inputs nl.now.cells new.cells (length nl.now.cells)) }
     ensures none { IfOk result (λ new. new.outlets ≡ []) }
 {
@@ -96,7 +97,8 @@ fn copied(alloc: Global, nl: &Netlist) -> Result<Netlist, NetFault>
 }
 
 fn keep(nets: &mut Vec<NetId>, net: NetId) -> Result<(), NetFault>
-    ensures { OnOk result (nets.new.items ≡ nets.old.items ++ net ∷ []) }
+    ensures kept { OnOk result (nets.new.items ≡ nets.old.items ++ net ∷ []) }
+    ensures fault { result ≢ Err NetFault.Full }
 {
     match nets.push(net) {
         Ok(()) => Ok(()),
@@ -114,7 +116,8 @@ fn outlet_at(nl: &Netlist, k: u32) -> Outlet
 /// Where the copy has the nets of the outputs.
 fn outlet_nets(alloc: Global, nl: &Netlist) -> Result<Vec<NetId>, NetFault>
     requires most { length nl.now.cells ≤ 1000000 }
-    ensures { IfOk result (λ nets. nets.items ≡ copied_nets nl.now.outlets) }
+    ensures nets { IfOk result (λ nets. nets.items ≡ copied_nets nl.now.outlets) }
+    ensures fault { result ≢ Err NetFault.Full }
 {
     nl.formed();
     let mut nets = Vec::new(alloc);
@@ -130,7 +133,8 @@ fn outlet_nets(alloc: Global, nl: &Netlist) -> Result<Vec<NetId>, NetFault>
 fn show(new: &mut Netlist, port: Port, net: NetId) -> Result<(), NetFault>
     requires net { IsNet new.old.cells net.0 (width_of new.old.cells net.0) }
     requires room { length new.old.outlets < 4294967295 }
-    ensures { OnOk result (new.new ≡ record new.old { outlets = new.old.outlets ++ (record { port = port; net = net }) ∷ [] }) }
+    ensures shown { OnOk result (new.new ≡ record new.old { outlets = new.old.outlets ++ (record { port = port; net = net }) ∷ [] }) }
+    ensures fault { result ≢ Err NetFault.Full }
 {
     match new.add_output(port, net) {
         Ok(()) => Ok(()),
@@ -146,6 +150,7 @@ fn show_all(nl: &Netlist, new: &mut Netlist, c: Controlled, at: u32) -> Result<(
     requires one { IsNet new.old.cells c.one.0 1 }
     requires nets { (k : ℕ) → k < length nl.now.outlets → IsNet new.old.cells (at + 4 * k) (width_of new.old.cells (at + 4 * k)) }
     requires few { length nl.now.outlets ≤ 1000000000 }
+    ensures fault { result ≢ Err NetFault.Full }
     ensures cells { OnOk result (new.new.cells ≡ new.old.cells) }
     ensures limit { OnOk result (new.new.limit ≡ new.old.limit) }
     ensures shown { OnOk result (AreShownBy c at nl.now.outlets new.new.outlets) }
@@ -178,7 +183,9 @@ fn drive(
     requires nets { (k : ℕ) (net : NetId) → slice_get made.now k ≡ Some net → IsNet new.old.cells net.0 (width_of new.old.cells net.0) }
     requires columns { length nl.now.outlets ≤ 1000000000 }
     requires shown { length made.now ≡ length nl.now.outlets }
-    ensures { IfOk result (λ c. (m : Marks) → w ≡ wires_of m → HasDriver new.old new.new m blocks wait made.now nl.now.outlets c) }
+    ensures driver { IfOk result (λ c. (m : Marks) → w ≡ wires_of m → HasDriver new.old new.new m blocks wait made.now nl.now.outlets c) }
+    ensures few { OnOk result (length new.new.cells ≤ length new.old.cells + control_cells blocks + 4 * length nl.now.outlets) }
+    ensures full { IsFullFor result new.old (control_cells blocks + 4 * length nl.now.outlets) }
 {
     let c = control(new, w, blocks, wait)?;
     let at = new.len();
@@ -193,7 +200,8 @@ fn hold(nl: &Netlist, by: NetId, new: &mut Netlist) -> Result<(), NetFault>
     requires most { length nl.now.cells ≤ 1000000 }
     requires may { MayBeHeld 2 by.0 nl.now.cells new.old.cells }
     requires room { length new.old.cells + length nl.now.cells ≤ new.old.limit + 1 }
-    ensures { OnOk result (IsHeld 2 by.0 nl.now new.old new.new) }
+    ensures held { OnOk result (IsHeld 2 by.0 nl.now new.old new.new) }
+    ensures fault { result ≢ Err NetFault.Full }
 {
     match hold_copy(nl, HoldBy { more: 2, by }, new) {
         Ok(()) => Ok(()),
@@ -216,7 +224,8 @@ pub fn wrap(
     requires marks { AreMarkNets nl.now.cells m }
     requires few { blocks ≤ 1000000 }
     requires waits { wait ≤ blocks + 1 }
-    ensures { IfOk result (λ new. IsWrapped nl.now new m blocks wait) }
+    ensures wrapped { IfOk result (λ new. IsWrapped nl.now new m blocks wait) }
+    ensures full { IfErr result (λ fault. fault ≡ NetFault.Full → 4000000 ≤ wrapped_cells (length nl.now.cells) (length nl.now.outlets) blocks) }
 {
     nl.formed();
     let mut new = copied(alloc, nl)?;

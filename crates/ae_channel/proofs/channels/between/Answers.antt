@@ -19,4 +19,4 @@ pub stream-requires-clause-outs : goal.stream-requires-clause-outs
 stream-requires-clause-outs c = subst (λ (v : List StType). length c.args.netlist.now.outlets ≡ sum_by columns_of (map st_tree v)) (sym c.as_slice-2.ensures.value) c.requires.outs
 
 pub returns : goal.returns
-returns c = rw (c.as_slice.ensures.value, c.as_slice-2.ensures.value) at c.in_ok-new.ensures
+returns c = rw (c.as_slice.ensures.value, c.as_slice-2.ensures.value) at c.in_ok-new.ensures.stream

@@ -5,5 +5,5 @@ use Rattle.ae_streamed.proofs.driver.gates.Goals as goal
 pub choices-requires-clause-fit : goal.choices-requires-clause-fit
 choices-requires-clause-fit c = rw c.flag-newest.ensures (gates_fit c.args.nl.now.cells c.args.w c.args.at c.args.busy c.requires.here c.requires.bits)
 
-pub returns : goal.returns
-returns c = rw c.flag-newest.ensures at c.in_ok-choices.ensures
+pub returns-clause-added : goal.returns-clause-added
+returns-clause-added c = rw c.flag-newest.ensures at c.in_ok-choices.ensures.added

@@ -3,10 +3,11 @@ use Rattle.std.proofs.Common.{◌≡◌, true, ◌<◌, ap, arith, subst}
 use Rattle.ae_sttype.specs.StTree.{st_depth, st_tree, sseq, time, tseq}
 use Rattle.ae_sttype.proofs.Bounds.{part_of_sseq, part_of_tseq}
 use Rattle.ae_streamed.proofs.Bits.{atom_told, bit_later, constant_bit, in_sseq_gained, in_tseq_gained, times}
+use Rattle.ae_streamed.proofs.Counted.{gate_more, mark_more, one_cell, part_cells}
 use Rattle.ae_streamed.proofs.layouts.+slot_beat.Goals as goal
 
-pub returns-in_ok-y-in-Atom : goal.returns-in_ok-y-in-Atom
-returns-in_ok-y-in-Atom t c =
+pub returns-in_ok-y-in-Atom-clause-gains : goal.returns-in_ok-y-in-Atom-clause-gains
+returns-in_ok-y-in-Atom-clause-gains t c =
     constant_bit c.args.nl.now c.constant.new.nl c.args.clocks.now c.in_ok-y-in-Atom.y.0 true _ c.requires.belongs c.in_ok-y-in-Atom.ensures.adds.grows c.in_ok-y-in-Atom.ensures.net c.in_ok-y-in-Atom.ensures.words
     (λ k. atom_told (st_tree c.args.layout.now) _ c.args.offset k (ap st_tree c.in-Atom.is))
 
@@ -24,16 +25,52 @@ slot_beat-requires-in-S t c =
     (omega (arith, ap st_depth is), (c.requires.belongs, (size, subst (λ v. c.args.offset < time v) is c.requires.low)))
 
 pub both-requires-clause-right : goal.both-requires-clause-right
-both-requires-clause-right t c = (bit_later c.in_ok-here-in-T.ensures.grows c.in_ok-inner-in-T.ensures.told).net
+both-requires-clause-right t c = (bit_later c.in_ok-here-in-T.ensures.gains.grows c.in_ok-inner-in-T.ensures.gains.told).net
 
-pub returns-in_ok-y-in-T : goal.returns-in_ok-y-in-T
-returns-in_ok-y-in-T t c =
+pub returns-in_ok-y-in-T-clause-gains : goal.returns-in_ok-y-in-T-clause-gains
+returns-in_ok-y-in-T-clause-gains t c =
     let is : st_tree c.args.layout.now ≡ tseq c.in-T.n c.in-T.i (st_tree c.deref-of.result.now) = cc (ap st_tree c.in-T.is) in
     in_tseq_gained c.args.nl.now c.slot_beat.new.nl c.period_bit.new.nl c.both.new.nl c.args.clocks.now c.slot_beat.new.clocks c.period_bit.new.clocks c.in_ok-inner-in-T.inner.0 c.in_ok-here-in-T.here.0 c.in_ok-y-in-T.y.0 c.args.offset
-    c.in_ok-y-in-T.ensures.grows c.in_ok-y-in-T.ensures.told (st_tree c.args.layout.now) (st_tree c.deref-of.result.now) c.in-T.n c.in-T.i c.time-span.result is c.time-span.ensures c.requires.in_size.lengths c.requires.low
-    c.in_ok-inner-in-T.ensures c.in_ok-here-in-T.ensures
+    c.in_ok-y-in-T.ensures.adds.grows c.in_ok-y-in-T.ensures.told (st_tree c.args.layout.now) (st_tree c.deref-of.result.now) c.in-T.n c.in-T.i c.time-span.result is c.time-span.ensures c.requires.in_size.lengths c.requires.low
+    c.in_ok-inner-in-T.ensures.gains c.in_ok-here-in-T.ensures.gains
 
-pub returns-in_ok-y-in-S : goal.returns-in_ok-y-in-S
-returns-in_ok-y-in-S t c =
+pub returns-in_ok-y-in-S-clause-gains : goal.returns-in_ok-y-in-S-clause-gains
+returns-in_ok-y-in-S-clause-gains t c =
     in_sseq_gained c.args.nl.now c.slot_beat-in-S.new.nl c.args.clocks.now c.slot_beat-in-S.new.clocks c.in_ok-y-in-S.y.0 c.args.offset (st_tree c.args.layout.now) (st_tree c.deref-of-in-S.result.now) c.in-S.n (cc (ap st_tree c.in-S.is)) c.requires.in_size.lengths
-    c.in_ok-y-in-S.ensures
+    c.in_ok-y-in-S.ensures.gains
+
+pub returns-in_err-y-in-Atom-clause-adds : goal.returns-in_err-y-in-Atom-clause-adds
+returns-in_err-y-in-Atom-clause-adds t c = one_cell (st_tree c.args.layout.now) c.in_err-y-in-Atom.ensures.adds
+
+pub returns-in_ok-y-in-Atom-clause-adds : goal.returns-in_ok-y-in-Atom-clause-adds
+returns-in_ok-y-in-Atom-clause-adds t c = one_cell (st_tree c.args.layout.now) c.in_ok-y-in-Atom.ensures.adds
+
+pub returns-in_err-inner-in-T-clause-adds : goal.returns-in_err-inner-in-T-clause-adds
+returns-in_err-inner-in-T-clause-adds t c =
+    let is : st_tree c.args.layout.now ≡ tseq c.in-T.n c.in-T.i (st_tree c.deref-of.result.now) = cc (ap st_tree c.in-T.is) in
+    part_cells (st_tree c.args.layout.now) (st_tree c.deref-of.result.now) (ap st_depth is) c.in_err-inner-in-T.ensures.adds
+
+pub returns-in_err-here-in-T-clause-adds : goal.returns-in_err-here-in-T-clause-adds
+returns-in_err-here-in-T-clause-adds t c =
+    let is : st_tree c.args.layout.now ≡ tseq c.in-T.n c.in-T.i (st_tree c.deref-of.result.now) = cc (ap st_tree c.in-T.is) in
+    mark_more (st_tree c.args.layout.now) (st_tree c.deref-of.result.now) (ap st_depth is) c.in_ok-inner-in-T.ensures.adds c.in_err-here-in-T.ensures.adds
+
+pub returns-in_err-y-in-T-clause-adds : goal.returns-in_err-y-in-T-clause-adds
+returns-in_err-y-in-T-clause-adds t c =
+    let is : st_tree c.args.layout.now ≡ tseq c.in-T.n c.in-T.i (st_tree c.deref-of.result.now) = cc (ap st_tree c.in-T.is) in
+    gate_more (st_tree c.args.layout.now) (st_tree c.deref-of.result.now) (ap st_depth is) c.in_ok-inner-in-T.ensures.adds c.in_ok-here-in-T.ensures.adds c.in_err-y-in-T.ensures.adds
+
+pub returns-in_ok-y-in-T-clause-adds : goal.returns-in_ok-y-in-T-clause-adds
+returns-in_ok-y-in-T-clause-adds t c =
+    let is : st_tree c.args.layout.now ≡ tseq c.in-T.n c.in-T.i (st_tree c.deref-of.result.now) = cc (ap st_tree c.in-T.is) in
+    gate_more (st_tree c.args.layout.now) (st_tree c.deref-of.result.now) (ap st_depth is) c.in_ok-inner-in-T.ensures.adds c.in_ok-here-in-T.ensures.adds c.in_ok-y-in-T.ensures.adds
+
+pub returns-in_err-y-in-S-clause-adds : goal.returns-in_err-y-in-S-clause-adds
+returns-in_err-y-in-S-clause-adds t c =
+    let is : st_tree c.args.layout.now ≡ sseq c.in-S.n (st_tree c.deref-of-in-S.result.now) = cc (ap st_tree c.in-S.is) in
+    part_cells (st_tree c.args.layout.now) (st_tree c.deref-of-in-S.result.now) (ap st_depth is) c.in_err-y-in-S.ensures.adds
+
+pub returns-in_ok-y-in-S-clause-adds : goal.returns-in_ok-y-in-S-clause-adds
+returns-in_ok-y-in-S-clause-adds t c =
+    let is : st_tree c.args.layout.now ≡ sseq c.in-S.n (st_tree c.deref-of-in-S.result.now) = cc (ap st_tree c.in-S.is) in
+    part_cells (st_tree c.args.layout.now) (st_tree c.deref-of-in-S.result.now) (ap st_depth is) c.in_ok-y-in-S.ensures.adds

@@ -1,5 +1,6 @@
 -- One bit more.
-use Rattle.std.proofs.Common.{◌≡◌, ◌+◌, ◌∷◌, [], length, length-append, arith, inl, ap, sym, ◌∙◌, subst}
+use Rattle.std.proofs.lemmas.Result.{err_from_is_err_and}
+use Rattle.std.proofs.Common.{◌≡◌, ◌+◌, ◌∷◌, [], length, length-append, arith, inl, ap, refl, sym, ◌∙◌, subst}
 use Rattle.ae_netlist.specs.declared.cell.SizedCell.{SizedCell}
 use Rattle.ae_netlist.specs.Circuit.{Circuit}
 use Rattle.ae_netlist.proofs.Growing.{net_later}
@@ -35,14 +36,19 @@ pub loop-k-preserved : goal.loop-k-preserved
 loop-k-preserved c =
     let x : SizedCell = choice 1 (row (c.args.first + c.loop-k.k) c.args.high.0 c.loop-k.any.0) in
     record {
-      longer = longer_trans c.loop-k.invariant.longer (longer_by c.loop-k.nl c.choices.new.nl _ c.in_ok-choices.ensures);
-      net = last_choice c.loop-k.nl c.choices.new.nl 1 _ _ c.len-at.ensures c.in_ok-choices.ensures;
-      long = ap (λ (v : Circuit). length v.cells) c.in_ok-choices.ensures ∙ (length-append c.loop-k.nl.cells (x ∷ []) ∙ omega (arith, c.loop-k.invariant.long));
+      longer = longer_trans c.loop-k.invariant.longer (longer_by c.loop-k.nl c.choices.new.nl _ c.in_ok-choices.ensures.added refl);
+      net = last_choice c.loop-k.nl c.choices.new.nl 1 _ _ c.len-at.ensures c.in_ok-choices.ensures.added;
+      long = ap (λ (v : Circuit). length v.cells) c.in_ok-choices.ensures.added ∙ (length-append c.loop-k.nl.cells (x ∷ []) ∙ omega (arith, c.loop-k.invariant.long));
       any = subst (HasAny c.choices.new.nl.cells c.args.first (c.loop-k.k + 1) c.args.low.0 c.args.high.0 (length c.args.nl.now.cells)) (sym (c.len-at.ensures ∙ c.loop-k.invariant.long))
-          (any_more c.loop-k.nl c.choices.new.nl c.args.first c.loop-k.k c.args.low.0 c.args.high.0 (length c.args.nl.now.cells) c.loop-k.any.0 c.loop-k.invariant.any c.loop-k.invariant.long c.in_ok-choices.ensures);
+          (any_more c.loop-k.nl c.choices.new.nl c.args.first c.loop-k.k c.args.low.0 c.args.high.0 (length c.args.nl.now.cells) c.loop-k.any.0 c.loop-k.invariant.any c.loop-k.invariant.long c.in_ok-choices.ensures.added);
     }
 
 pub returns-clause-any : goal.returns-clause-any
 returns-clause-any c =
     let end : c.loop-k.k ≡ c.args.count = omega (arith, c.loop-k-test.false, c.loop-k.auto.k-end) in
     subst (λ k. HasAny c.loop-k.nl.cells c.args.first k c.args.low.0 c.args.high.0 (length c.args.nl.now.cells) c.loop-k.any.0) end c.loop-k.invariant.any
+
+pub returns-in_err-choices-clause-full : goal.returns-in_err-choices-clause-full
+returns-in_err-choices-clause-full c =
+    let p = err_from_is_err_and c.from_residual.result c.from_residual.ensures.1 in
+    rw (p.1, p.2) (λ e. omega (arith, c.in_err-choices.ensures.full e, c.loop-k.invariant.long, c.loop-k.invariant.longer.limit, c.loop-k-test.true))

@@ -1,4 +1,5 @@
 -- One queue more in each turn.
+use Rattle.std.proofs.lemmas.Result.{err_from_is_err_and}
 use Rattle.std.proofs.Common.{◌≡◌, length, arith}
 use Rattle.ae_netlist.proofs.Growing.{net_later}
 use Rattle.ae_streamed.specs.Controls.{net}
@@ -23,3 +24,13 @@ pub returns-clause-columns : goal.returns-clause-columns
 returns-clause-columns c =
     let end : c.loop-k.k ≡ length c.args.made.now = omega (arith, c.loop-k-test.false, c.loop-k.auto.k-end) in
     all_columns c.args.nl.now c.loop-k.nl c.args.c c.args.made.now (rw end at c.loop-k.invariant)
+
+pub returns-in_err-column-clause-full : goal.returns-in_err-column-clause-full
+returns-in_err-column-clause-full c =
+    let p = err_from_is_err_and c.from_residual.result c.from_residual.ensures.1 in
+    rw (p.1, p.2) (λ e. omega (arith, c.in_err-column.ensures.full e, c.loop-k.invariant.long, c.loop-k.invariant.longer.limit, c.loop-k-test.true))
+
+pub returns-clause-long : goal.returns-clause-long
+returns-clause-long c =
+    let end : c.loop-k.k ≡ length c.args.made.now = omega (arith, c.loop-k-test.false, c.loop-k.auto.k-end) in
+    omega (arith, c.loop-k.invariant.long, end)

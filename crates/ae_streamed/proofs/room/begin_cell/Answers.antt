@@ -49,6 +49,7 @@ add-requires c =
 
 pub returns-in_ok-add-in_default : goal.returns-in_ok-add-in_default
 returns-in_ok-add-in_default c = record {
+  full = tt;
   begun = begun_more c.args.nl.now.cells c.args.new.now.cells c.add.new.self.cells c.args.n c.cell_at-sized.result c.cell_at-sized.result c.cell_at-sized.ensures c.requires.begun
       (sym (ap (λ (v : Cell). record { width = c.cell_at-sized.result.width; cell = v }) (begun_other c.args.n c.cell_at-sized.result.cell c.in_default.not-Reg c.in_default.not-Mem)))
       (ap (λ (v : Circuit). v.cells) c.in_ok-add-in_default.ensures.added);

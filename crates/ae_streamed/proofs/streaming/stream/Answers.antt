@@ -1,5 +1,6 @@
 -- The netlist with room, its marks, and what is put around them.
-use Rattle.std.proofs.Common.{◌≡◌, ◌+◌, ◌/◌, ◌∙◌, Some, slice_get, length, map, refl, ap, arith}
+use Rattle.std.proofs.lemmas.Result.{err_from_is_err_and}
+use Rattle.std.proofs.Common.{◌≡◌, ◌+◌, ◌/◌, ◌∙◌, inl, inr, Some, slice_get, length, map, refl, ap, arith}
 use Rattle.ae_sttype.specs.StTree.{st_tree}
 use Rattle.ae_netlist.specs.Circuit.{Circuit}
 use Rattle.ae_stall.specs.Copies.{reset_cell}
@@ -11,17 +12,17 @@ first_is : (a b : Circuit) → a.cells ≡ b.cells → slice_get b.cells 0 ≡ S
 first_is a b e h = ap (λ v. slice_get v 0) e ∙ h
 
 pub add_marks-requires-clause-reset : goal.add_marks-requires-clause-reset
-add_marks-requires-clause-reset c = record { sized = reset_cell; found = first_is c.in_ok-marked.marked c.args.nl.now (ap (λ (v : Circuit). v.cells) c.in_ok-marked.ensures) c.requires.reset; plain = tt; wide = refl }
+add_marks-requires-clause-reset c = record { sized = reset_cell; found = first_is c.in_ok-marked.marked c.args.nl.now (ap (λ (v : Circuit). v.cells) c.in_ok-marked.ensures.same) c.requires.reset; plain = tt; wide = refl }
 
 pub wrap-requires-clause-reset : goal.wrap-requires-clause-reset
 wrap-requires-clause-reset c =
-    c.in_ok-m.ensures.grows.extends.keeps 0 reset_cell (first_is c.in_ok-marked.marked c.args.nl.now (ap (λ (v : Circuit). v.cells) c.in_ok-marked.ensures) c.requires.reset)
+    c.in_ok-m.ensures.adds.grows.extends.keeps 0 reset_cell (first_is c.in_ok-marked.marked c.args.nl.now (ap (λ (v : Circuit). v.cells) c.in_ok-marked.ensures.same) c.requires.reset)
 
 pub wrap-requires-clause-most : goal.wrap-requires-clause-most
-wrap-requires-clause-most c = omega (arith, c.formed-2.ensures.limit, c.in_ok-m.ensures.grows.limit, ap (λ (v : Circuit). v.limit) c.in_ok-marked.ensures)
+wrap-requires-clause-most c = omega (arith, c.formed-2.ensures.limit, c.in_ok-m.ensures.adds.grows.limit, ap (λ (v : Circuit). v.limit) c.in_ok-marked.ensures.same)
 
 pub wrap-requires-clause-outlets : goal.wrap-requires-clause-outlets
-wrap-requires-clause-outlets c = omega (arith, ap length c.in_ok-m.ensures.grows.outlets, ap (λ (v : Circuit). length v.outlets) c.in_ok-marked.ensures, c.requires.few)
+wrap-requires-clause-outlets c = omega (arith, ap length c.in_ok-m.ensures.adds.grows.outlets, ap (λ (v : Circuit). length v.outlets) c.in_ok-marked.ensures.same, c.requires.few)
 
 pub wrap-requires-clause-marks : goal.wrap-requires-clause-marks
 wrap-requires-clause-marks c =
@@ -35,11 +36,35 @@ pub wrap-requires-clause-waits : goal.wrap-requires-clause-waits
 wrap-requires-clause-waits c =
     omega (arith, wait_few c.args.latency c.args.slowdown c.last_beat.result c.requires.some c.last_beat.ensures.below, blocks_few c.args.latency c.args.slowdown c.requires.some)
 
-pub returns : goal.returns
-returns c =
+pub returns-clause-stream : goal.returns-clause-stream
+returns-clause-stream c =
     let roomy : Circuit = record c.args.nl.now { limit = 1000000 } in
     same_stream c.args.nl.now c.in_ok-new.new c.args.slowdown c.args.latency 1000000 (map st_tree c.args.inputs.now) (map st_tree c.args.outputs.now)
     (is_stream roomy c.add_marks.new.nl c.in_ok-new.new c.in_ok-m.m c.args.slowdown c.args.latency ((c.args.latency + c.last_beat.result) / c.args.slowdown) (map st_tree c.args.inputs.now) (map st_tree c.args.outputs.now)
-    c.requires.some c.formed.ensures.cells c.formed.ensures.outlets c.has_one_run.ensures (rw c.in_ok-marked.ensures at c.in_ok-m.ensures.grows) c.formed-2.ensures.cells c.in_ok-m.ensures.marks c.in_ok-new.ensures (λ k y. wait_long c.args.latency c.args.slowdown c.last_beat.result k c.requires.some (c.last_beat.ensures.last.greatest k y))
+    c.requires.some c.formed.ensures.cells c.formed.ensures.outlets c.has_one_run.ensures (rw c.in_ok-marked.ensures.same at c.in_ok-m.ensures.adds) c.formed-2.ensures.cells c.in_ok-m.ensures.marks c.in_ok-new.ensures.wrapped (λ k y. wait_long c.args.latency c.args.slowdown c.last_beat.result k c.requires.some (c.last_beat.ensures.last.greatest k y))
     (within c.args.inputs.now c.args.slowdown c.requires.inputs) (within c.args.outputs.now c.args.slowdown c.requires.outputs) c.requires.ins c.requires.outs (some_columns c.args.outputs.now c.args.slowdown c.requires.outputs)
-    c.held_circuits_are_inside.ensures c.held_marks_are_seen.ensures c.wired_controls_are_driven.ensures c.driven_circuits_stream.ensures c.driven_circuits_keep_words.ensures c.driven_circuits_go_on.ensures)
+    c.held_circuits_are_inside.ensures c.held_marks_are_seen.ensures c.wired_controls_are_driven.ensures c.driven_circuits_stream.ensures c.driven_circuits_keep_words.ensures c.driven_circuits_go_on.ensures
+    c.wired_controls_have_no_paths.ensures)
+
+pub returns-in_err-marked-clause-full : goal.returns-in_err-marked-clause-full
+returns-in_err-marked-clause-full c =
+    let p = err_from_is_err_and c.from_residual.result c.from_residual.ensures.1 in
+    rw (p.1, p.2) (λ e. inl (omega (arith, c.in_err-marked.ensures.full e)))
+
+pub returns-in_err-m-clause-full : goal.returns-in_err-m-clause-full
+returns-in_err-m-clause-full c =
+    let p = err_from_is_err_and c.from_residual-in_err-m.result c.from_residual-in_err-m.ensures.1 in
+    rw (p.1, p.2) (λ e.
+    let adds = c.in_err-m.ensures.adds in
+    let long : length c.in_ok-marked.marked.cells ≡ length c.args.nl.now.cells = ap (λ (v : Circuit). length v.cells) c.in_ok-marked.ensures.same in
+    let limit : c.in_ok-marked.marked.limit ≡ 1000000 = ap (λ (v : Circuit). v.limit) c.in_ok-marked.ensures.same in
+    inl (omega (arith, c.in_err-m.ensures.full e, adds.cells, adds.grows.limit, long, limit)))
+
+pub returns-in_err-new-clause-full : goal.returns-in_err-new-clause-full
+returns-in_err-new-clause-full c =
+    let p = err_from_is_err_and c.from_residual-in_err-new.result c.from_residual-in_err-new.ensures.1 in
+    rw (p.1, p.2) (λ e.
+    let adds = c.in_ok-m.ensures.adds in
+    let long : length c.in_ok-marked.marked.cells ≡ length c.args.nl.now.cells = ap (λ (v : Circuit). length v.cells) c.in_ok-marked.ensures.same in
+    let shown : length c.in_ok-marked.marked.outlets ≡ length c.args.nl.now.outlets = ap (λ (v : Circuit). length v.outlets) c.in_ok-marked.ensures.same in
+    inr (omega (arith, c.in_err-new.ensures.full e, adds.cells, ap length adds.grows.outlets, long, shown)))

@@ -1,5 +1,6 @@
 -- The control, the queues, and the outputs.
-use Rattle.std.proofs.Common.{◌+◌, ◌*◌, arith, sym, ◌∙◌, subst}
+use Rattle.std.proofs.lemmas.Result.{err_from_is_err_and}
+use Rattle.std.proofs.Common.{◌+◌, ◌*◌, arith, length, ap, sym, ◌∙◌, subst}
 use Rattle.ae_netlist.specs.Circuit.{IsNet, width_of}
 use Rattle.ae_netlist.proofs.Growing.{net_later}
 use Rattle.ae_streamed.proofs.Copied.{has_driver}
@@ -22,8 +23,21 @@ pub show_all-requires-clause-nets : goal.show_all-requires-clause-nets
 show_all-requires-clause-nets c = λ k l.
     subst (λ v. IsNet c.columns.new.nl.cells (v + 4 * k) (width_of c.columns.new.nl.cells (v + 4 * k))) (sym c.len-at.ensures) (own_width (c.in_ok-columns.ensures.columns.nets k (omega (arith, l, c.requires.shown))).1)
 
-pub returns : goal.returns
-returns c = λ m is.
+pub returns-clause-driver : goal.returns-clause-driver
+returns-clause-driver c = λ m is.
     has_driver c.args.new.now c.control.new.nl c.columns.new.nl c.show_all.new.new m c.args.w c.args.blocks c.args.wait c.len-at.result c.args.made.now c.args.nl.now.outlets c.in_ok-c.c is
     c.in_ok-c.ensures.longer c.in_ok-c.ensures.control c.in_ok-c.ensures.nets c.len-at.ensures c.in_ok-columns.ensures.longer c.in_ok-columns.ensures.columns
     c.in_ok-show_all.ensures.cells c.in_ok-show_all.ensures.limit c.in_ok-show_all.ensures.shown
+
+pub returns-clause-few : goal.returns-clause-few
+returns-clause-few c = omega (arith, c.in_ok-c.ensures.few, c.in_ok-columns.ensures.long, c.requires.shown, ap length c.in_ok-show_all.ensures.cells)
+
+pub returns-in_err-c-clause-full : goal.returns-in_err-c-clause-full
+returns-in_err-c-clause-full c =
+    let p = err_from_is_err_and c.from_residual.result c.from_residual.ensures.1 in
+    rw (p.1, p.2) (λ e. omega (arith, c.in_err-c.ensures.full e))
+
+pub returns-in_err-columns-clause-full : goal.returns-in_err-columns-clause-full
+returns-in_err-columns-clause-full c =
+    let p = err_from_is_err_and c.from_residual-in_err-columns.result c.from_residual-in_err-columns.ensures.1 in
+    rw (p.1, p.2) (λ e. omega (arith, c.in_err-columns.ensures.full e, c.in_ok-c.ensures.longer.limit, c.in_ok-c.ensures.few, c.requires.shown))

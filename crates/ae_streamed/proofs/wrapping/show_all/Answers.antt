@@ -11,15 +11,15 @@ show-requires-clause-net c = own_width c.requires.asks
 
 pub show-requires-2-clause-net : goal.show-requires-2-clause-net
 show-requires-2-clause-net c =
-    subst (λ v. IsNet v c.args.c.one.0 (width_of v c.args.c.one.0)) (sym (ap (λ (v : Circuit). v.cells) c.in_ok-show.ensures)) (own_width c.requires.one)
+    subst (λ v. IsNet v c.args.c.one.0 (width_of v c.args.c.one.0)) (sym (ap (λ (v : Circuit). v.cells) c.in_ok-show.ensures.shown)) (own_width c.requires.one)
 
 pub loop-k-init : goal.loop-k-init
 loop-k-init c = record {
   all = c.outputs-k-end.ensures;
-  cells = ap (λ (v : Circuit). v.cells) c.in_ok-show-2.ensures ∙ ap (λ (v : Circuit). v.cells) c.in_ok-show.ensures;
-  limit = ap (λ (v : Circuit). v.limit) c.in_ok-show-2.ensures ∙ ap (λ (v : Circuit). v.limit) c.in_ok-show.ensures;
+  cells = ap (λ (v : Circuit). v.cells) c.in_ok-show-2.ensures.shown ∙ ap (λ (v : Circuit). v.cells) c.in_ok-show.ensures.shown;
+  limit = ap (λ (v : Circuit). v.limit) c.in_ok-show-2.ensures.shown ∙ ap (λ (v : Circuit). v.limit) c.in_ok-show.ensures.shown;
   shown = shown_none c.args.c c.args.at c.args.nl.now.outlets c.args.new.now.outlets c.show.new.new.outlets c.show-2.new.new.outlets c.requires.none
-      (ap (λ (v : Circuit). v.outlets) c.in_ok-show.ensures) (ap (λ (v : Circuit). v.outlets) c.in_ok-show-2.ensures);
+      (ap (λ (v : Circuit). v.outlets) c.in_ok-show.ensures.shown) (ap (λ (v : Circuit). v.outlets) c.in_ok-show-2.ensures.shown);
 }
 
 pub overflow_add-at : goal.overflow_add-at
@@ -35,9 +35,9 @@ show-requires-in-loop-k-clause-room c = omega (arith, c.loop-k.invariant.shown.l
 pub loop-k-preserved : goal.loop-k-preserved
 loop-k-preserved c = record {
   all = c.loop-k.invariant.all;
-  cells = ap (λ (v : Circuit). v.cells) c.in_ok-show-3.ensures ∙ c.loop-k.invariant.cells;
-  limit = ap (λ (v : Circuit). v.limit) c.in_ok-show-3.ensures ∙ c.loop-k.invariant.limit;
-  shown = shown_more c.args.c c.args.at c.loop-k.k c.args.nl.now.outlets c.loop-k.new.outlets c.show-in-loop-k.new.new.outlets c.outlet_at-outlet.result c.outlet_at-outlet.ensures c.loop-k.invariant.shown (ap (λ (v : Circuit). v.outlets) c.in_ok-show-3.ensures);
+  cells = ap (λ (v : Circuit). v.cells) c.in_ok-show-3.ensures.shown ∙ c.loop-k.invariant.cells;
+  limit = ap (λ (v : Circuit). v.limit) c.in_ok-show-3.ensures.shown ∙ c.loop-k.invariant.limit;
+  shown = shown_more c.args.c c.args.at c.loop-k.k c.args.nl.now.outlets c.loop-k.new.outlets c.show-in-loop-k.new.new.outlets c.outlet_at-outlet.result c.outlet_at-outlet.ensures c.loop-k.invariant.shown (ap (λ (v : Circuit). v.outlets) c.in_ok-show-3.ensures.shown);
 }
 
 pub returns-clause-shown : goal.returns-clause-shown
