@@ -3,10 +3,10 @@ use Rattle.std.proofs.Common.{◌≡◌, ℕ, ◌-◌, ◌<◌, List, ◌++◌, 
 use Rattle.std.specs.Prelude.{◌↔◌, IfSome}
 use Rattle.std.proofs.lemmas.List.{length-map}
 use Rattle.std.proofs.lemmas.Option.{same_Some}
-use Rattle.ae_seq.specs.ProgramTree.{ProgramTree}
+use Rattle.ae_seq.specs.ProgramTree.{FuncTree, ProgramTree}
 use Rattle.ae_sttype.specs.StTree.{StTree}
 use Rattle.ae_eval.specs.Stack.{IsTyped}
-use Rattle.ae_rewrite.specs.Interface.{HaveLayouts}
+use Rattle.ae_rewrite.specs.Interface.{HaveLayouts, main_of}
 use Rattle.ae_rewrite.specs.Scheduled.{IsSchedule}
 use Rattle.ae_rewrite.specs.Sound.{IsSound, item_layout, item_layouts}
 use Rattle.ae_rewrite.specs.StProgramTree.{StFuncTree}
@@ -27,15 +27,25 @@ shown-by : (p : ProgramTree) (ins outs : List StTree) (latency : ℕ) (o : Optio
 shown-by p ins outs latency None same none is = inl (sym same ∙ none.0 refl, refl)
 shown-by p ins outs latency (Some c) same none is = inr (certificate_tree c, is, refl)
 
-pub least-text : LatencyIsLeast → (p : ProgramTree) (slowdown : ℕ) (instances : List StFuncTree) (f : FusedView) (s : StFuncTree) (outs : ℕ) (text : List ℕ) → IsTyped p → 0 < slowdown → IsSchedule p slowdown instances
-    → IsSound instances → IsFusedOf p instances f → slice_get instances (length instances - 1) ≡ Some s → outs ≡ length s.results → text ≡ latency_line f.latency ++ shown_lines outs f.certificate
+-- the instance of the program function has as many results
+results-many : (p : ProgramTree) (slowdown : ℕ) (instances : List StFuncTree) (f : FuncTree) (s : StFuncTree) → IsSchedule p slowdown instances → slice_get p.funcs (main_of p) ≡ Some f
+    → slice_get instances (length instances - 1) ≡ Some s → length f.results ≡ length s.results
+results-many p slowdown instances f s h here last =
+    let right = h.right (length instances - 1) s last in
+    let same : h.last.instance ≡ s = same_Some h.last.instance s (sym h.last.here ∙ last) in
+    let func : s.func ≡ length p.funcs - 1 = ap (λ (x : StFuncTree). x.func) (sym same) ∙ h.last.is_func in
+    let known : slice_get p.funcs (length p.funcs - 1) ≡ Some right.of = sym (ap (slice_get p.funcs) func) ∙ right.known in
+    let is : f ≡ right.of = same_Some f right.of (sym here ∙ known) in
+    ap (λ (x : FuncTree). length x.results) is ∙ ap length (sym right.results)
+
+pub least-text : LatencyIsLeast → (p : ProgramTree) (slowdown : ℕ) (instances : List StFuncTree) (f : FusedView) (main : FuncTree) (outs : ℕ) (text : List ℕ) → IsTyped p → 0 < slowdown → IsSchedule p slowdown instances
+    → IsSound instances → IsFusedOf p instances f → slice_get p.funcs (main_of p) ≡ Some main → outs ≡ length main.results → text ≡ latency_line f.latency ++ shown_lines outs f.certificate
     → IsLeastText p slowdown text
-least-text law p slowdown instances f s outs text typed some h sound is last many e =
+least-text law p slowdown instances f main outs text typed some h sound is here many e =
     let own : StFuncTree = is.instance in
-    let same : s ≡ own = same_Some s own (sym last ∙ is.last) in
     let laid : HaveLayouts p slowdown own.ins (outs_of own) = layouts p slowdown instances own typed h sound is.last in
     let latency : f.latency ≡ least p own.ins (outs_of own) = ap (λ (o : OwnCosts). o.latency) is.costs ∙ law p slowdown instances is.func own is.movement typed h is.there is.last in
-    let count : outs ≡ length (outs_of own) = many ∙ ap (λ (x : StFuncTree). length x.results) same ∙ sym (length-map own.results (item_layout (item_layouts own))) in
+    let count : outs ≡ length (outs_of own) = many ∙ results-many p slowdown instances main own h here is.last ∙ sym (length-map own.results (item_layout (item_layouts own))) in
     record {
       moves = is.movement;
       ins = own.ins;

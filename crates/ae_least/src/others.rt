@@ -2,6 +2,7 @@
 
 ghost use Rattle.std.specs.Prelude.{◌≡◌, None, Some, map, slice_get, true};
 ghost use Rattle.ae_seq.specs.ProgramTree.{func_tree, node_tree, op_tree, program_tree};
+ghost use Rattle.ae_eval.specs.Stack.{IsTyped};
 ghost use Rattle.ae_rewrite.specs.Interface.{main_of};
 ghost use Rattle.ae_trace.specs.Traces.{is_movement, is_movement_op};
 ghost use Rattle.ae_least.specs.Others.{first_other, other_line};
@@ -32,9 +33,10 @@ fn first_other(nodes: &[Node]) -> Option<u32>
     None
 }
 
-// The program function.
-fn main_func(p: &Typed) -> &Func
-    ensures { slice_get (program_tree p.now).funcs (main_of (program_tree p.now)) ≡ Some (func_tree result.now) }
+/// The program function.
+pub(crate) fn main_func(p: &Typed) -> &Func
+    ensures func { slice_get (program_tree p.now).funcs (main_of (program_tree p.now)) ≡ Some (func_tree result.now) }
+    ensures typed { IsTyped (program_tree p.now) }
 {
     let funcs = p.program().funcs.as_slice();
     &funcs[funcs.len() - 1]

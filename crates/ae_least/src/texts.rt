@@ -1,22 +1,22 @@
 // The text of `least`.
 
-ghost use Rattle.std.specs.Prelude.{◌≡◌, ◌++◌, ◌-◌, ◌<◌, ◌≤◌, ℕ, None, Some, length, slice_get, IfErr, IfOk, OnOk, string_bytes, true};
+ghost use Rattle.std.specs.Prelude.{◌≡◌, ◌++◌, ◌<◌, ◌≤◌, ℕ, None, IfErr, IfOk, OnOk, string_bytes, true};
 ghost use Rattle.ae_seq.specs.ProgramTree.{program_tree};
 ghost use Rattle.ae_netlist.specs.declared.cell.Port.TheVariants.{In, Out};
 ghost use Rattle.ae_verilog.specs.NetlistModule.{port_name};
 ghost use Rattle.ae_rewrite.specs.FailingLine.{failing_line};
 ghost use Rattle.ae_rewrite.specs.Scheduled.{IsSchedule};
 ghost use Rattle.ae_rewrite.specs.Sound.{IsSound};
-ghost use Rattle.ae_rewrite.specs.StProgramTree.{st_func_tree, st_func_trees};
+ghost use Rattle.ae_rewrite.specs.StProgramTree.{st_func_trees};
 ghost use Rattle.ae_trace.specs.Traces.{is_movement};
 ghost use Rattle.ae_fuse.specs.Certified.{certificate_tree};
 ghost use Rattle.ae_fuse.specs.Fused.{IsFusedOf};
 ghost use Rattle.ae_least.specs.LeastTexts.{certificate_line, latency_line, shown_lines, IsLeastFault, IsLeastText};
 
 use crate::faults::LeastFault;
-use crate::others::other_line;
+use crate::others::{main_func, other_line};
 use ae_fuse::{Certificate, Fused, fuse, latency_is_least};
-use ae_rewrite::{PlanFault, StFunc, StProgram, schedule};
+use ae_rewrite::{PlanFault, StProgram, schedule};
 use ae_seq::Typed;
 use std::alloc::{AllocError, Global};
 
@@ -72,6 +72,7 @@ fn scheduled(alloc: Global, p: &Typed, slowdown: u32) -> Result<StProgram, Least
     requires limit { slowdown ≤ 4096 }
     requires moves { is_movement (program_tree p.now) ≡ true }
     ensures schedule { IfOk result (λ s. IsSchedule (program_tree p.now) slowdown (st_func_trees s)) }
+    ensures sound { IfOk result (λ s. IsSound (st_func_trees s)) }
     ensures laid { OnOk result (failing_line (program_tree p.now) slowdown ≡ None) }
     ensures refused { IfErr result (λ fault. IsLeastFault (program_tree p.now) slowdown fault) }
 {
@@ -79,17 +80,6 @@ fn scheduled(alloc: Global, p: &Typed, slowdown: u32) -> Result<StProgram, Least
         Ok(schedule) => Ok(schedule),
         Err(PlanFault::NoSchedule { line }) => Err(LeastFault::NoSchedule { line }),
         Err(PlanFault::Memory) => Err(LeastFault::Memory),
-    }
-}
-
-// The instance of the program function.
-fn main_instance(s: &StProgram) -> &StFunc
-    ensures last { slice_get (st_func_trees s.now) (length (st_func_trees s.now) - 1) ≡ Some (st_func_tree result.now) }
-    ensures sound { IsSound (st_func_trees s.now) }
-{
-    match s.instance(s.count() - 1) {
-        Some(instance) => instance,
-        None => unreachable!(),
     }
 }
 
@@ -116,10 +106,9 @@ fn movement_text(alloc: Global, p: &Typed, slowdown: u32) -> Result<String, Leas
     ensures refused { IfErr result (λ fault. IsLeastFault (program_tree p.now) slowdown fault) }
 {
     latency_is_least();
-    let _program = p.program();
     let schedule = scheduled(alloc, p, slowdown)?;
     let fused = moved(alloc, p, &schedule)?;
-    let outs = main_instance(&schedule).results.len();
+    let outs = main_func(p).results.len();
     let text = lines(alloc, fused.latency(), fused.certificate(), outs)?;
     Ok(text)
 }

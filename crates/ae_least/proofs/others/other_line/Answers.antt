@@ -8,4 +8,4 @@ pub returns-clause-moves : goal.returns-clause-moves
 returns-clause-moves c = λ e.
     let p = program_tree c.args.p.now in
     let line : c.first_other.result ≡ other_line p = first_of (search rules, grind arith) in
-    moves-all p (func_tree c.main_func-func.result.now) c.main_func-func.ensures (sym line ∙ e)
+    moves-all p (func_tree c.main_func-func.result.now) c.main_func-func.ensures.func (sym line ∙ e)
