@@ -1,6 +1,6 @@
 // A movement program as one move for each result.
 
-ghost use Rattle.std.specs.Prelude.{◌≡◌, ◌-◌, ◌<◌, ◌≤◌, ◌↔◌, ℕ, true, length, IfOk, IfSome, IsSome, Some, slice_get};
+ghost use Rattle.std.specs.Prelude.{◌≡◌, ◌-◌, ◌<◌, ◌≤◌, ◌↔◌, ℕ, [], true, length, IfOk, IfSome, IsSome, Some, slice_get};
 ghost use Rattle.ae_seq.specs.ProgramTree.{func_tree, node_tree, op_tree, program_tree};
 ghost use Rattle.ae_eval.specs.Stack.{IsTyped};
 ghost use Rattle.ae_rewrite.specs.Interface.{main_of};
@@ -103,11 +103,13 @@ impl Fused {
     /// The circuit: the reset and the words of the parameters go in, and in every reset run each block of them makes the
     /// words of the program's results come out, the latency later. It has at most 16 cells for each unit of the load, one for
     /// the reset and one for each word of the parameters, no product, and none that no output needs, but the
-    /// inputs. The marks tell where the cells of each result begin. The error comes only for want of memory.
+    /// inputs. The marks tell where the cells of each result begin, and there are no sections, since no node has cells of
+    /// its own. The error comes only for want of memory.
     pub fn lower(&self, alloc: Global) -> Result<Lowered, AllocError>
         requires light { self.now.load ≤ 100000 }
         ensures circuit { IfOk result (λ l. IsFusedCircuit self.now l.netlist) }
         ensures marks { IfOk result (λ l. AreMarks (length l.netlist.cells) (length self.now.results) l.marks.items) }
+        ensures sections { IfOk result (λ l. l.sections.items ≡ []) }
     {
         let ins = self.ins.as_slice();
         let results = self.results.as_slice();
@@ -130,6 +132,7 @@ impl Fused {
         Ok(Lowered {
             netlist: tidied.netlist,
             marks: tidied.marks,
+            sections: Vec::new(alloc),
         })
     }
 }

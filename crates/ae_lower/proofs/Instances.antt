@@ -83,7 +83,7 @@ param_item cells rst at known s ins i nets h found =
 
 -- ---- nodes
 
-grows_none : (a : Circuit) (n : ℕ) → GrowsBy a a n
+pub grows_none : (a : Circuit) (n : ℕ) → GrowsBy a a n
 grows_none a n = record { grows = grows_refl a; cells = omega arith }
 
 adds_none : (a : Circuit) → Adds a a 0 0

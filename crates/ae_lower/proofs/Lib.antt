@@ -27,6 +27,7 @@ pub mod Instances
 pub mod Ending
 pub mod Tidied
 pub mod Stretches
+pub mod Covering
 pub mod Layouts
 pub mod Blocks
 pub mod Programs

@@ -6,6 +6,7 @@ pub mod Delaying
 pub mod Nodes
 pub mod Lowering
 pub mod Stretches
+pub mod Sections
 pub mod PortNets
 pub mod Ported
 pub mod Circuits

@@ -15,11 +15,13 @@ ghost use Rattle.ae_flow.specs.Fitted.{elements_stream};
 ghost use Rattle.ae_ports.specs.Ports.{streams_of};
 ghost use Rattle.ae_lower.specs.Growth.{Adds, GrowsBy, IsBuilt, Spends};
 ghost use Rattle.ae_lower.specs.Lowering.{AreChosen, AreItems, AreStanding, IsItem, IsLight, IsNodeAt, IsTimed, arrivals_in, bodies_part, instance_costs, lane_nets};
+ghost use Rattle.ae_lower.specs.Sections.{AreSections, HaveSections, IsSectionFor, IsSectionWithin};
 ghost use Rattle.ae_lower.specs.Stretches.{AreNodeCells};
 ghost use Rattle.ae_tidy.specs.Places.{AreMarks};
 
 use crate::items::{joined, waiting_memories};
 use crate::nodes::build;
+use crate::sections::{Section, begin};
 use crate::wires::{add, copied, keep_bundle, piece};
 use ae_clocked::{Clocks, Rings};
 use ae_delay::Timing;
@@ -198,7 +200,8 @@ fn reads_alone(counts: &Vec<u32>, node: &StNode) -> bool {
 }
 
 /// The results of instance `k` on bundles whose block 0 begins in clock `at` after reset, all as late as the latest. The
-/// number of cells before each of its nodes is put behind the marks.
+/// number of cells before each of its nodes is put behind the marks, and the sections of its cells and of those of the
+/// instances that it calls behind the sections.
 #[cycle(lowering)]
 pub fn lower_instance(
     alloc: Global,
@@ -211,6 +214,7 @@ pub fn lower_instance(
     ins: &[Bundle],
     at: u32,
     marks: &mut Vec<u32>,
+    sections: &mut Vec<Section>,
 ) -> Result<Vec<Bundle>, NetFault>
     requires belongs { Belongs clocks.old nl.old.cells }
     requires timed { IsTimed (st_func_trees p.now) a.now.arrivals }
@@ -225,6 +229,8 @@ pub fn lower_instance(
     ensures results { IfOk result (λ v. (s : Tree) → slice_get (st_func_trees p.now) k ≡ Some s → AreChosen nl.new.cells clocks.old.rst at (callees (take k (st_func_trees p.now))) s ins.now (instance_costs (st_func_trees p.now) k).latency s.results v.items) }
     ensures marks { OnOk result ((s : Tree) (count : ℕ) → slice_get (st_func_trees p.now) k ≡ Some s → AreMarks (length nl.old.cells) count marks.old.items → AreMarks (length nl.new.cells) (count + length s.nodes) marks.new.items) }
     ensures nodes { OnOk result ((s : Tree) → slice_get (st_func_trees p.now) k ≡ Some s → marks.old.items ≡ [] → AreNodeCells (st_func_trees p.now) k s nl.new.cells (length nl.old.cells) marks.new.items) }
+    ensures sections { OnOk result (AreSections (length nl.old.cells) sections.old.items
+        → HaveSections (IsSectionWithin (st_func_trees p.now) k) (length nl.old.cells) (length nl.new.cells) sections.old.items sections.new.items) }
 {
     let s = instance(p, k);
     let counts = readers(alloc, s)?;
@@ -235,11 +241,21 @@ pub fn lower_instance(
     for j in 0..s.nodes.len() {
         let mark = nl.len();
         let made = lower_node(
-            alloc, nl, clocks, &mut kept, p, a, slacks, k, j, &items, at, &counts,
+            alloc, nl, clocks, &mut kept, p, a, slacks, k, j, &items, at, &counts, sections,
         )?;
         keep_item(&mut items, marks, made, mark)?;
     }
     let waits = result_waits_of(slacks, k);
+    let cell = nl.len();
+    let node = s.nodes.len() as u32;
+    begin(
+        sections,
+        Section {
+            cell,
+            instance: k,
+            node,
+        },
+    )?;
     joined(
         alloc, nl, clocks, &mut kept, chains, &items, waits, &s.results,
     )
@@ -260,6 +276,7 @@ fn lower_node(
     items: &[Bundle],
     at: u32,
     counts: &Vec<u32>,
+    sections: &mut Vec<Section>,
 ) -> Result<Bundle, NetFault>
     requires belongs { Belongs clocks.old nl.old.cells }
     requires rings { RingsBelong kept.old clocks.old.rst nl.old.cells }
@@ -277,14 +294,26 @@ fn lower_node(
     ensures item { IfOk result (λ y. (s : Tree) (ins : List (List Net)) → slice_get (st_func_trees p.now) k ≡ Some s
         → AreItems nl.old.cells clocks.old.rst at (callees (take k (st_func_trees p.now))) s (arrivals_in (st_func_trees p.now) k s) ins (length s.ins + j) items.now
         → IsItem nl.new.cells clocks.old.rst at (callees (take k (st_func_trees p.now))) s ins (get_or (arrivals_in (st_func_trees p.now) k s) (length s.ins + j) 0) (length s.ins + j) y) }
+    ensures sections { OnOk result (AreSections (length nl.old.cells) sections.old.items
+        → HaveSections (IsSectionFor (st_func_trees p.now) k j) (length nl.old.cells) (length nl.new.cells) sections.old.items sections.new.items) }
 {
     flows_fit();
     let s = instance(p, k);
     let arrivals = arrivals_of(a, k);
     let node = &s.nodes[j];
-    let waits = waits_of(slacks, k, j as u32);
+    let number = j as u32;
+    let waits = waits_of(slacks, k, number);
     let start = start_of(arrivals, waits, &node.args);
     let chains = chains_of(slacks, k);
+    let cell = nl.len();
+    begin(
+        sections,
+        Section {
+            cell,
+            instance: k,
+            node: number,
+        },
+    )?;
     let args = joined(alloc, nl, clocks, kept, chains, items, waits, &node.args)?;
     match &node.op {
         StOp::Body(m) => {
@@ -299,6 +328,7 @@ fn lower_node(
                 node.copies,
                 &args,
                 at + start,
+                sections,
             )
         }
         _ => {
@@ -321,6 +351,7 @@ fn lower_bodies(
     copies: u32,
     args: &[Bundle],
     at: u32,
+    sections: &mut Vec<Section>,
 ) -> Result<Bundle, NetFault>
     requires belongs { Belongs clocks.old nl.old.cells }
     requires timed { IsTimed (st_func_trees p.now) a.now.arrivals }
@@ -335,13 +366,17 @@ fn lower_bodies(
     ensures full { IsFullAt result nl.new }
     ensures built { IfOk result (λ y. (f : Tree) (slots rounds : ℕ) → slice_get (st_func_trees p.now) m ≡ Some f → slots ≤ rounds
         → IsBuilt nl.new clocks.old.rst at (bodies_part (callees (take m (st_func_trees p.now))) f slots rounds copies (instance_costs (st_func_trees p.now) m).latency) args.now y) }
+    ensures sections { OnOk result (AreSections (length nl.old.cells) sections.old.items
+        → HaveSections (IsSectionWithin (st_func_trees p.now) m) (length nl.old.cells) (length nl.new.cells) sections.old.items sections.new.items) }
 {
     flows_fit();
     let mut out = Vec::new(alloc);
     for lane in 0..copies {
         let own = lane_of(alloc, args, copies, lane)?;
         let mut inner = Vec::new(alloc);
-        let results = lower_instance(alloc, nl, clocks, p, a, slacks, m, &own, at, &mut inner)?;
+        let results = lower_instance(
+            alloc, nl, clocks, p, a, slacks, m, &own, at, &mut inner, sections,
+        )?;
         add(&mut out, results[0].nets())?;
     }
     Ok(Bundle::new(out))

@@ -6,6 +6,7 @@ ghost use Rattle.ae_delay.specs.Timings.{AreTimes};
 ghost use Rattle.ae_retime.specs.Slacks.{AreSlacks};
 ghost use Rattle.ae_flow.specs.Fitted.{AreFitted};
 ghost use Rattle.ae_lower.specs.Circuits.{IsCircuitOf, last_of};
+ghost use Rattle.ae_lower.specs.Sections.{AreCovered, AreSections, IsSectionWithin};
 ghost use Rattle.ae_lower.specs.Stretches.{AreNodeCells};
 ghost use Rattle.ae_ports.specs.Ports.{input_ports, streams_of};
 ghost use Rattle.ae_tidy.specs.Needed.{IsLean};
@@ -13,6 +14,7 @@ ghost use Rattle.ae_tidy.specs.Places.{AreMarks};
 
 use crate::calls::{instance, lower_instance};
 use crate::ports::{add_input, add_inputs, add_results};
+use crate::sections::{Section, copied_sections};
 use ae_clocked::Clocks;
 use ae_delay::Timing;
 use ae_flow::flows_mean;
@@ -28,12 +30,14 @@ const MOST_INPUTS: u32 = 400_000;
 /// More cells than a circuit takes: those, and 16 for each unit of the greatest load.
 pub const MOST_CELLS: u32 = 2_000_000;
 
-/// The circuit of a program, and where the cells of its lines begin.
+/// The circuit of a program, and what its cells are made for.
 #[derive(Drop)]
 pub struct Lowered {
     pub netlist: Netlist,
     /// For each node of the program function the number of cells before its own.
     pub marks: Vec<u32>,
+    /// Sections of the cells behind the inputs, in their order, for the nodes of the program function and of those that it calls.
+    pub sections: Vec<Section>,
 }
 
 /// The circuit of a program, by its timing and its slacks: the reset and the words of the parameters go in, and in every
@@ -41,7 +45,8 @@ pub struct Lowered {
 /// cells for each unit of the load, one for the reset and one for each word of the parameters, and none
 /// that no output or product needs, but the inputs. The marks tell where the cells of each node of the program function
 /// begin, behind those of the inputs: up to the next mark there are at most 16 for each unit of the node's own load, and
-/// its products. The error comes only for want of memory.
+/// its products. Each cell behind the inputs stands in a section, which is one of a node of the program function or of a
+/// function that it calls, directly or not. The error comes only for want of memory.
 pub fn lower(
     alloc: Global,
     p: &StProgram,
@@ -55,6 +60,9 @@ pub fn lower(
     ensures marks { IfOk result (λ l. (s : Tree) → slice_get (st_func_trees p.now) (last_of (st_func_trees p.now)) ≡ Some s → AreMarks (length l.netlist.cells) (length s.nodes) l.marks.items) }
     ensures nodes { IfOk result (λ l. (s : Tree) → slice_get (st_func_trees p.now) (last_of (st_func_trees p.now)) ≡ Some s
         → AreNodeCells (st_func_trees p.now) (last_of (st_func_trees p.now)) s l.netlist.cells (1 + length (input_ports (streams_of s.ins))) l.marks.items) }
+    ensures sections { IfOk result (λ l. AreSections (length l.netlist.cells) l.sections.items) }
+    ensures covered { IfOk result (λ l. (s : Tree) → slice_get (st_func_trees p.now) (last_of (st_func_trees p.now)) ≡ Some s
+        → AreCovered (IsSectionWithin (st_func_trees p.now) (last_of (st_func_trees p.now))) (1 + length (input_ports (streams_of s.ins))) (length l.netlist.cells) l.sections.items) }
     ensures lean { IfOk result (λ l. IsLean l.netlist) }
 {
     flows_mean();
@@ -65,6 +73,7 @@ pub fn lower(
     let ins = add_inputs(alloc, &mut nl, &s.ins)?;
     let mut clocks = Clocks::new(alloc, rst);
     let mut marks = Vec::new(alloc);
+    let mut sections = Vec::new(alloc);
     let results = match lower_instance(
         alloc,
         &mut nl,
@@ -76,6 +85,7 @@ pub fn lower(
         &ins,
         0,
         &mut marks,
+        &mut sections,
     ) {
         Ok(results) => results,
         Err(NetFault::Full) => unreachable!(),
@@ -84,8 +94,10 @@ pub fn lower(
     add_results(&mut nl, s, &results)?;
     nl.formed();
     let tidied = tidy(alloc, nl, marks)?;
+    let sections = copied_sections(alloc, &tidied.made, &sections)?;
     Ok(Lowered {
         netlist: tidied.netlist,
         marks: tidied.marks,
+        sections,
     })
 }

@@ -7,6 +7,7 @@ mod items;
 mod laws;
 mod nodes;
 mod ports;
+mod sections;
 mod stages;
 mod wires;
 
@@ -14,3 +15,4 @@ pub use circuit::{Lowered, MOST_CELLS, lower};
 pub use items::later;
 pub use laws::circuits_are_for;
 pub use ports::{add_input, add_inputs, add_outputs};
+pub use sections::Section;

@@ -63,3 +63,9 @@ pub record AreCut (made : List NetId) (marks places : List ℕ) : Type 0 where
 
 abbrev pub made_of : List NetId → ℕ → ℕ
 made_of made m = (get_or made m (record { 0 = 0 })).0
+
+-- a list that tells for each new cell the old one that it is made of
+pub record AreTraced (old new : List SizedCell) (made : List NetId) : Type 0 where
+  pub long : length made ≡ length new
+  pub are : AreMadeOf old new (made_of made)
+  pub rising : AreRising made

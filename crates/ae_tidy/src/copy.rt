@@ -4,12 +4,12 @@ ghost use Rattle.std.specs.Prelude.{◌≡◌, ◌<◌, ◌+◌, ℕ, [], IfOk, 
 ghost use Rattle.ae_tidy.specs.Copies.{IsCopied, present, wanted};
 ghost use Rattle.ae_tidy.specs.Marks.{AreMarked, IsKept};
 ghost use Rattle.ae_tidy.specs.Needed.{IsNeeded};
-ghost use Rattle.ae_tidy.specs.Places.{AreMarks, AreMoved};
+ghost use Rattle.ae_tidy.specs.Places.{AreMarks, AreMoved, AreTraced};
 ghost use Rattle.ae_tidy.specs.Tidied.{IsTidied};
 
 use crate::append::{add_late, append};
 use crate::look::{cell_at, is_kept, net_at, outlet_at};
-use crate::moved::moved;
+use crate::moved::all_moved;
 use crate::seen::Seen;
 use crate::table::{Table, is_late};
 use crate::tidying::Tidied;
@@ -155,6 +155,7 @@ pub fn copy(alloc: Global, nl: &Netlist, keep: &[bool], marks: &[u32]) -> Result
     requires marked { AreMarked nl.now keep.now }
     requires needed { (n : ℕ) → IsKept keep.now n → IsNeeded nl.now n }
     ensures tidied { IfOk result (λ t. IsTidied nl.now t.netlist) }
+    ensures made { IfOk result (λ t. AreTraced nl.now.cells t.netlist.cells t.made.items) }
     ensures marks { IfOk result (λ t. AreMarks (length t.netlist.cells) (length marks.now) t.marks.items) }
     ensures moved { IfOk result (λ t. (cells count : ℕ) → AreMarks cells count marks.now → AreMoved nl.now.cells t.netlist.cells marks.now t.marks.items) }
 {
@@ -169,9 +170,10 @@ pub fn copy(alloc: Global, nl: &Netlist, keep: &[bool], marks: &[u32]) -> Result
     connect_cells(nl, keep, &mut new, &table);
     show(nl, keep, &mut new, &table)?;
     new.formed();
-    let marks = moved(alloc, &table.made, marks)?;
+    let marks = all_moved(alloc, &table.made, marks)?;
     Ok(Tidied {
         netlist: new,
+        made: table.made,
         marks,
     })
 }

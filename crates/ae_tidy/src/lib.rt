@@ -10,4 +10,5 @@ mod seen;
 mod table;
 mod tidying;
 
+pub use moved::all_moved;
 pub use tidying::{Tidied, tidy};

@@ -28,7 +28,7 @@ fn made_before(made: &[NetId], from: u32, mark: u32) -> u32
 
 /// For each mark, a number of old cells, the number of cells in the copy that were made of them. Marks rise, so this takes
 /// one pass.
-pub fn moved(alloc: Global, made: &[NetId], marks: &[u32]) -> Result<Vec<u32>, AllocError>
+pub fn all_moved(alloc: Global, made: &[NetId], marks: &[u32]) -> Result<Vec<u32>, AllocError>
     requires few { length made.now < 4294967296 }
     requires rising { AreRising made.now }
     ensures marks { IfOk result (λ v. AreMarks (length made.now) (length marks.now) v.items) }

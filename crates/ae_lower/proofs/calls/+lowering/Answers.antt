@@ -19,12 +19,14 @@ use Rattle.ae_lower.specs.Lowering.{AreItems, AreStanding, IsItem, IsLight, arri
 use Rattle.ae_lower.specs.Stretches.{AreNodeCells, results_load}
 use Rattle.ae_lower.proofs.Growing.{if_ok_more, keeps_none, spends_none}
 use Rattle.ae_lower.proofs.Costing.{few_nodes}
-use Rattle.ae_lower.proofs.Instances.{AreLowered, AreSpread, HaveSpent, head_of, lane_results, more_bodies, more_nodes, more_spent, no_bodies, no_nodes, standing}
+use Rattle.ae_lower.proofs.Instances.{AreLowered, AreSpread, HaveSpent, grows_none, head_of, lane_results, more_bodies, more_nodes, more_spent, no_bodies, no_nodes, standing}
 use Rattle.ae_lower.proofs.Placed.{args_grow, args_stand, arrivals_told, at_node, bodies_placed, call_args, call_light, call_spends, calls_nothing, chains_in, chains_told, chosen_below, func_tree, is_call, node_grows, node_placed, node_ready, own_long, placed_in, result_waits_in, result_waits_told, waits_in, waits_told, plain_is, plain_spends, standing_widths}
 use Rattle.ae_tidy.specs.Places.{AreMarks}
 use Rattle.ae_tidy.proofs.Placing.{marks_later, marks_more}
 use Rattle.ae_netlist.proofs.Growing.{extends_length}
 use Rattle.ae_lower.proofs.Ending.{all_bodies, another_body, another_node, fewer_bodies, node_there, own_lane, result_below, results_add, results_chosen, results_grow, some_results}
+use Rattle.ae_lower.specs.Sections.{IsSectionFor, IsSectionWithin}
+use Rattle.ae_lower.proofs.Covering.{called_section, own_section, sections_begun, sections_none, sections_of, sections_trans}
 use Rattle.ae_lower.proofs.Stretches.{marked_end, marked_more, marked_none, results_late}
 use Rattle.ae_clocked.specs.KeptRings.{RingsBelong}
 use Rattle.ae_clocked.proofs.Keeping.{no_rings, rings_grow}
@@ -84,6 +86,9 @@ lower_bodies-returns-clause-built t c =
     let end : c.loop-lane.lane ≡ c.args.copies = omega (arith, c.loop-lane-test.false, c.loop-lane.auto.lane-end) in
     let built = all_bodies (st_func_trees c.args.p.now) c.args.m c.args.at c.args.clocks.now.rst c.args.copies c.args.args.now c.args.nl.now c.loop-lane.nl c.loop-lane.out.items c.flows_fit.ensures c.requires.timed.sound c.requires.timed.fitted c.requires.some c.requires.args (subst (λ (i : ℕ). AreSpread (st_func_trees c.args.p.now) c.args.m c.args.at c.args.clocks.now.rst c.args.copies c.args.args.now c.args.nl.now c.loop-lane.nl i c.loop-lane.out.items) end c.loop-lane.invariant.spread) in
     rw c.new.ensures built
+
+pub lower_bodies-returns-clause-sections : goal.lower_bodies-returns-clause-sections
+lower_bodies-returns-clause-sections t c = c.loop-lane.invariant.sections
 
 pub lower_instance-result_waits_of-waits-requires : goal.lower_instance-result_waits_of-waits-requires
 lower_instance-result_waits_of-waits-requires t c = (_, result_waits_told (st_func_trees c.args.p.now) c.args.slacks.now c.args.k (st_func_tree c.instance-s.result.now) c.requires.slacks (func_tree c.args.p.now c.args.k c.instance-s.result.now c.instance-s.ensures))
@@ -223,11 +228,45 @@ lower_instance-returns-clause-nodes t c =
     subst (λ (f : StFuncTree). AreNodeCells instances c.args.k f c.joined.new.nl.cells (length c.args.nl.now.cells) c.loop-j.marks.items) (same_Some s z (sym here ∙ found))
     (marked_end c.args.nl.now c.loop-j.nl c.joined.new.nl (timings_in instances c.args.k s) c.loop-j.j (results_load instances c.args.k s) c.loop-j.marks.items late added.muls (c.loop-j.invariant.nodes e))) c.joined.ensures.spends
 
+pub lower_instance-returns-in_err-begin-clause-belongs : goal.lower_instance-returns-in_err-begin-clause-belongs
+lower_instance-returns-in_err-begin-clause-belongs t c = c.loop-j.invariant.belongs
+
+pub lower_instance-returns-in_err-begin-clause-keeps : goal.lower_instance-returns-in_err-begin-clause-keeps
+lower_instance-returns-in_err-begin-clause-keeps t c = c.loop-j.invariant.keeps
+
+pub lower_instance-returns-in_err-begin-clause-grows : goal.lower_instance-returns-in_err-begin-clause-grows
+lower_instance-returns-in_err-begin-clause-grows t c =
+    let func = func_tree c.args.p.now c.args.k c.instance-s.result.now c.instance-s.ensures in
+    let ew = result_waits_in c.args.p.now c.args.slacks.now c.args.k c.instance-s.result.now c.result_waits_of-waits.result.now c.requires.slacks c.instance-s.ensures c.result_waits_of-waits.ensures in
+    let end : c.loop-j.j ≡ length (st_func_tree c.instance-s.result.now).nodes = omega (arith, c.loop-j-test.false, c.loop-j.auto.j-end, c.len-j-end.ensures, c.instance-s.result.now.nodes.ok, length-map c.instance-s.result.now.nodes.items st_node_tree) in
+    let all : AreLowered (st_func_trees c.args.p.now) c.args.k c.args.at c.args.clocks.now.rst (st_func_tree c.instance-s.result.now) c.args.ins.now c.args.nl.now c.loop-j.nl (length (st_func_tree c.instance-s.result.now).nodes) c.loop-j.items.items =
+    subst (λ (i : ℕ). AreLowered (st_func_trees c.args.p.now) c.args.k c.args.at c.args.clocks.now.rst (st_func_tree c.instance-s.result.now) c.args.ins.now c.args.nl.now c.loop-j.nl i c.loop-j.items.items) end c.loop-j.invariant.lowered in
+    results_grow (st_func_trees c.args.p.now) c.args.k c.args.at c.args.clocks.now.rst (st_func_tree c.instance-s.result.now) c.args.ins.now c.loop-j.items.items c.args.nl.now c.loop-j.nl c.loop-j.nl c.result_waits_of-waits.result.now
+    c.requires.timed.sound func ew all (grows_none c.loop-j.nl _)
+
+pub lower_instance-overflow_cast-node : goal.lower_instance-overflow_cast-node
+lower_instance-overflow_cast-node t c =
+    let func = func_tree c.args.p.now c.args.k c.instance-s.result.now c.instance-s.ensures in
+    omega (arith, few_nodes (st_func_trees c.args.p.now) c.args.k (st_func_tree c.instance-s.result.now) func, c.requires.light.1.early, c.len-node.ensures, c.instance-s.result.now.nodes.ok, length-map c.instance-s.result.now.nodes.items st_node_tree)
+
+pub lower_instance-returns-clause-sections : goal.lower_instance-returns-clause-sections
+lower_instance-returns-clause-sections t c =
+    let func = func_tree c.args.p.now c.args.k c.instance-s.result.now c.instance-s.ensures in
+    let instances = st_func_trees c.args.p.now in
+    let front : length c.args.nl.now.cells ≤ length c.loop-j.nl.cells = extends_length c.args.nl.now.cells c.loop-j.nl.cells c.loop-j.invariant.lowered.grows.grows.extends in
+    let back : length c.loop-j.nl.cells ≤ length c.joined.new.nl.cells = extends_length c.loop-j.nl.cells c.joined.new.nl.cells c.joined.ensures.grows.grows.extends in
+    let there : c.len-node.result ≤ length (st_func_tree c.instance-s.result.now).nodes = omega (arith, c.len-node.ensures, c.instance-s.result.now.nodes.ok, length-map c.instance-s.result.now.nodes.items st_node_tree) in
+    on_ok_weaker c.joined.result (λ added h.
+    let was = c.loop-j.invariant.sections h in
+    let last = sections_begun {Of = IsSectionWithin instances c.args.k} (length c.loop-j.nl.cells) (length c.joined.new.nl.cells) (record { cell = c.len-cell.result; instance = c.args.k; node = c.len-node.result })
+    c.loop-j.sections.items c.begin.new.sections.items c.in_ok-begin.ensures.ok c.len-cell.ensures back was.are (record { node = c.len-node.result; is = own_section instances c.args.k c.len-node.result (st_func_tree c.instance-s.result.now) _ func there refl refl }) in
+    sections_trans (length c.args.nl.now.cells) (length c.loop-j.nl.cells) (length c.joined.new.nl.cells) c.args.sections.now.items c.loop-j.sections.items c.begin.new.sections.items front was last) c.joined.ensures.spends
+
 pub lower_node-arrivals_of-arrivals-requires : goal.lower_node-arrivals_of-arrivals-requires
 lower_node-arrivals_of-arrivals-requires t c = (_, arrivals_told (st_func_trees c.args.p.now) c.args.a.now.arrivals c.args.k c.args.at (st_func_tree c.instance-s.result.now) c.requires.timed c.requires.light (func_tree c.args.p.now c.args.k c.instance-s.result.now c.instance-s.ensures))
 
-pub lower_node-overflow_cast-j : goal.lower_node-overflow_cast-j
-lower_node-overflow_cast-j t c =
+pub lower_node-overflow_cast-number : goal.lower_node-overflow_cast-number
+lower_node-overflow_cast-number t c =
     let h = placed_in c.args.p.now c.args.a.now.arrivals c.args.k c.args.j c.args.at c.instance-s.result.now c.index-node.result.now c.arrivals_of-arrivals.result.now c.requires.timed c.requires.light c.instance-s.ensures c.requires.node c.index-node.ensures c.arrivals_of-arrivals.ensures in
     let there : c.args.j < length (st_func_tree c.instance-s.result.now).nodes = slice_get_within (st_func_tree c.instance-s.result.now).nodes c.args.j (st_node_tree c.index-node.result.now) h.node in
     omega (arith, there, few_nodes (st_func_trees c.args.p.now) c.args.k (st_func_tree c.instance-s.result.now) h.func, c.requires.light.1.early)
@@ -333,6 +372,28 @@ lower_node-lower_bodies-requires t c =
       ),
     )
 
+pub lower_node-returns-in_err-begin-clause-belongs : goal.lower_node-returns-in_err-begin-clause-belongs
+lower_node-returns-in_err-begin-clause-belongs t c = c.requires.belongs
+
+pub lower_node-returns-in_err-begin-clause-keeps : goal.lower_node-returns-in_err-begin-clause-keeps
+lower_node-returns-in_err-begin-clause-keeps t c = keeps_none c.args.clocks.now
+
+pub lower_node-returns-in_err-begin-clause-grows : goal.lower_node-returns-in_err-begin-clause-grows
+lower_node-returns-in_err-begin-clause-grows t c = λ s n timing is. grows_none c.args.nl.now timing.load
+
+pub lower_node-returns-in-Body-clause-sections : goal.lower_node-returns-in-Body-clause-sections
+lower_node-returns-in-Body-clause-sections t c =
+    let h = placed_in c.args.p.now c.args.a.now.arrivals c.args.k c.args.j c.args.at c.instance-s.result.now c.index-node.result.now c.arrivals_of-arrivals.result.now c.requires.timed c.requires.light c.instance-s.ensures c.requires.node c.index-node.ensures c.arrivals_of-arrivals.ensures in
+    let f : StFuncTree = st_func_tree c.instance-s.result.now in
+    let there : c.args.j < length f.nodes = slice_get_within f.nodes c.args.j (st_node_tree c.index-node.result.now) h.node in
+    let front : length c.args.nl.now.cells ≤ length c.joined.new.nl.cells = extends_length c.args.nl.now.cells c.joined.new.nl.cells c.in_ok-args.ensures.grows.grows.extends in
+    let op : (st_node_tree c.index-node.result.now).op ≡ body c.in-Body.m = ap st_op_tree c.in-Body.is in
+    on_ok_weaker c.lower_bodies.result (λ called h_old.
+    let own = sections_begun {Of = IsSectionFor (st_func_trees c.args.p.now) c.args.k c.args.j} (length c.args.nl.now.cells) (length c.joined.new.nl.cells) (record { cell = c.len-cell.result; instance = c.args.k; node = c.args.j })
+    c.args.sections.now.items c.begin.new.sections.items c.in_ok-begin.ensures.ok c.len-cell.ensures front h_old (own_section (st_func_trees c.args.p.now) c.args.k c.args.j f _ h.func (omega (arith, there)) refl refl) in
+    let inner = sections_of (length c.joined.new.nl.cells) (length c.lower_bodies.new.nl.cells) c.begin.new.sections.items c.lower_bodies.new.sections.items (λ s is. called_section (st_func_trees c.args.p.now) c.args.k c.args.j c.in-Body.m f (st_node_tree c.index-node.result.now) s h.func h.node op is) (called own.are) in
+    sections_trans (length c.args.nl.now.cells) (length c.joined.new.nl.cells) (length c.lower_bodies.new.nl.cells) c.args.sections.now.items c.begin.new.sections.items c.lower_bodies.new.sections.items front own inner) c.lower_bodies.ensures.sections
+
 pub lower_node-returns-in-Body-clause-keeps : goal.lower_node-returns-in-Body-clause-keeps
 lower_node-returns-in-Body-clause-keeps t c = keeps_trans c.in_ok-args.ensures.keeps c.lower_bodies.ensures.keeps
 
@@ -416,6 +477,12 @@ lower_node-returns t c =
       spends = on_ok_weaker c.build.result (λ added. at_node (st_func_trees c.args.p.now) c.args.k c.args.j (st_func_tree c.instance-s.result.now) (st_node_tree c.index-node.result.now) h.timing (λ u. Spends c.args.nl.now c.build.new.nl u.muls u.mems c.args.kept.now.left c.joined.new.kept.left) h.is_at
           (plain_spends c.args.nl.now c.joined.new.nl c.build.new.nl (plain_costs (st_func_tree c.instance-s.result.now) (st_node_tree c.index-node.result.now)) (node_costs (all_costs (take c.args.k (st_func_trees c.args.p.now))) (item_layouts (st_func_tree c.instance-s.result.now)) (st_node_tree c.index-node.result.now)) h.timing c.args.kept.now.left c.joined.new.kept.left same h.facts.muls h.facts.mems c.in_ok-args.ensures.spends added)) c.build.ensures.adds;
       full = c.build.ensures.full;
+      sections = on_ok_weaker c.build.result (λ added h_old.
+          let there : c.args.j < length (st_func_tree c.instance-s.result.now).nodes = slice_get_within (st_func_tree c.instance-s.result.now).nodes c.args.j (st_node_tree c.index-node.result.now) h.node in
+          let front : length c.args.nl.now.cells ≤ length c.joined.new.nl.cells = extends_length c.args.nl.now.cells c.joined.new.nl.cells c.in_ok-args.ensures.grows.grows.extends in
+          let back : length c.joined.new.nl.cells ≤ length c.build.new.nl.cells = extends_length c.joined.new.nl.cells c.build.new.nl.cells c.build.ensures.grows.grows.extends in
+          sections_begun {Of = IsSectionFor (st_func_trees c.args.p.now) c.args.k c.args.j} (length c.args.nl.now.cells) (length c.build.new.nl.cells) (record { cell = c.len-cell.result; instance = c.args.k; node = c.args.j })
+          c.args.sections.now.items c.begin.new.sections.items c.in_ok-begin.ensures.ok c.len-cell.ensures (omega (arith, front, back)) h_old (own_section (st_func_trees c.args.p.now) c.args.k c.args.j (st_func_tree c.instance-s.result.now) _ h.func (omega (arith, there)) refl refl)) c.build.ensures.adds;
       item = if_ok_more c.build.result _ _ (λ y built.
           let bare = built (callees (take c.args.k (st_func_trees c.args.p.now))) in
           let whole : IsBuilt c.build.new.nl c.args.clocks.now.rst (c.args.at + c.start_of-start.result) (node_part (callees (take c.args.k (st_func_trees c.args.p.now))) (plain_costs (st_func_tree c.instance-s.result.now) (st_node_tree c.index-node.result.now)).latency (st_func_tree c.instance-s.result.now) (st_node_tree c.index-node.result.now)) c.in_ok-args.args.items y =
@@ -431,6 +498,7 @@ lower_bodies-loop-lane-init t c = record {
   keeps = keeps_none c.args.clocks.now;
   spread = no_bodies (st_func_trees c.args.p.now) c.args.m c.args.at c.args.clocks.now.rst c.args.copies c.args.args.now c.args.nl.now c.new-out.result.items c.new-out.ensures.items;
   within = omega arith;
+  sections = λ h. sections_none (length c.args.nl.now.cells) c.args.sections.now.items h;
 }
 
 pub lower_bodies-loop-lane-preserved : goal.lower_bodies-loop-lane-preserved
@@ -444,6 +512,8 @@ lower_bodies-loop-lane-preserved t c =
       spread = more_bodies (st_func_trees c.args.p.now) c.args.m c.args.at c.args.clocks.now.rst c.args.copies c.args.args.now c.in_ok-results.results.items c.args.nl.now c.loop-lane.nl c.lower_instance.new.nl c.loop-lane.lane c.loop-lane.out.items c.add.new.nets.items c.nets.result.now
           (some_results (st_func_trees c.args.p.now) c.args.m c.requires.timed.sound) c.in_ok-add.ensures.ok first c.in_ok-results.ensures.grows c.in_ok-results.ensures.adds (lane_results (st_func_trees c.args.p.now) c.args.m c.args.at c.loop-lane.clocks.rst c.args.clocks.now.rst c.args.copies c.loop-lane.lane c.args.args.now c.deref.result.now c.in_ok-own.own.items c.in_ok-results.results.items c.lower_instance.new.nl.cells c.loop-lane.invariant.keeps.rst c.deref.ensures.value c.in_ok-own.ensures.ok results) c.loop-lane.invariant.spread;
       within = omega (arith, c.loop-lane-test.true);
+      sections = λ h. (let was = c.loop-lane.invariant.sections h in sections_trans (length c.args.nl.now.cells) (length c.loop-lane.nl.cells) (length c.lower_instance.new.nl.cells) c.args.sections.now.items c.loop-lane.sections.items c.lower_instance.new.sections.items
+          (extends_length c.args.nl.now.cells c.loop-lane.nl.cells c.loop-lane.invariant.spread.grows.grows.extends) was (c.in_ok-results.ensures.sections was.are));
     }
 
 pub lower_instance-loop-j-init : goal.lower_instance-loop-j-init
@@ -455,6 +525,7 @@ lower_instance-loop-j-init t c = record {
   lowered = no_nodes (st_func_trees c.args.p.now) c.args.k c.args.at c.args.clocks.now.rst (st_func_tree c.instance-s.result.now) c.args.ins.now c.in_ok-items.items.items c.args.nl.now (c.requires.ins (st_func_tree c.instance-s.result.now) (func_tree c.args.p.now c.args.k c.instance-s.result.now c.instance-s.ensures)) c.in_ok-items.ensures.ok;
   marked = λ count h. subst (λ (i : ℕ). AreMarks (length c.args.nl.now.cells) i c.args.marks.now.items) (let same : count ≡ count + 0 = omega arith in same) h;
   nodes = λ e. marked_none c.args.nl.now (timings_in (st_func_trees c.args.p.now) c.args.k (st_func_tree c.instance-s.result.now)) c.args.marks.now.items e;
+  sections = λ h. sections_none (length c.args.nl.now.cells) c.args.sections.now.items h;
 }
 
 pub lower_instance-loop-j-preserved : goal.lower_instance-loop-j-preserved
@@ -479,4 +550,9 @@ lower_instance-loop-j-preserved t c =
       nodes = λ e. marked_more c.args.nl.now c.loop-j.nl c.lower_node.new.nl (timings_in (st_func_trees c.args.p.now) c.args.k (st_func_tree c.instance-s.result.now)) c.loop-j.j c.loop-j.marks.items c.keep_item.new.marks.items node.timing
           node.is_at.timing (c.in_ok-keep_item.ensures.marked ∙ ap (λ (m : ℕ). c.loop-j.marks.items ++ m ∷ []) c.len-mark.ensures)
           (c.in_ok-made.ensures.grows (st_func_tree c.instance-s.result.now) node.node node.timing node.is_at) (c.in_ok-made.ensures.spends (st_func_tree c.instance-s.result.now) node.node node.timing node.is_at).muls (c.loop-j.invariant.nodes e);
+      sections = λ h.
+          let was = c.loop-j.invariant.sections h in
+          let more = sections_of (length c.loop-j.nl.cells) (length c.lower_node.new.nl.cells) c.loop-j.sections.items c.lower_node.new.sections.items (λ s is. record { node = c.loop-j.j; is = is }) (c.in_ok-made.ensures.sections was.are) in
+          sections_trans (length c.args.nl.now.cells) (length c.loop-j.nl.cells) (length c.lower_node.new.nl.cells) c.args.sections.now.items c.loop-j.sections.items c.lower_node.new.sections.items
+          (extends_length c.args.nl.now.cells c.loop-j.nl.cells c.loop-j.invariant.lowered.grows.grows.extends) was more;
     }

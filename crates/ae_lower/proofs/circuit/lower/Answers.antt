@@ -1,5 +1,5 @@
 -- The circuit from its parts.
-use Rattle.std.proofs.Common.{◌≡◌, ◌+◌, ◌-◌, ◌++◌, ◌∷◌, [], ℕ, arith, List, Some, slice_get, length, refl, sym, ap, ◌∙◌, subst}
+use Rattle.std.proofs.Common.{◌≡◌, ◌+◌, ◌-◌, ◌++◌, ◌∷◌, [], ℕ, arith, List, Some, slice_get, length, sym, ap, ◌∙◌, subst}
 use Rattle.std.proofs.lemmas.List.{length-map}
 use Rattle.std.proofs.lemmas.Option.{same_Some, slice_get-map}
 use Rattle.std.specs.Option.{option_map}
@@ -16,6 +16,7 @@ use Rattle.ae_lower.specs.Circuits.{IsCircuitOf, IsCircuitThat, MakesResults, la
 use Rattle.ae_clocked.specs.Phases.{Kept}
 use Rattle.ae_lower.specs.Growth.{Adds, GrowsBy}
 use Rattle.ae_lower.specs.Lowering.{instance_costs, timings_in}
+use Rattle.ae_lower.specs.Sections.{AreCovered, AreSections, IsSectionWithin}
 use Rattle.ae_lower.specs.Stretches.{AreNodeCells, results_load}
 use Rattle.ae_lower.specs.PortNets.{bundles_from}
 use Rattle.ae_tidy.specs.Places.{AreMarks}
@@ -25,6 +26,7 @@ use Rattle.ae_lower.proofs.Whole.{begun_bundles, chosen_last, circuit_made, has_
 use Rattle.ae_lower.proofs.Tidied.{tidied_circuit}
 use Rattle.ae_lower.proofs.Blocks.{program_circuit}
 use Rattle.ae_lower.proofs.Stretches.{begun_inputs, begun_long, tidied_stretches}
+use Rattle.ae_lower.proofs.Covering.{covered_copied, sections_empty}
 use Rattle.ae_lower.proofs.circuit.lower.Goals as goal
 
 pub add_inputs-requires-clause-room : goal.add_inputs-requires-clause-room
@@ -173,6 +175,47 @@ returns-clause-nodes c s found =
     c.in_ok-tidied.ensures.tidied there (c.in_ok-tidied.ensures.moved (length s.nodes) there) front_there raw in
     subst (λ (i : ℕ). AreNodeCells instances i s c.in_ok-tidied.tidied.netlist.cells (1 + length (input_ports (streams_of s.ins))) c.in_ok-tidied.tidied.marks.items) last
     (subst (λ (b : ℕ). AreNodeCells instances k s c.in_ok-tidied.tidied.netlist.cells b c.in_ok-tidied.tidied.marks.items) begin whole)
+
+pub copied_sections-requires-clause-few : goal.copied_sections-requires-clause-few
+copied_sections-requires-clause-few c =
+    let limit =
+    ap (λ (n : Circuit). n.limit) c.in_ok-add_results.ensures.added ∙ c.lower_instance.ensures.grows.grows.limit ∙ ap (λ (n : Circuit). n.limit) c.in_ok-ins.ensures.cells ∙ ap (λ (n : Circuit). n.limit) c.in_ok-rst.ensures.added ∙ ap (λ (n : Circuit). n.limit) c.new-nl.ensures in
+    omega (arith, ap length c.deref-4.ensures.value, c.in_ok-tidied.ensures.made.long, c.in_ok-tidied.ensures.tidied.small, c.formed.ensures.limit, c.load.ensures.load, c.load.ensures.limit, limit)
+
+pub copied_sections-requires-clause-rising : goal.copied_sections-requires-clause-rising
+copied_sections-requires-clause-rising c = rw c.deref-4.ensures.value c.in_ok-tidied.ensures.made.rising
+
+pub copied_sections-requires-clause-sections : goal.copied_sections-requires-clause-sections
+copied_sections-requires-clause-sections c =
+    let have = c.in-Ok.ensures.sections (rw c.new-sections.ensures.items (sections_empty (length c.add_inputs.new.nl.cells))) in
+    (length c.lower_instance.new.nl.cells, rw c.deref-5.ensures.value have.are)
+
+pub returns-clause-sections : goal.returns-clause-sections
+returns-clause-sections c =
+    let long : length c.deref-4.result.now ≡ length c.in_ok-tidied.tidied.netlist.cells = ap length c.deref-4.ensures.value ∙ c.in_ok-tidied.ensures.made.long in
+    subst (λ (n : ℕ). AreSections n c.in_ok-sections.sections.items) long c.in_ok-sections.ensures.are
+
+pub returns-clause-covered : goal.returns-clause-covered
+returns-clause-covered c s found =
+    let fs = c.args.p.now in
+    let instances : List StFuncTree = st_func_trees fs in
+    let f = c.instance-s.result.now in
+    let k = c.count-last.result - 1 in
+    let last : k ≡ last_of instances = last_is fs c.count-last.result c.count-last.ensures.count in
+    let here : slice_get instances k ≡ Some s = rw last found in
+    let is : st_func_tree f ≡ s = same_Some _ _ (sym (instance_at fs k f c.instance-s.ensures) ∙ here) in
+    let begun : HasBegun (st_func_tree f).ins c.add_inputs.new.nl = has_begun (st_func_tree f).ins _ _ _ _ _ c.new-nl.ensures c.in_ok-rst.ensures.added c.in_ok-ins.ensures.cells (ap st_trees c.deref.ensures.value) in
+    let begin : length c.add_inputs.new.nl.cells ≡ 1 + length (input_ports (streams_of s.ins)) =
+    subst (λ (u : StFuncTree). length c.add_inputs.new.nl.cells ≡ 1 + length (input_ports (streams_of u.ins))) is (begun_long (st_func_tree f).ins c.add_inputs.new.nl begun) in
+    let have = c.in-Ok.ensures.sections (rw c.new-sections.ensures.items (sections_empty (length c.add_inputs.new.nl.cells))) in
+    let same : length c.lower_instance.new.nl.cells ≡ length c.add_results.new.nl.cells = ap (λ (n : Circuit). length n.cells) (sym c.in_ok-add_results.ensures.added) in
+    let all : AreCovered (IsSectionWithin instances k) (length c.add_inputs.new.nl.cells) (length c.add_results.new.nl.cells) c.lower_instance.new.sections.items =
+    subst (λ (n : ℕ). AreCovered (IsSectionWithin instances k) (length c.add_inputs.new.nl.cells) n c.lower_instance.new.sections.items) same have.own in
+    let whole : AreCovered (IsSectionWithin instances k) (length c.add_inputs.new.nl.cells) (length c.in_ok-tidied.tidied.netlist.cells) c.in_ok-sections.sections.items =
+    covered_copied instances k (length c.add_inputs.new.nl.cells) c.add_results.new.nl.cells c.in_ok-tidied.tidied.netlist.cells c.in_ok-tidied.tidied.made.items c.lower_instance.new.sections.items c.in_ok-sections.sections.items
+    c.in_ok-tidied.ensures.made all (rw (c.deref-4.ensures.value, c.deref-5.ensures.value) at c.in_ok-sections.ensures.copied) in
+    subst (λ (i : ℕ). AreCovered (IsSectionWithin instances i) (1 + length (input_ports (streams_of s.ins))) (length c.in_ok-tidied.tidied.netlist.cells) c.in_ok-sections.sections.items) last
+    (subst (λ (b : ℕ). AreCovered (IsSectionWithin instances k) b (length c.in_ok-tidied.tidied.netlist.cells) c.in_ok-sections.sections.items) begin whole)
 
 pub returns-clause-lean : goal.returns-clause-lean
 returns-clause-lean c = c.in_ok-tidied.ensures.tidied.lean

@@ -4,7 +4,7 @@ use Rattle.ae_netlist.specs.Circuit.{Circuit}
 use Rattle.ae_tidy.proofs.Whole.{copied_none, tidied}
 use Rattle.ae_tidy.proofs.SameRuns.{AreImages}
 use Rattle.ae_tidy.proofs.Connecting.{all_images}
-use Rattle.ae_tidy.proofs.Cutting.{copied_moved}
+use Rattle.ae_tidy.proofs.Cutting.{copied_made_of, copied_moved}
 use Rattle.ae_tidy.proofs.copy.copy.Goals as goal
 
 pub loop-n-init : goal.loop-n-init
@@ -37,6 +37,17 @@ returns-clause-tidied c =
     let copied = rw (← c.in_ok-show.ensures.cells) at c.connect_cells.ensures.copied in
     tidied c.args.nl.now c.show.new.new c.args.keep.now c.loop-n.table.at.items c.loop-n.table.made.items (length c.show.new.new.cells) c.formed.ensures.cells c.has_one_run.ensures c.requires.marked c.requires.needed
     copied (omega arith) c.in_ok-show.ensures.shown c.formed-2.ensures.cells c.formed-2.ensures.outlets (omega (arith, c.formed.ensures.limit))
+
+pub returns-clause-made : goal.returns-clause-made
+returns-clause-made c =
+    let copied = rw (← c.in_ok-show.ensures.cells) at c.connect_cells.ensures.copied in
+    let images : AreImages c.args.nl.now.cells c.show.new.new.cells c.loop-n.table.at.items =
+    all_images c.args.nl.now.cells c.show.new.new.cells c.args.keep.now c.loop-n.table.at.items c.loop-n.table.made.items (length c.args.nl.now.cells) (length c.show.new.new.cells) (omega arith) copied in
+    record {
+      long = copied.all_made;
+      are = copied_made_of c.args.nl.now.cells c.show.new.new.cells c.args.keep.now c.loop-n.table.at.items c.loop-n.table.made.items (length c.args.nl.now.cells) (length c.show.new.new.cells) images copied;
+      rising = copied.rising;
+    }
 
 pub returns-clause-moved : goal.returns-clause-moved
 returns-clause-moved c =

@@ -1,7 +1,7 @@
 use Rattle.std.proofs.Common.{ℕ, ◌≤◌, length}
 use Rattle.ae_tidy.specs.Places.{AreCut, AreMarks}
 use Rattle.ae_tidy.proofs.Cutting.{AreSure}
-use Rattle.ae_tidy.proofs.moved.moved.Given as goal
+use Rattle.ae_tidy.proofs.moved.all_moved.Given as goal
 
 abbrev pub invariant-loop-mark : goal.invariant-loop-mark
 invariant-loop-mark l = record {

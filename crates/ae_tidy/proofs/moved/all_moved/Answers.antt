@@ -2,7 +2,7 @@
 use Rattle.std.proofs.Common.{ℕ, ◌≡◌, Some, slice_get, get_or, arith}
 use Rattle.std.proofs.lemmas.Option.{slice_get-get_or}
 use Rattle.ae_tidy.proofs.Cutting.{cut_more, marks_push, sure_more}
-use Rattle.ae_tidy.proofs.moved.moved.Goals as goal
+use Rattle.ae_tidy.proofs.moved.all_moved.Goals as goal
 
 pub loop-mark-preserved : goal.loop-mark-preserved
 loop-mark-preserved c =
