@@ -38,8 +38,9 @@ Stays run t net (Reg next) = word_at run (t + 1) net ≡ word_at run t net
 Stays run t net (Mem depth at next enable) = store_at run (t + 1) net ≡ store_at run t net
 Stays run t net _ = Unit {0}
 
--- behind the first cell of the copy stand so many more inputs. The part of each run in which the holding net is 1 is a run of
--- the old netlist, with any clock behind it too; where it is not, the copy's registers and memories stay as they are. All that is no part of the copy is as it was
+-- behind the first cell of the copy stand so many more inputs. The part of each run in which the holding net is 1 is a
+-- run of the old netlist, with any clock behind it too; where it is not, the copy's registers and memories stay as they
+-- are. All that is no part of the copy is as it was
 pub record IsHeld (more by : ℕ) (old copied new : Circuit) : Type 0 where
   pub runs : (run : List Clock) → IsRun new.cells run → IsRun old.cells (held_part more by (length old.cells) run)
   pub sees : (run : List Clock) → IsRun new.cells run → (t : ℕ) → t < length run
