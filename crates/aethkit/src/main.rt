@@ -6,35 +6,24 @@
 //! where reading and 10 where writing failed, and 12 where there was no memory.
 #![tactic(auto)]
 
-mod bench;
-mod blocks;
-mod drawing;
-mod fault;
-mod frame;
-mod items;
+mod circuits;
 mod keywords;
-mod moves;
-mod nets;
-mod notes;
-mod operators;
-mod paths;
-mod ports;
 mod progress;
 mod renamed;
 mod request;
-mod slowdowns;
-mod stream;
-mod svg;
 mod top;
 mod usage;
 mod why;
 
 ghost use Rattle.std.specs.Prelude.{◌<◌, ◌≤◌};
 
-use crate::fault::KitFault;
+use crate::circuits::{bench, drawn, notes, paths, stream};
 use crate::progress::Progress;
 use crate::request::{Picture, Request, request_of};
+use crate::top::top;
+use ae_chart::table;
 use ae_io::{LoadFault, StdSink, StdSource, load, put_all};
+use ae_items::KitFault;
 use ae_why::Watch;
 use std::alloc::{AllocError, Global};
 use std::env::{self, Env};
@@ -91,20 +80,26 @@ fn alone(alloc: Global, spelled: &str) -> Result<String, AllocError> {
     format!(in alloc; "aeth 2\nfn main type:{spelled}\nend type\n")
 }
 
-// A picture of the layouts of a program.
-fn drawn(
+// A picture of the layouts of a type alone.
+fn drawn_alone(
     alloc: Global,
-    program: &[u8],
+    spelled: &str,
     slowdown: u32,
     picture: Picture,
-) -> Result<String, KitFault> {
+) -> Result<String, KitFault>
+    requires some { 0 < slowdown }
+    requires most { slowdown ≤ 4096 }
+{
+    let program = alone(alloc, spelled)?;
     if program.len() > INPUT_LIMIT {
         return Err(KitFault::TooLong);
     }
-    match picture {
-        Picture::Svg => svg::draw(alloc, program, nearest(slowdown)),
-        Picture::Text => drawing::draw(alloc, program, nearest(slowdown)),
-    }
+    drawn(alloc, program.as_bytes(), slowdown, picture)
+}
+
+// The name that a module gets.
+fn name_in(words: &[String], is_named: bool) -> &str {
+    if is_named { last(words) } else { "aeth" }
 }
 
 // What is answered to a request on an input.
@@ -120,38 +115,31 @@ fn answer<W: Watch>(
     }
     match request {
         Request::Why => Ok(why::why(alloc, behind(words), input, watch)?),
-        Request::Slowdowns(range) => slowdowns::table(alloc, input, range, watch),
+        Request::Slowdowns(range) => table(alloc, input, range, watch),
         Request::Draw {
             slowdown,
             picture,
             is_alone,
         } => {
             if *is_alone {
-                let program = alone(alloc, last(words))?;
-                drawn(alloc, program.as_bytes(), *slowdown, *picture)
+                drawn_alone(alloc, last(words), nearest(*slowdown), *picture)
             } else {
-                drawn(alloc, input, *slowdown, *picture)
+                drawn(alloc, input, nearest(*slowdown), *picture)
             }
         }
-        Request::Notes { slowdown, form } => {
-            notes::notes(alloc, input, nearest(*slowdown), *form)
-        }
+        Request::Notes { slowdown, form } => notes(alloc, input, nearest(*slowdown), *form),
         Request::Top { slowdown, is_named } => {
-            let name = if *is_named { last(words) } else { "aeth" };
-            top::top(alloc, input, nearest(*slowdown), name)
+            top(alloc, input, nearest(*slowdown), name_in(words, *is_named))
         }
         Request::Stream { slowdown, is_named } => {
-            let name = if *is_named { last(words) } else { "aeth" };
-            stream::stream(alloc, input, nearest(*slowdown), name)
+            stream(alloc, input, nearest(*slowdown), name_in(words, *is_named))
         }
-        Request::Paths { slowdown, most } => {
-            paths::paths(alloc, input, nearest(*slowdown), *most)
-        }
+        Request::Paths { slowdown, most } => paths(alloc, input, nearest(*slowdown), *most),
         Request::Bench {
             slowdown,
             fill,
             dumps,
-        } => bench::bench(alloc, input, nearest(*slowdown), *fill, *dumps, watch),
+        } => bench(alloc, input, nearest(*slowdown), *fill, *dumps, watch),
     }
 }
 

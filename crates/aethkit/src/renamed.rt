@@ -4,8 +4,8 @@ ghost use Rattle.std.specs.Prelude.{◌≡◌, IfOk, IfSome, string_bytes};
 ghost use Rattle.ae_tool.specs.Commands.{word_bytes};
 ghost use Rattle.aethkit.specs.Renamed.{build_words, IsBuild, IsRenamed, IsRenamedBuild};
 
-use crate::fault::KitFault;
 use crate::why::is_ok;
+use ae_items::KitFault;
 use ae_tool::outcome;
 use std::alloc::{AllocError, Global};
 

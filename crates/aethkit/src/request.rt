@@ -3,44 +3,19 @@
 ghost use Rattle.std.specs.Prelude.{◌<◌, ◌≤◌, IfSome, IfOk};
 
 use crate::keywords::is_keyword;
+use ae_chart::Range;
+use ae_notes::NoteForm;
 use ae_seq::is_name;
 use std::alloc::Global;
 
-/// The slowdowns that are asked for, and how they are shown.
-#[derive(Clone, Copy, Debug)]
-pub struct Range {
-    pub from: u32,
-    pub to: u32,
-    /// As comma-separated values.
-    pub csv: bool,
-    /// Only those that need less load than all smaller ones.
-    pub best: bool,
-}
-
-#[derive(Clone, Copy, Debug)]
+#[derive(Clone, Copy)]
 pub enum Picture {
     Svg,
     Text,
 }
 
-/// How names are told.
-#[derive(Clone, Copy, Debug)]
-pub struct NoteForm {
-    /// The nets too.
-    pub has_nets: bool,
-    /// As a save file of GTKWave.
-    pub is_file: bool,
-}
-
-impl NoteForm {
-    /// Where the signals stand in the dump that a save file shows: with the nets that of a test bench.
-    pub fn scope(self) -> &'static str {
-        if self.has_nets { "bench.dut" } else { "aeth" }
-    }
-}
-
 /// What is asked for.
-#[derive(Clone, Copy, Debug)]
+#[derive(Clone, Copy)]
 pub enum Request {
     /// Why `aeth` refuses with the words behind this one.
     Why,
@@ -135,51 +110,47 @@ fn says(word: &String, choice: &str) -> bool {
     plain(word.as_str()) == choice
 }
 
-fn draw(words: &[String]) -> Option<Request> {
-    let [slowdown, rest @ ..] = words else {
+// Whether the first word chooses this, and what stands behind it.
+fn taken<'a>(words: &'a [String], choice: &str) -> (bool, &'a [String]) {
+    match words {
+        [word, rest @ ..] if says(word, choice) => (true, rest),
+        _ => (false, words),
+    }
+}
+
+fn draw(slowdown: u32, words: &[String]) -> Option<Request> {
+    let (is_text, rest) = taken(words, "text");
+    let (is_alone, rest) = taken(rest, "layout");
+    if rest.len() != usize::from(is_alone) {
         return None;
-    };
-    let (picture, is_alone) = match rest {
-        [] => (Picture::Svg, false),
-        [text] if says(text, "text") => (Picture::Text, false),
-        [layout, _] if says(layout, "layout") => (Picture::Svg, true),
-        [text, layout, _] if says(text, "text") && says(layout, "layout") => (Picture::Text, true),
-        _ => return None,
-    };
+    }
+    let picture = if is_text { Picture::Text } else { Picture::Svg };
     Some(Request::Draw {
-        slowdown: slowdown_of(slowdown.as_str())?,
+        slowdown,
         picture,
         is_alone,
     })
 }
 
-fn notes(words: &[String]) -> Option<Request> {
-    let [slowdown, rest @ ..] = words else {
+fn notes(slowdown: u32, words: &[String]) -> Option<Request> {
+    let (has_nets, rest) = taken(words, "nets");
+    let (is_file, rest) = taken(rest, "gtkw");
+    if !rest.is_empty() {
         return None;
-    };
-    let (has_nets, is_file) = match rest {
-        [] => (false, false),
-        [nets] if says(nets, "nets") => (true, false),
-        [file] if says(file, "gtkw") => (false, true),
-        [nets, file] if says(nets, "nets") && says(file, "gtkw") => (true, true),
-        _ => return None,
-    };
+    }
     Some(Request::Notes {
-        slowdown: slowdown_of(slowdown.as_str())?,
+        slowdown,
         form: NoteForm { has_nets, is_file },
     })
 }
 
-fn paths(words: &[String]) -> Option<Request> {
-    let (slowdown, most) = match words {
-        [slowdown] => (slowdown, u32::MAX),
-        [slowdown, most] => (slowdown, most.as_str().parse::<u32>().ok()?),
+fn paths(slowdown: u32, words: &[String]) -> Option<Request> {
+    let most = match words {
+        [] => u32::MAX,
+        [most] => most.as_str().parse::<u32>().ok()?,
         _ => return None,
     };
-    Some(Request::Paths {
-        slowdown: slowdown_of(slowdown.as_str())?,
-        most,
-    })
+    Some(Request::Paths { slowdown, most })
 }
 
 // Whether a word can name a module: a name that is no keyword of Verilog.
@@ -187,39 +158,52 @@ fn names_module(word: &str) -> bool {
     is_name(word.as_bytes()) && !is_keyword(word)
 }
 
-// A slowdown, and whether a name for the module stands behind it.
-fn named(words: &[String]) -> Option<(u32, bool)> {
-    let (slowdown, is_named) = match words {
-        [slowdown] => (slowdown, false),
-        [slowdown, option, name] if says(option, "name") && names_module(name.as_str()) => {
-            (slowdown, true)
-        }
-        _ => return None,
+// Whether the words give the module a name.
+fn named(words: &[String]) -> Option<bool> {
+    match words {
+        [] => Some(false),
+        [option, name] if says(option, "name") && names_module(name.as_str()) => Some(true),
+        _ => None,
+    }
+}
+
+fn bench(slowdown: u32, words: &[String]) -> Option<Request> {
+    let [fill, rest @ ..] = words else {
+        return None;
     };
-    Some((slowdown_of(slowdown.as_str())?, is_named))
-}
-
-fn top(words: &[String]) -> Option<Request> {
-    let (slowdown, is_named) = named(words)?;
-    Some(Request::Top { slowdown, is_named })
-}
-
-fn stream(words: &[String]) -> Option<Request> {
-    let (slowdown, is_named) = named(words)?;
-    Some(Request::Stream { slowdown, is_named })
-}
-
-fn bench(words: &[String]) -> Option<Request> {
-    let (slowdown, fill, dumps) = match words {
-        [slowdown, fill] => (slowdown, fill, false),
-        [slowdown, fill, dump] if says(dump, "dump") => (slowdown, fill, true),
-        _ => return None,
-    };
+    let fill = fill.as_str().parse::<u64>().ok()?;
+    let (dumps, rest) = taken(rest, "dump");
+    if !rest.is_empty() {
+        return None;
+    }
     Some(Request::Bench {
-        slowdown: slowdown_of(slowdown.as_str())?,
-        fill: fill.as_str().parse::<u64>().ok()?,
+        slowdown,
+        fill,
         dumps,
     })
+}
+
+// What is asked of the circuit of one slowdown, which is the first word.
+fn of_slowdown(name: &str, words: &[String]) -> Option<Request> {
+    let [slowdown, rest @ ..] = words else {
+        return None;
+    };
+    let slowdown = slowdown_of(slowdown.as_str())?;
+    match name {
+        "draw" => draw(slowdown, rest),
+        "notes" => notes(slowdown, rest),
+        "paths" => paths(slowdown, rest),
+        "top" => Some(Request::Top {
+            slowdown,
+            is_named: named(rest)?,
+        }),
+        "stream" => Some(Request::Stream {
+            slowdown,
+            is_named: named(rest)?,
+        }),
+        "bench" => bench(slowdown, rest),
+        _ => None,
+    }
 }
 
 /// What the words ask for, if they ask for something.
@@ -230,12 +214,6 @@ pub fn request_of(words: &[String]) -> Option<Request> {
     match name.as_str() {
         "why" => Some(Request::Why),
         "slowdowns" => slowdowns(rest),
-        "draw" => draw(rest),
-        "notes" => notes(rest),
-        "paths" => paths(rest),
-        "top" => top(rest),
-        "stream" => stream(rest),
-        "bench" => bench(rest),
-        _ => None,
+        name => of_slowdown(name, rest),
     }
 }

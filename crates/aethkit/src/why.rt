@@ -6,9 +6,9 @@ ghost use Rattle.ae_tool.specs.declared.command.Command.{Command as Job};
 ghost use Rattle.ae_tool.specs.Outcomes.{IsOutcome, input_limit};
 ghost use Rattle.aethkit.specs.Explained.{is_ok, IsExplained};
 
-use crate::blocks::program_part;
-use crate::moves::load_of_moves;
+use ae_chart::load_of_moves;
 use ae_compile::{LOAD_LIMIT, OutOfMemory, STALL_LIMIT};
+use ae_items::program_part;
 use ae_tool::{
     Command, Reply, Status, VFaultKind, command_named, demo_size, outcome, refusal_line,
 };

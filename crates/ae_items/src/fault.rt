@@ -5,17 +5,11 @@ use ae_parse::RowFault;
 use std::alloc::{AllocError, AllocFailed};
 use thiserror::Error;
 
-/// Why there is no answer; lines, rows and columns are numbered from 1.
+/// Why there is no answer; rows and columns are numbered from 1.
 #[derive(Debug, Drop, Error)]
 pub enum KitFault {
-    #[error("line {line} is no line of a program")]
-    BadLine { line: u32 },
-    #[error("line {line} has no type")]
-    BadType { line: u32 },
-    #[error("line {line} is too large")]
-    TooLarge { line: u32 },
-    #[error("line {line} has no layout")]
-    NoSchedule { line: u32 },
+    #[error(transparent)]
+    Compile(CompileFault),
     #[error("row {row} is not right at column {column}")]
     BadWords { row: u32, column: u32 },
     #[error("`aeth` refuses it; `aethkit why` tells why")]
@@ -37,7 +31,7 @@ impl KitFault {
     pub fn number(&self) -> u8 {
         match self {
             KitFault::Read => 9,
-            KitFault::Memory => 12,
+            KitFault::Memory | KitFault::Compile(CompileFault::Memory) => 12,
             _ => 2,
         }
     }
@@ -45,13 +39,7 @@ impl KitFault {
 
 impl From<CompileFault> for KitFault {
     fn from(fault: CompileFault) -> KitFault {
-        match fault {
-            CompileFault::BadLine { line } => KitFault::BadLine { line },
-            CompileFault::BadType { line } => KitFault::BadType { line },
-            CompileFault::TooLarge { line } => KitFault::TooLarge { line },
-            CompileFault::NoSchedule { line } => KitFault::NoSchedule { line },
-            CompileFault::Memory => KitFault::Memory,
-        }
+        KitFault::Compile(fault)
     }
 }
 

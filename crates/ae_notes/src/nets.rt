@@ -1,9 +1,9 @@
 // Which line of the program each net of its module belongs to.
 
+use crate::form::NoteForm;
 use crate::operators::{computed, reached, word_of};
-use crate::ports::write_range;
-use crate::request::NoteForm;
 use ae_compile::{Compiled, Costs};
+use ae_items::BitRange;
 use ae_netlist::{Cell, SizedCell};
 use ae_print::op_name;
 use ae_seq::{Func, Node, Op, Program};
@@ -125,11 +125,10 @@ fn write_signal(
     {
         return Ok(());
     }
+    let (scope, number, range) = (form.scope(), line.note.line, BitRange(sized.width));
     out.push_str("+{")?;
     write_net(out, line, net, sized.cell)?;
-    write!(out, "}} {}.l{}_n{net}", form.scope(), line.note.line)?;
-    write_range(out, sized.width)?;
-    out.push_str("\n")
+    writeln!(out, "}} {scope}.l{number}_n{net}{range}")
 }
 
 // The nets of a line.
@@ -165,18 +164,18 @@ fn line_of<'a>(
         Costs::Plain(_) => costed.main_func().nodes.get(number),
         Costs::Fused(_) => None,
     };
-    let (operator, inner) = match node {
-        Some(node) => (
-            op_name(&node.op),
-            inner_lines(alloc, costed.program().program(), &node.op)?,
-        ),
-        None => ("end", Vec::new(alloc)),
-    };
-    Ok(Line {
-        note,
-        operator,
-        inner,
-    })
+    match node {
+        Some(node) => Ok(Line {
+            note,
+            operator: op_name(&node.op),
+            inner: inner_lines(alloc, costed.program().program(), &node.op)?,
+        }),
+        None => Ok(Line {
+            note,
+            operator: "end",
+            inner: Vec::new(alloc),
+        }),
+    }
 }
 
 /// A line for each net of the module but those of ports: its name, the line of the program with its operator, the cell, and the

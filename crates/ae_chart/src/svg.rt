@@ -1,12 +1,8 @@
 // The layouts of a program as a picture.
 
-ghost use Rattle.std.specs.Prelude.{◌<◌, ◌≤◌, length};
-
-use crate::blocks::program_part;
-use crate::fault::KitFault;
 use crate::frame::{CLOCK, FOLD, Fold, Frame, end_of, frame_of};
-use crate::items::{Item, clocks, count, element, item_at, lanes};
-use ae_compile::{Costed, LOAD_LIMIT, cost};
+use ae_compile::Costed;
+use ae_items::{Item, clocks, count, element, item_at, lanes};
 use std::alloc::{AllocError, Global};
 
 // In pixels: what stands above all items, a lane, what stands above the lanes of an item, and what behind them.
@@ -59,20 +55,17 @@ fn write_title(out: &mut String, title: &str, y: u32) -> Result<(), AllocError> 
 // An element in its clock on its lane, or a place without one.
 fn write_place(out: &mut String, x: u32, y: u32, element: Option<u32>) -> Result<(), AllocError> {
     let (width, height) = (CLOCK - 2, LANE - 2);
-    let class = if element.is_some() { "word" } else { "hole" };
-    write!(
-        out,
-        "<rect x=\"{x}\" y=\"{y}\" width=\"{width}\" height=\"{height}\" class=\"{class}\"/>"
-    )?;
-    if let Some(number) = element {
-        write!(
+    let (middle, base) = (middle(x), y.saturating_add(LANE - 6));
+    match element {
+        Some(number) => writeln!(
             out,
-            "<text x=\"{}\" y=\"{}\" class=\"number\">{number}</text>",
-            middle(x),
-            y.saturating_add(LANE - 6)
-        )?;
+            "<rect x=\"{x}\" y=\"{y}\" width=\"{width}\" height=\"{height}\" class=\"word\"/><text x=\"{middle}\" y=\"{base}\" class=\"number\">{number}</text>"
+        ),
+        None => writeln!(
+            out,
+            "<rect x=\"{x}\" y=\"{y}\" width=\"{width}\" height=\"{height}\" class=\"hole\"/>"
+        ),
     }
-    out.push_str("\n")
 }
 
 // Whether clocks of an item are among those that are left out.
@@ -225,12 +218,7 @@ fn write_picture(
     let wide = wide_enough(alloc, frame, costed)?;
     writeln!(
         out,
-        "<svg xmlns=\"http://www.w3.org/2000/svg\" width=\"{wide}\" height=\"{high}\" viewBox=\"0 0 {wide} {high}\">"
-    )?;
-    out.push_str(STYLE)?;
-    writeln!(
-        out,
-        "<rect width=\"{wide}\" height=\"{high}\" fill=\"white\"/>"
+        "<svg xmlns=\"http://www.w3.org/2000/svg\" width=\"{wide}\" height=\"{high}\" viewBox=\"0 0 {wide} {high}\">\n{STYLE}<rect width=\"{wide}\" height=\"{high}\" fill=\"white\"/>"
     )?;
     write_latency(out, frame, costed.costs().latency(), high)?;
     write_head(out, costed)?;
@@ -246,15 +234,10 @@ fn write_picture(
 
 /// The layout of each line of the program function in the first block: the clocks after the reset from left to right, the lanes
 /// one below the other, and in each place the number of the element that stands there. A dashed line is the latency. Of long
-/// blocks the first and the last clocks are shown, and dots in place of the others.
-pub fn draw(alloc: Global, input: &[u8], slowdown: u32) -> Result<String, KitFault>
-    requires few { length input.now ≤ 16777216 }
-    requires some { 0 < slowdown }
-    requires most { slowdown ≤ 4096 }
-{
-    let costed = cost(alloc, program_part(input), slowdown, LOAD_LIMIT)?;
-    let frame = frame_of(alloc, &costed)?;
+/// blocks the first and the last clocks are shown, and dots in place of the others. The error comes only for want of memory.
+pub fn draw_svg(alloc: Global, costed: &Costed) -> Result<String, AllocError> {
+    let frame = frame_of(alloc, costed)?;
     let mut out = String::new(alloc);
-    write_picture(&mut out, alloc, &frame, &costed)?;
+    write_picture(&mut out, alloc, &frame, costed)?;
     Ok(out)
 }

@@ -1,10 +1,11 @@
 // The ports of the module of a program, and the words that stand on them.
 
-use crate::items::{clocks, element, element_words, lanes, layout_of};
+use crate::items::{Item, element, element_words, item_at, lanes, layout_of};
 use ae_compile::Costed;
 use ae_seqtype::Value;
 use ae_sttype::StType;
 use std::alloc::{AllocError, Global};
+use std::fmt::{self, Display};
 
 /// The ports of a parameter or a result: a word of each lane.
 #[derive(Clone, Copy)]
@@ -15,7 +16,7 @@ pub struct Bundle<'a> {
     pub role: Role,
 }
 
-#[derive(Clone, Copy, PartialEq, Eq)]
+#[derive(Clone, Copy)]
 pub enum Role {
     Parameter,
     /// The one result.
@@ -38,14 +39,6 @@ impl Bundle<'_> {
         element_words(self.layout)
     }
 
-    pub fn lanes(&self) -> u32 {
-        lanes(self.layout)
-    }
-
-    pub fn clocks(&self) -> u32 {
-        clocks(self.layout)
-    }
-
     /// The column with a number, counted by lane and then by word.
     pub fn column(&self, number: u32) -> Option<Column> {
         let words = self.words();
@@ -63,7 +56,7 @@ impl Bundle<'_> {
 
     /// How many ports there are.
     pub fn columns(&self) -> u32 {
-        self.lanes().saturating_mul(self.words())
+        lanes(self.layout).saturating_mul(self.words())
     }
 
     /// The word of a value that stands on a column in a clock of the block.
@@ -75,18 +68,37 @@ impl Bundle<'_> {
         value.words.get(place as usize).copied()
     }
 
-    /// Writes the name of the port of a column.
-    pub fn write_name(&self, out: &mut String, column: Column) -> Result<(), AllocError> {
+    /// The name of the port of a column.
+    pub fn port_name(&self, column: Column) -> PortName {
+        PortName {
+            role: self.role,
+            number: self.number,
+            column,
+        }
+    }
+}
+
+/// The name of a port, which it displays as: `i0_1_2` is that of the first parameter, on lane 1 word 2, and `o_1_2` that of the one
+/// result.
+#[derive(Clone, Copy)]
+pub struct PortName {
+    role: Role,
+    number: usize,
+    column: Column,
+}
+
+impl Display for PortName {
+    fn fmt<W: fmt::Write>(&self, f: &mut fmt::Formatter<W>) -> fmt::Result {
         let number = self.number;
         let Column {
             lane,
             word,
             width: _,
-        } = column;
+        } = self.column;
         match self.role {
-            Role::Parameter => write!(out, "i{number}_{lane}_{word}"),
-            Role::Result => write!(out, "o_{lane}_{word}"),
-            Role::OneResult => write!(out, "o{number}_{lane}_{word}"),
+            Role::Parameter => write!(f, "i{number}_{lane}_{word}"),
+            Role::Result => write!(f, "o_{lane}_{word}"),
+            Role::OneResult => write!(f, "o{number}_{lane}_{word}"),
         }
     }
 }
@@ -125,10 +137,28 @@ pub fn outputs<'a>(alloc: Global, costed: &'a Costed) -> Result<Vec<Bundle<'a>>,
     Ok(bundles)
 }
 
-/// Writes the range of a word of more than one bit, as `[7:0]`.
-pub fn write_range(out: &mut String, width: u32) -> Result<(), AllocError> {
-    if width > 1 {
-        write!(out, "[{}:0]", width - 1)?;
+/// The item of the program function whose words stand on a bundle.
+pub fn item_of<'a>(costed: &'a Costed, bundle: &Bundle<'_>) -> Option<Item<'a>> {
+    match bundle.role {
+        Role::Parameter => item_at(costed, bundle.number),
+        Role::Result | Role::OneResult => {
+            let results = &costed.main_instance().results;
+            item_at(costed, *results.get(bundle.number)? as usize)
+        }
     }
-    Ok(())
+}
+
+/// The bits of a word: displayed as its range, `[7:0]`, and as nothing where it is one bit.
+#[derive(Clone, Copy)]
+pub struct BitRange(pub u32);
+
+impl Display for BitRange {
+    fn fmt<W: fmt::Write>(&self, f: &mut fmt::Formatter<W>) -> fmt::Result {
+        let width = self.0;
+        if width > 1 {
+            write!(f, "[{}:0]", width - 1)
+        } else {
+            Ok(())
+        }
+    }
 }

@@ -1,7 +1,7 @@
 // Which clocks of a picture are shown, and where.
 
-use crate::items::{Item, clocks, count, item_at};
 use ae_compile::Costed;
+use ae_items::{Item, clocks, count, item_at};
 use std::alloc::{AllocError, Global};
 
 /// In pixels: the place of the first clock, a clock, and the clocks that are left out at one place.

@@ -2,6 +2,7 @@
 
 use ae_compile::Costed;
 use ae_rewrite::StFunc;
+use ae_seq::Func;
 use ae_sttype::StType;
 
 /// The layout of an item of an instance.
@@ -30,25 +31,26 @@ pub fn count(costed: &Costed) -> usize {
     func.params.len().saturating_add(func.nodes.len())
 }
 
+// The line and the name of an item of a function.
+fn named(func: &Func, number: usize) -> Option<(u32, &str)> {
+    if number < func.params.len() {
+        let param = func.params.get(number)?;
+        Some((func.line, param.name.as_str()))
+    } else {
+        let node = func.nodes.get(number - func.params.len())?;
+        Some((node.line, node.name.as_str()))
+    }
+}
+
 /// The item with a number; its parameters come first.
 pub fn item_at(costed: &Costed, number: usize) -> Option<Item<'_>> {
-    let func = costed.main_func();
+    let (line, name) = named(costed.main_func(), number)?;
     let layout = layout_of(costed.main_instance(), number)?;
     let last = costed.schedule().count().saturating_sub(1);
     let arrival = *costed.costs().arrivals(last)?.get(number)?;
-    if number < func.params.len() {
-        let param = func.params.get(number)?;
-        return Some(Item {
-            line: func.line,
-            name: param.name.as_str(),
-            layout,
-            arrival,
-        });
-    }
-    let node = func.nodes.get(number - func.params.len())?;
     Some(Item {
-        line: node.line,
-        name: node.name.as_str(),
+        line,
+        name,
         layout,
         arrival,
     })

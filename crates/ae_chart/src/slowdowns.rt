@@ -6,17 +6,25 @@ ghost use Rattle.ae_rewrite.specs.Scheduled.{IsSchedule};
 ghost use Rattle.ae_rewrite.specs.StProgramTree.{st_func_trees};
 ghost use Rattle.ae_fuse.specs.Slowdowns.{AreLabels};
 
-use crate::blocks::program_part;
-use crate::fault::KitFault;
-use crate::items::{lanes, layout_of};
-use crate::request::Range;
 use ae_compile::{LOAD_LIMIT, typed};
 use ae_delay::{DelayFault, KnownMoves, arrivals_reusing};
 use ae_fuse::{WordLabels, labels_of};
+use ae_items::{KitFault, lanes, layout_of, program_part};
 use ae_rewrite::{PlanFault, StFunc, StProgram, schedule};
 use ae_seq::Typed;
 use ae_why::Watch;
 use std::alloc::{AllocError, Global};
+
+/// The slowdowns that are asked for, and how they are shown.
+#[derive(Clone, Copy)]
+pub struct Range {
+    pub from: u32,
+    pub to: u32,
+    /// As comma-separated values.
+    pub csv: bool,
+    /// Only those that need less load than all smaller ones.
+    pub best: bool,
+}
 
 // What a circuit costs.
 #[derive(Clone, Copy)]
@@ -31,10 +39,7 @@ struct Costs {
 #[derive(Clone, Copy)]
 struct Row {
     slowdown: u32,
-    latency: u32,
-    load: u64,
-    muls: u32,
-    mems: u64,
+    costs: Costs,
     ins: u32,
     outs: u32,
 }
@@ -53,10 +58,7 @@ fn row_of(slowdown: u32, costs: Costs, s: &StFunc) -> Row {
     }
     Row {
         slowdown,
-        latency: costs.latency,
-        load: costs.load,
-        muls: costs.muls,
-        mems: costs.mems,
+        costs,
         ins,
         outs,
     }
@@ -73,13 +75,16 @@ fn write_head(out: &mut String, csv: bool) -> Result<(), AllocError> {
 fn write_row(out: &mut String, csv: bool, row: Row) -> Result<(), AllocError> {
     let Row {
         slowdown,
+        costs,
+        ins,
+        outs,
+    } = row;
+    let Costs {
         latency,
         load,
         muls,
         mems,
-        ins,
-        outs,
-    } = row;
+    } = costs;
     if csv {
         writeln!(
             out,
@@ -147,8 +152,30 @@ fn computed(
     }
 }
 
-// What a slowdown costs, where it has a circuit. The labels of a program that only moves words are made once for all
+// The row of a schedule, if its circuit is not too large. The labels of a program that only moves words are made once for all
 // slowdowns, and moves of other programs that cost the same at several slowdowns are weighed once.
+fn row_under(
+    alloc: Global,
+    program: &Typed,
+    labels: &Option<WordLabels>,
+    moves: &mut KnownMoves,
+    slowdown: u32,
+    schedule: &StProgram,
+) -> Result<Option<Row>, KitFault>
+    requires schedule { (slowdown : ℕ) × (0 < slowdown) × (slowdown ≤ 4096) × IsSchedule (program_tree program.now) slowdown (st_func_trees schedule.now) }
+    requires labels { IfSome labels.now (λ l. AreLabels (program_tree program.now) l) }
+{
+    let costs = match labels {
+        Some(labels) => moved(alloc, program, labels, schedule)?,
+        None => computed(alloc, schedule, moves)?,
+    };
+    match (costs, schedule.instance(schedule.count().saturating_sub(1))) {
+        (Some(costs), Some(main)) => Ok(Some(row_of(slowdown, costs, main))),
+        _ => Ok(None),
+    }
+}
+
+// The row of a slowdown, where it has a circuit.
 fn costed(
     alloc: Global,
     program: &Typed,
@@ -160,18 +187,10 @@ fn costed(
     requires most { slowdown ≤ 4096 }
     requires labels { IfSome labels.now (λ l. AreLabels (program_tree program.now) l) }
 {
-    let schedule = match schedule(alloc, program, slowdown) {
-        Ok(schedule) => schedule,
-        Err(PlanFault::NoSchedule { line: _ }) => return Ok(None),
-        Err(PlanFault::Memory) => return Err(KitFault::Memory),
-    };
-    let costs = match labels {
-        Some(labels) => moved(alloc, program, labels, &schedule)?,
-        None => computed(alloc, &schedule, moves)?,
-    };
-    match (costs, schedule.instance(schedule.count().saturating_sub(1))) {
-        (Some(costs), Some(main)) => Ok(Some(row_of(slowdown, costs, main))),
-        _ => Ok(None),
+    match schedule(alloc, program, slowdown) {
+        Ok(schedule) => row_under(alloc, program, labels, moves, slowdown, &schedule),
+        Err(PlanFault::NoSchedule { line: _ }) => Ok(None),
+        Err(PlanFault::Memory) => Err(KitFault::Memory),
     }
 }
 
@@ -191,13 +210,29 @@ fn write_rows<W: Watch>(
     for slowdown in range.from.max(1)..range.to.min(4096).saturating_add(1) {
         watch.step("slowdown", slowdown, range.to);
         if let Some(row) = costed(alloc, program, labels, &mut moves, slowdown)? {
-            if !range.best || row.load < least {
+            if !range.best || row.costs.load < least {
                 write_row(out, range.csv, row)?;
             }
-            least = least.min(row.load);
+            least = least.min(row.costs.load);
         }
     }
     Ok(())
+}
+
+// The table of the slowdowns of a program.
+fn table_of<W: Watch>(
+    alloc: Global,
+    program: &Typed,
+    labels: &Option<WordLabels>,
+    range: &Range,
+    watch: &mut W,
+) -> Result<String, KitFault>
+    requires { IfSome labels.now (λ l. AreLabels (program_tree program.now) l) }
+{
+    let mut out = String::new(alloc);
+    write_head(&mut out, range.csv)?;
+    write_rows(&mut out, alloc, program, labels, range, watch)?;
+    Ok(out)
 }
 
 /// The table of the slowdowns of the program in the input, in order; each that is tried is told.
@@ -211,8 +246,5 @@ pub fn table<W: Watch>(
 {
     let program = typed(alloc, program_part(input))?;
     let labels = kept_labels(alloc, &program)?;
-    let mut out = String::new(alloc);
-    write_head(&mut out, range.csv)?;
-    write_rows(&mut out, alloc, &program, &labels, range, watch)?;
-    Ok(out)
+    table_of(alloc, &program, &labels, range, watch)
 }

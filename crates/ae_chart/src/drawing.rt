@@ -1,11 +1,7 @@
 // The layouts of a program as text.
 
-ghost use Rattle.std.specs.Prelude.{◌<◌, ◌≤◌, length};
-
-use crate::blocks::program_part;
-use crate::fault::KitFault;
-use crate::items::{Item, clocks, count, element, item_at, lanes};
-use ae_compile::{LOAD_LIMIT, cost};
+use ae_compile::Costed;
+use ae_items::{Item, clocks, count, element, item_at, lanes};
 use std::alloc::{AllocError, Global};
 
 // The columns of a line, those before the first clock, and the most lanes of a picture.
@@ -57,18 +53,10 @@ fn frame_of(item: Item<'_>) -> Frame {
     }
 }
 
-// So many blanks.
-fn indent(out: &mut String, count: u32) -> Result<(), AllocError> {
-    for _ in 0..count {
-        out.push_str(" ")?;
-    }
-    Ok(())
-}
-
 // A number at the right of a cell.
 fn write_cell(out: &mut String, number: u32, cell: u32) -> Result<(), AllocError> {
-    indent(out, cell.saturating_sub(digits(number)))?;
-    write!(out, "{number}")
+    let wide = cell as usize;
+    write!(out, "{number:>wide$}")
 }
 
 // A mark where clocks are left out.
@@ -95,8 +83,8 @@ fn write_lane(out: &mut String, item: Item<'_>, frame: Frame, lane: u32) -> Resu
         match element(item.layout, clock, lane) {
             Some(number) => write_cell(out, number, frame.cell)?,
             None => {
-                indent(out, frame.cell.saturating_sub(1))?;
-                out.push_str(".")?;
+                let wide = frame.cell as usize;
+                write!(out, "{:>wide$}", ".")?;
             }
         }
     }
@@ -157,21 +145,24 @@ fn write_item(out: &mut String, alloc: Global, item: Item<'_>) -> Result<(), All
     Ok(())
 }
 
-/// The layout of each line of the program function in the first block, lanes by clocks, with the numbers of the elements.
-pub fn draw(alloc: Global, input: &[u8], slowdown: u32) -> Result<String, KitFault>
-    requires few { length input.now ≤ 16777216 }
-    requires some { 0 < slowdown }
-    requires most { slowdown ≤ 4096 }
-{
-    let costed = cost(alloc, program_part(input), slowdown, LOAD_LIMIT)?;
-    let mut out = String::new(alloc);
+// What the circuit costs, and all items.
+fn write_items(out: &mut String, alloc: Global, costed: &Costed) -> Result<(), AllocError> {
+    let slowdown = costed.slowdown();
     let latency = costed.costs().latency();
     let load = costed.costs().load();
     writeln!(out, "slowdown {slowdown}, latency {latency}, load {load}")?;
-    for number in 0..count(&costed) {
-        if let Some(item) = item_at(&costed, number) {
-            write_item(&mut out, alloc, item)?;
+    for number in 0..count(costed) {
+        if let Some(item) = item_at(costed, number) {
+            write_item(out, alloc, item)?;
         }
     }
+    Ok(())
+}
+
+/// The layout of each line of the program function in the first block, lanes by clocks, with the numbers of the elements, at most
+/// 100 columns wide. The error comes only for want of memory.
+pub fn draw_text(alloc: Global, costed: &Costed) -> Result<String, AllocError> {
+    let mut out = String::new(alloc);
+    write_items(&mut out, alloc, costed)?;
     Ok(out)
 }

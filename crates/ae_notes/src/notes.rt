@@ -1,53 +1,54 @@
 // Which line of the program each name of its module belongs to.
 
-ghost use Rattle.std.specs.Prelude.{◌<◌, ◌≤◌, length};
-
-use crate::blocks::program_part;
-use crate::fault::KitFault;
-use crate::items::{Item, item_at};
+use crate::form::NoteForm;
 use crate::nets::write_nets;
 use crate::operators::reached;
-use crate::ports::{Bundle, Role, inputs, outputs, write_range};
-use crate::request::NoteForm;
-use ae_compile::{Costed, Costs, LOAD_LIMIT, compile, cost};
+use ae_compile::{Compiled, Costed, Costs};
+use ae_items::{BitRange, Bundle, Column, Item, inputs, item_of, outputs};
 use ae_print::op_name;
 use ae_seq::Func;
 use std::alloc::{AllocError, Global};
+use std::fmt::{self, Display};
 
-/// The item of the program function whose words stand on a bundle.
-pub fn item_of<'a>(costed: &'a Costed, bundle: &Bundle<'_>) -> Option<Item<'a>> {
-    match bundle.role {
-        Role::Parameter => item_at(costed, bundle.number),
-        Role::Result | Role::OneResult => {
-            let results = &costed.main_instance().results;
-            item_at(costed, *results.get(bundle.number)? as usize)
+// A word of an item: its name, its lane, and which word of the lane where there are several.
+#[derive(Clone, Copy)]
+struct ItemWord<'a> {
+    name: &'a str,
+    column: Column,
+    is_one: bool,
+}
+
+impl Display for ItemWord<'_> {
+    fn fmt<W: fmt::Write>(&self, f: &mut fmt::Formatter<W>) -> fmt::Result {
+        let name = self.name;
+        let Column {
+            lane,
+            word,
+            width: _,
+        } = self.column;
+        if self.is_one {
+            write!(f, "{name} {lane}")
+        } else {
+            write!(f, "{name} {lane}.{word}")
         }
     }
 }
 
-// A word of an item: its name, its lane, and which word of the lane where there are several.
-fn write_word(
-    out: &mut String,
-    bundle: &Bundle<'_>,
-    item: Item<'_>,
-    lane: u32,
-    word: u32,
-) -> Result<(), AllocError> {
-    write!(out, "{} {lane}", item.name)?;
-    if bundle.words() > 1 {
-        write!(out, ".{word}")?;
+// The word of an item on a column of a bundle.
+fn word_on<'a>(bundle: &Bundle<'_>, item: Item<'a>, column: Column) -> ItemWord<'a> {
+    ItemWord {
+        name: item.name,
+        column,
+        is_one: bundle.words() <= 1,
     }
-    Ok(())
 }
 
 // A line for each port of a bundle: its name, the line of the program, and the word.
 fn write_ports(out: &mut String, bundle: &Bundle<'_>, item: Item<'_>) -> Result<(), AllocError> {
     for number in 0..bundle.columns() {
         if let Some(column) = bundle.column(number) {
-            bundle.write_name(out, column)?;
-            write!(out, " {} ", item.line)?;
-            write_word(out, bundle, item, column.lane, column.word)?;
-            out.push_str("\n")?;
+            let (port, word) = (bundle.port_name(column), word_on(bundle, item, column));
+            writeln!(out, "{port} {} {word}", item.line)?;
         }
     }
     Ok(())
@@ -65,12 +66,9 @@ fn write_signals(
     out.push_str("\n@24\n")?;
     for number in 0..bundle.columns() {
         if let Some(column) = bundle.column(number) {
-            out.push_str("+{")?;
-            write_word(out, bundle, item, column.lane, column.word)?;
-            write!(out, "}} {}.", form.scope())?;
-            bundle.write_name(out, column)?;
-            write_range(out, column.width)?;
-            out.push_str("\n")?;
+            let (port, word) = (bundle.port_name(column), word_on(bundle, item, column));
+            let (scope, range) = (form.scope(), BitRange(column.width));
+            writeln!(out, "+{{{word}}} {scope}.{port}{range}")?;
         }
     }
     Ok(())
@@ -95,17 +93,18 @@ fn write_bundles(
     Ok(())
 }
 
-// The ports, as lines of a table or as signals of a save file.
+// The ports, as lines of a table, or as signals of a save file behind the reset.
 fn write_all_ports(
     out: &mut String,
     alloc: Global,
     costed: &Costed,
     form: NoteForm,
 ) -> Result<(), AllocError> {
-    let ins = inputs(alloc, costed)?;
-    let outs = outputs(alloc, costed)?;
-    write_bundles(out, costed, &ins, form)?;
-    write_bundles(out, costed, &outs, form)
+    if form.is_file {
+        writeln!(out, "@28\n{}.rst", form.scope())?;
+    }
+    write_bundles(out, costed, &inputs(alloc, costed)?, form)?;
+    write_bundles(out, costed, &outputs(alloc, costed)?, form)
 }
 
 // A line for each line of a function.
@@ -159,25 +158,23 @@ fn write_lines(out: &mut String, alloc: Global, costed: &Costed) -> Result<(), A
 }
 
 /// Which line and which word of the program each port of the module of `aeth build S` belongs to, and how the names of the nets
-/// of each line begin, with its operator and the lines of the functions that it calls; or each net, with its line, its cell and
-/// the lines of called functions that have the cell's operator; or a save file that shows these names in GTKWave, of the ports in
-/// a dump of `aeth wave S FILL`, and with the nets in one of the bench of `bench S FILL dump`.
-pub fn notes(alloc: Global, input: &[u8], slowdown: u32, form: NoteForm) -> Result<String, KitFault>
-    requires few { length input.now ≤ 16777216 }
-    requires some { 0 < slowdown }
-    requires most { slowdown ≤ 4096 }
-{
-    let costed = cost(alloc, program_part(input), slowdown, LOAD_LIMIT)?;
+/// of each line begin, with its operator and the lines of the functions that it calls; or a save file that shows the names of the
+/// ports in GTKWave, in a dump of `aeth wave S FILL`. The error comes only for want of memory.
+pub fn port_notes(alloc: Global, costed: &Costed, form: NoteForm) -> Result<String, AllocError> {
     let mut out = String::new(alloc);
-    if form.is_file {
-        writeln!(out, "@28\n{}.rst", form.scope())?;
+    write_all_ports(&mut out, alloc, costed, form)?;
+    if !form.is_file {
+        write_lines(&mut out, alloc, costed)?;
     }
-    write_all_ports(&mut out, alloc, &costed, form)?;
-    if form.has_nets {
-        let compiled = compile(alloc, costed)?;
-        write_nets(&mut out, alloc, &compiled, form)?;
-    } else if !form.is_file {
-        write_lines(&mut out, alloc, &costed)?;
-    }
+    Ok(out)
+}
+
+/// The ports in the same way, and each net, with its line, its cell and the lines of called functions that have the cell's
+/// operator; or a save file that shows these names in GTKWave, in a dump of the bench of `bench S FILL dump`. The error comes only
+/// for want of memory.
+pub fn net_notes(alloc: Global, compiled: &Compiled, form: NoteForm) -> Result<String, AllocError> {
+    let mut out = String::new(alloc);
+    write_all_ports(&mut out, alloc, compiled.costed(), form)?;
+    write_nets(&mut out, alloc, compiled, form)?;
     Ok(out)
 }

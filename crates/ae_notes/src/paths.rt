@@ -1,11 +1,7 @@
 // The longest chains of operators between registers.
 
-ghost use Rattle.std.specs.Prelude.{◌<◌, ◌≤◌, length};
-
-use crate::blocks::program_part;
-use crate::fault::KitFault;
-use ae_compile::{LOAD_LIMIT, compile, cost};
-use ae_netlist::{Cell, NetId};
+use ae_compile::Compiled;
+use ae_netlist::{Cell, NetId, SizedCell};
 use ae_verilog::Note;
 use ae_word::WordOp;
 use std::alloc::{AllocError, Global};
@@ -112,31 +108,39 @@ fn begin_of(notes: &[Note], number: usize, cells: usize) -> usize {
     }
 }
 
-/// The longest chain of operators without a register between them that ends in the cells of each line of the program function, in
-/// the module of `aeth build S`; those with more than so many are marked.
-pub fn paths(alloc: Global, input: &[u8], slowdown: u32, most: u32) -> Result<String, KitFault>
-    requires few { length input.now ≤ 16777216 }
-    requires some { 0 < slowdown }
-    requires most { slowdown ≤ 4096 }
-{
-    let costed = cost(alloc, program_part(input), slowdown, LOAD_LIMIT)?;
-    let compiled = compile(alloc, costed)?;
+// How many operators stand on the way to each cell; all cells that it reads in its own clock stand before it.
+fn depths_of(alloc: Global, cells: &[SizedCell]) -> Result<Vec<u32>, AllocError> {
     let mut depths = Vec::new(alloc);
-    for sized in compiled.netlist().cells() {
+    for sized in cells {
         let depth = depth_of(&depths, sized.cell);
         depths.push(depth)?;
     }
-    let mut out = String::new(alloc);
+    Ok(depths)
+}
+
+// The chain of each line, and the longest of all.
+fn write_chains(
+    out: &mut String,
+    notes: &[Note],
+    depths: &[u32],
+    most: u32,
+) -> Result<(), AllocError> {
     let all = depths.len();
-    let notes = compiled.notes();
     for number in 0..notes.len() {
         if let Some(note) = notes.get(number) {
             let from = begin_of(notes, number, all);
             let to = begin_of(notes, number.saturating_add(1), all);
-            write_chain(&mut out, note, longest(&depths, from, to), most)?;
+            write_chain(out, note, longest(depths, from, to), most)?;
         }
     }
-    let whole = longest(&depths, 0, all).operators;
-    write_whole(&mut out, whole, most)?;
+    write_whole(out, longest(depths, 0, all).operators, most)
+}
+
+/// The longest chain of operators without a register between them that ends in the cells of each line of the program function, in
+/// the module of `aeth build S`; those with more than so many are marked. The error comes only for want of memory.
+pub fn paths_text(alloc: Global, compiled: &Compiled, most: u32) -> Result<String, AllocError> {
+    let depths = depths_of(alloc, compiled.netlist().cells())?;
+    let mut out = String::new(alloc);
+    write_chains(&mut out, compiled.notes(), &depths, most)?;
     Ok(out)
 }

@@ -2,11 +2,10 @@
 
 ghost use Rattle.std.specs.Prelude.{◌<◌, ◌≤◌, length, All, IfOk};
 
-use crate::blocks::{program_part, rows_part};
-use crate::fault::KitFault;
-use crate::ports::{Bundle, Column, inputs, outputs, write_range};
-use ae_compile::{Costed, LOAD_LIMIT, cost};
+use crate::wires::Wires;
+use ae_compile::Costed;
 use ae_eval::{eval, fits};
+use ae_items::{Bundle, Column, KitFault, inputs, outputs};
 use ae_parse::read_rows;
 use ae_seqtype::Value;
 use ae_why::Watch;
@@ -98,7 +97,28 @@ fn block_of(alloc: Global, costed: &Costed, row: &[u64]) -> Result<Option<Block>
     Ok(Some(Block { given, wanted }))
 }
 
-// The blocks of all rows; each is told.
+// The blocks of all rows, which have so many words each; each row is told.
+fn blocks_of<W: Watch>(
+    alloc: Global,
+    costed: &Costed,
+    words: &[u64],
+    columns: usize,
+    watch: &mut W,
+) -> Result<Vec<Block>, AllocError>
+    requires { 0 < columns }
+{
+    let mut blocks = Vec::new(alloc);
+    let count = short(words.len() / columns);
+    for (number, row) in words.chunks(columns).enumerate() {
+        watch.step("row", short(number), count);
+        if let Some(block) = block_of(alloc, costed, row)? {
+            blocks.push(block)?;
+        }
+    }
+    Ok(blocks)
+}
+
+// The same of the rows in a text.
 fn blocks<W: Watch>(
     alloc: Global,
     costed: &Costed,
@@ -108,18 +128,11 @@ fn blocks<W: Watch>(
     requires { length rest.now ≤ 16777216 }
 {
     let widths = widths(alloc, costed)?;
-    let mut blocks = Vec::new(alloc);
     if widths.is_empty() || widths.len() > 10_000_000 || !widths.iter().all(|w| *w <= 64) {
-        return Ok(blocks);
+        return Ok(Vec::new(alloc));
     }
     let table = read_rows(alloc, rest, widths.as_slice())?;
-    let count = short(table.words.len() / widths.len());
-    for (number, row) in table.words.chunks(widths.len()).enumerate() {
-        watch.step("row", short(number), count);
-        if let Some(block) = block_of(alloc, costed, row)? {
-            blocks.push(block)?;
-        }
-    }
+    let blocks = blocks_of(alloc, costed, table.words.as_slice(), widths.len(), watch)?;
     Ok(blocks)
 }
 
@@ -137,13 +150,9 @@ fn write_declarations(
     for bundle in bundles {
         for number in 0..bundle.columns() {
             if let Some(column) = bundle.column(number) {
-                write!(out, "  {kind} ")?;
-                if column.width > 1 {
-                    write_range(out, column.width)?;
-                    out.push_str(" ")?;
-                }
-                bundle.write_name(out, column)?;
-                out.push_str(";\n")?;
+                let bits = column.width;
+                let (wires, name) = (Wires { kind, bits }, bundle.port_name(column));
+                writeln!(out, "  {wires} {name};")?;
             }
         }
     }
@@ -155,15 +164,22 @@ fn write_connections(out: &mut String, bundles: &[Bundle<'_>]) -> Result<(), All
     for bundle in bundles {
         for number in 0..bundle.columns() {
             if let Some(column) = bundle.column(number) {
-                out.push_str(",\n    .")?;
-                bundle.write_name(out, column)?;
-                out.push_str("(")?;
-                bundle.write_name(out, column)?;
-                out.push_str(")")?;
+                let name = bundle.port_name(column);
+                write!(out, ",\n    .{name}({name})")?;
             }
         }
     }
     Ok(())
+}
+
+// The word of a block that is given on a column in a clock of it.
+fn asked_word(
+    bundle: &Bundle<'_>,
+    block: Option<&Block>,
+    clock: u32,
+    column: Column,
+) -> Option<u64> {
+    bundle.word(block?.given.get(bundle.number)?, clock, column)
 }
 
 // The words of a bundle that are given in a clock, which is that clock of a block; others where nothing is asked.
@@ -175,23 +191,14 @@ fn write_given(
     chance: &mut Chance,
 ) -> Result<(), AllocError> {
     for number in 0..bundle.columns() {
-        let Some(column) = bundle.column(number) else {
-            continue;
-        };
-        let asked = match block {
-            Some(block) => match block.given.get(bundle.number) {
-                Some(value) => bundle.word(value, clock, column),
-                None => None,
-            },
-            None => None,
-        };
-        let word = match asked {
-            Some(word) => word,
-            None => chance.next(column.width),
-        };
-        out.push_str("    ")?;
-        bundle.write_name(out, column)?;
-        writeln!(out, " = {}'d{word};", column.width)?;
+        if let Some(column) = bundle.column(number) {
+            let (name, width) = (bundle.port_name(column), column.width);
+            let word = match asked_word(bundle, block, clock, column) {
+                Some(word) => word,
+                None => chance.next(width),
+            };
+            writeln!(out, "    {name} = {width}'d{word};")?;
+        }
     }
     Ok(())
 }
@@ -204,17 +211,11 @@ fn write_comparison(
     clock: u64,
     word: u64,
 ) -> Result<(), AllocError> {
-    out.push_str("    compared = compared + 1;\n    if (")?;
-    bundle.write_name(out, column)?;
-    write!(
+    let (name, width) = (bundle.port_name(column), column.width);
+    writeln!(
         out,
-        " !== {}'d{word}) begin wrong = wrong + 1; $display(\"clock {clock}: ",
-        column.width
-    )?;
-    bundle.write_name(out, column)?;
-    write!(out, " is %0d, and not {word}\", ")?;
-    bundle.write_name(out, column)?;
-    out.push_str("); end\n")
+        "    compared = compared + 1;\n    if ({name} !== {width}'d{word}) begin wrong = wrong + 1; $display(\"clock {clock}: {name} is %0d, and not {word}\", {name}); end"
+    )
 }
 
 // The comparisons of a bundle in a clock, which is that clock of a block.
@@ -309,10 +310,9 @@ fn write_head(out: &mut String, run: &Run<'_>, dumps: bool) -> Result<(), AllocE
     let slowdown = run.slowdown;
     writeln!(
         out,
-        "// A test bench for the module of `aeth build {slowdown}`, with {} blocks.\n// verilator lint_off DECLFILENAME",
+        "// A test bench for the module of `aeth build {slowdown}`, with {} blocks.\n// verilator lint_off DECLFILENAME\nmodule bench;\n  reg clk;\n  reg rst;",
         run.blocks.len()
     )?;
-    out.push_str("module bench;\n  reg clk;\n  reg rst;\n")?;
     write_declarations(out, "reg", &run.ins)?;
     write_declarations(out, "wire", &run.outs)?;
     out.push_str(
@@ -320,11 +320,15 @@ fn write_head(out: &mut String, run: &Run<'_>, dumps: bool) -> Result<(), AllocE
     )?;
     write_connections(out, &run.ins)?;
     write_connections(out, &run.outs)?;
-    out.push_str("\n  );\n  initial begin\n")?;
-    if dumps {
-        out.push_str("    $dumpfile(\"bench.vcd\");\n    $dumpvars(0, bench);\n")?;
-    }
-    out.push_str("    compared = 0;\n    wrong = 0;\n    clk = 0;\n    rst = 1;\n")
+    let dump = if dumps {
+        "    $dumpfile(\"bench.vcd\");\n    $dumpvars(0, bench);\n"
+    } else {
+        ""
+    };
+    writeln!(
+        out,
+        "\n  );\n  initial begin\n{dump}    compared = 0;\n    wrong = 0;\n    clk = 0;\n    rst = 1;"
+    )
 }
 
 // The bench.
@@ -347,33 +351,54 @@ fn write_bench(out: &mut String, run: &Run<'_>, fill: u64, dumps: bool) -> Resul
     )
 }
 
-/// A test bench for the module of the program in the input, on the rows in it: one clock of reset, then the rows as blocks, one
-/// behind the other, and words by chance where nothing is asked. Each word that a result has by the program's meaning is compared
-/// in its clock.
-pub fn bench<W: Watch>(
+// The run on the rows of an input.
+fn run_of<'a, W: Watch>(
     alloc: Global,
-    input: &[u8],
-    slowdown: u32,
+    costed: &'a Costed,
+    rows: &[u8],
+    watch: &mut W,
+) -> Result<Run<'a>, KitFault>
+    requires { length rows.now ≤ 16777216 }
+    ensures { IfOk result (λ run. 0 < run.slowdown) }
+{
+    let blocks = blocks(alloc, costed, rows, watch)?;
+    let ins = inputs(alloc, costed)?;
+    let outs = outputs(alloc, costed)?;
+    Ok(Run {
+        ins,
+        outs,
+        blocks,
+        slowdown: costed.slowdown().max(1),
+        latency: costed.costs().latency(),
+    })
+}
+
+// The text of a bench.
+fn text_of(alloc: Global, run: &Run<'_>, fill: u64, dumps: bool) -> Result<String, KitFault>
+    requires { 0 < run.now.slowdown }
+{
+    if clock_count(run).saturating_mul(port_count(run)) > MOST_WORDS {
+        return Err(KitFault::LongBench);
+    }
+    let mut out = String::new(alloc);
+    write_bench(&mut out, run, fill, dumps)?;
+    Ok(out)
+}
+
+/// A test bench for the module of a program, on the rows in a text: one clock of reset, then the rows as blocks, one behind the
+/// other, and words that the fill seeds where nothing is asked; with a dump of all words where that is wanted. Each word that a
+/// result has by the program's meaning is compared in its clock. Each row is told. The errors: a row that is not right, more than
+/// 1,000,000 words, and want of memory.
+pub fn bench_text<W: Watch>(
+    alloc: Global,
+    costed: &Costed,
+    rows: &[u8],
     fill: u64,
     dumps: bool,
     watch: &mut W,
 ) -> Result<String, KitFault>
-    requires few { length input.now ≤ 16777216 }
-    requires some { 0 < slowdown }
-    requires most { slowdown ≤ 4096 }
+    requires { length rows.now ≤ 16777216 }
 {
-    let costed = cost(alloc, program_part(input), slowdown, LOAD_LIMIT)?;
-    let run = Run {
-        ins: inputs(alloc, &costed)?,
-        outs: outputs(alloc, &costed)?,
-        blocks: blocks(alloc, &costed, rows_part(input), watch)?,
-        slowdown,
-        latency: costed.costs().latency(),
-    };
-    if clock_count(&run).saturating_mul(port_count(&run)) > MOST_WORDS {
-        return Err(KitFault::LongBench);
-    }
-    let mut out = String::new(alloc);
-    write_bench(&mut out, &run, fill, dumps)?;
-    Ok(out)
+    let run = run_of(alloc, costed, rows, watch)?;
+    text_of(alloc, &run, fill, dumps)
 }
