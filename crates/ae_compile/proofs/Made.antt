@@ -1,5 +1,5 @@
 -- The circuit of either way is one for the program.
-use Rattle.std.proofs.Common.{◌≡◌, ℕ, true, false, List, length, Some, slice_get, if◌then◌else◌, ap, sym, ◌∙◌, subst}
+use Rattle.std.proofs.Common.{◌≡◌, ℕ, true, false, List, [], length, Some, slice_get, if◌then◌else◌, ap, sym, ◌∙◌, subst}
 use Rattle.std.specs.Prelude.{Bool}
 use Rattle.std.proofs.lemmas.List.{length-map}
 use Rattle.std.proofs.lemmas.Option.{same_Some}
@@ -15,6 +15,8 @@ use Rattle.ae_tidy.specs.Needed.{IsLean}
 use Rattle.ae_tidy.specs.Places.{AreMarks}
 use Rattle.ae_lower.specs.Circuits.{IsCircuitOf, last_of, results_of}
 use Rattle.ae_lower.specs.Laws.{CircuitsAreFor}
+use Rattle.ae_lower.specs.declared.sections.Section.{Section}
+use Rattle.ae_lower.proofs.Covering.{sections_empty}
 use Rattle.ae_trace.specs.Traces.{is_movement}
 use Rattle.ae_moves.specs.Origins.{Move}
 use Rattle.ae_rewrite.specs.StProgramTree.{st_trees}
@@ -26,7 +28,7 @@ use Rattle.ae_fuse.proofs.Circuits.{outs-same}
 use Rattle.ae_compile.specs.declared.costs.Costs.{Costs}
 use Rattle.ae_compile.specs.Compiling.{IsMadeFor}
 use Rattle.ae_compile.specs.Costing.{IsKnown, arrivals_in, load_limit, main_costing, main_costs, whole_costs}
-use Rattle.ae_compile.specs.LineNotes.{ArePlaced, OwnCells}
+use Rattle.ae_compile.specs.LineNotes.{AreCellSections, ArePlaced, OwnCells}
 use Rattle.ae_compile.proofs.Large.{arrivals_found, costs_found, moved_main, plain_main}
 use Rattle.ae_compile.proofs.Mains.{main_nodes, parts_of}
 
@@ -64,6 +66,12 @@ moved_placed p all v cells marks is placed f main =
 -- of a program that only moves words no node has cells of its own
 pub moved_own : (p : ProgramTree) (all : List StFuncTree) (v : FusedView) (cells : List SizedCell) (marks : List ℕ) → IsFusedOf p all v → OwnCells p all cells marks
 moved_own p all v cells marks is computes = absurd (let e : true ≡ false = sym is.movement ∙ computes in cc)
+
+pub moved_sections : (p : ProgramTree) (all : List StFuncTree) (v : FusedView) (cells : ℕ) (sections : List Section) → IsFusedOf p all v → sections ≡ [] → AreCellSections p all cells sections
+moved_sections p all v cells sections is none = record {
+  are = rw none (sections_empty cells);
+  covered = λ computes. absurd (let e : true ≡ false = sym is.movement ∙ computes in cc);
+}
 
 -- ---- the costs that were found
 

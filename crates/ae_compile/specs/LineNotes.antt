@@ -9,7 +9,9 @@ use Rattle.ae_rewrite.specs.Sound.{item_layout, item_layouts}
 use Rattle.ae_rewrite.specs.Interface.{main_of}
 use Rattle.ae_netlist.specs.declared.cell.SizedCell.{SizedCell}
 use Rattle.ae_ports.specs.Ports.{input_ports, streams_of}
+use Rattle.ae_lower.specs.declared.sections.Section.{Section}
 use Rattle.ae_lower.specs.Circuits.{last_of}
+use Rattle.ae_lower.specs.Sections.{AreCovered, AreSections, IsSectionWithin}
 use Rattle.ae_lower.specs.Stretches.{AreNodeCells}
 use Rattle.ae_tidy.specs.Places.{AreMarks}
 use Rattle.ae_trace.specs.Traces.{is_movement}
@@ -54,6 +56,12 @@ ArePlaced p cells marks = (f : FuncTree) → slice_get p.funcs (main_of p) ≡ S
 abbrev pub OwnCells : ProgramTree → List StFuncTree → List SizedCell → (marks : List ℕ) → Type 0
 OwnCells p instances cells marks =
     is_movement p ≡ false → (s : StFuncTree) → slice_get instances (last_of instances) ≡ Some s → AreNodeCells instances (last_of instances) s cells (1 + length (input_ports (streams_of s.ins))) marks
+
+-- each cell of a program that computes, behind the inputs, stands in a section of the program function or of one that it calls
+pub record AreCellSections (p : ProgramTree) (instances : List StFuncTree) (cells : ℕ) (sections : List Section) : Type 0 where
+  pub are : AreSections cells sections
+  pub covered : is_movement p ≡ false → (s : StFuncTree) → slice_get instances (last_of instances) ≡ Some s
+      → AreCovered (IsSectionWithin instances (last_of instances)) (1 + length (input_ports (streams_of s.ins))) cells sections
 
 -- the notes of the program function, in order, each where the cells of its line or its result begin
 pub record AreLineNotes (p : ProgramTree) (instances : List StFuncTree) (s : StFuncTree) (cells : List SizedCell) (notes : List NoteTree) : Type 0 where

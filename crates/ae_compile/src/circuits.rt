@@ -11,7 +11,7 @@ ghost use Rattle.ae_trace.specs.Traces.{is_movement};
 ghost use Rattle.ae_verilog.specs.Notes.{ArePrinted, note_tree};
 ghost use Rattle.ae_verilog.specs.ReportLines.{report_tree};
 ghost use Rattle.ae_compile.specs.Compiling.{IsMadeFor, report_of};
-ghost use Rattle.ae_compile.specs.LineNotes.{ArePlaced, OwnCells, told_count, told_notes};
+ghost use Rattle.ae_compile.specs.LineNotes.{AreCellSections, ArePlaced, OwnCells, told_count, told_notes};
 ghost use Rattle.ae_compile.specs.Passes.{IsCompiledProgram, IsCostedProgram};
 
 use crate::costing::Costed;
@@ -20,21 +20,22 @@ use crate::layouts::{input_layouts, output_layouts};
 use crate::notes::{end_notes, line_notes};
 use ae_delay::Timing;
 use ae_flow::schedules_fit;
-use ae_lower::{Lowered, circuits_are_for, lower};
+use ae_lower::{Lowered, Section, circuits_are_for, lower};
 use ae_netlist::Netlist;
 use ae_retime::matching;
 use ae_verilog::{Note, Report};
 use std::alloc::{AllocError, Global};
 use std::marker::Model;
 
-/// A costed program with its circuit, the report of that, and a note for each line of the program function, or of one that
-/// only moves words for each result.
+/// A costed program with its circuit, the report of that, a note for each line of the program function, or of one that
+/// only moves words for each result, and the sections of the circuit's cells.
 #[derive(Drop)]
 pub struct Compiled {
     costed: Costed,
     report: Report,
     netlist: Netlist,
     notes: Vec<Note>,
+    sections: Vec<Section>,
 }
 
 impl Model for Compiled {
@@ -47,9 +48,9 @@ impl Model for Compiled {
 
     ghost coded = { Prim.hlevel (codes, e.the_row.coded, t.the_row.coded) };
 
-    ghost view = { λ d. record { costed = d.costed; report = d.report; netlist = d.netlist; notes = d.notes.items } };
+    ghost view = { λ d. record { costed = d.costed; report = d.report; netlist = d.netlist; notes = d.notes.items; sections = d.sections.items } };
 
-    ghost invariant = { λ d. IsCompiledProgram (record { costed = d.costed; report = d.report; netlist = d.netlist; notes = d.notes.items }) };
+    ghost invariant = { λ d. IsCompiledProgram (record { costed = d.costed; report = d.report; netlist = d.netlist; notes = d.notes.items; sections = d.sections.items }) };
 }
 
 impl Compiled {
@@ -82,6 +83,16 @@ impl Compiled {
     {
         self.notes.as_slice()
     }
+
+    /// The sections of the circuit's cells, in their order: which node each cell behind the inputs is made for, of the program
+    /// function or of a function that it calls, by the numbers of the instances of the schedule. There are none where the
+    /// program only moves words.
+    pub fn sections(&self) -> &[Section]
+        ensures is { result.now ≡ self.now.sections }
+        ensures known { IsCompiledProgram self.now }
+    {
+        self.sections.as_slice()
+    }
 }
 
 // What is told of a circuit, with or without an enable.
@@ -109,6 +120,7 @@ fn plain_circuit(alloc: Global, costed: &Costed, timing: &Timing) -> Result<Lowe
     ensures circuit { IfOk result (λ l. IsMadeFor (program_tree costed.now.program) costed.now.slowdown (st_func_trees costed.now.schedule) l.netlist) }
     ensures marks { IfOk result (λ l. ArePlaced (program_tree costed.now.program) l.netlist.cells l.marks.items) }
     ensures nodes { IfOk result (λ l. OwnCells (program_tree costed.now.program) (st_func_trees costed.now.schedule) l.netlist.cells l.marks.items) }
+    ensures sections { IfOk result (λ l. AreCellSections (program_tree costed.now.program) (st_func_trees costed.now.schedule) (length l.netlist.cells) l.sections.items) }
 {
     circuits_are_for();
     schedules_fit();
@@ -123,6 +135,7 @@ pub fn circuit(alloc: Global, costed: &Costed) -> Result<Lowered, AllocError>
     ensures circuit { IfOk result (λ l. IsMadeFor (program_tree costed.now.program) costed.now.slowdown (st_func_trees costed.now.schedule) l.netlist) }
     ensures marks { IfOk result (λ l. ArePlaced (program_tree costed.now.program) l.netlist.cells l.marks.items) }
     ensures nodes { IfOk result (λ l. OwnCells (program_tree costed.now.program) (st_func_trees costed.now.schedule) l.netlist.cells l.marks.items) }
+    ensures sections { IfOk result (λ l. AreCellSections (program_tree costed.now.program) (st_func_trees costed.now.schedule) (length l.netlist.cells) l.sections.items) }
 {
     match costed.costs() {
         Costs::Plain(timing) => plain_circuit(alloc, costed, timing),
@@ -163,5 +176,6 @@ pub fn compile(alloc: Global, costed: Costed) -> Result<Compiled, AllocError>
         report,
         netlist: lowered.netlist,
         notes,
+        sections: lowered.sections,
     })
 }

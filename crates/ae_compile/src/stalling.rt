@@ -19,7 +19,7 @@ use ae_verilog::{Note, Report};
 use std::alloc::{AllocError, Global};
 use std::marker::Model;
 
-/// The same as `Compiled`, of the circuit with an enable: the load is at most `STALL_LIMIT`.
+/// The same as `Compiled`, of the circuit with an enable, without the sections: the load is at most `STALL_LIMIT`.
 #[derive(Drop)]
 pub struct Stalled {
     costed: Costed,
@@ -29,6 +29,7 @@ pub struct Stalled {
 }
 
 impl Model for Stalled {
+    ghost use Rattle.std.specs.Prelude.{[]};
     ghost use Rattle.std.specs.Coded.{codes};
     ghost use Rattle.ae_seqtype.specs.contracts.seq_type.SeqType as t;
     ghost use Rattle.ae_sttype.specs.contracts.st_type.StType as e;
@@ -38,9 +39,9 @@ impl Model for Stalled {
 
     ghost coded = { Prim.hlevel (codes, e.the_row.coded, t.the_row.coded) };
 
-    ghost view = { λ d. record { costed = d.costed; report = d.report; netlist = d.netlist; notes = d.notes.items } };
+    ghost view = { λ d. record { costed = d.costed; report = d.report; netlist = d.netlist; notes = d.notes.items; sections = [] } };
 
-    ghost invariant = { λ d. IsStalledProgram (record { costed = d.costed; report = d.report; netlist = d.netlist; notes = d.notes.items }) };
+    ghost invariant = { λ d. IsStalledProgram (record { costed = d.costed; report = d.report; netlist = d.netlist; notes = d.notes.items; sections = [] }) };
 }
 
 impl Stalled {

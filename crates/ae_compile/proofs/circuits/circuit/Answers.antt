@@ -1,11 +1,11 @@
 -- The circuit of the moves is one for the program, as that of the schedule is.
-use Rattle.std.proofs.Common.{◌≤◌, ◌∙◌, sym, subst}
+use Rattle.std.proofs.Common.{◌≤◌, ◌∙◌, length, sym, subst}
 use Rattle.ae_seq.specs.ProgramTree.{program_tree}
 use Rattle.ae_rewrite.specs.StProgramTree.{st_func_trees}
 use Rattle.ae_delay.specs.declared.own.OwnCosts.{OwnCosts}
 use Rattle.ae_compile.specs.Costing.{AreCosts}
 use Rattle.ae_compile.proofs.Large.{moved_main}
-use Rattle.ae_compile.proofs.Made.{moved_made, moved_own, moved_placed}
+use Rattle.ae_compile.proofs.Made.{moved_made, moved_own, moved_placed, moved_sections}
 use Rattle.ae_compile.proofs.circuits.circuit.Goals as goal
 
 pub plain_circuit-requires-clause-computes : goal.plain_circuit-requires-clause-computes
@@ -43,3 +43,10 @@ returns-in_ok-lowered-in-Fused-clause-nodes c =
     let all = st_func_trees c.args.costed.now.schedule in
     let are = subst (AreCosts p all) (sym c.costs.ensures.is ∙ c.in-Fused.is) c.costs.ensures.known.costs_are in
     moved_own p all c.in-Fused.moves c.in_ok-lowered-in-Fused.lowered.netlist.cells c.in_ok-lowered-in-Fused.lowered.marks.items are
+
+pub returns-in_ok-lowered-in-Fused-clause-sections : goal.returns-in_ok-lowered-in-Fused-clause-sections
+returns-in_ok-lowered-in-Fused-clause-sections c =
+    let p = program_tree c.args.costed.now.program in
+    let all = st_func_trees c.args.costed.now.schedule in
+    let are = subst (AreCosts p all) (sym c.costs.ensures.is ∙ c.in-Fused.is) c.costs.ensures.known.costs_are in
+    moved_sections p all c.in-Fused.moves (length c.in_ok-lowered-in-Fused.lowered.netlist.cells) c.in_ok-lowered-in-Fused.lowered.sections.items are c.in_ok-lowered-in-Fused.ensures.sections

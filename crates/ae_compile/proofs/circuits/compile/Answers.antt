@@ -24,6 +24,7 @@ returns-clause-compiled c = record {
         notes_are = λ s f last main. c.in_ok-notes.ensures.are s f last main ∙ ap (told_notes (program_tree c.args.costed.program) f (item_layouts s)) c.deref.ensures.value;
         printed = c.in_ok-notes.ensures.printed;
       });
+  sections = c.in_ok-lowered.ensures.sections;
 }
 
 pub invariant_of-result : goal.invariant_of-result
@@ -39,4 +40,5 @@ invariant_of-result c = record {
         notes_are = λ s f last main. c.in_ok-notes.ensures.are s f last main ∙ ap (told_notes (program_tree c.args.costed.program) f (item_layouts s)) c.deref.ensures.value;
         printed = c.in_ok-notes.ensures.printed;
       });
+  sections = c.in_ok-lowered.ensures.sections;
 }

@@ -26,3 +26,6 @@ returns-clause-marks c =
 
 pub returns-clause-nodes : goal.returns-clause-nodes
 returns-clause-nodes c = λ computes. rw c.schedule-schedule.ensures.is at c.in_ok-lowered.ensures.nodes
+
+pub returns-clause-sections : goal.returns-clause-sections
+returns-clause-sections c = record { are = c.in_ok-lowered.ensures.sections; covered = λ computes. rw c.schedule-schedule.ensures.is at c.in_ok-lowered.ensures.covered }
