@@ -1,59 +1,15 @@
 // Which line of the program each net of its module belongs to.
 
 use crate::form::NoteForm;
-use crate::operators::{computed, reached, word_of};
+use crate::operators::word_of;
 use ae_compile::{Compiled, Costs};
 use ae_items::BitRange;
+use ae_lower::Section;
 use ae_netlist::{Cell, SizedCell};
 use ae_print::op_name;
-use ae_seq::{Func, Node, Op, Program};
+use ae_seq::{Func, Node};
 use ae_verilog::Note;
-use ae_word::WordOp;
-use std::alloc::{AllocError, Global};
-
-// A line of a called function, and the operator with which it computes.
-#[derive(Clone, Copy)]
-struct Inner<'a> {
-    op: WordOp,
-    func: &'a Func,
-    node: &'a Node,
-}
-
-// How many lines with the operator of a cell are named.
-const MOST_LINES: usize = 3;
-
-// Adds a line, unless more with its operator are known than are named.
-fn add_inner<'a>(inner: &mut Vec<Inner<'a>>, line: Inner<'a>) -> Result<(), AllocError> {
-    let mut count = 0usize;
-    for known in inner.iter() {
-        if known.op == line.op {
-            count = count.saturating_add(1);
-        }
-    }
-    if count <= MOST_LINES {
-        inner.push(line)?;
-    }
-    Ok(())
-}
-
-// The lines of a function that compute.
-fn add_lines<'a>(inner: &mut Vec<Inner<'a>>, func: &'a Func) -> Result<(), AllocError> {
-    for node in &func.nodes {
-        if let Some(op) = computed(&node.op) {
-            add_inner(inner, Inner { op, func, node })?;
-        }
-    }
-    Ok(())
-}
-
-// The lines that compute of all functions that an operator calls.
-fn inner_lines<'a>(alloc: Global, p: &'a Program, op: &Op) -> Result<Vec<Inner<'a>>, AllocError> {
-    let mut inner = Vec::new(alloc);
-    for func in &reached(alloc, p, op)? {
-        add_lines(&mut inner, func)?;
-    }
-    Ok(inner)
-}
+use std::alloc::AllocError;
 
 // What a cell is.
 fn cell_word(cell: Cell) -> &'static str {
@@ -72,32 +28,48 @@ fn cell_word(cell: Cell) -> &'static str {
     }
 }
 
-// The lines of called functions that have the operator of a cell.
-fn write_inner(out: &mut String, inner: &[Inner<'_>], cell: Cell) -> Result<(), AllocError> {
-    let Cell::Op(op, _) = cell else {
-        return Ok(());
-    };
-    let mut told = 0usize;
-    for known in inner {
-        if known.op == op {
-            if told == MOST_LINES {
-                return out.push_str(" or others");
-            }
-            let (line, name) = (known.node.line, known.node.name.as_str());
-            out.push_str(if told == 0 { ", " } else { " or " })?;
-            write!(out, "{line} {name} in {}", known.func.name.as_str())?;
-            told = told.saturating_add(1);
-        }
+// The section in which a cell stands.
+fn section_of(sections: &[Section], cell: usize) -> Option<Section> {
+    let begun = sections.partition_point(|section| section.cell as usize <= cell);
+    sections.get(begun.checked_sub(1)?).copied()
+}
+
+// The line of a called function for which a cell is made, and that function.
+fn inner_line(compiled: &Compiled, cell: usize) -> Option<(&Func, &Node)> {
+    let section = section_of(compiled.sections(), cell)?;
+    let costed = compiled.costed();
+    let schedule = costed.schedule();
+    if section.instance.saturating_add(1) >= schedule.count() {
+        return None;
     }
-    Ok(())
+    let instance = schedule.instance(section.instance)?;
+    let func = costed
+        .program()
+        .program()
+        .funcs
+        .get(instance.func as usize)?;
+    let node = func.nodes.get(section.node as usize)?;
+    Some((func, node))
+}
+
+// That line, if there is one.
+fn write_inner(out: &mut String, compiled: &Compiled, cell: usize) -> Result<(), AllocError> {
+    match inner_line(compiled, cell) {
+        Some((func, node)) => {
+            let (line, name) = (node.line, node.name.as_str());
+            let operator = op_name(&node.op);
+            write!(out, ", {line} {name} {operator} in {}", func.name.as_str())
+        }
+        None => Ok(()),
+    }
 }
 
 // What is told of all nets of a line.
-#[derive(Drop)]
+#[derive(Clone, Copy)]
 struct Line<'a> {
+    compiled: &'a Compiled,
     note: &'a Note,
     operator: &'static str,
-    inner: Vec<Inner<'a>>,
 }
 
 // A net, its line and its cell.
@@ -105,7 +77,7 @@ fn write_net(out: &mut String, line: &Line<'_>, net: usize, cell: Cell) -> Resul
     let (number, name, operator) = (line.note.line, line.note.name.as_str(), line.operator);
     let word = cell_word(cell);
     write!(out, "l{number}_n{net} {number} {name} {operator}: {word}")?;
-    write_inner(out, &line.inner, cell)
+    write_inner(out, line.compiled, net)
 }
 
 // The same as a signal of a save file; a dump has no memories.
@@ -153,39 +125,25 @@ fn write_line_nets(
 }
 
 // What is told of the nets of the line of a note: of a program that only moves words they are those of a result.
-fn line_of<'a>(
-    alloc: Global,
-    compiled: &'a Compiled,
-    note: &'a Note,
-    number: usize,
-) -> Result<Line<'a>, AllocError> {
+fn line_of<'a>(compiled: &'a Compiled, note: &'a Note, number: usize) -> Line<'a> {
     let costed = compiled.costed();
     let node = match costed.costs() {
         Costs::Plain(_) => costed.main_func().nodes.get(number),
         Costs::Fused(_) => None,
     };
-    match node {
-        Some(node) => Ok(Line {
-            note,
-            operator: op_name(&node.op),
-            inner: inner_lines(alloc, costed.program().program(), &node.op)?,
-        }),
-        None => Ok(Line {
-            note,
-            operator: "end",
-            inner: Vec::new(alloc),
-        }),
+    Line {
+        compiled,
+        note,
+        operator: match node {
+            Some(node) => op_name(&node.op),
+            None => "end",
+        },
     }
 }
 
-/// A line for each net of the module but those of ports: its name, the line of the program with its operator, the cell, and the
-/// lines of called functions that have the operator of the cell.
-pub fn write_nets(
-    out: &mut String,
-    alloc: Global,
-    compiled: &Compiled,
-    form: NoteForm,
-) -> Result<(), AllocError> {
+/// A line for each net of the module but those of ports: its name, the line of the program with its operator, the cell, and
+/// where the line calls a function, the line of that or of one that it calls for which the cell is made, with its operator.
+pub fn write_nets(out: &mut String, compiled: &Compiled, form: NoteForm) -> Result<(), AllocError> {
     let cells = compiled.netlist().cells();
     let notes = compiled.notes();
     for number in 0..notes.len() {
@@ -196,7 +154,7 @@ pub fn write_nets(
                 None => cells.len(),
             };
             if let Some(own) = cells.get(from..to) {
-                let line = line_of(alloc, compiled, note, number)?;
+                let line = line_of(compiled, note, number);
                 write_line_nets(out, &line, own, from, form)?;
             }
         }

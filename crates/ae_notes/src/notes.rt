@@ -169,12 +169,12 @@ pub fn port_notes(alloc: Global, costed: &Costed, form: NoteForm) -> Result<Stri
     Ok(out)
 }
 
-/// The ports in the same way, and each net, with its line, its cell and the lines of called functions that have the cell's
-/// operator; or a save file that shows these names in GTKWave, in a dump of the bench of `bench S FILL dump`. The error comes only
-/// for want of memory.
+/// The ports in the same way, and each net, with its line, its cell and the line of a called function for which that is made; or a
+/// save file that shows these names in GTKWave, in a dump of the bench of `bench S FILL dump`. The error comes only for want of
+/// memory.
 pub fn net_notes(alloc: Global, compiled: &Compiled, form: NoteForm) -> Result<String, AllocError> {
     let mut out = String::new(alloc);
     write_all_ports(&mut out, alloc, compiled.costed(), form)?;
-    write_nets(&mut out, alloc, compiled, form)?;
+    write_nets(&mut out, compiled, form)?;
     Ok(out)
 }

@@ -1,4 +1,4 @@
-// The operators of lines: their words, what they compute with, and the functions that they call.
+// The operators of lines: their words, and the functions that they call.
 
 use ae_print::word_name;
 use ae_seq::{Func, Op, Program};
@@ -20,14 +20,6 @@ fn as_written(op: WordOp) -> WordOp {
 /// The word of an operator on words; those of signed words are written as the others.
 pub fn word_of(op: WordOp) -> &'static str {
     word_name(as_written(op))
-}
-
-/// The operator on words that a line computes with, if it has one.
-pub fn computed(op: &Op) -> Option<WordOp> {
-    match op {
-        Op::Word(op) | Op::Reduce(op) | Op::Scan(op) => Some(*op),
-        _ => None,
-    }
 }
 
 // The function that an operator calls or maps.
