@@ -9,8 +9,8 @@ pub const USAGE: &str = "usage: aethkit REQUEST < PROGRAM
   draw S [text] [layout TYPE]        the layout of each line of the program function, lanes by clocks, as SVG or as text; or that
                                      of a type alone, as [4]u8: then nothing is read
   notes S [nets] [gtkw]              which line and which word of the program each port of its module belongs to, and the nets of
-                                     each line; nets: each net, with its line, its cell, and the line of a called function that
-                                     has the cell's operator; gtkw: as a save file, by which GTKWave names the signals of `aeth wave
+                                     each line; nets: each net, with its line, its cell, and the line of a called function for
+                                     which that is made; gtkw: as a save file, by which GTKWave names the signals of `aeth wave
                                      S FILL`, with nets those of the bench's dump
   top S [name NAME]                  the module of `aeth build S`, and a wrapper around it: a port for each parameter and result,
                                      by its name, and strobes that tell when blocks begin and when results stand; NAME in place of
