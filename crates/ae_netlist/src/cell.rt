@@ -6,6 +6,19 @@ use ae_word::WordOp;
 #[derive(Clone, Copy, PartialEq, Eq, Debug)]
 pub struct NetId(pub u32);
 
+/// The wires by which words pass into and out of a stream: at either end they pass in each clock in which both are 1.
+#[derive(Clone, Copy, PartialEq, Eq, Debug)]
+pub enum Handshake {
+    /// An input: words stand at the source.
+    SourceValid,
+    /// An output: words are asked of the source.
+    SourceReady,
+    /// An output: words stand at the sink.
+    SinkValid,
+    /// An input: the sink takes words.
+    SinkReady,
+}
+
 /// What an input or an output is for. Parameters, results, lanes and the words of a lane are numbered from 0.
 #[derive(Clone, Copy, PartialEq, Eq, Debug)]
 pub enum Port {
@@ -13,6 +26,8 @@ pub enum Port {
     Reset,
     /// The enable, of one bit: where it is 0, registers and memories keep their words.
     Enable,
+    /// A wire of a stream, of one bit.
+    Stream(Handshake),
     /// A word of one lane of a parameter.
     In { param: u32, lane: u32, word: u32 },
     /// A word of one lane of a result.

@@ -18,6 +18,26 @@ pub enum NetFault {
     Memory,
 }
 
+impl From<AllocError> for NetFault {
+    ghost use Rattle.ae_netlist.specs.declared.netlist.NetFault.TheVariants.{Memory};
+
+    ghost from_gives = { λ _ fault. fault ≡ Memory };
+
+    fn from(_: AllocError) -> NetFault {
+        NetFault::Memory
+    }
+}
+
+impl<T: Drop> From<AllocFailed<T>> for NetFault {
+    ghost use Rattle.ae_netlist.specs.declared.netlist.NetFault.TheVariants.{Memory};
+
+    ghost from_gives = { λ _ fault. fault ≡ Memory };
+
+    fn from(_: AllocFailed<T>) -> NetFault {
+        NetFault::Memory
+    }
+}
+
 /// Cells, each of which drives the net of its number, and outputs.
 #[derive(Drop)]
 pub struct Netlist {
@@ -50,12 +70,13 @@ impl Netlist {
     }
 
     /// Operands stand before their operators and have the right widths, so nothing depends on itself within a clock;
-    /// each output shows a net.
+    /// each output shows a net. There are fewer than 2^32 of both.
     pub fn formed(&self)
         ensures cells { IsFormed self.now.cells }
         ensures outlets { HaveNets self.now.cells self.now.outlets }
         ensures limit { length self.now.cells ≤ self.now.limit }
         ensures few { length self.now.outlets < 2 ^ 32 }
+        ensures small { self.now.limit < 2 ^ 32 }
     {
         let _limit = self.limit;
     }
