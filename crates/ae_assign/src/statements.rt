@@ -26,7 +26,7 @@ use ae_word::WordOp;
 use std::alloc::AllocError;
 
 /// What a register or a memory takes at a clock edge.
-#[derive(Clone, Copy, PartialEq, Eq, Debug)]
+#[derive(Clone, Copy)]
 pub enum Next {
     /// What it has.
     Keep,

@@ -17,7 +17,7 @@ use std::alloc::Global;
 use std::marker::Model;
 
 /// What a counter counts: the clocks from `offset` on, from 0 to `period - 1` and round again.
-#[derive(Clone, Copy, PartialEq, Eq, Hash, Debug)]
+#[derive(Clone, Copy, PartialEq, Eq, Hash)]
 pub struct Phase {
     pub period: u32,
     pub offset: u32,

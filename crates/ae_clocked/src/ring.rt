@@ -15,7 +15,7 @@ use crate::gates::{constant, delayed, sum};
 use ae_netlist::{Cell, NetFault, NetId, Netlist};
 
 /// A memory of 2 to `bits` words, and the counter of its places at which it is written.
-#[derive(Clone, Copy, Debug)]
+#[derive(Clone, Copy)]
 pub struct Ring {
     pub memory: NetId,
     pub counter: NetId,

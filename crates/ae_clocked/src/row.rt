@@ -15,7 +15,7 @@ use ae_netlist::{NetFault, NetId, Netlist};
 use std::alloc::Global;
 
 /// A ring in a row: the net whose words it keeps, and the ring.
-#[derive(Clone, Copy, Debug)]
+#[derive(Clone, Copy)]
 pub struct Link {
     pub head: NetId,
     pub ring: Ring,

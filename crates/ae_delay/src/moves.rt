@@ -17,7 +17,7 @@ use std::alloc::{AllocError, Global};
 use std::slice::from_ref;
 
 /// What a move costs: its latency, the words that it keeps, the runs of its choices and its memories.
-#[derive(Clone, Copy, Debug, PartialEq, Eq)]
+#[derive(Clone, Copy, Debug)]
 pub(crate) struct MoveCosts {
     pub latency: u64,
     pub delay: u64,

@@ -19,7 +19,7 @@ use ae_word::{WordOp, latency};
 use std::alloc::{AllocError, Global};
 
 /// What a node or an instance costs: its latency, its load, its multipliers and its memories.
-#[derive(Clone, Copy, Debug, PartialEq, Eq)]
+#[derive(Clone, Copy, Debug)]
 pub(crate) struct OwnCosts {
     pub latency: u64,
     pub load: u64,
@@ -28,7 +28,7 @@ pub(crate) struct OwnCosts {
 }
 
 // A tree of lanes: its levels, and how many leaves so many levels have.
-#[derive(Clone, Copy, Debug, PartialEq, Eq)]
+#[derive(Clone, Copy, Debug)]
 struct Levels {
     count: u64,
     leaves: u64,

@@ -26,7 +26,7 @@ use ae_rewrite::{MoveOp, StFunc, StNode, StOp};
 use std::alloc::{AllocError, Global};
 
 /// What a node costs: its latency in clocks, its load with the delays of its arguments, and its multipliers.
-#[derive(Clone, Copy, Debug, PartialEq, Eq)]
+#[derive(Clone, Copy, Debug)]
 pub struct Cost {
     pub latency: u32,
     pub load: u32,

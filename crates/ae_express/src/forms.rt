@@ -18,7 +18,7 @@ use ae_word::WordOp;
 use std::alloc::AllocError;
 
 /// A comparison of two words.
-#[derive(Clone, Copy, PartialEq, Eq, Debug)]
+#[derive(Clone, Copy)]
 pub enum Relation {
     Equal,
     Differs,
@@ -29,7 +29,7 @@ pub enum Relation {
 }
 
 /// What a binary operator is made of.
-#[derive(Clone, Copy, PartialEq, Eq, Debug)]
+#[derive(Clone, Copy)]
 pub enum Form {
     /// One operator on words of the width.
     Word(WordOp),

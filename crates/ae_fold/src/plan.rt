@@ -11,7 +11,7 @@ use ae_sttype::StType;
 use ae_word::{WordOp, folds};
 
 /// Slots in time, lanes, places of a lane, clocks of an element and of a block, and levels over the lanes.
-#[derive(Clone, Copy, PartialEq, Eq, Debug)]
+#[derive(Clone, Copy, Debug)]
 pub struct Plan {
     pub slots: u32,
     pub lanes: u32,

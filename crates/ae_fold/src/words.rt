@@ -13,7 +13,7 @@ use ae_word::{Atom, WordOp, op_for};
 use std::alloc::Global;
 
 /// The operator of one word of an atom, on words of so many bits.
-#[derive(Clone, Copy, PartialEq, Eq, Debug)]
+#[derive(Clone, Copy, Debug)]
 pub struct WordFold {
     pub op: WordOp,
     pub width: u32,

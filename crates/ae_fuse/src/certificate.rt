@@ -18,7 +18,7 @@ use ae_sttype::StType;
 
 /// A word of a result and the word of a parameter that it is: the results, the parameters, and in each its lane, its word
 /// in the lane and its clock in the block.
-#[derive(Clone, Copy, Debug, PartialEq, Eq)]
+#[derive(Clone, Copy)]
 pub struct Certificate {
     pub result: u32,
     pub lane: u32,

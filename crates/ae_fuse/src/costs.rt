@@ -15,7 +15,7 @@ use ae_sttype::StType;
 use std::alloc::{AllocError, Global};
 
 /// What the moves of all results cost together: the latency in clocks, the load and the memories.
-#[derive(Clone, Copy, Debug, PartialEq, Eq)]
+#[derive(Clone, Copy)]
 pub struct FusedCosts {
     pub latency: u32,
     pub load: u64,
@@ -24,7 +24,7 @@ pub struct FusedCosts {
 
 /// What the move of a result costs by itself: its latency in clocks, its load and its memories; and the columns of the
 /// result's layout.
-#[derive(Clone, Copy, Debug, PartialEq, Eq)]
+#[derive(Clone, Copy)]
 pub(crate) struct ResultCosts {
     pub latency: u32,
     pub load: u64,

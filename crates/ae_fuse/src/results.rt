@@ -30,7 +30,7 @@ use ae_sttype::StType;
 use std::alloc::{AllocError, Global};
 
 /// One result: its layout, and where each of its words comes from.
-#[derive(Debug, Drop)]
+#[derive(Drop)]
 pub(crate) struct FusedResult {
     pub out: StType,
     pub source: Vec<Origin>,

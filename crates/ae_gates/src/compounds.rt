@@ -227,7 +227,7 @@ pub fn linked(
 }
 
 /// Which way a word is shifted.
-#[derive(Clone, Copy, PartialEq, Eq, Debug)]
+#[derive(Clone, Copy)]
 pub enum Way {
     Left,
     Right,

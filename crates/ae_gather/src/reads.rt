@@ -19,7 +19,7 @@ pub struct Reads {
 const MOST_READERS: u32 = 6;
 
 /// How an output column uses late words of far columns: not at all, of one, or of several.
-#[derive(Clone, Copy, Debug, PartialEq, Eq)]
+#[derive(Clone, Copy)]
 enum Use {
     Never,
     Of(u32),

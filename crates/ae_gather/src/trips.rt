@@ -4,7 +4,7 @@ use ae_moves::Choice;
 use ae_netlist::NetId;
 
 /// A choice from a phase on, and the place of its tap in the line of its column.
-#[derive(Clone, Copy, Debug, PartialEq, Eq)]
+#[derive(Clone, Copy)]
 pub struct Step {
     pub from: u32,
     pub take: Choice,
@@ -12,7 +12,7 @@ pub struct Step {
 }
 
 /// The net of a counter, what it counts, and a limit below which the phases are in which something is asked.
-#[derive(Clone, Copy, Debug)]
+#[derive(Clone, Copy)]
 pub struct PhaseNet {
     pub net: NetId,
     pub period: u32,
@@ -21,7 +21,7 @@ pub struct PhaseNet {
 }
 
 /// The counter of the clocks of trips, and the one that is a clock ahead of it.
-#[derive(Clone, Copy, Debug)]
+#[derive(Clone, Copy)]
 pub struct Counters {
     pub later: PhaseNet,
     pub sooner: PhaseNet,

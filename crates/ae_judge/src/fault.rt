@@ -2,7 +2,7 @@
 
 /// The first fault of a module, in this order. Items are numbered from 1, where 0 is the header; nets by their place in
 /// the module's list of declared names. The rules are those of the Verilog profile, narrowed from IEEE 1364-2001.
-#[derive(Clone, Copy, PartialEq, Eq, Debug)]
+#[derive(Clone, Copy, Debug)]
 pub enum ElabFault {
     /// The item uses a name that is not declared before.
     Unknown { item: u32 },

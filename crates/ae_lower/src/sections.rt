@@ -10,7 +10,7 @@ use ae_tidy::all_moved;
 use std::alloc::{AllocError, Global};
 
 /// Cells of a netlist, from one on and up to the next section, that are made for one node of an instance.
-#[derive(Clone, Copy, PartialEq, Eq, Debug)]
+#[derive(Clone, Copy)]
 pub struct Section {
     /// The first cell.
     pub cell: u32,

@@ -7,7 +7,7 @@ use ae_word::WordOp;
 pub struct NetId(pub u32);
 
 /// The wires by which words pass into and out of a stream: at either end they pass in each clock in which both are 1.
-#[derive(Clone, Copy, PartialEq, Eq, Debug)]
+#[derive(Clone, Copy, Debug)]
 pub enum Handshake {
     /// An input: words stand at the source.
     SourceValid,
@@ -20,7 +20,7 @@ pub enum Handshake {
 }
 
 /// What an input or an output is for. Parameters, results, lanes and the words of a lane are numbered from 0.
-#[derive(Clone, Copy, PartialEq, Eq, Debug)]
+#[derive(Clone, Copy, Debug)]
 pub enum Port {
     /// The reset, of one bit.
     Reset,
@@ -37,7 +37,7 @@ pub enum Port {
 }
 
 /// What drives a net.
-#[derive(Clone, Copy, PartialEq, Eq, Debug)]
+#[derive(Clone, Copy, Debug)]
 pub enum Cell {
     /// A word from outside in each clock.
     Input(Port),
@@ -65,14 +65,14 @@ pub enum Cell {
 }
 
 /// A cell with the width of its net.
-#[derive(Clone, Copy, PartialEq, Eq, Debug)]
+#[derive(Clone, Copy, Debug)]
 pub struct SizedCell {
     pub width: u32,
     pub cell: Cell,
 }
 
 /// An output: the net whose word it shows.
-#[derive(Clone, Copy, PartialEq, Eq, Debug)]
+#[derive(Clone, Copy, Debug)]
 pub struct Outlet {
     pub port: Port,
     pub net: NetId,

@@ -7,7 +7,7 @@ ghost use Rattle.ae_order.specs.Walks.{IsWalk, IsTop, Steps, Begins, Fails};
 use std::alloc::Global;
 
 /// Why there is no order.
-#[derive(Clone, Copy, PartialEq, Eq, Debug)]
+#[derive(Clone, Copy)]
 pub enum OrderFault {
     /// A node that needs itself, at once or through others.
     Loop(u32),
@@ -15,7 +15,7 @@ pub enum OrderFault {
 }
 
 /// How far the walk has come with a node: `At` is the next of its targets to be looked at.
-#[derive(Clone, Copy, PartialEq, Eq, Debug)]
+#[derive(Clone, Copy)]
 pub enum Mark {
     New,
     At(usize),

@@ -18,7 +18,7 @@ use ae_sttype::StType;
 use std::alloc::{AllocError, Global};
 
 /// What is summed of a run.
-#[derive(Clone, Copy, PartialEq, Eq, Debug)]
+#[derive(Clone, Copy, Debug)]
 pub struct Sums {
     /// How many words the outputs show in the clocks in which all results stand.
     pub valid: u64,

@@ -20,7 +20,7 @@ use ae_word::{Atom, WordOp, op_for};
 use std::alloc::{AllocError, Global};
 
 /// A function under a budget, in so many copies.
-#[derive(Clone, Copy, Debug, PartialEq, Eq)]
+#[derive(Clone, Copy, Debug)]
 pub struct Call {
     pub func: u32,
     pub budget: u32,

@@ -4,7 +4,7 @@ ghost use Rattle.std.specs.Prelude.{◌≡◌, ◌≤◌, ◌<◌, ◌*◌, ◌%
 ghost use Rattle.ae_rewrite.specs.LayoutRule.{greatest_divisor, case_of, slots_of, lanes_of, inner_of, rounds_of};
 
 /// By which case of the layout rule (docs/SPACE_TIME.md) elements are laid out in so many clocks.
-#[derive(Clone, Copy, Debug, PartialEq, Eq)]
+#[derive(Clone, Copy, Debug)]
 pub enum Case {
     /// All side by side, in one clock.
     Parallel,

@@ -21,7 +21,7 @@ use ae_sttype::StType;
 use std::alloc::{AllocError, Global};
 
 /// What is known of a function under a budget.
-#[derive(Clone, Copy, Debug, PartialEq, Eq)]
+#[derive(Clone, Copy, Debug)]
 pub enum Plan {
     /// It has no schedule, for want of a layout at this line.
     Failed(u32),

@@ -25,7 +25,7 @@ pub enum StType {
 }
 
 /// Where an element stands: a clock and a lane, counted from 0.
-#[derive(Clone, Copy, Debug, PartialEq, Eq)]
+#[derive(Clone, Copy, Debug)]
 pub struct Slot {
     pub clock: u32,
     pub lane: u32,

@@ -8,7 +8,7 @@ ghost use Rattle.ae_tool.specs.Commands.{word_bytes, IsCommand, IsDemoSize, IsSl
 use ae_parse::number;
 
 /// A job.
-#[derive(Clone, Copy, PartialEq, Eq, Debug)]
+#[derive(Clone, Copy)]
 pub enum Command {
     /// `check`: the type of each line of the program.
     Check,

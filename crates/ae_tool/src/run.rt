@@ -26,7 +26,7 @@ use ae_sttype::StType;
 use std::alloc::Global;
 
 /// What a run is written as.
-#[derive(Clone, Copy, PartialEq, Eq, Debug)]
+#[derive(Clone, Copy)]
 pub enum Form {
     /// A line for each clock.
     Lines,

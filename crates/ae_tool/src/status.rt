@@ -5,7 +5,7 @@ ghost use Rattle.ae_tool.specs.Numbers.{status_number};
 
 /// How a call ended. Each refusal has a line of its own, which was written in place of a result, but `WriteFault`,
 /// whose line could not be.
-#[derive(Clone, Copy, PartialEq, Eq, Debug)]
+#[derive(Clone, Copy)]
 pub enum Status {
     /// The whole result was written.
     Ok,
@@ -40,7 +40,7 @@ pub enum Status {
 }
 
 /// What is wrong with a Verilog text: the byte, item or net that is at fault. The header is item 0.
-#[derive(Clone, Copy, PartialEq, Eq, Debug)]
+#[derive(Clone, Copy)]
 pub enum VFaultKind {
     BadToken { at: u32 },
     BadHeader,

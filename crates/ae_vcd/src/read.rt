@@ -18,7 +18,7 @@ use crate::words::next_word;
 use std::alloc::Global;
 
 /// Why a text has no wave.
-#[derive(Clone, Copy, PartialEq, Eq, Debug)]
+#[derive(Clone, Copy, Debug)]
 pub enum VcdFault {
     /// The first word with which no dump begins; the number of words where the text ends too early. Words count from 0.
     BadWord { at: u32 },

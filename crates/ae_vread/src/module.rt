@@ -20,7 +20,7 @@ pub struct VNet {
     pub item: u32,
 }
 
-#[derive(Clone, Copy, PartialEq, Eq, Debug)]
+#[derive(Clone, Copy, Debug)]
 pub enum NetKind {
     Input,
     Wire,
@@ -87,14 +87,14 @@ pub enum Expr {
 }
 
 /// `!` and `~`.
-#[derive(Clone, Copy, PartialEq, Eq, Debug)]
+#[derive(Clone, Copy, Debug)]
 pub enum UnOp {
     Not,
     Flip,
 }
 
 /// The binary operators; `Both` is `&&` and `Either` is `||`.
-#[derive(Clone, Copy, PartialEq, Eq, Debug)]
+#[derive(Clone, Copy, Debug)]
 pub enum BinOp {
     Mul,
     Add,

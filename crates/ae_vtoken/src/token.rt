@@ -1,7 +1,7 @@
 // The words and signs that a module's text is made of.
 
 /// A reserved word that a rule of the profile uses.
-#[derive(Clone, Copy, Debug, PartialEq, Eq)]
+#[derive(Clone, Copy, Debug)]
 pub enum Key {
     Module,
     EndModule,
@@ -19,7 +19,7 @@ pub enum Key {
 }
 
 /// A sign; `BothAmp` is `&&`, `BothBar` is `||`, `XnorLeft` is `^~` and `XnorRight` is `~^`.
-#[derive(Clone, Copy, Debug, PartialEq, Eq)]
+#[derive(Clone, Copy, Debug)]
 pub enum Sign {
     Open,
     Close,

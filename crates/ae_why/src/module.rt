@@ -27,7 +27,7 @@ struct Lexeme {
     to: usize,
 }
 
-#[derive(Clone, Copy, PartialEq, Eq)]
+#[derive(Clone, Copy)]
 enum State {
     Gap,
     Word,

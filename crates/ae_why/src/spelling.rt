@@ -3,7 +3,7 @@
 use ae_parse::plain_number;
 
 // What a piece of letters and digits has wrong.
-#[derive(Clone, Copy, PartialEq, Eq)]
+#[derive(Clone, Copy)]
 enum Fault {
     None,
     Signed,

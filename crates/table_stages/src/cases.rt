@@ -35,7 +35,7 @@ struct Fold {
 }
 
 // What stands at the two operands of a word stage.
-#[derive(Clone, Copy, PartialEq, Eq)]
+#[derive(Clone, Copy)]
 enum Form {
     // A word each.
     Apart,
