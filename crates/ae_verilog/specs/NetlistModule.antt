@@ -3,8 +3,9 @@
 use Rattle.std.specs.Prelude.{◌≡◌, ℕ, ◌+◌, ◌-◌, ◌<◌, ◌==◌, true, nat_lt, List, [], ◌∷◌, ◌++◌, map, length, Option, Some, None, slice_get, codes, decimal, if◌then◌else◌}
 use Rattle.ae_word.specs.declared.op.WordOp.{WordOp}
 use Rattle.ae_word.specs.declared.op.WordOp.TheVariants.{Add, Sub, Mul, And, Or, Xor, Not, Min, Max, Eq, Lt, Mux, Shl, Shr, Cast, SLt, SMin, SMax, Sar, SCast}
+use Rattle.ae_netlist.specs.declared.cell.Handshake.TheVariants.{SourceValid, SourceReady, SinkValid, SinkReady}
 use Rattle.ae_netlist.specs.declared.cell.Port.{Port}
-use Rattle.ae_netlist.specs.declared.cell.Port.TheVariants.{Reset, Enable, In, Out, Plain}
+use Rattle.ae_netlist.specs.declared.cell.Port.TheVariants.{Reset, Enable, Stream, In, Out, Plain}
 use Rattle.ae_netlist.specs.declared.cell.Cell.{Cell}
 use Rattle.ae_netlist.specs.declared.cell.Cell.TheVariants.{Input, Const, Op, Reg, Mem, Peek}
 use Rattle.ae_netlist.specs.declared.cell.SizedCell.{SizedCell}
@@ -26,9 +27,12 @@ clock_name = codes "clk"
 abbrev pub port_name : (outs : ℕ) → Port → List ℕ
 port_name outs Reset = codes "rst"
 port_name outs Enable = codes "en"
+port_name outs (Stream SourceValid) = codes "s_valid"
+port_name outs (Stream SourceReady) = codes "s_ready"
+port_name outs (Stream SinkValid) = codes "m_valid"
+port_name outs (Stream SinkReady) = codes "m_ready"
 port_name outs (In param lane word) = codes "i" ++ (decimal param ++ (codes "_" ++ (decimal lane ++ (codes "_" ++ decimal word))))
-port_name outs (Out result lane word) =
-    if outs == 1 then codes "o_" ++ (decimal lane ++ (codes "_" ++ decimal word))
+port_name outs (Out result lane word) = if outs == 1 then codes "o_" ++ (decimal lane ++ (codes "_" ++ decimal word))
     else codes "o" ++ (decimal result ++ (codes "_" ++ (decimal lane ++ (codes "_" ++ decimal word))))
 port_name outs (Plain k) = codes "p" ++ decimal k
 
@@ -174,15 +178,27 @@ netlist_module lines cells outlets outs = record {
 abbrev pub IsInputPort : Port → Type 0
 IsInputPort Reset = Unit {0}
 IsInputPort Enable = Unit {0}
+IsInputPort (Stream SourceValid) = Unit {0}
+IsInputPort (Stream SourceReady) = ⊥
+IsInputPort (Stream SinkValid) = ⊥
+IsInputPort (Stream SinkReady) = Unit {0}
 IsInputPort (In param lane word) = Unit {0}
-IsInputPort _ = ⊥
+IsInputPort (Out result lane word) = ⊥
+IsInputPort (Plain k) = ⊥
 
--- a word of one of so many results
+-- a word of one of so many results, and what a stream answers at its ends
 abbrev pub IsOutputPort : (outs : ℕ) → Port → Type 0
+IsOutputPort outs Reset = ⊥
+IsOutputPort outs Enable = ⊥
+IsOutputPort outs (Stream SourceValid) = ⊥
+IsOutputPort outs (Stream SourceReady) = Unit {0}
+IsOutputPort outs (Stream SinkValid) = Unit {0}
+IsOutputPort outs (Stream SinkReady) = ⊥
+IsOutputPort outs (In param lane word) = ⊥
 IsOutputPort outs (Out result lane word) = result < outs
-IsOutputPort outs _ = ⊥
+IsOutputPort outs (Plain k) = ⊥
 
--- inputs are the reset and words of parameters, outputs are words of results, and no two are the same
+-- each port is of its side, and no two are the same
 pub record HavePorts (cells : List SizedCell) (outlets : List Outlet) (outs : ℕ) : Type 0 where
   pub inputs : (n width : ℕ) (port : Port) → slice_get cells n ≡ Some (record { width = width; cell = Input port }) → IsInputPort port
   pub inputs_differ : (m n v w : ℕ) (port : Port) → slice_get cells m ≡ Some (record { width = v; cell = Input port }) → slice_get cells n ≡ Some (record { width = w; cell = Input port }) → m ≡ n

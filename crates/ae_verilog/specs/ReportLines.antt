@@ -41,14 +41,12 @@ in_line k t = codes "// in " ++ (decimal k ++ (codes " " ++ (st_text t ++ codes 
 
 -- the layout of a result, numbered where there are several
 abbrev pub out_line : (outs : ℕ) → ℕ → StTree → List ℕ
-out_line outs k t =
-    if outs == 1 then codes "// out " ++ (st_text t ++ codes "\n")
+out_line outs k t = if outs == 1 then codes "// out " ++ (st_text t ++ codes "\n")
     else codes "// out " ++ (decimal k ++ (codes " " ++ (st_text t ++ codes "\n")))
 
 -- the version of these lines, the costs, whether there is an enable, and the layouts of parameters and results
 unfoldable pub report_lines : ReportTree → List ℕ
-report_lines r =
-    codes "// aeth 1\n"
+report_lines r = codes "// aeth 1\n"
     ++ (number_line (codes "slowdown") r.slowdown
     ++ (number_line (codes "latency") r.latency
     ++ (number_line (codes "muls") r.muls

@@ -4,7 +4,7 @@ use Rattle.std.specs.List.{flat_map}
 use Rattle.ae_word.specs.declared.op.WordOp.{WordOp}
 use Rattle.ae_word.specs.declared.op.WordOp.TheVariants.{Cast}
 use Rattle.ae_netlist.specs.declared.cell.Port.{Port}
-use Rattle.ae_netlist.specs.declared.cell.Port.TheVariants.{Reset, Enable, In, Out, Plain}
+use Rattle.ae_netlist.specs.declared.cell.Port.TheVariants.{Reset, Enable, Stream, In, Out, Plain}
 use Rattle.ae_netlist.specs.declared.cell.Cell.{Cell}
 use Rattle.ae_netlist.specs.declared.cell.Cell.TheVariants.{Input, Const, Op, Reg, Mem, Peek}
 use Rattle.ae_netlist.specs.declared.cell.SizedCell.{SizedCell}
@@ -124,8 +124,7 @@ output_text cells outs outlet =
     codes ",\n  output wire " ++ (range_text (width_of cells outlet.net.0) ++ port_name outs outlet.port)
 
 abbrev pub header_text : List SizedCell → List Outlet → (outs : ℕ) → List ℕ
-header_text cells outlets outs =
-    codes "module aeth (\n  input wire clk"
+header_text cells outlets outs = codes "module aeth (\n  input wire clk"
     ++ (flat_map (λ (sized : SizedCell). input_text sized.width sized.cell) cells
     ++ (flat_map (output_text cells outs) outlets ++ codes "\n);\n"))
 
@@ -167,6 +166,7 @@ whole_text report notes cells outlets outs =
 abbrev pub PortFits : Port → Type 0
 PortFits Reset = Unit {0}
 PortFits Enable = Unit {0}
+PortFits (Stream wire) = Unit {0}
 PortFits (In param lane word) = (param < 2 ^ 32) × (lane < 2 ^ 32) × (word < 2 ^ 32)
 PortFits (Out result lane word) = (result < 2 ^ 32) × (lane < 2 ^ 32) × (word < 2 ^ 32)
 PortFits (Plain k) = k < 2 ^ 32

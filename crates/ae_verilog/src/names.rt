@@ -5,7 +5,7 @@ ghost use Rattle.ae_verilog.specs.NetlistModule.{port_name, number_name, cell_na
 ghost use Rattle.ae_verilog.specs.Text.{range_text, PortFits};
 ghost use Rattle.ae_verilog.specs.Notes.{table_line};
 
-use ae_netlist::{Cell, NetId, Port, SizedCell};
+use ae_netlist::{Cell, Handshake, NetId, Port, SizedCell};
 use std::alloc::AllocError;
 
 // The name of a port; an output names its result where there are several.
@@ -16,6 +16,10 @@ pub fn write_port(out: &mut String, port: Port, outs: usize) -> Result<(), Alloc
     match port {
         Port::Reset => write!(out, "rst"),
         Port::Enable => write!(out, "en"),
+        Port::Stream(Handshake::SourceValid) => write!(out, "s_valid"),
+        Port::Stream(Handshake::SourceReady) => write!(out, "s_ready"),
+        Port::Stream(Handshake::SinkValid) => write!(out, "m_valid"),
+        Port::Stream(Handshake::SinkReady) => write!(out, "m_ready"),
         Port::In { param, lane, word } => write!(out, "i{param}_{lane}_{word}"),
         Port::Out { result, lane, word } => {
             if outs == 1 {
