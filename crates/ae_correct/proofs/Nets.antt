@@ -5,8 +5,9 @@ use Rattle.std.specs.List.{filter, enumerate_from}
 use Rattle.std.proofs.lemmas.List.{append-nil, take-append-drop, length-map}
 use Rattle.std.proofs.lemmas.List.Elements.{filter-append}
 use Rattle.std.proofs.lemmas.List.Sums.{length-filter}
+use Rattle.ae_netlist.specs.declared.cell.Handshake.TheVariants.{SourceValid, SourceReady, SinkValid, SinkReady}
 use Rattle.ae_netlist.specs.declared.cell.Port.{Port}
-use Rattle.ae_netlist.specs.declared.cell.Port.TheVariants.{Reset, Enable, In, Out, Plain}
+use Rattle.ae_netlist.specs.declared.cell.Port.TheVariants.{Reset, Enable, Stream, In, Out, Plain}
 use Rattle.ae_netlist.specs.declared.cell.Cell.{Cell}
 use Rattle.ae_netlist.specs.declared.cell.Cell.TheVariants.{Input, Const, Op, Reg, Mem, Peek}
 use Rattle.ae_netlist.specs.declared.cell.SizedCell.{SizedCell}
@@ -211,6 +212,10 @@ module _ (lines : ℕ → ℕ) (cells : List SizedCell) (outlets : List Outlet) 
   other_name : (port : Port) → IsInputPort port → is_clock tree (port_name 1 port) ≡ false
   other_name Reset k = is_clk tree (port_name 1 Reset) (clocked lines cells outlets many)
   other_name Enable k = is_clk tree (port_name 1 Enable) (clocked lines cells outlets many)
+  other_name (Stream SourceValid) k = is_clk tree (port_name 1 (Stream SourceValid)) (clocked lines cells outlets many)
+  other_name (Stream SourceReady) k = absurd k
+  other_name (Stream SinkValid) k = absurd k
+  other_name (Stream SinkReady) k = is_clk tree (port_name 1 (Stream SinkReady)) (clocked lines cells outlets many)
   other_name (In param lane word) k = is_clk tree (port_name 1 (In param lane word)) (clocked lines cells outlets many)
   other_name (Out result lane word) k = absurd k
   other_name (Plain n) k = absurd k

@@ -9,8 +9,10 @@ use Rattle.std.proofs.lemmas.Option.{slice_get_within}
 use Rattle.ae_word.specs.declared.op.WordOp.{WordOp}
 use Rattle.ae_word.specs.declared.op.WordOp.TheVariants.{Add, Sub, Mul, And, Or, Xor, Not, Min, Max, Eq, Lt, Mux, Shl, Shr, Cast, SLt, SMin, SMax, Sar, SCast}
 use Rattle.ae_word.specs.WordTable.{HasRange}
+use Rattle.ae_netlist.specs.declared.cell.Handshake.{Handshake}
+use Rattle.ae_netlist.specs.declared.cell.Handshake.TheVariants.{SourceValid, SourceReady, SinkValid, SinkReady}
 use Rattle.ae_netlist.specs.declared.cell.Port.{Port}
-use Rattle.ae_netlist.specs.declared.cell.Port.TheVariants.{Reset, Enable, In, Out, Plain}
+use Rattle.ae_netlist.specs.declared.cell.Port.TheVariants.{Reset, Enable, Stream, In, Out, Plain}
 use Rattle.ae_netlist.specs.declared.cell.Cell.{Cell}
 use Rattle.ae_netlist.specs.declared.cell.Cell.TheVariants.{Input, Const, Op, Reg, Mem, Peek}
 use Rattle.ae_netlist.specs.declared.cell.SizedCell.{SizedCell}
@@ -58,9 +60,16 @@ pub choose_up : (n : ℕ) (t : Bool) (a b : List ℕ) → IsUpTo n a → IsUpTo 
 choose_up n true a b h k = h
 choose_up n false a b h k = k
 
+handshake_up : (outs : ℕ) (wire : Handshake) → IsUpTo 33 (port_name outs (Stream wire))
+handshake_up outs SourceValid = short (lit≤ tt)
+handshake_up outs SourceReady = short (lit≤ tt)
+handshake_up outs SinkValid = short (lit≤ tt)
+handshake_up outs SinkReady = short (lit≤ tt)
+
 pub port_up : (outs : ℕ) (port : Port) → PortFits port → IsUpTo 33 (port_name outs port)
 port_up outs Reset h = short (lit≤ tt)
 port_up outs Enable h = short (lit≤ tt)
+port_up outs (Stream wire) h = handshake_up outs wire
 port_up outs (In param lane word) h = both 1 32 (codes "i") _ (short (lit≤ tt)) (three_up param lane word h.0 h.1 h.2)
 port_up outs (Out result lane word) h =
     choose_up 33 (outs == 1) (codes "o_" ++ (decimal lane ++ (codes "_" ++ decimal word))) (codes "o" ++ (decimal result ++ (codes "_" ++ (decimal lane ++ (codes "_" ++ decimal word)))))

@@ -11,8 +11,10 @@ use Rattle.ae_word.specs.declared.op.WordOp.{WordOp}
 use Rattle.ae_word.specs.declared.op.WordOp.TheVariants.{Add, Sub, Mul, And, Or, Xor, Not, Min, Max, Eq, Lt, Mux, Shl, Shr, Cast, SLt, SMin, SMax, Sar, SCast}
 use Rattle.ae_word.specs.WordTable.{HasRange}
 use Rattle.ae_netlist.specs.declared.cell.NetId.{NetId}
+use Rattle.ae_netlist.specs.declared.cell.Handshake.{Handshake}
+use Rattle.ae_netlist.specs.declared.cell.Handshake.TheVariants.{SourceValid, SourceReady, SinkValid, SinkReady}
 use Rattle.ae_netlist.specs.declared.cell.Port.{Port}
-use Rattle.ae_netlist.specs.declared.cell.Port.TheVariants.{Reset, Enable, In, Out, Plain}
+use Rattle.ae_netlist.specs.declared.cell.Port.TheVariants.{Reset, Enable, Stream, In, Out, Plain}
 use Rattle.ae_netlist.specs.declared.cell.Cell.{Cell}
 use Rattle.ae_netlist.specs.declared.cell.Cell.TheVariants.{Input, Const, Op, Reg, Mem, Peek}
 use Rattle.ae_netlist.specs.declared.cell.SizedCell.{SizedCell}
@@ -44,9 +46,16 @@ result_named outs result lane word = elim (outs == 1) as (λ t. IsNameText (if t
       (three_numbers result lane word)
 ]
 
+handshake_named : (outs : ℕ) (wire : Handshake) → IsNameText (port_name outs (Stream wire))
+handshake_named outs SourceValid = marked_name 115 (codes "_valid") refl refl refl
+handshake_named outs SourceReady = marked_name 115 (codes "_ready") refl refl refl
+handshake_named outs SinkValid = marked_name 109 (codes "_valid") refl refl refl
+handshake_named outs SinkReady = marked_name 109 (codes "_ready") refl refl refl
+
 pub port_named : (outs : ℕ) (port : Port) → PortFits port → IsNameText (port_name outs port)
 port_named outs Reset h = rst_named
 port_named outs Enable h = en_named
+port_named outs (Stream wire) h = handshake_named outs wire
 port_named outs (In param lane word) h =
     marked_name 105 _ refl (decimal_starts param (codes "_" ++ (decimal lane ++ (codes "_" ++ decimal word))))
     (three_numbers param lane word)

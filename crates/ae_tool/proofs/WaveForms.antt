@@ -11,8 +11,10 @@ use Rattle.std.proofs.lemmas.List.FromFn.{get_or-map-range_with_len, length-map-
 use Rattle.std.proofs.lemmas.List.Sums.{sum_by-cons}
 use Rattle.std.proofs.lemmas.Option.{get_or_from_slice_get, slice_get-get_or}
 use Rattle.ae_eval.proofs.Items.{entry-at}
+use Rattle.ae_netlist.specs.declared.cell.Handshake.{Handshake}
+use Rattle.ae_netlist.specs.declared.cell.Handshake.TheVariants.{SourceValid, SourceReady, SinkValid, SinkReady}
 use Rattle.ae_netlist.specs.declared.cell.Port.{Port}
-use Rattle.ae_netlist.specs.declared.cell.Port.TheVariants.{Reset, Enable, In, Out, Plain}
+use Rattle.ae_netlist.specs.declared.cell.Port.TheVariants.{Reset, Enable, Stream, In, Out, Plain}
 use Rattle.ae_netlist.specs.declared.cell.Cell.{Cell}
 use Rattle.ae_netlist.specs.declared.cell.Cell.TheVariants.{Input, Const, Op, Reg, Mem, Peek}
 use Rattle.ae_netlist.specs.declared.cell.SizedCell.{SizedCell}
@@ -64,9 +66,16 @@ pub record IsPortName (n : List ℕ) : Type 0 where
   pub named : is_variable_name n ≡ true
   pub other : bytes_eq (codes "clk") n ≡ false
 
+handshake_named : (outs : ℕ) (wire : Handshake) → IsPortName (port_name outs (Stream wire))
+handshake_named outs SourceValid = record { named = refl; other = refl }
+handshake_named outs SourceReady = record { named = refl; other = refl }
+handshake_named outs SinkValid = record { named = refl; other = refl }
+handshake_named outs SinkReady = record { named = refl; other = refl }
+
 port_named : (outs : ℕ) (p : Port) → PortFits p → IsPortName (port_name outs p)
 port_named outs Reset h = record { named = refl; other = refl }
 port_named outs Enable h = record { named = refl; other = refl }
+port_named outs (Stream wire) h = handshake_named outs wire
 port_named outs (In param lane word) h = record { named = three param lane word h.0 h.1 h.2; other = refl }
 port_named outs (Out result lane word) h = by (outs == 1)
   where
