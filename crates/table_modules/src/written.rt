@@ -1,10 +1,10 @@
 // Netlists whose texts are asked for. They have what no program's circuit has: a register and a memory that nothing writes,
-// an output of the second result alone, and notes out of order.
+// an output of the second result alone, and notes out of order; or the wires of a stream and nothing between them.
 
 ghost use Rattle.std.specs.Prelude.{◌≡◌, IfOk, map, string_bytes};
 ghost use Rattle.ae_verilog.specs.Notes.{ArePrinted, note_tree};
 
-use ae_netlist::{Cell, NetFault, Netlist, Port};
+use ae_netlist::{Cell, Handshake, NetFault, Netlist, Port};
 use ae_sttype::StType;
 use ae_verilog::{Note, Report, write_module};
 use ae_word::Atom;
@@ -54,6 +54,16 @@ fn second(alloc: Global) -> Result<Netlist, NetFault> {
         Ok(()) => Ok(nl),
         Err(_) => Err(NetFault::Memory),
     }
+}
+
+// The wires of a stream: words pass at the source where they pass at the sink.
+fn joined(alloc: Global) -> Result<Netlist, NetFault> {
+    let mut nl = Netlist::new(alloc, 2);
+    let valid = nl.add(1, Cell::Input(Port::Stream(Handshake::SourceValid)))?;
+    let ready = nl.add(1, Cell::Input(Port::Stream(Handshake::SinkReady)))?;
+    nl.add_output(Port::Stream(Handshake::SourceReady), ready)?;
+    nl.add_output(Port::Stream(Handshake::SinkValid), valid)?;
+    Ok(nl)
 }
 
 // A report of zeros.
@@ -136,12 +146,20 @@ fn numbered(alloc: Global) -> Result<String, AllocError> {
     write_module(alloc, &nl, &report, &[])
 }
 
+fn joined_text(alloc: Global) -> Result<String, AllocError> {
+    let Ok(nl) = joined(alloc) else {
+        return Err(AllocError);
+    };
+    write_module(alloc, &nl, &nothing(alloc), &[])
+}
+
 // The text of a netlist by its name.
 pub fn text_of(alloc: Global, name: &str) -> Result<String, AllocError> {
     match name {
         "cells in order" => small_text(alloc, &two_parameters(alloc)?, &[]),
         "several results" => numbered(alloc),
         "notes before cells" => noted(alloc),
+        "wires of a stream" => joined_text(alloc),
         _ => String::from_str(alloc, "no netlist\n"),
     }
 }
