@@ -1,6 +1,6 @@
 // Delay lines: from registers alone, and with rings for what is far.
 
-ghost use Rattle.std.specs.Prelude.{◌≡◌, ◌<◌, ◌≤◌, ◌+◌, ◌-◌, ◌*◌, ◌/◌, ◌^◌, ◌++◌, ◌∷◌, ◌&&◌, [], ℕ, length, get_or, IfOk, OnOk, Some, Err, ◌≢◌, slice_get, nat_lt, nat_le, min, if◌then◌else◌};
+ghost use Rattle.std.specs.Prelude.{◌≡◌, ◌<◌, ◌≤◌, ◌+◌, ◌-◌, ◌*◌, ◌/◌, ◌^◌, ◌&&◌, ℕ, length, get_or, IfOk, OnOk, Some, slice_get, nat_lt, nat_le, min, if◌then◌else◌};
 ghost use Rattle.ae_netlist.specs.Circuit.{IsNet, width_of};
 ghost use Rattle.ae_netlist.specs.Counts.{AreWhole, count_of, is_memory, is_mul, is_register};
 ghost use Rattle.ae_clocked.specs.Signals.{Adds, Grows, IsFullAt, is_test};
@@ -41,16 +41,6 @@ impl Tapped {
     }
 }
 
-fn keep(nets: &mut Vec<NetId>, net: NetId) -> Result<(), NetFault>
-    ensures ok { OnOk result (nets.new.items ≡ nets.old.items ++ net ∷ []) }
-    ensures fault { result ≢ Err NetFault.Full }
-{
-    match nets.push(net) {
-        Ok(()) => Ok(()),
-        Err(_) => Err(NetFault::Memory),
-    }
-}
-
 /// Registers one after another: net k is k clocks late.
 pub(crate) fn chain(
     alloc: Global,
@@ -70,11 +60,11 @@ pub(crate) fn chain(
     ensures long { IfOk result (λ nets. length nets.items ≡ count + 1) }
 {
     let mut nets = Vec::new(alloc);
-    keep(&mut nets, x)?;
+    nets.push(x)?;
     let mut last = x;
     for i in 0..count {
         last = delayed(nl, last, width)?;
-        keep(&mut nets, last)?;
+        nets.push(last)?;
     }
     Ok(nets)
 }
@@ -116,7 +106,7 @@ pub fn line(
     let nets = chain(alloc, nl, x, width, greatest(taps))?;
     let mut tapped = Vec::new(alloc);
     for tap in taps {
-        keep(&mut tapped, nets[*tap as usize])?;
+        tapped.push(nets[*tap as usize])?;
     }
     Ok(Tapped { nets: tapped })
 }
@@ -236,7 +226,7 @@ pub fn ring_line(
     for tap in taps {
         let net = tap_at(nl, &nets, &links, width, *tap, spare > 0)?;
         spare = spare.saturating_sub((*tap / 8).min(1));
-        keep(&mut tapped, net)?;
+        tapped.push(net)?;
     }
     Ok(Tapped { nets: tapped })
 }

@@ -1,6 +1,6 @@
 // Rings in a row, for delays that one ring does not hold.
 
-ghost use Rattle.std.specs.Prelude.{◌≡◌, ◌≢◌, ◌<◌, ◌≤◌, ◌+◌, ◌-◌, ◌*◌, ◌/◌, ◌++◌, ◌∷◌, [], ℕ, length, min, Err, IfOk, OnOk, if◌then◌else◌};
+ghost use Rattle.std.specs.Prelude.{◌≡◌, ◌<◌, ◌≤◌, ◌+◌, ◌-◌, ◌*◌, ◌/◌, ℕ, length, min, IfOk, OnOk, if◌then◌else◌};
 ghost use Rattle.ae_netlist.specs.Circuit.{IsNet};
 ghost use Rattle.ae_netlist.specs.Counts.{count_of, is_register};
 ghost use Rattle.ae_clocked.specs.Signals.{Adds, IsFullAt, is_test};
@@ -19,16 +19,6 @@ use std::alloc::Global;
 pub struct Link {
     pub head: NetId,
     pub ring: Ring,
-}
-
-fn keep_link(links: &mut Vec<Link>, link: Link) -> Result<(), NetFault>
-    ensures ok { OnOk result (links.new.items ≡ links.old.items ++ link ∷ []) }
-    ensures fault { result ≢ Err NetFault.Full }
-{
-    match links.push(link) {
-        Ok(()) => Ok(()),
-        Err(_) => Err(NetFault::Memory),
-    }
 }
 
 /// Rings in a row that reach so far back: each but the last holds 4,096 words and gives what it loses to the next. In the
@@ -62,11 +52,11 @@ pub fn make_row(
     let mut head = x;
     for j in 0..last {
         let ring = make_ring(nl, clocks, head, width, 4096)?;
-        keep_link(&mut links, Link { head, ring })?;
+        links.push(Link { head, ring })?;
         head = ring_tap(nl, ring, width, 4096, j < spare)?;
     }
     let ring = make_ring(nl, clocks, head, width, reach - 4096 * last)?;
-    keep_link(&mut links, Link { head, ring })?;
+    links.push(Link { head, ring })?;
     Ok(links)
 }
 

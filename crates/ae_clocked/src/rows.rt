@@ -62,10 +62,8 @@ impl Rings {
         ensures left { self.new.left ≡ self.old.left }
         ensures fault { result ≢ Err NetFault.Full }
     {
-        match self.rows.insert(x.0, row) {
-            Ok(_) => Ok(()),
-            Err(_) => Err(NetFault::Memory),
-        }
+        self.rows.insert(x.0, row)?;
+        Ok(())
     }
 
     /// Whether the rings of a net reach back so far.

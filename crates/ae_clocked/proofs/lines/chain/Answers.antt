@@ -11,7 +11,7 @@ pub loop-i-preserved : goal.loop-i-preserved
 loop-i-preserved c =
     let old = c.loop-i.invariant in
     let more = c.in_ok-last.ensures in
-    let pushed : c.keep-in-loop-i.new.nets.items ≡ c.loop-i.nets.items ++ c.in_ok-last.last ∷ [] = c.in_ok-keep-2.ensures.ok in
+    let pushed : c.push-in-loop-i.new.self.items ≡ c.loop-i.nets.items ++ c.in_ok-last.last ∷ [] = c.in_ok-push-2.ensures.items in
     let last : IsDelay c.delayed.new.nl.cells c.args.width c.args.x.0 (c.loop-i.i + 1) c.in_ok-last.last.0 =
     delay_more _ _ _ _ _ _ _ _ more.adds.grows.extends old.last more.net more.words in
     record {
@@ -23,12 +23,12 @@ loop-i-preserved c =
       tests = omega (arith, old.tests, more.tests);
     }
 
-pub returns-in_err-keep-clause-adds : goal.returns-in_err-keep-clause-adds
-returns-in_err-keep-clause-adds c = adds_most c.args.count (omega arith) (adds_none _)
+pub returns-in_err-push-clause-adds : goal.returns-in_err-push-clause-adds
+returns-in_err-push-clause-adds c = adds_most c.args.count (omega arith) (adds_none _)
 
 pub loop-i-init : goal.loop-i-init
 loop-i-init c =
-    let pushed : c.keep.new.nets.items ≡ c.args.x ∷ [] = c.in_ok-keep.ensures.ok ∙ ap (λ (nets : List NetId). nets ++ c.args.x ∷ []) c.new-nets.ensures.items in
+    let pushed : c.push.new.self.items ≡ c.args.x ∷ [] = c.in_ok-push.ensures.items ∙ ap (λ (nets : List NetId). nets ++ c.args.x ∷ []) c.new-nets.ensures.items in
     record {
       adds = adds_none _;
       delays = rw pushed (delays_first _ _ _ c.requires.net);
@@ -50,14 +50,14 @@ returns-in_err-last-clause-registers c = omega (arith, c.loop-i.invariant.regist
 pub returns-in_err-last-clause-tests : goal.returns-in_err-last-clause-tests
 returns-in_err-last-clause-tests c = omega (arith, c.loop-i.invariant.tests, c.in_err-last.ensures.tests)
 
-pub returns-in_err-keep-2-clause-adds : goal.returns-in_err-keep-2-clause-adds
-returns-in_err-keep-2-clause-adds c = adds_most c.args.count (omega arith) (adds_trans c.loop-i.invariant.adds c.in_ok-last.ensures.adds)
+pub returns-in_err-push-2-clause-adds : goal.returns-in_err-push-2-clause-adds
+returns-in_err-push-2-clause-adds c = adds_most c.args.count (omega arith) (adds_trans c.loop-i.invariant.adds c.in_ok-last.ensures.adds)
 
-pub returns-in_err-keep-2-clause-registers : goal.returns-in_err-keep-2-clause-registers
-returns-in_err-keep-2-clause-registers c = omega (arith, c.loop-i.invariant.registers, c.in_ok-last.ensures.registers)
+pub returns-in_err-push-2-clause-registers : goal.returns-in_err-push-2-clause-registers
+returns-in_err-push-2-clause-registers c = omega (arith, c.loop-i.invariant.registers, c.in_ok-last.ensures.registers)
 
-pub returns-in_err-keep-2-clause-tests : goal.returns-in_err-keep-2-clause-tests
-returns-in_err-keep-2-clause-tests c = omega (arith, c.loop-i.invariant.tests, c.in_ok-last.ensures.tests)
+pub returns-in_err-push-2-clause-tests : goal.returns-in_err-push-2-clause-tests
+returns-in_err-push-2-clause-tests c = omega (arith, c.loop-i.invariant.tests, c.in_ok-last.ensures.tests)
 
 pub returns-clause-adds : goal.returns-clause-adds
 returns-clause-adds c = adds_most c.args.count (omega arith) c.loop-i.invariant.adds

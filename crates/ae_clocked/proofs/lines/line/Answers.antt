@@ -9,8 +9,8 @@ use Rattle.ae_clocked.proofs.lines.line.Goals as goal
 pub returns-in_err-nets-clause-belongs : goal.returns-in_err-nets-clause-belongs
 returns-in_err-nets-clause-belongs c = belongs_grows _ _ _ c.in_err-nets.ensures.adds.grows c.requires.belongs
 
-pub returns-in_err-keep-clause-belongs : goal.returns-in_err-keep-clause-belongs
-returns-in_err-keep-clause-belongs c = belongs_grows _ _ _ c.in_ok-nets.ensures.adds.grows c.requires.belongs
+pub returns-in_err-push-clause-belongs : goal.returns-in_err-push-clause-belongs
+returns-in_err-push-clause-belongs c = belongs_grows _ _ _ c.in_ok-nets.ensures.adds.grows c.requires.belongs
 
 pub returns-clause-belongs : goal.returns-clause-belongs
 returns-clause-belongs c = belongs_grows _ _ _ c.in_ok-nets.ensures.adds.grows c.requires.belongs
@@ -18,8 +18,8 @@ returns-clause-belongs c = belongs_grows _ _ _ c.in_ok-nets.ensures.adds.grows c
 pub returns-in_err-nets-clause-keeps : goal.returns-in_err-nets-clause-keeps
 returns-in_err-nets-clause-keeps c = keeps_same _
 
-pub returns-in_err-keep-clause-keeps : goal.returns-in_err-keep-clause-keeps
-returns-in_err-keep-clause-keeps c = keeps_same _
+pub returns-in_err-push-clause-keeps : goal.returns-in_err-push-clause-keeps
+returns-in_err-push-clause-keeps c = keeps_same _
 
 pub returns-clause-keeps : goal.returns-clause-keeps
 returns-clause-keeps c = keeps_same _
@@ -33,7 +33,7 @@ loop-tap-preserved c =
     let long : length c.in_ok-nets.nets.items ≡ c.greatest.result + 1 = c.in_ok-nets.ensures.long in
     let net = c.in_ok-nets.ensures.delays.each tap c.index.result.now
     (slice_get_read c.in_ok-nets.nets.items (length c.in_ok-nets.nets.items) tap c.index.result.now refl (omega arith) c.index.ensures) in
-    let kept : c.keep.new.nets.items ≡ c.loop-tap.tapped.items ++ c.index.result.now ∷ [] = c.in_ok-keep.ensures.ok in
+    let kept : c.push.new.self.items ≡ c.loop-tap.tapped.items ++ c.index.result.now ∷ [] = c.in_ok-push.ensures.items in
     rw kept (taps_more _ _ _ _ _ taps _ tap _ c.loop-tap.invariant there (late_taps _ _ _ _ _ _ net))
 
 pub index-requires : goal.index-requires
@@ -66,17 +66,17 @@ returns-in_err-nets-clause-muls c = omega (arith, c.in_err-nets.ensures.adds.mul
 pub returns-in_err-nets-clause-memories : goal.returns-in_err-nets-clause-memories
 returns-in_err-nets-clause-memories c = c.in_err-nets.ensures.adds.memories
 
-pub returns-in_err-keep-clause-grows : goal.returns-in_err-keep-clause-grows
-returns-in_err-keep-clause-grows c = c.in_ok-nets.ensures.adds.grows
+pub returns-in_err-push-clause-grows : goal.returns-in_err-push-clause-grows
+returns-in_err-push-clause-grows c = c.in_ok-nets.ensures.adds.grows
 
-pub returns-in_err-keep-clause-cells : goal.returns-in_err-keep-clause-cells
-returns-in_err-keep-clause-cells c = omega (arith, c.in_ok-nets.ensures.adds.cells, c.greatest.ensures)
+pub returns-in_err-push-clause-cells : goal.returns-in_err-push-clause-cells
+returns-in_err-push-clause-cells c = omega (arith, c.in_ok-nets.ensures.adds.cells, c.greatest.ensures)
 
-pub returns-in_err-keep-clause-muls : goal.returns-in_err-keep-clause-muls
-returns-in_err-keep-clause-muls c = omega (arith, c.in_ok-nets.ensures.adds.muls)
+pub returns-in_err-push-clause-muls : goal.returns-in_err-push-clause-muls
+returns-in_err-push-clause-muls c = omega (arith, c.in_ok-nets.ensures.adds.muls)
 
-pub returns-in_err-keep-clause-memories : goal.returns-in_err-keep-clause-memories
-returns-in_err-keep-clause-memories c = c.in_ok-nets.ensures.adds.memories
+pub returns-in_err-push-clause-memories : goal.returns-in_err-push-clause-memories
+returns-in_err-push-clause-memories c = c.in_ok-nets.ensures.adds.memories
 
 pub returns-clause-grows : goal.returns-clause-grows
 returns-clause-grows c = c.in_ok-nets.ensures.adds.grows

@@ -41,8 +41,8 @@ tap_at-requires-clause-links c = λ far.
 pub returns-in_err-net-clause-belongs : goal.returns-in_err-net-clause-belongs
 returns-in_err-net-clause-belongs c = belongs_grows _ _ _ c.in_err-net.ensures.adds.grows c.loop-tap.invariant.belongs
 
-pub returns-in_err-keep-clause-belongs : goal.returns-in_err-keep-clause-belongs
-returns-in_err-keep-clause-belongs c = belongs_grows _ _ _ c.in_ok-net.ensures.adds.grows c.loop-tap.invariant.belongs
+pub returns-in_err-push-clause-belongs : goal.returns-in_err-push-clause-belongs
+returns-in_err-push-clause-belongs c = belongs_grows _ _ _ c.in_ok-net.ensures.adds.grows c.loop-tap.invariant.belongs
 
 pub returns-in_err-net-clause-cells : goal.returns-in_err-net-clause-cells
 returns-in_err-net-clause-cells c =
@@ -51,8 +51,8 @@ returns-in_err-net-clause-cells c =
     let fits = room c.nearest-near.result c.greatest-most.result c.nearest-near.ensures.below (rw c.greatest-most.ensures c.nearest-near.ensures.least) in
     rw (← c.greatest-most.ensures) (omega (arith, c.in_ok-nets.ensures.adds.cells, c.in_ok-links.ensures.adds.cells, c.loop-tap.invariant.adds.cells, c.in_err-net.ensures.adds.cells, count, part, fits))
 
-pub returns-in_err-keep-clause-cells : goal.returns-in_err-keep-clause-cells
-returns-in_err-keep-clause-cells c =
+pub returns-in_err-push-clause-cells : goal.returns-in_err-push-clause-cells
+returns-in_err-push-clause-cells c =
     let count = count_more c.args.taps.now c.loop-tap.tap-index _ c.loop-tap-test.true refl in
     let part = count_part (λ (t : ℕ). nat_lt 0 t) (c.loop-tap.tap-index + 1) c.args.taps.now in
     let fits = room c.nearest-near.result c.greatest-most.result c.nearest-near.ensures.below (rw c.greatest-most.ensures c.nearest-near.ensures.least) in
@@ -69,7 +69,7 @@ loop-tap-preserved c =
     let delays : AreDelays c.loop-tap.nl.cells c.width_at-width.result c.args.x.0 c.deref.result.now = rw c.deref.ensures.value was.delays in
     let links : AreLinks c.loop-tap.nl.cells c.args.clocks.now.rst c.width_at-width.result c.args.x.0 c.greatest-most.result c.deref-in-loop-tap.result.now = rw c.deref-in-loop-tap.ensures.value was.links in
     let new : IsTap c.tap_at.new.nl.cells c.args.clocks.now.rst c.width_at-width.result c.args.x.0 tap c.in_ok-net.net.0 = more.tap c.args.clocks.now.rst c.args.x.0 c.greatest-most.result delays links in
-    let pushed : c.keep.new.nets.items ≡ c.loop-tap.tapped.items ++ c.in_ok-net.net ∷ [] = c.in_ok-keep.ensures.ok in
+    let pushed : c.push.new.self.items ≡ c.loop-tap.tapped.items ++ c.in_ok-net.net ∷ [] = c.in_ok-push.ensures.items in
     record {
       adds = adds_most _ (omega (arith, count)) (adds_trans was.adds more.adds);
       registers = omega (arith, spare_taken c.loop-tap.spare tap, was.registers, more.registers);
@@ -175,17 +175,17 @@ returns-in_err-net-clause-memories c =
 pub returns-in_err-net-clause-keeps : goal.returns-in_err-net-clause-keeps
 returns-in_err-net-clause-keeps c = c.in_ok-links.ensures.keeps
 
-pub returns-in_err-keep-clause-grows : goal.returns-in_err-keep-clause-grows
-returns-in_err-keep-clause-grows c =
+pub returns-in_err-push-clause-grows : goal.returns-in_err-push-clause-grows
+returns-in_err-push-clause-grows c =
     grows_trans (grows_trans c.in_ok-nets.ensures.adds.grows c.in_ok-links.ensures.adds.grows)
     (grows_trans c.loop-tap.invariant.adds.grows c.in_ok-net.ensures.adds.grows)
 
-pub returns-in_err-keep-clause-muls : goal.returns-in_err-keep-clause-muls
-returns-in_err-keep-clause-muls c =
+pub returns-in_err-push-clause-muls : goal.returns-in_err-push-clause-muls
+returns-in_err-push-clause-muls c =
     omega (arith, c.in_ok-nets.ensures.adds.muls, c.in_ok-links.ensures.adds.muls, c.loop-tap.invariant.adds.muls, c.in_ok-net.ensures.adds.muls)
 
-pub returns-in_err-keep-clause-memories : goal.returns-in_err-keep-clause-memories
-returns-in_err-keep-clause-memories c =
+pub returns-in_err-push-clause-memories : goal.returns-in_err-push-clause-memories
+returns-in_err-push-clause-memories c =
     rw (← c.greatest-most.ensures) (omega (
       arith,
       c.in_ok-nets.ensures.adds.memories,
@@ -194,8 +194,8 @@ returns-in_err-keep-clause-memories c =
       c.in_ok-net.ensures.adds.memories,
     ))
 
-pub returns-in_err-keep-clause-keeps : goal.returns-in_err-keep-clause-keeps
-returns-in_err-keep-clause-keeps c = c.in_ok-links.ensures.keeps
+pub returns-in_err-push-clause-keeps : goal.returns-in_err-push-clause-keeps
+returns-in_err-push-clause-keeps c = c.in_ok-links.ensures.keeps
 
 pub returns-clause-belongs : goal.returns-clause-belongs
 returns-clause-belongs c = c.loop-tap.invariant.belongs

@@ -30,14 +30,14 @@ returns-in_err-ring-clause-keeps c = keeps_trans c.loop-j.invariant.keeps c.in_e
 pub returns-in_err-ring-clause-adds : goal.returns-in_err-ring-clause-adds
 returns-in_err-ring-clause-adds c = memories_most _ _ (omega arith) (omega arith) (memories_trans c.loop-j.invariant.adds c.in_err-ring.ensures.adds)
 
-pub returns-in_err-keep_link-clause-keeps : goal.returns-in_err-keep_link-clause-keeps
-returns-in_err-keep_link-clause-keeps c = keeps_trans c.loop-j.invariant.keeps c.in_ok-ring.ensures.keeps
+pub returns-in_err-push-clause-keeps : goal.returns-in_err-push-clause-keeps
+returns-in_err-push-clause-keeps c = keeps_trans c.loop-j.invariant.keeps c.in_ok-ring.ensures.keeps
 
-pub returns-in_err-keep_link-clause-adds : goal.returns-in_err-keep_link-clause-adds
-returns-in_err-keep_link-clause-adds c = memories_most _ _ (omega arith) (omega arith) (memories_trans c.loop-j.invariant.adds c.in_ok-ring.ensures.adds)
+pub returns-in_err-push-clause-adds : goal.returns-in_err-push-clause-adds
+returns-in_err-push-clause-adds c = memories_most _ _ (omega arith) (omega arith) (memories_trans c.loop-j.invariant.adds c.in_ok-ring.ensures.adds)
 
-pub returns-in_err-keep_link-clause-belongs : goal.returns-in_err-keep_link-clause-belongs
-returns-in_err-keep_link-clause-belongs c = c.in_ok-ring.ensures.belongs
+pub returns-in_err-push-clause-belongs : goal.returns-in_err-push-clause-belongs
+returns-in_err-push-clause-belongs c = c.in_ok-ring.ensures.belongs
 
 pub ring_tap-requires-clause-some : goal.ring_tap-requires-clause-some
 ring_tap-requires-clause-some c = omega (arith, c.in_ok-ring.ensures.ring.low)
@@ -72,7 +72,7 @@ loop-j-preserved c =
     let tap : IsTap c.make_ring.new.nl.cells rst c.args.width c.args.x.0 (4096 * c.loop-j.j) c.loop-j.head.0 = tap_grows more.adds.grows.extends was.head in
     let full : 4096 ≡ min 4096 (c.args.reach - 4096 * c.loop-j.j) = omega arith in
     let sum : 4096 * c.loop-j.j + 4096 ≡ 4096 * (c.loop-j.j + 1) = omega arith in
-    let pushed : c.keep_link.new.links.items ≡ c.loop-j.links.items ++ (record { head = c.loop-j.head; ring = c.in_ok-ring.ring }) ∷ [] = c.in_ok-keep_link.ensures.ok in
+    let pushed : c.push.new.self.items ≡ c.loop-j.links.items ++ (record { head = c.loop-j.head; ring = c.in_ok-ring.ring }) ∷ [] = c.in_ok-push.ensures.items in
     record {
       belongs = belongs_grows _ _ _ next.adds.grows more.belongs;
       keeps = keeps_trans was.keeps more.keeps;
@@ -98,8 +98,8 @@ returns-clause-links c =
     let holds : HoldsRing c.make_ring-2.new.nl.cells rst c.args.width c.loop-j.head.0 (c.args.reach - 4096 * ((c.args.reach - 1) / 4096)) c.in_ok-ring-2.ring = rw was.keeps.rst at more.ring in
     let tap : IsTap c.make_ring-2.new.nl.cells rst c.args.width c.args.x.0 (4096 * c.loop-j.j) c.loop-j.head.0 = tap_grows more.adds.grows.extends was.head in
     let left : c.args.reach - 4096 * ((c.args.reach - 1) / 4096) ≡ min 4096 (c.args.reach - 4096 * c.loop-j.j) = omega arith in
-    let pushed : c.keep_link-2.new.links.items ≡ c.loop-j.links.items ++
-    (record { head = c.loop-j.head; ring = c.in_ok-ring-2.ring }) ∷ [] = c.in_ok-keep_link-2.ensures.ok in
+    let pushed : c.push-2.new.self.items ≡ c.loop-j.links.items ++
+    (record { head = c.loop-j.head; ring = c.in_ok-ring-2.ring }) ∷ [] = c.in_ok-push-2.ensures.items in
     rw pushed (links_more _ _ _ _ _ _ _ c.loop-j.j _ _ more.adds.grows.extends was.long was.links tap left holds)
 
 pub returns-in_err-ring-2-clause-keeps : goal.returns-in_err-ring-2-clause-keeps
@@ -108,14 +108,14 @@ returns-in_err-ring-2-clause-keeps c = keeps_trans c.loop-j.invariant.keeps c.in
 pub returns-in_err-ring-2-clause-adds : goal.returns-in_err-ring-2-clause-adds
 returns-in_err-ring-2-clause-adds c = memories_most _ _ (omega arith) (omega arith) (memories_trans c.loop-j.invariant.adds c.in_err-ring-2.ensures.adds)
 
-pub returns-in_err-keep_link-2-clause-keeps : goal.returns-in_err-keep_link-2-clause-keeps
-returns-in_err-keep_link-2-clause-keeps c = keeps_trans c.loop-j.invariant.keeps c.in_ok-ring-2.ensures.keeps
+pub returns-in_err-push-2-clause-keeps : goal.returns-in_err-push-2-clause-keeps
+returns-in_err-push-2-clause-keeps c = keeps_trans c.loop-j.invariant.keeps c.in_ok-ring-2.ensures.keeps
 
-pub returns-in_err-keep_link-2-clause-adds : goal.returns-in_err-keep_link-2-clause-adds
-returns-in_err-keep_link-2-clause-adds c = memories_most _ _ (omega arith) (omega arith) (memories_trans c.loop-j.invariant.adds c.in_ok-ring-2.ensures.adds)
+pub returns-in_err-push-2-clause-adds : goal.returns-in_err-push-2-clause-adds
+returns-in_err-push-2-clause-adds c = memories_most _ _ (omega arith) (omega arith) (memories_trans c.loop-j.invariant.adds c.in_ok-ring-2.ensures.adds)
 
-pub returns-in_err-keep_link-2-clause-belongs : goal.returns-in_err-keep_link-2-clause-belongs
-returns-in_err-keep_link-2-clause-belongs c = c.in_ok-ring-2.ensures.belongs
+pub returns-in_err-push-2-clause-belongs : goal.returns-in_err-push-2-clause-belongs
+returns-in_err-push-2-clause-belongs c = c.in_ok-ring-2.ensures.belongs
 
 pub returns-clause-belongs : goal.returns-clause-belongs
 returns-clause-belongs c = c.in_ok-ring-2.ensures.belongs
@@ -137,6 +137,6 @@ returns-clause-gained c = omega (arith, c.loop-j.invariant.gained, c.in_ok-ring-
 
 pub returns-clause-long : goal.returns-clause-long
 returns-clause-long c =
-    let pushed : c.keep_link-2.new.links.items ≡ c.loop-j.links.items ++
-    (record { head = c.loop-j.head; ring = c.in_ok-ring-2.ring }) ∷ [] = c.in_ok-keep_link-2.ensures.ok in
+    let pushed : c.push-2.new.self.items ≡ c.loop-j.links.items ++
+    (record { head = c.loop-j.head; ring = c.in_ok-ring-2.ring }) ∷ [] = c.in_ok-push-2.ensures.items in
     rw pushed (length_push c.loop-j.links.items _ ∙ omega (arith, c.loop-j.invariant.long))
