@@ -9,7 +9,7 @@ mod slots;
 mod words;
 
 pub use feedback::joined;
-pub use loops::{copied, keep};
+pub use loops::copied;
 pub use marks::mark;
 pub use plan::{Plan, is_fold, levels, plan_of};
 pub use slots::over_slots;

@@ -1,6 +1,6 @@
 // A loop for each place of a lane.
 
-ghost use Rattle.std.specs.Prelude.{◌≡◌, ◌+◌, ◌-◌, ◌*◌, ◌≤◌, ◌++◌, ◌∷◌, [], length, map, IfOk, OnOk, Err, ◌≢◌};
+ghost use Rattle.std.specs.Prelude.{◌≡◌, ◌+◌, ◌-◌, ◌*◌, ◌≤◌, ◌++◌, length, map, IfOk, OnOk};
 ghost use Rattle.ae_netlist.specs.Circuit.{IsNet};
 ghost use Rattle.ae_clocked.specs.Signals.{Adds, IsFullAt};
 ghost use Rattle.ae_fold.specs.declared.feedback.Loop.{Loop as Ring};
@@ -10,39 +10,17 @@ ghost use Rattle.ae_fold.specs.Rows.{AreFoldNets, AreLoops};
 use crate::feedback::{Loop, accumulate};
 use crate::words::WordFold;
 use ae_netlist::{NetFault, NetId, Netlist};
-use std::alloc::Global;
-
-/// Appends a net.
-pub fn keep(nets: &mut Vec<NetId>, net: NetId) -> Result<(), NetFault>
-    ensures ok { OnOk result (nets.new.items ≡ nets.old.items ++ net ∷ []) }
-    ensures fault { result ≢ Err NetFault.Full }
-{
-    match nets.push(net) {
-        Ok(()) => Ok(()),
-        Err(_) => Err(NetFault::Memory),
-    }
-}
+use std::alloc::{AllocError, Global};
 
 /// A copy of the nets; an error only for want of memory.
-pub fn copied(alloc: Global, nets: &[NetId]) -> Result<Vec<NetId>, NetFault>
+pub fn copied(alloc: Global, nets: &[NetId]) -> Result<Vec<NetId>, AllocError>
     ensures ok { IfOk result (λ copy. copy.items ≡ nets.now) }
-    ensures fault { result ≢ Err NetFault.Full }
 {
     let mut copy = Vec::new(alloc);
     for net in nets {
-        keep(&mut copy, *net)?;
+        copy.push(*net)?;
     }
     Ok(copy)
-}
-
-fn keep_loop(loops: &mut Vec<Loop>, one: Loop) -> Result<(), NetFault>
-    ensures ok { OnOk result (loops.new.items ≡ loops.old.items ++ one ∷ []) }
-    ensures fault { result ≢ Err NetFault.Full }
-{
-    match loops.push(one) {
-        Ok(()) => Ok(()),
-        Err(_) => Err(NetFault::Memory),
-    }
 }
 
 /// A loop over each net from a place on. It takes at most `inner + 9` cells for each.
@@ -70,18 +48,17 @@ pub fn accumulate_all(
     for p in 0..nets.len() - from {
         let fold = folds[(from + p) % folds.len()];
         let one = accumulate(nl, fold, nets[from + p], first, inner)?;
-        keep_loop(&mut loops, one)?;
+        loops.push(one)?;
     }
     Ok(loops)
 }
 
 /// Appends the nets of the loops.
-pub fn append_loops(nets: &mut Vec<NetId>, loops: &[Loop]) -> Result<(), NetFault>
+pub fn append_loops(nets: &mut Vec<NetId>, loops: &[Loop]) -> Result<(), AllocError>
     ensures ok { OnOk result (nets.new.items ≡ nets.old.items ++ map (λ (one : Ring). one.word) loops.now) }
-    ensures fault { result ≢ Err NetFault.Full }
 {
     for one in loops {
-        keep(nets, one.word)?;
+        nets.push(one.word)?;
     }
     Ok(())
 }

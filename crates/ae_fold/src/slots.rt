@@ -8,7 +8,7 @@ ghost use Rattle.ae_fold.specs.Folding.{AddsUpTo, AreFolds, fold_at, products_in
 ghost use Rattle.ae_fold.specs.Rows.{AreEnds, AreFoldNets, AreFollowers, AreLooped, marks_in};
 
 use crate::feedback::{Loop, follow};
-use crate::loops::{accumulate_all, append_loops, keep};
+use crate::loops::{accumulate_all, append_loops};
 use crate::words::WordFold;
 use ae_netlist::{NetFault, NetId, Netlist};
 use std::alloc::Global;
@@ -43,7 +43,7 @@ fn followers(
     for q in 0..from {
         let fold = folds[q % folds.len()];
         let net = follow(nl, fold, nets[q], first, loops[q % stride].back)?;
-        keep(&mut outs, net)?;
+        outs.push(net)?;
     }
     Ok(outs)
 }

@@ -1,32 +1,21 @@
 // What the words of an element are folded by.
 
-ghost use Rattle.std.specs.Prelude.{◌≡◌, ◌<◌, ◌++◌, ◌∷◌, [], length, map, IfOk, OnOk, Some, Err, ◌≢◌, slice_get};
+ghost use Rattle.std.specs.Prelude.{◌≡◌, ◌<◌, length, map, IfOk, Some, slice_get};
 ghost use Rattle.std.specs.Option.{option_map};
 ghost use Rattle.ae_word.specs.AtomTree.{atom_kinds, atom_tree};
 ghost use Rattle.ae_sttype.specs.StTree.{element_atom, st_tree};
 ghost use Rattle.ae_sttype.specs.Size.{IsInSize};
 ghost use Rattle.ae_fold.specs.Folding.{fold_by};
 
-use ae_netlist::NetFault;
 use ae_sttype::StType;
 use ae_word::{Atom, WordOp, op_for};
-use std::alloc::Global;
+use std::alloc::{AllocError, Global};
 
 /// The operator of one word of an atom, on words of so many bits.
 #[derive(Clone, Copy, Debug)]
 pub struct WordFold {
     pub op: WordOp,
     pub width: u32,
-}
-
-fn keep_fold(folds: &mut Vec<WordFold>, fold: WordFold) -> Result<(), NetFault>
-    ensures ok { OnOk result (folds.new.items ≡ folds.old.items ++ fold ∷ []) }
-    ensures fault { result ≢ Err NetFault.Full }
-{
-    match folds.push(fold) {
-        Ok(()) => Ok(()),
-        Err(_) => Err(NetFault::Memory),
-    }
 }
 
 /// What word j of an atom is folded by: on signed words the signed operator.
@@ -44,15 +33,14 @@ fn word_fold(op: WordOp, atom: &Atom, j: u32) -> WordFold
 }
 
 /// What the words of an element's atom are folded by; an error only for want of memory.
-pub fn word_folds(alloc: Global, op: WordOp, element: &StType) -> Result<Vec<WordFold>, NetFault>
+pub fn word_folds(alloc: Global, op: WordOp, element: &StType) -> Result<Vec<WordFold>, AllocError>
     requires { IsInSize (st_tree element.now) }
     ensures folds { IfOk result (λ folds. folds.items ≡ map (fold_by op) (atom_kinds (element_atom (st_tree element.now)))) }
-    ensures fault { result ≢ Err NetFault.Full }
 {
     let atom = element.atom();
     let mut folds = Vec::new(alloc);
     for j in 0..element.element_words() {
-        keep_fold(&mut folds, word_fold(op, atom, j))?;
+        folds.push(word_fold(op, atom, j))?;
     }
     Ok(folds)
 }

@@ -35,10 +35,8 @@ impl Bundle {
         ensures fault { result ≢ Err NetFault.Full }
     {
         let mut nets = Vec::new(alloc);
-        match nets.push(net) {
-            Ok(()) => Ok(Bundle { nets }),
-            Err(_) => Err(NetFault::Memory),
-        }
+        nets.push(net)?;
+        Ok(Bundle { nets })
     }
 
     /// Its nets, by column.

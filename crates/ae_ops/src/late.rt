@@ -1,6 +1,6 @@
 // A bundle, some clocks later.
 
-ghost use Rattle.std.specs.Prelude.{◌≡◌, ◌≤◌, ◌+◌, ◌*◌, ◌++◌, ◌∷◌, [], List, ℕ, length, IfOk, OnOk, Err, ◌≢◌};
+ghost use Rattle.std.specs.Prelude.{◌≡◌, ◌≤◌, ◌+◌, ◌*◌, List, ℕ, length, IfOk, OnOk};
 ghost use Rattle.ae_netlist.specs.Counts.{AreWhole, count_of, is_memory, is_mul};
 ghost use Rattle.ae_clocked.specs.Signals.{Grows, IsFullAt};
 ghost use Rattle.ae_clocked.specs.Phases.{Belongs, KeepsCounters};
@@ -11,16 +11,6 @@ use crate::bundle::Bundle;
 use ae_clocked::{Clocks, ring_line};
 use ae_netlist::{NetFault, NetId, Netlist};
 use std::alloc::Global;
-
-fn keep(nets: &mut Vec<NetId>, net: NetId) -> Result<(), NetFault>
-    ensures ok { OnOk result (nets.new.items ≡ nets.old.items ++ net ∷ []) }
-    ensures fault { result ≢ Err NetFault.Full }
-{
-    match nets.push(net) {
-        Ok(()) => Ok(()),
-        Err(_) => Err(NetFault::Memory),
-    }
-}
 
 /// The bundle, some clocks later: from clock `slack` after reset on, each net has the word that the one at its place had
 /// `slack` clocks before. What waits 8 clocks or longer stands in rings. `Full` comes only where the netlist has `limit`
@@ -49,7 +39,7 @@ pub fn delay(
     let mut late = Vec::new(alloc);
     for net in nets {
         let tapped = ring_line(alloc, nl, *net, &[slack], clocks)?;
-        keep(&mut late, tapped.tap(0))?;
+        late.push(tapped.tap(0))?;
     }
     Ok(Bundle::new(late))
 }

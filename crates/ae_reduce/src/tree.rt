@@ -10,7 +10,7 @@ ghost use Rattle.ae_fold.specs.Rows.{AreFoldNets, AreOverLanes, net_at};
 ghost use Rattle.ae_reduce.specs.Trees.{ArePairs, IsPair};
 
 use ae_clocked::delayed;
-use ae_fold::{WordFold, joined, keep};
+use ae_fold::{WordFold, joined};
 use ae_netlist::{NetFault, NetId, Netlist};
 use std::alloc::Global;
 
@@ -69,7 +69,7 @@ fn level(
         let fold = folds[q % folds.len()];
         let left = q + q / stride * stride;
         let net = pair(nl, fold, nets, left, left + stride)?;
-        keep(&mut outs, net)?;
+        outs.push(net)?;
     }
     Ok(outs)
 }

@@ -11,7 +11,7 @@ ghost use Rattle.ae_scan.specs.Sweeps.{AreJoins, IsJoin};
 ghost use Rattle.ae_scan.specs.Scans.{sweep_joins};
 
 use ae_clocked::delayed;
-use ae_fold::{WordFold, joined, keep};
+use ae_fold::{WordFold, joined};
 use ae_netlist::{NetFault, NetId, Netlist};
 use std::alloc::Global;
 
@@ -64,7 +64,7 @@ fn level(
     for q in 0..nets.len() {
         let fold = folds[q % folds.len()];
         let net = join(nl, fold, nets, q, reach)?;
-        keep(&mut outs, net)?;
+        outs.push(net)?;
     }
     Ok(outs)
 }

@@ -21,14 +21,14 @@ accumulate-requires-clause-net c = (nets_grow c.loop-p.invariant.adds.grows.exte
 pub returns-in_err-one-clause-up : goal.returns-in_err-one-clause-up
 returns-in_err-one-clause-up c = up_once c.loop-p.p _ _ _ c.loop-p-test.true c.loop-p.invariant.adds c.in_err-one.ensures.up
 
-pub returns-in_err-keep_loop-clause-up : goal.returns-in_err-keep_loop-clause-up
-returns-in_err-keep_loop-clause-up c = up_once c.loop-p.p _ _ _ c.loop-p-test.true c.loop-p.invariant.adds c.in_ok-one.ensures.up
+pub returns-in_err-push-clause-up : goal.returns-in_err-push-clause-up
+returns-in_err-push-clause-up c = up_once c.loop-p.p _ _ _ c.loop-p-test.true c.loop-p.invariant.adds c.in_ok-one.ensures.up
 
 pub loop-p-preserved : goal.loop-p-preserved
 loop-p-preserved c =
     let old = c.loop-p.invariant in
     let more = c.in_ok-one.ensures in
-    let pushed : c.keep_loop.new.loops.items ≡ c.loop-p.loops.items ++ c.in_ok-one.one ∷ [] = c.in_ok-keep_loop.ensures.ok in
+    let pushed : c.push.new.self.items ≡ c.loop-p.loops.items ++ c.in_ok-one.one ∷ [] = c.in_ok-push.ensures.items in
     record {
       adds = adds_once c.loop-p.p (c.args.inner + 9) _ _ (fold_product c.args.folds.now (c.args.from + c.loop-p.p) c.requires.folds) old.adds more.adds;
       long = rw pushed (length_push c.loop-p.loops.items c.in_ok-one.one ∙ ap (λ n. n + 1) old.long);

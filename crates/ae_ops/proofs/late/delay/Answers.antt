@@ -18,11 +18,11 @@ returns-in_err-tapped-clause-belongs c = c.in_err-tapped.ensures.belongs
 pub returns-in_err-tapped-clause-muls : goal.returns-in_err-tapped-clause-muls
 returns-in_err-tapped-clause-muls c = c.in_err-tapped.ensures.muls ∙ c.loop-net.invariant.muls
 
-pub returns-in_err-keep-clause-belongs : goal.returns-in_err-keep-clause-belongs
-returns-in_err-keep-clause-belongs c = c.in_ok-tapped.ensures.belongs
+pub returns-in_err-push-clause-belongs : goal.returns-in_err-push-clause-belongs
+returns-in_err-push-clause-belongs c = c.in_ok-tapped.ensures.belongs
 
-pub returns-in_err-keep-clause-muls : goal.returns-in_err-keep-clause-muls
-returns-in_err-keep-clause-muls c = c.in_ok-tapped.ensures.muls ∙ c.loop-net.invariant.muls
+pub returns-in_err-push-clause-muls : goal.returns-in_err-push-clause-muls
+returns-in_err-push-clause-muls c = c.in_ok-tapped.ensures.muls ∙ c.loop-net.invariant.muls
 
 pub returns-clause-belongs : goal.returns-clause-belongs
 returns-clause-belongs c = c.loop-net.invariant.belongs
@@ -45,11 +45,11 @@ returns-in_err-tapped-clause-keeps c = keeps_trans c.loop-net.invariant.keeps c.
 pub returns-in_err-tapped-clause-grows : goal.returns-in_err-tapped-clause-grows
 returns-in_err-tapped-clause-grows c = grows_trans c.loop-net.invariant.grows c.in_err-tapped.ensures.grows
 
-pub returns-in_err-keep-clause-keeps : goal.returns-in_err-keep-clause-keeps
-returns-in_err-keep-clause-keeps c = keeps_trans c.loop-net.invariant.keeps c.in_ok-tapped.ensures.keeps
+pub returns-in_err-push-clause-keeps : goal.returns-in_err-push-clause-keeps
+returns-in_err-push-clause-keeps c = keeps_trans c.loop-net.invariant.keeps c.in_ok-tapped.ensures.keeps
 
-pub returns-in_err-keep-clause-grows : goal.returns-in_err-keep-clause-grows
-returns-in_err-keep-clause-grows c = grows_trans c.loop-net.invariant.grows c.in_ok-tapped.ensures.grows
+pub returns-in_err-push-clause-grows : goal.returns-in_err-push-clause-grows
+returns-in_err-push-clause-grows c = grows_trans c.loop-net.invariant.grows c.in_ok-tapped.ensures.grows
 
 pub returns-in_err-tapped-clause-cells : goal.returns-in_err-tapped-clause-cells
 returns-in_err-tapped-clause-cells c =
@@ -58,8 +58,8 @@ returns-in_err-tapped-clause-cells c =
     (omega (arith, c.loop-net-test.true))
     (omega (arith, was.cells, c.in_err-tapped.ensures.cells, line_one c.args.slack))
 
-pub returns-in_err-keep-clause-cells : goal.returns-in_err-keep-clause-cells
-returns-in_err-keep-clause-cells c =
+pub returns-in_err-push-clause-cells : goal.returns-in_err-push-clause-cells
+returns-in_err-push-clause-cells c =
     let was = c.loop-net.invariant in
     cells_within _ _ (c.loop-net.net-index + 1) (8 * c.args.slack + 4) c.nets-nets.result.now c.args.bundle.now c.nets-nets.ensures
     (omega (arith, c.loop-net-test.true))
@@ -77,8 +77,8 @@ returns-in_err-tapped-clause-memories c =
     (omega (arith, c.loop-net-test.true))
     (omega (arith, was.memories, c.in_err-tapped.ensures.memories, rings_one c.args.slack))
 
-pub returns-in_err-keep-clause-memories : goal.returns-in_err-keep-clause-memories
-returns-in_err-keep-clause-memories c =
+pub returns-in_err-push-clause-memories : goal.returns-in_err-push-clause-memories
+returns-in_err-push-clause-memories c =
     let was = c.loop-net.invariant in
     cells_within _ _ (c.loop-net.net-index + 1) (rings c.args.slack) c.nets-nets.result.now c.args.bundle.now c.nets-nets.ensures
     (omega (arith, c.loop-net-test.true))
@@ -94,7 +94,7 @@ loop-net-preserved c =
     let was = c.loop-net.invariant in
     let more = c.in_ok-tapped.ensures in
     let k : ℕ = c.loop-net.net-index in
-    let kept : c.keep.new.nets.items ≡ c.loop-net.late.items ++ c.tap.result ∷ [] = c.in_ok-keep.ensures.ok in
+    let kept : c.push.new.self.items ≡ c.loop-net.late.items ++ c.tap.result ∷ [] = c.in_ok-push.ensures.items in
     let tap = rw was.keeps.rst at (more.taps.each 0 c.args.slack _ refl c.tap.ensures) in
     record {
       belongs = more.belongs;

@@ -38,14 +38,14 @@ pair-requires-clause-second c = λ l.
 pub returns-in_err-net-clause-up : goal.returns-in_err-net-clause-up
 returns-in_err-net-clause-up c = up_pair c.args.lanes c.args.stride c.loop-q.q _ c.requires.placed c.loop-q-test.true c.loop-q.invariant.adds c.in_err-net.ensures.up
 
-pub returns-in_err-keep-clause-up : goal.returns-in_err-keep-clause-up
-returns-in_err-keep-clause-up c = up_pair c.args.lanes c.args.stride c.loop-q.q _ c.requires.placed c.loop-q-test.true c.loop-q.invariant.adds c.in_ok-net.ensures.up
+pub returns-in_err-push-clause-up : goal.returns-in_err-push-clause-up
+returns-in_err-push-clause-up c = up_pair c.args.lanes c.args.stride c.loop-q.q _ c.requires.placed c.loop-q-test.true c.loop-q.invariant.adds c.in_ok-net.ensures.up
 
 pub loop-q-preserved : goal.loop-q-preserved
 loop-q-preserved c =
     let old = c.loop-q.invariant in
     let more = c.in_ok-net.ensures in
-    let pushed : c.keep.new.nets.items ≡ c.loop-q.outs.items ++ c.in_ok-net.net ∷ [] = c.in_ok-keep.ensures.ok in
+    let pushed : c.push.new.self.items ≡ c.loop-q.outs.items ++ c.in_ok-net.net ∷ [] = c.in_ok-push.ensures.items in
     record {
       adds = adds_pair c.args.lanes c.args.stride c.loop-q.q (length c.args.nets.now) _ _ c.requires.placed c.requires.long (fold_product c.args.folds.now c.loop-q.q c.requires.folds) old.adds more.adds;
       long = rw pushed (length_push c.loop-q.outs.items c.in_ok-net.net ∙ ap (λ n. n + 1) old.long);
