@@ -10,7 +10,6 @@ use Rattle.ae_word.proofs.Sizes.{length-atom_kinds}
 use Rattle.ae_sttype.specs.declared.st_type.StType.{StType}
 use Rattle.ae_sttype.specs.StTree.{StTree, atom, tseq, sseq, element_atom, element_words, lanes, st_tree}
 use Rattle.ae_sttype.specs.Size.{HasLengths, IsInSize}
-use Rattle.ae_sttype.proofs.Bounds.{element_words_pos, lanes_pos}
 use Rattle.ae_moves.proofs.Words.{columns_small}
 use Rattle.ae_rewrite.specs.StProgramTree.{st_trees}
 use Rattle.ae_ports.specs.Ports.{streams_of, SizedPort, input_cell, input_ports, lane_ports, ports_from, stream_ports, word_ports}
@@ -119,9 +118,6 @@ inputs_one a b x y net p made is pushed = record { cells = made; nets = pushed �
 pub widths_long : (s : StTree) → length (stream_of s).widths ≡ element_words s
 widths_long s = length-map (atom_kinds (element_atom s)) (λ (k : WordKind). k.width) ∙ length-atom_kinds (element_atom s)
 
-some_product : (a b : ℕ) → 0 < a → 0 < b → 1 ≤ a * b
-some_product a b p q = grind arith
-
 -- there is a width for each word of an atom
 pub width_there : (a : AtomTree) (word : ℕ) → word < atom_words a → option_map (λ (k : WordKind). k.width) (slice_get (atom_kinds a) word) ≡ None → ⊥
 width_there a word h none =
@@ -187,16 +183,7 @@ bundles_more a b c ls k t bundle old new found was one pushed olds =
     ∙ (ap (λ (ns : List NetId). bundles_from (length a.cells) before ++ ns ∷ []) is
     ∙ (sym (bundles_from_push (length a.cells) AtParam 0 before s) ∙ ap (bundles_from (length a.cells)) (sym (streams_more ls k t found)))))
 
--- each parameter has an input
-pub params_few : (b c : Circuit) (k : ℕ) (t : StType) (bundle : List NetId) → IsInSize (st_tree t) → k ≤ length b.cells → AddsInputs b c [] bundle (stream_ports (In k) (stream_of (st_tree t))) → k + 1 ≤ length c.cells
-params_few b c k t bundle size few one =
-    let s : Stream = stream_of (st_tree t) in
-    let long : length c.cells ≡ length b.cells + length (stream_ports (In k) s) =
-    ap (λ (n : Circuit). length n.cells) one.cells ∙ (length-append b.cells (map input_cell (stream_ports (In k) s)) ∙ ap (λ n. length b.cells + n) (length-map (stream_ports (In k) s) input_cell)) in
-    let some : 1 ≤ lanes (st_tree t) * length s.widths = some_product (lanes (st_tree t)) (length s.widths) (lanes_pos (st_tree t) size.lengths) (omega (arith, widths_long (st_tree t), element_words_pos (st_tree t))) in
-    omega (arith, long, length-lane_ports (In k) s.widths s.lanes)
-
--- and at most as many as a type has words
+-- a parameter has at most as many inputs as a type has words
 pub params_most : (b c : Circuit) (k : ℕ) (t : StType) (bundle : List NetId) → IsInSize (st_tree t) → AddsInputs b c [] bundle (stream_ports (In k) (stream_of (st_tree t))) → length c.cells ≤ length b.cells + 16384
 params_most b c k t bundle size one =
     let s : Stream = stream_of (st_tree t) in

@@ -1,6 +1,6 @@
 // Instances: each call is lowered where it stands.
 
-ghost use Rattle.std.specs.Prelude.{◌≡◌, ◌≢◌, ◌≤◌, ◌<◌, ◌+◌, ◌*◌, ◌++◌, ◌∷◌, [], ℕ, List, length, map, take, IfOk, OnOk, Some, Err, slice_get, get_or};
+ghost use Rattle.std.specs.Prelude.{◌≡◌, ◌≤◌, ◌<◌, ◌+◌, ◌*◌, ◌++◌, ◌∷◌, [], ℕ, List, length, map, take, IfOk, OnOk, Some, slice_get, get_or};
 ghost use Rattle.std.specs.Option.{option_and_then};
 ghost use Rattle.ae_netlist.specs.declared.cell.NetId.{NetId as Net};
 ghost use Rattle.ae_clocked.specs.Signals.{IsFullAt};
@@ -22,7 +22,7 @@ ghost use Rattle.ae_tidy.specs.Places.{AreMarks};
 use crate::items::{joined, waiting_memories};
 use crate::nodes::build;
 use crate::sections::{Section, begin};
-use crate::wires::{add, copied, keep_bundle, piece};
+use crate::wires::{copied, piece};
 use ae_clocked::{Clocks, Rings};
 use ae_delay::Timing;
 use ae_flow::flows_fit;
@@ -30,7 +30,7 @@ use ae_netlist::{NetFault, Netlist};
 use ae_ops::Bundle;
 use ae_retime::Slacks;
 use ae_rewrite::{StFunc, StNode, StOp, StProgram};
-use std::alloc::Global;
+use std::alloc::{AllocError, Global};
 
 // Instance number k.
 pub fn instance(p: &StProgram, k: u32) -> &StFunc
@@ -101,14 +101,13 @@ fn start_of(arrivals: &[u32], waits: &[u32], items: &[u32]) -> u32
 }
 
 // The bundles again.
-fn all_copied(alloc: Global, bundles: &[Bundle]) -> Result<Vec<Bundle>, NetFault>
+fn all_copied(alloc: Global, bundles: &[Bundle]) -> Result<Vec<Bundle>, AllocError>
     ensures ok { IfOk result (λ v. v.items ≡ bundles.now) }
-    ensures fault { result ≢ Err NetFault.Full }
 {
     let mut all = Vec::new(alloc);
     for bundle in bundles {
         let again = copied(alloc, bundle)?;
-        keep_bundle(&mut all, again)?;
+        all.push(again)?;
     }
     Ok(all)
 }
@@ -119,16 +118,15 @@ fn lane_of(
     bundles: &[Bundle],
     copies: u32,
     lane: u32,
-) -> Result<Vec<Bundle>, NetFault>
+) -> Result<Vec<Bundle>, AllocError>
     requires { lane < copies }
     ensures ok { IfOk result (λ v. v.items ≡ map (lane_nets copies lane) bundles.now) }
-    ensures fault { result ≢ Err NetFault.Full }
 {
     let mut all = Vec::new(alloc);
     for bundle in bundles {
         let columns = bundle.nets().len() / copies as usize;
         let nets = piece(alloc, bundle.nets(), lane as usize * columns, columns)?;
-        keep_bundle(&mut all, nets)?;
+        all.push(nets)?;
     }
     Ok(all)
 }
@@ -139,16 +137,13 @@ fn keep_item(
     marks: &mut Vec<u32>,
     made: Bundle,
     mark: u32,
-) -> Result<(), NetFault>
+) -> Result<(), AllocError>
     ensures ok { OnOk result (items.new.items ≡ items.old.items ++ made ∷ []) }
     ensures marked { OnOk result (marks.new.items ≡ marks.old.items ++ mark ∷ []) }
-    ensures fault { result ≢ Err NetFault.Full }
 {
-    keep_bundle(items, made)?;
-    match marks.push(mark) {
-        Ok(()) => Ok(()),
-        Err(_) => Err(NetFault::Memory),
-    }
+    items.push(made)?;
+    marks.push(mark)?;
+    Ok(())
 }
 
 // One more reader.
@@ -159,23 +154,16 @@ fn count_reader(counts: &mut Vec<u32>, item: u32) {
     }
 }
 
-fn no_readers(alloc: Global, count: usize) -> Result<Vec<u32>, NetFault>
-    ensures fault { result ≢ Err NetFault.Full }
-{
+fn no_readers(alloc: Global, count: usize) -> Result<Vec<u32>, AllocError> {
     let mut counts = Vec::new(alloc);
     for i in 0..count {
-        match counts.push(0) {
-            Ok(()) => {}
-            Err(_) => return Err(NetFault::Memory),
-        }
+        counts.push(0)?;
     }
     Ok(counts)
 }
 
 // How often each item is read, by a node or as a result.
-fn readers(alloc: Global, s: &StFunc) -> Result<Vec<u32>, NetFault>
-    ensures fault { result ≢ Err NetFault.Full }
-{
+fn readers(alloc: Global, s: &StFunc) -> Result<Vec<u32>, AllocError> {
     let mut counts = no_readers(alloc, s.ins.len() + s.nodes.len())?;
     for node in &s.nodes {
         for item in &node.args {
@@ -377,7 +365,7 @@ fn lower_bodies(
         let results = lower_instance(
             alloc, nl, clocks, p, a, slacks, m, &own, at, &mut inner, sections,
         )?;
-        add(&mut out, results[0].nets())?;
+        out.extend_from_slice(results[0].nets())?;
     }
     Ok(Bundle::new(out))
 }

@@ -1,6 +1,6 @@
 // The arguments of a node, and the results of an instance, all as late as the latest.
 
-ghost use Rattle.std.specs.Prelude.{◌≡◌, ◌≢◌, ◌≤◌, ◌<◌, ◌+◌, ◌*◌, ◌++◌, ◌∷◌, [], ℕ, List, length, map, sum_by, IfOk, OnOk, Err, Some, slice_get, get_or};
+ghost use Rattle.std.specs.Prelude.{◌≡◌, ◌≤◌, ◌<◌, ◌+◌, ◌*◌, ℕ, List, length, map, sum_by, IfOk, OnOk, Some, slice_get, get_or};
 ghost use Rattle.std.specs.List.{range_with_len};
 ghost use Rattle.ae_sttype.specs.StTree.{st_tree};
 ghost use Rattle.ae_sttype.specs.Size.{IsInSize};
@@ -17,7 +17,7 @@ ghost use Rattle.ae_ops.specs.Waves.{AreLate, AreNets, HaveOwnWidths};
 ghost use Rattle.ae_lower.specs.Growth.{Adds, GrowsBy, Spends};
 ghost use Rattle.ae_lower.specs.Delaying.{AreDelayed, delay_load};
 
-use crate::wires::{copied, keep_bundle};
+use crate::wires::copied;
 use ae_clocked::{Clocks, Rings};
 use ae_delay::layout;
 use ae_moves::rings;
@@ -46,7 +46,7 @@ pub fn later(
     ensures late { IfOk result (λ late. AreLate nl.new.cells clocks.old.rst slack bundle.now late) }
 {
     if slack == 0 {
-        return copied(alloc, bundle);
+        return Ok(copied(alloc, bundle)?);
     }
     delay(alloc, nl, clocks, bundle, slack)
 }
@@ -88,16 +88,6 @@ fn longest_wait(chains: &[u32], item: usize) -> u32 {
     }
 }
 
-fn keep_net(nets: &mut Vec<NetId>, net: NetId) -> Result<(), NetFault>
-    ensures ok { OnOk result (nets.new.items ≡ nets.old.items ++ net ∷ []) }
-    ensures fault { result ≢ Err NetFault.Full }
-{
-    match nets.push(net) {
-        Ok(()) => Ok(()),
-        Err(_) => Err(NetFault::Memory),
-    }
-}
-
 /// A bundle, some clocks later; what waits long stands in rings, which reach back for the longest wait of its item.
 fn waited(
     alloc: Global,
@@ -124,7 +114,7 @@ fn waited(
     let mut late = Vec::new(alloc);
     for net in nets {
         let tap = kept.tap(alloc, nl, clocks, *net, slack, reach)?;
-        keep_net(&mut late, tap)?;
+        late.push(tap)?;
     }
     Ok(Bundle::new(late))
 }
@@ -158,7 +148,7 @@ pub fn joined(
         let k = chosen[r] as usize;
         let reach = longest_wait(chains, k);
         let bundle = waited(alloc, nl, clocks, kept, &items[k], waits[r], reach)?;
-        keep_bundle(&mut late, bundle)?;
+        late.push(bundle)?;
     }
     Ok(late)
 }

@@ -26,7 +26,7 @@ use ae_ops::{Bundle, Stage, WordStage};
 use ae_reduce::Reduce;
 use ae_rewrite::{MoveOp, StFunc, StNode, StOp};
 use ae_word::WordOp;
-use std::alloc::Global;
+use std::alloc::{AllocError, Global};
 
 /// Builds a stage that does what a node does, within its costs. The instance and the node only say which node it is.
 fn place<S: Stage>(
@@ -106,15 +106,12 @@ fn fold_and_move(
     moved.build(alloc, nl, clocks, &mid, at + fold.latency())
 }
 
-fn one_bundle(alloc: Global, bundle: Bundle) -> Result<Vec<Bundle>, NetFault>
+fn one_bundle(alloc: Global, bundle: Bundle) -> Result<Vec<Bundle>, AllocError>
     ensures ok { IfOk result (λ v. v.items ≡ bundle ∷ []) }
-    ensures fault { result ≢ Err NetFault.Full }
 {
     let mut bundles = Vec::new(alloc);
-    match bundles.push(bundle) {
-        Ok(()) => Ok(bundles),
-        Err(_) => Err(NetFault::Memory),
-    }
+    bundles.push(bundle)?;
+    Ok(bundles)
 }
 
 /// The nets of pairs, lane by lane.

@@ -103,9 +103,9 @@ pub fn add_inputs(
     ensures cells { OnOk result (nl.new ≡ record nl.old { cells = nl.old.cells ++ map input_cell (input_ports (streams_of (st_trees layouts.now))) }) }
     ensures bundles { IfOk result (λ v. v.items ≡ bundles_from (length nl.old.cells) (streams_of (st_trees layouts.now))) }
 {
+    nl.formed();
     let mut bundles = Vec::new(alloc);
     for (k, layout) in layouts.iter().enumerate() {
-        let _count = nl.len();
         let bundle = param_inputs(alloc, nl, layout, k as u32)?;
         bundles.push(bundle)?;
     }

@@ -1,11 +1,11 @@
 // Which node each cell of a netlist is made for.
 
-ghost use Rattle.std.specs.Prelude.{◌≡◌, ◌≢◌, ◌<◌, ℕ, IfOk, OnOk, Err, Some, length, map, slice_get};
+ghost use Rattle.std.specs.Prelude.{◌≡◌, ◌<◌, ℕ, IfOk, OnOk, Some, length, map, slice_get};
 ghost use Rattle.ae_netlist.specs.declared.cell.NetId.{NetId as Net};
 ghost use Rattle.ae_tidy.specs.Places.{AreRising};
 ghost use Rattle.ae_lower.specs.Sections.{AreSections, AreThoseBefore, BeginsSection, IsCopiedSection, first_cell};
 
-use ae_netlist::{NetFault, NetId};
+use ae_netlist::NetId;
 use ae_tidy::all_moved;
 use std::alloc::{AllocError, Global};
 
@@ -31,16 +31,13 @@ fn drop_empty(sections: &mut Vec<Section>, cell: u32)
     sections.truncate(count - 1);
 }
 
-/// Lets a section begin behind the others, in the place of one without cells.
-pub fn begin(sections: &mut Vec<Section>, section: Section) -> Result<(), NetFault>
+/// Lets a section begin behind the others, in the place of one without cells. An error comes only for want of memory.
+pub fn begin(sections: &mut Vec<Section>, section: Section) -> Result<(), AllocError>
     ensures ok { OnOk result (AreSections section.cell sections.old.items → BeginsSection section sections.old.items sections.new.items) }
-    ensures fault { result ≢ Err NetFault.Full }
 {
     drop_empty(sections, section.cell);
-    match sections.push(section) {
-        Ok(()) => Ok(()),
-        Err(_) => Err(NetFault::Memory),
-    }
+    sections.push(section)?;
+    Ok(())
 }
 
 // The first cells of sections.
@@ -76,10 +73,7 @@ pub fn copied_sections(
             instance: sections[i].instance,
             node: sections[i].node,
         };
-        match begin(&mut copied, section) {
-            Ok(()) => {}
-            Err(_) => return Err(AllocError),
-        }
+        begin(&mut copied, section)?;
     }
     Ok(copied)
 }

@@ -1,6 +1,6 @@
-// The stages of the operators that call nothing.
+// The stages of the operators that call nothing. An error comes only for want of memory.
 
-ghost use Rattle.std.specs.Prelude.{◌≡◌, ◌≢◌, ◌≤◌, ◌<◌, ◌*◌, ◌∷◌, [], ℕ, true, map, IfOk, Some, Err};
+ghost use Rattle.std.specs.Prelude.{◌≡◌, ◌≤◌, ◌<◌, ◌*◌, ℕ, true, map, IfOk, Some};
 ghost use Rattle.ae_word.specs.WordTable.{folds};
 ghost use Rattle.ae_sttype.specs.StTree.{StTree, st_tree, time};
 ghost use Rattle.ae_sttype.specs.Size.{IsInSize};
@@ -13,23 +13,12 @@ ghost use Rattle.ae_flow.specs.Fitted.{FitsMove, IsArranged, IsOneOf};
 
 use ae_delay::origins;
 use ae_gather::{Gather, Origin};
-use ae_netlist::NetFault;
 use ae_reduce::Reduce;
 use ae_rewrite::MoveOp;
 use ae_scan::Scan;
 use ae_sttype::StType;
 use ae_word::WordOp;
-use std::alloc::Global;
-
-fn copy(alloc: Global, s: &StType) -> Result<StType, NetFault>
-    ensures ok { IfOk result (λ t. st_tree t ≡ st_tree s.now) }
-    ensures fault { result ≢ Err NetFault.Full }
-{
-    match s.copy(alloc) {
-        Ok(t) => Ok(t),
-        Err(_) => Err(NetFault::Memory),
-    }
-}
+use std::alloc::{AllocError, Global};
 
 /// The width of the first word of each element.
 pub fn first_width(s: &StType) -> u32
@@ -42,64 +31,35 @@ pub fn first_width(s: &StType) -> u32
     }
 }
 
-fn words(alloc: Global, words: &[u64]) -> Result<Vec<Origin>, NetFault>
-    ensures ok { IfOk result (λ v. v.items ≡ map (λ w. Origin.Fixed w) words.now) }
-    ensures fault { result ≢ Err NetFault.Full }
+fn words(alloc: Global, words: &[u64]) -> Result<Vec<Origin>, AllocError>
+    ensures { IfOk result (λ v. v.items ≡ map (λ w. Origin.Fixed w) words.now) }
 {
-    match words.iter().map(|w| Origin::Fixed(*w)).collect(alloc) {
-        Ok(source) => Ok(source),
-        Err(_) => Err(NetFault::Memory),
-    }
+    words.iter().map(|w| Origin::Fixed(*w)).collect(alloc)
 }
 
 /// A constant: a move in which every word is fixed.
-pub fn constant(alloc: Global, fixed: &[u64], out: &StType) -> Result<Gather, NetFault>
+pub fn constant(alloc: Global, fixed: &[u64], out: &StType) -> Result<Gather, AllocError>
     requires out { IsInSize (st_tree out.now) }
     requires fits { FixedFits (st_tree out.now) fixed.now }
     ensures is { IfOk result (λ g. move_of g ≡ constant_move fixed.now (st_tree out.now)) }
-    ensures fault { result ≢ Err NetFault.Full }
 {
     let source = words(alloc, fixed)?;
-    let layout = copy(alloc, out)?;
+    let layout = out.copy(alloc)?;
     Ok(Gather::of_move(Vec::new(alloc), layout, source))
 }
 
-fn sources(alloc: Global, how: MoveOp, arg: &StType, out: &StType) -> Result<Vec<Origin>, NetFault>
-    requires arg { IsInSize (st_tree arg.now) }
-    requires out { IsInSize (st_tree out.now) }
-    requires fits { FitsMove how (st_tree arg.now) (st_tree out.now) }
-    ensures ok { IfOk result (λ v. map origin_tree v.items ≡ (op_move how (st_tree arg.now) (st_tree out.now)).origins) }
-    ensures fault { result ≢ Err NetFault.Full }
-{
-    match origins(alloc, how, arg, out) {
-        Ok(source) => Ok(source),
-        Err(_) => Err(NetFault::Memory),
-    }
-}
-
-fn one(alloc: Global, s: StType) -> Result<Vec<StType>, NetFault>
-    ensures ok { IfOk result (λ v. v.items ≡ s ∷ []) }
-    ensures fault { result ≢ Err NetFault.Full }
-{
-    let mut ins = Vec::new(alloc);
-    match ins.push(s) {
-        Ok(()) => Ok(ins),
-        Err(_) => Err(NetFault::Memory),
-    }
-}
-
 /// A move of elements.
-pub fn moving(alloc: Global, how: MoveOp, arg: &StType, out: &StType) -> Result<Gather, NetFault>
+pub fn moving(alloc: Global, how: MoveOp, arg: &StType, out: &StType) -> Result<Gather, AllocError>
     requires arg { IsInSize (st_tree arg.now) }
     requires out { IsInSize (st_tree out.now) }
     requires time { time (st_tree arg.now) ≡ time (st_tree out.now) }
     requires fits { FitsMove how (st_tree arg.now) (st_tree out.now) }
     ensures is { IfOk result (λ g. move_of g ≡ op_move how (st_tree arg.now) (st_tree out.now)) }
-    ensures fault { result ≢ Err NetFault.Full }
 {
-    let source = sources(alloc, how, arg, out)?;
-    let ins = one(alloc, copy(alloc, arg)?)?;
-    let layout = copy(alloc, out)?;
+    let source = origins(alloc, how, arg, out)?;
+    let mut ins = Vec::new(alloc);
+    ins.push(arg.copy(alloc)?)?;
+    let layout = out.copy(alloc)?;
     Ok(Gather::of_move(ins, layout, source))
 }
 
@@ -125,7 +85,7 @@ pub fn reducing(
     raw: &StType,
     budget: u32,
     wait: u32,
-) -> Result<Reduce, NetFault>
+) -> Result<Reduce, AllocError>
     requires op { folds op ≡ true }
     requires spread { IsSpread slots lanes }
     requires some { 1 ≤ budget }
@@ -133,9 +93,8 @@ pub fn reducing(
     requires raw { IsInSize (st_tree raw.now) }
     requires one { (t : StTree) × (IsOneOf t (st_tree raw.now) × (slots * time t ≤ budget)) }
     ensures is { IfOk result (λ r. (r.op ≡ op) × (r.slots ≡ slots) × (r.lanes ≡ lanes) × (r.period ≡ budget) × IsOneOf (st_tree r.element) (st_tree raw.now)) }
-    ensures fault { result ≢ Err NetFault.Full }
 {
-    let element = copy(alloc, element_of(raw))?;
+    let element = element_of(raw).copy(alloc)?;
     Ok(Reduce::of_shape(op, slots, lanes, element, budget).followed(wait))
 }
 
@@ -167,7 +126,7 @@ pub fn scanning(
     lanes: u32,
     out: &StType,
     budget: u32,
-) -> Result<Scan, NetFault>
+) -> Result<Scan, AllocError>
     requires op { folds op ≡ true }
     requires spread { IsSpread slots lanes }
     requires some { 1 ≤ budget }
@@ -175,8 +134,7 @@ pub fn scanning(
     requires out { IsInSize (st_tree out.now) }
     requires arranged { (t : StTree) × (IsArranged slots lanes t (st_tree out.now) × (slots * time t ≤ budget)) }
     ensures is { IfOk result (λ r. (r.op ≡ op) × (r.slots ≡ slots) × (r.lanes ≡ lanes) × (r.period ≡ budget) × IsArranged slots lanes (st_tree r.element) (st_tree out.now)) }
-    ensures fault { result ≢ Err NetFault.Full }
 {
-    let element = copy(alloc, elements_of(out, lanes))?;
+    let element = elements_of(out, lanes).copy(alloc)?;
     Ok(Scan::of_shape(op, slots, lanes, element, budget))
 }

@@ -1,53 +1,29 @@
-// Nets taken from others, without a cell.
+// Nets taken from others, without a cell. An error comes only for want of memory.
 
-ghost use Rattle.std.specs.Prelude.{◌≡◌, ◌≢◌, ◌<◌, ◌≤◌, ◌+◌, ◌*◌, ◌^◌, ◌++◌, ◌∷◌, [], length, take, drop, IfOk, OnOk, Err};
+ghost use Rattle.std.specs.Prelude.{◌≡◌, ◌≢◌, ◌<◌, ◌≤◌, ◌+◌, ◌*◌, ◌^◌, length, take, drop, IfOk, Err};
 ghost use Rattle.ae_lower.specs.Wiring.{ArePairs, AreParts};
 
 use ae_netlist::{NetFault, NetId};
 use ae_ops::Bundle;
-use std::alloc::Global;
-
-/// More nets at the end.
-pub fn add(nets: &mut Vec<NetId>, more: &[NetId]) -> Result<(), NetFault>
-    ensures ok { OnOk result (nets.new.items ≡ nets.old.items ++ more.now) }
-    ensures fault { result ≢ Err NetFault.Full }
-{
-    match nets.extend_from_slice(more) {
-        Ok(()) => Ok(()),
-        Err(_) => Err(NetFault::Memory),
-    }
-}
+use std::alloc::{AllocError, Global};
 
 /// The bundle again.
-pub fn copied(alloc: Global, bundle: &Bundle) -> Result<Bundle, NetFault>
+pub fn copied(alloc: Global, bundle: &Bundle) -> Result<Bundle, AllocError>
     ensures ok { IfOk result (λ b. b ≡ bundle.now) }
-    ensures fault { result ≢ Err NetFault.Full }
 {
     let mut out = Vec::new(alloc);
-    add(&mut out, bundle.nets())?;
+    out.extend_from_slice(bundle.nets())?;
     Ok(Bundle::new(out))
 }
 
 /// `count` nets from number `from` on.
-pub fn piece(alloc: Global, nets: &[NetId], from: usize, count: usize) -> Result<Bundle, NetFault>
+pub fn piece(alloc: Global, nets: &[NetId], from: usize, count: usize) -> Result<Bundle, AllocError>
     requires inside { from + count ≤ length nets.now }
     ensures ok { IfOk result (λ b. b ≡ take count (drop from nets.now)) }
-    ensures fault { result ≢ Err NetFault.Full }
 {
     let mut out = Vec::new(alloc);
-    add(&mut out, &nets[from..from + count])?;
+    out.extend_from_slice(&nets[from..from + count])?;
     Ok(Bundle::new(out))
-}
-
-/// One bundle more.
-pub fn keep_bundle(bundles: &mut Vec<Bundle>, bundle: Bundle) -> Result<(), NetFault>
-    ensures ok { OnOk result (bundles.new.items ≡ bundles.old.items ++ bundle ∷ []) }
-    ensures fault { result ≢ Err NetFault.Full }
-{
-    match bundles.push(bundle) {
-        Ok(()) => Ok(()),
-        Err(_) => Err(NetFault::Memory),
-    }
 }
 
 /// Of each of `count` stretches of `k` nets, `l` nets from number `from` on.
@@ -67,7 +43,7 @@ pub fn parts(
     let mut out = Vec::new(alloc);
     for e in 0..count {
         let first = e * k + from;
-        add(&mut out, &nets[first..first + l])?;
+        out.extend_from_slice(&nets[first..first + l])?;
     }
     Ok(Bundle::new(out))
 }
@@ -88,8 +64,8 @@ pub fn pairs(
 {
     let mut out = Vec::new(alloc);
     for e in 0..count {
-        add(&mut out, &first[e * k..e * k + k])?;
-        add(&mut out, &second[e * l..e * l + l])?;
+        out.extend_from_slice(&first[e * k..e * k + k])?;
+        out.extend_from_slice(&second[e * l..e * l + l])?;
     }
     Ok(Bundle::new(out))
 }

@@ -59,11 +59,11 @@ lower_bodies-index-requires t c =
     let long = (c.in_ok-results.ensures.results c.requires.light.0 c.requires.light.1.found).long in
     omega (arith, some, long, c.in_ok-results.results.ok)
 
-pub lower_bodies-returns-in_err-add-clause-keeps : goal.lower_bodies-returns-in_err-add-clause-keeps
-lower_bodies-returns-in_err-add-clause-keeps t c = keeps_trans c.loop-lane.invariant.keeps c.lower_instance.ensures.keeps
+pub lower_bodies-returns-in_err-extend_from_slice-clause-keeps : goal.lower_bodies-returns-in_err-extend_from_slice-clause-keeps
+lower_bodies-returns-in_err-extend_from_slice-clause-keeps t c = keeps_trans c.loop-lane.invariant.keeps c.lower_instance.ensures.keeps
 
-pub lower_bodies-returns-in_err-add-clause-grows : goal.lower_bodies-returns-in_err-add-clause-grows
-lower_bodies-returns-in_err-add-clause-grows t c = another_body c.args.nl.now c.loop-lane.nl c.lower_instance.new.nl c.loop-lane.lane c.args.copies (instance_costs (st_func_trees c.args.p.now) c.args.m).load c.loop-lane-test.true c.loop-lane.invariant.spread.grows c.lower_instance.ensures.grows
+pub lower_bodies-returns-in_err-extend_from_slice-clause-grows : goal.lower_bodies-returns-in_err-extend_from_slice-clause-grows
+lower_bodies-returns-in_err-extend_from_slice-clause-grows t c = another_body c.args.nl.now c.loop-lane.nl c.lower_instance.new.nl c.loop-lane.lane c.args.copies (instance_costs (st_func_trees c.args.p.now) c.args.m).load c.loop-lane-test.true c.loop-lane.invariant.spread.grows c.lower_instance.ensures.grows
 
 pub lower_bodies-returns-clause-belongs : goal.lower_bodies-returns-clause-belongs
 lower_bodies-returns-clause-belongs t c = c.loop-lane.invariant.belongs
@@ -509,8 +509,8 @@ lower_bodies-loop-lane-preserved t c =
     record {
       belongs = c.in_ok-results.ensures.belongs;
       keeps = keeps_trans c.loop-lane.invariant.keeps c.in_ok-results.ensures.keeps;
-      spread = more_bodies (st_func_trees c.args.p.now) c.args.m c.args.at c.args.clocks.now.rst c.args.copies c.args.args.now c.in_ok-results.results.items c.args.nl.now c.loop-lane.nl c.lower_instance.new.nl c.loop-lane.lane c.loop-lane.out.items c.add.new.nets.items c.nets.result.now
-          (some_results (st_func_trees c.args.p.now) c.args.m c.requires.timed.sound) c.in_ok-add.ensures.ok first c.in_ok-results.ensures.grows c.in_ok-results.ensures.adds (lane_results (st_func_trees c.args.p.now) c.args.m c.args.at c.loop-lane.clocks.rst c.args.clocks.now.rst c.args.copies c.loop-lane.lane c.args.args.now c.deref.result.now c.in_ok-own.own.items c.in_ok-results.results.items c.lower_instance.new.nl.cells c.loop-lane.invariant.keeps.rst c.deref.ensures.value c.in_ok-own.ensures.ok results) c.loop-lane.invariant.spread;
+      spread = more_bodies (st_func_trees c.args.p.now) c.args.m c.args.at c.args.clocks.now.rst c.args.copies c.args.args.now c.in_ok-results.results.items c.args.nl.now c.loop-lane.nl c.lower_instance.new.nl c.loop-lane.lane c.loop-lane.out.items c.extend_from_slice.new.self.items c.nets.result.now
+          (some_results (st_func_trees c.args.p.now) c.args.m c.requires.timed.sound) c.in_ok-extend_from_slice.ensures.items first c.in_ok-results.ensures.grows c.in_ok-results.ensures.adds (lane_results (st_func_trees c.args.p.now) c.args.m c.args.at c.loop-lane.clocks.rst c.args.clocks.now.rst c.args.copies c.loop-lane.lane c.args.args.now c.deref.result.now c.in_ok-own.own.items c.in_ok-results.results.items c.lower_instance.new.nl.cells c.loop-lane.invariant.keeps.rst c.deref.ensures.value c.in_ok-own.ensures.ok results) c.loop-lane.invariant.spread;
       within = omega (arith, c.loop-lane-test.true);
       sections = λ h. (let was = c.loop-lane.invariant.sections h in sections_trans (length c.args.nl.now.cells) (length c.loop-lane.nl.cells) (length c.lower_instance.new.nl.cells) c.args.sections.now.items c.loop-lane.sections.items c.lower_instance.new.sections.items
           (extends_length c.args.nl.now.cells c.loop-lane.nl.cells c.loop-lane.invariant.spread.grows.grows.extends) was (c.in_ok-results.ensures.sections was.are));

@@ -21,8 +21,8 @@ returns-in_err-bundle-clause-grows c =
     (item_at c.args.items.now c.args.chosen.now c.loop-r.r c.index-items-k.result c.requires.below c.loop-r-test.true c.index-items-k.is) c.requires.long c.loop-r-test.true)
     c.loop-r.invariant.grows c.in_err-bundle.ensures.grows
 
-pub returns-in_err-keep_bundle-clause-grows : goal.returns-in_err-keep_bundle-clause-grows
-returns-in_err-keep_bundle-clause-grows c =
+pub returns-in_err-push-clause-grows : goal.returns-in_err-push-clause-grows
+returns-in_err-push-clause-grows c =
     by_trans _ (delay_most c.args.items.now c.args.waits.now c.args.chosen.now c.loop-r.r c.index-items-k.result
     (item_at c.args.items.now c.args.chosen.now c.loop-r.r c.index-items-k.result c.requires.below c.loop-r-test.true c.index-items-k.is) c.requires.long c.loop-r-test.true)
     c.loop-r.invariant.grows c.in_ok-bundle.ensures.grows
@@ -30,8 +30,8 @@ returns-in_err-keep_bundle-clause-grows c =
 pub returns-in_err-bundle-clause-keeps : goal.returns-in_err-bundle-clause-keeps
 returns-in_err-bundle-clause-keeps c = keeps_trans c.loop-r.invariant.keeps c.in_err-bundle.ensures.keeps
 
-pub returns-in_err-keep_bundle-clause-keeps : goal.returns-in_err-keep_bundle-clause-keeps
-returns-in_err-keep_bundle-clause-keeps c = keeps_trans c.loop-r.invariant.keeps c.in_ok-bundle.ensures.keeps
+pub returns-in_err-push-clause-keeps : goal.returns-in_err-push-clause-keeps
+returns-in_err-push-clause-keeps c = keeps_trans c.loop-r.invariant.keeps c.in_ok-bundle.ensures.keeps
 
 pub returns-clause-grows : goal.returns-clause-grows
 returns-clause-grows c =
@@ -46,8 +46,8 @@ returns-clause-delayed c =
 pub returns-in_err-bundle-clause-belongs : goal.returns-in_err-bundle-clause-belongs
 returns-in_err-bundle-clause-belongs c = c.in_err-bundle.ensures.belongs
 
-pub returns-in_err-keep_bundle-clause-belongs : goal.returns-in_err-keep_bundle-clause-belongs
-returns-in_err-keep_bundle-clause-belongs c = c.in_ok-bundle.ensures.belongs
+pub returns-in_err-push-clause-belongs : goal.returns-in_err-push-clause-belongs
+returns-in_err-push-clause-belongs c = c.in_ok-bundle.ensures.belongs
 
 pub returns-clause-belongs : goal.returns-clause-belongs
 returns-clause-belongs c = c.loop-r.invariant.belongs
@@ -86,7 +86,7 @@ loop-r-preserved c =
       grows = by_trans _ (delay_more c.args.items.now c.args.waits.now c.args.chosen.now c.loop-r.r c.index-items-k.result at c.requires.long c.loop-r-test.true) was.grows made.grows;
       rings = rw was.keeps.rst at made.rings;
       spends = spends_up (omega arith) (omega arith) (spends_trans was.spends made.spends);
-      delayed = rw (c.in_ok-keep_bundle.ensures.ok, take_more c.args.chosen.now c.loop-r.r 0 c.loop-r-test.true)
+      delayed = rw (c.in_ok-push.ensures.items, take_more c.args.chosen.now c.loop-r.r 0 c.loop-r-test.true)
           (delayed_more _ _ _ _ c.args.items.now c.args.waits.now c.loop-r.r _ _ c.loop-r.late.items c.index-items-k.result c.in_ok-bundle.bundle
           many was.grows.grows.extends made.grows.grows.extends at made.nets (rw was.keeps.rst at made.late) was.delayed);
     }

@@ -28,11 +28,11 @@ pub returns-in_err-tap-clause-grows : goal.returns-in_err-tap-clause-grows
 returns-in_err-tap-clause-grows c =
     within c.args.slack (c.loop-net.net-index + 1) (length c.args.bundle.now) (omega (arith, c.loop-net-test.true, ap length c.nets-nets.ensures)) (next_tap c.args.slack c.loop-net.net-index c.loop-net.invariant.adds c.in_err-tap.ensures.adds)
 
-pub returns-in_err-keep_net-clause-keeps : goal.returns-in_err-keep_net-clause-keeps
-returns-in_err-keep_net-clause-keeps c = keeps_trans c.loop-net.invariant.keeps c.in_ok-tap.ensures.keeps
+pub returns-in_err-push-clause-keeps : goal.returns-in_err-push-clause-keeps
+returns-in_err-push-clause-keeps c = keeps_trans c.loop-net.invariant.keeps c.in_ok-tap.ensures.keeps
 
-pub returns-in_err-keep_net-clause-grows : goal.returns-in_err-keep_net-clause-grows
-returns-in_err-keep_net-clause-grows c =
+pub returns-in_err-push-clause-grows : goal.returns-in_err-push-clause-grows
+returns-in_err-push-clause-grows c =
     within c.args.slack (c.loop-net.net-index + 1) (length c.args.bundle.now) (omega (arith, c.loop-net-test.true, ap length c.nets-nets.ensures)) (next_tap c.args.slack c.loop-net.net-index c.loop-net.invariant.adds c.in_ok-tap.ensures.adds)
 
 pub tap-requires-clause-belongs : goal.tap-requires-clause-belongs
@@ -41,8 +41,8 @@ tap-requires-clause-belongs c = c.loop-net.invariant.belongs
 pub returns-in_err-tap-clause-belongs : goal.returns-in_err-tap-clause-belongs
 returns-in_err-tap-clause-belongs c = c.in_err-tap.ensures.belongs
 
-pub returns-in_err-keep_net-clause-belongs : goal.returns-in_err-keep_net-clause-belongs
-returns-in_err-keep_net-clause-belongs c = c.in_ok-tap.ensures.belongs
+pub returns-in_err-push-clause-belongs : goal.returns-in_err-push-clause-belongs
+returns-in_err-push-clause-belongs c = c.in_ok-tap.ensures.belongs
 
 pub returns-clause-belongs : goal.returns-clause-belongs
 returns-clause-belongs c = c.loop-net.invariant.belongs
@@ -67,7 +67,7 @@ loop-net-preserved c =
     let was = c.loop-net.invariant in
     let more = c.in_ok-tap.ensures in
     let k : ℕ = c.loop-net.net-index in
-    let kept : c.keep_net.new.nets.items ≡ c.loop-net.late.items ++ c.in_ok-tap.tap ∷ [] = c.in_ok-keep_net.ensures.ok in
+    let kept : c.push.new.self.items ≡ c.loop-net.late.items ++ c.in_ok-tap.tap ∷ [] = c.in_ok-push.ensures.items in
     record {
       belongs = more.belongs;
       keeps = keeps_trans was.keeps more.keeps;

@@ -2,7 +2,7 @@
 use Rattle.std.proofs.Common.{◌≡◌, Some, slice_get, length, ap, arith, refl}
 use Rattle.std.proofs.lemmas.Option.{slice_get_read}
 use Rattle.ae_netlist.specs.Circuit.{Circuit}
-use Rattle.ae_lower.proofs.Inputs.{bundles_more, params_few, params_more, params_most}
+use Rattle.ae_lower.proofs.Inputs.{bundles_more, params_more, params_most}
 use Rattle.ae_lower.proofs.ports.add_inputs.Goals as goal
 
 pub param_inputs-requires-clause-room : goal.param_inputs-requires-clause-room
@@ -18,6 +18,5 @@ loop-k-preserved c =
     record {
       cells = params_more _ _ _ c.args.layouts.now c.loop-k.k t c.in_ok-bundle.bundle found c.loop-k.invariant.cells one;
       bundles = bundles_more _ _ _ c.args.layouts.now c.loop-k.k t c.in_ok-bundle.bundle _ _ found c.loop-k.invariant.cells one c.in_ok-push.ensures.items c.loop-k.invariant.bundles;
-      few = params_few _ _ c.loop-k.k t c.in_ok-bundle.bundle (c.requires.in_size c.loop-k.k t found) c.loop-k.invariant.few one;
       most = omega (arith, c.loop-k.invariant.most, params_most _ _ c.loop-k.k t c.in_ok-bundle.bundle (c.requires.in_size c.loop-k.k t found) one);
     }

@@ -8,6 +8,5 @@ abbrev pub invariant-loop-k : goal.invariant-loop-k
 invariant-loop-k l = record {
   cells : l.nl ≡ record l.fn.nl { cells = l.fn.nl.cells ++ map input_cell (input_ports (streams_of (st_trees (take l.k l.layouts)))) };
   bundles : l.bundles.items ≡ bundles_from (length l.fn.nl.cells) (streams_of (st_trees (take l.k l.layouts)));
-  few : l.k ≤ length l.nl.cells;
   most : length l.nl.cells ≤ length l.fn.nl.cells + 16384 * l.k;
 }

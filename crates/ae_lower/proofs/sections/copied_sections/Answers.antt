@@ -16,7 +16,7 @@ loop-i-preserved c =
     let same : c.deref.result.now ≡ map first_cell sections = c.deref.ensures.value ∙ c.in_ok-cells.ensures in
     let long : i < length places = omega (arith, there, c.in_ok-places.ensures.marks.long, ap length same, length-map sections first_cell) in
     let here : slice_get places i ≡ Some c.index.result.now = slice_get-get_or places i c.index.result.now long ∙ ap Some (sym c.index.ensures) in
-    let begun = c.in-Ok.ensures.ok (c.loop-i.invariant.copied.are i c.index.result.now (omega arith) here) in
+    let begun = c.in_ok-begin.ensures.ok (c.loop-i.invariant.copied.are i c.index.result.now (omega arith) here) in
     let within = c.in_ok-places.ensures.marks.within i c.index.result.now here in
     record {
       are = sections_wider c.index.result.now (length c.args.made.now) c.begin.new.sections.items within begun.are;

@@ -9,7 +9,7 @@ use Rattle.ae_lower.proofs.stages.reducing.Goals as goal
 pub of_shape-requires : goal.of_shape-requires
 of_shape-requires c =
     let raw : StTree = st_tree c.args.raw.now in
-    let one : IsOneOf (st_tree c.in_ok-element.element) raw = subst (λ (t : StTree). IsOneOf t raw) (sym c.in_ok-element.ensures.ok) c.element_of.ensures in
+    let one : IsOneOf (st_tree c.in_ok-element.element) raw = subst (λ (t : StTree). IsOneOf t raw) (sym c.in_ok-element.ensures) c.element_of.ensures in
     let e : st_tree c.in_ok-element.element ≡ c.requires.one.0 = one_only _ _ raw one c.requires.one.1.0 in
     record {
       op = c.requires.op;

@@ -8,7 +8,7 @@ use Rattle.ae_lower.proofs.stages.scanning.Goals as goal
 pub of_shape-requires : goal.of_shape-requires
 of_shape-requires c =
     let t : StTree = c.requires.arranged.0 in
-    let e : st_tree c.in_ok-element.element ≡ t = c.in_ok-element.ensures.ok ∙ c.elements_of.ensures c.args.slots t c.requires.arranged.1.0 in
+    let e : st_tree c.in_ok-element.element ≡ t = c.in_ok-element.ensures ∙ c.elements_of.ensures c.args.slots t c.requires.arranged.1.0 in
     record {
       op = c.requires.op;
       slots_some = c.requires.spread.some_slots;
@@ -21,10 +21,10 @@ of_shape-requires c =
       room = rw e c.requires.arranged.1.1;
     }
 
-pub returns-clause-is : goal.returns-clause-is
-returns-clause-is c =
+pub returns : goal.returns
+returns c =
     let t : StTree = c.requires.arranged.0 in
-    let e : st_tree c.in_ok-element.element ≡ t = c.in_ok-element.ensures.ok ∙ c.elements_of.ensures c.args.slots t c.requires.arranged.1.0 in
+    let e : st_tree c.in_ok-element.element ≡ t = c.in_ok-element.ensures ∙ c.elements_of.ensures c.args.slots t c.requires.arranged.1.0 in
     let P : FoldShape → Type 0 =
     λ r. (r.op ≡ c.args.op) × (r.slots ≡ c.args.slots) × (r.lanes ≡ c.args.lanes) × (r.period ≡ c.args.budget) × IsArranged c.args.slots c.args.lanes (st_tree r.element) (st_tree c.args.out.now) in
-    subst P (sym c.of_shape.ensures) (refl, refl, refl, refl, rw e c.requires.arranged.1.0)
+    record { is = subst P (sym c.of_shape.ensures) (refl, refl, refl, refl, rw e c.requires.arranged.1.0) }
