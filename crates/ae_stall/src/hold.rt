@@ -3,7 +3,8 @@
 ghost use Rattle.std.specs.Prelude.{◌≡◌, ℕ, ◌<◌, ◌≤◌, ◌+◌, ◌++◌, ◌∷◌, ◌≢◌, [], OnOk, IfOk, List, Some, length, slice_get, slice_set};
 ghost use Rattle.ae_netlist.specs.declared.cell.SizedCell.{SizedCell};
 ghost use Rattle.ae_netlist.specs.Circuit.{IsAllowed};
-ghost use Rattle.ae_stall.specs.Copies.{IsPartlyHeld, MayBeHeld, reset_cell};
+ghost use Rattle.ae_netlist.specs.Counts.{AreWhole};
+ghost use Rattle.ae_stall.specs.Copies.{HasLogicAround, IsPartlyHeld, MayBeHeld, reset_cell};
 ghost use Rattle.ae_stall.specs.Held.{IsHeld};
 ghost use Rattle.ae_stall.specs.Images.{memory_gate, net, placed, placed_net, register_gate};
 
@@ -128,14 +129,16 @@ pub fn hold_all(nl: &Netlist, how: HoldBy, new: &mut Netlist) -> Result<(), Allo
 }
 
 /// Holds the copy of a netlist: its registers and memories stay as they are in clocks in which the net is 0, and all other
-/// cells stay as they are. There is room for a gate a register and a memory, and the error comes only for want of memory.
+/// cells stay as they are. Memories stay whole. There is room for a gate a register and a memory, and the error comes only
+/// for want of memory.
 pub fn hold_copy(nl: &Netlist, how: HoldBy, new: &mut Netlist) -> Result<(), AllocError>
     requires reset { slice_get nl.now.cells 0 ≡ Some reset_cell }
     requires most { length nl.now.cells ≤ 1000000 }
     requires few { how.more ≤ 1000000 }
     requires may { MayBeHeld how.more how.by.0 nl.now.cells new.old.cells }
     requires room { length new.old.cells + length nl.now.cells ≤ new.old.limit + 1 }
-    ensures { OnOk result (IsHeld how.more how.by.0 nl.now new.old new.new) }
+    ensures held { OnOk result (IsHeld how.more how.by.0 nl.now new.old new.new) }
+    ensures whole { OnOk result (HasLogicAround how.more nl.now.cells new.old.cells → AreWhole nl.now.cells → AreWhole new.new.cells) }
 {
     nl.formed();
     hold_all(nl, how, new)?;

@@ -1,5 +1,5 @@
 -- A marked circuit with a control around it stands between two channels.
-use Rattle.std.proofs.Common.{ℕ, zero, suc, ◌≡◌, ◌+◌, ◌*◌, ◌/◌, ◌%◌, ◌-◌, ◌<◌, ◌≤◌, Bool, true, false, List, [], ◌∷◌, length, sum_by, Some, slice_get, drop, get_or, arith, refl, sym, ap, ◌∙◌, subst}
+use Rattle.std.proofs.Common.{ℕ, zero, suc, ◌≡◌, ◌+◌, ◌*◌, ◌/◌, ◌%◌, ◌-◌, ◌<◌, ◌≤◌, Bool, true, false, List, [], ◌∷◌, length, map, sum_by, Some, slice_get, drop, get_or, arith, refl, sym, ap, ◌∙◌, subst}
 use Rattle.std.specs.Prelude.{◌||◌, ◌==◌, nat_lt, if◌then◌else◌}
 use Rattle.std.proofs.lemmas.List.{length-map}
 use Rattle.std.proofs.Math.Nat.{div-le_self}
@@ -10,13 +10,14 @@ use Rattle.ae_sttype.specs.Moves.{columns_of}
 use Rattle.ae_netlist.specs.declared.cell.Outlet.{Outlet}
 use Rattle.ae_netlist.specs.declared.cell.SizedCell.{SizedCell}
 use Rattle.ae_netlist.specs.Circuit.{Circuit, HaveNets, IsFormed, IsNet}
+use Rattle.ae_netlist.specs.Counts.{is_input}
 use Rattle.ae_netlist.proofs.Growing.{extends_length}
 use Rattle.ae_netlist.specs.Runs.{Clock, HasOneRun, IsReset, IsRun, no_clock, word_at}
 use Rattle.ae_clocked.specs.Signals.{Adds, Grows}
 use Rattle.ae_clocked.proofs.Turns.{word_below}
 use Rattle.ae_rewrite.specs.Blocks.{MakesBlocks, outlet_net}
 use Rattle.ae_stall.specs.Held.{inner_clock}
-use Rattle.ae_stall.specs.Images.{placed, placed_net}
+use Rattle.ae_stall.specs.Images.{bit_input, placed, placed_net, with_inputs}
 use Rattle.ae_stream.specs.Queue.{next_a}
 use Rattle.ae_stream.specs.Streams.{Ends, Stays, Streams, bit, is_beat, is_transfer}
 use Rattle.ae_stream.specs.Control.{AreWithin, BySteps, Control, IsInside, steps_before, word_in}
@@ -28,11 +29,11 @@ use Rattle.ae_stream.specs.Progress.{GoesOn}
 use Rattle.ae_stream.specs.Wired.{AreQueued, FromEach, IsMarked, IsWired}
 use Rattle.ae_streamed.specs.declared.marking.Marks.{Marks}
 use Rattle.ae_streamed.specs.Beats.{HasMarks, IsBitOf}
-use Rattle.ae_streamed.specs.Between.{IsStream, IsWrapped, channel_ends, copied_nets, ports_of, sink_valid, source_ready, wires_of}
+use Rattle.ae_streamed.specs.Between.{IsStream, IsWrapped, channel_ends, channel_inputs, copied_nets, ports_of, sink_valid, source_ready, wires_of}
 use Rattle.ae_streamed.specs.Columns.{net_at}
 use Rattle.ae_streamed.specs.Count.{mark_cells}
 use Rattle.ae_streamed.specs.Controls.{control_of, ends_of}
-use Rattle.ae_streamed.proofs.Cells.{net_within}
+use Rattle.ae_streamed.proofs.Cells.{net_within, same_cells}
 use Rattle.ae_streamed.proofs.Phasing.{bit_of}
 
 -- ---- outputs
@@ -186,6 +187,7 @@ module _ (n marked new : Circuit) (m : Marks) (slowdown latency wait : ℕ) (inp
   is_stream = record {
     valid = wrapped.valid;
     ready = wrapped.ready;
+    input_ports = wrapped.inputs ∙ ap (with_inputs (map bit_input channel_inputs)) (same_cells is_input n.cells marked.cells grows.extends grows.inputs);
     ports = wrapped.shown.ports ∙ ap (λ o. source_ready ∷ sink_valid ∷ ports_of o) grows.outlets;
     asks = subst (λ k. IsNet new.cells k 1) (sym wrapped.shown.asks) wrapped.asks;
     stands = subst (λ k. IsNet new.cells k 1) (sym wrapped.shown.one) wrapped.stands;
@@ -195,6 +197,7 @@ module _ (n marked new : Circuit) (m : Marks) (slowdown latency wait : ℕ) (inp
     no_paths = λ a start ra reset b rb reset_b. subst (λ e. HasNoPaths e a b start) own_is (no_paths_own a b start ra reset rb reset_b);
     few = omega (arith, wrapped.few, adds.cells, ap length grows.outlets);
     muls = omega (arith, wrapped.muls, adds.muls);
+    whole = λ w. wrapped.whole (adds.whole w);
   }
 
 -- a circuit and the same with another limit
@@ -202,6 +205,7 @@ pub same_stream : (n new : Circuit) (slowdown latency limit : ℕ) (inputs outpu
 same_stream n new slowdown latency limit inputs outputs h = record {
   valid = h.valid;
   ready = h.ready;
+  input_ports = h.input_ports;
   ports = h.ports;
   asks = h.asks;
   stands = h.stands;
@@ -211,6 +215,7 @@ same_stream n new slowdown latency limit inputs outputs h = record {
   no_paths = h.no_paths;
   few = h.few;
   muls = h.muls;
+  whole = h.whole;
 }
 
 -- no more blocks than the latency has, and one

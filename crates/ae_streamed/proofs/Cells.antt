@@ -1,18 +1,19 @@
 -- Cells that are added one behind the other, and registers that are connected one after another.
-use Rattle.std.proofs.Common.{ℕ, zero, suc, ◌≡◌, ◌+◌, ◌-◌, ◌*◌, ◌<◌, ◌≤◌, inl, inr, List, [], ◌∷◌, ◌++◌, length, length-append, length-set, map, take, set, cond, Some, slice_get, get_or, arith, refl, sym, ap, ◌∙◌}
-use Rattle.std.proofs.lemmas.Bool.{cases_eq}
-use Rattle.std.proofs.lemmas.List.Sums.{sum_by-append, sum_by-cons}
-use Rattle.std.proofs.lemmas.Option.{slice_get_within}
+use Rattle.std.proofs.Common.{ℕ, zero, suc, ◌≡◌, ◌+◌, ◌-◌, ◌*◌, ◌<◌, ◌≤◌, ◌⊎◌, inl, inr, Bool, false, List, [], ◌∷◌, ◌++◌, length, length-append, length-set, map, take, set, cond, None, Some, slice_get, get_or, arith, refl, sym, ap, ◌∙◌, subst}
+use Rattle.std.proofs.lemmas.Bool.{cases_eq, cases_lt}
+use Rattle.std.proofs.lemmas.List.Sums.{length-filter, sum_by-cons}
+use Rattle.std.proofs.lemmas.Option.{none-some, same_Some, slice_get_within}
 use Rattle.ae_word.specs.declared.op.WordOp.TheVariants.{Mux}
 use Rattle.ae_netlist.specs.declared.cell.NetId.{NetId}
-use Rattle.ae_netlist.specs.declared.cell.Cell.TheVariants.{Reg}
+use Rattle.ae_netlist.specs.declared.cell.Cell.{Cell}
+use Rattle.ae_netlist.specs.declared.cell.Cell.TheVariants.{Const, Input, Mem, Op, Peek, Reg}
 use Rattle.ae_netlist.specs.declared.cell.SizedCell.{SizedCell}
-use Rattle.ae_netlist.specs.Circuit.{Circuit, IsNet, IsOperation, IsRegister, new_register, operand, width_of}
-use Rattle.ae_netlist.specs.Counts.{count_of, is_mul}
+use Rattle.ae_netlist.specs.Circuit.{Circuit, Extends, IsNet, IsOperation, IsRegister, new_register, operand, width_of}
+use Rattle.ae_netlist.specs.Counts.{cells_of, count_of, is_input, is_mul}
 use Rattle.ae_netlist.proofs.Gets.{get_left, get_pushed, get_set_other, get_set_same}
 use Rattle.ae_netlist.proofs.Growing.{net_later, net_width, width_is, extends_append, extends_length, extends_refl, extends_trans, keeps_connected}
-use Rattle.ae_clocked.proofs.Adding.{count_connected}
-use Rattle.ae_streamed.specs.Cells.{AreChoices, AreConnected, CanConnect, HasRegisters, IsLonger, StandsBefore, choice, taking}
+use Rattle.ae_stall.specs.Copies.{IsLogic}
+use Rattle.ae_streamed.specs.Cells.{AddsControl, AreChoices, AreConnected, CanConnect, HasRegisters, IsControlCell, IsLonger, StandsBefore, choice, taking}
 
 -- ---- lists
 
@@ -78,27 +79,67 @@ choice_allowed cells width gates k nets h found =
 
 -- ---- longer netlists
 
-plain_append : (cells more : List SizedCell) → count_of is_mul more ≡ 0 → count_of is_mul (cells ++ more) ≡ count_of is_mul cells
-plain_append cells more none =
-    let e : count_of is_mul (cells ++ more) ≡ count_of is_mul cells + count_of is_mul more = sum_by-append (λ (s : SizedCell). cond (is_mul s.cell) 1 0) cells more in
-    omega (arith, e, none)
+pub there : {X : Type 0} (xs : List X) (n : ℕ) → n < length xs → (x : X) × (slice_get xs n ≡ Some x)
+there [] n l = absurd (omega arith)
+there (x ∷ xs) zero l = (x, refl)
+there (x ∷ xs) (suc n) l = there xs n (omega arith)
 
--- choices multiply nothing
-pub choices_plain : (width : ℕ) (gates : List (List NetId)) → count_of is_mul (map (choice width) gates) ≡ 0
-choices_plain width [] = refl
-choices_plain width (x ∷ gates) =
-    let e : count_of is_mul (map (choice width) (x ∷ gates)) ≡ 0 + count_of is_mul (map (choice width) gates) =
-    sum_by-cons (λ (s : SizedCell). cond (is_mul s.cell) 1 0) (choice width x) (map (choice width) gates) in
-    omega (arith, e, choices_plain width gates)
+-- only cells of a control
+abbrev pub AreControlCells : List SizedCell → Type 0
+AreControlCells [] = Unit {0}
+AreControlCells (x ∷ xs) = IsControlCell x.cell × AreControlCells xs
+
+pub choices_plain : (width : ℕ) (gates : List (List NetId)) → AreControlCells (map (choice width) gates)
+choices_plain width [] = tt
+choices_plain width (x ∷ gates) = (refl, choices_plain width gates)
+
+control_at : (more : List SizedCell) → AreControlCells more → (n : ℕ) (sized : SizedCell) → slice_get more n ≡ Some sized → IsControlCell sized.cell
+control_at [] h n sized found = cc
+control_at (x ∷ more) h zero sized found = subst (λ (y : SizedCell). IsControlCell y.cell) (same_Some x sized found) h.0
+control_at (x ∷ more) h (suc n) sized found = control_at more h.1 n sized found
+
+control_behind : (cells more : List SizedCell) → AreControlCells more → (n : ℕ) (sized : SizedCell) → length cells ≤ n → slice_get (cells ++ more) n ≡ Some sized → IsControlCell sized.cell
+control_behind [] more h n sized l found = control_at more h n sized found
+control_behind (x ∷ cells) more h zero sized l found = absurd (omega (arith, l))
+control_behind (x ∷ cells) more h (suc n) sized l found = control_behind cells more h n sized (omega (arith, l)) found
 
 pub longer_refl : (a : Circuit) → IsLonger a a
-longer_refl a = record { extends = extends_refl a.cells; limit = refl; outlets = refl; muls = refl }
+longer_refl a = record { extends = extends_refl a.cells; added = control_none; limit = refl; outlets = refl }
+  where
+    control_none : AddsControl a.cells a.cells
+    control_none n sized l found = (let m : n < length a.cells = slice_get_within a.cells n sized found in absurd (omega (arith, l, m)))
 
 pub longer_trans : {a b c : Circuit} → IsLonger a b → IsLonger b c → IsLonger a c
-longer_trans p q = record { extends = extends_trans p.extends q.extends; limit = q.limit ∙ p.limit; outlets = q.outlets ∙ p.outlets; muls = q.muls ∙ p.muls }
+longer_trans {a} {b} {c} p q = record { extends = extends_trans p.extends q.extends; added = both; limit = q.limit ∙ p.limit; outlets = q.outlets ∙ p.outlets }
+  where
+    both : AddsControl a.cells c.cells
+    both n sized l found = elim (cases_lt n (length b.cells)) [
+      | inl low ↦
+          let x = there b.cells n low in
+          p.added n sized l (x.1 ∙ (sym (q.extends.keeps n x.0 x.1) ∙ found))
+      | inr high ↦ q.added n sized high found
+    ]
 
-pub longer_by : (a b : Circuit) (more : List SizedCell) → b ≡ record a { cells = a.cells ++ more } → count_of is_mul more ≡ 0 → IsLonger a b
-longer_by a b more e none = rw e (record { extends = extends_append a.cells more; limit = refl; outlets = refl; muls = plain_append a.cells more none })
+pub longer_by : (a b : Circuit) (more : List SizedCell) → b ≡ record a { cells = a.cells ++ more } → AreControlCells more → IsLonger a b
+longer_by a b more e control = rw e (record { extends = extends_append a.cells more; added = control_behind a.cells more control; limit = refl; outlets = refl })
+
+-- a register behind the old cells is connected
+pub longer_set : (a b c : Circuit) (r width : ℕ) (next : NetId) → IsLonger a b → IsRegister b.cells r width → length a.cells ≤ r → c ≡ record b { cells = set b.cells r (taking width next) } → IsLonger a c
+longer_set a b c r width next h reg behind e = rw e (record {
+  extends = record {
+    keeps = λ n sized found.
+        (let l : n < length a.cells = slice_get_within a.cells n sized found in
+        get_set_other b.cells r n (taking width next) (λ z. omega (arith, z, l, behind)) ∙ h.extends.keeps n sized found);
+  };
+  added = λ n sized l found. elim (cases_eq n r) [
+    | inl same ↦
+        let is : taking width next ≡ sized = same_Some (taking width next) sized (sym (get_set_same b.cells r (taking width next) _ reg.found) ∙ (ap (slice_get (set b.cells r (taking width next))) (sym same) ∙ found)) in
+        subst (λ (y : SizedCell). IsControlCell y.cell) is tt
+    | inr apart ↦ h.added n sized l (sym (get_set_other b.cells r n (taking width next) apart) ∙ found)
+  ];
+  limit = h.limit;
+  outlets = h.outlets;
+})
 
 -- ---- registers
 
@@ -111,7 +152,7 @@ registers_more a b new k h e =
     let last : slice_get (b.cells ++ sized ∷ []) (length a.cells + k) ≡ Some (new_register (length a.cells + k) 1) =
     ap (slice_get (b.cells ++ sized ∷ [])) (sym h.long) ∙ (get_pushed b.cells sized ∙ ap (λ n. Some (new_register n 1)) h.long) in
     rw e (record {
-      longer = longer_trans h.longer (longer_by b _ (sized ∷ []) refl refl);
+      longer = longer_trans h.longer (longer_by b _ (sized ∷ []) refl (tt, tt));
       long = omega (arith, length-append b.cells (sized ∷ []), h.long);
       each = λ i l. elim (cases_eq i k) [
         | inl same ↦ ap (λ n. slice_get (b.cells ++ sized ∷ []) (length a.cells + n)) same ∙ (last ∙ ap (λ n. Some (new_register (length a.cells + n) 1)) (sym same))
@@ -122,7 +163,7 @@ registers_more a b new k h e =
 -- ---- connected registers
 
 pub connected_none : (a : Circuit) (first next : ℕ) → AreConnected a a first next 0
-connected_none a first next = record { each = λ k l. absurd (omega arith); others = λ n sized o h. h; nets = λ n w h. h; long = refl; limit = refl; outlets = refl; muls = refl }
+connected_none a first next = record { each = λ k l. absurd (omega arith); others = λ n sized o h. h; nets = λ n w h. h; long = refl; limit = refl; outlets = refl }
 
 -- the next one is still as it was
 pub still_register : (a b : Circuit) (first count next k : ℕ) → CanConnect a.cells first count next → AreConnected a b first next k → k < count → IsRegister b.cells (first + k) 1
@@ -147,8 +188,88 @@ connected_more a b new first count next k w can h l is e =
       long = length-set b.cells (first + k) sized ∙ h.long;
       limit = h.limit;
       outlets = h.outlets;
-      muls = count_connected is_mul b.cells (first + k) 1 (record { 0 = next + 2 * k }) reg refl ∙ h.muls;
     })
+
+-- registers behind the old cells are connected
+pub longer_connected : (a b c : Circuit) (first next count : ℕ) → IsLonger a b → AreConnected b c first next count → length a.cells ≤ first → IsLonger a c
+longer_connected a b c first next count h connected behind = record {
+  extends = record {
+    keeps = λ n sized found.
+        (let l : n < length a.cells = slice_get_within a.cells n sized found in
+        connected.others n sized (inl (omega (arith, l, behind))) (h.extends.keeps n sized found));
+  };
+  added = λ n sized l found. elim (cases_lt n first) [
+    | inl low ↦ same n sized l found (inl low)
+    | inr high ↦ elim (cases_lt n (first + count)) [
+      | inl low ↦
+          let e : first + (n - first) ≡ n = omega (arith, high) in
+          let is : taking 1 (record { 0 = next + 2 * (n - first) }) ≡ sized = same_Some _ sized (sym (connected.each (n - first) (omega (arith, high, low))) ∙ (ap (slice_get c.cells) e ∙ found)) in
+          subst (λ (y : SizedCell). IsControlCell y.cell) is tt
+      | inr far ↦ same n sized l found (inr far)
+    ]
+  ];
+  limit = connected.limit ∙ h.limit;
+  outlets = connected.outlets ∙ h.outlets;
+}
+  where
+    same : (n : ℕ) (sized : SizedCell) → length a.cells ≤ n → slice_get c.cells n ≡ Some sized → (n < first) ⊎ (first + count ≤ n) → IsControlCell sized.cell
+    same n sized l found o =
+        let m : n < length c.cells = slice_get_within c.cells n sized found in
+        let x = there b.cells n (omega (arith, m, connected.long)) in
+        h.added n sized l (x.1 ∙ (sym (connected.others n x.0 o x.1) ∙ found))
+
+-- ---- cells of a kind
+
+abbrev kind_test : (Cell → Bool) → SizedCell → Bool
+kind_test kind sized = kind sized.cell
+
+none_of : (kind : Cell → Bool) (cells : List SizedCell) → ((n : ℕ) (sized : SizedCell) → slice_get cells n ≡ Some sized → kind sized.cell ≡ false) → cells_of kind cells ≡ []
+none_of kind [] h = refl
+none_of kind (x ∷ cells) h = ap (λ b. cond b (x ∷ cells_of kind cells) (cells_of kind cells)) (h 0 x refl) ∙ none_of kind cells (λ n sized found. h (suc n) sized found)
+
+-- what is behind the old cells is none of a kind
+pub same_kind : (kind : Cell → Bool) (old new : List SizedCell) → Extends old new → ((n : ℕ) (sized : SizedCell) → length old ≤ n → slice_get new n ≡ Some sized → kind sized.cell ≡ false) → cells_of kind new ≡ cells_of kind old
+same_kind kind [] new e none = none_of kind new (λ n sized found. none n sized (omega arith) found)
+same_kind kind (x ∷ old) [] e none = (let f : None ≡ Some x = e.keeps 0 x refl in absurd (none-some x f))
+same_kind kind (x ∷ old) (y ∷ new) e none =
+    let same : y ≡ x = same_Some y x (e.keeps 0 x refl) in
+    let rest : cells_of kind new ≡ cells_of kind old = same_kind kind old new (record { keeps = λ n sized found. e.keeps (suc n) sized found }) (λ n sized l found. none (suc n) sized (omega (arith, l)) found) in
+    ap (λ (l : List SizedCell). cond (kind y.cell) (y ∷ l) l) rest ∙ ap (λ (z : SizedCell). cond (kind z.cell) (z ∷ cells_of kind old) (cells_of kind old)) same
+
+pub same_count : (kind : Cell → Bool) (old new : List SizedCell) → cells_of kind new ≡ cells_of kind old → count_of kind new ≡ count_of kind old
+same_count kind old new e = sym (length-filter (kind_test kind) new) ∙ (ap (λ (l : List SizedCell). length l) e ∙ length-filter (kind_test kind) old)
+
+no_length : {X : Type 0} (xs : List X) → length xs ≡ 0 → xs ≡ []
+no_length [] e = refl
+no_length (x ∷ xs) e = absurd (omega (arith, e))
+
+-- one of a kind, or none
+abbrev counted : (Cell → Bool) → SizedCell → ℕ
+counted kind sized = cond (kind sized.cell) 1 0
+
+-- as many as before are the same
+pub same_cells : (kind : Cell → Bool) (old new : List SizedCell) → Extends old new → count_of kind new ≡ count_of kind old → cells_of kind new ≡ cells_of kind old
+same_cells kind [] new e count = no_length (cells_of kind new) (length-filter (kind_test kind) new ∙ count)
+same_cells kind (x ∷ old) [] e count = (let f : None ≡ Some x = e.keeps 0 x refl in absurd (none-some x f))
+same_cells kind (x ∷ old) (y ∷ new) e count =
+    let same : y ≡ x = same_Some y x (e.keeps 0 x refl) in
+    let a : count_of kind (y ∷ new) ≡ counted kind y + count_of kind new = sum_by-cons (counted kind) y new in
+    let b : count_of kind (x ∷ old) ≡ counted kind x + count_of kind old = sum_by-cons (counted kind) x old in
+    let rest : cells_of kind new ≡ cells_of kind old = same_cells kind old new (record { keeps = λ n sized found. e.keeps (suc n) sized found }) (omega (arith, count, a, b, ap (counted kind) same)) in
+    ap (λ (l : List SizedCell). cond (kind y.cell) (y ∷ l) l) rest ∙ ap (λ (z : SizedCell). cond (kind z.cell) (z ∷ cells_of kind old) (cells_of kind old)) same
+
+pub no_input : (cell : Cell) → IsControlCell cell → is_input cell ≡ false
+no_input (Input port) h = absurd h
+no_input _ h = refl
+
+pub no_mul : (cell : Cell) → IsControlCell cell → is_mul cell ≡ false
+no_mul (Op op args) h = h
+no_mul _ h = refl
+
+pub is_logic : (cell : Cell) → IsControlCell cell → IsLogic cell
+is_logic (Mem depth at next enable) h = absurd h
+is_logic (Peek mem at) h = absurd h
+is_logic _ h = tt
 
 -- ---- what is there
 

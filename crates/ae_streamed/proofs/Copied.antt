@@ -1,9 +1,9 @@
 -- A control behind a copy, the outputs, and the copy held.
-use Rattle.std.proofs.Common.{ℕ, zero, suc, ◌≡◌, ◌+◌, ◌*◌, ◌<◌, ◌≤◌, inl, inr, List, [], ◌∷◌, ◌++◌, length, length-append, take, Some, slice_get, arith, refl, sym, ap, ◌∙◌, subst}
+use Rattle.std.proofs.Common.{ℕ, zero, suc, ◌≡◌, ◌+◌, ◌*◌, ◌<◌, ◌≤◌, inl, inr, List, [], ◌∷◌, ◌++◌, length, length-append, map, take, Some, slice_get, arith, refl, sym, ap, ◌∙◌, subst}
 use Rattle.std.proofs.Math.Seq.{take-length}
 use Rattle.std.specs.Prelude.{◌⊎◌, ◌≢◌}
-use Rattle.std.proofs.lemmas.Bool.{cases_eq}
-use Rattle.std.proofs.lemmas.Option.{slice_get_within}
+use Rattle.std.proofs.lemmas.Bool.{cases_eq, cases_lt}
+use Rattle.std.proofs.lemmas.Option.{same_Some, slice_get_within}
 use Rattle.ae_netlist.specs.declared.cell.NetId.{NetId}
 use Rattle.ae_netlist.specs.declared.cell.Outlet.{Outlet}
 use Rattle.ae_netlist.specs.declared.cell.Port.{Port}
@@ -11,21 +11,22 @@ use Rattle.ae_netlist.specs.declared.cell.Cell.{Cell}
 use Rattle.ae_netlist.specs.declared.cell.Cell.TheVariants.{Input, Const, Op, Reg, Mem, Peek}
 use Rattle.ae_netlist.specs.declared.cell.SizedCell.{SizedCell}
 use Rattle.ae_netlist.specs.Circuit.{Circuit, Extends, HaveNets, IsNet, IsPlain, width_of}
-use Rattle.ae_netlist.specs.Counts.{count_of, is_mul}
+use Rattle.ae_netlist.specs.Counts.{AreWhole, cells_of, is_input, is_mul}
 use Rattle.ae_netlist.proofs.Growing.{extends_length, net_later}
 use Rattle.ae_rewrite.specs.Blocks.{outlet_net}
-use Rattle.ae_stall.specs.Copies.{IsCopied, MayBeHeld, reset_cell}
+use Rattle.ae_stall.specs.Copies.{HasKinds, HasLogicAround, IsCopied, IsLogic, MayBeHeld, reset_cell}
 use Rattle.ae_stall.specs.Held.{IsHeld}
-use Rattle.ae_stall.specs.Images.{fresh, placed, placed_net}
+use Rattle.ae_stall.specs.Images.{bit_input, fresh, placed, placed_net}
+use Rattle.ae_stall.proofs.Whole.{around_copied}
 use Rattle.ae_streamed.specs.declared.driver.Controlled.{Controlled}
 use Rattle.ae_streamed.specs.declared.driver.Wires.{Wires}
 use Rattle.ae_streamed.specs.declared.marking.Marks.{Marks}
 use Rattle.ae_streamed.specs.Between.{AreMarkNets, AreShownBy, HasDriver, IsWrapped, channel_inputs, copied_nets, ports_of, sink_ready, sink_valid, source_ready, source_valid, wires_of}
-use Rattle.ae_streamed.specs.Cells.{IsLonger, KeepsFrom}
+use Rattle.ae_streamed.specs.Cells.{AddsControl, IsLonger, KeepsFrom}
 use Rattle.ae_streamed.specs.Columns.{AreColumns}
 use Rattle.ae_streamed.specs.Count.{control_cells}
 use Rattle.ae_streamed.specs.Controls.{AreWires, HasControlNets, IsControl, net}
-use Rattle.ae_streamed.proofs.Cells.{longer_trans, net_within, next_first}
+use Rattle.ae_streamed.proofs.Cells.{is_logic, longer_trans, net_within, next_first, no_input, no_mul, same_count, same_kind, there}
 use Rattle.ae_streamed.proofs.Within.{of_mapped}
 use Rattle.ae_streamed.proofs.Queueing.{own_width}
 
@@ -72,8 +73,8 @@ has_driver old one two new m w blocks wait at made outlets c is first control ne
     let both : IsLonger old two = longer_trans first then_two in
     record {
       extends = subst (Extends old.cells) (sym cells) both.extends;
+      added = subst (AddsControl old.cells) (sym cells) both.added;
       limit = limit ∙ both.limit;
-      muls = ap (count_of is_mul) cells ∙ both.muls;
       control = subst (λ v. IsControl (length old.cells) new.cells v blocks wait c) is
           (subst (λ v. IsControl (length old.cells) v w blocks wait c) (sym cells) (control_kept (λ n sized l f. then_two.extends.keeps n sized f) control));
       nets = subst (λ v. HasControlNets (length old.cells) v c) (sym cells) (nets_later then_two.extends nets);
@@ -191,9 +192,23 @@ may_be_held old copied driven m blocks wait made outlets c reset h d = record {
 net_kept : {from : ℕ} {a b : List SizedCell} {n width : ℕ} → KeepsFrom from a b → from ≤ n → IsNet a n width → IsNet b n width
 net_kept {n = n} keeps low h = record { sized = h.sized; found = keeps n h.sized low h.found; plain = h.plain; wide = h.wide }
 
+-- beside the copy stand its inputs and the control
+pub driver_around : (marked copied driven : List SizedCell) → IsCopied channel_inputs marked copied (length marked) → Extends copied driven → AddsControl copied driven → HasLogicAround 2 marked driven
+driver_around marked copied driven h extends added = λ m sized apart found. elim (cases_lt m (length copied)) [
+  | inl low ↦
+      let x = there copied m low in
+      let same : x.0 ≡ sized = same_Some x.0 sized (sym (extends.keeps m x.0 x.1) ∙ found) in
+      subst (λ (y : SizedCell). IsLogic y.cell) same (around_copied channel_inputs marked copied (length marked) refl h m x.0 apart x.1)
+  | inr high ↦ is_logic sized.cell (added m sized high found)
+]
+
 pub is_wrapped : (marked copied driven new : Circuit) (m : Marks) (blocks wait : ℕ) (made : List NetId) (c : Controlled) → made ≡ copied_nets marked.outlets → IsCopied channel_inputs marked.cells copied.cells (length marked.cells)
-    → HasDriver copied driven m blocks wait made marked.outlets c → IsHeld 2 c.enable.0 marked driven new → length driven.cells ≤ length copied.cells + control_cells blocks + 4 * length marked.outlets → IsWrapped marked new m blocks wait
-is_wrapped marked copied driven new m blocks wait made c is h d held few =
+    → HasDriver copied driven m blocks wait made marked.outlets c → IsHeld 2 c.enable.0 marked driven new → length driven.cells ≤ length copied.cells + control_cells blocks + 4 * length marked.outlets
+    → (HasLogicAround 2 marked.cells driven.cells → AreWhole marked.cells → AreWhole new.cells) → IsWrapped marked new m blocks wait
+is_wrapped marked copied driven new m blocks wait made c is h d held few whole =
+    let kinds : HasKinds (map bit_input channel_inputs) marked.cells copied.cells = subst (λ (some : List SizedCell). HasKinds (map bit_input channel_inputs) some copied.cells) (take-length marked.cells) h.kinds in
+    let inputs : cells_of is_input driven.cells ≡ cells_of is_input copied.cells = same_kind is_input copied.cells driven.cells d.extends (λ n sized l f. no_input sized.cell (d.added n sized l f)) in
+    let muls : cells_of is_mul driven.cells ≡ cells_of is_mul copied.cells = same_kind is_mul copied.cells driven.cells d.extends (λ n sized l f. no_mul sized.cell (d.added n sized l f)) in
     let size : length copied.cells ≡ length marked.cells + 2 = h.long in
     let keeps : KeepsFrom (length marked.cells + 2) driven.cells new.cells = λ n sized l f. held.keeps n sized (inr l) f in
     let later : KeepsFrom d.at driven.cells new.cells = λ n sized l f. held.keeps n sized (inr (omega (arith, size, d.behind, l))) f in
@@ -208,7 +223,9 @@ is_wrapped marked copied driven new m blocks wait made c is h d held few =
       asks = net_kept keeps (omega (arith, size, d.nets.asks_behind)) d.nets.asks;
       stands = net_kept keeps (omega (arith, size, d.nets.one_behind)) d.nets.one;
       few = omega (arith, size, few, held.small);
-      muls = held.kinds.muls ∙ (d.muls ∙ (h.kinds.muls ∙ ap (count_of is_mul) (take-length marked.cells)));
+      muls = held.kinds.muls ∙ (same_count is_mul copied.cells driven.cells muls ∙ kinds.muls);
+      inputs = held.kinds.inputs ∙ (inputs ∙ kinds.inputs);
+      whole = whole (driver_around marked.cells copied.cells driven.cells h d.extends d.added);
       at = d.at;
       columns = columns_kept later (subst (AreColumns d.at driven.cells c) is d.columns);
       shown = subst (AreShownBy c d.at marked.outlets) (sym held.outlets) d.shown;

@@ -5,15 +5,13 @@ use Rattle.ae_netlist.specs.declared.cell.NetId.{NetId}
 use Rattle.ae_netlist.specs.declared.cell.Cell.TheVariants.{Reg}
 use Rattle.ae_netlist.specs.declared.cell.SizedCell.{SizedCell}
 use Rattle.ae_netlist.specs.Circuit.{Circuit, IsNet, IsRegister, new_register, width_of}
-use Rattle.ae_netlist.specs.Counts.{count_of, is_mul}
 use Rattle.ae_netlist.proofs.Gets.{get_pushed, get_set_other, get_set_same}
 use Rattle.ae_netlist.proofs.Growing.{net_later, net_width, width_is}
-use Rattle.ae_clocked.proofs.Adding.{count_connected}
 use Rattle.ae_streamed.specs.declared.driver.Controlled.{Controlled}
 use Rattle.ae_streamed.specs.Cells.{AreChoices, IsLonger, choice, taking}
 use Rattle.ae_streamed.specs.Controls.{net, row}
 use Rattle.ae_streamed.specs.Columns.{HasColumn}
-use Rattle.ae_streamed.proofs.Cells.{get_behind, longer_by}
+use Rattle.ae_streamed.proofs.Cells.{get_behind, longer_by, longer_set, longer_trans}
 use Rattle.ae_streamed.proofs.Standing.{choice_net, register_net}
 use Rattle.ae_streamed.proofs.Tables.{fit}
 use Rattle.ae_streamed.proofs.Tables.Fit.{before, none}
@@ -34,10 +32,10 @@ module _ (s0 s1 s2 : Circuit) (c : Controlled) (made : NetId) (w at : ℕ) (is :
   l2 = rw e2 (omega (arith, length-append s1.cells (new_register (length s1.cells) w ∷ []), l1))
 
   longer1 : IsLonger s0 s1
-  longer1 = longer_by s0 s1 _ e1 refl
+  longer1 = longer_by s0 s1 _ e1 (tt, tt)
 
   longer2 : IsLonger s1 s2
-  longer2 = longer_by s1 s2 _ e2 refl
+  longer2 = longer_by s1 s2 _ e2 (tt, tt)
 
   first1 : slice_get s1.cells at ≡ Some (taking w (net at))
   first1 = rw (e1, is) (get_pushed s0.cells (new_register (length s0.cells) w))
@@ -58,7 +56,7 @@ module _ (s0 s1 s2 : Circuit) (c : Controlled) (made : NetId) (w at : ℕ) (is :
 
   module _ (s3 : Circuit) (e3 : s3 ≡ record s2 { cells = s2.cells ++ map (choice w) (row c.two.0 (at + 1) made.0 ∷ row c.moves.0 (at + 2) at ∷ []) }) where
     longer3 : IsLonger s2 s3
-    longer3 = longer_by s2 s3 _ e3 refl
+    longer3 = longer_by s2 s3 _ e3 (refl, (refl, tt))
 
     first3 : slice_get s3.cells at ≡ Some (taking w (net at))
     first3 = longer3.extends.keeps at _ first2
@@ -129,15 +127,7 @@ module _ (s0 s1 s2 : Circuit) (c : Controlled) (made : NetId) (w at : ℕ) (is :
             ∙ rw e3 (omega (arith, l2, length-append s2.cells (map (choice w) (row c.two.0 (at + 1) made.0 ∷ row c.moves.0 (at + 2) at ∷ [])))))))
 
         pub column_longer : IsLonger s0 s5
-        column_longer = record {
-          extends = record {
-            keeps = λ n sized found.
-                let l : n < length s0.cells = slice_get_within s0.cells n sized found in
-                other5 n sized (λ z. omega arith) (other4 n sized (λ z. omega (arith, is)) (longer3.extends.keeps n sized (longer2.extends.keeps n sized (longer1.extends.keeps n sized found))));
-          };
-          limit = ap (λ (v : Circuit). v.limit) e5 ∙ (ap (λ (v : Circuit). v.limit) e4 ∙ (longer3.limit ∙ (longer2.limit ∙ longer1.limit)));
-          outlets = ap (λ (v : Circuit). v.outlets) e5 ∙ (ap (λ (v : Circuit). v.outlets) e4 ∙ (longer3.outlets ∙ (longer2.outlets ∙ longer1.outlets)));
-          muls = ap (count_of is_mul) cells5 ∙ (count_connected is_mul s4.cells (at + 1) w (net (at + 2)) (record { next = net (at + 1); found = second4 }) refl
-              ∙ (ap (count_of is_mul) cells4 ∙ (count_connected is_mul s3.cells at w (net (at + 3)) (record { next = net at; found = first3 }) refl
-              ∙ (longer3.muls ∙ (longer2.muls ∙ longer1.muls)))));
-        }
+        column_longer =
+            longer_set s0 s4 s5 (at + 1) (width_of s4.cells (at + 1)) (net (at + 2))
+            (longer_set s0 s3 s4 at (width_of s3.cells at) (net (at + 3)) (longer_trans longer1 (longer_trans longer2 longer3)) register3 (omega (arith, is)) e4)
+            register4 (omega (arith, is)) e5

@@ -12,7 +12,7 @@ use Rattle.ae_streamed.specs.declared.driver.Places.{Places}
 use Rattle.ae_streamed.specs.declared.driver.Wires.{Wires}
 use Rattle.ae_streamed.specs.Cells.{AreChoices, AreConnected, CanConnect, HasRegisters, IsLonger, choice, taking}
 use Rattle.ae_streamed.specs.Controls.{AreWires, HasAny, HasBegun, HasCells, HasControlNets, HasFlagGates, IsControl, IsFlagGate, any_net, flag_net, gate_rows, net, row}
-use Rattle.ae_streamed.proofs.Cells.{choices_plain, get_behind, get_mapped, longer_by, longer_refl, longer_trans}
+use Rattle.ae_streamed.proofs.Cells.{choices_plain, get_behind, get_mapped, longer_by, longer_connected, longer_refl, longer_trans, there}
 use Rattle.ae_streamed.proofs.Tables.{fit}
 use Rattle.ae_streamed.proofs.Tables.Fit.{before, none}
 use Rattle.ae_streamed.proofs.Wiring.{is_control}
@@ -38,9 +38,9 @@ begun old one two new blocks e f h =
     let l2 : length two.cells ≡ length old.cells + 2 = rw f (omega (arith, length-append one.cells (one_cell ∷ []), l1)) in
     let at0 : slice_get one.cells (length old.cells) ≡ Some zero_cell = rw e (get_pushed old.cells zero_cell) in
     let at1 : slice_get two.cells (length old.cells + 1) ≡ Some one_cell = rw f (ap (slice_get (one.cells ++ one_cell ∷ [])) (sym l1) ∙ get_pushed one.cells one_cell) in
-    let longer : IsLonger one two = longer_by one two (one_cell ∷ []) f refl in
+    let longer : IsLonger one two = longer_by one two (one_cell ∷ []) f (tt, tt) in
     record {
-      longer = longer_trans (longer_by old one (zero_cell ∷ []) e refl) (longer_trans longer h.longer);
+      longer = longer_trans (longer_by old one (zero_cell ∷ []) e (tt, tt)) (longer_trans longer h.longer);
       long = omega (arith, h.long, l2);
       low = h.longer.extends.keeps _ zero_cell (longer.extends.keeps _ zero_cell at0);
       high = h.longer.extends.keeps _ one_cell at1;
@@ -78,7 +78,7 @@ pub any_more : (a b : Circuit) (first k low high at y : ℕ) → HasAny a.cells 
 any_more a b first k low high at y h long e =
     let x : SizedCell = choice 1 (row (first + k) high y) in
     let one : k + 1 ≡ suc k = omega arith in
-    let longer : IsLonger a b = longer_by a b (x ∷ []) e refl in
+    let longer : IsLonger a b = longer_by a b (x ∷ []) e (refl, tt) in
     let there : slice_get b.cells (at + k) ≡ Some x = rw e (get_behind a.cells (x ∷ []) (at + k) 0 x (omega (arith, long)) refl) in
     record {
       last = sym (ap (any_net low at) one);
@@ -123,7 +123,7 @@ pub flags_more : (a b new : Circuit) (reset : NetId) (at : Places) (j : ℕ) →
 flags_more a b new reset at j h is e =
     let first : SizedCell = choice 1 (row (at.gates + 20) (flag_net at j) (at.base + 5 + j)) in
     let second : SizedCell = choice 1 (row reset.0 at.base (at.gates + 26 + 2 * j)) in
-    let longer : IsLonger b new = longer_by b new (first ∷ second ∷ []) e refl in
+    let longer : IsLonger b new = longer_by b new (first ∷ second ∷ []) e (refl, (refl, tt)) in
     let turns : slice_get new.cells (at.gates + 26 + 2 * j) ≡ Some first = rw e (get_behind b.cells (first ∷ second ∷ []) (at.gates + 26 + 2 * j) 0 first (omega (arith, h.long, is)) refl) in
     let clears : slice_get new.cells (at.gates + 27 + 2 * j) ≡ Some second = rw e (get_behind b.cells (first ∷ second ∷ []) (at.gates + 27 + 2 * j) 1 second (omega (arith, h.long, is)) refl) in
     record {
@@ -138,11 +138,6 @@ flags_more a b new reset at j h is e =
     }
 
 -- ---- all of it
-
-there : {X : Type 0} (xs : List X) (n : ℕ) → n < length xs → (x : X) × (slice_get xs n ≡ Some x)
-there [] n l = absurd (omega arith)
-there (x ∷ xs) zero l = (x, refl)
-there (x ∷ xs) (suc n) l = there xs n (omega arith)
 
 module _ (s0 s1 s2 s3 s4 : Circuit) (w : Wires) (at : Places) (busy : NetId) (begin : HasBegun s0 s1 at.blocks) (more : IsLonger s1 s2) (base : at.base ≡ length s0.cells) (here : at.gates ≡ length s2.cells)
     (behind : at.base + at.blocks + 6 ≤ at.gates) (gates : s3 ≡ record s2 { cells = s2.cells ++ map (choice 1) (gate_rows w at busy) }) where
@@ -196,16 +191,8 @@ module _ (s0 s1 s2 s3 s4 : Circuit) (w : Wires) (at : Places) (busy : NetId) (be
       }
 
       pub all_longer : IsLonger s0 s5
-      all_longer = record {
-        extends = record {
-          keeps = λ n sized found.
-              let l : n < length s0.cells = slice_get_within s0.cells n sized found in
-              connected.others n sized (inl (omega (arith, base))) (kept n sized (begin.longer.extends.keeps n sized found));
-        };
-        limit = connected.limit ∙ (flags.longer.limit ∙ (longer3.limit ∙ (more.limit ∙ begin.longer.limit)));
-        outlets = connected.outlets ∙ (flags.longer.outlets ∙ (longer3.outlets ∙ (more.outlets ∙ begin.longer.outlets)));
-        muls = connected.muls ∙ (flags.longer.muls ∙ (longer3.muls ∙ (more.muls ∙ begin.longer.muls)));
-      }
+      all_longer = longer_connected s0 s4 s5 (at.base + 2) (at.gates + 21) (at.blocks + 4)
+          (longer_trans begin.longer (longer_trans more (longer_trans longer3 flags.longer))) connected (omega (arith, base))
 
       pub controls : (wait : ℕ) → HasAny s2.cells (at.base + 5) wait at.base (at.base + 1) (at.base + at.blocks + 6) busy.0 → IsControl (length s0.cells) s5.cells w at.blocks wait (record { enable = net (at.gates + 7); asks = net (at.gates + 10); one = net (at.base + 3); two = net (at.base + 4); moves = net (at.gates + 19) })
       controls wait any = is_control s5.cells (length s0.cells) w at wait busy (omega (arith, base)) (omega (arith, base, behind)) (has_cells wait any)

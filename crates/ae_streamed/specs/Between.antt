@@ -6,14 +6,15 @@ use Rattle.ae_sttype.specs.Moves.{columns_of}
 use Rattle.ae_netlist.specs.declared.cell.NetId.{NetId}
 use Rattle.ae_netlist.specs.declared.cell.Outlet.{Outlet}
 use Rattle.ae_netlist.specs.declared.cell.Port.{Port}
-use Rattle.ae_netlist.specs.declared.cell.Port.TheVariants.{In, Out}
+use Rattle.ae_netlist.specs.declared.cell.Port.TheVariants.{Stream}
+use Rattle.ae_netlist.specs.declared.cell.Handshake.TheVariants.{SinkReady, SinkValid, SourceReady, SourceValid}
 use Rattle.ae_netlist.specs.declared.cell.SizedCell.{SizedCell}
 use Rattle.ae_netlist.specs.Circuit.{Circuit, Extends, IsNet}
-use Rattle.ae_netlist.specs.Counts.{count_of, is_mul}
+use Rattle.ae_netlist.specs.Counts.{AreWhole, cells_of, count_of, is_input, is_mul}
 use Rattle.ae_netlist.specs.Runs.{Clock, IsReset, IsRun}
 use Rattle.ae_rewrite.specs.Blocks.{MakesBlocks, outlet_net}
 use Rattle.ae_stall.specs.Held.{IsHeld}
-use Rattle.ae_stall.specs.Images.{bit_input, placed_net}
+use Rattle.ae_stall.specs.Images.{bit_input, placed_net, with_inputs}
 use Rattle.ae_stream.specs.Streams.{Ends, Stays, Streams}
 use Rattle.ae_stream.specs.Fed.{CanBeFed}
 use Rattle.ae_stream.specs.Paths.{HasNoPaths}
@@ -21,28 +22,29 @@ use Rattle.ae_stream.specs.Progress.{GoesOn}
 use Rattle.ae_streamed.specs.declared.driver.Controlled.{Controlled}
 use Rattle.ae_streamed.specs.declared.driver.Wires.{Wires}
 use Rattle.ae_streamed.specs.declared.marking.Marks.{Marks}
+use Rattle.ae_streamed.specs.Cells.{AddsControl}
 use Rattle.ae_streamed.specs.Controls.{HasControlNets, IsControl, net}
 use Rattle.ae_streamed.specs.Columns.{AreColumns}
 use Rattle.ae_streamed.specs.Count.{stream_cells, wrapped_cells}
 
 -- ---- its ports
 
--- that words stand at the source, and that those at the sink are taken: words of a lane of a number that no layout has
+-- that words stand at the source, and that those at the sink are taken
 abbrev pub source_valid : Port
-source_valid = In 0 4294967295 0
+source_valid = Stream SourceValid
 
 abbrev pub sink_ready : Port
-sink_ready = In 0 4294967295 1
+sink_ready = Stream SinkReady
 
 abbrev pub channel_inputs : List Port
 channel_inputs = source_valid ∷ sink_ready ∷ []
 
--- that the source is asked, and that words stand at the sink, in the same way
+-- that the source is asked, and that words stand at the sink
 abbrev pub source_ready : Port
-source_ready = Out 0 4294967295 0
+source_ready = Stream SourceReady
 
 abbrev pub sink_valid : Port
-sink_valid = Out 0 4294967295 1
+sink_valid = Stream SinkValid
 
 abbrev pub ports_of : List Outlet → List Port
 ports_of outlets = map (λ (o : Outlet). o.port) outlets
@@ -85,14 +87,18 @@ pub record AreShownBy (c : Controlled) (at : ℕ) (old outlets : List Outlet) : 
 pub record HasDriver (old new : Circuit) (m : Marks) (blocks wait : ℕ) (made : List NetId) (outlets : List Outlet)
     (c : Controlled) : Type 0 where
   pub extends : Extends old.cells new.cells
+  pub added : AddsControl old.cells new.cells
   pub limit : new.limit ≡ old.limit
-  pub muls : count_of is_mul new.cells ≡ count_of is_mul old.cells
   pub control : IsControl (length old.cells) new.cells (wires_of m) blocks wait c
   pub nets : HasControlNets (length old.cells) new.cells c
   pub at : ℕ
   pub behind : length old.cells ≤ at
   pub columns : AreColumns at new.cells c made
   pub shown : AreShownBy c at outlets new.outlets
+
+-- the inputs are those of a netlist, with those of the channels behind the first, which is the reset
+abbrev pub HasChannelInputs : (old new : List SizedCell) → Type 0
+HasChannelInputs old new = cells_of is_input new ≡ with_inputs (map bit_input channel_inputs) (cells_of is_input old)
 
 -- a copy of a marked netlist, held by the control that is around it
 pub record IsWrapped (marked new : Circuit) (m : Marks) (blocks wait : ℕ) : Type 0 where
@@ -107,6 +113,8 @@ pub record IsWrapped (marked new : Circuit) (m : Marks) (blocks wait : ℕ) : Ty
   pub stands : IsNet new.cells by.one.0 1
   pub few : length new.cells ≤ wrapped_cells (length marked.cells) (length marked.outlets) blocks
   pub muls : count_of is_mul new.cells ≡ count_of is_mul marked.cells
+  pub inputs : HasChannelInputs marked.cells new.cells
+  pub whole : AreWhole marked.cells → AreWhole new.cells
   pub at : ℕ
   pub columns : AreColumns at new.cells by (copied_nets marked.outlets)
   pub shown : AreShownBy by at marked.outlets new.outlets
@@ -134,10 +142,12 @@ InResetRuns cells P = (run : List Clock) (start : ℕ) → IsRun cells run → I
 
 -- the circuit stands between two channels: of each program whose blocks it makes, the sink gets the results of what the
 -- source gave, at whatever pace both go, words that stand at the sink stay until they are taken, and it goes on; no
--- path leads from an input to an output within a clock. It has few cells beside twice the circuit, and no more products
+-- path leads from an input to an output within a clock. Its inputs and outputs are those of the circuit and of the
+-- channels. It has few cells beside twice the circuit, no more products, and its memories are whole
 pub record IsStream (old new : Circuit) (slowdown latency : ℕ) (inputs outputs : List StTree) : Type 0 where
   pub valid : slice_get new.cells 1 ≡ Some (bit_input source_valid)
   pub ready : slice_get new.cells 2 ≡ Some (bit_input sink_ready)
+  pub input_ports : HasChannelInputs old.cells new.cells
   pub ports : ports_of new.outlets ≡ source_ready ∷ sink_valid ∷ ports_of old.outlets
   pub asks : IsNet new.cells (outlet_net new.outlets 0) 1
   pub stands : IsNet new.cells (outlet_net new.outlets 1) 1
@@ -152,3 +162,4 @@ pub record IsStream (old new : Circuit) (slowdown latency : ℕ) (inputs outputs
       → HasNoPaths (ends_for inputs (length old.outlets) new) a b start)
   pub few : length new.cells ≤ stream_cells old inputs outputs (latency / slowdown)
   pub muls : count_of is_mul new.cells ≡ count_of is_mul old.cells
+  pub whole : AreWhole old.cells → AreWhole new.cells

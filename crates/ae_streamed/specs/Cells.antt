@@ -1,11 +1,12 @@
 -- Cells of which the control is made: choices between two nets, and registers.
-use Rattle.std.specs.Prelude.{◌≡◌, ℕ, ◌+◌, ◌*◌, ◌<◌, ◌≤◌, ◌⊎◌, List, length, Some, slice_get}
+use Rattle.std.specs.Prelude.{◌≡◌, ℕ, ◌+◌, ◌*◌, ◌<◌, ◌≤◌, ◌⊎◌, false, List, length, Some, slice_get}
 use Rattle.ae_word.specs.declared.op.WordOp.TheVariants.{Mux}
 use Rattle.ae_netlist.specs.declared.cell.NetId.{NetId}
-use Rattle.ae_netlist.specs.declared.cell.Cell.TheVariants.{Op, Reg}
+use Rattle.ae_netlist.specs.declared.cell.Cell.{Cell}
+use Rattle.ae_netlist.specs.declared.cell.Cell.TheVariants.{Const, Op, Reg}
 use Rattle.ae_netlist.specs.declared.cell.SizedCell.{SizedCell}
 use Rattle.ae_netlist.specs.Circuit.{Circuit, Extends, IsNet, new_register, operand}
-use Rattle.ae_netlist.specs.Counts.{count_of, is_mul}
+use Rattle.ae_netlist.specs.Counts.{is_product}
 use Rattle.ae_netlist.specs.Runs.{Clock, IsRun}
 
 -- the second of three nets where the first is 1, and else the third
@@ -28,12 +29,23 @@ pub record IsChoice (cells : List SizedCell) (width count : ℕ) (nets : List Ne
 pub record AreChoices (cells : List SizedCell) (width : ℕ) (gates : List (List NetId)) : Type 0 where
   pub each : (k : ℕ) (nets : List NetId) → slice_get gates k ≡ Some nets → IsChoice cells width k nets
 
--- a netlist with more cells behind its own, none of which multiplies, and the same outputs
+-- of such cells a control is made: constants, registers, and operators that do not multiply
+abbrev pub IsControlCell : Cell → Type 0
+IsControlCell (Const constant) = Unit {0}
+IsControlCell (Reg next) = Unit {0}
+IsControlCell (Op op args) = is_product op ≡ false
+IsControlCell _ = ⊥
+
+-- behind these cells stand no others
+abbrev pub AddsControl : (old new : List SizedCell) → Type 0
+AddsControl old new = (n : ℕ) (sized : SizedCell) → length old ≤ n → slice_get new n ≡ Some sized → IsControlCell sized.cell
+
+-- a netlist with such cells behind its own, and the same outputs
 pub record IsLonger (old new : Circuit) : Type 0 where
   pub extends : Extends old.cells new.cells
+  pub added : AddsControl old.cells new.cells
   pub limit : new.limit ≡ old.limit
   pub outlets : new.outlets ≡ old.outlets
-  pub muls : count_of is_mul new.cells ≡ count_of is_mul old.cells
 
 -- behind its own cells come so many registers of one bit, each of which names itself
 pub record HasRegisters (old new : Circuit) (count : ℕ) : Type 0 where
@@ -55,7 +67,6 @@ pub record AreConnected (old new : Circuit) (first next count : ℕ) : Type 0 wh
   pub long : length new.cells ≡ length old.cells
   pub limit : new.limit ≡ old.limit
   pub outlets : new.outlets ≡ old.outlets
-  pub muls : count_of is_mul new.cells ≡ count_of is_mul old.cells
 
 -- another netlist has the cells from a number on as they are here
 abbrev pub KeepsFrom : (from : ℕ) (cells all : List SizedCell) → Type 0

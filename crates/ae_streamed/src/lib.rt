@@ -14,4 +14,3 @@ pub use driver::{Controlled, Wires, control};
 pub use marking::{Marks, add_marks};
 pub use queues::columns;
 pub use streaming::stream;
-pub use wrapping::{SINK_READY, SINK_VALID, SOURCE_READY, SOURCE_VALID};

@@ -39,7 +39,7 @@ pub fn connect_all(nl: &mut Netlist, first: u32, count: u32, next: u32)
     requires can { CanConnect nl.old.cells first count next }
     ensures { AreConnected nl.old nl.new first next count }
 {
-    let _cells = nl.len();
+    nl.formed();
     for k in 0..count {
         nl.connect(NetId(first + k), NetId(next + 2 * k));
     }

@@ -118,10 +118,7 @@ fn show(nl: &Netlist, new: &mut Netlist) -> Result<(), NetFault>
     nl.formed();
     for k in 0..nl.outputs() {
         let outlet = outlet_at(nl, k);
-        match new.add_output(outlet.port, outlet.net) {
-            Ok(()) => (),
-            Err(_) => return Err(NetFault::Memory),
-        }
+        new.add_output(outlet.port, outlet.net)?;
     }
     Ok(())
 }

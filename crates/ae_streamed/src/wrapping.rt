@@ -2,7 +2,8 @@
 
 ghost use Rattle.std.specs.Prelude.{◌≡◌, ◌+◌, ◌*◌, ◌<◌, ◌≤◌, ◌++◌, ◌∷◌, [], ◌≢◌, Err, OnOk, IfErr, IfOk, ℕ, Some, length, map, slice_get};
 ghost use Rattle.ae_netlist.specs.Circuit.{HaveNets, IsNet, width_of};
-ghost use Rattle.ae_stall.specs.Copies.{IsCopied, MayBeHeld, reset_cell};
+ghost use Rattle.ae_netlist.specs.Counts.{AreWhole};
+ghost use Rattle.ae_stall.specs.Copies.{HasLogicAround, IsCopied, MayBeHeld, reset_cell};
 ghost use Rattle.ae_stall.specs.Held.{IsHeld};
 ghost use Rattle.ae_stall.specs.Images.{placed_net};
 ghost use Rattle.ae_streamed.specs.Between.{AreMarkNets, AreShownBy, HasDriver, IsWrapped, channel_inputs, copied_nets, wires_of};
@@ -12,38 +13,12 @@ ghost use Rattle.ae_streamed.specs.Count.{IsFullFor, control_cells, wrapped_cell
 use crate::driver::{Controlled, Wires, control};
 use crate::marking::Marks;
 use crate::queues::columns;
-use ae_netlist::{NetFault, NetId, Netlist, Outlet, Port};
+use ae_netlist::{Handshake, NetFault, NetId, Netlist, Outlet, Port};
 use ae_stall::{HoldBy, copy_with, hold_copy};
 use std::alloc::Global;
 
 /// The most cells of a circuit between two channels.
 const LIMIT: u32 = 4000000;
-
-/// That words stand at the source, and that those at the sink are taken: words of a lane of a number that no layout has.
-pub const SOURCE_VALID: Port = Port::In {
-    param: 0,
-    lane: 4294967295,
-    word: 0,
-};
-
-pub const SINK_READY: Port = Port::In {
-    param: 0,
-    lane: 4294967295,
-    word: 1,
-};
-
-/// That the source is asked, and that words stand at the sink, in the same way.
-pub const SOURCE_READY: Port = Port::Out {
-    result: 0,
-    lane: 4294967295,
-    word: 0,
-};
-
-pub const SINK_VALID: Port = Port::Out {
-    result: 0,
-    lane: 4294967295,
-    word: 1,
-};
 
 /// Where the copy has a net.
 fn placed(nl: &Netlist, net: NetId) -> NetId
@@ -89,21 +64,12 @@ fn copied(alloc: Global, nl: &Netlist) -> Result<Netlist, NetFault>
     ensures copied { IfOk result (λ new. IsCopied channel_inputs nl.now.cells new.cells (length nl.now.cells)) }
     ensures none { IfOk result (λ new. new.outlets ≡ []) }
 {
-    let ports = [SOURCE_VALID, SINK_READY];
-    match copy_with(alloc, nl, &ports, LIMIT) {
-        Ok(new) => Ok(new),
-        Err(_) => Err(NetFault::Memory),
-    }
-}
-
-fn keep(nets: &mut Vec<NetId>, net: NetId) -> Result<(), NetFault>
-    ensures kept { OnOk result (nets.new.items ≡ nets.old.items ++ net ∷ []) }
-    ensures fault { result ≢ Err NetFault.Full }
-{
-    match nets.push(net) {
-        Ok(()) => Ok(()),
-        Err(_) => Err(NetFault::Memory),
-    }
+    let ports = [
+        Port::Stream(Handshake::SourceValid),
+        Port::Stream(Handshake::SinkReady),
+    ];
+    let new = copy_with(alloc, nl, &ports, LIMIT)?;
+    Ok(new)
 }
 
 fn outlet_at(nl: &Netlist, k: u32) -> Outlet
@@ -124,7 +90,7 @@ fn outlet_nets(alloc: Global, nl: &Netlist) -> Result<Vec<NetId>, NetFault>
     for k in 0..nl.outputs() {
         let outlet = outlet_at(nl, k);
         let net = placed(nl, outlet.net);
-        keep(&mut nets, net)?;
+        nets.push(net)?;
     }
     Ok(nets)
 }
@@ -136,10 +102,8 @@ fn show(new: &mut Netlist, port: Port, net: NetId) -> Result<(), NetFault>
     ensures shown { OnOk result (new.new ≡ record new.old { outlets = new.old.outlets ++ (record { port = port; net = net }) ∷ [] }) }
     ensures fault { result ≢ Err NetFault.Full }
 {
-    match new.add_output(port, net) {
-        Ok(()) => Ok(()),
-        Err(_) => Err(NetFault::Memory),
-    }
+    new.add_output(port, net)?;
+    Ok(())
 }
 
 /// Adds the outputs: that the source is asked, that words stand at the sink, and the words of a queue for each output of the
@@ -155,9 +119,9 @@ fn show_all(nl: &Netlist, new: &mut Netlist, c: Controlled, at: u32) -> Result<(
     ensures limit { OnOk result (new.new.limit ≡ new.old.limit) }
     ensures shown { OnOk result (AreShownBy c at nl.now.outlets new.new.outlets) }
 {
-    let _cells = new.len();
-    show(new, SOURCE_READY, c.asks)?;
-    show(new, SINK_VALID, c.one)?;
+    new.formed();
+    show(new, Port::Stream(Handshake::SourceReady), c.asks)?;
+    show(new, Port::Stream(Handshake::SinkValid), c.one)?;
     for k in 0..nl.outputs() {
         let outlet = outlet_at(nl, k);
         show(new, outlet.port, NetId(at + 4 * k))?;
@@ -194,19 +158,18 @@ fn drive(
     Ok(c)
 }
 
-/// Holds the copy of a netlist.
+/// Holds the copy of a netlist. Memories stay whole where there are none beside the copy.
 fn hold(nl: &Netlist, by: NetId, new: &mut Netlist) -> Result<(), NetFault>
     requires reset { slice_get nl.now.cells 0 ≡ Some reset_cell }
     requires most { length nl.now.cells ≤ 1000000 }
     requires may { MayBeHeld 2 by.0 nl.now.cells new.old.cells }
     requires room { length new.old.cells + length nl.now.cells ≤ new.old.limit + 1 }
     ensures held { OnOk result (IsHeld 2 by.0 nl.now new.old new.new) }
+    ensures whole { OnOk result (HasLogicAround 2 nl.now.cells new.old.cells → AreWhole nl.now.cells → AreWhole new.new.cells) }
     ensures fault { result ≢ Err NetFault.Full }
 {
-    match hold_copy(nl, HoldBy { more: 2, by }, new) {
-        Ok(()) => Ok(()),
-        Err(_) => Err(NetFault::Memory),
-    }
+    hold_copy(nl, HoldBy { more: 2, by }, new)?;
+    Ok(())
 }
 
 /// A marked circuit with a control around it, whose latency is so many blocks and some clocks; as long as one of the first `wait`

@@ -10,13 +10,13 @@ loop-k-init c = connected_none c.args.nl.now c.args.first c.args.next
 pub overflow_add-first : goal.overflow_add-first
 overflow_add-first c =
     let own = c.requires.can.registers c.loop-k.k c.loop-k-test.true in
-    omega (arith, slice_get_within c.args.nl.now.cells (c.args.first + c.loop-k.k) _ own.1)
+    omega (arith, slice_get_within c.args.nl.now.cells (c.args.first + c.loop-k.k) _ own.1, c.formed.ensures.limit, c.formed.ensures.small)
 
 pub overflow_mul-k : goal.overflow_mul-k
-overflow_mul-k c = omega (arith, net_within (c.requires.can.nets c.loop-k.k c.loop-k-test.true))
+overflow_mul-k c = omega (arith, net_within (c.requires.can.nets c.loop-k.k c.loop-k-test.true), c.formed.ensures.limit, c.formed.ensures.small)
 
 pub overflow_add-next : goal.overflow_add-next
-overflow_add-next c = omega (arith, net_within (c.requires.can.nets c.loop-k.k c.loop-k-test.true))
+overflow_add-next c = omega (arith, net_within (c.requires.can.nets c.loop-k.k c.loop-k-test.true), c.formed.ensures.limit, c.formed.ensures.small)
 
 pub connect-requires-clause-register : goal.connect-requires-clause-register
 connect-requires-clause-register c =

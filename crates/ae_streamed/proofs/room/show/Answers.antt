@@ -11,8 +11,8 @@ add_output-requires-clause-net c =
 pub loop-k-preserved : goal.loop-k-preserved
 loop-k-preserved c = record {
   all = c.loop-k.invariant.all;
-  cells = ap (λ (v : Circuit). v.cells) c.in-Ok.ensures.ok ∙ c.loop-k.invariant.cells;
-  limit = ap (λ (v : Circuit). v.limit) c.in-Ok.ensures.ok ∙ c.loop-k.invariant.limit;
-  outlets = ap (λ (v : Circuit). v.outlets) c.in-Ok.ensures.ok
+  cells = ap (λ (v : Circuit). v.cells) c.in_ok-add_output.ensures.ok ∙ c.loop-k.invariant.cells;
+  limit = ap (λ (v : Circuit). v.limit) c.in_ok-add_output.ensures.ok ∙ c.loop-k.invariant.limit;
+  outlets = ap (λ (v : Circuit). v.outlets) c.in_ok-add_output.ensures.ok
       ∙ (ap (λ v. v ++ c.outlet_at-outlet.result ∷ []) c.loop-k.invariant.outlets ∙ sym (take_found c.args.nl.now.outlets c.loop-k.k c.outlet_at-outlet.result c.outlet_at-outlet.ensures));
 }

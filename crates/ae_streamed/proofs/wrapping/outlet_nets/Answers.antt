@@ -12,7 +12,7 @@ placed-net-requires-clause-there c = net_within (c.formed.ensures.outlets.each c
 pub loop-k-preserved : goal.loop-k-preserved
 loop-k-preserved c = record {
   all = c.loop-k.invariant.all;
-  nets = c.in_ok-keep.ensures.kept
+  nets = c.in_ok-push.ensures.items
       ∙ (ap (λ v. v ++ c.placed-net.result ∷ []) c.loop-k.invariant.nets
       ∙ (ap (λ v. copied_nets (take c.loop-k.k c.args.nl.now.outlets) ++ v ∷ []) c.placed-net.ensures
       ∙ sym (next_first (λ (o : Outlet). placed_net 2 o.net) c.args.nl.now.outlets c.loop-k.k c.outlet_at-outlet.result c.outlet_at-outlet.ensures)));

@@ -23,7 +23,7 @@ loop-k-init c = record {
 }
 
 pub overflow_add-at : goal.overflow_add-at
-overflow_add-at c = omega (arith, net_within (c.requires.nets c.loop-k.k (omega (arith, c.loop-k-test.true, c.loop-k.invariant.all))), c.len-cells.ensures)
+overflow_add-at c = omega (arith, net_within (c.requires.nets c.loop-k.k (omega (arith, c.loop-k-test.true, c.loop-k.invariant.all))), c.formed.ensures.limit, c.formed.ensures.small)
 
 pub show-requires-in-loop-k-clause-net : goal.show-requires-in-loop-k-clause-net
 show-requires-in-loop-k-clause-net c =

@@ -32,7 +32,7 @@ hold-requires-clause-room c = (let d = c.in_ok-c.ensures.driver c.args.m c.place
 pub returns-clause-wrapped : goal.returns-clause-wrapped
 returns-clause-wrapped c =
     is_wrapped c.args.nl.now c.in_ok-new.new c.drive.new.new c.hold.new.new c.args.m c.args.blocks c.args.wait c.deref.result.now c.in_ok-c.c (c.deref.ensures.value ∙ c.in_ok-made.ensures.nets) c.in_ok-new.ensures.copied
-    (c.in_ok-c.ensures.driver c.args.m c.placed_wires-w.ensures) c.in_ok-hold.ensures.held c.in_ok-c.ensures.few
+    (c.in_ok-c.ensures.driver c.args.m c.placed_wires-w.ensures) c.in_ok-hold.ensures.held c.in_ok-c.ensures.few c.in_ok-hold.ensures.whole
 
 pub returns-in_err-c-clause-full : goal.returns-in_err-c-clause-full
 returns-in_err-c-clause-full c =
