@@ -1,6 +1,6 @@
-pub mod Fit
 pub mod Pieces
-pub mod Names
+pub mod Inputs
+pub mod Ports
 pub mod Listed
 pub mod Asked
 pub mod Fed

@@ -19,9 +19,11 @@ use Rattle.ae_channel.specs.Listings.{IsListedAs}
 
 -- the laws of listings
 pub record HaveListings : Type 0 where
-  pub spells : (r : ReportTree) (notes : List NoteTree) (cells : List SizedCell) (outlets : List Outlet) (outs : ℕ) → ArePrinted notes → IsListable cells outlets
+  pub spells : (r : ReportTree) (notes : List NoteTree) (cells : List SizedCell) (outlets : List Outlet) (outs : ℕ) → ArePrinted notes
+      → IsListable cells outlets
       → Spells (whole_text (report_lines r) notes cells outlets outs) (noted_module notes cells outlets outs)
-  pub short : (r : ReportTree) (notes : List NoteTree) (cells : List SizedCell) (outlets : List Outlet) (outs : ℕ) → IsListable cells outlets → HaveNumbers r notes → IsShort r notes cells outlets
+  pub short : (r : ReportTree) (notes : List NoteTree) (cells : List SizedCell) (outlets : List Outlet) (outs : ℕ) → IsListable cells outlets
+      → HaveNumbers r notes → IsShort r notes cells outlets
       → length (whole_text (report_lines r) notes cells outlets outs) < 2 ^ 32
   pub runs : (lines : ℕ → ℕ) (n : Circuit) (outs : ℕ) → IsWritableNetlist n.cells n.outlets outs → HasSameRuns (netlist_module lines n.cells n.outlets outs) n
   pub formed : (lines : ℕ → ℕ) (n : Circuit) (outs : ℕ) → IsWritableNetlist n.cells n.outlets outs → 1 + 4 * length n.cells + 4 * length n.outlets ≤ 10000000
@@ -44,8 +46,10 @@ short_with r n h small = record {
   small = small;
 }
 
-pub is_listed : (r : ReportTree) (n : Circuit) (text : List ℕ) → HaveListings → IsShort r [] [] [] → 1 + 4 * length n.cells + 4 * length n.outlets ≤ 10000000 → IsListable n.cells n.outlets → HaveNumbers r []
-    → HavePorts n.cells n.outlets (length r.outs) → AreWhole n.cells → text ≡ whole_text (report_lines r) [] n.cells n.outlets (length r.outs) → IsListedAs r n text
+pub is_listed : (r : ReportTree) (n : Circuit) (text : List ℕ) → HaveListings → IsShort r [] [] [] → 1 + 4 * length n.cells + 4 * length n.outlets ≤ 10000000
+    → IsListable n.cells n.outlets → HaveNumbers r []
+    → HavePorts n.cells n.outlets (length r.outs) → AreWhole n.cells → text ≡ whole_text (report_lines r) [] n.cells n.outlets (length r.outs)
+    → IsListedAs r n text
 is_listed r n text laws short small listable numbers ports whole listed =
     let outs : ℕ = length r.outs in
     let writable : IsWritableNetlist n.cells n.outlets outs = record {
@@ -59,7 +63,8 @@ is_listed r n text laws short small listable numbers ports whole listed =
     } in
     let tree : ModuleTree = noted_module [] n.cells n.outlets outs in
     let spells : Spells text tree = subst (λ (l : List ℕ). Spells l tree) (sym listed) (laws.spells r [] n.cells n.outlets outs none_printed listable) in
-    let few : length text < 2 ^ 32 = subst (λ (l : List ℕ). length l < 2 ^ 32) (sym listed) (laws.short r [] n.cells n.outlets outs listable numbers (short_with r n short small)) in
+    let few : length text < 2 ^ 32 = subst (λ (l : List ℕ). length l < 2 ^ 32) (sym listed)
+    (laws.short r [] n.cells n.outlets outs listable numbers (short_with r n short small)) in
     record {
       listed = listed;
       tree = tree;

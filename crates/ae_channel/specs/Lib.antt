@@ -1,5 +1,5 @@
 pub mod Words
-pub mod Ports
 pub mod Listings
 pub mod Asked
+pub mod Full
 pub mod Texts

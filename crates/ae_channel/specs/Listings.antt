@@ -1,15 +1,13 @@
--- The listing of a circuit between two channels, and the names in its text.
+-- The listing of a circuit between two channels, and the name of its module.
 use Rattle.std.specs.Prelude.{◌≡◌, ℕ, List, [], ◌∷◌, ◌++◌, length, codes}
 use Rattle.ae_netlist.specs.Circuit.{Circuit}
 use Rattle.ae_vread.specs.ModuleTree.{ModuleTree}
 use Rattle.ae_vread.specs.Spells.{Spells}
 use Rattle.ae_elab.specs.Faults.{IsWellFormed}
 use Rattle.ae_elab.specs.SameRuns.{HasSameRuns}
-use Rattle.ae_verilog.specs.NetlistModule.{port_name}
 use Rattle.ae_verilog.specs.ReportLines.{ReportTree, report_lines}
 use Rattle.ae_verilog.specs.Text.{whole_text}
-use Rattle.ae_streamed.specs.Between.{sink_ready, sink_valid, source_ready, source_valid}
-use Rattle.ae_channel.specs.Words.{AreReplaced, Word}
+use Rattle.ae_channel.specs.Words.{Word}
 
 -- the text is the listing of a circuit behind report lines; it spells one module, which is well formed and has the runs of
 -- the circuit
@@ -24,21 +22,10 @@ pub record IsListedAs (report : ReportTree) (n : Circuit) (text : List ℕ) : Ty
 abbrev pub word : (from to : List ℕ) → Word
 word from to = record { from = from; to = to }
 
--- a line behind the report, before the first line that is not of it, and the name of the module
+-- by which the text differs from the listing: a line behind the report, before the first line that is not of it, and the
+-- name of the module
 abbrev pub head_words : (name : List ℕ) → List Word
 head_words name =
     word (codes "// verilator lint_off CMPCONST") (codes "// stream\n// verilator lint_off CMPCONST")
     ∷ word (codes "module aeth (") (codes "module " ++ (name ++ codes " ("))
     ∷ []
-
--- and what stands in place of the names of the ports of the channels
-abbrev pub channel_words : (name : List ℕ) (outs : ℕ) → List Word
-channel_words name outs =
-    word (port_name 1 source_valid) (codes "s_valid")
-    ∷ word (port_name 1 sink_ready) (codes "m_ready")
-    ∷ word (port_name outs source_ready) (codes "s_ready")
-    ∷ word (port_name outs sink_valid) (codes "m_valid")
-    ∷ head_words name
-
-abbrev pub AreNamed : (name : List ℕ) (outs : ℕ) (listing text : List ℕ) → Type 0
-AreNamed name outs listing text = AreReplaced (channel_words name outs) listing text

@@ -17,4 +17,5 @@ pub record Word : Type 0 where
 -- the same for several words, one after the other
 abbrev pub AreReplaced : List Word → (text out : List ℕ) → Type 0
 AreReplaced [] text out = out ≡ text
-AreReplaced (word ∷ words) text out = (between : List ℕ) × IsReplaced word.from word.to text between × AreReplaced words between out
+AreReplaced (word ∷ words) text out =
+    (between : List ℕ) × IsReplaced word.from word.to text between × AreReplaced words between out

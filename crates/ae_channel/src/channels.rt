@@ -1,6 +1,6 @@
 // The circuit of a compiled program between two channels.
 
-ghost use Rattle.std.specs.Prelude.{◌≡◌, ◌<◌, ◌≤◌, IfOk, Some, length, map, slice_get, sum_by};
+ghost use Rattle.std.specs.Prelude.{◌≡◌, ◌<◌, ◌≤◌, IfErr, IfOk, Some, length, map, slice_get, sum_by};
 ghost use Rattle.ae_seq.specs.ProgramTree.{program_tree};
 ghost use Rattle.ae_sttype.specs.StTree.{st_tree};
 ghost use Rattle.ae_sttype.specs.Moves.{columns_of};
@@ -10,6 +10,7 @@ ghost use Rattle.ae_streamed.specs.Beats.{AreLayouts};
 ghost use Rattle.ae_streamed.specs.Between.{IsStream};
 ghost use Rattle.ae_verilog.specs.ReportLines.{report_tree};
 ghost use Rattle.ae_channel.specs.Asked.{CanStream};
+ghost use Rattle.ae_channel.specs.Full.{MayLackRoom};
 
 use ae_compile::Compiled;
 use ae_netlist::{NetFault, Netlist, fill_begins, has_one_run_with};
@@ -24,7 +25,8 @@ const MOST_LATENCY: u32 = 1_000_000;
 // A circuit with this report between two channels.
 fn between(alloc: Global, netlist: &Netlist, report: &Report) -> Result<Netlist, NetFault>
     requires { CanStream netlist.now report.now }
-    ensures { IfOk result (λ new. IsStream netlist.now new report.now.slowdown report.now.latency (map st_tree report.now.ins.items) (map st_tree report.now.outs.items)) }
+    ensures stream { IfOk result (λ new. IsStream netlist.now new report.now.slowdown report.now.latency (map st_tree report.now.ins.items) (map st_tree report.now.outs.items)) }
+    ensures full { IfErr result (λ fault. fault ≡ NetFault.Full → MayLackRoom netlist.now (report_tree report.now)) }
 {
     if report.latency > MOST_LATENCY {
         return Err(NetFault::Full);
@@ -41,11 +43,12 @@ fn between(alloc: Global, netlist: &Netlist, report: &Report) -> Result<Netlist,
 }
 
 /// The circuit of a compiled program between two channels: the sink gets the results of what the source gave, at whatever pace
-/// both go, since the words of each block can be put on the inputs of the circuit. `Full` comes where its cells would be too
-/// many.
+/// both go, since the words of each block can be put on the inputs of the circuit. `Full` comes only where it is so large that
+/// its cells may be too many.
 pub fn streamed(alloc: Global, compiled: &Compiled) -> Result<Netlist, NetFault>
     ensures stream { IfOk result (λ new. IsStream compiled.now.netlist new (report_tree compiled.now.report).slowdown (report_tree compiled.now.report).latency (report_tree compiled.now.report).ins (report_tree compiled.now.report).outs) }
     ensures fed { IfOk result (λ _. CanBeFed compiled.now.netlist.cells (program_tree compiled.now.costed.program) (report_tree compiled.now.report).ins) }
+    ensures full { IfErr result (λ fault. fault ≡ NetFault.Full → MayLackRoom compiled.now.netlist (report_tree compiled.now.report)) }
 {
     can_be_fed();
     let told = compiled.report();

@@ -3,7 +3,6 @@
 
 mod channels;
 mod listings;
-mod ports;
 mod texts;
 mod words;
 

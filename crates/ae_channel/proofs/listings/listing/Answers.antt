@@ -1,16 +1,15 @@
 -- The listing by the laws of listings.
-use Rattle.std.proofs.Common.{◌≡◌, ◌∙◌, ℕ, [], length, arith, ap, sym, subst}
+use Rattle.std.proofs.Common.{◌≡◌, ℕ, [], length, arith, sym, subst}
 use Rattle.std.specs.Prelude.{string_bytes}
 use Rattle.std.proofs.lemmas.List.{length-map}
 use Rattle.ae_sttype.specs.StTree.{st_tree}
-use Rattle.ae_verilog.specs.NetlistModule.{HavePorts}
 use Rattle.ae_verilog.specs.ReportLines.{report_lines, report_tree}
 use Rattle.ae_verilog.specs.Text.{whole_text}
 use Rattle.ae_channel.proofs.Listed.{HaveListings, is_listed}
 use Rattle.ae_channel.proofs.listings.listing.Goals as goal
 
-pub returns-in-Ok : goal.returns-in-Ok
-returns-in-Ok c =
+pub returns-in-Ok-clause-listed : goal.returns-in-Ok-clause-listed
+returns-in-Ok-clause-listed c =
     let n = c.args.netlist.now in
     let report = report_tree c.args.report.now in
     let laws : HaveListings = record {
@@ -21,9 +20,7 @@ returns-in-Ok c =
       once = c.spelled_once.ensures;
     } in
     let outs : length c.args.report.now.outs.items ≡ length report.outs = sym (length-map c.args.report.now.outs.items st_tree) in
-    is_listed report n (string_bytes c.in-Ok.text) laws c.requires
+    is_listed report n (string_bytes c.in-Ok.text) laws c.requires.short
     (omega (arith, c.len.ensures, c.outputs.ensures, c.from.ensures, c.from-2.ensures, c.if-cells-gt-MOST_CELLS.false))
-    c.in-Ok.ensures.listable c.in-Ok.ensures.numbers
-    (subst (HavePorts n.cells n.outlets) (ap length c.as_slice.ensures.value ∙ outs) (c.has_module.ensures.ports c.if-not-has_module.false))
-    (c.has_module.ensures.whole c.if-not-has_module.false)
+    c.in-Ok.ensures.listable c.in-Ok.ensures.numbers c.requires.ports c.requires.whole
     (subst (λ (k : ℕ). string_bytes c.in-Ok.text ≡ whole_text (report_lines report) [] n.cells n.outlets k) outs c.in-Ok.ensures.text)
