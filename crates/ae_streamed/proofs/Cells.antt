@@ -6,7 +6,7 @@ use Rattle.std.proofs.lemmas.Option.{none-some, same_Some, slice_get_within}
 use Rattle.ae_word.specs.declared.op.WordOp.TheVariants.{Mux}
 use Rattle.ae_netlist.specs.declared.cell.NetId.{NetId}
 use Rattle.ae_netlist.specs.declared.cell.Cell.{Cell}
-use Rattle.ae_netlist.specs.declared.cell.Cell.TheVariants.{Const, Input, Mem, Op, Peek, Reg}
+use Rattle.ae_netlist.specs.declared.cell.Cell.TheVariants.{Input, Mem, Op, Peek, Reg}
 use Rattle.ae_netlist.specs.declared.cell.SizedCell.{SizedCell}
 use Rattle.ae_netlist.specs.Circuit.{Circuit, Extends, IsNet, IsOperation, IsRegister, new_register, operand, width_of}
 use Rattle.ae_netlist.specs.Counts.{cells_of, count_of, is_input, is_mul}

@@ -1,6 +1,5 @@
 -- The cells of one queue, as they are added and connected.
-use Rattle.std.proofs.Common.{ℕ, ◌≡◌, ◌≢◌, ◌+◌, ◌<◌, inl, inr, List, [], ◌∷◌, ◌++◌, length, length-append, length-set, map, set, Some, slice_get, arith, refl, sym, ap, ◌∙◌}
-use Rattle.std.proofs.lemmas.Option.{slice_get_within}
+use Rattle.std.proofs.Common.{ℕ, ◌≡◌, ◌≢◌, ◌+◌, inl, inr, List, [], ◌∷◌, ◌++◌, length, length-append, length-set, map, set, Some, slice_get, arith, refl, sym, ap, ◌∙◌}
 use Rattle.ae_netlist.specs.declared.cell.NetId.{NetId}
 use Rattle.ae_netlist.specs.declared.cell.Cell.TheVariants.{Reg}
 use Rattle.ae_netlist.specs.declared.cell.SizedCell.{SizedCell}
