@@ -66,12 +66,10 @@ pub fn lower(
                 moved_by(nl, from, way, x, places, w)
             }
             None => {
-                let own_a = own_width(names, a);
-                let own_b = own_width(names, b);
-                let (wa, wb) = operand_widths(*op, w, own_a, own_b);
+                let (wa, wb) = operand_widths(names, *op, w, a, b);
                 let x = lower(nl, from, names, nets, wa, a)?;
                 let y = lower(nl, from, names, nets, wb, b)?;
-                combine(nl, from, *op, w, own_a, own_b, x, wa, y, wb)
+                combine(nl, from, *op, w, x, wa, y, wb)
             }
         },
         Expr::Choose(test, a, b) => {

@@ -4,14 +4,17 @@ ghost use Rattle.std.specs.Prelude.{◌≡◌, ◌<◌, ◌≤◌, ◌+◌, ◌*
 ghost use Rattle.ae_netlist.specs.Circuit.{IsNet};
 ghost use Rattle.ae_netlist.specs.Runs.{Clock};
 ghost use Rattle.ae_vread.specs.View.{expr_tree};
-ghost use Rattle.ae_judge.specs.Widths.{binary_width};
+ghost use Rattle.ae_judge.specs.Widths.{binary_width, own_width};
 ghost use Rattle.ae_judge.specs.Weight.{operator_weight, shift_weight};
 ghost use Rattle.ae_runs.specs.Values.{binary_result, left_width, right_width};
+ghost use Rattle.ae_order.specs.Sound.{IsSound};
 ghost use Rattle.ae_gates.specs.Cells.{Grows, HasRoom, IsWord};
 ghost use Rattle.ae_express.specs.ConstantValue.{IsConstantOf};
 ghost use Rattle.ae_express.specs.Forms.{IsForm, IsShiftForm, most_cells, relation_result};
 
+use crate::own::own_width;
 use ae_gates::{Way, compared, gate, opposed, shifted, tested};
+use ae_judge::Names;
 use ae_netlist::{NetId, Netlist};
 use ae_vread::{BinOp, Expr};
 use ae_word::WordOp;
@@ -89,26 +92,32 @@ pub fn fixed_shift(op: BinOp, amount: &Expr) -> Option<(Way, u64)>
     }
 }
 
-/// The widths at which both operands are computed, where `w` is handed down, and `a` and `b` are their own.
-pub fn operand_widths(op: BinOp, w: u32, a: u32, b: u32) -> (u32, u32)
-    requires within { binary_width op a b ≤ w }
+/// The widths at which both operands are computed, where `w` is handed down. An operand's own width is added up only where
+/// the operator asks for it, so that a long sum takes time linear in it.
+pub fn operand_widths(names: &Names<'_>, op: BinOp, w: u32, a: &Expr, b: &Expr) -> (u32, u32)
+    requires left_sound { IsSound names.now (expr_tree a.now) }
+    requires right_sound { IsSound names.now (expr_tree b.now) }
+    requires within { binary_width op (own_width names.now (expr_tree a.now)) (own_width names.now (expr_tree b.now)) ≤ w }
     requires high { w ≤ 64 }
-    requires a_low { 1 ≤ a }
-    requires a_high { a ≤ 64 }
-    requires b_low { 1 ≤ b }
-    requires b_high { b ≤ 64 }
-    ensures left { result.0 ≡ left_width op w a b }
-    ensures right { result.1 ≡ right_width op w a b }
-    ensures left_within { a ≤ result.0 }
-    ensures right_within { b ≤ result.1 }
+    ensures left { result.0 ≡ left_width op w (own_width names.now (expr_tree a.now)) (own_width names.now (expr_tree b.now)) }
+    ensures right { result.1 ≡ right_width op w (own_width names.now (expr_tree a.now)) (own_width names.now (expr_tree b.now)) }
+    ensures left_within { own_width names.now (expr_tree a.now) ≤ result.0 }
+    ensures right_within { own_width names.now (expr_tree b.now) ≤ result.1 }
+    ensures left_low { 1 ≤ result.0 }
+    ensures right_low { 1 ≤ result.1 }
     ensures left_high { result.0 ≤ 64 }
     ensures right_high { result.1 ≤ 64 }
+    ensures same_left { result.0 ≡ left_width op w result.0 result.1 }
+    ensures same_right { result.1 ≡ right_width op w result.0 result.1 }
 {
     match form_of(op) {
         Form::Word(_) => (w, w),
-        Form::Shift(_) => (w, b),
-        Form::Comparison(_) => (a.max(b), a.max(b)),
-        Form::Test(_) => (a, b),
+        Form::Shift(_) => (w, own_width(names, b)),
+        Form::Comparison(_) => {
+            let both = own_width(names, a).max(own_width(names, b));
+            (both, both)
+        }
+        Form::Test(_) => (own_width(names, a), own_width(names, b)),
     }
 }
 
@@ -144,16 +153,13 @@ pub fn compare(
     }
 }
 
-/// The result of an operator on two words, each at the width at which it is computed, where `w` is handed down, and
-/// `_own_a` and `_own_b` are the operands' own.
+/// The result of an operator on two words, each at the width at which it is computed, where `w` is handed down.
 #[tactic(auto, using(ae_gates::proofs::Words::net_grows))]
 pub fn combine(
     nl: &mut Netlist,
     from: u32,
     op: BinOp,
     w: u32,
-    _own_a: u32,
-    _own_b: u32,
     x: NetId,
     wx: u32,
     y: NetId,
@@ -166,8 +172,8 @@ pub fn combine(
     requires x_high { wx ≤ 64 }
     requires y_low { 1 ≤ wy }
     requires y_high { wy ≤ 64 }
-    requires left_width { wx ≡ left_width op w _own_a _own_b }
-    requires right_width { wy ≡ right_width op w _own_a _own_b }
+    requires left_width { wx ≡ left_width op w wx wy }
+    requires right_width { wy ≡ right_width op w wx wy }
     requires left { IsNet nl.old.cells x.0 wx }
     requires right { IsNet nl.old.cells y.0 wy }
     requires room { HasRoom nl.old (most_cells op) }

@@ -96,11 +96,9 @@ lower-returns-in_ok-x-in-Some-fixed_shift t c =
 
 pub lower-returns-in_ok-y-in-None-fixed_shift : goal.lower-returns-in_ok-y-in-None-fixed_shift
 lower-returns-in_ok-y-in-None-fixed_shift t c =
-    let own_a : c.own_width-own_a.result ≡ own_width c.args.names.now (expr_tree c.in-Binary.a.value) = rw c.deref-in-None-fixed_shift.ensures at c.own_width-own_a.ensures.own in
-    let own_b : c.own_width-own_b.result ≡ own_width c.args.names.now (expr_tree c.in-Binary.b.value) = rw c.deref-in-None-fixed_shift-2.ensures at c.own_width-own_b.ensures.own in
     rw c.in-Binary.is
     (binary_lowered c.args.from c.args.names.now c.args.nets.now c.args.nl.now c.lower-in-None-fixed_shift.new.nl c.lower-in-None-fixed_shift-2.new.nl c.combine.new.nl c.combine.result c.in-Binary.op _ _ _ _ c.args.w (expr_tree c.in-Binary.a.value) (expr_tree c.in-Binary.b.value)
-    (rw (own_a, own_b) at c.operand_widths-wa.ensures.left) (rw (own_a, own_b) at c.operand_widths-wa.ensures.right) (rw c.deref-in-Binary.ensures at c.in-None-fixed_shift.ensures.none)
+    (rw (c.deref-in-None-fixed_shift.ensures, c.deref-in-None-fixed_shift-2.ensures) at c.operand_widths-wa.ensures.left) (rw (c.deref-in-None-fixed_shift.ensures, c.deref-in-None-fixed_shift-2.ensures) at c.operand_widths-wa.ensures.right) (rw c.deref-in-Binary.ensures at c.in-None-fixed_shift.ensures.none)
     (rw c.deref-in-None-fixed_shift-3.ensures at c.in_ok-x-in-None-fixed_shift.ensures) (rw c.deref-in-None-fixed_shift-4.ensures at c.in_ok-y-in-None-fixed_shift.ensures)
     (record { grows = c.combine.ensures.grows; more = c.combine.ensures.more; few = c.combine.ensures.few; net = c.combine.ensures.net }) c.combine.ensures.word)
 

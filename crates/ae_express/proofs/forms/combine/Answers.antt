@@ -7,8 +7,8 @@ use Rattle.ae_express.proofs.forms.combine.Goals as goal
 pub returns-in-Word-clause-word : goal.returns-in-Word-clause-word
 returns-in-Word-clause-word c =
     let form = c.in-Word.ensures in
-    let left : c.args.wx ≡ c.args.w = c.requires.left_width ∙ form.left c.args.w c.args._own_a c.args._own_b in
-    let right : c.args.wy ≡ c.args.w = c.requires.right_width ∙ form.right c.args.w c.args._own_a c.args._own_b in
+    let left : c.args.wx ≡ c.args.w = c.requires.left_width ∙ form.left c.args.w c.args.wx c.args.wy in
+    let right : c.args.wy ≡ c.args.w = c.requires.right_width ∙ form.right c.args.w c.args.wx c.args.wy in
     ok_map c.gate.result (λ z h f g p q. same_word _ _
     (λ run t. form.value c.args.w (f run t) (g run t) (f run t))
     (h f g (subst (λ (u : ℕ). IsWord c.args.from c.args.nl.now.cells c.args.x.0 u f) left p) (subst (λ (u : ℕ). IsWord c.args.from c.args.nl.now.cells c.args.y.0 u g) right q)))
@@ -17,7 +17,7 @@ returns-in-Word-clause-word c =
 pub returns-in-Shift-clause-word : goal.returns-in-Shift-clause-word
 returns-in-Shift-clause-word c =
     let form = c.in-Shift.ensures in
-    let left : c.args.wx ≡ c.args.w = c.requires.left_width ∙ form.left c.args.w c.args._own_a c.args._own_b in
+    let left : c.args.wx ≡ c.args.w = c.requires.left_width ∙ form.left c.args.w c.args.wx c.args.wy in
     ok_map c.shifted.result (λ z h f g p q. same_word _ _
     (λ run t. form.value c.args.w (f run t) (g run t))
     (h f g (subst (λ (u : ℕ). IsWord c.args.from c.args.nl.now.cells c.args.x.0 u f) left p) q))
@@ -26,7 +26,7 @@ returns-in-Shift-clause-word c =
 pub returns-in-Comparison-clause-word : goal.returns-in-Comparison-clause-word
 returns-in-Comparison-clause-word c =
     let form = c.in-Comparison.ensures in
-    let same : c.args.wy ≡ c.args.wx = c.requires.right_width ∙ form.right c.args.w c.args._own_a c.args._own_b ∙ sym (c.requires.left_width ∙ form.left c.args.w c.args._own_a c.args._own_b) in
+    let same : c.args.wy ≡ c.args.wx = c.requires.right_width ∙ form.right c.args.w c.args.wx c.args.wy ∙ sym (c.requires.left_width ∙ form.left c.args.w c.args.wx c.args.wy) in
     ok_map c.compare.result (λ z h f g p q. same_word _ _
     (λ run t. form.value c.args.w (f run t) (g run t))
     (h f g p (subst (λ (u : ℕ). IsWord c.args.from c.args.nl.now.cells c.args.y.0 u g) same q)))
