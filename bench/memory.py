@@ -110,6 +110,7 @@ SHAPES = {
     "long_name": lambda: (["sim", 0], "module " + "m" * (MOST - 40) + "(input a);endmodule", None),
     "heavy_module": lambda: (["sim", 0], PORTS + "assign b=a;" + "".join(f"wire w{k}=a" + "<<a" * 254 + ";" for k in range(6500)) + "endmodule", 6500 * 255 * 6),
     "long_sums": lambda: (["sim", 0], PORTS + "assign b=a;" + "".join(f"wire w{k}=a" + "+a" * 254 + ";" for k in range(32_000)) + "endmodule", 32_000 * 256),
+    "nested_braces": lambda: (["sim", 0], PORTS + "assign b=a;" + "".join(f"wire w{k}=" + "{" * 254 + "a" + "}" * 254 + ";" for k in range(32_000)) + "endmodule", 32_000 * 256),
     "sim_of_many_rows": lambda: (["sim", 0], PORTS + "assign b=a;endmodule\n%%\n" + "1\n" * 1_390_000, None),
 }
 

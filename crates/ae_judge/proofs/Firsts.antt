@@ -1,13 +1,15 @@
--- The names that items drive, one item after the other, and those of short lists.
-use Rattle.std.proofs.Common.{ℕ, ◌≡◌, ◌+◌, ◌<◌, false, Bor, arith, List, [], ◌∷◌, ◌++◌, length, drop, get_or, map, refl, sym, ap, ◌∙◌}
+-- The names that items drive, one item after the other, those of short lists, and those that are declared in time.
+use Rattle.std.proofs.Common.{ℕ, ◌≡◌, ◌+◌, ◌<◌, Bool, false, true, not, ◌&&◌, ◌||◌, Bor, arith, List, [], ◌∷◌, ◌++◌, length, drop, get_or, map, refl, sym, ap, ◌∙◌}
+use Rattle.std.proofs.lemmas.Bool.{or_parts}
 use Rattle.std.proofs.lemmas.List.{drop_more}
+use Rattle.std.specs.List.{list_any}
 use Rattle.std.specs.Prelude.{flat_map}
-use Rattle.ae_vread.specs.ModuleTree.{NetTree, ItemTree}
+use Rattle.ae_vread.specs.ModuleTree.{NetTree, DriveTree, ItemTree}
 use Rattle.ae_vread.specs.View.{item_tree}
 use Rattle.ae_vread.specs.declared.module.VItem.{VItem}
-use Rattle.ae_judge.specs.Names.{item_targets}
+use Rattle.ae_judge.specs.Names.{item_targets, names_in}
 use Rattle.ae_judge.specs.Places.{Entry, with_place}
-use Rattle.ae_judge.specs.Judging.{with_names, repeats}
+use Rattle.ae_judge.specs.Judging.{with_names, repeats, is_declared_before, has_place, is_unknown, is_late, drives_unknown}
 
 pub with_names_append : (es : List Entry) (xs ys : List (List ℕ)) → with_names es (xs ++ ys) ≡ with_names (with_names es xs) ys
 with_names_append es [] ys = refl
@@ -25,3 +27,22 @@ pub few_repeat : (ns : List NetTree) (i : ItemTree) (ts : List (Bor (List ℕ)))
 few_repeat ns i [] l = refl
 few_repeat ns i (t ∷ []) l = refl
 few_repeat ns i (t ∷ u ∷ ts) l = absurd (omega arith)
+
+-- a name that is declared before needs no other to be known
+
+known : (a b : Bool) → (not a && true) ≡ false → (not a && b) ≡ false
+known true b h = refl
+known false b h = absurd (let e : true ≡ false = h in cc)
+
+known_names : (ns : List NetTree) (k : ℕ) (es : List Entry) (names : List (List ℕ)) → list_any (is_unknown ns k []) names ≡ false
+    → list_any (is_unknown ns k es) names ≡ false
+known_names ns k es [] h = refl
+known_names ns k es (n ∷ names) h =
+    let p = or_parts (is_unknown ns k [] n) (list_any (is_unknown ns k []) names) h in
+    (λ j. known (is_declared_before ns k n) (not (has_place es n)) p.0 j || known_names ns k es names p.1 j)
+
+pub none_late : (ns : List NetTree) (k : ℕ) (es : List Entry) (ds : List DriveTree) → list_any (is_late ns k) ds ≡ false → drives_unknown ns k es ds ≡ false
+none_late ns k es [] h = refl
+none_late ns k es (d ∷ ds) h =
+    let p = or_parts (is_late ns k d) (list_any (is_late ns k) ds) h in
+    (λ j. known_names ns k es (names_in d.value) p.0 j || none_late ns k (with_place es d.name 0) ds p.1 j)

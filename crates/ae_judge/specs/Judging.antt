@@ -40,6 +40,10 @@ is_declared_before ns k n = passes (λ (x : NetTree). nat_lt x.item k) (net_name
 abbrev pub is_unknown : List NetTree → ℕ → List Entry → List ℕ → Bool
 is_unknown ns k es n = not (is_declared_before ns k n) && not (has_place es n)
 
+-- the value uses a name that is not declared before item k
+abbrev pub is_late : List NetTree → ℕ → DriveTree → Bool
+is_late ns k d = list_any (is_unknown ns k []) (names_in d.value)
+
 -- each value may use the names before it
 abbrev pub drives_unknown : List NetTree → ℕ → List Entry → List DriveTree → Bool
 drives_unknown ns k es [] = false

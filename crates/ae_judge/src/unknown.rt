@@ -5,7 +5,7 @@ ghost use Rattle.std.specs.List.{list_any, AllByRecursion};
 ghost use Rattle.ae_vread.specs.View.{expr_tree, drive_tree, item_tree};
 ghost use Rattle.ae_judge.specs.Shape.{IsLettered, IsLetteredDrive, IsLetteredItem};
 ghost use Rattle.ae_judge.specs.Names.{names_in, item_reads, item_targets};
-ghost use Rattle.ae_judge.specs.Judging.{item_clock, first_from, is_declared_before, is_unknown, drives_unknown, uses_unknown};
+ghost use Rattle.ae_judge.specs.Judging.{item_clock, first_from, is_declared_before, is_unknown, is_late, drives_unknown, uses_unknown};
 
 use crate::names::Names;
 use crate::places::Places;
@@ -55,7 +55,28 @@ fn value_unknown(
     Ok(any_unknown(names, number, given, &used))
 }
 
-/// Whether a value of a declaration uses a name that is neither declared before nor given a value before it.
+/// Whether a value of a declaration uses a name that is not declared before the item.
+fn any_late(
+    alloc: Global,
+    names: &Names<'_>,
+    number: u32,
+    drives: &[Drive],
+) -> Result<bool, AllocError>
+    requires lettered { AllByRecursion IsLetteredDrive (map drive_tree drives.now) }
+    ensures { IfOk result (λ b. b ≡ list_any (is_late names.now number) (map drive_tree drives.now)) }
+{
+    let none = Places::new(alloc);
+    for drive in drives {
+        if value_unknown(alloc, names, number, &none, &drive.value)? {
+            return Ok(true);
+        }
+    }
+    Ok(false)
+}
+
+/// Whether a value of a declaration uses a name that is neither declared before nor given a value before it. Most use none
+/// that is not declared before, and then no table of the given names is made.
+#[tactic(auto, using(crate::proofs::Firsts::none_late))]
 fn drives_unknown(
     alloc: Global,
     names: &Names<'_>,
@@ -65,6 +86,9 @@ fn drives_unknown(
     requires lettered { AllByRecursion IsLetteredDrive (map drive_tree drives.now) }
     ensures { IfOk result (λ b. b ≡ drives_unknown names.now number [] (map drive_tree drives.now)) }
 {
+    if !any_late(alloc, names, number, drives)? {
+        return Ok(false);
+    }
     let mut given = Places::with_room(alloc, drives.len())?;
     for drive in drives {
         if value_unknown(alloc, names, number, &given, &drive.value)? {

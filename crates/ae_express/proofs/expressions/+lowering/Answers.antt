@@ -98,7 +98,9 @@ pub lower-returns-in_ok-y-in-None-fixed_shift : goal.lower-returns-in_ok-y-in-No
 lower-returns-in_ok-y-in-None-fixed_shift t c =
     rw c.in-Binary.is
     (binary_lowered c.args.from c.args.names.now c.args.nets.now c.args.nl.now c.lower-in-None-fixed_shift.new.nl c.lower-in-None-fixed_shift-2.new.nl c.combine.new.nl c.combine.result c.in-Binary.op _ _ _ _ c.args.w (expr_tree c.in-Binary.a.value) (expr_tree c.in-Binary.b.value)
-    (rw (c.deref-in-None-fixed_shift.ensures, c.deref-in-None-fixed_shift-2.ensures) at c.operand_widths-wa.ensures.left) (rw (c.deref-in-None-fixed_shift.ensures, c.deref-in-None-fixed_shift-2.ensures) at c.operand_widths-wa.ensures.right) (rw c.deref-in-Binary.ensures at c.in-None-fixed_shift.ensures.none)
+    (rw (c.deref-in-None-fixed_shift.ensures, c.deref-in-None-fixed_shift-2.ensures) at c.operand_widths-wa.ensures.left)
+    (rw (c.deref-in-None-fixed_shift.ensures, c.deref-in-None-fixed_shift-2.ensures) at c.operand_widths-wa.ensures.right)
+    (rw c.deref-in-Binary.ensures at c.in-None-fixed_shift.ensures.none)
     (rw c.deref-in-None-fixed_shift-3.ensures at c.in_ok-x-in-None-fixed_shift.ensures) (rw c.deref-in-None-fixed_shift-4.ensures at c.in_ok-y-in-None-fixed_shift.ensures)
     (record { grows = c.combine.ensures.grows; more = c.combine.ensures.more; few = c.combine.ensures.few; net = c.combine.ensures.net }) c.combine.ensures.word)
 
