@@ -46,7 +46,8 @@ module _ (p : ProgramTree) (typed : IsTyped p) where
     call-fine None each = refl
     call-fine (Some c) each = each c refl
 
-    nodes-fine : (k : ℕ) (ns : List NodeTree) → ((j : ℕ) (n : NodeTree) → slice_get ns j ≡ Some n → slice_get of.nodes (k + j) ≡ Some n) → nodes_line p (failing p) f 1 (length of.params + k) ns ≡ None
+    nodes-fine : (k : ℕ) (ns : List NodeTree) → ((j : ℕ) (n : NodeTree) → slice_get ns j ≡ Some n → slice_get of.nodes (k + j) ≡ Some n)
+        → nodes_line p (failing p) f 1 (length of.params + k) ns ≡ None
     nodes-fine k [] follow = refl
     nodes-fine k (n ∷ ns) follow =
         let i : ℕ = length of.params + k in

@@ -23,7 +23,8 @@ use Rattle.ae_alike.proofs.Nodes.{AllSame, plain-costs, plain-no-body, same-layo
 use Rattle.ae_alike.proofs.Same.{by-costs, key-costs}
 use Rattle.ae_alike.proofs.Failing.{length-grown}
 
-ins-own : (clocks : ℕ) (ps : List ParamTree) (ss : List StTree) → param_layouts clocks ps ≡ map (λ (s : StTree). Some s) ss → ss ≡ map (λ (q : ParamTree). laid (lay_of q.type clocks)) ps
+ins-own : (clocks : ℕ) (ps : List ParamTree) (ss : List StTree) → param_layouts clocks ps ≡ map (λ (s : StTree). Some s) ss
+    → ss ≡ map (λ (q : ParamTree). laid (lay_of q.type clocks)) ps
 ins-own clocks [] [] h = refl
 ins-own clocks [] (s ∷ ss) h = absurd (let e : [] ≡ Some s ∷ map (λ (s : StTree). Some s) ss = h in cc)
 ins-own clocks (q ∷ ps) [] h = absurd (let e : lay_of q.type clocks ∷ param_layouts clocks ps ≡ [] = h in cc)
@@ -38,15 +39,18 @@ ins-own clocks (q ∷ ps) (s ∷ ss) h =
 module _ (p : ProgramTree) (f clocks : ℕ) (known others : List OwnCosts) (keys : Keys) where
   -- the bodies that these nodes call cost what is told of the nodes, of which the first is number j
   abbrev BodiesAre : (j : ℕ) → List NodeTree → Type 0
-  BodiesAre j ns = (q : ℕ) (n : NodeTree) (c : Call) (at : ℕ) → slice_get ns q ≡ Some n → called_by p f clocks n ≡ Some c → keys at c.func c.budget → get_or known at wire_costs ≡ get_or others (j + q) wire_costs
+  BodiesAre j ns = (q : ℕ) (n : NodeTree) (c : Call) (at : ℕ) → slice_get ns q ≡ Some n → called_by p f clocks n ≡ Some c → keys at c.func c.budget
+      → get_or known at wire_costs ≡ get_or others (j + q) wire_costs
 
-  op-own : (j : ℕ) (co : Option Call) (o : Option StOpTree) (x : StOpTree) → ((op : StOpTree) → o ≡ Some op → (a s : StTree) (copies : ℕ) → op_costs known a s copies op ≡ op_costs others a s copies op)
+  op-own : (j : ℕ) (co : Option Call) (o : Option StOpTree) (x : StOpTree)
+      → ((op : StOpTree) → o ≡ Some op → (a s : StTree) (copies : ℕ) → op_costs known a s copies op ≡ op_costs others a s copies op)
       → ((c : Call) (at : ℕ) → co ≡ Some c → keys at c.func c.budget → get_or known at wire_costs ≡ get_or others j wire_costs)
       → IsOp keys co o x → (a s : StTree) (copies : ℕ) → op_costs known a s copies x ≡ op_costs others a s copies (own_op j co o)
   op-own j None o x plain bodies h a s copies = plain x h a s copies ∙ ap (op_costs others a s copies) (sym (ap (own_op j None) h))
   op-own j (Some c) o x plain bodies h a s copies = ap (op_costs known a s copies) h.is ∙ ap (body_costs copies) (bodies c h.at refl h.key)
 
-  nodes-own : (i j : ℕ) (ns : List NodeTree) (ss : List StNodeTree) → BodiesAre j ns → AreStNodes p keys f clocks i ns ss → AllSame known others ss (own_nodes p f clocks i j ns)
+  nodes-own : (i j : ℕ) (ns : List NodeTree) (ss : List StNodeTree) → BodiesAre j ns → AreStNodes p keys f clocks i ns ss
+      → AllSame known others ss (own_nodes p f clocks i j ns)
   nodes-own i j [] [] bodies h = tt
   nodes-own i j [] (s ∷ ss) bodies h = absurd h
   nodes-own i j (n ∷ ns) [] bodies h = absurd h
@@ -61,7 +65,8 @@ module _ (p : ProgramTree) (f clocks : ℕ) (known others : List OwnCosts) (keys
               (λ op e a t copies. plain-costs known others a t copies op (plain-no-body p f clocks n.op n.args op e))
               (λ c at e key. bodies 0 n c at refl e key ∙ ap (λ k. get_or others k wire_costs) z) h.0.op;
         },
-        nodes-own (i + 1) (j + 1) ns ss (λ q m c at e called key. (let more : j + suc q ≡ j + 1 + q = omega arith in bodies (suc q) m c at e called key ∙ ap (λ k. get_or others k wire_costs) more)) h.1,
+        nodes-own (i + 1) (j + 1) ns ss (λ q m c at e called key.
+            (let more : j + suc q ≡ j + 1 + q = omega arith in bodies (suc q) m c at e called key ∙ ap (λ k. get_or others k wire_costs) more)) h.1,
       )
 
 -- ---- functions by those above them
@@ -72,7 +77,8 @@ above p f = grown (costs_by p) [] (take f p.funcs)
 abbrev no_costs : ℕ → OwnCosts
 no_costs clocks = wire_costs
 
-costs-at : (p : ProgramTree) (f clocks : ℕ) (g : FuncTree) → slice_get p.funcs f ≡ Some g → costs_of p f clocks ≡ func_costs (map (λ n. call_costs (above p f) (called_by p f clocks n)) g.nodes) (own_func p f clocks g)
+costs-at : (p : ProgramTree) (f clocks : ℕ) (g : FuncTree) → slice_get p.funcs f ≡ Some g
+    → costs_of p f clocks ≡ func_costs (map (λ n. call_costs (above p f) (called_by p f clocks n)) g.nodes) (own_func p f clocks g)
 costs-at p f clocks g there =
     let entry = entry-grown (costs_by p) p.funcs f g there in
     let within = slice_get_within p.funcs f g there in
@@ -85,7 +91,8 @@ above-at p f g clocks h there low =
     let here : slice_get (take f p.funcs) g ≡ Some h = slice_get-take f g p.funcs low ∙ there in
     let one = get_or_from_slice_get (above p f) g _ no_costs (entry-grown (costs_by p) (take f p.funcs) g h here) in
     let two = get_or_from_slice_get (grown (costs_by p) [] p.funcs) g _ no_costs (entry-grown (costs_by p) p.funcs g h there) in
-    ap (λ (x : ℕ → OwnCosts). x clocks) one ∙ ap (λ fs. costs_by p (grown (costs_by p) [] fs) h clocks) (take-take g f p.funcs (omega arith)) ∙ sym (ap (λ (x : ℕ → OwnCosts). x clocks) two)
+    ap (λ (x : ℕ → OwnCosts). x clocks) one ∙ ap (λ fs. costs_by p (grown (costs_by p) [] fs) h clocks) (take-take g f p.funcs (omega arith)) ∙
+    sym (ap (λ (x : ℕ → OwnCosts). x clocks) two)
 
 module _ (p : ProgramTree) (slowdown : ℕ) (all : List StFuncTree) (good : IsTrue (formed p)) (h : IsSchedule p slowdown all) where
   abbrev CostsAt : ℕ → Type 0
@@ -108,11 +115,13 @@ module _ (p : ProgramTree) (slowdown : ℕ) (all : List StFuncTree) (good : IsTr
       let there : slice_get p.funcs c.func ≡ Some callee.of = ap (slice_get p.funcs) (sym key.is_func) ∙ callee.known in
       let low : c.func < f = call-below p f clocks f n c good (record { of = g; k = q; known = own.known; here = e }) called (omega arith) in
       let mapped : slice_get told q ≡ Some (call_costs (above p f) (called_by p f clocks n)) =
-      slice_get-map (λ m. call_costs (above p f) (called_by p f clocks m)) g.nodes q ∙ ap (option_map (λ m. call_costs (above p f) (called_by p f clocks m))) e in
+      slice_get-map (λ m. call_costs (above p f) (called_by p f clocks m)) g.nodes q ∙
+      ap (option_map (λ m. call_costs (above p f) (called_by p f clocks m))) e in
       let mine : get_or told q wire_costs ≡ costs_of p c.func c.budget =
       get_or_from_slice_get told q _ wire_costs mapped ∙ ap (call_costs (above p f)) called ∙ above-at p f c.func c.budget callee.of there low in
       r.2 ∙ before at r.0 x r.1 ∙ (λ i. costs_of p (key.is_func i) (key.is_budget i)) ∙ sym mine ∙ ap (λ m. get_or told m wire_costs) zero_first) in
-      let nodes : AllSame known told s.nodes (own_nodes p f clocks (length g.params) 0 g.nodes) = nodes-own p f clocks known told (HasKey (take k all)) (length g.params) 0 g.nodes s.nodes bodies own.nodes in
+      let nodes : AllSame known told s.nodes (own_nodes p f clocks (length g.params) 0 g.nodes) = nodes-own p f clocks known told (HasKey (take k all))
+      (length g.params) 0 g.nodes s.nodes bodies own.nodes in
       let t : StFuncTree = own_func p f clocks g in
       let ins : s.ins ≡ t.ins = ins-own clocks g.params s.ins own.ins in
       let layouts : item_layouts s ≡ item_layouts t = (λ i. ins i ++ same-layouts known told s.nodes t.nodes nodes i) in

@@ -29,7 +29,8 @@ record Has (all : List StFuncTree) (func budget : ℕ) : Type 0 where
 later-key : (s : StFuncTree) (ss : List StFuncTree) (k f u : ℕ) → HasKey ss k f u → HasKey (s ∷ ss) (suc k) f u
 later-key s ss k f u x = record { instance = x.instance; here = x.here; is_func = x.is_func; is_budget = x.is_budget }
 
-no-key : (s : StFuncTree) (ss : List StFuncTree) (f u : ℕ) → (s.func ≡ f → s.budget ≡ u → ⊥) → ((k : ℕ) → HasKey ss k f u → ⊥) → (k : ℕ) → HasKey (s ∷ ss) k f u → ⊥
+no-key : (s : StFuncTree) (ss : List StFuncTree) (f u : ℕ) → (s.func ≡ f → s.budget ≡ u → ⊥) → ((k : ℕ) → HasKey ss k f u → ⊥) → (k : ℕ)
+    → HasKey (s ∷ ss) k f u → ⊥
 no-key s ss f u other none zero x =
     let e : s ≡ x.instance = same_Some s x.instance x.here in
     other (ap (λ (y : StFuncTree). y.func) e ∙ x.is_func) (ap (λ (y : StFuncTree). y.budget) e ∙ x.is_budget)
@@ -51,7 +52,8 @@ find-key (s ∷ ss) f u = elim (find-key ss f u) [
 key-stays : (all : List StFuncTree) (s : StFuncTree) → Covers (HasKey all) (HasKey (all ++ s ∷ []))
 key-stays [] s k f u x = absurd (none-some x.instance x.here)
 key-stays (t ∷ ts) s zero f u x = record { instance = x.instance; here = x.here; is_func = x.is_func; is_budget = x.is_budget }
-key-stays (t ∷ ts) s (suc k) f u x = later-key t (ts ++ s ∷ []) k f u (key-stays ts s k f u (record { instance = x.instance; here = x.here; is_func = x.is_func; is_budget = x.is_budget }))
+key-stays (t ∷ ts) s (suc k) f u x =
+    later-key t (ts ++ s ∷ []) k f u (key-stays ts s k f u (record { instance = x.instance; here = x.here; is_func = x.is_func; is_budget = x.is_budget }))
 
 -- ---- layouts
 
@@ -67,11 +69,13 @@ if-fine : (b : Bool) (later : Option ℕ) (line : ℕ) → (if b then later else
 if-fine true later line h = (refl, h)
 if-fine false later line h = absurd (none-some line (sym h))
 
-all-laid : (clocks : ℕ) (ps : List ParamTree) → params_laid clocks ps ≡ true → (ins : List StTree) × (param_layouts clocks ps ≡ map (λ (s : StTree). Some s) ins)
+all-laid : (clocks : ℕ) (ps : List ParamTree) → params_laid clocks ps ≡ true → (ins : List StTree)
+    × (param_layouts clocks ps ≡ map (λ (s : StTree). Some s) ins)
 all-laid clocks [] h = ([], refl)
 all-laid clocks (q ∷ ps) h = by (lay_of q.type clocks) refl (all-laid clocks ps)
   where
-    by : (o : Option StTree) → lay_of q.type clocks ≡ o → (params_laid clocks ps ≡ true → (ins : List StTree) × (param_layouts clocks ps ≡ map (λ (s : StTree). Some s) ins))
+    by : (o : Option StTree) → lay_of q.type clocks ≡ o → (params_laid clocks ps ≡ true → (ins : List StTree)
+        × (param_layouts clocks ps ≡ map (λ (s : StTree). Some s) ins))
         → (ins : List StTree) × (lay_of q.type clocks ∷ param_layouts clocks ps ≡ map (λ (s : StTree). Some s) ins)
     by None e rest = absurd (let x = h in cc)
     by (Some s) e rest = (let r = rest (let x = h in cc) in (s ∷ r.0, λ i. e i ∷ r.1 i))
@@ -124,7 +128,8 @@ module _ (p : ProgramTree) (slowdown : ℕ) (fine : IsTrue (formed p)) where
     there : AreThere f u new ns
 
   -- what a function calls is added
-  module _ (f u : ℕ) (of : FuncTree) (inside : f < length p.funcs) (known : slice_get p.funcs f ≡ Some of) (reached : IsReached p slowdown f u) (before : (g : ℕ) → g < f → CanBeMade g) where
+  module _ (f u : ℕ) (of : FuncTree) (inside : f < length p.funcs) (known : slice_get p.funcs f ≡ Some of) (reached : IsReached p slowdown f u)
+      (before : (g : ℕ) → g < f → CanBeMade g) where
     abbrev Follow : (k : ℕ) → List NodeTree → Type 0
     Follow k ns = (j : ℕ) (n : NodeTree) → slice_get ns j ≡ Some n → slice_get of.nodes (k + j) ≡ Some n
 
@@ -135,13 +140,22 @@ module _ (p : ProgramTree) (slowdown : ℕ) (fine : IsTrue (formed p)) where
     first-here k n ns h = let x : k + 0 ≡ k = omega arith in subst (λ i. slice_get of.nodes i ≡ Some n) x (h 0 n refl)
 
     calls : (k i : ℕ) (ns : List NodeTree) (old : List StFuncTree) → Follow k ns → nodes_line p (failing p) f u i ns ≡ None → IsPart old → Called old f u ns
-    calls k i [] old follow h part = record { new = old; grows = record { part = part; kept = λ j g v x. x; low = λ j g v x. inl (record { at = j; key = x }) }; there = λ j n c e. absurd (none-some n e) }
+    calls k i [] old follow h part = record {
+      new = old;
+      grows = record {
+        part = part;
+        kept = λ j g v x. x;
+        low = λ j g v x. inl (record { at = j; key = x });
+      };
+      there = λ j n c e. absurd (none-some n e);
+    }
     calls k i (n ∷ ns) old follow h part =
         let own = or-none (node_line p (failing p) f u i n) (nodes_line p (failing p) f u (i + 1) ns) h in
         let laid = is-laid (layout_at p f u i) n.line (call_line (failing p) (called_by p f u n)) own.0 in
         by (called_by p f u n) refl laid.2 (λ mid. calls (k + 1) (i + 1) ns mid (follow-more k n ns follow) own.1)
       where
-        both : (mid : List StFuncTree) → Grows old mid f → ((c : Call) → called_by p f u n ≡ Some c → Has mid c.func c.budget) → Called mid f u ns → Called old f u (n ∷ ns)
+        both : (mid : List StFuncTree) → Grows old mid f → ((c : Call) → called_by p f u n ≡ Some c → Has mid c.func c.budget) → Called mid f u ns
+            → Called old f u (n ∷ ns)
         both mid grows has r =
             record {
               new = r.new;
@@ -156,8 +170,10 @@ module _ (p : ProgramTree) (slowdown : ℕ) (fine : IsTrue (formed p)) where
                 record { at = x.at; key = r.grows.kept x.at c.func c.budget x.key }
             all r (suc j) m c e is = r.there j m c e is
 
-        by : (o : Option Call) → called_by p f u n ≡ o → call_line (failing p) o ≡ None → ((mid : List StFuncTree) → IsPart mid → Called mid f u ns) → Called old f u (n ∷ ns)
-        by None is line rest = both old (record { part = part; kept = λ j g v x. x; low = λ j g v x. inl (record { at = j; key = x }) }) (λ c e. absurd (none-some c (sym is ∙ e))) (rest old part)
+        by : (o : Option Call) → called_by p f u n ≡ o → call_line (failing p) o ≡ None → ((mid : List StFuncTree) → IsPart mid → Called mid f u ns)
+            → Called old f u (n ∷ ns)
+        by None is line rest = both old (record { part = part; kept = λ j g v x. x; low = λ j g v x. inl (record { at = j; key = x }) })
+            (λ c e. absurd (none-some c (sym is ∙ e))) (rest old part)
         by (Some c) is line rest =
             let here = first-here k n ns follow in
             let low = called-above p f u of k n c fine known here is in
@@ -167,16 +183,19 @@ module _ (p : ProgramTree) (slowdown : ℕ) (fine : IsTrue (formed p)) where
               kept = made.grows.kept;
               low = λ j g v x. elim (made.grows.low j g v x) [ inl was ↦ inl was | inr less ↦ inr (omega arith) ];
             } in
-            both made.new grows (λ d e. (let same : c ≡ d = same_Some c d (sym is ∙ e) in subst (λ (x : Call). Has made.new x.func x.budget) same made.has)) (rest made.new grows.part)
+            both made.new grows (λ d e. (let same : c ≡ d = same_Some c d (sym is ∙ e) in subst (λ (x : Call). Has made.new x.func x.budget) same made.has))
+            (rest made.new grows.part)
 
     -- its nodes, where what it calls is there
-    op-there : (all : List StFuncTree) (n : NodeTree) (o : Option Call) (plain : Option StOpTree) → ((c : Call) → o ≡ Some c → Has all c.func c.budget) → (o ≡ None → plain ≡ None → ⊥)
+    op-there : (all : List StFuncTree) (n : NodeTree) (o : Option Call) (plain : Option StOpTree) → ((c : Call) → o ≡ Some c → Has all c.func c.budget)
+        → (o ≡ None → plain ≡ None → ⊥)
         → (op : StOpTree) × IsOp (HasKey all) o plain op
     op-there all n (Some c) plain has some = (let x = has c refl in (body x.at, record { at = x.at; is = refl; key = x.key }))
     op-there all n None None has some = absurd (some refl refl)
     op-there all n None (Some op) has some = (op, refl)
 
-    nodes : (all : List StFuncTree) (k : ℕ) (ns : List NodeTree) → Follow k ns → nodes_line p (failing p) f u (length of.params + k) ns ≡ None → AreLaid p f u (length of.params + k) → AreThere f u all ns
+    nodes : (all : List StFuncTree) (k : ℕ) (ns : List NodeTree) → Follow k ns → nodes_line p (failing p) f u (length of.params + k) ns ≡ None
+        → AreLaid p f u (length of.params + k) → AreThere f u all ns
         → (ss : List StNodeTree) × AreStNodes p (HasKey all) f u (length of.params + k) ns ss
     nodes all k [] follow h laid there = ([], tt)
     nodes all k (n ∷ ns) follow h laid there =
@@ -187,9 +206,15 @@ module _ (p : ProgramTree) (slowdown : ℕ) (fine : IsTrue (formed p)) where
         let op = op-there all n (called_by p f u n) (plain_op p f u n.op n.args) (λ c e. there 0 n c refl e)
         (λ none bare. plain-there p f u i n lay.0 fine (record { of = of; k = k; known = known; here = here; is = refl }) lay.1 laid none bare) in
         let next : i + 1 ≡ length of.params + (k + 1) = omega arith in
-        let rest = nodes all (k + 1) ns (follow-more k n ns follow) (subst (λ j. nodes_line p (failing p) f u j ns ≡ None) next own.1) (subst (AreLaid p f u) next (laid-more p f u i lay.0 laid lay.1)) (λ j m c e is. there (suc j) m c e is) in
-        let s : StNodeTree = record { op = op.0; args = n.args; type = lay.0; copies = copies_of (called_by p f u n); line = n.line } in
-        (s ∷ rest.0, (record { op = op.1; args = refl; type = lay.1; copies = refl; line = refl }, subst (λ j. AreStNodes p (HasKey all) f u j ns rest.0) (sym next) rest.1))
+        let rest = nodes all (k + 1) ns (follow-more k n ns follow) (subst (λ j. nodes_line p (failing p) f u j ns ≡ None) next own.1)
+        (subst (AreLaid p f u) next (laid-more p f u i lay.0 laid lay.1)) (λ j m c e is. there (suc j) m c e is) in
+        let s : StNodeTree = record { op = op.0; args = n.args; type = lay.0; copies = copies_of (called_by p f u n); line = n.line } in (
+          s ∷ rest.0,
+          (
+            record { op = op.1; args = refl; type = lay.1; copies = refl; line = refl },
+            subst (λ j. AreStNodes p (HasKey all) f u j ns rest.0) (sym next) rest.1,
+          ),
+        )
 
     -- the function behind what it calls
     record Whole (old : List StFuncTree) : Type 0 where
@@ -209,26 +234,36 @@ module _ (p : ProgramTree) (slowdown : ℕ) (fine : IsTrue (formed p)) where
         let all : Follow 0 of.nodes = λ j n e. (let zero-more : 0 + j ≡ j = omega arith in subst (λ i. slice_get of.nodes i ≡ Some n) (sym zero-more) e) in
         let called = calls 0 (length of.params) of.nodes old all parts.1 part in
         let laid = params-are-laid p f u of ins.0 known ins.1 in
-        let made = nodes called.new 0 of.nodes all (subst (λ j. nodes_line p (failing p) f u j of.nodes ≡ None) (sym start) parts.1) (subst (AreLaid p f u) (sym start) laid) called.there in
+        let made = nodes called.new 0 of.nodes all (subst (λ j. nodes_line p (failing p) f u j of.nodes ≡ None) (sym start) parts.1)
+        (subst (AreLaid p f u) (sym start) laid) called.there in
         let s : StFuncTree = record { func = f; budget = u; ins = ins.0; nodes = made.0; results = of.results; end_line = of.end_line } in
         record {
           inner = called.new;
           grows = called.grows;
           own = s;
-          is = record { of = of; known = known; ins = ins.1; nodes = subst (λ j. AreStNodes p (HasKey called.new) f u j of.nodes made.0) start made.1; results = refl; end_line = refl };
+          is = record {
+            of = of;
+            known = known;
+            ins = ins.1;
+            nodes = subst (λ j. AreStNodes p (HasKey called.new) f u j of.nodes made.0) start made.1;
+            results = refl;
+            end_line = refl;
+          };
           is_func = refl;
           is_budget = refl;
         }
 
     push : (old : List StFuncTree) (w : Whole old) → ((k : ℕ) → HasKey old k f u → ⊥) → IsPart (w.inner ++ w.own ∷ [])
     push old w fresh =
-        let never : (k : ℕ) → HasKey w.inner k f u → ⊥ = λ k x. elim (w.grows.low k f u x) [ inl was ↦ fresh was.at was.key | inr less ↦ absurd {A = ⊥} (omega arith) ] in
+        let never : (k : ℕ) → HasKey w.inner k f u → ⊥ = λ k x.
+        elim (w.grows.low k f u x) [ inl was ↦ fresh was.at was.key | inr less ↦ absurd {A = ⊥} (omega arith) ] in
         record {
           right = right-more p w.inner w.own w.grows.part.right w.is;
           once = once-more w.inner w.own f u w.is_func w.is_budget w.grows.part.once never;
           reached = λ k g v x. elim (key-cases w.inner w.own k g v x) [
             | inl was ↦ w.grows.part.reached k g v was
-            | inr last ↦ (let a : f ≡ g = sym w.is_func ∙ last.1 in let b : u ≡ v = sym w.is_budget ∙ last.2 in subst (λ i. IsReached p slowdown i v) a (subst (IsReached p slowdown f) b reached))
+            | inr last ↦ (let a : f ≡ g = sym w.is_func ∙ last.1 in let b : u ≡ v = sym w.is_budget ∙ last.2 in
+                subst (λ i. IsReached p slowdown i v) a (subst (IsReached p slowdown f) b reached))
           ];
         }
 
@@ -269,7 +304,11 @@ schedules_there p slowdown fine h =
     let e = entry-at p.funcs f inside in
     let reached : IsReached p slowdown f slowdown = as_program f slowdown refl refl in
     let none : (k g v : ℕ) → HasKey [] k g v → ⊥ = λ k g v x. none-some x.instance x.here in
-    let start : IsPart p slowdown fine [] = record { right = λ k s e. absurd (none-some s e); once = λ i k g v x y. absurd (none i g v x); reached = λ k g v x. absurd (none k g v x) } in
+    let start : IsPart p slowdown fine [] = record {
+      right = λ k s e. absurd (none-some s e);
+      once = λ i k g v x y. absurd (none i g v x);
+      reached = λ k g v x. absurd (none k g v x);
+    } in
     let w = whole p slowdown fine f slowdown e.0 inside e.1 reached (all-below p slowdown fine f) [] start h in
     let part = push p slowdown fine f slowdown e.0 inside e.1 reached (all-below p slowdown fine f) [] w (λ k x. none k f slowdown x) in
     let long : length (w.inner ++ w.own ∷ []) - 1 ≡ length w.inner = omega (arith, length-append w.inner (w.own ∷ [])) in (

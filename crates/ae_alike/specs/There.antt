@@ -8,7 +8,9 @@ use Rattle.ae_rewrite.specs.Scheduled.{IsSchedule}
 use Rattle.ae_rewrite.specs.FailingLine.{failing_line}
 
 abbrev pub SchedulesAreThere : Type 0
-SchedulesAreThere = (p : ProgramTree) (slowdown : ℕ) → IsTrue (formed p) → failing_line p slowdown ≡ None → (instances : List StFuncTree) × IsSchedule p slowdown instances
+SchedulesAreThere =
+    (p : ProgramTree) (slowdown : ℕ) → IsTrue (formed p) → failing_line p slowdown ≡ None
+    → (instances : List StFuncTree) × IsSchedule p slowdown instances
 
 -- and a typed program has one for blocks of one clock
 abbrev pub SchedulesAtOne : Type 0

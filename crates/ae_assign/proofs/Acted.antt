@@ -19,13 +19,17 @@ use Rattle.ae_assign.proofs.EdgeBlocks.{IsActing, acting_done}
 
 module _ (from : ℕ) (ns : List NetTree) (ys : List (Option NetId)) (guard : Option NetId) where
   -- a call that says so clause by clause
-  pub acted : {A E : Type 0} (r : Result A E) (old new : Circuit) (before after : List Next) (s : StmtTree) → OnOk r (Grows old new) → OnOk r (length old.cells ≤ length new.cells) → OnOk r (length new.cells ≤ length old.cells + 8 * stmt_weight 0 s)
-      → OnOk r (FitNexts ns after new.cells) → OnOk r (OthersKeep ns before after (stmt_targets s)) → OnOk r (Acts from ns ys guard old.cells new.cells before after s) → OnOk r (IsActed from ns ys guard old new before after s)
-  acted (Ok x) old new before after s grows more few nexts others acts = record { grows = grows; more = more; few = few; nexts = nexts; others = others; acts = acts }
+  pub acted : {A E : Type 0} (r : Result A E) (old new : Circuit) (before after : List Next) (s : StmtTree) → OnOk r (Grows old new)
+      → OnOk r (length old.cells ≤ length new.cells) → OnOk r (length new.cells ≤ length old.cells + 8 * stmt_weight 0 s)
+      → OnOk r (FitNexts ns after new.cells) → OnOk r (OthersKeep ns before after (stmt_targets s))
+      → OnOk r (Acts from ns ys guard old.cells new.cells before after s) → OnOk r (IsActed from ns ys guard old new before after s)
+  acted (Ok x) old new before after s grows more few nexts others
+      acts = record { grows = grows; more = more; few = few; nexts = nexts; others = others; acts = acts }
   acted (Err e) old new before after s grows more few nexts others acts = tt
 
   -- the statements of a block are all done
-  pub block_acted : (old new : Circuit) (before after : List Next) (s : StmtTree) → IsActing from ns ys guard old new before after s block_end → IsActed from ns ys guard old new before after s
+  pub block_acted : (old new : Circuit) (before after : List Next) (s : StmtTree) → IsActing from ns ys guard old new before after s block_end
+      → IsActed from ns ys guard old new before after s
   block_acted old new before after s h = record {
     grows = h.grows;
     more = h.more;
@@ -40,7 +44,8 @@ module _ (from : ℕ) (ns : List NetTree) (ys : List (Option NetId)) (guard : Op
       → Grows m0 m1 → length m0.cells ≤ length m1.cells → length m1.cells ≤ length m0.cells + 8 * expr_weight test + 3
       → Grows m1 m2 → length m1.cells ≤ length m2.cells → length m2.cells ≤ length m1.cells + 2
       → ((at : List ℕ → ℕ) → AreNamed ns ys at → IsWord from m1.cells none.0 1 (λ run t. bit (own_value ns (read at run t) test == 0)))
-      → ((g b : List Clock → ℕ → Bool) → IsGuard from m1.cells guard g → IsWord from m1.cells none.0 1 (λ run t. bit (b run t)) → IsWord from m2.cells first.0 1 (λ run t. bit (g run t && not (b run t))))
+      → ((g b : List Clock → ℕ → Bool) → IsGuard from m1.cells guard g → IsWord from m1.cells none.0 1 (λ run t. bit (b run t))
+      → IsWord from m2.cells first.0 1 (λ run t. bit (g run t && not (b run t))))
       → IsActed from ns ys (Some first) m2 m3 before after s → IsActed from ns ys guard m0 m3 before after (when test s)
   when_acted m0 m1 m2 m3 before after test s none first g1 a1 f1 g2 a2 f2 fails unless h =
       let heavier = weight_more 0 s in
@@ -61,9 +66,12 @@ module _ (from : ℕ) (ns : List NetTree) (ys : List (Option NetId)) (guard : Op
       → Grows m1 m2 → length m1.cells ≤ length m2.cells → length m2.cells ≤ length m1.cells + 2
       → Grows m2 m3 → length m2.cells ≤ length m3.cells → length m3.cells ≤ length m2.cells + 1
       → ((at : List ℕ → ℕ) → AreNamed ns ys at → IsWord from m1.cells none.0 1 (λ run t. bit (own_value ns (read at run t) test == 0)))
-      → ((g b : List Clock → ℕ → Bool) → IsGuard from m1.cells guard g → IsWord from m1.cells none.0 1 (λ run t. bit (b run t)) → IsWord from m2.cells first.0 1 (λ run t. bit (g run t && not (b run t))))
-      → ((g b : List Clock → ℕ → Bool) → IsGuard from m2.cells guard g → IsWord from m2.cells none.0 1 (λ run t. bit (b run t)) → IsWord from m3.cells second.0 1 (λ run t. bit (g run t && b run t)))
-      → IsActed from ns ys (Some first) m3 m4 before mid s → IsActed from ns ys (Some second) m4 m5 mid after u → IsActed from ns ys guard m0 m5 before after (either test s u)
+      → ((g b : List Clock → ℕ → Bool) → IsGuard from m1.cells guard g → IsWord from m1.cells none.0 1 (λ run t. bit (b run t))
+      → IsWord from m2.cells first.0 1 (λ run t. bit (g run t && not (b run t))))
+      → ((g b : List Clock → ℕ → Bool) → IsGuard from m2.cells guard g → IsWord from m2.cells none.0 1 (λ run t. bit (b run t))
+      → IsWord from m3.cells second.0 1 (λ run t. bit (g run t && b run t)))
+      → IsActed from ns ys (Some first) m3 m4 before mid s → IsActed from ns ys (Some second) m4 m5 mid after u
+      → IsActed from ns ys guard m0 m5 before after (either test s u)
   either_acted m0 m1 m2 m3 m4 m5 before mid after test s u none first second g1 a1 f1 g2 a2 f2 g3 a3 f3 fails unless also h i =
       let heavier = weight_more 0 s in
       let heavier_too = weight_more 0 u in
@@ -77,5 +85,6 @@ module _ (from : ℕ) (ns : List NetTree) (ys : List (Option NetId)) (guard : Op
         few = omega arith;
         nexts = i.nexts;
         others = others_both ns before mid after (stmt_targets s) (stmt_targets u) h.others i.others;
-        acts = either_acts from ns ys guard m0 m1 m2 m3 m4 m5 before mid after test s u none first second g1 g2 g3 h.grows i.grows fails unless also h.acts i.acts;
+        acts = either_acts from ns ys guard m0 m1 m2 m3 m4 m5 before mid after test s u none first second g1 g2 g3 h.grows i.grows fails unless also h.acts
+            i.acts;
       }

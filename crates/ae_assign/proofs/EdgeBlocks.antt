@@ -17,7 +17,8 @@ use Rattle.ae_assign.proofs.EdgeLaws.{guard_grows}
 use Rattle.ae_assign.proofs.EdgeFits.{fresh_left, fresh_right}
 
 -- of the statements of a block so many are done, and the rest is not
-pub record IsActing (from : ℕ) (ns : List NetTree) (ys : List (Option NetId)) (guard : Option NetId) (old new : Circuit) (before after : List Next) (whole rest : StmtTree) : Type 0 where
+pub record IsActing (from : ℕ) (ns : List NetTree) (ys : List (Option NetId)) (guard : Option NetId) (old new : Circuit) (before after : List Next)
+    (whole rest : StmtTree) : Type 0 where
   pub grows : Grows old new
   pub more : length old.cells ≤ length new.cells
   pub few : length new.cells + 8 * stmt_weight 0 rest ≤ length old.cells + 8 * stmt_weight 0 whole
@@ -28,10 +29,12 @@ pub record IsActing (from : ℕ) (ns : List NetTree) (ys : List (Option NetId)) 
   pub within : (n : List ℕ) → Among n (stmt_targets rest) → Among n (stmt_targets whole)
   pub others : OthersKeep ns before after (stmt_targets whole)
   pub acts : (at : List ℕ → ℕ) (g : List Clock → ℕ → Bool) → AreNamed ns ys at → IsGuard from old.cells guard g
-      → InEveryRunFrom from new.cells (λ run. (t : ℕ) → t < length run → guarded ns (read at run t) rest (g run t) (next_read ns after at run t) ≡ guarded ns (read at run t) whole (g run t) (next_read ns before at run t))
+      → InEveryRunFrom from new.cells (λ run. (t : ℕ) → t < length run
+      → guarded ns (read at run t) rest (g run t) (next_read ns after at run t) ≡ guarded ns (read at run t) whole (g run t) (next_read ns before at run t))
 
 module _ (from : ℕ) (ns : List NetTree) (ys : List (Option NetId)) (guard : Option NetId) (old : Circuit) (before : List Next) (whole : StmtTree) where
-  pub acting_first : IsSoundStmt ns whole → IsReadyStmt ns ys whole → FitNexts ns before old.cells → AreFresh ns before (stmt_targets whole) → IsActing from ns ys guard old old before before whole whole
+  pub acting_first : IsSoundStmt ns whole → IsReadyStmt ns ys whole → FitNexts ns before old.cells → AreFresh ns before (stmt_targets whole)
+      → IsActing from ns ys guard old old before before whole whole
   acting_first sound ready nexts fresh = record {
     grows = grows_refl old;
     more = omega arith;
@@ -46,7 +49,8 @@ module _ (from : ℕ) (ns : List NetTree) (ys : List (Option NetId)) (guard : Op
   }
 
   pub acting_step : (mid new : Circuit) (after later : List Next) (s rest : StmtTree) → IsActing from ns ys guard old mid before after whole (block_more s rest)
-      → Grows mid new → length mid.cells ≤ length new.cells → length new.cells ≤ length mid.cells + 8 * stmt_weight 0 s → FitNexts ns later new.cells → OthersKeep ns after later (stmt_targets s) → Acts from ns ys guard mid.cells new.cells after later s
+      → Grows mid new → length mid.cells ≤ length new.cells → length new.cells ≤ length mid.cells + 8 * stmt_weight 0 s → FitNexts ns later new.cells
+      → OthersKeep ns after later (stmt_targets s) → Acts from ns ys guard mid.cells new.cells after later s
       → IsActing from ns ys guard old new before later whole rest
   acting_step mid new after later s rest h grows more few nexts others acts =
       let less = h.few in
@@ -67,10 +71,12 @@ module _ (from : ℕ) (ns : List NetTree) (ys : List (Option NetId)) (guard : Op
       }
 
   -- what the next statement of the block wants
-  pub next_fresh : (mid : Circuit) (after : List Next) (s rest : StmtTree) → IsActing from ns ys guard old mid before after whole (block_more s rest) → AreFresh ns after (stmt_targets s)
+  pub next_fresh : (mid : Circuit) (after : List Next) (s rest : StmtTree) → IsActing from ns ys guard old mid before after whole (block_more s rest)
+      → AreFresh ns after (stmt_targets s)
   next_fresh mid after s rest h = fresh_left ns after (stmt_targets s) (stmt_targets rest) h.fresh
 
-  pub acting_done : (new : Circuit) (after : List Next) → IsActing from ns ys guard old new before after whole block_end → Acts from ns ys guard old.cells new.cells before after whole
+  pub acting_done : (new : Circuit) (after : List Next) → IsActing from ns ys guard old new before after whole block_end
+      → Acts from ns ys guard old.cells new.cells before after whole
   acting_done new after h = λ at g named guards all k run is t l. h.acts at g named guards all k run is t l
 
 -- the element whose turn it is, and those behind it

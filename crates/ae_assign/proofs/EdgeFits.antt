@@ -71,7 +71,8 @@ module _ (ns : List NetTree) (nexts : List Next) (n : List ℕ) (here : IsNamed 
         long = length-set nexts (place_of ns n) k ∙ h.long;
         each = λ p x j there set_there. elim (same_or_not p (place_of ns n)) [
           | inl e ↦
-              let inside : place_of ns n < length nexts = (let l : place_of ns n < length ns = slice_get_within ns (place_of ns n) here.net here.at in let long = h.long in omega arith) in
+              let inside : place_of ns n < length nexts = (let l : place_of ns n < length ns = slice_get_within ns (place_of ns n) here.net here.at in
+              let long = h.long in omega arith) in
               let is_net : Some x ≡ Some here.net = sym there ∙ ap (slice_get ns) e ∙ here.at in
               let x_is : here.net ≡ x = cc in
               let found : Some k ≡ Some j = sym (set_found (place_of ns n) inside) ∙ (ap (slice_get (slice_set nexts (place_of ns n) k)) (sym e) ∙ set_there) in
@@ -126,7 +127,8 @@ so_far_word Keep own net run t n h e = ap (λ (y : NetId). word_at run t y.0) h 
 so_far_word (Word y) own net run t n h e = ap (λ (y : NetId). word_at run t y.0) h
 so_far_word (Write at word enable) own net run t n h e = absurd h
 
-pub so_far_net : (cells : List SizedCell) (x : NetTree) (k : Next) (own net : NetId) → IsSoFar k own net → FitsNext cells x k → IsNet cells own.0 x.width → IsNet cells net.0 x.width
+pub so_far_net : (cells : List SizedCell) (x : NetTree) (k : Next) (own net : NetId) → IsSoFar k own net → FitsNext cells x k → IsNet cells own.0 x.width
+    → IsNet cells net.0 x.width
 so_far_net cells x Keep own net h f o = subst (λ (y : NetId). IsNet cells y.0 x.width) (sym h) o
 so_far_net cells x (Word y) own net h f o = subst (λ (z : NetId). IsNet cells z.0 x.width) (sym h) f.1
 so_far_net cells x (Write at word enable) own net h f o = absurd h
@@ -142,8 +144,10 @@ not_memory (Memory depth) r = absurd (cc)
 pub no_memory : {ns : List NetTree} {n : List ℕ} (here : IsNamed ns n) → is_register_name ns n ≡ true → is_memory_name ns n ≡ false
 no_memory here r = ap (passes (λ (x : NetTree). is_memory_kind x.kind)) here.found ∙ not_memory here.net.kind (kind_of_register here r)
 
-pub register_net : (ns : List NetTree) (ys : List (Option NetId)) (nexts : List Next) (a b : Circuit) (n : List ℕ) (w : ℕ) (own net : NetId) (here : IsNamed ns n) → is_register_name ns n ≡ true → AreNets ns ys a.cells
-    → slice_get ys (place_of ns n) ≡ Some (Some own) → FitNexts ns nexts a.cells → w ≡ declared_width ns n → IsSoFar (next_at ns nexts n) own net → Grows a b → IsNet b.cells net.0 w
+pub register_net : (ns : List NetTree) (ys : List (Option NetId)) (nexts : List Next) (a b : Circuit) (n : List ℕ) (w : ℕ) (own net : NetId)
+    (here : IsNamed ns n) → is_register_name ns n ≡ true → AreNets ns ys a.cells
+    → slice_get ys (place_of ns n) ≡ Some (Some own) → FitNexts ns nexts a.cells → w ≡ declared_width ns n → IsSoFar (next_at ns nexts n) own net → Grows a b
+    → IsNet b.cells net.0 w
 register_net ns ys nexts a b n w own net here r nets found fit wide so_far g =
     let mine = name_net ns ys a.cells n own here (no_memory here r) nets found in
     let there = so_far_net a.cells here.net _ own net so_far (next_fits ns nexts a.cells n here fit) (subst (IsNet a.cells own.0) (named_width here) mine) in
@@ -158,7 +162,8 @@ kind_of_memory Reg r = absurd (cc)
 kind_of_memory OutReg r = absurd (cc)
 kind_of_memory (Memory depth) r = refl
 
-pub memory_fits : (ns : List NetTree) (n : List ℕ) (here : IsNamed ns n) (cells : List SizedCell) (at word enable : NetId) (w : ℕ) → is_memory_name ns n ≡ true → w ≡ declared_width ns n
+pub memory_fits : (ns : List NetTree) (n : List ℕ) (here : IsNamed ns n) (cells : List SizedCell) (at word enable : NetId) (w : ℕ) → is_memory_name ns n ≡ true
+    → w ≡ declared_width ns n
     → IsAddress cells at.0 (depth_of ns n) → IsNet cells word.0 w → IsNet cells enable.0 1 → FitsNext cells here.net (Write at word enable)
 memory_fits ns n here cells at word enable w memory wide address net bit =
     let depth : depth_of ns n ≡ depth_of_kind here.net.kind = ap depth_in here.found in (
@@ -186,7 +191,8 @@ module _ (ns : List NetTree) (nexts : List Next) where
     where
       get_right : (xs ys : List (List ℕ)) (p : ℕ) (n : List ℕ) → slice_get ys p ≡ Some n → slice_get (xs ++ ys) (length xs + p) ≡ Some n
       get_right [] ys p n e = subst (λ i. slice_get ys i ≡ Some n) (let z : p ≡ 0 + p = omega arith in z) e
-      get_right (x ∷ xs) ys p n e = subst (λ i. slice_get (x ∷ (xs ++ ys)) i ≡ Some n) (let z : suc (length xs + p) ≡ suc (length xs) + p = omega arith in z) (get_right xs ys p n e)
+      get_right (x ∷ xs) ys p n e = subst (λ i. slice_get (x ∷ (xs ++ ys)) i ≡ Some n) (let z : suc (length xs + p) ≡ suc (length xs) + p = omega arith in z)
+          (get_right xs ys p n e)
 
       both : (n : List ℕ) → Among n a → Among n b → IsRepeated n (a ++ b)
       both n x y =

@@ -32,7 +32,8 @@ on_ok_both (Ok y) f p q = f p q
 on_ok_both (Err e) f p q = tt
 
 -- a guard goes on to be one as the netlist grows
-pub guard_grows : {a b : Circuit} (from : ℕ) (guard : Option NetId) (g : List Clock → ℕ → Bool) → Grows a b → IsGuard from a.cells guard g → IsGuard from b.cells guard g
+pub guard_grows : {a b : Circuit} (from : ℕ) (guard : Option NetId) (g : List Clock → ℕ → Bool) → Grows a b → IsGuard from a.cells guard g
+    → IsGuard from b.cells guard g
 guard_grows from None g grows h = h
 guard_grows from (Some y) g grows h = word_grows grows h
 
@@ -61,7 +62,8 @@ module _ (ns : List NetTree) (old : List Next) (n : List ℕ) (here : IsNamed ns
   set_at = slice_set old (place_of ns n) k
 
   pub next_here : next_at ns set_at n ≡ k
-  next_here = get_or-set_same old (place_of ns n) k Keep (let l : place_of ns n < length ns = slice_get_within ns (place_of ns n) here.net here.at in omega arith)
+  next_here = get_or-set_same old (place_of ns n) k Keep
+      (let l : place_of ns n < length ns = slice_get_within ns (place_of ns n) here.net here.at in omega arith)
 
   pub next_other : (i : List ℕ) → (i ≡ n → ⊥) → next_at ns set_at i ≡ next_at ns old i
   next_other i other = get_or-set_other old (place_of ns n) (place_of ns i) k Keep (place_other ns n i here.net here.at other)
@@ -73,7 +75,8 @@ same_clocks c d p q = λ z. record { word = λ i. p i z; store = λ i. q i z }
 other_name : (i n : List ℕ) → bytes_eq i n ≡ false → i ≡ n → ⊥
 other_name i n f e = both_ways _ f (bytes_same i n e)
 
-module _ (ns : List NetTree) (old : List Next) (n : List ℕ) (here : IsNamed ns n) (long : length old ≡ length ns) (at : List ℕ → ℕ) (run : List Clock) (t : ℕ) where
+module _ (ns : List NetTree) (old : List Next) (n : List ℕ) (here : IsNamed ns n) (long : length old ≡ length ns) (at : List ℕ → ℕ) (run : List Clock)
+    (t : ℕ) where
   -- a register takes another word
   register_next : (y : NetId) (x : ℕ) → word_at run t y.0 ≡ x → next_store (next_at ns old n) run t (at n) ≡ store_at run t (at n)
       → next_read ns (slice_set old (place_of ns n) (Word y)) at run t ≡ with_word (next_read ns old at run t) n x
@@ -99,8 +102,10 @@ module _ (ns : List NetTree) (old : List Next) (n : List ℕ) (here : IsNamed ns
       ])
 
   -- a memory that is not written yet is written
-  memory_next : (a w e : NetId) (place word : ℕ) (g : Bool) → word_at run t a.0 ≡ place → word_at run t w.0 ≡ word → word_at run t e.0 ≡ bit g → next_at ns old n ≡ Keep
-      → next_read ns (slice_set old (place_of ns n) (Write a w e)) at run t ≡ (if g then with_stored (next_read ns old at run t) n place word else next_read ns old at run t)
+  memory_next : (a w e : NetId) (place word : ℕ) (g : Bool) → word_at run t a.0 ≡ place → word_at run t w.0 ≡ word → word_at run t e.0 ≡ bit g
+      → next_at ns old n ≡ Keep
+      → next_read ns (slice_set old (place_of ns n) (Write a w e)) at run
+      t ≡ (if g then with_stored (next_read ns old at run t) n place word else next_read ns old at run t)
   unfolding next_read
   memory_next a w e place word true ea ew ee kept =
       let now = next_here ns old n here long (Write a w e) in
@@ -110,7 +115,8 @@ module _ (ns : List NetTree) (old : List Next) (n : List ℕ) (here : IsNamed ns
         | inl s ↦
             let same = same_bytes i n s in
             ap (λ (u : List ℕ). next_word (next_at ns (slice_set old (place_of ns n) (Write a w e)) u) run t (at u)) same
-            ∙ (ap (λ k. next_word k run t (at n)) now ∙ (sym (ap (λ k. next_word k run t (at n)) kept) ∙ ap (λ (u : List ℕ). next_word (next_at ns old u) run t (at u)) (sym same)))
+            ∙ (ap (λ k. next_word k run t (at n)) now ∙ (sym (ap (λ k. next_word k run t (at n)) kept) ∙
+            ap (λ (u : List ℕ). next_word (next_at ns old u) run t (at u)) (sym same)))
         | inr f ↦ ap (λ k. next_word k run t (at i)) (next_other ns old n here long (Write a w e) i (other_name i n f))
       ])
       (λ i. elim (cases_Bool (bytes_eq i n)) [
@@ -136,7 +142,8 @@ module _ (ns : List NetTree) (old : List Next) (n : List ℕ) (here : IsNamed ns
         | inl s ↦
             let same = same_bytes i n s in
             ap (λ (u : List ℕ). next_word (next_at ns (slice_set old (place_of ns n) (Write a w e)) u) run t (at u)) same
-            ∙ (ap (λ k. next_word k run t (at n)) now ∙ (sym (ap (λ k. next_word k run t (at n)) kept) ∙ ap (λ (u : List ℕ). next_word (next_at ns old u) run t (at u)) (sym same)))
+            ∙ (ap (λ k. next_word k run t (at n)) now ∙ (sym (ap (λ k. next_word k run t (at n)) kept) ∙
+            ap (λ (u : List ℕ). next_word (next_at ns old u) run t (at u)) (sym same)))
         | inr f ↦ ap (λ k. next_word k run t (at i)) (next_other ns old n here long (Write a w e) i (other_name i n f))
       ])
       (λ i. elim (cases_Bool (bytes_eq i n)) [
@@ -145,7 +152,8 @@ module _ (ns : List NetTree) (old : List Next) (n : List ℕ) (here : IsNamed ns
             let unwritten : next_store (Write a w e) run t (at n) ≡ store_at run t (at n) =
             ap (λ x. if x == 1 then slice_set (store_at run t (at n)) (word_at run t a.0) (word_at run t w.0) else store_at run t (at n)) ee in
             ap (λ (u : List ℕ). next_store (next_at ns (slice_set old (place_of ns n) (Write a w e)) u) run t (at u)) same
-            ∙ (ap (λ k. next_store k run t (at n)) now ∙ (unwritten ∙ (sym (ap (λ k. next_store k run t (at n)) kept) ∙ ap (λ (u : List ℕ). next_store (next_at ns old u) run t (at u)) (sym same))))
+            ∙ (ap (λ k. next_store k run t (at n)) now ∙ (unwritten ∙
+            (sym (ap (λ k. next_store k run t (at n)) kept) ∙ ap (λ (u : List ℕ). next_store (next_at ns old u) run t (at u)) (sym same))))
         | inr f ↦ ap (λ k. next_store k run t (at i)) (next_other ns old n here long (Write a w e) i (other_name i n f))
       ])
 
@@ -161,7 +169,8 @@ choose_word next n false x =
     (λ i. refl)
 
 module _ (from : ℕ) (ns : List NetTree) (ys : List (Option NetId)) where
-  pub assign_acts : (guard : Option NetId) (before after : List SizedCell) (old : List Next) (n : List ℕ) (value : ExprTree) (y : NetId) (w : ℕ) → IsNamed ns n → length old ≡ length ns
+  pub assign_acts : (guard : Option NetId) (before after : List SizedCell) (old : List Next) (n : List ℕ) (value : ExprTree) (y : NetId) (w : ℕ) → IsNamed ns n
+      → length old ≡ length ns
       → ((run : List Clock) (t own : ℕ) → next_store (next_at ns old n) run t own ≡ store_at run t own)
       → ((at : List ℕ → ℕ) (g : List Clock → ℕ → Bool) → AreNamed ns ys at → IsGuard from before guard g
       → IsWord from after y.0 w (λ run t. if g run t then assigned ns (read at run t) n value else next_word (next_at ns old n) run t (at n)))
@@ -171,28 +180,34 @@ module _ (from : ℕ) (ns : List NetTree) (ys : List (Option NetId)) where
       register_next ns old n here long at run t y _ ((word at g named guards).words all k run is t l) (kept run t (at n))
       ∙ choose_word (next_read ns old at run t) n (g run t) (assigned ns (read at run t) n value)
 
-  pub write_acts : (guard : Option NetId) (before after : List SizedCell) (old : List Next) (n : List ℕ) (spot value : ExprTree) (a x e : NetId) (w : ℕ) → IsNamed ns n → length old ≡ length ns → next_at ns old n ≡ Keep
+  pub write_acts : (guard : Option NetId) (before after : List SizedCell) (old : List Next) (n : List ℕ) (spot value : ExprTree) (a x e : NetId) (w : ℕ)
+      → IsNamed ns n → length old ≡ length ns → next_at ns old n ≡ Keep
       → ((at : List ℕ → ℕ) → AreNamed ns ys at → IsAddressWord from after a.0 (λ run t. own_value ns (read at run t) spot))
       → ((at : List ℕ → ℕ) → AreNamed ns ys at → IsWord from after x.0 w (λ run t. assigned ns (read at run t) n value))
       → ((g : List Clock → ℕ → Bool) → IsGuard from before guard g → IsWord from after e.0 1 (λ run t. bit (g run t)))
       → Acts from ns ys guard before after old (slice_set old (place_of ns n) (Write a x e)) (put n spot value)
   write_acts guard before after old n spot value a x e w here long kept address word enable = λ at g named guards all k run is t l.
-      memory_next ns old n here long at run t a x e _ _ (g run t) (address at named all k run is t l) ((word at named).words all k run is t l) ((enable g guards).words all k run is t l) kept
+      memory_next ns old n here long at run t a x e _ _ (g run t) (address at named all k run is t l) ((word at named).words all k run is t l)
+      ((enable g guards).words all k run is t l) kept
 
   -- a branch, and two branches one behind the other
   pub when_acts : (guard : Option NetId) (m0 m1 m2 m3 : Circuit) (old new : List Next) (test : ExprTree) (s : StmtTree) (none first : NetId) → Grows m0 m1
       → ((at : List ℕ → ℕ) → AreNamed ns ys at → IsWord from m1.cells none.0 1 (λ run t. bit (own_value ns (read at run t) test == 0)))
-      → ((g b : List Clock → ℕ → Bool) → IsGuard from m1.cells guard g → IsWord from m1.cells none.0 1 (λ run t. bit (b run t)) → IsWord from m2.cells first.0 1 (λ run t. bit (g run t && not (b run t))))
+      → ((g b : List Clock → ℕ → Bool) → IsGuard from m1.cells guard g → IsWord from m1.cells none.0 1 (λ run t. bit (b run t))
+      → IsWord from m2.cells first.0 1 (λ run t. bit (g run t && not (b run t))))
       → Acts from ns ys (Some first) m2.cells m3.cells old new s
       → Acts from ns ys guard m0.cells m3.cells old new (when test s)
   when_acts guard m0 m1 m2 m3 old new test s none first grows fails unless acts = λ at g named guards.
       let b : List Clock → ℕ → Bool = λ run t. own_value ns (read at run t) test == 0 in
       acts at (λ run t. g run t && not (b run t)) named (unless g b (guard_grows from guard g grows guards) (fails at named))
 
-  pub either_acts : (guard : Option NetId) (m0 m1 m2 m3 m4 m5 : Circuit) (old mid new : List Next) (test : ExprTree) (s u : StmtTree) (none first second : NetId) → Grows m0 m1 → Grows m1 m2 → Grows m2 m3 → Grows m3 m4 → Grows m4 m5
+  pub either_acts : (guard : Option NetId) (m0 m1 m2 m3 m4 m5 : Circuit) (old mid new : List Next) (test : ExprTree) (s u : StmtTree)
+      (none first second : NetId) → Grows m0 m1 → Grows m1 m2 → Grows m2 m3 → Grows m3 m4 → Grows m4 m5
       → ((at : List ℕ → ℕ) → AreNamed ns ys at → IsWord from m1.cells none.0 1 (λ run t. bit (own_value ns (read at run t) test == 0)))
-      → ((g b : List Clock → ℕ → Bool) → IsGuard from m1.cells guard g → IsWord from m1.cells none.0 1 (λ run t. bit (b run t)) → IsWord from m2.cells first.0 1 (λ run t. bit (g run t && not (b run t))))
-      → ((g b : List Clock → ℕ → Bool) → IsGuard from m2.cells guard g → IsWord from m2.cells none.0 1 (λ run t. bit (b run t)) → IsWord from m3.cells second.0 1 (λ run t. bit (g run t && b run t)))
+      → ((g b : List Clock → ℕ → Bool) → IsGuard from m1.cells guard g → IsWord from m1.cells none.0 1 (λ run t. bit (b run t))
+      → IsWord from m2.cells first.0 1 (λ run t. bit (g run t && not (b run t))))
+      → ((g b : List Clock → ℕ → Bool) → IsGuard from m2.cells guard g → IsWord from m2.cells none.0 1 (λ run t. bit (b run t))
+      → IsWord from m3.cells second.0 1 (λ run t. bit (g run t && b run t)))
       → Acts from ns ys (Some first) m3.cells m4.cells old mid s → Acts from ns ys (Some second) m4.cells m5.cells mid new u
       → Acts from ns ys guard m0.cells m5.cells old new (either test s u)
   either_acts guard m0 m1 m2 m3 m4 m5 old mid new test s u none first second g1 g2 g3 g4 g5 fails unless also acts more = λ at g named guards all k run is t l.

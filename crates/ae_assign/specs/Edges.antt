@@ -41,7 +41,8 @@ abbrev pub IsReadyStmt : List NetTree → List (Option NetId) → StmtTree → T
 IsReadyStmt ns ys (set n value) = IsReady ns ys n × IsReadyFor ns ys value
 IsReadyStmt ns ys (put n at value) = IsReadyFor ns ys (index n at) × IsReadyFor ns ys value
 IsReadyStmt ns ys (when test taken) = IsReadyFor ns ys test × IsReadyStmt ns ys taken
-IsReadyStmt ns ys (either test taken otherwise) = IsReadyFor ns ys test × IsReadyStmt ns ys taken × IsReadyStmt ns ys otherwise
+IsReadyStmt ns ys (either test taken otherwise) =
+    IsReadyFor ns ys test × IsReadyStmt ns ys taken × IsReadyStmt ns ys otherwise
 IsReadyStmt ns ys block_end = Unit {0}
 IsReadyStmt ns ys (block_more first rest) = IsReadyStmt ns ys first × IsReadyStmt ns ys rest
 
@@ -56,7 +57,8 @@ IsGuard from cells (Some y) g = IsWord from cells y.0 1 (λ run t. bit (g run t)
 
 -- the net has this value in each clock of every run, whatever its width
 abbrev pub IsAddressWord : ℕ → List SizedCell → ℕ → (List Clock → ℕ → ℕ) → Type 0
-IsAddressWord from cells net value = InEveryRunFrom from cells (λ run. (t : ℕ) → t < length run → word_at run t net ≡ value run t)
+IsAddressWord from cells net value =
+    InEveryRunFrom from cells (λ run. (t : ℕ) → t < length run → word_at run t net ≡ value run t)
 
 -- what the name at a place takes at the edge
 abbrev pub next_at : List NetTree → List Next → List ℕ → Next
@@ -66,11 +68,13 @@ next_at ns nexts n = get_or nexts (place_of ns n) Keep
 abbrev pub FitsNext : List SizedCell → NetTree → Next → Type 0
 FitsNext cells x Keep = Unit {0}
 FitsNext cells x (Word y) = (is_register_kind x.kind ≡ true) × IsNet cells y.0 x.width
-FitsNext cells x (Write at word enable) = (depth : ℕ) × (x.kind ≡ Memory depth) × IsWritten cells x.width depth at.0 word.0 enable.0
+FitsNext cells x (Write at word enable) =
+    (depth : ℕ) × (x.kind ≡ Memory depth) × IsWritten cells x.width depth at.0 word.0 enable.0
 
 pub record FitNexts (ns : List NetTree) (nexts : List Next) (cells : List SizedCell) : Type 0 where
   pub long : length nexts ≡ length ns
-  pub each : (p : ℕ) (x : NetTree) (k : Next) → slice_get ns p ≡ Some x → slice_get nexts p ≡ Some k → FitsNext cells x k
+  pub each : (p : ℕ) (x : NetTree) (k : Next) → slice_get ns p ≡ Some x → slice_get nexts p ≡ Some k
+      → FitsNext cells x k
 
 -- no memory among these names is to be written yet, and none of them stands there twice
 pub record AreFresh (ns : List NetTree) (nexts : List Next) (targets : List (List ℕ)) : Type 0 where
@@ -112,14 +116,17 @@ IsSoFar (Word y) own net = net ≡ y
 IsSoFar (Write at word enable) own net = ⊥
 
 -- in every run, what is next is what a guarded statement makes of what was next
-abbrev pub Acts : ℕ → List NetTree → List (Option NetId) → Option NetId → (before after : List SizedCell) → (old new : List Next) → StmtTree → Type 0
+abbrev pub Acts : ℕ → List NetTree → List (Option NetId) → Option NetId → (before after : List SizedCell)
+    → (old new : List Next) → StmtTree → Type 0
 Acts from ns ys guard before after old new s =
     (at : List ℕ → ℕ) (g : List Clock → ℕ → Bool) → AreNamed ns ys at → IsGuard from before guard g
-    → InEveryRunFrom from after (λ run. (t : ℕ) → t < length run → next_read ns new at run t ≡ guarded ns (read at run t) s (g run t) (next_read ns old at run t))
+    → InEveryRunFrom from after (λ run. (t : ℕ) → t < length run
+    → next_read ns new at run t ≡ guarded ns (read at run t) s (g run t) (next_read ns old at run t))
 
 -- the netlist has grown by the cells of a guarded statement, at most 8 for each unit of its weight, and what is next is what
 -- the statement makes of it
-pub record IsActed (from : ℕ) (ns : List NetTree) (ys : List (Option NetId)) (guard : Option NetId) (old new : Circuit) (before after : List Next) (s : StmtTree) : Type 0 where
+pub record IsActed (from : ℕ) (ns : List NetTree) (ys : List (Option NetId)) (guard : Option NetId) (old new : Circuit)
+    (before after : List Next) (s : StmtTree) : Type 0 where
   pub grows : Grows old new
   pub more : length old.cells ≤ length new.cells
   pub few : length new.cells ≤ length old.cells + 8 * stmt_weight 0 s
@@ -134,10 +141,12 @@ IsActiveItem ns ys (assigns drives) = Unit {0}
 IsActiveItem ns ys (always clock body) = IsSoundStmt ns body × IsReadyStmt ns ys body
 
 -- in every run, what is next is what items make of what was next
-abbrev pub ActsItems : ℕ → List NetTree → List (Option NetId) → (after : List SizedCell) → (old new : List Next) → List ItemTree → Type 0
+abbrev pub ActsItems : ℕ → List NetTree → List (Option NetId) → (after : List SizedCell) → (old new : List Next)
+    → List ItemTree → Type 0
 ActsItems from ns ys after old new is =
     (at : List ℕ → ℕ) → AreNamed ns ys at
-    → InEveryRunFrom from after (λ run. (t : ℕ) → t < length run → next_read ns new at run t ≡ after_items ns (read at run t) is (next_read ns old at run t))
+    → InEveryRunFrom from after (λ run. (t : ℕ) → t < length run
+    → next_read ns new at run t ≡ after_items ns (read at run t) is (next_read ns old at run t))
 
 -- a register's next net, where its own is known, and a memory's cell
 abbrev pub next_net : Next → (own : ℕ) → NetId
@@ -153,8 +162,10 @@ abbrev pub IsConnected : NetKind → List SizedCell → (own width : ℕ) → Ne
 IsConnected Input cells own width k = Unit {0}
 IsConnected Wire cells own width k = Unit {0}
 IsConnected OutWire cells own width k = Unit {0}
-IsConnected RegName cells own width k = slice_get cells own ≡ Some (record { width = width; cell = Reg (next_net k own) })
-IsConnected OutReg cells own width k = slice_get cells own ≡ Some (record { width = width; cell = Reg (next_net k own) })
+IsConnected RegName cells own width k =
+    slice_get cells own ≡ Some (record { width = width; cell = Reg (next_net k own) })
+IsConnected OutReg cells own width k =
+    slice_get cells own ≡ Some (record { width = width; cell = Reg (next_net k own) })
 IsConnected (Memory depth) cells own width k = slice_get cells own ≡ Some (next_memory k own width depth)
 
 -- each constant stays

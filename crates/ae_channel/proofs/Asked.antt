@@ -44,10 +44,12 @@ use Rattle.ae_streamed.proofs.Cells.{get_mapped}
 
 -- ---- layouts
 
-pub are_layouts : (slowdown : ℕ) (layouts : List StType) (trees : List StTree) → map st_tree layouts ≡ trees → 0 < length trees → AreFilling slowdown trees → AreLayouts slowdown layouts
+pub are_layouts : (slowdown : ℕ) (layouts : List StType) (trees : List StTree) → map st_tree layouts ≡ trees → 0 < length trees → AreFilling slowdown trees
+    → AreLayouts slowdown layouts
 are_layouts slowdown layouts trees is some filling = record {
   some = omega (arith, some, ap (λ (v : List StTree). length v) is, length-map layouts st_tree);
-  each = λ k layout found. (let f = filling k (st_tree layout) (ap (λ v. slice_get v k) (sym is) ∙ get_mapped st_tree layouts k layout found) in (f.size, f.time));
+  each = λ k layout found. (let f = filling k (st_tree layout) (ap (λ v. slice_get v k) (sym is) ∙ get_mapped st_tree layouts k layout found) in
+      (f.size, f.time));
 }
 
 pub some_ins : (p : ProgramTree) (slowdown : ℕ) (ins outs : List StTree) → IsLaidOut p slowdown ins outs → 0 < length ins
@@ -56,7 +58,15 @@ some_ins p slowdown ins outs h =
     let e = entry-at p.funcs (main_of p) (omega (arith, some)) in
     let formed = formed-of p (main_of p) e.0 h.typed.is_formed e.1 in
     let own : parameter_types p ≡ types_of_params e.0.params = ap interface.types_in e.1 in
-    omega (arith, formed.some_params, ap length own, length-map e.0.params (λ (q : ParamTree). q.type), ap length h.layouts.parameters, length-map (parameter_types p) (λ t. lay_of t slowdown), length-map ins (λ (x : StTree). Some x))
+    omega (
+      arith,
+      formed.some_params,
+      ap length own,
+      length-map e.0.params (λ (q : ParamTree). q.type),
+      ap length h.layouts.parameters,
+      length-map (parameter_types p) (λ t. lay_of t slowdown),
+      length-map ins (λ (x : StTree). Some x),
+    )
 
 pub some_outs : (p : ProgramTree) (slowdown : ℕ) (ins outs : List StTree) → IsLaidOut p slowdown ins outs → 0 < length outs
 some_outs p slowdown ins outs h =
@@ -77,14 +87,22 @@ some_outs p slowdown ins outs h =
 
 pub columns_are : (ss : List StTree) → columns_in (streams_of ss) ≡ sum_by columns_of ss
 columns_are [] = refl
-columns_are (s ∷ ss) = omega (arith, sum_by-cons columns_of s ss, sum_by-cons (λ (x : Stream). length (stream_widths x)) (stream_of s) (streams_of ss), stream_columns s, columns_are ss)
+columns_are (s ∷ ss) =
+    omega (
+      arith,
+      sum_by-cons columns_of s ss,
+      sum_by-cons (λ (x : Stream). length (stream_widths x)) (stream_of s) (streams_of ss),
+      stream_columns s,
+      columns_are ss,
+    )
 
 take_short : {X : Type 0} (n : ℕ) (xs : List X) → length (take n xs) ≤ length xs
 take_short zero xs = omega arith
 take_short (suc n) [] = omega arith
 take_short (suc n) (x ∷ xs) = omega (arith, take_short n xs)
 
-head_is : (cells : List SizedCell) (p : SizedPort) (ports : List SizedPort) → take (length (p ∷ ports)) cells ≡ map input_cell (p ∷ ports) → slice_get cells 0 ≡ Some (input_cell p)
+head_is : (cells : List SizedCell) (p : SizedPort) (ports : List SizedPort) → take (length (p ∷ ports)) cells ≡ map input_cell (p ∷ ports)
+    → slice_get cells 0 ≡ Some (input_cell p)
 head_is [] p ports e = cc
 head_is (c ∷ cells) p ports e = let same : c ≡ input_cell p = cc in ap (λ (x : SizedCell). Some x) same
 
@@ -100,7 +118,14 @@ module _ (p : ProgramTree) (slowdown : ℕ) (costs : OwnCosts) (ins outs : List 
   pub has_ins : sum_by columns_of ins < length n.cells
   has_ins =
       let ports : length (input_ports (streams_of ins)) ≡ columns_in (streams_of ins) = length_from _ 0 (streams_of ins) in
-      omega (arith, ports, columns_are ins, take_short (length (reset_port ∷ input_ports (streams_of ins))) n.cells, ap length has_first, length-map (reset_port ∷ input_ports (streams_of ins)) input_cell)
+      omega (
+        arith,
+        ports,
+        columns_are ins,
+        take_short (length (reset_port ∷ input_ports (streams_of ins))) n.cells,
+        ap length has_first,
+        length-map (reset_port ∷ input_ports (streams_of ins)) input_cell,
+      )
 
   pub has_outs : length n.outlets ≡ sum_by columns_of outs
   has_outs =
@@ -110,7 +135,8 @@ module _ (p : ProgramTree) (slowdown : ℕ) (costs : OwnCosts) (ins outs : List 
 
 -- ---- the whole
 
-pub can_stream : (p : ProgramTree) (slowdown : ℕ) (instances : List StFuncTree) (n : Circuit) (report : Report) (notes : List NoteTree) → IsCompiled p slowdown instances n (report_tree report) notes → CanStream n report
+pub can_stream : (p : ProgramTree) (slowdown : ℕ) (instances : List StFuncTree) (n : Circuit) (report : Report) (notes : List NoteTree)
+    → IsCompiled p slowdown instances n (report_tree report) notes → CanStream n report
 can_stream p slowdown instances n report notes d =
     let costs : OwnCosts = main_costs p instances in
     let ins : List StTree = map st_tree report.ins.items in
@@ -121,18 +147,22 @@ can_stream p slowdown instances n report notes d =
       reset = has_reset p slowdown costs ins outs n d.circuit;
       some = omega (arith, clocks, d.laid.some);
       most = omega (arith, clocks, d.laid.most);
-      inputs = are_layouts report.slowdown report.ins.items ins refl (some_ins p slowdown ins outs d.laid) (subst (λ k. AreFilling k ins) (sym clocks) (ins_filling p slowdown ins outs d.laid));
-      outputs = are_layouts report.slowdown report.outs.items outs refl (some_outs p slowdown ins outs d.laid) (subst (λ k. AreFilling k outs) (sym clocks) (outs_filling p slowdown ins outs d.laid));
+      inputs = are_layouts report.slowdown report.ins.items ins refl (some_ins p slowdown ins outs d.laid)
+          (subst (λ k. AreFilling k ins) (sym clocks) (ins_filling p slowdown ins outs d.laid));
+      outputs = are_layouts report.slowdown report.outs.items outs refl (some_outs p slowdown ins outs d.laid)
+          (subst (λ k. AreFilling k outs) (sym clocks) (outs_filling p slowdown ins outs d.laid));
       ins = has_ins p slowdown costs ins outs n d.circuit;
       outs = has_outs p slowdown costs ins outs n d.circuit;
       few = omega (arith, ports.outputs);
     }
 
 -- the layouts of the parameters are those of their types
-pub told_laid : (p : ProgramTree) (slowdown : ℕ) (instances : List StFuncTree) (found : Costs) (n : Circuit) (report : ReportTree) (notes : List NoteTree) → IsKnown load_limit p slowdown instances found → IsCompiled p slowdown instances n report notes
+pub told_laid : (p : ProgramTree) (slowdown : ℕ) (instances : List StFuncTree) (found : Costs) (n : Circuit) (report : ReportTree) (notes : List NoteTree)
+    → IsKnown load_limit p slowdown instances found → IsCompiled p slowdown instances n report notes
     → AllLaidOut (parameter_types p) report.ins
 told_laid p slowdown instances found n report notes k d =
     let key = k.schedule.last in
     let e : key.instance ≡ d.instance = same_Some key.instance d.instance (sym key.here ∙ d.last) in
     subst (AllLaidOut (parameter_types p)) (sym (ap (λ (r : ReportTree). r.ins) d.reported))
-    (inputs_laid p (keys_of instances) d.instance k.typed (k.schedule.right (last_of instances) d.instance d.last) (subst (λ (x : StFuncTree). x.func ≡ main_of p) e key.is_func))
+    (inputs_laid p (keys_of instances) d.instance k.typed (k.schedule.right (last_of instances) d.instance d.last)
+    (subst (λ (x : StFuncTree). x.func ≡ main_of p) e key.is_func))

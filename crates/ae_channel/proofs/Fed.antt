@@ -79,7 +79,8 @@ flat_long t s ws v l h =
 
 -- ---- the words of a block
 
-all_fit : (ts : List SeqTree) (ss : List StTree) (vs : List ValueTree) → AllLaidOut ts ss → AreValues ts vs → FitKinds (flat_map flat vs) (flat_map value_kinds ss)
+all_fit : (ts : List SeqTree) (ss : List StTree) (vs : List ValueTree) → AllLaidOut ts ss → AreValues ts vs
+    → FitKinds (flat_map flat vs) (flat_map value_kinds ss)
 all_fit [] [] [] l h = tt
 all_fit [] [] (v ∷ vs) l h = absurd h
 all_fit [] (s ∷ ss) vs l h = absurd l
@@ -120,10 +121,12 @@ values_are (t ∷ ts) (s ∷ ss) [] l h = absurd h
 values_are (t ∷ ts) (s ∷ ss) (v ∷ vs) l h =
     let long = flat_long t s h.0.0 v l.0 h.0.1 in
     ap (values_of (s ∷ ss)) (flat_map-cons flat v vs)
-    ∙ ((λ i. take_at (flat v) (flat_map flat vs) (st_atoms s * element_words s) long i ∷ values_of ss (drop_at (flat v) (flat_map flat vs) (st_atoms s * element_words s) long i))
+    ∙ ((λ i. take_at (flat v) (flat_map flat vs) (st_atoms s * element_words s) long i
+    ∷ values_of ss (drop_at (flat v) (flat_map flat vs) (st_atoms s * element_words s) long i))
     ∙ ap (λ xs. flat v ∷ xs) (values_are ts ss vs l.1 h.1))
 
-blocks_are : (ts : List SeqTree) (ss : List StTree) (vs : List ValueTree) → AllLaidOut ts ss → AreValues ts vs → blocks_of ss 1 (flat_map flat vs) ≡ map (map flat) (vs ∷ [])
+blocks_are : (ts : List SeqTree) (ss : List StTree) (vs : List ValueTree) → AllLaidOut ts ss → AreValues ts vs
+    → blocks_of ss 1 (flat_map flat vs) ≡ map (map flat) (vs ∷ [])
 blocks_are ts ss vs l h =
     let whole : take (size_of ss) (flat_map flat vs) ≡ flat_map flat vs = take_all (size_of ss) (flat_map flat vs) (omega (arith, all_long ts ss vs l h)) in
     (λ i. values_of ss (whole i) ∷ []) ∙ ap (λ xs. xs ∷ []) (values_are ts ss vs l h)
@@ -138,7 +141,8 @@ as_long (t ∷ ts) (s ∷ ss) (v ∷ vs) l h = ap suc (as_long ts ss vs l.1 h.1)
 
 -- ---- the number of an input
 
-count_first : (cells : List SizedCell) (ports : List SizedPort) (k : ℕ) → take (length ports) cells ≡ map input_cell ports → k ≤ length ports → count_of is_input (take k cells) ≡ k
+count_first : (cells : List SizedCell) (ports : List SizedPort) (k : ℕ) → take (length ports) cells ≡ map input_cell ports → k ≤ length ports
+    → count_of is_input (take k cells) ≡ k
 count_first cells ports zero h below = refl
 count_first cells [] (suc k) h below = absurd (omega (arith, below))
 count_first [] (p ∷ ports) (suc k) h below = cc
@@ -149,7 +153,8 @@ count_first (c ∷ cells) (p ∷ ports) (suc k) h below =
     let one : counted c ≡ 1 = ap counted head in
     omega (arith, sum_by-cons counted c (take k cells), one, count_first cells ports k rest (omega (arith, below)))
 
-module _ (p : ProgramTree) (slowdown : ℕ) (costs : OwnCosts) (ins outs : List StTree) (n : Circuit) (laid : IsLaidOut p slowdown ins outs) (c : IsCircuitFor p slowdown costs ins outs n)
+module _ (p : ProgramTree) (slowdown : ℕ) (costs : OwnCosts) (ins outs : List StTree) (n : Circuit) (laid : IsLaidOut p slowdown ins outs)
+    (c : IsCircuitFor p slowdown costs ins outs n)
     (all : AllLaidOut (parameter_types p) ins) (feeds : play.CanBeFed) (one : HasOneRunWith n.cells) (begins : AreFirsts n.cells (filled n.cells 0)) where
   abbrev given : List SizedPort
   given = reset_port ∷ input_ports (streams_of ins)
@@ -163,17 +168,20 @@ module _ (p : ProgramTree) (slowdown : ℕ) (costs : OwnCosts) (ins outs : List 
       sym (slice_get-take (length given) k n.cells within) ∙ (ap (λ cs. slice_get cs k) first ∙ mapped_at input_cell given k port found)
 
   -- the port of a column
-  at_column : (q column : ℕ) (s : StTree) → slice_get ins q ≡ Some s → column < length (stream_widths (stream_of s)) → (port : SizedPort) × (slice_get given (1 + (first_column ins q + column)) ≡ Some port)
+  at_column : (q column : ℕ) (s : StTree) → slice_get ins q ≡ Some s → column < length (stream_widths (stream_of s)) → (port : SizedPort)
+      × (slice_get given (1 + (first_column ins q + column)) ≡ Some port)
   at_column q column s found small =
       let at : ℕ → ℕ → ℕ → Port = λ param lane word. In param lane word in
       let own = column_at 1 false (at q) s column small in
       let z : q ≡ 0 + q = omega arith in
       let here : slice_get (input_ports (streams_of ins)) (columns_in (take q (streams_of ins)) + column) ≡ Some own.port =
-      port_there at 0 (streams_of ins) q column (stream_of s) own.port (mapped_at stream_of ins q s found) (ap (λ i. slice_get (stream_ports (at i) (stream_of s)) column) (sym z) ∙ own.here) in
+      port_there at 0 (streams_of ins) q column (stream_of s) own.port (mapped_at stream_of ins q s found)
+      (ap (λ i. slice_get (stream_ports (at i) (stream_of s)) column) (sym z) ∙ own.here) in
       let place : 1 + (first_column ins q + column) ≡ suc (columns_in (take q (streams_of ins)) + column) = omega (arith, first_columns ins q) in
       (own.port, ap (slice_get given) place ∙ here)
 
-  column_of : (q e j : ℕ) (s : StTree) (w : Slot) → slice_get ins q ≡ Some s → slice_get (slots s) e ≡ Some w → j < element_words s → w.lane * element_words s + j < length (stream_widths (stream_of s))
+  column_of : (q e j : ℕ) (s : StTree) (w : Slot) → slice_get ins q ≡ Some s → slice_get (slots s) e ≡ Some w → j < element_words s
+      → w.lane * element_words s + j < length (stream_widths (stream_of s))
   column_of q e j s w found slot word =
       let f = ins_filling p slowdown ins outs laid q s found in
       small_column s w.lane j (slot_in s f.size.lengths e w slot).1 word
@@ -188,7 +196,8 @@ module _ (p : ProgramTree) (slowdown : ℕ) (costs : OwnCosts) (ins outs : List 
     fit : All (AreInputs n.cells) rows
     fit =
         let ws : List ℕ = flat_map flat block in
-        let blocks_fit : FitBlocks ins 1 ws = subst (FitKinds ws) (sym (repeated-one (flat_map value_kinds ins))) (all_fit (parameter_types p) ins block all values) in
+        let blocks_fit : FitBlocks ins 1 ws = subst (FitKinds ws) (sym (repeated-one (flat_map value_kinds ins)))
+        (all_fit (parameter_types p) ins block all values) in
         subst (λ bs. All (AreInputs n.cells) (fed_rows slowdown 0 ins bs (clock + 1))) (blocks_are (parameter_types p) ins block all values)
         (feeds n.cells slowdown 0 ins 1 ws (circuit_columns p slowdown costs ins outs n c) blocks_fit (clock + 1))
 
@@ -203,7 +212,8 @@ module _ (p : ProgramTree) (slowdown : ℕ) (costs : OwnCosts) (ins outs : List 
     long = (let m = length_rows slowdown 0 ins (map (map flat) blocks) (clock + 1) in omega (arith, m))
 
     -- what an input has in this clock
-    word : (k : ℕ) (port : SizedPort) → slice_get given k ≡ Some port → word_at run (suc clock) k ≡ get_or (clock_row slowdown 0 ins (map (map flat) blocks) clock) k 0
+    word : (k : ℕ) (port : SizedPort) → slice_get given k ≡ Some port
+        → word_at run (suc clock) k ≡ get_or (clock_row slowdown 0 ins (map (map flat) blocks) clock) k 0
     word k port found =
         let within : k < length given = slice_get_within given k port found in
         is_run.takes.each (suc clock) k (input_cell port) (omega (arith, long)) (there k port found) refl
@@ -219,11 +229,13 @@ module _ (p : ProgramTree) (slowdown : ℕ) (costs : OwnCosts) (ins outs : List 
           let f = ins_filling p slowdown ins outs laid q s found in
           let bounds = slot_in s f.size.lengths e w slot in
           let port = at_column q (w.lane * element_words s + j) s found (column_of q e j s w found slot small) in
-          let place : 1 + (first_column ins q + (w.lane * element_words s + j)) ≡ suc (columns_in (take q (streams_of ins)) + (w.lane * element_words s + j)) = omega (arith, first_columns ins q) in
+          let place : 1 + (first_column ins q + (w.lane * element_words s + j)) ≡ suc
+          (columns_in (take q (streams_of ins)) + (w.lane * element_words s + j)) = omega (arith, first_columns ins q) in
           let z : clock ≡ 0 * slowdown + w.clock = omega (arith, now) in
           word (1 + (first_column ins q + (w.lane * element_words s + j))) port.0 port.1
           ∙ ((λ i. get_or (clock_row slowdown 0 ins (map (map flat) blocks) (z i)) (place i) 0)
-          ∙ stands_in_row slowdown 0 ins blocks (clock + 1) (ins_filling p slowdown ins outs laid) whole 0 q e j s w block refl found slot small bounds.0 bounds.1);
+          ∙ stands_in_row slowdown 0 ins blocks (clock + 1) (ins_filling p slowdown ins outs laid) whole 0 q e j s w block refl found slot small bounds.0
+          bounds.1);
     }
       where
         whole : (b : ℕ) (other : List ValueTree) → slice_get blocks b ≡ Some other → length other ≡ length ins

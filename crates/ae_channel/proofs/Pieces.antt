@@ -16,7 +16,8 @@ flat_last : {X : Type 0} (f : X → List ℕ) (xs : List X) (x : X) → flat_map
 flat_last f [] x = append-nil (f x)
 flat_last f (y ∷ ys) x = ap (λ v. f y ++ v) (flat_last f ys x) ∙ sym (append_assoc (f y) (flat_map f ys) (f x))
 
-pub replaced_more : (from to text rest behind before out one two : List ℕ) → IsReplacedTo from to text rest out → rest ≡ before ++ (from ++ behind) → one ≡ out ++ before → two ≡ one ++ to
+pub replaced_more : (from to text rest behind before out one two : List ℕ) → IsReplacedTo from to text rest out → rest ≡ before ++ (from ++ behind) → one ≡ out
+    ++ before → two ≡ one ++ to
     → IsReplacedTo from to text behind two
 replaced_more from to text rest behind before out one two h parts e f = record {
   pieces = h.pieces ++ before ∷ [];

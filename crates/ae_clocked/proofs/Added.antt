@@ -20,32 +20,41 @@ use Rattle.ae_clocked.proofs.Adding.{whole_connected, count_connected}
 abbrev pub IsAdded : Circuit → Circuit → Result NetId NetFault → SizedCell → Type 0
 IsAdded old new r sized = IfOk r (λ n. n ≡ record { 0 = length old.cells }) × OnOk r (new ≡ record old { cells = old.cells ++ sized ∷ [] })
 
-pub constant_words : (old new : Circuit) (r : Result NetId NetFault) (w k : ℕ) → IsAdded old new r (record { width = w; cell = Const k }) → IfOk r (λ y. InEveryRunFrom (length old.cells) new.cells (λ run. IsConstant run y.0 k))
+pub constant_words : (old new : Circuit) (r : Result NetId NetFault) (w k : ℕ) → IsAdded old new r (record { width = w; cell = Const k })
+    → IfOk r (λ y. InEveryRunFrom (length old.cells) new.cells (λ run. IsConstant run y.0 k))
 constant_words old new (Ok y) w k a = rw (a.1, a.0) (const_word old.cells w k)
 constant_words old new (Err e) w k a = a.0
 
-pub constant_net : (old new : Circuit) (r : Result NetId NetFault) (w k : ℕ) → IsAdded old new r (record { width = w; cell = Const k }) → IfOk r (λ y. IsNet new.cells y.0 w)
-constant_net old new (Ok y) w k a = rw (a.1, a.0) (record { sized = record { width = w; cell = Const k }; found = get_pushed old.cells _; plain = tt; wide = refl })
+pub constant_net : (old new : Circuit) (r : Result NetId NetFault) (w k : ℕ) → IsAdded old new r (record { width = w; cell = Const k })
+    → IfOk r (λ y. IsNet new.cells y.0 w)
+constant_net old new (Ok y) w k a =
+    rw (a.1, a.0) (record { sized = record { width = w; cell = Const k }; found = get_pushed old.cells _; plain = tt; wide = refl })
 constant_net old new (Err e) w k a = a.0
 
-pub operate_words : (old new : Circuit) (r : Result NetId NetFault) (op : WordOp) (args : List NetId) (w : ℕ) → IsOperation old.cells op args w → IsAdded old new r (record { width = w; cell = Op op args })
+pub operate_words : (old new : Circuit) (r : Result NetId NetFault) (op : WordOp) (args : List NetId) (w : ℕ) → IsOperation old.cells op args w
+    → IsAdded old new r (record { width = w; cell = Op op args })
     → IfOk r (λ y. InEveryRunFrom (length old.cells) new.cells (λ run. IsResult run y.0 op (width_of old.cells (main_operand op args)) args))
 operate_words old new (Ok y) op args w o a = rw (a.1, a.0) (op_word old.cells op args w _ (main_is op (IsNet old.cells) args _ o.operands))
 operate_words old new (Err e) op args w o a = a.0
 
-pub operate_net : (old new : Circuit) (r : Result NetId NetFault) (op : WordOp) (args : List NetId) (w : ℕ) → IsAdded old new r (record { width = w; cell = Op op args }) → IfOk r (λ y. IsNet new.cells y.0 w)
-operate_net old new (Ok y) op args w a = rw (a.1, a.0) (record { sized = record { width = w; cell = Op op args }; found = get_pushed old.cells _; plain = tt; wide = refl })
+pub operate_net : (old new : Circuit) (r : Result NetId NetFault) (op : WordOp) (args : List NetId) (w : ℕ)
+    → IsAdded old new r (record { width = w; cell = Op op args }) → IfOk r (λ y. IsNet new.cells y.0 w)
+operate_net old new (Ok y) op args w a =
+    rw (a.1, a.0) (record { sized = record { width = w; cell = Op op args }; found = get_pushed old.cells _; plain = tt; wide = refl })
 operate_net old new (Err e) op args w a = a.0
 
-pub register_is : (old new : Circuit) (r : Result NetId NetFault) (w : ℕ) → IsAdded old new r (new_register (length old.cells) w) → IfOk r (λ n. IsRegister new.cells n.0 w)
+pub register_is : (old new : Circuit) (r : Result NetId NetFault) (w : ℕ) → IsAdded old new r (new_register (length old.cells) w)
+    → IfOk r (λ n. IsRegister new.cells n.0 w)
 register_is old new (Ok y) w a = rw (a.1, a.0) (record { next = record { 0 = length old.cells }; found = get_pushed old.cells _ })
 register_is old new (Err e) w a = a.0
 
-pub register_net : (old new : Circuit) (r : Result NetId NetFault) (w : ℕ) → IsAdded old new r (new_register (length old.cells) w) → IfOk r (λ n. IsNet new.cells n.0 w)
+pub register_net : (old new : Circuit) (r : Result NetId NetFault) (w : ℕ) → IsAdded old new r (new_register (length old.cells) w)
+    → IfOk r (λ n. IsNet new.cells n.0 w)
 register_net old new (Ok y) w a = rw (a.1, a.0) (record { sized = new_register (length old.cells) w; found = get_pushed old.cells _; plain = tt; wide = refl })
 register_net old new (Err e) w a = a.0
 
-pub register_fresh : (old new : Circuit) (r : Result NetId NetFault) (w : ℕ) → IsAdded old new r (new_register (length old.cells) w) → IfOk r (λ n. n.0 ≡ length old.cells)
+pub register_fresh : (old new : Circuit) (r : Result NetId NetFault) (w : ℕ) → IsAdded old new r (new_register (length old.cells) w)
+    → IfOk r (λ n. n.0 ≡ length old.cells)
 register_fresh old new (Ok y) w a = ap (λ (n : NetId). n.0) a.0
 register_fresh old new (Err e) w a = a.0
 
@@ -59,7 +68,8 @@ own_register {cells} {r} h = rw (register_width h) h
 pub net_own : {cells : List SizedCell} {r v w : ℕ} → IsRegister cells r w → IsNet cells v w → IsNet cells v (width_of cells r)
 net_own {cells} {r} h n = rw (register_width h) n
 
-pub connects : (old new : Circuit) (r next : NetId) (w : ℕ) → IsRegister old.cells r.0 w → new ≡ record old { cells = set old.cells r.0 (record { width = w; cell = Reg next }) } → Connects old new r.0 next.0
+pub connects : (old new : Circuit) (r next : NetId) (w : ℕ) → IsRegister old.cells r.0 w
+    → new ≡ record old { cells = set old.cells r.0 (record { width = w; cell = Reg next }) } → Connects old new r.0 next.0
 connects old new r next w reg e = rw e (record {
   others = λ n sized ne h. get_set_other old.cells r.0 n _ ne ∙ h;
   nets = (keeps_connected old.cells r.0 w next reg).nets;
@@ -87,30 +97,39 @@ register_later {r} g h = record { next = h.next; found = g.extends.keeps r _ h.f
 
 -- operations on nets of one width
 pub equal_operation : (cells : List SizedCell) (a b : NetId) (w : ℕ) → IsNet cells a.0 w → IsNet cells b.0 w → IsOperation cells Eq (a ∷ b ∷ a ∷ []) 1
-equal_operation cells a b w p q = let e : width_of cells a.0 ≡ w = net_width p in record { unsigned = refl; range = tt; operands = rw e (p, q, p); result = refl }
+equal_operation cells a b w p q =
+    let e : width_of cells a.0 ≡ w = net_width p in record { unsigned = refl; range = tt; operands = rw e (p, q, p); result = refl }
 
 pub less_operation : (cells : List SizedCell) (a b : NetId) (w : ℕ) → IsNet cells a.0 w → IsNet cells b.0 w → IsOperation cells Lt (a ∷ b ∷ a ∷ []) 1
-less_operation cells a b w p q = let e : width_of cells a.0 ≡ w = net_width p in record { unsigned = refl; range = tt; operands = rw e (p, q, p); result = refl }
+less_operation cells a b w p q =
+    let e : width_of cells a.0 ≡ w = net_width p in record { unsigned = refl; range = tt; operands = rw e (p, q, p); result = refl }
 
 pub sum_operation : (cells : List SizedCell) (a b : NetId) (w : ℕ) → IsNet cells a.0 w → IsNet cells b.0 w → IsOperation cells Add (a ∷ b ∷ a ∷ []) w
-sum_operation cells a b w p q = let e : width_of cells a.0 ≡ w = net_width p in record { unsigned = refl; range = tt; operands = rw e (p, q, p); result = sym e }
+sum_operation cells a b w p q =
+    let e : width_of cells a.0 ≡ w = net_width p in record { unsigned = refl; range = tt; operands = rw e (p, q, p); result = sym e }
 
 pub or_operation : (cells : List SizedCell) (a b : NetId) (w : ℕ) → IsNet cells a.0 w → IsNet cells b.0 w → IsOperation cells Or (a ∷ b ∷ a ∷ []) w
 or_operation cells a b w p q = let e : width_of cells a.0 ≡ w = net_width p in record { unsigned = refl; range = tt; operands = rw e (p, q, p); result = sym e }
 
 pub xor_operation : (cells : List SizedCell) (a b : NetId) (w : ℕ) → IsNet cells a.0 w → IsNet cells b.0 w → IsOperation cells Xor (a ∷ b ∷ a ∷ []) w
-xor_operation cells a b w p q = let e : width_of cells a.0 ≡ w = net_width p in record { unsigned = refl; range = tt; operands = rw e (p, q, p); result = sym e }
+xor_operation cells a b w p q =
+    let e : width_of cells a.0 ≡ w = net_width p in record { unsigned = refl; range = tt; operands = rw e (p, q, p); result = sym e }
 
 pub shift_operation : (cells : List SizedCell) (a : NetId) (k w : ℕ) → IsNet cells a.0 w → IsOperation cells (Shl k) (a ∷ a ∷ a ∷ []) w
-shift_operation cells a k w p = let e : width_of cells a.0 ≡ w = net_width p in record { unsigned = refl; range = tt; operands = rw e (p, p, p); result = sym e }
+shift_operation cells a k w p =
+    let e : width_of cells a.0 ≡ w = net_width p in record { unsigned = refl; range = tt; operands = rw e (p, p, p); result = sym e }
 
 pub cast_operation : (cells : List SizedCell) (a : NetId) (v w : ℕ) → 1 ≤ v → v ≤ 64 → IsNet cells a.0 w → IsOperation cells (Cast v) (a ∷ a ∷ a ∷ []) v
-cast_operation cells a v w low high p = let e : width_of cells a.0 ≡ w = net_width p in record { unsigned = refl; range = (low, high); operands = rw e (p, p, p); result = refl }
+cast_operation cells a v w low high p =
+    let e : width_of cells a.0 ≡ w = net_width p in record { unsigned = refl; range = (low, high); operands = rw e (p, p, p); result = refl }
 
-pub choose_operation : (cells : List SizedCell) (c a b : NetId) (w : ℕ) → IsNet cells c.0 1 → IsNet cells a.0 w → IsNet cells b.0 w → IsOperation cells Mux (c ∷ a ∷ b ∷ []) w
-choose_operation cells c a b w s p q = let e : width_of cells a.0 ≡ w = net_width p in record { unsigned = refl; range = tt; operands = rw e (s, p, q); result = sym e }
+pub choose_operation : (cells : List SizedCell) (c a b : NetId) (w : ℕ) → IsNet cells c.0 1 → IsNet cells a.0 w → IsNet cells b.0 w
+    → IsOperation cells Mux (c ∷ a ∷ b ∷ []) w
+choose_operation cells c a b w s p q =
+    let e : width_of cells a.0 ≡ w = net_width p in record { unsigned = refl; range = tt; operands = rw e (s, p, q); result = sym e }
 
-pub result_at : (cells : List SizedCell) (n : Result NetId NetFault) (old : List SizedCell) (op : WordOp) (args : List NetId) (w : ℕ) → IsNet old (main_operand op args) w
+pub result_at : (cells : List SizedCell) (n : Result NetId NetFault) (old : List SizedCell) (op : WordOp) (args : List NetId) (w : ℕ)
+    → IsNet old (main_operand op args) w
     → IfOk n (λ y. InEveryRunFrom (length old) cells (λ run. IsResult run y.0 op (width_of old (main_operand op args)) args))
     → IfOk n (λ y. InEveryRunFrom (length old) cells (λ run. IsResult run y.0 op w args))
 result_at cells n old op args w net h = let e : width_of old (main_operand op args) ≡ w = net_width net in rw e at h

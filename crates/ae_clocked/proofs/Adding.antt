@@ -32,11 +32,13 @@ logic_only _ h = refl
 stays : (cells : List SizedCell) (sized : SizedCell) (n w : ℕ) → IsNet cells n w → width_of (cells ++ sized ∷ []) n ≡ width_of cells n
 stays cells sized n w h = net_width (net_later (extends_append cells (sized ∷ [])) h) ∙ sym (net_width h)
 
-written_in : (cells : List SizedCell) (m w d : ℕ) (at next enable : NetId) → IsFormed cells → slice_get cells m ≡ Some (record { width = w; cell = Mem d at next enable }) → enable.0 ≢ m → IsNet cells at.0 (width_of cells at.0)
+written_in : (cells : List SizedCell) (m w d : ℕ) (at next enable : NetId) → IsFormed cells
+    → slice_get cells m ≡ Some (record { width = w; cell = Mem d at next enable }) → enable.0 ≢ m → IsNet cells at.0 (width_of cells at.0)
 written_in cells m w d at next enable formed found ne =
     elim (formed.each m (record { width = w; cell = Mem d at next enable }) found).cell.2 [ inl u ↦ absurd (ne u.enable_own) | inr u ↦ u.address.net ]
 
-peeked_in : (cells : List SizedCell) (n w : ℕ) (mem from : NetId) → IsFormed cells → slice_get cells n ≡ Some (record { width = w; cell = Peek mem from }) → (v : ℕ) × IsNet cells from.0 v
+peeked_in : (cells : List SizedCell) (n w : ℕ) (mem from : NetId) → IsFormed cells → slice_get cells n ≡ Some (record { width = w; cell = Peek mem from })
+    → (v : ℕ) × IsNet cells from.0 v
 peeked_in cells n w mem from formed found =
     let fits = formed.each n (record { width = w; cell = Peek mem from }) found in
     (width_of (take n cells) from.0, net_from_take cells n from.0 (width_of (take n cells) from.0) fits.cell.address.net)
@@ -60,7 +62,8 @@ whole_push cells sized formed logic h = record {
   ];
 }
 
-pub adds_push : (old new : Circuit) (sized : SizedCell) → IsFormed old.cells → IsLogic sized.cell → is_input sized.cell ≡ false → new ≡ record old { cells = old.cells ++ sized ∷ [] }
+pub adds_push : (old new : Circuit) (sized : SizedCell) → IsFormed old.cells → IsLogic sized.cell → is_input sized.cell ≡ false
+    → new ≡ record old { cells = old.cells ++ sized ∷ [] }
     → Adds old new 1 (cond (is_mul sized.cell) 1 0)
 adds_push old new sized formed logic other e = rw e (record {
   grows = record {
@@ -71,7 +74,8 @@ adds_push old new sized formed logic other e = rw e (record {
   };
   cells = omega (arith, length-append old.cells (sized ∷ []));
   muls = count_push (λ x. is_mul x.cell) old.cells sized;
-  memories = count_push (λ x. is_memory x.cell) old.cells sized ∙ (ap (λ b. count_of is_memory old.cells + cond b 1 0) (logic_only sized.cell logic) ∙ omega arith);
+  memories = count_push (λ x. is_memory x.cell) old.cells sized ∙
+      (ap (λ b. count_of is_memory old.cells + cond b 1 0) (logic_only sized.cell logic) ∙ omega arith);
   whole = whole_push old.cells sized formed logic;
 })
 
@@ -94,14 +98,16 @@ pub always : {X : Type 0} (old new : Circuit) (r : Result X NetFault) → OnOk r
 always old new (Ok x) ok err = ok
 always old new (Err e) ok err = adds_same old new 1 err
 
-pub full_at : {X : Type 0} (old new : Circuit) (r : Result X NetFault) → ((r ≡ Err Full) ↔ (length old.cells ≡ old.limit)) → OnErr r (new ≡ old) → IsFullAt r new
+pub full_at : {X : Type 0} (old new : Circuit) (r : Result X NetFault) → ((r ≡ Err Full) ↔ (length old.cells ≡ old.limit)) → OnErr r (new ≡ old)
+    → IsFullAt r new
 full_at old new (Ok x) f err = tt
 full_at old new (Err e) f err = λ is. rw err (f.0 (ap Err is))
 
 -- ---- one netlist after another
 
 pub grows_trans : {a b c : Circuit} → Grows a b → Grows b c → Grows a c
-grows_trans p q = record { extends = extends_trans p.extends q.extends; limit = q.limit ∙ p.limit; outlets = q.outlets ∙ p.outlets; inputs = q.inputs ∙ p.inputs }
+grows_trans p q =
+    record { extends = extends_trans p.extends q.extends; limit = q.limit ∙ p.limit; outlets = q.outlets ∙ p.outlets; inputs = q.inputs ∙ p.inputs }
 
 pub adds_trans : {a b c : Circuit} {m n k j : ℕ} → Adds a b m k → Adds b c n j → Adds a c (m + n) (k + j)
 adds_trans p q = record {
@@ -134,10 +140,12 @@ width_connected cells r w n next reg = elim (cases_eq n r) [
 ]
 
 -- no memory and no look changes
-other_stays : (cells : List SizedCell) (r w n : ℕ) (next : NetId) (sized : SizedCell) → IsRegister cells r w → ((x : NetId) → sized.cell ≢ Reg x) → slice_get (connected cells r w next) n ≡ Some sized → slice_get cells n ≡ Some sized
+other_stays : (cells : List SizedCell) (r w n : ℕ) (next : NetId) (sized : SizedCell) → IsRegister cells r w → ((x : NetId) → sized.cell ≢ Reg x)
+    → slice_get (connected cells r w next) n ≡ Some sized → slice_get cells n ≡ Some sized
 other_stays cells r w n next sized reg other found = elim (cases_eq n r) [
   | inl e ↦
-      let same : Some (record { width = w; cell = Reg next }) ≡ Some sized = sym (get_set_same cells r _ _ reg.found) ∙ (ap (slice_get (connected cells r w next)) (sym e) ∙ found) in
+      let same : Some (record { width = w; cell = Reg next }) ≡ Some sized = sym (get_set_same cells r _ _ reg.found) ∙
+      (ap (slice_get (connected cells r w next)) (sym e) ∙ found) in
       let is : record { width = w; cell = Reg next } ≡ sized = cc in
       absurd (other next (sym (ap (λ (x : SizedCell). x.cell) is)))
   | inr ne ↦ sym (get_set_other cells r n _ ne) ∙ found
@@ -156,16 +164,19 @@ whole_connected cells r w next reg h = record {
       };
 }
 
-pub count_connected : (kind : Cell → Bool) (cells : List SizedCell) (r w : ℕ) (next : NetId) (reg : IsRegister cells r w) → kind (Reg next) ≡ kind (Reg reg.next) → count_of kind (connected cells r w next) ≡ count_of kind cells
+pub count_connected : (kind : Cell → Bool) (cells : List SizedCell) (r w : ℕ) (next : NetId) (reg : IsRegister cells r w)
+    → kind (Reg next) ≡ kind (Reg reg.next) → count_of kind (connected cells r w next) ≡ count_of kind cells
 count_connected kind cells r w next reg same =
     let new : List SizedCell = connected cells r w next in
     let whole : take (length cells) cells ≡ cells = take-length cells in
     let whole_new : take (length cells) new ≡ new = ap (λ i. take i new) (sym (length-set cells r (record { width = w; cell = Reg next }))) ∙ take-length new in
     ap (count_of kind) (sym whole_new)
-    ∙ (count_replaced (λ x. kind x.cell) cells r (length cells) (record { width = w; cell = Reg reg.next }) (record { width = w; cell = Reg next }) reg.found same ∙ ap (count_of kind) whole)
+    ∙ (count_replaced (λ x. kind x.cell) cells r (length cells) (record { width = w; cell = Reg reg.next })
+    (record { width = w; cell = Reg next }) reg.found same ∙ ap (count_of kind) whole)
 
 -- a register that was added after a netlist may be connected
-pub adds_connect : {base old new : Circuit} {r next most muls : ℕ} → Adds base old most muls → length base.cells ≤ r → Connects old new r next → Adds base new most muls
+pub adds_connect : {base old new : Circuit} {r next most muls : ℕ} → Adds base old most muls → length base.cells ≤ r → Connects old new r next
+    → Adds base new most muls
 adds_connect {base} {old} {new} {r} p l c = record {
   grows = record {
     extends = record {
@@ -187,7 +198,8 @@ adds_connect {base} {old} {new} {r} p l c = record {
     within n sized h = slice_get_within base.cells n sized h
 
 -- one more cell counts once where it is of a kind
-pub counted : {X : Type 0} (kind : Cell → Bool) (old new : Circuit) (r : Result X NetFault) (sized : SizedCell) → OnOk r (new ≡ record old { cells = old.cells ++ sized ∷ [] }) → OnErr r (new ≡ old)
+pub counted : {X : Type 0} (kind : Cell → Bool) (old new : Circuit) (r : Result X NetFault) (sized : SizedCell)
+    → OnOk r (new ≡ record old { cells = old.cells ++ sized ∷ [] }) → OnErr r (new ≡ old)
     → count_of kind new.cells ≤ count_of kind old.cells + cond (kind sized.cell) 1 0
 counted kind old new (Ok x) sized ok err = rw ok (omega (arith, count_push (λ y. kind y.cell) old.cells sized))
 counted kind old new (Err e) sized ok err = rw err (omega arith)

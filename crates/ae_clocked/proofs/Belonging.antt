@@ -39,7 +39,8 @@ same_is p q e = same_at p.period p.offset q.period q.offset (p.period == q.perio
 
 -- one more counter
 pub belongs_more : (old new : Kept) (phase : Phase) (net : NetId) (cells : List SizedCell) → new.rst ≡ old.rst
-    → ((q : Phase) → kept_at new q ≡ (if same_phase phase q then Some net else kept_at old q)) → Belongs old cells → IsCounter cells old.rst phase net.0 → Belongs new cells
+    → ((q : Phase) → kept_at new q ≡ (if same_phase phase q then Some net else kept_at old q)) → Belongs old cells → IsCounter cells old.rst phase net.0
+    → Belongs new cells
 belongs_more old new phase net cells rst keeps h made = record {
   rst = rw rst h.rst;
   counters = λ q y found. rw rst (by q y (same_phase phase q) refl (sym (keeps q) ∙ found));
@@ -52,7 +53,8 @@ belongs_more old new phase net cells rst keeps h made = record {
     by q y false s found = h.counters q y found
 
 -- a register that counts from its first phase is a counter
-pub counter_made : (old new : List SizedCell) (rst w p o last first : ℕ) (y : NetId) → last ≡ p - 1 → first ≡ (p - o) % p → o < p → HoldsPhases w p → IsNet new y.0 w
+pub counter_made : (old new : List SizedCell) (rst w p o last first : ℕ) (y : NetId) → last ≡ p - 1 → first ≡ (p - o) % p → o < p → HoldsPhases w p
+    → IsNet new y.0 w
     → InEveryRunFrom (length old) new (λ run. Counts run y.0 rst w last first) → IsCounter new rst (record { period = p; offset = o }) y.0
 unfolding phase_of
 counter_made old new rst w p o last first y el ef less holds net counts = record {
@@ -67,7 +69,8 @@ pub keeps_same : (clocks : Kept) → KeepsCounters clocks clocks
 keeps_same clocks = record { rst = refl; counters = λ phase net found. found }
 
 -- the counters go on as one more is made
-pub phase_keeps : (old new : Kept) (p : Phase) (net : NetId) → new.rst ≡ old.rst → ((q : Phase) → kept_at new q ≡ (if same_phase p q then Some net else kept_at old q))
+pub phase_keeps : (old new : Kept) (p : Phase) (net : NetId) → new.rst ≡ old.rst
+    → ((q : Phase) → kept_at new q ≡ (if same_phase p q then Some net else kept_at old q))
     → ((n : NetId) → kept_at old p ≡ Some n → new ≡ old) → KeepsCounters old new
 phase_keeps old new p net rst keeps again = record { rst = rst; counters = λ q n found. by q n (same_phase p q) refl found }
   where

@@ -33,7 +33,8 @@ links_none cells rst w x reach = record {
 pub links_grow : {a b : List SizedCell} {rst w x reach : ℕ} {links : List Link} → Extends a b → AreLinks a rst w x reach links → AreLinks b rst w x reach links
 links_grow g h = record { heads = λ k link found. tap_grows g (h.heads k link found); rings = λ k link found. holds_grows g (h.rings k link found) }
 
-pub links_more : (a b : List SizedCell) (rst w x reach far j : ℕ) (links : List Link) (link : Link) → Extends a b → length links ≡ j → AreLinks a rst w x reach links → IsTap b rst w x (4096 * j) link.head.0
+pub links_more : (a b : List SizedCell) (rst w x reach far j : ℕ) (links : List Link) (link : Link) → Extends a b → length links ≡ j
+    → AreLinks a rst w x reach links → IsTap b rst w x (4096 * j) link.head.0
     → far ≡ min 4096 (reach - 4096 * j) → HoldsRing b rst w link.head.0 far link.ring → AreLinks b rst w x reach (links ++ link ∷ [])
 links_more a b rst w x reach far j links link g long h tap is holds = record {
   heads = λ k last found. elim (get_push_cases links link k last found) [
@@ -47,11 +48,13 @@ links_more a b rst w x reach far j links link g long h tap is holds = record {
 }
 
 -- the head after a full ring
-pub next_head : (a b : List SizedCell) (rst w x j head y d : ℕ) → Extends a b → IsTap a rst w x (4096 * j) head → IsTap b rst w head 4096 y → 4096 * j + 4096 ≡ d → IsTap b rst w x d y
+pub next_head : (a b : List SizedCell) (rst w x j head y d : ℕ) → Extends a b → IsTap a rst w x (4096 * j) head → IsTap b rst w head 4096 y
+    → 4096 * j + 4096 ≡ d → IsTap b rst w x d y
 next_head a b rst w x j head y d g p q e = subst (λ (n : ℕ). IsTap b rst w x n y) e (taps_add b rst w x head y (4096 * j) 4096 (tap_grows g p) q)
 
 -- a tap of a ring of the row
-pub row_tap : (old new : List SizedCell) (r : Result NetId NetFault) (links : List Link) (link : Link) (w tap k far : ℕ) → Extends old new → slice_get links k ≡ Some link → 4096 * k + far ≡ tap
+pub row_tap : (old new : List SizedCell) (r : Result NetId NetFault) (links : List Link) (link : Link) (w tap k far : ℕ) → Extends old new
+    → slice_get links k ≡ Some link → 4096 * k + far ≡ tap
     → IfOk r (λ y. (rst x : ℕ) → IsRing old rst link.ring.bits x link.ring.counter.0 link.ring.memory.0 → IsTap new rst w x far y.0)
     → IfOk r (λ y. (rst x reach : ℕ) → AreLinks old rst w x reach links → IsTap new rst w x tap y.0)
 row_tap old new (Err e) links link w tap k far g found sum taps = tt
@@ -59,11 +62,13 @@ row_tap old new (Ok y) links link w tap k far g found sum taps = λ rst x reach 
     subst (λ (n : ℕ). IsTap new rst w x n y.0) sum
     (taps_add new rst w x link.head.0 y.0 (4096 * k) far (tap_grows g (h.heads k link found)) (taps rst link.head.0 (h.rings k link found).ring))
 
-pub row_found : (links : List Link) (tap : ℕ) (none : Link) → 1 ≤ tap → tap ≤ 4096 * length links → slice_get links ((tap - 1) / 4096) ≡ Some (get_or links ((tap - 1) / 4096) none)
+pub row_found : (links : List Link) (tap : ℕ) (none : Link) → 1 ≤ tap → tap ≤ 4096 * length links
+    → slice_get links ((tap - 1) / 4096) ≡ Some (get_or links ((tap - 1) / 4096) none)
 row_found links tap none late long = let within : (tap - 1) / 4096 < length links = omega arith in slice_get-get_or links ((tap - 1) / 4096) none within
 
 -- what the next ring takes is kept in a register as long as some are to spare
-pub head_kept : (r0 r1 r2 r3 j spare : ℕ) (kept : Bool) (c0 c1 c2 : ℕ) → nat_lt j spare ≡ kept → r1 + c0 ≤ r0 + c1 + min j spare → r2 + c1 ≤ r1 + c2 → r3 ≤ r2 + (if kept then 1 else 0) → r3 + c0 ≤ r0 + c2 + min (j + 1) spare
+pub head_kept : (r0 r1 r2 r3 j spare : ℕ) (kept : Bool) (c0 c1 c2 : ℕ) → nat_lt j spare ≡ kept → r1 + c0 ≤ r0 + c1 + min j spare → r2 + c1 ≤ r1 + c2
+    → r3 ≤ r2 + (if kept then 1 else 0) → r3 + c0 ≤ r0 + c2 + min (j + 1) spare
 head_kept r0 r1 r2 r3 j spare true c0 c1 c2 e a b d = let l : j < spare = ltb-true j spare e in omega arith
 head_kept r0 r1 r2 r3 j spare false c0 c1 c2 e a b d = omega arith
 

@@ -32,7 +32,8 @@ pub rings_stay : (old new : KeptRings) (rst : ℕ) (cells : List SizedCell) → 
 rings_stay old new rst cells same h = record { each = λ x row found. h.each x row (ap (λ rows. lookup (nat_eq x) rows) (sym same) ∙ found) }
 
 -- one row more
-pub rings_kept : (old new : KeptRings) (rst net : ℕ) (row : RingRow) (cells : List SizedCell) → ((q : ℕ) → ring_row_at new q ≡ (if nat_eq net q then Some row else ring_row_at old q))
+pub rings_kept : (old new : KeptRings) (rst net : ℕ) (row : RingRow) (cells : List SizedCell)
+    → ((q : ℕ) → ring_row_at new q ≡ (if nat_eq net q then Some row else ring_row_at old q))
     → RingsBelong old rst cells → IsRingRow cells rst net row → RingsBelong new rst cells
 rings_kept old new rst net row cells keeps h made = record { each = λ x r found. by x r (nat_eq net x) refl (sym (keeps x) ∙ found) }
   where
@@ -74,17 +75,21 @@ on_ok (Ok x) h = h
 on_ok (Err e) h = tt
 
 -- what was read from rings that belong to the netlist
-pub read_tap : (r : Result NetId NetFault) (kept : KeptRings) (rst : ℕ) (old new : List SizedCell) (v w x d : ℕ) → v ≡ w → RingsBelong kept rst old → IfOk r (λ y. (n : ℕ) → RingsBelong kept n old → IsTap new n v x d y.0) → IfOk r (λ y. IsTap new rst w x d y.0)
+pub read_tap : (r : Result NetId NetFault) (kept : KeptRings) (rst : ℕ) (old new : List SizedCell) (v w x d : ℕ) → v ≡ w → RingsBelong kept rst old
+    → IfOk r (λ y. (n : ℕ) → RingsBelong kept n old → IsTap new n v x d y.0) → IfOk r (λ y. IsTap new rst w x d y.0)
 read_tap (Ok y) kept rst old new v w x d e h taps = subst (λ (n : ℕ). IsTap new rst n x d y.0) e (taps rst h)
 read_tap (Err e) kept rst old new v w x d same h taps = tt
 
-pub any_tap : (r : Result NetId NetFault) (rst : ℕ) (new : List SizedCell) (w x d : ℕ) → IfOk r (λ y. (n : ℕ) → IsTap new n w x d y.0) → IfOk r (λ y. IsTap new rst w x d y.0)
+pub any_tap : (r : Result NetId NetFault) (rst : ℕ) (new : List SizedCell) (w x d : ℕ) → IfOk r (λ y. (n : ℕ) → IsTap new n w x d y.0)
+    → IfOk r (λ y. IsTap new rst w x d y.0)
 any_tap (Ok y) rst new w x d taps = taps rst
 any_tap (Err e) rst new w x d taps = tt
 
 -- what is read from the rings of a net
-pub row_taps : (r : Result NetId NetFault) (kept : KeptRings) (x : ℕ) (row : RingRow) (old new : List SizedCell) (v d : ℕ) (links : List Link) → ring_row_at kept x ≡ Some row → links ≡ row.links.items → v ≡ width_of old x
-    → IfOk r (λ y. (rst z reach : ℕ) → AreLinks old rst v z reach links → IsTap new rst v z d y.0) → IfOk r (λ y. (rst : ℕ) → RingsBelong kept rst old → IsTap new rst (width_of old x) x d y.0)
+pub row_taps : (r : Result NetId NetFault) (kept : KeptRings) (x : ℕ) (row : RingRow) (old new : List SizedCell) (v d : ℕ) (links : List Link)
+    → ring_row_at kept x ≡ Some row → links ≡ row.links.items → v ≡ width_of old x
+    → IfOk r (λ y. (rst z reach : ℕ) → AreLinks old rst v z reach links → IsTap new rst v z d y.0)
+    → IfOk r (λ y. (rst : ℕ) → RingsBelong kept rst old → IsTap new rst (width_of old x) x d y.0)
 row_taps (Ok y) kept x row old new v d links at same wide taps = λ rst h.
     let own = h.each x row at in
     let is : v ≡ own.width = wide ∙ net_width own.net in

@@ -18,7 +18,8 @@ delay_none cells w x h = record { net = h; words = λ all e run r t l. ap (λ n.
 pub delay_grows : {a b : List SizedCell} {w x d y : ℕ} → Extends a b → IsDelay a w x d y → IsDelay b w x d y
 delay_grows g h = record { net = net_later g h.net; words = λ all e run r. h.words all (extends_trans g e) run r }
 
-pub delay_more : (a b : List SizedCell) (from w x d y z : ℕ) → Extends a b → IsDelay a w x d y → IsNet b z w → InEveryRunFrom from b (λ run. IsNextOf run z y) → IsDelay b w x (d + 1) z
+pub delay_more : (a b : List SizedCell) (from w x d y z : ℕ) → Extends a b → IsDelay a w x d y → IsNet b z w → InEveryRunFrom from b (λ run. IsNextOf run z y)
+    → IsDelay b w x (d + 1) z
 delay_more a b from w x d y z g h net next = record {
   net = net;
   words = λ all e run r t l.
@@ -34,7 +35,8 @@ delays_first cells w x h = record {
   ];
 }
 
-pub delays_more : (a b : List SizedCell) (w x : ℕ) (nets : List NetId) (y : NetId) → Extends a b → AreDelays a w x nets → IsDelay b w x (length nets) y.0 → AreDelays b w x (nets ++ y ∷ [])
+pub delays_more : (a b : List SizedCell) (w x : ℕ) (nets : List NetId) (y : NetId) → Extends a b → AreDelays a w x nets → IsDelay b w x (length nets) y.0
+    → AreDelays b w x (nets ++ y ∷ [])
 delays_more a b w x nets y g h new = record {
   each = λ k z found. elim (get_push_cases nets y k z found) [
     | inl v ↦ delay_grows g (h.each k z v.0)
@@ -54,7 +56,8 @@ late_taps cells rst w x d y h = record {
 pub taps_none : (cells : List SizedCell) (rst w x : ℕ) → AreTaps cells rst w x [] []
 taps_none cells rst w x = record { long = refl; each = λ k d y h g. (let no : k < 0 = slice_get_within [] k d h in absurd (omega arith)) }
 
-pub taps_more : (cells : List SizedCell) (rst w x i : ℕ) (taps : List ℕ) (nets : List NetId) (d : ℕ) (y : NetId) → AreTaps cells rst w x (take i taps) nets → slice_get taps i ≡ Some d → IsTap cells rst w x d y.0 → AreTaps cells rst w x (take (i + 1) taps) (nets ++ y ∷ [])
+pub taps_more : (cells : List SizedCell) (rst w x i : ℕ) (taps : List ℕ) (nets : List NetId) (d : ℕ) (y : NetId) → AreTaps cells rst w x (take i taps) nets
+    → slice_get taps i ≡ Some d → IsTap cells rst w x d y.0 → AreTaps cells rst w x (take (i + 1) taps) (nets ++ y ∷ [])
 taps_more cells rst w x i taps nets d y h found new =
     let l : i < length taps = slice_get_within taps i d found in
     let more : take (i + 1) taps ≡ take i taps ++ d ∷ [] = take_more taps i d l ∙ ap (λ v. take i taps ++ v ∷ []) (get_or_from_slice_get taps i d d found) in
@@ -64,10 +67,12 @@ taps_more cells rst w x i taps nets d y h found new =
       each = λ k e z ht hn. elim (get_push_cases (take i taps) d k e ht) [
         | inl v ↦ elim (get_push_cases nets y k z hn) [
           | inl u ↦ h.each k e z v.0 u.0
-          | inr u ↦ (let a : k < length (take i taps) = v.1 in let b : k ≡ length nets = u.0 in let same : length nets ≡ length (take i taps) = h.long in absurd (omega arith))
+          | inr u ↦ (let a : k < length (take i taps) = v.1 in let b : k ≡ length nets = u.0 in let same : length nets ≡ length (take i taps) = h.long in
+              absurd (omega arith))
         ]
         | inr v ↦ elim (get_push_cases nets y k z hn) [
-          | inl u ↦ (let a : k ≡ length (take i taps) = v.0 in let b : k < length nets = u.1 in let same : length nets ≡ length (take i taps) = h.long in absurd (omega arith))
+          | inl u ↦ (let a : k ≡ length (take i taps) = v.0 in let b : k < length nets = u.1 in let same : length nets ≡ length (take i taps) = h.long in
+              absurd (omega arith))
           | inr u ↦ subst (λ (t : ℕ). IsTap cells rst w x t z.0) v.1 (subst (λ (t : NetId). IsTap cells rst w x d t.0) u.1 new)
         ]
       ];

@@ -62,7 +62,8 @@ count_more taps i tap l e =
 pub delays_grow : {a b : List SizedCell} {w x : ℕ} {nets : List NetId} → Extends a b → AreDelays a w x nets → AreDelays b w x nets
 delays_grow g h = record { each = λ k y found. delay_grows g (h.each k y found) }
 
-pub taps_grow : {a b : List SizedCell} {rst w x : ℕ} {taps : List ℕ} {nets : List NetId} → Extends a b → AreTaps a rst w x taps nets → AreTaps b rst w x taps nets
+pub taps_grow : {a b : List SizedCell} {rst w x : ℕ} {taps : List ℕ} {nets : List NetId} → Extends a b → AreTaps a rst w x taps nets
+    → AreTaps b rst w x taps nets
 taps_grow g h = record { long = h.long; each = λ k d y at found. tap_grows g (h.each k d y at found) }
 
 -- a register is taken where one is to spare, and for a far tap

@@ -26,12 +26,14 @@ counter_bits w d bits e enough most = elim (cases_lt w bits) [
   | inr m ↦ omega arith
 ]
 
-pub counter_net : (cells : List SizedCell) (rst d bits net : ℕ) → d ≡ 2 ^ bits → 1 ≤ bits → IsCounter cells rst (record { period = d; offset = 0 }) net → IsNet cells net bits
+pub counter_net : (cells : List SizedCell) (rst d bits net : ℕ) → d ≡ 2 ^ bits → 1 ≤ bits → IsCounter cells rst (record { period = d; offset = 0 }) net
+    → IsNet cells net bits
 counter_net cells rst d bits net e some h =
     let most : h.width ≤ bits = h.holds.least bits some (omega arith) in
     rw (← counter_bits h.width d bits e h.holds.enough most) h.is_net
 
-pub counter_counts : (cells : List SizedCell) (rst d bits net : ℕ) → d ≡ 2 ^ bits → IsCounter cells rst (record { period = d; offset = 0 }) net → InEveryResetRun cells rst (λ run start. HasWords run start net (λ c. c % 2 ^ bits))
+pub counter_counts : (cells : List SizedCell) (rst d bits net : ℕ) → d ≡ 2 ^ bits → IsCounter cells rst (record { period = d; offset = 0 }) net
+    → InEveryResetRun cells rst (λ run start. HasWords run start net (λ c. c % 2 ^ bits))
 counter_counts cells rst d bits net e h = λ all g run is start reset c l. h.words all g run is start reset c l ∙ (phase_mod d c ∙ ap (λ n. c % n) e)
 
 pub ring_grows : {a b : List SizedCell} {rst bits x counter m : ℕ} → Extends a b → IsRing a rst bits x counter m → IsRing b rst bits x counter m

@@ -108,7 +108,8 @@ below_last h from l ne = elim (cases_lt (h + 1) from) [ inl less ↦ less | inr 
 
 -- the mark turns after the last phase, and after the last one that is marked
 turns_ahead : (h p from : ℕ) → h < p → 1 ≤ from → from < p
-    → ◌≡◌ {A = ℕ} (if (if (if nat_lt h from then 1 else 0) == (if h == p - 1 then 1 else 0) then 1 else 0) == (if h == from - 1 then 1 else 0) then 1 else 0) (if nat_lt (if h == p - 1 then 0 else h + 1) from then 1 else 0)
+    → ◌≡◌ {A = ℕ} (if (if (if nat_lt h from then 1 else 0) == (if h == p - 1 then 1 else 0) then 1 else 0) == (if h == from - 1 then 1 else 0) then 1 else 0)
+    (if nat_lt (if h == p - 1 then 0 else h + 1) from then 1 else 0)
 turns_ahead h p from lh some less = elim (cases_eq h (p - 1)) [
   | inl e ↦
       let a : (h == p - 1) ≡ true = eq-eqb _ _ e in
@@ -148,7 +149,8 @@ turns_ahead h p from lh some less = elim (cases_eq h (p - 1)) [
 -- a register that begins with its first bit, and has in each clock after it what follows from that of the clock before
 marks_all : (run : List Clock) (y rst p o from start : ℕ) → IsReset run rst start
     → ((t : ℕ) → t + 1 < length run → word_at run t rst ≡ 1 → word_at run (t + 1) y ≡ (if nat_lt ((p - o) % p) from then 1 else 0))
-    → ((c : ℕ) → start + c + 1 < length run → word_at run (start + c) rst ≡ 0 → word_at run (start + c) y ≡ (if nat_lt (phase_of p o c) from then 1 else 0) → word_at run (start + c + 1) y ≡ (if nat_lt (phase_of p o (c + 1)) from then 1 else 0))
+    → ((c : ℕ) → start + c + 1 < length run → word_at run (start + c) rst ≡ 0 → word_at run (start + c) y ≡ (if nat_lt (phase_of p o c) from then 1 else 0)
+    → word_at run (start + c + 1) y ≡ (if nat_lt (phase_of p o (c + 1)) from then 1 else 0))
     → MarksPhases run start y p o from
 marks_all run y rst p o from zero reset first next c h = (let some : 1 ≤ 0 = reset.some in absurd (omega arith))
 marks_all run y rst p o from (suc s) reset first next zero h =
@@ -187,8 +189,10 @@ some_more : (n : ℕ) → n ≢ 0 → 1 ≤ n
 some_more n ne = elim (cases_lt n 1) [ inl l ↦ absurd (ne (omega arith)) | inr ge ↦ ge ]
 
 -- in periods of two clocks, the first alone
-pub alternates : (run : List Clock) (y p o from start : ℕ) → from ≡ 1 → HasWords run start y (λ c. if phase_of p o c == 0 then 1 else 0) → MarksPhases run start y p o from
-alternates run y p o from start e h c l = let z : ◌≡◌ {A = ℕ} (if phase_of p o c == 0 then 1 else 0) (if nat_lt (phase_of p o c) from then 1 else 0) = rw e (zero_below (phase_of p o c)) in h c l ∙ z
+pub alternates : (run : List Clock) (y p o from start : ℕ) → from ≡ 1 → HasWords run start y (λ c. if phase_of p o c == 0 then 1 else 0)
+    → MarksPhases run start y p o from
+alternates run y p o from start e h c l =
+    let z : ◌≡◌ {A = ℕ} (if phase_of p o c == 0 then 1 else 0) (if nat_lt (phase_of p o c) from then 1 else 0) = rw e (zero_below (phase_of p o c)) in h c l ∙ z
   where
     zero_below : (n : ℕ) → ◌≡◌ {A = ℕ} (if n == 0 then 1 else 0) (if nat_lt n 1 then 1 else 0)
     zero_below n = elim (cases_eq n 0) [
@@ -202,7 +206,8 @@ alternates run y p o from start e h c l = let z : ◌≡◌ {A = ℕ} (if phase_
 
 -- never, or always
 pub never_marks : (run : List Clock) (y p o start : ℕ) → ((t : ℕ) → t < length run → word_at run t y ≡ 0) → MarksPhases run start y p o 0
-never_marks run y p o start h c l = let past : 0 ≤ phase_of p o c = omega arith in let t : nat_lt (phase_of p o c) 0 ≡ false = search rules in rw t (h (start + c) l)
+never_marks run y p o start h c l =
+    let past : 0 ≤ phase_of p o c = omega arith in let t : nat_lt (phase_of p o c) 0 ≡ false = search rules in rw t (h (start + c) l)
 
 pub always_marks : (run : List Clock) (y p o start : ℕ) → o < p → ((t : ℕ) → t < length run → word_at run t y ≡ 1) → MarksPhases run start y p o p
 always_marks run y p o start less h c l =
@@ -211,7 +216,8 @@ always_marks run y p o start less h c l =
     rw t (h (start + c) l)
 
 -- what is marked is what the counter of these phases shows
-pub marks_counter : (run : List Clock) (y r p o from start : ℕ) → HasWords run start r (phase_of p o) → MarksPhases run start y p o from → IsMark run start y r from
+pub marks_counter : (run : List Clock) (y r p o from start : ℕ) → HasWords run start r (phase_of p o) → MarksPhases run start y p o from
+    → IsMark run start y r from
 marks_counter run y r p o from start counts marks c l = rw (counts c l) (marks c l)
 
 -- ---- one net after another
@@ -219,7 +225,8 @@ marks_counter run y r p o from start counts marks c l = rw (counts c l) (marks c
 pub at_word_is : (r word bound at : ℕ) → bound ≡ word → at ≡ (if r == bound then 1 else 0) → at ≡ (if r == word then 1 else 0)
 at_word_is r word bound at b e = rw (e, b) refl
 
-pub turn_after : (rst y a b once after begin next y' first : ℕ) → once ≡ (if y == a then 1 else 0) → after ≡ (if once == b then 1 else 0) → begin ≡ first → next ≡ (if rst == 1 then begin else after) → y' ≡ next
+pub turn_after : (rst y a b once after begin next y' first : ℕ) → once ≡ (if y == a then 1 else 0) → after ≡ (if once == b then 1 else 0) → begin ≡ first
+    → next ≡ (if rst == 1 then begin else after) → y' ≡ next
     → y' ≡ (if rst == 1 then first else (if (if y == a then 1 else 0) == b then 1 else 0))
 turn_after rst y a b once after begin next y' first o f g n e = rw (e, n, g, f, o) refl
 
@@ -237,6 +244,7 @@ xor_bits y (suc (suc a)) b p q r = absurd (omega arith)
 xor_bits y a (suc (suc b)) p q r = absurd (omega arith)
 
 -- the same by exclusive ors
-pub turn_xor : (rst y a b once after begin next y' first : ℕ) → y < 2 → a < 2 → b < 2 → once ≡ bit_xor y a → after ≡ bit_xor once b → begin ≡ first → next ≡ (if rst == 1 then begin else after) → y' ≡ next
+pub turn_xor : (rst y a b once after begin next y' first : ℕ) → y < 2 → a < 2 → b < 2 → once ≡ bit_xor y a → after ≡ bit_xor once b → begin ≡ first
+    → next ≡ (if rst == 1 then begin else after) → y' ≡ next
     → y' ≡ (if rst == 1 then first else (if (if y == a then 1 else 0) == b then 1 else 0))
 turn_xor rst y a b once after begin next y' first p q r o f g n e = rw (e, n, g, f, o, xor_bits y a b p q r) refl

@@ -30,7 +30,8 @@ phase_more p o w c less wide =
     let e : c + 1 + p - o ≡ c + p - o + 1 = omega arith in
     turn_of_mod (c + p - o) p w (omega arith) wide ∙ ap (λ n. n % p) (sym e)
 
-pub counts_phase : (run : List Clock) (r rst w p o start : ℕ) → o < p → p ≤ 2 ^ w → Counts run r rst w (p - 1) (phase_of p o 0) → IsReset run rst start → HasWords run start r (phase_of p o)
+pub counts_phase : (run : List Clock) (r rst w p o start : ℕ) → o < p → p ≤ 2 ^ w → Counts run r rst w (p - 1) (phase_of p o 0) → IsReset run rst start
+    → HasWords run start r (phase_of p o)
 counts_phase run r rst w p o zero less wide counts reset c h = (let some : 1 ≤ 0 = reset.some in absurd (omega arith))
 counts_phase run r rst w p o (suc s) less wide counts reset zero h =
     let l : s + 1 < length run = omega arith in

@@ -24,7 +24,8 @@ phases_differ d s c l h e =
     ]
 
 -- one more word is written
-pub one_more : (store : List ℕ) (d s c x y : ℕ) → length store ≡ d → s ≤ c → c < s + d → (s < c → get_or store (s % d) 0 ≡ y) → (s ≡ c → x ≡ y) → get_or (set store (c % d) x) (s % d) 0 ≡ y
+pub one_more : (store : List ℕ) (d s c x y : ℕ) → length store ≡ d → s ≤ c → c < s + d → (s < c → get_or store (s % d) 0 ≡ y) → (s ≡ c → x ≡ y)
+    → get_or (set store (c % d) x) (s % d) 0 ≡ y
 one_more store d s c x y long le h before now = elim (cases_eq s c) [
   | inl e ↦
       let small : c % d < d = mod_below c d (omega arith) in
@@ -37,7 +38,8 @@ one_more store d s c x y long le h before now = elim (cases_eq s c) [
 ]
 
 -- in clock c the ring has the word of each of the last d clocks
-pub ring_holds : (run : List Clock) (m at x d start c s : ℕ) → IsStore run m at x d → HasWords run start at (λ k. k % d) → s < c → c ≤ s + d → start + c < length run
+pub ring_holds : (run : List Clock) (m at x d start c s : ℕ) → IsStore run m at x d → HasWords run start at (λ k. k % d) → s < c → c ≤ s + d
+    → start + c < length run
     → get_or (store_at run (start + c) m) (s % d) 0 ≡ word_at run (start + s) x
 ring_holds run m at x d start zero s store counts l h w = absurd (omega arith)
 ring_holds run m at x d start (suc c) s store counts l h w =
@@ -57,8 +59,10 @@ pub look_later : (run : List Clock) (m at from x y d tap k start : ℕ) → IsSt
 look_later run m at from x y d tap k start store counts look adds e some = λ c le l.
     let place : word_at run (start + c) at ≡ c % d = counts c l in
     let far : c + k ≡ (c - tap) + d = omega arith in
-    let at_from : word_at run (start + c) from ≡ (c - tap) % d = adds (start + c) l ∙ (ap (λ p. (p + k) % d) place ∙ (mod-add-mod c d k ∙ (ap (λ n. n % d) far ∙ add-mod_right (c - tap) d))) in
-    look (start + c) l ∙ (ap (λ p. get_or (store_at run (start + c) m) p 0) at_from ∙ ring_holds run m at x d start c (c - tap) store counts (omega arith) (omega arith) l)
+    let at_from : word_at run (start + c) from ≡ (c - tap) % d = adds (start + c) l ∙
+    (ap (λ p. (p + k) % d) place ∙ (mod-add-mod c d k ∙ (ap (λ n. n % d) far ∙ add-mod_right (c - tap) d))) in
+    look (start + c) l ∙ (ap (λ p. get_or (store_at run (start + c) m) p 0) at_from ∙
+    ring_holds run m at x d start c (c - tap) store counts (omega arith) (omega arith) l)
 
 -- a register of it has the word of one clock more
 pub register_later : (run : List Clock) (y z x tap start : ℕ) → IsLater run start y x tap → IsNextOf run z y → IsLater run start z x (tap + 1)

@@ -32,7 +32,8 @@ pub word_below : (cells : List SizedCell) (run : List Clock) (t n w : ℕ) → I
 unfolding word_at
 word_below cells run t n w is l net =
     let clock : Clock = get_or run t no_clock in
-    rw (← net.wide) (plain_fits net.sized.cell net.sized.width (get_or clock.words n 0) (get_or clock.stores n []) net.plain (cell_holds (clock_shaped is t l) n net.sized net.found))
+    rw (← net.wide) (plain_fits net.sized.cell net.sized.width (get_or clock.words n 0) (get_or clock.stores n []) net.plain
+    (cell_holds (clock_shaped is t l) n net.sized net.found))
 
 ones_of : (r : ℕ) → r < 8 → bit_xor r (if r % 2 == 1 then bit_or (r * 2 % 8) 1 else 1) ≡ (r + 1) % 8
 ones_of zero h = refl
@@ -51,7 +52,8 @@ pub ones_are : (r one up odd low ones : ℕ)
     → bit_xor r ones ≡ (r + 1) % 2 ^ 3
 ones_are r one up odd low ones b o u d l n = rw (n, l, d, u, o) (ones_of r b)
 
-flips_are : (v : Bool) (r ones : ℕ) → bit_xor r ones ≡ (r + 1) % 2 ^ 3 → bit_xor r (if (if v then 1 else 0) == 1 then r else ones) ≡ (if v then 0 else (r + 1) % 2 ^ 3)
+flips_are : (v : Bool) (r ones : ℕ) → bit_xor r ones ≡ (r + 1) % 2 ^ 3
+    → bit_xor r (if (if v then 1 else 0) == 1 then r else ones) ≡ (if v then 0 else (r + 1) % 2 ^ 3)
 flips_are true r ones c = xor_self r
 flips_are false r ones c = c
 

@@ -27,7 +27,8 @@ pub record IsTap (cells : List SizedCell) (rst width x d y : ℕ) : Type 0 where
 -- each net taps x at the delay of its place
 pub record AreTaps (cells : List SizedCell) (rst width x : ℕ) (taps : List ℕ) (nets : List NetId) : Type 0 where
   pub long : length nets ≡ length taps
-  pub each : (k d : ℕ) (y : NetId) → slice_get taps k ≡ Some d → slice_get nets k ≡ Some y → IsTap cells rst width x d y.0
+  pub each : (k d : ℕ) (y : NetId) → slice_get taps k ≡ Some d → slice_get nets k ≡ Some y
+      → IsTap cells rst width x d y.0
 
 -- the greatest of the numbers, and 0 of none
 abbrev pub greatest_of : List ℕ → ℕ

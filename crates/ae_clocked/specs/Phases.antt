@@ -40,7 +40,8 @@ pub record IsCounter (cells : List SizedCell) (rst : ℕ) (phase : Phase) (net :
 -- these clocks belong to a netlist
 pub record Belongs (clocks : Kept) (cells : List SizedCell) : Type 0 where
   pub rst : IsNet cells clocks.rst 1
-  pub counters : (phase : Phase) (net : NetId) → kept_at clocks phase ≡ Some net → IsCounter cells clocks.rst phase net.0
+  pub counters : (phase : Phase) (net : NetId) → kept_at clocks phase ≡ Some net
+      → IsCounter cells clocks.rst phase net.0
 
 -- clocks with the same reset that go on to keep each counter
 pub record KeepsCounters (old new : Kept) : Type 0 where
@@ -49,8 +50,11 @@ pub record KeepsCounters (old new : Kept) : Type 0 where
 
 -- from the first clock after reset on, y is 1 where the phase that a net shows is below a number, and else 0
 abbrev pub IsMark : List Clock → (start y phase from : ℕ) → Type 0
-IsMark run start y phase from = (c : ℕ) → start + c < length run → word_at run (start + c) y ≡ (if nat_lt (word_at run (start + c) phase) from then 1 else 0)
+IsMark run start y phase from =
+    (c : ℕ) → start + c < length run → word_at run
+    (start + c) y ≡ (if nat_lt (word_at run (start + c) phase) from then 1 else 0)
 
 -- from the first clock after reset on, y is 1 in the clocks whose phase is below a number, and else 0
 abbrev pub MarksPhases : List Clock → (start y period offset from : ℕ) → Type 0
-MarksPhases run start y period offset from = HasWords run start y (λ c. if nat_lt (phase_of period offset c) from then 1 else 0)
+MarksPhases run start y period offset from =
+    HasWords run start y (λ c. if nat_lt (phase_of period offset c) from then 1 else 0)

@@ -18,7 +18,8 @@ pub record AddsMemories (old new : Circuit) (most stores : ℕ) : Type 0 where
 -- memory m has so many places, and takes the word of x in every clock, at the place that at shows
 pub record IsStore (run : List Clock) (m at x depth : ℕ) : Type 0 where
   pub long : (t : ℕ) → t < length run → length (store_at run t m) ≡ depth
-  pub takes : (t : ℕ) → t + 1 < length run → store_at run (t + 1) m ≡ slice_set (store_at run t m) (word_at run t at) (word_at run t x)
+  pub takes : (t : ℕ) → t + 1 < length run
+      → store_at run (t + 1) m ≡ slice_set (store_at run t m) (word_at run t at) (word_at run t x)
 
 -- net y has the word of memory m at the place that at shows
 abbrev pub IsLook : List Clock → ℕ → ℕ → ℕ → Type 0

@@ -8,7 +8,8 @@ use Rattle.ae_play.specs.Sums.{AreSums, all_stand, valid_words}
 use Rattle.ae_play.specs.Words.{port_words}
 use Rattle.ae_play.specs.declared.sums.Sums.{Sums}
 
-pub lines_alike : (slowdown latency : ℕ) (outs : List StTree) (f g : ℕ → List ℕ) (k : ℕ) → ((c : ℕ) → c < k → f c ≡ g c) → clock_lines slowdown latency outs f k ≡ clock_lines slowdown latency outs g k
+pub lines_alike : (slowdown latency : ℕ) (outs : List StTree) (f g : ℕ → List ℕ) (k : ℕ) → ((c : ℕ) → c < k → f c ≡ g c)
+    → clock_lines slowdown latency outs f k ≡ clock_lines slowdown latency outs g k
 lines_alike slowdown latency outs f g zero h = refl
 lines_alike slowdown latency outs f g (suc k) h =
     λ i. lines_alike slowdown latency outs f g k (λ c below. h c (omega (arith, below))) i ++ clock_line slowdown latency outs k (h k (omega arith) i)
@@ -33,16 +34,20 @@ kept_small test (c ∷ ks) k h = by (test c) (kept_small test ks k h.1)
     by true rest = (h.0, rest)
     by false rest = rest
 
-pub sums_alike : (slowdown latency : ℕ) (outs : List StTree) (f g : ℕ → List ℕ) (k : ℕ) (sums : Sums) → ((c : ℕ) → c < k → f c ≡ g c) → AreSums slowdown latency outs f k sums → AreSums slowdown latency outs g k sums
+pub sums_alike : (slowdown latency : ℕ) (outs : List StTree) (f g : ℕ → List ℕ) (k : ℕ) (sums : Sums) → ((c : ℕ) → c < k → f c ≡ g c)
+    → AreSums slowdown latency outs f k sums → AreSums slowdown latency outs g k sums
 sums_alike slowdown latency outs f g k sums h s =
     let small = range_small 0 k k (omega arith) in
     let valid : valid_words slowdown latency outs f k ≡ valid_words slowdown latency outs g k =
-    flat_alike f g (filter (all_stand slowdown latency outs) (range_with_len 0 k)) k (kept_small (all_stand slowdown latency outs) (range_with_len 0 k) k small) h in
+    flat_alike f g (filter (all_stand slowdown latency outs) (range_with_len 0 k)) k
+    (kept_small (all_stand slowdown latency outs) (range_with_len 0 k) k small) h in
     record {
       valid = s.valid ∙ ap length valid;
       valid_sum = s.valid_sum ∙ ap sum valid;
       whole_sum = s.whole_sum ∙ ap sum (flat_alike f g (range_with_len 0 k) k small h);
     }
 
-pub words_alike : (given taken f g : ℕ → List ℕ) (k : ℕ) → ((c : ℕ) → c < k → given c ≡ taken c) → ((c : ℕ) → c < k → f c ≡ g c) → port_words given f k ≡ port_words taken g k
-words_alike given taken f g k h e = flat_alike (λ c. given c ++ f c) (λ c. taken c ++ g c) (range_with_len 0 k) k (range_small 0 k k (omega arith)) (λ c below i. h c below i ++ e c below i)
+pub words_alike : (given taken f g : ℕ → List ℕ) (k : ℕ) → ((c : ℕ) → c < k → given c ≡ taken c) → ((c : ℕ) → c < k → f c ≡ g c)
+    → port_words given f k ≡ port_words taken g k
+words_alike given taken f g k h e =
+    flat_alike (λ c. given c ++ f c) (λ c. taken c ++ g c) (range_with_len 0 k) k (range_small 0 k k (omega arith)) (λ c below i. h c below i ++ e c below i)

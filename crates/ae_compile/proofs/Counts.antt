@@ -36,7 +36,8 @@ pub record FewItems (f : FuncTree) : Type 0 where
 
 func_few : (v k m : ℕ) (f : FuncTree) → m ≤ 8 → formed_func v k m f ≡ true → FewItems f
 func_few v k m f b h =
-    let r = and_seven (is_name f.name) (within 1 8 (length f.params)) (formed_params v f.params) (formed_nodes v k (length f.params) f.nodes) (within 1 m (length f.results)) (all_below (item_count f) f.results) (named_items f) h in
+    let r = and_seven (is_name f.name) (within 1 8 (length f.params)) (formed_params v f.params) (formed_nodes v k (length f.params) f.nodes)
+    (within 1 m (length f.results)) (all_below (item_count f) f.results) (named_items f) h in
     let p = and-both (nat_le 1 (length f.params)) (nat_le (length f.params) 8) r.0 in
     let q = and-both (nat_le 1 (length f.results)) (nat_le (length f.results) m) r.1 in
     let most : length f.results ≤ m = grind (arith, nat_tests, q.1) in
@@ -51,4 +52,5 @@ funcs_few v i (g ∷ fs) (suc k) f h e = funcs_few v (i + 1) fs k f (and-both (f
 
 pub few_at : (p : ProgramTree) (k : ℕ) (f : FuncTree) → IsTyped p → slice_get p.funcs k ≡ Some f → FewItems f
 few_at p k f h e =
-    funcs_few p.version 0 p.funcs k f (and_five (within 1 2 p.version) (nat_le 1 (length p.funcs)) (nat_le (line_count p) 4096) (all_distinct (func_names p.funcs)) (formed_funcs p.version 0 p.funcs) h.is_formed) e
+    funcs_few p.version 0 p.funcs k f (and_five (within 1 2 p.version) (nat_le 1 (length p.funcs)) (nat_le (line_count p) 4096)
+    (all_distinct (func_names p.funcs)) (formed_funcs p.version 0 p.funcs) h.is_formed) e

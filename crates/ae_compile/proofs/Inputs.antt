@@ -49,7 +49,8 @@ all_widths : (at : ℕ → ℕ → ℕ → Port) (k : ℕ) (ss : List StTree) �
 all_widths at k [] = refl
 all_widths at k (s ∷ ss) =
     map-append (λ (p : SizedPort). p.width) (lane_ports (at k) (kind_widths (atom_kinds (element_atom s))) (lanes s)) (ports_from at (k + 1) (streams_of ss))
-    ∙ ap (λ vs. vs ++ port_widths (ports_from at (k + 1) (streams_of ss))) (lane_widths (at k) (kind_widths (atom_kinds (element_atom s))) (lanes s) ∙ sym (repeated_widths (lanes s) (atom_kinds (element_atom s))))
+    ∙ ap (λ vs. vs ++ port_widths (ports_from at (k + 1) (streams_of ss)))
+    (lane_widths (at k) (kind_widths (atom_kinds (element_atom s))) (lanes s) ∙ sym (repeated_widths (lanes s) (atom_kinds (element_atom s))))
     ∙ ap (λ vs. kind_widths (lane_kinds s) ++ vs) (all_widths at (k + 1) ss)
     ∙ sym (ap kind_widths (flat_map-cons lane_kinds s ss) ∙ map-append (λ (k : WordKind). k.width) (lane_kinds s) (flat_map lane_kinds ss))
 
@@ -60,21 +61,24 @@ inputs_kept : (ports : List SizedPort) → filter input_test (map input_cell por
 inputs_kept [] = refl
 inputs_kept (p ∷ ports) = ap (λ cells. input_cell p ∷ cells) (inputs_kept ports)
 
-inputs_first : (cells : List SizedCell) (ports : List SizedPort) → take (length ports) cells ≡ map input_cell ports → count_of is_input cells ≡ length ports → filter input_test cells ≡ map input_cell ports
+inputs_first : (cells : List SizedCell) (ports : List SizedPort) → take (length ports) cells ≡ map input_cell ports → count_of is_input cells ≡ length ports
+    → filter input_test cells ≡ map input_cell ports
 inputs_first cells ports first count =
     let rest : List SizedCell = drop (length ports) cells in
     let whole : map input_cell ports ++ rest ≡ cells = ap (λ cs. cs ++ rest) (sym first) ∙ take-append-drop (length ports) cells in
     let many : length (filter input_test cells) ≡ length ports = length-filter input_test cells ∙ count in
     let parts : filter input_test cells ≡ map input_cell ports ++ filter input_test rest =
     ap (filter input_test) (sym whole) ∙ filter-append input_test (map input_cell ports) rest ∙ ap (λ cs. cs ++ filter input_test rest) (inputs_kept ports) in
-    let none : filter input_test rest ≡ [] = nil_from_length (filter input_test rest) (omega (arith, many, ap length parts, length-append (map input_cell ports) (filter input_test rest), length-map ports input_cell)) in
+    let none : filter input_test rest ≡ [] = nil_from_length (filter input_test rest)
+    (omega (arith, many, ap length parts, length-append (map input_cell ports) (filter input_test rest), length-map ports input_cell)) in
     parts ∙ ap (λ cs. map input_cell ports ++ cs) none ∙ append-nil (map input_cell ports)
 
 cell_widths : (ports : List SizedPort) → map (λ (c : SizedCell). c.width) (map input_cell ports) ≡ port_widths ports
 cell_widths [] = refl
 cell_widths (p ∷ ports) = ap (λ ws. p.width ∷ ws) (cell_widths ports)
 
-pub circuit_columns : (p : ProgramTree) (slowdown : ℕ) (costs : OwnCosts) (ins outs : List StTree) (n : Circuit) → IsCircuitFor p slowdown costs ins outs n → HasColumns n.cells ins
+pub circuit_columns : (p : ProgramTree) (slowdown : ℕ) (costs : OwnCosts) (ins outs : List StTree) (n : Circuit) → IsCircuitFor p slowdown costs ins outs n
+    → HasColumns n.cells ins
 circuit_columns p slowdown costs ins outs n c =
     let ports : List SizedPort = reset_port ∷ input_ports (streams_of ins) in
     let long : 1 + length (input_ports (streams_of ins)) ≡ length ports = omega arith in

@@ -5,12 +5,14 @@ use Rattle.ae_seq.specs.declared.program.Param.{Param}
 use Rattle.ae_seq.specs.ProgramTree.{node_tree, param_tree}
 use Rattle.ae_seq.specs.Formed.{node_names, param_names}
 
-pub param_at : (ps : List Param) (ns : List (List ℕ)) (i : ℕ) (q : Param) → i < length ps → q ≡ get_or ps i q → get_or (param_names (map param_tree ps) ++ ns) i [] ≡ (param_tree q).name
+pub param_at : (ps : List Param) (ns : List (List ℕ)) (i : ℕ) (q : Param) → i < length ps → q ≡ get_or ps i q
+    → get_or (param_names (map param_tree ps) ++ ns) i [] ≡ (param_tree q).name
 param_at [] ns i q h e = absurd (omega (arith, h))
 param_at (p ∷ ps) ns zero q h e = ap (λ (x : Param). (param_tree x).name) (sym e)
 param_at (p ∷ ps) ns (suc i) q h e = param_at ps ns i q (omega (arith, h)) e
 
-pub behind_params : (ps : List Param) (ns : List (List ℕ)) (i : ℕ) → length ps ≤ i → get_or (param_names (map param_tree ps) ++ ns) i [] ≡ get_or ns (i - length ps) []
+pub behind_params : (ps : List Param) (ns : List (List ℕ)) (i : ℕ) → length ps ≤ i
+    → get_or (param_names (map param_tree ps) ++ ns) i [] ≡ get_or ns (i - length ps) []
 behind_params [] ns i h = let e : i ≡ i - 0 = omega arith in ap (λ (k : ℕ). get_or ns k []) e
 behind_params (p ∷ ps) ns zero h = absurd (omega (arith, h))
 behind_params (p ∷ ps) ns (suc i) h =

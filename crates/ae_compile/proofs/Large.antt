@@ -23,8 +23,10 @@ use Rattle.ae_compile.specs.declared.faults.CompileFault.{CompileFault}
 use Rattle.ae_compile.specs.declared.faults.CompileFault.TheVariants.{BadLine, BadType, Memory, NoSchedule, TooLarge}
 use Rattle.ae_compile.specs.Costing.{AreCosts, HasParts, IsCostFault, IsLargeAt, IsScheduled, arrivals_in, costing_by, costs_over, main_costing, main_costs, whole_costs}
 
-pub cost_fault : (limit : ℕ) (part : List ℕ) (slowdown : ℕ) (p : ProgramTree) (all : List StFuncTree) (fault : CompileFault) → IsScheduled part slowdown p all → IsLargeAt (costs_over limit p all) fault → IsCostFault limit part slowdown fault
-cost_fault limit part slowdown p all (TooLarge line) h over = inr (record { program = p; typed = h.typed; instances = all; schedule = h.schedule; load = over.0; large = over.1 })
+pub cost_fault : (limit : ℕ) (part : List ℕ) (slowdown : ℕ) (p : ProgramTree) (all : List StFuncTree) (fault : CompileFault) → IsScheduled part slowdown p all
+    → IsLargeAt (costs_over limit p all) fault → IsCostFault limit part slowdown fault
+cost_fault limit part slowdown p all (TooLarge line) h over =
+    inr (record { program = p; typed = h.typed; instances = all; schedule = h.schedule; load = over.0; large = over.1 })
 cost_fault limit part slowdown p all Memory h over = tt
 cost_fault limit part slowdown p all (BadLine line) h over = absurd over
 cost_fault limit part slowdown p all (BadType line) h over = absurd over
@@ -45,24 +47,28 @@ lines_within limit sum (l ∷ ls) h e =
     omega (arith, c, lines_within limit (sum + l.load) ls fits n.1)
 
 -- the lines of nodes, and the end
-load_total : (ts : List NodeTiming) (end : LineLoad) → sum_by (λ (l : LineLoad). l.load) (map load_at_line ts ++ end ∷ []) ≡ sum_by (λ (t : NodeTiming). t.load) ts + end.load
+load_total : (ts : List NodeTiming) (end : LineLoad) → sum_by (λ (l : LineLoad). l.load) (map load_at_line ts ++ end ∷ []) ≡ sum_by
+    (λ (t : NodeTiming). t.load) ts + end.load
 load_total [] end =
     let c : sum_by (λ (x : LineLoad). x.load) (end ∷ []) ≡ end.load + sum_by (λ (x : LineLoad). x.load) [] = sum_by-cons (λ (x : LineLoad). x.load) end [] in
     let z : sum_by (λ (x : LineLoad). x.load) [] ≡ 0 = refl in
     let y : sum_by (λ (x : NodeTiming). x.load) [] ≡ 0 = refl in
     omega (arith, c, z, y)
 load_total (t ∷ ts) end =
-    let c : sum_by (λ (x : LineLoad). x.load) (load_at_line t ∷ (map load_at_line ts ++ end ∷ [])) ≡ t.load + sum_by (λ (x : LineLoad). x.load) (map load_at_line ts ++ end ∷ []) = sum_by-cons (λ (x : LineLoad). x.load) (load_at_line t) (map load_at_line ts ++ end ∷ []) in
+    let c : sum_by (λ (x : LineLoad). x.load) (load_at_line t ∷ (map load_at_line ts ++ end ∷ [])) ≡ t.load + sum_by (λ (x : LineLoad). x.load)
+    (map load_at_line ts ++ end ∷ []) = sum_by-cons (λ (x : LineLoad). x.load) (load_at_line t) (map load_at_line ts ++ end ∷ []) in
     let d : sum_by (λ (x : NodeTiming). x.load) (t ∷ ts) ≡ t.load + sum_by (λ (x : NodeTiming). x.load) ts = sum_by-cons (λ (x : NodeTiming). x.load) t ts in
     c ∙ omega (arith, d, load_total ts end)
 
 -- the costs of a program function with an instance
-pub costing_is : (p : ProgramTree) (all : List StFuncTree) (f : FuncTree) (s : StFuncTree) → slice_get p.funcs (main_of p) ≡ Some f → slice_get all (last_of all) ≡ Some s
+pub costing_is : (p : ProgramTree) (all : List StFuncTree) (f : FuncTree) (s : StFuncTree) → slice_get p.funcs (main_of p) ≡ Some f
+    → slice_get all (last_of all) ≡ Some s
     → main_costing p all ≡ costing p f s (node_timings (all_costs (take (last_of all) all)) s)
 costing_is p all f s there last = λ i. costing_by p (all_costs (take (last_of all) all)) (there i) (last i)
 
 -- where no line passes the limit, the load is within it
-load_by : (moves : Bool) (limit : ℕ) (f : FuncTree) (s : StFuncTree) (ts : List NodeTiming) → costing_over limit (if moves then fused_costing f s else scheduled_costing s ts) ≡ None
+load_by : (moves : Bool) (limit : ℕ) (f : FuncTree) (s : StFuncTree) (ts : List NodeTiming)
+    → costing_over limit (if moves then fused_costing f s else scheduled_costing s ts) ≡ None
     → (if moves then fused_costing f s else scheduled_costing s ts).costs.load ≤ limit
 load_by true limit f s ts none =
     let own : LineLoad = record { line = f.end_line; load = (fused_costing f s).costs.load } in
@@ -83,10 +89,12 @@ load_within limit p all h within =
 -- ---- by kind
 
 -- of a program that computes they are those of the schedule
-pub plain_costing : (p : ProgramTree) (all : List StFuncTree) (f : FuncTree) (s : StFuncTree) → is_movement p ≡ false → slice_get p.funcs (main_of p) ≡ Some f → slice_get all (last_of all) ≡ Some s
+pub plain_costing : (p : ProgramTree) (all : List StFuncTree) (f : FuncTree) (s : StFuncTree) → is_movement p ≡ false → slice_get p.funcs (main_of p) ≡ Some f
+    → slice_get all (last_of all) ≡ Some s
     → main_costing p all ≡ scheduled_costing s (node_timings (all_costs (take (last_of all) all)) s)
 plain_costing p all f s computes there last =
-    costing_is p all f s there last ∙ ap (λ (b : Bool). if b then fused_costing f s else scheduled_costing s (node_timings (all_costs (take (last_of all) all)) s)) computes
+    costing_is p all f s there last ∙ ap (λ (b : Bool). if b then fused_costing f s else scheduled_costing s
+    (node_timings (all_costs (take (last_of all) all)) s)) computes
 
 pub plain_over : (limit : ℕ) (p : ProgramTree) (all : List StFuncTree) → is_movement p ≡ false → HasParts p all → costs_over limit p all ≡ too_large limit all
 plain_over limit p all computes h =
@@ -102,12 +110,14 @@ plain_main p all computes h =
 pub moved_costing : (p : ProgramTree) (all : List StFuncTree) (v : FusedView) (h : IsFusedOf p all v) → main_costing p all ≡ fused_costing h.func h.instance
 moved_costing p all v h =
     costing_is p all h.func h.instance h.there h.last
-    ∙ ap (λ (b : Bool). if b then fused_costing h.func h.instance else scheduled_costing h.instance (node_timings (all_costs (take (last_of all) all)) h.instance)) h.movement
+    ∙ ap (λ (b : Bool). if b then fused_costing h.func h.instance else scheduled_costing h.instance
+    (node_timings (all_costs (take (last_of all) all)) h.instance)) h.movement
 
 pub moved_main : (p : ProgramTree) (all : List StFuncTree) (v : FusedView) → IsFusedOf p all v → main_costs p all ≡ moves_costs v
 moved_main p all v h = ap (λ (c : Costing). c.costs) (moved_costing p all v h) ∙ sym h.costs
 
-pub moved_over : (limit : ℕ) (p : ProgramTree) (all : List StFuncTree) (v : FusedView) (f : FuncTree) → slice_get p.funcs (main_of p) ≡ Some f → IsFusedOf p all v → costs_over limit p all ≡ first_over limit 0 (record { line = f.end_line; load = v.load } ∷ [])
+pub moved_over : (limit : ℕ) (p : ProgramTree) (all : List StFuncTree) (v : FusedView) (f : FuncTree) → slice_get p.funcs (main_of p) ≡ Some f
+    → IsFusedOf p all v → costs_over limit p all ≡ first_over limit 0 (record { line = f.end_line; load = v.load } ∷ [])
 moved_over limit p all v f there h =
     let same : h.func ≡ f = same_Some h.func f (sym h.there ∙ there) in
     let load : (fused_costing h.func h.instance).costs.load ≡ v.load = sym (ap (λ (o : OwnCosts). o.load) h.costs) in
@@ -120,23 +130,28 @@ none_over limit sum (l ∷ ls) h =
     let c : sum_by (λ (x : LineLoad). x.load) (l ∷ ls) ≡ l.load + sum_by (λ (x : LineLoad). x.load) ls = sum_by-cons (λ (x : LineLoad). x.load) l ls in
     let fits : sum + l.load ≤ limit = omega (arith, h, c) in
     let t : nat_lt limit (sum + l.load) ≡ false = grind (arith, nat_tests) in
-    ap (λ (b : Bool). if b then Some (record { line = l.line; load = sum + l.load }) else first_over limit (sum + l.load) ls) t ∙ none_over limit (sum + l.load) ls (omega (arith, h, c))
+    ap (λ (b : Bool). if b then Some (record { line = l.line; load = sum + l.load }) else first_over limit (sum + l.load) ls) t ∙
+    none_over limit (sum + l.load) ls (omega (arith, h, c))
 
-pub plain_within : (limit : ℕ) (p : ProgramTree) (all : List StFuncTree) → is_movement p ≡ false → HasParts p all → (main_costs p all).load ≤ limit → costs_over limit p all ≡ None
+pub plain_within : (limit : ℕ) (p : ProgramTree) (all : List StFuncTree) → is_movement p ≡ false → HasParts p all → (main_costs p all).load ≤ limit
+    → costs_over limit p all ≡ None
 plain_within limit p all computes h light =
     let s = h.instance in
     let ts = node_timings (all_costs (take (last_of all) all)) s in
     let is : main_costing p all ≡ scheduled_costing s ts = plain_costing p all h.func s computes h.there h.last in
-    let load : sum_by (λ (t : NodeTiming). t.load) ts + slack_load (item_layouts s) (result_uses s ts) ≤ limit = subst (λ (c : Costing). c.costs.load ≤ limit) is light in
+    let load : sum_by (λ (t : NodeTiming). t.load) ts + slack_load (item_layouts s) (result_uses s ts) ≤ limit = subst
+    (λ (c : Costing). c.costs.load ≤ limit) is light in
     let total = load_total ts (record { line = s.end_line; load = slack_load (item_layouts s) (result_uses s ts) }) in
     ap (costing_over limit) is ∙ none_over limit 0 (line_loads s ts) (omega (arith, load, total))
 
 -- what was found
 pub costs_found : (p : ProgramTree) (all : List StFuncTree) (c : Costs) → HasParts p all → AreCosts p all c → whole_costs c ≡ main_costs p all
-costs_found p all (Plain t) h are = are.1.costs h.instance h.last ∙ sym (ap (costs_in (all_costs (take (last_of all) all))) h.last) ∙ sym (plain_main p all are.0 h)
+costs_found p all (Plain t) h are =
+    are.1.costs h.instance h.last ∙ sym (ap (costs_in (all_costs (take (last_of all) all))) h.last) ∙ sym (plain_main p all are.0 h)
 costs_found p all (Fused v) h are = sym (moved_main p all v are)
 
-pub arrivals_found : (p : ProgramTree) (all : List StFuncTree) (c : Costs) → HasParts p all → AreCosts p all c → arrivals_in (last_of all) c ≡ Some (main_costing p all).arrivals
+pub arrivals_found : (p : ProgramTree) (all : List StFuncTree) (c : Costs) → HasParts p all → AreCosts p all c
+    → arrivals_in (last_of all) c ≡ Some (main_costing p all).arrivals
 arrivals_found p all (Plain t) h are =
     are.1.arrivals (last_of all) h.instance h.last ∙ ap (λ (c : Costing). Some c.arrivals) (sym (plain_costing p all h.func h.instance are.0 h.there h.last))
 arrivals_found p all (Fused v) h are = ap (λ (xs : List ℕ). Some xs) (are.arrivals ∙ ap (λ (c : Costing). c.arrivals) (sym (moved_costing p all v are)))
@@ -154,7 +169,8 @@ one_within limit l h =
     let t : nat_lt limit (0 + l.load) ≡ false = grind (arith, nat_tests) in
     ap (λ (b : Bool). if b then Some (record { line = l.line; load = 0 + l.load }) else None) t
 
-pub moved_large : (limit : ℕ) (p : ProgramTree) (all : List StFuncTree) (v : FusedView) (f : FuncTree) → slice_get p.funcs (main_of p) ≡ Some f → IsFusedOf p all v → limit < v.load → IsLargeAt (costs_over limit p all) (TooLarge f.end_line)
+pub moved_large : (limit : ℕ) (p : ProgramTree) (all : List StFuncTree) (v : FusedView) (f : FuncTree) → slice_get p.funcs (main_of p) ≡ Some f
+    → IsFusedOf p all v → limit < v.load → IsLargeAt (costs_over limit p all) (TooLarge f.end_line)
 moved_large limit p all v f there h over = (0 + v.load, moved_over limit p all v f there h ∙ one_over limit (record { line = f.end_line; load = v.load }) over)
 
 pub moved_within : (limit : ℕ) (p : ProgramTree) (all : List StFuncTree) (v : FusedView) → IsFusedOf p all v → v.load ≤ limit → costs_over limit p all ≡ None

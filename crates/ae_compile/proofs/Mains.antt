@@ -34,7 +34,8 @@ nodes_many p keys f u i [] (t ∷ ss) h = absurd h
 nodes_many p keys f u i (n ∷ ns) [] h = absurd h
 nodes_many p keys f u i (n ∷ ns) (t ∷ ss) h = omega (arith, nodes_many p keys f u (i + 1) ns ss h.1)
 
-main_by : (p : ProgramTree) (slowdown : ℕ) (all : List StFuncTree) (f : FuncTree) (s : StFuncTree) → IsSchedule p slowdown all → slice_get p.funcs (main_of p) ≡ Some f → slice_get all (length all - 1) ≡ Some s → MainInstance p f s
+main_by : (p : ProgramTree) (slowdown : ℕ) (all : List StFuncTree) (f : FuncTree) (s : StFuncTree) → IsSchedule p slowdown all
+    → slice_get p.funcs (main_of p) ≡ Some f → slice_get all (length all - 1) ≡ Some s → MainInstance p f s
 main_by p slowdown all f s h at last =
     let key = h.last in
     let same : key.instance ≡ s = same_Some key.instance s (sym key.here ∙ last) in
@@ -42,14 +43,16 @@ main_by p slowdown all f s h at last =
     let number : s.func ≡ main_of p = ap (λ (x : StFuncTree). x.func) (sym same) ∙ key.is_func in
     let of : own.of ≡ f = same_Some own.of f (sym own.known ∙ (ap (slice_get p.funcs) number ∙ at)) in
     let params : length s.ins ≡ length own.of.params = as_many s.budget own.of.params s.ins own.ins in
-    let nodes : length s.nodes ≡ length own.of.nodes = nodes_many p (HasKey (take (length all - 1) all)) s.func s.budget (length own.of.params) own.of.nodes s.nodes own.nodes in
+    let nodes : length s.nodes ≡ length own.of.nodes = nodes_many p (HasKey (take (length all - 1) all)) s.func s.budget
+    (length own.of.params) own.of.nodes s.nodes own.nodes in
     rw (← of) (record {
       items = length-append s.ins (node_layouts s.nodes) ∙ omega (arith, params, nodes, length-map s.nodes (λ (x : StNodeTree). x.type));
       nodes = nodes;
       results = own.results;
     })
 
-pub main_items : (p : ProgramTree) (slowdown : ℕ) (all : List StFuncTree) (f : FuncTree) (s : StFuncTree) → IsTrue (formed p) → IsSchedule p slowdown all → IsSound all → slice_get p.funcs (main_of p) ≡ Some f → slice_get all (length all - 1) ≡ Some s → IsInstanceOf f s
+pub main_items : (p : ProgramTree) (slowdown : ℕ) (all : List StFuncTree) (f : FuncTree) (s : StFuncTree) → IsTrue (formed p) → IsSchedule p slowdown all
+    → IsSound all → slice_get p.funcs (main_of p) ≡ Some f → slice_get all (length all - 1) ≡ Some s → IsInstanceOf f s
 main_items p slowdown all f s good h sound at last =
     let m = main_by p slowdown all f s h at last in
     let form = formed-of p (main_of p) f good at in
@@ -61,7 +64,8 @@ main_items p slowdown all f s good h sound at last =
       results = λ i r g. (sound.each (length all - 1) s last).results i r (rw m.results g);
     }
 
-pub main_nodes : (p : ProgramTree) (slowdown : ℕ) (all : List StFuncTree) (f : FuncTree) (s : StFuncTree) → IsSchedule p slowdown all → slice_get p.funcs (main_of p) ≡ Some f → slice_get all (length all - 1) ≡ Some s → length s.nodes ≡ length f.nodes
+pub main_nodes : (p : ProgramTree) (slowdown : ℕ) (all : List StFuncTree) (f : FuncTree) (s : StFuncTree) → IsSchedule p slowdown all
+    → slice_get p.funcs (main_of p) ≡ Some f → slice_get all (length all - 1) ≡ Some s → length s.nodes ≡ length f.nodes
 main_nodes p slowdown all f s h at last = (main_by p slowdown all f s h at last).nodes
 
 pub parts_of : (p : ProgramTree) (slowdown : ℕ) (all : List StFuncTree) → IsSchedule p slowdown all → HasParts p all
@@ -85,7 +89,8 @@ name_plain n h = grind (arith, nat_tests)
 
 names_plain : (ns : List NodeTree) → IsTrue (all_names (node_names ns)) → AllNamed ns
 names_plain [] h = tt
-names_plain (n ∷ ns) h = (name_plain n.name (both_left (is_name n.name) (all_names (node_names ns)) h), names_plain ns (both_right (is_name n.name) (all_names (node_names ns)) h))
+names_plain (n ∷ ns) h =
+    (name_plain n.name (both_left (is_name n.name) (all_names (node_names ns)) h), names_plain ns (both_right (is_name n.name) (all_names (node_names ns)) h))
 
 name_short : (n : List ℕ) → IsTrue (is_name n) → length n ≤ 32
 name_short n h = grind (arith, nat_tests)
@@ -122,7 +127,8 @@ params_named f items = grind (arith, nat_tests)
 pub main_named : (p : ProgramTree) (k : ℕ) (f : FuncTree) → IsTrue (formed p) → slice_get p.funcs k ≡ Some f → AllNamed f.nodes
 main_named p k f h at = names_plain f.nodes (nodes_named f (main_items_named p k f h at))
 
-pub main_short : (p : ProgramTree) (k : ℕ) (f : FuncTree) → IsTrue (formed p) → slice_get p.funcs k ≡ Some f → (j : ℕ) (n : NodeTree) → slice_get f.nodes j ≡ Some n → length n.name ≤ 32
+pub main_short : (p : ProgramTree) (k : ℕ) (f : FuncTree) → IsTrue (formed p) → slice_get p.funcs k ≡ Some f → (j : ℕ) (n : NodeTree)
+    → slice_get f.nodes j ≡ Some n → length n.name ≤ 32
 main_short p k f h at = names_short f.nodes (nodes_named f (main_items_named p k f h at))
 
 pub main_item_short : (p : ProgramTree) (k : ℕ) (f : FuncTree) → IsTrue (formed p) → slice_get p.funcs k ≡ Some f → (i : ℕ) → length (item_name f i) ≤ 32

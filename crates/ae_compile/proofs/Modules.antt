@@ -59,7 +59,8 @@ few_columns s h = product_le (lanes s) (st_atoms s) (element_words s) 16384 (lan
 
 all_columns : (ss : List StTree) → ((q : ℕ) (s : StTree) → slice_get ss q ≡ Some s → IsInSize s) → columns_in (streams_of ss) ≤ length ss * 16384
 all_columns [] h = omega arith
-all_columns (s ∷ ss) h = omega (arith, columns_more (stream_of s) (streams_of ss), few_columns s (h 0 s refl), stream_columns s, all_columns ss (λ q t e. h (suc q) t e))
+all_columns (s ∷ ss) h =
+    omega (arith, columns_more (stream_of s) (streams_of ss), few_columns s (h 0 s refl), stream_columns s, all_columns ss (λ q t e. h (suc q) t e))
 
 -- ---- how many ports a circuit has
 
@@ -81,25 +82,36 @@ unmapped f xs k y h =
     record { from = e.0; found = e.1; is = same_Some (f e.0) y (sym (mapped_at f xs k e.0 e.1) ∙ h) }
 
 -- the layouts of an instance's results are in size
-pub small_results : (instances : List StFuncTree) (s : StFuncTree) → IsSound instances → slice_get instances (last_of instances) ≡ Some s → (q : ℕ) (t : StTree) → slice_get (results_of s) q ≡ Some t → IsInSize t
+pub small_results : (instances : List StFuncTree) (s : StFuncTree) → IsSound instances → slice_get instances (last_of instances) ≡ Some s
+    → (q : ℕ) (t : StTree) → slice_get (results_of s) q ≡ Some t → IsInSize t
 small_results instances s sound found q t e =
     let own = sound.each (last_of instances) s found in
     let m = unmapped (item_layout (item_layouts s)) s.results q t e in
     subst IsInSize m.is (all_items (last_of instances) s own m.from (own.results q m.from m.found)).size
 
-pub few_ports : (lines : ℕ → ℕ) → (p : ProgramTree) (slowdown : ℕ) (costs : OwnCosts) (ins outs : List StTree) (n : Circuit) → IsLaidOut p slowdown ins outs → IsCircuitFor p slowdown costs ins outs n → HasFewPorts lines ins outs n
+pub few_ports : (lines : ℕ → ℕ) → (p : ProgramTree) (slowdown : ℕ) (costs : OwnCosts) (ins outs : List StTree) (n : Circuit) → IsLaidOut p slowdown ins outs
+    → IsCircuitFor p slowdown costs ins outs n → HasFewPorts lines ins outs n
 few_ports lines p slowdown costs ins outs n laid c =
     let many : ℕ = length outs in
     let have = circuit_ports p slowdown costs ins outs n c in
     let given = net_side.input_ports (streams_of ins) in
     let shown : length n.outlets ≡ length (outs_of outs) = sym (length-map n.outlets (outlet_port n.cells)) ∙ ap length have.outputs in
-    let filtered : length (ports_of (netlist_module lines n.cells n.outlets many)) ≡ 1 + (length (map in_net (ins_of ins)) + length (map (out_net many) (outs_of outs))) =
-    length-map (filter is_port (netlist_module lines n.cells n.outlets many).nets) port_of ∙ ap length (ports_filtered lines n.cells n.outlets many (ins_of ins) (outs_of outs) have) ∙ omega (arith, length-append (map in_net (ins_of ins)) (map (out_net many) (outs_of outs))) in
+    let filtered : length (ports_of (netlist_module lines n.cells n.outlets many)) ≡ 1 + (length (map in_net (ins_of ins)) + length
+    (map (out_net many) (outs_of outs))) =
+    length-map (filter is_port (netlist_module lines n.cells n.outlets many).nets) port_of ∙
+    ap length (ports_filtered lines n.cells n.outlets many (ins_of ins) (outs_of outs) have) ∙
+    omega (arith, length-append (map in_net (ins_of ins)) (map (out_net many) (outs_of outs))) in
     let in_columns : length given ≡ columns_in (streams_of ins) = length_from _ 0 (streams_of ins) in
     let out_columns : length (outs_of outs) ≡ columns_in (streams_of outs) = length_from _ 0 (streams_of outs) in
     record {
       inputs = omega (arith, in_columns, few_ins p slowdown ins outs laid, all_columns ins (λ q t e. (ins_filling p slowdown ins outs laid q t e).size));
-      outputs = omega (arith, shown, out_columns, few_outs p slowdown ins outs laid, all_columns outs (λ q t e. (outs_filling p slowdown ins outs laid q t e).size));
+      outputs = omega (
+        arith,
+        shown,
+        out_columns,
+        few_outs p slowdown ins outs laid,
+        all_columns outs (λ q t e. (outs_filling p slowdown ins outs laid q t e).size),
+      );
       all = omega (arith, filtered, length-map (ins_of ins) in_net, length-map (outs_of outs) (out_net many), shown);
     }
 
@@ -109,7 +121,8 @@ few_ports lines p slowdown costs ins outs n laid c =
 pub record HaveWriting : Type 0 where
   pub writable : CircuitsAreWritable
   pub runs : (lines : ℕ → ℕ) (n : Circuit) (outs : ℕ) → IsWritableNetlist n.cells n.outlets outs → HasSameRuns (netlist_module lines n.cells n.outlets outs) n
-  pub formed : (lines : ℕ → ℕ) (n : Circuit) (outs : ℕ) → IsWritableNetlist n.cells n.outlets outs → 1 + 4 * length n.cells + 4 * length n.outlets ≤ 10000000 → IsWellFormed (netlist_module lines n.cells n.outlets outs)
+  pub formed : (lines : ℕ → ℕ) (n : Circuit) (outs : ℕ) → IsWritableNetlist n.cells n.outlets outs → 1 + 4 * length n.cells + 4 * length n.outlets ≤ 10000000
+      → IsWellFormed (netlist_module lines n.cells n.outlets outs)
 
 -- and those of its text and its correctness
 pub record HaveLaws : Type 0 where
@@ -124,16 +137,22 @@ pub record HasModule (n : Circuit) (notes : List NoteTree) (many : ℕ) : Type 0
   pub same : HasSameRuns (noted_module notes n.cells n.outlets many) n
   pub formed : IsWellFormed (noted_module notes n.cells n.outlets many)
 
-pub module_there : (p : ProgramTree) (slowdown : ℕ) (instances : List StFuncTree) (found : Costs) (n : Circuit) (report : ReportTree) (notes : List NoteTree) → HaveWriting → IsKnown load_limit p slowdown instances found → IsCompiled p slowdown instances n report notes → HasModule n notes (length report.outs)
+pub module_there : (p : ProgramTree) (slowdown : ℕ) (instances : List StFuncTree) (found : Costs) (n : Circuit) (report : ReportTree) (notes : List NoteTree)
+    → HaveWriting → IsKnown load_limit p slowdown instances found → IsCompiled p slowdown instances n report notes → HasModule n notes (length report.outs)
 module_there p slowdown instances found n report notes laws k d =
     let many : ℕ = length report.outs in
     let ports = few_ports (lines_of notes (length n.cells)) p slowdown (main_costs p instances) report.ins report.outs n d.laid d.circuit in
-    let writable : IsWritableNetlist n.cells n.outlets many = laws.writable p slowdown (main_costs p instances) report.ins report.outs n d.laid k.light d.circuit in
+    let writable : IsWritableNetlist n.cells n.outlets many = laws.writable p slowdown
+    (main_costs p instances) report.ins report.outs n d.laid k.light d.circuit in
     let small = d.circuit.small in
     let light = k.light in
-    record { same = laws.runs (lines_of notes (length n.cells)) n many writable; formed = laws.formed (lines_of notes (length n.cells)) n many writable (omega (arith, small, light, ports.inputs, ports.outputs)) }
+    record {
+      same = laws.runs (lines_of notes (length n.cells)) n many writable;
+      formed = laws.formed (lines_of notes (length n.cells)) n many writable (omega (arith, small, light, ports.inputs, ports.outputs));
+    }
 
-pub module_is : (p : ProgramTree) (slowdown : ℕ) (instances : List StFuncTree) (found : Costs) (n : Circuit) (report : ReportTree) (notes : List NoteTree) (text : List ℕ) → HaveLaws → IsKnown load_limit p slowdown instances found → IsCompiled p slowdown instances n report notes
+pub module_is : (p : ProgramTree) (slowdown : ℕ) (instances : List StFuncTree) (found : Costs) (n : Circuit) (report : ReportTree) (notes : List NoteTree)
+    (text : List ℕ) → HaveLaws → IsKnown load_limit p slowdown instances found → IsCompiled p slowdown instances n report notes
     → IsWritten report n notes text → IsModuleText p slowdown instances text
 module_is p slowdown instances found n report notes text laws k d t =
     let many : ℕ = length report.outs in

@@ -27,7 +27,8 @@ name_printed (b ∷ bs) h = let parts = and_parts _ (all_name_bytes bs) h in and
 all_printed : (layouts : List StTree) (i : ℕ) (ns : List NodeTree) (ms : List ℕ) → AllNamed ns → ArePrinted (node_notes layouts i ns ms)
 all_printed layouts i [] ms named k n e = absurd (none-some n e)
 all_printed layouts i (x ∷ xs) [] named k n e = absurd (none-some n e)
-all_printed layouts i (x ∷ xs) (m ∷ ms) named zero n e = subst (λ (y : NoteTree). IsTrue (list_all is_printed y.name)) (same_Some (node_note m x (item_layout layouts i)) n e) (name_printed x.name named.0)
+all_printed layouts i (x ∷ xs) (m ∷ ms) named zero n e =
+    subst (λ (y : NoteTree). IsTrue (list_all is_printed y.name)) (same_Some (node_note m x (item_layout layouts i)) n e) (name_printed x.name named.0)
 all_printed layouts i (x ∷ xs) (m ∷ ms) named (suc k) n e = all_printed layouts (i + 1) xs ms named.1 k n e
 
 pub notes_printed : {A E : Type 0} (r : Result (Vec Note A) E) (layouts : List StTree) (i : ℕ) (ns : List NodeTree) (ms : List ℕ) → AllNamed ns
@@ -49,7 +50,8 @@ results_printed layouts f (i ∷ is) [] named k n e = absurd (none-some n e)
 results_printed layouts f (i ∷ is) (m ∷ ms) named zero n e =
     let ps : IsTrue (all_names (param_names f.params)) = grind (arith, nat_tests) in
     let ns : IsTrue (all_names (node_names f.nodes)) = grind (arith, nat_tests) in
-    subst (λ (y : NoteTree). IsTrue (list_all is_printed y.name)) (same_Some (item_note f i m (item_layout layouts i)) n e) (items_printed (param_names f.params) (node_names f.nodes) ps ns i)
+    subst (λ (y : NoteTree). IsTrue (list_all is_printed y.name)) (same_Some (item_note f i m (item_layout layouts i)) n e)
+    (items_printed (param_names f.params) (node_names f.nodes) ps ns i)
 results_printed layouts f (i ∷ is) (m ∷ ms) named (suc k) n e = results_printed layouts f is ms named k n e
 
 pub moves_printed : {A E : Type 0} (r : Result (Vec Note A) E) (layouts : List StTree) (f : FuncTree) (ms : List ℕ) → IsTrue (named_items f)
@@ -58,24 +60,32 @@ moves_printed (Ok v) layouts f ms named is = subst ArePrinted (sym is) (results_
 moves_printed (Err e) layouts f ms named is = tt
 
 -- the notes of the program function's instance, by the kind of the program
-told_same : {A E : Type 0} (b : Bool) (r : Result (Vec Note A) E) (p : ProgramTree) (instances : List StFuncTree) (f : FuncTree) (s : StFuncTree) (marks : List ℕ) → is_movement p ≡ b
+told_same : {A E : Type 0} (b : Bool) (r : Result (Vec Note A) E) (p : ProgramTree) (instances : List StFuncTree) (f : FuncTree) (s : StFuncTree)
+    (marks : List ℕ) → is_movement p ≡ b
     → slice_get p.funcs (main_of p) ≡ Some f → slice_get instances (length instances - 1) ≡ Some s
-    → IfOk r (λ v. map note_tree v.items ≡ (if b then result_notes (item_layouts s) f f.results marks else node_notes (item_layouts s) (length f.params) f.nodes marks))
-    → IfOk r (λ v. (t : StFuncTree) (g : FuncTree) → slice_get instances (length instances - 1) ≡ Some t → slice_get p.funcs (main_of p) ≡ Some g → map note_tree v.items ≡ told_notes p g (item_layouts t) marks)
+    → IfOk r (λ v. map note_tree v.items ≡ (if b then result_notes (item_layouts s) f f.results marks else node_notes (item_layouts s)
+    (length f.params) f.nodes marks))
+    → IfOk r (λ v. (t : StFuncTree) (g : FuncTree) → slice_get instances (length instances - 1) ≡ Some t → slice_get p.funcs (main_of p) ≡ Some g
+    → map note_tree v.items ≡ told_notes p g (item_layouts t) marks)
 told_same b (Ok v) p instances f s marks kind main last is = λ t g there here.
     (let e : s ≡ t = same_Some s t (sym last ∙ there) in
     let h : f ≡ g = same_Some f g (sym main ∙ here) in
-    is ∙ (λ i. if sym kind i then result_notes (item_layouts (e i)) (h i) (h i).results marks else node_notes (item_layouts (e i)) (length (h i).params) (h i).nodes marks))
+    is ∙ (λ i. if sym kind i then result_notes (item_layouts (e i)) (h i) (h i).results marks else node_notes (item_layouts (e i)) (length (h i).params)
+    (h i).nodes marks))
 told_same b (Err e) p instances f s marks kind main last is = tt
 
-pub nodes_told : {A E : Type 0} (r : Result (Vec Note A) E) (p : ProgramTree) (instances : List StFuncTree) (f : FuncTree) (s : StFuncTree) (marks : List ℕ) → is_movement p ≡ false
+pub nodes_told : {A E : Type 0} (r : Result (Vec Note A) E) (p : ProgramTree) (instances : List StFuncTree) (f : FuncTree) (s : StFuncTree) (marks : List ℕ)
+    → is_movement p ≡ false
     → slice_get p.funcs (main_of p) ≡ Some f → slice_get instances (length instances - 1) ≡ Some s
     → IfOk r (λ v. map note_tree v.items ≡ node_notes (item_layouts s) (length f.params) f.nodes marks)
-    → IfOk r (λ v. (t : StFuncTree) (g : FuncTree) → slice_get instances (length instances - 1) ≡ Some t → slice_get p.funcs (main_of p) ≡ Some g → map note_tree v.items ≡ told_notes p g (item_layouts t) marks)
+    → IfOk r (λ v. (t : StFuncTree) (g : FuncTree) → slice_get instances (length instances - 1) ≡ Some t → slice_get p.funcs (main_of p) ≡ Some g
+    → map note_tree v.items ≡ told_notes p g (item_layouts t) marks)
 nodes_told r p instances f s marks kind main last is = told_same false r p instances f s marks kind main last is
 
-pub results_told : {A E : Type 0} (r : Result (Vec Note A) E) (p : ProgramTree) (instances : List StFuncTree) (f : FuncTree) (s : StFuncTree) (marks : List ℕ) → is_movement p ≡ true
+pub results_told : {A E : Type 0} (r : Result (Vec Note A) E) (p : ProgramTree) (instances : List StFuncTree) (f : FuncTree) (s : StFuncTree) (marks : List ℕ)
+    → is_movement p ≡ true
     → slice_get p.funcs (main_of p) ≡ Some f → slice_get instances (length instances - 1) ≡ Some s
     → IfOk r (λ v. map note_tree v.items ≡ result_notes (item_layouts s) f f.results marks)
-    → IfOk r (λ v. (t : StFuncTree) (g : FuncTree) → slice_get instances (length instances - 1) ≡ Some t → slice_get p.funcs (main_of p) ≡ Some g → map note_tree v.items ≡ told_notes p g (item_layouts t) marks)
+    → IfOk r (λ v. (t : StFuncTree) (g : FuncTree) → slice_get instances (length instances - 1) ≡ Some t → slice_get p.funcs (main_of p) ≡ Some g
+    → map note_tree v.items ≡ told_notes p g (item_layouts t) marks)
 results_told r p instances f s marks kind main last is = told_same true r p instances f s marks kind main last is

@@ -36,15 +36,28 @@ record IsToldOf (layouts : List StTree) (i : ℕ) (ns : List NodeTree) (k : ℕ)
   name : n.name ≡ node.name
   layout : n.layout ≡ item_layout layouts (i + k)
 
-told_of : (layouts : List StTree) (i : ℕ) (ns : List NodeTree) (ms : List ℕ) (k : ℕ) (n : NoteTree) → slice_get (node_notes layouts i ns ms) k ≡ Some n → IsToldOf layouts i ns k n
+told_of : (layouts : List StTree) (i : ℕ) (ns : List NodeTree) (ms : List ℕ) (k : ℕ) (n : NoteTree) → slice_get (node_notes layouts i ns ms) k ≡ Some n
+    → IsToldOf layouts i ns k n
 told_of layouts i [] ms k n e = absurd (none-some n e)
 told_of layouts i (x ∷ xs) [] k n e = absurd (none-some n e)
 told_of layouts i (x ∷ xs) (m ∷ ms) zero n e =
     let same : n ≡ node_note m x (item_layout layouts i) = sym (same_Some (node_note m x (item_layout layouts i)) n e) in
-    record { node = x; found = refl; name = ap (λ (y : NoteTree). y.name) same; layout = ap (λ (y : NoteTree). y.layout) same ∙ ap (item_layout layouts) (let here : i ≡ i + 0 = omega arith in here) }
+    record {
+      node = x;
+      found = refl;
+      name = ap (λ (y : NoteTree). y.name) same;
+      layout = ap (λ (y : NoteTree). y.layout) same ∙
+          ap (item_layout layouts) (let here : i ≡ i + 0 = omega arith in here);
+    }
 told_of layouts i (x ∷ xs) (m ∷ ms) (suc k) n e =
     let t = told_of layouts (i + 1) xs ms k n e in
-    record { node = t.node; found = t.found; name = t.name; layout = t.layout ∙ ap (item_layout layouts) (let there : i + 1 + k ≡ i + suc k = omega arith in there) }
+    record {
+      node = t.node;
+      found = t.found;
+      name = t.name;
+      layout = t.layout ∙
+          ap (item_layout layouts) (let there : i + 1 + k ≡ i + suc k = omega arith in there);
+    }
 
 few_told : (layouts : List StTree) (i : ℕ) (ns : List NodeTree) (ms : List ℕ) → length (node_notes layouts i ns ms) ≤ length ns
 few_told layouts i [] ms = omega arith
@@ -58,7 +71,8 @@ record IsEndOf (layouts : List StTree) (f : FuncTree) (is : List ℕ) (k : ℕ) 
   name : n.name ≡ item_name f item
   layout : n.layout ≡ item_layout layouts item
 
-end_of : (layouts : List StTree) (f : FuncTree) (is ms : List ℕ) (k : ℕ) (n : NoteTree) → slice_get (result_notes layouts f is ms) k ≡ Some n → IsEndOf layouts f is k n
+end_of : (layouts : List StTree) (f : FuncTree) (is ms : List ℕ) (k : ℕ) (n : NoteTree) → slice_get (result_notes layouts f is ms) k ≡ Some n
+    → IsEndOf layouts f is k n
 end_of layouts f [] ms k n e = absurd (none-some n e)
 end_of layouts f (i ∷ is) [] k n e = absurd (none-some n e)
 end_of layouts f (i ∷ is) (m ∷ ms) zero n e =
@@ -89,7 +103,8 @@ record IsShortFunc (layouts : List StTree) (f : FuncTree) : Type 0 where
   node_names : (j : ℕ) (n : NodeTree) → slice_get f.nodes j ≡ Some n → length n.name ≤ 32
   item_names : (i : ℕ) → length (item_name f i) ≤ 32
 
-told_short : (moves : Bool) (layouts : List StTree) (f : FuncTree) (ms : List ℕ) → IsShortFunc layouts f → AreShortNotes (if moves then result_notes layouts f f.results ms else node_notes layouts (length f.params) f.nodes ms)
+told_short : (moves : Bool) (layouts : List StTree) (f : FuncTree) (ms : List ℕ) → IsShortFunc layouts f
+    → AreShortNotes (if moves then result_notes layouts f f.results ms else node_notes layouts (length f.params) f.nodes ms)
 told_short true layouts f ms h = record {
   few = omega (arith, h.results, few_ends layouts f f.results ms);
   names = λ k n e. (let t = end_of layouts f f.results ms k n e in subst (λ (l : List ℕ). length l ≤ 32) (sym t.name) (h.item_names t.item));
@@ -97,14 +112,16 @@ told_short true layouts f ms h = record {
 }
 told_short false layouts f ms h = record {
   few = omega (arith, h.nodes, few_told layouts (length f.params) f.nodes ms);
-  names = λ k n e. (let t = told_of layouts (length f.params) f.nodes ms k n e in subst (λ (l : List ℕ). length l ≤ 32) (sym t.name) (h.node_names k t.node t.found));
+  names = λ k n e. (let t = told_of layouts (length f.params) f.nodes ms k n e in
+      subst (λ (l : List ℕ). length l ≤ 32) (sym t.name) (h.node_names k t.node t.found));
   layouts = λ k n e.
       (let t = told_of layouts (length f.params) f.nodes ms k n e in
       let inside : k < length f.nodes = slice_get_within f.nodes k t.node t.found in
       subst IsInSize (sym t.layout) (h.sized (length f.params + k) (omega (arith, inside, h.items))));
 }
 
-notes_short : (p : ProgramTree) (slowdown : ℕ) (instances : List StFuncTree) (costs : Costs) (s : StFuncTree) (cells : List SizedCell) (notes : List NoteTree) → IsKnown load_limit p slowdown instances costs → slice_get instances (last_of instances) ≡ Some s
+notes_short : (p : ProgramTree) (slowdown : ℕ) (instances : List StFuncTree) (costs : Costs) (s : StFuncTree) (cells : List SizedCell) (notes : List NoteTree)
+    → IsKnown load_limit p slowdown instances costs → slice_get instances (last_of instances) ≡ Some s
     → AreLineNotes p instances s cells notes → AreShortNotes notes
 notes_short p slowdown instances costs s cells notes known last h =
     let formed = known.typed.is_formed in
@@ -127,7 +144,8 @@ moved_short notes h = record {
   layouts = λ k n e. (let m = unmapped moved_note notes k n e in subst (λ (x : NoteTree). IsInSize x.layout) m.is (h.layouts k m.from m.found));
 }
 
-pub compiled_short : (p : ProgramTree) (slowdown : ℕ) (instances : List StFuncTree) (costs : Costs) (n : Circuit) (report : ReportTree) (notes : List NoteTree) → IsKnown load_limit p slowdown instances costs → IsCompiled p slowdown instances n report notes → IsShort report notes n.cells n.outlets
+pub compiled_short : (p : ProgramTree) (slowdown : ℕ) (instances : List StFuncTree) (costs : Costs) (n : Circuit) (report : ReportTree) (notes : List NoteTree)
+    → IsKnown load_limit p slowdown instances costs → IsCompiled p slowdown instances n report notes → IsShort report notes n.cells n.outlets
 compiled_short p slowdown instances costs n report notes k d =
     let short = notes_short p slowdown instances costs d.instance n.cells notes k d.last d.noted in
     let ports = few_ports (lines_of notes (length n.cells)) p slowdown (main_costs p instances) report.ins report.outs n d.laid d.circuit in
@@ -144,13 +162,16 @@ compiled_short p slowdown instances costs n report notes k d =
       small = omega (arith, small, light, ports.inputs, ports.outputs);
     }
 
-pub stalled_short : (p : ProgramTree) (slowdown : ℕ) (instances : List StFuncTree) (costs : Costs) (n : Circuit) (report : ReportTree) (notes : List NoteTree) → IsKnown load_limit p slowdown instances costs → (main_costs p instances).load ≤ stall_limit
+pub stalled_short : (p : ProgramTree) (slowdown : ℕ) (instances : List StFuncTree) (costs : Costs) (n : Circuit) (report : ReportTree) (notes : List NoteTree)
+    → IsKnown load_limit p slowdown instances costs → (main_costs p instances).load ≤ stall_limit
     → IsCompiledStalled p slowdown instances n report notes → IsShort report notes n.cells n.outlets
 stalled_short p slowdown instances costs n report notes k light d =
-    let short : AreShortNotes notes = subst AreShortNotes (sym d.moved) (moved_short d.before (notes_short p slowdown instances costs d.instance d.plain.cells d.before k d.last d.noted)) in
+    let short : AreShortNotes notes = subst AreShortNotes (sym d.moved)
+    (moved_short d.before (notes_short p slowdown instances costs d.instance d.plain.cells d.before k d.last d.noted)) in
     let ports = few_ports (lines_of notes (length n.cells)) p slowdown (main_costs p instances) report.ins report.outs d.plain d.laid d.circuit in
     let load : (main_costs p instances).load ≤ 50000 = light in
-    let outlets : length n.outlets ≡ length d.plain.outlets = ap (λ (os : List Outlet). length os) d.stalled.outputs ∙ length-map d.plain.outlets moved_outlet in
+    let outlets : length n.outlets ≡ length d.plain.outlets = ap (λ (os : List Outlet). length os) d.stalled.outputs ∙
+    length-map d.plain.outlets moved_outlet in
     let cells = d.stalled.small in
     let small = d.circuit.small in
     record {

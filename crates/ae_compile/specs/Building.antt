@@ -41,7 +41,8 @@ pub record IsWritten (report : ReportTree) (n : Circuit) (notes : List NoteTree)
 
 -- such a listing spells one module, which is well formed, has one run on any inputs, and is right; it has a `*` for each
 -- multiplier of the costs, and weighs no more than the load and its ports, all but the clock, allow
-pub record IsListedText (IsMade : Circuit → ReportTree → List NoteTree → Type 0) (IsRight : ModuleTree → Type 0) (costs : OwnCosts) (by_load by_ports : ℕ) (text : List ℕ) : Type 0 where
+pub record IsListedText (IsMade : Circuit → ReportTree → List NoteTree → Type 0) (IsRight : ModuleTree → Type 0)
+    (costs : OwnCosts) (by_load by_ports : ℕ) (text : List ℕ) : Type 0 where
   pub listing : IsListing IsMade text
   pub tree : ModuleTree
   pub spells : Spells text tree
@@ -57,11 +58,15 @@ pub record IsListedText (IsMade : Circuit → ReportTree → List NoteTree → T
 
 -- the text of the program's circuit: its module is correct for the program, with the latency that the report tells
 abbrev pub IsModuleText : (p : ProgramTree) (slowdown : ℕ) (instances : List StFuncTree) (text : List ℕ) → Type 0
-IsModuleText p slowdown instances text = IsListedText (IsCompiled p slowdown instances) (λ m. IsCorrect m p slowdown (main_costs p instances).latency) (main_costs p instances) 64 4 text
+IsModuleText p slowdown instances text =
+    IsListedText (IsCompiled p slowdown instances) (λ m. IsCorrect m p slowdown (main_costs p instances).latency)
+    (main_costs p instances) 64 4 text
 
 -- the text of its circuit with an enable: the same, where only the clocks count in which the enable is 1
 abbrev pub IsStalledText : (p : ProgramTree) (slowdown : ℕ) (instances : List StFuncTree) (text : List ℕ) → Type 0
-IsStalledText p slowdown instances text = IsListedText (IsCompiledStalled p slowdown instances) (λ m. IsCorrectStalled m p slowdown (main_costs p instances).latency) (main_costs p instances) 128 8 text
+IsStalledText p slowdown instances text =
+    IsListedText (IsCompiledStalled p slowdown instances)
+    (λ m. IsCorrectStalled m p slowdown (main_costs p instances).latency) (main_costs p instances) 128 8 text
 
 -- the same of the program of an input, and on one page: the text is the listing of a netlist that does what the program means
 pub record IsBuiltText (part : List ℕ) (slowdown : ℕ) (text : List ℕ) : Type 0 where

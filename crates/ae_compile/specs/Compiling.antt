@@ -29,10 +29,12 @@ report_of enable p slowdown instances s = record {
 -- a circuit for the program, by its costs and the layouts of its instance
 abbrev pub IsMadeFor : ProgramTree → (slowdown : ℕ) → List StFuncTree → Circuit → Type 0
 IsMadeFor p slowdown instances n =
-    (s : StFuncTree) → slice_get instances (last_of instances) ≡ Some s → HaveLayouts p slowdown s.ins (results_of s) × IsCircuitFor p slowdown (main_costs p instances) s.ins (results_of s) n
+    (s : StFuncTree) → slice_get instances (last_of instances) ≡ Some s → HaveLayouts p slowdown s.ins (results_of s)
+    × IsCircuitFor p slowdown (main_costs p instances) s.ins (results_of s) n
 
 -- a circuit for the program with its costs, the report of these and of the layouts, and the notes of the program's lines
-pub record IsCompiled (p : ProgramTree) (slowdown : ℕ) (instances : List StFuncTree) (n : Circuit) (report : ReportTree) (notes : List NoteTree) : Type 0 where
+pub record IsCompiled (p : ProgramTree) (slowdown : ℕ) (instances : List StFuncTree) (n : Circuit)
+    (report : ReportTree) (notes : List NoteTree) : Type 0 where
   pub instance : StFuncTree
   pub last : slice_get instances (last_of instances) ≡ Some instance
   pub reported : report ≡ report_of false p slowdown instances instance
@@ -46,7 +48,8 @@ abbrev pub moved_note : NoteTree → NoteTree
 moved_note n = record n { cell = renumbered n.cell }
 
 -- the same of the circuit with an enable that was made of a circuit for the program, whose notes move with their cells
-pub record IsCompiledStalled (p : ProgramTree) (slowdown : ℕ) (instances : List StFuncTree) (n : Circuit) (report : ReportTree) (notes : List NoteTree) : Type 0 where
+pub record IsCompiledStalled (p : ProgramTree) (slowdown : ℕ) (instances : List StFuncTree) (n : Circuit)
+    (report : ReportTree) (notes : List NoteTree) : Type 0 where
   pub instance : StFuncTree
   pub last : slice_get instances (last_of instances) ≡ Some instance
   pub reported : report ≡ report_of true p slowdown instances instance

@@ -27,10 +27,13 @@ load_limit = 100000
 -- what the program function costs and when its items arrive, by its instance and the costs of those before it
 abbrev pub costing_by : ProgramTree → (known : List OwnCosts) → Option FuncTree → Option StFuncTree → Costing
 costing_by p known (Some f) (Some s) = costing p f s (node_timings known s)
-costing_by p known _ _ = record { costs = record { latency = 0; load = 0; muls = 0; mems = 0 }; arrivals = []; lines = [] }
+costing_by p known _ _ =
+    record { costs = record { latency = 0; load = 0; muls = 0; mems = 0 }; arrivals = []; lines = [] }
 
 abbrev pub main_costing : ProgramTree → List StFuncTree → Costing
-main_costing p instances = costing_by p (all_costs (take (last_of instances) instances)) (slice_get p.funcs (main_of p)) (slice_get instances (last_of instances))
+main_costing p instances =
+    costing_by p (all_costs (take (last_of instances) instances)) (slice_get p.funcs (main_of p))
+    (slice_get instances (last_of instances))
 
 abbrev pub main_costs : ProgramTree → List StFuncTree → OwnCosts
 main_costs p instances = (main_costing p instances).costs
@@ -45,7 +48,8 @@ pub record IsScheduled (part : List ℕ) (slowdown : ℕ) (p : ProgramTree) (ins
   pub schedule : IsSchedule p slowdown instances
 
 -- the text is this program, these are the instances of its schedule, and their load is within the limit
-pub record IsCosted (limit : ℕ) (part : List ℕ) (slowdown : ℕ) (p : ProgramTree) (instances : List StFuncTree) : Type 0 where
+pub record IsCosted (limit : ℕ) (part : List ℕ) (slowdown : ℕ) (p : ProgramTree)
+    (instances : List StFuncTree) : Type 0 where
   pub typed : IsTypedText part p
   pub schedule : IsSchedule p slowdown instances
   pub within : costs_over limit p instances ≡ None
@@ -87,7 +91,8 @@ IsLargeAt over _ = ⊥
 -- a line is refused as in any program, or for its layout, or for the load up to it; want of memory says nothing
 abbrev pub IsCostFault : (limit : ℕ) (part : List ℕ) (slowdown : ℕ) → CompileFault → Type 0
 IsCostFault limit part slowdown (NoSchedule line) = HasNoSchedule part slowdown line
-IsCostFault limit part slowdown (TooLarge line) = IsTypedFault part (TooLarge line) ⊎ HasLargeLoad limit part slowdown line
+IsCostFault limit part slowdown (TooLarge line) =
+    IsTypedFault part (TooLarge line) ⊎ HasLargeLoad limit part slowdown line
 IsCostFault limit part slowdown fault = IsTypedFault part fault
 
 -- the costs that were found: the times of a schedule, or the moves of a program that only moves words
@@ -105,7 +110,8 @@ arrivals_in last (Plain times) = slice_get times.arrivals last
 arrivals_in last (Fused moves) = Some moves.arrivals
 
 -- a typed program with the schedule under its slowdown, and the costs of that, within a limit of load
-pub record IsKnown (limit : ℕ) (p : ProgramTree) (slowdown : ℕ) (instances : List StFuncTree) (costs : Costs) : Type 0 where
+pub record IsKnown (limit : ℕ) (p : ProgramTree) (slowdown : ℕ) (instances : List StFuncTree)
+    (costs : Costs) : Type 0 where
   pub some : 0 < slowdown
   pub most : slowdown ≤ 4096
   pub typed : IsTypedTree p

@@ -46,28 +46,35 @@ abbrev pub told_count : ProgramTree → FuncTree → ℕ
 told_count p f = if is_movement p then length f.results else length f.nodes
 
 abbrev pub told_notes : ProgramTree → FuncTree → (layouts : List StTree) → (marks : List ℕ) → List NoteTree
-told_notes p f layouts marks = if is_movement p then result_notes layouts f f.results marks else node_notes layouts (length f.params) f.nodes marks
+told_notes p f layouts marks =
+    if is_movement p then result_notes layouts f f.results marks else node_notes layouts (length f.params) f.nodes marks
 
 -- a number of cells for each
 abbrev pub ArePlaced : ProgramTree → List SizedCell → (marks : List ℕ) → Type 0
-ArePlaced p cells marks = (f : FuncTree) → slice_get p.funcs (main_of p) ≡ Some f → AreMarks (length cells) (told_count p f) marks
+ArePlaced p cells marks =
+    (f : FuncTree) → slice_get p.funcs (main_of p) ≡ Some f → AreMarks (length cells) (told_count p f) marks
 
 -- the cells of each node of a program that computes stand behind its mark
 abbrev pub OwnCells : ProgramTree → List StFuncTree → List SizedCell → (marks : List ℕ) → Type 0
 OwnCells p instances cells marks =
-    is_movement p ≡ false → (s : StFuncTree) → slice_get instances (last_of instances) ≡ Some s → AreNodeCells instances (last_of instances) s cells (1 + length (input_ports (streams_of s.ins))) marks
+    is_movement p ≡ false → (s : StFuncTree) → slice_get instances (last_of instances) ≡ Some s
+    → AreNodeCells instances (last_of instances) s cells (1 + length (input_ports (streams_of s.ins))) marks
 
 -- each cell of a program that computes, behind the inputs, stands in a section of the program function or of one that it calls
-pub record AreCellSections (p : ProgramTree) (instances : List StFuncTree) (cells : ℕ) (sections : List Section) : Type 0 where
+pub record AreCellSections (p : ProgramTree) (instances : List StFuncTree) (cells : ℕ)
+    (sections : List Section) : Type 0 where
   pub are : AreSections cells sections
   pub covered : is_movement p ≡ false → (s : StFuncTree) → slice_get instances (last_of instances) ≡ Some s
-      → AreCovered (IsSectionWithin instances (last_of instances)) (1 + length (input_ports (streams_of s.ins))) cells sections
+      → AreCovered (IsSectionWithin instances (last_of instances))
+      (1 + length (input_ports (streams_of s.ins))) cells sections
 
 -- the notes of the program function, in order, each where the cells of its line or its result begin
-pub record AreLineNotes (p : ProgramTree) (instances : List StFuncTree) (s : StFuncTree) (cells : List SizedCell) (notes : List NoteTree) : Type 0 where
+pub record AreLineNotes (p : ProgramTree) (instances : List StFuncTree) (s : StFuncTree) (cells : List SizedCell)
+    (notes : List NoteTree) : Type 0 where
   pub func : FuncTree
   pub main : slice_get p.funcs (main_of p) ≡ Some func
   pub marks : List ℕ
   pub placed : AreMarks (length cells) (told_count p func) marks
-  pub own : is_movement p ≡ false → AreNodeCells instances (last_of instances) s cells (1 + length (input_ports (streams_of s.ins))) marks
+  pub own : is_movement p ≡ false → AreNodeCells instances (last_of instances) s cells
+      (1 + length (input_ports (streams_of s.ins))) marks
   pub are : notes ≡ told_notes p func (item_layouts s) marks

@@ -38,11 +38,14 @@ pub record CompiledView : Type 0 where
 -- the circuit is one for the program, and what is told is so
 pub record IsCompiledProgram (d : CompiledView) : Type 0 where
   pub costed : IsCostedProgram d.costed
-  pub compiled : IsCompiled (program_tree d.costed.program) d.costed.slowdown (st_func_trees d.costed.schedule) d.netlist (report_tree d.report) (map note_tree d.notes)
-  pub sections : AreCellSections (program_tree d.costed.program) (st_func_trees d.costed.schedule) (length d.netlist.cells) d.sections
+  pub compiled : IsCompiled (program_tree d.costed.program) d.costed.slowdown
+      (st_func_trees d.costed.schedule) d.netlist (report_tree d.report) (map note_tree d.notes)
+  pub sections : AreCellSections (program_tree d.costed.program) (st_func_trees d.costed.schedule)
+      (length d.netlist.cells) d.sections
 
 -- the same of its circuit with an enable, whose load is within the limit of these
 pub record IsStalledProgram (d : CompiledView) : Type 0 where
   pub costed : IsCostedProgram d.costed
   pub light : (main_costs (program_tree d.costed.program) (st_func_trees d.costed.schedule)).load ≤ stall_limit
-  pub compiled : IsCompiledStalled (program_tree d.costed.program) d.costed.slowdown (st_func_trees d.costed.schedule) d.netlist (report_tree d.report) (map note_tree d.notes)
+  pub compiled : IsCompiledStalled (program_tree d.costed.program) d.costed.slowdown
+      (st_func_trees d.costed.schedule) d.netlist (report_tree d.report) (map note_tree d.notes)

@@ -32,7 +32,8 @@ count_is : (cells : List SizedCell) → length (widths_of cells) ≡ count_of is
 count_is cells = length-map (cells_of is_input cells) (λ (x : SizedCell). x.width) ∙ length-filter (λ (x : SizedCell). is_input x.cell) cells
 
 -- a cell of this width
-with_width : (o : Option SizedCell) (width : ℕ) → option_map (λ (x : SizedCell). x.width) o ≡ Some width → (sized : SizedCell) × (o ≡ Some sized) × (sized.width ≡ width)
+with_width : (o : Option SizedCell) (width : ℕ) → option_map (λ (x : SizedCell). x.width) o ≡ Some width → (sized : SizedCell) × (o ≡ Some sized)
+    × (sized.width ≡ width)
 with_width None width e = absurd (none-some width e)
 with_width (Some sized) width e = (sized, refl, same_Some sized.width width e)
 
@@ -44,7 +45,8 @@ fed_alike m a b row of_a of_b fits =
       long = fits.long ∙ sym (count_is a.cells) ∙ ap length same ∙ count_is b.cells;
       fit = λ k sized found.
           (let there : option_map wide (slice_get (cells_of is_input a.cells) k) ≡ Some sized.width =
-          sym (slice_get-map wide (cells_of is_input a.cells) k) ∙ ap (λ ws. slice_get ws k) same ∙ slice_get-map wide (cells_of is_input b.cells) k ∙ ap (option_map wide) found in
+          sym (slice_get-map wide (cells_of is_input a.cells) k) ∙ ap (λ ws. slice_get ws k) same ∙ slice_get-map wide (cells_of is_input b.cells) k ∙
+          ap (option_map wide) found in
           let w = with_width (slice_get (cells_of is_input a.cells) k) sized.width there in
           subst (λ n. get_or row k 0 < 2 ^ n) w.2 (fits.fit k w.0 w.1));
     }
@@ -72,5 +74,9 @@ runs_alike m a b slowdown latency fill ins blocks run of_a of_b once firsts fits
           begins m a r.0 run fill of_a r.2 runs.begins some
           ∙ sym (net_begins m b o.0 fill of_b o.1.begins (omega (arith, some, long, o.1.long)));
     } in
-    let equal : HaveEqualOutputs m b r.0 o.0 = of_b.equal r.0 o.0 r.1 o.1.runs alike in
-    (o.0, o.1, λ c below. (let within : 1 + c < length r.0 = omega (arith, below, long, counted) in sym (r.3.outputs (1 + c) within) ∙ equal.outputs (1 + c) within))
+    let equal : HaveEqualOutputs m b r.0 o.0 = of_b.equal r.0 o.0 r.1 o.1.runs alike in (
+      o.0,
+      o.1,
+      λ c below. (let within : 1 + c < length r.0 = omega (arith, below, long, counted) in sym (r.3.outputs (1 + c) within) ∙
+          equal.outputs (1 + c) within),
+    )

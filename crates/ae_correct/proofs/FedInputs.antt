@@ -26,7 +26,8 @@ use Rattle.ae_correct.proofs.Clocks.{input_alike, column_in}
 
 -- ---- the number of an input
 
-count_first : (cells : List SizedCell) (ports : List SizedPort) (k : ℕ) → take (length ports) cells ≡ map input_cell ports → k ≤ length ports → count_of is_input (take k cells) ≡ k
+count_first : (cells : List SizedCell) (ports : List SizedPort) (k : ℕ) → take (length ports) cells ≡ map input_cell ports → k ≤ length ports
+    → count_of is_input (take k cells) ≡ k
 count_first cells ports zero h below = refl
 count_first cells [] (suc k) h below = absurd (omega (arith, below))
 count_first [] (p ∷ ports) (suc k) h below = cc
@@ -38,15 +39,20 @@ count_first (c ∷ cells) (p ∷ ports) (suc k) h below =
     omega (arith, sum_by-cons counted c (take k cells), one, count_first cells ports k rest (omega (arith, below)))
 
 -- a word of an input is that of its number in the row
-taken : (cells : List SizedCell) (ports : List SizedPort) (rows : List (List ℕ)) (other : List Clock) (t k : ℕ) (p : SizedPort) → HaveInputs cells ports → TakesRows cells rows other → t < length rows → slice_get ports k ≡ Some p
+taken : (cells : List SizedCell) (ports : List SizedPort) (rows : List (List ℕ)) (other : List Clock) (t k : ℕ) (p : SizedPort) → HaveInputs cells ports
+    → TakesRows cells rows other → t < length rows → slice_get ports k ≡ Some p
     → word_at other t k ≡ get_or (get_or rows t []) k 0
 taken cells ports rows other t k p h takes below at =
     let within : k < length ports = slice_get_within ports k p at in
-    let there : slice_get cells k ≡ Some (input_cell p) = sym (slice_get-take (length ports) k cells within) ∙ ap (λ cs. slice_get cs k) h.first ∙ mapped_at input_cell ports k p at in
+    let there : slice_get cells k ≡ Some (input_cell p) = sym (slice_get-take (length ports) k cells within) ∙ ap (λ cs. slice_get cs k) h.first ∙
+    mapped_at input_cell ports k p at in
     takes.each t k (input_cell p) below there refl ∙ ap (λ i. get_or (get_or rows t []) i 0) (count_first cells ports k h.first (omega (arith, within)))
 
-module _ (lines : ℕ → ℕ) (n : Circuit) (many : ℕ) (ss : List StTree) (outs : List SizedPort) (h : HavePorts n.cells n.outlets (reset_port ∷ net_side.input_ports (streams_of ss)) outs) (run : List ModuleClock) (other : List Clock) (rows : List (List ℕ))
-    (alike : BeginAlike (tree lines n.cells n.outlets many (reset_port ∷ net_side.input_ports (streams_of ss)) outs h) n run other) (takes : TakesRows n.cells rows other) (long : length other ≡ length rows) where
+module _ (lines : ℕ → ℕ) (n : Circuit) (many : ℕ) (ss : List StTree) (outs : List SizedPort)
+    (h : HavePorts n.cells n.outlets (reset_port ∷ net_side.input_ports (streams_of ss)) outs) (run : List ModuleClock) (other : List Clock)
+    (rows : List (List ℕ))
+    (alike : BeginAlike (tree lines n.cells n.outlets many (reset_port ∷ net_side.input_ports (streams_of ss)) outs h) n run other)
+    (takes : TakesRows n.cells rows other) (long : length other ≡ length rows) where
   pub reset_row : (t : ℕ) → t < length run → (clock_at run t).word (codes "rst") ≡ get_or (get_or rows t []) 0 0
   reset_row t below =
       let room : t < length rows = omega (arith, below, alike.long, long) in
@@ -54,15 +60,18 @@ module _ (lines : ℕ → ℕ) (n : Circuit) (many : ℕ) (ss : List StTree) (ou
       ∙ taken n.cells (reset_port ∷ net_side.input_ports (streams_of ss)) rows other t 0 reset_port h.inputs takes room refl
 
   pub input_row : (t q column : ℕ) (s : StTree) → t < length run → slice_get ss q ≡ Some s → column < length (stream_widths (stream_of s))
-      → (clock_at run t).word (get_or (map name_of (param_ports q s)) column []) ≡ get_or (get_or rows t []) (suc (columns_in (take q (streams_of ss)) + column)) 0
+      → (clock_at run t).word (get_or (map name_of (param_ports q s)) column []) ≡ get_or (get_or rows t [])
+      (suc (columns_in (take q (streams_of ss)) + column)) 0
   input_row t q column s below found small =
       let room : t < length rows = omega (arith, below, alike.long, long) in
       let at : ℕ → ℕ → ℕ → Port = λ param lane word. In param lane word in
       let c = column_at 1 false (at q) s column small in
       let z : q ≡ 0 + q = omega arith in
       let there : slice_get (net_side.input_ports (streams_of ss)) (columns_in (take q (streams_of ss)) + column) ≡ Some c.port =
-      port_there at 0 (streams_of ss) q column (stream_of s) c.port (mapped_at stream_of ss q s found) (ap (λ i. slice_get (stream_ports (at i) (stream_of s)) column) (sym z) ∙ c.here) in
+      port_there at 0 (streams_of ss) q column (stream_of s) c.port (mapped_at stream_of ss q s found)
+      (ap (λ i. slice_get (stream_ports (at i) (stream_of s)) column) (sym z) ∙ c.here) in
       let place : 1 + columns_in (take q (streams_of ss)) + column ≡ suc (columns_in (take q (streams_of ss)) + column) = omega arith in
       column_in lines n many ss outs h run other alike t q column s below found small
       ∙ ap (word_at other t) place
-      ∙ taken n.cells (reset_port ∷ net_side.input_ports (streams_of ss)) rows other t (suc (columns_in (take q (streams_of ss)) + column)) c.port h.inputs takes room there
+      ∙ taken n.cells (reset_port ∷ net_side.input_ports (streams_of ss)) rows other t
+      (suc (columns_in (take q (streams_of ss)) + column)) c.port h.inputs takes room there

@@ -36,8 +36,10 @@ AreWhole ss blocks = (b : ℕ) (block : List ValueTree) → slice_get blocks b �
 pub length_rows : (slowdown fill : ℕ) (ss : List StTree) (words : List (List (List ℕ))) (count : ℕ) → length (fed_rows slowdown fill ss words count) ≡ 1 + count
 length_rows slowdown fill ss words count = omega (arith, length-map-range_with_len (clock_row slowdown fill ss words) 0 count)
 
-pub row_later : (slowdown fill : ℕ) (ss : List StTree) (words : List (List (List ℕ))) (count c : ℕ) → c < count → get_or (fed_rows slowdown fill ss words count) (suc c) [] ≡ clock_row slowdown fill ss words c
-row_later slowdown fill ss words count c below = let z : 0 + c ≡ c = omega arith in get_or-map-range_with_len (clock_row slowdown fill ss words) 0 count c c [] below z
+pub row_later : (slowdown fill : ℕ) (ss : List StTree) (words : List (List (List ℕ))) (count c : ℕ) → c < count
+    → get_or (fed_rows slowdown fill ss words count) (suc c) [] ≡ clock_row slowdown fill ss words c
+row_later slowdown fill ss words count c below =
+    let z : 0 + c ≡ c = omega arith in get_or-map-range_with_len (clock_row slowdown fill ss words) 0 count c c [] below z
 
 pub small_column : (s : StTree) (l j : ℕ) → l < lanes s → j < element_words s → l * element_words s + j < length (stream_widths (stream_of s))
 small_column s l j lane word = omega (arith, stream_columns s, mul-add-lt l (element_words s) j (lanes s) lane word)
@@ -52,8 +54,10 @@ module _ (slowdown fill : ℕ) (ss : List StTree) (blocks : List (List ValueTree
   rows = fed_rows slowdown fill ss words count
 
   -- the word of an element that stands, in its clock of block b
-  pub stands_in_row : (b q e j : ℕ) (s : StTree) (w : Slot) (block : List ValueTree) → slice_get blocks b ≡ Some block → slice_get ss q ≡ Some s → slice_get (slots s) e ≡ Some w → j < element_words s → w.clock < time s → w.lane < lanes s
-      → get_or (clock_row slowdown fill ss words (b * slowdown + w.clock)) (suc (columns_in (take q (streams_of ss)) + (w.lane * element_words s + j))) 0 ≡ get_or (flat (at block q)) (e * element_words s + j) 0
+  pub stands_in_row : (b q e j : ℕ) (s : StTree) (w : Slot) (block : List ValueTree) → slice_get blocks b ≡ Some block → slice_get ss q ≡ Some s
+      → slice_get (slots s) e ≡ Some w → j < element_words s → w.clock < time s → w.lane < lanes s
+      → get_or (clock_row slowdown fill ss words (b * slowdown + w.clock))
+      (suc (columns_in (take q (streams_of ss)) + (w.lane * element_words s + j))) 0 ≡ get_or (flat (at block q)) (e * element_words s + j) 0
   stands_in_row b q e j s w block there found slot word clock lane =
       let f = sized q s found in
       let in_block : w.clock < slowdown = omega (arith, clock, f.time) in
@@ -64,10 +68,12 @@ module _ (slowdown fill : ℕ) (ss : List StTree) (blocks : List (List ValueTree
       ap (λ i. get_or (block_row fill ss (slice_get words i) ((b * slowdown + w.clock) % slowdown)) k 0) (div-mul-add b slowdown w.clock in_block)
       ∙ ap (λ i. get_or (block_row fill ss (slice_get words b) i) k 0) (mod-mul-add b slowdown w.clock in_block)
       ∙ ap (λ o. get_or (block_row fill ss o w.clock) k 0) (mapped_at (map flat) blocks b block there)
-      ∙ rows_at fill w.clock ss (map flat block) q (w.lane * element_words s + j) s (flat (at block q)) found value (omega (arith, many, length-map block flat)) (small_column s w.lane j lane word)
+      ∙ rows_at fill w.clock ss (map flat block) q (w.lane * element_words s + j) s (flat (at block q)) found value
+      (omega (arith, many, length-map block flat)) (small_column s w.lane j lane word)
       ∙ stood fill s (flat (at block q)) (Some w.clock) w.lane j e lane word (element_found s w.clock w.lane e f.size.lengths slot)
 
-  filled_element : (q l j c : ℕ) (s : StTree) (block : List ValueTree) (o : Option ℕ) → slice_get blocks (c / slowdown) ≡ Some block → l < lanes s → j < element_words s → (IsTaken s slowdown (length blocks) l (suc c) → ⊥) → element_in s (c % slowdown) l ≡ o
+  filled_element : (q l j c : ℕ) (s : StTree) (block : List ValueTree) (o : Option ℕ) → slice_get blocks (c / slowdown) ≡ Some block → l < lanes s
+      → j < element_words s → (IsTaken s slowdown (length blocks) l (suc c) → ⊥) → element_in s (c % slowdown) l ≡ o
       → get_or (layout_row fill s (flat (at block q)) (Some (c % slowdown))) (l * element_words s + j) 0 ≡ fill_word fill s j
   filled_element q l j c s block None there lane word free is = unfilled fill s (flat (at block q)) (Some (c % slowdown)) l j lane word is
   filled_element q l j c s block (Some e) there lane word free is =
@@ -81,19 +87,23 @@ module _ (slowdown fill : ℕ) (ss : List StTree) (blocks : List (List ValueTree
         now = omega (arith, div-add-mod' c slowdown);
       }))
 
-  filled_block : (q l j c : ℕ) (s : StTree) (o : Option (List ValueTree)) → slice_get ss q ≡ Some s → l < lanes s → j < element_words s → (IsTaken s slowdown (length blocks) l (suc c) → ⊥) → slice_get blocks (c / slowdown) ≡ o
-      → get_or (block_row fill ss (option_map (map flat) o) (c % slowdown)) (columns_in (take q (streams_of ss)) + (l * element_words s + j)) 0 ≡ fill_word fill s j
+  filled_block : (q l j c : ℕ) (s : StTree) (o : Option (List ValueTree)) → slice_get ss q ≡ Some s → l < lanes s → j < element_words s
+      → (IsTaken s slowdown (length blocks) l (suc c) → ⊥) → slice_get blocks (c / slowdown) ≡ o
+      → get_or (block_row fill ss (option_map (map flat) o) (c % slowdown))
+      (columns_in (take q (streams_of ss)) + (l * element_words s + j)) 0 ≡ fill_word fill s j
   filled_block q l j c s None found lane word free is =
       fill_at fill ss q (l * element_words s + j) s found (small_column s l j lane word) ∙ unfilled fill s [] None l j lane word refl
   filled_block q l j c s (Some block) found lane word free is =
       let many : length block ≡ length ss = whole (c / slowdown) block is in
       let inside : q < length block = omega (arith, many, slice_get_within ss q s found) in
       let value : slice_get (map flat block) q ≡ Some (flat (at block q)) = mapped_at flat block q (at block q) (slice_get-get_or block q end inside) in
-      rows_at fill (c % slowdown) ss (map flat block) q (l * element_words s + j) s (flat (at block q)) found value (omega (arith, many, length-map block flat)) (small_column s l j lane word)
+      rows_at fill (c % slowdown) ss (map flat block) q (l * element_words s + j) s (flat (at block q)) found value
+      (omega (arith, many, length-map block flat)) (small_column s l j lane word)
       ∙ filled_element q l j c s block (element_in s (c % slowdown) l) is lane word free refl
 
   -- the fill, where no element of a block stands
-  pub free_in_row : (q l j t : ℕ) (s : StTree) → slice_get ss q ≡ Some s → l < lanes s → j < element_words s → t < length rows → (IsTaken s slowdown (length blocks) l t → ⊥)
+  pub free_in_row : (q l j t : ℕ) (s : StTree) → slice_get ss q ≡ Some s → l < lanes s → j < element_words s → t < length rows
+      → (IsTaken s slowdown (length blocks) l t → ⊥)
       → get_or (get_or rows t []) (suc (columns_in (take q (streams_of ss)) + (l * element_words s + j))) 0 ≡ fill_word fill s j
   free_in_row q l j zero s found lane word below free =
       fill_at fill ss q (l * element_words s + j) s found (small_column s l j lane word) ∙ unfilled fill s [] None l j lane word refl

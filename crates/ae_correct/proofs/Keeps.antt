@@ -39,14 +39,19 @@ use Rattle.ae_correct.proofs.Clocks.{column_in, column_out, resets}
 abbrev pub Agree : (k : ℕ) → StTree → (wave other : Wave) → Type 0
 Agree k s wave other = (c q : ℕ) → k ≤ c → c < k + time s → q < length (stream_widths (stream_of s)) → wave c q ≡ other c q
 
-pub holds_alike : (k : ℕ) (s : StTree) (wave other : Wave) (ws : List ℕ) → IsInSize s → Agree k s wave other → Holds other k (element_words s) (slots s) ws → Holds wave k (element_words s) (slots s) ws
+pub holds_alike : (k : ℕ) (s : StTree) (wave other : Wave) (ws : List ℕ) → IsInSize s → Agree k s wave other → Holds other k (element_words s) (slots s) ws
+    → Holds wave k (element_words s) (slots s) ws
 holds_alike k s wave other ws size agree h e j w found below =
     let within : e < st_atoms s = (let i = slice_get_within (slots s) e w found in omega (arith, i, length-slots s)) in
     let is : slot_of s e ≡ w = get_or_from_slice_get (slots s) e w (slot_at 0 0) found in
     let b = slot_below s size.lengths e within in
     let clock : w.clock < time s = subst (λ (x : Slot). x.clock < time s) is b.0 in
     let lane : w.lane < lanes s = subst (λ (x : Slot). x.lane < lanes s) is b.1 in
-    let column : w.lane * element_words s + j < length (stream_widths (stream_of s)) = omega (arith, stream_columns s, mul-add-lt w.lane (element_words s) j (lanes s) lane below) in
+    let column : w.lane * element_words s + j < length (stream_widths (stream_of s)) = omega (
+      arith,
+      stream_columns s,
+      mul-add-lt w.lane (element_words s) j (lanes s) lane below,
+    ) in
     agree (k + w.clock) (w.lane * element_words s + j) (omega arith) (omega (arith, clock)) column ∙ h e j w found below
 
 -- ---- the ports of a circuit
@@ -62,7 +67,8 @@ ins_of ins = reset_port ∷ net_side.input_ports (streams_of ins)
 abbrev pub outs_of : List StTree → List SizedPort
 outs_of outs = net_side.output_ports (streams_of outs)
 
-pub ports_there : (ins outs : List StTree) (n : Circuit) → take (1 + length (net_side.input_ports (streams_of ins))) n.cells ≡ map input_cell (ins_of ins) → count_of is_input n.cells ≡ 1 + length (net_side.input_ports (streams_of ins))
+pub ports_there : (ins outs : List StTree) (n : Circuit) → take (1 + length (net_side.input_ports (streams_of ins))) n.cells ≡ map input_cell (ins_of ins)
+    → count_of is_input n.cells ≡ 1 + length (net_side.input_ports (streams_of ins))
     → map (outlet_port n.cells) n.outlets ≡ outs_of outs → HavePorts n.cells n.outlets (ins_of ins) (outs_of outs)
 ports_there ins outs n inputs no_others outputs =
     let long : 1 + length (net_side.input_ports (streams_of ins)) ≡ length (ins_of ins) = omega arith in
@@ -72,14 +78,17 @@ ports_there ins outs n inputs no_others outputs =
       inner = inner_ports (streams_of ins);
     }
 
-pub circuit_ports : (p : ProgramTree) (slowdown : ℕ) (costs : OwnCosts) (ins outs : List StTree) (n : Circuit) → IsCircuitFor p slowdown costs ins outs n → HavePorts n.cells n.outlets (ins_of ins) (outs_of outs)
+pub circuit_ports : (p : ProgramTree) (slowdown : ℕ) (costs : OwnCosts) (ins outs : List StTree) (n : Circuit) → IsCircuitFor p slowdown costs ins outs n
+    → HavePorts n.cells n.outlets (ins_of ins) (outs_of outs)
 circuit_ports p slowdown costs ins outs n c = ports_there ins outs n c.inputs c.no_others c.outputs
 
 -- ---- blocks
 
 -- of a netlist with these ports that makes the blocks of the program, whatever its costs
-module _ (lines : ℕ → ℕ) (p : ProgramTree) (slowdown latency : ℕ) (ins outs : List StTree) (n : Circuit) (ports : HavePorts n.cells n.outlets (ins_of ins) (outs_of outs)) (making : MakesBlocks n p slowdown latency ins outs)
-    (same : HasSameRuns (netlist_module lines n.cells n.outlets (length outs)) n) (size_in : AreFilling slowdown ins) (size_out : AreFilling slowdown outs) where
+module _ (lines : ℕ → ℕ) (p : ProgramTree) (slowdown latency : ℕ) (ins outs : List StTree) (n : Circuit)
+    (ports : HavePorts n.cells n.outlets (ins_of ins) (outs_of outs)) (making : MakesBlocks n p slowdown latency ins outs)
+    (same : HasSameRuns (netlist_module lines n.cells n.outlets (length outs)) n) (size_in : AreFilling slowdown ins)
+    (size_out : AreFilling slowdown outs) where
   abbrev many : ℕ
   many = length outs
 
@@ -87,7 +96,8 @@ module _ (lines : ℕ → ℕ) (p : ProgramTree) (slowdown latency : ℕ) (ins o
   own = netlist_module lines n.cells n.outlets (length outs)
 
   -- where the ports of the parameters hold a block, the inputs of the circuit do
-  inputs_hold : (run : List ModuleClock) (other : List Clock) (start k : ℕ) (block : List ValueTree) → BeginAlike own n run other → start + (k + slowdown) ≤ length run
+  inputs_hold : (run : List ModuleClock) (other : List Clock) (start k : ℕ) (block : List ValueTree) → BeginAlike own n run other
+      → start + (k + slowdown) ≤ length run
       → BundlesHold run start k param_ports ins block → InputsHold other start k ins block
   inputs_hold run other start k block alike room held = record {
     each = λ q t found.
@@ -95,21 +105,26 @@ module _ (lines : ℕ → ℕ) (p : ProgramTree) (slowdown latency : ℕ) (ins o
         let full : time t ≡ slowdown = fill.time in
         let there : Holds (input_wave other start (1 + columns_in (take q (streams_of ins)))) k (element_words t) (slots t) (flat (at block q)) =
         holds_alike k t (input_wave other start (1 + columns_in (take q (streams_of ins)))) (wave run start (param_ports q t)) (flat (at block q)) fill.size
-        (λ clock column low high small. sym (column_in lines n many ins (outs_of outs) ports run other alike (start + clock) q column t (omega (arith, full)) found small)) (held.each q t found) in
+        (λ clock column low high small. sym (column_in lines n many ins (outs_of outs) ports run other alike (start + clock) q column t
+        (omega (arith, full)) found small)) (held.each q t found) in
         subst (λ i. Holds (input_wave other start (1 + i)) k (element_words t) (slots t) (flat (at block q))) (sym (first_columns ins q)) there;
   }
 
   -- where the outputs of the circuit hold results, the ports of the results do
-  outputs_hold : (run : List ModuleClock) (other : List Clock) (start k : ℕ) (values : List ValueTree) → HaveEqualOutputs own n run other → start + (k + slowdown) ≤ length run
+  outputs_hold : (run : List ModuleClock) (other : List Clock) (start k : ℕ) (values : List ValueTree) → HaveEqualOutputs own n run other
+      → start + (k + slowdown) ≤ length run
       → OutputsHold other n.outlets start k outs values → BundlesHold run start k (result_ports many) outs values
   outputs_hold run other start k values equal room held = record {
     each = λ r t found.
         let fill = size_out r t found in
         let full : time t ≡ slowdown = fill.time in
         let there : Holds (output_wave other n.outlets start (columns_in (take r (streams_of outs)))) k (element_words t) (slots t) (flat (at values r)) =
-        subst (λ i. Holds (output_wave other n.outlets start i) k (element_words t) (slots t) (flat (at values r))) (first_columns outs r) (held.each r t found) in
-        holds_alike k t (wave run start (result_ports many r t)) (output_wave other n.outlets start (columns_in (take r (streams_of outs)))) (flat (at values r)) fill.size
-        (λ clock column low high small. column_out lines n many outs (ins_of ins) ports run other equal (start + clock) r column t (omega (arith, full)) found small) there;
+        subst (λ i. Holds (output_wave other n.outlets start i) k (element_words t) (slots t) (flat (at values r))) (first_columns outs r)
+        (held.each r t found) in
+        holds_alike k t (wave run start (result_ports many r t)) (output_wave other n.outlets start (columns_in (take r (streams_of outs))))
+        (flat (at values r)) fill.size
+        (λ clock column low high small. column_out lines n many outs (ins_of ins) ports run other equal (start + clock) r column t
+        (omega (arith, full)) found small) there;
   }
 
   pub keeps : KeepsBlocks own p slowdown latency ins outs
@@ -125,6 +140,7 @@ module _ (lines : ℕ → ℕ) (p : ProgramTree) (slowdown latency : ℕ) (ins o
         let law_room : start + (latency + (b + 1) * slowdown) ≤ length other = omega (arith, fits, long, same_long) in
         let out_room : start + (latency + b * slowdown + slowdown) ≤ length run = omega (arith, fits, long) in
         let held = inputs_hold run other start (b * slowdown) block w.2 in_room g.1 in
-        let made = making.makes other start b block w.1 (resets lines n many (net_side.input_ports (streams_of ins)) (outs_of outs) ports run other start w.2 reset) law_room g.0 held in
+        let made = making.makes other start b block w.1 (resets lines n many (net_side.input_ports (streams_of ins))
+        (outs_of outs) ports run other start w.2 reset) law_room g.0 held in
         outputs_hold run other start (latency + b * slowdown) (mean p block) w.3 out_room made);
   }

@@ -23,7 +23,8 @@ use Rattle.ae_rewrite.proofs.Laid.{laid_whole, laid_in_size}
 use Rattle.ae_correct.specs.Laws.{IsLaidOut}
 
 -- what a list of layouts was made of, by its number
-made_from : {A : Type 0} (f : A → Option StTree) (os : List A) (ss : List StTree) → map f os ≡ map (λ (x : StTree). Some x) ss → (r : ℕ) (s : StTree) → slice_get ss r ≡ Some s → (o : A) × (slice_get os r ≡ Some o) × (f o ≡ Some s)
+made_from : {A : Type 0} (f : A → Option StTree) (os : List A) (ss : List StTree) → map f os ≡ map (λ (x : StTree). Some x) ss → (r : ℕ) (s : StTree)
+    → slice_get ss r ≡ Some s → (o : A) × (slice_get os r ≡ Some o) × (f o ≡ Some s)
 made_from f [] [] h r s e = absurd (none-some s e)
 made_from f [] (x ∷ ss) h r s e = absurd (let i : [] ≡ Some x ∷ map (λ x. Some x) ss = h in cc)
 made_from f (o ∷ os) [] h r s e = absurd (none-some s e)
@@ -73,7 +74,8 @@ module _ (p : ProgramTree) (typed : IsTyped p) where
   own_types : parameter_types p ≡ types_of_params func.params
   own_types = ap interface.types_in known
 
-  param_at : (ps : List ParamTree) (i : ℕ) (t : SeqTree) → slice_get (types_of_params ps) i ≡ Some t → (q : ParamTree) × (slice_get ps i ≡ Some q) × (q.type ≡ t)
+  param_at : (ps : List ParamTree) (i : ℕ) (t : SeqTree) → slice_get (types_of_params ps) i ≡ Some t → (q : ParamTree) × (slice_get ps i ≡ Some q)
+      × (q.type ≡ t)
   param_at [] i t e = absurd (none-some t e)
   param_at (q ∷ ps) zero t e = (let same : q.type ≡ t = cc in (q, refl, same))
   param_at (q ∷ ps) (suc i) t e = param_at ps i t e
@@ -89,10 +91,12 @@ module _ (p : ProgramTree) (typed : IsTyped p) where
   result_at (i ∷ rs) (suc r) o e = result_at rs r o e
 
   few_params : length (parameter_types p) ≤ 8
-  few_params = (let few = (formed-of p (main_of p) func typed.is_formed known).few_params in omega (arith, few, ap length own_types, length-map func.params (λ (q : ParamTree). q.type)))
+  few_params = (let few = (formed-of p (main_of p) func typed.is_formed known).few_params in
+      omega (arith, few, ap length own_types, length-map func.params (λ (q : ParamTree). q.type)))
 
   few_result_types : length (result_types p) ≤ 8
-  few_result_types = (let few = (formed-of p (main_of p) func typed.is_formed known).few_results in omega (arith, few, length-map (results_in (slice_get p.funcs (main_of p))) (type_at p (main_of p)), ap (λ o. length (results_in o)) known))
+  few_result_types = (let few = (formed-of p (main_of p) func typed.is_formed known).few_results in
+      omega (arith, few, length-map (results_in (slice_get p.funcs (main_of p))) (type_at p (main_of p)), ap (λ o. length (results_in o)) known))
 
 -- ---- the layouts
 
@@ -101,7 +105,8 @@ ins_filling p slowdown ins outs h q s found =
     let r = made_from (λ t. lay_of t slowdown) (parameter_types p) ins h.layouts.parameters q s found in
     filling slowdown r.0 s h.some h.most (param_in_size p h.typed q r.0 r.1) r.2
 
-result_filling : (slowdown : ℕ) (s : StTree) (o : Option SeqTree) → 0 < slowdown → slowdown ≤ 4096 → ((t : SeqTree) → o ≡ Some t → IsTrue (in_size t)) → (o >>= λ t. lay_of t slowdown) ≡ Some s → IsFilling slowdown s
+result_filling : (slowdown : ℕ) (s : StTree) (o : Option SeqTree) → 0 < slowdown → slowdown ≤ 4096 → ((t : SeqTree) → o ≡ Some t → IsTrue (in_size t))
+    → (o >>= λ t. lay_of t slowdown) ≡ Some s → IsFilling slowdown s
 result_filling slowdown s None some few sized lay = absurd (none-some s lay)
 result_filling slowdown s (Some t) some few sized lay = filling slowdown t s some few (sized t refl) lay
 
@@ -115,10 +120,12 @@ pub few_ins : (p : ProgramTree) (slowdown : ℕ) (ins outs : List StTree) → Is
 few_ins p slowdown ins outs h = omega (arith, few_params p h.typed, as_many_made (λ t. lay_of t slowdown) (parameter_types p) ins h.layouts.parameters)
 
 pub few_outs : (p : ProgramTree) (slowdown : ℕ) (ins outs : List StTree) → IsLaidOut p slowdown ins outs → length outs ≤ 8
-few_outs p slowdown ins outs h = omega (arith, few_result_types p h.typed, as_many_made (λ (o : Option SeqTree). o >>= λ t. lay_of t slowdown) (result_types p) outs h.layouts.results)
+few_outs p slowdown ins outs h =
+    omega (arith, few_result_types p h.typed, as_many_made (λ (o : Option SeqTree). o >>= λ t. lay_of t slowdown) (result_types p) outs h.layouts.results)
 
 -- a value of each parameter is one for each layout
-pub as_many : (p : ProgramTree) (slowdown : ℕ) (ins outs : List StTree) (block : List ValueTree) → IsLaidOut p slowdown ins outs → AreValues (input_types p) block → length block ≡ length ins
+pub as_many : (p : ProgramTree) (slowdown : ℕ) (ins outs : List StTree) (block : List ValueTree) → IsLaidOut p slowdown ins outs
+    → AreValues (input_types p) block → length block ≡ length ins
 as_many p slowdown ins outs block h values =
     as_many_types (parameter_types p) block (subst (λ ts. AreValues ts block) (sym (same_types (slice_get p.funcs (main_of p)))) values)
     ∙ as_many_made (λ t. lay_of t slowdown) (parameter_types p) ins h.layouts.parameters

@@ -35,21 +35,25 @@ edge_clock lines cells n (Reg next) = inr refl
 edge_clock lines cells n (Mem depth at next enable) = inr refl
 edge_clock lines cells n (Peek mem at) = inl refl
 
-listed_clock : (g : ℕ → SizedCell → List ItemTree) → ((n : ℕ) (s : SizedCell) → IsClock (first_clock (g n s))) → (k : ℕ) (cells : List SizedCell) → IsClock (first_clock (each_numbered g k cells))
+listed_clock : (g : ℕ → SizedCell → List ItemTree) → ((n : ℕ) (s : SizedCell) → IsClock (first_clock (g n s))) → (k : ℕ) (cells : List SizedCell)
+    → IsClock (first_clock (each_numbered g k cells))
 listed_clock g h k [] = inl refl
 listed_clock g h k (c ∷ cells) = clock_append (g k c) (each_numbered g (k + 1) cells) (h k c) (listed_clock g h (k + 1) cells)
 
-assigned_clock : (lines : ℕ → ℕ) → (cells : List SizedCell) (outs : ℕ) (outlets : List Outlet) → IsClock (first_clock (map (assignment lines cells outs) outlets))
+assigned_clock : (lines : ℕ → ℕ) → (cells : List SizedCell) (outs : ℕ) (outlets : List Outlet)
+    → IsClock (first_clock (map (assignment lines cells outs) outlets))
 assigned_clock lines cells outs [] = inl refl
 assigned_clock lines cells outs (o ∷ outlets) = assigned_clock lines cells outs outlets
 
-items_clock : (lines : ℕ → ℕ) → (cells : List SizedCell) (outlets : List Outlet) (outs : ℕ) → IsClock (first_clock (netlist_module lines cells outlets outs).items)
+items_clock : (lines : ℕ → ℕ) → (cells : List SizedCell) (outlets : List Outlet) (outs : ℕ)
+    → IsClock (first_clock (netlist_module lines cells outlets outs).items)
 items_clock lines cells outlets outs =
     let declarations : ℕ → SizedCell → List ItemTree = λ n s. declaration lines cells n s.width s.cell in
     let edges : ℕ → SizedCell → List ItemTree = λ n s. edge lines cells n s.cell in
     clock_append (each_numbered declarations 0 cells) (map (assignment lines cells outs) outlets ++ each_numbered edges 0 cells)
     (listed_clock declarations (λ n s. declared_clock lines cells n s.width s.cell) 0 cells)
-    (clock_append (map (assignment lines cells outs) outlets) (each_numbered edges 0 cells) (assigned_clock lines cells outs outlets) (listed_clock edges (λ n s. edge_clock lines cells n s.cell) 0 cells))
+    (clock_append (map (assignment lines cells outs) outlets) (each_numbered edges 0 cells) (assigned_clock lines cells outs outlets)
+    (listed_clock edges (λ n s. edge_clock lines cells n s.cell) 0 cells))
 
 clock_or_clk : (rest : List NetTree) (o : Option (List ℕ)) → IsClock o → clock_or (clock_net ∷ rest) o ≡ Some (codes "clk")
 unfolding net_named
@@ -57,7 +61,8 @@ clock_or_clk rest o (inl e) = ap (clock_or (clock_net ∷ rest)) e
 clock_or_clk rest o (inr e) = ap (clock_or (clock_net ∷ rest)) e
 
 -- it is `clk`
-pub clocked : (lines : ℕ → ℕ) → (cells : List SizedCell) (outlets : List Outlet) (outs : ℕ) → clock_name (netlist_module lines cells outlets outs) ≡ Some (codes "clk")
+pub clocked : (lines : ℕ → ℕ) → (cells : List SizedCell) (outlets : List Outlet) (outs : ℕ)
+    → clock_name (netlist_module lines cells outlets outs) ≡ Some (codes "clk")
 clocked lines cells outlets outs = clock_or_clk _ (first_clock (netlist_module lines cells outlets outs).items) (items_clock lines cells outlets outs)
 
 -- a name is that of the clock

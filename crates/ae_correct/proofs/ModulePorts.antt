@@ -20,21 +20,25 @@ module_port outs out p = record { name = port_name outs p.port; width = p.width;
 abbrev widths_of : List WordKind → List ℕ
 widths_of ks = map (λ (k : WordKind). k.width) ks
 
-words_are : (outs : ℕ) (out : Bool) (at : ℕ → Port) (k : ℕ) (ks : List WordKind) → map (module_port outs out) (word_ports at k (widths_of ks)) ≡ module_side.ports_of_words (λ j. port_name outs (at j)) out k ks
+words_are : (outs : ℕ) (out : Bool) (at : ℕ → Port) (k : ℕ) (ks : List WordKind)
+    → map (module_port outs out) (word_ports at k (widths_of ks)) ≡ module_side.ports_of_words (λ j. port_name outs (at j)) out k ks
 words_are outs out at k [] = refl
 words_are outs out at k (w ∷ ks) = ap (λ ps. record { name = port_name outs (at k); width = w.width; is_output = out } ∷ ps) (words_are outs out at (k + 1) ks)
 
-lanes_are : (outs : ℕ) (out : Bool) (at : ℕ → ℕ → Port) (ks : List WordKind) (l : ℕ) → map (module_port outs out) (lane_ports at (widths_of ks) l) ≡ module_side.ports_of_lanes (λ lane word. port_name outs (at lane word)) out ks l
+lanes_are : (outs : ℕ) (out : Bool) (at : ℕ → ℕ → Port) (ks : List WordKind) (l : ℕ)
+    → map (module_port outs out) (lane_ports at (widths_of ks) l) ≡ module_side.ports_of_lanes (λ lane word. port_name outs (at lane word)) out ks l
 lanes_are outs out at ks zero = refl
 lanes_are outs out at ks (suc l) =
     map-append (module_port outs out) (lane_ports at (widths_of ks) l) (word_ports (at l) 0 (widths_of ks))
     ∙ (λ i. lanes_are outs out at ks l i ++ words_are outs out (at l) 0 ks i)
 
-pub bundle_are : (outs : ℕ) (out : Bool) (at : ℕ → ℕ → Port) (s : StTree) → map (module_port outs out) (stream_ports at (stream_of s)) ≡ bundle_ports (λ lane word. port_name outs (at lane word)) out s
+pub bundle_are : (outs : ℕ) (out : Bool) (at : ℕ → ℕ → Port) (s : StTree)
+    → map (module_port outs out) (stream_ports at (stream_of s)) ≡ bundle_ports (λ lane word. port_name outs (at lane word)) out s
 bundle_are outs out at s = lanes_are outs out at (atom_kinds (element_atom s)) (lanes s)
 
 pub from_are : (outs : ℕ) (out : Bool) (at : ℕ → ℕ → ℕ → Port) (k : ℕ) (ss : List StTree)
-    → map (module_port outs out) (ports_from at k (streams_of ss)) ≡ module_side.bundles_from (λ q. bundle_ports (λ lane word. port_name outs (at q lane word)) out) k ss
+    → map (module_port outs out) (ports_from at k (streams_of ss)) ≡ module_side.bundles_from
+    (λ q. bundle_ports (λ lane word. port_name outs (at q lane word)) out) k ss
 from_are outs out at k [] = refl
 from_are outs out at k (s ∷ ss) =
     map-append (module_port outs out) (stream_ports (at k) (stream_of s)) (ports_from at (k + 1) (streams_of ss))
@@ -49,7 +53,8 @@ pub record IsColumn (outs : ℕ) (out : Bool) (at : ℕ → ℕ → Port) (s : S
   pub here : slice_get (stream_ports at (stream_of s)) column ≡ Some port
   pub named : get_or (map name_of (bundle_ports (λ lane word. port_name outs (at lane word)) out s)) column [] ≡ port_name outs port.port
 
-pub column_at : (outs : ℕ) (out : Bool) (at : ℕ → ℕ → Port) (s : StTree) (column : ℕ) → column < length (stream_widths (stream_of s)) → IsColumn outs out at s column
+pub column_at : (outs : ℕ) (out : Bool) (at : ℕ → ℕ → Port) (s : StTree) (column : ℕ) → column < length (stream_widths (stream_of s))
+    → IsColumn outs out at s column
 column_at outs out at s column below =
     let ports : List SizedPort = stream_ports at (stream_of s) in
     let e = entry-at ports column (omega (arith, below, length_stream at (stream_of s))) in

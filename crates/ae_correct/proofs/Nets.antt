@@ -52,7 +52,8 @@ inputs_kept [] = refl
 inputs_kept (p ∷ ports) = ap (λ cells. input_cell p ∷ cells) (inputs_kept ports)
 
 -- the cells behind the inputs
-pub no_more : (cells : List SizedCell) (ports : List SizedPort) → take (length ports) cells ≡ map input_cell ports → count_of is_input cells ≡ length ports → NoInputs (drop (length ports) cells)
+pub no_more : (cells : List SizedCell) (ports : List SizedPort) → take (length ports) cells ≡ map input_cell ports → count_of is_input cells ≡ length ports
+    → NoInputs (drop (length ports) cells)
 no_more cells ports first count =
     let rest : List SizedCell = drop (length ports) cells in
     let whole : map input_cell ports ++ rest ≡ cells = ap (λ cs. cs ++ rest) (sym first) ∙ take-append-drop (length ports) cells in
@@ -73,9 +74,12 @@ listed_from : (cells : List SizedCell) (k j : ℕ) → netlist.each_numbered net
 listed_from [] k j = refl
 listed_from (c ∷ cells) k j = ap (λ ns. nets_in 0 c ++ ns) (listed_from cells (k + 1) (j + 1))
 
-listed_append : (xs ys : List SizedCell) (k : ℕ) → netlist.each_numbered nets_in k (xs ++ ys) ≡ netlist.each_numbered nets_in k xs ++ netlist.each_numbered nets_in 0 ys
+listed_append : (xs ys : List SizedCell) (k : ℕ) → netlist.each_numbered nets_in k (xs ++ ys) ≡ netlist.each_numbered nets_in k xs
+    ++ netlist.each_numbered nets_in 0 ys
 listed_append [] ys k = listed_from ys k 0
-listed_append (x ∷ xs) ys k = ap (λ ns. nets_in 0 x ++ ns) (listed_append xs ys (k + 1)) ∙ sym (append_assoc (nets_in 0 x) (netlist.each_numbered nets_in (k + 1) xs) (netlist.each_numbered nets_in 0 ys))
+listed_append (x ∷ xs) ys k =
+    ap (λ ns. nets_in 0 x ++ ns) (listed_append xs ys (k + 1)) ∙
+    sym (append_assoc (nets_in 0 x) (netlist.each_numbered nets_in (k + 1) xs) (netlist.each_numbered nets_in 0 ys))
 
 ports_listed : (ports : List SizedPort) (k : ℕ) → netlist.each_numbered nets_in k (map input_cell ports) ≡ map in_net ports
 ports_listed [] k = refl
@@ -133,9 +137,11 @@ no_number (Peek mem at) h = refl
 none_numbered : (cells : List SizedCell) (k : ℕ) → NoInputs cells → filter is_input_at (enumerate_from k cells) ≡ []
 none_numbered [] k h = refl
 none_numbered (c ∷ cells) k h =
-    (λ i. cond (no_number c.cell h.0 i) ((k, c) ∷ filter is_input_at (enumerate_from (k + 1) cells)) (filter is_input_at (enumerate_from (k + 1) cells))) ∙ none_numbered cells (k + 1) h.1
+    (λ i. cond (no_number c.cell h.0 i) ((k, c) ∷ filter is_input_at (enumerate_from (k + 1) cells)) (filter is_input_at (enumerate_from (k + 1) cells))) ∙
+    none_numbered cells (k + 1) h.1
 
-pub numbered_inputs : (cells : List SizedCell) (ports : List SizedPort) → HaveInputs cells ports → same.input_cells cells ≡ enumerate_from 0 (map input_cell ports)
+pub numbered_inputs : (cells : List SizedCell) (ports : List SizedPort) → HaveInputs cells ports
+    → same.input_cells cells ≡ enumerate_from 0 (map input_cell ports)
 numbered_inputs cells ports h =
     let rest : List SizedCell = drop (length ports) cells in
     let front : List SizedCell = map input_cell ports in
@@ -158,25 +164,35 @@ none_in : (lines : ℕ → ℕ) → (test : NetTree → Bool) → IsOuter test �
 none_in lines test h item n width (Input port) = refl
 none_in lines test h item n width (Const k) = λ i. cond (h.wire item width (number_name lines n) i) (net_of WireNet item width (number_name lines n) ∷ []) []
 none_in lines test h item n width (Op op args) = λ i. cond (h.wire item width (number_name lines n) i) (net_of WireNet item width (number_name lines n) ∷ []) []
-none_in lines test h item n width (Reg next) = λ i. cond (h.register item width (number_name lines n) i) (net_of RegNet item width (number_name lines n) ∷ []) []
-none_in lines test h item n width (Mem depth at next enable) = λ i. cond (h.memory depth item width (number_name lines n) i) (net_of (MemoryNet depth) item width (number_name lines n) ∷ []) []
-none_in lines test h item n width (Peek mem at) = λ i. cond (h.wire item width (number_name lines n) i) (net_of WireNet item width (number_name lines n) ∷ []) []
+none_in lines test h item n width (Reg next) =
+    λ i. cond (h.register item width (number_name lines n) i) (net_of RegNet item width (number_name lines n) ∷ []) []
+none_in lines test h item n width (Mem depth at next enable) =
+    λ i. cond (h.memory depth item width (number_name lines n) i) (net_of (MemoryNet depth) item width (number_name lines n) ∷ []) []
+none_in lines test h item n width (Peek mem at) =
+    λ i. cond (h.wire item width (number_name lines n) i) (net_of WireNet item width (number_name lines n) ∷ []) []
 
-none_declared : (lines : ℕ → ℕ) → (test : NetTree → Bool) → IsOuter test → (item n : ℕ) (cells : List SizedCell) → filter test (declared_from lines item n cells) ≡ []
+none_declared : (lines : ℕ → ℕ) → (test : NetTree → Bool) → IsOuter test → (item n : ℕ) (cells : List SizedCell)
+    → filter test (declared_from lines item n cells) ≡ []
 none_declared lines test h item n [] = refl
 none_declared lines test h item n (c ∷ cells) =
-    filter-append test (declared_nets lines item n c.width c.cell) (declared_from lines (item + length (declared_nets lines item n c.width c.cell)) (n + 1) cells)
-    ∙ (λ i. none_in lines test h item n c.width c.cell i ++ none_declared lines test h (item + length (declared_nets lines item n c.width c.cell)) (n + 1) cells i)
+    filter-append test (declared_nets lines item n c.width c.cell)
+    (declared_from lines (item + length (declared_nets lines item n c.width c.cell)) (n + 1) cells)
+    ∙ (λ i. none_in lines test h item n c.width c.cell i ++ none_declared lines test h (item + length (declared_nets lines item n c.width c.cell))
+    (n + 1) cells i)
 
-kept : {X : Type 0} (test : NetTree → Bool) (g : X → NetTree) (xs : List X) → ((n : ℕ) (x : X) → slice_get xs n ≡ Some x → test (g x) ≡ true) → filter test (map g xs) ≡ map g xs
+kept : {X : Type 0} (test : NetTree → Bool) (g : X → NetTree) (xs : List X) → ((n : ℕ) (x : X) → slice_get xs n ≡ Some x → test (g x) ≡ true)
+    → filter test (map g xs) ≡ map g xs
 kept test g [] h = refl
-kept test g (x ∷ xs) h = (λ i. cond (h 0 x refl i) (g x ∷ filter test (map g xs)) (filter test (map g xs))) ∙ ap (λ ns. g x ∷ ns) (kept test g xs (λ n y e. h (suc n) y e))
+kept test g (x ∷ xs) h =
+    (λ i. cond (h 0 x refl i) (g x ∷ filter test (map g xs)) (filter test (map g xs))) ∙ ap (λ ns. g x ∷ ns) (kept test g xs (λ n y e. h (suc n) y e))
 
-dropped : {X : Type 0} (test : NetTree → Bool) (g : X → NetTree) (xs : List X) → ((n : ℕ) (x : X) → slice_get xs n ≡ Some x → test (g x) ≡ false) → filter test (map g xs) ≡ []
+dropped : {X : Type 0} (test : NetTree → Bool) (g : X → NetTree) (xs : List X) → ((n : ℕ) (x : X) → slice_get xs n ≡ Some x → test (g x) ≡ false)
+    → filter test (map g xs) ≡ []
 dropped test g [] h = refl
 dropped test g (x ∷ xs) h = (λ i. cond (h 0 x refl i) (g x ∷ filter test (map g xs)) (filter test (map g xs))) ∙ dropped test g xs (λ n y e. h (suc n) y e)
 
-outputs_are : (cells : List SizedCell) (outlets : List Outlet) (outs : ℕ) → map (output_net cells outs) outlets ≡ map (out_net outs) (map (outlet_port cells) outlets)
+outputs_are : (cells : List SizedCell) (outlets : List Outlet) (outs : ℕ)
+    → map (output_net cells outs) outlets ≡ map (out_net outs) (map (outlet_port cells) outlets)
 outputs_are cells [] outs = refl
 outputs_are cells (o ∷ outlets) outs = ap (λ ns. output_net cells outs o ∷ ns) (outputs_are cells outlets outs)
 
@@ -190,12 +206,14 @@ module _ (lines : ℕ → ℕ) (cells : List SizedCell) (outlets : List Outlet) 
   abbrev pub tree : ModuleTree
   tree = netlist_module lines cells outlets many
 
-  filtered : (test : NetTree → Bool) → IsOuter test → filter test tree.nets ≡ filter test (clock_net ∷ []) ++ (filter test (map in_net ins) ++ filter test (map (out_net many) outs))
+  filtered : (test : NetTree → Bool) → IsOuter test → filter test tree.nets ≡ filter test (clock_net ∷ [])
+      ++ (filter test (map in_net ins) ++ filter test (map (out_net many) outs))
   filtered test o =
       let declared : List NetTree = declared_from lines 1 0 cells in
       let in_nets : List NetTree = map in_net ins in
       let out_nets : List NetTree = map (out_net many) outs in
-      let nets : tree.nets ≡ (clock_net ∷ []) ++ (in_nets ++ (out_nets ++ declared)) = λ i. clock_net ∷ (inputs_are cells ins h.inputs i ++ ((outputs_are cells outlets many ∙ ap (map (out_net many)) h.outputs) i ++ declared)) in
+      let nets : tree.nets ≡ (clock_net ∷ []) ++ (in_nets ++ (out_nets ++ declared)) = λ i. clock_net
+      ∷ (inputs_are cells ins h.inputs i ++ ((outputs_are cells outlets many ∙ ap (map (out_net many)) h.outputs) i ++ declared)) in
       ap (filter test) nets
       ∙ filter-append test (clock_net ∷ []) (in_nets ++ (out_nets ++ declared))
       ∙ ap (λ ns. filter test (clock_net ∷ []) ++ ns) (filter-append test in_nets (out_nets ++ declared))

@@ -27,7 +27,8 @@ columns_more s ss = sum_by-cons (λ (x : Stream). length (stream_widths x)) s ss
 
 pub length_from : (at : ℕ → ℕ → ℕ → Port) (k : ℕ) (ss : List Stream) → length (ports_from at k ss) ≡ columns_in ss
 length_from at k [] = refl
-length_from at k (s ∷ ss) = omega (arith, length-append (stream_ports (at k) s) (ports_from at (k + 1) ss), length_stream (at k) s, length_from at (k + 1) ss, columns_more s ss)
+length_from at k (s ∷ ss) =
+    omega (arith, length-append (stream_ports (at k) s) (ports_from at (k + 1) ss), length_stream (at k) s, length_from at (k + 1) ss, columns_more s ss)
 
 -- ---- the place of a port
 
@@ -56,11 +57,20 @@ record IsLanePort (at : ℕ → ℕ → Port) (ws : List ℕ) (lanes n : ℕ) (p
 lane_port : (at : ℕ → ℕ → Port) (ws : List ℕ) (l n : ℕ) (p : SizedPort) → slice_get (lane_ports at ws l) n ≡ Some p → IsLanePort at ws l n p
 lane_port at ws zero n p h = absurd (none-some p h)
 lane_port at ws (suc l) n p h = elim (get_append_cases (lane_ports at ws l) (word_ports (at l) 0 ws) n p p h) [
-  | inl before ↦ (let r = lane_port at ws l n p before.1 in record { lane = r.lane; word = r.word; lane_below = omega (arith, r.lane_below); word_below = r.word_below; place = r.place; port = r.port })
+  | inl before ↦ (let r = lane_port at ws l n p before.1 in
+      record { lane = r.lane; word = r.word; lane_below = omega (arith, r.lane_below); word_below = r.word_below; place = r.place; port = r.port })
   | inr behind ↦ (let r = word_port (at l) 0 ws (n - length (lane_ports at ws l)) p behind.1 in
       let j : ℕ = n - length (lane_ports at ws l) in
       let z : 0 + j ≡ j = omega arith in
-      record { lane = l; word = j; lane_below = omega arith; word_below = r.below; place = omega (arith, behind.0, length_lanes at ws l); port = r.port ∙ ap (at l) z })
+      record {
+        lane = l;
+        word = j;
+        lane_below = omega arith;
+        word_below = r.below;
+        place = omega (arith, behind.0, length_lanes at ws l);
+        port = r.port ∙
+            ap (at l) z;
+      })
 ]
 
 pub record IsPortFrom (at : ℕ → ℕ → ℕ → Port) (k : ℕ) (ss : List Stream) (n : ℕ) (p : SizedPort) : Type 0 where
@@ -79,7 +89,17 @@ port_from at k [] n p h = absurd (none-some p h)
 port_from at k (s ∷ ss) n p h = elim (get_append_cases (stream_ports (at k) s) (ports_from at (k + 1) ss) n p p h) [
   | inl before ↦ (let r = lane_port (at k) s.widths s.lanes n p before.1 in
       let z : k ≡ k + 0 = omega arith in
-      record { number = 0; lane = r.lane; word = r.word; stream = s; found = refl; lane_below = r.lane_below; word_below = r.word_below; place = omega (arith, r.place); port = r.port ∙ ap (λ i. at i r.lane r.word) z })
+      record {
+        number = 0;
+        lane = r.lane;
+        word = r.word;
+        stream = s;
+        found = refl;
+        lane_below = r.lane_below;
+        word_below = r.word_below;
+        place = omega (arith, r.place);
+        port = r.port ∙ ap (λ i. at i r.lane r.word) z;
+      })
   | inr behind ↦ (let r = port_from at (k + 1) ss (n - length (stream_ports (at k) s)) p behind.1 in
       let e : k + 1 + r.number ≡ k + suc r.number = omega arith in
       record {
@@ -96,22 +116,26 @@ port_from at k (s ∷ ss) n p h = elim (get_append_cases (stream_ports (at k) s)
 ]
 
 -- the port of a column of a stream
-pub port_there : (at : ℕ → ℕ → ℕ → Port) (k : ℕ) (ss : List Stream) (q j : ℕ) (s : Stream) (p : SizedPort) → slice_get ss q ≡ Some s → slice_get (stream_ports (at (k + q)) s) j ≡ Some p
+pub port_there : (at : ℕ → ℕ → ℕ → Port) (k : ℕ) (ss : List Stream) (q j : ℕ) (s : Stream) (p : SizedPort) → slice_get ss q ≡ Some s
+    → slice_get (stream_ports (at (k + q)) s) j ≡ Some p
     → slice_get (ports_from at k ss) (columns_in (take q ss) + j) ≡ Some p
 port_there at k [] q j s p f g = absurd (none-some s f)
 port_there at k (x ∷ ss) zero j s p f g =
     let z : k + 0 ≡ k = omega arith in
     let e : columns_in (take 0 (x ∷ ss)) + j ≡ j = omega arith in
-    let here : slice_get (stream_ports (at k) x) j ≡ Some p = ap (λ i. slice_get (stream_ports (at i) x) j) (sym z) ∙ ap (λ (y : Stream). slice_get (stream_ports (at (k + 0)) y) j) (same_Some x s f) ∙ g in
+    let here : slice_get (stream_ports (at k) x) j ≡ Some p = ap (λ i. slice_get (stream_ports (at i) x) j) (sym z) ∙
+    ap (λ (y : Stream). slice_get (stream_ports (at (k + 0)) y) j) (same_Some x s f) ∙ g in
     ap (slice_get (ports_from at k (x ∷ ss))) e ∙ get_in_front (stream_ports (at k) x) (ports_from at (k + 1) ss) j p here
 port_there at k (x ∷ ss) (suc q) j s p f g =
     let e : k + suc q ≡ k + 1 + q = omega arith in
     let rest = port_there at (k + 1) ss q j s p f (ap (λ i. slice_get (stream_ports (at i) s) j) (sym e) ∙ g) in
-    let place : columns_in (take (suc q) (x ∷ ss)) + j ≡ length (stream_ports (at k) x) + (columns_in (take q ss) + j) = omega (arith, columns_more x (take q ss), length_stream (at k) x) in
+    let place : columns_in (take (suc q) (x ∷ ss)) + j ≡ length
+    (stream_ports (at k) x) + (columns_in (take q ss) + j) = omega (arith, columns_more x (take q ss), length_stream (at k) x) in
     ap (slice_get (ports_from at k (x ∷ ss))) place ∙ get_right (stream_ports (at k) x) (ports_from at (k + 1) ss) (columns_in (take q ss) + j) ∙ rest
 
 -- ports of one number, lane and word stand in one place
-pub same_place : (at : ℕ → ℕ → ℕ → Port) (k : ℕ) (ss : List Stream) (m n : ℕ) (p o : SizedPort) (a : IsPortFrom at k ss m p) (b : IsPortFrom at k ss n o) → a.number ≡ b.number → a.lane ≡ b.lane → a.word ≡ b.word → m ≡ n
+pub same_place : (at : ℕ → ℕ → ℕ → Port) (k : ℕ) (ss : List Stream) (m n : ℕ) (p o : SizedPort) (a : IsPortFrom at k ss m p) (b : IsPortFrom at k ss n o)
+    → a.number ≡ b.number → a.lane ≡ b.lane → a.word ≡ b.word → m ≡ n
 same_place at k ss m n p o a b x y z =
     let s : a.stream ≡ b.stream = same_Some a.stream b.stream (sym a.found ∙ ap (slice_get ss) x ∙ b.found) in
     a.place

@@ -46,7 +46,8 @@ count_is slowdown latency (suc k) h = refl
 
 -- ---- the whole
 
-module _ (lines : ℕ → ℕ) (p : ProgramTree) (slowdown : ℕ) (costs : OwnCosts) (ins outs : List StTree) (n : Circuit) (laid : IsLaidOut p slowdown ins outs) (c : IsCircuitFor p slowdown costs ins outs n)
+module _ (lines : ℕ → ℕ) (p : ProgramTree) (slowdown : ℕ) (costs : OwnCosts) (ins outs : List StTree) (n : Circuit) (laid : IsLaidOut p slowdown ins outs)
+    (c : IsCircuitFor p slowdown costs ins outs n)
     (same : HasSameRuns (netlist_module lines n.cells n.outlets (length outs)) n) (latency fill : ℕ) (blocks : List (List ValueTree))
     (values : (b : ℕ) (block : List ValueTree) → slice_get blocks b ≡ Some block → AreValues (input_types p) block) where
   abbrev many : ℕ
@@ -67,7 +68,8 @@ module _ (lines : ℕ → ℕ) (p : ProgramTree) (slowdown : ℕ) (costs : OwnCo
   whole : AreWhole ins blocks
   whole b block there = as_many p slowdown ins outs block laid (values b block there)
 
-  module _ (run : List ModuleClock) (other : List Clock) (runs : IsModuleRun own run) (with_rows : IsRunWith n.cells fed (filled n.cells fill) other) (alike : BeginAlike own n run other) (equal : HaveEqualOutputs own n run other) where
+  module _ (run : List ModuleClock) (other : List Clock) (runs : IsModuleRun own run) (with_rows : IsRunWith n.cells fed (filled n.cells fill) other)
+      (alike : BeginAlike own n run other) (equal : HaveEqualOutputs own n run other) where
     rows_long : length fed ≡ 1 + count
     rows_long = length_rows slowdown fill ins (map (map flat) blocks) count
 
@@ -94,9 +96,11 @@ module _ (lines : ℕ → ℕ) (p : ProgramTree) (slowdown : ℕ) (costs : OwnCo
     -- the words on the inputs are those of the rows
     on_inputs : (start k q column : ℕ) (x : StTree) → start + k < length run → slice_get ins q ≡ Some x → column < length (stream_widths (stream_of x))
         → wave run start (param_ports q x) k column ≡ get_or (get_or fed (start + k) []) (suc (columns_in (take q (streams_of ins)) + column)) 0
-    on_inputs start k q column x below found small = input_row lines n many ins (outs_of outs) have run other fed alike with_rows.takes with_rows.long (start + k) q column x below found small
+    on_inputs start k q column x below found small = input_row lines n many ins (outs_of outs) have run other fed alike with_rows.takes with_rows.long
+        (start + k) q column x below found small
 
-    holds_at : (b q e j : ℕ) (x : StTree) (w : Slot) (block : List ValueTree) → slice_get blocks b ≡ Some block → slice_get ins q ≡ Some x → slice_get (slots x) e ≡ Some w → j < element_words x
+    holds_at : (b q e j : ℕ) (x : StTree) (w : Slot) (block : List ValueTree) → slice_get blocks b ≡ Some block → slice_get ins q ≡ Some x
+        → slice_get (slots x) e ≡ Some w → j < element_words x
         → wave run 1 (param_ports q x) (b * slowdown + w.clock) (w.lane * element_words x + j) ≡ get_or (flat (at block q)) (e * element_words x + j) 0
     holds_at b q e j x w block there found slot word =
         let f = sizes q x found in
@@ -116,7 +120,8 @@ module _ (lines : ℕ → ℕ) (p : ProgramTree) (slowdown : ℕ) (costs : OwnCo
         ∙ ap (λ r. get_or r (suc (columns_in (take q (streams_of ins)) + column)) 0) (later (b * slowdown + w.clock) shown)
         ∙ stands_in_row slowdown fill ins blocks count sizes whole b q e j x w block there found slot word clock lane
 
-    free_at : (q l j t : ℕ) (x : StTree) → slice_get ins q ≡ Some x → l < lanes x → j < element_words x → t < length run → (IsTaken x slowdown (length blocks) l t → ⊥)
+    free_at : (q l j t : ℕ) (x : StTree) → slice_get ins q ≡ Some x → l < lanes x → j < element_words x → t < length run
+        → (IsTaken x slowdown (length blocks) l t → ⊥)
         → wave run 0 (param_ports q x) t (l * element_words x + j) ≡ fill_word fill x j
     free_at q l j t x found lane word below free =
         let z : 0 + t ≡ t = omega arith in

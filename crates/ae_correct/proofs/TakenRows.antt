@@ -23,7 +23,8 @@ same_input (Peek mem at) = refl
 abbrev numbered_inputs : ℕ → List SizedCell → List (ℕ × SizedCell)
 numbered_inputs k cells = filter (λ (x : ℕ × SizedCell). is_input_cell x.1.cell) (enumerate_from k cells)
 
-pub input_widths : (k : ℕ) (cells : List SizedCell) → map (λ (x : ℕ × SizedCell). x.1.width) (numbered_inputs k cells) ≡ map (λ (s : SizedCell). s.width) (cells_of is_input cells)
+pub input_widths : (k : ℕ) (cells : List SizedCell) → map (λ (x : ℕ × SizedCell). x.1.width) (numbered_inputs k cells) ≡ map (λ (s : SizedCell). s.width)
+    (cells_of is_input cells)
 input_widths k [] = refl
 input_widths k (c ∷ cells) =
     ap (λ t. map (λ (x : ℕ × SizedCell). x.1.width) (cond t ((k, c) ∷ numbered_inputs (k + 1) cells) (numbered_inputs (k + 1) cells))) (same_input c.cell)
@@ -40,27 +41,31 @@ count_cons c cells t is = sum_by-cons (λ (x : SizedCell). cond (is_input x.cell
 
 -- each input, by its number among the inputs, has a word of the row
 abbrev Takes : (cells : List SizedCell) (f : ℕ → ℕ) (k : ℕ) (row : List ℕ) → Type 0
-Takes cells f k row = (i : ℕ) (sized : SizedCell) → slice_get cells i ≡ Some sized → is_input sized.cell ≡ true → f (k + i) ≡ get_or row (number_of is_input cells i) 0
+Takes cells f k row =
+    (i : ℕ) (sized : SizedCell) → slice_get cells i ≡ Some sized → is_input sized.cell ≡ true → f (k + i) ≡ get_or row (number_of is_input cells i) 0
 
 abbrev words_by : (ℕ → ℕ) → List (ℕ × SizedCell) → List ℕ
 words_by f xs = map (λ (x : ℕ × SizedCell). f x.0) xs
 
 -- the row of the cells behind an input, and behind another cell
-behind_input : (c : SizedCell) (cells : List SizedCell) (f : ℕ → ℕ) (k w : ℕ) (ws : List ℕ) → is_input c.cell ≡ true → Takes (c ∷ cells) f k (w ∷ ws) → Takes cells f (k + 1) ws
+behind_input : (c : SizedCell) (cells : List SizedCell) (f : ℕ → ℕ) (k w : ℕ) (ws : List ℕ) → is_input c.cell ≡ true → Takes (c ∷ cells) f k (w ∷ ws)
+    → Takes cells f (k + 1) ws
 behind_input c cells f k w ws is h i sized found kind =
     let at : (k + 1) + i ≡ k + suc i = omega arith in
     let one : 1 + count_of is_input (take i cells) ≡ suc (number_of is_input cells i) = omega arith in
     let number : number_of is_input (c ∷ cells) (suc i) ≡ suc (number_of is_input cells i) = count_cons c (take i cells) true is ∙ one in
     ap f at ∙ h (suc i) sized found kind ∙ ap (λ n. get_or (w ∷ ws) n 0) number
 
-behind_other : (c : SizedCell) (cells : List SizedCell) (f : ℕ → ℕ) (k : ℕ) (row : List ℕ) → is_input c.cell ≡ false → Takes (c ∷ cells) f k row → Takes cells f (k + 1) row
+behind_other : (c : SizedCell) (cells : List SizedCell) (f : ℕ → ℕ) (k : ℕ) (row : List ℕ) → is_input c.cell ≡ false → Takes (c ∷ cells) f k row
+    → Takes cells f (k + 1) row
 behind_other c cells f k row is h i sized found kind =
     let at : (k + 1) + i ≡ k + suc i = omega arith in
     let none : 0 + count_of is_input (take i cells) ≡ number_of is_input cells i = omega arith in
     let number : number_of is_input (c ∷ cells) (suc i) ≡ number_of is_input cells i = count_cons c (take i cells) false is ∙ none in
     ap f at ∙ h (suc i) sized found kind ∙ ap (λ n. get_or row n 0) number
 
-inputs_are : (cells : List SizedCell) (f : ℕ → ℕ) (k : ℕ) (row : List ℕ) → length row ≡ count_of is_input cells → Takes cells f k row → words_by f (numbered_inputs k cells) ≡ row
+inputs_are : (cells : List SizedCell) (f : ℕ → ℕ) (k : ℕ) (row : List ℕ) → length row ≡ count_of is_input cells → Takes cells f k row
+    → words_by f (numbered_inputs k cells) ≡ row
 inputs_are [] f k row long h = sym (nil_from_length row long)
 inputs_are (c ∷ cells) f k row long h =
     ap (λ t. words_by f (cond t ((k, c) ∷ numbered_inputs (k + 1) cells) (numbered_inputs (k + 1) cells))) (same_input c.cell)
@@ -81,7 +86,8 @@ inputs_are (c ∷ cells) f k row long h =
         rest us (omega (arith, n, l)) (behind_other c cells f k us is g)
 
 -- in a run on rows the inputs have the words of the clock's row
-pub net_inputs : (n : Circuit) (rows : List (List ℕ)) (firsts : Firsts) (run : List Clock) (t : ℕ) → IsRunWith n.cells rows firsts run → t < length rows → AreInputs n.cells (get_or rows t [])
+pub net_inputs : (n : Circuit) (rows : List (List ℕ)) (firsts : Firsts) (run : List Clock) (t : ℕ) → IsRunWith n.cells rows firsts run → t < length rows
+    → AreInputs n.cells (get_or rows t [])
     → net_input_words n run t ≡ get_or rows t []
 net_inputs n rows firsts run t r below fits =
     inputs_are n.cells (λ k. word_at run t k) 0 (get_or rows t []) fits.long

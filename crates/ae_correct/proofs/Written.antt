@@ -63,14 +63,16 @@ pub record IsPortAt (ports : List SizedPort) (k : ℕ) (port : Port) : Type 0 wh
   pub found : slice_get ports k ≡ Some sized
   pub is : sized.port ≡ port
 
-pub input_at : (cells : List SizedCell) (ports : List SizedPort) (k width : ℕ) (port : Port) → HaveInputs cells ports → slice_get cells k ≡ Some (record { width = width; cell = Input port }) → IsPortAt ports k port
+pub input_at : (cells : List SizedCell) (ports : List SizedPort) (k width : ℕ) (port : Port) → HaveInputs cells ports
+    → slice_get cells k ≡ Some (record { width = width; cell = Input port }) → IsPortAt ports k port
 input_at cells ports k width port h e =
     let rest : List SizedCell = drop (length ports) cells in
     let c : SizedCell = record { width = width; cell = Input port } in
     let whole : map input_cell ports ++ rest ≡ cells = ap (λ cs. cs ++ rest) (sym h.first) ∙ take-append-drop (length ports) cells in
     let here : slice_get (map input_cell ports ++ rest) k ≡ Some c = ap (λ cs. slice_get cs k) whole ∙ e in
     elim (get_append_cases (map input_cell ports) rest k c c here) [
-      | inl front ↦ (let r = unmapped input_cell ports k c front.1 in record { sized = r.from; found = r.found; is = ap (λ (x : SizedCell). port_in x.cell Reset) r.is })
+      | inl front ↦ (let r = unmapped input_cell ports k c front.1 in
+          record { sized = r.from; found = r.found; is = ap (λ (x : SizedCell). port_in x.cell Reset) r.is })
       | inr back ↦ (let none : true ≡ false = no_input_at rest (k - length (map input_cell ports)) c (no_more cells ports h.first h.count) back.1 in cc)
     ]
 
@@ -101,7 +103,8 @@ in_at param lane word = In param lane word
 abbrev out_at : (result lane word : ℕ) → Port
 out_at result lane word = Out result lane word
 
-pub inputs_apart : (ss : List Stream) (m n : ℕ) (a b : SizedPort) → slice_get (reset_port ∷ input_ports ss) m ≡ Some a → slice_get (reset_port ∷ input_ports ss) n ≡ Some b → a.port ≡ b.port → m ≡ n
+pub inputs_apart : (ss : List Stream) (m n : ℕ) (a b : SizedPort) → slice_get (reset_port ∷ input_ports ss) m ≡ Some a
+    → slice_get (reset_port ∷ input_ports ss) n ≡ Some b → a.port ≡ b.port → m ≡ n
 inputs_apart ss zero zero a b f g e = refl
 inputs_apart ss zero (suc n) a b f g e =
     let r = port_from in_at 0 ss n b g in
@@ -118,7 +121,8 @@ inputs_apart ss (suc m) (suc n) a b f g e =
     let number : x.number ≡ y.number = omega (arith, ap number_in same) in
     ap suc (same_place in_at 0 ss m n a b x y number (ap lane_in same) (ap word_in same))
 
-outputs_apart : (ss : List Stream) (m n : ℕ) (a b : SizedPort) → slice_get (output_ports ss) m ≡ Some a → slice_get (output_ports ss) n ≡ Some b → a.port ≡ b.port → m ≡ n
+outputs_apart : (ss : List Stream) (m n : ℕ) (a b : SizedPort) → slice_get (output_ports ss) m ≡ Some a → slice_get (output_ports ss) n ≡ Some b
+    → a.port ≡ b.port → m ≡ n
 outputs_apart ss m n a b f g e =
     let x = port_from out_at 0 ss m a f in
     let y = port_from out_at 0 ss n b g in
@@ -139,7 +143,8 @@ factor_le : (a b m : ℕ) → 0 < a → a * b ≤ m → b ≤ m
 factor_le a b m p h = grind arith
 
 few_columns : (s : StTree) → IsInSize s → length (stream_widths (stream_of s)) ≤ 16384
-few_columns s h = (let p = product_le (lanes s) (st_atoms s) (element_words s) 16384 (lanes-le-atoms s h.lengths) h.in_words in omega (arith, p, stream_columns s))
+few_columns s h =
+    (let p = product_le (lanes s) (st_atoms s) (element_words s) 16384 (lanes-le-atoms s h.lengths) h.in_words in omega (arith, p, stream_columns s))
 
 pub all_columns : (ss : List StTree) → AreSmall ss → columns_in (streams_of ss) ≤ length ss * 16384
 all_columns [] h = omega arith
@@ -151,7 +156,8 @@ record IsFew (r : ℕ) (lane word : ℕ) : Type 0 where
   lane_few : lane < 16384
   word_few : word < 16384
 
-few_numbers : (at : ℕ → ℕ → ℕ → Port) (ss : List StTree) (n : ℕ) (p : SizedPort) → AreSmall ss → length ss ≤ 8 → (r : IsPortFrom at 0 (streams_of ss) n p) → IsFew r.number r.lane r.word
+few_numbers : (at : ℕ → ℕ → ℕ → Port) (ss : List StTree) (n : ℕ) (p : SizedPort) → AreSmall ss → length ss ≤ 8 → (r : IsPortFrom at 0 (streams_of ss) n p)
+    → IsFew r.number r.lane r.word
 few_numbers at ss n p small few r =
     let m = unmapped stream_of ss r.number r.stream r.found in
     let size : IsInSize m.from = small r.number m.from m.found in
@@ -159,16 +165,22 @@ few_numbers at ss n p small few r =
     let lane : r.lane < lanes m.from = subst (λ (x : Stream). r.lane < x.lanes) (sym m.is) r.lane_below in
     let word : r.word < length (stream_of m.from).widths = subst (λ (x : Stream). r.word < length x.widths) (sym m.is) r.word_below in
     let words : element_words m.from ≤ 16384 = factor_le (st_atoms m.from) (element_words m.from) 16384 (atoms_pos m.from size.lengths) size.in_words in
-    record { number = omega (arith, within); lane_few = omega (arith, lane, lanes_below m.from size); word_few = omega (arith, word, words, element_columns m.from) }
+    record {
+      number = omega (arith, within);
+      lane_few = omega (arith, lane, lanes_below m.from size);
+      word_few = omega (arith, word, words, element_columns m.from);
+    }
 
-pub input_port_fits : (ss : List StTree) (k : ℕ) (p : SizedPort) → AreSmall ss → length ss ≤ 8 → slice_get (reset_port ∷ input_ports (streams_of ss)) k ≡ Some p → PortFits p.port
+pub input_port_fits : (ss : List StTree) (k : ℕ) (p : SizedPort) → AreSmall ss → length ss ≤ 8
+    → slice_get (reset_port ∷ input_ports (streams_of ss)) k ≡ Some p → PortFits p.port
 input_port_fits ss zero p small few h = subst (λ (x : SizedPort). PortFits x.port) (same_Some reset_port p h) tt
 input_port_fits ss (suc k) p small few h =
     let r = port_from in_at 0 (streams_of ss) k p h in
     let f = few_numbers in_at ss k p small few r in
     subst PortFits (sym r.port) (omega (arith, f.number), omega (arith, f.lane_few), omega (arith, f.word_few))
 
-output_port_fits : (ss : List StTree) (k : ℕ) (p : SizedPort) → AreSmall ss → length ss ≤ 8 → slice_get (output_ports (streams_of ss)) k ≡ Some p → PortFits p.port
+output_port_fits : (ss : List StTree) (k : ℕ) (p : SizedPort) → AreSmall ss → length ss ≤ 8 → slice_get (output_ports (streams_of ss)) k ≡ Some p
+    → PortFits p.port
 output_port_fits ss k p small few h =
     let r = port_from out_at 0 (streams_of ss) k p h in
     let f = few_numbers out_at ss k p small few r in
@@ -176,7 +188,8 @@ output_port_fits ss k p small few h =
 
 -- ---- the whole
 
-cell_fits : (cells : List SizedCell) (ss : List StTree) (k width : ℕ) (cell : Cell) → HaveInputs cells (reset_port ∷ input_ports (streams_of ss)) → AreSmall ss → length ss ≤ 8
+cell_fits : (cells : List SizedCell) (ss : List StTree) (k width : ℕ) (cell : Cell) → HaveInputs cells (reset_port ∷ input_ports (streams_of ss)) → AreSmall ss
+    → length ss ≤ 8
     → slice_get cells k ≡ Some (record { width = width; cell = cell }) → CellPortFits cell
 cell_fits cells ss k width (Input port) h small few e =
     let r = input_at cells (reset_port ∷ input_ports (streams_of ss)) k width port h e in
@@ -187,7 +200,8 @@ cell_fits cells ss k width (Reg next) h small few e = tt
 cell_fits cells ss k width (Mem depth at next enable) h small few e = tt
 cell_fits cells ss k width (Peek mem at) h small few e = tt
 
-module _ (p : ProgramTree) (slowdown : ℕ) (costs : OwnCosts) (ins outs : List StTree) (n : Circuit) (fill_ins : AreFilling slowdown ins) (fill_outs : AreFilling slowdown outs)
+module _ (p : ProgramTree) (slowdown : ℕ) (costs : OwnCosts) (ins outs : List StTree) (n : Circuit) (fill_ins : AreFilling slowdown ins)
+    (fill_outs : AreFilling slowdown outs)
     (params : length ins ≤ 8) (results : length outs ≤ 8) (light : costs.load ≤ 100000) (c : IsCircuitFor p slowdown costs ins outs n) where
   have : HavePorts n.cells n.outlets (ins_of ins) (outs_of outs)
   have = circuit_ports p slowdown costs ins outs n c
@@ -216,7 +230,8 @@ module _ (p : ProgramTree) (slowdown : ℕ) (costs : OwnCosts) (ins outs : List 
         let b = input_at n.cells (ins_of ins) l w port have.inputs f in
         inputs_apart (streams_of ins) k l a.sized b.sized a.found b.found (a.is ∙ sym b.is));
     outputs = output_named;
-    outputs_differ = λ k l a b e f same. outputs_apart (streams_of outs) k l (outlet_port n.cells a) (outlet_port n.cells b) (shown_at k a e) (shown_at l b f) same;
+    outputs_differ = λ k l a b e f same. outputs_apart (streams_of outs) k l (outlet_port n.cells a) (outlet_port n.cells b) (shown_at k a e)
+        (shown_at l b f) same;
   }
 
   few_cells : length n.cells < 2 ^ 32
@@ -231,10 +246,13 @@ module _ (p : ProgramTree) (slowdown : ℕ) (costs : OwnCosts) (ins outs : List 
     ports = have_ports;
     whole = c.whole;
     few = few_cells;
-    inputs = λ k d within. (let x : SizedCell = get_or n.cells k d in cell_fits n.cells ins k x.width x.cell have.inputs small_ins params (slice_get-get_or n.cells k d within));
-    outputs = λ k d within. (let o : Outlet = get_or n.outlets k d in output_port_fits outs k (outlet_port n.cells o) small_outs results (shown_at k o (slice_get-get_or n.outlets k d within)));
+    inputs = λ k d within. (let x : SizedCell = get_or n.cells k d in
+        cell_fits n.cells ins k x.width x.cell have.inputs small_ins params (slice_get-get_or n.cells k d within));
+    outputs = λ k d within. (let o : Outlet = get_or n.outlets k d in
+        output_port_fits outs k (outlet_port n.cells o) small_outs results (shown_at k o (slice_get-get_or n.outlets k d within)));
   }
 
 pub writable : CircuitsAreWritable
 writable p slowdown costs ins outs n laid light c =
-    is_writable p slowdown costs ins outs n (ins_filling p slowdown ins outs laid) (outs_filling p slowdown ins outs laid) (few_ins p slowdown ins outs laid) (few_outs p slowdown ins outs laid) light c
+    is_writable p slowdown costs ins outs n (ins_filling p slowdown ins outs laid) (outs_filling p slowdown ins outs laid) (few_ins p slowdown ins outs laid)
+    (few_outs p slowdown ins outs laid) light c

@@ -36,33 +36,43 @@ fill_word fill s j = get_or (map (λ (k : WordKind). fill % 2 ^ k.width) (atom_k
 
 -- the inputs hold the fill wherever no element of a block stands
 pub record AreFilled (run : List ModuleClock) (slowdown fill blocks : ℕ) (inputs : List StTree) : Type 0 where
-  pub each : (k l j t : ℕ) (s : StTree) → slice_get inputs k ≡ Some s → l < lanes s → j < element_words s → t < length run → (IsTaken s slowdown blocks l t → ⊥)
+  pub each : (k l j t : ℕ) (s : StTree) → slice_get inputs k ≡ Some s → l < lanes s → j < element_words s
+      → t < length run → (IsTaken s slowdown blocks l t → ⊥)
       → wave run 0 (param_ports k s) t (l * element_words s + j) ≡ fill_word fill s j
 
 -- one clock of reset and then the blocks, one behind the other; all else is the fill, modulo 2 to each width
-pub record IsFed (m : ModuleTree) (slowdown fill : ℕ) (inputs : List StTree) (blocks : List (List ValueTree)) (run : List ModuleClock) : Type 0 where
+pub record IsFed (m : ModuleTree) (slowdown fill : ℕ) (inputs : List StTree) (blocks : List (List ValueTree))
+    (run : List ModuleClock) : Type 0 where
   pub reset : IsResetRun m run 1
-  pub begins : 0 < length run → held_words m (clock_at run 0) ≡ map (λ (x : NetTree). first_words fill x.width (kind_depth x.kind)) (states_of m)
-  pub holds : (b : ℕ) (block : List ValueTree) → slice_get blocks b ≡ Some block → BundlesHold run 1 (b * slowdown) param_ports inputs block
+  pub begins : 0 < length run → held_words m (clock_at run 0) ≡ map
+      (λ (x : NetTree). first_words fill x.width (kind_depth x.kind)) (states_of m)
+  pub holds : (b : ℕ) (block : List ValueTree) → slice_get blocks b ≡ Some block
+      → BundlesHold run 1 (b * slowdown) param_ports inputs block
   pub elsewhere : AreFilled run slowdown fill (length blocks) inputs
 
 -- the text shows the run of this module on the blocks: every word of every clock after reset
-pub record IsClockText (m : ModuleTree) (slowdown latency fill : ℕ) (inputs outputs : List StTree) (blocks : List (List ValueTree)) (text : List ℕ) : Type 0 where
+pub record IsClockText (m : ModuleTree) (slowdown latency fill : ℕ) (inputs outputs : List StTree)
+    (blocks : List (List ValueTree)) (text : List ℕ) : Type 0 where
   pub run : List ModuleClock
   pub long : length run ≡ 1 + clock_count slowdown latency (length blocks)
   pub fed : IsFed m slowdown fill inputs blocks run
-  pub lines : text ≡ clock_lines slowdown latency outputs (λ c. output_words m (clock_at run (1 + c))) (clock_count slowdown latency (length blocks))
+  pub lines : text ≡ clock_lines slowdown latency outputs (λ c. output_words m (clock_at run (1 + c)))
+      (clock_count slowdown latency (length blocks))
 
 -- the sums are those of the run of this module on the blocks
-pub record AreClockSums (m : ModuleTree) (slowdown latency fill : ℕ) (inputs outputs : List StTree) (blocks : List (List ValueTree)) (sums : Sums) : Type 0 where
+pub record AreClockSums (m : ModuleTree) (slowdown latency fill : ℕ) (inputs outputs : List StTree)
+    (blocks : List (List ValueTree)) (sums : Sums) : Type 0 where
   pub run : List ModuleClock
   pub long : length run ≡ 1 + clock_count slowdown latency (length blocks)
   pub fed : IsFed m slowdown fill inputs blocks run
-  pub are : AreSums slowdown latency outputs (λ c. output_words m (clock_at run (1 + c))) (clock_count slowdown latency (length blocks)) sums
+  pub are : AreSums slowdown latency outputs (λ c. output_words m (clock_at run (1 + c)))
+      (clock_count slowdown latency (length blocks)) sums
 
 -- the words are those of all inputs but the clock, and of all outputs, in the run of this module on the blocks
-pub record AreClockWords (m : ModuleTree) (slowdown latency fill : ℕ) (inputs : List StTree) (blocks : List (List ValueTree)) (words : List ℕ) : Type 0 where
+pub record AreClockWords (m : ModuleTree) (slowdown latency fill : ℕ) (inputs : List StTree)
+    (blocks : List (List ValueTree)) (words : List ℕ) : Type 0 where
   pub run : List ModuleClock
   pub long : length run ≡ 1 + clock_count slowdown latency (length blocks)
   pub fed : IsFed m slowdown fill inputs blocks run
-  pub are : words ≡ port_words (λ c. input_words m (clock_at run (1 + c))) (λ c. output_words m (clock_at run (1 + c))) (clock_count slowdown latency (length blocks))
+  pub are : words ≡ port_words (λ c. input_words m (clock_at run (1 + c))) (λ c. output_words m (clock_at run (1 + c)))
+      (clock_count slowdown latency (length blocks))

@@ -37,7 +37,8 @@ ports_of m = map port_of (filter is_port m.nets)
 -- a port for each word of a lane, from word number k on
 abbrev pub ports_of_words : (named : ℕ → List ℕ) (is_output : Bool) (k : ℕ) → List WordKind → List ModulePort
 ports_of_words named out k [] = []
-ports_of_words named out k (w ∷ ws) = record { name = named k; width = w.width; is_output = out } ∷ ports_of_words named out (k + 1) ws
+ports_of_words named out k (w ∷ ws) =
+    record { name = named k; width = w.width; is_output = out } ∷ ports_of_words named out (k + 1) ws
 
 -- the ports of the first lanes, lane by lane and in it word by word
 abbrev pub ports_of_lanes : (named : ℕ → ℕ → List ℕ) (is_output : Bool) → List WordKind → (lanes : ℕ) → List ModulePort
@@ -76,15 +77,21 @@ abbrev pub wave : List ModuleClock → (start : ℕ) → List ModulePort → (cl
 wave run start ports c column = (clock_at run (start + c)).word (get_or (map name_of ports) column [])
 
 -- from clock k on, the ports of each layout hold the value of its number
-pub record BundlesHold (run : List ModuleClock) (start k : ℕ) (ports : ℕ → StTree → List ModulePort) (layouts : List StTree) (values : List ValueTree) : Type 0 where
-  pub each : (q : ℕ) (s : StTree) → slice_get layouts q ≡ Some s → Holds (wave run start (ports q s)) k (element_words s) (slots s) (flat (at values q))
+pub record BundlesHold (run : List ModuleClock) (start k : ℕ) (ports : ℕ → StTree → List ModulePort)
+    (layouts : List StTree) (values : List ValueTree) : Type 0 where
+  pub each : (q : ℕ) (s : StTree) → slice_get layouts q ≡ Some s
+      → Holds (wave run start (ports q s)) k (element_words s) (slots s) (flat (at values q))
 
 -- in a reset run, where every block of arguments stands on the inputs, one behind the other without a gap, the program's
 -- results of each block stand on the outputs, all of them so many clocks later
-pub record KeepsBlocks (m : ModuleTree) (p : ProgramTree) (slowdown latency : ℕ) (inputs outputs : List StTree) : Type 0 where
-  pub results : (run : List ModuleClock) (start : ℕ) (blocks : List (List ValueTree)) → IsResetRun m run start → start + (latency + length blocks * slowdown) ≤ length run
-      → ((b : ℕ) (block : List ValueTree) → slice_get blocks b ≡ Some block → AreValues (parameter_types p) block × BundlesHold run start (b * slowdown) param_ports inputs block)
-      → (b : ℕ) (block : List ValueTree) → slice_get blocks b ≡ Some block → BundlesHold run start (latency + b * slowdown) (result_ports (length outputs)) outputs (mean p block)
+pub record KeepsBlocks (m : ModuleTree) (p : ProgramTree) (slowdown latency : ℕ)
+    (inputs outputs : List StTree) : Type 0 where
+  pub results : (run : List ModuleClock) (start : ℕ) (blocks : List (List ValueTree)) → IsResetRun m run start
+      → start + (latency + length blocks * slowdown) ≤ length run
+      → ((b : ℕ) (block : List ValueTree) → slice_get blocks b ≡ Some block → AreValues (parameter_types p) block
+      × BundlesHold run start (b * slowdown) param_ports inputs block)
+      → (b : ℕ) (block : List ValueTree) → slice_get blocks b ≡ Some block
+      → BundlesHold run start (latency + b * slowdown) (result_ports (length outputs)) outputs (mean p block)
 
 -- the module is correct for the program at a slowdown and with a latency
 pub record IsCorrect (m : ModuleTree) (p : ProgramTree) (slowdown latency : ℕ) : Type 0 where

@@ -38,7 +38,8 @@ trips_by source out origins =
       source = source (get_or origins o (fixed 0));
     } in t) (range_with_len 0 (st_atoms out * element_words out))
 
-out_trimmed : (source : OriginTree → SourceTree) (out : StTree) (origins : List OriginTree) → trips_by source out origins ≡ trips_by source (trimmed out) origins
+out_trimmed : (source : OriginTree → SourceTree) (out : StTree) (origins : List OriginTree)
+    → trips_by source out origins ≡ trips_by source (trimmed out) origins
 out_trimmed source (atom x) origins = refl
 out_trimmed source (tseq n i t) origins = refl
 out_trimmed source (sseq n t) origins = refl
@@ -68,7 +69,11 @@ trip_by source out origins o = record {
 trips_from : (a out : StTree) (origins : List OriginTree) → trips_by (source_of (a ∷ [])) out origins ≡ trips_by (source_of (trimmed a ∷ [])) out origins
 trips_from a out origins =
     same_map (trip_by (source_of (a ∷ [])) out origins) (trip_by (source_of (trimmed a ∷ [])) out origins)
-    (λ o. ap (λ (s : SourceTree). let t : TripTree = record { clock = (slot_number out (o / element_words out)).clock; column = column_number out (o / element_words out) (o % element_words out); source = s } in t)
+    (λ o. ap (λ (s : SourceTree). let t : TripTree = record {
+      clock = (slot_number out (o / element_words out)).clock;
+      column = column_number out (o / element_words out) (o % element_words out);
+      source = s;
+    } in t)
     (source_trimmed a (get_or origins o (fixed 0))))
     (range_with_len 0 (st_atoms out * element_words out))
 
@@ -93,7 +98,8 @@ aged d q c (place k p) on = ap (λ b. cond b (c + d - k) 0) on
 aged d q c (constant w) on = cc
 
 -- all uses of the column are within both periods
-same_taken : (p r d q k : ℕ) (trips : List TripTree) → ((n : ℕ) (t : TripTree) → slice_get trips n ≡ Some t → (age_from d q t.clock t.source ≤ p) × (age_from d q t.clock t.source ≤ r))
+same_taken : (p r d q k : ℕ) (trips : List TripTree) → ((n : ℕ) (t : TripTree) → slice_get trips n ≡ Some t → (age_from d q t.clock t.source ≤ p)
+    × (age_from d q t.clock t.source ≤ r))
     → list_all (taken p d k) (uses_of q trips) ≡ list_all (taken r d k) (uses_of q trips)
 same_taken p r d q k [] h = refl
 same_taken p r d q k (t ∷ ts) h = by (is_in_column q t.source) refl (same_taken p r d q k ts (λ n x f. h (suc n) x f))
@@ -137,7 +143,8 @@ same_sum f g a (suc n) h =
     ∙ ap (λ x. g a + x) (same_sum f g (a + 1) n (λ q l m. h q (omega (arith, l)) (omega (arith, m))))
     ∙ sym (sum_by-cons g a (range_with_len (a + 1) n))
 
-same_period : (p r d columns : ℕ) (trips : List TripTree) → delay_of d columns trips ≤ p → delay_of d columns trips ≤ r → mems_of p d columns trips ≡ mems_of r d columns trips
+same_period : (p r d columns : ℕ) (trips : List TripTree) → delay_of d columns trips ≤ p → delay_of d columns trips ≤ r
+    → mems_of p d columns trips ≡ mems_of r d columns trips
 same_period p r d columns trips hp hr =
     same_sum (λ q. column_mems p d q trips) (λ q. column_mems r d q trips) 0 columns (λ q l m.
     let part : column_delay d q trips ≤ delay_of d columns trips = one_of (λ x. column_delay d x trips) 0 columns q l m in
@@ -153,10 +160,17 @@ costs_by trips ins outs period = record {
   mems = mems_of period (latency_of_trips trips) ins trips;
 }
 
-in_period : (trips : List TripTree) (ins outs p r : ℕ) → (p ≡ r) ⊎ ((delay_of (latency_of_trips trips) ins trips ≤ p) × (delay_of (latency_of_trips trips) ins trips ≤ r)) → costs_by trips ins outs p ≡ costs_by trips ins outs r
+in_period : (trips : List TripTree) (ins outs p r : ℕ) → (p ≡ r)
+    ⊎ ((delay_of (latency_of_trips trips) ins trips ≤ p) × (delay_of (latency_of_trips trips) ins trips ≤ r))
+    → costs_by trips ins outs p ≡ costs_by trips ins outs r
 in_period trips ins outs p r (inl e) = ap (costs_by trips ins outs) e
 in_period trips ins outs p r (inr h) =
-    ap (λ m. let c : MoveCosts = record { latency = latency_of_trips trips; delay = delay_of (latency_of_trips trips) ins trips; runs = runs_of (latency_of_trips trips) outs trips; mems = m } in c)
+    ap (λ m. let c : MoveCosts = record {
+      latency = latency_of_trips trips;
+      delay = delay_of (latency_of_trips trips) ins trips;
+      runs = runs_of (latency_of_trips trips) outs trips;
+      mems = m;
+    } in c)
     (same_period p r (latency_of_trips trips) ins trips h.0 h.1)
 
 -- the move from b to t costs what that from a to s does
@@ -165,7 +179,8 @@ alike_costs : (how : MoveOp) (a s b t : StTree) → trimmed a ≡ trimmed b → 
     → costs_of_move (op_move how a s) ≡ costs_of_move (op_move how b t)
 alike_costs how a s b t ea es near =
     let trips : move_trips (op_move how a s) ≡ move_trips (op_move how b t) =
-    trips_trimmed how a s ∙ ap (λ x. move_trips (op_move how x (trimmed s))) ea ∙ ap (λ y. move_trips (op_move how (trimmed b) y)) es ∙ sym (trips_trimmed how b t) in
+    trips_trimmed how a s ∙ ap (λ x. move_trips (op_move how x (trimmed s))) ea ∙ ap (λ y. move_trips (op_move how (trimmed b) y)) es ∙
+    sym (trips_trimmed how b t) in
     let ins : columns_of a ≡ columns_of b = columns_trimmed a ∙ ap columns_of ea ∙ sym (columns_trimmed b) in
     let outs : columns_of s ≡ columns_of t = columns_trimmed s ∙ ap columns_of es ∙ sym (columns_trimmed t) in
     in_period (move_trips (op_move how a s)) (sum_by columns_of (a ∷ [])) (columns_of s) (time s) (time t) near
@@ -174,7 +189,8 @@ alike_costs how a s b t ea es near =
     ∙ ap (λ n. costs_by (move_trips (op_move how b t)) (sum_by columns_of (b ∷ [])) n (time t)) outs
 
 -- the same, where the costs, the clocks and the operator have other names
-pub like_costs : (how to : MoveOp) (a s b t : StTree) (c : MoveCosts) (p r : ℕ) → c ≡ costs_of_move (op_move how a s) → p ≡ time s → r ≡ time t → how ≡ to → (p ≡ r) ⊎ ((c.delay ≤ p) × (c.delay ≤ r))
+pub like_costs : (how to : MoveOp) (a s b t : StTree) (c : MoveCosts) (p r : ℕ) → c ≡ costs_of_move (op_move how a s) → p ≡ time s → r ≡ time t → how ≡ to
+    → (p ≡ r) ⊎ ((c.delay ≤ p) × (c.delay ≤ r))
     → trimmed a ≡ trimmed b → trimmed s ≡ trimmed t → c ≡ costs_of_move (op_move to b t)
 like_costs how to a s b t c p r right ep er eh near ea es =
     let kept : c.delay ≡ (costs_of_move (op_move how a s)).delay = ap (λ (x : MoveCosts). x.delay) right in
@@ -185,5 +201,7 @@ like_costs how to a s b t c p r right ep er eh near ea es =
     ] in
     right ∙ alike_costs how a s b t ea es within ∙ ap (λ h. costs_of_move (op_move h b t)) eh
 
-pub small_op : (how : MoveOp) (a s : StTree) (c : MoveCosts) → IsInSize a → IsInSize s → time a ≡ time s → element_atom a ≡ element_atom s → IsMoveFrom how (st_atoms a) (st_atoms s) → c ≡ costs_of_move (op_move how a s) → AreSmall c
-small_op how a s c size out clocks same from e = rw e (small_move (op_move how a s) (op_is_move how a s size out clocks same from) (omega (arith, columns_small a size)))
+pub small_op : (how : MoveOp) (a s : StTree) (c : MoveCosts) → IsInSize a → IsInSize s → time a ≡ time s → element_atom a ≡ element_atom s
+    → IsMoveFrom how (st_atoms a) (st_atoms s) → c ≡ costs_of_move (op_move how a s) → AreSmall c
+small_op how a s c size out clocks same from e =
+    rw e (small_move (op_move how a s) (op_is_move how a s size out clocks same from) (omega (arith, columns_small a size)))

@@ -57,7 +57,8 @@ pub deepened_at : (cs : List ℕ) (us : List Use) (i : ℕ) → AreUses us (leng
 deepened_at cs [] i h = omega arith
 deepened_at cs (u ∷ us) i h =
     let long : length (deepened_by cs u) ≡ length cs = length-set cs u.item (max (get_or cs u.item 0) u.slack) in
-    let r : get_or (deepened (deepened_by cs u) us) i 0 ≡ max (get_or (deepened_by cs u) i 0) (chain_of us i) = deepened_at (deepened_by cs u) us i (rest_uses u us (length cs) (length (deepened_by cs u)) long h) in
+    let r : get_or (deepened (deepened_by cs u) us) i 0 ≡ max (get_or (deepened_by cs u) i 0) (chain_of us i) = deepened_at (deepened_by cs u) us i
+    (rest_uses u us (length cs) (length (deepened_by cs u)) long h) in
     let one : get_or (deepened_by cs u) i 0 ≡ max (get_or cs i 0) (slack_at i u) = one_deeper cs u i (h.each 0 u refl) in
     let all : chain_of (u ∷ us) i ≡ max (max 0 (slack_at i u)) (chain_of us i) = greatest_from (slack_at i) (max 0 (slack_at i u)) us in
     omega (arith, r, one, all)
@@ -66,29 +67,48 @@ deepened_at cs (u ∷ us) i h =
 
 no_change : (f g : ℕ → ℕ) (p a n : ℕ) → ((i : ℕ) → (i ≡ p → ⊥) → g i ≡ f i) → p < a → sum_by g (range_with_len a n) ≤ sum_by f (range_with_len a n)
 no_change f g p a zero h l = omega arith
-no_change f g p a (suc n) h l = omega (arith, sum_by-cons f a (range_with_len (a + 1) n), sum_by-cons g a (range_with_len (a + 1) n), no_change f g p (a + 1) n h (omega arith), h a (λ e. omega arith))
+no_change f g p a (suc n) h l =
+    omega (
+      arith,
+      sum_by-cons f a (range_with_len (a + 1) n),
+      sum_by-cons g a (range_with_len (a + 1) n),
+      no_change f g p (a + 1) n h (omega arith),
+      h a (λ e. omega arith),
+    )
 
-one_change : (f g : ℕ → ℕ) (p a n more : ℕ) → ((i : ℕ) → (i ≡ p → ⊥) → g i ≡ f i) → g p ≤ f p + more → sum_by g (range_with_len a n) ≤ sum_by f (range_with_len a n) + more
+one_change : (f g : ℕ → ℕ) (p a n more : ℕ) → ((i : ℕ) → (i ≡ p → ⊥) → g i ≡ f i) → g p ≤ f p + more
+    → sum_by g (range_with_len a n) ≤ sum_by f (range_with_len a n) + more
 one_change f g p a zero more h l = omega arith
 one_change f g p a (suc n) more h l = elim (cases_eq a p) [
-  | inl e ↦ (let here : g a ≤ f a + more = rw e l in omega (arith, sum_by-cons f a (range_with_len (a + 1) n), sum_by-cons g a (range_with_len (a + 1) n), no_change f g p (a + 1) n h (omega arith), here))
+  | inl e ↦ (let here : g a ≤ f a + more = rw e l in omega (
+    arith,
+    sum_by-cons f a (range_with_len (a + 1) n),
+    sum_by-cons g a (range_with_len (a + 1) n),
+    no_change f g p (a + 1) n h (omega arith),
+    here,
+  ))
   | inr ne ↦ omega (arith, sum_by-cons f a (range_with_len (a + 1) n), sum_by-cons g a (range_with_len (a + 1) n), one_change f g p (a + 1) n more h l, h a ne)
 ]
 
-one_chained : (layouts : List StTree) (cs : List ℕ) (u : Use) → u.item < length cs → chained layouts (deepened_by cs u) ≤ chained layouts cs + u.slack * columns_of (item_layout layouts u.item)
+one_chained : (layouts : List StTree) (cs : List ℕ) (u : Use) → u.item < length cs
+    → chained layouts (deepened_by cs u) ≤ chained layouts cs + u.slack * columns_of (item_layout layouts u.item)
 one_chained layouts cs u low =
-    one_change (λ i. columns_of (item_layout layouts i) * get_or cs i 0) (λ i. columns_of (item_layout layouts i) * get_or (deepened_by cs u) i 0) u.item 0 (length layouts) (u.slack * columns_of (item_layout layouts u.item))
+    one_change (λ i. columns_of (item_layout layouts i) * get_or cs i 0) (λ i. columns_of (item_layout layouts i) * get_or (deepened_by cs u) i 0) u.item 0
+    (length layouts) (u.slack * columns_of (item_layout layouts u.item))
     (λ i ne. ap (λ x. columns_of (item_layout layouts i) * x) (get_or-set_other cs u.item i (max (get_or cs u.item 0) u.slack) 0 ne))
     (let r : get_or (deepened_by cs u) u.item 0 ≡ max (get_or cs u.item 0) u.slack = get_or-set_same cs u.item (max (get_or cs u.item 0) u.slack) 0 low in
     let m : max (get_or cs u.item 0) u.slack ≤ get_or cs u.item 0 + u.slack = omega arith in
-    let l : columns_of (item_layout layouts u.item) * max (get_or cs u.item 0) u.slack ≤ columns_of (item_layout layouts u.item) * (get_or cs u.item 0 + u.slack) = mul-le-mul_left (columns_of (item_layout layouts u.item)) m in
+    let l : columns_of (item_layout layouts u.item) * max (get_or cs u.item 0) u.slack ≤ columns_of
+    (item_layout layouts u.item) * (get_or cs u.item 0 + u.slack) = mul-le-mul_left (columns_of (item_layout layouts u.item)) m in
     rw r (omega (arith, l)))
 
-pub chained_deepened : (layouts : List StTree) (cs : List ℕ) (us : List Use) → AreUses us (length cs) → chained layouts (deepened cs us) ≤ chained layouts cs + slack_load layouts us
+pub chained_deepened : (layouts : List StTree) (cs : List ℕ) (us : List Use) → AreUses us (length cs)
+    → chained layouts (deepened cs us) ≤ chained layouts cs + slack_load layouts us
 chained_deepened layouts cs [] h = omega arith
 chained_deepened layouts cs (u ∷ us) h =
     let long : length (deepened_by cs u) ≡ length cs = length-set cs u.item (max (get_or cs u.item 0) u.slack) in
-    let r : chained layouts (deepened (deepened_by cs u) us) ≤ chained layouts (deepened_by cs u) + slack_load layouts us = chained_deepened layouts (deepened_by cs u) us (rest_uses u us (length cs) (length (deepened_by cs u)) long h) in
+    let r : chained layouts (deepened (deepened_by cs u) us) ≤ chained layouts (deepened_by cs u) + slack_load layouts us = chained_deepened layouts
+    (deepened_by cs u) us (rest_uses u us (length cs) (length (deepened_by cs u)) long h) in
     omega (arith, r, one_chained layouts cs u (h.each 0 u refl), sum_by-cons (λ (v : Use). v.slack * columns_of (item_layout layouts v.item)) u us)
 
 no_sum : (a n : ℕ) → sum_by (λ i. 0) (range_with_len a n) ≡ 0
@@ -98,7 +118,8 @@ no_sum a (suc n) = omega (arith, sum_by-cons (λ (i : ℕ). 0) a (range_with_len
 -- before the first use
 pub chained_none : (layouts : List StTree) (cs : List ℕ) → ((i : ℕ) → get_or cs i 0 ≡ 0) → chained layouts cs ≡ 0
 chained_none layouts cs h =
-    let l : chained layouts cs ≤ sum_by (λ i. 0) (range_with_len 0 (length layouts)) = sum_below (λ i. columns_of (item_layout layouts i) * get_or cs i 0) (λ i. 0) 0 (length layouts) (λ i. rw (h i) (omega arith)) in
+    let l : chained layouts cs ≤ sum_by (λ i. 0) (range_with_len 0 (length layouts)) = sum_below (λ i. columns_of (item_layout layouts i) * get_or cs i 0)
+    (λ i. 0) 0 (length layouts) (λ i. rw (h i) (omega arith)) in
     omega (arith, l, no_sum 0 (length layouts))
 
 -- ---- the memories of chains
@@ -107,18 +128,24 @@ pub range_le : (f : ℕ → ℕ) (i n : ℕ) → i ≤ n → sum_by f (range_wit
 range_le f i zero h = let z : i ≡ 0 = omega arith in rw z (omega arith)
 range_le f i (suc n) h = elim (cases_eq i (suc n)) [
   | inl e ↦ rw e (omega arith)
-  | inr ne ↦ (let s : n + 1 ≡ suc n = omega arith in let more : sum_by f (range_with_len 0 (suc n)) ≡ sum_by f (range_with_len 0 n) + f n = rw s at (sum_more f n) in omega (arith, more, range_le f i n (omega arith)))
+  | inr ne ↦ (let s : n + 1 ≡ suc n = omega arith in let more : sum_by f (range_with_len 0 (suc n)) ≡ sum_by f (range_with_len 0 n) + f n = rw s at
+      (sum_more f n) in omega (arith, more, range_le f i n (omega arith)))
 ]
 
-pub mems_le : (layouts : List StTree) (cs : List ℕ) → sum_by (λ i. columns_of (item_layout layouts i) * rings (get_or cs i 0)) (range_with_len 0 (length layouts)) ≤ chained layouts cs
-mems_le layouts cs = sum_below _ (λ i. columns_of (item_layout layouts i) * get_or cs i 0) 0 (length layouts) (λ i. mul-le-mul_left (columns_of (item_layout layouts i)) (rings_le (get_or cs i 0)))
+pub mems_le : (layouts : List StTree) (cs : List ℕ) → sum_by (λ i. columns_of (item_layout layouts i) * rings (get_or cs i 0))
+    (range_with_len 0 (length layouts)) ≤ chained layouts cs
+mems_le layouts cs =
+    sum_below _ (λ i. columns_of (item_layout layouts i) * get_or cs i 0) 0 (length layouts)
+    (λ i. mul-le-mul_left (columns_of (item_layout layouts i)) (rings_le (get_or cs i 0)))
 
 abbrev pub mems_at : (layouts : List StTree) (cs : List ℕ) → ℕ → ℕ
 mems_at layouts cs i = columns_of (item_layout layouts i) * rings (get_or cs i 0)
 
-pub next_mems : (layouts : List StTree) (cs : List ℕ) (i sum columns memories : ℕ) → sum ≡ sum_by (mems_at layouts cs) (range_with_len 0 i) → columns ≡ columns_of (item_layout layouts i) → memories ≡ rings (get_or cs i 0)
+pub next_mems : (layouts : List StTree) (cs : List ℕ) (i sum columns memories : ℕ) → sum ≡ sum_by (mems_at layouts cs) (range_with_len 0 i)
+    → columns ≡ columns_of (item_layout layouts i) → memories ≡ rings (get_or cs i 0)
     → sum + columns * memories ≡ sum_by (mems_at layouts cs) (range_with_len 0 (i + 1))
-next_mems layouts cs i sum columns memories h ec em = let own : columns * memories ≡ mems_at layouts cs i = rw (ec, em) refl in omega (arith, h, own, sum_more (mems_at layouts cs) i)
+next_mems layouts cs i sum columns memories h ec em =
+    let own : columns * memories ≡ mems_at layouts cs i = rw (ec, em) refl in omega (arith, h, own, sum_more (mems_at layouts cs) i)
 
 pub mems_fit : (layouts : List StTree) (cs : List ℕ) (i : ℕ) → i ≤ length layouts → sum_by (mems_at layouts cs) (range_with_len 0 i) ≤ chained layouts cs
 mems_fit layouts cs i h = omega (arith, range_le (mems_at layouts cs) i (length layouts) h, mems_le layouts cs)

@@ -23,7 +23,8 @@ use Rattle.ae_delay.specs.Weighing.{AreKnown, IsKnown, IsProgress}
 use Rattle.ae_delay.proofs.Chains.{chained_none}
 
 -- the layout of a node
-pub layout_node : (s : StFunc) (item : ℕ) (n : StNode) → length s.ins.items ≤ item → slice_get s.nodes.items (item - length s.ins.items) ≡ Some n → st_tree n.ty ≡ item_layout (item_layouts (st_func_tree s)) item
+pub layout_node : (s : StFunc) (item : ℕ) (n : StNode) → length s.ins.items ≤ item → slice_get s.nodes.items (item - length s.ins.items) ≡ Some n
+    → st_tree n.ty ≡ item_layout (item_layouts (st_func_tree s)) item
 layout_node s item n low found =
     let none : StTree = sseq 0 (atom (unsigned_word 1)) in
     let j : ℕ = item - length s.ins.items in
@@ -31,39 +32,48 @@ layout_node s item n low found =
     let a : slice_get (st_node_trees s.nodes.items) j ≡ Some (st_node_tree n) = get_mapped st_node_tree s.nodes.items j n found in
     let b : slice_get ls j ≡ Some (st_tree n.ty) = get_mapped (λ (m : StNodeTree). m.type) (st_node_trees s.nodes.items) j (st_node_tree n) a in
     let at : length (st_trees s.ins.items) + j ≡ item = omega (arith, length-map s.ins.items st_tree) in
-    sym (ap (λ i. get_or (st_trees s.ins.items ++ ls) i none) (sym at) ∙ get_or-append-add (st_trees s.ins.items) ls j none ∙ get_or_from_slice_get ls j (st_tree n.ty) none b)
+    sym (ap (λ i. get_or (st_trees s.ins.items ++ ls) i none) (sym at) ∙ get_or-append-add (st_trees s.ins.items) ls j none ∙
+    get_or_from_slice_get ls j (st_tree n.ty) none b)
 
-pub node_at : (s : StFunc) (item ins : ℕ) (n : StNode) → ins ≡ length s.ins.items → ins ≤ item → item < length (item_layouts (st_func_tree s)) → n ≡ get_or s.nodes.items (item - ins) n → st_tree n.ty ≡ item_layout (item_layouts (st_func_tree s)) item
+pub node_at : (s : StFunc) (item ins : ℕ) (n : StNode) → ins ≡ length s.ins.items → ins ≤ item → item < length (item_layouts (st_func_tree s))
+    → n ≡ get_or s.nodes.items (item - ins) n → st_tree n.ty ≡ item_layout (item_layouts (st_func_tree s)) item
 node_at s item ins n e low below read =
-    let long : length (item_layouts (st_func_tree s)) ≡ length (st_trees s.ins.items) + length (node_layouts (st_node_trees s.nodes.items)) = length-append (st_trees s.ins.items) (node_layouts (st_node_trees s.nodes.items)) in
-    let nodes : length (node_layouts (st_node_trees s.nodes.items)) ≡ length s.nodes.items = length-map (st_node_trees s.nodes.items) (λ (m : StNodeTree). m.type) ∙ length-map s.nodes.items st_node_tree in
+    let long : length (item_layouts (st_func_tree s)) ≡ length (st_trees s.ins.items) + length (node_layouts (st_node_trees s.nodes.items)) = length-append
+    (st_trees s.ins.items) (node_layouts (st_node_trees s.nodes.items)) in
+    let nodes : length (node_layouts (st_node_trees s.nodes.items)) ≡ length s.nodes.items = length-map (st_node_trees s.nodes.items)
+    (λ (m : StNodeTree). m.type) ∙ length-map s.nodes.items st_node_tree in
     let small : item - length s.ins.items < length s.nodes.items = omega (arith, long, nodes, length-map s.ins.items st_tree, e) in
     layout_node s item n (omega (arith, e)) (slice_get_read s.nodes.items (length s.nodes.items) (item - length s.ins.items) n refl small (rw e at read))
 
 -- ---- known costs
 
-pub known_at : (known : List (Option OwnCosts)) (costs : List OwnCosts) (k : ℕ) (o : Option OwnCosts) → AreKnown known costs → k < length known → o ≡ get_or known k o → (c : OwnCosts) × (slice_get costs k ≡ Some c) × IsKnown o c
+pub known_at : (known : List (Option OwnCosts)) (costs : List OwnCosts) (k : ℕ) (o : Option OwnCosts) → AreKnown known costs → k < length known
+    → o ≡ get_or known k o → (c : OwnCosts) × (slice_get costs k ≡ Some c) × IsKnown o c
 known_at known costs k o h l read =
     let found : slice_get known k ≡ Some o = slice_get_read known (length known) k o refl l read in
     let none : OwnCosts = record { latency = 0; load = 0; muls = 0; mems = 0 } in
     let there : slice_get costs k ≡ Some (get_or costs k none) = slice_get-get_or costs k none (omega (arith, h.long)) in
     (get_or costs k none, there, h.each k o (get_or costs k none) found there)
 
-pub known_is : (known : List (Option OwnCosts)) (costs : List OwnCosts) (k : ℕ) (o : Option OwnCosts) (c : OwnCosts) → AreKnown known costs → k < length known → o ≡ get_or known k o → slice_get costs k ≡ Some c → IsKnown o c
+pub known_is : (known : List (Option OwnCosts)) (costs : List OwnCosts) (k : ℕ) (o : Option OwnCosts) (c : OwnCosts) → AreKnown known costs → k < length known
+    → o ≡ get_or known k o → slice_get costs k ≡ Some c → IsKnown o c
 known_is known costs k o c h l read found = h.each k o c (slice_get_read known (length known) k o refl l read) found
 
-pub some_known : (known : List (Option OwnCosts)) (costs : List OwnCosts) (k : ℕ) (x : OwnCosts) → AreKnown known costs → k < length known → get_or known k None ≡ Some x → IsBounded x × (x.load < 1000000000)
+pub some_known : (known : List (Option OwnCosts)) (costs : List OwnCosts) (k : ℕ) (x : OwnCosts) → AreKnown known costs → k < length known
+    → get_or known k None ≡ Some x → IsBounded x × (x.load < 1000000000)
 some_known known costs k x h l is =
     let r : Some x ≡ get_or known k (Some x) = sym is ∙ get_or_default known k None (Some x) l in
     let a = known_at known costs k (Some x) h l r in
     (a.2.1, a.2.2)
 
-pub known_same : (known : List (Option OwnCosts)) (costs : List OwnCosts) (k : ℕ) (x c : OwnCosts) → AreKnown known costs → k < length known → get_or known k None ≡ Some x → slice_get costs k ≡ Some c → x ≡ c
+pub known_same : (known : List (Option OwnCosts)) (costs : List OwnCosts) (k : ℕ) (x c : OwnCosts) → AreKnown known costs → k < length known
+    → get_or known k None ≡ Some x → slice_get costs k ≡ Some c → x ≡ c
 known_same known costs k x c h l is found =
     let r : Some x ≡ get_or known k (Some x) = sym is ∙ get_or_default known k None (Some x) l in
     (known_is known costs k (Some x) c h l r found).0
 
-pub known_heavy : (known : List (Option OwnCosts)) (costs : List OwnCosts) (k : ℕ) (c : OwnCosts) → AreKnown known costs → k < length known → get_or known k None ≡ None → slice_get costs k ≡ Some c → 1000000000 ≤ c.load
+pub known_heavy : (known : List (Option OwnCosts)) (costs : List OwnCosts) (k : ℕ) (c : OwnCosts) → AreKnown known costs → k < length known
+    → get_or known k None ≡ None → slice_get costs k ≡ Some c → 1000000000 ≤ c.load
 known_heavy known costs k c h l is found = known_is known costs k None c h l (sym is) found
 
 pub heavy_body : (copies : ℕ) (c : OwnCosts) → 1 ≤ copies → 1000000000 ≤ c.load → 1000000000 ≤ 1 + copies * c.load
@@ -73,20 +83,25 @@ pub known_as : (o : Option OwnCosts) (a b : OwnCosts) → a ≡ b → IsKnown o 
 known_as o a b e h = subst (IsKnown o) e h
 
 -- the costs of an instance that a node calls
-pub body_is : (costs : List OwnCosts) (k copies : ℕ) (a s : StTree) (op : StOpTree) (c : OwnCosts) → op ≡ body k → slice_get costs k ≡ Some c → body_costs copies c ≡ op_costs costs a s copies op
+pub body_is : (costs : List OwnCosts) (k copies : ℕ) (a s : StTree) (op : StOpTree) (c : OwnCosts) → op ≡ body k → slice_get costs k ≡ Some c
+    → body_costs copies c ≡ op_costs costs a s copies op
 body_is costs k copies a s op c e found = rw (e, get_or_from_slice_get costs k c wire_costs found) refl
 
-pub fixed_is : (costs : List OwnCosts) (words ws : List ℕ) (a s : StTree) (copies : ℕ) (op : StOpTree) → op ≡ fixed ws → words ≡ ws → constant_costs (costs_of_move (constant_move words s)) ≡ op_costs costs a s copies op
+pub fixed_is : (costs : List OwnCosts) (words ws : List ℕ) (a s : StTree) (copies : ℕ) (op : StOpTree) → op ≡ fixed ws → words ≡ ws
+    → constant_costs (costs_of_move (constant_move words s)) ≡ op_costs costs a s copies op
 fixed_is costs words ws a s copies op e w = rw (e, w) refl
 
-pub move_is : (costs : List OwnCosts) (how : MoveOp) (b a s : StTree) (copies : ℕ) (op : StOpTree) → op ≡ move how → b ≡ a → moved_costs (costs_of_move (op_move how b s)) ≡ op_costs costs a s copies op
+pub move_is : (costs : List OwnCosts) (how : MoveOp) (b a s : StTree) (copies : ℕ) (op : StOpTree) → op ≡ move how → b ≡ a
+    → moved_costs (costs_of_move (op_move how b s)) ≡ op_costs costs a s copies op
 move_is costs how b a s copies op e w = rw (e, w) refl
 
-pub one_arg : (k budget : ℕ) (f : ℕ → StTree) (args : List ℕ) (s : StTree) (op : StOpTree) (how : MoveOp) → op ≡ move how → IsSoundOp k budget (map f args) s op → 0 < length args
+pub one_arg : (k budget : ℕ) (f : ℕ → StTree) (args : List ℕ) (s : StTree) (op : StOpTree) (how : MoveOp) → op ≡ move how
+    → IsSoundOp k budget (map f args) s op → 0 < length args
 one_arg k budget f [] s op how e h = absurd (rw e at h)
 one_arg k budget f (x ∷ xs) s op how e h = omega arith
 
-pub cost_there : (known : List (Option OwnCosts)) (costs : List OwnCosts) (k : ℕ) → AreKnown known costs → k < length known → slice_get costs k ≡ Some (get_or costs k wire_costs)
+pub cost_there : (known : List (Option OwnCosts)) (costs : List OwnCosts) (k : ℕ) → AreKnown known costs → k < length known
+    → slice_get costs k ≡ Some (get_or costs k wire_costs)
 cost_there known costs k h l = slice_get-get_or costs k wire_costs (omega (arith, h.long))
 
 -- ---- before the first node
@@ -104,11 +119,15 @@ zero_at n i = elim (cases_lt i n) [
   | inr l ↦ (let z : ℕ = 0 in get_or_past (replicate n z) i z (omega (arith, length-replicate {A = ℕ} n z)))
 ]
 
-pub begun : (s : StFunc) (limit : ℕ) (p : Progress) → p.arrivals.items ≡ replicate (length s.ins.items) 0 → p.chains.items ≡ replicate (length s.ins.items + length s.nodes.items) 0 → p.costs.items ≡ [] → p.load ≡ 0 → p.muls ≡ 0 → p.mems ≡ 0 → IsProgress (st_func_tree s) [] limit p
+pub begun : (s : StFunc) (limit : ℕ) (p : Progress) → p.arrivals.items ≡ replicate (length s.ins.items) 0
+    → p.chains.items ≡ replicate (length s.ins.items + length s.nodes.items) 0 → p.costs.items ≡ [] → p.load ≡ 0 → p.muls ≡ 0 → p.mems ≡ 0
+    → IsProgress (st_func_tree s) [] limit p
 begun s limit p ea ec eo el eu em =
-    let nodes : length (node_layouts (st_node_trees s.nodes.items)) ≡ length s.nodes.items = length-map (st_node_trees s.nodes.items) (λ (m : StNodeTree). m.type) ∙ length-map s.nodes.items st_node_tree in
+    let nodes : length (node_layouts (st_node_trees s.nodes.items)) ≡ length s.nodes.items = length-map (st_node_trees s.nodes.items)
+    (λ (m : StNodeTree). m.type) ∙ length-map s.nodes.items st_node_tree in
     let ins : length (st_trees s.ins.items) ≡ length s.ins.items = length-map s.ins.items st_tree in
-    let all : length (item_layouts (st_func_tree s)) ≡ length s.ins.items + length s.nodes.items = omega (arith, length-append (st_trees s.ins.items) (node_layouts (st_node_trees s.nodes.items)), nodes, ins) in
+    let all : length (item_layouts (st_func_tree s)) ≡ length s.ins.items + length
+    s.nodes.items = omega (arith, length-append (st_trees s.ins.items) (node_layouts (st_node_trees s.nodes.items)), nodes, ins) in
     let zeros : (i : ℕ) → get_or p.chains.items i 0 ≡ 0 = λ i. rw ec (zero_at (length s.ins.items + length s.nodes.items) i) in
     record {
       arrivals = ea ∙ (ap (λ n. replicate n 0) (sym ins) ∙ zero_arrivals (st_trees s.ins.items));

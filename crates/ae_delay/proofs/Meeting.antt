@@ -46,7 +46,8 @@ meets_more nodes i x n old new before after found low en eb ea =
     ea ∙ (ap (λ ts. ts ++ latest old n.args ∷ []) eb ∙ (sym more ∙ (sym kept ∙ ap (λ xs. meets_of xs (take (i + 1) nodes)) (sym en))))
 
 -- the arguments of the nodes so far have all come
-pub all_arrived : (costs : List OwnCosts) (k : ℕ) (s : StFuncTree) (i limit : ℕ) (p : Progress) → IsSoundFunc k s → i < length s.nodes → IsProgress s (timings_to costs s i) limit p
+pub all_arrived : (costs : List OwnCosts) (k : ℕ) (s : StFuncTree) (i limit : ℕ) (p : Progress) → IsSoundFunc k s → i < length s.nodes
+    → IsProgress s (timings_to costs s i) limit p
     → (j : ℕ) (m : StNodeTree) → j < i + 1 → slice_get s.nodes j ≡ Some m → AllBelow m.args (length p.arrivals.items)
 all_arrived costs k s i limit p h le g j m low f r a found =
     let l : a < length (s.ins ++ node_layouts (take j s.nodes)) = (h.nodes j m f).args r a found in

@@ -12,15 +12,19 @@ use Rattle.ae_delay.specs.Costs.{latest, node_costs, node_timing, slack_load, us
 use Rattle.ae_delay.specs.Weighing.{AllBelow, IsNext, deepened}
 
 -- nothing arrives later than what none passes
-pub latest_le : (arrivals items : List ℕ) (m : ℕ) → AllBelow items (length arrivals) → ((i a : ℕ) → slice_get arrivals i ≡ Some a → a ≤ m) → latest arrivals items ≤ m
-latest_le arrivals items m below early = lead_le (λ a. get_or arrivals a 0) 0 m items (omega arith) (λ a k f. early a (get_or arrivals a 0) (slice_get-get_or arrivals a 0 (below k a f)))
+pub latest_le : (arrivals items : List ℕ) (m : ℕ) → AllBelow items (length arrivals) → ((i a : ℕ) → slice_get arrivals i ≡ Some a → a ≤ m)
+    → latest arrivals items ≤ m
+latest_le arrivals items m below early =
+    lead_le (λ a. get_or arrivals a 0) 0 m items (omega arith) (λ a k f. early a (get_or arrivals a 0) (slice_get-get_or arrivals a 0 (below k a f)))
 
 abbrev pub priced : (latency load muls : ℕ) → Cost
 priced a b c = record { latency = a; load = b; muls = c }
 
 pub next_node : (costs : List OwnCosts) (layouts : List StTree) (n : StNodeTree) (limit : ℕ) (old new : Progress) (own : OwnCosts) (start slack : ℕ)
-    → own ≡ node_costs costs layouts n → IsBounded own → start ≡ latest old.arrivals.items n.args → slack ≡ slack_load layouts (uses_at old.arrivals.items start n.args) → start ≤ old.load
-    → new.arrivals.items ≡ old.arrivals.items ++ (start + own.latency) ∷ [] → new.chains.items ≡ deepened old.chains.items (uses_at old.arrivals.items start n.args)
+    → own ≡ node_costs costs layouts n → IsBounded own → start ≡ latest old.arrivals.items n.args
+    → slack ≡ slack_load layouts (uses_at old.arrivals.items start n.args) → start ≤ old.load
+    → new.arrivals.items ≡ old.arrivals.items ++ (start + own.latency) ∷ []
+    → new.chains.items ≡ deepened old.chains.items (uses_at old.arrivals.items start n.args)
     → new.costs.items ≡ old.costs.items ++ priced own.latency (own.load + slack) own.muls ∷ []
     → new.load ≡ old.load + (own.load + slack) → new.muls ≡ old.muls + own.muls → new.mems ≡ old.mems + own.mems → new.load ≤ limit
     → IsNext layouts (node_timing costs layouts old.arrivals.items n) limit old new

@@ -63,7 +63,8 @@ many_by false x y m n p q = inr (p, q)
 many_both : (slots x y m n : ℕ) → x ≡ where_many slots m → y ≡ where_many slots n → ((x ≡ m) × (y ≡ n)) ⊎ ((x ≡ 0) × (y ≡ 0))
 many_both slots x y m n p q = many_by (nat_lt 1 slots) x y m n p q
 
-memories_le : (slots columns inner registers x y plus ring : ℕ) → ring ≡ rings inner → x ≡ where_many slots (plus + inner) → y ≡ where_many slots (columns * ring) → x ≤ registers → y ≤ columns * registers
+memories_le : (slots columns inner registers x y plus ring : ℕ) → ring ≡ rings inner → x ≡ where_many slots (plus + inner)
+    → y ≡ where_many slots (columns * ring) → x ≤ registers → y ≤ columns * registers
 memories_le slots columns inner registers x y plus ring r p q h = elim (many_both slots x y (plus + inner) (columns * ring) p q) [
   | inl e ↦ (let l : columns * ring ≤ columns * registers = mul-le-mul_left columns (omega (arith, rings_le inner, e.0, r)) in omega (arith, e.1, l))
   | inr e ↦ omega (arith, e.1)
@@ -72,7 +73,8 @@ memories_le slots columns inner registers x y plus ring r p q h = elim (many_bot
 abbrev pub owned : (latency load muls mems : ℕ) → OwnCosts
 owned a b c d = record { latency = a; load = b; muls = c; mems = d }
 
-pub scan_bounded : (slots columns lanes count inner sub one more thrice mul memory ring products : ℕ) → columns ≤ 16384 → lanes ≤ 4096 → count ≤ 12 → inner ≤ 4096 → one ≤ 1 → more ≤ lanes → sub ≤ count * lanes → products ≡ sub + more → mul ≤ columns * products
+pub scan_bounded : (slots columns lanes count inner sub one more thrice mul memory ring products : ℕ) → columns ≤ 16384 → lanes ≤ 4096 → count ≤ 12
+    → inner ≤ 4096 → one ≤ 1 → more ≤ lanes → sub ≤ count * lanes → products ≡ sub + more → mul ≤ columns * products
     → ring ≡ rings inner → thrice ≤ 3 * lanes + inner → thrice ≡ where_many slots (3 * lanes + inner) → memory ≡ where_many slots (columns * ring)
     → IsBounded (owned (count + one) (1 + (count + one) + columns * (lanes * (1 + 2 * count) + thrice)) mul memory)
 scan_bounded slots columns lanes count inner sub one more thrice mul memory ring products hc hl hk hi ho hm hs ep hp hr ht et em =

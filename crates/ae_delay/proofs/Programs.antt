@@ -21,7 +21,8 @@ use Rattle.ae_delay.proofs.Light.{costs_more, load_at, used_light}
 
 -- ---- known costs, with one more
 
-push_cases : {X : Type 0} (xs : List X) (y : X) (i : ℕ) (x : X) → slice_get (xs ++ y ∷ []) i ≡ Some x → ((i < length xs) × (slice_get xs i ≡ Some x)) ⊎ ((i ≡ length xs) × (y ≡ x))
+push_cases : {X : Type 0} (xs : List X) (y : X) (i : ℕ) (x : X) → slice_get (xs ++ y ∷ []) i ≡ Some x → ((i < length xs) × (slice_get xs i ≡ Some x))
+    ⊎ ((i ≡ length xs) × (y ≡ x))
 push_cases xs y i x f = elim (cases_lt i (length xs)) [
   | inl low ↦ inl (low, get_of_front xs (y ∷ []) i x f low)
   | inr high ↦
@@ -31,7 +32,8 @@ push_cases xs y i x f = elim (cases_lt i (length xs)) [
       inr (at, same_Some y x (sym (get_last xs y) ∙ g))
 ]
 
-pub known_more : (known : List (Option OwnCosts)) (costs : List OwnCosts) (o : Option OwnCosts) (c : OwnCosts) → AreKnown known costs → IsKnown o c → AreKnown (known ++ o ∷ []) (costs ++ c ∷ [])
+pub known_more : (known : List (Option OwnCosts)) (costs : List OwnCosts) (o : Option OwnCosts) (c : OwnCosts) → AreKnown known costs → IsKnown o c
+    → AreKnown (known ++ o ∷ []) (costs ++ c ∷ [])
 known_more known costs o c h own = record {
   long = omega (arith, length-append known (o ∷ []), length-append costs (c ∷ []), h.long);
   each = λ i p d f g. elim (push_cases known o i p f) [
@@ -68,32 +70,38 @@ passed limit sum (x ∷ xs) l h =
 
 node_sum : (ts : List NodeTiming) → sum_by (λ (x : LineLoad). x.load) (map load_at_line ts) ≡ sum_by (λ (t : NodeTiming). t.load) ts
 node_sum [] = refl
-node_sum (t ∷ ts) = omega (arith, sum_by-cons (λ (x : LineLoad). x.load) (load_at_line t) (map load_at_line ts), sum_by-cons (λ (x : NodeTiming). x.load) t ts, node_sum ts)
+node_sum (t ∷ ts) =
+    omega (arith, sum_by-cons (λ (x : LineLoad). x.load) (load_at_line t) (map load_at_line ts), sum_by-cons (λ (x : NodeTiming). x.load) t ts, node_sum ts)
 
 line_sum : (s : StFuncTree) (ts : List NodeTiming) → sum_by (λ (x : LineLoad). x.load) (line_loads s ts) ≡ (func_costs_by s ts).load
 line_sum s ts =
     let last : LineLoad = record { line = s.end_line; load = slack_load (item_layouts s) (result_uses s ts) } in
-    let a : sum_by (λ (x : LineLoad). x.load) (line_loads s ts) ≡ sum_by (λ (x : LineLoad). x.load) (map load_at_line ts) + sum_by (λ (x : LineLoad). x.load) (last ∷ []) = sum_by-append (λ (x : LineLoad). x.load) (map load_at_line ts) (last ∷ []) in
+    let a : sum_by (λ (x : LineLoad). x.load) (line_loads s ts) ≡ sum_by (λ (x : LineLoad). x.load) (map load_at_line ts) + sum_by (λ (x : LineLoad). x.load)
+    (last ∷ []) = sum_by-append (λ (x : LineLoad). x.load) (map load_at_line ts) (last ∷ []) in
     let b : sum_by (λ (x : LineLoad). x.load) (last ∷ []) ≡ last.load + 0 = sum_by-cons (λ (x : LineLoad). x.load) last [] in
     omega (arith, a, b, node_sum ts)
 
-pub heavy : (s : StFuncTree) (ts : List NodeTiming) (line sum : ℕ) → IsOverAt (first_over 999999999 0 (line_loads s ts)) line sum → 1000000000 ≤ (func_costs_by s ts).load
+pub heavy : (s : StFuncTree) (ts : List NodeTiming) (line sum : ℕ) → IsOverAt (first_over 999999999 0 (line_loads s ts)) line sum
+    → 1000000000 ≤ (func_costs_by s ts).load
 heavy s ts line sum h = omega (arith, passed 999999999 0 (line_loads s ts) _ h.at, line_sum s ts)
 
 -- ---- the arrivals of one more instance
 
-pub more_within : (known : List OwnCosts) (s : StFuncTree) (t : FuncTiming) (limit : ℕ) (old new : List (List ℕ)) → IsTimed s (node_timings known s) limit t → new ≡ old ++ t.arrivals.items ∷ [] → HasMore known s old new
+pub more_within : (known : List OwnCosts) (s : StFuncTree) (t : FuncTiming) (limit : ℕ) (old new : List (List ℕ)) → IsTimed s (node_timings known s) limit t
+    → new ≡ old ++ t.arrivals.items ∷ [] → HasMore known s old new
 more_within known s t limit old new h e = record { own = t.arrivals.items; added = e; is = λ l. h.arrivals }
 
 pub met_within : (known : List OwnCosts) (s : StFuncTree) (t : FuncTiming) (limit : ℕ) (old new : List (List ℕ)) → IsTimed s (node_timings known s) limit t
     → t.meets.items ≡ meets_of t.arrivals.items s.nodes → new ≡ old ++ t.meets.items ∷ [] → HaveMoreMet known s old new
 met_within known s t limit old new h met e = record { own = t.meets.items; added = e; is = λ l. met ∙ ap (λ xs. meets_of xs s.nodes) h.arrivals }
 
-pub more_over : (told : List OwnCosts → StFuncTree → List ℕ) (known : List OwnCosts) (s : StFuncTree) (own : List ℕ) (old new : List (List ℕ)) → 1000000000 ≤ (func_costs known s).load → new ≡ old ++ own ∷ []
+pub more_over : (told : List OwnCosts → StFuncTree → List ℕ) (known : List OwnCosts) (s : StFuncTree) (own : List ℕ) (old new : List (List ℕ))
+    → 1000000000 ≤ (func_costs known s).load → new ≡ old ++ own ∷ []
     → HasOneMore told known s old new
 more_over told known s own old new h e = record { own = own; added = e; is = λ l. absurd (omega (arith, h, l)) }
 
-pub told_more : (told : List OwnCosts → StFuncTree → List ℕ) (instances : List StFuncTree) (k : ℕ) (s : StFuncTree) (old new : List (List ℕ)) → slice_get instances k ≡ Some s → AreToldFirst told k instances old
+pub told_more : (told : List OwnCosts → StFuncTree → List ℕ) (instances : List StFuncTree) (k : ℕ) (s : StFuncTree) (old new : List (List ℕ))
+    → slice_get instances k ≡ Some s → AreToldFirst told k instances old
     → HasOneMore told (all_costs (take k instances)) s old new → AreToldFirst told (k + 1) instances new
 told_more told instances k s old new f h more = record {
   long = omega (arith, ap length more.added, length-append old (more.own ∷ []), h.long);
@@ -112,26 +120,38 @@ told_more told instances k s old new f h more = record {
 pub nothing_told : (told : List OwnCosts → StFuncTree → List ℕ) (instances : List StFuncTree) → AreToldFirst told 0 instances []
 nothing_told told instances = record { long = refl; each = λ k s l f light. absurd (omega arith) }
 
-pub light_cost : (s : StFuncTree) (ts : List NodeTiming) (limit : ℕ) (t : FuncTiming) → limit ≡ 999999999 → IsTimed s ts limit t → (t.costs ≡ func_costs_by s ts) × IsBounded t.costs × (t.costs.load < 1000000000)
+pub light_cost : (s : StFuncTree) (ts : List NodeTiming) (limit : ℕ) (t : FuncTiming) → limit ≡ 999999999 → IsTimed s ts limit t
+    → (t.costs ≡ func_costs_by s ts) × IsBounded t.costs × (t.costs.load < 1000000000)
 light_cost s ts limit t e h = (h.costs, h.bounded, omega (arith, h.within, e))
 
 -- ---- a whole program
 
-pub sound_at : (p : List StFunc) (k : ℕ) (s : StFunc) (known : List (Option OwnCosts)) → IsSound (st_func_trees p) → slice_get p k ≡ Some s → AreKnown known (all_costs (take k (st_func_trees p))) → IsSoundFunc (length known) (st_func_tree s)
+pub sound_at : (p : List StFunc) (k : ℕ) (s : StFunc) (known : List (Option OwnCosts)) → IsSound (st_func_trees p) → slice_get p k ≡ Some s
+    → AreKnown known (all_costs (take k (st_func_trees p))) → IsSoundFunc (length known) (st_func_tree s)
 sound_at p k s known sound f h =
     let g : slice_get (st_func_trees p) k ≡ Some (st_func_tree s) = get_mapped st_func_tree p k s f in
     let low : k < length (st_func_trees p) = slice_get_within (st_func_trees p) k (st_func_tree s) g in
-    let long : length known ≡ k = omega (arith, h.long, length_grown func_costs [] (take k (st_func_trees p)), length-take-le k (st_func_trees p) (omega arith)) in
+    let long : length known ≡ k = omega (
+      arith,
+      h.long,
+      length_grown func_costs [] (take k (st_func_trees p)),
+      length-take-le k (st_func_trees p) (omega arith),
+    ) in
     rw long (sound.each k (st_func_tree s) g)
 
-pub known_next : (p : List StFunc) (k : ℕ) (s : StFunc) (known : List (Option OwnCosts)) → slice_get p k ≡ Some s → AreKnown known (all_costs (take k (st_func_trees p)) ++ func_costs (all_costs (take k (st_func_trees p))) (st_func_tree s) ∷ []) → AreKnown known (all_costs (take (k + 1) (st_func_trees p)))
+pub known_next : (p : List StFunc) (k : ℕ) (s : StFunc) (known : List (Option OwnCosts)) → slice_get p k ≡ Some s
+    → AreKnown known (all_costs (take k (st_func_trees p)) ++ func_costs (all_costs (take k (st_func_trees p))) (st_func_tree s) ∷ [])
+    → AreKnown known (all_costs (take (k + 1) (st_func_trees p)))
 known_next p k s known f h = rw (costs_more (st_func_trees p) k (st_func_tree s) (get_mapped st_func_tree p k s f)) h
 
-pub told_next : (told : List OwnCosts → StFuncTree → List ℕ) (p : List StFunc) (k : ℕ) (s : StFunc) (old new : List (List ℕ)) → slice_get p k ≡ Some s → AreToldFirst told k (st_func_trees p) old
+pub told_next : (told : List OwnCosts → StFuncTree → List ℕ) (p : List StFunc) (k : ℕ) (s : StFunc) (old new : List (List ℕ)) → slice_get p k ≡ Some s
+    → AreToldFirst told k (st_func_trees p) old
     → HasOneMore told (all_costs (take k (st_func_trees p))) (st_func_tree s) old new → AreToldFirst told (k + 1) (st_func_trees p) new
 told_next told p k s old new f h more = told_more told (st_func_trees p) k (st_func_tree s) old new (get_mapped st_func_tree p k s f) h more
 
-pub end_times : (p : List StFunc) (last : ℕ) (s : StFunc) (t : FuncTiming) (limit : ℕ) (old met : List (List ℕ)) (v : Times) → IsSound (st_func_trees p) → limit < 1000000000 → last ≡ length p - 1 → slice_get p last ≡ Some s → IsTimed (st_func_tree s) (node_timings (all_costs (take last (st_func_trees p))) (st_func_tree s)) limit t
+pub end_times : (p : List StFunc) (last : ℕ) (s : StFunc) (t : FuncTiming) (limit : ℕ) (old met : List (List ℕ)) (v : Times) → IsSound (st_func_trees p)
+    → limit < 1000000000 → last ≡ length p - 1 → slice_get p last ≡ Some s
+    → IsTimed (st_func_tree s) (node_timings (all_costs (take last (st_func_trees p))) (st_func_tree s)) limit t
     → t.meets.items ≡ meets_of t.arrivals.items (st_func_tree s).nodes → AreFirst last (st_func_trees p) old → AreToldFirst item_meets last
     (st_func_trees p) met
     → v.costs ≡ t.costs → v.arrivals ≡ old ++ t.arrivals.items ∷ [] → v.meets ≡ met ++ t.meets.items ∷ [] → v.nodes ≡ t.nodes.items → AreTimes
@@ -169,11 +189,15 @@ end_times p last s t limit old met v sound few e f w together first first_met ec
           rw (at, ← same) (en ∙ w.nodes);
     }
 
-pub end_fine : (p : List StFunc) (last : ℕ) (s : StFunc) (limit : ℕ) → last ≡ length p - 1 → slice_get p last ≡ Some s → too_large limit (st_func_trees p) ≡ first_over limit 0 (line_loads (st_func_tree s) (node_timings (all_costs (take last (st_func_trees p))) (st_func_tree s)))
+pub end_fine : (p : List StFunc) (last : ℕ) (s : StFunc) (limit : ℕ) → last ≡ length p - 1 → slice_get p last ≡ Some s
+    → too_large limit (st_func_trees p) ≡ first_over limit 0
+    (line_loads (st_func_tree s) (node_timings (all_costs (take last (st_func_trees p))) (st_func_tree s)))
 end_fine p last s limit e f =
     let g : slice_get (st_func_trees p) last ≡ Some (st_func_tree s) = get_mapped st_func_tree p last s f in
     let at : length (st_func_trees p) - 1 ≡ last = omega (arith, e, length-map p st_func_tree) in
     rw (at, g) refl
 
-pub end_large : (p : List StFunc) (last : ℕ) (s : StFunc) (limit line sum : ℕ) → last ≡ length p - 1 → slice_get p last ≡ Some s → IsOverAt (first_over limit 0 (line_loads (st_func_tree s) (node_timings (all_costs (take last (st_func_trees p))) (st_func_tree s)))) line sum → IsOverAt (too_large limit (st_func_trees p)) line sum
+pub end_large : (p : List StFunc) (last : ℕ) (s : StFunc) (limit line sum : ℕ) → last ≡ length p - 1 → slice_get p last ≡ Some s
+    → IsOverAt (first_over limit 0 (line_loads (st_func_tree s) (node_timings (all_costs (take last (st_func_trees p))) (st_func_tree s)))) line sum
+    → IsOverAt (too_large limit (st_func_trees p)) line sum
 end_large p last s limit line sum e f h = record { total = h.total; at = end_fine p last s limit e f ∙ h.at; told = h.told }

@@ -30,7 +30,8 @@ reached_by : (d ins c : ℕ) (s : SourceTree) → InTree ins s → lead_from c s
 reached_by d ins c (place k q) h l = (h, omega arith)
 reached_by d ins c (constant w) h l = tt
 
-pub trips_within : (m : Move) (trips : List Trip) (d ins outs : ℕ) → d ≡ move_latency m → ins ≡ sum_by columns_of m.ins → outs ≡ columns_of m.out → IsMove m → map trip_tree trips ≡ move_trips m → All (λ t. IsWithin d ins outs (trip_tree t)) trips
+pub trips_within : (m : Move) (trips : List Trip) (d ins outs : ℕ) → d ≡ move_latency m → ins ≡ sum_by columns_of m.ins → outs ≡ columns_of m.out → IsMove m
+    → map trip_tree trips ≡ move_trips m → All (λ t. IsWithin d ins outs (trip_tree t)) trips
 trips_within m trips d ins outs ed ei eo h e =
     All-from_get_or (λ t. IsWithin d ins outs (trip_tree t)) trips (record { clock = 0; column = 0; source = Fixed 0 }) (λ n l.
     let t : Trip = get_or trips n (record { clock = 0; column = 0; source = Fixed 0 }) in
@@ -39,9 +40,12 @@ trips_within m trips d ins outs ed ei eo h e =
     let en : n / element_words m.out < st_atoms m.out = div_below n (element_words m.out) (st_atoms m.out) (words_pos m.out) x.0 in
     let o = origin_at m n h x.0 in
     let clock : (trip_tree t).clock < time m.out = rw (ap (λ (v : TripTree). v.clock) x.1) (slot_below m.out h.out.lengths (n / element_words m.out) en).0 in
-    let column : (trip_tree t).column < columns_of m.out = rw (ap (λ (v : TripTree). v.column) x.1) (column_below m.out h.out (n / element_words m.out) (n % element_words m.out) en (mod_below n (element_words m.out) (words_pos m.out))) in
-    let within : InTree (sum_by columns_of m.ins) (trip_tree t).source = rw (ap (λ (v : TripTree). v.source) x.1) (origin_in m.ins o.0 (get_or m.origins n (fixed 0)) (sizes_of m h) o.2) in
-    let lead : lead_from (trip_tree t).clock (trip_tree t).source ≤ move_latency m = rw e at (fold_ge (λ (v : TripTree). lead_from v.clock v.source) 0 (map trip_tree trips) n (trip_tree t) (get_mapped trip_tree trips n t f)) in
+    let column : (trip_tree t).column < columns_of m.out = rw (ap (λ (v : TripTree). v.column) x.1)
+    (column_below m.out h.out (n / element_words m.out) (n % element_words m.out) en (mod_below n (element_words m.out) (words_pos m.out))) in
+    let within : InTree (sum_by columns_of m.ins) (trip_tree t).source = rw (ap (λ (v : TripTree). v.source) x.1)
+    (origin_in m.ins o.0 (get_or m.origins n (fixed 0)) (sizes_of m h) o.2) in
+    let lead : lead_from (trip_tree t).clock (trip_tree t).source ≤ move_latency m = rw e at
+    (fold_ge (λ (v : TripTree). lead_from v.clock v.source) 0 (map trip_tree trips) n (trip_tree t) (get_mapped trip_tree trips n t f)) in
     rw (ed, ei, eo) (record {
       clock_in = omega (arith, h.out.in_time);
       column_in = column;
@@ -56,7 +60,8 @@ sum_at_most f most a (suc n) h = omega (arith, sum_by-cons f a (range_with_len (
 
 pub sum_below : (f g : ℕ → ℕ) (a n : ℕ) → ((q : ℕ) → f q ≤ g q) → sum_by f (range_with_len a n) ≤ sum_by g (range_with_len a n)
 sum_below f g a zero h = omega arith
-sum_below f g a (suc n) h = omega (arith, sum_by-cons f a (range_with_len (a + 1) n), sum_by-cons g a (range_with_len (a + 1) n), sum_below f g (a + 1) n h, h a)
+sum_below f g a (suc n) h =
+    omega (arith, sum_by-cons f a (range_with_len (a + 1) n), sum_by-cons g a (range_with_len (a + 1) n), sum_below f g (a + 1) n h, h a)
 
 -- ---- the words that are kept
 
@@ -91,14 +96,24 @@ clock_small m h n t f =
     rw (← x.1) (omega (arith, h.out.in_time, below))
 
 column_small : (m : Move) (q : ℕ) → IsMove m → column_delay (move_latency m) q (move_trips m) ≤ 8191
-column_small m q h = lead_le (λ (t : TripTree). age_from (move_latency m) q t.clock t.source) 0 8191 (move_trips m) (omega arith) (λ t n f. age_small (move_latency m) q t.clock t.source (latency_small m h) (clock_small m h n t f))
+column_small m q h =
+    lead_le (λ (t : TripTree). age_from (move_latency m) q t.clock t.source) 0 8191 (move_trips m) (omega arith)
+    (λ t n f. age_small (move_latency m) q t.clock t.source (latency_small m h) (clock_small m h n t f))
 
 runs_few : (m : Move) (q : ℕ) → IsMove m → column_runs (move_latency m) q (move_trips m) ≤ 16384
 runs_few m q h =
     let all : ℕ = st_atoms m.out * element_words m.out in
     let long : length (move_trips m) ≡ all = length-map-range_with_len (trip_number m.ins m.out m.origins) 0 all in
-    let some : length (choices_of (move_latency m) q (move_trips m)) ≡ length (filter (λ (t : TripTree). nat_eq t.column q) (move_trips m)) = length-map (filter (λ (t : TripTree). nat_eq t.column q) (move_trips m)) _ in
-    omega (arith, stretches_few (choices_of (move_latency m) q (move_trips m)), some, filter_few (λ (t : TripTree). nat_eq t.column q) (move_trips m), long, h.out.in_words)
+    let some : length (choices_of (move_latency m) q (move_trips m)) ≡ length (filter (λ (t : TripTree). nat_eq t.column q) (move_trips m)) = length-map
+    (filter (λ (t : TripTree). nat_eq t.column q) (move_trips m)) _ in
+    omega (
+      arith,
+      stretches_few (choices_of (move_latency m) q (move_trips m)),
+      some,
+      filter_few (λ (t : TripTree). nat_eq t.column q) (move_trips m),
+      long,
+      h.out.in_words,
+    )
 
 -- ---- memories
 
@@ -120,19 +135,23 @@ small_move m h few =
     let d : ℕ = move_latency m in
     let ins : ℕ = sum_by columns_of m.ins in
     let kept : delay_of d ins (move_trips m) ≤ ins * 8191 = sum_at_most (λ q. column_delay d q (move_trips m)) 8191 0 ins (λ q. column_small m q h) in
-    let run : runs_of d (columns_of m.out) (move_trips m) ≤ columns_of m.out * 16384 = sum_at_most (λ q. column_runs d q (move_trips m)) 16384 0 (columns_of m.out) (λ q. runs_few m q h) in
+    let run : runs_of d (columns_of m.out) (move_trips m) ≤ columns_of m.out * 16384 = sum_at_most (λ q. column_runs d q (move_trips m)) 16384 0
+    (columns_of m.out) (λ q. runs_few m q h) in
     record {
       latency = latency_small m h;
       delay = omega (arith, kept);
       runs = omega (arith, run, columns_small m.out h.out);
-      mems = sum_below (λ q. column_mems (time m.out) d q (move_trips m)) (λ q. column_delay d q (move_trips m)) 0 ins (λ q. column_mems_le (time m.out) d q (move_trips m));
+      mems = sum_below (λ q. column_mems (time m.out) d q (move_trips m)) (λ q. column_delay d q (move_trips m)) 0 ins
+          (λ q. column_mems_le (time m.out) d q (move_trips m));
     }
 
 abbrev pub four : (latency delay runs mems : ℕ) → MoveCosts
 four a b c d = record { latency = a; delay = b; runs = c; mems = d }
 
-pub costs_small : (m : Move) (trips : List Trip) (d ins outs period delay runs mems : ℕ) → IsMove m → ins ≤ 16384 → d ≡ move_latency m → ins ≡ sum_by columns_of m.ins → outs ≡ columns_of m.out → period ≡ time m.out → map trip_tree trips ≡ move_trips m
-    → delay ≡ delay_of d ins (map trip_tree trips) → runs ≡ runs_of d outs (map trip_tree trips) → mems ≡ mems_of period d ins (map trip_tree trips) → AreSmall (four d delay runs mems)
+pub costs_small : (m : Move) (trips : List Trip) (d ins outs period delay runs mems : ℕ) → IsMove m → ins ≤ 16384 → d ≡ move_latency m
+    → ins ≡ sum_by columns_of m.ins → outs ≡ columns_of m.out → period ≡ time m.out → map trip_tree trips ≡ move_trips m
+    → delay ≡ delay_of d ins (map trip_tree trips) → runs ≡ runs_of d outs (map trip_tree trips) → mems ≡ mems_of period d ins (map trip_tree trips)
+    → AreSmall (four d delay runs mems)
 costs_small m trips d ins outs period delay runs mems h few ed ei eo ep et e1 e2 e3 =
     let x = small_move m h (omega (arith, few, ei)) in
     let delays : delay ≡ (costs_of_move m).delay = rw (← ed, ← ei, ← et) e1 in

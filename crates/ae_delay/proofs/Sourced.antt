@@ -29,14 +29,17 @@ no_power : (w : ℕ) → 0 < 2 ^ w
 no_power w = pow_pos w
 
 -- a word of the argument is there, and as wide
-there : (a s : StTree) (e j width : ℕ) → element_atom a ≡ element_atom s → e < st_atoms a → width_at s j ≡ Some width → HasOrigin (a ∷ []) width (from_input 0 e j)
+there : (a s : StTree) (e j width : ℕ) → element_atom a ≡ element_atom s → e < st_atoms a → width_at s j ≡ Some width
+    → HasOrigin (a ∷ []) width (from_input 0 e j)
 there a s e j width same l wide = (a, refl, l, ap (λ x. option_map (λ (k : WordKind). k.width) (slice_get (atom_kinds x) j)) same ∙ wide)
 
-shifted : (a s : StTree) (k e j width : ℕ) (b : Bool) → nat_lt e k ≡ b → element_atom a ≡ element_atom s → e < st_atoms a → width_at s j ≡ Some width → HasOrigin (a ∷ []) width (cond b (fixed 0) (from_input 0 (e - k) j))
+shifted : (a s : StTree) (k e j width : ℕ) (b : Bool) → nat_lt e k ≡ b → element_atom a ≡ element_atom s → e < st_atoms a → width_at s j ≡ Some width
+    → HasOrigin (a ∷ []) width (cond b (fixed 0) (from_input 0 (e - k) j))
 shifted a s k e j width true t same l wide = no_power width
 shifted a s k e j width false t same l wide = there a s (e - k) j width same (omega arith) wide
 
-has_origin : (how : MoveOp) (a s : StTree) (e j width : ℕ) → IsInSize a → element_atom a ≡ element_atom s → IsMoveFrom how (st_atoms a) (st_atoms s) → e < st_atoms s → width_at s j ≡ Some width
+has_origin : (how : MoveOp) (a s : StTree) (e j width : ℕ) → IsInSize a → element_atom a ≡ element_atom s → IsMoveFrom how (st_atoms a) (st_atoms s)
+    → e < st_atoms s → width_at s j ≡ Some width
     → HasOrigin (a ∷ []) width (origin_from how (st_atoms a) (st_atoms s) e j)
 has_origin (Shift k) a s e j width size same from l wide = shifted a s k e j width (nat_lt e k) refl same (omega (arith, from.0)) wide
 has_origin (Up c) a s e j width size same from l wide = there a s (e % st_atoms a) j width same (mod_below e (st_atoms a) (atoms_pos a size.lengths)) wide
@@ -52,7 +55,8 @@ numbered f n o x found =
     let at : slice_get (map f (range_with_len 0 n)) o ≡ Some (f o) = get_mapped f (range_with_len 0 n) o o (rw z at (range_get 0 n o small)) in
     (small, same_Some (f o) x (sym at ∙ found))
 
-pub op_is_move : (how : MoveOp) (a s : StTree) → IsInSize a → IsInSize s → time a ≡ time s → element_atom a ≡ element_atom s → IsMoveFrom how (st_atoms a) (st_atoms s) → IsMove (op_move how a s)
+pub op_is_move : (how : MoveOp) (a s : StTree) → IsInSize a → IsInSize s → time a ≡ time s → element_atom a ≡ element_atom s
+    → IsMoveFrom how (st_atoms a) (st_atoms s) → IsMove (op_move how a s)
 op_is_move how a s size out clocks same from = record {
   out = out;
   types = λ i t f. one_type a t (time s) i size clocks f;
@@ -91,9 +95,11 @@ all_fixed ws origins e = ap (map origin_tree) e ∙ each ws
     each (w ∷ ws) = ap (λ xs. fixed w ∷ xs) (each ws)
 
 -- one origin more
-pub origins_more : (how : MoveOp) (a s : StTree) (o words n m : ℕ) (origins : List Origin) (origin : Origin) → words ≡ element_words s → n ≡ st_atoms a → m ≡ st_atoms s
+pub origins_more : (how : MoveOp) (a s : StTree) (o words n m : ℕ) (origins : List Origin) (origin : Origin) → words ≡ element_words s → n ≡ st_atoms a
+    → m ≡ st_atoms s
     → map origin_tree origins ≡ map (origin_number how a s) (range_with_len 0 o) → origin_tree origin ≡ origin_from how n m (o / words) (o % words)
     → map origin_tree (origins ++ origin ∷ []) ≡ map (origin_number how a s) (range_with_len 0 (o + 1))
 origins_more how a s o words n m origins origin ew en em h e =
     let own : origin_tree origin ≡ origin_number how a s o = rw (← ew, ← en, ← em) e in
-    map-append origin_tree origins (origin ∷ []) ∙ (ap (λ xs. xs ++ origin_tree origin ∷ []) h ∙ (ap (λ x. map (origin_number how a s) (range_with_len 0 o) ++ x ∷ []) own ∙ sym (map-range_with_len_more (origin_number how a s) 0 o o (omega arith))))
+    map-append origin_tree origins (origin ∷ []) ∙ (ap (λ xs. xs ++ origin_tree origin ∷ []) h ∙
+    (ap (λ x. map (origin_number how a s) (range_with_len 0 o) ++ x ∷ []) own ∙ sym (map-range_with_len_more (origin_number how a s) 0 o o (omega arith))))

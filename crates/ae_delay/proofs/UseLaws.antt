@@ -18,7 +18,8 @@ item_below items count i h l = h i (get_or items i 0) (slice_get-get_or items i 
 
 pub uses_next : (arrivals : List ℕ) (start : ℕ) (items : List ℕ) (i : ℕ) → i < length items →
     uses_at arrivals start (take (i + 1) items) ≡ uses_at arrivals start (take i items) ++ use_at arrivals start (get_or items i 0) ∷ []
-uses_next arrivals start items i l = ap (uses_at arrivals start) (take_more items i 0 l) ∙ map-append (use_at arrivals start) (take i items) (get_or items i 0 ∷ [])
+uses_next arrivals start items i l =
+    ap (uses_at arrivals start) (take_more items i 0 l) ∙ map-append (use_at arrivals start) (take i items) (get_or items i 0 ∷ [])
 
 -- the longest delays with one use more
 pub deepened_next : (cs arrivals : List ℕ) (start : ℕ) (items now : List ℕ) (i before new : ℕ) → i < length items → get_or items i 0 < length now →

@@ -87,7 +87,8 @@ abbrev pub chain_of : List Use → (item : ℕ) → ℕ
 chain_of us i = greatest (slack_at i) us
 
 abbrev pub chain_mems : (layouts : List StTree) → List Use → ℕ
-chain_mems layouts us = sum_by (λ i. columns_of (item_layout layouts i) * rings (chain_of us i)) (range_with_len 0 (length layouts))
+chain_mems layouts us =
+    sum_by (λ i. columns_of (item_layout layouts i) * rings (chain_of us i)) (range_with_len 0 (length layouts))
 
 abbrev pub all_uses : StFuncTree → List NodeTiming → List Use
 all_uses s ts = flat_map (λ (t : NodeTiming). t.uses) ts ++ result_uses s ts
@@ -117,16 +118,21 @@ pub record LineLoad : Type 0 where
 -- the first line at which the sum of loads, from a sum on, passes the limit, with that sum
 abbrev pub first_over : (limit sum : ℕ) → List LineLoad → Option LineLoad
 first_over limit sum [] = None
-first_over limit sum (l ∷ ls) = if nat_lt limit (sum + l.load) then Some (record { line = l.line; load = sum + l.load }) else first_over limit (sum + l.load) ls
+first_over limit sum (l ∷ ls) =
+    if nat_lt limit (sum + l.load) then Some (record { line = l.line; load = sum + l.load }) else first_over limit
+    (sum + l.load) ls
 
 abbrev pub load_at_line : NodeTiming → LineLoad
 load_at_line t = record { line = t.line; load = t.load }
 
 -- the lines of an instance: its nodes, and then its end, where the delays of its results are
 abbrev pub line_loads : StFuncTree → List NodeTiming → List LineLoad
-line_loads s ts = map load_at_line ts ++ record { line = s.end_line; load = slack_load (item_layouts s) (result_uses s ts) } ∷ []
+line_loads s ts =
+    map load_at_line ts ++ record { line = s.end_line; load = slack_load (item_layouts s) (result_uses s ts) } ∷ []
 
 -- of the program function, which is the last instance
 abbrev pub too_large : (limit : ℕ) → List StFuncTree → Option LineLoad
 too_large limit instances =
-    option_and_then (λ s. first_over limit 0 (line_loads s (node_timings (all_costs (take (length instances - 1) instances)) s))) (slice_get instances (length instances - 1))
+    option_and_then (λ s. first_over limit 0
+    (line_loads s (node_timings (all_costs (take (length instances - 1) instances)) s)))
+    (slice_get instances (length instances - 1))

@@ -22,7 +22,13 @@ origin_number how a s o = origin_from how (st_atoms a) (st_atoms s) (o / element
 
 -- the move of an operator
 abbrev pub op_move : MoveOp → (arg out : StTree) → Move
-op_move how a s = record { ins = a ∷ []; out = s; origins = map (origin_number how a s) (range_with_len 0 (st_atoms s * element_words s)) }
+op_move how a s =
+    record {
+      ins = a ∷ [];
+      out = s;
+      origins = map (origin_number how a s)
+          (range_with_len 0 (st_atoms s * element_words s));
+    }
 
 -- a constant: a move in which every word is fixed
 abbrev pub constant_move : (words : List ℕ) → (out : StTree) → Move

@@ -55,7 +55,8 @@ fold_latency slots lanes raw m = log_up lanes + where_many slots ((slots - 1) * 
 abbrev pub fold_costs : WordOp → (slots lanes : ℕ) (raw : StTree) → MoveCosts → OwnCosts
 fold_costs op slots lanes raw m = record {
   latency = fold_latency slots lanes raw m;
-  load = 1 + fold_latency slots lanes raw m + columns_of raw * (2 * lanes + where_many slots (inner_time raw + 2)) + m.delay + m.runs;
+  load = 1 + fold_latency slots lanes raw m + columns_of
+      raw * (2 * lanes + where_many slots (inner_time raw + 2)) + m.delay + m.runs;
   muls = where_mul op (columns_of raw * (lanes - 1 + where_many slots 1));
   mems = m.mems + where_many slots (columns_of raw * rings (inner_time raw));
 }
@@ -71,14 +72,16 @@ scan_columns lanes s = columns_of s / lanes
 abbrev pub scan_costs : WordOp → (slots lanes : ℕ) (out : StTree) → OwnCosts
 scan_costs op slots lanes s = record {
   latency = scan_latency slots lanes;
-  load = 1 + scan_latency slots lanes + scan_columns lanes s * (lanes * (1 + 2 * log_up lanes) + where_many slots (3 * lanes + inner_time s));
+  load = 1 + scan_latency slots lanes + scan_columns lanes
+      s * (lanes * (1 + 2 * log_up lanes) + where_many slots (3 * lanes + inner_time s));
   muls = where_mul op (scan_columns lanes s * (log_up lanes * lanes - (2 ^ log_up lanes - 1) + where_many slots lanes));
   mems = where_many slots (scan_columns lanes s * rings (inner_time s));
 }
 
 -- so many copies of an instance
 abbrev pub body_costs : (copies : ℕ) → OwnCosts → OwnCosts
-body_costs copies f = record { latency = f.latency; load = 1 + copies * f.load; muls = copies * f.muls; mems = copies * f.mems }
+body_costs copies f =
+    record { latency = f.latency; load = 1 + copies * f.load; muls = copies * f.muls; mems = copies * f.mems }
 
 -- an operator on an argument of this layout, by the costs of the instances before
 abbrev pub op_costs : (known : List OwnCosts) (arg out : StTree) (copies : ℕ) → StOpTree → OwnCosts

@@ -24,15 +24,21 @@ item_meets known s = meets_of (item_arrivals known s) s.nodes
 
 -- the arrivals of each instance
 abbrev pub AreArrivals : List StFuncTree → List (List ℕ) → Type 0
-AreArrivals instances all = (k : ℕ) (s : StFuncTree) → slice_get instances k ≡ Some s → slice_get all k ≡ Some (item_arrivals (all_costs (take k instances)) s)
+AreArrivals instances all =
+    (k : ℕ) (s : StFuncTree) → slice_get instances k ≡ Some s
+    → slice_get all k ≡ Some (item_arrivals (all_costs (take k instances)) s)
 
 abbrev pub AreMeets : List StFuncTree → List (List ℕ) → Type 0
-AreMeets instances all = (k : ℕ) (s : StFuncTree) → slice_get instances k ≡ Some s → slice_get all k ≡ Some (item_meets (all_costs (take k instances)) s)
+AreMeets instances all =
+    (k : ℕ) (s : StFuncTree) → slice_get instances k ≡ Some s
+    → slice_get all k ≡ Some (item_meets (all_costs (take k instances)) s)
 
 -- the program function is the last instance
 pub record AreTimes (instances : List StFuncTree) (t : Times) : Type 0 where
-  pub costs : (s : StFuncTree) → slice_get instances (length instances - 1) ≡ Some s → t.costs ≡ func_costs (all_costs (take (length instances - 1) instances)) s
+  pub costs : (s : StFuncTree) → slice_get instances (length instances - 1) ≡ Some s
+      → t.costs ≡ func_costs (all_costs (take (length instances - 1) instances)) s
   pub many : length t.arrivals ≡ length instances
   pub arrivals : AreArrivals instances t.arrivals
   pub meets : AreMeets instances t.meets
-  pub nodes : (s : StFuncTree) → slice_get instances (length instances - 1) ≡ Some s → t.nodes ≡ map cost_of (node_timings (all_costs (take (length instances - 1) instances)) s)
+  pub nodes : (s : StFuncTree) → slice_get instances (length instances - 1) ≡ Some s
+      → t.nodes ≡ map cost_of (node_timings (all_costs (take (length instances - 1) instances)) s)

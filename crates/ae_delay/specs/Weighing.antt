@@ -22,7 +22,8 @@ IsKnown (Some k) c = (k ≡ c) × IsBounded k × (k.load < 1000000000)
 
 pub record AreKnown (known : List (Option OwnCosts)) (costs : List OwnCosts) : Type 0 where
   pub long : length known ≡ length costs
-  pub each : (i : ℕ) (o : Option OwnCosts) (c : OwnCosts) → slice_get known i ≡ Some o → slice_get costs i ≡ Some c → IsKnown o c
+  pub each : (i : ℕ) (o : Option OwnCosts) (c : OwnCosts) → slice_get known i ≡ Some o → slice_get costs i ≡ Some c
+      → IsKnown o c
 
 -- each item's layout takes the budget
 abbrev pub AreItems : (budget : ℕ) → List StTree → Type 0
@@ -60,13 +61,15 @@ IsAdvance layouts t limit old new (Some sum) = (limit < old.load + t.load) × (s
 
 -- the registers of chains of these lengths
 abbrev pub chained : (layouts : List StTree) → (chains : List ℕ) → ℕ
-chained layouts cs = sum_by (λ i. columns_of (item_layout layouts i) * get_or cs i 0) (range_with_len 0 (length layouts))
+chained layouts cs =
+    sum_by (λ i. columns_of (item_layout layouts i) * get_or cs i 0) (range_with_len 0 (length layouts))
 
 -- these nodes have come, and their loads together are within the limit
 pub record IsProgress (s : StFuncTree) (ts : List NodeTiming) (limit : ℕ) (p : Progress) : Type 0 where
   pub arrivals : p.arrivals.items ≡ arrivals_of s.ins ts
   pub long : length p.chains.items ≡ length (item_layouts s)
-  pub chains : (i : ℕ) → i < length (item_layouts s) → get_or p.chains.items i 0 ≡ chain_of (flat_map (λ (t : NodeTiming). t.uses) ts) i
+  pub chains : (i : ℕ) → i < length (item_layouts s)
+      → get_or p.chains.items i 0 ≡ chain_of (flat_map (λ (t : NodeTiming). t.uses) ts) i
   pub costs : p.costs.items ≡ map cost_of ts
   pub load : p.load ≡ sum_by (λ (t : NodeTiming). t.load) ts
   pub muls : p.muls ≡ sum_by (λ (t : NodeTiming). t.muls) ts

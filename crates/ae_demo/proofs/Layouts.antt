@@ -91,7 +91,8 @@ sizes n low high =
 laid_out_is : (n : ℕ) → AreSizes n → own_func (demo_tree n) 1 (4 * n) (whole_func n) ≡ laid_out (4 * n)
 laid_out_is n h = rw (h.one, h.same, h.clocks, h.small, h.some, h.even, h.lanes, h.whole, h.each, h.clocks) refl
 
-calls_are : (n : ℕ) → AreSizes n → map (λ (k : NodeTree). call_costs (costs_by (demo_tree n) [] sum_func ∷ []) (called_by (demo_tree n) 1 (4 * n) k)) (whole_func n).nodes ≡ calls
+calls_are : (n : ℕ) → AreSizes n → map (λ (k : NodeTree). call_costs (costs_by (demo_tree n) [] sum_func ∷ []) (called_by (demo_tree n) 1 (4 * n) k))
+    (whole_func n).nodes ≡ calls
 calls_are n h = rw (h.clocks, h.small, h.some, h.even) refl
 
 costs_are : (n : ℕ) → AreSizes n → costs_of (demo_tree n) 1 (4 * n) ≡ func_costs calls (laid_out (4 * n))
@@ -102,15 +103,26 @@ costs_are n h = λ i. func_costs (calls_are n h i) (laid_out_is n h i)
 shift_light : (c : ℕ) → 1 ≤ c → c ≤ 256 → IsLight c (c * 4) (op_move (Shift 1) (whole_layout c) (whole_layout c))
 shift_light c low high =
     let t : c + 0 ≡ c = omega arith in
-    let size : IsInSize (whole_layout c) = record { lengths = (omega arith, (omega arith, refl)); in_time = omega arith; in_words = omega arith; in_depth = omega arith } in
-    let m : IsMove (op_move (Shift 1) (whole_layout c) (whole_layout c)) = op_is_move (Shift 1) (whole_layout c) (whole_layout c) size size refl refl (refl, omega arith) in
+    let size : IsInSize (whole_layout c) = record {
+      lengths = (omega arith, (omega arith, refl));
+      in_time = omega arith;
+      in_words = omega arith;
+      in_depth = omega arith;
+    } in
+    let m : IsMove (op_move (Shift 1) (whole_layout c) (whole_layout c)) = op_is_move (Shift 1) (whole_layout c) (whole_layout c) size size refl refl
+    (refl, omega arith) in
     let own = light_move (op_move (Shift 1) (whole_layout c) (whole_layout c)) m in
     record { latency = omega (arith, own.latency); delay = omega (arith, own.delay); runs = omega (arith, own.runs) }
 
 sum_light : (c : ℕ) → 1 ≤ c → c ≤ 256 → IsLight c 1 (op_move Same (raw_sum c) (sum_layout c))
 sum_light c low high =
     let raw : IsInSize (raw_sum c) = record { lengths = (omega arith, refl); in_time = omega arith; in_words = omega arith; in_depth = omega arith } in
-    let size : IsInSize (sum_layout c) = record { lengths = (omega arith, (omega arith, refl)); in_time = omega arith; in_words = omega arith; in_depth = omega arith } in
+    let size : IsInSize (sum_layout c) = record {
+      lengths = (omega arith, (omega arith, refl));
+      in_time = omega arith;
+      in_words = omega arith;
+      in_depth = omega arith;
+    } in
     let m : IsMove (op_move Same (raw_sum c) (sum_layout c)) = op_is_move Same (raw_sum c) (sum_layout c) raw size (omega arith) refl refl in
     let own = light_move (op_move Same (raw_sum c) (sum_layout c)) m in
     record { latency = omega (arith, own.latency); delay = omega (arith, own.delay); runs = omega (arith, own.runs) }
@@ -125,7 +137,8 @@ shift_timing c low high =
     let own = shift_light c low high in
     (omega (arith, own.latency), omega (arith, own.latency, own.delay, own.runs))
 
-add_timing : (c : ℕ) (t : NodeTiming) → t.arrival ≤ c → let u = next_timing calls (laid_out c) (t ∷ []) (add_node c) in (u.arrival ≤ c + 1) × (u.load ≤ 8 * c + 9)
+add_timing : (c : ℕ) (t : NodeTiming) → t.arrival ≤ c → let u = next_timing calls (laid_out c) (t ∷ []) (add_node c) in (u.arrival ≤ c + 1)
+    × (u.load ≤ 8 * c + 9)
 add_timing c t h = (omega arith, omega arith)
 
 sum_timing : (c : ℕ) (t u : NodeTiming) → 4 ≤ c → c ≤ 256 → u.arrival ≤ c + 1

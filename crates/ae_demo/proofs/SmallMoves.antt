@@ -47,7 +47,9 @@ clock_in m h n t f =
     rw (← x.1) (slot_below m.out h.out.lengths (n / element_words m.out) en).0
 
 kept : (m : Move) (q : ℕ) → IsMove m → column_delay (move_latency m) q (move_trips m) ≤ 2 * time m.out
-kept m q h = lead_le (λ (t : TripTree). age_from (move_latency m) q t.clock t.source) 0 (2 * time m.out) (move_trips m) (omega arith) (λ t n f. age_few (move_latency m) q t.clock (time m.out) t.source (late m h) (clock_in m h n t f))
+kept m q h =
+    lead_le (λ (t : TripTree). age_from (move_latency m) q t.clock t.source) 0 (2 * time m.out) (move_trips m) (omega arith)
+    (λ t n f. age_few (move_latency m) q t.clock (time m.out) t.source (late m h) (clock_in m h n t f))
 
 -- ---- how often neighbours differ
 
@@ -70,7 +72,8 @@ runs : (m : Move) (q : ℕ) → column_runs (move_latency m) q (move_trips m) �
 runs m q =
     let all : ℕ = st_atoms m.out * element_words m.out in
     let long : length (move_trips m) ≡ all = length-map-range_with_len (trip_number m.ins m.out m.origins) 0 all in
-    let some : length (choices_of (move_latency m) q (move_trips m)) ≡ length (filter (λ (t : TripTree). nat_eq t.column q) (move_trips m)) = length-map (filter (λ (t : TripTree). nat_eq t.column q) (move_trips m)) _ in
+    let some : length (choices_of (move_latency m) q (move_trips m)) ≡ length (filter (λ (t : TripTree). nat_eq t.column q) (move_trips m)) = length-map
+    (filter (λ (t : TripTree). nat_eq t.column q) (move_trips m)) _ in
     omega (arith, runs_in (choices_of (move_latency m) q (move_trips m)), some, filtered (λ (t : TripTree). nat_eq t.column q) (move_trips m), long)
 
 pub light_move : (m : Move) → IsMove m → IsLight (time m.out) (st_atoms m.out * element_words m.out) m

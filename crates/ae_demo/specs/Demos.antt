@@ -15,7 +15,8 @@ use Rattle.ae_alike.specs.ByFunction.{costs_of}
 abbrev pub sum_func : FuncTree
 sum_func = record {
   name = codes "sum";
-  params = record { name = codes "x"; type = atom (unsigned_word 16) } ∷ record { name = codes "y"; type = atom (unsigned_word 16) } ∷ [];
+  params = record { name = codes "x"; type = atom (unsigned_word 16) }
+      ∷ record { name = codes "y"; type = atom (unsigned_word 16) } ∷ [];
   nodes = record { name = codes "z"; op = word Add; args = 0 ∷ 1 ∷ []; line = 2 } ∷ [];
   results = 2 ∷ [];
   line = 1;

@@ -25,12 +25,14 @@ use Rattle.ae_express.proofs.NetLaws.{stands_later}
 
 -- a cell that passes comes last
 pub taken_in : (check : Cell → Bool) (k : ℕ) (cells : List SizedCell) (c : SizedCell) → check c.cell ≡ true
-    → filter (λ (x : ℕ × SizedCell). check x.1.cell) (enumerate_from k (cells ++ c ∷ [])) ≡ filter (λ (x : ℕ × SizedCell). check x.1.cell) (enumerate_from k cells) ++ (k + length cells, c) ∷ []
+    → filter (λ (x : ℕ × SizedCell). check x.1.cell) (enumerate_from k (cells ++ c ∷ [])) ≡ filter (λ (x : ℕ × SizedCell). check x.1.cell)
+    (enumerate_from k cells) ++ (k + length cells, c) ∷ []
 taken_in check k [] c h = rw h (ap (λ (n : ℕ). (n, c) ∷ []) (let e : k ≡ k + 0 = omega arith in e))
 taken_in check k (x ∷ cells) c h =
     let F : List (ℕ × SizedCell) = filter (λ (y : ℕ × SizedCell). check y.1.cell) (enumerate_from (k + 1) cells) in
     let G : List (ℕ × SizedCell) = filter (λ (y : ℕ × SizedCell). check y.1.cell) (enumerate_from (k + 1) (cells ++ c ∷ [])) in
-    let e : G ≡ F ++ (k + suc (length cells), c) ∷ [] = taken_in check (k + 1) cells c h ∙ ap (λ (n : ℕ). F ++ (n, c) ∷ []) (let s : (k + 1) + length cells ≡ k + suc (length cells) = omega arith in s) in
+    let e : G ≡ F ++ (k + suc (length cells), c) ∷ [] = taken_in check (k + 1) cells c h ∙
+    ap (λ (n : ℕ). F ++ (n, c) ∷ []) (let s : (k + 1) + length cells ≡ k + suc (length cells) = omega arith in s) in
     either F G (k, x) (k + suc (length cells), c) e (check x.cell)
   where
     either : (F G : List (ℕ × SizedCell)) (a z : ℕ × SizedCell) → G ≡ F ++ z ∷ [] → (b : Bool) → (if b then a ∷ G else G) ≡ (if b then a ∷ F else F) ++ z ∷ []
@@ -45,9 +47,11 @@ module _ {Z : Type 0} (test : NetTree → Bool) (f : ℕ → NetTree → Z) wher
   with_nets_push [] (o ∷ nets) x net l = absurd (omega arith)
   with_nets_push (y ∷ ns) [] x net l = absurd (omega arith)
   with_nets_push (y ∷ ns) (o ∷ nets) x net l =
-      step (f (number_of o) y) (f (number_of net) x) (with_nets test f ns nets) (with_nets test f (ns ++ x ∷ []) (nets ++ net ∷ [])) (test y) (test x) (with_nets_push ns nets x net (omega arith))
+      step (f (number_of o) y) (f (number_of net) x) (with_nets test f ns nets) (with_nets test f (ns ++ x ∷ []) (nets ++ net ∷ [])) (test y) (test x)
+      (with_nets_push ns nets x net (omega arith))
     where
-      step : (a z : Z) (V W : List Z) (p q : Bool) → W ≡ (if q then V ++ z ∷ [] else V) → (if p then a ∷ W else W) ≡ (if q then (if p then a ∷ V else V) ++ z ∷ [] else (if p then a ∷ V else V))
+      step : (a z : Z) (V W : List Z) (p q : Bool) → W ≡ (if q then V ++ z ∷ [] else V)
+          → (if p then a ∷ W else W) ≡ (if q then (if p then a ∷ V else V) ++ z ∷ [] else (if p then a ∷ V else V))
       step a z V W true true e = ap (λ (ys : List Z). a ∷ ys) e
       step a z V W true false e = ap (λ (ys : List Z). a ∷ ys) e
       step a z V W false true e = e
@@ -55,20 +59,25 @@ module _ {Z : Type 0} (test : NetTree → Bool) (f : ℕ → NetTree → Z) wher
 
   module _ (check : Cell → Bool) (h : ℕ × SizedCell → Z) where
     -- a name and a cell more, of which both or neither pass
-    pub pairs_push : (ns : List NetTree) (nets : List (Option NetId)) (cells : List SizedCell) (x : NetTree) (c : SizedCell) (net : Option NetId) → length nets ≡ length ns → number_of net ≡ length cells → test x ≡ check c.cell
-        → (test x ≡ true → h (length cells, c) ≡ f (length cells) x) → map h (filter (λ (y : ℕ × SizedCell). check y.1.cell) (enumerate_from 0 cells)) ≡ with_nets test f ns nets
+    pub pairs_push : (ns : List NetTree) (nets : List (Option NetId)) (cells : List SizedCell) (x : NetTree) (c : SizedCell) (net : Option NetId)
+        → length nets ≡ length ns → number_of net ≡ length cells → test x ≡ check c.cell
+        → (test x ≡ true → h (length cells, c) ≡ f (length cells) x)
+        → map h (filter (λ (y : ℕ × SizedCell). check y.1.cell) (enumerate_from 0 cells)) ≡ with_nets test f ns nets
         → map h (filter (λ (y : ℕ × SizedCell). check y.1.cell) (enumerate_from 0 (cells ++ c ∷ []))) ≡ with_nets test f (ns ++ x ∷ []) (nets ++ net ∷ [])
     pairs_push ns nets cells x c net l number same fits e = elim (cases_Bool (test x)) [
       | inl t ↦
           let F : List (ℕ × SizedCell) = filter (λ (y : ℕ × SizedCell). check y.1.cell) (enumerate_from 0 cells) in
-          let last : h (0 + length cells, c) ≡ f (number_of net) x = ap (λ (n : ℕ). h (n, c)) (let z : 0 + length cells ≡ length cells = omega arith in z) ∙ fits t ∙ ap (λ (n : ℕ). f n x) (sym number) in
-          ap (map h) (taken_in check 0 cells c (sym same ∙ t)) ∙ map-append h F ((0 + length cells, c) ∷ []) ∙ ap (λ (ys : List Z). ys ++ h (0 + length cells, c) ∷ []) e
+          let last : h (0 + length cells, c) ≡ f (number_of net) x = ap (λ (n : ℕ). h (n, c)) (let z : 0 + length cells ≡ length cells = omega arith in z) ∙
+          fits t ∙ ap (λ (n : ℕ). f n x) (sym number) in
+          ap (map h) (taken_in check 0 cells c (sym same ∙ t)) ∙ map-append h F ((0 + length cells, c) ∷ []) ∙
+          ap (λ (ys : List Z). ys ++ h (0 + length cells, c) ∷ []) e
           ∙ ap (λ (z : Z). with_nets test f ns nets ++ z ∷ []) last ∙ sym (with_nets_push ns nets x net l ∙ rw t refl)
       | inr n ↦ ap (map h) (left_out check 0 cells c (sym same ∙ n)) ∙ e ∙ sym (with_nets_push ns nets x net l ∙ rw n refl)
     ]
 
   -- a name more that does not pass
-  pub pairs_same : (ns : List NetTree) (nets : List (Option NetId)) (x : NetTree) (net : Option NetId) (all : List Z) → length nets ≡ length ns → test x ≡ false → all ≡ with_nets test f ns nets
+  pub pairs_same : (ns : List NetTree) (nets : List (Option NetId)) (x : NetTree) (net : Option NetId) (all : List Z) → length nets ≡ length ns
+      → test x ≡ false → all ≡ with_nets test f ns nets
       → all ≡ with_nets test f (ns ++ x ∷ []) (nets ++ net ∷ [])
   pairs_same ns nets x net all l n e = e ∙ sym (with_nets_push ns nets x net l ∙ rw n refl)
 
@@ -77,14 +86,17 @@ same_input (InputCell port) = refl
 same_input _ = refl
 
 -- as many inputs as there are cells that are one
-pub inputs_counted : (k : ℕ) (cells : List SizedCell) → length (filter (λ (y : ℕ × SizedCell). is_input_cell y.1.cell) (enumerate_from k cells)) ≡ count_of is_input cells
+pub inputs_counted : (k : ℕ) (cells : List SizedCell) → length
+    (filter (λ (y : ℕ × SizedCell). is_input_cell y.1.cell) (enumerate_from k cells)) ≡ count_of is_input cells
 inputs_counted k cells = counted k cells ∙ length-filter (λ (c : SizedCell). is_input c.cell) cells
   where
-    either : (b : Bool) (y : ℕ × SizedCell) (c : SizedCell) (F : List (ℕ × SizedCell)) (G : List SizedCell) → length F ≡ length G → length (if b then y ∷ F else F) ≡ length (if b then c ∷ G else G)
+    either : (b : Bool) (y : ℕ × SizedCell) (c : SizedCell) (F : List (ℕ × SizedCell)) (G : List SizedCell) → length F ≡ length G
+        → length (if b then y ∷ F else F) ≡ length (if b then c ∷ G else G)
     either true y c F G e = ap suc e
     either false y c F G e = e
 
-    counted : (k : ℕ) (cells : List SizedCell) → length (filter (λ (y : ℕ × SizedCell). is_input_cell y.1.cell) (enumerate_from k cells)) ≡ length (filter (λ (c : SizedCell). is_input c.cell) cells)
+    counted : (k : ℕ) (cells : List SizedCell) → length (filter (λ (y : ℕ × SizedCell). is_input_cell y.1.cell) (enumerate_from k cells)) ≡ length
+        (filter (λ (c : SizedCell). is_input c.cell) cells)
     counted k [] = refl
     counted k (c ∷ cells) =
         rw (same_input c.cell) (either (is_input c.cell) (k, c) c _ _ (counted (k + 1) cells))
@@ -136,13 +148,16 @@ module _ (m : ModuleTree) (ns : List NetTree) (nets : List (Option NetId)) (cell
   }
 
   -- a name with the net of a new cell
-  pub declared_some : (c : SizedCell) (port : ℕ) → is_data_input m x ≡ is_input_cell c.cell → is_state x ≡ is_state_cell c.cell → is_given m x ≡ true → c.width ≡ x.width → cell_depth c.cell ≡ kind_depth x.kind
-      → StandsFor x.kind (cells ++ c ∷ []) (length cells) x.width → IsUnconnected x.kind (cells ++ c ∷ []) (length cells) x.width → port ≡ count_of is_input cells → (is_input_cell c.cell ≡ true → c.cell ≡ InputCell (Plain port))
+  pub declared_some : (c : SizedCell) (port : ℕ) → is_data_input m x ≡ is_input_cell c.cell → is_state x ≡ is_state_cell c.cell → is_given m x ≡ true
+      → c.width ≡ x.width → cell_depth c.cell ≡ kind_depth x.kind
+      → StandsFor x.kind (cells ++ c ∷ []) (length cells) x.width → IsUnconnected x.kind (cells ++ c ∷ []) (length cells) x.width
+      → port ≡ count_of is_input cells → (is_input_cell c.cell ≡ true → c.cell ≡ InputCell (Plain port))
       → AreDeclared m (ns ++ x ∷ []) (nets ++ Some (record { 0 = length cells }) ∷ []) (cells ++ c ∷ [])
   declared_some c port i s g w d stands free count is =
       let net : NetId = record { 0 = length cells } in
       record {
-        long = length-append nets (Some net ∷ []) ∙ (let l = all.long in let e : length nets + 1 ≡ length ns + 1 = omega arith in e) ∙ sym (length-append ns (x ∷ []));
+        long = length-append nets (Some net ∷ []) ∙ (let l = all.long in let e : length nets + 1 ≡ length ns + 1 = omega arith in e) ∙
+            sym (length-append ns (x ∷ []));
         stand = λ p u y hx hy. elim (get_push_cases nets (Some net) p (Some y) hy) [
           | inl o ↦ elim (get_push_cases ns x p u hx) [
             | inl v ↦ stands_later u.kind cells (cells ++ c ∷ []) y.0 u.width (keeps_extends (extends_append cells (c ∷ []))) (all.stand p u y v.0 o.0)
@@ -153,7 +168,8 @@ module _ (m : ModuleTree) (ns : List NetTree) (nets : List (Option NetId)) (cell
             | inr v ↦
                 let e : Some net ≡ Some y = o.1 in
                 let same : net ≡ y = cc in
-                subst (λ (k : NetTree). StandsFor k.kind (cells ++ c ∷ []) y.0 k.width) v.1 (subst (λ (k : NetId). StandsFor x.kind (cells ++ c ∷ []) k.0 x.width) same stands)
+                subst (λ (k : NetTree). StandsFor k.kind (cells ++ c ∷ []) y.0 k.width) v.1
+                (subst (λ (k : NetId). StandsFor x.kind (cells ++ c ∷ []) k.0 x.width) same stands)
           ]
         ];
         unconnected = λ p u y hx hy. elim (get_push_cases nets (Some net) p (Some y) hy) [
@@ -166,7 +182,8 @@ module _ (m : ModuleTree) (ns : List NetTree) (nets : List (Option NetId)) (cell
             | inr v ↦
                 let e : Some net ≡ Some y = o.1 in
                 let same : net ≡ y = cc in
-                subst (λ (k : NetTree). IsUnconnected k.kind (cells ++ c ∷ []) y.0 k.width) v.1 (subst (λ (k : NetId). IsUnconnected x.kind (cells ++ c ∷ []) k.0 x.width) same free)
+                subst (λ (k : NetTree). IsUnconnected k.kind (cells ++ c ∷ []) y.0 k.width) v.1
+                (subst (λ (k : NetId). IsUnconnected x.kind (cells ++ c ∷ []) k.0 x.width) same free)
           ]
         ];
         within = λ p y hy. let b = length-append cells (c ∷ []) in elim (get_push_cases nets (Some net) p (Some y) hy) [
@@ -191,34 +208,43 @@ module _ (m : ModuleTree) (ns : List NetTree) (nets : List (Option NetId)) (cell
           | inl v ↦ get_left nets (Some net ∷ []) p None (all.others p u v.0 t)
           | inr v ↦ absurd (let e : is_given m u ≡ true = ap (is_given m) (sym v.1) ∙ g in cc)
         ];
-        inputs = pairs_push {Z = ℕ × ℕ} (is_data_input m) (λ n y. (n, y.width)) is_input_cell (λ y. (y.0, y.1.width)) ns nets cells x c (Some net) all.long refl i (λ t. ap (λ (k : ℕ). (length cells, k)) w) all.inputs;
-        states = pairs_push {Z = ℕ × ℕ × Option ℕ} is_state (λ n y. (n, y.width, kind_depth y.kind)) is_state_cell (λ y. (y.0, y.1.width, cell_depth y.1.cell)) ns nets cells x c (Some net) all.long refl s (λ t. rw (w, d) refl) all.states;
+        inputs = pairs_push {Z = ℕ × ℕ} (is_data_input m) (λ n y. (n, y.width)) is_input_cell (λ y. (y.0, y.1.width)) ns nets cells x c
+            (Some net) all.long refl i (λ t. ap (λ (k : ℕ). (length cells, k)) w) all.inputs;
+        states = pairs_push {Z = ℕ × ℕ × Option ℕ} is_state (λ n y. (n, y.width, kind_depth y.kind)) is_state_cell
+            (λ y. (y.0, y.1.width, cell_depth y.1.cell)) ns nets cells x c (Some net) all.long refl s (λ t. rw (w, d) refl) all.states;
         plain = plain_push;
         few = let f = all.few in let a = length-append ns (x ∷ []) in let b = length-append cells (c ∷ []) in omega arith;
       }
     where
       plain_push : ArePlainInputs (cells ++ c ∷ [])
       plain_push k y h = elim (cases_Bool (is_input_cell c.cell)) [
-        | inl t ↦ elim (get_push_cases (input_cells cells) (0 + length cells, c) k y (ap (λ (ys : List (ℕ × SizedCell)). slice_get ys k) (sym (taken_in is_input_cell 0 cells c t)) ∙ h)) [
-          | inl v ↦ all.plain k y v.0
-          | inr v ↦ ap (λ (z : ℕ × SizedCell). z.1.cell) (sym v.1) ∙ is t ∙ ap (λ (n : ℕ). InputCell (Plain n)) (count ∙ sym (inputs_counted 0 cells) ∙ sym v.0)
-        ]
+        | inl t ↦ elim (get_push_cases (input_cells cells) (0 + length cells, c) k y
+            (ap (λ (ys : List (ℕ × SizedCell)). slice_get ys k) (sym (taken_in is_input_cell 0 cells c t)) ∙ h)) [
+              | inl v ↦ all.plain k y v.0
+              | inr v ↦ ap (λ (z : ℕ × SizedCell). z.1.cell) (sym v.1) ∙ is t ∙
+                  ap (λ (n : ℕ). InputCell (Plain n)) (count ∙ sym (inputs_counted 0 cells) ∙ sym v.0)
+            ]
         | inr n ↦ all.plain k y (ap (λ (ys : List (ℕ × SizedCell)). slice_get ys k) (sym (left_out is_input_cell 0 cells c n)) ∙ h)
       ]
 
 -- what a declaration adds
-pub declared_more : (m : ModuleTree) (ns : List NetTree) (nets : List (Option NetId)) (old new : Circuit) (x : NetTree) (net : Option NetId) (port : ℕ) → AreDeclared m ns nets old.cells → port ≡ count_of is_input old.cells
+pub declared_more : (m : ModuleTree) (ns : List NetTree) (nets : List (Option NetId)) (old new : Circuit) (x : NetTree) (net : Option NetId) (port : ℕ)
+    → AreDeclared m ns nets old.cells → port ≡ count_of is_input old.cells
     → Adds (given_cell x.kind (is_clock m x.name) (length old.cells) port x.width) old new net → AreDeclared m (ns ++ x ∷ []) (nets ++ net ∷ []) new.cells
 declared_more m ns nets old new x net port all count adds = by_kind x.kind (is_clock m x.name) refl refl adds
   where
     none : is_data_input m x ≡ false → is_state x ≡ false → Adds None old new net → AreDeclared m (ns ++ x ∷ []) (nets ++ net ∷ []) new.cells
     none i s a = rw (a.0, a.1) (declared_none m ns nets old.cells all x i s)
 
-    some : (c : SizedCell) → is_data_input m x ≡ is_input_cell c.cell → is_state x ≡ is_state_cell c.cell → is_given m x ≡ true → c.width ≡ x.width → cell_depth c.cell ≡ kind_depth x.kind
-        → StandsFor x.kind (old.cells ++ c ∷ []) (length old.cells) x.width → IsUnconnected x.kind (old.cells ++ c ∷ []) (length old.cells) x.width → (is_input_cell c.cell ≡ true → c.cell ≡ InputCell (Plain port)) → Adds (Some c) old new net → AreDeclared m (ns ++ x ∷ []) (nets ++ net ∷ []) new.cells
+    some : (c : SizedCell) → is_data_input m x ≡ is_input_cell c.cell → is_state x ≡ is_state_cell c.cell → is_given m x ≡ true → c.width ≡ x.width
+        → cell_depth c.cell ≡ kind_depth x.kind
+        → StandsFor x.kind (old.cells ++ c ∷ []) (length old.cells) x.width → IsUnconnected x.kind (old.cells ++ c ∷ []) (length old.cells) x.width
+        → (is_input_cell c.cell ≡ true → c.cell ≡ InputCell (Plain port)) → Adds (Some c) old new net
+        → AreDeclared m (ns ++ x ∷ []) (nets ++ net ∷ []) new.cells
     some c i s g w d stands free is a = rw (a.0, a.1) (declared_some m ns nets old.cells all x c port i s g w d stands free count is)
 
-    register : (k : NetKind) → x.kind ≡ k → is_input_kind k ≡ false → is_register_kind k ≡ true → kind_depth k ≡ None → ((cells : List SizedCell) (n w : ℕ) → IsNet cells n w → StandsFor k cells n w)
+    register : (k : NetKind) → x.kind ≡ k → is_input_kind k ≡ false → is_register_kind k ≡ true → kind_depth k ≡ None
+        → ((cells : List SizedCell) (n w : ℕ) → IsNet cells n w → StandsFor k cells n w)
         → ((cells : List SizedCell) (n w : ℕ) → slice_get cells n ≡ Some (new_register n w) → IsUnconnected k cells n w)
         → Adds (Some (new_register (length old.cells) x.width)) old new net → AreDeclared m (ns ++ x ∷ []) (nets ++ net ∷ []) new.cells
     register k e i r d stands free a =
@@ -228,7 +254,8 @@ declared_more m ns nets old new x net port all count adds = by_kind x.kind (is_c
         (rw e (free (old.cells ++ c ∷ []) (length old.cells) x.width (get_pushed old.cells c)))
         (λ t. absurd (cc)) a
 
-    by_kind : (k : NetKind) (b : Bool) → x.kind ≡ k → is_clock m x.name ≡ b → Adds (given_cell k b (length old.cells) port x.width) old new net → AreDeclared m (ns ++ x ∷ []) (nets ++ net ∷ []) new.cells
+    by_kind : (k : NetKind) (b : Bool) → x.kind ≡ k → is_clock m x.name ≡ b → Adds (given_cell k b (length old.cells) port x.width) old new net
+        → AreDeclared m (ns ++ x ∷ []) (nets ++ net ∷ []) new.cells
     by_kind Input true e f a = none (rw (e, f) refl) (rw e refl) a
     by_kind Input false e f a =
         let c : SizedCell = record { width = x.width; cell = InputCell (Plain port) } in

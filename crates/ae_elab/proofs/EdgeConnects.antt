@@ -21,8 +21,10 @@ use Rattle.ae_assign.specs.Edges.{FitsNext, IsConnected, KeepsConstants, OthersS
 use Rattle.ae_assign.specs.declared.statements.Next.{Next}
 use Rattle.ae_assign.specs.declared.statements.Next.TheVariants.{Keep, Word, Write}
 
-inputs_set : (k : ℕ) (cells : List SizedCell) (r : ℕ) (x y : SizedCell) → slice_get cells r ≡ Some x → is_input_cell x.cell ≡ false → is_input_cell y.cell ≡ false
-    → filter (λ (z : ℕ × SizedCell). is_input_cell z.1.cell) (enumerate_from k (set cells r y)) ≡ filter (λ (z : ℕ × SizedCell). is_input_cell z.1.cell) (enumerate_from k cells)
+inputs_set : (k : ℕ) (cells : List SizedCell) (r : ℕ) (x y : SizedCell) → slice_get cells r ≡ Some x → is_input_cell x.cell ≡ false
+    → is_input_cell y.cell ≡ false
+    → filter (λ (z : ℕ × SizedCell). is_input_cell z.1.cell) (enumerate_from k (set cells r y)) ≡ filter (λ (z : ℕ × SizedCell). is_input_cell z.1.cell)
+    (enumerate_from k cells)
 inputs_set k [] r x y h p q = absurd (let e : None ≡ Some x = h in cc)
 inputs_set k (z ∷ cells) zero x y h p q =
     let s : x ≡ z = (let e : Some z ≡ Some x = h in cc) in
@@ -33,15 +35,19 @@ inputs_set k (z ∷ cells) (suc r) x y h p q = ap (λ l. if is_input_cell z.cell
 abbrev measured : ℕ × SizedCell → ℕ × ℕ × Option ℕ
 measured x = (x.0, x.1.width, cell_depth x.1.cell)
 
-states_set : (k : ℕ) (cells : List SizedCell) (r : ℕ) (x y : SizedCell) → slice_get cells r ≡ Some x → is_state_cell x.cell ≡ true → is_state_cell y.cell ≡ true → y.width ≡ x.width → cell_depth y.cell ≡ cell_depth x.cell
-    → map measured (filter (λ (z : ℕ × SizedCell). is_state_cell z.1.cell) (enumerate_from k (set cells r y))) ≡ map measured (filter (λ (z : ℕ × SizedCell). is_state_cell z.1.cell) (enumerate_from k cells))
+states_set : (k : ℕ) (cells : List SizedCell) (r : ℕ) (x y : SizedCell) → slice_get cells r ≡ Some x → is_state_cell x.cell ≡ true
+    → is_state_cell y.cell ≡ true → y.width ≡ x.width → cell_depth y.cell ≡ cell_depth x.cell
+    → map measured (filter (λ (z : ℕ × SizedCell). is_state_cell z.1.cell) (enumerate_from k (set cells r y))) ≡ map measured
+    (filter (λ (z : ℕ × SizedCell). is_state_cell z.1.cell) (enumerate_from k cells))
 states_set k [] r x y h p q w d = absurd (let e : None ≡ Some x = h in cc)
 states_set k (z ∷ cells) zero x y h p q w d =
     let s : x ≡ z = (let e : Some z ≡ Some x = h in cc) in
     let rest = filter (λ (u : ℕ × SizedCell). is_state_cell u.1.cell) (enumerate_from (k + 1) cells) in
-    let same : measured (k, y) ≡ measured (k, z) = same_measure k y z (w ∙ ap (λ (u : SizedCell). u.width) s) (d ∙ ap (λ (u : SizedCell). cell_depth u.cell) s) in
+    let same : measured (k, y) ≡ measured (k, z) = same_measure k y z (w ∙ ap (λ (u : SizedCell). u.width) s)
+    (d ∙ ap (λ (u : SizedCell). cell_depth u.cell) s) in
     ap (map measured) (cond-true _ ((k, y) ∷ rest) rest q)
-    ∙ (ap (λ e. e ∷ map measured rest) same ∙ sym (ap (map measured) (cond-true _ ((k, z) ∷ rest) rest (ap (λ (u : SizedCell). is_state_cell u.cell) (sym s) ∙ p))))
+    ∙ (ap (λ e. e ∷ map measured rest) same ∙ sym (ap (map measured)
+    (cond-true _ ((k, z) ∷ rest) rest (ap (λ (u : SizedCell). is_state_cell u.cell) (sym s) ∙ p))))
   where
     same_measure : (k : ℕ) (y z : SizedCell) → y.width ≡ z.width → cell_depth y.cell ≡ cell_depth z.cell → measured (k, y) ≡ measured (k, z)
     same_measure k y z w d = λ i. (k, w i, d i)
@@ -50,12 +56,14 @@ states_set k (z ∷ cells) (suc r) x y h p q w d =
     let new = filter (λ (u : ℕ × SizedCell). is_state_cell u.1.cell) (enumerate_from (k + 1) (set cells r y)) in
     let old = filter (λ (u : ℕ × SizedCell). is_state_cell u.1.cell) (enumerate_from (k + 1) cells) in
     elim (cases_Bool (is_state_cell z.cell)) [
-      | inl t ↦ ap (map measured) (cond-true _ ((k, z) ∷ new) new t) ∙ (ap (λ l. measured (k, z) ∷ l) all ∙ sym (ap (map measured) (cond-true _ ((k, z) ∷ old) old t)))
+      | inl t ↦ ap (map measured) (cond-true _ ((k, z) ∷ new) new t) ∙
+          (ap (λ l. measured (k, z) ∷ l) all ∙ sym (ap (map measured) (cond-true _ ((k, z) ∷ old) old t)))
       | inr f ↦ ap (map measured) (cond-false _ ((k, z) ∷ new) new f) ∙ (all ∙ sym (ap (map measured) (cond-false _ ((k, z) ∷ old) old f)))
     ]
 
 -- one cell before a number is another of the same kind
-connects_set : (from : ℕ) (old new : Circuit) (r : ℕ) (x y : SizedCell) → slice_get old.cells r ≡ Some x → StandsFor y x → is_input_cell x.cell ≡ false → is_input_cell y.cell ≡ false → is_state_cell x.cell ≡ true → is_state_cell y.cell ≡ true
+connects_set : (from : ℕ) (old new : Circuit) (r : ℕ) (x y : SizedCell) → slice_get old.cells r ≡ Some x → StandsFor y x → is_input_cell x.cell ≡ false
+    → is_input_cell y.cell ≡ false → is_state_cell x.cell ≡ true → is_state_cell y.cell ≡ true
     → y.width ≡ x.width → cell_depth y.cell ≡ cell_depth x.cell → r < from → new ≡ record old { cells = slice_set old.cells r y } → Connects from old new
 connects_set from old new r x y h stands xi yi xs ys w d l e =
     let keeps = keeps_replaced old.cells r y x h stands in
@@ -98,7 +106,8 @@ still_connected OutReg cells net w h = h
 still_connected (Memory depth) cells net w h = h
 
 -- a register that is not connected
-pub register_there : (k : NetKind) (cells : List SizedCell) (net w : ℕ) → is_register_kind k ≡ true → IsUnconnected k cells net w → slice_get cells net ≡ Some (new_register net w)
+pub register_there : (k : NetKind) (cells : List SizedCell) (net w : ℕ) → is_register_kind k ≡ true → IsUnconnected k cells net w
+    → slice_get cells net ≡ Some (new_register net w)
 register_there Input cells net w r h = absurd (cc)
 register_there Wire cells net w r h = absurd (cc)
 register_there OutWire cells net w r h = absurd (cc)
@@ -106,7 +115,8 @@ register_there RegName cells net w r h = h
 register_there OutReg cells net w r h = h
 register_there (Memory depth) cells net w r h = absurd (cc)
 
-register_connected : (k : NetKind) (cells : List SizedCell) (net w : ℕ) (y : NetId) → is_register_kind k ≡ true → slice_get cells net ≡ Some (record { width = w; cell = Reg y }) → IsConnected k cells net w (Word y)
+register_connected : (k : NetKind) (cells : List SizedCell) (net w : ℕ) (y : NetId) → is_register_kind k ≡ true
+    → slice_get cells net ≡ Some (record { width = w; cell = Reg y }) → IsConnected k cells net w (Word y)
 register_connected Input cells net w y r h = tt
 register_connected Wire cells net w y r h = tt
 register_connected OutWire cells net w y r h = tt
@@ -133,7 +143,8 @@ keep_joined from x old net h = record {
   connected = still_connected x.kind old.cells net x.width h;
 }
 
-pub word_joined : (from : ℕ) (x : NetTree) (old new : Circuit) (net : ℕ) (y : NetId) → IsUnconnected x.kind old.cells net x.width → (is_state x ≡ true → net < from) → FitsNext old.cells x (Word y)
+pub word_joined : (from : ℕ) (x : NetTree) (old new : Circuit) (net : ℕ) (y : NetId) → IsUnconnected x.kind old.cells net x.width
+    → (is_state x ≡ true → net < from) → FitsNext old.cells x (Word y)
     → new ≡ record old { cells = slice_set old.cells net (record { width = width_of old.cells net; cell = Reg y }) } → IsJoined from x old new net (Word y)
 word_joined from x old new net y free early fits e =
     let there = register_there x.kind old.cells net x.width fits.0 free in
@@ -142,24 +153,29 @@ word_joined from x old new net y free early fits e =
     let stands = register_stands x.width (record { 0 = net }) y in
     let keeps = keeps_replaced old.cells net (record { width = x.width; cell = Reg y }) (new_register net x.width) there stands in
     record {
-      connects = connects_set from old new net (new_register net x.width) (record { width = x.width; cell = Reg y }) there stands refl refl refl refl refl refl (early (or_left _ _ fits.0)) made;
+      connects = connects_set from old new net (new_register net x.width) (record { width = x.width; cell = Reg y }) there stands refl refl refl refl refl refl
+          (early (or_left _ _ fits.0)) made;
       long = rw made (length-set old.cells net (record { width = x.width; cell = Reg y }));
       constants = rw made keeps.constants;
       others = rw made (λ n other. get_set_other old.cells net n (record { width = x.width; cell = Reg y }) other);
       stays = λ f. absurd (both_ways _ f (or_left _ _ fits.0));
-      connected = register_connected x.kind new.cells net x.width y fits.0 (rw made (get_set_same old.cells net (record { width = x.width; cell = Reg y }) (new_register net x.width) there));
+      connected = register_connected x.kind new.cells net x.width y fits.0
+          (rw made (get_set_same old.cells net (record { width = x.width; cell = Reg y }) (new_register net x.width) there));
     }
 
 -- a memory that is not connected
-pub memory_there : (x : NetTree) (cells : List SizedCell) (net depth : ℕ) → x.kind ≡ Memory depth → IsUnconnected x.kind cells net x.width → slice_get cells net ≡ Some (new_memory net x.width depth)
+pub memory_there : (x : NetTree) (cells : List SizedCell) (net depth : ℕ) → x.kind ≡ Memory depth → IsUnconnected x.kind cells net x.width
+    → slice_get cells net ≡ Some (new_memory net x.width depth)
 memory_there x cells net depth is h = subst (λ k. IsUnconnected k cells net x.width) is h
 
 pub depth_is : (cells : List SizedCell) (net width depth : ℕ) → slice_get cells net ≡ Some (new_memory net width depth) → depth_of cells net ≡ depth
 unfolding depth_of
 depth_is cells net width depth h = rw h refl
 
-pub write_joined : (from : ℕ) (x : NetTree) (old new : Circuit) (net : ℕ) (at word enable : NetId) → IsUnconnected x.kind old.cells net x.width → (is_state x ≡ true → net < from) → FitsNext old.cells x (Write at word enable)
-    → new ≡ record old { cells = slice_set old.cells net (record { width = width_of old.cells net; cell = Mem (depth_of old.cells net) at word enable }) } → IsJoined from x old new net (Write at word enable)
+pub write_joined : (from : ℕ) (x : NetTree) (old new : Circuit) (net : ℕ) (at word enable : NetId) → IsUnconnected x.kind old.cells net x.width
+    → (is_state x ≡ true → net < from) → FitsNext old.cells x (Write at word enable)
+    → new ≡ record old { cells = slice_set old.cells net (record { width = width_of old.cells net; cell = Mem (depth_of old.cells net) at word enable }) }
+    → IsJoined from x old new net (Write at word enable)
 write_joined from x old new net at word enable free early fits e =
     let depth = fits.0 in
     let there = memory_there x old.cells net depth fits.1 free in
@@ -176,17 +192,20 @@ write_joined from x old new net at word enable free early fits e =
       constants = rw made keeps.constants;
       others = rw made (λ n other. get_set_other old.cells net n y other);
       stays = λ f. absurd (both_ways _ f state);
-      connected = subst (λ k. IsConnected k new.cells net x.width (Write at word enable)) (sym fits.1) (rw made (get_set_same old.cells net y (new_memory net x.width depth) there));
+      connected = subst (λ k. IsConnected k new.cells net x.width (Write at word enable)) (sym fits.1)
+          (rw made (get_set_same old.cells net y (new_memory net x.width depth) there));
     }
 
 -- what is asked where a register, and where a memory, is connected
-pub register_asked : (x : NetTree) (cells : List SizedCell) (net : ℕ) (y : NetId) → IsUnconnected x.kind cells net x.width → FitsNext cells x (Word y) → IsRegister cells net (width_of cells net) × IsNet cells y.0 (width_of cells net)
+pub register_asked : (x : NetTree) (cells : List SizedCell) (net : ℕ) (y : NetId) → IsUnconnected x.kind cells net x.width → FitsNext cells x (Word y)
+    → IsRegister cells net (width_of cells net) × IsNet cells y.0 (width_of cells net)
 register_asked x cells net y free fits =
     let there = register_there x.kind cells net x.width fits.0 free in
     let wide : width_of cells net ≡ x.width = width_is cells net (new_register net x.width) there in
     rw wide (record { next = record { 0 = net }; found = there }, fits.1)
 
-pub memory_asked : (x : NetTree) (cells : List SizedCell) (net : ℕ) (at word enable : NetId) → IsUnconnected x.kind cells net x.width → FitsNext cells x (Write at word enable)
+pub memory_asked : (x : NetTree) (cells : List SizedCell) (net : ℕ) (at word enable : NetId) → IsUnconnected x.kind cells net x.width
+    → FitsNext cells x (Write at word enable)
     → IsMemory cells net (width_of cells net) (depth_of cells net) × IsWritten cells (width_of cells net) (depth_of cells net) at.0 word.0 enable.0
 memory_asked x cells net at word enable free fits =
     let there = memory_there x cells net fits.0 fits.1 free in

@@ -68,7 +68,8 @@ no_repeat_of ns (assigns drives) n h = refl
 no_repeat_of ns (always clock body) n h = named_memory (net_named ns n) h
 
 -- a name that stands twice in two lists
-place_in_parts : (xs ys : List (List ℕ)) (p : ℕ) (n : List ℕ) → slice_get (xs ++ ys) p ≡ Some n → ((slice_get xs p ≡ Some n) × (p < length xs)) ⊎ ((q : ℕ) × (p ≡ length xs + q) × (slice_get ys q ≡ Some n))
+place_in_parts : (xs ys : List (List ℕ)) (p : ℕ) (n : List ℕ) → slice_get (xs ++ ys) p ≡ Some n → ((slice_get xs p ≡ Some n) × (p < length xs))
+    ⊎ ((q : ℕ) × (p ≡ length xs + q) × (slice_get ys q ≡ Some n))
 place_in_parts [] ys p n h = inr (p, (let z : p ≡ 0 + p = omega arith in z), h)
 place_in_parts (x ∷ xs) ys zero n h = inl (h, (let z : zero < suc (length xs) = omega arith in z))
 place_in_parts (x ∷ xs) ys (suc p) n h = elim (place_in_parts xs ys p n h) [
@@ -90,7 +91,8 @@ repeated_in_parts xs ys n h = elim (place_in_parts xs ys h.0 n h.3) [
 
 module _ (m : ModuleTree) (ok : IsRegular m) where
   -- among the items from number k on
-  never_repeated : (n : List ℕ) → is_memory_name m.nets n ≡ true → (k : ℕ) (is : List ItemTree) → ((j : ℕ) (i : ItemTree) → slice_get is j ≡ Some i → slice_get m.items (k + j) ≡ Some i) → IsRepeated n (flat_map item_targets is) → ⊥
+  never_repeated : (n : List ℕ) → is_memory_name m.nets n ≡ true → (k : ℕ) (is : List ItemTree)
+      → ((j : ℕ) (i : ItemTree) → slice_get is j ≡ Some i → slice_get m.items (k + j) ≡ Some i) → IsRepeated n (flat_map item_targets is) → ⊥
   never_repeated n memory k [] here h = let e : None ≡ Some n = h.3 in cc
   never_repeated n memory k (i ∷ is) here h =
       let at : slice_get m.items k ≡ Some i = subst (λ j. slice_get m.items j ≡ Some i) (let z : k + 0 ≡ k = omega arith in z) (here 0 i refl) in
@@ -102,7 +104,13 @@ module _ (m : ModuleTree) (ok : IsRegular m) where
           | inl both ↦
               let q = among_unflat item_targets n is both.1 in
               let later : slice_get m.items (k + suc q.0) ≡ Some q.1 = here (suc q.0) q.1 q.2 in
-              ok.once (k + suc q.0 + 1) (inr (q.1, n, item_at m ok (k + suc q.0) q.1 later, q.3, inr (inl (k + 1, i, (let z : k + 1 < k + suc q.0 + 1 = omega arith in z), item_at m ok k i at, both.0))))
+              ok.once (k + suc q.0 + 1) (inr (
+                q.1,
+                n,
+                item_at m ok (k + suc q.0) q.1 later,
+                q.3,
+                inr (inl (k + 1, i, (let z : k + 1 < k + suc q.0 + 1 = omega arith in z), item_at m ok k i at, both.0)),
+              ))
           | inr behind ↦
               never_repeated n memory (k + 1) is
               (λ j u g. subst (λ a. slice_get m.items a ≡ Some u) (let z : k + suc j ≡ k + 1 + j = omega arith in z) (here (suc j) u g)) behind
@@ -116,8 +124,10 @@ module _ (m : ModuleTree) (ok : IsRegular m) where
   }
 
 -- what items do is what is next
-pub items_next : (m : ModuleTree) (from : ℕ) (ys : List (Option NetId)) (mid : List SizedCell) (nexts : List Next) → ActsItems from m.nets ys mid (first_nexts m.nets) nexts m.items
-    → (at : List ℕ → ℕ) → AreNamed m.nets ys at → (all : List SizedCell) → Carries from mid all → (run : List Clock) → IsRun all run → (t : ℕ) → t < length run → next_read m.nets nexts at run t ≡ next_clock m (read at run t)
+pub items_next : (m : ModuleTree) (from : ℕ) (ys : List (Option NetId)) (mid : List SizedCell) (nexts : List Next)
+    → ActsItems from m.nets ys mid (first_nexts m.nets) nexts m.items
+    → (at : List ℕ → ℕ) → AreNamed m.nets ys at → (all : List SizedCell) → Carries from mid all → (run : List Clock) → IsRun all run → (t : ℕ) → t < length run
+    → next_read m.nets nexts at run t ≡ next_clock m (read at run t)
 unfolding next_clock
 items_next m from ys mid nexts acts at named all k run is t l =
     acts at named all k run is t l ∙ ap (λ c. after_items m.nets (read at run t) m.items c) (first_read m.nets at run t)
@@ -131,7 +141,8 @@ free_later Reg a b n w g h = g.extends.keeps n _ h
 free_later OutReg a b n w g h = g.extends.keeps n _ h
 free_later (Memory depth) a b n w g h = g.extends.keeps n _ h
 
-pub unconnected_grows : (m : ModuleTree) (from : ℕ) (ys : List (Option NetId)) (a b : Circuit) → Grows a b → AreUnconnected m from ys a.cells → AreUnconnected m from ys b.cells
+pub unconnected_grows : (m : ModuleTree) (from : ℕ) (ys : List (Option NetId)) (a b : Circuit) → Grows a b → AreUnconnected m from ys a.cells
+    → AreUnconnected m from ys b.cells
 unconnected_grows m from ys a b g h = record {
   each = λ p x y here net. free_later x.kind a b y.0 x.width g (h.each p x y here net);
   early = h.early;

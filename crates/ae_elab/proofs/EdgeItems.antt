@@ -19,12 +19,14 @@ use Rattle.ae_assign.proofs.EdgeFits.{fresh_left, fresh_right}
 
 module _ (from : ℕ) (ns : List NetTree) (ys : List (Option NetId)) where
   -- an `always` item, which nothing guards
-  pub always_acts : (before after : List SizedCell) (old new : List Next) (clock : List ℕ) (body : StmtTree) → Acts from ns ys None before after old new body → ActsItems from ns ys after old new (always clock body ∷ [])
+  pub always_acts : (before after : List SizedCell) (old new : List Next) (clock : List ℕ) (body : StmtTree) → Acts from ns ys None before after old new body
+      → ActsItems from ns ys after old new (always clock body ∷ [])
   always_acts before after old new clock body acts = λ at named all k run is t l.
       acts at (λ run t. true) named (λ run t. refl) all k run is t l ∙ guards_do ns (read at run t) body (next_read ns old at run t)
 
 -- so many items are done, and the rest is not
-pub record AreActing (from : ℕ) (ns : List NetTree) (ys : List (Option NetId)) (old new : Circuit) (before after : List Next) (whole rest : List ItemTree) : Type 0 where
+pub record AreActing (from : ℕ) (ns : List NetTree) (ys : List (Option NetId)) (old new : Circuit) (before after : List Next)
+    (whole rest : List ItemTree) : Type 0 where
   pub grows : Grows old new
   pub more : length old.cells ≤ length new.cells
   pub few : length new.cells + 8 * sum_by edge_weight rest ≤ length old.cells + 8 * sum_by edge_weight whole
@@ -36,7 +38,8 @@ pub record AreActing (from : ℕ) (ns : List NetTree) (ys : List (Option NetId))
       → after_items ns (read at run t) rest (next_read ns after at run t) ≡ after_items ns (read at run t) whole (next_read ns before at run t)
 
 module _ (from : ℕ) (ns : List NetTree) (ys : List (Option NetId)) (old : Circuit) (before : List Next) (whole : List ItemTree) where
-  pub items_first : AllByRecursion (IsActiveItem ns ys) whole → FitNexts ns before old.cells → AreFresh ns before (flat_map item_targets whole) → AreActing from ns ys old old before before whole whole
+  pub items_first : AllByRecursion (IsActiveItem ns ys) whole → FitNexts ns before old.cells → AreFresh ns before (flat_map item_targets whole)
+      → AreActing from ns ys old old before before whole whole
   items_first active nexts fresh = record {
     grows = grows_refl old;
     more = omega arith;
@@ -47,8 +50,10 @@ module _ (from : ℕ) (ns : List NetTree) (ys : List (Option NetId)) (old : Circ
     acts = λ at named all k run is t l. refl;
   }
 
-  pub items_step : (mid new : Circuit) (after later : List Next) (i : ItemTree) (rest : List ItemTree) → AreActing from ns ys old mid before after whole (i ∷ rest)
-      → Grows mid new → length mid.cells ≤ length new.cells → length new.cells ≤ length mid.cells + 8 * edge_weight i → FitNexts ns later new.cells → OthersKeep ns after later (item_targets i) → ActsItems from ns ys new.cells after later (i ∷ [])
+  pub items_step : (mid new : Circuit) (after later : List Next) (i : ItemTree) (rest : List ItemTree)
+      → AreActing from ns ys old mid before after whole (i ∷ rest)
+      → Grows mid new → length mid.cells ≤ length new.cells → length new.cells ≤ length mid.cells + 8 * edge_weight i → FitNexts ns later new.cells
+      → OthersKeep ns after later (item_targets i) → ActsItems from ns ys new.cells after later (i ∷ [])
       → AreActing from ns ys old new before later whole rest
   items_step mid new after later i rest h grows more few nexts others acts =
       let less = h.few in
@@ -65,7 +70,8 @@ module _ (from : ℕ) (ns : List NetTree) (ys : List (Option NetId)) (old : Circ
             ap (after_items ns (read at run t) rest) (acts at named all k run is t l) ∙ h.acts at named all (back grows k) run is t l;
       }
 
-  pub items_fresh : (mid : Circuit) (after : List Next) (i : ItemTree) (rest : List ItemTree) → AreActing from ns ys old mid before after whole (i ∷ rest) → AreFresh ns after (item_targets i)
+  pub items_fresh : (mid : Circuit) (after : List Next) (i : ItemTree) (rest : List ItemTree) → AreActing from ns ys old mid before after whole (i ∷ rest)
+      → AreFresh ns after (item_targets i)
   items_fresh mid after i rest h = fresh_left ns after (item_targets i) (flat_map item_targets rest) h.fresh
 
   pub items_done : (new : Circuit) (after : List Next) → AreActing from ns ys old new before after whole [] → ActsItems from ns ys new.cells before after whole

@@ -45,24 +45,31 @@ all_from P (x ∷ xs) h = (h 0 x refl, all_from P xs (λ j y e. h (suc j) y e))
 module _ (m : ModuleTree) (ok : IsRegular m) (shape : IsShapely m) where
   -- the place of a word in a memory
   memory_index : (n : List ℕ) (at : ExprTree) → IsNamed m.nets n → is_memory_name m.nets n ≡ true → ((k : List ℕ) → Among k (names_in at) → IsData m k)
-      → is_misused m.nets at ≡ false → is_too_wide m.nets at ≡ false → is_outside m.nets n at ≡ false → IsLettered at → IsPlaced true at → IsSound m.nets (index n at)
+      → is_misused m.nets at ≡ false → is_too_wide m.nets at ≡ false → is_outside m.nets n at ≡ false → IsLettered at → IsPlaced true at
+      → IsSound m.nets (index n at)
   memory_index n at named memory known right fits inside letters placed = (
     named,
     elim (cases_Bool (is_place at)) [
       | inl t ↦
           let e = is_the_place at t in
-          let within = inside_place (is_memory_name m.nets n) (declared_width m.nets n) (depth_of m.nets n) (own_width m.nets at) (place_number at) (subst (λ u. is_outside_of (is_memory_name m.nets n) (declared_width m.nets n) (depth_of m.nets n) (own_width m.nets at) u ≡ false) e inside) in
+          let within = inside_place (is_memory_name m.nets n) (declared_width m.nets n) (depth_of m.nets n) (own_width m.nets at) (place_number at)
+          (subst (λ u. is_outside_of (is_memory_name m.nets n) (declared_width m.nets n) (depth_of m.nets n) (own_width m.nets at) u ≡ false) e inside) in
           subst (λ b. IsSoundIndex b m.nets n (place_number at) (own_width m.nets at) (IsSound m.nets at)) (sym t) within
       | inr o ↦
           let deep : nat_lt (depth_of m.nets n) (2 ^ own_width m.nets at) ≡ false =
           sym (outside_varying at (declared_width m.nets n) (depth_of m.nets n) (own_width m.nets at) o)
           ∙ subst (λ b. is_outside_of b (declared_width m.nets n) (depth_of m.nets n) (own_width m.nets at) at ≡ false) memory inside in
           subst (λ b. IsSoundIndex b m.nets n (place_number at) (own_width m.nets at) (IsSound m.nets at)) (sym o)
-          (record { memory = memory; inside = not_less (depth_of m.nets n) (2 ^ own_width m.nets at) deep; sound = sound_of m ok shape at known right fits letters (not_place at o placed) })
+          (record {
+            memory = memory;
+            inside = not_less (depth_of m.nets n) (2 ^ own_width m.nets at) deep;
+            sound = sound_of m ok shape at known right fits letters (not_place at o placed);
+          })
     ],
   )
 
-  stmt_sound : (s : StmtTree) → ((n : List ℕ) → Among n (stmt_reads s) → IsData m n) → ((n : List ℕ) → Among n (stmt_targets s) → IsNamed m.nets n) → is_misused_in_stmt m.nets s ≡ false → is_too_wide_in_stmt m.nets s ≡ false
+  stmt_sound : (s : StmtTree) → ((n : List ℕ) → Among n (stmt_reads s) → IsData m n) → ((n : List ℕ) → Among n (stmt_targets s) → IsNamed m.nets n)
+      → is_misused_in_stmt m.nets s ≡ false → is_too_wide_in_stmt m.nets s ≡ false
       → EachInStmt IsLettered IsLettered s → EachInStmt (IsPlaced false) (IsPlaced true) s → IsSoundStmt m.nets s
   stmt_sound (set n value) known targets right fits letters placed =
       let r = or_parts _ _ right in
@@ -89,19 +96,26 @@ module _ (m : ModuleTree) (ok : IsRegular m) (shape : IsShapely m) where
       let f = or_parts _ _ fits in
       let g = or_parts _ _ f.1 in (
         sound_of m ok shape test (λ k a. known k (among_left k (names_in test) (stmt_reads taken ++ stmt_reads otherwise) a)) r.0 f.0 letters.0 placed.0,
-        stmt_sound taken (λ k a. known k (among_right k (names_in test) (stmt_reads taken ++ stmt_reads otherwise) (among_left k (stmt_reads taken) (stmt_reads otherwise) a))) (λ k a. targets k (among_left k (stmt_targets taken) (stmt_targets otherwise) a)) q.0 g.0 letters.1 placed.1,
-        stmt_sound otherwise (λ k a. known k (among_right k (names_in test) (stmt_reads taken ++ stmt_reads otherwise) (among_right k (stmt_reads taken) (stmt_reads otherwise) a))) (λ k a. targets k (among_right k (stmt_targets taken) (stmt_targets otherwise) a)) q.1 g.1 letters.2 placed.2,
+        stmt_sound taken (λ k a. known k (among_right k (names_in test) (stmt_reads taken ++ stmt_reads otherwise)
+            (among_left k (stmt_reads taken) (stmt_reads otherwise) a)))
+            (λ k a. targets k (among_left k (stmt_targets taken) (stmt_targets otherwise) a)) q.0 g.0 letters.1 placed.1,
+        stmt_sound otherwise (λ k a. known k (among_right k (names_in test) (stmt_reads taken ++ stmt_reads otherwise)
+            (among_right k (stmt_reads taken) (stmt_reads otherwise) a)))
+            (λ k a. targets k (among_right k (stmt_targets taken) (stmt_targets otherwise) a)) q.1 g.1 letters.2 placed.2,
       )
   stmt_sound block_end known targets right fits letters placed = tt
   stmt_sound (block_more first rest) known targets right fits letters placed =
       let r = or_parts _ _ right in
       let f = or_parts _ _ fits in (
-        stmt_sound first (λ k a. known k (among_left k (stmt_reads first) (stmt_reads rest) a)) (λ k a. targets k (among_left k (stmt_targets first) (stmt_targets rest) a)) r.0 f.0 letters.0 placed.0,
-        stmt_sound rest (λ k a. known k (among_right k (stmt_reads first) (stmt_reads rest) a)) (λ k a. targets k (among_right k (stmt_targets first) (stmt_targets rest) a)) r.1 f.1 letters.1 placed.1,
+        stmt_sound first (λ k a. known k (among_left k (stmt_reads first) (stmt_reads rest) a))
+            (λ k a. targets k (among_left k (stmt_targets first) (stmt_targets rest) a)) r.0 f.0 letters.0 placed.0,
+        stmt_sound rest (λ k a. known k (among_right k (stmt_reads first) (stmt_reads rest) a))
+            (λ k a. targets k (among_right k (stmt_targets first) (stmt_targets rest) a)) r.1 f.1 letters.1 placed.1,
       )
 
   -- what an `always` item assigns is declared
-  target_named : (j : ℕ) (clock : List ℕ) (body : StmtTree) → slice_get m.items j ≡ Some (always clock body) → (n : List ℕ) → Among n (stmt_targets body) → IsNamed m.nets n
+  target_named : (j : ℕ) (clock : List ℕ) (body : StmtTree) → slice_get m.items j ≡ Some (always clock body) → (n : List ℕ) → Among n (stmt_targets body)
+      → IsNamed m.nets n
   target_named j clock body h n a = elim (declared_or_not m ok (j + 1) n) [
     | inl r ↦ subst (IsNamed m.nets) r.2 (named_of m ok shape r.0 r.1)
     | inr never ↦ absurd (ok.known (j + 1) (always clock body, n, item_at m ok j (always clock body) h, (inr (inl a), never)))
@@ -110,7 +124,8 @@ module _ (m : ModuleTree) (ok : IsRegular m) (shape : IsShapely m) where
   body_sound : (j : ℕ) (clock : List ℕ) (body : StmtTree) → slice_get m.items j ≡ Some (always clock body) → IsSoundStmt m.nets body
   body_sound j clock body h =
       let read = body_readable m ok j clock body h in
-      let fits : is_too_wide_in_item m.nets (always clock body) ≡ false = not_true _ (λ t. ok.widths (j + 1) (inr (always clock body, item_at m ok j (always clock body) h, t))) in
+      let fits : is_too_wide_in_item m.nets (always clock body) ≡ false = not_true _
+      (λ t. ok.widths (j + 1) (inr (always clock body, item_at m ok j (always clock body) h, t))) in
       stmt_sound body read.known (target_named j clock body h) read.right fits
       (all_at m ok shape IsLetteredItem m.items j (always clock body) shape.lettered h)
       (all_at m ok shape IsPlacedItem m.items j (always clock body) shape.placed h)
@@ -132,10 +147,12 @@ module _ (m : ModuleTree) (ok : IsRegular m) (shape : IsShapely m) where
         record { net = y.0; found = y.1 }
 
     register_ready : (n : List ℕ) (here : IsNamed m.nets n) → is_register_name m.nets n ≡ true → IsReady m.nets ys n
-    register_ready n here r = state_ready n here (register_no_input here.net.kind (subst (λ o. passes (λ (x : NetTree). is_register_kind x.kind) o ≡ true) here.found r))
+    register_ready n here r = state_ready n here (register_no_input here.net.kind
+        (subst (λ o. passes (λ (x : NetTree). is_register_kind x.kind) o ≡ true) here.found r))
 
     memory_ready : (n : List ℕ) (here : IsNamed m.nets n) → is_memory_name m.nets n ≡ true → IsReady m.nets ys n
-    memory_ready n here r = state_ready n here (memory_no_input here.net.kind (subst (λ o. passes (λ (x : NetTree). is_memory_kind x.kind) o ≡ true) here.found r))
+    memory_ready n here r = state_ready n here (memory_no_input here.net.kind
+        (subst (λ o. passes (λ (x : NetTree). is_memory_kind x.kind) o ≡ true) here.found r))
 
     stmt_ready : (s : StmtTree) → ((n : List ℕ) → Among n (stmt_reads s) → IsReady m.nets ys n) → IsSoundStmt m.nets s → IsReadyStmt m.nets ys s
     stmt_ready (set n value) reads sound = (register_ready n sound.0 sound.1, ready_for m.nets ys value reads)
@@ -149,8 +166,10 @@ module _ (m : ModuleTree) (ok : IsRegular m) (shape : IsShapely m) where
     )
     stmt_ready (either test taken otherwise) reads sound = (
       ready_for m.nets ys test (λ k a. reads k (among_left k (names_in test) (stmt_reads taken ++ stmt_reads otherwise) a)),
-      stmt_ready taken (λ k a. reads k (among_right k (names_in test) (stmt_reads taken ++ stmt_reads otherwise) (among_left k (stmt_reads taken) (stmt_reads otherwise) a))) sound.1,
-      stmt_ready otherwise (λ k a. reads k (among_right k (names_in test) (stmt_reads taken ++ stmt_reads otherwise) (among_right k (stmt_reads taken) (stmt_reads otherwise) a))) sound.2,
+      stmt_ready taken (λ k a. reads k (among_right k (names_in test) (stmt_reads taken ++ stmt_reads otherwise)
+          (among_left k (stmt_reads taken) (stmt_reads otherwise) a))) sound.1,
+      stmt_ready otherwise (λ k a. reads k (among_right k (names_in test) (stmt_reads taken ++ stmt_reads otherwise)
+          (among_right k (stmt_reads taken) (stmt_reads otherwise) a))) sound.2,
     )
     stmt_ready block_end reads sound = tt
     stmt_ready (block_more first rest) reads sound = (

@@ -33,17 +33,20 @@ net_word (Word y) run t own = refl
 net_word (Write at word enable) run t own = refl
 
 -- no net is a memory
-not_the_memory : (cells : List SizedCell) (n own width depth : ℕ) (at word enable : NetId) → IsNet cells n 1 → slice_get cells own ≡ Some (record { width = width; cell = Mem depth at word enable }) → n ≢ own
+not_the_memory : (cells : List SizedCell) (n own width depth : ℕ) (at word enable : NetId) → IsNet cells n 1
+    → slice_get cells own ≡ Some (record { width = width; cell = Mem depth at word enable }) → n ≢ own
 not_the_memory cells n own width depth at word enable net h e =
     let found : Some net.sized ≡ Some (record { width = width; cell = Mem depth at word enable }) = sym net.found ∙ (ap (slice_get cells) e ∙ h) in
     let same : net.sized ≡ record { width = width; cell = Mem depth at word enable } = cc in
     subst (λ (s : SizedCell). IsPlain s.cell) same net.plain
 
 module _ (cells : List SizedCell) (run : List Clock) (is : IsRun cells run) (t : ℕ) (l : t + 1 < length run) where
-  register_step : (own width : ℕ) (k : Next) → slice_get cells own ≡ Some (record { width = width; cell = Reg (next_net k own) }) → word_at run (t + 1) own ≡ next_word k run t own
+  register_step : (own width : ℕ) (k : Next) → slice_get cells own ≡ Some (record { width = width; cell = Reg (next_net k own) })
+      → word_at run (t + 1) own ≡ next_word k run t own
   register_step own width k h = is.steps t own _ l h ∙ net_word k run t own
 
-  memory_step : (x : NetTree) (own depth : ℕ) (k : Next) → x.kind ≡ Memory depth → FitsNext cells x k → IsConnected (Memory depth) cells own x.width k → store_at run (t + 1) own ≡ next_store k run t own
+  memory_step : (x : NetTree) (own depth : ℕ) (k : Next) → x.kind ≡ Memory depth → FitsNext cells x k → IsConnected (Memory depth) cells own x.width k
+      → store_at run (t + 1) own ≡ next_store k run t own
   memory_step x own depth Keep e fits h = is.steps t own _ l h ∙ cond-true _ (store_at run t own) _ (eq-eqb own own refl)
   memory_step x own depth (Word y) e fits h = is.steps t own _ l h ∙ cond-true _ (store_at run t own) _ (eq-eqb own own refl)
   memory_step x own depth (Write at word enable) e fits h =
@@ -52,8 +55,10 @@ module _ (cells : List SizedCell) (run : List Clock) (is : IsRun cells run) (t :
       is.steps t own _ l h ∙ cond-false _ (store_at run t own) _ (ne_eqb enable.0 own other)
 
 module _ (m : ModuleTree) (ok : IsRegular m) (shape : IsShapely m) (from : ℕ) (nets : List (Option NetId)) (nexts : List Next) (mid new : Circuit)
-    (each : (p : ℕ) (x : NetTree) → NetAt m p x → is_clock m x.name ≡ false → HasNet nets p) (joined : Connects from mid new) (fits : FitNexts m.nets nexts new.cells)
-    (connected : (p : ℕ) (x : NetTree) (y : NetId) (k : Next) → NetAt m p x → slice_get nets p ≡ Some (Some y) → slice_get nexts p ≡ Some k → IsConnected x.kind new.cells y.0 x.width k) where
+    (each : (p : ℕ) (x : NetTree) → NetAt m p x → is_clock m x.name ≡ false → HasNet nets p) (joined : Connects from mid new)
+    (fits : FitNexts m.nets nexts new.cells)
+    (connected : (p : ℕ) (x : NetTree) (y : NetId) (k : Next) → NetAt m p x → slice_get nets p ≡ Some (Some y) → slice_get nexts p ≡ Some k
+    → IsConnected x.kind new.cells y.0 x.width k) where
   no_clock : (x : NetTree) → Among x m.nets → is_input_kind x.kind ≡ false → is_clock m x.name ≡ false
   no_clock x a f = false_from_ne_true _ (λ c. both_ways _ f (clock_input m ok x a c))
 
@@ -86,30 +91,37 @@ module _ (m : ModuleTree) (ok : IsRegular m) (shape : IsShapely m) (from : ℕ) 
       at_place (z ∷ xs) zero l = refl
       at_place (z ∷ xs) (suc p) l = at_place xs p (omega arith)
 
-  module _ (acts : (at : List ℕ → ℕ) → AreNamed m.nets nets at → (all : List SizedCell) → Carries from mid.cells all → (run : List Clock) → IsRun all run → (t : ℕ) → t < length run → next_read m.nets nexts at run t ≡ next_clock m (read at run t))
+  module _ (acts : (at : List ℕ → ℕ) → AreNamed m.nets nets at → (all : List SizedCell) → Carries from mid.cells all → (run : List Clock) → IsRun all run
+      → (t : ℕ) → t < length run → next_read m.nets nexts at run t ≡ next_clock m (read at run t))
       (at : List ℕ → ℕ) (named : AreNamed m.nets nets at) (run : List Clock) (is : IsRun new.cells run) (t : ℕ) (l : t + 1 < length run) where
     next_is : next_read m.nets nexts at run t ≡ next_clock m (read at run t)
     next_is = acts at named new.cells joined.carries run is t (omega arith)
 
     word_steps : (x : NetTree) → Among x m.nets → is_input_kind x.kind ≡ false
-        → ((own : ℕ) → IsConnected x.kind new.cells own x.width (next_at m.nets nexts x.name) → slice_get new.cells own ≡ Some (record { width = x.width; cell = Reg (next_net (next_at m.nets nexts x.name) own) }))
+        → ((own : ℕ) → IsConnected x.kind new.cells own x.width (next_at m.nets nexts x.name)
+        → slice_get new.cells own ≡ Some (record { width = x.width; cell = Reg (next_net (next_at m.nets nexts x.name) own) }))
         → word_at run (t + 1) (at x.name) ≡ (next_clock m (read at run t)).word x.name
     unfolding next_read
     word_steps x a f cell =
         let k = taken at named x a f in
         let step = register_step new.cells run is t l k.net.0 x.width (next_at m.nets nexts x.name) (cell k.net.0 k.cell) in
-        ap (word_at run (t + 1)) k.is ∙ (step ∙ (ap (next_word (next_at m.nets nexts x.name) run t) (sym k.is) ∙ ap (λ (c : ModuleClock). c.word x.name) next_is))
+        ap (word_at run (t + 1)) k.is ∙ (step ∙ (ap (next_word (next_at m.nets nexts x.name) run t) (sym k.is) ∙
+        ap (λ (c : ModuleClock). c.word x.name) next_is))
 
-    store_steps : (x : NetTree) (depth : ℕ) → Among x m.nets → x.kind ≡ Memory depth → store_at run (t + 1) (at x.name) ≡ (next_clock m (read at run t)).store x.name
+    store_steps : (x : NetTree) (depth : ℕ) → Among x m.nets → x.kind ≡ Memory depth
+        → store_at run (t + 1) (at x.name) ≡ (next_clock m (read at run t)).store x.name
     unfolding next_read
     store_steps x depth a e =
         let k = taken at named x a (ap is_input_kind e) in
-        let cell : IsConnected (Memory depth) new.cells k.net.0 x.width (next_at m.nets nexts x.name) = subst (λ i. IsConnected i new.cells k.net.0 x.width (next_at m.nets nexts x.name)) e k.cell in
+        let cell : IsConnected (Memory depth) new.cells k.net.0 x.width (next_at m.nets nexts x.name) = subst
+        (λ i. IsConnected i new.cells k.net.0 x.width (next_at m.nets nexts x.name)) e k.cell in
         let step = memory_step new.cells run is t l x k.net.0 depth (next_at m.nets nexts x.name) e k.fit cell in
-        ap (store_at run (t + 1)) k.is ∙ (step ∙ (ap (next_store (next_at m.nets nexts x.name) run t) (sym k.is) ∙ ap (λ (c : ModuleClock). c.store x.name) next_is))
+        ap (store_at run (t + 1)) k.is ∙ (step ∙ (ap (next_store (next_at m.nets nexts x.name) run t) (sym k.is) ∙
+        ap (λ (c : ModuleClock). c.store x.name) next_is))
 
     by_kind : (x : NetTree) (k : NetKind) → x.kind ≡ k → Among x m.nets
-        → StepsTo k ((next_clock m (read at run t)).word x.name) ((read at run (t + 1)).word x.name) ((next_clock m (read at run t)).store x.name) ((read at run (t + 1)).store x.name)
+        → StepsTo k ((next_clock m (read at run t)).word x.name) ((read at run (t + 1)).word x.name) ((next_clock m (read at run t)).store x.name)
+        ((read at run (t + 1)).store x.name)
     by_kind x Input e a = tt
     by_kind x Wire e a = tt
     by_kind x OutWire e a = tt

@@ -47,7 +47,8 @@ pub nets_named : (ns : List NetTree) (nets : List (Option NetId)) → AreNamed n
 nets_named ns nets = record { each = λ n y h. ap number_of (at_place nets (place_of ns n) (Some y) h) }
 
 -- the nets of names that pass are those at their names
-pub with_nets_named : {Z : Type 0} (test : NetTree → Bool) (f : ℕ → NetTree → Z) (at : List ℕ → ℕ) (ns : List NetTree) (nets : List (Option NetId)) → length nets ≡ length ns
+pub with_nets_named : {Z : Type 0} (test : NetTree → Bool) (f : ℕ → NetTree → Z) (at : List ℕ → ℕ) (ns : List NetTree) (nets : List (Option NetId))
+    → length nets ≡ length ns
     → ((p : ℕ) (x : NetTree) (net : Option NetId) → slice_get ns p ≡ Some x → slice_get nets p ≡ Some net → test x ≡ true → at x.name ≡ number_of net)
     → map (λ (x : NetTree). f (at x.name) x) (filter test ns) ≡ with_nets test f ns nets
 with_nets_named test f at [] nets l h = refl
@@ -78,7 +79,8 @@ module _ (m : ModuleTree) (ok : IsRegular m) (shape : IsShapely m) (nets : List 
   at_net p x net hx h = ap (λ (q : ℕ). number_of (get_or nets q None)) (place_is m ok shape p x hx) ∙ ap number_of (at_place nets p net h)
 
   -- what was declared keeps its net
-  kept : (old : List (Option NetId)) → KeepsNets old nets → ((p : ℕ) (x : NetTree) → NetAt m p x → is_given m x ≡ true → HasNet old p) → (p : ℕ) (x : NetTree) (net : Option NetId) → NetAt m p x → slice_get old p ≡ Some net → is_given m x ≡ true → at_of m.nets nets x.name ≡ number_of net
+  kept : (old : List (Option NetId)) → KeepsNets old nets → ((p : ℕ) (x : NetTree) → NetAt m p x → is_given m x ≡ true → HasNet old p)
+      → (p : ℕ) (x : NetTree) (net : Option NetId) → NetAt m p x → slice_get old p ≡ Some net → is_given m x ≡ true → at_of m.nets nets x.name ≡ number_of net
   kept old keeps has p x net hx h g =
       let y = has p x hx g in
       let e : Some (Some y.0) ≡ Some net = sym y.1 ∙ h in
@@ -98,7 +100,8 @@ module _ (m : ModuleTree) (ok : IsRegular m) (shape : IsShapely m) (nets : List 
     pub settled_at : (run : List Clock) → IsRun all run → (t : ℕ) → t < length run → IsSettled m (read (at_of m.nets nets) run t)
     settled_at run is t l = record { wires = one }
       where
-        one : (d : DriveTree) → Among d (equations m) → word_at run t (at_of m.nets nets d.name) ≡ assigned m.nets (read (at_of m.nets nets) run t) d.name d.value
+        one : (d : DriveTree) → Among d (equations m) → word_at run t (at_of m.nets nets d.name) ≡ assigned m.nets
+            (read (at_of m.nets nets) run t) d.name d.value
         one d a =
             let r = driven_net m ok d a in
             let p : ℕ = place_of m.nets d.name in
@@ -112,18 +115,22 @@ module _ (m : ModuleTree) (ok : IsRegular m) (shape : IsShapely m) (nets : List 
   pub realizes : (from : ℕ) (old : List (Option NetId)) (first : List SizedCell) (middle last : Circuit) (n : Circuit)
       → AreDeclared m m.nets old first → KeepsNets old nets → input_cells middle.cells ≡ input_cells first → state_cells middle.cells ≡ state_cells first
       → AreWired m from nets middle.cells → Connects from middle last → n.cells ≡ last.cells
-      → ((at : List ℕ → ℕ) → AreNamed m.nets nets at → (run : List Clock) → IsRun last.cells run → (t : ℕ) → t + 1 < length run → IsStep m (read at run t) (read at run (t + 1)))
+      → ((at : List ℕ → ℕ) → AreNamed m.nets nets at → (run : List Clock) → IsRun last.cells run → (t : ℕ) → t + 1 < length run
+      → IsStep m (read at run t) (read at run (t + 1)))
       → map (λ (o : Outlet). o.net.0) n.outlets ≡ with_nets is_output (λ n x. n) m.nets nets
       → Realizes m n (at_of m.nets nets)
   realizes from old first middle last n declared keeps inputs states wired connects cells steps outlets =
       let at : List ℕ → ℕ = at_of m.nets nets in
       record {
         inputs =
-            with_nets_named {Z = ℕ × ℕ} (is_data_input m) (λ k x. (k, x.width)) at m.nets old declared.long (λ p x net hx h t. kept old keeps declared.given p x net hx h (data_given m x t))
+            with_nets_named {Z = ℕ × ℕ} (is_data_input m) (λ k x. (k, x.width)) at m.nets old declared.long
+            (λ p x net hx h t. kept old keeps declared.given p x net hx h (data_given m x t))
             ∙ sym declared.inputs ∙ ap (map {B = ℕ × ℕ} (λ (x : ℕ × SizedCell). (x.0, x.1.width))) (sym (ap input_cells cells ∙ connects.inputs ∙ inputs));
         states =
-            with_nets_named {Z = ℕ × ℕ × Option ℕ} is_state (λ k x. (k, x.width, kind_depth x.kind)) at m.nets old declared.long (λ p x net hx h t. kept old keeps declared.given p x net hx h (state_given m x t))
-            ∙ sym declared.states ∙ ap (map {B = ℕ × ℕ × Option ℕ} (λ (x : ℕ × SizedCell). (x.0, x.1.width, cell_depth x.1.cell))) (sym states) ∙ sym connects.states
+            with_nets_named {Z = ℕ × ℕ × Option ℕ} is_state (λ k x. (k, x.width, kind_depth x.kind)) at m.nets old declared.long
+            (λ p x net hx h t. kept old keeps declared.given p x net hx h (state_given m x t))
+            ∙ sym declared.states ∙ ap (map {B = ℕ × ℕ × Option ℕ} (λ (x : ℕ × SizedCell). (x.0, x.1.width, cell_depth x.1.cell))) (sym states) ∙
+            sym connects.states
             ∙ ap (λ cs. map {B = ℕ × ℕ × Option ℕ} (λ (x : ℕ × SizedCell). (x.0, x.1.width, cell_depth x.1.cell)) (state_cells cs)) (sym cells);
         outputs = with_nets_named is_output (λ k x. k) at m.nets nets wired.nets_are.long (λ p x net hx h t. at_net p x net hx h) ∙ sym outlets;
         stands = λ x a c.
@@ -152,7 +159,8 @@ unconnected_extends Reg a b n w g h = g.keeps n _ h
 unconnected_extends OutReg a b n w g h = g.keeps n _ h
 unconnected_extends (Memory depth) a b n w g h = g.keeps n _ h
 
-module _ (m : ModuleTree) (old nets : List (Option NetId)) (first cells : List SizedCell) (declared : AreDeclared m m.nets old first) (keeps : KeepsNets old nets) (grown : Extends first cells) where
+module _ (m : ModuleTree) (old nets : List (Option NetId)) (first cells : List SizedCell) (declared : AreDeclared m m.nets old first)
+    (keeps : KeepsNets old nets) (grown : Extends first cells) where
   state_was : (p : ℕ) (x : NetTree) (y : NetId) → NetAt m p x → is_state x ≡ true → slice_get nets p ≡ Some (Some y) → slice_get old p ≡ Some (Some y)
   state_was p x y hx t hy =
       let z = declared.given p x hx (state_given m x t) in
@@ -170,8 +178,10 @@ module _ (m : ModuleTree) (old nets : List (Option NetId)) (first cells : List S
     apart = λ p q x z y hx hz t u hp hq. declared.apart p q y (state_was p x y hx t hp) (state_was q z y hz u hq);
   }
 
-pub nets_connected : (m : ModuleTree) (from : ℕ) (nets : List (Option NetId)) (a b : Circuit) → Connects from a b → AreNets m.nets nets a.cells → AreNets m.nets nets b.cells
+pub nets_connected : (m : ModuleTree) (from : ℕ) (nets : List (Option NetId)) (a b : Circuit) → Connects from a b → AreNets m.nets nets a.cells
+    → AreNets m.nets nets b.cells
 nets_connected m from nets a b c h = record { long = h.long; each = λ p x y hx hy. stands_connected x.kind from a b y.0 x.width c (h.each p x y hx hy) }
 
-pub plain_ports : (first : List SizedCell) (n : Circuit) → input_cells n.cells ≡ input_cells first → ArePlainInputs first → ArePlainOutlets n.outlets → HasPlainPorts n
+pub plain_ports : (first : List SizedCell) (n : Circuit) → input_cells n.cells ≡ input_cells first → ArePlainInputs first → ArePlainOutlets n.outlets
+    → HasPlainPorts n
 plain_ports first n e i o = record { inputs = λ k x h. i k x (ap (λ ys. slice_get ys k) (sym e) ∙ h); outlets = o }

@@ -27,12 +27,14 @@ output_net OutReg cells n w t h = own_net h
 output_net (Memory depth) cells n w t h = absurd (cc)
 
 -- a name more
-pub shown_more : (ns more : List NetTree) (nets most : List (Option NetId)) (x : NetTree) (net : Option NetId) (outlets : List Outlet) → length nets ≡ length ns → more ≡ ns ++ x ∷ [] → most ≡ nets ++ net ∷ []
+pub shown_more : (ns more : List NetTree) (nets most : List (Option NetId)) (x : NetTree) (net : Option NetId) (outlets : List Outlet)
+    → length nets ≡ length ns → more ≡ ns ++ x ∷ [] → most ≡ nets ++ net ∷ []
     → (is_output x ≡ true → (y : NetId) × (net ≡ Some y)) → map (λ (o : Outlet). o.net.0) outlets ≡ with_nets is_output (λ n x. n) ns nets
     → map (λ (o : Outlet). o.net.0) (shown (is_output_kind x.kind) net outlets) ≡ with_nets is_output (λ n x. n) more most
 shown_more ns more nets most x net outlets l e f has h = rw (e, f) (either (is_output_kind x.kind) refl)
   where
-    either : (b : Bool) → is_output_kind x.kind ≡ b → map (λ (o : Outlet). o.net.0) (shown (is_output_kind x.kind) net outlets) ≡ with_nets is_output (λ n x. n) (ns ++ x ∷ []) (nets ++ net ∷ [])
+    either : (b : Bool) → is_output_kind x.kind ≡ b → map (λ (o : Outlet). o.net.0) (shown (is_output_kind x.kind) net outlets) ≡ with_nets is_output
+        (λ n x. n) (ns ++ x ∷ []) (nets ++ net ∷ [])
     either false t = rw t (h ∙ sym (with_nets_push is_output (λ n x. n) ns nets x net l ∙ rw t refl))
     either true t =
         let y = has t in

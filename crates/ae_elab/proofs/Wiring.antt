@@ -36,7 +36,8 @@ some_at (x ∷ xs) zero l = (x, refl)
 some_at (x ∷ xs) (suc p) l = some_at xs p (omega arith)
 
 -- an expression is ready where each of its names is
-pub ready_for : (ns : List NetTree) (nets : List (Option NetId)) (e : ExprTree) → ((n : List ℕ) → Among n (names_in e) → IsReady ns nets n) → IsReadyFor ns nets e
+pub ready_for : (ns : List NetTree) (nets : List (Option NetId)) (e : ExprTree) → ((n : List ℕ) → Among n (names_in e) → IsReady ns nets n)
+    → IsReadyFor ns nets e
 ready_for ns nets (name n) h = h n (inl refl)
 ready_for ns nets (constant size value fits) h = tt
 ready_for ns nets (place k) h = tt
@@ -51,8 +52,10 @@ ready_for ns nets (choice test a b) h = (
   ready_for ns nets b (λ k x. h k (among_right k (names_in test) _ (among_right k (names_in a) (names_in b) x))),
 )
 ready_for ns nets (concat_one a) h = ready_for ns nets a h
-ready_for ns nets (concat_more a rest) h =
-    (ready_for ns nets a (λ k x. h k (among_left k (names_in a) (names_in rest) x)), ready_for ns nets rest (λ k x. h k (among_right k (names_in a) (names_in rest) x)))
+ready_for ns nets (concat_more a rest) h = (
+  ready_for ns nets a (λ k x. h k (among_left k (names_in a) (names_in rest) x)),
+  ready_for ns nets rest (λ k x. h k (among_right k (names_in a) (names_in rest) x)),
+)
 
 -- a net more
 pub keeps_set : (nets : List (Option NetId)) (p : ℕ) (y : NetId) → slice_get nets p ≡ Some None → KeepsNets nets (set nets p (Some y))
@@ -71,7 +74,8 @@ pub named_keeps : {ns : List NetTree} {old new : List (Option NetId)} {at : List
 named_keeps {ns} k a = record { each = λ n y h. a.each n y (k (place_of ns n) y h) }
 
 -- an equation more has its net
-open_set : (vs : List (Option ExprTree)) (nets : List (Option NetId)) (p : ℕ) (e : ExprTree) (y : NetId) → slice_get vs p ≡ Some (Some e) → slice_get nets p ≡ Some None
+open_set : (vs : List (Option ExprTree)) (nets : List (Option NetId)) (p : ℕ) (e : ExprTree) (y : NetId) → slice_get vs p ≡ Some (Some e)
+    → slice_get nets p ≡ Some None
     → open_weight vs (set nets p (Some y)) + (1 + expr_weight e) ≡ open_weight vs nets
 open_set [] nets p e y h g = absurd (let s : None ≡ Some (Some e) = h in cc)
 open_set (v ∷ vs) [] p e y h g = absurd (let s : None ≡ Some None = g in cc)
@@ -139,7 +143,8 @@ module _ (m : ModuleTree) (ok : IsRegular m) (shape : IsShapely m) where
 
   module _ (order : List ℕ) (sorted : IsWireOrder m order) (from k p : ℕ) (turn : slice_get order k ≡ Some p) where
     -- the value is ready
-    pub value_ready : (nets : List (Option NetId)) (cells : List SizedCell) (e : ExprTree) → IsWiring m from order k nets cells → slice_get (values_of m) p ≡ Some (Some e) → IsReadyFor m.nets nets e
+    pub value_ready : (nets : List (Option NetId)) (cells : List SizedCell) (e : ExprTree) → IsWiring m from order k nets cells
+        → slice_get (values_of m) p ≡ Some (Some e) → IsReadyFor m.nets nets e
     value_ready nets cells e is h = ready_for m.nets nets e one
       where
         one : (n : List ℕ) → Among n (names_in e) → IsReady m.nets nets n
@@ -168,7 +173,8 @@ module _ (m : ModuleTree) (ok : IsRegular m) (shape : IsShapely m) where
             record { net = has.0; found = has.1 }
 
     -- a place without a value has its net, or is the clock's
-    pub wiring_same : (nets : List (Option NetId)) (cells : List SizedCell) → IsWiring m from order k nets cells → slice_get (values_of m) p ≡ Some None → IsWiring m from order (k + 1) nets cells
+    pub wiring_same : (nets : List (Option NetId)) (cells : List SizedCell) → IsWiring m from order k nets cells → slice_get (values_of m) p ≡ Some None
+        → IsWiring m from order (k + 1) nets cells
     wiring_same nets cells is h = record {
       from_there = is.from_there;
       nets_are = is.nets_are;
@@ -185,8 +191,10 @@ module _ (m : ModuleTree) (ok : IsRegular m) (shape : IsShapely m) where
     }
 
     -- a wire has its net
-    pub wiring_more : (nets : List (Option NetId)) (old new : Circuit) (x : NetTree) (e : ExprTree) (y : NetId) → IsWiring m from order k nets old.cells → slice_get (values_of m) p ≡ Some (Some e) → NetAt m p x
-        → Grows old new → length old.cells ≤ length new.cells → IsNet new.cells y.0 x.width → ((at : List ℕ → ℕ) → AreNamed m.nets nets at → IsWord from new.cells y.0 x.width (λ run t. fitted m.nets (read at run t) x.width e))
+    pub wiring_more : (nets : List (Option NetId)) (old new : Circuit) (x : NetTree) (e : ExprTree) (y : NetId) → IsWiring m from order k nets old.cells
+        → slice_get (values_of m) p ≡ Some (Some e) → NetAt m p x
+        → Grows old new → length old.cells ≤ length new.cells → IsNet new.cells y.0 x.width
+        → ((at : List ℕ → ℕ) → AreNamed m.nets nets at → IsWord from new.cells y.0 x.width (λ run t. fitted m.nets (read at run t) x.width e))
         → IsWiring m from order (k + 1) (set nets p (Some y)) new.cells
     wiring_more nets old new x e y is h hx g more net word =
         let free : slice_get nets p ≡ Some None = is.behind k p e (omega arith) turn h in
@@ -202,7 +210,8 @@ module _ (m : ModuleTree) (ok : IsRegular m) (shape : IsShapely m) where
                   let b : Some x ≡ Some u = sym hx ∙ ap (slice_get m.nets) (sym s) ∙ hu in
                   let c : y ≡ z = cc in
                   let d : x ≡ u = cc in
-                  subst (λ (v : NetTree). StandsFor v.kind new.cells z.0 v.width) d (subst (λ (v : NetId). StandsFor x.kind new.cells v.0 x.width) c (wire_stands x.kind new.cells y.0 x.width (value_wire p x e hx h) net))
+                  subst (λ (v : NetTree). StandsFor v.kind new.cells z.0 v.width) d
+                  (subst (λ (v : NetId). StandsFor x.kind new.cells v.0 x.width) c (wire_stands x.kind new.cells y.0 x.width (value_wire p x e hx h) net))
               | inr other ↦ grown.each q u z hu (sym (get_set_other nets p q (Some y) other) ∙ hz)
             ];
           };
@@ -228,17 +237,20 @@ module _ (m : ModuleTree) (ok : IsRegular m) (shape : IsShapely m) where
                 let w : e ≡ f = cc in
                 subst (λ (r : ExprTree). IsWord from new.cells z.0 u.width (λ run t. fitted m.nets (read at run t) u.width r)) w
                 (subst (λ (r : NetTree). IsWord from new.cells z.0 r.width (λ run t. fitted m.nets (read at run t) r.width e)) d
-                (subst (λ (r : NetId). IsWord from new.cells r.0 x.width (λ run t. fitted m.nets (read at run t) x.width e)) c (word at (named_keeps keep named))))
+                (subst (λ (r : NetId). IsWord from new.cells r.0 x.width (λ run t. fitted m.nets (read at run t) x.width e)) c
+                (word at (named_keeps keep named))))
             | inr other ↦ word_grows g (is.wires q u f z hu v (sym (get_set_other nets p q (Some y) other) ∙ hz) at (named_keeps keep named))
           ];
         }
 
-    pub open_less : (nets : List (Option NetId)) (cells : List SizedCell) (e : ExprTree) (y : NetId) → IsWiring m from order k nets cells → slice_get (values_of m) p ≡ Some (Some e)
+    pub open_less : (nets : List (Option NetId)) (cells : List SizedCell) (e : ExprTree) (y : NetId) → IsWiring m from order k nets cells
+        → slice_get (values_of m) p ≡ Some (Some e)
         → open_weight (values_of m) (set nets p (Some y)) + (1 + expr_weight e) ≡ open_weight (values_of m) nets
     open_less nets cells e y is h = open_set (values_of m) nets p e y h (is.behind k p e (omega arith) turn h)
 
   -- to begin with
-  pub wiring_first : (order : List ℕ) (nets : List (Option NetId)) (cells : List SizedCell) → AreDeclared m m.nets nets cells → IsWiring m (length cells) order 0 nets cells
+  pub wiring_first : (order : List ℕ) (nets : List (Option NetId)) (cells : List SizedCell) → AreDeclared m m.nets nets cells
+      → IsWiring m (length cells) order 0 nets cells
   wiring_first order nets cells all = record {
     from_there = omega arith;
     nets_are = record { long = all.long; each = all.stand };
@@ -257,7 +269,8 @@ module _ (m : ModuleTree) (ok : IsRegular m) (shape : IsShapely m) where
           (named.net, ap (slice_get m.nets) (sym at) ∙ named.at)
 
   -- at the end each name but the clock has a net
-  pub wiring_whole : (order : List ℕ) (from k : ℕ) (nets : List (Option NetId)) (cells : List SizedCell) → IsWireOrder m order → length order ≤ k → IsWiring m from order k nets cells → AreWired m from nets cells
+  pub wiring_whole : (order : List ℕ) (from k : ℕ) (nets : List (Option NetId)) (cells : List SizedCell) → IsWireOrder m order → length order ≤ k
+      → IsWiring m from order k nets cells → AreWired m from nets cells
   wiring_whole order from k nets cells sorted l is = record {
     nets_are = is.nets_are;
     each = λ p x hx c.
@@ -287,7 +300,8 @@ set_weight [] p e = omega arith
 set_weight (v ∷ vs) zero e = let s = value_more (Some e) vs in let t = value_more v vs in omega arith
 set_weight (v ∷ vs) (suc p) e = let r = set_weight vs p e in let s = value_more v (set vs p (Some e)) in let t = value_more v vs in omega arith
 
-noted_weight : (ns : List NetTree) (vs : List (Option ExprTree)) (ds : List DriveTree) → sum_by value_weight (noted ns vs ds) ≤ sum_by value_weight vs + sum_by drive_weight ds
+noted_weight : (ns : List NetTree) (vs : List (Option ExprTree)) (ds : List DriveTree)
+    → sum_by value_weight (noted ns vs ds) ≤ sum_by value_weight vs + sum_by drive_weight ds
 noted_weight ns vs [] = omega arith
 noted_weight ns vs (d ∷ ds) =
     let r = noted_weight ns (with_drive ns vs d) ds in
@@ -303,6 +317,7 @@ none_weight (suc n) = let r = none_weight n in let s = value_more None (replicat
 pub open_equations : (m : ModuleTree) (nets : List (Option NetId)) → open_weight (values_of m) nets ≤ sum_by drive_weight (equations m)
 open_equations m nets =
     let a = open_most (values_of m) nets in
-    let b : sum_by value_weight (values_of m) ≤ sum_by value_weight (replicate {A = Option ExprTree} (length m.nets) None) + sum_by drive_weight (equations m) = noted_weight m.nets (replicate (length m.nets) None) (equations m) in
+    let b : sum_by value_weight (values_of m) ≤ sum_by value_weight (replicate {A = Option ExprTree} (length m.nets) None) + sum_by drive_weight
+    (equations m) = noted_weight m.nets (replicate (length m.nets) None) (equations m) in
     let c = none_weight (length m.nets) in
     omega arith

@@ -37,7 +37,8 @@ given_cell (Memory depth) is_clock own port width = Some (new_memory own width d
 -- a netlist with one cell more, which is the net; or as it was, and no net
 abbrev pub Adds : Option SizedCell → (old new : Circuit) → Option NetId → Type 0
 Adds None old new net = (net ≡ None) × (new ≡ old)
-Adds (Some cell) old new net = (net ≡ Some (record { 0 = length old.cells })) × (new ≡ record old { cells = old.cells ++ cell ∷ [] })
+Adds (Some cell) old new net =
+    (net ≡ Some (record { 0 = length old.cells })) × (new ≡ record old { cells = old.cells ++ cell ∷ [] })
 
 abbrev pub number_of : Option NetId → ℕ
 number_of None = 0
@@ -47,7 +48,8 @@ number_of (Some net) = net.0
 abbrev pub with_nets : {Z : Type 0} → (NetTree → Bool) → (ℕ → NetTree → Z) → List NetTree → List (Option NetId) → List Z
 with_nets test f [] nets = []
 with_nets test f (x ∷ xs) [] = []
-with_nets test f (x ∷ xs) (net ∷ nets) = if test x then f (number_of net) x ∷ with_nets test f xs nets else with_nets test f xs nets
+with_nets test f (x ∷ xs) (net ∷ nets) =
+    if test x then f (number_of net) x ∷ with_nets test f xs nets else with_nets test f xs nets
 
 -- the name at this place has a net
 abbrev pub HasNet : List (Option NetId) → ℕ → Type 0
@@ -58,7 +60,8 @@ is_output x = is_output_kind x.kind
 
 -- the inputs and the outputs of a netlist are plain ports, numbered from 0
 abbrev pub ArePlainInputs : List SizedCell → Type 0
-ArePlainInputs cells = (k : ℕ) (x : ℕ × SizedCell) → slice_get (input_cells cells) k ≡ Some x → x.1.cell ≡ InputCell (Plain k)
+ArePlainInputs cells =
+    (k : ℕ) (x : ℕ × SizedCell) → slice_get (input_cells cells) k ≡ Some x → x.1.cell ≡ InputCell (Plain k)
 
 -- with the net of a name behind the others, where it is an output
 abbrev pub shown : Bool → Option NetId → List Outlet → List Outlet
@@ -79,22 +82,31 @@ IsUnconnected OutReg cells net width = slice_get cells net ≡ Some (new_registe
 IsUnconnected (Memory depth) cells net width = slice_get cells net ≡ Some (new_memory net width depth)
 
 -- the registers and memories of a module are cells of their own before a number, and not connected yet
-pub record AreUnconnected (m : ModuleTree) (from : ℕ) (nets : List (Option NetId)) (cells : List SizedCell) : Type 0 where
-  pub each : (p : ℕ) (x : NetTree) (y : NetId) → NetAt m p x → slice_get nets p ≡ Some (Some y) → IsUnconnected x.kind cells y.0 x.width
-  pub early : (p : ℕ) (x : NetTree) (y : NetId) → NetAt m p x → is_state x ≡ true → slice_get nets p ≡ Some (Some y) → y.0 < from
-  pub apart : (p q : ℕ) (x z : NetTree) (y : NetId) → NetAt m p x → NetAt m q z → is_state x ≡ true → is_state z ≡ true → slice_get nets p ≡ Some (Some y) → slice_get nets q ≡ Some (Some y) → p ≡ q
+pub record AreUnconnected (m : ModuleTree) (from : ℕ) (nets : List (Option NetId))
+    (cells : List SizedCell) : Type 0 where
+  pub each : (p : ℕ) (x : NetTree) (y : NetId) → NetAt m p x → slice_get nets p ≡ Some (Some y)
+      → IsUnconnected x.kind cells y.0 x.width
+  pub early : (p : ℕ) (x : NetTree) (y : NetId) → NetAt m p x → is_state x ≡ true → slice_get nets p ≡ Some (Some y)
+      → y.0 < from
+  pub apart : (p q : ℕ) (x z : NetTree) (y : NetId) → NetAt m p x → NetAt m q z → is_state x ≡ true → is_state z ≡ true
+      → slice_get nets p ≡ Some (Some y) → slice_get nets q ≡ Some (Some y) → p ≡ q
 
 -- these names of a module have their nets in a netlist that has nothing else; any other has none yet
-pub record AreDeclared (m : ModuleTree) (ns : List NetTree) (nets : List (Option NetId)) (cells : List SizedCell) : Type 0 where
+pub record AreDeclared (m : ModuleTree) (ns : List NetTree) (nets : List (Option NetId))
+    (cells : List SizedCell) : Type 0 where
   pub long : length nets ≡ length ns
-  pub stand : (p : ℕ) (x : NetTree) (y : NetId) → slice_get ns p ≡ Some x → slice_get nets p ≡ Some (Some y) → StandsFor x.kind cells y.0 x.width
-  pub unconnected : (p : ℕ) (x : NetTree) (y : NetId) → slice_get ns p ≡ Some x → slice_get nets p ≡ Some (Some y) → IsUnconnected x.kind cells y.0 x.width
+  pub stand : (p : ℕ) (x : NetTree) (y : NetId) → slice_get ns p ≡ Some x → slice_get nets p ≡ Some (Some y)
+      → StandsFor x.kind cells y.0 x.width
+  pub unconnected : (p : ℕ) (x : NetTree) (y : NetId) → slice_get ns p ≡ Some x → slice_get nets p ≡ Some (Some y)
+      → IsUnconnected x.kind cells y.0 x.width
   pub within : (p : ℕ) (y : NetId) → slice_get nets p ≡ Some (Some y) → y.0 < length cells
   pub apart : (p q : ℕ) (y : NetId) → slice_get nets p ≡ Some (Some y) → slice_get nets q ≡ Some (Some y) → p ≡ q
   pub given : (p : ℕ) (x : NetTree) → slice_get ns p ≡ Some x → is_given m x ≡ true → HasNet nets p
   pub others : (p : ℕ) (x : NetTree) → slice_get ns p ≡ Some x → is_given m x ≡ false → slice_get nets p ≡ Some None
-  pub inputs : map {B = ℕ × ℕ} (λ (x : ℕ × SizedCell). (x.0, x.1.width)) (input_cells cells) ≡ with_nets {Z = ℕ × ℕ} (is_data_input m) (λ n x. (n, x.width)) ns nets
-  pub states : map {B = ℕ × ℕ × Option ℕ} (λ (x : ℕ × SizedCell). (x.0, x.1.width, cell_depth x.1.cell)) (state_cells cells) ≡ with_nets {Z = ℕ × ℕ × Option ℕ} is_state (λ n x. (n, x.width, kind_depth x.kind)) ns nets
+  pub inputs : map {B = ℕ × ℕ} (λ (x : ℕ × SizedCell). (x.0, x.1.width)) (input_cells cells) ≡ with_nets {Z = ℕ × ℕ}
+      (is_data_input m) (λ n x. (n, x.width)) ns nets
+  pub states : map {B = ℕ × ℕ × Option ℕ} (λ (x : ℕ × SizedCell). (x.0, x.1.width, cell_depth x.1.cell))
+      (state_cells cells) ≡ with_nets {Z = ℕ × ℕ × Option ℕ} is_state (λ n x. (n, x.width, kind_depth x.kind)) ns nets
   pub plain : ArePlainInputs cells
   pub few : length cells ≤ length ns
 

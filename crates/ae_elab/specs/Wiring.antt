@@ -15,8 +15,10 @@ use Rattle.ae_elab.specs.Declaring.{HasNet, is_given}
 -- each wire that has a net has there what its equation gives it
 abbrev pub AreWires : ModuleTree → ℕ → List (Option NetId) → List SizedCell → Type 0
 AreWires m from nets cells =
-    (p : ℕ) (x : NetTree) (e : ExprTree) (y : NetId) → NetAt m p x → slice_get (values_of m) p ≡ Some (Some e) → slice_get nets p ≡ Some (Some y)
-    → (at : List ℕ → ℕ) → AreNamed m.nets nets at → IsWord from cells y.0 x.width (λ run t. fitted m.nets (read at run t) x.width e)
+    (p : ℕ) (x : NetTree) (e : ExprTree) (y : NetId) → NetAt m p x → slice_get (values_of m) p ≡ Some (Some e)
+    → slice_get nets p ≡ Some (Some y)
+    → (at : List ℕ → ℕ) → AreNamed m.nets nets at
+    → IsWord from cells y.0 x.width (λ run t. fitted m.nets (read at run t) x.width e)
 
 -- each name but the clock has a net, and each wire what its equation gives it
 pub record AreWired (m : ModuleTree) (from : ℕ) (nets : List (Option NetId)) (cells : List SizedCell) : Type 0 where
@@ -25,12 +27,15 @@ pub record AreWired (m : ModuleTree) (from : ℕ) (nets : List (Option NetId)) (
   pub wires : AreWires m from nets cells
 
 -- the first nets of the order have been looked at, and the equations behind them not yet
-pub record IsWiring (m : ModuleTree) (from : ℕ) (order : List ℕ) (k : ℕ) (nets : List (Option NetId)) (cells : List SizedCell) : Type 0 where
+pub record IsWiring (m : ModuleTree) (from : ℕ) (order : List ℕ) (k : ℕ) (nets : List (Option NetId))
+    (cells : List SizedCell) : Type 0 where
   pub from_there : from ≤ length cells
   pub nets_are : AreNets m.nets nets cells
   pub given : (p : ℕ) (x : NetTree) → NetAt m p x → is_given m x ≡ true → HasNet nets p
-  pub looked : (j p : ℕ) (x : NetTree) → j < k → slice_get order j ≡ Some p → NetAt m p x → is_clock m x.name ≡ false → HasNet nets p
-  pub behind : (j p : ℕ) (e : ExprTree) → k ≤ j → slice_get order j ≡ Some p → slice_get (values_of m) p ≡ Some (Some e) → slice_get nets p ≡ Some None
+  pub looked : (j p : ℕ) (x : NetTree) → j < k → slice_get order j ≡ Some p → NetAt m p x → is_clock m x.name ≡ false
+      → HasNet nets p
+  pub behind : (j p : ℕ) (e : ExprTree) → k ≤ j → slice_get order j ≡ Some p
+      → slice_get (values_of m) p ≡ Some (Some e) → slice_get nets p ≡ Some None
   pub wires : AreWires m from nets cells
 
 -- what has a net keeps it

@@ -44,23 +44,27 @@ pub record Items (os : List (Option SeqTree)) : Type 0 where
   pub all : os ≡ map Some types
   pub sized : all_in_size types ≡ true
 
-grown-items : (known : List Signature) (us : List SeqTree) (ns : List NodeTree) → all_in_size us ≡ true → refused (judged_nodes known (map Some us) ns) ≡ None → Items (grown (node_type known) (map Some us) ns)
+grown-items : (known : List Signature) (us : List SeqTree) (ns : List NodeTree) → all_in_size us ≡ true → refused (judged_nodes known (map Some us) ns) ≡ None
+    → Items (grown (node_type known) (map Some us) ns)
 grown-items known us [] s h = record { types = us; all = refl; sized = s }
 grown-items known us (n ∷ ns) s h =
     let o = node_type known (map Some us) n in
     let r = both-none (record { line = n.line; verdict = verdict o }) (verdict o) (refused (judged_nodes known (map Some us ++ o ∷ []) ns)) h in
     let t = fine-type o r.0 in
-    let form : map Some us ++ o ∷ [] ≡ map Some (us ++ t.0 ∷ []) = ap (λ p. map Some us ++ p ∷ []) t.1 ∙ sym (map-append {B = Option SeqTree} (λ x. Some x) us (t.0 ∷ [])) in
+    let form : map Some us ++ o ∷ [] ≡ map Some (us ++ t.0 ∷ []) = ap (λ p. map Some us ++ p ∷ []) t.1 ∙
+    sym (map-append {B = Option SeqTree} (λ x. Some x) us (t.0 ∷ [])) in
     let P : List (Option SeqTree) → Type 0 = λ os. refused (judged_nodes known os ns) ≡ None in
     let Q : List (Option SeqTree) → Type 0 = λ os. Items (grown (node_type known) os ns) in
     subst Q (sym form) (grown-items known (us ++ t.0 ∷ []) ns (sized-push us t.0 s t.2) (subst P form r.1))
 
 func-items : (known : List Signature) (f : FuncTree) → refused (judged_func known f) ≡ None → Items (item_types known f)
 func-items known f h =
-    let r = both-none (record { line = f.line; verdict = size_verdict (all_in_size (param_types f)) }) (size_verdict (all_in_size (param_types f))) (refused (judged_nodes known (map Some (param_types f)) f.nodes)) h in
+    let r = both-none (record { line = f.line; verdict = size_verdict (all_in_size (param_types f)) }) (size_verdict (all_in_size (param_types f)))
+    (refused (judged_nodes known (map Some (param_types f)) f.nodes)) h in
     grown-items known (param_types f) f.nodes (fine-size (all_in_size (param_types f)) r.0) r.1
 
-items-of : (known : List Signature) (fs : List FuncTree) (k : ℕ) (f : FuncTree) → refused (judged known fs) ≡ None → slice_get fs k ≡ Some f → Items (item_types (grown signature known (take k fs)) f)
+items-of : (known : List Signature) (fs : List FuncTree) (k : ℕ) (f : FuncTree) → refused (judged known fs) ≡ None → slice_get fs k ≡ Some f
+    → Items (item_types (grown signature known (take k fs)) f)
 items-of known [] k f h e = cc
 items-of known (g ∷ fs) zero f h e =
     let same : g ≡ f = cc in

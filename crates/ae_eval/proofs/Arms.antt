@@ -176,19 +176,23 @@ same-items ts (i ∷ is) (u ∷ us) (v ∷ vs) h g =
 
 -- ---- a node's value from its operator's
 
-value-is : (p : ProgramTree) (k j : ℕ) (l : NodeTree) (vs : List ValueTree) → slice_get (nodes_in p k) j ≡ Some l → line_value p k j vs ≡ op_value (take k (meanings p.funcs)) l.op (map (at vs) l.args)
+value-is : (p : ProgramTree) (k j : ℕ) (l : NodeTree) (vs : List ValueTree) → slice_get (nodes_in p k) j ≡ Some l
+    → line_value p k j vs ≡ op_value (take k (meanings p.funcs)) l.op (map (at vs) l.args)
 value-is p k j l vs e = ap (value_for (take k (meanings p.funcs)) vs) e
 
 -- the value of an operator on arguments of these types is that of the node
-pub node-pushed : (p : ProgramTree) (k j : ℕ) (l : NodeTree) (args : List SeqTree) (given vs : List ValueTree) (old new : List ℕ) → IsTyped p → k < length p.funcs → slice_get (nodes_in p k) j ≡ Some l → is_plain l.op ≡ true
-    → ItemsHave (types_in p k) l.args args → map (at vs) l.args ≡ given → Pushed (op_type [] l.op args) old new (op_value [] l.op given) → Pushed (slice_get (types_in p k) (item_of p k j)) old new (line_value p k j vs)
+pub node-pushed : (p : ProgramTree) (k j : ℕ) (l : NodeTree) (args : List SeqTree) (given vs : List ValueTree) (old new : List ℕ) → IsTyped p
+    → k < length p.funcs → slice_get (nodes_in p k) j ≡ Some l → is_plain l.op ≡ true
+    → ItemsHave (types_in p k) l.args args → map (at vs) l.args ≡ given → Pushed (op_type [] l.op args) old new (op_value [] l.op given)
+    → Pushed (slice_get (types_in p k) (item_of p k j)) old new (line_value p k j vs)
 node-pushed p k j l args given vs old new h known node plain have values push =
     let facts = line-facts p k j l h known node in
     let same = same-items (types_in p k) l.args args facts.args have facts.have in
     let type : op_type [] l.op args ≡ slice_get (types_in p k) (item_of p k j) =
     sym (plain-type (signatures (take k p.funcs)) l.op args plain) ∙ ap (op_type (signatures (take k p.funcs)) l.op) same ∙ facts.typed ∙ sym facts.own in
     let value : op_value [] l.op given ≡ line_value p k j vs =
-    sym (plain-value (take k (meanings p.funcs)) l.op given plain) ∙ ap (op_value (take k (meanings p.funcs)) l.op) (sym values) ∙ sym (value-is p k j l vs node) in
+    sym (plain-value (take k (meanings p.funcs)) l.op given plain) ∙ ap (op_value (take k (meanings p.funcs)) l.op) (sym values) ∙
+    sym (value-is p k j l vs node) in
     let P : Option SeqTree → Type 0 = λ o. Pushed o old new (line_value p k j vs) in
     let Q : ValueTree → Type 0 = λ v. Pushed (op_type [] l.op args) old new v in
     subst P type (subst Q value push)
@@ -202,7 +206,8 @@ some-there : (o : Option SeqTree) (u : SeqTree) → o ≡ Some u → IsSome o
 some-there (Some t) u h = refl
 some-there None u h = cc
 
-typed-args : (p : ProgramTree) (k j : ℕ) (l : NodeTree) (args : List SeqTree) → IsTyped p → k < length p.funcs → slice_get (nodes_in p k) j ≡ Some l → is_plain l.op ≡ true → ItemsHave (types_in p k) l.args args → Typed l args
+typed-args : (p : ProgramTree) (k j : ℕ) (l : NodeTree) (args : List SeqTree) → IsTyped p → k < length p.funcs → slice_get (nodes_in p k) j ≡ Some l
+    → is_plain l.op ≡ true → ItemsHave (types_in p k) l.args args → Typed l args
 typed-args p k j l args h known node plain have =
     let facts = line-facts p k j l h known node in
     let same = same-items (types_in p k) l.args args facts.args have facts.have in
@@ -227,8 +232,10 @@ pub record OneArg (p : ProgramTree) (k j : ℕ) (op : OpTree) (base start : ℕ)
   pub pushed : (new : List ℕ) → Pushed (op_type [] op (t ∷ [])) old new (op_value [] op (value_of t (window t start old) ∷ []))
       → Pushed (slice_get (types_in p k) (item_of p k j)) old new (line_value p k j (values_at p k (item_of p k j) base old))
 
-pub one-arg : (p : ProgramTree) (k j : ℕ) (l : NodeTree) (base start : ℕ) (old : List ℕ) (t : SeqTree) → IsTyped p → k < length p.funcs → slice_get (nodes_in p k) j ≡ Some l → is_plain l.op ≡ true → Laid p k (item_of p k j) base old
-    → length l.args ≡ 1 → slice_get (types_in p k) (get_or l.args 0 0) ≡ Some t → start ≡ base + words_of (take (get_or l.args 0 0) (types_in p k)) → OneArg p k j l.op base start old t
+pub one-arg : (p : ProgramTree) (k j : ℕ) (l : NodeTree) (base start : ℕ) (old : List ℕ) (t : SeqTree) → IsTyped p → k < length p.funcs
+    → slice_get (nodes_in p k) j ≡ Some l → is_plain l.op ≡ true → Laid p k (item_of p k j) base old
+    → length l.args ≡ 1 → slice_get (types_in p k) (get_or l.args 0 0) ≡ Some t → start ≡ base + words_of (take (get_or l.args 0 0) (types_in p k))
+    → OneArg p k j l.op base start old t
 one-arg p k j l base start old t h known node plain laid count e es =
     let ts = types_in p k in
     let vs = values_at p k (item_of p k j) base old in
@@ -256,10 +263,12 @@ pub record TwoArgs (p : ProgramTree) (k j : ℕ) (op : OpTree) (base start place
   pub fits_too : FitAt u place old
   pub two : IsTrue (takes_two op)
   pub fine : IsSome (op_type [] op (t ∷ u ∷ []))
-  pub pushed : (new : List ℕ) → Pushed (op_type [] op (t ∷ u ∷ [])) old new (op_value [] op (value_of t (window t start old) ∷ value_of u (window u place old) ∷ []))
+  pub pushed : (new : List ℕ) → Pushed (op_type [] op (t ∷ u ∷ [])) old new
+      (op_value [] op (value_of t (window t start old) ∷ value_of u (window u place old) ∷ []))
       → Pushed (slice_get (types_in p k) (item_of p k j)) old new (line_value p k j (values_at p k (item_of p k j) base old))
 
-pub two-args : (p : ProgramTree) (k j : ℕ) (l : NodeTree) (base start place : ℕ) (old : List ℕ) (t u : SeqTree) → IsTyped p → k < length p.funcs → slice_get (nodes_in p k) j ≡ Some l → is_plain l.op ≡ true → Laid p k (item_of p k j) base old
+pub two-args : (p : ProgramTree) (k j : ℕ) (l : NodeTree) (base start place : ℕ) (old : List ℕ) (t u : SeqTree) → IsTyped p → k < length p.funcs
+    → slice_get (nodes_in p k) j ≡ Some l → is_plain l.op ≡ true → Laid p k (item_of p k j) base old
     → length l.args ≡ 2
     → slice_get (types_in p k) (get_or l.args 0 0) ≡ Some t → start ≡ base + words_of (take (get_or l.args 0 0) (types_in p k))
     → slice_get (types_in p k) (get_or l.args 1 0) ≡ Some u → place ≡ base + words_of (take (get_or l.args 1 0) (types_in p k))
@@ -284,7 +293,8 @@ two-args p k j l base start place old t u h known node plain laid count e es f f
       fits_too = subst G (sym fs) r.fits;
       two = two-for l.op (subst (λ n. has_arguments l.op n ≡ true) count facts.arity) plain;
       fine = typed.fine;
-      pushed = λ new push. node-pushed p k j l (t ∷ u ∷ []) (value_of t (window t start old) ∷ value_of u (window u place old) ∷ []) vs old new h known node plain have values push;
+      pushed = λ new push. node-pushed p k j l (t ∷ u ∷ [])
+          (value_of t (window t start old) ∷ value_of u (window u place old) ∷ []) vs old new h known node plain have values push;
     }
 
 -- ---- three arguments
@@ -294,10 +304,12 @@ pub record ThreeArgs (p : ProgramTree) (k j : ℕ) (op : OpTree) (base x y z : �
   pub first_fits : FitAt t y old
   pub second_fits : FitAt u z old
   pub fine : IsSome (op_type [] op (s ∷ t ∷ u ∷ []))
-  pub pushed : (new : List ℕ) → Pushed (op_type [] op (s ∷ t ∷ u ∷ [])) old new (op_value [] op (value_of s (window s x old) ∷ value_of t (window t y old) ∷ value_of u (window u z old) ∷ []))
+  pub pushed : (new : List ℕ) → Pushed (op_type [] op (s ∷ t ∷ u ∷ [])) old new
+      (op_value [] op (value_of s (window s x old) ∷ value_of t (window t y old) ∷ value_of u (window u z old) ∷ []))
       → Pushed (slice_get (types_in p k) (item_of p k j)) old new (line_value p k j (values_at p k (item_of p k j) base old))
 
-pub three-args : (p : ProgramTree) (k j : ℕ) (l : NodeTree) (base x y z : ℕ) (old : List ℕ) (s t u : SeqTree) → IsTyped p → k < length p.funcs → slice_get (nodes_in p k) j ≡ Some l → is_plain l.op ≡ true → Laid p k (item_of p k j) base old
+pub three-args : (p : ProgramTree) (k j : ℕ) (l : NodeTree) (base x y z : ℕ) (old : List ℕ) (s t u : SeqTree) → IsTyped p → k < length p.funcs
+    → slice_get (nodes_in p k) j ≡ Some l → is_plain l.op ≡ true → Laid p k (item_of p k j) base old
     → length l.args ≡ 3
     → slice_get (types_in p k) (get_or l.args 0 0) ≡ Some s → x ≡ base + words_of (take (get_or l.args 0 0) (types_in p k))
     → slice_get (types_in p k) (get_or l.args 1 0) ≡ Some t → y ≡ base + words_of (take (get_or l.args 1 0) (types_in p k))
@@ -327,7 +339,8 @@ three-args p k j l base x y z old s t u h known node plain laid count e ex f ey 
       first_fits = subst B (sym ey) b.fits;
       second_fits = subst C (sym ez) c.fits;
       fine = typed.fine;
-      pushed = λ new push. node-pushed p k j l (s ∷ t ∷ u ∷ []) (value_of s (window s x old) ∷ value_of t (window t y old) ∷ value_of u (window u z old) ∷ []) vs old new h known node plain have values push;
+      pushed = λ new push. node-pushed p k j l (s ∷ t ∷ u ∷ [])
+          (value_of s (window s x old) ∷ value_of t (window t y old) ∷ value_of u (window u z old) ∷ []) vs old new h known node plain have values push;
     }
 
 -- ---- constants
@@ -345,16 +358,19 @@ fit-words (k ∷ ks) (x ∷ ws) h =
     let r = and-both (nat_lt x (2 ^ k.width)) (fit_kinds ws ks) h in
     (grind (arith, nat_tests, r.0), fit-words ks ws r.1)
 
-pub constant-pushed : (p : ProgramTree) (k j : ℕ) (l : NodeTree) (t : SeqTree) (ws : List ℕ) (vs : List ValueTree) (old new : List ℕ) → IsTyped p → k < length p.funcs → slice_get (nodes_in p k) j ≡ Some l → l.op ≡ const t ws → new ≡ old ++ ws
+pub constant-pushed : (p : ProgramTree) (k j : ℕ) (l : NodeTree) (t : SeqTree) (ws : List ℕ) (vs : List ValueTree) (old new : List ℕ) → IsTyped p
+    → k < length p.funcs → slice_get (nodes_in p k) j ≡ Some l → l.op ≡ const t ws → new ≡ old ++ ws
     → Pushed (slice_get (types_in p k) (item_of p k j)) old new (line_value p k j vs)
 constant-pushed p k j l t ws vs old new h known node eo en =
     let facts = line-facts p k j l h known node in
     let none : length l.args ≡ 0 = (let a = subst (λ o. has_arguments o (length l.args) ≡ true) eo facts.arity in grind (arith, nat_tests, a)) in
     let args = no-items (types_in p k) l.args facts.args none facts.have in
-    let typed : op_type [] (const t ws) [] ≡ Some facts.type = ap (λ o. op_type (signatures (take k p.funcs)) o []) (sym eo) ∙ ap (op_type (signatures (take k p.funcs)) l.op) (sym args) ∙ facts.typed in
+    let typed : op_type [] (const t ws) [] ≡ Some facts.type = ap (λ o. op_type (signatures (take k p.funcs)) o []) (sym eo) ∙
+    ap (op_type (signatures (take k p.funcs)) l.op) (sym args) ∙ facts.typed in
     let r = where_ok-some (fit_kinds ws (kinds t)) (Some t) facts.type typed in
     let fits : Fit t ws = fit-words (kinds t) ws r.0 in
-    let value : value_of t ws ≡ line_value p k j vs = ap (λ o. op_value (take k (meanings p.funcs)) o (map (at vs) l.args)) (sym eo) ∙ sym (value-is p k j l vs node) in
+    let value : value_of t ws ≡ line_value p k j vs = ap (λ o. op_value (take k (meanings p.funcs)) o (map (at vs) l.args)) (sym eo) ∙
+    sym (value-is p k j l vs node) in
     pushed-on (slice_get (types_in p k) (item_of p k j)) old new ws (line_value p k j vs) en
     (λ u g.
     let own = facts.own in
@@ -365,23 +381,37 @@ constant-pushed p k j l t ws vs old new h known node eo en =
 
 -- ---- the same by the arguments that the code reads
 
-module _ (p : ProgramTree) (k j : ℕ) (l : NodeTree) (args : List ℕ) (base : ℕ) (old : List ℕ) (h : IsTyped p) (known : k < length p.funcs) (node : slice_get (nodes_in p k) j ≡ Some l) (same : args ≡ l.args) (laid : Laid p k (item_of p k j) base old) where
-  pub read-there : (i : ℕ) → i < length l.args → (get_or args i 0 < length (types_in p k)) × (base + words_of (take (get_or args i 0) (types_in p k)) ≤ length old)
-  read-there i within = subst (λ xs. (get_or xs i 0 < length (types_in p k)) × (base + words_of (take (get_or xs i 0) (types_in p k)) ≤ length old)) (sym same) (arg-there p k j base i old l h known node laid within)
+module _ (p : ProgramTree) (k j : ℕ) (l : NodeTree) (args : List ℕ) (base : ℕ) (old : List ℕ) (h : IsTyped p) (known : k < length p.funcs)
+    (node : slice_get (nodes_in p k) j ≡ Some l) (same : args ≡ l.args) (laid : Laid p k (item_of p k j) base old) where
+  pub read-there : (i : ℕ) → i < length l.args → (get_or args i 0 < length (types_in p k))
+      × (base + words_of (take (get_or args i 0) (types_in p k)) ≤ length old)
+  read-there i within = subst (λ xs. (get_or xs i 0 < length (types_in p k)) × (base + words_of (take (get_or xs i 0) (types_in p k)) ≤ length old)) (sym same)
+      (arg-there p k j base i old l h known node laid within)
 
-  pub read-one : (start : ℕ) (t : SeqTree) → is_plain l.op ≡ true → length l.args ≡ 1 → slice_get (types_in p k) (get_or args 0 0) ≡ Some t → start ≡ base + words_of (take (get_or args 0 0) (types_in p k)) → OneArg p k j l.op base start old t
-  read-one start t plain count = subst (λ xs. slice_get (types_in p k) (get_or xs 0 0) ≡ Some t → start ≡ base + words_of (take (get_or xs 0 0) (types_in p k)) → OneArg p k j l.op base start old t) (sym same) (one-arg p k j l base start old t h known node plain laid count)
+  pub read-one : (start : ℕ) (t : SeqTree) → is_plain l.op ≡ true → length l.args ≡ 1 → slice_get (types_in p k) (get_or args 0 0) ≡ Some t
+      → start ≡ base + words_of (take (get_or args 0 0) (types_in p k)) → OneArg p k j l.op base start old t
+  read-one start t plain count = subst (λ xs. slice_get (types_in p k) (get_or xs 0 0) ≡ Some t → start ≡ base + words_of (take (get_or xs 0 0) (types_in p k))
+      → OneArg p k j l.op base start old t) (sym same) (one-arg p k j l base start old t h known node plain laid count)
 
   pub read-two : (start place : ℕ) (t u : SeqTree) → is_plain l.op ≡ true → length l.args ≡ 2
       → slice_get (types_in p k) (get_or args 0 0) ≡ Some t → start ≡ base + words_of (take (get_or args 0 0) (types_in p k))
-      → slice_get (types_in p k) (get_or args 1 0) ≡ Some u → place ≡ base + words_of (take (get_or args 1 0) (types_in p k)) → TwoArgs p k j l.op base start place old t u
-  read-two start place t u plain count = subst (λ xs. slice_get (types_in p k) (get_or xs 0 0) ≡ Some t → start ≡ base + words_of (take (get_or xs 0 0) (types_in p k)) → slice_get (types_in p k) (get_or xs 1 0) ≡ Some u → place ≡ base + words_of (take (get_or xs 1 0) (types_in p k)) → TwoArgs p k j l.op base start place old t u) (sym same) (two-args p k j l base start place old t u h known node plain laid count)
+      → slice_get (types_in p k) (get_or args 1 0) ≡ Some u → place ≡ base + words_of (take (get_or args 1 0) (types_in p k))
+      → TwoArgs p k j l.op base start place old t u
+  read-two start place t u plain count = subst (λ xs. slice_get (types_in p k) (get_or xs 0 0) ≡ Some t
+      → start ≡ base + words_of (take (get_or xs 0 0) (types_in p k)) → slice_get (types_in p k) (get_or xs 1 0) ≡ Some u
+      → place ≡ base + words_of (take (get_or xs 1 0) (types_in p k)) → TwoArgs p k j l.op base start place old t u) (sym same)
+      (two-args p k j l base start place old t u h known node plain laid count)
 
   pub read-three : (x y z : ℕ) (s t u : SeqTree) → is_plain l.op ≡ true → length l.args ≡ 3
       → slice_get (types_in p k) (get_or args 0 0) ≡ Some s → x ≡ base + words_of (take (get_or args 0 0) (types_in p k))
       → slice_get (types_in p k) (get_or args 1 0) ≡ Some t → y ≡ base + words_of (take (get_or args 1 0) (types_in p k))
-      → slice_get (types_in p k) (get_or args 2 0) ≡ Some u → z ≡ base + words_of (take (get_or args 2 0) (types_in p k)) → ThreeArgs p k j l.op base x y z old s t u
-  read-three x y z s t u plain count = subst (λ xs. slice_get (types_in p k) (get_or xs 0 0) ≡ Some s → x ≡ base + words_of (take (get_or xs 0 0) (types_in p k)) → slice_get (types_in p k) (get_or xs 1 0) ≡ Some t → y ≡ base + words_of (take (get_or xs 1 0) (types_in p k)) → slice_get (types_in p k) (get_or xs 2 0) ≡ Some u → z ≡ base + words_of (take (get_or xs 2 0) (types_in p k)) → ThreeArgs p k j l.op base x y z old s t u) (sym same) (three-args p k j l base x y z old s t u h known node plain laid count)
+      → slice_get (types_in p k) (get_or args 2 0) ≡ Some u → z ≡ base + words_of (take (get_or args 2 0) (types_in p k))
+      → ThreeArgs p k j l.op base x y z old s t u
+  read-three x y z s t u plain count = subst (λ xs. slice_get (types_in p k) (get_or xs 0 0) ≡ Some s
+      → x ≡ base + words_of (take (get_or xs 0 0) (types_in p k)) → slice_get (types_in p k) (get_or xs 1 0) ≡ Some t
+      → y ≡ base + words_of (take (get_or xs 1 0) (types_in p k)) → slice_get (types_in p k) (get_or xs 2 0) ≡ Some u
+      → z ≡ base + words_of (take (get_or xs 2 0) (types_in p k)) → ThreeArgs p k j l.op base x y z old s t u) (sym same)
+      (three-args p k j l base x y z old s t u h known node plain laid count)
 
 -- how many arguments a node has, as the code reads it
 pub count-read : (p : ProgramTree) (k j n : ℕ) (l : NodeTree) → slice_get (nodes_in p k) j ≡ Some l → length (args_of p k j) ≡ n → length l.args ≡ n
@@ -437,7 +467,8 @@ is-one n h = grind (arith, nat_tests, h)
 is-two : (n : ℕ) → (n == 2) ≡ true → n ≡ 2
 is-two n h = grind (arith, nat_tests, h)
 
-pub three-left : (o : Op) (n : ℕ) → has_arguments (op_tree o) n ≡ true → is_plain (op_tree o) ≡ true → ((x : SeqType) (y : Vec ℕ Global) → o ≡ Const x y → ⊥) → (n ≡ 1 → ⊥) → (n ≡ 2 → ⊥) → n ≡ 3
+pub three-left : (o : Op) (n : ℕ) → has_arguments (op_tree o) n ≡ true → is_plain (op_tree o) ≡ true → ((x : SeqType) (y : Vec ℕ Global) → o ≡ Const x y → ⊥)
+    → (n ≡ 1 → ⊥) → (n ≡ 2 → ⊥) → n ≡ 3
 three-left (Word op) n h g z a b = word-arity op n h a b
 three-left (CastInt k) n h g z a b = absurd (a (is-one n h))
 three-left Pair n h g z a b = absurd (b (is-two n h))
@@ -456,7 +487,8 @@ three-left (Select k) n h g z a b = absurd (a (is-one n h))
 three-left (Partition m k) n h g z a b = absurd (a (is-one n h))
 three-left Unpartition n h g z a b = absurd (a (is-one n h))
 
-pub never-other : (p : ProgramTree) (k j : ℕ) (n : Node) → IsTyped p → k < length p.funcs → slice_get (nodes_in p k) j ≡ Some (node_tree n) → IsPlain p k j → length (args_of p k j) ≡ 3 → ((w : WordOp) → n.op ≡ Word w → ⊥) → ⊥
+pub never-other : (p : ProgramTree) (k j : ℕ) (n : Node) → IsTyped p → k < length p.funcs → slice_get (nodes_in p k) j ≡ Some (node_tree n) → IsPlain p k j
+    → length (args_of p k j) ≡ 3 → ((w : WordOp) → n.op ≡ Word w → ⊥) → ⊥
 never-other p k j n h known node plain three other =
     let facts = line-facts p k j (node_tree n) h known node in
     let count = count-read p k j 3 (node_tree n) node three in
@@ -464,7 +496,9 @@ never-other p k j n h known node plain three other =
     let w = word-of-three (op_tree n.op) arity (plain-node p k j (node_tree n) node plain) in
     other w.0 (word-op n.op w.0 w.1)
 
-pub ternary-left : (p : ProgramTree) (k j : ℕ) (n : Node) (m : ℕ) → IsTyped p → k < length p.funcs → slice_get (nodes_in p k) j ≡ Some (node_tree n) → IsPlain p k j → m ≡ length n.args.items → ((x : SeqType) (y : Vec ℕ Global) → n.op ≡ Const x y → ⊥) → (m ≡ 1 → ⊥) → (m ≡ 2 → ⊥) → length (args_of p k j) ≡ 3
+pub ternary-left : (p : ProgramTree) (k j : ℕ) (n : Node) (m : ℕ) → IsTyped p → k < length p.funcs → slice_get (nodes_in p k) j ≡ Some (node_tree n)
+    → IsPlain p k j → m ≡ length n.args.items → ((x : SeqType) (y : Vec ℕ Global) → n.op ≡ Const x y → ⊥) → (m ≡ 1 → ⊥) → (m ≡ 2 → ⊥)
+    → length (args_of p k j) ≡ 3
 ternary-left p k j n m h known node plain count no-const no-one no-two =
     let facts = line-facts p k j (node_tree n) h known node in
     let arity = subst (λ i. has_arguments (op_tree n.op) i ≡ true) (sym count) facts.arity in

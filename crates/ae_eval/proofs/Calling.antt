@@ -21,9 +21,11 @@ use Rattle.ae_eval.proofs.Items.{CallFacts, call-facts, drop-at, entry-at, forme
 -- ---- node by node
 
 pub record Evaluating (p : ProgramTree) (k base j : ℕ) (old now : List ℕ) : Type 0 where
-  pub frame : Framed (signatures (take k p.funcs)) (take k (meanings p.funcs)) (types_in p k) (items_in p k (values_in (params_in p k) (drop base old))) base (item_of p k j) old now (drop j (nodes_in p k))
+  pub frame : Framed (signatures (take k p.funcs)) (take k (meanings p.funcs)) (types_in p k) (items_in p k (values_in (params_in p k) (drop base old))) base
+      (item_of p k j) old now (drop j (nodes_in p k))
 
-pub evaluating-first : (p : ProgramTree) (k base : ℕ) (old : List ℕ) → IsTyped p → k < length p.funcs → base ≤ length old → FitIn (params_in p k) (drop base old) → Evaluating p k base 0 old old
+pub evaluating-first : (p : ProgramTree) (k base : ℕ) (old : List ℕ) → IsTyped p → k < length p.funcs → base ≤ length old
+    → FitIn (params_in p k) (drop base old) → Evaluating p k base 0 old old
 evaluating-first p k base old h known above fits =
     let at-k = entry-at p.funcs k known in
     let f = at-k.0 in
@@ -34,14 +36,17 @@ evaluating-first p k base old h known above fits =
     let first = frame-first sigs means f ts base old own.all above (subst (λ o. FitIn (params_for o) (drop base old)) at-k.1 fits) in
     let none : length (param_types f) ≡ length (param_types f) + 0 = omega arith in
     let N : ℕ → Type 0 = λ n. Framed sigs means ts (item_values means f (values_in (param_types f) (drop base old))) base n old old f.nodes in
-    let P : Option FuncTree → Type 0 = λ o. Framed sigs means ts (values_for means o (values_in (params_for o) (drop base old))) base (length (params_for o) + 0) old old (drop 0 (nodes_for o)) in
+    let P : Option FuncTree → Type 0 = λ o. Framed sigs means ts (values_for means o (values_in (params_for o) (drop base old))) base
+    (length (params_for o) + 0) old old (drop 0 (nodes_for o)) in
     record { frame = subst P (sym at-k.1) (subst N none first) }
 
 pub evaluating-laid : (p : ProgramTree) (k base j : ℕ) (old now : List ℕ) → Evaluating p k base j old now → Laid p k (item_of p k j) base now
 evaluating-laid p k base j old now h = let f = h.frame in record { above = f.above; fits = f.fits }
 
-pub evaluating-next : (p : ProgramTree) (k base j : ℕ) (old now new : List ℕ) → IsTyped p → k < length p.funcs → j < length (nodes_in p k) → Evaluating p k base j old now
-    → Pushed (slice_get (types_in p k) (item_of p k j)) now new (line_value p k j (values_at p k (item_of p k j) base now)) → Evaluating p k base (j + 1) old new
+pub evaluating-next : (p : ProgramTree) (k base j : ℕ) (old now new : List ℕ) → IsTyped p → k < length p.funcs → j < length (nodes_in p k)
+    → Evaluating p k base j old now
+    → Pushed (slice_get (types_in p k) (item_of p k j)) now new (line_value p k j (values_at p k (item_of p k j) base now))
+    → Evaluating p k base (j + 1) old new
 evaluating-next p k base j old now new h known within e push =
     let there = entry-at (nodes_in p k) j within in
     let l = there.0 in
@@ -54,16 +59,19 @@ evaluating-next p k base j old now new h known within e push =
     let inside = slice_get_within ts n facts.type facts.own in
     let P : List NodeTree → Type 0 = λ ls. Framed sigs means ts vs base n old now ls in
     let Q : Option NodeTree → Type 0 = λ o. Pushed (slice_get ts n) now new (value_for means (values_in (take n ts) (drop base now)) o) in
-    let step = frame-step sigs means ts vs base n old now new l (drop (j + 1) (nodes_in p k)) (omega arith) (subst P (drop-at (nodes_in p k) j l there.1) e.frame) (subst Q there.1 push) in
+    let step = frame-step sigs means ts vs base n old now new l (drop (j + 1) (nodes_in p k)) (omega arith)
+    (subst P (drop-at (nodes_in p k) j l there.1) e.frame) (subst Q there.1 push) in
     let next : n + 1 ≡ item_of p k (j + 1) = omega arith in
     let N : ℕ → Type 0 = λ m. Framed sigs means ts vs base m old new (drop (j + 1) (nodes_in p k)) in
     record { frame = subst N next step }
 
-pub evaluating-last : (p : ProgramTree) (k base j : ℕ) (old now : List ℕ) → Evaluating p k base j old now → length (nodes_in p k) ≤ j → Evaluated p k base old now
+pub evaluating-last : (p : ProgramTree) (k base j : ℕ) (old now : List ℕ) → Evaluating p k base j old now → length (nodes_in p k) ≤ j
+    → Evaluated p k base old now
 evaluating-last p k base j old now e over =
     let vs = items_in p k (values_in (params_in p k) (drop base old)) in
     let P : List NodeTree → Type 0 = λ ls. Framed (signatures (take k p.funcs)) (take k (meanings p.funcs)) (types_in p k) vs base (item_of p k j) old now ls in
-    let r = frame-last (signatures (take k p.funcs)) (take k (meanings p.funcs)) (types_in p k) vs base (item_of p k j) old now (subst P (drop_all j (nodes_in p k) over) e.frame) in
+    let r = frame-last (signatures (take k p.funcs)) (take k (meanings p.funcs)) (types_in p k) vs base (item_of p k j) old now
+    (subst P (drop_all j (nodes_in p k) over) e.frame) in
     record { kept = r.0; fits = r.1; values = r.2 }
 
 pub nodes-count : (p : ProgramTree) (k : ℕ) (ns : List Node) → node_trees ns ≡ nodes_in p k → length (nodes_in p k) ≡ length ns
@@ -94,7 +102,8 @@ call-pushed p k base old mid new h known e push =
     let r = first.0 in
     let item : get_or (results_in p k) 0 0 ≡ r = ap (λ o. get_or (results_for o) 0 0) at-k.1 ∙ get_or_from_slice_get f.results 0 r 0 first.1 in
     let items : values_in (types_in p k) (drop base mid) ≡ item_values means f args = e.values ∙ ap (λ o. values_for means o args) at-k.1 in
-    let function : get_or (meanings p.funcs) k no_function ≡ meaning means f = get_or_from_slice_get (meanings p.funcs) k (meaning means f) no_function (meaning-of p k f at-k.1) in
+    let function : get_or (meanings p.funcs) k no_function ≡ meaning means f = get_or_from_slice_get (meanings p.funcs) k (meaning means f) no_function
+    (meaning-of p k f at-k.1) in
     let value : at (values_in (types_in p k) (drop base mid)) (get_or (results_in p k) 0 0) ≡ applied (meanings p.funcs) k args =
     ap (at (values_in (types_in p k) (drop base mid))) item ∙ ap (λ vs. at vs r) items
     ∙ sym (ap (λ (m : Meaning). at (m args) 0) function ∙ at-first (at (item_values means f args)) f.results r first.1) in
@@ -125,21 +134,25 @@ record Called (p : ProgramTree) (k j c : ℕ) (l : NodeTree) : Type 0 where
   type : SeqTree
   own : slice_get (types_in p k) (item_of p k j) ≡ Some type
 
-called-node : (p : ProgramTree) (k j c : ℕ) (l : NodeTree) → IsTyped p → k < length p.funcs → slice_get (nodes_in p k) j ≡ Some l → l.op ≡ call c → Called p k j c l
+called-node : (p : ProgramTree) (k j c : ℕ) (l : NodeTree) → IsTyped p → k < length p.funcs → slice_get (nodes_in p k) j ≡ Some l → l.op ≡ call c
+    → Called p k j c l
 called-node p k j c l h known node e =
     let facts = line-facts p k j l h known node in
     let below = above-by p.version k l.op c facts.line e in
-    let typed : called (signatures (take k p.funcs)) c facts.args ≡ Some facts.type = ap (λ o. op_type (signatures (take k p.funcs)) o facts.args) (sym e) ∙ facts.typed in
+    let typed : called (signatures (take k p.funcs)) c facts.args ≡ Some facts.type = ap (λ o. op_type (signatures (take k p.funcs)) o facts.args) (sym e) ∙
+    facts.typed in
     record {
       below = below;
       types = facts.args;
       have = facts.have;
-      facts = λ u g. (let own = facts.own in let same : facts.type ≡ u = cc in call-facts p k c facts.args u h below known (typed ∙ ap (λ (t : SeqTree). Some t) same));
+      facts = λ u g. (let own = facts.own in let same : facts.type ≡ u = cc in
+          call-facts p k c facts.args u h below known (typed ∙ ap (λ (t : SeqTree). Some t) same));
       type = facts.type;
       own = facts.own;
     }
 
-pub call-args : (p : ProgramTree) (k j c : ℕ) (l : NodeTree) (vs : List ValueTree) (old mid : List ℕ) → IsTyped p → k < length p.funcs → slice_get (nodes_in p k) j ≡ Some l → l.op ≡ call c → Passed (types_in p k) vs (args_of p k j) old mid → CallArgs p k j c old mid
+pub call-args : (p : ProgramTree) (k j c : ℕ) (l : NodeTree) (vs : List ValueTree) (old mid : List ℕ) → IsTyped p → k < length p.funcs
+    → slice_get (nodes_in p k) j ≡ Some l → l.op ≡ call c → Passed (types_in p k) vs (args_of p k j) old mid → CallArgs p k j c old mid
 call-args p k j c l vs old mid h known node e passed =
     let r = called-node p k j c l h known node e in
     let facts = r.facts r.type r.own in
@@ -154,7 +167,8 @@ call-args p k j c l vs old mid h known node e passed =
       fits = subst (λ ts. FitIn ts (drop (length old) mid)) params passed.fits;
     }
 
-pub call-node : (p : ProgramTree) (k j c : ℕ) (l : NodeTree) (vs : List ValueTree) (old mid new : List ℕ) → IsTyped p → k < length p.funcs → slice_get (nodes_in p k) j ≡ Some l → l.op ≡ call c → Passed (types_in p k) vs (args_of p k j) old mid
+pub call-node : (p : ProgramTree) (k j c : ℕ) (l : NodeTree) (vs : List ValueTree) (old mid new : List ℕ) → IsTyped p → k < length p.funcs
+    → slice_get (nodes_in p k) j ≡ Some l → l.op ≡ call c → Passed (types_in p k) vs (args_of p k j) old mid
     → Pushed (result_of p c) (take (length old) mid) new (applied (meanings p.funcs) c (values_in (params_in p c) (drop (length old) mid)))
     → Pushed (slice_get (types_in p k) (item_of p k j)) old new (line_value p k j vs)
 call-node p k j c l vs old mid new h known node e passed push =
@@ -163,7 +177,8 @@ call-node p k j c l vs old mid new h known node e passed push =
     let args : args_of p k j ≡ l.args = ap args_for node in
     let same = same-items (types_in p k) l.args passed.types r.types (subst (λ xs. ItemsHave (types_in p k) xs passed.types) args passed.have) r.have in
     let params : params_in p c ≡ passed.types = facts.params ∙ sym same in
-    let given : values_in (params_in p c) (drop (length old) mid) ≡ map (at vs) l.args = ap (λ ts. values_in ts (drop (length old) mid)) params ∙ passed.values ∙ ap (map (at vs)) args in
+    let given : values_in (params_in p c) (drop (length old) mid) ≡ map (at vs) l.args = ap (λ ts. values_in ts (drop (length old) mid)) params ∙
+    passed.values ∙ ap (map (at vs)) args in
     let value : applied (meanings p.funcs) c (values_in (params_in p c) (drop (length old) mid)) ≡ line_value p k j vs =
     ap (applied (meanings p.funcs) c) given ∙ sym (applied-above p k c (map (at vs) l.args) r.below)
     ∙ ap (λ o. op_value (take k (meanings p.funcs)) o (map (at vs) l.args)) (sym e) ∙ sym (ap (value_for (take k (meanings p.funcs)) vs) node) in

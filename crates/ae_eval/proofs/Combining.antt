@@ -52,7 +52,8 @@ kind-place t j m h e =
     let ks = atom_kinds (atom_of t) in
     let size : length ks ≡ m = length-atom_kinds (atom_of t) ∙ sym e in
     let all : words t ≡ atoms t * length ks = words-atoms t ∙ ap (λ i. atoms t * i) (sym (length-atom_kinds (atom_of t))) in
-    ap (λ i. slice_get ks (j % i)) (sym size) ∙ sym (repeated-at (atoms t) ks j (omega arith)) ∙ ap (λ (zs : List WordKind). slice_get zs j) (sym (kinds-repeated t))
+    ap (λ i. slice_get ks (j % i)) (sym size) ∙ sym (repeated-at (atoms t) ks j (omega arith)) ∙
+    ap (λ (zs : List WordKind). slice_get zs j) (sym (kinds-repeated t))
 
 some-at : {A : Type 0} (xs : List A) (j : ℕ) → j < length xs → IsSome (slice_get xs j)
 some-at [] j h = absurd (omega arith)
@@ -78,16 +79,21 @@ pub grown-room : (t : SeqTree) (left j : ℕ) (old more now : List ℕ) → FitA
 grown-room t left j old more now h e lt = let r = h.room in rw e (omega (arith, length-append old more))
 
 -- a word of a value on the stack
-pub window-at : (t : SeqTree) (left j x : ℕ) (old more now : List ℕ) → FitAt t left old → now ≡ old ++ more → j < words t → x ≡ get_or now (left + j) x → x ≡ get_or (window t left old) j x
+pub window-at : (t : SeqTree) (left j x : ℕ) (old more now : List ℕ) → FitAt t left old → now ≡ old ++ more → j < words t → x ≡ get_or now (left + j) x
+    → x ≡ get_or (window t left old) j x
 window-at t left j x old more now h e lt g =
     let r = h.room in
-    g ∙ ap (λ ys. get_or ys (left + j) x) e ∙ get_or_append_left old more x (left + j) (omega arith) ∙ sym (get_or-drop left old j x) ∙ sym (get-take (drop left old) (words t) j x lt)
+    g ∙ ap (λ ys. get_or ys (left + j) x) e ∙ get_or_append_left old more x (left + j) (omega arith) ∙ sym (get_or-drop left old j x) ∙
+    sym (get-take (drop left old) (words t) j x lt)
 
-pub word-fits : (t : SeqTree) (left j m x : ℕ) (old more now : List ℕ) (k : WordKind) → FitAt t left old → now ≡ old ++ more → j < words t → m ≡ atom_words (atom_of t) → x ≡ get_or now (left + j) x → slice_get (atom_kinds (atom_of t)) (j % m) ≡ Some k → x < 2 ^ k.width
+pub word-fits : (t : SeqTree) (left j m x : ℕ) (old more now : List ℕ) (k : WordKind) → FitAt t left old → now ≡ old ++ more → j < words t
+    → m ≡ atom_words (atom_of t) → x ≡ get_or now (left + j) x → slice_get (atom_kinds (atom_of t)) (j % m) ≡ Some k → x < 2 ^ k.width
 word-fits t left j m x old more now k h e lt em g s =
     fit-at (window t left old) (kinds t) j x k h.fits (sym (kind-place t j m lt em) ∙ s) (window-at t left j x old more now h e lt g)
 
-combined-more : (op : WordOp) (ks : List WordKind) (us vs : List ℕ) (j x y r : ℕ) → j < length ks → length us ≡ length ks → length vs ≡ length ks → x ≡ get_or us j x → y ≡ get_or vs j y → ((k : WordKind) → slice_get ks j ≡ Some k → r ≡ coded op k x y 0) → take (j + 1) (combined op ks us vs) ≡ take j (combined op ks us vs) ++ r ∷ []
+combined-more : (op : WordOp) (ks : List WordKind) (us vs : List ℕ) (j x y r : ℕ) → j < length ks → length us ≡ length ks → length vs ≡ length ks
+    → x ≡ get_or us j x → y ≡ get_or vs j y → ((k : WordKind) → slice_get ks j ≡ Some k → r ≡ coded op k x y 0)
+    → take (j + 1) (combined op ks us vs) ≡ take j (combined op ks us vs) ++ r ∷ []
 combined-more op [] us vs j x y r h p q ex ey er = absurd (omega arith)
 combined-more op (k ∷ ks) [] vs j x y r h p q ex ey er = absurd (omega arith)
 combined-more op (k ∷ ks) (a ∷ us) [] j x y r h p q ex ey er = absurd (omega arith)
@@ -102,7 +108,8 @@ combined-more op (k ∷ ks) (a ∷ us) (b ∷ vs) (suc j) x y r h p q ex ey er =
     rw sum (ap (λ zs. coded op k a b 0 ∷ zs) (combined-more op ks us vs j x y r (omega arith) (omega arith) (omega arith) ex ey er))
 
 -- one more word
-pub combine-step : (op : WordOp) (t : SeqTree) (left right j m x y r : ℕ) (old now : List ℕ) → FitAt t left old → FitAt t right old → j < words t → m ≡ atom_words (atom_of t)
+pub combine-step : (op : WordOp) (t : SeqTree) (left right j m x y r : ℕ) (old now : List ℕ) → FitAt t left old → FitAt t right old → j < words t
+    → m ≡ atom_words (atom_of t)
     → now ≡ old ++ take j (combined op (kinds t) (window t left old) (window t right old)) → x ≡ get_or now (left + j) x → y ≡ get_or now (right + j) y
     → ((k : WordKind) → slice_get (atom_kinds (atom_of t)) (j % m) ≡ Some k → r ≡ coded op k x y 0)
     → now ++ r ∷ [] ≡ old ++ take (j + 1) (combined op (kinds t) (window t left old) (window t right old))
@@ -111,10 +118,13 @@ combine-step op t left right j m x y r old now h g lt em e ex ey er =
     let vs = window t right old in
     let all = combined op (kinds t) us vs in
     let size = length-kinds t in
-    let more = combined-more op (kinds t) us vs j x y r (omega arith) (length-Fit t us h.fits ∙ sym size) (length-Fit t vs g.fits ∙ sym size) (window-at t left j x old (take j all) now h e lt ex) (window-at t right j y old (take j all) now g e lt ey) (λ k s. er k (kind-place t j m lt em ∙ s)) in
+    let more = combined-more op (kinds t) us vs j x y r (omega arith) (length-Fit t us h.fits ∙ sym size) (length-Fit t vs g.fits ∙ sym size)
+    (window-at t left j x old (take j all) now h e lt ex) (window-at t right j y old (take j all) now g e lt ey)
+    (λ k s. er k (kind-place t j m lt em ∙ s)) in
     ap (λ ys. ys ++ r ∷ []) e ∙ append_assoc old (take j all) (r ∷ []) ∙ ap (λ ys. old ++ ys) (sym more)
 
-pub combine-done : (op : WordOp) (t : SeqTree) (left right j : ℕ) (old now : List ℕ) → FitAt t left old → FitAt t right old → j ≡ words t → now ≡ old ++ take j (combined op (kinds t) (window t left old) (window t right old)) → now ≡ old ++ combined op (kinds t) (window t left old) (window t right old)
+pub combine-done : (op : WordOp) (t : SeqTree) (left right j : ℕ) (old now : List ℕ) → FitAt t left old → FitAt t right old → j ≡ words t → now ≡ old
+    ++ take j (combined op (kinds t) (window t left old) (window t right old)) → now ≡ old ++ combined op (kinds t) (window t left old) (window t right old)
 combine-done op t left right j old now h g ej e =
     let us = window t left old in
     let vs = window t right old in

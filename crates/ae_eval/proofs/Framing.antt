@@ -36,7 +36,8 @@ FitIn-push ts t us r h g =
     let one : FitKinds r (kinds_of (t ∷ [])) = subst (λ ks. FitKinds r ks) (sym (append-nil (kinds t))) g in
     subst (λ ks. FitKinds (us ++ r) ks) (sym (kinds_of-append ts (t ∷ []))) (FitKinds-append us r _ _ h one)
 
-pub values_in-push : (ts : List SeqTree) (t : SeqTree) (us r : List ℕ) → length us ≡ words_of ts → length r ≡ words t → values_in (ts ++ t ∷ []) (us ++ r) ≡ values_in ts us ++ value_of t r ∷ []
+pub values_in-push : (ts : List SeqTree) (t : SeqTree) (us r : List ℕ) → length us ≡ words_of ts → length r ≡ words t
+    → values_in (ts ++ t ∷ []) (us ++ r) ≡ values_in ts us ++ value_of t r ∷ []
 values_in-push [] t [] r h e = ap (λ ys. value_of t ys ∷ []) (take_all (words t) r (omega arith))
 values_in-push [] t (u ∷ us) r h e = absurd (omega arith)
 values_in-push (s ∷ ts) t us r h e =
@@ -91,7 +92,8 @@ pub record TypesStep (known : List Signature) (ts : List SeqTree) (n : ℕ) (nod
   pub next : take (n + 1) ts ≡ take n ts ++ type ∷ []
   pub later : grown (node_type known) (map (λ (t : SeqTree). Some t) (take (n + 1) ts)) rest ≡ map (λ (t : SeqTree). Some t) ts
 
-pub types-step : (sigs : List Signature) (ts : List SeqTree) (n : ℕ) (l : NodeTree) (rest : List NodeTree) → n ≤ length ts → grown (node_type sigs) (map (λ (t : SeqTree). Some t) (take n ts)) (l ∷ rest) ≡ map (λ (t : SeqTree). Some t) ts → TypesStep sigs ts n l rest
+pub types-step : (sigs : List Signature) (ts : List SeqTree) (n : ℕ) (l : NodeTree) (rest : List NodeTree) → n ≤ length ts
+    → grown (node_type sigs) (map (λ (t : SeqTree). Some t) (take n ts)) (l ∷ rest) ≡ map (λ (t : SeqTree). Some t) ts → TypesStep sigs ts n l rest
 types-step sigs ts n l rest h e =
     let some = λ (t : SeqTree). Some t in
     let known = map some (take n ts) in
@@ -113,7 +115,8 @@ types-step sigs ts n l rest h e =
     }
 
 -- what holds before each node: the values of the first n items stand from base on
-pub record Framed (sigs : List Signature) (known : List Meaning) (ts : List SeqTree) (vs : List ValueTree) (base n : ℕ) (old now : List ℕ) (rest : List NodeTree) : Type 0 where
+pub record Framed (sigs : List Signature) (known : List Meaning) (ts : List SeqTree) (vs : List ValueTree) (base n : ℕ) (old now : List ℕ)
+    (rest : List NodeTree) : Type 0 where
   pub above : base ≤ length now
   pub kept : take base now ≡ take base old
   pub fits : FitIn (take n ts) (drop base now)
@@ -124,8 +127,10 @@ pub record Framed (sigs : List Signature) (known : List Meaning) (ts : List SeqT
 pub on-top : (o : Option SeqTree) (old new : List ℕ) (v : ValueTree) → Pushed o old new v → new ≡ old ++ drop (length old) new
 on-top o old new v h = sym (take-append-drop (length old) new) ∙ ap (λ ys. ys ++ drop (length old) new) h.kept
 
-pub frame-step : (sigs : List Signature) (known : List Meaning) (ts : List SeqTree) (vs : List ValueTree) (base n : ℕ) (old now new : List ℕ) (l : NodeTree) (rest : List NodeTree)
-    → n ≤ length ts → Framed sigs known ts vs base n old now (l ∷ rest) → Pushed (slice_get ts n) now new (node_value known (values_in (take n ts) (drop base now)) l)
+pub frame-step : (sigs : List Signature) (known : List Meaning) (ts : List SeqTree) (vs : List ValueTree) (base n : ℕ) (old now new : List ℕ) (l : NodeTree)
+    (rest : List NodeTree)
+    → n ≤ length ts → Framed sigs known ts vs base n old now (l ∷ rest)
+    → Pushed (slice_get ts n) now new (node_value known (values_in (take n ts) (drop base now)) l)
     → Framed sigs known ts vs base (n + 1) old new rest
 frame-step sigs known ts vs base n old now new l rest h f p =
     let s = types-step sigs ts n l rest h f.types in
@@ -150,8 +155,10 @@ frame-step sigs known ts vs base n old now new l rest h f p =
       values = ap (λ xs. grown (node_value known) xs rest) value ∙ f.values;
     }
 
-pub frame-fine : (sigs : List Signature) (known : List Meaning) (ts : List SeqTree) (vs : List ValueTree) (base n : ℕ) (old now : List ℕ) (l : NodeTree) (rest : List NodeTree)
-    → n ≤ length ts → Framed sigs known ts vs base n old now (l ∷ rest) → (n < length ts) × (node_type sigs (map (λ (t : SeqTree). Some t) (take n ts)) l ≡ slice_get ts n)
+pub frame-fine : (sigs : List Signature) (known : List Meaning) (ts : List SeqTree) (vs : List ValueTree) (base n : ℕ) (old now : List ℕ) (l : NodeTree)
+    (rest : List NodeTree)
+    → n ≤ length ts → Framed sigs known ts vs base n old now (l ∷ rest) → (n < length ts)
+    × (node_type sigs (map (λ (t : SeqTree). Some t) (take n ts)) l ≡ slice_get ts n)
 frame-fine sigs known ts vs base n old now l rest h f =
     let s = types-step sigs ts n l rest h f.types in
     (slice_get_within ts n s.type s.own, s.node_is ∙ sym s.own)
@@ -166,7 +173,8 @@ same-somes (u ∷ us) (v ∷ vs) e =
     let rest = same-somes us vs tail in
     cc
 
-pub types-first : (ps ts : List SeqTree) (rest : List (Option SeqTree)) → map (λ (t : SeqTree). Some t) ts ≡ map (λ (t : SeqTree). Some t) ps ++ rest → (qs : List SeqTree) × (ts ≡ ps ++ qs)
+pub types-first : (ps ts : List SeqTree) (rest : List (Option SeqTree)) → map (λ (t : SeqTree). Some t) ts ≡ map (λ (t : SeqTree). Some t) ps ++ rest
+    → (qs : List SeqTree) × (ts ≡ ps ++ qs)
 types-first [] ts rest e = (ts, refl)
 types-first (p ∷ ps) [] rest e = cc
 types-first (p ∷ ps) (t ∷ ts) rest e =
@@ -175,7 +183,8 @@ types-first (p ∷ ps) (t ∷ ts) rest e =
     let r = types-first ps ts rest tail in
     (r.0, (let q = r.1 in cc))
 
-pub frame-first : (sigs : List Signature) (known : List Meaning) (f : FuncTree) (ts : List SeqTree) (base : ℕ) (old : List ℕ) → item_types sigs f ≡ map (λ (t : SeqTree). Some t) ts → base ≤ length old → FitIn (param_types f) (drop base old)
+pub frame-first : (sigs : List Signature) (known : List Meaning) (f : FuncTree) (ts : List SeqTree) (base : ℕ) (old : List ℕ)
+    → item_types sigs f ≡ map (λ (t : SeqTree). Some t) ts → base ≤ length old → FitIn (param_types f) (drop base old)
     → Framed sigs known ts (item_values known f (values_in (param_types f) (drop base old))) base (length (param_types f)) old old f.nodes
 frame-first sigs known f ts base old typed above fits =
     let ps = param_types f in
@@ -190,7 +199,8 @@ frame-first sigs known f ts base old typed above fits =
       values = ap (λ zs. grown (node_value known) (values_in zs (drop base old)) f.nodes) front;
     }
 
-pub frame-last : (sigs : List Signature) (known : List Meaning) (ts : List SeqTree) (vs : List ValueTree) (base n : ℕ) (old now : List ℕ) → Framed sigs known ts vs base n old now []
+pub frame-last : (sigs : List Signature) (known : List Meaning) (ts : List SeqTree) (vs : List ValueTree) (base n : ℕ) (old now : List ℕ)
+    → Framed sigs known ts vs base n old now []
     → (take base now ≡ take base old) × (FitIn ts (drop base now)) × (values_in ts (drop base now) ≡ vs)
 frame-last sigs known ts vs base n old now f =
     let whole : take n ts ≡ ts = same-somes (take n ts) ts f.types in

@@ -40,7 +40,8 @@ and-five true true false d e h = cc
 and-five true true true false e h = cc
 and-five true true true true e h = (refl, refl, refl, refl, h)
 
-and-seven : (a b c d e f g : Bool) → (a && b && c && d && e && f && g) ≡ true → (a ≡ true) × (b ≡ true) × (c ≡ true) × (d ≡ true) × (e ≡ true) × (f ≡ true) × (g ≡ true)
+and-seven : (a b c d e f g : Bool) → (a && b && c && d && e && f && g) ≡ true → (a ≡ true) × (b ≡ true) × (c ≡ true) × (d ≡ true) × (e ≡ true) × (f ≡ true)
+    × (g ≡ true)
 and-seven false b c d e f g h = cc
 and-seven true false c d e f g h = cc
 and-seven true true false d e f g h = cc
@@ -68,7 +69,8 @@ drop-at xs i x h =
 
 -- ---- what grows entry by entry
 
-take-grown-from : {A B : Type 0} (step : List B → A → B) (known : List B) (xs : List A) (c : ℕ) → take (length known + c) (grown step known xs) ≡ grown step known (take c xs)
+take-grown-from : {A B : Type 0} (step : List B → A → B) (known : List B) (xs : List A) (c : ℕ)
+    → take (length known + c) (grown step known xs) ≡ grown step known (take c xs)
 take-grown-from step known [] zero = take_all (length known + zero) known (omega arith)
 take-grown-from step known [] (suc c) = take_all (length known + suc c) known (omega arith)
 take-grown-from step known (x ∷ xs) zero =
@@ -85,18 +87,21 @@ take-grown step xs c =
     let none : c ≡ 0 + c = omega arith in
     ap (λ n. take n (grown step [] xs)) none ∙ take-grown-from step [] xs c
 
-entry-grown-from : {A B : Type 0} (step : List B → A → B) (known : List B) (xs : List A) (c : ℕ) (x : A) → slice_get xs c ≡ Some x → slice_get (grown step known xs) (length known + c) ≡ Some (step (grown step known (take c xs)) x)
+entry-grown-from : {A B : Type 0} (step : List B → A → B) (known : List B) (xs : List A) (c : ℕ) (x : A) → slice_get xs c ≡ Some x
+    → slice_get (grown step known xs) (length known + c) ≡ Some (step (grown step known (take c xs)) x)
 entry-grown-from step known [] c x h = cc
 entry-grown-from step known (y ∷ xs) zero x h =
     let same : y ≡ x = cc in
     let r = grown-first step (known ++ step known y ∷ []) xs in
     let all : grown step (known ++ step known y ∷ []) xs ≡ known ++ (step known y ∷ r.0) = r.1 ∙ append_assoc known (step known y ∷ []) r.0 in
-    ap (λ ys. slice_get ys (length known + 0)) all ∙ slice_get-seam known r.0 (step known y) (length known + 0) (omega arith) ∙ ap (λ z. Some (step known z)) same
+    ap (λ ys. slice_get ys (length known + 0)) all ∙ slice_get-seam known r.0 (step known y) (length known + 0) (omega arith) ∙
+    ap (λ z. Some (step known z)) same
 entry-grown-from step known (y ∷ xs) (suc c) x h =
     let more : length known + suc c ≡ length (known ++ step known y ∷ []) + c = omega (arith, length-append known (step known y ∷ [])) in
     ap (slice_get (grown step (known ++ step known y ∷ []) xs)) more ∙ entry-grown-from step (known ++ step known y ∷ []) xs c x h
 
-pub entry-grown : {A B : Type 0} (step : List B → A → B) (xs : List A) (c : ℕ) (x : A) → slice_get xs c ≡ Some x → slice_get (grown step [] xs) c ≡ Some (step (grown step [] (take c xs)) x)
+pub entry-grown : {A B : Type 0} (step : List B → A → B) (xs : List A) (c : ℕ) (x : A) → slice_get xs c ≡ Some x
+    → slice_get (grown step [] xs) c ≡ Some (step (grown step [] (take c xs)) x)
 entry-grown step xs c x h =
     let none : c ≡ 0 + c = omega arith in
     ap (slice_get (grown step [] xs)) none ∙ entry-grown-from step [] xs c x h
@@ -140,7 +145,8 @@ pub record CallFacts (p : ProgramTree) (c : ℕ) (us : List SeqTree) (u : SeqTre
   pub params : params_in p c ≡ us
   pub result : result_of p c ≡ Some u
 
-called-some : (o : Option Signature) (s : Signature) (us : List SeqTree) (u : SeqTree) → o ≡ Some s → (o >>= λ s. where_ok (same_types s.params us) s.result) ≡ Some u → (s.params ≡ us) × (s.result ≡ Some u)
+called-some : (o : Option Signature) (s : Signature) (us : List SeqTree) (u : SeqTree) → o ≡ Some s
+    → (o >>= λ s. where_ok (same_types s.params us) s.result) ≡ Some u → (s.params ≡ us) × (s.result ≡ Some u)
 called-some None s us u e h = cc
 called-some (Some z) s us u e h =
     let same : z ≡ s = cc in
@@ -148,7 +154,8 @@ called-some (Some z) s us u e h =
     let r = where_ok-some (same_types s.params us) s.result u (subst P same h) in
     (same-types s.params us r.0, r.1)
 
-pub call-facts : (p : ProgramTree) (k c : ℕ) (us : List SeqTree) (u : SeqTree) → IsTyped p → c < k → k < length p.funcs → called (signatures (take k p.funcs)) c us ≡ Some u → CallFacts p c us u
+pub call-facts : (p : ProgramTree) (k c : ℕ) (us : List SeqTree) (u : SeqTree) → IsTyped p → c < k → k < length p.funcs
+    → called (signatures (take k p.funcs)) c us ≡ Some u → CallFacts p c us u
 call-facts p k c us u h below known e =
     let inside : c < length p.funcs = omega arith in
     let at-c = entry-at p.funcs c inside in
@@ -173,7 +180,8 @@ call-facts p k c us u h below known e =
 pub first-meanings : (p : ProgramTree) (k c : ℕ) → c < k → slice_get (take k (meanings p.funcs)) c ≡ slice_get (meanings p.funcs) c
 first-meanings p k c h = slice_get-take k c (meanings p.funcs) h
 
-pub meaning-of : (p : ProgramTree) (k : ℕ) (f : FuncTree) → slice_get p.funcs k ≡ Some f → slice_get (meanings p.funcs) k ≡ Some (meaning (take k (meanings p.funcs)) f)
+pub meaning-of : (p : ProgramTree) (k : ℕ) (f : FuncTree) → slice_get p.funcs k ≡ Some f
+    → slice_get (meanings p.funcs) k ≡ Some (meaning (take k (meanings p.funcs)) f)
 meaning-of p k f h =
     entry-grown meaning p.funcs k f h ∙ ap (λ ms. Some (meaning ms f)) (sym (take-grown meaning p.funcs k))
 
@@ -207,7 +215,8 @@ pub record FormedFunc (v k : ℕ) (f : FuncTree) : Type 0 where
 
 func-formed : (v k m : ℕ) (f : FuncTree) → formed_func v k m f ≡ true → FormedFunc v k f
 func-formed v k m f h =
-    let r = and-seven (is_name f.name) (within 1 8 (length f.params)) (formed_params v f.params) (formed_nodes v k (length f.params) f.nodes) (within 1 m (length f.results)) (all_below (item_count f) f.results) (named_items f) h in
+    let r = and-seven (is_name f.name) (within 1 8 (length f.params)) (formed_params v f.params) (formed_nodes v k (length f.params) f.nodes)
+    (within 1 m (length f.results)) (all_below (item_count f) f.results) (named_items f) h in
     let few = and-both (nat_le 1 (length f.params)) (nat_le (length f.params) 8) r.1 in
     let one = and-both (nat_le 1 (length f.results)) (nat_le (length f.results) m) r.4 in
     record {
@@ -240,7 +249,8 @@ pub record FormedProgram (p : ProgramTree) : Type 0 where
 
 program-formed : (p : ProgramTree) → formed p ≡ true → FormedProgram p
 program-formed p h =
-    let r = and-five (within 1 2 p.version) (nat_le 1 (length p.funcs)) (nat_le (line_count p) 4096) (all_distinct (func_names p.funcs)) (formed_funcs p.version 0 p.funcs) h in
+    let r = and-five (within 1 2 p.version) (nat_le 1 (length p.funcs)) (nat_le (line_count p) 4096) (all_distinct (func_names p.funcs))
+    (formed_funcs p.version 0 p.funcs) h in
     let lines : line_count p ≤ 4096 = grind (arith, nat_tests, r.2) in
     record {
       funcs = r.4;
@@ -290,7 +300,8 @@ record Front (o : Option (Option SeqTree)) (r : Option (List SeqTree)) (us : Lis
   rest_is : r ≡ Some rest
   whole : first ∷ rest ≡ us
 
-front : (o : Option (Option SeqTree)) (r : Option (List SeqTree)) (us : List SeqTree) → (o >>= λ p. p >>= λ t. r >>= λ vs. Some (t ∷ vs)) ≡ Some us → Front o r us
+front : (o : Option (Option SeqTree)) (r : Option (List SeqTree)) (us : List SeqTree) → (o >>= λ p. p >>= λ t. r >>= λ vs. Some (t ∷ vs)) ≡ Some us
+    → Front o r us
 front (Some (Some t)) (Some vs) us h = record { first = t; rest = vs; first_is = refl; rest_is = refl; whole = cc }
 front (Some (Some t)) None us h = cc
 front (Some None) r us h = cc
@@ -323,7 +334,8 @@ pub record LineFacts (p : ProgramTree) (k j : ℕ) (l : NodeTree) : Type 0 where
   pub arity : has_arguments l.op (length l.args) ≡ true
   pub below : all_below (item_of p k j) l.args ≡ true
 
-params-first : (sigs : List Signature) (f : FuncTree) (ts : List SeqTree) → item_types sigs f ≡ map (λ (t : SeqTree). Some t) ts → take (length (param_types f)) ts ≡ param_types f
+params-first : (sigs : List Signature) (f : FuncTree) (ts : List SeqTree) → item_types sigs f ≡ map (λ (t : SeqTree). Some t) ts
+    → take (length (param_types f)) ts ≡ param_types f
 params-first sigs f ts h =
     let ps = param_types f in
     let g = grown-first (node_type sigs) (map (λ (t : SeqTree). Some t) ps) f.nodes in
@@ -331,7 +343,8 @@ params-first sigs f ts h =
     ap (λ zs. take (length ps) zs) split.1 ∙ take-append_seam ps split.0
 
 -- the types of the rest, by those of the items above
-types-from : (sigs : List Signature) (f : FuncTree) (ts : List SeqTree) (j : ℕ) → item_types sigs f ≡ map (λ (t : SeqTree). Some t) ts → length ts ≡ length (param_types f) + length f.nodes → j ≤ length f.nodes
+types-from : (sigs : List Signature) (f : FuncTree) (ts : List SeqTree) (j : ℕ) → item_types sigs f ≡ map (λ (t : SeqTree). Some t) ts
+    → length ts ≡ length (param_types f) + length f.nodes → j ≤ length f.nodes
     → grown (node_type sigs) (map (λ (t : SeqTree). Some t) (take (length (param_types f) + j) ts)) (drop j f.nodes) ≡ map (λ (t : SeqTree). Some t) ts
 types-from sigs f ts zero h e lt =
     let none : length (param_types f) + 0 ≡ length (param_types f) = omega arith in
@@ -388,7 +401,8 @@ line-facts p k j l h known e =
 
 -- ---- what the code reads of a program
 
-pub func-read : (p : Program) (k : ℕ) (f : Func) → k < length (program_tree p).funcs → f ≡ get_or p.funcs.items k f → slice_get (program_tree p).funcs k ≡ Some (func_tree f)
+pub func-read : (p : Program) (k : ℕ) (f : Func) → k < length (program_tree p).funcs → f ≡ get_or p.funcs.items k f
+    → slice_get (program_tree p).funcs k ≡ Some (func_tree f)
 func-read p k f h e = slice_get-view func_tree p.funcs.items k f (simp length-map at h) e
 
 pub counts-read : (p : Program) (k : ℕ) (f : Func) → IsTyped (program_tree p) → k < length (program_tree p).funcs → f ≡ get_or p.funcs.items k f
@@ -407,7 +421,8 @@ arg-below n zero d (k ∷ is) h lt = let r = and-both (nat_lt k n) (all_below n 
 arg-below n (suc i) d (k ∷ is) h lt = let r = and-both (nat_lt k n) (all_below n is) h in arg-below n i d is r.1 (omega arith)
 
 pub results-read : (p : Program) (k : ℕ) (f : Func) → IsTyped (program_tree p) → k < length (program_tree p).funcs → f ≡ get_or p.funcs.items k f
-    → (results_in (program_tree p) k ≡ f.results.items) × (1 ≤ length (results_in (program_tree p) k)) × All (λ (i : ℕ). i < length (types_in (program_tree p) k)) (results_in (program_tree p) k)
+    → (results_in (program_tree p) k ≡ f.results.items) × (1 ≤ length (results_in (program_tree p) k))
+    × All (λ (i : ℕ). i < length (types_in (program_tree p) k)) (results_in (program_tree p) k)
 results-read p k f h known e =
     let read = func-read p k f known e in
     let is : results_in (program_tree p) k ≡ f.results.items = ap results_for read in

@@ -40,7 +40,8 @@ two-values t u r q h g =
 
 -- ---- an element that is put on top
 
-pub element-room : (n i start : ℕ) (t : SeqTree) (old now : List ℕ) → i < n → FitAt (seq n t) start old → length old ≤ length now → start + i * words t + words t ≤ length now
+pub element-room : (n i start : ℕ) (t : SeqTree) (old now : List ℕ) → i < n → FitAt (seq n t) start old → length old ≤ length now
+    → start + i * words t + words t ≤ length now
 element-room n i start t old now lt f above =
     let room = f.room in
     let ends = piece-ends n i (words t) lt in
@@ -57,7 +58,8 @@ element-on n i start t old now lt f kept =
 pub record Mapping (p : ProgramTree) (c : ℕ) (s : SeqTree) (start : ℕ) (old now : List ℕ) (i : ℕ) : Type 0 where
   pub above : length old ≤ length now
   pub kept : take (length old) now ≡ old
-  pub stands : (u : SeqTree) → result_of p c ≡ Some u → Stands (seq i u) (drop (length old) now) (listed (map (one_by p c) (take i (elements (value_of s (window s start old))))))
+  pub stands : (u : SeqTree) → result_of p c ≡ Some u → Stands (seq i u) (drop (length old) now)
+      (listed (map (one_by p c) (take i (elements (value_of s (window s start old))))))
 
 nothing-on : (old : List ℕ) → drop (length old) old ≡ []
 nothing-on [] = refl
@@ -77,7 +79,8 @@ record Turn (p : ProgramTree) (c n i start top : ℕ) (t : SeqTree) (old now mid
   fits : FitIn (params_in p c) (drop top mid)
   value : values_in (params_in p c) (drop top mid) ≡ get_or (elements (value_of (seq n t) (window (seq n t) start old))) i end ∷ []
 
-turn : (p : ProgramTree) (c n i start top : ℕ) (t : SeqTree) (old now mid : List ℕ) → params_in p c ≡ t ∷ [] → i < n → FitAt (seq n t) start old → take (length old) now ≡ old → top ≡ length now → mid ≡ now ++ take (words t) (drop (start + i * words t) now)
+turn : (p : ProgramTree) (c n i start top : ℕ) (t : SeqTree) (old now mid : List ℕ) → params_in p c ≡ t ∷ [] → i < n → FitAt (seq n t) start old
+    → take (length old) now ≡ old → top ≡ length now → mid ≡ now ++ take (words t) (drop (start + i * words t) now)
     → Turn p c n i start top t old now mid
 turn p c n i start top t old now mid params lt f kept et em =
     let r = take (words t) (drop (start + i * words t) now) in
@@ -94,14 +97,17 @@ turn p c n i start top t old now mid params lt f kept et em =
       value = ap (values_in (params_in p c)) back ∙ ap (λ ts. values_in ts r) params ∙ one-value t r one.fits ∙ ap (λ v. v ∷ []) one.value;
     }
 
-pub mapping-args : (p : ProgramTree) (c n i start top : ℕ) (s t : SeqTree) (old now mid : List ℕ) → s ≡ seq n t → TakesEach s (params_in p c) → i < n → FitAt s start old → Mapping p c s start old now i → top ≡ length now → mid ≡ now ++ take (words t) (drop (start + i * words t) now)
+pub mapping-args : (p : ProgramTree) (c n i start top : ℕ) (s t : SeqTree) (old now mid : List ℕ) → s ≡ seq n t → TakesEach s (params_in p c) → i < n
+    → FitAt s start old → Mapping p c s start old now i → top ≡ length now → mid ≡ now ++ take (words t) (drop (start + i * words t) now)
     → (top ≤ length mid) × FitIn (params_in p c) (drop top mid)
 mapping-args p c n i start top s t old now mid es takes lt f m et em =
     let r = turn p c n i start top t old now mid (subst (λ z. TakesEach z (params_in p c)) es takes) lt (subst (λ z. FitAt z start old) es f) m.kept et em in
     (r.base, r.fits)
 
-mapping-core : (p : ProgramTree) (c n i start top : ℕ) (t : SeqTree) (old now mid new : List ℕ) → TakesEach (seq n t) (params_in p c) → i < n → FitAt (seq n t) start old → Mapping p c (seq n t) start old now i → top ≡ length now → mid ≡ now ++ take (words t) (drop (start + i * words t) now)
-    → Pushed (result_of p c) (take top mid) new (applied (meanings p.funcs) c (values_in (params_in p c) (drop top mid))) → Mapping p c (seq n t) start old new (i + 1)
+mapping-core : (p : ProgramTree) (c n i start top : ℕ) (t : SeqTree) (old now mid new : List ℕ) → TakesEach (seq n t) (params_in p c) → i < n
+    → FitAt (seq n t) start old → Mapping p c (seq n t) start old now i → top ≡ length now → mid ≡ now ++ take (words t) (drop (start + i * words t) now)
+    → Pushed (result_of p c) (take top mid) new (applied (meanings p.funcs) c (values_in (params_in p c) (drop top mid)))
+    → Mapping p c (seq n t) start old new (i + 1)
 mapping-core p c n i start top t old now mid new takes lt f m et em push =
     let q = turn p c n i start top t old now mid takes lt f m.kept et em in
     let ws = window (seq n t) start old in
@@ -124,7 +130,8 @@ mapping-core p c n i start top t old now mid new takes lt f m et em push =
           subst B (sym back) (map-step n t u ws (drop (length old) now) r i (one_by p c) lt (m.stands u h) one));
     }
 
-pub mapping-next : (p : ProgramTree) (c n i start top : ℕ) (s t : SeqTree) (old now mid new : List ℕ) → s ≡ seq n t → TakesEach s (params_in p c) → i < n → FitAt s start old → Mapping p c s start old now i → top ≡ length now → mid ≡ now ++ take (words t) (drop (start + i * words t) now)
+pub mapping-next : (p : ProgramTree) (c n i start top : ℕ) (s t : SeqTree) (old now mid new : List ℕ) → s ≡ seq n t → TakesEach s (params_in p c) → i < n
+    → FitAt s start old → Mapping p c s start old now i → top ≡ length now → mid ≡ now ++ take (words t) (drop (start + i * words t) now)
     → Pushed (result_of p c) (take top mid) new (applied (meanings p.funcs) c (values_in (params_in p c) (drop top mid))) → Mapping p c s start old new (i + 1)
 mapping-next p c n i start top s t old now mid new es takes lt f m et em push =
     let P : SeqTree → Type 0 = λ z. TakesEach z (params_in p c) → FitAt z start old → Mapping p c z start old now i → Mapping p c z start old new (i + 1) in
@@ -154,12 +161,14 @@ mapping-end p c n i start t old now ei m =
 pub mapping-last : (p : ProgramTree) (c n i start : ℕ) (s t : SeqTree) (old now : List ℕ) → s ≡ seq n t → i ≡ n → Mapping p c s start old now i
     → Pushed (each_of s (result_of p c)) old now (listed (map (one_by p c) (elements (value_of s (window s start old)))))
 mapping-last p c n i start s t old now es ei m =
-    let P : SeqTree → Type 0 = λ z. Mapping p c z start old now i → Pushed (each_of z (result_of p c)) old now (listed (map (one_by p c) (elements (value_of z (window z start old))))) in
+    let P : SeqTree → Type 0 = λ z. Mapping p c z start old now i
+    → Pushed (each_of z (result_of p c)) old now (listed (map (one_by p c) (elements (value_of z (window z start old))))) in
     subst P (sym es) (λ h. mapping-end p c n i start t old now ei h) m
 
 -- ---- a function on the elements of two sequences in pairs
 
-map_two-more : (g : ValueTree → ValueTree → ValueTree) (xs ys : List ValueTree) (i : ℕ) → i < length xs → i < length ys → map_two g (take (i + 1) xs) (take (i + 1) ys) ≡ map_two g (take i xs) (take i ys) ++ g (get_or xs i end) (get_or ys i end) ∷ []
+map_two-more : (g : ValueTree → ValueTree → ValueTree) (xs ys : List ValueTree) (i : ℕ) → i < length xs → i < length ys
+    → map_two g (take (i + 1) xs) (take (i + 1) ys) ≡ map_two g (take i xs) (take i ys) ++ g (get_or xs i end) (get_or ys i end) ∷ []
 map_two-more g [] ys i h k = absurd (omega arith)
 map_two-more g (x ∷ xs) [] i h k = absurd (omega arith)
 map_two-more g (x ∷ xs) (y ∷ ys) zero h k = refl
@@ -171,7 +180,8 @@ pub record MappingTwo (p : ProgramTree) (c : ℕ) (s z : SeqTree) (start place :
   pub above : length old ≤ length now
   pub kept : take (length old) now ≡ old
   pub stands : (u : SeqTree) → result_of p c ≡ Some u
-      → Stands (seq i u) (drop (length old) now) (listed (map_two (two_by p c) (take i (elements (value_of s (window s start old)))) (take i (elements (value_of z (window z place old))))))
+      → Stands (seq i u) (drop (length old) now) (listed (map_two (two_by p c) (take i (elements (value_of s (window s start old))))
+      (take i (elements (value_of z (window z place old))))))
 
 pub mapping-two-first : (p : ProgramTree) (c : ℕ) (s z : SeqTree) (start place : ℕ) (old : List ℕ) → MappingTwo p c s z start place old old 0
 mapping-two-first p c s z start place old = record {
@@ -185,17 +195,21 @@ record TurnTwo (p : ProgramTree) (c n m i start place top : ℕ) (t w : SeqTree)
   front : take top mid ≡ now
   fits : FitIn (params_in p c) (drop top mid)
   value : values_in (params_in p c) (drop top mid)
-      ≡ get_or (elements (value_of (seq n t) (window (seq n t) start old))) i end ∷ get_or (elements (value_of (seq m w) (window (seq m w) place old))) i end ∷ []
+      ≡ get_or (elements (value_of (seq n t) (window (seq n t) start old))) i end ∷ get_or (elements (value_of (seq m w) (window (seq m w) place old))) i end
+      ∷ []
 
-turn-two : (p : ProgramTree) (c n m i start place top : ℕ) (t w : SeqTree) (old now next mid : List ℕ) → params_in p c ≡ t ∷ w ∷ [] → i < n → i < m → FitAt (seq n t) start old → FitAt (seq m w) place old → length old ≤ length now → take (length old) now ≡ old → top ≡ length now
-    → next ≡ now ++ take (words t) (drop (start + i * words t) now) → mid ≡ next ++ take (words w) (drop (place + i * words w) next) → TurnTwo p c n m i start place top t w old now mid
+turn-two : (p : ProgramTree) (c n m i start place top : ℕ) (t w : SeqTree) (old now next mid : List ℕ) → params_in p c ≡ t ∷ w ∷ [] → i < n → i < m
+    → FitAt (seq n t) start old → FitAt (seq m w) place old → length old ≤ length now → take (length old) now ≡ old → top ≡ length now
+    → next ≡ now ++ take (words t) (drop (start + i * words t) now) → mid ≡ next ++ take (words w) (drop (place + i * words w) next)
+    → TurnTwo p c n m i start place top t w old now mid
 turn-two p c n m i start place top t w old now next mid params lt lm f g above kept et en em =
     let r = take (words t) (drop (start + i * words t) now) in
     let q = take (words w) (drop (place + i * words w) now) in
     let one = element-on n i start t old now lt f kept in
     let two = element-on m i place w old now lm g kept in
     let room = element-room m i place w old now lm g above in
-    let piece : take (words w) (drop (place + i * words w) next) ≡ q = ap (λ ys. take (words w) (drop (place + i * words w) ys)) en ∙ window-append (place + i * words w) (words w) now r room in
+    let piece : take (words w) (drop (place + i * words w) next) ≡ q = ap (λ ys. take (words w) (drop (place + i * words w) ys)) en ∙
+    window-append (place + i * words w) (words w) now r room in
     let all : mid ≡ now ++ (r ++ q) = em ∙ ap (λ ys. next ++ ys) piece ∙ ap (λ ys. ys ++ q) en ∙ append_assoc now r q in
     let back : drop top mid ≡ r ++ q = ap (λ j. drop j mid) et ∙ ap (drop (length now)) all ∙ drop-append_seam now (r ++ q) in
     let front : take top mid ≡ now = ap (λ j. take j mid) et ∙ ap (take (length now)) all ∙ take-append_seam now (r ++ q) in
@@ -207,11 +221,13 @@ turn-two p c n m i start place top t w old now next mid params lt lm f g above k
       base = omega (arith, long, length-append now (r ++ q));
       front = front;
       fits = subst G (sym back) (subst F (sym params) (two-fit t w r q one.fits two.fits));
-      value = ap (values_in (params_in p c)) back ∙ ap (λ ts. values_in ts (r ++ q)) params ∙ two-values t w r q one.fits two.fits ∙ ap (λ v. v ∷ value_of w q ∷ []) one.value ∙ ap (λ v. x ∷ v ∷ []) two.value;
+      value = ap (values_in (params_in p c)) back ∙ ap (λ ts. values_in ts (r ++ q)) params ∙ two-values t w r q one.fits two.fits ∙
+          ap (λ v. v ∷ value_of w q ∷ []) one.value ∙ ap (λ v. x ∷ v ∷ []) two.value;
     }
 
 module _ (p : ProgramTree) (c n m i start place top : ℕ) (t w : SeqTree) (old now next mid : List ℕ) where
-  pub mapping-two-args-core : TakesEachTwo (seq n t) (seq m w) (params_in p c) → i < n → FitAt (seq n t) start old → FitAt (seq m w) place old → MappingTwo p c (seq n t) (seq m w) start place old now i → top ≡ length now
+  pub mapping-two-args-core : TakesEachTwo (seq n t) (seq m w) (params_in p c) → i < n → FitAt (seq n t) start old → FitAt (seq m w) place old
+      → MappingTwo p c (seq n t) (seq m w) start place old now i → top ≡ length now
       → next ≡ now ++ take (words t) (drop (start + i * words t) now) → mid ≡ next ++ take (words w) (drop (place + i * words w) next)
       → (top ≤ length mid) × FitIn (params_in p c) (drop top mid)
   mapping-two-args-core takes lt f g h et en em =
@@ -219,9 +235,11 @@ module _ (p : ProgramTree) (c n m i start place top : ℕ) (t w : SeqTree) (old 
       let r = turn-two p c n m i start place top t w old now next mid takes.1 lt (omega arith) f g h.above h.kept et en em in
       (r.base, r.fits)
 
-  pub mapping-two-core : (new : List ℕ) → TakesEachTwo (seq n t) (seq m w) (params_in p c) → i < n → FitAt (seq n t) start old → FitAt (seq m w) place old → MappingTwo p c (seq n t) (seq m w) start place old now i → top ≡ length now
+  pub mapping-two-core : (new : List ℕ) → TakesEachTwo (seq n t) (seq m w) (params_in p c) → i < n → FitAt (seq n t) start old → FitAt (seq m w) place old
+      → MappingTwo p c (seq n t) (seq m w) start place old now i → top ≡ length now
       → next ≡ now ++ take (words t) (drop (start + i * words t) now) → mid ≡ next ++ take (words w) (drop (place + i * words w) next)
-      → Pushed (result_of p c) (take top mid) new (applied (meanings p.funcs) c (values_in (params_in p c) (drop top mid))) → MappingTwo p c (seq n t) (seq m w) start place old new (i + 1)
+      → Pushed (result_of p c) (take top mid) new (applied (meanings p.funcs) c (values_in (params_in p c) (drop top mid)))
+      → MappingTwo p c (seq n t) (seq m w) start place old new (i + 1)
   mapping-two-core new takes lt f g h et en em push =
       let same = takes.0 in
       let lm : i < m = omega arith in
@@ -247,27 +265,39 @@ module _ (p : ProgramTree) (c n m i start place top : ℕ) (t w : SeqTree) (old 
             let one = subst V (ap (applied (meanings p.funcs) c) q.value) (on.stands u e) in
             let B : List ℕ → Type 0 = λ zs. Stands (seq (i + 1) u) zs (listed (map_two (two_by p c) (take (i + 1) xs) (take (i + 1) ys))) in
             let C : List ValueTree → Type 0 = λ vs. Stands (seq (i + 1) u) (drop (length old) now ++ r) (listed vs) in
-            subst B (sym back) (subst C (sym more) (Stands-push i u (drop (length old) now) r (map_two (two_by p c) (take i xs) (take i ys)) (two_by p c (get_or xs i end) (get_or ys i end)) (h.stands u e) one)));
+            subst B (sym back) (subst C (sym more) (Stands-push i u (drop (length old) now) r (map_two (two_by p c) (take i xs) (take i ys))
+            (two_by p c (get_or xs i end) (get_or ys i end)) (h.stands u e) one)));
       }
 
-pub mapping-two-args : (p : ProgramTree) (c n m i start place top : ℕ) (s z t w : SeqTree) (old now next mid : List ℕ) → s ≡ seq n t → z ≡ seq m w → TakesEachTwo s z (params_in p c) → i < n → FitAt s start old → FitAt z place old → MappingTwo p c s z start place old now i → top ≡ length now
+pub mapping-two-args : (p : ProgramTree) (c n m i start place top : ℕ) (s z t w : SeqTree) (old now next mid : List ℕ) → s ≡ seq n t → z ≡ seq m w
+    → TakesEachTwo s z (params_in p c) → i < n → FitAt s start old → FitAt z place old → MappingTwo p c s z start place old now i → top ≡ length now
     → next ≡ now ++ take (words t) (drop (start + i * words t) now) → mid ≡ next ++ take (words w) (drop (place + i * words w) next)
     → (top ≤ length mid) × FitIn (params_in p c) (drop top mid)
 mapping-two-args p c n m i start place top s z t w old now next mid es ez takes lt f g h et en em =
-    let P : SeqTree → Type 0 = λ y. TakesEachTwo y z (params_in p c) → FitAt y start old → MappingTwo p c y z start place old now i → (top ≤ length mid) × FitIn (params_in p c) (drop top mid) in
-    let Q : SeqTree → Type 0 = λ y. TakesEachTwo (seq n t) y (params_in p c) → FitAt y place old → MappingTwo p c (seq n t) y start place old now i → (top ≤ length mid) × FitIn (params_in p c) (drop top mid) in
-    subst P (sym es) (λ a b d. subst Q (sym ez) (λ a' b' d'. mapping-two-args-core p c n m i start place top t w old now next mid a' lt b b' d' et en em) a g d) takes f h
+    let P : SeqTree → Type 0 = λ y. TakesEachTwo y z (params_in p c) → FitAt y start old → MappingTwo p c y z start place old now i → (top ≤ length mid)
+    × FitIn (params_in p c) (drop top mid) in
+    let Q : SeqTree → Type 0 = λ y. TakesEachTwo (seq n t) y (params_in p c) → FitAt y place old → MappingTwo p c (seq n t) y start place old now i
+    → (top ≤ length mid) × FitIn (params_in p c) (drop top mid) in
+    subst P (sym es) (λ a b d. subst Q (sym ez) (λ a' b' d'. mapping-two-args-core p c n m i start place top t w old now next mid a' lt b b' d' et en em) a g
+    d) takes f h
 
-pub mapping-two-next : (p : ProgramTree) (c n m i start place top : ℕ) (s z t w : SeqTree) (old now next mid new : List ℕ) → s ≡ seq n t → z ≡ seq m w → TakesEachTwo s z (params_in p c) → i < n → FitAt s start old → FitAt z place old → MappingTwo p c s z start place old now i → top ≡ length now
+pub mapping-two-next : (p : ProgramTree) (c n m i start place top : ℕ) (s z t w : SeqTree) (old now next mid new : List ℕ) → s ≡ seq n t → z ≡ seq m w
+    → TakesEachTwo s z (params_in p c) → i < n → FitAt s start old → FitAt z place old → MappingTwo p c s z start place old now i → top ≡ length now
     → next ≡ now ++ take (words t) (drop (start + i * words t) now) → mid ≡ next ++ take (words w) (drop (place + i * words w) next)
-    → Pushed (result_of p c) (take top mid) new (applied (meanings p.funcs) c (values_in (params_in p c) (drop top mid))) → MappingTwo p c s z start place old new (i + 1)
+    → Pushed (result_of p c) (take top mid) new (applied (meanings p.funcs) c (values_in (params_in p c) (drop top mid)))
+    → MappingTwo p c s z start place old new (i + 1)
 mapping-two-next p c n m i start place top s z t w old now next mid new es ez takes lt f g h et en em push =
-    let P : SeqTree → Type 0 = λ y. TakesEachTwo y z (params_in p c) → FitAt y start old → MappingTwo p c y z start place old now i → MappingTwo p c y z start place old new (i + 1) in
-    let Q : SeqTree → Type 0 = λ y. TakesEachTwo (seq n t) y (params_in p c) → FitAt y place old → MappingTwo p c (seq n t) y start place old now i → MappingTwo p c (seq n t) y start place old new (i + 1) in
-    subst P (sym es) (λ a b d. subst Q (sym ez) (λ a' b' d'. mapping-two-core p c n m i start place top t w old now next mid new a' lt b b' d' et en em push) a g d) takes f h
+    let P : SeqTree → Type 0 = λ y. TakesEachTwo y z (params_in p c) → FitAt y start old → MappingTwo p c y z start place old now i
+    → MappingTwo p c y z start place old new (i + 1) in
+    let Q : SeqTree → Type 0 = λ y. TakesEachTwo (seq n t) y (params_in p c) → FitAt y place old → MappingTwo p c (seq n t) y start place old now i
+    → MappingTwo p c (seq n t) y start place old new (i + 1) in
+    subst P (sym es) (λ a b d. subst Q (sym ez) (λ a' b' d'. mapping-two-core p c n m i start place top t w old now next mid new a' lt b b' d' et en em push) a
+    g d) takes f h
 
-mapping-two-end : (p : ProgramTree) (c n m i start place : ℕ) (t w : SeqTree) (old now : List ℕ) → n ≡ m → i ≡ n → MappingTwo p c (seq n t) (seq m w) start place old now i
-    → Pushed (each_of (seq n t) (result_of p c)) old now (listed (map_two (two_by p c) (elements (value_of (seq n t) (window (seq n t) start old))) (elements (value_of (seq m w) (window (seq m w) place old)))))
+mapping-two-end : (p : ProgramTree) (c n m i start place : ℕ) (t w : SeqTree) (old now : List ℕ) → n ≡ m → i ≡ n
+    → MappingTwo p c (seq n t) (seq m w) start place old now i
+    → Pushed (each_of (seq n t) (result_of p c)) old now (listed
+    (map_two (two_by p c) (elements (value_of (seq n t) (window (seq n t) start old))) (elements (value_of (seq m w) (window (seq m w) place old)))))
 mapping-two-end p c n m i start place t w old now em ei h =
     let xs = elements (value_of (seq n t) (window (seq n t) start old)) in
     let ys = elements (value_of (seq m w) (window (seq m w) place old)) in
@@ -286,11 +316,17 @@ mapping-two-end p c n m i start place t w old now em ei h =
           subst D r.2 (subst C ei (subst B second (subst A first (h.stands r.0 r.1)))));
     }
 
-pub mapping-two-last : (p : ProgramTree) (c n m i start place : ℕ) (s z t w : SeqTree) (old now : List ℕ) → s ≡ seq n t → z ≡ seq m w → TakesEachTwo s z (params_in p c) → i ≡ n → MappingTwo p c s z start place old now i
-    → Pushed (each_of s (result_of p c)) old now (listed (map_two (two_by p c) (elements (value_of s (window s start old))) (elements (value_of z (window z place old)))))
+pub mapping-two-last : (p : ProgramTree) (c n m i start place : ℕ) (s z t w : SeqTree) (old now : List ℕ) → s ≡ seq n t → z ≡ seq m w
+    → TakesEachTwo s z (params_in p c) → i ≡ n → MappingTwo p c s z start place old now i
+    → Pushed (each_of s (result_of p c)) old now (listed (map_two (two_by p c) (elements (value_of s (window s start old)))
+    (elements (value_of z (window z place old)))))
 mapping-two-last p c n m i start place s z t w old now es ez takes ei h =
-    let P : SeqTree → Type 0 = λ y. TakesEachTwo y z (params_in p c) → MappingTwo p c y z start place old now i → Pushed (each_of y (result_of p c)) old now (listed (map_two (two_by p c) (elements (value_of y (window y start old))) (elements (value_of z (window z place old))))) in
-    let Q : SeqTree → Type 0 = λ y. TakesEachTwo (seq n t) y (params_in p c) → MappingTwo p c (seq n t) y start place old now i → Pushed (each_of (seq n t) (result_of p c)) old now (listed (map_two (two_by p c) (elements (value_of (seq n t) (window (seq n t) start old))) (elements (value_of y (window y place old))))) in
+    let P : SeqTree → Type 0 = λ y. TakesEachTwo y z (params_in p c) → MappingTwo p c y z start place old now i
+    → Pushed (each_of y (result_of p c)) old now (listed
+    (map_two (two_by p c) (elements (value_of y (window y start old))) (elements (value_of z (window z place old))))) in
+    let Q : SeqTree → Type 0 = λ y. TakesEachTwo (seq n t) y (params_in p c) → MappingTwo p c (seq n t) y start place old now i
+    → Pushed (each_of (seq n t) (result_of p c)) old now
+    (listed (map_two (two_by p c) (elements (value_of (seq n t) (window (seq n t) start old))) (elements (value_of y (window y place old))))) in
     subst P (sym es) (λ a d. subst Q (sym ez) (λ a' d'. mapping-two-end p c n m i start place t w old now a'.0 ei d') a d) takes h
 
 -- ---- what the code asks

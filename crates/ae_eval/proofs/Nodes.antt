@@ -23,7 +23,8 @@ record Each (p : ProgramTree) (c : ℕ) (t z : SeqTree) : Type 0 where
   takes : TakesEach t (params_in p c)
   type : each_of t (result_of p c) ≡ Some z
 
-each-typed : (p : ProgramTree) (k c : ℕ) (t z : SeqTree) → IsTyped p → c < k → k < length p.funcs → each_type (signatures (take k p.funcs)) c t ≡ Some z → Each p c t z
+each-typed : (p : ProgramTree) (k c : ℕ) (t z : SeqTree) → IsTyped p → c < k → k < length p.funcs → each_type (signatures (take k p.funcs)) c t ≡ Some z
+    → Each p c t z
 each-typed p k c (atom a) z h below known e = cc
 each-typed p k c (seq n t) z h below known e =
     let r = option-both (called (signatures (take k p.funcs)) c (t ∷ [])) (λ (u : SeqTree). Some (seq n u)) z e in
@@ -35,7 +36,8 @@ record EachTwo (p : ProgramTree) (c : ℕ) (t u z : SeqTree) : Type 0 where
   takes : TakesEachTwo t u (params_in p c)
   type : each_of t (result_of p c) ≡ Some z
 
-each-two-typed : (p : ProgramTree) (k c : ℕ) (t u z : SeqTree) → IsTyped p → c < k → k < length p.funcs → each_two_type (signatures (take k p.funcs)) c t u ≡ Some z → EachTwo p c t u z
+each-two-typed : (p : ProgramTree) (k c : ℕ) (t u z : SeqTree) → IsTyped p → c < k → k < length p.funcs
+    → each_two_type (signatures (take k p.funcs)) c t u ≡ Some z → EachTwo p c t u z
 each-two-typed p k c (atom a) (atom b) z h below known e = cc
 each-two-typed p k c (atom a) (seq m u) z h below known e = cc
 each-two-typed p k c (seq n t) (atom b) z h below known e = cc
@@ -48,14 +50,20 @@ each-two-typed p k c (seq n t) (seq m u) z h below known e =
 
 -- ---- the values
 
-map-above : (p : ProgramTree) (k c : ℕ) (xs : List ValueTree) → c < k → map (one_by p c) xs ≡ map (λ (x : ValueTree). applied (take k (meanings p.funcs)) c (x ∷ [])) xs
+map-above : (p : ProgramTree) (k c : ℕ) (xs : List ValueTree) → c < k
+    → map (one_by p c) xs ≡ map (λ (x : ValueTree). applied (take k (meanings p.funcs)) c (x ∷ [])) xs
 map-above p k c [] h = refl
-map-above p k c (x ∷ xs) h = ap (λ v. v ∷ map (one_by p c) xs) (sym (applied-above p k c (x ∷ []) h)) ∙ ap (λ vs. applied (take k (meanings p.funcs)) c (x ∷ []) ∷ vs) (map-above p k c xs h)
+map-above p k c (x ∷ xs) h =
+    ap (λ v. v ∷ map (one_by p c) xs) (sym (applied-above p k c (x ∷ []) h)) ∙
+    ap (λ vs. applied (take k (meanings p.funcs)) c (x ∷ []) ∷ vs) (map-above p k c xs h)
 
-map-two-above : (p : ProgramTree) (k c : ℕ) (xs ys : List ValueTree) → c < k → map_two (two_by p c) xs ys ≡ map_two (λ (x y : ValueTree). applied (take k (meanings p.funcs)) c (x ∷ y ∷ [])) xs ys
+map-two-above : (p : ProgramTree) (k c : ℕ) (xs ys : List ValueTree) → c < k
+    → map_two (two_by p c) xs ys ≡ map_two (λ (x y : ValueTree). applied (take k (meanings p.funcs)) c (x ∷ y ∷ [])) xs ys
 map-two-above p k c [] ys h = refl
 map-two-above p k c (x ∷ xs) [] h = refl
-map-two-above p k c (x ∷ xs) (y ∷ ys) h = ap (λ v. v ∷ map_two (two_by p c) xs ys) (sym (applied-above p k c (x ∷ y ∷ []) h)) ∙ ap (λ vs. applied (take k (meanings p.funcs)) c (x ∷ y ∷ []) ∷ vs) (map-two-above p k c xs ys h)
+map-two-above p k c (x ∷ xs) (y ∷ ys) h =
+    ap (λ v. v ∷ map_two (two_by p c) xs ys) (sym (applied-above p k c (x ∷ y ∷ []) h)) ∙
+    ap (λ vs. applied (take k (meanings p.funcs)) c (x ∷ y ∷ []) ∷ vs) (map-two-above p k c xs ys h)
 
 each-above : (v k c : ℕ) (op : OpTree) → is_line v k op ≡ true → op ≡ each c → c < k
 each-above v k c op h e = let q = subst (λ o. is_line v k o ≡ true) e h in grind (arith, nat_tests, q)
@@ -63,13 +71,15 @@ each-above v k c op h e = let q = subst (λ o. is_line v k o ≡ true) e h in gr
 each-two-above : (v k c : ℕ) (op : OpTree) → is_line v k op ≡ true → op ≡ each_two c → c < k
 each-two-above v k c op h e = let q = subst (λ o. is_line v k o ≡ true) e h in grind (arith, nat_tests, q)
 
-pub each-count : (p : ProgramTree) (k j c : ℕ) (l : NodeTree) → IsTyped p → k < length p.funcs → slice_get (nodes_in p k) j ≡ Some l → l.op ≡ each c → length l.args ≡ 1
+pub each-count : (p : ProgramTree) (k j c : ℕ) (l : NodeTree) → IsTyped p → k < length p.funcs → slice_get (nodes_in p k) j ≡ Some l → l.op ≡ each c
+    → length l.args ≡ 1
 each-count p k j c l h known node e =
     let facts = line-facts p k j l h known node in
     let q = subst (λ o. has_arguments o (length l.args) ≡ true) e facts.arity in
     grind (arith, nat_tests, q)
 
-pub each-two-count : (p : ProgramTree) (k j c : ℕ) (l : NodeTree) → IsTyped p → k < length p.funcs → slice_get (nodes_in p k) j ≡ Some l → l.op ≡ each_two c → length l.args ≡ 2
+pub each-two-count : (p : ProgramTree) (k j c : ℕ) (l : NodeTree) → IsTyped p → k < length p.funcs → slice_get (nodes_in p k) j ≡ Some l → l.op ≡ each_two c
+    → length l.args ≡ 2
 each-two-count p k j c l h known node e =
     let facts = line-facts p k j l h known node in
     let q = subst (λ o. has_arguments o (length l.args) ≡ true) e facts.arity in
@@ -85,8 +95,10 @@ pub record EachArgs (p : ProgramTree) (k j c base start : ℕ) (old : List ℕ) 
   pub pushed : (new : List ℕ) → Pushed (each_of t (result_of p c)) old new (listed (map (one_by p c) (elements (value_of t (window t start old)))))
       → Pushed (slice_get (types_in p k) (item_of p k j)) old new (line_value p k j (values_at p k (item_of p k j) base old))
 
-pub each-args : (p : ProgramTree) (k j c : ℕ) (l : NodeTree) (base start : ℕ) (old : List ℕ) (t : SeqTree) → IsTyped p → k < length p.funcs → slice_get (nodes_in p k) j ≡ Some l → l.op ≡ each c → Laid p k (item_of p k j) base old
-    → slice_get (types_in p k) (get_or l.args 0 0) ≡ Some t → start ≡ base + words_of (take (get_or l.args 0 0) (types_in p k)) → EachArgs p k j c base start old t
+pub each-args : (p : ProgramTree) (k j c : ℕ) (l : NodeTree) (base start : ℕ) (old : List ℕ) (t : SeqTree) → IsTyped p → k < length p.funcs
+    → slice_get (nodes_in p k) j ≡ Some l → l.op ≡ each c → Laid p k (item_of p k j) base old
+    → slice_get (types_in p k) (get_or l.args 0 0) ≡ Some t → start ≡ base + words_of (take (get_or l.args 0 0) (types_in p k))
+    → EachArgs p k j c base start old t
 each-args p k j c l base start old t h known node eo laid e es =
     let ts = types_in p k in
     let sigs = signatures (take k p.funcs) in
@@ -105,7 +117,8 @@ each-args p k j c l base start old t h known node eo laid e es =
     let value : at vs (get_or l.args 0 0) ≡ value_of t (window t start old) = q.value ∙ ap (λ s. value_of t (window t s old)) (sym es) in
     let values : map (at vs) l.args ≡ value_of t (window t start old) ∷ [] = ap (map (at vs)) shape ∙ ap (λ v. v ∷ []) value in
     let line : listed (map (one_by p c) xs) ≡ line_value p k j vs =
-    ap listed (map-above p k c xs below) ∙ ap (op_value means (each c)) (sym values) ∙ ap (λ o. op_value means o (map (at vs) l.args)) (sym eo) ∙ sym (ap (value_for means vs) node) in
+    ap listed (map-above p k c xs below) ∙ ap (op_value means (each c)) (sym values) ∙ ap (λ o. op_value means o (map (at vs) l.args)) (sym eo) ∙
+    sym (ap (value_for means vs) node) in
     let F : ℕ → Type 0 = λ s. FitAt t s old in
     record {
       below = below;
@@ -124,12 +137,15 @@ pub record EachTwoArgs (p : ProgramTree) (k j c base start place : ℕ) (old : L
   pub fits : FitAt t start old
   pub fits_too : FitAt u place old
   pub takes : TakesEachTwo t u (params_in p c)
-  pub pushed : (new : List ℕ) → Pushed (each_of t (result_of p c)) old new (listed (map_two (two_by p c) (elements (value_of t (window t start old))) (elements (value_of u (window u place old)))))
+  pub pushed : (new : List ℕ) → Pushed (each_of t (result_of p c)) old new
+      (listed (map_two (two_by p c) (elements (value_of t (window t start old))) (elements (value_of u (window u place old)))))
       → Pushed (slice_get (types_in p k) (item_of p k j)) old new (line_value p k j (values_at p k (item_of p k j) base old))
 
-pub each-two-args : (p : ProgramTree) (k j c : ℕ) (l : NodeTree) (base start place : ℕ) (old : List ℕ) (t u : SeqTree) → IsTyped p → k < length p.funcs → slice_get (nodes_in p k) j ≡ Some l → l.op ≡ each_two c → Laid p k (item_of p k j) base old
+pub each-two-args : (p : ProgramTree) (k j c : ℕ) (l : NodeTree) (base start place : ℕ) (old : List ℕ) (t u : SeqTree) → IsTyped p → k < length p.funcs
+    → slice_get (nodes_in p k) j ≡ Some l → l.op ≡ each_two c → Laid p k (item_of p k j) base old
     → slice_get (types_in p k) (get_or l.args 0 0) ≡ Some t → start ≡ base + words_of (take (get_or l.args 0 0) (types_in p k))
-    → slice_get (types_in p k) (get_or l.args 1 0) ≡ Some u → place ≡ base + words_of (take (get_or l.args 1 0) (types_in p k)) → EachTwoArgs p k j c base start place old t u
+    → slice_get (types_in p k) (get_or l.args 1 0) ≡ Some u → place ≡ base + words_of (take (get_or l.args 1 0) (types_in p k))
+    → EachTwoArgs p k j c base start place old t u
 each-two-args p k j c l base start place old t u h known node eo laid e es f fs =
     let ts = types_in p k in
     let sigs = signatures (take k p.funcs) in
@@ -143,7 +159,8 @@ each-two-args p k j c l base start place old t u h known node eo laid e es f fs 
     let place-two = arg-placed p k j base 1 old l u h known node laid (omega arith) f in
     let have : ItemsHave ts l.args (t ∷ u ∷ []) = subst (λ xs. ItemsHave ts xs (t ∷ u ∷ [])) (sym shape) (e, (f, tt)) in
     let same = same-items ts l.args (t ∷ u ∷ []) facts.args have facts.have in
-    let typed : op_type sigs (each_two c) (t ∷ u ∷ []) ≡ Some facts.type = ap (λ o. op_type sigs o (t ∷ u ∷ [])) (sym eo) ∙ ap (op_type sigs l.op) same ∙ facts.typed in
+    let typed : op_type sigs (each_two c) (t ∷ u ∷ []) ≡ Some facts.type = ap (λ o. op_type sigs o (t ∷ u ∷ [])) (sym eo) ∙ ap (op_type sigs l.op) same ∙
+    facts.typed in
     let r = each-two-typed p k c t u facts.type h below known typed in
     let xs = elements (value_of t (window t start old)) in
     let ys = elements (value_of u (window u place old)) in
@@ -152,7 +169,8 @@ each-two-args p k j c l base start place old t u h known node eo laid e es f fs 
     let values : map (at vs) l.args ≡ value_of t (window t start old) ∷ value_of u (window u place old) ∷ [] =
     ap (map (at vs)) shape ∙ ap (λ v. v ∷ at vs (get_or l.args 1 0) ∷ []) first ∙ ap (λ v. value_of t (window t start old) ∷ v ∷ []) second in
     let line : listed (map_two (two_by p c) xs ys) ≡ line_value p k j vs =
-    ap listed (map-two-above p k c xs ys below) ∙ ap (op_value means (each_two c)) (sym values) ∙ ap (λ o. op_value means o (map (at vs) l.args)) (sym eo) ∙ sym (ap (value_for means vs) node) in
+    ap listed (map-two-above p k c xs ys below) ∙ ap (op_value means (each_two c)) (sym values) ∙ ap (λ o. op_value means o (map (at vs) l.args)) (sym eo) ∙
+    sym (ap (value_for means vs) node) in
     let F : ℕ → Type 0 = λ s. FitAt t s old in
     let G : ℕ → Type 0 = λ s. FitAt u s old in
     record {
@@ -169,11 +187,18 @@ each-two-args p k j c l base start place old t u h known node eo laid e es f fs 
 
 -- ---- the same by the arguments that the code reads
 
-module _ (p : ProgramTree) (k j c : ℕ) (l : NodeTree) (args : List ℕ) (base : ℕ) (old : List ℕ) (h : IsTyped p) (known : k < length p.funcs) (node : slice_get (nodes_in p k) j ≡ Some l) (same : args ≡ l.args) (laid : Laid p k (item_of p k j) base old) where
-  pub read-each : (start : ℕ) (t : SeqTree) → l.op ≡ each c → slice_get (types_in p k) (get_or args 0 0) ≡ Some t → start ≡ base + words_of (take (get_or args 0 0) (types_in p k)) → EachArgs p k j c base start old t
-  read-each start t eo = subst (λ xs. slice_get (types_in p k) (get_or xs 0 0) ≡ Some t → start ≡ base + words_of (take (get_or xs 0 0) (types_in p k)) → EachArgs p k j c base start old t) (sym same) (each-args p k j c l base start old t h known node eo laid)
+module _ (p : ProgramTree) (k j c : ℕ) (l : NodeTree) (args : List ℕ) (base : ℕ) (old : List ℕ) (h : IsTyped p) (known : k < length p.funcs)
+    (node : slice_get (nodes_in p k) j ≡ Some l) (same : args ≡ l.args) (laid : Laid p k (item_of p k j) base old) where
+  pub read-each : (start : ℕ) (t : SeqTree) → l.op ≡ each c → slice_get (types_in p k) (get_or args 0 0) ≡ Some t
+      → start ≡ base + words_of (take (get_or args 0 0) (types_in p k)) → EachArgs p k j c base start old t
+  read-each start t eo = subst (λ xs. slice_get (types_in p k) (get_or xs 0 0) ≡ Some t → start ≡ base + words_of (take (get_or xs 0 0) (types_in p k))
+      → EachArgs p k j c base start old t) (sym same) (each-args p k j c l base start old t h known node eo laid)
 
   pub read-each-two : (start place : ℕ) (t u : SeqTree) → l.op ≡ each_two c
       → slice_get (types_in p k) (get_or args 0 0) ≡ Some t → start ≡ base + words_of (take (get_or args 0 0) (types_in p k))
-      → slice_get (types_in p k) (get_or args 1 0) ≡ Some u → place ≡ base + words_of (take (get_or args 1 0) (types_in p k)) → EachTwoArgs p k j c base start place old t u
-  read-each-two start place t u eo = subst (λ xs. slice_get (types_in p k) (get_or xs 0 0) ≡ Some t → start ≡ base + words_of (take (get_or xs 0 0) (types_in p k)) → slice_get (types_in p k) (get_or xs 1 0) ≡ Some u → place ≡ base + words_of (take (get_or xs 1 0) (types_in p k)) → EachTwoArgs p k j c base start place old t u) (sym same) (each-two-args p k j c l base start place old t u h known node eo laid)
+      → slice_get (types_in p k) (get_or args 1 0) ≡ Some u → place ≡ base + words_of (take (get_or args 1 0) (types_in p k))
+      → EachTwoArgs p k j c base start place old t u
+  read-each-two start place t u eo = subst (λ xs. slice_get (types_in p k) (get_or xs 0 0) ≡ Some t
+      → start ≡ base + words_of (take (get_or xs 0 0) (types_in p k)) → slice_get (types_in p k) (get_or xs 1 0) ≡ Some u
+      → place ≡ base + words_of (take (get_or xs 1 0) (types_in p k)) → EachTwoArgs p k j c base start place old t u) (sym same)
+      (each-two-args p k j c l base start place old t u h known node eo laid)

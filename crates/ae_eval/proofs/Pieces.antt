@@ -36,7 +36,8 @@ piece-ends n i k lt =
     omega arith
 
 -- the words of an element
-pub piece-stands : (n i : ℕ) (t : SeqTree) (ws : List ℕ) (xs : List ValueTree) → i < n → Stands (seq n t) ws (listed xs) → Stands t (take (words t) (drop (i * words t) ws)) (get_or xs i end)
+pub piece-stands : (n i : ℕ) (t : SeqTree) (ws : List ℕ) (xs : List ValueTree) → i < n → Stands (seq n t) ws (listed xs)
+    → Stands t (take (words t) (drop (i * words t) ws)) (get_or xs i end)
 piece-stands n i t ws xs lt h =
     let same : xs ≡ map (value_of t) (cut n (words t) ws) = sym (elements-listed xs) ∙ ap elements (sym h.value) ∙ elements-value_of n t ws in
     record {
@@ -52,11 +53,14 @@ pub count-elements : (n : ℕ) (t : SeqTree) (ws : List ℕ) → length (element
 count-elements n t ws = ap length (elements-value_of n t ws) ∙ length-map _ _ ∙ length-cut n (words t) ws
 
 -- an element of the value with these words
-pub element-stands : (n i : ℕ) (t : SeqTree) (ws : List ℕ) → i < n → Fit (seq n t) ws → Stands t (take (words t) (drop (i * words t) ws)) (get_or (elements (value_of (seq n t) ws)) i end)
+pub element-stands : (n i : ℕ) (t : SeqTree) (ws : List ℕ) → i < n → Fit (seq n t) ws
+    → Stands t (take (words t) (drop (i * words t) ws)) (get_or (elements (value_of (seq n t) ws)) i end)
 element-stands n i t ws lt h = piece-stands n i t ws _ lt (record { fits = h; value = listed-elements n t ws })
 
 -- one more element of a map
-pub map-step : (n : ℕ) (t u : SeqTree) (ws out r : List ℕ) (i : ℕ) (g : ValueTree → ValueTree) → i < n → Stands (seq i u) out (listed (map g (take i (elements (value_of (seq n t) ws))))) → Stands u r (g (get_or (elements (value_of (seq n t) ws)) i end)) → Stands (seq (i + 1) u) (out ++ r) (listed (map g (take (i + 1) (elements (value_of (seq n t) ws)))))
+pub map-step : (n : ℕ) (t u : SeqTree) (ws out r : List ℕ) (i : ℕ) (g : ValueTree → ValueTree) → i < n
+    → Stands (seq i u) out (listed (map g (take i (elements (value_of (seq n t) ws))))) → Stands u r (g (get_or (elements (value_of (seq n t) ws)) i end))
+    → Stands (seq (i + 1) u) (out ++ r) (listed (map g (take (i + 1) (elements (value_of (seq n t) ws)))))
 map-step n t u ws out r i g lt h one =
     let xs = elements (value_of (seq n t) ws) in
     let long = count-elements n t ws in

@@ -20,7 +20,8 @@ pub record Placed (ts : List SeqTree) (vs : List ValueTree) (base i : ℕ) (stac
   pub fits : FitAt t (base + words_of (take i ts)) stack
   pub value : at vs i ≡ value_of t (window t (base + words_of (take i ts)) stack)
 
-pub placed-in : (ts : List SeqTree) (base i : ℕ) (stack : List ℕ) (t : SeqTree) → base ≤ length stack → FitIn ts (drop base stack) → slice_get ts i ≡ Some t → Placed ts (values_in ts (drop base stack)) base i stack t
+pub placed-in : (ts : List SeqTree) (base i : ℕ) (stack : List ℕ) (t : SeqTree) → base ≤ length stack → FitIn ts (drop base stack) → slice_get ts i ≡ Some t
+    → Placed ts (values_in ts (drop base stack)) base i stack t
 placed-in ts base i stack t above fit e =
     let r = item-at ts (drop base stack) i t fit e in
     let D = drop-drop (words_of (take i ts)) base stack in
@@ -31,7 +32,8 @@ placed-in ts base i stack t above fit e =
       value = r.value ∙ ap (λ ys. value_of t (take (words t) ys)) D;
     }
 
-pub placed : (p : ProgramTree) (k n base i : ℕ) (stack : List ℕ) (t : SeqTree) → Laid p k n base stack → i < n → slice_get (types_in p k) i ≡ Some t → Placed (types_in p k) (values_at p k n base stack) base i stack t
+pub placed : (p : ProgramTree) (k n base i : ℕ) (stack : List ℕ) (t : SeqTree) → Laid p k n base stack → i < n → slice_get (types_in p k) i ≡ Some t
+    → Placed (types_in p k) (values_at p k n base stack) base i stack t
 placed p k n base i stack t h below e =
     let ts = types_in p k in
     let r = placed-in (take n ts) base i stack t h.above h.fits (slice_get-take n i ts below ∙ e) in
@@ -47,11 +49,13 @@ placed p k n base i stack t h below e =
 
 -- ---- the first result alone
 
-first-by : (o : Option FuncTree) (ts : List SeqTree) (r : ℕ) (t : SeqTree) → slice_get (results_for o) 0 ≡ Some r → slice_get ts r ≡ Some t → first_type ts o ≡ Some t
+first-by : (o : Option FuncTree) (ts : List SeqTree) (r : ℕ) (t : SeqTree) → slice_get (results_for o) 0 ≡ Some r → slice_get ts r ≡ Some t
+    → first_type ts o ≡ Some t
 first-by None ts r t h e = cc
 first-by (Some f) ts r t h e = ap (λ (o : Option ℕ). o >>= λ k. slice_get ts k) h ∙ e
 
-pub kept-result : (p : ProgramTree) (k base r start size : ℕ) (old new : List ℕ) (t : SeqTree) → base ≤ length old → FitIn (types_in p k) (drop base old) → slice_get (results_in p k) 0 ≡ Some r → slice_get (types_in p k) r ≡ Some t
+pub kept-result : (p : ProgramTree) (k base r start size : ℕ) (old new : List ℕ) (t : SeqTree) → base ≤ length old → FitIn (types_in p k) (drop base old)
+    → slice_get (results_in p k) 0 ≡ Some r → slice_get (types_in p k) r ≡ Some t
     → start ≡ base + words_of (take r (types_in p k)) → size ≡ words t → new ≡ take base old ++ take size (drop start old)
     → Pushed (result_of p k) (take base old) new (at (values_in (types_in p k) (drop base old)) (get_or (results_in p k) 0 0))
 kept-result p k base r start size old new t above fit first e es ew en =
@@ -68,7 +72,8 @@ kept-result p k base r start size old new t above fit first e es ew en =
     let P : SeqTree → Type 0 = λ z. Stands z (take size (drop start old)) (at (values_in ts (drop base old)) (get_or (results_in p k) 0 0)) in
     subst P same (record { fits = subst (Fit t) (sym out) q.fits.fits; value = sym value }))
 
-pub result-room : (p : ProgramTree) (k base r start size : ℕ) (old : List ℕ) (t : SeqTree) → base ≤ length old → FitIn (types_in p k) (drop base old) → slice_get (types_in p k) r ≡ Some t
+pub result-room : (p : ProgramTree) (k base r start size : ℕ) (old : List ℕ) (t : SeqTree) → base ≤ length old → FitIn (types_in p k) (drop base old)
+    → slice_get (types_in p k) r ≡ Some t
     → start ≡ base + words_of (take r (types_in p k)) → size ≡ words t → (base ≤ start) × (start + size ≤ length old)
 result-room p k base r start size old t above fit e es ew =
     let q = placed-in (types_in p k) base r old t above fit e in
@@ -96,13 +101,15 @@ passing-none ts vs old =
       };
     }
 
-items-push : (ts : List SeqTree) (is : List ℕ) (us : List SeqTree) (i : ℕ) (t : SeqTree) → ItemsHave ts is us → slice_get ts i ≡ Some t → ItemsHave ts (is ++ i ∷ []) (us ++ t ∷ [])
+items-push : (ts : List SeqTree) (is : List ℕ) (us : List SeqTree) (i : ℕ) (t : SeqTree) → ItemsHave ts is us → slice_get ts i ≡ Some t
+    → ItemsHave ts (is ++ i ∷ []) (us ++ t ∷ [])
 items-push ts [] [] i t h e = (e, tt)
 items-push ts [] (u ∷ us) i t h e = absurd h
 items-push ts (j ∷ is) [] i t h e = absurd h
 items-push ts (j ∷ is) (u ∷ us) i t h e = (h.0, items-push ts is us i t h.1 e)
 
-pub passing-next : (ts : List SeqTree) (vs : List ValueTree) (is : List ℕ) (base i start size : ℕ) (old now new : List ℕ) (t : SeqTree) → Passing ts vs is old now → Placed ts vs base i old t → slice_get ts i ≡ Some t
+pub passing-next : (ts : List SeqTree) (vs : List ValueTree) (is : List ℕ) (base i start size : ℕ) (old now new : List ℕ) (t : SeqTree)
+    → Passing ts vs is old now → Placed ts vs base i old t → slice_get ts i ≡ Some t
     → start ≡ base + words_of (take i ts) → size ≡ words t → new ≡ now ++ take size (drop start now) → Passing ts vs (is ++ i ∷ []) old new
 passing-next ts vs is base i start size old now new t h q e es ew en =
     let g = h.passed in
@@ -135,13 +142,15 @@ passing-next ts vs is base i start size old now new t h q e es ew en =
     }
 
 -- an argument of a node
-pub arg-placed : (p : ProgramTree) (k j base i : ℕ) (stack : List ℕ) (l : NodeTree) (t : SeqTree) → IsTyped p → k < length p.funcs → slice_get (nodes_in p k) j ≡ Some l → Laid p k (item_of p k j) base stack → i < length l.args
+pub arg-placed : (p : ProgramTree) (k j base i : ℕ) (stack : List ℕ) (l : NodeTree) (t : SeqTree) → IsTyped p → k < length p.funcs
+    → slice_get (nodes_in p k) j ≡ Some l → Laid p k (item_of p k j) base stack → i < length l.args
     → slice_get (types_in p k) (get_or l.args i 0) ≡ Some t → Placed (types_in p k) (values_at p k (item_of p k j) base stack) base (get_or l.args i 0) stack t
 arg-placed p k j base i stack l t h known node laid within e =
     let facts = line-facts p k j l h known node in
     placed p k (item_of p k j) base (get_or l.args i 0) stack t laid (arg-below (item_of p k j) i 0 l.args facts.below within) e
 
-pub arg-there : (p : ProgramTree) (k j base i : ℕ) (stack : List ℕ) (l : NodeTree) → IsTyped p → k < length p.funcs → slice_get (nodes_in p k) j ≡ Some l → Laid p k (item_of p k j) base stack → i < length l.args
+pub arg-there : (p : ProgramTree) (k j base i : ℕ) (stack : List ℕ) (l : NodeTree) → IsTyped p → k < length p.funcs → slice_get (nodes_in p k) j ≡ Some l
+    → Laid p k (item_of p k j) base stack → i < length l.args
     → (get_or l.args i 0 < length (types_in p k)) × (base + words_of (take (get_or l.args i 0) (types_in p k)) ≤ length stack)
 arg-there p k j base i stack l h known node laid within =
     let facts = line-facts p k j l h known node in
@@ -152,9 +161,12 @@ arg-there p k j base i stack l h known node laid within =
     let q = arg-placed p k j base i stack l there.0 h known node laid within there.1 in
     (inside, let room = q.room in omega arith)
 
-pub passing-arg : (p : ProgramTree) (k j base i start size : ℕ) (args old now new : List ℕ) (l : NodeTree) (t : SeqTree) → IsTyped p → k < length p.funcs → slice_get (nodes_in p k) j ≡ Some l → args ≡ l.args → Laid p k (item_of p k j) base old → i < length args
-    → slice_get (types_in p k) (get_or args i 0) ≡ Some t → start ≡ base + words_of (take (get_or args i 0) (types_in p k)) → size ≡ words t → new ≡ now ++ take size (drop start now)
-    → Passing (types_in p k) (values_at p k (item_of p k j) base old) (take i args) old now → Passing (types_in p k) (values_at p k (item_of p k j) base old) (take (i + 1) args) old new
+pub passing-arg : (p : ProgramTree) (k j base i start size : ℕ) (args old now new : List ℕ) (l : NodeTree) (t : SeqTree) → IsTyped p → k < length p.funcs
+    → slice_get (nodes_in p k) j ≡ Some l → args ≡ l.args → Laid p k (item_of p k j) base old → i < length args
+    → slice_get (types_in p k) (get_or args i 0) ≡ Some t → start ≡ base + words_of (take (get_or args i 0) (types_in p k)) → size ≡ words t → new ≡ now
+    ++ take size (drop start now)
+    → Passing (types_in p k) (values_at p k (item_of p k j) base old) (take i args) old now
+    → Passing (types_in p k) (values_at p k (item_of p k j) base old) (take (i + 1) args) old new
 passing-arg p k j base i start size args old now new l t h known node ea laid within e es ew en g =
     let vs = values_at p k (item_of p k j) base old in
     let a = get_or args i 0 in
@@ -163,8 +175,10 @@ passing-arg p k j base i start size args old now new l t h known node ea laid wi
     let Q : List ℕ → Type 0 = λ xs. Passing (types_in p k) vs xs old new in
     subst Q (sym (take_more args i 0 within)) (passing-next (types_in p k) vs (take i args) base a start size old now new t g q e es ew en)
 
-pub arg-room : (p : ProgramTree) (k j base i start size : ℕ) (args old now : List ℕ) (l : NodeTree) (t : SeqTree) → IsTyped p → k < length p.funcs → slice_get (nodes_in p k) j ≡ Some l → args ≡ l.args → Laid p k (item_of p k j) base old → i < length args
-    → slice_get (types_in p k) (get_or args i 0) ≡ Some t → start ≡ base + words_of (take (get_or args i 0) (types_in p k)) → size ≡ words t → length old ≤ length now → start + size ≤ length now
+pub arg-room : (p : ProgramTree) (k j base i start size : ℕ) (args old now : List ℕ) (l : NodeTree) (t : SeqTree) → IsTyped p → k < length p.funcs
+    → slice_get (nodes_in p k) j ≡ Some l → args ≡ l.args → Laid p k (item_of p k j) base old → i < length args
+    → slice_get (types_in p k) (get_or args i 0) ≡ Some t → start ≡ base + words_of (take (get_or args i 0) (types_in p k)) → size ≡ words t
+    → length old ≤ length now → start + size ≤ length now
 arg-room p k j base i start size args old now l t h known node ea laid within e es ew above =
     let vs = values_at p k (item_of p k j) base old in
     let P : List ℕ → Type 0 = λ xs. i < length xs → slice_get (types_in p k) (get_or xs i 0) ≡ Some t → Placed (types_in p k) vs base (get_or xs i 0) old t in

@@ -63,7 +63,8 @@ pub record Begun (ts : List SeqTree) (i last : ℕ) (found : List ℕ) : Type 0 
   pub end : last ≡ words_of (take i ts)
   pub bound : last ≤ i * 16384
 
-pub begun-next : (ts : List SeqTree) (i end size : ℕ) (old new : List ℕ) (t : SeqTree) → Begun ts i end old → slice_get ts i ≡ Some t → IsTrue (in_size t) → size ≡ words t → new ≡ old ++ (end + size) ∷ [] → Begun ts (i + 1) (end + size) new
+pub begun-next : (ts : List SeqTree) (i end size : ℕ) (old new : List ℕ) (t : SeqTree) → Begun ts i end old → slice_get ts i ≡ Some t → IsTrue (in_size t)
+    → size ≡ words t → new ≡ old ++ (end + size) ∷ [] → Begun ts (i + 1) (end + size) new
 begun-next ts i end size old new t h at-i small is-size more =
     let within = slice_get_within ts i t at-i in
     let next : take (i + 1) ts ≡ take i ts ++ t ∷ [] = take_more ts i t within ∙ ap (λ x. take i ts ++ x ∷ []) (get_or_from_slice_get ts i t t at-i) in
@@ -72,7 +73,8 @@ begun-next ts i end size old new t h at-i small is-size more =
     let few : words t ≤ 16384 = grind (arith, nat_tests) in
     let sum : end + size ≡ 0 + words_of (take i ts) + words t = omega arith in
     record {
-      items = more ∙ ap (λ xs. xs ++ (end + size) ∷ []) h.items ∙ ap (λ j. starts_from 0 (take i ts) ++ j ∷ []) sum ∙ sym (starts-push 0 (take i ts) t) ∙ ap (starts_from 0) (sym next);
+      items = more ∙ ap (λ xs. xs ++ (end + size) ∷ []) h.items ∙ ap (λ j. starts_from 0 (take i ts) ++ j ∷ []) sum ∙ sym (starts-push 0 (take i ts) t) ∙
+          ap (starts_from 0) (sym next);
       end = sum ∙ (let z = words_of-more ts i t at-i in omega (arith, z));
       bound = omega (arith, few);
     }
@@ -84,7 +86,8 @@ begun-all ts i end items h e = h.items ∙ ap (starts_from 0) (take_all i ts (om
 pub starts-within : (starts : List (Vec ℕ Global)) (k : ℕ) (xs : List ℕ) → slice_get (starts_of starts) k ≡ Some xs → k < length starts
 starts-within starts k xs h = simp length-map at (slice_get_within (starts_of starts) k xs h)
 
-pub starts-own : (starts : List (Vec ℕ Global)) (k : ℕ) (v : Vec ℕ Global) (xs : List ℕ) → slice_get (starts_of starts) k ≡ Some xs → v ≡ get_or starts k v → v.items ≡ xs
+pub starts-own : (starts : List (Vec ℕ Global)) (k : ℕ) (v : Vec ℕ Global) (xs : List ℕ) → slice_get (starts_of starts) k ≡ Some xs → v ≡ get_or starts k v
+    → v.items ≡ xs
 starts-own starts k v xs h e =
     let got = slice_get-view (λ (v : Vec ℕ Global). v.items) starts k v (starts-within starts k xs h) e in
     let both : ◌≡◌ {A = Option (List ℕ)} (Some v.items) (Some xs) = sym got ∙ h in
@@ -100,7 +103,8 @@ pub start-inside : (ts : List SeqTree) (own : List ℕ) (i : ℕ) → own ≡ st
 start-inside ts own i e within = rw e (omega (arith, length-starts 0 ts))
 
 -- the starts of one more function
-pub starts-more : (starts : List (List ℕ)) (own : List ℕ) (n : ℕ) (P : ℕ → List ℕ) → length starts ≡ n → ((k : ℕ) → k < n → slice_get starts k ≡ Some (P k)) → own ≡ P n → (k : ℕ) → k < n + 1 → slice_get (starts ++ own ∷ []) k ≡ Some (P k)
+pub starts-more : (starts : List (List ℕ)) (own : List ℕ) (n : ℕ) (P : ℕ → List ℕ) → length starts ≡ n → ((k : ℕ) → k < n → slice_get starts k ≡ Some (P k))
+    → own ≡ P n → (k : ℕ) → k < n + 1 → slice_get (starts ++ own ∷ []) k ≡ Some (P k)
 starts-more [] own n P e h g zero lt = let z : n ≡ 0 = omega arith in ap (λ xs. Some xs) (g ∙ ap P z)
 starts-more [] own n P e h g (suc k) lt = absurd (omega arith)
 starts-more (s ∷ starts) own n P e h g zero lt = h zero (omega arith)

@@ -33,5 +33,6 @@ never-none p k i r h e n lt =
     let over = none-there (types_in p k) i q in
     absurd (omega arith)
 
-pub found-type : (p : ProgramTree) (k i : ℕ) (r : Option (Bor SeqType)) (t : Bor SeqType) → IsTyped p → option_lent r ≡ type_at p k i → r ≡ Some t → slice_get (types_in p k) i ≡ Some (seq_tree t.now)
+pub found-type : (p : ProgramTree) (k i : ℕ) (r : Option (Bor SeqType)) (t : Bor SeqType) → IsTyped p → option_lent r ≡ type_at p k i → r ≡ Some t
+    → slice_get (types_in p k) i ≡ Some (seq_tree t.now)
 found-type p k i r t h e s = sym (type-at-is p k i h) ∙ sym e ∙ ap option_lent s

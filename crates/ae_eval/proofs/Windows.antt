@@ -18,19 +18,23 @@ window-append s c old more h =
 pub window-inside : (s i c n : ℕ) (ws : List ℕ) → i + c ≤ n → take c (drop i (take n (drop s ws))) ≡ take c (drop (s + i) ws)
 window-inside s i c n ws h =
     let sum : i + (n - i) ≡ n = omega arith in
-    let one : drop i (take n (drop s ws)) ≡ take (n - i) (drop i (drop s ws)) = ap (λ j. drop i (take j (drop s ws))) (sym sum) ∙ drop-take i (n - i) (drop s ws) in
+    let one : drop i (take n (drop s ws)) ≡ take (n - i) (drop i (drop s ws)) = ap (λ j. drop i (take j (drop s ws))) (sym sum) ∙
+    drop-take i (n - i) (drop s ws) in
     ap (take c) one ∙ take-take c (n - i) (drop i (drop s ws)) (omega arith) ∙ ap (take c) (drop-drop i s ws)
 
-pub copy-step : (old now : List ℕ) (s c i x : ℕ) → s + c ≤ length old → i < c → now ≡ old ++ take i (drop s old) → x ≡ get_or now (s + i) x → now ++ x ∷ [] ≡ old ++ take (i + 1) (drop s old)
+pub copy-step : (old now : List ℕ) (s c i x : ℕ) → s + c ≤ length old → i < c → now ≡ old ++ take i (drop s old) → x ≡ get_or now (s + i) x → now ++ x
+    ∷ [] ≡ old ++ take (i + 1) (drop s old)
 copy-step old now s c i x h lt e r =
-    let own : get_or (drop s old) i x ≡ x = get_or-drop s old i x ∙ sym (get_or_append_left old (take i (drop s old)) x (s + i) (omega arith)) ∙ ap (λ ys. get_or ys (s + i) x) (sym e) ∙ sym r in
+    let own : get_or (drop s old) i x ≡ x = get_or-drop s old i x ∙ sym (get_or_append_left old (take i (drop s old)) x (s + i) (omega arith)) ∙
+    ap (λ ys. get_or ys (s + i) x) (sym e) ∙ sym r in
     let more = take_more (drop s old) i x (omega (arith, length-drop s old)) ∙ ap (λ y. take i (drop s old) ++ y ∷ []) own in
     ap (λ ys. ys ++ x ∷ []) e ∙ append_assoc old (take i (drop s old)) (x ∷ []) ∙ ap (λ ys. old ++ ys) (sym more)
 
 pub room-step : (old now : List ℕ) (s c i : ℕ) → s + c ≤ length old → i < c → now ≡ old ++ take i (drop s old) → s + i < length now
 room-step old now s c i h lt e = rw e (let l = length-append old (take i (drop s old)) in omega (arith, l))
 
-pub copies-step : (old now new : List ℕ) (s c i : ℕ) → s + c ≤ length old → now ≡ old ++ repeated i (take c (drop s old)) → new ≡ now ++ take c (drop s now) → new ≡ old ++ repeated (i + 1) (take c (drop s old))
+pub copies-step : (old now new : List ℕ) (s c i : ℕ) → s + c ≤ length old → now ≡ old ++ repeated i (take c (drop s old)) → new ≡ now ++ take c (drop s now)
+    → new ≡ old ++ repeated (i + 1) (take c (drop s old))
 copies-step old now new s c i h e g =
     let w = take c (drop s old) in
     g ∙ ap (λ ys. ys ++ take c (drop s ys)) e
@@ -51,7 +55,8 @@ paired-more (suc n) k l us vs =
     let b : suc n * l ≡ l + n * l = omega arith in
     let c : suc n + 1 ≡ suc (n + 1) = omega arith in
     rw (a, b, c, ← drop-drop (n * k) k us, ← drop-drop (n * l) l vs)
-    (ap (λ ys. (take k us ++ take l vs) ++ ys) (paired-more n k l (drop k us) (drop l vs)) ∙ sym (append_assoc (take k us ++ take l vs) (paired n k l (drop k us) (drop l vs)) _))
+    (ap (λ ys. (take k us ++ take l vs) ++ ys) (paired-more n k l (drop k us) (drop l vs)) ∙
+    sym (append_assoc (take k us ++ take l vs) (paired n k l (drop k us) (drop l vs)) _))
 
 pub paired-step : (old now next new : List ℕ) (n i a b k l : ℕ) → i < n → a + n * k ≤ length old → b + n * l ≤ length old
     → now ≡ old ++ paired i k l (drop a old) (drop b old) → next ≡ now ++ take k (drop (a + i * k) now) → new ≡ next ++ take l (drop (b + i * l) next)
@@ -62,8 +67,10 @@ paired-step old now next new n i a b k l lt ha hb e f g =
     let kb : (i + 1) * l ≤ n * l = mul-le-mul_right l (let q : i + 1 ≤ n = omega arith in q) in
     let u = take k (drop (a + i * k) old) in
     let v = take l (drop (b + i * l) old) in
-    let mid : next ≡ old ++ (p ++ u) = f ∙ ap (λ ys. ys ++ take k (drop (a + i * k) ys)) e ∙ ap (λ ys. (old ++ p) ++ ys) (window-append (a + i * k) k old p (omega arith)) ∙ append_assoc old p u in
-    let all : new ≡ (old ++ (p ++ u)) ++ v = g ∙ ap (λ ys. ys ++ take l (drop (b + i * l) ys)) mid ∙ ap (λ ys. (old ++ (p ++ u)) ++ ys) (window-append (b + i * l) l old (p ++ u) (omega arith)) in
+    let mid : next ≡ old ++ (p ++ u) = f ∙ ap (λ ys. ys ++ take k (drop (a + i * k) ys)) e ∙
+    ap (λ ys. (old ++ p) ++ ys) (window-append (a + i * k) k old p (omega arith)) ∙ append_assoc old p u in
+    let all : new ≡ (old ++ (p ++ u)) ++ v = g ∙ ap (λ ys. ys ++ take l (drop (b + i * l) ys)) mid ∙
+    ap (λ ys. (old ++ (p ++ u)) ++ ys) (window-append (b + i * l) l old (p ++ u) (omega arith)) in
     let more = paired-more i k l (drop a old) (drop b old) in
     let here = rw (drop-drop (i * k) a old, drop-drop (i * l) b old) at more in
     all ∙ append_assoc old (p ++ u) v ∙ ap (λ ys. old ++ ys) (append_assoc p u v ∙ sym here)

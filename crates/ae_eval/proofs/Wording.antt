@@ -285,7 +285,14 @@ one-line Or s u h = cc
 one-line Xor s u h = cc
 one-line Not s u h =
     let r = one-of s u h in
-    record { kind = r.0; first = r.1; result = r.2 ∙ r.1; fit = λ a b c p. fit-Not r.0.signed r.0.width a b c p; wide = wide-Not r.0.signed r.0.width; by = λ v. refl }
+    record {
+      kind = r.0;
+      first = r.1;
+      result = r.2 ∙ r.1;
+      fit = λ a b c p. fit-Not r.0.signed r.0.width a b c p;
+      wide = wide-Not r.0.signed r.0.width;
+      by = λ v. refl;
+    }
 one-line Min s u h = cc
 one-line Max s u h = cc
 one-line Eq s u h = cc
@@ -293,14 +300,35 @@ one-line Lt s u h = cc
 one-line Mux s u h = let ok = where_ok-some (same_type s (atom (unsigned_word 1))) (two_words []) u h in let q = ok.1 in absurd (none-some u q)
 one-line (Shl n) s u h =
     let r = one-of s u h in
-    record { kind = r.0; first = r.1; result = r.2 ∙ r.1; fit = λ a b c p. fit-Shl n r.0.signed r.0.width a b c p; wide = wide-Shl n r.0.signed r.0.width; by = λ v. refl }
+    record {
+      kind = r.0;
+      first = r.1;
+      result = r.2 ∙ r.1;
+      fit = λ a b c p. fit-Shl n r.0.signed r.0.width a b c p;
+      wide = wide-Shl n r.0.signed r.0.width;
+      by = λ v. refl;
+    }
 one-line (Shr n) s u h =
     let r = one-of s u h in
-    record { kind = r.0; first = r.1; result = r.2 ∙ r.1; fit = λ a b c p. fit-Shr n r.0.signed r.0.width a b c p; wide = wide-Shr n r.0.signed r.0.width; by = λ v. refl }
+    record {
+      kind = r.0;
+      first = r.1;
+      result = r.2 ∙ r.1;
+      fit = λ a b c p. fit-Shr n r.0.signed r.0.width a b c p;
+      wide = wide-Shr n r.0.signed r.0.width;
+      by = λ v. refl;
+    }
 one-line (Cast n) s u h =
     let o = as-of (unsigned_word n) (one_word (s ∷ [])) u h in
     let r = one-of s o.0 o.1 in
-    record { kind = r.0; first = r.1; result = o.2; fit = λ a b c p. fit-Cast n r.0.signed r.0.width a b c p; wide = wide-Cast n r.0.signed r.0.width; by = λ v. refl }
+    record {
+      kind = r.0;
+      first = r.1;
+      result = o.2;
+      fit = λ a b c p. fit-Cast n r.0.signed r.0.width a b c p;
+      wide = wide-Cast n r.0.signed r.0.width;
+      by = λ v. refl;
+    }
 one-line SLt s u h = cc
 one-line SMin s u h = cc
 one-line SMax s u h = cc
@@ -310,37 +338,117 @@ one-line (SCast n) s u h = cc
 pub two-line : (op : WordOp) (s z u : SeqTree) → word_type op (s ∷ z ∷ []) ≡ Some u → TwoWords op s z u
 two-line Add s z u h =
     let r = two-of s z u h in
-    record { kind = r.0; first = r.1; second = r.2; result = r.3 ∙ r.2; fit = λ a b c p q. fit-Add r.0.signed r.0.width a b c p q; wide = wide-Add r.0.signed r.0.width; by = λ v w. refl }
+    record {
+      kind = r.0;
+      first = r.1;
+      second = r.2;
+      result = r.3 ∙ r.2;
+      fit = λ a b c p q. fit-Add r.0.signed r.0.width a b c p q;
+      wide = wide-Add r.0.signed r.0.width;
+      by = λ v w. refl;
+    }
 two-line Sub s z u h =
     let r = two-of s z u h in
-    record { kind = r.0; first = r.1; second = r.2; result = r.3 ∙ r.2; fit = λ a b c p q. fit-Sub r.0.signed r.0.width a b c p q; wide = wide-Sub r.0.signed r.0.width; by = λ v w. refl }
+    record {
+      kind = r.0;
+      first = r.1;
+      second = r.2;
+      result = r.3 ∙ r.2;
+      fit = λ a b c p q. fit-Sub r.0.signed r.0.width a b c p q;
+      wide = wide-Sub r.0.signed r.0.width;
+      by = λ v w. refl;
+    }
 two-line Mul s z u h =
     let r = two-of s z u h in
-    record { kind = r.0; first = r.1; second = r.2; result = r.3 ∙ r.2; fit = λ a b c p q. fit-Mul r.0.signed r.0.width a b c p q; wide = wide-Mul r.0.signed r.0.width; by = λ v w. refl }
+    record {
+      kind = r.0;
+      first = r.1;
+      second = r.2;
+      result = r.3 ∙ r.2;
+      fit = λ a b c p q. fit-Mul r.0.signed r.0.width a b c p q;
+      wide = wide-Mul r.0.signed r.0.width;
+      by = λ v w. refl;
+    }
 two-line And s z u h =
     let r = two-of s z u h in
-    record { kind = r.0; first = r.1; second = r.2; result = r.3 ∙ r.2; fit = λ a b c p q. fit-And r.0.signed r.0.width a b c p q; wide = wide-And r.0.signed r.0.width; by = λ v w. refl }
+    record {
+      kind = r.0;
+      first = r.1;
+      second = r.2;
+      result = r.3 ∙ r.2;
+      fit = λ a b c p q. fit-And r.0.signed r.0.width a b c p q;
+      wide = wide-And r.0.signed r.0.width;
+      by = λ v w. refl;
+    }
 two-line Or s z u h =
     let r = two-of s z u h in
-    record { kind = r.0; first = r.1; second = r.2; result = r.3 ∙ r.2; fit = λ a b c p q. fit-Or r.0.signed r.0.width a b c p q; wide = wide-Or r.0.signed r.0.width; by = λ v w. refl }
+    record {
+      kind = r.0;
+      first = r.1;
+      second = r.2;
+      result = r.3 ∙ r.2;
+      fit = λ a b c p q. fit-Or r.0.signed r.0.width a b c p q;
+      wide = wide-Or r.0.signed r.0.width;
+      by = λ v w. refl;
+    }
 two-line Xor s z u h =
     let r = two-of s z u h in
-    record { kind = r.0; first = r.1; second = r.2; result = r.3 ∙ r.2; fit = λ a b c p q. fit-Xor r.0.signed r.0.width a b c p q; wide = wide-Xor r.0.signed r.0.width; by = λ v w. refl }
+    record {
+      kind = r.0;
+      first = r.1;
+      second = r.2;
+      result = r.3 ∙ r.2;
+      fit = λ a b c p q. fit-Xor r.0.signed r.0.width a b c p q;
+      wide = wide-Xor r.0.signed r.0.width;
+      by = λ v w. refl;
+    }
 two-line Not s z u h = cc
 two-line Min s z u h =
     let r = two-of s z u h in
-    record { kind = r.0; first = r.1; second = r.2; result = r.3 ∙ r.2; fit = λ a b c p q. fit-Min r.0.signed r.0.width a b c p q; wide = wide-Min r.0.signed r.0.width; by = λ v w. refl }
+    record {
+      kind = r.0;
+      first = r.1;
+      second = r.2;
+      result = r.3 ∙ r.2;
+      fit = λ a b c p q. fit-Min r.0.signed r.0.width a b c p q;
+      wide = wide-Min r.0.signed r.0.width;
+      by = λ v w. refl;
+    }
 two-line Max s z u h =
     let r = two-of s z u h in
-    record { kind = r.0; first = r.1; second = r.2; result = r.3 ∙ r.2; fit = λ a b c p q. fit-Max r.0.signed r.0.width a b c p q; wide = wide-Max r.0.signed r.0.width; by = λ v w. refl }
+    record {
+      kind = r.0;
+      first = r.1;
+      second = r.2;
+      result = r.3 ∙ r.2;
+      fit = λ a b c p q. fit-Max r.0.signed r.0.width a b c p q;
+      wide = wide-Max r.0.signed r.0.width;
+      by = λ v w. refl;
+    }
 two-line Eq s z u h =
     let o = as-of (unsigned_word 1) (two_words (s ∷ z ∷ [])) u h in
     let r = two-of s z o.0 o.1 in
-    record { kind = r.0; first = r.1; second = r.2; result = o.2; fit = λ a b c p q. fit-Eq r.0.signed r.0.width a b c p q; wide = wide-Eq r.0.signed r.0.width; by = λ v w. refl }
+    record {
+      kind = r.0;
+      first = r.1;
+      second = r.2;
+      result = o.2;
+      fit = λ a b c p q. fit-Eq r.0.signed r.0.width a b c p q;
+      wide = wide-Eq r.0.signed r.0.width;
+      by = λ v w. refl;
+    }
 two-line Lt s z u h =
     let o = as-of (unsigned_word 1) (two_words (s ∷ z ∷ [])) u h in
     let r = two-of s z o.0 o.1 in
-    record { kind = r.0; first = r.1; second = r.2; result = o.2; fit = λ a b c p q. fit-Lt r.0.signed r.0.width a b c p q; wide = wide-Lt r.0.signed r.0.width; by = λ v w. refl }
+    record {
+      kind = r.0;
+      first = r.1;
+      second = r.2;
+      result = o.2;
+      fit = λ a b c p q. fit-Lt r.0.signed r.0.width a b c p q;
+      wide = wide-Lt r.0.signed r.0.width;
+      by = λ v w. refl;
+    }
 two-line Mux s z u h = let ok = where_ok-some (same_type s (atom (unsigned_word 1))) (two_words (z ∷ [])) u h in let q = ok.1 in cc
 two-line (Shl n) s z u h = cc
 two-line (Shr n) s z u h = cc
@@ -377,7 +485,8 @@ choice-line (Sar n) t s z u h = cc
 choice-line (SCast n) t s z u h = cc
 
 -- a word that stands at a place
-pub word-window : (s : SeqTree) (k : WordKind) (start : ℕ) (old : List ℕ) (x : ℕ) → s ≡ atom (word k) → FitAt s start old → x ≡ get_or old start x → (window s start old ≡ x ∷ []) × (x < 2 ^ k.width)
+pub word-window : (s : SeqTree) (k : WordKind) (start : ℕ) (old : List ℕ) (x : ℕ) → s ≡ atom (word k) → FitAt s start old → x ≡ get_or old start x
+    → (window s start old ≡ x ∷ []) × (x < 2 ^ k.width)
 word-window s k start old x es h e =
     let room : start + 1 ≤ length old = rw es at h.room in
     let one : take 1 (drop start old) ≡ x ∷ [] = ap (take 1) (drop_more old start x (omega arith)) ∙ ap (λ y. y ∷ []) (sym e) in
@@ -398,7 +507,8 @@ kind-is s k e = rw e refl
 value-is : (s : SeqTree) (k : WordKind) (ws : List ℕ) (x : ℕ) → s ≡ atom (word k) → ws ≡ x ∷ [] → value_of s ws ≡ number k x
 value-is s k ws x e w = rw (e, w) refl
 
-pub one-pushed : (op : WordOp) (s : SeqTree) (start : ℕ) (old new : List ℕ) (x r : ℕ) → FitAt s start old → x ≡ get_or old start x → ((k : WordKind) → kind_of s ≡ Some k → r ≡ coded op k x 0 0) → new ≡ old ++ r ∷ []
+pub one-pushed : (op : WordOp) (s : SeqTree) (start : ℕ) (old new : List ℕ) (x r : ℕ) → FitAt s start old → x ≡ get_or old start x
+    → ((k : WordKind) → kind_of s ≡ Some k → r ≡ coded op k x 0 0) → new ≡ old ++ r ∷ []
     → Pushed (word_type op (s ∷ [])) old new (word_value op (value_of s (window s start old) ∷ []))
 one-pushed op s start old new x r h ex er en = pushed-on _ old new (r ∷ []) _ en (λ u p.
     let l = one-line op s u p in
@@ -408,12 +518,14 @@ one-pushed op s start old new x r h ex er en = pushed-on _ old new (r ∷ []) _ 
     let c = er k (kind-is s k l.first) in
     let small : coded op k x 0 0 < 2 ^ (result_kind op k).width = rw l.wide at (word_fits (op_for k.signed op) k.width x 0 0 (l.fit x 0 0 w.1)) in
     let st = stands-word u (result_kind op k) (coded op k x 0 0) l.result small in
-    let value : number (result_kind op k) (coded op k x 0 0) ≡ word_value op (number k x ∷ []) = ap (λ q. number (result_kind op q) (coded op q x 0 0)) (sym (l.by (number k x))) in
+    let value : number (result_kind op k) (coded op k x 0 0) ≡ word_value op (number k x ∷ []) = ap (λ q. number (result_kind op q) (coded op q x 0 0))
+    (sym (l.by (number k x))) in
     let P : ValueTree → Type 0 = λ z. Stands u (coded op k x 0 0 ∷ []) z in
     let Q : ℕ → Type 0 = λ z. Stands u (z ∷ []) (word_value op (value_of s (window s start old) ∷ [])) in
     subst Q (sym c) (subst P (value ∙ ap (λ z. word_value op (z ∷ [])) (sym v)) st))
 
-pub one-fit : (op : WordOp) (s : SeqTree) (start : ℕ) (old : List ℕ) (x : ℕ) → FitAt s start old → x ≡ get_or old start x → IsSome (word_type op (s ∷ [])) → (k : WordKind) → kind_of s ≡ Some k → OperandsFit (op_for k.signed op) k.width x 0 0
+pub one-fit : (op : WordOp) (s : SeqTree) (start : ℕ) (old : List ℕ) (x : ℕ) → FitAt s start old → x ≡ get_or old start x → IsSome (word_type op (s ∷ []))
+    → (k : WordKind) → kind_of s ≡ Some k → OperandsFit (op_for k.signed op) k.width x 0 0
 one-fit op s start old x h ex t k e =
     let p = there (word_type op (s ∷ [])) t in
     let l = one-line op s p.0 p.1 in
@@ -421,7 +533,8 @@ one-fit op s start old x h ex t k e =
     let P : WordKind → Type 0 = λ q. OperandsFit (op_for q.signed op) q.width x 0 0 in
     subst P same (l.fit x 0 0 (word-window s l.kind start old x l.first h ex).1)
 
-pub cast-pushed : (v : ℕ) (s : SeqTree) (start : ℕ) (old new : List ℕ) (x r : ℕ) → FitAt s start old → x ≡ get_or old start x → ((k : WordKind) → kind_of s ≡ Some k → r ≡ coded (Cast v) k x 0 0) → new ≡ old ++ r ∷ []
+pub cast-pushed : (v : ℕ) (s : SeqTree) (start : ℕ) (old new : List ℕ) (x r : ℕ) → FitAt s start old → x ≡ get_or old start x
+    → ((k : WordKind) → kind_of s ≡ Some k → r ≡ coded (Cast v) k x 0 0) → new ≡ old ++ r ∷ []
     → Pushed (as_word (signed_word v) (one_word (s ∷ []))) old new (cast_value v (value_of s (window s start old)))
 cast-pushed v s start old new x r h ex er en = pushed-on _ old new (r ∷ []) _ en (λ u p.
     let o = as-of (signed_word v) (one_word (s ∷ [])) u p in
@@ -430,13 +543,15 @@ cast-pushed v s start old new x r h ex er en = pushed-on _ old new (r ∷ []) _ 
     let w = word-window s k start old x l.1 h ex in
     let e = value-is s k (window s start old) x l.1 w.0 in
     let c = er k (kind-is s k l.1) in
-    let small : coded (Cast v) k x 0 0 < 2 ^ v = rw (wide-Cast v k.signed k.width) at (word_fits (op_for k.signed (Cast v)) k.width x 0 0 (fit-Cast v k.signed k.width x 0 0 w.1)) in
+    let small : coded (Cast v) k x 0 0 < 2 ^ v = rw (wide-Cast v k.signed k.width) at
+    (word_fits (op_for k.signed (Cast v)) k.width x 0 0 (fit-Cast v k.signed k.width x 0 0 w.1)) in
     let st = stands-word u (record { signed = true; width = v }) (coded (Cast v) k x 0 0) o.2 small in
     let P : ValueTree → Type 0 = λ z. Stands u (coded (Cast v) k x 0 0 ∷ []) z in
     let Q : ℕ → Type 0 = λ z. Stands u (z ∷ []) (cast_value v (value_of s (window s start old))) in
     subst Q (sym c) (subst P (ap (cast_value v) (sym e)) st))
 
-pub two-pushed : (op : WordOp) (s z : SeqTree) (start place : ℕ) (old new : List ℕ) (x y r : ℕ) → FitAt s start old → FitAt z place old → x ≡ get_or old start x → y ≡ get_or old place y → ((k : WordKind) → kind_of s ≡ Some k → r ≡ coded op k x y 0) → new ≡ old ++ r ∷ []
+pub two-pushed : (op : WordOp) (s z : SeqTree) (start place : ℕ) (old new : List ℕ) (x y r : ℕ) → FitAt s start old → FitAt z place old
+    → x ≡ get_or old start x → y ≡ get_or old place y → ((k : WordKind) → kind_of s ≡ Some k → r ≡ coded op k x y 0) → new ≡ old ++ r ∷ []
     → Pushed (word_type op (s ∷ z ∷ [])) old new (word_value op (value_of s (window s start old) ∷ value_of z (window z place old) ∷ []))
 two-pushed op s z start place old new x y r h g ex ey er en = pushed-on _ old new (r ∷ []) _ en (λ u p.
     let l = two-line op s z u p in
@@ -448,12 +563,15 @@ two-pushed op s z start place old new x y r h g ex ey er en = pushed-on _ old ne
     let c = er k (kind-is s k l.first) in
     let small : coded op k x y 0 < 2 ^ (result_kind op k).width = rw l.wide at (word_fits (op_for k.signed op) k.width x y 0 (l.fit x y 0 wx.1 wy.1)) in
     let st = stands-word u (result_kind op k) (coded op k x y 0) l.result small in
-    let value : number (result_kind op k) (coded op k x y 0) ≡ word_value op (number k x ∷ number k y ∷ []) = ap (λ q. number (result_kind op q) (coded op q x y 0)) (sym (l.by (number k x) (number k y))) in
+    let value : number (result_kind op k) (coded op k x y 0) ≡ word_value op (number k x ∷ number k y ∷ []) = ap
+    (λ q. number (result_kind op q) (coded op q x y 0)) (sym (l.by (number k x) (number k y))) in
     let P : ValueTree → Type 0 = λ q. Stands u (coded op k x y 0 ∷ []) q in
     let Q : ℕ → Type 0 = λ q. Stands u (q ∷ []) (word_value op (value_of s (window s start old) ∷ value_of z (window z place old) ∷ [])) in
-    subst Q (sym c) (subst P (value ∙ ap (λ q. word_value op (q ∷ number k y ∷ [])) (sym vx) ∙ ap (λ q. word_value op (value_of s (window s start old) ∷ q ∷ [])) (sym vy)) st))
+    subst Q (sym c) (subst P (value ∙ ap (λ q. word_value op (q ∷ number k y ∷ [])) (sym vx) ∙
+    ap (λ q. word_value op (value_of s (window s start old) ∷ q ∷ [])) (sym vy)) st))
 
-pub two-fit : (op : WordOp) (s z : SeqTree) (start place : ℕ) (old : List ℕ) (x y : ℕ) → FitAt s start old → FitAt z place old → x ≡ get_or old start x → y ≡ get_or old place y → IsSome (word_type op (s ∷ z ∷ [])) → (k : WordKind) → kind_of s ≡ Some k → OperandsFit (op_for k.signed op) k.width x y 0
+pub two-fit : (op : WordOp) (s z : SeqTree) (start place : ℕ) (old : List ℕ) (x y : ℕ) → FitAt s start old → FitAt z place old → x ≡ get_or old start x
+    → y ≡ get_or old place y → IsSome (word_type op (s ∷ z ∷ [])) → (k : WordKind) → kind_of s ≡ Some k → OperandsFit (op_for k.signed op) k.width x y 0
 two-fit op s z start place old x y h g ex ey t k e =
     let p = there (word_type op (s ∷ z ∷ [])) t in
     let l = two-line op s z p.0 p.1 in
@@ -461,8 +579,10 @@ two-fit op s z start place old x y h g ex ey t k e =
     let P : WordKind → Type 0 = λ q. OperandsFit (op_for q.signed op) q.width x y 0 in
     subst P same (l.fit x y 0 (word-window s l.kind start old x l.first h ex).1 (word-window z l.kind place old y l.second g ey).1)
 
-pub choice-pushed : (op : WordOp) (t s z : SeqTree) (i j m : ℕ) (old new : List ℕ) (x y w r : ℕ) → FitAt t i old → FitAt s j old → FitAt z m old → x ≡ get_or old i x → y ≡ get_or old j y → w ≡ get_or old m w → ((k : WordKind) → kind_of s ≡ Some k → r ≡ coded op k x y w) → new ≡ old ++ r ∷ []
-    → Pushed (word_type op (t ∷ s ∷ z ∷ [])) old new (word_value op (value_of t (window t i old) ∷ value_of s (window s j old) ∷ value_of z (window z m old) ∷ []))
+pub choice-pushed : (op : WordOp) (t s z : SeqTree) (i j m : ℕ) (old new : List ℕ) (x y w r : ℕ) → FitAt t i old → FitAt s j old → FitAt z m old
+    → x ≡ get_or old i x → y ≡ get_or old j y → w ≡ get_or old m w → ((k : WordKind) → kind_of s ≡ Some k → r ≡ coded op k x y w) → new ≡ old ++ r ∷ []
+    → Pushed (word_type op (t ∷ s ∷ z ∷ [])) old new (word_value op
+    (value_of t (window t i old) ∷ value_of s (window s j old) ∷ value_of z (window z m old) ∷ []))
 choice-pushed op t s z i j m old new x y w r ht hs hz ex ey ew er en = pushed-on _ old new (r ∷ []) _ en (λ u p.
     let l = choice-line op t s z u p in
     let k = l.kind in
@@ -474,14 +594,21 @@ choice-pushed op t s z i j m old new x y w r ht hs hz ex ey ew er en = pushed-on
     let vy = value-is s k (window s j old) y l.first wy.0 in
     let vw = value-is z k (window z m old) w l.second ww.0 in
     let c : r ≡ coded Mux k x y w = er k (kind-is s k l.first) ∙ ap (λ o. coded o k x y w) l.is in
-    let small : coded Mux k x y w < 2 ^ k.width = rw (wide-Mux k.signed k.width) at (word_fits (op_for k.signed Mux) k.width x y w (fit-Mux k.signed k.width x y w wx.1 wy.1 ww.1)) in
+    let small : coded Mux k x y w < 2 ^ k.width = rw (wide-Mux k.signed k.width) at
+    (word_fits (op_for k.signed Mux) k.width x y w (fit-Mux k.signed k.width x y w wx.1 wy.1 ww.1)) in
     let st = stands-word u k (coded Mux k x y w) l.result small in
     let P : ValueTree → Type 0 = λ q. Stands u (coded Mux k x y w ∷ []) q in
-    let Q : ℕ → Type 0 = λ q. Stands u (q ∷ []) (word_value op (value_of t (window t i old) ∷ value_of s (window s j old) ∷ value_of z (window z m old) ∷ [])) in
+    let Q : ℕ → Type 0 = λ q. Stands u (q ∷ []) (word_value op
+    (value_of t (window t i old) ∷ value_of s (window s j old) ∷ value_of z (window z m old) ∷ [])) in
     let value : number k (coded Mux k x y w) ≡ word_value Mux (number bitk x ∷ number k y ∷ number k w ∷ []) = refl in
-    subst Q (sym c) (subst P (value ∙ ap (λ q. word_value Mux (q ∷ number k y ∷ number k w ∷ [])) (sym vx) ∙ ap (λ q. word_value Mux (value_of t (window t i old) ∷ q ∷ number k w ∷ [])) (sym vy) ∙ ap (λ q. word_value Mux (value_of t (window t i old) ∷ value_of s (window s j old) ∷ q ∷ [])) (sym vw) ∙ ap (λ o. word_value o (value_of t (window t i old) ∷ value_of s (window s j old) ∷ value_of z (window z m old) ∷ [])) (sym l.is)) st))
+    subst Q (sym c) (subst P (value ∙ ap (λ q. word_value Mux (q ∷ number k y ∷ number k w ∷ [])) (sym vx) ∙
+    ap (λ q. word_value Mux (value_of t (window t i old) ∷ q ∷ number k w ∷ [])) (sym vy) ∙
+    ap (λ q. word_value Mux (value_of t (window t i old) ∷ value_of s (window s j old) ∷ q ∷ [])) (sym vw) ∙
+    ap (λ o. word_value o (value_of t (window t i old) ∷ value_of s (window s j old) ∷ value_of z (window z m old) ∷ [])) (sym l.is)) st))
 
-pub choice-fit : (op : WordOp) (t s z : SeqTree) (i j m : ℕ) (old : List ℕ) (x y w : ℕ) → FitAt t i old → FitAt s j old → FitAt z m old → x ≡ get_or old i x → y ≡ get_or old j y → w ≡ get_or old m w → IsSome (word_type op (t ∷ s ∷ z ∷ [])) → (k : WordKind) → kind_of s ≡ Some k → OperandsFit (op_for k.signed op) k.width x y w
+pub choice-fit : (op : WordOp) (t s z : SeqTree) (i j m : ℕ) (old : List ℕ) (x y w : ℕ) → FitAt t i old → FitAt s j old → FitAt z m old → x ≡ get_or old i x
+    → y ≡ get_or old j y → w ≡ get_or old m w → IsSome (word_type op (t ∷ s ∷ z ∷ [])) → (k : WordKind) → kind_of s ≡ Some k
+    → OperandsFit (op_for k.signed op) k.width x y w
 choice-fit op t s z i j m old x y w ht hs hz ex ey ew h k e =
     let p = there (word_type op (t ∷ s ∷ z ∷ [])) h in
     let l = choice-line op t s z p.0 p.1 in
@@ -489,9 +616,11 @@ choice-fit op t s z i j m old x y w ht hs hz ex ey ew h k e =
     let same : l.kind ≡ k = (let q = kind-is s l.kind l.first in cc) in
     let P : WordKind → Type 0 = λ q. OperandsFit (op_for q.signed Mux) q.width x y w in
     let Q : WordOp → Type 0 = λ o. OperandsFit (op_for k.signed o) k.width x y w in
-    subst Q (sym l.is) (subst P same (fit-Mux l.kind.signed l.kind.width x y w (word-window t bitk i old x l.test ht ex).1 (word-window s l.kind j old y l.first hs ey).1 (word-window z l.kind m old w l.second hz ew).1))
+    subst Q (sym l.is) (subst P same (fit-Mux l.kind.signed l.kind.width x y w (word-window t bitk i old x l.test ht ex).1
+    (word-window s l.kind j old y l.first hs ey).1 (word-window z l.kind m old w l.second hz ew).1))
 
-pub choice-rooms : (op : WordOp) (t s z : SeqTree) (i j m : ℕ) (old : List ℕ) → FitAt t i old → FitAt s j old → FitAt z m old → IsSome (word_type op (t ∷ s ∷ z ∷ [])) → (i < length old) × (j < length old) × (m < length old)
+pub choice-rooms : (op : WordOp) (t s z : SeqTree) (i j m : ℕ) (old : List ℕ) → FitAt t i old → FitAt s j old → FitAt z m old
+    → IsSome (word_type op (t ∷ s ∷ z ∷ [])) → (i < length old) × (j < length old) × (m < length old)
 choice-rooms op t s z i j m old ht hs hz h =
     let p = there (word_type op (t ∷ s ∷ z ∷ [])) h in
     let l = choice-line op t s z p.0 p.1 in
@@ -507,7 +636,8 @@ choice-range op t s z h =
 widths-at : (a : AtomTree) (i : ℕ) (k : WordKind) → IsTrue (widths_in_range a) → slice_get (atom_kinds a) i ≡ Some k → (1 ≤ k.width) × (k.width ≤ 64)
 widths-at a i k h e = kinds-at (atom_kinds a) i k (ranges a h) e
 
-pub width-range : (a : AtomTree) (i : ℕ) (w : ℕ) → IsTrue (atom_in_size a) → option_map (λ (q : WordKind). q.width) (slice_get (atom_kinds a) i) ≡ Some w → (1 ≤ w) × (w ≤ 64)
+pub width-range : (a : AtomTree) (i : ℕ) (w : ℕ) → IsTrue (atom_in_size a) → option_map (λ (q : WordKind). q.width) (slice_get (atom_kinds a) i) ≡ Some w
+    → (1 ≤ w) × (w ≤ 64)
 width-range a i w h e =
     let r : IsTrue (widths_in_range a) = grind (arith, nat_tests) in
     let k = mapped (slice_get (atom_kinds a) i) w e in
@@ -537,7 +667,8 @@ fold-fits SMax s w a b f h g = absurd (false≢true f)
 fold-fits (Sar n) s w a b f h g = absurd (false≢true f)
 fold-fits (SCast n) s w a b f h g = absurd (false≢true f)
 
-pub combined-fits : (op : WordOp) (ks : List WordKind) (us vs : List ℕ) → IsTrue (folds op) → FitKinds us ks → FitKinds vs ks → FitKinds (combined op ks us vs) ks
+pub combined-fits : (op : WordOp) (ks : List WordKind) (us vs : List ℕ) → IsTrue (folds op) → FitKinds us ks → FitKinds vs ks
+    → FitKinds (combined op ks us vs) ks
 combined-fits op [] us vs f h g = tt
 combined-fits op (k ∷ ks) [] vs f h g = absurd h
 combined-fits op (k ∷ ks) (x ∷ us) [] f h g = absurd g
@@ -550,7 +681,8 @@ sized-word k h =
     let high : k.width ≤ 64 = grind (arith, nat_tests) in
     (low, high)
 
-pub one-range : (op : WordOp) (s : SeqTree) → IsSome (word_type op (s ∷ [])) → ((u : SeqTree) → word_type op (s ∷ []) ≡ Some u → IsTrue (in_size u)) → HasRange op
+pub one-range : (op : WordOp) (s : SeqTree) → IsSome (word_type op (s ∷ [])) → ((u : SeqTree) → word_type op (s ∷ []) ≡ Some u → IsTrue (in_size u))
+    → HasRange op
 one-range (Cast n) s h g =
     let p = there (word_type (Cast n) (s ∷ [])) h in
     let l = one-line (Cast n) s p.0 p.1 in
@@ -575,7 +707,8 @@ one-range SMin s h g = tt
 one-range SMax s h g = tt
 one-range (Sar n) s h g = tt
 
-pub cast-range : (v : ℕ) (s : SeqTree) → IsSome (as_word (signed_word v) (one_word (s ∷ []))) → ((u : SeqTree) → as_word (signed_word v) (one_word (s ∷ [])) ≡ Some u → IsTrue (in_size u)) → (1 ≤ v) × (v ≤ 64)
+pub cast-range : (v : ℕ) (s : SeqTree) → IsSome (as_word (signed_word v) (one_word (s ∷ [])))
+    → ((u : SeqTree) → as_word (signed_word v) (one_word (s ∷ [])) ≡ Some u → IsTrue (in_size u)) → (1 ≤ v) × (v ≤ 64)
 cast-range v s h g =
     let p = there (as_word (signed_word v) (one_word (s ∷ []))) h in
     let o = as-of (signed_word v) (one_word (s ∷ [])) p.0 p.1 in

@@ -16,7 +16,8 @@ use Rattle.ae_eval.proofs.Moving.{where_ok-some, join_fit}
 -- the atoms of a type have its words
 pub words-atoms : (t : SeqTree) → words t ≡ atoms t * atom_words (atom_of t)
 words-atoms (atom a) = omega arith
-words-atoms (seq n t) = let e = words-atoms t in let k : n * (atoms t * atom_words (atom_of t)) ≡ n * atoms t * atom_words (atom_of t) = omega arith in ap (λ j. n * j) e ∙ k
+words-atoms (seq n t) =
+    let e = words-atoms t in let k : n * (atoms t * atom_words (atom_of t)) ≡ n * atoms t * atom_words (atom_of t) = omega arith in ap (λ j. n * j) e ∙ k
 
 pub atom-in-size : (t : SeqTree) → IsTrue (parts_in_size t) → IsTrue (atom_in_size (atom_of t))
 atom-in-size (atom a) h = h
@@ -42,18 +43,22 @@ paired-add (suc n) m k l us vs =
     let a : suc n * k ≡ k + n * k = omega arith in
     let b : suc n * l ≡ l + n * l = omega arith in
     rw (suc-add n m, a, b, ← drop-drop (n * k) k us, ← drop-drop (n * l) l vs)
-    (ap (λ ys. (take k us ++ take l vs) ++ ys) (paired-add n m k l (drop k us) (drop l vs)) ∙ sym (append_assoc (take k us ++ take l vs) (paired n k l (drop k us) (drop l vs)) _))
+    (ap (λ ys. (take k us ++ take l vs) ++ ys) (paired-add n m k l (drop k us) (drop l vs)) ∙
+    sym (append_assoc (take k us ++ take l vs) (paired n k l (drop k us) (drop l vs)) _))
 
 zipped-atom : (a : AtomTree) (us : List ℕ) (v : ValueTree) → zipped (atom_value a us) v ≡ both (atom_value a us) v
 zipped-atom (word k) us v = refl
 zipped-atom (pair a b) us v = refl
 
-zipped-listed : (f g : List ℕ → ValueTree) (n k l : ℕ) (us vs : List ℕ) → zipped (listed (map f (cut n k us))) (listed (map g (cut n l vs))) ≡ listed (map_two zipped (map f (cut n k us)) (map g (cut n l vs)))
+zipped-listed : (f g : List ℕ → ValueTree) (n k l : ℕ) (us vs : List ℕ)
+    → zipped (listed (map f (cut n k us))) (listed (map g (cut n l vs))) ≡ listed (map_two zipped (map f (cut n k us)) (map g (cut n l vs)))
 zipped-listed f g zero k l us vs = refl
 zipped-listed f g (suc n) k l us vs = ap (λ z. more (zipped (f (take k us)) (g (take l vs))) z) (zipped-listed f g n k l (drop k us) (drop l vs))
 
-zip-pieces : (t u w : SeqTree) (q k l : ℕ) → words t ≡ q * k → words u ≡ q * l → ((us vs : List ℕ) → Fit t us → Fit u vs → Stands w (paired q k l us vs) (zipped (value_of t us) (value_of u vs)))
-    → (n : ℕ) (us vs : List ℕ) → Fit (seq n t) us → Fit (seq n u) vs → Stands (seq n w) (paired (n * q) k l us vs) (listed (map_two zipped (map (value_of t) (cut n (words t) us)) (map (value_of u) (cut n (words u) vs))))
+zip-pieces : (t u w : SeqTree) (q k l : ℕ) → words t ≡ q * k → words u ≡ q * l
+    → ((us vs : List ℕ) → Fit t us → Fit u vs → Stands w (paired q k l us vs) (zipped (value_of t us) (value_of u vs)))
+    → (n : ℕ) (us vs : List ℕ) → Fit (seq n t) us → Fit (seq n u) vs
+    → Stands (seq n w) (paired (n * q) k l us vs) (listed (map_two zipped (map (value_of t) (cut n (words t) us)) (map (value_of u) (cut n (words u) vs))))
 zip-pieces t u w q k l et eu h zero us vs f g = rw (zero-mul q) (Stands-none w)
 zip-pieces t u w q k l et eu h (suc n) us vs f g =
     let one : suc n ≡ 1 + n = omega arith in
@@ -73,7 +78,8 @@ zip-pieces t u w q k l et eu h (suc n) us vs f g =
     let x = zipped (value_of t (take (words t) us)) (value_of u (take (words u) vs)) in
     let xs = map_two zipped (map (value_of t) (cut n (words t) (drop (words t) us))) (map (value_of u) (cut n (words u) (drop (words u) vs))) in
     let all = Stands-append 1 n w _ _ (x ∷ []) xs (Stands-one w _ x first) rest in
-    let form : paired q k l (take (words t) us) (take (words u) vs) ++ paired (n * q) k l (drop (words t) us) (drop (words u) vs) ≡ paired (suc n * q) k l us vs =
+    let form : paired q k l (take (words t) us) (take (words u) vs)
+    ++ paired (n * q) k l (drop (words t) us) (drop (words u) vs) ≡ paired (suc n * q) k l us vs =
     ap (λ j. paired q k l (take j us) (take (words u) vs) ++ paired (n * q) k l (drop j us) (drop (words u) vs)) et
     ∙ ap (λ j. paired q k l (take (q * k) us) (take j vs) ++ paired (n * q) k l (drop (q * k) us) (drop j vs)) eu
     ∙ ap (λ ys. ys ++ paired (n * q) k l (drop (q * k) us) (drop (q * l) vs)) (paired-take q k l us vs)
@@ -97,12 +103,14 @@ atoms-same (seq n t) (seq m u) v h =
     let e : n ≡ m = grind (arith, nat_tests, ok.0) in
     rw (e, atoms-same t u r.0 r.1) refl
 
-zip-stands : (s z v : SeqTree) → zipped_type s z ≡ Some v → (us vs : List ℕ) → Fit s us → Fit z vs → Stands v (paired (atoms s) (atom_words (atom_of s)) (atom_words (atom_of z)) us vs) (zipped (value_of s us) (value_of z vs))
+zip-stands : (s z v : SeqTree) → zipped_type s z ≡ Some v → (us vs : List ℕ) → Fit s us → Fit z vs
+    → Stands v (paired (atoms s) (atom_words (atom_of s)) (atom_words (atom_of z)) us vs) (zipped (value_of s us) (value_of z vs))
 zip-stands (atom a) (atom b) v h us vs f g =
     let same : atom (pair a b) ≡ v = cc in
     let ku = take_all (atom_words a) us (omega (arith, length-Fit (atom a) us f)) in
     let kv = take_all (atom_words b) vs (omega (arith, length-Fit (atom b) vs g)) in
-    let form : us ++ vs ≡ (take (atom_words a) us ++ take (atom_words b) vs) ++ [] = sym (append-nil (take (atom_words a) us ++ take (atom_words b) vs) ∙ ap (λ ys. ys ++ take (atom_words b) vs) ku ∙ ap (λ ys. us ++ ys) kv) in
+    let form : us ++ vs ≡ (take (atom_words a) us ++ take (atom_words b) vs)
+    ++ [] = sym (append-nil (take (atom_words a) us ++ take (atom_words b) vs) ∙ ap (λ ys. ys ++ take (atom_words b) vs) ku ∙ ap (λ ys. us ++ ys) kv) in
     let P : List ℕ → Type 0 = λ ys. Stands (atom (pair a b)) ys (both (atom_value a us) (atom_value b vs)) in
     rw (← same, zipped-atom a us (atom_value b vs)) (subst P form (join_fit a b us vs f g))
 zip-stands (atom a) (seq m u) v h us vs f g = cc
@@ -141,7 +149,8 @@ zip-words s z q l eq el h =
     let e = atoms-same s z t.0 (zip-zipped s z t.0 t.1) in
     ap (λ j. j * l) (eq ∙ e) ∙ ap (λ j. atoms z * j) el ∙ sym (words-atoms z)
 
-pub zip-pushed : (s z : SeqTree) (q k l start place : ℕ) (old new : List ℕ) → q ≡ atoms s → k ≡ atom_words (atom_of s) → l ≡ atom_words (atom_of z) → FitAt s start old → FitAt z place old
+pub zip-pushed : (s z : SeqTree) (q k l start place : ℕ) (old new : List ℕ) → q ≡ atoms s → k ≡ atom_words (atom_of s) → l ≡ atom_words (atom_of z)
+    → FitAt s start old → FitAt z place old
     → new ≡ old ++ paired q k l (drop start old) (drop place old)
     → Pushed (zip_type s z) old new (zipped (value_of s (window s start old)) (value_of z (window z place old)))
 zip-pushed s z q k l start place old new eq ek el h g e =

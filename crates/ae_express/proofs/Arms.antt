@@ -29,7 +29,8 @@ Has from ns nets cells y w e = (at : List ℕ → ℕ) → AreNamed ns nets at �
 
 -- an answer on two nets
 abbrev OfTwo : ℕ → List SizedCell → List SizedCell → (x u y v z w : ℕ) → (ℕ → ℕ → ℕ) → Type 0
-OfTwo from before cells x u y v z w op = (f g : List Clock → ℕ → ℕ) → IsWord from before x u f → IsWord from before y v g → IsWord from cells z w (λ run t. op (f run t) (g run t))
+OfTwo from before cells x u y v z w op =
+    (f g : List Clock → ℕ → ℕ) → IsWord from before x u f → IsWord from before y v g → IsWord from cells z w (λ run t. op (f run t) (g run t))
 
 constant_is : (ns : List NetTree) (c : ModuleClock) (w k : ℕ) (e : ExprTree) → IsConstantOf k e → k ≡ value_at ns c w e
 constant_is ns c w k (constant size value fits) h = h
@@ -44,14 +45,17 @@ constant_is ns c w k (concat_one a) h = absurd h
 constant_is ns c w k (concat_more a rest) h = absurd h
 
 -- a concatenation has one value at every width
-any_width : (ns : List NetTree) (c : ModuleClock) (ps : List ExprTree) (u w : ℕ) → 1 ≤ length ps → value_at ns c u (concat_of ps) ≡ value_at ns c w (concat_of ps)
+any_width : (ns : List NetTree) (c : ModuleClock) (ps : List ExprTree) (u w : ℕ) → 1 ≤ length ps
+    → value_at ns c u (concat_of ps) ≡ value_at ns c w (concat_of ps)
 any_width ns c [] u w l = absurd (omega arith)
 any_width ns c (p ∷ []) u w l = refl
 any_width ns c (p ∷ q ∷ ps) u w l = refl
 
 module _ (from : ℕ) (ns : List NetTree) (nets : List (Option NetId)) where
-  pub index_arm : {E : Type 0} (before cells : List SizedCell) (r : Result NetId E) (n : List ℕ) (x u w : ℕ) (a : ExprTree) → is_memory_name ns n ≡ true → u ≡ own_width ns a → Has from ns nets before x u a
-      → IfOk r (λ y. (at : List ℕ → ℕ) (f : List Clock → ℕ → ℕ) → AreNamed ns nets at → IsWord from before x u f → IsWord from cells y.0 w (λ run t. get_or ((read at run t).store n) (f run t) 0))
+  pub index_arm : {E : Type 0} (before cells : List SizedCell) (r : Result NetId E) (n : List ℕ) (x u w : ℕ) (a : ExprTree) → is_memory_name ns n ≡ true
+      → u ≡ own_width ns a → Has from ns nets before x u a
+      → IfOk r (λ y. (at : List ℕ → ℕ) (f : List Clock → ℕ → ℕ) → AreNamed ns nets at → IsWord from before x u f
+      → IsWord from cells y.0 w (λ run t. get_or ((read at run t).store n) (f run t) 0))
       → IfOk r (λ y. Has from ns nets cells y.0 w (index n a))
   index_arm before cells r n x u w a memory e p = ok_map r (λ y h at named. same_word _ _
       (λ run t. ap (λ k. get_or ((read at run t).store n) (value_at ns (read at run t) k a) 0) e ∙ sym (cond-true _ _ _ memory))
@@ -66,34 +70,43 @@ module _ (from : ℕ) (ns : List NetTree) (nets : List (Option NetId)) where
       (h _ (zero _ (p at named))))
 
   pub flip_arm : {E : Type 0} (m1 m2 : List SizedCell) (r : Result NetId E) (x w : ℕ) (a : ExprTree) → Has from ns nets m1 x w a
-      → IfOk r (λ y. (f g : List Clock → ℕ → ℕ) → IsWord from m1 x w f → IsWord from m1 x w g → IsWord from m2 y.0 w (λ run t. word_result op.Not w (f run t) (g run t) (f run t)))
+      → IfOk r (λ y. (f g : List Clock → ℕ → ℕ) → IsWord from m1 x w f → IsWord from m1 x w g
+      → IsWord from m2 y.0 w (λ run t. word_result op.Not w (f run t) (g run t) (f run t)))
       → IfOk r (λ y. Has from ns nets m2 y.0 w (unary Flip a))
   flip_arm m1 m2 r x w a p = ok_map r (λ y h at named. h _ _ (p at named) (p at named))
 
   -- operands at widths that are equal to those handed down
-  operands_at : (op : BinOp) (c : ModuleClock) (w u v : ℕ) (a b : ExprTree) → u ≡ left_width op w (own_width ns a) (own_width ns b) → v ≡ right_width op w (own_width ns a) (own_width ns b)
+  operands_at : (op : BinOp) (c : ModuleClock) (w u v : ℕ) (a b : ExprTree) → u ≡ left_width op w (own_width ns a) (own_width ns b)
+      → v ≡ right_width op w (own_width ns a) (own_width ns b)
       → binary_result op w (value_at ns c u a) (value_at ns c v b) ≡ value_at ns c w (binary op a b)
-  operands_at op c w u v a b p q = ap (λ k. binary_result op w (value_at ns c k a) (value_at ns c v b)) p ∙ ap (λ k. binary_result op w (value_at ns c (left_width op w (own_width ns a) (own_width ns b)) a) (value_at ns c k b)) q
+  operands_at op c w u v a b p q = ap (λ k. binary_result op w (value_at ns c k a) (value_at ns c v b)) p ∙
+      ap (λ k. binary_result op w (value_at ns c (left_width op w (own_width ns a) (own_width ns b)) a) (value_at ns c k b)) q
 
-  pub constant_arm : {E : Type 0} (m1 m2 : Circuit) (r : Result NetId E) (op : BinOp) (way : Way) (x k w : ℕ) (a b : ExprTree) → IsShiftForm op way → IsConstantOf k b
+  pub constant_arm : {E : Type 0} (m1 m2 : Circuit) (r : Result NetId E) (op : BinOp) (way : Way) (x k w : ℕ) (a b : ExprTree) → IsShiftForm op way
+      → IsConstantOf k b
       → Has from ns nets m1.cells x w a
       → IfOk r (λ z. (f : List Clock → ℕ → ℕ) → IsWord from m1.cells x w f → IsWord from m2.cells z.0 w (λ run t. moved way w (f run t) k))
       → IfOk r (λ z. Has from ns nets m2.cells z.0 w (binary op a b))
   constant_arm m1 m2 r op way x k w a b form is p = ok_map r (λ z h at named. same_word _ _
-      (λ run t. form.value w _ k ∙ ap (binary_result op w (value_at ns (read at run t) w a)) (constant_is ns (read at run t) (own_width ns b) k b is) ∙ operands_at op (read at run t) w w (own_width ns b) a b (sym (form.left w _ _)) (sym (form.right w _ _)))
+      (λ run t. form.value w _ k ∙ ap (binary_result op w (value_at ns (read at run t) w a)) (constant_is ns (read at run t) (own_width ns b) k b is) ∙
+      operands_at op (read at run t) w w (own_width ns b) a b (sym (form.left w _ _)) (sym (form.right w _ _)))
       (h _ (p at named)))
 
-  pub binary_arm : {E : Type 0} (m1 m2 m3 : Circuit) (r : Result NetId E) (op : BinOp) (x y u v w : ℕ) (a b : ExprTree) → u ≡ left_width op w (own_width ns a) (own_width ns b) → v ≡ right_width op w (own_width ns a) (own_width ns b) → Grows m1 m2
+  pub binary_arm : {E : Type 0} (m1 m2 m3 : Circuit) (r : Result NetId E) (op : BinOp) (x y u v w : ℕ) (a b : ExprTree)
+      → u ≡ left_width op w (own_width ns a) (own_width ns b) → v ≡ right_width op w (own_width ns a) (own_width ns b) → Grows m1 m2
       → Has from ns nets m1.cells x u a → Has from ns nets m2.cells y v b
-      → IfOk r (λ z. (f g : List Clock → ℕ → ℕ) → IsWord from m2.cells x u f → IsWord from m2.cells y v g → IsWord from m3.cells z.0 w (λ run t. binary_result op w (f run t) (g run t)))
+      → IfOk r (λ z. (f g : List Clock → ℕ → ℕ) → IsWord from m2.cells x u f → IsWord from m2.cells y v g
+      → IsWord from m3.cells z.0 w (λ run t. binary_result op w (f run t) (g run t)))
       → IfOk r (λ z. Has from ns nets m3.cells z.0 w (binary op a b))
   binary_arm m1 m2 m3 r op x y u v w a b e d g p q = ok_map r (λ z h at named. same_word _ _
       (λ run t. operands_at op (read at run t) w u v a b e d)
       (h _ _ (word_grows g (p at named)) (q at named)))
 
-  pub choice_arm : {E : Type 0} (m1 m2 m3 m4 : Circuit) (r : Result NetId E) (k x y u w : ℕ) (test a b : ExprTree) → u ≡ own_width ns test → Grows m1 m2 → Grows m2 m3
+  pub choice_arm : {E : Type 0} (m1 m2 m3 m4 : Circuit) (r : Result NetId E) (k x y u w : ℕ) (test a b : ExprTree) → u ≡ own_width ns test → Grows m1 m2
+      → Grows m2 m3
       → Has from ns nets m1.cells k u test → Has from ns nets m2.cells x w a → Has from ns nets m3.cells y w b
-      → IfOk r (λ z. (h f g : List Clock → ℕ → ℕ) → IsWord from m3.cells k u h → IsWord from m3.cells x w f → IsWord from m3.cells y w g → IsWord from m4.cells z.0 w (λ run t. if h run t == 0 then g run t else f run t))
+      → IfOk r (λ z. (h f g : List Clock → ℕ → ℕ) → IsWord from m3.cells k u h → IsWord from m3.cells x w f → IsWord from m3.cells y w g
+      → IsWord from m4.cells z.0 w (λ run t. if h run t == 0 then g run t else f run t))
       → IfOk r (λ z. Has from ns nets m4.cells z.0 w (choice test a b))
   choice_arm m1 m2 m3 m4 r k x y u w test a b e g1 g2 p q s = ok_map r (λ z h at named. same_word _ _
       (λ run t. ap (λ i. if value_at ns (read at run t) i test == 0 then value_at ns (read at run t) w b else value_at ns (read at run t) w a) e)

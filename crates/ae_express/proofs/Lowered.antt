@@ -35,7 +35,8 @@ pub record Adds {E : Type 0} (r : Result NetId E) (old new : Circuit) (k w : ℕ
   pub net : IfOk r (λ y. IsNet new.cells y.0 w)
 
 -- what was done before, and then such a call
-pub lowered : {E : Type 0} (from : ℕ) (ns : List NetTree) (nets : List (Option NetId)) (old mid new : Circuit) (r : Result NetId E) (k most w : ℕ) (e : ExprTree)
+pub lowered : {E : Type 0} (from : ℕ) (ns : List NetTree) (nets : List (Option NetId)) (old mid new : Circuit) (r : Result NetId E) (k most w : ℕ)
+    (e : ExprTree)
     → Grows old mid → length old.cells ≤ length mid.cells → length mid.cells + k ≤ length old.cells + most → AreNets ns nets mid.cells
     → Adds r mid new k w → IfOk r (λ y. Has from ns nets new.cells y.0 w e) → IfOk r (λ y. IsLowered from ns nets old new most y.0 w e)
 lowered from ns nets old mid new (Ok y) k most w e before more room ready adds word =
@@ -72,14 +73,16 @@ module _ {E : Type 0} (from : ℕ) (ns : List NetTree) (nets : List (Option NetI
 
   pub index_lowered : (old mid new : Circuit) (r : Result NetId E) (n : List ℕ) (x u w : ℕ) (a : ExprTree) → is_memory_name ns n ≡ true → u ≡ own_width ns a
       → IsLowered from ns nets old mid (8 * expr_weight a + 1) x u a → Adds r mid new 2 w
-      → IfOk r (λ y. (at : List ℕ → ℕ) (f : List Clock → ℕ → ℕ) → AreNamed ns nets at → IsWord from mid.cells x u f → IsWord from new.cells y.0 w (λ run t. get_or ((read at run t).store n) (f run t) 0))
+      → IfOk r (λ y. (at : List ℕ → ℕ) (f : List Clock → ℕ → ℕ) → AreNamed ns nets at → IsWord from mid.cells x u f
+      → IsWord from new.cells y.0 w (λ run t. get_or ((read at run t).store n) (f run t) 0))
       → IfOk r (λ y. IsLowered from ns nets old new (8 * expr_weight (index n a) + 1) y.0 w (index n a))
   index_lowered old mid new r n x u w a memory own p adds word =
       lowered from ns nets old mid new r 2 _ w (index n a) p.grows p.more (omega arith) p.nets adds
       (index_arm from ns nets mid.cells new.cells r n x u w a memory own p.word word)
 
   pub not_lowered : (m0 m1 m2 m3 : Circuit) (r : Result NetId E) (x z u w : ℕ) (a : ExprTree) → u ≡ own_width ns a
-      → IsLowered from ns nets m0 m1 (8 * expr_weight a + 1) x u a → Grows m1 m2 → length m1.cells ≤ length m2.cells → length m2.cells ≤ length m1.cells + 2 → Adds r m2 m3 1 w
+      → IsLowered from ns nets m0 m1 (8 * expr_weight a + 1) x u a → Grows m1 m2 → length m1.cells ≤ length m2.cells → length m2.cells ≤ length m1.cells + 2
+      → Adds r m2 m3 1 w
       → ((f : List Clock → ℕ → ℕ) → IsWord from m1.cells x u f → IsWord from m2.cells z 1 (λ run t. bit (f run t == 0)))
       → IfOk r (λ y. (f : List Clock → ℕ → ℕ) → IsWord from m2.cells z 1 f → IsWord from m3.cells y.0 w f)
       → IfOk r (λ y. IsLowered from ns nets m0 m3 (8 * expr_weight (unary Not a) + 1) y.0 w (unary Not a))
@@ -89,7 +92,8 @@ module _ {E : Type 0} (from : ℕ) (ns : List NetTree) (nets : List (Option NetI
 
   pub flip_lowered : (m0 m1 m2 : Circuit) (r : Result NetId E) (x w : ℕ) (a : ExprTree)
       → IsLowered from ns nets m0 m1 (8 * expr_weight a + 1) x w a → Adds r m1 m2 1 w
-      → IfOk r (λ y. (f g : List Clock → ℕ → ℕ) → IsWord from m1.cells x w f → IsWord from m1.cells x w g → IsWord from m2.cells y.0 w (λ run t. word_result op.Not w (f run t) (g run t) (f run t)))
+      → IfOk r (λ y. (f g : List Clock → ℕ → ℕ) → IsWord from m1.cells x w f → IsWord from m1.cells x w g
+      → IsWord from m2.cells y.0 w (λ run t. word_result op.Not w (f run t) (g run t) (f run t)))
       → IfOk r (λ y. IsLowered from ns nets m0 m2 (8 * expr_weight (unary Flip a) + 1) y.0 w (unary Flip a))
   flip_lowered m0 m1 m2 r x w a p adds word =
       lowered from ns nets m0 m1 m2 r 1 _ w (unary Flip a) p.grows p.more (omega arith) p.nets adds
@@ -106,17 +110,21 @@ module _ {E : Type 0} (from : ℕ) (ns : List NetTree) (nets : List (Option NetI
       (constant_arm from ns nets m1 m2 r op way x k w a b form is p.word word)
 
   pub binary_lowered : (m0 m1 m2 m3 : Circuit) (r : Result NetId E) (op : BinOp) (x y u v w : ℕ) (a b : ExprTree)
-      → u ≡ left_width op w (own_width ns a) (own_width ns b) → v ≡ right_width op w (own_width ns a) (own_width ns b) → 8 * operator_weight op b ≡ most_cells op + 1
+      → u ≡ left_width op w (own_width ns a) (own_width ns b) → v ≡ right_width op w (own_width ns a) (own_width ns b)
+      → 8 * operator_weight op b ≡ most_cells op + 1
       → IsLowered from ns nets m0 m1 (8 * expr_weight a + 1) x u a → IsLowered from ns nets m1 m2 (8 * expr_weight b + 1) y v b → Adds r m2 m3 (most_cells op) w
-      → IfOk r (λ z. (f g : List Clock → ℕ → ℕ) → IsWord from m2.cells x u f → IsWord from m2.cells y v g → IsWord from m3.cells z.0 w (λ run t. binary_result op w (f run t) (g run t)))
+      → IfOk r (λ z. (f g : List Clock → ℕ → ℕ) → IsWord from m2.cells x u f → IsWord from m2.cells y v g
+      → IsWord from m3.cells z.0 w (λ run t. binary_result op w (f run t) (g run t)))
       → IfOk r (λ z. IsLowered from ns nets m0 m3 (8 * expr_weight (binary op a b) + 1) z.0 w (binary op a b))
   binary_lowered m0 m1 m2 m3 r op x y u v w a b left right weighs p q adds word =
       lowered from ns nets m0 m2 m3 r (most_cells op) _ w (binary op a b) (grows_trans p.grows q.grows) (omega arith) (omega arith) q.nets adds
       (binary_arm from ns nets m1 m2 m3 r op x y u v w a b left right q.grows p.word q.word word)
 
   pub choice_lowered : (m0 m1 m2 m3 m4 : Circuit) (r : Result NetId E) (k x y u w : ℕ) (test a b : ExprTree) → u ≡ own_width ns test
-      → IsLowered from ns nets m0 m1 (8 * expr_weight test + 1) k u test → IsLowered from ns nets m1 m2 (8 * expr_weight a + 1) x w a → IsLowered from ns nets m2 m3 (8 * expr_weight b + 1) y w b → Adds r m3 m4 3 w
-      → IfOk r (λ z. (h f g : List Clock → ℕ → ℕ) → IsWord from m3.cells k u h → IsWord from m3.cells x w f → IsWord from m3.cells y w g → IsWord from m4.cells z.0 w (λ run t. if h run t == 0 then g run t else f run t))
+      → IsLowered from ns nets m0 m1 (8 * expr_weight test + 1) k u test → IsLowered from ns nets m1 m2 (8 * expr_weight a + 1) x w a
+      → IsLowered from ns nets m2 m3 (8 * expr_weight b + 1) y w b → Adds r m3 m4 3 w
+      → IfOk r (λ z. (h f g : List Clock → ℕ → ℕ) → IsWord from m3.cells k u h → IsWord from m3.cells x w f → IsWord from m3.cells y w g
+      → IsWord from m4.cells z.0 w (λ run t. if h run t == 0 then g run t else f run t))
       → IfOk r (λ z. IsLowered from ns nets m0 m4 (8 * expr_weight (choice test a b) + 1) z.0 w (choice test a b))
   choice_lowered m0 m1 m2 m3 m4 r k x y u w test a b own p q s adds word =
       lowered from ns nets m0 m3 m4 r 3 _ w (choice test a b) (grows_trans p.grows (grows_trans q.grows s.grows)) (omega arith) (omega arith) s.nets adds

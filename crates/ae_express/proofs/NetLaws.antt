@@ -43,20 +43,26 @@ stands_store Reg cells n w f h = absurd (cc)
 stands_store OutReg cells n w f h = absurd (cc)
 
 -- the net of a name that is no memory
-pub name_net : (ns : List NetTree) (nets : List (Option NetId)) (cells : List SizedCell) (n : List ℕ) (y : NetId) → IsNamed ns n → is_memory_name ns n ≡ false → AreNets ns nets cells → slice_get nets (place_of ns n) ≡ Some (Some y) → IsNet cells y.0 (declared_width ns n)
+pub name_net : (ns : List NetTree) (nets : List (Option NetId)) (cells : List SizedCell) (n : List ℕ) (y : NetId) → IsNamed ns n → is_memory_name ns n ≡ false
+    → AreNets ns nets cells → slice_get nets (place_of ns n) ≡ Some (Some y) → IsNet cells y.0 (declared_width ns n)
 name_net ns nets cells n y h f a g =
     rw (named_width h)
-    (stands_word h.net.kind cells y.0 h.net.width (subst (λ o. passes (λ (x : NetTree). is_memory_kind x.kind) o ≡ false) h.found f) (a.each (place_of ns n) h.net y h.at g))
+    (stands_word h.net.kind cells y.0 h.net.width (subst (λ o. passes (λ (x : NetTree). is_memory_kind x.kind) o ≡ false) h.found f)
+    (a.each (place_of ns n) h.net y h.at g))
 
 -- and of one that is
-pub name_memory : (ns : List NetTree) (nets : List (Option NetId)) (cells : List SizedCell) (n : List ℕ) (y : NetId) → IsNamed ns n → is_memory_name ns n ≡ true → AreNets ns nets cells → slice_get nets (place_of ns n) ≡ Some (Some y) → IsMemory cells y.0 (declared_width ns n) (depth_of ns n)
+pub name_memory : (ns : List NetTree) (nets : List (Option NetId)) (cells : List SizedCell) (n : List ℕ) (y : NetId) → IsNamed ns n
+    → is_memory_name ns n ≡ true → AreNets ns nets cells → slice_get nets (place_of ns n) ≡ Some (Some y)
+    → IsMemory cells y.0 (declared_width ns n) (depth_of ns n)
 name_memory ns nets cells n y h f a g =
     let e : depth_of ns n ≡ depth_of_kind h.net.kind = ap depth_in h.found in
     rw (named_width h, e)
-    (stands_store h.net.kind cells y.0 h.net.width (subst (λ o. passes (λ (x : NetTree). is_memory_kind x.kind) o ≡ true) h.found f) (a.each (place_of ns n) h.net y h.at g))
+    (stands_store h.net.kind cells y.0 h.net.width (subst (λ o. passes (λ (x : NetTree). is_memory_kind x.kind) o ≡ true) h.found f)
+    (a.each (place_of ns n) h.net y h.at g))
 
 -- its word
-pub name_word : (from : ℕ) (ns : List NetTree) (nets : List (Option NetId)) (cells : List SizedCell) (n : List ℕ) (y : NetId) (w : ℕ) (at : List ℕ → ℕ) → IsNet cells y.0 w → AreNamed ns nets at → slice_get nets (place_of ns n) ≡ Some (Some y)
+pub name_word : (from : ℕ) (ns : List NetTree) (nets : List (Option NetId)) (cells : List SizedCell) (n : List ℕ) (y : NetId) (w : ℕ) (at : List ℕ → ℕ)
+    → IsNet cells y.0 w → AreNamed ns nets at → slice_get nets (place_of ns n) ≡ Some (Some y)
     → IsWord from cells y.0 w (λ run t. word_at run t (at n))
 name_word from ns nets cells n y w at net a g = record { found = net; words = λ all k run is t l. ap (word_at run t) (sym (a.each n y g)) }
 
@@ -77,10 +83,12 @@ pub own_net : {cells : List SizedCell} {n w : ℕ} → IsNet cells n w → IsNet
 own_net h = rw (net_width h) h
 
 -- a constant that is an address
-pub constant_address : (old new : Circuit) (y : NetId) (w k depth : ℕ) → y ≡ record { 0 = length old.cells } → new ≡ record old { cells = old.cells ++ (record { width = w; cell = Const k }) ∷ [] } → k < depth → IsAddress new.cells y.0 depth
+pub constant_address : (old new : Circuit) (y : NetId) (w k depth : ℕ) → y ≡ record { 0 = length old.cells }
+    → new ≡ record old { cells = old.cells ++ (record { width = w; cell = Const k }) ∷ [] } → k < depth → IsAddress new.cells y.0 depth
 constant_address old new y w k depth i e l =
     rw (e, i) (record {
-      net = (let n : IsNet (old.cells ++ (record { width = w; cell = Const k }) ∷ []) (length old.cells) w = record { sized = record { width = w; cell = Const k }; found = get_pushed old.cells _; plain = tt; wide = refl } in own_net n);
+      net = (let n : IsNet (old.cells ++ (record { width = w; cell = Const k }) ∷ [])
+          (length old.cells) w = record { sized = record { width = w; cell = Const k }; found = get_pushed old.cells _; plain = tt; wide = refl } in own_net n);
       inside = inr (record { width = w; constant = k; found = get_pushed old.cells _; below = l });
     })
 
@@ -92,8 +100,10 @@ varying_address cells n w depth net l = let e : net_width_of cells n ≡ w = net
 pub peek_allowed : (cells : List SizedCell) (w m at depth : ℕ) → IsMemory cells m w depth → IsAddress cells at depth → IsPeek cells w m at
 peek_allowed cells w m at depth p q = record { depth = depth; memory = p; address = q }
 
-pub index_value : (ns : List NetTree) (c : ModuleClock) (n : List ℕ) (k w : ℕ) → is_memory_name ns n ≡ true → get_or (c.store n) k 0 ≡ value_at ns c w (index n (place k))
+pub index_value : (ns : List NetTree) (c : ModuleClock) (n : List ℕ) (k w : ℕ) → is_memory_name ns n ≡ true
+    → get_or (c.store n) k 0 ≡ value_at ns c w (index n (place k))
 index_value ns c n k w t = sym (cond-true _ _ _ t)
 
-pub bit_value : (ns : List NetTree) (c : ModuleClock) (n : List ℕ) (k w : ℕ) → is_memory_name ns n ≡ false → c.word n / 2 ^ k % 2 ≡ value_at ns c w (index n (place k))
+pub bit_value : (ns : List NetTree) (c : ModuleClock) (n : List ℕ) (k w : ℕ) → is_memory_name ns n ≡ false
+    → c.word n / 2 ^ k % 2 ≡ value_at ns c w (index n (place k))
 bit_value ns c n k w f = sym (cond-false _ _ _ f)

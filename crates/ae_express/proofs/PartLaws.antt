@@ -23,7 +23,8 @@ parts_weight (p ∷ ps) l = behind p ps
 
 module _ (ns : List NetTree) (c : ModuleClock) where
   -- one part more
-  pub joined_push : (so_far : ℕ) (ps : List ExprTree) (p : ExprTree) → joined_from ns c so_far (ps ++ p ∷ []) ≡ joined_from ns c so_far ps * 2 ^ own_width ns p + own_value ns c p
+  pub joined_push : (so_far : ℕ) (ps : List ExprTree) (p : ExprTree)
+      → joined_from ns c so_far (ps ++ p ∷ []) ≡ joined_from ns c so_far ps * 2 ^ own_width ns p + own_value ns c p
   joined_push so_far [] p = refl
   joined_push so_far (q ∷ ps) p = joined_push (so_far * 2 ^ own_width ns q + own_value ns c q) ps p
 
@@ -33,11 +34,13 @@ module _ (ns : List NetTree) (c : ModuleClock) where
       let t : a * b * o ≡ a * x = mul_assoc a b o ∙ ap (λ k. a * k) (sym e) in
       omega arith
 
-  joined_behind : (so_far : ℕ) (p : ExprTree) (ps : List ExprTree) → joined_from ns c so_far (p ∷ ps) ≡ so_far * 2 ^ own_width ns (concat_behind p ps) + own_value ns c (concat_behind p ps)
+  joined_behind : (so_far : ℕ) (p : ExprTree) (ps : List ExprTree)
+      → joined_from ns c so_far (p ∷ ps) ≡ so_far * 2 ^ own_width ns (concat_behind p ps) + own_value ns c (concat_behind p ps)
   joined_behind so_far p [] = refl
   joined_behind so_far p (q ∷ ps) =
       joined_behind (so_far * 2 ^ own_width ns p + own_value ns c p) q ps
-      ∙ regroup so_far (2 ^ own_width ns p) (own_value ns c (concat_behind q ps)) (own_value ns c p) (2 ^ own_width ns (concat_behind q ps)) _ (pow-add 2 (own_width ns p) (own_width ns (concat_behind q ps)))
+      ∙ regroup so_far (2 ^ own_width ns p) (own_value ns c (concat_behind q ps)) (own_value ns c p) (2 ^ own_width ns (concat_behind q ps)) _
+      (pow-add 2 (own_width ns p) (own_width ns (concat_behind q ps)))
 
   -- all parts
   pub joined_whole : (ps : List ExprTree) (w : ℕ) → 1 ≤ length ps → joined_from ns c 0 ps ≡ value_at ns c w (concat_of ps)
@@ -48,12 +51,14 @@ module _ (ns : List NetTree) (c : ModuleClock) where
       ∙ joined_behind (own_value ns c p) q ps
 
 -- each part is ready
-pub parts_ready : (ns : List NetTree) (nets : List (Option NetId)) (p : ExprTree) (ps : List ExprTree) → IsReadyFor ns nets (concat_behind p ps) → (k : ℕ) (x : ExprTree) → slice_get (p ∷ ps) k ≡ Some x → IsReadyFor ns nets x
+pub parts_ready : (ns : List NetTree) (nets : List (Option NetId)) (p : ExprTree) (ps : List ExprTree) → IsReadyFor ns nets (concat_behind p ps)
+    → (k : ℕ) (x : ExprTree) → slice_get (p ∷ ps) k ≡ Some x → IsReadyFor ns nets x
 parts_ready ns nets p [] h zero x e = subst (IsReadyFor ns nets) (let s : p ≡ x = cc in s) h
 parts_ready ns nets p [] h (suc k) x e = cc
 parts_ready ns nets p (q ∷ ps) h zero x e = subst (IsReadyFor ns nets) (let s : p ≡ x = cc in s) h.0
 parts_ready ns nets p (q ∷ ps) h (suc k) x e = parts_ready ns nets q ps h.1 k x e
 
-pub some_part_ready : (ns : List NetTree) (nets : List (Option NetId)) (ps : List ExprTree) → 1 ≤ length ps → IsReadyFor ns nets (concat_of ps) → (k : ℕ) (x : ExprTree) → slice_get ps k ≡ Some x → IsReadyFor ns nets x
+pub some_part_ready : (ns : List NetTree) (nets : List (Option NetId)) (ps : List ExprTree) → 1 ≤ length ps → IsReadyFor ns nets (concat_of ps)
+    → (k : ℕ) (x : ExprTree) → slice_get ps k ≡ Some x → IsReadyFor ns nets x
 some_part_ready ns nets [] l h k x e = absurd (omega arith)
 some_part_ready ns nets (p ∷ ps) l h k x e = parts_ready ns nets p ps h k x e

@@ -68,7 +68,8 @@ pub record IsTestForm (op : BinOp) (cell : WordOp) : Type 0 where
   pub left : (w a b : ℕ) → left_width op w a b ≡ a
   pub right : (w a b : ℕ) → right_width op w a b ≡ b
   pub own : (a b : ℕ) → binary_width op a b ≡ 1
-  pub value : (w a b : ℕ) → 2 ^ 1 - 1 - word_result cell 1 (bit (a == 0)) (bit (b == 0)) (bit (a == 0)) ≡ binary_result op w a b
+  pub value : (w a b : ℕ) → 2 ^ 1 - 1 - word_result cell 1 (bit (a == 0)) (bit (b == 0))
+      (bit (a == 0)) ≡ binary_result op w a b
   pub allowed : IsPlainOp cell
   pub one : result_width_of cell 1 ≡ 1
   pub weighs : (e : ExprTree) → operator_weight op e ≡ 1

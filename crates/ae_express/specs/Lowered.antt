@@ -10,13 +10,15 @@ use Rattle.ae_runs.specs.Named.{AreNamed, AreNets, read}
 
 -- the netlist has grown by at most so many cells, the nets of names stand for them as before, and net y has the value of
 -- the expression that is computed at width w
-pub record IsLowered (from : ℕ) (ns : List NetTree) (ys : List (Option NetId)) (old new : Circuit) (most y w : ℕ) (e : ExprTree) : Type 0 where
+pub record IsLowered (from : ℕ) (ns : List NetTree) (ys : List (Option NetId)) (old new : Circuit) (most y w : ℕ)
+    (e : ExprTree) : Type 0 where
   pub grows : Grows old new
   pub more : length old.cells ≤ length new.cells
   pub few : length new.cells ≤ length old.cells + most
   pub net : IsNet new.cells y w
   pub nets : AreNets ns ys new.cells
-  pub word : (at : List ℕ → ℕ) → AreNamed ns ys at → IsWord from new.cells y w (λ run t. value_at ns (read at run t) w e)
+  pub word : (at : List ℕ → ℕ) → AreNamed ns ys at
+      → IsWord from new.cells y w (λ run t. value_at ns (read at run t) w e)
 
 -- what a target of this width is given: computed at the greater of both widths, and cut to the target's
 abbrev pub fitted : List NetTree → ModuleClock → (width : ℕ) → ExprTree → ℕ

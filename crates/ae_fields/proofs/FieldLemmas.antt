@@ -14,7 +14,8 @@ fields-run b [] after h g = by (is_gap b) refl
     by false e = ap (λ t. if t then fields after else fielded b (goes_on after) (fields after)) e ∙ ap (λ t. fielded b t (fields after)) g
 fields-run b (c ∷ bs) after h g = by (is_gap b) refl (is_gap c) refl (fields-run c bs after)
   where
-    by : (t : Bool) → is_gap b ≡ t → (u : Bool) → is_gap c ≡ u → (no_blank (c ∷ bs) ≡ true → goes_on after ≡ false → fields ((c ∷ bs) ++ after) ≡ (c ∷ bs) ∷ fields after)
+    by : (t : Bool) → is_gap b ≡ t → (u : Bool) → is_gap c ≡ u
+        → (no_blank (c ∷ bs) ≡ true → goes_on after ≡ false → fields ((c ∷ bs) ++ after) ≡ (c ∷ bs) ∷ fields after)
         → fields (b ∷ (c ∷ bs) ++ after) ≡ (b ∷ c ∷ bs) ∷ fields after
     by true e u eu rest = absurd (true≢false (sym h ∙ ap (λ t. not t && no_blank (c ∷ bs)) e))
     by false e true eu rest = absurd (true≢false (sym h ∙ ap (λ t. not t && no_blank (c ∷ bs)) e ∙ ap (λ t. not t && no_blank bs) eu))
@@ -41,7 +42,8 @@ pub goes_on-end : (xs : List ℕ) (k : ℕ) → length xs ≤ k → goes_on (dro
 goes_on-end xs k h = let d : drop k xs ≡ [] = grind (arith, common_steps) in ap goes_on d
 
 -- the bytes up to a blank or the end
-pub fields-taken : (xs : List ℕ) (k : ℕ) → 0 < k → k ≤ length xs → no_blank (take k xs) ≡ true → goes_on (drop k xs) ≡ false → fields xs ≡ take k xs ∷ fields (drop k xs)
+pub fields-taken : (xs : List ℕ) (k : ℕ) → 0 < k → k ≤ length xs → no_blank (take k xs) ≡ true → goes_on (drop k xs) ≡ false → fields xs ≡ take k xs
+    ∷ fields (drop k xs)
 fields-taken [] k some h n g = absurd (omega arith)
 fields-taken (x ∷ xs) zero some h n g = absurd (omega arith)
 fields-taken (x ∷ xs) (suc k) some h n g = ap (λ ys. fields (x ∷ ys)) (sym (take-append-drop k xs)) ∙ fields-run x (take k xs) (drop k xs) n g

@@ -72,7 +72,8 @@ among-front : (n : List ℕ) (ms ns : List (List ℕ)) → not (is_among n (ms +
 among-front n [] ns h = (refl, h)
 among-front n (m ∷ ms) ns h = by (same_bytes n m) refl (among-front n ms ns)
   where
-    by : (b : Bool) → same_bytes n m ≡ b → (not (is_among n (ms ++ ns)) ≡ true → (not (is_among n ms) ≡ true) × (not (is_among n ns) ≡ true)) → (not (same_bytes n m || is_among n ms) ≡ true) × (not (is_among n ns) ≡ true)
+    by : (b : Bool) → same_bytes n m ≡ b → (not (is_among n (ms ++ ns)) ≡ true → (not (is_among n ms) ≡ true) × (not (is_among n ns) ≡ true))
+        → (not (same_bytes n m || is_among n ms) ≡ true) × (not (is_among n ns) ≡ true)
     by true e rest = absurd (let x = ap (λ b. not (b || is_among n (ms ++ ns))) (sym e) ∙ h in cc)
     by false e rest = let r = rest (ap (λ b. not (b || is_among n (ms ++ ns))) (sym e) ∙ h) in (ap (λ b. not (b || is_among n ms)) e ∙ r.0, r.1)
 

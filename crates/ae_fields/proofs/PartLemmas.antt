@@ -16,7 +16,8 @@ free-push : (mark : ℕ) (xs : List ℕ) (b : ℕ) → free mark xs ≡ true →
 free-push mark [] b f e = ap (λ t. not t && true) e
 free-push mark (x ∷ xs) b f e = and-both _ _ (and-first _ _ f) (free-push mark xs b (and-second (not (nat_eq x mark)) _ f) e)
 
-pub free-more : (mark : ℕ) (xs : List ℕ) (k : ℕ) → k < length xs → free mark (take k xs) ≡ true → nat_eq (get_or xs k 0) mark ≡ false → free mark (take (k + 1) xs) ≡ true
+pub free-more : (mark : ℕ) (xs : List ℕ) (k : ℕ) → k < length xs → free mark (take k xs) ≡ true → nat_eq (get_or xs k 0) mark ≡ false
+    → free mark (take (k + 1) xs) ≡ true
 free-more mark xs k h f e = ap (free mark) (take_more xs k 0 h) ∙ free-push mark (take k xs) (get_or xs k 0) f e
 
 -- a text at its LF number k
@@ -52,7 +53,8 @@ lines-ended : (line : List ℕ) → free 10 line ≡ true → lines (line ++ 10 
 lines-ended [] f = refl
 lines-ended (b ∷ line) f = by (nat_eq b 10) refl (lines-ended line (and-second (not (nat_eq b 10)) _ f))
   where
-    by : (t : Bool) → nat_eq b 10 ≡ t → lines (line ++ 10 ∷ []) ≡ line ∷ [] → (if t then [] ∷ lines (line ++ 10 ∷ []) else put b (lines (line ++ 10 ∷ []))) ≡ (b ∷ line) ∷ []
+    by : (t : Bool) → nat_eq b 10 ≡ t → lines (line ++ 10 ∷ []) ≡ line ∷ []
+        → (if t then [] ∷ lines (line ++ 10 ∷ []) else put b (lines (line ++ 10 ∷ []))) ≡ (b ∷ line) ∷ []
     by true e r = let n : not (nat_eq b 10) ≡ true = and-first _ _ f in absurd cc
     by false e r = ap (put b) r
 
@@ -95,7 +97,8 @@ was-whole before rest some w = by (whole_lines before) w
     by true h = refl
     by false h = let z = eqb-true (length rest) 0 h in absurd (omega arith)
 
-line-later : (text before rest line after : List ℕ) → Passed text before rest → IsFirstLine rest line after → lines rest ≡ line ∷ lines after → 0 < length rest → Later text before line after
+line-later : (text before rest line after : List ℕ) → Passed text before rest → IsFirstLine rest line after → lines rest ≡ line ∷ lines after → 0 < length rest
+    → Later text before line after
 line-later text before rest line after p (IsFirstLine.ended e f) ls some =
     let w = was-whole before rest some p.whole in
     record {
@@ -131,7 +134,8 @@ passed-line text rest line after i f ls some no_mark_here =
       before = l.further;
       passed = record {
         joined = l.joined;
-        cut = p.cut ∙ ap (λ x. lines i.before ++ x) ls ∙ sym (append_assoc (lines i.before) (line ∷ []) (lines after)) ∙ ap (λ x. x ++ lines after) (sym l.lines_are);
+        cut = p.cut ∙ ap (λ x. lines i.before ++ x) ls ∙ sym (append_assoc (lines i.before) (line ∷ []) (lines after)) ∙
+            ap (λ x. x ++ lines after) (sym l.lines_are);
         none = ap no_mark l.lines_are ∙ all-append _ (lines i.before) (line ∷ []) p.none (ap (λ t. not t && true) no_mark_here);
         whole = l.whole;
       };
@@ -166,7 +170,8 @@ passed-mark text rest line after i f ls some here =
       line = line;
       end_in = omega (arith, total, total2, longer, length-append i.before rest, length-append l.further after);
       start_in = omega arith;
-      cut = p.cut ∙ (λ r. lines (sym taken r) ++ ls r) ∙ ap (λ a. lines (take (length text - length rest) text) ++ line ∷ lines a) (sym (back-left text l.further after l.joined));
+      cut = p.cut ∙ (λ r. lines (sym taken r) ++ ls r) ∙ ap (λ a. lines (take (length text - length rest) text) ++ line ∷ lines a)
+          (sym (back-left text l.further after l.joined));
       mark = here;
       first = ap (λ x. no_mark (lines x)) taken ∙ p.none;
       whole = ap whole_lines taken ∙ was-whole i.before rest some p.whole;
@@ -176,7 +181,8 @@ passed-mark text rest line after i f ls some here =
     by : (t : Bool) → nat_eq (length after) 0 ≡ t → (u : Bool) → (u || t) ≡ true → u ≡ whole_lines (take (length text - length after) text)
         → (whole_lines (take (length text - length after) text) || nat_eq (length text - length after) (length text)) ≡ true
     by t e true h same = or-first _ _ (sym same)
-    by true e false h same = or-true (whole_lines (take (length text - length after) text)) _ (let z = eqb-true (length after) 0 e in eq-eqb (length text - length after) (length text) (omega arith))
+    by true e false h same = or-true (whole_lines (take (length text - length after) text)) _
+        (let z = eqb-true (length after) 0 e in eq-eqb (length text - length after) (length text) (omega arith))
     by false e false h same = absurd cc
 
 pub none-left : (text rest : List ℕ) → IsPassed text rest → rest ≡ [] → no_mark (lines text) ≡ true

@@ -20,7 +20,8 @@ and-both false y hx hy = absurd cc
 -- no number is written with a zero before other digits
 pub zero-led : (ds : List ℕ) → 1 < length ds → get_or ds 0 0 ≡ 48 → (n : ℕ) → n < 2 ^ 64 → ds ≡ decimal n → ⊥
 zero-led ds more led zero h e = let l : length ds ≡ 1 = ap length (e ∙ decimal_digit 0 (omega arith)) in omega arith
-zero-led ds more led (suc n) h e = let f = first_decimal (suc n) (omega arith) h in let g : get_or ds 0 0 ≡ get_or (decimal (suc n)) 0 0 = ap (λ x. get_or x 0 0) e in omega arith
+zero-led ds more led (suc n) h e =
+    let f = first_decimal (suc n) (omega arith) h in let g : get_or ds 0 0 ≡ get_or (decimal (suc n)) 0 0 = ap (λ x. get_or x 0 0) e in omega arith
 
 number-of-own : (n : ℕ) → n < 2 ^ 64 → numeral_value (decimal n) ≡ Some n
 number-of-own n h =
@@ -41,7 +42,8 @@ record Numeral (ds : List ℕ) (n : ℕ) : Type 0 where
 numeral-of : (ds : List ℕ) (n : ℕ) → numeral_value ds ≡ Some n → Numeral ds n
 numeral-of ds n e = by (is_numeral ds) refl (nat_lt (digits_value 10 ds) (2 ^ 64)) refl e
   where
-    by : (t : Bool) → is_numeral ds ≡ t → (u : Bool) → nat_lt (digits_value 10 ds) (2 ^ 64) ≡ u → (if t then (if u then Some (digits_value 10 ds) else None) else None) ≡ Some n → Numeral ds n
+    by : (t : Bool) → is_numeral ds ≡ t → (u : Bool) → nat_lt (digits_value 10 ds) (2 ^ 64) ≡ u
+        → (if t then (if u then Some (digits_value 10 ds) else None) else None) ≡ Some n → Numeral ds n
     by false te u ue h = absurd cc
     by true te false ue h = absurd cc
     by true te true ue h = record { numeral = te; small = ltb-true _ _ ue; value = cc }

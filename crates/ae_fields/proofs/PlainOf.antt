@@ -19,7 +19,8 @@ bytes-same xs ys = (bytes_eq-Decides xs ys).1
 pub plain-some : (low high n : ℕ) (ds : List ℕ) → low ≤ n → n ≤ high → high < 2 ^ 64 → ds ≡ decimal n → plain_of low high ds ≡ Some n
 plain-some low high n ds a b small e =
     let v : digits_value 10 ds ≡ n = ap (digits_value 10) e ∙ digits_value-decimal own n (omega arith) in
-    let t : is_plain low high ds ≡ true = and-both _ _ (and-both _ _ (bytes-same ds _ (e ∙ ap decimal (sym v))) (le-leb low _ (omega arith))) (le-leb _ high (omega arith)) in
+    let t : is_plain low high ds ≡ true = and-both _ _ (and-both _ _ (bytes-same ds _ (e ∙ ap decimal (sym v))) (le-leb low _ (omega arith)))
+    (le-leb _ high (omega arith)) in
     ap (λ b. if b then Some (digits_value 10 ds) else None) t ∙ ap (λ x. Some x) v
 
 pub plain-none : (low high : ℕ) (ds : List ℕ) → ((n : ℕ) → low ≤ n → n ≤ high → ds ≡ decimal n → ⊥) → plain_of low high ds ≡ None
@@ -29,7 +30,8 @@ plain-none low high ds none = by (is_plain low high ds) refl
     by false h = refl
     by true h =
         let ab = and-first _ _ h in
-        absurd (none (digits_value 10 ds) (leb-true low _ (and-second (bytes_eq ds (decimal (digits_value 10 ds))) _ ab)) (leb-true _ high (and-second _ _ h)) (same-bytes ds _ (and-first _ _ ab)))
+        absurd (none (digits_value 10 ds) (leb-true low _ (and-second (bytes_eq ds (decimal (digits_value 10 ds))) _ ab)) (leb-true _ high (and-second _ _ h))
+        (same-bytes ds _ (and-first _ _ ab)))
 
 pub plain-answer : (low high : ℕ) (ds : List ℕ) (o : Option ℕ) → high < 2 ^ 64
     → MatchOption o ((n : ℕ) → low ≤ n → n ≤ high → ds ≡ decimal n → ⊥) (λ n. (low ≤ n) × (n ≤ high) × (ds ≡ decimal n)) → o ≡ plain_of low high ds

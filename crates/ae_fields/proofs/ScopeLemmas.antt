@@ -40,7 +40,8 @@ lt-known : (p : List ℕ → Bool) (ns : List (List ℕ)) → nat_lt (position_o
 lt-known p [] = refl
 lt-known p (n ∷ ns) = by (p n) (lt-known p ns)
   where
-    by : (b : Bool) → nat_lt (position_or_len p ns) (length ns) ≡ list_any p ns → nat_lt (cond (not b) (1 + position_or_len p ns) 0) (suc (length ns)) ≡ (b || list_any p ns)
+    by : (b : Bool) → nat_lt (position_or_len p ns) (length ns) ≡ list_any p ns
+        → nat_lt (cond (not b) (1 + position_or_len p ns) 0) (suc (length ns)) ≡ (b || list_any p ns)
     by true rest = lt-first (length ns)
     by false rest = lt-later (position_or_len p ns) (length ns) ∙ rest
 
@@ -54,7 +55,8 @@ pub insert-names : (es : List Entry) (k : Vec ℕ Global) (eq : Vec ℕ Global �
 insert-names [] k eq same none = refl
 insert-names (e ∷ es) k eq same none = by (bytes_eq k.items e.0.items) refl (insert-names es k eq same)
   where
-    by : (b : Bool) → bytes_eq k.items e.0.items ≡ b → (is_known k.items (names_of es) ≡ false → names_of (insert_entry eq es k tt) ≡ names_of es ++ k.items ∷ []) → names_of (insert_entry eq (e ∷ es) k tt) ≡ names_of (e ∷ es) ++ k.items ∷ []
+    by : (b : Bool) → bytes_eq k.items e.0.items ≡ b → (is_known k.items (names_of es) ≡ false → names_of (insert_entry eq es k tt) ≡ names_of es ++ k.items
+        ∷ []) → names_of (insert_entry eq (e ∷ es) k tt) ≡ names_of (e ∷ es) ++ k.items ∷ []
     by true h rest = absurd (true≢false (sym (ap (λ c. c || is_known k.items (names_of es)) h) ∙ none))
     by false h rest =
         ap (λ c. names_of (if c then (e.0, tt) ∷ es else e ∷ insert_entry eq es k tt)) (same e.0 ∙ h)

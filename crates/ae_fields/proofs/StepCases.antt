@@ -20,14 +20,22 @@ begun_state n k name h = record {
 abbrev pub node_state : ℕ → Known → Part → List ℕ → OpTree → List ℕ → State
 node_state n k p name op args = record {
   known = k;
-  part = Some (record { name = p.name; params = p.params; nodes = p.nodes ++ record { name = name; op = op; args = args; line = n } ∷ []; items = p.items ++ name ∷ []; line = p.line });
+  part = Some (record {
+    name = p.name;
+    params = p.params;
+    nodes = p.nodes ++ record { name = name; op = op; args = args; line = n } ∷ [];
+    items = p.items
+        ++ name ∷ [];
+    line = p.line;
+  });
 }
 
 -- a function line, a node line or an end line
 pub data Placed (n : ℕ) (k : Known) (part : Option Part) (s : State) : Type 0 where
   began : (name : List ℕ) (h : Head) (fs : List (List ℕ)) → part ≡ None → k.closed ≡ false → is_name name ≡ true → is_known name k.names ≡ false
       → params_of k.version fs ≡ Some h → s ≡ begun_state n k name h → Placed n k part s
-  noded : (p : Part) (name : List ℕ) (w : List ℕ) (fs : List (List ℕ)) (o : OpTree × List (List ℕ)) (args : List ℕ) → part ≡ Some p → is_name name ≡ true → is_known name p.items ≡ false
+  noded : (p : Part) (name : List ℕ) (w : List ℕ) (fs : List (List ℕ)) (o : OpTree × List (List ℕ)) (args : List ℕ) → part ≡ Some p → is_name name ≡ true
+      → is_known name p.items ≡ false
       → operator_from k.version (length k.funcs) k.names w fs ≡ Some o → places_after p.items [] o.1 ≡ Some args → has_arguments o.0 (length args) ≡ true
       → s ≡ node_state n k p name o.0 args → Placed n k part s
   finished : (p : Part) (fs : List (List ℕ)) (rs : List ℕ) → part ≡ Some p → places_after p.items [] fs ≡ Some rs
@@ -44,7 +52,8 @@ begin-placed n k f (name ∷ fs) s e =
     let b = where-some _ _ _ a.1 in
     let c = bind-some (params_of k.version fs) _ _ b.1 in
     let d = where-some _ _ _ c.2 in
-    began name c.0 fs refl (not-true k.closed (and-second (bytes_eq f (codes "fn")) _ a.0)) b.0 (not-true (is_known name k.names) d.0) c.1 (sym (some-is _ _ d.1))
+    began name c.0 fs refl (not-true k.closed (and-second (bytes_eq f (codes "fn")) _ a.0)) b.0 (not-true (is_known name k.names) d.0) c.1
+    (sym (some-is _ _ d.1))
 
 node-placed : (n : ℕ) (k : Known) (p : Part) (f : List ℕ) (fs : List (List ℕ)) (s : State) → node n k p f fs ≡ Some s → Placed n k (Some p) s
 node-placed n k p f [] s e = absurd cc
@@ -88,7 +97,8 @@ stepped n s (f ∷ fs) t e =
     let low = leb-true n 4096 a.0 in
     by (s.known.version == 0) refl low a.1
   where
-    versioned_or : (b : Bool) → n ≤ 4096 → s.known.version ≡ 0 → (if b then Some (record { known = of_version 2 s.known; part = s.part }) else by_part n (of_version 1 s.known) s.part f fs) ≡ Some t → Stepped n s t
+    versioned_or : (b : Bool) → n ≤ 4096 → s.known.version ≡ 0
+        → (if b then Some (record { known = of_version 2 s.known; part = s.part }) else by_part n (of_version 1 s.known) s.part f fs) ≡ Some t → Stepped n s t
     versioned_or true low z h = versioned low z (sym (some-is _ _ h))
     versioned_or false low z h = first low z (placed n (of_version 1 s.known) s.part f fs t h)
 

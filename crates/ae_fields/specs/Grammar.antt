@@ -58,7 +58,9 @@ no_params = record { params = []; items = [] }
 
 -- one more parameter, if its name is a new one
 abbrev pub with_param : Head → ParamTree → Option Head
-with_param h p = where_ok (not (is_known p.name h.items)) (Some (record { params = h.params ++ p ∷ []; items = h.items ++ p.name ∷ [] }))
+with_param h p =
+    where_ok (not (is_known p.name h.items))
+    (Some (record { params = h.params ++ p ∷ []; items = h.items ++ p.name ∷ [] }))
 
 -- the parameters after some others
 abbrev pub params_after : (version : ℕ) → Head → List (List ℕ) → Option Head
@@ -98,7 +100,14 @@ places_after items ks (f ∷ fs) = place f items >>= λ k. places_after items (k
 abbrev pub with_node : (n : ℕ) → Known → Part → List ℕ → OpTree → List ℕ → Option State
 with_node n k p name op args = where_ok (not (is_known name p.items)) (Some (record {
   known = k;
-  part = Some (record { name = p.name; params = p.params; nodes = p.nodes ++ record { name = name; op = op; args = args; line = n } ∷ []; items = p.items ++ name ∷ []; line = p.line });
+  part = Some (record {
+    name = p.name;
+    params = p.params;
+    nodes = p.nodes
+        ++ record { name = name; op = op; args = args; line = n } ∷ [];
+    items = p.items ++ name ∷ [];
+    line = p.line;
+  });
 }))
 
 -- as many arguments as the operator's line form has
@@ -125,7 +134,14 @@ ended n k p results = record {
   known = record {
     version = k.version;
     closed = nat_lt 1 (length results);
-    funcs = k.funcs ++ record { name = p.name; params = p.params; nodes = p.nodes; results = results; line = p.line; end_line = n } ∷ [];
+    funcs = k.funcs ++ record {
+      name = p.name;
+      params = p.params;
+      nodes = p.nodes;
+      results = results;
+      line = p.line;
+      end_line = n;
+    } ∷ [];
     names = k.names;
   };
   part = None;
@@ -164,7 +180,8 @@ first_line n s f fs =
 -- after line n with these fields; a line after line 4,096 that says something is refused
 abbrev pub step : (n : ℕ) → State → List (List ℕ) → Option State
 step n s [] = Some s
-step n s (f ∷ fs) = where_ok (nat_le n 4096) (if s.known.version == 0 then first_line n s f fs else by_part n s.known s.part f fs)
+step n s (f ∷ fs) =
+    where_ok (nat_le n 4096) (if s.known.version == 0 then first_line n s f fs else by_part n s.known s.part f fs)
 
 -- after a line that says so
 abbrev pub after_line : (n : ℕ) → State → List ℕ → Option State
@@ -194,7 +211,8 @@ by_state n (Some s) later = later s
 -- the lines from number n on, as far as the first `%%` line: refused at the first that is not fine
 abbrev pub reading_from : List (List ℕ) → (n : ℕ) → State → Reading
 reading_from [] n s = at_end n s
-reading_from (l ∷ ls) n s = if is_mark (fields (said l)) then at_end n s else by_state n (after_line n s (said l)) (reading_from ls (n + 1))
+reading_from (l ∷ ls) n s =
+    if is_mark (fields (said l)) then at_end n s else by_state n (after_line n s (said l)) (reading_from ls (n + 1))
 
 abbrev pub start : State
 start = record { known = record { version = 0; closed = false; funcs = []; names = [] }; part = None }

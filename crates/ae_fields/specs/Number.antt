@@ -10,11 +10,13 @@ is_numeral ds = nat_le 1 (length ds) && nat_le (length ds) 20 && all_ascii_digit
 
 -- the number that a numeral writes, below 2 ^ 64
 abbrev pub numeral_value : List ℕ → Option ℕ
-numeral_value ds = if is_numeral ds then (if nat_lt (digits_value 10 ds) (2 ^ 64) then Some (digits_value 10 ds) else None) else None
+numeral_value ds =
+    if is_numeral ds then (if nat_lt (digits_value 10 ds) (2 ^ 64) then Some (digits_value 10 ds) else None) else None
 
 -- the number from `low` to `high` that the bytes write without leading zeros
 abbrev pub is_plain : (low high : ℕ) → List ℕ → Bool
-is_plain low high ds = bytes_eq ds (decimal (digits_value 10 ds)) && nat_le low (digits_value 10 ds) && nat_le (digits_value 10 ds) high
+is_plain low high ds =
+    bytes_eq ds (decimal (digits_value 10 ds)) && nat_le low (digits_value 10 ds) && nat_le (digits_value 10 ds) high
 
 abbrev pub plain_of : (low high : ℕ) → List ℕ → Option ℕ
 plain_of low high ds = if is_plain low high ds then Some (digits_value 10 ds) else None

@@ -24,12 +24,14 @@ past mark (b ∷ bs) = where_ok (nat_eq b mark) (Some bs)
 
 -- `u` for unsigned words, in version 2 also `i` for signed ones
 abbrev pub letter_kind : (version letter : ℕ) → Option Bool
-letter_kind version letter = if nat_eq letter 117 then Some false else where_ok (nat_eq letter 105 && (version == 2)) (Some true)
+letter_kind version letter =
+    if nat_eq letter 117 then Some false else where_ok (nat_eq letter 105 && (version == 2)) (Some true)
 
 -- a word: a letter and its width of 1 to 64 bits; and what follows it
 abbrev pub word_from : (version letter : ℕ) → List ℕ → Option (AtomTree × List ℕ)
 word_from version letter bs =
-    plain_of 1 64 (digits_of bs) >>= λ w. letter_kind version letter >>= λ s. Some (word (record { signed = s; width = w }), after_digits bs)
+    plain_of 1 64 (digits_of bs) >>= λ w. letter_kind version letter >>= λ s. Some
+    (word (record { signed = s; width = w }), after_digits bs)
 
 -- what stands in a pair after `(`: one atom, `,`, another, `)`
 abbrev pub pair_from : (List ℕ → Option (AtomTree × List ℕ)) → List ℕ → Option (AtomTree × List ℕ)
@@ -62,7 +64,8 @@ sequence_from read bs = length_from bs >>= λ n. read n.1 >>= λ t. Some (seq n.
 abbrev pub type_from : (version levels : ℕ) → List ℕ → Option SeqTree
 type_from version levels [] = None
 type_from version zero (b ∷ bs) = atom_type_of version (b ∷ bs)
-type_from version (suc l) (b ∷ bs) = if nat_eq b 91 then sequence_from (type_from version l) bs else atom_type_of version (b ∷ bs)
+type_from version (suc l) (b ∷ bs) =
+    if nat_eq b 91 then sequence_from (type_from version l) bs else atom_type_of version (b ∷ bs)
 
 -- the type that a field spells, if it spells one
 abbrev pub type_of : (version : ℕ) → List ℕ → Option SeqTree

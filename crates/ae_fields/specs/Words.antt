@@ -33,10 +33,13 @@ other_words = (codes "sub", Sub) ∷ (codes "eq", Eq) ∷ (codes "lt", Lt) ∷ (
 -- the further words whose arguments follow at once
 abbrev pub plain_words : List (List ℕ × OpTree)
 plain_words =
-    (codes "pair", pair) ∷ (codes "fst", fst) ∷ (codes "snd", snd) ∷ (codes "zip", zip) ∷ (codes "unpartition", unpartition) ∷ []
+    (codes "pair", pair) ∷ (codes "fst", fst) ∷ (codes "snd", snd) ∷ (codes "zip", zip)
+    ∷ (codes "unpartition", unpartition) ∷ []
 
 abbrev pub bare_op : List ℕ → Option OpTree
-bare_op w = first_of (option_map word (found w folding_words)) (first_of (option_map word (found w other_words)) (found w plain_words))
+bare_op w =
+    first_of (option_map word (found w folding_words))
+    (first_of (option_map word (found w other_words)) (found w plain_words))
 
 -- a word and a number before the arguments
 abbrev pub numbered_op : List ℕ → List ℕ → Option OpTree
@@ -79,7 +82,8 @@ abbrev pub cast_op : (version : ℕ) → List ℕ → List ℕ → Option OpTree
 cast_op version w f = where_ok (bytes_eq w (codes "cast")) (type_of version f >>= cast_of)
 
 abbrev pub headed_op : (version n : ℕ) → List (List ℕ) → List ℕ → List ℕ → Option OpTree
-headed_op version n names w f = first_of (numbered_op w f) (first_of (func_op n names w f) (first_of (fold_op version w f) (cast_op version w f)))
+headed_op version n names w f =
+    first_of (numbered_op w f) (first_of (func_op n names w f) (first_of (fold_op version w f) (cast_op version w f)))
 
 -- an operator and the names of its arguments
 abbrev pub with_arguments : List (List ℕ) → Option OpTree → Option (OpTree × List (List ℕ))
@@ -110,7 +114,8 @@ partition_from f [] = None
 partition_from f (g ∷ fs) = with_arguments fs (partition_of f g)
 
 -- a word and a field behind it, and the fields behind that
-abbrev pub headed_from : (version n : ℕ) → List (List ℕ) → List ℕ → List ℕ → List (List ℕ) → Option (OpTree × List (List ℕ))
+abbrev pub headed_from : (version n : ℕ) → List (List ℕ) → List ℕ → List ℕ → List (List ℕ)
+    → Option (OpTree × List (List ℕ))
 headed_from version n names w f fs =
     if bytes_eq w (codes "const") then with_arguments [] (const_from version f fs)
     else if bytes_eq w (codes "partition") then partition_from f fs

@@ -37,7 +37,8 @@ AllLays [] budget [] = Unit {0}
 AllLays (t ∷ ts) budget (s ∷ ss) = (lay_of t budget ≡ Some s) × AllLays ts budget ss
 AllLays _ budget _ = ⊥
 
-params_lay : (clocks : ℕ) (ps : List ParamTree) (ss : List StTree) → param_layouts clocks ps ≡ map (λ (x : StTree). Some x) ss → AllLays (types_of_params ps) clocks ss
+params_lay : (clocks : ℕ) (ps : List ParamTree) (ss : List StTree) → param_layouts clocks ps ≡ map (λ (x : StTree). Some x) ss
+    → AllLays (types_of_params ps) clocks ss
 params_lay clocks [] [] h = tt
 params_lay clocks [] (s ∷ ss) h = cc
 params_lay clocks (q ∷ ps) [] h = cc
@@ -73,12 +74,14 @@ first_of_results of ts t h =
     let r = option-both (slice_get of.results 0) (λ (k : ℕ). slice_get ts k) t h in
     rw (get_or_from_slice_get of.results 0 r.0 0 r.1) r.2
 
-callee_is : (p : ProgramTree) (keys : Keys) (f : StFuncTree) (h : IsInstance p keys f) (func budget : ℕ) (ts : List SeqTree) (t : SeqTree) → IsTyped p → f.func ≡ func → f.budget ≡ budget → params_in p func ≡ ts → result_of p func ≡ Some t → IsCallee ts t budget f
+callee_is : (p : ProgramTree) (keys : Keys) (f : StFuncTree) (h : IsInstance p keys f) (func budget : ℕ) (ts : List SeqTree) (t : SeqTree) → IsTyped p
+    → f.func ≡ func → f.budget ≡ budget → params_in p func ≡ ts → result_of p func ≡ Some t → IsCallee ts t budget f
 callee_is p keys f h func budget ts t typed is clocks params result =
     let own : params_in p f.func ≡ types_of_params h.of.params = ap params_for h.known in
     let same : types_of_params h.of.params ≡ ts = sym own ∙ (ap (params_in p) is ∙ params) in
     let first : result_in h.of (types_in p f.func) ≡ Some t = sym (ap (first_type (types_in p f.func)) h.known) ∙ (ap (result_of p) is ∙ result) in
-    let at : slice_get (types_in p f.func) (first_result f) ≡ Some t = ap (λ (rs : List ℕ). slice_get (types_in p f.func) (get_or rs 0 0)) h.results ∙ first_of_results h.of (types_in p f.func) t first in
+    let at : slice_get (types_in p f.func) (first_result f) ≡ Some t = ap (λ (rs : List ℕ). slice_get (types_in p f.func) (get_or rs 0 0)) h.results ∙
+    first_of_results h.of (types_in p f.func) t first in
     let within = slice_get_within (types_in p f.func) (first_result f) t at in
     let long : length (item_layouts f) ≡ length (types_in p f.func) = item_count_is p keys f h ∙ sym (count-items p f.func h.of typed h.known) in
     let laid = typed_item p keys f h (first_result f) t typed at (omega (arith, within, long)) in
@@ -86,7 +89,8 @@ callee_is p keys f h func budget ts t typed is clocks params result =
 
 -- ---- one call, and calls on elements
 
-call_body : (budget copies : ℕ) (ts : List SeqTree) (t : SeqTree) (ins : List StTree) (s : StTree) (f : StFuncTree) → copies ≡ 1 → IsCallee ts t budget f → AreLaidAs ts budget ins → lay_of t budget ≡ Some s → FitsBody budget copies ins s f
+call_body : (budget copies : ℕ) (ts : List SeqTree) (t : SeqTree) (ins : List StTree) (s : StTree) (f : StFuncTree) → copies ≡ 1 → IsCallee ts t budget f
+    → AreLaidAs ts budget ins → lay_of t budget ≡ Some s → FitsBody budget copies ins s f
 call_body budget copies ts t ins s f one h laid out =
     let same = same_lays ts budget ins f.ins laid h.ins in
     let own : s ≡ item_layout (item_layouts f) (first_result f) = same_Some _ _ (sym out ∙ h.out) in
@@ -100,9 +104,11 @@ call_body budget copies ts t ins s f one h laid out =
       out = rw (one, own) (single (item_layout (item_layouts f) (first_result f)));
     }
 
-spread_body : (n budget copies : ℕ) (t u : SeqTree) (x s : StTree) (ins : List StTree) (f : StFuncTree) (h : IsSpreadOver n t budget x) → copies ≡ lanes_of n budget h.arranged.case → f.budget ≡ inner_of n budget h.arranged.case
+spread_body : (n budget copies : ℕ) (t u : SeqTree) (x s : StTree) (ins : List StTree) (f : StFuncTree) (h : IsSpreadOver n t budget x)
+    → copies ≡ lanes_of n budget h.arranged.case → f.budget ≡ inner_of n budget h.arranged.case
     → streams_of ins ≡ map (elements_stream (slots_of n budget h.arranged.case) (lanes_of n budget h.arranged.case)) f.ins
-    → lay_of u (inner_of n budget h.arranged.case) ≡ Some (item_layout (item_layouts f) (first_result f)) → lay_of (seq n u) budget ≡ Some s → FitsBody budget copies ins s f
+    → lay_of u (inner_of n budget h.arranged.case) ≡ Some (item_layout (item_layouts f) (first_result f)) → lay_of (seq n u) budget ≡ Some s
+    → FitsBody budget copies ins s f
 spread_body n budget copies t u x s ins f h is clocks streams inner out =
     let c = h.arranged.case in
     let r = seq_laid_too n t u budget x s h.arranged out in
@@ -118,20 +124,25 @@ spread_body n budget copies t u x s ins f h is clocks streams inner out =
     }
 
 -- one argument, two arguments that are arranged by the same case
-one_stream : (n budget : ℕ) (t : SeqTree) (x : StTree) (f : StFuncTree) (h : IsSpreadOver n t budget x) → AllLays (t ∷ []) (inner_of n budget h.arranged.case) f.ins
+one_stream : (n budget : ℕ) (t : SeqTree) (x : StTree) (f : StFuncTree) (h : IsSpreadOver n t budget x)
+    → AllLays (t ∷ []) (inner_of n budget h.arranged.case) f.ins
     → streams_of (x ∷ []) ≡ map (elements_stream (slots_of n budget h.arranged.case) (lanes_of n budget h.arranged.case)) f.ins
 one_stream n budget t x f h lays = by f.ins lays
   where
-    by : (ys : List StTree) → AllLays (t ∷ []) (inner_of n budget h.arranged.case) ys → streams_of (x ∷ []) ≡ map (elements_stream (slots_of n budget h.arranged.case) (lanes_of n budget h.arranged.case)) ys
+    by : (ys : List StTree) → AllLays (t ∷ []) (inner_of n budget h.arranged.case) ys
+        → streams_of (x ∷ []) ≡ map (elements_stream (slots_of n budget h.arranged.case) (lanes_of n budget h.arranged.case)) ys
     by [] g = absurd g
-    by (y ∷ []) g = let e : h.arranged.of ≡ y = same_Some _ _ (sym h.arranged.laid ∙ g.0) in ap (λ (z : Stream). z ∷ []) (h.ins ∙ ap (elements_stream (slots_of n budget h.arranged.case) (lanes_of n budget h.arranged.case)) e)
+    by (y ∷ []) g = let e : h.arranged.of ≡ y = same_Some _ _ (sym h.arranged.laid ∙ g.0) in
+        ap (λ (z : Stream). z ∷ []) (h.ins ∙ ap (elements_stream (slots_of n budget h.arranged.case) (lanes_of n budget h.arranged.case)) e)
     by (y ∷ z ∷ ys) g = absurd g.1
 
-two_streams : (n budget : ℕ) (t u : SeqTree) (x y : StTree) (f : StFuncTree) (h : IsSpreadOver n t budget x) → lay_of (seq n u) budget ≡ Some y → AllLays (t ∷ u ∷ []) (inner_of n budget h.arranged.case) f.ins
+two_streams : (n budget : ℕ) (t u : SeqTree) (x y : StTree) (f : StFuncTree) (h : IsSpreadOver n t budget x) → lay_of (seq n u) budget ≡ Some y
+    → AllLays (t ∷ u ∷ []) (inner_of n budget h.arranged.case) f.ins
     → streams_of (x ∷ y ∷ []) ≡ map (elements_stream (slots_of n budget h.arranged.case) (lanes_of n budget h.arranged.case)) f.ins
 two_streams n budget t u x y f h second lays = by f.ins lays
   where
-    by : (ys : List StTree) → AllLays (t ∷ u ∷ []) (inner_of n budget h.arranged.case) ys → streams_of (x ∷ y ∷ []) ≡ map (elements_stream (slots_of n budget h.arranged.case) (lanes_of n budget h.arranged.case)) ys
+    by : (ys : List StTree) → AllLays (t ∷ u ∷ []) (inner_of n budget h.arranged.case) ys
+        → streams_of (x ∷ y ∷ []) ≡ map (elements_stream (slots_of n budget h.arranged.case) (lanes_of n budget h.arranged.case)) ys
     by [] g = absurd g
     by (i ∷ []) g = absurd g.1
     by (i ∷ j ∷ []) g =
@@ -225,12 +236,20 @@ abbrev MakesCalls : (p : ProgramTree) (f budget copies : ℕ) (op : OpTree) (t :
 MakesCalls p f budget copies op t s c args ts ins =
     op_type (signatures (take f p.funcs)) op ts ≡ Some t → call_of op budget (spread_at p f budget (head args)) ≡ Some c → CallsFor p budget copies c ins s
 
-calls_for : (p : ProgramTree) (f budget v copies : ℕ) (op : OpTree) (args : List ℕ) (ts : List SeqTree) (ins : List StTree) (t : SeqTree) (s : StTree) (c : Call) → IsTyped p → f < length p.funcs → 0 < budget → IsTrue (is_line v f op) → HaveTypes p f args ts
-    → AreLaidAs ts budget ins → op_type (signatures (take f p.funcs)) op ts ≡ Some t → lay_of t budget ≡ Some s → call_of op budget (spread_at p f budget (head args)) ≡ Some c → copies ≡ c.copies → CallsFor p budget copies c ins s
+calls_for : (p : ProgramTree) (f budget v copies : ℕ) (op : OpTree) (args : List ℕ) (ts : List SeqTree) (ins : List StTree) (t : SeqTree) (s : StTree)
+    (c : Call) → IsTyped p → f < length p.funcs → 0 < budget → IsTrue (is_line v f op) → HaveTypes p f args ts
+    → AreLaidAs ts budget ins → op_type (signatures (take f p.funcs)) op ts ≡ Some t → lay_of t budget ≡ Some s
+    → call_of op budget (spread_at p f budget (head args)) ≡ Some c → copies ≡ c.copies → CallsFor p budget copies c ins s
 calls_for p f budget v copies (call g) args ts ins t s c typed known some line h l is out at many =
     let e : record { func = g; budget = budget; copies = 1 } ≡ c = same_Some _ c at in
     let facts = call-facts p f g ts t typed (below_of g f line) known is in
-    rw (← e) (record { params = ts; result = t; is_params = facts.params; is_result = facts.result; fits = λ k callee. call_body budget copies ts t ins s k (many ∙ sym (ap (λ (x : Call). x.copies) e)) callee l out })
+    rw (← e) (record {
+      params = ts;
+      result = t;
+      is_params = facts.params;
+      is_result = facts.result;
+      fits = λ k callee. call_body budget copies ts t ins s k (many ∙ sym (ap (λ (x : Call). x.copies) e)) callee l out;
+    })
 calls_for p f budget v copies (each g) args ts ins t s c typed known some line h l is out at many =
     one_argument p f budget (MakesCalls p f budget copies (each g) t s c) args ts ins
     (counted p f args ts h ∙ one_type (signatures (take f p.funcs)) g ts t is) h l
@@ -242,9 +261,12 @@ calls_for p f budget v copies (each_two g) args ts ins t s c typed known some li
 calls_for p f budget v copies _ args ts ins t s c typed known some line h l is out at many = absurd (none-some c at)
 
 -- the body of such a call fits
-pub call_fits : (p : ProgramTree) (slowdown k : ℕ) (all : List StFuncTree) (f budget v copies : ℕ) (op : OpTree) (args : List ℕ) (ts : List SeqTree) (ins : List StTree) (t : SeqTree) (s : StTree) (c : Call) (made : StOpTree) → IsTyped p → IsSchedule p slowdown all
-    → f < length p.funcs → 0 < budget → IsTrue (is_line v f op) → HaveTypes p f args ts → AreLaidAs ts budget ins → op_type (signatures (take f p.funcs)) op ts ≡ Some t → lay_of t budget ≡ Some s
-    → call_of op budget (spread_at p f budget (head args)) ≡ Some c → copies ≡ c.copies → IsBody (HasKey (take k all)) c made → FitsOp (take k all) budget copies ins s made
+pub call_fits : (p : ProgramTree) (slowdown k : ℕ) (all : List StFuncTree) (f budget v copies : ℕ) (op : OpTree) (args : List ℕ) (ts : List SeqTree)
+    (ins : List StTree) (t : SeqTree) (s : StTree) (c : Call) (made : StOpTree) → IsTyped p → IsSchedule p slowdown all
+    → f < length p.funcs → 0 < budget → IsTrue (is_line v f op) → HaveTypes p f args ts → AreLaidAs ts budget ins
+    → op_type (signatures (take f p.funcs)) op ts ≡ Some t → lay_of t budget ≡ Some s
+    → call_of op budget (spread_at p f budget (head args)) ≡ Some c → copies ≡ c.copies → IsBody (HasKey (take k all)) c made
+    → FitsOp (take k all) budget copies ins s made
 call_fits p slowdown k all f budget v copies op args ts ins t s c made typed schedule known some line h l is out at many body_is =
     let r = calls_for p f budget v copies op args ts ins t s c typed known some line h l is out at many in
     let g = body_is.key.instance in
@@ -252,5 +274,6 @@ call_fits p slowdown k all f budget v copies op args ts ins t s c made typed sch
     let low : length (take k all) ≤ k = omega (arith, length-take k all) in
     let there : slice_get all body_is.at ≡ Some g = sym (slice_get-take k body_is.at all (omega (arith, inside, low))) ∙ body_is.key.here in
     let own = schedule.right body_is.at g there in
-    let callee = callee_is p (HasKey (take body_is.at all)) g own c.func c.budget r.params r.result typed body_is.key.is_func body_is.key.is_budget r.is_params r.is_result in
+    let callee = callee_is p (HasKey (take body_is.at all)) g own c.func c.budget r.params r.result typed body_is.key.is_func body_is.key.is_budget r.is_params
+    r.is_result in
     rw body_is.is (g, body_is.key.here, r.fits g callee)

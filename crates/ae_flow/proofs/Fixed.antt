@@ -21,7 +21,8 @@ long_as [] (k ∷ ks) h = cc
 long_as (x ∷ ws) [] h = cc
 long_as (x ∷ ws) (k ∷ ks) h = let rest : IsTrue (fit_kinds ws ks) = grind (arith, nat_tests) in omega (arith, long_as ws ks rest)
 
-small_at : (ws : List ℕ) (ks : List WordKind) → IsTrue (fit_kinds ws ks) → (o x : ℕ) (k : WordKind) → slice_get ws o ≡ Some x → slice_get ks o ≡ Some k → x < 2 ^ k.width
+small_at : (ws : List ℕ) (ks : List WordKind) → IsTrue (fit_kinds ws ks) → (o x : ℕ) (k : WordKind) → slice_get ws o ≡ Some x → slice_get ks o ≡ Some k
+    → x < 2 ^ k.width
 small_at [] ks h o x k f g = absurd (none-some x f)
 small_at (y ∷ ws) [] h o x k f g = absurd (none-some k g)
 small_at (y ∷ ws) (l ∷ ks) h zero x k f g =

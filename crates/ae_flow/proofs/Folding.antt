@@ -26,22 +26,26 @@ use Rattle.ae_flow.proofs.Widths.{repeated_at}
 use Rattle.ae_flow.proofs.Operands.{widths_of, length-widths_of, first_words, table_fits}
 
 -- what word q is folded by has its width
-width_at : (op : WordOp) (s : StTree) (q w : ℕ) → q < st_atoms s * element_words s → slice_get (widths_of s) (q % length (widths_of s)) ≡ Some w → (fold_at (element_folds op s) q).width ≡ w
+width_at : (op : WordOp) (s : StTree) (q w : ℕ) → q < st_atoms s * element_words s → slice_get (widths_of s) (q % length (widths_of s)) ≡ Some w
+    → (fold_at (element_folds op s) q).width ≡ w
 width_at op s q w below at =
     let inside : q < st_atoms s * length (widths_of s) = rw (length-widths_of s) below in
     same_Some _ w (sym (column_width op s (st_atoms s) q below) ∙ (repeated_at (st_atoms s) (widths_of s) q inside ∙ at))
 
 -- the fold of words p of the elements up to one of n
-one_fold : (op : WordOp) (t : StTree) (n m e p : ℕ) (v : List ℕ) → folds op ≡ true → IsInSize t → AreWords (elements_stream n m t) v → e < n * m → p < st_atoms t * element_words t
+one_fold : (op : WordOp) (t : StTree) (n m e p : ℕ) (v : List ℕ) → folds op ≡ true → IsInSize t → AreWords (elements_stream n m t) v → e < n * m
+    → p < st_atoms t * element_words t
     → word_fold (element_folds op t) (st_atoms t * element_words t) v p e < 2 ^ (fold_at (element_folds op t) p).width
 one_fold op t n m e p v is_fold size h below inside =
     let all : AllFit (element_folds op t) (n * m) (st_atoms t * element_words t) v = words_fit op t n m v h in
     let by = fold_op (element_folds op t) p (are_folds op t is_fold size) in
-    let row : Fit (fold_at (element_folds op t) p).width (λ i. get_or v (i * (st_atoms t * element_words t) + p) 0) e = record { each = λ i few. all i p (omega (arith, few, below)) inside } in
+    let row : Fit (fold_at (element_folds op t) p).width (λ i. get_or v (i * (st_atoms t * element_words t) + p) 0)
+    e = record { each = λ i few. all i p (omega (arith, few, below)) inside } in
     fold_fits (fold_at (element_folds op t) p).op (fold_at (element_folds op t) p).width (λ i. get_or v (i * (st_atoms t * element_words t) + p) 0) e by row
 
 -- the same where the words are those of a layout with the atom and as many elements
-like_fold : (op : WordOp) (t s : StTree) (n m e p : ℕ) (v : List ℕ) → folds op ≡ true → IsInSize t → element_atom t ≡ element_atom s → st_atoms t ≡ st_atoms s → AreWords (elements_stream n m t) v → e < n * m → p < st_atoms s * element_words s
+like_fold : (op : WordOp) (t s : StTree) (n m e p : ℕ) (v : List ℕ) → folds op ≡ true → IsInSize t → element_atom t ≡ element_atom s → st_atoms t ≡ st_atoms s
+    → AreWords (elements_stream n m t) v → e < n * m → p < st_atoms s * element_words s
     → word_fold (element_folds op s) (st_atoms s * element_words s) v p e < 2 ^ (fold_at (element_folds op s) p).width
 like_fold op t s n m e p v is_fold size atom atoms h below inside =
     let one = one_fold op t n m e p v is_fold size h below (rw (atoms, atom) inside) in
@@ -60,7 +64,8 @@ element_like t raw (inr is) = (rw is.1 refl, rw is.1 (omega arith))
 some_product : (a b : ℕ) → 1 ≤ a → 1 ≤ b → 1 ≤ a * b
 some_product a b h g = grind arith
 
-pub fold_words_fit : (known : List Callee) (budget : ℕ) (op : WordOp) (n m : ℕ) (raw a s : StTree) (vs : List (List ℕ)) → IsRawFor budget raw s → IsSpread n m → FitsFold budget op n m raw a s → AllAreWords (stream_of a ∷ []) vs
+pub fold_words_fit : (known : List Callee) (budget : ℕ) (op : WordOp) (n m : ℕ) (raw a s : StTree) (vs : List (List ℕ)) → IsRawFor budget raw s → IsSpread n m
+    → FitsFold budget op n m raw a s → AllAreWords (stream_of a ∷ []) vs
     → AreWords (stream_of s) (op_words known (a ∷ []) s (fold op n m raw) vs)
 fold_words_fit known budget op n m raw a s vs sound spread h fit =
     let t : StTree = h.element in
@@ -99,7 +104,8 @@ rows_of n m t s (inr (inr h)) = record {
 }
 
 -- word q of a scan
-scanned : (op : WordOp) (t s : StTree) (n m q w : ℕ) (v : List ℕ) → folds op ≡ true → IsInSize t → element_atom t ≡ element_atom s → AreWords (elements_stream n m t) v → q < n * m * (st_atoms t * element_words t) → (fold_at (element_folds op s) q).width ≡ w
+scanned : (op : WordOp) (t s : StTree) (n m q w : ℕ) (v : List ℕ) → folds op ≡ true → IsInSize t → element_atom t ≡ element_atom s
+    → AreWords (elements_stream n m t) v → q < n * m * (st_atoms t * element_words t) → (fold_at (element_folds op s) q).width ≡ w
     → word_fold (element_folds op s) (st_atoms t * element_words t) v (q % (st_atoms t * element_words t)) (q / (st_atoms t * element_words t)) < 2 ^ w
 scanned op t s n m q w v is_fold size atom h below wide =
     let k : ℕ = st_atoms t * element_words t in
@@ -112,10 +118,12 @@ scanned op t s n m q w v is_fold size atom h below wide =
     let place : q / k * st_atoms t * length all + q % k ≡ q = omega (arith, turns, div-add-mod' q k) in
     let there : fold_at all q ≡ fold_at all (q % k) = ap (fold_at all) (sym place) ∙ fold_at_add all (q / k * st_atoms t) (q % k) some in
     let one = one_fold op t n m (q / k) (q % k) v is_fold size h (div_below q k (n * m) pos below) (mod_below q k pos) in
-    let width : (fold_at all (q % k)).width ≡ w = ap (λ (f : WordFold). f.width) (sym there) ∙ (ap (λ (fs : List WordFold). (fold_at fs q).width) (sym same) ∙ wide) in
+    let width : (fold_at all (q % k)).width ≡ w = ap (λ (f : WordFold). f.width) (sym there) ∙
+    (ap (λ (fs : List WordFold). (fold_at fs q).width) (sym same) ∙ wide) in
     rw (same, ← width) one
 
-pub scan_words_fit : (known : List Callee) (budget : ℕ) (op : WordOp) (n m : ℕ) (a s : StTree) (vs : List (List ℕ)) → IsInSize s → IsSpread n m → FitsScan budget op n m a s → AllAreWords (stream_of a ∷ []) vs
+pub scan_words_fit : (known : List Callee) (budget : ℕ) (op : WordOp) (n m : ℕ) (a s : StTree) (vs : List (List ℕ)) → IsInSize s → IsSpread n m
+    → FitsScan budget op n m a s → AllAreWords (stream_of a ∷ []) vs
     → AreWords (stream_of s) (op_words known (a ∷ []) s (scan op n m) vs)
 scan_words_fit known budget op n m a s vs sized spread h fit =
     let t : StTree = h.element in
@@ -126,7 +134,8 @@ scan_words_fit known budget op n m a s vs sized spread h fit =
     let some : 1 ≤ n * m = some_product n m spread.some_slots spread.some_lanes in
     let inside = rows.size sized in
     let wide : element_words s ≡ element_words t = rw rows.atom refl in
-    let all : layout_words s ≡ n * m * size = ap (λ i. i * element_words s) rows.atoms ∙ (ap (λ i. n * m * st_atoms t * i) wide ∙ mul_assoc (n * m) (st_atoms t) (element_words t)) in
+    let all : layout_words s ≡ n * m * size = ap (λ i. i * element_words s) rows.atoms ∙
+    (ap (λ i. n * m * st_atoms t * i) wide ∙ mul_assoc (n * m) (st_atoms t) (element_words t)) in
     let own : layout_words s / (n * m) ≡ size = ap (λ i. i / (n * m)) all ∙ mul-div_cancel_left size some in
     let by_size : ℕ → Type 0 = λ z. AreWords (stream_of s) (scan_words op s z (n * m) v) in
     let by_count : ℕ → Type 0 = λ z. AreWords (stream_of s) (map (λ q. word_fold (element_folds op s) size v (q % size) (q / size)) (range_with_len 0 z)) in

@@ -17,7 +17,8 @@ use Rattle.ae_flow.proofs.MeaningLayouts.{LaysOut, AllLaidOut, layout-size}
 pub record Computes (p : ProgramTree) (func : ℕ) (c : Callee) : Type 0 where
   pub ins : AllLaidOut (params_in p func) c.ins
   pub out : (u : SeqTree) → result_of p func ≡ Some u → LaysOut u c.out
-  pub flow : (wss : List (List ℕ)) (u : SeqTree) → AllFit (params_in p func) wss → result_of p func ≡ Some u → Stands u (c.flow wss) (applied (meanings p.funcs) func (values_of (params_in p func) wss))
+  pub flow : (wss : List (List ℕ)) (u : SeqTree) → AllFit (params_in p func) wss → result_of p func ≡ Some u
+      → Stands u (c.flow wss) (applied (meanings p.funcs) func (values_of (params_in p func) wss))
 
 -- ---- how many elements there are
 
@@ -44,24 +45,29 @@ whole-pieces (t ∷ ts) (x ∷ xs) (ws ∷ wss) l h =
     let size = layout-size t x l.0 in
     let long = length-Fit t ws h.0 in
     let none : 0 * layout_words x ≡ 0 = omega arith in
-    let first : take (layout_words x) (drop (0 * layout_words x) ws) ≡ ws = ap (λ i. take (layout_words x) (drop i ws)) none ∙ take_all (layout_words x) ws (omega arith) in
+    let first : take (layout_words x) (drop (0 * layout_words x) ws) ≡ ws = ap (λ i. take (layout_words x) (drop i ws)) none ∙
+    take_all (layout_words x) ws (omega arith) in
     ap (λ us. us ∷ pieces xs 0 wss) first ∙ ap (λ us. ws ∷ us) (whole-pieces ts xs wss l.1 h.1)
 
-pub call-words : (p : ProgramTree) (func : ℕ) (c : Callee) (u : SeqTree) (s : StTree) (wss : List (List ℕ)) → Computes p func c → result_of p func ≡ Some u → 0 < atoms u → LaysOut u s → AllFit (params_in p func) wss
+pub call-words : (p : ProgramTree) (func : ℕ) (c : Callee) (u : SeqTree) (s : StTree) (wss : List (List ℕ)) → Computes p func c → result_of p func ≡ Some u
+    → 0 < atoms u → LaysOut u s → AllFit (params_in p func) wss
     → Stands u (mapped c (element_count c s) wss) (applied (meanings p.funcs) func (values_of (params_in p func) wss))
 call-words p func c u s wss h result some l fit =
     let one = one-of u c s some (h.out u result) l in
-    let form : c.flow wss ≡ mapped c (element_count c s) wss = sym (ap (λ n. mapped c n wss) one ∙ append-nil (c.flow (pieces c.ins 0 wss)) ∙ ap c.flow (whole-pieces (params_in p func) c.ins wss h.ins fit)) in
+    let form : c.flow wss ≡ mapped c (element_count c s) wss = sym
+    (ap (λ n. mapped c n wss) one ∙ append-nil (c.flow (pieces c.ins 0 wss)) ∙ ap c.flow (whole-pieces (params_in p func) c.ins wss h.ins fit)) in
     subst (λ ws. Stands u ws (applied (meanings p.funcs) func (values_of (params_in p func) wss))) form (h.flow wss u fit result)
 
 -- ---- a body on each element of one argument, of two
 
-one-piece : (t : SeqTree) (xs : List StTree) (e : ℕ) (ws : List ℕ) → AllLaidOut (t ∷ []) xs → pieces xs e (ws ∷ []) ≡ take (words t) (drop (e * words t) ws) ∷ []
+one-piece : (t : SeqTree) (xs : List StTree) (e : ℕ) (ws : List ℕ) → AllLaidOut (t ∷ []) xs → pieces xs e (ws ∷ []) ≡ take (words t) (drop (e * words t) ws)
+    ∷ []
 one-piece t [] e ws l = absurd l
 one-piece t (x ∷ []) e ws l = ap (λ k. take k (drop (e * k) ws) ∷ []) (layout-size t x l.0)
 one-piece t (x ∷ y ∷ xs) e ws l = absurd l.1
 
-two-pieces : (t z : SeqTree) (xs : List StTree) (e : ℕ) (ws us : List ℕ) → AllLaidOut (t ∷ z ∷ []) xs → pieces xs e (ws ∷ us ∷ []) ≡ take (words t) (drop (e * words t) ws) ∷ take (words z) (drop (e * words z) us) ∷ []
+two-pieces : (t z : SeqTree) (xs : List StTree) (e : ℕ) (ws us : List ℕ) → AllLaidOut (t ∷ z ∷ []) xs
+    → pieces xs e (ws ∷ us ∷ []) ≡ take (words t) (drop (e * words t) ws) ∷ take (words z) (drop (e * words z) us) ∷ []
 two-pieces t z [] e ws us l = absurd l
 two-pieces t z (x ∷ []) e ws us l = absurd l.1
 two-pieces t z (x ∷ y ∷ []) e ws us l =
@@ -70,7 +76,8 @@ two-pieces t z (x ∷ y ∷ []) e ws us l =
 two-pieces t z (x ∷ y ∷ w ∷ xs) e ws us l = absurd l.1.1
 
 -- a body on one value, on two
-one-flow : (p : ProgramTree) (func : ℕ) (c : Callee) (t u : SeqTree) (e : ℕ) (ws : List ℕ) (v : ValueTree) → Computes p func c → result_of p func ≡ Some u → params_in p func ≡ t ∷ [] → Stands t (take (words t) (drop (e * words t) ws)) v
+one-flow : (p : ProgramTree) (func : ℕ) (c : Callee) (t u : SeqTree) (e : ℕ) (ws : List ℕ) (v : ValueTree) → Computes p func c → result_of p func ≡ Some u
+    → params_in p func ≡ t ∷ [] → Stands t (take (words t) (drop (e * words t) ws)) v
     → Stands u (c.flow (pieces c.ins e (ws ∷ []))) (applied (meanings p.funcs) func (v ∷ []))
 one-flow p func c t u e ws v h result params st =
     let r = take (words t) (drop (e * words t) ws) in
@@ -81,7 +88,8 @@ one-flow p func c t u e ws v h result params st =
     let Q : List ValueTree → Type 0 = λ vs. Stands u (c.flow (r ∷ [])) (applied (meanings p.funcs) func vs) in
     subst P form (subst Q value (h.flow (r ∷ []) u fit result))
 
-two-flow : (p : ProgramTree) (func : ℕ) (c : Callee) (t z u : SeqTree) (e : ℕ) (ws us : List ℕ) (v w : ValueTree) → Computes p func c → result_of p func ≡ Some u → params_in p func ≡ t ∷ z ∷ []
+two-flow : (p : ProgramTree) (func : ℕ) (c : Callee) (t z u : SeqTree) (e : ℕ) (ws us : List ℕ) (v w : ValueTree) → Computes p func c
+    → result_of p func ≡ Some u → params_in p func ≡ t ∷ z ∷ []
     → Stands t (take (words t) (drop (e * words t) ws)) v → Stands z (take (words z) (drop (e * words z) us)) w
     → Stands u (c.flow (pieces c.ins e (ws ∷ us ∷ []))) (applied (meanings p.funcs) func (v ∷ w ∷ []))
 two-flow p func c t z u e ws us v w h result params st sz =
@@ -89,31 +97,38 @@ two-flow p func c t z u e ws us v w h result params st sz =
     let q = take (words z) (drop (e * words z) us) in
     let form : r ∷ q ∷ [] ≡ pieces c.ins e (ws ∷ us ∷ []) = sym (two-pieces t z c.ins e ws us (subst (λ ts. AllLaidOut ts c.ins) params h.ins)) in
     let fit : AllFit (params_in p func) (r ∷ q ∷ []) = subst (λ ts. AllFit ts (r ∷ q ∷ [])) (sym params) (st.fits, (sz.fits, tt)) in
-    let value : values_of (params_in p func) (r ∷ q ∷ []) ≡ v ∷ w ∷ [] = ap (λ ts. values_of ts (r ∷ q ∷ [])) params ∙ ap (λ x. x ∷ value_of z q ∷ []) st.value ∙ ap (λ x. v ∷ x ∷ []) sz.value in
+    let value : values_of (params_in p func) (r ∷ q ∷ []) ≡ v ∷ w ∷ [] = ap (λ ts. values_of ts (r ∷ q ∷ [])) params ∙
+    ap (λ x. x ∷ value_of z q ∷ []) st.value ∙ ap (λ x. v ∷ x ∷ []) sz.value in
     let P : List (List ℕ) → Type 0 = λ wss. Stands u (c.flow wss) (applied (meanings p.funcs) func (v ∷ w ∷ [])) in
     let Q : List ValueTree → Type 0 = λ vs. Stands u (c.flow (r ∷ q ∷ [])) (applied (meanings p.funcs) func vs) in
     subst P form (subst Q value (h.flow (r ∷ q ∷ []) u fit result))
 
-pub each-words : (p : ProgramTree) (func n : ℕ) (c : Callee) (t u : SeqTree) (s : StTree) (ws : List ℕ) → Computes p func c → result_of p func ≡ Some u → params_in p func ≡ t ∷ [] → 0 < atoms u → LaysOut (seq n u) s → Fit (seq n t) ws
-    → Stands (seq n u) (mapped c (element_count c s) (ws ∷ [])) (listed (map (λ x. applied (meanings p.funcs) func (x ∷ [])) (elements (value_of (seq n t) ws))))
+pub each-words : (p : ProgramTree) (func n : ℕ) (c : Callee) (t u : SeqTree) (s : StTree) (ws : List ℕ) → Computes p func c → result_of p func ≡ Some u
+    → params_in p func ≡ t ∷ [] → 0 < atoms u → LaysOut (seq n u) s → Fit (seq n t) ws
+    → Stands (seq n u) (mapped c (element_count c s) (ws ∷ []))
+    (listed (map (λ x. applied (meanings p.funcs) func (x ∷ [])) (elements (value_of (seq n t) ws))))
 each-words p func n c t u s ws h result params some l fit =
     let xs = elements (value_of (seq n t) ws) in
     let g : ValueTree → ValueTree = λ x. applied (meanings p.funcs) func (x ∷ []) in
     let count = count-of n u c s some (h.out u result) l in
-    let all = stands-table u n (λ e. c.flow (pieces c.ins e (ws ∷ []))) (λ e. g (get_or xs e end)) (λ e lt. one-flow p func c t u e ws (get_or xs e end) h result params (element-stands n e t ws lt fit)) in
+    let all = stands-table u n (λ e. c.flow (pieces c.ins e (ws ∷ []))) (λ e. g (get_or xs e end))
+    (λ e lt. one-flow p func c t u e ws (get_or xs e end) h result params (element-stands n e t ws lt fit)) in
     let P : ℕ → Type 0 = λ k. Stands (seq n u) (mapped c k (ws ∷ [])) (listed (table n (λ e. g (get_or xs e end)))) in
     let Q : List ValueTree → Type 0 = λ vs. Stands (seq n u) (mapped c (element_count c s) (ws ∷ [])) (listed vs) in
     subst Q (sym (map-table g xs n (count-elements n t ws))) (subst P (sym count) all)
 
-pub each-two-words : (p : ProgramTree) (func n : ℕ) (c : Callee) (t z u : SeqTree) (s : StTree) (ws us : List ℕ) → Computes p func c → result_of p func ≡ Some u → params_in p func ≡ t ∷ z ∷ [] → 0 < atoms u → LaysOut (seq n u) s → Fit (seq n t) ws → Fit (seq n z) us
-    → Stands (seq n u) (mapped c (element_count c s) (ws ∷ us ∷ [])) (listed (map_two (λ x y. applied (meanings p.funcs) func (x ∷ y ∷ [])) (elements (value_of (seq n t) ws)) (elements (value_of (seq n z) us))))
+pub each-two-words : (p : ProgramTree) (func n : ℕ) (c : Callee) (t z u : SeqTree) (s : StTree) (ws us : List ℕ) → Computes p func c
+    → result_of p func ≡ Some u → params_in p func ≡ t ∷ z ∷ [] → 0 < atoms u → LaysOut (seq n u) s → Fit (seq n t) ws → Fit (seq n z) us
+    → Stands (seq n u) (mapped c (element_count c s) (ws ∷ us ∷ []))
+    (listed (map_two (λ x y. applied (meanings p.funcs) func (x ∷ y ∷ [])) (elements (value_of (seq n t) ws)) (elements (value_of (seq n z) us))))
 each-two-words p func n c t z u s ws us h result params some l fit gfit =
     let xs = elements (value_of (seq n t) ws) in
     let ys = elements (value_of (seq n z) us) in
     let g : ValueTree → ValueTree → ValueTree = λ x y. applied (meanings p.funcs) func (x ∷ y ∷ []) in
     let count = count-of n u c s some (h.out u result) l in
     let all = stands-table u n (λ e. c.flow (pieces c.ins e (ws ∷ us ∷ []))) (λ e. g (get_or xs e end) (get_or ys e end))
-    (λ e lt. two-flow p func c t z u e ws us (get_or xs e end) (get_or ys e end) h result params (element-stands n e t ws lt fit) (element-stands n e z us lt gfit)) in
+    (λ e lt. two-flow p func c t z u e ws us (get_or xs e end) (get_or ys e end) h result params (element-stands n e t ws lt fit)
+    (element-stands n e z us lt gfit)) in
     let P : ℕ → Type 0 = λ k. Stands (seq n u) (mapped c k (ws ∷ us ∷ [])) (listed (table n (λ e. g (get_or xs e end) (get_or ys e end)))) in
     let Q : List ValueTree → Type 0 = λ vs. Stands (seq n u) (mapped c (element_count c s) (ws ∷ us ∷ [])) (listed vs) in
     subst Q (sym (map_two-table g xs ys n (count-elements n t ws) (count-elements n z us))) (subst P (sym count) all)

@@ -66,15 +66,18 @@ no-third (SCast v) s w a b c d h = cc
 abbrev pub folds_of : WordOp → AtomTree → List WordFold
 folds_of op a = map (fold_by op) (atom_kinds a)
 
-fold-here : (op : WordOp) (t : SeqTree) (p : ℕ) (k : WordKind) → p < words t → slice_get (kinds t) p ≡ Some k → fold_at (folds_of op (atom_of t)) p ≡ fold_by op k
+fold-here : (op : WordOp) (t : SeqTree) (p : ℕ) (k : WordKind) → p < words t → slice_get (kinds t) p ≡ Some k
+    → fold_at (folds_of op (atom_of t)) p ≡ fold_by op k
 fold-here op t p k lt e =
     let ks = atom_kinds (atom_of t) in
     let long : length (folds_of op (atom_of t)) ≡ atom_words (atom_of t) = length-map ks (fold_by op) ∙ length-atom_kinds (atom_of t) in
     let i = p % length (folds_of op (atom_of t)) in
     let there : slice_get ks i ≡ Some k = kind-place t p (length (folds_of op (atom_of t))) lt long ∙ e in
-    get_or_from_slice_get (folds_of op (atom_of t)) i (fold_by op k) (record { op = Add; width = 0 }) (slice_get-map (fold_by op) ks i ∙ ap (option_map (fold_by op)) there)
+    get_or_from_slice_get (folds_of op (atom_of t)) i (fold_by op k) (record { op = Add; width = 0 })
+    (slice_get-map (fold_by op) ks i ∙ ap (option_map (fold_by op)) there)
 
-get-combined : (op : WordOp) (ks : List WordKind) (us vs : List ℕ) (p : ℕ) (k : WordKind) → slice_get ks p ≡ Some k → length us ≡ length ks → length vs ≡ length ks → get_or (combined op ks us vs) p 0 ≡ coded op k (get_or us p 0) (get_or vs p 0) 0
+get-combined : (op : WordOp) (ks : List WordKind) (us vs : List ℕ) (p : ℕ) (k : WordKind) → slice_get ks p ≡ Some k → length us ≡ length ks
+    → length vs ≡ length ks → get_or (combined op ks us vs) p 0 ≡ coded op k (get_or us p 0) (get_or vs p 0) 0
 get-combined op [] us vs p k e a b = cc
 get-combined op (l ∷ ks) [] vs p k e a b = absurd (omega arith)
 get-combined op (l ∷ ks) (x ∷ us) [] p k e a b = absurd (omega arith)
@@ -88,14 +91,17 @@ folded_words op t ws e = table (words t) (λ p. word_fold (folds_of op (atom_of 
 piece-at : (k o i : ℕ) (ws : List ℕ) → i < k → get_or (take k (drop o ws)) i 0 ≡ get_or ws (o + i) 0
 piece-at k o i ws lt = get_or-take k (drop o ws) i 0 lt ∙ get_or-drop o ws i 0
 
-first-words : (op : WordOp) (t : SeqTree) (ws : List ℕ) → length (take (words t) (drop (0 * words t) ws)) ≡ words t → take (words t) (drop (0 * words t) ws) ≡ folded_words op t ws 0
+first-words : (op : WordOp) (t : SeqTree) (ws : List ℕ) → length (take (words t) (drop (0 * words t) ws)) ≡ words t
+    → take (words t) (drop (0 * words t) ws) ≡ folded_words op t ws 0
 first-words op t ws long =
     let F = folds_of op (atom_of t) in
     fill_by_all (λ p. word_fold F (words t) ws p 0) (take (words t) (drop (0 * words t) ws)) (words t) 0 long
     (λ p lt. piece-at (words t) (0 * words t) p ws lt ∙ sym (fold-first (fold_at F p).op (fold_at F p).width (λ i. get_or ws (i * words t + p) 0)))
 
-next-word : (op : WordOp) (t : SeqTree) (ws : List ℕ) (e p : ℕ) → IsTrue (folds op) → p < words t → length (take (words t) (drop (suc e * words t) ws)) ≡ words t
-    → get_or (combined op (kinds t) (folded_words op t ws e) (take (words t) (drop (suc e * words t) ws))) p 0 ≡ word_fold (folds_of op (atom_of t)) (words t) ws p (suc e)
+next-word : (op : WordOp) (t : SeqTree) (ws : List ℕ) (e p : ℕ) → IsTrue (folds op) → p < words t
+    → length (take (words t) (drop (suc e * words t) ws)) ≡ words t
+    → get_or (combined op (kinds t) (folded_words op t ws e) (take (words t) (drop (suc e * words t) ws))) p 0 ≡ word_fold (folds_of op (atom_of t))
+    (words t) ws p (suc e)
 next-word op t ws e p fo lt long =
     let F = folds_of op (atom_of t) in
     let size : words t ≡ length (kinds t) = sym (length-kinds t) in
@@ -115,7 +121,8 @@ next-words : (op : WordOp) (t : SeqTree) (ws : List ℕ) (e : ℕ) → IsTrue (f
     → combined op (kinds t) (folded_words op t ws e) (take (words t) (drop (suc e * words t) ws)) ≡ folded_words op t ws (suc e)
 next-words op t ws e fo long =
     let size : words t ≡ length (kinds t) = sym (length-kinds t) in
-    fill_by_all (λ p. word_fold (folds_of op (atom_of t)) (words t) ws p (suc e)) (combined op (kinds t) (folded_words op t ws e) (take (words t) (drop (suc e * words t) ws))) (words t) 0
+    fill_by_all (λ p. word_fold (folds_of op (atom_of t)) (words t) ws p (suc e))
+    (combined op (kinds t) (folded_words op t ws e) (take (words t) (drop (suc e * words t) ws))) (words t) 0
     (length-combined op (kinds t) _ _ (length-table (words t) _ ∙ size) (long ∙ size) ∙ sym size)
     (λ p lt. next-word op t ws e p fo lt long)
 
@@ -124,7 +131,8 @@ head-fold f [] h = absurd (omega arith)
 head-fold f (x ∷ xs) h = refl
 
 -- a fold of words stands for the fold of the elements
-pub fold-stands : (op : WordOp) (t : SeqTree) (n e : ℕ) (ws : List ℕ) → IsTrue (folds op) → e < n → Fit (seq n t) ws → Stands t (folded_words op t ws e) (fold_all (wordwise op) (take (suc e) (elements (value_of (seq n t) ws))))
+pub fold-stands : (op : WordOp) (t : SeqTree) (n e : ℕ) (ws : List ℕ) → IsTrue (folds op) → e < n → Fit (seq n t) ws
+    → Stands t (folded_words op t ws e) (fold_all (wordwise op) (take (suc e) (elements (value_of (seq n t) ws))))
 fold-stands op t n zero ws fo lt h =
     let xs = elements (value_of (seq n t) ws) in
     let count = count-elements n t ws in
@@ -141,7 +149,8 @@ fold-stands op t n (suc e) ws fo lt h =
     let v = get_or xs (suc e) end in
     let sum : suc e + 1 ≡ suc (suc e) = omega arith in
     let step : fold_all g (take (suc (suc e)) xs) ≡ g (fold_all g (take (suc e) xs)) v =
-    ap (λ j. fold_all g (take j xs)) (sym sum) ∙ ap (fold_all g) (take_more xs (suc e) end (omega arith)) ∙ fold_all-push g (take (suc e) xs) v (omega (arith, length-take (suc e) xs)) in
+    ap (λ j. fold_all g (take j xs)) (sym sum) ∙ ap (fold_all g) (take_more xs (suc e) end (omega arith)) ∙
+    fold_all-push g (take (suc e) xs) v (omega (arith, length-take (suc e) xs)) in
     let fits = combined-fits op (kinds t) _ _ fo before.fits x.fits in
     let next = combined-stands op t _ _ _ _ before x fits in
     let P : List ℕ → Type 0 = λ us. Stands t us (g (fold_all g (take (suc e) xs)) v) in
@@ -149,7 +158,8 @@ fold-stands op t n (suc e) ws fo lt h =
     subst Q (sym step) (subst P (next-words op t ws e fo (length-Fit t _ x.fits)) next)
 
 -- the one fold of all elements
-pub reduce-stands : (op : WordOp) (t : SeqTree) (n : ℕ) (ws : List ℕ) → IsTrue (folds op) → 1 ≤ n → Fit (seq n t) ws → Stands (seq 1 t) (folded_words op t ws (n - 1)) (listed (fold_all (wordwise op) (elements (value_of (seq n t) ws)) ∷ []))
+pub reduce-stands : (op : WordOp) (t : SeqTree) (n : ℕ) (ws : List ℕ) → IsTrue (folds op) → 1 ≤ n → Fit (seq n t) ws
+    → Stands (seq 1 t) (folded_words op t ws (n - 1)) (listed (fold_all (wordwise op) (elements (value_of (seq n t) ws)) ∷ []))
 reduce-stands op t n ws fo some h =
     let xs = elements (value_of (seq n t) ws) in
     let count = count-elements n t ws in
@@ -159,13 +169,16 @@ reduce-stands op t n ws fo some h =
 
 -- the folds up to each element
 pub scan-stands : (op : WordOp) (t : SeqTree) (n : ℕ) (ws : List ℕ) → IsTrue (folds op) → Fit (seq n t) ws
-    → Stands (seq n t) (table (n * words t) (λ q. word_fold (folds_of op (atom_of t)) (words t) ws (q % words t) (q / words t))) (listed (folds_up_to (wordwise op) n (elements (value_of (seq n t) ws))))
+    → Stands (seq n t) (table (n * words t) (λ q. word_fold (folds_of op (atom_of t)) (words t) ws (q % words t) (q / words t)))
+    (listed (folds_up_to (wordwise op) n (elements (value_of (seq n t) ws))))
 scan-stands op t n ws fo h =
     let xs = elements (value_of (seq n t) ws) in
     let f : ℕ → ValueTree = λ i. fold_all (wordwise op) (take (i + 1) xs) in
     let sum : (i : ℕ) → suc i ≡ i + 1 = λ i. omega arith in
-    let each : (e : ℕ) → e < n → Stands t (folded_words op t ws e) (f e) = λ e lt. subst (λ j. Stands t (folded_words op t ws e) (fold_all (wordwise op) (take j xs))) (sum e) (fold-stands op t n e ws fo lt h) in
+    let each : (e : ℕ) → e < n → Stands t (folded_words op t ws e) (f e) = λ e lt. subst
+    (λ j. Stands t (folded_words op t ws e) (fold_all (wordwise op) (take j xs))) (sum e) (fold-stands op t n e ws fo lt h) in
     let rows = table-by n (words t) (λ e p. word_fold (folds_of op (atom_of t)) (words t) ws p e) in
     let P : List ℕ → Type 0 = λ us. Stands (seq n t) us (listed (table n f)) in
-    let Q : List ValueTree → Type 0 = λ vs. Stands (seq n t) (table (n * words t) (λ q. word_fold (folds_of op (atom_of t)) (words t) ws (q % words t) (q / words t))) (listed vs) in
+    let Q : List ValueTree → Type 0 = λ vs. Stands (seq n t)
+    (table (n * words t) (λ q. word_fold (folds_of op (atom_of t)) (words t) ws (q % words t) (q / words t))) (listed vs) in
     subst Q (sym (folds-table (wordwise op) n xs)) (subst P (sym rows) (stands-table t n (folded_words op t ws) f each))

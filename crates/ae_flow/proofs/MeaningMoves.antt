@@ -38,7 +38,8 @@ on-top o t old new r v type e push =
     subst P top (push.stands t type)
 
 -- the same value
-same-value : (s t : SeqTree) (ws r : List ℕ) (F : ValueTree → ValueTree) → Fit s ws → Stands t r (F (value_of s (window s 0 ws))) → Stands t r (F (value_of s ws))
+same-value : (s t : SeqTree) (ws r : List ℕ) (F : ValueTree → ValueTree) → Fit s ws → Stands t r (F (value_of s (window s 0 ws)))
+    → Stands t r (F (value_of s ws))
 same-value s t ws r F h st = subst (λ us. Stands t r (F (value_of s us))) (alone-window s ws h) st
 
 -- ---- words by their origins
@@ -53,7 +54,8 @@ moved_words how a s ws = map (origin_word (a ∷ []) (ws ∷ [])) (op_move how a
 
 -- each word is that of its origin
 moved-is : (how : MoveOp) (a s : StTree) (ws xs : List ℕ) → length xs ≡ st_atoms s * element_words s
-    → ((o : ℕ) → o < st_atoms s * element_words s → get_or xs o 0 ≡ origin_word (a ∷ []) (ws ∷ []) (origin_from how (st_atoms a) (st_atoms s) (o / element_words s) (o % element_words s))) → xs ≡ moved_words how a s ws
+    → ((o : ℕ) → o < st_atoms s * element_words s → get_or xs o 0 ≡ origin_word (a ∷ []) (ws ∷ [])
+    (origin_from how (st_atoms a) (st_atoms s) (o / element_words s) (o % element_words s))) → xs ≡ moved_words how a s ws
 moved-is how a s ws xs long h =
     let n = st_atoms s * element_words s in
     fill_by_all (λ o. origin_word (a ∷ []) (ws ∷ []) (origin_number how a s o)) xs n 0 long h
@@ -106,7 +108,8 @@ shift-above w k o h =
     let own : (k + d) * w ≡ o / w * w = ap (λ z. z * w) sum in
     omega arith
 
-module _ (k : ℕ) (a s : StTree) (ws : List ℕ) (same : element_words a ≡ element_words s) (long : length ws ≡ st_atoms s * element_words s) (small : k * element_words s ≤ length ws) where
+module _ (k : ℕ) (a s : StTree) (ws : List ℕ) (same : element_words a ≡ element_words s) (long : length ws ≡ st_atoms s * element_words s)
+    (small : k * element_words s ≤ length ws) where
   abbrev w : ℕ
   w = element_words s
 
@@ -127,7 +130,8 @@ module _ (k : ℕ) (a s : StTree) (ws : List ℕ) (same : element_words a ≡ el
       let below : o < k * w = shift-below w k o low (within-some (st_atoms s) w o lt) in
       let size = front-long in
       let inside : o < length front = omega arith in
-      get_or_append_left front back 0 o inside ∙ get_or-replicate (k * w) o 0 0 below ∙ sym (ap (origin_word (a ∷ []) (ws ∷ [])) (shift-low k (st_atoms a) (st_atoms s) (o / w) (o % w) low))
+      get_or_append_left front back 0 o inside ∙ get_or-replicate (k * w) o 0 0 below ∙
+      sym (ap (origin_word (a ∷ []) (ws ∷ [])) (shift-low k (st_atoms a) (st_atoms s) (o / w) (o % w) low))
 
   moved-word : (o : ℕ) → o < st_atoms s * w → k ≤ o / w → get_or (front ++ back) o 0 ≡ origin o
   moved-word o lt high =
@@ -142,7 +146,8 @@ module _ (k : ℕ) (a s : StTree) (ws : List ℕ) (same : element_words a ≡ el
   shift-words =
       let size = front-long in
       let whole : length (front ++ back) ≡ st_atoms s * w = omega (arith, length-append front back, length-take (length ws - k * w) ws) in
-      moved-is (Shift k) a s ws (front ++ back) whole (λ o lt. ⊎_elim (λ (low : o / w < k). zero-word o lt low) (λ (high : k ≤ o / w). moved-word o lt high) (cases_lt (o / w) k))
+      moved-is (Shift k) a s ws (front ++ back) whole (λ o lt. ⊎_elim (λ (low : o / w < k). zero-word o lt low) (λ (high : k ≤ o / w). moved-word o lt high)
+      (cases_lt (o / w) k))
 
 -- ---- repetition
 
@@ -171,7 +176,8 @@ row-below n w r j h lt =
     let own : (r + 1 + d) * w ≡ n * w = ap (λ z. z * w) sum in
     omega arith
 
-pub up-words : (c : ℕ) (a s : StTree) (ws : List ℕ) → element_words a ≡ element_words s → st_atoms s ≡ c * st_atoms a → length ws ≡ st_atoms a * element_words s → repeated c ws ≡ moved_words (Up c) a s ws
+pub up-words : (c : ℕ) (a s : StTree) (ws : List ℕ) → element_words a ≡ element_words s → st_atoms s ≡ c * st_atoms a
+    → length ws ≡ st_atoms a * element_words s → repeated c ws ≡ moved_words (Up c) a s ws
 up-words c a s ws same count long =
     let w = element_words s in
     let n = st_atoms a in
@@ -189,7 +195,8 @@ up-words c a s ws same count long =
 
 -- ---- one element
 
-pub select-words : (c : ℕ) (a s : StTree) (ws : List ℕ) → element_words a ≡ element_words s → c * (st_atoms s * element_words s) + st_atoms s * element_words s ≤ length ws
+pub select-words : (c : ℕ) (a s : StTree) (ws : List ℕ) → element_words a ≡ element_words s
+    → c * (st_atoms s * element_words s) + st_atoms s * element_words s ≤ length ws
     → take (st_atoms s * element_words s) (drop (c * (st_atoms s * element_words s)) ws) ≡ moved_words (Select c) a s ws
 select-words c a s ws same room =
     let w = element_words s in
@@ -199,7 +206,8 @@ select-words c a s ws same room =
     let e = div-add-mod' o w in
     let all : (c * m + o / w) * w ≡ c * k + o / w * w = omega arith in
     let place : (c * m + o / w) * w + o % w ≡ c * k + o = omega arith in
-    get_or-take k (drop (c * k) ws) o 0 lt ∙ get_or-drop (c * k) ws o 0 ∙ ap (λ z. get_or ws z 0) (sym place) ∙ ap (λ z. get_or ws ((c * m + o / w) * z + o % w) 0) (sym same))
+    get_or-take k (drop (c * k) ws) o 0 lt ∙ get_or-drop (c * k) ws o 0 ∙ ap (λ z. get_or ws z 0) (sym place) ∙
+    ap (λ z. get_or ws ((c * m + o / w) * z + o % w) 0) (sym same))
 
 -- ---- the moves of typed values
 
@@ -218,13 +226,16 @@ shift-stands c n t u ws type h =
     let push = shift-pushed c n k (words s) 0 s t ws mid (mid ++ top) refl refl refl there (alone s ws h) refl refl in
     let same : top ≡ rest = take-append-le (words s - c * k) ws zero_words left ∙ ap (λ j. take (j - c * k) ws) (sym long) in
     let form : mid ++ top ≡ ws ++ (zero_words ++ rest) = append_assoc ws zero_words top ∙ ap (λ ys. ws ++ (zero_words ++ ys)) same in
-    same-value s u ws (zero_words ++ rest) (λ v. listed (shifted c (elements v))) h (on-top (shift_type c s) u ws (mid ++ top) (zero_words ++ rest) _ type form push)
+    same-value s u ws (zero_words ++ rest) (λ v. listed (shifted c (elements v))) h
+    (on-top (shift_type c s) u ws (mid ++ top) (zero_words ++ rest) _ type form push)
 
-pub up-stands : (c : ℕ) (s u : SeqTree) (ws : List ℕ) → up_type c s ≡ Some u → Fit s ws → Stands u (repeated c ws) (listed (repeated c (elements (value_of s ws))))
+pub up-stands : (c : ℕ) (s u : SeqTree) (ws : List ℕ) → up_type c s ≡ Some u → Fit s ws
+    → Stands u (repeated c ws) (listed (repeated c (elements (value_of s ws))))
 up-stands c s u ws type h =
     let whole : take (words s) ws ≡ ws = alone-window s ws h in
     same-value s u ws _ (λ v. listed (repeated c (elements v))) h
-    (on-top (up_type c s) u ws (ws ++ repeated c ws) _ _ type refl (up-pushed c (words s) 0 s ws (ws ++ repeated c ws) refl (alone s ws h) (ap (λ ys. ws ++ repeated c ys) (sym whole))))
+    (on-top (up_type c s) u ws (ws ++ repeated c ws) _ _ type refl
+    (up-pushed c (words s) 0 s ws (ws ++ repeated c ws) refl (alone s ws h) (ap (λ ys. ws ++ repeated c ys) (sym whole))))
 
 pub select-stands : (c n : ℕ) (t u : SeqTree) (ws : List ℕ) → select_type c (seq n t) ≡ Some u → Fit (seq n t) ws
     → Stands u (take (words t) (drop (c * words t) ws)) (listed (take 1 (drop c (elements (value_of (seq n t) ws)))))
@@ -235,16 +246,20 @@ select-stands c n t u ws type h =
     let place : c * k ≡ 0 + c * k = omega arith in
     let r = take k (drop (c * k) ws) in
     same-value s u ws _ (λ v. listed (take 1 (drop c (elements v)))) h
-    (on-top (select_type c s) u ws (ws ++ r) r _ type refl (select-pushed c n k 0 s t ws (ws ++ r) refl refl there (alone s ws h) (ap (λ i. ws ++ take k (drop i ws)) place)))
+    (on-top (select_type c s) u ws (ws ++ r) r _ type refl
+    (select-pushed c n k 0 s t ws (ws ++ r) refl refl there (alone s ws h) (ap (λ i. ws ++ take k (drop i ws)) place)))
 
-pub partition-stands : (n m : ℕ) (s u : SeqTree) (ws : List ℕ) → partition_type n m s ≡ Some u → Fit s ws → Stands u ws (listed (map listed (cut n m (elements (value_of s ws)))))
+pub partition-stands : (n m : ℕ) (s u : SeqTree) (ws : List ℕ) → partition_type n m s ≡ Some u → Fit s ws
+    → Stands u ws (listed (map listed (cut n m (elements (value_of s ws)))))
 partition-stands n m s u ws type h =
     let whole : take (words s) ws ≡ ws = alone-window s ws h in
     same-value s u ws _ (λ v. listed (map listed (cut n m (elements v)))) h
-    (on-top (partition_type n m s) u ws (ws ++ ws) ws _ type refl (partition-pushed n m (words s) 0 s ws (ws ++ ws) refl (alone s ws h) (ap (λ ys. ws ++ ys) (sym whole))))
+    (on-top (partition_type n m s) u ws (ws ++ ws) ws _ type refl
+    (partition-pushed n m (words s) 0 s ws (ws ++ ws) refl (alone s ws h) (ap (λ ys. ws ++ ys) (sym whole))))
 
 pub unpartition-stands : (s u : SeqTree) (ws : List ℕ) → unpartition_type s ≡ Some u → Fit s ws → Stands u ws (listed (joined (elements (value_of s ws))))
 unpartition-stands s u ws type h =
     let whole : take (words s) ws ≡ ws = alone-window s ws h in
     same-value s u ws _ (λ v. listed (joined (elements v))) h
-    (on-top (unpartition_type s) u ws (ws ++ ws) ws _ type refl (unpartition-pushed (words s) 0 s ws (ws ++ ws) refl (alone s ws h) (ap (λ ys. ws ++ ys) (sym whole))))
+    (on-top (unpartition_type s) u ws (ws ++ ws) ws _ type refl
+    (unpartition-pushed (words s) 0 s ws (ws ++ ws) refl (alone s ws h) (ap (λ ys. ws ++ ys) (sym whole))))

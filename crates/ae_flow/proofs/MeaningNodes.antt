@@ -36,7 +36,8 @@ pub record Standing (ts : List SeqTree) (n : ℕ) (wss : List (List ℕ)) (vs : 
   pub values : length vs ≡ n
   pub each : (i : ℕ) (t : SeqTree) → i < n → slice_get ts i ≡ Some t → Stands t (words_at wss i) (at vs i)
 
-standing-push : (ts : List SeqTree) (n : ℕ) (wss : List (List ℕ)) (vs : List ValueTree) (ws : List ℕ) (v : ValueTree) → Standing ts n wss vs → ((t : SeqTree) → slice_get ts n ≡ Some t → Stands t ws v) → Standing ts (n + 1) (wss ++ ws ∷ []) (vs ++ v ∷ [])
+standing-push : (ts : List SeqTree) (n : ℕ) (wss : List (List ℕ)) (vs : List ValueTree) (ws : List ℕ) (v : ValueTree) → Standing ts n wss vs
+    → ((t : SeqTree) → slice_get ts n ≡ Some t → Stands t ws v) → Standing ts (n + 1) (wss ++ ws ∷ []) (vs ++ v ∷ [])
 standing-push ts n wss vs ws v h one =
     let a = h.words in
     let b = h.values in
@@ -47,33 +48,40 @@ standing-push ts n wss vs ws v h one =
         | inl low ↦
             let P : List ℕ → Type 0 = λ us. Stands t us (at (vs ++ v ∷ []) i) in
             let Q : ValueTree → Type 0 = λ y. Stands t (words_at wss i) y in
-            subst P (sym (get_or_append_left wss (ws ∷ []) [] i (omega arith))) (subst Q (sym (get_or_append_left vs (v ∷ []) end i (omega arith))) (h.each i t low e))
+            subst P (sym (get_or_append_left wss (ws ∷ []) [] i (omega arith)))
+            (subst Q (sym (get_or_append_left vs (v ∷ []) end i (omega arith))) (h.each i t low e))
         | inr high ↦
             let last : n ≡ i = omega arith in
             let P : List ℕ → Type 0 = λ us. Stands t us (at (vs ++ v ∷ []) i) in
             let Q : ValueTree → Type 0 = λ y. Stands t ws y in
-            subst P (sym (get_or_push wss ws [] i (a ∙ last))) (subst Q (sym (get_or_push vs v end i (b ∙ last))) (one t (subst (λ j. slice_get ts j ≡ Some t) (sym last) e)))
+            subst P (sym (get_or_push wss ws [] i (a ∙ last)))
+            (subst Q (sym (get_or_push vs v end i (b ∙ last))) (one t (subst (λ j. slice_get ts j ≡ Some t) (sym last) e)))
       ];
     }
 
 -- what each node adds
-module _ (ts : List SeqTree) (p : ProgramTree) (keys : Keys) (f u : ℕ) (W : List (List ℕ) → StNodeTree → List ℕ) (V : List ValueTree → NodeTree → ValueTree) where
+module _ (ts : List SeqTree) (p : ProgramTree) (keys : Keys) (f u : ℕ) (W : List (List ℕ) → StNodeTree → List ℕ)
+    (V : List ValueTree → NodeTree → ValueTree) where
   abbrev pub Adds : (i : ℕ) → List NodeTree → Type 0
   Adds i ns =
-      (q : ℕ) (n : NodeTree) (s : StNodeTree) (wss : List (List ℕ)) (vs : List ValueTree) (t : SeqTree) → slice_get ns q ≡ Some n → IsStNode p keys f u (i + q) n s → Standing ts (i + q) wss vs → slice_get ts (i + q) ≡ Some t
+      (q : ℕ) (n : NodeTree) (s : StNodeTree) (wss : List (List ℕ)) (vs : List ValueTree) (t : SeqTree) → slice_get ns q ≡ Some n
+      → IsStNode p keys f u (i + q) n s → Standing ts (i + q) wss vs → slice_get ts (i + q) ≡ Some t
       → Stands t (W wss s) (V vs n)
 
-  pub grown-stands : (i : ℕ) (ns : List NodeTree) (ss : List StNodeTree) (wss : List (List ℕ)) (vs : List ValueTree) → Adds i ns → AreStNodes p keys f u i ns ss → Standing ts i wss vs → Standing ts (i + length ns) (grown W wss ss) (grown V vs ns)
+  pub grown-stands : (i : ℕ) (ns : List NodeTree) (ss : List StNodeTree) (wss : List (List ℕ)) (vs : List ValueTree) → Adds i ns
+      → AreStNodes p keys f u i ns ss → Standing ts i wss vs → Standing ts (i + length ns) (grown W wss ss) (grown V vs ns)
   grown-stands i [] [] wss vs add h st = let e : i ≡ i + 0 = omega arith in subst (λ k. Standing ts k wss vs) e st
   grown-stands i [] (s ∷ ss) wss vs add h st = absurd h
   grown-stands i (n ∷ ns) [] wss vs add h st = absurd h
   grown-stands i (n ∷ ns) (s ∷ ss) wss vs add h st =
       let none : i ≡ i + 0 = omega arith in
       let own : (t : SeqTree) → slice_get ts i ≡ Some t → Stands t (W wss s) (V vs n) =
-      λ t e. add 0 n s wss vs t refl (subst (λ k. IsStNode p keys f u k n s) none h.0) (subst (λ k. Standing ts k wss vs) none st) (subst (λ k. slice_get ts k ≡ Some t) none e) in
+      λ t e. add 0 n s wss vs t refl (subst (λ k. IsStNode p keys f u k n s) none h.0) (subst (λ k. Standing ts k wss vs) none st)
+      (subst (λ k. slice_get ts k ≡ Some t) none e) in
       let more : Adds (i + 1) ns = λ q m x us ys t e is at type.
       (let sum : i + 1 + q ≡ i + suc q = omega arith in
-      add (suc q) m x us ys t e (subst (λ k. IsStNode p keys f u k m x) sum is) (subst (λ k. Standing ts k us ys) sum at) (subst (λ k. slice_get ts k ≡ Some t) sum type)) in
+      add (suc q) m x us ys t e (subst (λ k. IsStNode p keys f u k m x) sum is) (subst (λ k. Standing ts k us ys) sum at)
+      (subst (λ k. slice_get ts k ≡ Some t) sum type)) in
       let next = grown-stands (i + 1) ns ss (wss ++ W wss s ∷ []) (vs ++ V vs n ∷ []) more h.1 (standing-push ts i wss vs (W wss s) (V vs n) st own) in
       let sum : i + 1 + length ns ≡ i + length (n ∷ ns) = omega arith in
       subst (λ k. Standing ts k (grown W (wss ++ W wss s ∷ []) ss) (grown V (vs ++ V vs n ∷ []) ns)) sum next
@@ -91,7 +99,8 @@ record ArgsOf (p : ProgramTree) (f : ℕ) (layouts : List StTree) (wss : List (L
   all : Args p f is us (map (item_layout layouts) is) (map (words_at wss) is)
   values : map (at vs) is ≡ values_of us (map (words_at wss) is)
 
-args-of : (p : ProgramTree) (f n : ℕ) (layouts : List StTree) (wss : List (List ℕ)) (vs : List ValueTree) (is : List ℕ) (us : List SeqTree) → IsTyped p → LaidItems (types_in p f) layouts → SizedItems (types_in p f) → Standing (types_in p f) n wss vs
+args-of : (p : ProgramTree) (f n : ℕ) (layouts : List StTree) (wss : List (List ℕ)) (vs : List ValueTree) (is : List ℕ) (us : List SeqTree) → IsTyped p
+    → LaidItems (types_in p f) layouts → SizedItems (types_in p f) → Standing (types_in p f) n wss vs
     → all_below n is ≡ true → ItemsHave (types_in p f) is us → ArgsOf p f layouts wss vs is us
 args-of p f n layouts wss vs [] [] h laid sized st below have = record { all = tt; values = refl }
 args-of p f n layouts wss vs [] (u ∷ us) h laid sized st below have = absurd have
@@ -153,53 +162,71 @@ record Calls (p : ProgramTree) (known : List Callee) (g : ℕ) (made : StOpTree)
   is : made ≡ body at
   computes : Computes p g (callee_at known at)
 
-calls-by : (p : ProgramTree) (keys : Keys) (known : List Callee) (g : ℕ) (c : Call) (made : StOpTree) → AllCompute p keys known → g ≡ c.func → IsBody keys c made → Calls p known g made
-calls-by p keys known g c made all e b = record { at = b.at; is = b.is; computes = subst (λ j. Computes p j (callee_at known b.at)) (sym e) (all b.at c.func c.budget b.key) }
+calls-by : (p : ProgramTree) (keys : Keys) (known : List Callee) (g : ℕ) (c : Call) (made : StOpTree) → AllCompute p keys known → g ≡ c.func
+    → IsBody keys c made → Calls p known g made
+calls-by p keys known g c made all e b =
+    record { at = b.at; is = b.is; computes = subst (λ j. Computes p j (callee_at known b.at)) (sym e) (all b.at c.func c.budget b.key) }
 
 func-of-each : (g budget : ℕ) (o : Option Spreading) (c : Call) → each_call g budget o ≡ Some c → g ≡ c.func
 func-of-each g budget None c h = absurd (none-some c h)
 func-of-each g budget (Some s) c h = ap (λ (x : Call). x.func) (same_Some _ c h)
 
-module _ (p : ProgramTree) (keys : Keys) (known : List Callee) (f : ℕ) (typed : IsTyped p) (inside : f < length p.funcs) (all : AllCompute p keys known) (t : SeqTree) (s : StTree) (made : StOpTree) (sized : IsTrue (in_size t)) (l : LaysOut t s) where
+module _ (p : ProgramTree) (keys : Keys) (known : List Callee) (f : ℕ) (typed : IsTyped p) (inside : f < length p.funcs) (all : AllCompute p keys known)
+    (t : SeqTree) (s : StTree) (made : StOpTree) (sized : IsTrue (in_size t)) (l : LaysOut t s) where
   abbrev means : List Meaning
   means = take f (meanings p.funcs)
 
   abbrev Bodies : OpTree → List SeqTree → List StTree → List (List ℕ) → Type 0
   Bodies op us layouts wss = Stands t (op_words known layouts s made wss) (op_value means op (values_of us wss))
 
-  call-stands : (g : ℕ) (is : List ℕ) (us : List SeqTree) (layouts : List StTree) (wss : List (List ℕ)) → g < f → Args p f is us layouts wss → called (signatures (take f p.funcs)) g us ≡ Some t → Calls p known g made → Bodies (call g) us layouts wss
+  call-stands : (g : ℕ) (is : List ℕ) (us : List SeqTree) (layouts : List StTree) (wss : List (List ℕ)) → g < f → Args p f is us layouts wss
+      → called (signatures (take f p.funcs)) g us ≡ Some t → Calls p known g made → Bodies (call g) us layouts wss
   call-stands g is us layouts wss below h type calls =
       let facts = call-facts p f g us t typed below inside type in
       let fit = all-fit p f is us layouts wss h in
-      let st = call-words p g (callee_at known calls.at) t s wss calls.computes facts.result (sized-atoms t sized) l (subst (λ ts. AllFit ts wss) (sym facts.params) fit) in
-      let value : applied (meanings p.funcs) g (values_of (params_in p g) wss) ≡ applied means g (values_of us wss) = ap (λ ts. applied (meanings p.funcs) g (values_of ts wss)) facts.params ∙ sym (applied-above p f g (values_of us wss) below) in
+      let st = call-words p g (callee_at known calls.at) t s wss calls.computes facts.result (sized-atoms t sized) l
+      (subst (λ ts. AllFit ts wss) (sym facts.params) fit) in
+      let value : applied (meanings p.funcs) g (values_of (params_in p g) wss) ≡ applied means g (values_of us wss) = ap
+      (λ ts. applied (meanings p.funcs) g (values_of ts wss)) facts.params ∙ sym (applied-above p f g (values_of us wss) below) in
       rw calls.is (subst (λ v. Stands t (mapped (callee_at known calls.at) (element_count (callee_at known calls.at) s) wss) v) value st)
 
-  each-core : (g n : ℕ) (x y : SeqTree) (is : List ℕ) (layouts : List StTree) (wss : List (List ℕ)) → g < f → Args p f is (seq n x ∷ []) layouts wss → called (signatures (take f p.funcs)) g (x ∷ []) ≡ Some y → seq n y ≡ t → Calls p known g made
+  each-core : (g n : ℕ) (x y : SeqTree) (is : List ℕ) (layouts : List StTree) (wss : List (List ℕ)) → g < f → Args p f is (seq n x ∷ []) layouts wss
+      → called (signatures (take f p.funcs)) g (x ∷ []) ≡ Some y → seq n y ≡ t → Calls p known g made
       → Bodies (each g) (seq n x ∷ []) layouts wss
-  each-core g n x y is layouts wss below h type same calls = by-one p f (λ is layouts wss. Bodies (each g) (seq n x ∷ []) layouts wss) is (seq n x) layouts wss h (λ i a ws arg.
+  each-core g n x y is layouts wss below h type same calls = by-one p f (λ is layouts wss. Bodies (each g) (seq n x ∷ []) layouts wss) is
+      (seq n x) layouts wss h (λ i a ws arg.
       let facts = call-facts p f g (x ∷ []) y typed below inside type in
       let some = element-atoms n y (subst (λ z. IsTrue (in_size z)) (sym same) sized) in
-      let st = each-words p g n (callee_at known calls.at) x y s ws calls.computes facts.result facts.params some (subst (λ z. LaysOut z s) (sym same) l) arg.fits in
-      let value = map-same (λ v. applied (meanings p.funcs) g (v ∷ [])) (λ v. applied means g (v ∷ [])) (λ v. sym (applied-above p f g (v ∷ []) below)) (elements (value_of (seq n x) ws)) in
-      rw (calls.is, ← same) (subst (λ vs. Stands (seq n y) (mapped (callee_at known calls.at) (element_count (callee_at known calls.at) s) (ws ∷ [])) (listed vs)) value st))
+      let st = each-words p g n (callee_at known calls.at) x y s ws calls.computes facts.result facts.params some
+      (subst (λ z. LaysOut z s) (sym same) l) arg.fits in
+      let value = map-same (λ v. applied (meanings p.funcs) g (v ∷ [])) (λ v. applied means g (v ∷ [])) (λ v. sym (applied-above p f g (v ∷ []) below))
+      (elements (value_of (seq n x) ws)) in
+      rw (calls.is, ← same) (subst (λ vs. Stands (seq n y) (mapped (callee_at known calls.at) (element_count (callee_at known calls.at) s) (ws ∷ []))
+      (listed vs)) value st))
 
-  each-stands : (g : ℕ) (z : SeqTree) (is : List ℕ) (layouts : List StTree) (wss : List (List ℕ)) → g < f → Args p f is (z ∷ []) layouts wss → each_type (signatures (take f p.funcs)) g z ≡ Some t → Calls p known g made → Bodies (each g) (z ∷ []) layouts wss
+  each-stands : (g : ℕ) (z : SeqTree) (is : List ℕ) (layouts : List StTree) (wss : List (List ℕ)) → g < f → Args p f is (z ∷ []) layouts wss
+      → each_type (signatures (take f p.funcs)) g z ≡ Some t → Calls p known g made → Bodies (each g) (z ∷ []) layouts wss
   each-stands g (atom a) is layouts wss below h type calls = absurd (none-some t type)
   each-stands g (seq n x) is layouts wss below h type calls =
       let r = option-both (called (signatures (take f p.funcs)) g (x ∷ [])) (λ (y : SeqTree). Some (seq n y)) t type in
       each-core g n x r.0 is layouts wss below h r.1 (same_Some _ t r.2) calls
 
-  each-two-core : (g n : ℕ) (x z y : SeqTree) (is : List ℕ) (layouts : List StTree) (wss : List (List ℕ)) → g < f → Args p f is (seq n x ∷ seq n z ∷ []) layouts wss → called (signatures (take f p.funcs)) g (x ∷ z ∷ []) ≡ Some y → seq n y ≡ t → Calls p known g made
+  each-two-core : (g n : ℕ) (x z y : SeqTree) (is : List ℕ) (layouts : List StTree) (wss : List (List ℕ)) → g < f
+      → Args p f is (seq n x ∷ seq n z ∷ []) layouts wss → called (signatures (take f p.funcs)) g (x ∷ z ∷ []) ≡ Some y → seq n y ≡ t → Calls p known g made
       → Bodies (each_two g) (seq n x ∷ seq n z ∷ []) layouts wss
-  each-two-core g n x z y is layouts wss below h type same calls = by-two p f (λ is layouts wss. Bodies (each_two g) (seq n x ∷ seq n z ∷ []) layouts wss) is (seq n x) (seq n z) layouts wss h (λ i j a b ws us first second.
+  each-two-core g n x z y is layouts wss below h type same calls = by-two p f (λ is layouts wss. Bodies (each_two g) (seq n x ∷ seq n z ∷ []) layouts wss) is
+      (seq n x) (seq n z) layouts wss h (λ i j a b ws us first second.
       let facts = call-facts p f g (x ∷ z ∷ []) y typed below inside type in
       let some = element-atoms n y (subst (λ w. IsTrue (in_size w)) (sym same) sized) in
-      let st = each-two-words p g n (callee_at known calls.at) x z y s ws us calls.computes facts.result facts.params some (subst (λ w. LaysOut w s) (sym same) l) first.fits second.fits in
-      let value = map_two-same (λ v w. applied (meanings p.funcs) g (v ∷ w ∷ [])) (λ v w. applied means g (v ∷ w ∷ [])) (λ v w. sym (applied-above p f g (v ∷ w ∷ []) below)) (elements (value_of (seq n x) ws)) (elements (value_of (seq n z) us)) in
-      rw (calls.is, ← same) (subst (λ vs. Stands (seq n y) (mapped (callee_at known calls.at) (element_count (callee_at known calls.at) s) (ws ∷ us ∷ [])) (listed vs)) value st))
+      let st = each-two-words p g n (callee_at known calls.at) x z y s ws us calls.computes facts.result facts.params some
+      (subst (λ w. LaysOut w s) (sym same) l) first.fits second.fits in
+      let value = map_two-same (λ v w. applied (meanings p.funcs) g (v ∷ w ∷ [])) (λ v w. applied means g (v ∷ w ∷ []))
+      (λ v w. sym (applied-above p f g (v ∷ w ∷ []) below)) (elements (value_of (seq n x) ws)) (elements (value_of (seq n z) us)) in
+      rw (calls.is, ← same) (subst (λ vs. Stands (seq n y) (mapped (callee_at known calls.at) (element_count (callee_at known calls.at) s) (ws ∷ us ∷ []))
+      (listed vs)) value st))
 
-  each-two-stands : (g : ℕ) (v w : SeqTree) (is : List ℕ) (layouts : List StTree) (wss : List (List ℕ)) → g < f → Args p f is (v ∷ w ∷ []) layouts wss → each_two_type (signatures (take f p.funcs)) g v w ≡ Some t → Calls p known g made
+  each-two-stands : (g : ℕ) (v w : SeqTree) (is : List ℕ) (layouts : List StTree) (wss : List (List ℕ)) → g < f → Args p f is (v ∷ w ∷ []) layouts wss
+      → each_two_type (signatures (take f p.funcs)) g v w ≡ Some t → Calls p known g made
       → Bodies (each_two g) (v ∷ w ∷ []) layouts wss
   each-two-stands g (atom a) w is layouts wss below h type calls = absurd (none-some t type)
   each-two-stands g (seq n x) (atom b) is layouts wss below h type calls = absurd (none-some t type)
@@ -210,7 +237,8 @@ module _ (p : ProgramTree) (keys : Keys) (known : List Callee) (f : ℕ) (typed 
       let P : ℕ → Type 0 = λ k. Args p f is (seq n x ∷ seq k z ∷ []) layouts wss → Bodies (each_two g) (seq n x ∷ seq k z ∷ []) layouts wss in
       subst P e (λ k. each-two-core g n x z r.0 is layouts wss below k r.1 (same_Some _ t r.2) calls) h
 
-  body-stands : (v budget : ℕ) (o : Option Spreading) (c : Call) (op : OpTree) (is : List ℕ) (us : List SeqTree) (layouts : List StTree) (wss : List (List ℕ)) → is_line v f op ≡ true → call_of op budget o ≡ Some c → IsBody keys c made → Args p f is us layouts wss
+  body-stands : (v budget : ℕ) (o : Option Spreading) (c : Call) (op : OpTree) (is : List ℕ) (us : List SeqTree) (layouts : List StTree) (wss : List (List ℕ))
+      → is_line v f op ≡ true → call_of op budget o ≡ Some c → IsBody keys c made → Args p f is us layouts wss
       → op_type (signatures (take f p.funcs)) op us ≡ Some t → Bodies op us layouts wss
   body-stands v budget o c (call g) is us layouts wss line by b h type =
       let below : g < f = grind (arith, nat_tests) in
@@ -236,16 +264,22 @@ folds-in-line v n (scan op) h = grind (arith, nat_tests)
 folds-in-line v n _ h = tt
 
 -- a node calls, or it does something else
-by-call : (p : ProgramTree) (keys : Keys) (known : List Callee) (f budget : ℕ) (typed : IsTyped p) (inside : f < length p.funcs) (all : AllCompute p keys known) (t : SeqTree) (s : StTree) (made : StOpTree) → IsTrue (in_size t) → LaysOut t s
-    → (op : OpTree) (is : List ℕ) (us : List SeqTree) (layouts : List StTree) (wss : List (List ℕ)) → is_line p.version f op ≡ true → Args p f is us layouts wss → op_type (signatures (take f p.funcs)) op us ≡ Some t
-    → (spread : Option Spreading) (o : Option Call) → call_of op budget spread ≡ o → IsOp keys o (plain_op p f budget op is) made → Stands t (op_words known layouts s made wss) (op_value (take f (meanings p.funcs)) op (values_of us wss))
+by-call : (p : ProgramTree) (keys : Keys) (known : List Callee) (f budget : ℕ) (typed : IsTyped p) (inside : f < length p.funcs)
+    (all : AllCompute p keys known) (t : SeqTree) (s : StTree) (made : StOpTree) → IsTrue (in_size t) → LaysOut t s
+    → (op : OpTree) (is : List ℕ) (us : List SeqTree) (layouts : List StTree) (wss : List (List ℕ)) → is_line p.version f op ≡ true
+    → Args p f is us layouts wss → op_type (signatures (take f p.funcs)) op us ≡ Some t
+    → (spread : Option Spreading) (o : Option Call) → call_of op budget spread ≡ o → IsOp keys o (plain_op p f budget op is) made
+    → Stands t (op_words known layouts s made wss) (op_value (take f (meanings p.funcs)) op (values_of us wss))
 by-call p keys known f budget typed inside all t s made sized l op is us layouts wss line h type spread None e is_op =
-    plain-stands known (take f (meanings p.funcs)) (signatures (take f p.funcs)) p f budget t s made l op is us layouts wss (folds-in-line p.version f op line) h type is_op
+    plain-stands known (take f (meanings p.funcs)) (signatures (take f p.funcs)) p f budget t s made l op is us layouts wss
+    (folds-in-line p.version f op line) h type is_op
 by-call p keys known f budget typed inside all t s made sized l op is us layouts wss line h type spread (Some c) e is_op =
     body-stands p keys known f typed inside all t s made sized l p.version budget spread c op is us layouts wss line e is_op h type
 
-pub node-stands : (p : ProgramTree) (keys : Keys) (known : List Callee) (f budget : ℕ) (layouts : List StTree) → IsTyped p → f < length p.funcs → AllCompute p keys known → LaidItems (types_in p f) layouts → SizedItems (types_in p f)
-    → (q : ℕ) (n : NodeTree) (s : StNodeTree) (wss : List (List ℕ)) (vs : List ValueTree) (t : SeqTree) → slice_get (nodes_in p f) q ≡ Some n → IsStNode p keys f budget (item_of p f q) n s → Standing (types_in p f) (item_of p f q) wss vs
+pub node-stands : (p : ProgramTree) (keys : Keys) (known : List Callee) (f budget : ℕ) (layouts : List StTree) → IsTyped p → f < length p.funcs
+    → AllCompute p keys known → LaidItems (types_in p f) layouts → SizedItems (types_in p f)
+    → (q : ℕ) (n : NodeTree) (s : StNodeTree) (wss : List (List ℕ)) (vs : List ValueTree) (t : SeqTree) → slice_get (nodes_in p f) q ≡ Some n
+    → IsStNode p keys f budget (item_of p f q) n s → Standing (types_in p f) (item_of p f q) wss vs
     → slice_get (types_in p f) (item_of p f q) ≡ Some t → Stands t (node_words known layouts wss s) (node_value (take f (meanings p.funcs)) vs n)
 node-stands p keys known f budget layouts typed inside all laid sized q n s wss vs t here is st own =
     let facts = line-facts p f q n typed inside here in
@@ -256,7 +290,10 @@ node-stands p keys known f budget layouts typed inside all laid sized q n s wss 
     let l = lays-out t budget s.type (grind (arith, nat_tests)) lay in
     let args = args-of p f (item_of p f q) layouts wss vs n.args facts.args typed laid sized st facts.below facts.have in
     let type : op_type (signatures (take f p.funcs)) n.op facts.args ≡ Some t = facts.typed ∙ ap (λ (z : SeqTree). Some z) same in
-    let made = by-call p keys known f budget typed inside all t s.type s.op small l n.op n.args facts.args (map (item_layout layouts) n.args) (map (words_at wss) n.args) facts.line args.all type (spread_at p f budget (head n.args)) (called_by p f budget n) refl is.op in
-    let P : List ValueTree → Type 0 = λ ys. Stands t (op_words known (map (item_layout layouts) n.args) s.type s.op (map (words_at wss) n.args)) (op_value (take f (meanings p.funcs)) n.op ys) in
-    let Q : List ℕ → Type 0 = λ is. Stands t (op_words known (map (item_layout layouts) is) s.type s.op (map (words_at wss) is)) (node_value (take f (meanings p.funcs)) vs n) in
+    let made = by-call p keys known f budget typed inside all t s.type s.op small l n.op n.args facts.args (map (item_layout layouts) n.args)
+    (map (words_at wss) n.args) facts.line args.all type (spread_at p f budget (head n.args)) (called_by p f budget n) refl is.op in
+    let P : List ValueTree → Type 0 = λ ys. Stands t (op_words known (map (item_layout layouts) n.args) s.type s.op (map (words_at wss) n.args))
+    (op_value (take f (meanings p.funcs)) n.op ys) in
+    let Q : List ℕ → Type 0 = λ is. Stands t (op_words known (map (item_layout layouts) is) s.type s.op (map (words_at wss) is))
+    (node_value (take f (meanings p.funcs)) vs n) in
     subst Q (sym is.args) (subst P (sym args.values) made)

@@ -54,7 +54,8 @@ module _ (p : ProgramTree) (f : ℕ) (P : List ℕ → List StTree → List (Lis
   by-none (i ∷ is) layouts wss h k = absurd h
 
   by-some : (is : List ℕ) (u : SeqTree) (us : List SeqTree) (layouts : List StTree) (wss : List (List ℕ)) → Args p f is (u ∷ us) layouts wss
-      → ((i : ℕ) (js : List ℕ) (a : StTree) (bs : List StTree) (ws : List ℕ) (xss : List (List ℕ)) → Arg p f i u a ws → Args p f js us bs xss → P (i ∷ js) (a ∷ bs) (ws ∷ xss)) → P is layouts wss
+      → ((i : ℕ) (js : List ℕ) (a : StTree) (bs : List StTree) (ws : List ℕ) (xss : List (List ℕ)) → Arg p f i u a ws → Args p f js us bs xss
+      → P (i ∷ js) (a ∷ bs) (ws ∷ xss)) → P is layouts wss
   by-some [] u us layouts wss h k = absurd h
   by-some (i ∷ is) u us [] wss h k = absurd h
   by-some (i ∷ is) u us (a ∷ layouts) [] h k = absurd h
@@ -63,17 +64,22 @@ module _ (p : ProgramTree) (f : ℕ) (P : List ℕ → List StTree → List (Lis
 module _ (p : ProgramTree) (f : ℕ) (P : List ℕ → List StTree → List (List ℕ) → Type 0) where
   pub by-one : (is : List ℕ) (u : SeqTree) (layouts : List StTree) (wss : List (List ℕ)) → Args p f is (u ∷ []) layouts wss
       → ((i : ℕ) (a : StTree) (ws : List ℕ) → Arg p f i u a ws → P (i ∷ []) (a ∷ []) (ws ∷ [])) → P is layouts wss
-  by-one is u layouts wss h k = by-some p f P is u [] layouts wss h (λ i js a bs ws xss x r. by-none p f (λ is layouts wss. P (i ∷ is) (a ∷ layouts) (ws ∷ wss)) js bs xss r (k i a ws x))
+  by-one is u layouts wss h k = by-some p f P is u [] layouts wss h
+      (λ i js a bs ws xss x r. by-none p f (λ is layouts wss. P (i ∷ is) (a ∷ layouts) (ws ∷ wss)) js bs xss r (k i a ws x))
 
 module _ (p : ProgramTree) (f : ℕ) (P : List ℕ → List StTree → List (List ℕ) → Type 0) where
   pub by-two : (is : List ℕ) (u z : SeqTree) (layouts : List StTree) (wss : List (List ℕ)) → Args p f is (u ∷ z ∷ []) layouts wss
       → ((i j : ℕ) (a b : StTree) (ws us : List ℕ) → Arg p f i u a ws → Arg p f j z b us → P (i ∷ j ∷ []) (a ∷ b ∷ []) (ws ∷ us ∷ [])) → P is layouts wss
-  by-two is u z layouts wss h k = by-some p f P is u (z ∷ []) layouts wss h (λ i js a bs ws xss x r. by-one p f (λ is layouts wss. P (i ∷ is) (a ∷ layouts) (ws ∷ wss)) js z bs xss r (λ j b us y. k i j a b ws us x y))
+  by-two is u z layouts wss h k = by-some p f P is u (z ∷ []) layouts wss h
+      (λ i js a bs ws xss x r. by-one p f (λ is layouts wss. P (i ∷ is) (a ∷ layouts) (ws ∷ wss)) js z bs xss r (λ j b us y. k i j a b ws us x y))
 
 module _ (p : ProgramTree) (f : ℕ) (P : List ℕ → List StTree → List (List ℕ) → Type 0) where
   by-three : (is : List ℕ) (u z w : SeqTree) (layouts : List StTree) (wss : List (List ℕ)) → Args p f is (u ∷ z ∷ w ∷ []) layouts wss
-      → ((i j l : ℕ) (a b c : StTree) (ws us vs : List ℕ) → Arg p f i u a ws → Arg p f j z b us → Arg p f l w c vs → P (i ∷ j ∷ l ∷ []) (a ∷ b ∷ c ∷ []) (ws ∷ us ∷ vs ∷ [])) → P is layouts wss
-  by-three is u z w layouts wss h k = by-some p f P is u (z ∷ w ∷ []) layouts wss h (λ i js a bs ws xss x r. by-two p f (λ is layouts wss. P (i ∷ is) (a ∷ layouts) (ws ∷ wss)) js z w bs xss r (λ j l b c us vs y v. k i j l a b c ws us vs x y v))
+      → ((i j l : ℕ) (a b c : StTree) (ws us vs : List ℕ) → Arg p f i u a ws → Arg p f j z b us → Arg p f l w c vs
+      → P (i ∷ j ∷ l ∷ []) (a ∷ b ∷ c ∷ []) (ws ∷ us ∷ vs ∷ [])) → P is layouts wss
+  by-three is u z w layouts wss h k = by-some p f P is u (z ∷ w ∷ []) layouts wss h
+      (λ i js a bs ws xss x r. by-two p f (λ is layouts wss. P (i ∷ is) (a ∷ layouts) (ws ∷ wss)) js z w bs xss r
+      (λ j l b c us vs y v. k i j l a b c ws us vs x y v))
 
 -- ---- the operator of a node
 
@@ -81,7 +87,8 @@ operand-plain : (op : WordOp) (is : List ℕ) → (op ≡ Mux → ⊥) → decid
 operand-plain Mux is h = absurd (h refl)
 operand-plain _ is h = refl
 
-sign-of : (p : ProgramTree) (f i : ℕ) (u : SeqTree) (op : WordOp) (is : List ℕ) → deciding_argument op is ≡ i → type_at p f i ≡ Some u → IsSign u (is_signed_type (type_at p f (deciding_argument op is)))
+sign-of : (p : ProgramTree) (f i : ℕ) (u : SeqTree) (op : WordOp) (is : List ℕ) → deciding_argument op is ≡ i → type_at p f i ≡ Some u
+    → IsSign u (is_signed_type (type_at p f (deciding_argument op is)))
 sign-of p f i u op is e type k same = ap (λ j. is_signed_type (type_at p f j)) e ∙ ap is_signed_type (type ∙ ap (λ (z : SeqTree). Some z) same)
 
 no-operands : (op : WordOp) (t : SeqTree) → word_type op [] ≡ Some t → ⊥
@@ -111,7 +118,8 @@ some-elements n u h = grind (arith, nat_tests)
 
 -- ---- folds and scans
 
-fold-form : (op : WordOp) (u : SeqTree) (n m : ℕ) (s : StTree) (ws : List ℕ) → LaysOut (seq 1 u) s → m ≡ n → folded_words op u ws (n - 1) ≡ fold_words op s (layout_words s) m ws
+fold-form : (op : WordOp) (u : SeqTree) (n m : ℕ) (s : StTree) (ws : List ℕ) → LaysOut (seq 1 u) s → m ≡ n
+    → folded_words op u ws (n - 1) ≡ fold_words op s (layout_words s) m ws
 fold-form op u n m s ws l e =
     let size : layout_words s ≡ words u = layout-size (seq 1 u) s l ∙ omega arith in
     sym (ap (λ a. table (layout_words s) (λ q. word_fold (map (fold_by op) (atom_kinds a)) (layout_words s) ws q (m - 1))) l.atom
@@ -122,11 +130,14 @@ fold-form op u n m s ws l e =
 abbrev scan_by : WordOp → AtomTree → (size n : ℕ) → List ℕ → List ℕ
 scan_by op a k n ws = table (n * k) (λ q. word_fold (folds_of op a) k ws (q % k) (q / k))
 
-scan-form : (op : WordOp) (u : SeqTree) (n m : ℕ) (s : StTree) (ws : List ℕ) → LaysOut (seq n u) s → m ≡ n → 0 < n → scan_by op (atom_of u) (words u) n ws ≡ scan_words op s (layout_words s / m) m ws
+scan-form : (op : WordOp) (u : SeqTree) (n m : ℕ) (s : StTree) (ws : List ℕ) → LaysOut (seq n u) s → m ≡ n → 0 < n
+    → scan_by op (atom_of u) (words u) n ws ≡ scan_words op s (layout_words s / m) m ws
 scan-form op u n m s ws l e some =
     let turn : n * words u ≡ words u * n = omega arith in
-    let size : layout_words s / m ≡ words u = ap (λ k. k / m) (layout-size (seq n u) s l) ∙ ap (λ k. n * words u / k) e ∙ ap (λ k. k / n) turn ∙ mul-div_cancel (words u) some in
-    sym (ap (λ a. scan_by op a (layout_words s / m) m ws) l.atom ∙ ap (λ k. scan_by op (atom_of u) k m ws) size ∙ ap (λ k. scan_by op (atom_of u) (words u) k ws) e)
+    let size : layout_words s / m ≡ words u = ap (λ k. k / m) (layout-size (seq n u) s l) ∙ ap (λ k. n * words u / k) e ∙ ap (λ k. k / n) turn ∙
+    mul-div_cancel (words u) some in
+    sym (ap (λ a. scan_by op a (layout_words s / m) m ws) l.atom ∙ ap (λ k. scan_by op (atom_of u) k m ws) size ∙
+    ap (λ k. scan_by op (atom_of u) (words u) k ws) e)
 
 -- how the first argument is spread
 spread-case : (p : ProgramTree) (f budget i n : ℕ) (u : SeqTree) (s : Spreading) → type_at p f i ≡ Some (seq n u) → spread_at p f budget i ≡ Some s
@@ -136,52 +147,66 @@ spread-case p f budget i n u s type h =
     map-some (λ (c : Case). record { count = n; of = u; case = c }) (case_of n budget) s own
 
 -- slots and lanes together have all elements
-lanes-all : (n budget : ℕ) (u : SeqTree) (c : Case) (s : Spreading) → 0 < n → case_of n budget ≡ Some c → record { count = n; of = u; case = c } ≡ s → slots_of s.count budget s.case * lanes_of s.count budget s.case ≡ n
-lanes-all n budget u c s some at e = sym (ap (λ (x : Spreading). slots_of x.count budget x.case * lanes_of x.count budget x.case) e) ∙ spread-all n budget c some at
+lanes-all : (n budget : ℕ) (u : SeqTree) (c : Case) (s : Spreading) → 0 < n → case_of n budget ≡ Some c → record { count = n; of = u; case = c } ≡ s
+    → slots_of s.count budget s.case * lanes_of s.count budget s.case ≡ n
+lanes-all n budget u c s some at e =
+    sym (ap (λ (x : Spreading). slots_of x.count budget x.case * lanes_of x.count budget x.case) e) ∙ spread-all n budget c some at
 
 module _ (known : List Callee) (means : List Meaning) where
-  reduce-op : (p : ProgramTree) (f budget i n : ℕ) (op : WordOp) (u t : SeqTree) (a s : StTree) (ws : List ℕ) (made : StOpTree) → IsTrue (folds op) → Arg p f i (seq n u) a ws → seq 1 u ≡ t → LaysOut t s
-      → (spread_at p f budget i >>= fold_of op budget) ≡ Some made → Stands t (op_words known (a ∷ []) s made (ws ∷ [])) (op_value means (reduce op) (value_of (seq n u) ws ∷ []))
+  reduce-op : (p : ProgramTree) (f budget i n : ℕ) (op : WordOp) (u t : SeqTree) (a s : StTree) (ws : List ℕ) (made : StOpTree) → IsTrue (folds op)
+      → Arg p f i (seq n u) a ws → seq 1 u ≡ t → LaysOut t s
+      → (spread_at p f budget i >>= fold_of op budget) ≡ Some made
+      → Stands t (op_words known (a ∷ []) s made (ws ∷ [])) (op_value means (reduce op) (value_of (seq n u) ws ∷ []))
   reduce-op p f budget i n op u t a s ws made fo x e l plain =
       option_and_then_some (fold_of op budget) (spread_at p f budget i) made plain (λ d at found.
       let some = some-elements n u x.sized in
       let r = spread-case p f budget i n u d x.type at in
-      let m = map-some (λ y. fold op (slots_of d.count budget d.case) (lanes_of d.count budget d.case) (raw_layout budget (inner_of d.count budget d.case) y)) (lay_of d.of (inner_of d.count budget d.case)) made found in
+      let m = map-some (λ y. fold op (slots_of d.count budget d.case) (lanes_of d.count budget d.case) (raw_layout budget (inner_of d.count budget d.case) y))
+      (lay_of d.of (inner_of d.count budget d.case)) made found in
       let out : LaysOut (seq 1 u) s = subst (λ z. LaysOut z s) (sym e) l in
       let form = fold-form op u n (slots_of d.count budget d.case * lanes_of d.count budget d.case) s ws out (lanes-all n budget u r.0 d some r.1 r.2) in
       let v = listed (fold_all (wordwise op) (elements (value_of (seq n u) ws)) ∷ []) in
       rw (← m.2, ← e) (subst (λ us. Stands (seq 1 u) us v) form (reduce-stands op u n ws fo some x.fits)))
 
-  scan-op : (p : ProgramTree) (f budget i n : ℕ) (op : WordOp) (u t : SeqTree) (a s : StTree) (ws : List ℕ) (made : StOpTree) → IsTrue (folds op) → Arg p f i (seq n u) a ws → seq n u ≡ t → LaysOut t s
-      → option_map (scan_of op budget) (spread_at p f budget i) ≡ Some made → Stands t (op_words known (a ∷ []) s made (ws ∷ [])) (op_value means (scan op) (value_of (seq n u) ws ∷ []))
+  scan-op : (p : ProgramTree) (f budget i n : ℕ) (op : WordOp) (u t : SeqTree) (a s : StTree) (ws : List ℕ) (made : StOpTree) → IsTrue (folds op)
+      → Arg p f i (seq n u) a ws → seq n u ≡ t → LaysOut t s
+      → option_map (scan_of op budget) (spread_at p f budget i) ≡ Some made
+      → Stands t (op_words known (a ∷ []) s made (ws ∷ [])) (op_value means (scan op) (value_of (seq n u) ws ∷ []))
   scan-op p f budget i n op u t a s ws made fo x e l plain =
       let d = map-some (scan_of op budget) (spread_at p f budget i) made plain in
       let some = some-elements n u x.sized in
       let r = spread-case p f budget i n u d.0 x.type d.1 in
       let out : LaysOut (seq n u) s = subst (λ z. LaysOut z s) (sym e) l in
-      let form = scan-form op u n (slots_of d.0.count budget d.0.case * lanes_of d.0.count budget d.0.case) s ws out (lanes-all n budget u r.0 d.0 some r.1 r.2) some in
+      let form = scan-form op u n (slots_of d.0.count budget d.0.case * lanes_of d.0.count budget d.0.case) s ws out
+      (lanes-all n budget u r.0 d.0 some r.1 r.2) some in
       let xs = elements (value_of (seq n u) ws) in
-      let P : ℕ → Type 0 = λ k. Stands (seq n u) (scan_words op s (layout_words s / (slots_of d.0.count budget d.0.case * lanes_of d.0.count budget d.0.case)) (slots_of d.0.count budget d.0.case * lanes_of d.0.count budget d.0.case) ws) (listed (folds_up_to (wordwise op) k xs)) in
-      rw (← d.2, ← e) (subst P (sym (count-elements n u ws)) (subst (λ us. Stands (seq n u) us (listed (folds_up_to (wordwise op) n xs))) form (scan-stands op u n ws fo x.fits)))
+      let P : ℕ → Type 0 = λ k. Stands (seq n u) (scan_words op s (layout_words s / (slots_of d.0.count budget d.0.case * lanes_of d.0.count budget d.0.case))
+      (slots_of d.0.count budget d.0.case * lanes_of d.0.count budget d.0.case) ws) (listed (folds_up_to (wordwise op) k xs)) in
+      rw (← d.2, ← e) (subst P (sym (count-elements n u ws))
+      (subst (λ us. Stands (seq n u) us (listed (folds_up_to (wordwise op) n xs))) form (scan-stands op u n ws fo x.fits)))
 
 -- ---- moves
 
-shift-op : (c n : ℕ) (u t : SeqTree) (a s : StTree) (ws : List ℕ) → LaysOut (seq n u) a → Fit (seq n u) ws → op_type [] (shift c) (seq n u ∷ []) ≡ Some t → LaysOut t s
+shift-op : (c n : ℕ) (u t : SeqTree) (a s : StTree) (ws : List ℕ) → LaysOut (seq n u) a → Fit (seq n u) ws → op_type [] (shift c) (seq n u ∷ []) ≡ Some t
+    → LaysOut t s
     → Stands t (moved_words (Shift (c * atoms u)) a s ws) (op_value [] (shift c) (value_of (seq n u) ws ∷ []))
 shift-op c n u t a s ws l h type o =
     let same : seq n u ≡ t = same_Some _ t (where_ok-some (nat_le c n) (Some (seq n u)) t type).1 in
     let own : LaysOut (seq n u) s = subst (λ z. LaysOut z s) (sym same) o in
     let z = sizes (seq n u) (seq n u) a s ws refl l own h in
-    let k : c * atoms u * element_words s ≡ c * words u = ap (λ j. c * atoms u * j) (element-size (seq n u) s own) ∙ mul_assoc c (atoms u) (atom_words (atom_of u)) ∙ ap (λ j. c * j) (sym (words-atoms u)) in
+    let k : c * atoms u * element_words s ≡ c * words u = ap (λ j. c * atoms u * j) (element-size (seq n u) s own) ∙
+    mul_assoc c (atoms u) (atom_words (atom_of u)) ∙ ap (λ j. c * j) (sym (words-atoms u)) in
     let long : length ws ≡ st_atoms s * element_words s = length-Fit (seq n u) ws h ∙ sym (layout-size (seq n u) s own) in
     let there : IsSome (op_type [] (shift c) (seq n u ∷ [])) = rw type refl in
     let room = shift-room c n (words u) (seq n u) u refl refl there in
     let size = length-Fit (seq n u) ws h in
     let form = shift-words (c * atoms u) a s ws z.element long (omega (arith, k, room, size)) in
-    let whole : replicate (c * words u) 0 ++ take (length ws - c * words u) ws ≡ moved_words (Shift (c * atoms u)) a s ws = ap (λ j. replicate j 0 ++ take (length ws - j) ws) (sym k) ∙ form in
+    let whole : replicate (c * words u) 0 ++ take (length ws - c * words u) ws ≡ moved_words (Shift (c * atoms u)) a s ws = ap
+    (λ j. replicate j 0 ++ take (length ws - j) ws) (sym k) ∙ form in
     subst (λ us. Stands t us (op_value [] (shift c) (value_of (seq n u) ws ∷ []))) whole (shift-stands c n u t ws type h)
 
-up-op : (c m : ℕ) (u t : SeqTree) (a s : StTree) (ws : List ℕ) → LaysOut (seq m u) a → Fit (seq m u) ws → op_type [] (up c) (seq m u ∷ []) ≡ Some t → LaysOut t s
+up-op : (c m : ℕ) (u t : SeqTree) (a s : StTree) (ws : List ℕ) → LaysOut (seq m u) a → Fit (seq m u) ws → op_type [] (up c) (seq m u ∷ []) ≡ Some t
+    → LaysOut t s
     → Stands t (moved_words (Up c) a s ws) (op_value [] (up c) (value_of (seq m u) ws ∷ []))
 up-op c m u t a s ws l h type o =
     let ok = where_ok-some (m == 1) (Some (seq c u)) t type in
@@ -192,7 +217,8 @@ up-op c m u t a s ws l h type o =
     let count : st_atoms s ≡ c * st_atoms a = own.atoms ∙ ap (λ k. c * k) (sym (l.atoms ∙ part)) in
     subst (λ us. Stands t us (op_value [] (up c) (value_of (seq m u) ws ∷ []))) (up-words c a s ws z.element count z.long) (up-stands c (seq m u) t ws type h)
 
-select-op : (c n : ℕ) (u t : SeqTree) (a s : StTree) (ws : List ℕ) → LaysOut (seq n u) a → Fit (seq n u) ws → op_type [] (select c) (seq n u ∷ []) ≡ Some t → LaysOut t s
+select-op : (c n : ℕ) (u t : SeqTree) (a s : StTree) (ws : List ℕ) → LaysOut (seq n u) a → Fit (seq n u) ws → op_type [] (select c) (seq n u ∷ []) ≡ Some t
+    → LaysOut t s
     → Stands t (moved_words (Select c) a s ws) (op_value [] (select c) (value_of (seq n u) ws ∷ []))
 select-op c n u t a s ws l h type o =
     let ok = where_ok-some (nat_lt c n) (Some (seq 1 u)) t type in
@@ -206,7 +232,8 @@ select-op c n u t a s ws l h type o =
     subst (λ us. Stands t us (op_value [] (select c) (value_of (seq n u) ws ∷ []))) whole (select-stands c n u t ws type h)
 
 -- all words as they are
-same-op : (u t : SeqTree) (a s : StTree) (ws : List ℕ) (v : ValueTree) → atom_of u ≡ atom_of t → LaysOut u a → LaysOut t s → Fit u ws → Stands t ws v → Stands t (moved_words Same a s ws) v
+same-op : (u t : SeqTree) (a s : StTree) (ws : List ℕ) (v : ValueTree) → atom_of u ≡ atom_of t → LaysOut u a → LaysOut t s → Fit u ws → Stands t ws v
+    → Stands t (moved_words Same a s ws) v
 same-op u t a s ws v e l o h st =
     let z = sizes u t a s ws e l o h in
     let long : length ws ≡ st_atoms s * element_words s = length-Fit t ws st.fits ∙ sym (layout-size t s o) in
@@ -217,16 +244,20 @@ same-op u t a s ws v e l o h st =
 join-form : (u z t : SeqTree) (a b s : StTree) (ws us : List ℕ) → LaysOut u a → LaysOut z b → LaysOut t s
     → paired (atoms t) (atom_words (atom_of u)) (atom_words (atom_of z)) ws us ≡ paired (st_atoms s) (element_words a) (element_words b) ws us
 join-form u z t a b s ws us l m o =
-    ap (λ n. paired n (atom_words (atom_of u)) (atom_words (atom_of z)) ws us) (sym o.atoms) ∙ ap (λ n. paired (st_atoms s) n (atom_words (atom_of z)) ws us) (sym (element-size u a l))
+    ap (λ n. paired n (atom_words (atom_of u)) (atom_words (atom_of z)) ws us) (sym o.atoms) ∙
+    ap (λ n. paired (st_atoms s) n (atom_words (atom_of z)) ws us) (sym (element-size u a l))
     ∙ ap (λ n. paired (st_atoms s) (element_words a) n ws us) (sym (element-size z b m))
 
-first-form : (u t : SeqTree) (a s : StTree) (ws : List ℕ) → LaysOut u a → LaysOut t s → parts (atoms t) (atom_words (atom_of u)) 0 (atom_words (atom_of t)) ws ≡ parts (st_atoms s) (element_words a) 0 (element_words s) ws
+first-form : (u t : SeqTree) (a s : StTree) (ws : List ℕ) → LaysOut u a → LaysOut t s
+    → parts (atoms t) (atom_words (atom_of u)) 0 (atom_words (atom_of t)) ws ≡ parts (st_atoms s) (element_words a) 0 (element_words s) ws
 first-form u t a s ws l o =
-    ap (λ n. parts n (atom_words (atom_of u)) 0 (atom_words (atom_of t)) ws) (sym o.atoms) ∙ ap (λ n. parts (st_atoms s) n 0 (atom_words (atom_of t)) ws) (sym (element-size u a l))
+    ap (λ n. parts n (atom_words (atom_of u)) 0 (atom_words (atom_of t)) ws) (sym o.atoms) ∙
+    ap (λ n. parts (st_atoms s) n 0 (atom_words (atom_of t)) ws) (sym (element-size u a l))
     ∙ ap (λ n. parts (st_atoms s) (element_words a) 0 n ws) (sym (element-size t s o))
 
 second-form : (u t : SeqTree) (a s : StTree) (ws : List ℕ) → LaysOut u a → LaysOut t s
-    → parts (atoms t) (atom_words (atom_of u)) (atom_words (atom_of u) - atom_words (atom_of t)) (atom_words (atom_of t)) ws ≡ parts (st_atoms s) (element_words a) (element_words a - element_words s) (element_words s) ws
+    → parts (atoms t) (atom_words (atom_of u)) (atom_words (atom_of u) - atom_words (atom_of t)) (atom_words (atom_of t)) ws ≡ parts (st_atoms s)
+    (element_words a) (element_words a - element_words s) (element_words s) ws
 second-form u t a s ws l o =
     ap (λ n. parts n (atom_words (atom_of u)) (atom_words (atom_of u) - atom_words (atom_of t)) (atom_words (atom_of t)) ws) (sym o.atoms)
     ∙ ap (λ n. parts (st_atoms s) n (n - atom_words (atom_of t)) (atom_words (atom_of t)) ws) (sym (element-size u a l))
@@ -234,23 +265,30 @@ second-form u t a s ws l o =
 
 -- ---- every operator that calls nothing
 
-module _ (known : List Callee) (means : List Meaning) (sigs : List Signature) (p : ProgramTree) (f budget : ℕ) (t : SeqTree) (s : StTree) (made : StOpTree) (l : LaysOut t s) where
+module _ (known : List Callee) (means : List Meaning) (sigs : List Signature) (p : ProgramTree) (f budget : ℕ) (t : SeqTree) (s : StTree) (made : StOpTree)
+    (l : LaysOut t s) where
   -- what is shown of a line with arguments of these types
   abbrev Makes : OpTree → List SeqTree → List ℕ → List StTree → List (List ℕ) → Type 0
   Makes op us is layouts wss = plain_op p f budget op is ≡ Some made → Stands t (op_words known layouts s made wss) (op_value means op (values_of us wss))
 
-  pub plain-stands : (op : OpTree) (is : List ℕ) (us : List SeqTree) (layouts : List StTree) (wss : List (List ℕ)) → AreFolds op → Args p f is us layouts wss → op_type sigs op us ≡ Some t → Makes op us is layouts wss
+  pub plain-stands : (op : OpTree) (is : List ℕ) (us : List SeqTree) (layouts : List StTree) (wss : List (List ℕ)) → AreFolds op → Args p f is us layouts wss
+      → op_type sigs op us ≡ Some t → Makes op us is layouts wss
   plain-stands (word op) is [] layouts wss fo h type = absurd (no-operands op t type)
   plain-stands (word op) is (u ∷ []) layouts wss fo h type = by-one p f (Makes (word op) (u ∷ [])) is u layouts wss h (λ i a ws x plain.
       let sign = sign-of p f i u op (i ∷ []) (operand-plain op (i ∷ []) (one-no-choice op u t type)) x.type in
-      rw (← same_Some (st_word (op_by p f op (i ∷ []))) made plain) (one-words op (is_signed_type (type_at p f (deciding_argument op (i ∷ [])))) u t a ws type sign x.layout x.fits))
+      rw (← same_Some (st_word (op_by p f op (i ∷ []))) made plain)
+      (one-words op (is_signed_type (type_at p f (deciding_argument op (i ∷ [])))) u t a ws type sign x.layout x.fits))
   plain-stands (word op) is (u ∷ z ∷ []) layouts wss fo h type = by-two p f (Makes (word op) (u ∷ z ∷ [])) is u z layouts wss h (λ i j a b ws us x y plain.
       let sign = sign-of p f i u op (i ∷ j ∷ []) (operand-plain op (i ∷ j ∷ []) (two-no-choice op u z t type)) x.type in
-      rw (← same_Some (st_word (op_by p f op (i ∷ j ∷ []))) made plain) (two-words op (is_signed_type (type_at p f (deciding_argument op (i ∷ j ∷ [])))) u z t a b ws us type sign x.layout x.fits y.fits))
-  plain-stands (word op) is (u ∷ z ∷ w ∷ []) layouts wss fo h type = by-three p f (Makes (word op) (u ∷ z ∷ w ∷ [])) is u z w layouts wss h (λ i j m a b d ws us vs x y q plain.
+      rw (← same_Some (st_word (op_by p f op (i ∷ j ∷ []))) made plain)
+      (two-words op (is_signed_type (type_at p f (deciding_argument op (i ∷ j ∷ [])))) u z t a b ws us type sign x.layout x.fits y.fits))
+  plain-stands (word op) is (u ∷ z ∷ w ∷ []) layouts wss fo h type = by-three p f (Makes (word op) (u ∷ z ∷ w ∷ [])) is u z w layouts wss h
+      (λ i j m a b d ws us vs x y q plain.
       let arm : deciding_argument op (i ∷ j ∷ m ∷ []) ≡ j = ap (λ o. deciding_argument o (i ∷ j ∷ m ∷ [])) (choice-line op u z w t type).is in
       let sign = sign-of p f j z op (i ∷ j ∷ m ∷ []) arm y.type in
-      rw (← same_Some (st_word (op_by p f op (i ∷ j ∷ m ∷ []))) made plain) (choice-words op (is_signed_type (type_at p f (deciding_argument op (i ∷ j ∷ m ∷ [])))) u z w t a b d ws us vs type sign y.layout x.fits y.fits q.fits))
+      rw (← same_Some (st_word (op_by p f op (i ∷ j ∷ m ∷ []))) made plain)
+      (choice-words op (is_signed_type (type_at p f (deciding_argument op (i ∷ j ∷ m ∷ [])))) u z w t a b d ws us vs type sign y.layout x.fits y.fits
+      q.fits))
   plain-stands (word op) is (a ∷ b ∷ d ∷ e ∷ us) layouts wss fo h type = absurd (many-operands op a b d e us t type)
   plain-stands (cast_int v) is (u ∷ []) layouts wss fo h type = by-one p f (Makes (cast_int v) (u ∷ [])) is u layouts wss h (λ i a ws x plain.
       let sign = sign-of p f i u (Cast v) (i ∷ []) refl x.type in
@@ -258,21 +296,25 @@ module _ (known : List Callee) (means : List Meaning) (sigs : List Signature) (p
   plain-stands (cast_int v) is [] layouts wss fo h type = absurd (none-some t type)
   plain-stands (cast_int v) is (u ∷ z ∷ us) layouts wss fo h type = absurd (none-some t type)
   plain-stands pair is (u ∷ z ∷ []) layouts wss fo h type = by-two p f (Makes pair (u ∷ z ∷ [])) is u z layouts wss h (λ i j a b ws us x y plain.
-      rw (← same_Some join made plain) (subst (λ xs. Stands t xs (op_value means pair (value_of u ws ∷ value_of z us ∷ []))) (join-form u z t a b s ws us x.layout y.layout l) (pair-words u z t ws us type x.fits y.fits)))
+      rw (← same_Some join made plain) (subst (λ xs. Stands t xs (op_value means pair (value_of u ws ∷ value_of z us ∷ [])))
+      (join-form u z t a b s ws us x.layout y.layout l) (pair-words u z t ws us type x.fits y.fits)))
   plain-stands pair is [] layouts wss fo h type = absurd (none-some t type)
   plain-stands pair is (u ∷ []) layouts wss fo h type = absurd (none-some t type)
   plain-stands pair is (u ∷ z ∷ w ∷ us) layouts wss fo h type = absurd (none-some t type)
   plain-stands zip is (u ∷ z ∷ []) layouts wss fo h type = by-two p f (Makes zip (u ∷ z ∷ [])) is u z layouts wss h (λ i j a b ws us x y plain.
-      rw (← same_Some join made plain) (subst (λ xs. Stands t xs (op_value means zip (value_of u ws ∷ value_of z us ∷ []))) (join-form u z t a b s ws us x.layout y.layout l) (zip-words u z t ws us type x.fits y.fits)))
+      rw (← same_Some join made plain) (subst (λ xs. Stands t xs (op_value means zip (value_of u ws ∷ value_of z us ∷ [])))
+      (join-form u z t a b s ws us x.layout y.layout l) (zip-words u z t ws us type x.fits y.fits)))
   plain-stands zip is [] layouts wss fo h type = absurd (none-some t type)
   plain-stands zip is (u ∷ []) layouts wss fo h type = absurd (none-some t type)
   plain-stands zip is (u ∷ z ∷ w ∷ us) layouts wss fo h type = absurd (none-some t type)
   plain-stands fst is (u ∷ []) layouts wss fo h type = by-one p f (Makes fst (u ∷ [])) is u layouts wss h (λ i a ws x plain.
-      rw (← same_Some first made plain) (subst (λ xs. Stands t xs (op_value means fst (value_of u ws ∷ []))) (first-form u t a s ws x.layout l) (first-words u t ws type x.fits)))
+      rw (← same_Some first made plain) (subst (λ xs. Stands t xs (op_value means fst (value_of u ws ∷ []))) (first-form u t a s ws x.layout l)
+      (first-words u t ws type x.fits)))
   plain-stands fst is [] layouts wss fo h type = absurd (none-some t type)
   plain-stands fst is (u ∷ z ∷ us) layouts wss fo h type = absurd (none-some t type)
   plain-stands snd is (u ∷ []) layouts wss fo h type = by-one p f (Makes snd (u ∷ [])) is u layouts wss h (λ i a ws x plain.
-      rw (← same_Some second made plain) (subst (λ xs. Stands t xs (op_value means snd (value_of u ws ∷ []))) (second-form u t a s ws x.layout l) (second-words u t ws type x.fits)))
+      rw (← same_Some second made plain) (subst (λ xs. Stands t xs (op_value means snd (value_of u ws ∷ []))) (second-form u t a s ws x.layout l)
+      (second-words u t ws type x.fits)))
   plain-stands snd is [] layouts wss fo h type = absurd (none-some t type)
   plain-stands snd is (u ∷ z ∷ us) layouts wss fo h type = absurd (none-some t type)
   plain-stands (const v ws) is [] layouts wss fo h type = by-none p f (Makes (const v ws) []) is layouts wss h (λ plain.
@@ -307,14 +349,18 @@ module _ (known : List Callee) (means : List Meaning) (sigs : List Signature) (p
   plain-stands (select c) is [] layouts wss fo h type = absurd (none-some t type)
   plain-stands (select c) is (atom b ∷ []) layouts wss fo h type = absurd (none-some t type)
   plain-stands (select c) is (u ∷ z ∷ us) layouts wss fo h type = absurd (none-some t type)
-  plain-stands (partition c d) is (seq n u ∷ []) layouts wss fo h type = by-one p f (Makes (partition c d) (seq n u ∷ [])) is (seq n u) layouts wss h (λ i a ws x plain.
+  plain-stands (partition c d) is (seq n u ∷ []) layouts wss fo h type = by-one p f (Makes (partition c d) (seq n u ∷ [])) is (seq n u) layouts wss h
+      (λ i a ws x plain.
       let same : seq c (seq d u) ≡ t = same_Some _ t (where_ok-some (n == c * d) (Some (seq c (seq d u))) t type).1 in
-      rw (← same_Some (move Same) made plain) (same-op (seq n u) t a s ws _ (ap atom_of same) x.layout l x.fits (partition-stands c d (seq n u) t ws type x.fits)))
+      rw (← same_Some (move Same) made plain) (same-op (seq n u) t a s ws _ (ap atom_of same) x.layout l x.fits
+      (partition-stands c d (seq n u) t ws type x.fits)))
   plain-stands (partition c d) is [] layouts wss fo h type = absurd (none-some t type)
   plain-stands (partition c d) is (atom b ∷ []) layouts wss fo h type = absurd (none-some t type)
   plain-stands (partition c d) is (u ∷ z ∷ us) layouts wss fo h type = absurd (none-some t type)
-  plain-stands unpartition is (seq n (seq m u) ∷ []) layouts wss fo h type = by-one p f (Makes unpartition (seq n (seq m u) ∷ [])) is (seq n (seq m u)) layouts wss h (λ i a ws x plain.
-      rw (← same_Some (move Same) made plain) (same-op (seq n (seq m u)) t a s ws _ (ap atom_of (same_Some (seq (n * m) u) t type)) x.layout l x.fits (unpartition-stands (seq n (seq m u)) t ws type x.fits)))
+  plain-stands unpartition is (seq n (seq m u) ∷ []) layouts wss fo h type = by-one p f (Makes unpartition (seq n (seq m u) ∷ [])) is
+      (seq n (seq m u)) layouts wss h (λ i a ws x plain.
+      rw (← same_Some (move Same) made plain) (same-op (seq n (seq m u)) t a s ws _ (ap atom_of (same_Some (seq (n * m) u) t type)) x.layout l x.fits
+      (unpartition-stands (seq n (seq m u)) t ws type x.fits)))
   plain-stands unpartition is [] layouts wss fo h type = absurd (none-some t type)
   plain-stands unpartition is (atom b ∷ []) layouts wss fo h type = absurd (none-some t type)
   plain-stands unpartition is (seq n (atom b) ∷ []) layouts wss fo h type = absurd (none-some t type)

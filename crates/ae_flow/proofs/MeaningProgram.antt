@@ -41,7 +41,8 @@ whole-sized : (t : SeqTree) → IsTrue (in_size t) → IsTrue (parts_in_size t)
 whole-sized t h = grind (arith, nat_tests)
 
 -- the layout of a parameter
-param-at : (clocks : ℕ) (ps : List ParamTree) (ss : List StTree) (i : ℕ) (q : ParamTree) → param_layouts clocks ps ≡ map (λ (x : StTree). Some x) ss → slice_get ps i ≡ Some q → (x : StTree) × (slice_get ss i ≡ Some x) × (lay_of q.type clocks ≡ Some x)
+param-at : (clocks : ℕ) (ps : List ParamTree) (ss : List StTree) (i : ℕ) (q : ParamTree) → param_layouts clocks ps ≡ map (λ (x : StTree). Some x) ss
+    → slice_get ps i ≡ Some q → (x : StTree) × (slice_get ss i ≡ Some x) × (lay_of q.type clocks ≡ Some x)
 param-at clocks [] ss i q h at = absurd (none-some q at)
 param-at clocks (r ∷ ps) [] i q h at = cc
 param-at clocks (r ∷ ps) (x ∷ ss) zero q h at =
@@ -54,7 +55,8 @@ param-at clocks (r ∷ ps) (x ∷ ss) (suc i) q h at =
 as-many : (clocks : ℕ) (ps : List ParamTree) (ss : List StTree) → param_layouts clocks ps ≡ map (λ (x : StTree). Some x) ss → length ss ≡ length ps
 as-many clocks ps ss h = sym (length-map ss (λ (x : StTree). Some x)) ∙ (ap length (sym h) ∙ length-map ps (λ (q : ParamTree). lay_of q.type clocks))
 
-params-laid : (clocks : ℕ) (ps : List ParamTree) (ss : List StTree) → param_layouts clocks ps ≡ map (λ (x : StTree). Some x) ss → ((i : ℕ) (q : ParamTree) → slice_get ps i ≡ Some q → IsTrue (in_size q.type)) → AllLaidOut (types_of_params ps) ss
+params-laid : (clocks : ℕ) (ps : List ParamTree) (ss : List StTree) → param_layouts clocks ps ≡ map (λ (x : StTree). Some x) ss
+    → ((i : ℕ) (q : ParamTree) → slice_get ps i ≡ Some q → IsTrue (in_size q.type)) → AllLaidOut (types_of_params ps) ss
 params-laid clocks [] [] h sized = tt
 params-laid clocks [] (x ∷ ss) h sized = cc
 params-laid clocks (q ∷ ps) [] h sized = cc
@@ -64,7 +66,8 @@ params-laid clocks (q ∷ ps) (x ∷ ss) h sized =
     (lays-out q.type clocks x (whole-sized q.type (sized 0 q refl)) a, params-laid clocks ps ss rest (λ i r e. sized (suc i) r e))
 
 -- what a node comes to be
-node-at : (p : ProgramTree) (keys : Keys) (f u i : ℕ) (ns : List NodeTree) (ss : List StNodeTree) (j : ℕ) (n : NodeTree) → AreStNodes p keys f u i ns ss → slice_get ns j ≡ Some n → (s : StNodeTree) × (slice_get ss j ≡ Some s) × IsStNode p keys f u (i + j) n s
+node-at : (p : ProgramTree) (keys : Keys) (f u i : ℕ) (ns : List NodeTree) (ss : List StNodeTree) (j : ℕ) (n : NodeTree) → AreStNodes p keys f u i ns ss
+    → slice_get ns j ≡ Some n → (s : StNodeTree) × (slice_get ss j ≡ Some s) × IsStNode p keys f u (i + j) n s
 node-at p keys f u i [] ss j n h at = absurd (none-some n at)
 node-at p keys f u i (m ∷ ns) [] j n h at = absurd h
 node-at p keys f u i (m ∷ ns) (s ∷ ss) zero n h at =
@@ -95,7 +98,8 @@ module _ (p : ProgramTree) (keys : Keys) (s : StFuncTree) (typed : IsTyped p) (h
   param-here : (i : ℕ) (q : ParamTree) → slice_get h.of.params i ≡ Some q → slice_get types i ≡ Some q.type
   param-here i q e = sym (type-at-is p s.func i typed) ∙ param-type p s.func i h.of q h.known e
 
-  param-laid : (i : ℕ) (t : SeqTree) (q : ParamTree) → slice_get types i ≡ Some t → slice_get h.of.params i ≡ Some q → LaysOut t (item_layout (item_layouts s) i)
+  param-laid : (i : ℕ) (t : SeqTree) (q : ParamTree) → slice_get types i ≡ Some t → slice_get h.of.params i ≡ Some q
+      → LaysOut t (item_layout (item_layouts s) i)
   param-laid i t q e at =
       let r = param-at s.budget h.of.params s.ins i q h.ins at in
       let same : q.type ≡ t = same_Some _ t (sym (param-here i q at) ∙ e) in
@@ -103,12 +107,14 @@ module _ (p : ProgramTree) (keys : Keys) (s : StFuncTree) (typed : IsTyped p) (h
       let small = whole-sized t (sized i t e) in
       subst (LaysOut t) (sym here) (lays-out t s.budget r.0 small (sym (ap (λ z. lay_of z s.budget) same) ∙ r.2))
 
-  node-laid : (i j : ℕ) (t : SeqTree) (n : NodeTree) → length s.ins + j ≡ i → slice_get types i ≡ Some t → slice_get h.of.nodes j ≡ Some n → LaysOut t (item_layout (item_layouts s) i)
+  node-laid : (i j : ℕ) (t : SeqTree) (n : NodeTree) → length s.ins + j ≡ i → slice_get types i ≡ Some t → slice_get h.of.nodes j ≡ Some n
+      → LaysOut t (item_layout (item_layouts s) i)
   node-laid i j t n place e at =
       let r = node-at p keys s.func s.budget (length h.of.params) h.of.nodes s.nodes j n h.nodes at in
       let count = as-many s.budget h.of.params s.ins h.ins in
       let own : length h.of.params + j ≡ i = ap (λ k. k + j) (sym count) ∙ place in
-      let there : slice_get (item_layouts s) i ≡ Some r.0.type = ap (slice_get (item_layouts s)) (sym place) ∙ get-back s.ins (node_layouts s.nodes) j ∙ slice_get-map (λ (x : StNodeTree). x.type) s.nodes j ∙ ap (option_map (λ (x : StNodeTree). x.type)) r.1 in
+      let there : slice_get (item_layouts s) i ≡ Some r.0.type = ap (slice_get (item_layouts s)) (sym place) ∙ get-back s.ins (node_layouts s.nodes) j ∙
+      slice_get-map (λ (x : StNodeTree). x.type) s.nodes j ∙ ap (option_map (λ (x : StNodeTree). x.type)) r.1 in
       let here = layout-here (item_layouts s) i r.0.type there in
       let type : type_at p s.func (length h.of.params + j) ≡ Some t = ap (type_at p s.func) own ∙ type-at-is p s.func i typed ∙ e in
       let lay : lay_of t s.budget ≡ Some r.0.type = sym (ap (λ o. o >>= λ z. lay_of z s.budget) type) ∙ r.2.type in
@@ -133,7 +139,8 @@ module _ (p : ProgramTree) (keys : Keys) (s : StFuncTree) (typed : IsTyped p) (h
   own-params : params_in p s.func ≡ param_types h.of
   own-params = ap params_for h.known
 
-  all-fit-at : (ts : List SeqTree) (wss : List (List ℕ)) (i : ℕ) (t : SeqTree) → AllFit ts wss → slice_get ts i ≡ Some t → Stands t (words_at wss i) (at (values_of ts wss) i)
+  all-fit-at : (ts : List SeqTree) (wss : List (List ℕ)) (i : ℕ) (t : SeqTree) → AllFit ts wss → slice_get ts i ≡ Some t
+      → Stands t (words_at wss i) (at (values_of ts wss) i)
   all-fit-at [] wss i t f e = absurd (none-some t e)
   all-fit-at (u ∷ ts) [] i t f e = absurd f
   all-fit-at (u ∷ ts) (ws ∷ wss) zero t f e = subst (λ z. Stands z ws (value_of u ws)) (same_Some u t e) (record { fits = f.0; value = refl })
@@ -155,7 +162,8 @@ module _ (p : ProgramTree) (keys : Keys) (s : StFuncTree) (typed : IsTyped p) (h
         each = λ i t lt e.
             (let q = entry-at h.of.params i lt in
             let same : q.0.type ≡ t = same_Some _ t (sym (param-here i q.0 q.1) ∙ e) in
-            all-fit-at (param_types h.of) wss i t f (slice_get-map (λ (x : ParamTree). x.type) h.of.params i ∙ ap (option_map (λ (x : ParamTree). x.type)) q.1 ∙ ap (λ (z : SeqTree). Some z) same));
+            all-fit-at (param_types h.of) wss i t f (slice_get-map (λ (x : ParamTree). x.type) h.of.params i ∙
+            ap (option_map (λ (x : ParamTree). x.type)) q.1 ∙ ap (λ (z : SeqTree). Some z) same));
       }
 
   pub items-stand : (known : List Callee) → AllCompute p keys known → (wss : List (List ℕ)) → AllFit (params_in p s.func) wss
@@ -167,10 +175,13 @@ module _ (p : ProgramTree) (keys : Keys) (s : StFuncTree) (typed : IsTyped p) (h
       let own : (q : ℕ) → item_of p s.func q ≡ length h.of.params + q = λ q. ap (λ k. k + q) many in
       let start = params-stand wss (subst (λ ts. AllFit ts wss) own-params fit) in
       let nodes : nodes_in p s.func ≡ h.of.nodes = ap nodes_for h.known in
-      let each : Adds types p keys s.func s.budget (node_words known (item_layouts s)) (node_value means) (length h.of.params) h.of.nodes = λ q n x us vs t e is st at.
-      node-stands p keys known s.func s.budget (item_layouts s) typed inside all items-laid sized q n x us vs t (ap (λ ns. slice_get ns q) nodes ∙ e) (subst (λ k. IsStNode p keys s.func s.budget k n x) (sym (own q)) is)
+      let each : Adds types p keys s.func s.budget (node_words known (item_layouts s)) (node_value means)
+      (length h.of.params) h.of.nodes = λ q n x us vs t e is st at.
+      node-stands p keys known s.func s.budget (item_layouts s) typed inside all items-laid sized q n x us vs t (ap (λ ns. slice_get ns q) nodes ∙ e)
+      (subst (λ k. IsStNode p keys s.func s.budget k n x) (sym (own q)) is)
       (subst (λ k. Standing types k us vs) (sym (own q)) st) (subst (λ k. slice_get types k ≡ Some t) (sym (own q)) at) in
-      let done = grown-stands types p keys s.func s.budget (node_words known (item_layouts s)) (node_value means) (length h.of.params) h.of.nodes s.nodes wss (values_of (param_types h.of) wss) each h.nodes start in
+      let done = grown-stands types p keys s.func s.budget (node_words known (item_layouts s)) (node_value means) (length h.of.params) h.of.nodes s.nodes wss
+      (values_of (param_types h.of) wss) each h.nodes start in
       let P : ℕ → Type 0 = λ k. Standing types k (item_words known s wss) (item_values means h.of (values_of (param_types h.of) wss)) in
       let Q : List SeqTree → Type 0 = λ ts. Standing types (length types) (item_words known s wss) (item_values means h.of (values_of ts wss)) in
       subst Q (sym own-params) (subst P count done)
@@ -198,8 +209,10 @@ module _ (p : ProgramTree) (keys : Keys) (s : StFuncTree) (typed : IsTyped p) (h
         let args = values_of (params_in p s.func) wss in
         let st = items-stand known all wss fit in
         let one = st.each r.0 u (slice_get_within types r.0 u r.2) r.2 in
-        let function : get_or (meanings p.funcs) s.func no_function ≡ meaning means h.of = get_or_from_slice_get (meanings p.funcs) s.func (meaning means h.of) no_function (meaning-of p s.func h.of h.known) in
-        let value : at (item_values means h.of args) r.0 ≡ applied (meanings p.funcs) s.func args = sym (ap (λ (m : Meaning). at (m args) 0) function ∙ at-first (at (item_values means h.of args)) h.of.results r.0 r.1) in
+        let function : get_or (meanings p.funcs) s.func no_function ≡ meaning means h.of = get_or_from_slice_get (meanings p.funcs) s.func
+        (meaning means h.of) no_function (meaning-of p s.func h.of h.known) in
+        let value : at (item_values means h.of args) r.0 ≡ applied (meanings p.funcs) s.func args = sym
+        (ap (λ (m : Meaning). at (m args) 0) function ∙ at-first (at (item_values means h.of args)) h.of.results r.0 r.1) in
         let P : ℕ → Type 0 = λ k. Stands u (words_at (item_words known s wss) k) (applied (meanings p.funcs) s.func args) in
         let Q : ValueTree → Type 0 = λ v. Stands u (words_at (item_words known s wss) r.0) v in
         subst P (sym (first-is r.0 r.1)) (subst Q value one));
@@ -225,7 +238,8 @@ module _ (p : ProgramTree) (slowdown : ℕ) (instances : List StFuncTree) (typed
       let first : take m (take k instances) ≡ take m instances = take-take m k instances (omega arith) in
       let entry : slice_get (callees (take k instances)) m ≡ Some (callee (callees (take m instances)) s) =
       entry-grown callee (take k instances) m s key.here ∙ ap (λ xs. Some (callee (callees xs) s)) first in
-      let own : callee_at (callees (take k instances)) m ≡ callee (callees (take m instances)) s = get_or_from_slice_get (callees (take k instances)) m _ no_callee entry in
+      let own : callee_at (callees (take k instances)) m ≡ callee (callees (take m instances)) s = get_or_from_slice_get
+      (callees (take k instances)) m _ no_callee entry in
       subst (Computes p func) (sym own) (subst (λ g. Computes p g (callee (callees (take m instances)) s)) key.is_func (before m s within there))
 
   pub all-before : (k : ℕ) → Before k
@@ -235,7 +249,8 @@ module _ (p : ProgramTree) (slowdown : ℕ) (instances : List StFuncTree) (typed
     | inr high ↦
         let same : k ≡ m = omega arith in
         let P : ℕ → Type 0 = λ j. slice_get instances j ≡ Some s → Computes p s.func (callee (callees (take j instances)) s) in
-        subst P same (λ q. instance-computes p (HasKey (take k instances)) s typed (h.right k s q) (callees (take k instances)) (known-compute k (all-before k))) e
+        subst P same (λ q. instance-computes p (HasKey (take k instances)) s typed (h.right k s q) (callees (take k instances))
+        (known-compute k (all-before k))) e
   ]
 
 -- ---- the whole
@@ -251,8 +266,11 @@ values-fit (t ∷ ts) [] h = absurd h
 values-fit (t ∷ ts) (v ∷ vs) h =
     let r = values-fit ts vs h.1 in
     let st = h.0.1 in
-    let e : h.0.0 ≡ flat v = sym (flat-stands t h.0.0 v st) in
-    ((subst (λ ws. Fit t ws) e st.fits, r.0), ap (λ ws. value_of t ws ∷ values_of ts (map flat vs)) (sym e) ∙ ap (λ x. x ∷ values_of ts (map flat vs)) st.value ∙ ap (λ xs. v ∷ xs) r.1)
+    let e : h.0.0 ≡ flat v = sym (flat-stands t h.0.0 v st) in (
+      (subst (λ ws. Fit t ws) e st.fits, r.0),
+      ap (λ ws. value_of t ws ∷ values_of ts (map flat vs)) (sym e) ∙
+          ap (λ x. x ∷ values_of ts (map flat vs)) st.value ∙ ap (λ xs. v ∷ xs) r.1,
+    )
 
 -- the words of each item
 item-flat : (ts : List SeqTree) (wss : List (List ℕ)) (vs : List ValueTree) (i : ℕ) → Standing ts (length ts) wss vs → words_at wss i ≡ flat (at vs i)
@@ -264,9 +282,11 @@ item-flat ts wss vs i st =
       | inr high ↦ get_or_past wss i [] (omega arith) ∙ sym (ap flat (get_or_past vs i end (omega arith)))
     ]
 
-items-flat : (ts : List SeqTree) (wss : List (List ℕ)) (vs : List ValueTree) (is : List ℕ) → Standing ts (length ts) wss vs → map (words_at wss) is ≡ map flat (map (at vs) is)
+items-flat : (ts : List SeqTree) (wss : List (List ℕ)) (vs : List ValueTree) (is : List ℕ) → Standing ts (length ts) wss vs
+    → map (words_at wss) is ≡ map flat (map (at vs) is)
 items-flat ts wss vs [] st = refl
-items-flat ts wss vs (i ∷ is) st = ap (λ ws. ws ∷ map (words_at wss) is) (item-flat ts wss vs i st) ∙ ap (λ wss. flat (at vs i) ∷ wss) (items-flat ts wss vs is st)
+items-flat ts wss vs (i ∷ is) st =
+    ap (λ ws. ws ∷ map (words_at wss) is) (item-flat ts wss vs i st) ∙ ap (λ wss. flat (at vs i) ∷ wss) (items-flat ts wss vs is st)
 
 pub flows-mean : FlowsMean
 unfolding flow
@@ -284,7 +304,9 @@ flows-mean p slowdown instances vs typed h values =
     let means = take f (meanings p.funcs) in
     let st = items-stand p keys s typed right known all (map flat vs) args.0 in
     let own = subst (λ xs. Standing (types_in p f) (length (types_in p f)) (item_words known s (map flat vs)) (item_values means right.of xs)) args.1 st in
-    let function : get_or (meanings p.funcs) f no_function ≡ meaning means right.of = get_or_from_slice_get (meanings p.funcs) f (meaning means right.of) no_function (meaning-of p f right.of right.known) in
-    let meant : map (at (item_values means right.of vs)) right.of.results ≡ mean p vs = sym (ap (λ (m : Meaning). m vs) function) ∙ ap (λ j. get_or (meanings p.funcs) j no_function vs) last in
+    let function : get_or (meanings p.funcs) f no_function ≡ meaning means right.of = get_or_from_slice_get (meanings p.funcs) f
+    (meaning means right.of) no_function (meaning-of p f right.of right.known) in
+    let meant : map (at (item_values means right.of vs)) right.of.results ≡ mean p vs = sym (ap (λ (m : Meaning). m vs) function) ∙
+    ap (λ j. get_or (meanings p.funcs) j no_function vs) last in
     ap (λ o. results_in known o (map flat vs)) h.last.here ∙ ap (map (words_at (item_words known s (map flat vs)))) right.results
     ∙ items-flat (types_in p f) (item_words known s (map flat vs)) (item_values means right.of vs) right.of.results own ∙ ap (map flat) meant

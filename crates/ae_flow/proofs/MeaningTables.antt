@@ -75,10 +75,12 @@ pub table-by : {A : Type 0} (n k : ℕ) (f : ℕ → ℕ → A) → table (n * k
 table-by n k f =
     table-rows n k (λ q. f (q / k) (q % k))
     ∙ joined-same n (λ e. table k (λ p. f ((e * k + p) / k) ((e * k + p) % k))) (λ e. table k (λ p. f e p))
-    (λ e. table-same k (λ p. f ((e * k + p) / k) ((e * k + p) % k)) (λ p. f e p) (λ p lt. ap (λ z. f z ((e * k + p) % k)) (div-mul-add e k p lt) ∙ ap (λ z. f e z) (mod-mul-add e k p lt)))
+    (λ e. table-same k (λ p. f ((e * k + p) / k) ((e * k + p) % k)) (λ p. f e p)
+    (λ p lt. ap (λ z. f z ((e * k + p) % k)) (div-mul-add e k p lt) ∙ ap (λ z. f e z) (mod-mul-add e k p lt)))
 
 -- elements that stand one after another are those of a sequence
-pub stands-table : (u : SeqTree) (n : ℕ) (f : ℕ → List ℕ) (g : ℕ → ValueTree) → ((e : ℕ) → e < n → Stands u (f e) (g e)) → Stands (seq n u) (joined_table n f) (listed (table n g))
+pub stands-table : (u : SeqTree) (n : ℕ) (f : ℕ → List ℕ) (g : ℕ → ValueTree) → ((e : ℕ) → e < n → Stands u (f e) (g e))
+    → Stands (seq n u) (joined_table n f) (listed (table n g))
 stands-table u zero f g h = Stands-none u
 stands-table u (suc n) f g h =
     let one : n + 1 ≡ suc n = omega arith in
@@ -99,15 +101,18 @@ length-two g [] ys h = refl
 length-two g (x ∷ xs) [] h = absurd (omega arith)
 length-two g (x ∷ xs) (y ∷ ys) h = ap suc (length-two g xs ys (omega arith))
 
-get-two : (g : ValueTree → ValueTree → ValueTree) (xs ys : List ValueTree) (i : ℕ) → i < length xs → length xs ≡ length ys → get_or (map_two g xs ys) i end ≡ g (get_or xs i end) (get_or ys i end)
+get-two : (g : ValueTree → ValueTree → ValueTree) (xs ys : List ValueTree) (i : ℕ) → i < length xs → length xs ≡ length ys
+    → get_or (map_two g xs ys) i end ≡ g (get_or xs i end) (get_or ys i end)
 get-two g [] ys i lt h = absurd (omega arith)
 get-two g (x ∷ xs) [] i lt h = absurd (omega arith)
 get-two g (x ∷ xs) (y ∷ ys) zero lt h = refl
 get-two g (x ∷ xs) (y ∷ ys) (suc i) lt h = get-two g xs ys i (omega arith) (omega arith)
 
-pub map_two-table : (g : ValueTree → ValueTree → ValueTree) (xs ys : List ValueTree) (n : ℕ) → length xs ≡ n → length ys ≡ n → map_two g xs ys ≡ table n (λ i. g (get_or xs i end) (get_or ys i end))
+pub map_two-table : (g : ValueTree → ValueTree → ValueTree) (xs ys : List ValueTree) (n : ℕ) → length xs ≡ n → length ys ≡ n
+    → map_two g xs ys ≡ table n (λ i. g (get_or xs i end) (get_or ys i end))
 map_two-table g xs ys n a b =
-    fill_by_all (λ i. g (get_or xs i end) (get_or ys i end)) (map_two g xs ys) n end (length-two g xs ys (a ∙ sym b) ∙ a) (λ i lt. get-two g xs ys i (omega arith) (a ∙ sym b))
+    fill_by_all (λ i. g (get_or xs i end) (get_or ys i end)) (map_two g xs ys) n end (length-two g xs ys (a ∙ sym b) ∙ a)
+    (λ i lt. get-two g xs ys i (omega arith) (a ∙ sym b))
 
 pub folds-table : (f : ValueTree → ValueTree → ValueTree) (n : ℕ) (xs : List ValueTree) → folds_up_to f n xs ≡ table n (λ i. fold_all f (take (i + 1) xs))
 folds-table f zero xs = refl

@@ -73,16 +73,20 @@ word-of s ws k e h =
     let one = word-in k ws (subst (λ z. Fit z ws) e h) in
     record { word = one.0; is = ap (λ us. get_or us 0 0) one.1; small = one.2; value = ap (λ z. value_of z ws) e ∙ ap (atom_value (word k)) one.1 }
 
-word-stands : (op : WordOp) (k : WordKind) (u : SeqTree) (x y z r : ℕ) → u ≡ atom (word (result_kind op k)) → r ≡ coded op k x y z → OperandsFit (op_for k.signed op) k.width x y z
+word-stands : (op : WordOp) (k : WordKind) (u : SeqTree) (x y z r : ℕ) → u ≡ atom (word (result_kind op k)) → r ≡ coded op k x y z
+    → OperandsFit (op_for k.signed op) k.width x y z
     → result_width_of (op_for k.signed op) k.width ≡ (result_kind op k).width → Stands u (r ∷ []) (number (result_kind op k) (coded op k x y z))
 word-stands op k u x y z r e same fits wide =
-    let small : coded op k x y z < 2 ^ (result_kind op k).width = subst (λ w. coded op k x y z < 2 ^ w) wide (word_fits (op_for k.signed op) k.width x y z fits) in
+    let small : coded op k x y z < 2 ^ (result_kind op k).width = subst (λ w. coded op k x y z < 2 ^ w) wide
+    (word_fits (op_for k.signed op) k.width x y z fits) in
     rw (e, same) (record { fits = (small, tt); value = refl })
 
 -- the words that a word operator makes are those that the operator for the kind makes
-coded-is : (op : WordOp) (b : Bool) (k : WordKind) (w x y z x2 y2 z2 : ℕ) → b ≡ k.signed → w ≡ k.width → x ≡ x2 → y ≡ y2 → z ≡ z2 → word_result (op_for b op) w x y z ≡ coded op k x2 y2 z2
+coded-is : (op : WordOp) (b : Bool) (k : WordKind) (w x y z x2 y2 z2 : ℕ) → b ≡ k.signed → w ≡ k.width → x ≡ x2 → y ≡ y2 → z ≡ z2
+    → word_result (op_for b op) w x y z ≡ coded op k x2 y2 z2
 coded-is op b k w x y z x2 y2 z2 eb ew ex ey ez =
-    ap (λ c. word_result (op_for c op) w x y z) eb ∙ ap (λ c. word_result (op_for k.signed op) c x y z) ew ∙ ap (λ c. word_result (op_for k.signed op) k.width c y z) ex
+    ap (λ c. word_result (op_for c op) w x y z) eb ∙ ap (λ c. word_result (op_for k.signed op) c x y z) ew ∙
+    ap (λ c. word_result (op_for k.signed op) k.width c y z) ex
     ∙ ap (λ c. word_result (op_for k.signed op) k.width x2 c z) ey ∙ ap (λ c. word_result (op_for k.signed op) k.width x2 y2 c) ez
 
 -- the operand by whose kind an operator goes is signed
@@ -95,20 +99,24 @@ one-words op b s u a ws type sign l h =
     let r = one-line op s u type in
     let k = r.kind in
     let x = word-of s ws k r.first h in
-    let width : width_of (op_for b op) (a ∷ []) ≡ k.width = ap (λ i. first_width (item_layout (a ∷ []) i)) (main-first op b (one-no-choice op s u type)) ∙ width-is s a k l r.first in
+    let width : width_of (op_for b op) (a ∷ []) ≡ k.width = ap (λ i. first_width (item_layout (a ∷ []) i)) (main-first op b (one-no-choice op s u type)) ∙
+    width-is s a k l r.first in
     let same = coded-is op b k (width_of (op_for b op) (a ∷ [])) (get_or ws 0 0) 0 0 x.word 0 0 (sign k r.first) width x.is refl refl in
     let value : word_value op (value_of s ws ∷ []) ≡ number (result_kind op k) (coded op k x.word 0 0) =
     ap (λ v. word_value op (v ∷ [])) x.value ∙ ap (λ q. number (result_kind op q) (coded op q x.word 0 0)) (r.by (number k x.word)) in
     rw value (word-stands op k u x.word 0 0 _ r.result same (r.fit x.word 0 0 x.small) r.wide)
 
-pub two-words : (op : WordOp) (b : Bool) (s z u : SeqTree) (a c : StTree) (ws us : List ℕ) → word_type op (s ∷ z ∷ []) ≡ Some u → IsSign s b → LaysOut s a → Fit s ws → Fit z us
-    → Stands u (word_result (op_for b op) (width_of (op_for b op) (a ∷ c ∷ [])) (get_or ws 0 0) (get_or us 0 0) 0 ∷ []) (word_value op (value_of s ws ∷ value_of z us ∷ []))
+pub two-words : (op : WordOp) (b : Bool) (s z u : SeqTree) (a c : StTree) (ws us : List ℕ) → word_type op (s ∷ z ∷ []) ≡ Some u → IsSign s b → LaysOut s a
+    → Fit s ws → Fit z us
+    → Stands u (word_result (op_for b op) (width_of (op_for b op) (a ∷ c ∷ [])) (get_or ws 0 0) (get_or us 0 0) 0 ∷ [])
+    (word_value op (value_of s ws ∷ value_of z us ∷ []))
 two-words op b s z u a c ws us type sign l h g =
     let r = two-line op s z u type in
     let k = r.kind in
     let x = word-of s ws k r.first h in
     let y = word-of z us k r.second g in
-    let width : width_of (op_for b op) (a ∷ c ∷ []) ≡ k.width = ap (λ i. first_width (item_layout (a ∷ c ∷ []) i)) (main-first op b (two-no-choice op s z u type)) ∙ width-is s a k l r.first in
+    let width : width_of (op_for b op) (a ∷ c ∷ []) ≡ k.width = ap (λ i. first_width (item_layout (a ∷ c ∷ []) i))
+    (main-first op b (two-no-choice op s z u type)) ∙ width-is s a k l r.first in
     let same = coded-is op b k (width_of (op_for b op) (a ∷ c ∷ [])) (get_or ws 0 0) (get_or us 0 0) 0 x.word y.word 0 (sign k r.first) width x.is y.is refl in
     let value : word_value op (value_of s ws ∷ value_of z us ∷ []) ≡ number (result_kind op k) (coded op k x.word y.word 0) =
     ap (λ v. word_value op (v ∷ value_of z us ∷ [])) x.value ∙ ap (λ v. word_value op (number k x.word ∷ v ∷ [])) y.value
@@ -123,34 +131,44 @@ choice-wide : (b : Bool) (w : ℕ) → result_width_of (op_for b Mux) w ≡ w
 choice-wide true w = refl
 choice-wide false w = refl
 
-choice-words-core : (b : Bool) (t s z u : SeqTree) (a c d : StTree) (ts ws us : List ℕ) → Choice Mux t s z u → IsSign s b → LaysOut s c → Fit t ts → Fit s ws → Fit z us
-    → Stands u (word_result (op_for b Mux) (width_of (op_for b Mux) (a ∷ c ∷ d ∷ [])) (get_or ts 0 0) (get_or ws 0 0) (get_or us 0 0) ∷ []) (word_value Mux (value_of t ts ∷ value_of s ws ∷ value_of z us ∷ []))
+choice-words-core : (b : Bool) (t s z u : SeqTree) (a c d : StTree) (ts ws us : List ℕ) → Choice Mux t s z u → IsSign s b → LaysOut s c → Fit t ts → Fit s ws
+    → Fit z us
+    → Stands u (word_result (op_for b Mux) (width_of (op_for b Mux) (a ∷ c ∷ d ∷ [])) (get_or ts 0 0) (get_or ws 0 0) (get_or us 0 0) ∷ [])
+    (word_value Mux (value_of t ts ∷ value_of s ws ∷ value_of z us ∷ []))
 choice-words-core b t s z u a c d ts ws us r sign l f h g =
     let k = r.kind in
     let e = word-of t ts (record { signed = false; width = 1 }) r.test f in
     let x = word-of s ws k r.first h in
     let y = word-of z us k r.second g in
     let bit : e.word < 2 = e.small in
-    let width : width_of (op_for b Mux) (a ∷ c ∷ d ∷ []) ≡ k.width = ap (λ i. first_width (item_layout (a ∷ c ∷ d ∷ []) i)) (main-for b Mux) ∙ width-is s c k l r.first in
-    let same = coded-is Mux b k (width_of (op_for b Mux) (a ∷ c ∷ d ∷ [])) (get_or ts 0 0) (get_or ws 0 0) (get_or us 0 0) e.word x.word y.word (sign k r.first) width e.is x.is y.is in
+    let width : width_of (op_for b Mux) (a ∷ c ∷ d ∷ []) ≡ k.width = ap (λ i. first_width (item_layout (a ∷ c ∷ d ∷ []) i)) (main-for b Mux) ∙
+    width-is s c k l r.first in
+    let same = coded-is Mux b k (width_of (op_for b Mux) (a ∷ c ∷ d ∷ [])) (get_or ts 0 0) (get_or ws 0 0) (get_or us 0 0) e.word x.word y.word
+    (sign k r.first) width e.is x.is y.is in
     let value : word_value Mux (value_of t ts ∷ value_of s ws ∷ value_of z us ∷ []) ≡ number k (coded Mux k e.word x.word y.word) =
-    ap (λ v. word_value Mux (v ∷ value_of s ws ∷ value_of z us ∷ [])) e.value ∙ ap (λ v. word_value Mux (number (record { signed = false; width = 1 }) e.word ∷ v ∷ value_of z us ∷ [])) x.value
+    ap (λ v. word_value Mux (v ∷ value_of s ws ∷ value_of z us ∷ [])) e.value ∙
+    ap (λ v. word_value Mux (number (record { signed = false; width = 1 }) e.word ∷ v ∷ value_of z us ∷ [])) x.value
     ∙ ap (λ v. word_value Mux (number (record { signed = false; width = 1 }) e.word ∷ number k x.word ∷ v ∷ [])) y.value in
-    rw value (word-stands Mux k u e.word x.word y.word _ r.result same (choice-fit k.signed k.width e.word x.word y.word bit x.small y.small) (choice-wide k.signed k.width))
+    rw value (word-stands Mux k u e.word x.word y.word _ r.result same (choice-fit k.signed k.width e.word x.word y.word bit x.small y.small)
+    (choice-wide k.signed k.width))
 
-pub choice-words : (op : WordOp) (b : Bool) (t s z u : SeqTree) (a c d : StTree) (ts ws us : List ℕ) → word_type op (t ∷ s ∷ z ∷ []) ≡ Some u → IsSign s b → LaysOut s c → Fit t ts → Fit s ws → Fit z us
-    → Stands u (word_result (op_for b op) (width_of (op_for b op) (a ∷ c ∷ d ∷ [])) (get_or ts 0 0) (get_or ws 0 0) (get_or us 0 0) ∷ []) (word_value op (value_of t ts ∷ value_of s ws ∷ value_of z us ∷ []))
+pub choice-words : (op : WordOp) (b : Bool) (t s z u : SeqTree) (a c d : StTree) (ts ws us : List ℕ) → word_type op (t ∷ s ∷ z ∷ []) ≡ Some u → IsSign s b
+    → LaysOut s c → Fit t ts → Fit s ws → Fit z us
+    → Stands u (word_result (op_for b op) (width_of (op_for b op) (a ∷ c ∷ d ∷ [])) (get_or ts 0 0) (get_or ws 0 0) (get_or us 0 0) ∷ [])
+    (word_value op (value_of t ts ∷ value_of s ws ∷ value_of z us ∷ []))
 choice-words op b t s z u a c d ts ws us type sign l f h g =
     let r = choice-line op t s z u type in
     let P : WordOp → Type 0 = λ o. Choice o t s z u
-    → Stands u (word_result (op_for b o) (width_of (op_for b o) (a ∷ c ∷ d ∷ [])) (get_or ts 0 0) (get_or ws 0 0) (get_or us 0 0) ∷ []) (word_value o (value_of t ts ∷ value_of s ws ∷ value_of z us ∷ [])) in
+    → Stands u (word_result (op_for b o) (width_of (op_for b o) (a ∷ c ∷ d ∷ [])) (get_or ts 0 0) (get_or ws 0 0) (get_or us 0 0) ∷ [])
+    (word_value o (value_of t ts ∷ value_of s ws ∷ value_of z us ∷ [])) in
     subst P (sym r.is) (λ m. choice-words-core b t s z u a c d ts ws us m sign l f h g) r
 
 as-there : (a : AtomTree) (o : Option SeqTree) (u : SeqTree) → as_word a o ≡ Some u → (t : SeqTree) × (o ≡ Some t) × (u ≡ atom a)
 as-there a None u h = absurd (none-some u h)
 as-there a (Some t) u h = (t, refl, sym (same_Some (atom a) u h))
 
-pub cast-words : (v : ℕ) (b : Bool) (s u : SeqTree) (a : StTree) (ws : List ℕ) → as_word (signed_word v) (one_word (s ∷ [])) ≡ Some u → IsSign s b → LaysOut s a → Fit s ws
+pub cast-words : (v : ℕ) (b : Bool) (s u : SeqTree) (a : StTree) (ws : List ℕ) → as_word (signed_word v) (one_word (s ∷ [])) ≡ Some u → IsSign s b
+    → LaysOut s a → Fit s ws
     → Stands u (word_result (op_for b (Cast v)) (width_of (op_for b (Cast v)) (a ∷ [])) (get_or ws 0 0) 0 0 ∷ []) (cast_value v (value_of s ws))
 cast-words v b s u a ws type sign l h =
     let o = as-there (signed_word v) (one_word (s ∷ [])) u type in
@@ -158,9 +176,11 @@ cast-words v b s u a ws type sign l h =
     let line = one-line (Cast v) s (atom (unsigned_word v)) plain in
     let k = line.kind in
     let x = word-of s ws k line.first h in
-    let width : width_of (op_for b (Cast v)) (a ∷ []) ≡ k.width = ap (λ i. first_width (item_layout (a ∷ []) i)) (main-first (Cast v) b (one-no-choice (Cast v) s _ plain)) ∙ width-is s a k l line.first in
+    let width : width_of (op_for b (Cast v)) (a ∷ []) ≡ k.width = ap (λ i. first_width (item_layout (a ∷ []) i))
+    (main-first (Cast v) b (one-no-choice (Cast v) s _ plain)) ∙ width-is s a k l line.first in
     let same = coded-is (Cast v) b k (width_of (op_for b (Cast v)) (a ∷ [])) (get_or ws 0 0) 0 0 x.word 0 0 (sign k line.first) width x.is refl refl in
-    let small : coded (Cast v) k x.word 0 0 < 2 ^ v = subst (λ w. coded (Cast v) k x.word 0 0 < 2 ^ w) line.wide (word_fits (op_for k.signed (Cast v)) k.width x.word 0 0 (line.fit x.word 0 0 x.small)) in
+    let small : coded (Cast v) k x.word 0 0 < 2 ^ v = subst (λ w. coded (Cast v) k x.word 0 0 < 2 ^ w) line.wide
+    (word_fits (op_for k.signed (Cast v)) k.width x.word 0 0 (line.fit x.word 0 0 x.small)) in
     let value : cast_value v (value_of s ws) ≡ number (record { signed = true; width = v }) (coded (Cast v) k x.word 0 0) = ap (cast_value v) x.value in
     let i : WordKind = record { signed = true; width = v } in
     let r = coded (Cast v) k x.word 0 0 in
@@ -178,7 +198,8 @@ pair-form k l us vs eu ev =
     let b : take l vs ≡ vs = take_all l vs (omega arith) in
     sym (append-nil (take k us ++ take l vs) ∙ ap (λ ys. ys ++ take l vs) a ∙ ap (λ ys. us ++ ys) b)
 
-pub pair-words : (s z u : SeqTree) (us vs : List ℕ) → pair_type s z ≡ Some u → Fit s us → Fit z vs → Stands u (paired (atoms u) (atom_words (atom_of s)) (atom_words (atom_of z)) us vs) (both (value_of s us) (value_of z vs))
+pub pair-words : (s z u : SeqTree) (us vs : List ℕ) → pair_type s z ≡ Some u → Fit s us → Fit z vs
+    → Stands u (paired (atoms u) (atom_words (atom_of s)) (atom_words (atom_of z)) us vs) (both (value_of s us) (value_of z vs))
 pair-words (atom a) (atom b) u us vs type h g =
     let same : atom (pair a b) ≡ u = same_Some _ u type in
     let P : List ℕ → Type 0 = λ ws. Stands (atom (pair a b)) ws (both (atom_value a us) (atom_value b vs)) in
@@ -193,7 +214,8 @@ paired-front (suc n) k l us more vs h =
     let e : suc n * k ≡ k + n * k = omega arith in
     let room : k ≤ length us = omega arith in
     let rest : n * k ≤ length (drop k us) = omega (arith, length-drop k us) in
-    rw (take-append-le k us more room, drop-append-le k us more room) (ap (λ ys. (take k us ++ take l vs) ++ ys) (paired-front n k l (drop k us) more (drop l vs) rest))
+    rw (take-append-le k us more room, drop-append-le k us more room)
+    (ap (λ ys. (take k us ++ take l vs) ++ ys) (paired-front n k l (drop k us) more (drop l vs) rest))
 
 zipped-atoms : (s z v : SeqTree) → zipped_type s z ≡ Some v → atoms v ≡ atoms s
 zipped-atoms (atom a) (atom b) v h = ap atoms (sym (same_Some _ v h))
@@ -201,7 +223,8 @@ zipped-atoms (atom a) (seq m u) v h = absurd (none-some v h)
 zipped-atoms (seq n t) (atom b) v h = absurd (none-some v h)
 zipped-atoms (seq n t) (seq m u) v h =
     let ok = where_ok-some (n == m) (zipped_type t u >>= λ w. Some (seq n w)) v h in
-    option_and_then_some (λ w. Some (seq n w)) (zipped_type t u) v ok.1 (λ w at is. ap atoms (sym (same_Some (seq n w) v is)) ∙ ap (λ j. n * j) (zipped-atoms t u w at))
+    option_and_then_some (λ w. Some (seq n w)) (zipped_type t u) v ok.1
+    (λ w at is. ap atoms (sym (same_Some (seq n w) v is)) ∙ ap (λ j. n * j) (zipped-atoms t u w at))
 
 zip-atoms : (s z v : SeqTree) → zip_type s z ≡ Some v → atoms v ≡ atoms s
 zip-atoms (atom a) z v h = absurd (none-some v h)
@@ -232,7 +255,8 @@ beside s z us vs h g =
       rest = rest;
     }
 
-pub zip-words : (s z u : SeqTree) (us vs : List ℕ) → zip_type s z ≡ Some u → Fit s us → Fit z vs → Stands u (paired (atoms u) (atom_words (atom_of s)) (atom_words (atom_of z)) us vs) (zipped (value_of s us) (value_of z vs))
+pub zip-words : (s z u : SeqTree) (us vs : List ℕ) → zip_type s z ≡ Some u → Fit s us → Fit z vs
+    → Stands u (paired (atoms u) (atom_words (atom_of s)) (atom_words (atom_of z)) us vs) (zipped (value_of s us) (value_of z vs))
 zip-words s z u us vs type h g =
     let q = atoms u in
     let k = atom_words (atom_of s) in
@@ -242,8 +266,10 @@ zip-words s z u us vs type h g =
     let long = length-Fit s us h in
     let count = zip-atoms s z u type in
     let room : q * k ≤ length us = let e : q * k ≡ words s = ap (λ j. j * k) count ∙ sym (words-atoms s) in omega arith in
-    let form : old ++ paired q k l us vs ≡ old ++ paired q k l (drop 0 old) (drop (length us) old) = ap (λ ys. old ++ ys) (sym (ap (paired q k l old) b.rest ∙ paired-front q k l us vs vs room)) in
-    let st = on-top (zip_type s z) u old (old ++ paired q k l us vs) (paired q k l us vs) _ type refl (zip-pushed s z q k l 0 (length us) old (old ++ paired q k l us vs) count refl refl b.first b.second form) in
+    let form : old ++ paired q k l us vs ≡ old ++ paired q k l (drop 0 old) (drop (length us) old) = ap (λ ys. old ++ ys)
+    (sym (ap (paired q k l old) b.rest ∙ paired-front q k l us vs vs room)) in
+    let st = on-top (zip_type s z) u old (old ++ paired q k l us vs) (paired q k l us vs) _ type refl
+    (zip-pushed s z q k l 0 (length us) old (old ++ paired q k l us vs) count refl refl b.first b.second form) in
     let P : List ℕ → Type 0 = λ xs. Stands u (paired q k l us vs) (zipped (value_of s xs) (value_of z (window z (length us) old))) in
     let Q : List ℕ → Type 0 = λ ys. Stands u (paired q k l us vs) (zipped (value_of s us) (value_of z ys)) in
     subst Q b.second_is (subst P b.first_is st)
@@ -255,18 +281,26 @@ parts-one k o l ws =
     let e : o ≡ 0 * k + o = omega arith in
     ap (λ i. take l (drop i ws)) e ∙ sym (append-nil (take l (drop (0 * k + o) ws)))
 
-pub first-words : (s u : SeqTree) (ws : List ℕ) → fst_type s ≡ Some u → Fit s ws → Stands u (parts (atoms u) (atom_words (atom_of s)) 0 (atom_words (atom_of u)) ws) (first_part (value_of s ws))
+pub first-words : (s u : SeqTree) (ws : List ℕ) → fst_type s ≡ Some u → Fit s ws
+    → Stands u (parts (atoms u) (atom_words (atom_of s)) 0 (atom_words (atom_of u)) ws) (first_part (value_of s ws))
 first-words (atom (word k)) u ws type h = absurd (none-some u type)
 first-words (seq n t) u ws type h = absurd (none-some u type)
 first-words (atom (pair a b)) u ws type h =
     let same : atom a ≡ u = same_Some _ u type in
     let split = FitKinds-split (atom_kinds a) (atom_kinds b) ws h in
-    let one : Stands (atom a) (take (atom_words a) ws) (atom_value a (take (atom_words a) ws)) = record { fits = subst (λ n. FitKinds (take n ws) (atom_kinds a)) (length-atom_kinds a) split.0; value = refl } in
+    let one : Stands (atom a) (take (atom_words a) ws) (atom_value a (take (atom_words a) ws)) = record {
+      fits = subst
+          (λ n. FitKinds (take n ws) (atom_kinds a)) (length-atom_kinds a) split.0;
+      value = refl;
+    } in
     let P : List ℕ → Type 0 = λ us. Stands (atom a) us (atom_value a (take (atom_words a) ws)) in
-    let Q : SeqTree → Type 0 = λ z. Stands z (parts (atoms z) (atom_words a + atom_words b) 0 (atom_words (atom_of z)) ws) (atom_value a (take (atom_words a) ws)) in
+    let Q : SeqTree → Type 0 = λ z. Stands z (parts (atoms z) (atom_words a + atom_words b) 0 (atom_words (atom_of z)) ws)
+    (atom_value a (take (atom_words a) ws)) in
     subst Q same (subst P (parts-one (atom_words a + atom_words b) 0 (atom_words a) ws) one)
 
-pub second-words : (s u : SeqTree) (ws : List ℕ) → snd_type s ≡ Some u → Fit s ws → Stands u (parts (atoms u) (atom_words (atom_of s)) (atom_words (atom_of s) - atom_words (atom_of u)) (atom_words (atom_of u)) ws) (second_part (value_of s ws))
+pub second-words : (s u : SeqTree) (ws : List ℕ) → snd_type s ≡ Some u → Fit s ws
+    → Stands u (parts (atoms u) (atom_words (atom_of s)) (atom_words (atom_of s) - atom_words (atom_of u)) (atom_words (atom_of u)) ws)
+    (second_part (value_of s ws))
 second-words (atom (word k)) u ws type h = absurd (none-some u type)
 second-words (seq n t) u ws type h = absurd (none-some u type)
 second-words (atom (pair a b)) u ws type h =
@@ -277,10 +311,15 @@ second-words (atom (pair a b)) u ws type h =
     let long : length ws ≡ i + j = length-Fit (atom (pair a b)) ws h in
     let left : i + j - j ≡ i = omega arith in
     let all : take j (drop i ws) ≡ drop i ws = take_all j (drop i ws) (omega (arith, length-drop i ws)) in
-    let one : Stands (atom b) (drop i ws) (atom_value b (drop i ws)) = record { fits = subst (λ n. FitKinds (drop n ws) (atom_kinds b)) (length-atom_kinds a) split.1; value = refl } in
+    let one : Stands (atom b) (drop i ws) (atom_value b (drop i ws)) = record {
+      fits = subst (λ n. FitKinds (drop n ws) (atom_kinds b))
+          (length-atom_kinds a) split.1;
+      value = refl;
+    } in
     let form : drop i ws ≡ parts 1 (i + j) (i + j - j) j ws = sym all ∙ ap (λ o. take j (drop o ws)) (sym left) ∙ parts-one (i + j) (i + j - j) j ws in
     let P : List ℕ → Type 0 = λ us. Stands (atom b) us (atom_value b (drop i ws)) in
-    let Q : SeqTree → Type 0 = λ z. Stands z (parts (atoms z) (i + j) (i + j - atom_words (atom_of z)) (atom_words (atom_of z)) ws) (atom_value b (drop i ws)) in
+    let Q : SeqTree → Type 0 = λ z. Stands z (parts (atoms z) (i + j) (i + j - atom_words (atom_of z)) (atom_words (atom_of z)) ws)
+    (atom_value b (drop i ws)) in
     subst Q same (subst P form one)
 
 -- ---- constants

@@ -57,7 +57,8 @@ third_words s t u ss (v ∷ w ∷ z ∷ vs) h = h.1.1.0
 
 -- ---- a table of words
 
-pub table_fits : (s : StTree) (f : ℕ → ℕ) → ((q w : ℕ) → q < st_atoms s * element_words s → slice_get (widths_of s) (q % length (widths_of s)) ≡ Some w → f q < 2 ^ w) → AreWords (stream_of s) (map f (range_with_len 0 (st_atoms s * element_words s)))
+pub table_fits : (s : StTree) (f : ℕ → ℕ) → ((q w : ℕ) → q < st_atoms s * element_words s → slice_get (widths_of s) (q % length (widths_of s)) ≡ Some w
+    → f q < 2 ^ w) → AreWords (stream_of s) (map f (range_with_len 0 (st_atoms s * element_words s)))
 table_fits s f h =
     let n : ℕ = st_atoms s * element_words s in
     let many : length (map f (range_with_len 0 n)) ≡ n = length-map-range_with_len f 0 n in
@@ -74,7 +75,8 @@ table_fits s f h =
 one_word : (w : ℕ) (v : List ℕ) → AreWords (word_stream w) v → get_or v 0 0 < 2 ^ w
 one_word w v h = word_fit (word_stream w) v 0 w h refl
 
-operands_fit : (op : WordOp) (w : ℕ) (vs : List (List ℕ)) → AllAreWords (map word_stream (operand_widths op w)) vs → OperandsFit op w (get_or (words_at vs 0) 0 0) (get_or (words_at vs 1) 0 0) (get_or (words_at vs 2) 0 0)
+operands_fit : (op : WordOp) (w : ℕ) (vs : List (List ℕ)) → AllAreWords (map word_stream (operand_widths op w)) vs
+    → OperandsFit op w (get_or (words_at vs 0) 0 0) (get_or (words_at vs 1) 0 0) (get_or (words_at vs 2) 0 0)
 operands_fit Not w vs h = one_word w (words_at vs 0) (first_words (word_stream w) [] vs h)
 operands_fit (Shl k) w vs h = one_word w (words_at vs 0) (first_words (word_stream w) [] vs h)
 operands_fit (Shr k) w vs h = one_word w (words_at vs 0) (first_words (word_stream w) [] vs h)
@@ -94,7 +96,8 @@ operands_fit _ w vs h = (
 result_fits : (w x : ℕ) → x < 2 ^ w → AreWords (word_stream w) (x ∷ [])
 result_fits w x h = words_of (word_stream w) (x ∷ []) (h, tt)
 
-pub word_words : (known : List Callee) (op : WordOp) (ins : List StTree) (s : StTree) (vs : List (List ℕ)) → FitsWord op ins s → AllAreWords (streams_of ins) vs → AreWords (stream_of s) (op_words known ins s (word op) vs)
+pub word_words : (known : List Callee) (op : WordOp) (ins : List StTree) (s : StTree) (vs : List (List ℕ)) → FitsWord op ins s
+    → AllAreWords (streams_of ins) vs → AreWords (stream_of s) (op_words known ins s (word op) vs)
 word_words known op ins s vs h fit =
     let w : ℕ = width_of op ins in
     let operands = operands_fit op w vs (subst (λ (ss : List Stream). AllAreWords ss vs) h.ins fit) in
@@ -112,23 +115,28 @@ pub words_from : (s : StTree) (v : List ℕ) → FitWidths v (repeated (st_atoms
 words_from s v h = words_of (stream_of s) v (rw (length-slots s) h)
 
 pair_widths : (a b s : StTree) → FitsPair a b s → widths_of s ≡ widths_of a ++ widths_of b
-pair_widths a b s h = ap (map (λ (k : WordKind). k.width)) h.kinds ∙ map-append (λ (k : WordKind). k.width) (atom_kinds (element_atom a)) (atom_kinds (element_atom b))
+pair_widths a b s h =
+    ap (map (λ (k : WordKind). k.width)) h.kinds ∙ map-append (λ (k : WordKind). k.width) (atom_kinds (element_atom a)) (atom_kinds (element_atom b))
 
-pub join_words : (known : List Callee) (a b s : StTree) (vs : List (List ℕ)) → FitsPair a b s → AllAreWords (stream_of a ∷ stream_of b ∷ []) vs → AreWords (stream_of s) (op_words known (a ∷ b ∷ []) s join vs)
+pub join_words : (known : List Callee) (a b s : StTree) (vs : List (List ℕ)) → FitsPair a b s → AllAreWords (stream_of a ∷ stream_of b ∷ []) vs
+    → AreWords (stream_of s) (op_words known (a ∷ b ∷ []) s join vs)
 join_words known a b s vs h fit =
     let us = rows_of a s (widths_of a) (words_at vs 0) h.first.slots refl (first_words (stream_of a) (stream_of b ∷ []) vs fit) in
     let ws = rows_of b s (widths_of b) (words_at vs 1) h.second.slots refl (second_words (stream_of a) (stream_of b) [] vs fit) in
     let both = pairs_fit (st_atoms s) (widths_of a) (widths_of b) (words_at vs 0) (words_at vs 1) us ws in
     words_from s (op_words known (a ∷ b ∷ []) s join vs) (rw (pair_widths a b s h, ← length-widths_of a, ← length-widths_of b) both)
 
-pub first_part : (known : List Callee) (a s : StTree) (vs : List (List ℕ)) → FitsFirst s a → AllAreWords (stream_of a ∷ []) vs → AreWords (stream_of s) (op_words known (a ∷ []) s first vs)
+pub first_part : (known : List Callee) (a s : StTree) (vs : List (List ℕ)) → FitsFirst s a → AllAreWords (stream_of a ∷ []) vs
+    → AreWords (stream_of s) (op_words known (a ∷ []) s first vs)
 first_part known a s vs h fit =
     let wide = pair_widths s h.other a h.pair in
     let rows = rows_of a s (widths_of s ++ widths_of h.other) (words_at vs 0) (sym h.pair.first.slots) wide (first_words (stream_of a) [] vs fit) in
     let all : element_words a ≡ length (widths_of s ++ widths_of h.other) = sym (length-widths_of a) ∙ ap length wide in
-    words_from s (op_words known (a ∷ []) s first vs) (rw (all, ← length-widths_of s) (parts_fit (st_atoms s) [] (widths_of s) (widths_of h.other) (words_at vs 0) rows))
+    words_from s (op_words known (a ∷ []) s first vs) (rw (all, ← length-widths_of s)
+    (parts_fit (st_atoms s) [] (widths_of s) (widths_of h.other) (words_at vs 0) rows))
 
-pub second_part : (known : List Callee) (a s : StTree) (vs : List (List ℕ)) → FitsSecond s a → AllAreWords (stream_of a ∷ []) vs → AreWords (stream_of s) (op_words known (a ∷ []) s second vs)
+pub second_part : (known : List Callee) (a s : StTree) (vs : List (List ℕ)) → FitsSecond s a → AllAreWords (stream_of a ∷ []) vs
+    → AreWords (stream_of s) (op_words known (a ∷ []) s second vs)
 second_part known a s vs h fit =
     let front : List ℕ = widths_of h.other in
     let own : List ℕ = widths_of s in
@@ -145,7 +153,8 @@ pub fixed_words : (s : StTree) (ws : List ℕ) → FixedFits s ws → AreWords (
 fixed_words s ws h = record {
   long = h.long ∙ (ap (λ i. i * element_words s) (sym (length-slots s)) ∙ ap (λ i. length (slots s) * i) (sym (length-widths_of s)));
   fit = λ i x w g e.
-      let k = kind_at (slice_get (atom_kinds (element_atom s)) (i % length (widths_of s))) w (sym (slice_get-map (λ (k : WordKind). k.width) (atom_kinds (element_atom s)) (i % length (widths_of s))) ∙ e) in
+      let k = kind_at (slice_get (atom_kinds (element_atom s)) (i % length (widths_of s))) w
+      (sym (slice_get-map (λ (k : WordKind). k.width) (atom_kinds (element_atom s)) (i % length (widths_of s))) ∙ e) in
       rw k.2 (h.fits i x k.0 g (ap (λ m. slice_get (atom_kinds (element_atom s)) (i % m)) (sym (length-widths_of s)) ∙ k.1));
 }
   where
@@ -156,22 +165,26 @@ fixed_words s ws h = record {
 -- ---- moves
 
 -- a word of the argument at the place in its element that the word of the result has
-input_fits : (a s : StTree) (vs : List (List ℕ)) (e q w : ℕ) → element_atom a ≡ element_atom s → AreWords (stream_of a) (words_at vs 0) → slice_get (widths_of s) (q % length (widths_of s)) ≡ Some w
+input_fits : (a s : StTree) (vs : List (List ℕ)) (e q w : ℕ) → element_atom a ≡ element_atom s → AreWords (stream_of a) (words_at vs 0)
+    → slice_get (widths_of s) (q % length (widths_of s)) ≡ Some w
     → origin_word (a ∷ []) vs (from_input 0 e (q % element_words s)) < 2 ^ w
 input_fits a s vs e q w same h at =
     let l : ℕ = element_words s in
     let words : element_words a ≡ l = rw same refl in
     let place : (e * l + q % l) % l ≡ q % l = mod-mul-add e l (q % l) (mod_below q l (element_words_pos s)) in
-    let there : slice_get (widths_of s) ((e * l + q % l) % l) ≡ Some w = ap (slice_get (widths_of s)) place ∙ (ap (λ m. slice_get (widths_of s) (q % m)) (sym (length-widths_of s)) ∙ at) in
+    let there : slice_get (widths_of s) ((e * l + q % l) % l) ≡ Some w = ap (slice_get (widths_of s)) place ∙
+    (ap (λ m. slice_get (widths_of s) (q % m)) (sym (length-widths_of s)) ∙ at) in
     let own : widths_of a ≡ widths_of s = rw same refl in
     let found : slice_get (widths_of a) ((e * element_words a + q % l) % length (widths_of a)) ≡ Some w = rw (own, length-widths_of s, words) there in
     word_fit (stream_of a) (words_at vs 0) (e * element_words a + q % l) w h found
 
-either_fits : (b : Bool) (ins : List StTree) (vs : List (List ℕ)) (o : OriginTree) (w : ℕ) → origin_word ins vs o < 2 ^ w → origin_word ins vs (cond b (fixed_origin 0) o) < 2 ^ w
+either_fits : (b : Bool) (ins : List StTree) (vs : List (List ℕ)) (o : OriginTree) (w : ℕ) → origin_word ins vs o < 2 ^ w
+    → origin_word ins vs (cond b (fixed_origin 0) o) < 2 ^ w
 either_fits true ins vs o w h = pow_pos w
 either_fits false ins vs o w h = h
 
-origin_fits : (how : MoveOp) (a s : StTree) (vs : List (List ℕ)) (q w : ℕ) → element_atom a ≡ element_atom s → AreWords (stream_of a) (words_at vs 0) → slice_get (widths_of s) (q % length (widths_of s)) ≡ Some w
+origin_fits : (how : MoveOp) (a s : StTree) (vs : List (List ℕ)) (q w : ℕ) → element_atom a ≡ element_atom s → AreWords (stream_of a) (words_at vs 0)
+    → slice_get (widths_of s) (q % length (widths_of s)) ≡ Some w
     → origin_word (a ∷ []) vs (origin_number how a s q) < 2 ^ w
 origin_fits (Shift k) a s vs q w same h at =
     let e : ℕ = q / element_words s in
@@ -184,7 +197,9 @@ map_twice : {X : Type 0} (f : X → ℕ) (g : ℕ → X) (xs : List ℕ) → map
 map_twice f g [] = refl
 map_twice f g (x ∷ xs) = ap (λ ys. f (g x) ∷ ys) (map_twice f g xs)
 
-pub move_words : (known : List Callee) (how : MoveOp) (a s : StTree) (vs : List (List ℕ)) → FitsMove how a s → AllAreWords (stream_of a ∷ []) vs → AreWords (stream_of s) (op_words known (a ∷ []) s (move how) vs)
+pub move_words : (known : List Callee) (how : MoveOp) (a s : StTree) (vs : List (List ℕ)) → FitsMove how a s → AllAreWords (stream_of a ∷ []) vs
+    → AreWords (stream_of s) (op_words known (a ∷ []) s (move how) vs)
 move_words known how a s vs h fit =
-    let words = table_fits s (λ q. origin_word (a ∷ []) vs (origin_number how a s q)) (λ q w below at. origin_fits how a s vs q w h.0 (first_words (stream_of a) [] vs fit) at) in
+    let words = table_fits s (λ q. origin_word (a ∷ []) vs (origin_number how a s q))
+    (λ q w below at. origin_fits how a s vs q w h.0 (first_words (stream_of a) [] vs fit) at) in
     rw (map_twice (origin_word (a ∷ []) vs) (origin_number how a s) (range_with_len 0 (st_atoms s * element_words s))) words

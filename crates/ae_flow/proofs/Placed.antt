@@ -30,7 +30,8 @@ pub record NodeAt (p : ProgramTree) (keys : Keys) (f u i : ℕ) (ns : List NodeT
   pub here : slice_get ns j ≡ Some node
   pub is : IsStNode p keys f u (i + j) node s
 
-pub node_at : (p : ProgramTree) (keys : Keys) (f u i : ℕ) (ns : List NodeTree) (ss : List StNodeTree) (j : ℕ) (s : StNodeTree) → AreStNodes p keys f u i ns ss → slice_get ss j ≡ Some s → NodeAt p keys f u i ns j s
+pub node_at : (p : ProgramTree) (keys : Keys) (f u i : ℕ) (ns : List NodeTree) (ss : List StNodeTree) (j : ℕ) (s : StNodeTree) → AreStNodes p keys f u i ns ss
+    → slice_get ss j ≡ Some s → NodeAt p keys f u i ns j s
 node_at p keys f u i [] [] j s h at = absurd (none-some s at)
 node_at p keys f u i [] (t ∷ ss) j s h at = absurd h
 node_at p keys f u i (n ∷ ns) [] j s h at = absurd h
@@ -49,7 +50,8 @@ nodes_many p keys f u i [] (t ∷ ss) h = absurd h
 nodes_many p keys f u i (n ∷ ns) [] h = absurd h
 nodes_many p keys f u i (n ∷ ns) (t ∷ ss) h = omega (arith, nodes_many p keys f u (i + 1) ns ss h.1)
 
-param_at : (clocks : ℕ) (ps : List ParamTree) (ss : List StTree) (i : ℕ) (s : StTree) → param_layouts clocks ps ≡ map (λ (x : StTree). Some x) ss → slice_get ss i ≡ Some s → (q : ParamTree) × (slice_get ps i ≡ Some q) × (lay_of q.type clocks ≡ Some s)
+param_at : (clocks : ℕ) (ps : List ParamTree) (ss : List StTree) (i : ℕ) (s : StTree) → param_layouts clocks ps ≡ map (λ (x : StTree). Some x) ss
+    → slice_get ss i ≡ Some s → (q : ParamTree) × (slice_get ps i ≡ Some q) × (lay_of q.type clocks ≡ Some s)
 param_at clocks ps [] i s h at = absurd (none-some s at)
 param_at clocks [] (t ∷ ss) i s h at = cc
 param_at clocks (q ∷ ps) (t ∷ ss) zero s h at =
@@ -62,7 +64,8 @@ param_at clocks (q ∷ ps) (t ∷ ss) (suc i) s h at =
 pub as_many : (clocks : ℕ) (ps : List ParamTree) (ss : List StTree) → param_layouts clocks ps ≡ map (λ (x : StTree). Some x) ss → length ss ≡ length ps
 as_many clocks ps ss h = sym (length-map ss (λ (x : StTree). Some x)) ∙ (ap length (sym h) ∙ length-map ps (λ (q : ParamTree). lay_of q.type clocks))
 
-pub item_count_is : (p : ProgramTree) (keys : Keys) (s : StFuncTree) (h : IsInstance p keys s) → length (item_layouts s) ≡ length h.of.params + length h.of.nodes
+pub item_count_is : (p : ProgramTree) (keys : Keys) (s : StFuncTree) (h : IsInstance p keys s)
+    → length (item_layouts s) ≡ length h.of.params + length h.of.nodes
 item_count_is p keys s h =
     let count : length s.ins ≡ length h.of.params = as_many s.budget h.of.params s.ins h.ins in
     let nodes : length s.nodes ≡ length h.of.nodes = nodes_many p keys s.func s.budget (length h.of.params) h.of.nodes s.nodes h.nodes in
@@ -70,19 +73,23 @@ item_count_is p keys s h =
 
 -- ---- each item's layout is that of its type
 
-layout_is : (p : ProgramTree) (f budget a : ℕ) (layouts : List StTree) (s : StTree) → layout_at p f budget a ≡ Some s → slice_get layouts a ≡ Some s → layout_at p f budget a ≡ Some (item_layout layouts a)
+layout_is : (p : ProgramTree) (f budget a : ℕ) (layouts : List StTree) (s : StTree) → layout_at p f budget a ≡ Some s → slice_get layouts a ≡ Some s
+    → layout_at p f budget a ≡ Some (item_layout layouts a)
 layout_is p f budget a layouts s is at = is ∙ ap Some (sym (get_or_from_slice_get layouts a s (sseq 0 (st_atom (unsigned_word 1))) at))
 
-pub item_laid : (p : ProgramTree) (keys : Keys) (s : StFuncTree) (h : IsInstance p keys s) (a : ℕ) → a < length (item_layouts s) → layout_at p s.func s.budget a ≡ Some (item_layout (item_layouts s) a)
+pub item_laid : (p : ProgramTree) (keys : Keys) (s : StFuncTree) (h : IsInstance p keys s) (a : ℕ) → a < length (item_layouts s)
+    → layout_at p s.func s.budget a ≡ Some (item_layout (item_layouts s) a)
 item_laid p keys s h a below =
     let count : length s.ins ≡ length h.of.params = as_many s.budget h.of.params s.ins h.ins in
-    let long : length (item_layouts s) ≡ length s.ins + length s.nodes = length-append s.ins (node_layouts s.nodes) ∙ omega (arith, length-map s.nodes (λ (x : StNodeTree). x.type)) in
+    let long : length (item_layouts s) ≡ length s.ins + length s.nodes = length-append s.ins (node_layouts s.nodes) ∙
+    omega (arith, length-map s.nodes (λ (x : StNodeTree). x.type)) in
     elim (cases_lt a (length s.ins)) [
       | inl lt ↦
           let x : StTree = get_or s.ins a (sseq 0 (st_atom (unsigned_word 1))) in
           let at : slice_get s.ins a ≡ Some x = slice_get-get_or s.ins a (sseq 0 (st_atom (unsigned_word 1))) lt in
           let q = param_at s.budget h.of.params s.ins a x h.ins at in
-          layout_is p s.func s.budget a (item_layouts s) x (ap (λ o. o >>= λ t. lay_of t s.budget) (param-type p s.func a h.of q.0 h.known q.1) ∙ q.2) (get_in_front s.ins (node_layouts s.nodes) a x at)
+          layout_is p s.func s.budget a (item_layouts s) x (ap (λ o. o >>= λ t. lay_of t s.budget) (param-type p s.func a h.of q.0 h.known q.1) ∙ q.2)
+          (get_in_front s.ins (node_layouts s.nodes) a x at)
       | inr ge ↦
           let j : ℕ = a - length s.ins in
           let e : length s.ins + j ≡ a = omega (arith, ge) in
@@ -90,7 +97,9 @@ item_laid p keys s h a below =
           let m : StNodeTree = get_or s.nodes j blank in
           let at : slice_get s.nodes j ≡ Some m = slice_get-get_or s.nodes j blank (omega (arith, ge, below, long)) in
           let n = node_at p keys s.func s.budget (length h.of.params) h.of.nodes s.nodes j m h.nodes at in
-          let there : slice_get (item_layouts s) a ≡ Some m.type = ap (slice_get (item_layouts s)) (sym e) ∙ (get_right s.ins (node_layouts s.nodes) j ∙ (slice_get-map (λ (x : StNodeTree). x.type) s.nodes j ∙ ap (option_map (λ (x : StNodeTree). x.type)) at)) in
+          let there : slice_get (item_layouts s) a ≡ Some m.type = ap (slice_get (item_layouts s)) (sym e) ∙
+          (get_right s.ins (node_layouts s.nodes) j ∙ (slice_get-map (λ (x : StNodeTree). x.type) s.nodes j ∙
+          ap (option_map (λ (x : StNodeTree). x.type)) at)) in
           let place : length h.of.params + j ≡ a = omega (arith, count, e) in
           layout_is p s.func s.budget a (item_layouts s) m.type (rw place at n.is.type) there
     ]
@@ -100,7 +109,8 @@ pub record IsLaidAs (t : SeqTree) (budget : ℕ) (s : StTree) : Type 0 where
   pub laid : lay_of t budget ≡ Some s
 
 -- an item of a type that is known
-pub typed_item : (p : ProgramTree) (keys : Keys) (s : StFuncTree) (h : IsInstance p keys s) (a : ℕ) (t : SeqTree) → IsTyped p → slice_get (types_in p s.func) a ≡ Some t → a < length (item_layouts s)
+pub typed_item : (p : ProgramTree) (keys : Keys) (s : StFuncTree) (h : IsInstance p keys s) (a : ℕ) (t : SeqTree) → IsTyped p
+    → slice_get (types_in p s.func) a ≡ Some t → a < length (item_layouts s)
     → IsLaidAs t s.budget (item_layout (item_layouts s) a)
 typed_item p keys s h a t typed is below =
     let type : type_at p s.func a ≡ Some t = type-at-is p s.func a typed ∙ is in
@@ -117,7 +127,8 @@ AreLaidAs [] budget [] = Unit {0}
 AreLaidAs (t ∷ ts) budget (a ∷ layouts) = IsLaidAs t budget a × AreLaidAs ts budget layouts
 AreLaidAs _ budget _ = ⊥
 
-pub typed_items : (p : ProgramTree) (keys : Keys) (s : StFuncTree) (h : IsInstance p keys s) (args : List ℕ) (ts : List SeqTree) → IsTyped p → length (item_layouts s) ≡ length (types_in p s.func)
+pub typed_items : (p : ProgramTree) (keys : Keys) (s : StFuncTree) (h : IsInstance p keys s) (args : List ℕ) (ts : List SeqTree) → IsTyped p
+    → length (item_layouts s) ≡ length (types_in p s.func)
     → ItemsHave (types_in p s.func) args ts → AreLaidAs ts s.budget (map (item_layout (item_layouts s)) args)
 typed_items p keys s h [] [] typed long have = tt
 typed_items p keys s h [] (t ∷ ts) typed long have = absurd have

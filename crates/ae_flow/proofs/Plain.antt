@@ -35,10 +35,15 @@ pair_fits a b x y s h g o = record {
   kinds = rw (o.atom, h.atom, g.atom) refl;
 }
 
-zip_fits : (t u v : SeqTree) (budget : ℕ) (x y s : StTree) → zipped_type t u ≡ Some v → lay_of t budget ≡ Some x → lay_of u budget ≡ Some y → lay_of v budget ≡ Some s → FitsPair x y s
+zip_fits : (t u v : SeqTree) (budget : ℕ) (x y s : StTree) → zipped_type t u ≡ Some v → lay_of t budget ≡ Some x → lay_of u budget ≡ Some y
+    → lay_of v budget ≡ Some s → FitsPair x y s
 zip_fits t u v budget x y s h p q r =
     let z = zipped t u v budget x y s h p q r in
-    record { first = record { slots = z.first.slots; lanes = z.first.lanes }; second = record { slots = z.second.slots; lanes = z.second.lanes }; kinds = z.kinds }
+    record {
+      first = record { slots = z.first.slots; lanes = z.first.lanes };
+      second = record { slots = z.second.slots; lanes = z.second.lanes };
+      kinds = z.kinds;
+    }
 
 -- ---- the types of a node's arguments
 
@@ -231,8 +236,10 @@ abbrev Fits : (p : ProgramTree) (f budget copies : ℕ) (before : List StFuncTre
 Fits p f budget copies before known op t s made args ts ins =
     op_type known op ts ≡ Some t → plain_op p f budget op args ≡ Some made → FitsOp before budget copies ins s made
 
-pub plain_fits : (p : ProgramTree) (f budget v m copies : ℕ) (before : List StFuncTree) (known : List Signature) (op : OpTree) (args : List ℕ) (ts : List SeqTree) (ins : List StTree) (t : SeqTree) (s : StTree) (made : StOpTree) → 0 < budget
-    → IsTrue (is_line v m op) → IsTrue (has_arguments op (length args)) → HaveTypes p f args ts → AreLaidAs ts budget ins → op_type known op ts ≡ Some t → IsLaidAs t budget s → plain_op p f budget op args ≡ Some made → FitsOp before budget copies ins s made
+pub plain_fits : (p : ProgramTree) (f budget v m copies : ℕ) (before : List StFuncTree) (known : List Signature) (op : OpTree) (args : List ℕ)
+    (ts : List SeqTree) (ins : List StTree) (t : SeqTree) (s : StTree) (made : StOpTree) → 0 < budget
+    → IsTrue (is_line v m op) → IsTrue (has_arguments op (length args)) → HaveTypes p f args ts → AreLaidAs ts budget ins → op_type known op ts ≡ Some t
+    → IsLaidAs t budget s → plain_op p f budget op args ≡ Some made → FitsOp before budget copies ins s made
 plain_fits p f budget v m copies before known (word op) args ts ins t s made some line arity h l is out plain =
     rw (← same_Some (st_word (op_by p f op args)) made plain)
     (word_fits p f budget op args ts ins t s line (eqb-true (length args) (arity_of op) arity) h l is out)

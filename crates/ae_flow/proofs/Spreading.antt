@@ -64,8 +64,10 @@ spread_over n t budget s some h =
     }
 
 -- how it is spread, as the rewriting sees it
-pub spread_is : (p : ProgramTree) (f budget a n : ℕ) (t : SeqTree) (s : StTree) (h : IsArrangedBy n t budget s) → type_at p f a ≡ Some (seq n t) → spread_at p f budget a ≡ Some (record { count = n; of = t; case = h.case })
-spread_is p f budget a n t s h type = ap (λ o. o >>= λ u. spread u budget) type ∙ ap (option_map (λ (c : Case). record { count = n; of = t; case = c })) h.applies
+pub spread_is : (p : ProgramTree) (f budget a n : ℕ) (t : SeqTree) (s : StTree) (h : IsArrangedBy n t budget s) → type_at p f a ≡ Some (seq n t)
+    → spread_at p f budget a ≡ Some (record { count = n; of = t; case = h.case })
+spread_is p f budget a n t s h type =
+    ap (λ o. o >>= λ u. spread u budget) type ∙ ap (option_map (λ (c : Case). record { count = n; of = t; case = c })) h.applies
 
 -- ---- folds
 
@@ -73,8 +75,10 @@ one_by : (b : Bool) (rest : ℕ) (t : StTree) → IsOneOf t (cond b (sseq 1 t) (
 one_by true rest t = inl refl
 one_by false rest t = inr (rest, refl)
 
-pub fold_fits : (p : ProgramTree) (f budget a n : ℕ) (op : WordOp) (t : SeqTree) (x s : StTree) (made : StOpTree) (Fits : StOpTree → Type 0) → 0 < budget → folds op ≡ true → type_at p f a ≡ Some (seq n t) → IsLaidAs (seq n t) budget x
-    → ((slots lanes : ℕ) (raw : StTree) → FitsFold budget op slots lanes raw x s → Fits (fold op slots lanes raw)) → (spread_at p f budget a >>= fold_of op budget) ≡ Some made → Fits made
+pub fold_fits : (p : ProgramTree) (f budget a n : ℕ) (op : WordOp) (t : SeqTree) (x s : StTree) (made : StOpTree) (Fits : StOpTree → Type 0) → 0 < budget
+    → folds op ≡ true → type_at p f a ≡ Some (seq n t) → IsLaidAs (seq n t) budget x
+    → ((slots lanes : ℕ) (raw : StTree) → FitsFold budget op slots lanes raw x s → Fits (fold op slots lanes raw))
+    → (spread_at p f budget a >>= fold_of op budget) ≡ Some made → Fits made
 fold_fits p f budget a n op t x s made Fits some is_fold type laid goal plain =
     let h = spread_over n t budget x some laid in
     let c = h.arranged.case in
@@ -82,18 +86,27 @@ fold_fits p f budget a n op t x s made Fits some is_fold type laid goal plain =
     let lanes : ℕ = lanes_of n budget c in
     let raw : StTree = raw_layout budget (inner_of n budget c) h.arranged.of in
     let m : fold op slots lanes raw ≡ made =
-    same_Some _ made (sym (ap (λ o. o >>= fold_of op budget) (spread_is p f budget a n t x h.arranged type) ∙ ap (option_map (λ y. fold op slots lanes (raw_layout budget (inner_of n budget c) y))) h.arranged.laid) ∙ plain) in
-    rw (← m) (goal slots lanes raw (record { element = h.arranged.of; one = one_by (nat_eq budget 1) (budget / inner_of n budget c - 1) h.arranged.of; foldable = is_fold; room = h.room; ins = h.ins }))
+    same_Some _ made (sym (ap (λ o. o >>= fold_of op budget) (spread_is p f budget a n t x h.arranged type) ∙
+    ap (option_map (λ y. fold op slots lanes (raw_layout budget (inner_of n budget c) y))) h.arranged.laid) ∙ plain) in
+    rw (← m) (goal slots lanes raw (record {
+      element = h.arranged.of;
+      one = one_by (nat_eq budget 1) (budget / inner_of n budget c - 1) h.arranged.of;
+      foldable = is_fold;
+      room = h.room;
+      ins = h.ins;
+    }))
 
 -- ---- scans
 
 -- which case comes before which
-grouped_after : (o s g p : Bool) (last : Option Case) → cond o (Some Parallel) (cond s (Some Spread) (cond g (Some Grouped) (cond p (Some Padded) last))) ≡ Some Grouped → s ≡ false
+grouped_after : (o s g p : Bool) (last : Option Case) → cond o (Some Parallel)
+    (cond s (Some Spread) (cond g (Some Grouped) (cond p (Some Padded) last))) ≡ Some Grouped → s ≡ false
 grouped_after true s g p last h = cc
 grouped_after false true g p last h = cc
 grouped_after false false g p last h = refl
 
-folded_after : (o s g p : Bool) (last : Option Case) (d : ℕ) → cond o (Some Parallel) (cond s (Some Spread) (cond g (Some Grouped) (cond p (Some Padded) last))) ≡ Some (Folded d) → p ≡ false
+folded_after : (o s g p : Bool) (last : Option Case) (d : ℕ)
+    → cond o (Some Parallel) (cond s (Some Spread) (cond g (Some Grouped) (cond p (Some Padded) last))) ≡ Some (Folded d) → p ≡ false
 folded_after true s g p last d h = cc
 folded_after false true g p last d h = cc
 folded_after false false true p last d h = cc
@@ -108,7 +121,8 @@ grouped_many n clocks p q h is = two_of (n / clocks) (quotient_pos n clocks p q 
     let w : clocks * (n / clocks) ≡ n = whole n clocks q h in
     let e : clocks ≡ n = omega (arith, w, ap (λ x. clocks * x) one) in
     let none : clocks % n ≡ 0 = ap (λ x. clocks % x) (sym e) ∙ mod_self clocks in
-    let spread = grouped_after (nat_eq clocks 1) (nat_eq (clocks % n) 0) (nat_eq (n % clocks) 0) (nat_lt n clocks) (folded_by (greatest_divisor n (clocks - 1))) is in
+    let spread = grouped_after (nat_eq clocks 1) (nat_eq (clocks % n) 0) (nat_eq (n % clocks) 0) (nat_lt n clocks)
+    (folded_by (greatest_divisor n (clocks - 1))) is in
     false≢true (sym spread ∙ eq-eqb (clocks % n) 0 none))
 
 folded_many : (n clocks d : ℕ) → 0 < n → 1 < d → n % d ≡ 0 → d < clocks → case_of n clocks ≡ Some (Folded d) → 2 ≤ n / d
@@ -117,19 +131,23 @@ folded_many n clocks d p b h less is =
     two_of (n / d) (quotient_pos n d p some h) (λ one.
     let w : d * (n / d) ≡ n = whole n d some h in
     let e : d ≡ n = omega (arith, w, ap (λ x. d * x) one) in
-    let padded = folded_after (nat_eq clocks 1) (nat_eq (clocks % n) 0) (nat_eq (n % clocks) 0) (nat_lt n clocks) (folded_by (greatest_divisor n (clocks - 1))) d is in
+    let padded = folded_after (nat_eq clocks 1) (nat_eq (clocks % n) 0) (nat_eq (n % clocks) 0) (nat_lt n clocks)
+    (folded_by (greatest_divisor n (clocks - 1))) d is in
     let high : clocks ≤ n = grind (arith, nat_tests, padded) in
     absurd (omega arith))
 
-pub arranged_is : (n clocks : ℕ) (c : Case) (t : StTree) → 0 < n → 0 < clocks → Applies n clocks c → case_of n clocks ≡ Some c → IsArranged (slots_of n clocks c) (lanes_of n clocks c) t (arranged n clocks c t)
+pub arranged_is : (n clocks : ℕ) (c : Case) (t : StTree) → 0 < n → 0 < clocks → Applies n clocks c → case_of n clocks ≡ Some c
+    → IsArranged (slots_of n clocks c) (lanes_of n clocks c) t (arranged n clocks c t)
 arranged_is n clocks Parallel t p q h is = inl (refl, refl)
 arranged_is n clocks Spread t p q h is = inr (inl (refl, (0, refl)))
 arranged_is n clocks Grouped t p q h is = inr (inr (grouped_many n clocks p q h is, (0, refl)))
 arranged_is n clocks Padded t p q h is = inr (inl (refl, (clocks - n, refl)))
 arranged_is n clocks (Folded d) t p q h is = inr (inr (folded_many n clocks d p h.0 h.1 h.2 is, (clocks - d, refl)))
 
-pub scan_fits : (p : ProgramTree) (f budget a n : ℕ) (op : WordOp) (t : SeqTree) (x s : StTree) (made : StOpTree) (Fits : StOpTree → Type 0) → 0 < budget → folds op ≡ true → type_at p f a ≡ Some (seq n t) → IsLaidAs (seq n t) budget x → lay_of (seq n t) budget ≡ Some s
-    → ((slots lanes : ℕ) → FitsScan budget op slots lanes x s → Fits (scan op slots lanes)) → option_map (scan_of op budget) (spread_at p f budget a) ≡ Some made → Fits made
+pub scan_fits : (p : ProgramTree) (f budget a n : ℕ) (op : WordOp) (t : SeqTree) (x s : StTree) (made : StOpTree) (Fits : StOpTree → Type 0) → 0 < budget
+    → folds op ≡ true → type_at p f a ≡ Some (seq n t) → IsLaidAs (seq n t) budget x → lay_of (seq n t) budget ≡ Some s
+    → ((slots lanes : ℕ) → FitsScan budget op slots lanes x s → Fits (scan op slots lanes))
+    → option_map (scan_of op budget) (spread_at p f budget a) ≡ Some made → Fits made
 scan_fits p f budget a n op t x s made Fits some is_fold type laid out goal plain =
     let h = spread_over n t budget x some laid in
     let c = h.arranged.case in
@@ -137,4 +155,10 @@ scan_fits p f budget a n op t x s made Fits some is_fold type laid out goal plai
     let lanes : ℕ = lanes_of n budget c in
     let same : arranged n budget c h.arranged.of ≡ s = h.arranged.is ∙ same_Some x s (sym laid.laid ∙ out) in
     let m : scan op slots lanes ≡ made = same_Some _ made (sym (ap (option_map (scan_of op budget)) (spread_is p f budget a n t x h.arranged type)) ∙ plain) in
-    rw (← m) (goal slots lanes (record { element = h.arranged.of; arranged = rw (← same) (arranged_is n budget c h.arranged.of h.some some h.applies h.arranged.applies); foldable = is_fold; room = h.room; ins = h.ins }))
+    rw (← m) (goal slots lanes (record {
+      element = h.arranged.of;
+      arranged = rw (← same) (arranged_is n budget c h.arranged.of h.some some h.applies h.arranged.applies);
+      foldable = is_fold;
+      room = h.room;
+      ins = h.ins;
+    }))

@@ -112,7 +112,8 @@ pub record IsArrangedBy (n : ℕ) (t : SeqTree) (clocks : ℕ) (s : StTree) : Ty
   pub laid : lay_of t (inner_of n clocks case) ≡ Some of
   pub is : arranged n clocks case of ≡ s
 
-by_part : (n : ℕ) (t : SeqTree) (clocks : ℕ) (s : StTree) (c : Case) (o : Option StTree) → case_of n clocks ≡ Some c → lay_of t (inner_of n clocks c) ≡ o → option_map (arranged n clocks c) o ≡ Some s → IsArrangedBy n t clocks s
+by_part : (n : ℕ) (t : SeqTree) (clocks : ℕ) (s : StTree) (c : Case) (o : Option StTree) → case_of n clocks ≡ Some c → lay_of t (inner_of n clocks c) ≡ o
+    → option_map (arranged n clocks c) o ≡ Some s → IsArrangedBy n t clocks s
 by_part n t clocks s c None p q h = absurd (none-some s h)
 by_part n t clocks s c (Some x) p q h = record { case = c; of = x; applies = p; laid = q; is = same_Some (arranged n clocks c x) s h }
 
@@ -142,7 +143,8 @@ shaped n clocks Parallel a s h = record { slots = rw (h.slots, h.lanes) refl; la
 shaped n clocks Spread a s h = record { slots = rw (h.slots, h.time) refl; lanes = h.lanes; time = rw h.time refl; atoms = rw h.atoms refl }
 shaped n clocks Grouped a s h = record { slots = rw (h.slots, h.time, h.lanes) refl; lanes = rw h.lanes refl; time = rw h.time refl; atoms = rw h.atoms refl }
 shaped n clocks Padded a s h = record { slots = rw (h.slots, h.time) refl; lanes = h.lanes; time = rw h.time refl; atoms = rw h.atoms refl }
-shaped n clocks (Folded d) a s h = record { slots = rw (h.slots, h.time, h.lanes) refl; lanes = rw h.lanes refl; time = rw h.time refl; atoms = rw h.atoms refl }
+shaped n clocks (Folded d) a s h =
+    record { slots = rw (h.slots, h.time, h.lanes) refl; lanes = rw h.lanes refl; time = rw h.time refl; atoms = rw h.atoms refl }
 
 arranged_atom : (n clocks : ℕ) (c : Case) (s : StTree) → element_atom (arranged n clocks c s) ≡ element_atom s
 arranged_atom n clocks Parallel s = refl
@@ -163,10 +165,12 @@ zipped_by n clocks c a b s h = record {
   kinds = rw (arranged_atom n clocks c a, arranged_atom n clocks c b, arranged_atom n clocks c s) h.kinds;
 }
 
-atom_shape : (a : AtomTree) (clocks : ℕ) (s : StTree) → lay_of (atom a) clocks ≡ Some s → cond (nat_eq clocks 1) (st_atom a) (tseq 1 (clocks - 1) (st_atom a)) ≡ s
+atom_shape : (a : AtomTree) (clocks : ℕ) (s : StTree) → lay_of (atom a) clocks ≡ Some s
+    → cond (nat_eq clocks 1) (st_atom a) (tseq 1 (clocks - 1) (st_atom a)) ≡ s
 atom_shape a clocks s h = same_Some _ s h
 
-atoms_by : (a b : AtomTree) (clocks : ℕ) (v : Bool) → IsShapedAs (cond v (st_atom a) (tseq 1 (clocks - 1) (st_atom a))) (cond v (st_atom b) (tseq 1 (clocks - 1) (st_atom b)))
+atoms_by : (a b : AtomTree) (clocks : ℕ) (v : Bool) → IsShapedAs (cond v (st_atom a) (tseq 1 (clocks - 1) (st_atom a)))
+    (cond v (st_atom b) (tseq 1 (clocks - 1) (st_atom b)))
 atoms_by a b clocks true = record { slots = refl; lanes = refl; time = refl; atoms = refl }
 atoms_by a b clocks false = record { slots = refl; lanes = refl; time = refl; atoms = refl }
 
@@ -178,7 +182,8 @@ ok_where true o y h = (refl, h)
 ok_where false o y h = absurd (none-some y h)
 
 -- what a pair of types is laid out as
-pub zipped : (t u v : SeqTree) (clocks : ℕ) (a b s : StTree) → zipped_type t u ≡ Some v → lay_of t clocks ≡ Some a → lay_of u clocks ≡ Some b → lay_of v clocks ≡ Some s → IsZipped a b s
+pub zipped : (t u v : SeqTree) (clocks : ℕ) (a b s : StTree) → zipped_type t u ≡ Some v → lay_of t clocks ≡ Some a → lay_of u clocks ≡ Some b
+    → lay_of v clocks ≡ Some s → IsZipped a b s
 zipped (atom x) (atom y) v clocks a b s h p q r =
     let e : atom (pair x y) ≡ v = same_Some _ v h in
     let out : lay_of (atom (pair x y)) clocks ≡ Some s = subst (λ (z : SeqTree). lay_of z clocks ≡ Some s) (sym e) r in

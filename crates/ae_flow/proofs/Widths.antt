@@ -29,7 +29,8 @@ fit_at (y ∷ ws) [] i x w h f g = absurd h
 fit_at (y ∷ ws) (v ∷ widths) zero x w h f g = rw (← same_Some y x f, ← same_Some v w g) h.0
 fit_at (y ∷ ws) (v ∷ widths) (suc i) x w h f g = fit_at ws widths i x w h.1 f g
 
-fit_by : (ws widths : List ℕ) → length ws ≡ length widths → ((i x w : ℕ) → slice_get ws i ≡ Some x → slice_get widths i ≡ Some w → x < 2 ^ w) → FitWidths ws widths
+fit_by : (ws widths : List ℕ) → length ws ≡ length widths → ((i x w : ℕ) → slice_get ws i ≡ Some x → slice_get widths i ≡ Some w → x < 2 ^ w)
+    → FitWidths ws widths
 fit_by [] [] h each = tt
 fit_by [] (w ∷ widths) h each = absurd (omega arith)
 fit_by (x ∷ ws) [] h each = absurd (omega arith)
@@ -99,7 +100,8 @@ drop_repeated zero r o xs =
 drop_repeated (suc e) r o xs =
     let a : suc e * length xs + o ≡ length xs + (e * length xs + o) = omega arith in
     let b : suc e + r ≡ suc (e + r) = omega arith in
-    ap (λ i. drop i (repeated (suc e + r) xs)) a ∙ (ap (λ i. drop (length xs + (e * length xs + o)) (repeated i xs)) b ∙ (drop_past xs (repeated (e + r) xs) (e * length xs + o) ∙ drop_repeated e r o xs))
+    ap (λ i. drop i (repeated (suc e + r) xs)) a ∙ (ap (λ i. drop (length xs + (e * length xs + o)) (repeated i xs)) b ∙
+    (drop_past xs (repeated (e + r) xs) (e * length xs + o) ∙ drop_repeated e r o xs))
 
 pub take_repeated : (m r : ℕ) (xs : List ℕ) → take (m * length xs) (repeated (m + r) xs) ≡ repeated m xs
 take_repeated m r xs =
@@ -115,7 +117,8 @@ fit_of s ws h = fit_by ws (repeated (length s.slots) s.widths) (h.long ∙ sym (
 
 pub words_of : (s : Stream) (ws : List ℕ) → FitWidths ws (repeated (length s.slots) s.widths) → AreWords s ws
 words_of s ws h =
-    let long : length ws ≡ length s.slots * length s.widths = fit_length ws (repeated (length s.slots) s.widths) h ∙ length-repeated (length s.slots) s.widths in
+    let long : length ws ≡ length s.slots * length s.widths = fit_length ws (repeated (length s.slots) s.widths) h ∙
+    length-repeated (length s.slots) s.widths in
     record {
       long = long;
       fit = λ i x w f g.
@@ -137,30 +140,40 @@ word_fit s ws i w h g = ⊎_elim
 
 -- ---- pieces
 
-pub pairs_fit : (n : ℕ) (left right us vs : List ℕ) → FitWidths us (repeated n left) → FitWidths vs (repeated n right) → FitWidths (paired n (length left) (length right) us vs) (repeated n (left ++ right))
+pub pairs_fit : (n : ℕ) (left right us vs : List ℕ) → FitWidths us (repeated n left) → FitWidths vs (repeated n right)
+    → FitWidths (paired n (length left) (length right) us vs) (repeated n (left ++ right))
 pairs_fit zero left right us vs h g = tt
 pairs_fit (suc n) left right us vs h g =
     let a : FitWidths (take (length left) us) left = rw (take-append_seam left (repeated n left)) at (fit_take (length left) us (left ++ repeated n left) h) in
-    let b : FitWidths (take (length right) vs) right = rw (take-append_seam right (repeated n right)) at (fit_take (length right) vs (right ++ repeated n right) g) in
-    let c : FitWidths (drop (length left) us) (repeated n left) = rw (drop-append_seam left (repeated n left)) at (fit_drop (length left) us (left ++ repeated n left) h) in
-    let d : FitWidths (drop (length right) vs) (repeated n right) = rw (drop-append_seam right (repeated n right)) at (fit_drop (length right) vs (right ++ repeated n right) g) in
-    fit_append (take (length left) us ++ take (length right) vs) (left ++ right) (paired n (length left) (length right) (drop (length left) us) (drop (length right) vs)) (repeated n (left ++ right))
+    let b : FitWidths (take (length right) vs) right = rw (take-append_seam right (repeated n right)) at
+    (fit_take (length right) vs (right ++ repeated n right) g) in
+    let c : FitWidths (drop (length left) us) (repeated n left) = rw (drop-append_seam left (repeated n left)) at
+    (fit_drop (length left) us (left ++ repeated n left) h) in
+    let d : FitWidths (drop (length right) vs) (repeated n right) = rw (drop-append_seam right (repeated n right)) at
+    (fit_drop (length right) vs (right ++ repeated n right) g) in
+    fit_append (take (length left) us ++ take (length right) vs) (left ++ right)
+    (paired n (length left) (length right) (drop (length left) us) (drop (length right) vs)) (repeated n (left ++ right))
     (fit_append (take (length left) us) left (take (length right) vs) right a b) (pairs_fit n left right (drop (length left) us) (drop (length right) vs) c d)
 
-pub all_fit : (f : ℕ → List ℕ) (widths : List ℕ) (start n : ℕ) → ((e : ℕ) → start ≤ e → e < start + n → FitWidths (f e) widths) → FitWidths (flat_map f (range_with_len start n)) (repeated n widths)
+pub all_fit : (f : ℕ → List ℕ) (widths : List ℕ) (start n : ℕ) → ((e : ℕ) → start ≤ e → e < start + n → FitWidths (f e) widths)
+    → FitWidths (flat_map f (range_with_len start n)) (repeated n widths)
 all_fit f widths start zero h = tt
 all_fit f widths start (suc n) h =
     fit_append (f start) widths (flat_map f (range_with_len (start + 1) n)) (repeated n widths) (h start (omega arith) (omega arith))
     (all_fit f widths (start + 1) n (λ e low high. h e (omega (arith, low)) (omega (arith, high))))
 
 -- of each element the words between others
-pub parts_fit : (n : ℕ) (front own back ws : List ℕ) → FitWidths ws (repeated n (front ++ (own ++ back))) → FitWidths (parts n (length (front ++ (own ++ back))) (length front) (length own) ws) (repeated n own)
+pub parts_fit : (n : ℕ) (front own back ws : List ℕ) → FitWidths ws (repeated n (front ++ (own ++ back)))
+    → FitWidths (parts n (length (front ++ (own ++ back))) (length front) (length own) ws) (repeated n own)
 parts_fit n front own back ws h = all_fit (λ e. take l (drop (e * k + o) ws)) own 0 n (λ e low high.
     let r : ℕ = n - (e + 1) in
     let all : n ≡ e + suc r = omega (arith, high) in
-    let there : drop (e * k + o) (repeated n widths) ≡ drop o (widths ++ repeated r widths) = ap (λ i. drop (e * k + o) (repeated i widths)) all ∙ drop_repeated e (suc r) o widths in
-    let form : widths ++ repeated r widths ≡ front ++ (own ++ (back ++ repeated r widths)) = append_assoc front (own ++ back) (repeated r widths) ∙ ap (λ ys. front ++ ys) (append_assoc own back (repeated r widths)) in
-    let past : drop o (widths ++ repeated r widths) ≡ own ++ (back ++ repeated r widths) = ap (drop o) form ∙ drop-append_seam front (own ++ (back ++ repeated r widths)) in
+    let there : drop (e * k + o) (repeated n widths) ≡ drop o (widths ++ repeated r widths) = ap (λ i. drop (e * k + o) (repeated i widths)) all ∙
+    drop_repeated e (suc r) o widths in
+    let form : widths ++ repeated r widths ≡ front ++ (own ++ (back ++ repeated r widths)) = append_assoc front (own ++ back) (repeated r widths) ∙
+    ap (λ ys. front ++ ys) (append_assoc own back (repeated r widths)) in
+    let past : drop o (widths ++ repeated r widths) ≡ own ++ (back ++ repeated r widths) = ap (drop o) form ∙
+    drop-append_seam front (own ++ (back ++ repeated r widths)) in
     let piece : take l (drop (e * k + o) (repeated n widths)) ≡ own = ap (take l) (there ∙ past) ∙ take-append_seam own (back ++ repeated r widths) in
     rw piece at (fit_take l (drop (e * k + o) ws) (drop (e * k + o) (repeated n widths)) (fit_drop (e * k + o) ws (repeated n widths) h)))
   where
@@ -177,14 +190,18 @@ parts_fit n front own back ws h = all_fit (λ e. take l (drop (e * k + o) ws)) o
     l = length own
 
 -- element e of n, where each has so many words in rows of these widths
-pub element_fit : (n m e : ℕ) (widths ws : List ℕ) → e < n → FitWidths ws (repeated (n * m) widths) → FitWidths (take (m * length widths) (drop (e * (m * length widths)) ws)) (repeated m widths)
+pub element_fit : (n m e : ℕ) (widths ws : List ℕ) → e < n → FitWidths ws (repeated (n * m) widths)
+    → FitWidths (take (m * length widths) (drop (e * (m * length widths)) ws)) (repeated m widths)
 element_fit n m e widths ws below h =
     let row : List ℕ = repeated m widths in
     let r : ℕ = n - (e + 1) in
     let all : n ≡ e + suc r = omega (arith, below) in
     let long : length row ≡ m * length widths = length-repeated m widths in
-    let place : e * (m * length widths) ≡ e * length row + 0 = (let a : e * length row + 0 ≡ e * length row = omega arith in ap (λ i. e * i) (sym long) ∙ sym a) in
+    let place : e * (m * length widths) ≡ e * length row + 0 = (let a : e * length row + 0 ≡ e * length row = omega arith in ap (λ i. e * i) (sym long) ∙
+    sym a) in
     let rows : FitWidths ws (repeated n row) = rw (repeated_mul n m widths) at h in
-    let there : drop (e * length row + 0) (repeated n row) ≡ row ++ repeated r row = ap (λ i. drop (e * length row + 0) (repeated i row)) all ∙ drop_repeated e (suc r) 0 row in
+    let there : drop (e * length row + 0) (repeated n row) ≡ row ++ repeated r row = ap (λ i. drop (e * length row + 0) (repeated i row)) all ∙
+    drop_repeated e (suc r) 0 row in
     let piece : take (length row) (drop (e * length row + 0) (repeated n row)) ≡ row = ap (take (length row)) there ∙ take-append_seam row (repeated r row) in
-    rw (place, ← long) (rw piece at (fit_take (length row) (drop (e * length row + 0) ws) (drop (e * length row + 0) (repeated n row)) (fit_drop (e * length row + 0) ws (repeated n row) rows)))
+    rw (place, ← long) (rw piece at (fit_take (length row) (drop (e * length row + 0) ws) (drop (e * length row + 0) (repeated n row))
+    (fit_drop (e * length row + 0) ws (repeated n row) rows)))

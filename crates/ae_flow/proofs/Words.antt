@@ -77,13 +77,16 @@ operand_of _ args h = refl
 -- ---- an operator on words of a kind
 
 -- the operator by the kind of the deciding_argument
-op_of : (p : ProgramTree) (f : ℕ) (op : WordOp) (args : List ℕ) (k : WordKind) → type_at p f (deciding_argument op args) ≡ Some (atom (word k)) → op_by p f op args ≡ op_for k.signed op
+op_of : (p : ProgramTree) (f : ℕ) (op : WordOp) (args : List ℕ) (k : WordKind) → type_at p f (deciding_argument op args) ≡ Some (atom (word k))
+    → op_by p f op args ≡ op_for k.signed op
 op_of p f op args k type = ap (λ o. op_for (is_signed_type o) op) type
 
-fits_by : (op : WordOp) (w : ℕ) (ins : List StTree) (s : StTree) → HasRange op → 1 ≤ w → w ≤ 64 → width_of op ins ≡ w → streams_of ins ≡ map word_stream (operand_widths op w) → stream_of s ≡ word_stream (result_width_of op w) → FitsWord op ins s
+fits_by : (op : WordOp) (w : ℕ) (ins : List StTree) (s : StTree) → HasRange op → 1 ≤ w → w ≤ 64 → width_of op ins ≡ w
+    → streams_of ins ≡ map word_stream (operand_widths op w) → stream_of s ≡ word_stream (result_width_of op w) → FitsWord op ins s
 fits_by op w ins s range low high is streams out = record { range = range; low = rw is low; high = rw is high; ins = rw is streams; out = rw is out }
 
-pub one_fits : (p : ProgramTree) (f budget : ℕ) (op : WordOp) (a : ℕ) (t : SeqTree) (k r : WordKind) (x s : StTree) → arity_of op ≡ 1 → IsTrue (is_word_line op) → type_at p f a ≡ Some t → t ≡ atom (word k) → IsLaidAs t budget x → IsLaidAs (atom (word r)) budget s
+pub one_fits : (p : ProgramTree) (f budget : ℕ) (op : WordOp) (a : ℕ) (t : SeqTree) (k r : WordKind) (x s : StTree) → arity_of op ≡ 1
+    → IsTrue (is_word_line op) → type_at p f a ≡ Some t → t ≡ atom (word k) → IsLaidAs t budget x → IsLaidAs (atom (word r)) budget s
     → result_width_of (op_for k.signed op) k.width ≡ r.width → FitsWord (op_by p f op (a ∷ [])) (x ∷ []) s
 one_fits p f budget op a t k r x s arity line type is laid out wide =
     let few : arity_of op ≤ 2 = omega arith in
@@ -91,16 +94,19 @@ one_fits p f budget op a t k r x s arity line type is laid out wide =
     let o = word_laid r budget s out in
     let by = op_of p f op (a ∷ []) k (ap (type_at p f) (operand_of op (a ∷ []) few) ∙ (type ∙ ap Some is)) in
     let width : width_of (op_for k.signed op) (x ∷ []) ≡ k.width = rw (main_of k.signed op few) l.width in
-    let ins : streams_of (x ∷ []) ≡ map word_stream (operand_widths (op_for k.signed op) k.width) = rw (widths_of k.signed op k.width few, arity, l.stream) refl in
+    let ins : streams_of (x ∷ []) ≡ map word_stream (operand_widths (op_for k.signed op) k.width) = rw (widths_of k.signed op k.width few, arity, l.stream)
+    refl in
     rw by (fits_by (op_for k.signed op) k.width (x ∷ []) s (range_of k.signed op line) l.low l.high width ins (o.stream ∙ ap word_stream (sym wide)))
 
-pub word_one : (p : ProgramTree) (f budget : ℕ) (op : WordOp) (a : ℕ) (t u : SeqTree) (x s : StTree) → arity_of op ≡ 1 → IsTrue (is_word_line op) → type_at p f a ≡ Some t → IsLaidAs t budget x → word_type op (t ∷ []) ≡ Some u → IsLaidAs u budget s
+pub word_one : (p : ProgramTree) (f budget : ℕ) (op : WordOp) (a : ℕ) (t u : SeqTree) (x s : StTree) → arity_of op ≡ 1 → IsTrue (is_word_line op)
+    → type_at p f a ≡ Some t → IsLaidAs t budget x → word_type op (t ∷ []) ≡ Some u → IsLaidAs u budget s
     → FitsWord (op_by p f op (a ∷ [])) (x ∷ []) s
 word_one p f budget op a t u x s arity line type laid is out =
     let l = one-line op t u is in
     one_fits p f budget op a t l.kind (result_kind op l.kind) x s arity line type l.first laid (rw l.result at out) l.wide
 
-pub word_two : (p : ProgramTree) (f budget : ℕ) (op : WordOp) (a b : ℕ) (t v u : SeqTree) (x y s : StTree) → arity_of op ≡ 2 → IsTrue (is_word_line op) → type_at p f a ≡ Some t → IsLaidAs t budget x → IsLaidAs v budget y
+pub word_two : (p : ProgramTree) (f budget : ℕ) (op : WordOp) (a b : ℕ) (t v u : SeqTree) (x y s : StTree) → arity_of op ≡ 2 → IsTrue (is_word_line op)
+    → type_at p f a ≡ Some t → IsLaidAs t budget x → IsLaidAs v budget y
     → word_type op (t ∷ v ∷ []) ≡ Some u → IsLaidAs u budget s → FitsWord (op_by p f op (a ∷ b ∷ [])) (x ∷ y ∷ []) s
 word_two p f budget op a b t v u x y s arity line type laid laid_too is out =
     let l = two-line op t v u is in
@@ -111,16 +117,23 @@ word_two p f budget op a b t v u x y s arity line type laid laid_too is out =
     let o = word_laid (result_kind op k) budget s (rw l.result at out) in
     let by = op_of p f op (a ∷ b ∷ []) k (ap (type_at p f) (operand_of op (a ∷ b ∷ []) few) ∙ (type ∙ ap Some l.first)) in
     let width : width_of (op_for k.signed op) (x ∷ y ∷ []) ≡ k.width = rw (main_of k.signed op few) i.width in
-    let ins : streams_of (x ∷ y ∷ []) ≡ map word_stream (operand_widths (op_for k.signed op) k.width) = rw (widths_of k.signed op k.width few, arity, i.stream, j.stream) refl in
+    let ins : streams_of (x ∷ y ∷ []) ≡ map word_stream (operand_widths (op_for k.signed op) k.width) = rw (
+      widths_of k.signed op k.width few,
+      arity,
+      i.stream,
+      j.stream,
+    ) refl in
     rw by (fits_by (op_for k.signed op) k.width (x ∷ y ∷ []) s (range_of k.signed op line) i.low i.high width ins (o.stream ∙ ap word_stream (sym l.wide)))
 
-choice_by : (b : Bool) (k : WordKind) (x y z s : StTree) → IsOneWord (record { signed = false; width = 1 }) x → IsOneWord k y → IsOneWord k z → IsOneWord k s → FitsWord (op_for b Mux) (x ∷ y ∷ z ∷ []) s
+choice_by : (b : Bool) (k : WordKind) (x y z s : StTree) → IsOneWord (record { signed = false; width = 1 }) x → IsOneWord k y → IsOneWord k z → IsOneWord k s
+    → FitsWord (op_for b Mux) (x ∷ y ∷ z ∷ []) s
 choice_by b k x y z s c i j o = by_cases (λ v. FitsWord (op_for v Mux) (x ∷ y ∷ z ∷ []) s) choice choice b
   where
     choice : FitsWord Mux (x ∷ y ∷ z ∷ []) s
     choice = fits_by Mux k.width (x ∷ y ∷ z ∷ []) s tt i.low i.high i.width (rw (c.stream, i.stream, j.stream) refl) o.stream
 
-pub word_three : (p : ProgramTree) (f budget : ℕ) (op : WordOp) (a b c : ℕ) (t v w u : SeqTree) (x y z s : StTree) → type_at p f b ≡ Some v → IsLaidAs t budget x → IsLaidAs v budget y → IsLaidAs w budget z
+pub word_three : (p : ProgramTree) (f budget : ℕ) (op : WordOp) (a b c : ℕ) (t v w u : SeqTree) (x y z s : StTree) → type_at p f b ≡ Some v
+    → IsLaidAs t budget x → IsLaidAs v budget y → IsLaidAs w budget z
     → word_type op (t ∷ v ∷ w ∷ []) ≡ Some u → IsLaidAs u budget s → FitsWord (op_by p f op (a ∷ b ∷ c ∷ [])) (x ∷ y ∷ z ∷ []) s
 word_three p f budget op a b c t v w u x y z s type laid laid_y laid_z is out =
     let l = choice-line op t v w u is in
@@ -134,7 +147,8 @@ word_three p f budget op a b c t v w u x y z s type laid laid_y laid_z is out =
     rw (l.is, by) made
 
 -- a cast to a signed word
-pub cast_fits : (p : ProgramTree) (f budget v : ℕ) (a : ℕ) (t u : SeqTree) (x s : StTree) → IsTrue (within 1 64 v) → type_at p f a ≡ Some t → IsLaidAs t budget x → as_word (signed_word v) (one_word (t ∷ [])) ≡ Some u → IsLaidAs u budget s
+pub cast_fits : (p : ProgramTree) (f budget v : ℕ) (a : ℕ) (t u : SeqTree) (x s : StTree) → IsTrue (within 1 64 v) → type_at p f a ≡ Some t
+    → IsLaidAs t budget x → as_word (signed_word v) (one_word (t ∷ [])) ≡ Some u → IsLaidAs u budget s
     → FitsWord (op_by p f (Cast v) (a ∷ [])) (x ∷ []) s
 cast_fits p f budget v a t u x s line type laid is out =
     let r = option-both (one_word (t ∷ [])) (λ (z : SeqTree). Some (atom (signed_word v))) u is in

@@ -59,7 +59,9 @@ pub record FitsFold (budget : ℕ) (op : WordOp) (slots lanes : ℕ) (raw a s : 
 
 -- elements of a layout as the layout rule arranges them: on lanes, in slots, or in slots of lanes
 abbrev pub IsArranged : (slots lanes : ℕ) → (element s : StTree) → Type 0
-IsArranged n m t s = ((n ≡ 1) × (s ≡ sseq m t)) ⊎ (((m ≡ 1) × ((rest : ℕ) × (s ≡ tseq n rest t))) ⊎ ((2 ≤ m) × ((rest : ℕ) × (s ≡ tseq n rest (sseq m t)))))
+IsArranged n m t s =
+    ((n ≡ 1) × (s ≡ sseq m t)) ⊎ (((m ≡ 1) × ((rest : ℕ) × (s ≡ tseq n rest t)))
+    ⊎ ((2 ≤ m) × ((rest : ℕ) × (s ≡ tseq n rest (sseq m t)))))
 
 pub record FitsScan (budget : ℕ) (op : WordOp) (slots lanes : ℕ) (a s : StTree) : Type 0 where
   pub element : StTree
@@ -81,7 +83,8 @@ pub record FitsBody (budget copies : ℕ) (args : List StTree) (s : StTree) (f :
 abbrev pub FitsMove : MoveOp → (a s : StTree) → Type 0
 FitsMove how a s = (element_atom a ≡ element_atom s) × IsMoveFrom how (st_atoms a) (st_atoms s)
 
-abbrev pub FitsOp : (before : List StFuncTree) (budget copies : ℕ) (args : List StTree) (out : StTree) → StOpTree → Type 0
+abbrev pub FitsOp : (before : List StFuncTree) (budget copies : ℕ) (args : List StTree) (out : StTree) → StOpTree
+    → Type 0
 FitsOp before budget copies args s (word op) = FitsWord op args s
 FitsOp before budget copies (a ∷ b ∷ []) s join = FitsPair a b s
 FitsOp before budget copies (a ∷ []) s first = FitsFirst s a
@@ -90,7 +93,8 @@ FitsOp before budget copies args s (fixed ws) = (args ≡ []) × FixedFits s ws
 FitsOp before budget copies (a ∷ []) s (move how) = FitsMove how a s
 FitsOp before budget copies (a ∷ []) s (fold op slots lanes raw) = FitsFold budget op slots lanes raw a s
 FitsOp before budget copies (a ∷ []) s (scan op slots lanes) = FitsScan budget op slots lanes a s
-FitsOp before budget copies args s (body k) = (f : StFuncTree) × (slice_get before k ≡ Some f) × FitsBody budget copies args s f
+FitsOp before budget copies args s (body k) =
+    (f : StFuncTree) × (slice_get before k ≡ Some f) × FitsBody budget copies args s f
 FitsOp before budget copies args s _ = ⊥
 
 abbrev pub FitsNode : (before : List StFuncTree) (s : StFuncTree) → StNodeTree → Type 0
@@ -98,4 +102,5 @@ FitsNode before s n = FitsOp before s.budget n.copies (map (item_layout (item_la
 
 -- in each instance each node fits
 pub record AreFitted (instances : List StFuncTree) : Type 0 where
-  pub each : (k j : ℕ) (s : StFuncTree) (n : StNodeTree) → slice_get instances k ≡ Some s → slice_get s.nodes j ≡ Some n → FitsNode (take k instances) s n
+  pub each : (k j : ℕ) (s : StFuncTree) (n : StNodeTree) → slice_get instances k ≡ Some s
+      → slice_get s.nodes j ≡ Some n → FitsNode (take k instances) s n

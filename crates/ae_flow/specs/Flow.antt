@@ -47,7 +47,8 @@ fold_words op t size n ws = map (λ p. word_fold (element_folds op t) size ws p 
 
 -- the left folds of elements 0 to i of so many words, for each of n elements i, word by word
 abbrev pub scan_words : WordOp → (element : StTree) → (size n : ℕ) → List ℕ → List ℕ
-scan_words op t size n ws = map (λ q. word_fold (element_folds op t) size ws (q % size) (q / size)) (range_with_len 0 (n * size))
+scan_words op t size n ws =
+    map (λ q. word_fold (element_folds op t) size ws (q % size) (q / size)) (range_with_len 0 (n * size))
 
 -- ---- calls
 
@@ -82,20 +83,28 @@ element_count c s = st_atoms s / st_atoms c.out
 -- the words that an operator makes of the words of its arguments
 abbrev pub op_words : (known : List Callee) (args : List StTree) (out : StTree) → StOpTree → List (List ℕ) → List ℕ
 op_words known args s (word op) vs =
-    word_result op (width_of op args) (get_or (words_at vs 0) 0 0) (get_or (words_at vs 1) 0 0) (get_or (words_at vs 2) 0 0) ∷ []
-op_words known args s join vs = paired (st_atoms s) (element_words (item_layout args 0)) (element_words (item_layout args 1)) (words_at vs 0) (words_at vs 1)
-op_words known args s first vs = parts (st_atoms s) (element_words (item_layout args 0)) 0 (element_words s) (words_at vs 0)
+    word_result op (width_of op args) (get_or (words_at vs 0) 0 0) (get_or (words_at vs 1) 0 0)
+    (get_or (words_at vs 2) 0 0) ∷ []
+op_words known args s join vs =
+    paired (st_atoms s) (element_words (item_layout args 0)) (element_words (item_layout args 1)) (words_at vs 0)
+    (words_at vs 1)
+op_words known args s first vs =
+    parts (st_atoms s) (element_words (item_layout args 0)) 0 (element_words s) (words_at vs 0)
 op_words known args s second vs =
-    parts (st_atoms s) (element_words (item_layout args 0)) (element_words (item_layout args 0) - element_words s) (element_words s) (words_at vs 0)
+    parts (st_atoms s) (element_words (item_layout args 0)) (element_words (item_layout args 0) - element_words s)
+    (element_words s) (words_at vs 0)
 op_words known args s (fixed ws) vs = ws
-op_words known args s (move how) vs = map (origin_word (item_layout args 0 ∷ []) vs) (op_move how (item_layout args 0) s).origins
+op_words known args s (move how) vs =
+    map (origin_word (item_layout args 0 ∷ []) vs) (op_move how (item_layout args 0) s).origins
 op_words known args s (fold op slots lanes raw) vs = fold_words op s (layout_words s) (slots * lanes) (words_at vs 0)
-op_words known args s (scan op slots lanes) vs = scan_words op s (layout_words s / (slots * lanes)) (slots * lanes) (words_at vs 0)
+op_words known args s (scan op slots lanes) vs =
+    scan_words op s (layout_words s / (slots * lanes)) (slots * lanes) (words_at vs 0)
 op_words known args s (body k) vs = mapped (callee_at known k) (element_count (callee_at known k) s) vs
 
 -- the words of a node, by those of the items above it
 abbrev pub node_words : (known : List Callee) (layouts : List StTree) (items : List (List ℕ)) → StNodeTree → List ℕ
-node_words known layouts items n = op_words known (map (item_layout layouts) n.args) n.type n.op (map (words_at items) n.args)
+node_words known layouts items n =
+    op_words known (map (item_layout layouts) n.args) n.type n.op (map (words_at items) n.args)
 
 -- the words of all items of an instance
 abbrev pub item_words : (known : List Callee) → StFuncTree → List (List ℕ) → List (List ℕ)
@@ -122,4 +131,5 @@ results_in known (Some s) vs = map (words_at (item_words known s vs)) s.results
 
 -- the words of the results of the program function, which is the last instance
 unfoldable pub flow : List StFuncTree → List (List ℕ) → List (List ℕ)
-flow instances vs = results_in (callees (take (length instances - 1) instances)) (slice_get instances (length instances - 1)) vs
+flow instances vs =
+    results_in (callees (take (length instances - 1) instances)) (slice_get instances (length instances - 1)) vs

@@ -16,16 +16,21 @@ use Rattle.ae_ports.specs.Ports.{streams_of}
 
 -- the schedule of a typed program, under a slowdown that there can be, fits
 abbrev pub SchedulesFit : Type 0
-SchedulesFit = (p : ProgramTree) (slowdown : ℕ) (instances : List StFuncTree) → IsTyped p → 0 < slowdown → IsSchedule p slowdown instances → AreFitted instances
+SchedulesFit =
+    (p : ProgramTree) (slowdown : ℕ) (instances : List StFuncTree) → IsTyped p → 0 < slowdown
+    → IsSchedule p slowdown instances → AreFitted instances
 
 -- words that fit the layouts of an instance's parameters give each item words that fit its layout
 abbrev pub FlowsFit : Type 0
 FlowsFit =
-    (instances : List StFuncTree) (k : ℕ) (s : StFuncTree) (vs : List (List ℕ)) → IsSound instances → AreFitted instances → slice_get instances k ≡ Some s → AllAreWords (streams_of s.ins) vs
-    → (i : ℕ) → i < length (item_layouts s) → AreWords (stream_of (item_layout (item_layouts s) i)) (words_at (item_words (callees (take k instances)) s vs) i)
+    (instances : List StFuncTree) (k : ℕ) (s : StFuncTree) (vs : List (List ℕ)) → IsSound instances
+    → AreFitted instances → slice_get instances k ≡ Some s → AllAreWords (streams_of s.ins) vs
+    → (i : ℕ) → i < length (item_layouts s)
+    → AreWords (stream_of (item_layout (item_layouts s) i)) (words_at (item_words (callees (take k instances)) s vs) i)
 
 -- the schedule of a typed program makes of the words of its arguments the words of its results
 abbrev pub FlowsMean : Type 0
 FlowsMean =
-    (p : ProgramTree) (slowdown : ℕ) (instances : List StFuncTree) (vs : List ValueTree) → IsTyped p → IsSchedule p slowdown instances → AreValues (input_types p) vs
+    (p : ProgramTree) (slowdown : ℕ) (instances : List StFuncTree) (vs : List ValueTree) → IsTyped p
+    → IsSchedule p slowdown instances → AreValues (input_types p) vs
     → flow instances (map flat vs) ≡ map flat (mean p vs)

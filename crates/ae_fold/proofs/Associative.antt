@@ -17,8 +17,10 @@ use Rattle.ae_fold.specs.Folding.{Fit}
 
 or_assoc : (a b c : ℕ) → bit_or (bit_or a b) c ≡ bit_or a (bit_or b c)
 or_assoc a b c = same_from_bits _ _ (λ i.
-    let l : bit_at (bit_or (bit_or a b) c) i ≡ max (max (bit_at a i) (bit_at b i)) (bit_at c i) = bit_at_or (bit_or a b) c i ∙ ap (λ n. max n (bit_at c i)) (bit_at_or a b i) in
-    let r : bit_at (bit_or a (bit_or b c)) i ≡ max (bit_at a i) (max (bit_at b i) (bit_at c i)) = bit_at_or a (bit_or b c) i ∙ ap (max (bit_at a i)) (bit_at_or b c i) in
+    let l : bit_at (bit_or (bit_or a b) c) i ≡ max (max (bit_at a i) (bit_at b i)) (bit_at c i) = bit_at_or (bit_or a b) c i ∙
+    ap (λ n. max n (bit_at c i)) (bit_at_or a b i) in
+    let r : bit_at (bit_or a (bit_or b c)) i ≡ max (bit_at a i) (max (bit_at b i) (bit_at c i)) = bit_at_or a (bit_or b c) i ∙
+    ap (max (bit_at a i)) (bit_at_or b c i) in
     l ∙ max_assoc (bit_at a i) (bit_at b i) (bit_at c i) ∙ sym r)
   where
     max_assoc : (x y z : ℕ) → max (max x y) z ≡ max x (max y z)
@@ -26,11 +28,13 @@ or_assoc a b c = same_from_bits _ _ (λ i.
 
 -- ---- signed words
 
-least_by : (v : Bool) (w a b : ℕ) → a < 2 ^ w → b < 2 ^ w → int_lt (signed_value w b) (signed_value w a) ≡ v → signed_value w (code w (int_min (signed_value w a) (signed_value w b))) ≡ int_min (signed_value w a) (signed_value w b)
+least_by : (v : Bool) (w a b : ℕ) → a < 2 ^ w → b < 2 ^ w → int_lt (signed_value w b) (signed_value w a) ≡ v
+    → signed_value w (code w (int_min (signed_value w a) (signed_value w b))) ≡ int_min (signed_value w a) (signed_value w b)
 least_by true w a b la lb is = ap (signed_value w) (code-min_second w a b lb is) ∙ rw is refl
 least_by false w a b la lb is = ap (signed_value w) (code-min_first w a b la is) ∙ rw is refl
 
-greatest_by : (v : Bool) (w a b : ℕ) → a < 2 ^ w → b < 2 ^ w → int_lt (signed_value w b) (signed_value w a) ≡ v → signed_value w (code w (int_max (signed_value w a) (signed_value w b))) ≡ int_max (signed_value w a) (signed_value w b)
+greatest_by : (v : Bool) (w a b : ℕ) → a < 2 ^ w → b < 2 ^ w → int_lt (signed_value w b) (signed_value w a) ≡ v
+    → signed_value w (code w (int_max (signed_value w a) (signed_value w b))) ≡ int_max (signed_value w a) (signed_value w b)
 greatest_by true w a b la lb is = ap (signed_value w) (code-max_first w a b la is) ∙ rw is refl
 greatest_by false w a b la lb is = ap (signed_value w) (code-max_second w a b lb is) ∙ rw is refl
 
@@ -60,7 +64,8 @@ greatest_assoc w a b c la lb lc =
 
 -- ---- all of them
 
-pub combine_assoc : (op : WordOp) (w a b c : ℕ) → IsFold op → a < 2 ^ w → b < 2 ^ w → c < 2 ^ w → combine op w (combine op w a b) c ≡ combine op w a (combine op w b c)
+pub combine_assoc : (op : WordOp) (w a b c : ℕ) → IsFold op → a < 2 ^ w → b < 2 ^ w → c < 2 ^ w
+    → combine op w (combine op w a b) c ≡ combine op w a (combine op w b c)
 combine_assoc Add w a b c f la lb lc = mod-add-mod (a + b) (2 ^ w) c ∙ ap (λ n. n % 2 ^ w) (add_assoc a b c) ∙ sym (add-mod-mod a (b + c) (2 ^ w))
 combine_assoc Mul w a b c f la lb lc = mul-mod_first (a * b) c (2 ^ w) ∙ ap (λ n. n % 2 ^ w) (mul_assoc a b c) ∙ sym (mul-mod_second a (b * c) (2 ^ w))
 combine_assoc And w a b c f la lb lc = and_assoc c a b
@@ -113,7 +118,8 @@ fold_fits op w f zero ok h = h.each 0 (omega arith)
 fold_fits op w f (suc n) ok h = combine_fits op w _ _ ok (fold_fits op w f n ok (fit_less n (suc n) (omega arith) h)) (h.each (suc n) (omega arith))
 
 -- the fold of the first m + 1 words, and then of n + 1 more
-pub fold_cut : (op : WordOp) (w : ℕ) (f : ℕ → ℕ) (m n : ℕ) → IsFold op → Fit w f (suc (m + n)) → fold_to op w f (suc (m + n)) ≡ combine op w (fold_to op w f m) (fold_to op w (λ i. f (suc (m + i))) n)
+pub fold_cut : (op : WordOp) (w : ℕ) (f : ℕ → ℕ) (m n : ℕ) → IsFold op → Fit w f (suc (m + n))
+    → fold_to op w f (suc (m + n)) ≡ combine op w (fold_to op w f m) (fold_to op w (λ i. f (suc (m + i))) n)
 unfolding fold_to
 fold_cut op w f m zero ok h =
     let e : m + 0 ≡ m = omega arith in
@@ -123,10 +129,12 @@ fold_cut op w f m (suc n) ok h =
     let below : Fit w f (suc (m + n)) = record { each = λ i li. h.each i (omega arith) } in
     let tail : Fit w (λ i. f (suc (m + i))) n = record { each = λ i li. h.each (suc (m + i)) (omega arith) } in
     rw (e, fold_cut op w f m n ok below)
-    (combine_assoc op w _ _ _ ok (fold_fits op w f m ok (record { each = λ i li. h.each i (omega arith) })) (fold_fits op w (λ i. f (suc (m + i))) n ok tail) (h.each (suc (suc (m + n))) (omega arith)))
+    (combine_assoc op w _ _ _ ok (fold_fits op w f m ok (record { each = λ i li. h.each i (omega arith) })) (fold_fits op w (λ i. f (suc (m + i))) n ok tail)
+    (h.each (suc (suc (m + n))) (omega arith)))
 
 -- pairs of neighbours, of which the last may be alone, fold to the same
-even_pairs : (op : WordOp) (w : ℕ) (f g : ℕ → ℕ) (n m : ℕ) → IsFold op → Fit w f (n - 1) → ((i : ℕ) → 2 * i + 1 < n → g i ≡ combine op w (f (2 * i)) (f (2 * i + 1))) → 2 * m + 1 < n
+even_pairs : (op : WordOp) (w : ℕ) (f g : ℕ → ℕ) (n m : ℕ) → IsFold op → Fit w f (n - 1)
+    → ((i : ℕ) → 2 * i + 1 < n → g i ≡ combine op w (f (2 * i)) (f (2 * i + 1))) → 2 * m + 1 < n
     → fold_to op w g m ≡ fold_to op w f (2 * m + 1)
 even_pairs op w f g n zero ok fit both l = fold_zero op w g ∙ both 0 (omega arith) ∙ sym (fold_suc op w f 0 ∙ ap (λ v. combine op w v (f 1)) (fold_zero op w f))
 even_pairs op w f g n (suc m) ok fit both l =
@@ -134,13 +142,16 @@ even_pairs op w f g n (suc m) ok fit both l =
     let pair : g (suc m) ≡ combine op w (f (2 * suc m)) (f (2 * suc m + 1)) = both (suc m) l in
     let p0 : 2 * suc m ≡ suc (2 * m + 1) = omega arith in
     let p1 : 2 * suc m + 1 ≡ suc (suc (2 * m + 1)) = omega arith in
-    let last : fold_to op w f (suc (suc (2 * m + 1))) ≡ combine op w (combine op w (fold_to op w f (2 * m + 1)) (f (suc (2 * m + 1)))) (f (suc (suc (2 * m + 1)))) =
+    let last : fold_to op w f (suc (suc (2 * m + 1))) ≡ combine op w (combine op w (fold_to op w f (2 * m + 1)) (f (suc (2 * m + 1))))
+    (f (suc (suc (2 * m + 1)))) =
     fold_suc op w f (suc (2 * m + 1)) ∙ ap (λ v. combine op w v (f (suc (suc (2 * m + 1))))) (fold_suc op w f (2 * m + 1)) in
     fold_suc op w g m
     ∙ rw (pair, before, p1, p0, last)
-    (sym (combine_assoc op w _ _ _ ok (fold_fits op w f (2 * m + 1) ok (fit_less (2 * m + 1) (n - 1) (omega arith) fit)) (fit.each (suc (2 * m + 1)) (omega arith)) (fit.each (suc (suc (2 * m + 1))) (omega arith))))
+    (sym (combine_assoc op w _ _ _ ok (fold_fits op w f (2 * m + 1) ok (fit_less (2 * m + 1) (n - 1) (omega arith) fit))
+    (fit.each (suc (2 * m + 1)) (omega arith)) (fit.each (suc (suc (2 * m + 1))) (omega arith))))
 
-odd_pairs : (op : WordOp) (w : ℕ) (f g : ℕ → ℕ) (n m : ℕ) → IsFold op → Fit w f (n - 1) → ((i : ℕ) → 2 * i + 1 < n → g i ≡ combine op w (f (2 * i)) (f (2 * i + 1)))
+odd_pairs : (op : WordOp) (w : ℕ) (f g : ℕ → ℕ) (n m : ℕ) → IsFold op → Fit w f (n - 1)
+    → ((i : ℕ) → 2 * i + 1 < n → g i ≡ combine op w (f (2 * i)) (f (2 * i + 1)))
     → ((i : ℕ) → 2 * i + 1 ≡ n → g i ≡ f (2 * i)) → 2 * m + 1 ≡ n → fold_to op w g m ≡ fold_to op w f (2 * m)
 odd_pairs op w f g n zero ok fit both one h = fold_zero op w g ∙ one 0 h ∙ sym (fold_zero op w f)
 odd_pairs op w f g n (suc m) ok fit both one h =
@@ -149,7 +160,8 @@ odd_pairs op w f g n (suc m) ok fit both one h =
     let p : 2 * suc m ≡ suc (2 * m + 1) = omega arith in
     fold_suc op w g m ∙ rw (last, before, p) (sym (fold_suc op w f (2 * m + 1)))
 
-pub pairs_fold : (op : WordOp) (w : ℕ) (f g : ℕ → ℕ) (n : ℕ) → IsFold op → Fit w f (n - 1) → ((i : ℕ) → 2 * i + 1 < n → g i ≡ combine op w (f (2 * i)) (f (2 * i + 1)))
+pub pairs_fold : (op : WordOp) (w : ℕ) (f g : ℕ → ℕ) (n : ℕ) → IsFold op → Fit w f (n - 1)
+    → ((i : ℕ) → 2 * i + 1 < n → g i ≡ combine op w (f (2 * i)) (f (2 * i + 1)))
     → ((i : ℕ) → 2 * i + 1 ≡ n → g i ≡ f (2 * i)) → 1 ≤ n → fold_to op w g ((n + 1) / 2 - 1) ≡ fold_to op w f (n - 1)
 pairs_fold op w f g n ok fit both one some =
     let m : ℕ = (n + 1) / 2 - 1 in

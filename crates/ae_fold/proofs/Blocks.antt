@@ -23,11 +23,13 @@ use Rattle.ae_fold.specs.Rows.{Scans, net_at, row_word}
 
 -- ---- where the elements stand
 
-copy_at : (n c l : ℕ) (ws : List Slot) (q r : ℕ) (s : Slot) → q < n → slice_get ws r ≡ Some s → slice_get (copies n c l ws) (q * length ws + r) ≡ Some (moved (q * c) (q * l) s)
+copy_at : (n c l : ℕ) (ws : List Slot) (q r : ℕ) (s : Slot) → q < n → slice_get ws r ≡ Some s
+    → slice_get (copies n c l ws) (q * length ws + r) ≡ Some (moved (q * c) (q * l) s)
 copy_at n c l ws q r s p h =
     let lr : r < length ws = slice_get_within ws r s h in
     let place : q * length ws + r < length (copies n c l ws) = omega (arith, mul-add-lt q (length ws) r n p lr, length-copies n c l ws) in
-    slice_get-get_or (copies n c l ws) (q * length ws + r) s place ∙ ap Some (get_or-copies n c l ws q r s p lr ∙ ap (moved (q * c) (q * l)) (get_or_from_slice_get ws r s s h))
+    slice_get-get_or (copies n c l ws) (q * length ws + r) s place ∙
+    ap Some (get_or-copies n c l ws q r s p lr ∙ ap (moved (q * c) (q * l)) (get_or_from_slice_get ws r s s h))
 
 -- atom a of the element in slot q and lane l
 pub atom_at : (t : StTree) (n m q l a : ℕ) (s : Slot) → q < n → l < m → slice_get (slots t) a ≡ Some s
@@ -77,19 +79,34 @@ atom_of t n m e w some pos h =
     let s : Slot = get_or (slots t) (e % k) (slot_at 0 0) in
     let found : slice_get (slots t) (e % k) ≡ Some s = slice_get-get_or (slots t) (e % k) (slot_at 0 0) (omega (arith, length-slots t)) in
     let there = atom_at t n m (i / m) (i % m) (e % k) s lq ll found in
-    let same : Some w ≡ Some (record { clock = i / m * time t + s.clock; lane = i % m * lanes t + s.lane }) = sym h ∙ (ap (slice_get (slots (tseq n 0 (sseq m t)))) place ∙ there) in
-    record { q = i / m; l = i % m; a = e % k; s = s; lq = lq; ll = ll; found = found; place = place; is = (let e : w ≡ record { clock = i / m * time t + s.clock; lane = i % m * lanes t + s.lane } = cc in e) }
+    let same : Some w ≡ Some (record { clock = i / m * time t + s.clock; lane = i % m * lanes t + s.lane }) = sym h ∙
+    (ap (slice_get (slots (tseq n 0 (sseq m t)))) place ∙ there) in
+    record {
+      q = i / m;
+      l = i % m;
+      a = e % k;
+      s = s;
+      lq = lq;
+      ll = ll;
+      found = found;
+      place = place;
+      is = (let e : w ≡ record { clock = i / m * time t + s.clock; lane = i % m * lanes t + s.lane } = cc in e);
+    }
 
 -- ---- the words that nets hold
 
-pub wave_word : (run : List Clock) (start : ℕ) (nets : List NetId) (c q : ℕ) → q < length nets → wave_of run start nets c q ≡ word_at run (start + c) (net_at nets q)
+pub wave_word : (run : List Clock) (start : ℕ) (nets : List NetId) (c q : ℕ) → q < length nets
+    → wave_of run start nets c q ≡ word_at run (start + c) (net_at nets q)
 unfolding wave_of
 wave_word run start nets c q l = ap (net_word run (start + c)) (slice_get-get_or nets q (record { 0 = 0 }) l)
 
 -- word j of atom a of the element in slot q and lane l stands on the net at its place, in its clock
-pub held_word : (t : StTree) (n m stride k : ℕ) (run : List Clock) (start : ℕ) (bundle : List NetId) (v : List ℕ) → stride ≡ lanes t * element_words t → length bundle ≡ m * stride
-    → Holds (wave_of run start bundle) k (element_words t) (slots (tseq n 0 (sseq m t))) v → (q l a j : ℕ) (s : Slot) → q < n → l < m → slice_get (slots t) a ≡ Some s → s.lane < lanes t → j < element_words t
-    → row_word run (start + (k + q * time t + s.clock)) bundle stride (s.lane * element_words t + j) l ≡ get_or v ((q * m + l) * (st_atoms t * element_words t) + (a * element_words t + j)) 0
+pub held_word : (t : StTree) (n m stride k : ℕ) (run : List Clock) (start : ℕ) (bundle : List NetId) (v : List ℕ) → stride ≡ lanes t * element_words t
+    → length bundle ≡ m * stride
+    → Holds (wave_of run start bundle) k (element_words t) (slots (tseq n 0 (sseq m t))) v → (q l a j : ℕ) (s : Slot) → q < n → l < m
+    → slice_get (slots t) a ≡ Some s → s.lane < lanes t → j < element_words t
+    → row_word run (start + (k + q * time t + s.clock)) bundle stride (s.lane * element_words t + j) l ≡ get_or v
+    ((q * m + l) * (st_atoms t * element_words t) + (a * element_words t + j)) 0
 held_word t n m stride k run start bundle v es long h q l a j s lq ll found low lj =
     let w : ℕ = element_words t in
     let p : ℕ = s.lane * w + j in
@@ -108,17 +125,21 @@ held_word t n m stride k run start bundle v es long h q l a j s lq ll found low 
     rw (clock, ← word) (sym (wave_word run start bundle (k + (q * time t + s.clock)) (l * stride + p) below) ∙ rw index held)
 
 -- what a net that scans has in the clock and at the place of an atom of the element in slot q and lane l
-pub scan_word : (t : StTree) (plan : Plan) (k d b : ℕ) (run : List Clock) (start y : ℕ) (fold : WordFold) (folds : List WordFold) (bundle : List NetId) (v : List ℕ) → plan.stride ≡ lanes t * element_words t → plan.inner ≡ time t
+pub scan_word : (t : StTree) (plan : Plan) (k d b : ℕ) (run : List Clock) (start y : ℕ) (fold : WordFold) (folds : List WordFold) (bundle : List NetId)
+    (v : List ℕ) → plan.stride ≡ lanes t * element_words t → plan.inner ≡ time t
     → length bundle ≡ plan.lanes * plan.stride → length folds ≡ element_words t
     → Holds (wave_of run start bundle) (k + b * plan.period) (element_words t) (slots (tseq plan.slots 0 (sseq plan.lanes t))) v
-    → (q l a j : ℕ) (s : Slot) → q < plan.slots → l < plan.lanes → slice_get (slots t) a ≡ Some s → s.clock < time t → s.lane < lanes t → j < element_words t → fold ≡ fold_at folds (a * element_words t + j)
+    → (q l a j : ℕ) (s : Slot) → q < plan.slots → l < plan.lanes → slice_get (slots t) a ≡ Some s → s.clock < time t → s.lane < lanes t → j < element_words t
+    → fold ≡ fold_at folds (a * element_words t + j)
     → Fit fold.width (λ i. get_or v (i * (st_atoms t * element_words t) + (a * element_words t + j)) 0) (q * plan.lanes + l)
     → Scans fold bundle plan k d (s.lane * element_words t + j) l run start y → start + (k + b * plan.period + q * time t + s.clock + d) < length run
-    → word_at run (start + (k + b * plan.period + q * time t + s.clock + d)) y ≡ word_fold folds (st_atoms t * element_words t) v (a * element_words t + j) (q * plan.lanes + l)
+    → word_at run (start + (k + b * plan.period + q * time t + s.clock + d)) y ≡ word_fold folds (st_atoms t * element_words t) v (a * element_words t + j)
+    (q * plan.lanes + l)
 scan_word t plan k d b run start y fold folds bundle v es et long words held q l a j s lq ll found lc low lj is fit scans within =
     rw (← is, ← et)
     (scans b q s.clock (λ i. get_or v (i * (st_atoms t * element_words t) + (a * element_words t + j)) 0) lq (omega arith) (rw et within) fit
-    (λ n i ln li. rw et (held_word t plan.slots plan.lanes plan.stride (k + b * plan.period) run start bundle v es long held n i a j s (omega arith) li found low lj)))
+    (λ n i ln li. rw et (held_word t plan.slots plan.lanes plan.stride (k + b * plan.period) run start bundle v es long held n i a j s
+    (omega arith) li found low lj)))
 
 -- ---- the block of one fold, and of all prefixes
 
@@ -163,7 +184,8 @@ same_fold folds w n a j x words lj e =
 abbrev pub AllFit : (folds : List WordFold) → (count size : ℕ) → List ℕ → Type 0
 AllFit folds count size v = (i p : ℕ) → i < count → p < size → get_or v (i * size + p) 0 < 2 ^ (fold_at folds p).width
 
-pub fit_of : (folds : List WordFold) (fold : WordFold) (n m size : ℕ) (v : List ℕ) (q l p : ℕ) → q < n → l < m → p < size → fold ≡ fold_at folds p → AllFit folds (n * m) size v → Fit fold.width (λ i. get_or v (i * size + p) 0) (q * m + l)
+pub fit_of : (folds : List WordFold) (fold : WordFold) (n m size : ℕ) (v : List ℕ) (q l p : ℕ) → q < n → l < m → p < size → fold ≡ fold_at folds p
+    → AllFit folds (n * m) size v → Fit fold.width (λ i. get_or v (i * size + p) 0) (q * m + l)
 fit_of folds fold n m size v q l p lq ll lp is h = record {
   each = λ i li. (let below : q * m + l < n * m = omega (arith, mul-add-lt q m l n lq ll) in rw is (h i p (omega arith) lp));
 }
@@ -171,20 +193,26 @@ fit_of folds fold n m size v q l p lq ll lp is h = record {
 -- of each net of a list, where net q scans up to the place and the lane of net from + q
 abbrev pub AllScan : (folds : List WordFold) (bundle : List NetId) → Plan → (k d from : ℕ) → List NetId → List Clock → ℕ → Type 0
 AllScan folds bundle plan k d from outs run start =
-    (q : ℕ) (y : NetId) → slice_get outs q ≡ Some y → Scans (fold_at folds (from + q)) bundle plan k d ((from + q) % plan.stride) ((from + q) / plan.stride) run start y.0
+    (q : ℕ) (y : NetId) → slice_get outs q ≡ Some y → Scans (fold_at folds (from + q)) bundle plan k d ((from + q) % plan.stride)
+    ((from + q) / plan.stride) run start y.0
 
 -- that of a net from the place of a lane
-scans_at : (folds : List WordFold) (bundle : List NetId) (plan : Plan) (k d from : ℕ) (outs : List NetId) (run : List Clock) (start q l p : ℕ) → AllScan folds bundle plan k d from outs run start → q < length outs → p < plan.stride → from + q ≡ l * plan.stride + p
+scans_at : (folds : List WordFold) (bundle : List NetId) (plan : Plan) (k d from : ℕ) (outs : List NetId) (run : List Clock) (start q l p : ℕ)
+    → AllScan folds bundle plan k d from outs run start → q < length outs → p < plan.stride → from + q ≡ l * plan.stride + p
     → Scans (fold_at folds (from + q)) bundle plan k d p l run start (net_at outs q)
 scans_at folds bundle plan k d from outs run start q l p h lq lp e =
     let place : (from + q) % plan.stride ≡ p = ap (λ n. n % plan.stride) e ∙ mod-mul-add l plan.stride p lp in
     let lane : (from + q) / plan.stride ≡ l = ap (λ n. n / plan.stride) e ∙ div-mul-add l plan.stride p lp in
     rw (place, lane) at (h q _ (slice_get-get_or outs q (record { 0 = 0 }) lq))
 
-pub reduce_holds : (t : StTree) (plan : Plan) (k d b : ℕ) (run : List Clock) (start : ℕ) (folds : List WordFold) (bundle outs : List NetId) (v : List ℕ) → IsInSize t → plan.stride ≡ lanes t * element_words t → plan.inner ≡ time t
-    → 1 ≤ plan.slots → 1 ≤ plan.lanes → plan.slots * plan.inner ≤ plan.period → length bundle ≡ plan.lanes * plan.stride → length outs ≡ plan.stride → length folds ≡ element_words t
-    → AllScan folds bundle plan k d ((plan.lanes - 1) * plan.stride) outs run start → k + ((plan.slots - 1) * time t + d) + (b + 1) * plan.period ≤ length run - start
-    → Holds (wave_of run start bundle) (k + b * plan.period) (element_words t) (slots (tseq plan.slots 0 (sseq plan.lanes t))) v → AllFit folds (plan.slots * plan.lanes) (st_atoms t * element_words t) v
+pub reduce_holds : (t : StTree) (plan : Plan) (k d b : ℕ) (run : List Clock) (start : ℕ) (folds : List WordFold) (bundle outs : List NetId) (v : List ℕ)
+    → IsInSize t → plan.stride ≡ lanes t * element_words t → plan.inner ≡ time t
+    → 1 ≤ plan.slots → 1 ≤ plan.lanes → plan.slots * plan.inner ≤ plan.period → length bundle ≡ plan.lanes * plan.stride → length outs ≡ plan.stride
+    → length folds ≡ element_words t
+    → AllScan folds bundle plan k d ((plan.lanes - 1) * plan.stride) outs run start
+    → k + ((plan.slots - 1) * time t + d) + (b + 1) * plan.period ≤ length run - start
+    → Holds (wave_of run start bundle) (k + b * plan.period) (element_words t) (slots (tseq plan.slots 0 (sseq plan.lanes t))) v
+    → AllFit folds (plan.slots * plan.lanes) (st_atoms t * element_words t) v
     → Holds (wave_of run start outs) (k + ((plan.slots - 1) * time t + d) + b * plan.period) (element_words t) (slots t)
     (map (λ p. word_fold folds (st_atoms t * element_words t) v p (plan.slots * plan.lanes - 1)) (range_with_len 0 (st_atoms t * element_words t)))
 reduce_holds t plan k d b run start folds bundle outs v size es et some wide room long_in long_out words scan bound held fits = λ a j s found lj.
@@ -207,21 +235,29 @@ reduce_holds t plan k d b run start folds bundle outs v size es et some wide roo
     let whole : plan.slots * plan.inner ≡ (plan.slots - 1) * plan.inner + plan.inner = ap (λ n. n * plan.inner) q1 ∙ suc-mul (plan.slots - 1) plan.inner in
     let times : (plan.slots - 1) * plan.inner ≡ (plan.slots - 1) * time t = ap (λ n. (plan.slots - 1) * n) et in
     let block : (b + 1) * plan.period ≡ b * plan.period + 1 * plan.period = add-mul b 1 plan.period in
-    let clock : start + (k + ((plan.slots - 1) * time t + d) + b * plan.period + s.clock) ≡ start + (k + b * plan.period + (plan.slots - 1) * time t + s.clock + d) = omega arith in
+    let clock : start + (k + ((plan.slots - 1) * time t + d) + b * plan.period + s.clock) ≡ start + (k + b * plan.period + (plan.slots - 1) * time
+    t + s.clock + d) = omega arith in
     let within : start + (k + b * plan.period + (plan.slots - 1) * time t + s.clock + d) < length run = omega (arith, in_block.0) in
     let count : plan.slots * plan.lanes ≡ (plan.slots - 1) * plan.lanes + plan.lanes = ap (λ n. n * plan.lanes) q1 ∙ suc-mul (plan.slots - 1) plan.lanes in
     let last : (plan.slots - 1) * plan.lanes + (plan.lanes - 1) ≡ plan.slots * plan.lanes - 1 = omega arith in
-    let fit = fit_of folds (fold_at folds (from + p)) plan.slots plan.lanes total v (plan.slots - 1) (plan.lanes - 1) word (omega arith) (omega arith) lw is fits in
-    let made = scan_word t plan k d b run start (net_at outs p) (fold_at folds (from + p)) folds bundle v es et long_in words held (plan.slots - 1) (plan.lanes - 1) a j s (omega arith) (omega arith) found in_block.0 in_block.1 lj is fit here within in
+    let fit = fit_of folds (fold_at folds (from + p)) plan.slots plan.lanes total v (plan.slots - 1) (plan.lanes - 1) word (omega arith)
+    (omega arith) lw is fits in
+    let made = scan_word t plan k d b run start (net_at outs p) (fold_at folds (from + p)) folds bundle v es et long_in words held (plan.slots - 1)
+    (plan.lanes - 1) a j s (omega arith) (omega arith) found in_block.0 in_block.1 lj is fit here within in
     wave_word run start outs (k + ((plan.slots - 1) * time t + d) + b * plan.period + s.clock) p (omega arith)
-    ∙ rw (clock, ← last) (made ∙ sym (get_or-map-range_with_len (λ x. word_fold folds total v x ((plan.slots - 1) * plan.lanes + (plan.lanes - 1))) 0 total word word 0 lw (omega arith)))
+    ∙ rw (clock, ← last) (made ∙ sym (get_or-map-range_with_len
+    (λ x. word_fold folds total v x ((plan.slots - 1) * plan.lanes + (plan.lanes - 1))) 0 total word word 0 lw (omega arith)))
 
-pub scan_holds : (t : StTree) (plan : Plan) (k d b : ℕ) (run : List Clock) (start : ℕ) (folds : List WordFold) (bundle outs : List NetId) (v : List ℕ) → IsInSize t → plan.stride ≡ lanes t * element_words t → plan.inner ≡ time t
-    → 1 ≤ plan.lanes → plan.slots * plan.inner ≤ plan.period → length bundle ≡ plan.lanes * plan.stride → length outs ≡ plan.lanes * plan.stride → length folds ≡ element_words t
+pub scan_holds : (t : StTree) (plan : Plan) (k d b : ℕ) (run : List Clock) (start : ℕ) (folds : List WordFold) (bundle outs : List NetId) (v : List ℕ)
+    → IsInSize t → plan.stride ≡ lanes t * element_words t → plan.inner ≡ time t
+    → 1 ≤ plan.lanes → plan.slots * plan.inner ≤ plan.period → length bundle ≡ plan.lanes * plan.stride → length outs ≡ plan.lanes * plan.stride
+    → length folds ≡ element_words t
     → AllScan folds bundle plan k d 0 outs run start → k + d + (b + 1) * plan.period ≤ length run - start
-    → Holds (wave_of run start bundle) (k + b * plan.period) (element_words t) (slots (tseq plan.slots 0 (sseq plan.lanes t))) v → AllFit folds (plan.slots * plan.lanes) (st_atoms t * element_words t) v
+    → Holds (wave_of run start bundle) (k + b * plan.period) (element_words t) (slots (tseq plan.slots 0 (sseq plan.lanes t))) v
+    → AllFit folds (plan.slots * plan.lanes) (st_atoms t * element_words t) v
     → Holds (wave_of run start outs) (k + d + b * plan.period) (element_words t) (slots (tseq plan.slots 0 (sseq plan.lanes t)))
-    (map (λ x. word_fold folds (st_atoms t * element_words t) v (x % (st_atoms t * element_words t)) (x / (st_atoms t * element_words t))) (range_with_len 0 (plan.slots * plan.lanes * (st_atoms t * element_words t))))
+    (map (λ x. word_fold folds (st_atoms t * element_words t) v (x % (st_atoms t * element_words t)) (x / (st_atoms t * element_words t)))
+    (range_with_len 0 (plan.slots * plan.lanes * (st_atoms t * element_words t))))
 scan_holds t plan k d b run start folds bundle outs v size es et wide room long_in long_out words scan bound held fits = λ e j slot there lj.
     let w : ℕ = element_words t in
     let total : ℕ = st_atoms t * w in
@@ -253,7 +289,8 @@ scan_holds t plan k d b run start folds bundle outs v size es et wide room long_
     let clock : start + (k + d + b * plan.period + (q * time t + s.clock)) ≡ start + (k + b * plan.period + q * time t + s.clock + d) = omega arith in
     let within : start + (k + b * plan.period + q * time t + s.clock + d) < length run = omega (arith, in_block.0) in
     let fit = fit_of folds (fold_at folds (0 + net)) plan.slots plan.lanes total v q l word one.lq one.ll lw is fits in
-    let made = scan_word t plan k d b run start (net_at outs net) (fold_at folds (0 + net)) folds bundle v es et long_in words held q l a j s one.lq one.ll one.found in_block.0 in_block.1 lj is fit here within in
+    let made = scan_word t plan k d b run start (net_at outs net)
+    (fold_at folds (0 + net)) folds bundle v es et long_in words held q l a j s one.lq one.ll one.found in_block.0 in_block.1 lj is fit here within in
     let cut2 : (i * st_atoms t + a) * w ≡ i * st_atoms t * w + a * w = add-mul (i * st_atoms t) a w in
     let assoc2 : i * st_atoms t * w ≡ i * total = mul_assoc i (st_atoms t) w in
     let back : e * w ≡ (i * st_atoms t + a) * w = ap (λ n. n * w) one.place in

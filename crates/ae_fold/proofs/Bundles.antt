@@ -52,11 +52,14 @@ width_is op t q =
     let long : length kinds ≡ element_words t = length-atom_kinds (element_atom t) in
     let l : q % element_words t < length kinds = omega (arith, mod_below q (element_words t) (element_words_pos t)) in
     let k : WordKind = get_or kinds (q % element_words t) none in
-    let left : slice_get (widths_of t) (q % element_words t) ≡ Some k.width = slice_get-map (λ (x : WordKind). x.width) kinds (q % element_words t) ∙ ap (option_map (λ (x : WordKind). x.width)) (slice_get-get_or kinds (q % element_words t) none l) in
-    let right : get_or (element_folds op t) (q % element_words t) (record { op = Add; width = 0 }) ≡ fold_by op k = get_or-map (fold_by op) kinds (q % element_words t) none (record { op = Add; width = 0 }) l in
+    let left : slice_get (widths_of t) (q % element_words t) ≡ Some k.width = slice_get-map (λ (x : WordKind). x.width) kinds (q % element_words t) ∙
+    ap (option_map (λ (x : WordKind). x.width)) (slice_get-get_or kinds (q % element_words t) none l) in
+    let right : get_or (element_folds op t) (q % element_words t) (record { op = Add; width = 0 }) ≡ fold_by op k = get_or-map (fold_by op) kinds
+    (q % element_words t) none (record { op = Add; width = 0 }) l in
     rw (length-folds op t) (left ∙ ap Some (ap (λ (f : WordFold). f.width) (sym right)))
 
-pub column_width : (op : WordOp) (t : StTree) (n q : ℕ) → q < n * element_words t → slice_get (repeated n (widths_of t)) q ≡ Some (fold_at (element_folds op t) q).width
+pub column_width : (op : WordOp) (t : StTree) (n q : ℕ) → q < n * element_words t
+    → slice_get (repeated n (widths_of t)) q ≡ Some (fold_at (element_folds op t) q).width
 column_width op t n q l =
     let w : ℕ = element_words t in
     let long : length (widths_of t) ≡ w = length-map (atom_kinds (element_atom t)) (λ (k : WordKind). k.width) ∙ length-atom_kinds (element_atom t) in
@@ -66,22 +69,27 @@ column_width op t n q l =
 
 pub length-widths : (t s : StTree) → element_atom s ≡ element_atom t → length (stream_widths (stream_of s)) ≡ lanes s * element_words t
 length-widths t s e =
-    length-repeated (lanes s) (widths_of s) ∙ ap (λ n. lanes s * n) (length-map (atom_kinds (element_atom s)) (λ (k : WordKind). k.width) ∙ length-atom_kinds (element_atom s) ∙ rw e refl)
+    length-repeated (lanes s) (widths_of s) ∙ ap (λ n. lanes s * n)
+    (length-map (atom_kinds (element_atom s)) (λ (k : WordKind). k.width) ∙ length-atom_kinds (element_atom s) ∙ rw e refl)
 
 -- the nets of a bundle of a layout of elements
-pub nets_of_bundle : (op : WordOp) (cells : List SizedCell) (t : StTree) (n m : ℕ) (nets : List NetId) → AreNets cells (stream_widths (stream_of (tseq n 0 (sseq m t)))) nets → AreFoldNets cells (element_folds op t) nets
+pub nets_of_bundle : (op : WordOp) (cells : List SizedCell) (t : StTree) (n m : ℕ) (nets : List NetId)
+    → AreNets cells (stream_widths (stream_of (tseq n 0 (sseq m t)))) nets → AreFoldNets cells (element_folds op t) nets
 nets_of_bundle op cells t n m nets h = record {
   each = λ q l.
       let below : q < m * lanes t * element_words t = omega (arith, h.long, length-widths t (tseq n 0 (sseq m t)) refl) in
       h.each q _ (get_or nets q (record { 0 = 0 })) (column_width op t (m * lanes t) q below) (slice_get-get_or nets q (record { 0 = 0 }) l);
 }
 
-pub length-bundle : (cells : List SizedCell) (t : StTree) (n m : ℕ) (nets : List NetId) → AreNets cells (stream_widths (stream_of (tseq n 0 (sseq m t)))) nets → length nets ≡ m * (lanes t * element_words t)
+pub length-bundle : (cells : List SizedCell) (t : StTree) (n m : ℕ) (nets : List NetId) → AreNets cells (stream_widths (stream_of (tseq n 0 (sseq m t)))) nets
+    → length nets ≡ m * (lanes t * element_words t)
 length-bundle cells t n m nets h = h.long ∙ (length-widths t (tseq n 0 (sseq m t)) refl ∙ mul_assoc m (lanes t) (element_words t))
 
-bundle_by : (op : WordOp) (cells : List SizedCell) (t : StTree) (n : ℕ) (nets : List NetId) → length nets ≡ n * element_words t → AreFoldNets cells (element_folds op t) nets → AreNets cells (repeated n (widths_of t)) nets
+bundle_by : (op : WordOp) (cells : List SizedCell) (t : StTree) (n : ℕ) (nets : List NetId) → length nets ≡ n * element_words t
+    → AreFoldNets cells (element_folds op t) nets → AreNets cells (repeated n (widths_of t)) nets
 bundle_by op cells t n nets long h = record {
-  long = long ∙ sym (length-repeated n (widths_of t) ∙ ap (λ k. n * k) (length-map (atom_kinds (element_atom t)) (λ (k : WordKind). k.width) ∙ length-atom_kinds (element_atom t)));
+  long = long ∙ sym (length-repeated n (widths_of t) ∙ ap (λ k. n * k)
+      (length-map (atom_kinds (element_atom t)) (λ (k : WordKind). k.width) ∙ length-atom_kinds (element_atom t)));
   each = λ q width net fw fn.
       let l : q < length nets = slice_get_within nets q net fn in
       let same : Some width ≡ Some (fold_at (element_folds op t) q).width = sym fw ∙ column_width op t n q (omega arith) in
@@ -91,15 +99,18 @@ bundle_by op cells t n nets long h = record {
 }
 
 -- and back, for one element and for all
-pub element_bundle : (op : WordOp) (cells : List SizedCell) (t : StTree) (nets : List NetId) → length nets ≡ lanes t * element_words t → AreFoldNets cells (element_folds op t) nets → AreNets cells (stream_widths (stream_of t)) nets
+pub element_bundle : (op : WordOp) (cells : List SizedCell) (t : StTree) (nets : List NetId) → length nets ≡ lanes t * element_words t
+    → AreFoldNets cells (element_folds op t) nets → AreNets cells (stream_widths (stream_of t)) nets
 element_bundle op cells t nets long h = bundle_by op cells t (lanes t) nets long h
 
-pub elements_bundle : (op : WordOp) (cells : List SizedCell) (t : StTree) (n m : ℕ) (nets : List NetId) → length nets ≡ m * (lanes t * element_words t) → AreFoldNets cells (element_folds op t) nets
+pub elements_bundle : (op : WordOp) (cells : List SizedCell) (t : StTree) (n m : ℕ) (nets : List NetId) → length nets ≡ m * (lanes t * element_words t)
+    → AreFoldNets cells (element_folds op t) nets
     → AreNets cells (stream_widths (stream_of (tseq n 0 (sseq m t)))) nets
 elements_bundle op cells t n m nets long h = bundle_by op cells t (m * lanes t) nets (long ∙ sym (mul_assoc m (lanes t) (element_words t))) h
 
 -- the words of a block fit
-pub words_fit : (op : WordOp) (t : StTree) (n m : ℕ) (v : List ℕ) → AreWords (stream_of (tseq n 0 (sseq m t))) v → AllFit (element_folds op t) (n * m) (st_atoms t * element_words t) v
+pub words_fit : (op : WordOp) (t : StTree) (n m : ℕ) (v : List ℕ) → AreWords (stream_of (tseq n 0 (sseq m t))) v
+    → AllFit (element_folds op t) (n * m) (st_atoms t * element_words t) v
 words_fit op t n m v h = λ i p li lp.
     let w : ℕ = element_words t in
     let size : ℕ = st_atoms t * w in
@@ -122,7 +133,8 @@ one_only [] x long is = absurd (omega arith)
 one_only (y ∷ []) x long is = ap (λ (z : List NetId). z ∷ []) (sym is)
 one_only (y ∷ z ∷ more) x long is = absurd (omega arith)
 
-pub first_bundle : (cells : List SizedCell) (s : Stream) (ins : List (List NetId)) (x nets : List NetId) → AreBundles cells (s ∷ []) ins → x ≡ get_or ins 0 x → nets ≡ x → (ins ≡ nets ∷ []) × AreNets cells (stream_widths s) nets
+pub first_bundle : (cells : List SizedCell) (s : Stream) (ins : List (List NetId)) (x nets : List NetId) → AreBundles cells (s ∷ []) ins → x ≡ get_or ins 0 x
+    → nets ≡ x → (ins ≡ nets ∷ []) × AreNets cells (stream_widths s) nets
 first_bundle cells s ins x nets h is same =
     let e : ins ≡ x ∷ [] = one_only ins x h.long is in
     let own = rw e at h in
@@ -135,7 +147,9 @@ made a b c d e f = record { slots = a; lanes = b; stride = c; inner = d; period 
 pub plan_is : (t : StTree) (slots lanes period : ℕ) (plan : Plan) → IsPlanFor t slots lanes period plan
     → plan ≡ record { slots = slots; lanes = lanes; stride = element_columns t; inner = time t; period = period; levels = log_up lanes }
 unfolding made
-plan_is t slots lanes period plan h = plan_by plan.slots plan.lanes plan.stride plan.inner plan.period plan.levels _ _ _ _ _ _ h.slots_is h.lanes_is h.stride_is h.inner_is h.period_is h.levels_is
+plan_is t slots lanes period plan h =
+    plan_by plan.slots plan.lanes plan.stride plan.inner plan.period plan.levels _ _ _ _ _ _ h.slots_is h.lanes_is h.stride_is h.inner_is h.period_is
+    h.levels_is
   where
     plan_by : (a b c d e f u v w x y z : ℕ) → a ≡ u → b ≡ v → c ≡ w → d ≡ x → e ≡ y → f ≡ z
         → made a b c d e f ≡ made u v w x y z
@@ -150,7 +164,8 @@ whole_stride op t =
 pub one_bundle : (cells : List SizedCell) (s : Stream) (x : List NetId) → AreNets cells (stream_widths s) x → AreBundles cells (s ∷ []) (x ∷ [])
 one_bundle cells s x h = record { long = refl; each = each }
   where
-    each : (k : ℕ) (stream : Stream) (nets : List NetId) → slice_get (s ∷ []) k ≡ Some stream → slice_get (x ∷ []) k ≡ Some nets → AreNets cells (stream_widths stream) nets
+    each : (k : ℕ) (stream : Stream) (nets : List NetId) → slice_get (s ∷ []) k ≡ Some stream → slice_get (x ∷ []) k ≡ Some nets
+        → AreNets cells (stream_widths stream) nets
     each zero stream nets f g =
         let a : s ≡ stream = cc in
         let b : x ≡ nets = cc in

@@ -24,7 +24,8 @@ trail_more base a b x d y z g h late next = λ all k run r t l.
     let n : word_at run (t + d + 1) z ≡ word_at run (t + d) y = next all (carries_later _ _ (grows_length g) k) run r (t + d) (omega arith) in
     rw s (n ∙ late all (back h k) run r t (omega arith))
 
-pub continues : (run : List Clock) (op : WordOp) (w d y : ℕ) (z old x first both next : NetId) → IsLate run old.0 y d → IsResult run both.0 op w (old ∷ x ∷ old ∷ [])
+pub continues : (run : List Clock) (op : WordOp) (w d y : ℕ) (z old x first both next : NetId) → IsLate run old.0 y d
+    → IsResult run both.0 op w (old ∷ x ∷ old ∷ [])
     → IsResult run next.0 Mux w (first ∷ x ∷ both ∷ []) → IsNextOf run z.0 next.0 → Continues run z.0 op w x.0 first.0 y d
 continues run op w d y z old x first both next late comb pick reg = record {
   loads = λ t l e. reg t l ∙ pick t (omega arith) ∙ rw e refl;

@@ -23,7 +23,8 @@ pub get_right : {X : Type 0} (xs ys : List X) (p : ℕ) → slice_get (xs ++ ys)
 get_right [] ys p = let e : 0 + p ≡ p = omega arith in rw e refl
 get_right (x ∷ xs) ys p = let e : length (x ∷ xs) + p ≡ suc (length xs + p) = omega arith in rw e (get_right xs ys p)
 
-pub get_append_cases : {X : Type 0} (xs ys : List X) (q : ℕ) (x d : X) → slice_get (xs ++ ys) q ≡ Some x → ((q < length xs) × (slice_get xs q ≡ Some x)) ⊎ ((length xs ≤ q) × (slice_get ys (q - length xs) ≡ Some x))
+pub get_append_cases : {X : Type 0} (xs ys : List X) (q : ℕ) (x d : X) → slice_get (xs ++ ys) q ≡ Some x → ((q < length xs) × (slice_get xs q ≡ Some x))
+    ⊎ ((length xs ≤ q) × (slice_get ys (q - length xs) ≡ Some x))
 get_append_cases xs ys q x d found = elim (cases_lt q (length xs)) [
   | inl l ↦
       let a : slice_get xs q ≡ Some (get_or xs q d) = slice_get-get_or xs q d l in
@@ -86,7 +87,8 @@ op_products true Max h = refl
 op_products false op h = refl
 op_products true _ h = cc
 
-kind_of : (op : WordOp) (kinds : List WordKind) (j : ℕ) (f : WordFold) → slice_get (map (fold_by op) kinds) j ≡ Some f → (k : WordKind) × (slice_get kinds j ≡ Some k) × (fold_by op k ≡ f)
+kind_of : (op : WordOp) (kinds : List WordKind) (j : ℕ) (f : WordFold) → slice_get (map (fold_by op) kinds) j ≡ Some f → (k : WordKind)
+    × (slice_get kinds j ≡ Some k) × (fold_by op k ≡ f)
 kind_of op kinds j f found =
     let none : WordKind = record { signed = false; width = 0 } in
     let l : j < length kinds = omega (arith, slice_get_within (map (fold_by op) kinds) j f found, length-map kinds (fold_by op)) in
@@ -121,7 +123,8 @@ all_products op s h size =
 
 -- ---- one word more
 
-pub folds_more : (op : WordOp) (kinds : List WordKind) (j : ℕ) (items : List WordFold) (f : WordFold) → j < length kinds → items ≡ map (fold_by op) (take j kinds) → Some f ≡ option_map (fold_by op) (slice_get kinds j)
+pub folds_more : (op : WordOp) (kinds : List WordKind) (j : ℕ) (items : List WordFold) (f : WordFold) → j < length kinds
+    → items ≡ map (fold_by op) (take j kinds) → Some f ≡ option_map (fold_by op) (slice_get kinds j)
     → items ++ f ∷ [] ≡ map (fold_by op) (take (j + 1) kinds)
 folds_more op kinds j items f l so_far is =
     let none : WordKind = record { signed = false; width = 0 } in
@@ -132,7 +135,8 @@ folds_more op kinds j items f l so_far is =
     let same : f ≡ fold_by op k = cc in
     rw (so_far, more, same) (sym (map-append (fold_by op) (take j kinds) (k ∷ [])))
 
-pub folds_all : (op : WordOp) (s : StTree) (j n : ℕ) (items : List WordFold) → n ≡ atom_words (element_atom s) → n ≤ j → items ≡ map (fold_by op) (take j (atom_kinds (element_atom s))) → items ≡ map (fold_by op) (atom_kinds (element_atom s))
+pub folds_all : (op : WordOp) (s : StTree) (j n : ℕ) (items : List WordFold) → n ≡ atom_words (element_atom s) → n ≤ j
+    → items ≡ map (fold_by op) (take j (atom_kinds (element_atom s))) → items ≡ map (fold_by op) (atom_kinds (element_atom s))
 folds_all op s j n items e l is = is ∙ ap (map (fold_by op)) (take_all j (atom_kinds (element_atom s)) (omega (arith, length-atom_kinds (element_atom s))))
 
 pub word_there : (s : StTree) (j n : ℕ) → n ≡ atom_words (element_atom s) → j < n → j < length (atom_kinds (element_atom s))

@@ -27,6 +27,8 @@ pub log_up_is : (n l : ℕ) → 1 ≤ n → n ≤ 2 ^ l → ((k : ℕ) → k < l
 unfolding log_up
 log_up_is n l some enough least =
     let l_in : l < n = in_range n l some least in
-    let at : (k : ℕ) → k < n → get_or (range_with_len 0 n) k 0 ≡ k = λ k below. (let e : get_or (range_with_len 0 n) k 0 ≡ 0 + k = get_or-range_with_len 0 n k 0 below in omega arith) in
+    let at : (k : ℕ) → k < n → get_or (range_with_len 0 n) k 0 ≡ k = λ k below.
+    (let e : get_or (range_with_len 0 n) k 0 ≡ 0 + k = get_or-range_with_len 0 n k 0 below in omega arith) in
     position_or_len_is (λ k. nat_le n (2 ^ k)) (range_with_len 0 n) l 0 (omega (arith, length-range_with_len 0 n))
-    (λ k below. fails n (get_or (range_with_len 0 n) k 0) k (at k (omega arith)) (least k below)) (λ below. passes n (get_or (range_with_len 0 n) l 0) l (at l l_in) enough)
+    (λ k below. fails n (get_or (range_with_len 0 n) k 0) k (at k (omega arith)) (least k below))
+    (λ below. passes n (get_or (range_with_len 0 n) l 0) l (at l l_in) enough)

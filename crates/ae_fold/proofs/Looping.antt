@@ -39,7 +39,8 @@ fold_product folds q h = h.same _ _ (fold_there folds q h.some)
 pub nets_grow : {a b : List SizedCell} {folds : List WordFold} {nets : List NetId} → Extends a b → AreFoldNets a folds nets → AreFoldNets b folds nets
 nets_grow g h = record { each = λ q l. net_later g (h.each q l) }
 
-pub loop_grows : {a b : List SizedCell} {fold : WordFold} {x first inner : ℕ} {one : Loop} → Extends a b → IsLoop a fold x first inner one → IsLoop b fold x first inner one
+pub loop_grows : {a b : List SizedCell} {fold : WordFold} {x first inner : ℕ} {one : Loop} → Extends a b → IsLoop a fold x first inner one
+    → IsLoop b fold x first inner one
 loop_grows g h = record {
   net = net_later g h.net;
   old = net_later g h.old;
@@ -47,13 +48,16 @@ loop_grows g h = record {
   late = λ all e run r. h.late all (extends_trans g e) run r;
 }
 
-pub loops_grow : {a b : List SizedCell} {folds : List WordFold} {nets : List NetId} {from first inner : ℕ} {loops : List Loop} → Extends a b → AreLoops a folds nets from first inner loops → AreLoops b folds nets from first inner loops
+pub loops_grow : {a b : List SizedCell} {folds : List WordFold} {nets : List NetId} {from first inner : ℕ} {loops : List Loop} → Extends a b
+    → AreLoops a folds nets from first inner loops → AreLoops b folds nets from first inner loops
 loops_grow g h = record { each = λ p one f. loop_grows g (h.each p one f) }
 
-pub over_grows : {a b : List SizedCell} {fold : WordFold} {nets : List NetId} {stride place l levels y : ℕ} → Extends a b → IsOverLanes a fold nets stride place l levels y → IsOverLanes b fold nets stride place l levels y
+pub over_grows : {a b : List SizedCell} {fold : WordFold} {nets : List NetId} {stride place l levels y : ℕ} → Extends a b
+    → IsOverLanes a fold nets stride place l levels y → IsOverLanes b fold nets stride place l levels y
 over_grows g h = record { net = net_later g h.net; words = λ all e run r. h.words all (extends_trans g e) run r }
 
-pub overs_grow : {a b : List SizedCell} {folds : List WordFold} {nets outs : List NetId} {stride levels from : ℕ} → Extends a b → AreOverLanes a folds nets stride levels from outs → AreOverLanes b folds nets stride levels from outs
+pub overs_grow : {a b : List SizedCell} {folds : List WordFold} {nets outs : List NetId} {stride levels from : ℕ} → Extends a b
+    → AreOverLanes a folds nets stride levels from outs → AreOverLanes b folds nets stride levels from outs
 overs_grow g h = record { each = λ q l. over_grows g (h.each q l) }
 
 -- ---- one loop more
@@ -61,7 +65,8 @@ overs_grow g h = record { each = λ q l. over_grows g (h.each q l) }
 pub loops_none : (cells : List SizedCell) (folds : List WordFold) (nets : List NetId) (from first inner : ℕ) → AreLoops cells folds nets from first inner []
 loops_none cells folds nets from first inner = record { each = λ p one h. (let no : p < 0 = slice_get_within [] p one h in absurd (omega arith)) }
 
-pub loops_more : (a b : List SizedCell) (folds : List WordFold) (nets : List NetId) (from first inner p : ℕ) (loops : List Loop) (one : Loop) → length loops ≡ p → Extends a b → AreLoops a folds nets from first inner loops
+pub loops_more : (a b : List SizedCell) (folds : List WordFold) (nets : List NetId) (from first inner p : ℕ) (loops : List Loop) (one : Loop)
+    → length loops ≡ p → Extends a b → AreLoops a folds nets from first inner loops
     → IsLoop b (fold_at folds (from + p)) (net_at nets (from + p)) first inner one → AreLoops b folds nets from first inner (loops ++ one ∷ [])
 loops_more a b folds nets from first inner p loops one long g h new = record {
   each = λ k z found. elim (get_push_cases loops one k z found) [
@@ -71,7 +76,8 @@ loops_more a b folds nets from first inner p loops one long g h new = record {
 }
 
 -- the same number of cells and products once more
-pub adds_once : {a b c : Circuit} (n most muls own : ℕ) → own ≡ muls → Adds a b (n * most) (n * muls) → Adds b c most own → Adds a c ((n + 1) * most) ((n + 1) * muls)
+pub adds_once : {a b c : Circuit} (n most muls own : ℕ) → own ≡ muls → Adds a b (n * most) (n * muls) → Adds b c most own
+    → Adds a c ((n + 1) * most) ((n + 1) * muls)
 adds_once n most muls own e p q =
     let m : (n + 1) * most ≡ n * most + 1 * most = add-mul n 1 most in
     let k : (n + 1) * muls ≡ n * muls + 1 * muls = add-mul n 1 muls in

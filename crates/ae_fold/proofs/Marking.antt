@@ -35,18 +35,22 @@ leads run start p k inner y less marks = record {
 
 -- ---- as a netlist grows
 
-pub mark_grows : {a b : List SizedCell} {rst slots period k inner y : ℕ} → Extends a b → IsMark a rst slots period k inner y → IsMark b rst slots period k inner y
+pub mark_grows : {a b : List SizedCell} {rst slots period k inner y : ℕ} → Extends a b → IsMark a rst slots period k inner y
+    → IsMark b rst slots period k inner y
 mark_grows g h = record { many = h.many; net = net_later g h.net; words = λ all e run r. h.words all (extends_trans g e) run r }
 
-pub marks_grow : (a b : List SizedCell) (rst slots period k inner : ℕ) (mark : Option NetId) → Extends a b → Marks a rst slots period k inner mark → Marks b rst slots period k inner mark
+pub marks_grow : (a b : List SizedCell) (rst slots period k inner : ℕ) (mark : Option NetId) → Extends a b → Marks a rst slots period k inner mark
+    → Marks b rst slots period k inner mark
 marks_grow a b rst slots period k inner None g h = h
 marks_grow a b rst slots period k inner (Some y) g h = mark_grows g h
 
-pub marks_net : (a : List SizedCell) (rst slots period k inner : ℕ) (mark : Option NetId) → Marks a rst slots period k inner mark → IfSome mark (λ first. IsNet a first.0 1)
+pub marks_net : (a : List SizedCell) (rst slots period k inner : ℕ) (mark : Option NetId) → Marks a rst slots period k inner mark
+    → IfSome mark (λ first. IsNet a first.0 1)
 marks_net a rst slots period k inner None h = tt
 marks_net a rst slots period k inner (Some y) h = h.net
 
-pub marks_wait : (a : List SizedCell) (rst slots period k inner : ℕ) (mark : Option NetId) → Marks a rst slots period k inner mark → marks_in mark ≡ wait_of slots
+pub marks_wait : (a : List SizedCell) (rst slots period k inner : ℕ) (mark : Option NetId) → Marks a rst slots period k inner mark
+    → marks_in mark ≡ wait_of slots
 marks_wait a rst slots period k inner None h = rw h refl
 marks_wait a rst slots period k inner (Some y) h = one_more slots h.many
   where

@@ -7,7 +7,9 @@ use Rattle.ae_sttype.proofs.Bounds.{lanes-le-atoms, lanes_pos, element_words_pos
 use Rattle.ae_fold.proofs.LogUp.{below_power}
 
 pub columns_small : (t : StTree) → IsInSize t → lanes t * element_words t ≤ 16384
-columns_small t h = let l : lanes t * element_words t ≤ st_atoms t * element_words t = mul-le-mul_right (element_words t) (lanes-le-atoms t h.lengths) in omega (arith, h.in_words)
+columns_small t h =
+    let l : lanes t * element_words t ≤ st_atoms t * element_words t = mul-le-mul_right (element_words t) (lanes-le-atoms t h.lengths) in
+    omega (arith, h.in_words)
 
 product_some : (a b : ℕ) → 1 ≤ a → 1 ≤ b → 1 ≤ a * b
 product_some a b p q = grind arith

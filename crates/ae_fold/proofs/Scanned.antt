@@ -25,7 +25,8 @@ accumulated run y op w x first inner k pos h one (suc q) none l =
     rw (fold_suc, at) (step ∙ ap (λ v. combine op w v (word_at run (k + q * inner + 1 + (inner - 1)) x)) before)
 
 -- a net behind the loop of the last lane: slot q has what the last lane had up to the slot before, combined with its own
-pub continued : (run : List Clock) (z y : ℕ) (op : WordOp) (w x last first inner k : ℕ) → 1 ≤ inner → Continues run y op w last first y (inner - 1) → Continues run z op w x first y (inner - 1)
+pub continued : (run : List Clock) (z y : ℕ) (op : WordOp) (w x last first inner k : ℕ) → 1 ≤ inner → Continues run y op w last first y (inner - 1)
+    → Continues run z op w x first y (inner - 1)
     → word_at run k first ≡ 1 → (q : ℕ) → ((j : ℕ) → 1 ≤ j → j ≤ suc q → word_at run (k + j * inner) first ≡ 0) → k + suc q * inner + 1 < length run
     → word_at run (k + suc q * inner + 1) z ≡ combine op w (fold_to op w (λ j. word_at run (k + j * inner) last) q) (word_at run (k + suc q * inner) x)
 continued run z y op w x last first inner k pos acc h one q none l =
@@ -46,24 +47,29 @@ pub fold_grid : (op : WordOp) (w : ℕ) (f : ℕ → ℕ) (lanes q : ℕ) → Is
     → fold_to op w (λ s. fold_to op w (λ l. f (s * lanes + l)) (lanes - 1)) q ≡ fold_to op w f (q * lanes + (lanes - 1))
 fold_grid op w f lanes zero ok some fit =
     let z : 0 * lanes + (lanes - 1) ≡ lanes - 1 = omega arith in
-    fold_zero op w (λ s. fold_to op w (λ l. f (s * lanes + l)) (lanes - 1)) ∙ rw z (fold_same op w _ _ (lanes - 1) (λ i l. ap f (let y : 0 * lanes + i ≡ i = omega arith in y)))
+    fold_zero op w (λ s. fold_to op w (λ l. f (s * lanes + l)) (lanes - 1)) ∙
+    rw z (fold_same op w _ _ (lanes - 1) (λ i l. ap f (let y : 0 * lanes + i ≡ i = omega arith in y)))
 fold_grid op w f lanes (suc q) ok some fit =
     let m : ℕ = q * lanes + (lanes - 1) in
     let more : suc q * lanes ≡ q * lanes + lanes = suc-mul q lanes in
     let at : suc q * lanes + (lanes - 1) ≡ suc (m + (lanes - 1)) = omega arith in
     let g : ℕ → ℕ = λ s. fold_to op w (λ l. f (s * lanes + l)) (lanes - 1) in
-    let last : g (suc q) ≡ fold_to op w (λ i. f (suc (m + i))) (lanes - 1) = fold_same op w _ _ (lanes - 1) (λ i l. ap f (let y : suc q * lanes + i ≡ suc (m + i) = omega arith in y)) in
+    let last : g (suc q) ≡ fold_to op w (λ i. f (suc (m + i))) (lanes - 1) = fold_same op w _ _ (lanes - 1)
+    (λ i l. ap f (let y : suc q * lanes + i ≡ suc (m + i) = omega arith in y)) in
     let before : fold_to op w g q ≡ fold_to op w f m = fold_grid op w f lanes q ok some (record { each = λ i li. fit.each i (omega arith) }) in
     fold_suc op w g q ∙ rw (last, before, at) (sym (fold_cut op w f m (lanes - 1) ok (rw at at fit)))
 
 -- a row of lanes behind the fold of the slots before
 pub scan_grid : (op : WordOp) (w : ℕ) (f : ℕ → ℕ) (lanes q l : ℕ) → IsFold op → 1 ≤ lanes → Fit w f (suc q * lanes + l)
-    → combine op w (fold_to op w (λ s. fold_to op w (λ i. f (s * lanes + i)) (lanes - 1)) q) (fold_to op w (λ i. f (suc q * lanes + i)) l) ≡ fold_to op w f (suc q * lanes + l)
+    → combine op w (fold_to op w (λ s. fold_to op w (λ i. f (s * lanes + i)) (lanes - 1)) q) (fold_to op w (λ i. f (suc q * lanes + i)) l) ≡ fold_to op w f
+    (suc q * lanes + l)
 scan_grid op w f lanes q l ok some fit =
     let m : ℕ = q * lanes + (lanes - 1) in
     let more : suc q * lanes ≡ q * lanes + lanes = suc-mul q lanes in
-    let left : fold_to op w (λ s. fold_to op w (λ i. f (s * lanes + i)) (lanes - 1)) q ≡ fold_to op w f m = fold_grid op w f lanes q ok some (record { each = λ i li. fit.each i (omega arith) }) in
-    let right : fold_to op w (λ i. f (suc q * lanes + i)) l ≡ fold_to op w (λ i. f (suc (m + i))) l = fold_same op w _ _ l (λ i li. ap f (let e : suc q * lanes + i ≡ suc (m + i) = omega arith in e)) in
+    let left : fold_to op w (λ s. fold_to op w (λ i. f (s * lanes + i)) (lanes - 1)) q ≡ fold_to op w f m = fold_grid op w f lanes q ok some
+    (record { each = λ i li. fit.each i (omega arith) }) in
+    let right : fold_to op w (λ i. f (suc q * lanes + i)) l ≡ fold_to op w (λ i. f (suc (m + i))) l = fold_same op w _ _ l
+    (λ i li. ap f (let e : suc q * lanes + i ≡ suc (m + i) = omega arith in e)) in
     let end : suc q * lanes + l ≡ suc (m + l) = omega arith in
     rw (left, right, end) (sym (fold_cut op w f m l ok (rw end at fit)))
 
@@ -80,5 +86,6 @@ scanned run z y op w x last first inner k f lanes l ok pos wide acc h one zero f
     let n : 0 * lanes + l ≡ l = omega arith in
     rw (t, n) (h.loads k (omega arith) one ∙ here ∙ fold_same op w _ f l (λ i li. ap f (let e : 0 * lanes + i ≡ i = omega arith in e)))
 scanned run z y op w x last first inner k f lanes l ok pos wide acc h one (suc q) fit none own all_of long =
-    let sums : fold_to op w (λ j. word_at run (k + j * inner) last) q ≡ fold_to op w (λ j. fold_to op w (λ i. f (j * lanes + i)) (lanes - 1)) q = fold_same op w _ _ q (λ j lj. all_of j (omega arith)) in
+    let sums : fold_to op w (λ j. word_at run (k + j * inner) last) q ≡ fold_to op w
+    (λ j. fold_to op w (λ i. f (j * lanes + i)) (lanes - 1)) q = fold_same op w _ _ q (λ j lj. all_of j (omega arith)) in
     continued run z y op w x last first inner k pos acc h one q none long ∙ rw (sums, own (suc q) (omega arith)) (scan_grid op w f lanes q l ok wide fit)

@@ -24,7 +24,8 @@ fold_at folds q = get_or folds (q % length folds) (record { op = Add; width = 0 
 
 -- the left fold of words p of elements 0 to e, where an element has so many words
 abbrev pub word_fold : List WordFold → (size : ℕ) → (value : List ℕ) → (p e : ℕ) → ℕ
-word_fold folds size value p e = fold_to (fold_at folds p).op (fold_at folds p).width (λ i. get_or value (i * size + p) 0) e
+word_fold folds size value p e =
+    fold_to (fold_at folds p).op (fold_at folds p).width (λ i. get_or value (i * size + p) 0) e
 
 -- the products of a cell of the operator
 abbrev pub product_of : WordOp → ℕ

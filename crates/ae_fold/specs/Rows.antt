@@ -39,13 +39,17 @@ abbrev pub row_word : List Clock → (t : ℕ) → List NetId → (stride place 
 row_word run t nets stride place i = word_at run t (net_at nets (i * stride + place))
 
 -- net y has, so many clocks later, the fold of the words at its place from lane 0 to lane l
-pub record IsOverLanes (cells : List SizedCell) (fold : WordFold) (nets : List NetId) (stride place l levels y : ℕ) : Type 0 where
+pub record IsOverLanes (cells : List SizedCell) (fold : WordFold) (nets : List NetId)
+    (stride place l levels y : ℕ) : Type 0 where
   pub net : IsNet cells y fold.width
-  pub words : InEveryRun cells (λ run. (t : ℕ) → t + levels < length run → word_at run (t + levels) y ≡ fold_to fold.op fold.width (row_word run t nets stride place) l)
+  pub words : InEveryRun cells (λ run. (t : ℕ) → t + levels < length run
+      → word_at run (t + levels) y ≡ fold_to fold.op fold.width (row_word run t nets stride place) l)
 
 -- net q of the second list has the fold at the place and up to the lane of net from + q
-pub record AreOverLanes (cells : List SizedCell) (folds : List WordFold) (nets : List NetId) (stride levels from : ℕ) (outs : List NetId) : Type 0 where
-  pub each : (q : ℕ) → q < length outs → IsOverLanes cells (fold_at folds (from + q)) nets stride ((from + q) % stride) ((from + q) / stride) levels (net_at outs q)
+pub record AreOverLanes (cells : List SizedCell) (folds : List WordFold) (nets : List NetId) (stride levels from : ℕ)
+    (outs : List NetId) : Type 0 where
+  pub each : (q : ℕ) → q < length outs → IsOverLanes cells (fold_at folds (from + q)) nets stride ((from + q) % stride)
+      ((from + q) / stride) levels (net_at outs q)
 
 -- a net that marks slot 0, where there are more slots than one; blocks begin at clock k after reset
 pub record IsMark (cells : List SizedCell) (rst slots period k inner y : ℕ) : Type 0 where
@@ -65,36 +69,50 @@ pub record IsLoop (cells : List SizedCell) (fold : WordFold) (x first inner : �
   pub late : InEveryRun cells (λ run. IsLate run one.back.0 one.word.0 (inner - 1))
 
 -- a loop over each net from a place on
-pub record AreLoops (cells : List SizedCell) (folds : List WordFold) (nets : List NetId) (from first inner : ℕ) (loops : List Loop) : Type 0 where
-  pub each : (p : ℕ) (one : Loop) → slice_get loops p ≡ Some one → IsLoop cells (fold_at folds (from + p)) (net_at nets (from + p)) first inner one
+pub record AreLoops (cells : List SizedCell) (folds : List WordFold) (nets : List NetId) (from first inner : ℕ)
+    (loops : List Loop) : Type 0 where
+  pub each : (p : ℕ) (one : Loop) → slice_get loops p ≡ Some one
+      → IsLoop cells (fold_at folds (from + p)) (net_at nets (from + p)) first inner one
 
 -- net y has, d clocks after the place and lane l of each slot, the fold of that place's words of all lanes of the slots before and of lanes 0 to l of this
-abbrev pub Scans : (fold : WordFold) (nets : List NetId) → Plan → (k d place l : ℕ) → List Clock → (start y : ℕ) → Type 0
+abbrev pub Scans : (fold : WordFold) (nets : List NetId) → Plan → (k d place l : ℕ) → List Clock → (start y : ℕ)
+    → Type 0
 Scans fold nets plan k d place l run start y =
-    (b q m : ℕ) (v : ℕ → ℕ) → q < plan.slots → m < plan.inner → start + (k + b * plan.period + q * plan.inner + m + d) < length run → Fit fold.width v (q * plan.lanes + l)
-    → ((j i : ℕ) → j ≤ q → i < plan.lanes → row_word run (start + (k + b * plan.period + j * plan.inner + m)) nets plan.stride place i ≡ v (j * plan.lanes + i))
-    → word_at run (start + (k + b * plan.period + q * plan.inner + m + d)) y ≡ fold_to fold.op fold.width v (q * plan.lanes + l)
+    (b q m : ℕ) (v : ℕ → ℕ) → q < plan.slots → m < plan.inner
+    → start + (k + b * plan.period + q * plan.inner + m + d) < length run → Fit fold.width v (q * plan.lanes + l)
+    → ((j i : ℕ) → j ≤ q → i < plan.lanes → row_word run
+    (start + (k + b * plan.period + j * plan.inner + m)) nets plan.stride place i ≡ v (j * plan.lanes + i))
+    → word_at run (start + (k + b * plan.period + q * plan.inner + m + d)) y ≡ fold_to fold.op fold.width v
+    (q * plan.lanes + l)
 
 -- the same in every reset run
-pub record IsScan (cells : List SizedCell) (rst : ℕ) (fold : WordFold) (nets : List NetId) (plan : Plan) (k d place l y : ℕ) : Type 0 where
+pub record IsScan (cells : List SizedCell) (rst : ℕ) (fold : WordFold) (nets : List NetId) (plan : Plan)
+    (k d place l y : ℕ) : Type 0 where
   pub net : IsNet cells y fold.width
   pub words : InEveryResetRun cells rst (λ run start. Scans fold nets plan k d place l run start y)
 
 -- net q of the second list scans up to the place and lane of net from + q
-pub record AreScans (cells : List SizedCell) (rst : ℕ) (folds : List WordFold) (nets : List NetId) (plan : Plan) (k d from : ℕ) (outs : List NetId) : Type 0 where
-  pub each : (q : ℕ) (y : NetId) → slice_get outs q ≡ Some y → IsScan cells rst (fold_at folds (from + q)) nets plan k d ((from + q) % plan.stride) ((from + q) / plan.stride) y.0
+pub record AreScans (cells : List SizedCell) (rst : ℕ) (folds : List WordFold) (nets : List NetId) (plan : Plan)
+    (k d from : ℕ) (outs : List NetId) : Type 0 where
+  pub each : (q : ℕ) (y : NetId) → slice_get outs q ≡ Some y
+      → IsScan cells rst (fold_at folds (from + q)) nets plan k d ((from + q) % plan.stride)
+      ((from + q) / plan.stride) y.0
 
 -- net z goes on from a loop over another lane
 pub record Follows (cells : List SizedCell) (fold : WordFold) (x first : ℕ) (one : Loop) (z : ℕ) : Type 0 where
   pub net : IsNet cells z fold.width
-  pub words : InEveryRun cells (λ run. (y d : ℕ) → IsLate run one.back.0 y d → Continues run z fold.op fold.width x first y d)
+  pub words : InEveryRun cells (λ run. (y d : ℕ) → IsLate run one.back.0 y d
+      → Continues run z fold.op fold.width x first y d)
 
 -- so many nets go on from the loops over the last lane, place by place
-pub record AreFollowers (cells : List SizedCell) (folds : List WordFold) (nets : List NetId) (stride first : ℕ) (loops : List Loop) (outs : List NetId) : Type 0 where
-  pub each : (q : ℕ) (one : Loop) (z : NetId) → slice_get loops (q % stride) ≡ Some one → slice_get outs q ≡ Some z → Follows cells (fold_at folds q) (net_at nets q) first one z.0
+pub record AreFollowers (cells : List SizedCell) (folds : List WordFold) (nets : List NetId) (stride first : ℕ)
+    (loops : List Loop) (outs : List NetId) : Type 0 where
+  pub each : (q : ℕ) (one : Loop) (z : NetId) → slice_get loops (q % stride) ≡ Some one → slice_get outs q ≡ Some z
+      → Follows cells (fold_at folds q) (net_at nets q) first one z.0
 
 -- loops over the nets from a place on, the nets before it going on from them
-pub record AreLooped (cells : List SizedCell) (folds : List WordFold) (nets : List NetId) (from stride first inner : ℕ) (outs : List NetId) : Type 0 where
+pub record AreLooped (cells : List SizedCell) (folds : List WordFold) (nets : List NetId) (from stride first inner : ℕ)
+    (outs : List NetId) : Type 0 where
   pub loops : List Loop
   pub followers : List NetId
   pub long : length loops ≡ stride
@@ -104,7 +122,8 @@ pub record AreLooped (cells : List SizedCell) (folds : List WordFold) (nets : Li
   pub is : outs ≡ followers ++ map (λ (one : Loop). one.word) loops
 
 -- the nets themselves where there is no mark, and else those of the loops
-abbrev pub AreEnds : List SizedCell → List WordFold → List NetId → (from stride inner : ℕ) → Option NetId → List NetId → Type 0
+abbrev pub AreEnds : List SizedCell → List WordFold → List NetId → (from stride inner : ℕ) → Option NetId → List NetId
+    → Type 0
 AreEnds cells folds nets from stride inner None outs = outs ≡ nets
 AreEnds cells folds nets from stride inner (Some first) outs = AreLooped cells folds nets from stride first.0 inner outs
 

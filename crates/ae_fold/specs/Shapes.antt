@@ -46,11 +46,14 @@ element_size t = st_atoms t * element_words t
 
 -- the left fold of so many elements, word by word
 abbrev pub folded : WordOp → StTree → (count : ℕ) → List ℕ → List ℕ
-folded op t n value = map (λ p. word_fold (element_folds op t) (element_size t) value p (n - 1)) (range_with_len 0 (element_size t))
+folded op t n value =
+    map (λ p. word_fold (element_folds op t) (element_size t) value p (n - 1)) (range_with_len 0 (element_size t))
 
 -- the left folds of elements 0 to i, for each of so many elements i, word by word
 abbrev pub scanned : WordOp → StTree → (count : ℕ) → List ℕ → List ℕ
-scanned op t n value = map (λ q. word_fold (element_folds op t) (element_size t) value (q % element_size t) (q / element_size t)) (range_with_len 0 (n * element_size t))
+scanned op t n value =
+    map (λ q. word_fold (element_folds op t) (element_size t) value (q % element_size t) (q / element_size t))
+    (range_with_len 0 (n * element_size t))
 
 -- the words of one clock of an element
 abbrev pub element_columns : StTree → ℕ

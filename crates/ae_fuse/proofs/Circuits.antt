@@ -59,7 +59,8 @@ result_words ins r vs = map (origin_word ins vs) (map origin_tree r.source.items
 pub record ShowsMoves (f : FusedView) (n : Circuit) : Type 0 where
   pub ported : IsPorted (st_trees f.ins) (map result_stream f.results) (costs_in f) n
   pub laws : (r : ℕ) (own : FusedResult) → slice_get f.results r ≡ Some own
-      → ShowsLaw (st_trees f.ins) (time (st_tree own.out)) f.latency (result_stream own) (result_words (st_trees f.ins) own) (columns_in (take r (map result_stream f.results))) n
+      → ShowsLaw (st_trees f.ins) (time (st_tree own.out)) f.latency (result_stream own) (result_words (st_trees f.ins) own)
+      (columns_in (take r (map result_stream f.results))) n
 
 module _ (f : FusedView) (whole : IsWhole f) where
   abbrev ins : List StTree
@@ -97,13 +98,16 @@ module _ (f : FusedView) (whole : IsWhole f) where
   move-at r own found = get_mapped (result_move ins) f.results r own found
 
   pub at-most-latest : (r : ℕ) (own : FusedResult) → slice_get f.results r ≡ Some own → move_latency (result_move ins own) ≤ f.latency
-  at-most-latest r own found = (let low = (below-greatest move_latency (moves_in f) 0 r (result_move ins own) (move-at r own found)).1 in omega (arith, low, whole-latency))
+  at-most-latest r own found = (let low = (below-greatest move_latency (moves_in f) 0 r (result_move ins own) (move-at r own found)).1 in
+      omega (arith, low, whole-latency))
 
-  module _ (a b c : Circuit) (bundles : List (List NetId)) (begun : HasBegun ins a) (grown : GrowsBy a b (sum_by (result_load f.latency) (moves_in f))) (adds : Adds a b 0 (sum_by (result_mems f.latency) (moves_in f)))
+  module _ (a b c : Circuit) (bundles : List (List NetId)) (begun : HasBegun ins a) (grown : GrowsBy a b (sum_by (result_load f.latency) (moves_in f)))
+      (adds : Adds a b 0 (sum_by (result_mems f.latency) (moves_in f)))
       (moved : AreLateResults b.cells 0 f.latency (moves_in f) (length f.results) (bundles_from 1 (streams_of ins)) bundles)
       (shown : AddsOutputs b c (output_ports ss) (all_nets bundles)) (formed : IsFormed c.cells) (have : HaveNets c.cells c.outlets) where
     made : IsPorted ins ss (costs_in f) c × (map (λ o. o.net) c.outlets ≡ all_nets bundles)
-    made = ported_made ins ss (costs_in f) a b c bundles begun (subst (GrowsBy a b) whole-load grown) (adds_up refl (omega (arith, whole-mems)) adds) shown formed have
+    made = ported_made ins ss (costs_in f) a b c bundles begun (subst (GrowsBy a b) whole-load grown)
+        (adds_up refl (omega (arith, whole-mems)) adds) shown formed have
 
     long-at : (r : ℕ) (s : Stream) (nets : List NetId) → slice_get ss r ≡ Some s → slice_get bundles r ≡ Some nets → length nets ≡ length (stream_widths s)
     long-at r s nets found has =
@@ -121,7 +125,8 @@ module _ (f : FusedView) (whole : IsWhole f) where
           let kept : c.cells ≡ b.cells = outputs_cells shown in
           let law : KeepsLaw c.cells 0 0 (late_part f.latency (result_move ins own)) (bundles_from 1 (streams_of ins)) nets =
           subst (λ cells. KeepsLaw cells 0 0 (late_part f.latency (result_move ins own)) (bundles_from 1 (streams_of ins)) nets) (sym kept) is.law in
-          outputs_law ins ss c bundles sized long-at (moved.long ∙ sym (length-map f.results result_stream)) made.1 r (time (st_tree own.out)) f.latency (st_tree own.out) nets (result_words ins own)
+          outputs_law ins ss c bundles sized long-at (moved.long ∙ sym (length-map f.results result_stream)) made.1 r (time (st_tree own.out)) f.latency
+          (st_tree own.out) nets (result_words ins own)
           (whole.moves r own found).out.lengths (get_mapped result_stream f.results r own found) has law);
     }
 
@@ -129,11 +134,13 @@ module _ (f : FusedView) (whole : IsWhole f) where
   shows-tidied c n h t = record {
     ported = tidied_ported ins ss (costs_in f) c n h.ported t;
     laws = λ r own found.
-        tidied_law ins ss (costs_in f) c n sized h.ported t (time (st_tree own.out)) f.latency (result_stream own) (result_words ins own) (columns_in (take r ss)) (h.laws r own found);
+        tidied_law ins ss (costs_in f) c n sized h.ported t (time (st_tree own.out)) f.latency (result_stream own) (result_words ins own)
+        (columns_in (take r ss)) (h.laws r own found);
   }
 
 -- the same nets by equal numbers and lists
-pub late-same : {cells : List SizedCell} {rst rst2 whole whole2 count count2 : ℕ} {ms ms2 : List Move} {args args2 bundles : List (List NetId)} → rst ≡ rst2 → whole ≡ whole2 → ms ≡ ms2 → count ≡ count2 → args ≡ args2
+pub late-same : {cells : List SizedCell} {rst rst2 whole whole2 count count2 : ℕ} {ms ms2 : List Move} {args args2 bundles : List (List NetId)} → rst ≡ rst2
+    → whole ≡ whole2 → ms ≡ ms2 → count ≡ count2 → args ≡ args2
     → AreLateResults cells rst whole ms count args bundles → AreLateResults cells rst2 whole2 ms2 count2 args2 bundles
 late-same {cells} {rst} {rst2} {whole} {whole2} {count} {count2} {ms} {ms2} {args} {args2} {bundles} e1 e2 e3 e4 e5 h =
     subst (λ r. AreLateResults cells r whole2 ms2 count2 args2 bundles) e1
@@ -144,17 +151,20 @@ late-same {cells} {rst} {rst2} {whole} {whole2} {count} {count2} {ms} {ms2} {arg
 -- ---- by the program
 
 -- the layouts of the results are those of the instance
-pub outs-same : (f : FusedView) (p : ProgramTree) (slowdown : ℕ) (instances : List StFuncTree) → IsTyped p → IsSchedule p slowdown instances → (is : IsFusedOf p instances f) → outs_in f ≡ outs_of is.instance
+pub outs-same : (f : FusedView) (p : ProgramTree) (slowdown : ℕ) (instances : List StFuncTree) → IsTyped p → IsSchedule p slowdown instances
+    → (is : IsFusedOf p instances f) → outs_in f ≡ outs_of is.instance
 outs-same f p slowdown instances typed h is =
     let s = is.instance in
     let m = is-main p slowdown instances is.func s is.movement typed h is.there is.last in
-    let results : s.results ≡ is.func.results = m.instance.results ∙ ap (λ (g : FuncTree). g.results) (same_Some m.instance.of is.func (sym m.instance.known ∙ ap (slice_get p.funcs) m.is_main ∙ is.there)) in
+    let results : s.results ≡ is.func.results = m.instance.results ∙
+    ap (λ (g : FuncTree). g.results) (same_Some m.instance.of is.func (sym m.instance.known ∙ ap (slice_get p.funcs) m.is_main ∙ is.there)) in
     sym (map_map (λ (x : Move). x.out) (result_move (st_trees f.ins)) f.results)
     ∙ ap (map (λ (x : Move). x.out)) is.moves
     ∙ map_map (λ (x : Move). x.out) (item_move is.func s) is.func.results
     ∙ ap (map (item_layout (item_layouts s))) (sym results)
 
-module _ (f : FusedView) (n : Circuit) (shows : ShowsMoves f n) (lean : IsLean n) (p : ProgramTree) (slowdown : ℕ) (instances : List StFuncTree) (typed : IsTyped p) (some : 0 < slowdown) (few : slowdown ≤ 4096)
+module _ (f : FusedView) (n : Circuit) (shows : ShowsMoves f n) (lean : IsLean n) (p : ProgramTree) (slowdown : ℕ) (instances : List StFuncTree)
+    (typed : IsTyped p) (some : 0 < slowdown) (few : slowdown ≤ 4096)
     (h : IsSchedule p slowdown instances) (sound : IsSound instances) (is : IsFusedOf p instances f) where
   abbrev s : StFuncTree
   s = is.instance
@@ -172,7 +182,8 @@ module _ (f : FusedView) (n : Circuit) (shows : ShowsMoves f n) (lean : IsLean n
   same-outs = outs-same f p slowdown instances typed h is
 
   laid : HaveLayouts p slowdown given (outs_in f)
-  laid = subst (λ ss. HaveLayouts p slowdown ss (outs_in f)) (sym is.ins) (subst (HaveLayouts p slowdown s.ins) (sym same-outs) (layouts p slowdown instances s typed h sound is.last))
+  laid = subst (λ ss. HaveLayouts p slowdown ss (outs_in f)) (sym is.ins)
+      (subst (HaveLayouts p slowdown s.ins) (sym same-outs) (layouts p slowdown instances s typed h sound is.last))
 
   in-time : (r : ℕ) (t : StTree) → slice_get (outs_of s) r ≡ Some t → time t ≡ slowdown
   in-time r t found =
@@ -185,13 +196,16 @@ module _ (f : FusedView) (n : Circuit) (shows : ShowsMoves f n) (lean : IsLean n
   makes run start is_run reset r t found =
       let m = mapped-from (λ (x : FusedResult). st_tree x.out) f.results r t found in
       let own : FusedResult = m.0 in
-      let here : slice_get (traced_moves types s.ins (outs_of s) (trace p)) r ≡ Some (result_move given own) = ap (λ ms. slice_get ms r) (sym all-moves) ∙ get_mapped (result_move given) f.results r own m.1 in
+      let here : slice_get (traced_moves types s.ins (outs_of s) (trace p)) r ≡ Some (result_move given own) = ap (λ ms. slice_get ms r) (sym all-moves) ∙
+      get_mapped (result_move given) f.results r own m.1 in
       let x = move-of types s.ins (outs_of s) (trace p) r (result_move given own) here in
       let origins : map origin_tree own.source.items ≡ (traced_move types given t (at (trace p) r)).origins = ap (λ (y : Move). y.origins) x.2 in
       let clocks : time (st_tree own.out) ≡ slowdown = ap time m.2 ∙ in-time r t (ap (λ ts. slice_get ts r) (sym same-outs) ∙ found) in
-      let place : columns_in (take r (map result_stream f.results)) ≡ columns_in (take r (streams_of (outs_in f))) = ap (λ ss. columns_in (take r ss)) (sym (map_map stream_of (λ (y : FusedResult). st_tree y.out) f.results)) in
+      let place : columns_in (take r (map result_stream f.results)) ≡ columns_in (take r (streams_of (outs_in f))) = ap (λ ss. columns_in (take r ss))
+      (sym (map_map stream_of (λ (y : FusedResult). st_tree y.out) f.results)) in
       let P : ℕ → StTree → List OriginTree → ℕ → Type 0 = λ T o os c. ShowsLaw given T f.latency (stream_of o) (λ vs. map (origin_word given vs) os) c n in
-      let law : P (time (st_tree own.out)) (st_tree own.out) (map origin_tree own.source.items) (columns_in (take r (map result_stream f.results))) = shows.laws r own m.1 in
+      let law : P (time (st_tree own.out)) (st_tree own.out) (map origin_tree own.source.items)
+      (columns_in (take r (map result_stream f.results))) = shows.laws r own m.1 in
       let moved : P slowdown t (traced_move types given t (at (trace p) r)).origins (columns_in (take r (streams_of (outs_in f)))) =
       subst (λ T. P T t (traced_move types given t (at (trace p) r)).origins (columns_in (take r (streams_of (outs_in f))))) clocks
       (subst (λ o. P (time (st_tree own.out)) o (traced_move types given t (at (trace p) r)).origins (columns_in (take r (streams_of (outs_in f))))) m.2

@@ -33,7 +33,8 @@ copied-clocks : (n c l : ℕ) (ws : List Slot) → map (λ (w : Slot). w.clock) 
 copied-clocks zero c l ws = refl
 copied-clocks (suc q) c l ws =
     map-append (λ (w : Slot). w.clock) (copies q c l ws) (map (moved (q * c) (q * l)) ws)
-    ∙ (λ i. copied-clocks q c l ws i ++ (map-map (λ (w : Slot). w.clock) (moved (q * c) (q * l)) ws ∙ sym (map-map (λ k. q * c + k) (λ (w : Slot). w.clock) ws)) i)
+    ∙ (λ i. copied-clocks q c l ws i ++ (map-map (λ (w : Slot). w.clock) (moved (q * c) (q * l)) ws ∙
+    sym (map-map (λ k. q * c + k) (λ (w : Slot). w.clock) ws)) i)
 
 pub tseq-clocks : (n i : ℕ) (t : StTree) → element_clocks (tseq n i t) ≡ clock_copies n (time t) (element_clocks t)
 tseq-clocks n i t = copied-clocks n (time t) 0 (slots t)
@@ -56,7 +57,8 @@ clock-early s size k c found =
 
 -- ---- tables, one step at a time
 
-pub later-more : (ks old now : List ℕ) (by j k : ℕ) → slice_get ks j ≡ Some k → now ≡ old ++ map (λ k. by + k) (take j ks) → now ++ (by + k) ∷ [] ≡ old ++ map (λ k. by + k) (take (j + 1) ks)
+pub later-more : (ks old now : List ℕ) (by j k : ℕ) → slice_get ks j ≡ Some k → now ≡ old ++ map (λ k. by + k) (take j ks) → now ++ (by + k) ∷ [] ≡ old
+    ++ map (λ k. by + k) (take (j + 1) ks)
 later-more ks old now by j k found was =
     (λ i. was i ++ (by + k) ∷ [])
     ∙ append_assoc old (map (λ k. by + k) (take j ks)) ((by + k) ∷ [])
@@ -67,16 +69,20 @@ copies-more q c ks old now was is =
     let e : suc q ≡ q + 1 = omega arith in
     is ∙ ap (λ xs. xs ++ map (λ k. q * c + k) ks) was ∙ ap (λ n. clock_copies n c ks) e
 
-pub spread-more : (f : ℕ → ℕ) (old now : List ℕ) (o x : ℕ) → now ≡ old ++ map f (range_with_len 0 o) → x ≡ f o → now ++ x ∷ [] ≡ old ++ map f (range_with_len 0 (o + 1))
+pub spread-more : (f : ℕ → ℕ) (old now : List ℕ) (o x : ℕ) → now ≡ old ++ map f (range_with_len 0 o) → x ≡ f o → now ++ x ∷ [] ≡ old
+    ++ map f (range_with_len 0 (o + 1))
 spread-more f old now o x was is =
-    (λ i. was i ++ is i ∷ []) ∙ append_assoc old (map f (range_with_len 0 o)) (f o ∷ []) ∙ ap (λ xs. old ++ xs) (sym (map-range_with_len_more f 0 o o (omega arith)))
+    (λ i. was i ++ is i ∷ []) ∙ append_assoc old (map f (range_with_len 0 o)) (f o ∷ []) ∙
+    ap (λ xs. old ++ xs) (sym (map-range_with_len_more f 0 o o (omega arith)))
 
-pub words-next : (ls : List StType) (k : ℕ) (t : StType) (old now : List ℕ) → slice_get ls k ≡ Some t → old ≡ label_clocks (st_trees (take k ls)) → now ≡ old ++ word_clocks (st_tree t) → now ≡ label_clocks (st_trees (take (k + 1) ls))
+pub words-next : (ls : List StType) (k : ℕ) (t : StType) (old now : List ℕ) → slice_get ls k ≡ Some t → old ≡ label_clocks (st_trees (take k ls)) → now ≡ old
+    ++ word_clocks (st_tree t) → now ≡ label_clocks (st_trees (take (k + 1) ls))
 words-next ls k t old now found was is =
     let s : StTree = st_tree t in
     let ss : List StTree = st_trees (take k ls) in
     is ∙ ap (λ xs. xs ++ word_clocks s) was
-    ∙ ap (λ xs. 0 ∷ xs) (ap (λ xs. flat_map word_clocks ss ++ xs) (sym (flat_map-cons word_clocks s [] ∙ append-nil (word_clocks s))) ∙ sym (flat_map-append word_clocks ss (s ∷ [])))
+    ∙ ap (λ xs. 0 ∷ xs) (ap (λ xs. flat_map word_clocks ss ++ xs) (sym (flat_map-cons word_clocks s [] ∙ append-nil (word_clocks s))) ∙
+    sym (flat_map-append word_clocks ss (s ∷ [])))
     ∙ ap label_clocks (sym (trees-more ls k t found))
 
 -- ---- the clock of the word of a number
@@ -89,9 +95,11 @@ spread-at w ks n low = get_or-map-range_with_len (λ o. get_or ks (o / w) 0) 0 (
 
 length-words : (s : StTree) → length (word_clocks s) ≡ layout_words s
 length-words s =
-    length-map-range_with_len (λ o. get_or (element_clocks s) (o / element_words s) 0) 0 (length (element_clocks s) * element_words s) ∙ ap (λ n. n * element_words s) (length-element_clocks s)
+    length-map-range_with_len (λ o. get_or (element_clocks s) (o / element_words s) 0) 0 (length (element_clocks s) * element_words s) ∙
+    ap (λ n. n * element_words s) (length-element_clocks s)
 
-origin-clock : (ins : List StTree) (i : ℕ) (ss : List StTree) (n : ℕ) → ((k : ℕ) (s : StTree) → slice_get ss k ≡ Some s → slice_get ins (i + k) ≡ Some s) → get_or (flat_map word_clocks ss) n 0 ≡ source_clock (source_of ins (layout_origin i ss n))
+origin-clock : (ins : List StTree) (i : ℕ) (ss : List StTree) (n : ℕ) → ((k : ℕ) (s : StTree) → slice_get ss k ≡ Some s → slice_get ins (i + k) ≡ Some s)
+    → get_or (flat_map word_clocks ss) n 0 ≡ source_clock (source_of ins (layout_origin i ss n))
 origin-clock ins i [] n h = refl
 origin-clock ins i (s ∷ ss) n h =
     let clock : OriginTree → ℕ = λ x. source_clock (source_of ins x) in
@@ -141,14 +149,18 @@ greatest-same f g t a (suc n) most each =
     ap (λ x. fold (λ m x. max m (f x)) (max most x) (range_with_len (a + 1) n)) (each a (omega arith))
     ∙ greatest-same f g t (a + 1) n (max most (g (t a))) (λ o low. each o (omega (arith, low)))
 
-pub arrival-is : (ins : List StTree) (out : StTree) (sources labels elements : List ℕ) (words : ℕ) → sources ≡ label_clocks ins → elements ≡ element_clocks out → words ≡ element_words out → length labels ≡ layout_words out
-    → greatest (lead_of sources labels elements words) (range_with_len 0 (length labels)) ≡ latency_of_trips (trips_of ins out (map (labelled_origin ins) labels))
+pub arrival-is : (ins : List StTree) (out : StTree) (sources labels elements : List ℕ) (words : ℕ) → sources ≡ label_clocks ins → elements ≡ element_clocks out
+    → words ≡ element_words out → length labels ≡ layout_words out
+    → greatest (lead_of sources labels elements words) (range_with_len 0 (length labels)) ≡ latency_of_trips
+    (trips_of ins out (map (labelled_origin ins) labels))
 arrival-is ins out sources labels elements words from at wide long =
     (λ i. greatest (lead_of (from i) labels (at i) (wide i)) (range_with_len 0 (long i)))
-    ∙ greatest-same (lead_of (label_clocks ins) labels (element_clocks out) (element_words out)) trip_lead (trip_number ins out (map (labelled_origin ins) labels)) 0 (layout_words out) 0
+    ∙ greatest-same (lead_of (label_clocks ins) labels (element_clocks out) (element_words out)) trip_lead
+    (trip_number ins out (map (labelled_origin ins) labels)) 0 (layout_words out) 0
     (λ o low. lead-at ins out labels o (omega (arith, low, long)) (omega (arith, low)))
 
-pub greatest-more : (f : ℕ → ℕ) (n x most now : ℕ) → most ≡ greatest f (range_with_len 0 n) → x ≡ f n → now ≡ max most x → now ≡ greatest f (range_with_len 0 (n + 1))
+pub greatest-more : (f : ℕ → ℕ) (n x most now : ℕ) → most ≡ greatest f (range_with_len 0 n) → x ≡ f n → now ≡ max most x
+    → now ≡ greatest f (range_with_len 0 (n + 1))
 greatest-more f n x most now was is new =
     let z : 0 + n ≡ n = omega arith in
     new ∙ (λ i. max (was i) (is i))

@@ -59,12 +59,14 @@ module _ (p : ProgramTree) (slowdown : ℕ) (g : FuncTree) (there : slice_get p.
       absurd (none-some c (sym (calls-none n.op clocks _ op) ∙ called))
 
   -- no instance stands before the last one
-  pub none-before : (instances : List StFuncTree) → IsSchedule p slowdown instances → (k func budget : ℕ) → HasKey (take (length instances - 1) instances) k func budget → ⊥
+  pub none-before : (instances : List StFuncTree) → IsSchedule p slowdown instances → (k func budget : ℕ)
+      → HasKey (take (length instances - 1) instances) k func budget → ⊥
   none-before instances h k func budget key =
       let inside = taken-within (length instances - 1) instances k key.instance key.here in
       let own : HasKey instances k func budget = record { instance = key.instance; here = inside.1; is_func = key.is_func; is_budget = key.is_budget } in
       let r = only-main func budget (h.reached k func budget own) in
-      let as_last : HasKey instances (length instances - 1) func budget = subst (λ x. HasKey instances (length instances - 1) x budget) (sym r.0) (subst (HasKey instances (length instances - 1) (main_of p)) (sym r.1) h.last) in
+      let as_last : HasKey instances (length instances - 1) func budget = subst (λ x. HasKey instances (length instances - 1) x budget) (sym r.0)
+      (subst (HasKey instances (length instances - 1) (main_of p)) (sym r.1) h.last) in
       let same : k ≡ length instances - 1 = h.once k (length instances - 1) func budget own as_last in
       let low = inside.0 in
       omega arith
@@ -81,7 +83,8 @@ shift-moves : (k : ℕ) (t : SeqTree) (x : StOpTree) → shift_of k t ≡ Some x
 shift-moves k (atom a) x h = absurd (none-some x h)
 shift-moves k (seq n t) x h = ap is_moving (sym (same_Some _ x h))
 
-plain-moves : (p : ProgramTree) (f clocks : ℕ) (op : OpTree) (args : List ℕ) (x : StOpTree) → is_movement_op op ≡ true → plain_op p f clocks op args ≡ Some x → is_moving x ≡ true
+plain-moves : (p : ProgramTree) (f clocks : ℕ) (op : OpTree) (args : List ℕ) (x : StOpTree) → is_movement_op op ≡ true → plain_op p f clocks op args ≡ Some x
+    → is_moving x ≡ true
 plain-moves p f clocks pair args x h e = ap is_moving (sym (same_Some _ x e))
 plain-moves p f clocks fst args x h e = ap is_moving (sym (same_Some _ x e))
 plain-moves p f clocks snd args x h e = ap is_moving (sym (same_Some _ x e))
@@ -93,11 +96,13 @@ plain-moves p f clocks (partition n m) args x h e = ap is_moving (sym (same_Some
 plain-moves p f clocks unpartition args x h e = ap is_moving (sym (same_Some _ x e))
 plain-moves p f clocks _ args x h e = absurd (cc)
 
-op-moves : (p : ProgramTree) (keys : Keys) (f clocks : ℕ) (n : NodeTree) (x : StOpTree) (o : Option Call) → is_movement_op n.op ≡ true → o ≡ None → IsOp keys o (plain_op p f clocks n.op n.args) x → is_moving x ≡ true
+op-moves : (p : ProgramTree) (keys : Keys) (f clocks : ℕ) (n : NodeTree) (x : StOpTree) (o : Option Call) → is_movement_op n.op ≡ true → o ≡ None
+    → IsOp keys o (plain_op p f clocks n.op n.args) x → is_moving x ≡ true
 op-moves p keys f clocks n x None h e is = plain-moves p f clocks n.op n.args x h is
 op-moves p keys f clocks n x (Some c) h e is = absurd (none-some c (sym e))
 
-pub nodes-moving : (p : ProgramTree) (keys : Keys) (f clocks i : ℕ) (ns : List NodeTree) (ss : List StNodeTree) → are_movements ns ≡ true → AreStNodes p keys f clocks i ns ss → are_moving ss ≡ true
+pub nodes-moving : (p : ProgramTree) (keys : Keys) (f clocks i : ℕ) (ns : List NodeTree) (ss : List StNodeTree) → are_movements ns ≡ true
+    → AreStNodes p keys f clocks i ns ss → are_moving ss ≡ true
 nodes-moving p keys f clocks i [] [] h is = refl
 nodes-moving p keys f clocks i [] (s ∷ ss) h is = absurd is
 nodes-moving p keys f clocks i (n ∷ ns) [] h is = absurd is
@@ -135,26 +140,32 @@ module _ (f : ℕ → ℕ) (kept : f 0 ≡ 0) where
     where
       flat-by : (g h : ℕ → List ℕ) (ns : List ℕ) → ((n : ℕ) → h n ≡ map f (g n)) → flat_map h ns ≡ map f (flat_map g ns)
       flat-by g h [] e = refl
-      flat-by g h (n ∷ ns) e = flat_map-cons h n ns ∙ (λ i. e n i ++ flat-by g h ns e i) ∙ sym (map-append f (g n) (flat_map g ns)) ∙ ap (map f) (sym (flat_map-cons g n ns))
+      flat-by g h (n ∷ ns) e = flat_map-cons h n ns ∙ (λ i. e n i ++ flat-by g h ns e i) ∙ sym (map-append f (g n) (flat_map g ns)) ∙
+          ap (map f) (sym (flat_map-cons g n ns))
 
   parts-all : (n k o l : ℕ) (ws : List ℕ) → parts n k o l (map f ws) ≡ map f (parts n k o l ws)
-  parts-all n k o l ws = flat-all (λ e. take l (drop (e * k + o) ws)) (λ e. take l (drop (e * k + o) (map f ws))) (range_with_len 0 n) (λ e. ap (take l) (drop-map f (e * k + o) ws) ∙ take-map f l (drop (e * k + o) ws))
+  parts-all n k o l ws = flat-all (λ e. take l (drop (e * k + o) ws)) (λ e. take l (drop (e * k + o) (map f ws))) (range_with_len 0 n)
+      (λ e. ap (take l) (drop-map f (e * k + o) ws) ∙ take-map f l (drop (e * k + o) ws))
 
   input-all : (ins : List StTree) (wss : List (List ℕ)) (i e j : ℕ) → origin_word ins (all wss) (from_input i e j) ≡ f (origin_word ins wss (from_input i e j))
   input-all ins wss i e j =
       let o = e * element_words (get_or ins i (st_sseq 0 (st_atom (unsigned_word 1)))) + j in
       ap (λ ws. get_or ws o 0) (at-all wss i) ∙ index-kept (words_at wss i) o
 
-  from-all : (ins : List StTree) (wss : List (List ℕ)) (how : MoveOp) (n m e j : ℕ) → origin_word ins (all wss) (origin_from how n m e j) ≡ f (origin_word ins wss (origin_from how n m e j))
+  from-all : (ins : List StTree) (wss : List (List ℕ)) (how : MoveOp) (n m e j : ℕ)
+      → origin_word ins (all wss) (origin_from how n m e j) ≡ f (origin_word ins wss (origin_from how n m e j))
   from-all ins wss (Shift k) n m e j = elim (cases_Bool (nat_lt e k)) [
-    | inl t ↦ (let o : origin_from (Shift k) n m e j ≡ fixed 0 = cond-true _ _ _ t in ap (origin_word ins (all wss)) o ∙ sym kept ∙ sym (ap (λ x. f (origin_word ins wss x)) o))
-    | inr t ↦ (let o : origin_from (Shift k) n m e j ≡ from_input 0 (e - k) j = cond-false _ _ _ t in ap (origin_word ins (all wss)) o ∙ input-all ins wss 0 (e - k) j ∙ sym (ap (λ x. f (origin_word ins wss x)) o))
+    | inl t ↦ (let o : origin_from (Shift k) n m e j ≡ fixed 0 = cond-true _ _ _ t in ap (origin_word ins (all wss)) o ∙ sym kept ∙
+        sym (ap (λ x. f (origin_word ins wss x)) o))
+    | inr t ↦ (let o : origin_from (Shift k) n m e j ≡ from_input 0 (e - k) j = cond-false _ _ _ t in ap (origin_word ins (all wss)) o ∙
+        input-all ins wss 0 (e - k) j ∙ sym (ap (λ x. f (origin_word ins wss x)) o))
   ]
   from-all ins wss (Up c) n m e j = input-all ins wss 0 _ j
   from-all ins wss (Select k) n m e j = input-all ins wss 0 _ j
   from-all ins wss Same n m e j = input-all ins wss 0 e j
 
-  move-all : (how : MoveOp) (a s : StTree) (wss : List (List ℕ)) → map (origin_word (a ∷ []) (all wss)) (op_move how a s).origins ≡ map f (map (origin_word (a ∷ []) wss) (op_move how a s).origins)
+  move-all : (how : MoveOp) (a s : StTree) (wss : List (List ℕ))
+      → map (origin_word (a ∷ []) (all wss)) (op_move how a s).origins ≡ map f (map (origin_word (a ∷ []) wss) (op_move how a s).origins)
   move-all how a s wss =
       let number = origin_number how a s in
       let own = range_with_len 0 _ in
@@ -163,7 +174,8 @@ module _ (f : ℕ → ℕ) (kept : f 0 ≡ 0) where
       ∙ sym (map-map (λ o. f o) (λ o. origin_word (a ∷ []) wss (number o)) own)
       ∙ ap (map f) (sym (map-map (origin_word (a ∷ []) wss) number own))
 
-  op-all : (known : List Callee) (args : List StTree) (s : StTree) (op : StOpTree) (wss : List (List ℕ)) → is_moving op ≡ true → op_words known args s op (all wss) ≡ map f (op_words known args s op wss)
+  op-all : (known : List Callee) (args : List StTree) (s : StTree) (op : StOpTree) (wss : List (List ℕ)) → is_moving op ≡ true
+      → op_words known args s op (all wss) ≡ map f (op_words known args s op wss)
   op-all known args s join wss h =
       let k = element_words (item_layout args 0) in
       let l = element_words (item_layout args 1) in
@@ -173,17 +185,21 @@ module _ (f : ℕ → ℕ) (kept : f 0 ≡ 0) where
       ap (parts (st_atoms s) k 0 (element_words s)) (at-all wss 0) ∙ parts-all (st_atoms s) k 0 (element_words s) (words_at wss 0)
   op-all known args s second wss h =
       let k = element_words (item_layout args 0) in
-      ap (parts (st_atoms s) k (k - element_words s) (element_words s)) (at-all wss 0) ∙ parts-all (st_atoms s) k (k - element_words s) (element_words s) (words_at wss 0)
+      ap (parts (st_atoms s) k (k - element_words s) (element_words s)) (at-all wss 0) ∙
+      parts-all (st_atoms s) k (k - element_words s) (element_words s) (words_at wss 0)
   op-all known args s (move how) wss h = move-all how (item_layout args 0) s wss
   op-all known args s _ wss h = absurd (cc)
 
   ats-all : (wss : List (List ℕ)) (ks : List ℕ) → map (words_at (all wss)) ks ≡ all (map (words_at wss) ks)
   ats-all wss ks = map-same (words_at (all wss)) (λ k. map f (words_at wss k)) ks (at-all wss) ∙ sym (map-map (map f) (words_at wss) ks)
 
-  node-all : (known : List Callee) (layouts : List StTree) (wss : List (List ℕ)) (n : StNodeTree) → is_moving n.op ≡ true → node_words known layouts (all wss) n ≡ map f (node_words known layouts wss n)
-  node-all known layouts wss n h = ap (op_words known (map (item_layout layouts) n.args) n.type n.op) (ats-all wss n.args) ∙ op-all known (map (item_layout layouts) n.args) n.type n.op (map (words_at wss) n.args) h
+  node-all : (known : List Callee) (layouts : List StTree) (wss : List (List ℕ)) (n : StNodeTree) → is_moving n.op ≡ true
+      → node_words known layouts (all wss) n ≡ map f (node_words known layouts wss n)
+  node-all known layouts wss n h = ap (op_words known (map (item_layout layouts) n.args) n.type n.op) (ats-all wss n.args) ∙
+      op-all known (map (item_layout layouts) n.args) n.type n.op (map (words_at wss) n.args) h
 
-  grown-all : (known : List Callee) (layouts : List StTree) (wss : List (List ℕ)) (ns : List StNodeTree) → are_moving ns ≡ true → grown (node_words known layouts) (all wss) ns ≡ all (grown (node_words known layouts) wss ns)
+  grown-all : (known : List Callee) (layouts : List StTree) (wss : List (List ℕ)) (ns : List StNodeTree) → are_moving ns ≡ true
+      → grown (node_words known layouts) (all wss) ns ≡ all (grown (node_words known layouts) wss ns)
   grown-all known layouts wss [] h = refl
   grown-all known layouts wss (n ∷ ns) h =
       let own = and_parts _ _ h in
@@ -191,7 +207,8 @@ module _ (f : ℕ → ℕ) (kept : f 0 ≡ 0) where
       ∙ ap (λ ys. grown (node_words known layouts) ys ns) (sym (map-append (map f) wss (node_words known layouts wss n ∷ [])))
       ∙ grown-all known layouts (wss ++ node_words known layouts wss n ∷ []) ns own.1
 
-  pub items-all : (known : List Callee) (s : StFuncTree) (wss : List (List ℕ)) → are_moving s.nodes ≡ true → item_words known s (all wss) ≡ all (item_words known s wss)
+  pub items-all : (known : List Callee) (s : StFuncTree) (wss : List (List ℕ)) → are_moving s.nodes ≡ true
+      → item_words known s (all wss) ≡ all (item_words known s wss)
   items-all known s wss h = grown-all known (item_layouts s) wss s.nodes h
 
   pub at-all-words : (wss : List (List ℕ)) (k : ℕ) → words_at (all wss) k ≡ map f (words_at wss k)

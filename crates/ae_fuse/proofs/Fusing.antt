@@ -50,7 +50,8 @@ module _ (s : StFuncTree) (h : IsMovable s) where
   sized-at xs same k t found =
       let here : slice_get s.ins k ≡ Some (st_tree t) = ap (λ (ts : List StTree). slice_get ts k) (sym same) ∙ get_mapped st_tree xs k t found in
       let low : k < length s.ins = slice_get_within s.ins k (st_tree t) here in
-      let is : item_layout (item_layouts s) k ≡ st_tree t = get_or_append_left s.ins (node_layouts s.nodes) none k low ∙ get_or_from_slice_get s.ins k (st_tree t) none here in
+      let is : item_layout (item_layouts s) k ≡ st_tree t = get_or_append_left s.ins (node_layouts s.nodes) none k low ∙
+      get_or_from_slice_get s.ins k (st_tree t) none here in
       subst IsInSize is (h.words.sizes k (omega (arith, low, length-append s.ins (node_layouts s.nodes))))
 
   pub few-at : (xs : List StType) → st_trees xs ≡ s.ins → length xs ≤ 8
@@ -59,17 +60,20 @@ module _ (s : StFuncTree) (h : IsMovable s) where
   pub agree : (labels : List (List ℕ)) → HaveResults s labels → map (own_move s labels) s.results ≡ map (own_move s (own_labels s)) s.results
   agree labels have =
       map-along (own_move s labels) (own_move s (own_labels s)) s.results (λ r i found.
-      (λ j. (let m : Move = record { ins = s.ins; out = item_layout (item_layouts s) i; origins = map (labelled_origin s.ins) (have.results r i found j) } in m)))
+      (λ j. (let m : Move = record { ins = s.ins; out = item_layout (item_layouts s) i; origins = map (labelled_origin s.ins) (have.results r i found j) } in
+      m)))
 
   pub result-at : (ins : List StTree) (rs : List FusedResult) → ins ≡ s.ins → map (result_move s.ins) rs ≡ map (own_move s (own_labels s)) s.results
       → (k : ℕ) (r : FusedResult) → slice_get rs k ≡ Some r → IsMove (result_move ins r)
   result-at ins rs same all k r found =
-      let here : slice_get (map (own_move s (own_labels s)) s.results) k ≡ Some (result_move s.ins r) = ap (λ (ms : List Move). slice_get ms k) (sym all) ∙ get_mapped (result_move s.ins) rs k r found in
+      let here : slice_get (map (own_move s (own_labels s)) s.results) k ≡ Some (result_move s.ins r) = ap (λ (ms : List Move). slice_get ms k) (sym all) ∙
+      get_mapped (result_move s.ins) rs k r found in
       let m = mapped-from (own_move s (own_labels s)) s.results k (result_move s.ins r) here in
       let moves : IsMove (own_move s (own_labels s) m.0) = h.moves m.0 (h.results k m.0 m.1) in
       subst (λ (ts : List StTree). IsMove (result_move ts r)) (sym same) (subst IsMove m.2 moves)
 
-  pub moves-at : (ins : List StTree) (rs : List FusedResult) → ins ≡ s.ins → map (result_move s.ins) rs ≡ map (own_move s (own_labels s)) s.results → map (result_move ins) rs ≡ map (own_move s (own_labels s)) s.results
+  pub moves-at : (ins : List StTree) (rs : List FusedResult) → ins ≡ s.ins → map (result_move s.ins) rs ≡ map (own_move s (own_labels s)) s.results
+      → map (result_move ins) rs ≡ map (own_move s (own_labels s)) s.results
   moves-at ins rs same all = (λ i. map (result_move (same i)) rs) ∙ all
 
   pub many-at : (rs : List FusedResult) → map (result_move s.ins) rs ≡ map (own_move s (own_labels s)) s.results → length rs ≡ length s.results
@@ -77,26 +81,32 @@ module _ (s : StFuncTree) (h : IsMovable s) where
 
   -- the moves of the results, by labels that have them
   pub made-by : (labels given : List (Vec ℕ Global)) (rs : List FusedResult) → HaveResults s (map (λ (w : Vec ℕ Global). w.items) labels) → given ≡ labels
-      → map (result_move s.ins) rs ≡ map (own_move s (map (λ (w : Vec ℕ Global). w.items) given)) s.results → map (result_move s.ins) rs ≡ map (own_move s (own_labels s)) s.results
+      → map (result_move s.ins) rs ≡ map (own_move s (map (λ (w : Vec ℕ Global). w.items) given)) s.results
+      → map (result_move s.ins) rs ≡ map (own_move s (own_labels s)) s.results
   made-by labels given rs have same made =
-      made ∙ ap (λ (ws : List (Vec ℕ Global)). map (own_move s (map (λ (w : Vec ℕ Global). w.items) ws)) s.results) same ∙ agree (map (λ (w : Vec ℕ Global). w.items) labels) have
+      made ∙ ap (λ (ws : List (Vec ℕ Global)). map (own_move s (map (λ (w : Vec ℕ Global). w.items) ws)) s.results) same ∙
+      agree (map (λ (w : Vec ℕ Global). w.items) labels) have
 
 -- ---- the program
 
 arrivals-same : (f : FuncTree) (s : StFuncTree) (k : ℕ) (vs : List ValueTree) (all : List ValueTree) → ((i : ℕ) → at all (k + i) ≡ at vs i)
-    → arrivals_from f s k vs ≡ map (λ i. move_latency (traced_move (param_types f) s.ins (item_layout (item_layouts s) i) (at all i))) (range_with_len k (length vs))
+    → arrivals_from f s k vs ≡ map (λ i. move_latency (traced_move (param_types f) s.ins (item_layout (item_layouts s) i) (at all i)))
+    (range_with_len k (length vs))
 arrivals-same f s k [] all h = refl
 arrivals-same f s k (v ∷ vs) all h =
     let z : k + 0 ≡ k = omega arith in
     let own : at all k ≡ v = ap (at all) (sym z) ∙ h 0 in
-    (λ i. move_latency (traced_move (param_types f) s.ins (item_layout (item_layouts s) k) (sym own i)) ∷ arrivals-same f s (k + 1) vs all (λ j. ap (at all) (let e : k + 1 + j ≡ k + suc j = omega arith in e) ∙ h (suc j)) i)
+    (λ i. move_latency (traced_move (param_types f) s.ins (item_layout (item_layouts s) k) (sym own i))
+    ∷ arrivals-same f s (k + 1) vs all (λ j. ap (at all) (let e : k + 1 + j ≡ k + suc j = omega arith in e) ∙ h (suc j)) i)
 
 map-each : {X : Type 0} (f g : ℕ → X) (xs : List ℕ) → ((i : ℕ) → f i ≡ g i) → map f xs ≡ map g xs
 map-each f g [] h = refl
 map-each f g (x ∷ xs) h = λ i. h x i ∷ map-each f g xs h i
 
-module _ (p : ProgramTree) (slowdown : ℕ) (instances : List StFuncTree) (f : FuncTree) (s : StFuncTree) (moves : is_movement p ≡ true) (typed : IsTyped p) (h : IsSchedule p slowdown instances)
-    (there : slice_get p.funcs (main_of p) ≡ Some f) (last : slice_get instances (length instances - 1) ≡ Some s) (some : 0 < slowdown) (few : slowdown ≤ 4096) where
+module _ (p : ProgramTree) (slowdown : ℕ) (instances : List StFuncTree) (f : FuncTree) (s : StFuncTree) (moves : is_movement p ≡ true) (typed : IsTyped p)
+    (h : IsSchedule p slowdown instances)
+    (there : slice_get p.funcs (main_of p) ≡ Some f) (last : slice_get instances (length instances - 1) ≡ Some s) (some : 0 < slowdown)
+    (few : slowdown ≤ 4096) where
   pub movable : IsSound instances → AreFitted instances → IsMovable s
   movable sound fitted =
       let own = sound.each (length instances - 1) s last in
@@ -114,17 +124,20 @@ module _ (p : ProgramTree) (slowdown : ℕ) (instances : List StFuncTree) (f : F
       m.instance.results ∙ ap (λ (g : FuncTree). g.results) (same_Some m.instance.of f (sym m.instance.known ∙ ap (slice_get p.funcs) m.is_main ∙ there))
 
   own-moves : map (own_move s (own_labels s)) s.results ≡ result_moves f s
-  own-moves = ap (map (own_move s (own_labels s))) same-results ∙ sym (map-each (item_move f s) (own_move s (own_labels s)) f.results (items-are p slowdown instances f s moves typed h there last some few))
+  own-moves = ap (map (own_move s (own_labels s))) same-results ∙
+      sym (map-each (item_move f s) (own_move s (own_labels s)) f.results (items-are p slowdown instances f s moves typed h there last some few))
 
   counted : length (item_layouts s) ≡ length (item_values [] f (numbered 1 (param_types f)))
   counted =
       let m = is-main p slowdown instances f s moves typed h there last in
-      item_count_is p (HasKey (take (length instances - 1) instances)) s m.instance ∙ sym (count-items p s.func m.instance.of typed m.instance.known) ∙ sym (counts p instances f s m).1
+      item_count_is p (HasKey (take (length instances - 1) instances)) s m.instance ∙ sym (count-items p s.func m.instance.of typed m.instance.known) ∙
+      sym (counts p instances f s m).1
 
   own-arrivals : map (λ i. move_latency (own_move s (own_labels s) i)) (range_with_len 0 (length (item_layouts s))) ≡ (fused_costing f s).arrivals
   own-arrivals =
       let vs : List ValueTree = item_values [] f (numbered 1 (param_types f)) in
-      map-each (λ i. move_latency (own_move s (own_labels s) i)) (λ i. move_latency (item_move f s i)) (range_with_len 0 (length (item_layouts s))) (λ i. ap move_latency (sym (items-are p slowdown instances f s moves typed h there last some few i)))
+      map-each (λ i. move_latency (own_move s (own_labels s) i)) (λ i. move_latency (item_move f s i)) (range_with_len 0 (length (item_layouts s)))
+      (λ i. ap move_latency (sym (items-are p slowdown instances f s moves typed h there last some few i)))
       ∙ ap (λ n. map (λ i. move_latency (item_move f s i)) (range_with_len 0 n)) counted
       ∙ sym (arrivals-same f s 0 vs vs (λ i. ap (at vs) (let e : 0 + i ≡ i = omega arith in e)))
 
@@ -147,7 +160,8 @@ module _ (p : ProgramTree) (slowdown : ℕ) (instances : List StFuncTree) (f : F
       record {
         many = a.many ∙ ap (λ (g : FuncTree). length (item_values [] g (numbered 1 (param_types g)))) (sym same) ∙ sym counted;
         results = λ r i found.
-            (let here : slice_get a.func.results r ≡ Some i = ap (λ (g : FuncTree). slice_get g.results r) (sym same) ∙ ap (λ (xs : List ℕ). slice_get xs r) (sym same-results) ∙ found in
+            (let here : slice_get a.func.results r ≡ Some i = ap (λ (g : FuncTree). slice_get g.results r) (sym same) ∙
+            ap (λ (xs : List ℕ). slice_get xs r) (sym same-results) ∙ found in
             a.results r i here ∙ ap (λ (g : FuncTree). flat (at (item_values [] g (numbered 1 (param_types g))) i)) (sym same) ∙ sym (labels-same i));
       }
 
@@ -169,9 +183,11 @@ module _ (p : ProgramTree) (slowdown : ℕ) (instances : List StFuncTree) (f : F
     certificate = certified v.certificate by.certificate;
   }
     where
-      certified : (o : Option Certificate) → IfSome o (λ c. IsFirstOf v.latency (map (own_move s (own_labels s)) s.results) c) → IfSome o (λ c. IsCertificate p s.ins (outs_of s) (certificate_tree c))
+      certified : (o : Option Certificate) → IfSome o (λ c. IsFirstOf v.latency (map (own_move s (own_labels s)) s.results) c)
+          → IfSome o (λ c. IsCertificate p s.ins (outs_of s) (certificate_tree c))
       certified None by_none = tt
       certified (Some c) first =
-          let same : map (own_move s (own_labels s)) s.results ≡ traced_moves (parameter_types p) s.ins (outs_of s) (trace p) = own-moves ∙ sym (moves-traced p slowdown instances f s moves typed h there last) in
+          let same : map (own_move s (own_labels s)) s.results ≡ traced_moves (parameter_types p) s.ins (outs_of s) (trace p) = own-moves ∙
+          sym (moves-traced p slowdown instances f s moves typed h there last) in
           let latency : v.latency ≡ least p s.ins (outs_of s) = ap (λ (o : OwnCosts). o.latency) by.costs ∙ ap moves_latency same in
           is-certificate p s.ins (outs_of s) c latency same first

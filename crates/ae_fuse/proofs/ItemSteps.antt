@@ -29,14 +29,16 @@ input-sized f k t h found =
     let here : slice_get (st_trees f.ins.items) k ≡ Some (st_tree t) = get_mapped st_tree f.ins.items k t found in
     let low : k < length (st_trees f.ins.items) = slice_get_within (st_trees f.ins.items) k (st_tree t) here in
     let rest : List StTree = node_layouts (st_func_tree f).nodes in
-    let is : item_layout (item_layouts (st_func_tree f)) k ≡ st_tree t = get_or_append_left (st_trees f.ins.items) rest none k low ∙ get_or_from_slice_get (st_trees f.ins.items) k (st_tree t) none here in
+    let is : item_layout (item_layouts (st_func_tree f)) k ≡ st_tree t = get_or_append_left (st_trees f.ins.items) rest none k low ∙
+    get_or_from_slice_get (st_trees f.ins.items) k (st_tree t) none here in
     subst IsInSize is (h.sizes k (omega (arith, low, length-append (st_trees f.ins.items) rest)))
 
 -- ---- nodes
 
 pub layout-of-node : (s : StFuncTree) (j : ℕ) (n : StNodeTree) → slice_get s.nodes j ≡ Some n → item_layout (item_layouts s) (length s.ins + j) ≡ n.type
 layout-of-node s j n found =
-    get_or-append-add s.ins (node_layouts s.nodes) j none ∙ get_or_from_slice_get (node_layouts s.nodes) j n.type none (get_mapped (λ (m : StNodeTree). m.type) s.nodes j n found)
+    get_or-append-add s.ins (node_layouts s.nodes) j none ∙
+    get_or_from_slice_get (node_layouts s.nodes) j n.type none (get_mapped (λ (m : StNodeTree). m.type) s.nodes j n found)
 
 pub count-items : (s : StFuncTree) → length (item_layouts s) ≡ length s.ins + length s.nodes
 count-items s = length-append s.ins (node_layouts s.nodes) ∙ ap (λ k. length s.ins + k) (length-map s.nodes (λ (m : StNodeTree). m.type))

@@ -55,11 +55,13 @@ repeated-at ls c n m w o many some =
     let at : o % (n * w) ≡ e * w + o % w = ap (λ p. p % (n * w)) (sym whole) ∙ mod-mul-add (o / w / n) (n * w) (e * w + o % w) low in
     ap (λ i. get_or ls i 0) at
 
-shifted-word : (a : StTree) (ls : List ℕ) (e j : ℕ) (b : Bool) → label_from ls (element_words a) (cond b (fixed 0) (from_input 0 e j)) ≡ origin_word (a ∷ []) (ls ∷ []) (cond b (fixed 0) (from_input 0 e j))
+shifted-word : (a : StTree) (ls : List ℕ) (e j : ℕ) (b : Bool)
+    → label_from ls (element_words a) (cond b (fixed 0) (from_input 0 e j)) ≡ origin_word (a ∷ []) (ls ∷ []) (cond b (fixed 0) (from_input 0 e j))
 shifted-word a ls e j true = refl
 shifted-word a ls e j false = refl
 
-label-word : (how : MoveOp) (a : StTree) (ls : List ℕ) (n m e j : ℕ) → label_from ls (element_words a) (origin_from how n m e j) ≡ origin_word (a ∷ []) (ls ∷ []) (origin_from how n m e j)
+label-word : (how : MoveOp) (a : StTree) (ls : List ℕ) (n m e j : ℕ)
+    → label_from ls (element_words a) (origin_from how n m e j) ≡ origin_word (a ∷ []) (ls ∷ []) (origin_from how n m e j)
 label-word (Shift k) a ls n m e j = shifted-word a ls (e - k) j (nat_lt e k)
 label-word (Up c) a ls n m e j = refl
 label-word (Select k) a ls n m e j = refl
@@ -67,14 +69,16 @@ label-word Same a ls n m e j = refl
 
 -- the labels of all words of a move
 pub moved-all : (how : MoveOp) (a s : StTree) (ls moved : List ℕ) (n m w : ℕ) → FitsMove how a s → n ≡ st_atoms a → m ≡ st_atoms s → w ≡ element_words a
-    → moved ≡ map (λ o. label_from ls w (origin_from how n m (o / w) (o % w))) (range_with_len 0 (m * w)) → moved ≡ map (origin_word (a ∷ []) (ls ∷ [])) (op_move how a s).origins
+    → moved ≡ map (λ o. label_from ls w (origin_from how n m (o / w) (o % w))) (range_with_len 0 (m * w))
+    → moved ≡ map (origin_word (a ∷ []) (ls ∷ [])) (op_move how a s).origins
 moved-all how a s ls moved n m w fits many most wide was =
     let same : element_words a ≡ element_words s = ap atom_words fits.0 in
     let word : OriginTree → ℕ = origin_word (a ∷ []) (ls ∷ []) in
     let from : ℕ → ℕ → OriginTree = origin_from how (st_atoms a) (st_atoms s) in
     was
     ∙ (λ i. map (λ o. label_from ls (wide i) (origin_from how (many i) (most i) (o / wide i) (o % wide i))) (range_with_len 0 (most i * wide i)))
-    ∙ (λ i. map (λ o. label-word how a ls (st_atoms a) (st_atoms s) (o / element_words a) (o % element_words a) i) (range_with_len 0 (st_atoms s * element_words a)))
+    ∙ (λ i. map (λ o. label-word how a ls (st_atoms a) (st_atoms s) (o / element_words a) (o % element_words a) i)
+    (range_with_len 0 (st_atoms s * element_words a)))
     ∙ (λ i. map (λ o. word (from (o / same i) (o % same i))) (range_with_len 0 (st_atoms s * same i)))
     ∙ sym (map-map word (origin_number how a s) (range_with_len 0 (st_atoms s * element_words s)))
 
@@ -88,12 +92,14 @@ parts-push n k o l ws =
     ∙ flat_map-append f (range_with_len 0 n) (n ∷ [])
     ∙ ap (λ xs. flat_map f (range_with_len 0 n) ++ xs) (flat_map-cons f n [] ∙ append-nil (f n))
 
-pub parts-more : (n k o l : ℕ) (ws old more : List ℕ) → more ≡ take (n * k + o + l - (n * k + o)) (drop (n * k + o) ws) → old ≡ parts n k o l ws → old ++ more ≡ parts (n + 1) k o l ws
+pub parts-more : (n k o l : ℕ) (ws old more : List ℕ) → more ≡ take (n * k + o + l - (n * k + o)) (drop (n * k + o) ws) → old ≡ parts n k o l ws → old
+    ++ more ≡ parts (n + 1) k o l ws
 parts-more n k o l ws old more cut was =
     let size : n * k + o + l - (n * k + o) ≡ l = omega arith in
     (λ i. was i ++ (cut ∙ ap (λ x. take x (drop (n * k + o) ws)) size) i) ∙ sym (parts-push n k o l ws)
 
-pub pairs-more : (n k l : ℕ) (us vs old one two : List ℕ) → one ≡ take (n * k + k - n * k) (drop (n * k) us) → two ≡ take (n * l + l - n * l) (drop (n * l) vs) → old ≡ paired n k l us vs → (old ++ one) ++ two ≡ paired (n + 1) k l us vs
+pub pairs-more : (n k l : ℕ) (us vs old one two : List ℕ) → one ≡ take (n * k + k - n * k) (drop (n * k) us) → two ≡ take (n * l + l - n * l) (drop (n * l) vs)
+    → old ≡ paired n k l us vs → (old ++ one) ++ two ≡ paired (n + 1) k l us vs
 pairs-more n k l us vs old one two cut split was =
     let size : n * k + k - n * k ≡ k = omega arith in
     let wide : n * l + l - n * l ≡ l = omega arith in
@@ -107,11 +113,13 @@ piece-ends e count k from l low room =
 
 -- ---- the arguments of a node
 
-pub pair-sizes : (a b s : StTree) → FitsPair a b s → (st_atoms a ≡ st_atoms s) × (st_atoms b ≡ st_atoms s) × (element_words s ≡ element_words a + element_words b)
+pub pair-sizes : (a b s : StTree) → FitsPair a b s → (st_atoms a ≡ st_atoms s) × (st_atoms b ≡ st_atoms s)
+    × (element_words s ≡ element_words a + element_words b)
 pair-sizes a b s fits = (
   sym (length-slots a) ∙ ap length fits.first.slots ∙ length-slots s,
   sym (length-slots b) ∙ ap length fits.second.slots ∙ length-slots s,
-  sym (length-atom_kinds (element_atom s)) ∙ ap length fits.kinds ∙ length-append (atom_kinds (element_atom a)) (atom_kinds (element_atom b)) ∙ (λ i. length-atom_kinds (element_atom a) i + length-atom_kinds (element_atom b) i),
+  sym (length-atom_kinds (element_atom s)) ∙ ap length fits.kinds ∙ length-append (atom_kinds (element_atom a)) (atom_kinds (element_atom b)) ∙
+      (λ i. length-atom_kinds (element_atom a) i + length-atom_kinds (element_atom b) i),
 )
 
 first-part : (a s : StTree) → FitsFirst s a → (st_atoms a ≡ st_atoms s) × (element_words s ≤ element_words a)
@@ -128,17 +136,21 @@ pub record HasOne (xs : List ℕ) (P : ℕ → Type 0) : Type 0 where
 one-is : (x : ℕ) (P : ℕ → Type 0) → P x → HasOne (x ∷ []) P
 one-is x P h = record { some = omega arith; only = λ a e. let same : x ≡ a = same_Some x a e in (ap (λ y. y ∷ []) same, subst P same h) }
 
-move-fits : (before : List StFuncTree) (budget copies : ℕ) (f : ℕ → StTree) (xs : List ℕ) (s : StTree) (how : MoveOp) → FitsOp before budget copies (map f xs) s (move how) → HasOne xs (λ a. FitsMove how (f a) s)
+move-fits : (before : List StFuncTree) (budget copies : ℕ) (f : ℕ → StTree) (xs : List ℕ) (s : StTree) (how : MoveOp)
+    → FitsOp before budget copies (map f xs) s (move how) → HasOne xs (λ a. FitsMove how (f a) s)
 move-fits before budget copies f [] s how h = absurd h
 move-fits before budget copies f (x ∷ []) s how h = one-is x (λ a. FitsMove how (f a) s) h
 move-fits before budget copies f (x ∷ y ∷ xs) s how h = absurd h
 
-part-fits : (before : List StFuncTree) (budget copies : ℕ) (f : ℕ → StTree) (xs : List ℕ) (s : StTree) (is_first : Bool) → FitsOp before budget copies (map f xs) s (if is_first then first else second)
+part-fits : (before : List StFuncTree) (budget copies : ℕ) (f : ℕ → StTree) (xs : List ℕ) (s : StTree) (is_first : Bool)
+    → FitsOp before budget copies (map f xs) s (if is_first then first else second)
     → HasOne xs (λ a. (st_atoms (f a) ≡ st_atoms s) × (element_words s ≤ element_words (f a)))
 part-fits before budget copies f [] s true h = absurd h
 part-fits before budget copies f [] s false h = absurd h
-part-fits before budget copies f (x ∷ []) s true h = one-is x (λ a. (st_atoms (f a) ≡ st_atoms s) × (element_words s ≤ element_words (f a))) (first-part (f x) s h)
-part-fits before budget copies f (x ∷ []) s false h = one-is x (λ a. (st_atoms (f a) ≡ st_atoms s) × (element_words s ≤ element_words (f a))) (second-part (f x) s h)
+part-fits before budget copies f (x ∷ []) s true h =
+    one-is x (λ a. (st_atoms (f a) ≡ st_atoms s) × (element_words s ≤ element_words (f a))) (first-part (f x) s h)
+part-fits before budget copies f (x ∷ []) s false h =
+    one-is x (λ a. (st_atoms (f a) ≡ st_atoms s) × (element_words s ≤ element_words (f a))) (second-part (f x) s h)
 part-fits before budget copies f (x ∷ y ∷ xs) s true h = absurd h
 part-fits before budget copies f (x ∷ y ∷ xs) s false h = absurd h
 
@@ -146,7 +158,8 @@ pub record HasTwo (xs : List ℕ) (P : ℕ → ℕ → Type 0) : Type 0 where
   pub some : 1 < length xs
   pub only : (a b : ℕ) → slice_get xs 0 ≡ Some a → slice_get xs 1 ≡ Some b → (xs ≡ a ∷ b ∷ []) × P a b
 
-pair-fits : (before : List StFuncTree) (budget copies : ℕ) (f : ℕ → StTree) (xs : List ℕ) (s : StTree) → FitsOp before budget copies (map f xs) s join → HasTwo xs (λ a b. FitsPair (f a) (f b) s)
+pair-fits : (before : List StFuncTree) (budget copies : ℕ) (f : ℕ → StTree) (xs : List ℕ) (s : StTree) → FitsOp before budget copies (map f xs) s join
+    → HasTwo xs (λ a b. FitsPair (f a) (f b) s)
 pair-fits before budget copies f [] s h = absurd h
 pair-fits before budget copies f (x ∷ []) s h = absurd h
 pair-fits before budget copies f (x ∷ y ∷ []) s h = record {
@@ -165,7 +178,9 @@ module _ (s : StFuncTree) (n : StNodeTree) (labels : List (List ℕ)) (h : IsRea
   pub ready-move : (how : MoveOp) → n.op ≡ move how → HasOne n.args (λ a. FitsMove how (item_layout (item_layouts s) a) n.type)
   ready-move how is = move-fits h.before s.budget n.copies (item_layout (item_layouts s)) n.args n.type how (fits-op (move how) is)
 
-  pub ready-part : (is_first : Bool) → n.op ≡ (if is_first then first else second) → HasOne n.args (λ a. (st_atoms (item_layout (item_layouts s) a) ≡ st_atoms n.type) × (element_words n.type ≤ element_words (item_layout (item_layouts s) a)))
+  pub ready-part : (is_first : Bool) → n.op ≡ (if is_first then first else second)
+      → HasOne n.args (λ a. (st_atoms (item_layout (item_layouts s) a) ≡ st_atoms n.type)
+      × (element_words n.type ≤ element_words (item_layout (item_layouts s) a)))
   ready-part b is = part-fits h.before s.budget n.copies (item_layout (item_layouts s)) n.args n.type b (fits-op (if b then first else second) is)
 
   pub ready-pair : n.op ≡ join → HasTwo n.args (λ a b. FitsPair (item_layout (item_layouts s) a) (item_layout (item_layouts s) b) n.type)
@@ -177,14 +192,18 @@ module _ (s : StFuncTree) (n : StNodeTree) (labels : List (List ℕ)) (h : IsRea
 -- ---- the words of a node
 
 pub move-words : (layouts : List StTree) (labels : List (List ℕ)) (n : StNodeTree) (how : MoveOp) (a : ℕ) → n.op ≡ move how → n.args ≡ a ∷ []
-    → node_words [] layouts labels n ≡ map (origin_word (item_layout layouts a ∷ []) (words_at labels a ∷ [])) (op_move how (item_layout layouts a) n.type).origins
+    → node_words [] layouts labels n ≡ map (origin_word (item_layout layouts a ∷ []) (words_at labels a ∷ []))
+    (op_move how (item_layout layouts a) n.type).origins
 move-words layouts labels n how a op args = λ i. op_words [] (map (item_layout layouts) (args i)) n.type (op i) (map (words_at labels) (args i))
 
 pub pair-words : (layouts : List StTree) (labels : List (List ℕ)) (n : StNodeTree) (a b : ℕ) → n.op ≡ join → n.args ≡ a ∷ b ∷ []
-    → node_words [] layouts labels n ≡ paired (st_atoms n.type) (element_words (item_layout layouts a)) (element_words (item_layout layouts b)) (words_at labels a) (words_at labels b)
+    → node_words [] layouts labels n ≡ paired (st_atoms n.type) (element_words (item_layout layouts a)) (element_words (item_layout layouts b))
+    (words_at labels a) (words_at labels b)
 pair-words layouts labels n a b op args = λ i. op_words [] (map (item_layout layouts) (args i)) n.type (op i) (map (words_at labels) (args i))
 
-pub part-words : (layouts : List StTree) (labels : List (List ℕ)) (n : StNodeTree) (is_first : Bool) (a : ℕ) → n.op ≡ (if is_first then first else second) → n.args ≡ a ∷ []
-    → node_words [] layouts labels n ≡ parts (st_atoms n.type) (element_words (item_layout layouts a)) (if is_first then 0 else element_words (item_layout layouts a) - element_words n.type) (element_words n.type) (words_at labels a)
+pub part-words : (layouts : List StTree) (labels : List (List ℕ)) (n : StNodeTree) (is_first : Bool) (a : ℕ) → n.op ≡ (if is_first then first else second)
+    → n.args ≡ a ∷ []
+    → node_words [] layouts labels n ≡ parts (st_atoms n.type) (element_words (item_layout layouts a))
+    (if is_first then 0 else element_words (item_layout layouts a) - element_words n.type) (element_words n.type) (words_at labels a)
 part-words layouts labels n true a op args = λ i. op_words [] (map (item_layout layouts) (args i)) n.type (op i) (map (words_at labels) (args i))
 part-words layouts labels n false a op args = λ i. op_words [] (map (item_layout layouts) (args i)) n.type (op i) (map (words_at labels) (args i))

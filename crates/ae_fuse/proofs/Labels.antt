@@ -45,7 +45,8 @@ op-known known other (partition n m) vs h = refl
 op-known known other unpartition vs h = refl
 op-known known other _ vs h = absurd (cc)
 
-pub items-known : (known other : List Meaning) (items : List ValueTree) (ns : List NodeTree) → are_movements ns ≡ true → grown (node_value known) items ns ≡ grown (node_value other) items ns
+pub items-known : (known other : List Meaning) (items : List ValueTree) (ns : List NodeTree) → are_movements ns ≡ true
+    → grown (node_value known) items ns ≡ grown (node_value other) items ns
 items-known known other items [] h = refl
 items-known known other items (n ∷ ns) h =
     let p = and_parts _ _ h in
@@ -54,7 +55,8 @@ items-known known other items (n ∷ ns) h =
 
 -- ---- blocks of bits
 
-pub values-of-bits : (ts : List SeqTree) (bits : List ℕ) → ((i : ℕ) (t : SeqTree) → slice_get ts i ≡ Some t → IsTrue (in_size t)) → length bits ≡ words_of ts → ((k : ℕ) → k < length bits → get_or bits k 0 ≤ 1)
+pub values-of-bits : (ts : List SeqTree) (bits : List ℕ) → ((i : ℕ) (t : SeqTree) → slice_get ts i ≡ Some t → IsTrue (in_size t)) → length bits ≡ words_of ts
+    → ((k : ℕ) → k < length bits → get_or bits k 0 ≤ 1)
     → AreValues ts (values_in ts bits) × (flat_map flat (values_in ts bits) ≡ bits)
 values-of-bits [] [] sized long small = (tt, refl)
 values-of-bits [] (b ∷ bits) sized long small = absurd (omega arith)
@@ -66,9 +68,16 @@ values-of-bits (t ∷ ts) bits sized long small =
     let rest_long : length rest ≡ words_of ts = omega (arith, length-drop n bits) in
     let first = sized 0 t refl in
     let wide : AllWide (kinds t) = wide-kinds t (wide-atom (atom_of t) (widths-ok t (sized-parts t first))) in
-    let fits : Fit t own = bits-fit own (kinds t) (own_long ∙ sym (length-kinds t)) (λ k l. (let e : get_or own k 0 ≡ get_or bits k 0 = get_or-take n bits k 0 (omega (arith, own_long)) in let s = small k (omega (arith, length-take n bits)) in omega arith)) wide in
-    let r = values-of-bits ts rest (λ i u f. sized (suc i) u f) rest_long (λ k l. (let e : get_or rest k 0 ≡ get_or bits (n + k) 0 = get_or-drop n bits k 0 in let s = small (n + k) (omega (arith, length-drop n bits)) in omega arith)) in
-    (((own, stands t own fits), r.0), flat_map-cons flat (value_of t own) (values_in ts rest) ∙ (λ i. flat-value_of t own own_long i ++ r.1 i) ∙ take-append-drop n bits)
+    let fits : Fit t own = bits-fit own (kinds t) (own_long ∙ sym (length-kinds t))
+    (λ k l. (let e : get_or own k 0 ≡ get_or bits k 0 = get_or-take n bits k 0 (omega (arith, own_long)) in
+    let s = small k (omega (arith, length-take n bits)) in omega arith)) wide in
+    let r = values-of-bits ts rest (λ i u f. sized (suc i) u f) rest_long
+    (λ k l. (let e : get_or rest k 0 ≡ get_or bits (n + k) 0 = get_or-drop n bits k 0 in let s = small (n + k) (omega (arith, length-drop n bits)) in
+    omega arith)) in (
+      ((own, stands t own fits), r.0),
+      flat_map-cons flat (value_of t own) (values_in ts rest) ∙ (λ i. flat-value_of t own own_long i ++ r.1 i) ∙
+          take-append-drop n bits,
+    )
 
 -- a table of bits
 abbrev pub bits_by : (ℕ → ℕ) → ℕ → List ℕ
@@ -124,14 +133,16 @@ same-number most zero (suc m) p q all each = absurd (differ _ (sym all) (table-a
 same-number most (suc n) zero p q all each = absurd (differ _ all (table-at one_everywhere most n (omega arith)))
 same-number most (suc n) (suc m) p q all each =
     let e = each n (omega arith) in
-    let here : get_or (bits_by (one_at n) most) n 0 ≡ 1 = table-at (one_at n) most n (omega arith) ∙ (let t : (n == n) ≡ true = grind (arith, nat_tests) in cond-true _ 1 0 t) in
+    let here : get_or (bits_by (one_at n) most) n 0 ≡ 1 = table-at (one_at n) most n (omega arith) ∙
+    (let t : (n == n) ≡ true = grind (arith, nat_tests) in cond-true _ 1 0 t) in
     let there : get_or (bits_by (one_at n) most) m 0 ≡ one_at n m = table-at (one_at n) most m (omega arith) in
     elim (cases_Bool (m == n)) [
       | inl t ↦ (let s : m ≡ n = grind (arith, nat_tests) in ap suc (sym s))
       | inr f ↦ absurd (differ _ (there ∙ cond-false _ 1 0 f) (sym e ∙ here))
     ]
 
-pub same-numbers : (most : ℕ) (xs ys : List ℕ) → map (capped most) xs ≡ xs → map (capped most) ys ≡ ys → map (word_numbered (bits_by one_everywhere most)) xs ≡ map (word_numbered (bits_by one_everywhere most)) ys
+pub same-numbers : (most : ℕ) (xs ys : List ℕ) → map (capped most) xs ≡ xs → map (capped most) ys ≡ ys
+    → map (word_numbered (bits_by one_everywhere most)) xs ≡ map (word_numbered (bits_by one_everywhere most)) ys
     → ((n : ℕ) → n < most → map (word_numbered (bits_by (one_at n) most)) xs ≡ map (word_numbered (bits_by (one_at n) most)) ys) → xs ≡ ys
 same-numbers most [] [] p q all each = refl
 same-numbers most [] (y ∷ ys) p q all each = absurd (none-long _ _ all)
@@ -159,8 +170,11 @@ values-fit (t ∷ ts) [] h = absurd h
 values-fit (t ∷ ts) (v ∷ vs) h =
     let r = values-fit ts vs h.1 in
     let st = h.0.1 in
-    let e : h.0.0 ≡ flat v = sym (own-words t h.0.0 v st) in
-    ((subst (λ ws. Fit t ws) e st.fits, r.0), ap (λ ws. value_of t ws ∷ values_of ts (map flat vs)) (sym e) ∙ ap (λ x. x ∷ values_of ts (map flat vs)) st.value ∙ ap (λ xs. v ∷ xs) r.1)
+    let e : h.0.0 ≡ flat v = sym (own-words t h.0.0 v st) in (
+      (subst (λ ws. Fit t ws) e st.fits, r.0),
+      ap (λ ws. value_of t ws ∷ values_of ts (map flat vs)) (sym e) ∙
+          ap (λ x. x ∷ values_of ts (map flat vs)) st.value ∙ ap (λ xs. v ∷ xs) r.1,
+    )
 
 -- the instance of a movement program's function
 pub record IsMain (p : ProgramTree) (instances : List StFuncTree) (g : FuncTree) (s : StFuncTree) : Type 0 where
@@ -186,21 +200,25 @@ module _ (p : ProgramTree) (instances : List StFuncTree) (g : FuncTree) (s : StF
   same-func = same_Some m.instance.of g (sym m.instance.known ∙ ap (slice_get p.funcs) m.is_main ∙ m.there)
 
   pub moving : are_moving s.nodes ≡ true
-  moving = nodes-moving p _ s.func s.budget (length m.instance.of.params) m.instance.of.nodes s.nodes (ap (λ (f : FuncTree). are_movements f.nodes) same-func ∙ m.moves) m.instance.nodes
+  moving = nodes-moving p _ s.func s.budget (length m.instance.of.params) m.instance.of.nodes s.nodes
+      (ap (λ (f : FuncTree). are_movements f.nodes) same-func ∙ m.moves) m.instance.nodes
 
   own-params : params_in p s.func ≡ ts
   own-params = ap (λ i. params_for (slice_get p.funcs i)) m.is_main ∙ ap params_for m.there
 
   -- the items of a block stand
-  pub block-stands : (vs : List ValueTree) → AreValues ts vs → Standing (types_in p s.func) (length (types_in p s.func)) (item_words [] s (map flat vs)) (item_values [] g vs)
+  pub block-stands : (vs : List ValueTree) → AreValues ts vs
+      → Standing (types_in p s.func) (length (types_in p s.func)) (item_words [] s (map flat vs)) (item_values [] g vs)
   block-stands vs values =
       let fit = values-fit ts vs values in
       let own : AllFit (params_in p s.func) (map flat vs) = subst (λ us. AllFit us (map flat vs)) (sym own-params) fit.0 in
-      let st = items-stand p (HasKey (take (length instances - 1) instances)) s m.typed m.instance [] (λ k f b key. absurd (m.alone k f b key)) (map flat vs) own in
+      let st = items-stand p (HasKey (take (length instances - 1) instances)) s m.typed m.instance [] (λ k f b key. absurd (m.alone k f b key))
+      (map flat vs) own in
       let args : values_of (params_in p s.func) (map flat vs) ≡ vs = ap (λ us. values_of us (map flat vs)) own-params ∙ fit.1 in
       let means = take s.func (meanings p.funcs) in
       let same : item_values means m.instance.of (values_of (params_in p s.func) (map flat vs)) ≡ item_values [] g vs =
-      ap (λ (f : FuncTree). item_values means f (values_of (params_in p s.func) (map flat vs))) same-func ∙ ap (item_values means g) args ∙ items-known means [] vs g.nodes m.moves in
+      ap (λ (f : FuncTree). item_values means f (values_of (params_in p s.func) (map flat vs))) same-func ∙ ap (item_values means g) args ∙
+      items-known means [] vs g.nodes m.moves in
       subst (Standing (types_in p s.func) (length (types_in p s.func)) (item_words [] s (map flat vs))) same st
 
   -- an item by its number
@@ -211,7 +229,8 @@ module _ (p : ProgramTree) (instances : List StFuncTree) (g : FuncTree) (s : StF
   traced_words i = flat (at (item_values [] g (numbered 1 ts)) i)
 
   flats-renamed : (f : ℕ → ℕ) (vs : List ValueTree) → map (map f) (map flat vs) ≡ map flat (map (renamed f) vs)
-  flats-renamed f vs = map-map (map f) flat vs ∙ map-same (λ v. map f (flat v)) (λ v. flat (renamed f v)) vs (λ v. sym (flat-renamed f v)) ∙ sym (map-map flat (renamed f) vs)
+  flats-renamed f vs = map-map (map f) flat vs ∙ map-same (λ v. map f (flat v)) (λ v. flat (renamed f v)) vs (λ v. sym (flat-renamed f v)) ∙
+      sym (map-map flat (renamed f) vs)
 
   label-renamed : (f : ℕ → ℕ) → f 0 ≡ 0 → (i : ℕ) → map f (label_words i) ≡ words_at (item_words [] s (map flat (map (renamed f) (numbered 1 ts)))) i
   label-renamed f kept i =
@@ -225,7 +244,8 @@ module _ (p : ProgramTree) (instances : List StFuncTree) (g : FuncTree) (s : StF
       ∙ ap flat (sym (at-map (renamed f) refl (item_values [] g (numbered 1 ts)) i))
       ∙ ap (λ vs. flat (at vs i)) (sym (items-renamed f kept [] (numbered 1 ts) g.nodes m.moves))
 
-  item-agrees : (vs : List ValueTree) → AreValues ts vs → (i : ℕ) → i < length (types_in p s.func) → words_at (item_words [] s (map flat vs)) i ≡ flat (at (item_values [] g vs) i)
+  item-agrees : (vs : List ValueTree) → AreValues ts vs → (i : ℕ) → i < length (types_in p s.func)
+      → words_at (item_words [] s (map flat vs)) i ≡ flat (at (item_values [] g vs) i)
   item-agrees vs values i low =
       let st = block-stands vs values in
       let t = entry (types_in p s.func) i low in
@@ -237,11 +257,13 @@ module _ (p : ProgramTree) (instances : List StFuncTree) (g : FuncTree) (s : StF
       entry (u ∷ us) (suc i) h = entry us i (omega arith)
 
   -- no bits tell the labels from those of the trace
-  bits-agree : (f : ℕ → ℕ) → ((i : ℕ) → f i ≤ 1) → (i : ℕ) → i < length (types_in p s.func) → map (word_numbered (bits_by f total)) (label_words i) ≡ map (word_numbered (bits_by f total)) (traced_words i)
+  bits-agree : (f : ℕ → ℕ) → ((i : ℕ) → f i ≤ 1) → (i : ℕ) → i < length (types_in p s.func)
+      → map (word_numbered (bits_by f total)) (label_words i) ≡ map (word_numbered (bits_by f total)) (traced_words i)
   bits-agree f small i low =
       let bits = bits_by f total in
       let long : length bits ≡ total = length-map-range_with_len f 0 total in
-      let v = values-of-bits ts bits m.sized long (λ k l. (let e : get_or bits k 0 ≡ f k = table-at f total k (omega arith) in let h = small k in omega arith)) in
+      let v = values-of-bits ts bits m.sized long (λ k l. (let e : get_or bits k 0 ≡ f k = table-at f total k (omega arith) in let h = small k in
+      omega arith)) in
       let vs = values_in ts bits in
       let h : ℕ → ℕ = word_numbered bits in
       let named : map (renamed h) (numbered 1 ts) ≡ vs = ap (λ ws. map (renamed (word_numbered ws)) (numbered 1 ts)) (sym v.1) ∙ numbers-renamed [] ts vs v.0 in
@@ -267,7 +289,8 @@ module _ (p : ProgramTree) (instances : List StFuncTree) (g : FuncTree) (s : StF
   pub zero_values : AreValues ts (values_in ts (bits_by (λ i. 0) total)) × (flat_map flat (values_in ts (bits_by (λ i. 0) total)) ≡ bits_by (λ i. 0) total)
   zero_values =
       let f : ℕ → ℕ = λ i. 0 in
-      values-of-bits ts (bits_by f total) m.sized (length-map-range_with_len f 0 total) (λ k l. (let e : get_or (bits_by f total) k 0 ≡ 0 = table-at f total k (omega (arith, length-map-range_with_len f 0 total)) in omega arith))
+      values-of-bits ts (bits_by f total) m.sized (length-map-range_with_len f 0 total)
+      (λ k l. (let e : get_or (bits_by f total) k 0 ≡ 0 = table-at f total k (omega (arith, length-map-range_with_len f 0 total)) in omega arith))
 
   pub counts : (length (item_words [] s labels) ≡ length (types_in p s.func)) × (length (item_values [] g (numbered 1 ts)) ≡ length (types_in p s.func))
   counts =
@@ -275,16 +298,24 @@ module _ (p : ProgramTree) (instances : List StFuncTree) (g : FuncTree) (s : StF
       let vs = values_in ts bits in
       let h : ℕ → ℕ = word_numbered bits in
       let st = block-stands vs zero_values.0 in
-      let named : map (renamed h) (numbered 1 ts) ≡ vs = ap (λ ws. map (renamed (word_numbered ws)) (numbered 1 ts)) (sym zero_values.1) ∙ numbers-renamed [] ts vs zero_values.0 in
-      let a : map (map h) (item_words [] s labels) ≡ item_words [] s (map flat vs) = sym (items-all h refl [] s labels moving) ∙ ap (item_words [] s) (flats-renamed h (numbered 1 ts)) ∙ ap (λ us. item_words [] s (map flat us)) named in
-      let b : map (renamed h) (item_values [] g (numbered 1 ts)) ≡ item_values [] g vs = sym (items-renamed h refl [] (numbered 1 ts) g.nodes m.moves) ∙ ap (item_values [] g) named in
-      (sym (length-map (item_words [] s labels) (map h)) ∙ ap length a ∙ st.words, sym (length-map (item_values [] g (numbered 1 ts)) (renamed h)) ∙ ap length b ∙ st.values)
+      let named : map (renamed h) (numbered 1 ts) ≡ vs = ap (λ ws. map (renamed (word_numbered ws)) (numbered 1 ts)) (sym zero_values.1) ∙
+      numbers-renamed [] ts vs zero_values.0 in
+      let a : map (map h) (item_words [] s labels) ≡ item_words [] s (map flat vs) = sym (items-all h refl [] s labels moving) ∙
+      ap (item_words [] s) (flats-renamed h (numbered 1 ts)) ∙ ap (λ us. item_words [] s (map flat us)) named in
+      let b : map (renamed h) (item_values [] g (numbered 1 ts)) ≡ item_values [] g vs = sym (items-renamed h refl [] (numbered 1 ts) g.nodes m.moves) ∙
+      ap (item_values [] g) named in (
+        sym (length-map (item_words [] s labels) (map h)) ∙ ap length a ∙ st.words,
+        sym (length-map (item_values [] g (numbered 1 ts)) (renamed h)) ∙
+            ap length b ∙ st.values,
+      )
 
-  same-lists : (xs : List (List ℕ)) (vs : List ValueTree) → length xs ≡ length vs → ((i : ℕ) → i < length xs → words_at xs i ≡ flat (at vs i)) → xs ≡ map flat vs
+  same-lists : (xs : List (List ℕ)) (vs : List ValueTree) → length xs ≡ length vs → ((i : ℕ) → i < length xs → words_at xs i ≡ flat (at vs i))
+      → xs ≡ map flat vs
   same-lists [] [] e h = refl
   same-lists [] (v ∷ vs) e h = absurd (omega arith)
   same-lists (x ∷ xs) [] e h = absurd (omega arith)
   same-lists (x ∷ xs) (v ∷ vs) e h = (λ i. h 0 (omega arith) i ∷ same-lists xs vs (omega arith) (λ k l. h (suc k) (omega arith)) i)
 
   pub all-labels : item_words [] s labels ≡ map flat (item_values [] g (numbered 1 ts))
-  all-labels = same-lists (item_words [] s labels) (item_values [] g (numbered 1 ts)) (counts.0 ∙ sym counts.1) (λ i l. item-labels i (let e = counts.0 in omega arith))
+  all-labels = same-lists (item_words [] s labels) (item_values [] g (numbered 1 ts)) (counts.0 ∙ sym counts.1)
+      (λ i l. item-labels i (let e = counts.0 in omega arith))

@@ -34,7 +34,8 @@ pub within_time : (m : Move) → IsMove m → IsWithin (time m.out) (stream_of m
 within_time m h = record { clocks = λ e w at. (slot_in m.out e w h.out at).0 }
 
 -- the cells of a move and of its delay
-pub result_grows : (old mid new : Circuit) (m : Move) (whole : ℕ) (nets : List NetId) → move_latency m ≤ whole → AreNets mid.cells (stream_widths (stream_of m.out)) nets → Grows old mid → length mid.cells ≤ length old.cells + (gather_part m).most_cells
+pub result_grows : (old mid new : Circuit) (m : Move) (whole : ℕ) (nets : List NetId) → move_latency m ≤ whole
+    → AreNets mid.cells (stream_widths (stream_of m.out)) nets → Grows old mid → length mid.cells ≤ length old.cells + (gather_part m).most_cells
     → GrowsBy mid new ((whole - move_latency m) * length nets) → GrowsBy old new (result_load whole m)
 result_grows old mid new m whole nets late there grows few more =
     let long : length nets ≡ columns_of m.out = columns_long mid.cells m.out nets there in
@@ -44,15 +45,20 @@ result_grows old mid new m whole nets late there grows few more =
 pub part_small : (m : Move) (whole : ℕ) → (gather_part m).most_cells ≤ 16 * result_load whole m
 part_small m whole = omega arith
 
-pub result_adds : (old mid new : Circuit) (m : Move) (whole : ℕ) (nets : List NetId) → AreNets mid.cells (stream_widths (stream_of m.out)) nets → count_of is_mul mid.cells ≡ count_of is_mul old.cells + 0 → count_of is_memory mid.cells ≤ count_of is_memory old.cells + (gather_part m).most_memories → (AreWhole old.cells → AreWhole mid.cells)
+pub result_adds : (old mid new : Circuit) (m : Move) (whole : ℕ) (nets : List NetId) → AreNets mid.cells (stream_widths (stream_of m.out)) nets
+    → count_of is_mul mid.cells ≡ count_of is_mul old.cells + 0 → count_of is_memory mid.cells ≤ count_of is_memory old.cells + (gather_part m).most_memories
+    → (AreWhole old.cells → AreWhole mid.cells)
     → Adds mid new 0 (length nets * rings (whole - move_latency m)) → Adds old new 0 (result_mems whole m)
 result_adds old mid new m whole nets there muls memories sound more =
-    let delay : length nets * rings (whole - move_latency m) ≡ columns_of m.out * rings (whole - move_latency m) = ap (λ n. n * rings (whole - move_latency m)) (columns_long mid.cells m.out nets there) in
+    let delay : length nets * rings (whole - move_latency m) ≡ columns_of m.out * rings (whole - move_latency m) = ap (λ n. n * rings (whole - move_latency m))
+    (columns_long mid.cells m.out nets there) in
     record { muls = omega (arith, muls, more.muls); memories = omega (arith, memories, more.memories, delay); whole = λ h. more.whole (sound h) }
 
 -- the law of the move, so much later
-pub result_late : (mid new : Circuit) (rst then_rst : ℕ) (m : Move) (whole : ℕ) (args : List (List NetId)) (nets late : List NetId) → IsMove m → move_latency m ≤ whole → then_rst ≡ rst → Extends mid.cells new.cells
-    → AreNets mid.cells (stream_widths (stream_of m.out)) nets → KeepsLaw mid.cells rst 0 (gather_part m) args nets → AreNets new.cells (stream_widths (stream_of m.out)) late → AreLate new.cells then_rst (whole - move_latency m) nets late
+pub result_late : (mid new : Circuit) (rst then_rst : ℕ) (m : Move) (whole : ℕ) (args : List (List NetId)) (nets late : List NetId) → IsMove m
+    → move_latency m ≤ whole → then_rst ≡ rst → Extends mid.cells new.cells
+    → AreNets mid.cells (stream_widths (stream_of m.out)) nets → KeepsLaw mid.cells rst 0 (gather_part m) args nets
+    → AreNets new.cells (stream_widths (stream_of m.out)) late → AreLate new.cells then_rst (whole - move_latency m) nets late
     → IsLateResult new.cells rst whole m args late
 result_late mid new rst then_rst m whole args nets late is le same up there law now lateness =
     let sum : move_latency m + (whole - move_latency m) ≡ whole = omega (arith, le) in
@@ -63,9 +69,12 @@ result_late mid new rst then_rst m whole args nets late is le same up there law 
       law = λ all e run r start reset.
           (let waves = map (wave_of run start) args in
           let own = law all (extends_trans up e) run r start reset in
-          let plain = law_as (length run - start) 0 (time m.out) (move_latency m) (streams_of m.ins) (stream_of m.out) means (gather_part m) waves (wave_of run start nets) refl refl refl refl (λ vs h. refl) own in
-          let made = delayed (length run - start) 0 (time m.out) (move_latency m) (whole - move_latency m) (streams_of m.ins) (stream_of m.out) means waves (wave_of run start nets) (wave_of run start late) (within_time m is) (shift all e run r start reset) plain in
-          subst (λ (d : ℕ). BlockLaw (length run - start) 0 (plain_part (time m.out) d (streams_of m.ins) (stream_of m.out) means) waves (wave_of run start late)) sum made);
+          let plain = law_as (length run - start) 0 (time m.out) (move_latency m) (streams_of m.ins) (stream_of m.out) means (gather_part m) waves
+          (wave_of run start nets) refl refl refl refl (λ vs h. refl) own in
+          let made = delayed (length run - start) 0 (time m.out) (move_latency m) (whole - move_latency m) (streams_of m.ins) (stream_of m.out) means waves
+          (wave_of run start nets) (wave_of run start late) (within_time m is) (shift all e run r start reset) plain in
+          subst (λ (d : ℕ). BlockLaw (length run - start) 0 (plain_part (time m.out) d (streams_of m.ins) (stream_of m.out) means) waves
+          (wave_of run start late)) sum made);
     }
 
 -- ---- one result more
@@ -73,11 +82,15 @@ result_late mid new rst then_rst m whole args nets late is le same up there law 
 pub results_none : (cells : List SizedCell) (rst whole : ℕ) (ms : List Move) (args : List (List NetId)) → AreLateResults cells rst whole ms 0 args []
 results_none cells rst whole ms args = record { long = refl; each = λ r m nets f g. absurd (let no : r < 0 = slice_get_within [] r nets g in omega arith) }
 
-result_later : {a b : List SizedCell} {rst whole : ℕ} {m : Move} {args : List (List NetId)} {nets : List NetId} → Extends a b → IsLateResult a rst whole m args nets → IsLateResult b rst whole m args nets
-result_later {a} {b} {rst} {whole} {m} {args} {nets} up h = record { there = nets_grow up h.there; law = law_grows rst 0 (late_part whole m) args nets up h.law }
+result_later : {a b : List SizedCell} {rst whole : ℕ} {m : Move} {args : List (List NetId)} {nets : List NetId} → Extends a b
+    → IsLateResult a rst whole m args nets → IsLateResult b rst whole m args nets
+result_later {a} {b} {rst} {whole} {m} {args} {nets} up h =
+    record { there = nets_grow up h.there; law = law_grows rst 0 (late_part whole m) args nets up h.law }
 
-pub results_next : (mid new : Circuit) (rst then_rst whole : ℕ) (ms : List Move) (k : ℕ) (m : Move) (args bundles more : List (List NetId)) (nets : List NetId) → slice_get ms k ≡ Some m → then_rst ≡ rst → more ≡ bundles ++ nets ∷ [] → Extends mid.cells new.cells
-    → AreLateResults mid.cells rst whole ms k args bundles → IsLateResult new.cells then_rst whole m args nets → AreLateResults new.cells rst whole ms (k + 1) args more
+pub results_next : (mid new : Circuit) (rst then_rst whole : ℕ) (ms : List Move) (k : ℕ) (m : Move) (args bundles more : List (List NetId)) (nets : List NetId)
+    → slice_get ms k ≡ Some m → then_rst ≡ rst → more ≡ bundles ++ nets ∷ [] → Extends mid.cells new.cells
+    → AreLateResults mid.cells rst whole ms k args bundles → IsLateResult new.cells then_rst whole m args nets
+    → AreLateResults new.cells rst whole ms (k + 1) args more
 results_next mid new rst then_rst whole ms k m args bundles more nets found same is up was own =
     subst (AreLateResults new.cells rst whole ms (k + 1) args) (sym is) (record {
       long = length-append bundles (nets ∷ []) ∙ (let e : length bundles + 1 ≡ k + 1 = omega (arith, was.long) in e);
@@ -91,8 +104,10 @@ results_next mid new rst then_rst whole ms k m args bundles more nets found same
       ];
     })
 
-pub load_next : (ms : List Move) (k whole : ℕ) (m : Move) → slice_get ms k ≡ Some m → sum_by (result_load whole) (take k ms) + result_load whole m ≤ sum_by (result_load whole) (take (k + 1) ms)
+pub load_next : (ms : List Move) (k whole : ℕ) (m : Move) → slice_get ms k ≡ Some m
+    → sum_by (result_load whole) (take k ms) + result_load whole m ≤ sum_by (result_load whole) (take (k + 1) ms)
 load_next ms k whole m found = omega (arith, sum_next (result_load whole) ms k m found)
 
-pub mems_next : (ms : List Move) (k whole : ℕ) (m : Move) → slice_get ms k ≡ Some m → sum_by (result_mems whole) (take k ms) + result_mems whole m ≤ sum_by (result_mems whole) (take (k + 1) ms)
+pub mems_next : (ms : List Move) (k whole : ℕ) (m : Move) → slice_get ms k ≡ Some m
+    → sum_by (result_mems whole) (take k ms) + result_mems whole m ≤ sum_by (result_mems whole) (take (k + 1) ms)
 mems_next ms k whole m found = omega (arith, sum_next (result_mems whole) ms k m found)

@@ -34,9 +34,11 @@ use Rattle.ae_fuse.proofs.Moves.{traced, pair-at, is-move}
 
 pub traced-words : TracedWords
 traced-words p slowdown ins outs vs moves typed some layouts values r s found =
-    words-by-trace p slowdown ins vs moves (are-laid slowdown some (parameter_types p) ins (λ i t f. param-sized p typed.accepted (slice_get p.funcs (main_of p)) refl i t f) layouts.parameters) values r
+    words-by-trace p slowdown ins vs moves (are-laid slowdown some (parameter_types p) ins
+    (λ i t f. param-sized p typed.accepted (slice_get p.funcs (main_of p)) refl i t f) layouts.parameters) values r
 
-pub is-main : (p : ProgramTree) (slowdown : ℕ) (instances : List StFuncTree) (f : FuncTree) (s : StFuncTree) → is_movement p ≡ true → IsTyped p → IsSchedule p slowdown instances
+pub is-main : (p : ProgramTree) (slowdown : ℕ) (instances : List StFuncTree) (f : FuncTree) (s : StFuncTree) → is_movement p ≡ true → IsTyped p
+    → IsSchedule p slowdown instances
     → slice_get p.funcs (main_of p) ≡ Some f → slice_get instances (length instances - 1) ≡ Some s → IsMain p instances f s
 is-main p slowdown instances f s moves typed h there last =
     let own : are_movements f.nodes ≡ true = sym (ap is_movement_func there) ∙ moves in
@@ -53,13 +55,15 @@ is-main p slowdown instances f s moves typed h there last =
 
 pub labels-are-traced : LabelsAreTraced
 labels-are-traced p slowdown instances f s moves typed h there last =
-    subst (λ ts. item_words [] s (map flat (numbered 1 ts)) ≡ map flat (item_values [] f (numbered 1 ts))) (sym (ap types_in there)) (all-labels p instances f s (is-main p slowdown instances f s moves typed h there last))
+    subst (λ ts. item_words [] s (map flat (numbered 1 ts)) ≡ map flat (item_values [] f (numbered 1 ts))) (sym (ap types_in there))
+    (all-labels p instances f s (is-main p slowdown instances f s moves typed h there last))
 
 func-there : (o : Option FuncTree) → is_movement_func o ≡ true → (f : FuncTree) × (o ≡ Some f)
 func-there None h = absurd (cc)
 func-there (Some f) h = (f, refl)
 
-module _ (p : ProgramTree) (slowdown : ℕ) (instances : List StFuncTree) (ins outs : List StTree) (moves : is_movement p ≡ true) (typed : IsTyped p) (h : IsSchedule p slowdown instances)
+module _ (p : ProgramTree) (slowdown : ℕ) (instances : List StFuncTree) (ins outs : List StTree) (moves : is_movement p ≡ true) (typed : IsTyped p)
+    (h : IsSchedule p slowdown instances)
     (some : 0 < slowdown) (few : slowdown ≤ 4096) (layouts : HaveLayouts p slowdown ins outs) (r : ℕ) (s : StTree) (found : slice_get outs r ≡ Some s) where
   main_func : (f : FuncTree) × (slice_get p.funcs (main_of p) ≡ Some f)
   main_func = func-there (slice_get p.funcs (main_of p)) moves
@@ -105,11 +109,13 @@ module _ (p : ProgramTree) (slowdown : ℕ) (instances : List StFuncTree) (ins o
       let own = is-laid t slowdown s sized some lay in
       let at_item : slice_get (all_types p h.last.instance.func) result_item.0 ≡ Some t =
       ap (λ k. slice_get (all_types p k) result_item.0) instance_is.is_main ∙ sym (type-at-is p (main_of p) result_item.0 typed) ∙ type in
-      let made = is-move p slowdown instances g h.last.instance instance_is ins some few (ap types_in main_func.1) layouts.parameters result_item.0 t at_item s own (laid_in_size t slowdown s sized some few lay) in
+      let made = is-move p slowdown instances g h.last.instance instance_is ins some few
+      (ap types_in main_func.1) layouts.parameters result_item.0 t at_item s own (laid_in_size t slowdown s sized some few lay) in
       subst (λ v. IsMove (traced_move (parameter_types p) ins s v)) (sym traced-item) made)
 
 pub traced-moves : TracedMoves
-traced-moves p slowdown instances ins outs moves typed h some few layouts r s found = move-of-result p slowdown instances ins outs moves typed h some few layouts r s found
+traced-moves p slowdown instances ins outs moves typed h some few layouts r s found =
+    move-of-result p slowdown instances ins outs moves typed h some few layouts r s found
 
 -- ---- the latency
 
@@ -119,7 +125,8 @@ moves-same ts ins layout value [] = refl
 moves-same ts ins layout value (i ∷ is) = ap (λ ms. traced_move ts ins (layout i) (value i) ∷ ms) (moves-same ts ins layout value is)
 
 -- the moves of the traced results are those of their items
-pub moves-traced : (p : ProgramTree) (slowdown : ℕ) (instances : List StFuncTree) (f : FuncTree) (s : StFuncTree) → is_movement p ≡ true → IsTyped p → IsSchedule p slowdown instances
+pub moves-traced : (p : ProgramTree) (slowdown : ℕ) (instances : List StFuncTree) (f : FuncTree) (s : StFuncTree) → is_movement p ≡ true → IsTyped p
+    → IsSchedule p slowdown instances
     → slice_get p.funcs (main_of p) ≡ Some f → slice_get instances (length instances - 1) ≡ Some s
     → traced_moves (parameter_types p) s.ins (map (item_layout (item_layouts s)) s.results) (trace p) ≡ map (item_move f s) f.results
 moves-traced p slowdown instances f s moves typed h there last =
@@ -139,4 +146,5 @@ moves-traced p slowdown instances f s moves typed h there last =
     (λ i. traced_moves (types_same i) s.ins (map layout (results_same i)) (traced_is i)) ∙ moves-same (param_types f) s.ins layout value f.results
 
 pub latency-is-least : LatencyIsLeast
-latency-is-least p slowdown instances f s moves typed h there last = sym (ap (greatest move_latency) (moves-traced p slowdown instances f s moves typed h there last))
+latency-is-least p slowdown instances f s moves typed h there last =
+    sym (ap (greatest move_latency) (moves-traced p slowdown instances f s moves typed h there last))

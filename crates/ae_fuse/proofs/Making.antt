@@ -30,7 +30,8 @@ use Rattle.ae_fuse.specs.Lowered.{MakesMoves, MovesMakeBlocks}
 whole-sized : (t : SeqTree) → IsTrue (in_size t) → IsTrue (parts_in_size t)
 whole-sized t h = grind (arith, nat_tests)
 
-all-out : (slowdown : ℕ) (ts : List SeqTree) (ss : List StTree) → ((i : ℕ) (t : SeqTree) → slice_get ts i ≡ Some t → IsTrue (in_size t)) → map (λ t. lay_of t slowdown) ts ≡ map (λ (s : StTree). Some s) ss → AllLaidOut ts ss
+all-out : (slowdown : ℕ) (ts : List SeqTree) (ss : List StTree) → ((i : ℕ) (t : SeqTree) → slice_get ts i ≡ Some t → IsTrue (in_size t))
+    → map (λ t. lay_of t slowdown) ts ≡ map (λ (s : StTree). Some s) ss → AllLaidOut ts ss
 all-out slowdown [] [] sized h = tt
 all-out slowdown [] (s ∷ ss) sized h = absurd (let e : [] ≡ Some s ∷ map (λ s. Some s) ss = h in cc)
 all-out slowdown (t ∷ ts) [] sized h = absurd (let e : lay_of t slowdown ∷ map (λ t. lay_of t slowdown) ts ≡ [] = h in cc)
@@ -40,7 +41,8 @@ all-out slowdown (t ∷ ts) (s ∷ ss) sized h =
     let rest : map (λ t. lay_of t slowdown) ts ≡ map (λ s. Some s) ss = cc in
     (lays-out t slowdown s (whole-sized t (sized 0 t refl)) first, all-out slowdown ts ss (λ i u f. sized (suc i) u f) rest)
 
-module _ (p : ProgramTree) (slowdown latency : ℕ) (ins outs : List StTree) (n : Circuit) (moves : is_movement p ≡ true) (some : 0 < slowdown) (layouts : HaveLayouts p slowdown ins outs)
+module _ (p : ProgramTree) (slowdown latency : ℕ) (ins outs : List StTree) (n : Circuit) (moves : is_movement p ≡ true) (some : 0 < slowdown)
+    (layouts : HaveLayouts p slowdown ins outs)
     (sized : (i : ℕ) (t : SeqTree) → slice_get (parameter_types p) i ≡ Some t → IsTrue (in_size t)) (makes : MakesMoves p slowdown latency ins outs n) where
   laid : AllLaidOut (parameter_types p) ins
   laid = all-out slowdown (parameter_types p) ins sized layouts.parameters
@@ -52,11 +54,14 @@ module _ (p : ProgramTree) (slowdown latency : ℕ) (ins outs : List StTree) (n 
       let law = makes run start runs reset r s found in
       let z : 0 + b * slowdown ≡ b * slowdown = omega arith in
       let y : 0 + latency + b * slowdown ≡ latency + b * slowdown = omega arith in
-      let ours : AllHold (b * slowdown) (streams_of ins) (input_waves run start 1 (streams_of ins)) (map flat block) = inputs_held run start (b * slowdown) ins block (as_many_values (parameter_types p) ins block laid values) held in
-      let args : AllHold (0 + b * slowdown) (streams_of ins) (input_waves run start 1 (streams_of ins)) (map flat block) = subst (λ k. AllHold k (streams_of ins) (input_waves run start 1 (streams_of ins)) (map flat block)) (sym z) ours in
+      let ours : AllHold (b * slowdown) (streams_of ins) (input_waves run start 1 (streams_of ins)) (map flat block) = inputs_held run start
+      (b * slowdown) ins block (as_many_values (parameter_types p) ins block laid values) held in
+      let args : AllHold (0 + b * slowdown) (streams_of ins) (input_waves run start 1 (streams_of ins)) (map flat block) = subst
+      (λ k. AllHold k (streams_of ins) (input_waves run start 1 (streams_of ins)) (map flat block)) (sym z) ours in
       let made = law.makes b (map flat block) (omega arith) (all_words (parameter_types p) ins block laid values) args in
       let own : List ℕ = map (origin_word ins (map flat block)) (traced_move (parameter_types p) ins s (at (trace p) r)).origins in
-      let words : own ≡ flat (at (mean p block) r) = words-by-trace p slowdown ins block moves (are-laid slowdown some (parameter_types p) ins sized layouts.parameters) values r in
+      let words : own ≡ flat (at (mean p block) r) = words-by-trace p slowdown ins block moves
+      (are-laid slowdown some (parameter_types p) ins sized layouts.parameters) values r in
       let out : ℕ → Wave = λ c. output_wave run n.outlets start c in
       let first : columns_in (take r (streams_of outs)) ≡ first_column outs r = sym (first_columns outs r) in
       let here : HoldsWords (latency + b * slowdown) (stream_of s) (out (first_column outs r)) (flat (at (mean p block) r)) =
@@ -66,7 +71,10 @@ module _ (p : ProgramTree) (slowdown latency : ℕ) (ins outs : List StTree) (n 
       subst (λ w. Holds (out (first_column outs r)) (latency + b * slowdown) w (slots s) (flat (at (mean p block) r))) (element_columns s) here
 
   makes-blocks : MakesBlocks n p slowdown latency ins outs
-  makes-blocks = record { makes = λ run start b block runs reset room values held. record { each = λ r s found. result_holds run start b r s block runs reset found room values held } }
+  makes-blocks = record {
+    makes = λ run start b block runs reset room values held.
+        record { each = λ r s found. result_holds run start b r s block runs reset found room values held };
+  }
 
 pub moves-make-blocks : MovesMakeBlocks
 moves-make-blocks p slowdown latency ins outs n moves typed some layouts makes =

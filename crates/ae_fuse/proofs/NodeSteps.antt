@@ -21,7 +21,8 @@ pub map-along : {X : Type 0} (f g : ℕ → X) (xs : List ℕ) → ((k x : ℕ) 
 map-along f g [] h = refl
 map-along f g (x ∷ xs) h = λ i. h 0 x refl i ∷ map-along f g xs (λ k y found. h (suc k) y found) i
 
-pub node-agree : (layouts : List StTree) (ls ms : List (List ℕ)) (n : StNodeTree) → ((i a : ℕ) → slice_get n.args i ≡ Some a → words_at ls a ≡ words_at ms a) → node_words [] layouts ls n ≡ node_words [] layouts ms n
+pub node-agree : (layouts : List StTree) (ls ms : List (List ℕ)) (n : StNodeTree) → ((i a : ℕ) → slice_get n.args i ≡ Some a → words_at ls a ≡ words_at ms a)
+    → node_words [] layouts ls n ≡ node_words [] layouts ms n
 node-agree layouts ls ms n h = λ k. op_words [] (map (item_layout layouts) n.args) n.type n.op (map-along (words_at ls) (words_at ms) n.args h k)
 
 range-agree : (f g : ℕ → ℕ) (k n : ℕ) → ((i : ℕ) → k ≤ i → i < k + n → f i ≡ g i) → map f (range_with_len k n) ≡ map g (range_with_len k n)
@@ -40,7 +41,8 @@ module _ (s : StFuncTree) (h : IsMovable s) where
   pub front : (a : ℕ) → a < length s.ins → words_at (layout_numbers 1 s.ins) a ≡ words_at (own_labels s) a
   front a low =
       let there = slice_get-get_or (layout_numbers 1 s.ins) a [] (omega (arith, low, numbers-many 1 s.ins)) in
-      sym (get_or_from_slice_get (own_labels s) a (words_at (layout_numbers 1 s.ins) a) [] (grown-front (node_words [] (item_layouts s)) (layout_numbers 1 s.ins) s.nodes a (words_at (layout_numbers 1 s.ins) a) there))
+      sym (get_or_from_slice_get (own_labels s) a (words_at (layout_numbers 1 s.ins) a) []
+      (grown-front (node_words [] (item_layouts s)) (layout_numbers 1 s.ins) s.nodes a (words_at (layout_numbers 1 s.ins) a) there))
 
   pub full-long : (a : ℕ) → a < length (item_layouts s) → length (words_at (own_labels s) a) ≡ layout_words (item_layout (item_layouts s) a)
   full-long a low =
@@ -49,7 +51,8 @@ module _ (s : StFuncTree) (h : IsMovable s) where
 
   pub move-agree : (labels : List (List ℕ)) (a : ℕ) → words_at labels a ≡ words_at (own_labels s) a → a < length (item_layouts s) → IsMove (own_move s labels a)
   move-agree labels a same low =
-      subst (λ (ws : List ℕ). IsMove (record { ins = s.ins; out = item_layout (item_layouts s) a; origins = map (labelled_origin s.ins) ws })) (sym same) (h.moves a low)
+      subst (λ (ws : List ℕ). IsMove (record { ins = s.ins; out = item_layout (item_layouts s) a; origins = map (labelled_origin s.ins) ws })) (sym same)
+      (h.moves a low)
 
   module _ (j : ℕ) (n : StNodeTree) (found : slice_get s.nodes j ≡ Some n) where
     low-node : j < length s.nodes
@@ -64,7 +67,8 @@ module _ (s : StFuncTree) (h : IsMovable s) where
         let first = layout_numbers 1 s.ins in
         let e = entry step first s.nodes j n found in
         let many : length first ≡ length s.ins = numbers-many 1 s.ins in
-        let own : words_at (own_labels s) (length first + j) ≡ step e.before n = get_or_from_slice_get (own_labels s) (length first + j) (step e.before n) [] e.is in
+        let own : words_at (own_labels s) (length first + j) ≡ step e.before n = get_or_from_slice_get (own_labels s) (length first + j) (step e.before n)
+        [] e.is in
         node-agree (item_layouts s) (own_labels s) e.before n (λ i a at.
         (let below = h.words.args j i a n found at in
         let low : a < length e.before = omega (arith, below, e.long, many) in
@@ -75,7 +79,8 @@ module _ (s : StFuncTree) (h : IsMovable s) where
     pub size-here : IsInSize n.type
     size-here = subst IsInSize (layout-of-node s j n found) (h.words.sizes (length s.ins + j) place-low)
 
-    pub ready-here : (ls : List (List ℕ)) → length ls ≡ length s.ins + j → ((i a : ℕ) → slice_get n.args i ≡ Some a → words_at ls a ≡ words_at (own_labels s) a) → IsReady s n ls
+    pub ready-here : (ls : List (List ℕ)) → length ls ≡ length s.ins + j
+        → ((i a : ℕ) → slice_get n.args i ≡ Some a → words_at ls a ≡ words_at (own_labels s) a) → IsReady s n ls
     ready-here ls many same = record {
       before = h.words.before;
       fits = h.words.fits j n found;
@@ -87,15 +92,18 @@ module _ (s : StFuncTree) (h : IsMovable s) where
     }
 
     -- what the node makes of labels that its arguments have
-    pub own-here : (ls : List (List ℕ)) → ((i a : ℕ) → slice_get n.args i ≡ Some a → words_at ls a ≡ words_at (own_labels s) a) → node_words [] (item_layouts s) ls n ≡ words_at (own_labels s) (length s.ins + j)
+    pub own-here : (ls : List (List ℕ)) → ((i a : ℕ) → slice_get n.args i ≡ Some a → words_at ls a ≡ words_at (own_labels s) a)
+        → node_words [] (item_layouts s) ls n ≡ words_at (own_labels s) (length s.ins + j)
     own-here ls same = node-agree (item_layouts s) ls (own_labels s) n same ∙ node-own
 
     pub long-here : length (words_at (own_labels s) (length s.ins + j)) ≡ layout_words n.type
     long-here = full-long (length s.ins + j) place-low ∙ ap layout_words (layout-of-node s j n found)
 
   -- one item more, and labels that are let go of
-  pub live-next : (last : List ℕ) (j : ℕ) (ls freed kept : List (List ℕ)) (own : List ℕ) → length ls ≡ length s.ins + j → ((a : ℕ) → j < get_or last a 0 → a < length ls → words_at ls a ≡ words_at (own_labels s) a)
-      → own ≡ words_at (own_labels s) (length s.ins + j) → KeepWanted last j (ls ++ own ∷ []) freed → KeepWanted last j freed kept → (a : ℕ) → j + 1 < get_or last a 0 → a < length kept → words_at kept a ≡ words_at (own_labels s) a
+  pub live-next : (last : List ℕ) (j : ℕ) (ls freed kept : List (List ℕ)) (own : List ℕ) → length ls ≡ length s.ins + j
+      → ((a : ℕ) → j < get_or last a 0 → a < length ls → words_at ls a ≡ words_at (own_labels s) a)
+      → own ≡ words_at (own_labels s) (length s.ins + j) → KeepWanted last j (ls ++ own ∷ []) freed → KeepWanted last j freed kept → (a : ℕ)
+      → j + 1 < get_or last a 0 → a < length kept → words_at kept a ≡ words_at (own_labels s) a
   live-next last j ls freed kept own many live is one two a wanted low =
       two.same a wanted ∙ one.same a wanted ∙ elim (cases_lt a (length ls)) [
         | inl lt ↦ get_or_append_left ls (own ∷ []) [] a lt ∙ live a (omega (arith, wanted)) lt

@@ -23,14 +23,16 @@ abbrev pub a_move : List StTree → StTree → List OriginTree → Move
 a_move ins out os = record { ins = ins; out = out; origins = os }
 
 -- the move of an item, as the code has it
-pub own-is : (s : StFuncTree) (ls : List (List ℕ)) (i : ℕ) (ins : List StTree) (out : StTree) (os : List OriginTree) (own : List ℕ) → ins ≡ s.ins → out ≡ item_layout (item_layouts s) i → own ≡ words_at ls i → os ≡ map (labelled_origin ins) own
+pub own-is : (s : StFuncTree) (ls : List (List ℕ)) (i : ℕ) (ins : List StTree) (out : StTree) (os : List OriginTree) (own : List ℕ) → ins ≡ s.ins
+    → out ≡ item_layout (item_layouts s) i → own ≡ words_at ls i → os ≡ map (labelled_origin ins) own
     → a_move ins out os ≡ own_move s ls i
 own-is s ls i ins out os own e1 e2 e3 e4 = λ j. a_move (e1 j) (e2 j) ((e4 ∙ (λ k. map (labelled_origin (e1 k)) (e3 k))) j)
 
 pub arrivals-next : (f : ℕ → ℕ) (i x : ℕ) (old : List ℕ) → old ≡ map f (range_with_len 0 i) → x ≡ f i → old ++ x ∷ [] ≡ map f (range_with_len 0 (i + 1))
 arrivals-next f i x old was is = (λ j. was j ++ is j ∷ []) ∙ sym (map-range_with_len_more f 0 i i (omega arith))
 
-pub moves-next : (ins : List StTree) (f : ℕ → Move) (items : List ℕ) (r i : ℕ) (old : List FusedResult) (new : FusedResult) → slice_get items r ≡ Some i → map (result_move ins) old ≡ map f (take r items) → result_move ins new ≡ f i
+pub moves-next : (ins : List StTree) (f : ℕ → Move) (items : List ℕ) (r i : ℕ) (old : List FusedResult) (new : FusedResult) → slice_get items r ≡ Some i
+    → map (result_move ins) old ≡ map f (take r items) → result_move ins new ≡ f i
     → map (result_move ins) (old ++ new ∷ []) ≡ map f (take (r + 1) items)
 moves-next ins f items r i old new found was is =
     map_push (result_move ins) old new ∙ (λ j. was j ++ is j ∷ []) ∙ sym (map_push f (take r items) i) ∙ ap (map f) (sym (take_push items r i found))
@@ -53,7 +55,8 @@ get-first (y ∷ xs) x (suc k) c low f = get-first xs x k c (omega arith) f
 pub costs-none : AreAllCosts [] []
 costs-none = record { long = refl; each = λ k m c f g. cc }
 
-pub costs-next : (ms : List Move) (n : ℕ) (m : Move) (cs : List ResultCosts) (new : ResultCosts) → slice_get ms n ≡ Some m → AreAllCosts (take n ms) cs → AreCostsOf m new → AreAllCosts (take (n + 1) ms) (cs ++ new ∷ [])
+pub costs-next : (ms : List Move) (n : ℕ) (m : Move) (cs : List ResultCosts) (new : ResultCosts) → slice_get ms n ≡ Some m → AreAllCosts (take n ms) cs
+    → AreCostsOf m new → AreAllCosts (take (n + 1) ms) (cs ++ new ∷ [])
 costs-next ms n m cs new found was own =
     let low : n < length ms = slice_get_within ms n m found in
     let many : length cs ≡ n = was.long ∙ length-take-le n ms (omega (arith, low)) in

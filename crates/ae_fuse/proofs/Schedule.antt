@@ -48,7 +48,8 @@ numbers-are slowdown k [] (s ∷ ss) h = absurd h
 numbers-are slowdown k (t ∷ ts) [] h = absurd h
 numbers-are slowdown k (t ∷ ts) (s ∷ ss) h =
     let e : layout_words s ≡ words t = sym h.0.words in
-    let own : flat (value_of t (range_with_len k (words t))) ≡ range_with_len k (words t) = flat-value_of t (range_with_len k (words t)) (length-range_with_len k (words t)) in
+    let own : flat (value_of t (range_with_len k (words t))) ≡ range_with_len k (words t) = flat-value_of t (range_with_len k (words t))
+    (length-range_with_len k (words t)) in
     (λ i. range_with_len k (e i) ∷ layout_numbers (k + e i) ss) ∙ (λ i. sym own i ∷ numbers-are slowdown (k + words t) ts ss h.1 i)
 
 origins-at : (slowdown i : ℕ) (ts : List SeqTree) (ss : List StTree) (n : ℕ) → AreLaid slowdown ts ss → origin_at i ts n ≡ layout_origin i ss n
@@ -68,8 +69,10 @@ origins-are slowdown ts ss (suc n) h = origins-at slowdown 0 ts ss n h
 
 -- ---- the instance of the program function
 
-module _ (p : ProgramTree) (slowdown : ℕ) (instances : List StFuncTree) (f : FuncTree) (s : StFuncTree) (moves : is_movement p ≡ true) (typed : IsTyped p) (h : IsSchedule p slowdown instances)
-    (there : slice_get p.funcs (main_of p) ≡ Some f) (last : slice_get instances (length instances - 1) ≡ Some s) (some : 0 < slowdown) (few : slowdown ≤ 4096) where
+module _ (p : ProgramTree) (slowdown : ℕ) (instances : List StFuncTree) (f : FuncTree) (s : StFuncTree) (moves : is_movement p ≡ true) (typed : IsTyped p)
+    (h : IsSchedule p slowdown instances)
+    (there : slice_get p.funcs (main_of p) ≡ Some f) (last : slice_get instances (length instances - 1) ≡ Some s) (some : 0 < slowdown)
+    (few : slowdown ≤ 4096) where
   main : IsMain p instances f s
   main = is-main p slowdown instances f s moves typed h there last
 
@@ -96,7 +99,14 @@ module _ (p : ProgramTree) (slowdown : ℕ) (instances : List StFuncTree) (f : F
         args = λ j i a n found at.
             (let a_low = (own.nodes j n found).args i a at in
             let low = slice_get_within s.nodes j n found in
-            omega (arith, a_low, low, length-append s.ins (node_layouts (take j s.nodes)), length-map (take j s.nodes) (λ (m : StNodeTree). m.type), length-taken j s.nodes (omega (arith, low))));
+            omega (
+              arith,
+              a_low,
+              low,
+              length-append s.ins (node_layouts (take j s.nodes)),
+              length-map (take j s.nodes) (λ (m : StNodeTree). m.type),
+              length-taken j s.nodes (omega (arith, low)),
+            ));
         sizes = λ i low. (all_items (length instances - 1) s own i low).size;
       }
     where
@@ -109,7 +119,8 @@ module _ (p : ProgramTree) (slowdown : ℕ) (instances : List StFuncTree) (f : F
   types-same = ap some_types there
 
   lays : map (λ t. lay_of t slowdown) (param_types f) ≡ map (λ (x : StTree). Some x) s.ins
-  lays = map-map (λ t. lay_of t slowdown) (λ (q : ParamTree). q.type) f.params ∙ (λ i. param_layouts (sym budget i) (sym same-func i).params) ∙ main.instance.ins
+  lays = map-map (λ t. lay_of t slowdown) (λ (q : ParamTree). q.type) f.params ∙ (λ i. param_layouts (sym budget i) (sym same-func i).params) ∙
+      main.instance.ins
 
   laid : AreLaid slowdown (param_types f) s.ins
   laid = are-laid slowdown some (param_types f) s.ins main.sized lays
@@ -137,15 +148,19 @@ module _ (p : ProgramTree) (slowdown : ℕ) (instances : List StFuncTree) (f : F
   pub item-is-move : (i : ℕ) → i < length (item_layouts s) → IsMove (own_move s labels i)
   item-is-move i low =
       let long : length (item_layouts s) ≡ length (types_in p s.func) =
-      item_count_is p (HasKey (take (length instances - 1) instances)) s main.instance ∙ sym (count-items p s.func main.instance.of typed main.instance.known) in
+      item_count_is p (HasKey (take (length instances - 1) instances)) s main.instance ∙
+      sym (count-items p s.func main.instance.of typed main.instance.known) in
       let t = entry (types_in p s.func) i (omega (arith, long)) in
       let own = typed_item p (HasKey (take (length instances - 1) instances)) s main.instance i t.0 typed t.1 low in
       let lay : lay_of t.0 slowdown ≡ Some (item_layout (item_layouts s) i) = ap (lay_of t.0) (sym budget) ∙ own.laid in
       let whole : map (λ t. lay_of t slowdown) (parameter_types p) ≡ map (λ (x : StTree). Some x) s.ins = ap (map (λ t. lay_of t slowdown)) types-same ∙ lays in
-      let made = is-move p slowdown instances f s main s.ins some few types-same whole i t.0 t.1 (item_layout (item_layouts s) i) (is-laid t.0 slowdown (item_layout (item_layouts s) i) own.sized some lay)
+      let made = is-move p slowdown instances f s main s.ins some few types-same whole i t.0 t.1 (item_layout (item_layouts s) i)
+      (is-laid t.0 slowdown (item_layout (item_layouts s) i) own.sized some lay)
       (laid_in_size t.0 slowdown (item_layout (item_layouts s) i) own.sized some few lay) in
-      let same : map (origin_numbered (parameter_types p)) (flat (at values i)) ≡ map (origin_numbered (param_types f)) (flat (at values i)) = ap (λ ts. map (origin_numbered ts) (flat (at values i))) types-same in
-      let there_is : IsMove (item_move f s i) = subst (λ (os : List OriginTree). IsMove (record { ins = s.ins; out = item_layout (item_layouts s) i; origins = os })) same made in
+      let same : map (origin_numbered (parameter_types p)) (flat (at values i)) ≡ map (origin_numbered (param_types f)) (flat (at values i)) = ap
+      (λ ts. map (origin_numbered ts) (flat (at values i))) types-same in
+      let there_is : IsMove (item_move f s i) = subst (λ (os : List OriginTree). IsMove
+      (record { ins = s.ins; out = item_layout (item_layouts s) i; origins = os })) same made in
       subst IsMove (items-are i) there_is
     where
       entry : (us : List SeqTree) (i : ℕ) → i < length us → (t : SeqTree) × (slice_get us i ≡ Some t)

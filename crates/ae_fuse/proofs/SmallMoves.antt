@@ -51,14 +51,24 @@ clock_small m h n t f =
     rw (← x.1) (omega (arith, h.out.in_time, below))
 
 column_small : (m : Move) (q : ℕ) → IsMove m → column_delay (move_latency m) q (move_trips m) ≤ 8191
-column_small m q h = lead_le (λ (t : TripTree). age_from (move_latency m) q t.clock t.source) 0 8191 (move_trips m) (omega arith) (λ t n f. age_small (move_latency m) q t.clock t.source (latency_small m h) (clock_small m h n t f))
+column_small m q h =
+    lead_le (λ (t : TripTree). age_from (move_latency m) q t.clock t.source) 0 8191 (move_trips m) (omega arith)
+    (λ t n f. age_small (move_latency m) q t.clock t.source (latency_small m h) (clock_small m h n t f))
 
 runs_few : (m : Move) (q : ℕ) → IsMove m → column_runs (move_latency m) q (move_trips m) ≤ 16384
 runs_few m q h =
     let all : ℕ = st_atoms m.out * element_words m.out in
     let long : length (move_trips m) ≡ all = length-map-range_with_len (trip_number m.ins m.out m.origins) 0 all in
-    let some : length (choices_of (move_latency m) q (move_trips m)) ≡ length (filter (λ (t : TripTree). nat_eq t.column q) (move_trips m)) = length-map (filter (λ (t : TripTree). nat_eq t.column q) (move_trips m)) _ in
-    omega (arith, stretches_few (choices_of (move_latency m) q (move_trips m)), some, filter_few (λ (t : TripTree). nat_eq t.column q) (move_trips m), long, h.out.in_words)
+    let some : length (choices_of (move_latency m) q (move_trips m)) ≡ length (filter (λ (t : TripTree). nat_eq t.column q) (move_trips m)) = length-map
+    (filter (λ (t : TripTree). nat_eq t.column q) (move_trips m)) _ in
+    omega (
+      arith,
+      stretches_few (choices_of (move_latency m) q (move_trips m)),
+      some,
+      filter_few (λ (t : TripTree). nat_eq t.column q) (move_trips m),
+      long,
+      h.out.in_words,
+    )
 
 rings_le : (a : ℕ) → rings a ≤ a
 rings_le a = elim (cases_lt a 8) [
@@ -82,10 +92,12 @@ is-small m h few =
     let d : ℕ = move_latency m in
     let ins : ℕ = sum_by columns_of m.ins in
     let kept : delay_of d ins (move_trips m) ≤ ins * 8191 = sum_at_most (λ q. column_delay d q (move_trips m)) 8191 0 ins (λ q. column_small m q h) in
-    let run : runs_of d (columns_of m.out) (move_trips m) ≤ columns_of m.out * 16384 = sum_at_most (λ q. column_runs d q (move_trips m)) 16384 0 (columns_of m.out) (λ q. runs_few m q h) in
+    let run : runs_of d (columns_of m.out) (move_trips m) ≤ columns_of m.out * 16384 = sum_at_most (λ q. column_runs d q (move_trips m)) 16384 0
+    (columns_of m.out) (λ q. runs_few m q h) in
     record {
       latency = latency_small m h;
       delay = omega (arith, kept);
       runs = omega (arith, run, columns_small m.out h.out);
-      mems = sum_below (λ q. column_mems (time m.out) d q (move_trips m)) (λ q. column_delay d q (move_trips m)) 0 ins (λ q. mems_le (is_held (time m.out) d q (move_trips m)) (column_delay d q (move_trips m)));
+      mems = sum_below (λ q. column_mems (time m.out) d q (move_trips m)) (λ q. column_delay d q (move_trips m)) 0 ins
+          (λ q. mems_le (is_held (time m.out) d q (move_trips m)) (column_delay d q (move_trips m)));
     }

@@ -23,12 +23,14 @@ early (y ∷ xs) (suc n) (suc k) x lt f = early xs n k x (omega arith) f
 pub raised-none : (to : ℕ) (old : List ℕ) → AreRaised [] to old old
 raised-none to old = record { long = refl; keeps = λ a. omega arith; raised = λ i a f. cc }
 
-pub raised-next : (items : List ℕ) (k a to : ℕ) (old now : List ℕ) → slice_get items k ≡ Some a → a < length now → AreRaised (take k items) to old now → AreRaised (take (k + 1) items) to old (slice_set now a (max (get_or now a 0) to))
+pub raised-next : (items : List ℕ) (k a to : ℕ) (old now : List ℕ) → slice_get items k ≡ Some a → a < length now → AreRaised (take k items) to old now
+    → AreRaised (take (k + 1) items) to old (slice_set now a (max (get_or now a 0) to))
 raised-next items k a to old now found low was =
     let m = max (get_or now a 0) to in
     let new = slice_set now a m in
     let grows : (b : ℕ) → get_or now b 0 ≤ get_or new b 0 = λ b. elim (cases_eq b a) [
-      | inl e ↦ (let is : get_or new b 0 ≡ m = get_or-set_at now a b m 0 e low in let same : get_or now b 0 ≡ get_or now a 0 = ap (λ i. get_or now i 0) e in omega (arith, is, same))
+      | inl e ↦ (let is : get_or new b 0 ≡ m = get_or-set_at now a b m 0 e low in let same : get_or now b 0 ≡ get_or now a 0 = ap (λ i. get_or now i 0) e in
+          omega (arith, is, same))
       | inr n ↦ (let is : get_or new b 0 ≡ get_or now b 0 = get_or-set_other now a b m 0 n in omega (arith, is))
     ] in
     let here : get_or new a 0 ≡ m = get_or-set_at now a a m 0 refl low in
@@ -39,7 +41,8 @@ raised-next items k a to old now found low was =
           (let at = taken-at items (k + 1) i b f in
           elim (cases_lt i k) [
             | inl lt ↦ omega (arith, was.raised i b (early items k i b lt at.1), grows b)
-            | inr ge ↦ (let e : i ≡ k = omega (arith, ge, at.0) in let same : a ≡ b = same_Some a b (sym found ∙ ap (slice_get items) (sym e) ∙ at.1) in let is : get_or new b 0 ≡ m = ap (λ i. get_or new i 0) (sym same) ∙ here in omega (arith, is))
+            | inr ge ↦ (let e : i ≡ k = omega (arith, ge, at.0) in let same : a ≡ b = same_Some a b (sym found ∙ ap (slice_get items) (sym e) ∙ at.1) in
+                let is : get_or new b 0 ≡ m = ap (λ i. get_or new i 0) (sym same) ∙ here in omega (arith, is))
           ]);
     }
 

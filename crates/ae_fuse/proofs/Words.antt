@@ -29,11 +29,13 @@ pub record HasLayout (slowdown : ℕ) (ss : List StTree) (k : ℕ) (t : SeqTree)
   pub found : slice_get ss k ≡ Some layout
   pub laid : IsLaid t slowdown layout
 
-pub layout-there : (slowdown : ℕ) (ts : List SeqTree) (ss : List StTree) → AreLaid slowdown ts ss → (k : ℕ) (t : SeqTree) → slice_get ts k ≡ Some t → HasLayout slowdown ss k t
+pub layout-there : (slowdown : ℕ) (ts : List SeqTree) (ss : List StTree) → AreLaid slowdown ts ss → (k : ℕ) (t : SeqTree) → slice_get ts k ≡ Some t
+    → HasLayout slowdown ss k t
 layout-there slowdown [] ss h k t f = absurd (let e : None ≡ Some t = f in cc)
 layout-there slowdown (x ∷ ts) [] h k t f = absurd h
 layout-there slowdown (x ∷ ts) (s ∷ ss) h zero t f = (let e : x ≡ t = cc in record { layout = s; found = refl; laid = subst (λ y. IsLaid y slowdown s) e h.0 })
-layout-there slowdown (x ∷ ts) (s ∷ ss) h (suc k) t f = (let r = layout-there slowdown ts ss h.1 k t f in record { layout = r.layout; found = r.found; laid = r.laid })
+layout-there slowdown (x ∷ ts) (s ∷ ss) h (suc k) t f =
+    (let r = layout-there slowdown ts ss h.1 k t f in record { layout = r.layout; found = r.found; laid = r.laid })
 
 pub index-there : (ss : List StTree) (k : ℕ) (s e : StTree) → slice_get ss k ≡ Some s → get_or ss k e ≡ s
 index-there [] k s e f = absurd (let h : None ≡ Some s = f in cc)
@@ -47,10 +49,12 @@ module _ (slowdown : ℕ) (ts : List SeqTree) (ins : List StTree) (laid : AreLai
       let size : atom_words (atom_of w.type) ≡ element_words l.layout = ap atom_words (sym l.laid.laid.atom) in
       let z : 0 + w.value ≡ w.value = omega arith in
       let k = element_words l.layout in
-      let is : origin_numbered ts (suc n) ≡ from_input w.value (w.place / k) (w.place % k) = w.is ∙ (λ i. from_input (z i) (w.place / size i) (w.place % size i)) in
+      let is : origin_numbered ts (suc n) ≡ from_input w.value (w.place / k) (w.place % k) = w.is ∙
+      (λ i. from_input (z i) (w.place / size i) (w.place % size i)) in
       let whole : w.place / k * k + w.place % k ≡ w.place = div-add-mod' w.place k in
       ap (origin_word ins (map flat vs)) is
-      ∙ ap (λ (x : StTree). get_or (get_or (map flat vs) w.value []) (w.place / k * element_words x + w.place % k) 0) (index-there ins w.value l.layout _ l.found)
+      ∙ ap (λ (x : StTree). get_or (get_or (map flat vs) w.value []) (w.place / k * element_words x + w.place % k) 0)
+      (index-there ins w.value l.layout _ l.found)
       ∙ ap (λ ws. get_or ws (w.place / k * k + w.place % k) 0) (index-flat vs w.value)
       ∙ ap (λ i. get_or (flat (at vs w.value)) i 0) whole
       ∙ sym (w.word vs values)
@@ -62,7 +66,8 @@ module _ (slowdown : ℕ) (ts : List SeqTree) (ins : List StTree) (laid : AreLai
   number-word zero = refl
   number-word (suc n) = ⊎_elim (λ (h : HasNone 0 ts n). no-word n h) (λ (w : StandsAt 0 ts n). found-word n w) (origin-cases 0 ts n)
 
-pub words-by-trace : (p : ProgramTree) (slowdown : ℕ) (ins : List StTree) (vs : List ValueTree) → is_movement p ≡ true → AreLaid slowdown (parameter_types p) ins → AreValues (parameter_types p) vs
+pub words-by-trace : (p : ProgramTree) (slowdown : ℕ) (ins : List StTree) (vs : List ValueTree) → is_movement p ≡ true
+    → AreLaid slowdown (parameter_types p) ins → AreValues (parameter_types p) vs
     → (r : ℕ) → map (origin_word ins (map flat vs)) (map (origin_numbered (parameter_types p)) (flat (at (trace p) r))) ≡ flat (at (mean p vs) r)
 words-by-trace p slowdown ins vs moves laid values r =
     let f : ℕ → ℕ = word_numbered (flat_map flat vs) in

@@ -78,7 +78,9 @@ pub record IsMovable (s : StFuncTree) : Type 0 where
 pub record IsFusedBy (s : StFuncTree) (f : FusedView) : Type 0 where
   pub ins : st_trees f.ins ≡ s.ins
   pub moves : moves_in f ≡ map (own_move s (item_words [] s (layout_numbers 1 s.ins))) s.results
-  pub arrivals : f.arrivals ≡ map (λ i. move_latency (own_move s (item_words [] s (layout_numbers 1 s.ins)) i)) (range_with_len 0 (length (item_layouts s)))
+  pub arrivals : f.arrivals ≡ map (λ i. move_latency (own_move s (item_words [] s (layout_numbers 1 s.ins)) i))
+      (range_with_len 0 (length (item_layouts s)))
   pub costs : costs_in f ≡ fused_costs (map (own_move s (item_words [] s (layout_numbers 1 s.ins))) s.results)
   pub none : f.certificate ≡ None ↔ f.latency ≡ 0
-  pub certificate : IfSome f.certificate (λ c. IsFirstOf f.latency (map (own_move s (item_words [] s (layout_numbers 1 s.ins))) s.results) c)
+  pub certificate : IfSome f.certificate (λ c. IsFirstOf f.latency
+      (map (own_move s (item_words [] s (layout_numbers 1 s.ins))) s.results) c)

@@ -32,7 +32,9 @@ layout_numbers k (s ∷ ss) = range_with_len k (layout_words s) ∷ layout_numbe
 -- word number n of values in these layouts, the first of which is input i
 abbrev pub layout_origin : (i : ℕ) → List StTree → (n : ℕ) → OriginTree
 layout_origin i [] n = fixed 0
-layout_origin i (s ∷ ss) n = if nat_lt n (layout_words s) then from_input i (n / element_words s) (n % element_words s) else layout_origin (i + 1) ss (n - layout_words s)
+layout_origin i (s ∷ ss) n =
+    if nat_lt n (layout_words s) then from_input i (n / element_words s) (n % element_words s) else layout_origin
+    (i + 1) ss (n - layout_words s)
 
 -- the word of a number, of which the first is 1; the number 0 is that of a word 0
 abbrev pub labelled_origin : List StTree → ℕ → OriginTree
@@ -51,7 +53,8 @@ pub record MovesWords (s : StFuncTree) : Type 0 where
   pub few : length s.ins ≤ 8
   pub before : List StFuncTree
   pub fits : (j : ℕ) (n : StNodeTree) → slice_get s.nodes j ≡ Some n → FitsNode before s n
-  pub args : (j i a : ℕ) (n : StNodeTree) → slice_get s.nodes j ≡ Some n → slice_get n.args i ≡ Some a → a < length s.ins + j
+  pub args : (j i a : ℕ) (n : StNodeTree) → slice_get s.nodes j ≡ Some n → slice_get n.args i ≡ Some a
+      → a < length s.ins + j
   pub sizes : (i : ℕ) → i < length (item_layouts s) → IsInSize (item_layout (item_layouts s) i)
 
 pub record IsReady (s : StFuncTree) (n : StNodeTree) (labels : List (List ℕ)) : Type 0 where
@@ -61,4 +64,5 @@ pub record IsReady (s : StFuncTree) (n : StNodeTree) (labels : List (List ℕ)) 
   pub sizes : (i : ℕ) → i < length (item_layouts s) → IsInSize (item_layout (item_layouts s) i)
   pub below : length labels ≤ length (item_layouts s)
   pub args : (i a : ℕ) → slice_get n.args i ≡ Some a → a < length labels
-  pub long : (i a : ℕ) → slice_get n.args i ≡ Some a → length (words_at labels a) ≡ layout_words (item_layout (item_layouts s) a)
+  pub long : (i a : ℕ) → slice_get n.args i ≡ Some a
+      → length (words_at labels a) ≡ layout_words (item_layout (item_layouts s) a)

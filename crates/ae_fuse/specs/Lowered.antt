@@ -38,10 +38,12 @@ pub record IsWhole (f : FusedView) : Type 0 where
 -- ---- moves that are all as late as the latest
 
 abbrev pub late_part : (whole : ℕ) → Move → Part
-late_part whole m = plain_part (time m.out) whole (streams_of m.ins) (stream_of m.out) (λ vs. map (origin_word m.ins vs) m.origins)
+late_part whole m =
+    plain_part (time m.out) whole (streams_of m.ins) (stream_of m.out) (λ vs. map (origin_word m.ins vs) m.origins)
 
 -- nets that are the result of a move
-pub record IsLateResult (cells : List SizedCell) (rst : ℕ) (whole : ℕ) (m : Move) (args : List (List NetId)) (nets : List NetId) : Type 0 where
+pub record IsLateResult (cells : List SizedCell) (rst : ℕ) (whole : ℕ) (m : Move) (args : List (List NetId))
+    (nets : List NetId) : Type 0 where
   pub there : AreNets cells (stream_widths (stream_of m.out)) nets
   pub law : KeepsLaw cells rst 0 (late_part whole m) args nets
 
@@ -50,9 +52,11 @@ abbrev pub result_stream : FusedResult → Stream
 result_stream r = stream_of (st_tree r.out)
 
 -- one for each of the first moves
-pub record AreLateResults (cells : List SizedCell) (rst : ℕ) (whole : ℕ) (ms : List Move) (count : ℕ) (args bundles : List (List NetId)) : Type 0 where
+pub record AreLateResults (cells : List SizedCell) (rst : ℕ) (whole : ℕ) (ms : List Move) (count : ℕ)
+    (args bundles : List (List NetId)) : Type 0 where
   pub long : length bundles ≡ count
-  pub each : (r : ℕ) (m : Move) (nets : List NetId) → slice_get ms r ≡ Some m → slice_get bundles r ≡ Some nets → IsLateResult cells rst whole m args nets
+  pub each : (r : ℕ) (m : Move) (nets : List NetId) → slice_get ms r ≡ Some m → slice_get bundles r ≡ Some nets
+      → IsLateResult cells rst whole m args nets
 
 -- ---- blocks
 
@@ -60,15 +64,18 @@ pub record AreLateResults (cells : List SizedCell) (rst : ℕ) (whole : ℕ) (ms
 -- one move, all of them so many clocks later
 abbrev pub MakesMoves : (p : ProgramTree) (slowdown latency : ℕ) (ins outs : List StTree) → Circuit → Type 0
 MakesMoves p slowdown latency ins outs n =
-    (run : List Clock) (start : ℕ) → IsRun n.cells run → IsReset run 0 start → (r : ℕ) (s : StTree) → slice_get outs r ≡ Some s
+    (run : List Clock) (start : ℕ) → IsRun n.cells run → IsReset run 0 start → (r : ℕ) (s : StTree)
+    → slice_get outs r ≡ Some s
     → BlockLaw (length run - start) 0
-    (plain_part slowdown latency (streams_of ins) (stream_of s) (λ vs. map (origin_word ins vs) (traced_move (parameter_types p) ins s (at (trace p) r)).origins))
+    (plain_part slowdown latency (streams_of ins) (stream_of s)
+    (λ vs. map (origin_word ins vs) (traced_move (parameter_types p) ins s (at (trace p) r)).origins))
     (input_waves run start 1 (streams_of ins)) (output_wave run n.outlets start (columns_in (take r (streams_of outs))))
 
 -- such a netlist makes the blocks of the movement program
 abbrev pub MovesMakeBlocks : Type 0
 MovesMakeBlocks =
-    (p : ProgramTree) (slowdown latency : ℕ) (ins outs : List StTree) (n : Circuit) → is_movement p ≡ true → IsTyped p → 0 < slowdown → HaveLayouts p slowdown ins outs
+    (p : ProgramTree) (slowdown latency : ℕ) (ins outs : List StTree) (n : Circuit) → is_movement p ≡ true → IsTyped p
+    → 0 < slowdown → HaveLayouts p slowdown ins outs
     → MakesMoves p slowdown latency ins outs n → MakesBlocks n p slowdown latency ins outs
 
 -- ---- the circuit
@@ -80,5 +87,7 @@ outs_in f = map (λ (r : FusedResult). st_tree r.out) f.results
 -- it is the circuit for each program that is so fused, by the layouts of its parameters and results and the costs of the moves
 abbrev pub IsFusedCircuit : FusedView → Circuit → Type 0
 IsFusedCircuit f n =
-    (p : ProgramTree) (slowdown : ℕ) (instances : List StFuncTree) → IsTyped p → 0 < slowdown → slowdown ≤ 4096 → IsSchedule p slowdown instances → IsSound instances → IsFusedOf p instances f
-    → HaveLayouts p slowdown (st_trees f.ins) (outs_in f) × IsCircuitFor p slowdown (costs_in f) (st_trees f.ins) (outs_in f) n
+    (p : ProgramTree) (slowdown : ℕ) (instances : List StFuncTree) → IsTyped p → 0 < slowdown → slowdown ≤ 4096
+    → IsSchedule p slowdown instances → IsSound instances → IsFusedOf p instances f
+    → HaveLayouts p slowdown (st_trees f.ins) (outs_in f)
+    × IsCircuitFor p slowdown (costs_in f) (st_trees f.ins) (outs_in f) n

@@ -7,7 +7,12 @@ use Rattle.ae_flow.specs.Flow.{item_words, words_at}
 use Rattle.ae_fuse.specs.Labels.{labelled_origin, layout_numbers}
 
 abbrev pub own_move : StFuncTree → (labels : List (List ℕ)) → (item : ℕ) → Move
-own_move s labels i = record { ins = s.ins; out = item_layout (item_layouts s) i; origins = map (labelled_origin s.ins) (words_at labels i) }
+own_move s labels i =
+    record {
+      ins = s.ins;
+      out = item_layout (item_layouts s) i;
+      origins = map (labelled_origin s.ins) (words_at labels i);
+    }
 
 -- the numbers of the words of all items, where those of the parameters are numbered from 1 on
 abbrev pub own_labels : StFuncTree → List (List ℕ)

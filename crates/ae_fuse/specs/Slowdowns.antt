@@ -21,7 +21,8 @@ pub record AreLabels (p : ProgramTree) (labels : List (List ℕ)) : Type 0 where
   pub func : FuncTree
   pub there : slice_get p.funcs (main_of p) ≡ Some func
   pub many : length labels ≡ length (item_values [] func (numbered 1 (param_types func)))
-  pub results : (r i : ℕ) → slice_get func.results r ≡ Some i → words_at labels i ≡ flat (at (item_values [] func (numbered 1 (param_types func))) i)
+  pub results : (r i : ℕ) → slice_get func.results r ≡ Some i
+      → words_at labels i ≡ flat (at (item_values [] func (numbered 1 (param_types func))) i)
 
 -- no multiplier is among them
 abbrev pub told_costs : FusedCosts → OwnCosts

@@ -13,7 +13,8 @@ pub record AreRaised (items : List ℕ) (to : ℕ) (old new : List ℕ) : Type 0
 -- for each item a number above that of each node that has it as an argument, and for a result above that of all nodes
 pub record AreWants (s : StFuncTree) (last : List ℕ) : Type 0 where
   pub many : length last ≡ length (item_layouts s)
-  pub nodes : (j i a : ℕ) (n : StNodeTree) → slice_get s.nodes j ≡ Some n → slice_get n.args i ≡ Some a → j < get_or last a 0
+  pub nodes : (j i a : ℕ) (n : StNodeTree) → slice_get s.nodes j ≡ Some n → slice_get n.args i ≡ Some a
+      → j < get_or last a 0
   pub results : (r a : ℕ) → slice_get s.results r ≡ Some a → length s.nodes < get_or last a 0
 
 -- behind node j the labels of all items that are still wanted are what they were

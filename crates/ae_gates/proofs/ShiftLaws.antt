@@ -40,19 +40,22 @@ moved_none way w a b small =
     nowhere Right z = sym (ap (λ k. a / 2 ^ k) z ∙ (let e : a / 2 ^ 0 ≡ a = omega arith in e))
 
 -- one bit of the amount more
-pub stage_moved : (way : Way) (w a b i : ℕ) → (if b / 2 ^ i % 2 ^ 1 == 1 then moved way w (moved way w a (b % 2 ^ i)) (2 ^ i) else moved way w a (b % 2 ^ i)) ≡ moved way w a (b % 2 ^ (i + 1))
+pub stage_moved : (way : Way) (w a b i : ℕ) → (if b / 2 ^ i % 2 ^ 1 == 1 then moved way w (moved way w a (b % 2 ^ i)) (2 ^ i) else moved way w a
+    (b % 2 ^ i)) ≡ moved way w a (b % 2 ^ (i + 1))
 stage_moved way w a b i =
     let d : ℕ = b / 2 ^ i % 2 ^ 1 in
     let parts : b % 2 ^ (i + 1) ≡ b / 2 ^ i % 2 ^ 1 * 2 ^ i + b % 2 ^ i = ap (λ k. b % 2 ^ k) (let s : i + 1 ≡ 1 + i = omega arith in s) ∙ mod-pow-add b 1 i in
     elim (cases_Bool (b / 2 ^ i % 2 ^ 1 == 1)) [
       | inl t ↦
           let one : b / 2 ^ i % 2 ^ 1 ≡ 1 = (Decides-eqb (b / 2 ^ i % 2 ^ 1) 1).0 t in
-          let e : 2 ^ i + b % 2 ^ i ≡ b % 2 ^ (i + 1) = sym (parts ∙ ap (λ x. x * 2 ^ i + b % 2 ^ i) one ∙ (let u : 1 * 2 ^ i + b % 2 ^ i ≡ 2 ^ i + b % 2 ^ i = omega arith in u)) in
+          let e : 2 ^ i + b % 2 ^ i ≡ b % 2 ^ (i + 1) = sym (parts ∙ ap (λ x. x * 2 ^ i + b % 2 ^ i) one ∙
+          (let u : 1 * 2 ^ i + b % 2 ^ i ≡ 2 ^ i + b % 2 ^ i = omega arith in u)) in
           cond-true _ _ _ t ∙ moved_again way w a (b % 2 ^ i) (2 ^ i) ∙ ap (moved way w a) e
       | inr f ↦
           let other : b / 2 ^ i % 2 ^ 1 ≡ 1 → ⊥ = (λ e. let t : (b / 2 ^ i % 2 ^ 1 == 1) ≡ true = (Decides-eqb (b / 2 ^ i % 2 ^ 1) 1).1 e in cc) in
           let zero : b / 2 ^ i % 2 ^ 1 ≡ 0 = low_bit (b / 2 ^ i) other in
-          let e : b % 2 ^ i ≡ b % 2 ^ (i + 1) = sym (parts ∙ ap (λ x. x * 2 ^ i + b % 2 ^ i) zero ∙ (let u : 0 * 2 ^ i + b % 2 ^ i ≡ b % 2 ^ i = omega arith in u)) in
+          let e : b % 2 ^ i ≡ b % 2 ^ (i + 1) = sym (parts ∙ ap (λ x. x * 2 ^ i + b % 2 ^ i) zero ∙
+          (let u : 0 * 2 ^ i + b % 2 ^ i ≡ b % 2 ^ i = omega arith in u)) in
           cond-false _ _ _ f ∙ ap (moved way w a) e
     ]
   where

@@ -21,13 +21,15 @@ use Rattle.ae_gates.specs.Cells.{Grows, IsWord}
 
 -- a cell that does not pass is left out
 pub left_out : (test : Cell → Bool) (k : ℕ) (cells : List SizedCell) (c : SizedCell) → test c.cell ≡ false
-    → filter (λ (x : ℕ × SizedCell). test x.1.cell) (enumerate_from k (cells ++ c ∷ [])) ≡ filter (λ (x : ℕ × SizedCell). test x.1.cell) (enumerate_from k cells)
+    → filter (λ (x : ℕ × SizedCell). test x.1.cell) (enumerate_from k (cells ++ c ∷ [])) ≡ filter (λ (x : ℕ × SizedCell). test x.1.cell)
+    (enumerate_from k cells)
 left_out test k [] c h = rw h refl
 left_out test k (x ∷ cells) c h =
     ap (λ ys. if test x.cell then (k, x) ∷ ys else ys) (left_out test (k + 1) cells c h)
 
 -- how a netlist grows by a cell, and by more
-pub grows_push : (old new : Circuit) (c : SizedCell) → is_input_cell c.cell ≡ false → is_state_cell c.cell ≡ false → new ≡ record old { cells = old.cells ++ c ∷ [] } → Grows old new
+pub grows_push : (old new : Circuit) (c : SizedCell) → is_input_cell c.cell ≡ false → is_state_cell c.cell ≡ false
+    → new ≡ record old { cells = old.cells ++ c ∷ [] } → Grows old new
 grows_push old new c i s e = rw e (record {
   extends = extends_append old.cells (c ∷ []);
   limit = refl;
@@ -54,7 +56,8 @@ net_grows g h = net_later g.extends h
 pub longer : (old new : Circuit) (c : SizedCell) → new ≡ record old { cells = old.cells ++ c ∷ [] } → length new.cells ≡ length old.cells + 1
 longer old new c e = ap (λ (x : Circuit). length x.cells) e ∙ length-append old.cells (c ∷ [])
 
-pub pushed_net : (old new : Circuit) (y : NetId) (w : ℕ) (cell : Cell) → IsPlain cell → y ≡ record { 0 = length old.cells } → new ≡ record old { cells = old.cells ++ (record { width = w; cell = cell }) ∷ [] } → IsNet new.cells y.0 w
+pub pushed_net : (old new : Circuit) (y : NetId) (w : ℕ) (cell : Cell) → IsPlain cell → y ≡ record { 0 = length old.cells }
+    → new ≡ record old { cells = old.cells ++ (record { width = w; cell = cell }) ∷ [] } → IsNet new.cells y.0 w
 pushed_net old new y w cell p i e = rw (e, i) (record { sized = record { width = w; cell = cell }; found = get_pushed old.cells _; plain = p; wide = refl })
 
 -- what carries the later cells carries the earlier
@@ -73,18 +76,23 @@ main_two : (op : WordOp) (a b : NetId) → op ≢ Mux → main_operand op (a ∷
 main_two Mux a b ne = absurd (ne refl)
 main_two _ a b ne = refl
 
-pub two_operation : (cells : List SizedCell) (op : WordOp) (a b : NetId) (w r : ℕ) → is_signed op ≡ false → op ≢ Mux → HasRange op → IsNet cells a.0 w → IsNet cells b.0 w → r ≡ result_width_of op w → IsOperation cells op (a ∷ b ∷ a ∷ []) r
+pub two_operation : (cells : List SizedCell) (op : WordOp) (a b : NetId) (w r : ℕ) → is_signed op ≡ false → op ≢ Mux → HasRange op → IsNet cells a.0 w
+    → IsNet cells b.0 w → r ≡ result_width_of op w → IsOperation cells op (a ∷ b ∷ a ∷ []) r
 two_operation cells op a b w r plain ne range p q e =
     let wide : width_of cells (main_operand op (a ∷ b ∷ a ∷ [])) ≡ w = ap (width_of cells) (main_two op a b ne) ∙ net_width p in
     record { unsigned = plain; range = range; operands = rw wide (operands_two op (IsNet cells) a b w ne p q); result = rw wide e }
 
-pub choose_operation : (cells : List SizedCell) (c a b : NetId) (w : ℕ) → IsNet cells c.0 1 → IsNet cells a.0 w → IsNet cells b.0 w → IsOperation cells Mux (c ∷ a ∷ b ∷ []) w
-choose_operation cells c a b w s p q = let e : width_of cells a.0 ≡ w = net_width p in record { unsigned = refl; range = tt; operands = rw e (s, p, q); result = sym e }
+pub choose_operation : (cells : List SizedCell) (c a b : NetId) (w : ℕ) → IsNet cells c.0 1 → IsNet cells a.0 w → IsNet cells b.0 w
+    → IsOperation cells Mux (c ∷ a ∷ b ∷ []) w
+choose_operation cells c a b w s p q =
+    let e : width_of cells a.0 ≡ w = net_width p in record { unsigned = refl; range = tt; operands = rw e (s, p, q); result = sym e }
 
 -- the word of an operator
-pub gate_word : (from : ℕ) (old new : Circuit) (y : NetId) (op : WordOp) (a b : NetId) (w r : ℕ) → op ≢ Mux → from ≤ length old.cells → y ≡ record { 0 = length old.cells }
+pub gate_word : (from : ℕ) (old new : Circuit) (y : NetId) (op : WordOp) (a b : NetId) (w r : ℕ) → op ≢ Mux → from ≤ length old.cells
+    → y ≡ record { 0 = length old.cells }
     → new ≡ record old { cells = old.cells ++ (record { width = r; cell = Op op (a ∷ b ∷ a ∷ []) }) ∷ [] }
-    → (f g : List Clock → ℕ → ℕ) → IsWord from old.cells a.0 w f → IsWord from old.cells b.0 w g → IsWord from new.cells y.0 r (λ run t. word_result op w (f run t) (g run t) (f run t))
+    → (f g : List Clock → ℕ → ℕ) → IsWord from old.cells a.0 w f → IsWord from old.cells b.0 w g
+    → IsWord from new.cells y.0 r (λ run t. word_result op w (f run t) (g run t) (f run t))
 gate_word from old new y op a b w r ne low i e f g fa gb =
     let args : List NetId = a ∷ b ∷ a ∷ [] in
     let more : List SizedCell = old.cells ++ (record { width = r; cell = Op op args }) ∷ [] in
@@ -101,7 +109,8 @@ gate_word from old new y op a b w r ne low i e f g fa gb =
 
 pub select_word : (from : ℕ) (old new : Circuit) (y c a b : NetId) (w : ℕ) → from ≤ length old.cells → y ≡ record { 0 = length old.cells }
     → new ≡ record old { cells = old.cells ++ (record { width = w; cell = Op Mux (c ∷ a ∷ b ∷ []) }) ∷ [] }
-    → (h f g : List Clock → ℕ → ℕ) → IsWord from old.cells c.0 1 h → IsWord from old.cells a.0 w f → IsWord from old.cells b.0 w g → IsWord from new.cells y.0 w (λ run t. if h run t == 1 then f run t else g run t)
+    → (h f g : List Clock → ℕ → ℕ) → IsWord from old.cells c.0 1 h → IsWord from old.cells a.0 w f → IsWord from old.cells b.0 w g
+    → IsWord from new.cells y.0 w (λ run t. if h run t == 1 then f run t else g run t)
 select_word from old new y c a b w low i e h f g hc fa gb =
     let args : List NetId = c ∷ a ∷ b ∷ [] in
     rw (e, i) (record {
@@ -123,19 +132,24 @@ fixed_word from old new y w k low i e = rw (e, i) (record {
 })
 
 -- a value that a net has fits
-pub value_fits : (from : ℕ) (cells all : List SizedCell) (run : List Clock) (t n w : ℕ) (f : List Clock → ℕ → ℕ) → IsWord from cells n w f → Carries from cells all → IsRun all run → t < length run → f run t < 2 ^ w
+pub value_fits : (from : ℕ) (cells all : List SizedCell) (run : List Clock) (t n w : ℕ) (f : List Clock → ℕ → ℕ) → IsWord from cells n w f
+    → Carries from cells all → IsRun all run → t < length run → f run t < 2 ^ w
 value_fits from cells all run t n w f h k is l =
     let e = h.words all k run is t l in
     rw (← e) (net_fits all run t n w (k.nets n w h.found) is l)
 
 -- a value by another way to it
-pub word_by : {from n w : ℕ} {cells : List SizedCell} (f g : List Clock → ℕ → ℕ) → ((all : List SizedCell) → Carries from cells all → (run : List Clock) → IsRun all run → (t : ℕ) → t < length run → f run t ≡ g run t) → IsWord from cells n w f → IsWord from cells n w g
+pub word_by : {from n w : ℕ} {cells : List SizedCell} (f g : List Clock → ℕ → ℕ)
+    → ((all : List SizedCell) → Carries from cells all → (run : List Clock) → IsRun all run → (t : ℕ) → t < length run → f run t ≡ g run t)
+    → IsWord from cells n w f → IsWord from cells n w g
 word_by f g e h = record { found = h.found; words = λ all k run is t l. h.words all k run is t l ∙ e all k run is t l }
 
-pub same_word : {from n w : ℕ} {cells : List SizedCell} (f g : List Clock → ℕ → ℕ) → ((run : List Clock) (t : ℕ) → f run t ≡ g run t) → IsWord from cells n w f → IsWord from cells n w g
+pub same_word : {from n w : ℕ} {cells : List SizedCell} (f g : List Clock → ℕ → ℕ) → ((run : List Clock) (t : ℕ) → f run t ≡ g run t) → IsWord from cells n w f
+    → IsWord from cells n w g
 same_word f g e h = word_by f g (λ all k run is t l. e run t) h
 
-pub widen_word : (from : ℕ) (old new : Circuit) (x y own w : ℕ) → own ≤ w → Grows old new → (f : List Clock → ℕ → ℕ) → IsWord from old.cells x own f → IsWord from new.cells y w (λ run t. f run t % 2 ^ w) → IsWord from new.cells y w f
+pub widen_word : (from : ℕ) (old new : Circuit) (x y own w : ℕ) → own ≤ w → Grows old new → (f : List Clock → ℕ → ℕ) → IsWord from old.cells x own f
+    → IsWord from new.cells y w (λ run t. f run t % 2 ^ w) → IsWord from new.cells y w f
 widen_word from old new x y own w le grows f p q =
     word_by (λ run t. f run t % 2 ^ w) f
     (λ all k run is t l.
@@ -144,7 +158,8 @@ widen_word from old new x y own w le grows f p q =
     mod-eq_of_lt (omega arith)) q
 
 -- a word of its own width is its own remainder
-pub fit_word : (from : ℕ) (cells : List SizedCell) (x w : ℕ) (f : List Clock → ℕ → ℕ) → IsWord from cells x w f → IsWord from cells x w (λ run t. f run t % 2 ^ w)
+pub fit_word : (from : ℕ) (cells : List SizedCell) (x w : ℕ) (f : List Clock → ℕ → ℕ) → IsWord from cells x w f
+    → IsWord from cells x w (λ run t. f run t % 2 ^ w)
 fit_word from cells x w f p = word_by f (λ run t. f run t % 2 ^ w) (λ all k run is t l. sym (mod-eq_of_lt (value_fits from cells all run t x w f p k is l))) p
 
 -- a choice by a bit
@@ -161,7 +176,8 @@ link_small a b wa wb w ha hb le =
     omega arith
 
 -- two words side by side
-pub linked_word : (from : ℕ) (old cells : List SizedCell) (n na nb wa wb w : ℕ) (f g : List Clock → ℕ → ℕ) → wa + wb ≤ w → IsWord from old na wa f → IsWord from old nb wb g → ((all : List SizedCell) → Carries from cells all → Carries from old all)
+pub linked_word : (from : ℕ) (old cells : List SizedCell) (n na nb wa wb w : ℕ) (f g : List Clock → ℕ → ℕ) → wa + wb ≤ w → IsWord from old na wa f
+    → IsWord from old nb wb g → ((all : List SizedCell) → Carries from cells all → Carries from old all)
     → IsWord from cells n w (λ run t. ((f run t * 2 ^ wb) % 2 ^ w + g run t) % 2 ^ w) → IsWord from cells n w (λ run t. f run t * 2 ^ wb + g run t)
 linked_word from old cells n na nb wa wb w f g le p r carry q =
     word_by (λ run t. ((f run t * 2 ^ wb) % 2 ^ w + g run t) % 2 ^ w) (λ run t. f run t * 2 ^ wb + g run t)

@@ -14,17 +14,22 @@ use Rattle.ae_gather.specs.Readers.{IsReader}
 use Rattle.ae_clocked.proofs.RingLaw.{ring_holds}
 
 -- a register of a look at the counter and a place has the word of as many clocks before as the place is short of a turn
-pub look_asked : (run : List Clock) (m at from place x y z d start : ℕ) → IsStore run m at x d → HasWords run start at (λ c. c % d) → IsLook run y m from → IsNextOf run z y
+pub look_asked : (run : List Clock) (m at from place x y z d start : ℕ) → IsStore run m at x d → HasWords run start at (λ c. c % d) → IsLook run y m from
+    → IsNextOf run z y
     → ((t : ℕ) → t < length run → word_at run t from ≡ (word_at run t at + word_at run t place) % d)
-    → (c tap : ℕ) → 1 ≤ tap → tap ≤ c → tap ≤ d → start + (c + 1) < length run → word_at run (start + c) place + tap ≡ d → word_at run (start + (c + 1)) z ≡ word_at run (start + (c - tap)) x
+    → (c tap : ℕ) → 1 ≤ tap → tap ≤ c → tap ≤ d → start + (c + 1) < length run → word_at run (start + c) place + tap ≡ d
+    → word_at run (start + (c + 1)) z ≡ word_at run (start + (c - tap)) x
 look_asked run m at from place x y z d start store counts look next adds c tap some le most l short =
     let inside : start + c < length run = omega arith in
     let after : start + (c + 1) ≡ start + c + 1 = omega arith in
     let k : ℕ = word_at run (start + c) place in
     let here : word_at run (start + c) at ≡ c % d = counts c inside in
     let far : c + k ≡ (c - tap) + d = omega arith in
-    let at_from : word_at run (start + c) from ≡ (c - tap) % d = adds (start + c) inside ∙ (ap (λ p. (p + k) % d) here ∙ (mod-add-mod c d k ∙ (ap (λ n. n % d) far ∙ add-mod_right (c - tap) d))) in
-    rw after (next (start + c) (omega arith) ∙ (look (start + c) inside ∙ (ap (λ p. get_or (store_at run (start + c) m) p 0) at_from ∙ ring_holds run m at x d start c (c - tap) store counts (omega arith) (omega arith) inside)))
+    let at_from : word_at run (start + c) from ≡ (c - tap) % d = adds (start + c) inside ∙
+    (ap (λ p. (p + k) % d) here ∙ (mod-add-mod c d k ∙ (ap (λ n. n % d) far ∙ add-mod_right (c - tap) d))) in
+    rw after (next (start + c) (omega arith) ∙ (look (start + c) inside ∙
+    (ap (λ p. get_or (store_at run (start + c) m) p 0) at_from ∙
+    ring_holds run m at x d start c (c - tap) store counts (omega arith) (omega arith) inside)))
 
 pub reader_made : (n0 n1 n2 n3 : Circuit) (r : Result NetId NetFault) (at word place m counter : NetId) (bits : ℕ) → Grows n0 n1 → Grows n1 n2 → Grows n2 n3
     → InEveryRunFrom (length n0.cells) n1.cells (λ run. IsResult run at.0 Add bits (counter ∷ place ∷ counter ∷ []))
@@ -37,6 +42,7 @@ reader_made n0 n1 n2 n3 (Ok y) at word place m counter bits g1 g2 g3 added look 
       let e2 : Extends n2.cells all = extends_trans g3.extends e in
       let e1 : Extends n1.cells all = extends_trans g2.extends e2 in
       let e0 : Extends n0.cells all = extends_trans g1.extends e1 in
-      look_asked run m.0 counter.0 at.0 place.0 x word.0 y.0 (2 ^ bits) start (ring.takes all e0 run is) (ring.counts all e0 run is start reset) (look all (carries_extends _ e2) run is)
+      look_asked run m.0 counter.0 at.0 place.0 x word.0 y.0 (2 ^ bits) start (ring.takes all e0 run is) (ring.counts all e0 run is start reset)
+      (look all (carries_extends _ e2) run is)
       (next all (carries_extends _ e) run is) (added all (carries_extends _ e1) run is);
 }

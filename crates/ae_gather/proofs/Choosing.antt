@@ -25,26 +25,38 @@ use Rattle.ae_gather.specs.Columns.{net_of, age_of, taken, IsMarkTo, IsSource, I
 
 -- ---- what goes on as a netlist grows
 
-pub source_grows : (a b : List SizedCell) (rst w : ℕ) (ins : List NetId) (choice : Choice) (y : ℕ) → Extends a b → IsSource a rst w ins choice y → IsSource b rst w ins choice y
+pub source_grows : (a b : List SizedCell) (rst w : ℕ) (ins : List NetId) (choice : Choice) (y : ℕ) → Extends a b → IsSource a rst w ins choice y
+    → IsSource b rst w ins choice y
 source_grows a b rst w ins choice y g h = record { net = net_later g h.net; words = λ all e run r. h.words all (extends_trans g e) run r }
 
-pub column_grows : (a b : List SizedCell) (rst w phase limit : ℕ) (ins : List NetId) (choice : ℕ → Choice) (y : ℕ) → Extends a b → IsColumn a rst w phase limit ins choice y → IsColumn b rst w phase limit ins choice y
+pub column_grows : (a b : List SizedCell) (rst w phase limit : ℕ) (ins : List NetId) (choice : ℕ → Choice) (y : ℕ) → Extends a b
+    → IsColumn a rst w phase limit ins choice y → IsColumn b rst w phase limit ins choice y
 column_grows a b rst w phase limit ins choice y g h = record { net = net_later g h.net; words = λ all e run r. h.words all (extends_trans g e) run r }
 
 pub phase_grows : {a b : List SizedCell} {rst : ℕ} {phase : PhaseNet} → Extends a b → IsPhaseNet a rst phase → IsPhaseNet b rst phase
-phase_grows {a} {b} {rst} {phase} g h = record { reset = net_later g h.reset; counts = counter_grows a b rst (record { period = phase.period; offset = phase.offset }) phase.net.0 g h.counts; low = h.low; high = h.high; limited = h.limited }
+phase_grows {a} {b} {rst} {phase} g h =
+    record {
+      reset = net_later g h.reset;
+      counts = counter_grows a b rst (record { period = phase.period; offset = phase.offset }) phase.net.0 g h.counts;
+      low = h.low;
+      high = h.high;
+      limited = h.limited;
+    }
 
-pub mark_grows : (a b : List SizedCell) (rst limit y phase from : ℕ) → Extends a b → InEveryResetRun a rst (λ run start. IsMarkTo limit run start y phase from) → InEveryResetRun b rst (λ run start. IsMarkTo limit run start y phase from)
+pub mark_grows : (a b : List SizedCell) (rst limit y phase from : ℕ) → Extends a b → InEveryResetRun a rst (λ run start. IsMarkTo limit run start y phase from)
+    → InEveryResetRun b rst (λ run start. IsMarkTo limit run start y phase from)
 mark_grows a b rst limit y phase from g h = λ all e run r. h all (extends_trans g e) run r
 
 pub tap_grows : {a b : List SizedCell} {rst w x d y : ℕ} → Extends a b → IsTap a rst w x d y → IsTap b rst w x d y
 tap_grows g h = record { net = net_later g h.net; words = λ all e run r. h.words all (extends_trans g e) run r }
 
-pub ready_grows : (a b : List SizedCell) (rst w : ℕ) (ins : List NetId) (lines : List (List NetId)) (tap : ℕ) (choice : Choice) → Extends a b → IsReady a rst w ins lines tap choice → IsReady b rst w ins lines tap choice
+pub ready_grows : (a b : List SizedCell) (rst w : ℕ) (ins : List NetId) (lines : List (List NetId)) (tap : ℕ) (choice : Choice) → Extends a b
+    → IsReady a rst w ins lines tap choice → IsReady b rst w ins lines tap choice
 ready_grows a b rst w ins lines tap (Delayed column age) g h = record { nets = h.nets; y = h.y; line = h.line; found = h.found; taps = tap_grows g h.taps }
 ready_grows a b rst w ins lines tap (Constant v) g h = h
 
-pub all_ready_grows : (a b : List SizedCell) (rst w v : ℕ) (ins : List NetId) (lines : List (List NetId)) (steps : List Step) → Extends a b → AreReady a rst w v ins lines steps → AreReady b rst w v ins lines steps
+pub all_ready_grows : (a b : List SizedCell) (rst w v : ℕ) (ins : List NetId) (lines : List (List NetId)) (steps : List Step) → Extends a b
+    → AreReady a rst w v ins lines steps → AreReady b rst w v ins lines steps
 all_ready_grows a b rst w v ins lines steps g h = record {
   low = h.low;
   high = h.high;
@@ -54,11 +66,14 @@ all_ready_grows a b rst w v ins lines steps g h = record {
 
 -- ---- sources
 
-pub tap_source : (cells : List SizedCell) (rst w : ℕ) (ins : List NetId) (column age y : ℕ) → IsTap cells rst w (net_of ins column) age y → IsSource cells rst w ins (Delayed column age) y
+pub tap_source : (cells : List SizedCell) (rst w : ℕ) (ins : List NetId) (column age y : ℕ) → IsTap cells rst w (net_of ins column) age y
+    → IsSource cells rst w ins (Delayed column age) y
 tap_source cells rst w ins column age y h = record { net = h.net; words = λ all e run r start reset c le l. h.words all e run r start reset c le l }
 
-pub constant_source : (cells : List SizedCell) (from rst w : ℕ) (ins : List NetId) (k y : ℕ) → IsNet cells y w → InEveryRunFrom from cells (λ run. IsConstant run y k) → IsSource cells rst w ins (Constant k) y
-constant_source cells from rst w ins k y net h = record { net = net; words = λ all e run r start reset c le l. h all (carries_extends from e) run r (start + c) l }
+pub constant_source : (cells : List SizedCell) (from rst w : ℕ) (ins : List NetId) (k y : ℕ) → IsNet cells y w
+    → InEveryRunFrom from cells (λ run. IsConstant run y k) → IsSource cells rst w ins (Constant k) y
+constant_source cells from rst w ins k y net h =
+    record { net = net; words = λ all e run r start reset c le l. h all (carries_extends from e) run r (start + c) l }
 
 -- ---- a comparison of the counter is a mark
 
@@ -68,7 +83,8 @@ pub compared_marks : (cells : List SizedCell) (rst v limit from fk fe : ℕ) (ph
     → IfOk r (λ y. InEveryResetRun cells rst (λ run start. IsMarkTo limit run start y.0 phase.0 from))
 compared_marks cells rst v limit from fk fe phase k (Ok y) ck ce = λ all e run r start reset c l small.
     let b : word_at run (start + c) k.0 ≡ from = ck all (carries_extends fk e) run r (start + c) l in
-    let h : word_at run (start + c) y.0 ≡ (if nat_lt (word_at run (start + c) phase.0) (word_at run (start + c) k.0) then 1 else 0) = ce all (carries_extends fe e) run r (start + c) l in
+    let h : word_at run (start + c) y.0 ≡ (if nat_lt (word_at run (start + c) phase.0) (word_at run (start + c) k.0) then 1 else 0) = ce all
+    (carries_extends fe e) run r (start + c) l in
     rw (← b) h
 compared_marks cells rst v limit from fk fe phase k (Err x) ck ce = ce
 
@@ -83,22 +99,27 @@ low_marks cells rst v w limit from fk fs fe phase shown k (Ok y) enough ck cs ce
     let d : word_at run (start + c) shown.0 ≡ word_at run (start + c) phase.0 % 2 ^ v = cs all (carries_extends fs e) run r (start + c) l in
     let fits : word_at run (start + c) phase.0 < 2 ^ v = omega arith in
     let same : word_at run (start + c) shown.0 ≡ word_at run (start + c) phase.0 = d ∙ mod-eq_of_lt fits in
-    let h : word_at run (start + c) y.0 ≡ (if nat_lt (word_at run (start + c) shown.0) (word_at run (start + c) k.0) then 1 else 0) = ce all (carries_extends fe e) run r (start + c) l in
+    let h : word_at run (start + c) y.0 ≡ (if nat_lt (word_at run (start + c) shown.0) (word_at run (start + c) k.0) then 1 else 0) = ce all
+    (carries_extends fe e) run r (start + c) l in
     rw (← b, ← same) h
 low_marks cells rst v w limit from fk fs fe phase shown k (Err x) enough ck cs ce = ce
 
 pub marked_marks : (cells : List SizedCell) (rst limit from : ℕ) (phase : NetId) (r : Result NetId NetFault)
-    → IfOk r (λ y. InEveryResetRun cells rst (λ run start. IsMark run start y.0 phase.0 from)) → IfOk r (λ y. InEveryResetRun cells rst (λ run start. IsMarkTo limit run start y.0 phase.0 from))
+    → IfOk r (λ y. InEveryResetRun cells rst (λ run start. IsMark run start y.0 phase.0 from))
+    → IfOk r (λ y. InEveryResetRun cells rst (λ run start. IsMarkTo limit run start y.0 phase.0 from))
 marked_marks cells rst limit from phase (Ok y) h = λ all e run r start reset c l small. h all e run r start reset c l
 marked_marks cells rst limit from phase (Err x) h = h
 
 -- ---- a column of one choice, and of one step more
 
-pub column_of : (cells : List SizedCell) (rst w phase limit : ℕ) (ins : List NetId) (choice : Choice) (y : ℕ) → IsSource cells rst w ins choice y → IsColumn cells rst w phase limit ins (λ p. choice) y
-column_of cells rst w phase limit ins choice y h = record { net = h.net; words = λ all e run r start reset c small le l. h.words all e run r start reset c le l }
+pub column_of : (cells : List SizedCell) (rst w phase limit : ℕ) (ins : List NetId) (choice : Choice) (y : ℕ) → IsSource cells rst w ins choice y
+    → IsColumn cells rst w phase limit ins (λ p. choice) y
+column_of cells rst w phase limit ins choice y h =
+    record { net = h.net; words = λ all e run r start reset c small le l. h.words all e run r start reset c le l }
 
 -- the word of a choice between two
-choose_word : (run : List Clock) (start c : ℕ) (ins : List NetId) (p e b s y : ℕ) (before : Choice) (step : Step) → e ≡ (if nat_lt p step.from then 1 else 0) → y ≡ (if e == 1 then b else s)
+choose_word : (run : List Clock) (start c : ℕ) (ins : List NetId) (p e b s y : ℕ) (before : Choice) (step : Step) → e ≡ (if nat_lt p step.from then 1 else 0)
+    → y ≡ (if e == 1 then b else s)
     → (age_of before ≤ c → b ≡ taken run start c ins before) → (age_of step.take ≤ c → s ≡ taken run start c ins step.take)
     → age_of (later p before step) ≤ c → y ≡ taken run start c ins (later p before step)
 choose_word run start c ins p e b s y before step ee ey hb hs = by_case (nat_lt p step.from) refl
@@ -115,7 +136,8 @@ pub column_more : (a b d : List SizedCell) (rst w phase limit : ℕ) (ins : List
 column_more a b d rst w phase limit ins choice step before early s y fy ga gb hc hs net ce cy = record {
   net = net;
   words = λ all e run r start reset c small le l.
-      choose_word run start c ins (word_at run (start + c) phase) (word_at run (start + c) early.0) (word_at run (start + c) before.0) (word_at run (start + c) s.0) (word_at run (start + c) y.0)
+      choose_word run start c ins (word_at run (start + c) phase) (word_at run (start + c) early.0) (word_at run (start + c) before.0)
+      (word_at run (start + c) s.0) (word_at run (start + c) y.0)
       (choice (word_at run (start + c) phase)) step
       (ce all e run r start reset c l small)
       (cy all (carries_extends fy e) run r (start + c) l)
@@ -130,19 +152,24 @@ from_grows from P g h = λ all k run r. h all (carries_trans (carries_extends fr
 
 -- ---- with an answer that may be want of memory
 
-pub constant_sources : (cells : List SizedCell) (from rst w : ℕ) (ins : List NetId) (k : ℕ) (r : Result NetId NetFault) → IfOk r (λ y. IsNet cells y.0 w) → IfOk r (λ y. InEveryRunFrom from cells (λ run. IsConstant run y.0 k)) → IfOk r (λ y. IsSource cells rst w ins (Constant k) y.0)
+pub constant_sources : (cells : List SizedCell) (from rst w : ℕ) (ins : List NetId) (k : ℕ) (r : Result NetId NetFault) → IfOk r (λ y. IsNet cells y.0 w)
+    → IfOk r (λ y. InEveryRunFrom from cells (λ run. IsConstant run y.0 k)) → IfOk r (λ y. IsSource cells rst w ins (Constant k) y.0)
 constant_sources cells from rst w ins k (Ok y) net h = constant_source cells from rst w ins k y.0 net h
 constant_sources cells from rst w ins k (Err e) net h = h
 
-pub columns_more : (a b d : List SizedCell) (rst w phase limit : ℕ) (ins : List NetId) (step : Step) (before early s : NetId) (fy : ℕ) (r : Result NetId NetFault)
+pub columns_more : (a b d : List SizedCell) (rst w phase limit : ℕ) (ins : List NetId) (step : Step) (before early s : NetId) (fy : ℕ)
+    (r : Result NetId NetFault)
     → Extends a d → Extends b d → IsSource b rst w ins step.take s.0 → IfOk r (λ y. IsNet d y.0 w)
     → InEveryResetRun d rst (λ run start. IsMarkTo limit run start early.0 phase step.from)
     → IfOk r (λ y. InEveryRunFrom fy d (λ run. IsResult run y.0 Mux w (early ∷ before ∷ s ∷ [])))
-    → IfOk r (λ y. (choice : ℕ → Choice) → IsColumn a rst w phase limit ins choice before.0 → IsColumn d rst w phase limit ins (λ p. later p (choice p) step) y.0)
-columns_more a b d rst w phase limit ins step before early s fy (Ok y) ga gb hs net ce cy = λ choice hc. column_more a b d rst w phase limit ins choice step before early s y fy ga gb hc hs net ce cy
+    → IfOk r (λ y. (choice : ℕ → Choice) → IsColumn a rst w phase limit ins choice before.0
+    → IsColumn d rst w phase limit ins (λ p. later p (choice p) step) y.0)
+columns_more a b d rst w phase limit ins step before early s fy (Ok y) ga gb hs net ce cy =
+    λ choice hc. column_more a b d rst w phase limit ins choice step before early s y fy ga gb hc hs net ce cy
 columns_more a b d rst w phase limit ins step before early s fy (Err e) ga gb hs net ce cy = net
 
-pub column_same : (cells : List SizedCell) (rst w phase limit : ℕ) (ins : List NetId) (f g : ℕ → Choice) (y : ℕ) → ((p : ℕ) → g p ≡ f p) → IsColumn cells rst w phase limit ins f y → IsColumn cells rst w phase limit ins g y
+pub column_same : (cells : List SizedCell) (rst w phase limit : ℕ) (ins : List NetId) (f g : ℕ → Choice) (y : ℕ) → ((p : ℕ) → g p ≡ f p)
+    → IsColumn cells rst w phase limit ins f y → IsColumn cells rst w phase limit ins g y
 column_same cells rst w phase limit ins f g y e h = record {
   net = h.net;
   words = λ all x run r start reset c. rw (e (word_at run (start + c) phase)) (h.words all x run r start reset c);
@@ -157,30 +184,45 @@ unfolding choice_in
 choice_push p [] step some = absurd (omega (arith, some))
 choice_push p (s ∷ steps) step some = fold-append (later p) s.take steps (step ∷ [])
 
-pub choice_more : (p : ℕ) (steps : List Step) (i : ℕ) (step : Step) → 1 ≤ i → i < length steps → slice_get steps i ≡ Some step → choice_in p (take (i + 1) steps) ≡ later p (choice_in p (take i steps)) step
+pub choice_more : (p : ℕ) (steps : List Step) (i : ℕ) (step : Step) → 1 ≤ i → i < length steps → slice_get steps i ≡ Some step
+    → choice_in p (take (i + 1) steps) ≡ later p (choice_in p (take i steps)) step
 choice_more p steps i step some l is =
     let n : length (take i steps) ≡ i = length-take-le i steps (omega arith) in
-    ap (choice_in p) (take_more steps i step l ∙ ap (λ s. take i steps ++ s ∷ []) (get_or_from_slice_get steps i step step is)) ∙ choice_push p (take i steps) step (omega arith)
+    ap (choice_in p) (take_more steps i step l ∙ ap (λ s. take i steps ++ s ∷ []) (get_or_from_slice_get steps i step step is)) ∙
+    choice_push p (take i steps) step (omega arith)
 
 empty_choice : (p : ℕ) (steps : List Step) → length steps ≡ 0 → choice_in p steps ≡ Constant 0
 unfolding choice_in
 empty_choice p [] e = refl
 empty_choice p (s ∷ steps) e = absurd (omega (arith, e))
 
-pub empty_columns : (cells : List SizedCell) (from rst w phase limit : ℕ) (ins : List NetId) (steps : List Step) (r : Result NetId NetFault) → length steps ≡ 0 → IfOk r (λ y. IsNet cells y.0 w) → IfOk r (λ y. InEveryRunFrom from cells (λ run. IsConstant run y.0 0)) → IfOk r (λ y. IsColumn cells rst w phase limit ins (λ p. choice_in p steps) y.0)
-empty_columns cells from rst w phase limit ins steps (Ok y) e net h = column_same cells rst w phase limit ins (λ p. Constant 0) (λ p. choice_in p steps) y.0 (λ p. empty_choice p steps e) (column_of cells rst w phase limit ins (Constant 0) y.0 (constant_source cells from rst w ins 0 y.0 net h))
+pub empty_columns : (cells : List SizedCell) (from rst w phase limit : ℕ) (ins : List NetId) (steps : List Step) (r : Result NetId NetFault) → length steps ≡ 0
+    → IfOk r (λ y. IsNet cells y.0 w) → IfOk r (λ y. InEveryRunFrom from cells (λ run. IsConstant run y.0 0))
+    → IfOk r (λ y. IsColumn cells rst w phase limit ins (λ p. choice_in p steps) y.0)
+empty_columns cells from rst w phase limit ins steps (Ok y) e net h =
+    column_same cells rst w phase limit ins (λ p. Constant 0) (λ p. choice_in p steps) y.0 (λ p. empty_choice p steps e)
+    (column_of cells rst w phase limit ins (Constant 0) y.0 (constant_source cells from rst w ins 0 y.0 net h))
 empty_columns cells from rst w phase limit ins steps (Err x) e net h = h
 
 pub first_take : (steps : List Step) (step : Step) → slice_get steps 0 ≡ Some step → take 1 steps ≡ step ∷ []
 first_take [] step e = cc
 first_take (s ∷ steps) step e = let same : s ≡ step = cc in ap (λ (x : Step). x ∷ []) same
 
-pub first_column : (cells : List SizedCell) (rst w phase limit : ℕ) (ins : List NetId) (steps : List Step) (step : Step) (y : ℕ) → slice_get steps 0 ≡ Some step → IsSource cells rst w ins step.take y → IsColumn cells rst w phase limit ins (λ p. choice_in p (take 1 steps)) y
-first_column cells rst w phase limit ins steps step y e h = column_same cells rst w phase limit ins (λ p. step.take) (λ p. choice_in p (take 1 steps)) y (λ p. ap (choice_in p) (first_take steps step e) ∙ choice_one p step) (column_of cells rst w phase limit ins step.take y h)
+pub first_column : (cells : List SizedCell) (rst w phase limit : ℕ) (ins : List NetId) (steps : List Step) (step : Step) (y : ℕ)
+    → slice_get steps 0 ≡ Some step → IsSource cells rst w ins step.take y → IsColumn cells rst w phase limit ins (λ p. choice_in p (take 1 steps)) y
+first_column cells rst w phase limit ins steps step y e h =
+    column_same cells rst w phase limit ins (λ p. step.take) (λ p. choice_in p (take 1 steps)) y
+    (λ p. ap (choice_in p) (first_take steps step e) ∙ choice_one p step) (column_of cells rst w phase limit ins step.take y h)
 
-pub next_column : (cells : List SizedCell) (rst w phase limit : ℕ) (ins : List NetId) (steps : List Step) (i : ℕ) (step : Step) (y : ℕ) → 1 ≤ i → i < length steps → slice_get steps i ≡ Some step
-    → IsColumn cells rst w phase limit ins (λ p. later p (choice_in p (take i steps)) step) y → IsColumn cells rst w phase limit ins (λ p. choice_in p (take (i + 1) steps)) y
-next_column cells rst w phase limit ins steps i step y some l is h = column_same cells rst w phase limit ins (λ p. later p (choice_in p (take i steps)) step) (λ p. choice_in p (take (i + 1) steps)) y (λ p. choice_more p steps i step some l is) h
+pub next_column : (cells : List SizedCell) (rst w phase limit : ℕ) (ins : List NetId) (steps : List Step) (i : ℕ) (step : Step) (y : ℕ) → 1 ≤ i
+    → i < length steps → slice_get steps i ≡ Some step
+    → IsColumn cells rst w phase limit ins (λ p. later p (choice_in p (take i steps)) step) y
+    → IsColumn cells rst w phase limit ins (λ p. choice_in p (take (i + 1) steps)) y
+next_column cells rst w phase limit ins steps i step y some l is h =
+    column_same cells rst w phase limit ins (λ p. later p (choice_in p (take i steps)) step) (λ p. choice_in p (take (i + 1) steps)) y
+    (λ p. choice_more p steps i step some l is) h
 
-pub whole_column : (cells : List SizedCell) (rst w phase limit : ℕ) (ins : List NetId) (steps : List Step) (i : ℕ) (y : ℕ) → length steps ≤ i → IsColumn cells rst w phase limit ins (λ p. choice_in p (take i steps)) y → IsColumn cells rst w phase limit ins (λ p. choice_in p steps) y
-whole_column cells rst w phase limit ins steps i y l h = column_same cells rst w phase limit ins (λ p. choice_in p (take i steps)) (λ p. choice_in p steps) y (λ p. ap (choice_in p) (sym (take_all i steps l))) h
+pub whole_column : (cells : List SizedCell) (rst w phase limit : ℕ) (ins : List NetId) (steps : List Step) (i : ℕ) (y : ℕ) → length steps ≤ i
+    → IsColumn cells rst w phase limit ins (λ p. choice_in p (take i steps)) y → IsColumn cells rst w phase limit ins (λ p. choice_in p steps) y
+whole_column cells rst w phase limit ins steps i y l h =
+    column_same cells rst w phase limit ins (λ p. choice_in p (take i steps)) (λ p. choice_in p steps) y (λ p. ap (choice_in p) (sym (take_all i steps l))) h

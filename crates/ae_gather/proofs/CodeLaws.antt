@@ -26,7 +26,8 @@ use Rattle.ae_moves.proofs.Words.{columns_small, in_row, words_pos}
 use Rattle.ae_gather.proofs.Typed.{used, within}
 
 -- one width more
-pub widths_more : (s : StTree) (widths : List ℕ) (q width : ℕ) → length widths ≡ q → AreWidths s widths → width_at s (q % element_words s) ≡ Some width → AreWidths s (widths ++ width ∷ [])
+pub widths_more : (s : StTree) (widths : List ℕ) (q width : ℕ) → length widths ≡ q → AreWidths s widths → width_at s (q % element_words s) ≡ Some width
+    → AreWidths s (widths ++ width ∷ [])
 widths_more s widths q width long h wide = λ p w f. elim (get_push_cases widths width p w f) [
   | inl v ↦ h p w v.0
   | inr v ↦ (let at : p ≡ q = v.0 ∙ long in rw (at, ← v.1) wide)
@@ -34,24 +35,28 @@ widths_more s widths q width long h wide = λ p w f. elim (get_push_cases widths
 
 -- ---- whether a move is one
 
-pub no_width : (s : StTree) (j : ℕ) (a : AtomTree) (o : Option ℕ) → a ≡ element_atom s → o ≡ option_map (λ (k : WordKind). k.width) (slice_get (atom_kinds a) j) → o ≡ None → j < element_words s → ⊥
+pub no_width : (s : StTree) (j : ℕ) (a : AtomTree) (o : Option ℕ) → a ≡ element_atom s
+    → o ≡ option_map (λ (k : WordKind). k.width) (slice_get (atom_kinds a) j) → o ≡ None → j < element_words s → ⊥
 no_width s j a o ea eo none l =
     let d : WordKind = record { signed = false; width = 0 } in
-    let f : slice_get (atom_kinds (element_atom s)) j ≡ Some (get_or (atom_kinds (element_atom s)) j d) = slice_get-get_or (atom_kinds (element_atom s)) j d (omega (arith, length-atom_kinds (element_atom s))) in
+    let f : slice_get (atom_kinds (element_atom s)) j ≡ Some (get_or (atom_kinds (element_atom s)) j d) = slice_get-get_or (atom_kinds (element_atom s)) j d
+    (omega (arith, length-atom_kinds (element_atom s))) in
     let e : o ≡ option_map (λ (k : WordKind). k.width) (slice_get (atom_kinds (element_atom s)) j) = rw ea at eo in
     let g : o ≡ Some (get_or (atom_kinds (element_atom s)) j d).width = rw f at e in
     cc
 
 -- ---- what a gather builds, over the lists that the code makes
 
-pub firsts_at : (cells : List SizedCell) (ins : List StTree) (bundles : List (List NetId)) (nets : List NetId) (firsts : List ℕ) → AreBundles cells (map stream_of ins) bundles → AreJoined bundles nets firsts
+pub firsts_at : (cells : List SizedCell) (ins : List StTree) (bundles : List (List NetId)) (nets : List NetId) (firsts : List ℕ)
+    → AreBundles cells (map stream_of ins) bundles → AreJoined bundles nets firsts
     → (i : ℕ) → i < length ins → slice_get firsts i ≡ Some (first_column ins i)
 firsts_at cells ins bundles nets firsts h joined i l =
     let long : length bundles ≡ length ins = bundles_long cells ins bundles h in
     let f : slice_get firsts i ≡ Some (get_or firsts i 0) = slice_get-get_or firsts i 0 (omega (arith, joined.begins)) in
     f ∙ ap Some (joined.starts i (get_or firsts i 0) f ∙ firsts_same cells ins bundles h i)
 
-pub nets_long : (cells : List SizedCell) (ins : List StTree) (bundles : List (List NetId)) (nets : List NetId) (firsts : List ℕ) → AreBundles cells (map stream_of ins) bundles → AreJoined bundles nets firsts → length nets ≡ sum_by columns_of ins
+pub nets_long : (cells : List SizedCell) (ins : List StTree) (bundles : List (List NetId)) (nets : List NetId) (firsts : List ℕ)
+    → AreBundles cells (map stream_of ins) bundles → AreJoined bundles nets firsts → length nets ≡ sum_by columns_of ins
 nets_long cells ins bundles nets firsts h joined =
     let long : length ins ≤ length bundles = omega (arith, bundles_long cells ins bundles h) in
     joined.long ∙ (firsts_same cells ins bundles h (length bundles) ∙ ap (sum_by columns_of) (take_all (length bundles) ins long))
@@ -60,29 +65,37 @@ columns_few : (ins : List StTree) → ((i : ℕ) (s : StTree) → slice_get ins 
 columns_few [] sized = omega arith
 columns_few (s ∷ ss) sized = omega (arith, sum_by-cons columns_of s ss, columns_small s (sized 0 s refl), columns_few ss (λ i t e. sized (suc i) t e))
 
-pub nets_few : (cells : List SizedCell) (ins : List StTree) (bundles : List (List NetId)) (clocks : ℕ) → AreBundles cells (map stream_of ins) bundles → AllInSize ins clocks → length ins ≤ 65536 → sum_by length bundles < 2147483648
+pub nets_few : (cells : List SizedCell) (ins : List StTree) (bundles : List (List NetId)) (clocks : ℕ) → AreBundles cells (map stream_of ins) bundles
+    → AllInSize ins clocks → length ins ≤ 65536 → sum_by length bundles < 2147483648
 nets_few cells ins bundles clocks h sized few =
     let long : length bundles ≡ length ins = bundles_long cells ins bundles h in
     let all : sum_by length bundles ≡ sum_by columns_of ins =
-    sym (ap (sum_by length) (take_all (length bundles) bundles (omega arith))) ∙ firsts_same cells ins bundles h (length bundles) ∙ ap (sum_by columns_of) (take_all (length bundles) ins (omega (arith, long))) in
+    sym (ap (sum_by length) (take_all (length bundles) bundles (omega arith))) ∙ firsts_same cells ins bundles h (length bundles) ∙
+    ap (sum_by columns_of) (take_all (length bundles) ins (omega (arith, long))) in
     omega (arith, all, columns_few ins (λ i s e. (sized i s e).0))
 
 pub columns_pos : (s : StTree) → IsInSize s → 1 ≤ columns_of s
 columns_pos s h = omega (arith, in_row 0 0 (lanes s) (element_words s) (lanes_pos s h.lengths) (words_pos s))
 
-pub within_as : (m : Move) (trips : List Trip) (p d a b : ℕ) → p ≡ time m.out → d ≡ move_latency m → a ≡ sum_by columns_of m.ins → b ≡ columns_of m.out → IsMove m → map trip_tree trips ≡ move_trips m → AreWithin p d a b trips
+pub within_as : (m : Move) (trips : List Trip) (p d a b : ℕ) → p ≡ time m.out → d ≡ move_latency m → a ≡ sum_by columns_of m.ins → b ≡ columns_of m.out
+    → IsMove m → map trip_tree trips ≡ move_trips m → AreWithin p d a b trips
 within_as m trips p d a b ep ed ea eb h e = rw (ep, ed, ea, eb) (within m trips h e)
 
 pub used_as : (m : Move) (trips : List Trip) (b : ℕ) → b ≡ columns_of m.out → IsMove m → map trip_tree trips ≡ move_trips m → AreUsed b trips
 used_as m trips b eb h e = rw eb (used m trips h.out e)
 
-pub cells_as : (m : Move) (trips : List Trip) (new old d a b : ℕ) → d ≡ move_latency m → a ≡ sum_by columns_of m.ins → b ≡ columns_of m.out → map trip_tree trips ≡ move_trips m
+pub cells_as : (m : Move) (trips : List Trip) (new old d a b : ℕ) → d ≡ move_latency m → a ≡ sum_by columns_of m.ins → b ≡ columns_of m.out
+    → map trip_tree trips ≡ move_trips m
     → new ≤ old + 16 * (d + delay_of d a (map trip_tree trips) + runs_of d b (map trip_tree trips)) → new ≤ old + (gather_part m).most_cells
 cells_as m trips new old d a b ed ea eb e h = rw (e, ed, ea, eb) at h
 
-pub mems_as : (m : Move) (trips : List Trip) (new old p d a : ℕ) → p ≡ time m.out → d ≡ move_latency m → a ≡ sum_by columns_of m.ins → map trip_tree trips ≡ move_trips m → new ≤ old + mems_of p d a (map trip_tree trips) → new ≤ old + (gather_part m).most_memories
+pub mems_as : (m : Move) (trips : List Trip) (new old p d a : ℕ) → p ≡ time m.out → d ≡ move_latency m → a ≡ sum_by columns_of m.ins
+    → map trip_tree trips ≡ move_trips m → new ≤ old + mems_of p d a (map trip_tree trips) → new ≤ old + (gather_part m).most_memories
 mems_as m trips new old p d a ep ed ea e h = rw (e, ep, ed, ea) at h
 
-pub law_as : (old cells : List SizedCell) (rst arrival : ℕ) (m : Move) (bundles : List (List NetId)) (nets : List NetId) (firsts : List ℕ) (trips : List Trip) (out : List NetId) (p d b : ℕ) → p ≡ time m.out → d ≡ move_latency m → length out ≡ b → b ≡ columns_of m.out
-    → IsMove m → AreBundles old (map stream_of m.ins) bundles → AreJoined bundles nets firsts → map trip_tree trips ≡ move_trips m → MakesTrips cells rst p d arrival nets out trips → KeepsLaw cells rst arrival (gather_part m) bundles out
-law_as old cells rst arrival m bundles nets firsts trips out p d b ep ed lo lb h made joined e makes = gather_law old cells rst arrival m bundles nets firsts trips out h made joined e (lo ∙ lb) (rw (ep, ed) at makes)
+pub law_as : (old cells : List SizedCell) (rst arrival : ℕ) (m : Move) (bundles : List (List NetId)) (nets : List NetId) (firsts : List ℕ) (trips : List Trip)
+    (out : List NetId) (p d b : ℕ) → p ≡ time m.out → d ≡ move_latency m → length out ≡ b → b ≡ columns_of m.out
+    → IsMove m → AreBundles old (map stream_of m.ins) bundles → AreJoined bundles nets firsts → map trip_tree trips ≡ move_trips m
+    → MakesTrips cells rst p d arrival nets out trips → KeepsLaw cells rst arrival (gather_part m) bundles out
+law_as old cells rst arrival m bundles nets firsts trips out p d b ep ed lo lb h made joined e makes =
+    gather_law old cells rst arrival m bundles nets firsts trips out h made joined e (lo ∙ lb) (rw (ep, ed) at makes)

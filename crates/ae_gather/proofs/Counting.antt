@@ -62,7 +62,8 @@ unfolding last_after last_of
 last_push [] z = refl
 last_push (x ∷ xs) z = ap Some (last_after_push x xs z)
 
-changes_push : (x : ChoiceTree) (ys : List ChoiceTree) (z : ChoiceTree) → changes_after same_choice x (ys ++ z ∷ []) ≡ changes_after same_choice x ys + cond (same_choice (last_after x ys) z) 0 1
+changes_push : (x : ChoiceTree) (ys : List ChoiceTree) (z : ChoiceTree)
+    → changes_after same_choice x (ys ++ z ∷ []) ≡ changes_after same_choice x ys + cond (same_choice (last_after x ys) z) 0 1
 unfolding last_after
 changes_push x [] z = refl
 changes_push x (y ∷ ys) z = omega (arith, changes_push y ys z)
@@ -103,14 +104,17 @@ runs_new (x ∷ xs) z no_last = by_case (same_choice (last_after x xs) z) refl
   where
     by_case : (b : Bool) → same_choice (last_after x xs) z ≡ b → changes_after same_choice x (xs ++ z ∷ []) + 1 ≡ changes_after same_choice x xs + 1 + 1
     by_case true t = absurd (no_last (ap Some (same_only (last_after x xs) z t)))
-    by_case false t = let c : changes_after same_choice x (xs ++ z ∷ []) ≡ changes_after same_choice x xs + cond (same_choice (last_after x xs) z) 0 1 = changes_push x xs z in let d : changes_after same_choice x (xs ++ z ∷ []) ≡ changes_after same_choice x xs + 1 = rw t at c in omega (arith, d)
+    by_case false t = let c : changes_after same_choice x (xs ++ z ∷ []) ≡ changes_after same_choice x xs + cond
+        (same_choice (last_after x xs) z) 0 1 = changes_push x xs z in
+        let d : changes_after same_choice x (xs ++ z ∷ []) ≡ changes_after same_choice x xs + 1 = rw t at c in omega (arith, d)
 
 -- steps with one for each stretch of these choices
 pub record Counts (steps : List Step) (choices : List ChoiceTree) : Type 0 where
   pub all : length steps ≡ stretches same_choice choices
   pub last : last_of (takes_of steps) ≡ last_of choices
 
-last_step : (steps : List Step) (k : ℕ) (step : Step) → length steps ≡ k + 1 → slice_get steps k ≡ Some step → last_of (takes_of steps) ≡ Some (choice_tree step.take)
+last_step : (steps : List Step) (k : ℕ) (step : Step) → length steps ≡ k + 1 → slice_get steps k ≡ Some step
+    → last_of (takes_of steps) ≡ Some (choice_tree step.take)
 unfolding last_of last_after
 last_step [] k step long found = cc
 last_step (s ∷ []) zero step long found = let same : s ≡ step = cc in ap (λ (x : Step). Some (choice_tree x.take)) same
@@ -118,18 +122,26 @@ last_step (s ∷ []) (suc k) step long found = absurd (omega (arith, long))
 last_step (s ∷ t ∷ steps) zero step long found = absurd (omega (arith, long))
 last_step (s ∷ t ∷ steps) (suc k) step long found = last_step (t ∷ steps) k step (omega (arith, long)) found
 
-pub counts_on : (steps : List Step) (choices : List ChoiceTree) (k : ℕ) (step : Step) → Counts steps choices → length steps ≡ k + 1 → slice_get steps k ≡ Some step → Counts steps (choices ++ (choice_tree step.take) ∷ [])
+pub counts_on : (steps : List Step) (choices : List ChoiceTree) (k : ℕ) (step : Step) → Counts steps choices → length steps ≡ k + 1
+    → slice_get steps k ≡ Some step → Counts steps (choices ++ (choice_tree step.take) ∷ [])
 counts_on steps choices k step h long found =
     let last : last_of choices ≡ Some (choice_tree step.take) = sym h.last ∙ last_step steps k step long found in
-    record { all = h.all ∙ sym (runs_on choices (choice_tree step.take) last); last = last_step steps k step long found ∙ sym (last_push choices (choice_tree step.take)) }
+    record {
+      all = h.all ∙ sym (runs_on choices (choice_tree step.take) last);
+      last = last_step steps k step long found ∙
+          sym (last_push choices (choice_tree step.take));
+    }
 
-pub counts_new : (steps : List Step) (choices : List ChoiceTree) (step : Step) → Counts steps choices → (last_of (takes_of steps) ≡ Some (choice_tree step.take) → ⊥) → Counts (steps ++ step ∷ []) (choices ++ (choice_tree step.take) ∷ [])
+pub counts_new : (steps : List Step) (choices : List ChoiceTree) (step : Step) → Counts steps choices
+    → (last_of (takes_of steps) ≡ Some (choice_tree step.take) → ⊥) → Counts (steps ++ step ∷ []) (choices ++ (choice_tree step.take) ∷ [])
 counts_new steps choices step h other = record {
   all = length_push steps step ∙ ap (λ n. n + 1) h.all ∙ sym (runs_new choices (choice_tree step.take) (λ e. other (h.last ∙ e)));
-  last = ap last_of (map-append (λ (s : Step). choice_tree s.take) steps (step ∷ [])) ∙ last_push (takes_of steps) (choice_tree step.take) ∙ sym (last_push choices (choice_tree step.take));
+  last = ap last_of (map-append (λ (s : Step). choice_tree s.take) steps (step ∷ [])) ∙ last_push (takes_of steps) (choice_tree step.take) ∙
+      sym (last_push choices (choice_tree step.take));
 }
 
-last_is : (steps : List Step) (x : ChoiceTree) → last_of (takes_of steps) ≡ Some x → (k : ℕ) × (s : Step) × (length steps ≡ k + 1) × (slice_get steps k ≡ Some s) × (choice_tree s.take ≡ x)
+last_is : (steps : List Step) (x : ChoiceTree) → last_of (takes_of steps) ≡ Some x → (k : ℕ) × (s : Step) × (length steps ≡ k + 1)
+    × (slice_get steps k ≡ Some s) × (choice_tree s.take ≡ x)
 unfolding last_of last_after
 last_is [] x e = cc
 last_is (s ∷ []) x e = let same : (choice_tree s.take) ≡ x = cc in (0, s, refl, refl, same)
@@ -137,7 +149,8 @@ last_is (s ∷ t ∷ steps) x e = let r = last_is (t ∷ steps) x e in (suc r.0,
 
 -- ---- the choices of a column, one trip on
 
-choices_same : (d q : ℕ) (trips : List TripTree) (i : ℕ) (t : TripTree) → slice_get trips i ≡ Some t → t.column ≡ q → choices_of d q (take (i + 1) trips) ≡ choices_of d q (take i trips) ++ choice_at d t ∷ []
+choices_same : (d q : ℕ) (trips : List TripTree) (i : ℕ) (t : TripTree) → slice_get trips i ≡ Some t → t.column ≡ q
+    → choices_of d q (take (i + 1) trips) ≡ choices_of d q (take i trips) ++ choice_at d t ∷ []
 choices_same d q trips i t found on =
     let is : get_or trips i t ≡ t = get_or_from_slice_get trips i t t found in
     let pass : nat_eq (get_or trips i t).column q ≡ true = ap (λ (x : TripTree). nat_eq x.column q) is ∙ eq-eqb t.column q on in
@@ -147,7 +160,8 @@ choices_same d q trips i t found on =
     ∙ map-append (choice_at d) (filter (λ (x : TripTree). nat_eq x.column q) (take i trips)) (get_or trips i t ∷ [])
     ∙ ap (λ (x : TripTree). choices_of d q (take i trips) ++ choice_at d x ∷ []) is
 
-choices_other : (d q : ℕ) (trips : List TripTree) (i : ℕ) (t : TripTree) → slice_get trips i ≡ Some t → (t.column ≡ q → ⊥) → choices_of d q (take (i + 1) trips) ≡ choices_of d q (take i trips)
+choices_other : (d q : ℕ) (trips : List TripTree) (i : ℕ) (t : TripTree) → slice_get trips i ≡ Some t → (t.column ≡ q → ⊥)
+    → choices_of d q (take (i + 1) trips) ≡ choices_of d q (take i trips)
 choices_other d q trips i t found off =
     let is : get_or trips i t ≡ t = get_or_from_slice_get trips i t t found in
     let pass : nat_eq (get_or trips i t).column q ≡ false = ap (λ (x : TripTree). nat_eq x.column q) is ∙ ne_eqb t.column q off in
@@ -160,41 +174,52 @@ choices_other d q trips i t found off =
 pub record Counted (d : ℕ) (trips : List TripTree) (i : ℕ) (columns : List (List Step)) : Type 0 where
   pub each : (q : ℕ) (steps : List Step) → slice_get columns q ≡ Some steps → Counts steps (choices_of d q (take i trips))
 
-pub counted_none : (d : ℕ) (trips : List TripTree) (columns : List (List Step)) → ((q : ℕ) (steps : List Step) → slice_get columns q ≡ Some steps → steps ≡ []) → Counted d trips 0 columns
+pub counted_none : (d : ℕ) (trips : List TripTree) (columns : List (List Step)) → ((q : ℕ) (steps : List Step) → slice_get columns q ≡ Some steps → steps ≡ [])
+    → Counted d trips 0 columns
 counted_none d trips columns empty = record { each = λ q steps f. rw (empty q steps f) (record { all = refl; last = refl }) }
 
-pub counted_same : (d : ℕ) (trips : List TripTree) (i : ℕ) (columns : List (List Step)) (t : TripTree) (steps : List Step) (k : ℕ) (step : Step) → Counted d trips i columns → slice_get trips i ≡ Some t → slice_get columns t.column ≡ Some steps
+pub counted_same : (d : ℕ) (trips : List TripTree) (i : ℕ) (columns : List (List Step)) (t : TripTree) (steps : List Step) (k : ℕ) (step : Step)
+    → Counted d trips i columns → slice_get trips i ≡ Some t → slice_get columns t.column ≡ Some steps
     → length steps ≡ k + 1 → slice_get steps k ≡ Some step → (choice_tree step.take) ≡ choice_at d t → Counted d trips (i + 1) columns
 counted_same d trips i columns t steps k step h at there long last takes = record {
   each = λ q these f. elim (cases_eq t.column q) [
     | inl e ↦
         let g : slice_get columns q ≡ Some steps = rw (← e) there in
         let same : steps ≡ these = cc in
-        let c : Counts these (choices_of d q (take i trips) ++ (choice_tree step.take) ∷ []) = rw (← same) (counts_on steps (choices_of d q (take i trips)) k step (h.each q steps g) long last) in
+        let c : Counts these (choices_of d q (take i trips) ++ (choice_tree step.take) ∷ []) = rw (← same)
+        (counts_on steps (choices_of d q (take i trips)) k step (h.each q steps g) long last) in
         rw (choices_same d q trips i t at e, ← takes) c
     | inr ne ↦ rw (choices_other d q trips i t at ne) (h.each q these f)
   ];
 }
 
-pub counted_more : (d : ℕ) (trips : List TripTree) (i : ℕ) (columns : List (List Step)) (t : TripTree) (steps : List Step) (step : Step) → Counted d trips i columns → slice_get trips i ≡ Some t → slice_get columns t.column ≡ Some steps
-    → (choice_tree step.take) ≡ choice_at d t → (((k : ℕ) × (s : Step) × (length steps ≡ k + 1) × (slice_get steps k ≡ Some s) × (choice_tree s.take ≡ choice_at d t)) → ⊥) → Counted d trips (i + 1) (set columns t.column (steps ++ step ∷ []))
+pub counted_more : (d : ℕ) (trips : List TripTree) (i : ℕ) (columns : List (List Step)) (t : TripTree) (steps : List Step) (step : Step)
+    → Counted d trips i columns → slice_get trips i ≡ Some t → slice_get columns t.column ≡ Some steps
+    → (choice_tree step.take) ≡ choice_at d t → (((k : ℕ) × (s : Step) × (length steps ≡ k + 1) × (slice_get steps k ≡ Some s)
+    × (choice_tree s.take ≡ choice_at d t)) → ⊥) → Counted d trips (i + 1) (set columns t.column (steps ++ step ∷ []))
 counted_more d trips i columns t steps step h at there takes other = record {
   each = λ q these f. elim (get_set_cases columns t.column q (steps ++ step ∷ []) steps these there f) [
     | inl e ↦
-        let c : Counts (steps ++ step ∷ []) (choices_of d t.column (take i trips) ++ (choice_tree step.take) ∷ []) = counts_new steps (choices_of d t.column (take i trips)) step (h.each t.column steps there) (λ l. other (rw takes at (last_is steps (choice_tree step.take) l))) in
+        let c : Counts (steps ++ step ∷ []) (choices_of d t.column (take i trips) ++ (choice_tree step.take) ∷ []) = counts_new steps
+        (choices_of d t.column (take i trips)) step (h.each t.column steps there) (λ l. other (rw takes at (last_is steps (choice_tree step.take) l))) in
         rw (← e.1, e.0, choices_same d t.column trips i t at refl, ← takes) c
     | inr e ↦ rw (choices_other d q trips i t at (λ x. e.0 (sym x))) (h.each q these e.1)
   ];
 }
 
-pub counts_whole : (d : ℕ) (trips : List TripTree) (i : ℕ) (columns : List (List Step)) → length trips ≤ i → Counted d trips i columns → (q : ℕ) (steps : List Step) → slice_get columns q ≡ Some steps → length steps ≡ stretches same_choice (choices_of d q trips)
-counts_whole d trips i columns l h q steps f = (h.each q steps f).all ∙ ap (λ (ts : List TripTree). stretches same_choice (choices_of d q ts)) (take_all i trips l)
+pub counts_whole : (d : ℕ) (trips : List TripTree) (i : ℕ) (columns : List (List Step)) → length trips ≤ i → Counted d trips i columns
+    → (q : ℕ) (steps : List Step) → slice_get columns q ≡ Some steps → length steps ≡ stretches same_choice (choices_of d q trips)
+counts_whole d trips i columns l h q steps f =
+    (h.each q steps f).all ∙ ap (λ (ts : List TripTree). stretches same_choice (choices_of d q ts)) (take_all i trips l)
 
 -- the steps of all columns are the runs
-pub runs_sum : (d n : ℕ) (trips : List TripTree) (columns : List (List Step)) → length columns ≡ n → ((q : ℕ) (steps : List Step) → slice_get columns q ≡ Some steps → length steps ≡ stretches same_choice (choices_of d q trips)) → sum_by length columns ≡ runs_of d n trips
+pub runs_sum : (d n : ℕ) (trips : List TripTree) (columns : List (List Step)) → length columns ≡ n
+    → ((q : ℕ) (steps : List Step) → slice_get columns q ≡ Some steps → length steps ≡ stretches same_choice (choices_of d q trips))
+    → sum_by length columns ≡ runs_of d n trips
 runs_sum d n trips columns long h =
     let f : ℕ → ℕ = λ q. stretches same_choice (choices_of d q trips) in
     let each : (q : ℕ) → q < n → get_or (map length columns) q 0 ≡ f q = λ q l.
     (let there : slice_get columns q ≡ Some (get_or columns q []) = slice_get-get_or columns q [] (omega (arith, long)) in
-    get_or_from_slice_get (map length columns) q (length (get_or columns q [])) 0 (get_mapped length columns q (get_or columns q []) there) ∙ h q (get_or columns q []) there) in
+    get_or_from_slice_get (map length columns) q (length (get_or columns q [])) 0 (get_mapped length columns q (get_or columns q []) there) ∙
+    h q (get_or columns q []) there) in
     sym (sum-map length columns) ∙ ap sum (fill_by_all f (map length columns) n 0 (length-map columns length ∙ long) each) ∙ sum-map f (range_with_len 0 n)

@@ -18,7 +18,8 @@ later_late p before step h k = by (nat_lt p step.from) refl
     by true is = rw is h
     by false is = rw is k
 
-fold_late : (p : ℕ) (before : Choice) (steps : List Step) → ComesLate before → ((k : ℕ) (step : Step) → slice_get steps k ≡ Some step → ComesLate step.take) → ComesLate (fold (later p) before steps)
+fold_late : (p : ℕ) (before : Choice) (steps : List Step) → ComesLate before → ((k : ℕ) (step : Step) → slice_get steps k ≡ Some step → ComesLate step.take)
+    → ComesLate (fold (later p) before steps)
 fold_late p before [] h all = h
 fold_late p before (s ∷ steps) h all = fold_late p (later p before s) steps (later_late p before s h (all 0 s refl)) (λ k step f. all (suc k) step f)
 
@@ -31,7 +32,8 @@ late_reached : (d c : ℕ) (source : Source) → ComesLate (choice_from d c sour
 late_reached d c (Place k q) h = omega arith
 late_reached d c (Fixed w) h = tt
 
-pub in_time : (period d ins outs : ℕ) (trips : List Trip) (lines : List (List ℕ)) (columns : List (List Step)) (early : List Bool) → AreWithin period d ins outs trips → IsPlan d trips lines columns → length columns ≡ outs
+pub in_time : (period d ins outs : ℕ) (trips : List Trip) (lines : List (List ℕ)) (columns : List (List Step)) (early : List Bool)
+    → AreWithin period d ins outs trips → IsPlan d trips lines columns → length columns ≡ outs
     → ((q : ℕ) (steps : List Step) → slice_get columns q ≡ Some steps → is_early early q ≡ true → AllComeLate steps) → AreInTime d early trips
 in_time period d ins outs trips lines columns early within plan long late = record {
   each = λ n trip found.
@@ -39,14 +41,17 @@ in_time period d ins outs trips lines columns early within plan long late = reco
       let there : slice_get columns trip.column ≡ Some (get_or columns trip.column []) = slice_get-get_or columns trip.column [] inside in
       let chooses = plan.chosen n trip (get_or columns trip.column []) found there in
       by trip (is_early early trip.column) (within.reached n trip found)
-      (λ on. rw chooses at (chosen_late trip.clock (get_or columns trip.column []) (plan.some n trip (get_or columns trip.column []) found there) (late trip.column (get_or columns trip.column []) there on))) refl);
+      (λ on. rw chooses at (chosen_late trip.clock (get_or columns trip.column []) (plan.some n trip (get_or columns trip.column []) found there)
+      (late trip.column (get_or columns trip.column []) there on))) refl);
 }
   where
-    by : (trip : Trip) (b : Bool) → IsReached d trip.clock trip.source → (is_early early trip.column ≡ true → ComesLate (choice_of d trip)) → is_early early trip.column ≡ b → IsReached d trip.clock (hastened_source (is_early early trip.column) trip.source)
+    by : (trip : Trip) (b : Bool) → IsReached d trip.clock trip.source → (is_early early trip.column ≡ true → ComesLate (choice_of d trip))
+        → is_early early trip.column ≡ b → IsReached d trip.clock (hastened_source (is_early early trip.column) trip.source)
     by trip true reached h on = rw on (late_reached d trip.clock trip.source (h on))
     by trip false reached h off = rw off reached
 
-pub none_in_time : (period d ins outs : ℕ) (trips : List Trip) (early : List Bool) → AreWithin period d ins outs trips → ((q : ℕ) → is_early early q ≡ false) → AreInTime d early trips
+pub none_in_time : (period d ins outs : ℕ) (trips : List Trip) (early : List Bool) → AreWithin period d ins outs trips → ((q : ℕ) → is_early early q ≡ false)
+    → AreInTime d early trips
 none_in_time period d ins outs trips early within none = record { each = λ n trip found. rw (none trip.column) (within.reached n trip found) }
 
 -- ---- flags
@@ -74,7 +79,8 @@ two_flags early p q f g =
     omega arith
 
 -- one column more
-pub early_push : (early : List Bool) (v : Bool) (columns : List (List Step)) (i : ℕ) (all : List Step) → length early ≡ i → slice_get columns i ≡ Some all → (v ≡ true → AllComeLate all)
+pub early_push : (early : List Bool) (v : Bool) (columns : List (List Step)) (i : ℕ) (all : List Step) → length early ≡ i → slice_get columns i ≡ Some all
+    → (v ≡ true → AllComeLate all)
     → ((q : ℕ) (steps : List Step) → q < i → slice_get columns q ≡ Some steps → is_early early q ≡ true → AllComeLate steps)
     → (q : ℕ) (steps : List Step) → q < i + 1 → slice_get columns q ≡ Some steps → is_early (early ++ v ∷ []) q ≡ true → AllComeLate steps
 early_push early v columns i all long found own before q steps l there on =

@@ -70,11 +70,13 @@ length_stream s = length-repeated (lanes s) (widths_of s) ∙ ap (λ n. lanes s 
 
 -- ---- nets of bundles
 
-pub bundle_columns : (cells : List SizedCell) (ins : List StTree) (bundles : List (List NetId)) → AreBundles cells (map stream_of ins) bundles → (i : ℕ) (s : StTree) (nets : List NetId)
+pub bundle_columns : (cells : List SizedCell) (ins : List StTree) (bundles : List (List NetId)) → AreBundles cells (map stream_of ins) bundles
+    → (i : ℕ) (s : StTree) (nets : List NetId)
     → slice_get ins i ≡ Some s → slice_get bundles i ≡ Some nets → length nets ≡ columns_of s
 bundle_columns cells ins bundles h i s nets f g = (h.each i (stream_of s) nets (get_mapped stream_of ins i s f) g).long ∙ length_stream s
 
-sums_same : (ins : List StTree) (bundles : List (List NetId)) → length bundles ≡ length ins → ((i : ℕ) (s : StTree) (nets : List NetId) → slice_get ins i ≡ Some s → slice_get bundles i ≡ Some nets → length nets ≡ columns_of s)
+sums_same : (ins : List StTree) (bundles : List (List NetId)) → length bundles ≡ length ins
+    → ((i : ℕ) (s : StTree) (nets : List NetId) → slice_get ins i ≡ Some s → slice_get bundles i ≡ Some nets → length nets ≡ columns_of s)
     → (i : ℕ) → sum_by length (take i bundles) ≡ sum_by columns_of (take i ins)
 sums_same ins bundles long h zero = refl
 sums_same [] [] long h (suc i) = refl
@@ -82,13 +84,16 @@ sums_same [] (b ∷ bundles) long h (suc i) = absurd (omega (arith, long))
 sums_same (s ∷ ins) [] long h (suc i) = absurd (omega (arith, long))
 sums_same (s ∷ ins) (b ∷ bundles) long h (suc i) =
     let here : length b ≡ columns_of s = h 0 s b refl refl in
-    let rest : sum_by length (take i bundles) ≡ sum_by columns_of (take i ins) = sums_same ins bundles (omega (arith, long)) (λ k t nets f g. h (suc k) t nets f g) i in
+    let rest : sum_by length (take i bundles) ≡ sum_by columns_of (take i ins) = sums_same ins bundles (omega (arith, long))
+    (λ k t nets f g. h (suc k) t nets f g) i in
     omega (arith, sum_by-cons length b (take i bundles), sum_by-cons columns_of s (take i ins))
 
-pub bundles_long : (cells : List SizedCell) (ins : List StTree) (bundles : List (List NetId)) → AreBundles cells (map stream_of ins) bundles → length bundles ≡ length ins
+pub bundles_long : (cells : List SizedCell) (ins : List StTree) (bundles : List (List NetId)) → AreBundles cells (map stream_of ins) bundles
+    → length bundles ≡ length ins
 bundles_long cells ins bundles h = h.long ∙ length-map ins stream_of
 
-pub firsts_same : (cells : List SizedCell) (ins : List StTree) (bundles : List (List NetId)) → AreBundles cells (map stream_of ins) bundles → (i : ℕ) → sum_by length (take i bundles) ≡ first_column ins i
+pub firsts_same : (cells : List SizedCell) (ins : List StTree) (bundles : List (List NetId)) → AreBundles cells (map stream_of ins) bundles → (i : ℕ)
+    → sum_by length (take i bundles) ≡ first_column ins i
 firsts_same cells ins bundles h i = sums_same ins bundles (bundles_long cells ins bundles h) (bundle_columns cells ins bundles h) i
 
 -- the net of a word of an element of an input
@@ -100,8 +105,10 @@ pub record HasNet (cells : List SizedCell) (bundles : List (List NetId)) (flat :
   pub is_net : IsNet cells net.0 width
   pub same : net_of flat (first + column) ≡ net.0
 
-pub net_at : (cells : List SizedCell) (ins : List StTree) (bundles : List (List NetId)) (flat : List NetId) (firsts : List ℕ) (i e j width : ℕ) (s : StTree) → AreBundles cells (map stream_of ins) bundles → AreJoined bundles flat firsts
-    → IsInSize s → slice_get ins i ≡ Some s → e < st_atoms s → width_at s j ≡ Some width → HasNet cells bundles flat i (column_number s e j) (first_column ins i) width
+pub net_at : (cells : List SizedCell) (ins : List StTree) (bundles : List (List NetId)) (flat : List NetId) (firsts : List ℕ) (i e j width : ℕ) (s : StTree)
+    → AreBundles cells (map stream_of ins) bundles → AreJoined bundles flat firsts
+    → IsInSize s → slice_get ins i ≡ Some s → e < st_atoms s → width_at s j ≡ Some width
+    → HasNet cells bundles flat i (column_number s e j) (first_column ins i) width
 net_at cells ins bundles flat firsts i e j width s h joined size f le wide =
     let none : NetId = record { 0 = 0 } in
     let c : ℕ = column_number s e j in
@@ -115,7 +122,8 @@ net_at cells ins bundles flat firsts i e j width s h joined size f le wide =
     let net : NetId = get_or nets c none in
     let found : slice_get nets c ≡ Some net = slice_get-get_or nets c none (omega arith) in
     let at : slice_get (stream_widths (stream_of s)) c ≡ Some width = widths_at s (slot_of s e).lane j (slot_below s size.lengths e le).1 word ∙ wide in
-    let place : slice_get flat (first_column ins i + c) ≡ Some net = rw (firsts_same cells ins bundles h i) at (joined.each i c nets net (omega arith) there found) in
+    let place : slice_get flat (first_column ins i + c) ≡ Some net = rw (firsts_same cells ins bundles h i) at
+    (joined.each i c nets net (omega arith) there found) in
     record {
       nets = nets;
       net = net;
@@ -126,7 +134,8 @@ net_at cells ins bundles flat firsts i e j width s h joined size f le wide =
     }
 
 -- each joined net is a net
-pub flat_nets : (cells : List SizedCell) (ins : List StTree) (bundles : List (List NetId)) (flat : List NetId) (firsts : List ℕ) → AreBundles cells (map stream_of ins) bundles → AreJoined bundles flat firsts
+pub flat_nets : (cells : List SizedCell) (ins : List StTree) (bundles : List (List NetId)) (flat : List NetId) (firsts : List ℕ)
+    → AreBundles cells (map stream_of ins) bundles → AreJoined bundles flat firsts
     → (q : ℕ) → q < length flat → (w : ℕ) × IsNet cells (net_of flat q) w
 flat_nets cells ins bundles flat firsts h joined q l =
     let none : NetId = record { 0 = 0 } in
@@ -182,11 +191,13 @@ abbrev FitsTree : List SizedCell → List NetId → ℕ → SourceTree → Type 
 FitsTree cells flat w (place k q) = IsNet cells (net_of flat q) w
 FitsTree cells flat w (constant v) = v < 2 ^ w
 
-fits_by : (cells : List SizedCell) (flat : List NetId) (w : ℕ) (x : Source) (tree : SourceTree) → source_tree x ≡ tree → FitsTree cells flat w tree → FitsColumn cells flat w x
+fits_by : (cells : List SizedCell) (flat : List NetId) (w : ℕ) (x : Source) (tree : SourceTree) → source_tree x ≡ tree → FitsTree cells flat w tree
+    → FitsColumn cells flat w x
 fits_by cells flat w (Place k q) tree e h = subst (FitsTree cells flat w) (sym e) h
 fits_by cells flat w (Fixed v) tree e h = subst (FitsTree cells flat w) (sym e) h
 
-origin_fits : (cells : List SizedCell) (ins : List StTree) (bundles : List (List NetId)) (flat : List NetId) (firsts : List ℕ) (width : ℕ) (o : OriginTree) → AreBundles cells (map stream_of ins) bundles → AreJoined bundles flat firsts
+origin_fits : (cells : List SizedCell) (ins : List StTree) (bundles : List (List NetId)) (flat : List NetId) (firsts : List ℕ) (width : ℕ) (o : OriginTree)
+    → AreBundles cells (map stream_of ins) bundles → AreJoined bundles flat firsts
     → ((i : ℕ) (s : StTree) → slice_get ins i ≡ Some s → IsInSize s) → HasOrigin ins width o → FitsTree cells flat width (source_of ins o)
 origin_fits cells ins bundles flat firsts width (from_input i e j) h joined sizes o =
     let is : get_or ins i (sseq 0 (atom (unsigned_word 1))) ≡ o.0 = get_or_from_slice_get ins i o.0 (sseq 0 (atom (unsigned_word 1))) o.1 in
@@ -194,7 +205,8 @@ origin_fits cells ins bundles flat firsts width (from_input i e j) h joined size
     rw is (rw n.same n.is_net)
 origin_fits cells ins bundles flat firsts width (fixed w) h joined sizes o = o
 
-pub fitting : (cells : List SizedCell) (m : Move) (bundles : List (List NetId)) (flat : List NetId) (firsts widths : List ℕ) (trips : List Trip) → IsMove m → AreBundles cells (map stream_of m.ins) bundles → AreJoined bundles flat firsts
+pub fitting : (cells : List SizedCell) (m : Move) (bundles : List (List NetId)) (flat : List NetId) (firsts widths : List ℕ) (trips : List Trip) → IsMove m
+    → AreBundles cells (map stream_of m.ins) bundles → AreJoined bundles flat firsts
     → map trip_tree trips ≡ move_trips m → AreWidths m.out widths → AreFitting cells flat widths trips
 fitting cells m bundles flat firsts widths trips h made joined e wide = record {
   low = λ q w f. (width_range m.out (q % element_words m.out) w h.out (wide q w f)).0;
@@ -214,7 +226,8 @@ fitting cells m bundles flat firsts widths trips h made joined e wide = record {
 
 -- ---- words
 
-hold_at : (k : ℕ) (ins : List StTree) (ws : List Wave) (vs : List (List ℕ)) → AllHold k (map stream_of ins) ws vs → (i : ℕ) (s : StTree) (wave : Wave) → slice_get ins i ≡ Some s → slice_get ws i ≡ Some wave
+hold_at : (k : ℕ) (ins : List StTree) (ws : List Wave) (vs : List (List ℕ)) → AllHold k (map stream_of ins) ws vs → (i : ℕ) (s : StTree) (wave : Wave)
+    → slice_get ins i ≡ Some s → slice_get ws i ≡ Some wave
     → Holds wave k (element_words s) (slots s) (get_or vs i [])
 hold_at k [] ws vs h i s wave f g = cc
 hold_at k (t ∷ ins) [] vs h i s wave f g = absurd h
@@ -232,30 +245,39 @@ abbrev sourced_tree : List Clock → (start a : ℕ) → List NetId → SourceTr
 sourced_tree run start a flat (place k q) = word_at run (start + (a + k)) (net_of flat q)
 sourced_tree run start a flat (constant w) = w
 
-sourced_by : (run : List Clock) (start a : ℕ) (flat : List NetId) (x : Source) (tree : SourceTree) → source_tree x ≡ tree → sourced run start a flat x ≡ sourced_tree run start a flat tree
+sourced_by : (run : List Clock) (start a : ℕ) (flat : List NetId) (x : Source) (tree : SourceTree) → source_tree x ≡ tree
+    → sourced run start a flat x ≡ sourced_tree run start a flat tree
 sourced_by run start a flat (Place k q) tree e = ap (sourced_tree run start a flat) e
 sourced_by run start a flat (Fixed v) tree e = ap (sourced_tree run start a flat) e
 
-wave_word : (run : List Clock) (start c q : ℕ) (nets : List NetId) (net : NetId) → slice_get nets q ≡ Some net → wave_of run start nets c q ≡ word_at run (start + c) net.0
+wave_word : (run : List Clock) (start c q : ℕ) (nets : List NetId) (net : NetId) → slice_get nets q ≡ Some net
+    → wave_of run start nets c q ≡ word_at run (start + c) net.0
 unfolding wave_of
 wave_word run start c q nets net f = rw f refl
 
-sourced_is : (cells : List SizedCell) (run : List Clock) (start a : ℕ) (ins : List StTree) (bundles : List (List NetId)) (joined_nets : List NetId) (firsts : List ℕ) (vs : List (List ℕ)) (width : ℕ) (o : OriginTree)
-    → AreBundles cells (map stream_of ins) bundles → AreJoined bundles joined_nets firsts → ((i : ℕ) (s : StTree) → slice_get ins i ≡ Some s → IsInSize s) → HasOrigin ins width o
+sourced_is : (cells : List SizedCell) (run : List Clock) (start a : ℕ) (ins : List StTree) (bundles : List (List NetId)) (joined_nets : List NetId)
+    (firsts : List ℕ) (vs : List (List ℕ)) (width : ℕ) (o : OriginTree)
+    → AreBundles cells (map stream_of ins) bundles → AreJoined bundles joined_nets firsts → ((i : ℕ) (s : StTree) → slice_get ins i ≡ Some s → IsInSize s)
+    → HasOrigin ins width o
     → AllHold a (map stream_of ins) (map (wave_of run start) bundles) vs → sourced_tree run start a joined_nets (source_of ins o) ≡ origin_word ins vs o
 sourced_is cells run start a ins bundles joined_nets firsts vs width (from_input i e j) h joined sizes o given =
     let s : StTree = o.0 in
     let is : get_or ins i (sseq 0 (atom (unsigned_word 1))) ≡ s = get_or_from_slice_get ins i s (sseq 0 (atom (unsigned_word 1))) o.1 in
     let n = net_at cells ins bundles joined_nets firsts i e j width s h joined (sizes i s o.1) o.1 o.2 o.3 in
     let slot : Slot = slot_of s e in
-    let there : slice_get (slots s) e ≡ Some slot = slice_get-get_or (slots s) e (record { clock = 0; lane = 0 }) (let l : e < st_atoms s = o.2 in omega (arith, length-slots s)) in
-    let held = hold_at a ins (map (wave_of run start) bundles) vs given i s (wave_of run start n.nets) o.1 (get_mapped (wave_of run start) bundles i n.nets n.there) e j slot there (word_below s j width o.3) in
-    let at : wave_of run start n.nets (a + slot.clock) (column_number s e j) ≡ word_at run (start + (a + slot.clock)) n.net.0 = wave_word run start (a + slot.clock) (column_number s e j) n.nets n.net n.found in
+    let there : slice_get (slots s) e ≡ Some slot = slice_get-get_or (slots s) e (record { clock = 0; lane = 0 })
+    (let l : e < st_atoms s = o.2 in omega (arith, length-slots s)) in
+    let held = hold_at a ins (map (wave_of run start) bundles) vs given i s (wave_of run start n.nets) o.1
+    (get_mapped (wave_of run start) bundles i n.nets n.there) e j slot there (word_below s j width o.3) in
+    let at : wave_of run start n.nets (a + slot.clock) (column_number s e j) ≡ word_at run (start + (a + slot.clock)) n.net.0 = wave_word run start
+    (a + slot.clock) (column_number s e j) n.nets n.net n.found in
     rw is (ap (word_at run (start + (a + slot.clock))) n.same ∙ (sym at ∙ held))
 sourced_is cells run start a ins bundles joined_nets firsts vs width (fixed w) h joined sizes o given = refl
 
-pub gather_law : (old cells : List SizedCell) (rst arrival : ℕ) (m : Move) (bundles : List (List NetId)) (joined_nets : List NetId) (firsts : List ℕ) (trips : List Trip) (out : List NetId) → IsMove m → AreBundles old (map stream_of m.ins) bundles
-    → AreJoined bundles joined_nets firsts → map trip_tree trips ≡ move_trips m → length out ≡ columns_of m.out → MakesTrips cells rst (time m.out) (move_latency m) arrival joined_nets out trips → KeepsLaw cells rst arrival (gather_part m) bundles out
+pub gather_law : (old cells : List SizedCell) (rst arrival : ℕ) (m : Move) (bundles : List (List NetId)) (joined_nets : List NetId) (firsts : List ℕ)
+    (trips : List Trip) (out : List NetId) → IsMove m → AreBundles old (map stream_of m.ins) bundles
+    → AreJoined bundles joined_nets firsts → map trip_tree trips ≡ move_trips m → length out ≡ columns_of m.out
+    → MakesTrips cells rst (time m.out) (move_latency m) arrival joined_nets out trips → KeepsLaw cells rst arrival (gather_part m) bundles out
 gather_law old cells rst arrival m bundles joined_nets firsts trips out h made joined e long makes = λ all x run r start reset. record {
   makes = λ b vs enough values given. rw (length_widths m.out) (λ i j slot found small.
       let w : ℕ = element_words m.out in
@@ -270,7 +292,8 @@ gather_law old cells rst arrival m bundles joined_nets firsts trips out h made j
       let r_is : n % w ≡ j = mod-mul-add i w j small in
       let place : slot_of m.out (n / w) ≡ slot = ap (slot_of m.out) q_is ∙ st.is in
       let clock : t.0.clock ≡ slot.clock = ap (λ (v : TripTree). v.clock) y.1 ∙ ap (λ (v : Slot). v.clock) place in
-      let column : t.0.column ≡ slot.lane * w + j = ap (λ (v : TripTree). v.column) y.1 ∙ (ap (λ (v : Slot). v.lane * w + n % w) place ∙ ap (λ v. slot.lane * w + v) r_is) in
+      let column : t.0.column ≡ slot.lane * w + j = ap (λ (v : TripTree). v.column) y.1 ∙
+      (ap (λ (v : Slot). v.lane * w + n % w) place ∙ ap (λ v. slot.lane * w + v) r_is) in
       let early : slot.clock < p = (let b0 : (slot_of m.out i).clock < p = (slot_below m.out h.out.lengths i st.below).0 in rw st.is at b0) in
       let lane : slot.lane < lanes m.out = (let b1 : (slot_of m.out i).lane < lanes m.out = (slot_below m.out h.out.lengths i st.below).1 in rw st.is at b1) in
       let lc : slot.lane * w + j < columns_of m.out = in_row slot.lane j (lanes m.out) w lane small in
@@ -284,7 +307,8 @@ gather_law old cells rst arrival m bundles joined_nets firsts trips out h made j
       let o = origin_at m n h inside in
       let origin : OriginTree = get_or m.origins n (fixed 0) in
       let fn : slice_get m.origins n ≡ Some origin = slice_get-get_or m.origins n (fixed 0) (omega (arith, h.count)) in
-      let value : get_or (map (origin_word m.ins vs) m.origins) n 0 ≡ origin_word m.ins vs origin = get_or_from_slice_get (map (origin_word m.ins vs) m.origins) n (origin_word m.ins vs origin) 0 (get_mapped (origin_word m.ins vs) m.origins n origin fn) in
+      let value : get_or (map (origin_word m.ins vs) m.origins) n 0 ≡ origin_word m.ins vs origin = get_or_from_slice_get
+      (map (origin_word m.ins vs) m.origins) n (origin_word m.ins vs origin) 0 (get_mapped (origin_word m.ins vs) m.origins n origin fn) in
       wave_word run start (arrival + d + b * p + slot.clock) (slot.lane * w + j) out net fo
       ∙ (rw clock at word
       ∙ (sourced_by run start (arrival + b * p) joined_nets t.0.source _ (ap (λ (v : TripTree). v.source) y.1)
@@ -293,7 +317,8 @@ gather_law old cells rst arrival m bundles joined_nets firsts trips out h made j
 }
 
 -- the output is a bundle of its widths
-pub out_nets : (cells : List SizedCell) (m : Move) (widths : List ℕ) (out : List NetId) → IsMove m → length out ≡ length widths → length widths ≡ columns_of m.out → AreWidths m.out widths
+pub out_nets : (cells : List SizedCell) (m : Move) (widths : List ℕ) (out : List NetId) → IsMove m → length out ≡ length widths
+    → length widths ≡ columns_of m.out → AreWidths m.out widths
     → ((q w : ℕ) (y : NetId) → slice_get widths q ≡ Some w → slice_get out q ≡ Some y → IsNet cells y.0 w) → AreNets cells (stream_widths (stream_of m.out)) out
 out_nets cells m widths out h lo lw wide nets = record {
   long = lo ∙ (lw ∙ sym (length_stream m.out));
@@ -302,7 +327,8 @@ out_nets cells m widths out h lo lw wide nets = record {
       let l : q < lanes m.out * w = (let a : q < length out = slice_get_within out q y g in omega arith) in
       let lane : q / w < lanes m.out = div_below q w (lanes m.out) (words_pos m.out) l in
       let j : q % w < w = mod_below q w (words_pos m.out) in
-      let at : slice_get (stream_widths (stream_of m.out)) q ≡ width_at m.out (q % w) = ap (slice_get (stream_widths (stream_of m.out))) (sym (div-add-mod' q w)) ∙ widths_at m.out (q / w) (q % w) lane j in
+      let at : slice_get (stream_widths (stream_of m.out)) q ≡ width_at m.out (q % w) = ap (slice_get (stream_widths (stream_of m.out)))
+      (sym (div-add-mod' q w)) ∙ widths_at m.out (q / w) (q % w) lane j in
       let fw : slice_get widths q ≡ Some (get_or widths q 0) = slice_get-get_or widths q 0 (omega arith) in
       let has : width_at m.out (q % w) ≡ Some (get_or widths q 0) = wide q (get_or widths q 0) fw in
       let same : get_or widths q 0 ≡ width = cc in

@@ -25,7 +25,8 @@ unfolding phase_of
 other_phase p o c a less some small e = phases_differ p (c + p - o) (c + a + p - o) (omega arith) (omega arith) (sym e)
 
 -- one clock more
-pub kept_on : (run : List Clock) (start y x r p o q c a : ℕ) → o < p → IsKept run y r q x → HasWords run start r (phase_of p o) → phase_of p o c ≡ q → suc a ≤ p → start + (c + suc a) < length run
+pub kept_on : (run : List Clock) (start y x r p o q c a : ℕ) → o < p → IsKept run y r q x → HasWords run start r (phase_of p o) → phase_of p o c ≡ q
+    → suc a ≤ p → start + (c + suc a) < length run
     → (1 ≤ a → word_at run (start + (c + a)) y ≡ word_at run (start + c) x) → word_at run (start + (c + suc a)) y ≡ word_at run (start + c) x
 kept_on run start y x r p o q c zero less kept counts here within l before =
     let at : start + (c + 1) ≡ start + c + 1 = omega arith in
@@ -42,7 +43,8 @@ kept_on run start y x r p o q c (suc a) less kept counts here within l before =
 pub held : (run : List Clock) (start y x r p o q : ℕ) → o < p → IsKept run y r q x → HasWords run start r (phase_of p o) → Holds run start y x p o q
 held run start y x r p o q less kept counts c zero here some within l = absurd (omega arith)
 held run start y x r p o q less kept counts c (suc a) here some within l =
-    kept_on run start y x r p o q c a less kept counts here within l (λ more. held run start y x r p o q less kept counts c a here more (omega arith) (omega arith))
+    kept_on run start y x r p o q c a less kept counts here within l
+    (λ more. held run start y x r p o q less kept counts c a here more (omega arith) (omega arith))
 
 bit_chooses : (v : Bool) (x y : ℕ) → (if (if v then 1 else 0) == 1 then x else y) ≡ (if v then x else y)
 bit_chooses true x y = refl

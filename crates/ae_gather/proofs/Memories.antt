@@ -49,7 +49,8 @@ tree_reached : (d ins c : ℕ) (s : Source) → IsReached d c s → IsIn ins s �
 tree_reached d ins c (Place k q) r i = (i, r)
 tree_reached d ins c (Fixed w) r i = tt
 
-pub trees_within : (d ins outs : ℕ) (trips : List Trip) → outs < 2 ^ 32 → AreWithin 4096 d ins outs trips → All (λ t. IsWithin d ins 4294967296 (trip_tree t)) trips
+pub trees_within : (d ins outs : ℕ) (trips : List Trip) → outs < 2 ^ 32 → AreWithin 4096 d ins outs trips
+    → All (λ t. IsWithin d ins 4294967296 (trip_tree t)) trips
 trees_within d ins outs trips few h =
     All-from_get_or (λ t. IsWithin d ins 4294967296 (trip_tree t)) trips (record { clock = 0; column = 0; source = Fixed 0 }) (λ n l.
     let t : Trip = get_or trips n (record { clock = 0; column = 0; source = Fixed 0 }) in

@@ -12,7 +12,8 @@ pub get_right : {X : Type 0} (xs ys : List X) (p : ℕ) → slice_get (xs ++ ys)
 get_right [] ys p = let e : 0 + p ≡ p = omega arith in rw e refl
 get_right (x ∷ xs) ys p = let e : length (x ∷ xs) + p ≡ suc (length xs + p) = omega arith in rw e (get_right xs ys p)
 
-pub get_append_cases : {X : Type 0} (xs ys : List X) (q : ℕ) (x d : X) → slice_get (xs ++ ys) q ≡ Some x → (slice_get xs q ≡ Some x) ⊎ (slice_get ys (q - length xs) ≡ Some x)
+pub get_append_cases : {X : Type 0} (xs ys : List X) (q : ℕ) (x d : X) → slice_get (xs ++ ys) q ≡ Some x → (slice_get xs q ≡ Some x)
+    ⊎ (slice_get ys (q - length xs) ≡ Some x)
 get_append_cases xs ys q x d found = elim (cases_lt q (length xs)) [
   | inl l ↦
       let a : slice_get xs q ≡ Some (get_or xs q d) = slice_get-get_or xs q d l in
@@ -31,7 +32,8 @@ joined_none bundles nets firsts en ef = rw (en, ef) (record {
   from = λ q net f. (let l : q < 0 = slice_get_within [] q net f in absurd (omega arith));
 })
 
-pub joined_more : (k : ℕ) (bundles : List (List NetId)) (nets more : List NetId) (firsts : List ℕ) → AreJoinedTo k bundles nets firsts → slice_get bundles k ≡ Some more → AreJoinedTo (k + 1) bundles (nets ++ more) (firsts ++ length nets ∷ [])
+pub joined_more : (k : ℕ) (bundles : List (List NetId)) (nets more : List NetId) (firsts : List ℕ) → AreJoinedTo k bundles nets firsts
+    → slice_get bundles k ≡ Some more → AreJoinedTo (k + 1) bundles (nets ++ more) (firsts ++ length nets ∷ [])
 joined_more k bundles nets more firsts h at = record {
   long = omega (arith, length-append nets more, h.long, sum_next length bundles k more at);
   begins = length_push firsts (length nets) ∙ ap (λ n. n + 1) h.begins;
@@ -54,8 +56,10 @@ joined_more k bundles nets more firsts h at = record {
 }
 
 -- where the number of nets is counted
-pub joined_next : (k first : ℕ) (bundles : List (List NetId)) (nets more : List NetId) (firsts : List ℕ) → AreJoinedTo k bundles nets firsts → slice_get bundles k ≡ Some more → first ≡ length nets → AreJoinedTo (k + 1) bundles (nets ++ more) (firsts ++ first ∷ [])
+pub joined_next : (k first : ℕ) (bundles : List (List NetId)) (nets more : List NetId) (firsts : List ℕ) → AreJoinedTo k bundles nets firsts
+    → slice_get bundles k ≡ Some more → first ≡ length nets → AreJoinedTo (k + 1) bundles (nets ++ more) (firsts ++ first ∷ [])
 joined_next k first bundles nets more firsts h at e = rw e (joined_more k bundles nets more firsts h at)
 
-pub joined_all : (k : ℕ) (bundles : List (List NetId)) (nets : List NetId) (firsts : List ℕ) → k ≡ length bundles → AreJoinedTo k bundles nets firsts → AreJoined bundles nets firsts
+pub joined_all : (k : ℕ) (bundles : List (List NetId)) (nets : List NetId) (firsts : List ℕ) → k ≡ length bundles → AreJoinedTo k bundles nets firsts
+    → AreJoined bundles nets firsts
 joined_all k bundles nets firsts e h = rw (← e) h

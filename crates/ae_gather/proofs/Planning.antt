@@ -37,9 +37,11 @@ pub record Planned (d ins outs : ℕ) (trips : List Trip) (i : ℕ) (lines : Lis
   pub taps : (q k : ℕ) (steps : List Step) (step : Step) → slice_get columns q ≡ Some steps → slice_get steps k ≡ Some step → HasPlace lines step.tap step.take
   pub few : (q : ℕ) (ages : List ℕ) → slice_get lines q ≡ Some ages → length ages ≤ i
 
-pub get_set_cases : {X : Type 0} (xs : List X) (i n : ℕ) (y z x : X) → slice_get xs i ≡ Some z → slice_get (set xs i y) n ≡ Some x → ((n ≡ i) × (y ≡ x)) ⊎ ((n ≢ i) × (slice_get xs n ≡ Some x))
+pub get_set_cases : {X : Type 0} (xs : List X) (i n : ℕ) (y z x : X) → slice_get xs i ≡ Some z → slice_get (set xs i y) n ≡ Some x → ((n ≡ i) × (y ≡ x))
+    ⊎ ((n ≢ i) × (slice_get xs n ≡ Some x))
 get_set_cases xs i n y z x there found = elim (cases_eq n i) [
-  | inl e ↦ (let at : slice_get (set xs i y) i ≡ Some x = rw e at found in let new : slice_get (set xs i y) i ≡ Some y = get_set_same xs i y z there in let same : y ≡ x = cc in inl (e, same))
+  | inl e ↦ (let at : slice_get (set xs i y) i ≡ Some x = rw e at found in let new : slice_get (set xs i y) i ≡ Some y = get_set_same xs i y z there in
+      let same : y ≡ x = cc in inl (e, same))
   | inr ne ↦ inr (ne, sym (get_set_other xs i n y ne) ∙ found)
 ]
 
@@ -52,13 +54,15 @@ pub later_after : (p : ℕ) (before : Choice) (step : Step) → step.from ≤ p 
 later_after p before step l = let t : nat_lt p step.from ≡ false = search (arith) in rw t refl
 
 -- in and after its last phase
-pub choice_last : (p k : ℕ) (steps : List Step) (step : Step) → length steps ≡ k + 1 → slice_get steps k ≡ Some step → step.from ≤ p → choice_in p steps ≡ step.take
+pub choice_last : (p k : ℕ) (steps : List Step) (step : Step) → length steps ≡ k + 1 → slice_get steps k ≡ Some step → step.from ≤ p
+    → choice_in p steps ≡ step.take
 choice_last p zero steps step long found l =
     let all : take 1 steps ≡ steps = take_all 1 steps (omega (arith, long)) in
     ap (choice_in p) (sym all ∙ first_take steps step found) ∙ choice_one p step
 choice_last p (suc k) steps step long found l =
     let all : take (suc k + 1) steps ≡ steps = take_all (suc k + 1) steps (omega (arith, long)) in
-    ap (choice_in p) (sym all) ∙ choice_more p steps (suc k) step (omega arith) (omega (arith, long)) found ∙ later_after p (choice_in p (take (suc k) steps)) step l
+    ap (choice_in p) (sym all) ∙ choice_more p steps (suc k) step (omega arith) (omega (arith, long)) found ∙
+    later_after p (choice_in p (take (suc k) steps)) step l
 
 pub choice_new : (p : ℕ) (steps : List Step) (step : Step) → step.from ≤ p → choice_in p (steps ++ step ∷ []) ≡ step.take
 choice_new p [] step l = choice_one p step
@@ -73,11 +77,13 @@ pub demanded_length : (old new : List (List ℕ)) (choice : Choice) (tap : ℕ) 
 demanded_length old new (Delayed column age) tap h = rw h.2 (length-set old column (h.0 ++ age ∷ []))
 demanded_length old new (Constant w) tap h = ap length h
 
-pub demanded_few : (old new : List (List ℕ)) (choice : Choice) (tap i : ℕ) → demanded old choice new tap → ((q : ℕ) (ages : List ℕ) → slice_get old q ≡ Some ages → length ages ≤ i) → (q : ℕ) (ages : List ℕ) → slice_get new q ≡ Some ages → length ages ≤ i + 1
+pub demanded_few : (old new : List (List ℕ)) (choice : Choice) (tap i : ℕ) → demanded old choice new tap
+    → ((q : ℕ) (ages : List ℕ) → slice_get old q ≡ Some ages → length ages ≤ i) → (q : ℕ) (ages : List ℕ) → slice_get new q ≡ Some ages → length ages ≤ i + 1
 demanded_few old new (Delayed column age) tap i h few q ages found =
     let f : slice_get (set old column (h.0 ++ age ∷ [])) q ≡ Some ages = rw h.2 at found in
     elim (get_set_cases old column q (h.0 ++ age ∷ []) h.0 ages h.1 f) [
-      | inl e ↦ (let n : length h.0 ≤ i = few column h.0 h.1 in let m : length (h.0 ++ age ∷ []) ≡ length h.0 + 1 = length_push h.0 age in rw (← e.1) (omega arith))
+      | inl e ↦ (let n : length h.0 ≤ i = few column h.0 h.1 in let m : length (h.0 ++ age ∷ []) ≡ length h.0 + 1 = length_push h.0 age in
+          rw (← e.1) (omega arith))
       | inr e ↦ (let n : length ages ≤ i = few q ages e.1 in omega arith)
     ]
 demanded_few old new (Constant w) tap i h few q ages found = let n : length ages ≤ i = few q ages (rw h at found) in omega arith
@@ -86,7 +92,8 @@ pub demanded_new : (old new : List (List ℕ)) (choice : Choice) (tap : ℕ) →
 demanded_new old new (Delayed column age) tap h = (h.0 ++ age ∷ [], rw h.2 (get_set_same old column (h.0 ++ age ∷ []) h.0 h.1), rw h.3 (get_pushed h.0 age))
 demanded_new old new (Constant w) tap h = tt
 
-pub demanded_old : (old new : List (List ℕ)) (choice : Choice) (tap : ℕ) (other : Choice) (place : ℕ) → demanded old choice new tap → HasPlace old place other → HasPlace new place other
+pub demanded_old : (old new : List (List ℕ)) (choice : Choice) (tap : ℕ) (other : Choice) (place : ℕ) → demanded old choice new tap → HasPlace old place other
+    → HasPlace new place other
 demanded_old old new (Delayed column age) tap (Delayed q a) place h p = elim (cases_eq q column) [
   | inl e ↦
       let at : slice_get old column ≡ Some p.0 = rw e at p.1 in
@@ -101,33 +108,40 @@ demanded_old old new choice tap (Constant v) place h p = tt
 
 -- ---- one trip more
 
-pub none_push : {X : Type 0} (xs : List (List X)) → ((q : ℕ) (x : List X) → slice_get xs q ≡ Some x → x ≡ []) → (q : ℕ) (x : List X) → slice_get (xs ++ [] ∷ []) q ≡ Some x → x ≡ []
+pub none_push : {X : Type 0} (xs : List (List X)) → ((q : ℕ) (x : List X) → slice_get xs q ≡ Some x → x ≡ []) → (q : ℕ) (x : List X)
+    → slice_get (xs ++ [] ∷ []) q ≡ Some x → x ≡ []
 none_push xs h q x found = elim (get_push_cases xs [] q x found) [
   | inl w ↦ h q x w.0
   | inr w ↦ sym w.1
 ]
 
 pub planned_none : (d ins outs : ℕ) (trips : List Trip) (lines : List (List ℕ)) (columns : List (List Step)) → length lines ≡ ins → length columns ≡ outs
-    → ((q : ℕ) (ages : List ℕ) → slice_get lines q ≡ Some ages → ages ≡ []) → ((q : ℕ) (steps : List Step) → slice_get columns q ≡ Some steps → steps ≡ []) → Planned d ins outs trips 0 lines columns
+    → ((q : ℕ) (ages : List ℕ) → slice_get lines q ≡ Some ages → ages ≡ []) → ((q : ℕ) (steps : List Step) → slice_get columns q ≡ Some steps → steps ≡ [])
+    → Planned d ins outs trips 0 lines columns
 planned_none d ins outs trips lines columns a b none empty = record {
   ins_all = a;
   outs_all = b;
   made = λ n trip l. absurd (omega arith);
   from = λ q k steps step f g. (let e : steps ≡ [] = empty q steps f in let h : slice_get [] k ≡ Some step = rw e at g in cc);
-  taps = λ q k steps step f g. (let e : steps ≡ [] = empty q steps f in let h : slice_get [] k ≡ Some step = rw e at g in let i : k < 0 = slice_get_within [] k step h in absurd (omega arith));
+  taps = λ q k steps step f g. (let e : steps ≡ [] = empty q steps f in let h : slice_get [] k ≡ Some step = rw e at g in
+      let i : k < 0 = slice_get_within [] k step h in absurd (omega arith));
   few = λ q ages f. rw (none q ages f) (omega arith);
 }
 
 comes_later : (d i : ℕ) (trips : List Trip) (q : ℕ) (step : Step) → ComesFrom d i trips q step → ComesFrom d (i + 1) trips q step
-comes_later d i trips q step h = record { n = h.n; trip = h.trip; early = (let l : h.n < i = h.early in omega arith); found = h.found; column = h.column; from = h.from; take = h.take }
+comes_later d i trips q step h =
+    record { n = h.n; trip = h.trip; early = (let l : h.n < i = h.early in omega arith); found = h.found; column = h.column; from = h.from; take = h.take }
 
 -- the steps of its column have begun before a trip that is still to come
-begun : (d i : ℕ) (trips : List Trip) (q : ℕ) (step : Step) (t : Trip) → AreInOrder trips → ComesFrom d i trips q step → slice_get trips i ≡ Some t → t.column ≡ q → step.from < t.clock
+begun : (d i : ℕ) (trips : List Trip) (q : ℕ) (step : Step) (t : Trip) → AreInOrder trips → ComesFrom d i trips q step → slice_get trips i ≡ Some t
+    → t.column ≡ q → step.from < t.clock
 begun d i trips q step t order h found on = let l : h.trip.clock < t.clock = order.each h.n i h.trip t h.early h.found found (h.column ∙ sym on) in rw h.from l
 
 -- its column goes on as it was
-pub planned_same : (d ins outs : ℕ) (trips : List Trip) (i : ℕ) (lines : List (List ℕ)) (columns : List (List Step)) (t : Trip) (steps : List Step) (k : ℕ) (step : Step) → AreInOrder trips → Planned d ins outs trips i lines columns
-    → slice_get trips i ≡ Some t → slice_get columns t.column ≡ Some steps → length steps ≡ k + 1 → slice_get steps k ≡ Some step → step.take ≡ choice_of d t → Planned d ins outs trips (i + 1) lines columns
+pub planned_same : (d ins outs : ℕ) (trips : List Trip) (i : ℕ) (lines : List (List ℕ)) (columns : List (List Step)) (t : Trip) (steps : List Step) (k : ℕ)
+    (step : Step) → AreInOrder trips → Planned d ins outs trips i lines columns
+    → slice_get trips i ≡ Some t → slice_get columns t.column ≡ Some steps → length steps ≡ k + 1 → slice_get steps k ≡ Some step → step.take ≡ choice_of d t
+    → Planned d ins outs trips (i + 1) lines columns
 planned_same d ins outs trips i lines columns t steps k step order h at there long last takes = record {
   ins_all = h.ins_all;
   outs_all = h.outs_all;
@@ -136,7 +150,13 @@ planned_same d ins outs trips i lines columns t steps k step order h at there lo
         let f : slice_get trips i ≡ Some trip = rw e at found in
         let same : t ≡ trip = cc in
         let m : step.from < t.clock = begun d i trips t.column step t order (h.from t.column k steps step there last) at refl in
-        rw (← same) (record { steps = steps; there = there; some = omega (arith, long); chooses = choice_last t.clock k steps step long last (omega arith) ∙ takes })
+        rw (← same) (record {
+          steps = steps;
+          there = there;
+          some = omega (arith, long);
+          chooses = choice_last t.clock k steps step long last (omega arith) ∙
+              takes;
+        })
     | inr ne ↦ h.made n trip (omega arith) found
   ];
   from = λ q j ss s f g. comes_later d i trips q s (h.from q j ss s f g);
@@ -148,7 +168,8 @@ abbrev pub next_step : (d tap : ℕ) → Trip → Step
 next_step d tap t = record { from = t.clock; take = choice_of d t; tap = tap }
 
 -- an earlier trip keeps its choice
-made_before : (d i tap : ℕ) (trips : List Trip) (columns : List (List Step)) (t : Trip) (steps : List Step) → AreInOrder trips → slice_get trips i ≡ Some t → slice_get columns t.column ≡ Some steps
+made_before : (d i tap : ℕ) (trips : List Trip) (columns : List (List Step)) (t : Trip) (steps : List Step) → AreInOrder trips → slice_get trips i ≡ Some t
+    → slice_get columns t.column ≡ Some steps
     → (n : ℕ) (trip : Trip) → n < i → slice_get trips n ≡ Some trip → Made d columns trip → Made d (set columns t.column (steps ++ next_step d tap t ∷ [])) trip
 made_before d i tap trips columns t steps order at there n trip l found m = elim (cases_eq trip.column t.column) [
   | inl e ↦
@@ -157,12 +178,23 @@ made_before d i tap trips columns t steps order at there n trip l found m = elim
       let some : 1 ≤ length steps = rw same at m.some in
       let chooses : choice_in trip.clock steps ≡ choice_of d trip = rw same at m.chooses in
       let before : trip.clock < t.clock = order.each n i trip t l found at e in
-      record { steps = steps ++ next_step d tap t ∷ []; there = rw e (get_set_same columns t.column (steps ++ next_step d tap t ∷ []) steps there); some = (let z : length (steps ++ next_step d tap t ∷ []) ≡ length steps + 1 = length_push steps (next_step d tap t) in omega arith); chooses = choice_old trip.clock steps (next_step d tap t) some before ∙ chooses }
-  | inr ne ↦ record { steps = m.steps; there = get_set_other columns t.column trip.column (steps ++ next_step d tap t ∷ []) ne ∙ m.there; some = m.some; chooses = m.chooses }
+      record {
+        steps = steps ++ next_step d tap t ∷ [];
+        there = rw e (get_set_same columns t.column (steps ++ next_step d tap t ∷ []) steps there);
+        some = (let z : length (steps ++ next_step d tap t ∷ []) ≡ length steps + 1 = length_push steps (next_step d tap t) in omega arith);
+        chooses = choice_old trip.clock steps (next_step d tap t) some before ∙ chooses;
+      }
+  | inr ne ↦ record {
+    steps = m.steps;
+    there = get_set_other columns t.column trip.column (steps ++ next_step d tap t ∷ []) ne ∙ m.there;
+    some = m.some;
+    chooses = m.chooses;
+  }
 ]
 
 -- its column has one step more
-pub planned_more : (d ins outs : ℕ) (trips : List Trip) (i : ℕ) (lines more : List (List ℕ)) (columns : List (List Step)) (t : Trip) (steps : List Step) (tap : ℕ) → AreInOrder trips → Planned d ins outs trips i lines columns
+pub planned_more : (d ins outs : ℕ) (trips : List Trip) (i : ℕ) (lines more : List (List ℕ)) (columns : List (List Step)) (t : Trip) (steps : List Step)
+    (tap : ℕ) → AreInOrder trips → Planned d ins outs trips i lines columns
     → slice_get trips i ≡ Some t → slice_get columns t.column ≡ Some steps → demanded lines (choice_of d t) more tap
     → Planned d ins outs trips (i + 1) more (set columns t.column (steps ++ next_step d tap t ∷ []))
 planned_more d ins outs trips i lines more columns t steps tap order h at there asked = record {
@@ -172,7 +204,12 @@ planned_more d ins outs trips i lines more columns t steps tap order h at there 
     | inl e ↦
         let f : slice_get trips i ≡ Some trip = rw e at found in
         let same : t ≡ trip = cc in
-        rw (← same) (record { steps = steps ++ next_step d tap t ∷ []; there = get_set_same columns t.column (steps ++ next_step d tap t ∷ []) steps there; some = (let m : length (steps ++ next_step d tap t ∷ []) ≡ length steps + 1 = length_push steps (next_step d tap t) in omega arith); chooses = choice_new t.clock steps (next_step d tap t) (omega arith) })
+        rw (← same) (record {
+          steps = steps ++ next_step d tap t ∷ [];
+          there = get_set_same columns t.column (steps ++ next_step d tap t ∷ []) steps there;
+          some = (let m : length (steps ++ next_step d tap t ∷ []) ≡ length steps + 1 = length_push steps (next_step d tap t) in omega arith);
+          chooses = choice_new t.clock steps (next_step d tap t) (omega arith);
+        })
     | inr ne ↦ made_before d i tap trips columns t steps order at there n trip (omega arith) found (h.made n trip (omega arith) found)
   ];
   from = λ q j ss s f g. elim (get_set_cases columns t.column q (steps ++ next_step d tap t ∷ []) steps ss there f) [
@@ -192,7 +229,8 @@ planned_more d ins outs trips i lines more columns t steps tap order h at there 
   few = demanded_few lines more (choice_of d t) tap i asked h.few;
 }
 
-pub plan_whole : (d ins outs : ℕ) (trips : List Trip) (i : ℕ) (lines : List (List ℕ)) (columns : List (List Step)) → length trips ≤ i → Planned d ins outs trips i lines columns → IsPlan d trips lines columns
+pub plan_whole : (d ins outs : ℕ) (trips : List Trip) (i : ℕ) (lines : List (List ℕ)) (columns : List (List Step)) → length trips ≤ i
+    → Planned d ins outs trips i lines columns → IsPlan d trips lines columns
 plan_whole d ins outs trips i lines columns all h = record {
   chosen = λ n trip steps found there.
       let m : Made d columns trip = h.made n trip (let l : n < length trips = slice_get_within trips n trip found in omega arith) found in

@@ -25,14 +25,23 @@ ring_later g h = record {
   keeps = ring_grows g h.keeps;
 }
 
-pub rings_grow : {a b : List SizedCell} {count rst : ℕ} {reads : Reads} {ins : List NetId} {rings : List (Option Ring)} → Extends a b → AreRings count a rst reads ins rings → AreRings count b rst reads ins rings
+pub rings_grow : {a b : List SizedCell} {count rst : ℕ} {reads : Reads} {ins : List NetId} {rings : List (Option Ring)} → Extends a b
+    → AreRings count a rst reads ins rings → AreRings count b rst reads ins rings
 rings_grow g h = record { long = h.long; each = λ x ring f. ring_later g (h.each x ring f); has = h.has }
 
-pub rings_begin : (cells : List SizedCell) (rst : ℕ) (reads : Reads) (ins : List NetId) (rings : List (Option Ring)) → rings ≡ [] → AreRings 0 cells rst reads ins rings
-rings_begin cells rst reads ins rings e = rw e (record { long = refl; each = λ x ring f. (let l : x < 0 = slice_get_within [] x (Some ring) f in absurd (omega arith)); has = λ x l on. absurd (omega arith) })
+pub rings_begin : (cells : List SizedCell) (rst : ℕ) (reads : Reads) (ins : List NetId) (rings : List (Option Ring)) → rings ≡ []
+    → AreRings 0 cells rst reads ins rings
+rings_begin cells rst reads ins rings e =
+    rw e (record {
+      long = refl;
+      each = λ x ring f. (let l : x < 0 = slice_get_within [] x (Some ring) f in absurd (omega arith));
+      has = λ x l on. absurd (omega arith);
+    })
 
-pub rings_more : (count : ℕ) (a b : List SizedCell) (rst : ℕ) (reads : Reads) (ins : List NetId) (rings : List (Option Ring)) (made : Option Ring) (has : Bool) → Extends a b → AreRings count a rst reads ins rings
-    → ((ring : Ring) → made ≡ Some ring → RingOf b rst reads.bits (net_of ins count) ring) → (has ≡ true → (ring : Ring) × (made ≡ Some ring)) → get_or reads.rings.items count false ≡ has
+pub rings_more : (count : ℕ) (a b : List SizedCell) (rst : ℕ) (reads : Reads) (ins : List NetId) (rings : List (Option Ring)) (made : Option Ring) (has : Bool)
+    → Extends a b → AreRings count a rst reads ins rings
+    → ((ring : Ring) → made ≡ Some ring → RingOf b rst reads.bits (net_of ins count) ring) → (has ≡ true → (ring : Ring) × (made ≡ Some ring))
+    → get_or reads.rings.items count false ≡ has
     → AreRings (count + 1) b rst reads ins (rings ++ made ∷ [])
 rings_more count a b rst reads ins rings made has g h new there is = record {
   long = length_push rings made ∙ ap (λ n. n + 1) h.long;
@@ -50,24 +59,34 @@ rings_more count a b rst reads ins rings made has g h new there is = record {
   ];
 }
 
-pub rings_whole : (count n : ℕ) (cells : List SizedCell) (rst : ℕ) (reads : Reads) (ins : List NetId) (rings : List (Option Ring)) → count ≡ n → AreRings count cells rst reads ins rings → AreRings n cells rst reads ins rings
+pub rings_whole : (count n : ℕ) (cells : List SizedCell) (rst : ℕ) (reads : Reads) (ins : List NetId) (rings : List (Option Ring)) → count ≡ n
+    → AreRings count cells rst reads ins rings → AreRings n cells rst reads ins rings
 rings_whole count n cells rst reads ins rings e h = rw e at h
 
 -- ---- what is read
 
 reads_net : {a b : List SizedCell} {rst bits x place y : ℕ} → Extends a b → ReadsRing a rst bits x place y → ReadsRing b rst bits x place y
-reads_net g h = record { width = h.width; from = net_later g h.from; net = net_later g h.net; reads = record { words = λ all e run r start reset. h.reads.words all (extends_trans g e) run r start reset } }
+reads_net g h =
+    record {
+      width = h.width;
+      from = net_later g h.from;
+      net = net_later g h.net;
+      reads = record { words = λ all e run r start reset. h.reads.words all (extends_trans g e) run r start reset };
+    }
 
-pub column_later : {a b : List SizedCell} {rst : ℕ} {reads : Reads} {from : Option ℕ} {ins : List NetId} {place y : ℕ} → Extends a b → ReadsColumn a rst reads from ins place y → ReadsColumn b rst reads from ins place y
+pub column_later : {a b : List SizedCell} {rst : ℕ} {reads : Reads} {from : Option ℕ} {ins : List NetId} {place y : ℕ} → Extends a b
+    → ReadsColumn a rst reads from ins place y → ReadsColumn b rst reads from ins place y
 column_later g h = record { net = (h.net.0, net_later g h.net.1); words = λ x f on. reads_net g (h.words x f on) }
 
-pub reads_later : {a b : List SizedCell} {count rst : ℕ} {reads : Reads} {ins places all : List NetId} → Extends a b → AreReads count a rst reads ins places all → AreReads count b rst reads ins places all
+pub reads_later : {a b : List SizedCell} {count rst : ℕ} {reads : Reads} {ins places all : List NetId} → Extends a b
+    → AreReads count a rst reads ins places all → AreReads count b rst reads ins places all
 reads_later g h = record { long = h.long; first = h.first; each = λ q l. column_later g (h.each q l) }
 
 pub reads_begin : (cells : List SizedCell) (rst : ℕ) (reads : Reads) (ins places all : List NetId) → all ≡ ins → AreReads 0 cells rst reads ins places all
 reads_begin cells rst reads ins places all e = rw e (record { long = omega arith; first = λ q l. refl; each = λ q l. absurd (omega arith) })
 
-pub reads_more : (count : ℕ) (a b : List SizedCell) (rst : ℕ) (reads : Reads) (ins places all : List NetId) (y : NetId) → Extends a b → AreReads count a rst reads ins places all
+pub reads_more : (count : ℕ) (a b : List SizedCell) (rst : ℕ) (reads : Reads) (ins places all : List NetId) (y : NetId) → Extends a b
+    → AreReads count a rst reads ins places all
     → ReadsColumn b rst reads (get_or reads.from.items count None) ins (net_of places count) y.0 → AreReads (count + 1) b rst reads ins places (all ++ y ∷ [])
 reads_more count a b rst reads ins places all y g h new = record {
   long = length_push all y ∙ (let l = h.long in omega arith);
@@ -80,11 +99,13 @@ reads_more count a b rst reads ins places all y g h new = record {
   ];
 }
 
-pub reads_whole : (count n : ℕ) (cells : List SizedCell) (rst : ℕ) (reads : Reads) (ins places all : List NetId) → count ≡ n → AreReads count cells rst reads ins places all → AreReads n cells rst reads ins places all
+pub reads_whole : (count n : ℕ) (cells : List SizedCell) (rst : ℕ) (reads : Reads) (ins places all : List NetId) → count ≡ n
+    → AreReads count cells rst reads ins places all → AreReads n cells rst reads ins places all
 reads_whole count n cells rst reads ins places all e h = rw e at h
 
 -- each of them is a net
-pub reads_nets : (cells : List SizedCell) (rst outs : ℕ) (reads : Reads) (ins places all : List NetId) → ((q : ℕ) → q < length ins → (w : ℕ) × IsNet cells (net_of ins q) w) → AreReads outs cells rst reads ins places all
+pub reads_nets : (cells : List SizedCell) (rst outs : ℕ) (reads : Reads) (ins places all : List NetId)
+    → ((q : ℕ) → q < length ins → (w : ℕ) × IsNet cells (net_of ins q) w) → AreReads outs cells rst reads ins places all
     → (q : ℕ) → q < length all → (w : ℕ) × IsNet cells (net_of all q) w
 reads_nets cells rst outs reads ins places all nets h q l = elim (cases_lt q (length ins)) [
   | inl near ↦ (let n = nets q near in let e : net_of all q ≡ net_of ins q = h.first q near in (n.0, rw e n.1))

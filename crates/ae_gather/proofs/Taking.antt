@@ -34,7 +34,8 @@ apart p x q s lx lq ls e =
     ]
 
 -- in phase p the word of age p + d - k stood in the phase that belongs to clock k of the input's block
-pub phase_back : (t o d k p a c : ℕ) → o < t → p < t → k ≤ p + d → p + d - k ≡ a → a ≤ t → a ≤ c → phase_of t o c ≡ p → phase_of t o (c - a) ≡ (k + t - d % t) % t
+pub phase_back : (t o d k p a c : ℕ) → o < t → p < t → k ≤ p + d → p + d - k ≡ a → a ≤ t → a ≤ c → phase_of t o c ≡ p
+    → phase_of t o (c - a) ≡ (k + t - d % t) % t
 unfolding phase_of
 phase_back t o d k p a c lo lp reached age within old at =
     let n : ℕ = c - a + t - o in

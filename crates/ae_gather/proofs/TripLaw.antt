@@ -31,7 +31,8 @@ age_within d c a (Place k column) h = omega arith
 age_within d c a (Fixed w) h = omega arith
 
 -- what the choice of a trip takes d clocks later is the word of its source
-taken_is : (run : List Clock) (start a d c : ℕ) (ins : List NetId) (source : Source) → IsReached d c source → taken run start (a + d + c) ins (choice_from d c source) ≡ sourced run start a ins source
+taken_is : (run : List Clock) (start a d c : ℕ) (ins : List NetId) (source : Source) → IsReached d c source
+    → taken run start (a + d + c) ins (choice_from d c source) ≡ sourced run start a ins source
 taken_is run start a d c ins (Place k column) h =
     let t : a + d + c - (c + d - k) ≡ a + k = omega arith in
     ap (λ n. word_at run (start + n) (net_of ins column)) t
@@ -39,7 +40,8 @@ taken_is run start a d c ins (Fixed w) h = refl
 
 -- one column
 pub column_trip : (cells : List SizedCell) (rst w period d arrival offset limit : ℕ) (ins : List NetId) (steps : List Step) (phase y : NetId) (trip : Trip)
-    → offset ≡ (arrival + d) % period → trip.clock < period → trip.clock < limit → IsReached d trip.clock trip.source → choice_in trip.clock steps ≡ choice_of d trip
+    → offset ≡ (arrival + d) % period → trip.clock < period → trip.clock < limit → IsReached d trip.clock trip.source
+    → choice_in trip.clock steps ≡ choice_of d trip
     → IsCounter cells rst (record { period = period; offset = offset }) phase.0 → IsColumn cells rst w phase.0 limit ins (λ p. choice_in p steps) y.0
     → (all : List SizedCell) → Extends cells all → (run : List Clock) → IsRun all run → (start : ℕ) → IsReset run rst start
     → (b : ℕ) → start + (arrival + d + b * period + trip.clock) < length run
@@ -53,4 +55,5 @@ column_trip cells rst w period d arrival offset limit ins steps phase y trip off
     let again : c ≡ arrival + b * period + d + trip.clock = omega arith in
     let old : age_of (choice_of d trip) ≤ c = rw again (age_within d trip.clock (arrival + b * period) trip.source reached) in
     let word = column.words all e run r start reset c (rw here below) (rw takes old) l in
-    word ∙ ap (taken run start c ins) takes ∙ ap (λ n. taken run start n ins (choice_of d trip)) again ∙ taken_is run start (arrival + b * period) d trip.clock ins trip.source reached
+    word ∙ ap (taken run start c ins) takes ∙ ap (λ n. taken run start n ins (choice_of d trip)) again ∙
+    taken_is run start (arrival + b * period) d trip.clock ins trip.source reached

@@ -23,7 +23,8 @@ use Rattle.ae_moves.proofs.Words.{in_row, words_pos, sizes_of, trip_at, trip_the
 -- ---- numbers and parts
 
 same_parts : (a b c d w : ℕ) → b < w → d < w → a * w + b ≡ c * w + d → (a ≡ c) × (b ≡ d)
-same_parts a b c d w hb hd e = (sym (div-mul-add a w b hb) ∙ (ap (λ n. n / w) e ∙ div-mul-add c w d hd), sym (mod-mul-add a w b hb) ∙ (ap (λ n. n % w) e ∙ mod-mul-add c w d hd))
+same_parts a b c d w hb hd e =
+    (sym (div-mul-add a w b hb) ∙ (ap (λ n. n / w) e ∙ div-mul-add c w d hd), sym (mod-mul-add a w b hb) ∙ (ap (λ n. n % w) e ∙ mod-mul-add c w d hd))
 
 less_part : (m n w : ℕ) → m < n → m % w ≡ n % w → m / w < n / w
 less_part m n w l e = elim (cases_lt (m / w) (n / w)) [
@@ -33,9 +34,11 @@ less_part m n w l e = elim (cases_lt (m / w) (n / w)) [
 
 -- ---- the trip of a number
 
-order_at : (s : StTree) → HasLengths s → (e f : ℕ) → e < st_atoms s → f < st_atoms s → (slot_of s e).lane ≡ (slot_of s f).lane → e < f → (slot_of s e).clock < (slot_of s f).clock
+order_at : (s : StTree) → HasLengths s → (e f : ℕ) → e < st_atoms s → f < st_atoms s → (slot_of s e).lane ≡ (slot_of s f).lane → e < f
+    → (slot_of s e).clock < (slot_of s f).clock
 order_at s h e f le lf same l =
-    lane_order s h e f (slot_of s e).clock (slot_of s f).clock (slot_of s e).lane (record { below = le; is = refl }) (record { below = lf; is = ap (slot_at (slot_of s f).clock) (sym same) }) l
+    lane_order s h e f (slot_of s e).clock (slot_of s f).clock (slot_of s e).lane (record { below = le; is = refl })
+    (record { below = lf; is = ap (slot_at (slot_of s f).clock) (sym same) }) l
 
 -- on one column a later trip is in a later clock
 pub in_order : (m : Move) (trips : List Trip) → IsInSize m.out → map trip_tree trips ≡ move_trips m → AreInOrder trips
@@ -46,9 +49,11 @@ in_order m trips size e = record {
       let y = trip_at m.ins m.out m.origins trips e b u fb in
       let ea : a / w < st_atoms m.out = div_below a w (st_atoms m.out) (words_pos m.out) x.0 in
       let eb : b / w < st_atoms m.out = div_below b w (st_atoms m.out) (words_pos m.out) y.0 in
-      let cols : (slot_of m.out (a / w)).lane * w + a % w ≡ (slot_of m.out (b / w)).lane * w + b % w = sym (ap (λ (v : TripTree). v.column) x.1) ∙ (col ∙ ap (λ (v : TripTree). v.column) y.1) in
+      let cols : (slot_of m.out (a / w)).lane * w + a % w ≡ (slot_of m.out (b / w)).lane * w + b % w = sym (ap (λ (v : TripTree). v.column) x.1) ∙
+      (col ∙ ap (λ (v : TripTree). v.column) y.1) in
       let parts = same_parts _ _ _ _ w (mod_below a w (words_pos m.out)) (mod_below b w (words_pos m.out)) cols in
-      let r : (slot_of m.out (a / w)).clock < (slot_of m.out (b / w)).clock = order_at m.out size.lengths (a / w) (b / w) ea eb parts.0 (less_part a b w l parts.1) in
+      let r : (slot_of m.out (a / w)).clock < (slot_of m.out (b / w)).clock = order_at m.out size.lengths (a / w) (b / w) ea eb parts.0
+      (less_part a b w l parts.1) in
       let ca : t.clock ≡ (slot_of m.out (a / w)).clock = ap (λ (v : TripTree). v.clock) x.1 in
       let cb : u.clock ≡ (slot_of m.out (b / w)).clock = ap (λ (v : TripTree). v.clock) y.1 in
       rw (ca, cb) r;
@@ -69,7 +74,12 @@ on_lane (tseq n i t) h l small =
     let slot = get_or-copies n (time t) 0 (slots t) 0 r.element (slot_at 0 0) h.0 (omega (arith, r.below)) in
     let z : 0 * length (slots t) + r.element ≡ r.element = omega arith in
     let below : r.element < n * st_atoms t = omega (arith, in_row 0 r.element n (st_atoms t) h.0 r.below) in
-    record { element = r.element; below = below; is = ap (λ (v : Slot). v.lane) (rw z at slot) ∙ (let x : 0 * 0 + (slot_of t r.element).lane ≡ (slot_of t r.element).lane = omega arith in x ∙ r.is) }
+    record {
+      element = r.element;
+      below = below;
+      is = ap (λ (v : Slot). v.lane) (rw z at slot) ∙
+          (let x : 0 * 0 + (slot_of t r.element).lane ≡ (slot_of t r.element).lane = omega arith in x ∙ r.is);
+    }
 on_lane (sseq n t) h l small =
     let pos : 0 < lanes t = lanes_pos t h.1 in
     let q : l / lanes t < n = div_below l (lanes t) n pos small in
@@ -111,7 +121,8 @@ lead_by : (d c : ℕ) (x : Source) → lead_from c (source_tree x) ≤ d → IsR
 lead_by d c (Place k q) h = omega arith
 lead_by d c (Fixed w) h = tt
 
-pub within : (m : Move) (trips : List Trip) → IsMove m → map trip_tree trips ≡ move_trips m → AreWithin (time m.out) (move_latency m) (sum_by columns_of m.ins) (columns_of m.out) trips
+pub within : (m : Move) (trips : List Trip) → IsMove m → map trip_tree trips ≡ move_trips m
+    → AreWithin (time m.out) (move_latency m) (sum_by columns_of m.ins) (columns_of m.out) trips
 within m trips h e = record {
   clock = λ n t f.
       let x = trip_at m.ins m.out m.origins trips e n t f in
@@ -120,7 +131,8 @@ within m trips h e = record {
   column = λ n t f.
       let x = trip_at m.ins m.out m.origins trips e n t f in
       let en : n / element_words m.out < st_atoms m.out = div_below n (element_words m.out) (st_atoms m.out) (words_pos m.out) x.0 in
-      rw (ap (λ (v : TripTree). v.column) x.1) (column_below m.out h.out (n / element_words m.out) (n % element_words m.out) en (mod_below n (element_words m.out) (words_pos m.out)));
+      rw (ap (λ (v : TripTree). v.column) x.1) (column_below m.out h.out (n / element_words m.out) (n % element_words m.out) en
+      (mod_below n (element_words m.out) (words_pos m.out)));
   reached = λ n t f.
       let l = fold_ge (λ (v : TripTree). lead_from v.clock v.source) 0 (map trip_tree trips) n (trip_tree t) (get_mapped trip_tree trips n t f) in
       lead_by (move_latency m) t.clock t.source (rw e at l);

@@ -36,7 +36,12 @@ abbrev pub is_early : List Bool → (column : ℕ) → Bool
 is_early early column = get_or early column false
 
 abbrev pub hastened : List Bool → Trip → Trip
-hastened early trip = record { clock = trip.clock; column = trip.column; source = hastened_source (is_early early trip.column) trip.source }
+hastened early trip =
+    record {
+      clock = trip.clock;
+      column = trip.column;
+      source = hastened_source (is_early early trip.column) trip.source;
+    }
 
 -- the words of the trips are there in time, also where their columns are chosen early
 pub record AreInTime (d : ℕ) (early : List Bool) (trips : List Trip) : Type 0 where
@@ -50,7 +55,8 @@ abbrev pub counter_for : Bool → Counters → PhaseNet
 counter_for early counters = if early then counters.sooner else counters.later
 
 -- the counter of the columns that are chosen early, or of the others
-pub record HasCounter (cells : List SizedCell) (rst begin period limit : ℕ) (counters : Counters) (early : Bool) : Type 0 where
+pub record HasCounter (cells : List SizedCell) (rst begin period limit : ℕ) (counters : Counters)
+    (early : Bool) : Type 0 where
   pub counts : IsPhaseNet cells rst (counter_for early counters)
   pub periodic : (counter_for early counters).period ≡ period
   pub limits : (counter_for early counters).limit ≡ limit
@@ -61,14 +67,19 @@ abbrev pub first_phase : PhaseNet → ℕ
 first_phase phase = phase.period - 1 - phase.offset
 
 -- a net that has, one clock after each phase below a limit, the word of the choice in that phase; and a fixed word in the first clock, where that is chosen
-pub record IsEarlyColumn (cells : List SizedCell) (rst width phase limit first : ℕ) (ins : List NetId) (choice : ℕ → Choice) (y : ℕ) : Type 0 where
+pub record IsEarlyColumn (cells : List SizedCell) (rst width phase limit first : ℕ) (ins : List NetId)
+    (choice : ℕ → Choice) (y : ℕ) : Type 0 where
   pub net : IsNet cells y width
   pub words : InEveryResetRun cells rst (λ run start.
-      (c : ℕ) → word_at run (start + c) phase < limit → age_of (choice (word_at run (start + c) phase)) ≤ c → start + (c + 1) < length run
+      (c : ℕ) → word_at run (start + c) phase < limit → age_of (choice (word_at run (start + c) phase)) ≤ c
+      → start + (c + 1) < length run
       → word_at run (start + (c + 1)) y ≡ taken run start c ins (choice (word_at run (start + c) phase)))
-  pub begins : InEveryResetRun cells rst (λ run start. (w : ℕ) → choice first ≡ Constant w → start < length run → word_at run start y ≡ w)
+  pub begins : InEveryResetRun cells rst (λ run start. (w : ℕ) → choice first ≡ Constant w → start < length run
+      → word_at run start y ≡ w)
 
 -- a column as it is built
-abbrev pub IsMade : Bool → (cells : List SizedCell) (rst width : ℕ) (phase : PhaseNet) (ins : List NetId) (choice : ℕ → Choice) (y : ℕ) → Type 0
-IsMade true cells rst width phase ins choice y = IsEarlyColumn cells rst width phase.net.0 phase.limit (first_phase phase) ins choice y
+abbrev pub IsMade : Bool → (cells : List SizedCell) (rst width : ℕ) (phase : PhaseNet) (ins : List NetId)
+    (choice : ℕ → Choice) (y : ℕ) → Type 0
+IsMade true cells rst width phase ins choice y =
+    IsEarlyColumn cells rst width phase.net.0 phase.limit (first_phase phase) ins choice y
 IsMade false cells rst width phase ins choice y = IsColumn cells rst width phase.net.0 phase.limit ins choice y

@@ -24,7 +24,8 @@ pub record IsGather (m : Move) : Type 0 where
 
 -- the word of an origin among the words of the inputs
 abbrev pub origin_word : List StTree → List (List ℕ) → OriginTree → ℕ
-origin_word ins vs (from_input i e j) = get_or (get_or vs i []) (e * element_words (get_or ins i (sseq 0 (atom (unsigned_word 1)))) + j) 0
+origin_word ins vs (from_input i e j) =
+    get_or (get_or vs i []) (e * element_words (get_or ins i (sseq 0 (atom (unsigned_word 1)))) + j) 0
 origin_word ins vs (fixed w) = w
 
 -- a move as a part of a circuit
@@ -35,7 +36,8 @@ gather_part m = record {
   ins = map stream_of m.ins;
   out = stream_of m.out;
   means = λ vs. map (origin_word m.ins vs) m.origins;
-  most_cells = 16 * (move_latency m + delay_of (move_latency m) (sum_by columns_of m.ins) (move_trips m) + runs_of (move_latency m) (columns_of m.out) (move_trips m));
+  most_cells = 16 * (move_latency m + delay_of (move_latency m) (sum_by columns_of m.ins) (move_trips m) + runs_of
+      (move_latency m) (columns_of m.out) (move_trips m));
   products = 0;
   most_memories = mems_of (time m.out) (move_latency m) (sum_by columns_of m.ins) (move_trips m);
 }

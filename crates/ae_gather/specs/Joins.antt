@@ -15,7 +15,8 @@ pub record AreJoinedTo (count : ℕ) (bundles : List (List NetId)) (nets : List 
   pub long : length nets ≡ sum_by length (take count bundles)
   pub begins : length firsts ≡ count
   pub starts : (i first : ℕ) → slice_get firsts i ≡ Some first → first ≡ sum_by length (take i bundles)
-  pub each : (i p : ℕ) (own : List NetId) (net : NetId) → i < count → slice_get bundles i ≡ Some own → slice_get own p ≡ Some net → slice_get nets (sum_by length (take i bundles) + p) ≡ Some net
+  pub each : (i p : ℕ) (own : List NetId) (net : NetId) → i < count → slice_get bundles i ≡ Some own
+      → slice_get own p ≡ Some net → slice_get nets (sum_by length (take i bundles) + p) ≡ Some net
   pub from : (q : ℕ) (net : NetId) → slice_get nets q ≡ Some net → ComesFrom bundles net
 
 abbrev pub AreJoined : List (List NetId) → List NetId → List ℕ → Type 0

@@ -24,8 +24,10 @@ abbrev pub MakesTrips : List SizedCell → (rst period d arrival : ℕ) → (ins
 MakesTrips cells rst period d arrival ins out trips =
     InEveryResetRun cells rst (λ run start.
     (b n : ℕ) (trip : Trip) (y : NetId)
-    → slice_get trips n ≡ Some trip → slice_get out trip.column ≡ Some y → start + (arrival + d + b * period + trip.clock) < length run
-    → word_at run (start + (arrival + d + b * period + trip.clock)) y.0 ≡ sourced run start (arrival + b * period) ins trip.source)
+    → slice_get trips n ≡ Some trip → slice_get out trip.column ≡ Some y
+    → start + (arrival + d + b * period + trip.clock) < length run
+    → word_at run (start + (arrival + d + b * period + trip.clock)) y.0 ≡ sourced run start
+    (arrival + b * period) ins trip.source)
 
 -- an input word comes over a net of the width of its output column, and a fixed word fits it
 abbrev pub FitsColumn : List SizedCell → (ins : List NetId) → (width : ℕ) → Source → Type 0
@@ -36,7 +38,8 @@ FitsColumn cells ins width (Fixed w) = w < 2 ^ width
 pub record AreFitting (cells : List SizedCell) (ins : List NetId) (widths : List ℕ) (trips : List Trip) : Type 0 where
   pub low : (q w : ℕ) → slice_get widths q ≡ Some w → 1 ≤ w
   pub high : (q w : ℕ) → slice_get widths q ≡ Some w → w ≤ 64
-  pub fits : (n w : ℕ) (trip : Trip) → slice_get trips n ≡ Some trip → slice_get widths trip.column ≡ Some w → FitsColumn cells ins w trip.source
+  pub fits : (n w : ℕ) (trip : Trip) → slice_get trips n ≡ Some trip → slice_get widths trip.column ≡ Some w
+      → FitsColumn cells ins w trip.source
 
 -- the taps of one input column
 pub record HasLine (cells : List SizedCell) (rst x : ℕ) (ages : List ℕ) (nets : List NetId) : Type 0 where
@@ -45,11 +48,16 @@ pub record HasLine (cells : List SizedCell) (rst x : ℕ) (ages : List ℕ) (net
   pub taps : AreTaps cells rst width x ages nets
 
 -- those of each
-pub record AreLines (cells : List SizedCell) (rst : ℕ) (ins : List NetId) (ages : List (List ℕ)) (lines : List (List NetId)) : Type 0 where
+pub record AreLines (cells : List SizedCell) (rst : ℕ) (ins : List NetId) (ages : List (List ℕ))
+    (lines : List (List NetId)) : Type 0 where
   pub long : length lines ≡ length ages
-  pub each : (q : ℕ) (as_all : List ℕ) (nets : List NetId) → slice_get ages q ≡ Some as_all → slice_get lines q ≡ Some nets → HasLine cells rst (net_of ins q) as_all nets
+  pub each : (q : ℕ) (as_all : List ℕ) (nets : List NetId) → slice_get ages q ≡ Some as_all
+      → slice_get lines q ≡ Some nets → HasLine cells rst (net_of ins q) as_all nets
 
 -- each output column takes by phases what its steps say, a clock early where it is said so
-pub record AreColumns (cells : List SizedCell) (rst : ℕ) (counters : Counters) (ins : List NetId) (widths : List ℕ) (early : List Bool) (columns : List (List Step)) (out : List NetId) : Type 0 where
+pub record AreColumns (cells : List SizedCell) (rst : ℕ) (counters : Counters) (ins : List NetId) (widths : List ℕ)
+    (early : List Bool) (columns : List (List Step)) (out : List NetId) : Type 0 where
   pub long : length out ≡ length columns
-  pub each : (q w : ℕ) (steps : List Step) (y : NetId) → slice_get columns q ≡ Some steps → slice_get widths q ≡ Some w → slice_get out q ≡ Some y → IsMade (is_early early q) cells rst w (counter_for (is_early early q) counters) ins (λ p. choice_in p steps) y.0
+  pub each : (q w : ℕ) (steps : List Step) (y : NetId) → slice_get columns q ≡ Some steps → slice_get widths q ≡ Some w
+      → slice_get out q ≡ Some y → IsMade (is_early early q) cells rst w (counter_for (is_early early q) counters) ins
+      (λ p. choice_in p steps) y.0

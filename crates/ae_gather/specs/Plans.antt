@@ -41,7 +41,8 @@ choice_in phase (step ∷ steps) = fold (later phase) step.take steps
 
 -- on one column a later trip is in a later clock
 pub record AreInOrder (trips : List Trip) : Type 0 where
-  pub each : (m n : ℕ) (a b : Trip) → m < n → slice_get trips m ≡ Some a → slice_get trips n ≡ Some b → a.column ≡ b.column → a.clock < b.clock
+  pub each : (m n : ℕ) (a b : Trip) → m < n → slice_get trips m ≡ Some a → slice_get trips n ≡ Some b
+      → a.column ≡ b.column → a.clock < b.clock
 
 abbrev pub IsIn : (ins : ℕ) → Source → Type 0
 IsIn ins (Place k column) = column < ins
@@ -56,23 +57,32 @@ pub record AreWithin (period d ins outs : ℕ) (trips : List Trip) : Type 0 wher
 
 -- the tap of a step is one of those of its column's line, and has its age
 abbrev pub HasPlace : List (List ℕ) → (tap : ℕ) → Choice → Type 0
-HasPlace lines tap (Delayed column age) = (ages : List ℕ) × (slice_get lines column ≡ Some ages) × (slice_get ages tap ≡ Some age)
+HasPlace lines tap (Delayed column age) =
+    (ages : List ℕ) × (slice_get lines column ≡ Some ages) × (slice_get ages tap ≡ Some age)
 HasPlace lines tap (Constant w) = Unit {0}
 
 -- in the clock of each trip its column's steps choose its source, and each step has its tap
 pub record IsPlan (d : ℕ) (trips : List Trip) (lines : List (List ℕ)) (columns : List (List Step)) : Type 0 where
-  pub chosen : (n : ℕ) (trip : Trip) (steps : List Step) → slice_get trips n ≡ Some trip → slice_get columns trip.column ≡ Some steps → choice_in trip.clock steps ≡ choice_of d trip
-  pub some : (n : ℕ) (trip : Trip) (steps : List Step) → slice_get trips n ≡ Some trip → slice_get columns trip.column ≡ Some steps → 1 ≤ length steps
-  pub taps : (q k : ℕ) (steps : List Step) (step : Step) → slice_get columns q ≡ Some steps → slice_get steps k ≡ Some step → HasPlace lines step.tap step.take
-  pub from : (q k : ℕ) (steps : List Step) (step : Step) → slice_get columns q ≡ Some steps → slice_get steps k ≡ Some step → (n : ℕ) × (trip : Trip) × (slice_get trips n ≡ Some trip) × (trip.column ≡ q) × (step.from ≡ trip.clock) × (step.take ≡ choice_of d trip)
+  pub chosen : (n : ℕ) (trip : Trip) (steps : List Step) → slice_get trips n ≡ Some trip
+      → slice_get columns trip.column ≡ Some steps → choice_in trip.clock steps ≡ choice_of d trip
+  pub some : (n : ℕ) (trip : Trip) (steps : List Step) → slice_get trips n ≡ Some trip
+      → slice_get columns trip.column ≡ Some steps → 1 ≤ length steps
+  pub taps : (q k : ℕ) (steps : List Step) (step : Step) → slice_get columns q ≡ Some steps
+      → slice_get steps k ≡ Some step → HasPlace lines step.tap step.take
+  pub from : (q k : ℕ) (steps : List Step) (step : Step) → slice_get columns q ≡ Some steps
+      → slice_get steps k ≡ Some step → (n : ℕ) × (trip : Trip) × (slice_get trips n ≡ Some trip) × (trip.column ≡ q)
+      × (step.from ≡ trip.clock) × (step.take ≡ choice_of d trip)
 
 -- the lines with one more tap, for a choice that is late
 abbrev pub demanded : List (List ℕ) → Choice → List (List ℕ) → (tap : ℕ) → Type 0
-demanded old (Delayed column age) new tap = (ages : List ℕ) × (slice_get old column ≡ Some ages) × (new ≡ set old column (ages ++ age ∷ [])) × (tap ≡ length ages)
+demanded old (Delayed column age) new tap =
+    (ages : List ℕ) × (slice_get old column ≡ Some ages) × (new ≡ set old column (ages ++ age ∷ []))
+    × (tap ≡ length ages)
 demanded old (Constant w) new tap = new ≡ old
 
 abbrev pub IsInLines : List (List ℕ) → Choice → Type 0
-IsInLines lines (Delayed column age) = (column < length lines) × ((ages : List ℕ) → slice_get lines column ≡ Some ages → length ages < 4294967295)
+IsInLines lines (Delayed column age) =
+    (column < length lines) × ((ages : List ℕ) → slice_get lines column ≡ Some ages → length ages < 4294967295)
 IsInLines lines (Constant w) = Unit {0}
 
 -- each of so many columns has a trip

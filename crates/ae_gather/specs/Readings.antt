@@ -29,6 +29,8 @@ pub record IsReading (d ins outs : ℕ) (trips : List Trip) (r : Reading) : Type
 
 -- it takes no more cells and no more memories than the schedule without rings
 pub record IsNoDearer (outs : ℕ) (r : Reading) (s : Schedule) : Type 0 where
-  pub cells : 12 + 14 * ring_count r.reads.rings.items + 6 * outs + sum_by steps_cells r.plan.columns.items + sum_by line_cells r.schedule.plan.lines.items + sum_by steps_cells r.schedule.plan.columns.items
+  pub cells : 12 + 14 * ring_count r.reads.rings.items + 6 * outs + sum_by steps_cells r.plan.columns.items + sum_by
+      line_cells r.schedule.plan.lines.items + sum_by steps_cells r.schedule.plan.columns.items
       ≤ sum_by line_cells s.plan.lines.items + sum_by steps_cells s.plan.columns.items
-  pub memories : ring_count r.reads.rings.items + sum_by line_mems r.schedule.plan.lines.items ≤ sum_by line_mems s.plan.lines.items
+  pub memories : ring_count r.reads.rings.items + sum_by line_mems r.schedule.plan.lines.items ≤ sum_by line_mems
+      s.plan.lines.items

@@ -18,7 +18,8 @@ use Rattle.ae_headline.specs.Laws.{BuiltTextsAreListings, Tells}
 use Rattle.ae_headline.proofs.Meant.{answers, are-types}
 use Rattle.ae_headline.proofs.Same.{listing_same}
 
-computes : (p : ProgramTree) (slowdown : ℕ) (instances : List StFuncTree) (costs : OwnCosts) (r : ReportTree) (n : Circuit) → IsSchedule p slowdown instances → IsLaidOut p slowdown r.ins r.outs → IsCircuitFor p slowdown costs r.ins r.outs n → Tells r slowdown costs
+computes : (p : ProgramTree) (slowdown : ℕ) (instances : List StFuncTree) (costs : OwnCosts) (r : ReportTree) (n : Circuit) → IsSchedule p slowdown instances
+    → IsLaidOut p slowdown r.ins r.outs → IsCircuitFor p slowdown costs r.ins r.outs n → Tells r slowdown costs
     → Computes n p r
 computes p slowdown instances costs r n h laid c tells =
     let lay : HaveLayouts p r.slowdown r.ins r.outs = subst (λ d. HaveLayouts p d r.ins r.outs) (sym tells.slowdown_is) laid.layouts in
@@ -30,7 +31,8 @@ computes p slowdown instances costs r n h laid c tells =
       outs = t.laid;
       ports = record { inputs = c.inputs; no_others = c.no_others; outputs = c.outputs };
       one_run = one_run n.cells c.formed;
-      makes = subst (λ d. MakesBlocks n p d r.latency r.ins r.outs) (sym tells.slowdown_is) (subst (λ l. MakesBlocks n p slowdown l r.ins r.outs) (sym tells.latency_is) c.makes);
+      makes = subst (λ d. MakesBlocks n p d r.latency r.ins r.outs) (sym tells.slowdown_is)
+          (subst (λ l. MakesBlocks n p slowdown l r.ins r.outs) (sym tells.latency_is) c.makes);
       products = c.muls ∙ sym tells.muls_are;
       small = subst (λ l. length n.cells ≤ 16 * l + 1 + length (input_ports (streams_of r.ins))) (sym tells.load_is) c.small;
     }

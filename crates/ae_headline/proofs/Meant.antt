@@ -27,7 +27,8 @@ pub record AreTypes (slowdown : ℕ) (os : List (Option SeqTree)) (ss : List StT
   pub are : os ≡ map (λ (t : SeqTree). Some t) types
   pub laid : map (λ t. lay_of t slowdown) types ≡ map (λ (s : StTree). Some s) ss
 
-pub are-types : (slowdown : ℕ) (os : List (Option SeqTree)) (ss : List StTree) → map (lays slowdown) os ≡ map (λ (s : StTree). Some s) ss → AreTypes slowdown os ss
+pub are-types : (slowdown : ℕ) (os : List (Option SeqTree)) (ss : List StTree) → map (lays slowdown) os ≡ map (λ (s : StTree). Some s) ss
+    → AreTypes slowdown os ss
 are-types slowdown [] ss h = record { types = []; are = refl; laid = h }
 are-types slowdown (o ∷ os) [] h = absurd (let e : lays slowdown o ∷ map (lays slowdown) os ≡ [] = h in cc)
 are-types slowdown (None ∷ os) (s ∷ ss) h = absurd (let e : None ∷ map (lays slowdown) os ≡ Some s ∷ map (λ (s : StTree). Some s) ss = h in cc)
@@ -54,7 +55,8 @@ same-params : (o : Option FuncTree) → params_of o ≡ params_for o
 same-params None = refl
 same-params (Some f) = refl
 
-pub answers : (p : ProgramTree) (slowdown : ℕ) (instances : List StFuncTree) (ts : List SeqTree) → IsTyped p → IsSchedule p slowdown instances → result_types p ≡ map (λ (t : SeqTree). Some t) ts
+pub answers : (p : ProgramTree) (slowdown : ℕ) (instances : List StFuncTree) (ts : List SeqTree) → IsTyped p → IsSchedule p slowdown instances
+    → result_types p ≡ map (λ (t : SeqTree). Some t) ts
     → (vs : List ValueTree) → AreValues (parameter_types p) vs → AreValues ts (mean p vs)
 answers p slowdown instances ts typed h types vs values =
     let k = length instances - 1 in
@@ -68,11 +70,16 @@ answers p slowdown instances ts typed h types vs values =
     let all = known-compute p slowdown instances typed h k (all-before p slowdown instances typed h k) in
     let means = take f (meanings p.funcs) in
     let st = items-stand p keys s typed right (callees (take k instances)) all (map flat vs) args.0 in
-    let function : get_or (meanings p.funcs) f no_function ≡ meaning means right.of = get_or_from_slice_get (meanings p.funcs) f (meaning means right.of) no_function (meaning-of p f right.of right.known) in
-    let meant : map (at (item_values means right.of vs)) right.of.results ≡ mean p vs = sym (ap (λ (m : Meaning). m vs) function) ∙ ap (λ j. get_or (meanings p.funcs) j no_function vs) last in
+    let function : get_or (meanings p.funcs) f no_function ≡ meaning means right.of = get_or_from_slice_get (meanings p.funcs) f
+    (meaning means right.of) no_function (meaning-of p f right.of right.known) in
+    let meant : map (at (item_values means right.of vs)) right.of.results ≡ mean p vs = sym (ap (λ (m : Meaning). m vs) function) ∙
+    ap (λ j. get_or (meanings p.funcs) j no_function vs) last in
     let results : result_types p ≡ map (type_at p f) right.of.results =
     ap (λ j. map (type_at p j) (results_in (slice_get p.funcs j))) (sym last) ∙ ap (λ o. map (type_at p f) (results_in o)) right.known in
     let each : (i : ℕ) (t : SeqTree) → type_at p f i ≡ Some t → (ws : List ℕ) × Stands t ws (at (item_values means right.of vs) i) = λ i t e.
-    (let there : slice_get (types_in p f) i ≡ Some t = sym (type-at-is p f i typed) ∙ e in
-    (words_at (item_words (callees (take k instances)) s (map flat vs)) i, subst (λ xs. Stands t (words_at (item_words (callees (take k instances)) s (map flat vs)) i) (at (item_values means right.of xs) i)) args.1 (st.each i t (slice_get_within (types_in p f) i t there) there))) in
+    (let there : slice_get (types_in p f) i ≡ Some t = sym (type-at-is p f i typed) ∙ e in (
+      words_at (item_words (callees (take k instances)) s (map flat vs)) i,
+      subst (λ xs. Stands t (words_at (item_words (callees (take k instances)) s (map flat vs)) i) (at (item_values means right.of xs) i)) args.1
+          (st.each i t (slice_get_within (types_in p f) i t there) there),
+    )) in
     subst (AreValues ts) meant (values-at (type_at p f) (at (item_values means right.of vs)) right.of.results ts (sym results ∙ types) each)

@@ -42,7 +42,8 @@ modules p n r notes laid ports makes ok printed small =
     let m : ModuleTree = noted_module notes n.cells n.outlets outs in
     let text : List ℕ = listing r notes n outs in
     let spelled : Spells text m = subst (λ l. Spells l m) (listing_same r notes n outs)
-    (listing_spelled (report_lines r) notes n.cells n.outlets outs (report_comments r) printed (record { formed = ok.formed; shown = ok.shown; few = ok.few; inputs = ok.inputs; outputs = ok.outputs })) in
+    (listing_spelled (report_lines r) notes n.cells n.outlets outs (report_comments r) printed
+    (record { formed = ok.formed; shown = ok.shown; few = ok.few; inputs = ok.inputs; outputs = ok.outputs })) in
     let well : IsWellFormed m = well_formed lines n.cells n.outlets outs ok small in
     let have = ports_there r.ins r.outs n ports.inputs ports.no_others ports.outputs in
     record {

@@ -18,15 +18,19 @@ use Rattle.ae_verilog.specs.ReportLines.{ReportTree, report_lines}
 use Rattle.ae_verilog.specs.Text.{expr_text, sign_text, shift_text, op_text, value_text, widened_text, declaration_text, noted, header_text, assignment_text, edge_text, whole_text}
 use Rattle.ae_headline.specs.Listing.{op_line, wire, quiet, cell_line, edge_line, listing}
 
-shift_same : (lines : ℕ → ℕ) (cells : List SizedCell) (sign : BinOp) (w by a : ℕ) → expr_text (shifted_net lines cells sign w a by) ≡ shift_text (net_name lines cells a) (sign_text sign) w by
+shift_same : (lines : ℕ → ℕ) (cells : List SizedCell) (sign : BinOp) (w by a : ℕ)
+    → expr_text (shifted_net lines cells sign w a by) ≡ shift_text (net_name lines cells a) (sign_text sign) w by
 shift_same lines cells sign w by a = choose (nat_lt by w)
   where
     choose : (t : Bool) → expr_text (if t then binary sign (net_value lines cells a) (constant 6 by true) else constant w 0 true)
         ≡ (if t then net_name lines cells a ++ (codes " " ++ (sign_text sign ++ (codes " 6'd" ++ decimal by))) else decimal w ++ codes "'d0")
-    choose true = ap (λ l. net_name lines cells a ++ (codes " " ++ (sign_text sign ++ (codes " " ++ (l ++ (codes "'d" ++ decimal by)))))) (decimal_digit 6 (omega arith))
+    choose true = ap (λ l. net_name lines cells a ++ (codes " " ++ (sign_text sign ++ (codes " " ++ (l ++ (codes "'d" ++ decimal by))))))
+        (decimal_digit 6 (omega arith))
     choose false = ap (λ l. decimal w ++ (codes "'d" ++ l)) (decimal_digit 0 (omega arith))
 
-cast_same : (lines : ℕ → ℕ) (cells : List SizedCell) (to a : ℕ) → expr_text (cast_to lines cells to a) ≡ (if nat_lt to (width_of cells a) then net_name lines cells a ++ (codes "[" ++ (decimal (to - 1) ++ (codes ":" ++ (decimal 0 ++ codes "]")))) else net_name lines cells a)
+cast_same : (lines : ℕ → ℕ) (cells : List SizedCell) (to a : ℕ)
+    → expr_text (cast_to lines cells to a) ≡ (if nat_lt to (width_of cells a) then net_name lines cells a
+    ++ (codes "[" ++ (decimal (to - 1) ++ (codes ":" ++ (decimal 0 ++ codes "]")))) else net_name lines cells a)
 cast_same lines cells to a = choose (nat_lt to (width_of cells a))
   where
     choose : (t : Bool) → expr_text (if t then part (net_name lines cells a) (to - 1) 0 else net_value lines cells a)
@@ -34,7 +38,9 @@ cast_same lines cells to a = choose (nat_lt to (width_of cells a))
     choose true = refl
     choose false = refl
 
-value_same : (lines : ℕ → ℕ) (cells : List SizedCell) (w : ℕ) (op : WordOp) (a b c : ℕ) → expr_text (op_expression lines cells w op a b c) ≡ op_line op w (width_of cells a) (net_name lines cells a) (net_name lines cells b) (net_name lines cells c)
+value_same : (lines : ℕ → ℕ) (cells : List SizedCell) (w : ℕ) (op : WordOp) (a b c : ℕ)
+    → expr_text (op_expression lines cells w op a b c) ≡ op_line op w (width_of cells a) (net_name lines cells a) (net_name lines cells b)
+    (net_name lines cells c)
 value_same lines cells w Add a b c = refl
 value_same lines cells w Sub a b c = refl
 value_same lines cells w Mul a b c = refl
@@ -56,17 +62,24 @@ value_same lines cells w SMax a b c = refl
 value_same lines cells w (Sar by) a b c = refl
 value_same lines cells w (SCast to) a b c = refl
 
-plain_value : (lines : ℕ → ℕ) (cells : List SizedCell) (net w a b d : ℕ) (op : WordOp) → value_text lines w net (op_expression lines cells w op a b d) ≡ wire lines w net (op_line op w (width_of cells a) (net_name lines cells a) (net_name lines cells b) (net_name lines cells d))
+plain_value : (lines : ℕ → ℕ) (cells : List SizedCell) (net w a b d : ℕ) (op : WordOp)
+    → value_text lines w net (op_expression lines cells w op a b d) ≡ wire lines w net
+    (op_line op w (width_of cells a) (net_name lines cells a) (net_name lines cells b) (net_name lines cells d))
 plain_value lines cells net w a b d op = ap (wire lines w net) (value_same lines cells w op a b d)
 
 op_same : (lines : ℕ → ℕ) (cells : List SizedCell) (net w a b d : ℕ) (op : WordOp)
-    → op_text lines cells w net op a b d ≡ quiet op w (width_of cells a) (wire lines w net (op_line op w (width_of cells a) (net_name lines cells a) (net_name lines cells b) (net_name lines cells d)))
+    → op_text lines cells w net op a b d ≡ quiet op w (width_of cells a)
+    (wire lines w net (op_line op w (width_of cells a) (net_name lines cells a) (net_name lines cells b) (net_name lines cells d)))
 op_same lines cells net w a b d (Cast to) = choose (nat_lt (width_of cells a) w)
   where
-    choose : (t : Bool) → (if t then widened_text lines w net (op_expression lines cells w (Cast to) a b d) else value_text lines w net (op_expression lines cells w (Cast to) a b d))
-        ≡ (if t then codes "  // verilator lint_off WIDTH\n" ++ (wire lines w net (op_line (Cast to) w (width_of cells a) (net_name lines cells a) (net_name lines cells b) (net_name lines cells d)) ++ codes "  // verilator lint_on WIDTH\n")
+    choose : (t : Bool) → (if t then widened_text lines w net (op_expression lines cells w (Cast to) a b d) else value_text lines w net
+        (op_expression lines cells w (Cast to) a b d))
+        ≡ (if t then codes "  // verilator lint_off WIDTH\n"
+        ++ (wire lines w net (op_line (Cast to) w (width_of cells a) (net_name lines cells a) (net_name lines cells b) (net_name lines cells d))
+        ++ codes "  // verilator lint_on WIDTH\n")
         else wire lines w net (op_line (Cast to) w (width_of cells a) (net_name lines cells a) (net_name lines cells b) (net_name lines cells d)))
-    choose true = ap (λ l. codes "  // verilator lint_off WIDTH\n" ++ (l ++ codes "  // verilator lint_on WIDTH\n")) (plain_value lines cells net w a b d (Cast to))
+    choose true = ap (λ l. codes "  // verilator lint_off WIDTH\n" ++ (l ++ codes "  // verilator lint_on WIDTH\n"))
+        (plain_value lines cells net w a b d (Cast to))
     choose false = plain_value lines cells net w a b d (Cast to)
 op_same lines cells net w a b d Add = plain_value lines cells net w a b d Add
 op_same lines cells net w a b d Sub = plain_value lines cells net w a b d Sub
@@ -88,7 +101,8 @@ op_same lines cells net w a b d SMax = plain_value lines cells net w a b d SMax
 op_same lines cells net w a b d (Sar by) = plain_value lines cells net w a b d (Sar by)
 op_same lines cells net w a b d (SCast to) = plain_value lines cells net w a b d (SCast to)
 
-line_same : (lines : ℕ → ℕ) (cells : List SizedCell) (net width : ℕ) (cell : Cell) → declaration_text lines cells net width cell ≡ cell_line lines cells net width cell
+line_same : (lines : ℕ → ℕ) (cells : List SizedCell) (net width : ℕ) (cell : Cell)
+    → declaration_text lines cells net width cell ≡ cell_line lines cells net width cell
 line_same lines cells net w (Input port) = refl
 line_same lines cells net w (Const k) = refl
 line_same lines cells net w (Op op args) = op_same lines cells net w (operand args 0) (operand args 1) (operand args 2) op
@@ -104,7 +118,8 @@ edge_same lines cells net (Reg next) = refl
 edge_same lines cells net (Mem depth at next enable) = refl
 edge_same lines cells net (Peek mem at) = refl
 
-pub listing_same : (r : ReportTree) (notes : List NoteTree) (n : Circuit) (outs : ℕ) → whole_text (report_lines r) notes n.cells n.outlets outs ≡ listing r notes n outs
+pub listing_same : (r : ReportTree) (notes : List NoteTree) (n : Circuit) (outs : ℕ)
+    → whole_text (report_lines r) notes n.cells n.outlets outs ≡ listing r notes n outs
 listing_same r notes n outs i =
     let lines = lines_of notes (length n.cells) in
     report_lines r

@@ -53,8 +53,10 @@ no-atom (pair a b) ws v w h = absurd cc
 
 as-many : (n m : ℕ) (t u : SeqTree) (ws us : List ℕ) → listed (map (value_of t) (cut n (words t) ws)) ≡ listed (map (value_of u) (cut m (words u) us)) → n ≡ m
 as-many n m t u ws us h =
-    let e : map (value_of t) (cut n (words t) ws) ≡ map (value_of u) (cut m (words u) us) = sym (elements-listed (map (value_of t) (cut n (words t) ws))) ∙ ap elements h ∙ elements-listed (map (value_of u) (cut m (words u) us)) in
-    sym (length-map (cut n (words t) ws) (value_of t) ∙ length-cut n (words t) ws) ∙ ap length e ∙ (length-map (cut m (words u) us) (value_of u) ∙ length-cut m (words u) us)
+    let e : map (value_of t) (cut n (words t) ws) ≡ map (value_of u) (cut m (words u) us) = sym (elements-listed (map (value_of t) (cut n (words t) ws))) ∙
+    ap elements h ∙ elements-listed (map (value_of u) (cut m (words u) us)) in
+    sym (length-map (cut n (words t) ws) (value_of t) ∙ length-cut n (words t) ws) ∙ ap length e ∙
+    (length-map (cut m (words u) us) (value_of u) ∙ length-cut m (words u) us)
 
 type-told : (t u : SeqTree) (ws us : List ℕ) → NoneEmpty u → value_of t ws ≡ value_of u us → t ≡ u
 type-told (atom a) (atom b) ws us some h = ap atom (atom-told a b ws us h)
@@ -117,7 +119,8 @@ more-types : (t : SeqTree) (ts : List SeqTree) → NoneEmpty t → NonesEmpty ts
 more-types t ts one all zero u e = subst NoneEmpty (same_Some t u e) one
 more-types t ts one all (suc i) u e = all i u e
 
-items-typed : (p : ProgramTree) (f : FuncTree) → IsTyped p → slice_get p.funcs (main_of p) ≡ Some f → (is : List ℕ) → all_below (item_count f) is ≡ true → HasTypes (map (type_at p (main_of p)) is)
+items-typed : (p : ProgramTree) (f : FuncTree) → IsTyped p → slice_get p.funcs (main_of p) ≡ Some f → (is : List ℕ) → all_below (item_count f) is ≡ true
+    → HasTypes (map (type_at p (main_of p)) is)
 items-typed p f typed known [] h = record { types = []; are = refl; some = λ i t e. absurd (none-some t e) }
 items-typed p f typed known (i ∷ is) h =
     let low = ltb-true i (item_count f) (and-first _ _ h) in
@@ -138,22 +141,26 @@ results-typed p typed =
     let form = formed-of p (main_of p) e.0 typed.is_formed e.1 in
     subst HasTypes (ap (λ o. map (type_at p (main_of p)) (results_in o)) (sym e.1)) (items-typed p e.0 typed e.1 e.0.results form.results)
 
-lays-of : (slowdown : ℕ) (ts : List SeqTree) → map (λ (o : Option SeqTree). o >>= λ t. lay_of t slowdown) (map (λ (t : SeqTree). Some t) ts) ≡ map (λ t. lay_of t slowdown) ts
+lays-of : (slowdown : ℕ) (ts : List SeqTree) → map (λ (o : Option SeqTree). o >>= λ t. lay_of t slowdown) (map (λ (t : SeqTree). Some t) ts) ≡ map
+    (λ t. lay_of t slowdown) ts
 lays-of slowdown [] = refl
 lays-of slowdown (t ∷ ts) = ap (λ l. lay_of t slowdown ∷ l) (lays-of slowdown ts)
 
-pub laid_out : (p : ProgramTree) (n : Circuit) (r : ReportTree) → IsTyped p → 0 < r.slowdown → r.slowdown ≤ 4096 → Computes n p r → IsLaidOut p r.slowdown r.ins r.outs
+pub laid_out : (p : ProgramTree) (n : Circuit) (r : ReportTree) → IsTyped p → 0 < r.slowdown → r.slowdown ≤ 4096 → Computes n p r
+    → IsLaidOut p r.slowdown r.ins r.outs
 laid_out p n r typed some most c =
     let own = results-typed p typed in
     let s = schedules_at_one p typed in
     let zs = some-values (parameter_types p) in
-    let same : c.types ≡ own.types = types-told c.types own.types (mean p zs.0) own.some (c.answers zs.0 zs.1) (answers p 1 s.0 own.types typed s.1 own.are zs.0 zs.1) in
+    let same : c.types ≡ own.types = types-told c.types own.types (mean p zs.0) own.some (c.answers zs.0 zs.1)
+    (answers p 1 s.0 own.types typed s.1 own.are zs.0 zs.1) in
     record {
       typed = typed;
       some = some;
       most = most;
       layouts = record {
         parameters = c.ins;
-        results = ap (map (λ (o : Option SeqTree). o >>= λ t. lay_of t r.slowdown)) own.are ∙ lays-of r.slowdown own.types ∙ ap (map (λ t. lay_of t r.slowdown)) (sym same) ∙ c.outs;
+        results = ap (map (λ (o : Option SeqTree). o >>= λ t. lay_of t r.slowdown)) own.are ∙ lays-of r.slowdown own.types ∙
+            ap (map (λ t. lay_of t r.slowdown)) (sym same) ∙ c.outs;
       };
     }

@@ -34,8 +34,10 @@ pub record Tells (r : ReportTree) (slowdown : ℕ) (costs : OwnCosts) : Type 0 w
 -- report of its costs and its notes, is a listing for it
 abbrev pub BuiltTextsAreListings : Type 0
 BuiltTextsAreListings =
-    (part : List ℕ) (p : ProgramTree) (slowdown : ℕ) (instances : List StFuncTree) (costs : OwnCosts) (r : ReportTree) (n : Circuit) (notes : List NoteTree) (text : List ℕ)
-    → IsProgramText part p → IsSchedule p slowdown instances → IsLaidOut p slowdown r.ins r.outs → IsCircuitFor p slowdown costs r.ins r.outs n → Tells r slowdown costs → AreNotes p notes
+    (part : List ℕ) (p : ProgramTree) (slowdown : ℕ) (instances : List StFuncTree) (costs : OwnCosts) (r : ReportTree)
+    (n : Circuit) (notes : List NoteTree) (text : List ℕ)
+    → IsProgramText part p → IsSchedule p slowdown instances → IsLaidOut p slowdown r.ins r.outs
+    → IsCircuitFor p slowdown costs r.ins r.outs n → Tells r slowdown costs → AreNotes p notes
     → text ≡ whole_text (report_lines r) notes n.cells n.outlets (length r.outs) → IsProgramListing part slowdown text
 
 -- a text spells one module, which is well formed, has exactly one run on any inputs, and is correct for the program
@@ -51,12 +53,17 @@ pub record MeansModule (p : ProgramTree) (slowdown latency : ℕ) (text : List �
 -- such a module, with the latency that its report tells
 abbrev pub ListingsMeanModules : Type 0
 ListingsMeanModules =
-    (p : ProgramTree) (n : Circuit) (r : ReportTree) (notes : List NoteTree) → IsLaidOut p r.slowdown r.ins r.outs → HasPorts n r.ins r.outs → MakesBlocks n p r.slowdown r.latency r.ins r.outs
-    → IsWritableNetlist n.cells n.outlets (length r.outs) → ArePrinted notes → 1 + 4 * length n.cells + 4 * length n.outlets ≤ 10000000 → MeansModule p r.slowdown r.latency (listing r notes n (length r.outs))
+    (p : ProgramTree) (n : Circuit) (r : ReportTree) (notes : List NoteTree) → IsLaidOut p r.slowdown r.ins r.outs
+    → HasPorts n r.ins r.outs → MakesBlocks n p r.slowdown r.latency r.ins r.outs
+    → IsWritableNetlist n.cells n.outlets (length r.outs) → ArePrinted notes
+    → 1 + 4 * length n.cells + 4 * length n.outlets ≤ 10000000
+    → MeansModule p r.slowdown r.latency (listing r notes n (length r.outs))
 
 -- so does a listing for a typed program, under a slowdown that there can be
 abbrev pub ProgramListingsMeanModules : Type 0
 ProgramListingsMeanModules =
-    (part : List ℕ) (slowdown : ℕ) (text : List ℕ) (l : IsProgramListing part slowdown text) → IsTyped l.program → 0 < slowdown → slowdown ≤ 4096
-    → IsWritableNetlist l.circuit.cells l.circuit.outlets (length l.report.outs) → ArePrinted l.notes → 1 + 4 * length l.circuit.cells + 4 * length l.circuit.outlets ≤ 10000000
+    (part : List ℕ) (slowdown : ℕ) (text : List ℕ) (l : IsProgramListing part slowdown text) → IsTyped l.program
+    → 0 < slowdown → slowdown ≤ 4096
+    → IsWritableNetlist l.circuit.cells l.circuit.outlets (length l.report.outs) → ArePrinted l.notes
+    → 1 + 4 * length l.circuit.cells + 4 * length l.circuit.outlets ≤ 10000000
     → MeansModule l.program slowdown l.report.latency text

@@ -51,14 +51,17 @@ appends_stays None mid new first t u = tt
 appends_stays (Some written) mid new first t u = subst (λ m. Stays m new) t u
 
 -- a source over bytes from a place on gave n of them
-pub takes_cursor : (bytes left front : List ℕ) (at n : ℕ) → drop at bytes ≡ left → take n (drop at bytes) ≡ front → Takes (Some left) (Some (drop (at + n) bytes)) front
+pub takes_cursor : (bytes left front : List ℕ) (at n : ℕ) → drop at bytes ≡ left → take n (drop at bytes) ≡ front
+    → Takes (Some left) (Some (drop (at + n) bytes)) front
 takes_cursor bytes left front at n is given =
     takes_front left (drop (at + n) bytes) front n (ap (take n) (sym is) ∙ given) (ap (drop n) (sym is) ∙ drop-drop n at bytes)
 
 -- n bytes of a buffer were taken after others: k bytes in all
-pub takes_count_more : (old mid new : Option (List ℕ)) (had buf : List ℕ) (n k : ℕ) → Takes old mid had → Takes mid new (take n buf) → n ≤ length buf → length had + n ≡ k → TakesCount old new k
+pub takes_count_more : (old mid new : Option (List ℕ)) (had buf : List ℕ) (n k : ℕ) → Takes old mid had → Takes mid new (take n buf) → n ≤ length buf
+    → length had + n ≡ k → TakesCount old new k
 takes_count_more old mid new had buf n k t u within sum =
-    takes_count old new (had ++ take n buf) k (length-append had (take n buf) ∙ ap (λ m. length had + m) (length-take-le n buf within) ∙ sum) (takes_more old mid new had (take n buf) t u)
+    takes_count old new (had ++ take n buf) k (length-append had (take n buf) ∙ ap (λ m. length had + m) (length-take-le n buf within) ∙ sum)
+    (takes_more old mid new had (take n buf) t u)
 
 -- a fact that holds anyhow holds of each error
 pub on_err : {T E : Type 0} (r : Result T E) (P : Type 0) → P → OnErr r P
@@ -66,7 +69,8 @@ on_err (Ok x) P p = tt
 on_err (Err e) P p = p
 
 -- one more part of a list was appended
-pub appends_part : (old mid new : Option (List ℕ)) (bytes : List ℕ) (at n m : ℕ) → Appends old mid (take at bytes) → Appends mid new (take n (take m (drop at bytes))) → n ≤ m → Appends old new (take (at + n) bytes)
+pub appends_part : (old mid new : Option (List ℕ)) (bytes : List ℕ) (at n m : ℕ) → Appends old mid (take at bytes)
+    → Appends mid new (take n (take m (drop at bytes))) → n ≤ m → Appends old new (take (at + n) bytes)
 appends_part old mid new bytes at n m had more within =
     let joined : take at bytes ++ take n (take m (drop at bytes)) ≡ take (at + n) bytes =
     ap (λ xs. take at bytes ++ xs) (take-take n m (drop at bytes) within) ∙ sym (take-add at n bytes) in

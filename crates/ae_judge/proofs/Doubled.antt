@@ -18,7 +18,8 @@ use Rattle.ae_judge.proofs.Unknowns.{any_among, among_any, any_same, is_in, in_a
 
 -- what stands in front of a place
 
-pub taken : {X : Type 0} (names : X → List (List ℕ)) (n : List ℕ) (xs : List X) (q : ℕ) → Among n (flat_map names (take q xs)) → (p : ℕ) × (x : X) × (p < q) × (slice_get xs p ≡ Some x) × Among n (names x)
+pub taken : {X : Type 0} (names : X → List (List ℕ)) (n : List ℕ) (xs : List X) (q : ℕ) → Among n (flat_map names (take q xs)) → (p : ℕ) × (x : X) × (p < q)
+    × (slice_get xs p ≡ Some x) × Among n (names x)
 taken names n [] zero a = absurd a
 taken names n [] (suc q) a = absurd a
 taken names n (x ∷ xs) zero a = absurd a
@@ -27,7 +28,8 @@ taken names n (x ∷ xs) (suc q) a = elim (among_split n (names x) (flat_map nam
   | inr deep ↦ let r = taken names n xs q deep in (suc r.0, r.1, omega (arith, r.2), r.3, r.4)
 ]
 
-pub take_in : {X : Type 0} (names : X → List (List ℕ)) (n : List ℕ) (xs : List X) (p q : ℕ) (x : X) → p < q → slice_get xs p ≡ Some x → Among n (names x) → Among n (flat_map names (take q xs))
+pub take_in : {X : Type 0} (names : X → List (List ℕ)) (n : List ℕ) (xs : List X) (p q : ℕ) (x : X) → p < q → slice_get xs p ≡ Some x → Among n (names x)
+    → Among n (flat_map names (take q xs))
 take_in names n [] p q x l e a = absurd (let f : None ≡ Some x = e in cc)
 take_in names n (y ∷ xs) p zero x l e a = absurd (omega arith)
 take_in names n (y ∷ xs) zero (suc q) x l e a =
@@ -60,14 +62,16 @@ net_names x = x.name ∷ []
 abbrev again_test : ℕ → List (List ℕ) → NetTree → Bool
 again_test k g x = is_in g x.name
 
-again_scan : (k : ℕ) (es : List Entry) (given : List (List ℕ)) → HasNames es given → (xs : List NetTree) → first_again es xs ≡ option_map (λ r. r.1.item) (scan again_test net_names k given xs)
+again_scan : (k : ℕ) (es : List Entry) (given : List (List ℕ)) → HasNames es given → (xs : List NetTree)
+    → first_again es xs ≡ option_map (λ r. r.1.item) (scan again_test net_names k given xs)
 again_scan k es given h [] = refl
 again_scan k es given h (x ∷ xs) =
     ap (λ b. if b then Some x.item else first_again (with_place es x.name 0) xs) (h x.name)
     ∙ by (is_in given x.name) (again_scan (k + 1) (with_place es x.name 0) (given ++ x.name ∷ []) (names_more es given x.name 0 h) xs)
   where
     by : (b : Bool) → first_again (with_place es x.name 0) xs ≡ option_map (λ r. r.1.item) (scan again_test net_names (k + 1) (given ++ x.name ∷ []) xs)
-        → (if b then Some x.item else first_again (with_place es x.name 0) xs) ≡ option_map (λ r. r.1.item) (if b then Some (k, x) else scan again_test net_names (k + 1) (given ++ x.name ∷ []) xs)
+        → (if b then Some x.item else first_again (with_place es x.name 0) xs) ≡ option_map (λ r. r.1.item)
+        (if b then Some (k, x) else scan again_test net_names (k + 1) (given ++ x.name ∷ []) xs)
     by true g = refl
     by false g = g
 
@@ -93,13 +97,16 @@ module _ (m : ModuleTree) (shape : IsShapely m) where
       ]
 
   pub again_first : IsFirstOf (DeclaresTwice m) (first_again [] m.nets)
-  again_first = subst (IsFirstOf (DeclaresTwice m)) (sym (again_scan 0 [] [] no_names m.nets)) (again_is (scan again_test net_names 0 [] m.nets) (scan_is again_test net_names 0 [] m.nets))
+  again_first = subst (IsFirstOf (DeclaresTwice m)) (sym (again_scan 0 [] [] no_names m.nets))
+      (again_is (scan again_test net_names 0 [] m.nets) (scan_is again_test net_names 0 [] m.nets))
 
 -- drives
 
 pub names_many : (es : List Entry) (given ns : List (List ℕ)) → HasNames es given → HasNames (with_names es ns) (given ++ ns)
 names_many es given [] h = subst (HasNames es) (sym (append-nil given)) h
-names_many es given (n ∷ ns) h = subst (HasNames (with_names (with_place es n 0) ns)) (append_assoc given (n ∷ []) ns) (names_many (with_place es n 0) (given ++ n ∷ []) ns (names_more es given n 0 h))
+names_many es given (n ∷ ns) h =
+    subst (HasNames (with_names (with_place es n 0) ns)) (append_assoc given (n ∷ []) ns)
+    (names_many (with_place es n 0) (given ++ n ∷ []) ns (names_more es given n 0 h))
 
 module _ (ns : List NetTree) where
   abbrev self_name : List ℕ → List (List ℕ)
@@ -108,13 +115,15 @@ module _ (ns : List NetTree) where
   abbrev repeat_test : ItemTree → ℕ → List (List ℕ) → List ℕ → Bool
   repeat_test i k g n = is_in g n && not (may_repeat ns i n)
 
-  repeat_scan : (i : ItemTree) (k : ℕ) (es : List Entry) (seen : List (List ℕ)) → HasNames es seen → (rest : List (List ℕ)) → repeats ns i es rest ≡ is_some (scan (repeat_test i) self_name k seen rest)
+  repeat_scan : (i : ItemTree) (k : ℕ) (es : List Entry) (seen : List (List ℕ)) → HasNames es seen → (rest : List (List ℕ))
+      → repeats ns i es rest ≡ is_some (scan (repeat_test i) self_name k seen rest)
   repeat_scan i k es seen h [] = refl
   repeat_scan i k es seen h (n ∷ rest) =
       (λ j. (h n j && not (may_repeat ns i n)) || repeat_scan i (k + 1) (with_place es n 0) (seen ++ n ∷ []) (names_more es seen n 0 h) rest j)
       ∙ by (repeat_test i k seen n)
     where
-      by : (b : Bool) → (b || is_some (scan (repeat_test i) self_name (k + 1) (seen ++ n ∷ []) rest)) ≡ is_some (if b then Some (k, n) else scan (repeat_test i) self_name (k + 1) (seen ++ n ∷ []) rest)
+      by : (b : Bool) → (b || is_some (scan (repeat_test i) self_name (k + 1) (seen ++ n ∷ []) rest)) ≡ is_some
+          (if b then Some (k, n) else scan (repeat_test i) self_name (k + 1) (seen ++ n ∷ []) rest)
       by true = refl
       by false = refl
 
@@ -126,16 +135,20 @@ module _ (ns : List NetTree) where
 
   twice_same : (k : ℕ) (es : List Entry) (given : List (List ℕ)) → HasNames es given → (i : ItemTree) → drives_twice ns es i ≡ twice_test k given i
   twice_same k es given h i =
-      λ j. any_same (is_driven ns es) (is_taken given) (item_targets i) (λ n. ap (λ b. is_input_name ns n || b) (h n)) j || repeat_scan i 0 [] [] no_names (item_targets i) j
+      λ j. any_same (is_driven ns es) (is_taken given) (item_targets i) (λ n. ap (λ b. is_input_name ns n || b) (h n)) j || repeat_scan i 0 [] [] no_names
+      (item_targets i) j
 
-  twice_scan : (k : ℕ) (es : List Entry) (given : List (List ℕ)) → HasNames es given → (is : List ItemTree) → first_twice ns k es is ≡ option_map (λ r. r.0) (scan twice_test item_targets k given is)
+  twice_scan : (k : ℕ) (es : List Entry) (given : List (List ℕ)) → HasNames es given → (is : List ItemTree)
+      → first_twice ns k es is ≡ option_map (λ r. r.0) (scan twice_test item_targets k given is)
   twice_scan k es given h [] = refl
   twice_scan k es given h (i ∷ is) =
       ap (λ b. if b then Some k else first_twice ns (k + 1) (with_names es (item_targets i)) is) (twice_same k es given h i)
       ∙ by (twice_test k given i) (twice_scan (k + 1) (with_names es (item_targets i)) (given ++ item_targets i) (names_many es given (item_targets i) h) is)
     where
-      by : (b : Bool) → first_twice ns (k + 1) (with_names es (item_targets i)) is ≡ option_map (λ r. r.0) (scan twice_test item_targets (k + 1) (given ++ item_targets i) is)
-          → (if b then Some k else first_twice ns (k + 1) (with_names es (item_targets i)) is) ≡ option_map (λ r. r.0) (if b then Some (k, i) else scan twice_test item_targets (k + 1) (given ++ item_targets i) is)
+      by : (b : Bool) → first_twice ns (k + 1) (with_names es (item_targets i)) is ≡ option_map (λ r. r.0)
+          (scan twice_test item_targets (k + 1) (given ++ item_targets i) is)
+          → (if b then Some k else first_twice ns (k + 1) (with_names es (item_targets i)) is) ≡ option_map (λ r. r.0)
+          (if b then Some (k, i) else scan twice_test item_targets (k + 1) (given ++ item_targets i) is)
       by true g = refl
       by false g = g
 
@@ -150,7 +163,8 @@ module _ (m : ModuleTree) where
       ⊎ (((j : ℕ) × (before : ItemTree) × (j < k) × ItemAt m j before × Among n (item_targets before))
       ⊎ (IsRepeated n (item_targets i) × (may_repeat m.nets i n ≡ false)))
 
-  from_taken : (r j : ℕ) (i : ItemTree) → r ≡ j + 1 → list_any (is_taken m.nets (flat_map item_targets (take j m.items))) (item_targets i) ≡ true → (n : List ℕ) × Among n (item_targets i) × How r i n
+  from_taken : (r j : ℕ) (i : ItemTree) → r ≡ j + 1 → list_any (is_taken m.nets (flat_map item_targets (take j m.items))) (item_targets i) ≡ true
+      → (n : List ℕ) × Among n (item_targets i) × How r i n
   from_taken r j i e h =
       let a = any_among (is_taken m.nets (flat_map item_targets (take j m.items))) (item_targets i) h in (
         a.0,
@@ -163,7 +177,8 @@ module _ (m : ModuleTree) where
         ],
       )
 
-  from_repeat : (r : ℕ) (i : ItemTree) → is_some (scan (repeat_test m.nets i) (self_name m.nets) 0 [] (item_targets i)) ≡ true → (n : List ℕ) × Among n (item_targets i) × How r i n
+  from_repeat : (r : ℕ) (i : ItemTree) → is_some (scan (repeat_test m.nets i) (self_name m.nets) 0 [] (item_targets i)) ≡ true → (n : List ℕ)
+      × Among n (item_targets i) × How r i n
   from_repeat r i h =
       let s = scan_some (repeat_test m.nets i) (self_name m.nets) 0 [] (item_targets i) h in
       let j = s.1.0 in
@@ -181,10 +196,12 @@ module _ (m : ModuleTree) where
       ] in
       (p.1, u.0, (p.0, p.2, p.3), u.1, u.2)
 
-  pass_taken : (j : ℕ) (i : ItemTree) (n : List ℕ) → Among n (item_targets i) → is_taken m.nets (flat_map item_targets (take j m.items)) n ≡ true → twice_test m.nets (j + 1) (flat_map item_targets (take j m.items)) i ≡ true
+  pass_taken : (j : ℕ) (i : ItemTree) (n : List ℕ) → Among n (item_targets i) → is_taken m.nets (flat_map item_targets (take j m.items)) n ≡ true
+      → twice_test m.nets (j + 1) (flat_map item_targets (take j m.items)) i ≡ true
   pass_taken j i n a h = or_left _ _ (among_any (is_taken m.nets (flat_map item_targets (take j m.items))) (item_targets i) n a h)
 
-  pass_how : (r j : ℕ) (i : ItemTree) (n : List ℕ) → r ≡ j + 1 → Among n (item_targets i) → How r i n → twice_test m.nets r (flat_map item_targets (take j m.items)) i ≡ true
+  pass_how : (r j : ℕ) (i : ItemTree) (n : List ℕ) → r ≡ j + 1 → Among n (item_targets i) → How r i n
+      → twice_test m.nets r (flat_map item_targets (take j m.items)) i ≡ true
   pass_how r j i n e a how = elim how [
     | inl input ↦ pass_taken j i n a (or_left _ _ input)
     | inr other ↦ elim other [
@@ -193,7 +210,8 @@ module _ (m : ModuleTree) where
           pass_taken j i n a (or_right _ _ (among_in (flat_map item_targets (take j m.items)) n (take_in item_targets n m.items d.3.0 j d.1 l d.3.2 d.4)))
       | inr d ↦
           let q = d.0.1 in
-          let l : is_in (flat_map (self_name m.nets) (take q (item_targets i))) n ≡ true = among_in (flat_map (self_name m.nets) (take q (item_targets i))) n (take_in (self_name m.nets) n (item_targets i) d.0.0 q n d.0.2 d.0.3 (inl refl)) in
+          let l : is_in (flat_map (self_name m.nets) (take q (item_targets i))) n ≡ true = among_in (flat_map (self_name m.nets) (take q (item_targets i))) n
+          (take_in (self_name m.nets) n (item_targets i) d.0.0 q n d.0.2 d.0.3 (inl refl)) in
           or_right _ _ (some_scan (repeat_test m.nets i) (self_name m.nets) 0 [] (item_targets i) q (q, n, omega arith, d.0.4, and_both _ _ l (not_true _ d.1)))
     ]
   ]
@@ -223,4 +241,5 @@ first_either P Q (Some a) (Some b) p q = elim (cases_Bool (nat_lt a b)) [
 ]
 
 pub twice_first : (m : ModuleTree) → IsShapely m → IsFirstOf (HasTwice m) (earlier (first_again [] m.nets) (first_twice m.nets 1 [] m.items))
-twice_first m shape = first_either (DeclaresTwice m) (DrivesTwice m) (first_again [] m.nets) (first_twice m.nets 1 [] m.items) (again_first m shape) (drives_first m)
+twice_first m shape =
+    first_either (DeclaresTwice m) (DrivesTwice m) (first_again [] m.nets) (first_twice m.nets 1 [] m.items) (again_first m shape) (drives_first m)

@@ -15,8 +15,10 @@ pub with_names_append : (es : List Entry) (xs ys : List (List ℕ)) → with_nam
 with_names_append es [] ys = refl
 with_names_append es (x ∷ xs) ys = with_names_append (with_place es x 0) xs ys
 
-pub driven_next : (items : List VItem) (i : ℕ) (d : VItem) (es next all : List Entry) → i < length items → next ≡ with_names es (item_targets (item_tree (get_or items i d)))
-    → with_names es (flat_map item_targets (map item_tree (drop i items))) ≡ all → with_names next (flat_map item_targets (map item_tree (drop (i + 1) items))) ≡ all
+pub driven_next : (items : List VItem) (i : ℕ) (d : VItem) (es next all : List Entry) → i < length items
+    → next ≡ with_names es (item_targets (item_tree (get_or items i d)))
+    → with_names es (flat_map item_targets (map item_tree (drop i items))) ≡ all
+    → with_names next (flat_map item_targets (map item_tree (drop (i + 1) items))) ≡ all
 driven_next items i d es next all l n h =
     ap (λ fs. with_names fs (flat_map item_targets (map item_tree (drop (i + 1) items)))) n
     ∙ sym (with_names_append es (item_targets (item_tree (get_or items i d))) (flat_map item_targets (map item_tree (drop (i + 1) items))))

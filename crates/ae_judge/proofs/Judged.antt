@@ -35,13 +35,15 @@ module _ (m : ModuleTree) where
   unfolding is_clock
   same_clock n = refl
 
-  kind_to : (i : ItemTree) → misuses m.nets (clock_name m) i ≡ true → (is_misused_in_item m i ≡ true) ⊎ ((n : List ℕ) × Among n (item_reads i) × (is_clock m n ≡ true))
+  kind_to : (i : ItemTree) → misuses m.nets (clock_name m) i ≡ true → (is_misused_in_item m i ≡ true)
+      ⊎ ((n : List ℕ) × Among n (item_reads i) × (is_clock m n ≡ true))
   kind_to i h = elim (or_cases _ _ h) [
     | inl a ↦ inl (sym (same_misuse i) ∙ a)
     | inr a ↦ let r = any_among (λ n. is_named n (clock_name m)) (item_reads i) a in inr (r.0, r.1, sym (same_clock r.0) ∙ r.2)
   ]
 
-  kind_from : (i : ItemTree) → (is_misused_in_item m i ≡ true) ⊎ ((n : List ℕ) × Among n (item_reads i) × (is_clock m n ≡ true)) → misuses m.nets (clock_name m) i ≡ true
+  kind_from : (i : ItemTree) → (is_misused_in_item m i ≡ true) ⊎ ((n : List ℕ) × Among n (item_reads i) × (is_clock m n ≡ true))
+      → misuses m.nets (clock_name m) i ≡ true
   kind_from i h = elim h [
     | inl a ↦ or_left _ _ (same_misuse i ∙ a)
     | inr r ↦ or_right _ _ (among_any (λ n. is_named n (clock_name m)) (item_reads i) r.0 r.1 (same_clock r.0 ∙ r.2))
@@ -57,14 +59,17 @@ module _ (m : ModuleTree) where
   driven_names : HasNames (with_names [] (flat_map item_targets m.items)) (flat_map item_targets m.items)
   driven_names = names_many [] [] (flat_map item_targets m.items) no_names
 
-  undriven_to : (x : NetTree) → is_undriven (with_names [] (flat_map item_targets m.items)) x ≡ true → (is_input_kind x.kind ≡ false) × (Among x.name (flat_map item_targets m.items) → ⊥)
+  undriven_to : (x : NetTree) → is_undriven (with_names [] (flat_map item_targets m.items)) x ≡ true → (is_input_kind x.kind ≡ false)
+      × (Among x.name (flat_map item_targets m.items) → ⊥)
   undriven_to x h =
       let r = and_parts _ _ h in
       (not_false _ r.0, λ a. clash _ (among_in (flat_map item_targets m.items) x.name a) (sym (driven_names x.name) ∙ not_false _ r.1))
 
-  undriven_from : (x : NetTree) → is_input_kind x.kind ≡ false → (Among x.name (flat_map item_targets m.items) → ⊥) → is_undriven (with_names [] (flat_map item_targets m.items)) x ≡ true
+  undriven_from : (x : NetTree) → is_input_kind x.kind ≡ false → (Among x.name (flat_map item_targets m.items) → ⊥)
+      → is_undriven (with_names [] (flat_map item_targets m.items)) x ≡ true
   undriven_from x i a =
-      let d : has_place (with_names [] (flat_map item_targets m.items)) x.name ≡ false = driven_names x.name ∙ not_in (flat_map item_targets m.items) x.name a in
+      let d : has_place (with_names [] (flat_map item_targets m.items)) x.name ≡ false = driven_names x.name ∙
+      not_in (flat_map item_targets m.items) x.name a in
       λ j. not (i j) && not (d j)
 
   pub undriven_first : IsFirstOf (HasUndriven m) (first_from (λ _. is_undriven (with_names [] (flat_map item_targets m.items))) 0 m.nets)

@@ -12,7 +12,8 @@ module _ {X : Type 0} where
   any_append test [] ys = refl
   any_append test (x ∷ xs) ys = ap (λ b. test x || b) (any_append test xs ys) ∙ sym (or_assoc (test x) (list_any test xs) (list_any test ys))
 
-  pub any_next : (test : X → Bool) (xs : List X) (i : ℕ) (d : X) → i < length xs → list_any test (take i xs) ≡ false → test (get_or xs i d) ≡ false → list_any test (take (i + 1) xs) ≡ false
+  pub any_next : (test : X → Bool) (xs : List X) (i : ℕ) (d : X) → i < length xs → list_any test (take i xs) ≡ false → test (get_or xs i d) ≡ false
+      → list_any test (take (i + 1) xs) ≡ false
   any_next test xs i d l before here =
       ap (list_any test) (take_more xs i d l) ∙ any_append test (take i xs) (get_or xs i d ∷ []) ∙ (λ k. before k || (here k || false))
 

@@ -49,10 +49,12 @@ among_unmap f y (x ∷ xs) h = elim h [ inl e ↦ (x, inl refl, e) | inr later �
 
 pub among_flat : {X Y : Type 0} (f : X → List Y) (y : Y) (xs : List X) (k : ℕ) (x : X) → slice_get xs k ≡ Some x → Among y (f x) → Among y (flat_map f xs)
 among_flat f y [] k x h a = absurd (let e : None ≡ Some x = h in cc)
-among_flat f y (z ∷ xs) zero x h a = among_left y (f z) (flat_map f xs) (subst (λ u. Among y (f u)) (let e : x ≡ z = (let s : Some z ≡ Some x = h in cc) in e) a)
+among_flat f y (z ∷ xs) zero x h a =
+    among_left y (f z) (flat_map f xs) (subst (λ u. Among y (f u)) (let e : x ≡ z = (let s : Some z ≡ Some x = h in cc) in e) a)
 among_flat f y (z ∷ xs) (suc k) x h a = among_right y (f z) (flat_map f xs) (among_flat f y xs k x h a)
 
-pub among_unflat : {X Y : Type 0} (f : X → List Y) (y : Y) (xs : List X) → Among y (flat_map f xs) → (k : ℕ) × (x : X) × (slice_get xs k ≡ Some x) × Among y (f x)
+pub among_unflat : {X Y : Type 0} (f : X → List Y) (y : Y) (xs : List X) → Among y (flat_map f xs) → (k : ℕ) × (x : X) × (slice_get xs k ≡ Some x)
+    × Among y (f x)
 among_unflat f y [] h = absurd h
 among_unflat f y (x ∷ xs) h = elim (among_split y (f x) (flat_map f xs) h) [
   | inl here ↦ (0, x, refl, here)
@@ -96,7 +98,8 @@ find_none test (y ∷ xs) x h a = elim (cases_Bool (test y)) [
 ]
 
 -- the one element that passes is found
-pub find_only : {X : Type 0} (test : X → Bool) (xs : List X) (x : X) → Among x xs → test x ≡ true → ((y : X) → Among y xs → test y ≡ true → y ≡ x) → find test xs ≡ Some x
+pub find_only : {X : Type 0} (test : X → Bool) (xs : List X) (x : X) → Among x xs → test x ≡ true → ((y : X) → Among y xs → test y ≡ true → y ≡ x)
+    → find test xs ≡ Some x
 find_only test [] x a p only = absurd a
 find_only test (y ∷ xs) x a p only = elim (cases_Bool (test y)) [
   | inl e ↦ cond-true _ (Some y) (find test xs) e ∙ ap Some (only y (inl refl) e)
@@ -114,8 +117,10 @@ without n (k ∷ ks) = if bytes_eq k n then without n ks else k ∷ without n ks
 pub among_without : (n x : List ℕ) (ks : List (List ℕ)) → Among x ks → (x ≡ n → ⊥) → Among x (without n ks)
 among_without n x [] a other = a
 among_without n x (k ∷ ks) a other = elim (cases_Bool (bytes_eq k n)) [
-  | inl e ↦ subst (Among x) (sym (cond-true _ (without n ks) (k ∷ without n ks) e)) (elim a [ inl s ↦ absurd (other (sym s ∙ same_bytes k n e)) | inr later ↦ among_without n x ks later other ])
-  | inr e ↦ subst (Among x) (sym (cond-false _ (without n ks) (k ∷ without n ks) e)) (elim a [ inl s ↦ inl s | inr later ↦ inr (among_without n x ks later other) ])
+  | inl e ↦ subst (Among x) (sym (cond-true _ (without n ks) (k ∷ without n ks) e))
+      (elim a [ inl s ↦ absurd (other (sym s ∙ same_bytes k n e)) | inr later ↦ among_without n x ks later other ])
+  | inr e ↦ subst (Among x) (sym (cond-false _ (without n ks) (k ∷ without n ks) e))
+      (elim a [ inl s ↦ inl s | inr later ↦ inr (among_without n x ks later other) ])
 ]
 
 without_length : (n : List ℕ) (ks : List (List ℕ)) → length (without n ks) ≤ length ks
@@ -129,7 +134,8 @@ pub without_shorter : (n : List ℕ) (ks : List (List ℕ)) → Among n ks → l
 without_shorter n [] a = absurd a
 without_shorter n (k ∷ ks) a = elim (cases_Bool (bytes_eq k n)) [
   | inl e ↦ let r = without_length n ks in subst (λ l. length l + 1 ≤ suc (length ks)) (sym (cond-true _ (without n ks) (k ∷ without n ks) e)) (omega arith)
-  | inr e ↦ let r : length (without n ks) + 1 ≤ length ks = without_shorter n ks (elim a [ inl s ↦ absurd (both_ways _ e (bytes_same k n s)) | inr later ↦ later ]) in
+  | inr e ↦ let r : length (without n ks) + 1 ≤ length ks = without_shorter n ks
+      (elim a [ inl s ↦ absurd (both_ways _ e (bytes_same k n s)) | inr later ↦ later ]) in
       subst (λ l. length l + 1 ≤ suc (length ks)) (sym (cond-false _ (without n ks) (k ∷ without n ks) e)) (omega arith)
 ]
 

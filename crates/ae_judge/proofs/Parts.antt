@@ -70,7 +70,8 @@ pub lettered_block : (ss : List StmtTree) → IsLetteredStmt (block_of ss) → A
 lettered_block [] h = tt
 lettered_block (s ∷ ss) h = (h.0, lettered_block ss h.1)
 
-pub parts_lettered : (e : Expr) (parts : Vec Expr Global) (xs : List Expr) → e ≡ Concat parts → xs ≡ parts.items → IsLettered (expr_tree e) → AllByRecursion IsLettered (map expr_tree xs)
+pub parts_lettered : (e : Expr) (parts : Vec Expr Global) (xs : List Expr) → e ≡ Concat parts → xs ≡ parts.items → IsLettered (expr_tree e)
+    → AllByRecursion IsLettered (map expr_tree xs)
 parts_lettered e parts xs is same h =
     subst (λ (ys : List Expr). AllByRecursion IsLettered (map expr_tree ys)) (sym same)
     (lettered_parts (map expr_tree parts.items) (subst IsLettered (ap expr_tree is ∙ concat_view parts) h))
@@ -78,7 +79,8 @@ parts_lettered e parts xs is same h =
 pub parts_view : (e : Expr) (parts : Vec Expr Global) (xs : List Expr) → e ≡ Concat parts → xs ≡ parts.items → expr_tree e ≡ concat_of (map expr_tree xs)
 parts_view e parts xs is same = ap expr_tree is ∙ concat_view parts ∙ ap (λ (ys : List Expr). concat_of (map expr_tree ys)) (sym same)
 
-pub stmts_lettered : (s : Stmt) (parts : Vec Stmt Global) (xs : List Stmt) → s ≡ Block parts → xs ≡ parts.items → IsLetteredStmt (stmt_tree s) → AllByRecursion IsLetteredStmt (map stmt_tree xs)
+pub stmts_lettered : (s : Stmt) (parts : Vec Stmt Global) (xs : List Stmt) → s ≡ Block parts → xs ≡ parts.items → IsLetteredStmt (stmt_tree s)
+    → AllByRecursion IsLetteredStmt (map stmt_tree xs)
 stmts_lettered s parts xs is same h =
     subst (λ (ys : List Stmt). AllByRecursion IsLetteredStmt (map stmt_tree ys)) (sym same)
     (lettered_block (map stmt_tree parts.items) (subst IsLetteredStmt (ap stmt_tree is ∙ block_view parts) h))

@@ -24,14 +24,16 @@ if_append : {X : Type 0} (c : Bool) (x : X) (a b : Option X) → (if c then Some
 if_append true x a b = refl
 if_append false x a b = refl
 
-place_append : (es : List Entry) (m : List ℕ) (p : ℕ) (n : List ℕ) → place_in (es ++ (m, p) ∷ []) n ≡ or_else (place_in es n) (if bytes_eq n m then Some p else None)
+place_append : (es : List Entry) (m : List ℕ) (p : ℕ) (n : List ℕ)
+    → place_in (es ++ (m, p) ∷ []) n ≡ or_else (place_in es n) (if bytes_eq n m then Some p else None)
 place_append [] m p n = refl
 place_append (e ∷ es) m p n =
     ap (λ o. if bytes_eq n e.0 then Some e.1 else o) (place_append es m p n)
     ∙ if_append (bytes_eq n e.0) e.1 (place_in es n) (if bytes_eq n m then Some p else None)
 
 -- the places after one name is put in
-pub place_with : (es : List Entry) (m : List ℕ) (p : ℕ) (n : List ℕ) → place_in (with_place es m p) n ≡ or_else (place_in es n) (if bytes_eq n m then Some p else None)
+pub place_with : (es : List Entry) (m : List ℕ) (p : ℕ) (n : List ℕ)
+    → place_in (with_place es m p) n ≡ or_else (place_in es n) (if bytes_eq n m then Some p else None)
 place_with es m p n = by (place_in es m) refl
   where
     same : (o : Option ℕ) → place_in es m ≡ o → is_some o ≡ true → or_else (place_in es n) (if bytes_eq n m then Some p else None) ≡ place_in es n
@@ -84,7 +86,8 @@ names_more es ns m p h n =
 
 find_append : {X : Type 0} (test : X → Bool) (xs : List X) (x : X) → find test (xs ++ x ∷ []) ≡ or_else (find test xs) (if test x then Some x else None)
 find_append test [] x = refl
-find_append test (y ∷ xs) x = ap (λ o. if test y then Some y else o) (find_append test xs x) ∙ if_append (test y) y (find test xs) (if test x then Some x else None)
+find_append test (y ∷ xs) x =
+    ap (λ o. if test y then Some y else o) (find_append test xs x) ∙ if_append (test y) y (find test xs) (if test x then Some x else None)
 
 get_front : {X : Type 0} (xs : List X) (x y : X) (p : ℕ) → slice_get xs p ≡ Some y → slice_get (xs ++ x ∷ []) p ≡ Some y
 get_front [] x y p h = absurd (let e : None ≡ Some y = h in cc)
@@ -110,10 +113,12 @@ pub finds_more : (ns : List NetTree) (es : List Entry) (x : NetTree) → Finds n
 unfolding net_named
 finds_more ns es x h = (λ n. net n (place_in es n) refl, λ n p e. small n p (place_in es n) refl (sym (place_with es x.name (length ns) n) ∙ e))
   where
-    net : (n : List ℕ) (o : Option ℕ) → place_in es n ≡ o → option_and_then (slice_get (ns ++ x ∷ [])) (place_in (with_place es x.name (length ns)) n) ≡ net_named (ns ++ x ∷ []) n
+    net : (n : List ℕ) (o : Option ℕ) → place_in es n ≡ o
+        → option_and_then (slice_get (ns ++ x ∷ [])) (place_in (with_place es x.name (length ns)) n) ≡ net_named (ns ++ x ∷ []) n
     net n None e =
         let none : net_named ns n ≡ None = sym (h.0 n) ∙ ap (option_and_then (slice_get ns)) e in
-        ap (option_and_then (slice_get (ns ++ x ∷ []))) (place_with es x.name (length ns) n ∙ ap (λ o. or_else o (if bytes_eq n x.name then Some (length ns) else None)) e)
+        ap (option_and_then (slice_get (ns ++ x ∷ []))) (place_with es x.name (length ns) n ∙
+        ap (λ o. or_else o (if bytes_eq n x.name then Some (length ns) else None)) e)
         ∙ here (bytes_eq n x.name)
         ∙ ap (λ b. if b then Some x else None) (bytes_turned n x.name)
         ∙ sym (find_append (λ (y : NetTree). bytes_eq y.name n) ns x ∙ ap (λ o. or_else o (if bytes_eq x.name n then Some x else None)) none)
@@ -124,11 +129,13 @@ finds_more ns es x h = (λ n. net n (place_in es n) refl, λ n p e. small n p (p
     net n (Some p) e =
         let y = get_within ns p (h.1 n p e) in
         let found : net_named ns n ≡ Some y.0 = sym (h.0 n) ∙ ap (option_and_then (slice_get ns)) e ∙ y.1 in
-        ap (option_and_then (slice_get (ns ++ x ∷ []))) (place_with es x.name (length ns) n ∙ ap (λ o. or_else o (if bytes_eq n x.name then Some (length ns) else None)) e)
+        ap (option_and_then (slice_get (ns ++ x ∷ []))) (place_with es x.name (length ns) n ∙
+        ap (λ o. or_else o (if bytes_eq n x.name then Some (length ns) else None)) e)
         ∙ get_front ns x y.0 p y.1
         ∙ sym (find_append (λ (y : NetTree). bytes_eq y.name n) ns x ∙ ap (λ o. or_else o (if bytes_eq x.name n then Some x else None)) found)
 
-    small : (n : List ℕ) (p : ℕ) (o : Option ℕ) → place_in es n ≡ o → or_else (place_in es n) (if bytes_eq n x.name then Some (length ns) else None) ≡ Some p → p < length (ns ++ x ∷ [])
+    small : (n : List ℕ) (p : ℕ) (o : Option ℕ) → place_in es n ≡ o → or_else (place_in es n) (if bytes_eq n x.name then Some (length ns) else None) ≡ Some p
+        → p < length (ns ++ x ∷ [])
     small n p None e f = last (bytes_eq n x.name) (sym (ap (λ o. or_else o (if bytes_eq n x.name then Some (length ns) else None)) e) ∙ f)
       where
         last : (b : Bool) → (if b then Some (length ns) else None) ≡ Some p → p < length (ns ++ x ∷ [])
@@ -154,18 +161,22 @@ lookup_place n [] = refl
 lookup_place n (e ∷ es) = ap (λ o. if bytes_eq n e.0.now then Some e.1 else o) (lookup_place n es)
 
 -- the entries after a name is put in, unless it is there
-pub put_place : (eq : Bor (List ℕ) → Bor (List ℕ) → Bool) → ((k x : Bor (List ℕ)) → eq k x ≡ bytes_eq k.now x.now) → (es : List CodeEntry) (k : Bor (List ℕ)) (p : ℕ)
+pub put_place : (eq : Bor (List ℕ) → Bor (List ℕ) → Bool) → ((k x : Bor (List ℕ)) → eq k x ≡ bytes_eq k.now x.now)
+    → (es : List CodeEntry) (k : Bor (List ℕ)) (p : ℕ)
     → places_of (insert_entry eq es k (unwrap_or (lookup (eq k) es) p)) ≡ with_place (places_of es) k.now p
 put_place eq same [] k p = refl
 put_place eq same (e ∷ es) k p =
     by (put_place eq same es k p) (eq k e.0)
-    ∙ ap (λ c. if is_some (if c then Some e.1 else place_in (places_of es) k.now) then places_of (e ∷ es) else places_of (e ∷ es) ++ (k.now, p) ∷ []) (same k e.0)
+    ∙ ap (λ c. if is_some (if c then Some e.1 else place_in (places_of es) k.now) then places_of (e ∷ es) else places_of (e ∷ es) ++ (k.now, p) ∷ [])
+    (same k e.0)
   where
     front : (b : Bool) (x : Entry) (xs ys : List Entry) → x ∷ (if b then xs else xs ++ ys) ≡ (if b then x ∷ xs else (x ∷ xs) ++ ys)
     front true x xs ys = refl
     front false x xs ys = refl
 
-    by : places_of (insert_entry eq es k (unwrap_or (lookup (eq k) es) p)) ≡ with_place (places_of es) k.now p → (c : Bool) → places_of (if c then (e.0, unwrap_or (if c then Some e.1 else lookup (eq k) es) p) ∷ es else e ∷ insert_entry eq es k (unwrap_or (if c then Some e.1 else lookup (eq k) es) p))
+    by : places_of (insert_entry eq es k (unwrap_or (lookup (eq k) es) p)) ≡ with_place (places_of es) k.now p → (c : Bool)
+        → places_of (if c then (e.0, unwrap_or (if c then Some e.1 else lookup (eq k) es) p) ∷ es else e
+        ∷ insert_entry eq es k (unwrap_or (if c then Some e.1 else lookup (eq k) es) p))
         ≡ (if is_some (if c then Some e.1 else place_in (places_of es) k.now) then places_of (e ∷ es) else places_of (e ∷ es) ++ (k.now, p) ∷ [])
     by rest true = refl
     by rest false =
@@ -178,12 +189,14 @@ same_length true n = grind (arith, nat_tests)
 same_length false n = grind (arith, nat_tests)
 
 -- the next net of the code
-pub finds_next : (vs : List VNet) (es : List Entry) (i : ℕ) (d : VNet) → i < length vs → Finds (take i (map net_tree vs)) es → Finds (take (i + 1) (map net_tree vs)) (with_place es (string_bytes (get_or vs i d).name) i)
+pub finds_next : (vs : List VNet) (es : List Entry) (i : ℕ) (d : VNet) → i < length vs → Finds (take i (map net_tree vs)) es
+    → Finds (take (i + 1) (map net_tree vs)) (with_place es (string_bytes (get_or vs i d).name) i)
 finds_next vs es i d l h =
     let xs : List NetTree = map net_tree vs in
     let long : length xs ≡ length vs = simp length-map in
     let here : get_or xs i (net_tree d) ≡ net_tree (get_or vs i d) = get_or-map net_tree vs i d (net_tree d) l in
-    let e : take (i + 1) xs ≡ take i xs ++ net_tree (get_or vs i d) ∷ [] = take_more xs i (net_tree d) (omega arith) ∙ ap (λ (x : NetTree). take i xs ++ x ∷ []) here in
+    let e : take (i + 1) xs ≡ take i xs ++ net_tree (get_or vs i d) ∷ [] = take_more xs i (net_tree d) (omega arith) ∙
+    ap (λ (x : NetTree). take i xs ++ x ∷ []) here in
     let n : length (take i xs) ≡ i = omega (arith, length-take i xs) in
     let made = finds_more (take i xs) es (net_tree (get_or vs i d)) h in
     subst (λ ns. Finds ns (with_place es (string_bytes (get_or vs i d).name) i)) (sym e)

@@ -38,10 +38,12 @@ module _ {X Y Z : Type 0} (f : Y → List Z) (g : X → Y) where
   flat_next xs i d l = ap (λ ys. flat_map f (map g ys)) (take_more xs i d l) ∙ pushed (get_or xs i d) (take i xs)
 
   -- one more turn of a loop that puts lists behind others
-  pub put_next : (before now new : List Z) (xs : List X) (i : ℕ) (d x : X) → i < length xs → x ≡ get_or xs i d → now ≡ before ++ flat_map f (map g (take i xs)) → new ≡ now ++ f (g x) → new ≡ before ++ flat_map f (map g (take (i + 1) xs))
+  pub put_next : (before now new : List Z) (xs : List X) (i : ℕ) (d x : X) → i < length xs → x ≡ get_or xs i d → now ≡ before ++ flat_map f (map g (take i xs))
+      → new ≡ now ++ f (g x) → new ≡ before ++ flat_map f (map g (take (i + 1) xs))
   put_next before now new xs i d x l same h n =
       n ∙ (λ k. h k ++ f (g (same k))) ∙ append_assoc before (flat_map f (map g (take i xs))) (f (g (get_or xs i d)))
       ∙ ap (λ ns. before ++ ns) (sym (flat_next xs i d l))
 
-  pub put_all : (before now : List Z) (xs : List X) (n : ℕ) → length xs ≤ n → now ≡ before ++ flat_map f (map g (take n xs)) → now ≡ before ++ flat_map f (map g xs)
+  pub put_all : (before now : List Z) (xs : List X) (n : ℕ) → length xs ≤ n → now ≡ before ++ flat_map f (map g (take n xs)) → now ≡ before
+      ++ flat_map f (map g xs)
   put_all before now xs n l h = h ∙ ap (λ ys. before ++ flat_map f (map g ys)) (take_all n xs l)

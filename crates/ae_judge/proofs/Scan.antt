@@ -20,7 +20,8 @@ module _ {X : Type 0} (test : ℕ → List (List ℕ) → X → Bool) (names : X
   abbrev pub IsScan : ℕ → List (List ℕ) → List X → Option (ℕ × X) → Type 0
   IsScan k given xs None = (j : ℕ) → Clear k given xs j
   IsScan k given xs (Some r) =
-      (j : ℕ) × (r.0 ≡ j + k) × (slice_get xs j ≡ Some r.1) × (test r.0 (given ++ flat_map names (take j xs)) r.1 ≡ true) × ((i : ℕ) → i < j → Clear k given xs i)
+      (j : ℕ) × (r.0 ≡ j + k) × (slice_get xs j ≡ Some r.1) × (test r.0 (given ++ flat_map names (take j xs)) r.1 ≡ true)
+      × ((i : ℕ) → i < j → Clear k given xs i)
 
   clear_here : (k : ℕ) (given : List (List ℕ)) (x : X) (xs : List X) → test k given x ≡ false → Clear k given (x ∷ xs) 0
   clear_here k given x xs miss y e =
@@ -33,7 +34,8 @@ module _ {X : Type 0} (test : ℕ → List (List ℕ) → X → Bool) (names : X
       let n : suc j + k ≡ j + (k + 1) = omega arith in
       (λ i. test (n i) (sym (append_assoc given (names x) (flat_map names (take j xs))) i) y) ∙ h y e
 
-  later : (k : ℕ) (given : List (List ℕ)) (x : X) (xs : List X) → test k given x ≡ false → (o : Option (ℕ × X)) → IsScan (k + 1) (given ++ names x) xs o → IsScan k given (x ∷ xs) o
+  later : (k : ℕ) (given : List (List ℕ)) (x : X) (xs : List X) → test k given x ≡ false → (o : Option (ℕ × X)) → IsScan (k + 1) (given ++ names x) xs o
+      → IsScan k given (x ∷ xs) o
   later k given x xs miss None h = at
     where
       at : (j : ℕ) → Clear k given (x ∷ xs) j

@@ -112,7 +112,8 @@ more_drives (d ∷ ds) h =
     let r = more_drives ds s.1 in
     ((x.0, r.0), (x.1, r.1))
 
-good_drives : (d : DriveForm) (ds : List DriveForm) (rest : List TokenTree) → AreSound (drive_tokens d ++ (comma_tokens drive_tokens ds ++ rest)) → AreGoodDrives (map drive_of (d ∷ ds))
+good_drives : (d : DriveForm) (ds : List DriveForm) (rest : List TokenTree) → AreSound (drive_tokens d ++ (comma_tokens drive_tokens ds ++ rest))
+    → AreGoodDrives (map drive_of (d ∷ ds))
 good_drives d ds rest h =
     let s = sound_split (drive_tokens d) _ h in
     let x = good d.value s.0.1.1 in
@@ -126,7 +127,8 @@ good_item (RegItem range first more) h = (tt, tt)
 good_item (AssignItem first more) h = good_drives first more _ h.1
 good_item (AlwaysItem clock body) h = good_stmt body h.1.1.1.1.1.1
 
-good_items : (fs : List ItemForm) → AreSound (flat_map item_tokens fs) → AllByRecursion IsLetteredItem (map item_of fs) × AllByRecursion IsPlacedItem (map item_of fs)
+good_items : (fs : List ItemForm) → AreSound (flat_map item_tokens fs) → AllByRecursion IsLetteredItem (map item_of fs)
+    × AllByRecursion IsPlacedItem (map item_of fs)
 good_items [] h = (tt, tt)
 good_items (f ∷ fs) h =
     let s = sound_split (item_tokens f) (flat_map item_tokens fs) h in
@@ -156,14 +158,16 @@ all_below : (low high : ℕ) (xs : List NetTree) → Ascends low high xs → low
 all_below low high [] h = h
 all_below low high (x ∷ xs) h = omega (arith, h.0, all_below x.item high xs h.2)
 
-at_place : (low high : ℕ) (xs : List NetTree) (p : ℕ) (x : NetTree) → Ascends low high xs → slice_get xs p ≡ Some x → (low ≤ x.item) × (x.item ≤ high) × IsGoodNet x
+at_place : (low high : ℕ) (xs : List NetTree) (p : ℕ) (x : NetTree) → Ascends low high xs → slice_get xs p ≡ Some x → (low ≤ x.item) × (x.item ≤ high)
+    × IsGoodNet x
 at_place low high [] p x h e = absurd (let n : None ≡ Some x = e in cc)
 at_place low high (y ∷ ys) zero x h e =
     let s : y ≡ x = (let t : Some y ≡ Some x = e in cc) in
     subst (λ (z : NetTree). (low ≤ z.item) × (z.item ≤ high) × IsGoodNet z) s (h.0, all_below y.item high ys h.2, h.1)
 at_place low high (y ∷ ys) (suc p) x h e = let r = at_place y.item high ys p x h.2 e in (omega (arith, h.0, r.0), r.1, r.2)
 
-in_order : (low high : ℕ) (xs : List NetTree) (p q : ℕ) (x y : NetTree) → Ascends low high xs → p < q → slice_get xs p ≡ Some x → slice_get xs q ≡ Some y → x.item ≤ y.item
+in_order : (low high : ℕ) (xs : List NetTree) (p q : ℕ) (x y : NetTree) → Ascends low high xs → p < q → slice_get xs p ≡ Some x → slice_get xs q ≡ Some y
+    → x.item ≤ y.item
 in_order low high [] p q x y h l e f = absurd (let n : None ≡ Some x = e in cc)
 in_order low high (z ∷ zs) p zero x y h l e f = absurd (omega arith)
 in_order low high (z ∷ zs) zero (suc q) x y h l e f =
@@ -179,7 +183,8 @@ among_ascends low high (y ∷ ys) x h a = elim a [
 ]
 
 -- nets that each stand in one item
-one_item : {F : Type 0} (net : F → NetTree) (k : ℕ) → ((f : F) → (net f).item ≡ k) → ((f : F) → IsGoodNet (net f)) → (low : ℕ) → low ≤ k → (fs : List F) → Ascends low k (map net fs)
+one_item : {F : Type 0} (net : F → NetTree) (k : ℕ) → ((f : F) → (net f).item ≡ k) → ((f : F) → IsGoodNet (net f)) → (low : ℕ) → low ≤ k → (fs : List F)
+    → Ascends low k (map net fs)
 one_item net k same sound low l [] = l
 one_item net k same sound low l (f ∷ fs) =
     (omega (arith, same f), sound f, subst (λ n. Ascends n k (map net fs)) (sym (same f)) (one_item net k same sound k (omega arith) fs))
@@ -191,7 +196,8 @@ net_item : (range : Option NumberForm) (kind : NetKind) (k : ℕ) (n : List ℕ)
 net_item None kind k n = refl
 net_item (Some high) kind k n = refl
 
-net_good : (range : Option NumberForm) (kind : NetKind) (k : ℕ) (n : List ℕ) → ((depth : ℕ) → kind ≡ Memory depth → 1 ≤ depth) → IsGoodNet (net_of range kind k n)
+net_good : (range : Option NumberForm) (kind : NetKind) (k : ℕ) (n : List ℕ) → ((depth : ℕ) → kind ≡ Memory depth → 1 ≤ depth)
+    → IsGoodNet (net_of range kind k n)
 net_good None kind k n h = (omega arith, h)
 net_good (Some high) kind k n h = (size_above high, h)
 
@@ -215,16 +221,19 @@ ports_ascend : (ps : List PortForm) → Ascends 0 0 (flat_map port_nets ps)
 ports_ascend [] = omega arith
 ports_ascend (p ∷ ps) =
     append_ascends 0 0 0 (port_nets p) (flat_map port_nets ps)
-    (one_item (net_of p.range (head_kind p.head) 0) 0 (net_item p.range (head_kind p.head) 0) (λ n. net_good p.range (head_kind p.head) 0 n (head_deep p.head)) 0 (omega arith) (p.first ∷ p.more))
+    (one_item (net_of p.range (head_kind p.head) 0) 0 (net_item p.range (head_kind p.head) 0)
+    (λ n. net_good p.range (head_kind p.head) 0 n (head_deep p.head)) 0 (omega arith) (p.first ∷ p.more))
     (ports_ascend ps)
 
 item_ascends : (k : ℕ) (f : ItemForm) → Ascends k (k + 1) (item_nets (k + 1) f)
 item_ascends k (WireItem range first more) =
     one_item (net_of range Wire (k + 1)) (k + 1) (net_item range Wire (k + 1)) (λ n. net_good range Wire (k + 1) n wire_deep) k (omega arith) (first ∷ more)
 item_ascends k (WireDrives range first more) =
-    one_item (λ (d : DriveForm). net_of range Wire (k + 1) d.name) (k + 1) (λ d. net_item range Wire (k + 1) d.name) (λ d. net_good range Wire (k + 1) d.name wire_deep) k (omega arith) (first ∷ more)
+    one_item (λ (d : DriveForm). net_of range Wire (k + 1) d.name) (k + 1) (λ d. net_item range Wire (k + 1) d.name)
+    (λ d. net_good range Wire (k + 1) d.name wire_deep) k (omega arith) (first ∷ more)
 item_ascends k (RegItem range first more) =
-    one_item (reg_net range (k + 1)) (k + 1) (λ r. net_item range (reg_kind r.last) (k + 1) r.name) (λ r. net_good range (reg_kind r.last) (k + 1) r.name (reg_deep r.last)) k (omega arith) (first ∷ more)
+    one_item (reg_net range (k + 1)) (k + 1) (λ r. net_item range (reg_kind r.last) (k + 1) r.name)
+    (λ r. net_good range (reg_kind r.last) (k + 1) r.name (reg_deep r.last)) k (omega arith) (first ∷ more)
 item_ascends k (AssignItem first more) = omega arith
 item_ascends k (AlwaysItem clock body) = omega arith
 
@@ -258,19 +267,36 @@ port_few p =
 more_ports_few : (ps : List PortForm) → length (flat_map port_nets ps) ≤ length (comma_tokens port_tokens ps)
 more_ports_few [] = omega arith
 more_ports_few (p ∷ ps) =
-    omega (arith, more_ports_few ps, port_few p, length-append (port_nets p) (flat_map port_nets ps), length-append (port_tokens p) (comma_tokens port_tokens ps))
+    omega (
+      arith,
+      more_ports_few ps,
+      port_few p,
+      length-append (port_nets p) (flat_map port_nets ps),
+      length-append (port_tokens p) (comma_tokens port_tokens ps),
+    )
 
 -- a list of names behind a word and a range, with a semicolon at its end
 list_few : {F : Type 0} (net : F → NetTree) (tokens : F → List TokenTree) (range head tail : List TokenTree) (fs : List F) → 1 ≤ length head
     → 1 + length (map net fs) ≤ 1 + length (range ++ (head ++ (comma_tokens tokens fs ++ tail)))
 list_few net tokens range head tail fs h =
-    omega (arith, length_map net fs, names_few tokens fs, length-append range (head ++ (comma_tokens tokens fs ++ tail)), length-append head (comma_tokens tokens fs ++ tail), length-append (comma_tokens tokens fs) tail)
+    omega (
+      arith,
+      length_map net fs,
+      names_few tokens fs,
+      length-append range (head ++ (comma_tokens tokens fs ++ tail)),
+      length-append head (comma_tokens tokens fs ++ tail),
+      length-append (comma_tokens tokens fs) tail,
+    )
 
 item_few : (k : ℕ) (f : ItemForm) → 1 + length (item_nets k f) ≤ 1 + length (item_tokens f)
 item_few k (WireItem range first more) =
     omega (arith, list_few (net_of range Wire k) name_tokens (range_tokens range) (Name first ∷ []) (Mark Semicolon ∷ []) more (omega arith))
 item_few k (WireDrives range first more) =
-    omega (arith, list_few (λ (d : DriveForm). net_of range Wire k d.name) drive_tokens (range_tokens range) (drive_tokens first) (Mark Semicolon ∷ []) more (omega arith))
+    omega (
+      arith,
+      list_few (λ (d : DriveForm). net_of range Wire k d.name) drive_tokens (range_tokens range) (drive_tokens first) (Mark Semicolon ∷ []) more
+          (omega arith),
+    )
 item_few k (RegItem range first more) =
     omega (arith, list_few (reg_net range k) reg_tokens (range_tokens range) (reg_tokens first) (Mark Semicolon ∷ []) more (omega arith))
 item_few k (AssignItem first more) = omega arith
@@ -279,7 +305,13 @@ item_few k (AlwaysItem clock body) = omega arith
 items_nets_few : (k : ℕ) (fs : List ItemForm) → length (nets_from k fs) ≤ length (flat_map item_tokens fs)
 items_nets_few k [] = omega arith
 items_nets_few k (f ∷ fs) =
-    omega (arith, item_few k f, items_nets_few (k + 1) fs, length-append (item_nets k f) (nets_from (k + 1) fs), length-append (item_tokens f) (flat_map item_tokens fs))
+    omega (
+      arith,
+      item_few k f,
+      items_nets_few (k + 1) fs,
+      length-append (item_nets k f) (nets_from (k + 1) fs),
+      length-append (item_tokens f) (flat_map item_tokens fs),
+    )
 
 item_long : (f : ItemForm) → 1 ≤ length (item_tokens f)
 item_long (WireItem range first more) = omega arith
@@ -347,4 +379,5 @@ form_shapely f few sound =
 
 pub shapely : (text : List ℕ) (m : ModuleTree) → length text < 2 ^ 32 → Spells text m → IsShapely m
 shapely text m short s =
-    subst IsShapely s.tree (form_shapely s.form (omega (arith, tokens_few text (module_tokens s.form) s.written)) (tokens_sound text (module_tokens s.form) s.written))
+    subst IsShapely s.tree (form_shapely s.form (omega (arith, tokens_few text (module_tokens s.form) s.written))
+    (tokens_sound text (module_tokens s.form) s.written))

@@ -68,11 +68,14 @@ sized_sound : (d : ℕ) (ds cs : List ℕ) (t : TokenTree) → is_ascii_digit d 
 sized_sound d ds [] t dig h = absurd (none_some t h)
 sized_sound d ds (b ∷ bs) t dig h = by (starts_with nat_eq (d ∷ ds) (codes "0")) refl (are_digits (base_of b) bs) h
   where
-    by : (c : Bool) → starts_with nat_eq (d ∷ ds) (codes "0") ≡ c → (e : Bool) → (if not c && e then Some (constant (digits_value 10 (d ∷ ds)) (digits_value (base_of b) (filter (λ c. not (c == 95)) bs))) else None) ≡ Some t → IsSound t
+    by : (c : Bool) → starts_with nat_eq (d ∷ ds) (codes "0") ≡ c → (e : Bool)
+        → (if not c && e then Some (constant (digits_value 10 (d ∷ ds)) (digits_value (base_of b) (filter (λ c. not (c == 95)) bs))) else None) ≡ Some t
+        → IsSound t
     by true s e h = absurd (none_some t h)
     by false s false h = absurd (none_some t h)
     by false s true h =
-        subst IsSound (same_some _ t h) (constant_sound (digits_value 10 (d ∷ ds)) _ (after_above (0 * 10 + digit_value d) ds (let q = first_digit d dig s in omega arith)))
+        subst IsSound (same_some _ t h) (constant_sound (digits_value 10 (d ∷ ds)) _
+        (after_above (0 * 10 + digit_value d) ds (let q = first_digit d dig s in omega arith)))
 
 number_sound : (d : ℕ) (ds cs : List ℕ) (t : TokenTree) → is_ascii_digit d ≡ true → number_from (d ∷ ds) cs ≡ Some t → IsSound t
 number_sound d ds [] t dig h = subst IsSound (same_some _ t h) (decimal_sound (d ∷ ds))

@@ -54,12 +54,14 @@ not_in ns n h = elim (cases_Bool (is_in ns n)) [ inl e ↦ absurd (h (in_among n
 pub no_names : HasNames [] []
 no_names n = refl
 
-pub first_is_scan : {X : Type 0} (test : ℕ → X → Bool) (k : ℕ) (given : List (List ℕ)) (xs : List X) → first_from test k xs ≡ option_map (λ r. r.0) (scan (λ k g x. test k x) (λ x. []) k given xs)
+pub first_is_scan : {X : Type 0} (test : ℕ → X → Bool) (k : ℕ) (given : List (List ℕ)) (xs : List X)
+    → first_from test k xs ≡ option_map (λ r. r.0) (scan (λ k g x. test k x) (λ x. []) k given xs)
 first_is_scan test k given [] = refl
 first_is_scan test k given (x ∷ xs) = by (test k x) (first_is_scan test (k + 1) (given ++ []) xs)
   where
     by : (b : Bool) → first_from test (k + 1) xs ≡ option_map (λ r. r.0) (scan (λ k g x. test k x) (λ x. []) (k + 1) (given ++ []) xs)
-        → (if b then Some k else first_from test (k + 1) xs) ≡ option_map (λ r. r.0) (if b then Some (k, x) else scan (λ k g x. test k x) (λ x. []) (k + 1) (given ++ []) xs)
+        → (if b then Some k else first_from test (k + 1) xs) ≡ option_map (λ r. r.0)
+        (if b then Some (k, x) else scan (λ k g x. test k x) (λ x. []) (k + 1) (given ++ []) xs)
     by true h = refl
     by false h = h
 
@@ -72,7 +74,8 @@ first_passes test k xs = subst (IsFirstOf (Passes test k xs)) (sym (first_is_sca
 
 -- declarations
 
-pub find_before : {X : Type 0} (test : X → Bool) (xs : List X) (x y : X) → find test xs ≡ Some y → Among x xs → test x ≡ true → (p : ℕ) × (q : ℕ) × (slice_get xs p ≡ Some y) × (slice_get xs q ≡ Some x) × (p ≤ q)
+pub find_before : {X : Type 0} (test : X → Bool) (xs : List X) (x y : X) → find test xs ≡ Some y → Among x xs → test x ≡ true → (p : ℕ) × (q : ℕ)
+    × (slice_get xs p ≡ Some y) × (slice_get xs q ≡ Some x) × (p ≤ q)
 find_before test [] x y f a h = absurd a
 find_before test (z ∷ zs) x y f a h = elim (cases_Bool (test z)) [
   | inl e ↦
@@ -102,7 +105,8 @@ module _ (m : ModuleTree) (shape : IsShapely m) where
   unfolding net_named
   declared_before k n h = by (find (λ (x : NetTree). bytes_eq x.name n) m.nets) refl h
     where
-      by : (o : Option NetTree) → find (λ (x : NetTree). bytes_eq x.name n) m.nets ≡ o → passes (λ (x : NetTree). nat_lt x.item k) o ≡ true → IsDeclaredBefore m k n
+      by : (o : Option NetTree) → find (λ (x : NetTree). bytes_eq x.name n) m.nets ≡ o → passes (λ (x : NetTree). nat_lt x.item k) o ≡ true
+          → IsDeclaredBefore m k n
       by None e h = absurd (let f : false ≡ true = h in cc)
       by (Some x) e h =
           let r = find_some (λ (x : NetTree). bytes_eq x.name n) m.nets x e in
@@ -139,7 +143,8 @@ module _ (m : ModuleTree) (shape : IsShapely m) where
   strange_is k given n h = (λ a. no_in (among_in given n a) h, λ d. no_declared (before_declared k n d) h)
     where
       no_in : is_in given n ≡ true → is_strange k given n ≡ true → ⊥
-      no_in e h = let f : (not (is_declared_before m.nets k n) && false) ≡ true = sym (ap (λ b. not (is_declared_before m.nets k n) && not b) e) ∙ h in never (not (is_declared_before m.nets k n)) f
+      no_in e h = let f : (not (is_declared_before m.nets k n) && false) ≡ true = sym (ap (λ b. not (is_declared_before m.nets k n) && not b) e) ∙ h in
+          never (not (is_declared_before m.nets k n)) f
         where
           never : (b : Bool) → (b && false) ≡ true → ⊥
           never true g = cc
@@ -163,13 +168,16 @@ module _ (m : ModuleTree) (shape : IsShapely m) where
   abbrev drive_names : DriveTree → List (List ℕ)
   drive_names d = d.name ∷ []
 
-  drives_scan : (k j : ℕ) (es : List Entry) (given : List (List ℕ)) → HasNames es given → (ds : List DriveTree) → drives_unknown m.nets k es ds ≡ is_some (scan (drive_test k) drive_names j given ds)
+  drives_scan : (k j : ℕ) (es : List Entry) (given : List (List ℕ)) → HasNames es given → (ds : List DriveTree)
+      → drives_unknown m.nets k es ds ≡ is_some (scan (drive_test k) drive_names j given ds)
   drives_scan k j es given h [] = refl
   drives_scan k j es given h (d ∷ ds) =
-      (λ i. any_same (is_unknown m.nets k es) (is_strange k given) (names_in d.value) (unknown_strange k es given h) i || drives_scan k (j + 1) (with_place es d.name 0) (given ++ d.name ∷ []) (names_more es given d.name 0 h) ds i)
+      (λ i. any_same (is_unknown m.nets k es) (is_strange k given) (names_in d.value) (unknown_strange k es given h) i || drives_scan k (j + 1)
+      (with_place es d.name 0) (given ++ d.name ∷ []) (names_more es given d.name 0 h) ds i)
       ∙ by (drive_test k j given d)
     where
-      by : (b : Bool) → (b || is_some (scan (drive_test k) drive_names (j + 1) (given ++ d.name ∷ []) ds)) ≡ is_some (if b then Some (j, d) else scan (drive_test k) drive_names (j + 1) (given ++ d.name ∷ []) ds)
+      by : (b : Bool) → (b || is_some (scan (drive_test k) drive_names (j + 1) (given ++ d.name ∷ []) ds)) ≡ is_some
+          (if b then Some (j, d) else scan (drive_test k) drive_names (j + 1) (given ++ d.name ∷ []) ds)
       by true = refl
       by false = refl
 
@@ -220,7 +228,8 @@ module _ (m : ModuleTree) (shape : IsShapely m) where
   unknown_from k (nets ds) n u = nets_from k ds n u
   unknown_from k (assigns ds) n u =
       list_from k (([] ++ map target_of ds) ++ flat_map drive_reads ds) n
-      (elim u.0 [ inl a ↦ among_left n (map target_of ds) (flat_map drive_reads ds) a | inr a ↦ among_right n (map target_of ds) (flat_map drive_reads ds) a ]) u.1
+      (elim u.0 [ inl a ↦ among_left n (map target_of ds) (flat_map drive_reads ds) a | inr a ↦ among_right n (map target_of ds) (flat_map drive_reads ds) a ])
+      u.1
   unknown_from k (always clock body) n u =
       list_from k ((clock ∷ stmt_targets body) ++ stmt_reads body) n
       (elim u.0 [

@@ -18,7 +18,8 @@ module _ {X Y : Type 0} (f : Y → ℕ) (g : X → Y) where
   pub sum_next : (xs : List X) (i : ℕ) (d : X) → i < length xs → sum_by f (map g (take (i + 1) xs)) ≡ sum_by f (map g (take i xs)) + f (g (get_or xs i d))
   sum_next xs i d l = ap (λ ys. sum_by f (map g ys)) (take_more xs i d l) ∙ pushed (get_or xs i d) (take i xs)
 
-  pub weight_next : (k : ℕ) (xs : List X) (i : ℕ) (d : X) (total part : ℕ) → i < length xs → total ≡ min (sum_by f (map g (take i xs))) k → part ≡ min (f (g (get_or xs i d))) k
+  pub weight_next : (k : ℕ) (xs : List X) (i : ℕ) (d : X) (total part : ℕ) → i < length xs → total ≡ min (sum_by f (map g (take i xs))) k
+      → part ≡ min (f (g (get_or xs i d))) k
       → min (total + part) k ≡ min (sum_by f (map g (take (i + 1) xs))) k
   weight_next k xs i d total part l t p = omega (arith, sum_next xs i d l)
 

@@ -48,18 +48,26 @@ own_concat ns (x ∷ xs) h = own_behind ns x xs
 
 -- sums
 
-pub sum_map_next : (f : ExprTree → ℕ) (xs : List Expr) (i : ℕ) (d : Expr) → i < length xs → sum_by f (map expr_tree (take (i + 1) xs)) ≡ sum_by f (map expr_tree (take i xs)) + f (expr_tree (get_or xs i d))
+pub sum_map_next : (f : ExprTree → ℕ) (xs : List Expr) (i : ℕ) (d : Expr) → i < length xs
+    → sum_by f (map expr_tree (take (i + 1) xs)) ≡ sum_by f (map expr_tree (take i xs)) + f (expr_tree (get_or xs i d))
 sum_map_next f xs i d l = ap (λ ys. sum_by f (map expr_tree ys)) (take_more xs i d l) ∙ pushed (take i xs)
   where
     pushed : (ys : List Expr) → sum_by f (map expr_tree (ys ++ get_or xs i d ∷ [])) ≡ sum_by f (map expr_tree ys) + f (expr_tree (get_or xs i d))
     pushed [] = omega arith
-    pushed (y ∷ ys) = omega (arith, pushed ys, sum_by-cons f (expr_tree y) (map expr_tree (ys ++ get_or xs i d ∷ [])), sum_by-cons f (expr_tree y) (map expr_tree ys))
+    pushed (y ∷ ys) = omega (
+      arith,
+      pushed ys,
+      sum_by-cons f (expr_tree y) (map expr_tree (ys ++ get_or xs i d ∷ [])),
+      sum_by-cons f (expr_tree y) (map expr_tree ys),
+    )
 
-pub capped_next : (f : ExprTree → ℕ) (xs : List Expr) (i : ℕ) (d : Expr) (total part : ℕ) → i < length xs → total ≡ min (sum_by f (map expr_tree (take i xs))) 65 → part ≡ min (f (expr_tree (get_or xs i d))) 65
+pub capped_next : (f : ExprTree → ℕ) (xs : List Expr) (i : ℕ) (d : Expr) (total part : ℕ) → i < length xs
+    → total ≡ min (sum_by f (map expr_tree (take i xs))) 65 → part ≡ min (f (expr_tree (get_or xs i d))) 65
     → min (total + part) 65 ≡ min (sum_by f (map expr_tree (take (i + 1) xs))) 65
 capped_next f xs i d total part l t p = omega (arith, sum_map_next f xs i d l)
 
-pub capped_end : (f : ExprTree → ℕ) (xs : List Expr) (n total : ℕ) → length xs ≤ n → total ≡ min (sum_by f (map expr_tree (take n xs))) 65 → total ≡ min (sum_by f (map expr_tree xs)) 65
+pub capped_end : (f : ExprTree → ℕ) (xs : List Expr) (n total : ℕ) → length xs ≤ n → total ≡ min (sum_by f (map expr_tree (take n xs))) 65
+    → total ≡ min (sum_by f (map expr_tree xs)) 65
 capped_end f xs n total l t = t ∙ ap (λ ys. min (sum_by f (map expr_tree ys)) 65) (take_all n xs l)
 
 -- indexes
@@ -75,7 +83,8 @@ reach_both depth index_width w s h e =
     let far : nat_le 32 index_width ≡ true = grind (arith, nat_tests) in
     far ∙ sym (reaches_wide depth w s (omega arith))
 
-pub outside_no_place : (is_memory : Bool) (width depth w : ℕ) (e : Expr) → ((k : ℕ) → e ≡ Place k → ⊥) → is_outside_of is_memory width depth w (expr_tree e) ≡ (is_memory && nat_lt depth (2 ^ w))
+pub outside_no_place : (is_memory : Bool) (width depth w : ℕ) (e : Expr) → ((k : ℕ) → e ≡ Place k → ⊥)
+    → is_outside_of is_memory width depth w (expr_tree e) ≡ (is_memory && nat_lt depth (2 ^ w))
 outside_no_place true width depth w (Name n) h = refl
 outside_no_place true width depth w (Const size value fits) h = refl
 outside_no_place m width depth w (Place k) h = absurd (h k refl)
@@ -121,14 +130,16 @@ more_parts true any w rest = refl
 more_parts false true w rest = refl
 more_parts false false w rest = grind (arith, nat_tests)
 
-wide_behind : (ns : List NetTree) (first : ExprTree) (es : List ExprTree) → is_too_wide ns (concat_behind first es) ≡ (list_any (is_too_wide ns) (first ∷ es) || nat_lt 64 (sum_by (own_width ns) (first ∷ es)))
+wide_behind : (ns : List NetTree) (first : ExprTree) (es : List ExprTree)
+    → is_too_wide ns (concat_behind first es) ≡ (list_any (is_too_wide ns) (first ∷ es) || nat_lt 64 (sum_by (own_width ns) (first ∷ es)))
 wide_behind ns first [] = last_part (is_too_wide ns first) (own_width ns first)
 wide_behind ns first (x ∷ xs) =
     (λ i. is_too_wide ns first || (wide_behind ns x xs i || nat_lt 64 (own_width ns first + own_behind ns x xs i)))
     ∙ more_parts (is_too_wide ns first) (list_any (is_too_wide ns) (x ∷ xs)) (own_width ns first) (sum_by (own_width ns) (x ∷ xs))
     ∙ ap (λ n. (is_too_wide ns first || list_any (is_too_wide ns) (x ∷ xs)) || nat_lt 64 n) (sym (sum_by-cons (own_width ns) first (x ∷ xs)))
 
-pub wide_concat : (ns : List NetTree) (es : List ExprTree) → IsLettered (concat_of es) → is_too_wide ns (concat_of es) ≡ (list_any (is_too_wide ns) es || nat_lt 64 (sum_by (own_width ns) es))
+pub wide_concat : (ns : List NetTree) (es : List ExprTree) → IsLettered (concat_of es)
+    → is_too_wide ns (concat_of es) ≡ (list_any (is_too_wide ns) es || nat_lt 64 (sum_by (own_width ns) es))
 wide_concat ns [] h = absurd (none h)
   where
     none : IsLettered (concat_of []) → ⊥

@@ -33,7 +33,9 @@ abbrev pub HasUnknown : ModuleTree → ℕ → Type 0
 HasUnknown m k = (i : ItemTree) × (n : List ℕ) × ItemAt m k i × UsesUnknown m k i n
 
 abbrev pub DeclaresTwice : ModuleTree → ℕ → Type 0
-DeclaresTwice m k = (p : ℕ) × (q : ℕ) × (x : NetTree) × (y : NetTree) × (p < q) × NetAt m p x × NetAt m q y × (x.name ≡ y.name) × (y.item ≡ k)
+DeclaresTwice m k =
+    (p : ℕ) × (q : ℕ) × (x : NetTree) × (y : NetTree) × (p < q) × NetAt m p x × NetAt m q y × (x.name ≡ y.name)
+    × (y.item ≡ k)
 
 -- the name stands at two places of the list
 abbrev pub IsRepeated : List ℕ → List (List ℕ) → Type 0
@@ -78,7 +80,8 @@ abbrev pub is_misused_in_stmt : List NetTree → StmtTree → Bool
 is_misused_in_stmt ns (set n value) = not (is_register_name ns n) || is_misused ns value
 is_misused_in_stmt ns (put n at value) = not (is_memory_name ns n) || (is_misused ns at || is_misused ns value)
 is_misused_in_stmt ns (when test taken) = is_misused ns test || is_misused_in_stmt ns taken
-is_misused_in_stmt ns (either test taken otherwise) = is_misused ns test || (is_misused_in_stmt ns taken || is_misused_in_stmt ns otherwise)
+is_misused_in_stmt ns (either test taken otherwise) =
+    is_misused ns test || (is_misused_in_stmt ns taken || is_misused_in_stmt ns otherwise)
 is_misused_in_stmt ns block_end = false
 is_misused_in_stmt ns (block_more first rest) = is_misused_in_stmt ns first || is_misused_in_stmt ns rest
 
@@ -90,15 +93,19 @@ is_misused_in_drive ns d = not (is_wire_name ns d.name) || is_misused ns d.value
 abbrev pub is_misused_in_item : ModuleTree → ItemTree → Bool
 is_misused_in_item m (nets drives) = list_any (is_misused_in_drive m.nets) drives
 is_misused_in_item m (assigns drives) = list_any (is_misused_in_drive m.nets) drives
-is_misused_in_item m (always clock body) = not (is_clock m clock) || (not (is_one_bit_input m.nets clock) || is_misused_in_stmt m.nets body)
+is_misused_in_item m (always clock body) =
+    not (is_clock m clock) || (not (is_one_bit_input m.nets clock) || is_misused_in_stmt m.nets body)
 
 -- and the clock stands in no expression
 abbrev pub HasKind : ModuleTree → ℕ → Type 0
-HasKind m k = (i : ItemTree) × ItemAt m k i × ((is_misused_in_item m i ≡ true) ⊎ ((n : List ℕ) × Among n (item_reads i) × (is_clock m n ≡ true)))
+HasKind m k =
+    (i : ItemTree) × ItemAt m k i × ((is_misused_in_item m i ≡ true)
+    ⊎ ((n : List ℕ) × Among n (item_reads i) × (is_clock m n ≡ true)))
 
 -- no equation and no assignment drives the net
 abbrev pub HasUndriven : ModuleTree → ℕ → Type 0
-HasUndriven m p = (x : NetTree) × NetAt m p x × (is_input_kind x.kind ≡ false) × (Among x.name (flat_map item_targets m.items) → ⊥)
+HasUndriven m p =
+    (x : NetTree) × NetAt m p x × (is_input_kind x.kind ≡ false) × (Among x.name (flat_map item_targets m.items) → ⊥)
 
 abbrev pub is_too_large : NetTree → Bool
 is_too_large x = nat_lt 64 x.width || nat_lt 65536 (depth_of_kind x.kind)
@@ -124,13 +131,15 @@ is_too_wide ns (unary op a) = is_too_wide ns a
 is_too_wide ns (binary op a b) = is_too_wide ns a || is_too_wide ns b
 is_too_wide ns (choice test a b) = is_too_wide ns test || (is_too_wide ns a || is_too_wide ns b)
 is_too_wide ns (concat_one a) = is_too_wide ns a || nat_lt 64 (own_width ns a)
-is_too_wide ns (concat_more a rest) = is_too_wide ns a || (is_too_wide ns rest || nat_lt 64 (own_width ns a + own_width ns rest))
+is_too_wide ns (concat_more a rest) =
+    is_too_wide ns a || (is_too_wide ns rest || nat_lt 64 (own_width ns a + own_width ns rest))
 
 abbrev pub is_too_wide_in_stmt : List NetTree → StmtTree → Bool
 is_too_wide_in_stmt ns (set n value) = is_too_wide ns value
 is_too_wide_in_stmt ns (put n at value) = is_too_wide ns at || (is_outside ns n at || is_too_wide ns value)
 is_too_wide_in_stmt ns (when test taken) = is_too_wide ns test || is_too_wide_in_stmt ns taken
-is_too_wide_in_stmt ns (either test taken otherwise) = is_too_wide ns test || (is_too_wide_in_stmt ns taken || is_too_wide_in_stmt ns otherwise)
+is_too_wide_in_stmt ns (either test taken otherwise) =
+    is_too_wide ns test || (is_too_wide_in_stmt ns taken || is_too_wide_in_stmt ns otherwise)
 is_too_wide_in_stmt ns block_end = false
 is_too_wide_in_stmt ns (block_more first rest) = is_too_wide_in_stmt ns first || is_too_wide_in_stmt ns rest
 
@@ -184,10 +193,13 @@ IsFault m (Unknown k) = IsFirst (HasUnknown m) k
 IsFault m (Twice k) = Never (HasUnknown m) × IsFirst (HasTwice m) k
 IsFault m (Kind k) = Never (HasUnknown m) × Never (HasTwice m) × IsFirst (HasKind m) k
 IsFault m (Undriven p) = Never (HasUnknown m) × Never (HasTwice m) × Never (HasKind m) × IsFirst (HasUndriven m) p
-IsFault m (Width k) = Never (HasUnknown m) × Never (HasTwice m) × Never (HasKind m) × Never (HasUndriven m) × IsFirst (HasWidth m) k
+IsFault m (Width k) =
+    Never (HasUnknown m) × Never (HasTwice m) × Never (HasKind m) × Never (HasUndriven m) × IsFirst (HasWidth m) k
 IsFault m (Loop p) =
-    Never (HasUnknown m) × Never (HasTwice m) × Never (HasKind m) × Never (HasUndriven m) × Never (HasWidth m) × HasLoop m p
+    Never (HasUnknown m) × Never (HasTwice m) × Never (HasKind m) × Never (HasUndriven m) × Never (HasWidth m)
+    × HasLoop m p
 IsFault m Large =
-    Never (HasUnknown m) × Never (HasTwice m) × Never (HasKind m) × Never (HasUndriven m) × Never (HasWidth m) × Never (HasLoop m)
+    Never (HasUnknown m) × Never (HasTwice m) × Never (HasKind m) × Never (HasUndriven m) × Never (HasWidth m)
+    × Never (HasLoop m)
     × IsLarge m
 IsFault m Memory = Unit {0}

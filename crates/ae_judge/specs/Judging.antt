@@ -47,11 +47,13 @@ is_late ns k d = list_any (is_unknown ns k []) (names_in d.value)
 -- each value may use the names before it
 abbrev pub drives_unknown : List NetTree → ℕ → List Entry → List DriveTree → Bool
 drives_unknown ns k es [] = false
-drives_unknown ns k es (d ∷ ds) = list_any (is_unknown ns k es) (names_in d.value) || drives_unknown ns k (with_place es d.name 0) ds
+drives_unknown ns k es (d ∷ ds) =
+    list_any (is_unknown ns k es) (names_in d.value) || drives_unknown ns k (with_place es d.name 0) ds
 
 abbrev pub uses_unknown : List NetTree → ℕ → ItemTree → Bool
 uses_unknown ns k (nets drives) = drives_unknown ns k [] drives
-uses_unknown ns k (assigns drives) = list_any (is_unknown ns k []) (([] ++ map target_of drives) ++ flat_map drive_reads drives)
+uses_unknown ns k (assigns drives) =
+    list_any (is_unknown ns k []) (([] ++ map target_of drives) ++ flat_map drive_reads drives)
 uses_unknown ns k (always clock body) = list_any (is_unknown ns k []) ((clock ∷ stmt_targets body) ++ stmt_reads body)
 
 -- the clock that an item names
@@ -78,13 +80,15 @@ drives_twice ns es i = list_any (is_driven ns es) (item_targets i) || repeats ns
 
 abbrev pub first_twice : List NetTree → ℕ → List Entry → List ItemTree → Option ℕ
 first_twice ns k es [] = None
-first_twice ns k es (i ∷ is) = if drives_twice ns es i then Some k else first_twice ns (k + 1) (with_names es (item_targets i)) is
+first_twice ns k es (i ∷ is) =
+    if drives_twice ns es i then Some k else first_twice ns (k + 1) (with_names es (item_targets i)) is
 
 -- the clock is another, or a name is misused
 abbrev pub misused_in : List NetTree → Option (List ℕ) → ItemTree → Bool
 misused_in ns c (nets drives) = list_any (is_misused_in_drive ns) drives
 misused_in ns c (assigns drives) = list_any (is_misused_in_drive ns) drives
-misused_in ns c (always clock body) = not (is_named clock c) || (not (is_one_bit_input ns clock) || is_misused_in_stmt ns body)
+misused_in ns c (always clock body) =
+    not (is_named clock c) || (not (is_one_bit_input ns clock) || is_misused_in_stmt ns body)
 
 -- or the clock is read
 abbrev pub misuses : List NetTree → Option (List ℕ) → ItemTree → Bool

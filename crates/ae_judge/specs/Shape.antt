@@ -70,7 +70,8 @@ pub record IsShapely (m : ModuleTree) : Type 0 where
   pub few_nets : length m.nets < 2 ^ 32
   pub few_items : length m.items < 2 ^ 32
   -- names are declared in the order of their items
-  pub in_order : (p q : ℕ) (x y : NetTree) → p < q → slice_get m.nets p ≡ Some x → slice_get m.nets q ≡ Some y → x.item ≤ y.item
+  pub in_order : (p q : ℕ) (x y : NetTree) → p < q → slice_get m.nets p ≡ Some x → slice_get m.nets q ≡ Some y
+      → x.item ≤ y.item
   pub within : (x : NetTree) → Among x m.nets → x.item ≤ length m.items
   pub wide : (x : NetTree) → Among x m.nets → 1 ≤ x.width
   pub deep : (x : NetTree) (depth : ℕ) → Among x m.nets → x.kind ≡ Memory depth → 1 ≤ depth

@@ -31,7 +31,8 @@ abbrev pub stmt_weight : ℕ → StmtTree → ℕ
 stmt_weight ifs (set n value) = 1 + ifs + expr_weight value
 stmt_weight ifs (put n at value) = 1 + ifs + (expr_weight at + expr_weight value)
 stmt_weight ifs (when test taken) = 1 + (expr_weight test + stmt_weight (ifs + 1) taken)
-stmt_weight ifs (either test taken otherwise) = 1 + (expr_weight test + (stmt_weight (ifs + 1) taken + stmt_weight (ifs + 1) otherwise))
+stmt_weight ifs (either test taken otherwise) =
+    1 + (expr_weight test + (stmt_weight (ifs + 1) taken + stmt_weight (ifs + 1) otherwise))
 stmt_weight ifs block_end = 0
 stmt_weight ifs (block_more first rest) = stmt_weight ifs first + stmt_weight ifs rest
 

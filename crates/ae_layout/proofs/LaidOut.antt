@@ -16,9 +16,11 @@ use Rattle.ae_layout.proofs.Standing.{element_found, none_found}
 abbrev pub AreRows : (fill : ℕ) → StTree → (value : List ℕ) → (clocks : ℕ) → (words : List ℕ) → Type 0
 AreRows fill s value n words = Pieces (Joined (λ c. layout_row fill s value (Some c))) (lanes s * element_words s) n words
 
-pub row_more : (fill : ℕ) (s : StTree) (value : List ℕ) (n : ℕ) (words new : List ℕ) → AreRows fill s value n words → new ≡ words ++ layout_row fill s value (Some n) → AreRows fill s value (n + 1) new
+pub row_more : (fill : ℕ) (s : StTree) (value : List ℕ) (n : ℕ) (words new : List ℕ) → AreRows fill s value n words → new ≡ words
+    ++ layout_row fill s value (Some n) → AreRows fill s value (n + 1) new
 row_more fill s value n words new rows is =
-    rw is (piece_more (Joined (λ c. layout_row fill s value (Some c))) (lanes s * element_words s) n words (layout_row fill s value (Some n)) rows (length_row fill s value (Some n)) (λ j h. refl))
+    rw is (piece_more (Joined (λ c. layout_row fill s value (Some c))) (lanes s * element_words s) n words (layout_row fill s value (Some n)) rows
+    (length_row fill s value (Some n)) (λ j h. refl))
 
 holds_laid : (fill : ℕ) (s : StTree) (value : List ℕ) (n : ℕ) (words : List ℕ) → HasLengths s → AreRows fill s value n words → n ≡ time s
     → Holds (rows_run (lanes s * element_words s) words) 0 (element_words s) (slots s) value
@@ -44,7 +46,8 @@ pub record IsLaid (fill : ℕ) (s : StTree) (value : List ℕ) (columns : ℕ) (
   pub holds : Holds (rows_run columns words) 0 (element_words s) (slots s) value
   pub filled : IsFilled (rows_run columns words) s fill
 
-pub laid : (fill : ℕ) (s : StTree) (value : List ℕ) (n a b : ℕ) (words : List ℕ) → HasLengths s → AreRows fill s value n words → n ≡ time s → a ≡ lanes s → b ≡ element_words s → IsLaid fill s value (a * b) words
+pub laid : (fill : ℕ) (s : StTree) (value : List ℕ) (n a b : ℕ) (words : List ℕ) → HasLengths s → AreRows fill s value n words → n ≡ time s → a ≡ lanes s
+    → b ≡ element_words s → IsLaid fill s value (a * b) words
 laid fill s value n a b words lengths rows all a_is b_is =
     rw (a_is, b_is) (record {
       clocks = rows.long ∙ ap (λ k. k * (lanes s * element_words s)) all;

@@ -62,7 +62,8 @@ joined f width zero long = no_pieces (Joined f) width
 joined f width (suc n) long =
     let next : n + 1 ≡ suc n = omega arith in
     let more : Pieces (Joined f) width (n + 1) (flat_map f (range_with_len 0 (n + 1))) =
-    subst (Pieces (Joined f) width (n + 1)) (sym (joined_next f n)) (piece_more (Joined f) width n (flat_map f (range_with_len 0 n)) (f n) (joined f width n long) (long n) (λ j h. refl)) in
+    subst (Pieces (Joined f) width (n + 1)) (sym (joined_next f n))
+    (piece_more (Joined f) width n (flat_map f (range_with_len 0 n)) (f n) (joined f width n long) (long n) (λ j h. refl)) in
     subst (λ m. Pieces (Joined f) width m (flat_map f (range_with_len 0 m))) next more
 
 -- ---- taking up
@@ -78,7 +79,8 @@ words_within c l clocks lanes width p q =
     let b : (c + 1) * (lanes * width) ≤ clocks * (lanes * width) = mul-le (c + 1) (lanes * width) clocks (lanes * width) (omega arith) (omega arith) in
     omega (arith, a, b)
 
-pub taken_piece : (s : StTree) (width n m : ℕ) (rows words : List ℕ) (w : Slot) → m ≡ width → Pieces (Taken s width rows) width n words → slice_get (slots s) n ≡ Some w →
+pub taken_piece : (s : StTree) (width n m : ℕ) (rows words : List ℕ) (w : Slot) → m ≡ width → Pieces (Taken s width rows) width n words
+    → slice_get (slots s) n ≡ Some w →
     w.clock < time s → w.lane < lanes s → length rows ≡ time s * (lanes s * width) →
     Pieces (Taken s width rows) width (n + 1) (words ++ take m (drop (w.clock * (lanes s * width) + w.lane * width) rows))
 taken_piece s width n m rows words w same ps at c l long =
@@ -86,8 +88,13 @@ taken_piece s width n m rows words w same ps at c l long =
     let is : slot_of s n ≡ w = get_or_from_slice_get (slots s) n w (slot_at 0 0) at in
     rw same (piece_more (Taken s width rows) width n words _ ps
     (simp (length-take, length-drop) (omega (arith, fits, long)))
-    (λ j h. rw (get_or-take width (drop (w.clock * (lanes s * width) + w.lane * width) rows) j 0 h, get_or-drop (w.clock * (lanes s * width) + w.lane * width) rows j 0, is)
-    (ap (λ i. get_or rows i 0) (let e : w.clock * (lanes s * width) + w.lane * width + j ≡ w.clock * (lanes s * width) + (w.lane * width + j) = omega arith in e))))
+    (λ j h. rw (
+      get_or-take width (drop (w.clock * (lanes s * width) + w.lane * width) rows) j 0 h,
+      get_or-drop (w.clock * (lanes s * width) + w.lane * width) rows j 0,
+      is,
+    )
+    (ap (λ i. get_or rows i 0) (let e : w.clock * (lanes s * width) + w.lane * width + j ≡ w.clock * (lanes s * width) + (w.lane * width + j) = omega arith in
+    e))))
 
 pub holds_taken : (s : StTree) (width n : ℕ) (rows words : List ℕ) → Pieces (Taken s width rows) width n words → st_atoms s ≤ n →
     Holds (rows_run (lanes s * width) rows) 0 width (slots s) words
@@ -98,4 +105,5 @@ holds_taken s width n rows words ps all e j w at h =
     ∙ ap (λ c. get_or rows (c * (lanes s * width) + (w.lane * width + j)) 0) (let z : w.clock ≡ 0 + w.clock = omega arith in z))
 
 pub columns_below : (s : StTree) (width : ℕ) → IsInSize s → width ≡ element_words s → lanes s * width ≤ 16384
-columns_below s width h is = rw is (omega (arith, mul-le (lanes s) (element_words s) (st_atoms s) (element_words s) (lanes-le-atoms s h.lengths) (omega arith), h.in_words))
+columns_below s width h is =
+    rw is (omega (arith, mul-le (lanes s) (element_words s) (st_atoms s) (element_words s) (lanes-le-atoms s h.lengths) (omega arith), h.in_words))

@@ -34,19 +34,24 @@ lane_more fill words value o j kinds now x all h is was =
     let next : suc j ≡ j + 1 = omega arith in
     let one : lane_words fill words value o j (drop j kinds) ≡ x ∷ lane_words fill words value o (j + 1) (drop (j + 1) kinds) =
     ap (lane_words fill words value o j) cut
-    ∙ (ap (λ n. stood_word fill k.width words value j o ∷ lane_words fill words value o (j + 1) (drop n kinds)) next ∙ ap (λ y. y ∷ lane_words fill words value o (j + 1) (drop (j + 1) kinds)) (sym (is k at))) in
+    ∙ (ap (λ n. stood_word fill k.width words value j o ∷ lane_words fill words value o (j + 1) (drop n kinds)) next ∙
+    ap (λ y. y ∷ lane_words fill words value o (j + 1) (drop (j + 1) kinds)) (sym (is k at))) in
     append_assoc now (x ∷ []) (lane_words fill words value o (j + 1) (drop (j + 1) kinds)) ∙ (ap (λ ys. now ++ ys) (sym one) ∙ was)
 
-pub lane_all : (fill words : ℕ) (value : List ℕ) (o : Option ℕ) (j : ℕ) (kinds : List WordKind) → length kinds ≤ j → lane_words fill words value o j (drop j kinds) ≡ []
+pub lane_all : (fill words : ℕ) (value : List ℕ) (o : Option ℕ) (j : ℕ) (kinds : List WordKind) → length kinds ≤ j
+    → lane_words fill words value o j (drop j kinds) ≡ []
 lane_all fill words value o j kinds h = ap (lane_words fill words value o j) (drop_of_length-le kinds h)
 
 -- each word has its kind
-pub kind_there : (a b : AtomTree) (j : ℕ) (o : Option ℕ) → a ≡ b → j < atom_words b → o ≡ option_map (λ (w : WordKind). w.width) (slice_get (atom_kinds a) j) → o ≡ None → ⊥
+pub kind_there : (a b : AtomTree) (j : ℕ) (o : Option ℕ) → a ≡ b → j < atom_words b → o ≡ option_map (λ (w : WordKind). w.width) (slice_get (atom_kinds a) j)
+    → o ≡ None → ⊥
 kind_there a b j o same h is none =
-    let at : slice_get (atom_kinds a) j ≡ Some (get_or (atom_kinds a) j no_kind) = slice_get-get_or (atom_kinds a) j no_kind (omega (arith, length-atom_kinds a, ap atom_words same)) in
+    let at : slice_get (atom_kinds a) j ≡ Some (get_or (atom_kinds a) j no_kind) = slice_get-get_or (atom_kinds a) j no_kind
+    (omega (arith, length-atom_kinds a, ap atom_words same)) in
     none-some _ (sym none ∙ (is ∙ ap (option_map (λ (w : WordKind). w.width)) at))
 
-pub lanes_more : (f : ℕ → List ℕ) (n i : ℕ) (now more all : List ℕ) → i < n → more ≡ f i → now ++ flat_map f (range_with_len i (n - i)) ≡ all → (now ++ more) ++ flat_map f (range_with_len (i + 1) (n - (i + 1))) ≡ all
+pub lanes_more : (f : ℕ → List ℕ) (n i : ℕ) (now more all : List ℕ) → i < n → more ≡ f i → now ++ flat_map f (range_with_len i (n - i)) ≡ all → (now ++ more)
+    ++ flat_map f (range_with_len (i + 1) (n - (i + 1))) ≡ all
 lanes_more f n i now more all h is was =
     let left : n - i ≡ suc (n - (i + 1)) = omega arith in
     append_assoc now more (flat_map f (range_with_len (i + 1) (n - (i + 1))))
@@ -59,7 +64,8 @@ length_lane : (fill words : ℕ) (value : List ℕ) (o : Option ℕ) (j : ℕ) (
 length_lane fill words value o j [] = refl
 length_lane fill words value o j (k ∷ ks) = ap suc (length_lane fill words value o (j + 1) ks)
 
-word_of_lane : (fill words : ℕ) (value : List ℕ) (o : Option ℕ) (j i : ℕ) (k : WordKind) (ks : List WordKind) → slice_get ks i ≡ Some k → get_or (lane_words fill words value o j ks) i 0 ≡ stood_word fill k.width words value (j + i) o
+word_of_lane : (fill words : ℕ) (value : List ℕ) (o : Option ℕ) (j i : ℕ) (k : WordKind) (ks : List WordKind) → slice_get ks i ≡ Some k
+    → get_or (lane_words fill words value o j ks) i 0 ≡ stood_word fill k.width words value (j + i) o
 word_of_lane fill words value o j i k [] h = absurd (none-some k h)
 word_of_lane fill words value o j zero k (x ∷ ks) h =
     let z : j ≡ j + 0 = omega arith in
@@ -76,7 +82,8 @@ module _ (fill : ℕ) (s : StTree) (value : List ℕ) (o : Option ℕ) where
   lane l = lane_words fill (element_words s) value (standing s o l) 0 kinds
 
   lane_by_lane : Pieces (Joined lane) (element_words s) (lanes s) (layout_row fill s value o)
-  lane_by_lane = joined lane (element_words s) (lanes s) (λ l. length_lane fill (element_words s) value (standing s o l) 0 kinds ∙ length-atom_kinds (element_atom s))
+  lane_by_lane = joined lane (element_words s) (lanes s)
+      (λ l. length_lane fill (element_words s) value (standing s o l) 0 kinds ∙ length-atom_kinds (element_atom s))
 
   pub length_row : length (layout_row fill s value o) ≡ lanes s * element_words s
   length_row = lane_by_lane.long
@@ -93,10 +100,12 @@ module _ (fill : ℕ) (s : StTree) (value : List ℕ) (o : Option ℕ) where
       ∙ word_of_lane fill (element_words s) value (standing s o l) 0 j k kinds at
       ∙ ap (λ i. stood_word fill k.width (element_words s) value i (standing s o l)) z
 
-  pub stood : (l j e : ℕ) → l < lanes s → j < element_words s → standing s o l ≡ Some e → get_or (layout_row fill s value o) (l * element_words s + j) 0 ≡ get_or value (e * element_words s + j) 0
+  pub stood : (l j e : ℕ) → l < lanes s → j < element_words s → standing s o l ≡ Some e
+      → get_or (layout_row fill s value o) (l * element_words s + j) 0 ≡ get_or value (e * element_words s + j) 0
   stood l j e below small is = let k = kind_at j small in row_word l j k.0 below small k.1 ∙ ap (stood_word fill k.0.width (element_words s) value j) is
 
-  pub unfilled : (l j : ℕ) → l < lanes s → j < element_words s → standing s o l ≡ None → get_or (layout_row fill s value o) (l * element_words s + j) 0 ≡ get_or (fill_words (element_atom s) fill) j 0
+  pub unfilled : (l j : ℕ) → l < lanes s → j < element_words s → standing s o l ≡ None
+      → get_or (layout_row fill s value o) (l * element_words s + j) 0 ≡ get_or (fill_words (element_atom s) fill) j 0
   unfilled l j below small is =
       let k = kind_at j small in
       let width : WordKind → ℕ = λ x. fill % 2 ^ x.width in

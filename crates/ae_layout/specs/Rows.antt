@@ -15,4 +15,5 @@ fill_words atom fill = map (λ (k : WordKind). fill % 2 ^ k.width) (atom_kinds a
 -- each word where no element stands is the fill
 abbrev pub IsFilled : (run : ℕ → ℕ → ℕ) → StTree → (fill : ℕ) → Type 0
 IsFilled run s fill =
-    (c l j : ℕ) → c < time s → l < lanes s → j < element_words s → IsFree s c l → run c (l * element_words s + j) ≡ get_or (fill_words (element_atom s) fill) j 0
+    (c l j : ℕ) → c < time s → l < lanes s → j < element_words s → IsFree s c l
+    → run c (l * element_words s + j) ≡ get_or (fill_words (element_atom s) fill) j 0

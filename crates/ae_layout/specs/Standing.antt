@@ -28,8 +28,11 @@ stood_word fill width words value j (Some e) = get_or value (e * words + j) 0
 -- the words of a lane, from word j on, where this element stands or none
 abbrev pub lane_words : (fill words : ℕ) → (value : List ℕ) → Option ℕ → (j : ℕ) → List WordKind → List ℕ
 lane_words fill words value o j [] = []
-lane_words fill words value o j (k ∷ ks) = stood_word fill k.width words value j o ∷ lane_words fill words value o (j + 1) ks
+lane_words fill words value o j (k ∷ ks) =
+    stood_word fill k.width words value j o ∷ lane_words fill words value o (j + 1) ks
 
 -- those of all lanes in a clock of a block, or without a block
 abbrev pub layout_row : (fill : ℕ) → StTree → (value : List ℕ) → (clock : Option ℕ) → List ℕ
-layout_row fill s value o = flat_map (λ l. lane_words fill (element_words s) value (standing s o l) 0 (atom_kinds (element_atom s))) (range_with_len 0 (lanes s))
+layout_row fill s value o =
+    flat_map (λ l. lane_words fill (element_words s) value (standing s o l) 0 (atom_kinds (element_atom s)))
+    (range_with_len 0 (lanes s))

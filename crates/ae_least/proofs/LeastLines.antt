@@ -22,13 +22,15 @@ use Rattle.ae_least.specs.LeastTexts.{latency_line, shown_lines, IsLeastText, Ha
 use Rattle.ae_least.proofs.Lower.{none-is-faster}
 
 -- the line of the certificate stands where the least latency is above 0
-shown-by : (p : ProgramTree) (ins outs : List StTree) (latency : ℕ) (o : Option Certificate) → latency ≡ least p ins outs → o ≡ None ↔ latency ≡ 0 → IfSome o (λ c. IsCertificate p ins outs (certificate_tree c))
+shown-by : (p : ProgramTree) (ins outs : List StTree) (latency : ℕ) (o : Option Certificate) → latency ≡ least p ins outs → o ≡ None ↔ latency ≡ 0
+    → IfSome o (λ c. IsCertificate p ins outs (certificate_tree c))
     → HasCertificateLine p ins outs (shown_lines (length outs) o)
 shown-by p ins outs latency None same none is = inl (sym same ∙ none.0 refl, refl)
 shown-by p ins outs latency (Some c) same none is = inr (certificate_tree c, is, refl)
 
 -- the instance of the program function has as many results
-results-many : (p : ProgramTree) (slowdown : ℕ) (instances : List StFuncTree) (f : FuncTree) (s : StFuncTree) → IsSchedule p slowdown instances → slice_get p.funcs (main_of p) ≡ Some f
+results-many : (p : ProgramTree) (slowdown : ℕ) (instances : List StFuncTree) (f : FuncTree) (s : StFuncTree) → IsSchedule p slowdown instances
+    → slice_get p.funcs (main_of p) ≡ Some f
     → slice_get instances (length instances - 1) ≡ Some s → length f.results ≡ length s.results
 results-many p slowdown instances f s h here last =
     let right = h.right (length instances - 1) s last in
@@ -38,14 +40,18 @@ results-many p slowdown instances f s h here last =
     let is : f ≡ right.of = same_Some f right.of (sym here ∙ known) in
     ap (λ (x : FuncTree). length x.results) is ∙ ap length (sym right.results)
 
-pub least-text : LatencyIsLeast → (p : ProgramTree) (slowdown : ℕ) (instances : List StFuncTree) (f : FusedView) (main : FuncTree) (outs : ℕ) (text : List ℕ) → IsTyped p → 0 < slowdown → IsSchedule p slowdown instances
-    → IsSound instances → IsFusedOf p instances f → slice_get p.funcs (main_of p) ≡ Some main → outs ≡ length main.results → text ≡ latency_line f.latency ++ shown_lines outs f.certificate
+pub least-text : LatencyIsLeast → (p : ProgramTree) (slowdown : ℕ) (instances : List StFuncTree) (f : FusedView) (main : FuncTree) (outs : ℕ) (text : List ℕ)
+    → IsTyped p → 0 < slowdown → IsSchedule p slowdown instances
+    → IsSound instances → IsFusedOf p instances f → slice_get p.funcs (main_of p) ≡ Some main → outs ≡ length main.results → text ≡ latency_line f.latency
+    ++ shown_lines outs f.certificate
     → IsLeastText p slowdown text
 least-text law p slowdown instances f main outs text typed some h sound is here many e =
     let own : StFuncTree = is.instance in
     let laid : HaveLayouts p slowdown own.ins (outs_of own) = layouts p slowdown instances own typed h sound is.last in
-    let latency : f.latency ≡ least p own.ins (outs_of own) = ap (λ (o : OwnCosts). o.latency) is.costs ∙ law p slowdown instances is.func own is.movement typed h is.there is.last in
-    let count : outs ≡ length (outs_of own) = many ∙ results-many p slowdown instances main own h here is.last ∙ sym (length-map own.results (item_layout (item_layouts own))) in
+    let latency : f.latency ≡ least p own.ins (outs_of own) = ap (λ (o : OwnCosts). o.latency) is.costs ∙
+    law p slowdown instances is.func own is.movement typed h is.there is.last in
+    let count : outs ≡ length (outs_of own) = many ∙ results-many p slowdown instances main own h here is.last ∙
+    sym (length-map own.results (item_layout (item_layouts own))) in
     record {
       moves = is.movement;
       ins = own.ins;

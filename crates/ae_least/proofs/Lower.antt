@@ -37,7 +37,8 @@ use Rattle.ae_least.proofs.Blocks.{ShowsBits, IsRead, is-read, read-block, read-
 
 -- ---- the greatest
 
-greatest-below : {X : Type 0} (f : X → ℕ) (xs : List X) (d : ℕ) → ((k : ℕ) (x : X) → slice_get xs k ≡ Some x → f x ≤ d) → (a : ℕ) → a ≤ d → fold (λ most x. max most (f x)) a xs ≤ d
+greatest-below : {X : Type 0} (f : X → ℕ) (xs : List X) (d : ℕ) → ((k : ℕ) (x : X) → slice_get xs k ≡ Some x → f x ≤ d) → (a : ℕ) → a ≤ d
+    → fold (λ most x. max most (f x)) a xs ≤ d
 greatest-below f [] d h a l = l
 greatest-below f (x ∷ xs) d h a l = greatest-below f xs d (λ k y e. h (suc k) y e) (max a (f x)) (let p = h 0 x refl in omega arith)
 
@@ -52,7 +53,8 @@ small false x y h g = g
 
 wanted-small : (name : List ℕ) (k b t : ℕ) (n : List ℕ) → b ≤ 1 → wanted name k b t n ≤ 1
 wanted-small name k b t n h =
-    small (bytes_eq n (codes "rst")) _ _ (small (t == 0) 1 0 (omega arith) (omega arith)) (small (t == 1 + k) _ 0 (small (bytes_eq n name) b 0 h (omega arith)) (omega arith))
+    small (bytes_eq n (codes "rst")) _ _ (small (t == 0) 1 0 (omega arith) (omega arith))
+    (small (t == 1 + k) _ 0 (small (bytes_eq n name) b 0 h (omega arith)) (omega arith))
 
 wanted-before : (name : List ℕ) (k b c t : ℕ) → t < 1 + k → (n : List ℕ) → wanted name k b t n ≡ wanted name k c t n
 wanted-before name k b c t l n =
@@ -99,8 +101,10 @@ record IsOutputNet (m : ModuleTree) (name : List ℕ) : Type 0 where
   kind : is_output_kind net.kind ≡ true
   data_name : is_clock m net.name ≡ false
 
-module _ (m : ModuleTree) (ok : IsWellFormed m) (ins outs : List StTree) (ports : ports_of m ≡ program_ports ins outs) (clocked : clock_name m ≡ Some (codes "clk")) where
-  in-net : (p : ModulePort) (first : ℕ) (tail : List ℕ) → Among p (program_ports ins outs) → p.name ≡ first ∷ tail → (first ≡ 99 → ⊥) → p.is_output ≡ false → IsInputNet m p.name p.width
+module _ (m : ModuleTree) (ok : IsWellFormed m) (ins outs : List StTree) (ports : ports_of m ≡ program_ports ins outs)
+    (clocked : clock_name m ≡ Some (codes "clk")) where
+  in-net : (p : ModulePort) (first : ℕ) (tail : List ℕ) → Among p (program_ports ins outs) → p.name ≡ first ∷ tail → (first ≡ 99 → ⊥) → p.is_output ≡ false
+      → IsInputNet m p.name p.width
   in-net p first tail h e other way =
       let x = net-of-port m p (subst (Among p) (sym ports) h) in
       record {
@@ -115,10 +119,12 @@ module _ (m : ModuleTree) (ok : IsWellFormed m) (ins outs : List StTree) (ports 
   reset-net : IsInputNet m (codes "rst") 1
   reset-net = in-net (record { name = codes "rst"; width = 1; is_output = false }) 114 _ (inr (inl refl)) refl (λ e. omega arith) refl
 
-  column-net : (q : ℕ) (s : StTree) (column : ℕ) (h : HasPort 105 false (param_ports q s) column) → slice_get ins q ≡ Some s → IsInputNet m h.port.name h.port.width
+  column-net : (q : ℕ) (s : StTree) (column : ℕ) (h : HasPort 105 false (param_ports q s) column) → slice_get ins q ≡ Some s
+      → IsInputNet m h.port.name h.port.width
   column-net q s column h found = in-net h.port 105 h.is.tail (input-among ins outs h.port q s found h.there) h.is.named (λ e. omega arith) h.is.way
 
-  out-net : (r : ℕ) (s : StTree) (column : ℕ) (h : HasPort 111 true (result_ports (length outs) r s) column) → slice_get outs r ≡ Some s → IsOutputNet m h.port.name
+  out-net : (r : ℕ) (s : StTree) (column : ℕ) (h : HasPort 111 true (result_ports (length outs) r s) column) → slice_get outs r ≡ Some s
+      → IsOutputNet m h.port.name
   out-net r s column h found =
       let x = net-of-port m h.port (subst (Among h.port) (sym ports) (output-among ins outs h.port r s found h.there)) in
       record {
@@ -134,7 +140,8 @@ module _ (m : ModuleTree) (ok : IsWellFormed m) (ins outs : List StTree) (ports 
     marked : RunsAs m (wanted name k b) n
     marked = runs-as m ok (wanted name k b) n
 
-    shown : (r : RunsAs m (wanted name k b) n) (own : List ℕ) (width : ℕ) → IsInputNet m own width → (t : ℕ) → t < n → (clock_at r.run t).word own ≡ wanted name k b t own % 2 ^ width
+    shown : (r : RunsAs m (wanted name k b) n) (own : List ℕ) (width : ℕ) → IsInputNet m own width → (t : ℕ) → t < n
+        → (clock_at r.run t).word own ≡ wanted name k b t own % 2 ^ width
     shown r own width x t l =
         ap (clock_at r.run t).word (sym x.named)
         ∙ input-word m ok (wanted name k b) n r x.net x.there x.kind x.data_name t l
@@ -153,7 +160,8 @@ module _ (m : ModuleTree) (ok : IsWellFormed m) (ins outs : List StTree) (ports 
       low = λ t l long. (let later : (t == 0) ≡ false = grind (arith, nat_tests) in reset-word r t (omega (arith, r.long)) ∙ cond-false _ _ _ later);
     }
 
-    shows-bits : (r : RunsAs m (wanted name k b) n) (slowdown q : ℕ) (s : StTree) → slice_get ins q ≡ Some s → AllWide (atom_kinds (element_atom s)) → 1 + time s ≤ n → ShowsBits r.run slowdown q s
+    shows-bits : (r : RunsAs m (wanted name k b) n) (slowdown q : ℕ) (s : StTree) → slice_get ins q ≡ Some s → AllWide (atom_kinds (element_atom s))
+        → 1 + time s ≤ n → ShowsBits r.run slowdown q s
     shows-bits r slowdown q s found wide room clock column early inside =
         let h = input-port q s wide column inside in
         let e : wave r.run 1 (param_ports q s) clock column ≡ wanted name k b (1 + clock) h.port.name % 2 ^ h.port.width =
@@ -257,13 +265,18 @@ module _ (p : ProgramTree) (slowdown d : ℕ) (m : ModuleTree) (ins outs : List 
           shows-bits m ok ins outs ports clocked in_port.port.name k b size bit (omega arith) x slowdown i s found r.is_laid.own_wide (omega arith)
 
       values : AreValues types block
-      values = read-values x.run slowdown 0 types ins laid (λ i s found. (let z : i ≡ 0 + i = omega arith in subst (λ j. ShowsBits x.run slowdown j s) z (input_bits i s found)))
+      values = read-values x.run slowdown 0 types ins laid
+          (λ i s found. (let z : i ≡ 0 + i = omega arith in subst (λ j. ShowsBits x.run slowdown j s) z (input_bits i s found)))
 
-      given : (i : ℕ) (own : List ValueTree) → slice_get (block ∷ []) i ≡ Some own → AreValues types own × BundlesHold x.run 1 (i * slowdown) param_ports ins own
+      given : (i : ℕ) (own : List ValueTree) → slice_get (block ∷ []) i ≡ Some own → AreValues types own
+          × BundlesHold x.run 1 (i * slowdown) param_ports ins own
       given zero own found =
           let same : block ≡ own = cc in
-          let z : 0 ≡ 0 * slowdown = omega arith in
-          (subst (AreValues types) same values, subst (λ i. BundlesHold x.run 1 i param_ports ins own) z (subst (BundlesHold x.run 1 0 param_ports ins) same (read-holds x.run slowdown types ins laid)))
+          let z : 0 ≡ 0 * slowdown = omega arith in (
+            subst (AreValues types) same values,
+            subst (λ i. BundlesHold x.run 1 i param_ports ins own) z
+                (subst (BundlesHold x.run 1 0 param_ports ins) same (read-holds x.run slowdown types ins laid)),
+          )
       given (suc i) own found = absurd (let h : None ≡ Some own = found in cc)
 
       results : BundlesHold x.run 1 (d + 0 * slowdown) (result_ports (length outs)) outs (mean p block)
@@ -277,7 +290,8 @@ module _ (p : ProgramTree) (slowdown d : ℕ) (m : ModuleTree) (ins outs : List 
           let own = is-read x.run slowdown 0 types ins laid w.from.value w.source w.source_found in
           let z : 0 + w.from.value ≡ w.from.value = omega arith in
           let inside : w.from.place < words own.type = omega (arith, own.is_laid.words, place_below) in
-          let here : wanted in_port.port.name k b (1 + k) in_port.port.name ≡ b = wanted-here in_port.port.name k b (not-reset in_port.port.name in_port.is.tail in_port.is.named) in
+          let here : wanted in_port.port.name k b (1 + k) in_port.port.name ≡ b = wanted-here in_port.port.name k b
+          (not-reset in_port.port.name in_port.is.tail in_port.is.named) in
           read-word-at x.run slowdown 0 types ins w.from.value w.source own w.from.place inside
           ∙ ap (λ i. wave x.run 1 (param_ports i w.source) k q) z
           ∙ ap (clock_at x.run (1 + k)).word in_port.named
@@ -303,7 +317,8 @@ module _ (p : ProgramTree) (slowdown d : ℕ) (m : ModuleTree) (ins outs : List 
           let s = slot_number w.out (o / element_words w.out) in
           let whole : o / element_words w.out * element_words w.out + o % element_words w.out ≡ o = div-add-mod' o (element_words w.out) in
           ap (clock_at x.run shown_at).word (sym out_port.named)
-          ∙ results.each r w.out w.found (o / element_words w.out) (o % element_words w.out) s (slot-there w.out (o / element_words w.out) out_place.element) out_place.word
+          ∙ results.each r w.out w.found (o / element_words w.out) (o % element_words w.out) s
+          (slot-there w.out (o / element_words w.out) out_place.element) out_place.word
           ∙ ap (λ i. get_or (flat (at (mean p block) r)) i 0) whole
           ∙ result_word
 
@@ -322,7 +337,8 @@ module _ (p : ProgramTree) (slowdown d : ℕ) (m : ModuleTree) (ins outs : List 
         } in
         let same = runs-are-causal m (1 + k) x.run y.run ok x.runs y.runs begin shown_at (omega arith) in
         let o = out-net m ok ins outs ports clocked r w.out out_column out_port w.found in
-        let words_same : (clock_at x.run shown_at).word o.net.name ≡ (clock_at y.run shown_at).word o.net.name = out-word o.net.kind _ _ _ _ o.kind (same.same o.net o.there o.data_name) in
+        let words_same : (clock_at x.run shown_at).word o.net.name ≡ (clock_at y.run shown_at).word o.net.name = out-word o.net.kind _ _ _ _ o.kind
+        (same.same o.net o.there o.data_name) in
         let own : (clock_at x.run shown_at).word o.net.name ≡ 0 = ap (clock_at x.run shown_at).word o.named ∙ output_word 0 (omega arith) x in
         let other : (clock_at y.run shown_at).word o.net.name ≡ 1 = ap (clock_at y.run shown_at).word o.named ∙ output_word 1 (omega arith) y in
         differ ((clock_at x.run shown_at).word o.net.name) own (words_same ∙ other)
@@ -332,7 +348,8 @@ module _ (p : ProgramTree) (slowdown d : ℕ) (m : ModuleTree) (ins outs : List 
 module _ (p : ProgramTree) (slowdown d : ℕ) (m : ModuleTree) (ins outs : List StTree) (moves : is_movement p ≡ true) (some : 0 < slowdown) (ok : IsWellFormed m)
     (ports : ports_of m ≡ program_ports ins outs) (clocked : clock_name m ≡ Some (codes "clk")) (keeps : KeepsBlocks m p slowdown d ins outs)
     (laid : AreLaid slowdown (parameter_types p) ins) (outs_laid : (r : ℕ) (s : StTree) → slice_get outs r ≡ Some s → (t : SeqTree) × IsLaid t slowdown s) where
-  layout-there : (ts : List SeqTree) (ss : List StTree) → AreLaid slowdown ts ss → (k : ℕ) (t : SeqTree) → slice_get ts k ≡ Some t → (s : StTree) × (slice_get ss k ≡ Some s) × IsLaid t slowdown s
+  layout-there : (ts : List SeqTree) (ss : List StTree) → AreLaid slowdown ts ss → (k : ℕ) (t : SeqTree) → slice_get ts k ≡ Some t → (s : StTree)
+      × (slice_get ss k ≡ Some s) × IsLaid t slowdown s
   layout-there [] ss h k t f = absurd (let e : None ≡ Some t = f in cc)
   layout-there (x ∷ ts) [] h k t f = absurd h
   layout-there (x ∷ ts) (s ∷ ss) h zero t f = (let e : x ≡ t = cc in (s, refl, subst (λ y. IsLaid y slowdown s) e h.0))
@@ -350,10 +367,12 @@ module _ (p : ProgramTree) (slowdown d : ℕ) (m : ModuleTree) (ins outs : List 
     abbrev clock : ℕ
     clock = (slot_number out (o / element_words out)).clock
 
-    lead-from-word : (n : ℕ) → get_or (flat (at (trace p) r)) o 0 ≡ suc n → StandsAt 0 (parameter_types p) n → lead_from clock (source_of ins (origin_numbered (parameter_types p) (suc n))) ≤ d
+    lead-from-word : (n : ℕ) → get_or (flat (at (trace p) r)) o 0 ≡ suc n → StandsAt 0 (parameter_types p) n
+        → lead_from clock (source_of ins (origin_numbered (parameter_types p) (suc n))) ≤ d
     lead-from-word n label w =
         let s = layout-there (parameter_types p) ins laid w.value w.type w.found in
-        let way : IsWay p slowdown d m ins outs moves some ok ports clocked keeps laid outs_laid r o n = record { out = out; found = found; below = below; label = label; from = w; source = s.0; source_found = s.1 } in
+        let way : IsWay p slowdown d m ins outs moves some ok ports clocked keeps laid outs_laid r o
+        n = record { out = out; found = found; below = below; label = label; from = w; source = s.0; source_found = s.1 } in
         let size : atom_words (atom_of w.type) ≡ element_words s.0 = ap atom_words (sym s.2.laid.atom) in
         let z : 0 + w.value ≡ w.value = omega arith in
         let e : ℕ = w.place / element_words s.0 in
@@ -363,7 +382,8 @@ module _ (p : ProgramTree) (slowdown d : ℕ) (m : ModuleTree) (ins outs : List 
         let lead : lead_from clock (source_of ins (origin_numbered (parameter_types p) (suc n))) ≡ (slot_number s.0 e).clock - clock =
         ap (λ x. lead_from clock (source_of ins x)) is ∙ ap (λ (x : StTree). (slot_number x e).clock - clock) source in
         let no : d + clock < (slot_number s.0 e).clock → ⊥ = not-before p slowdown d m ins outs moves some ok ports clocked keeps laid outs_laid r o n way in
-        let late : (slot_number s.0 e).clock ≤ d + clock = ⊎_elim (λ (h : d + clock < (slot_number s.0 e).clock). absurd (no h)) (λ (h : (slot_number s.0 e).clock ≤ d + clock). h) (cases_lt (d + clock) (slot_number s.0 e).clock) in
+        let late : (slot_number s.0 e).clock ≤ d + clock = ⊎_elim (λ (h : d + clock < (slot_number s.0 e).clock). absurd (no h))
+        (λ (h : (slot_number s.0 e).clock ≤ d + clock). h) (cases_lt (d + clock) (slot_number s.0 e).clock) in
         omega (arith, lead, late)
 
     lead-by : (label : ℕ) → get_or (flat (at (trace p) r)) o 0 ≡ label → lead_from clock (source_of ins (origin_numbered (parameter_types p) label)) ≤ d
@@ -374,7 +394,8 @@ module _ (p : ProgramTree) (slowdown d : ℕ) (m : ModuleTree) (ins outs : List 
 
     lead-below : lead_from clock (source_of ins (get_or (map (origin_numbered (parameter_types p)) (flat (at (trace p) r))) o (fixed 0))) ≤ d
     lead-below =
-        subst (λ x. lead_from clock (source_of ins x) ≤ d) (sym (origin-map (origin_numbered (parameter_types p)) refl (flat (at (trace p) r)) o)) (lead-by (get_or (flat (at (trace p) r)) o 0) refl)
+        subst (λ x. lead_from clock (source_of ins x) ≤ d) (sym (origin-map (origin_numbered (parameter_types p)) refl (flat (at (trace p) r)) o))
+        (lead-by (get_or (flat (at (trace p) r)) o 0) refl)
 
   entry-of : {X : Type 0} (f : ℕ → X) (a n k : ℕ) (x : X) → slice_get (map f (range_with_len a n)) k ≡ Some x → (k < n) × (x ≡ f (a + k))
   entry-of f a zero k x h = absurd (let e : None ≡ Some x = h in cc)

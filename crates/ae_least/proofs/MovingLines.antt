@@ -41,15 +41,18 @@ none-other p h = by (slice_get p.funcs (main_of p)) h
 abbrev by-first : (moves : Bool) (n : Node) (behind : List Node) → Option ℕ
 by-first moves n behind = if moves then first_other (map node_tree behind) else Some (node_tree n).line
 
-others-from : (ns : List Node) (i : ℕ) (n : Node) → i < length ns → n ≡ get_or ns i n → first_other (map node_tree (drop i ns)) ≡ by-first (is_movement_op (node_tree n).op) n (drop (suc i) ns)
+others-from : (ns : List Node) (i : ℕ) (n : Node) → i < length ns → n ≡ get_or ns i n
+    → first_other (map node_tree (drop i ns)) ≡ by-first (is_movement_op (node_tree n).op) n (drop (suc i) ns)
 others-from [] i n l e = absurd (omega arith)
 others-from (m ∷ ns) zero n l e = ap (λ (x : Node). by-first (is_movement_op (node_tree x).op) x ns) (sym e)
 others-from (m ∷ ns) (suc i) n l e = others-from ns i n (omega arith) e
 
-pub others-next : (ns : List Node) (i : ℕ) (n : Node) (o : Option ℕ) → i < length ns → n ≡ get_or ns i n → o ≡ first_other (map node_tree (drop i ns)) → is_movement_op (node_tree n).op ≡ true
+pub others-next : (ns : List Node) (i : ℕ) (n : Node) (o : Option ℕ) → i < length ns → n ≡ get_or ns i n → o ≡ first_other (map node_tree (drop i ns))
+    → is_movement_op (node_tree n).op ≡ true
     → o ≡ first_other (map node_tree (drop (i + 1) ns))
 others-next ns i n o l e was moves = rw add-one (was ∙ others-from ns i n l e ∙ ap (λ b. by-first b n (drop (suc i) ns)) moves)
 
-pub others-here : (ns : List Node) (i : ℕ) (n : Node) (o : Option ℕ) → i < length ns → n ≡ get_or ns i n → o ≡ first_other (map node_tree (drop i ns)) → is_movement_op (node_tree n).op ≡ false
+pub others-here : (ns : List Node) (i : ℕ) (n : Node) (o : Option ℕ) → i < length ns → n ≡ get_or ns i n → o ≡ first_other (map node_tree (drop i ns))
+    → is_movement_op (node_tree n).op ≡ false
     → Some (node_tree n).line ≡ o
 others-here ns i n o l e was stays = sym (was ∙ others-from ns i n l e ∙ ap (λ b. by-first b n (drop (suc i) ns)) stays)

@@ -29,13 +29,15 @@ pub record IsPort (first : ℕ) (out : Bool) (p : ModulePort) : Type 0 where
 abbrev Begins : ℕ → List ℕ → Type 0
 Begins first n = (tail : List ℕ) × (n ≡ first ∷ tail)
 
-words-are : (first : ℕ) (named : ℕ → List ℕ) (out : Bool) → ((k : ℕ) → Begins first (named k)) → (k : ℕ) (ws : List WordKind) → AllWide ws → (p : ModulePort) → Among p (ports_of_words named out k ws) → IsPort first out p
+words-are : (first : ℕ) (named : ℕ → List ℕ) (out : Bool) → ((k : ℕ) → Begins first (named k)) → (k : ℕ) (ws : List WordKind) → AllWide ws → (p : ModulePort)
+    → Among p (ports_of_words named out k ws) → IsPort first out p
 words-are first named out b k [] wide p h = absurd h
 words-are first named out b k (w ∷ ws) wide p (inl e) =
     subst (IsPort first out) e (record { tail = (b k).0; named = (b k).1; low = wide.0; way = refl })
 words-are first named out b k (w ∷ ws) wide p (inr h) = words-are first named out b (k + 1) ws wide.1 p h
 
-lanes-are : (first : ℕ) (named : ℕ → ℕ → List ℕ) (out : Bool) → ((l k : ℕ) → Begins first (named l k)) → (ws : List WordKind) → AllWide ws → (l : ℕ) (p : ModulePort) → Among p (ports_of_lanes named out ws l) → IsPort first out p
+lanes-are : (first : ℕ) (named : ℕ → ℕ → List ℕ) (out : Bool) → ((l k : ℕ) → Begins first (named l k)) → (ws : List WordKind) → AllWide ws
+    → (l : ℕ) (p : ModulePort) → Among p (ports_of_lanes named out ws l) → IsPort first out p
 lanes-are first named out b ws wide zero p h = absurd h
 lanes-are first named out b ws wide (suc l) p h = elim (among_split p (ports_of_lanes named out ws l) (ports_of_words (named l) out 0 ws) h) [
   | inl before ↦ lanes-are first named out b ws wide l p before
@@ -48,7 +50,13 @@ length-words named out k (w ∷ ws) = ap suc (length-words named out (k + 1) ws)
 
 length-lanes : (named : ℕ → ℕ → List ℕ) (out : Bool) (ws : List WordKind) (l : ℕ) → length (ports_of_lanes named out ws l) ≡ l * length ws
 length-lanes named out ws zero = omega arith
-length-lanes named out ws (suc l) = omega (arith, length-append (ports_of_lanes named out ws l) (ports_of_words (named l) out 0 ws), length-lanes named out ws l, length-words (named l) out 0 ws)
+length-lanes named out ws (suc l) =
+    omega (
+      arith,
+      length-append (ports_of_lanes named out ws l) (ports_of_words (named l) out 0 ws),
+      length-lanes named out ws l,
+      length-words (named l) out 0 ws,
+    )
 
 pub length-bundle : (named : ℕ → ℕ → List ℕ) (out : Bool) (s : StTree) → length (bundle_ports named out s) ≡ lanes s * element_words s
 length-bundle named out s = length-lanes named out (atom_kinds (element_atom s)) (lanes s) ∙ ap (λ n. lanes s * n) (length-kinds (atom (element_atom s)))
@@ -77,22 +85,26 @@ entry-at [] k h = absurd (omega arith)
 entry-at (p ∷ ports) zero h = (p, refl, refl)
 entry-at (p ∷ ports) (suc k) h = entry-at ports k (omega arith)
 
-has-port : (first : ℕ) (named : ℕ → ℕ → List ℕ) (out : Bool) (s : StTree) → ((l k : ℕ) → Begins first (named l k)) → AllWide (atom_kinds (element_atom s)) → (column : ℕ) → column < lanes s * element_words s → HasPort first out (bundle_ports named out s) column
+has-port : (first : ℕ) (named : ℕ → ℕ → List ℕ) (out : Bool) (s : StTree) → ((l k : ℕ) → Begins first (named l k)) → AllWide (atom_kinds (element_atom s))
+    → (column : ℕ) → column < lanes s * element_words s → HasPort first out (bundle_ports named out s) column
 has-port first named out s b wide column h =
     let ports : List ModulePort = bundle_ports named out s in
     let e = entry-at ports column (omega (arith, length-bundle named out s)) in
     let there : Among e.0 ports = among_from e.0 ports column e.1 in
     record { port = e.0; there = there; is = lanes-are first named out b (atom_kinds (element_atom s)) wide (lanes s) e.0 there; named = e.2 }
 
-pub input-port : (q : ℕ) (s : StTree) → AllWide (atom_kinds (element_atom s)) → (column : ℕ) → column < lanes s * element_words s → HasPort 105 false (param_ports q s) column
+pub input-port : (q : ℕ) (s : StTree) → AllWide (atom_kinds (element_atom s)) → (column : ℕ) → column < lanes s * element_words s
+    → HasPort 105 false (param_ports q s) column
 input-port q s = has-port 105 (λ lane word. port_name 1 (In q lane word)) false s (in-begins q)
 
-pub output-port : (outs r : ℕ) (s : StTree) → AllWide (atom_kinds (element_atom s)) → (column : ℕ) → column < lanes s * element_words s → HasPort 111 true (result_ports outs r s) column
+pub output-port : (outs r : ℕ) (s : StTree) → AllWide (atom_kinds (element_atom s)) → (column : ℕ) → column < lanes s * element_words s
+    → HasPort 111 true (result_ports outs r s) column
 output-port outs r s = has-port 111 (λ lane word. port_name outs (Out r lane word)) true s (out-begins outs r)
 
 -- ---- the ports of a module
 
-among-from : (bundle : ℕ → StTree → List ModulePort) (p : ModulePort) (k : ℕ) (ss : List StTree) (q : ℕ) (s : StTree) → slice_get ss q ≡ Some s → Among p (bundle (k + q) s) → Among p (bundles_from bundle k ss)
+among-from : (bundle : ℕ → StTree → List ModulePort) (p : ModulePort) (k : ℕ) (ss : List StTree) (q : ℕ) (s : StTree) → slice_get ss q ≡ Some s
+    → Among p (bundle (k + q) s) → Among p (bundles_from bundle k ss)
 among-from bundle p k [] q s f h = absurd (let e : None ≡ Some s = f in cc)
 among-from bundle p k (x ∷ ss) zero s f h =
     let e : x ≡ s = cc in
@@ -109,12 +121,15 @@ module _ (ins outs : List StTree) where
   pub input-among : (p : ModulePort) (q : ℕ) (s : StTree) → slice_get ins q ≡ Some s → Among p (param_ports q s) → Among p (program_ports ins outs)
   input-among p q s f h =
       let z : 0 + q ≡ q = omega arith in
-      inr (inr (among_left p (bundles_from param_ports 0 ins) (bundles_from (result_ports (length outs)) 0 outs) (among-from param_ports p 0 ins q s f (subst (λ i. Among p (param_ports i s)) (sym z) h))))
+      inr (inr (among_left p (bundles_from param_ports 0 ins) (bundles_from (result_ports (length outs)) 0 outs)
+      (among-from param_ports p 0 ins q s f (subst (λ i. Among p (param_ports i s)) (sym z) h))))
 
-  pub output-among : (p : ModulePort) (r : ℕ) (s : StTree) → slice_get outs r ≡ Some s → Among p (result_ports (length outs) r s) → Among p (program_ports ins outs)
+  pub output-among : (p : ModulePort) (r : ℕ) (s : StTree) → slice_get outs r ≡ Some s → Among p (result_ports (length outs) r s)
+      → Among p (program_ports ins outs)
   output-among p r s f h =
       let z : 0 + r ≡ r = omega arith in
-      inr (inr (among_right p (bundles_from param_ports 0 ins) (bundles_from (result_ports (length outs)) 0 outs) (among-from (result_ports (length outs)) p 0 outs r s f (subst (λ i. Among p (result_ports (length outs) i s)) (sym z) h))))
+      inr (inr (among_right p (bundles_from param_ports 0 ins) (bundles_from (result_ports (length outs)) 0 outs)
+      (among-from (result_ports (length outs)) p 0 outs r s f (subst (λ i. Among p (result_ports (length outs) i s)) (sym z) h))))
 
 -- ---- nets
 
@@ -140,7 +155,14 @@ pub net-of-port : (m : ModuleTree) (p : ModulePort) → Among p (ports_of m) →
 net-of-port m p h =
     let u = among_unmap port_of p (filter is_port m.nets) h in
     let g = among-filter is_port u.0 m.nets u.1 in
-    record { net = u.0; there = g.0; named = ap (λ (x : ModulePort). x.name) u.2; wide = ap (λ (x : ModulePort). x.width) u.2; way = ap (λ (x : ModulePort). x.is_output) u.2; port = g.1 }
+    record {
+      net = u.0;
+      there = g.0;
+      named = ap (λ (x : ModulePort). x.name) u.2;
+      wide = ap (λ (x : ModulePort). x.width) u.2;
+      way = ap (λ (x : ModulePort). x.is_output) u.2;
+      port = g.1;
+    }
 
 pub input-kind : (k : NetKind) → is_output_kind k ≡ false → (is_input_kind k || is_output_kind k) ≡ true → k ≡ Input
 input-kind Input o h = refl

@@ -21,7 +21,8 @@ one_size t s h size = elim h [
   | inr h ↦ part_of_tseq s t 1 h.0 h.1 size
 ]
 
-pub first_is : (ks : List WordKind) (w : ℕ) → option_map (λ (k : WordKind). k.width) (slice_get ks 0) ≡ Some w → w ≡ get_or (map (λ (k : WordKind). k.width) ks) 0 0
+pub first_is : (ks : List WordKind) (w : ℕ) → option_map (λ (k : WordKind). k.width) (slice_get ks 0) ≡ Some w
+    → w ≡ get_or (map (λ (k : WordKind). k.width) ks) 0 0
 first_is [] w h = cc
 first_is (k ∷ ks) w h = (let same : Some k.width ≡ Some w = h in cc)
 

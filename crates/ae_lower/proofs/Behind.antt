@@ -16,17 +16,21 @@ keeps_one : (clocks a : ℕ) (p q : Part) (ss : List Stream) (waves : List Wave)
 keeps_one clocks a p q ss waves w follows period law =
     rw follows (law_as clocks a q.period p.latency p.ins p.out p.means p waves w (sym period) refl refl refl (λ vs h. refl) law, tt)
 
-behind_blocks : (clocks a : ℕ) (p q : Part) (waves : List Wave) (w out : Wave) → q.ins ≡ p.out ∷ [] → q.period ≡ p.period → ((vs : List (List ℕ)) → AllAreWords p.ins vs → AllAreWords (p.out ∷ []) (p.means vs ∷ []))
+behind_blocks : (clocks a : ℕ) (p q : Part) (waves : List Wave) (w out : Wave) → q.ins ≡ p.out ∷ [] → q.period ≡ p.period
+    → ((vs : List (List ℕ)) → AllAreWords p.ins vs → AllAreWords (p.out ∷ []) (p.means vs ∷ []))
     → BlockLaw clocks a p waves w → BlockLaw clocks (a + p.latency) q (w ∷ []) out → BlockLaw clocks a (part_behind p q) waves out
 behind_blocks clocks a p q waves w out follows period typed first second =
-    let made = followed clocks a p.latency q p.ins waves (p.means ∷ []) (w ∷ []) out (λ vs h. rw follows (typed vs h)) (keeps_one clocks a p q q.ins waves w follows period first) second in
+    let made = followed clocks a p.latency q p.ins waves (p.means ∷ []) (w ∷ []) out (λ vs h. rw follows (typed vs h))
+    (keeps_one clocks a p q q.ins waves w follows period first) second in
     record { makes = made.makes }
 
-pub behind_law : {E : Type 0} (r : Result (List NetId) E) (mid new : List SizedCell) (rst rst_then at late : ℕ) (p q : Part) (args bundles : List (List NetId)) (raw : List NetId)
+pub behind_law : {E : Type 0} (r : Result (List NetId) E) (mid new : List SizedCell) (rst rst_then at late : ℕ) (p q : Part) (args bundles : List (List NetId))
+    (raw : List NetId)
     → Extends mid new → rst_then ≡ rst → late ≡ at + p.latency → bundles ≡ raw ∷ [] → q.ins ≡ p.out ∷ [] → q.period ≡ p.period
     → ((vs : List (List ℕ)) → AllAreWords p.ins vs → AllAreWords (p.out ∷ []) (p.means vs ∷ []))
     → KeepsLaw mid rst at p args raw → IfOk r (λ y. KeepsLaw new rst_then late q bundles y) → IfOk r (λ y. KeepsLaw new rst at (part_behind p q) args y)
 behind_law (Ok y) mid new rst rst_then at late p q args bundles raw up er el eb follows period typed first second =
     let then : KeepsLaw new rst (at + p.latency) q (raw ∷ []) y = rw (er, el, eb) at second in
-    λ all e run r start reset. behind_blocks _ at p q _ (wave_of run start raw) (wave_of run start y) follows period typed (first all (extends_trans up e) run r start reset) (then all e run r start reset)
+    λ all e run r start reset. behind_blocks _ at p q _ (wave_of run start raw) (wave_of run start y) follows period typed
+    (first all (extends_trans up e) run r start reset) (then all e run r start reset)
 behind_law (Err x) mid new rst rst_then at late p q args bundles raw up er el eb follows period typed first second = tt

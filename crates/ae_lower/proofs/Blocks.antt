@@ -39,17 +39,20 @@ results_streams s = sym (map_map stream_of (item_layout (item_layouts s)) s.resu
 -- ---- the words of all parameters
 
 all_hold : (run : List Clock) (start k first : ℕ) (ss : List StTree) (block : List ValueTree) → length block ≡ length ss
-    → ((q : ℕ) (s : StTree) → slice_get ss q ≡ Some s → HoldsWords k (stream_of s) (input_wave run start (first + columns_in (take q (streams_of ss)))) (flat (at block q)))
+    → ((q : ℕ) (s : StTree) → slice_get ss q ≡ Some s → HoldsWords k (stream_of s) (input_wave run start (first + columns_in (take q (streams_of ss))))
+    (flat (at block q)))
     → AllHold k (streams_of ss) (input_waves run start first (streams_of ss)) (map flat block)
 all_hold run start k first [] [] many each = tt
 all_hold run start k first [] (v ∷ block) many each = absurd (omega (arith, many))
 all_hold run start k first (s ∷ ss) [] many each = absurd (omega (arith, many))
 all_hold run start k first (s ∷ ss) (v ∷ block) many each =
     let z : first + columns_in (take 0 (streams_of (s ∷ ss))) ≡ first = omega arith in
-    let own : HoldsWords k (stream_of s) (input_wave run start first) (flat v) = subst (λ i. HoldsWords k (stream_of s) (input_wave run start i) (flat v)) z (each 0 s refl) in (
+    let own : HoldsWords k (stream_of s) (input_wave run start first) (flat v) = subst (λ i. HoldsWords k (stream_of s) (input_wave run start i) (flat v)) z
+    (each 0 s refl) in (
       own,
       all_hold run start k (first + length (stream_widths (stream_of s))) ss block (omega (arith, many)) (λ q t found.
-          let place : first + columns_in (take (suc q) (streams_of (s ∷ ss))) ≡ first + length (stream_widths (stream_of s)) + columns_in (take q (streams_of ss)) =
+          let place : first + columns_in (take (suc q) (streams_of (s ∷ ss))) ≡ first + length (stream_widths (stream_of s)) + columns_in
+          (take q (streams_of ss)) =
           omega (arith, sum_by-cons (λ (x : Stream). length (stream_widths x)) (stream_of s) (take q (streams_of ss))) in
           subst (λ i. HoldsWords k (stream_of t) (input_wave run start i) (flat (at block q))) place (each (suc q) t found)),
     )
@@ -74,7 +77,8 @@ pub record IsProgramInstance (p : ProgramTree) (slowdown : ℕ) (instances : Lis
   pub last : s.func ≡ main_of p
   pub budget : s.budget ≡ slowdown
 
-pub program_instance : (p : ProgramTree) (slowdown : ℕ) (instances : List StFuncTree) (s : StFuncTree) → IsSchedule p slowdown instances → slice_get instances (last_of instances) ≡ Some s
+pub program_instance : (p : ProgramTree) (slowdown : ℕ) (instances : List StFuncTree) (s : StFuncTree) → IsSchedule p slowdown instances
+    → slice_get instances (last_of instances) ≡ Some s
     → IsProgramInstance p slowdown instances s
 program_instance p slowdown instances s h found =
     let key = h.last in
@@ -94,11 +98,17 @@ pub result_at : (s : StFuncTree) (r : ℕ) (t : StTree) → slice_get (results_o
 result_at s r t h =
     let within : r < length (results_of s) = slice_get_within (results_of s) r t h in
     let e = entry-at s.results r (omega (arith, within, length-map s.results (item_layout (item_layouts s)))) in
-    record { item = e.0; found = e.1; is = same_Some _ t (sym (slice_get-map (item_layout (item_layouts s)) s.results r ∙ ap (option_map (item_layout (item_layouts s))) e.1) ∙ h) }
+    record {
+      item = e.0;
+      found = e.1;
+      is = same_Some _ t (sym
+          (slice_get-map (item_layout (item_layouts s)) s.results r ∙ ap (option_map (item_layout (item_layouts s))) e.1) ∙ h);
+    }
 
 -- ---- blocks
 
-module _ (instances : List StFuncTree) (s : StFuncTree) (n : Circuit) (means : FlowsMean) (found : slice_get instances (last_of instances) ≡ Some s) (makes : MakesResults instances s n) (p : ProgramTree) (slowdown : ℕ) (typed : IsTyped p)
+module _ (instances : List StFuncTree) (s : StFuncTree) (n : Circuit) (means : FlowsMean) (found : slice_get instances (last_of instances) ≡ Some s)
+    (makes : MakesResults instances s n) (p : ProgramTree) (slowdown : ℕ) (typed : IsTyped p)
     (schedule : IsSchedule p slowdown instances) where
   abbrev latency : ℕ
   latency = (instance_costs instances (last_of instances)).latency
@@ -112,7 +122,8 @@ module _ (instances : List StFuncTree) (s : StFuncTree) (n : Circuit) (means : F
   -- what the block law says of a result's words
   law_holds : (run : List Clock) (start b r i : ℕ) (block : List ValueTree) → IsRun n.cells run → IsReset run 0 start → slice_get s.results r ≡ Some i
       → start + (latency + (b + 1) * s.budget) ≤ length run → AreValues (parameter_types p) block → InputsHold run start (b * s.budget) s.ins block
-      → HoldsWords (latency + b * s.budget) (stream_of (item_layout (item_layouts s) i)) (output_wave run n.outlets start (columns_in (take r (result_streams s)))) (flat (at (mean p block) r))
+      → HoldsWords (latency + b * s.budget) (stream_of (item_layout (item_layouts s) i))
+      (output_wave run n.outlets start (columns_in (take r (result_streams s)))) (flat (at (mean p block) r))
   law_holds run start b r i block runs reset item room values held =
       let law = makes run start runs reset r i item in
       let z : 0 + b * s.budget ≡ b * s.budget = omega arith in
@@ -122,7 +133,8 @@ module _ (instances : List StFuncTree) (s : StFuncTree) (n : Circuit) (means : F
       let args : AllHold (0 + b * s.budget) (streams_of s.ins) (input_waves run start 1 (streams_of s.ins)) (map flat block) =
       subst (λ k. AllHold k (streams_of s.ins) (input_waves run start 1 (streams_of s.ins)) (map flat block)) (sym z) ours in
       let made = law.makes b (map flat block) (omega arith) (all_words (parameter_types p) s.ins block laid values) args in
-      let meant = means p slowdown instances block typed schedule (subst (λ ts. AreValues ts block) (input_types_are p (keys_of instances) s typed own.is own.last) values) in
+      let meant = means p slowdown instances block typed schedule
+      (subst (λ ts. AreValues ts block) (input_types_are p (keys_of instances) s typed own.is own.last) values) in
       let words : words_at (flow instances (map flat block)) r ≡ flat (at (mean p block) r) = ap (λ vs. words_at vs r) meant ∙ words_flat (mean p block) r in
       let out : Wave = output_wave run n.outlets start (columns_in (take r (result_streams s))) in
       let S : Stream = stream_of (item_layout (item_layouts s) i) in
@@ -131,10 +143,12 @@ module _ (instances : List StFuncTree) (s : StFuncTree) (n : Circuit) (means : F
   -- the same of the outputs' columns
   outputs_held : (run : List Clock) (start k r i : ℕ) (ws : List ℕ)
       → HoldsWords k (stream_of (item_layout (item_layouts s) i)) (output_wave run n.outlets start (columns_in (take r (result_streams s)))) ws
-      → Holds (output_wave run n.outlets start (first_column (results_of s) r)) k (element_words (item_layout (item_layouts s) i)) (slots (item_layout (item_layouts s) i)) ws
+      → Holds (output_wave run n.outlets start (first_column (results_of s) r)) k (element_words (item_layout (item_layouts s) i))
+      (slots (item_layout (item_layouts s) i)) ws
   outputs_held run start k r i ws held =
       let t : StTree = item_layout (item_layouts s) i in
-      let place : columns_in (take r (result_streams s)) ≡ first_column (results_of s) r = ap (λ ss. columns_in (take r ss)) (results_streams s) ∙ sym (first_columns (results_of s) r) in
+      let place : columns_in (take r (result_streams s)) ≡ first_column (results_of s) r = ap (λ ss. columns_in (take r ss)) (results_streams s) ∙
+      sym (first_columns (results_of s) r) in
       let there : HoldsWords k (stream_of t) (output_wave run n.outlets start (first_column (results_of s) r)) ws =
       subst (λ c. HoldsWords k (stream_of t) (output_wave run n.outlets start c) ws) place held in
       subst (λ w. Holds (output_wave run n.outlets start (first_column (results_of s) r)) k w (slots t) ws) (element_columns t) there
@@ -145,7 +159,8 @@ module _ (instances : List StFuncTree) (s : StFuncTree) (n : Circuit) (means : F
       each = λ r t at_r.
           (let e = result_at s r t at_r in
           let made = law_holds run start b r e.item block runs reset e.found room values held in
-          let P : StTree → Type 0 = λ x. Holds (output_wave run n.outlets start (first_column (results_of s) r)) (latency + b * s.budget) (element_words x) (slots x) (flat (at (mean p block) r)) in
+          let P : StTree → Type 0 = λ x. Holds (output_wave run n.outlets start (first_column (results_of s) r)) (latency + b * s.budget) (element_words x)
+          (slots x) (flat (at (mean p block) r)) in
           subst P e.is (outputs_held run start (latency + b * s.budget) r e.item (flat (at (mean p block) r)) made));
     };
   }
@@ -154,7 +169,8 @@ module _ (instances : List StFuncTree) (s : StFuncTree) (n : Circuit) (means : F
   makes_blocks = subst (λ d. MakesBlocks n p d latency s.ins (results_of s)) own.budget at_budget
 
 -- the circuit of a schedule is one of its program
-pub program_circuit : (instances : List StFuncTree) (s : StFuncTree) (n : Circuit) → FlowsMean → slice_get instances (last_of instances) ≡ Some s → IsCircuitThat MakesResults instances s n → IsCircuitOf instances s n
+pub program_circuit : (instances : List StFuncTree) (s : StFuncTree) (n : Circuit) → FlowsMean → slice_get instances (last_of instances) ≡ Some s
+    → IsCircuitThat MakesResults instances s n → IsCircuitOf instances s n
 program_circuit instances s n means found c = record {
   inputs = c.inputs;
   no_others = c.no_others;

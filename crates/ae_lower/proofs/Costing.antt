@@ -42,18 +42,22 @@ greatest_at f a (y ∷ ys) (suc r) x h = greatest_at f (max a (f y)) ys r x h
 pub latest_at : (arrivals items : List ℕ) (r i : ℕ) → slice_get items r ≡ Some i → get_or arrivals i 0 ≤ latest arrivals items
 latest_at arrivals items r i h = greatest_at (λ a. get_or arrivals a 0) 0 items r i h
 
-greatest_same : (f g : ℕ → ℕ) (a : ℕ) (xs : List ℕ) → ((r i : ℕ) → slice_get xs r ≡ Some i → f i ≡ g i) → fold (λ most x. max most (f x)) a xs ≡ fold (λ most x. max most (g x)) a xs
+greatest_same : (f g : ℕ → ℕ) (a : ℕ) (xs : List ℕ) → ((r i : ℕ) → slice_get xs r ≡ Some i → f i ≡ g i)
+    → fold (λ most x. max most (f x)) a xs ≡ fold (λ most x. max most (g x)) a xs
 greatest_same f g a [] same = refl
-greatest_same f g a (x ∷ xs) same = ap (λ v. fold (λ most y. max most (f y)) (max a v) xs) (same 0 x refl) ∙ greatest_same f g (max a (g x)) xs (λ r i h. same (suc r) i h)
+greatest_same f g a (x ∷ xs) same =
+    ap (λ v. fold (λ most y. max most (f y)) (max a v) xs) (same 0 x refl) ∙ greatest_same f g (max a (g x)) xs (λ r i h. same (suc r) i h)
 
-uses_same : (xs ys : List ℕ) (start : ℕ) (chosen : List ℕ) → ((r i : ℕ) → slice_get chosen r ≡ Some i → get_or xs i 0 ≡ get_or ys i 0) → uses_at xs start chosen ≡ uses_at ys start chosen
+uses_same : (xs ys : List ℕ) (start : ℕ) (chosen : List ℕ) → ((r i : ℕ) → slice_get chosen r ≡ Some i → get_or xs i 0 ≡ get_or ys i 0)
+    → uses_at xs start chosen ≡ uses_at ys start chosen
 uses_same xs ys start [] same = refl
 uses_same xs ys start (i ∷ is) same =
     ap (λ (v : ℕ). (let u : Use = record { item = i; slack = start - v } in u) ∷ uses_at xs start is) (same 0 i refl)
     ∙ ap (λ us. (let u : Use = record { item = i; slack = start - get_or ys i 0 } in u) ∷ us) (uses_same xs ys start is (λ r k h. same (suc r) k h))
 
 -- what waits as its slack is as late as the latest
-pub wait_at : (arrivals chosen waits : List ℕ) (r i : ℕ) → waits ≡ joint_slacks arrivals chosen → slice_get chosen r ≡ Some i → get_or arrivals i 0 + get_or waits r 0 ≡ latest arrivals chosen
+pub wait_at : (arrivals chosen waits : List ℕ) (r i : ℕ) → waits ≡ joint_slacks arrivals chosen → slice_get chosen r ≡ Some i
+    → get_or arrivals i 0 + get_or waits r 0 ≡ latest arrivals chosen
 wait_at arrivals chosen waits r i are found =
     let slack : ℕ → ℕ = λ a. latest arrivals chosen - get_or arrivals a 0 in
     let here : slice_get (map slack chosen) r ≡ Some (slack i) = slice_get-map slack chosen r ∙ ap (option_map slack) found in
@@ -81,14 +85,16 @@ none_wait none arrivals chosen is so = latest_of_none arrivals chosen (is_zero (
 
 -- the registers before items whose bundles have the columns of their layouts
 pub delays_cost : (items : List (List NetId)) (arrivals : List ℕ) (start : ℕ) (layouts : List StTree) (chosen : List ℕ)
-    → ((r i : ℕ) → slice_get chosen r ≡ Some i → length (get_or items i []) ≡ columns_of (item_layout layouts i)) → delay_load items (map (λ a. start - get_or arrivals a 0) chosen) chosen ≡ slack_load layouts (uses_at arrivals start chosen)
+    → ((r i : ℕ) → slice_get chosen r ≡ Some i → length (get_or items i []) ≡ columns_of (item_layout layouts i))
+    → delay_load items (map (λ a. start - get_or arrivals a 0) chosen) chosen ≡ slack_load layouts (uses_at arrivals start chosen)
 delays_cost items arrivals start layouts [] long = refl
 delays_cost items arrivals start layouts (i ∷ is) long =
     let waits : List ℕ → List ℕ = λ cs. map (λ a. start - get_or arrivals a 0) cs in
     let g : Use → ℕ = λ u. u.slack * columns_of (item_layout layouts u.item) in
     let u : Use = record { item = i; slack = start - get_or arrivals i 0 } in
     let one : (start - get_or arrivals i 0) * length (get_or items i []) ≡ g u = ap (λ n. (start - get_or arrivals i 0) * n) (long 0 i refl) in
-    let rest : delay_load items (waits is) is ≡ sum_by g (uses_at arrivals start is) = delays_cost items arrivals start layouts is (λ r k h. long (suc r) k h) in
+    let rest : delay_load items (waits is) is ≡ sum_by g (uses_at arrivals start is) = delays_cost items arrivals start layouts is
+    (λ r k h. long (suc r) k h) in
     ap (λ n. n + delay_load items (waits is) is) one ∙ (ap (λ n. g u + n) rest ∙ sym (sum_by-cons g u (uses_at arrivals start is)))
 
 -- ---- no latency above the load
@@ -111,13 +117,15 @@ one_first a b c d = omega arith
 known_early : (known : List OwnCosts) (k : ℕ) → AreEarly known → (get_or known k wire_costs).latency ≤ (get_or known k wire_costs).load
 known_early known k early = elim (cases_lt k (length known)) [
   | inl l ↦ early k (get_or known k wire_costs) (slice_get-get_or known k wire_costs l)
-  | inr l ↦ (let e : get_or known k wire_costs ≡ wire_costs = get_or_past known k wire_costs l in subst (λ (c : OwnCosts). c.latency ≤ c.load) (sym e) (omega arith))
+  | inr l ↦ (let e : get_or known k wire_costs ≡ wire_costs = get_or_past known k wire_costs l in
+      subst (λ (c : OwnCosts). c.latency ≤ c.load) (sym e) (omega arith))
 ]
 
 copies_le : (copies a b : ℕ) → 1 ≤ copies → a ≤ b → a ≤ 1 + copies * b
 copies_le copies a b some l = let up : 1 * b ≤ copies * b = mul-le-mul_right b some in omega (arith, up)
 
-op_early : (known : List OwnCosts) (a s : StTree) (copies : ℕ) (op : StOpTree) → 1 ≤ copies → AreEarly known → (op_costs known a s copies op).latency ≤ (op_costs known a s copies op).load
+op_early : (known : List OwnCosts) (a s : StTree) (copies : ℕ) (op : StOpTree) → 1 ≤ copies → AreEarly known
+    → (op_costs known a s copies op).latency ≤ (op_costs known a s copies op).load
 op_early known a s copies (word op) some early = omega arith
 op_early known a s copies join some early = omega arith
 op_early known a s copies first some early = omega arith
@@ -146,17 +154,20 @@ arrivals_push ins ts t =
     ap (λ xs. map (λ (s : StTree). zero) ins ++ xs) (map-append (λ (x : NodeTiming). x.arrival) ts (t ∷ []))
     ∙ sym (append_assoc (map (λ (s : StTree). zero) ins) (map (λ (x : NodeTiming). x.arrival) ts) (t.arrival ∷ []))
 
-push_early : (ins : List StTree) (ts : List NodeTiming) (t : NodeTiming) → AllEarly ins ts → t.arrival ≤ sum_by load_of ts + t.load → AllEarly ins (ts ++ t ∷ [])
+push_early : (ins : List StTree) (ts : List NodeTiming) (t : NodeTiming) → AllEarly ins ts → t.arrival ≤ sum_by load_of ts + t.load
+    → AllEarly ins (ts ++ t ∷ [])
 unfolding AllEarly
 push_early ins ts t early late i =
     let xs : List ℕ = arrivals_of ins ts in
     let more : sum_by load_of (ts ++ t ∷ []) ≡ sum_by load_of ts + t.load = sum_by_push load_of ts t in
     rw (arrivals_push ins ts t) (elim (cases_lt i (length xs)) [
-      | inl l ↦ (let e : get_or (xs ++ t.arrival ∷ []) i 0 ≡ get_or xs i 0 = get_or_append_left xs (t.arrival ∷ []) 0 i l in let own : get_or xs i 0 ≤ sum_by load_of ts = early i in omega (arith, e, own, more))
+      | inl l ↦ (let e : get_or (xs ++ t.arrival ∷ []) i 0 ≡ get_or xs i 0 = get_or_append_left xs (t.arrival ∷ []) 0 i l in
+          let own : get_or xs i 0 ≤ sum_by load_of ts = early i in omega (arith, e, own, more))
       | inr l ↦ elim (cases_lt i (length xs + 1)) [
         | inl low ↦
             let is : i ≡ length xs = omega (arith, l, low) in
-            let e : get_or (xs ++ t.arrival ∷ []) i 0 ≡ t.arrival = ap (λ i. get_or (xs ++ t.arrival ∷ []) i 0) is ∙ get_or_at xs t.arrival [] 0 (length xs) refl in
+            let e : get_or (xs ++ t.arrival ∷ []) i 0 ≡ t.arrival = ap (λ i. get_or (xs ++ t.arrival ∷ []) i 0) is ∙
+            get_or_at xs t.arrival [] 0 (length xs) refl in
             omega (arith, e, late, more)
         | inr high ↦
             let e : get_or (xs ++ t.arrival ∷ []) i 0 ≡ 0 = get_or_past (xs ++ t.arrival ∷ []) i 0 (omega (arith, high, length-append xs (t.arrival ∷ []))) in
@@ -164,14 +175,19 @@ push_early ins ts t early late i =
       ]
     ])
 
-next_early : (known : List OwnCosts) (s : StFuncTree) (ts : List NodeTiming) (n : StNodeTree) → 1 ≤ n.copies → AreEarly known → AllEarly s.ins ts → (next_timing known s ts n).arrival ≤ sum_by load_of ts + (next_timing known s ts n).load
+next_early : (known : List OwnCosts) (s : StFuncTree) (ts : List NodeTiming) (n : StNodeTree) → 1 ≤ n.copies → AreEarly known → AllEarly s.ins ts
+    → (next_timing known s ts n).arrival ≤ sum_by load_of ts + (next_timing known s ts n).load
 unfolding AllEarly
 next_early known s ts n some early all =
-    let start : latest (arrivals_of s.ins ts) n.args ≤ sum_by load_of ts = lead_le (λ a. get_or (arrivals_of s.ins ts) a 0) 0 (sum_by load_of ts) n.args (omega arith) (λ i k f. all i) in
-    let own : (node_costs known (item_layouts s) n).latency ≤ (node_costs known (item_layouts s) n).load = op_early known (item_layout (item_layouts s) (get_or n.args 0 0)) n.type n.copies n.op some early in
+    let start : latest (arrivals_of s.ins ts) n.args ≤ sum_by load_of ts = lead_le (λ a. get_or (arrivals_of s.ins ts) a 0) 0 (sum_by load_of ts) n.args
+    (omega arith) (λ i k f. all i) in
+    let own : (node_costs known (item_layouts s) n).latency ≤ (node_costs known (item_layouts s) n).load = op_early known
+    (item_layout (item_layouts s) (get_or n.args 0 0)) n.type n.copies n.op some early in
     omega (arith, start, own)
 
-grown_early : (known : List OwnCosts) (s : StFuncTree) (ns : List StNodeTree) (ts : List NodeTiming) → ((j : ℕ) (n : StNodeTree) → slice_get ns j ≡ Some n → 1 ≤ n.copies) → AreEarly known → AllEarly s.ins ts → AllEarly s.ins (grown (next_timing known s) ts ns)
+grown_early : (known : List OwnCosts) (s : StFuncTree) (ns : List StNodeTree) (ts : List NodeTiming)
+    → ((j : ℕ) (n : StNodeTree) → slice_get ns j ≡ Some n → 1 ≤ n.copies) → AreEarly known → AllEarly s.ins ts
+    → AllEarly s.ins (grown (next_timing known s) ts ns)
 grown_early known s [] ts some early all = all
 grown_early known s (n ∷ ns) ts some early all =
     grown_early known s ns (ts ++ next_timing known s ts n ∷ []) (λ j m f. some (suc j) m f) early
@@ -189,10 +205,12 @@ unfolding AllEarly
 func_early known s some early =
     let ts : List NodeTiming = node_timings known s in
     let all : AllEarly s.ins ts = grown_early known s s.nodes [] some early (no_early s.ins) in
-    let end : latest (arrivals_of s.ins ts) s.results ≤ sum_by load_of ts = lead_le (λ a. get_or (arrivals_of s.ins ts) a 0) 0 (sum_by load_of ts) s.results (omega arith) (λ i k f. all i) in
+    let end : latest (arrivals_of s.ins ts) s.results ≤ sum_by load_of ts = lead_le (λ a. get_or (arrivals_of s.ins ts) a 0) 0 (sum_by load_of ts) s.results
+    (omega arith) (λ i k f. all i) in
     omega (arith, end)
 
-costs_early : (xs : List StFuncTree) (known : List OwnCosts) → ((k : ℕ) (s : StFuncTree) → slice_get xs k ≡ Some s → AreCopied s) → AreEarly known → AreEarly (grown func_costs known xs)
+costs_early : (xs : List StFuncTree) (known : List OwnCosts) → ((k : ℕ) (s : StFuncTree) → slice_get xs k ≡ Some s → AreCopied s) → AreEarly known
+    → AreEarly (grown func_costs known xs)
 costs_early [] known some early = early
 costs_early (s ∷ xs) known some early =
     costs_early xs (known ++ func_costs known s ∷ []) (λ k f at. some (suc k) f at) (λ k c at. elim (get_push_cases known (func_costs known s) k c at) [
@@ -217,7 +235,8 @@ all_early instances k sound = costs_early (take k instances) [] (λ i s at.
 
 -- ---- the nodes of an instance
 
-pub costs_are : (instances : List StFuncTree) (k : ℕ) (s : StFuncTree) → slice_get instances k ≡ Some s → instance_costs instances k ≡ func_costs (all_costs (take k instances)) s
+pub costs_are : (instances : List StFuncTree) (k : ℕ) (s : StFuncTree) → slice_get instances k ≡ Some s
+    → instance_costs instances k ≡ func_costs (all_costs (take k instances)) s
 costs_are instances k s at = ap (costs_in (all_costs (take k instances))) at
 
 length-grown : {A B : Type 0} (step : List B → A → B) (front : List B) (xs : List A) → length (grown step front xs) ≡ length front + length xs
@@ -225,7 +244,8 @@ length-grown step front [] = omega arith
 length-grown step front (x ∷ xs) = omega (arith, length-grown step (front ++ step front x ∷ []) xs, length-append front (step front x ∷ []))
 
 pub timings_long : (instances : List StFuncTree) (k : ℕ) (s : StFuncTree) → length (timings_in instances k s) ≡ length s.nodes
-timings_long instances k s = length-grown (next_timing (all_costs (take k instances)) s) [] s.nodes ∙ (let e : 0 + length s.nodes ≡ length s.nodes = omega arith in e)
+timings_long instances k s =
+    length-grown (next_timing (all_costs (take k instances)) s) [] s.nodes ∙ (let e : 0 + length s.nodes ≡ length s.nodes = omega arith in e)
 
 arrivals_split : (ins : List StTree) (ts us : List NodeTiming) → arrivals_of ins (ts ++ us) ≡ arrivals_of ins ts ++ map (λ (t : NodeTiming). t.arrival) us
 arrivals_split ins ts us =
@@ -233,14 +253,21 @@ arrivals_split ins ts us =
     ∙ sym (append_assoc (map (λ (s : StTree). zero) ins) (map (λ (x : NodeTiming). x.arrival) ts) (map (λ (t : NodeTiming). t.arrival) us))
 
 arrivals_many : (ins : List StTree) (ts : List NodeTiming) → length (arrivals_of ins ts) ≡ length ins + length ts
-arrivals_many ins ts = omega (arith, length-append (map (λ (s : StTree). zero) ins) (map (λ (t : NodeTiming). t.arrival) ts), length-map ins (λ (s : StTree). zero), length-map ts (λ (t : NodeTiming). t.arrival))
+arrivals_many ins ts =
+    omega (
+      arith,
+      length-append (map (λ (s : StTree). zero) ins) (map (λ (t : NodeTiming). t.arrival) ts),
+      length-map ins (λ (s : StTree). zero),
+      length-map ts (λ (t : NodeTiming). t.arrival),
+    )
 
 pub arrivals_long : (instances : List StFuncTree) (k : ℕ) (s : StFuncTree) → length (arrivals_in instances k s) ≡ length s.ins + length s.nodes
 arrivals_long instances k s = omega (arith, arrivals_many s.ins (timings_in instances k s), timings_long instances k s)
 
 pub input_arrival : (instances : List StFuncTree) (k : ℕ) (s : StFuncTree) (i : ℕ) → i < length s.ins → get_or (arrivals_in instances k s) i 0 ≡ 0
 input_arrival instances k s i l = zero_at s.ins i l where
-  zero_at : (ins : List StTree) (r : ℕ) → r < length ins → get_or (map (λ (x : StTree). zero) ins ++ map (λ (t : NodeTiming). t.arrival) (timings_in instances k s)) r 0 ≡ 0
+  zero_at : (ins : List StTree) (r : ℕ) → r < length ins
+      → get_or (map (λ (x : StTree). zero) ins ++ map (λ (t : NodeTiming). t.arrival) (timings_in instances k s)) r 0 ≡ 0
   zero_at [] r h = absurd (omega arith)
   zero_at (x ∷ xs) zero h = refl
   zero_at (x ∷ xs) (suc r) h = zero_at xs r (omega arith)
@@ -256,7 +283,8 @@ op_loads known a s copies (fold_op op n m raw) = one_first _ _ _ _
 op_loads known a s copies (scan op n m) = one_of _ _
 op_loads known a s copies (body k) = omega arith
 
-grown_loads : (known : List OwnCosts) (s : StFuncTree) (ns : List StNodeTree) (ts : List NodeTiming) → length ts ≤ sum_by load_of ts → length ts + length ns ≤ sum_by load_of (grown (next_timing known s) ts ns)
+grown_loads : (known : List OwnCosts) (s : StFuncTree) (ns : List StNodeTree) (ts : List NodeTiming) → length ts ≤ sum_by load_of ts
+    → length ts + length ns ≤ sum_by load_of (grown (next_timing known s) ts ns)
 grown_loads known s [] ts h = omega arith
 grown_loads known s (n ∷ ns) ts h =
     let t : NodeTiming = next_timing known s ts n in
@@ -275,38 +303,47 @@ few_nodes instances k s at =
 -- what is sure of node j
 pub record NodeFacts (instances : List StFuncTree) (k j : ℕ) (s : StFuncTree) (n : StNodeTree) (t : NodeTiming) : Type 0 where
   pub start : latest (arrivals_in instances k s) n.args ≤ sum_by load_of (take j (timings_in instances k s))
-  pub arrival : get_or (arrivals_in instances k s) (length s.ins + j) 0 ≡ latest (arrivals_in instances k s) n.args + (node_costs (all_costs (take k instances)) (item_layouts s) n).latency
-  pub load : t.load ≡ (node_costs (all_costs (take k instances)) (item_layouts s) n).load + slack_load (item_layouts s) (uses_at (arrivals_in instances k s) (latest (arrivals_in instances k s) n.args) n.args)
+  pub arrival : get_or (arrivals_in instances k s) (length s.ins + j) 0 ≡ latest
+      (arrivals_in instances k s) n.args + (node_costs (all_costs (take k instances)) (item_layouts s) n).latency
+  pub load : t.load ≡ (node_costs (all_costs (take k instances)) (item_layouts s) n).load + slack_load (item_layouts s)
+      (uses_at (arrivals_in instances k s) (latest (arrivals_in instances k s) n.args) n.args)
   pub muls : t.muls ≡ (node_costs (all_costs (take k instances)) (item_layouts s) n).muls
   pub mems : t.mems ≡ (node_costs (all_costs (take k instances)) (item_layouts s) n).mems
   pub uses : t.uses ≡ joint_uses (arrivals_in instances k s) n.args
 
-pub node_facts : (instances : List StFuncTree) (k j : ℕ) (s : StFuncTree) (n : StNodeTree) (t : NodeTiming) → IsSound instances → IsNodeAt instances k j s n t → ((r i : ℕ) → slice_get n.args r ≡ Some i → i < length s.ins + j) → NodeFacts instances k j s n t
+pub node_facts : (instances : List StFuncTree) (k j : ℕ) (s : StFuncTree) (n : StNodeTree) (t : NodeTiming) → IsSound instances → IsNodeAt instances k j s n t
+    → ((r i : ℕ) → slice_get n.args r ≡ Some i → i < length s.ins + j) → NodeFacts instances k j s n t
 unfolding AllEarly
 node_facts instances k j s n t sound h below =
     let known : List OwnCosts = all_costs (take k instances) in
     let ts : List NodeTiming = timings_in instances k s in
     let before : List NodeTiming = take j ts in
     let first_ones : before ≡ grown (next_timing known s) [] (take j s.nodes) = take-grown (next_timing known s) s.nodes j in
-    let entry : slice_get ts j ≡ Some (next_timing known s before n) = entry-grown (next_timing known s) s.nodes j n h.node ∙ ap (λ us. Some (next_timing known s us n)) (sym first_ones) in
+    let entry : slice_get ts j ≡ Some (next_timing known s before n) = entry-grown (next_timing known s) s.nodes j n h.node ∙
+    ap (λ us. Some (next_timing known s us n)) (sym first_ones) in
     let is : t ≡ next_timing known s before n = same_Some t (next_timing known s before n) (sym h.timing ∙ entry) in
     let there : j < length s.nodes = slice_get_within s.nodes j n h.node in
     let many : length before ≡ j = length-take-le j ts (omega (arith, timings_long instances k s)) in
     let some_before : length (arrivals_of s.ins before) ≡ length s.ins + j = omega (arith, arrivals_many s.ins before) in
-    let split : arrivals_in instances k s ≡ arrivals_of s.ins before ++ map (λ (x : NodeTiming). x.arrival) (drop j ts) = ap (arrivals_of s.ins) (sym (take-append-drop j ts)) ∙ arrivals_split s.ins before (drop j ts) in
+    let split : arrivals_in instances k s ≡ arrivals_of s.ins before
+    ++ map (λ (x : NodeTiming). x.arrival) (drop j ts) = ap (arrivals_of s.ins) (sym (take-append-drop j ts)) ∙ arrivals_split s.ins before (drop j ts) in
     let reads : (r i : ℕ) → slice_get n.args r ≡ Some i → get_or (arrivals_of s.ins before) i 0 ≡ get_or (arrivals_in instances k s) i 0 = λ r i f.
     (let low : i < length s.ins + j = below r i f in
     sym (ap (λ xs. get_or xs i 0) split ∙ get_or_append_left (arrivals_of s.ins before) (map (λ (x : NodeTiming). x.arrival) (drop j ts)) 0 i (omega arith))) in
-    let lates : latest (arrivals_of s.ins before) n.args ≡ latest (arrivals_in instances k s) n.args = greatest_same (λ a. get_or (arrivals_of s.ins before) a 0) (λ a. get_or (arrivals_in instances k s) a 0) 0 n.args reads in
+    let lates : latest (arrivals_of s.ins before) n.args ≡ latest (arrivals_in instances k s) n.args = greatest_same
+    (λ a. get_or (arrivals_of s.ins before) a 0) (λ a. get_or (arrivals_in instances k s) a 0) 0 n.args reads in
     let used : uses_at (arrivals_of s.ins before) (latest (arrivals_of s.ins before) n.args) n.args ≡ joint_uses (arrivals_in instances k s) n.args =
-    ap (λ i. uses_at (arrivals_of s.ins before) i n.args) lates ∙ uses_same (arrivals_of s.ins before) (arrivals_in instances k s) (latest (arrivals_in instances k s) n.args) n.args reads in
+    ap (λ i. uses_at (arrivals_of s.ins before) i n.args) lates ∙
+    uses_same (arrivals_of s.ins before) (arrivals_in instances k s) (latest (arrivals_in instances k s) n.args) n.args reads in
     let early : AllEarly s.ins (grown (next_timing known s) [] (take j s.nodes)) = grown_early known s (take j s.nodes) []
     (λ i m f. sound_copied instances k s sound h.func i m (take_at j i s.nodes m f)) (all_early instances k sound) (no_early s.ins) in
-    let sums : latest (arrivals_of s.ins before) n.args ≤ sum_by load_of before = subst (λ (us : List NodeTiming). latest (arrivals_of s.ins us) n.args ≤ sum_by load_of us) (sym first_ones)
+    let sums : latest (arrivals_of s.ins before) n.args ≤ sum_by load_of before = subst
+    (λ (us : List NodeTiming). latest (arrivals_of s.ins us) n.args ≤ sum_by load_of us) (sym first_ones)
     (lead_le (λ a. get_or (arrivals_of s.ins (grown (next_timing known s) [] (take j s.nodes))) a 0) 0 _ n.args (omega arith) (λ i r f. early i)) in
     let place : length (map (λ (x : StTree). zero) s.ins) + j ≡ length s.ins + j = ap (λ i. i + j) (length-map s.ins (λ (x : StTree). zero)) in
     let own : get_or (arrivals_in instances k s) (length s.ins + j) 0 ≡ (next_timing known s before n).arrival =
-    ap (λ i. get_or (arrivals_in instances k s) i 0) (sym place) ∙ get_or_from_slice_get (arrivals_in instances k s) (length (map (λ (x : StTree). zero) s.ins) + j) (next_timing known s before n).arrival 0
+    ap (λ i. get_or (arrivals_in instances k s) i 0) (sym place) ∙
+    get_or_from_slice_get (arrivals_in instances k s) (length (map (λ (x : StTree). zero) s.ins) + j) (next_timing known s before n).arrival 0
     (get_right (map (λ (x : StTree). zero) s.ins) (map (λ (x : NodeTiming). x.arrival) ts) j ∙ mapped_at ts j (next_timing known s before n) entry) in
     record {
       start = subst (λ i. i ≤ sum_by load_of before) lates sums;
@@ -319,7 +356,8 @@ node_facts instances k j s n t sound h below =
       take_at : (c i : ℕ) (xs : List StNodeTree) (m : StNodeTree) → slice_get (take c xs) i ≡ Some m → slice_get xs i ≡ Some m
       take_at c i xs m f = get_from_take xs c i m f
 
-      mapped_at : (us : List NodeTiming) (i : ℕ) (u : NodeTiming) → slice_get us i ≡ Some u → slice_get (map (λ (x : NodeTiming). x.arrival) us) i ≡ Some u.arrival
+      mapped_at : (us : List NodeTiming) (i : ℕ) (u : NodeTiming) → slice_get us i ≡ Some u
+          → slice_get (map (λ (x : NodeTiming). x.arrival) us) i ≡ Some u.arrival
       mapped_at [] i u f = absurd (none-some u f)
       mapped_at (v ∷ us) zero u f = ap (λ (x : NodeTiming). Some x.arrival) (same_Some v u f)
       mapped_at (v ∷ us) (suc i) u f = mapped_at us i u f
@@ -340,8 +378,11 @@ sums_most f instances k j s t at =
     omega (arith, l, e)
 
 -- a called instance
-pub callee_costs : (instances : List StFuncTree) (k m : ℕ) (f : StFuncTree) → m < k → slice_get (take k instances) m ≡ Some f → get_or (all_costs (take k instances)) m wire_costs ≡ instance_costs instances m
+pub callee_costs : (instances : List StFuncTree) (k m : ℕ) (f : StFuncTree) → m < k → slice_get (take k instances) m ≡ Some f
+    → get_or (all_costs (take k instances)) m wire_costs ≡ instance_costs instances m
 callee_costs instances k m f below at =
     let same : take m (take k instances) ≡ take m instances = take-take m k instances (omega arith) in
-    let entry : slice_get (all_costs (take k instances)) m ≡ Some (func_costs (all_costs (take m instances)) f) = entry-grown func_costs (take k instances) m f at ∙ ap (λ fs. Some (func_costs (all_costs fs) f)) same in
-    get_or_from_slice_get (all_costs (take k instances)) m (func_costs (all_costs (take m instances)) f) wire_costs entry ∙ sym (costs_are instances m f (sym (slice_get-take k m instances below) ∙ at))
+    let entry : slice_get (all_costs (take k instances)) m ≡ Some (func_costs (all_costs (take m instances)) f) = entry-grown func_costs
+    (take k instances) m f at ∙ ap (λ fs. Some (func_costs (all_costs fs) f)) same in
+    get_or_from_slice_get (all_costs (take k instances)) m (func_costs (all_costs (take m instances)) f) wire_costs entry ∙
+    sym (costs_are instances m f (sym (slice_get-take k m instances below) ∙ at))

@@ -15,7 +15,8 @@ use Rattle.ae_lower.specs.Sections.{AreCopied, AreCovered, AreSections, AreThose
 
 -- ---- one section more
 
-pub begins : (s : Section) (old kept new : List Section) → AreThoseBefore s.cell old kept → new ≡ kept ++ s ∷ [] → AreSections s.cell old → BeginsSection s old new
+pub begins : (s : Section) (old kept new : List Section) → AreThoseBefore s.cell old kept → new ≡ kept ++ s ∷ [] → AreSections s.cell old
+    → BeginsSection s old new
 begins s old kept new b is a = subst (BeginsSection s old) (sym is) (record {
   are = record {
     within = λ i t h. elim (get_push_cases kept s i t h) [
@@ -64,7 +65,8 @@ sections_none n old a = record { are = a; stay = λ cell s l h. h; own = record 
     none_between n cell f l = omega (arith, f, l)
 
 -- a section begins, and cells are added
-pub sections_begun : {Of : Section → Type 0} (from to : ℕ) (s : Section) (old new : List Section) → (AreSections s.cell old → BeginsSection s old new) → s.cell ≡ from → from ≤ to → AreSections from old → Of s → HaveSections Of from to old new
+pub sections_begun : {Of : Section → Type 0} (from to : ℕ) (s : Section) (old new : List Section) → (AreSections s.cell old → BeginsSection s old new)
+    → s.cell ≡ from → from ≤ to → AreSections from old → Of s → HaveSections Of from to old new
 sections_begun from to s old new begun at l was is =
     let b : BeginsSection s old new = begun (subst (λ (n : ℕ). AreSections n old) (sym at) was) in
     record {
@@ -73,7 +75,8 @@ sections_begun from to s old new begun at l was is =
       own = record { each = λ cell f below. (s, b.own cell (omega (arith, f, at)), is) };
     }
 
-pub sections_trans : {Of : Section → Type 0} (from mid to : ℕ) (old middle new : List Section) → from ≤ mid → HaveSections Of from mid old middle → HaveSections Of mid to middle new → HaveSections Of from to old new
+pub sections_trans : {Of : Section → Type 0} (from mid to : ℕ) (old middle new : List Section) → from ≤ mid → HaveSections Of from mid old middle
+    → HaveSections Of mid to middle new → HaveSections Of from to old new
 sections_trans from mid to old middle new l a b = record {
   are = b.are;
   stay = λ cell s below h. b.stay cell s (omega (arith, below, l)) (a.stay cell s below h);
@@ -85,7 +88,8 @@ sections_trans from mid to old middle new l a b = record {
   };
 }
 
-pub sections_of : {P Q : Section → Type 0} (from to : ℕ) (old new : List Section) → ((s : Section) → P s → Q s) → HaveSections P from to old new → HaveSections Q from to old new
+pub sections_of : {P Q : Section → Type 0} (from to : ℕ) (old new : List Section) → ((s : Section) → P s → Q s) → HaveSections P from to old new
+    → HaveSections Q from to old new
 sections_of from to old new more a = record {
   are = a.are;
   stay = a.stay;
@@ -94,13 +98,16 @@ sections_of from to old new more a = record {
 
 -- ---- whose section it is
 
-pub own_section : (instances : List StFuncTree) (k j : ℕ) (f : StFuncTree) (s : Section) → slice_get instances k ≡ Some f → j ≤ length f.nodes → s.instance ≡ k → s.node ≡ j → IsSectionFor instances k j s
+pub own_section : (instances : List StFuncTree) (k j : ℕ) (f : StFuncTree) (s : Section) → slice_get instances k ≡ Some f → j ≤ length f.nodes → s.instance ≡ k
+    → s.node ≡ j → IsSectionFor instances k j s
 own_section instances k j f s found there ei en = record { path = []; leads = (ei, en, f, found, there) }
 
-pub called_section : (instances : List StFuncTree) (k j m : ℕ) (f : StFuncTree) (n : StNodeTree) (s : Section) → slice_get instances k ≡ Some f → slice_get f.nodes j ≡ Some n → n.op ≡ body m → IsSectionWithin instances m s → IsSectionFor instances k j s
+pub called_section : (instances : List StFuncTree) (k j m : ℕ) (f : StFuncTree) (n : StNodeTree) (s : Section) → slice_get instances k ≡ Some f
+    → slice_get f.nodes j ≡ Some n → n.op ≡ body m → IsSectionWithin instances m s → IsSectionFor instances k j s
 called_section instances k j m f n s found at calls is = record { path = is.node ∷ is.is.path; leads = (f, n, m, found, at, calls, is.is.leads) }
 
-leads_as : (instances : List StFuncTree) (k j : ℕ) (path : List ℕ) (s t : Section) → t.instance ≡ s.instance → t.node ≡ s.node → CallsLead instances k j path s → CallsLead instances k j path t
+leads_as : (instances : List StFuncTree) (k j : ℕ) (path : List ℕ) (s t : Section) → t.instance ≡ s.instance → t.node ≡ s.node → CallsLead instances k j path s
+    → CallsLead instances k j path t
 leads_as instances k j [] s t ei en h = (ei ∙ h.0, en ∙ h.1, h.2, h.3, h.4)
 leads_as instances k j (i ∷ path) s t ei en h = (h.0, h.1, h.2, h.3, h.4, h.5, leads_as instances h.2 i path s t ei en h.6)
 
@@ -118,8 +125,10 @@ copied_none sections places = record {
 pub sections_wider : (n m : ℕ) (sections : List Section) → n ≤ m → AreSections n sections → AreSections m sections
 sections_wider n m sections l a = record { within = λ i s h. (let w : s.cell ≤ n = a.within i s h in omega (arith, w, l)); rising = a.rising }
 
-pub copied_more : (sections copied new : List Section) (places : List ℕ) (cells all count place : ℕ) (s begun : Section) → AreMarks cells all places → slice_get places count ≡ Some place → slice_get sections count ≡ Some s
-    → begun ≡ record { cell = place; instance = s.instance; node = s.node } → BeginsSection begun copied new → AreCopied sections places count copied → AreCopied sections places (count + 1) new
+pub copied_more : (sections copied new : List Section) (places : List ℕ) (cells all count place : ℕ) (s begun : Section) → AreMarks cells all places
+    → slice_get places count ≡ Some place → slice_get sections count ≡ Some s
+    → begun ≡ record { cell = place; instance = s.instance; node = s.node } → BeginsSection begun copied new → AreCopied sections places count copied
+    → AreCopied sections places (count + 1) new
 copied_more sections copied new places cells all count place s begun marks here at is b was = record {
   each = λ cell i p t last f. elim (cases_eq i count) [
     | inl e ↦
@@ -130,13 +139,20 @@ copied_more sections copied new places cells all count place s begun marks here 
     | inr ne ↦
         let early : i < count = (let l = last.first in omega (arith, l, ne)) in
         let lt : cell < place = last.last count place early (omega arith) here in
-        let old = was.each cell i p t (record { found = last.found; first = early; begun = last.begun; last = λ j o l lj g. last.last j o l (omega (arith, lj)) g }) f in
+        let old = was.each cell i p t (record {
+          found = last.found;
+          first = early;
+          begun = last.begun;
+          last = λ j o l lj g. last.last j o l (omega (arith, lj)) g;
+        }) f in
         b.stay cell _ (rw is lt) old
   ];
-  are = λ i p l f. sections_wider place p new (marks.rising count i place p (omega (arith, l)) here f) (let a : AreSections begun.cell new = b.are in rw is at a);
+  are = λ i p l f. sections_wider place p new (marks.rising count i place p (omega (arith, l)) here f)
+      (let a : AreSections begun.cell new = b.are in rw is at a);
 }
 
-pub copied_all : (made : List NetId) (sections copied : List Section) (places : List ℕ) (m : ℕ) (own : NetId) → AreCut made (map first_cell sections) places → length places ≡ length sections → AreCopied sections places (length sections) copied
+pub copied_all : (made : List NetId) (sections copied : List Section) (places : List ℕ) (m : ℕ) (own : NetId) → AreCut made (map first_cell sections) places
+    → length places ≡ length sections → AreCopied sections places (length sections) copied
     → slice_get made m ≡ Some own → IsCopiedSection sections copied own.0 m
 copied_all made sections copied places m own cut long c here = record {
   each = λ s is.
@@ -149,7 +165,8 @@ copied_all made sections copied places m own cut long c here = record {
         first = w;
         begun = elim (cases_lt m place) [
           | inr le ↦ le
-          | inl l ↦ absurd (let b : own.0 < s.cell = (cut.each is.index s.cell place (cell_at is.index s is.found) fp).before.each m own l here in let z : ⊥ = omega (arith, b, is.begun) in z)
+          | inl l ↦ absurd (let b : own.0 < s.cell = (cut.each is.index s.cell place (cell_at is.index s is.found) fp).before.each m own l here in
+              let z : ⊥ = omega (arith, b, is.begun) in z)
         ];
         last = λ j o l lj g.
             let t : Section = get_or sections j s in
@@ -157,7 +174,8 @@ copied_all made sections copied places m own cut long c here = record {
             let late : own.0 < t.cell = is.last j t l ft in
             elim (cases_lt m o) [
               | inl lt ↦ lt
-              | inr b ↦ absurd (let z : t.cell ≤ own.0 = (cut.each j t.cell o (cell_at j t ft) g).behind m own b here in let bad : ⊥ = omega (arith, z, late) in bad)
+              | inr b ↦ absurd (let z : t.cell ≤ own.0 = (cut.each j t.cell o (cell_at j t ft) g).behind m own b here in
+                  let bad : ⊥ = omega (arith, z, late) in bad)
             ];
       } in
       (section, c.each m is.index place s first is.found, refl, refl);
@@ -197,8 +215,10 @@ not_behind made count rising (suc m) l =
     let next : made m < made (suc m) = rising m (suc m) (omega arith) l in
     omega (arith, before, next)
 
-pub covered_copied : (instances : List StFuncTree) (k from : ℕ) (old new : List SizedCell) (made : List NetId) (sections copied : List Section) → AreTraced old new made → AreCovered (IsSectionWithin instances k) from (length old) sections
-    → ((m : ℕ) (own : NetId) → slice_get made m ≡ Some own → IsCopiedSection sections copied own.0 m) → AreCovered (IsSectionWithin instances k) from (length new) copied
+pub covered_copied : (instances : List StFuncTree) (k from : ℕ) (old new : List SizedCell) (made : List NetId) (sections copied : List Section)
+    → AreTraced old new made → AreCovered (IsSectionWithin instances k) from (length old) sections
+    → ((m : ℕ) (own : NetId) → slice_get made m ≡ Some own → IsCopiedSection sections copied own.0 m)
+    → AreCovered (IsSectionWithin instances k) from (length new) copied
 covered_copied instances k from old new made sections copied traced covered same = record {
   each = λ m f l.
       let own : NetId = get_or made m (record { 0 = 0 }) in
@@ -208,8 +228,14 @@ covered_copied instances k from old new made sections copied traced covered same
       let within : own.0 < length old = slice_get_within old own.0 source.sized source.found in
       let late : m ≤ own.0 = not_behind (made_of made) (length new) traced.are.rising m l in
       let s = covered.each own.0 (omega (arith, f, late)) within in
-      let t = (same m own here).each s.0 s.1 in
-      (t.0, t.1, record { node = s.2.node; is = record { path = s.2.is.path; leads = leads_as instances k s.2.node s.2.is.path s.0 t.0 t.2 t.3 s.2.is.leads } });
+      let t = (same m own here).each s.0 s.1 in (
+        t.0,
+        t.1,
+        record {
+          node = s.2.node;
+          is = record { path = s.2.is.path; leads = leads_as instances k s.2.node s.2.is.path s.0 t.0 t.2 t.3 s.2.is.leads };
+        },
+      );
 }
   where
     none : SizedCell

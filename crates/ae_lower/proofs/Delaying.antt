@@ -23,15 +23,18 @@ nets_grow g h = record { long = h.long; each = λ q w net fw fn. net_later g (h.
 pub own_grow : {a b : List SizedCell} (nets : List NetId) → Extends a b → HaveOwnWidths a nets → HaveOwnWidths b nets
 own_grow nets g h = λ q net found. (let there = net_later g (h q net found) in rw (net_width there) there)
 
-delayed_grows : {old a b : List SizedCell} {rst slack : ℕ} {nets late : List NetId} → Extends a b → IsDelayed old a rst slack nets late → IsDelayed old b rst slack nets late
+delayed_grows : {old a b : List SizedCell} {rst slack : ℕ} {nets late : List NetId} → Extends a b → IsDelayed old a rst slack nets late
+    → IsDelayed old b rst slack nets late
 delayed_grows g h = record { kept = λ widths own. nets_grow g (h.kept widths own); is_late = late_grows _ _ _ g h.is_late }
 
 pub delayed_none : (old : List SizedCell) (rst : ℕ) (items : List (List NetId)) (waits : List ℕ) → AreDelayed old old rst items waits [] []
 delayed_none old rst items waits = record { long = refl; each = λ r i nets late f g h. (let no : r < 0 = slice_get_within [] r late h in absurd (omega arith)) }
 
 -- one more
-pub delayed_more : (old mid new : List SizedCell) (rst : ℕ) (items : List (List NetId)) (waits : List ℕ) (count i : ℕ) (chosen : List ℕ) (bundles : List (List NetId)) (nets late : List NetId) → length chosen ≡ count
-    → Extends old mid → Extends mid new → slice_get items i ≡ Some nets → ((widths : List ℕ) → AreNets mid widths nets → AreNets new widths late) → AreLate new rst (get_or waits count 0) nets late
+pub delayed_more : (old mid new : List SizedCell) (rst : ℕ) (items : List (List NetId)) (waits : List ℕ) (count i : ℕ) (chosen : List ℕ)
+    (bundles : List (List NetId)) (nets late : List NetId) → length chosen ≡ count
+    → Extends old mid → Extends mid new → slice_get items i ≡ Some nets → ((widths : List ℕ) → AreNets mid widths nets → AreNets new widths late)
+    → AreLate new rst (get_or waits count 0) nets late
     → AreDelayed old mid rst items waits chosen bundles → AreDelayed old new rst items waits (chosen ++ i ∷ []) (bundles ++ late ∷ [])
 delayed_more old mid new rst items waits count i chosen bundles nets late many up g at own is was = record {
   long = length_push bundles late ∙ (ap (λ n. n + 1) was.long ∙ sym (length_push chosen i));
@@ -56,7 +59,8 @@ delayed_more old mid new rst items waits count i chosen bundles nets late many u
 -- ---- the registers so far
 
 -- the item that is chosen next
-pub item_at : (items : List (List NetId)) (chosen : List ℕ) (j : ℕ) (nets : List NetId) → ((r i : ℕ) → slice_get chosen r ≡ Some i → i < length items) → j < length chosen
+pub item_at : (items : List (List NetId)) (chosen : List ℕ) (j : ℕ) (nets : List NetId) → ((r i : ℕ) → slice_get chosen r ≡ Some i → i < length items)
+    → j < length chosen
     → nets ≡ get_or items (get_or chosen j 0) nets → slice_get items (get_or chosen j 0) ≡ Some nets
 item_at items chosen j nets below h is =
     slice_get_read items (length items) (get_or chosen j 0) nets refl (below j (get_or chosen j 0) (slice_get-get_or chosen j 0 h)) is
@@ -70,7 +74,8 @@ load_push : (items : List (List NetId)) (waits chosen : List ℕ) (i : ℕ) → 
 load_push items [] chosen i h = absurd (omega arith)
 load_push items (w ∷ ws) [] i h = let e : delay_load items ws [] ≡ 0 = no_load items ws in omega (arith, e)
 load_push items (w ∷ ws) (c ∷ cs) i h =
-    let rest : delay_load items ws (cs ++ i ∷ []) ≡ delay_load items ws cs + get_or ws (length cs) 0 * length (get_or items i []) = load_push items ws cs i (omega arith) in
+    let rest : delay_load items ws (cs ++ i ∷ []) ≡ delay_load items ws cs + get_or ws (length cs) 0 * length (get_or items i []) = load_push items ws cs i
+    (omega arith) in
     omega (arith, rest)
 
 load_front : (items : List (List NetId)) (waits chosen : List ℕ) (n : ℕ) → delay_load items waits (take n chosen) ≤ delay_load items waits chosen
@@ -78,19 +83,24 @@ load_front items [] chosen n = omega arith
 load_front items (w ∷ ws) [] zero = omega arith
 load_front items (w ∷ ws) [] (suc n) = omega arith
 load_front items (w ∷ ws) (c ∷ cs) zero = omega arith
-load_front items (w ∷ ws) (c ∷ cs) (suc n) = let rest : delay_load items ws (take n cs) ≤ delay_load items ws cs = load_front items ws cs n in omega (arith, rest)
+load_front items (w ∷ ws) (c ∷ cs) (suc n) =
+    let rest : delay_load items ws (take n cs) ≤ delay_load items ws cs = load_front items ws cs n in omega (arith, rest)
 
-pub delay_more : (items : List (List NetId)) (waits chosen : List ℕ) (j : ℕ) (nets : List NetId) → slice_get items (get_or chosen j 0) ≡ Some nets → length waits ≡ length chosen → j < length chosen
+pub delay_more : (items : List (List NetId)) (waits chosen : List ℕ) (j : ℕ) (nets : List NetId) → slice_get items (get_or chosen j 0) ≡ Some nets
+    → length waits ≡ length chosen → j < length chosen
     → delay_load items waits (take j chosen) + get_or waits j 0 * length nets ≤ delay_load items waits (take (j + 1) chosen)
 delay_more items waits chosen j nets at long h =
     let i : ℕ = get_or chosen j 0 in
     let many : length (take j chosen) ≡ j = length-take-le j chosen (omega arith) in
-    let next : delay_load items waits (take (j + 1) chosen) ≡ delay_load items waits (take j chosen ++ i ∷ []) = ap (delay_load items waits) (take_more chosen j 0 h) in
-    let all : delay_load items waits (take j chosen ++ i ∷ []) ≡ delay_load items waits (take j chosen) + get_or waits (length (take j chosen)) 0 * length (get_or items i []) = load_push items waits (take j chosen) i (omega (arith, many)) in
+    let next : delay_load items waits (take (j + 1) chosen) ≡ delay_load items waits (take j chosen ++ i ∷ []) = ap (delay_load items waits)
+    (take_more chosen j 0 h) in
+    let all : delay_load items waits (take j chosen ++ i ∷ []) ≡ delay_load items waits (take j chosen) + get_or waits (length (take j chosen)) 0 * length
+    (get_or items i []) = load_push items waits (take j chosen) i (omega (arith, many)) in
     let own : get_or waits (length (take j chosen)) 0 * length (get_or items i []) ≡ get_or waits j 0 * length nets =
     ap (λ n. get_or waits n 0 * length (get_or items i [])) many ∙ ap (λ ns. get_or waits j 0 * length ns) (get_or_from_slice_get items i nets [] at) in
     omega (arith, next, all, own)
 
-pub delay_most : (items : List (List NetId)) (waits chosen : List ℕ) (j : ℕ) (nets : List NetId) → slice_get items (get_or chosen j 0) ≡ Some nets → length waits ≡ length chosen → j < length chosen
+pub delay_most : (items : List (List NetId)) (waits chosen : List ℕ) (j : ℕ) (nets : List NetId) → slice_get items (get_or chosen j 0) ≡ Some nets
+    → length waits ≡ length chosen → j < length chosen
     → delay_load items waits (take j chosen) + get_or waits j 0 * length nets ≤ delay_load items waits chosen
 delay_most items waits chosen j nets at long h = omega (arith, delay_more items waits chosen j nets at long h, load_front items waits chosen (j + 1))

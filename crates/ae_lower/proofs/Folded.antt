@@ -35,10 +35,12 @@ fold_width op t q =
     let turn : q % w % w ≡ q % w = ap (λ x. x % w) (sym none) ∙ mod-mul-add 0 w (q % w) low in
     let same : fold_at (element_folds op t) (q % w) ≡ fold_at (element_folds op t) q =
     ap (λ n. get_or (element_folds op t) (q % w % n) (record { op = Add; width = 0 })) (length-folds op t)
-    ∙ (ap (λ i. get_or (element_folds op t) i (record { op = Add; width = 0 })) turn ∙ ap (λ n. get_or (element_folds op t) (q % n) (record { op = Add; width = 0 })) (sym (length-folds op t))) in
+    ∙ (ap (λ i. get_or (element_folds op t) i (record { op = Add; width = 0 })) turn ∙
+    ap (λ n. get_or (element_folds op t) (q % n) (record { op = Add; width = 0 })) (sym (length-folds op t))) in
     ap (λ ws. slice_get ws (q % w)) (sym (append-nil (widths_of t))) ∙ (first ∙ ap (λ (f : WordFold). Some f.width) same)
 
-word_fits : (op : WordOp) (t : StTree) (n m : ℕ) (v : List ℕ) (p : ℕ) → folds op ≡ true → IsInSize t → 1 ≤ n * m → p < element_size t → AreWords (stream_of (tseq n 0 (sseq m t))) v
+word_fits : (op : WordOp) (t : StTree) (n m : ℕ) (v : List ℕ) (p : ℕ) → folds op ≡ true → IsInSize t → 1 ≤ n * m → p < element_size t
+    → AreWords (stream_of (tseq n 0 (sseq m t))) v
     → word_fold (element_folds op t) (element_size t) v p (n * m - 1) < 2 ^ (fold_at (element_folds op t) p).width
 word_fits op t n m v p ok size some low h =
     let all : AllFit (element_folds op t) (n * m) (element_size t) v = words_fit op t n m v h in
@@ -46,17 +48,21 @@ word_fits op t n m v p ok size some low h =
     (fold_op (element_folds op t) p (are_folds op t ok size)) (record { each = λ i li. all i p (omega (arith, li, some)) low })
 
 -- the fold of words of elements are words of one
-pub folded_words : (op : WordOp) (t : StTree) (n m : ℕ) (v : List ℕ) → folds op ≡ true → IsInSize t → 1 ≤ n * m → AreWords (stream_of (tseq n 0 (sseq m t))) v → AreWords (stream_of t) (folded op t (n * m) v)
+pub folded_words : (op : WordOp) (t : StTree) (n m : ℕ) (v : List ℕ) → folds op ≡ true → IsInSize t → 1 ≤ n * m → AreWords (stream_of (tseq n 0 (sseq m t))) v
+    → AreWords (stream_of t) (folded op t (n * m) v)
 folded_words op t n m v ok size some h = record {
-  long = length-map-range_with_len (λ p. word_fold (element_folds op t) (element_size t) v p (n * m - 1)) 0 (element_size t) ∙ (ap (λ k. k * element_words t) (sym (length-slots t)) ∙ ap (λ k. length (slots t) * k) (sym (length_widths t)));
+  long = length-map-range_with_len (λ p. word_fold (element_folds op t) (element_size t) v p (n * m - 1)) 0 (element_size t) ∙
+      (ap (λ k. k * element_words t) (sym (length-slots t)) ∙ ap (λ k. length (slots t) * k) (sym (length_widths t)));
   fit = λ i x w found wide.
       let at = numbered (λ p. word_fold (element_folds op t) (element_size t) v p (n * m - 1)) (element_size t) i x found in
-      let same : Some w ≡ Some (fold_at (element_folds op t) i).width = sym wide ∙ (ap (λ k. slice_get (widths_of t) (i % k)) (length_widths t) ∙ fold_width op t i) in
+      let same : Some w ≡ Some (fold_at (element_folds op t) i).width = sym wide ∙
+      (ap (λ k. slice_get (widths_of t) (i % k)) (length_widths t) ∙ fold_width op t i) in
       let is : w ≡ (fold_at (element_folds op t) i).width = cc in
       rw (← at.1, is) (word_fits op t n m v i ok size some at.0 h);
 }
 
-fold_typed_by : (op : WordOp) (t : StTree) (n m : ℕ) (vs : List (List ℕ)) → folds op ≡ true → IsInSize t → 1 ≤ n * m → AllAreWords (stream_of (tseq n 0 (sseq m t)) ∷ []) vs
+fold_typed_by : (op : WordOp) (t : StTree) (n m : ℕ) (vs : List (List ℕ)) → folds op ≡ true → IsInSize t → 1 ≤ n * m
+    → AllAreWords (stream_of (tseq n 0 (sseq m t)) ∷ []) vs
     → AllAreWords (stream_of t ∷ []) (folded op t (n * m) (get_or vs 0 []) ∷ [])
 fold_typed_by op t n m [] ok size some h = absurd h
 fold_typed_by op t n m (v ∷ []) ok size some h = (folded_words op t n m v ok size some h.0, tt)

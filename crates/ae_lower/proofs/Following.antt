@@ -5,7 +5,8 @@ use Rattle.ae_ops.specs.Blocks.{Stream, Part, BlockLaw, AllAreWords, AllHold, Ho
 use Rattle.ae_lower.specs.Parts.{plain_part, IsWithin, AllKeep, all_of}
 
 -- a stream of words, some clocks later
-late_holds : (clocks t k slack : ℕ) (s : Stream) (wave late : Wave) (ws : List ℕ) → IsWithin t s → IsLateWave clocks slack wave late → k + slack + t ≤ clocks → HoldsWords k s wave ws → HoldsWords (k + slack) s late ws
+late_holds : (clocks t k slack : ℕ) (s : Stream) (wave late : Wave) (ws : List ℕ) → IsWithin t s → IsLateWave clocks slack wave late → k + slack + t ≤ clocks
+    → HoldsWords k s wave ws → HoldsWords (k + slack) s late ws
 late_holds clocks t k slack s wave late ws within shift ends holds e j w at lt =
     let below : w.clock < t = within.clocks e w at in
     let place : k + slack + w.clock ≡ k + w.clock + slack = omega arith in
@@ -27,8 +28,10 @@ delayed clocks a t d slack ins out means waves wave late within shift law = reco
 }
 
 -- all arguments of a block are held where their parts start
-args_hold : (clocks a t d b : ℕ) (ins : List Stream) (waves : List Wave) (vs : List (List ℕ)) → a + d + (b + 1) * t ≤ clocks → AllAreWords ins vs → AllHold (a + b * t) ins waves vs
-    → (ss : List Stream) (ms : List (List (List ℕ) → List ℕ)) (ws : List Wave) → AllKeep clocks a t d ins waves ss ms ws → AllHold (a + d + b * t) ss ws (all_of ms vs)
+args_hold : (clocks a t d b : ℕ) (ins : List Stream) (waves : List Wave) (vs : List (List ℕ)) → a + d + (b + 1) * t ≤ clocks → AllAreWords ins vs
+    → AllHold (a + b * t) ins waves vs
+    → (ss : List Stream) (ms : List (List (List ℕ) → List ℕ)) (ws : List Wave) → AllKeep clocks a t d ins waves ss ms ws
+    → AllHold (a + d + b * t) ss ws (all_of ms vs)
 args_hold clocks a t d b ins waves vs ends words holds [] [] [] keep = tt
 args_hold clocks a t d b ins waves vs ends words holds [] [] (w ∷ ws) keep = absurd keep
 args_hold clocks a t d b ins waves vs ends words holds [] (m ∷ ms) ws keep = absurd keep

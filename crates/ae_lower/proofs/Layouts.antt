@@ -103,7 +103,8 @@ words_flat (v ∷ vs) (suc r) = words_flat vs r
 
 -- ---- the layouts of parameters and results
 
-pub laid_all : (clocks : ℕ) (ts : List SeqTree) (ss : List StTree) → map (λ t. lay_of t clocks) ts ≡ map (λ (x : StTree). Some x) ss → ((i : ℕ) (t : SeqTree) → slice_get ts i ≡ Some t → IsTrue (parts_in_size t)) → AllLaidOut ts ss
+pub laid_all : (clocks : ℕ) (ts : List SeqTree) (ss : List StTree) → map (λ t. lay_of t clocks) ts ≡ map (λ (x : StTree). Some x) ss
+    → ((i : ℕ) (t : SeqTree) → slice_get ts i ≡ Some t → IsTrue (parts_in_size t)) → AllLaidOut ts ss
 laid_all clocks [] [] h sized = tt
 laid_all clocks [] (x ∷ ss) h sized = cc
 laid_all clocks (t ∷ ts) [] h sized = cc
@@ -132,7 +133,8 @@ module _ (p : ProgramTree) (keys : Keys) (s : StFuncTree) (typed : IsTyped p) (h
   sized : (i : ℕ) (t : SeqTree) → slice_get (types_in p s.func) i ≡ Some t → IsTrue (parts_in_size t)
   sized i t e = whole_sized t (item-sized (types_in p s.func) i t (func-types p s.func h.of typed h.known).sized e)
 
-  param_sized : (ps : List ParamTree) → ((i : ℕ) (q : ParamTree) → slice_get ps i ≡ Some q → IsTrue (parts_in_size q.type)) → (i : ℕ) (t : SeqTree) → slice_get (types_of_params ps) i ≡ Some t → IsTrue (parts_in_size t)
+  param_sized : (ps : List ParamTree) → ((i : ℕ) (q : ParamTree) → slice_get ps i ≡ Some q → IsTrue (parts_in_size q.type)) → (i : ℕ) (t : SeqTree)
+      → slice_get (types_of_params ps) i ≡ Some t → IsTrue (parts_in_size t)
   param_sized [] each i t e = absurd (none-some t e)
   param_sized (q ∷ ps) each zero t e = subst (λ (u : SeqTree). IsTrue (parts_in_size u)) (same_Some q.type t e) (each 0 q refl)
   param_sized (q ∷ ps) each (suc i) t e = param_sized ps (λ j r f. each (suc j) r f) i t e
@@ -141,14 +143,18 @@ module _ (p : ProgramTree) (keys : Keys) (s : StFuncTree) (typed : IsTyped p) (h
   pub inputs_laid : AllLaidOut (parameter_types p) s.ins
   inputs_laid =
       laid_all s.budget (parameter_types p) s.ins parameters_laid (λ i t e.
-      param_sized h.of.params (λ j q f. sized j q.type (sym (type-at-is p s.func j typed) ∙ param-type p s.func j h.of q h.known f)) i t (ap (λ ts. slice_get ts i) (sym own_types) ∙ e))
+      param_sized h.of.params (λ j q f. sized j q.type (sym (type-at-is p s.func j typed) ∙ param-type p s.func j h.of q h.known f)) i t
+      (ap (λ ts. slice_get ts i) (sym own_types) ∙ e))
 
   results_each : (rs : List ℕ) → ((j r : ℕ) → slice_get rs j ≡ Some r → r < length (item_layouts s))
-      → map (λ (o : Option SeqTree). o >>= λ t. lay_of t s.budget) (map (type_at p s.func) rs) ≡ map (λ (x : StTree). Some x) (map (item_layout (item_layouts s)) rs)
+      → map (λ (o : Option SeqTree). o >>= λ t. lay_of t s.budget) (map (type_at p s.func) rs) ≡ map (λ (x : StTree). Some x)
+      (map (item_layout (item_layouts s)) rs)
   results_each [] below = refl
   results_each (r ∷ rs) below = λ i. item_laid p keys s h r (below 0 r refl) i ∷ results_each rs (λ j q e. below (suc j) q e) i
 
-  pub results_laid : ((j r : ℕ) → slice_get s.results j ≡ Some r → r < length (item_layouts s)) → map (λ (o : Option SeqTree). o >>= λ t. lay_of t s.budget) (result_types p) ≡ map (λ (x : StTree). Some x) (results_of s)
+  pub results_laid : ((j r : ℕ) → slice_get s.results j ≡ Some r → r < length (item_layouts s))
+      → map (λ (o : Option SeqTree). o >>= λ t. lay_of t s.budget) (result_types p) ≡ map (λ (x : StTree). Some x) (results_of s)
   results_laid below =
-      let own : result_types p ≡ map (type_at p s.func) s.results = ap (λ f. map (type_at p f) (results_in (slice_get p.funcs (main_of p)))) (sym last) ∙ ap (map (type_at p s.func)) (ap results_in known ∙ sym h.results) in
+      let own : result_types p ≡ map (type_at p s.func) s.results = ap (λ f. map (type_at p f) (results_in (slice_get p.funcs (main_of p)))) (sym last) ∙
+      ap (map (type_at p s.func)) (ap results_in known ∙ sym h.results) in
       ap (map (λ (o : Option SeqTree). o >>= λ t. lay_of t s.budget)) own ∙ results_each s.results below

@@ -26,7 +26,8 @@ below_more n l last before k h = elim (cases_lt k l) [
 same_levels : (n l more : ℕ) → 1 ≤ n → n ≤ 2 ^ (l + more) → ((k : ℕ) → k < l → 2 ^ k < n) → levels_up n ≡ least_power n l more
 same_levels n l zero some enough before = (let z : l + zero ≡ l = omega arith in log_up_is n l some (rw z at enough) before ∙ sym (power_last n l))
 same_levels n l (suc more) some enough before = elim (cases_lt (2 ^ l) n) [
-  | inl low ↦ (let place : l + suc more ≡ l + 1 + more = omega arith in same_levels n (l + 1) more some (rw place at enough) (below_more n l low before) ∙ sym (power_next n l more low))
+  | inl low ↦ (let place : l + suc more ≡ l + 1 + more = omega arith in same_levels n (l + 1) more some (rw place at enough) (below_more n l low before) ∙
+      sym (power_next n l more low))
   | inr high ↦ log_up_is n l some high before ∙ sym (power_found n l more high)
 ]
 

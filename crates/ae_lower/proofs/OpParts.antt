@@ -40,7 +40,8 @@ where_product SMax n = refl
 where_product (Sar k) n = refl
 where_product (SCast k) n = refl
 
-pub word_is : (known : List Callee) (budget copies : ℕ) (args : List StTree) (arg s : StTree) (op : WordOp) → FitsWord op args s → IsOpPart known budget copies args arg s (word op) (word_part op (width_of op args) budget)
+pub word_is : (known : List Callee) (budget copies : ℕ) (args : List StTree) (arg s : StTree) (op : WordOp) → FitsWord op args s
+    → IsOpPart known budget copies args arg s (word op) (word_part op (width_of op args) budget)
 word_is known budget copies args arg s op fits = record {
   period = refl;
   latency = refl;
@@ -52,7 +53,8 @@ word_is known budget copies args arg s op fits = record {
   memories = omega arith;
 }
 
-pub move_is : (known : List Callee) (budget copies : ℕ) (a s : StTree) (how : MoveOp) → time s ≡ budget → IsOpPart known budget copies (a ∷ []) a s (move how) (gather_part (op_move how a s))
+pub move_is : (known : List Callee) (budget copies : ℕ) (a s : StTree) (how : MoveOp) → time s ≡ budget
+    → IsOpPart known budget copies (a ∷ []) a s (move how) (gather_part (op_move how a s))
 move_is known budget copies a s how fills = record {
   period = fills;
   latency = refl;
@@ -83,7 +85,8 @@ greatest_none f (x ∷ xs) h =
     let here : f x ≡ 0 = h 0 x refl in
     rw here (greatest_none f xs (λ i y found. h (suc i) y found))
 
-no_leads : (ws : List ℕ) (s : StTree) (numbers : List ℕ) (i : ℕ) (t : TripTree) → slice_get (map (trip_number [] s (map fixed ws)) numbers) i ≡ Some t → lead_from t.clock t.source ≡ 0
+no_leads : (ws : List ℕ) (s : StTree) (numbers : List ℕ) (i : ℕ) (t : TripTree) → slice_get (map (trip_number [] s (map fixed ws)) numbers) i ≡ Some t
+    → lead_from t.clock t.source ≡ 0
 no_leads ws s [] i t found = cc
 no_leads ws s (o ∷ numbers) zero t found =
     let same : Some (trip_number [] s (map fixed ws) o) ≡ Some t = found in
@@ -93,13 +96,15 @@ no_leads ws s (o ∷ numbers) (suc i) t found = no_leads ws s numbers i t found
 
 pub constant_latency : (ws : List ℕ) (s : StTree) → move_latency (constant_move ws s) ≡ 0
 constant_latency ws s =
-    greatest_none (λ (t : TripTree). lead_from t.clock t.source) (trips_of [] s (map fixed ws)) (λ i t found. no_leads ws s (range_with_len 0 (st_atoms s * element_words s)) i t found)
+    greatest_none (λ (t : TripTree). lead_from t.clock t.source) (trips_of [] s (map fixed ws))
+    (λ i t found. no_leads ws s (range_with_len 0 (st_atoms s * element_words s)) i t found)
 
 constant_words : (vs : List (List ℕ)) (ws : List ℕ) → map (origin_word [] vs) (map fixed ws) ≡ ws
 constant_words vs [] = refl
 constant_words vs (w ∷ ws) = ap (λ xs. w ∷ xs) (constant_words vs ws)
 
-pub constant_is : (known : List Callee) (budget copies : ℕ) (arg s : StTree) (ws : List ℕ) → time s ≡ budget → IsOpPart known budget copies [] arg s (fixed_op ws) (gather_part (constant_move ws s))
+pub constant_is : (known : List Callee) (budget copies : ℕ) (arg s : StTree) (ws : List ℕ) → time s ≡ budget
+    → IsOpPart known budget copies [] arg s (fixed_op ws) (gather_part (constant_move ws s))
 constant_is known budget copies arg s ws fills = record {
   period = fills;
   latency = constant_latency ws s;

@@ -12,7 +12,8 @@ use Rattle.ae_lower.specs.Laws.{CircuitsAreFor}
 use Rattle.ae_lower.proofs.Blocks.{keys_of, program_instance, results_streams}
 use Rattle.ae_lower.proofs.Layouts.{parameters_laid, results_laid}
 
-pub layouts : (p : ProgramTree) (slowdown : ℕ) (instances : List StFuncTree) (s : StFuncTree) → IsTyped p → IsSchedule p slowdown instances → IsSound instances → slice_get instances (last_of instances) ≡ Some s
+pub layouts : (p : ProgramTree) (slowdown : ℕ) (instances : List StFuncTree) (s : StFuncTree) → IsTyped p → IsSchedule p slowdown instances → IsSound instances
+    → slice_get instances (last_of instances) ≡ Some s
     → HaveLayouts p slowdown s.ins (results_of s)
 layouts p slowdown instances s typed schedule sound found =
     let own = program_instance p slowdown instances s schedule found in

@@ -44,11 +44,15 @@ argument_at s n k = item_layout (item_layouts s) (get_or n.args k 0)
 pub ready_some : (cells : List SizedCell) (s : StFuncTree) (n : StNodeTree) (args : List (List NetId)) → IsReady cells s n args → 1 ≤ s.budget
 ready_some cells s n args h = omega (arith, time_pos n.type h.layout.size.lengths, h.layout.time)
 
-pub ready_below : (cells : List SizedCell) (s : StFuncTree) (n : StNodeTree) (args : List (List NetId)) (k : ℕ) → IsReady cells s n args → k < length n.args → get_or n.args k 0 < length (item_layouts s)
+pub ready_below : (cells : List SizedCell) (s : StFuncTree) (n : StNodeTree) (args : List (List NetId)) (k : ℕ) → IsReady cells s n args → k < length n.args
+    → get_or n.args k 0 < length (item_layouts s)
 ready_below cells s n args k h low = h.below k (get_or n.args k 0) (slice_get-get_or n.args k 0 low)
 
-pub ready_item : (cells : List SizedCell) (s : StFuncTree) (n : StNodeTree) (args : List (List NetId)) (k : ℕ) → IsReady cells s n args → k < length n.args → IsFilling s.budget (argument_at s n k)
-ready_item cells s n args k h low = h.items (get_or n.args k 0) (argument_at s n k) (slice_get-get_or (item_layouts s) (get_or n.args k 0) (sseq 0 (atom (unsigned_word 1))) (ready_below cells s n args k h low))
+pub ready_item : (cells : List SizedCell) (s : StFuncTree) (n : StNodeTree) (args : List (List NetId)) (k : ℕ) → IsReady cells s n args → k < length n.args
+    → IsFilling s.budget (argument_at s n k)
+ready_item cells s n args k h low =
+    h.items (get_or n.args k 0) (argument_at s n k) (slice_get-get_or (item_layouts s) (get_or n.args k 0) (sseq 0 (atom (unsigned_word 1)))
+    (ready_below cells s n args k h low))
 
 -- a list of one
 pub record IsOnly (xs : List ℕ) : Type 0 where
@@ -59,20 +63,25 @@ only_low xs h = (let one : length xs ≡ 1 = ap length h.is in omega (arith, one
 
 -- ---- moves
 
-move_fits : (before : List StFuncTree) (budget copies : ℕ) (f : ℕ → StTree) (xs : List ℕ) (s : StTree) (how : MoveOp) → FitsOp before budget copies (map f xs) s (move how) → IsOnly xs × FitsMove how (f (get_or xs 0 0)) s
+move_fits : (before : List StFuncTree) (budget copies : ℕ) (f : ℕ → StTree) (xs : List ℕ) (s : StTree) (how : MoveOp)
+    → FitsOp before budget copies (map f xs) s (move how) → IsOnly xs × FitsMove how (f (get_or xs 0 0)) s
 move_fits before budget copies f [] s how h = absurd h
 move_fits before budget copies f (x ∷ []) s how h = (record { is = refl }, h)
 move_fits before budget copies f (x ∷ y ∷ xs) s how h = absurd h
 
-pub ready_move : (cells : List SizedCell) (s : StFuncTree) (n : StNodeTree) (args : List (List NetId)) (how : MoveOp) → IsReady cells s n args → n.op ≡ move how → IsOnly n.args × FitsMove how (argument_at s n 0) n.type
+pub ready_move : (cells : List SizedCell) (s : StFuncTree) (n : StNodeTree) (args : List (List NetId)) (how : MoveOp) → IsReady cells s n args
+    → n.op ≡ move how → IsOnly n.args × FitsMove how (argument_at s n 0) n.type
 ready_move cells s n args how h e =
-    move_fits h.fits.0 s.budget n.copies (item_layout (item_layouts s)) n.args n.type how (subst (λ op. FitsOp h.fits.0 s.budget n.copies (arguments_of s n) n.type op) e h.fits.1)
+    move_fits h.fits.0 s.budget n.copies (item_layout (item_layouts s)) n.args n.type how
+    (subst (λ op. FitsOp h.fits.0 s.budget n.copies (arguments_of s n) n.type op) e h.fits.1)
 
-pub move_node : (cells : List SizedCell) (s : StFuncTree) (n : StNodeTree) (args : List (List NetId)) (how : MoveOp) (m : Move) → IsReady cells s n args → n.op ≡ move how → m ≡ op_move how (argument_at s n 0) n.type
+pub move_node : (cells : List SizedCell) (s : StFuncTree) (n : StNodeTree) (args : List (List NetId)) (how : MoveOp) (m : Move) → IsReady cells s n args
+    → n.op ≡ move how → m ≡ op_move how (argument_at s n 0) n.type
     → (known : List Callee) → IsNodePart known s n (gather_part m)
 move_node cells s n args how m h e is known =
     let one = ready_move cells s n args how h e in
-    of_node known s n (get_or n.args 0 0 ∷ []) (move how) (gather_part m) e one.0.is (rw is (move_is known s.budget n.copies (argument_at s n 0) n.type how h.layout.time))
+    of_node known s n (get_or n.args 0 0 ∷ []) (move how) (gather_part m) e one.0.is
+    (rw is (move_is known s.budget n.copies (argument_at s n 0) n.type how h.layout.time))
 
 -- ---- constants
 
@@ -80,15 +89,19 @@ none_from : (f : ℕ → StTree) (xs : List ℕ) → map f xs ≡ [] → xs ≡ 
 none_from f [] h = refl
 none_from f (x ∷ xs) h = cc
 
-pub ready_fixed : (cells : List SizedCell) (s : StFuncTree) (n : StNodeTree) (args : List (List NetId)) (ws : List ℕ) → IsReady cells s n args → n.op ≡ fixed ws → (n.args ≡ []) × FixedFits n.type ws
+pub ready_fixed : (cells : List SizedCell) (s : StFuncTree) (n : StNodeTree) (args : List (List NetId)) (ws : List ℕ) → IsReady cells s n args
+    → n.op ≡ fixed ws → (n.args ≡ []) × FixedFits n.type ws
 ready_fixed cells s n args ws h e =
-    let fits : FitsOp h.fits.0 s.budget n.copies (arguments_of s n) n.type (fixed ws) = subst (λ op. FitsOp h.fits.0 s.budget n.copies (arguments_of s n) n.type op) e h.fits.1 in
+    let fits : FitsOp h.fits.0 s.budget n.copies (arguments_of s n) n.type (fixed ws) = subst
+    (λ op. FitsOp h.fits.0 s.budget n.copies (arguments_of s n) n.type op) e h.fits.1 in
     (none_from (item_layout (item_layouts s)) n.args fits.0, fits.1)
 
-pub fixed_node : (cells : List SizedCell) (s : StFuncTree) (n : StNodeTree) (args : List (List NetId)) (ws : List ℕ) (m : Move) → IsReady cells s n args → n.op ≡ fixed ws → m ≡ constant_move ws n.type
+pub fixed_node : (cells : List SizedCell) (s : StFuncTree) (n : StNodeTree) (args : List (List NetId)) (ws : List ℕ) (m : Move) → IsReady cells s n args
+    → n.op ≡ fixed ws → m ≡ constant_move ws n.type
     → (known : List Callee) → IsNodePart known s n (gather_part m)
 fixed_node cells s n args ws m h e is known =
-    of_node known s n [] (fixed ws) (gather_part m) e (ready_fixed cells s n args ws h e).0 (rw is (constant_is known s.budget n.copies (item_layout (item_layouts s) 0) n.type ws h.layout.time))
+    of_node known s n [] (fixed ws) (gather_part m) e (ready_fixed cells s n args ws h e).0
+    (rw is (constant_is known s.budget n.copies (item_layout (item_layouts s) 0) n.type ws h.layout.time))
 
 -- ---- folds and scans
 
@@ -96,49 +109,67 @@ fixed_node cells s n args ws m h e is known =
 abbrev pub IsFoldOf : WordOp → (slots lanes budget : ℕ) → (StTree → Type 0) → FoldShape → Type 0
 IsFoldOf op n m budget Fits f = (f.op ≡ op) × (f.slots ≡ n) × (f.lanes ≡ m) × (f.period ≡ budget) × Fits (st_tree f.element)
 
-shape_as : (f : FoldShape) (op : WordOp) (n m budget : ℕ) → f.op ≡ op → f.slots ≡ n → f.lanes ≡ m → f.period ≡ budget → f ≡ record { op = op; slots = n; lanes = m; element = f.element; period = budget }
+shape_as : (f : FoldShape) (op : WordOp) (n m budget : ℕ) → f.op ≡ op → f.slots ≡ n → f.lanes ≡ m → f.period ≡ budget
+    → f ≡ record { op = op; slots = n; lanes = m; element = f.element; period = budget }
 shape_as f op n m budget eo es el ep = rw (← eo, ← es, ← el, ← ep) refl
 
-fold_fits : (before : List StFuncTree) (budget copies : ℕ) (f : ℕ → StTree) (xs : List ℕ) (s raw : StTree) (op : WordOp) (n m : ℕ) → FitsOp before budget copies (map f xs) s (fold op n m raw) → IsOnly xs × FitsFold budget op n m raw (f (get_or xs 0 0)) s
+fold_fits : (before : List StFuncTree) (budget copies : ℕ) (f : ℕ → StTree) (xs : List ℕ) (s raw : StTree) (op : WordOp) (n m : ℕ)
+    → FitsOp before budget copies (map f xs) s (fold op n m raw) → IsOnly xs × FitsFold budget op n m raw (f (get_or xs 0 0)) s
 fold_fits before budget copies f [] s raw op n m h = absurd h
 fold_fits before budget copies f (x ∷ []) s raw op n m h = (record { is = refl }, h)
 fold_fits before budget copies f (x ∷ y ∷ xs) s raw op n m h = absurd h
 
-fold_sound : (k budget : ℕ) (f : ℕ → StTree) (xs : List ℕ) (s raw : StTree) (op : WordOp) (n m : ℕ) → IsSoundOp k budget (map f xs) s (fold op n m raw) → IsRawFor budget raw s × IsSpread n m
+fold_sound : (k budget : ℕ) (f : ℕ → StTree) (xs : List ℕ) (s raw : StTree) (op : WordOp) (n m : ℕ) → IsSoundOp k budget (map f xs) s (fold op n m raw)
+    → IsRawFor budget raw s × IsSpread n m
 fold_sound k budget f [] s raw op n m h = absurd h
 fold_sound k budget f (x ∷ []) s raw op n m h = h
 fold_sound k budget f (x ∷ y ∷ xs) s raw op n m h = absurd h
 
-pub ready_fold : (cells : List SizedCell) (s : StFuncTree) (n : StNodeTree) (args : List (List NetId)) (op : WordOp) (k m : ℕ) (raw : StTree) → IsReady cells s n args → n.op ≡ fold op k m raw
+pub ready_fold : (cells : List SizedCell) (s : StFuncTree) (n : StNodeTree) (args : List (List NetId)) (op : WordOp) (k m : ℕ) (raw : StTree)
+    → IsReady cells s n args → n.op ≡ fold op k m raw
     → IsOnly n.args × FitsFold s.budget op k m raw (argument_at s n 0) n.type
 ready_fold cells s n args op k m raw h e =
-    fold_fits h.fits.0 s.budget n.copies (item_layout (item_layouts s)) n.args n.type raw op k m (subst (λ o. FitsOp h.fits.0 s.budget n.copies (arguments_of s n) n.type o) e h.fits.1)
+    fold_fits h.fits.0 s.budget n.copies (item_layout (item_layouts s)) n.args n.type raw op k m
+    (subst (λ o. FitsOp h.fits.0 s.budget n.copies (arguments_of s n) n.type o) e h.fits.1)
 
-pub raw_fold : (cells : List SizedCell) (s : StFuncTree) (n : StNodeTree) (args : List (List NetId)) (op : WordOp) (k m : ℕ) (raw : StTree) → IsReady cells s n args → n.op ≡ fold op k m raw → IsRawFor s.budget raw n.type × IsSpread k m
+pub raw_fold : (cells : List SizedCell) (s : StFuncTree) (n : StNodeTree) (args : List (List NetId)) (op : WordOp) (k m : ℕ) (raw : StTree)
+    → IsReady cells s n args → n.op ≡ fold op k m raw → IsRawFor s.budget raw n.type × IsSpread k m
 raw_fold cells s n args op k m raw h e =
-    fold_sound h.sound.0 s.budget (item_layout (item_layouts s)) n.args n.type raw op k m (subst (λ o. IsSoundOp h.sound.0 s.budget (arguments_of s n) n.type o) e h.sound.1)
+    fold_sound h.sound.0 s.budget (item_layout (item_layouts s)) n.args n.type raw op k m
+    (subst (λ o. IsSoundOp h.sound.0 s.budget (arguments_of s n) n.type o) e h.sound.1)
 
-pub fold_shape : (cells : List SizedCell) (s : StFuncTree) (n : StNodeTree) (args : List (List NetId)) (op : WordOp) (k m : ℕ) (raw : StTree) (f : FoldShape) → IsReady cells s n args → n.op ≡ fold op k m raw
+pub fold_shape : (cells : List SizedCell) (s : StFuncTree) (n : StNodeTree) (args : List (List NetId)) (op : WordOp) (k m : ℕ) (raw : StTree) (f : FoldShape)
+    → IsReady cells s n args → n.op ≡ fold op k m raw
     → IsFoldOf op k m s.budget (λ t. IsOneOf t raw) f → folds f.op ≡ true × IsInSize (st_tree f.element) × (1 ≤ f.slots) × (1 ≤ f.lanes)
 fold_shape cells s n args op k m raw f h e is =
     let fits = (ready_fold cells s n args op k m raw h e).1 in
-    let sound = raw_fold cells s n args op k m raw h e in
-    (ap folds is.0 ∙ fits.foldable, one_size (st_tree f.element) raw is.4 sound.0.layout.size, omega (arith, is.1, sound.1.some_slots), omega (arith, is.2, sound.1.some_lanes))
+    let sound = raw_fold cells s n args op k m raw h e in (
+      ap folds is.0 ∙ fits.foldable,
+      one_size (st_tree f.element) raw is.4 sound.0.layout.size,
+      omega (arith, is.1, sound.1.some_slots),
+      omega (arith, is.2, sound.1.some_lanes),
+    )
 
-pub fold_node : (cells : List SizedCell) (s : StFuncTree) (n : StNodeTree) (args : List (List NetId)) (op : WordOp) (k m : ℕ) (raw : StTree) (f : FoldShape) (mv : Move) → IsReady cells s n args → n.op ≡ fold op k m raw
-    → IsFoldOf op k m s.budget (λ t. IsOneOf t raw) f → mv ≡ op_move Same raw n.type → (known : List Callee) → IsNodePart known s n (part_behind (reduce_part f) (gather_part mv))
+pub fold_node : (cells : List SizedCell) (s : StFuncTree) (n : StNodeTree) (args : List (List NetId)) (op : WordOp) (k m : ℕ) (raw : StTree) (f : FoldShape)
+    (mv : Move) → IsReady cells s n args → n.op ≡ fold op k m raw
+    → IsFoldOf op k m s.budget (λ t. IsOneOf t raw) f → mv ≡ op_move Same raw n.type → (known : List Callee)
+    → IsNodePart known s n (part_behind (reduce_part f) (gather_part mv))
 fold_node cells s n args op k m raw f mv h e is moved known =
     let fits = ready_fold cells s n args op k m raw h e in
     let sound = raw_fold cells s n args op k m raw h e in
     let P : FoldShape → Type 0 = λ g. IsNodePart known s n (part_behind (reduce_part g) (gather_part mv)) in
     subst P (sym (shape_as f op k m s.budget is.0 is.1 is.2 is.3))
-    (of_node known s n (get_or n.args 0 0 ∷ []) (fold op k m raw) _ e fits.0.is (rw moved (fold_is known s.budget n.copies k m op f.element raw (argument_at s n 0) n.type is.4 fits.1 sound.0 sound.1 h.layout.time (ready_some cells s n args h))))
+    (of_node known s n (get_or n.args 0 0 ∷ []) (fold op k m raw) _ e fits.0.is
+    (rw moved (fold_is known s.budget n.copies k m op f.element raw (argument_at s n 0) n.type is.4 fits.1 sound.0 sound.1 h.layout.time
+    (ready_some cells s n args h))))
 
 -- the move takes what the fold gives
-pub fold_follows : (raw s : StTree) (f : FoldShape) (mv : Move) → IsOneOf (st_tree f.element) raw → mv ≡ op_move Same raw s → (gather_part mv).ins ≡ (reduce_part f).out ∷ []
+pub fold_follows : (raw s : StTree) (f : FoldShape) (mv : Move) → IsOneOf (st_tree f.element) raw → mv ≡ op_move Same raw s
+    → (gather_part mv).ins ≡ (reduce_part f).out ∷ []
 fold_follows raw s f mv one is = ap (λ (v : Move). (gather_part v).ins) is ∙ ap (λ x. x ∷ []) (one_stream (st_tree f.element) raw one)
 
-pub fold_short : (cells : List SizedCell) (s : StFuncTree) (n : StNodeTree) (args : List (List NetId)) (op : WordOp) (k m : ℕ) (raw : StTree) (f : FoldShape) → IsReady cells s n args → n.op ≡ fold op k m raw
+pub fold_short : (cells : List SizedCell) (s : StFuncTree) (n : StNodeTree) (args : List (List NetId)) (op : WordOp) (k m : ℕ) (raw : StTree) (f : FoldShape)
+    → IsReady cells s n args → n.op ≡ fold op k m raw
     → IsFoldOf op k m s.budget (λ t. IsOneOf t raw) f → reduce_latency f ≤ 100000
 fold_short cells s n args op k m raw f h e is =
     let sound = raw_fold cells s n args op k m raw h e in
@@ -150,7 +181,8 @@ fold_short cells s n args op k m raw f h e is =
     let levels = log_same f.lanes (omega (arith, is.2, sound.1.some_lanes)) (omega (arith, is.2, sound.1.few_lanes)) in
     omega (arith, wait, levels, log_few f.lanes)
 
-scan_fits : (before : List StFuncTree) (budget copies : ℕ) (f : ℕ → StTree) (xs : List ℕ) (s : StTree) (op : WordOp) (n m : ℕ) → FitsOp before budget copies (map f xs) s (scan op n m) → IsOnly xs × FitsScan budget op n m (f (get_or xs 0 0)) s
+scan_fits : (before : List StFuncTree) (budget copies : ℕ) (f : ℕ → StTree) (xs : List ℕ) (s : StTree) (op : WordOp) (n m : ℕ)
+    → FitsOp before budget copies (map f xs) s (scan op n m) → IsOnly xs × FitsScan budget op n m (f (get_or xs 0 0)) s
 scan_fits before budget copies f [] s op n m h = absurd h
 scan_fits before budget copies f (x ∷ []) s op n m h = (record { is = refl }, h)
 scan_fits before budget copies f (x ∷ y ∷ xs) s op n m h = absurd h
@@ -160,22 +192,32 @@ scan_sound k budget f [] s op n m h = absurd h
 scan_sound k budget f (x ∷ []) s op n m h = h
 scan_sound k budget f (x ∷ y ∷ xs) s op n m h = absurd h
 
-pub ready_scan : (cells : List SizedCell) (s : StFuncTree) (n : StNodeTree) (args : List (List NetId)) (op : WordOp) (k m : ℕ) → IsReady cells s n args → n.op ≡ scan op k m
+pub ready_scan : (cells : List SizedCell) (s : StFuncTree) (n : StNodeTree) (args : List (List NetId)) (op : WordOp) (k m : ℕ) → IsReady cells s n args
+    → n.op ≡ scan op k m
     → IsOnly n.args × FitsScan s.budget op k m (argument_at s n 0) n.type × IsSpread k m
 ready_scan cells s n args op k m h e =
-    let fits = scan_fits h.fits.0 s.budget n.copies (item_layout (item_layouts s)) n.args n.type op k m (subst (λ o. FitsOp h.fits.0 s.budget n.copies (arguments_of s n) n.type o) e h.fits.1) in
-    (fits.0, fits.1, scan_sound h.sound.0 s.budget (item_layout (item_layouts s)) n.args n.type op k m (subst (λ o. IsSoundOp h.sound.0 s.budget (arguments_of s n) n.type o) e h.sound.1))
+    let fits = scan_fits h.fits.0 s.budget n.copies (item_layout (item_layouts s)) n.args n.type op k m
+    (subst (λ o. FitsOp h.fits.0 s.budget n.copies (arguments_of s n) n.type o) e h.fits.1) in (
+      fits.0,
+      fits.1,
+      scan_sound h.sound.0 s.budget (item_layout (item_layouts s)) n.args n.type op k m
+          (subst (λ o. IsSoundOp h.sound.0 s.budget (arguments_of s n) n.type o) e h.sound.1),
+    )
 
-pub scan_node : (cells : List SizedCell) (s : StFuncTree) (n : StNodeTree) (args : List (List NetId)) (op : WordOp) (k m : ℕ) (f : FoldShape) → IsReady cells s n args → n.op ≡ scan op k m
+pub scan_node : (cells : List SizedCell) (s : StFuncTree) (n : StNodeTree) (args : List (List NetId)) (op : WordOp) (k m : ℕ) (f : FoldShape)
+    → IsReady cells s n args → n.op ≡ scan op k m
     → IsFoldOf op k m s.budget (λ t. IsArranged k m t n.type) f → (known : List Callee) → IsNodePart known s n (scan_part f)
 scan_node cells s n args op k m f h e is known =
     let fits = ready_scan cells s n args op k m h e in
     subst (λ g. IsNodePart known s n (scan_part g)) (sym (shape_as f op k m s.budget is.0 is.1 is.2 is.3))
-    (of_node known s n (get_or n.args 0 0 ∷ []) (scan op k m) _ e fits.0.is (scan_is known s.budget n.copies k m op f.element (argument_at s n 0) n.type is.4 fits.1 fits.2))
+    (of_node known s n (get_or n.args 0 0 ∷ []) (scan op k m) _ e fits.0.is
+    (scan_is known s.budget n.copies k m op f.element (argument_at s n 0) n.type is.4 fits.1 fits.2))
 
 -- the layout of an item that is found among the arguments
-pub found_item : (cells : List SizedCell) (s : StFuncTree) (n : StNodeTree) (args : List (List NetId)) (k a : ℕ) → IsReady cells s n args → slice_get n.args k ≡ Some a → IsFilling s.budget (item_layout (item_layouts s) a)
-found_item cells s n args k a h found = h.items a (item_layout (item_layouts s) a) (slice_get-get_or (item_layouts s) a (sseq 0 (atom (unsigned_word 1))) (h.below k a found))
+pub found_item : (cells : List SizedCell) (s : StFuncTree) (n : StNodeTree) (args : List (List NetId)) (k a : ℕ) → IsReady cells s n args
+    → slice_get n.args k ≡ Some a → IsFilling s.budget (item_layout (item_layouts s) a)
+found_item cells s n args k a h found =
+    h.items a (item_layout (item_layouts s) a) (slice_get-get_or (item_layouts s) a (sseq 0 (atom (unsigned_word 1))) (h.below k a found))
 
 -- ---- operators on words
 
@@ -201,16 +243,20 @@ operands_some SMax w = omega arith
 operands_some (Sar k) w = omega arith
 operands_some (SCast k) w = omega arith
 
-pub ready_word : (cells : List SizedCell) (s : StFuncTree) (n : StNodeTree) (args : List (List NetId)) (op : WordOp) → IsReady cells s n args → n.op ≡ word op → length n.args ≡ length (operand_widths op (width_of op (arguments_of s n)))
+pub ready_word : (cells : List SizedCell) (s : StFuncTree) (n : StNodeTree) (args : List (List NetId)) (op : WordOp) → IsReady cells s n args → n.op ≡ word op
+    → length n.args ≡ length (operand_widths op (width_of op (arguments_of s n)))
 ready_word cells s n args op h e =
     let fits : FitsWord op (arguments_of s n) n.type = subst (λ o. FitsOp h.fits.0 s.budget n.copies (arguments_of s n) n.type o) e h.fits.1 in
-    let all : length (streams_of (arguments_of s n)) ≡ length n.args = length-map (arguments_of s n) stream_of ∙ length-map n.args (item_layout (item_layouts s)) in
+    let all : length (streams_of (arguments_of s n)) ≡ length n.args = length-map (arguments_of s n) stream_of ∙
+    length-map n.args (item_layout (item_layouts s)) in
     sym all ∙ (ap length fits.ins ∙ length-map (operand_widths op (width_of op (arguments_of s n))) word_stream)
 
-pub word_some : (cells : List SizedCell) (s : StFuncTree) (n : StNodeTree) (args : List (List NetId)) (op : WordOp) → IsReady cells s n args → n.op ≡ word op → 0 < length n.args
+pub word_some : (cells : List SizedCell) (s : StFuncTree) (n : StNodeTree) (args : List (List NetId)) (op : WordOp) → IsReady cells s n args → n.op ≡ word op
+    → 0 < length n.args
 word_some cells s n args op h e = omega (arith, ready_word cells s n args op h e, operands_some op (width_of op (arguments_of s n)))
 
-pub choice_some : (cells : List SizedCell) (s : StFuncTree) (n : StNodeTree) (args : List (List NetId)) (op : WordOp) → IsReady cells s n args → n.op ≡ word op → op ≡ Mux → 1 < length n.args
+pub choice_some : (cells : List SizedCell) (s : StFuncTree) (n : StNodeTree) (args : List (List NetId)) (op : WordOp) → IsReady cells s n args → n.op ≡ word op
+    → op ≡ Mux → 1 < length n.args
 choice_some cells s n args op h e is =
     let w : ℕ = width_of op (arguments_of s n) in
     let three : length (operand_widths op w) ≡ 3 = ap (λ o. length (operand_widths o w)) is in

@@ -76,11 +76,13 @@ split wave k n m t ws q l lq ll holds a j s at lt =
     rw (wide) (rw (clock, column, piece_word ws (layout_words t) (q * m + l) (a * W + j) below, ← word) (rw (← wide) held))
 
 pos_right : (n m k e : ℕ) → e < n * (m * k) → 1 ≤ k
-pos_right n m zero e h = let z : n * (m * zero) ≡ 0 = ap (λ x. n * x) (let y : m * zero ≡ 0 = omega arith in y) ∙ (let y : n * 0 ≡ 0 = omega arith in y) in absurd (omega arith)
+pos_right n m zero e h =
+    let z : n * (m * zero) ≡ 0 = ap (λ x. n * x) (let y : m * zero ≡ 0 = omega arith in y) ∙ (let y : n * 0 ≡ 0 = omega arith in y) in absurd (omega arith)
 pos_right n m (suc k) e h = omega arith
 
 pos_left : (n m k e : ℕ) → e < n * (m * k) → 1 ≤ m
-pos_left n zero k e h = let y : zero * k ≡ 0 = omega arith in let z : n * (zero * k) ≡ 0 = ap (λ x. n * x) y ∙ (let w : n * 0 ≡ 0 = omega arith in w) in absurd (omega arith)
+pos_left n zero k e h =
+    let y : zero * k ≡ 0 = omega arith in let z : n * (zero * k) ≡ 0 = ap (λ x. n * x) y ∙ (let w : n * 0 ≡ 0 = omega arith in w) in absurd (omega arith)
 pos_left n (suc m) k e h = omega arith
 
 -- a wave that holds each element on its lane block, in its slot, holds all
@@ -127,7 +129,8 @@ join wave k n m t f long each e j w at lt =
 -- ---- the law
 
 -- all pieces are held
-pieces_hold : (k n m inner : ℕ) (q l : ℕ) → q < n → l < m → (xs : List StTree) (waves : List Wave) (vs : List (List ℕ)) → AllTake inner xs → AllHold k (map (elements_stream n m) xs) waves vs
+pieces_hold : (k n m inner : ℕ) (q l : ℕ) → q < n → l < m → (xs : List StTree) (waves : List Wave) (vs : List (List ℕ)) → AllTake inner xs
+    → AllHold k (map (elements_stream n m) xs) waves vs
     → AllHold (k + q * inner) (streams_of xs) (lane_waves l xs waves) (pieces xs (q * m + l) vs)
 pieces_hold k n m inner q l lq ll [] [] [] takes holds = tt
 pieces_hold k n m inner q l lq ll [] [] (v ∷ vs) takes holds = absurd holds
@@ -135,7 +138,8 @@ pieces_hold k n m inner q l lq ll [] (w ∷ ws) vs takes holds = absurd holds
 pieces_hold k n m inner q l lq ll (x ∷ xs) [] vs takes holds = absurd holds
 pieces_hold k n m inner q l lq ll (x ∷ xs) (w ∷ ws) [] takes holds = absurd holds
 pieces_hold k n m inner q l lq ll (x ∷ xs) (w ∷ ws) (v ∷ vs) takes holds =
-    let P : ℕ → Type 0 = λ z. HoldsWords (k + q * z) (stream_of x) (from_column (l * columns_of x) w) (take (layout_words x) (drop ((q * m + l) * layout_words x) v)) in
+    let P : ℕ → Type 0 = λ z. HoldsWords (k + q * z) (stream_of x) (from_column (l * columns_of x) w)
+    (take (layout_words x) (drop ((q * m + l) * layout_words x) v)) in
     (subst P takes.0 (split w k n m x v q l lq ll holds.0), pieces_hold k n m inner q l lq ll xs ws vs takes.1 holds.1)
 
 -- ---- words of pieces that fit
@@ -160,12 +164,14 @@ place_kind e a w i p =
 elements_long : (n m : ℕ) (t : StTree) → length (slots (tseq n 0 (sseq m t))) ≡ n * m * st_atoms t
 elements_long n m t = length-slots (tseq n 0 (sseq m t)) ∙ sym (mul_assoc n m (st_atoms t))
 
-piece_words : (n m e : ℕ) (t : StTree) (ws : List ℕ) → e < n * m → AreWords (elements_stream n m t) ws → AreWords (stream_of t) (take (layout_words t) (drop (e * layout_words t) ws))
+piece_words : (n m e : ℕ) (t : StTree) (ws : List ℕ) → e < n * m → AreWords (elements_stream n m t) ws
+    → AreWords (stream_of t) (take (layout_words t) (drop (e * layout_words t) ws))
 piece_words n m e t ws le h =
     let W : ℕ = element_words t in
     let wide : length (stream_of t).widths ≡ W = widths_long t in
     let one : length (slots t) ≡ st_atoms t = length-slots t in
-    let total : length ws ≡ n * m * layout_words t = h.long ∙ (ap (λ a. a * length (stream_of t).widths) (elements_long n m t) ∙ (ap (λ b. n * m * st_atoms t * b) wide ∙ mul_assoc (n * m) (st_atoms t) W)) in
+    let total : length ws ≡ n * m * layout_words t = h.long ∙
+    (ap (λ a. a * length (stream_of t).widths) (elements_long n m t) ∙ (ap (λ b. n * m * st_atoms t * b) wide ∙ mul_assoc (n * m) (st_atoms t) W)) in
     let up : (e + 1) * layout_words t ≤ n * m * layout_words t = mul-le-mul_right (layout_words t) (let z : e + 1 ≤ n * m = omega arith in z) in
     let room : e * layout_words t + layout_words t ≤ length ws = omega arith in
     record {
@@ -176,7 +182,8 @@ piece_words n m e t ws le h =
           h.fit (e * layout_words t + i) x w (get_piece ws (e * layout_words t) (layout_words t) i x at) (ap (slice_get (stream_of t).widths) same ∙ is);
     }
 
-pieces_words : (n m e : ℕ) → e < n * m → (xs : List StTree) (vs : List (List ℕ)) → AllAreWords (map (elements_stream n m) xs) vs → AllAreWords (streams_of xs) (pieces xs e vs)
+pieces_words : (n m e : ℕ) → e < n * m → (xs : List StTree) (vs : List (List ℕ)) → AllAreWords (map (elements_stream n m) xs) vs
+    → AllAreWords (streams_of xs) (pieces xs e vs)
 pieces_words n m e le [] [] h = tt
 pieces_words n m e le [] (v ∷ vs) h = absurd h
 pieces_words n m e le (x ∷ xs) [] h = absurd h
@@ -195,7 +202,8 @@ body_ends a b r q inner t clocks e p h =
 pub spread : (clocks a t d inner rounds slots lanes : ℕ) (xs : List StTree) (y : StTree) (f : List (List ℕ) → List ℕ) (waves : List Wave) (out : Wave)
     → rounds * inner ≡ t → slots ≤ rounds → AllTake inner xs → time y ≡ inner
     → ((vs : List (List ℕ)) → AllAreWords (streams_of xs) vs → length (f vs) ≡ layout_words y)
-    → ((j : ℕ) → j < lanes → BlockLaw clocks a (plain_part inner d (streams_of xs) (stream_of y) f) (lane_waves j xs waves) (from_column (j * columns_of y) out))
+    → ((j : ℕ) → j < lanes → BlockLaw clocks a (plain_part inner d (streams_of xs) (stream_of y) f) (lane_waves j xs waves)
+    (from_column (j * columns_of y) out))
     → BlockLaw clocks a (plain_part t d (map (elements_stream slots lanes) xs) (elements_stream slots lanes y) (mapped_by f xs (slots * lanes))) waves out
 spread clocks a t d inner rounds n m xs y f waves out fill few takes own long bodies = record {
   makes = λ b vs ends words holds.
@@ -205,7 +213,8 @@ spread clocks a t d inner rounds n m xs y f waves out fill few takes own long bo
       let number : q * m + l < n * m = in_row q m l n lq ll in
       let A : ℕ → Type 0 = λ k. AllHold k (streams_of xs) (lane_waves l xs waves) (pieces xs (q * m + l) vs) in
       let ins = subst A (sym (body_clock a b rounds q inner t fill)) (pieces_hold (a + b * t) n m inner q l lq ll xs waves vs takes holds) in
-      let made = (bodies l ll).makes (b * rounds + q) (pieces xs (q * m + l) vs) (body_ends (a + d) b rounds q inner t clocks fill round ends) (pieces_words n m (q * m + l) number xs vs words) ins in
+      let made = (bodies l ll).makes (b * rounds + q) (pieces xs (q * m + l) vs) (body_ends (a + d) b rounds q inner t clocks fill round ends)
+      (pieces_words n m (q * m + l) number xs vs words) ins in
       let B : ℕ → Type 0 = λ k. HoldsWords k (stream_of y) (from_column (l * columns_of y) out) (f (pieces xs (q * m + l) vs)) in
       subst B (body_clock (a + d) b rounds q inner t fill ∙ ap (λ z. a + d + b * t + q * z) (sym own)) made);
 }

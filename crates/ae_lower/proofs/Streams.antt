@@ -26,7 +26,8 @@ one_lane : (n : ℕ) → 1 * n ≡ n
 one_lane n = omega arith
 
 same_stream : (a : AtomTree) (ws vs : List Slot) (n m : ℕ) → ws ≡ vs → n ≡ m
-    → ◌≡◌ {A = Stream} (record { slots = ws; lanes = n; widths = map (λ (k : WordKind). k.width) (atom_kinds a) }) (record { slots = vs; lanes = m; widths = map (λ (k : WordKind). k.width) (atom_kinds a) })
+    → ◌≡◌ {A = Stream} (record { slots = ws; lanes = n; widths = map (λ (k : WordKind). k.width) (atom_kinds a) })
+    (record { slots = vs; lanes = m; widths = map (λ (k : WordKind). k.width) (atom_kinds a) })
 same_stream a ws vs n m ew en = rw (ew, en) refl
 
 pub one_on_lane : (t : StTree) → stream_of (sseq 1 t) ≡ stream_of t
@@ -91,7 +92,8 @@ arranged_stream n m t s h = elim h [
   | inr e ↦ elim e [
     | inl e ↦
         ap stream_of e.1.1
-        ∙ (sym (same_stream (element_atom t) (copies n (time t) 0 (slots (sseq 1 t))) (copies n (time t) 0 (slots t)) (1 * lanes t) (lanes t) (ap (copies n (time t) 0) (copies_one 0 (lanes t) (slots t))) (one_lane (lanes t)))
+        ∙ (sym (same_stream (element_atom t) (copies n (time t) 0 (slots (sseq 1 t))) (copies n (time t) 0 (slots t)) (1 * lanes t) (lanes t)
+        (ap (copies n (time t) 0) (copies_one 0 (lanes t) (slots t))) (one_lane (lanes t)))
         ∙ ap (λ k. elements_stream n k t) (sym e.0))
     | inr e ↦ ap stream_of e.1.1
   ]
@@ -135,7 +137,9 @@ arranged_inner n m t s two h = elim h [
 
 -- a part of a product
 pub cut_product : (a b k w : ℕ) → 0 < k → a ≡ b * k → a * w / k ≡ b * w
-cut_product a b k w some e = (let turn : a * w ≡ b * w * k = ap (λ x. x * w) e ∙ (let t : b * k * w ≡ b * w * k = omega arith in t) in ap (λ x. x / k) turn ∙ mul-div_cancel (b * w) some)
+cut_product a b k w some e =
+    (let turn : a * w ≡ b * w * k = ap (λ x. x * w) e ∙ (let t : b * k * w ≡ b * w * k = omega arith in t) in ap (λ x. x / k) turn ∙
+    mul-div_cancel (b * w) some)
 
 -- ---- the widths of the words of an element
 

@@ -20,7 +20,8 @@ pair_long : (k l : ℕ) (us vs : List ℕ) → k ≤ length us → l ≤ length 
 pair_long k l us vs h g = omega (arith, length-append (take k us) (take l vs), piece_long us 0 k (omega arith), piece_long vs 0 l (omega arith))
 
 -- a word behind the first pair
-behind : (n k l e j : ℕ) (us vs : List ℕ) → k ≤ length us → l ≤ length vs → get_or (paired (suc n) k l us vs) (suc e * (k + l) + j) 0 ≡ get_or (paired n k l (drop k us) (drop l vs)) (e * (k + l) + j) 0
+behind : (n k l e j : ℕ) (us vs : List ℕ) → k ≤ length us → l ≤ length vs
+    → get_or (paired (suc n) k l us vs) (suc e * (k + l) + j) 0 ≡ get_or (paired n k l (drop k us) (drop l vs)) (e * (k + l) + j) 0
 behind n k l e j us vs h g =
     let place : suc e * (k + l) + j ≡ length (take k us ++ take l vs) + (e * (k + l) + j) = omega (arith, pair_long k l us vs h g) in
     ap (λ i. get_or ((take k us ++ take l vs) ++ paired n k l (drop k us) (drop l vs)) i 0) place
@@ -30,7 +31,8 @@ next_word : (k e j : ℕ) (us : List ℕ) → get_or (drop k us) (e * k + j) 0 �
 next_word k e j us = get_drop us k (e * k + j) 0 ∙ ap (λ i. get_or us i 0) (let e : k + (e * k + j) ≡ suc e * k + j = omega arith in e)
 
 -- word j of the first part of pair e
-pub paired_first : (n k l e j : ℕ) (us vs : List ℕ) → n * k ≤ length us → n * l ≤ length vs → e < n → j < k → get_or (paired n k l us vs) (e * (k + l) + j) 0 ≡ get_or us (e * k + j) 0
+pub paired_first : (n k l e j : ℕ) (us vs : List ℕ) → n * k ≤ length us → n * l ≤ length vs → e < n → j < k
+    → get_or (paired n k l us vs) (e * (k + l) + j) 0 ≡ get_or us (e * k + j) 0
 paired_first zero k l e j us vs h g p q = absurd (omega arith)
 paired_first (suc n) k l zero j us vs h g p q =
     let here : length (take k us) ≡ k = piece_long us 0 k (omega arith) in
@@ -45,7 +47,8 @@ paired_first (suc n) k l (suc e) j us vs h g p q =
     ∙ (paired_first n k l e j (drop k us) (drop l vs) (omega (arith, length-drop k us)) (omega (arith, length-drop l vs)) (omega arith) q ∙ next_word k e j us)
 
 -- word j of the second part of pair e
-pub paired_second : (n k l e j : ℕ) (us vs : List ℕ) → n * k ≤ length us → n * l ≤ length vs → e < n → j < l → get_or (paired n k l us vs) (e * (k + l) + (k + j)) 0 ≡ get_or vs (e * l + j) 0
+pub paired_second : (n k l e j : ℕ) (us vs : List ℕ) → n * k ≤ length us → n * l ≤ length vs → e < n → j < l
+    → get_or (paired n k l us vs) (e * (k + l) + (k + j)) 0 ≡ get_or vs (e * l + j) 0
 paired_second zero k l e j us vs h g p q = absurd (omega arith)
 paired_second (suc n) k l zero j us vs h g p q =
     let here : length (take k us) ≡ k = piece_long us 0 k (omega arith) in
@@ -62,14 +65,16 @@ paired_second (suc n) k l (suc e) j us vs h g p q =
     ∙ (paired_second n k l e j (drop k us) (drop l vs) (omega (arith, length-drop k us)) (omega (arith, length-drop l vs)) (omega arith) q ∙ next_word l e j vs)
 
 -- word j of part e of so many
-pub part_word : (n k o l e j : ℕ) (ws : List ℕ) → n * k ≤ length ws → o + l ≤ k → e < n → j < l → get_or (parts n k o l ws) (e * l + j) 0 ≡ get_or ws (e * k + (o + j)) 0
+pub part_word : (n k o l e j : ℕ) (ws : List ℕ) → n * k ≤ length ws → o + l ≤ k → e < n → j < l
+    → get_or (parts n k o l ws) (e * l + j) 0 ≡ get_or ws (e * k + (o + j)) 0
 part_word n k o l e j ws h g p q =
     let f : ℕ → List ℕ = λ i. take l (drop (i * k + o) ws) in
     let long : (i : ℕ) → i < 0 + n → length (f i) ≡ l = λ i lt.
     (let up : (i + 1) * k ≤ n * k = mul-le-mul_right k (let z : i + 1 ≤ n = omega arith in z) in piece_long ws (i * k + o) l (omega arith)) in
     let z : 0 + e ≡ e = omega arith in
     let place : e * k + o + j ≡ e * k + (o + j) = omega arith in
-    joined_word f l 0 n e j long p q ∙ (ap (λ i. get_or (f i) j 0) z ∙ (get_take (drop (e * k + o) ws) l j 0 q ∙ (get_drop ws (e * k + o) j 0 ∙ ap (λ i. get_or ws i 0) place)))
+    joined_word f l 0 n e j long p q ∙ (ap (λ i. get_or (f i) j 0) z ∙
+    (get_take (drop (e * k + o) ws) l j 0 q ∙ (get_drop ws (e * k + o) j 0 ∙ ap (λ i. get_or ws i 0) place)))
 
 -- ---- the laws
 
@@ -90,7 +95,8 @@ pub record IsPartOf (lanes k o l : ℕ) (whole part : Wave) : Type 0 where
 abbrev pub stands_as : Stream → (widths : List ℕ) → Stream
 stands_as s widths = record { slots = s.slots; lanes = s.lanes; widths = widths }
 
-pairs_hold : (at lanes k l : ℕ) (us vs ps : List ℕ) (slots : List Slot) (n m : ℕ) (first second pairs : Wave) (ws xs : List ℕ) → length us ≡ k → length vs ≡ l → length ps ≡ k + l → n ≡ length slots
+pairs_hold : (at lanes k l : ℕ) (us vs ps : List ℕ) (slots : List Slot) (n m : ℕ) (first second pairs : Wave) (ws xs : List ℕ) → length us ≡ k → length vs ≡ l
+    → length ps ≡ k + l → n ≡ length slots
     → AreOnLanes lanes slots → ArePaired lanes k l first second pairs → length ws ≡ n * k → length xs ≡ n * l
     → HoldsWords at (record { slots = slots; lanes = m; widths = us }) first ws → HoldsWords at (record { slots = slots; lanes = m; widths = vs }) second xs
     → HoldsWords at (record { slots = slots; lanes = m; widths = ps }) pairs (paired n k l ws xs)
@@ -122,10 +128,12 @@ pairs_hold at lanes k l us vs ps slots n m first second pairs ws xs lu lv lp cou
           ∙ (ap (λ x. get_or (paired n k l ws xs) (e * (k + l) + x) 0) (sym place) ∙ ap (λ x. get_or (paired n k l ws xs) (e * x + j) 0) (sym lp))))))))
     ]
 
-pairs_made : (a t lanes k l n m : ℕ) (us vs ps : List ℕ) (slots : List Slot) (first second pairs : Wave) → length us ≡ k → length vs ≡ l → length ps ≡ k + l → n ≡ length slots
+pairs_made : (a t lanes k l n m : ℕ) (us vs ps : List ℕ) (slots : List Slot) (first second pairs : Wave) → length us ≡ k → length vs ≡ l → length ps ≡ k + l
+    → n ≡ length slots
     → AreOnLanes lanes slots → ArePaired lanes k l first second pairs → (b : ℕ) (values : List (List ℕ))
     → AllAreWords (record { slots = slots; lanes = m; widths = us } ∷ record { slots = slots; lanes = m; widths = vs } ∷ []) values
-    → AllHold (a + b * t) (record { slots = slots; lanes = m; widths = us } ∷ record { slots = slots; lanes = m; widths = vs } ∷ []) (first ∷ second ∷ []) values
+    → AllHold (a + b * t) (record { slots = slots; lanes = m; widths = us } ∷ record { slots = slots; lanes = m; widths = vs } ∷ [])
+    (first ∷ second ∷ []) values
     → HoldsWords (a + 0 + b * t) (record { slots = slots; lanes = m; widths = ps }) pairs (paired n k l (words_at values 0) (words_at values 1))
 pairs_made a t lanes k l n m us vs ps slots first second pairs lu lv lp count on wires b (ws ∷ xs ∷ []) words holds =
     let place : a + b * t ≡ a + 0 + b * t = omega arith in
@@ -137,7 +145,8 @@ pairs_made a t lanes k l n m us vs ps slots first second pairs lu lv lp count on
 pairs_made a t lanes k l n m us vs ps slots first second pairs lu lv lp count on wires b (ws ∷ []) words holds = absurd words.1
 pairs_made a t lanes k l n m us vs ps slots first second pairs lu lv lp count on wires b (ws ∷ xs ∷ x ∷ more) words holds = absurd words.1.1
 
-part_holds : (at lanes k o l n m : ℕ) (us ps : List ℕ) (slots : List Slot) (whole part : Wave) (ws : List ℕ) → length us ≡ k → length ps ≡ l → o + l ≤ k → n ≡ length slots
+part_holds : (at lanes k o l n m : ℕ) (us ps : List ℕ) (slots : List Slot) (whole part : Wave) (ws : List ℕ) → length us ≡ k → length ps ≡ l → o + l ≤ k
+    → n ≡ length slots
     → AreOnLanes lanes slots → IsPartOf lanes k o l whole part → length ws ≡ n * k → HoldsWords at (record { slots = slots; lanes = m; widths = us }) whole ws
     → HoldsWords at (record { slots = slots; lanes = m; widths = ps }) part (parts n k o l ws)
 part_holds at lanes k o l n m us ps slots whole part ws lu lp inside count on wires lw holds e j w found lt =
@@ -155,7 +164,8 @@ part_holds at lanes k o l n m us ps slots whole part ws lu lp inside count on wi
 
 part_made : (a t lanes k o l n m : ℕ) (us ps : List ℕ) (slots : List Slot) (whole part : Wave) → length us ≡ k → length ps ≡ l → o + l ≤ k → n ≡ length slots
     → AreOnLanes lanes slots → IsPartOf lanes k o l whole part → (b : ℕ) (values : List (List ℕ))
-    → AllAreWords (record { slots = slots; lanes = m; widths = us } ∷ []) values → AllHold (a + b * t) (record { slots = slots; lanes = m; widths = us } ∷ []) (whole ∷ []) values
+    → AllAreWords (record { slots = slots; lanes = m; widths = us } ∷ []) values
+    → AllHold (a + b * t) (record { slots = slots; lanes = m; widths = us } ∷ []) (whole ∷ []) values
     → HoldsWords (a + 0 + b * t) (record { slots = slots; lanes = m; widths = ps }) part (parts n k o l (words_at values 0))
 part_made a t lanes k o l n m us ps slots whole part lu lp inside count on wires b [] words holds = absurd words
 part_made a t lanes k o l n m us ps slots whole part lu lp inside count on wires b (ws ∷ x ∷ more) words holds = absurd words.1
@@ -165,12 +175,18 @@ part_made a t lanes k o l n m us ps slots whole part lu lp inside count on wires
     let P : ℕ → Type 0 = λ x. HoldsWords x (record { slots = slots; lanes = m; widths = ps }) part (parts n k o l ws) in
     subst P place (part_holds (a + b * t) lanes k o l n m us ps slots whole part ws lu lp inside count on wires lw holds.0)
 
-pub pairs_law : (clocks a t lanes k l n m : ℕ) (us vs ps : List ℕ) (slots : List Slot) (first second pairs : Wave) → length us ≡ k → length vs ≡ l → length ps ≡ k + l → n ≡ length slots
+pub pairs_law : (clocks a t lanes k l n m : ℕ) (us vs ps : List ℕ) (slots : List Slot) (first second pairs : Wave) → length us ≡ k → length vs ≡ l
+    → length ps ≡ k + l → n ≡ length slots
     → AreOnLanes lanes slots → ArePaired lanes k l first second pairs
-    → BlockLaw clocks a (plain_part t 0 (record { slots = slots; lanes = m; widths = us } ∷ record { slots = slots; lanes = m; widths = vs } ∷ []) (record { slots = slots; lanes = m; widths = ps }) (λ vs. paired n k l (words_at vs 0) (words_at vs 1))) (first ∷ second ∷ []) pairs
-pairs_law clocks a t lanes k l n m us vs ps slots first second pairs lu lv lp count on wires = record { makes = λ b values ends words holds. pairs_made a t lanes k l n m us vs ps slots first second pairs lu lv lp count on wires b values words holds }
+    → BlockLaw clocks a (plain_part t 0 (record { slots = slots; lanes = m; widths = us } ∷ record { slots = slots; lanes = m; widths = vs } ∷ [])
+    (record { slots = slots; lanes = m; widths = ps }) (λ vs. paired n k l (words_at vs 0) (words_at vs 1))) (first ∷ second ∷ []) pairs
+pairs_law clocks a t lanes k l n m us vs ps slots first second pairs lu lv lp count on wires =
+    record { makes = λ b values ends words holds. pairs_made a t lanes k l n m us vs ps slots first second pairs lu lv lp count on wires b values words holds }
 
-pub parts_law : (clocks a t lanes k o l n m : ℕ) (us ps : List ℕ) (slots : List Slot) (whole part : Wave) → length us ≡ k → length ps ≡ l → o + l ≤ k → n ≡ length slots
+pub parts_law : (clocks a t lanes k o l n m : ℕ) (us ps : List ℕ) (slots : List Slot) (whole part : Wave) → length us ≡ k → length ps ≡ l → o + l ≤ k
+    → n ≡ length slots
     → AreOnLanes lanes slots → IsPartOf lanes k o l whole part
-    → BlockLaw clocks a (plain_part t 0 (record { slots = slots; lanes = m; widths = us } ∷ []) (record { slots = slots; lanes = m; widths = ps }) (λ vs. parts n k o l (words_at vs 0))) (whole ∷ []) part
-parts_law clocks a t lanes k o l n m us ps slots whole part lu lp inside count on wires = record { makes = λ b values ends words holds. part_made a t lanes k o l n m us ps slots whole part lu lp inside count on wires b values words holds }
+    → BlockLaw clocks a (plain_part t 0 (record { slots = slots; lanes = m; widths = us } ∷ []) (record { slots = slots; lanes = m; widths = ps })
+    (λ vs. parts n k o l (words_at vs 0))) (whole ∷ []) part
+parts_law clocks a t lanes k o l n m us ps slots whole part lu lp inside count on wires =
+    record { makes = λ b values ends words holds. part_made a t lanes k o l n m us ps slots whole part lu lp inside count on wires b values words holds }

@@ -38,7 +38,8 @@ on_lanes s size = record {
 }
 
 -- a layout whose elements stand where those of another do
-stream_as : (a s : StTree) → slots a ≡ slots s → lanes a ≡ lanes s → ◌≡◌ {A = Stream} (stream_of a) (record { slots = slots s; lanes = lanes s; widths = widths_of a })
+stream_as : (a s : StTree) → slots a ≡ slots s → lanes a ≡ lanes s
+    → ◌≡◌ {A = Stream} (stream_of a) (record { slots = slots s; lanes = lanes s; widths = widths_of a })
 stream_as a s es el = rw (es, el) refl
 
 left_kind : (xs ys : List WordKind) (j : ℕ) → j < length xs → slice_get (xs ++ ys) j ≡ slice_get xs j
@@ -67,7 +68,8 @@ first_in s whole h = record {
   inside = omega (arith, words_of_both s h.other whole h.pair.kinds);
   kinds = λ j low.
       let z : 0 + j ≡ j = omega arith in
-      sym (ap (slice_get (kinds_of whole)) z ∙ (ap (λ ks. slice_get ks j) h.pair.kinds ∙ left_kind (kinds_of s) (kinds_of h.other) j (omega (arith, low, length-atom_kinds (element_atom s)))));
+      sym (ap (slice_get (kinds_of whole)) z ∙ (ap (λ ks. slice_get ks j) h.pair.kinds ∙
+      left_kind (kinds_of s) (kinds_of h.other) j (omega (arith, low, length-atom_kinds (element_atom s)))));
 }
 
 pub second_in : (s whole : StTree) → FitsSecond s whole → IsPartIn s whole (element_words whole - element_words s)
@@ -77,14 +79,17 @@ second_in s whole h =
       lanes = h.pair.second.lanes;
       inside = omega (arith, sum);
       kinds = λ j low.
-          let place : element_words whole - element_words s + j ≡ length (kinds_of h.other) + j = omega (arith, sum, length-atom_kinds (element_atom h.other)) in
-          sym (ap (slice_get (kinds_of whole)) place ∙ (ap (λ ks. slice_get ks (length (kinds_of h.other) + j)) h.pair.kinds ∙ get_right (kinds_of h.other) (kinds_of s) j));
+          let place : element_words whole - element_words s + j ≡ length
+          (kinds_of h.other) + j = omega (arith, sum, length-atom_kinds (element_atom h.other)) in
+          sym (ap (slice_get (kinds_of whole)) place ∙ (ap (λ ks. slice_get ks (length (kinds_of h.other) + j)) h.pair.kinds ∙
+          get_right (kinds_of h.other) (kinds_of s) j));
     }
 
 same_width : (s whole : StTree) (o j : ℕ) → IsPartIn s whole o → j < element_words s → width_at s j ≡ width_at whole (o + j)
 same_width s whole o j h low = ap (option_map (λ (k : WordKind). k.width)) (h.kinds j low)
 
-pub part_nets : (cells : List SizedCell) (s whole : StTree) (o : ℕ) (nets y : List NetId) → IsPartIn s whole o → AreNets cells (stream_widths (stream_of whole)) nets → AreParts nets (lanes s) (element_words whole) o (element_words s) y
+pub part_nets : (cells : List SizedCell) (s whole : StTree) (o : ℕ) (nets y : List NetId) → IsPartIn s whole o
+    → AreNets cells (stream_widths (stream_of whole)) nets → AreParts nets (lanes s) (element_words whole) o (element_words s) y
     → AreNets cells (stream_widths (stream_of s)) y
 part_nets cells s whole o nets y h there are = record {
   long = are.long ∙ sym (length_stream s);
@@ -98,21 +103,27 @@ part_nets cells s whole o nets y h there are = record {
       let place : e * w + j ≡ q = div-add-mod' q w in
       let own : width_at s j ≡ Some width = sym (widths_at s e j le lj) ∙ (ap (slice_get (stream_widths (stream_of s))) place ∙ fw) in
       let far : o + j < element_words whole = omega (arith, lj, h.inside) in
-      let wide : slice_get (stream_widths (stream_of whole)) (e * element_words whole + (o + j)) ≡ Some width = widths_at whole e (o + j) (omega (arith, le, h.lanes)) far ∙ (sym (same_width s whole o j h lj) ∙ own) in
+      let wide : slice_get (stream_widths (stream_of whole)) (e * element_words whole + (o + j)) ≡ Some width = widths_at whole e (o + j)
+      (omega (arith, le, h.lanes)) far ∙ (sym (same_width s whole o j h lj) ∙ own) in
       let found : slice_get nets (e * element_words whole + (o + j)) ≡ Some net = sym (are.each e j le lj) ∙ (ap (slice_get y) place ∙ fn) in
       there.each (e * element_words whole + (o + j)) width net wide found;
 }
 
-part_waves : (run : List Clock) (start n k o l : ℕ) (nets y : List NetId) → AreParts nets n k o l y → IsPartOf n k o l (wave_of run start nets) (wave_of run start y)
+part_waves : (run : List Clock) (start n k o l : ℕ) (nets y : List NetId) → AreParts nets n k o l y
+    → IsPartOf n k o l (wave_of run start nets) (wave_of run start y)
 unfolding wave_of
 part_waves run start n k o l nets y h = record { each = λ c e j le lj. ap (net_word run (start + c)) (h.each e j le lj) }
 
-pub part_keeps : (cells : List SizedCell) (rst at budget : ℕ) (s whole : StTree) (o : ℕ) (nets y : List NetId) → IsInSize s → IsPartIn s whole o → AreParts nets (lanes s) (element_words whole) o (element_words s) y
-    → KeepsLaw cells rst at (plain_part budget 0 (stream_of whole ∷ []) (stream_of s) (λ vs. parts (st_atoms s) (element_words whole) o (element_words s) (words_at vs 0))) (nets ∷ []) y
+pub part_keeps : (cells : List SizedCell) (rst at budget : ℕ) (s whole : StTree) (o : ℕ) (nets y : List NetId) → IsInSize s → IsPartIn s whole o
+    → AreParts nets (lanes s) (element_words whole) o (element_words s) y
+    → KeepsLaw cells rst at (plain_part budget 0 (stream_of whole ∷ []) (stream_of s)
+    (λ vs. parts (st_atoms s) (element_words whole) o (element_words s) (words_at vs 0))) (nets ∷ []) y
 part_keeps cells rst at budget s whole o nets y size h are = λ all e run r start reset.
     rw (stream_as whole s (sym h.slots) (sym h.lanes))
-    (parts_law (length run - start) at budget (lanes s) (element_words whole) o (element_words s) (st_atoms s) (lanes s) (widths_of whole) (widths_of s) (slots s) (wave_of run start nets) (wave_of run start y)
-    (length_widths whole) (length_widths s) h.inside (sym (length-slots s)) (on_lanes s size) (part_waves run start (lanes s) (element_words whole) o (element_words s) nets y are))
+    (parts_law (length run - start) at budget (lanes s) (element_words whole) o (element_words s) (st_atoms s) (lanes s) (widths_of whole) (widths_of s)
+    (slots s) (wave_of run start nets) (wave_of run start y)
+    (length_widths whole) (length_widths s) h.inside (sym (length-slots s)) (on_lanes s size)
+    (part_waves run start (lanes s) (element_words whole) o (element_words s) nets y are))
 
 -- ---- pairs
 
@@ -123,7 +134,8 @@ first_of_pair a b s h = first_in a s (record { other = b; pair = h })
 second_of_pair : (a b s : StTree) → FitsPair a b s → IsPartIn b s (element_words s - element_words b)
 second_of_pair a b s h = second_in b s (record { other = a; pair = h })
 
-pub pair_nets : (cells : List SizedCell) (a b s : StTree) (first second y : List NetId) → FitsPair a b s → AreNets cells (stream_widths (stream_of a)) first → AreNets cells (stream_widths (stream_of b)) second
+pub pair_nets : (cells : List SizedCell) (a b s : StTree) (first second y : List NetId) → FitsPair a b s → AreNets cells (stream_widths (stream_of a)) first
+    → AreNets cells (stream_widths (stream_of b)) second
     → ArePairs first second (lanes s) (element_words a) (element_words b) y → AreNets cells (stream_widths (stream_of s)) y
 pair_nets cells a b s first second y fits ones twos are =
     let k : ℕ = element_words a in
@@ -152,21 +164,27 @@ pair_nets cells a b s first second y fits ones twos are =
                 let back : k + i ≡ j = omega (arith, far) in
                 let z : element_words s - l + i ≡ j = omega (arith, sum, far) in
                 let wide : width_at b i ≡ Some width = same_width b s (element_words s - l) i (second_of_pair a b s fits) li ∙ (ap (width_at s) z ∙ own) in
-                let found : slice_get second (e * l + i) ≡ Some net = sym (are.seconds e i le li) ∙ (ap (λ n. slice_get y (e * (k + l) + n)) back ∙ (ap (slice_get y) split ∙ fn)) in
+                let found : slice_get second (e * l + i) ≡ Some net = sym (are.seconds e i le li) ∙
+                (ap (λ n. slice_get y (e * (k + l) + n)) back ∙ (ap (slice_get y) split ∙ fn)) in
                 twos.each (e * l + i) width net (widths_at b e i (omega (arith, le, fits.second.lanes)) li ∙ wide) found
           ];
     }
 
-pair_waves : (run : List Clock) (start n k l : ℕ) (first second y : List NetId) → ArePairs first second n k l y → ArePaired n k l (wave_of run start first) (wave_of run start second) (wave_of run start y)
+pair_waves : (run : List Clock) (start n k l : ℕ) (first second y : List NetId) → ArePairs first second n k l y
+    → ArePaired n k l (wave_of run start first) (wave_of run start second) (wave_of run start y)
 unfolding wave_of
 pair_waves run start n k l first second y h = record {
   firsts = λ c e j le lj. ap (net_word run (start + c)) (h.firsts e j le lj);
   seconds = λ c e j le lj. ap (net_word run (start + c)) (h.seconds e j le lj);
 }
 
-pub pair_keeps : (cells : List SizedCell) (rst at budget : ℕ) (a b s : StTree) (first second y : List NetId) → IsInSize s → FitsPair a b s → ArePairs first second (lanes s) (element_words a) (element_words b) y
-    → KeepsLaw cells rst at (plain_part budget 0 (stream_of a ∷ stream_of b ∷ []) (stream_of s) (λ vs. paired (st_atoms s) (element_words a) (element_words b) (words_at vs 0) (words_at vs 1))) (first ∷ second ∷ []) y
+pub pair_keeps : (cells : List SizedCell) (rst at budget : ℕ) (a b s : StTree) (first second y : List NetId) → IsInSize s → FitsPair a b s
+    → ArePairs first second (lanes s) (element_words a) (element_words b) y
+    → KeepsLaw cells rst at (plain_part budget 0 (stream_of a ∷ stream_of b ∷ []) (stream_of s)
+    (λ vs. paired (st_atoms s) (element_words a) (element_words b) (words_at vs 0) (words_at vs 1))) (first ∷ second ∷ []) y
 pair_keeps cells rst at budget a b s first second y size fits are = λ all e run r start reset.
     rw (stream_as a s fits.first.slots fits.first.lanes, stream_as b s fits.second.slots fits.second.lanes)
-    (pairs_law (length run - start) at budget (lanes s) (element_words a) (element_words b) (st_atoms s) (lanes s) (widths_of a) (widths_of b) (widths_of s) (slots s) (wave_of run start first) (wave_of run start second) (wave_of run start y)
-    (length_widths a) (length_widths b) (length_widths s ∙ words_of_both a b s fits.kinds) (sym (length-slots s)) (on_lanes s size) (pair_waves run start (lanes s) (element_words a) (element_words b) first second y are))
+    (pairs_law (length run - start) at budget (lanes s) (element_words a) (element_words b) (st_atoms s) (lanes s) (widths_of a) (widths_of b) (widths_of s)
+    (slots s) (wave_of run start first) (wave_of run start second) (wave_of run start y)
+    (length_widths a) (length_widths b) (length_widths s ∙ words_of_both a b s fits.kinds) (sym (length-slots s)) (on_lanes s size)
+    (pair_waves run start (lanes s) (element_words a) (element_words b) first second y are))

@@ -22,7 +22,8 @@ get_stretch xs zero zero i h = absurd (omega arith)
 get_stretch [] zero (suc m) i h = refl
 get_stretch (x ∷ xs) zero (suc m) zero h = refl
 get_stretch (x ∷ xs) zero (suc m) (suc i) h =
-    get_stretch xs zero m i (omega arith) ∙ (ap (slice_get xs) (let e : 0 + i ≡ i = omega arith in e) ∙ ap (slice_get (x ∷ xs)) (let e : suc i ≡ 0 + suc i = omega arith in e))
+    get_stretch xs zero m i (omega arith) ∙ (ap (slice_get xs) (let e : 0 + i ≡ i = omega arith in e) ∙
+    ap (slice_get (x ∷ xs)) (let e : suc i ≡ 0 + suc i = omega arith in e))
 get_stretch [] (suc k) m i h = ap (λ ys. slice_get ys i) (take-nil m)
 get_stretch (x ∷ xs) (suc k) m i h = get_stretch xs k m i h ∙ ap (slice_get (x ∷ xs)) (let e : suc (k + i) ≡ suc k + i = omega arith in e)
 
@@ -37,7 +38,8 @@ in_row a k r n p h = omega (arith, mul-add-lt a k r n p h)
 pub parts_none : (nets : List NetId) (k o l : ℕ) → AreParts nets 0 k o l []
 parts_none nets k o l = record { long = omega arith; each = λ e j p h. absurd (omega arith) }
 
-pub parts_more : (nets out more : List NetId) (n k o l : ℕ) → more ≡ take (n * k + o + l - (n * k + o)) (drop (n * k + o) nets) → n * k + o + l ≤ length nets → AreParts nets n k o l out → AreParts nets (n + 1) k o l (out ++ more)
+pub parts_more : (nets out more : List NetId) (n k o l : ℕ) → more ≡ take (n * k + o + l - (n * k + o)) (drop (n * k + o) nets) → n * k + o + l ≤ length nets
+    → AreParts nets n k o l out → AreParts nets (n + 1) k o l (out ++ more)
 parts_more nets out more n k o l cut room was =
     let size : n * k + o + l - (n * k + o) ≡ l = omega arith in
     let is : more ≡ take l (drop (n * k + o) nets) = cut ∙ ap (λ x. take x (drop (n * k + o) nets)) size in
@@ -52,14 +54,16 @@ parts_more nets out more n k o l cut room was =
             let same : e ≡ n = omega arith in
             let place : e * l + j ≡ length out + j = omega (arith, was.long, ap (λ x. x * l) same) in
             let from : n * k + o + j ≡ e * k + (o + j) = omega (arith, ap (λ x. x * k) same) in
-            ap (slice_get (out ++ more)) place ∙ (get_behind out more j ∙ (ap (λ ys. slice_get ys j) is ∙ (get_stretch nets (n * k + o) l j h ∙ ap (slice_get nets) from)))
+            ap (slice_get (out ++ more)) place ∙ (get_behind out more j ∙
+            (ap (λ ys. slice_get ys j) is ∙ (get_stretch nets (n * k + o) l j h ∙ ap (slice_get nets) from)))
       ];
     }
 
 pub pairs_none : (first second : List NetId) (k l : ℕ) → ArePairs first second 0 k l []
 pairs_none first second k l = record { long = omega arith; firsts = λ e j p h. absurd (omega arith); seconds = λ e j p h. absurd (omega arith) }
 
-pub pairs_more : (first second out one two : List NetId) (n k l : ℕ) → one ≡ take (n * k + k - n * k) (drop (n * k) first) → two ≡ take (n * l + l - n * l) (drop (n * l) second) → n * k + k ≤ length first → n * l + l ≤ length second
+pub pairs_more : (first second out one two : List NetId) (n k l : ℕ) → one ≡ take (n * k + k - n * k) (drop (n * k) first)
+    → two ≡ take (n * l + l - n * l) (drop (n * l) second) → n * k + k ≤ length first → n * l + l ≤ length second
     → ArePairs first second n k l out → ArePairs first second (n + 1) k l ((out ++ one) ++ two)
 pairs_more first second out one two n k l cut split room space was =
     let size : n * k + k - n * k ≡ k = omega arith in
@@ -80,7 +84,8 @@ pairs_more first second out one two n k l cut split room space was =
             let place : e * (k + l) + j ≡ length out + j = omega (arith, was.long, ap (λ x. x * (k + l)) same) in
             let from : n * k + j ≡ e * k + j = omega (arith, ap (λ x. x * k) same) in
             get_before (out ++ one) two (e * (k + l) + j) (omega arith)
-            ∙ (ap (slice_get (out ++ one)) place ∙ (get_behind out one j ∙ (ap (λ ys. slice_get ys j) is ∙ (get_stretch first (n * k) k j h ∙ ap (slice_get first) from))))
+            ∙ (ap (slice_get (out ++ one)) place ∙ (get_behind out one j ∙
+            (ap (λ ys. slice_get ys j) is ∙ (get_stretch first (n * k) k j h ∙ ap (slice_get first) from))))
       ];
       seconds = λ e j p h. elim (cases_lt e n) [
         | inl below ↦
@@ -90,7 +95,8 @@ pairs_more first second out one two n k l cut split room space was =
             let same : e ≡ n = omega arith in
             let place : e * (k + l) + (k + j) ≡ length (out ++ one) + j = omega (arith, was.long, ap (λ x. x * (k + l)) same) in
             let from : n * l + j ≡ e * l + j = omega (arith, ap (λ x. x * l) same) in
-            ap (slice_get ((out ++ one) ++ two)) place ∙ (get_behind (out ++ one) two j ∙ (ap (λ ys. slice_get ys j) has ∙ (get_stretch second (n * l) l j h ∙ ap (slice_get second) from)))
+            ap (slice_get ((out ++ one) ++ two)) place ∙ (get_behind (out ++ one) two j ∙
+            (ap (λ ys. slice_get ys j) has ∙ (get_stretch second (n * l) l j h ∙ ap (slice_get second) from)))
       ];
     }
 

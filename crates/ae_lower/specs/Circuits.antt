@@ -35,27 +35,34 @@ results_of s = map (item_layout (item_layouts s)) s.results
 -- program's result, the latency later
 abbrev pub MakesResults : List StFuncTree → StFuncTree → Circuit → Type 0
 MakesResults instances s n =
-    (run : List Clock) (start : ℕ) → IsRun n.cells run → IsReset run 0 start → (r i : ℕ) → slice_get s.results r ≡ Some i
+    (run : List Clock) (start : ℕ) → IsRun n.cells run → IsReset run 0 start → (r i : ℕ)
+    → slice_get s.results r ≡ Some i
     → BlockLaw (length run - start) 0
-    (plain_part s.budget (instance_costs instances (last_of instances)).latency (streams_of s.ins) (stream_of (item_layout (item_layouts s) i)) (λ vs. words_at (flow instances vs) r))
-    (input_waves run start 1 (streams_of s.ins)) (output_wave run n.outlets start (columns_in (take r (result_streams s))))
+    (plain_part s.budget (instance_costs instances (last_of instances)).latency (streams_of s.ins)
+    (stream_of (item_layout (item_layouts s) i)) (λ vs. words_at (flow instances vs) r))
+    (input_waves run start 1 (streams_of s.ins))
+    (output_wave run n.outlets start (columns_in (take r (result_streams s))))
 
 -- every program with this schedule has its blocks made, at the latency of the costs
 abbrev pub MakesProgram : List StFuncTree → StFuncTree → Circuit → Type 0
 MakesProgram instances s n =
-    (p : ProgramTree) (slowdown : ℕ) → IsTyped p → IsSchedule p slowdown instances → MakesBlocks n p slowdown (instance_costs instances (last_of instances)).latency s.ins (results_of s)
+    (p : ProgramTree) (slowdown : ℕ) → IsTyped p → IsSchedule p slowdown instances
+    → MakesBlocks n p slowdown (instance_costs instances (last_of instances)).latency s.ins (results_of s)
 
 -- the reset and the words of the parameters are the inputs, the words of the results the outputs, the results come in time,
 -- and the cells are within the costs
-pub record IsCircuitThat (Makes : List StFuncTree → StFuncTree → Circuit → Type 0) (instances : List StFuncTree) (s : StFuncTree) (n : Circuit) : Type 0 where
-  pub inputs : take (1 + length (input_ports (streams_of s.ins))) n.cells ≡ map input_cell (reset_port ∷ input_ports (streams_of s.ins))
+pub record IsCircuitThat (Makes : List StFuncTree → StFuncTree → Circuit → Type 0) (instances : List StFuncTree)
+    (s : StFuncTree) (n : Circuit) : Type 0 where
+  pub inputs : take (1 + length (input_ports (streams_of s.ins))) n.cells ≡ map input_cell
+      (reset_port ∷ input_ports (streams_of s.ins))
   pub no_others : count_of is_input n.cells ≡ 1 + length (input_ports (streams_of s.ins))
   pub outputs : map (outlet_port n.cells) n.outlets ≡ output_ports (result_streams s)
   pub makes : Makes instances s n
   pub formed : IsFormed n.cells
   pub shown : HaveNets n.cells n.outlets
   pub whole : AreWhole n.cells
-  pub small : length n.cells ≤ 16 * (instance_costs instances (last_of instances)).load + 1 + length (input_ports (streams_of s.ins))
+  pub small : length n.cells ≤ 16 * (instance_costs instances (last_of instances)).load + 1 + length
+      (input_ports (streams_of s.ins))
   pub muls : count_of is_mul n.cells ≡ (instance_costs instances (last_of instances)).muls
   pub memories : count_of is_memory n.cells ≤ (instance_costs instances (last_of instances)).mems
 

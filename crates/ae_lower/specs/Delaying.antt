@@ -16,6 +16,8 @@ pub record IsDelayed (old new : List SizedCell) (rst slack : ℕ) (nets late : L
   pub is_late : AreLate new rst slack nets late
 
 -- one for each chosen item
-pub record AreDelayed (old new : List SizedCell) (rst : ℕ) (items : List (List NetId)) (waits chosen : List ℕ) (bundles : List (List NetId)) : Type 0 where
+pub record AreDelayed (old new : List SizedCell) (rst : ℕ) (items : List (List NetId)) (waits chosen : List ℕ)
+    (bundles : List (List NetId)) : Type 0 where
   pub long : length bundles ≡ length chosen
-  pub each : (r i : ℕ) (nets late : List NetId) → slice_get chosen r ≡ Some i → slice_get items i ≡ Some nets → slice_get bundles r ≡ Some late → IsDelayed old new rst (get_or waits r 0) nets late
+  pub each : (r i : ℕ) (nets late : List NetId) → slice_get chosen r ≡ Some i → slice_get items i ≡ Some nets
+      → slice_get bundles r ≡ Some late → IsDelayed old new rst (get_or waits r 0) nets late

@@ -15,6 +15,8 @@ use Rattle.ae_lower.specs.Lowering.{instance_costs}
 -- it is one for each program with this schedule, by the layouts and the costs of the program function's instance
 abbrev pub CircuitsAreFor : Type 0
 CircuitsAreFor =
-    (p : ProgramTree) (slowdown : ℕ) (instances : List StFuncTree) (s : StFuncTree) (n : Circuit) → IsTyped p → IsSchedule p slowdown instances → IsSound instances
+    (p : ProgramTree) (slowdown : ℕ) (instances : List StFuncTree) (s : StFuncTree) (n : Circuit) → IsTyped p
+    → IsSchedule p slowdown instances → IsSound instances
     → slice_get instances (last_of instances) ≡ Some s → IsCircuitOf instances s n → IsLean n
-    → HaveLayouts p slowdown s.ins (results_of s) × IsCircuitFor p slowdown (instance_costs instances (last_of instances)) s.ins (results_of s) n
+    → HaveLayouts p slowdown s.ins (results_of s)
+    × IsCircuitFor p slowdown (instance_costs instances (last_of instances)) s.ins (results_of s) n

@@ -16,27 +16,35 @@ use Rattle.ae_lower.specs.Parts.{mapped_by, plain_part}
 
 -- item i of an instance as a part, where its blocks arrive so many clocks after the parameters
 abbrev pub item_part : (known : List Callee) → StFuncTree → (latency i : ℕ) → Part
-item_part known s d i = plain_part s.budget d (streams_of s.ins) (stream_of (item_layout (item_layouts s) i)) (λ vs. words_at (item_words known s vs) i)
+item_part known s d i =
+    plain_part s.budget d (streams_of s.ins) (stream_of (item_layout (item_layouts s) i))
+    (λ vs. words_at (item_words known s vs) i)
 
 -- nets that are item i of an instance
-pub record IsItem (cells : List SizedCell) (rst at : ℕ) (known : List Callee) (s : StFuncTree) (ins : List (List NetId)) (latency i : ℕ) (nets : List NetId) : Type 0 where
+pub record IsItem (cells : List SizedCell) (rst at : ℕ) (known : List Callee) (s : StFuncTree)
+    (ins : List (List NetId)) (latency i : ℕ) (nets : List NetId) : Type 0 where
   pub there : AreNets cells (stream_widths (stream_of (item_layout (item_layouts s) i))) nets
   pub law : KeepsLaw cells rst at (item_part known s latency i) ins nets
 
 -- a bundle for each of the first items
 pub record AreStanding (cells : List SizedCell) (s : StFuncTree) (count : ℕ) (items : List (List NetId)) : Type 0 where
   pub long : length items ≡ count
-  pub each : (i : ℕ) (nets : List NetId) → slice_get items i ≡ Some nets → AreNets cells (stream_widths (stream_of (item_layout (item_layouts s) i))) nets
+  pub each : (i : ℕ) (nets : List NetId) → slice_get items i ≡ Some nets
+      → AreNets cells (stream_widths (stream_of (item_layout (item_layouts s) i))) nets
 
 -- so many items, each at its arrival
-pub record AreItems (cells : List SizedCell) (rst at : ℕ) (known : List Callee) (s : StFuncTree) (arrivals : List ℕ) (ins : List (List NetId)) (count : ℕ) (items : List (List NetId)) : Type 0 where
+pub record AreItems (cells : List SizedCell) (rst at : ℕ) (known : List Callee) (s : StFuncTree) (arrivals : List ℕ)
+    (ins : List (List NetId)) (count : ℕ) (items : List (List NetId)) : Type 0 where
   pub long : length items ≡ count
-  pub each : (i : ℕ) (nets : List NetId) → slice_get items i ≡ Some nets → IsItem cells rst at known s ins (get_or arrivals i 0) i nets
+  pub each : (i : ℕ) (nets : List NetId) → slice_get items i ≡ Some nets
+      → IsItem cells rst at known s ins (get_or arrivals i 0) i nets
 
 -- bundles for some items, all so late
-pub record AreChosen (cells : List SizedCell) (rst at : ℕ) (known : List Callee) (s : StFuncTree) (ins : List (List NetId)) (latency : ℕ) (chosen : List ℕ) (bundles : List (List NetId)) : Type 0 where
+pub record AreChosen (cells : List SizedCell) (rst at : ℕ) (known : List Callee) (s : StFuncTree)
+    (ins : List (List NetId)) (latency : ℕ) (chosen : List ℕ) (bundles : List (List NetId)) : Type 0 where
   pub long : length bundles ≡ length chosen
-  pub each : (r i : ℕ) (nets : List NetId) → slice_get chosen r ≡ Some i → slice_get bundles r ≡ Some nets → IsItem cells rst at known s ins latency i nets
+  pub each : (r i : ℕ) (nets : List NetId) → slice_get chosen r ≡ Some i → slice_get bundles r ≡ Some nets
+      → IsItem cells rst at known s ins latency i nets
 
 -- the costs of instance number k
 abbrev pub costs_in : List OwnCosts → Option StFuncTree → OwnCosts
@@ -67,7 +75,8 @@ abbrev pub arrivals_in : List StFuncTree → (k : ℕ) → StFuncTree → List �
 arrivals_in instances k s = arrivals_of s.ins (timings_in instances k s)
 
 -- node j of instance number k, and its timing
-pub record IsNodeAt (instances : List StFuncTree) (k j : ℕ) (s : StFuncTree) (n : StNodeTree) (t : NodeTiming) : Type 0 where
+pub record IsNodeAt (instances : List StFuncTree) (k j : ℕ) (s : StFuncTree) (n : StNodeTree)
+    (t : NodeTiming) : Type 0 where
   pub func : slice_get instances k ≡ Some s
   pub node : slice_get s.nodes j ≡ Some n
   pub timing : slice_get (timings_in instances k s) j ≡ Some t
@@ -81,4 +90,5 @@ lane_nets copies l nets = take (length nets / copies) (drop (l * (length nets / 
 -- a body on each of so many lanes, whose blocks follow one another, so many with elements in so many rounds
 abbrev pub bodies_part : (known : List Callee) → (f : StFuncTree) → (slots rounds copies latency : ℕ) → Part
 bodies_part known f n rounds m d =
-    plain_part (rounds * f.budget) d (map (elements_stream n m) f.ins) (elements_stream n m (callee known f).out) (mapped_by (callee known f).flow f.ins (n * m))
+    plain_part (rounds * f.budget) d (map (elements_stream n m) f.ins) (elements_stream n m (callee known f).out)
+    (mapped_by (callee known f).flow f.ins (n * m))

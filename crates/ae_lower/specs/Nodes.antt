@@ -25,7 +25,9 @@ arguments_of s n = map (item_layout (item_layouts s)) n.args
 
 -- a node as a part
 abbrev pub node_part : (known : List Callee) (latency : ℕ) → StFuncTree → StNodeTree → Part
-node_part known d s n = plain_part s.budget d (streams_of (arguments_of s n)) (stream_of n.type) (op_words known (arguments_of s n) n.type n.op)
+node_part known d s n =
+    plain_part s.budget d (streams_of (arguments_of s n)) (stream_of n.type)
+    (op_words known (arguments_of s n) n.type n.op)
 
 -- a node calls no other instance
 abbrev pub CallsNothing : StOpTree → Type 0
@@ -55,18 +57,21 @@ argument_words s n k = element_words (item_layout (arguments_of s n) k)
 
 -- on each lane, the nets of an element of the first argument and then those of the second
 abbrev pub PairsArguments : StFuncTree → StNodeTree → (args : List (List NetId)) → (out : List NetId) → Type 0
-PairsArguments s n args out = ArePairs (get_or args 0 []) (get_or args 1 []) (lanes n.type) (argument_words s n 0) (argument_words s n 1) out
+PairsArguments s n args out =
+    ArePairs (get_or args 0 []) (get_or args 1 []) (lanes n.type) (argument_words s n 0) (argument_words s n 1) out
 
 -- on each lane, the nets of some words of an element of the argument, from one on
 abbrev pub TakesWords : StFuncTree → StNodeTree → (from : ℕ) → (args : List (List NetId)) → (out : List NetId) → Type 0
-TakesWords s n from args out = AreParts (get_or args 0 []) (lanes n.type) (argument_words s n 0) from (element_words n.type) out
+TakesWords s n from args out =
+    AreParts (get_or args 0 []) (lanes n.type) (argument_words s n 0) from (element_words n.type) out
 
 -- a fold, and a move of its result
 abbrev pub moved_fold : FoldShape → Layouts → Part
 moved_fold f l = part_behind (reduce_part f) (gather_part (move_of l))
 
 -- a part that does what an operator does, for what the operator costs
-pub record IsOpPart (known : List Callee) (budget copies : ℕ) (args : List StTree) (arg s : StTree) (op : StOpTree) (p : Part) : Type 0 where
+pub record IsOpPart (known : List Callee) (budget copies : ℕ) (args : List StTree) (arg s : StTree) (op : StOpTree)
+    (p : Part) : Type 0 where
   pub period : p.period ≡ budget
   pub latency : p.latency ≡ (op_costs [] arg s copies op).latency
   pub ins : p.ins ≡ streams_of args
@@ -77,4 +82,5 @@ pub record IsOpPart (known : List Callee) (budget copies : ℕ) (args : List StT
   pub memories : p.most_memories ≤ (op_costs [] arg s copies op).mems
 
 abbrev pub IsNodePart : (known : List Callee) → StFuncTree → StNodeTree → Part → Type 0
-IsNodePart known s n p = IsOpPart known s.budget n.copies (arguments_of s n) (item_layout (item_layouts s) (get_or n.args 0 0)) n.type n.op p
+IsNodePart known s n p =
+    IsOpPart known s.budget n.copies (arguments_of s n) (item_layout (item_layouts s) (get_or n.args 0 0)) n.type n.op p

@@ -36,9 +36,11 @@ pub record IsWithin (period : ℕ) (s : Stream) : Type 0 where
   pub clocks : (e : ℕ) (w : Slot) → slice_get s.slots e ≡ Some w → w.clock < period
 
 -- waves that keep the law with these meanings of the same inputs, all with one latency
-abbrev pub AllKeep : (clocks arrival period latency : ℕ) (ins : List Stream) (waves : List Wave) → List Stream → List (List (List ℕ) → List ℕ) → List Wave → Type 0
+abbrev pub AllKeep : (clocks arrival period latency : ℕ) (ins : List Stream) (waves : List Wave) → List Stream
+    → List (List (List ℕ) → List ℕ) → List Wave → Type 0
 AllKeep clocks a t d ins waves [] [] [] = Unit {0}
-AllKeep clocks a t d ins waves (s ∷ ss) (m ∷ ms) (w ∷ ws) = BlockLaw clocks a (plain_part t d ins s m) waves w × AllKeep clocks a t d ins waves ss ms ws
+AllKeep clocks a t d ins waves (s ∷ ss) (m ∷ ms) (w ∷ ws) =
+    BlockLaw clocks a (plain_part t d ins s m) waves w × AllKeep clocks a t d ins waves ss ms ws
 AllKeep clocks a t d ins waves _ _ _ = ⊥
 
 -- the values of meanings

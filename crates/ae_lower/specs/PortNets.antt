@@ -15,7 +15,8 @@ nets_from first n = map (λ (k : ℕ). record { 0 = k }) (range_with_len first n
 -- those of the inputs of each stream in turn
 abbrev pub bundles_from : (first : ℕ) → List Stream → List (List NetId)
 bundles_from first [] = []
-bundles_from first (s ∷ ss) = nets_from first (length (stream_widths s)) ∷ bundles_from (first + length (stream_widths s)) ss
+bundles_from first (s ∷ ss) =
+    nets_from first (length (stream_widths s)) ∷ bundles_from (first + length (stream_widths s)) ss
 
 -- how wide nets are
 abbrev pub net_widths : List SizedCell → List NetId → List ℕ

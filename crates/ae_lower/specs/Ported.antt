@@ -15,7 +15,8 @@ pub record HasBegun (ins : List StTree) (n : Circuit) : Type 0 where
 -- the reset and the words of the parameters are the inputs, the words of the results the outputs, and the cells are within
 -- the costs
 pub record IsPorted (ins : List StTree) (outs : List Stream) (costs : OwnCosts) (n : Circuit) : Type 0 where
-  pub inputs : take (1 + length (input_ports (streams_of ins))) n.cells ≡ map input_cell (reset_port ∷ input_ports (streams_of ins))
+  pub inputs : take (1 + length (input_ports (streams_of ins))) n.cells ≡ map input_cell
+      (reset_port ∷ input_ports (streams_of ins))
   pub no_others : count_of is_input n.cells ≡ 1 + length (input_ports (streams_of ins))
   pub outputs : map (outlet_port n.cells) n.outlets ≡ output_ports outs
   pub formed : IsFormed n.cells

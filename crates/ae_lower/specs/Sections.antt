@@ -6,7 +6,8 @@ use Rattle.ae_lower.specs.declared.sections.Section.{Section}
 -- sections of so many cells, each behind those before it
 pub record AreSections (cells : ℕ) (sections : List Section) : Type 0 where
   pub within : (i : ℕ) (s : Section) → slice_get sections i ≡ Some s → s.cell ≤ cells
-  pub rising : (i j : ℕ) (s t : Section) → i < j → slice_get sections i ≡ Some s → slice_get sections j ≡ Some t → s.cell < t.cell
+  pub rising : (i j : ℕ) (s t : Section) → i < j → slice_get sections i ≡ Some s → slice_get sections j ≡ Some t
+      → s.cell < t.cell
 
 -- the section in which a cell stands: the last that begins with it or before it
 pub record IsSectionOf (sections : List Section) (cell : ℕ) (s : Section) : Type 0 where
@@ -18,8 +19,11 @@ pub record IsSectionOf (sections : List Section) (cell : ℕ) (s : Section) : Ty
 -- a section is that of node j of instance k, or that of a node to which calls lead from it, each in the instance that the one
 -- before it calls; behind an instance's nodes stands the number for the delays of its results
 abbrev pub CallsLead : List StFuncTree → (k j : ℕ) → (path : List ℕ) → Section → Type 0
-CallsLead instances k j [] s = (s.instance ≡ k) × (s.node ≡ j) × (f : StFuncTree) × (slice_get instances k ≡ Some f) × (j ≤ length f.nodes)
-CallsLead instances k j (i ∷ path) s = (f : StFuncTree) × (n : StNodeTree) × (m : ℕ) × (slice_get instances k ≡ Some f) × (slice_get f.nodes j ≡ Some n) × (n.op ≡ body m) × CallsLead instances m i path s
+CallsLead instances k j [] s =
+    (s.instance ≡ k) × (s.node ≡ j) × (f : StFuncTree) × (slice_get instances k ≡ Some f) × (j ≤ length f.nodes)
+CallsLead instances k j (i ∷ path) s =
+    (f : StFuncTree) × (n : StNodeTree) × (m : ℕ) × (slice_get instances k ≡ Some f) × (slice_get f.nodes j ≡ Some n)
+    × (n.op ≡ body m) × CallsLead instances m i path s
 
 -- a section of node j of instance k, or of one that it calls
 pub record IsSectionFor (instances : List StFuncTree) (k j : ℕ) (s : Section) : Type 0 where
@@ -57,7 +61,8 @@ first_cell s = s.cell
 
 -- in whatever section an old cell stands, a new one stands in one of the same node
 pub record IsCopiedSection (old new : List Section) (cell place : ℕ) : Type 0 where
-  pub each : (s : Section) → IsSectionOf old cell s → (t : Section) × IsSectionOf new place t × (t.instance ≡ s.instance) × (t.node ≡ s.node)
+  pub each : (s : Section) → IsSectionOf old cell s → (t : Section) × IsSectionOf new place t
+      × (t.instance ≡ s.instance) × (t.node ≡ s.node)
 
 -- the place of the first cell of section i, where it is the last that is not behind a cell, of so many sections
 pub record IsLastPlace (places : List ℕ) (count cell i place : ℕ) : Type 0 where
@@ -68,5 +73,6 @@ pub record IsLastPlace (places : List ℕ) (count cell i place : ℕ) : Type 0 w
 
 -- so many sections are copied, each to the place of its first cell
 pub record AreCopied (sections : List Section) (places : List ℕ) (count : ℕ) (copied : List Section) : Type 0 where
-  pub each : (cell i place : ℕ) (s : Section) → IsLastPlace places count cell i place → slice_get sections i ≡ Some s → IsSectionOf copied cell (record { cell = place; instance = s.instance; node = s.node })
+  pub each : (cell i place : ℕ) (s : Section) → IsLastPlace places count cell i place → slice_get sections i ≡ Some s
+      → IsSectionOf copied cell (record { cell = place; instance = s.instance; node = s.node })
   pub are : (i place : ℕ) → count ≤ i → slice_get places i ≡ Some place → AreSections place copied

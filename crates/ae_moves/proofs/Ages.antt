@@ -84,13 +84,15 @@ pub delay_from_ages : (d columns : ℕ) (trips : List TripTree) (ns : List ℕ) 
 delay_from_ages d columns trips ns ages = sum_from_each _ ns columns ages.long ages.each
 
 -- one trip more
-ages_by : (d columns : ℕ) (trips : List TripTree) (i : ℕ) (ns : List ℕ) (t : TripTree) (s : SourceTree) → t.source ≡ s → KeepsAges d columns trips i ns → i < length trips → t ≡ get_or trips i t →
+ages_by : (d columns : ℕ) (trips : List TripTree) (i : ℕ) (ns : List ℕ) (t : TripTree) (s : SourceTree) → t.source ≡ s → KeepsAges d columns trips i ns
+    → i < length trips → t ≡ get_or trips i t →
     IsReached d columns t.clock s → KeepsAges d columns trips (i + 1) (deepened d ns t.clock s)
 ages_by d columns trips i ns t (place k q) from keeps h is within =
     let low : q < length ns = omega (arith, keeps.long, within.0) in
     ages_word d columns trips i ns t k q (get_or ns q 0) keeps h is from within.0 (get_or_default ns q 0 (get_or ns q 0) low)
 ages_by d columns trips i ns t (constant w) from keeps h is within = ages_fixed d columns trips i ns t w keeps h is from
 
-pub ages_step : (d columns : ℕ) (trips : List TripTree) (i : ℕ) (ns : List ℕ) (t : TripTree) → KeepsAges d columns trips i ns → i < length trips → t ≡ get_or trips i t →
+pub ages_step : (d columns : ℕ) (trips : List TripTree) (i : ℕ) (ns : List ℕ) (t : TripTree) → KeepsAges d columns trips i ns → i < length trips
+    → t ≡ get_or trips i t →
     IsReached d columns t.clock t.source → KeepsAges d columns trips (i + 1) (deepened d ns t.clock t.source)
 ages_step d columns trips i ns t keeps h is within = ages_by d columns trips i ns t t.source refl keeps h is within

@@ -49,7 +49,8 @@ same_depth : (d e : ℕ) (a b c x y z at next enable : NetId) → Mem d a b c �
 same_depth d e a b c x y z at next enable is = let k : d ≡ e = cc in ap (λ i. Mem i at next enable) k
 
 -- what holds of each operand alone passes over to all
-pub operands_map : (op : WordOp) (P Q : ℕ → ℕ → Type 0) (args : List NetId) (w : ℕ) → ((n v : ℕ) → P n v → Q n v) → OperandsAre op P args w → OperandsAre op Q args w
+pub operands_map : (op : WordOp) (P Q : ℕ → ℕ → Type 0) (args : List NetId) (w : ℕ) → ((n v : ℕ) → P n v → Q n v) → OperandsAre op P args w
+    → OperandsAre op Q args w
 operands_map Mux P Q args w f h = (f _ _ h.0, f _ _ h.1, f _ _ h.2)
 operands_map _ P Q args w f h = (f _ _ h.0, f _ _ h.1, f _ _ h.2)
 
@@ -59,7 +60,8 @@ main_is Mux P args w h = h.1
 main_is _ P args w h = h.0
 
 -- an operation stays one where every net stays
-pub operation_later : (a b : List SizedCell) (op : WordOp) (args : List NetId) (w : ℕ) → ((n v : ℕ) → IsNet a n v → IsNet b n v) → IsOperation a op args w → IsOperation b op args w
+pub operation_later : (a b : List SizedCell) (op : WordOp) (args : List NetId) (w : ℕ) → ((n v : ℕ) → IsNet a n v → IsNet b n v) → IsOperation a op args w
+    → IsOperation b op args w
 operation_later a b op args w keep h =
     let e : width_of b (main_operand op args) ≡ width_of a (main_operand op args) = net_width (keep _ _ (main_is op (IsNet a) args _ h.operands)) in
     record {
@@ -111,11 +113,13 @@ cell_later a b all more own w (Mem depth at next enable) f g h =
     (h.0, h.1, elim h.2 [ inl u ↦ inl u | inr u ↦ inr (written_later all more w depth at.0 next.0 enable.0 g u) ])
 cell_later a b all more own w (Peek mem at) f g h = peek_later a b w mem.0 at.0 f h
 
-pub fits_later : (a b all more : List SizedCell) (own : ℕ) (sized : SizedCell) → Keeps a b → Keeps all more → SizedCellFits a all own sized → SizedCellFits b more own sized
+pub fits_later : (a b all more : List SizedCell) (own : ℕ) (sized : SizedCell) → Keeps a b → Keeps all more → SizedCellFits a all own sized
+    → SizedCellFits b more own sized
 fits_later a b all more own sized f g h = record { low = h.low; high = h.high; cell = cell_later a b all more own sized.width sized.cell f g h.cell }
 
 -- one more cell
-pub formed_push : (cells : List SizedCell) (sized : SizedCell) → IsFormed cells → SizedCellFits cells (cells ++ sized ∷ []) (length cells) sized → IsFormed (cells ++ sized ∷ [])
+pub formed_push : (cells : List SizedCell) (sized : SizedCell) → IsFormed cells → SizedCellFits cells (cells ++ sized ∷ []) (length cells) sized
+    → IsFormed (cells ++ sized ∷ [])
 formed_push cells sized formed fits = record {
   each = λ n found h. elim (get_push_cases cells sized n found h) [
     | inl w ↦
@@ -132,7 +136,8 @@ formed_push cells sized formed fits = record {
 }
 
 -- what may be added fits behind the cells
-pub allowed_fits : (cells more : List SizedCell) (w : ℕ) (cell : Cell) → 1 ≤ w → w ≤ 64 → IsAllowed cells w cell → SizedCellFits cells more (length cells) (record { width = w; cell = cell })
+pub allowed_fits : (cells more : List SizedCell) (w : ℕ) (cell : Cell) → 1 ≤ w → w ≤ 64 → IsAllowed cells w cell
+    → SizedCellFits cells more (length cells) (record { width = w; cell = cell })
 allowed_fits cells more w (Input port) lo hi h = record { low = lo; high = hi; cell = tt }
 allowed_fits cells more w (Const k) lo hi h = record { low = lo; high = hi; cell = h }
 allowed_fits cells more w (Op op args) lo hi h = record { low = lo; high = hi; cell = h }
@@ -141,7 +146,8 @@ allowed_fits cells more w (Mem depth at next enable) lo hi h = absurd h
 allowed_fits cells more w (Peek mem at) lo hi h = record { low = lo; high = hi; cell = h }
 
 -- a new register names itself
-pub state_fits : (cells : List SizedCell) (w : ℕ) → 1 ≤ w → w ≤ 64 → let sized : SizedCell = record { width = w; cell = Reg (record { 0 = length cells }) } in SizedCellFits cells (cells ++ sized ∷ []) (length cells) sized
+pub state_fits : (cells : List SizedCell) (w : ℕ) → 1 ≤ w → w ≤ 64 → let sized : SizedCell = record { width = w; cell = Reg (record { 0 = length cells }) } in
+    SizedCellFits cells (cells ++ sized ∷ []) (length cells) sized
 state_fits cells w lo hi = record {
   low = lo;
   high = hi;
@@ -151,16 +157,19 @@ state_fits cells w lo hi = record {
 -- a new memory names itself
 pub memory_fits : (cells more : List SizedCell) (w depth : ℕ) → 1 ≤ w → w ≤ 64 → 1 ≤ depth → depth ≤ 65536
     → let own : NetId = record { 0 = length cells } in SizedCellFits cells more (length cells) (record { width = w; cell = Mem depth own own own })
-memory_fits cells more w depth lo hi some most = record { low = lo; high = hi; cell = (some, most, inl (record { at_own = refl; next_own = refl; enable_own = refl })) }
+memory_fits cells more w depth lo hi some most =
+    record { low = lo; high = hi; cell = (some, most, inl (record { at_own = refl; next_own = refl; enable_own = refl })) }
 
 -- a cell that may take the place of another: as a net, as a memory and as a constant it is the same
 pub record StandsFor (new old : SizedCell) : Type 0 where
   pub plain : IsPlain old.cell → IsPlain new.cell
   pub wide : new.width ≡ old.width
-  pub memory : (depth : ℕ) (at next enable : NetId) → old.cell ≡ Mem depth at next enable → (a : NetId) × (b : NetId) × (c : NetId) × (new.cell ≡ Mem depth a b c)
+  pub memory : (depth : ℕ) (at next enable : NetId) → old.cell ≡ Mem depth at next enable → (a : NetId) × (b : NetId) × (c : NetId)
+      × (new.cell ≡ Mem depth a b c)
   pub constant : (k : ℕ) → old.cell ≡ Const k → new.cell ≡ Const k
 
-net_replaced : (cells : List SizedCell) (r : ℕ) (new old : SizedCell) → slice_get cells r ≡ Some old → StandsFor new old → (n v : ℕ) → IsNet cells n v → IsNet (set cells r new) n v
+net_replaced : (cells : List SizedCell) (r : ℕ) (new old : SizedCell) → slice_get cells r ≡ Some old → StandsFor new old → (n v : ℕ) → IsNet cells n v
+    → IsNet (set cells r new) n v
 net_replaced cells r new old there s n v h =
     elim (cases_eq n r) [
       | inl e ↦
@@ -175,22 +184,32 @@ net_replaced cells r new old there s n v h =
       | inr ne ↦ record { sized = h.sized; found = get_set_other cells r n _ ne ∙ h.found; plain = h.plain; wide = h.wide }
     ]
 
-is_memory : (cells : List SizedCell) (n v d : ℕ) (new : SizedCell) → slice_get cells n ≡ Some new → new.width ≡ v → (a : NetId) × (b : NetId) × (c : NetId) × (new.cell ≡ Mem d a b c) → IsMemory cells n v d
+is_memory : (cells : List SizedCell) (n v d : ℕ) (new : SizedCell) → slice_get cells n ≡ Some new → new.width ≡ v → (a : NetId) × (b : NetId) × (c : NetId)
+    × (new.cell ≡ Mem d a b c) → IsMemory cells n v d
 is_memory cells n v d new there w m =
-    record { at = m.0; next = m.1; enable = m.2; found = there ∙ ap (λ (x : SizedCell). Some x) (same_sized new (record { width = v; cell = Mem d m.0 m.1 m.2 }) w m.3) }
+    record {
+      at = m.0;
+      next = m.1;
+      enable = m.2;
+      found = there ∙
+          ap (λ (x : SizedCell). Some x) (same_sized new (record { width = v; cell = Mem d m.0 m.1 m.2 }) w m.3);
+    }
 
-memory_replaced : (cells : List SizedCell) (r : ℕ) (new old : SizedCell) → slice_get cells r ≡ Some old → StandsFor new old → (n v d : ℕ) → IsMemory cells n v d → IsMemory (set cells r new) n v d
+memory_replaced : (cells : List SizedCell) (r : ℕ) (new old : SizedCell) → slice_get cells r ≡ Some old → StandsFor new old → (n v d : ℕ)
+    → IsMemory cells n v d → IsMemory (set cells r new) n v d
 memory_replaced cells r new old there s n v d h =
     elim (cases_eq n r) [
       | inl e ↦
           let same : Some (record { width = v; cell = Mem d h.at h.next h.enable }) ≡ Some old = sym h.found ∙ (ap (slice_get cells) e ∙ there) in
           let is : record { width = v; cell = Mem d h.at h.next h.enable } ≡ old = cc in
           let w : new.width ≡ v = s.wide ∙ ap (λ (x : SizedCell). x.width) (sym is) in
-          is_memory (set cells r new) n v d new (ap (slice_get (set cells r new)) e ∙ get_set_same cells r new old there) w (s.memory d h.at h.next h.enable (ap (λ (x : SizedCell). x.cell) (sym is)))
+          is_memory (set cells r new) n v d new (ap (slice_get (set cells r new)) e ∙ get_set_same cells r new old there) w
+          (s.memory d h.at h.next h.enable (ap (λ (x : SizedCell). x.cell) (sym is)))
       | inr ne ↦ record { at = h.at; next = h.next; enable = h.enable; found = get_set_other cells r n _ ne ∙ h.found }
     ]
 
-constant_replaced : (cells : List SizedCell) (r : ℕ) (new old : SizedCell) → slice_get cells r ≡ Some old → StandsFor new old → (n d : ℕ) → IsConstantBelow cells n d → IsConstantBelow (set cells r new) n d
+constant_replaced : (cells : List SizedCell) (r : ℕ) (new old : SizedCell) → slice_get cells r ≡ Some old → StandsFor new old → (n d : ℕ)
+    → IsConstantBelow cells n d → IsConstantBelow (set cells r new) n d
 constant_replaced cells r new old there s n d h =
     elim (cases_eq n r) [
       | inl e ↦
@@ -198,7 +217,14 @@ constant_replaced cells r new old there s n d h =
           let is : record { width = h.width; cell = Const h.constant } ≡ old = cc in
           let k : new.cell ≡ Const h.constant = s.constant h.constant (ap (λ (x : SizedCell). x.cell) (sym is)) in
           let w : new.width ≡ h.width = s.wide ∙ ap (λ (x : SizedCell). x.width) (sym is) in
-          record { width = h.width; constant = h.constant; found = ap (slice_get (set cells r new)) e ∙ (get_set_same cells r new old there ∙ ap (λ (x : SizedCell). Some x) (same_sized new (record { width = h.width; cell = Const h.constant }) w k)); below = h.below }
+          record {
+            width = h.width;
+            constant = h.constant;
+            found = ap (slice_get (set cells r new)) e ∙
+                (get_set_same cells r new old there ∙ ap (λ (x : SizedCell). Some x)
+                (same_sized new (record { width = h.width; cell = Const h.constant }) w k));
+            below = h.below;
+          }
       | inr ne ↦ record { width = h.width; constant = h.constant; found = get_set_other cells r n _ ne ∙ h.found; below = h.below }
     ]
 
@@ -256,7 +282,8 @@ pub register_stands : (w : ℕ) (before next : NetId) → StandsFor (record { wi
 register_stands w before next = record { plain = λ p. tt; wide = refl; memory = λ d a b c e. cc; constant = λ k e. cc }
 
 -- and so does a memory
-pub memory_stands : (w d : ℕ) (a b c at next enable : NetId) → StandsFor (record { width = w; cell = Mem d at next enable }) (record { width = w; cell = Mem d a b c })
+pub memory_stands : (w d : ℕ) (a b c at next enable : NetId)
+    → StandsFor (record { width = w; cell = Mem d at next enable }) (record { width = w; cell = Mem d a b c })
 memory_stands w d a b c at next enable = record {
   plain = λ p. p;
   wide = refl;
@@ -264,19 +291,23 @@ memory_stands w d a b c at next enable = record {
   constant = λ k e. cc;
 }
 
-pub keeps_connected : (cells : List SizedCell) (r w : ℕ) (next : NetId) → IsRegister cells r w → Keeps cells (set cells r (record { width = w; cell = Reg next }))
+pub keeps_connected : (cells : List SizedCell) (r w : ℕ) (next : NetId) → IsRegister cells r w
+    → Keeps cells (set cells r (record { width = w; cell = Reg next }))
 keeps_connected cells r w next reg = keeps_replaced cells r _ _ reg.found (register_stands w reg.next next)
 
-pub keeps_written : (cells : List SizedCell) (m w d : ℕ) (at next enable : NetId) → IsMemory cells m w d → Keeps cells (set cells m (record { width = w; cell = Mem d at next enable }))
+pub keeps_written : (cells : List SizedCell) (m w d : ℕ) (at next enable : NetId) → IsMemory cells m w d
+    → Keeps cells (set cells m (record { width = w; cell = Mem d at next enable }))
 keeps_written cells m w d at next enable mem = keeps_replaced cells m _ _ mem.found (memory_stands w d mem.at mem.next mem.enable at next enable)
 
-pub formed_connected : (cells : List SizedCell) (r w : ℕ) (next : NetId) → IsFormed cells → IsRegister cells r w → IsNet cells next.0 w → IsFormed (set cells r (record { width = w; cell = Reg next }))
+pub formed_connected : (cells : List SizedCell) (r w : ℕ) (next : NetId) → IsFormed cells → IsRegister cells r w → IsNet cells next.0 w
+    → IsFormed (set cells r (record { width = w; cell = Reg next }))
 formed_connected cells r w next formed reg there =
     let old = formed.each r _ reg.found in
     formed_replaced cells r _ _ reg.found (register_stands w reg.next next) formed
     (record { low = old.low; high = old.high; cell = (keeps_connected cells r w next reg).nets _ _ there })
 
-pub formed_written : (cells : List SizedCell) (m w d : ℕ) (at next enable : NetId) → IsFormed cells → IsMemory cells m w d → IsWritten cells w d at.0 next.0 enable.0
+pub formed_written : (cells : List SizedCell) (m w d : ℕ) (at next enable : NetId) → IsFormed cells → IsMemory cells m w d
+    → IsWritten cells w d at.0 next.0 enable.0
     → IsFormed (set cells m (record { width = w; cell = Mem d at next enable }))
 formed_written cells m w d at next enable formed mem written =
     let old = formed.each m _ mem.found in
@@ -288,7 +319,8 @@ formed_written cells m w d at next enable formed mem written =
 pub nets_later : (a b : List SizedCell) (outlets : List Outlet) → Keeps a b → HaveNets a outlets → HaveNets b outlets
 nets_later a b outlets k h = record { each = λ i outlet g. own_later a b outlet.net.0 k (h.each i outlet g) }
 
-pub nets_push : (cells : List SizedCell) (outlets : List Outlet) (outlet : Outlet) → HaveNets cells outlets → IsNet cells outlet.net.0 (width_of cells outlet.net.0) → HaveNets cells (outlets ++ outlet ∷ [])
+pub nets_push : (cells : List SizedCell) (outlets : List Outlet) (outlet : Outlet) → HaveNets cells outlets
+    → IsNet cells outlet.net.0 (width_of cells outlet.net.0) → HaveNets cells (outlets ++ outlet ∷ [])
 nets_push cells outlets outlet h there = record {
   each = λ i found g. elim (get_push_cases outlets outlet i found g) [
     | inl w ↦ h.each i found w.0

@@ -78,7 +78,8 @@ any_fits (Mem depth at next enable) width w store h = let e : w ≡ 0 = h.0 in r
 any_fits (Peek mem at) width w store h = h.0
 
 net_holds : (cells : List SizedCell) (p : Clock) (m w : ℕ) → IsShaped cells p → IsNet cells m w → get_or p.words m 0 < 2 ^ w
-net_holds cells p m w s k = rw (← k.wide) (plain_fits k.sized.cell k.sized.width (get_or p.words m 0) (get_or p.stores m []) k.plain (cell_holds s m k.sized k.found))
+net_holds cells p m w s k =
+    rw (← k.wide) (plain_fits k.sized.cell k.sized.width (get_or p.words m 0) (get_or p.stores m []) k.plain (cell_holds s m k.sized k.found))
 
 -- what a memory holds, and that nothing else has a store
 abbrev pub StoreHolds : Cell → ℕ → List ℕ → Type 0
@@ -112,8 +113,10 @@ choice P true x y p q = p
 choice P false x y p q = q
 
 store_steps : (cells : List SizedCell) (prev : Option Clock) (g : Clock) (n width : ℕ) (cell : Cell) → IsShapedIfAny cells prev → IsShaped cells g
-    → slice_get cells n ≡ Some (record { width = width; cell = cell }) → CellFits (take n cells) cells n width cell → StoreHolds cell width (stepped_store prev g n cell)
-store_steps cells None g n width cell sp sg h fits = store_of_cell cell width (get_or g.words n 0) (get_or g.stores n []) (cell_holds sg n (record { width = width; cell = cell }) h)
+    → slice_get cells n ≡ Some (record { width = width; cell = cell }) → CellFits (take n cells) cells n width cell
+    → StoreHolds cell width (stepped_store prev g n cell)
+store_steps cells None g n width cell sp sg h fits =
+    store_of_cell cell width (get_or g.words n 0) (get_or g.stores n []) (cell_holds sg n (record { width = width; cell = cell }) h)
 store_steps cells (Some p) g n width (Input port) sp sg h fits = refl
 store_steps cells (Some p) g n width (Const k) sp sg h fits = refl
 store_steps cells (Some p) g n width (Op op args) sp sg h fits = refl
@@ -127,19 +130,25 @@ store_steps cells (Some p) g n width (Mem depth at next enable) sp sg h fits =
       | inl u ↦ let t : (n == n) ≡ true = eq-eqb n n refl in rw (u.enable_own, t) kept
       | inr u ↦
           let new : List ℕ = set old (get_or p.words at.0 0) (get_or p.words next.0 0) in
-          let written : P new = (length-set old (get_or p.words at.0 0) (get_or p.words next.0 0) ∙ kept.0, All-set (λ v. v < 2 ^ width) old (get_or p.words at.0 0) (get_or p.words next.0 0) (net_holds cells p next.0 width sp u.word) kept.1) in
-          choice P (enable.0 == n) old (if get_or p.words enable.0 0 == 1 then new else old) kept (choice P (get_or p.words enable.0 0 == 1) new old written kept)
+          let written : P new = (
+            length-set old (get_or p.words at.0 0) (get_or p.words next.0 0) ∙ kept.0,
+            All-set (λ v. v < 2 ^ width) old (get_or p.words at.0 0) (get_or p.words next.0 0) (net_holds cells p next.0 width sp u.word) kept.1,
+          ) in
+          choice P (enable.0 == n) old (if get_or p.words enable.0 0 == 1 then new else old) kept
+          (choice P (get_or p.words enable.0 0 == 1) new old written kept)
     ]
 store_steps cells (Some p) g n width (Peek mem at) sp sg h fits = refl
 
 free_steps : (cells : List SizedCell) (prev : Option Clock) (g : Clock) (n width : ℕ) (cell : Cell) → IsShapedIfAny cells prev → IsShaped cells g
     → slice_get cells n ≡ Some (record { width = width; cell = cell }) → CellFits (take n cells) cells n width cell → free_word prev g n cell < 2 ^ width
-free_steps cells None g n width cell sp sg h fits = any_fits cell width (get_or g.words n 0) (get_or g.stores n []) (cell_holds sg n (record { width = width; cell = cell }) h)
+free_steps cells None g n width cell sp sg h fits =
+    any_fits cell width (get_or g.words n 0) (get_or g.stores n []) (cell_holds sg n (record { width = width; cell = cell }) h)
 free_steps cells (Some p) g n width (Reg next) sp sg h fits = net_holds cells p next.0 width sp fits
 free_steps cells (Some p) g n width (Input port) sp sg h fits = any_fits (Input port) width (get_or g.words n 0) (get_or g.stores n []) (cell_holds sg n _ h)
 free_steps cells (Some p) g n width (Const k) sp sg h fits = any_fits (Const k) width (get_or g.words n 0) (get_or g.stores n []) (cell_holds sg n _ h)
 free_steps cells (Some p) g n width (Op op args) sp sg h fits = any_fits (Op op args) width (get_or g.words n 0) (get_or g.stores n []) (cell_holds sg n _ h)
-free_steps cells (Some p) g n width (Mem depth at next enable) sp sg h fits = any_fits (Mem depth at next enable) width (get_or g.words n 0) (get_or g.stores n []) (cell_holds sg n _ h)
+free_steps cells (Some p) g n width (Mem depth at next enable) sp sg h fits =
+    any_fits (Mem depth at next enable) width (get_or g.words n 0) (get_or g.stores n []) (cell_holds sg n _ h)
 free_steps cells (Some p) g n width (Peek mem at) sp sg h fits = any_fits (Peek mem at) width (get_or g.words n 0) (get_or g.stores n []) (cell_holds sg n _ h)
 
 -- what stands at a sized in the next clock
@@ -147,7 +156,8 @@ pub record IsNext (cells : List SizedCell) (prev : Option Clock) (g k : Clock) (
   pub word : get_or k.words n 0 ≡ cell_word cells (free_in cells prev g) (store_in cells prev g) k.words n sized.cell
   pub store : get_or k.stores n [] ≡ stepped_store prev g n sized.cell
 
-pub next_at : (cells : List SizedCell) (prev : Option Clock) (g : Clock) (n : ℕ) (sized : SizedCell) → IsFormed cells → slice_get cells n ≡ Some sized → IsNext cells prev g (next_clock cells prev g) n sized
+pub next_at : (cells : List SizedCell) (prev : Option Clock) (g : Clock) (n : ℕ) (sized : SizedCell) → IsFormed cells → slice_get cells n ≡ Some sized
+    → IsNext cells prev g (next_clock cells prev g) n sized
 unfolding next_clock
 next_at cells prev g n sized formed h = record {
   word = (settled cells (free_in cells prev g) (store_in cells prev g) formed).each n sized h;
@@ -156,7 +166,8 @@ next_at cells prev g n sized formed h = record {
       ∙ ap (λ o. in_cell o [] (stepped_store prev g n)) h;
 }
 
-holds_by_cell : (cells : List SizedCell) (free : ℕ → ℕ) (stores : ℕ → List ℕ) (u : List ℕ) (n : ℕ) (cell : Cell) (width w : ℕ) (store : List ℕ) → w ≡ cell_word cells free stores u n cell → w < 2 ^ width → StoreHolds cell width store → CellHolds cell width w store
+holds_by_cell : (cells : List SizedCell) (free : ℕ → ℕ) (stores : ℕ → List ℕ) (u : List ℕ) (n : ℕ) (cell : Cell) (width w : ℕ) (store : List ℕ)
+    → w ≡ cell_word cells free stores u n cell → w < 2 ^ width → StoreHolds cell width store → CellHolds cell width w store
 holds_by_cell cells free stores u n (Input port) width w store e l h = (l, h)
 holds_by_cell cells free stores u n (Const k) width w store e l h = (l, h)
 holds_by_cell cells free stores u n (Op op args) width w store e l h = (l, h)
@@ -164,7 +175,8 @@ holds_by_cell cells free stores u n (Reg next) width w store e l h = (l, h)
 holds_by_cell cells free stores u n (Mem depth at next enable) width w store e l h = (e, h.0, h.1)
 holds_by_cell cells free stores u n (Peek mem at) width w store e l h = (l, h)
 
-pub next_shaped : (cells : List SizedCell) (prev : Option Clock) (g : Clock) → IsFormed cells → IsShapedIfAny cells prev → IsShaped cells g → IsShaped cells (next_clock cells prev g)
+pub next_shaped : (cells : List SizedCell) (prev : Option Clock) (g : Clock) → IsFormed cells → IsShapedIfAny cells prev → IsShaped cells g
+    → IsShaped cells (next_clock cells prev g)
 unfolding next_clock
 next_shaped cells prev g formed sp sg =
     let free : ℕ → ℕ = free_in cells prev g in
@@ -179,6 +191,7 @@ next_shaped cells prev g formed sp sg =
       stores = length-map-range_with_len stores 0 (length cells);
       holds = each_holds cells (next_clock cells prev g) (λ n sized h.
           let at = next_at cells prev g n sized formed h in
-          holds_by_cell cells free stores (settle cells free stores [] cells) n sized.cell sized.width (get_or (settle cells free stores [] cells) n 0) (get_or (map stores (range_with_len 0 (length cells))) n [])
+          holds_by_cell cells free stores (settle cells free stores [] cells) n sized.cell sized.width (get_or (settle cells free stores [] cells) n 0)
+          (get_or (map stores (range_with_len 0 (length cells))) n [])
           at.word (fit n sized h) (rw at.store (store_holds n sized h)));
     }

@@ -64,25 +64,31 @@ abbrev IsGiven : List SizedCell → List Clock → Type 0
 IsGiven cells given = (t : ℕ) → t < length given → IsShaped cells (get_or given t no_clock)
 
 -- every clock of such a list is shaped
-all_shaped : (cells : List SizedCell) (given run : List Clock) → IsFormed cells → ((t : ℕ) → t < length given → IsShaped cells (get_or given t no_clock)) → GoesOn cells None given run → (t : ℕ) → t < length given → IsShaped cells (get_or run t no_clock)
+all_shaped : (cells : List SizedCell) (given run : List Clock) → IsFormed cells → ((t : ℕ) → t < length given → IsShaped cells (get_or given t no_clock))
+    → GoesOn cells None given run → (t : ℕ) → t < length given → IsShaped cells (get_or run t no_clock)
 all_shaped cells given run formed shaped h zero b =
     rw (h zero b) (next_shaped cells None (get_or given zero no_clock) formed tt (shaped zero b))
 all_shaped cells given run formed shaped h (suc t) b =
-    rw (h (suc t) b) (next_shaped cells (Some (get_or run t no_clock)) (get_or given (suc t) no_clock) formed (all_shaped cells given run formed shaped h t (omega arith)) (shaped (suc t) b))
+    rw (h (suc t) b) (next_shaped cells (Some (get_or run t no_clock)) (get_or given (suc t) no_clock) formed
+    (all_shaped cells given run formed shaped h t (omega arith)) (shaped (suc t) b))
 
 -- what stands at a sized of a list that goes on
-goes_at : (cells : List SizedCell) (given run : List Clock) (t n : ℕ) (sized : SizedCell) → IsFormed cells → GoesOn cells None given run → t < length given → slice_get cells n ≡ Some sized → IsNext cells (before None run t) (get_or given t no_clock) (get_or run t no_clock) n sized
+goes_at : (cells : List SizedCell) (given run : List Clock) (t n : ℕ) (sized : SizedCell) → IsFormed cells → GoesOn cells None given run → t < length given
+    → slice_get cells n ≡ Some sized → IsNext cells (before None run t) (get_or given t no_clock) (get_or run t no_clock) n sized
 goes_at cells given run t n sized formed h b found =
     rw (h t b) (next_at cells (before None run t) (get_or given t no_clock) n sized formed found)
 
 -- so it settles
-settles_at : (cells : List SizedCell) (given run : List Clock) (t n width : ℕ) (cell : Cell) → IsFormed cells → GoesOn cells None given run → t < length given → slice_get cells n ≡ Some (record { width = width; cell = cell }) → Settles cells run t n cell
+settles_at : (cells : List SizedCell) (given run : List Clock) (t n width : ℕ) (cell : Cell) → IsFormed cells → GoesOn cells None given run → t < length given
+    → slice_get cells n ≡ Some (record { width = width; cell = cell }) → Settles cells run t n cell
 unfolding word_at store_at
 settles_at cells given run t n width (Input port) formed h b found = tt
 settles_at cells given run t n width (Reg next) formed h b found = tt
 settles_at cells given run t n width (Mem depth at next enable) formed h b found = tt
-settles_at cells given run t n width (Const k) formed h b found = ((goes_at cells given run t n (record { width = width; cell = Const k }) formed h b found).word)
-settles_at cells given run t n width (Op op args) formed h b found = (goes_at cells given run t n (record { width = width; cell = Op op args }) formed h b found).word
+settles_at cells given run t n width (Const k) formed h b found =
+    ((goes_at cells given run t n (record { width = width; cell = Const k }) formed h b found).word)
+settles_at cells given run t n width (Op op args) formed h b found =
+    (goes_at cells given run t n (record { width = width; cell = Op op args }) formed h b found).word
 settles_at cells given run t n width (Peek mem at) formed h b found =
     let fits = (formed.each n (record { width = width; cell = Peek mem at }) found).cell in
     let kept : SizedCell = record { width = width; cell = Mem fits.depth fits.memory.at fits.memory.next fits.memory.enable } in
@@ -96,7 +102,8 @@ settles_at cells given run t n width (Peek mem at) formed h b found =
     (ap (λ (o : Option SizedCell). in_cell o [] (stepped_store prev g mem.0)) m ∙ sym there.store)
 
 -- and it steps
-steps_at : (cells : List SizedCell) (given run : List Clock) (t n width : ℕ) (cell : Cell) → IsFormed cells → GoesOn cells None given run → t + 1 < length given → slice_get cells n ≡ Some (record { width = width; cell = cell }) → Steps run t n cell
+steps_at : (cells : List SizedCell) (given run : List Clock) (t n width : ℕ) (cell : Cell) → IsFormed cells → GoesOn cells None given run
+    → t + 1 < length given → slice_get cells n ≡ Some (record { width = width; cell = cell }) → Steps run t n cell
 unfolding word_at store_at
 steps_at cells given run t n width (Input port) formed h b found = tt
 steps_at cells given run t n width (Const k) formed h b found = tt
@@ -110,7 +117,8 @@ steps_at cells given run t n width (Mem depth at next enable) formed h b found =
     let here = goes_at cells given run (suc t) n (record { width = width; cell = Mem depth at next enable }) formed h (omega arith) found in
     rw add-one (here.store)
 
-agrees_at : (cells : List SizedCell) (given run : List Clock) (t n width : ℕ) (cell : Cell) → IsFormed cells → GoesOn cells None given run → t < length given → slice_get cells n ≡ Some (record { width = width; cell = cell }) → AgreesAt given run t n cell
+agrees_at : (cells : List SizedCell) (given run : List Clock) (t n width : ℕ) (cell : Cell) → IsFormed cells → GoesOn cells None given run → t < length given
+    → slice_get cells n ≡ Some (record { width = width; cell = cell }) → AgreesAt given run t n cell
 unfolding word_at store_at
 agrees_at cells given run t n width (Const k) formed h b found = tt
 agrees_at cells given run t n width (Op op args) formed h b found = tt
@@ -146,7 +154,9 @@ made_run cells given formed shaped =
     }
 
 -- the words that a run may choose are those given, or follow from the clock before
-free_is : (cells : List SizedCell) (given run : List Clock) (t n width : ℕ) (cell : Cell) → IsRunOn cells given run → t < length given → slice_get cells n ≡ Some (record { width = width; cell = cell }) → IsFree cell → word_at run t n ≡ free_word (before None run t) (get_or given t no_clock) n cell
+free_is : (cells : List SizedCell) (given run : List Clock) (t n width : ℕ) (cell : Cell) → IsRunOn cells given run → t < length given
+    → slice_get cells n ≡ Some (record { width = width; cell = cell }) → IsFree cell
+    → word_at run t n ≡ free_word (before None run t) (get_or given t no_clock) n cell
 unfolding word_at store_at
 free_is cells given run zero n width (Input port) r b found f = r.agrees.same zero n _ b found
 free_is cells given run (suc t) n width (Input port) r b found f = r.agrees.same (suc t) n _ b found
@@ -160,11 +170,14 @@ free_is cells given run t n width (Mem depth at next enable) r b found f = absur
 free_is cells given run t n width (Peek mem at) r b found f = absurd f
 
 -- so does what stands in each store
-shape_at : (cells : List SizedCell) (given run : List Clock) (t n : ℕ) (sized : SizedCell) → IsRunOn cells given run → t < length given → slice_get cells n ≡ Some sized → CellHolds sized.cell sized.width (get_or (get_or run t no_clock).words n 0) (get_or (get_or run t no_clock).stores n [])
+shape_at : (cells : List SizedCell) (given run : List Clock) (t n : ℕ) (sized : SizedCell) → IsRunOn cells given run → t < length given
+    → slice_get cells n ≡ Some sized → CellHolds sized.cell sized.width (get_or (get_or run t no_clock).words n 0) (get_or (get_or run t no_clock).stores n [])
 shape_at cells given run t n sized r b found =
     cell_holds (clock_shaped r.runs t (let e : length run ≡ length given = r.long in omega arith)) n sized found
 
-store_is : (cells : List SizedCell) (given run : List Clock) (t n width : ℕ) (cell : Cell) → IsGiven cells given → IsRunOn cells given run → t < length given → slice_get cells n ≡ Some (record { width = width; cell = cell }) → get_or (get_or run t no_clock).stores n [] ≡ stepped_store (before None run t) (get_or given t no_clock) n cell
+store_is : (cells : List SizedCell) (given run : List Clock) (t n width : ℕ) (cell : Cell) → IsGiven cells given → IsRunOn cells given run → t < length given
+    → slice_get cells n ≡ Some (record { width = width; cell = cell })
+    → get_or (get_or run t no_clock).stores n [] ≡ stepped_store (before None run t) (get_or given t no_clock) n cell
 unfolding word_at store_at
 store_is cells given run zero n width (Input port) s r b found = (shape_at cells given run zero n _ r b found).1 ∙ sym (cell_holds (s zero b) n _ found).1
 store_is cells given run zero n width (Const k) s r b found = (shape_at cells given run zero n _ r b found).1 ∙ sym (cell_holds (s zero b) n _ found).1
@@ -182,13 +195,17 @@ store_is cells given run (suc t) n width (Mem depth at next enable) s r b found 
     rw add-one at (r.runs.steps t n (record { width = width; cell = Mem depth at next enable }) l found)
 
 -- a run meets, in each clock, the equations by which the next clock is made
-word_is : (cells : List SizedCell) (given run : List Clock) (t n width : ℕ) (cell : Cell) → IsFormed cells → IsGiven cells given → IsRunOn cells given run → t < length given → slice_get cells n ≡ Some (record { width = width; cell = cell })
-    → get_or (get_or run t no_clock).words n 0 ≡ cell_word cells (free_in cells (before None run t) (get_or given t no_clock)) (store_in cells (before None run t) (get_or given t no_clock)) (get_or run t no_clock).words n cell
+word_is : (cells : List SizedCell) (given run : List Clock) (t n width : ℕ) (cell : Cell) → IsFormed cells → IsGiven cells given → IsRunOn cells given run
+    → t < length given → slice_get cells n ≡ Some (record { width = width; cell = cell })
+    → get_or (get_or run t no_clock).words n 0 ≡ cell_word cells (free_in cells (before None run t) (get_or given t no_clock))
+    (store_in cells (before None run t) (get_or given t no_clock)) (get_or run t no_clock).words n cell
 unfolding word_at store_at
 word_is cells given run t n width (Input port) formed s r b found =
-    free_is cells given run t n width (Input port) r b found tt ∙ ap (λ (o : Option SizedCell). in_cell o 0 (free_word (before None run t) (get_or given t no_clock) n)) (sym found)
+    free_is cells given run t n width (Input port) r b found tt ∙
+    ap (λ (o : Option SizedCell). in_cell o 0 (free_word (before None run t) (get_or given t no_clock) n)) (sym found)
 word_is cells given run t n width (Reg next) formed s r b found =
-    free_is cells given run t n width (Reg next) r b found tt ∙ ap (λ (o : Option SizedCell). in_cell o 0 (free_word (before None run t) (get_or given t no_clock) n)) (sym found)
+    free_is cells given run t n width (Reg next) r b found tt ∙
+    ap (λ (o : Option SizedCell). in_cell o 0 (free_word (before None run t) (get_or given t no_clock) n)) (sym found)
 word_is cells given run t n width (Const k) formed s r b found =
     r.runs.settles t n (record { width = width; cell = Const k }) (let e : length run ≡ length given = r.long in omega arith) found
 word_is cells given run t n width (Op op args) formed s r b found =
@@ -210,7 +227,8 @@ cell_there cells n h =
     let d : SizedCell = record { width = 0; cell = Const 0 } in
     (get_or cells n d, slice_get-get_or cells n d h)
 
-run_is_next : (cells : List SizedCell) (given run : List Clock) (t : ℕ) → IsFormed cells → IsGiven cells given → IsRunOn cells given run → t < length given → get_or run t no_clock ≡ next_clock cells (before None run t) (get_or given t no_clock)
+run_is_next : (cells : List SizedCell) (given run : List Clock) (t : ℕ) → IsFormed cells → IsGiven cells given → IsRunOn cells given run → t < length given
+    → get_or run t no_clock ≡ next_clock cells (before None run t) (get_or given t no_clock)
 run_is_next cells given run t formed s r b =
     let prev : Option Clock = before None run t in
     let g : Clock = get_or given t no_clock in
@@ -235,13 +253,18 @@ run_is_next cells given run t formed s r b =
     same_clock k made words stores
   where
     same_clock : (a b : Clock) → a.words ≡ b.words → a.stores ≡ b.stores → a ≡ b
-    same_clock a b p q = let c : Clock = record { words = b.words; stores = a.stores } in ap (λ w. record { words = w; stores = a.stores }) p ∙ ap (λ x. record { words = b.words; stores = x }) q
+    same_clock a b p q = let c : Clock = record { words = b.words; stores = a.stores } in ap (λ w. record { words = w; stores = a.stores }) p ∙
+        ap (λ x. record { words = b.words; stores = x }) q
 
-    before_shaped : (cells : List SizedCell) (given run : List Clock) (t : ℕ) → IsRunOn cells given run → t < length given → IsShapedIfAny cells (before None run t)
+    before_shaped : (cells : List SizedCell) (given run : List Clock) (t : ℕ) → IsRunOn cells given run → t < length given
+        → IsShapedIfAny cells (before None run t)
     before_shaped cells given run zero r b = tt
     before_shaped cells given run (suc t) r b = clock_shaped r.runs t (let e : length run ≡ length given = r.long in omega arith)
 
 pub one_run : (cells : List SizedCell) → IsFormed cells → HasOneRun cells
 one_run cells formed = λ given each. (
-    let shaped : IsGiven cells given = λ t b. each t (get_or given t no_clock) (slice_get-get_or given t no_clock b) in
-    (run_on cells None given, made_run cells given formed shaped, λ other r. only_one cells None given other r.long (λ t b. run_is_next cells given other t formed shaped r b)))
+    let shaped : IsGiven cells given = λ t b. each t (get_or given t no_clock) (slice_get-get_or given t no_clock b) in (
+      run_on cells None given,
+      made_run cells given formed shaped,
+      λ other r. only_one cells None given other r.long (λ t b. run_is_next cells given other t formed shaped r b),
+    ))

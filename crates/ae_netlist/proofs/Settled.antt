@@ -28,13 +28,15 @@ settle cells free stores done [] = done
 settle cells free stores done (sized ∷ rest) =
     settle cells free stores (done ++ cell_word cells free stores done (length done) sized.cell ∷ []) rest
 
-pub settle_length : (cells : List SizedCell) (free : ℕ → ℕ) (stores : ℕ → List ℕ) (done : List ℕ) (rest : List SizedCell) → length (settle cells free stores done rest) ≡ length done + length rest
+pub settle_length : (cells : List SizedCell) (free : ℕ → ℕ) (stores : ℕ → List ℕ) (done : List ℕ) (rest : List SizedCell)
+    → length (settle cells free stores done rest) ≡ length done + length rest
 settle_length cells free stores done [] = omega arith
 settle_length cells free stores done (sized ∷ rest) =
     let w : ℕ = cell_word cells free stores done (length done) sized.cell in
     omega (arith, settle_length cells free stores (done ++ w ∷ []) rest, length_push done w)
 
-settle_keeps : (cells : List SizedCell) (free : ℕ → ℕ) (stores : ℕ → List ℕ) (done : List ℕ) (rest : List SizedCell) (i : ℕ) → i < length done → get_or (settle cells free stores done rest) i 0 ≡ get_or done i 0
+settle_keeps : (cells : List SizedCell) (free : ℕ → ℕ) (stores : ℕ → List ℕ) (done : List ℕ) (rest : List SizedCell) (i : ℕ) → i < length done
+    → get_or (settle cells free stores done rest) i 0 ≡ get_or done i 0
 settle_keeps cells free stores done [] i h = refl
 settle_keeps cells free stores done (sized ∷ rest) i h =
     let w : ℕ = cell_word cells free stores done (length done) sized.cell in
@@ -47,7 +49,8 @@ record MadeAt (cells : List SizedCell) (free : ℕ → ℕ) (stores : ℕ → Li
   stayed : (i : ℕ) → i < n → get_or done i 0 ≡ get_or all i 0
   made : get_or all n 0 ≡ cell_word cells free stores done n cell
 
-settle_at : (cells : List SizedCell) (free : ℕ → ℕ) (stores : ℕ → List ℕ) (done : List ℕ) (rest : List SizedCell) (k n : ℕ) (sized : SizedCell) → length done + k ≡ n → slice_get rest k ≡ Some sized → MadeAt cells free stores (settle cells free stores done rest) n sized.cell
+settle_at : (cells : List SizedCell) (free : ℕ → ℕ) (stores : ℕ → List ℕ) (done : List ℕ) (rest : List SizedCell) (k n : ℕ) (sized : SizedCell)
+    → length done + k ≡ n → slice_get rest k ≡ Some sized → MadeAt cells free stores (settle cells free stores done rest) n sized.cell
 settle_at cells free stores done [] k n sized e h = cc
 settle_at cells free stores done (x ∷ rest) zero n sized e h =
     let is : x ≡ sized = cc in
@@ -57,22 +60,26 @@ settle_at cells free stores done (x ∷ rest) zero n sized e h =
     let all : List ℕ = settle cells free stores (done ++ w ∷ []) rest in
     record {
       done = done;
-      stayed = λ i b. sym (settle_keeps cells free stores (done ++ w ∷ []) rest i (omega (arith, length_push done w)) ∙ get_or_append_left done (w ∷ []) 0 i (omega arith));
+      stayed = λ i b. sym (settle_keeps cells free stores (done ++ w ∷ []) rest i (omega (arith, length_push done w)) ∙
+          get_or_append_left done (w ∷ []) 0 i (omega arith));
       made =
           settle_keeps cells free stores (done ++ w ∷ []) rest n lt
-          ∙ (get_or_push done w 0 n l ∙ (ap (λ m. cell_word cells free stores done m x.cell) l ∙ ap (λ (y : SizedCell). cell_word cells free stores done n y.cell) is));
+          ∙ (get_or_push done w 0 n l ∙ (ap (λ m. cell_word cells free stores done m x.cell) l ∙
+          ap (λ (y : SizedCell). cell_word cells free stores done n y.cell) is));
     }
 settle_at cells free stores done (x ∷ rest) (suc k) n sized e h =
     let w : ℕ = cell_word cells free stores done (length done) x.cell in
     settle_at cells free stores (done ++ w ∷ []) rest k n sized (omega (arith, length_push done w)) h
 
 -- what holds of each operand
-pub each_operand : (op : WordOp) (P : ℕ → ℕ → Type 0) (Q : ℕ → Type 0) (args : List NetId) (w : ℕ) → OperandsAre op P args w → ((m v : ℕ) → P m v → Q m) → Q (operand args 0) × Q (operand args 1) × Q (operand args 2)
+pub each_operand : (op : WordOp) (P : ℕ → ℕ → Type 0) (Q : ℕ → Type 0) (args : List NetId) (w : ℕ) → OperandsAre op P args w → ((m v : ℕ) → P m v → Q m)
+    → Q (operand args 0) × Q (operand args 1) × Q (operand args 2)
 each_operand Mux P Q args w h f = (f _ _ h.0, f _ _ h.1, f _ _ h.2)
 each_operand _ P Q args w h f = (f _ _ h.0, f _ _ h.1, f _ _ h.2)
 
 -- a cell's word depends on the words before it alone
-pub same_word : (cells : List SizedCell) (free : ℕ → ℕ) (stores : ℕ → List ℕ) (d e : List ℕ) (n w : ℕ) (cell : Cell) → CellFits (take n cells) cells n w cell → ((i : ℕ) → i < n → get_or d i 0 ≡ get_or e i 0) → cell_word cells free stores d n cell ≡ cell_word cells free stores e n cell
+pub same_word : (cells : List SizedCell) (free : ℕ → ℕ) (stores : ℕ → List ℕ) (d e : List ℕ) (n w : ℕ) (cell : Cell) → CellFits (take n cells) cells n w cell
+    → ((i : ℕ) → i < n → get_or d i 0 ≡ get_or e i 0) → cell_word cells free stores d n cell ≡ cell_word cells free stores e n cell
 same_word cells free stores d e n w (Input port) fits same = refl
 same_word cells free stores d e n w (Const k) fits same = refl
 same_word cells free stores d e n w (Op op args) fits same =
@@ -96,7 +103,8 @@ settled cells free stores formed = record {
 }
 
 -- words that meet the equations are determined
-settled_below : (cells : List SizedCell) (free : ℕ → ℕ) (stores : ℕ → List ℕ) (u v : List ℕ) → IsFormed cells → IsSettled cells free stores u → IsSettled cells free stores v → (k n : ℕ) → n < k → n < length cells → get_or u n 0 ≡ get_or v n 0
+settled_below : (cells : List SizedCell) (free : ℕ → ℕ) (stores : ℕ → List ℕ) (u v : List ℕ) → IsFormed cells → IsSettled cells free stores u
+    → IsSettled cells free stores v → (k n : ℕ) → n < k → n < length cells → get_or u n 0 ≡ get_or v n 0
 settled_below cells free stores u v formed p q zero n b h = absurd (omega arith)
 settled_below cells free stores u v formed p q (suc k) n b h =
     let sized = get_or cells n (record { width = 0; cell = Const 0 }) in
@@ -106,5 +114,6 @@ settled_below cells free stores u v formed p q (suc k) n b h =
     (λ i l. settled_below cells free stores u v formed p q k i (omega arith) (omega arith))
     ∙ sym (q.each n sized found))
 
-pub settled_once : (cells : List SizedCell) (free : ℕ → ℕ) (stores : ℕ → List ℕ) (u v : List ℕ) → IsFormed cells → IsSettled cells free stores u → IsSettled cells free stores v → (n : ℕ) → n < length cells → get_or u n 0 ≡ get_or v n 0
+pub settled_once : (cells : List SizedCell) (free : ℕ → ℕ) (stores : ℕ → List ℕ) (u v : List ℕ) → IsFormed cells → IsSettled cells free stores u
+    → IsSettled cells free stores v → (n : ℕ) → n < length cells → get_or u n 0 ≡ get_or v n 0
 settled_once cells free stores u v formed p q n h = settled_below cells free stores u v formed p q (suc n) n (omega arith) h

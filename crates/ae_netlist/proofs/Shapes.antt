@@ -10,7 +10,8 @@ clock_shaped {run = run} r t l = r.shaped t (get_or run t no_clock) (slice_get-g
 -- and back, for any list of clocks
 pub each_shaped : (cells : List SizedCell) (run : List Clock) → ((t : ℕ) → t < length run → IsShaped cells (get_or run t no_clock))
     → (t : ℕ) (clock : Clock) → slice_get run t ≡ Some clock → IsShaped cells clock
-each_shaped cells run shaped t clock found = subst (IsShaped cells) (get_or_from_slice_get run t clock no_clock found) (shaped t (slice_get_within run t clock found))
+each_shaped cells run shaped t clock found =
+    subst (IsShaped cells) (get_or_from_slice_get run t clock no_clock found) (shaped t (slice_get_within run t clock found))
 
 pub cell_holds : {cells : List SizedCell} {clock : Clock} → IsShaped cells clock → (n : ℕ) (sized : SizedCell) → slice_get cells n ≡ Some sized
     → CellHolds sized.cell sized.width (get_or clock.words n 0) (get_or clock.stores n [])
@@ -21,8 +22,10 @@ cell_holds {cells = cells} {clock = clock} s n sized found =
 
 pub each_holds : (cells : List SizedCell) (clock : Clock)
     → ((n : ℕ) (sized : SizedCell) → slice_get cells n ≡ Some sized → CellHolds sized.cell sized.width (get_or clock.words n 0) (get_or clock.stores n []))
-    → (n word : ℕ) (sized : SizedCell) (store : List ℕ) → slice_get cells n ≡ Some sized → slice_get clock.words n ≡ Some word → slice_get clock.stores n ≡ Some store
+    → (n word : ℕ) (sized : SizedCell) (store : List ℕ) → slice_get cells n ≡ Some sized → slice_get clock.words n ≡ Some word
+    → slice_get clock.stores n ≡ Some store
     → CellHolds sized.cell sized.width word store
 each_holds cells clock holds n word sized store found one whole =
     subst (λ (v : ℕ). CellHolds sized.cell sized.width v store) (get_or_from_slice_get clock.words n word 0 one)
-    (subst (λ (vs : List ℕ). CellHolds sized.cell sized.width (get_or clock.words n 0) vs) (get_or_from_slice_get clock.stores n store [] whole) (holds n sized found))
+    (subst (λ (vs : List ℕ). CellHolds sized.cell sized.width (get_or clock.words n 0) vs) (get_or_from_slice_get clock.stores n store [] whole)
+    (holds n sized found))

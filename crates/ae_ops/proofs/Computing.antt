@@ -29,9 +29,11 @@ plain_fits (Peek mem at) w x store p h = h.0
 -- the word of a net fits its width
 pub held_fits : (all : List SizedCell) (run : List Clock) (t n w : ℕ) → IsRun all run → t < length run → IsNet all n w → word_at run t n < 2 ^ w
 unfolding word_at
-held_fits all run t n w r l net = rw (← net.wide) (plain_fits net.sized.cell net.sized.width _ _ net.plain (cell_holds (clock_shaped r t l) n net.sized net.found))
+held_fits all run t n w r l net =
+    rw (← net.wide) (plain_fits net.sized.cell net.sized.width _ _ net.plain (cell_holds (clock_shaped r t l) n net.sized net.found))
 
-pub operation_of : (cells : List SizedCell) (op : WordOp) (args : List NetId) (w : ℕ) → is_signed op ≡ false → HasRange op → OperandsAre op (IsNet cells) args w → IsOperation cells op args (result_width_of op w)
+pub operation_of : (cells : List SizedCell) (op : WordOp) (args : List NetId) (w : ℕ) → is_signed op ≡ false → HasRange op
+    → OperandsAre op (IsNet cells) args w → IsOperation cells op args (result_width_of op w)
 operation_of cells op args w plain range h =
     let e : width_of cells (main_operand op args) ≡ w = net_width (main_is op (IsNet cells) args w h) in
     record { unsigned = plain; range = range; operands = rw e h; result = sym (ap (result_width_of op) e) }
@@ -49,7 +51,8 @@ pub no_product : (op : WordOp) → arity_of op ≡ 1 → is_product op ≡ false
 no_product Mul one = absurd (omega arith)
 no_product _ one = refl
 
-pub not_signed : (op : WordOp) → (op ≡ SLt → ⊥) → (op ≡ SMin → ⊥) → (op ≡ SMax → ⊥) → ((k : ℕ) → op ≡ Sar k → ⊥) → ((v : ℕ) → op ≡ SCast v → ⊥) → is_signed op ≡ false
+pub not_signed : (op : WordOp) → (op ≡ SLt → ⊥) → (op ≡ SMin → ⊥) → (op ≡ SMax → ⊥) → ((k : ℕ) → op ≡ Sar k → ⊥) → ((v : ℕ) → op ≡ SCast v → ⊥)
+    → is_signed op ≡ false
 not_signed SLt a b c d e = absurd (a refl)
 not_signed SMin a b c d e = absurd (b refl)
 not_signed SMax a b c d e = absurd (c refl)
@@ -58,7 +61,8 @@ not_signed (SCast v) a b c d e = absurd (e v refl)
 not_signed _ a b c d e = refl
 
 -- the widths of a pair of operands
-pub pair_operands : (op : WordOp) (P : ℕ → ℕ → Type 0) (args : List NetId) (w : ℕ) → arity_of op ≡ 2 → OperandsAre op P args w → P (get_or args 0 (record { 0 = 0 })).0 w × P (get_or args 1 (record { 0 = 0 })).0 w
+pub pair_operands : (op : WordOp) (P : ℕ → ℕ → Type 0) (args : List NetId) (w : ℕ) → arity_of op ≡ 2 → OperandsAre op P args w
+    → P (get_or args 0 (record { 0 = 0 })).0 w × P (get_or args 1 (record { 0 = 0 })).0 w
 pair_operands Mux P args w two h = absurd (omega arith)
 pair_operands _ P args w two h = (h.0, h.1)
 
@@ -79,7 +83,8 @@ result_high SLt w r l = omega arith
 result_high _ w r l = l
 
 -- by the answer of the one call
-pub most_of : {X : Type 0} (old new : Circuit) (r : Result X NetFault) (most muls : ℕ) → most ≤ 8 → OnOk r (Adds old new most muls) → OnOk r (Adds old new 8 muls)
+pub most_of : {X : Type 0} (old new : Circuit) (r : Result X NetFault) (most muls : ℕ) → most ≤ 8 → OnOk r (Adds old new most muls)
+    → OnOk r (Adds old new 8 muls)
 most_of old new (Ok x) most muls l h = adds_most 8 l h
 most_of old new (Err e) most muls l h = tt
 
@@ -87,16 +92,20 @@ pub unchanged_of : {X : Type 0} (old new : Circuit) (r : Result X NetFault) → 
 unchanged_of old new (Ok x) h = tt
 unchanged_of old new (Err e) h = adds_same old new 8 h
 
-pub sar_words : (old new : Circuit) (r : Result NetId NetFault) (op : WordOp) (args : List NetId) (k w : ℕ) → op ≡ Sar k → Grows old new → IsNet old.cells (operand args 0) w
+pub sar_words : (old new : Circuit) (r : Result NetId NetFault) (op : WordOp) (args : List NetId) (k w : ℕ) → op ≡ Sar k → Grows old new
+    → IsNet old.cells (operand args 0) w
     → IfOk r (λ y. InEveryRunFrom (length old.cells) new.cells (λ run. IsBySign run y.0 (Shr k) w (operand args 0)))
     → IfOk r (λ y. InEveryRunFrom (length old.cells) new.cells (λ run. IsResult run y.0 op w args))
-sar_words old new (Ok y) op args k w is g net h = rw is (λ all e run r t l. h all e run r t l ∙ sar_is k w _ 0 0 (held_fits all run t (operand args 0) w r l (e.nets _ _ (net_later g.extends net))))
+sar_words old new (Ok y) op args k w is g net h =
+    rw is (λ all e run r t l. h all e run r t l ∙ sar_is k w _ 0 0 (held_fits all run t (operand args 0) w r l (e.nets _ _ (net_later g.extends net))))
 sar_words old new (Err e) op args k w is g net h = h
 
-pub cast_words : (old new : Circuit) (r : Result NetId NetFault) (op : WordOp) (args : List NetId) (v w : ℕ) → op ≡ SCast v → Grows old new → IsNet old.cells (operand args 0) w
+pub cast_words : (old new : Circuit) (r : Result NetId NetFault) (op : WordOp) (args : List NetId) (v w : ℕ) → op ≡ SCast v → Grows old new
+    → IsNet old.cells (operand args 0) w
     → IfOk r (λ y. InEveryRunFrom (length old.cells) new.cells (λ run. IsBySign run y.0 (Cast v) w (operand args 0)))
     → IfOk r (λ y. InEveryRunFrom (length old.cells) new.cells (λ run. IsResult run y.0 op w args))
-cast_words old new (Ok y) op args v w is g net h = rw is (λ all e run r t l. h all e run r t l ∙ cast_is v w _ 0 0 (held_fits all run t (operand args 0) w r l (e.nets _ _ (net_later g.extends net))))
+cast_words old new (Ok y) op args v w is g net h =
+    rw is (λ all e run r t l. h all e run r t l ∙ cast_is v w _ 0 0 (held_fits all run t (operand args 0) w r l (e.nets _ _ (net_later g.extends net))))
 cast_words old new (Err e) op args v w is g net h = h
 
 -- what holds whatever a call answers

@@ -15,7 +15,8 @@ use Rattle.ae_ops.specs.Gates.{IsGate, IsGatedSum}
 use Rattle.ae_ops.proofs.Computing.{held_fits}
 
 -- a choice of a constant 0 is a gate
-pub gate_of : (cells : List SizedCell) (n : ℕ) (sized : SizedCell) (args : List NetId) → IsFormed cells → slice_get cells n ≡ Some sized → sized.cell ≡ Op Mux args → IsConstantBelow cells (operand args 1) 1
+pub gate_of : (cells : List SizedCell) (n : ℕ) (sized : SizedCell) (args : List NetId) → IsFormed cells → slice_get cells n ≡ Some sized
+    → sized.cell ≡ Op Mux args → IsConstantBelow cells (operand args 1) 1
     → IsGate cells n (operand args 0) (operand args 2)
 gate_of cells n sized args formed found is zero =
     let fits = rw is at (formed.each n sized found).cell in
@@ -38,7 +39,8 @@ moved true w a x l = let e : a + 0 ≡ a = omega arith in rw e (sym (mod-eq_of_l
 moved false w a x l = refl
 
 -- a sum behind which the choice stands, in which the second word was the gate's
-pub gated_sum : (old new : Circuit) (r : Result NetId NetFault) (a b condition x : NetId) (w : ℕ) → Grows old new → IsNet old.cells a.0 w → IsGate old.cells b.0 condition.0 x.0
+pub gated_sum : (old new : Circuit) (r : Result NetId NetFault) (a b condition x : NetId) (w : ℕ) → Grows old new → IsNet old.cells a.0 w
+    → IsGate old.cells b.0 condition.0 x.0
     → IfOk r (λ y. InEveryRunFrom (length old.cells) new.cells (λ run. IsGatedSum run y.0 condition.0 a.0 x.0 w))
     → IfOk r (λ y. InEveryRun new.cells (λ run. IsResult run y.0 Add w (a ∷ b ∷ a ∷ [])))
 gated_sum old new (Ok y) a b condition x w grows net gate h = λ all e run is t l.
@@ -50,13 +52,15 @@ gated_sum old new (Ok y) a b condition x w grows net gate h = λ all e run is t 
 gated_sum old new (Err e) a b condition x w grows net gate h = h
 
 -- the same sum with its words turned round
-pub turned : (cells : List SizedCell) (r : Result NetId NetFault) (a b : NetId) (w : ℕ) → IfOk r (λ y. InEveryRun cells (λ run. IsResult run y.0 Add w (b ∷ a ∷ b ∷ [])))
+pub turned : (cells : List SizedCell) (r : Result NetId NetFault) (a b : NetId) (w : ℕ)
+    → IfOk r (λ y. InEveryRun cells (λ run. IsResult run y.0 Add w (b ∷ a ∷ b ∷ [])))
     → IfOk r (λ y. InEveryRun cells (λ run. IsResult run y.0 Add w (a ∷ b ∷ a ∷ [])))
 turned cells (Ok y) a b w h = λ all e run is t l. h all e run is t l ∙ ap (λ n. n % 2 ^ w) (add_comm (word_at run t b.0) (word_at run t a.0))
 turned cells (Err e) a b w h = h
 
 -- a sum of the words themselves
-pub plain_sum : (old new : Circuit) (r : Result NetId NetFault) (a b : NetId) (w : ℕ) → IfOk r (λ y. InEveryRunFrom (length old.cells) new.cells (λ run. IsResult run y.0 Add w (a ∷ b ∷ a ∷ [])))
+pub plain_sum : (old new : Circuit) (r : Result NetId NetFault) (a b : NetId) (w : ℕ)
+    → IfOk r (λ y. InEveryRunFrom (length old.cells) new.cells (λ run. IsResult run y.0 Add w (a ∷ b ∷ a ∷ [])))
     → IfOk r (λ y. InEveryRun new.cells (λ run. IsResult run y.0 Add w (a ∷ b ∷ a ∷ [])))
 plain_sum old new (Ok y) a b w h = λ all e run is. h all (carries_extends (length old.cells) e) run is
 plain_sum old new (Err e) a b w h = h

@@ -26,7 +26,8 @@ pub record AreTapping (old new : List SizedCell) (rst d k : ℕ) (nets late : Li
 pub tapping_none : (old : List SizedCell) (rst d : ℕ) (nets : List NetId) → AreTapping old old rst d 0 nets []
 tapping_none old rst d nets = record { long = refl; each = λ q x y f g. (let no : q < 0 = slice_get_within [] q y g in absurd (omega arith)) }
 
-pub tapping_more : (old mid new : List SizedCell) (rst d k w : ℕ) (nets late : List NetId) (x y : NetId) → Extends mid new → AreTapping old mid rst d k nets late → slice_get nets k ≡ Some x
+pub tapping_more : (old mid new : List SizedCell) (rst d k w : ℕ) (nets late : List NetId) (x y : NetId) → Extends mid new
+    → AreTapping old mid rst d k nets late → slice_get nets k ≡ Some x
     → w ≡ width_of old x.0 → IsTap new rst w x.0 d y.0 → AreTapping old new rst d (k + 1) nets (late ++ y ∷ [])
 tapping_more old mid new rst d k w nets late x y g h there wide tap = record {
   long = length_push late y ∙ ap (λ n. n + 1) h.long;
@@ -36,7 +37,8 @@ tapping_more old mid new rst d k w nets late x y g h there wide tap = record {
         let at : q ≡ k = v.0 ∙ h.long in
         let same : Some x ≡ Some a = sym there ∙ (ap (slice_get nets) (sym at) ∙ fa) in
         let is : x ≡ a = cc in
-        subst (λ (n : NetId). IsTap new rst (width_of old n.0) n.0 d b.0) is (subst (λ (n : NetId). IsTap new rst (width_of old x.0) x.0 d n.0) v.1 (rw wide at tap))
+        subst (λ (n : NetId). IsTap new rst (width_of old n.0) n.0 d b.0) is
+        (subst (λ (n : NetId). IsTap new rst (width_of old x.0) x.0 d n.0) v.1 (rw wide at tap))
   ];
 }
 
@@ -58,7 +60,8 @@ late_of old new rst d nets late h = λ all e run r start reset c q l. elim (case
       rw (nx, ny) refl
 ]
 
-pub nets_of : (old new : List SizedCell) (rst d : ℕ) (nets late : List NetId) → AreTapping old new rst d (length nets) nets late → (widths : List ℕ) → AreNets old widths nets → AreNets new widths late
+pub nets_of : (old new : List SizedCell) (rst d : ℕ) (nets late : List NetId) → AreTapping old new rst d (length nets) nets late → (widths : List ℕ)
+    → AreNets old widths nets → AreNets new widths late
 nets_of old new rst d nets late h widths own = record {
   long = h.long ∙ own.long;
   each = λ q width y fw fy.
@@ -90,7 +93,8 @@ pub same_width : (old mid : List SizedCell) (nets bundle : List NetId) (k : ℕ)
     → width_of mid (get_or nets k (record { 0 = 0 })).0 ≡ width_of old (get_or nets k (record { 0 = 0 })).0
 same_width old mid nets bundle k e g own l = net_width (net_later g (own k _ (found_at nets bundle k e l)))
 
-pub tapped_all : (old new : List SizedCell) (rst d k : ℕ) (nets bundle late made : List NetId) → nets ≡ bundle → made ≡ late → k ≡ length nets → AreTapping old new rst d k nets late → AreTapping old new rst d (length bundle) bundle made
+pub tapped_all : (old new : List SizedCell) (rst d k : ℕ) (nets bundle late made : List NetId) → nets ≡ bundle → made ≡ late → k ≡ length nets
+    → AreTapping old new rst d k nets late → AreTapping old new rst d (length bundle) bundle made
 tapped_all old new rst d k nets bundle late made e m l h = rw (m, ← e, ← l) h
 
 -- so many cells for each of some nets of a bundle are at most so many for each of all

@@ -22,7 +22,8 @@ refused_behind a b c (Ok x) p h = tt
 refused_behind a b c (Err e) p h = adds_trans p h
 
 -- the square of a register's word is that of the word before it
-pub squared : (a b c : Circuit) (r : Result NetId NetFault) (x held : NetId) (w : ℕ) → InEveryRunFrom (length a.cells) b.cells (λ run. IsNextOf run held.0 x.0) → OnOk r (Adds b c 8 1)
+pub squared : (a b c : Circuit) (r : Result NetId NetFault) (x held : NetId) (w : ℕ) → InEveryRunFrom (length a.cells) b.cells (λ run. IsNextOf run held.0 x.0)
+    → OnOk r (Adds b c 8 1)
     → IfOk r (λ y. InEveryRunFrom (length b.cells) c.cells (λ run. IsResult run y.0 Mul w (held ∷ held ∷ held ∷ [])))
     → IfOk r (λ y. InEveryRun c.cells (λ run. IsResultLater run y.0 1 Mul w (x ∷ x ∷ x ∷ [])))
 squared a b c (Ok y) x held w next adds result = λ all e run is t l.
@@ -31,7 +32,8 @@ squared a b c (Ok y) x held w next adds result = λ all e run is t l.
 squared a b c (Err e) x held w next adds result = result
 
 -- a result of the same clock
-pub at_once : (a c : Circuit) (y : NetId) (op : WordOp) (w : ℕ) (args : List NetId) → InEveryRunFrom (length a.cells) c.cells (λ run. IsResult run y.0 op w args) → InEveryRun c.cells (λ run. IsResultLater run y.0 0 op w args)
+pub at_once : (a c : Circuit) (y : NetId) (op : WordOp) (w : ℕ) (args : List NetId)
+    → InEveryRunFrom (length a.cells) c.cells (λ run. IsResult run y.0 op w args) → InEveryRun c.cells (λ run. IsResultLater run y.0 0 op w args)
 at_once a c y op w args result = λ all e run is t l.
     let same : t + 0 ≡ t = add-zero t in
     rw same (result all (carries_extends (length a.cells) e) run is t (omega arith))

@@ -46,11 +46,13 @@ value_at (u ∷ ws) (v ∷ vs) h zero w f =
     h.0.fit 0 (get_or v 0 0) w there (ap Some e)
 value_at (u ∷ ws) (v ∷ vs) h (suc i) w f = value_at ws vs h.1 i w f
 
-first_word : (run : List Clock) (start k : ℕ) (nets : List NetId) (a : NetId) → slice_get nets 0 ≡ Some a → wave_of run start nets k 0 ≡ word_at run (start + k) a.0
+first_word : (run : List Clock) (start k : ℕ) (nets : List NetId) (a : NetId) → slice_get nets 0 ≡ Some a
+    → wave_of run start nets k 0 ≡ word_at run (start + k) a.0
 unfolding wave_of
 first_word run start k nets a f = rw f refl
 
-held_at : (run : List Clock) (start k : ℕ) (ws : List ℕ) (ins : List (List NetId)) (vs : List (List ℕ)) → AllHold k (map word_stream ws) (map (wave_of run start) ins) vs
+held_at : (run : List Clock) (start k : ℕ) (ws : List ℕ) (ins : List (List NetId)) (vs : List (List ℕ))
+    → AllHold k (map word_stream ws) (map (wave_of run start) ins) vs
     → (i w : ℕ) (a : NetId) → slice_get ws i ≡ Some w → slice_get (get_or ins i []) 0 ≡ Some a → word_at run (start + k) a.0 ≡ word_of vs i
 held_at run start k [] ins vs h i w a f g = cc
 held_at run start k (u ∷ ws) [] vs h i w a f g = absurd h
@@ -68,7 +70,8 @@ length_mapped : {X Y : Type 0} (f : X → Y) (xs : List X) → length (map f xs)
 length_mapped f xs = length-map xs f
 
 -- the first net of a bundle
-pub first_there : (cells : List SizedCell) (ws : List ℕ) (ins : List (List NetId)) → AreBundles cells (map word_stream ws) ins → (i w : ℕ) → slice_get ws i ≡ Some w
+pub first_there : (cells : List SizedCell) (ws : List ℕ) (ins : List (List NetId)) → AreBundles cells (map word_stream ws) ins → (i w : ℕ)
+    → slice_get ws i ≡ Some w
     → (slice_get (get_or ins i []) 0 ≡ Some (first_net ins i)) × IsNet cells (first_net ins i).0 w
 first_there cells ws ins h i w f =
     let l : i < length ws = slice_get_within ws i w f in
@@ -80,7 +83,8 @@ first_there cells ws ins h i w f =
     let net : slice_get (get_or ins i []) 0 ≡ Some (first_net ins i) = slice_get-get_or (get_or ins i []) 0 (record { 0 = 0 }) (omega arith) in
     (net, nets.each 0 w (first_net ins i) refl net)
 
-pub some_nets : (cells : List SizedCell) (ws : List ℕ) (ins : List (List NetId)) → AreBundles cells (map word_stream ws) ins → (i : ℕ) → i < length ins → 0 < length (get_or ins i [])
+pub some_nets : (cells : List SizedCell) (ws : List ℕ) (ins : List (List NetId)) → AreBundles cells (map word_stream ws) ins → (i : ℕ) → i < length ins
+    → 0 < length (get_or ins i [])
 some_nets cells ws ins h i l =
     let s : length ins ≡ length (map word_stream ws) = h.long in
     let m : length (map word_stream ws) ≡ length ws = length_mapped word_stream ws in
@@ -88,7 +92,8 @@ some_nets cells ws ins h i l =
 
 -- ---- operator by operator
 
-pub operands_ready : (cells : List SizedCell) (op : WordOp) (w : ℕ) (ins : List (List NetId)) → AreBundles cells (map word_stream (operand_widths op w)) ins → OperandsAre op (IsNet cells) (operands_of op ins) w
+pub operands_ready : (cells : List SizedCell) (op : WordOp) (w : ℕ) (ins : List (List NetId)) → AreBundles cells (map word_stream (operand_widths op w)) ins
+    → OperandsAre op (IsNet cells) (operands_of op ins) w
 operands_ready cells Mux w ins h = let at = first_there cells (operand_widths Mux w) ins h in ((at 0 1 refl).1, (at 1 w refl).1, (at 2 w refl).1)
 operands_ready cells Not w ins h = let a = (first_there cells (operand_widths Not w) ins h 0 w refl).1 in (a, a, a)
 operands_ready cells (Shl k) w ins h = let a = (first_there cells (operand_widths (Shl k) w) ins h 0 w refl).1 in (a, a, a)
@@ -98,7 +103,8 @@ operands_ready cells (Sar k) w ins h = let a = (first_there cells (operand_width
 operands_ready cells (SCast v) w ins h = let a = (first_there cells (operand_widths (SCast v) w) ins h 0 w refl).1 in (a, a, a)
 operands_ready cells op w ins h = let at = first_there cells (operand_widths op w) ins h in ((at 0 w refl).1, (at 1 w refl).1, (at 0 w refl).1)
 
-values_fit : (op : WordOp) (w : ℕ) (vs : List (List ℕ)) → AllAreWords (map word_stream (operand_widths op w)) vs → OperandsFit op w (word_of vs 0) (word_of vs 1) (word_of vs 2)
+values_fit : (op : WordOp) (w : ℕ) (vs : List (List ℕ)) → AllAreWords (map word_stream (operand_widths op w)) vs
+    → OperandsFit op w (word_of vs 0) (word_of vs 1) (word_of vs 2)
 values_fit Mux w vs h = let at = value_at (operand_widths Mux w) vs h in (at 0 1 refl, at 1 w refl, at 2 w refl)
 values_fit Not w vs h = value_at (operand_widths Not w) vs h 0 w refl
 values_fit (Shl k) w vs h = value_at (operand_widths (Shl k) w) vs h 0 w refl
@@ -108,8 +114,10 @@ values_fit (Sar k) w vs h = value_at (operand_widths (Sar k) w) vs h 0 w refl
 values_fit (SCast v) w vs h = value_at (operand_widths (SCast v) w) vs h 0 w refl
 values_fit op w vs h = let at = value_at (operand_widths op w) vs h in (at 0 w refl, at 1 w refl)
 
-words_same : (op : WordOp) (w : ℕ) (word : NetId → ℕ) (ins : List (List NetId)) (vs : List (List ℕ)) → ((i v : ℕ) → slice_get (operand_widths op w) i ≡ Some v → word (first_net ins i) ≡ word_of vs i)
-    → word_result op w (word (picked op ins 0)) (word (picked op ins 1)) (word (picked op ins 2)) ≡ word_result op w (word_of vs 0) (word_of vs 1) (word_of vs 2)
+words_same : (op : WordOp) (w : ℕ) (word : NetId → ℕ) (ins : List (List NetId)) (vs : List (List ℕ))
+    → ((i v : ℕ) → slice_get (operand_widths op w) i ≡ Some v → word (first_net ins i) ≡ word_of vs i)
+    → word_result op w (word (picked op ins 0)) (word (picked op ins 1)) (word (picked op ins 2)) ≡ word_result op w (word_of vs 0) (word_of vs 1)
+    (word_of vs 2)
 words_same Mux w word ins vs h = rw (h 0 1 refl, h 1 w refl, h 2 w refl) refl
 words_same Not w word ins vs h = rw (h 0 w refl) refl
 words_same (Shl k) w word ins vs h = rw (h 0 w refl) refl
@@ -125,16 +133,20 @@ words_same op w word ins vs h = rw (h 0 w refl, h 1 w refl) refl
 abbrev pub Computes : List SizedCell → (rst : ℕ) → WordOp → (w d : ℕ) → List NetId → ℕ → Type 0
 Computes cells rst op w d args y = InEveryResetRun cells rst (λ run start.
     (c : ℕ) → d ≤ c → start + c < length run
-    → word_at run (start + c) y ≡ word_result op w (word_at run (start + (c - d)) (operand args 0)) (word_at run (start + (c - d)) (operand args 1)) (word_at run (start + (c - d)) (operand args 2)))
+    → word_at run (start + c) y ≡ word_result op w (word_at run (start + (c - d)) (operand args 0)) (word_at run (start + (c - d)) (operand args 1))
+    (word_at run (start + (c - d)) (operand args 2)))
 
 -- by a result that comes so many clocks later, and a tap with the rest of the delay
-pub computed : (mid new : Circuit) (rst v w d early : ℕ) (op : WordOp) (args : List NetId) (made y : NetId) → early ≤ d → Grows mid new → InEveryRun mid.cells (λ run. IsResultLater run made.0 early op w args)
+pub computed : (mid new : Circuit) (rst v w d early : ℕ) (op : WordOp) (args : List NetId) (made y : NetId) → early ≤ d → Grows mid new
+    → InEveryRun mid.cells (λ run. IsResultLater run made.0 early op w args)
     → IsTap new.cells rst v made.0 (d - early) y.0 → Computes new.cells rst op w d args y.0
 computed mid new rst v w d early op args made y small grows result tap = λ all e run r start reset c le l.
     let s : start + (c - (d - early)) ≡ start + (c - d) + early = omega arith in
-    (tap.words all e run r start reset c (omega arith) l ∙ ap (λ n. word_at run n made.0) s) ∙ result all (extends_trans grows.extends e) run r (start + (c - d)) (omega arith)
+    (tap.words all e run r start reset c (omega arith) l ∙ ap (λ n. word_at run n made.0) s) ∙
+    result all (extends_trans grows.extends e) run r (start + (c - d)) (omega arith)
 
-word_law : (cells : List SizedCell) (rst arrival w p : ℕ) (op : WordOp) (ins : List (List NetId)) (y : NetId) → 1 ≤ p → AreBundles cells (map word_stream (operand_widths op w)) ins
+word_law : (cells : List SizedCell) (rst arrival w p : ℕ) (op : WordOp) (ins : List (List NetId)) (y : NetId) → 1 ≤ p
+    → AreBundles cells (map word_stream (operand_widths op w)) ins
     → Computes cells rst op w (latency_of op) (operands_of op ins) y.0 → KeepsLaw cells rst arrival (word_part op w p) ins (y ∷ [])
 word_law cells rst arrival w p op ins y some bundles made = λ all e run r start reset. record {
   makes = λ b vs long fits given.
@@ -147,10 +159,12 @@ word_law cells rst arrival w p op ins y some bundles made = λ all e run r start
       let same = words_same op w (λ (n : NetId). word_at run (start + k) n.0) ins vs
       (λ i v f. held_at run start k (operand_widths op w) ins vs given i v (first_net ins i) f (first_there cells (operand_widths op w) ins bundles i v f).0) in
       let word = rw back at (made all e run r start reset c (omega arith) l) in
-      one_slot (wave_of run start (y ∷ [])) c (word_result op w (word_of vs 0) (word_of vs 1) (word_of vs 2) ∷ []) (first_word run start c (y ∷ []) y refl ∙ (word ∙ same));
+      one_slot (wave_of run start (y ∷ [])) c (word_result op w (word_of vs 0) (word_of vs 1) (word_of vs 2) ∷ [])
+      (first_word run start c (y ∷ []) y refl ∙ (word ∙ same));
 }
 
-pub each_one : (cells : List SizedCell) (w : ℕ) (y : NetId) → IsNet cells y.0 w → (q width : ℕ) (net : NetId) → slice_get (w ∷ []) q ≡ Some width → slice_get (y ∷ []) q ≡ Some net → IsNet cells net.0 width
+pub each_one : (cells : List SizedCell) (w : ℕ) (y : NetId) → IsNet cells y.0 w → (q width : ℕ) (net : NetId) → slice_get (w ∷ []) q ≡ Some width
+    → slice_get (y ∷ []) q ≡ Some net → IsNet cells net.0 width
 each_one cells w y h zero width net f g =
     let e : w ≡ width = cc in
     let n : y ≡ net = cc in
@@ -158,13 +172,16 @@ each_one cells w y h zero width net f g =
 each_one cells w y h (suc q) width net f g = cc
 
 -- with an answer that may be want of memory
-pub word_answers : (cells : List SizedCell) (rst arrival w p : ℕ) (op : WordOp) (ins : List (List NetId)) (y : NetId) (r : Result (List NetId) NetFault) → IfOk r (λ out. out ≡ y ∷ []) → 1 ≤ p
-    → AreBundles cells (map word_stream (operand_widths op w)) ins → Computes cells rst op w (latency_of op) (operands_of op ins) y.0 → IfOk r (λ out. KeepsLaw cells rst arrival (word_part op w p) ins out)
+pub word_answers : (cells : List SizedCell) (rst arrival w p : ℕ) (op : WordOp) (ins : List (List NetId)) (y : NetId) (r : Result (List NetId) NetFault)
+    → IfOk r (λ out. out ≡ y ∷ []) → 1 ≤ p
+    → AreBundles cells (map word_stream (operand_widths op w)) ins → Computes cells rst op w (latency_of op) (operands_of op ins) y.0
+    → IfOk r (λ out. KeepsLaw cells rst arrival (word_part op w p) ins out)
 word_answers cells rst arrival w p op ins y (Ok out) is some bundles made = rw is (word_law cells rst arrival w p op ins y some bundles made)
 word_answers cells rst arrival w p op ins y (Err e) is some bundles made = is
 
 -- the bundle of the result
-pub word_nets : (cells : List SizedCell) (w : ℕ) (y : NetId) (r : Result (List NetId) NetFault) → IfOk r (λ out. out ≡ y ∷ []) → IsNet cells y.0 w → IfOk r (λ out. AreNets cells (stream_widths (word_stream w)) out)
+pub word_nets : (cells : List SizedCell) (w : ℕ) (y : NetId) (r : Result (List NetId) NetFault) → IfOk r (λ out. out ≡ y ∷ []) → IsNet cells y.0 w
+    → IfOk r (λ out. AreNets cells (stream_widths (word_stream w)) out)
 word_nets cells w y (Ok out) is net = rw is (record { long = refl; each = each_one cells w y net })
 word_nets cells w y (Err e) is net = is
 
@@ -172,10 +189,12 @@ pub not_full : {X : Type 0} (r : Result X NetFault) (nl : Circuit) → (r ≡ Er
 not_full (Ok x) nl h = tt
 not_full (Err e) nl h = λ is. absurd (h (ap Err is))
 
-pub bundles_grow : (a b : List SizedCell) (streams : List Stream) (bundles : List (List NetId)) → Extends a b → AreBundles a streams bundles → AreBundles b streams bundles
+pub bundles_grow : (a b : List SizedCell) (streams : List Stream) (bundles : List (List NetId)) → Extends a b → AreBundles a streams bundles
+    → AreBundles b streams bundles
 bundles_grow a b streams bundles g h = record {
   long = h.long;
-  each = λ k stream nets f u. let was = h.each k stream nets f u in record { long = was.long; each = λ q width net x y. net_later g (was.each q width net x y) };
+  each = λ k stream nets f u. let was = h.each k stream nets f u in
+      record { long = was.long; each = λ q width net x y. net_later g (was.each q width net x y) };
 }
 
 pub on_ok : {X : Type 0} (r : Result X NetFault) (P : Type 0) → P → OnOk r P

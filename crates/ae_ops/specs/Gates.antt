@@ -6,7 +6,8 @@ use Rattle.ae_netlist.specs.Runs.{Clock, word_at, InEveryRun}
 
 -- net n is 0 where the condition is 1, and else has the word of x
 abbrev pub IsZeroOr : List Clock → (n condition x : ℕ) → Type 0
-IsZeroOr run n condition x = (t : ℕ) → t < length run → word_at run t n ≡ (if word_at run t condition == 1 then 0 else word_at run t x)
+IsZeroOr run n condition x =
+    (t : ℕ) → t < length run → word_at run t n ≡ (if word_at run t condition == 1 then 0 else word_at run t x)
 
 -- the same in every run of every netlist that extends these cells, by a bit and a net of the same width
 pub record IsGate (cells : List SizedCell) (n condition x : ℕ) : Type 0 where
@@ -16,4 +17,6 @@ pub record IsGate (cells : List SizedCell) (n condition x : ℕ) : Type 0 where
 
 -- net y has the word of a where the condition is 1, and else the sum of a and x
 abbrev pub IsGatedSum : List Clock → (y condition a x w : ℕ) → Type 0
-IsGatedSum run y condition a x w = (t : ℕ) → t < length run → word_at run t y ≡ (if word_at run t condition == 1 then word_at run t a else (word_at run t a + word_at run t x) % 2 ^ w)
+IsGatedSum run y condition a x w =
+    (t : ℕ) → t < length run → word_at run t
+    y ≡ (if word_at run t condition == 1 then word_at run t a else (word_at run t a + word_at run t x) % 2 ^ w)

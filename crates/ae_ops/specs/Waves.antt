@@ -24,13 +24,17 @@ IsLateWave clocks d wave late = (c q : ℕ) → c + d < clocks → late (c + d) 
 
 -- the same of nets, in every reset run of every netlist that extends these cells
 abbrev pub AreLate : List SizedCell → (rst d : ℕ) → (nets late : List NetId) → Type 0
-AreLate cells rst d nets late = InEveryResetRun cells rst (λ run start. IsLateWave (length run - start) d (wave_of run start nets) (wave_of run start late))
+AreLate cells rst d nets late =
+    InEveryResetRun cells rst (λ run start. IsLateWave (length run - start) d (wave_of run start nets)
+    (wave_of run start late))
 
 -- nets of these widths, which are there and are no memories
 pub record AreNets (cells : List SizedCell) (widths : List ℕ) (nets : List NetId) : Type 0 where
   pub long : length nets ≡ length widths
-  pub each : (q width : ℕ) (net : NetId) → slice_get widths q ≡ Some width → slice_get nets q ≡ Some net → IsNet cells net.0 width
+  pub each : (q width : ℕ) (net : NetId) → slice_get widths q ≡ Some width → slice_get nets q ≡ Some net
+      → IsNet cells net.0 width
 
 -- each of these nets is there and is no memory
 abbrev pub HaveOwnWidths : List SizedCell → List NetId → Type 0
-HaveOwnWidths cells nets = (q : ℕ) (net : NetId) → slice_get nets q ≡ Some net → IsNet cells net.0 (width_of cells net.0)
+HaveOwnWidths cells nets =
+    (q : ℕ) (net : NetId) → slice_get nets q ≡ Some net → IsNet cells net.0 (width_of cells net.0)

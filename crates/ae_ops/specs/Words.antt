@@ -55,4 +55,5 @@ operands_of op bundles = picked op bundles 0 ∷ picked op bundles 1 ∷ picked 
 -- net y has, d clocks later, the operator's result on its operands of width w
 abbrev pub IsResultLater : List Clock → (y d : ℕ) → WordOp → (w : ℕ) → List NetId → Type 0
 IsResultLater run y d op w args =
-    (t : ℕ) → t + d < length run → word_at run (t + d) y ≡ word_result op w (word_at run t (operand args 0)) (word_at run t (operand args 1)) (word_at run t (operand args 2))
+    (t : ℕ) → t + d < length run → word_at run (t + d) y ≡ word_result op w (word_at run t (operand args 0))
+    (word_at run t (operand args 1)) (word_at run t (operand args 2))

@@ -30,13 +30,15 @@ noted_append ns vs [] es = refl
 noted_append ns vs (d ∷ ds) es = noted_append ns (with_drive ns vs d) ds es
 
 -- at a place where none of them is nothing changes
-noted_free : (ns : List NetTree) (vs : List (Option ExprTree)) (ds : List DriveTree) (p : ℕ) → ((d : DriveTree) → Among d ds → place_of ns d.name ≡ p → ⊥) → slice_get (noted ns vs ds) p ≡ slice_get vs p
+noted_free : (ns : List NetTree) (vs : List (Option ExprTree)) (ds : List DriveTree) (p : ℕ) → ((d : DriveTree) → Among d ds → place_of ns d.name ≡ p → ⊥)
+    → slice_get (noted ns vs ds) p ≡ slice_get vs p
 noted_free ns vs [] p none = refl
 noted_free ns vs (d ∷ ds) p none =
     noted_free ns (with_drive ns vs d) ds p (λ e a. none e (inr a))
     ∙ get_set_other vs (place_of ns d.name) p (Some d.value) (λ e. none d (inl refl) (sym e))
 
-noted_driven : (ns : List NetTree) (vs : List (Option ExprTree)) (ds : List DriveTree) (d : DriveTree) (p : ℕ) → Among d ds → place_of ns d.name ≡ p → p < length vs → ((e : DriveTree) → Among e ds → place_of ns e.name ≡ p → e ≡ d)
+noted_driven : (ns : List NetTree) (vs : List (Option ExprTree)) (ds : List DriveTree) (d : DriveTree) (p : ℕ) → Among d ds → place_of ns d.name ≡ p
+    → p < length vs → ((e : DriveTree) → Among e ds → place_of ns e.name ≡ p → e ≡ d)
     → slice_get (noted ns vs ds) p ≡ Some (Some d.value)
 noted_driven ns vs [] d p a at l only = absurd a
 noted_driven ns vs (e ∷ ds) d p a at l only =
@@ -92,11 +94,13 @@ module _ (m : ModuleTree) (ok : IsRegular m) (shape : IsShapely m) where
       let n = none_long (length m.nets) in
       noted_driven m.nets _ (equations m) d (place_of m.nets d.name) a refl (omega arith) (λ e b h. same_target d e a b h)
 
-  pub value_free : (p : ℕ) → p < length m.nets → ((d : DriveTree) → Among d (equations m) → place_of m.nets d.name ≡ p → ⊥) → slice_get (values_of m) p ≡ Some None
+  pub value_free : (p : ℕ) → p < length m.nets → ((d : DriveTree) → Among d (equations m) → place_of m.nets d.name ≡ p → ⊥)
+      → slice_get (values_of m) p ≡ Some None
   value_free p l none = noted_free m.nets _ (equations m) p none ∙ nothing_noted (length m.nets) p l
 
   -- the equation of a value
-  pub value_equation : (p : ℕ) (v : ExprTree) → slice_get (values_of m) p ≡ Some (Some v) → (d : DriveTree) × Among d (equations m) × (place_of m.nets d.name ≡ p) × (d.value ≡ v)
+  pub value_equation : (p : ℕ) (v : ExprTree) → slice_get (values_of m) p ≡ Some (Some v) → (d : DriveTree) × Among d (equations m)
+      × (place_of m.nets d.name ≡ p) × (d.value ≡ v)
   value_equation p v h =
       let l = slice_get_within (values_of m) p (Some v) h in
       let n = values_long in
@@ -116,7 +120,8 @@ module _ (m : ModuleTree) (ok : IsRegular m) (shape : IsShapely m) where
   equations_driven k d h = target_named d (among_from d (equations m) k h)
 
   -- what an equation reads is named, and has its place
-  read_named : (d : DriveTree) → Among d (equations m) → (n : List ℕ) → Among n (names_in d.value) → (x : NetTree) × NetAt m (place_of m.nets n) x × (x.name ≡ n)
+  read_named : (d : DriveTree) → Among d (equations m) → (n : List ℕ) → Among n (names_in d.value) → (x : NetTree) × NetAt m (place_of m.nets n) x
+      × (x.name ≡ n)
   read_named d a n b =
       let r = (equation_readable m ok d a).known n b in
       let h = subst (IsNamed m.nets) r.named (named_of m ok shape r.net r.there) in
@@ -175,10 +180,12 @@ module _ (m : ModuleTree) (ok : IsRegular m) (shape : IsShapely m) where
     reach_names : (p q : ℕ) → g.Reaches starts targets p q → (x y : NetTree) → NetAt m p x → NetAt m q y → Reaches m x.name y.name
     reach_names _ _ (g.At_once p q n) x y hx hy =
         let f = needs_feeds p q n in
-        at_once x.name y.name (subst (λ k. Feeds m k y.name) (same_at p f.net x f.at hx) (subst (Feeds m f.net.name) (same_at q f.other y f.other_at hy) f.feeds))
+        at_once x.name y.name (subst (λ k. Feeds m k y.name) (same_at p f.net x f.at hx)
+        (subst (Feeds m f.net.name) (same_at q f.other y f.other_at hy) f.feeds))
     reach_names _ _ (g.Through p q r n rest) x y hx hy =
         let f = needs_feeds p q n in
-        through x.name f.other.name y.name (subst (λ k. Feeds m k f.other.name) (same_at p f.net x f.at hx) f.feeds) (reach_names q r rest f.other y f.other_at hy)
+        through x.name f.other.name y.name (subst (λ k. Feeds m k f.other.name) (same_at p f.net x f.at hx) f.feeds)
+        (reach_names q r rest f.other y f.other_at hy)
 
     start_at : (p q : ℕ) → g.Reaches starts targets p q → (x : NetTree) × NetAt m p x
     start_at _ _ (g.At_once p q n) = let f = needs_feeds p q n in (f.net, f.at)
@@ -187,13 +194,26 @@ module _ (m : ModuleTree) (ok : IsRegular m) (shape : IsShapely m) where
     pub loop_of : (p : ℕ) → g.Reaches starts targets p p → HasLoop m p
     loop_of p r = let x = start_at p p r in (x.0, x.1, reach_names p p r x.0 x.0 x.1 x.1)
 
-    reach_places : (a b : List ℕ) → Reaches m a b → (p : ℕ) (x : NetTree) → NetAt m p x → x.name ≡ a → (q : ℕ) (y : NetTree) → NetAt m q y → y.name ≡ b → g.Reaches starts targets p q
+    reach_places : (a b : List ℕ) → Reaches m a b → (p : ℕ) (x : NetTree) → NetAt m p x → x.name ≡ a → (q : ℕ) (y : NetTree) → NetAt m q y → y.name ≡ b
+        → g.Reaches starts targets p q
     reach_places _ _ (at_once a b f) p x hx ex q y hy ey =
-        g.At_once p q (feeds_needs p q (record { net = x; other = y; at = hx; other_at = hy; feeds = subst (λ k. Feeds m k y.name) (sym ex) (subst (Feeds m a) (sym ey) f) }))
+        g.At_once p q (feeds_needs p q (record {
+          net = x;
+          other = y;
+          at = hx;
+          other_at = hy;
+          feeds = subst (λ k. Feeds m k y.name) (sym ex) (subst (Feeds m a) (sym ey) f);
+        }))
     reach_places _ _ (through a b c f rest) p x hx ex q y hy ey =
         let n = read_named f.0 f.1 b f.3 in
         let mid = place_of m.nets b in
-        g.Through p mid q (feeds_needs p mid (record { net = x; other = n.0; at = hx; other_at = n.1; feeds = subst (λ k. Feeds m k n.0.name) (sym ex) (subst (Feeds m a) (sym n.2) f) }))
+        g.Through p mid q (feeds_needs p mid (record {
+          net = x;
+          other = n.0;
+          at = hx;
+          other_at = n.1;
+          feeds = subst (λ k. Feeds m k n.0.name) (sym ex) (subst (Feeds m a) (sym n.2) f);
+        }))
         (reach_places b c rest mid n.0 n.1 n.2 q y hy ey)
 
     pub order_is : (order : List ℕ) → g.IsOrder starts targets order → IsWireOrder m order
@@ -208,13 +228,15 @@ module _ (m : ModuleTree) (ok : IsRegular m) (shape : IsShapely m) where
     no_loop_of order o = λ p h. none_loops starts targets order o p (reach_places h.0.name h.0.name h.2 p h.0 h.1 refl p h.0 h.1 refl)
 
 -- the graph of the code is that of the module
-pub flat_is : (m : ModuleTree) (ns : List NetTree) (vs : List (Option ExprTree)) (k : ℕ) (starts targets : List ℕ) → ns ≡ m.nets → vs ≡ values_of m → k ≡ length vs → IsFlat ns vs (k + 1) starts targets
+pub flat_is : (m : ModuleTree) (ns : List NetTree) (vs : List (Option ExprTree)) (k : ℕ) (starts targets : List ℕ) → ns ≡ m.nets → vs ≡ values_of m
+    → k ≡ length vs → IsFlat ns vs (k + 1) starts targets
     → IsFlat m.nets (values_of m) (length (values_of m) + 1) starts targets
 flat_is m ns vs k starts targets e f l h =
     subst (λ (us : List (Option ExprTree)). IsFlat m.nets us (length us + 1) starts targets) f
     (subst (λ (xs : List NetTree). IsFlat xs vs (length vs + 1) starts targets) e (subst (λ (n : ℕ). IsFlat ns vs (n + 1) starts targets) l h))
 
-pub fault_is : (m : ModuleTree) (starts targets : List ℕ) → ((p : ℕ) → g.Reaches starts targets p p → HasLoop m p) → (f : OrderFault) → Fails starts targets f → IsLoopFault m f
+pub fault_is : (m : ModuleTree) (starts targets : List ℕ) → ((p : ℕ) → g.Reaches starts targets p p → HasLoop m p) → (f : OrderFault) → Fails starts targets f
+    → IsLoopFault m f
 fault_is m starts targets loop (Loop p) h = loop p h
 fault_is m starts targets loop Memory h = tt
 

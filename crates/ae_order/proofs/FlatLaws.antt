@@ -15,7 +15,8 @@ get_front (y ∷ xs) ys (suc k) x l h = get_front xs ys k x (omega arith) h
 
 get_back : {X : Type 0} (xs ys : List X) (k : ℕ) (x : X) → slice_get (xs ++ ys) (length xs + k) ≡ Some x → slice_get ys k ≡ Some x
 get_back [] ys k x h = subst (λ i. slice_get ys i ≡ Some x) (let e : 0 + k ≡ k = omega arith in e) h
-get_back (y ∷ xs) ys k x h = get_back xs ys k x (subst (λ i. slice_get (y ∷ (xs ++ ys)) i ≡ Some x) (let e : length (y ∷ xs) + k ≡ suc (length xs + k) = omega arith in e) h)
+get_back (y ∷ xs) ys k x h =
+    get_back xs ys k x (subst (λ i. slice_get (y ∷ (xs ++ ys)) i ≡ Some x) (let e : length (y ∷ xs) + k ≡ suc (length xs + k) = omega arith in e) h)
 
 put_front : {X : Type 0} (xs ys : List X) (k : ℕ) (x : X) → slice_get xs k ≡ Some x → slice_get (xs ++ ys) k ≡ Some x
 put_front [] ys k x h = cc
@@ -24,14 +25,16 @@ put_front (y ∷ xs) ys (suc k) x h = put_front xs ys k x h
 
 put_back : {X : Type 0} (xs ys : List X) (k : ℕ) (x : X) → slice_get ys k ≡ Some x → slice_get (xs ++ ys) (length xs + k) ≡ Some x
 put_back [] ys k x h = subst (λ i. slice_get ys i ≡ Some x) (let e : k ≡ 0 + k = omega arith in e) h
-put_back (y ∷ xs) ys k x h = subst (λ i. slice_get (y ∷ (xs ++ ys)) i ≡ Some x) (let e : suc (length xs + k) ≡ length (y ∷ xs) + k = omega arith in e) (put_back xs ys k x h)
+put_back (y ∷ xs) ys k x h =
+    subst (λ i. slice_get (y ∷ (xs ++ ys)) i ≡ Some x) (let e : suc (length xs + k) ≡ length (y ∷ xs) + k = omega arith in e) (put_back xs ys k x h)
 
 module _ {X Y : Type 0} (f : X → List Y) where
   before : List X → ℕ → ℕ
   before xs i = length (flat_map f (take i xs))
 
   -- what stands in the stretch of an item is of the item
-  in_flat : (xs : List X) (i k : ℕ) (y : Y) → i < length xs → slice_get (flat_map f xs) k ≡ Some y → length (flat_map f (take i xs)) ≤ k → k < length (flat_map f (take (suc i) xs)) → (x : X) × (slice_get xs i ≡ Some x) × Among y (f x)
+  in_flat : (xs : List X) (i k : ℕ) (y : Y) → i < length xs → slice_get (flat_map f xs) k ≡ Some y → length (flat_map f (take i xs)) ≤ k
+      → k < length (flat_map f (take (suc i) xs)) → (x : X) × (slice_get xs i ≡ Some x) × Among y (f x)
   in_flat [] i k y l h a b = absurd (omega arith)
   in_flat (x ∷ xs) zero k y l h a b =
       let n = length-append (f x) [] in
@@ -40,7 +43,8 @@ module _ {X Y : Type 0} (f : X → List Y) where
       let p = length-append (f x) (flat_map f (take i xs)) in
       let q = length-append (f x) (flat_map f (take (suc i) xs)) in
       let e : k ≡ length (f x) + (k - length (f x)) = omega arith in
-      in_flat xs i (k - length (f x)) y (omega arith) (get_back (f x) (flat_map f xs) (k - length (f x)) y (subst (λ j. slice_get (f x ++ flat_map f xs) j ≡ Some y) e h)) (omega arith) (omega arith)
+      in_flat xs i (k - length (f x)) y (omega arith) (get_back (f x) (flat_map f xs) (k - length (f x)) y
+      (subst (λ j. slice_get (f x ++ flat_map f xs) j ≡ Some y) e h)) (omega arith) (omega arith)
 
   -- and what is of an item stands there
   to_flat : (xs : List X) (i : ℕ) (x : X) (y : Y) → slice_get xs i ≡ Some x → Among y (f x)
@@ -109,7 +113,8 @@ module _ (ns : List NetTree) (vs : List (Option ExprTree)) (starts targets : Lis
   read_needs p q v h a =
       let r = to_flat (places_in ns) vs p v q h a in
       let l : p < length vs = slice_get_within vs p v h in
-      let last : slice_get starts (p + 1) ≡ Some (length (flat_map (places_in ns) (take (suc p) vs))) = flat.at (p + 1) (omega arith) ∙ ap (λ k. Some (length (flat_map (places_in ns) (take k vs)))) (add-one p) in
+      let last : slice_get starts (p + 1) ≡ Some (length (flat_map (places_in ns) (take (suc p) vs))) = flat.at (p + 1) (omega arith) ∙
+      ap (λ k. Some (length (flat_map (places_in ns) (take k vs)))) (add-one p) in
       record {
         first = length (read_before ns vs p);
         last = length (flat_map (places_in ns) (take (suc p) vs));
@@ -128,7 +133,8 @@ module _ (ns : List NetTree) (vs : List (Option ExprTree)) (starts targets : Lis
         let l : a + 1 < length starts = slice_get_within starts (a + 1) last e in
         let long = flat.long in
         let f : first ≡ length (read_before ns vs a) = some_same _ _ b (flat.at a (omega arith)) in
-        let g : last ≡ length (flat_map (places_in ns) (take (suc a) vs)) = some_same _ _ e (flat.at (a + 1) (omega arith)) ∙ ap (λ k. length (flat_map (places_in ns) (take k vs))) (add-one a) in
+        let g : last ≡ length (flat_map (places_in ns) (take (suc a) vs)) = some_same _ _ e (flat.at (a + 1) (omega arith)) ∙
+        ap (λ k. length (flat_map (places_in ns) (take k vs))) (add-one a) in
         let u = stretch_grows (places_in ns) vs a in
         let v = stretch_within (places_in ns) vs (suc a) in
         let t : length targets ≡ length (flat_map (places_in ns) vs) = ap length all_targets in

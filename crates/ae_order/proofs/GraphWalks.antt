@@ -12,7 +12,8 @@ use Rattle.ae_order.specs.Walks.{Steps}
 use Rattle.ae_order.proofs.GraphGets.{get_left, get_pushed, get_push_cases, get_set_other, get_set_same}
 
 -- what is at a place of a list that was written at a place
-pub other_or_same : {X : Type 0} (xs : List X) (i n : ℕ) (y x z : X) → slice_get xs i ≡ Some z → slice_get (set xs i y) n ≡ Some x → ((n ≢ i) × (slice_get xs n ≡ Some x)) ⊎ ((n ≡ i) × (y ≡ x))
+pub other_or_same : {X : Type 0} (xs : List X) (i n : ℕ) (y x z : X) → slice_get xs i ≡ Some z → slice_get (set xs i y) n ≡ Some x
+    → ((n ≢ i) × (slice_get xs n ≡ Some x)) ⊎ ((n ≡ i) × (y ≡ x))
 other_or_same xs i n y x z hz h = elim (cases_eq n i) [
   | inl e ↦ inr (e, (let q = get_set_same xs i y z hz in let r : slice_get (set xs i y) i ≡ Some x = rw e at h in same_Some y x (sym q ∙ r)))
   | inr ne ↦ inl (ne, sym (get_set_other xs i n y ne) ∙ h)
@@ -24,10 +25,12 @@ joined _ _ c (Through a d b n r) m = Through a d c n (joined d b c r m)
 
 module _ (starts targets : List ℕ) (graph : IsGraph starts targets) where
   -- marks of the others stay, where the one that changes was not done
-  done_stays : (marks : List Mark) (a : ℕ) (m m' : Mark) → slice_get marks a ≡ Some m → m ≢ Done → (b : ℕ) → slice_get marks b ≡ Some Done → slice_get (set marks a m') b ≡ Some Done
+  done_stays : (marks : List Mark) (a : ℕ) (m m' : Mark) → slice_get marks a ≡ Some m → m ≢ Done → (b : ℕ) → slice_get marks b ≡ Some Done
+      → slice_get (set marks a m') b ≡ Some Done
   done_stays marks a m m' h ne b d = get_set_other marks a b m' (λ e. ne (let q : slice_get marks a ≡ Some Done = rw (← e) d in cc)) ∙ d
 
-  looked_stays : (marks : List Mark) (a : ℕ) (m m' : Mark) → slice_get marks a ≡ Some m → m ≢ Done → (c at : ℕ) → IsLooked starts targets marks c at → IsLooked starts targets (set marks a m') c at
+  looked_stays : (marks : List Mark) (a : ℕ) (m m' : Mark) → slice_get marks a ≡ Some m → m ≢ Done → (c at : ℕ) → IsLooked starts targets marks c at
+      → IsLooked starts targets (set marks a m') c at
   looked_stays marks a m m' h ne c at l = record {
     first = l.first;
     last = l.last;
@@ -46,7 +49,11 @@ module _ (starts targets : List ℕ) (graph : IsGraph starts targets) where
   walk_pushed marks stack order a first last w new hf hl top = record {
     long = rw (length-set marks a (At first)) w.long;
     open_at = λ k b h. elim (get_push_cases stack a k b h) [
-      | inl u ↦ let o = w.open_at k b u.0 in (o.0, get_set_other marks a b (At first) (λ e. let q : slice_get marks a ≡ Some (At o.0) = rw (← e) o.1 in cc) ∙ o.1)
+      | inl u ↦ let o = w.open_at k b u.0 in (
+        o.0,
+        get_set_other marks a b (At first) (λ e. let q : slice_get marks a ≡ Some (At o.0) = rw (← e) o.1 in cc) ∙
+            o.1,
+      )
       | inr u ↦ (first, rw (← u.1) (get_set_same marks a (At first) New new))
     ];
     looked = λ b at h. elim (other_or_same marks a b (At first) (At at) New new h) [
@@ -139,11 +146,14 @@ module _ (starts targets : List ℕ) (graph : IsGraph starts targets) where
   }
 
   -- the top is done
-  pub walk_popped : (marks : List Mark) (below order : List ℕ) (a at : ℕ) → IsWalk starts targets marks (below ++ a ∷ []) order → slice_get marks a ≡ Some (At at)
+  pub walk_popped : (marks : List Mark) (below order : List ℕ) (a at : ℕ) → IsWalk starts targets marks (below ++ a ∷ []) order
+      → slice_get marks a ≡ Some (At at)
       → slice_get starts (a + 1) ≡ Some at → IsWalk starts targets (set marks a Done) below (order ++ a ∷ [])
   walk_popped marks below order a at w here_is hl =
       let place = get_pushed below a in
-      let fresh : (k : ℕ) → slice_get below k ≡ Some a → ⊥ = λ k h. (let s : k ≡ length below = w.single k (length below) a (get_left below (a ∷ []) k a h) place in let t = slice_get_within below k a h in omega arith) in
+      let fresh : (k : ℕ) → slice_get below k ≡ Some a → ⊥ = λ k h.
+      (let s : k ≡ length below = w.single k (length below) a (get_left below (a ∷ []) k a h) place in let t = slice_get_within below k a h in
+      omega arith) in
       let stays : (b : ℕ) → slice_get marks b ≡ Some Done → slice_get (set marks a Done) b ≡ Some Done = done_stays marks a (At at) Done here_is (λ e. cc) in
       let l = w.looked a at here_is in
       let same : l.last ≡ at = (let q = l.ends in cc) in
@@ -195,7 +205,8 @@ module _ (starts targets : List ℕ) (graph : IsGraph starts targets) where
       }
 
   -- what stands in the stack reaches all that stands above it, by so many steps
-  climbs : (marks : List Mark) (stack order : List ℕ) → IsWalk starts targets marks stack order → (n k a b : ℕ) → slice_get stack k ≡ Some a → slice_get stack (k + 1 + n) ≡ Some b → Reaches starts targets a b
+  climbs : (marks : List Mark) (stack order : List ℕ) → IsWalk starts targets marks stack order → (n k a b : ℕ) → slice_get stack k ≡ Some a
+      → slice_get stack (k + 1 + n) ≡ Some b → Reaches starts targets a b
   climbs marks stack order w zero k a b h g = At_once a b (w.chain k a b h (let e : k + 1 + 0 ≡ k + 1 = omega arith in rw e at g))
   climbs marks stack order w (suc n) k a b h g =
       let within = slice_get_within stack (k + 1 + suc n) b g in
@@ -205,13 +216,23 @@ module _ (starts targets : List ℕ) (graph : IsGraph starts targets) where
       Through a c b (w.chain k a c h there) (climbs marks stack order w n (k + 1) c b there (rw e at g))
 
   -- a target of the top that is here_is reaches itself
-  pub walk_loops : (marks : List Mark) (below order : List ℕ) (a at b at' last : ℕ) → IsWalk starts targets marks (below ++ a ∷ []) order → slice_get marks a ≡ Some (At at)
+  pub walk_loops : (marks : List Mark) (below order : List ℕ) (a at b at' last : ℕ) → IsWalk starts targets marks (below ++ a ∷ []) order
+      → slice_get marks a ≡ Some (At at)
       → slice_get starts (a + 1) ≡ Some last → at ≢ last → slice_get targets at ≡ Some b → slice_get marks b ≡ Some (At at') → Reaches starts targets b b
   walk_loops marks below order a at b at' last w here_is hl ne target here_is' =
       let l = w.looked a at here_is in
       let same : l.last ≡ last = (let q = l.ends in cc) in
       let from = l.from in let upto = l.upto in
-      let needs : Needs starts targets a b = record { first = l.first; last = last; at = at; begins = l.begins; ends = hl; from = l.from; below = omega arith; found = target } in
+      let needs : Needs starts targets a b = record {
+        first = l.first;
+        last = last;
+        at = at;
+        begins = l.begins;
+        ends = hl;
+        from = l.from;
+        below = omega arith;
+        found = target;
+      } in
       let s = w.stacked b at' here_is' in
       elim (get_push_cases below a s.0 b s.1) [
         | inl u ↦ (
@@ -297,13 +318,15 @@ module _ (starts targets : List ℕ) (graph : IsGraph starts targets) where
         less = omega arith;
       }
 
-  ended : (marks : List Mark) (a : ℕ) (m : Mark) → Begins marks a → slice_get marks a ≡ Some m → ((at : ℕ) → slice_get marks a ≡ Some (At at) → ⊥) → Some m ≡ Some Done
+  ended : (marks : List Mark) (a : ℕ) (m : Mark) → Begins marks a → slice_get marks a ≡ Some m → ((at : ℕ) → slice_get marks a ≡ Some (At at) → ⊥)
+      → Some m ≡ Some Done
   ended marks a New b h n = absurd (b h)
   ended marks a (At at) b h n = absurd (n at h)
   ended marks a Done b h n = refl
 
   -- all are done where all are begun and none is in the stack
-  pub walk_ends : (marks : List Mark) (order : List ℕ) → IsWalk starts targets marks [] order → ((a : ℕ) → a < length marks → Begins marks a) → IsOrder starts targets order
+  pub walk_ends : (marks : List Mark) (order : List ℕ) → IsWalk starts targets marks [] order → ((a : ℕ) → a < length marks → Begins marks a)
+      → IsOrder starts targets order
   walk_ends marks order w begun = record {
     nodes = λ p a h.
         let long = w.long in
@@ -330,8 +353,10 @@ module _ (starts targets : List ℕ) (graph : IsGraph starts targets) where
       (omega arith, omega arith)
 
   -- and the top needs it
-  pub top_needs : (marks : List Mark) (below stack order : List ℕ) (a at last b : ℕ) → IsWalk starts targets marks stack order → stack ≡ below ++ a ∷ [] → slice_get marks a ≡ Some (At at)
-      → slice_get starts (a + 1) ≡ Some last → at ≢ last → slice_get targets at ≡ Some b → (k c : ℕ) → k + 1 ≡ length stack → slice_get stack k ≡ Some c → Needs starts targets c b
+  pub top_needs : (marks : List Mark) (below stack order : List ℕ) (a at last b : ℕ) → IsWalk starts targets marks stack order → stack ≡ below ++ a ∷ []
+      → slice_get marks a ≡ Some (At at)
+      → slice_get starts (a + 1) ≡ Some last → at ≢ last → slice_get targets at ≡ Some b → (k c : ℕ) → k + 1 ≡ length stack → slice_get stack k ≡ Some c
+      → Needs starts targets c b
   top_needs marks below stack order a at last b w is h hl ne target k c e g =
       let l = w.looked a at h in
       let from = l.from in

@@ -20,11 +20,13 @@ flat_push g [] x = append-nil (g x)
 flat_push g (y ∷ xs) x = ap (λ zs. g y ++ zs) (flat_push g xs x) ∙ sym (append_assoc (g y) (flat_map g xs) (g x))
 
 -- the names of one part more
-pub more_names : (f : List ℕ → ℕ) (old held new : List ℕ) (ps : List ExprTree) (i : ℕ) (x : ExprTree) → held ≡ old ++ map f (flat_map names_in (take i ps)) → new ≡ held ++ map f (names_in x)
+pub more_names : (f : List ℕ → ℕ) (old held new : List ℕ) (ps : List ExprTree) (i : ℕ) (x : ExprTree) → held ≡ old ++ map f (flat_map names_in (take i ps))
+    → new ≡ held ++ map f (names_in x)
     → take (i + 1) ps ≡ take i ps ++ x ∷ [] → new ≡ old ++ map f (flat_map names_in (take (i + 1) ps))
 more_names f old held new ps i x h n t =
     n ∙ ap (λ xs. xs ++ map f (names_in x)) h ∙ append_assoc old (map f (flat_map names_in (take i ps))) (map f (names_in x))
-    ∙ ap (λ xs. old ++ xs) (sym (map_join f (flat_map names_in (take i ps)) (names_in x)) ∙ ap (map f) (sym (flat_push names_in (take i ps) x)) ∙ ap (λ qs. map f (flat_map names_in qs)) (sym t))
+    ∙ ap (λ xs. old ++ xs) (sym (map_join f (flat_map names_in (take i ps)) (names_in x)) ∙ ap (map f) (sym (flat_push names_in (take i ps) x)) ∙
+    ap (λ qs. map f (flat_map names_in qs)) (sym t))
 
 names_behind : (p : ExprTree) (ps : List ExprTree) → names_in (concat_behind p ps) ≡ flat_map names_in (p ∷ ps)
 names_behind p [] = sym (append-nil (names_in p))
@@ -35,7 +37,8 @@ parts_names [] l = absurd (omega arith)
 parts_names (p ∷ ps) l = names_behind p ps
 
 -- one equation more
-pub more_noted : (ns : List NetTree) (vs held : List (Option ExprTree)) (ds : List DriveTree) (i p : ℕ) (d : DriveTree) → held ≡ noted ns vs (take i ds) → take (i + 1) ds ≡ take i ds ++ d ∷ [] → p ≡ place_of ns d.name
+pub more_noted : (ns : List NetTree) (vs held : List (Option ExprTree)) (ds : List DriveTree) (i p : ℕ) (d : DriveTree) → held ≡ noted ns vs (take i ds)
+    → take (i + 1) ds ≡ take i ds ++ d ∷ [] → p ≡ place_of ns d.name
     → set held p (Some d.value) ≡ noted ns vs (take (i + 1) ds)
 more_noted ns vs held ds i p d h t e =
     ap (λ k. set held k (Some d.value)) e ∙ ap (λ us. with_drive ns us d) h ∙ sym (noted_append ns vs (take i ds) (d ∷ [])) ∙ ap (noted ns vs) (sym t)
@@ -46,7 +49,8 @@ map_written f (y ∷ xs) zero x = refl
 map_written f (y ∷ xs) (suc i) x = ap (λ zs. f y ∷ zs) (map_written f xs i x)
 
 -- one item more
-pub more_items : (ns : List NetTree) (vs held new : List (Option ExprTree)) (is : List ItemTree) (i : ℕ) (x : ItemTree) → held ≡ noted ns vs (flat_map drives_of (take i is)) → new ≡ noted ns held (drives_of x)
+pub more_items : (ns : List NetTree) (vs held new : List (Option ExprTree)) (is : List ItemTree) (i : ℕ) (x : ItemTree)
+    → held ≡ noted ns vs (flat_map drives_of (take i is)) → new ≡ noted ns held (drives_of x)
     → take (i + 1) is ≡ take i is ++ x ∷ [] → new ≡ noted ns vs (flat_map drives_of (take (i + 1) is))
 more_items ns vs held new is i x h n t =
     n ∙ ap (λ us. noted ns us (drives_of x)) h ∙ sym (noted_append ns vs (flat_map drives_of (take i is)) (drives_of x))
@@ -68,7 +72,8 @@ nones_push n = push n ∙ ap (λ k. replicate k None) (sym (add-one n))
     push (suc n) = ap (λ vs. None ∷ vs) (push n)
 
 -- what is so of a value that may be there
-pub if_some : {R : Type 0} (f : R → ExprTree) (P : ExprTree → Type 0) (o : Option R) → ((e : ExprTree) → option_map f o ≡ Some e → P e) → IfSome o (λ r. P (f r))
+pub if_some : {R : Type 0} (f : R → ExprTree) (P : ExprTree → Type 0) (o : Option R) → ((e : ExprTree) → option_map f o ≡ Some e → P e)
+    → IfSome o (λ r. P (f r))
 if_some f P None h = tt
 if_some f P (Some r) h = h (f r) refl
 
@@ -90,23 +95,27 @@ module _ (ns : List NetTree) (vs : List (Option ExprTree)) where
           | inr g ↦
               let e : i ≡ length starts = omega arith in
               let f : length starts ≡ i = omega arith in
-              ap (λ xs. slice_get xs i) s ∙ ap (slice_get (starts ++ n ∷ [])) e ∙ get_pushed starts n ∙ ap Some (l ∙ ap length h.all ∙ ap (λ j. length (read_before ns vs j)) (sym long ∙ f))
+              ap (λ xs. slice_get xs i) s ∙ ap (slice_get (starts ++ n ∷ [])) e ∙ get_pushed starts n ∙
+              ap Some (l ∙ ap length h.all ∙ ap (λ j. length (read_before ns vs j)) (sym long ∙ f))
         ],
       )
 
   -- one value more
-  pub flat_more : (k n : ℕ) (starts starts' targets targets' : List ℕ) (v : Option ExprTree) → slice_get vs k ≡ Some v → IsFlat ns vs k starts targets → starts' ≡ starts ++ n ∷ [] → n ≡ length targets → targets' ≡ targets ++ places_in ns v
+  pub flat_more : (k n : ℕ) (starts starts' targets targets' : List ℕ) (v : Option ExprTree) → slice_get vs k ≡ Some v → IsFlat ns vs k starts targets
+      → starts' ≡ starts ++ n ∷ [] → n ≡ length targets → targets' ≡ targets ++ places_in ns v
       → IsFlat ns vs (k + 1) starts' targets'
   flat_more k n starts starts' targets targets' v found h s l t =
       let r = starts_more k n starts starts' targets h s l in
       record {
         long = r.0;
         at = r.1;
-        all = t ∙ ap (λ xs. xs ++ places_in ns v) h.all ∙ sym (flat_push (places_in ns) (take k vs) v) ∙ ap (flat_map (places_in ns)) (sym (take_found vs k v found)) ∙ ap (λ j. flat_map (places_in ns) (take j vs)) (sym (add-one k));
+        all = t ∙ ap (λ xs. xs ++ places_in ns v) h.all ∙ sym (flat_push (places_in ns) (take k vs) v) ∙
+            ap (flat_map (places_in ns)) (sym (take_found vs k v found)) ∙ ap (λ j. flat_map (places_in ns) (take j vs)) (sym (add-one k));
       }
 
   -- and the end
-  pub flat_last : (k n : ℕ) (starts starts' targets : List ℕ) → length vs ≤ k → IsFlat ns vs k starts targets → starts' ≡ starts ++ n ∷ [] → n ≡ length targets → IsFlat ns vs (k + 1) starts' targets
+  pub flat_last : (k n : ℕ) (starts starts' targets : List ℕ) → length vs ≤ k → IsFlat ns vs k starts targets → starts' ≡ starts ++ n ∷ [] → n ≡ length targets
+      → IsFlat ns vs (k + 1) starts' targets
   flat_last k n starts starts' targets end h s l =
       let r = starts_more k n starts starts' targets h s l in
       record {

@@ -19,7 +19,8 @@ pub not_less : (a b : ℕ) → nat_lt a b ≡ false → b ≤ a
 not_less a b h = grind (arith, nat_tests)
 
 -- a name that is declared has a place
-pub place_some : (ns : List NetTree) (n : List ℕ) (p : ℕ) (x : NetTree) → slice_get ns p ≡ Some x → x.name ≡ n → (y : NetTree) × (slice_get ns (place_of ns n) ≡ Some y) × (y.name ≡ n)
+pub place_some : (ns : List NetTree) (n : List ℕ) (p : ℕ) (x : NetTree) → slice_get ns p ≡ Some x → x.name ≡ n → (y : NetTree)
+    × (slice_get ns (place_of ns n) ≡ Some y) × (y.name ≡ n)
 unfolding place_of
 place_some [] n p x h e = absurd (let s : None ≡ Some x = h in cc)
 place_some (z ∷ zs) n p x h e = elim (cases_Bool (bytes_eq z.name n)) [
@@ -92,13 +93,17 @@ module _ (m : ModuleTree) (ok : IsRegular m) (shape : IsShapely m) where
   named_data : (n : List ℕ) → IsData m n → IsNamed m.nets n
   named_data n d = subst (IsNamed m.nets) d.named (named_of d.net d.there)
 
-  pub sound_of : (e : ExprTree) → ((n : List ℕ) → Among n (names_in e) → IsData m n) → is_misused m.nets e ≡ false → is_too_wide m.nets e ≡ false → IsLettered e → IsPlaced false e → IsSound m.nets e
+  pub sound_of : (e : ExprTree) → ((n : List ℕ) → Among n (names_in e) → IsData m n) → is_misused m.nets e ≡ false → is_too_wide m.nets e ≡ false
+      → IsLettered e → IsPlaced false e → IsSound m.nets e
   sound_of (name n) known right fits letters placed = record { named = named_data n (known n (inl refl)); word = right; letters = letters }
   sound_of (constant size value fit) known right fits letters placed = subst (IsConstant size value) (not_false fit fits) placed
   sound_of (place k) known right fits letters placed = absurd (let s : false ≡ true = placed in cc)
   sound_of (part n high low) known right fits letters placed =
-      let p = or_parts _ _ fits in
-      (record { named = named_data n (known n (inl refl)); word = (or_parts _ _ right).0; letters = letters }, not_less high low p.0, leb-false (declared_width m.nets n) high p.1)
+      let p = or_parts _ _ fits in (
+        record { named = named_data n (known n (inl refl)); word = (or_parts _ _ right).0; letters = letters },
+        not_less high low p.0,
+        leb-false (declared_width m.nets n) high p.1,
+      )
   sound_of (index n at) known right fits letters placed =
       let r = or_parts _ _ right in
       let f = or_parts _ _ fits in
@@ -107,10 +112,12 @@ module _ (m : ModuleTree) (ok : IsRegular m) (shape : IsShapely m) where
         elim (cases_Bool (is_place at)) [
           | inl t ↦
               let e = is_the_place at t in
-              let inside = inside_place (is_memory_name m.nets n) (declared_width m.nets n) (depth_of m.nets n) (own_width m.nets at) (place_number at) (subst (λ u. is_outside_of (is_memory_name m.nets n) (declared_width m.nets n) (depth_of m.nets n) (own_width m.nets at) u ≡ false) e f.1) in
+              let inside = inside_place (is_memory_name m.nets n) (declared_width m.nets n) (depth_of m.nets n) (own_width m.nets at) (place_number at)
+              (subst (λ u. is_outside_of (is_memory_name m.nets n) (declared_width m.nets n) (depth_of m.nets n) (own_width m.nets at) u ≡ false) e f.1) in
               subst (λ b. IsSoundIndex b m.nets n (place_number at) (own_width m.nets at) (IsSound m.nets at)) (sym t) inside
           | inr o ↦
-              let memory = must_be_memory (is_memory_name m.nets n) (is_ranged m.nets n) (subst (λ b. (not (is_memory_name m.nets n) && not (is_ranged m.nets n && b)) ≡ false) o r.1) in
+              let memory = must_be_memory (is_memory_name m.nets n) (is_ranged m.nets n)
+              (subst (λ b. (not (is_memory_name m.nets n) && not (is_ranged m.nets n && b)) ≡ false) o r.1) in
               let deep : nat_lt (depth_of m.nets n) (2 ^ own_width m.nets at) ≡ false =
               sym (outside_varying at (declared_width m.nets n) (depth_of m.nets n) (own_width m.nets at) o)
               ∙ subst (λ b. is_outside_of b (declared_width m.nets n) (depth_of m.nets n) (own_width m.nets at) at ≡ false) memory f.1 in

@@ -20,7 +20,8 @@ module _ {X Y : Type 0} (f : X → Y) where
       let long = length-map xs f in
       take_more (map f xs) i (f x) (omega arith) ∙ ap (λ u. take i (map f xs) ++ u ∷ []) (item_is xs i x l e)
 
-  pub sum_turn : (g : Y → ℕ) (xs : List X) (i : ℕ) (x : X) → i < length xs → x ≡ get_or xs i x → sum_by g (take (i + 1) (map f xs)) ≡ sum_by g (take i (map f xs)) + g (f x)
+  pub sum_turn : (g : Y → ℕ) (xs : List X) (i : ℕ) (x : X) → i < length xs → x ≡ get_or xs i x
+      → sum_by g (take (i + 1) (map f xs)) ≡ sum_by g (take i (map f xs)) + g (f x)
   sum_turn g xs i x l e =
       let long = length-map xs f in
       sum_by_more g (map f xs) i (f x) (omega arith) ∙ ap (λ u. sum_by g (take i (map f xs)) + g u) (item_is xs i x l e)

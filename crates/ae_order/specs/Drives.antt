@@ -47,7 +47,8 @@ pub record FeedsAt (m : ModuleTree) (p q : ℕ) : Type 0 where
 pub record IsWireOrder (m : ModuleTree) (order : List ℕ) : Type 0 where
   pub places : (k p : ℕ) → slice_get order k ≡ Some p → p < length m.nets
   pub every : (p : ℕ) → p < length m.nets → (k : ℕ) × (slice_get order k ≡ Some p)
-  pub after : (k p q : ℕ) → slice_get order k ≡ Some p → FeedsAt m p q → (l : ℕ) × (l < k) × (slice_get order l ≡ Some q)
+  pub after : (k p q : ℕ) → slice_get order k ≡ Some p → FeedsAt m p q → (l : ℕ) × (l < k)
+      × (slice_get order l ≡ Some q)
   pub once : (k l p : ℕ) → slice_get order k ≡ Some p → slice_get order l ≡ Some p → k ≡ l
 
 -- the names of these equations are declared

@@ -37,7 +37,8 @@ IsSound ns (name n) = IsWordName ns n
 IsSound ns (constant size value fits) = (1 ≤ size) × (size ≤ 64) × (value < 2 ^ size)
 IsSound ns (place k) = ⊥
 IsSound ns (part n high low) = IsWordName ns n × (low ≤ high) × (high < declared_width ns n)
-IsSound ns (index n at) = IsNamed ns n × IsSoundIndex (is_place at) ns n (place_number at) (own_width ns at) (IsSound ns at)
+IsSound ns (index n at) =
+    IsNamed ns n × IsSoundIndex (is_place at) ns n (place_number at) (own_width ns at) (IsSound ns at)
 IsSound ns (unary op a) = IsSound ns a
 IsSound ns (binary op a b) = IsSound ns a × IsSound ns b
 IsSound ns (choice test a b) = IsSound ns test × IsSound ns a × IsSound ns b

@@ -34,7 +34,8 @@ pub record IsWalk (starts targets : List ℕ) (marks : List Mark) (stack order :
   pub chain : (k a b : ℕ) → slice_get stack k ≡ Some a → slice_get stack (k + 1) ≡ Some b → Needs starts targets a b
   pub done : (a : ℕ) → slice_get marks a ≡ Some Done → (p : ℕ) × (slice_get order p ≡ Some a)
   pub ordered : (p a : ℕ) → slice_get order p ≡ Some a → slice_get marks a ≡ Some Done
-  pub after : (p a b : ℕ) → slice_get order p ≡ Some a → Needs starts targets a b → (q : ℕ) × (q < p) × (slice_get order q ≡ Some b)
+  pub after : (p a b : ℕ) → slice_get order p ≡ Some a → Needs starts targets a b → (q : ℕ) × (q < p)
+      × (slice_get order q ≡ Some b)
   pub once : (p q a : ℕ) → slice_get order p ≡ Some a → slice_get order q ≡ Some a → p ≡ q
 
 abbrev pub IsTop : List ℕ → ℕ → Type 0

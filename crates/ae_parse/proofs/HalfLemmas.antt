@@ -26,7 +26,8 @@ pieces_left mark (Some r) = pieces mark r.now
 
 -- a mark behind the second piece
 pub too-many : (ps : List (List ℕ)) (a b : List ℕ) (o : Option (Bor (List ℕ))) (mark : ℕ) (rest : List ℕ)
-    → MatchOption o (pieces mark rest ≡ b ∷ []) (λ r. pieces mark rest ≡ b ∷ pieces mark r.now) → is_some o ≡ true → ps ≡ a ∷ pieces mark rest → None ≡ two_of ps
+    → MatchOption o (pieces mark rest ≡ b ∷ []) (λ r. pieces mark rest ≡ b ∷ pieces mark r.now) → is_some o ≡ true → ps ≡ a ∷ pieces mark rest
+    → None ≡ two_of ps
 too-many ps a b None mark rest m some e = absurd cc
 too-many ps a b (Some r) mark rest m some e = two-three a b (pieces mark r.now) (some-piece mark r.now) ∙ sym (ap two_of (e ∙ ap (λ qs. a ∷ qs) m))
 

@@ -19,7 +19,8 @@ use Rattle.ae_fields.proofs.PlainLemmas.{and-both}
 use Rattle.ae_parse.proofs.TypeSound.{plain-within, within-true, spelled-so}
 
 -- each entry of a table passes a test
-found-all : {A : Type 0} (test : A → Bool) (w : List ℕ) (es : List (List ℕ × A)) (x : A) → list_all (λ (e : List ℕ × A). test e.1) es ≡ true → found w es ≡ Some x → test x ≡ true
+found-all : {A : Type 0} (test : A → Bool) (w : List ℕ) (es : List (List ℕ × A)) (x : A) → list_all (λ (e : List ℕ × A). test e.1) es ≡ true
+    → found w es ≡ Some x → test x ≡ true
 found-all test w [] x all h = absurd cc
 found-all test w (e ∷ es) x all h = by (bytes_eq w e.0) h (found-all test w es x (and-second (test e.1) _ all))
   where
@@ -35,7 +36,8 @@ first-elim : {A P : Type 0} (o p : Option A) (y : A) → first_of o p ≡ Some y
 first-elim None p y h f g = g h
 first-elim (Some x) p y h f g = f h
 
-mapped : {A : Type 0} (test : OpTree → Bool) (g : A → OpTree) (o : Option A) (op : OpTree) → ((x : A) → o ≡ Some x → test (g x) ≡ true) → option_map g o ≡ Some op → test op ≡ true
+mapped : {A : Type 0} (test : OpTree → Bool) (g : A → OpTree) (o : Option A) (op : OpTree) → ((x : A) → o ≡ Some x → test (g x) ≡ true)
+    → option_map g o ≡ Some op → test op ≡ true
 mapped test g o op each_is h = let m = map-some g o op h in ap test (sym m.2) ∙ each_is m.0 m.1
 
 plain-sound : (version n : ℕ) (w : List ℕ) (op : OpTree) → bare_op w ≡ Some op → is_line version n op ≡ true
@@ -83,9 +85,11 @@ fold-sound version n w f op h =
     (mapped (is_line version n) reduce (found f folding_words) op (λ x e. found-all folds f folding_words x refl e))
     (λ h2.
     let t = where-some _ _ _ h2 in
-    mapped (is_line version n) scan (found f folding_words) op (λ x e. and-both _ _ (and-second (bytes_eq w (codes "scan")) _ t.0) (found-all folds f folding_words x refl e)) t.1)
+    mapped (is_line version n) scan (found f folding_words) op
+    (λ x e. and-both _ _ (and-second (bytes_eq w (codes "scan")) _ t.0) (found-all folds f folding_words x refl e)) t.1)
 
-word-cast : (version : ℕ) (k : WordKind) → is_spelled version (atom (atom_word k)) ≡ true → (n : ℕ) → is_line version n (if k.signed then cast_int k.width else word (Cast k.width)) ≡ true
+word-cast : (version : ℕ) (k : WordKind) → is_spelled version (atom (atom_word k)) ≡ true → (n : ℕ)
+    → is_line version n (if k.signed then cast_int k.width else word (Cast k.width)) ≡ true
 word-cast version k h n = by k.signed refl
   where
     widths : within 1 64 k.width ≡ true
@@ -127,13 +131,16 @@ partition-sound version n f g op h = by (plain_of 1 4096 f) (plain_of 1 4096 g) 
     by : (a b : Option ℕ) → plain_of 1 4096 f ≡ a → plain_of 1 4096 g ≡ b → two_numbers a b ≡ Some op → is_line version n op ≡ true
     by None b p q e = absurd cc
     by (Some x) None p q e = absurd cc
-    by (Some x) (Some y) p q e = ap (is_line version n) (sym (some-is _ _ e)) ∙ and-both _ _ (within-true 1 4096 x (plain-within 1 4096 f x p)) (within-true 1 4096 y (plain-within 1 4096 g y q))
+    by (Some x) (Some y) p q e = ap (is_line version n) (sym (some-is _ _ e)) ∙
+        and-both _ _ (within-true 1 4096 x (plain-within 1 4096 f x p)) (within-true 1 4096 y (plain-within 1 4096 g y q))
 
 with-sound : (version n : ℕ) (fs : List (List ℕ)) (o : Option OpTree) (q : OpTree × List (List ℕ)) → ((op : OpTree) → o ≡ Some op → is_line version n op ≡ true)
     → with_arguments fs o ≡ Some q → is_line version n q.0 ≡ true
-with-sound version n fs o q each_is h = let m = map-some (λ op. (op, fs)) o q h in ap (λ (x : OpTree × List (List ℕ)). is_line version n x.0) (sym m.2) ∙ each_is m.0 m.1
+with-sound version n fs o q each_is h =
+    let m = map-some (λ op. (op, fs)) o q h in ap (λ (x : OpTree × List (List ℕ)). is_line version n x.0) (sym m.2) ∙ each_is m.0 m.1
 
-headed-from-sound : (version n : ℕ) (names : List (List ℕ)) (w f : List ℕ) (fs : List (List ℕ)) (q : OpTree × List (List ℕ)) → headed_from version n names w f fs ≡ Some q → is_line version n q.0 ≡ true
+headed-from-sound : (version n : ℕ) (names : List (List ℕ)) (w f : List ℕ) (fs : List (List ℕ)) (q : OpTree × List (List ℕ))
+    → headed_from version n names w f fs ≡ Some q → is_line version n q.0 ≡ true
 headed-from-sound version n names w f fs q h =
     if-elim (bytes_eq w (codes "const")) _ _ q h (with-sound version n [] (const_from version f fs) q (const-sound version n f fs))
     (λ h2. if-elim (bytes_eq w (codes "partition")) _ _ q h2 (partition-from-sound fs)
@@ -143,7 +150,8 @@ headed-from-sound version n names w f fs q h =
     partition-from-sound [] e = absurd cc
     partition-from-sound (g ∷ gs) e = with-sound version n gs (partition_of f g) q (partition-sound version n f g) e
 
-pub operator-sound : (version n : ℕ) (names : List (List ℕ)) (w : List ℕ) (fs : List (List ℕ)) (q : OpTree × List (List ℕ)) → operator_from version n names w fs ≡ Some q → is_line version n q.0 ≡ true
+pub operator-sound : (version n : ℕ) (names : List (List ℕ)) (w : List ℕ) (fs : List (List ℕ)) (q : OpTree × List (List ℕ))
+    → operator_from version n names w fs ≡ Some q → is_line version n q.0 ≡ true
 operator-sound version n names w fs q h =
     first-elim (with_arguments fs (bare_op w)) _ q h (with-sound version n fs (bare_op w) q (plain-sound version n w)) (headed-of-sound fs)
   where

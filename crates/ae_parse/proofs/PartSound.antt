@@ -18,7 +18,8 @@ below-push n [] k h l = and-both _ _ (lt-ltb k n l) refl
 below-push n (j ∷ ks) k h l = and-both _ _ (and-first _ _ h) (below-push n ks k (and-second (nat_lt j n) _ h) l)
 
 -- places are below the number of items
-pub places-below : (items : List (List ℕ)) (ks : List ℕ) (fs : List (List ℕ)) (rs : List ℕ) → all_below (length items) ks ≡ true → places_after items ks fs ≡ Some rs → all_below (length items) rs ≡ true
+pub places-below : (items : List (List ℕ)) (ks : List ℕ) (fs : List (List ℕ)) (rs : List ℕ) → all_below (length items) ks ≡ true
+    → places_after items ks fs ≡ Some rs → all_below (length items) rs ≡ true
 places-below items ks [] rs h e = ap (all_below (length items)) (sym (some-is _ _ e)) ∙ h
 places-below items ks (f ∷ fs) rs h e =
     let a = bind-some (place f items) _ _ e in
@@ -32,7 +33,8 @@ pub record HeadSound (version : ℕ) (h : Head) : Type 0 where
   pub named : all_names h.items ≡ true
   pub distinct : all_distinct h.items ≡ true
 
-params-push : (version : ℕ) (ps : List ParamTree) (p : ParamTree) → formed_params version ps ≡ true → is_spelled version p.type ≡ true → formed_params version (ps ++ p ∷ []) ≡ true
+params-push : (version : ℕ) (ps : List ParamTree) (p : ParamTree) → formed_params version ps ≡ true → is_spelled version p.type ≡ true
+    → formed_params version (ps ++ p ∷ []) ≡ true
 params-push version [] p h s = and-both _ _ s refl
 params-push version (q ∷ ps) p h s = and-both _ _ (and-first _ _ h) (params-push version ps p (and-second (is_spelled version q.type) _ h) s)
 
@@ -44,7 +46,8 @@ not-so : (b : Bool) → not b ≡ true → b ≡ false
 not-so true h = absurd cc
 not-so false h = refl
 
-one-param : (version : ℕ) (h g : Head) (p : ParamTree) (f : List ℕ) → param_from version f ≡ Some p → with_param h p ≡ Some g → HeadSound version h → HeadSound version g
+one-param : (version : ℕ) (h g : Head) (p : ParamTree) (f : List ℕ) → param_from version f ≡ Some p → with_param h p ≡ Some g → HeadSound version h
+    → HeadSound version g
 one-param version h g p f e w s =
     let a = bind-some (two_of (pieces 58 f)) _ _ e in
     let b = where-some _ _ _ a.2 in
@@ -114,14 +117,16 @@ node-names-push [] n = refl
 node-names-push (m ∷ ns) n = ap (λ xs. m.name ∷ xs) (node-names-push ns n)
 
 nodes-push : (version funcs items : ℕ) (ns : List NodeTree) (n : NodeTree) → formed_nodes version funcs items ns ≡ true
-    → is_line version funcs n.op ≡ true → has_arguments n.op (length n.args) ≡ true → all_below (items + length ns) n.args ≡ true → formed_nodes version funcs items (ns ++ n ∷ []) ≡ true
+    → is_line version funcs n.op ≡ true → has_arguments n.op (length n.args) ≡ true → all_below (items + length ns) n.args ≡ true
+    → formed_nodes version funcs items (ns ++ n ∷ []) ≡ true
 nodes-push version funcs items [] n h a b c =
     let z : items + 0 ≡ items = omega arith in
     and-both _ _ (and-both _ _ (and-both _ _ a b) (ap (λ k. all_below k n.args) (sym z) ∙ c)) refl
 nodes-push version funcs items (m ∷ ns) n h a b c =
     let s : items + suc (length ns) ≡ items + 1 + length ns = omega arith in
     and-both _ _ (and-first _ _ h)
-    (nodes-push version funcs (items + 1) ns n (and-second (is_line version funcs m.op && has_arguments m.op (length m.args) && all_below items m.args) _ h) a b (ap (λ k. all_below k n.args) (sym s) ∙ c))
+    (nodes-push version funcs (items + 1) ns n (and-second (is_line version funcs m.op && has_arguments m.op (length m.args) && all_below items m.args) _ h) a
+    b (ap (λ k. all_below k n.args) (sym s) ∙ c))
 
 length-params : (ps : List ParamTree) → length (param_names ps) ≡ length ps
 length-params [] = refl
@@ -133,19 +138,29 @@ length-nodes (n ∷ ns) = ap (λ k. suc k) (length-nodes ns)
 
 -- as many items as parameters and nodes
 pub items-count : (version funcs : ℕ) (p : Part) → PartSound version funcs p → length p.items ≡ length p.params + length p.nodes
-items-count version funcs p s = ap length s.items ∙ length-append (param_names p.params) (node_names p.nodes) ∙ (λ i. length-params p.params i + length-nodes p.nodes i)
+items-count version funcs p s =
+    ap length s.items ∙ length-append (param_names p.params) (node_names p.nodes) ∙ (λ i. length-params p.params i + length-nodes p.nodes i)
 
-pub node-sound : (version funcs n : ℕ) (p : Part) (name : List ℕ) (op : OpTree) (args : List ℕ) → PartSound version funcs p → is_name name ≡ true → is_known name p.items ≡ false
+pub node-sound : (version funcs n : ℕ) (p : Part) (name : List ℕ) (op : OpTree) (args : List ℕ) → PartSound version funcs p → is_name name ≡ true
+    → is_known name p.items ≡ false
     → is_line version funcs op ≡ true → has_arguments op (length args) ≡ true → all_below (length p.items) args ≡ true
-    → PartSound version funcs (record { name = p.name; params = p.params; nodes = p.nodes ++ record { name = name; op = op; args = args; line = n } ∷ []; items = p.items ++ name ∷ []; line = p.line })
+    → PartSound version funcs (record {
+      name = p.name;
+      params = p.params;
+      nodes = p.nodes ++ record { name = name; op = op; args = args; line = n } ∷ [];
+      items = p.items ++ name ∷ [];
+      line = p.line;
+    })
 node-sound version funcs n p name op args s nm new line many below =
     let node : NodeTree = record { name = name; op = op; args = args; line = n } in
     record {
       name = s.name;
       few = s.few;
       types = s.types;
-      nodes = nodes-push version funcs (length p.params) p.nodes node s.nodes line many (ap (λ k. all_below k args) (sym (items-count version funcs p s)) ∙ below);
-      items = ap (λ ns. ns ++ name ∷ []) s.items ∙ append_assoc (param_names p.params) (node_names p.nodes) (name ∷ []) ∙ ap (λ ns. param_names p.params ++ ns) (sym (node-names-push p.nodes node));
+      nodes = nodes-push version funcs (length p.params) p.nodes node s.nodes line many
+          (ap (λ k. all_below k args) (sym (items-count version funcs p s)) ∙ below);
+      items = ap (λ ns. ns ++ name ∷ []) s.items ∙ append_assoc (param_names p.params) (node_names p.nodes) (name ∷ []) ∙
+          ap (λ ns. param_names p.params ++ ns) (sym (node-names-push p.nodes node));
       named = names-push p.items name s.named nm;
       distinct = distinct-push p.items name s.distinct (sym (known-agree name p.items) ∙ new);
     }

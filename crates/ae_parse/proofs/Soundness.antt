@@ -24,15 +24,18 @@ abbrev pub func_of : (line : ℕ) → Part → List ℕ → FuncTree
 func_of line p rs = record { name = p.name; params = p.params; nodes = p.nodes; results = rs; line = p.line; end_line = line }
 
 -- a function at its end
-func-sound : (version funcs most line : ℕ) (p : Part) (rs : List ℕ) → PartSound version funcs p → within 1 most (length rs) ≡ true → all_below (length p.items) rs ≡ true
+func-sound : (version funcs most line : ℕ) (p : Part) (rs : List ℕ) → PartSound version funcs p → within 1 most (length rs) ≡ true
+    → all_below (length p.items) rs ≡ true
     → formed_func version funcs most (func_of line p rs) ≡ true
 func-sound version funcs most line p rs s few below =
     let names = ap all_names (sym s.items) ∙ s.named in
     let distinct = ap all_distinct (sym s.items) ∙ s.distinct in
     let ps = param_names p.params in
     let ns = node_names p.nodes in
-    and-both _ _ (and-both _ _ (and-both _ _ (and-both _ _ (and-both _ _ (and-both _ _ s.name s.few) s.types) s.nodes) few) (ap (λ k. all_below k rs) (sym (items-count version funcs p s)) ∙ below))
-    (and-both _ _ (and-both _ _ (and-both _ _ (and-both _ _ (names-front ps ns names) (names-back ps ns names)) (distinct-front ps ns distinct)) (distinct-back ps ns distinct)) (distinct-apart ps ns distinct))
+    and-both _ _ (and-both _ _ (and-both _ _ (and-both _ _ (and-both _ _ (and-both _ _ s.name s.few) s.types) s.nodes) few)
+    (ap (λ k. all_below k rs) (sym (items-count version funcs p s)) ∙ below))
+    (and-both _ _ (and-both _ _ (and-both _ _ (and-both _ _ (names-front ps ns names) (names-back ps ns names)) (distinct-front ps ns distinct))
+    (distinct-back ps ns distinct)) (distinct-apart ps ns distinct))
 
 one-most : (most n : ℕ) → 1 ≤ most → within 1 1 n ≡ true → within 1 most n ≡ true
 one-most most n h w =
@@ -54,24 +57,33 @@ single-most version funcs most f h s =
     let a = and-first _ _ s in
     let b = and-first _ _ a in
     let front = and-first _ _ b in
-    let few = and-second (is_name f.name && within 1 8 (length f.params) && formed_params version f.params && formed_nodes version funcs (length f.params) f.nodes) _ b in
-    and-both _ _ (and-both _ _ (and-both _ _ front (one-most most (length f.results) h few)) (and-second (is_name f.name && within 1 8 (length f.params) && formed_params version f.params && formed_nodes version funcs (length f.params) f.nodes && within 1 1 (length f.results)) _ a))
-    (and-second (is_name f.name && within 1 8 (length f.params) && formed_params version f.params && formed_nodes version funcs (length f.params) f.nodes && within 1 1 (length f.results) && all_below (item_count f) f.results) _ s)
+    let few = and-second (is_name f.name && within 1 8 (length f.params) && formed_params version f.params && formed_nodes version funcs
+    (length f.params) f.nodes) _ b in
+    and-both _ _ (and-both _ _ (and-both _ _ front (one-most most (length f.results) h few))
+    (and-second (is_name f.name && within 1 8 (length f.params) && formed_params version f.params && formed_nodes version funcs
+    (length f.params) f.nodes && within 1 1 (length f.results)) _ a))
+    (and-second (is_name f.name && within 1 8 (length f.params) && formed_params version f.params && formed_nodes version funcs
+    (length f.params) f.nodes && within 1 1 (length f.results) && all_below (item_count f) f.results) _ s)
 
-singles-push : (version funcs : ℕ) (fs : List FuncTree) (f : FuncTree) → singles version funcs fs ≡ true → formed_func version (funcs + length fs) 1 f ≡ true → singles version funcs (fs ++ f ∷ []) ≡ true
+singles-push : (version funcs : ℕ) (fs : List FuncTree) (f : FuncTree) → singles version funcs fs ≡ true → formed_func version (funcs + length fs) 1 f ≡ true
+    → singles version funcs (fs ++ f ∷ []) ≡ true
 singles-push version funcs [] f h g = let z : funcs + 0 ≡ funcs = omega arith in and-both _ _ (ap (λ k. formed_func version k 1 f) (sym z) ∙ g) refl
 singles-push version funcs (e ∷ fs) f h g =
     let s : funcs + suc (length fs) ≡ funcs + 1 + length fs = omega arith in
-    and-both _ _ (and-first _ _ h) (singles-push version (funcs + 1) fs f (and-second (formed_func version funcs 1 e) _ h) (ap (λ k. formed_func version k 1 f) (sym s) ∙ g))
+    and-both _ _ (and-first _ _ h) (singles-push version (funcs + 1) fs f (and-second (formed_func version funcs 1 e) _ h)
+    (ap (λ k. formed_func version k 1 f) (sym s) ∙ g))
 
 -- after functions with one result each, the last may have more
-last-formed : (version funcs : ℕ) (fs : List FuncTree) (f : FuncTree) → singles version funcs fs ≡ true → formed_func version (funcs + length fs) (most_results version []) f ≡ true
+last-formed : (version funcs : ℕ) (fs : List FuncTree) (f : FuncTree) → singles version funcs fs ≡ true
+    → formed_func version (funcs + length fs) (most_results version []) f ≡ true
     → formed_funcs version funcs (fs ++ f ∷ []) ≡ true
-last-formed version funcs [] f h g = let z : funcs + 0 ≡ funcs = omega arith in and-both _ _ (ap (λ k. formed_func version k (most_results version []) f) (sym z) ∙ g) refl
+last-formed version funcs [] f h g =
+    let z : funcs + 0 ≡ funcs = omega arith in and-both _ _ (ap (λ k. formed_func version k (most_results version []) f) (sym z) ∙ g) refl
 last-formed version funcs (e ∷ fs) f h g =
     let s : funcs + suc (length fs) ≡ funcs + 1 + length fs = omega arith in
     and-both _ _ (single-most version funcs (most_results version (fs ++ f ∷ [])) e (most-one version (fs ++ f ∷ [])) (and-first _ _ h))
-    (last-formed version (funcs + 1) fs f (and-second (formed_func version funcs 1 e) _ h) (ap (λ k. formed_func version k (most_results version []) f) (sym s) ∙ g))
+    (last-formed version (funcs + 1) fs f (and-second (formed_func version funcs 1 e) _ h)
+    (ap (λ k. formed_func version k (most_results version []) f) (sym s) ∙ g))
 
 lines-push : (fs : List FuncTree) (f : FuncTree) → func_lines (fs ++ f ∷ []) ≡ func_lines fs + (2 + length f.nodes)
 lines-push [] f = omega arith
@@ -126,13 +138,35 @@ start-sound = fresh (omega arith) refl
 going-more : (n : ℕ) (k : Known) (part : Option Part) → Going n k part → Going (n + 1) k part
 going-more n k part g =
     let l = g.lines in
-    record { least = g.least; most = g.most; funcs = g.funcs; single = g.single; shut = g.shut; names = g.names; distinct = g.distinct; lines = omega arith; few = g.few; part_is = g.part_is }
+    record {
+      least = g.least;
+      most = g.most;
+      funcs = g.funcs;
+      single = g.single;
+      shut = g.shut;
+      names = g.names;
+      distinct = g.distinct;
+      lines = omega arith;
+      few = g.few;
+      part_is = g.part_is;
+    }
 
 -- a version, and nothing else
 opened : (n version : ℕ) → 1 ≤ version → version ≤ 2 → own_line version + 1 ≤ n → Going n (of_version version start.known) None
 opened n version a b l =
     let o : own_line version ≤ 1 = own-small version in
-    record { least = a; most = b; funcs = refl; single = λ e. refl; shut = λ e. refl; names = refl; distinct = refl; lines = omega arith; few = omega arith; part_is = tt }
+    record {
+      least = a;
+      most = b;
+      funcs = refl;
+      single = λ e. refl;
+      shut = λ e. refl;
+      names = refl;
+      distinct = refl;
+      lines = omega arith;
+      few = omega arith;
+      part_is = tt;
+    }
   where
     own-by : (b : Bool) → (if b then 1 else 0) ≤ 1
     own-by true = omega arith
@@ -189,7 +223,8 @@ inside-going n k p s g low (noded q m w fs o args e named new op places many is)
       distinct = g.distinct;
       lines = omega arith;
       few = omega arith;
-      part_is = node-sound k.version (length k.funcs) n q m o.0 args r named new (operator-sound k.version (length k.funcs) k.names w fs o op) many (places-below q.items [] o.1 args refl places);
+      part_is = node-sound k.version (length k.funcs) n q m o.0 args r named new (operator-sound k.version (length k.funcs) k.names w fs o op) many
+          (places-below q.items [] o.1 args refl places);
     } in
     subst (λ (x : State). Going (n + 1) x.known x.part) (sym is) t
 inside-going n k p s g low (finished q fs rs e places few is) =
@@ -201,7 +236,8 @@ inside-going n k p s g low (finished q fs rs e places few is) =
     let singles_before = g.single (not-true k.closed (λ c. some-none (g.shut c))) in
     let below = places-below q.items [] fs rs refl places in
     let zero_first : length k.funcs ≡ 0 + length k.funcs = omega arith in
-    let formed_so : formed_func k.version (length k.funcs) (most_results k.version []) f ≡ true = func-sound k.version (length k.funcs) (most_results k.version []) n q rs r few below in
+    let formed_so : formed_func k.version (length k.funcs) (most_results k.version []) f ≡ true = func-sound k.version (length k.funcs)
+    (most_results k.version []) n q rs r few below in
     let pushed = lines-push k.funcs f in
     let t : Going (n + 1) (ended n k q rs).known (ended n k q rs).part = record {
       least = g.least;
@@ -211,9 +247,11 @@ inside-going n k p s g low (finished q fs rs e places few is) =
           let low_results = ltb-false 1 (length rs) c in
           let a = leb-true 1 (length rs) (and-first _ _ few) in
           let one : within 1 1 (length rs) ≡ true = and-both _ _ (le-leb 1 (length rs) a) (le-leb (length rs) 1 (omega arith)) in
-          singles-push k.version 0 k.funcs f singles_before (ap (λ j. formed_func k.version j 1 f) (sym zero_first) ∙ func-sound k.version (length k.funcs) 1 n q rs r one below);
+          singles-push k.version 0 k.funcs f singles_before (ap (λ j. formed_func k.version j 1 f) (sym zero_first) ∙
+          func-sound k.version (length k.funcs) 1 n q rs r one below);
       shut = λ c. refl;
-      names = g.names ∙ ap (λ (x : Part). func_names k.funcs ++ x.name ∷ []) same ∙ sym (func-names-push k.funcs f) ∙ sym (append-none (func_names (k.funcs ++ f ∷ [])));
+      names = g.names ∙ ap (λ (x : Part). func_names k.funcs ++ x.name ∷ []) same ∙ sym (func-names-push k.funcs f) ∙
+          sym (append-none (func_names (k.funcs ++ f ∷ [])));
       distinct = g.distinct;
       lines = omega arith;
       few = omega arith;
@@ -233,7 +271,8 @@ step-sound n s t fs h e = by (stepped n s fs t e) h
     by (silent is) (fresh some st) = fresh (omega arith) (is ∙ st)
     by (silent is) (going g) = going (subst (λ (x : State). Going (n + 1) x.known x.part) (sym is) (going-more n s.known s.part g))
     by (versioned low z is) (fresh some st) =
-        let i : t ≡ record { known = of_version 2 start.known; part = None } = is ∙ ap (λ (x : State). record { known = of_version 2 x.known; part = x.part }) st in
+        let i : t ≡ record { known = of_version 2 start.known; part = None } = is ∙
+        ap (λ (x : State). record { known = of_version 2 x.known; part = x.part }) st in
         let g : Going (n + 1) (of_version 2 start.known) None = opened (n + 1) 2 (omega arith) (omega arith) (omega arith) in
         going (subst (λ (x : State). Going (n + 1) x.known x.part) (sym i) g)
     by (versioned low z is) (going g) = let l = g.least in absurd (omega arith)
@@ -253,7 +292,8 @@ line-sound n s t l h e = let w = where-some _ _ _ e in step-sound n s t (fields 
 pub few-names : (n : ℕ) (s : State) → Sound n s → length s.known.names < 4294967296
 few-names n s (fresh some st) = let z : length s.known.names ≡ 0 = ap (λ (x : State). length x.known.names) st in omega arith
 few-names n s (going g) =
-    let l : length s.known.names ≡ length (func_names s.known.funcs) + length (open_name s.part) = ap length g.names ∙ length-append (func_names s.known.funcs) (open_name s.part) in
+    let l : length s.known.names ≡ length (func_names s.known.funcs) + length (open_name s.part) = ap length g.names ∙
+    length-append (func_names s.known.funcs) (open_name s.part) in
     let a = length-names s.known.funcs in
     let b = lines-count s.known.funcs in
     let c : length (open_name s.part) ≤ 1 = one s.part in
@@ -278,7 +318,8 @@ few-items n s (going g) = items-few n s.known s.part g
 
 -- ---- at the end
 
-end-formed : (n : ℕ) (k : Known) (part : Option Part) (funcs : List FuncTree) (p : ProgramTree) → k.funcs ≡ funcs → Going n k part → whole n k.version funcs part ≡ program p → formed p ≡ true
+end-formed : (n : ℕ) (k : Known) (part : Option Part) (funcs : List FuncTree) (p : ProgramTree) → k.funcs ≡ funcs → Going n k part
+    → whole n k.version funcs part ≡ program p → formed p ≡ true
 end-formed n k part [] p same g e = absurd cc
 end-formed n k (Some q) (f ∷ fs) p same g e = absurd cc
 end-formed n k None (f ∷ fs) p same g e =
@@ -287,7 +328,8 @@ end-formed n k None (f ∷ fs) p same g e =
     let names : k.names ≡ func_names (f ∷ fs) = g.names ∙ append-none (func_names k.funcs) ∙ ap func_names same in
     let lines : func_lines k.funcs ≡ func_lines (f ∷ fs) = ap func_lines same in
     ap formed (sym is)
-    ∙ and-both _ _ (and-both _ _ (and-both _ _ (and-both _ _ (and-both _ _ (le-leb 1 k.version g.least) (le-leb k.version 2 g.most)) (le-leb 1 _ (omega arith))) (le-leb _ 4096 (omega arith)))
+    ∙ and-both _ _ (and-both _ _ (and-both _ _ (and-both _ _ (and-both _ _ (le-leb 1 k.version g.least) (le-leb k.version 2 g.most))
+    (le-leb 1 _ (omega arith))) (le-leb _ 4096 (omega arith)))
     (ap all_distinct (sym names) ∙ g.distinct)) (ap (formed_funcs k.version 0) (sym same) ∙ g.funcs)
   where
     program-is : (x y : ProgramTree) → program x ≡ program y → x ≡ y

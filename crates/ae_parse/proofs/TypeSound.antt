@@ -26,7 +26,8 @@ plain-within low high ds n e = by (is_plain low high ds) refl e
     of v same a b = let la = leb-true low v a in let lb = leb-true v high b in record { low_is = omega arith; high_is = omega arith }
 
     by : (b : Bool) → is_plain low high ds ≡ b → (if b then Some (digits_value 10 ds) else None) ≡ Some n → Within low high n
-    by true h f = of (digits_value 10 ds) (some-is _ _ f) (and-second (bytes_eq ds (decimal (digits_value 10 ds))) _ (and-first _ _ h)) (and-second (bytes_eq ds (decimal (digits_value 10 ds)) && nat_le low (digits_value 10 ds)) _ h)
+    by true h f = of (digits_value 10 ds) (some-is _ _ f) (and-second (bytes_eq ds (decimal (digits_value 10 ds))) _ (and-first _ _ h))
+        (and-second (bytes_eq ds (decimal (digits_value 10 ds)) && nat_le low (digits_value 10 ds)) _ h)
     by false h f = absurd cc
 
 pub within-true : (low high n : ℕ) → Within low high n → within low high n ≡ true
@@ -52,7 +53,12 @@ word-sound version letter levels bs q e =
     let w = bind-some (plain_of 1 64 (digits_of bs)) _ _ e in
     let k = bind-some (letter_kind version letter) _ _ w.2 in
     let is : word (record { signed = k.0; width = w.0 }) ≡ q.0 = ap (λ (x : AtomTree × List ℕ). x.0) (some-is _ _ k.2) in
-    let s : AtomSound version levels (word (record { signed = k.0; width = w.0 })) = record { widths = within-true 1 64 w.0 (plain-within 1 64 (digits_of bs) w.0 w.1); deep = omega arith; signs = kind-sound version letter k.0 k.1 } in
+    let s : AtomSound version levels (word (record { signed = k.0; width = w.0 })) = record {
+      widths = within-true 1 64 w.0
+          (plain-within 1 64 (digits_of bs) w.0 w.1);
+      deep = omega arith;
+      signs = kind-sound version letter k.0 k.1;
+    } in
     rw is at s
 
 or-both : (v a b : Bool) → (v || a) ≡ true → (v || b) ≡ true → (v || a && b) ≡ true
@@ -121,7 +127,11 @@ type-sound version (suc l) (b ∷ bs) t e = by (nat_eq b 91) e (type-sound versi
         let n : p.0 ≡ a.0.0 = ap (λ (x : ℕ × List ℕ). x.0) (some-is _ _ r.2) in
         let w = rw n at (plain-within 1 4096 (digits_of bs) p.0 p.1) in
         let d = s.deep in
-        let u : TypeSound version (suc l) (seq a.0.0 c.0) = record { parts = and-both _ _ (within-true 1 4096 a.0.0 w) s.parts; deep = omega arith; signs = s.signs } in
+        let u : TypeSound version (suc l) (seq a.0.0 c.0) = record {
+          parts = and-both _ _ (within-true 1 4096 a.0.0 w) s.parts;
+          deep = omega arith;
+          signs = s.signs;
+        } in
         rw is at u
 
 -- the type is spelled as the version allows

@@ -14,7 +14,14 @@ abbrev pub known_of : KnownCode → Known
 known_of k = record { version = k.version; closed = k.closed; funcs = funcs_in k.funcs; names = k.names }
 
 abbrev pub part_of : PartCode → Part
-part_of p = record { name = string_bytes p.name; params = params_in p.params; nodes = nodes_in p.nodes; items = p.items; line = p.line }
+part_of p =
+    record {
+      name = string_bytes p.name;
+      params = params_in p.params;
+      nodes = nodes_in p.nodes;
+      items = p.items;
+      line = p.line;
+    }
 
 abbrev pub state_of : Parser → State
 state_of s = record { known = known_of s.known; part = option_map part_of s.part }

@@ -28,7 +28,8 @@ mapped-at g [] k x d h = cc
 mapped-at g (y ∷ xs) zero x d h = cc
 mapped-at g (y ∷ xs) (suc k) x d h = mapped-at g xs k x d h
 
-pub words_more : (outlets : List Outlet) (run : List Clock) (t k word : ℕ) (now new : List ℕ) → k < length outlets → ((o : Outlet) → slice_get outlets k ≡ Some o → word ≡ word_at run t o.net.0)
+pub words_more : (outlets : List Outlet) (run : List Clock) (t k word : ℕ) (now new : List ℕ) → k < length outlets
+    → ((o : Outlet) → slice_get outlets k ≡ Some o → word ≡ word_at run t o.net.0)
     → now ≡ take k (shown_words outlets run t) → new ≡ now ++ word ∷ [] → new ≡ take (k + 1) (shown_words outlets run t)
 words_more outlets run t k word now new h is was made =
     let ws = shown_words outlets run t in
@@ -37,7 +38,8 @@ words_more outlets run t k word now new h is was made =
     let last : get_or ws k 0 ≡ word = mapped-at (λ (x : Outlet). word_at run t x.net.0) outlets k o.x 0 o.found ∙ sym (is o.x o.found) in
     made ∙ ap (λ x. x ++ word ∷ []) was ∙ ap (λ w. take k ws ++ w ∷ []) (sym last) ∙ sym (take_more ws k 0 (omega (arith, h, long)))
 
-pub words_all : (outlets : List Outlet) (run : List Clock) (t k : ℕ) (now : List ℕ) → length outlets ≤ k → now ≡ take k (shown_words outlets run t) → now ≡ shown_words outlets run t
+pub words_all : (outlets : List Outlet) (run : List Clock) (t k : ℕ) (now : List ℕ) → length outlets ≤ k → now ≡ take k (shown_words outlets run t)
+    → now ≡ shown_words outlets run t
 words_all outlets run t k now h e =
     let ws = shown_words outlets run t in
     let long : length ws ≡ length outlets = length-map outlets (λ (x : Outlet). word_at run t x.net.0) in
@@ -51,7 +53,8 @@ first_rows given c = map given (range_with_len 0 c)
 length-first_rows : (rows : List (List ℕ)) (given : ℕ → List ℕ) (c : ℕ) → length (rows ++ first_rows given c) ≡ length rows + c
 length-first_rows rows given c = length-append rows (first_rows given c) ∙ ap (λ n. length rows + n) (length-map-range_with_len given 0 c)
 
-first_rows_more : (rows : List (List ℕ)) (given : ℕ → List ℕ) (c : ℕ) (row : List ℕ) → row ≡ given c → (rows ++ first_rows given c) ++ row ∷ [] ≡ rows ++ first_rows given (c + 1)
+first_rows_more : (rows : List (List ℕ)) (given : ℕ → List ℕ) (c : ℕ) (row : List ℕ) → row ≡ given c → (rows ++ first_rows given c) ++ row ∷ [] ≡ rows
+    ++ first_rows given (c + 1)
 first_rows_more rows given c row is =
     append_assoc rows (first_rows given c) (row ∷ [])
     ∙ ap (λ x. rows ++ x) (ap (λ r. first_rows given c ++ r ∷ []) is ∙ sym (map-range_with_len_more given 0 c c (omega arith)))
@@ -78,9 +81,11 @@ plays_front cells fill xs ys run p =
       begins = p.begins;
     }
 
-plays_first : (cells : List SizedCell) (fill : ℕ) (rows : List (List ℕ)) (given : ℕ → List ℕ) (c n : ℕ) (run : List Clock) → c ≤ n → Plays cells fill (rows ++ first_rows given n) run → Plays cells fill (rows ++ first_rows given c) run
+plays_first : (cells : List SizedCell) (fill : ℕ) (rows : List (List ℕ)) (given : ℕ → List ℕ) (c n : ℕ) (run : List Clock) → c ≤ n
+    → Plays cells fill (rows ++ first_rows given n) run → Plays cells fill (rows ++ first_rows given c) run
 plays_first cells fill rows given c n run h p =
-    plays_front cells fill (rows ++ first_rows given c) (drop c (first_rows given n)) run (subst (λ (rs : List (List ℕ)). Plays cells fill rs run) (split rows given c n h) p)
+    plays_front cells fill (rows ++ first_rows given c) (drop c (first_rows given n)) run
+    (subst (λ (rs : List (List ℕ)). Plays cells fill rs run) (split rows given c n h) p)
 
 -- a simulator that went so many clocks on
 pub record HasGone (begin : Simulated) (given : ℕ → List ℕ) (sim : Simulated) (c : ℕ) : Type 0 where
@@ -89,12 +94,14 @@ pub record HasGone (begin : Simulated) (given : ℕ → List ℕ) (sim : Simulat
   pub played : (fill : ℕ) (rows : List (List ℕ)) → HasPlayed begin fill rows → HasPlayed sim fill (rows ++ first_rows given c)
 
 -- and what is kept of these clocks
-pub record KeepsTo {K : Type 0} (begin : Simulated) (given : ℕ → List ℕ) (takes : ℕ → List ℕ → List ℕ → K → K → Type 0) (count : ℕ) (first : K) (sim : Simulated) (kept : K) (c : ℕ) : Type 0 where
+pub record KeepsTo {K : Type 0} (begin : Simulated) (given : ℕ → List ℕ) (takes : ℕ → List ℕ → List ℕ → K → K → Type 0) (count : ℕ) (first : K)
+    (sim : Simulated) (kept : K) (c : ℕ) : Type 0 where
   pub gone : HasGone begin given sim c
   pub keeps : (fill : ℕ) (rows : List (List ℕ)) (run : List Clock) → HasPlayed begin fill rows → Plays begin.cells fill (rows ++ first_rows given count) run
       → Keeps takes given (λ k. shown_words begin.outlets run (length rows + k)) first c kept
 
-pub keeps_none : {K : Type 0} (begin : Simulated) (given : ℕ → List ℕ) (takes : ℕ → List ℕ → List ℕ → K → K → Type 0) (count : ℕ) (first : K) → KeepsTo begin given takes count first begin first 0
+pub keeps_none : {K : Type 0} (begin : Simulated) (given : ℕ → List ℕ) (takes : ℕ → List ℕ → List ℕ → K → K → Type 0) (count : ℕ) (first : K)
+    → KeepsTo begin given takes count first begin first 0
 keeps_none begin given takes count first = record {
   gone = record {
     cells_are = refl;
@@ -104,18 +111,22 @@ keeps_none begin given takes count first = record {
   keeps = λ fill rows run h p. refl;
 }
 
-pub gone_more : (begin : Simulated) (given : ℕ → List ℕ) (sim sim' : Simulated) (row : List ℕ) (c : ℕ) → HasGone begin given sim c → row ≡ given c → sim'.cells ≡ sim.cells → sim'.outlets ≡ sim.outlets
+pub gone_more : (begin : Simulated) (given : ℕ → List ℕ) (sim sim' : Simulated) (row : List ℕ) (c : ℕ) → HasGone begin given sim c → row ≡ given c
+    → sim'.cells ≡ sim.cells → sim'.outlets ≡ sim.outlets
     → ((fill : ℕ) (rows : List (List ℕ)) → HasPlayed sim fill rows → HasPlayed sim' fill (rows ++ row ∷ [])) → HasGone begin given sim' (c + 1)
 gone_more begin given sim sim' row c g is ce oe plays = record {
   cells_are = ce ∙ g.cells_are;
   outlets_are = oe ∙ g.outlets_are;
-  played = λ fill rows h. subst (λ (rs : List (List ℕ)). HasPlayed sim' fill rs) (first_rows_more rows given c row is) (plays fill (rows ++ first_rows given c) (g.played fill rows h));
+  played = λ fill rows h. subst (λ (rs : List (List ℕ)). HasPlayed sim' fill rs) (first_rows_more rows given c row is)
+      (plays fill (rows ++ first_rows given c) (g.played fill rows h));
 }
 
-pub keeps_more : {K : Type 0} (begin : Simulated) (given : ℕ → List ℕ) (takes : ℕ → List ℕ → List ℕ → K → K → Type 0) (count : ℕ) (first : K) (sim sim' : Simulated) (kept kept' : K) (row taken words : List ℕ) (c : ℕ)
+pub keeps_more : {K : Type 0} (begin : Simulated) (given : ℕ → List ℕ) (takes : ℕ → List ℕ → List ℕ → K → K → Type 0) (count : ℕ) (first : K)
+    (sim sim' : Simulated) (kept kept' : K) (row taken words : List ℕ) (c : ℕ)
     → KeepsTo begin given takes count first sim kept c → c < count → row ≡ given c → taken ≡ given c → sim'.cells ≡ sim.cells → sim'.outlets ≡ sim.outlets
     → ((fill : ℕ) (rows : List (List ℕ)) → HasPlayed sim fill rows → HasPlayed sim' fill (rows ++ row ∷ []))
-    → ((fill : ℕ) (rows : List (List ℕ)) (run : List Clock) → HasPlayed sim' fill rows → 1 ≤ length rows → Plays sim'.cells fill rows run → words ≡ shown_words sim'.outlets run (length rows - 1))
+    → ((fill : ℕ) (rows : List (List ℕ)) (run : List Clock) → HasPlayed sim' fill rows → 1 ≤ length rows → Plays sim'.cells fill rows run
+    → words ≡ shown_words sim'.outlets run (length rows - 1))
     → takes c taken words kept kept' → KeepsTo begin given takes count first sim' kept' (c + 1)
 keeps_more {K} begin given takes count first sim sim' kept kept' row taken words c s below is same ce oe plays line take =
     let gone : HasGone begin given sim' (c + 1) = gone_more begin given sim sim' row c s.gone is ce oe plays in
@@ -128,13 +139,17 @@ keeps_more {K} begin given takes count first sim sim' kept kept' row taken words
           let long : length fed ≡ length rows + (c + 1) = length-first_rows rows given (c + 1) in
           let last : length fed - 1 ≡ length rows + c = omega (arith, long) in
           let here : Plays sim'.cells fill fed run =
-          subst (λ (cs : List SizedCell). Plays cs fill fed run) (sym gone.cells_are) (plays_first begin.cells fill rows given (c + 1) count run (omega arith) p) in
-          let are : words ≡ shown c = line fill fed run (gone.played fill rows h) (omega (arith, long)) here ∙ (λ i. shown_words (gone.outlets_are i) run (last i)) in
-          let took : takes c (given c) (shown c) kept kept' = subst (λ ws. takes c (given c) ws kept kept') are (subst (λ r. takes c r words kept kept') same take) in
+          subst (λ (cs : List SizedCell). Plays cs fill fed run) (sym gone.cells_are)
+          (plays_first begin.cells fill rows given (c + 1) count run (omega arith) p) in
+          let are : words ≡ shown c = line fill fed run (gone.played fill rows h) (omega (arith, long)) here ∙
+          (λ i. shown_words (gone.outlets_are i) run (last i)) in
+          let took : takes c (given c) (shown c) kept kept' = subst (λ ws. takes c (given c) ws kept kept') are
+          (subst (λ r. takes c r words kept kept') same take) in
           subst (λ n. Keeps takes given shown first n kept') next (kept, s.keeps fill rows run h p, took);
     }
 
-pub keeps_all : {K : Type 0} (begin : Simulated) (given : ℕ → List ℕ) (takes : ℕ → List ℕ → List ℕ → K → K → Type 0) (count : ℕ) (first : K) (sim : Simulated) (kept : K) (c : ℕ)
+pub keeps_all : {K : Type 0} (begin : Simulated) (given : ℕ → List ℕ) (takes : ℕ → List ℕ → List ℕ → K → K → Type 0) (count : ℕ) (first : K) (sim : Simulated)
+    (kept : K) (c : ℕ)
     → KeepsTo begin given takes count first sim kept c → c ≡ count
     → (fill : ℕ) (rows : List (List ℕ)) (run : List Clock) → HasPlayed begin fill rows → Plays begin.cells fill (rows ++ first_rows given count) run
     → Keeps takes given (λ k. shown_words begin.outlets run (length rows + k)) first count kept

@@ -34,14 +34,17 @@ tree_there ins i s h is = slice_get_read ins (length ins) i s refl h is
 pub tree_holds : (P : StTree → Type 0) (ins : List StType) (i : ℕ) (s : StType) → slice_get ins i ≡ Some s → All P (map st_tree ins) → P (st_tree s)
 tree_holds P ins i s at all =
     let found = tree-at ins i s at in
-    subst P (get_or_from_slice_get (map st_tree ins) i (st_tree s) (st_tree s) found) (All-get_or P (map st_tree ins) i (st_tree s) (slice_get_within (map st_tree ins) i (st_tree s) found) all)
+    subst P (get_or_from_slice_get (map st_tree ins) i (st_tree s) (st_tree s) found)
+    (All-get_or P (map st_tree ins) i (st_tree s) (slice_get_within (map st_tree ins) i (st_tree s) found) all)
 
 pub next_tree : (ins : List StType) (i : ℕ) (s : StType) → slice_get ins i ≡ Some s → drop i (map st_tree ins) ≡ st_tree s ∷ drop (i + 1) (map st_tree ins)
 next_tree ins i s at = drop-next (map st_tree ins) i (st_tree s) (tree-at ins i s at)
 
-pub fill_more : (fill : ℕ) (s : StTree) (ss rest : List StTree) (now new all : List ℕ) → ss ≡ s ∷ rest → new ≡ now ++ layout_row fill s [] None → now ++ fill_row fill ss ≡ all → new ++ fill_row fill rest ≡ all
+pub fill_more : (fill : ℕ) (s : StTree) (ss rest : List StTree) (now new all : List ℕ) → ss ≡ s ∷ rest → new ≡ now ++ layout_row fill s [] None → now
+    ++ fill_row fill ss ≡ all → new ++ fill_row fill rest ≡ all
 fill_more fill s ss rest now new all is made was =
-    ap (λ ys. ys ++ fill_row fill rest) made ∙ (append_assoc now (layout_row fill s [] None) (fill_row fill rest) ∙ (ap (λ ts. now ++ fill_row fill ts) (sym is) ∙ was))
+    ap (λ ys. ys ++ fill_row fill rest) made ∙ (append_assoc now (layout_row fill s [] None) (fill_row fill rest) ∙
+    (ap (λ ts. now ++ fill_row fill ts) (sym is) ∙ was))
 
 -- the words of one more layout, and those that are left
 pub block_more : (fill clock first : ℕ) (s : StTree) (ss rest : List StTree) (words value now new all : List ℕ) → ss ≡ s ∷ rest
@@ -58,7 +61,8 @@ block_more fill clock first s ss rest words value now new all is its made was =
     ∙ (ap (λ ws. now ++ (layout_row fill s (take size (drop first words)) (Some clock) ++ layout_rows fill rest (values_of rest ws) clock)) (sym left)
     ∙ (ap (λ ts. now ++ layout_rows fill ts (values_of ts (drop first words)) clock) (sym is) ∙ was))))
 
-pub size_more : (first n : ℕ) (s : StTree) (ss rest : List StTree) → ss ≡ s ∷ rest → first + size_of ss ≡ n → (first + st_atoms s * element_words s) + size_of rest ≡ n
+pub size_more : (first n : ℕ) (s : StTree) (ss rest : List StTree) → ss ≡ s ∷ rest → first + size_of ss ≡ n
+    → (first + st_atoms s * element_words s) + size_of rest ≡ n
 size_more first n s ss rest is was =
     let one : size_of ss ≡ st_atoms s * element_words s + size_of rest = ap size_of is ∙ sum_by-cons (λ (t : StTree). st_atoms t * element_words t) s rest in
     omega (arith, one, was)
@@ -100,7 +104,8 @@ cut_at (suc n) k ws (suc b) h =
     let sum : suc b * k ≡ k + b * k = omega arith in
     rw (sum, ← drop-drop (b * k) k ws) (cut_at n k (drop k ws) b (omega arith))
 
-pub block_at : (ss : List StTree) (n : ℕ) (words : List ℕ) (b : ℕ) → b < n → slice_get (blocks_of ss n words) b ≡ Some (values_of ss (take (size_of ss) (drop (b * size_of ss) words)))
+pub block_at : (ss : List StTree) (n : ℕ) (words : List ℕ) (b : ℕ) → b < n
+    → slice_get (blocks_of ss n words) b ≡ Some (values_of ss (take (size_of ss) (drop (b * size_of ss) words)))
 block_at ss n words b h = rw (slice_get-map (values_of ss) (cut n (size_of ss) words) b, cut_at n (size_of ss) words b h) refl
 
 pub block_count : (ss : List StTree) (n : ℕ) (words : List ℕ) → length (blocks_of ss n words) ≡ n
@@ -112,8 +117,10 @@ no_block ss n words b h = slice_get_past (blocks_of ss n words) b (omega (arith,
 size_from : (n size long : ℕ) → 0 < n → long ≡ n * size → long / n ≡ size
 size_from n size long h is = ap (λ k. k / n) is ∙ mul-div_cancel_left size h
 
-pub row_in_block : (slowdown fill : ℕ) (ss : List StTree) (n clock : ℕ) (words now new : List ℕ) → clock / slowdown < n → length words ≡ n * size_of ss → now ≡ 0 ∷ []
-    → new ≡ now ++ layout_rows fill ss (values_of ss (take ((clock / slowdown * (length words / n) + length words / n) - clock / slowdown * (length words / n)) (drop (clock / slowdown * (length words / n)) words))) (clock % slowdown)
+pub row_in_block : (slowdown fill : ℕ) (ss : List StTree) (n clock : ℕ) (words now new : List ℕ) → clock / slowdown < n → length words ≡ n * size_of ss
+    → now ≡ 0 ∷ []
+    → new ≡ now ++ layout_rows fill ss (values_of ss (take ((clock / slowdown * (length words / n) + length words / n) - clock / slowdown * (length words / n))
+    (drop (clock / slowdown * (length words / n)) words))) (clock % slowdown)
     → new ≡ clock_row slowdown fill ss (blocks_of ss n words) clock
 row_in_block slowdown fill ss n clock words now new h whole begun made =
     let b = clock / slowdown in
@@ -125,6 +132,7 @@ row_in_block slowdown fill ss n clock words now new h whole begun made =
     ∙ ap (λ ys. ys ++ layout_rows fill ss (values_of ss (take (size_of ss) (drop (b * size_of ss) words))) (clock % slowdown)) begun
     ∙ ap (λ o. 0 ∷ block_row fill ss o (clock % slowdown)) (sym (block_at ss n words b h))
 
-pub row_past_blocks : (slowdown fill : ℕ) (ss : List StTree) (n clock : ℕ) (words now new : List ℕ) → n ≤ clock / slowdown → now ≡ 0 ∷ [] → new ≡ now ++ fill_row fill ss → new ≡ clock_row slowdown fill ss (blocks_of ss n words) clock
+pub row_past_blocks : (slowdown fill : ℕ) (ss : List StTree) (n clock : ℕ) (words now new : List ℕ) → n ≤ clock / slowdown → now ≡ 0 ∷ [] → new ≡ now
+    ++ fill_row fill ss → new ≡ clock_row slowdown fill ss (blocks_of ss n words) clock
 row_past_blocks slowdown fill ss n clock words now new h begun made =
     made ∙ ap (λ ys. ys ++ fill_row fill ss) begun ∙ ap (λ o. 0 ∷ block_row fill ss o (clock % slowdown)) (sym (no_block ss n words (clock / slowdown) h))

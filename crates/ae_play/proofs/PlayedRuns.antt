@@ -26,27 +26,34 @@ pub later_row : (reset : List ℕ) (row : ℕ → List ℕ) (n t : ℕ) → t < 
 later_row reset row n t h = get_or-map-range_with_len row 0 n t t [] h (omega arith)
 
 -- what all rows are, that of each clock is, and that of reset
-pub row_fits : (P : List ℕ → Type 0) (slowdown fill : ℕ) (ss : List StTree) (blocks : List (List (List ℕ))) → ((n : ℕ) → All P (fed_rows slowdown fill ss blocks n)) → (c : ℕ) → P (clock_row slowdown fill ss blocks c)
+pub row_fits : (P : List ℕ → Type 0) (slowdown fill : ℕ) (ss : List StTree) (blocks : List (List (List ℕ)))
+    → ((n : ℕ) → All P (fed_rows slowdown fill ss blocks n)) → (c : ℕ) → P (clock_row slowdown fill ss blocks c)
 row_fits P slowdown fill ss blocks all c =
     let row = clock_row slowdown fill ss blocks in
     let long : length (rows (1 ∷ fill_row fill ss) row (c + 1)) ≡ (c + 1) + 1 = length-rows (1 ∷ fill_row fill ss) row (c + 1) in
-    subst P (later_row (1 ∷ fill_row fill ss) row (c + 1) c (omega arith)) (All-get_or P (fed_rows slowdown fill ss blocks (c + 1)) (suc c) [] (omega (arith, long)) (all (c + 1)))
+    subst P (later_row (1 ∷ fill_row fill ss) row (c + 1) c (omega arith))
+    (All-get_or P (fed_rows slowdown fill ss blocks (c + 1)) (suc c) [] (omega (arith, long)) (all (c + 1)))
 
-pub reset_fits : (P : List ℕ → Type 0) (slowdown fill : ℕ) (ss : List StTree) (blocks : List (List (List ℕ))) → ((n : ℕ) → All P (fed_rows slowdown fill ss blocks n)) → P (1 ∷ fill_row fill ss)
+pub reset_fits : (P : List ℕ → Type 0) (slowdown fill : ℕ) (ss : List StTree) (blocks : List (List (List ℕ)))
+    → ((n : ℕ) → All P (fed_rows slowdown fill ss blocks n)) → P (1 ∷ fill_row fill ss)
 reset_fits P slowdown fill ss blocks all =
     All-get_or P (fed_rows slowdown fill ss blocks 0) 0 [] (omega (arith, length-rows (1 ∷ fill_row fill ss) (clock_row slowdown fill ss blocks) 0)) (all 0)
 
 -- a run with one clock for each row plays these rows
-pub played : (cells : List SizedCell) (fill : ℕ) (rows : List (List ℕ)) (run : List Clock) → IsRunWith cells rows (filled cells fill) run → Plays cells fill rows run
+pub played : (cells : List SizedCell) (fill : ℕ) (rows : List (List ℕ)) (run : List Clock) → IsRunWith cells rows (filled cells fill) run
+    → Plays cells fill rows run
 played cells fill rows run r = record { runs = r.runs; long = omega (arith, r.long); takes = r.takes; begins = r.begins }
 
 -- the run on blocks, and what is kept of it, for what is kept of every such run
-pub kept_of_run : {K : Type 0} (n : Circuit) (slowdown fill : ℕ) (ins : List StTree) (blocks : List (List (List ℕ))) (count : ℕ) (takes : ℕ → List ℕ → List ℕ → K → K → Type 0) (first last : K) (sim : Simulated)
+pub kept_of_run : {K : Type 0} (n : Circuit) (slowdown fill : ℕ) (ins : List StTree) (blocks : List (List (List ℕ))) (count : ℕ)
+    (takes : ℕ → List ℕ → List ℕ → K → K → Type 0) (first last : K) (sim : Simulated)
     → sim.cells ≡ n.cells → sim.outlets ≡ n.outlets → HasPlayed sim fill ((1 ∷ fill_row fill ins) ∷ [])
-    → ((first_fill : ℕ) (before : List (List ℕ)) (run : List Clock) → HasPlayed sim first_fill before → Plays sim.cells first_fill (before ++ map (clock_row slowdown fill ins blocks) (range_with_len 0 count)) run
+    → ((first_fill : ℕ) (before : List (List ℕ)) (run : List Clock) → HasPlayed sim first_fill before
+    → Plays sim.cells first_fill (before ++ map (clock_row slowdown fill ins blocks) (range_with_len 0 count)) run
     → Keeps takes (clock_row slowdown fill ins blocks) (λ c. shown_words sim.outlets run (length before + c)) first count last)
     → HasOneRunWith n.cells → AreFirsts n.cells (filled n.cells fill) → ((k : ℕ) → All (AreInputs n.cells) (fed_rows slowdown fill ins blocks k))
-    → (run : List Clock) × IsRunWith n.cells (fed_rows slowdown fill ins blocks count) (filled n.cells fill) run × Keeps takes (clock_row slowdown fill ins blocks) (λ c. shown_words n.outlets run (1 + c)) first count last
+    → (run : List Clock) × IsRunWith n.cells (fed_rows slowdown fill ins blocks count) (filled n.cells fill) run
+    × Keeps takes (clock_row slowdown fill ins blocks) (λ c. shown_words n.outlets run (1 + c)) first count last
 kept_of_run n slowdown fill ins blocks count takes first last sim ce oe h keeps one firsts fit =
     let fed : List (List ℕ) = fed_rows slowdown fill ins blocks count in
     let reset : List (List ℕ) = (1 ∷ fill_row fill ins) ∷ [] in
@@ -54,7 +61,8 @@ kept_of_run n slowdown fill ins blocks count takes first last sim ce oe h keeps 
     let plays : Plays sim.cells fill fed run.0 = subst (λ (cs : List SizedCell). Plays cs fill fed run.0) (sym ce) (played n.cells fill fed run.0 run.1) in (
       run.0,
       run.1,
-      subst (λ (os : List Outlet). Keeps takes (clock_row slowdown fill ins blocks) (λ c. shown_words os run.0 (1 + c)) first count last) oe (keeps fill reset run.0 h plays),
+      subst (λ (os : List Outlet). Keeps takes (clock_row slowdown fill ins blocks) (λ c. shown_words os run.0 (1 + c)) first count last) oe
+          (keeps fill reset run.0 h plays),
     )
 
 -- the row of a clock fits a simulator of the circuit

@@ -68,24 +68,30 @@ summed slowdown latency outs shown c sums sums' s w =
     let valid = valid_next slowdown latency outs shown c b refl in
     let before = valid_words slowdown latency outs shown c in
     record {
-      valid = w.valid ∙ (λ i. s.valid i + (if b then length (shown c) else 0)) ∙ sym (ap length valid ∙ length-append before (taken b (shown c)) ∙ ap (λ k. length before + k) (length-taken b (shown c)));
-      valid_sum = w.valid_sum ∙ (λ i. s.valid_sum i + (if b then sum (shown c) else 0)) ∙ sym (ap sum valid ∙ sum-append before (taken b (shown c)) ∙ ap (λ k. sum before + k) (sum-taken b (shown c)));
+      valid = w.valid ∙ (λ i. s.valid i + (if b then length (shown c) else 0)) ∙
+          sym (ap length valid ∙ length-append before (taken b (shown c)) ∙ ap (λ k. length before + k) (length-taken b (shown c)));
+      valid_sum = w.valid_sum ∙ (λ i. s.valid_sum i + (if b then sum (shown c) else 0)) ∙
+          sym (ap sum valid ∙ sum-append before (taken b (shown c)) ∙ ap (λ k. sum before + k) (sum-taken b (shown c)));
       whole_sum = w.whole_sum ∙ (λ i. s.whole_sum i + sum (shown c)) ∙ sym (ap sum (words_next shown c) ∙ sum-append (words_until shown c) (shown c));
     }
 
-pub none_summed : (slowdown latency : ℕ) (outs : List StTree) (shown : ℕ → List ℕ) → AreSums slowdown latency outs shown 0 (record { valid = 0; valid_sum = 0; whole_sum = 0 })
+pub none_summed : (slowdown latency : ℕ) (outs : List StTree) (shown : ℕ → List ℕ)
+    → AreSums slowdown latency outs shown 0 (record { valid = 0; valid_sum = 0; whole_sum = 0 })
 none_summed slowdown latency outs shown = record { valid = refl; valid_sum = refl; whole_sum = refl }
 
 -- the sums of all clocks
 pub sums_kept : (slowdown latency : ℕ) (outs : List StTree) (row shown : ℕ → List ℕ) (first : Sums) (n : ℕ) (last : Sums)
-    → Keeps (λ c r ws old new. AreWithClock (all_stand slowdown latency outs c) ws old new) row shown first n last → AreSums slowdown latency outs shown 0 first → AreSums slowdown latency outs shown n last
+    → Keeps (λ c r ws old new. AreWithClock (all_stand slowdown latency outs c) ws old new) row shown first n last
+    → AreSums slowdown latency outs shown 0 first → AreSums slowdown latency outs shown n last
 sums_kept slowdown latency outs row shown first zero last k none = subst (AreSums slowdown latency outs shown 0) (sym k) none
 sums_kept slowdown latency outs row shown first (suc c) last k none =
     let next : c + 1 ≡ suc c = omega arith in
-    subst (λ m. AreSums slowdown latency outs shown m last) next (summed slowdown latency outs shown c k.0 last (sums_kept slowdown latency outs row shown first c k.0 k.1 none) k.2)
+    subst (λ m. AreSums slowdown latency outs shown m last) next
+    (summed slowdown latency outs shown c k.0 last (sums_kept slowdown latency outs row shown first c k.0 k.1 none) k.2)
 
 -- there is room for one clock more
-pub room_more : (c : ℕ) (b : Bool) (words : List ℕ) (sums sums' : Sums) → HaveRoom c sums → AreWithClock b words sums sums' → length words < 2 ^ 32 → sum words ≤ length words * 18446744073709551615 → HaveRoom (c + 1) sums'
+pub room_more : (c : ℕ) (b : Bool) (words : List ℕ) (sums sums' : Sums) → HaveRoom c sums → AreWithClock b words sums sums' → length words < 2 ^ 32
+    → sum words ≤ length words * 18446744073709551615 → HaveRoom (c + 1) sums'
 room_more c b words sums sums' s w few small = record {
   valid = omega (arith, s.valid, w.valid, at_most b (length words), few);
   valid_sum = omega (arith, s.valid_sum, w.valid_sum, at_most b (sum words), few, small);
@@ -94,8 +100,10 @@ room_more c b words sums sums' s w few small = record {
 
 -- ---- clocks in which all results stand
 
-pub one_not : (test : StTree → Bool) (s : StTree) (ss rest all : List StTree) → ss ≡ s ∷ rest → test s ≡ false → list_all test ss ≡ list_all test all → false ≡ list_all test all
+pub one_not : (test : StTree → Bool) (s : StTree) (ss rest all : List StTree) → ss ≡ s ∷ rest → test s ≡ false → list_all test ss ≡ list_all test all
+    → false ≡ list_all test all
 one_not test s ss rest all is not was = (λ i. sym not i && list_all test rest) ∙ sym (ap (list_all test) is) ∙ was
 
-pub one_more : (test : StTree → Bool) (s : StTree) (ss rest all : List StTree) → ss ≡ s ∷ rest → test s ≡ true → list_all test ss ≡ list_all test all → list_all test rest ≡ list_all test all
+pub one_more : (test : StTree → Bool) (s : StTree) (ss rest all : List StTree) → ss ≡ s ∷ rest → test s ≡ true → list_all test ss ≡ list_all test all
+    → list_all test rest ≡ list_all test all
 one_more test s ss rest all is so was = (λ i. sym so i && list_all test rest) ∙ sym (ap (list_all test) is) ∙ was

@@ -14,7 +14,8 @@ use Rattle.ae_play.specs.Keeps.{Keeps}
 use Rattle.ae_play.specs.Lines.{clock_count, clock_line, clock_lines, spaced, stands}
 
 -- a word more
-pub spaced_more : (w : ℕ) (ws rest now spacing new all : List ℕ) → ws ≡ w ∷ rest → spacing ≡ now ++ 32 ∷ [] → new ≡ spacing ++ decimal w → now ++ spaced ws ≡ all → new ++ spaced rest ≡ all
+pub spaced_more : (w : ℕ) (ws rest now spacing new all : List ℕ) → ws ≡ w ∷ rest → spacing ≡ now ++ 32 ∷ [] → new ≡ spacing ++ decimal w → now
+    ++ spaced ws ≡ all → new ++ spaced rest ≡ all
 spaced_more w ws rest now spacing new all is spacing_is new_is was =
     ap (λ x. x ++ spaced rest) (new_is ∙ ap (λ x. x ++ decimal w) spacing_is ∙ append_assoc now (32 ∷ []) (decimal w))
     ∙ append_assoc now (32 ∷ decimal w) (spaced rest)
@@ -53,29 +54,37 @@ reached : (latency c : ℕ) → nat_le latency c ≡ true → latency ≤ c
 reached latency c h = grind (arith, nat_tests)
 
 pub stands_not : (slowdown latency c : ℕ) (s : StTree) → (latency ≤ c → IsLive s ((c - latency) % slowdown) → ⊥) → stands slowdown latency c s ≡ false
-stands_not slowdown latency c s h = neither (nat_le latency c) (list_any (λ (w : Slot). nat_eq w.clock ((c - latency) % slowdown)) (slots s)) (λ p q. h (reached latency c p) (live s ((c - latency) % slowdown) q))
+stands_not slowdown latency c s h =
+    neither (nat_le latency c) (list_any (λ (w : Slot). nat_eq w.clock ((c - latency) % slowdown)) (slots s))
+    (λ p q. h (reached latency c p) (live s ((c - latency) % slowdown) q))
 
-pub stands_by : (slowdown latency c : ℕ) (s : StTree) (b : Bool) → latency ≤ c → (b ≡ true → IsLive s ((c - latency) % slowdown)) → (IsLive s ((c - latency) % slowdown) → b ≡ true) → b ≡ stands slowdown latency c s
+pub stands_by : (slowdown latency c : ℕ) (s : StTree) (b : Bool) → latency ≤ c → (b ≡ true → IsLive s ((c - latency) % slowdown))
+    → (IsLive s ((c - latency) % slowdown) → b ≡ true) → b ≡ stands slowdown latency c s
 stands_by slowdown latency c s true h there here = sym (stands_live slowdown latency c s h (there refl))
 stands_by slowdown latency c s false h there here = sym (stands_not slowdown latency c s (λ late l. true≢false (sym (here l))))
 
 -- ---- a line
 
-pub line_is : (number : ℕ) (marks ws old numbered parted marked worded new : List ℕ) → numbered ≡ old ++ decimal number → parted ≡ numbered ++ 32 ∷ [] → marked ≡ parted ++ marks
+pub line_is : (number : ℕ) (marks ws old numbered parted marked worded new : List ℕ) → numbered ≡ old ++ decimal number → parted ≡ numbered ++ 32 ∷ []
+    → marked ≡ parted ++ marks
     → worded ≡ marked ++ spaced ws → new ≡ worded ++ 10 ∷ [] → new ≡ old ++ (((decimal number ++ (32 ∷ marks)) ++ spaced ws) ++ 10 ∷ [])
 line_is number marks ws old numbered parted marked worded new a b d e f =
-    f ∙ ap (λ x. x ++ 10 ∷ []) (e ∙ ap (λ x. x ++ spaced ws) (d ∙ ap (λ x. x ++ marks) (b ∙ ap (λ x. x ++ 32 ∷ []) a) ∙ append_assoc (old ++ decimal number) (32 ∷ []) marks))
+    f ∙ ap (λ x. x ++ 10 ∷ []) (e ∙ ap (λ x. x ++ spaced ws)
+    (d ∙ ap (λ x. x ++ marks) (b ∙ ap (λ x. x ++ 32 ∷ []) a) ∙ append_assoc (old ++ decimal number) (32 ∷ []) marks))
     ∙ ap (λ x. (x ++ spaced ws) ++ 10 ∷ []) (append_assoc old (decimal number) (32 ∷ marks))
     ∙ ap (λ x. x ++ 10 ∷ []) (append_assoc old (decimal number ++ 32 ∷ marks) (spaced ws))
     ∙ append_assoc old ((decimal number ++ 32 ∷ marks) ++ spaced ws) (10 ∷ [])
 
-pub marks_more : (mark_of : StTree → ℕ) (s : StTree) (ss rest : List StTree) (text now new all : List ℕ) → ss ≡ s ∷ rest → text ≡ mark_of s ∷ [] → new ≡ now ++ text → now ++ map mark_of ss ≡ all → new ++ map mark_of rest ≡ all
+pub marks_more : (mark_of : StTree → ℕ) (s : StTree) (ss rest : List StTree) (text now new all : List ℕ) → ss ≡ s ∷ rest → text ≡ mark_of s ∷ [] → new ≡ now
+    ++ text → now ++ map mark_of ss ≡ all → new ++ map mark_of rest ≡ all
 marks_more mark_of s ss rest text now new all is marked made was =
-    ap (λ ys. ys ++ map mark_of rest) (made ∙ ap (λ ys. now ++ ys) marked) ∙ append_assoc now (mark_of s ∷ []) (map mark_of rest) ∙ (ap (λ ts. now ++ map mark_of ts) (sym is) ∙ was)
+    ap (λ ys. ys ++ map mark_of rest) (made ∙ ap (λ ys. now ++ ys) marked) ∙ append_assoc now (mark_of s ∷ []) (map mark_of rest) ∙
+    (ap (λ ts. now ++ map mark_of ts) (sym is) ∙ was)
 
 -- the lines of all clocks, whatever else what is kept has
 pub lines_kept : {K : Type 0} (content : K → List ℕ) (slowdown latency : ℕ) (outs : List StTree) (row shown : ℕ → List ℕ) (first : K) (n : ℕ) (last : K)
-    → Keeps (λ c r ws old new. content new ≡ content old ++ clock_line slowdown latency outs c ws) row shown first n last → content last ≡ content first ++ clock_lines slowdown latency outs shown n
+    → Keeps (λ c r ws old new. content new ≡ content old ++ clock_line slowdown latency outs c ws) row shown first n last → content last ≡ content first
+    ++ clock_lines slowdown latency outs shown n
 lines_kept content slowdown latency outs row shown first zero last k = ap content k ∙ sym (append-nil (content first))
 lines_kept content slowdown latency outs row shown first (suc c) last k =
     k.2

@@ -26,7 +26,8 @@ clock_row slowdown fill ss blocks c = 0 ∷ block_row fill ss (slice_get blocks 
 
 -- one clock of reset, and so many after it
 abbrev pub fed_rows : (slowdown fill : ℕ) → List StTree → (blocks : List (List (List ℕ))) → (clocks : ℕ) → List (List ℕ)
-fed_rows slowdown fill ss blocks n = (1 ∷ fill_row fill ss) ∷ map (clock_row slowdown fill ss blocks) (range_with_len 0 n)
+fed_rows slowdown fill ss blocks n =
+    (1 ∷ fill_row fill ss) ∷ map (clock_row slowdown fill ss blocks) (range_with_len 0 n)
 
 -- the values of a block of words that stand one after the other
 abbrev pub values_of : List StTree → List ℕ → List (List ℕ)

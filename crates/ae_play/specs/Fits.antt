@@ -19,7 +19,9 @@ value_kinds s = repeated (st_atoms s) (atom_kinds (element_atom s))
 
 -- the inputs of a circuit are the reset and then a word of each column, with the widths of these
 abbrev pub HasColumns : List SizedCell → List StTree → Type 0
-HasColumns cells ss = map (λ (sized : SizedCell). sized.width) (cells_of is_input cells) ≡ 1 ∷ map (λ (k : WordKind). k.width) (flat_map lane_kinds ss)
+HasColumns cells ss =
+    map (λ (sized : SizedCell). sized.width) (cells_of is_input cells) ≡ 1
+    ∷ map (λ (k : WordKind). k.width) (flat_map lane_kinds ss)
 
 -- the words are those of so many blocks, each below 2 to its width
 abbrev pub FitBlocks : List StTree → (count : ℕ) → List ℕ → Type 0
@@ -28,5 +30,6 @@ FitBlocks ss n ws = FitKinds ws (repeated n (flat_map value_kinds ss))
 -- such a circuit can be fed with such blocks
 abbrev pub CanBeFed : Type 0
 CanBeFed =
-    (cells : List SizedCell) (slowdown fill : ℕ) (ss : List StTree) (count : ℕ) (ws : List ℕ) → HasColumns cells ss → FitBlocks ss count ws
+    (cells : List SizedCell) (slowdown fill : ℕ) (ss : List StTree) (count : ℕ) (ws : List ℕ) → HasColumns cells ss
+    → FitBlocks ss count ws
     → (clocks : ℕ) → All (AreInputs cells) (fed_rows slowdown fill ss (blocks_of ss count ws) clocks)

@@ -18,7 +18,8 @@ clock_count slowdown latency (suc b) = latency + suc b * slowdown
 
 -- whether an element of the result stands in the clock
 abbrev pub stands : (slowdown latency clock : ℕ) → StTree → Bool
-stands slowdown latency c s = nat_le latency c && list_any (λ (w : Slot). nat_eq w.clock ((c - latency) % slowdown)) (slots s)
+stands slowdown latency c s =
+    nat_le latency c && list_any (λ (w : Slot). nat_eq w.clock ((c - latency) % slowdown)) (slots s)
 
 -- `v` where one does, and `.` elsewhere
 abbrev pub mark : (slowdown latency clock : ℕ) → StTree → ℕ
@@ -30,19 +31,24 @@ spaced ws = flat_map (λ w. 32 ∷ decimal w) ws
 
 -- a clock's number, a mark for each result, and the words of all outputs
 abbrev pub clock_line : (slowdown latency : ℕ) → List StTree → (clock : ℕ) → (words : List ℕ) → List ℕ
-clock_line slowdown latency outputs c ws = ((decimal c ++ (32 ∷ map (mark slowdown latency c) outputs)) ++ spaced ws) ++ 10 ∷ []
+clock_line slowdown latency outputs c ws =
+    ((decimal c ++ (32 ∷ map (mark slowdown latency c) outputs)) ++ spaced ws) ++ 10 ∷ []
 
 -- the first lines, where clock c shows these words
 abbrev pub clock_lines : (slowdown latency : ℕ) → List StTree → (words : ℕ → List ℕ) → (count : ℕ) → List ℕ
 clock_lines slowdown latency outputs shown zero = []
-clock_lines slowdown latency outputs shown (suc c) = clock_lines slowdown latency outputs shown c ++ clock_line slowdown latency outputs c (shown c)
+clock_lines slowdown latency outputs shown (suc c) =
+    clock_lines slowdown latency outputs shown c ++ clock_line slowdown latency outputs c (shown c)
 
 -- the words of outputs in a clock of a run
 abbrev pub shown_words : List Outlet → List Clock → ℕ → List ℕ
 shown_words outlets run t = map (λ (o : Outlet). word_at run t o.net.0) outlets
 
 -- the lines of the run of a circuit that begins with the fill and takes blocks
-pub record IsPlayedText (n : Circuit) (slowdown latency fill : ℕ) (ins outs : List StTree) (blocks : List (List (List ℕ))) (text : List ℕ) : Type 0 where
+pub record IsPlayedText (n : Circuit) (slowdown latency fill : ℕ) (ins outs : List StTree)
+    (blocks : List (List (List ℕ))) (text : List ℕ) : Type 0 where
   pub run : List Clock
-  pub runs : IsRunWith n.cells (fed_rows slowdown fill ins blocks (clock_count slowdown latency (length blocks))) (filled n.cells fill) run
-  pub lines : text ≡ clock_lines slowdown latency outs (λ c. shown_words n.outlets run (1 + c)) (clock_count slowdown latency (length blocks))
+  pub runs : IsRunWith n.cells (fed_rows slowdown fill ins blocks (clock_count slowdown latency (length blocks)))
+      (filled n.cells fill) run
+  pub lines : text ≡ clock_lines slowdown latency outs (λ c. shown_words n.outlets run (1 + c))
+      (clock_count slowdown latency (length blocks))

@@ -19,16 +19,21 @@ words_until shown n = flat_map shown (range_with_len 0 n)
 
 -- those of the clocks among them in which all results stand
 abbrev pub valid_words : (slowdown latency : ℕ) → List StTree → (words : ℕ → List ℕ) → (count : ℕ) → List ℕ
-valid_words slowdown latency outputs shown n = flat_map shown (filter (all_stand slowdown latency outputs) (range_with_len 0 n))
+valid_words slowdown latency outputs shown n =
+    flat_map shown (filter (all_stand slowdown latency outputs) (range_with_len 0 n))
 
 -- how many words the clocks show in which all results stand, their sum, and the sum of the words of all clocks
-pub record AreSums (slowdown latency : ℕ) (outputs : List StTree) (shown : ℕ → List ℕ) (count : ℕ) (sums : Sums) : Type 0 where
+pub record AreSums (slowdown latency : ℕ) (outputs : List StTree) (shown : ℕ → List ℕ) (count : ℕ)
+    (sums : Sums) : Type 0 where
   pub valid : sums.valid ≡ length (valid_words slowdown latency outputs shown count)
   pub valid_sum : sums.valid_sum ≡ sum (valid_words slowdown latency outputs shown count)
   pub whole_sum : sums.whole_sum ≡ sum (words_until shown count)
 
 -- the sums of the run of a circuit that begins with the fill and takes blocks
-pub record ArePlayedSums (n : Circuit) (slowdown latency fill : ℕ) (ins outs : List StTree) (blocks : List (List (List ℕ))) (sums : Sums) : Type 0 where
+pub record ArePlayedSums (n : Circuit) (slowdown latency fill : ℕ) (ins outs : List StTree)
+    (blocks : List (List (List ℕ))) (sums : Sums) : Type 0 where
   pub run : List Clock
-  pub runs : IsRunWith n.cells (fed_rows slowdown fill ins blocks (clock_count slowdown latency (length blocks))) (filled n.cells fill) run
-  pub are : AreSums slowdown latency outs (λ c. shown_words n.outlets run (1 + c)) (clock_count slowdown latency (length blocks)) sums
+  pub runs : IsRunWith n.cells (fed_rows slowdown fill ins blocks (clock_count slowdown latency (length blocks)))
+      (filled n.cells fill) run
+  pub are : AreSums slowdown latency outs (λ c. shown_words n.outlets run (1 + c))
+      (clock_count slowdown latency (length blocks)) sums

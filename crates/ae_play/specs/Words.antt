@@ -13,7 +13,10 @@ abbrev pub port_words : (given shown : ℕ → List ℕ) → (count : ℕ) → L
 port_words given shown n = words_until (λ c. given c ++ shown c) n
 
 -- the words of the run of a circuit that begins with the fill and takes blocks
-pub record ArePlayedWords (n : Circuit) (slowdown latency fill : ℕ) (ins : List StTree) (blocks : List (List (List ℕ))) (words : List ℕ) : Type 0 where
+pub record ArePlayedWords (n : Circuit) (slowdown latency fill : ℕ) (ins : List StTree) (blocks : List (List (List ℕ)))
+    (words : List ℕ) : Type 0 where
   pub run : List Clock
-  pub runs : IsRunWith n.cells (fed_rows slowdown fill ins blocks (clock_count slowdown latency (length blocks))) (filled n.cells fill) run
-  pub are : words ≡ port_words (clock_row slowdown fill ins blocks) (λ c. shown_words n.outlets run (1 + c)) (clock_count slowdown latency (length blocks))
+  pub runs : IsRunWith n.cells (fed_rows slowdown fill ins blocks (clock_count slowdown latency (length blocks)))
+      (filled n.cells fill) run
+  pub are : words ≡ port_words (clock_row slowdown fill ins blocks) (λ c. shown_words n.outlets run (1 + c))
+      (clock_count slowdown latency (length blocks))

@@ -36,13 +36,15 @@ first_columns (s ∷ ss) (suc q) =
     )
 
 -- word r of the e-th of lists of m words each, one after the other from number k on
-pub joined_word : (f : ℕ → List ℕ) (m k n e r : ℕ) → ((i : ℕ) → i < k + n → length (f i) ≡ m) → e < n → r < m → get_or (flat_map f (range_with_len k n)) (e * m + r) 0 ≡ get_or (f (k + e)) r 0
+pub joined_word : (f : ℕ → List ℕ) (m k n e r : ℕ) → ((i : ℕ) → i < k + n → length (f i) ≡ m) → e < n → r < m
+    → get_or (flat_map f (range_with_len k n)) (e * m + r) 0 ≡ get_or (f (k + e)) r 0
 joined_word f m k zero e r long h p = absurd (omega arith)
 joined_word f m k (suc n) zero r long h p =
     let here : length (f k) ≡ m = long k (omega arith) in
     let z : zero * m + r ≡ r = omega arith in
     let s : k + zero ≡ k = omega arith in
-    ap (λ i. get_or (f k ++ flat_map f (range_with_len (k + 1) n)) i 0) z ∙ (get_or_append_left (f k) (flat_map f (range_with_len (k + 1) n)) 0 r (omega arith) ∙ ap (λ i. get_or (f i) r 0) (sym s))
+    ap (λ i. get_or (f k ++ flat_map f (range_with_len (k + 1) n)) i 0) z ∙
+    (get_or_append_left (f k) (flat_map f (range_with_len (k + 1) n)) 0 r (omega arith) ∙ ap (λ i. get_or (f i) r 0) (sym s))
 joined_word f m k (suc n) (suc e) r long h p =
     let here : length (f k) ≡ m = long k (omega arith) in
     let place : suc e * m + r ≡ length (f k) + (e * m + r) = omega arith in

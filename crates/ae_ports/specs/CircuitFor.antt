@@ -11,8 +11,10 @@ use Rattle.ae_ports.specs.Ports.{input_cell, input_ports, outlet_port, output_po
 
 -- the reset and the words of the parameters are the inputs, the words of the results the outputs, the results of each block
 -- come in time, and the cells are within the costs and needed
-pub record IsCircuitFor (p : ProgramTree) (slowdown : ℕ) (costs : OwnCosts) (ins outs : List StTree) (n : Circuit) : Type 0 where
-  pub inputs : take (1 + length (input_ports (streams_of ins))) n.cells ≡ map input_cell (reset_port ∷ input_ports (streams_of ins))
+pub record IsCircuitFor (p : ProgramTree) (slowdown : ℕ) (costs : OwnCosts) (ins outs : List StTree)
+    (n : Circuit) : Type 0 where
+  pub inputs : take (1 + length (input_ports (streams_of ins))) n.cells ≡ map input_cell
+      (reset_port ∷ input_ports (streams_of ins))
   pub no_others : count_of is_input n.cells ≡ 1 + length (input_ports (streams_of ins))
   pub outputs : map (outlet_port n.cells) n.outlets ≡ output_ports (streams_of outs)
   pub makes : MakesBlocks n p slowdown costs.latency ins outs

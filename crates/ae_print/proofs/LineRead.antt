@@ -60,20 +60,23 @@ param-read version p n s =
 new-known : (n : List ℕ) (ns : List (List ℕ)) → is_among n ns ≡ false → not (is_known n ns) ≡ true
 new-known n ns h = ap not (known-agree n ns ∙ h)
 
-pub params-read : (version : ℕ) (h : Head) (ps : List ParamTree) → formed_params version ps ≡ true → all_names (param_names ps) ≡ true → all_distinct (h.items ++ param_names ps) ≡ true
+pub params-read : (version : ℕ) (h : Head) (ps : List ParamTree) → formed_params version ps ≡ true → all_names (param_names ps) ≡ true
+    → all_distinct (h.items ++ param_names ps) ≡ true
     → params_after version h (map param_field ps) ≡ Some (record { params = h.params ++ ps; items = h.items ++ param_names ps })
 params-read version h [] f n d = λ i. Some (record { params = sym (append-none h.params) i; items = sym (append-none h.items) i })
 params-read version h (p ∷ ps) f n d =
     let g : Head = record { params = h.params ++ p ∷ []; items = h.items ++ p.name ∷ [] } in
     let items : (h.items ++ p.name ∷ []) ++ param_names ps ≡ h.items ++ p.name ∷ param_names ps = append_assoc h.items (p.name ∷ []) (param_names ps) in
     ap (λ o. o >>= λ q. with_param h q >>= λ e. params_after version e (map param_field ps)) (param-read version p (and-first _ _ n) (and-first _ _ f))
-    ∙ ap (λ t. where_ok t (Some g) >>= λ e. params_after version e (map param_field ps)) (new-known p.name h.items (distinct-new h.items p.name (param_names ps) d))
+    ∙ ap (λ t. where_ok t (Some g) >>= λ e. params_after version e (map param_field ps))
+    (new-known p.name h.items (distinct-new h.items p.name (param_names ps) d))
     ∙ params-read version g ps (and-second (is_spelled version p.type) _ f) (and-second (is_name p.name) _ n) (ap all_distinct items ∙ d)
     ∙ (λ i. Some (record { params = append_assoc h.params (p ∷ []) ps i; items = items i }))
 
 -- ---- lines
 
-pub step-later : (n : ℕ) (s : State) (f : List ℕ) (fs : List (List ℕ)) → n ≤ 4096 → (s.known.version == 0) ≡ false → step n s (f ∷ fs) ≡ by_part n s.known s.part f fs
+pub step-later : (n : ℕ) (s : State) (f : List ℕ) (fs : List (List ℕ)) → n ≤ 4096 → (s.known.version == 0) ≡ false
+    → step n s (f ∷ fs) ≡ by_part n s.known s.part f fs
 step-later n s f fs h v =
     ap (λ t. where_ok t (if s.known.version == 0 then first_line n s f fs else by_part n s.known s.part f fs)) (le-leb n 4096 h)
     ∙ ap (λ t. if t then first_line n s f fs else by_part n s.known s.part f fs) v
@@ -82,13 +85,15 @@ name-no-end : (f : List ℕ) → is_name f ≡ true → bytes_eq f (codes "end")
 name-no-end f h = by (bytes_eq f (codes "end")) refl
   where
     no : not (bytes_eq f (codes "end")) ≡ true
-    no = ap not (same-agree f (codes "end")) ∙ and-second (nat_le (length f) 32 && begins_with_letter f && all_name_bytes f && not (same_bytes f (codes "fn"))) _ h
+    no = ap not (same-agree f (codes "end")) ∙ and-second
+        (nat_le (length f) 32 && begins_with_letter f && all_name_bytes f && not (same_bytes f (codes "fn"))) _ h
 
     by : (t : Bool) → bytes_eq f (codes "end") ≡ t → t ≡ false
     by true e = absurd (let x = sym (ap not e) ∙ no in cc)
     by false e = refl
 
-node-on : (n : ℕ) (k : Known) (p : Part) (name : List ℕ) (fs : List (List ℕ)) → node_named n k p name fs ≡ (operator_on k.version (length k.funcs) k.names fs >>= node_with n k p name)
+node-on : (n : ℕ) (k : Known) (p : Part) (name : List ℕ) (fs : List (List ℕ))
+    → node_named n k p name fs ≡ (operator_on k.version (length k.funcs) k.names fs >>= node_with n k p name)
 node-on n k p name [] = refl
 node-on n k p name (w ∷ fs) = refl
 
@@ -112,7 +117,8 @@ node-read n k p all items m f =
     ap (λ t. if t then finish n k p (codes "=" ∷ fs) else node n k p m.name (codes "=" ∷ fs)) (name-no-end m.name named)
     ∙ ap (λ t. where_ok t (node_named n k p m.name fs)) named
     ∙ node-on n k p m.name fs
-    ∙ ap (λ o. o >>= node_with n k p m.name) (op-read k.version (length k.funcs) all k.names m.op args f.found f.line f.fit (ap (has_arguments m.op) (length-map (name_at items) m.args) ∙ f.many))
+    ∙ ap (λ o. o >>= node_with n k p m.name) (op-read k.version (length k.funcs) all k.names m.op args f.found f.line f.fit
+    (ap (has_arguments m.op) (length-map (name_at items) m.args) ∙ f.many))
     ∙ ap (λ o. o >>= node_on n k p m.name m.op) (places-read items p.items [] m.args f.extends f.distinct f.below)
     ∙ ap (λ t. where_ok t (with_node n k p m.name m.op m.args)) f.many
     ∙ ap (λ t. where_ok t (Some (node_state n k p m.name m.op m.args))) (new-known m.name p.items f.new)
@@ -123,10 +129,15 @@ with_nodes p n ms = record { name = p.name; params = p.params; nodes = p.nodes +
 pub nodes-read : (ms : List NodeTree) (n : ℕ) (k : Known) (p : Part) (all items : List (List ℕ)) (rest : List (List (List ℕ)))
     → (k.version == 0) ≡ false → FuncsFound (length k.funcs) all k.names → items ≡ p.items ++ node_names ms → all_distinct items ≡ true
     → formed_nodes k.version (length k.funcs) (length p.items) ms ≡ true → all_names (node_names ms) ≡ true → nodes_fit ms ≡ true → n + length ms ≤ 4097
-    → reading_of (map (node_fields all items) ms ++ rest) n (record { known = k; part = Some p }) ≡ reading_of rest (n + length ms) (record { known = k; part = Some (with_nodes p n ms) })
+    → reading_of (map (node_fields all items) ms ++ rest) n (record { known = k; part = Some p }) ≡ reading_of rest (n + length ms)
+    (record { known = k; part = Some (with_nodes p n ms) })
 nodes-read [] n k p all items rest v found is d f names fit low =
     let z : n ≡ n + 0 = omega arith in
-    λ i. reading_of rest (z i) (record { known = k; part = Some (record { name = p.name; params = p.params; nodes = sym (append-none p.nodes) i; items = sym (append-none p.items) i; line = p.line }) })
+    λ i. reading_of rest (z i) (record {
+      known = k;
+      part = Some
+          (record { name = p.name; params = p.params; nodes = sym (append-none p.nodes) i; items = sym (append-none p.items) i; line = p.line });
+    })
 nodes-read (m ∷ ms) n k p all items rest v found is d f names fit low =
     let line = and-first _ _ f in
     let line2 = and-first _ _ line in
@@ -142,12 +153,30 @@ nodes-read (m ∷ ms) n k p all items rest v found is d f names fit low =
       many = and-second (is_line k.version (length k.funcs) m.op) _ line2;
       below = and-second (is_line k.version (length k.funcs) m.op && has_arguments m.op (length m.args)) _ line;
     } in
-    let q : Part = record { name = p.name; params = p.params; nodes = p.nodes ++ record { name = m.name; op = m.op; args = m.args; line = n } ∷ []; items = p.items ++ m.name ∷ []; line = p.line } in
+    let q : Part = record {
+      name = p.name;
+      params = p.params;
+      nodes = p.nodes ++ record { name = m.name; op = m.op; args = m.args; line = n } ∷ [];
+      items = p.items ++ m.name ∷ [];
+      line = p.line;
+    } in
     let more : p.items ++ m.name ∷ node_names ms ≡ q.items ++ node_names ms = sym (append_assoc p.items (m.name ∷ []) (node_names ms)) in
     let count : length q.items ≡ length p.items + 1 = length-append p.items (m.name ∷ []) in
-    let later : formed_nodes k.version (length k.funcs) (length p.items + 1) ms ≡ true = and-second (is_line k.version (length k.funcs) m.op && has_arguments m.op (length m.args) && all_below (length p.items) m.args) _ f in
+    let later : formed_nodes k.version (length k.funcs) (length p.items + 1) ms ≡ true = and-second
+    (is_line k.version (length k.funcs) m.op && has_arguments m.op (length m.args) && all_below (length p.items) m.args) _ f in
     let number : n + 1 + length ms ≡ n + suc (length ms) = omega arith in
     ap (λ o. by_state n o (reading_of (map (node_fields all items) ms ++ rest) (n + 1)))
-    (step-later n (record { known = k; part = Some p }) m.name (codes "=" ∷ (op_fields all m.op ++ map (name_at items) m.args)) (omega arith) v ∙ node-read n k p all items m node_fits)
-    ∙ nodes-read ms (n + 1) k q all items rest v found (is ∙ more) d (ap (λ j. formed_nodes k.version (length k.funcs) j ms) count ∙ later) (and-second (is_name m.name) _ names) (and-second (words_fit m.op) _ fit) (omega arith)
-    ∙ (λ i. reading_of rest (number i) (record { known = k; part = Some (record { name = p.name; params = p.params; nodes = append_assoc p.nodes (record { name = m.name; op = m.op; args = m.args; line = n } ∷ []) (nodes_from (n + 1) ms) i; items = sym more i; line = p.line }) }))
+    (step-later n (record { known = k; part = Some p }) m.name (codes "=" ∷ (op_fields all m.op ++ map (name_at items) m.args)) (omega arith) v ∙
+    node-read n k p all items m node_fits)
+    ∙ nodes-read ms (n + 1) k q all items rest v found (is ∙ more) d (ap (λ j. formed_nodes k.version (length k.funcs) j ms) count ∙ later)
+    (and-second (is_name m.name) _ names) (and-second (words_fit m.op) _ fit) (omega arith)
+    ∙ (λ i. reading_of rest (number i) (record {
+      known = k;
+      part = Some (record {
+        name = p.name;
+        params = p.params;
+        nodes = append_assoc p.nodes (record { name = m.name; op = m.op; args = m.args; line = n } ∷ []) (nodes_from (n + 1) ms) i;
+        items = sym more i;
+        line = p.line;
+      });
+    }))

@@ -55,15 +55,19 @@ text_append (x ∷ xs) ys = ap (λ zs. joined x ++ (10 ∷ zs)) (text_append xs 
 
 pub below-weaker : (n m : ℕ) (ks : List ℕ) → n ≤ m → all_below n ks ≡ true → all_below m ks ≡ true
 below-weaker n m [] h b = refl
-below-weaker n m (k ∷ ks) h b = let l = ltb-true k n (and-first _ _ b) in and-both _ _ (lt-ltb k m (omega arith)) (below-weaker n m ks h (and-second (nat_lt k n) _ b))
+below-weaker n m (k ∷ ks) h b =
+    let l = ltb-true k n (and-first _ _ b) in and-both _ _ (lt-ltb k m (omega arith)) (below-weaker n m ks h (and-second (nat_lt k n) _ b))
 
 -- the arguments of the next node are items
-pub node-below : (version bound p : ℕ) (ns : List Node) (i : ℕ) (d : Node) → i < length ns → d ≡ get_or ns i d → formed_nodes version bound (p + i) (node_trees (drop i ns)) ≡ true
+pub node-below : (version bound p : ℕ) (ns : List Node) (i : ℕ) (d : Node) → i < length ns → d ≡ get_or ns i d
+    → formed_nodes version bound (p + i) (node_trees (drop i ns)) ≡ true
     → all_below (p + length ns) d.args.items ≡ true
 node-below version bound p ns i d h is f =
     let x = get_or ns i d in
-    let g : formed_nodes version bound (p + i) (node_trees (x ∷ drop (i + 1) ns)) ≡ true = ap (λ ms. formed_nodes version bound (p + i) (node_trees ms)) (sym (drop_more ns i d h)) ∙ f in
-    let b : all_below (p + i) x.args.items ≡ true = and-second (is_line version bound (op_tree x.op) && has_arguments (op_tree x.op) (length x.args.items)) _ (and-first _ _ g) in
+    let g : formed_nodes version bound (p + i) (node_trees (x ∷ drop (i + 1) ns)) ≡ true = ap (λ ms. formed_nodes version bound (p + i) (node_trees ms))
+    (sym (drop_more ns i d h)) ∙ f in
+    let b : all_below (p + i) x.args.items ≡ true = and-second (is_line version bound (op_tree x.op) && has_arguments (op_tree x.op) (length x.args.items)) _
+    (and-first _ _ g) in
     below-weaker (p + i) (p + length ns) d.args.items (omega arith) (ap (λ (m : Node). all_below (p + i) m.args.items) is ∙ b)
 
 -- fields in two parts
@@ -95,20 +99,24 @@ next-of version i fs x f =
     }
 
 -- the function that comes next
-pub next-func : (version : ℕ) (fs : List Func) (i : ℕ) (d : Func) → i < length fs → d ≡ get_or fs i d → formed_funcs version i (func_trees (drop i fs)) ≡ true → NextFunc version fs i d
+pub next-func : (version : ℕ) (fs : List Func) (i : ℕ) (d : Func) → i < length fs → d ≡ get_or fs i d → formed_funcs version i (func_trees (drop i fs)) ≡ true
+    → NextFunc version fs i d
 next-func version fs i d h is f =
     let x = get_or fs i d in
-    let g : formed_funcs version i (func_trees (x ∷ drop (i + 1) fs)) ≡ true = ap (λ ms. formed_funcs version i (func_trees ms)) (sym (drop_more fs i d h)) ∙ f in
+    let g : formed_funcs version i (func_trees (x ∷ drop (i + 1) fs)) ≡ true = ap (λ ms. formed_funcs version i (func_trees ms)) (sym (drop_more fs i d h)) ∙
+    f in
     subst (λ (e : Func). NextFunc version fs i e) (sym is) (next-of version i fs x g)
 
-pub next-text : (b new t : List ℕ) (all : List (List ℕ)) (fs : List Func) (i : ℕ) (d : Func) → i < length fs → d ≡ get_or fs i d → b ++ text_of (funcs_statements all (func_trees (drop i fs))) ≡ t
+pub next-text : (b new t : List ℕ) (all : List (List ℕ)) (fs : List Func) (i : ℕ) (d : Func) → i < length fs → d ≡ get_or fs i d → b
+    ++ text_of (funcs_statements all (func_trees (drop i fs))) ≡ t
     → new ≡ b ++ text_of (func_statements all (func_tree d)) → new ++ text_of (funcs_statements all (func_trees (drop (i + 1) fs))) ≡ t
 next-text b new t all fs i d h is so w =
     two-texts b new (func_statements all (func_tree d)) (funcs_statements all (func_trees (drop (i + 1) fs))) w
     ∙ ap (λ (x : Func). b ++ text_of (func_statements all (func_tree x) ++ funcs_statements all (func_trees (drop (i + 1) fs)))) is
     ∙ ap (λ ms. b ++ text_of (funcs_statements all (func_trees ms))) (sym (drop_more fs i d h)) ∙ so
 
-pub next-fit : (fs : List Func) (i : ℕ) (d : Func) (t : Bool) → i < length fs → d ≡ get_or fs i d → funcs_fit (func_trees (drop i fs)) ≡ t → nodes_fit (node_trees d.nodes.items) ≡ true
+pub next-fit : (fs : List Func) (i : ℕ) (d : Func) (t : Bool) → i < length fs → d ≡ get_or fs i d → funcs_fit (func_trees (drop i fs)) ≡ t
+    → nodes_fit (node_trees d.nodes.items) ≡ true
     → funcs_fit (func_trees (drop (i + 1) fs)) ≡ t
 next-fit fs i d t h is so fit =
     let x = get_or fs i d in
@@ -123,7 +131,8 @@ append-none (x ∷ xs) = ap (λ ys. x ∷ ys) (append-none xs)
 none-left : {A : Type 0} (xs : List A) (i : ℕ) → length xs ≤ i → drop i xs ≡ []
 none-left xs i h = grind (arith, common_steps)
 
-pub last-text : (b t : List ℕ) (all : List (List ℕ)) (fs : List Func) (i : ℕ) → length fs ≤ i → b ++ text_of (funcs_statements all (func_trees (drop i fs))) ≡ t → b ≡ t
+pub last-text : (b t : List ℕ) (all : List (List ℕ)) (fs : List Func) (i : ℕ) → length fs ≤ i → b
+    ++ text_of (funcs_statements all (func_trees (drop i fs))) ≡ t → b ≡ t
 last-text b t all fs i h so = sym (append-none b) ∙ ap (λ (ms : List Func). b ++ text_of (funcs_statements all (func_trees ms))) (sym (none-left fs i h)) ∙ so
 
 pub last-fit : (fs : List Func) (i : ℕ) (t : Bool) → length fs ≤ i → funcs_fit (func_trees (drop i fs)) ≡ t → t ≡ true

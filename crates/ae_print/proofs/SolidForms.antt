@@ -48,8 +48,10 @@ named-inner b h =
     or-elim (is_letter b) (within 48 57 b) h
     (λ h1. or-elim (within 97 122 b || within 65 90 b) (b == 95) h1
     (λ h2. or-elim (within 97 122 b) (within 65 90 b) h2
-    (λ e. let l = leb-true 97 b (and-first _ _ e) in let r = leb-true b 122 (and-second (nat_le 97 b) _ e) in inner-so b (omega arith) (omega arith) (λ x. omega arith))
-    (λ e. let l = leb-true 65 b (and-first _ _ e) in let r = leb-true b 90 (and-second (nat_le 65 b) _ e) in inner-so b (omega arith) (omega arith) (λ x. omega arith)))
+    (λ e. let l = leb-true 97 b (and-first _ _ e) in let r = leb-true b 122 (and-second (nat_le 97 b) _ e) in
+    inner-so b (omega arith) (omega arith) (λ x. omega arith))
+    (λ e. let l = leb-true 65 b (and-first _ _ e) in let r = leb-true b 90 (and-second (nat_le 65 b) _ e) in
+    inner-so b (omega arith) (omega arith) (λ x. omega arith)))
     (λ e. let l = eqb-true b 95 e in inner-so b (omega arith) (omega arith) (λ x. omega arith)))
     (digit-inner b)
 
@@ -74,7 +76,8 @@ atom-inner (word k) h = and-both _ _ (letter k.signed) (decimal-inner k.width (l
     letter false = refl
 atom-inner (pair a b) h =
     all-append inner_byte ((40 ∷ atom_text a) ++ (44 ∷ atom_text b)) (41 ∷ [])
-    (all-append inner_byte (40 ∷ atom_text a) (44 ∷ atom_text b) (atom-inner a (and-first (widths_in_range a) _ h)) (atom-inner b (and-second (widths_in_range a) _ h))) refl
+    (all-append inner_byte (40 ∷ atom_text a) (44 ∷ atom_text b) (atom-inner a (and-first (widths_in_range a) _ h))
+    (atom-inner b (and-second (widths_in_range a) _ h))) refl
 
 pub type-inner : (t : SeqTree) → parts_in_size t ≡ true → list_all inner_byte (type_text t) ≡ true
 type-inner (atom a) h = atom-inner a (and-first (widths_in_range a) _ h)
@@ -111,7 +114,8 @@ solid-type t h = solid-of (type_text t) (type-some t) (all-weaker inner_byte ink
 
 pub solid-param : (n : List ℕ) (t : SeqTree) → is_name n ≡ true → parts_in_size t ≡ true → solid (n ++ 58 ∷ type_text t) ≡ true
 solid-param n t h p =
-    let all = all-append inked n (58 ∷ type_text t) (all-weaker inner_byte inked inner-inked n (name-inner n h)) (all-weaker inner_byte inked inner-inked (type_text t) (type-inner t p)) in
+    let all = all-append inked n (58 ∷ type_text t) (all-weaker inner_byte inked inner-inked n (name-inner n h))
+    (all-weaker inner_byte inked inner-inked (type_text t) (type-inner t p)) in
     by n (name-some n h) all
   where
     by : (m : List ℕ) → 0 < length m → list_all inked (m ++ 58 ∷ type_text t) ≡ true → solid (m ++ 58 ∷ type_text t) ≡ true
@@ -131,7 +135,8 @@ not-so false h = refl
 pieces-free : (bs : List ℕ) → free 58 bs ≡ true → pieces 58 bs ≡ bs ∷ []
 pieces-free [] h = refl
 pieces-free (b ∷ bs) h =
-    ap (λ t. if t then [] ∷ pieces 58 bs else put b (pieces 58 bs)) (not-so (nat_eq b 58) (and-first _ _ h)) ∙ ap (put b) (pieces-free bs (and-second (not (nat_eq b 58)) _ h))
+    ap (λ t. if t then [] ∷ pieces 58 bs else put b (pieces 58 bs)) (not-so (nat_eq b 58) (and-first _ _ h)) ∙
+    ap (put b) (pieces-free bs (and-second (not (nat_eq b 58)) _ h))
 
 pieces-cut : (bs after : List ℕ) → free 58 bs ≡ true → pieces 58 (bs ++ 58 ∷ after) ≡ bs ∷ pieces 58 after
 pieces-cut [] after h = refl
@@ -140,4 +145,6 @@ pieces-cut (b ∷ bs) after h =
     ∙ ap (put b) (pieces-cut bs after (and-second (not (nat_eq b 58)) _ h))
 
 pub param-cut : (n : List ℕ) (t : SeqTree) → is_name n ≡ true → parts_in_size t ≡ true → two_of (pieces 58 (n ++ 58 ∷ type_text t)) ≡ Some (n, type_text t)
-param-cut n t h p = ap two_of (pieces-cut n (type_text t) (inner-free n (name-inner n h)) ∙ ap (λ ps. n ∷ ps) (pieces-free (type_text t) (inner-free (type_text t) (type-inner t p))))
+param-cut n t h p =
+    ap two_of (pieces-cut n (type_text t) (inner-free n (name-inner n h)) ∙
+    ap (λ ps. n ∷ ps) (pieces-free (type_text t) (inner-free (type_text t) (type-inner t p))))

@@ -74,7 +74,8 @@ name-at [] k h l = absurd (omega arith)
 name-at (n ∷ ns) zero h l = solid-name n (and-first _ _ h)
 name-at (n ∷ ns) (suc k) h l = name-at ns k (and-second (is_name n) _ h) (omega arith)
 
-names-at : (ns : List (List ℕ)) (bound : ℕ) (ks : List ℕ) → all_names ns ≡ true → bound ≤ length ns → all_below bound ks ≡ true → list_all solid (map (name_at ns) ks) ≡ true
+names-at : (ns : List (List ℕ)) (bound : ℕ) (ks : List ℕ) → all_names ns ≡ true → bound ≤ length ns → all_below bound ks ≡ true
+    → list_all solid (map (name_at ns) ks) ≡ true
 names-at ns bound [] h l b = refl
 names-at ns bound (k ∷ ks) h l b =
     let m = ltb-true k bound (and-first _ _ b) in
@@ -87,7 +88,8 @@ words-solid (w ∷ ws) h = and-both _ _ (solid-decimal w (ltb-true w (2 ^ 64) (a
 func-at : (all : List (List ℕ)) (n k : ℕ) → all_names all ≡ true → n ≤ length all → nat_lt k n ≡ true → solid (name_at all k) ≡ true
 func-at all n k names l h = let m = ltb-true k n h in name-at all k names (omega arith)
 
-op-solid : (version n : ℕ) (all : List (List ℕ)) (op : OpTree) → all_names all ≡ true → n ≤ length all → is_line version n op ≡ true → words_fit op ≡ true → list_all solid (op_fields all op) ≡ true
+op-solid : (version n : ℕ) (all : List (List ℕ)) (op : OpTree) → all_names all ≡ true → n ≤ length all → is_line version n op ≡ true → words_fit op ≡ true
+    → list_all solid (op_fields all op) ≡ true
 op-solid version n all (word op) names l h fit = word-solid version n op h
 op-solid version n all (cast_int v) names l h fit = and-both _ _ (signed-solid v (and-second (version == 2) _ h)) refl
 op-solid version n all pair names l h fit = refl
@@ -109,7 +111,8 @@ op-solid version n all (partition a b) names l h fit =
     (and-both _ _ (small-solid 4096 b (and-second (nat_le 1 b) _ (and-second (within 1 4096 a) _ h)) (omega arith)) refl)
 op-solid version n all unpartition names l h fit = refl
 
-nodes-stated : (version n j : ℕ) (all items : List (List ℕ)) (ms : List NodeTree) → all_names all ≡ true → n ≤ length all → all_names items ≡ true → j + length ms ≤ length items
+nodes-stated : (version n j : ℕ) (all items : List (List ℕ)) (ms : List NodeTree) → all_names all ≡ true → n ≤ length all → all_names items ≡ true
+    → j + length ms ≤ length items
     → formed_nodes version n j ms ≡ true → all_names (node_names ms) ≡ true → nodes_fit ms ≡ true → list_all stated (map (node_fields all items) ms) ≡ true
 nodes-stated version n j all items [] names l inames il f mnames fit = refl
 nodes-stated version n j all items (m ∷ ms) names l inames il f mnames fit =
@@ -118,14 +121,20 @@ nodes-stated version n j all items (m ∷ ms) names l inames il f mnames fit =
     let below = and-second (is_line version n m.op && has_arguments m.op (length m.args)) _ line in
     let ops = op-solid version n all m.op names l (and-first _ _ line2) (and-first _ _ fit) in
     let args = names-at items j m.args inames (omega arith) below in
-    and-both _ _ (and-both _ _ (solid-name m.name (and-first _ _ mnames)) (and-both _ _ refl (all-append solid (op_fields all m.op) (map (name_at items) m.args) ops args)))
-    (nodes-stated version n (j + 1) all items ms names l inames (omega arith) (and-second (is_line version n m.op && has_arguments m.op (length m.args) && all_below j m.args) _ f) (and-second (is_name m.name) _ mnames) (and-second (words_fit m.op) _ fit))
+    and-both _ _ (and-both _ _ (solid-name m.name (and-first _ _ mnames))
+    (and-both _ _ refl (all-append solid (op_fields all m.op) (map (name_at items) m.args) ops args)))
+    (nodes-stated version n (j + 1) all items ms names l inames (omega arith)
+    (and-second (is_line version n m.op && has_arguments m.op (length m.args) && all_below j m.args) _ f) (and-second (is_name m.name) _ mnames)
+    (and-second (words_fit m.op) _ fit))
 
-params-solid : (version : ℕ) (ps : List ParamTree) → formed_params version ps ≡ true → all_names (param_names ps) ≡ true → list_all solid (map param_field ps) ≡ true
+params-solid : (version : ℕ) (ps : List ParamTree) → formed_params version ps ≡ true → all_names (param_names ps) ≡ true
+    → list_all solid (map param_field ps) ≡ true
 params-solid version [] f h = refl
 params-solid version (p ∷ ps) f h =
-    let parts = and-first (parts_in_size p.type) _ (and-first (parts_in_size p.type && nat_le (depth p.type) 6) _ (and-first (is_spelled version p.type) _ f)) in
-    and-both _ _ (solid-param p.name p.type (and-first _ _ h) parts) (params-solid version ps (and-second (is_spelled version p.type) _ f) (and-second (is_name p.name) _ h))
+    let parts = and-first (parts_in_size p.type) _ (and-first (parts_in_size p.type && nat_le (depth p.type) 6) _
+    (and-first (is_spelled version p.type) _ f)) in
+    and-both _ _ (solid-param p.name p.type (and-first _ _ h) parts)
+    (params-solid version ps (and-second (is_spelled version p.type) _ f) (and-second (is_name p.name) _ h))
 
 names-append : (ms ns : List (List ℕ)) → all_names ms ≡ true → all_names ns ≡ true → all_names (ms ++ ns) ≡ true
 names-append [] ns h g = g
@@ -143,22 +152,28 @@ end-stated : (items : List (List ℕ)) (rs : List ℕ) → 1 ≤ length rs → l
 end-stated items [] l h = absurd (omega arith)
 end-stated items (r ∷ rs) l h = and-both _ _ refl h
 
-func-stated : (version n most : ℕ) (all : List (List ℕ)) (f : FuncTree) → all_names all ≡ true → n ≤ length all → FuncFits version n most f → nodes_fit f.nodes ≡ true → list_all stated (func_statements all f) ≡ true
+func-stated : (version n most : ℕ) (all : List (List ℕ)) (f : FuncTree) → all_names all ≡ true → n ≤ length all → FuncFits version n most f
+    → nodes_fit f.nodes ≡ true → list_all stated (func_statements all f) ≡ true
 func-stated version n most all f names l fits fit =
     let inames = names-append (param_names f.params) (node_names f.nodes) fits.param_names_are fits.node_names_are in
-    let count : length (item_names f) ≡ item_count f = length-append (param_names f.params) (node_names f.nodes) ∙ (λ i. length-params f.params i + length-nodes f.nodes i) in
+    let count : length (item_names f) ≡ item_count f = length-append (param_names f.params) (node_names f.nodes) ∙
+    (λ i. length-params f.params i + length-nodes f.nodes i) in
     let some = leb-true 1 (length f.results) (and-first _ _ fits.results) in
     let results = names-at (item_names f) (item_count f) f.results inames (omega arith) fits.below in
     let nodes = nodes-stated version n (length f.params) all (item_names f) f.nodes names l inames (omega arith) fits.nodes fits.node_names_are fit in
     and-both _ _ (and-both _ _ refl (and-both _ _ (solid-name f.name fits.name) (params-solid version f.params fits.types fits.param_names_are)))
-    (all-append stated (map (node_fields all (item_names f)) f.nodes) (end_fields (item_names f) f.results ∷ []) nodes (and-both _ _ (end-stated (item_names f) f.results some results) refl))
+    (all-append stated (map (node_fields all (item_names f)) f.nodes) (end_fields (item_names f) f.results ∷ []) nodes
+    (and-both _ _ (end-stated (item_names f) f.results some results) refl))
 
-funcs-stated : (version n : ℕ) (all : List (List ℕ)) (fs : List FuncTree) → all_names all ≡ true → n + length fs ≤ length all → formed_funcs version n fs ≡ true → funcs_fit fs ≡ true → list_all stated (funcs_statements all fs) ≡ true
+funcs-stated : (version n : ℕ) (all : List (List ℕ)) (fs : List FuncTree) → all_names all ≡ true → n + length fs ≤ length all
+    → formed_funcs version n fs ≡ true → funcs_fit fs ≡ true → list_all stated (funcs_statements all fs) ≡ true
 funcs-stated version n all [] names l f fit = refl
 funcs-stated version n all (g ∷ fs) names l f fit =
     let fits = func-fits version n (most_results version fs) g (and-first _ _ f) in
-    all-append stated (func_statements all g) (funcs_statements all fs) (func-stated version n (most_results version fs) all g names (omega arith) fits (and-first _ _ fit))
-    (funcs-stated version (n + 1) all fs names (omega arith) (and-second (formed_func version n (most_results version fs) g) _ f) (and-second (nodes_fit g.nodes) _ fit))
+    all-append stated (func_statements all g) (funcs_statements all fs)
+    (func-stated version n (most_results version fs) all g names (omega arith) fits (and-first _ _ fit))
+    (funcs-stated version (n + 1) all fs names (omega arith) (and-second (formed_func version n (most_results version fs) g) _ f)
+    (and-second (nodes_fit g.nodes) _ fit))
 
 funcs-named : (version n : ℕ) (fs : List FuncTree) → formed_funcs version n fs ≡ true → all_names (func_names fs) ≡ true
 funcs-named version n [] h = refl

@@ -74,7 +74,8 @@ all-append p (x ∷ xs) ys h g = and-both _ _ (and-first _ _ h) (all-append p xs
 said-calm : (bs : List ℕ) → list_all calm bs ≡ true → said bs ≡ bs
 said-calm [] h = refl
 said-calm (b ∷ []) h =
-    ap (λ t. if t || nat_eq b 35 then [] else b ∷ []) (not-mark calm 13 refl b (and-first _ _ h)) ∙ ap (λ t. if t then [] else b ∷ []) (not-mark calm 35 refl b (and-first _ _ h))
+    ap (λ t. if t || nat_eq b 35 then [] else b ∷ []) (not-mark calm 13 refl b (and-first _ _ h)) ∙
+    ap (λ t. if t then [] else b ∷ []) (not-mark calm 35 refl b (and-first _ _ h))
 said-calm (b ∷ c ∷ bs) h =
     ap (λ t. if t then [] else b ∷ said (c ∷ bs)) (not-mark calm 35 refl b (and-first _ _ h)) ∙ ap (λ xs. b ∷ xs) (said-calm (c ∷ bs) (and-second (calm b) _ h))
 
@@ -89,7 +90,8 @@ line-ended (b ∷ bs) after h =
 inked-no_blank : (bs : List ℕ) → list_all inked bs ≡ true → no_blank bs ≡ true
 inked-no_blank [] h = refl
 inked-no_blank (b ∷ bs) h =
-    and-both _ _ (λ i. not (not-mark inked 32 refl b (and-first _ _ h) i || not-mark inked 9 refl b (and-first _ _ h) i)) (inked-no_blank bs (and-second (inked b) _ h))
+    and-both _ _ (λ i. not (not-mark inked 32 refl b (and-first _ _ h) i || not-mark inked 9 refl b (and-first _ _ h) i))
+    (inked-no_blank bs (and-second (inked b) _ h))
 
 spaced-ends : (fs : List (List ℕ)) → goes_on (spaced fs) ≡ false
 spaced-ends [] = refl
@@ -130,7 +132,8 @@ pub by-same : (n : ℕ) (o : Option State) (f g : State → Reading) → ((t : S
 by-same n None f g h = refl
 by-same n (Some t) f g h = h t
 
-line-read : (n : ℕ) (s : State) (st : List (List ℕ)) (after : List ℕ) → stated st ≡ true → reading_from (lines (joined st ++ 10 ∷ after)) n s ≡ by_state n (step n s st) (reading_from (lines after) (n + 1))
+line-read : (n : ℕ) (s : State) (st : List (List ℕ)) (after : List ℕ) → stated st ≡ true
+    → reading_from (lines (joined st ++ 10 ∷ after)) n s ≡ by_state n (step n s st) (reading_from (lines after) (n + 1))
 line-read n s [] after h = absurd cc
 line-read n s (f ∷ []) after h = absurd cc
 line-read n s (f ∷ g ∷ fs) after h =

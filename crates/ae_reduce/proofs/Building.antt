@@ -29,46 +29,69 @@ pub record IsBuild (cells : List SizedCell) (f : FoldShape) (folds : List WordFo
   pub one : ins ≡ nets ∷ []
   pub own : AreNets cells (stream_widths (stream_of (elements_layout f))) nets
 
-pub build_of : (cells : List SizedCell) (f : FoldShape) (items folds : List WordFold) (plan : Plan) (ins : List (List NetId)) (x nets : List NetId) → IsFoldShape f → folds ≡ items → items ≡ element_folds f.op (st_tree f.element) → IsPlan plan
-    → IsPlanFor (st_tree f.element) f.slots f.lanes f.period plan → AreBundles cells (stream_of (elements_layout f) ∷ []) ins → x ≡ get_or ins 0 x → nets ≡ x → IsBuild cells f folds plan ins nets
+pub build_of : (cells : List SizedCell) (f : FoldShape) (items folds : List WordFold) (plan : Plan) (ins : List (List NetId)) (x nets : List NetId)
+    → IsFoldShape f → folds ≡ items → items ≡ element_folds f.op (st_tree f.element) → IsPlan plan
+    → IsPlanFor (st_tree f.element) f.slots f.lanes f.period plan → AreBundles cells (stream_of (elements_layout f) ∷ []) ins → x ≡ get_or ins 0 x → nets ≡ x
+    → IsBuild cells f folds plan ins nets
 build_of cells f items folds plan ins x nets shape ef ei p numbers bundles is same =
     let first = first_bundle cells (stream_of (elements_layout f)) ins x nets bundles is same in
-    record { shape = shape; folds_are = ef ∙ ei; plan_are = plan_is (st_tree f.element) f.slots f.lanes f.period plan numbers; is_plan = p; one = first.0; own = first.1 }
+    record {
+      shape = shape;
+      folds_are = ef ∙ ei;
+      plan_are = plan_is (st_tree f.element) f.slots f.lanes f.period plan numbers;
+      is_plan = p;
+      one = first.0;
+      own = first.1;
+    }
 
-pub build_folds : (cells : List SizedCell) (f : FoldShape) (folds : List WordFold) (plan : Plan) (ins : List (List NetId)) (nets : List NetId) → IsBuild cells f folds plan ins nets → AreFolds folds
+pub build_folds : (cells : List SizedCell) (f : FoldShape) (folds : List WordFold) (plan : Plan) (ins : List (List NetId)) (nets : List NetId)
+    → IsBuild cells f folds plan ins nets → AreFolds folds
 build_folds cells f folds plan ins nets h = rw h.folds_are (are_folds f.op (st_tree f.element) h.shape.op h.shape.element)
 
-pub build_nets : (cells : List SizedCell) (f : FoldShape) (folds : List WordFold) (plan : Plan) (ins : List (List NetId)) (nets : List NetId) → IsBuild cells f folds plan ins nets → AreFoldNets cells folds nets
+pub build_nets : (cells : List SizedCell) (f : FoldShape) (folds : List WordFold) (plan : Plan) (ins : List (List NetId)) (nets : List NetId)
+    → IsBuild cells f folds plan ins nets → AreFoldNets cells folds nets
 build_nets cells f folds plan ins nets h = rw h.folds_are (nets_of_bundle f.op cells (st_tree f.element) f.slots f.lanes nets h.own)
 
-pub build_long : (cells : List SizedCell) (f : FoldShape) (folds : List WordFold) (plan : Plan) (ins : List (List NetId)) (nets : List NetId) → IsBuild cells f folds plan ins nets → length nets ≡ plan.lanes * plan.stride
+pub build_long : (cells : List SizedCell) (f : FoldShape) (folds : List WordFold) (plan : Plan) (ins : List (List NetId)) (nets : List NetId)
+    → IsBuild cells f folds plan ins nets → length nets ≡ plan.lanes * plan.stride
 build_long cells f folds plan ins nets h = rw h.plan_are (length-bundle cells (st_tree f.element) f.slots f.lanes nets h.own)
 
-pub build_whole : (cells : List SizedCell) (f : FoldShape) (folds : List WordFold) (plan : Plan) (ins : List (List NetId)) (nets : List NetId) → IsBuild cells f folds plan ins nets → plan.stride % length folds ≡ 0
+pub build_whole : (cells : List SizedCell) (f : FoldShape) (folds : List WordFold) (plan : Plan) (ins : List (List NetId)) (nets : List NetId)
+    → IsBuild cells f folds plan ins nets → plan.stride % length folds ≡ 0
 build_whole cells f folds plan ins nets h = rw (h.plan_are, h.folds_are) (whole_stride f.op (st_tree f.element))
 
-pub build_cells : (cells : List SizedCell) (f : FoldShape) (folds : List WordFold) (plan : Plan) (ins : List (List NetId)) (nets : List NetId) (old new : Circuit) → IsBuild cells f folds plan ins nets → AddsUpTo old new (reduce_cells plan)
+pub build_cells : (cells : List SizedCell) (f : FoldShape) (folds : List WordFold) (plan : Plan) (ins : List (List NetId)) (nets : List NetId)
+    (old new : Circuit) → IsBuild cells f folds plan ins nets → AddsUpTo old new (reduce_cells plan)
     → length new.cells ≤ length old.cells + (reduce_part f).most_cells
 build_cells cells f folds plan ins nets old new h up =
     let low : plan.levels ≤ plan.lanes = levels_below plan.lanes plan.levels h.is_plan.wide h.is_plan.least in
     let made : AddsUpTo old new (reduce_cells (plan_for f)) = rw h.plan_are at up in
     let below : log_up f.lanes ≤ f.lanes = rw h.plan_are at low in
     let placed : 1 ≤ element_columns (st_tree f.element) = rw h.plan_are at h.is_plan.placed in
-    let bound = cells_bound f.slots f.lanes (log_up f.lanes) (element_columns (st_tree f.element)) (plan_for f).inner (reduce_part f).latency h.shape.lanes_some placed below in
+    let bound = cells_bound f.slots f.lanes (log_up f.lanes) (element_columns (st_tree f.element)) (plan_for f).inner
+    (reduce_part f).latency h.shape.lanes_some placed below in
     omega (arith, made.cells, bound)
 
-pub build_products : (cells : List SizedCell) (f : FoldShape) (folds : List WordFold) (plan : Plan) (ins : List (List NetId)) (nets : List NetId) → IsBuild cells f folds plan ins nets → reduce_products plan (products_in folds) ≡ (reduce_part f).products
+pub build_products : (cells : List SizedCell) (f : FoldShape) (folds : List WordFold) (plan : Plan) (ins : List (List NetId)) (nets : List NetId)
+    → IsBuild cells f folds plan ins nets → reduce_products plan (products_in folds) ≡ (reduce_part f).products
 build_products cells f folds plan ins nets h =
-    rw (h.plan_are, h.folds_are, all_products f.op (st_tree f.element) h.shape.op h.shape.element) (products_are f.op f.slots f.lanes (element_columns (st_tree f.element)) h.shape.lanes_some)
+    rw (h.plan_are, h.folds_are, all_products f.op (st_tree f.element) h.shape.op h.shape.element)
+    (products_are f.op f.slots f.lanes (element_columns (st_tree f.element)) h.shape.lanes_some)
 
-pub build_bundle : (cells new : List SizedCell) (rst arrival : ℕ) (f : FoldShape) (folds : List WordFold) (plan : Plan) (ins : List (List NetId)) (nets outs out : List NetId) → IsBuild cells f folds plan ins nets → out ≡ outs → length outs ≡ plan.stride
-    → AreScans new rst folds nets plan arrival (plan.levels + wait_of plan.slots) ((plan.lanes - 1) * plan.stride) outs → AreNets new (stream_widths (stream_of (st_tree f.element))) out
+pub build_bundle : (cells new : List SizedCell) (rst arrival : ℕ) (f : FoldShape) (folds : List WordFold) (plan : Plan) (ins : List (List NetId))
+    (nets outs out : List NetId) → IsBuild cells f folds plan ins nets → out ≡ outs → length outs ≡ plan.stride
+    → AreScans new rst folds nets plan arrival (plan.levels + wait_of plan.slots) ((plan.lanes - 1) * plan.stride) outs
+    → AreNets new (stream_widths (stream_of (st_tree f.element))) out
 build_bundle cells new rst arrival f folds plan ins nets outs out h is long scans =
-    let own : AreFoldNets new folds outs = scans_nets new rst folds nets plan arrival (plan.levels + wait_of plan.slots) ((plan.lanes - 1) * plan.stride) (plan.lanes - 1) outs (build_folds cells f folds plan ins nets h).some (build_whole cells f folds plan ins nets h) refl scans in
+    let own : AreFoldNets new folds outs = scans_nets new rst folds nets plan arrival (plan.levels + wait_of plan.slots) ((plan.lanes - 1) * plan.stride)
+    (plan.lanes - 1) outs (build_folds cells f folds plan ins nets h).some (build_whole cells f folds plan ins nets h) refl scans in
     rw is (element_bundle f.op new (st_tree f.element) outs (rw h.plan_are at long) (rw h.folds_are at own))
 
-pub build_law : (cells new : List SizedCell) (rst arrival : ℕ) (f : FoldShape) (folds : List WordFold) (plan : Plan) (ins : List (List NetId)) (nets outs out : List NetId) → IsBuild cells f folds plan ins nets → out ≡ outs → length outs ≡ plan.stride
-    → AreScans new rst folds nets plan arrival (plan.levels + wait_of plan.slots) ((plan.lanes - 1) * plan.stride) outs → KeepsLaw new rst arrival (reduce_part f) ins out
+pub build_law : (cells new : List SizedCell) (rst arrival : ℕ) (f : FoldShape) (folds : List WordFold) (plan : Plan) (ins : List (List NetId))
+    (nets outs out : List NetId) → IsBuild cells f folds plan ins nets → out ≡ outs → length outs ≡ plan.stride
+    → AreScans new rst folds nets plan arrival (plan.levels + wait_of plan.slots) ((plan.lanes - 1) * plan.stride) outs
+    → KeepsLaw new rst arrival (reduce_part f) ins out
 build_law cells new rst arrival f folds plan ins nets outs out h is long scans =
     rw (is, h.one)
-    (reduce_law new rst arrival f nets outs h.shape (length-bundle cells (st_tree f.element) f.slots f.lanes nets h.own) (rw h.plan_are at long) (rw (h.plan_are, h.folds_are) at scans))
+    (reduce_law new rst arrival f nets outs h.shape (length-bundle cells (st_tree f.element) f.slots f.lanes nets h.own) (rw h.plan_are at long)
+    (rw (h.plan_are, h.folds_are) at scans))

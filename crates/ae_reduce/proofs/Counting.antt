@@ -19,12 +19,14 @@ pub reduce_adds : (a b c d : Circuit) (plan : Plan) (mark : Option NetId) (p n :
     → Adds c d (marks_in mark * (plan.stride * (plan.inner + 9) + 0 * 10)) (marks_in mark * (n * p)) → Adds a d (reduce_cells plan) (reduce_products plan p)
 reduce_adds a b c d plan mark p n w long x y z =
     let s : plan.stride * (plan.inner + 9) + 0 * 10 ≡ plan.stride * (plan.inner + 9) = omega arith in
-    let cells : marks_in mark * (plan.stride * (plan.inner + 9) + 0 * 10) ≡ wait_of plan.slots * (plan.stride * (plan.inner + 9)) = ap (λ k. marks_in mark * k) s ∙ ap (λ k. k * (plan.stride * (plan.inner + 9))) w in
+    let cells : marks_in mark * (plan.stride * (plan.inner + 9) + 0 * 10) ≡ wait_of plan.slots * (plan.stride * (plan.inner + 9)) = ap
+    (λ k. marks_in mark * k) s ∙ ap (λ k. k * (plan.stride * (plan.inner + 9))) w in
     let muls : marks_in mark * (n * p) ≡ wait_of plan.slots * (plan.stride * p) = ap (λ k. marks_in mark * (k * p)) long ∙ ap (λ k. k * (plan.stride * p)) w in
     adds_is (omega arith) (omega arith) (adds_trans (adds_trans x y) z)
 
 cells_by : (b : Bool) (lanes levels stride inner latency : ℕ) → 1 ≤ lanes → 1 ≤ stride → levels ≤ lanes
-    → 21 + (9 * (lanes * stride) + levels * stride) + (if b then 1 else 0) * (stride * (inner + 9)) ≤ 16 * (1 + latency + stride * (2 * lanes + (if b then inner + 2 else 0)))
+    → 21 + (9 * (lanes * stride) + levels * stride) + (if
+    b then 1 else 0) * (stride * (inner + 9)) ≤ 16 * (1 + latency + stride * (2 * lanes + (if b then inner + 2 else 0)))
 cells_by true lanes levels stride inner latency some placed l =
     let least : 1 * stride ≤ lanes * stride = mul-le-mul_right stride some in
     let up : levels * stride ≤ lanes * stride = mul-le-mul_right stride l in
@@ -46,11 +48,13 @@ cells_by false lanes levels stride inner latency some placed l =
 
 -- within the bound of the part
 pub cells_bound : (slots lanes levels stride inner latency : ℕ) → 1 ≤ lanes → 1 ≤ stride → levels ≤ lanes
-    → 21 + (9 * (lanes * stride) + levels * stride) + wait_of slots * (stride * (inner + 9)) ≤ 16 * (1 + latency + stride * (2 * lanes + (if nat_lt 1 slots then inner + 2 else 0)))
+    → 21 + (9 * (lanes * stride) + levels * stride) + wait_of
+    slots * (stride * (inner + 9)) ≤ 16 * (1 + latency + stride * (2 * lanes + (if nat_lt 1 slots then inner + 2 else 0)))
 cells_bound slots lanes levels stride inner latency some placed l = cells_by (nat_lt 1 slots) lanes levels stride inner latency some placed l
 
 products_by : (product more : Bool) (lanes stride : ℕ) → 1 ≤ lanes
-    → (lanes * stride - stride) * (if product then 1 else 0) + (if more then 1 else 0) * (stride * (if product then 1 else 0)) ≡ (if product then stride * (lanes - 1 + (if more then 1 else 0)) else 0)
+    → (lanes * stride - stride) * (if product then 1 else 0) + (if more then 1 else 0) * (stride * (if product then 1 else 0)) ≡ (if
+    product then stride * (lanes - 1 + (if more then 1 else 0)) else 0)
 products_by true true lanes stride some =
     let d1 : stride * (lanes - 1 + 1) ≡ stride * (lanes - 1) + stride * 1 = mul-add stride (lanes - 1) 1 in
     let d2 : stride * (lanes - 1) ≡ stride * lanes - stride * 1 = mul-sub stride lanes 1 in
@@ -67,5 +71,7 @@ products_by false more lanes stride some =
     let none : (if more then 1 else 0) * (stride * 0) ≡ 0 = ap (λ k. (if more then 1 else 0) * k) (let z : stride * 0 ≡ 0 = omega arith in z) ∙ omega arith in
     omega arith
 
-pub products_are : (op : WordOp) (slots lanes stride : ℕ) → 1 ≤ lanes → (lanes * stride - stride) * product_of op + wait_of slots * (stride * product_of op) ≡ (if is_product op then stride * (lanes - 1 + (if nat_lt 1 slots then 1 else 0)) else 0)
+pub products_are : (op : WordOp) (slots lanes stride : ℕ) → 1 ≤ lanes
+    → (lanes * stride - stride) * product_of op + wait_of
+    slots * (stride * product_of op) ≡ (if is_product op then stride * (lanes - 1 + (if nat_lt 1 slots then 1 else 0)) else 0)
 products_are op slots lanes stride some = products_by (is_product op) (nat_lt 1 slots) lanes stride some

@@ -26,7 +26,8 @@ use Rattle.ae_fold.proofs.Feeding.{adds_is, up_trans}
 use Rattle.ae_fold.proofs.Looping.{fold_op}
 use Rattle.ae_reduce.specs.Trees.{IsPair, ArePairs, FoldAlike}
 
-pub pair_both : (cells : List SizedCell) (fold : WordFold) (nets : List NetId) (left right : ℕ) (a b y : NetId) → right < length nets → a.0 ≡ net_at nets left → b.0 ≡ net_at nets right → IsNet cells y.0 fold.width
+pub pair_both : (cells : List SizedCell) (fold : WordFold) (nets : List NetId) (left right : ℕ) (a b y : NetId) → right < length nets → a.0 ≡ net_at nets left
+    → b.0 ≡ net_at nets right → IsNet cells y.0 fold.width
     → InEveryRun cells (λ run. IsJoined run y.0 fold.op fold.width a.0 b.0) → IsPair cells fold nets left right y.0
 pair_both cells fold nets left right a b y l ea eb net words = record {
   net = net;
@@ -34,7 +35,8 @@ pair_both cells fold nets left right a b y l ea eb net words = record {
   one = λ past. absurd (omega arith);
 }
 
-pub pair_one : (old cells : List SizedCell) (fold : WordFold) (nets : List NetId) (left right : ℕ) (a y : NetId) → length nets ≤ right → a.0 ≡ net_at nets left → IsNet cells y.0 fold.width
+pub pair_one : (old cells : List SizedCell) (fold : WordFold) (nets : List NetId) (left right : ℕ) (a y : NetId) → length nets ≤ right → a.0 ≡ net_at nets left
+    → IsNet cells y.0 fold.width
     → InEveryRunFrom (length old) cells (λ run. IsNextOf run y.0 a.0) → IsPair cells fold nets left right y.0
 pair_one old cells fold nets left right a y l ea net words = record {
   net = net;
@@ -42,7 +44,8 @@ pair_one old cells fold nets left right a y l ea net words = record {
   one = λ past all e run r. rw (← ea) (words all (carries_extends (length old) e) run r);
 }
 
-pub pair_grows : {a b : List SizedCell} {fold : WordFold} {left right y : ℕ} {nets : List NetId} → Extends a b → IsPair a fold nets left right y → IsPair b fold nets left right y
+pub pair_grows : {a b : List SizedCell} {fold : WordFold} {left right y : ℕ} {nets : List NetId} → Extends a b → IsPair a fold nets left right y
+    → IsPair b fold nets left right y
 pair_grows g h = record {
   net = net_later g h.net;
   both = λ l all e run r. h.both l all (extends_trans g e) run r;
@@ -52,19 +55,22 @@ pair_grows g h = record {
 pub pairs_none : (cells : List SizedCell) (folds : List WordFold) (nets : List NetId) (stride : ℕ) → ArePairs cells folds nets stride []
 pairs_none cells folds nets stride = record { each = λ q y h. (let no : q < 0 = slice_get_within [] q y h in absurd (omega arith)) }
 
-pub pairs_more : (a b : List SizedCell) (folds : List WordFold) (nets : List NetId) (stride q : ℕ) (outs : List NetId) (y : NetId) → length outs ≡ q → Extends a b → ArePairs a folds nets stride outs
+pub pairs_more : (a b : List SizedCell) (folds : List WordFold) (nets : List NetId) (stride q : ℕ) (outs : List NetId) (y : NetId) → length outs ≡ q
+    → Extends a b → ArePairs a folds nets stride outs
     → IsPair b (fold_at folds q) nets (q + q / stride * stride) (q + q / stride * stride + stride) y.0 → ArePairs b folds nets stride (outs ++ y ∷ [])
 pairs_more a b folds nets stride q outs y long g h new = record {
   each = λ k z found. elim (get_push_cases outs y k z found) [
     | inl v ↦ pair_grows g (h.each k z v.0)
-    | inr v ↦ (let at : k ≡ q = v.0 ∙ long in rw at (subst (λ (i : NetId). IsPair b (fold_at folds q) nets (q + q / stride * stride) (q + q / stride * stride + stride) i.0) v.1 new))
+    | inr v ↦ (let at : k ≡ q = v.0 ∙ long in rw at (subst
+        (λ (i : NetId). IsPair b (fold_at folds q) nets (q + q / stride * stride) (q + q / stride * stride + stride) i.0) v.1 new))
   ];
 }
 
 there : (nets : List NetId) (i : ℕ) → i < length nets → slice_get nets i ≡ Some (get_or nets i (record { 0 = 0 }))
 there nets i l = slice_get-get_or nets i (record { 0 = 0 }) l
 
-pub pairs_nets : (cells : List SizedCell) (folds : List WordFold) (nets : List NetId) (stride : ℕ) (outs : List NetId) → ArePairs cells folds nets stride outs → AreFoldNets cells folds outs
+pub pairs_nets : (cells : List SizedCell) (folds : List WordFold) (nets : List NetId) (stride : ℕ) (outs : List NetId) → ArePairs cells folds nets stride outs
+    → AreFoldNets cells folds outs
 pairs_nets cells folds nets stride outs h = record { each = λ q l. (h.each q _ (there outs q l)).net }
 
 -- ---- the place of a pair
@@ -125,7 +131,8 @@ right_past lanes stride q pos l =
     ]
 
 -- how many of the first q pairs have a right one
-pub paired_more : (lanes stride q total : ℕ) → 1 ≤ stride → total ≡ lanes * stride → min q (lanes / 2 * stride) + bit (nat_lt (q + q / stride * stride + stride) total) ≡ min (q + 1) (lanes / 2 * stride)
+pub paired_more : (lanes stride q total : ℕ) → 1 ≤ stride → total ≡ lanes * stride
+    → min q (lanes / 2 * stride) + bit (nat_lt (q + q / stride * stride + stride) total) ≡ min (q + 1) (lanes / 2 * stride)
 paired_more lanes stride q total pos e = elim (cases_lt q (lanes / 2 * stride)) [
   | inl less ↦
       let r = right_there lanes stride q pos less in
@@ -145,7 +152,8 @@ paired_more lanes stride q total pos e = elim (cases_lt q (lanes / 2 * stride)) 
 
 -- ---- one level more
 
-fit_row : (all : List SizedCell) (run : List Clock) (t : ℕ) (folds : List WordFold) (nets : List NetId) (turns stride lanes p : ℕ) → IsRun all run → t < length run → AreFoldNets all folds nets → 1 ≤ length folds → stride ≡ turns * length folds → length nets ≡ lanes * stride → 1 ≤ lanes → p < stride
+fit_row : (all : List SizedCell) (run : List Clock) (t : ℕ) (folds : List WordFold) (nets : List NetId) (turns stride lanes p : ℕ) → IsRun all run
+    → t < length run → AreFoldNets all folds nets → 1 ≤ length folds → stride ≡ turns * length folds → length nets ≡ lanes * stride → 1 ≤ lanes → p < stride
     → Fit (fold_at folds p).width (row_word run t nets stride p) (lanes - 1)
 fit_row all run t folds nets turns stride lanes p r l h some whole long wide lp = record {
   each = λ i li.
@@ -160,8 +168,10 @@ fit_row all run t folds nets turns stride lanes p r l h some whole long wide lp 
 pub alike_none : (cells : List SizedCell) (folds : List WordFold) (stride lanes : ℕ) (nets : List NetId) → FoldAlike cells folds stride lanes nets lanes 0 nets
 alike_none cells folds stride lanes nets = λ all e run r p t lp l. (let z : t + 0 ≡ t = omega arith in rw z refl)
 
-pub alike_more : (a b : List SizedCell) (folds : List WordFold) (turns stride lanes : ℕ) (first : List NetId) (count d : ℕ) (nets outs : List NetId) → Extends a b → AreFolds folds → stride ≡ turns * length folds → AreFoldNets a folds nets → 1 ≤ count
-    → length nets ≡ count * stride → length outs ≡ (count + 1) / 2 * stride → FoldAlike a folds stride lanes first count d nets → ArePairs b folds nets stride outs → FoldAlike b folds stride lanes first ((count + 1) / 2) (d + 1) outs
+pub alike_more : (a b : List SizedCell) (folds : List WordFold) (turns stride lanes : ℕ) (first : List NetId) (count d : ℕ) (nets outs : List NetId)
+    → Extends a b → AreFolds folds → stride ≡ turns * length folds → AreFoldNets a folds nets → 1 ≤ count
+    → length nets ≡ count * stride → length outs ≡ (count + 1) / 2 * stride → FoldAlike a folds stride lanes first count d nets
+    → ArePairs b folds nets stride outs → FoldAlike b folds stride lanes first ((count + 1) / 2) (d + 1) outs
 alike_more a b folds turns stride lanes first count d nets outs g fs whole own some long_in long_out before pairs = λ all e run r p t lp l.
     let op = (fold_at folds p).op in
     let w = (fold_at folds p).width in
@@ -170,7 +180,8 @@ alike_more a b folds turns stride lanes first count d nets outs g fs whole own s
     let later = extends_trans g e in
     let f : ℕ → ℕ = row_word run (t + d) nets stride p in
     let h : ℕ → ℕ = row_word run (t + d + 1) outs stride p in
-    let at_pair : (i : ℕ) → i < (count + 1) / 2 → IsPair b (fold_at folds p) nets (2 * i * stride + p) (2 * i * stride + p + stride) (net_at outs (i * stride + p)) = λ i li.
+    let at_pair : (i : ℕ) → i < (count + 1) / 2 → IsPair b (fold_at folds p) nets (2 * i * stride + p) (2 * i * stride + p + stride)
+    (net_at outs (i * stride + p)) = λ i li.
     let below : i * stride + p < length outs = omega (arith, mul-add-lt i stride p ((count + 1) / 2) li lp) in
     let turn : i * stride ≡ i * (turns * length folds) = ap (λ n. i * n) whole in
     let assoc : i * turns * length folds ≡ i * (turns * length folds) = mul_assoc i turns (length folds) in
@@ -190,12 +201,14 @@ alike_more a b folds turns stride lanes first count d nets outs g fs whole own s
     let last : (2 * i + 1) * stride ≡ count * stride = ap (λ n. n * stride) is in
     (at_pair i (omega arith)).one (omega arith) all e run r (t + d) l1
     in
-    let fit = fit_row all run (t + d) folds nets turns stride count p r (omega arith) (record { each = λ q lq. net_later later (own.each q lq) }) fs.some whole long_in some lp in
+    let fit = fit_row all run (t + d) folds nets turns stride count p r (omega arith)
+    (record { each = λ q lq. net_later later (own.each q lq) }) fs.some whole long_in some lp in
     let step : fold_to op w h ((count + 1) / 2 - 1) ≡ fold_to op w f (count - 1) = pairs_fold op w f h count (fold_op folds p fs) fit both one some in
     rw s (step ∙ before all later run r p t lp (omega arith))
 
 -- of one lane
-pub alike_end : (cells : List SizedCell) (folds : List WordFold) (turns stride lanes : ℕ) (first : List NetId) (count d from : ℕ) (outs : List NetId) → 1 ≤ length folds → stride ≡ turns * length folds → count ≡ 1 → length outs ≡ stride → from ≡ (lanes - 1) * stride
+pub alike_end : (cells : List SizedCell) (folds : List WordFold) (turns stride lanes : ℕ) (first : List NetId) (count d from : ℕ) (outs : List NetId)
+    → 1 ≤ length folds → stride ≡ turns * length folds → count ≡ 1 → length outs ≡ stride → from ≡ (lanes - 1) * stride
     → AreFoldNets cells folds outs → FoldAlike cells folds stride lanes first count d outs → AreOverLanes cells folds first stride d from outs
 alike_end cells folds turns stride lanes first count d from outs some whole is long begin own h = record {
   each = λ q lq.
@@ -228,7 +241,8 @@ halved n levels i l h =
 
 -- ---- the cells and products of pairs and levels
 
-pub adds_pair : {a b c : Circuit} (lanes stride q total muls own : ℕ) → 1 ≤ stride → total ≡ lanes * stride → own ≡ muls → Adds a b (q + 8 * min q (lanes / 2 * stride)) (min q (lanes / 2 * stride) * muls)
+pub adds_pair : {a b c : Circuit} (lanes stride q total muls own : ℕ) → 1 ≤ stride → total ≡ lanes * stride → own ≡ muls
+    → Adds a b (q + 8 * min q (lanes / 2 * stride)) (min q (lanes / 2 * stride) * muls)
     → Adds b c (1 + 8 * bit (nat_lt (q + q / stride * stride + stride) total)) (bit (nat_lt (q + q / stride * stride + stride) total) * own)
     → Adds a c (q + 1 + 8 * min (q + 1) (lanes / 2 * stride)) (min (q + 1) (lanes / 2 * stride) * muls)
 adds_pair lanes stride q total muls own pos long e p r =
@@ -252,10 +266,12 @@ uneven lanes stride =
     omega arith
 
 -- a pair that was not added
-pub up_pair : {a b c : Circuit} (lanes stride q muls : ℕ) → 1 ≤ stride → q < (lanes + 1) / 2 * stride → Adds a b (q + 8 * min q (lanes / 2 * stride)) muls → AddsUpTo b c 9 → AddsUpTo a c (9 * (lanes * stride))
+pub up_pair : {a b c : Circuit} (lanes stride q muls : ℕ) → 1 ≤ stride → q < (lanes + 1) / 2 * stride → Adds a b (q + 8 * min q (lanes / 2 * stride)) muls
+    → AddsUpTo b c 9 → AddsUpTo a c (9 * (lanes * stride))
 up_pair lanes stride q muls pos l p r = let h = halves lanes stride in up_trans (9 * (lanes * stride)) (omega arith) p r
 
-pub adds_level : {a b c : Circuit} (lanes count stride i muls : ℕ) → count * stride ≤ lanes * stride → Adds a b (9 * (lanes * stride - count * stride) + i * stride) ((lanes * stride - count * stride) * muls)
+pub adds_level : {a b c : Circuit} (lanes count stride i muls : ℕ) → count * stride ≤ lanes * stride
+    → Adds a b (9 * (lanes * stride - count * stride) + i * stride) ((lanes * stride - count * stride) * muls)
     → Adds b c ((count + 1) / 2 * stride + 8 * (count / 2 * stride)) (count / 2 * stride * muls)
     → Adds a c (9 * (lanes * stride - (count + 1) / 2 * stride) + (i + 1) * stride) ((lanes * stride - (count + 1) / 2 * stride) * muls)
 adds_level lanes count stride i muls less p r =
@@ -268,20 +284,23 @@ adds_level lanes count stride i muls less p r =
     let one : (i + 1) * stride ≡ i * stride + 1 * stride = add-mul i 1 stride in
     rw e (adds_is (omega arith) (omega arith) (adds_trans p r))
 
-pub up_level : {a b c : Circuit} (lanes count stride i levels muls : ℕ) → count * stride ≤ lanes * stride → i < levels → Adds a b (9 * (lanes * stride - count * stride) + i * stride) muls → AddsUpTo b c (9 * (count * stride))
+pub up_level : {a b c : Circuit} (lanes count stride i levels muls : ℕ) → count * stride ≤ lanes * stride → i < levels
+    → Adds a b (9 * (lanes * stride - count * stride) + i * stride) muls → AddsUpTo b c (9 * (count * stride))
     → AddsUpTo a c (9 * (lanes * stride) + levels * stride)
 up_level lanes count stride i levels muls less l p r =
     let up : i * stride ≤ levels * stride = mul-le-mul_right stride (let n : i ≤ levels = omega arith in n) in
     up_trans (9 * (lanes * stride) + levels * stride) (omega arith) p r
 
 -- the nets of a pair
-pub left_net : (cells : List SizedCell) (folds : List WordFold) (nets : List NetId) (lanes stride q : ℕ) → AreFolds folds → AreFoldNets cells folds nets → length nets ≡ lanes * stride → 1 ≤ stride → stride % length folds ≡ 0 → q < (lanes + 1) / 2 * stride
+pub left_net : (cells : List SizedCell) (folds : List WordFold) (nets : List NetId) (lanes stride q : ℕ) → AreFolds folds → AreFoldNets cells folds nets
+    → length nets ≡ lanes * stride → 1 ≤ stride → stride % length folds ≡ 0 → q < (lanes + 1) / 2 * stride
     → IsNet cells (net_at nets (q + q / stride * stride)) (fold_at folds q).width
 left_net cells folds nets lanes stride q fs own long pos whole l =
     let below = left_below lanes stride q pos l in
     rw (← same_place folds stride (q / stride) q fs.some whole) (own.each (q + q / stride * stride) (omega (arith, below)))
 
-pub right_net : (cells : List SizedCell) (folds : List WordFold) (nets : List NetId) (stride q : ℕ) → AreFolds folds → AreFoldNets cells folds nets → stride % length folds ≡ 0 → q + q / stride * stride + stride < length nets
+pub right_net : (cells : List SizedCell) (folds : List WordFold) (nets : List NetId) (stride q : ℕ) → AreFolds folds → AreFoldNets cells folds nets
+    → stride % length folds ≡ 0 → q + q / stride * stride + stride < length nets
     → IsNet cells (net_at nets (q + q / stride * stride + stride)) (fold_at folds q).width
 right_net cells folds nets stride q fs own whole l =
     let one : (q / stride + 1) * stride ≡ q / stride * stride + 1 * stride = add-mul (q / stride) 1 stride in

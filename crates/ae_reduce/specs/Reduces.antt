@@ -20,14 +20,18 @@ reduce_part f = record {
   ins = stream_of (elements_layout f) ∷ [];
   out = stream_of (st_tree f.element);
   means = λ vs. folded f.op (st_tree f.element) (f.slots * f.lanes) (get_or vs 0 []);
-  most_cells = 16 * (1 + reduce_latency f + element_columns (st_tree f.element) * (2 * f.lanes + (if nat_lt 1 f.slots then time (st_tree f.element) + 2 else 0)));
-  products = if is_product f.op then element_columns (st_tree f.element) * (f.lanes - 1 + (if nat_lt 1 f.slots then 1 else 0)) else 0;
+  most_cells = 16 * (1 + reduce_latency f + element_columns
+      (st_tree f.element) * (2 * f.lanes + (if nat_lt 1 f.slots then time (st_tree f.element) + 2 else 0)));
+  products = if is_product f.op then element_columns
+      (st_tree f.element) * (f.lanes - 1 + (if nat_lt 1 f.slots then 1 else 0)) else 0;
   most_memories = 0;
 }
 
 -- the most cells of its circuit: the mark, the tree and the loops
 abbrev pub reduce_cells : Plan → ℕ
-reduce_cells plan = 21 + (9 * (plan.lanes * plan.stride) + plan.levels * plan.stride) + wait_of plan.slots * (plan.stride * (plan.inner + 9))
+reduce_cells plan =
+    21 + (9 * (plan.lanes * plan.stride) + plan.levels * plan.stride) + wait_of
+    plan.slots * (plan.stride * (plan.inner + 9))
 
 -- its products, where an operator has so many
 abbrev pub reduce_products : Plan → (products : ℕ) → ℕ

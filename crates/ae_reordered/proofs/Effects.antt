@@ -75,24 +75,32 @@ module _ (ns : List NetTree) (c : ModuleClock) where
     | true ↦ same_self k next
     | false ↦ kept taken next k h
   ]
-  kept (either test taken otherwise) next k h = elim (own_value ns c test == 0) as (λ t. AreSame k (if t then after_stmt ns c otherwise next else after_stmt ns c taken next) next) [
-    | true ↦ kept otherwise next k (λ a. h (among_right k (stmt_targets taken) (stmt_targets otherwise) a))
-    | false ↦ kept taken next k (λ a. h (among_left k (stmt_targets taken) (stmt_targets otherwise) a))
-  ]
+  kept (either test taken otherwise) next k h = elim (own_value ns c test == 0) as
+      (λ t. AreSame k (if t then after_stmt ns c otherwise next else after_stmt ns c taken next) next) [
+        | true ↦ kept otherwise next k (λ a. h (among_right k (stmt_targets taken) (stmt_targets otherwise) a))
+        | false ↦ kept taken next k (λ a. h (among_left k (stmt_targets taken) (stmt_targets otherwise) a))
+      ]
   kept block_end next k h = same_self k next
   kept (block_more first rest) next k h =
-      same_then k _ (after_stmt ns c first next) next (kept rest (after_stmt ns c first next) k (λ a. h (among_right k (stmt_targets first) (stmt_targets rest) a))) (kept first next k (λ a. h (among_left k (stmt_targets first) (stmt_targets rest) a)))
+      same_then k _ (after_stmt ns c first next) next (kept rest (after_stmt ns c first next) k
+      (λ a. h (among_right k (stmt_targets first) (stmt_targets rest) a)))
+      (kept first next k (λ a. h (among_left k (stmt_targets first) (stmt_targets rest) a)))
 
   -- what a name has behind a statement hangs on what it has before, and on no other name's
   alike : (s : StmtTree) (next other : ModuleClock) (k : List ℕ) → AreSame k next other → AreSame k (after_stmt ns c s next) (after_stmt ns c s other)
   alike (set n value) next other k h = record { word = ap (λ w. if bytes_eq k n then assigned ns c n value else w) h.word; store = h.store }
-  alike (put n at value) next other k h = record { word = h.word; store = ap (λ l. if bytes_eq k n then slice_set l (own_value ns c at) (assigned ns c n value) else l) h.store }
-  alike (when test taken) next other k h = elim (own_value ns c test == 0) as (λ t. AreSame k (if t then next else after_stmt ns c taken next) (if t then other else after_stmt ns c taken other)) [
-    | true ↦ h
-    | false ↦ alike taken next other k h
-  ]
+  alike (put n at value) next other k h = record {
+    word = h.word;
+    store = ap (λ l. if bytes_eq k n then slice_set l (own_value ns c at) (assigned ns c n value) else l) h.store;
+  }
+  alike (when test taken) next other k h = elim (own_value ns c test == 0) as
+      (λ t. AreSame k (if t then next else after_stmt ns c taken next) (if t then other else after_stmt ns c taken other)) [
+        | true ↦ h
+        | false ↦ alike taken next other k h
+      ]
   alike (either test taken otherwise) next other k h =
-      elim (own_value ns c test == 0) as (λ t. AreSame k (if t then after_stmt ns c otherwise next else after_stmt ns c taken next) (if t then after_stmt ns c otherwise other else after_stmt ns c taken other)) [
+      elim (own_value ns c test == 0) as (λ t. AreSame k (if t then after_stmt ns c otherwise next else after_stmt ns c taken next)
+      (if t then after_stmt ns c otherwise other else after_stmt ns c taken other)) [
         | true ↦ alike otherwise next other k h
         | false ↦ alike taken next other k h
       ]
@@ -109,20 +117,25 @@ module _ (ns : List NetTree) (c : ModuleClock) where
   item_alike (assigns drives) next other k h = h
   item_alike (always clock body) next other k h = alike body next other k h
 
-  pub none_assigns : (is : List ItemTree) (next : ModuleClock) (k : List ℕ) → ((i : ItemTree) → Among i is → Among k (item_targets i) → ⊥) → AreSame k (after_items ns c is next) next
+  pub none_assigns : (is : List ItemTree) (next : ModuleClock) (k : List ℕ) → ((i : ItemTree) → Among i is → Among k (item_targets i) → ⊥)
+      → AreSame k (after_items ns c is next) next
   none_assigns [] next k h = same_self k next
-  none_assigns (j ∷ js) next k h = same_then k _ (after_item ns c j next) next (none_assigns js (after_item ns c j next) k (λ i a. h i (inr a))) (item_kept j next k (h j (inl refl)))
+  none_assigns (j ∷ js) next k h = same_then k _ (after_item ns c j next) next (none_assigns js (after_item ns c j next) k (λ i a. h i (inr a)))
+      (item_kept j next k (h j (inl refl)))
 
-  pub one_assigns : (is : List ItemTree) (next : ModuleClock) (k : List ℕ) (i : ItemTree) → sum_by (hit k) is ≤ 1 → Among i is → Among k (item_targets i) → AreSame k (after_items ns c is next) (after_item ns c i next)
+  pub one_assigns : (is : List ItemTree) (next : ModuleClock) (k : List ℕ) (i : ItemTree) → sum_by (hit k) is ≤ 1 → Among i is → Among k (item_targets i)
+      → AreSame k (after_items ns c is next) (after_item ns c i next)
   one_assigns [] next k i few a h = absurd a
   one_assigns (j ∷ js) next k i few a h = elim a [
     | inl e ↦
         let here : Among k (item_targets j) = subst (λ (x : ItemTree). Among k (item_targets x)) (sym e) h in
         subst (λ (x : ItemTree). AreSame k (after_items ns c js (after_item ns c j next)) (after_item ns c x next)) e
-        (none_assigns js (after_item ns c j next) k (λ x b g. (let more = hits_some k x js b g in absurd (omega (arith, few, more, hits_more k j js, hit_one k j here)))))
+        (none_assigns js (after_item ns c j next) k (λ x b g.
+        (let more = hits_some k x js b g in absurd (omega (arith, few, more, hits_more k j js, hit_one k j here)))))
     | inr later ↦
         let some = hits_some k i js later h in
         let other : Among k (item_targets j) → ⊥ = λ g. absurd (omega (arith, few, some, hits_more k j js, hit_one k j g)) in
-        same_then k _ (after_item ns c i (after_item ns c j next)) _ (one_assigns js (after_item ns c j next) k i (omega (arith, few, hits_more k j js)) later h)
+        same_then k _ (after_item ns c i (after_item ns c j next)) _
+        (one_assigns js (after_item ns c j next) k i (omega (arith, few, hits_more k j js)) later h)
         (item_alike i (after_item ns c j next) next k (item_kept j next k other))
   ]

@@ -30,14 +30,16 @@ map_same (x ∷ xs) = ap (λ l. x ∷ l) (map_same xs)
 pub among_other : {X : Type 0} (xs ys : List X) (x : X) → IsPermutation xs ys → Among x xs → Among x ys
 among_other xs ys x p a =
     let own : All (λ y. Among y ys) ys = λ k d inside. among_from _ ys k (slice_get-get_or ys k d inside) in
-    let moved : All (λ y. Among y ys) (map (λ y. y) xs) = All-map-IsPermutation (λ y. y) (λ y. Among y ys) ys xs (IsPermutation-sym xs ys p) (subst (All (λ y. Among y ys)) (sym (map_same ys)) own) in
+    let moved : All (λ y. Among y ys) (map (λ y. y) xs) = All-map-IsPermutation (λ y. y) (λ y. Among y ys) ys xs (IsPermutation-sym xs ys p)
+    (subst (All (λ y. Among y ys)) (sym (map_same ys)) own) in
     let all : All (λ y. Among y ys) xs = subst (All (λ y. Among y ys)) (map_same xs) moved in
     let at = among_at x xs a in
     subst (λ y. Among y ys) (get_or_from_slice_get xs at.0 x x at.1) (all at.0 x (slice_get_within xs at.0 x at.1))
 
 -- ---- one item at most assigns a name
 
-one_at_most : (k : List ℕ) (is : List ItemTree) → ((p q : ℕ) (i j : ItemTree) → p < q → slice_get is p ≡ Some i → slice_get is q ≡ Some j → Among k (item_targets i) → Among k (item_targets j) → ⊥) → sum_by (hit k) is ≤ 1
+one_at_most : (k : List ℕ) (is : List ItemTree) → ((p q : ℕ) (i j : ItemTree) → p < q → slice_get is p ≡ Some i → slice_get is q ≡ Some j
+    → Among k (item_targets i) → Among k (item_targets j) → ⊥) → sum_by (hit k) is ≤ 1
 one_at_most k [] h = omega arith
 one_at_most k (i ∷ is) h = elim (among_or_not k (item_targets i)) [
   | inl own ↦
@@ -54,7 +56,8 @@ driven_once m k ok = one_at_most k m.items (λ p q i j less f g a b.
 
 -- ---- the clock
 
-first_of : (is : List ItemTree) → ((first_clock is ≡ None) × ((c : List ℕ) (b : StmtTree) → Among (always c b) is → ⊥)) ⊎ ((c : List ℕ) × (b : StmtTree) × (first_clock is ≡ Some c) × Among (always c b) is)
+first_of : (is : List ItemTree) → ((first_clock is ≡ None) × ((c : List ℕ) (b : StmtTree) → Among (always c b) is → ⊥))
+    ⊎ ((c : List ℕ) × (b : StmtTree) × (first_clock is ≡ Some c) × Among (always c b) is)
 first_of [] = inl (refl, λ c b a. a)
 first_of (nets drives ∷ is) = elim (first_of is) [
   | inl n ↦ inl (n.0, λ c b a. elim a [ inl e ↦ absurd (cc) | inr later ↦ n.1 c b later ])
@@ -93,13 +96,15 @@ clock_same m items ok p = ap (clock_or m.nets) (elim (first_of m.items) [
   ]
 ])
 
-pub is_clock_same : (m : ModuleTree) (items : List ItemTree) → IsWellFormed m → IsPermutation m.items items → (q : List ℕ) → is_clock (reordered m items) q ≡ is_clock m q
+pub is_clock_same : (m : ModuleTree) (items : List ItemTree) → IsWellFormed m → IsPermutation m.items items → (q : List ℕ)
+    → is_clock (reordered m items) q ≡ is_clock m q
 unfolding is_clock
 is_clock_same m items ok p q = ap (is_named q) (clock_same m items ok p)
 
 -- ---- the steps
 
-next_same : (m : ModuleTree) (items : List ItemTree) (c : ModuleClock) (k : List ℕ) → IsWellFormed m → IsPermutation m.items items → AreSame k (next_clock (reordered m items) c) (next_clock m c)
+next_same : (m : ModuleTree) (items : List ItemTree) (c : ModuleClock) (k : List ℕ) → IsWellFormed m → IsPermutation m.items items
+    → AreSame k (next_clock (reordered m items) c) (next_clock m c)
 unfolding next_clock
 next_same m items c k ok p =
     let few = driven_once m k ok in
@@ -123,7 +128,8 @@ step_same kind.Input a b w x y s e f h = h
 step_same kind.Wire a b w x y s e f h = h
 step_same kind.OutWire a b w x y s e f h = h
 
-equation_other : (xs ys : List ItemTree) (name : List ℕ) (ns : List NetTree) (d : DriveTree) → IsPermutation xs ys → Among d (equations (record { name = name; nets = ns; items = xs })) → Among d (equations (record { name = name; nets = ns; items = ys }))
+equation_other : (xs ys : List ItemTree) (name : List ℕ) (ns : List NetTree) (d : DriveTree) → IsPermutation xs ys
+    → Among d (equations (record { name = name; nets = ns; items = xs })) → Among d (equations (record { name = name; nets = ns; items = ys }))
 unfolding equations
 equation_other xs ys name ns d p a =
     let u = among_unflat drives_of d xs a in
@@ -148,7 +154,8 @@ module _ (m : ModuleTree) (items : List ItemTree) (ok : IsWellFormed m) (p : IsP
     shaped = λ t l. record { holds = λ x a c. (r.shaped t l).holds x a (is_clock_same m items ok p x.name ∙ c) };
     settles = λ t l. record { wires = λ d a. (r.settles t l).wires d (equation_other m.items items m.name m.nets d p a) };
     steps = λ t l. record {
-      steps = λ x a. (let s = next_same m items (clock_at run t) x.name ok p in step_same x.kind _ _ _ _ _ _ (sym s.word) (sym s.store) ((r.steps t l).steps x a));
+      steps = λ x a. (let s = next_same m items (clock_at run t) x.name ok p in
+          step_same x.kind _ _ _ _ _ _ (sym s.word) (sym s.store) ((r.steps t l).steps x a));
     };
   }
 
@@ -162,10 +169,18 @@ module _ (m : ModuleTree) (items : List ItemTree) (ok : IsWellFormed m) (p : IsP
 
   module _ (n : Circuit) (run : List ModuleClock) (o : List netlist.Clock) where
     begin_there : BeginAlike m n run o → BeginAlike other n run o
-    begin_there b = record { long = b.long; inputs = λ t l. ap (map (λ (x : NetTree). (clock_at run t).word x.name)) inputs_same ∙ b.inputs t l; first = b.first }
+    begin_there b = record {
+      long = b.long;
+      inputs = λ t l. ap (map (λ (x : NetTree). (clock_at run t).word x.name)) inputs_same ∙ b.inputs t l;
+      first = b.first;
+    }
 
     begin_back : BeginAlike other n run o → BeginAlike m n run o
-    begin_back b = record { long = b.long; inputs = λ t l. ap (map (λ (x : NetTree). (clock_at run t).word x.name)) (sym inputs_same) ∙ b.inputs t l; first = b.first }
+    begin_back b = record {
+      long = b.long;
+      inputs = λ t l. ap (map (λ (x : NetTree). (clock_at run t).word x.name)) (sym inputs_same) ∙ b.inputs t l;
+      first = b.first;
+    }
 
     outputs_there : HaveEqualOutputs m n run o → HaveEqualOutputs other n run o
     outputs_there h = record { outputs = h.outputs }

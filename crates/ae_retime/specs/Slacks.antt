@@ -29,7 +29,8 @@ argument_slacks arrivals s = map (λ (n : StNodeTree). joint_slacks arrivals n.a
 
 -- the uses of items: as arguments, node by node, and as results
 abbrev pub item_uses : (arrivals : List ℕ) → StFuncTree → List Use
-item_uses arrivals s = flat_map (λ (n : StNodeTree). joint_uses arrivals n.args) s.nodes ++ joint_uses arrivals s.results
+item_uses arrivals s =
+    flat_map (λ (n : StNodeTree). joint_uses arrivals n.args) s.nodes ++ joint_uses arrivals s.results
 
 -- of each item the greatest slack of its uses, and 0 without a use
 abbrev pub item_chains : (arrivals : List ℕ) → StFuncTree → List ℕ
@@ -42,18 +43,21 @@ abbrev pub arrivals_in : List StFuncTree → (k : ℕ) → StFuncTree → List �
 arrivals_in instances k s = item_arrivals (all_costs (take k instances)) s
 
 -- one for each of the first instances: what f says of its number and the instance
-pub record AreByInstance {X : Type 0} (f : ℕ → StFuncTree → X) (instances : List StFuncTree) (count : ℕ) (xs : List X) : Type 0 where
+pub record AreByInstance {X : Type 0} (f : ℕ → StFuncTree → X) (instances : List StFuncTree) (count : ℕ)
+    (xs : List X) : Type 0 where
   pub long : length xs ≡ count
   pub each : (k : ℕ) (s : StFuncTree) → k < count → slice_get instances k ≡ Some s → slice_get xs k ≡ Some (f k s)
 
 abbrev pub AreArguments : List StFuncTree → (count : ℕ) → List (List (List ℕ)) → Type 0
-AreArguments instances count xs = AreByInstance (λ k s. argument_slacks (arrivals_in instances k s) s) instances count xs
+AreArguments instances count xs =
+    AreByInstance (λ k s. argument_slacks (arrivals_in instances k s) s) instances count xs
 
 abbrev pub AreChains : List StFuncTree → (count : ℕ) → List (List ℕ) → Type 0
 AreChains instances count xs = AreByInstance (λ k s. item_chains (arrivals_in instances k s) s) instances count xs
 
 abbrev pub AreResults : List StFuncTree → (count : ℕ) → List (List ℕ) → Type 0
-AreResults instances count xs = AreByInstance (λ k s. joint_slacks (arrivals_in instances k s) s.results) instances count xs
+AreResults instances count xs =
+    AreByInstance (λ k s. joint_slacks (arrivals_in instances k s) s.results) instances count xs
 
 pub record AreSlacks (instances : List StFuncTree) (t : SlackTables) : Type 0 where
   pub arguments : AreArguments instances (length instances) t.arguments

@@ -23,10 +23,13 @@ none_right [] ys h = h
 none_right (j ∷ xs) ys h = none_right xs ys (none_by j j.verdict (refused (xs ++ ys)) h).1
 
 -- none of the lines of one function is refused
-func_fine : (known : List Signature) (fs : List FuncTree) (k : ℕ) (f : FuncTree) → refused (judged known fs) ≡ None → slice_get fs k ≡ Some f → refused (judged_func (grown signature known (take k fs)) f) ≡ None
+func_fine : (known : List Signature) (fs : List FuncTree) (k : ℕ) (f : FuncTree) → refused (judged known fs) ≡ None → slice_get fs k ≡ Some f
+    → refused (judged_func (grown signature known (take k fs)) f) ≡ None
 func_fine known [] k f h at = absurd (none-some f at)
-func_fine known (g ∷ fs) zero f h at = let e : g ≡ f = same_Some g f at in rw (← e) (none_left (judged_func known g) (judged (known ++ signature known g ∷ []) fs) h)
-func_fine known (g ∷ fs) (suc k) f h at = func_fine (known ++ signature known g ∷ []) fs k f (none_right (judged_func known g) (judged (known ++ signature known g ∷ []) fs) h) at
+func_fine known (g ∷ fs) zero f h at =
+    let e : g ≡ f = same_Some g f at in rw (← e) (none_left (judged_func known g) (judged (known ++ signature known g ∷ []) fs) h)
+func_fine known (g ∷ fs) (suc k) f h at =
+    func_fine (known ++ signature known g ∷ []) fs k f (none_right (judged_func known g) (judged (known ++ signature known g ∷ []) fs) h) at
 
 -- each type in a list is in size
 abbrev AllSized : List (Option SeqTree) → Type 0
@@ -40,13 +43,15 @@ fine_type : (o : Option SeqTree) → verdict o ≡ fine → (t : SeqTree) → o 
 fine_type None h t e = absurd (none-some t e)
 fine_type (Some u) h t e = let s : u ≡ t = same_Some u t e in rw (← s) (fine_size (in_size u) h)
 
-sized_more : (items : List (Option SeqTree)) (o : Option SeqTree) → AllSized items → ((t : SeqTree) → o ≡ Some t → IsTrue (in_size t)) → AllSized (items ++ o ∷ [])
+sized_more : (items : List (Option SeqTree)) (o : Option SeqTree) → AllSized items → ((t : SeqTree) → o ≡ Some t → IsTrue (in_size t))
+    → AllSized (items ++ o ∷ [])
 sized_more items o all one i t at = elim (get_of_push items o i (Some t) at) [
   | inl old ↦ all i t old
   | inr new ↦ one t (sym new.1)
 ]
 
-nodes_sized : (known : List Signature) (items : List (Option SeqTree)) (ns : List NodeTree) → AllSized items → refused (judged_nodes known items ns) ≡ None → AllSized (grown (node_type known) items ns)
+nodes_sized : (known : List Signature) (items : List (Option SeqTree)) (ns : List NodeTree) → AllSized items → refused (judged_nodes known items ns) ≡ None
+    → AllSized (grown (node_type known) items ns)
 nodes_sized known items [] all h = all
 nodes_sized known items (n ∷ ns) all h =
     let t = node_type known items n in
@@ -61,7 +66,8 @@ params_sized (u ∷ ts) h (suc i) t at = params_sized ts (grind (arith, nat_test
 items_sized : (known : List Signature) (f : FuncTree) → refused (judged_func known f) ≡ None → AllSized (item_types known f)
 items_sized known f h =
     let b : Bool = all_in_size (param_types f) in
-    let s = none_by (record { line = f.line; verdict = size_verdict b }) (size_verdict b) (refused (judged_nodes known (map (λ (t : SeqTree). Some t) (param_types f)) f.nodes)) h in
+    let s = none_by (record { line = f.line; verdict = size_verdict b }) (size_verdict b)
+    (refused (judged_nodes known (map (λ (t : SeqTree). Some t) (param_types f)) f.nodes)) h in
     nodes_sized known (map (λ (t : SeqTree). Some t) (param_types f)) f.nodes (params_sized (param_types f) (fine_size b s.0)) s.1
 
 pub type_sized : (p : ProgramTree) (f i : ℕ) (t : SeqTree) → refused_line p ≡ None → type_at p f i ≡ Some t → IsTrue (in_size t)

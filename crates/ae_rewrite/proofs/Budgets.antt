@@ -18,7 +18,8 @@ use Rattle.ae_rewrite.proofs.Lines.{called-above}
 -- ---- a number among others
 
 -- an element of a longer list is an old one or the new one
-pub get_of_push : {X : Type 0} (xs : List X) (y : X) (i : ℕ) (x : X) → slice_get (xs ++ y ∷ []) i ≡ Some x → (slice_get xs i ≡ Some x) ⊎ ((i ≡ length xs) × (x ≡ y))
+pub get_of_push : {X : Type 0} (xs : List X) (y : X) (i : ℕ) (x : X) → slice_get (xs ++ y ∷ []) i ≡ Some x → (slice_get xs i ≡ Some x)
+    ⊎ ((i ≡ length xs) × (x ≡ y))
 get_of_push [] y zero x h = inr (refl, sym (same_Some y x h))
 get_of_push [] y (suc i) x h = absurd (none-some x h)
 get_of_push (z ∷ xs) y zero x h = inl h
@@ -111,7 +112,8 @@ among-new old new g u h w =
     let x = with-is us.0 u in
     record { own = with_number us.0 u; here = w.own us.0 us.1; at = x.at; is = x.there }
 
-pub adds-with : (p : ProgramTree) (R : ℕ → Type 0) (f : ℕ) (old new : List (List ℕ)) (g u : ℕ) → g < length old → g < f → ((s : ℕ) → R s → IsReached p s g u) → IsWith old g u new → Adds p R f old new
+pub adds-with : (p : ProgramTree) (R : ℕ → Type 0) (f : ℕ) (old new : List (List ℕ)) (g u : ℕ) → g < length old → g < f → ((s : ℕ) → R s → IsReached p s g u)
+    → IsWith old g u new → Adds p R f old new
 adds-with p R f old new g u h below reached w =
     let us = own-of old g h in
     let x = with-is us.0 u in
@@ -159,10 +161,12 @@ call-at p f u n c at is = record { of = at.of; node = n; known = at.known; here 
 pub call-below : (p : ProgramTree) (f u m : ℕ) (n : NodeTree) (c : Call) → IsTrue (formed p) → IsNodeOf p f n → called_by p f u n ≡ Some c → f ≤ m → c.func < m
 call-below p f u m n c h at is le = omega (arith, called-above p f u at.of at.k n c h at.known at.here is)
 
-pub call-adds : (p : ProgramTree) (f u : ℕ) (n : NodeTree) (c : Call) (old new : List (List ℕ)) → IsTrue (formed p) → IsNodeOf p f n → called_by p f u n ≡ Some c → f ≤ length old →
+pub call-adds : (p : ProgramTree) (f u : ℕ) (n : NodeTree) (c : Call) (old new : List (List ℕ)) → IsTrue (formed p) → IsNodeOf p f n
+    → called_by p f u n ≡ Some c → f ≤ length old →
     IsWith old c.func c.budget new → Adds p (λ s. IsReached p s f u) f old new
 call-adds p f u n c old new h at is le w =
-    adds-with p (λ s. IsReached p s f u) f old new c.func c.budget (call-below p f u (length old) n c h at is le) (called-above p f u at.of at.k n c h at.known at.here is)
+    adds-with p (λ s. IsReached p s f u) f old new c.func c.budget (call-below p f u (length old) n c h at is le)
+    (called-above p f u at.of at.k n c h at.known at.here is)
     (λ s r. as_called c.func c.budget f u at.k at.of n c r at.known at.here is refl refl) w
 
 -- ---- the nodes of a function under a budget
@@ -178,14 +182,17 @@ of-call : (o : Option Call) (P : Call → Type 0) (c : Call) → IfCalled o P �
 of-call None P c h e = absurd (none-some c e)
 of-call (Some d) P c h e = subst P (same_Some d c e) h
 
-same-call : (p : ProgramTree) (f u k : ℕ) (of : FuncTree) (n : NodeTree) (c : Call) → slice_get p.funcs f ≡ Some of → slice_get of.nodes k ≡ Some n → IsCall p f u k c → called_by p f u n ≡ Some c
+same-call : (p : ProgramTree) (f u k : ℕ) (of : FuncTree) (n : NodeTree) (c : Call) → slice_get p.funcs f ≡ Some of → slice_get of.nodes k ≡ Some n
+    → IsCall p f u k c → called_by p f u n ≡ Some c
 same-call p f u k of n c at here is =
     let e : is.of ≡ of = same_Some _ _ (sym is.known ∙ at) in
     let m : is.node ≡ n = same_Some _ _ (sym is.here ∙ ap (λ (x : FuncTree). slice_get x.nodes k) e ∙ here) in
     ap (called_by p f u) (sym m) ∙ is.is
 
-pub visits-more : (p : ProgramTree) (f u : ℕ) (old now new : List (List ℕ)) (k : ℕ) (of : FuncTree) (n : NodeTree) → slice_get p.funcs f ≡ Some of → slice_get of.nodes k ≡ Some n →
-    Visits p f u old now k → Adds p (λ s. IsReached p s f u) f now new → IfCalled (called_by p f u n) (λ c. IsAmong new c.func c.budget) → Visits p f u old new (k + 1)
+pub visits-more : (p : ProgramTree) (f u : ℕ) (old now new : List (List ℕ)) (k : ℕ) (of : FuncTree) (n : NodeTree) → slice_get p.funcs f ≡ Some of
+    → slice_get of.nodes k ≡ Some n →
+    Visits p f u old now k → Adds p (λ s. IsReached p s f u) f now new → IfCalled (called_by p f u n) (λ c. IsAmong new c.func c.budget)
+    → Visits p f u old new (k + 1)
 visits-more p f u old now new k of n at here v added called = record {
   added = adds-then p (λ s. IsReached p s f u) f old now new v.added added;
   calls = λ i c h is. elim (cases_eq i k) [
@@ -194,7 +201,8 @@ visits-more p f u old now new k of n at here v added called = record {
   ];
 }
 
-pub visits-end : (p : ProgramTree) (f u : ℕ) (old new : List (List ℕ)) (k : ℕ) (of : FuncTree) → slice_get p.funcs f ≡ Some of → length of.nodes ≤ k → Visits p f u old new k → IsClosedAt p f u new
+pub visits-end : (p : ProgramTree) (f u : ℕ) (old new : List (List ℕ)) (k : ℕ) (of : FuncTree) → slice_get p.funcs f ≡ Some of → length of.nodes ≤ k
+    → Visits p f u old new k → IsClosedAt p f u new
 visits-end p f u old new k of at h v i c is =
     let e : is.of ≡ of = same_Some _ _ (sym is.known ∙ at) in
     let inside = slice_get_within is.of.nodes i is.node is.here in
@@ -234,7 +242,8 @@ all-more p f own old now new k u v at added closed = record {
   ];
 }
 
-pub all-end : (p : ProgramTree) (f : ℕ) (own : List ℕ) (old new : List (List ℕ)) (k : ℕ) → VisitsAll p f own old new k → length own ≤ k → (u : ℕ) → IsAmong new f u → IsClosedAt p f u new
+pub all-end : (p : ProgramTree) (f : ℕ) (own : List ℕ) (old new : List (List ℕ)) (k : ℕ) → VisitsAll p f own old new k → length own ≤ k → (u : ℕ)
+    → IsAmong new f u → IsClosedAt p f u new
 all-end p f own old new k v h u a =
     let mine : slice_get new f ≡ Some own = v.added.high f (omega arith) ∙ v.mine in
     let e : a.own ≡ own = same_Some _ _ (sym a.here ∙ mine) in
@@ -244,7 +253,8 @@ all-end p f own old new k v h u a =
 
 -- ---- all functions
 
-pub reaches-start : (p : ProgramTree) (s m : ℕ) (old new : List (List ℕ)) → m ≡ length p.funcs - 1 → length old ≡ m → AllEmpty old → Adds p (λ t. IsReached p t m s) m old new → IsClosedAt p m s new →
+pub reaches-start : (p : ProgramTree) (s m : ℕ) (old new : List (List ℕ)) → m ≡ length p.funcs - 1 → length old ≡ m → AllEmpty old
+    → Adds p (λ t. IsReached p t m s) m old new → IsClosedAt p m s new →
     Reaches p s m new
 reaches-start p s m old new is count none a closed = record {
   count = a.count ∙ count ∙ is;
@@ -256,7 +266,8 @@ reaches-start p s m old new is count none a closed = record {
       absurd (omega (arith, inside, a.count, count, h));
 }
 
-pub reaches-more : (p : ProgramTree) (s m : ℕ) (old new : List (List ℕ)) → Reaches p s (m + 1) old → Adds p (OwnReached p m old) m old new → ((u : ℕ) → IsAmong new m u → IsClosedAt p m u new) →
+pub reaches-more : (p : ProgramTree) (s m : ℕ) (old new : List (List ℕ)) → Reaches p s (m + 1) old → Adds p (OwnReached p m old) m old new
+    → ((u : ℕ) → IsAmong new m u → IsClosedAt p m u new) →
     Reaches p s m new
 reaches-more p s m old new r a closed = record {
   count = a.count ∙ r.count;
@@ -265,7 +276,8 @@ reaches-more p s m old new r a closed = record {
   program = closed-kept p (OwnReached p m old) m (length p.funcs - 1) s old new a r.program;
   closed = λ f u h x. elim (cases_eq f m) [
     | inl e ↦ rw e (closed u (rw e at x))
-    | inr ne ↦ closed-kept p (OwnReached p m old) m f u old new a (r.closed f u (omega arith) (record { own = x.own; here = sym (a.high f h) ∙ x.here; at = x.at; is = x.is }))
+    | inr ne ↦ closed-kept p (OwnReached p m old) m f u old new a
+        (r.closed f u (omega arith) (record { own = x.own; here = sym (a.high f h) ∙ x.here; at = x.at; is = x.is }))
   ];
 }
 

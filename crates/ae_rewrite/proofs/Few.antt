@@ -23,7 +23,8 @@ stands : (q : ℕ) (us : List ℕ) → list_any (eqb q) us ≡ true → (i : ℕ
 stands q [] h = absurd (false≢true h)
 stands q (u ∷ us) h = by (eqb q u) refl (stands q us) h
   where
-    by : (b : Bool) → eqb q u ≡ b → (list_any (eqb q) us ≡ true → (i : ℕ) × (slice_get us i ≡ Some q)) → (b || list_any (eqb q) us) ≡ true → (i : ℕ) × (slice_get (u ∷ us) i ≡ Some q)
+    by : (b : Bool) → eqb q u ≡ b → (list_any (eqb q) us ≡ true → (i : ℕ) × (slice_get us i ≡ Some q)) → (b || list_any (eqb q) us) ≡ true → (i : ℕ)
+        × (slice_get (u ∷ us) i ≡ Some q)
     by true is later any = (0, ap Some (sym (eqb-true q u is)))
     by false is later any = let r = later any in (suc r.0, r.1)
 

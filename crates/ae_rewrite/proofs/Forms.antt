@@ -97,7 +97,8 @@ pub record IsFormedNode (version funcs items : ℕ) (n : NodeTree) : Type 0 wher
   pub arguments : IsTrue (has_arguments n.op (length n.args))
   pub below : IsTrue (all_below items n.args)
 
-formed-node : (v funcs items : ℕ) (ns : List NodeTree) (k : ℕ) (n : NodeTree) → IsTrue (formed_nodes v funcs items ns) → slice_get ns k ≡ Some n → IsFormedNode v funcs (items + k) n
+formed-node : (v funcs items : ℕ) (ns : List NodeTree) (k : ℕ) (n : NodeTree) → IsTrue (formed_nodes v funcs items ns) → slice_get ns k ≡ Some n
+    → IsFormedNode v funcs (items + k) n
 formed-node v funcs items [] k n h at = absurd (none-some n at)
 formed-node v funcs items (m ∷ ns) zero n h at =
     let e : m ≡ n = same_Some m n at in
@@ -108,7 +109,8 @@ formed-node v funcs items (m ∷ ns) (suc k) n h at =
     let e : items + 1 + k ≡ items + suc k = omega arith in
     rw (← e) (formed-node v funcs (items + 1) ns k n rest at)
 
-pub node-of : (p : ProgramTree) (f : ℕ) (of : FuncTree) (k : ℕ) (n : NodeTree) → IsTrue (formed p) → slice_get p.funcs f ≡ Some of → slice_get of.nodes k ≡ Some n → IsFormedNode p.version f (length of.params + k) n
+pub node-of : (p : ProgramTree) (f : ℕ) (of : FuncTree) (k : ℕ) (n : NodeTree) → IsTrue (formed p) → slice_get p.funcs f ≡ Some of
+    → slice_get of.nodes k ≡ Some n → IsFormedNode p.version f (length of.params + k) n
 node-of p f of k n h at here = formed-node p.version f (length of.params) of.nodes k n (formed-of p f of h at).nodes here
 
 pub below-at : (m : ℕ) (args : List ℕ) (i a : ℕ) → IsTrue (all_below m args) → slice_get args i ≡ Some a → a < m

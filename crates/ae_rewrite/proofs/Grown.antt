@@ -26,7 +26,8 @@ length-grown step known [] = omega arith
 length-grown step known (x ∷ xs) = omega (arith, length-grown step (known ++ step known x ∷ []) xs, length-append known (step known x ∷ []))
 
 -- those that are known stay
-pub grown-front : {A B : Type 0} (step : List B → A → B) (known : List B) (xs : List A) (i : ℕ) (y : B) → slice_get known i ≡ Some y → slice_get (grown step known xs) i ≡ Some y
+pub grown-front : {A B : Type 0} (step : List B → A → B) (known : List B) (xs : List A) (i : ℕ) (y : B) → slice_get known i ≡ Some y
+    → slice_get (grown step known xs) i ≡ Some y
 grown-front step known [] i y h = h
 grown-front step known (x ∷ xs) i y h = grown-front step (known ++ step known x ∷ []) xs i y (get_in_front known (step known x ∷ []) i y h)
 

@@ -27,10 +27,12 @@ type-in : (p : ProgramTree) (f i : ℕ) (of : FuncTree) → slice_get p.funcs f 
 type-in p f i of at = ap (λ o. o >>= λ g. slice_get (item_types (sigs p f) g) i >>= λ t. t) at
 
 -- a parameter has the type that is written
-pub param-type : (p : ProgramTree) (f i : ℕ) (of : FuncTree) (q : ParamTree) → slice_get p.funcs f ≡ Some of → slice_get of.params i ≡ Some q → type_at p f i ≡ Some q.type
+pub param-type : (p : ProgramTree) (f i : ℕ) (of : FuncTree) (q : ParamTree) → slice_get p.funcs f ≡ Some of → slice_get of.params i ≡ Some q
+    → type_at p f i ≡ Some q.type
 param-type p f i of q at here =
     let known = map (λ (t : SeqTree). Some t) (param_types of) in
-    let first : slice_get known i ≡ Some (Some q.type) = slice_get-map (λ (t : SeqTree). Some t) (param_types of) i ∙ ap (option_map (λ (t : SeqTree). Some t)) (slice_get-map (λ (x : ParamTree). x.type) of.params i ∙ ap (option_map (λ (x : ParamTree). x.type)) here) in
+    let first : slice_get known i ≡ Some (Some q.type) = slice_get-map (λ (t : SeqTree). Some t) (param_types of) i ∙
+    ap (option_map (λ (t : SeqTree). Some t)) (slice_get-map (λ (x : ParamTree). x.type) of.params i ∙ ap (option_map (λ (x : ParamTree). x.type)) here) in
     type-in p f i of at ∙ ap (λ o. o >>= λ t. t) (grown-front (node_type (sigs p f)) known of.nodes i (Some q.type) first)
 
 -- the types of a node's arguments, and its own
@@ -40,7 +42,8 @@ pub record TypedNode (p : ProgramTree) (f : ℕ) (n : NodeTree) (t : SeqTree) : 
   pub is : (types_at before n.args >>= op_type known n.op) ≡ Some t
   pub same : (i : ℕ) (u : SeqTree) → slice_get before i ≡ Some (Some u) → type_at p f i ≡ Some u
 
-pub typed-node : (p : ProgramTree) (f : ℕ) (of : FuncTree) (k : ℕ) (n : NodeTree) (t : SeqTree) → slice_get p.funcs f ≡ Some of → slice_get of.nodes k ≡ Some n →
+pub typed-node : (p : ProgramTree) (f : ℕ) (of : FuncTree) (k : ℕ) (n : NodeTree) (t : SeqTree) → slice_get p.funcs f ≡ Some of → slice_get of.nodes k ≡ Some n
+    →
     type_at p f (length of.params + k) ≡ Some t → TypedNode p f n t
 typed-node p f of k n t at here is =
     let known = map (λ (t : SeqTree). Some t) (param_types of) in
@@ -103,7 +106,8 @@ record HeadType (before : List (Option SeqTree)) (args : List ℕ) (t : SeqTree)
   is : slice_get before (head args) ≡ Some (Some t)
   some : 0 < length args
 
-head-type : (before : List (Option SeqTree)) (args : List ℕ) (t : SeqTree) (rest : List SeqTree) → types_at before args ≡ Some (t ∷ rest) → HeadType before args t
+head-type : (before : List (Option SeqTree)) (args : List ℕ) (t : SeqTree) (rest : List SeqTree) → types_at before args ≡ Some (t ∷ rest)
+    → HeadType before args t
 head-type before [] t rest h = cc
 head-type before (a ∷ args) t rest h =
     option_and_then_some (λ o. o >>= λ u. types_at before args >>= λ us. Some (u ∷ us)) (slice_get before a) (t ∷ rest) h (λ o at h2.
@@ -151,7 +155,8 @@ spread-is p f u a s = ap (λ o. o >>= λ t. spread t u) s.type ∙ ap (option_ma
 some-none : {A : Type 0} (x : A) (o : Option A) → o ≡ Some x → o ≡ None → ⊥
 some-none x o e h = none-some x (sym h ∙ e)
 
-there : (p : ProgramTree) (f u : ℕ) (op : OpTree) (args : List ℕ) → (IsTaking op → IsSpreadAt p f u (head args)) → call_of op u (spread_at p f u (head args)) ≡ None → plain_op p f u op args ≡ None → ⊥
+there : (p : ProgramTree) (f u : ℕ) (op : OpTree) (args : List ℕ) → (IsTaking op → IsSpreadAt p f u (head args))
+    → call_of op u (spread_at p f u (head args)) ≡ None → plain_op p f u op args ≡ None → ⊥
 there p f u (word op) args s c h = cc
 there p f u (cast_int v) args s c h = cc
 there p f u pair args s c h = cc
@@ -164,7 +169,8 @@ there p f u (each g) args s c h = some-none _ _ (ap (call_of (each g) u) (spread
 there p f u (each_two g) args s c h = some-none _ _ (ap (call_of (each_two g) u) (spread-is p f u (head args) (s tt))) c
 there p f u (reduce op) args s c h =
     let d = s tt in
-    some-none _ _ (ap (λ o. o >>= fold_of op u) (spread-is p f u (head args) d) ∙ ap (option_map (λ t. fold op (slots_of d.count u d.case) (lanes_of d.count u d.case) (raw_layout u (inner_of d.count u d.case) t))) d.laid) h
+    some-none _ _ (ap (λ o. o >>= fold_of op u) (spread-is p f u (head args) d) ∙
+    ap (option_map (λ t. fold op (slots_of d.count u d.case) (lanes_of d.count u d.case) (raw_layout u (inner_of d.count u d.case) t))) d.laid) h
 there p f u (scan op) args s c h = some-none _ _ (ap (option_map (scan_of op u)) (spread-is p f u (head args) (s tt))) h
 there p f u (shift k) args s c h = some-none _ _ (ap (λ o. o >>= shift_of k) (s tt).type) h
 there p f u (up n) args s c h = cc
@@ -185,7 +191,8 @@ first-of [] h = absurd (omega arith)
 first-of (a ∷ args) h = refl
 
 -- a node whose arguments have layouts calls a function, or does something else
-plain-typed : (p : ProgramTree) (f u : ℕ) (of : FuncTree) (k : ℕ) (n : NodeTree) (t : SeqTree) → IsTrue (formed p) → slice_get p.funcs f ≡ Some of → slice_get of.nodes k ≡ Some n →
+plain-typed : (p : ProgramTree) (f u : ℕ) (of : FuncTree) (k : ℕ) (n : NodeTree) (t : SeqTree) → IsTrue (formed p) → slice_get p.funcs f ≡ Some of
+    → slice_get of.nodes k ≡ Some n →
     type_at p f (length of.params + k) ≡ Some t → AreLaid p f u (length of.params + k) → called_by p f u n ≡ None → plain_op p f u n.op n.args ≡ None → ⊥
 plain-typed p f u of k n t formed at here is laid = there p f u n.op n.args (λ taking.
     let form = node-of p f of k n formed at here in
@@ -193,7 +200,8 @@ plain-typed p f u of k n t formed at here is laid = there p f u n.op n.args (λ 
     let below = below-at (length of.params + k) n.args 0 (head n.args) form.below (first-of n.args some) in
     laid-spread p f u (head n.args) (first-argument p f n t (typed-node p f of k n t at here is) taking) (laid (head n.args) below))
 
-pub plain-there : (p : ProgramTree) (f u i : ℕ) (n : NodeTree) (s : StTree) → IsTrue (formed p) → IsNodeAt p f i n → layout_at p f u i ≡ Some s → AreLaid p f u i →
+pub plain-there : (p : ProgramTree) (f u i : ℕ) (n : NodeTree) (s : StTree) → IsTrue (formed p) → IsNodeAt p f i n → layout_at p f u i ≡ Some s
+    → AreLaid p f u i →
     called_by p f u n ≡ None → plain_op p f u n.op n.args ≡ None → ⊥
 plain-there p f u i n s formed at is laid c h =
     let layout = rw at.is at is in

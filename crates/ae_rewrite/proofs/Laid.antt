@@ -22,7 +22,8 @@ pub record Laid (t : SeqTree) (clocks : ℕ) (s : StTree) : Type 0 where
 
 -- ---- one case
 
-time_of : (n clocks : ℕ) (c : Case) (t : StTree) → 0 < n → 0 < clocks → Applies n clocks c → time t ≡ inner_of n clocks c → time (arranged n clocks c t) ≡ clocks
+time_of : (n clocks : ℕ) (c : Case) (t : StTree) → 0 < n → 0 < clocks → Applies n clocks c → time t ≡ inner_of n clocks c
+    → time (arranged n clocks c t) ≡ clocks
 time_of n clocks Parallel t p q h is = is ∙ sym h
 time_of n clocks Spread t p q h is = ap (λ x. (n + 0) * x) is ∙ omega (arith, whole clocks n p h)
 time_of n clocks Grouped t p q h is = ap (λ x. (clocks + 0) * x) is ∙ omega arith
@@ -82,8 +83,10 @@ laid_atom a clocks s p h is = elim (cases_eq clocks 1) [
       (record { lengths = (omega arith, h); time = omega arith; atoms = refl; atom = refl; deep = omega arith })
 ]
 
-laid_seq : (n clocks : ℕ) (c : Case) (t : SeqTree) (s : StTree) (part : (x : StTree) → lay_of t (inner_of n clocks c) ≡ Some x → Laid t (inner_of n clocks c) x) →
-    0 < n → 0 < clocks → Applies n clocks c → (o : Option StTree) → lay_of t (inner_of n clocks c) ≡ o → option_map (arranged n clocks c) o ≡ Some s → Laid (seq n t) clocks s
+laid_seq : (n clocks : ℕ) (c : Case) (t : SeqTree) (s : StTree)
+    (part : (x : StTree) → lay_of t (inner_of n clocks c) ≡ Some x → Laid t (inner_of n clocks c) x) →
+    0 < n → 0 < clocks → Applies n clocks c → (o : Option StTree) → lay_of t (inner_of n clocks c) ≡ o → option_map (arranged n clocks c) o ≡ Some s
+    → Laid (seq n t) clocks s
 laid_seq n clocks c t s part p q h None e m = absurd (none-some s m)
 laid_seq n clocks c t s part p q h (Some x) e m = rw (← same_Some _ _ m) (laid_by_case n clocks c t x p q h (part x e))
 
@@ -98,7 +101,8 @@ laid (seq n t) clocks s h p is =
     option_and_then_some (λ c. option_map (arranged n clocks c) (lay_of t (inner_of n clocks c))) (case_of n clocks) s is
     (λ c at some.
     let a = applies n clocks c p at in
-    laid_seq n clocks c t s (λ x e. laid t (inner_of n clocks c) x sized.1 (inner_pos n clocks c sized.0 p a) e) sized.0 p a (lay_of t (inner_of n clocks c)) refl some)
+    laid_seq n clocks c t s (λ x e. laid t (inner_of n clocks c) x sized.1 (inner_pos n clocks c sized.0 p a) e) sized.0 p a
+    (lay_of t (inner_of n clocks c)) refl some)
 
 atoms-words : (t : SeqTree) → atoms t * atom_words (atom_of t) ≡ words t
 atoms-words (atom a) = omega arith

@@ -23,7 +23,8 @@ call-func v m (each g) clocks o c h is = let e = each-func g clocks o c is in le
 call-func v m (each_two g) clocks o c h is = let e = each-func g clocks o c is in let p : g < m = grind (arith, nat_tests) in omega (arith, e, p)
 call-func v m _ clocks o c h is = absurd (none-some c is)
 
-pub called-above : (p : ProgramTree) (f clocks : ℕ) (of : FuncTree) (k : ℕ) (n : NodeTree) (c : Call) → IsTrue (formed p) → slice_get p.funcs f ≡ Some of → slice_get of.nodes k ≡ Some n →
+pub called-above : (p : ProgramTree) (f clocks : ℕ) (of : FuncTree) (k : ℕ) (n : NodeTree) (c : Call) → IsTrue (formed p) → slice_get p.funcs f ≡ Some of
+    → slice_get of.nodes k ≡ Some n →
     called_by p f clocks n ≡ Some c → c.func < f
 called-above p f clocks of k n c h at here is = call-func p.version f n.op clocks (spread_at p f clocks (head n.args)) c (node-of p f of k n h at here).line is
 
@@ -33,19 +34,23 @@ called-above p f clocks of k n c h at here is = call-func p.version f n.op clock
 abbrev SameBelow : (m : ℕ) → (known other : ℕ → ℕ → Option ℕ) → Type 0
 SameBelow m known other = (g u : ℕ) → g < m → known g u ≡ other g u
 
-call-same : (m : ℕ) (known other : ℕ → ℕ → Option ℕ) (o : Option Call) → SameBelow m known other → ((c : Call) → o ≡ Some c → c.func < m) → call_line known o ≡ call_line other o
+call-same : (m : ℕ) (known other : ℕ → ℕ → Option ℕ) (o : Option Call) → SameBelow m known other → ((c : Call) → o ≡ Some c → c.func < m)
+    → call_line known o ≡ call_line other o
 call-same m known other None same low = refl
 call-same m known other (Some c) same low = same c.func c.budget (low c refl)
 
 nodes-same : (p : ProgramTree) (f clocks : ℕ) (known other : ℕ → ℕ → Option ℕ) (i : ℕ) (ns : List NodeTree) → SameBelow f known other →
-    ((k : ℕ) (n : NodeTree) (c : Call) → slice_get ns k ≡ Some n → called_by p f clocks n ≡ Some c → c.func < f) → nodes_line p known f clocks i ns ≡ nodes_line p other f clocks i ns
+    ((k : ℕ) (n : NodeTree) (c : Call) → slice_get ns k ≡ Some n → called_by p f clocks n ≡ Some c → c.func < f)
+    → nodes_line p known f clocks i ns ≡ nodes_line p other f clocks i ns
 nodes-same p f clocks known other i [] same low = refl
 nodes-same p f clocks known other i (n ∷ ns) same low =
-    ap (λ o. or_line (unless_laid (layout_at p f clocks i) n.line o) (nodes_line p known f clocks (i + 1) ns)) (call-same f known other (called_by p f clocks n) same (λ c is. low 0 n c refl is))
+    ap (λ o. or_line (unless_laid (layout_at p f clocks i) n.line o) (nodes_line p known f clocks (i + 1) ns))
+    (call-same f known other (called_by p f clocks n) same (λ c is. low 0 n c refl is))
     ∙ ap (or_line (node_line p other f clocks i n)) (nodes-same p f clocks known other (i + 1) ns same (λ k m c at is. low (suc k) m c at is))
 
 -- a function's failing line from those of the functions that it calls
-pub failing_is : (p : ProgramTree) (f clocks : ℕ) (of : FuncTree) → IsTrue (formed p) → slice_get p.funcs f ≡ Some of → failing p f clocks ≡ func_line p (failing p) f clocks of
+pub failing_is : (p : ProgramTree) (f clocks : ℕ) (of : FuncTree) → IsTrue (formed p) → slice_get p.funcs f ≡ Some of
+    → failing p f clocks ≡ func_line p (failing p) f clocks of
 unfolding failing
 failing_is p f clocks of h at =
     let e = entry (next_lines p) [] p.funcs f of at in

@@ -43,10 +43,12 @@ take-at xs i x at =
     let h = slice_get_within xs i x at in
     take_more xs i x h ∙ ap (λ y. take i xs ++ y ∷ []) (get_or_from_slice_get xs i x x at)
 
-pub not-laid : (clocks : ℕ) (ps : List ParamTree) (i : ℕ) (q : ParamTree) → slice_get ps i ≡ Some q → lay_of q.type clocks ≡ None → params_laid clocks ps ≡ false
+pub not-laid : (clocks : ℕ) (ps : List ParamTree) (i : ℕ) (q : ParamTree) → slice_get ps i ≡ Some q → lay_of q.type clocks ≡ None
+    → params_laid clocks ps ≡ false
 not-laid clocks [] i q at h = absurd (none-some q at)
 not-laid clocks (r ∷ ps) zero q at h = ap (λ o. is_some o && params_laid clocks ps) (ap (λ (x : ParamTree). lay_of x.type clocks) (same_Some r q at) ∙ h)
-not-laid clocks (r ∷ ps) (suc i) q at h = ap (λ b. is_some (lay_of r.type clocks) && b) (not-laid clocks ps i q at h) ∙ and-false (is_some (lay_of r.type clocks))
+not-laid clocks (r ∷ ps) (suc i) q at h =
+    ap (λ b. is_some (lay_of r.type clocks) && b) (not-laid clocks ps i q at h) ∙ and-false (is_some (lay_of r.type clocks))
 
 -- parameter number i of a function
 pub param-there : (ps : List Param) (i : ℕ) → i < length ps → (q : ParamTree) × (slice_get (param_trees ps) i ≡ Some q)
@@ -55,11 +57,13 @@ param-there (q ∷ ps) zero h = (param_tree q, refl)
 param-there (q ∷ ps) (suc i) h = param-there ps i (omega arith)
 
 -- its layout is that of its type
-pub param-layout : (p : ProgramTree) (f u i : ℕ) (of : FuncTree) (q : ParamTree) → slice_get p.funcs f ≡ Some of → slice_get of.params i ≡ Some q → layout_at p f u i ≡ lay_of q.type u
+pub param-layout : (p : ProgramTree) (f u i : ℕ) (of : FuncTree) (q : ParamTree) → slice_get p.funcs f ≡ Some of → slice_get of.params i ≡ Some q
+    → layout_at p f u i ≡ lay_of q.type u
 param-layout p f u i of q at here = ap (λ o. option_and_then (λ t. lay_of t u) o) (param-type p f i of q at here)
 
 -- one more parameter
-pub layouts-push : (clocks : ℕ) (ps : List ParamTree) (i : ℕ) (q : ParamTree) (ss : List StTree) (s : StTree) → slice_get ps i ≡ Some q → lay_of q.type clocks ≡ Some s →
+pub layouts-push : (clocks : ℕ) (ps : List ParamTree) (i : ℕ) (q : ParamTree) (ss : List StTree) (s : StTree) → slice_get ps i ≡ Some q
+    → lay_of q.type clocks ≡ Some s →
     param_layouts clocks (take i ps) ≡ map (λ (s : StTree). Some s) ss → param_layouts clocks (take (i + 1) ps) ≡ map (λ (s : StTree). Some s) (ss ++ s ∷ [])
 layouts-push clocks ps i q ss s at is h =
     ap (param_layouts clocks) (take-at ps i q at)
@@ -95,12 +99,14 @@ filling-more u ss s all one i x at = elim (get_of_push ss s i x at) [
 pub filling-none : (u : ℕ) → AreFilling u []
 filling-none u i s at = absurd (none-some s at)
 
-pub nodes-start : (p : ProgramTree) (keys : Keys) (known : Known) (f u params : ℕ) (ns : List NodeTree) → AreLaid p f u params → Nodes p keys known f u params ns 0 []
+pub nodes-start : (p : ProgramTree) (keys : Keys) (known : Known) (f u params : ℕ) (ns : List NodeTree) → AreLaid p f u params
+    → Nodes p keys known f u params ns 0 []
 nodes-start p keys known f u params ns laid =
     let z : params + 0 ≡ params = omega arith in
     record { nodes = tt; line = ap (λ i. nodes_line p known f u i ns) z; laid = rw z laid; filling = filling-none u }
 
-nodes-push : (p : ProgramTree) (keys : Keys) (f u i : ℕ) (ns : List NodeTree) (made : List StNodeTree) (n : NodeTree) (s : StNodeTree) → AreStNodes p keys f u i ns made →
+nodes-push : (p : ProgramTree) (keys : Keys) (f u i : ℕ) (ns : List NodeTree) (made : List StNodeTree) (n : NodeTree) (s : StNodeTree)
+    → AreStNodes p keys f u i ns made →
     IsStNode p keys f u (i + length ns) n s → AreStNodes p keys f u i (ns ++ n ∷ []) (made ++ s ∷ [])
 nodes-push p keys f u i [] [] n s all one = let z : i + 0 ≡ i = omega arith in (rw z at one, tt)
 nodes-push p keys f u i [] (t ∷ made) n s all one = absurd all
@@ -119,7 +125,8 @@ laid-of-line : (o : Option StTree) (line : ℕ) (later : Option ℕ) → unless_
 laid-of-line None line later h e = none-some line (sym h)
 laid-of-line (Some s) line later h e = none-some s (sym e)
 
-pub nodes-more : (p : ProgramTree) (keys : Keys) (known : Known) (f u params : ℕ) (ns : List NodeTree) (k : ℕ) (made : List StNodeTree) (n : NodeTree) (s : StNodeTree) →
+pub nodes-more : (p : ProgramTree) (keys : Keys) (known : Known) (f u params : ℕ) (ns : List NodeTree) (k : ℕ) (made : List StNodeTree) (n : NodeTree)
+    (s : StNodeTree) →
     Nodes p keys known f u params ns k made → slice_get ns k ≡ Some n → IsStNode p keys f u (params + k) n s → node_line p known f u (params + k) n ≡ None →
     IsFilling u s.type → Nodes p keys known f u params ns (k + 1) (made ++ s ∷ [])
 nodes-more p keys known f u params ns k made n s l at one fine fill =
@@ -137,8 +144,10 @@ nodes-more p keys known f u params ns k made n s l at one fine fill =
       filling = rw (map-append (λ (m : StNodeTree). m.type) made (s ∷ [])) (filling-more u (node_layouts made) s.type l.filling fill);
     }
 
-pub nodes-fail : (p : ProgramTree) (keys : Keys) (known : Known) (f u params : ℕ) (ns : List NodeTree) (k : ℕ) (made : List StNodeTree) (n : NodeTree) (line : ℕ) →
-    Nodes p keys known f u params ns k made → slice_get ns k ≡ Some n → node_line p known f u (params + k) n ≡ Some line → nodes_line p known f u params ns ≡ Some line
+pub nodes-fail : (p : ProgramTree) (keys : Keys) (known : Known) (f u params : ℕ) (ns : List NodeTree) (k : ℕ) (made : List StNodeTree) (n : NodeTree)
+    (line : ℕ) →
+    Nodes p keys known f u params ns k made → slice_get ns k ≡ Some n → node_line p known f u (params + k) n ≡ Some line
+    → nodes_line p known f u params ns ≡ Some line
 nodes-fail p keys known f u params ns k made n line l at some =
     sym l.line
     ∙ ap (nodes_line p known f u (params + k)) (drop-at ns k n at)
@@ -159,21 +168,26 @@ if-called (Some c) P h = h c refl
 
 -- ---- functions
 
-pub params-fail : (p : ProgramTree) (f u : ℕ) (of : FuncTree) → IsTrue (formed p) → slice_get p.funcs f ≡ Some of → params_laid u of.params ≡ false → failing p f u ≡ Some of.line
+pub params-fail : (p : ProgramTree) (f u : ℕ) (of : FuncTree) → IsTrue (formed p) → slice_get p.funcs f ≡ Some of → params_laid u of.params ≡ false
+    → failing p f u ≡ Some of.line
 params-fail p f u of h at bare = failing_is p f u of h at ∙ ap (λ b. cond b (nodes_line p (failing p) f u (length of.params) of.nodes) (Some of.line)) bare
 
-pub laid-line : (p : ProgramTree) (f u : ℕ) (of : FuncTree) (o : Option ℕ) → IsTrue (formed p) → slice_get p.funcs f ≡ Some of → params_laid u of.params ≡ true →
+pub laid-line : (p : ProgramTree) (f u : ℕ) (of : FuncTree) (o : Option ℕ) → IsTrue (formed p) → slice_get p.funcs f ≡ Some of → params_laid u of.params ≡ true
+    →
     nodes_line p (failing p) f u (length of.params) of.nodes ≡ o → failing p f u ≡ o
-laid-line p f u of o h at laid is = failing_is p f u of h at ∙ ap (λ b. cond b (nodes_line p (failing p) f u (length of.params) of.nodes) (Some of.line)) laid ∙ is
+laid-line p f u of o h at laid is =
+    failing_is p f u of h at ∙ ap (λ b. cond b (nodes_line p (failing p) f u (length of.params) of.nodes) (Some of.line)) laid ∙ is
 
-map-get : (u : ℕ) (ps : List ParamTree) (ss : List StTree) (i : ℕ) → param_layouts u ps ≡ map (λ (s : StTree). Some s) ss → i < length ps → (q : ParamTree) × (slice_get ps i ≡ Some q) × (lay_of q.type u ≡ None → ⊥)
+map-get : (u : ℕ) (ps : List ParamTree) (ss : List StTree) (i : ℕ) → param_layouts u ps ≡ map (λ (s : StTree). Some s) ss → i < length ps → (q : ParamTree)
+    × (slice_get ps i ≡ Some q) × (lay_of q.type u ≡ None → ⊥)
 map-get u [] ss i h p = absurd (omega arith)
 map-get u (q ∷ ps) [] i h p = cc
 map-get u (q ∷ ps) (s ∷ ss) zero h p = let e : lay_of q.type u ≡ Some s = cc in (q, refl, λ none. none-some s (sym none ∙ e))
 map-get u (q ∷ ps) (s ∷ ss) (suc i) h p = let f : param_layouts u ps ≡ map (λ (s : StTree). Some s) ss = cc in map-get u ps ss i f (omega arith)
 
 -- the parameters have layouts
-pub params-are-laid : (p : ProgramTree) (f u : ℕ) (of : FuncTree) (ss : List StTree) → slice_get p.funcs f ≡ Some of → param_layouts u of.params ≡ map (λ (s : StTree). Some s) ss → AreLaid p f u (length of.params)
+pub params-are-laid : (p : ProgramTree) (f u : ℕ) (of : FuncTree) (ss : List StTree) → slice_get p.funcs f ≡ Some of
+    → param_layouts u of.params ≡ map (λ (s : StTree). Some s) ss → AreLaid p f u (length of.params)
 params-are-laid p f u of ss at h i below e =
     let q = map-get u of.params ss i h below in
     q.2 (sym (param-layout p f u i of q.0 at q.1) ∙ e)
@@ -192,8 +206,10 @@ pub few-nodes-of : (p : ProgramTree) (k : ℕ) (f : Func) → IsTrue (formed p) 
 few-nodes-of p k f h at = rw length-nodes at (few-nodes p k (func_tree f) h at)
 
 -- the instance, once its parts are there
-pub instance-of : (p : ProgramTree) (keys : Keys) (f u : ℕ) (of : Func) (ss : List StTree) (nodes : List StNodeTree) (results : List ℕ) → slice_get p.funcs f ≡ Some (func_tree of) →
-    param_layouts u (param_trees of.params.items) ≡ map (λ (s : StTree). Some s) ss → AreStNodes p keys f u (length of.params.items) (node_trees of.nodes.items) nodes → results ≡ of.results.items →
+pub instance-of : (p : ProgramTree) (keys : Keys) (f u : ℕ) (of : Func) (ss : List StTree) (nodes : List StNodeTree) (results : List ℕ)
+    → slice_get p.funcs f ≡ Some (func_tree of) →
+    param_layouts u (param_trees of.params.items) ≡ map (λ (s : StTree). Some s) ss
+    → AreStNodes p keys f u (length of.params.items) (node_trees of.nodes.items) nodes → results ≡ of.results.items →
     IsInstance p keys (record { func = f; budget = u; ins = ss; nodes = nodes; results = results; end_line = of.end_line })
 instance-of p keys f u of ss nodes results at ins are same = record {
   of = func_tree of;

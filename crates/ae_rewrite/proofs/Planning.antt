@@ -26,7 +26,8 @@ op-mono : (keys more : Keys) (o : Option Call) (plain : Option StOpTree) (op : S
 op-mono keys more None plain op h is = is
 op-mono keys more (Some c) plain op h is = record { at = is.at; is = is.is; key = h is.at c.func c.budget is.key }
 
-nodes-mono : (p : ProgramTree) (keys more : Keys) (f u i : ℕ) (ns : List NodeTree) (ss : List StNodeTree) → Covers keys more → AreStNodes p keys f u i ns ss → AreStNodes p more f u i ns ss
+nodes-mono : (p : ProgramTree) (keys more : Keys) (f u i : ℕ) (ns : List NodeTree) (ss : List StNodeTree) → Covers keys more → AreStNodes p keys f u i ns ss
+    → AreStNodes p more f u i ns ss
 nodes-mono p keys more f u i [] [] h is = tt
 nodes-mono p keys more f u i [] (s ∷ ss) h is = absurd is
 nodes-mono p keys more f u i (n ∷ ns) [] h is = absurd is
@@ -56,13 +57,18 @@ instance-mono p keys more s h is = record {
 planned-front : (rows : List (List Row)) (own : List Row) (g v : ℕ) (plan : Plan) → IsPlanned rows g v plan → IsPlanned (rows ++ own ∷ []) g v plan
 planned-front rows own g v plan x = record { own = x.own; here = get_in_front rows (own ∷ []) g x.own x.here; row = x.row }
 
-planned-stays : (rows : List (List Row)) (own : List Row) (r : Row) (g v : ℕ) (plan : Plan) → IsPlanned (rows ++ own ∷ []) g v plan → IsPlanned (rows ++ (own ++ r ∷ []) ∷ []) g v plan
+planned-stays : (rows : List (List Row)) (own : List Row) (r : Row) (g v : ℕ) (plan : Plan) → IsPlanned (rows ++ own ∷ []) g v plan
+    → IsPlanned (rows ++ (own ++ r ∷ []) ∷ []) g v plan
 planned-stays rows own r g v plan x = elim (get_of_push rows own g x.own x.here) [
   | inl old ↦ planned-front rows (own ++ r ∷ []) g v plan (record { own = x.own; here = old; row = x.row })
   | inr new ↦ record {
     own = own ++ r ∷ [];
     here = ap (slice_get (rows ++ (own ++ r ∷ []) ∷ [])) new.0 ∙ get_last rows (own ++ r ∷ []);
-    row = record { at = x.row.at; is = get_in_front own (r ∷ []) x.row.at (record { budget = v; plan = plan }) (ap (λ xs. slice_get xs x.row.at) (sym new.1) ∙ x.row.is) };
+    row = record {
+      at = x.row.at;
+      is = get_in_front own (r ∷ []) x.row.at (record { budget = v; plan = plan })
+          (ap (λ xs. slice_get xs x.row.at) (sym new.1) ∙ x.row.is);
+    };
   }
 ]
 
@@ -90,12 +96,15 @@ planned-none rows g v plan x = elim (get_of_push rows [] g x.own x.here) [
 -- ---- keys
 
 key-stays : (instances : List StFuncTree) (s : StFuncTree) (k f u : ℕ) → HasKey instances k f u → HasKey (instances ++ s ∷ []) k f u
-key-stays instances s k f u x = record { instance = x.instance; here = get_in_front instances (s ∷ []) k x.instance x.here; is_func = x.is_func; is_budget = x.is_budget }
+key-stays instances s k f u x =
+    record { instance = x.instance; here = get_in_front instances (s ∷ []) k x.instance x.here; is_func = x.is_func; is_budget = x.is_budget }
 
 pub key-new : (instances : List StFuncTree) (s : StFuncTree) (k f u : ℕ) → k ≡ length instances → s.func ≡ f → s.budget ≡ u → HasKey (instances ++ s ∷ []) k f u
-key-new instances s k f u is is_f is_u = record { instance = s; here = ap (slice_get (instances ++ s ∷ [])) is ∙ get_last instances s; is_func = is_f; is_budget = is_u }
+key-new instances s k f u is is_f is_u =
+    record { instance = s; here = ap (slice_get (instances ++ s ∷ [])) is ∙ get_last instances s; is_func = is_f; is_budget = is_u }
 
-pub key-cases : (instances : List StFuncTree) (s : StFuncTree) (k f u : ℕ) → HasKey (instances ++ s ∷ []) k f u → HasKey instances k f u ⊎ ((k ≡ length instances) × (s.func ≡ f) × (s.budget ≡ u))
+pub key-cases : (instances : List StFuncTree) (s : StFuncTree) (k f u : ℕ) → HasKey (instances ++ s ∷ []) k f u → HasKey instances k f u
+    ⊎ ((k ≡ length instances) × (s.func ≡ f) × (s.budget ≡ u))
 key-cases instances s k f u x = elim (get_of_push instances s k x.instance x.here) [
   | inl old ↦ inl (record { instance = x.instance; here = old; is_func = x.is_func; is_budget = x.is_budget })
   | inr new ↦ inr (new.0, ap (λ (y : StFuncTree). y.func) (sym new.1) ∙ x.is_func, ap (λ (y : StFuncTree). y.budget) (sym new.1) ∙ x.is_budget)
@@ -109,13 +118,16 @@ AreRight p instances = (k : ℕ) (s : StFuncTree) → slice_get instances k ≡ 
 abbrev pub IsOnce : List StFuncTree → Type 0
 IsOnce instances = (i k f u : ℕ) → HasKey instances i f u → HasKey instances k f u → i ≡ k
 
-pub right-more : (p : ProgramTree) (instances : List StFuncTree) (s : StFuncTree) → AreRight p instances → IsInstance p (HasKey instances) s → AreRight p (instances ++ s ∷ [])
+pub right-more : (p : ProgramTree) (instances : List StFuncTree) (s : StFuncTree) → AreRight p instances → IsInstance p (HasKey instances) s
+    → AreRight p (instances ++ s ∷ [])
 right-more p instances s all one k x at = elim (get_of_push instances s k x at) [
-  | inl old ↦ let h = slice_get_within instances k x old in let le : k ≤ length instances = omega arith in rw (take-append-le k instances (s ∷ [])) (all k x old)
+  | inl old ↦ let h = slice_get_within instances k x old in let le : k ≤ length instances = omega arith in
+      rw (take-append-le k instances (s ∷ [])) (all k x old)
   | inr new ↦ rw (new.1, take_at instances (s ∷ []) k (sym new.0)) one
 ]
 
-pub once-more : (instances : List StFuncTree) (s : StFuncTree) (f u : ℕ) → s.func ≡ f → s.budget ≡ u → IsOnce instances → ((k : ℕ) → HasKey instances k f u → ⊥) → IsOnce (instances ++ s ∷ [])
+pub once-more : (instances : List StFuncTree) (s : StFuncTree) (f u : ℕ) → s.func ≡ f → s.budget ≡ u → IsOnce instances
+    → ((k : ℕ) → HasKey instances k f u → ⊥) → IsOnce (instances ++ s ∷ [])
 once-more instances s f u is_f is_u once fresh i k g v a b = elim (key-cases instances s i g v a) [
   | inl old ↦ elim (key-cases instances s k g v b) [
     | inl too ↦ once i k g v old too
@@ -163,17 +175,20 @@ get-take (y ∷ xs) (suc j) zero x h = (h, omega arith)
 get-take (y ∷ xs) (suc j) (suc i) x h = let r = get-take xs j i x h in (r.0, omega (arith, r.1))
 
 -- no instance has the next budget of a function
-fresh-key : (p : ProgramTree) (rows : List (List Row)) (own : List Row) (instances : List StFuncTree) (budgets : List ℕ) (j u k : ℕ) → Plans p (rows ++ own ∷ []) instances → row_budgets own ≡ take j budgets →
+fresh-key : (p : ProgramTree) (rows : List (List Row)) (own : List Row) (instances : List StFuncTree) (budgets : List ℕ) (j u k : ℕ)
+    → Plans p (rows ++ own ∷ []) instances → row_budgets own ≡ take j budgets →
     IsEachOnce budgets → slice_get budgets j ≡ Some u → HasKey instances k (length rows) u → ⊥
 fresh-key p rows own instances budgets j u k h are once at x =
     let y = h.planned k (length rows) u x in
     let mine : y.own ≡ own = same_Some _ _ (sym y.here ∙ get_last rows own) in
     let row : slice_get own y.row.at ≡ Some (record { budget = u; plan = Instance k }) = ap (λ xs. slice_get xs y.row.at) (sym mine) ∙ y.row.is in
-    let read : slice_get (take j budgets) y.row.at ≡ Some u = ap (λ xs. slice_get xs y.row.at) (sym are) ∙ slice_get-map (λ (r : Row). r.budget) own y.row.at ∙ ap (option_map (λ (r : Row). r.budget)) row in
+    let read : slice_get (take j budgets) y.row.at ≡ Some u = ap (λ xs. slice_get xs y.row.at) (sym are) ∙ slice_get-map (λ (r : Row). r.budget) own y.row.at ∙
+    ap (option_map (λ (r : Row). r.budget)) row in
     let all = get-take budgets j y.row.at u read in
     absurd (omega (arith, all.1, once y.row.at j u all.0 at))
 
-more-failed : (p : ProgramTree) (rows : List (List Row)) (own : List Row) (u line : ℕ) (instances : List StFuncTree) → Plans p (rows ++ own ∷ []) instances → failing p (length rows) u ≡ Some line →
+more-failed : (p : ProgramTree) (rows : List (List Row)) (own : List Row) (u line : ℕ) (instances : List StFuncTree) → Plans p (rows ++ own ∷ []) instances
+    → failing p (length rows) u ≡ Some line →
     Plans p (rows ++ (own ++ record { budget = u; plan = Failed line } ∷ []) ∷ []) instances
 more-failed p rows own u line instances h fails =
     let r : Row = record { budget = u; plan = Failed line } in
@@ -186,7 +201,8 @@ more-failed p rows own u line instances h fails =
       once = h.once;
     }
 
-more-instance : (p : ProgramTree) (rows : List (List Row)) (own : List Row) (u k : ℕ) (old new : List StFuncTree) (budgets : List ℕ) (j : ℕ) → Plans p (rows ++ own ∷ []) old → failing p (length rows) u ≡ None →
+more-instance : (p : ProgramTree) (rows : List (List Row)) (own : List Row) (u k : ℕ) (old new : List StFuncTree) (budgets : List ℕ) (j : ℕ)
+    → Plans p (rows ++ own ∷ []) old → failing p (length rows) u ≡ None →
     IsNext p rows (length rows) u k old new → row_budgets own ≡ take j budgets → IsEachOnce budgets → slice_get budgets j ≡ Some u →
     Plans p (rows ++ (own ++ record { budget = u; plan = Instance k } ∷ []) ∷ []) new
 more-instance p rows own u k old new budgets j h fine x are once at =
@@ -211,27 +227,33 @@ more-instance p rows own u k old new budgets j h fine x are once at =
       once = once-more old s (length rows) u x.is_func x.is_budget h.once (λ i y. fresh-key p rows own old budgets j u i h are once at y);
     })
 
-plans-made : (p : ProgramTree) (rows : List (List Row)) (own : List Row) (f u : ℕ) (plan : Plan) (old new : List StFuncTree) (budgets : List ℕ) (j : ℕ) → f ≡ length rows → Plans p (rows ++ own ∷ []) old → IsFailing p f u plan →
+plans-made : (p : ProgramTree) (rows : List (List Row)) (own : List Row) (f u : ℕ) (plan : Plan) (old new : List StFuncTree) (budgets : List ℕ) (j : ℕ)
+    → f ≡ length rows → Plans p (rows ++ own ∷ []) old → IsFailing p f u plan →
     IsMade p rows f u plan old new → row_budgets own ≡ take j budgets → IsEachOnce budgets → slice_get budgets j ≡ Some u →
     Plans p (rows ++ (own ++ record { budget = u; plan = plan } ∷ []) ∷ []) new
 plans-made p rows own f u (Failed line) old new budgets j is h fails made are once at = rw made (more-failed p rows own u line old h (rw is at fails))
-plans-made p rows own f u (Instance k) old new budgets j is h fails made are once at = more-instance p rows own u k old new budgets j h (rw is at fails) (rw is at made) are once at
+plans-made p rows own f u (Instance k) old new budgets j is h fails made are once at =
+    more-instance p rows own u k old new budgets j h (rw is at fails) (rw is at made) are once at
 
 -- where the loop over the budgets of a function is
 pub record Own (p : ProgramTree) (rows : List (List Row)) (own : List Row) (instances : List StFuncTree) (budgets : List ℕ) (j : ℕ) : Type 0 where
   pub plans : Plans p (rows ++ own ∷ []) instances
   pub are : row_budgets own ≡ take j budgets
 
-pub own-start : (p : ProgramTree) (rows : List (List Row)) (instances : List StFuncTree) (budgets : List ℕ) → Plans p rows instances → Own p rows [] instances budgets 0
+pub own-start : (p : ProgramTree) (rows : List (List Row)) (instances : List StFuncTree) (budgets : List ℕ) → Plans p rows instances
+    → Own p rows [] instances budgets 0
 own-start p rows instances budgets h = record { plans = plans-start p rows instances h; are = refl }
 
-pub own-more : (p : ProgramTree) (rows : List (List Row)) (own : List Row) (f u : ℕ) (plan : Plan) (old new : List StFuncTree) (budgets : List ℕ) (j : ℕ) → f ≡ length rows → Own p rows own old budgets j → IsFailing p f u plan →
-    IsMade p rows f u plan old new → IsEachOnce budgets → slice_get budgets j ≡ Some u → Own p rows (own ++ record { budget = u; plan = plan } ∷ []) new budgets (j + 1)
+pub own-more : (p : ProgramTree) (rows : List (List Row)) (own : List Row) (f u : ℕ) (plan : Plan) (old new : List StFuncTree) (budgets : List ℕ) (j : ℕ)
+    → f ≡ length rows → Own p rows own old budgets j → IsFailing p f u plan →
+    IsMade p rows f u plan old new → IsEachOnce budgets → slice_get budgets j ≡ Some u
+    → Own p rows (own ++ record { budget = u; plan = plan } ∷ []) new budgets (j + 1)
 own-more p rows own f u plan old new budgets j is h fails made once at = record {
   plans = plans-made p rows own f u plan old new budgets j is h.plans fails made h.are once at;
   are = map-append (λ (r : Row). r.budget) own (record { budget = u; plan = plan } ∷ []) ∙ ap (λ xs. xs ++ u ∷ []) h.are ∙ sym (take-at budgets j u at);
 }
 
-pub own-end : (p : ProgramTree) (rows : List (List Row)) (own : List Row) (instances : List StFuncTree) (budgets : List ℕ) (j : ℕ) → Own p rows own instances budgets j → length budgets ≤ j →
+pub own-end : (p : ProgramTree) (rows : List (List Row)) (own : List Row) (instances : List StFuncTree) (budgets : List ℕ) (j : ℕ)
+    → Own p rows own instances budgets j → length budgets ≤ j →
     Plans p (rows ++ own ∷ []) instances × (row_budgets own ≡ budgets)
 own-end p rows own instances budgets j h le = (h.plans, h.are ∙ take_all j budgets le)

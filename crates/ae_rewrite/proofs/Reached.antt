@@ -29,19 +29,23 @@ inner-by n clocks Padded h a = (omega arith, omega arith)
 inner-by n clocks (Folded d) h a = (omega arith, omega arith)
 
 -- a sequence's elements have a budget within its own
-spreading-within : (n clocks : ℕ) (t : SeqTree) (o : Option Case) (s : Spreading) → 0 < clocks → case_of n clocks ≡ o → option_map (λ (c : Case). record { count = n; of = t; case = c }) o ≡ Some s → Within clocks (inner clocks s)
+spreading-within : (n clocks : ℕ) (t : SeqTree) (o : Option Case) (s : Spreading) → 0 < clocks → case_of n clocks ≡ o
+    → option_map (λ (c : Case). record { count = n; of = t; case = c }) o ≡ Some s → Within clocks (inner clocks s)
 spreading-within n clocks t None s h e is = absurd (none-some s is)
-spreading-within n clocks t (Some c) s h e is = subst (λ (x : Spreading). Within clocks (inner clocks x)) (same_Some _ s is) (inner-by n clocks c h (applies n clocks c h e))
+spreading-within n clocks t (Some c) s h e is =
+    subst (λ (x : Spreading). Within clocks (inner clocks x)) (same_Some _ s is) (inner-by n clocks c h (applies n clocks c h e))
 
 spread-within : (t : SeqTree) (clocks : ℕ) (s : Spreading) → 0 < clocks → spread t clocks ≡ Some s → Within clocks (inner clocks s)
 spread-within (atom a) clocks s h is = absurd (none-some s is)
 spread-within (seq n t) clocks s h is = spreading-within n clocks t (case_of n clocks) s h refl is
 
-each-within : (g clocks : ℕ) (o : Option Spreading) (c : Call) → ((s : Spreading) → o ≡ Some s → Within clocks (inner clocks s)) → each_call g clocks o ≡ Some c → Within clocks c.budget
+each-within : (g clocks : ℕ) (o : Option Spreading) (c : Call) → ((s : Spreading) → o ≡ Some s → Within clocks (inner clocks s))
+    → each_call g clocks o ≡ Some c → Within clocks c.budget
 each-within g clocks None c h is = absurd (none-some c is)
 each-within g clocks (Some s) c h is = subst (λ (x : Call). Within clocks x.budget) (same_Some _ c is) (h s refl)
 
-call-within : (op : OpTree) (clocks : ℕ) (o : Option Spreading) (c : Call) → 0 < clocks → ((s : Spreading) → o ≡ Some s → Within clocks (inner clocks s)) → call_of op clocks o ≡ Some c → Within clocks c.budget
+call-within : (op : OpTree) (clocks : ℕ) (o : Option Spreading) (c : Call) → 0 < clocks → ((s : Spreading) → o ≡ Some s → Within clocks (inner clocks s))
+    → call_of op clocks o ≡ Some c → Within clocks c.budget
 call-within (call g) clocks o c p h is = subst (λ (x : Call). Within clocks x.budget) (same_Some _ c is) (p, omega arith)
 call-within (each g) clocks o c p h is = each-within g clocks o c h is
 call-within (each_two g) clocks o c p h is = each-within g clocks o c h is

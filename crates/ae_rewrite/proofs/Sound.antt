@@ -47,7 +47,8 @@ quotient_low n d p h = let w = whole n d p h in let l = le_times d (n / d) (n / 
 amounts : (n clocks : ℕ) (c : Case) → 0 < n → n ≤ 4096 → 0 < clocks → clocks ≤ 4096 → Applies n clocks c → IsSpread (slots_of n clocks c) (lanes_of n clocks c)
 amounts n clocks Parallel p q r l h = record { some_slots = omega arith; few_slots = omega arith; some_lanes = p; few_lanes = q }
 amounts n clocks Spread p q r l h = record { some_slots = p; few_slots = q; some_lanes = omega arith; few_lanes = omega arith }
-amounts n clocks Grouped p q r l h = record { some_slots = r; few_slots = l; some_lanes = quotient_pos n clocks p r h; few_lanes = omega (arith, quotient_low n clocks r h) }
+amounts n clocks Grouped p q r l h =
+    record { some_slots = r; few_slots = l; some_lanes = quotient_pos n clocks p r h; few_lanes = omega (arith, quotient_low n clocks r h) }
 amounts n clocks Padded p q r l h = record { some_slots = p; few_slots = q; some_lanes = omega arith; few_lanes = omega arith }
 amounts n clocks (Folded d) p q r l h =
     let b : 0 < d = omega (arith, h.0) in
@@ -74,10 +75,12 @@ pub record HasItem (p : ProgramTree) (f budget : ℕ) (layouts : List StTree) (a
   type : SeqTree
   item : IsItem p f budget layouts a type
 
-item_of : (p : ProgramTree) (f budget : ℕ) (layouts : List StTree) (a : ℕ) (s : StTree) → slice_get layouts a ≡ Some s → layout_at p f budget a ≡ Some s → HasItem p f budget layouts a
+item_of : (p : ProgramTree) (f budget : ℕ) (layouts : List StTree) (a : ℕ) (s : StTree) → slice_get layouts a ≡ Some s → layout_at p f budget a ≡ Some s
+    → HasItem p f budget layouts a
 item_of p f budget layouts a s at is =
     let e : item_layout layouts a ≡ s = get_or_from_slice_get layouts a s (sseq 0 (st_atom (unsigned_word 1))) at in
-    option_and_then_some (λ t. lay_of t budget) (type_at p f a) s is (λ t type some. record { type = t; item = record { is = type; laid = some ∙ ap Some (sym e) } })
+    option_and_then_some (λ t. lay_of t budget) (type_at p f a) s is
+    (λ t type some. record { type = t; item = record { is = type; laid = some ∙ ap Some (sym e) } })
 
 get_front : {A : Type 0} (xs ys : List A) (j : ℕ) (x : A) → slice_get xs j ≡ Some x → slice_get (xs ++ ys) j ≡ Some x
 get_front [] ys j x h = absurd (none-some x h)
@@ -101,7 +104,8 @@ record NodeAt (p : ProgramTree) (keys : Keys) (f u i : ℕ) (ns : List NodeTree)
   here : slice_get ns j ≡ Some node
   is : IsStNode p keys f u (i + j) node s
 
-node_at : (p : ProgramTree) (keys : Keys) (f u i : ℕ) (ns : List NodeTree) (ss : List StNodeTree) (j : ℕ) (s : StNodeTree) → AreStNodes p keys f u i ns ss → slice_get ss j ≡ Some s → NodeAt p keys f u i ns j s
+node_at : (p : ProgramTree) (keys : Keys) (f u i : ℕ) (ns : List NodeTree) (ss : List StNodeTree) (j : ℕ) (s : StNodeTree) → AreStNodes p keys f u i ns ss
+    → slice_get ss j ≡ Some s → NodeAt p keys f u i ns j s
 node_at p keys f u i [] [] j s h at = absurd (none-some s at)
 node_at p keys f u i [] (t ∷ ss) j s h at = absurd h
 node_at p keys f u i (n ∷ ns) [] j s h at = absurd h
@@ -114,7 +118,8 @@ node_at p keys f u i (n ∷ ns) (t ∷ ss) (suc j) s h at =
     let e : i + 1 + j ≡ i + suc j = omega arith in
     record { node = r.node; here = r.here; is = rw (← e) r.is }
 
-param_at : (clocks : ℕ) (ps : List ParamTree) (ss : List StTree) (i : ℕ) (s : StTree) → param_layouts clocks ps ≡ map (λ (x : StTree). Some x) ss → slice_get ss i ≡ Some s → (q : ParamTree) × (slice_get ps i ≡ Some q) × (lay_of q.type clocks ≡ Some s)
+param_at : (clocks : ℕ) (ps : List ParamTree) (ss : List StTree) (i : ℕ) (s : StTree) → param_layouts clocks ps ≡ map (λ (x : StTree). Some x) ss
+    → slice_get ss i ≡ Some s → (q : ParamTree) × (slice_get ps i ≡ Some q) × (lay_of q.type clocks ≡ Some s)
 param_at clocks ps [] i s h at = absurd (none-some s at)
 param_at clocks [] (t ∷ ss) i s h at = cc
 param_at clocks (q ∷ ps) (t ∷ ss) zero s h at =
@@ -128,7 +133,8 @@ as_many : (clocks : ℕ) (ps : List ParamTree) (ss : List StTree) → param_layo
 as_many clocks ps ss h = sym (length-map ss (λ (x : StTree). Some x)) ∙ (ap length (sym h) ∙ length-map ps (λ (q : ParamTree). lay_of q.type clocks))
 
 -- each item before a node has its layout
-item_at : (p : ProgramTree) (keys : Keys) (s : StFuncTree) (h : IsInstance p keys s) (i a : ℕ) → i ≤ length s.nodes → a < length h.of.params + i → HasItem p s.func s.budget (s.ins ++ node_layouts (take i s.nodes)) a
+item_at : (p : ProgramTree) (keys : Keys) (s : StFuncTree) (h : IsInstance p keys s) (i a : ℕ) → i ≤ length s.nodes → a < length h.of.params + i
+    → HasItem p s.func s.budget (s.ins ++ node_layouts (take i s.nodes)) a
 item_at p keys s h i a few below =
     let count : length s.ins ≡ length h.of.params = as_many s.budget h.of.params s.ins h.ins in
     let layouts : List StTree = s.ins ++ node_layouts (take i s.nodes) in
@@ -148,7 +154,9 @@ item_at p keys s h i a few below =
           let m : StNodeTree = get_or s.nodes j blank in
           let at : slice_get s.nodes j ≡ Some m = slice_get-get_or s.nodes j blank (omega (arith, lj, few)) in
           let n = node_at p keys s.func s.budget (length h.of.params) h.of.nodes s.nodes j m h.nodes at in
-          let there : slice_get layouts a ≡ Some m.type = ap (slice_get layouts) (sym e) ∙ (get_back s.ins (node_layouts (take i s.nodes)) j ∙ (slice_get-map (λ (x : StNodeTree). x.type) (take i s.nodes) j ∙ ap (option_map (λ (x : StNodeTree). x.type)) (get_take s.nodes i j lj ∙ at))) in
+          let there : slice_get layouts a ≡ Some m.type = ap (slice_get layouts) (sym e) ∙
+          (get_back s.ins (node_layouts (take i s.nodes)) j ∙
+          (slice_get-map (λ (x : StNodeTree). x.type) (take i s.nodes) j ∙ ap (option_map (λ (x : StNodeTree). x.type)) (get_take s.nodes i j lj ∙ at))) in
           let place : length h.of.params + j ≡ a = omega (arith, count, e) in
           item_of p s.func s.budget layouts a m.type there (rw place at n.is.type)
     ]
@@ -160,7 +168,8 @@ AreItems p f budget layouts [] [] = Unit {0}
 AreItems p f budget layouts (a ∷ as_left) (t ∷ ts) = IsItem p f budget layouts a t × AreItems p f budget layouts as_left ts
 AreItems p f budget layouts _ _ = ⊥
 
-items_typed : (p : ProgramTree) (f budget : ℕ) (layouts : List StTree) (before : List (Option SeqTree)) (args : List ℕ) (ts : List SeqTree) → ((i : ℕ) (u : SeqTree) → slice_get before i ≡ Some (Some u) → type_at p f i ≡ Some u)
+items_typed : (p : ProgramTree) (f budget : ℕ) (layouts : List StTree) (before : List (Option SeqTree)) (args : List ℕ) (ts : List SeqTree)
+    → ((i : ℕ) (u : SeqTree) → slice_get before i ≡ Some (Some u) → type_at p f i ≡ Some u)
     → ((i a : ℕ) → slice_get args i ≡ Some a → HasItem p f budget layouts a) → types_at before args ≡ Some ts → AreItems p f budget layouts args ts
 items_typed p f budget layouts before [] [] same all h = tt
 items_typed p f budget layouts before [] (t ∷ ts) same all h = cc
@@ -185,7 +194,8 @@ record Facts (p : ProgramTree) (budget : ℕ) : Type 0 where
   some : 0 < budget
   limit : budget ≤ 4096
 
-arg_laid : (p : ProgramTree) (f budget : ℕ) (layouts : List StTree) (a : ℕ) (t : SeqTree) → Facts p budget → IsItem p f budget layouts a t → Laid t budget (item_layout layouts a)
+arg_laid : (p : ProgramTree) (f budget : ℕ) (layouts : List StTree) (a : ℕ) (t : SeqTree) → Facts p budget → IsItem p f budget layouts a t
+    → Laid t budget (item_layout layouts a)
 arg_laid p f budget layouts a t c h = laid_whole t budget (item_layout layouts a) (type_sized p f a t c.accepted h.is) c.some h.laid
 
 -- ---- the layout in which a fold's result first comes
@@ -235,7 +245,8 @@ rounds_some n clocks (Folded d) p q = q
 parts_of : (n : ℕ) (t : SeqTree) → IsTrue (in_size (seq n t)) → IsTrue (parts_in_size t) × (depth t ≤ 5)
 parts_of n t h = let a : IsTrue (parts_in_size t) = grind (arith, nat_tests) in let b : depth t ≤ 5 = grind (arith, nat_tests) in (a, b)
 
-raw_for : (budget n : ℕ) (u : SeqTree) (c : Case) (x s : StTree) → 0 < budget → budget ≤ 4096 → case_of n budget ≡ Some c → lay_of u (inner_of n budget c) ≡ Some x → IsTrue (in_size (seq n u))
+raw_for : (budget n : ℕ) (u : SeqTree) (c : Case) (x s : StTree) → 0 < budget → budget ≤ 4096 → case_of n budget ≡ Some c
+    → lay_of u (inner_of n budget c) ≡ Some x → IsTrue (in_size (seq n u))
     → Laid (seq 1 u) budget s → IsFilling budget s → IsRawFor budget (raw_layout budget (inner_of n budget c) x) s
 raw_for budget n u c x s some limit applied found sized out fill =
     let p = (seq_some n u sized).0 in
@@ -251,7 +262,12 @@ raw_for budget n u c x s some limit applied found sized out fill =
     record {
       layout = record {
         time = clocks;
-        size = record { lengths = r.lengths l.lengths; in_time = rw clocks limit; in_words = rw (same, atom) fill.size.in_words; in_depth = omega (arith, r.deep, l.deep, part.1) };
+        size = record {
+          lengths = r.lengths l.lengths;
+          in_time = rw clocks limit;
+          in_words = rw (same, atom) fill.size.in_words;
+          in_depth = omega (arith, r.deep, l.deep, part.1);
+        };
       };
       atom = atom;
       atoms = same;
@@ -265,10 +281,15 @@ laid_part f y (Some x) v e h = (x, e)
 
 -- how an argument is spread
 spread_of : (p : ProgramTree) (f budget a n : ℕ) (u : SeqTree) (s : StTree) → type_at p f a ≡ Some (seq n u) → lay_of (seq n u) budget ≡ Some s
-    → (c : Case) × (case_of n budget ≡ Some c) × ((x : StTree) × (lay_of u (inner_of n budget c) ≡ Some x)) × (spread_at p f budget a ≡ Some (record { count = n; of = u; case = c }))
+    → (c : Case) × (case_of n budget ≡ Some c) × ((x : StTree) × (lay_of u (inner_of n budget c) ≡ Some x))
+    × (spread_at p f budget a ≡ Some (record { count = n; of = u; case = c }))
 spread_of p f budget a n u s is found =
-    option_and_then_some (λ c. option_map (arranged n budget c) (lay_of u (inner_of n budget c))) (case_of n budget) s found (λ c at some.
-    (c, at, laid_part (arranged n budget c) s (lay_of u (inner_of n budget c)) (lay_of u (inner_of n budget c)) refl some, ap (λ o. o >>= λ t. spread t budget) is ∙ ap (option_map (λ (e : Case). record { count = n; of = u; case = e })) at))
+    option_and_then_some (λ c. option_map (arranged n budget c) (lay_of u (inner_of n budget c))) (case_of n budget) s found (λ c at some. (
+      c,
+      at,
+      laid_part (arranged n budget c) s (lay_of u (inner_of n budget c)) (lay_of u (inner_of n budget c)) refl some,
+      ap (λ o. o >>= λ t. spread t budget) is ∙ ap (option_map (λ (e : Case). record { count = n; of = u; case = e })) at,
+    ))
 
 fixed_fits : (t : SeqTree) (budget : ℕ) (s : StTree) (ws : List ℕ) → Laid t budget s → IsTrue (fit_kinds ws (kinds t)) → FixedFits s ws
 fixed_fits t budget s ws l h =
@@ -280,9 +301,12 @@ fixed_fits t budget s ws l h =
           fit-at ws (kinds t) h o w k f (sym (kind-place t o below) ∙ rw l.atom at g);
     }
 
-op_sound : (p : ProgramTree) (f budget k : ℕ) (layouts : List StTree) (known : List Signature) (op : OpTree) (args : List ℕ) (ts : List SeqTree) (t : SeqTree) (s : StTree) (made : StOpTree) → Facts p budget
-    → AreItems p f budget layouts args ts → op_type known op ts ≡ Some t → Laid t budget s → IsFilling budget s → plain_op p f budget op args ≡ Some made → IsSoundOp k budget (map (item_layout layouts) args) s made
-op_sound p f budget k layouts known (word op) args ts t s made c h is out fill plain = let e : st_word (op_by p f op args) ≡ made = same_Some _ made plain in rw (← e) tt
+op_sound : (p : ProgramTree) (f budget k : ℕ) (layouts : List StTree) (known : List Signature) (op : OpTree) (args : List ℕ) (ts : List SeqTree) (t : SeqTree)
+    (s : StTree) (made : StOpTree) → Facts p budget
+    → AreItems p f budget layouts args ts → op_type known op ts ≡ Some t → Laid t budget s → IsFilling budget s → plain_op p f budget op args ≡ Some made
+    → IsSoundOp k budget (map (item_layout layouts) args) s made
+op_sound p f budget k layouts known (word op) args ts t s made c h is out fill plain =
+    let e : st_word (op_by p f op args) ≡ made = same_Some _ made plain in rw (← e) tt
 op_sound p f budget k layouts known (cast_int v) args ts t s made c h is out fill plain = rw (← same_Some _ made plain) tt
 op_sound p f budget k layouts known pair args ts t s made c h is out fill plain = rw (← same_Some join made plain) tt
 op_sound p f budget k layouts known fst args ts t s made c h is out fill plain = rw (← same_Some first made plain) tt
@@ -301,8 +325,12 @@ op_sound p f budget k layouts known (reduce op) (a ∷ []) (seq n u ∷ []) t s 
     let e : t ≡ seq 1 u = sym (same_Some (seq 1 u) t is) in
     let some = seq_some n u sized in
     let m : fold op (slots_of n budget r.0) (lanes_of n budget r.0) (raw_layout budget (inner_of n budget r.0) r.2.0) ≡ made =
-    same_Some _ made (sym (ap (λ o. o >>= fold_of op budget) r.3 ∙ ap (option_map (λ y. fold op (slots_of n budget r.0) (lanes_of n budget r.0) (raw_layout budget (inner_of n budget r.0) y))) r.2.1) ∙ plain) in
-    rw (← m) (raw_for budget n u r.0 r.2.0 s c.some c.limit r.1 r.2.1 sized (rw e at out) fill, amounts n budget r.0 some.0 some.1 c.some c.limit (applies n budget r.0 c.some r.1))
+    same_Some _ made (sym (ap (λ o. o >>= fold_of op budget) r.3 ∙
+    ap (option_map (λ y. fold op (slots_of n budget r.0) (lanes_of n budget r.0) (raw_layout budget (inner_of n budget r.0) y))) r.2.1) ∙ plain) in
+    rw (← m) (
+      raw_for budget n u r.0 r.2.0 s c.some c.limit r.1 r.2.1 sized (rw e at out) fill,
+      amounts n budget r.0 some.0 some.1 c.some c.limit (applies n budget r.0 c.some r.1),
+    )
 op_sound p f budget k layouts known (scan op) (a ∷ []) (seq n u ∷ []) t s made c h is out fill plain =
     let r = spread_of p f budget a n u _ h.0.is h.0.laid in
     let sized = type_sized p f a (seq n u) c.accepted h.0.is in
@@ -382,7 +410,8 @@ op_sound p f budget k layouts known unpartition (a ∷ b ∷ args) (seq n (seq j
 
 -- ---- what calls need
 
-copies_by : (op : OpTree) (budget : ℕ) (o : Option Spreading) (c : Call) → 0 < budget → budget ≤ 4096 → ((s : Spreading) → o ≡ Some s → (0 < s.count) × (s.count ≤ 4096) × (case_of s.count budget ≡ Some s.case)) → call_of op budget o ≡ Some c
+copies_by : (op : OpTree) (budget : ℕ) (o : Option Spreading) (c : Call) → 0 < budget → budget ≤ 4096
+    → ((s : Spreading) → o ≡ Some s → (0 < s.count) × (s.count ≤ 4096) × (case_of s.count budget ≡ Some s.case)) → call_of op budget o ≡ Some c
     → (1 ≤ c.copies) × (c.copies ≤ 4096)
 copies_by (call g) budget o c some limit h is = let e : 1 ≡ c.copies = ap (λ (x : Call). x.copies) (same_Some _ c is) in rw (← e) (omega arith, omega arith)
 copies_by (each g) budget None c some limit h is = absurd (none-some c is)
@@ -399,21 +428,27 @@ copies_by (each_two g) budget (Some s) c some limit h is =
     rw (← e) (a.some_lanes, a.few_lanes)
 copies_by _ budget o c some limit h is = absurd (none-some c is)
 
-case_there : (budget n : ℕ) (u : SeqTree) (s : Spreading) (o : Option Case) → case_of n budget ≡ o → option_map (λ (c : Case). record { count = n; of = u; case = c }) o ≡ Some s → (c : Case) × (case_of n budget ≡ Some c) × (record { count = n; of = u; case = c } ≡ s)
+case_there : (budget n : ℕ) (u : SeqTree) (s : Spreading) (o : Option Case) → case_of n budget ≡ o
+    → option_map (λ (c : Case). record { count = n; of = u; case = c }) o ≡ Some s → (c : Case) × (case_of n budget ≡ Some c)
+    × (record { count = n; of = u; case = c } ≡ s)
 case_there budget n u s None e h = absurd (none-some s h)
 case_there budget n u s (Some c) e h = (c, e, same_Some _ s h)
 
-spread_by : (p : ProgramTree) (f budget a : ℕ) (s : Spreading) (t : SeqTree) → refused_line p ≡ None → type_at p f a ≡ Some t → spread t budget ≡ Some s → (0 < s.count) × (s.count ≤ 4096) × (case_of s.count budget ≡ Some s.case)
+spread_by : (p : ProgramTree) (f budget a : ℕ) (s : Spreading) (t : SeqTree) → refused_line p ≡ None → type_at p f a ≡ Some t → spread t budget ≡ Some s
+    → (0 < s.count) × (s.count ≤ 4096) × (case_of s.count budget ≡ Some s.case)
 spread_by p f budget a s (atom b) accepted type some = absurd (none-some s some)
 spread_by p f budget a s (seq n u) accepted type some =
     let sized = seq_some n u (type_sized p f a (seq n u) accepted type) in
     let r = case_there budget n u s (case_of n budget) refl some in
     rw (← r.2) (sized.0, sized.1, r.1)
 
-spread_facts : (p : ProgramTree) (f budget a : ℕ) (s : Spreading) → refused_line p ≡ None → spread_at p f budget a ≡ Some s → (0 < s.count) × (s.count ≤ 4096) × (case_of s.count budget ≡ Some s.case)
-spread_facts p f budget a s accepted is = option_and_then_some (λ t. spread t budget) (type_at p f a) s is (λ t type some. spread_by p f budget a s t accepted type some)
+spread_facts : (p : ProgramTree) (f budget a : ℕ) (s : Spreading) → refused_line p ≡ None → spread_at p f budget a ≡ Some s → (0 < s.count) × (s.count ≤ 4096)
+    × (case_of s.count budget ≡ Some s.case)
+spread_facts p f budget a s accepted is =
+    option_and_then_some (λ t. spread t budget) (type_at p f a) s is (λ t type some. spread_by p f budget a s t accepted type some)
 
-copies_sound : (p : ProgramTree) (f budget : ℕ) (n : NodeTree) (o : Option Call) (m : ℕ) → refused_line p ≡ None → 0 < budget → budget ≤ 4096 → called_by p f budget n ≡ o → m ≡ copies_of o → (1 ≤ m) × (m ≤ 4096)
+copies_sound : (p : ProgramTree) (f budget : ℕ) (n : NodeTree) (o : Option Call) (m : ℕ) → refused_line p ≡ None → 0 < budget → budget ≤ 4096
+    → called_by p f budget n ≡ o → m ≡ copies_of o → (1 ≤ m) × (m ≤ 4096)
 copies_sound p f budget n None m accepted some limit e is = rw is (omega arith, omega arith)
 copies_sound p f budget n (Some c) m accepted some limit e is =
     rw is (copies_by n.op budget (spread_at p f budget (head n.args)) c some limit (λ s at. spread_facts p f budget (head n.args) s accepted at) e)
@@ -461,7 +496,8 @@ few_arguments unpartition n h = grind (arith, nat_tests)
 
 -- ---- nodes, instances, the whole
 
-called_sound : (k budget : ℕ) (all : List StFuncTree) (layouts : List StTree) (s : StNodeTree) (o : Option Call) (plain : Option StOpTree) → IsOp (HasKey (take k all)) o plain s.op
+called_sound : (k budget : ℕ) (all : List StFuncTree) (layouts : List StTree) (s : StNodeTree) (o : Option Call) (plain : Option StOpTree)
+    → IsOp (HasKey (take k all)) o plain s.op
     → (plain ≡ Some s.op → IsSoundOp k budget layouts s.type s.op) → IsSoundOp k budget layouts s.type s.op
 called_sound k budget all layouts s None plain h own = own h
 called_sound k budget all layouts s (Some c) plain h own =
@@ -474,35 +510,41 @@ called_sound k budget all layouts s (Some c) plain h own =
     length_take_low (suc k) [] = omega arith
     length_take_low (suc k) (x ∷ xs) = omega (arith, length_take_low k xs)
 
-node_sound : (p : ProgramTree) (all : List StFuncTree) (k : ℕ) (s : StFuncTree) (h : IsInstance p (HasKey (take k all)) s) → IsTrue (formed p) → Facts p s.budget → IsFilled s → (i : ℕ) (n : StNodeTree) → slice_get s.nodes i ≡ Some n
+node_sound : (p : ProgramTree) (all : List StFuncTree) (k : ℕ) (s : StFuncTree) (h : IsInstance p (HasKey (take k all)) s) → IsTrue (formed p)
+    → Facts p s.budget → IsFilled s → (i : ℕ) (n : StNodeTree) → slice_get s.nodes i ≡ Some n
     → IsSoundNode k s.budget (s.ins ++ node_layouts (take i s.nodes)) n
 node_sound p all k s h good facts filled i n at =
     let layouts : List StTree = s.ins ++ node_layouts (take i s.nodes) in
     let inside : i < length s.nodes = slice_get_within s.nodes i n at in
     let count : length s.ins ≡ length h.of.params = as_many s.budget h.of.params s.ins h.ins in
-    let taken : length (node_layouts (take i s.nodes)) ≡ i = length-map (take i s.nodes) (λ (x : StNodeTree). x.type) ∙ length-take-le i s.nodes (omega (arith, inside)) in
+    let taken : length (node_layouts (take i s.nodes)) ≡ i = length-map (take i s.nodes) (λ (x : StNodeTree). x.type) ∙
+    length-take-le i s.nodes (omega (arith, inside)) in
     let long : length layouts ≡ length h.of.params + i = length-append s.ins (node_layouts (take i s.nodes)) ∙ omega (arith, count, taken) in
     let from = node_at p (HasKey (take k all)) s.func s.budget (length h.of.params) h.of.nodes s.nodes i n h.nodes at in
     let form = node-of p s.func h.of i from.node good h.known from.here in
     let fill = filled.nodes i n.type (slice_get-map (λ (x : StNodeTree). x.type) s.nodes i ∙ ap (option_map (λ (x : StNodeTree). x.type)) at) in
-    let copies = copies_sound p s.func s.budget from.node (called_by p s.func s.budget from.node) n.copies facts.accepted facts.some facts.limit refl from.is.copies in
+    let copies = copies_sound p s.func s.budget from.node
+    (called_by p s.func s.budget from.node) n.copies facts.accepted facts.some facts.limit refl from.is.copies in
     record {
       args = λ j a f. let low = below-at (length h.of.params + i) from.node.args j a form.below (rw from.is.args at f) in omega (arith, low, long);
       few = rw from.is.args (few_arguments from.node.op (length from.node.args) form.arguments);
       layout = fill;
       some_copies = copies.0;
       few_copies = copies.1;
-      op = called_sound k s.budget all (map (item_layout layouts) n.args) n (called_by p s.func s.budget from.node) (plain_op p s.func s.budget from.node.op from.node.args) from.is.op (λ plain.
+      op = called_sound k s.budget all (map (item_layout layouts) n.args) n (called_by p s.func s.budget from.node)
+          (plain_op p s.func s.budget from.node.op from.node.args) from.is.op (λ plain.
           option_and_then_some (λ t. lay_of t s.budget) (type_at p s.func (length h.of.params + i)) n.type from.is.type (λ t type found.
           let typed = typed-node p s.func h.of i from.node t h.known from.here type in
           let out = laid_whole t s.budget n.type (type_sized p s.func (length h.of.params + i) t facts.accepted type) facts.some found in
           option_and_then_some (op_type typed.known from.node.op) (types_at typed.before from.node.args) t typed.is (λ ts all_types is.
           let items = items_typed p s.func s.budget layouts typed.before from.node.args ts typed.same
-          (λ j a f. item_at p (HasKey (take k all)) s h i a (omega (arith, inside)) (below-at (length h.of.params + i) from.node.args j a form.below f)) all_types in
+          (λ j a f. item_at p (HasKey (take k all)) s h i a (omega (arith, inside)) (below-at (length h.of.params + i) from.node.args j a form.below f))
+          all_types in
           rw from.is.args (op_sound p s.func s.budget k layouts typed.known from.node.op from.node.args ts t n.type n.op facts items is out fill plain))));
     }
 
-func_sound : (p : ProgramTree) (slowdown : ℕ) (all : List StFuncTree) (k : ℕ) (s : StFuncTree) → IsTrue (formed p) → refused_line p ≡ None → 0 < slowdown → slowdown ≤ 4096 → IsSchedule p slowdown all → AllFilled all → slice_get all k ≡ Some s → IsSoundFunc k s
+func_sound : (p : ProgramTree) (slowdown : ℕ) (all : List StFuncTree) (k : ℕ) (s : StFuncTree) → IsTrue (formed p) → refused_line p ≡ None → 0 < slowdown
+    → slowdown ≤ 4096 → IsSchedule p slowdown all → AllFilled all → slice_get all k ≡ Some s → IsSoundFunc k s
 func_sound p slowdown all k s good accepted some limit h filled at =
     let own = h.right k s at in
     let key : HasKey all k s.func s.budget = record { instance = s; here = at; is_func = refl; is_budget = refl } in
@@ -511,8 +553,10 @@ func_sound p slowdown all k s good accepted some limit h filled at =
     let fill = filled k s at in
     let form = formed-of p s.func own.of good own.known in
     let count : length s.ins ≡ length own.of.params = as_many s.budget own.of.params s.ins own.ins in
-    let nodes : length s.nodes ≡ length own.of.nodes = nodes_many p (HasKey (take k all)) s.func s.budget (length own.of.params) own.of.nodes s.nodes own.nodes in
-    let long : length (item_layouts s) ≡ length own.of.params + length own.of.nodes = length-append s.ins (node_layouts s.nodes) ∙ omega (arith, count, nodes, length-map s.nodes (λ (x : StNodeTree). x.type)) in
+    let nodes : length s.nodes ≡ length own.of.nodes = nodes_many p (HasKey (take k all)) s.func s.budget
+    (length own.of.params) own.of.nodes s.nodes own.nodes in
+    let long : length (item_layouts s) ≡ length own.of.params + length own.of.nodes = length-append s.ins (node_layouts s.nodes) ∙
+    omega (arith, count, nodes, length-map s.nodes (λ (x : StNodeTree). x.type)) in
     record {
       ins = fill.ins;
       few_ins = omega (arith, count, form.few_params);
@@ -529,7 +573,8 @@ func_sound p slowdown all k s good accepted some limit h filled at =
     nodes_many p keys f u i (n ∷ ns) (t ∷ ss) h = omega (arith, nodes_many p keys f u (i + 1) ns ss h.1)
 
 -- what is said of a schedule makes it one that is put together rightly
-pub schedule_sound : (p : ProgramTree) (slowdown : ℕ) (all : List StFuncTree) → IsTrue (formed p) → refused_line p ≡ None → 0 < slowdown → slowdown ≤ 4096 → IsSchedule p slowdown all → AllFilled all → IsSound all
+pub schedule_sound : (p : ProgramTree) (slowdown : ℕ) (all : List StFuncTree) → IsTrue (formed p) → refused_line p ≡ None → 0 < slowdown → slowdown ≤ 4096
+    → IsSchedule p slowdown all → AllFilled all → IsSound all
 schedule_sound p slowdown all good accepted some limit h filled = record {
   some = let inside = slice_get_within all (length all - 1) h.last.instance h.last.here in omega (arith, inside);
   each = λ k s at. func_sound p slowdown all k s good accepted some limit h filled at;

@@ -20,7 +20,8 @@ record HasStNode (p : ProgramTree) (keys : Keys) (f u i : ℕ) (n : NodeTree) (s
   here : slice_get ss j ≡ Some node
   is : IsStNode p keys f u (i + j) n node
 
-st_node_of : (p : ProgramTree) (keys : Keys) (f u i : ℕ) (ns : List NodeTree) (ss : List StNodeTree) (j : ℕ) (n : NodeTree) → AreStNodes p keys f u i ns ss → slice_get ns j ≡ Some n → HasStNode p keys f u i n ss j
+st_node_of : (p : ProgramTree) (keys : Keys) (f u i : ℕ) (ns : List NodeTree) (ss : List StNodeTree) (j : ℕ) (n : NodeTree) → AreStNodes p keys f u i ns ss
+    → slice_get ns j ≡ Some n → HasStNode p keys f u i n ss j
 st_node_of p keys f u i [] [] j n h at = absurd (none-some n at)
 st_node_of p keys f u i [] (t ∷ ss) j n h at = absurd h
 st_node_of p keys f u i (m ∷ ns) [] j n h at = absurd h
@@ -39,8 +40,10 @@ record HasUsed (all : List StFuncTree) (func budget : ℕ) : Type 0 where
   key : HasKey all at func budget
   used : IsUsed all at
 
-reached_used : (p : ProgramTree) (slowdown : ℕ) (all : List StFuncTree) → IsSchedule p slowdown all → (func budget : ℕ) → IsReached p slowdown func budget → HasUsed all func budget
-reached_used p slowdown all h func budget (as_program g v is_f is_u) = record { at = length all - 1; key = rw (is_f, is_u) h.last; used = as_last (length all - 1) refl }
+reached_used : (p : ProgramTree) (slowdown : ℕ) (all : List StFuncTree) → IsSchedule p slowdown all → (func budget : ℕ) → IsReached p slowdown func budget
+    → HasUsed all func budget
+reached_used p slowdown all h func budget (as_program g v is_f is_u) =
+    record { at = length all - 1; key = rw (is_f, is_u) h.last; used = as_last (length all - 1) refl }
 reached_used p slowdown all h func budget (as_called g v caller clocks k of n c r known here is is_f is_u) =
     let above = reached_used p slowdown all h caller clocks r in
     let s : StFuncTree = above.key.instance in
@@ -49,7 +52,8 @@ reached_used p slowdown all h func budget (as_called g v caller clocks k of n c 
     let there : slice_get own.of.nodes k ≡ Some n = rw same here in
     let from = st_node_of p (HasKey (take above.at all)) s.func s.budget (length own.of.params) own.of.nodes s.nodes k n own.nodes there in
     let called : called_by p s.func s.budget n ≡ Some c = rw (above.key.is_func, above.key.is_budget) is in
-    let b : IsBody (HasKey (take above.at all)) c from.node.op = subst (λ (o : Option Call). IsOp (HasKey (take above.at all)) o (plain_op p s.func s.budget n.op n.args) from.node.op) called from.is.op in
+    let b : IsBody (HasKey (take above.at all)) c from.node.op = subst
+    (λ (o : Option Call). IsOp (HasKey (take above.at all)) o (plain_op p s.func s.budget n.op n.args) from.node.op) called from.is.op in
     record {
       at = b.at;
       key = record {
@@ -61,7 +65,8 @@ reached_used p slowdown all h func budget (as_called g v caller clocks k of n c 
       used = used_call b.at above.at k s from.node above.used above.key.here from.here b.is;
     }
 
-pub schedule_used : (p : ProgramTree) (slowdown : ℕ) (all : List StFuncTree) → IsSchedule p slowdown all → (k : ℕ) (s : StFuncTree) → slice_get all k ≡ Some s → IsUsed all k
+pub schedule_used : (p : ProgramTree) (slowdown : ℕ) (all : List StFuncTree) → IsSchedule p slowdown all → (k : ℕ) (s : StFuncTree) → slice_get all k ≡ Some s
+    → IsUsed all k
 schedule_used p slowdown all h k s at =
     let key : HasKey all k s.func s.budget = record { instance = s; here = at; is_func = refl; is_budget = refl } in
     let u = reached_used p slowdown all h s.func s.budget (h.reached k s.func s.budget key) in

@@ -37,20 +37,33 @@ in-take (y ∷ xs) (suc j) (suc i) x h p = in-take xs j i x h (omega arith)
 -- ---- what is called has a plan
 
 -- a budget among those of rows has a row
-has-row : (rows : List (List Row)) (g v : ℕ) (us : List ℕ) (at : ℕ) → slice_get (all_row_budgets rows) g ≡ Some us → slice_get us at ≡ Some v → (plan : Plan) × IsPlanned rows g v plan
+has-row : (rows : List (List Row)) (g v : ℕ) (us : List ℕ) (at : ℕ) → slice_get (all_row_budgets rows) g ≡ Some us → slice_get us at ≡ Some v → (plan : Plan)
+    × IsPlanned rows g v plan
 has-row rows g v us at h is =
     let own = from row_budgets rows g us h in
-    let row = from (λ (r : Row). r.budget) own.x at v (ap (λ xs. slice_get xs at) own.is ∙ is) in
-    (row.x.plan, record { own = own.x; here = own.here; row = record { at = at; is = row.here ∙ ap (λ u. Some (record { budget = u; plan = row.x.plan })) row.is } })
+    let row = from (λ (r : Row). r.budget) own.x at v (ap (λ xs. slice_get xs at) own.is ∙ is) in (
+      row.x.plan,
+      record {
+        own = own.x;
+        here = own.here;
+        row = record {
+          at = at;
+          is = row.here ∙
+              ap (λ u. Some (record { budget = u; plan = row.x.plan })) row.is;
+        };
+      },
+    )
 
-pub known-of : (p : ProgramTree) (s f u : ℕ) (needs : List (List ℕ)) (rows : List (List Row)) → IsTrue (formed p) → Reaches p s 0 needs → all_row_budgets rows ≡ take f needs → IsAmong needs f u → AreCallsKnown p f u rows
+pub known-of : (p : ProgramTree) (s f u : ℕ) (needs : List (List ℕ)) (rows : List (List Row)) → IsTrue (formed p) → Reaches p s 0 needs
+    → all_row_budgets rows ≡ take f needs → IsAmong needs f u → AreCallsKnown p f u rows
 known-of p s f u needs rows formed r are among k c is =
     let m = r.closed f u (omega arith) among k c is in
     let below = called-above p f u is.of k is.node c formed is.known is.here is.is in
     let row = has-row rows c.func c.budget m.own m.at (ap (λ xs. slice_get xs c.func) are ∙ in-take needs f c.func m.own m.here below) m.is in
     record { plan = row.0; row = row.1 }
 
-pub main-known : (p : ProgramTree) (s : ℕ) (needs : List (List ℕ)) (rows : List (List Row)) → Reaches p s 0 needs → all_row_budgets rows ≡ needs → AreCallsKnown p (length p.funcs - 1) s rows
+pub main-known : (p : ProgramTree) (s : ℕ) (needs : List (List ℕ)) (rows : List (List Row)) → Reaches p s 0 needs → all_row_budgets rows ≡ needs
+    → AreCallsKnown p (length p.funcs - 1) s rows
 main-known p s needs rows r are k c is =
     let m = r.program k c is in
     let row = has-row rows c.func c.budget m.own m.at (ap (λ xs. slice_get xs c.func) are ∙ m.here) m.is in
@@ -65,34 +78,41 @@ pub record All (p : ProgramTree) (needs : List (List ℕ)) (rows : List (List Ro
 pub all-start : (p : ProgramTree) (needs : List (List ℕ)) (instances : List StFuncTree) → instances ≡ [] → All p needs [] instances 0
 all-start p needs instances e = rw e (record { plans = plans-none p; are = refl })
 
-pub all-more : (p : ProgramTree) (needs : List (List ℕ)) (rows : List (List Row)) (own : List Row) (old new : List StFuncTree) (f : ℕ) (us : List ℕ) → All p needs rows old f → slice_get needs f ≡ Some us →
+pub all-more : (p : ProgramTree) (needs : List (List ℕ)) (rows : List (List Row)) (own : List Row) (old new : List StFuncTree) (f : ℕ) (us : List ℕ)
+    → All p needs rows old f → slice_get needs f ≡ Some us →
     Plans p (rows ++ own ∷ []) new → row_budgets own ≡ us → All p needs (rows ++ own ∷ []) new (f + 1)
 all-more p needs rows own old new f us h at plans is = record {
   plans = plans;
-  are = map-append row_budgets rows (own ∷ []) ∙ ap (λ xs. xs ++ row_budgets own ∷ []) h.are ∙ ap (λ ys. take f needs ++ ys ∷ []) is ∙ sym (take-at needs f us at);
+  are = map-append row_budgets rows (own ∷ []) ∙ ap (λ xs. xs ++ row_budgets own ∷ []) h.are ∙ ap (λ ys. take f needs ++ ys ∷ []) is ∙
+      sym (take-at needs f us at);
 }
 
-pub all-end : (p : ProgramTree) (needs : List (List ℕ)) (rows : List (List Row)) (instances : List StFuncTree) (f : ℕ) → All p needs rows instances f → length needs ≤ f → Plans p rows instances × (all_row_budgets rows ≡ needs)
+pub all-end : (p : ProgramTree) (needs : List (List ℕ)) (rows : List (List Row)) (instances : List StFuncTree) (f : ℕ) → All p needs rows instances f
+    → length needs ≤ f → Plans p rows instances × (all_row_budgets rows ≡ needs)
 all-end p needs rows instances f h le = (h.plans, h.are ∙ take_all f needs le)
 
-pub rows-long : (p : ProgramTree) (needs : List (List ℕ)) (rows : List (List Row)) (instances : List StFuncTree) (f : ℕ) → All p needs rows instances f → f < length needs → f ≡ length rows
+pub rows-long : (p : ProgramTree) (needs : List (List ℕ)) (rows : List (List Row)) (instances : List StFuncTree) (f : ℕ) → All p needs rows instances f
+    → f < length needs → f ≡ length rows
 rows-long p needs rows instances f h lt =
     let e : length (all_row_budgets rows) ≡ length rows = simp length-map in
     let t : length (take f needs) ≡ f = length-take-le f needs (omega arith) in
     omega (arith, e, t, ap length h.are)
 
 -- list number f of the code
-pub number-list : (needs : List (Vec ℕ Global)) (f : ℕ) (v : Vec ℕ Global) → f < length needs → v ≡ get_or needs f v → slice_get (number_lists needs) f ≡ Some v.items
+pub number-list : (needs : List (Vec ℕ Global)) (f : ℕ) (v : Vec ℕ Global) → f < length needs → v ≡ get_or needs f v
+    → slice_get (number_lists needs) f ≡ Some v.items
 number-list needs f v h is = slice_get-map number_items needs f ∙ ap (option_map number_items) (slice_get_read needs (length needs) f v refl h is)
 
-pub within-of : (p : ProgramTree) (s f : ℕ) (needs : List (List ℕ)) (us : List ℕ) → 0 < s → s ≤ 4096 → Reaches p s 0 needs → slice_get needs f ≡ Some us → (i u : ℕ) → slice_get us i ≡ Some u → (0 < u) × (u ≤ 4096)
+pub within-of : (p : ProgramTree) (s f : ℕ) (needs : List (List ℕ)) (us : List ℕ) → 0 < s → s ≤ 4096 → Reaches p s 0 needs → slice_get needs f ≡ Some us
+    → (i u : ℕ) → slice_get us i ≡ Some u → (0 < u) × (u ≤ 4096)
 within-of p s f needs us h le r at i u is =
     let w = reached-within p s f u h (r.reached f u (record { own = us; here = at; at = i; is = is })) in
     (w.0, omega (arith, w.1))
 
 -- ---- the whole
 
-pub schedule-of : (p : ProgramTree) (s : ℕ) (needs : List (List ℕ)) (rows : List (List Row)) (old new : List StFuncTree) (whole : StFuncTree) → Reaches p s 0 needs → all_row_budgets rows ≡ needs → Plans p rows old →
+pub schedule-of : (p : ProgramTree) (s : ℕ) (needs : List (List ℕ)) (rows : List (List Row)) (old new : List StFuncTree) (whole : StFuncTree)
+    → Reaches p s 0 needs → all_row_budgets rows ≡ needs → Plans p rows old →
     IsInstance p (HasPlan rows) whole → whole.func ≡ length p.funcs - 1 → whole.budget ≡ s → new ≡ old ++ whole ∷ [] → IsSchedule p s new
 schedule-of p s needs rows old new whole r are h is is_f is_u more =
     let long : length rows ≡ length p.funcs - 1 = (let e : length (all_row_budgets rows) ≡ length rows = simp length-map in sym e) ∙ ap length are ∙ r.count in
@@ -109,7 +129,8 @@ schedule-of p s needs rows old new whole r are h is is_f is_u more =
       reached = λ k f u x. elim (key-cases old whole k f u x) [
         | inl was ↦
             let y = back k f u was in
-            let read : slice_get needs f ≡ Some (row_budgets y.own) = ap (λ xs. slice_get xs f) (sym are) ∙ slice_get-map row_budgets rows f ∙ ap (option_map row_budgets) y.here in
+            let read : slice_get needs f ≡ Some (row_budgets y.own) = ap (λ xs. slice_get xs f) (sym are) ∙ slice_get-map row_budgets rows f ∙
+            ap (option_map row_budgets) y.here in
             r.reached f u (record {
               own = row_budgets y.own;
               here = read;

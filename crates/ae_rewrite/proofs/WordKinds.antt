@@ -52,7 +52,8 @@ kind-place t j h =
     let ks = atom_kinds (atom_of t) in
     let size : length ks ≡ atom_words (atom_of t) = length-atom_kinds (atom_of t) in
     let all : words t ≡ atoms t * length ks = words-atoms t ∙ ap (λ i. atoms t * i) (sym size) in
-    ap (λ i. slice_get ks (j % i)) (sym size) ∙ sym (repeated-at (atoms t) ks j (omega arith)) ∙ ap (λ (zs : List WordKind). slice_get zs j) (sym (kinds-repeated t))
+    ap (λ i. slice_get ks (j % i)) (sym size) ∙ sym (repeated-at (atoms t) ks j (omega arith)) ∙
+    ap (λ (zs : List WordKind). slice_get zs j) (sym (kinds-repeated t))
 
 -- words that fit their kinds
 pub fit-length : (ws : List ℕ) (ks : List WordKind) → IsTrue (fit_kinds ws ks) → length ws ≡ length ks
@@ -61,7 +62,8 @@ fit-length [] (k ∷ ks) h = cc
 fit-length (x ∷ ws) [] h = cc
 fit-length (x ∷ ws) (k ∷ ks) h = let rest : IsTrue (fit_kinds ws ks) = grind (arith, nat_tests) in omega (arith, fit-length ws ks rest)
 
-pub fit-at : (ws : List ℕ) (ks : List WordKind) → IsTrue (fit_kinds ws ks) → (o x : ℕ) (k : WordKind) → slice_get ws o ≡ Some x → slice_get ks o ≡ Some k → x < 2 ^ k.width
+pub fit-at : (ws : List ℕ) (ks : List WordKind) → IsTrue (fit_kinds ws ks) → (o x : ℕ) (k : WordKind) → slice_get ws o ≡ Some x → slice_get ks o ≡ Some k
+    → x < 2 ^ k.width
 fit-at [] ks h o x k f g = absurd (none-some x f)
 fit-at (y ∷ ws) [] h o x k f g = absurd (none-some k g)
 fit-at (y ∷ ws) (l ∷ ks) h zero x k f g =

@@ -46,7 +46,12 @@ head args = get_or args 0 0
 
 -- a body for each lane, which has an element's budget
 abbrev pub each_call : (func clocks : ℕ) → Option Spreading → Option Call
-each_call g clocks o = option_map (λ (s : Spreading). record { func = g; budget = inner clocks s; copies = lanes_of s.count clocks s.case }) o
+each_call g clocks o =
+    option_map (λ (s : Spreading). record {
+      func = g;
+      budget = inner clocks s;
+      copies = lanes_of s.count clocks s.case;
+    }) o
 
 -- what a node calls, where its first argument is spread so
 abbrev pub call_of : OpTree → (clocks : ℕ) → Option Spreading → Option Call
@@ -78,7 +83,9 @@ abbrev pub raw_layout : (clocks inner : ℕ) → StTree → StTree
 raw_layout clocks inner t = if nat_eq clocks 1 then sseq 1 t else tseq 1 (clocks / inner - 1) t
 
 abbrev pub fold_of : WordOp → (clocks : ℕ) → Spreading → Option StOpTree
-fold_of op clocks s = option_map (λ t. fold op (slots_of s.count clocks s.case) (lanes_of s.count clocks s.case) (raw_layout clocks (inner clocks s) t)) (lay_of s.of (inner clocks s))
+fold_of op clocks s =
+    option_map (λ t. fold op (slots_of s.count clocks s.case) (lanes_of s.count clocks s.case)
+    (raw_layout clocks (inner clocks s) t)) (lay_of s.of (inner clocks s))
 
 abbrev pub scan_of : WordOp → (clocks : ℕ) → Spreading → StOpTree
 scan_of op clocks s = st_scan op (slots_of s.count clocks s.case) (lanes_of s.count clocks s.case)

@@ -30,7 +30,8 @@ node_line p known f clocks i n = unless_laid (layout_at p f clocks i) n.line (ca
 -- that of the first of these nodes that has one; they are item i and those after it
 abbrev pub nodes_line : ProgramTree → (known : ℕ → ℕ → Option ℕ) (func budget item : ℕ) → List NodeTree → Option ℕ
 nodes_line p known f clocks i [] = None
-nodes_line p known f clocks i (n ∷ ns) = or_line (node_line p known f clocks i n) (nodes_line p known f clocks (i + 1) ns)
+nodes_line p known f clocks i (n ∷ ns) =
+    or_line (node_line p known f clocks i n) (nodes_line p known f clocks (i + 1) ns)
 
 -- each parameter has a layout
 abbrev pub params_laid : (budget : ℕ) → List ParamTree → Bool
@@ -38,7 +39,8 @@ params_laid clocks [] = true
 params_laid clocks (q ∷ qs) = is_some (lay_of q.type clocks) && params_laid clocks qs
 
 abbrev pub func_line : ProgramTree → (known : ℕ → ℕ → Option ℕ) (func budget : ℕ) → FuncTree → Option ℕ
-func_line p known k clocks f = if params_laid clocks f.params then nodes_line p known k clocks (length f.params) f.nodes else Some f.line
+func_line p known k clocks f =
+    if params_laid clocks f.params then nodes_line p known k clocks (length f.params) f.nodes else Some f.line
 
 -- ---- each function's failing line by its budget, from those of the functions above
 

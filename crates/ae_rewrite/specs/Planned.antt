@@ -166,7 +166,8 @@ pub record Reaches (p : ProgramTree) (slowdown m : ℕ) (budgets : List (List �
   pub closed : (f u : ℕ) → m ≤ f → IsAmong budgets f u → IsClosedAt p f u budgets
 
 -- a new instance, right by the rows
-pub record IsNext (p : ProgramTree) (rows : List (List Row)) (func budget k : ℕ) (old new : List StFuncTree) : Type 0 where
+pub record IsNext (p : ProgramTree) (rows : List (List Row)) (func budget k : ℕ)
+    (old new : List StFuncTree) : Type 0 where
   pub instance : StFuncTree
   pub number : k ≡ length old
   pub more : new ≡ old ++ instance ∷ []

@@ -11,7 +11,8 @@ use Rattle.ae_rewrite.specs.StProgramTree.{StOpTree, body, StNodeTree, StFuncTre
 -- the function is reached under the budget: it is the program function, or a node of a reached one calls it
 pub data IsReached (p : ProgramTree) (slowdown : ℕ) : (func budget : ℕ) → Type 0 where
   as_program : (func budget : ℕ) → func ≡ length p.funcs - 1 → budget ≡ slowdown → IsReached p slowdown func budget
-  as_called : (func budget caller clocks k : ℕ) (f : FuncTree) (n : NodeTree) (c : Call) → IsReached p slowdown caller clocks
+  as_called : (func budget caller clocks k : ℕ) (f : FuncTree) (n : NodeTree) (c : Call)
+      → IsReached p slowdown caller clocks
       → slice_get p.funcs caller ≡ Some f → slice_get f.nodes k ≡ Some n → called_by p caller clocks n ≡ Some c
       → func ≡ c.func → budget ≡ c.budget → IsReached p slowdown func budget
 
@@ -53,7 +54,8 @@ pub record IsStNode (p : ProgramTree) (keys : Keys) (func budget i : ℕ) (n : N
 -- the nodes, one for each; they are item i and those after it
 abbrev pub AreStNodes : ProgramTree → Keys → (func budget i : ℕ) → List NodeTree → List StNodeTree → Type 0
 AreStNodes p keys f clocks i [] [] = Unit {0}
-AreStNodes p keys f clocks i (n ∷ ns) (s ∷ ss) = IsStNode p keys f clocks i n s × AreStNodes p keys f clocks (i + 1) ns ss
+AreStNodes p keys f clocks i (n ∷ ns) (s ∷ ss) =
+    IsStNode p keys f clocks i n s × AreStNodes p keys f clocks (i + 1) ns ss
 AreStNodes p keys f clocks i _ _ = ⊥
 
 abbrev pub param_layouts : (budget : ℕ) → List ParamTree → List (Option StTree)

@@ -32,7 +32,8 @@ pub record IsSpread (slots lanes : ℕ) : Type 0 where
 -- as many fixed words as the layout has words, each below two to the power of its width
 pub record FixedFits (s : StTree) (words : List ℕ) : Type 0 where
   pub long : length words ≡ st_atoms s * element_words s
-  pub fits : (o w : ℕ) (k : WordKind) → slice_get words o ≡ Some w → slice_get (atom_kinds (element_atom s)) (o % element_words s) ≡ Some k → w < 2 ^ k.width
+  pub fits : (o w : ℕ) (k : WordKind) → slice_get words o ≡ Some w
+      → slice_get (atom_kinds (element_atom s)) (o % element_words s) ≡ Some k → w < 2 ^ k.width
 
 -- a fold's result first comes in the layout `raw`, which has the atom and the elements of its own
 pub record IsRawFor (budget : ℕ) (raw s : StTree) : Type 0 where
@@ -66,7 +67,8 @@ pub record IsSoundNode (k budget : ℕ) (layouts : List StTree) (n : StNodeTree)
 pub record IsSoundFunc (k : ℕ) (s : StFuncTree) : Type 0 where
   pub ins : AreFilling s.budget s.ins
   pub few_ins : length s.ins ≤ 8
-  pub nodes : (i : ℕ) (n : StNodeTree) → slice_get s.nodes i ≡ Some n → IsSoundNode k s.budget (s.ins ++ node_layouts (take i s.nodes)) n
+  pub nodes : (i : ℕ) (n : StNodeTree) → slice_get s.nodes i ≡ Some n
+      → IsSoundNode k s.budget (s.ins ++ node_layouts (take i s.nodes)) n
   pub results : (i r : ℕ) → slice_get s.results i ≡ Some r → r < length (item_layouts s)
   pub some_results : 1 ≤ length s.results
   pub few_results : length s.results ≤ 8
@@ -74,7 +76,8 @@ pub record IsSoundFunc (k : ℕ) (s : StFuncTree) : Type 0 where
 -- the instance is used: it is the program function's, which is the last, or a node of a used one calls it
 pub data IsUsed (instances : List StFuncTree) : (k : ℕ) → Type 0 where
   as_last : (k : ℕ) → k ≡ length instances - 1 → IsUsed instances k
-  as_called : (k caller j : ℕ) (s : StFuncTree) (n : StNodeTree) → IsUsed instances caller → slice_get instances caller ≡ Some s → slice_get s.nodes j ≡ Some n → n.op ≡ body k → IsUsed instances k
+  as_called : (k caller j : ℕ) (s : StFuncTree) (n : StNodeTree) → IsUsed instances caller
+      → slice_get instances caller ≡ Some s → slice_get s.nodes j ≡ Some n → n.op ≡ body k → IsUsed instances k
 
 -- some instances, each of which only calls those before it, and is used
 pub record IsSound (instances : List StFuncTree) : Type 0 where

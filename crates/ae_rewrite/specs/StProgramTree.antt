@@ -50,7 +50,8 @@ st_op_tree (Scan op slots lanes) = scan op slots lanes
 st_op_tree (Body k) = body k
 
 abbrev pub st_node_tree : StNode → StNodeTree
-st_node_tree n = record { op = st_op_tree n.op; args = n.args.items; type = st_tree n.ty; copies = n.copies; line = n.line }
+st_node_tree n =
+    record { op = st_op_tree n.op; args = n.args.items; type = st_tree n.ty; copies = n.copies; line = n.line }
 
 abbrev pub st_node_trees : List StNode → List StNodeTree
 st_node_trees ns = map st_node_tree ns

@@ -22,14 +22,16 @@ module _ (m : ModuleTree) (ok : IsRegular m) where
   -- the clock is an input
   one_bit_input : (n : List ℕ) (x : NetTree) → Among x m.nets → x.name ≡ n → is_one_bit_input m.nets n ≡ true → is_input_kind x.kind ≡ true
   one_bit_input n x a e h =
-      let r : (is_input_kind x.kind && (x.width == 1)) ≡ true = subst (λ (o : Option NetTree). passes (λ y. is_input_kind y.kind && (y.width == 1)) o ≡ true) (found_net m ok n x a e) h in
+      let r : (is_input_kind x.kind && (x.width == 1)) ≡ true = subst (λ (o : Option NetTree). passes (λ y. is_input_kind y.kind && (y.width == 1)) o ≡ true)
+      (found_net m ok n x a e) h in
       (and_parts (is_input_kind x.kind) (x.width == 1) r).0
 
   first_always : (items : List ItemTree) (n : List ℕ) → first_clock items ≡ Some n → (j : ℕ) × (body : StmtTree) × (slice_get items j ≡ Some (always n body))
   first_always [] n h = absurd (let e : None ≡ Some n = h in cc)
   first_always (nets drives ∷ items) n h = let r = first_always items n h in (suc r.0, r.1, r.2)
   first_always (assigns drives ∷ items) n h = let r = first_always items n h in (suc r.0, r.1, r.2)
-  first_always (always clock body ∷ items) n h = let e : Some clock ≡ Some n = h in let s : clock ≡ n = cc in (0, body, ap (λ (u : List ℕ). Some (always u body)) s)
+  first_always (always clock body ∷ items) n h = let e : Some clock ≡ Some n = h in let s : clock ≡ n = cc in
+      (0, body, ap (λ (u : List ℕ). Some (always u body)) s)
 
   pub clock_input : (x : NetTree) → Among x m.nets → is_clock m x.name ≡ true → is_input_kind x.kind ≡ true
   unfolding is_clock
@@ -43,9 +45,11 @@ module _ (m : ModuleTree) (ok : IsRegular m) where
           one_bit_input n x a (sym (same_bytes n x.name t)) one
       by_name None e t = elim (cases_Bool (is_one_bit_input m.nets (codes "clk"))) [
         | inl b ↦
-            let u : bytes_eq (codes "clk") x.name ≡ true = subst (λ (o : Option (List ℕ)). is_named x.name o ≡ true) (cond-true _ (Some (codes "clk")) None b) t in
+            let u : bytes_eq (codes "clk") x.name ≡ true = subst (λ (o : Option (List ℕ)). is_named x.name o ≡ true)
+            (cond-true _ (Some (codes "clk")) None b) t in
             one_bit_input (codes "clk") x a (sym (same_bytes (codes "clk") x.name u)) b
-        | inr b ↦ absurd (let u : is_named x.name None ≡ true = subst (λ (o : Option (List ℕ)). is_named x.name o ≡ true) (cond-false _ (Some (codes "clk")) None b) t in cc)
+        | inr b ↦ absurd (let u : is_named x.name None ≡ true = subst (λ (o : Option (List ℕ)). is_named x.name o ≡ true)
+            (cond-false _ (Some (codes "clk")) None b) t in cc)
       ]
 
   pub no_input_no_clock : (x : NetTree) → Among x m.nets → is_input_kind x.kind ≡ false → is_clock m x.name ≡ false

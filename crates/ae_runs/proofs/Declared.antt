@@ -112,7 +112,8 @@ module _ (m : ModuleTree) (ok : IsRegular m) where
   unfolding net_named
   net_found x a =
       let p = among_at x m.nets a in
-      find_only (λ (y : NetTree). bytes_eq y.name x.name) m.nets x a (bytes_same x.name x.name refl) (λ y b t. let q = among_at y m.nets b in net_once q.0 p.0 y x q.1 p.1 (same_bytes y.name x.name t))
+      find_only (λ (y : NetTree). bytes_eq y.name x.name) m.nets x a (bytes_same x.name x.name refl)
+      (λ y b t. let q = among_at y m.nets b in net_once q.0 p.0 y x q.1 p.1 (same_bytes y.name x.name t))
 
   pub found_net : (n : List ℕ) (x : NetTree) → Among x m.nets → x.name ≡ n → net_named m.nets n ≡ Some x
   found_net n x a e = subst (λ k. net_named m.nets k ≡ Some x) e (net_found x a)
@@ -175,7 +176,8 @@ module _ (m : ModuleTree) (ok : IsRegular m) where
   drive_read (always clock body) d n a b = absurd a
 
   -- what an equation reads is declared
-  read_declared : (j : ℕ) (i : ItemTree) (d : DriveTree) (n : List ℕ) → slice_get m.items j ≡ Some i → Among d (drives_of i) → Among n (names_in d.value) → (x : NetTree) × Among x m.nets × (x.name ≡ n)
+  read_declared : (j : ℕ) (i : ItemTree) (d : DriveTree) (n : List ℕ) → slice_get m.items j ≡ Some i → Among d (drives_of i) → Among n (names_in d.value)
+      → (x : NetTree) × Among x m.nets × (x.name ≡ n)
   read_declared j (nets drives) d n h a b =
       let p = among_at d drives a in
       elim (declared_or_not (j + 1) n) [
@@ -220,25 +222,36 @@ module _ (m : ModuleTree) (ok : IsRegular m) where
   drive_target (assigns drives) d a = among_map target_of d drives a
   drive_target (always clock body) d a = absurd a
 
-  no_repeat : (i : ItemTree) (j : ℕ) (n : List ℕ) (p q : ℕ) (ns : List (List ℕ)) → slice_get m.items j ≡ Some i → item_targets i ≡ ns → may_repeat m.nets i n ≡ false → p < q → slice_get ns p ≡ Some n → slice_get ns q ≡ Some n → ⊥
+  no_repeat : (i : ItemTree) (j : ℕ) (n : List ℕ) (p q : ℕ) (ns : List (List ℕ)) → slice_get m.items j ≡ Some i → item_targets i ≡ ns
+      → may_repeat m.nets i n ≡ false → p < q → slice_get ns p ≡ Some n → slice_get ns q ≡ Some n → ⊥
   no_repeat i j n p q ns h e once l hp hq =
-      ok.once (j + 1) (inr (i, n, item_at j i h, subst (Among n) (sym e) (among_from n ns p hp), inr (inr ((p, q, l, subst (λ us. slice_get us p ≡ Some n) (sym e) hp, subst (λ us. slice_get us q ≡ Some n) (sym e) hq), once))))
+      ok.once (j + 1) (inr (
+        i,
+        n,
+        item_at j i h,
+        subst (Among n) (sym e) (among_from n ns p hp),
+        inr (inr ((p, q, l, subst (λ us. slice_get us p ≡ Some n) (sym e) hp, subst (λ us. slice_get us q ≡ Some n) (sym e) hq), once)),
+      ))
 
-  drive_once : (i : ItemTree) (j : ℕ) (drives : List DriveTree) (d e : DriveTree) → slice_get m.items j ≡ Some i → item_targets i ≡ map target_of drives → ((n : List ℕ) → may_repeat m.nets i n ≡ false) → Among d drives → Among e drives → d.name ≡ e.name → d ≡ e
+  drive_once : (i : ItemTree) (j : ℕ) (drives : List DriveTree) (d e : DriveTree) → slice_get m.items j ≡ Some i → item_targets i ≡ map target_of drives
+      → ((n : List ℕ) → may_repeat m.nets i n ≡ false) → Among d drives → Among e drives → d.name ≡ e.name → d ≡ e
   drive_once i j drives d e h targets once a b same =
       let p = among_at d drives a in
       let q = among_at e drives b in
       let hp = map_at target_of d drives p.0 p.1 in
       let hq = map_at target_of e drives q.0 q.1 in
       elim (ordered p.0 q.0) [
-        | inl l ↦ absurd (no_repeat i j e.name p.0 q.0 (map target_of drives) h targets (once e.name) l (subst (λ n. slice_get (map target_of drives) p.0 ≡ Some n) same hp) hq)
+        | inl l ↦ absurd (no_repeat i j e.name p.0 q.0 (map target_of drives) h targets (once e.name) l
+            (subst (λ n. slice_get (map target_of drives) p.0 ≡ Some n) same hp) hq)
         | inr r ↦ elim r [
           | inl eq ↦ let o : Some d ≡ Some e = sym p.1 ∙ ap (slice_get drives) eq ∙ q.1 in cc
-          | inr g ↦ absurd (no_repeat i j d.name q.0 p.0 (map target_of drives) h targets (once d.name) g (subst (λ n. slice_get (map target_of drives) q.0 ≡ Some n) (sym same) hq) hp)
+          | inr g ↦ absurd (no_repeat i j d.name q.0 p.0 (map target_of drives) h targets (once d.name) g
+              (subst (λ n. slice_get (map target_of drives) q.0 ≡ Some n) (sym same) hq) hp)
         ]
       ]
 
-  repeated_drive : (i : ItemTree) (j : ℕ) (d e : DriveTree) → slice_get m.items j ≡ Some i → Among d (drives_of i) → Among e (drives_of i) → d.name ≡ e.name → d ≡ e
+  repeated_drive : (i : ItemTree) (j : ℕ) (d e : DriveTree) → slice_get m.items j ≡ Some i → Among d (drives_of i) → Among e (drives_of i) → d.name ≡ e.name
+      → d ≡ e
   repeated_drive (nets drives) j d e h a b same = drive_once (nets drives) j drives d e h refl (λ n. refl) a b same
   repeated_drive (assigns drives) j d e h a b same = drive_once (assigns drives) j drives d e h refl (λ n. refl) a b same
   repeated_drive (always clock body) j d e h a b same = absurd a
@@ -249,16 +262,30 @@ module _ (m : ModuleTree) (ok : IsRegular m) where
       let r = drive_at d a in
       let s = drive_at e b in
       elim (ordered r.0 s.0) [
-        | inl l ↦ absurd (ok.once (s.0 + 1) (inr (s.1, e.name, item_at s.0 s.1 s.2, drive_target s.1 e s.3, inr (inl (r.0 + 1, r.1, omega arith, item_at r.0 r.1 r.2, subst (λ n. Among n (item_targets r.1)) same (drive_target r.1 d r.3))))))
+        | inl l ↦ absurd (ok.once (s.0 + 1) (inr (
+          s.1,
+          e.name,
+          item_at s.0 s.1 s.2,
+          drive_target s.1 e s.3,
+          inr (inl (r.0 + 1, r.1, omega arith, item_at r.0 r.1 r.2, subst (λ n. Among n (item_targets r.1)) same (drive_target r.1 d r.3))),
+        )))
         | inr q ↦ elim q [
-          | inl eq ↦ let o : Some r.1 ≡ Some s.1 = sym r.2 ∙ ap (slice_get m.items) eq ∙ s.2 in repeated_drive r.1 r.0 d e r.2 r.3 (subst (λ i. Among e (drives_of i)) (let z : s.1 ≡ r.1 = cc in z) s.3) same
-          | inr g ↦ absurd (ok.once (r.0 + 1) (inr (r.1, d.name, item_at r.0 r.1 r.2, drive_target r.1 d r.3, inr (inl (s.0 + 1, s.1, omega arith, item_at s.0 s.1 s.2, subst (λ n. Among n (item_targets s.1)) (sym same) (drive_target s.1 e s.3))))))
+          | inl eq ↦ let o : Some r.1 ≡ Some s.1 = sym r.2 ∙ ap (slice_get m.items) eq ∙ s.2 in
+              repeated_drive r.1 r.0 d e r.2 r.3 (subst (λ i. Among e (drives_of i)) (let z : s.1 ≡ r.1 = cc in z) s.3) same
+          | inr g ↦ absurd (ok.once (r.0 + 1) (inr (
+            r.1,
+            d.name,
+            item_at r.0 r.1 r.2,
+            drive_target r.1 d r.3,
+            inr (inl (s.0 + 1, s.1, omega arith, item_at s.0 s.1 s.2, subst (λ n. Among n (item_targets s.1)) (sym same) (drive_target s.1 e s.3))),
+          )))
         ]
       ]
 
   pub found_drive : (d : DriveTree) → Among d (equations m) → drive_named (equations m) d.name ≡ Some d
   unfolding drive_named
-  found_drive d a = find_only (λ (e : DriveTree). bytes_eq e.name d.name) (equations m) d a (bytes_same d.name d.name refl) (λ e b t. equation_once e d b a (same_bytes e.name d.name t))
+  found_drive d a = find_only (λ (e : DriveTree). bytes_eq e.name d.name) (equations m) d a (bytes_same d.name d.name refl)
+      (λ e b t. equation_once e d b a (same_bytes e.name d.name t))
 
   pub drive_of_name : (n : List ℕ) (d : DriveTree) → drive_named (equations m) n ≡ Some d → Among d (equations m) × (d.name ≡ n)
   unfolding drive_named
@@ -269,7 +296,8 @@ module _ (m : ModuleTree) (ok : IsRegular m) where
   not_driven n d h a e = both_ways _ (find_none (λ (e : DriveTree). bytes_eq e.name n) (equations m) d h a) (bytes_same d.name n e)
 
   -- what an `always` item assigns is no wire
-  target_kind : (s : StmtTree) (x : NetTree) → Among x m.nets → is_misused_in_stmt m.nets s ≡ false → Among x.name (stmt_targets s) → is_wire_kind x.kind ≡ true → ⊥
+  target_kind : (s : StmtTree) (x : NetTree) → Among x m.nets → is_misused_in_stmt m.nets s ≡ false → Among x.name (stmt_targets s)
+      → is_wire_kind x.kind ≡ true → ⊥
   target_kind (set n value) x a h t w = elim t [
     | inl e ↦
         let p : is_register_name m.nets n ≡ true = not_false _ (or_parts _ _ h).0 in
@@ -299,7 +327,8 @@ module _ (m : ModuleTree) (ok : IsRegular m) where
         | inr b ↦ target_kind rest x a p.1 b w
       ]
 
-  target_drive : (j : ℕ) (i : ItemTree) (x : NetTree) → slice_get m.items j ≡ Some i → Among x m.nets → Among x.name (item_targets i) → is_wire_kind x.kind ≡ true → (d : DriveTree) × Among d (drives_of i) × (d.name ≡ x.name)
+  target_drive : (j : ℕ) (i : ItemTree) (x : NetTree) → slice_get m.items j ≡ Some i → Among x m.nets → Among x.name (item_targets i)
+      → is_wire_kind x.kind ≡ true → (d : DriveTree) × Among d (drives_of i) × (d.name ≡ x.name)
   target_drive j (nets drives) x h a t w = among_unmap target_of x.name drives t
   target_drive j (assigns drives) x h a t w = among_unmap target_of x.name drives t
   target_drive j (always clock body) x h a t w = absurd (target_kind body x a (body_readable j clock body h).right t w)

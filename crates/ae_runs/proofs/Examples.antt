@@ -27,7 +27,8 @@ words a x b y = record { word = λ n. if bytes_eq n a then x else (if bytes_eq n
 abbrev sums : ModuleTree
 sums = record {
   name = codes "m";
-  nets = port Input 4 (codes "a") ∷ port Input 4 (codes "b") ∷ port OutWire 5 (codes "s") ∷ port OutWire 5 (codes "n") ∷ port OutWire 5 (codes "k") ∷ port OutWire 1 (codes "g") ∷ [];
+  nets = port Input 4 (codes "a") ∷ port Input 4 (codes "b") ∷ port OutWire 5 (codes "s") ∷ port OutWire 5 (codes "n") ∷ port OutWire 5 (codes "k")
+      ∷ port OutWire 1 (codes "g") ∷ [];
   items =
       drives (codes "s") (binary Add (name (codes "a")) (name (codes "b")))
       ∷ drives (codes "n") (unary Flip (name (codes "a")))
@@ -51,7 +52,8 @@ accumulator = record {
 abbrev fed_with : ℕ → ModuleClock
 fed_with x = words (codes "a") x (codes "t") 0
 
-sums_so_far : map (output_words accumulator) (plain_run accumulator (fed_with 3 ∷ fed_with 5 ∷ fed_with 9 ∷ fed_with 0 ∷ [])) ≡ (0 ∷ []) ∷ (3 ∷ []) ∷ (8 ∷ []) ∷ (1 ∷ []) ∷ []
+sums_so_far : map (output_words accumulator) (plain_run accumulator (fed_with 3 ∷ fed_with 5 ∷ fed_with 9 ∷ fed_with 0 ∷ [])) ≡ (0 ∷ []) ∷ (3 ∷ []) ∷ (8 ∷ [])
+    ∷ (1 ∷ []) ∷ []
 unfolding net_named is_clock equations drive_named recomputed fed plain_run idle_clock next_clock
 sums_so_far = refl
 
@@ -66,12 +68,15 @@ abbrev shifted : ExprTree → ExprTree
 shifted by = binary Shl (name (codes "a")) by
 
 -- a << b and a >> b with b of 4, and 4'd9 << 4'd1: the width that is handed down is the left operand's
-shifts_by_the_width : (value_at sums.nets one_four 4 (shifted (name (codes "b"))) ∷ value_at sums.nets one_four 4 (binary Shr (name (codes "a")) (name (codes "b"))) ∷ value_at sums.nets one_four 4 (shifted (constant 4 1 true)) ∷ value_at sums.nets one_four 5 (shifted (constant 4 1 true)) ∷ []) ≡ 0 ∷ 0 ∷ 2 ∷ 18 ∷ []
+shifts_by_the_width : (value_at sums.nets one_four 4 (shifted (name (codes "b")))
+    ∷ value_at sums.nets one_four 4 (binary Shr (name (codes "a")) (name (codes "b"))) ∷ value_at sums.nets one_four 4 (shifted (constant 4 1 true))
+    ∷ value_at sums.nets one_four 5 (shifted (constant 4 1 true)) ∷ []) ≡ 0 ∷ 0 ∷ 2 ∷ 18 ∷ []
 unfolding net_named
 shifts_by_the_width = refl
 
 -- a - b of 4 and 9 bits: the sum is made at the width that is handed down
-differences : (value_at sums.nets (words (codes "a") 3 (codes "b") 5) 4 (binary Sub (name (codes "a")) (name (codes "b"))) ∷ value_at sums.nets (words (codes "a") 3 (codes "b") 5) 9 (binary Sub (name (codes "a")) (name (codes "b"))) ∷ []) ≡ 14 ∷ 510 ∷ []
+differences : (value_at sums.nets (words (codes "a") 3 (codes "b") 5) 4 (binary Sub (name (codes "a")) (name (codes "b")))
+    ∷ value_at sums.nets (words (codes "a") 3 (codes "b") 5) 9 (binary Sub (name (codes "a")) (name (codes "b"))) ∷ []) ≡ 14 ∷ 510 ∷ []
 unfolding net_named
 differences = refl
 
@@ -85,7 +90,9 @@ memory = record {
   items =
       nets []
       ∷ drives (codes "r") (index (codes "m") (place 1))
-      ∷ always (codes "c") (block_more (when (name (codes "w")) (put (codes "m") (name (codes "p")) (binary Add (index (codes "m") (name (codes "p"))) (constant 4 1 true)))) (block_more (set (codes "q") (constant 4 7 true)) (block_more (when (name (codes "p")) (set (codes "q") (name (codes "r")))) block_end)))
+      ∷ always (codes "c") (block_more (when (name (codes "w"))
+      (put (codes "m") (name (codes "p")) (binary Add (index (codes "m") (name (codes "p"))) (constant 4 1 true))))
+      (block_more (set (codes "q") (constant 4 7 true)) (block_more (when (name (codes "p")) (set (codes "q") (name (codes "r")))) block_end)))
       ∷ [];
 }
 
@@ -93,7 +100,8 @@ abbrev holding : ℕ → ℕ → ModuleClock
 holding p w = record { word = λ n. if bytes_eq n (codes "p") then p else (if bytes_eq n (codes "w") then w else 0); store = λ n. 3 ∷ 15 ∷ [] }
 
 -- r and q in each clock
-last_assignment_counts : map (output_words memory) (plain_run memory (holding 0 1 ∷ holding 1 0 ∷ holding 1 1 ∷ holding 0 0 ∷ [])) ≡ (15 ∷ 0 ∷ []) ∷ (15 ∷ 7 ∷ []) ∷ (15 ∷ 15 ∷ []) ∷ (0 ∷ 15 ∷ []) ∷ []
+last_assignment_counts : map (output_words memory) (plain_run memory (holding 0 1 ∷ holding 1 0 ∷ holding 1 1 ∷ holding 0 0 ∷ [])) ≡ (15 ∷ 0 ∷ [])
+    ∷ (15 ∷ 7 ∷ []) ∷ (15 ∷ 15 ∷ []) ∷ (0 ∷ 15 ∷ []) ∷ []
 unfolding net_named is_clock equations drive_named recomputed fed plain_run idle_clock next_clock
 last_assignment_counts = refl
 

@@ -64,8 +64,10 @@ abbrev sized : (width : ℕ) → Cell → SizedCell
 sized width cell = record { width = width; cell = cell }
 
 -- what is laid at a cell is what it may hold, and what is left fits the cells behind it
-laid_step : (k width : ℕ) (cell : Cell) (xs : List SizedCell) (ws : List ℕ) (ss : List (List ℕ)) → FitInputs (inputs_from k (sized width cell ∷ xs)) ws → FitStates (states_from k (sized width cell ∷ xs)) ss
-    → CellHolds cell width (laid_here cell ws ss).0 (laid_here cell ws ss).1 × FitInputs (inputs_from (k + 1) xs) (words_left cell ws) × FitStates (states_from (k + 1) xs) (held_left cell ss)
+laid_step : (k width : ℕ) (cell : Cell) (xs : List SizedCell) (ws : List ℕ) (ss : List (List ℕ)) → FitInputs (inputs_from k (sized width cell ∷ xs)) ws
+    → FitStates (states_from k (sized width cell ∷ xs)) ss
+    → CellHolds cell width (laid_here cell ws ss).0 (laid_here cell ws ss).1 × FitInputs (inputs_from (k + 1) xs) (words_left cell ws)
+    × FitStates (states_from (k + 1) xs) (held_left cell ss)
 laid_step k width (Input port) xs [] ss f g = absurd f
 laid_step k width (Input port) xs (w ∷ ws) ss f g = ((f.0, refl), f.1, g)
 laid_step k width (Const c) xs ws ss f g = ((pow_pos width, refl), f, g)
@@ -83,7 +85,8 @@ AllHold [] es = Unit {0}
 AllHold (x ∷ xs) [] = ⊥
 AllHold (x ∷ xs) (e ∷ es) = CellHolds x.cell x.width e.0 e.1 × AllHold xs es
 
-all_hold : (k : ℕ) (xs : List SizedCell) (ws : List ℕ) (ss : List (List ℕ)) → FitInputs (inputs_from k xs) ws → FitStates (states_from k xs) ss → AllHold xs (laid xs ws ss)
+all_hold : (k : ℕ) (xs : List SizedCell) (ws : List ℕ) (ss : List (List ℕ)) → FitInputs (inputs_from k xs) ws → FitStates (states_from k xs) ss
+    → AllHold xs (laid xs ws ss)
 all_hold k [] ws ss f g = tt
 all_hold k (x ∷ xs) ws ss f g =
     let r = laid_step k x.width x.cell xs ws ss f g in
@@ -93,14 +96,16 @@ hold_at : (xs : List SizedCell) (es : List (ℕ × List ℕ)) → AllHold xs es 
     → CellHolds x.cell x.width (get_or (map (λ (e : ℕ × List ℕ). e.0) es) n 0) (get_or (map (λ (e : ℕ × List ℕ). e.1) es) n [])
 hold_at [] es h n x g = absurd (let e : None ≡ Some x = g in cc)
 hold_at (y ∷ xs) [] h n x g = absurd h
-hold_at (y ∷ xs) (e ∷ es) h zero x g = subst (λ (u : SizedCell). CellHolds u.cell u.width e.0 e.1) (let s : y ≡ x = (let t : Some y ≡ Some x = g in cc) in s) h.0
+hold_at (y ∷ xs) (e ∷ es) h zero x g =
+    subst (λ (u : SizedCell). CellHolds u.cell u.width e.0 e.1) (let s : y ≡ x = (let t : Some y ≡ Some x = g in cc) in s) h.0
 hold_at (y ∷ xs) (e ∷ es) h (suc n) x g = hold_at xs es h.1 n x g
 
 laid_length : {X : Type 0} (f : ℕ × List ℕ → X) (xs : List SizedCell) (ws : List ℕ) (ss : List (List ℕ)) → length (map f (laid xs ws ss)) ≡ length xs
 laid_length f [] ws ss = refl
 laid_length f (x ∷ xs) ws ss = ap suc (laid_length f xs (words_left x.cell ws) (held_left x.cell ss))
 
-pub laid_shaped : (cells : List SizedCell) (ws : List ℕ) (ss : List (List ℕ)) → FitInputs (input_cells cells) ws → FitStates (state_cells cells) ss → IsShaped cells (laid_clock cells ws ss)
+pub laid_shaped : (cells : List SizedCell) (ws : List ℕ) (ss : List (List ℕ)) → FitInputs (input_cells cells) ws → FitStates (state_cells cells) ss
+    → IsShaped cells (laid_clock cells ws ss)
 laid_shaped cells ws ss f g = record {
   words = laid_length (λ (e : ℕ × List ℕ). e.0) cells ws ss;
   stores = laid_length (λ (e : ℕ × List ℕ). e.1) cells ws ss;
@@ -108,7 +113,8 @@ laid_shaped cells ws ss f g = record {
 }
 
 -- read at the inputs, and at the states, the words are the given ones
-inputs_step : (f : ℕ → ℕ) (k width : ℕ) (cell : Cell) (xs : List SizedCell) (ws : List ℕ) (ss : List (List ℕ)) → FitInputs (inputs_from k (sized width cell ∷ xs)) ws
+inputs_step : (f : ℕ → ℕ) (k width : ℕ) (cell : Cell) (xs : List SizedCell) (ws : List ℕ) (ss : List (List ℕ))
+    → FitInputs (inputs_from k (sized width cell ∷ xs)) ws
     → f k ≡ (laid_here cell ws ss).0 → map (λ (x : ℕ × SizedCell). f x.0) (inputs_from (k + 1) xs) ≡ words_left cell ws
     → map (λ (x : ℕ × SizedCell). f x.0) (inputs_from k (sized width cell ∷ xs)) ≡ ws
 inputs_step f k width (Input port) xs [] ss g e r = absurd g
@@ -123,8 +129,10 @@ inputs_step f k width (Peek mem at) xs ws ss g e r = r
 abbrev held_at : (ℕ → ℕ) → (ℕ → List ℕ) → List (ℕ × SizedCell) → List (List ℕ)
 held_at w s ps = map (λ (x : ℕ × SizedCell). cell_words x.1.cell (w x.0) (s x.0)) ps
 
-states_step : (w : ℕ → ℕ) (s : ℕ → List ℕ) (k width : ℕ) (cell : Cell) (xs : List SizedCell) (ws : List ℕ) (ss : List (List ℕ)) → FitStates (states_from k (sized width cell ∷ xs)) ss
-    → w k ≡ (laid_here cell ws ss).0 → s k ≡ (laid_here cell ws ss).1 → held_at w s (states_from (k + 1) xs) ≡ held_left cell ss → held_at w s (states_from k (sized width cell ∷ xs)) ≡ ss
+states_step : (w : ℕ → ℕ) (s : ℕ → List ℕ) (k width : ℕ) (cell : Cell) (xs : List SizedCell) (ws : List ℕ) (ss : List (List ℕ))
+    → FitStates (states_from k (sized width cell ∷ xs)) ss
+    → w k ≡ (laid_here cell ws ss).0 → s k ≡ (laid_here cell ws ss).1 → held_at w s (states_from (k + 1) xs) ≡ held_left cell ss
+    → held_at w s (states_from k (sized width cell ∷ xs)) ≡ ss
 states_step w s k width (Input port) xs ws ss g e d r = r
 states_step w s k width (Const c) xs ws ss g e d r = r
 states_step w s k width (Op op args) xs ws ss g e d r = r
@@ -154,7 +162,8 @@ later_laid w s k e es h j =
     let r = h (suc j) in
     (subst (λ i. w i ≡ (get_or es j (0, [])).0) z r.0, subst (λ i. s i ≡ (get_or es j (0, [])).1) z r.1)
 
-laid_back : (w : ℕ → ℕ) (s : ℕ → List ℕ) (k : ℕ) (xs : List SizedCell) (ws : List ℕ) (ss : List (List ℕ)) → FitInputs (inputs_from k xs) ws → FitStates (states_from k xs) ss
+laid_back : (w : ℕ → ℕ) (s : ℕ → List ℕ) (k : ℕ) (xs : List SizedCell) (ws : List ℕ) (ss : List (List ℕ)) → FitInputs (inputs_from k xs) ws
+    → FitStates (states_from k xs) ss
     → IsLaid w s k (laid xs ws ss) → (map (λ (x : ℕ × SizedCell). w x.0) (inputs_from k xs) ≡ ws) × (held_at w s (states_from k xs) ≡ ss)
 laid_back w s k [] [] [] f g h = (refl, refl)
 laid_back w s k [] [] (t ∷ ss) f g h = absurd g
@@ -162,7 +171,8 @@ laid_back w s k [] (v ∷ ws) ss f g h = absurd f
 laid_back w s k (x ∷ xs) ws ss f g h =
     let left = laid_step k x.width x.cell xs ws ss f g in
     let first = first_laid w s k (laid_here x.cell ws ss) (laid xs (words_left x.cell ws) (held_left x.cell ss)) h in
-    let r = laid_back w s (k + 1) xs (words_left x.cell ws) (held_left x.cell ss) left.1 left.2 (later_laid w s k (laid_here x.cell ws ss) (laid xs (words_left x.cell ws) (held_left x.cell ss)) h) in
+    let r = laid_back w s (k + 1) xs (words_left x.cell ws) (held_left x.cell ss) left.1 left.2
+    (later_laid w s k (laid_here x.cell ws ss) (laid xs (words_left x.cell ws) (held_left x.cell ss)) h) in
     (inputs_step w k x.width x.cell xs ws ss f first.0 r.0, states_step w s k x.width x.cell xs ws ss g first.0 first.1 r.1)
 
 at_first : (es : List (ℕ × List ℕ)) (n : ℕ) → get_or (map (λ (e : ℕ × List ℕ). e.0) es) n 0 ≡ (get_or es n (0, [])).0
@@ -177,10 +187,13 @@ at_second (e ∷ es) (suc n) = at_second es n
 
 pub laid_words : (cells : List SizedCell) (ws : List ℕ) (ss : List (List ℕ)) → FitInputs (input_cells cells) ws → FitStates (state_cells cells) ss
     → (map (λ (x : ℕ × SizedCell). get_or (laid_clock cells ws ss).words x.0 0) (input_cells cells) ≡ ws)
-    × (map (λ (x : ℕ × SizedCell). cell_words x.1.cell (get_or (laid_clock cells ws ss).words x.0 0) (get_or (laid_clock cells ws ss).stores x.0 [])) (state_cells cells) ≡ ss)
+    × (map (λ (x : ℕ × SizedCell). cell_words x.1.cell (get_or (laid_clock cells ws ss).words x.0 0) (get_or (laid_clock cells ws ss).stores x.0 []))
+    (state_cells cells) ≡ ss)
 laid_words cells ws ss f g =
     laid_back (λ n. get_or (laid_clock cells ws ss).words n 0) (λ n. get_or (laid_clock cells ws ss).stores n []) 0 cells ws ss f g
     (λ j.
     let z : j ≡ 0 + j = omega arith in
-    let es = laid cells ws ss in
-    (subst (λ i. get_or (laid_clock cells ws ss).words i 0 ≡ (get_or es j (0, [])).0) z (at_first es j), subst (λ i. get_or (laid_clock cells ws ss).stores i [] ≡ (get_or es j (0, [])).1) z (at_second es j)))
+    let es = laid cells ws ss in (
+      subst (λ i. get_or (laid_clock cells ws ss).words i 0 ≡ (get_or es j (0, [])).0) z (at_first es j),
+      subst (λ i. get_or (laid_clock cells ws ss).stores i [] ≡ (get_or es j (0, [])).1) z (at_second es j),
+    ))

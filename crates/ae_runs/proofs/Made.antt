@@ -32,9 +32,11 @@ module _ (ns : List NetTree) (c : ModuleClock) (k : List ℕ) where
   abbrev Fits : ModuleClock → Type 0
   Fits next = next.word k < 2 ^ declared_width ns k
 
-  set_fits : (n : List ℕ) (value : ExprTree) (next : ModuleClock) → Fits next → (if bytes_eq k n then assigned ns c n value else next.word k) < 2 ^ declared_width ns k
+  set_fits : (n : List ℕ) (value : ExprTree) (next : ModuleClock) → Fits next
+      → (if bytes_eq k n then assigned ns c n value else next.word k) < 2 ^ declared_width ns k
   set_fits n value next h = elim (cases_Bool (bytes_eq k n)) [
-    | inl t ↦ subst (λ x. x < 2 ^ declared_width ns k) (sym (cond-true _ (assigned ns c n value) (next.word k) t)) (subst (λ i. assigned ns c n value < 2 ^ declared_width ns i) (sym (same_bytes k n t)) (assigned_fits ns c n value))
+    | inl t ↦ subst (λ x. x < 2 ^ declared_width ns k) (sym (cond-true _ (assigned ns c n value) (next.word k) t))
+        (subst (λ i. assigned ns c n value < 2 ^ declared_width ns i) (sym (same_bytes k n t)) (assigned_fits ns c n value))
     | inr f ↦ subst (λ x. x < 2 ^ declared_width ns k) (sym (cond-false _ (assigned ns c n value) (next.word k) f)) h
   ]
 
@@ -43,7 +45,8 @@ module _ (ns : List NetTree) (c : ModuleClock) (k : List ℕ) where
   stmt_fits (put n at value) next h = h
   stmt_fits (when test taken) next h = branch_holds Fits (own_value ns c test == 0) next (after_stmt ns c taken next) h (stmt_fits taken next h)
   stmt_fits (either test taken otherwise) next h =
-      branch_holds Fits (own_value ns c test == 0) (after_stmt ns c otherwise next) (after_stmt ns c taken next) (stmt_fits otherwise next h) (stmt_fits taken next h)
+      branch_holds Fits (own_value ns c test == 0) (after_stmt ns c otherwise next) (after_stmt ns c taken next) (stmt_fits otherwise next h)
+      (stmt_fits taken next h)
   stmt_fits block_end next h = h
   stmt_fits (block_more first rest) next h = stmt_fits rest (after_stmt ns c first next) (stmt_fits first next h)
 
@@ -51,19 +54,23 @@ module _ (ns : List NetTree) (c : ModuleClock) (k : List ℕ) where
   StoreFits depth next = (length (next.store k) ≡ depth) × All (λ x. x < 2 ^ declared_width ns k) (next.store k)
 
   put_fits : (depth : ℕ) (n : List ℕ) (at : ℕ) (value : ExprTree) (next : ModuleClock) (b : Bool) → bytes_eq k n ≡ b → StoreFits depth next
-      → (length (if b then slice_set (next.store k) at (assigned ns c n value) else next.store k) ≡ depth) × All (λ x. x < 2 ^ declared_width ns k) (if b then slice_set (next.store k) at (assigned ns c n value) else next.store k)
+      → (length (if b then slice_set (next.store k) at (assigned ns c n value) else next.store k) ≡ depth)
+      × All (λ x. x < 2 ^ declared_width ns k) (if b then slice_set (next.store k) at (assigned ns c n value) else next.store k)
   put_fits depth n at value next true e h = (
     length-set (next.store k) at (assigned ns c n value) ∙ h.0,
-    All-set (λ x. x < 2 ^ declared_width ns k) (next.store k) at (assigned ns c n value) (subst (λ i. assigned ns c n value < 2 ^ declared_width ns i) (sym (same_bytes k n e)) (assigned_fits ns c n value)) h.1,
+    All-set (λ x. x < 2 ^ declared_width ns k) (next.store k) at (assigned ns c n value)
+        (subst (λ i. assigned ns c n value < 2 ^ declared_width ns i) (sym (same_bytes k n e)) (assigned_fits ns c n value)) h.1,
   )
   put_fits depth n at value next false e h = h
 
   stmt_store_fits : (depth : ℕ) (s : StmtTree) (next : ModuleClock) → StoreFits depth next → StoreFits depth (after_stmt ns c s next)
   stmt_store_fits depth (set n value) next h = h
   stmt_store_fits depth (put n at value) next h = put_fits depth n (own_value ns c at) value next (bytes_eq k n) refl h
-  stmt_store_fits depth (when test taken) next h = branch_holds (StoreFits depth) (own_value ns c test == 0) next (after_stmt ns c taken next) h (stmt_store_fits depth taken next h)
+  stmt_store_fits depth (when test taken) next h = branch_holds (StoreFits depth) (own_value ns c test == 0) next (after_stmt ns c taken next) h
+      (stmt_store_fits depth taken next h)
   stmt_store_fits depth (either test taken otherwise) next h =
-      branch_holds (StoreFits depth) (own_value ns c test == 0) (after_stmt ns c otherwise next) (after_stmt ns c taken next) (stmt_store_fits depth otherwise next h) (stmt_store_fits depth taken next h)
+      branch_holds (StoreFits depth) (own_value ns c test == 0) (after_stmt ns c otherwise next) (after_stmt ns c taken next)
+      (stmt_store_fits depth otherwise next h) (stmt_store_fits depth taken next h)
   stmt_store_fits depth block_end next h = h
   stmt_store_fits depth (block_more first rest) next h = stmt_store_fits depth rest (after_stmt ns c first next) (stmt_store_fits depth first next h)
 
@@ -92,7 +99,8 @@ module _ (m : ModuleTree) where
   unfolding recomputed
   recomputed_free c n none = ap (λ o. driven_word m.nets c o (c.word n)) none
 
-  recomputed_driven : (c : ModuleClock) (n : List ℕ) (d : DriveTree) → drive_named (equations m) n ≡ Some d → (recomputed m c).word n ≡ assigned m.nets c d.name d.value
+  recomputed_driven : (c : ModuleClock) (n : List ℕ) (d : DriveTree) → drive_named (equations m) n ≡ Some d
+      → (recomputed m c).word n ≡ assigned m.nets c d.name d.value
   unfolding recomputed
   recomputed_driven c n d is = ap (λ o. driven_word m.nets c o (c.word n)) is
 
@@ -138,7 +146,8 @@ module _ (m : ModuleTree) (ok : IsWellFormed m) where
       (λ k d a found reads.
       let r = equation_readable m (regular ok) d a in
       let same : assigned m.nets (recomputed_often m c k) d.name d.value ≡ assigned m.nets (recomputed_often m c (suc k)) d.name d.value =
-      assigned_same m.nets (recomputed_often m c k) (recomputed_often m c (suc k)) d.name d.value (λ n i. record { word = λ f. reads n i; store = λ t. sym (recomputed_store m (recomputed_often m c k) n) }) r.right in
+      assigned_same m.nets (recomputed_often m c k) (recomputed_often m c (suc k)) d.name d.value
+      (λ n i. record { word = λ f. reads n i; store = λ t. sym (recomputed_store m (recomputed_often m c k) n) }) r.right in
       recomputed_driven m (recomputed_often m c k) d.name d found ∙ same ∙ sym (recomputed_driven m (recomputed_often m c (suc k)) d.name d found))
 
   settled_is : (c : ModuleClock) → IsSettled m (settled m c)
@@ -158,30 +167,38 @@ module _ (m : ModuleTree) (ok : IsWellFormed m) where
   input_is x b a h = ap (passes (λ (y : NetTree). is_input_kind y.kind)) (net_found m (regular ok) x a) ∙ h
 
   -- a clock is shaped where its names without equations are
-  shaped_settled : (c : ModuleClock) → ((x : NetTree) → Among x m.nets → is_clock m x.name ≡ false → is_wire_kind x.kind ≡ false → FitsKind x.kind x.width (c.word x.name) (c.store x.name)) → IsModuleShaped m (settled m c)
+  shaped_settled : (c : ModuleClock) → ((x : NetTree) → Among x m.nets → is_clock m x.name ≡ false → is_wire_kind x.kind ≡ false
+      → FitsKind x.kind x.width (c.word x.name) (c.store x.name)) → IsModuleShaped m (settled m c)
   shaped_settled c h = record {
     holds = λ x a data_name. elim (cases_Bool (is_wire_kind x.kind)) [
       | inl w ↦ elim (named_or_not (drive_named (equations m) x.name)) [
         | inl d ↦
-            let word : (settled m c).word x.name ≡ assigned m.nets (settled m c) d.0.name d.0.value = stays c x.name ∙ recomputed_driven m (settled m c) x.name d.0 d.1 in
+            let word : (settled m c).word x.name ≡ assigned m.nets (settled m c) d.0.name d.0.value = stays c x.name ∙
+            recomputed_driven m (settled m c) x.name d.0 d.1 in
             let r = drive_of_name m (regular ok) x.name d.0 d.1 in
-            let fits : assigned m.nets (settled m c) d.0.name d.0.value < 2 ^ x.width = subst (λ v. assigned m.nets (settled m c) d.0.name d.0.value < 2 ^ v) (ap (declared_width m.nets) r.1 ∙ width_is x a) (assigned_fits m.nets (settled m c) d.0.name d.0.value) in
+            let fits : assigned m.nets (settled m c) d.0.name d.0.value < 2 ^ x.width = subst (λ v. assigned m.nets (settled m c) d.0.name d.0.value < 2 ^ v)
+            (ap (declared_width m.nets) r.1 ∙ width_is x a) (assigned_fits m.nets (settled m c) d.0.name d.0.value) in
             holds_of_wire x.kind x.width _ _ w (subst (λ v. v < 2 ^ x.width) (sym word) fits)
         | inr none ↦ absurd (both_ways _ (free_kind m (regular ok) x a none) w)
       ]
-      | inr f ↦ subst (λ v. FitsKind x.kind x.width v ((settled m c).store x.name)) (sym (free_word c x a f)) (subst (FitsKind x.kind x.width (c.word x.name)) (sym (kept_store c x.name)) (h x a data_name f))
+      | inr f ↦ subst (λ v. FitsKind x.kind x.width v ((settled m c).store x.name)) (sym (free_word c x a f))
+          (subst (FitsKind x.kind x.width (c.word x.name)) (sym (kept_store c x.name)) (h x a data_name f))
     ];
   }
 
-  fed_register : (g c : ModuleClock) (x : NetTree) → Among x m.nets → is_input_kind x.kind ≡ false → c.word x.name < 2 ^ x.width → (fed m g (next_clock m c)).word x.name < 2 ^ x.width
+  fed_register : (g c : ModuleClock) (x : NetTree) → Among x m.nets → is_input_kind x.kind ≡ false → c.word x.name < 2 ^ x.width
+      → (fed m g (next_clock m c)).word x.name < 2 ^ x.width
   fed_register g c x a f h =
       subst (λ v. v < 2 ^ x.width) (sym (fed_other m g (next_clock m c) x.name (input_is x false a f)))
       (subst (λ w. (next_clock m c).word x.name < 2 ^ w) (width_is x a) (next_fits m c x.name (subst (λ w. c.word x.name < 2 ^ w) (sym (width_is x a)) h)))
 
   -- so is one that is fed with given inputs behind a shaped clock
-  fed_holds : (g c : ModuleClock) → IsModuleShaped m g → IsModuleShaped m c → (x : NetTree) (k : NetKind) → x.kind ≡ k → Among x m.nets → is_clock m x.name ≡ false → is_wire_kind k ≡ false
-      → FitsKind k x.width (g.word x.name) (g.store x.name) → FitsKind k x.width (c.word x.name) (c.store x.name) → FitsKind k x.width ((fed m g (next_clock m c)).word x.name) ((fed m g (next_clock m c)).store x.name)
-  fed_holds g c p q x Input is a held f hg hc = subst (λ v. v < 2 ^ x.width) (sym (fed_input m g (next_clock m c) x.name (input_is x true a (ap is_input_kind is)))) hg
+  fed_holds : (g c : ModuleClock) → IsModuleShaped m g → IsModuleShaped m c → (x : NetTree) (k : NetKind) → x.kind ≡ k → Among x m.nets
+      → is_clock m x.name ≡ false → is_wire_kind k ≡ false
+      → FitsKind k x.width (g.word x.name) (g.store x.name) → FitsKind k x.width (c.word x.name) (c.store x.name)
+      → FitsKind k x.width ((fed m g (next_clock m c)).word x.name) ((fed m g (next_clock m c)).store x.name)
+  fed_holds g c p q x Input is a held f hg hc = subst (λ v. v < 2 ^ x.width)
+      (sym (fed_input m g (next_clock m c) x.name (input_is x true a (ap is_input_kind is)))) hg
   fed_holds g c p q x Wire is a held f hg hc = absurd (cc)
   fed_holds g c p q x OutWire is a held f hg hc = absurd (cc)
   fed_holds g c p q x Reg is a held f hg hc = fed_register g c x a (ap is_input_kind is) hc
@@ -196,15 +213,19 @@ module _ (m : ModuleTree) (ok : IsWellFormed m) where
       shaped_settled (fed m g (next_clock m c)) (λ x a held f. fed_holds g c p q x x.kind refl a held f (p.holds x a held) (q.holds x a held))
 
   steps_by : (g c : ModuleClock) (x : NetTree) (k : NetKind) → x.kind ≡ k → Among x m.nets
-      → StepsTo k ((next_clock m c).word x.name) ((settled m (fed m g (next_clock m c))).word x.name) ((next_clock m c).store x.name) ((settled m (fed m g (next_clock m c))).store x.name)
+      → StepsTo k ((next_clock m c).word x.name) ((settled m (fed m g (next_clock m c))).word x.name) ((next_clock m c).store x.name)
+      ((settled m (fed m g (next_clock m c))).store x.name)
   steps_by g c x Input is a = tt
   steps_by g c x Wire is a = tt
   steps_by g c x OutWire is a = tt
-  steps_by g c x Reg is a = free_word (fed m g (next_clock m c)) x a (ap is_wire_kind is) ∙ fed_other m g (next_clock m c) x.name (input_is x false a (ap is_input_kind is))
-  steps_by g c x OutReg is a = free_word (fed m g (next_clock m c)) x a (ap is_wire_kind is) ∙ fed_other m g (next_clock m c) x.name (input_is x false a (ap is_input_kind is))
+  steps_by g c x Reg is a = free_word (fed m g (next_clock m c)) x a (ap is_wire_kind is) ∙
+      fed_other m g (next_clock m c) x.name (input_is x false a (ap is_input_kind is))
+  steps_by g c x OutReg is a = free_word (fed m g (next_clock m c)) x a (ap is_wire_kind is) ∙
+      fed_other m g (next_clock m c) x.name (input_is x false a (ap is_input_kind is))
   steps_by g c x (Memory depth) is a = kept_store (fed m g (next_clock m c)) x.name ∙ fed_store m g (next_clock m c) x.name
 
-  agrees_first : (g : ModuleClock) (x : NetTree) (k : NetKind) → x.kind ≡ k → Among x m.nets → ModuleAgreesAt k 0 ((settled m g).word x.name) (g.word x.name) ((settled m g).store x.name) (g.store x.name)
+  agrees_first : (g : ModuleClock) (x : NetTree) (k : NetKind) → x.kind ≡ k → Among x m.nets
+      → ModuleAgreesAt k 0 ((settled m g).word x.name) (g.word x.name) ((settled m g).store x.name) (g.store x.name)
   agrees_first g x Input is a = free_word g x a (ap is_wire_kind is)
   agrees_first g x Wire is a = tt
   agrees_first g x OutWire is a = tt
@@ -213,17 +234,21 @@ module _ (m : ModuleTree) (ok : IsWellFormed m) where
   agrees_first g x (Memory depth) is a = λ z. kept_store g x.name
 
   agrees_next : (g c : ModuleClock) (t : ℕ) (x : NetTree) (k : NetKind) → x.kind ≡ k → Among x m.nets
-      → ModuleAgreesAt k (suc t) ((settled m (fed m g (next_clock m c))).word x.name) (g.word x.name) ((settled m (fed m g (next_clock m c))).store x.name) (g.store x.name)
-  agrees_next g c t x Input is a = free_word (fed m g (next_clock m c)) x a (ap is_wire_kind is) ∙ fed_input m g (next_clock m c) x.name (input_is x true a (ap is_input_kind is))
+      → ModuleAgreesAt k (suc t) ((settled m (fed m g (next_clock m c))).word x.name) (g.word x.name) ((settled m (fed m g (next_clock m c))).store x.name)
+      (g.store x.name)
+  agrees_next g c t x Input is a = free_word (fed m g (next_clock m c)) x a (ap is_wire_kind is) ∙
+      fed_input m g (next_clock m c) x.name (input_is x true a (ap is_input_kind is))
   agrees_next g c t x Wire is a = tt
   agrees_next g c t x OutWire is a = tt
   agrees_next g c t x Reg is a = λ z. absurd (omega arith)
   agrees_next g c t x OutReg is a = λ z. absurd (omega arith)
   agrees_next g c t x (Memory depth) is a = λ z. absurd (omega arith)
 
-  plain_shaped : (given : List ModuleClock) → ((t : ℕ) → t < length given → IsModuleShaped m (clock_at given t)) → (t : ℕ) → t < length given → IsModuleShaped m (plain_clock m given t)
+  plain_shaped : (given : List ModuleClock) → ((t : ℕ) → t < length given → IsModuleShaped m (clock_at given t)) → (t : ℕ) → t < length given
+      → IsModuleShaped m (plain_clock m given t)
   plain_shaped given shaped zero l = shaped_settled (clock_at given 0) (λ x a held f. (shaped 0 l).holds x a held)
-  plain_shaped given shaped (suc t) l = shaped_next (clock_at given (suc t)) (plain_clock m given t) (shaped (suc t) l) (plain_shaped given shaped t (omega arith))
+  plain_shaped given shaped (suc t) l = shaped_next (clock_at given (suc t)) (plain_clock m given t) (shaped (suc t) l)
+      (plain_shaped given shaped t (omega arith))
 
   plain_settles : (given : List ModuleClock) (t : ℕ) → IsSettled m (plain_clock m given t)
   plain_settles given zero = settled_is (clock_at given 0)
@@ -267,7 +292,8 @@ module _ (m : ModuleTree) (ok : IsWellFormed m) (given : List ModuleClock) (shap
           let h : t + 1 < length given = within (t + 1) l in
           let here : t < length given = omega arith in
           let next : clock_at (plain_run m given) (t + 1) ≡ plain_clock m given (suc t) = plain_at m given (t + 1) h ∙ ap (plain_clock m given) (add-one t) in
-          subst (λ c. IsStep m c (clock_at (plain_run m given) (t + 1))) (sym (plain_at m given t here)) (subst (IsStep m (plain_clock m given t)) (sym next) (plain_steps m ok given t));
+          subst (λ c. IsStep m c (clock_at (plain_run m given) (t + 1))) (sym (plain_at m given t here))
+          (subst (IsStep m (plain_clock m given t)) (sym next) (plain_steps m ok given t));
     };
     agrees = λ t l. subst (ModuleAgrees m t (clock_at given t)) (sym (plain_at m given t l)) (plain_agrees m ok given t);
   }

@@ -70,8 +70,10 @@ module _ (m : ModuleTree) (ok : IsWellFormed m) where
   same_name c d n h i =
       let o = found_net m (regular ok) n i.net i.there i.named in
       record {
-        word = λ f. word_of_same i.net.kind _ _ _ _ (subst (λ p. passes (λ (y : NetTree). is_memory_kind y.kind) p ≡ false) o f) (h i.net i.there i.named i.data_name);
-        store = λ t. store_of_same i.net.kind _ _ _ _ (subst (λ p. passes (λ (y : NetTree). is_memory_kind y.kind) p ≡ true) o t) (h i.net i.there i.named i.data_name);
+        word = λ f. word_of_same i.net.kind _ _ _ _ (subst (λ p. passes (λ (y : NetTree). is_memory_kind y.kind) p ≡ false) o f)
+            (h i.net i.there i.named i.data_name);
+        store = λ t. store_of_same i.net.kind _ _ _ _ (subst (λ p. passes (λ (y : NetTree). is_memory_kind y.kind) p ≡ true) o t)
+            (h i.net i.there i.named i.data_name);
       }
 
   -- in a clock the wires are the same where the other names are
@@ -91,7 +93,8 @@ module _ (m : ModuleTree) (ok : IsWellFormed m) where
       same_of_wire x.kind _ _ _ _ (driven_kind m (regular ok) x v b a e) same)
 
   -- what the `always` items make of a name
-  item_word_same : (c d : ModuleClock) → ((n : List ℕ) → SameFor c d n) → (j : ℕ) (i : ItemTree) → slice_get m.items j ≡ Some i → (next other : ModuleClock) (k : List ℕ)
+  item_word_same : (c d : ModuleClock) → ((n : List ℕ) → SameFor c d n) → (j : ℕ) (i : ItemTree) → slice_get m.items j ≡ Some i
+      → (next other : ModuleClock) (k : List ℕ)
       → next.word k ≡ other.word k → (after_item m.nets c i next).word k ≡ (after_item m.nets d i other).word k
   item_word_same c d h j (nets drives) at next other k e = e
   item_word_same c d h j (assigns drives) at next other k e = e
@@ -99,7 +102,8 @@ module _ (m : ModuleTree) (ok : IsWellFormed m) where
       let r = body_readable m (regular ok) j clock body at in
       stmt_same m.nets c d body (λ n a. same_name c d n (h n) (r.known n a)) r.right next other k e
 
-  item_store_same : (c d : ModuleClock) → ((n : List ℕ) → SameFor c d n) → (j : ℕ) (i : ItemTree) → slice_get m.items j ≡ Some i → (next other : ModuleClock) (k : List ℕ)
+  item_store_same : (c d : ModuleClock) → ((n : List ℕ) → SameFor c d n) → (j : ℕ) (i : ItemTree) → slice_get m.items j ≡ Some i
+      → (next other : ModuleClock) (k : List ℕ)
       → next.store k ≡ other.store k → (after_item m.nets c i next).store k ≡ (after_item m.nets d i other).store k
   item_store_same c d h j (nets drives) at next other k e = e
   item_store_same c d h j (assigns drives) at next other k e = e
@@ -107,23 +111,30 @@ module _ (m : ModuleTree) (ok : IsWellFormed m) where
       let r = body_readable m (regular ok) j clock body at in
       stmt_same_store m.nets c d body (λ n a. same_name c d n (h n) (r.known n a)) r.right next other k e
 
-  items_word_same : (c d : ModuleClock) → ((n : List ℕ) → SameFor c d n) → (is : List ItemTree) → ((i : ItemTree) → Among i is → (j : ℕ) × (slice_get m.items j ≡ Some i)) → (next other : ModuleClock) (k : List ℕ)
+  items_word_same : (c d : ModuleClock) → ((n : List ℕ) → SameFor c d n) → (is : List ItemTree)
+      → ((i : ItemTree) → Among i is → (j : ℕ) × (slice_get m.items j ≡ Some i)) → (next other : ModuleClock) (k : List ℕ)
       → next.word k ≡ other.word k → (after_items m.nets c is next).word k ≡ (after_items m.nets d is other).word k
   items_word_same c d h [] at next other k e = e
   items_word_same c d h (i ∷ is) at next other k e =
       let p = at i (inl refl) in
-      items_word_same c d h is (λ u a. at u (inr a)) (after_item m.nets c i next) (after_item m.nets d i other) k (item_word_same c d h p.0 i p.1 next other k e)
+      items_word_same c d h is (λ u a. at u (inr a)) (after_item m.nets c i next) (after_item m.nets d i other) k
+      (item_word_same c d h p.0 i p.1 next other k e)
 
-  items_store_same : (c d : ModuleClock) → ((n : List ℕ) → SameFor c d n) → (is : List ItemTree) → ((i : ItemTree) → Among i is → (j : ℕ) × (slice_get m.items j ≡ Some i)) → (next other : ModuleClock) (k : List ℕ)
+  items_store_same : (c d : ModuleClock) → ((n : List ℕ) → SameFor c d n) → (is : List ItemTree)
+      → ((i : ItemTree) → Among i is → (j : ℕ) × (slice_get m.items j ≡ Some i)) → (next other : ModuleClock) (k : List ℕ)
       → next.store k ≡ other.store k → (after_items m.nets c is next).store k ≡ (after_items m.nets d is other).store k
   items_store_same c d h [] at next other k e = e
   items_store_same c d h (i ∷ is) at next other k e =
       let p = at i (inl refl) in
-      items_store_same c d h is (λ u a. at u (inr a)) (after_item m.nets c i next) (after_item m.nets d i other) k (item_store_same c d h p.0 i p.1 next other k e)
+      items_store_same c d h is (λ u a. at u (inr a)) (after_item m.nets c i next) (after_item m.nets d i other) k
+      (item_store_same c d h p.0 i p.1 next other k e)
 
   -- the next words of a register, and of a memory, are the same
-  changed_free : (k : NetKind) (n : List ℕ) (x : NetTree) → x.kind ≡ k → Among x m.nets → x.name ≡ n → is_clock m n ≡ false → (c d : ModuleClock) (t v : ℕ) (w g : ℕ) (s u y : List ℕ)
-      → ((n : List ℕ) → SameFor c d n) → ModuleAgreesAt k t w g s y → ModuleAgreesAt k t v g u y → StepsTo k ((next_clock m c).word n) w ((next_clock m c).store n) s → StepsTo k ((next_clock m d).word n) v ((next_clock m d).store n) u → FreeSame k w v s u
+  changed_free : (k : NetKind) (n : List ℕ) (x : NetTree) → x.kind ≡ k → Among x m.nets → x.name ≡ n → is_clock m n ≡ false
+      → (c d : ModuleClock) (t v : ℕ) (w g : ℕ) (s u y : List ℕ)
+      → ((n : List ℕ) → SameFor c d n) → ModuleAgreesAt k t w g s y → ModuleAgreesAt k t v g u y
+      → StepsTo k ((next_clock m c).word n) w ((next_clock m c).store n) s → StepsTo k ((next_clock m d).word n) v ((next_clock m d).store n) u
+      → FreeSame k w v s u
   unfolding next_clock
   changed_free Input n x is a e held c d t v w g s u y h i j p q = i ∙ sym j
   changed_free Wire n x is a e held c d t v w g s u y h i j p q = tt
@@ -138,7 +149,8 @@ module _ (m : ModuleTree) (ok : IsWellFormed m) where
       let same : c.store n ≡ d.store n = store_of_same x.kind _ _ _ _ (ap is_memory_kind is) (h n x a e held) in
       p ∙ items_store_same c d h m.items (λ i b. among_at i m.items b) c d n same ∙ sym q
 
-  run_same : (given run other : List ModuleClock) → IsModuleRunOn m given run → IsModuleRunOn m given other → (t : ℕ) → t < length given → (n : List ℕ) → SameFor (clock_at run t) (clock_at other t) n
+  run_same : (given run other : List ModuleClock) → IsModuleRunOn m given run → IsModuleRunOn m given other → (t : ℕ) → t < length given → (n : List ℕ)
+      → SameFor (clock_at run t) (clock_at other t) n
   run_same given run other p q zero l =
       let a : zero < length run = (let e = p.long in omega arith) in
       let b : zero < length other = (let e = q.long in omega arith) in
@@ -151,7 +163,9 @@ module _ (m : ModuleTree) (ok : IsWellFormed m) where
       let stepped : IsStep m (clock_at run t) (clock_at run (suc t)) = rw add-one at (p.runs.steps t (omega arith)) in
       let stepped_too : IsStep m (clock_at other t) (clock_at other (suc t)) = rw add-one at (q.runs.steps t (omega arith)) in
       settled_same (clock_at run (suc t)) (clock_at other (suc t)) (p.runs.settles (suc t) a) (q.runs.settles (suc t) b)
-      (λ x i held. changed_free x.kind x.name x refl i refl held (clock_at run t) (clock_at other t) (suc t) _ _ _ _ _ _ old ((p.agrees (suc t) l).same x i held) ((q.agrees (suc t) l).same x i held) (stepped.steps x i) (stepped_too.steps x i))
+      (λ x i held. changed_free x.kind x.name x refl i refl held (clock_at run t) (clock_at other t) (suc t) _ _ _ _ _ _ old
+      ((p.agrees (suc t) l).same x i held) ((q.agrees (suc t) l).same x i held) (stepped.steps x i) (stepped_too.steps x i))
 
-  pub only_one : (given run other : List ModuleClock) → IsModuleRunOn m given run → IsModuleRunOn m given other → (t : ℕ) → t < length given → IsSameClock m (clock_at other t) (clock_at run t)
+  pub only_one : (given run other : List ModuleClock) → IsModuleRunOn m given run → IsModuleRunOn m given other → (t : ℕ) → t < length given
+      → IsSameClock m (clock_at other t) (clock_at run t)
   only_one given run other p q t l = record { same = λ x a held. run_same given other run q p t l x.name x a refl held }

@@ -21,7 +21,8 @@ pub filter_among : {X : Type 0} (test : X → Bool) (x : X) (xs : List X) → Am
 filter_among test x [] a h = a
 filter_among test x (y ∷ xs) a h = elim (cases_Bool (test y)) [
   | inl t ↦ rw (cond-true _ (y ∷ filter test xs) (filter test xs) t) (elim a [ inl e ↦ inl e | inr later ↦ inr (filter_among test x xs later h) ])
-  | inr f ↦ rw (cond-false _ (y ∷ filter test xs) (filter test xs) f) (elim a [ inl e ↦ absurd (let z : test x ≡ false = ap test (sym e) ∙ f in cc) | inr later ↦ filter_among test x xs later h ])
+  | inr f ↦ rw (cond-false _ (y ∷ filter test xs) (filter test xs) f)
+      (elim a [ inl e ↦ absurd (let z : test x ≡ false = ap test (sym e) ∙ f in cc) | inr later ↦ filter_among test x xs later h ])
 ]
 
 pub map_each : {X Y : Type 0} (f g : X → Y) (xs : List X) → map f xs ≡ map g xs → (x : X) → Among x xs → f x ≡ g x

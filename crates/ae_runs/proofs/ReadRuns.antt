@@ -16,7 +16,8 @@ use Rattle.ae_runs.proofs.Fits.{net_fits}
 use Rattle.ae_runs.proofs.Made.{from_length, from_at}
 
 -- what stands for a name holds what the name holds
-stands_hold : (k : NetKind) (cells : List SizedCell) (run : List netlist.Clock) (t net width : ℕ) → netlist.IsRun cells run → t < length run → StandsFor k cells net width → FitsKind k width (netlist.word_at run t net) (netlist.store_at run t net)
+stands_hold : (k : NetKind) (cells : List SizedCell) (run : List netlist.Clock) (t net width : ℕ) → netlist.IsRun cells run → t < length run
+    → StandsFor k cells net width → FitsKind k width (netlist.word_at run t net) (netlist.store_at run t net)
 unfolding netlist.store_at
 stands_hold Input cells run t net width r l s = net_fits cells run t net width s r l
 stands_hold Wire cells run t net width r l s = net_fits cells run t net width s r l
@@ -41,10 +42,12 @@ module _ (m : ModuleTree) (n : Circuit) (at : List ℕ → ℕ) (r : Realizes m 
       let long = by_name_length other in
       let within : (t : ℕ) → t < length (by_name other) → t < length other = λ t l. omega arith in
       record {
-        shaped = λ t l. subst (IsModuleShaped m) (sym (by_name_at other t (within t l))) (record { holds = λ x a held. stands_hold x.kind n.cells other t (at x.name) x.width p (within t l) (r.stands x a held) });
+        shaped = λ t l. subst (IsModuleShaped m) (sym (by_name_at other t (within t l)))
+            (record { holds = λ x a held. stands_hold x.kind n.cells other t (at x.name) x.width p (within t l) (r.stands x a held) });
         settles = λ t l. subst (IsSettled m) (sym (by_name_at other t (within t l))) (r.settles other p t (within t l));
         steps = λ t l.
             let h : t + 1 < length other = within (t + 1) l in
             let here : t < length other = omega arith in
-            subst (λ c. IsStep m c (clock_at (by_name other) (t + 1))) (sym (by_name_at other t here)) (subst (IsStep m (read at other t)) (sym (by_name_at other (t + 1) h)) (r.steps other p t h));
+            subst (λ c. IsStep m c (clock_at (by_name other) (t + 1))) (sym (by_name_at other t here))
+            (subst (IsStep m (read at other t)) (sym (by_name_at other (t + 1) h)) (r.steps other p t h));
       }

@@ -52,24 +52,35 @@ cell_by_depth (Peek mem at) w s = refl
 
 module _ (m : ModuleTree) (n : circuit.Circuit) (at : List ℕ → ℕ) (ok : IsWellFormed m) (r : Realizes m n at) where
   -- the words of the inputs, of the outputs and of the states, read by name
-  inputs_read : (f : ℕ → ℕ → ℕ) → map (λ (x : NetTree). f (at x.name) x.width) (inputs_of m) ≡ map (λ (x : ℕ × SizedCell). f x.0 x.1.width) (input_cells n.cells)
+  inputs_read : (f : ℕ → ℕ → ℕ) → map (λ (x : NetTree). f (at x.name) x.width) (inputs_of m) ≡ map (λ (x : ℕ × SizedCell). f x.0 x.1.width)
+      (input_cells n.cells)
   inputs_read f =
       sym (map-map (λ (p : ℕ × ℕ). f p.0 p.1) (λ (x : NetTree). let p : ℕ × ℕ = (at x.name, x.width) in p) (inputs_of m))
-      ∙ (ap (map (λ (p : ℕ × ℕ). f p.0 p.1)) r.inputs ∙ map-map (λ (p : ℕ × ℕ). f p.0 p.1) (λ (x : ℕ × SizedCell). let p : ℕ × ℕ = (x.0, x.1.width) in p) (input_cells n.cells))
+      ∙ (ap (map (λ (p : ℕ × ℕ). f p.0 p.1)) r.inputs ∙ map-map (λ (p : ℕ × ℕ). f p.0 p.1) (λ (x : ℕ × SizedCell). let p : ℕ × ℕ = (x.0, x.1.width) in p)
+      (input_cells n.cells))
 
   outputs_read : {X : Type 0} (f : ℕ → X) → map (λ (x : NetTree). f (at x.name)) (outputs_of m) ≡ map (λ (o : Outlet). f o.net.0) n.outlets
   outputs_read f = sym (map-map f (λ (x : NetTree). at x.name) (outputs_of m)) ∙ (ap (map f) r.outputs ∙ map-map f (λ (o : Outlet). o.net.0) n.outlets)
 
-  states_read : {X : Type 0} (f : ℕ → ℕ → Option ℕ → X) → map (λ (x : NetTree). f (at x.name) x.width (kind_depth x.kind)) (states_of m) ≡ map (λ (x : ℕ × SizedCell). f x.0 x.1.width (cell_depth x.1.cell)) (state_cells n.cells)
+  states_read : {X : Type 0} (f : ℕ → ℕ → Option ℕ → X)
+      → map (λ (x : NetTree). f (at x.name) x.width (kind_depth x.kind)) (states_of m) ≡ map (λ (x : ℕ × SizedCell). f x.0 x.1.width (cell_depth x.1.cell))
+      (state_cells n.cells)
   states_read f =
-      sym (map-map (λ (p : ℕ × ℕ × Option ℕ). f p.0 p.1 p.2) (λ (x : NetTree). let p : ℕ × ℕ × Option ℕ = (at x.name, x.width, kind_depth x.kind) in p) (states_of m))
-      ∙ (ap (map (λ (p : ℕ × ℕ × Option ℕ). f p.0 p.1 p.2)) r.states ∙ map-map (λ (p : ℕ × ℕ × Option ℕ). f p.0 p.1 p.2) (λ (x : ℕ × SizedCell). let p : ℕ × ℕ × Option ℕ = (x.0, x.1.width, cell_depth x.1.cell) in p) (state_cells n.cells))
+      sym (map-map (λ (p : ℕ × ℕ × Option ℕ). f p.0 p.1 p.2) (λ (x : NetTree). let p : ℕ × ℕ × Option ℕ = (at x.name, x.width, kind_depth x.kind) in p)
+      (states_of m))
+      ∙ (ap (map (λ (p : ℕ × ℕ × Option ℕ). f p.0 p.1 p.2)) r.states ∙
+      map-map (λ (p : ℕ × ℕ × Option ℕ). f p.0 p.1 p.2) (λ (x : ℕ × SizedCell). let p : ℕ × ℕ × Option ℕ = (x.0, x.1.width, cell_depth x.1.cell) in p)
+      (state_cells n.cells))
 
-  held_read : (w : ℕ → ℕ) (s : ℕ → List ℕ) → map (λ (x : NetTree). kind_words x.kind (w (at x.name)) (s (at x.name))) (states_of m) ≡ map (λ (x : ℕ × SizedCell). cell_words x.1.cell (w x.0) (s x.0)) (state_cells n.cells)
+  held_read : (w : ℕ → ℕ) (s : ℕ → List ℕ) → map (λ (x : NetTree). kind_words x.kind (w (at x.name)) (s (at x.name))) (states_of m) ≡ map
+      (λ (x : ℕ × SizedCell). cell_words x.1.cell (w x.0) (s x.0)) (state_cells n.cells)
   held_read w s =
-      each_map (λ (x : NetTree). kind_words x.kind (w (at x.name)) (s (at x.name))) (λ (x : NetTree). words_by (kind_depth x.kind) (w (at x.name)) (s (at x.name))) (states_of m) (λ x a. kind_by_depth x.kind (w (at x.name)) (s (at x.name)))
+      each_map (λ (x : NetTree). kind_words x.kind (w (at x.name)) (s (at x.name)))
+      (λ (x : NetTree). words_by (kind_depth x.kind) (w (at x.name)) (s (at x.name))) (states_of m)
+      (λ x a. kind_by_depth x.kind (w (at x.name)) (s (at x.name)))
       ∙ (states_read (λ net width depth. words_by depth (w net) (s net))
-      ∙ each_map (λ (x : ℕ × SizedCell). words_by (cell_depth x.1.cell) (w x.0) (s x.0)) (λ (x : ℕ × SizedCell). cell_words x.1.cell (w x.0) (s x.0)) (state_cells n.cells) (λ x a. cell_by_depth x.1.cell (w x.0) (s x.0)))
+      ∙ each_map (λ (x : ℕ × SizedCell). words_by (cell_depth x.1.cell) (w x.0) (s x.0)) (λ (x : ℕ × SizedCell). cell_words x.1.cell (w x.0) (s x.0))
+      (state_cells n.cells) (λ x a. cell_by_depth x.1.cell (w x.0) (s x.0)))
 
   -- the run by name begins alike and has the same outputs
   name_alike : (other : List netlist.Clock) → BeginAlike m n (by_name m n at r other) other
@@ -97,38 +108,49 @@ module _ (m : ModuleTree) (n : circuit.Circuit) (at : List ℕ → ℕ) (ok : Is
 
   -- clocks with equal words at the inputs, and first clocks with equal words in the states, agree
   module _ (c d : ModuleClock) where
-    word_of_held : (x : NetTree) → kind_depth x.kind ≡ None → kind_words x.kind (c.word x.name) (c.store x.name) ≡ kind_words x.kind (d.word x.name) (d.store x.name) → c.word x.name ≡ d.word x.name
+    word_of_held : (x : NetTree) → kind_depth x.kind ≡ None
+        → kind_words x.kind (c.word x.name) (c.store x.name) ≡ kind_words x.kind (d.word x.name) (d.store x.name) → c.word x.name ≡ d.word x.name
     word_of_held x none h =
-        let e : words_by (kind_depth x.kind) (c.word x.name) (c.store x.name) ≡ words_by (kind_depth x.kind) (d.word x.name) (d.store x.name) = sym (kind_by_depth x.kind _ _) ∙ (h ∙ kind_by_depth x.kind _ _) in
-        let f : (c.word x.name ∷ []) ≡ (d.word x.name ∷ []) = subst (λ o. words_by o (c.word x.name) (c.store x.name) ≡ words_by o (d.word x.name) (d.store x.name)) none e in
+        let e : words_by (kind_depth x.kind) (c.word x.name) (c.store x.name) ≡ words_by (kind_depth x.kind) (d.word x.name) (d.store x.name) = sym
+        (kind_by_depth x.kind _ _) ∙ (h ∙ kind_by_depth x.kind _ _) in
+        let f : (c.word x.name ∷ []) ≡ (d.word x.name ∷ []) = subst
+        (λ o. words_by o (c.word x.name) (c.store x.name) ≡ words_by o (d.word x.name) (d.store x.name)) none e in
         ap (λ l. get_or l 0 0) f
 
-    store_of_held : (x : NetTree) (depth : ℕ) → kind_depth x.kind ≡ Some depth → kind_words x.kind (c.word x.name) (c.store x.name) ≡ kind_words x.kind (d.word x.name) (d.store x.name) → c.store x.name ≡ d.store x.name
+    store_of_held : (x : NetTree) (depth : ℕ) → kind_depth x.kind ≡ Some depth
+        → kind_words x.kind (c.word x.name) (c.store x.name) ≡ kind_words x.kind (d.word x.name) (d.store x.name) → c.store x.name ≡ d.store x.name
     store_of_held x depth some h =
-        let e : words_by (kind_depth x.kind) (c.word x.name) (c.store x.name) ≡ words_by (kind_depth x.kind) (d.word x.name) (d.store x.name) = sym (kind_by_depth x.kind _ _) ∙ (h ∙ kind_by_depth x.kind _ _) in
+        let e : words_by (kind_depth x.kind) (c.word x.name) (c.store x.name) ≡ words_by (kind_depth x.kind) (d.word x.name) (d.store x.name) = sym
+        (kind_by_depth x.kind _ _) ∙ (h ∙ kind_by_depth x.kind _ _) in
         subst (λ o. words_by o (c.word x.name) (c.store x.name) ≡ words_by o (d.word x.name) (d.store x.name)) some e
 
-    input_agree : (x : NetTree) → input_words m c ≡ input_words m d → Among x m.nets → is_input_kind x.kind ≡ true → is_clock m x.name ≡ false → c.word x.name ≡ d.word x.name
+    input_agree : (x : NetTree) → input_words m c ≡ input_words m d → Among x m.nets → is_input_kind x.kind ≡ true → is_clock m x.name ≡ false
+        → c.word x.name ≡ d.word x.name
     input_agree x h a is held =
         map_each (λ (x : NetTree). c.word x.name) (λ (x : NetTree). d.word x.name) (inputs_of m) h x
         (filter_among (λ (x : NetTree). is_input_kind x.kind && not (is_clock m x.name)) x m.nets a (and_from _ _ is (not_from_false _ held)))
 
-    state_agree : (x : NetTree) → held_words m c ≡ held_words m d → Among x m.nets → is_register_kind x.kind || is_memory_kind x.kind ≡ true → kind_words x.kind (c.word x.name) (c.store x.name) ≡ kind_words x.kind (d.word x.name) (d.store x.name)
+    state_agree : (x : NetTree) → held_words m c ≡ held_words m d → Among x m.nets → is_register_kind x.kind || is_memory_kind x.kind ≡ true
+        → kind_words x.kind (c.word x.name) (c.store x.name) ≡ kind_words x.kind (d.word x.name) (d.store x.name)
     state_agree x h a is =
-        map_each (λ (x : NetTree). kind_words x.kind (c.word x.name) (c.store x.name)) (λ (x : NetTree). kind_words x.kind (d.word x.name) (d.store x.name)) (states_of m) h x
+        map_each (λ (x : NetTree). kind_words x.kind (c.word x.name) (c.store x.name)) (λ (x : NetTree). kind_words x.kind (d.word x.name) (d.store x.name))
+        (states_of m) h x
         (filter_among (λ (x : NetTree). is_register_kind x.kind || is_memory_kind x.kind) x m.nets a is)
 
-    agree_by : (t : ℕ) (x : NetTree) (k : NetKind) → x.kind ≡ k → input_words m c ≡ input_words m d → (t ≡ 0 → held_words m c ≡ held_words m d) → Among x m.nets → is_clock m x.name ≡ false
+    agree_by : (t : ℕ) (x : NetTree) (k : NetKind) → x.kind ≡ k → input_words m c ≡ input_words m d → (t ≡ 0 → held_words m c ≡ held_words m d)
+        → Among x m.nets → is_clock m x.name ≡ false
         → ModuleAgreesAt k t (c.word x.name) (d.word x.name) (c.store x.name) (d.store x.name)
     agree_by t x InputName is h g a held = input_agree x h a (ap is_input_kind is) held
     agree_by t x Wire is h g a held = tt
     agree_by t x OutWire is h g a held = tt
     agree_by t x RegName is h g a held = λ z. word_of_held x (ap kind_depth is) (state_agree x (g z) a (ap (λ k. is_register_kind k || is_memory_kind k) is))
     agree_by t x OutReg is h g a held = λ z. word_of_held x (ap kind_depth is) (state_agree x (g z) a (ap (λ k. is_register_kind k || is_memory_kind k) is))
-    agree_by t x (Memory depth) is h g a held = λ z. store_of_held x depth (ap kind_depth is) (state_agree x (g z) a (ap (λ k. is_register_kind k || is_memory_kind k) is))
+    agree_by t x (Memory depth) is h g a held = λ z. store_of_held x depth (ap kind_depth is)
+        (state_agree x (g z) a (ap (λ k. is_register_kind k || is_memory_kind k) is))
 
   -- a run of the module and one of the netlist that begin alike have equal outputs
-  equal : (run : List ModuleClock) (other : List netlist.Clock) → IsModuleRun m run → netlist.IsRun n.cells other → BeginAlike m n run other → HaveEqualOutputs m n run other
+  equal : (run : List ModuleClock) (other : List netlist.Clock) → IsModuleRun m run → netlist.IsRun n.cells other → BeginAlike m n run other
+      → HaveEqualOutputs m n run other
   equal run other p q b =
       let named = by_name m n at r other in
       let long : length named ≡ length other = by_name_length m n at r other in
@@ -145,7 +167,8 @@ module _ (m : ModuleTree) (n : circuit.Circuit) (at : List ℕ → ℕ) (ok : Is
         agrees = λ t l. record {
           same = λ x a held. agree_by (clock_at named t) (clock_at run t) t x x.kind refl
               (alike.inputs t (omega arith) ∙ sym (b.inputs t l))
-              (λ z. subst (λ i. held_words m (clock_at named i) ≡ held_words m (clock_at run i)) (sym z) (alike.first (omega arith) ∙ sym (b.first (omega arith)))) a held;
+              (λ z. subst (λ i. held_words m (clock_at named i) ≡ held_words m (clock_at run i)) (sym z)
+              (alike.first (omega arith) ∙ sym (b.first (omega arith)))) a held;
         };
       } in
       record {
@@ -181,7 +204,8 @@ net_wide : (cells : List SizedCell) (net width : ℕ) → circuit.IsNet cells ne
 unfolding circuit.width_of
 net_wide cells net width h = sym h.wide ∙ sym (ap circuit.width_in h.found)
 
-output_wide : (k : NetKind) (cells : List SizedCell) (net width : ℕ) → is_output_kind k ≡ true → StandsFor k cells net width → width ≡ circuit.width_of cells net
+output_wide : (k : NetKind) (cells : List SizedCell) (net width : ℕ) → is_output_kind k ≡ true → StandsFor k cells net width
+    → width ≡ circuit.width_of cells net
 output_wide InputName cells net width is s = absurd (cc)
 output_wide Wire cells net width is s = absurd (cc)
 output_wide OutWire cells net width is s = net_wide cells net width s
@@ -220,7 +244,8 @@ fit_inputs f (x ∷ xs) (p ∷ ps) e h = (
   fit_inputs f xs ps (let t : map (λ (x : NetTree). x.width) xs ≡ map (λ (x : ℕ × SizedCell). x.1.width) ps = cc in t) (λ y a. h y (inr a)),
 )
 
-fit_states : (f : NetTree → List ℕ) (xs : List NetTree) (ps : List (ℕ × SizedCell)) → map (λ (x : NetTree). x.width) xs ≡ map (λ (x : ℕ × SizedCell). x.1.width) ps
+fit_states : (f : NetTree → List ℕ) (xs : List NetTree) (ps : List (ℕ × SizedCell))
+    → map (λ (x : NetTree). x.width) xs ≡ map (λ (x : ℕ × SizedCell). x.1.width) ps
     → map (λ (x : NetTree). kind_depth x.kind) xs ≡ map (λ (x : ℕ × SizedCell). cell_depth x.1.cell) ps
     → ((x : NetTree) → Among x xs → FitsBy (kind_depth x.kind) x.width (f x)) → FitStates ps (map f xs)
 fit_states f [] [] e d h = tt
@@ -247,7 +272,8 @@ cell_at cells x a =
     let r = numbered_at 0 cells x a in
     subst (λ j. slice_get cells j ≡ Some x.1) (let z : r.0 ≡ x.0 = omega arith in z) r.2
 
-input_agrees : (c : Cell) (given run : List netlist.Clock) (t net : ℕ) → is_input_cell c ≡ true → netlist.AgreesAt given run t net c → netlist.word_at run t net ≡ netlist.word_at given t net
+input_agrees : (c : Cell) (given run : List netlist.Clock) (t net : ℕ) → is_input_cell c ≡ true → netlist.AgreesAt given run t net c
+    → netlist.word_at run t net ≡ netlist.word_at given t net
 input_agrees (Input port) given run t net is a = a
 input_agrees (Const k) given run t net is a = absurd (cc)
 input_agrees (Op op args) given run t net is a = absurd (cc)
@@ -300,13 +326,16 @@ module _ (m : ModuleTree) (n : circuit.Circuit) (at : List ℕ → ℕ) (ok : Is
         let e = laid_long in
         let here : t < length run = omega arith in
         let s = p.shaped t here in
-        subst (netlist.IsShaped n.cells) (sym (laid_run_at t here)) (laid_shaped n.cells (input_words m (clock_at run t)) (held_words m (clock_at run t)) (fit_words (clock_at run t) s) (fit_held (clock_at run t) s))
+        subst (netlist.IsShaped n.cells) (sym (laid_run_at t here))
+        (laid_shaped n.cells (input_words m (clock_at run t)) (held_words m (clock_at run t)) (fit_words (clock_at run t) s) (fit_held (clock_at run t) s))
 
-    laid_run_words : (t : ℕ) → t < length run → (net_input_words n laid_run t ≡ input_words m (clock_at run t)) × (net_held_words n laid_run t ≡ held_words m (clock_at run t))
+    laid_run_words : (t : ℕ) → t < length run → (net_input_words n laid_run t ≡ input_words m (clock_at run t))
+        × (net_held_words n laid_run t ≡ held_words m (clock_at run t))
     unfolding netlist.word_at netlist.store_at
     laid_run_words t l =
         let s = p.shaped t l in
-        rw (laid_run_at t l) (laid_words n.cells (input_words m (clock_at run t)) (held_words m (clock_at run t)) (fit_words (clock_at run t) s) (fit_held (clock_at run t) s))
+        rw (laid_run_at t l) (laid_words n.cells (input_words m (clock_at run t)) (held_words m (clock_at run t)) (fit_words (clock_at run t) s)
+        (fit_held (clock_at run t) s))
 
     begins : (other : List netlist.Clock) → netlist.IsRunOn n.cells laid_run other → BeginAlike m n run other
     begins other o =
@@ -315,18 +344,22 @@ module _ (m : ModuleTree) (n : circuit.Circuit) (at : List ℕ → ℕ) (ok : Is
         record {
           long = omega arith;
           inputs = λ t l.
-              sym (laid_run_words t l).0 ∙ sym (each_map (λ (x : ℕ × SizedCell). netlist.word_at other t x.0) (λ (x : ℕ × SizedCell). netlist.word_at laid_run t x.0) (input_cells n.cells)
+              sym (laid_run_words t l).0 ∙ sym (each_map (λ (x : ℕ × SizedCell). netlist.word_at other t x.0)
+              (λ (x : ℕ × SizedCell). netlist.word_at laid_run t x.0) (input_cells n.cells)
               (λ x a.
               let k = among_filter (λ (x : ℕ × SizedCell). is_input_cell x.1.cell) x (enumerate_from 0 n.cells) a in
               input_agrees x.1.cell laid_run other t x.0 k.1 (o.agrees.same t x.0 x.1 (omega arith) (cell_at n.cells x k.0))));
           first = λ l.
-              sym (laid_run_words 0 l).1 ∙ sym (each_map (λ (x : ℕ × SizedCell). cell_words x.1.cell (netlist.word_at other 0 x.0) (netlist.store_at other 0 x.0)) (λ (x : ℕ × SizedCell). cell_words x.1.cell (netlist.word_at laid_run 0 x.0) (netlist.store_at laid_run 0 x.0)) (state_cells n.cells)
+              sym (laid_run_words 0 l).1 ∙ sym (each_map (λ (x : ℕ × SizedCell). cell_words x.1.cell (netlist.word_at other 0 x.0)
+              (netlist.store_at other 0 x.0)) (λ (x : ℕ × SizedCell). cell_words x.1.cell (netlist.word_at laid_run 0 x.0)
+              (netlist.store_at laid_run 0 x.0)) (state_cells n.cells)
               (λ x a.
               let k = among_filter (λ (x : ℕ × SizedCell). is_state_cell x.1.cell) x (enumerate_from 0 n.cells) a in
               state_agrees x.1.cell laid_run other x.0 k.1 (o.agrees.same 0 x.0 x.1 (omega arith) (cell_at n.cells x k.0))));
         }
 
-    of_module : netlist.HasOneRun n.cells → (other : List netlist.Clock) × netlist.IsRun n.cells other × BeginAlike m n run other × HaveEqualOutputs m n run other
+    of_module : netlist.HasOneRun n.cells → (other : List netlist.Clock) × netlist.IsRun n.cells other × BeginAlike m n run other
+        × HaveEqualOutputs m n run other
     of_module one =
         let made = one laid_run (each_shaped n.cells laid_run laid_run_shaped) in
         let alike = begins made.0 made.1 in

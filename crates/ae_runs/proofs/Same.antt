@@ -14,26 +14,35 @@ pub record IsSameName (ns : List NetTree) (c d : ModuleClock) (n : List ℕ) : T
   pub word : is_memory_name ns n ≡ false → c.word n ≡ d.word n
   pub store : is_memory_name ns n ≡ true → c.store n ≡ d.store n
 
-branch_word : (x y : ℕ) (a b c d : ModuleClock) (k : List ℕ) → x ≡ y → a.word k ≡ c.word k → b.word k ≡ d.word k → (if x == 0 then a else b).word k ≡ (if y == 0 then c else d).word k
+branch_word : (x y : ℕ) (a b c d : ModuleClock) (k : List ℕ) → x ≡ y → a.word k ≡ c.word k → b.word k ≡ d.word k
+    → (if x == 0 then a else b).word k ≡ (if y == 0 then c else d).word k
 branch_word x y a b c d k e p q = elim (cases_Bool (x == 0)) [
-  | inl t ↦ ap (λ (u : ModuleClock). u.word k) (cond-true _ a b t) ∙ p ∙ sym (ap (λ (u : ModuleClock). u.word k) (cond-true _ c d (subst (λ z. (z == 0) ≡ true) e t)))
-  | inr f ↦ ap (λ (u : ModuleClock). u.word k) (cond-false _ a b f) ∙ q ∙ sym (ap (λ (u : ModuleClock). u.word k) (cond-false _ c d (subst (λ z. (z == 0) ≡ false) e f)))
+  | inl t ↦ ap (λ (u : ModuleClock). u.word k) (cond-true _ a b t) ∙ p ∙
+      sym (ap (λ (u : ModuleClock). u.word k) (cond-true _ c d (subst (λ z. (z == 0) ≡ true) e t)))
+  | inr f ↦ ap (λ (u : ModuleClock). u.word k) (cond-false _ a b f) ∙ q ∙
+      sym (ap (λ (u : ModuleClock). u.word k) (cond-false _ c d (subst (λ z. (z == 0) ≡ false) e f)))
 ]
 
-branch_store : (x y : ℕ) (a b c d : ModuleClock) (k : List ℕ) → x ≡ y → a.store k ≡ c.store k → b.store k ≡ d.store k → (if x == 0 then a else b).store k ≡ (if y == 0 then c else d).store k
+branch_store : (x y : ℕ) (a b c d : ModuleClock) (k : List ℕ) → x ≡ y → a.store k ≡ c.store k → b.store k ≡ d.store k
+    → (if x == 0 then a else b).store k ≡ (if y == 0 then c else d).store k
 branch_store x y a b c d k e p q = elim (cases_Bool (x == 0)) [
-  | inl t ↦ ap (λ (u : ModuleClock). u.store k) (cond-true _ a b t) ∙ p ∙ sym (ap (λ (u : ModuleClock). u.store k) (cond-true _ c d (subst (λ z. (z == 0) ≡ true) e t)))
-  | inr f ↦ ap (λ (u : ModuleClock). u.store k) (cond-false _ a b f) ∙ q ∙ sym (ap (λ (u : ModuleClock). u.store k) (cond-false _ c d (subst (λ z. (z == 0) ≡ false) e f)))
+  | inl t ↦ ap (λ (u : ModuleClock). u.store k) (cond-true _ a b t) ∙ p ∙
+      sym (ap (λ (u : ModuleClock). u.store k) (cond-true _ c d (subst (λ z. (z == 0) ≡ true) e t)))
+  | inr f ↦ ap (λ (u : ModuleClock). u.store k) (cond-false _ a b f) ∙ q ∙
+      sym (ap (λ (u : ModuleClock). u.store k) (cond-false _ c d (subst (λ z. (z == 0) ≡ false) e f)))
 ]
 
 module _ (ns : List NetTree) (c d : ModuleClock) where
-  index_same : (n : List ℕ) (x y : ℕ) → IsSameName ns c d n → x ≡ y → (if is_memory_name ns n then get_or (c.store n) x 0 else c.word n / 2 ^ x % 2) ≡ (if is_memory_name ns n then get_or (d.store n) y 0 else d.word n / 2 ^ y % 2)
+  index_same : (n : List ℕ) (x y : ℕ) → IsSameName ns c d n → x ≡ y
+      → (if is_memory_name ns n then get_or (c.store n) x 0 else c.word n / 2 ^ x % 2) ≡ (if is_memory_name ns n then get_or
+      (d.store n) y 0 else d.word n / 2 ^ y % 2)
   index_same n x y h e = elim (cases_Bool (is_memory_name ns n)) [
     | inl t ↦ cond-true _ _ _ t ∙ ap (λ s. get_or s x 0) (h.store t) ∙ ap (λ k. get_or (d.store n) k 0) e ∙ sym (cond-true _ _ _ t)
     | inr f ↦ cond-false _ _ _ f ∙ ap (λ w. w / 2 ^ x % 2) (h.word f) ∙ ap (λ k. d.word n / 2 ^ k % 2) e ∙ sym (cond-false _ _ _ f)
   ]
 
-  pub value_same : (e : ExprTree) → ((n : List ℕ) → Among n (names_in e) → IsSameName ns c d n) → is_misused ns e ≡ false → (w : ℕ) → value_at ns c w e ≡ value_at ns d w e
+  pub value_same : (e : ExprTree) → ((n : List ℕ) → Among n (names_in e) → IsSameName ns c d n) → is_misused ns e ≡ false → (w : ℕ)
+      → value_at ns c w e ≡ value_at ns d w e
   value_same (name n) h r w = (h n (inl refl)).word r
   value_same (constant size value fits) h r w = refl
   value_same (place k) h r w = refl
@@ -42,17 +51,28 @@ module _ (ns : List NetTree) (c d : ModuleClock) where
   value_same (unary op a) h r w = rw (value_same a h r (operand_width op w (own_width ns a))) refl
   value_same (binary op a b) h r w =
       let p = or_parts _ _ r in
-      rw (value_same a (λ n x. h n (among_left n (names_in a) (names_in b) x)) p.0 (left_width op w (own_width ns a) (own_width ns b)), value_same b (λ n x. h n (among_right n (names_in a) (names_in b) x)) p.1 (right_width op w (own_width ns a) (own_width ns b))) refl
+      rw (
+        value_same a (λ n x. h n (among_left n (names_in a) (names_in b) x)) p.0 (left_width op w (own_width ns a) (own_width ns b)),
+        value_same b (λ n x. h n (among_right n (names_in a) (names_in b) x)) p.1 (right_width op w (own_width ns a) (own_width ns b)),
+      ) refl
   value_same (choice test a b) h r w =
       let p = or_parts _ _ r in
       let q = or_parts _ _ p.1 in
-      rw (value_same test (λ n x. h n (among_left n (names_in test) (names_in a ++ names_in b) x)) p.0 (own_width ns test), value_same a (λ n x. h n (among_right n (names_in test) (names_in a ++ names_in b) (among_left n (names_in a) (names_in b) x))) q.0 w, value_same b (λ n x. h n (among_right n (names_in test) (names_in a ++ names_in b) (among_right n (names_in a) (names_in b) x))) q.1 w) refl
+      rw (
+        value_same test (λ n x. h n (among_left n (names_in test) (names_in a ++ names_in b) x)) p.0 (own_width ns test),
+        value_same a (λ n x. h n (among_right n (names_in test) (names_in a ++ names_in b) (among_left n (names_in a) (names_in b) x))) q.0 w,
+        value_same b (λ n x. h n (among_right n (names_in test) (names_in a ++ names_in b) (among_right n (names_in a) (names_in b) x))) q.1 w,
+      ) refl
   value_same (concat_one a) h r w = value_same a h r (own_width ns a)
   value_same (concat_more a rest) h r w =
       let p = or_parts _ _ r in
-      rw (value_same a (λ n x. h n (among_left n (names_in a) (names_in rest) x)) p.0 (own_width ns a), value_same rest (λ n x. h n (among_right n (names_in a) (names_in rest) x)) p.1 (own_width ns rest)) refl
+      rw (
+        value_same a (λ n x. h n (among_left n (names_in a) (names_in rest) x)) p.0 (own_width ns a),
+        value_same rest (λ n x. h n (among_right n (names_in a) (names_in rest) x)) p.1 (own_width ns rest),
+      ) refl
 
-  pub assigned_same : (n : List ℕ) (e : ExprTree) → ((k : List ℕ) → Among k (names_in e) → IsSameName ns c d k) → is_misused ns e ≡ false → assigned ns c n e ≡ assigned ns d n e
+  pub assigned_same : (n : List ℕ) (e : ExprTree) → ((k : List ℕ) → Among k (names_in e) → IsSameName ns c d k) → is_misused ns e ≡ false
+      → assigned ns c n e ≡ assigned ns d n e
   assigned_same n e h r = rw (value_same e h r (max (own_width ns e) (declared_width ns n))) refl
 
   -- a statement changes a name alike
@@ -69,8 +89,10 @@ module _ (ns : List NetTree) (c d : ModuleClock) where
       let p = or_parts _ _ r in
       let q = or_parts _ _ p.1 in
       let t = value_same test (λ n x. h n (among_left n (names_in test) (stmt_reads taken ++ stmt_reads otherwise) x)) p.0 (own_width ns test) in
-      let a = stmt_same taken (λ n x. h n (among_right n (names_in test) (stmt_reads taken ++ stmt_reads otherwise) (among_left n (stmt_reads taken) (stmt_reads otherwise) x))) q.0 next other k e in
-      let b = stmt_same otherwise (λ n x. h n (among_right n (names_in test) (stmt_reads taken ++ stmt_reads otherwise) (among_right n (stmt_reads taken) (stmt_reads otherwise) x))) q.1 next other k e in
+      let a = stmt_same taken (λ n x. h n (among_right n (names_in test) (stmt_reads taken ++ stmt_reads otherwise)
+      (among_left n (stmt_reads taken) (stmt_reads otherwise) x))) q.0 next other k e in
+      let b = stmt_same otherwise (λ n x. h n (among_right n (names_in test) (stmt_reads taken ++ stmt_reads otherwise)
+      (among_right n (stmt_reads taken) (stmt_reads otherwise) x))) q.1 next other k e in
       branch_word _ _ (after_stmt ns c otherwise next) (after_stmt ns c taken next) (after_stmt ns d otherwise other) (after_stmt ns d taken other) k t b a
   stmt_same block_end h r next other k e = e
   stmt_same (block_more first rest) h r next other k e =
@@ -84,7 +106,11 @@ module _ (ns : List NetTree) (c d : ModuleClock) where
   stmt_same_store (put n at value) h r next other k e =
       let o = or_parts _ _ r in
       let p = or_parts _ _ o.1 in
-      rw (assigned_same n value (λ i x. h i (among_right i (names_in at) (names_in value) x)) p.1, value_same at (λ i x. h i (among_left i (names_in at) (names_in value) x)) p.0 (own_width ns at), e) refl
+      rw (
+        assigned_same n value (λ i x. h i (among_right i (names_in at) (names_in value) x)) p.1,
+        value_same at (λ i x. h i (among_left i (names_in at) (names_in value) x)) p.0 (own_width ns at),
+        e,
+      ) refl
   stmt_same_store (when test taken) h r next other k e =
       let p = or_parts _ _ r in
       let t = value_same test (λ n x. h n (among_left n (names_in test) (stmt_reads taken) x)) p.0 (own_width ns test) in
@@ -94,8 +120,10 @@ module _ (ns : List NetTree) (c d : ModuleClock) where
       let p = or_parts _ _ r in
       let q = or_parts _ _ p.1 in
       let t = value_same test (λ n x. h n (among_left n (names_in test) (stmt_reads taken ++ stmt_reads otherwise) x)) p.0 (own_width ns test) in
-      let a = stmt_same_store taken (λ n x. h n (among_right n (names_in test) (stmt_reads taken ++ stmt_reads otherwise) (among_left n (stmt_reads taken) (stmt_reads otherwise) x))) q.0 next other k e in
-      let b = stmt_same_store otherwise (λ n x. h n (among_right n (names_in test) (stmt_reads taken ++ stmt_reads otherwise) (among_right n (stmt_reads taken) (stmt_reads otherwise) x))) q.1 next other k e in
+      let a = stmt_same_store taken (λ n x. h n (among_right n (names_in test) (stmt_reads taken ++ stmt_reads otherwise)
+      (among_left n (stmt_reads taken) (stmt_reads otherwise) x))) q.0 next other k e in
+      let b = stmt_same_store otherwise (λ n x. h n (among_right n (names_in test) (stmt_reads taken ++ stmt_reads otherwise)
+      (among_right n (stmt_reads taken) (stmt_reads otherwise) x))) q.1 next other k e in
       branch_store _ _ (after_stmt ns c otherwise next) (after_stmt ns c taken next) (after_stmt ns d otherwise other) (after_stmt ns d taken other) k t b a
   stmt_same_store block_end h r next other k e = e
   stmt_same_store (block_more first rest) h r next other k e =

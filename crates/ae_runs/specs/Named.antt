@@ -33,7 +33,8 @@ StandsFor _ cells net width = IsNet cells net width
 -- the nets so far, by the places of their names
 pub record AreNets (ns : List NetTree) (nets : List (Option NetId)) (cells : List SizedCell) : Type 0 where
   pub long : length nets ≡ length ns
-  pub each : (p : ℕ) (x : NetTree) (y : NetId) → slice_get ns p ≡ Some x → slice_get nets p ≡ Some (Some y) → StandsFor x.kind cells y.0 x.width
+  pub each : (p : ℕ) (x : NetTree) (y : NetId) → slice_get ns p ≡ Some x → slice_get nets p ≡ Some (Some y)
+      → StandsFor x.kind cells y.0 x.width
 
 -- the name has its net
 pub record IsReady (ns : List NetTree) (nets : List (Option NetId)) (n : List ℕ) : Type 0 where

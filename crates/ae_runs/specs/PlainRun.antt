@@ -26,7 +26,8 @@ settled m c = recomputed_often m c (length (equations m))
 
 -- the inputs as given, and registers and memories as they are next
 unfoldable pub fed : ModuleTree → ModuleClock → ModuleClock → ModuleClock
-fed m given next = record { word = λ n. if is_input_name m.nets n then given.word n else next.word n; store = next.store }
+fed m given next =
+    record { word = λ n. if is_input_name m.nets n then given.word n else next.word n; store = next.store }
 
 abbrev pub plain_clock : ModuleTree → List ModuleClock → ℕ → ModuleClock
 plain_clock m given zero = settled m (clock_at given 0)

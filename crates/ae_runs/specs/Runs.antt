@@ -19,7 +19,8 @@ FitsKind _ width word store = word < 2 ^ width
 
 -- a clock has something for each name but the clock
 pub record IsModuleShaped (m : ModuleTree) (c : ModuleClock) : Type 0 where
-  pub holds : (x : NetTree) → Among x m.nets → is_clock m x.name ≡ false → FitsKind x.kind x.width (c.word x.name) (c.store x.name)
+  pub holds : (x : NetTree) → Among x m.nets → is_clock m x.name ≡ false
+      → FitsKind x.kind x.width (c.word x.name) (c.store x.name)
 
 -- each wire has the value of its expression
 pub record IsSettled (m : ModuleTree) (c : ModuleClock) : Type 0 where
@@ -47,7 +48,8 @@ StepsTo _ word next_word store next_store = Unit {0}
 
 -- from a clock to the next, registers and memories change as the `always` items say, all together
 pub record IsStep (m : ModuleTree) (c d : ModuleClock) : Type 0 where
-  pub steps : (x : NetTree) → Among x m.nets → StepsTo x.kind ((next_clock m c).word x.name) (d.word x.name) ((next_clock m c).store x.name) (d.store x.name)
+  pub steps : (x : NetTree) → Among x m.nets
+      → StepsTo x.kind ((next_clock m c).word x.name) (d.word x.name) ((next_clock m c).store x.name) (d.store x.name)
 
 -- a run: what is not said of a word here is free
 pub record IsModuleRun (m : ModuleTree) (run : List ModuleClock) : Type 0 where
@@ -71,7 +73,8 @@ ModuleAgreesAt (Memory depth) t word given_word store given_store = t ≡ 0 → 
 ModuleAgreesAt _ t word given_word store given_store = Unit {0}
 
 pub record ModuleAgrees (m : ModuleTree) (t : ℕ) (given c : ModuleClock) : Type 0 where
-  pub same : (x : NetTree) → Among x m.nets → is_clock m x.name ≡ false → ModuleAgreesAt x.kind t (c.word x.name) (given.word x.name) (c.store x.name) (given.store x.name)
+  pub same : (x : NetTree) → Among x m.nets → is_clock m x.name ≡ false
+      → ModuleAgreesAt x.kind t (c.word x.name) (given.word x.name) (c.store x.name) (given.store x.name)
 
 -- a run as long as the given clocks, with their inputs and first words
 pub record IsModuleRunOn (m : ModuleTree) (given run : List ModuleClock) : Type 0 where
@@ -86,11 +89,13 @@ SameAt _ word other_word store other_store = word ≡ other_word
 
 -- the same words for each name but the clock
 pub record IsSameClock (m : ModuleTree) (c d : ModuleClock) : Type 0 where
-  pub same : (x : NetTree) → Among x m.nets → is_clock m x.name ≡ false → SameAt x.kind (c.word x.name) (d.word x.name) (c.store x.name) (d.store x.name)
+  pub same : (x : NetTree) → Among x m.nets → is_clock m x.name ≡ false
+      → SameAt x.kind (c.word x.name) (d.word x.name) (c.store x.name) (d.store x.name)
 
 -- for any inputs and any first words there is exactly one run
 abbrev pub HasOneModuleRun : ModuleTree → Type 0
 HasOneModuleRun m =
     (given : List ModuleClock) → ((t : ℕ) → t < length given → IsModuleShaped m (clock_at given t))
     → (run : List ModuleClock) × IsModuleRunOn m given run
-    × ((other : List ModuleClock) → IsModuleRunOn m given other → (t : ℕ) → t < length given → IsSameClock m (clock_at other t) (clock_at run t))
+    × ((other : List ModuleClock) → IsModuleRunOn m given other → (t : ℕ) → t < length given
+    → IsSameClock m (clock_at other t) (clock_at run t))

@@ -76,25 +76,36 @@ abbrev pub net_output_words : circuit.Circuit → List netlist.Clock → ℕ →
 net_output_words n run t = map (λ (o : Outlet). netlist.word_at run t o.net.0) n.outlets
 
 abbrev pub net_held_words : circuit.Circuit → List netlist.Clock → ℕ → List (List ℕ)
-net_held_words n run t = map (λ (x : ℕ × SizedCell). cell_words x.1.cell (netlist.word_at run t x.0) (netlist.store_at run t x.0)) (state_cells n.cells)
+net_held_words n run t =
+    map (λ (x : ℕ × SizedCell). cell_words x.1.cell (netlist.word_at run t x.0) (netlist.store_at run t x.0))
+    (state_cells n.cells)
 
 -- two runs with equal inputs and equal first words
-pub record BeginAlike (m : ModuleTree) (n : circuit.Circuit) (run : List ModuleClock) (other : List netlist.Clock) : Type 0 where
+pub record BeginAlike (m : ModuleTree) (n : circuit.Circuit) (run : List ModuleClock)
+    (other : List netlist.Clock) : Type 0 where
   pub long : length run ≡ length other
   pub inputs : (t : ℕ) → t < length run → input_words m (clock_at run t) ≡ net_input_words n other t
   pub first : 0 < length run → held_words m (clock_at run 0) ≡ net_held_words n other 0
 
 -- two runs with equal outputs in every clock
-pub record HaveEqualOutputs (m : ModuleTree) (n : circuit.Circuit) (run : List ModuleClock) (other : List netlist.Clock) : Type 0 where
+pub record HaveEqualOutputs (m : ModuleTree) (n : circuit.Circuit) (run : List ModuleClock)
+    (other : List netlist.Clock) : Type 0 where
   pub outputs : (t : ℕ) → t < length run → output_words m (clock_at run t) ≡ net_output_words n other t
 
 -- inputs, outputs, registers and memories correspond in order; equal inputs and equal first words give equal outputs; and
 -- each run of the one has such a run of the other
 pub record HasSameRuns (m : ModuleTree) (n : circuit.Circuit) : Type 0 where
-  pub inputs : map (λ (x : NetTree). x.width) (inputs_of m) ≡ map (λ (x : ℕ × SizedCell). x.1.width) (input_cells n.cells)
-  pub outputs : map (λ (x : NetTree). x.width) (outputs_of m) ≡ map (λ (o : Outlet). circuit.width_of n.cells o.net.0) n.outlets
-  pub widths : map (λ (x : NetTree). x.width) (states_of m) ≡ map (λ (x : ℕ × SizedCell). x.1.width) (state_cells n.cells)
-  pub depths : map (λ (x : NetTree). kind_depth x.kind) (states_of m) ≡ map (λ (x : ℕ × SizedCell). cell_depth x.1.cell) (state_cells n.cells)
-  pub equal : (run : List ModuleClock) (other : List netlist.Clock) → IsModuleRun m run → netlist.IsRun n.cells other → BeginAlike m n run other → HaveEqualOutputs m n run other
-  pub of_module : (run : List ModuleClock) → IsModuleRun m run → (other : List netlist.Clock) × netlist.IsRun n.cells other × BeginAlike m n run other × HaveEqualOutputs m n run other
-  pub of_netlist : (other : List netlist.Clock) → netlist.IsRun n.cells other → (run : List ModuleClock) × IsModuleRun m run × BeginAlike m n run other × HaveEqualOutputs m n run other
+  pub inputs : map (λ (x : NetTree). x.width) (inputs_of m) ≡ map (λ (x : ℕ × SizedCell). x.1.width)
+      (input_cells n.cells)
+  pub outputs : map (λ (x : NetTree). x.width) (outputs_of m) ≡ map
+      (λ (o : Outlet). circuit.width_of n.cells o.net.0) n.outlets
+  pub widths : map (λ (x : NetTree). x.width) (states_of m) ≡ map (λ (x : ℕ × SizedCell). x.1.width)
+      (state_cells n.cells)
+  pub depths : map (λ (x : NetTree). kind_depth x.kind) (states_of m) ≡ map
+      (λ (x : ℕ × SizedCell). cell_depth x.1.cell) (state_cells n.cells)
+  pub equal : (run : List ModuleClock) (other : List netlist.Clock) → IsModuleRun m run → netlist.IsRun n.cells other
+      → BeginAlike m n run other → HaveEqualOutputs m n run other
+  pub of_module : (run : List ModuleClock) → IsModuleRun m run → (other : List netlist.Clock)
+      × netlist.IsRun n.cells other × BeginAlike m n run other × HaveEqualOutputs m n run other
+  pub of_netlist : (other : List netlist.Clock) → netlist.IsRun n.cells other → (run : List ModuleClock)
+      × IsModuleRun m run × BeginAlike m n run other × HaveEqualOutputs m n run other

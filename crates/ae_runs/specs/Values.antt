@@ -102,7 +102,8 @@ abbrev pub with_word : ModuleClock → List ℕ → ℕ → ModuleClock
 with_word c n x = record { word = λ k. if bytes_eq k n then x else c.word k; store = c.store }
 
 abbrev pub with_stored : ModuleClock → List ℕ → ℕ → ℕ → ModuleClock
-with_stored c n at x = record { word = c.word; store = λ k. if bytes_eq k n then slice_set (c.store k) at x else c.store k }
+with_stored c n at x =
+    record { word = c.word; store = λ k. if bytes_eq k n then slice_set (c.store k) at x else c.store k }
 
 -- what a statement makes of the words that are next so far; c has all words as before the clock edge
 abbrev pub after_stmt : List NetTree → ModuleClock → StmtTree → ModuleClock → ModuleClock

@@ -12,7 +12,8 @@ use Rattle.ae_parse.specs.Parts.{is_mark}
 pub record IsReadable (n : ℕ) (l : List ℕ) : Type 0 where
   pub printed : all_printed l ≡ true
   pub early : (f : List ℕ) (fs : List (List ℕ)) → fields l ≡ f ∷ fs → n ≤ 4096
-  pub small : (k : ℕ) (f : List ℕ) → slice_get (fields l) k ≡ Some f → all_ascii_digits f ≡ true → IsTrue (is_numeral f) × (digits_value 10 f < 2 ^ 64)
+  pub small : (k : ℕ) (f : List ℕ) → slice_get (fields l) k ≡ Some f → all_ascii_digits f ≡ true
+      → IsTrue (is_numeral f) × (digits_value 10 f < 2 ^ 64)
 
 -- the lines from number n on, up to the first `%%`
 abbrev pub AreReadable : (n : ℕ) → List (List ℕ) → Type 0

@@ -28,44 +28,65 @@ pub record IsBuild (cells : List SizedCell) (f : FoldShape) (folds : List WordFo
   pub one : ins ≡ nets ∷ []
   pub own : AreNets cells (stream_widths (stream_of (elements_layout f))) nets
 
-pub build_of : (cells : List SizedCell) (f : FoldShape) (items folds : List WordFold) (plan : Plan) (ins : List (List NetId)) (x nets : List NetId) → IsFoldShape f → folds ≡ items → items ≡ element_folds f.op (st_tree f.element) → IsPlan plan
-    → IsPlanFor (st_tree f.element) f.slots f.lanes f.period plan → AreBundles cells (stream_of (elements_layout f) ∷ []) ins → x ≡ get_or ins 0 x → nets ≡ x → IsBuild cells f folds plan ins nets
+pub build_of : (cells : List SizedCell) (f : FoldShape) (items folds : List WordFold) (plan : Plan) (ins : List (List NetId)) (x nets : List NetId)
+    → IsFoldShape f → folds ≡ items → items ≡ element_folds f.op (st_tree f.element) → IsPlan plan
+    → IsPlanFor (st_tree f.element) f.slots f.lanes f.period plan → AreBundles cells (stream_of (elements_layout f) ∷ []) ins → x ≡ get_or ins 0 x → nets ≡ x
+    → IsBuild cells f folds plan ins nets
 build_of cells f items folds plan ins x nets shape ef ei p numbers bundles is same =
     let first = first_bundle cells (stream_of (elements_layout f)) ins x nets bundles is same in
-    record { shape = shape; folds_are = ef ∙ ei; plan_are = plan_is (st_tree f.element) f.slots f.lanes f.period plan numbers; is_plan = p; one = first.0; own = first.1 }
+    record {
+      shape = shape;
+      folds_are = ef ∙ ei;
+      plan_are = plan_is (st_tree f.element) f.slots f.lanes f.period plan numbers;
+      is_plan = p;
+      one = first.0;
+      own = first.1;
+    }
 
-pub build_folds : (cells : List SizedCell) (f : FoldShape) (folds : List WordFold) (plan : Plan) (ins : List (List NetId)) (nets : List NetId) → IsBuild cells f folds plan ins nets → AreFolds folds
+pub build_folds : (cells : List SizedCell) (f : FoldShape) (folds : List WordFold) (plan : Plan) (ins : List (List NetId)) (nets : List NetId)
+    → IsBuild cells f folds plan ins nets → AreFolds folds
 build_folds cells f folds plan ins nets h = rw h.folds_are (are_folds f.op (st_tree f.element) h.shape.op h.shape.element)
 
-pub build_nets : (cells : List SizedCell) (f : FoldShape) (folds : List WordFold) (plan : Plan) (ins : List (List NetId)) (nets : List NetId) → IsBuild cells f folds plan ins nets → AreFoldNets cells folds nets
+pub build_nets : (cells : List SizedCell) (f : FoldShape) (folds : List WordFold) (plan : Plan) (ins : List (List NetId)) (nets : List NetId)
+    → IsBuild cells f folds plan ins nets → AreFoldNets cells folds nets
 build_nets cells f folds plan ins nets h = rw h.folds_are (nets_of_bundle f.op cells (st_tree f.element) f.slots f.lanes nets h.own)
 
-pub build_long : (cells : List SizedCell) (f : FoldShape) (folds : List WordFold) (plan : Plan) (ins : List (List NetId)) (nets : List NetId) → IsBuild cells f folds plan ins nets → length nets ≡ plan.lanes * plan.stride
+pub build_long : (cells : List SizedCell) (f : FoldShape) (folds : List WordFold) (plan : Plan) (ins : List (List NetId)) (nets : List NetId)
+    → IsBuild cells f folds plan ins nets → length nets ≡ plan.lanes * plan.stride
 build_long cells f folds plan ins nets h = rw h.plan_are (length-bundle cells (st_tree f.element) f.slots f.lanes nets h.own)
 
-pub build_whole : (cells : List SizedCell) (f : FoldShape) (folds : List WordFold) (plan : Plan) (ins : List (List NetId)) (nets : List NetId) → IsBuild cells f folds plan ins nets → plan.stride % length folds ≡ 0
+pub build_whole : (cells : List SizedCell) (f : FoldShape) (folds : List WordFold) (plan : Plan) (ins : List (List NetId)) (nets : List NetId)
+    → IsBuild cells f folds plan ins nets → plan.stride % length folds ≡ 0
 build_whole cells f folds plan ins nets h = rw (h.plan_are, h.folds_are) (whole_stride f.op (st_tree f.element))
 
-pub build_cells : (cells : List SizedCell) (f : FoldShape) (folds : List WordFold) (plan : Plan) (ins : List (List NetId)) (nets : List NetId) (old new : Circuit) → IsBuild cells f folds plan ins nets → AddsUpTo old new (scan_cells plan)
+pub build_cells : (cells : List SizedCell) (f : FoldShape) (folds : List WordFold) (plan : Plan) (ins : List (List NetId)) (nets : List NetId)
+    (old new : Circuit) → IsBuild cells f folds plan ins nets → AddsUpTo old new (scan_cells plan)
     → length new.cells ≤ length old.cells + (scan_part f).most_cells
 build_cells cells f folds plan ins nets old new h up =
     let made : AddsUpTo old new (scan_cells (plan_for f)) = rw h.plan_are at up in
     let placed : 1 ≤ element_columns (st_tree f.element) = rw h.plan_are at h.is_plan.placed in
-    let bound = cells_bound f.slots f.lanes (log_up f.lanes) (element_columns (st_tree f.element)) (plan_for f).inner (scan_part f).latency h.shape.lanes_some placed in
+    let bound = cells_bound f.slots f.lanes (log_up f.lanes) (element_columns (st_tree f.element)) (plan_for f).inner
+    (scan_part f).latency h.shape.lanes_some placed in
     omega (arith, made.cells, bound)
 
-pub build_products : (cells : List SizedCell) (f : FoldShape) (folds : List WordFold) (plan : Plan) (ins : List (List NetId)) (nets : List NetId) → IsBuild cells f folds plan ins nets → scan_products plan (products_in folds) ≡ (scan_part f).products
+pub build_products : (cells : List SizedCell) (f : FoldShape) (folds : List WordFold) (plan : Plan) (ins : List (List NetId)) (nets : List NetId)
+    → IsBuild cells f folds plan ins nets → scan_products plan (products_in folds) ≡ (scan_part f).products
 build_products cells f folds plan ins nets h =
-    rw (h.plan_are, h.folds_are, all_products f.op (st_tree f.element) h.shape.op h.shape.element) (products_are f.op f.slots f.lanes (element_columns (st_tree f.element)) (log_up f.lanes))
+    rw (h.plan_are, h.folds_are, all_products f.op (st_tree f.element) h.shape.op h.shape.element)
+    (products_are f.op f.slots f.lanes (element_columns (st_tree f.element)) (log_up f.lanes))
 
-pub build_bundle : (cells new : List SizedCell) (rst arrival : ℕ) (f : FoldShape) (folds : List WordFold) (plan : Plan) (ins : List (List NetId)) (nets outs out : List NetId) → IsBuild cells f folds plan ins nets → out ≡ outs → length outs ≡ plan.lanes * plan.stride
+pub build_bundle : (cells new : List SizedCell) (rst arrival : ℕ) (f : FoldShape) (folds : List WordFold) (plan : Plan) (ins : List (List NetId))
+    (nets outs out : List NetId) → IsBuild cells f folds plan ins nets → out ≡ outs → length outs ≡ plan.lanes * plan.stride
     → AreScans new rst folds nets plan arrival (plan.levels + wait_of plan.slots) 0 outs → AreNets new (stream_widths (stream_of (elements_layout f))) out
 build_bundle cells new rst arrival f folds plan ins nets outs out h is long scans =
-    let own : AreFoldNets new folds outs = scans_nets new rst folds nets plan arrival (plan.levels + wait_of plan.slots) 0 0 outs (build_folds cells f folds plan ins nets h).some (build_whole cells f folds plan ins nets h) (omega arith) scans in
+    let own : AreFoldNets new folds outs = scans_nets new rst folds nets plan arrival (plan.levels + wait_of plan.slots) 0 0 outs
+    (build_folds cells f folds plan ins nets h).some (build_whole cells f folds plan ins nets h) (omega arith) scans in
     rw is (elements_bundle f.op new (st_tree f.element) f.slots f.lanes outs (rw h.plan_are at long) (rw h.folds_are at own))
 
-pub build_law : (cells new : List SizedCell) (rst arrival : ℕ) (f : FoldShape) (folds : List WordFold) (plan : Plan) (ins : List (List NetId)) (nets outs out : List NetId) → IsBuild cells f folds plan ins nets → out ≡ outs → length outs ≡ plan.lanes * plan.stride
+pub build_law : (cells new : List SizedCell) (rst arrival : ℕ) (f : FoldShape) (folds : List WordFold) (plan : Plan) (ins : List (List NetId))
+    (nets outs out : List NetId) → IsBuild cells f folds plan ins nets → out ≡ outs → length outs ≡ plan.lanes * plan.stride
     → AreScans new rst folds nets plan arrival (plan.levels + wait_of plan.slots) 0 outs → KeepsLaw new rst arrival (scan_part f) ins out
 build_law cells new rst arrival f folds plan ins nets outs out h is long scans =
     rw (is, h.one)
-    (scan_law new rst arrival f nets outs h.shape (length-bundle cells (st_tree f.element) f.slots f.lanes nets h.own) (rw h.plan_are at long) (rw (h.plan_are, h.folds_are) at scans))
+    (scan_law new rst arrival f nets outs h.shape (length-bundle cells (st_tree f.element) f.slots f.lanes nets h.own) (rw h.plan_are at long)
+    (rw (h.plan_are, h.folds_are) at scans))

@@ -15,24 +15,31 @@ use Rattle.ae_fold.proofs.Feeding.{adds_is, up_trans}
 use Rattle.ae_scan.specs.Scans.{scan_cells, scan_products, sweep_joins}
 
 -- of the mark, the sweep and the loops together
-pub scan_adds : (a b c d : Circuit) (plan : Plan) (mark : Option NetId) (p n from : ℕ) → marks_in mark ≡ wait_of plan.slots → n ≡ plan.lanes * plan.stride → from ≡ (plan.lanes - 1) * plan.stride → Adds a b 21 0
+pub scan_adds : (a b c d : Circuit) (plan : Plan) (mark : Option NetId) (p n from : ℕ) → marks_in mark ≡ wait_of plan.slots → n ≡ plan.lanes * plan.stride
+    → from ≡ (plan.lanes - 1) * plan.stride → Adds a b 21 0
     → Adds b c (plan.levels * (plan.lanes * plan.stride * 9)) (sweep_joins plan.lanes plan.stride plan.levels * p)
     → Adds c d (marks_in mark * (plan.stride * (plan.inner + 9) + from * 10)) (marks_in mark * (n * p)) → Adds a d (scan_cells plan) (scan_products plan p)
 scan_adds a b c d plan mark p n from w long begin x y z =
-    let cells : marks_in mark * (plan.stride * (plan.inner + 9) + from * 10) ≡ wait_of plan.slots * (plan.stride * (plan.inner + 9) + (plan.lanes - 1) * plan.stride * 10) =
-    ap (λ k. marks_in mark * (plan.stride * (plan.inner + 9) + k * 10)) begin ∙ ap (λ k. k * (plan.stride * (plan.inner + 9) + (plan.lanes - 1) * plan.stride * 10)) w in
-    let muls : marks_in mark * (n * p) ≡ wait_of plan.slots * (plan.lanes * plan.stride * p) = ap (λ k. marks_in mark * (k * p)) long ∙ ap (λ k. k * (plan.lanes * plan.stride * p)) w in
+    let cells : marks_in mark * (plan.stride * (plan.inner + 9) + from * 10) ≡ wait_of
+    plan.slots * (plan.stride * (plan.inner + 9) + (plan.lanes - 1) * plan.stride * 10) =
+    ap (λ k. marks_in mark * (plan.stride * (plan.inner + 9) + k * 10)) begin ∙
+    ap (λ k. k * (plan.stride * (plan.inner + 9) + (plan.lanes - 1) * plan.stride * 10)) w in
+    let muls : marks_in mark * (n * p) ≡ wait_of plan.slots * (plan.lanes * plan.stride * p) = ap (λ k. marks_in mark * (k * p)) long ∙
+    ap (λ k. k * (plan.lanes * plan.stride * p)) w in
     adds_is (omega arith) (omega arith) (adds_trans (adds_trans x y) z)
 
 cells_by : (b : Bool) (lanes levels stride inner latency : ℕ) → 1 ≤ lanes → 1 ≤ stride
-    → 21 + levels * (lanes * stride * 9) + (if b then 1 else 0) * (stride * (inner + 9) + (lanes - 1) * stride * 10) ≤ 16 * (1 + latency + stride * (lanes * (1 + 2 * levels) + (if b then 3 * lanes + inner else 0)))
+    → 21 + levels * (lanes * stride * 9) + (if
+    b then 1 else 0) * (stride * (inner + 9) + (lanes - 1) * stride * 10) ≤ 16 * (1 + latency + stride * (lanes * (1 + 2 * levels) + (if
+    b then 3 * lanes + inner else 0)))
 cells_by true lanes levels stride inner latency some placed =
     let ls : ℕ = lanes * stride in
     let k : ℕ = levels * ls in
     let e1 : levels * (ls * 9) ≡ k * 9 = sym (mul_assoc levels ls 9) in
     let e2 : stride * (inner + 9) ≡ stride * inner + stride * 9 = mul-add stride inner 9 in
     let e3 : (lanes - 1) * stride ≤ ls = mul-le-mul_right stride (let n : lanes - 1 ≤ lanes = omega arith in n) in
-    let e4 : stride * (lanes * (1 + 2 * levels) + (3 * lanes + inner)) ≡ stride * (lanes * (1 + 2 * levels)) + stride * (3 * lanes + inner) = mul-add stride (lanes * (1 + 2 * levels)) (3 * lanes + inner) in
+    let e4 : stride * (lanes * (1 + 2 * levels) + (3 * lanes + inner)) ≡ stride * (lanes * (1 + 2 * levels)) + stride * (3 * lanes + inner) = mul-add stride
+    (lanes * (1 + 2 * levels)) (3 * lanes + inner) in
     let e5 : stride * (3 * lanes + inner) ≡ stride * (3 * lanes) + stride * inner = mul-add stride (3 * lanes) inner in
     let e6 : stride * (3 * lanes) ≡ 3 * lanes * stride = mul_comm stride (3 * lanes) in
     let e7 : 3 * lanes * stride ≡ 3 * ls = mul_assoc 3 lanes stride in
@@ -62,12 +69,15 @@ cells_by false lanes levels stride inner latency some placed =
 
 -- within the bound of the part
 pub cells_bound : (slots lanes levels stride inner latency : ℕ) → 1 ≤ lanes → 1 ≤ stride
-    → 21 + levels * (lanes * stride * 9) + wait_of slots * (stride * (inner + 9) + (lanes - 1) * stride * 10) ≤ 16 * (1 + latency + stride * (lanes * (1 + 2 * levels) + (if nat_lt 1 slots then 3 * lanes + inner else 0)))
+    → 21 + levels * (lanes * stride * 9) + wait_of
+    slots * (stride * (inner + 9) + (lanes - 1) * stride * 10) ≤ 16 * (1 + latency + stride * (lanes * (1 + 2 * levels) + (if nat_lt 1
+    slots then 3 * lanes + inner else 0)))
 cells_bound slots lanes levels stride inner latency some placed = cells_by (nat_lt 1 slots) lanes levels stride inner latency some placed
 
 joins_are : (lanes stride levels : ℕ) → sweep_joins lanes stride levels ≡ stride * (levels * lanes - (2 ^ levels - 1))
 joins_are lanes stride levels =
-    let e1 : stride * (levels * lanes - (2 ^ levels - 1)) ≡ stride * (levels * lanes) - stride * (2 ^ levels - 1) = mul-sub stride (levels * lanes) (2 ^ levels - 1) in
+    let e1 : stride * (levels * lanes - (2 ^ levels - 1)) ≡ stride * (levels * lanes) - stride * (2 ^ levels - 1) = mul-sub stride (levels * lanes)
+    (2 ^ levels - 1) in
     let e2 : stride * (2 ^ levels - 1) ≡ stride * 2 ^ levels - stride * 1 = mul-sub stride (2 ^ levels) 1 in
     let e3 : stride * 2 ^ levels ≡ 2 ^ levels * stride = mul_comm stride (2 ^ levels) in
     let e4 : stride * (levels * lanes) ≡ levels * lanes * stride = mul_comm stride (levels * lanes) in
@@ -75,7 +85,8 @@ joins_are lanes stride levels =
     omega arith
 
 products_by : (product more : Bool) (joins lanes stride n : ℕ) → joins ≡ stride * n
-    → joins * (if product then 1 else 0) + (if more then 1 else 0) * (lanes * stride * (if product then 1 else 0)) ≡ (if product then stride * (n + (if more then lanes else 0)) else 0)
+    → joins * (if product then 1 else 0) + (if more then 1 else 0) * (lanes * stride * (if product then 1 else 0)) ≡ (if
+    product then stride * (n + (if more then lanes else 0)) else 0)
 products_by true true joins lanes stride n e =
     let d1 : stride * (n + lanes) ≡ stride * n + stride * lanes = mul-add stride n lanes in
     let d2 : stride * lanes ≡ lanes * stride = mul_comm stride lanes in
@@ -85,12 +96,16 @@ products_by true false joins lanes stride n e =
     let none : 0 * (lanes * stride * 1) ≡ 0 = omega arith in
     omega arith
 products_by false more joins lanes stride n e =
-    let none : (if more then 1 else 0) * (lanes * stride * 0) ≡ 0 = ap (λ k. (if more then 1 else 0) * k) (let z : lanes * stride * 0 ≡ 0 = omega arith in z) ∙ omega arith in
+    let none : (if more then 1 else 0) * (lanes * stride * 0) ≡ 0 = ap (λ k. (if more then 1 else 0) * k) (let z : lanes * stride * 0 ≡ 0 = omega arith in z) ∙
+    omega arith in
     omega arith
 
-pub products_are : (op : WordOp) (slots lanes stride levels : ℕ) → sweep_joins lanes stride levels * product_of op + wait_of slots * (lanes * stride * product_of op)
+pub products_are : (op : WordOp) (slots lanes stride levels : ℕ)
+    → sweep_joins lanes stride levels * product_of op + wait_of slots * (lanes * stride * product_of op)
     ≡ (if is_product op then stride * (levels * lanes - (2 ^ levels - 1) + (if nat_lt 1 slots then lanes else 0)) else 0)
-products_are op slots lanes stride levels = products_by (is_product op) (nat_lt 1 slots) (sweep_joins lanes stride levels) lanes stride (levels * lanes - (2 ^ levels - 1)) (joins_are lanes stride levels)
+products_are op slots lanes stride levels =
+    products_by (is_product op) (nat_lt 1 slots) (sweep_joins lanes stride levels) lanes stride (levels * lanes - (2 ^ levels - 1))
+    (joins_are lanes stride levels)
 
 -- ---- the last lane
 
@@ -110,9 +125,12 @@ whole_lanes n stride pos = let z : n * stride ≡ n * stride + 0 = omega arith i
 pub up_sweep : (a b c : Circuit) (plan : Plan) → Adds a b 21 0 → AddsUpTo b c (plan.levels * (plan.lanes * plan.stride * 9)) → AddsUpTo a c (scan_cells plan)
 up_sweep a b c plan x y = up_trans (scan_cells plan) (omega arith) x y
 
-pub up_loops : (a b c d : Circuit) (plan : Plan) (mark : Option NetId) (p from : ℕ) → marks_in mark ≡ wait_of plan.slots → from ≡ (plan.lanes - 1) * plan.stride → Adds a b 21 0 → Adds b c (plan.levels * (plan.lanes * plan.stride * 9)) p
+pub up_loops : (a b c d : Circuit) (plan : Plan) (mark : Option NetId) (p from : ℕ) → marks_in mark ≡ wait_of plan.slots
+    → from ≡ (plan.lanes - 1) * plan.stride → Adds a b 21 0 → Adds b c (plan.levels * (plan.lanes * plan.stride * 9)) p
     → AddsUpTo c d (marks_in mark * (plan.stride * (plan.inner + 9) + from * 10)) → AddsUpTo a d (scan_cells plan)
 up_loops a b c d plan mark p from w begin x y z =
-    let cells : marks_in mark * (plan.stride * (plan.inner + 9) + from * 10) ≡ wait_of plan.slots * (plan.stride * (plan.inner + 9) + (plan.lanes - 1) * plan.stride * 10) =
-    ap (λ k. marks_in mark * (plan.stride * (plan.inner + 9) + k * 10)) begin ∙ ap (λ k. k * (plan.stride * (plan.inner + 9) + (plan.lanes - 1) * plan.stride * 10)) w in
+    let cells : marks_in mark * (plan.stride * (plan.inner + 9) + from * 10) ≡ wait_of
+    plan.slots * (plan.stride * (plan.inner + 9) + (plan.lanes - 1) * plan.stride * 10) =
+    ap (λ k. marks_in mark * (plan.stride * (plan.inner + 9) + k * 10)) begin ∙
+    ap (λ k. k * (plan.stride * (plan.inner + 9) + (plan.lanes - 1) * plan.stride * 10)) w in
     up_trans (scan_cells plan) (omega arith) (adds_trans x y) z

@@ -25,14 +25,17 @@ pub record IsSweep (op : WordOp) (w : ℕ) (f g : ℕ → ℕ) (s n : ℕ) : Typ
 -- net y has, one clock later, the word of net q behind that of the net so many places before, or alone where there is none
 pub record IsJoin (cells : List SizedCell) (fold : WordFold) (nets : List NetId) (q reach y : ℕ) : Type 0 where
   pub net : IsNet cells y fold.width
-  pub both : reach ≤ q → InEveryRun cells (λ run. IsJoined run y fold.op fold.width (net_at nets (q - reach)) (net_at nets q))
+  pub both : reach ≤ q → InEveryRun cells (λ run. IsJoined run y fold.op fold.width (net_at nets (q - reach))
+      (net_at nets q))
   pub one : q < reach → InEveryRun cells (λ run. IsNextOf run y (net_at nets q))
 
-pub record AreJoins (cells : List SizedCell) (folds : List WordFold) (nets : List NetId) (reach : ℕ) (outs : List NetId) : Type 0 where
+pub record AreJoins (cells : List SizedCell) (folds : List WordFold) (nets : List NetId) (reach : ℕ)
+    (outs : List NetId) : Type 0 where
   pub each : (q : ℕ) (y : NetId) → slice_get outs q ≡ Some y → IsJoin cells (fold_at folds q) nets q reach y.0
 
 -- the words of later nets are, some clocks later and at each place, folds of windows of those of the first nets
 abbrev pub Windowed : List SizedCell → List WordFold → (stride lanes : ℕ) → List NetId → (d : ℕ) → List NetId → Type 0
 Windowed cells folds stride lanes nets d later =
     InEveryRun cells (λ run. (p t : ℕ) → p < stride → t + d < length run
-    → AreWindows (fold_at folds p).op (fold_at folds p).width (row_word run t nets stride p) (row_word run (t + d) later stride p) (2 ^ d) lanes)
+    → AreWindows (fold_at folds p).op (fold_at folds p).width (row_word run t nets stride p)
+    (row_word run (t + d) later stride p) (2 ^ d) lanes)

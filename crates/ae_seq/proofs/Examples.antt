@@ -34,20 +34,24 @@ unfolding inc
 map_of_add = refl
 
 -- x * x + x, for each of two words
-squares_and_words : run (func (atom (unsigned_word 8) ∷ []) (node (word Mul) (0 ∷ 0 ∷ []) ∷ node (word Add) (1 ∷ 0 ∷ []) ∷ []) (2 ∷ []) ∷ one (seq 2 (atom (unsigned_word 8))) (each 0) ∷ []) (seq 2 (atom (unsigned_word 8))) (3 ∷ 20 ∷ []) ≡ (12 ∷ 164 ∷ []) ∷ []
+squares_and_words : run (func (atom (unsigned_word 8) ∷ []) (node (word Mul) (0 ∷ 0 ∷ []) ∷ node (word Add) (1 ∷ 0 ∷ []) ∷ []) (2 ∷ [])
+    ∷ one (seq 2 (atom (unsigned_word 8))) (each 0) ∷ []) (seq 2 (atom (unsigned_word 8))) (3 ∷ 20 ∷ []) ≡ (12 ∷ 164 ∷ []) ∷ []
 squares_and_words = refl
 
 -- the square and the double of a word
-square_and_double : run (func (atom (unsigned_word 8) ∷ []) (node (word Mul) (0 ∷ 0 ∷ []) ∷ node (word Add) (0 ∷ 0 ∷ []) ∷ []) (1 ∷ 2 ∷ []) ∷ []) (atom (unsigned_word 8)) (5 ∷ []) ≡ (25 ∷ []) ∷ (10 ∷ []) ∷ []
+square_and_double : run (func (atom (unsigned_word 8) ∷ []) (node (word Mul) (0 ∷ 0 ∷ []) ∷ node (word Add) (0 ∷ 0 ∷ []) ∷ []) (1 ∷ 2 ∷ []) ∷ [])
+    (atom (unsigned_word 8)) (5 ∷ []) ≡ (25 ∷ []) ∷ (10 ∷ []) ∷ []
 square_and_double = refl
 
-shift_by_one : run (one (seq 6 (atom (unsigned_word 8))) (shift 1) ∷ []) (seq 6 (atom (unsigned_word 8))) (1 ∷ 2 ∷ 3 ∷ 4 ∷ 5 ∷ 6 ∷ []) ≡ (0 ∷ 1 ∷ 2 ∷ 3 ∷ 4 ∷ 5 ∷ []) ∷ []
+shift_by_one : run (one (seq 6 (atom (unsigned_word 8))) (shift 1) ∷ []) (seq 6 (atom (unsigned_word 8)))
+    (1 ∷ 2 ∷ 3 ∷ 4 ∷ 5 ∷ 6 ∷ []) ≡ (0 ∷ 1 ∷ 2 ∷ 3 ∷ 4 ∷ 5 ∷ []) ∷ []
 shift_by_one = refl
 
 sum_of_four : run (one (seq 4 (atom (unsigned_word 8))) (reduce Add) ∷ []) (seq 4 (atom (unsigned_word 8))) (1 ∷ 2 ∷ 3 ∷ 255 ∷ []) ≡ (5 ∷ []) ∷ []
 sum_of_four = refl
 
-sum_of_rows : run (one (seq 2 (seq 3 (atom (unsigned_word 8)))) (reduce Add) ∷ []) (seq 2 (seq 3 (atom (unsigned_word 8)))) (1 ∷ 2 ∷ 3 ∷ 10 ∷ 20 ∷ 255 ∷ []) ≡ (11 ∷ 22 ∷ 2 ∷ []) ∷ []
+sum_of_rows : run (one (seq 2 (seq 3 (atom (unsigned_word 8)))) (reduce Add) ∷ []) (seq 2 (seq 3 (atom (unsigned_word 8))))
+    (1 ∷ 2 ∷ 3 ∷ 10 ∷ 20 ∷ 255 ∷ []) ≡ (11 ∷ 22 ∷ 2 ∷ []) ∷ []
 sum_of_rows = refl
 
 sums_so_far : run (one (seq 4 (atom (unsigned_word 8))) (scan Add) ∷ []) (seq 4 (atom (unsigned_word 8))) (1 ∷ 2 ∷ 3 ∷ 255 ∷ []) ≡ (1 ∷ 3 ∷ 6 ∷ 5 ∷ []) ∷ []
@@ -61,28 +65,36 @@ greatest_unsigned : run (one (seq 2 (atom (unsigned_word 8))) (reduce Max) ∷ [
 greatest_unsigned = refl
 
 -- -1 to 16 bits, and 255 to a signed word of 16 bits
-casts : run (func (atom (signed_word 8) ∷ []) (node (word (Cast 16)) (0 ∷ []) ∷ node (word (Shr 1)) (0 ∷ []) ∷ []) (1 ∷ 2 ∷ []) ∷ []) (atom (signed_word 8)) (255 ∷ []) ≡ (65535 ∷ []) ∷ (255 ∷ []) ∷ []
+casts : run (func (atom (signed_word 8) ∷ []) (node (word (Cast 16)) (0 ∷ []) ∷ node (word (Shr 1)) (0 ∷ []) ∷ []) (1 ∷ 2 ∷ []) ∷ []) (atom (signed_word 8))
+    (255 ∷ []) ≡ (65535 ∷ []) ∷ (255 ∷ []) ∷ []
 casts = refl
 
 cast_of_unsigned : run (one (atom (unsigned_word 8)) (cast_int 16) ∷ []) (atom (unsigned_word 8)) (255 ∷ []) ≡ (255 ∷ []) ∷ []
 cast_of_unsigned = refl
 
 -- the third of four, three times
-third_three_times : run (func (seq 4 (atom (unsigned_word 8)) ∷ []) (node (select 2) (0 ∷ []) ∷ node (up 3) (1 ∷ []) ∷ []) (2 ∷ []) ∷ []) (seq 4 (atom (unsigned_word 8))) (5 ∷ 6 ∷ 7 ∷ 8 ∷ []) ≡ (7 ∷ 7 ∷ 7 ∷ []) ∷ []
+third_three_times : run (func (seq 4 (atom (unsigned_word 8)) ∷ []) (node (select 2) (0 ∷ []) ∷ node (up 3) (1 ∷ []) ∷ []) (2 ∷ []) ∷ [])
+    (seq 4 (atom (unsigned_word 8))) (5 ∷ 6 ∷ 7 ∷ 8 ∷ []) ≡ (7 ∷ 7 ∷ 7 ∷ []) ∷ []
 third_three_times = refl
 
-four_pieces : run (one (seq 12 (atom (unsigned_word 8))) (partition 4 3) ∷ []) (seq 12 (atom (unsigned_word 8))) (0 ∷ 1 ∷ 2 ∷ 3 ∷ 4 ∷ 5 ∷ 6 ∷ 7 ∷ 8 ∷ 9 ∷ 10 ∷ 11 ∷ []) ≡ (0 ∷ 1 ∷ 2 ∷ 3 ∷ 4 ∷ 5 ∷ 6 ∷ 7 ∷ 8 ∷ 9 ∷ 10 ∷ 11 ∷ []) ∷ []
+four_pieces : run (one (seq 12 (atom (unsigned_word 8))) (partition 4 3) ∷ []) (seq 12 (atom (unsigned_word 8)))
+    (0 ∷ 1 ∷ 2 ∷ 3 ∷ 4 ∷ 5 ∷ 6 ∷ 7 ∷ 8 ∷ 9 ∷ 10 ∷ 11 ∷ []) ≡ (0 ∷ 1 ∷ 2 ∷ 3 ∷ 4 ∷ 5 ∷ 6 ∷ 7 ∷ 8 ∷ 9 ∷ 10 ∷ 11 ∷ []) ∷ []
 four_pieces = refl
 
 -- pieces of 2, of which the second comes alone
-second_piece : run (func (seq 6 (atom (unsigned_word 8)) ∷ []) (node (partition 3 2) (0 ∷ []) ∷ node (select 1) (1 ∷ []) ∷ node unpartition (2 ∷ []) ∷ []) (3 ∷ []) ∷ []) (seq 6 (atom (unsigned_word 8))) (1 ∷ 2 ∷ 3 ∷ 4 ∷ 5 ∷ 6 ∷ []) ≡ (3 ∷ 4 ∷ []) ∷ []
+second_piece : run (func (seq 6 (atom (unsigned_word 8)) ∷ []) (node (partition 3 2) (0 ∷ []) ∷ node (select 1) (1 ∷ []) ∷ node unpartition (2 ∷ []) ∷ [])
+    (3 ∷ []) ∷ []) (seq 6 (atom (unsigned_word 8))) (1 ∷ 2 ∷ 3 ∷ 4 ∷ 5 ∷ 6 ∷ []) ≡ (3 ∷ 4 ∷ []) ∷ []
 second_piece = refl
 
 -- the smaller of each pair
 smaller : FuncTree
-smaller = func (atom (atom_pair (unsigned_word 8) (unsigned_word 8)) ∷ []) (node fst (0 ∷ []) ∷ node snd (0 ∷ []) ∷ node (word Lt) (1 ∷ 2 ∷ []) ∷ node (word Mux) (3 ∷ 1 ∷ 2 ∷ []) ∷ []) (4 ∷ [])
+smaller =
+    func (atom (atom_pair (unsigned_word 8) (unsigned_word 8)) ∷ [])
+    (node fst (0 ∷ []) ∷ node snd (0 ∷ []) ∷ node (word Lt) (1 ∷ 2 ∷ []) ∷ node (word Mux) (3 ∷ 1 ∷ 2 ∷ []) ∷ []) (4 ∷ [])
 
-smaller_of_pairs : map flat (mean (program (smaller ∷ func (seq 3 (atom (unsigned_word 8)) ∷ seq 3 (atom (unsigned_word 8)) ∷ []) (node zip (0 ∷ 1 ∷ []) ∷ node (each 0) (2 ∷ []) ∷ []) (3 ∷ []) ∷ [])) (value_of (seq 3 (atom (unsigned_word 8))) (5 ∷ 2 ∷ 9 ∷ []) ∷ value_of (seq 3 (atom (unsigned_word 8))) (3 ∷ 7 ∷ 9 ∷ []) ∷ [])) ≡ (3 ∷ 2 ∷ 9 ∷ []) ∷ []
+smaller_of_pairs : map flat (mean (program (smaller ∷ func (seq 3 (atom (unsigned_word 8)) ∷ seq 3 (atom (unsigned_word 8)) ∷ [])
+    (node zip (0 ∷ 1 ∷ []) ∷ node (each 0) (2 ∷ []) ∷ []) (3 ∷ []) ∷ []))
+    (value_of (seq 3 (atom (unsigned_word 8))) (5 ∷ 2 ∷ 9 ∷ []) ∷ value_of (seq 3 (atom (unsigned_word 8))) (3 ∷ 7 ∷ 9 ∷ []) ∷ [])) ≡ (3 ∷ 2 ∷ 9 ∷ []) ∷ []
 unfolding smaller
 smaller_of_pairs = refl
 

@@ -15,7 +15,8 @@ use Rattle.ae_seq.proofs.Judging.{result-known}
 use Rattle.ae_seq.proofs.Types.{item-sized}
 
 -- the kept type is the item's
-pub kept-types : (known : List Signature) (fs : List FuncTree) (tss : List (List SeqTree)) (k i : ℕ) → HaveTypes known fs tss → kept_type tss k i ≡ (slice_get fs k >>= λ f. slice_get (item_types (grown signature known (take k fs)) f) i >>= λ o. o)
+pub kept-types : (known : List Signature) (fs : List FuncTree) (tss : List (List SeqTree)) (k i : ℕ) → HaveTypes known fs tss
+    → kept_type tss k i ≡ (slice_get fs k >>= λ f. slice_get (item_types (grown signature known (take k fs)) f) i >>= λ o. o)
 kept-types known [] [] k i h = refl
 kept-types known [] (us ∷ tss) k i h = absurd h
 kept-types known (f ∷ fs) [] k i h = absurd h
@@ -38,7 +39,8 @@ there-below [] i = grind (arith, nat_tests)
 there-below (x ∷ xs) zero = grind (arith, nat_tests)
 there-below (x ∷ xs) (suc i) = let e = there-below xs i in e ∙ grind (arith, nat_tests)
 
-pub kept-there : (known : List Signature) (fs : List FuncTree) (tss : List (List SeqTree)) (k i : ℕ) → HaveTypes known fs tss → is_some (kept_type tss k i) ≡ has_item (slice_get fs k) i
+pub kept-there : (known : List Signature) (fs : List FuncTree) (tss : List (List SeqTree)) (k i : ℕ) → HaveTypes known fs tss
+    → is_some (kept_type tss k i) ≡ has_item (slice_get fs k) i
 kept-there known [] [] k i h = refl
 kept-there known [] (us ∷ tss) k i h = absurd h
 kept-there known (f ∷ fs) [] k i h = absurd h
@@ -54,6 +56,7 @@ pub is_some-lent : (r : Option (Bor SeqType)) → is_some r ≡ is_some (option_
 is_some-lent None = refl
 is_some-lent (Some t) = refl
 
-pub lent-sized : (r : Option (Bor SeqType)) (o : Option SeqTree) → option_lent r ≡ o → ((t : SeqTree) → o ≡ Some t → IsTrue (in_size t)) → IfSome r (λ t. IsTrue (in_size (seq_tree t.now)))
+pub lent-sized : (r : Option (Bor SeqType)) (o : Option SeqTree) → option_lent r ≡ o → ((t : SeqTree) → o ≡ Some t → IsTrue (in_size t))
+    → IfSome r (λ t. IsTrue (in_size (seq_tree t.now)))
 lent-sized None o e h = tt
 lent-sized (Some t) o e h = h (lent t) (sym e)

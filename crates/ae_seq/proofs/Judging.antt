@@ -16,7 +16,8 @@ signatures_by-nil [] = refl
 signatures_by-nil (f ∷ fs) = refl
 
 -- one more function
-pub signatures_by-push : (fs : List FuncTree) (tss : List (List SeqTree)) (ts : List SeqTree) (f : FuncTree) → slice_get fs (length tss) ≡ Some f → signatures_by fs (tss ++ ts ∷ []) ≡ signatures_by fs tss ++ record { params = param_types f; result = result_in f ts } ∷ []
+pub signatures_by-push : (fs : List FuncTree) (tss : List (List SeqTree)) (ts : List SeqTree) (f : FuncTree) → slice_get fs (length tss) ≡ Some f
+    → signatures_by fs (tss ++ ts ∷ []) ≡ signatures_by fs tss ++ record { params = param_types f; result = result_in f ts } ∷ []
 signatures_by-push [] tss ts f h = cc
 signatures_by-push (g ∷ fs) [] ts f h = rw (let e : g ≡ f = cc in e, signatures_by-nil fs) refl
 signatures_by-push (g ∷ fs) (us ∷ tss) ts f h = ap (λ xs. record { params = param_types g; result = result_in g us } ∷ xs) (signatures_by-push fs tss ts f h)
@@ -30,17 +31,20 @@ result-known None ts = refl
 result-known (Some k) ts = rw (slice_get-map {B = Option SeqTree} (λ t. Some t) ts k) (same_or_none (slice_get ts k))
 
 -- what a function needs, where its items have these types
-pub signature-known : (known : List Signature) (f : FuncTree) (ts : List SeqTree) → item_types known f ≡ map Some ts → signature known f ≡ record { params = param_types f; result = result_in f ts }
+pub signature-known : (known : List Signature) (f : FuncTree) (ts : List SeqTree) → item_types known f ≡ map Some ts
+    → signature known f ≡ record { params = param_types f; result = result_in f ts }
 signature-known known f ts h =
     let r : result_type f (item_types known f) ≡ result_in f ts = ap (result_type f) h ∙ result-known (slice_get f.results 0) ts in
     ap (λ (o : Option SeqTree). record { params = param_types f; result = o }) r
 
-refused_or-some : (j : Judged) (v : Verdict) (o : Option Judged) (k : Judged) (p : Option Judged) → (o ≡ Some k → p ≡ Some k) → refused_or j v o ≡ Some k → refused_or j v p ≡ Some k
+refused_or-some : (j : Judged) (v : Verdict) (o : Option Judged) (k : Judged) (p : Option Judged) → (o ≡ Some k → p ≡ Some k) → refused_or j v o ≡ Some k
+    → refused_or j v p ≡ Some k
 refused_or-some j fine o k p h e = h e
 refused_or-some j untyped o k p h e = e
 refused_or-some j too_large o k p h e = e
 
-refused_or-none : (j : Judged) (v : Verdict) (o p : Option Judged) → (o ≡ None → p ≡ None → p ≡ None) → refused_or j v o ≡ None → (o ≡ None) × (refused_or j v p ≡ p)
+refused_or-none : (j : Judged) (v : Verdict) (o p : Option Judged) → (o ≡ None → p ≡ None → p ≡ None) → refused_or j v o ≡ None → (o ≡ None)
+    × (refused_or j v p ≡ p)
 refused_or-none j fine o p h e = (e, refl)
 refused_or-none j untyped o p h e = cc
 refused_or-none j too_large o p h e = cc
@@ -67,7 +71,10 @@ pub drop-read : {A : Type 0} (xs : List A) (i : ℕ) (x : A) → i < length xs �
 drop-read xs i x h e = drop_more xs i x h ∙ ap (λ y. y ∷ drop (i + 1) xs) (sym e)
 
 -- what a function with types leaves to the functions after it
-pub judged-step : (fs rest : List FuncTree) (tss : List (List SeqTree)) (f : FuncTree) (ts : List SeqTree) → slice_get fs (length tss) ≡ Some f → item_types (signatures_by fs tss) f ≡ map Some ts → refused (judged_func (signatures_by fs tss) f) ≡ None → (refused (judged (signatures_by fs (tss ++ ts ∷ [])) rest) ≡ refused (judged (signatures_by fs tss) (f ∷ rest))) × ((later : List (List SeqTree)) → HaveTypes (signatures_by fs (tss ++ ts ∷ [])) rest later → HaveTypes (signatures_by fs tss) (f ∷ rest) (ts ∷ later))
+pub judged-step : (fs rest : List FuncTree) (tss : List (List SeqTree)) (f : FuncTree) (ts : List SeqTree) → slice_get fs (length tss) ≡ Some f
+    → item_types (signatures_by fs tss) f ≡ map Some ts → refused (judged_func (signatures_by fs tss) f) ≡ None
+    → (refused (judged (signatures_by fs (tss ++ ts ∷ [])) rest) ≡ refused (judged (signatures_by fs tss) (f ∷ rest)))
+    × ((later : List (List SeqTree)) → HaveTypes (signatures_by fs (tss ++ ts ∷ [])) rest later → HaveTypes (signatures_by fs tss) (f ∷ rest) (ts ∷ later))
 judged-step fs rest tss f ts h types clean =
     let known = signatures_by fs tss in
     let e = signatures_by-push fs tss ts f h ∙ ap (λ (s : Signature). known ++ s ∷ []) (sym (signature-known known f ts types)) in
@@ -79,7 +86,10 @@ AllSized-push [] ts h g = (g, tt)
 AllSized-push (us ∷ tss) ts h g = (h.0, AllSized-push tss ts h.1 g)
 
 -- one more node
-pub node-step : (known : List Signature) (items : List SeqTree) (n : NodeTree) (rest : List NodeTree) (t : SeqTree) → node_type known (map Some items) n ≡ Some t → in_size t ≡ true → (refused (judged_nodes known (map Some (items ++ t ∷ [])) rest) ≡ refused (judged_nodes known (map Some items) (n ∷ rest))) × (grown (node_type known) (map Some (items ++ t ∷ [])) rest ≡ grown (node_type known) (map Some items) (n ∷ rest))
+pub node-step : (known : List Signature) (items : List SeqTree) (n : NodeTree) (rest : List NodeTree) (t : SeqTree)
+    → node_type known (map Some items) n ≡ Some t → in_size t ≡ true
+    → (refused (judged_nodes known (map Some (items ++ t ∷ [])) rest) ≡ refused (judged_nodes known (map Some items) (n ∷ rest)))
+    × (grown (node_type known) (map Some (items ++ t ∷ [])) rest ≡ grown (node_type known) (map Some items) (n ∷ rest))
 node-step known items n rest t h s =
     let m = map-append {B = Option SeqTree} (λ x. Some x) items (t ∷ []) in
     rw (m, h, s) (refl, refl)

@@ -14,7 +14,8 @@ signatures_by _ _ = []
 -- each item of each function has its type
 abbrev pub HaveTypes : List Signature → List FuncTree → List (List SeqTree) → Type 0
 HaveTypes known [] [] = Unit {0}
-HaveTypes known (f ∷ fs) (ts ∷ tss) = (item_types known f ≡ map Some ts) × HaveTypes (known ++ signature known f ∷ []) fs tss
+HaveTypes known (f ∷ fs) (ts ∷ tss) =
+    (item_types known f ≡ map Some ts) × HaveTypes (known ++ signature known f ∷ []) fs tss
 HaveTypes known _ _ = ⊥
 
 -- the type that is kept of an item of a function

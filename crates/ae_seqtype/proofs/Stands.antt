@@ -57,7 +57,8 @@ listed-same : (xs ys : List ValueTree) → listed xs ≡ listed ys → xs ≡ ys
 listed-same xs ys h = sym (elements-listed xs) ∙ ap elements h ∙ elements-listed ys
 
 -- both sequences, one after the other
-pub Stands-append : (n m : ℕ) (t : SeqTree) (us vs : List ℕ) (xs ys : List ValueTree) → Stands (seq n t) us (listed xs) → Stands (seq m t) vs (listed ys) → Stands (seq (n + m) t) (us ++ vs) (listed (xs ++ ys))
+pub Stands-append : (n m : ℕ) (t : SeqTree) (us vs : List ℕ) (xs ys : List ValueTree) → Stands (seq n t) us (listed xs) → Stands (seq m t) vs (listed ys)
+    → Stands (seq (n + m) t) (us ++ vs) (listed (xs ++ ys))
 Stands-append n m t us vs xs ys h g = record {
   fits = rw (repeated-add n m (kinds t)) (FitKinds-append us vs _ _ h.fits g.fits);
   value =
@@ -73,11 +74,13 @@ Stands-one t r y h = record {
 }
 
 -- one more element
-pub Stands-push : (n : ℕ) (t : SeqTree) (us r : List ℕ) (xs : List ValueTree) (y : ValueTree) → Stands (seq n t) us (listed xs) → Stands t r y → Stands (seq (n + 1) t) (us ++ r) (listed (xs ++ y ∷ []))
+pub Stands-push : (n : ℕ) (t : SeqTree) (us r : List ℕ) (xs : List ValueTree) (y : ValueTree) → Stands (seq n t) us (listed xs) → Stands t r y
+    → Stands (seq (n + 1) t) (us ++ r) (listed (xs ++ y ∷ []))
 Stands-push n t us r xs y h g = Stands-append n 1 t us r xs (y ∷ []) h (Stands-one t r y g)
 
 -- the first elements, and the others
-pub Stands-take : (m n : ℕ) (t : SeqTree) (ws : List ℕ) (v : ValueTree) → Stands (seq (m + n) t) ws v → Stands (seq m t) (take (m * words t) ws) (listed (take m (elements v)))
+pub Stands-take : (m n : ℕ) (t : SeqTree) (ws : List ℕ) (v : ValueTree) → Stands (seq (m + n) t) ws v
+    → Stands (seq m t) (take (m * words t) ws) (listed (take m (elements v)))
 Stands-take m n t ws v h =
     let k = words t in
     let long : length (repeated m (kinds t)) ≡ m * k = length-repeated m (kinds t) ∙ ap (λ j. m * j) (length-kinds t) in
@@ -86,7 +89,8 @@ Stands-take m n t ws v h =
       value = rw (cut-take m k ws, ← h.value, elements-value_of (m + n) t ws, take-map (value_of t) m (cut (m + n) k ws), take-cut m n k ws) refl;
     }
 
-pub Stands-drop : (m n : ℕ) (t : SeqTree) (ws : List ℕ) (v : ValueTree) → Stands (seq (m + n) t) ws v → Stands (seq n t) (drop (m * words t) ws) (listed (drop m (elements v)))
+pub Stands-drop : (m n : ℕ) (t : SeqTree) (ws : List ℕ) (v : ValueTree) → Stands (seq (m + n) t) ws v
+    → Stands (seq n t) (drop (m * words t) ws) (listed (drop m (elements v)))
 Stands-drop m n t ws v h =
     let k = words t in
     let long : length (repeated m (kinds t)) ≡ m * k = length-repeated m (kinds t) ∙ ap (λ j. m * j) (length-kinds t) in
@@ -144,7 +148,8 @@ listed-pieces : (f : List ℕ → ValueTree) (m k : ℕ) (cs : List (List ℕ)) 
 listed-pieces f m k [] = refl
 listed-pieces f m k (c ∷ cs) = ap (λ xs. listed (map f (cut m k c)) ∷ xs) (listed-pieces f m k cs)
 
-pub Stands-cut : (n m : ℕ) (t : SeqTree) (ws : List ℕ) (v : ValueTree) → Stands (seq (n * m) t) ws v → Stands (seq n (seq m t)) ws (listed (map listed (cut n m (elements v))))
+pub Stands-cut : (n m : ℕ) (t : SeqTree) (ws : List ℕ) (v : ValueTree) → Stands (seq (n * m) t) ws v
+    → Stands (seq n (seq m t)) ws (listed (map listed (cut n m (elements v))))
 Stands-cut n m t ws v h =
     let k = words t in
     record {

@@ -22,7 +22,8 @@ flat-atom_value (pair a b) ws h =
     (take-append-drop k ws)
 
 -- where each piece's value has its words, the list of them has all
-flat_pieces : (f : List ℕ → ValueTree) (k : ℕ) → ((c : List ℕ) → length c ≡ k → flat (f c) ≡ c) → (n : ℕ) (ws : List ℕ) → length ws ≡ n * k → flat (listed (map f (cut n k ws))) ≡ ws
+flat_pieces : (f : List ℕ → ValueTree) (k : ℕ) → ((c : List ℕ) → length c ≡ k → flat (f c) ≡ c) → (n : ℕ) (ws : List ℕ) → length ws ≡ n * k
+    → flat (listed (map f (cut n k ws))) ≡ ws
 flat_pieces f k h zero ws e = sym (nil_from_length ws (omega arith))
 flat_pieces f k h (suc n) ws e =
     rw (h (take k ws) (omega (arith, length-take k ws)), flat_pieces f k h n (drop k ws) (omega (arith, length-drop k ws)))
@@ -33,7 +34,8 @@ pub flat-value_of : (t : SeqTree) (ws : List ℕ) → length ws ≡ words t → 
 flat-value_of (atom a) ws h = flat-atom_value a ws h
 flat-value_of (seq n t) ws h = flat_pieces (value_of t) (words t) (flat-value_of t) n ws h
 
-after-if : (b : Bool) (o p : Option (List ℕ)) (f : List ℕ → Option (List ℕ)) → o ≡ option_and_then f p → (if b then o else None) ≡ option_and_then f (if b then p else None)
+after-if : (b : Bool) (o p : Option (List ℕ)) (f : List ℕ → Option (List ℕ)) → o ≡ option_and_then f p
+    → (if b then o else None) ≡ option_and_then f (if b then p else None)
 after-if true o p f h = h
 after-if false o p f h = refl
 
@@ -72,7 +74,8 @@ pub after-append-some : (us vs : List WordKind) (ws rest : List ℕ) → Some re
 after-append-some us vs ws rest h = rw (after-append us vs ws, ← h) refl
 
 -- one more element of a sequence
-pub after-turn : (n i : ℕ) (w : List WordKind) (ws rest : List ℕ) → i < n → Some rest ≡ after w ws → after (repeated (n - i) w) ws ≡ after (repeated (n - (i + 1)) w) rest
+pub after-turn : (n i : ℕ) (w : List WordKind) (ws rest : List ℕ) → i < n → Some rest ≡ after w ws
+    → after (repeated (n - i) w) ws ≡ after (repeated (n - (i + 1)) w) rest
 after-turn n i w ws rest lt h =
     let more : n - i ≡ suc (n - (i + 1)) = omega arith in
     rw more (after-append-some w (repeated (n - (i + 1)) w) ws rest h)
@@ -82,7 +85,8 @@ after-turn-none n i w ws lt h =
     let more : n - i ≡ suc (n - (i + 1)) = omega arith in
     rw more (after-append-none w (repeated (n - (i + 1)) w) ws h)
 
-pub fits-some : (ks : List WordKind) (ws rest : List ℕ) (b : Bool) → Some rest ≡ after ks ws → b ≡ (length rest == 0) → (IsTrue b → FitKinds ws ks) × (FitKinds ws ks → IsTrue b)
+pub fits-some : (ks : List WordKind) (ws rest : List ℕ) (b : Bool) → Some rest ≡ after ks ws → b ≡ (length rest == 0) → (IsTrue b → FitKinds ws ks)
+    × (FitKinds ws ks → IsTrue b)
 fits-some ks ws [] b h e = (λ t. fit-from-after ks ws (sym h), λ f. e)
 fits-some ks ws (x ∷ rest) b h e =
     let no : b ≡ false = grind (arith, nat_tests) in

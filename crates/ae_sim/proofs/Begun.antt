@@ -32,7 +32,8 @@ tree_filled : (word : ℕ) (cell : Cell) → (tree_of word cell).words ≡ repli
 tree_filled word (Mem depth at next enable) = refl
 tree_filled word _ = refl
 
-trees_filled : (fill : ℕ) (xs : List SizedCell) → map (λ (t : MemoryTree). t.words) (map (memory_for fill) xs) ≡ map (λ (s : SizedCell). replicate (depth_in_cell s.cell) (fill % 2 ^ s.width)) xs
+trees_filled : (fill : ℕ) (xs : List SizedCell) → map (λ (t : MemoryTree). t.words) (map (memory_for fill) xs) ≡ map
+    (λ (s : SizedCell). replicate (depth_in_cell s.cell) (fill % 2 ^ s.width)) xs
 trees_filled fill [] = refl
 trees_filled fill (x ∷ xs) = rw (tree_filled (fill % 2 ^ x.width) x.cell, trees_filled fill xs) refl
 
@@ -41,14 +42,20 @@ writes_so word (Mem depth at next enable) m e = (ap (λ (t : MemoryTree). t.at) 
 writes_so word _ m e = tt
 
 -- what is held is the fill
-pub is_filled : (cells : List SizedCell) (fill : ℕ) (registers : List Register) (memories : List Memory) → registers ≡ map (register_for fill) (cells_of is_register cells) → map memory_tree memories ≡ map (memory_for fill) (cells_of is_memory cells) → held_of registers memories ≡ filled cells fill
+pub is_filled : (cells : List SizedCell) (fill : ℕ) (registers : List Register) (memories : List Memory)
+    → registers ≡ map (register_for fill) (cells_of is_register cells) → map memory_tree memories ≡ map (memory_for fill) (cells_of is_memory cells)
+    → held_of registers memories ≡ filled cells fill
 is_filled cells fill registers memories r m =
-    let a : map (λ (x : Register). x.held) registers ≡ map (λ (s : SizedCell). fill % 2 ^ s.width) (cells_of is_register cells) = ap (map (λ (x : Register). x.held)) r ∙ held_filled fill (cells_of is_register cells) in
-    let b : map (λ (x : Memory). x.words.items) memories ≡ map (λ (s : SizedCell). replicate (depth_in_cell s.cell) (fill % 2 ^ s.width)) (cells_of is_memory cells) =
+    let a : map (λ (x : Register). x.held) registers ≡ map (λ (s : SizedCell). fill % 2 ^ s.width) (cells_of is_register cells) = ap
+    (map (λ (x : Register). x.held)) r ∙ held_filled fill (cells_of is_register cells) in
+    let b : map (λ (x : Memory). x.words.items) memories ≡ map (λ (s : SizedCell). replicate (depth_in_cell s.cell) (fill % 2 ^ s.width))
+    (cells_of is_memory cells) =
     words_of_trees memories ∙ (ap (map (λ (t : MemoryTree). t.words)) m ∙ trees_filled fill (cells_of is_memory cells)) in
-    ap (λ x. record { registers = x; memories = map (λ (y : Memory). y.words.items) memories }) a ∙ ap (λ x. record { registers = map (λ (s : SizedCell). fill % 2 ^ s.width) (cells_of is_register cells); memories = x }) b
+    ap (λ x. record { registers = x; memories = map (λ (y : Memory). y.words.items) memories }) a ∙
+    ap (λ x. record { registers = map (λ (s : SizedCell). fill % 2 ^ s.width) (cells_of is_register cells); memories = x }) b
 
-pub begun : (cells : List SizedCell) (outlets : List Outlet) (fill : ℕ) (words : List ℕ) (registers : List Register) (memories : List Memory) → held_of registers memories ≡ filled cells fill
+pub begun : (cells : List SizedCell) (outlets : List Outlet) (fill : ℕ) (words : List ℕ) (registers : List Register) (memories : List Memory)
+    → held_of registers memories ≡ filled cells fill
     → HasPlayed (record { cells = cells; outlets = outlets; words = words; held = held_of registers memories }) fill []
 begun cells outlets fill words registers memories e = rw e
     (record {
@@ -57,8 +64,10 @@ begun cells outlets fill words registers memories e = rw e
       memories = λ run n sized p l found is. sym (p.begins.memories n sized l found is);
     })
 
-pub planned : (cells : List SizedCell) (steps : List Step) (words : List ℕ) (fill : ℕ) (registers : List Register) (memories : List Memory) → AreSteps cells (length cells) steps → length words ≡ length cells
-    → registers ≡ map (register_for fill) (cells_of is_register cells) → map memory_tree memories ≡ map (memory_for fill) (cells_of is_memory cells) → IsPlanned cells steps words registers memories
+pub planned : (cells : List SizedCell) (steps : List Step) (words : List ℕ) (fill : ℕ) (registers : List Register) (memories : List Memory)
+    → AreSteps cells (length cells) steps → length words ≡ length cells
+    → registers ≡ map (register_for fill) (cells_of is_register cells) → map memory_tree memories ≡ map (memory_for fill) (cells_of is_memory cells)
+    → IsPlanned cells steps words registers memories
 planned cells steps words fill registers memories s long r m = record {
   each_step = s;
   long = long;
@@ -67,7 +76,8 @@ planned cells steps words fill registers memories s long r m = record {
   ports = record {
     each = λ k sized memory found h.
         let a : slice_get (map memory_tree memories) k ≡ Some (memory_tree memory) = slice_get-map memory_tree memories k ∙ ap (option_map memory_tree) h in
-        let b : slice_get (map (memory_for fill) (cells_of is_memory cells)) k ≡ Some (memory_for fill sized) = slice_get-map (memory_for fill) (cells_of is_memory cells) k ∙ ap (option_map (memory_for fill)) found in
+        let b : slice_get (map (memory_for fill) (cells_of is_memory cells)) k ≡ Some (memory_for fill sized) = slice_get-map (memory_for fill)
+        (cells_of is_memory cells) k ∙ ap (option_map (memory_for fill)) found in
         let same : Some (memory_tree memory) ≡ Some (memory_for fill sized) = sym a ∙ (ap (λ xs. slice_get xs k) m ∙ b) in
         writes_so (fill % 2 ^ sized.width) sized.cell memory (some_same (memory_tree memory) (memory_for fill sized) same);
   };

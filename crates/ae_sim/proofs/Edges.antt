@@ -35,7 +35,8 @@ after_kept words m new k i x ne h = record {
 }
 
 pub after_more : (words : List ℕ) (old new : List Memory) (k : ℕ) (was is : Memory) → AreAfter words old new k → slice_get new k ≡ Some was
-    → is.at ≡ was.at → is.next ≡ was.next → is.enable ≡ was.enable → is.words.items ≡ written words was was.words.items → AreAfter words old (set new k is) (k + 1)
+    → is.at ≡ was.at → is.next ≡ was.next → is.enable ≡ was.enable → is.words.items ≡ written words was was.words.items
+    → AreAfter words old (set new k is) (k + 1)
 after_more words old new k was is h found at next enable wrote = record {
   long = length-set new k is ∙ h.long;
   before = λ i m l g. elim (cases_eq i k) [
@@ -60,7 +61,8 @@ pub all_turned : {X : Type 0} (f : X → X) (old new : List X) (k : ℕ) → len
 all_turned f old new k l h = h ∙ (rw (take_all k old l, drop_all k old l) (append-nil (map f old)))
 
 -- one register more
-pub turn_more : (words : List ℕ) (old new : List Register) (k : ℕ) (x y : Register) → k < length old → new ≡ map (turned words) (take k old) ++ drop k old → x ≡ get_or new k x → y ≡ get_or new k y
+pub turn_more : (words : List ℕ) (old new : List Register) (k : ℕ) (x y : Register) → k < length old → new ≡ map (turned words) (take k old) ++ drop k old
+    → x ≡ get_or new k x → y ≡ get_or new k y
     → set new k (record { next = y.next; held = get_or words x.next 0 }) ≡ map (turned words) (take (k + 1) old) ++ drop (k + 1) old
 turn_more words old new k x y l h a b =
     let long : length new ≡ length old = ap length h ∙ long_so (turned words) old k in

@@ -36,14 +36,19 @@ StoresFit cells stores = (m i : ℕ) (sized : SizedCell) → slice_get cells m �
 
 pub free_fits : (cells : List SizedCell) (held : Firsts) (row : List ℕ) → AreInputs cells row → AreFirsts cells held → FreeFits cells (word_in cells held row)
 free_fits cells held row r f n sized h =
-    rw h (any_fits sized.cell sized.width (given_word cells held row n sized.cell) (given_store cells held n sized.cell) (holds cells held row n sized.width sized.cell r f h))
+    rw h (any_fits sized.cell sized.width (given_word cells held row n sized.cell) (given_store cells held n sized.cell)
+    (holds cells held row n sized.width sized.cell r f h))
 
 pub stores_fit : (cells : List SizedCell) (held : Firsts) (row : List ℕ) → AreInputs cells row → AreFirsts cells held → StoresFit cells (store_in cells held)
 stores_fit cells held row r f m i sized h =
-    rw h (store_fits sized.cell sized.width (given_store cells held m sized.cell) i (store_of_cell sized.cell sized.width (given_word cells held row m sized.cell) (given_store cells held m sized.cell) (holds cells held row m sized.width sized.cell r f h)))
+    rw h (store_fits sized.cell sized.width (given_store cells held m sized.cell) i
+    (store_of_cell sized.cell sized.width (given_word cells held row m sized.cell) (given_store cells held m sized.cell)
+    (holds cells held row m sized.width sized.cell r f h)))
 
-pub made_more : (cells : List SizedCell) (free : ℕ → ℕ) (stores : ℕ → List ℕ) (words : List ℕ) (n w : ℕ) (sized : SizedCell) → IsFormed cells → length words ≡ length cells → slice_get cells n ≡ Some sized
-    → FreeFits cells free → StoresFit cells stores → w ≡ cell_word cells free stores words n sized.cell → IsMade cells free stores words n → IsMade cells free stores (set words n w) (n + 1)
+pub made_more : (cells : List SizedCell) (free : ℕ → ℕ) (stores : ℕ → List ℕ) (words : List ℕ) (n w : ℕ) (sized : SizedCell) → IsFormed cells
+    → length words ≡ length cells → slice_get cells n ≡ Some sized
+    → FreeFits cells free → StoresFit cells stores → w ≡ cell_word cells free stores words n sized.cell → IsMade cells free stores words n
+    → IsMade cells free stores (set words n w) (n + 1)
 made_more cells free stores words n w sized formed long found small room is h = record {
   made = λ i x l g. elim (cases_eq i n) [
     | inl e ↦
@@ -56,7 +61,8 @@ made_more cells free stores words n w sized formed long found small room is h = 
     | inl e ↦
         let same : Some x ≡ Some sized = sym g ∙ (ap (slice_get cells) e ∙ found) in
         let s : x ≡ sized = cc in
-        rw (e, s, get_or-set_same words n w 0 here, is) (cell_fits cells free stores words n sized.width sized.cell (formed.each n sized found).cell (small n sized found) room h.fits)
+        rw (e, s, get_or-set_same words n w 0 here, is) (cell_fits cells free stores words n sized.width sized.cell (formed.each n sized found).cell
+        (small n sized found) room h.fits)
     | inr ne ↦ rw (get_or-set_other words n i w 0 ne) (h.fits i x (omega arith) g)
   ];
 }
@@ -64,16 +70,21 @@ made_more cells free stores words n w sized formed long found small room is h = 
     here : n < length words
     here = rw long (slice_get_within cells n sized found)
 
-    kept : (i : ℕ) (x : SizedCell) → slice_get cells i ≡ Some x → i ≤ n → cell_word cells free stores words i x.cell ≡ cell_word cells free stores (set words n w) i x.cell
-    kept i x g l = same_word cells free stores words (set words n w) i x.width x.cell (formed.each i x g).cell (λ j b. sym (get_or-set_other words n j w 0 (λ e. absurd (omega arith))))
+    kept : (i : ℕ) (x : SizedCell) → slice_get cells i ≡ Some x → i ≤ n
+        → cell_word cells free stores words i x.cell ≡ cell_word cells free stores (set words n w) i x.cell
+    kept i x g l = same_word cells free stores words (set words n w) i x.width x.cell (formed.each i x g).cell
+        (λ j b. sym (get_or-set_other words n j w 0 (λ e. absurd (omega arith))))
 
-pub made_all : (cells : List SizedCell) (free : ℕ → ℕ) (stores : ℕ → List ℕ) (words : List ℕ) → IsMade cells free stores words (length cells) → IsSettled cells free stores words
+pub made_all : (cells : List SizedCell) (free : ℕ → ℕ) (stores : ℕ → List ℕ) (words : List ℕ) → IsMade cells free stores words (length cells)
+    → IsSettled cells free stores words
 made_all cells free stores words h = record { each = λ n sized found. h.made n sized (slice_get_within cells n sized found) found }
 
 -- the width at which an operator works is at most 64, and its operands fit
-operands_ready : (cells : List SizedCell) (words : List ℕ) (n w : ℕ) (op : WordOp) (args : List NetId) → IsFormed cells → FitBelow cells words n → IsOperation (take n cells) op args w
+operands_ready : (cells : List SizedCell) (words : List ℕ) (n w : ℕ) (op : WordOp) (args : List NetId) → IsFormed cells → FitBelow cells words n
+    → IsOperation (take n cells) op args w
     → (width_of cells (main_operand op args) ≤ 64) × (w ≡ result_width_of op (width_of cells (main_operand op args)))
-    × OperandsFit op (width_of cells (main_operand op args)) (get_or words (operand args 0) 0) (get_or words (operand args 1) 0) (get_or words (operand args 2) 0)
+    × OperandsFit op (width_of cells (main_operand op args)) (get_or words (operand args 0) 0) (get_or words (operand args 1) 0)
+    (get_or words (operand args 2) 0)
 operands_ready cells words n w op args formed below h =
     let before : List SizedCell = take n cells in
     let v : ℕ = width_of before (main_operand op args) in
@@ -89,7 +100,8 @@ operands_ready cells words n w op args formed below h =
     )
 
 -- a step gives the word of its cell
-pub gives_word : (cells : List SizedCell) (held : Firsts) (row words : List ℕ) (n width word : ℕ) (cell : Cell) → IsFormed cells → FitBelow cells words n → slice_get cells n ≡ Some (record { width = width; cell = cell })
+pub gives_word : (cells : List SizedCell) (held : Firsts) (row words : List ℕ) (n width word : ℕ) (cell : Cell) → IsFormed cells → FitBelow cells words n
+    → slice_get cells n ≡ Some (record { width = width; cell = cell })
     → Gives (step_for cells n width cell) words row held word → word ≡ cell_word cells (word_in cells held row) (store_in cells held) words n cell
 gives_word cells held row words n width word (Input port) formed below found g = rw found g
 gives_word cells held row words n width word (Const k) formed below found g = g
@@ -105,13 +117,16 @@ gives_word cells held row words n width word (Peek mem at) formed below found g 
     rw there g
 
 -- and what it reads is there
-pub is_ready : (cells : List SizedCell) (n width words inputs registers memories : ℕ) (cell : Cell) → IsFormed cells → slice_get cells n ≡ Some (record { width = width; cell = cell })
-    → words ≡ length cells → inputs ≡ count_of is_input cells → registers ≡ count_of is_register cells → memories ≡ count_of is_memory cells → IsReady (step_for cells n width cell) words inputs registers memories
+pub is_ready : (cells : List SizedCell) (n width words inputs registers memories : ℕ) (cell : Cell) → IsFormed cells
+    → slice_get cells n ≡ Some (record { width = width; cell = cell })
+    → words ≡ length cells → inputs ≡ count_of is_input cells → registers ≡ count_of is_register cells → memories ≡ count_of is_memory cells
+    → IsReady (step_for cells n width cell) words inputs registers memories
 is_ready cells n width words inputs registers memories (Input port) formed found a b c d = rw b (number_within is_input cells n _ found refl)
 is_ready cells n width words inputs registers memories (Const k) formed found a b c d = tt
 is_ready cells n width words inputs registers memories (Op op args) formed found a b c d =
     let h = (formed.each n (record { width = width; cell = Op op args }) found).cell in
-    let there = each_operand op (IsNet (take n cells)) (λ m. m < length cells) args (width_of (take n cells) (main_operand op args)) h.operands (λ m u k. slice_get_within cells m k.sized (get_from_take cells n m k.sized k.found)) in
+    let there = each_operand op (IsNet (take n cells)) (λ m. m < length cells) args (width_of (take n cells) (main_operand op args)) h.operands
+    (λ m u k. slice_get_within cells m k.sized (get_from_take cells n m k.sized k.found)) in
     rw a (h.unsigned, there.0, there.1, there.2)
 is_ready cells n width words inputs registers memories (Reg next) formed found a b c d = rw c (number_within is_register cells n _ found refl)
 is_ready cells n width words inputs registers memories (Mem depth at next enable) formed found a b c d = tt
@@ -122,5 +137,6 @@ is_ready cells n width words inputs registers memories (Peek mem at) formed foun
     let net = fits.address.net in
     rw (a, d) (number_within is_memory cells mem.0 kept there refl, slice_get_within cells at.0 net.sized (get_from_take cells n at.0 net.sized net.found))
 
-pub made_so_far : (cells : List SizedCell) (free : ℕ → ℕ) (stores : ℕ → List ℕ) (words : List ℕ) (n m : ℕ) → n ≡ m → IsMade cells free stores words n → IsMade cells free stores words m
+pub made_so_far : (cells : List SizedCell) (free : ℕ → ℕ) (stores : ℕ → List ℕ) (words : List ℕ) (n m : ℕ) → n ≡ m → IsMade cells free stores words n
+    → IsMade cells free stores words m
 made_so_far cells free stores words n m e h = rw e at h

@@ -25,18 +25,21 @@ subtracted : (a b w : ℕ) → w ≤ 64 → b < 2 ^ 64 → (a + (2 ^ 64 - b)) % 
 subtracted a b w h l =
     let k : ℕ = 2 ^ 64 in
     let e : 2 ^ (64 - w) * 2 ^ w ≡ k = rows_of_words w h in
-    ap unsigned_abs (sym (int_rem_euclid_is (pos a -ℤ pos b) (pos (2 ^ w)) (2 ^ w) (2 ^ (64 - w)) (a + (k - b)) (pow_pos w) refl (ap (λ i. (pos a -ℤ pos b) +ℤ pos i) e ∙ difference a b k (omega arith))))
+    ap unsigned_abs (sym (int_rem_euclid_is (pos a -ℤ pos b) (pos (2 ^ w)) (2 ^ w) (2 ^ (64 - w)) (a + (k - b)) (pow_pos w) refl
+    (ap (λ i. (pos a -ℤ pos b) +ℤ pos i) e ∙ difference a b k (omega arith))))
 
 pub add_made : (op : WordOp) (m a b c w : ℕ) → op ≡ Add → w ≤ 64 → m ≡ 2 ^ result_width_of op w - 1 → bit_and ((a + b) % 2 ^ 64) m ≡ word_result op w a b c
 add_made op m a b c w is h e = let d : m ≡ 2 ^ w - 1 = rw is at e in rw is (masked (a + b) w m h d)
 
-pub sub_made : (op : WordOp) (m a b c w : ℕ) → op ≡ Sub → w ≤ 64 → b < 2 ^ 64 → m ≡ 2 ^ result_width_of op w - 1 → bit_and ((a + (2 ^ 64 - b)) % 2 ^ 64) m ≡ word_result op w a b c
+pub sub_made : (op : WordOp) (m a b c w : ℕ) → op ≡ Sub → w ≤ 64 → b < 2 ^ 64 → m ≡ 2 ^ result_width_of op w - 1
+    → bit_and ((a + (2 ^ 64 - b)) % 2 ^ 64) m ≡ word_result op w a b c
 sub_made op m a b c w is h l e = let d : m ≡ 2 ^ w - 1 = rw is at e in rw is (masked (a + (2 ^ 64 - b)) w m h d ∙ subtracted a b w h l)
 
 pub mul_made : (op : WordOp) (m a b c w : ℕ) → op ≡ Mul → w ≤ 64 → m ≡ 2 ^ result_width_of op w - 1 → bit_and (a * b % 2 ^ 64) m ≡ word_result op w a b c
 mul_made op m a b c w is h e = let d : m ≡ 2 ^ w - 1 = rw is at e in rw is (masked (a * b) w m h d)
 
-pub shl_made : (op : WordOp) (k m a b c w : ℕ) → op ≡ Shl k → w ≤ 64 → m ≡ 2 ^ result_width_of op w - 1 → bit_and (a * 2 ^ k % 2 ^ 64) m ≡ word_result op w a b c
+pub shl_made : (op : WordOp) (k m a b c w : ℕ) → op ≡ Shl k → w ≤ 64 → m ≡ 2 ^ result_width_of op w - 1
+    → bit_and (a * 2 ^ k % 2 ^ 64) m ≡ word_result op w a b c
 shl_made op k m a b c w is h e = let d : m ≡ 2 ^ w - 1 = rw is at e in rw is (masked (a * 2 ^ k) w m h d)
 
 all_moved_out : (k a w : ℕ) → w ≤ 64 → 64 ≤ k → (a * 2 ^ k) % 2 ^ w ≡ 0

@@ -19,7 +19,8 @@ taken_next : (cells : List SizedCell) (n : ℕ) (sized : SizedCell) → slice_ge
 taken_next cells n sized h =
     take_more cells n sized (slice_get_within cells n sized h) ∙ ap (λ (x : SizedCell). take n cells ++ x ∷ []) (get_or_from_slice_get cells n sized sized h)
 
-pub number_next : (kind : Cell → Bool) (cells : List SizedCell) (n : ℕ) (sized : SizedCell) → slice_get cells n ≡ Some sized → number_of kind cells (n + 1) ≡ number_of kind cells n + cond (kind sized.cell) 1 0
+pub number_next : (kind : Cell → Bool) (cells : List SizedCell) (n : ℕ) (sized : SizedCell) → slice_get cells n ≡ Some sized
+    → number_of kind cells (n + 1) ≡ number_of kind cells n + cond (kind sized.cell) 1 0
 number_next kind cells n sized h = ap (count_of kind) (taken_next cells n sized h) ∙ count_push (λ x. kind x.cell) (take n cells) sized
 
 pub number_small : (kind : Cell → Bool) (cells : List SizedCell) (n : ℕ) → number_of kind cells n ≤ n
@@ -32,27 +33,33 @@ mapped_next f kind cells n sized h =
     ∙ (ap (map f) (filter-append (λ x. kind x.cell) (take n cells) (sized ∷ [])) ∙ map-append f (cells_of kind (take n cells)) (cells_of kind (sized ∷ [])))
 
 -- two functions that agree on the one cell
-one_mapped : {X : Type 0} (f g : SizedCell → X) (sized : SizedCell) (b : Bool) → f sized ≡ g sized → map f (cond b (sized ∷ []) []) ≡ map g (cond b (sized ∷ []) [])
+one_mapped : {X : Type 0} (f g : SizedCell → X) (sized : SizedCell) (b : Bool) → f sized ≡ g sized
+    → map f (cond b (sized ∷ []) []) ≡ map g (cond b (sized ∷ []) [])
 one_mapped f g sized true e = ap (λ x. x ∷ []) e
 one_mapped f g sized false e = refl
 
-pub list_next : {X : Type 0} (f g : SizedCell → X) (kind : Cell → Bool) (cells : List SizedCell) (n : ℕ) (sized : SizedCell) (old new : List X) → slice_get cells n ≡ Some sized → f sized ≡ g sized
+pub list_next : {X : Type 0} (f g : SizedCell → X) (kind : Cell → Bool) (cells : List SizedCell) (n : ℕ) (sized : SizedCell) (old new : List X)
+    → slice_get cells n ≡ Some sized → f sized ≡ g sized
     → new ≡ old ++ map g (cells_of kind (sized ∷ [])) → old ≡ map f (cells_of kind (take n cells)) → new ≡ map f (cells_of kind (take (n + 1) cells))
 list_next f g kind cells n sized old new h same e i =
     e ∙ (ap (λ xs. xs ++ map g (cells_of kind (sized ∷ []))) i
     ∙ (ap (λ xs. map f (cells_of kind (take n cells)) ++ xs) (sym (one_mapped f g sized (kind sized.cell) same)) ∙ sym (mapped_next f kind cells n sized h)))
 
-pub whole_list : {X : Type 0} (f : SizedCell → X) (kind : Cell → Bool) (cells : List SizedCell) (n : ℕ) (new : List X) → length cells ≤ n → new ≡ map f (cells_of kind (take n cells)) → new ≡ map f (cells_of kind cells)
+pub whole_list : {X : Type 0} (f : SizedCell → X) (kind : Cell → Bool) (cells : List SizedCell) (n : ℕ) (new : List X) → length cells ≤ n
+    → new ≡ map f (cells_of kind (take n cells)) → new ≡ map f (cells_of kind cells)
 whole_list f kind cells n new l h = h ∙ ap (λ xs. map f (cells_of kind xs)) (take_all n cells l)
 
-pub counted_next : (words : List ℕ) (f : ℕ → ℕ) (n w : ℕ) → length words ≡ n → w ≡ f n → ((i : ℕ) → i < n → get_or words i 0 ≡ f i) → (i : ℕ) → i < n + 1 → get_or (words ++ w ∷ []) i 0 ≡ f i
+pub counted_next : (words : List ℕ) (f : ℕ → ℕ) (n w : ℕ) → length words ≡ n → w ≡ f n → ((i : ℕ) → i < n → get_or words i 0 ≡ f i) → (i : ℕ) → i < n + 1
+    → get_or (words ++ w ∷ []) i 0 ≡ f i
 counted_next words f n w long e h i l =
     elim (cases_lt i n) [
       | inl b ↦ get_or_append_left words (w ∷ []) 0 i (omega (arith, b, long)) ∙ h i b
       | inr g ↦ let s : i ≡ n = omega (arith, l, g) in get_or_push words w 0 i (long ∙ sym s) ∙ (e ∙ ap f (sym s))
     ]
 
-pub steps_next : (cells : List SizedCell) (n : ℕ) (steps : List Step) (step : Step) → ((sized : SizedCell) → slice_get cells n ≡ Some sized → step ≡ step_for cells n sized.width sized.cell) → AreSteps cells n steps → AreSteps cells (n + 1) (steps ++ step ∷ [])
+pub steps_next : (cells : List SizedCell) (n : ℕ) (steps : List Step) (step : Step)
+    → ((sized : SizedCell) → slice_get cells n ≡ Some sized → step ≡ step_for cells n sized.width sized.cell) → AreSteps cells n steps
+    → AreSteps cells (n + 1) (steps ++ step ∷ [])
 steps_next cells n steps step is h = record {
   long = omega (arith, length_push steps step, h.long);
   each = λ i sized l found.
@@ -61,7 +68,8 @@ steps_next cells n steps step is h = record {
         | inr g ↦
             let s : i ≡ length steps = omega (arith, l, g, h.long) in
             let e : i ≡ n = omega (arith, l, g) in
-            ap (slice_get (steps ++ step ∷ [])) s ∙ (get_pushed steps step ∙ ap (λ (x : Step). Some x) (is sized (ap (slice_get cells) (sym e) ∙ found) ∙ ap (λ k. step_for cells k sized.width sized.cell) (sym e)))
+            ap (slice_get (steps ++ step ∷ [])) s ∙ (get_pushed steps step ∙
+            ap (λ (x : Step). Some x) (is sized (ap (slice_get cells) (sym e) ∙ found) ∙ ap (λ k. step_for cells k sized.width sized.cell) (sym e)))
       ];
 }
 

@@ -24,7 +24,8 @@ step_for cells n width (Peek mem at) = Seen (number_of is_memory cells mem.0) at
 -- the steps of the cells before a number
 pub record AreSteps (cells : List SizedCell) (n : ℕ) (steps : List Step) : Type 0 where
   pub long : length steps ≡ n
-  pub each : (i : ℕ) (sized : SizedCell) → i < n → slice_get cells i ≡ Some sized → slice_get steps i ≡ Some (step_for cells i sized.width sized.cell)
+  pub each : (i : ℕ) (sized : SizedCell) → i < n → slice_get cells i ≡ Some sized
+      → slice_get steps i ≡ Some (step_for cells i sized.width sized.cell)
 
 abbrev pub next_of : Cell → ℕ
 next_of (Reg next) = next.0
@@ -45,7 +46,8 @@ abbrev pub memory_tree : Memory → MemoryTree
 memory_tree m = record { at = m.at; next = m.next; enable = m.enable; words = m.words.items }
 
 abbrev pub tree_of : ℕ → Cell → MemoryTree
-tree_of word (Mem depth at next enable) = record { at = at.0; next = next.0; enable = enable.0; words = replicate depth word }
+tree_of word (Mem depth at next enable) =
+    record { at = at.0; next = next.0; enable = enable.0; words = replicate depth word }
 tree_of word _ = record { at = 0; next = 0; enable = 0; words = [] }
 
 abbrev pub filled_memory : ℕ → SizedCell → MemoryTree
@@ -61,10 +63,12 @@ WritesAs memory _ = Unit {0}
 
 -- the memories of cells, each by its number
 pub record AreMemories (cells : List SizedCell) (memories : List Memory) : Type 0 where
-  pub each : (k : ℕ) (sized : SizedCell) (memory : Memory) → slice_get (cells_of is_memory cells) k ≡ Some sized → slice_get memories k ≡ Some memory → WritesAs memory sized.cell
+  pub each : (k : ℕ) (sized : SizedCell) (memory : Memory) → slice_get (cells_of is_memory cells) k ≡ Some sized
+      → slice_get memories k ≡ Some memory → WritesAs memory sized.cell
 
 abbrev pub held_of : List Register → List Memory → Firsts
-held_of registers memories = record { registers = map (λ r. r.held) registers; memories = map (λ m. m.words.items) memories }
+held_of registers memories =
+    record { registers = map (λ r. r.held) registers; memories = map (λ m. m.words.items) memories }
 
 -- what a step reads is there
 abbrev pub IsReady : Step → (words inputs registers memories : ℕ) → Type 0
@@ -72,7 +76,8 @@ IsReady (Fixed k) words inputs registers memories = Unit {0}
 IsReady (Taken k) words inputs registers memories = k < inputs
 IsReady (Held k) words inputs registers memories = k < registers
 IsReady (Seen m at) words inputs registers memories = (m < memories) × (at < words)
-IsReady (Made op mask a b c) words inputs registers memories = (is_signed op ≡ false) × (a < words) × (b < words) × (c < words)
+IsReady (Made op mask a b c) words inputs registers memories =
+    (is_signed op ≡ false) × (a < words) × (b < words) × (c < words)
 
 -- the word that a step gives
 abbrev pub Gives : Step → (words inputs : List ℕ) → Firsts → ℕ → Type 0
@@ -81,7 +86,8 @@ Gives (Taken k) words inputs held word = word ≡ get_or inputs k 0
 Gives (Held k) words inputs held word = word ≡ get_or held.registers k 0
 Gives (Seen m at) words inputs held word = word ≡ get_or (get_or held.memories m []) (get_or words at 0) 0
 Gives (Made op mask a b c) words inputs held word =
-    (w : ℕ) → w ≤ 64 → mask ≡ 2 ^ result_width_of op w - 1 → OperandsFit op w (get_or words a 0) (get_or words b 0) (get_or words c 0)
+    (w : ℕ) → w ≤ 64 → mask ≡ 2 ^ result_width_of op w - 1
+    → OperandsFit op w (get_or words a 0) (get_or words b 0) (get_or words c 0)
     → word ≡ word_result op w (get_or words a 0) (get_or words b 0) (get_or words c 0)
 
 -- a register after a clock
@@ -91,7 +97,8 @@ turned words r = record { next = r.next; held = get_or words r.next 0 }
 -- what a memory holds after a clock
 abbrev pub written : List ℕ → Memory → List ℕ → List ℕ
 written words memory store =
-    if get_or words memory.enable 0 == 1 then slice_set store (get_or words memory.at 0) (get_or words memory.next 0) else store
+    if get_or words memory.enable 0 == 1 then slice_set store (get_or words memory.at 0)
+    (get_or words memory.next 0) else store
 
 -- memory k is the one that was there, after a clock
 pub record IsAfter (words : List ℕ) (before : Memory) (memories : List Memory) (k : ℕ) : Type 0 where
@@ -104,10 +111,12 @@ pub record IsAfter (words : List ℕ) (before : Memory) (memories : List Memory)
 
 -- the words below a number fit the widths of their nets
 abbrev pub FitBelow : List SizedCell → List ℕ → ℕ → Type 0
-FitBelow cells words n = (i : ℕ) (sized : SizedCell) → i < n → slice_get cells i ≡ Some sized → get_or words i 0 < 2 ^ sized.width
+FitBelow cells words n =
+    (i : ℕ) (sized : SizedCell) → i < n → slice_get cells i ≡ Some sized → get_or words i 0 < 2 ^ sized.width
 
 -- what a simulator knows of its netlist
-pub record IsPlanned (cells : List SizedCell) (steps : List Step) (words : List ℕ) (registers : List Register) (memories : List Memory) : Type 0 where
+pub record IsPlanned (cells : List SizedCell) (steps : List Step) (words : List ℕ) (registers : List Register)
+    (memories : List Memory) : Type 0 where
   pub each_step : AreSteps cells (length cells) steps
   pub long : length words ≡ length cells
   pub held : AreFirsts cells (held_of registers memories)

@@ -22,8 +22,11 @@ pub record Plays (cells : List SizedCell) (fill : ℕ) (rows : List (List ℕ)) 
 
 -- after these rows a simulator has, of every such run, the words of the last clock and what the next one begins with
 pub record HasPlayed (sim : Simulated) (fill : ℕ) (rows : List (List ℕ)) : Type 0 where
-  pub words : (run : List Clock) (n : ℕ) → Plays sim.cells fill rows run → 1 ≤ length rows → n < length sim.cells → get_or sim.words n 0 ≡ word_at run (length rows - 1) n
-  pub registers : (run : List Clock) (n : ℕ) (sized : SizedCell) → Plays sim.cells fill rows run → length rows < length run → slice_get sim.cells n ≡ Some sized → is_register sized.cell ≡ true
+  pub words : (run : List Clock) (n : ℕ) → Plays sim.cells fill rows run → 1 ≤ length rows → n < length sim.cells
+      → get_or sim.words n 0 ≡ word_at run (length rows - 1) n
+  pub registers : (run : List Clock) (n : ℕ) (sized : SizedCell) → Plays sim.cells fill rows run
+      → length rows < length run → slice_get sim.cells n ≡ Some sized → is_register sized.cell ≡ true
       → get_or sim.held.registers (number_of is_register sim.cells n) 0 ≡ word_at run (length rows) n
-  pub memories : (run : List Clock) (n : ℕ) (sized : SizedCell) → Plays sim.cells fill rows run → length rows < length run → slice_get sim.cells n ≡ Some sized → is_memory sized.cell ≡ true
+  pub memories : (run : List Clock) (n : ℕ) (sized : SizedCell) → Plays sim.cells fill rows run
+      → length rows < length run → slice_get sim.cells n ≡ Some sized → is_memory sized.cell ≡ true
       → get_or sim.held.memories (number_of is_memory sim.cells n) [] ≡ store_at run (length rows) n

@@ -65,13 +65,15 @@ letter_inner false = refl
 atom_inner : (a : AtomTree) → IsInner (atom_text a)
 atom_inner (word k) = inner_more _ (decimal k.width) (letter_inner k.signed) (decimal_inner k.width)
 atom_inner (pair a b) =
-    inner_both _ (codes ")") (inner_both (40 ∷ atom_text a) (44 ∷ atom_text b) (inner_more 40 _ refl (atom_inner a)) (inner_more 44 _ refl (atom_inner b))) (record { all = refl })
+    inner_both _ (codes ")") (inner_both (40 ∷ atom_text a) (44 ∷ atom_text b) (inner_more 40 _ refl (atom_inner a)) (inner_more 44 _ refl (atom_inner b)))
+    (record { all = refl })
 
 type_inner : (t : StTree) → IsInner (st_text t)
 type_inner (atom a) = atom_inner a
 type_inner (tseq n i t) =
     let first : IsInner (codes "TSeq " ++ decimal n) = inner_both (codes "TSeq ") (decimal n) (record { all = refl }) (decimal_inner n) in
-    let second : IsInner (codes "TSeq " ++ decimal n ++ codes " " ++ decimal i) = inner_both _ (decimal i) (inner_both _ (codes " ") first blank) (decimal_inner i) in
+    let second : IsInner (codes "TSeq " ++ decimal n ++ codes " " ++ decimal i) = inner_both _ (decimal i) (inner_both _ (codes " ") first blank)
+    (decimal_inner i) in
     inner_both _ (st_text t) (inner_both _ (codes " ") second blank) (type_inner t)
 type_inner (sseq n t) =
     let first : IsInner (codes "SSeq " ++ decimal n) = inner_both (codes "SSeq ") (decimal n) (record { all = refl }) (decimal_inner n) in
@@ -91,8 +93,10 @@ line_over (b ∷ bs) rest h =
 -- a comment to the end of a line
 comment_line : (text : List ℕ) → IsInner text → IsTextOf (codes "//" ++ (text ++ codes "\n")) []
 comment_line text h = record {
-  tokens = λ rest us later. skip _ rest us (ap (after_gap InLine) (ap (λ l. 47 ∷ l) (append_assoc text (codes "\n") rest)) ∙ line_over (47 ∷ text) rest (and_from true _ refl h.all)) later;
-  clean = clean_both (codes "//") _ (record { all = refl }) (clean_both text (codes "\n") (record { all = clean_from is_inner text inner_clean h.all }) (record { all = refl }));
+  tokens = λ rest us later. skip _ rest us (ap (after_gap InLine) (ap (λ l. 47 ∷ l) (append_assoc text (codes "\n") rest)) ∙
+      line_over (47 ∷ text) rest (and_from true _ refl h.all)) later;
+  clean = clean_both (codes "//") _ (record { all = refl })
+      (clean_both text (codes "\n") (record { all = clean_from is_inner text inner_clean h.all }) (record { all = refl }));
 }
   where
     inner_clean : (b : ℕ) → is_inner b ≡ true → is_clean b ≡ true
@@ -101,7 +105,8 @@ comment_line text h = record {
 -- two texts in a comment, with a blank between
 spaced_line : (front a b : List ℕ) → IsInner front → IsInner a → IsInner b → IsTextOf (codes "//" ++ (front ++ (a ++ (codes " " ++ (b ++ codes "\n"))))) []
 spaced_line front a b hf ha hb =
-    subst (λ l. IsTextOf (codes "//" ++ l) []) (append_assoc front (a ++ (codes " " ++ b)) (codes "\n") ∙ ap (λ l. front ++ l) (append_assoc a (codes " " ++ b) (codes "\n")))
+    subst (λ l. IsTextOf (codes "//" ++ l) []) (append_assoc front (a ++ (codes " " ++ b)) (codes "\n") ∙
+    ap (λ l. front ++ l) (append_assoc a (codes " " ++ b) (codes "\n")))
     (comment_line (front ++ (a ++ (codes " " ++ b))) (inner_both front _ hf (inner_both a _ ha (inner_both (codes " ") b blank hb))))
 
 number_comment : (name : List ℕ) (n : ℕ) → IsInner name → IsTextOf (number_line name n) []
@@ -117,7 +122,8 @@ in_comment k t = spaced_line (codes " in ") (decimal k) (st_text t) (record { al
 out_comment : (outs k : ℕ) (t : StTree) → IsTextOf (out_line outs k t) []
 out_comment outs k t = choose (outs == 1)
   where
-    choose : (one : Bool) → IsTextOf (if one then codes "// out " ++ (st_text t ++ codes "\n") else codes "// out " ++ (decimal k ++ (codes " " ++ (st_text t ++ codes "\n")))) []
+    choose : (one : Bool) → IsTextOf (if one then codes "// out " ++ (st_text t ++ codes "\n") else codes "// out "
+        ++ (decimal k ++ (codes " " ++ (st_text t ++ codes "\n")))) []
     choose true = comment_line (codes " out " ++ st_text t) (inner_both (codes " out ") (st_text t) (record { all = refl }) (type_inner t))
     choose false = spaced_line (codes " out ") (decimal k) (st_text t) (record { all = refl }) (decimal_inner k) (type_inner t)
 
@@ -144,9 +150,12 @@ name_inner (b ∷ bs) h = let parts = and_parts _ (list_all is_printed bs) h in 
 pub note_comment : (n : NoteTree) → list_all is_printed n.name ≡ true → IsTextOf (note_line n) []
 note_comment n h =
     let behind : IsInner (codes ", " ++ st_text n.layout) = inner_both (codes ", ") (st_text n.layout) (record { all = refl }) (type_inner n.layout) in
-    let named : IsInner (codes ": " ++ (n.name ++ (codes ", " ++ st_text n.layout))) = inner_both (codes ": ") _ (record { all = refl }) (inner_both n.name _ (record { all = name_inner n.name h }) behind) in
-    let whole : IsInner (codes " line " ++ (decimal n.line ++ (codes ": " ++ (n.name ++ (codes ", " ++ st_text n.layout))))) = inner_both (codes " line ") _ (record { all = refl }) (inner_both (decimal n.line) _ (decimal_inner n.line) named) in
-    subst (λ l. IsTextOf (codes "  //" ++ l) []) (shape (codes " line ") (decimal n.line) (codes ": ") n.name (codes ", ") (st_text n.layout) (codes "\n")) (indented_line _ whole)
+    let named : IsInner (codes ": " ++ (n.name ++ (codes ", " ++ st_text n.layout))) = inner_both (codes ": ") _ (record { all = refl })
+    (inner_both n.name _ (record { all = name_inner n.name h }) behind) in
+    let whole : IsInner (codes " line " ++ (decimal n.line ++ (codes ": " ++ (n.name ++ (codes ", " ++ st_text n.layout))))) = inner_both (codes " line ") _
+    (record { all = refl }) (inner_both (decimal n.line) _ (decimal_inner n.line) named) in
+    subst (λ l. IsTextOf (codes "  //" ++ l) []) (shape (codes " line ") (decimal n.line) (codes ": ") n.name (codes ", ") (st_text n.layout) (codes "\n"))
+    (indented_line _ whole)
   where
     shape : (a b c d e f g : List ℕ) → (a ++ (b ++ (c ++ (d ++ (e ++ f))))) ++ g ≡ a ++ (b ++ (c ++ (d ++ (e ++ (f ++ g)))))
     shape a b c d e f g = simp append_assoc

@@ -10,7 +10,8 @@ use Rattle.ae_spelled.proofs.LawOnce.{none_twice}
 use Rattle.ae_spelled.proofs.LawKinds.{none_misused, none_wide}
 use Rattle.ae_spelled.proofs.LawWeight.{light}
 
-pub well_formed : (lines : ℕ → ℕ) → (cells : List SizedCell) (outlets : List Outlet) (outs : ℕ) → IsWritableNetlist cells outlets outs → 1 + 4 * length cells + 4 * length outlets ≤ 10000000 → IsWellFormed (netlist_module lines cells outlets outs)
+pub well_formed : (lines : ℕ → ℕ) → (cells : List SizedCell) (outlets : List Outlet) (outs : ℕ) → IsWritableNetlist cells outlets outs
+    → 1 + 4 * length cells + 4 * length outlets ≤ 10000000 → IsWellFormed (netlist_module lines cells outlets outs)
 well_formed lines cells outlets outs ok small = record {
   known = none_unknown lines cells outlets outs ok;
   once = none_twice lines cells outlets outs ok;

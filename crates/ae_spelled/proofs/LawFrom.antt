@@ -47,17 +47,23 @@ unfolding stores_from
 stores_long lines m s [] = refl
 stores_long lines m s (x ∷ xs) = ap suc (stores_long lines m (s + 1) xs)
 
-word_from : (lines : ℕ → ℕ) → (m : ModuleClock) (s : ℕ) (xs : List SizedCell) (j : ℕ) (x : SizedCell) → slice_get xs j ≡ Some x → get_or (words_from lines m s xs) j 0 ≡ own_word lines m (s + j) x.cell
+word_from : (lines : ℕ → ℕ) → (m : ModuleClock) (s : ℕ) (xs : List SizedCell) (j : ℕ) (x : SizedCell) → slice_get xs j ≡ Some x
+    → get_or (words_from lines m s xs) j 0 ≡ own_word lines m (s + j) x.cell
 unfolding words_from
 word_from lines m s [] j x h = absurd (let e : None ≡ Some x = h in cc)
-word_from lines m s (y ∷ xs) zero x h = let e : y ≡ x = (let o : Some y ≡ Some x = h in cc) in let n : s ≡ s + 0 = omega arith in (λ i. own_word lines m (n i) (e i).cell)
-word_from lines m s (y ∷ xs) (suc j) x h = word_from lines m (s + 1) xs j x h ∙ (let n : s + 1 + j ≡ s + suc j = omega arith in (λ i. own_word lines m (n i) x.cell))
+word_from lines m s (y ∷ xs) zero x h =
+    let e : y ≡ x = (let o : Some y ≡ Some x = h in cc) in let n : s ≡ s + 0 = omega arith in (λ i. own_word lines m (n i) (e i).cell)
+word_from lines m s (y ∷ xs) (suc j) x h =
+    word_from lines m (s + 1) xs j x h ∙ (let n : s + 1 + j ≡ s + suc j = omega arith in (λ i. own_word lines m (n i) x.cell))
 
-store_from : (lines : ℕ → ℕ) → (m : ModuleClock) (s : ℕ) (xs : List SizedCell) (j : ℕ) (x : SizedCell) → slice_get xs j ≡ Some x → get_or (stores_from lines m s xs) j [] ≡ own_store lines m (s + j) x.cell
+store_from : (lines : ℕ → ℕ) → (m : ModuleClock) (s : ℕ) (xs : List SizedCell) (j : ℕ) (x : SizedCell) → slice_get xs j ≡ Some x
+    → get_or (stores_from lines m s xs) j [] ≡ own_store lines m (s + j) x.cell
 unfolding stores_from
 store_from lines m s [] j x h = absurd (let e : None ≡ Some x = h in cc)
-store_from lines m s (y ∷ xs) zero x h = let e : y ≡ x = (let o : Some y ≡ Some x = h in cc) in let n : s ≡ s + 0 = omega arith in (λ i. own_store lines m (n i) (e i).cell)
-store_from lines m s (y ∷ xs) (suc j) x h = store_from lines m (s + 1) xs j x h ∙ (let n : s + 1 + j ≡ s + suc j = omega arith in (λ i. own_store lines m (n i) x.cell))
+store_from lines m s (y ∷ xs) zero x h =
+    let e : y ≡ x = (let o : Some y ≡ Some x = h in cc) in let n : s ≡ s + 0 = omega arith in (λ i. own_store lines m (n i) (e i).cell)
+store_from lines m s (y ∷ xs) (suc j) x h =
+    store_from lines m (s + 1) xs j x h ∙ (let n : s + 1 + j ≡ s + suc j = omega arith in (λ i. own_store lines m (n i) x.cell))
 
 get_or-map : {X Y : Type 0} (f : X → Y) (xs : List X) (t : ℕ) (d : X) (e : Y) → t < length xs → get_or (map f xs) t e ≡ f (get_or xs t d)
 get_or-map f [] t d e l = absurd (omega arith)
@@ -79,13 +85,17 @@ module _ (lines : ℕ → ℕ) (cells : List SizedCell) where
   unfolding run_by_number
   clock_is run t l = get_or-map numbered run t idle_clock r.no_clock l
 
-  pub word_is : (run : List ModuleClock) (t k : ℕ) (x : SizedCell) → t < length run → slice_get cells k ≡ Some x → r.word_at (run_by_number run) t k ≡ own_word lines (clock_at run t) k x.cell
+  pub word_is : (run : List ModuleClock) (t k : ℕ) (x : SizedCell) → t < length run → slice_get cells k ≡ Some x
+      → r.word_at (run_by_number run) t k ≡ own_word lines (clock_at run t) k x.cell
   unfolding r.word_at numbered
-  word_is run t k x l h = ap (λ (z : r.Clock). get_or z.words k 0) (clock_is run t l) ∙ word_from lines (clock_at run t) 0 cells k x h ∙ (let n : 0 + k ≡ k = omega arith in (λ i. own_word lines (clock_at run t) (n i) x.cell))
+  word_is run t k x l h = ap (λ (z : r.Clock). get_or z.words k 0) (clock_is run t l) ∙ word_from lines (clock_at run t) 0 cells k x h ∙
+      (let n : 0 + k ≡ k = omega arith in (λ i. own_word lines (clock_at run t) (n i) x.cell))
 
-  pub store_is : (run : List ModuleClock) (t k : ℕ) (x : SizedCell) → t < length run → slice_get cells k ≡ Some x → r.store_at (run_by_number run) t k ≡ own_store lines (clock_at run t) k x.cell
+  pub store_is : (run : List ModuleClock) (t k : ℕ) (x : SizedCell) → t < length run → slice_get cells k ≡ Some x
+      → r.store_at (run_by_number run) t k ≡ own_store lines (clock_at run t) k x.cell
   unfolding r.store_at numbered
-  store_is run t k x l h = ap (λ (z : r.Clock). get_or z.stores k []) (clock_is run t l) ∙ store_from lines (clock_at run t) 0 cells k x h ∙ (let n : 0 + k ≡ k = omega arith in (λ i. own_store lines (clock_at run t) (n i) x.cell))
+  store_is run t k x l h = ap (λ (z : r.Clock). get_or z.stores k []) (clock_is run t l) ∙ store_from lines (clock_at run t) 0 cells k x h ∙
+      (let n : 0 + k ≡ k = omega arith in (λ i. own_store lines (clock_at run t) (n i) x.cell))
 
 plain_word : (lines : ℕ → ℕ) → (m : ModuleClock) (k : ℕ) (cell : Cell) → c.IsPlain cell → own_word lines m k cell ≡ m.word (cell_name lines k cell)
 plain_word lines m k (Input port) p = refl
@@ -95,17 +105,23 @@ plain_word lines m k (Reg next) p = refl
 plain_word lines m k (Mem depth at next enable) p = absurd p
 plain_word lines m k (Peek mem at) p = refl
 
-module _ (lines : ℕ → ℕ) (cells : List SizedCell) (outlets : List Outlet) (outs : ℕ) (ok : IsWritableNetlist cells outlets outs) (run : List ModuleClock) (is : IsModuleRun (written lines cells outlets outs) run) where
+module _ (lines : ℕ → ℕ) (cells : List SizedCell) (outlets : List Outlet) (outs : ℕ) (ok : IsWritableNetlist cells outlets outs) (run : List ModuleClock)
+    (is : IsModuleRun (written lines cells outlets outs) run) where
   abbrev other : List r.Clock
   other = run_by_number lines cells run
 
-  pub plain_is : (t k : ℕ) (x : SizedCell) → t < length run → slice_get cells k ≡ Some x → c.IsPlain x.cell → r.word_at other t k ≡ (clock_at run t).word (cell_name lines k x.cell)
+  pub plain_is : (t k : ℕ) (x : SizedCell) → t < length run → slice_get cells k ≡ Some x → c.IsPlain x.cell
+      → r.word_at other t k ≡ (clock_at run t).word (cell_name lines k x.cell)
   plain_is t k x l h p = word_is lines cells run t k x l h ∙ plain_word lines (clock_at run t) k x.cell p
 
-  held : (t k : ℕ) (x : SizedCell) → t < length run → slice_get cells k ≡ Some x → FitsKind (cell_net lines cells outlets outs k x).kind x.width ((clock_at run t).word (cell_name lines k x.cell)) ((clock_at run t).store (cell_name lines k x.cell))
-  held t k x l h = (is.shaped t l).holds (cell_net lines cells outlets outs k x) (cell_among lines cells outlets outs k x h) (cell_no_clock lines cells outlets outs ok k x h)
+  held : (t k : ℕ) (x : SizedCell) → t < length run → slice_get cells k ≡ Some x
+      → FitsKind (cell_net lines cells outlets outs k x).kind x.width ((clock_at run t).word (cell_name lines k x.cell))
+      ((clock_at run t).store (cell_name lines k x.cell))
+  held t k x l h = (is.shaped t l).holds (cell_net lines cells outlets outs k x) (cell_among lines cells outlets outs k x h)
+      (cell_no_clock lines cells outlets outs ok k x h)
 
-  plain_held : (t k width : ℕ) (cell : Cell) → t < length run → slice_get cells k ≡ Some (record { width = width; cell = cell }) → c.IsPlain cell → (clock_at run t).word (cell_name lines k cell) < 2 ^ width
+  plain_held : (t k width : ℕ) (cell : Cell) → t < length run → slice_get cells k ≡ Some (record { width = width; cell = cell }) → c.IsPlain cell
+      → (clock_at run t).word (cell_name lines k cell) < 2 ^ width
   plain_held t k width (Input port) l h p = held t k _ l h
   plain_held t k width (Const v) l h p = held t k _ l h
   plain_held t k width (Op op args) l h p = held t k _ l h
@@ -117,12 +133,14 @@ module _ (lines : ℕ → ℕ) (cells : List SizedCell) (outlets : List Outlet) 
   reads t l = record {
     word = λ a w h. ap (clock_at run t).word (name_of lines cells outlets outs a h.sized h.found) ∙ sym (plain_is t a h.sized l h.found h.plain);
     store = λ k w d h. ap (clock_at run t).store (name_of lines cells outlets outs k _ h.found) ∙ sym (store_is lines cells run t k _ l h.found);
-    fits = λ a w h. subst (λ x. x < 2 ^ w) (sym (plain_is t a h.sized l h.found h.plain)) (subst (λ v. (clock_at run t).word (cell_name lines a h.sized.cell) < 2 ^ v) h.wide (plain_held t a h.sized.width h.sized.cell l h.found h.plain));
+    fits = λ a w h. subst (λ x. x < 2 ^ w) (sym (plain_is t a h.sized l h.found h.plain))
+        (subst (λ v. (clock_at run t).word (cell_name lines a h.sized.cell) < 2 ^ v) h.wide (plain_held t a h.sized.width h.sized.cell l h.found h.plain));
     stores = λ k w d h. subst (All (λ x. x < 2 ^ w)) (sym (store_is lines cells run t k _ l h.found)) (held t k _ l h.found).1;
   }
 
   -- what a cell holds
-  cell_holds : (t k width : ℕ) (cell : Cell) → t < length run → slice_get cells k ≡ Some (record { width = width; cell = cell }) → r.CellHolds cell width (own_word lines (clock_at run t) k cell) (own_store lines (clock_at run t) k cell)
+  cell_holds : (t k width : ℕ) (cell : Cell) → t < length run → slice_get cells k ≡ Some (record { width = width; cell = cell })
+      → r.CellHolds cell width (own_word lines (clock_at run t) k cell) (own_store lines (clock_at run t) k cell)
   cell_holds t k width (Input port) l h = (held t k _ l h, refl)
   cell_holds t k width (Const v) l h = (held t k _ l h, refl)
   cell_holds t k width (Op op args) l h = (held t k _ l h, refl)
@@ -137,18 +155,24 @@ module _ (lines : ℕ → ℕ) (cells : List SizedCell) (outlets : List Outlet) 
     stores = stores_long lines (clock_at run t) 0 cells;
     holds = each_holds cells (numbered lines cells (clock_at run t)) (λ k x h.
         let n : 0 + k ≡ k = omega arith in
-        let w : get_or (words_from lines (clock_at run t) 0 cells) k 0 ≡ own_word lines (clock_at run t) k x.cell = word_from lines (clock_at run t) 0 cells k x h ∙ (λ i. own_word lines (clock_at run t) (n i) x.cell) in
-        let s : get_or (stores_from lines (clock_at run t) 0 cells) k [] ≡ own_store lines (clock_at run t) k x.cell = store_from lines (clock_at run t) 0 cells k x h ∙ (λ i. own_store lines (clock_at run t) (n i) x.cell) in
-        subst (λ v. r.CellHolds x.cell x.width v (get_or (stores_from lines (clock_at run t) 0 cells) k [])) (sym w) (subst (r.CellHolds x.cell x.width (own_word lines (clock_at run t) k x.cell)) (sym s) (cell_holds t k x.width x.cell l h)));
+        let w : get_or (words_from lines (clock_at run t) 0 cells) k 0 ≡ own_word lines (clock_at run t) k x.cell = word_from lines
+        (clock_at run t) 0 cells k x h ∙ (λ i. own_word lines (clock_at run t) (n i) x.cell) in
+        let s : get_or (stores_from lines (clock_at run t) 0 cells) k [] ≡ own_store lines (clock_at run t) k x.cell = store_from lines
+        (clock_at run t) 0 cells k x h ∙ (λ i. own_store lines (clock_at run t) (n i) x.cell) in
+        subst (λ v. r.CellHolds x.cell x.width v (get_or (stores_from lines (clock_at run t) 0 cells) k [])) (sym w)
+        (subst (r.CellHolds x.cell x.width (own_word lines (clock_at run t) k x.cell)) (sym s) (cell_holds t k x.width x.cell l h)));
   })
 
   settles : (t k width : ℕ) (cell : Cell) → t < length run → slice_get cells k ≡ Some (record { width = width; cell = cell }) → r.Settles cells other t k cell
   settles t k width (Input port) l h = tt
   settles t k width (Reg next) l h = tt
   settles t k width (Mem depth at next enable) l h = tt
-  settles t k width (Const v) l h = makes_from lines cells outlets outs ok (clock_at run t) (r.word_at other t) (r.store_at other t) (reads t l) (is.settles t l) k width (Const v) h
-  settles t k width (Op op args) l h = makes_from lines cells outlets outs ok (clock_at run t) (r.word_at other t) (r.store_at other t) (reads t l) (is.settles t l) k width (Op op args) h
-  settles t k width (Peek mem at) l h = makes_from lines cells outlets outs ok (clock_at run t) (r.word_at other t) (r.store_at other t) (reads t l) (is.settles t l) k width (Peek mem at) h
+  settles t k width (Const v) l h = makes_from lines cells outlets outs ok (clock_at run t) (r.word_at other t) (r.store_at other t) (reads t l)
+      (is.settles t l) k width (Const v) h
+  settles t k width (Op op args) l h = makes_from lines cells outlets outs ok (clock_at run t) (r.word_at other t) (r.store_at other t) (reads t l)
+      (is.settles t l) k width (Op op args) h
+  settles t k width (Peek mem at) l h = makes_from lines cells outlets outs ok (clock_at run t) (r.word_at other t) (r.store_at other t) (reads t l)
+      (is.settles t l) k width (Peek mem at) h
 
   steps : (t k width : ℕ) (cell : Cell) → t + 1 < length run → slice_get cells k ≡ Some (record { width = width; cell = cell }) → r.Steps other t k cell
   steps t k width (Input port) l h = tt
@@ -164,8 +188,10 @@ module _ (lines : ℕ → ℕ) (cells : List SizedCell) (outlets : List Outlet) 
       let here : t < length run = omega arith in
       let w = ok.whole.each k width depth at next enable h in
       store_is lines cells run (t + 1) k _ l h
-      ∙ (is.steps t l).steps (cell_net lines cells outlets outs k (record { width = width; cell = Mem depth at next enable })) (cell_among lines cells outlets outs k _ h)
-      ∙ memory_next lines cells outlets outs ok (clock_at run t) (r.word_at other t) (r.store_at other t) (reads t here) k width depth at next enable h (written_memory k width depth at next enable cells ok.whole ok.formed h)
+      ∙ (is.steps t l).steps (cell_net lines cells outlets outs k (record { width = width; cell = Mem depth at next enable }))
+      (cell_among lines cells outlets outs k _ h)
+      ∙ memory_next lines cells outlets outs ok (clock_at run t) (r.word_at other t) (r.store_at other t) (reads t here) k width depth at next enable h
+      (written_memory k width depth at next enable cells ok.whole ok.formed h)
       ∙ sym (cond-false _ (r.store_at other t k) _ (other_number enable.0 k w.connected))
 
   within : (t : ℕ) → t < length other → t < length run
@@ -178,5 +204,7 @@ module _ (lines : ℕ → ℕ) (cells : List SizedCell) (outlets : List Outlet) 
     steps = λ t k x l h. steps t k x.width x.cell (within (t + 1) l) h;
   }
 
-  pub by_number_output : (t j : ℕ) (o : Outlet) → t < length run → slice_get outlets j ≡ Some o → (clock_at run t).word (port_name outs o.port) ≡ r.word_at other t o.net.0
-  by_number_output t j o l h = shown_from lines cells outlets outs ok (clock_at run t) (r.word_at other t) (r.store_at other t) (reads t l) (is.settles t l) j o h
+  pub by_number_output : (t j : ℕ) (o : Outlet) → t < length run → slice_get outlets j ≡ Some o
+      → (clock_at run t).word (port_name outs o.port) ≡ r.word_at other t o.net.0
+  by_number_output t j o l h = shown_from lines cells outlets outs ok (clock_at run t) (r.word_at other t) (r.store_at other t) (reads t l)
+      (is.settles t l) j o h

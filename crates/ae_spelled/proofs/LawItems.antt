@@ -14,7 +14,8 @@ use Rattle.ae_judge.proofs.Members.{among_left, among_right, among_at, among_fro
 use Rattle.ae_verilog.specs.NetlistModule.{clock_name, port_name, number_name, net_name, each_numbered, net_value, op_expression, drive, declaration, assignment, edge}
 use Rattle.ae_spelled.proofs.LawNets.{among_listed, is_other, others, written}
 
-pub get_append : {X : Type 0} (xs ys : List X) (j : ℕ) (x : X) → slice_get (xs ++ ys) j ≡ Some x → (slice_get xs j ≡ Some x) ⊎ ((i : ℕ) × (j ≡ length xs + i) × (slice_get ys i ≡ Some x))
+pub get_append : {X : Type 0} (xs ys : List X) (j : ℕ) (x : X) → slice_get (xs ++ ys) j ≡ Some x → (slice_get xs j ≡ Some x)
+    ⊎ ((i : ℕ) × (j ≡ length xs + i) × (slice_get ys i ≡ Some x))
 get_append [] ys j x h = inr (j, (let e : j ≡ 0 + j = omega arith in e), h)
 get_append (y ∷ xs) ys zero x h = inl h
 get_append (y ∷ xs) ys (suc j) x h = elim (get_append xs ys j x h) [
@@ -33,10 +34,12 @@ total size zero xs = 0
 total size (suc n) [] = 0
 total size (suc n) (x ∷ xs) = size x.cell + total size n xs
 
-pub total_grow : (size : Cell → ℕ) (xs : List SizedCell) (a n : ℕ) (x : SizedCell) → slice_get xs a ≡ Some x → a < n → total size a xs + size x.cell ≤ total size n xs
+pub total_grow : (size : Cell → ℕ) (xs : List SizedCell) (a n : ℕ) (x : SizedCell) → slice_get xs a ≡ Some x → a < n
+    → total size a xs + size x.cell ≤ total size n xs
 total_grow size [] a n x h l = absurd (let e : None ≡ Some x = h in cc)
 total_grow size (y ∷ xs) a zero x h l = absurd (omega arith)
-total_grow size (y ∷ xs) zero (suc n) x h l = let e : y ≡ x = (let o : Some y ≡ Some x = h in cc) in subst (λ (z : SizedCell). 0 + size z.cell ≤ size y.cell + total size n xs) e (omega arith)
+total_grow size (y ∷ xs) zero (suc n) x h l =
+    let e : y ≡ x = (let o : Some y ≡ Some x = h in cc) in subst (λ (z : SizedCell). 0 + size z.cell ≤ size y.cell + total size n xs) e (omega arith)
 total_grow size (y ∷ xs) (suc a) (suc n) x h l = let r = total_grow size xs a n x h (omega arith) in omega arith
 
 pub total_others : (n : ℕ) (xs : List SizedCell) → total is_other n xs ≡ others n xs
@@ -45,7 +48,8 @@ total_others (suc n) [] = refl
 total_others (suc n) (x ∷ xs) = ap (λ k. is_other x.cell + k) (total_others n xs)
 
 -- where in a list of parts an element stands
-listed_place : {A : Type 0} (size : Cell → ℕ) (f : ℕ → SizedCell → List A) → ((k : ℕ) (x : SizedCell) → length (f k x) ≡ size x.cell) → (s : ℕ) (xs : List SizedCell) (j : ℕ) (a : A) → slice_get (each_numbered f s xs) j ≡ Some a
+listed_place : {A : Type 0} (size : Cell → ℕ) (f : ℕ → SizedCell → List A) → ((k : ℕ) (x : SizedCell) → length (f k x) ≡ size x.cell)
+    → (s : ℕ) (xs : List SizedCell) (j : ℕ) (a : A) → slice_get (each_numbered f s xs) j ≡ Some a
     → (n : ℕ) × (x : SizedCell) × (i : ℕ) × (slice_get xs n ≡ Some x) × (slice_get (f (s + n) x) i ≡ Some a) × (j ≡ total size n xs + i)
 listed_place size f long s [] j a h = absurd (let e : None ≡ Some a = h in cc)
 listed_place size f long s (y ∷ xs) j a h = elim (get_append (f s y) (each_numbered f (s + 1) xs) j a h) [
@@ -59,7 +63,8 @@ listed_place size f long s (y ∷ xs) j a h = elim (get_append (f s y) (each_num
       (suc r.0, r.1, r.2, r.3, subst (λ n. slice_get (f n r.1) r.2 ≡ Some a) e r.4, (let z : j ≡ size y.cell + total size r.0 xs + r.2 = omega arith in z))
 ]
 
-listed_length : {A : Type 0} (size : Cell → ℕ) (f : ℕ → SizedCell → List A) → ((k : ℕ) (x : SizedCell) → length (f k x) ≡ size x.cell) → (s : ℕ) (xs : List SizedCell) → length (each_numbered f s xs) ≡ total size (length xs) xs
+listed_length : {A : Type 0} (size : Cell → ℕ) (f : ℕ → SizedCell → List A) → ((k : ℕ) (x : SizedCell) → length (f k x) ≡ size x.cell)
+    → (s : ℕ) (xs : List SizedCell) → length (each_numbered f s xs) ≡ total size (length xs) xs
 listed_length size f long s [] = refl
 listed_length size f long s (y ∷ xs) = length-append (f s y) (each_numbered f (s + 1) xs) ∙ (λ i. long s y i + listed_length size f long (s + 1) xs i)
 
@@ -79,7 +84,8 @@ module _ (lines : ℕ → ℕ) (cells : List SizedCell) (outlets : List Outlet) 
   -- what happens to a cell at a clock edge
   abbrev pub cell_edge : ℕ → Cell → StmtTree
   cell_edge k (Reg next) = set (number_name lines k) (net_value lines cells next.0)
-  cell_edge k (Mem depth at next enable) = when (net_value lines cells enable.0) (put (number_name lines k) (net_value lines cells at.0) (net_value lines cells next.0))
+  cell_edge k (Mem depth at next enable) = when (net_value lines cells enable.0)
+      (put (number_name lines k) (net_value lines cells at.0) (net_value lines cells next.0))
   cell_edge k _ = block_end
 
   declaration_length : (k : ℕ) (x : SizedCell) → length (declaration lines cells k x.width x.cell) ≡ is_other x.cell
@@ -102,27 +108,54 @@ module _ (lines : ℕ → ℕ) (cells : List SizedCell) (outlets : List Outlet) 
     by_cell k (Mem depth at next enable) = refl
     by_cell k (Peek mem at) = refl
 
-  the_declaration : (k width : ℕ) (c : Cell) (i : ℕ) (item : ItemTree) → slice_get (declaration lines cells k width c) i ≡ Some item → (i ≡ 0) × (is_other c ≡ 1) × (item ≡ nets (cell_drives k width c))
+  the_declaration : (k width : ℕ) (c : Cell) (i : ℕ) (item : ItemTree) → slice_get (declaration lines cells k width c) i ≡ Some item → (i ≡ 0)
+      × (is_other c ≡ 1) × (item ≡ nets (cell_drives k width c))
   the_declaration k width (Input port) i item h = absurd (let e : None ≡ Some item = h in cc)
-  the_declaration k width (Const v) zero item h = (refl, refl, let e : Some (nets (cell_drives k width (Const v))) ≡ Some item = h in let z : item ≡ nets (cell_drives k width (Const v)) = cc in z)
+  the_declaration k width (Const v) zero item h = (
+    refl,
+    refl,
+    let e : Some (nets (cell_drives k width (Const v))) ≡ Some item = h in
+        let z : item ≡ nets (cell_drives k width (Const v)) = cc in z,
+  )
   the_declaration k width (Const v) (suc i) item h = absurd (let e : None ≡ Some item = h in cc)
-  the_declaration k width (Op op args) zero item h = (refl, refl, let e : Some (nets (cell_drives k width (Op op args))) ≡ Some item = h in let z : item ≡ nets (cell_drives k width (Op op args)) = cc in z)
+  the_declaration k width (Op op args) zero item h = (
+    refl,
+    refl,
+    let e : Some (nets (cell_drives k width (Op op args))) ≡ Some item = h in
+        let z : item ≡ nets (cell_drives k width (Op op args)) = cc in z,
+  )
   the_declaration k width (Op op args) (suc i) item h = absurd (let e : None ≡ Some item = h in cc)
   the_declaration k width (Reg next) zero item h = (refl, refl, let e : Some (nets []) ≡ Some item = h in let z : item ≡ nets [] = cc in z)
   the_declaration k width (Reg next) (suc i) item h = absurd (let e : None ≡ Some item = h in cc)
   the_declaration k width (Mem depth at next enable) zero item h = (refl, refl, let e : Some (nets []) ≡ Some item = h in let z : item ≡ nets [] = cc in z)
   the_declaration k width (Mem depth at next enable) (suc i) item h = absurd (let e : None ≡ Some item = h in cc)
-  the_declaration k width (Peek mem at) zero item h = (refl, refl, let e : Some (nets (cell_drives k width (Peek mem at))) ≡ Some item = h in let z : item ≡ nets (cell_drives k width (Peek mem at)) = cc in z)
+  the_declaration k width (Peek mem at) zero item h = (
+    refl,
+    refl,
+    let e : Some (nets (cell_drives k width (Peek mem at))) ≡ Some item = h in
+        let z : item ≡ nets (cell_drives k width (Peek mem at)) = cc in z,
+  )
   the_declaration k width (Peek mem at) (suc i) item h = absurd (let e : None ≡ Some item = h in cc)
 
-  the_edge : (k : ℕ) (c : Cell) (i : ℕ) (item : ItemTree) → slice_get (edge lines cells k c) i ≡ Some item → (i ≡ 0) × (is_state c ≡ 1) × (item ≡ always clock_name (cell_edge k c))
+  the_edge : (k : ℕ) (c : Cell) (i : ℕ) (item : ItemTree) → slice_get (edge lines cells k c) i ≡ Some item → (i ≡ 0) × (is_state c ≡ 1)
+      × (item ≡ always clock_name (cell_edge k c))
   the_edge k (Input port) i item h = absurd (let e : None ≡ Some item = h in cc)
   the_edge k (Const v) i item h = absurd (let e : None ≡ Some item = h in cc)
   the_edge k (Op op args) i item h = absurd (let e : None ≡ Some item = h in cc)
   the_edge k (Peek mem at) i item h = absurd (let e : None ≡ Some item = h in cc)
-  the_edge k (Reg next) zero item h = (refl, refl, let e : Some (always clock_name (cell_edge k (Reg next))) ≡ Some item = h in let z : item ≡ always clock_name (cell_edge k (Reg next)) = cc in z)
+  the_edge k (Reg next) zero item h = (
+    refl,
+    refl,
+    let e : Some (always clock_name (cell_edge k (Reg next))) ≡ Some item = h in
+        let z : item ≡ always clock_name (cell_edge k (Reg next)) = cc in z,
+  )
   the_edge k (Reg next) (suc i) item h = absurd (let e : None ≡ Some item = h in cc)
-  the_edge k (Mem depth at next enable) zero item h = (refl, refl, let e : Some (always clock_name (cell_edge k (Mem depth at next enable))) ≡ Some item = h in let z : item ≡ always clock_name (cell_edge k (Mem depth at next enable)) = cc in z)
+  the_edge k (Mem depth at next enable) zero item h = (
+    refl,
+    refl,
+    let e : Some (always clock_name (cell_edge k (Mem depth at next enable))) ≡ Some item = h in
+        let z : item ≡ always clock_name (cell_edge k (Mem depth at next enable)) = cc in z,
+  )
   the_edge k (Mem depth at next enable) (suc i) item h = absurd (let e : None ≡ Some item = h in cc)
 
   abbrev pub declarations : List ItemTree
@@ -133,12 +166,15 @@ module _ (lines : ℕ → ℕ) (cells : List SizedCell) (outlets : List Outlet) 
 
   -- an item by its place, where the first is 0
   pub data ItemOrigin (j : ℕ) (item : ItemTree) : Type 0 where
-    declares : (k : ℕ) (x : SizedCell) → slice_get cells k ≡ Some x → is_other x.cell ≡ 1 → j ≡ others k cells → item ≡ nets (cell_drives k x.width x.cell) → ItemOrigin j item
+    declares : (k : ℕ) (x : SizedCell) → slice_get cells k ≡ Some x → is_other x.cell ≡ 1 → j ≡ others k cells → item ≡ nets (cell_drives k x.width x.cell)
+        → ItemOrigin j item
     shows : (k : ℕ) (o : Outlet) → slice_get outlets k ≡ Some o → j ≡ others (length cells) cells + k → item ≡ assignment lines cells outs o → ItemOrigin j item
-    changes : (k : ℕ) (x : SizedCell) → slice_get cells k ≡ Some x → is_state x.cell ≡ 1 → j ≡ others (length cells) cells + (length outlets + total is_state k cells) → item ≡ always clock_name (cell_edge k x.cell) → ItemOrigin j item
+    changes : (k : ℕ) (x : SizedCell) → slice_get cells k ≡ Some x → is_state x.cell ≡ 1
+        → j ≡ others (length cells) cells + (length outlets + total is_state k cells) → item ≡ always clock_name (cell_edge k x.cell) → ItemOrigin j item
 
   decl_length : length declarations ≡ others (length cells) cells
-  decl_length = listed_length is_other (λ net (sized : SizedCell). declaration lines cells net sized.width sized.cell) declaration_length 0 cells ∙ total_others (length cells) cells
+  decl_length = listed_length is_other (λ net (sized : SizedCell). declaration lines cells net sized.width sized.cell) declaration_length 0 cells ∙
+      total_others (length cells) cells
 
   pub item_origin : (j : ℕ) (item : ItemTree) → slice_get (written lines cells outlets outs).items j ≡ Some item → ItemOrigin j item
   item_origin j item h = elim (get_append declarations (map (assignment lines cells outs) outlets ++ edges) j item h) [
@@ -176,11 +212,13 @@ module _ (lines : ℕ → ℕ) (cells : List SizedCell) (outlets : List Outlet) 
       let r = among_unflat drives_of d (written lines cells outlets outs).items h in
       elim (item_origin r.0 r.1 r.2) [
         | declares k x at other place is ↦ of_cell k x at (subst (λ i. Among d (drives_of i)) is r.3)
-        | shows k o at place is ↦ of_output k o at (let a : Among d (drive (port_name outs o.port) (net_value lines cells o.net.0) ∷ []) = subst (λ i. Among d (drives_of i)) is r.3 in elim a [ inl e ↦ sym e | inr none ↦ absurd none ])
+        | shows k o at place is ↦ of_output k o at (let a : Among d (drive (port_name outs o.port) (net_value lines cells o.net.0) ∷ []) = subst
+            (λ i. Among d (drives_of i)) is r.3 in elim a [ inl e ↦ sym e | inr none ↦ absurd none ])
         | changes k x at state place is ↦ absurd (subst (λ i. Among d (drives_of i)) is r.3)
       ]
 
-  decl_drives : (k width : ℕ) (c : Cell) (d : DriveTree) → Among d (cell_drives k width c) → Among (nets (cell_drives k width c)) (declaration lines cells k width c)
+  decl_drives : (k width : ℕ) (c : Cell) (d : DriveTree) → Among d (cell_drives k width c)
+      → Among (nets (cell_drives k width c)) (declaration lines cells k width c)
   decl_drives k width (Input port) d h = absurd h
   decl_drives k width (Const v) d h = inl refl
   decl_drives k width (Op op args) d h = inl refl
@@ -188,18 +226,23 @@ module _ (lines : ℕ → ℕ) (cells : List SizedCell) (outlets : List Outlet) 
   decl_drives k width (Mem depth at next enable) d h = absurd h
   decl_drives k width (Peek mem at) d h = inl refl
 
-  pub cell_equation : (k : ℕ) (x : SizedCell) (d : DriveTree) → slice_get cells k ≡ Some x → Among d (cell_drives k x.width x.cell) → Among d (equations (written lines cells outlets outs))
+  pub cell_equation : (k : ℕ) (x : SizedCell) (d : DriveTree) → slice_get cells k ≡ Some x → Among d (cell_drives k x.width x.cell)
+      → Among d (equations (written lines cells outlets outs))
   unfolding equations
   cell_equation k x d h a =
       let b : k ≡ 0 + k = omega arith in
       let item : ItemTree = nets (cell_drives k x.width x.cell) in
-      let there : Among item declarations = among_listed (λ net (sized : SizedCell). declaration lines cells net sized.width sized.cell) item 0 cells k x h (subst (λ n. Among item (declaration lines cells n x.width x.cell)) b (decl_drives k x.width x.cell d a)) in
+      let there : Among item declarations = among_listed (λ net (sized : SizedCell). declaration lines cells net sized.width sized.cell) item 0 cells k x h
+      (subst (λ n. Among item (declaration lines cells n x.width x.cell)) b (decl_drives k x.width x.cell d a)) in
       let p = among_at item (written lines cells outlets outs).items (among_left item declarations _ there) in
       among_flat drives_of d (written lines cells outlets outs).items p.0 item p.1 a
 
-  pub output_equation : (k : ℕ) (o : Outlet) → slice_get outlets k ≡ Some o → Among (drive (port_name outs o.port) (net_value lines cells o.net.0)) (equations (written lines cells outlets outs))
+  pub output_equation : (k : ℕ) (o : Outlet) → slice_get outlets k ≡ Some o
+      → Among (drive (port_name outs o.port) (net_value lines cells o.net.0)) (equations (written lines cells outlets outs))
   unfolding equations
   output_equation k o h =
       let item : ItemTree = assignment lines cells outs o in
-      let p = among_at item (written lines cells outlets outs).items (among_right item declarations _ (among_left item (map (assignment lines cells outs) outlets) edges (among_map (assignment lines cells outs) o outlets (among_from o outlets k h)))) in
+      let p = among_at item (written lines cells outlets outs).items
+      (among_right item declarations _ (among_left item (map (assignment lines cells outs) outlets) edges
+      (among_map (assignment lines cells outs) o outlets (among_from o outlets k h)))) in
       among_flat drives_of (drive (port_name outs o.port) (net_value lines cells o.net.0)) (written lines cells outlets outs).items p.0 item p.1 (inl refl)

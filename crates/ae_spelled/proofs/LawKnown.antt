@@ -29,7 +29,8 @@ module _ (lines : ℕ → ℕ) (cells : List SizedCell) (outlets : List Outlet) 
   item_low a k (Mem depth at next enable) h z = omega arith
   item_low a k (Peek mem at) h z = omega arith
 
-  cell_declared : (a k : ℕ) (x : SizedCell) (n : List ℕ) → slice_get cells a ≡ Some x → n ≡ cell_name lines a x.cell → others a cells + is_other x.cell < k → 0 < k → IsDeclaredBefore m k n
+  cell_declared : (a k : ℕ) (x : SizedCell) (n : List ℕ) → slice_get cells a ≡ Some x → n ≡ cell_name lines a x.cell → others a cells + is_other x.cell < k
+      → 0 < k → IsDeclaredBefore m k n
   cell_declared a k x n h e low z = (cell_net lines cells outlets outs a x, cell_among lines cells outlets outs a x h, sym e, item_low a k x.cell low z)
 
   name_declared : (k : ℕ) (n : List ℕ) → others (length cells) cells < k → IsCellName lines cells outlets outs ok n → IsDeclaredBefore m k n
@@ -41,7 +42,8 @@ module _ (lines : ℕ → ℕ) (cells : List SizedCell) (outlets : List Outlet) 
   use_known j i n at uses = elim (item_origin lines cells outlets outs j i at) [
     | declares k x h other place is ↦
         let u : UsesUnknown m (j + 1) (nets (cell_drives lines cells outlets outs k x.width x.cell)) n = subst (λ z. UsesUnknown m (j + 1) z n) is uses in
-        let b = drive_reads_below lines cells outlets outs ok k x.width x.cell h u.1 n (among_from u.1 (cell_drives lines cells outlets outs k x.width x.cell) u.0 u.2) u.3 in
+        let b = drive_reads_below lines cells outlets outs ok k x.width x.cell h u.1 n
+        (among_from u.1 (cell_drives lines cells outlets outs k x.width x.cell) u.0 u.2) u.3 in
         let g = others_grow cells b.at k b.sized b.found b.below in
         u.5 (cell_declared b.at (j + 1) b.sized n b.found b.named (omega arith) (omega arith))
     | shows k o h place is ↦
@@ -84,19 +86,32 @@ module _ (lines : ℕ → ℕ) (cells : List SizedCell) (outlets : List Outlet) 
   in_items : (n : List ℕ) (i : ItemTree) → Among i m.items → Among n (item_targets i) → Among n (flat_map item_targets m.items)
   in_items n i a t = let p = among_at i m.items a in among_flat item_targets n m.items p.0 i p.1 t
 
-  by_declaration : (k width : ℕ) (cell : Cell) → slice_get cells k ≡ Some (record { width = width; cell = cell }) → Among (nets (cell_drives lines cells outlets outs k width cell)) (declaration lines cells k width cell) → Among (cell_name lines k cell) (map target_of (cell_drives lines cells outlets outs k width cell)) → Among (cell_name lines k cell) (flat_map item_targets m.items)
+  by_declaration : (k width : ℕ) (cell : Cell) → slice_get cells k ≡ Some (record { width = width; cell = cell })
+      → Among (nets (cell_drives lines cells outlets outs k width cell)) (declaration lines cells k width cell)
+      → Among (cell_name lines k cell) (map target_of (cell_drives lines cells outlets outs k width cell))
+      → Among (cell_name lines k cell) (flat_map item_targets m.items)
   by_declaration k width cell h a t =
       let item : ItemTree = nets (cell_drives lines cells outlets outs k width cell) in
       let b : k ≡ 0 + k = omega arith in
-      in_items (cell_name lines k cell) item (among_left item (declarations lines cells outlets outs) _ (among_listed (λ net (sized : SizedCell). declaration lines cells net sized.width sized.cell) item 0 cells k (record { width = width; cell = cell }) h (subst (λ n. Among item (declaration lines cells n width cell)) b a))) t
+      in_items (cell_name lines k cell) item (among_left item (declarations lines cells outlets outs) _
+      (among_listed (λ net (sized : SizedCell). declaration lines cells net sized.width sized.cell) item 0 cells k
+      (record { width = width; cell = cell }) h (subst (λ n. Among item (declaration lines cells n width cell)) b a))) t
 
-  by_edge : (k width : ℕ) (cell : Cell) → slice_get cells k ≡ Some (record { width = width; cell = cell }) → Among (always clock_name (cell_edge lines cells outlets outs k cell)) (edge lines cells k cell) → Among (cell_name lines k cell) (stmt_targets (cell_edge lines cells outlets outs k cell)) → Among (cell_name lines k cell) (flat_map item_targets m.items)
+  by_edge : (k width : ℕ) (cell : Cell) → slice_get cells k ≡ Some (record { width = width; cell = cell })
+      → Among (always clock_name (cell_edge lines cells outlets outs k cell)) (edge lines cells k cell)
+      → Among (cell_name lines k cell) (stmt_targets (cell_edge lines cells outlets outs k cell))
+      → Among (cell_name lines k cell) (flat_map item_targets m.items)
   by_edge k width cell h a t =
       let item : ItemTree = always clock_name (cell_edge lines cells outlets outs k cell) in
       let b : k ≡ 0 + k = omega arith in
-      in_items (cell_name lines k cell) item (among_right item (declarations lines cells outlets outs) _ (among_right item (map (assignment lines cells outs) outlets) (edges lines cells outlets outs) (among_listed (λ net (sized : SizedCell). edge lines cells net sized.cell) item 0 cells k (record { width = width; cell = cell }) h (subst (λ n. Among item (edge lines cells n cell)) b a)))) t
+      in_items (cell_name lines k cell) item (among_right item (declarations lines cells outlets outs) _
+      (among_right item (map (assignment lines cells outs) outlets) (edges lines cells outlets outs)
+      (among_listed (λ net (sized : SizedCell). edge lines cells net sized.cell) item 0 cells k (record { width = width; cell = cell }) h
+      (subst (λ n. Among item (edge lines cells n cell)) b a)))) t
 
-  cell_driven : (k width : ℕ) (cell : Cell) → slice_get cells k ≡ Some (record { width = width; cell = cell }) → is_input_kind (cell_net lines cells outlets outs k (record { width = width; cell = cell })).kind ≡ false → Among (cell_name lines k cell) (flat_map item_targets m.items)
+  cell_driven : (k width : ℕ) (cell : Cell) → slice_get cells k ≡ Some (record { width = width; cell = cell })
+      → is_input_kind (cell_net lines cells outlets outs k (record { width = width; cell = cell })).kind ≡ false
+      → Among (cell_name lines k cell) (flat_map item_targets m.items)
   cell_driven k width (Input port) h f = absurd (cc)
   cell_driven k width (Const v) h f = by_declaration k width (Const v) h (inl refl) (inl refl)
   cell_driven k width (Op op args) h f = by_declaration k width (Op op args) h (inl refl) (inl refl)
@@ -115,12 +130,15 @@ module _ (lines : ℕ → ℕ) (cells : List SizedCell) (outlets : List Outlet) 
         | an_output j o at e ↦
             let item : ItemTree = assignment lines cells outs o in
             h.3 (subst (λ n. Among n (flat_map item_targets m.items)) (sym (ap (λ (z : NetTree). z.name) e))
-            (in_items (port_name outs o.port) item (among_right item (declarations lines cells outlets outs) _ (among_left item (map (assignment lines cells outs) outlets) (edges lines cells outlets outs) (among_map (assignment lines cells outs) o outlets (among_from o outlets j at)))) (inl refl)))
+            (in_items (port_name outs o.port) item (among_right item (declarations lines cells outlets outs) _
+            (among_left item (map (assignment lines cells outs) outlets) (edges lines cells outlets outs)
+            (among_map (assignment lines cells outs) o outlets (among_from o outlets j at)))) (inl refl)))
       ]
 
   -- an equation reads cells before the one that it drives
   abbrev Earlier : List ℕ → List ℕ → Type 0
-  Earlier a b = (k : ℕ) × (x : SizedCell) × (slice_get cells k ≡ Some x) × (b ≡ cell_name lines k x.cell) × ((j : ℕ) (y : SizedCell) → slice_get cells j ≡ Some y → a ≡ cell_name lines j y.cell → k < j)
+  Earlier a b = (k : ℕ) × (x : SizedCell) × (slice_get cells k ≡ Some x) × (b ≡ cell_name lines k x.cell)
+      × ((j : ℕ) (y : SizedCell) → slice_get cells j ≡ Some y → a ≡ cell_name lines j y.cell → k < j)
 
   feeds_earlier : (a b : List ℕ) → Feeds m a b → Earlier a b
   feeds_earlier a b f = elim (equation_origin lines cells outlets outs f.0 f.1) [
@@ -136,8 +154,18 @@ module _ (lines : ℕ → ℕ) (cells : List SizedCell) (outlets : List Outlet) 
         )
     | of_output k o h is ↦
         let q : Among b (net_name lines cells o.net.0 ∷ []) = subst (λ (z : DriveTree). Among b (names_in z.value)) is f.3 in
-        let r : IsCellName lines cells outlets outs ok b = elim q [ inl e ↦ net_named_cell lines cells outlets outs ok o.net.0 _ b (ok.shown.each k o h) e | inr none ↦ absurd none ] in
-        (r.at, r.sized, r.found, r.named, λ j y g e. absurd (cell_not_output lines cells outlets outs ok j y k o g h (sym e ∙ sym f.2 ∙ ap (λ (z : DriveTree). z.name) is)))
+        let r : IsCellName lines cells outlets outs ok b = elim q [
+          | inl e ↦ net_named_cell lines cells outlets outs ok o.net.0 _ b
+              (ok.shown.each k o h) e
+          | inr none ↦ absurd none
+        ] in (
+          r.at,
+          r.sized,
+          r.found,
+          r.named,
+          λ j y g e. absurd
+              (cell_not_output lines cells outlets outs ok j y k o g h (sym e ∙ sym f.2 ∙ ap (λ (z : DriveTree). z.name) is)),
+        )
   ] where
     drive_name : (k width : ℕ) (cell : Cell) (d : DriveTree) → Among d (cell_drives lines cells outlets outs k width cell) → d.name ≡ cell_name lines k cell
     drive_name k width (Input port) d a = absurd a

@@ -77,7 +77,8 @@ two_same l w m v hl hw hm hv e =
     let r = cut_same (decimal l) (decimal m) (decimal w) (decimal v) (decimal_unbroken l) (decimal_unbroken m) e in
     (decimal_injective l m hl hm r.0, decimal_injective w v hw hv r.1)
 
-three_same : (p l w q m v : ℕ) → p < 2 ^ 64 → l < 2 ^ 64 → w < 2 ^ 64 → q < 2 ^ 64 → m < 2 ^ 64 → v < 2 ^ 64 → decimal p ++ (codes "_" ++ two l w) ≡ decimal q ++ (codes "_" ++ two m v) → (p ≡ q) × ((l ≡ m) × (w ≡ v))
+three_same : (p l w q m v : ℕ) → p < 2 ^ 64 → l < 2 ^ 64 → w < 2 ^ 64 → q < 2 ^ 64 → m < 2 ^ 64 → v < 2 ^ 64 → decimal p ++ (codes "_" ++ two l w) ≡ decimal q
+    ++ (codes "_" ++ two m v) → (p ≡ q) × ((l ≡ m) × (w ≡ v))
 three_same p l w q m v hp hl hw hq hm hv e =
     let r = cut_same (decimal p) (decimal q) (two l w) (two m v) (decimal_unbroken p) (decimal_unbroken q) e in
     (decimal_injective p q hp hq r.0, two_same l w m v hl hw hm hv r.1)
@@ -94,7 +95,8 @@ record IsToldByByte (told : ℕ → Port) (word outs : ℕ) (p : Port) : Type 0 
   is : told (first_byte (port_name outs p)) ≡ p
   other : first_byte (port_name outs p) ≡ word → ⊥
 
-by_byte_same : (told : ℕ → Port) (word outs : ℕ) (p q : Port) → IsToldByByte told word outs p → IsToldByByte told word outs q → port_name outs p ≡ port_name outs q → p ≡ q
+by_byte_same : (told : ℕ → Port) (word outs : ℕ) (p q : Port) → IsToldByByte told word outs p → IsToldByByte told word outs q
+    → port_name outs p ≡ port_name outs q → p ≡ q
 by_byte_same told word outs p q t u e = sym t.is ∙ ap (λ n. told (first_byte n)) e ∙ u.is
 
 -- how an input is told by its name
@@ -142,7 +144,8 @@ output_name_one outs p l w h = cond-true _ _ _ h
 output_name_more : (outs p l w : ℕ) → (outs == 1) ≡ false → port_name outs (Out p l w) ≡ 111 ∷ (decimal p ++ (codes "_" ++ two l w))
 output_name_more outs p l w h = cond-false _ _ _ h
 
-output_words_same : (outs p l w q m v : ℕ) → p < outs → q < outs → HasNumbers (Out p l w) → HasNumbers (Out q m v) → port_name outs (Out p l w) ≡ port_name outs (Out q m v) → Out p l w ≡ Out q m v
+output_words_same : (outs p l w q m v : ℕ) → p < outs → q < outs → HasNumbers (Out p l w) → HasNumbers (Out q m v)
+    → port_name outs (Out p l w) ≡ port_name outs (Out q m v) → Out p l w ≡ Out q m v
 output_words_same outs p l w q m v hp hq np nq e = elim (cases_Bool (outs == 1)) [
   | inl one ↦
       let same : 111 ∷ 95 ∷ two l w ≡ 111 ∷ 95 ∷ two m v = sym (output_name_one outs p l w one) ∙ e ∙ output_name_one outs q m v one in
@@ -151,7 +154,8 @@ output_words_same outs p l w q m v hp hq np nq e = elim (cases_Bool (outs == 1))
       let z : p ≡ q = omega arith in
       (λ i. Out (z i) (r.0 i) (r.1 i))
   | inr more ↦
-      let same : 111 ∷ (decimal p ++ (codes "_" ++ two l w)) ≡ 111 ∷ (decimal q ++ (codes "_" ++ two m v)) = sym (output_name_more outs p l w more) ∙ e ∙ output_name_more outs q m v more in
+      let same : 111 ∷ (decimal p ++ (codes "_" ++ two l w)) ≡ 111 ∷ (decimal q ++ (codes "_" ++ two m v)) = sym (output_name_more outs p l w more) ∙ e ∙
+      output_name_more outs q m v more in
       let r = three_same p l w q m v np.0 np.1 np.2 nq.0 nq.1 nq.2 (tail_same 111 _ _ same) in
       (λ i. Out (r.0 i) (r.1.0 i) (r.1.1 i))
 ]
@@ -184,7 +188,8 @@ output_is outs (Stream SinkReady) h = absurd h
 output_is outs (In p l w) h = absurd h
 output_is outs (Plain k) h = absurd h
 
-output_name_same : (outs : ℕ) (p q : Port) → IsOutputPort outs p → IsOutputPort outs q → HasNumbers p → HasNumbers q → port_name outs p ≡ port_name outs q → p ≡ q
+output_name_same : (outs : ℕ) (p q : Port) → IsOutputPort outs p → IsOutputPort outs q → HasNumbers p → HasNumbers q → port_name outs p ≡ port_name outs q
+    → p ≡ q
 output_name_same outs p q hp hq np nq e = elim (output_is outs p hp) [
   | shown_by_byte t ↦ elim (output_is outs q hq) [
     | shown_by_byte u ↦ by_byte_same told_output 111 outs p q t u e
@@ -193,7 +198,8 @@ output_name_same outs p q hp hq np nq e = elim (output_is outs p hp) [
   | shown_by_word d l w low x ↦ elim (output_is outs q hq) [
     | shown_by_byte u ↦ absurd (u.other (ap first_byte (sym e ∙ ap (port_name outs) x) ∙ output_first outs d l w))
     | shown_by_word c m v few y ↦
-        x ∙ output_words_same outs d l w c m v low few (subst HasNumbers x np) (subst HasNumbers y nq) (sym (ap (port_name outs) x) ∙ e ∙ ap (port_name outs) y) ∙ sym y
+        x ∙ output_words_same outs d l w c m v low few (subst HasNumbers x np) (subst HasNumbers y nq)
+        (sym (ap (port_name outs) x) ∙ e ∙ ap (port_name outs) y) ∙ sym y
   ]
 ]
 
@@ -283,13 +289,15 @@ number_same lines j k hj hk e = elim (cases_Bool (lines j == 0)) [
     | inl b ↦ absurd (mixed _ _ (sym (without_line lines k b) ∙ sym e ∙ with_line lines j a))
     | inr b ↦
         let behind = tail_same 108 _ _ (sym (with_line lines j a) ∙ e ∙ with_line lines k b) in
-        let parts = cut_same (decimal (lines j)) (decimal (lines k)) (110 ∷ decimal j) (110 ∷ decimal k) (decimal_unbroken (lines j)) (decimal_unbroken (lines k)) behind in
+        let parts = cut_same (decimal (lines j)) (decimal (lines k)) (110 ∷ decimal j) (110 ∷ decimal k) (decimal_unbroken (lines j))
+        (decimal_unbroken (lines k)) behind in
         decimal_injective j k hj hk (tail_same 110 _ _ parts.1)
   ]
 ]
 
 -- a cell's name is that of an input, or its number
-cell_side : (lines : ℕ → ℕ) → (k : ℕ) (c : Cell) → ((port : Port) → c ≡ Input port → IsInputPort port) → (side (cell_name lines k c) ≡ 1) ⊎ (side (cell_name lines k c) ≡ 3)
+cell_side : (lines : ℕ → ℕ) → (k : ℕ) (c : Cell) → ((port : Port) → c ≡ Input port → IsInputPort port) → (side (cell_name lines k c) ≡ 1)
+    ⊎ (side (cell_name lines k c) ≡ 3)
 cell_side lines k (Input port) h = inl (input_side port (h port refl))
 cell_side lines k (Const v) h = inr (number_side lines k)
 cell_side lines k (Op op args) h = inr (number_side lines k)
@@ -317,48 +325,57 @@ module _ (lines : ℕ → ℕ) (cells : List SizedCell) (outlets : List Outlet) 
   output_numbers : (k : ℕ) (o : Outlet) → slice_get outlets k ≡ Some o → HasNumbers o.port
   output_numbers k o h = port_numbers o.port (all_at (λ (outlet : Outlet). PortFits outlet.port) outlets k o ok.outputs h)
 
-  input_at : (k : ℕ) (sized : SizedCell) (port : Port) → slice_get cells k ≡ Some sized → sized.cell ≡ Input port → slice_get cells k ≡ Some (record { width = sized.width; cell = Input port })
+  input_at : (k : ℕ) (sized : SizedCell) (port : Port) → slice_get cells k ≡ Some sized → sized.cell ≡ Input port
+      → slice_get cells k ≡ Some (record { width = sized.width; cell = Input port })
   input_at k sized port h e = h ∙ ap Some (ap (λ c. let s : SizedCell = record { width = sized.width; cell = c } in s) e)
 
   is_port : (k : ℕ) (sized : SizedCell) → slice_get cells k ≡ Some sized → (port : Port) → sized.cell ≡ Input port → IsInputPort port
   is_port k sized h port e = ok.ports.inputs k sized.width port (input_at k sized port h e)
 
-  other_side : (k : ℕ) (sized : SizedCell) (n : List ℕ) (x : ℕ) → slice_get cells k ≡ Some sized → side n ≡ x → (1 ≡ x → ⊥) → (3 ≡ x → ⊥) → cell_name lines k sized.cell ≡ n → ⊥
+  other_side : (k : ℕ) (sized : SizedCell) (n : List ℕ) (x : ℕ) → slice_get cells k ≡ Some sized → side n ≡ x → (1 ≡ x → ⊥) → (3 ≡ x → ⊥)
+      → cell_name lines k sized.cell ≡ n → ⊥
   other_side k sized n x h s input number e = elim (cell_side lines k sized.cell (is_port k sized h)) [
     | inl p ↦ sides_apart 1 x _ n p s input e
     | inr p ↦ sides_apart 3 x _ n p s number e
   ]
 
-  port_not_number : (k : ℕ) (sized : SizedCell) (port : Port) → slice_get cells k ≡ Some sized → sized.cell ≡ Input port → (j : ℕ) → cell_name lines k sized.cell ≡ number_name lines j → ⊥
+  port_not_number : (k : ℕ) (sized : SizedCell) (port : Port) → slice_get cells k ≡ Some sized → sized.cell ≡ Input port → (j : ℕ)
+      → cell_name lines k sized.cell ≡ number_name lines j → ⊥
   port_not_number k sized port h x j e =
-      sides_apart 1 3 _ (number_name lines j) (input_side port (is_port k sized h port x)) (number_side lines j) (λ z. omega (arith, z)) (ap (cell_name lines k) (sym x) ∙ e)
+      sides_apart 1 3 _ (number_name lines j) (input_side port (is_port k sized h port x)) (number_side lines j) (λ z. omega (arith, z))
+      (ap (cell_name lines k) (sym x) ∙ e)
 
   -- a cell's name is not the clock's, and no output's
   pub cell_not_clock : (k : ℕ) (sized : SizedCell) → slice_get cells k ≡ Some sized → cell_name lines k sized.cell ≡ clock_name → ⊥
   cell_not_clock k sized h e = other_side k sized clock_name 0 h clock_side (λ z. omega (arith, z)) (λ z. omega (arith, z)) e
 
-  pub cell_not_output : (k : ℕ) (sized : SizedCell) (j : ℕ) (o : Outlet) → slice_get cells k ≡ Some sized → slice_get outlets j ≡ Some o → cell_name lines k sized.cell ≡ port_name outs o.port → ⊥
+  pub cell_not_output : (k : ℕ) (sized : SizedCell) (j : ℕ) (o : Outlet) → slice_get cells k ≡ Some sized → slice_get outlets j ≡ Some o
+      → cell_name lines k sized.cell ≡ port_name outs o.port → ⊥
   cell_not_output k sized j o h g e =
       other_side k sized (port_name outs o.port) 2 h (output_side outs o.port (ok.ports.outputs j o g)) (λ z. omega (arith, z)) (λ z. omega (arith, z)) e
 
   pub clock_not_output : (j : ℕ) (o : Outlet) → slice_get outlets j ≡ Some o → clock_name ≡ port_name outs o.port → ⊥
   clock_not_output j o g e = sides_apart 0 2 _ (port_name outs o.port) clock_side (output_side outs o.port (ok.ports.outputs j o g)) (λ z. omega (arith, z)) e
 
-  pub output_once : (j k : ℕ) (a b : Outlet) → slice_get outlets j ≡ Some a → slice_get outlets k ≡ Some b → port_name outs a.port ≡ port_name outs b.port → j ≡ k
+  pub output_once : (j k : ℕ) (a b : Outlet) → slice_get outlets j ≡ Some a → slice_get outlets k ≡ Some b → port_name outs a.port ≡ port_name outs b.port
+      → j ≡ k
   output_once j k a b ha hb e =
-      ok.ports.outputs_differ j k a b ha hb (output_name_same outs a.port b.port (ok.ports.outputs j a ha) (ok.ports.outputs k b hb) (output_numbers j a ha) (output_numbers k b hb) e)
+      ok.ports.outputs_differ j k a b ha hb (output_name_same outs a.port b.port (ok.ports.outputs j a ha) (ok.ports.outputs k b hb) (output_numbers j a ha)
+      (output_numbers k b hb) e)
 
   pub number_fits : (k : ℕ) (sized : SizedCell) → slice_get cells k ≡ Some sized → k < 2 ^ 64
   number_fits k sized h = let w = slice_get_within cells k sized h in let f = ok.few in omega arith
 
-  pub cell_once : (j k : ℕ) (a b : SizedCell) → slice_get cells j ≡ Some a → slice_get cells k ≡ Some b → cell_name lines j a.cell ≡ cell_name lines k b.cell → j ≡ k
+  pub cell_once : (j k : ℕ) (a b : SizedCell) → slice_get cells j ≡ Some a → slice_get cells k ≡ Some b → cell_name lines j a.cell ≡ cell_name lines k b.cell
+      → j ≡ k
   cell_once j k a b ha hb e = elim (named_by lines j a.cell) [
     | by_port p x ↦ elim (named_by lines k b.cell) [
       | by_port q y ↦
           let here = input_at j a p ha x in
           let there = input_at k b q hb y in
           let names : port_name 1 p ≡ port_name 1 q = ap (cell_name lines j) (sym x) ∙ e ∙ ap (cell_name lines k) y in
-          let same : p ≡ q = input_name_same p q (ok.ports.inputs j a.width p here) (ok.ports.inputs k b.width q there) (input_numbers j a.width p here) (input_numbers k b.width q there) names in
+          let same : p ≡ q = input_name_same p q (ok.ports.inputs j a.width p here) (ok.ports.inputs k b.width q there) (input_numbers j a.width p here)
+          (input_numbers k b.width q there) names in
           ok.ports.inputs_differ j k a.width b.width q (subst (λ r. slice_get cells j ≡ Some (record { width = a.width; cell = Input r })) same here) there
       | by_number y ↦ absurd (port_not_number j a p ha x k (e ∙ y))
     ]

@@ -15,18 +15,23 @@ use Rattle.ae_verilog.specs.Written.{IsWritableNetlist}
 use Rattle.ae_spelled.proofs.LawNames.{cell_not_clock, cell_not_output, clock_not_output, output_once, cell_once}
 
 -- what is in a list of parts that are made one after the other
-pub among_listed : {X A : Type 0} (f : ℕ → X → List A) (a : A) (s : ℕ) (xs : List X) (j : ℕ) (x : X) → slice_get xs j ≡ Some x → Among a (f (s + j) x) → Among a (each_numbered f s xs)
+pub among_listed : {X A : Type 0} (f : ℕ → X → List A) (a : A) (s : ℕ) (xs : List X) (j : ℕ) (x : X) → slice_get xs j ≡ Some x → Among a (f (s + j) x)
+    → Among a (each_numbered f s xs)
 among_listed f a s [] j x h p = absurd (let e : None ≡ Some x = h in cc)
 among_listed f a s (y ∷ xs) zero x h p =
-    among_left a (f s y) (each_numbered f (s + 1) xs) (subst (λ z. Among a (f s z)) (let e : x ≡ y = (let o : Some y ≡ Some x = h in cc) in e) (subst (λ n. Among a (f n x)) (let e : s + 0 ≡ s = omega arith in e) p))
+    among_left a (f s y) (each_numbered f (s + 1) xs) (subst (λ z. Among a (f s z)) (let e : x ≡ y = (let o : Some y ≡ Some x = h in cc) in e)
+    (subst (λ n. Among a (f n x)) (let e : s + 0 ≡ s = omega arith in e) p))
 among_listed f a s (y ∷ xs) (suc j) x h p =
-    among_right a (f s y) (each_numbered f (s + 1) xs) (among_listed f a (s + 1) xs j x h (subst (λ n. Among a (f n x)) (let e : s + suc j ≡ s + 1 + j = omega arith in e) p))
+    among_right a (f s y) (each_numbered f (s + 1) xs) (among_listed f a (s + 1) xs j x h
+    (subst (λ n. Among a (f n x)) (let e : s + suc j ≡ s + 1 + j = omega arith in e) p))
 
-pub listed_among : {X A : Type 0} (f : ℕ → X → List A) (a : A) (s : ℕ) (xs : List X) → Among a (each_numbered f s xs) → (j : ℕ) × (x : X) × (slice_get xs j ≡ Some x) × Among a (f (s + j) x)
+pub listed_among : {X A : Type 0} (f : ℕ → X → List A) (a : A) (s : ℕ) (xs : List X) → Among a (each_numbered f s xs) → (j : ℕ) × (x : X)
+    × (slice_get xs j ≡ Some x) × Among a (f (s + j) x)
 listed_among f a s [] h = absurd h
 listed_among f a s (y ∷ xs) h = elim (among_split a (f s y) (each_numbered f (s + 1) xs) h) [
   | inl here ↦ (0, y, refl, subst (λ n. Among a (f n y)) (let e : s ≡ s + 0 = omega arith in e) here)
-  | inr later ↦ let r = listed_among f a (s + 1) xs later in (suc r.0, r.1, r.2, subst (λ n. Among a (f n r.1)) (let e : s + 1 + r.0 ≡ s + suc r.0 = omega arith in e) r.3)
+  | inr later ↦ let r = listed_among f a (s + 1) xs later in
+      (suc r.0, r.1, r.2, subst (λ n. Among a (f n r.1)) (let e : s + 1 + r.0 ≡ s + suc r.0 = omega arith in e) r.3)
 ]
 
 -- how many of the first n cells are no inputs
@@ -42,7 +47,8 @@ others (suc n) (x ∷ xs) = is_other x.cell + others n xs
 pub others_grow : (xs : List SizedCell) (a n : ℕ) (x : SizedCell) → slice_get xs a ≡ Some x → a < n → others a xs + is_other x.cell ≤ others n xs
 others_grow [] a n x h l = absurd (let e : None ≡ Some x = h in cc)
 others_grow (y ∷ xs) a zero x h l = absurd (omega arith)
-others_grow (y ∷ xs) zero (suc n) x h l = let e : y ≡ x = (let o : Some y ≡ Some x = h in cc) in subst (λ z. 0 + is_other z.cell ≤ is_other y.cell + others n xs) e (omega arith)
+others_grow (y ∷ xs) zero (suc n) x h l =
+    let e : y ≡ x = (let o : Some y ≡ Some x = h in cc) in subst (λ z. 0 + is_other z.cell ≤ is_other y.cell + others n xs) e (omega arith)
 others_grow (y ∷ xs) (suc a) (suc n) x h l = let r = others_grow xs a n x h (omega arith) in omega arith
 
 -- the net of a cell, where so many items stand before its own
@@ -83,7 +89,8 @@ of_input lines item k width (Reg next) y h = absurd h
 of_input lines item k width (Mem depth at next enable) y h = absurd h
 of_input lines item k width (Peek mem at) y h = absurd h
 
-in_either : (lines : ℕ → ℕ) → (item k width : ℕ) (c : Cell) → Among (net_from lines item k width c) (input_nets width c) ⊎ Among (net_from lines item k width c) (declared_nets lines item k width c)
+in_either : (lines : ℕ → ℕ) → (item k width : ℕ) (c : Cell) → Among (net_from lines item k width c) (input_nets width c)
+    ⊎ Among (net_from lines item k width c) (declared_nets lines item k width c)
 in_either lines item k width (Input port) = inl (inl refl)
 in_either lines item k width (Const v) = inr (inl refl)
 in_either lines item k width (Op op args) = inr (inl refl)
@@ -91,19 +98,25 @@ in_either lines item k width (Reg next) = inr (inl refl)
 in_either lines item k width (Mem depth at next enable) = inr (inl refl)
 in_either lines item k width (Peek mem at) = inr (inl refl)
 
-among_declared : (lines : ℕ → ℕ) → (y : NetTree) (item k : ℕ) (xs : List SizedCell) (j : ℕ) (x : SizedCell) → slice_get xs j ≡ Some x → Among y (declared_nets lines (item + others j xs) (k + j) x.width x.cell) → Among y (declared_from lines item k xs)
+among_declared : (lines : ℕ → ℕ) → (y : NetTree) (item k : ℕ) (xs : List SizedCell) (j : ℕ) (x : SizedCell) → slice_get xs j ≡ Some x
+    → Among y (declared_nets lines (item + others j xs) (k + j) x.width x.cell) → Among y (declared_from lines item k xs)
 among_declared lines y item k [] j x h p = absurd (let e : None ≡ Some x = h in cc)
 among_declared lines y item k (z ∷ xs) zero x h p =
     let e : x ≡ z = (let o : Some z ≡ Some x = h in cc) in
     among_left y (declared_nets lines item k z.width z.cell) _ (subst (λ (u : SizedCell). Among y (declared_nets lines item k u.width u.cell)) e
-    (subst (λ n. Among y (declared_nets lines item n x.width x.cell)) (let q : k + 0 ≡ k = omega arith in q) (subst (λ n. Among y (declared_nets lines n (k + 0) x.width x.cell)) (let q : item + 0 ≡ item = omega arith in q) p)))
+    (subst (λ n. Among y (declared_nets lines item n x.width x.cell)) (let q : k + 0 ≡ k = omega arith in q)
+    (subst (λ n. Among y (declared_nets lines n (k + 0) x.width x.cell)) (let q : item + 0 ≡ item = omega arith in q) p)))
 among_declared lines y item k (z ∷ xs) (suc j) x h p =
     let long = declared_length lines item k z.width z.cell in
-    among_right y (declared_nets lines item k z.width z.cell) _ (among_declared lines y (item + length (declared_nets lines item k z.width z.cell)) (k + 1) xs j x h
-    (subst (λ n. Among y (declared_nets lines (item + length (declared_nets lines item k z.width z.cell) + others j xs) n x.width x.cell)) (let q : k + suc j ≡ k + 1 + j = omega arith in q)
-    (subst (λ n. Among y (declared_nets lines n (k + suc j) x.width x.cell)) (let q : item + (is_other z.cell + others j xs) ≡ item + length (declared_nets lines item k z.width z.cell) + others j xs = omega arith in q) p)))
+    among_right y (declared_nets lines item k z.width z.cell) _
+    (among_declared lines y (item + length (declared_nets lines item k z.width z.cell)) (k + 1) xs j x h
+    (subst (λ n. Among y (declared_nets lines (item + length (declared_nets lines item k z.width z.cell) + others j xs) n x.width x.cell))
+    (let q : k + suc j ≡ k + 1 + j = omega arith in q)
+    (subst (λ n. Among y (declared_nets lines n (k + suc j) x.width x.cell))
+    (let q : item + (is_other z.cell + others j xs) ≡ item + length (declared_nets lines item k z.width z.cell) + others j xs = omega arith in q) p)))
 
-declared_among : (lines : ℕ → ℕ) → (y : NetTree) (item k : ℕ) (xs : List SizedCell) → Among y (declared_from lines item k xs) → (j : ℕ) × (x : SizedCell) × (slice_get xs j ≡ Some x) × (y ≡ net_from lines (item + others j xs) (k + j) x.width x.cell)
+declared_among : (lines : ℕ → ℕ) → (y : NetTree) (item k : ℕ) (xs : List SizedCell) → Among y (declared_from lines item k xs) → (j : ℕ) × (x : SizedCell)
+    × (slice_get xs j ≡ Some x) × (y ≡ net_from lines (item + others j xs) (k + j) x.width x.cell)
 declared_among lines y item k [] h = absurd h
 declared_among lines y item k (z ∷ xs) h = elim (among_split y (declared_nets lines item k z.width z.cell) _ h) [
   | inl here ↦
@@ -154,15 +167,20 @@ module _ (lines : ℕ → ℕ) (cells : List SizedCell) (outlets : List Outlet) 
   clock_among = inl refl
 
   pub output_among : (j : ℕ) (o : Outlet) → slice_get outlets j ≡ Some o → Among (output_net cells outs o) written.nets
-  output_among j o h = inr (among_right _ (inputs_of cells) _ (among_left _ (map (output_net cells outs) outlets) (declared_from lines 1 0 cells) (among_map (output_net cells outs) o outlets (among_from o outlets j h))))
+  output_among j o h = inr (among_right _ (inputs_of cells) _
+      (among_left _ (map (output_net cells outs) outlets) (declared_from lines 1 0 cells)
+      (among_map (output_net cells outs) o outlets (among_from o outlets j h))))
 
   pub cell_among : (k : ℕ) (x : SizedCell) → slice_get cells k ≡ Some x → Among (cell_net k x) written.nets
   cell_among k x h =
       let b : k ≡ 0 + k = omega arith in
       elim (in_either lines (1 + others k cells) k x.width x.cell) [
-        | inl i ↦ inr (among_left (cell_net k x) (inputs_of cells) _ (among_listed (λ net (sized : SizedCell). input_nets sized.width sized.cell) (cell_net k x) 0 cells k x h i))
-        | inr d ↦ inr (among_right (cell_net k x) (inputs_of cells) _ (among_right (cell_net k x) (map (output_net cells outs) outlets) (declared_from lines 1 0 cells)
-            (among_declared lines (cell_net k x) 1 0 cells k x h (subst (λ n. Among (cell_net k x) (declared_nets lines (1 + others k cells) n x.width x.cell)) b d))))
+        | inl i ↦ inr (among_left (cell_net k x) (inputs_of cells) _
+            (among_listed (λ net (sized : SizedCell). input_nets sized.width sized.cell) (cell_net k x) 0 cells k x h i))
+        | inr d ↦ inr (among_right (cell_net k x) (inputs_of cells) _
+            (among_right (cell_net k x) (map (output_net cells outs) outlets) (declared_from lines 1 0 cells)
+            (among_declared lines (cell_net k x) 1 0 cells k x h
+            (subst (λ n. Among (cell_net k x) (declared_nets lines (1 + others k cells) n x.width x.cell)) b d))))
       ]
 
   pub name_of : (k : ℕ) (x : SizedCell) → slice_get cells k ≡ Some x → net_name lines cells k ≡ cell_name lines k x.cell
@@ -173,7 +191,8 @@ module _ (lines : ℕ → ℕ) (cells : List SizedCell) (outlets : List Outlet) 
     -- each name is declared once
     pub cell_named : (k : ℕ) (x : SizedCell) → slice_get cells k ≡ Some x → net_named written.nets (cell_name lines k x.cell) ≡ Some (cell_net k x)
     unfolding net_named
-    cell_named k x h = find_only (λ (y : NetTree). bytes_eq y.name (cell_name lines k x.cell)) written.nets (cell_net k x) (cell_among k x h) (bytes_same (cell_name lines k x.cell) (cell_name lines k x.cell) refl) (λ y a t.
+    cell_named k x h = find_only (λ (y : NetTree). bytes_eq y.name (cell_name lines k x.cell)) written.nets (cell_net k x) (cell_among k x h)
+        (bytes_same (cell_name lines k x.cell) (cell_name lines k x.cell) refl) (λ y a t.
         let same : y.name ≡ cell_name lines k x.cell = same_bytes y.name (cell_name lines k x.cell) t in
         elim (origin y a) [
           | the_clock e ↦ absurd (cell_not_clock lines cells outlets outs ok k x h (sym same ∙ ap (λ (z : NetTree). z.name) e))
@@ -187,7 +206,8 @@ module _ (lines : ℕ → ℕ) (cells : List SizedCell) (outlets : List Outlet) 
 
     pub output_named : (j : ℕ) (o : Outlet) → slice_get outlets j ≡ Some o → net_named written.nets (port_name outs o.port) ≡ Some (output_net cells outs o)
     unfolding net_named
-    output_named j o h = find_only (λ (y : NetTree). bytes_eq y.name (port_name outs o.port)) written.nets (output_net cells outs o) (output_among j o h) (bytes_same (port_name outs o.port) (port_name outs o.port) refl) (λ y a t.
+    output_named j o h = find_only (λ (y : NetTree). bytes_eq y.name (port_name outs o.port)) written.nets (output_net cells outs o) (output_among j o h)
+        (bytes_same (port_name outs o.port) (port_name outs o.port) refl) (λ y a t.
         let same : y.name ≡ port_name outs o.port = same_bytes y.name (port_name outs o.port) t in
         elim (origin y a) [
           | the_clock e ↦ absurd (clock_not_output lines cells outlets outs ok j o h (sym (ap (λ (z : NetTree). z.name) e) ∙ same))

@@ -42,7 +42,8 @@ pub other_number : (a b : ℕ) → (a ≡ b → ⊥) → (a == b) ≡ false
 other_number a b h = elim (cases_Bool (a == b)) [ inl e ↦ absurd (h (eqb-true a b e)) | inr e ↦ e ]
 
 -- a connected memory is written
-pub written_memory : (own width depth : ℕ) (at next enable : NetId) (cells : List SizedCell) → c_counts.AreWhole cells → c.IsFormed cells → slice_get cells own ≡ Some (record { width = width; cell = Mem depth at next enable }) → c.IsWritten cells width depth at.0 next.0 enable.0
+pub written_memory : (own width depth : ℕ) (at next enable : NetId) (cells : List SizedCell) → c_counts.AreWhole cells → c.IsFormed cells
+    → slice_get cells own ≡ Some (record { width = width; cell = Mem depth at next enable }) → c.IsWritten cells width depth at.0 next.0 enable.0
 written_memory own width depth at next enable cells whole formed h =
     let fits = (formed.each own _ h).cell in
     let w = whole.each own width depth at next enable h in
@@ -65,7 +66,8 @@ module _ (lines : ℕ → ℕ) (cells : List SizedCell) (outlets : List Outlet) 
   net_in : List ℕ → ℕ
   net_in n = number_in (find (λ (e : List ℕ × ℕ). bytes_eq e.0 n) table)
 
-  in_table : (e : List ℕ × ℕ) → Among e table → ((k : ℕ) × (x : SizedCell) × (slice_get cells k ≡ Some x) × (e ≡ (cell_name lines k x.cell, k))) ⊎ ((j : ℕ) × (o : Outlet) × (slice_get outlets j ≡ Some o) × (e ≡ output_entry o))
+  in_table : (e : List ℕ × ℕ) → Among e table → ((k : ℕ) × (x : SizedCell) × (slice_get cells k ≡ Some x) × (e ≡ (cell_name lines k x.cell, k)))
+      ⊎ ((j : ℕ) × (o : Outlet) × (slice_get outlets j ≡ Some o) × (e ≡ output_entry o))
   unfolding table
   in_table e a = elim (among_split e (each_numbered cell_entry 0 cells) (map output_entry outlets) a) [
     | inl b ↦
@@ -79,8 +81,11 @@ module _ (lines : ℕ → ℕ) (cells : List SizedCell) (outlets : List Outlet) 
   unfolding table net_in number_in
   cell_in k x h =
       let n : k ≡ 0 + k = omega arith in
-      let here : Among (cell_name lines k x.cell, k) table = among_left (cell_name lines k x.cell, k) (each_numbered cell_entry 0 cells) (map output_entry outlets) (among_listed cell_entry (cell_name lines k x.cell, k) 0 cells k x h (inl (λ i. (cell_name lines (sym n i) x.cell, sym n i)))) in
-      ap number_in (find_only (λ (e : List ℕ × ℕ). bytes_eq e.0 (cell_name lines k x.cell)) table (cell_name lines k x.cell, k) here (bytes_same (cell_name lines k x.cell) (cell_name lines k x.cell) refl) (λ e a t.
+      let here : Among (cell_name lines k x.cell, k) table = among_left (cell_name lines k x.cell, k) (each_numbered cell_entry 0 cells)
+      (map output_entry outlets) (among_listed cell_entry (cell_name lines k x.cell, k) 0 cells k x h
+      (inl (λ i. (cell_name lines (sym n i) x.cell, sym n i)))) in
+      ap number_in (find_only (λ (e : List ℕ × ℕ). bytes_eq e.0 (cell_name lines k x.cell)) table (cell_name lines k x.cell, k) here
+      (bytes_same (cell_name lines k x.cell) (cell_name lines k x.cell) refl) (λ e a t.
       let same : e.0 ≡ cell_name lines k x.cell = same_bytes e.0 (cell_name lines k x.cell) t in
       elim (in_table e a) [
         | inl p ↦
@@ -94,8 +99,10 @@ module _ (lines : ℕ → ℕ) (cells : List SizedCell) (outlets : List Outlet) 
   output_in : (j : ℕ) (o : Outlet) → slice_get outlets j ≡ Some o → net_in (port_name outs o.port) ≡ o.net.0
   unfolding table net_in number_in
   output_in j o h =
-      let here : Among (output_entry o) table = among_right (output_entry o) (each_numbered cell_entry 0 cells) (map output_entry outlets) (among_map output_entry o outlets (among_from o outlets j h)) in
-      ap number_in (find_only (λ (e : List ℕ × ℕ). bytes_eq e.0 (port_name outs o.port)) table (output_entry o) here (bytes_same (port_name outs o.port) (port_name outs o.port) refl) (λ e a t.
+      let here : Among (output_entry o) table = among_right (output_entry o) (each_numbered cell_entry 0 cells) (map output_entry outlets)
+      (among_map output_entry o outlets (among_from o outlets j h)) in
+      ap number_in (find_only (λ (e : List ℕ × ℕ). bytes_eq e.0 (port_name outs o.port)) table (output_entry o) here
+      (bytes_same (port_name outs o.port) (port_name outs o.port) refl) (λ e a t.
       let same : e.0 ≡ port_name outs o.port = same_bytes e.0 (port_name outs o.port) t in
       elim (in_table e a) [
         | inl p ↦ absurd (cell_not_output lines cells outlets outs ok p.0 p.1 j o p.2 h (sym (ap (λ (u : List ℕ × ℕ). u.0) p.3) ∙ same))
@@ -138,7 +145,8 @@ module _ (lines : ℕ → ℕ) (cells : List SizedCell) (outlets : List Outlet) 
       stores = λ k w d h. (holds_at t k _ l h.found).2;
     }
 
-    makes : (t k width : ℕ) (l : t < length run) (cell : Cell) → slice_get cells k ≡ Some (record { width = width; cell = cell }) → Makes lines cells outlets outs ok (read t) (r.word_at run t) (r.store_at run t) (reads t l) k cell
+    makes : (t k width : ℕ) (l : t < length run) (cell : Cell) → slice_get cells k ≡ Some (record { width = width; cell = cell })
+        → Makes lines cells outlets outs ok (read t) (r.word_at run t) (r.store_at run t) (reads t l) k cell
     makes t k width l (Input port) h = tt
     makes t k width l (Const v) h = is.settles t k _ l h
     makes t k width l (Op op args) h = is.settles t k _ l h
@@ -147,9 +155,11 @@ module _ (lines : ℕ → ℕ) (cells : List SizedCell) (outlets : List Outlet) 
     makes t k width l (Peek mem at) h = is.settles t k _ l h
 
     settled : (t : ℕ) → t < length run → IsSettled (written lines cells outlets outs) (read t)
-    settled t l = settled_from lines cells outlets outs ok (read t) (r.word_at run t) (r.store_at run t) (reads t l) (λ k x h. makes t k x.width l x.cell h) (λ j o h. word_of_output t j o h)
+    settled t l = settled_from lines cells outlets outs ok (read t) (r.word_at run t) (r.store_at run t) (reads t l) (λ k x h. makes t k x.width l x.cell h)
+        (λ j o h. word_of_output t j o h)
 
-    cell_holds : (t k width : ℕ) (cell : Cell) → t < length run → slice_get cells k ≡ Some (record { width = width; cell = cell }) → FitsKind (cell_net lines cells outlets outs k (record { width = width; cell = cell })).kind width (r.word_at run t k) (r.store_at run t k)
+    cell_holds : (t k width : ℕ) (cell : Cell) → t < length run → slice_get cells k ≡ Some (record { width = width; cell = cell })
+        → FitsKind (cell_net lines cells outlets outs k (record { width = width; cell = cell })).kind width (r.word_at run t k) (r.store_at run t k)
     cell_holds t k width (Input port) l h = (holds_at t k _ l h).0
     cell_holds t k width (Const v) l h = (holds_at t k _ l h).0
     cell_holds t k width (Op op args) l h = (holds_at t k _ l h).0
@@ -160,11 +170,14 @@ module _ (lines : ℕ → ℕ) (cells : List SizedCell) (outlets : List Outlet) 
     shaped : (t : ℕ) → t < length run → IsModuleShaped (written lines cells outlets outs) (read t)
     shaped t l = record {
       holds = λ y a no_clock. elim (origin lines cells outlets outs y a) [
-        | the_clock e ↦ absurd (both_ways _ no_clock (ap (λ (z : NetTree). is_clock (written lines cells outlets outs) z.name) e ∙ clock_is_clock lines cells outlets outs ok))
+        | the_clock e ↦ absurd (both_ways _ no_clock (ap (λ (z : NetTree). is_clock (written lines cells outlets outs) z.name) e ∙
+            clock_is_clock lines cells outlets outs ok))
         | a_cell k x h e ↦
             subst (λ (z : NetTree). FitsKind z.kind z.width ((read t).word z.name) ((read t).store z.name)) (sym e)
-            (subst (λ v. FitsKind (cell_net lines cells outlets outs k x).kind x.width v ((read t).store (cell_name lines k x.cell))) (sym (word_of_cell t k x h))
-            (subst (λ s. FitsKind (cell_net lines cells outlets outs k x).kind x.width (r.word_at run t k) s) (sym (store_of_cell t k x h)) (cell_holds t k x.width x.cell l h)))
+            (subst (λ v. FitsKind (cell_net lines cells outlets outs k x).kind x.width v ((read t).store (cell_name lines k x.cell)))
+            (sym (word_of_cell t k x h))
+            (subst (λ s. FitsKind (cell_net lines cells outlets outs k x).kind x.width (r.word_at run t k) s) (sym (store_of_cell t k x h))
+            (cell_holds t k x.width x.cell l h)))
         | an_output j o h e ↦
             subst (λ (z : NetTree). FitsKind z.kind z.width ((read t).word z.name) ((read t).store z.name)) (sym e)
             (subst (λ v. v < 2 ^ c.width_of cells o.net.0) (sym (word_of_output t j o h)) (net_fits t o.net.0 _ l (ok.shown.each j o h)))
@@ -172,25 +185,33 @@ module _ (lines : ℕ → ℕ) (cells : List SizedCell) (outlets : List Outlet) 
     }
 
     cell_steps : (t k width : ℕ) (cell : Cell) → t + 1 < length run → slice_get cells k ≡ Some (record { width = width; cell = cell })
-        → let y : NetTree = cell_net lines cells outlets outs k (record { width = width; cell = cell }) in StepsTo y.kind ((next_clock (written lines cells outlets outs) (read t)).word y.name) ((read (t + 1)).word y.name) ((next_clock (written lines cells outlets outs) (read t)).store y.name) ((read (t + 1)).store y.name)
+        → let y : NetTree = cell_net lines cells outlets outs k (record { width = width; cell = cell }) in
+        StepsTo y.kind ((next_clock (written lines cells outlets outs) (read t)).word y.name) ((read (t + 1)).word y.name)
+        ((next_clock (written lines cells outlets outs) (read t)).store y.name) ((read (t + 1)).store y.name)
     cell_steps t k width (Input port) l h = tt
     cell_steps t k width (Const v) l h = tt
     cell_steps t k width (Op op args) l h = tt
     cell_steps t k width (Peek mem at) l h = tt
     cell_steps t k width (Reg next) l h =
-        word_of_cell (t + 1) k _ h ∙ is.steps t k _ l h ∙ sym (register_next lines cells outlets outs ok (read t) (r.word_at run t) (r.store_at run t) (reads t (omega arith)) k width next h)
+        word_of_cell (t + 1) k _ h ∙ is.steps t k _ l h ∙ sym
+        (register_next lines cells outlets outs ok (read t) (r.word_at run t) (r.store_at run t) (reads t (omega arith)) k width next h)
     cell_steps t k width (Mem depth at next enable) l h =
         let w = ok.whole.each k width depth at next enable h in
         store_of_cell (t + 1) k _ h ∙ is.steps t k _ l h
         ∙ cond-false _ (r.store_at run t k) _ (other_number enable.0 k w.connected)
-        ∙ sym (memory_next lines cells outlets outs ok (read t) (r.word_at run t) (r.store_at run t) (reads t (omega arith)) k width depth at next enable h (written_memory k width depth at next enable cells ok.whole ok.formed h))
+        ∙ sym (memory_next lines cells outlets outs ok (read t) (r.word_at run t) (r.store_at run t) (reads t (omega arith)) k width depth at next enable h
+        (written_memory k width depth at next enable cells ok.whole ok.formed h))
 
     steps : (t : ℕ) → t + 1 < length run → IsStep (written lines cells outlets outs) (read t) (read (t + 1))
     steps t l = record {
       steps = λ y a. elim (origin lines cells outlets outs y a) [
-        | the_clock e ↦ subst (λ (z : NetTree). StepsTo z.kind ((next_clock (written lines cells outlets outs) (read t)).word z.name) ((read (t + 1)).word z.name) ((next_clock (written lines cells outlets outs) (read t)).store z.name) ((read (t + 1)).store z.name)) (sym e) tt
-        | a_cell k x h e ↦ subst (λ (z : NetTree). StepsTo z.kind ((next_clock (written lines cells outlets outs) (read t)).word z.name) ((read (t + 1)).word z.name) ((next_clock (written lines cells outlets outs) (read t)).store z.name) ((read (t + 1)).store z.name)) (sym e) (cell_steps t k x.width x.cell l h)
-        | an_output j o h e ↦ subst (λ (z : NetTree). StepsTo z.kind ((next_clock (written lines cells outlets outs) (read t)).word z.name) ((read (t + 1)).word z.name) ((next_clock (written lines cells outlets outs) (read t)).store z.name) ((read (t + 1)).store z.name)) (sym e) tt
+        | the_clock e ↦ subst (λ (z : NetTree). StepsTo z.kind ((next_clock (written lines cells outlets outs) (read t)).word z.name)
+            ((read (t + 1)).word z.name) ((next_clock (written lines cells outlets outs) (read t)).store z.name) ((read (t + 1)).store z.name)) (sym e) tt
+        | a_cell k x h e ↦ subst (λ (z : NetTree). StepsTo z.kind ((next_clock (written lines cells outlets outs) (read t)).word z.name)
+            ((read (t + 1)).word z.name) ((next_clock (written lines cells outlets outs) (read t)).store z.name) ((read (t + 1)).store z.name)) (sym e)
+            (cell_steps t k x.width x.cell l h)
+        | an_output j o h e ↦ subst (λ (z : NetTree). StepsTo z.kind ((next_clock (written lines cells outlets outs) (read t)).word z.name)
+            ((read (t + 1)).word z.name) ((next_clock (written lines cells outlets outs) (read t)).store z.name) ((read (t + 1)).store z.name)) (sym e) tt
       ];
     }
 
@@ -215,15 +236,19 @@ module _ (lines : ℕ → ℕ) (cells : List SizedCell) (outlets : List Outlet) 
       steps = λ t l.
           let h : t + 1 < length run = within (t + 1) l in
           let here : t < length run = omega arith in
-          subst (λ z. IsStep (written lines cells outlets outs) z (clock_at run_by_name (t + 1))) (sym (at_is t here)) (subst (IsStep (written lines cells outlets outs) (read t)) (sym (at_is (t + 1) h)) (steps t h));
+          subst (λ z. IsStep (written lines cells outlets outs) z (clock_at run_by_name (t + 1))) (sym (at_is t here))
+          (subst (IsStep (written lines cells outlets outs) (read t)) (sym (at_is (t + 1) h)) (steps t h));
     }
 
     -- it has the words of the netlist's run
-    pub by_name_word : (t k : ℕ) (x : SizedCell) → t < length run → slice_get cells k ≡ Some x → (clock_at run_by_name t).word (cell_name lines k x.cell) ≡ r.word_at run t k
+    pub by_name_word : (t k : ℕ) (x : SizedCell) → t < length run → slice_get cells k ≡ Some x
+        → (clock_at run_by_name t).word (cell_name lines k x.cell) ≡ r.word_at run t k
     by_name_word t k x l h = ap (λ (z : ModuleClock). z.word (cell_name lines k x.cell)) (at_is t l) ∙ word_of_cell t k x h
 
-    pub by_name_store : (t k : ℕ) (x : SizedCell) → t < length run → slice_get cells k ≡ Some x → (clock_at run_by_name t).store (cell_name lines k x.cell) ≡ r.store_at run t k
+    pub by_name_store : (t k : ℕ) (x : SizedCell) → t < length run → slice_get cells k ≡ Some x
+        → (clock_at run_by_name t).store (cell_name lines k x.cell) ≡ r.store_at run t k
     by_name_store t k x l h = ap (λ (z : ModuleClock). z.store (cell_name lines k x.cell)) (at_is t l) ∙ store_of_cell t k x h
 
-    pub by_name_output : (t j : ℕ) (o : Outlet) → t < length run → slice_get outlets j ≡ Some o → (clock_at run_by_name t).word (port_name outs o.port) ≡ r.word_at run t o.net.0
+    pub by_name_output : (t j : ℕ) (o : Outlet) → t < length run → slice_get outlets j ≡ Some o
+        → (clock_at run_by_name t).word (port_name outs o.port) ≡ r.word_at run t o.net.0
     by_name_output t j o l h = ap (λ (z : ModuleClock). z.word (port_name outs o.port)) (at_is t l) ∙ word_of_output t j o h

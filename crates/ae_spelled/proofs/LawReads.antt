@@ -37,7 +37,14 @@ module _ (lines : ℕ → ℕ) (cells : List SizedCell) (outlets : List Outlet) 
   below_net : (k a w : ℕ) (n : List ℕ) → c.IsNet (take k cells) a w → net_name lines cells a ≡ n → IsCellBelow k n
   below_net k a w n h e =
       let there = get_from_take cells k a h.sized h.found in
-      record { at = a; sized = h.sized; found = there; below = get_take_within cells k a h.sized h.found; named = sym e ∙ name_of lines cells outlets outs a h.sized there }
+      record {
+        at = a;
+        sized = h.sized;
+        found = there;
+        below = get_take_within cells k a h.sized h.found;
+        named = sym e ∙
+            name_of lines cells outlets outs a h.sized there;
+      }
 
   below_memory : (k a w d : ℕ) (n : List ℕ) → c.IsMemory (take k cells) a w d → net_name lines cells a ≡ n → IsCellBelow k n
   below_memory k a w d n h e =
@@ -50,14 +57,17 @@ module _ (lines : ℕ → ℕ) (cells : List SizedCell) (outlets : List Outlet) 
   one_name : (k a w : ℕ) (n : List ℕ) → c.IsNet (take k cells) a w → Among n (net_name lines cells a ∷ []) → IsCellBelow k n
   one_name k a w n h r = elim r [ inl e ↦ below_net k a w n h e | inr none ↦ absurd none ]
 
-  two_names : (k a b u v : ℕ) (n : List ℕ) → c.IsNet (take k cells) a u → c.IsNet (take k cells) b v → Among n (net_name lines cells a ∷ net_name lines cells b ∷ []) → IsCellBelow k n
+  two_names : (k a b u v : ℕ) (n : List ℕ) → c.IsNet (take k cells) a u → c.IsNet (take k cells) b v
+      → Among n (net_name lines cells a ∷ net_name lines cells b ∷ []) → IsCellBelow k n
   two_names k a b u v n ha hb r = elim r [ inl e ↦ below_net k a u n ha e | inr l ↦ one_name k b v n hb l ]
 
-  either_one : (k a w : ℕ) (n : List ℕ) (t : Bool) (x y : ExprTree) → c.IsNet (take k cells) a w → (Among n (names_in x) → IsCellBelow k n) → (Among n (names_in y) → IsCellBelow k n) → Among n (names_in (if t then x else y)) → IsCellBelow k n
+  either_one : (k a w : ℕ) (n : List ℕ) (t : Bool) (x y : ExprTree) → c.IsNet (take k cells) a w → (Among n (names_in x) → IsCellBelow k n)
+      → (Among n (names_in y) → IsCellBelow k n) → Among n (names_in (if t then x else y)) → IsCellBelow k n
   either_one k a w n true x y h p q r = p r
   either_one k a w n false x y h p q r = q r
 
-  op_reads : (k r : ℕ) (op : WordOp) (args : List NetId) (n : List ℕ) → c.IsOperation (take k cells) op args r → Among n (names_in (op_expression lines cells r op (c.operand args 0) (c.operand args 1) (c.operand args 2))) → IsCellBelow k n
+  op_reads : (k r : ℕ) (op : WordOp) (args : List NetId) (n : List ℕ) → c.IsOperation (take k cells) op args r
+      → Among n (names_in (op_expression lines cells r op (c.operand args 0) (c.operand args 1) (c.operand args 2))) → IsCellBelow k n
   op_reads k r Add args n h a = two_names k _ _ _ _ n h.operands.0 h.operands.1 a
   op_reads k r Sub args n h a = two_names k _ _ _ _ n h.operands.0 h.operands.1 a
   op_reads k r Mul args n h a = two_names k _ _ _ _ n h.operands.0 h.operands.1 a
@@ -67,12 +77,24 @@ module _ (lines : ℕ → ℕ) (cells : List SizedCell) (outlets : List Outlet) 
   op_reads k r Eq args n h a = two_names k _ _ _ _ n h.operands.0 h.operands.1 a
   op_reads k r Lt args n h a = two_names k _ _ _ _ n h.operands.0 h.operands.1 a
   op_reads k r Not args n h a = one_name k _ _ n h.operands.0 a
-  op_reads k r Min args n h a = elim a [ inl e ↦ below_net k _ _ n h.operands.0 e | inr b ↦ elim b [ inl e ↦ below_net k _ _ n h.operands.1 e | inr l ↦ two_names k _ _ _ _ n h.operands.0 h.operands.1 l ] ]
-  op_reads k r Max args n h a = elim a [ inl e ↦ below_net k _ _ n h.operands.0 e | inr b ↦ elim b [ inl e ↦ below_net k _ _ n h.operands.1 e | inr l ↦ two_names k _ _ _ _ n h.operands.1 h.operands.0 l ] ]
+  op_reads k r Min args n h a = elim a [
+    | inl e ↦ below_net k _ _ n h.operands.0 e
+    | inr
+        b ↦ elim b [ inl e ↦ below_net k _ _ n h.operands.1 e | inr l ↦ two_names k _ _ _ _ n h.operands.0 h.operands.1 l ]
+  ]
+  op_reads k r Max args n h a = elim a [
+    | inl e ↦ below_net k _ _ n h.operands.0 e
+    | inr
+        b ↦ elim b [ inl e ↦ below_net k _ _ n h.operands.1 e | inr l ↦ two_names k _ _ _ _ n h.operands.1 h.operands.0 l ]
+  ]
   op_reads k r Mux args n h a = elim a [ inl e ↦ below_net k _ _ n h.operands.0 e | inr l ↦ two_names k _ _ _ _ n h.operands.1 h.operands.2 l ]
-  op_reads k r (Shl by) args n h a = either_one k _ _ n (nat_lt by r) (binary LeftBy (net_value lines cells (c.operand args 0)) (constant 6 by true)) (constant r 0 true) h.operands.0 (λ b. one_name k _ _ n h.operands.0 b) (λ b. absurd b) a
-  op_reads k r (Shr by) args n h a = either_one k _ _ n (nat_lt by r) (binary RightBy (net_value lines cells (c.operand args 0)) (constant 6 by true)) (constant r 0 true) h.operands.0 (λ b. one_name k _ _ n h.operands.0 b) (λ b. absurd b) a
-  op_reads k r (Cast to) args n h a = either_one k _ _ n (nat_lt to (c.width_of cells (c.operand args 0))) (part (net_name lines cells (c.operand args 0)) (to - 1) 0) (net_value lines cells (c.operand args 0)) h.operands.0 (λ b. one_name k _ _ n h.operands.0 b) (λ b. one_name k _ _ n h.operands.0 b) a
+  op_reads k r (Shl by) args n h a = either_one k _ _ n (nat_lt by r) (binary LeftBy (net_value lines cells (c.operand args 0)) (constant 6 by true))
+      (constant r 0 true) h.operands.0 (λ b. one_name k _ _ n h.operands.0 b) (λ b. absurd b) a
+  op_reads k r (Shr by) args n h a = either_one k _ _ n (nat_lt by r) (binary RightBy (net_value lines cells (c.operand args 0)) (constant 6 by true))
+      (constant r 0 true) h.operands.0 (λ b. one_name k _ _ n h.operands.0 b) (λ b. absurd b) a
+  op_reads k r (Cast to) args n h a = either_one k _ _ n (nat_lt to (c.width_of cells (c.operand args 0)))
+      (part (net_name lines cells (c.operand args 0)) (to - 1) 0) (net_value lines cells (c.operand args 0)) h.operands.0
+      (λ b. one_name k _ _ n h.operands.0 b) (λ b. one_name k _ _ n h.operands.0 b) a
   op_reads k r SLt args n h a = let e : true ≡ false = h.unsigned in absurd (cc)
   op_reads k r SMin args n h a = let e : true ≡ false = h.unsigned in absurd (cc)
   op_reads k r SMax args n h a = let e : true ≡ false = h.unsigned in absurd (cc)
@@ -80,11 +102,16 @@ module _ (lines : ℕ → ℕ) (cells : List SizedCell) (outlets : List Outlet) 
   op_reads k r (SCast to) args n h a = let e : true ≡ false = h.unsigned in absurd (cc)
 
   -- an equation of a cell reads cells before it
-  pub drive_reads_below : (k width : ℕ) (cell : Cell) → slice_get cells k ≡ Some (record { width = width; cell = cell }) → (d : DriveTree) (n : List ℕ) → Among d (cell_drives lines cells outlets outs k width cell) → Among n (names_in d.value) → IsCellBelow k n
+  pub drive_reads_below : (k width : ℕ) (cell : Cell) → slice_get cells k ≡ Some (record { width = width; cell = cell }) → (d : DriveTree) (n : List ℕ)
+      → Among d (cell_drives lines cells outlets outs k width cell) → Among n (names_in d.value) → IsCellBelow k n
   drive_reads_below k width (Input port) h d n a b = absurd a
   drive_reads_below k width (Reg next) h d n a b = absurd a
   drive_reads_below k width (Mem depth at next enable) h d n a b = absurd a
-  drive_reads_below k width (Const v) h d n a b = elim a [ inl e ↦ absurd (subst (λ (z : DriveTree). Among n (names_in z.value)) (sym e) b) | inr none ↦ absurd none ]
+  drive_reads_below k width (Const v) h d n a b = elim a [
+    | inl e ↦ absurd
+        (subst (λ (z : DriveTree). Among n (names_in z.value)) (sym e) b)
+    | inr none ↦ absurd none
+  ]
   drive_reads_below k width (Op op args) h d n a b = elim a [
     | inl e ↦ op_reads k width op args n (ok.formed.each k _ h).cell (subst (λ (z : DriveTree). Among n (names_in z.value)) (sym e) b)
     | inr none ↦ absurd none
@@ -92,7 +119,8 @@ module _ (lines : ℕ → ℕ) (cells : List SizedCell) (outlets : List Outlet) 
   drive_reads_below k width (Peek mem at) h d n a b = elim a [
     | inl e ↦
         let p = (ok.formed.each k _ h).cell in
-        elim (let q : Among n (net_name lines cells mem.0 ∷ net_name lines cells at.0 ∷ []) = subst (λ (z : DriveTree). Among n (names_in z.value)) (sym e) b in q) [
+        elim (let q : Among n (net_name lines cells mem.0 ∷ net_name lines cells at.0 ∷ []) = subst (λ (z : DriveTree). Among n (names_in z.value))
+        (sym e) b in q) [
           | inl m ↦ below_memory k mem.0 width p.depth n p.memory m
           | inr l ↦ one_name k at.0 _ n p.address.net l
         ]
@@ -100,7 +128,8 @@ module _ (lines : ℕ → ℕ) (cells : List SizedCell) (outlets : List Outlet) 
   ]
 
   -- what happens at a clock edge reads cells
-  pub edge_reads : (k width : ℕ) (cell : Cell) → slice_get cells k ≡ Some (record { width = width; cell = cell }) → (n : List ℕ) → Among n (stmt_reads (cell_edge lines cells outlets outs k cell)) → IsCellName n
+  pub edge_reads : (k width : ℕ) (cell : Cell) → slice_get cells k ≡ Some (record { width = width; cell = cell }) → (n : List ℕ)
+      → Among n (stmt_reads (cell_edge lines cells outlets outs k cell)) → IsCellName n
   edge_reads k width (Input port) h n a = absurd a
   edge_reads k width (Const v) h n a = absurd a
   edge_reads k width (Op op args) h n a = absurd a

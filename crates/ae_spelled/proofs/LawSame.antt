@@ -60,11 +60,15 @@ map_parts f (x ∷ xs) ys = ap (λ l. f x ∷ l) (map_parts f xs ys)
 abbrev of_kind : (Cell → Bool) → ℕ × SizedCell → Bool
 of_kind q p = q p.1.cell
 
-numbered_some : {A : Type 0} (g : ℕ × SizedCell → A) (q : Cell → Bool) (k : ℕ) (x : SizedCell) (xs : List SizedCell) → q x.cell ≡ true → map g (filter (of_kind q) (enumerate_from k (x ∷ xs))) ≡ g (k, x) ∷ map g (filter (of_kind q) (enumerate_from (k + 1) xs))
-numbered_some g q k x xs t = ap (map g) (cond-true _ ((k, x) ∷ filter (of_kind q) (enumerate_from (k + 1) xs)) (filter (of_kind q) (enumerate_from (k + 1) xs)) t)
+numbered_some : {A : Type 0} (g : ℕ × SizedCell → A) (q : Cell → Bool) (k : ℕ) (x : SizedCell) (xs : List SizedCell) → q x.cell ≡ true
+    → map g (filter (of_kind q) (enumerate_from k (x ∷ xs))) ≡ g (k, x) ∷ map g (filter (of_kind q) (enumerate_from (k + 1) xs))
+numbered_some g q k x xs t =
+    ap (map g) (cond-true _ ((k, x) ∷ filter (of_kind q) (enumerate_from (k + 1) xs)) (filter (of_kind q) (enumerate_from (k + 1) xs)) t)
 
-numbered_none : {A : Type 0} (g : ℕ × SizedCell → A) (q : Cell → Bool) (k : ℕ) (x : SizedCell) (xs : List SizedCell) → q x.cell ≡ false → map g (filter (of_kind q) (enumerate_from k (x ∷ xs))) ≡ map g (filter (of_kind q) (enumerate_from (k + 1) xs))
-numbered_none g q k x xs e = ap (map g) (cond-false _ ((k, x) ∷ filter (of_kind q) (enumerate_from (k + 1) xs)) (filter (of_kind q) (enumerate_from (k + 1) xs)) e)
+numbered_none : {A : Type 0} (g : ℕ × SizedCell → A) (q : Cell → Bool) (k : ℕ) (x : SizedCell) (xs : List SizedCell) → q x.cell ≡ false
+    → map g (filter (of_kind q) (enumerate_from k (x ∷ xs))) ≡ map g (filter (of_kind q) (enumerate_from (k + 1) xs))
+numbered_none g q k x xs e =
+    ap (map g) (cond-false _ ((k, x) ∷ filter (of_kind q) (enumerate_from (k + 1) xs)) (filter (of_kind q) (enumerate_from (k + 1) xs)) e)
 
 -- the numbered cells of a kind, one part each
 module _ (lines : ℕ → ℕ) {A : Type 0} (f : NetTree → A) (g : ℕ × SizedCell → A) (q : Cell → Bool) where
@@ -72,31 +76,40 @@ module _ (lines : ℕ → ℕ) {A : Type 0} (f : NetTree → A) (g : ℕ × Size
   abbrev Matches : List NetTree → ℕ × SizedCell → Type 0
   Matches part p = ((q p.1.cell ≡ true) × (map f part ≡ g p ∷ [])) ⊎ ((q p.1.cell ≡ false) × (map f part ≡ []))
 
-  listed_numbered : (part : ℕ → SizedCell → List NetTree) (k : ℕ) (xs : List SizedCell) → ((j : ℕ) (x : SizedCell) → slice_get xs j ≡ Some x → Matches (part (k + j) x) (k + j, x))
+  listed_numbered : (part : ℕ → SizedCell → List NetTree) (k : ℕ) (xs : List SizedCell)
+      → ((j : ℕ) (x : SizedCell) → slice_get xs j ≡ Some x → Matches (part (k + j) x) (k + j, x))
       → map f (each_numbered part k xs) ≡ map g (filter (of_kind q) (enumerate_from k xs))
   listed_numbered part k [] h = refl
   listed_numbered part k (x ∷ xs) h =
       let first : Matches (part k x) (k, x) = subst (λ n. Matches (part n x) (n, x)) (let e : k + 0 ≡ k = omega arith in e) (h 0 x refl) in
-      let rest = listed_numbered part (k + 1) xs (λ j y e. subst (λ n. Matches (part n y) (n, y)) (let z : k + suc j ≡ k + 1 + j = omega arith in z) (h (suc j) y e)) in
+      let rest = listed_numbered part (k + 1) xs (λ j y e. subst (λ n. Matches (part n y) (n, y)) (let z : k + suc j ≡ k + 1 + j = omega arith in z)
+      (h (suc j) y e)) in
       map_parts f (part k x) (each_numbered part (k + 1) xs) ∙ elim first [
         | inl t ↦ (λ i. t.1 i ++ rest i) ∙ sym (numbered_some g q k x xs t.0)
         | inr e ↦ (λ i. e.1 i ++ rest i) ∙ sym (numbered_none g q k x xs e.0)
       ]
 
-  declared_numbered : (p : NetTree → Bool) (item k : ℕ) (xs : List SizedCell) → ((i j : ℕ) (x : SizedCell) → slice_get xs j ≡ Some x → Matches (filter p (declared_nets lines i (k + j) x.width x.cell)) (k + j, x))
+  declared_numbered : (p : NetTree → Bool) (item k : ℕ) (xs : List SizedCell)
+      → ((i j : ℕ) (x : SizedCell) → slice_get xs j ≡ Some x → Matches (filter p (declared_nets lines i (k + j) x.width x.cell)) (k + j, x))
       → map f (filter p (declared_from lines item k xs)) ≡ map g (filter (of_kind q) (enumerate_from k xs))
   declared_numbered p item k [] h = refl
   declared_numbered p item k (x ∷ xs) h =
-      let first : Matches (filter p (declared_nets lines item k x.width x.cell)) (k, x) = subst (λ n. Matches (filter p (declared_nets lines item n x.width x.cell)) (n, x)) (let e : k + 0 ≡ k = omega arith in e) (h item 0 x refl) in
-      let rest = declared_numbered p (item + length (declared_nets lines item k x.width x.cell)) (k + 1) xs (λ i j y e. subst (λ n. Matches (filter p (declared_nets lines i n y.width y.cell)) (n, y)) (let z : k + suc j ≡ k + 1 + j = omega arith in z) (h i (suc j) y e)) in
-      ap (map f) (filter_both p (declared_nets lines item k x.width x.cell) (declared_from lines (item + length (declared_nets lines item k x.width x.cell)) (k + 1) xs))
-      ∙ map_parts f (filter p (declared_nets lines item k x.width x.cell)) (filter p (declared_from lines (item + length (declared_nets lines item k x.width x.cell)) (k + 1) xs)) ∙ elim first [
+      let first : Matches (filter p (declared_nets lines item k x.width x.cell)) (k, x) = subst
+      (λ n. Matches (filter p (declared_nets lines item n x.width x.cell)) (n, x)) (let e : k + 0 ≡ k = omega arith in e) (h item 0 x refl) in
+      let rest = declared_numbered p (item + length (declared_nets lines item k x.width x.cell)) (k + 1) xs
+      (λ i j y e. subst (λ n. Matches (filter p (declared_nets lines i n y.width y.cell)) (n, y)) (let z : k + suc j ≡ k + 1 + j = omega arith in z)
+      (h i (suc j) y e)) in
+      ap (map f) (filter_both p (declared_nets lines item k x.width x.cell)
+      (declared_from lines (item + length (declared_nets lines item k x.width x.cell)) (k + 1) xs))
+      ∙ map_parts f (filter p (declared_nets lines item k x.width x.cell))
+      (filter p (declared_from lines (item + length (declared_nets lines item k x.width x.cell)) (k + 1) xs)) ∙ elim first [
         | inl t ↦ (λ i. t.1 i ++ rest i) ∙ sym (numbered_some g q k x xs t.0)
         | inr e ↦ (λ i. e.1 i ++ rest i) ∙ sym (numbered_none g q k x xs e.0)
       ]
 
 -- two lists over the same numbered cells that are equal are so at each cell
-equal_at : {A : Type 0} (f g : ℕ × SizedCell → A) (q : Cell → Bool) (k : ℕ) (xs : List SizedCell) → map f (filter (of_kind q) (enumerate_from k xs)) ≡ map g (filter (of_kind q) (enumerate_from k xs))
+equal_at : {A : Type 0} (f g : ℕ × SizedCell → A) (q : Cell → Bool) (k : ℕ) (xs : List SizedCell)
+    → map f (filter (of_kind q) (enumerate_from k xs)) ≡ map g (filter (of_kind q) (enumerate_from k xs))
     → (j : ℕ) (x : SizedCell) → slice_get xs j ≡ Some x → q x.cell ≡ true → f (k + j, x) ≡ g (k + j, x)
 equal_at f g q k [] h j x at is = absurd (let e : None ≡ Some x = at in cc)
 equal_at f g q k (y ∷ xs) h zero x at is =
@@ -114,7 +127,8 @@ equal_at f g q k (y ∷ xs) h (suc j) x at is =
     ] in
     (λ i. f (n i, x)) ∙ equal_at f g q (k + 1) xs rest j x at is ∙ (λ i. g (sym n i, x))
 
-equal_here : {A : Type 0} (f g : ℕ × SizedCell → A) (q : Cell → Bool) (xs : List SizedCell) → map f (filter (of_kind q) (enumerate_from 0 xs)) ≡ map g (filter (of_kind q) (enumerate_from 0 xs))
+equal_here : {A : Type 0} (f g : ℕ × SizedCell → A) (q : Cell → Bool) (xs : List SizedCell)
+    → map f (filter (of_kind q) (enumerate_from 0 xs)) ≡ map g (filter (of_kind q) (enumerate_from 0 xs))
     → (j : ℕ) (x : SizedCell) → slice_get xs j ≡ Some x → q x.cell ≡ true → f (j, x) ≡ g (j, x)
 equal_here f g q xs h j x at is = let e : 0 + j ≡ j = omega arith in subst (λ k. f (k, x) ≡ g (k, x)) e (equal_at f g q 0 xs h j x at is)
 
@@ -153,7 +167,8 @@ module _ (lines : ℕ → ℕ) (cells : List SizedCell) (outlets : List Outlet) 
   shown_are : (y : NetTree) → Among y shown → (o : Outlet) × (y ≡ output_net cells outs o)
   shown_are y a = let r = among_unmap (output_net cells outs) y outlets a in (r.0, sym r.2)
 
-  own_are : (p : NetTree → Bool) → ((k : NetKind) (item width : ℕ) (name : List ℕ) → is_input_kind k ≡ false → is_output_kind k ≡ false → p (net_of k item width name) ≡ false) → (item k : ℕ) (xs : List SizedCell) → filter p (declared_from lines item k xs) ≡ []
+  own_are : (p : NetTree → Bool) → ((k : NetKind) (item width : ℕ) (name : List ℕ) → is_input_kind k ≡ false → is_output_kind k ≡ false
+      → p (net_of k item width name) ≡ false) → (item k : ℕ) (xs : List SizedCell) → filter p (declared_from lines item k xs) ≡ []
   own_are p h item k [] = refl
   own_are p h item k (x ∷ xs) =
       filter_both p (declared_nets lines item k x.width x.cell) (declared_from lines (item + length (declared_nets lines item k x.width x.cell)) (k + 1) xs)
@@ -176,7 +191,8 @@ module _ (lines : ℕ → ℕ) (cells : List SizedCell) (outlets : List Outlet) 
       let p : NetTree → Bool = λ (x : NetTree). is_input_kind x.kind && not (is_clock m x.name) in
       split p (ap not (clock_is_clock lines cells outlets outs ok))
       ∙ (λ i. filter_all p ins (λ y a. let r = ins_are y a in ap p r.3 ∙ ap not (cell_no_clock lines cells outlets outs ok r.0 r.1 r.2)) i
-      ++ (filter_none p shown (λ y a. let r = shown_are y a in ap p r.1) i ++ own_are p (λ k item width name a b. ap (λ t. t && not (is_clock m name)) a) 1 0 cells i))
+      ++ (filter_none p shown (λ y a. let r = shown_are y a in ap p r.1) i
+      ++ own_are p (λ k item width name a b. ap (λ t. t && not (is_clock m name)) a) 1 0 cells i))
       ∙ append-nil ins
 
   pub outputs_are : s.outputs_of m ≡ shown
@@ -197,13 +213,17 @@ module _ (lines : ℕ → ℕ) (cells : List SizedCell) (outlets : List Outlet) 
       ++ (filter_none is_state_net shown (λ y a. let r = shown_are y a in ap is_state_net r.1) i ++ filter is_state_net own))
 
   -- what is so of each input is so of all, and likewise for registers and memories, and for outputs
-  all_inputs : {A : Type 0} (f : NetTree → A) (g : ℕ × SizedCell → A) → ((k width : ℕ) (port : _) → slice_get cells k ≡ Some (record { width = width; cell = Input port }) → f (net_of InputNet 0 width (port_name 1 port)) ≡ g (k, record { width = width; cell = Input port }))
+  all_inputs : {A : Type 0} (f : NetTree → A) (g : ℕ × SizedCell → A)
+      → ((k width : ℕ) (port : _) → slice_get cells k ≡ Some (record { width = width; cell = Input port })
+      → f (net_of InputNet 0 width (port_name 1 port)) ≡ g (k, record { width = width; cell = Input port }))
       → map f (s.inputs_of m) ≡ map g (s.input_cells cells)
   all_inputs f g h =
       ap (map f) inputs_are ∙ listed_numbered lines f g s.is_input_cell (λ net (sized : SizedCell). input_nets sized.width sized.cell) 0 cells
-      (λ j x at. let e : j ≡ 0 + j = omega arith in subst (λ k. Matches lines f g s.is_input_cell (input_nets x.width x.cell) (k, x)) e (by_cell j x.width x.cell at))
+      (λ j x at. let e : j ≡ 0 + j = omega arith in subst (λ k. Matches lines f g s.is_input_cell (input_nets x.width x.cell) (k, x)) e
+      (by_cell j x.width x.cell at))
     where
-      by_cell : (j width : ℕ) (cell : Cell) → slice_get cells j ≡ Some (record { width = width; cell = cell }) → Matches lines f g s.is_input_cell (input_nets width cell) (j, record { width = width; cell = cell })
+      by_cell : (j width : ℕ) (cell : Cell) → slice_get cells j ≡ Some (record { width = width; cell = cell })
+          → Matches lines f g s.is_input_cell (input_nets width cell) (j, record { width = width; cell = cell })
       by_cell j width (Input port) at = inl (refl, ap (λ a. a ∷ []) (h j width port at))
       by_cell j width (Const v) at = inr (refl, refl)
       by_cell j width (Op op args) at = inr (refl, refl)
@@ -212,14 +232,19 @@ module _ (lines : ℕ → ℕ) (cells : List SizedCell) (outlets : List Outlet) 
       by_cell j width (Peek mem place) at = inr (refl, refl)
 
   all_states : {A : Type 0} (f : NetTree → A) (g : ℕ × SizedCell → A)
-      → ((item k width : ℕ) (next : NetId) → slice_get cells k ≡ Some (record { width = width; cell = Reg next }) → f (net_of RegNet item width (number_name lines k)) ≡ g (k, record { width = width; cell = Reg next }))
-      → ((item k width depth : ℕ) (at next enable : NetId) → slice_get cells k ≡ Some (record { width = width; cell = Mem depth at next enable }) → f (net_of (MemoryNet depth) item width (number_name lines k)) ≡ g (k, record { width = width; cell = Mem depth at next enable }))
+      → ((item k width : ℕ) (next : NetId) → slice_get cells k ≡ Some (record { width = width; cell = Reg next })
+      → f (net_of RegNet item width (number_name lines k)) ≡ g (k, record { width = width; cell = Reg next }))
+      → ((item k width depth : ℕ) (at next enable : NetId) → slice_get cells k ≡ Some (record { width = width; cell = Mem depth at next enable })
+      → f (net_of (MemoryNet depth) item width (number_name lines k)) ≡ g (k, record { width = width; cell = Mem depth at next enable }))
       → map f (s.states_of m) ≡ map g (s.state_cells cells)
   all_states f g registers memories =
       ap (map f) states_are ∙ declared_numbered lines f g s.is_state_cell is_state_net 1 0 cells
-      (λ item j x at. let e : j ≡ 0 + j = omega arith in subst (λ k. Matches lines f g s.is_state_cell (filter is_state_net (declared_nets lines item k x.width x.cell)) (k, x)) e (by_cell item j x.width x.cell at))
+      (λ item j x at. let e : j ≡ 0 + j = omega arith in subst
+      (λ k. Matches lines f g s.is_state_cell (filter is_state_net (declared_nets lines item k x.width x.cell)) (k, x)) e
+      (by_cell item j x.width x.cell at))
     where
-      by_cell : (item j width : ℕ) (cell : Cell) → slice_get cells j ≡ Some (record { width = width; cell = cell }) → Matches lines f g s.is_state_cell (filter is_state_net (declared_nets lines item j width cell)) (j, record { width = width; cell = cell })
+      by_cell : (item j width : ℕ) (cell : Cell) → slice_get cells j ≡ Some (record { width = width; cell = cell })
+          → Matches lines f g s.is_state_cell (filter is_state_net (declared_nets lines item j width cell)) (j, record { width = width; cell = cell })
       by_cell item j width (Input port) at = inr (refl, refl)
       by_cell item j width (Const v) at = inr (refl, refl)
       by_cell item j width (Op op args) at = inr (refl, refl)
@@ -227,37 +252,44 @@ module _ (lines : ℕ → ℕ) (cells : List SizedCell) (outlets : List Outlet) 
       by_cell item j width (Mem depth place next enable) at = inl (refl, ap (λ a. a ∷ []) (memories item j width depth place next enable at))
       by_cell item j width (Peek mem place) at = inr (refl, refl)
 
-  all_outputs : {A : Type 0} (f : NetTree → A) (g : Outlet → A) → ((k : ℕ) (o : Outlet) → slice_get outlets k ≡ Some o → f (output_net cells outs o) ≡ g o) → map f (s.outputs_of m) ≡ map g outlets
+  all_outputs : {A : Type 0} (f : NetTree → A) (g : Outlet → A) → ((k : ℕ) (o : Outlet) → slice_get outlets k ≡ Some o → f (output_net cells outs o) ≡ g o)
+      → map f (s.outputs_of m) ≡ map g outlets
   all_outputs f g h = ap (map f) outputs_are ∙ map_map f (output_net cells outs) outlets ∙ map_same (λ o. f (output_net cells outs o)) g outlets h
 
   -- a clock of the module goes with a clock of the netlist
   record GoesWith (d : ModuleClock) (run : List r.Clock) (t : ℕ) : Type 0 where
     word : (k : ℕ) (x : SizedCell) → slice_get cells k ≡ Some x → c.IsPlain x.cell → d.word (cell_name lines k x.cell) ≡ r.word_at run t k
-    store : (k width depth : ℕ) (at next enable : NetId) → slice_get cells k ≡ Some (record { width = width; cell = Mem depth at next enable }) → d.store (number_name lines k) ≡ r.store_at run t k
+    store : (k width depth : ℕ) (at next enable : NetId) → slice_get cells k ≡ Some (record { width = width; cell = Mem depth at next enable })
+        → d.store (number_name lines k) ≡ r.store_at run t k
     output : (j : ℕ) (o : Outlet) → slice_get outlets j ≡ Some o → d.word (port_name outs o.port) ≡ r.word_at run t o.net.0
 
   inputs_go : (d : ModuleClock) (run : List r.Clock) (t : ℕ) → GoesWith d run t → s.input_words m d ≡ s.net_input_words n run t
-  inputs_go d run t h = all_inputs (λ (x : NetTree). d.word x.name) (λ (x : ℕ × SizedCell). r.word_at run t x.0) (λ k width port at. h.word k (record { width = width; cell = Input port }) at tt)
+  inputs_go d run t h = all_inputs (λ (x : NetTree). d.word x.name) (λ (x : ℕ × SizedCell). r.word_at run t x.0)
+      (λ k width port at. h.word k (record { width = width; cell = Input port }) at tt)
 
   outputs_go : (d : ModuleClock) (run : List r.Clock) (t : ℕ) → GoesWith d run t → s.output_words m d ≡ s.net_output_words n run t
   outputs_go d run t h = all_outputs (λ (x : NetTree). d.word x.name) (λ (o : Outlet). r.word_at run t o.net.0) (λ j o at. h.output j o at)
 
   states_go : (d : ModuleClock) (run : List r.Clock) (t : ℕ) → GoesWith d run t → s.held_words m d ≡ s.net_held_words n run t
-  states_go d run t h = all_states (λ (x : NetTree). s.kind_words x.kind (d.word x.name) (d.store x.name)) (λ (x : ℕ × SizedCell). s.cell_words x.1.cell (r.word_at run t x.0) (r.store_at run t x.0))
+  states_go d run t h = all_states (λ (x : NetTree). s.kind_words x.kind (d.word x.name) (d.store x.name))
+      (λ (x : ℕ × SizedCell). s.cell_words x.1.cell (r.word_at run t x.0) (r.store_at run t x.0))
       (λ item k width next at. ap (λ w. w ∷ []) (h.word k (record { width = width; cell = Reg next }) at tt))
       (λ item k width depth at next enable found. h.store k width depth at next enable found)
 
-  begin : (run : List ModuleClock) (other : List r.Clock) → length run ≡ length other → ((t : ℕ) → t < length run → GoesWith (clock_at run t) other t) → s.BeginAlike m n run other
+  begin : (run : List ModuleClock) (other : List r.Clock) → length run ≡ length other → ((t : ℕ) → t < length run → GoesWith (clock_at run t) other t)
+      → s.BeginAlike m n run other
   begin run other long h = record {
     long = long;
     inputs = λ t l. inputs_go (clock_at run t) other t (h t l);
     first = λ l. states_go (clock_at run 0) other 0 (h 0 l);
   }
 
-  show_equal : (run : List ModuleClock) (other : List r.Clock) → ((t : ℕ) → t < length run → GoesWith (clock_at run t) other t) → s.HaveEqualOutputs m n run other
+  show_equal : (run : List ModuleClock) (other : List r.Clock) → ((t : ℕ) → t < length run → GoesWith (clock_at run t) other t)
+      → s.HaveEqualOutputs m n run other
   show_equal run other h = record { outputs = λ t l. outputs_go (clock_at run t) other t (h t l) }
 
-  goes_of : (other : List r.Clock) (is : r.IsRun cells other) (t : ℕ) → t < length other → GoesWith (clock_at (run_by_name lines cells outlets outs ok other is) t) other t
+  goes_of : (other : List r.Clock) (is : r.IsRun cells other) (t : ℕ) → t < length other
+      → GoesWith (clock_at (run_by_name lines cells outlets outs ok other is) t) other t
   goes_of other is t l = record {
     word = λ k x at p. by_name_word lines cells outlets outs ok other is t k x l at;
     store = λ k width depth place next enable at. by_name_store lines cells outlets outs ok other is t k _ l at;
@@ -272,7 +304,9 @@ module _ (lines : ℕ → ℕ) (cells : List SizedCell) (outlets : List Outlet) 
   }
 
   -- runs of the netlist with equal inputs and equal first words agree
-  agrees_at : (run other : List r.Clock) (t : ℕ) → s.net_input_words n other t ≡ s.net_input_words n run t → (t ≡ 0 → s.net_held_words n other 0 ≡ s.net_held_words n run 0) → (k width : ℕ) (cell : Cell) → slice_get cells k ≡ Some (record { width = width; cell = cell }) → r.AgreesAt run other t k cell
+  agrees_at : (run other : List r.Clock) (t : ℕ) → s.net_input_words n other t ≡ s.net_input_words n run t
+      → (t ≡ 0 → s.net_held_words n other 0 ≡ s.net_held_words n run 0) → (k width : ℕ) (cell : Cell)
+      → slice_get cells k ≡ Some (record { width = width; cell = cell }) → r.AgreesAt run other t k cell
   agrees_at run other t inputs first k width (Input port) at =
       equal_here (λ (x : ℕ × SizedCell). r.word_at other t x.0) (λ (x : ℕ × SizedCell). r.word_at run t x.0) s.is_input_cell cells inputs k _ at refl
   agrees_at run other t inputs first k width (Const v) at = tt
@@ -280,15 +314,18 @@ module _ (lines : ℕ → ℕ) (cells : List SizedCell) (outlets : List Outlet) 
   agrees_at run other t inputs first k width (Peek mem place) at = tt
   agrees_at run other t inputs first k width (Reg next) at = λ z.
       let h : r.word_at other 0 k ∷ [] ≡ r.word_at run 0 k ∷ [] =
-      equal_here (λ (x : ℕ × SizedCell). s.cell_words x.1.cell (r.word_at other 0 x.0) (r.store_at other 0 x.0)) (λ (x : ℕ × SizedCell). s.cell_words x.1.cell (r.word_at run 0 x.0) (r.store_at run 0 x.0)) s.is_state_cell cells (first z) k _ at refl in
+      equal_here (λ (x : ℕ × SizedCell). s.cell_words x.1.cell (r.word_at other 0 x.0) (r.store_at other 0 x.0))
+      (λ (x : ℕ × SizedCell). s.cell_words x.1.cell (r.word_at run 0 x.0) (r.store_at run 0 x.0)) s.is_state_cell cells (first z) k _ at refl in
       let w : r.word_at other 0 k ≡ r.word_at run 0 k = cc in
       subst (λ u. r.word_at other u k ≡ r.word_at run u k) (sym z) w
   agrees_at run other t inputs first k width (Mem depth place next enable) at = λ z.
       let h : r.store_at other 0 k ≡ r.store_at run 0 k =
-      equal_here (λ (x : ℕ × SizedCell). s.cell_words x.1.cell (r.word_at other 0 x.0) (r.store_at other 0 x.0)) (λ (x : ℕ × SizedCell). s.cell_words x.1.cell (r.word_at run 0 x.0) (r.store_at run 0 x.0)) s.is_state_cell cells (first z) k _ at refl in
+      equal_here (λ (x : ℕ × SizedCell). s.cell_words x.1.cell (r.word_at other 0 x.0) (r.store_at other 0 x.0))
+      (λ (x : ℕ × SizedCell). s.cell_words x.1.cell (r.word_at run 0 x.0) (r.store_at run 0 x.0)) s.is_state_cell cells (first z) k _ at refl in
       subst (λ u. r.store_at other u k ≡ r.store_at run u k) (sym z) h
 
-  same_run : (run : List ModuleClock) (other : List r.Clock) → IsModuleRun m run → r.IsRun cells other → s.BeginAlike m n run other → other ≡ run_by_number lines cells run
+  same_run : (run : List ModuleClock) (other : List r.Clock) → IsModuleRun m run → r.IsRun cells other → s.BeginAlike m n run other
+      → other ≡ run_by_number lines cells run
   same_run run other is is_other begins =
       let made : List r.Clock = run_by_number lines cells run in
       let made_is = by_number_is_run lines cells outlets outs ok run is in
@@ -298,28 +335,48 @@ module _ (lines : ℕ → ℕ) (cells : List SizedCell) (outlets : List Outlet) 
       let of_other : r.IsRunOn cells made other = record {
         long = sym begins.long ∙ made_begins.long;
         runs = is_other;
-        agrees = record { same = λ t k x l at. agrees_at made other t (sym (begins.inputs t (omega arith)) ∙ made_begins.inputs t (omega arith)) (λ z. let some : 0 < length run = omega arith in sym (begins.first some) ∙ made_begins.first some) k x.width x.cell at };
+        agrees = record {
+          same = λ t k x l at. agrees_at made other t (sym (begins.inputs t (omega arith)) ∙ made_begins.inputs t (omega arith))
+              (λ z. let some : 0 < length run = omega arith in sym (begins.first some) ∙ made_begins.first some) k x.width x.cell at;
+        };
       } in
-      let of_made : r.IsRunOn cells made made = record { long = refl; runs = made_is; agrees = record { same = λ t k x l at. agrees_at made made t refl (λ z. refl) k x.width x.cell at } } in
+      let of_made : r.IsRunOn cells made made = record {
+        long = refl;
+        runs = made_is;
+        agrees = record { same = λ t k x l at. agrees_at made made t refl (λ z. refl) k x.width x.cell at };
+      } in
       one.2 other of_other ∙ sym (one.2 made of_made)
 
   pub same_runs : (limit : ℕ) → s.HasSameRuns m (record { limit = limit; cells = cells; outlets = outlets })
   same_runs limit = record {
     inputs = all_inputs (λ (x : NetTree). x.width) (λ (x : ℕ × SizedCell). x.1.width) (λ k width port at. refl);
     outputs = all_outputs (λ (x : NetTree). x.width) (λ (o : Outlet). c.width_of cells o.net.0) (λ k o at. refl);
-    widths = all_states (λ (x : NetTree). x.width) (λ (x : ℕ × SizedCell). x.1.width) (λ item k width next at. refl) (λ item k width depth at next enable found. refl);
-    depths = all_states (λ (x : NetTree). s.kind_depth x.kind) (λ (x : ℕ × SizedCell). s.cell_depth x.1.cell) (λ item k width next at. refl) (λ item k width depth at next enable found. refl);
+    widths = all_states (λ (x : NetTree). x.width) (λ (x : ℕ × SizedCell). x.1.width) (λ item k width next at. refl)
+        (λ item k width depth at next enable found. refl);
+    depths = all_states (λ (x : NetTree). s.kind_depth x.kind) (λ (x : ℕ × SizedCell). s.cell_depth x.1.cell) (λ item k width next at. refl)
+        (λ item k width depth at next enable found. refl);
     equal = λ run other is is_other begins.
         let e = same_run run other is is_other (record { long = begins.long; inputs = begins.inputs; first = begins.first }) in
-        record { outputs = λ t l. outputs_go (clock_at run t) (run_by_number lines cells run) t (goes_from run is t l) ∙ ap (λ u. s.net_output_words n u t) (sym e) };
+        record {
+          outputs = λ t l. outputs_go (clock_at run t) (run_by_number lines cells run) t (goes_from run is t l) ∙
+              ap (λ u. s.net_output_words n u t) (sym e);
+        };
     of_module = λ run is.
         let begins = begin run (run_by_number lines cells run) (sym (by_number_length lines cells run)) (goes_from run is) in
-        let shows = show_equal run (run_by_number lines cells run) (goes_from run is) in
-        (run_by_number lines cells run, by_number_is_run lines cells outlets outs ok run is, record { long = begins.long; inputs = begins.inputs; first = begins.first }, record { outputs = shows.outputs });
+        let shows = show_equal run (run_by_number lines cells run) (goes_from run is) in (
+          run_by_number lines cells run,
+          by_number_is_run lines cells outlets outs ok run is,
+          record { long = begins.long; inputs = begins.inputs; first = begins.first },
+          record { outputs = shows.outputs },
+        );
     of_netlist = λ other is.
         let run = run_by_name lines cells outlets outs ok other is in
         let long = by_name_length lines cells outlets outs ok other is in
         let begins = begin run other long (λ t l. goes_of other is t (omega arith)) in
-        let shows = show_equal run other (λ t l. goes_of other is t (omega arith)) in
-        (run, by_name_is_run lines cells outlets outs ok other is, record { long = begins.long; inputs = begins.inputs; first = begins.first }, record { outputs = shows.outputs });
+        let shows = show_equal run other (λ t l. goes_of other is t (omega arith)) in (
+          run,
+          by_name_is_run lines cells outlets outs ok other is,
+          record { long = begins.long; inputs = begins.inputs; first = begins.first },
+          record { outputs = shows.outputs },
+        );
   }

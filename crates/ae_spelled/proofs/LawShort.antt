@@ -59,13 +59,16 @@ type_short (tseq n i t) h =
     let slots = slots_below n i t h in
     let inner = type_short t (part_of_tseq (tseq n i t) t n i refl h) in
     let head : IsUpTo 27 ((((codes "TSeq " ++ decimal n) ++ codes " ") ++ decimal i) ++ codes " ") =
-    both 26 1 _ (codes " ") (both 16 10 _ (decimal i) (both 15 1 _ (codes " ") (both 5 10 (codes "TSeq ") _ (short (lit≤ tt)) (digits_32 n (omega (arith, slots)))) (short (lit≤ tt))) (digits_32 i (omega (arith, slots)))) (short (lit≤ tt)) in
+    both 26 1 _ (codes " ") (both 16 10 _ (decimal i) (both 15 1 _ (codes " ")
+    (both 5 10 (codes "TSeq ") _ (short (lit≤ tt)) (digits_32 n (omega (arith, slots)))) (short (lit≤ tt))) (digits_32 i (omega (arith, slots))))
+    (short (lit≤ tt)) in
     omega (arith, inner, head.most, length-append ((((codes "TSeq " ++ decimal n) ++ codes " ") ++ decimal i) ++ codes " ") (st_text t))
 type_short (sseq n t) h =
     let few = atoms_below (sseq n t) h in
     let most = factor_le n (st_atoms t) (atoms_pos t h.lengths.1) in
     let inner = type_short t (part_of_sseq (sseq n t) t n refl h) in
-    let head : IsUpTo 16 ((codes "SSeq " ++ decimal n) ++ codes " ") = both 15 1 _ (codes " ") (both 5 10 (codes "SSeq ") _ (short (lit≤ tt)) (digits_32 n (omega (arith, few, most)))) (short (lit≤ tt)) in
+    let head : IsUpTo 16 ((codes "SSeq " ++ decimal n) ++ codes " ") = both 15 1 _ (codes " ")
+    (both 5 10 (codes "SSeq ") _ (short (lit≤ tt)) (digits_32 n (omega (arith, few, most)))) (short (lit≤ tt)) in
     omega (arith, inner, head.most, length-append ((codes "SSeq " ++ decimal n) ++ codes " ") (st_text t))
 
 words_below : (a w : ℕ) → 0 < a → a * w ≤ 16384 → w ≤ 16384
@@ -76,17 +79,20 @@ type_up t h = record { most = omega (arith, type_short t h, h.in_depth, words_be
 
 -- ---- lists of texts
 
-listed_up : {X : Type 0} (d : ℕ) (f : ℕ → X → List ℕ) (k : ℕ) (xs : List X) → ((j : ℕ) (x : X) → slice_get xs j ≡ Some x → IsUpTo d (f (k + j) x)) → IsUpTo (d * length xs) (each_numbered f k xs)
+listed_up : {X : Type 0} (d : ℕ) (f : ℕ → X → List ℕ) (k : ℕ) (xs : List X) → ((j : ℕ) (x : X) → slice_get xs j ≡ Some x → IsUpTo d (f (k + j) x))
+    → IsUpTo (d * length xs) (each_numbered f k xs)
 listed_up d f k [] each = record { most = omega arith }
 listed_up d f k (x ∷ xs) each =
     let here : IsUpTo d (f k x) = subst (λ n. IsUpTo d (f n x)) (first_place k) (each 0 x refl) in
-    let rest : IsUpTo (d * length xs) (each_numbered f (k + 1) xs) = listed_up d f (k + 1) xs (λ j y e. subst (λ n. IsUpTo d (f n y)) (next_place k j) (each (suc j) y e)) in
+    let rest : IsUpTo (d * length xs) (each_numbered f (k + 1) xs) = listed_up d f (k + 1) xs
+    (λ j y e. subst (λ n. IsUpTo d (f n y)) (next_place k j) (each (suc j) y e)) in
     subst (λ n. IsUpTo n (f k x ++ each_numbered f (k + 1) xs)) (more d (length xs)) (both d (d * length xs) (f k x) (each_numbered f (k + 1) xs) here rest)
   where
     more : (d n : ℕ) → d + d * n ≡ d * suc n
     more d n = omega (arith, mul-suc d n)
 
-flat_up : {X : Type 0} (f : X → List ℕ) (xs : List X) → ((j : ℕ) (x : X) → slice_get xs j ≡ Some x → IsUpTo 256 (f x)) → IsUpTo (256 * length xs) (flat_map f xs)
+flat_up : {X : Type 0} (f : X → List ℕ) (xs : List X) → ((j : ℕ) (x : X) → slice_get xs j ≡ Some x → IsUpTo 256 (f x))
+    → IsUpTo (256 * length xs) (flat_map f xs)
 flat_up f [] each = short (lit≤ tt)
 flat_up f (x ∷ xs) each =
     let here : IsUpTo 256 (f x) = each 0 x refl in
@@ -97,11 +103,14 @@ flat_up f (x ∷ xs) each =
 
 note_up : (n : NoteTree) → IsShortNote n → IsUpTo 100057 (note_line n)
 note_up n h =
-    both 10 100047 (codes "  // line ") _ (short (lit≤ tt)) (both 10 100037 (decimal n.line) _ (digits_32 n.line h.line) (both 2 100035 (codes ": ") _ (short (lit≤ tt)) (both 32 100003 n.name _ (short h.name)
+    both 10 100047 (codes "  // line ") _ (short (lit≤ tt))
+    (both 10 100037 (decimal n.line) _ (digits_32 n.line h.line) (both 2 100035 (codes ": ") _ (short (lit≤ tt)) (both 32 100003 n.name _ (short h.name)
     (both 2 100001 (codes ", ") _ (short (lit≤ tt)) (both 100000 1 (st_text n.layout) (codes "\n") (type_up n.layout h.layout) (short (lit≤ tt)))))))
 
-between_up : (f : ℕ → SizedCell → List ℕ) (cells : List SizedCell) (k to : ℕ) → ((j : ℕ) (x : SizedCell) → slice_get cells j ≡ Some x → IsUpTo 256 (f j x)) → length (between f cells k to) ≤ 256 * length (take (to - k) (drop k cells))
-between_up f cells k to each = (listed_up 256 f k (take (to - k) (drop k cells)) (λ j x e. each (k + j) x (rest_get cells k j x (part_get (drop k cells) (to - k) j x e)))).most
+between_up : (f : ℕ → SizedCell → List ℕ) (cells : List SizedCell) (k to : ℕ) → ((j : ℕ) (x : SizedCell) → slice_get cells j ≡ Some x → IsUpTo 256 (f j x))
+    → length (between f cells k to) ≤ 256 * length (take (to - k) (drop k cells))
+between_up f cells k to each =
+    (listed_up 256 f k (take (to - k) (drop k cells)) (λ j x e. each (k + j) x (rest_get cells k j x (part_get (drop k cells) (to - k) j x e)))).most
 
 from_up : (f : ℕ → SizedCell → List ℕ) (cells : List SizedCell) (k : ℕ) (ns : List NoteTree) → AreShortNotes ns
     → ((j : ℕ) (x : SizedCell) → slice_get cells j ≡ Some x → IsUpTo 256 (f j x)) → length (noted f cells k ns) ≤ 256 * (length cells - k) + 100057 * length ns
@@ -111,7 +120,16 @@ from_up f cells k (n ∷ ns) notes each =
     let here = between_up f cells k n.cell each in
     let one = note_up n (notes 0 n refl) in
     let rest = from_up f cells (max k n.cell) ns (λ i m e. notes (suc i) m e) each in
-    omega (arith, here, one.most, rest, length-take (n.cell - k) (drop k cells), length-drop k cells, length-append (between f cells k n.cell) (note_line n ++ noted f cells (max k n.cell) ns), length-append (note_line n) (noted f cells (max k n.cell) ns))
+    omega (
+      arith,
+      here,
+      one.most,
+      rest,
+      length-take (n.cell - k) (drop k cells),
+      length-drop k cells,
+      length-append (between f cells k n.cell) (note_line n ++ noted f cells (max k n.cell) ns),
+      length-append (note_line n) (noted f cells (max k n.cell) ns),
+    )
 
 -- ---- the numbers of lines
 
@@ -136,11 +154,15 @@ line_below notes count k h = elim (nat_lt k count) as (λ t. (if t then line_of 
 -- ---- the report
 
 number_up : (name : List ℕ) (n : ℕ) → IsUpTo 8 name → n < 2 ^ 32 → IsUpTo 23 (number_line name n)
-number_up name n h k = both 3 20 (codes "// ") _ (short (lit≤ tt)) (both 8 12 name _ h (both 1 11 (codes " ") _ (short (lit≤ tt)) (both 10 1 (decimal n) (codes "\n") (digits_32 n k) (short (lit≤ tt)))))
+number_up name n h k =
+    both 3 20 (codes "// ") _ (short (lit≤ tt)) (both 8 12 name _ h
+    (both 1 11 (codes " ") _ (short (lit≤ tt)) (both 10 1 (decimal n) (codes "\n") (digits_32 n k) (short (lit≤ tt)))))
 
 in_up : (k : ℕ) (t : StTree) → k < 2 ^ 32 → IsInSize t → IsUpTo 100019 (in_line k t)
 in_up k t few h =
-    looser 100018 1 _ (both 6 100012 (codes "// in ") _ (short (lit≤ tt)) (both 10 100002 (decimal k) _ (digits_32 k few) (both 1 100001 (codes " ") _ (short (lit≤ tt)) (both 100000 1 (st_text t) (codes "\n") (type_up t h) (short (lit≤ tt))))))
+    looser 100018 1 _ (both 6 100012 (codes "// in ") _ (short (lit≤ tt))
+    (both 10 100002 (decimal k) _ (digits_32 k few) (both 1 100001 (codes " ") _ (short (lit≤ tt))
+    (both 100000 1 (st_text t) (codes "\n") (type_up t h) (short (lit≤ tt))))))
 
 out_up : (outs k : ℕ) (t : StTree) → k < 2 ^ 32 → IsInSize t → IsUpTo 100019 (out_line outs k t)
 out_up outs k t few h =
@@ -149,17 +171,30 @@ out_up outs k t few h =
     (looser 100008 11 _ (both 7 100001 (codes "// out ") _ (short (lit≤ tt)) last))
     (both 7 100012 (codes "// out ") _ (short (lit≤ tt)) (both 10 100002 (decimal k) _ (digits_32 k few) (both 1 100001 (codes " ") _ (short (lit≤ tt)) last)))
 
-layouts_up : (f : ℕ → StTree → List ℕ) (ts : List StTree) → length ts ≤ 8 → AreInSize ts → ((k : ℕ) (t : StTree) → k < 2 ^ 32 → IsInSize t → IsUpTo 100019 (f k t)) → IsUpTo 800152 (each_numbered f 0 ts)
+layouts_up : (f : ℕ → StTree → List ℕ) (ts : List StTree) → length ts ≤ 8 → AreInSize ts
+    → ((k : ℕ) (t : StTree) → k < 2 ^ 32 → IsInSize t → IsUpTo 100019 (f k t)) → IsUpTo 800152 (each_numbered f 0 ts)
 layouts_up f ts few sizes each =
-    record { most = omega (arith, few, (listed_up 100019 f 0 ts (λ j t e. each (0 + j) t (let inside = slice_get_within ts j t e in omega (arith, few, inside)) (sizes j t e))).most) }
+    record {
+      most = omega (
+        arith,
+        few,
+        (listed_up 100019 f 0 ts
+            (λ j t e. each (0 + j) t (let inside = slice_get_within ts j t e in omega (arith, few, inside)) (sizes j t e))).most,
+      );
+    }
 
-pub report_up : (r : ReportTree) (notes : List NoteTree) (cells : List SizedCell) (outlets : List Outlet) → HaveNumbers r notes → IsShort r notes cells outlets → IsUpTo 2000000 (report_lines r)
+pub report_up : (r : ReportTree) (notes : List NoteTree) (cells : List SizedCell) (outlets : List Outlet) → HaveNumbers r notes → IsShort r notes cells outlets
+    → IsUpTo 2000000 (report_lines r)
 unfolding report_lines
 report_up r notes cells outlets h sizes =
-    looser 1600416 399584 _ (both 10 1600406 (codes "// aeth 1\n") _ (short (lit≤ tt)) (both 23 1600383 (number_line (codes "slowdown") r.slowdown) _ (number_up (codes "slowdown") r.slowdown (short (lit≤ tt)) h.slowdown)
-    (both 23 1600360 (number_line (codes "latency") r.latency) _ (number_up (codes "latency") r.latency (short (lit≤ tt)) h.latency) (both 23 1600337 (number_line (codes "muls") r.muls) _ (number_up (codes "muls") r.muls (short (lit≤ tt)) h.muls)
-    (both 23 1600314 (number_line (codes "load") r.load) _ (number_up (codes "load") r.load (short (lit≤ tt)) h.load) (both 10 1600304 (enable_line r.enable) _ (enable_up r.enable)
-    (both 800152 800152 (each_numbered in_line 0 r.ins) _ (layouts_up in_line r.ins sizes.few_ins sizes.ins in_up) (layouts_up (out_line (length r.outs)) r.outs sizes.few_outs sizes.outs (out_up (length r.outs))))))))))
+    looser 1600416 399584 _ (both 10 1600406 (codes "// aeth 1\n") _ (short (lit≤ tt))
+    (both 23 1600383 (number_line (codes "slowdown") r.slowdown) _ (number_up (codes "slowdown") r.slowdown (short (lit≤ tt)) h.slowdown)
+    (both 23 1600360 (number_line (codes "latency") r.latency) _ (number_up (codes "latency") r.latency (short (lit≤ tt)) h.latency)
+    (both 23 1600337 (number_line (codes "muls") r.muls) _ (number_up (codes "muls") r.muls (short (lit≤ tt)) h.muls)
+    (both 23 1600314 (number_line (codes "load") r.load) _ (number_up (codes "load") r.load (short (lit≤ tt)) h.load)
+    (both 10 1600304 (enable_line r.enable) _ (enable_up r.enable)
+    (both 800152 800152 (each_numbered in_line 0 r.ins) _ (layouts_up in_line r.ins sizes.few_ins sizes.ins in_up)
+    (layouts_up (out_line (length r.outs)) r.outs sizes.few_outs sizes.outs (out_up (length r.outs))))))))))
   where
     enable_up : (b : Bool) → IsUpTo 10 (enable_line b)
     enable_up true = short (lit≤ tt)
@@ -167,7 +202,8 @@ report_up r notes cells outlets h sizes =
 
 -- ---- the whole
 
-module _ (r : ReportTree) (notes : List NoteTree) (cells : List SizedCell) (outlets : List Outlet) (outs : ℕ) (ok : IsListable cells outlets) (told : HaveNumbers r notes) (sizes : IsShort r notes cells outlets) where
+module _ (r : ReportTree) (notes : List NoteTree) (cells : List SizedCell) (outlets : List Outlet) (outs : ℕ) (ok : IsListable cells outlets)
+    (told : HaveNumbers r notes) (sizes : IsShort r notes cells outlets) where
   abbrev lines : ℕ → ℕ
   lines = lines_of notes (length cells)
 
@@ -191,13 +227,19 @@ module _ (r : ReportTree) (notes : List NoteTree) (cells : List SizedCell) (outl
   module_up =
       let ins = flat_up (λ (x : SizedCell). input_text x.width x.cell) cells (λ j x e. input_up lines numbers cells good j x e) in
       let os = flat_up (output_text cells outs) outlets (λ j o e. output_up lines numbers cells good outlets outs ok.shown j o e (port_at j o e)) in
-      let declared = from_up (λ net (x : SizedCell). declaration_text lines cells net x.width x.cell) cells 0 notes noted_short (λ j x e. declared_up lines numbers cells good j x e) in
-      let assigned = flat_up (assignment_text lines cells outs) outlets (λ j o e. assigned_up lines numbers cells good outlets outs ok.shown j o e (port_at j o e)) in
-      let edges = listed_up 256 (λ net (x : SizedCell). edge_text lines cells net x.cell) 0 cells (λ j x e. subst (λ k. IsUpTo 256 (edge_text lines cells k x.cell)) (let here : j ≡ 0 + j = omega arith in here) (edge_up lines numbers cells good j x e)) in
+      let declared = from_up (λ net (x : SizedCell). declaration_text lines cells net x.width x.cell) cells 0 notes noted_short
+      (λ j x e. declared_up lines numbers cells good j x e) in
+      let assigned = flat_up (assignment_text lines cells outs) outlets
+      (λ j o e. assigned_up lines numbers cells good outlets outs ok.shown j o e (port_at j o e)) in
+      let edges = listed_up 256 (λ net (x : SizedCell). edge_text lines cells net x.cell) 0 cells
+      (λ j x e. subst (λ k. IsUpTo 256 (edge_text lines cells k x.cell)) (let here : j ≡ 0 + j = omega arith in here)
+      (edge_up lines numbers cells good j x e)) in
       sum _ _ _ _ _ ins os (short declared) assigned edges
     where
-      sum : (a b c d e : List ℕ) → IsUpTo (256 * length cells) a → IsUpTo (256 * length outlets) b → IsUpTo (256 * (length cells - 0) + 100057 * length notes) c → IsUpTo (256 * length outlets) d → IsUpTo (256 * length cells) e
-          → length ((codes "module aeth (\n  input wire clk" ++ (a ++ (b ++ codes "\n);\n"))) ++ (c ++ (d ++ (e ++ codes "endmodule\n")))) ≤ 256 + 768 * length cells + 512 * length outlets + 100057 * length notes
+      sum : (a b c d e : List ℕ) → IsUpTo (256 * length cells) a → IsUpTo (256 * length outlets) b
+          → IsUpTo (256 * (length cells - 0) + 100057 * length notes) c → IsUpTo (256 * length outlets) d → IsUpTo (256 * length cells) e
+          → length ((codes "module aeth (\n  input wire clk" ++ (a ++ (b ++ codes "\n);\n"))) ++ (c ++ (d ++ (e ++ codes "endmodule\n")))) ≤ 256 + 768 * length
+          cells + 512 * length outlets + 100057 * length notes
       sum a b c d e ha hb hc hd he =
           let head : IsUpTo 31 (codes "module aeth (\n  input wire clk") = short (lit≤ tt) in
           let close : IsUpTo 4 (codes "\n);\n") = short (lit≤ tt) in
@@ -206,8 +248,18 @@ module _ (r : ReportTree) (notes : List NoteTree) (cells : List SizedCell) (outl
 
   pub short_listing : length (whole_text (report_lines r) notes cells outlets outs) < 2 ^ 32
   short_listing =
-      let quiet : List ℕ = codes "// verilator lint_off CMPCONST\n// verilator lint_off DECLFILENAME\n// verilator lint_off UNSIGNED\n// verilator lint_off UNUSEDSIGNAL\n" in
+      let quiet : List ℕ = codes
+      "// verilator lint_off CMPCONST\n// verilator lint_off DECLFILENAME\n// verilator lint_off UNSIGNED\n// verilator lint_off UNUSEDSIGNAL\n" in
       let q : IsUpTo 200 quiet = short (lit≤ tt) in
       let few = sizes.few_notes in
       let small = sizes.small in
-      omega (arith, small, few, q.most, module_up, (report_up r notes cells outlets told sizes).most, length-append (report_lines r) (quiet ++ module_text lines notes cells outlets outs), length-append quiet (module_text lines notes cells outlets outs))
+      omega (
+        arith,
+        small,
+        few,
+        q.most,
+        module_up,
+        (report_up r notes cells outlets told sizes).most,
+        length-append (report_lines r) (quiet ++ module_text lines notes cells outlets outs),
+        length-append quiet (module_text lines notes cells outlets outs),
+      )

@@ -33,9 +33,12 @@ module _ (lines : ℕ → ℕ) (cells : List SizedCell) where
   value_light width Eq a b c = omega arith
   value_light width Lt a b c = omega arith
   value_light width Mux a b c = omega arith
-  value_light width (Shl by) a b c = one_of (nat_lt by width) (binary LeftBy (net_value lines cells a) (constant 6 by true)) (constant width 0 true) (omega arith) (omega arith)
-  value_light width (Shr by) a b c = one_of (nat_lt by width) (binary RightBy (net_value lines cells a) (constant 6 by true)) (constant width 0 true) (omega arith) (omega arith)
-  value_light width (Cast to) a b c = one_of (nat_lt to (width_of cells a)) (part (net_name lines cells a) (to - 1) 0) (net_value lines cells a) (omega arith) (omega arith)
+  value_light width (Shl by) a b c = one_of (nat_lt by width) (binary LeftBy (net_value lines cells a) (constant 6 by true)) (constant width 0 true)
+      (omega arith) (omega arith)
+  value_light width (Shr by) a b c = one_of (nat_lt by width) (binary RightBy (net_value lines cells a) (constant 6 by true)) (constant width 0 true)
+      (omega arith) (omega arith)
+  value_light width (Cast to) a b c = one_of (nat_lt to (width_of cells a)) (part (net_name lines cells a) (to - 1) 0) (net_value lines cells a) (omega arith)
+      (omega arith)
   value_light width SLt a b c = omega arith
   value_light width SMin a b c = omega arith
   value_light width SMax a b c = omega arith
@@ -48,7 +51,9 @@ module _ (lines : ℕ → ℕ) (cells : List SizedCell) where
   abbrev change : ℕ → SizedCell → List ItemTree
   change k x = edge lines cells k x.cell
 
-  cell_light : (item k width : ℕ) (cell : Cell) → length (input_nets width cell) + (length (declared_nets lines item k width cell) + (sum_by item_weight (declaration lines cells k width cell) + sum_by item_weight (edge lines cells k cell))) ≤ 4
+  cell_light : (item k width : ℕ) (cell : Cell) → length
+      (input_nets width cell) + (length (declared_nets lines item k width cell) + (sum_by item_weight
+      (declaration lines cells k width cell) + sum_by item_weight (edge lines cells k cell))) ≤ 4
   cell_light item k width (Input port) = omega arith
   cell_light item k width (Const v) = omega arith
   cell_light item k width (Op op args) = let r = value_light width op (operand args 0) (operand args 1) (operand args 2) in omega arith
@@ -56,20 +61,24 @@ module _ (lines : ℕ → ℕ) (cells : List SizedCell) where
   cell_light item k width (Mem depth at next enable) = omega arith
   cell_light item k width (Peek mem at) = omega arith
 
-  cells_light : (item k : ℕ) (xs : List SizedCell) → length (each_numbered (λ net (sized : SizedCell). input_nets sized.width sized.cell) k xs) + (length (declared_from lines item k xs) + (sum_by item_weight (each_numbered declare k xs) + sum_by item_weight (each_numbered change k xs))) ≤ 4 * length xs
+  cells_light : (item k : ℕ) (xs : List SizedCell) → length
+      (each_numbered (λ net (sized : SizedCell). input_nets sized.width sized.cell) k xs) + (length
+      (declared_from lines item k xs) + (sum_by item_weight (each_numbered declare k xs) + sum_by item_weight (each_numbered change k xs))) ≤ 4 * length xs
   cells_light item k [] = omega arith
   cells_light item k (x ∷ xs) =
       let one = cell_light item k x.width x.cell in
       let rest = cells_light (item + length (declared_nets lines item k x.width x.cell)) (k + 1) xs in
       let a = length-append (input_nets x.width x.cell) (each_numbered (λ net (sized : SizedCell). input_nets sized.width sized.cell) (k + 1) xs) in
-      let b = length-append (declared_nets lines item k x.width x.cell) (declared_from lines (item + length (declared_nets lines item k x.width x.cell)) (k + 1) xs) in
+      let b = length-append (declared_nets lines item k x.width x.cell)
+      (declared_from lines (item + length (declared_nets lines item k x.width x.cell)) (k + 1) xs) in
       let c = sum_by-append item_weight (declare k x) (each_numbered declare (k + 1) xs) in
       let d = sum_by-append item_weight (change k x) (each_numbered change (k + 1) xs) in
       omega arith
 
   outputs_light : (outs : ℕ) (os : List Outlet) → sum_by item_weight (map (assignment lines cells outs) os) ≤ length os
   outputs_light outs [] = omega arith
-  outputs_light outs (o ∷ os) = let r = outputs_light outs os in let e = sum_by-cons item_weight (assignment lines cells outs o) (map (assignment lines cells outs) os) in omega arith
+  outputs_light outs (o ∷ os) = let r = outputs_light outs os in
+      let e = sum_by-cons item_weight (assignment lines cells outs o) (map (assignment lines cells outs) os) in omega arith
 
   pub light : (outlets : List Outlet) (outs : ℕ) → weight (netlist_module lines cells outlets outs) ≤ 1 + 4 * length cells + 4 * length outlets
   light outlets outs =

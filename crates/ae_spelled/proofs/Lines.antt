@@ -122,24 +122,29 @@ zero_token = refl
 
 pub net_named : (lines : ℕ → ℕ) → (net : ℕ) → IsNameText (number_name lines net)
 unfolding number_name
-net_named lines net = elim (lines net == 0) as (λ t. IsNameText (if t then codes "n" ++ decimal net else codes "l" ++ (decimal (lines net) ++ (codes "_n" ++ decimal net)))) [
-  | true ↦ number_named 110 net refl
-  | false ↦ marked_name 108 (decimal (lines net) ++ (codes "_n" ++ decimal net)) refl (decimal_starts (lines net) (codes "_n" ++ decimal net))
-      (named_both (decimal (lines net)) (codes "_n" ++ decimal net) (decimal_named (lines net)) (named_both (codes "_n") (decimal net) refl (decimal_named net)))
-]
+net_named lines net =
+    elim (lines net == 0) as (λ t. IsNameText (if t then codes "n" ++ decimal net else codes "l" ++ (decimal (lines net) ++ (codes "_n" ++ decimal net)))) [
+      | true ↦ number_named 110 net refl
+      | false ↦ marked_name 108 (decimal (lines net) ++ (codes "_n" ++ decimal net)) refl (decimal_starts (lines net) (codes "_n" ++ decimal net))
+          (named_both (decimal (lines net)) (codes "_n" ++ decimal net) (decimal_named (lines net))
+          (named_both (codes "_n") (decimal net) refl (decimal_named net)))
+    ]
 
 -- the range of a word of at most 64 bits
 abbrev pub range_form : ℕ → Option NumberForm
 range_form width = if nat_lt 1 width then Some (number_form (width - 1)) else None
 
-pub range_piece : (width : ℕ) → width ≤ 64 → (rest : List ℕ) (us : List TokenTree) → AreTokens rest us → AreTokens (range_text width ++ rest) (range_tokens (range_form width) ++ us)
-range_piece width small rest us h = elim (nat_lt 1 width) as (λ t. AreTokens ((if t then codes "[" ++ (decimal (width - 1) ++ codes ":0] ") else []) ++ rest) (range_tokens (if t then Some (number_form (width - 1)) else None) ++ us)) [
-  | true ↦ simp append_assoc (mark 91 _ _ _ open_bracket_token refl (
-      spaced (decimal (width - 1)) 58 _ _ _ (decimal_token (width - 1) (omega arith)) refl (
-      mark 58 _ _ _ colon_token refl (spaced (codes "0") 93 _ _ _ zero_token refl (
-      mark 93 _ _ _ close_bracket_token refl (blank_then 32 _ _ refl h))))))
-  | false ↦ h
-]
+pub range_piece : (width : ℕ) → width ≤ 64 → (rest : List ℕ) (us : List TokenTree) → AreTokens rest us
+    → AreTokens (range_text width ++ rest) (range_tokens (range_form width) ++ us)
+range_piece width small rest us h =
+    elim (nat_lt 1 width) as (λ t. AreTokens ((if t then codes "[" ++ (decimal (width - 1) ++ codes ":0] ") else []) ++ rest)
+    (range_tokens (if t then Some (number_form (width - 1)) else None) ++ us)) [
+      | true ↦ simp append_assoc (mark 91 _ _ _ open_bracket_token refl (
+          spaced (decimal (width - 1)) 58 _ _ _ (decimal_token (width - 1) (omega arith)) refl (
+          mark 58 _ _ _ colon_token refl (spaced (codes "0") 93 _ _ _ zero_token refl (
+          mark 93 _ _ _ close_bracket_token refl (blank_then 32 _ _ refl h))))))
+      | false ↦ h
+    ]
 
 pub range_clean : (width : ℕ) → width ≤ 64 → IsClean (range_text width)
 range_clean width small = elim (nat_lt 1 width) as (λ t. IsClean (if t then codes "[" ++ (decimal (width - 1) ++ codes ":0] ") else [])) [
@@ -153,7 +158,8 @@ driven n value = record { name = n; value = expr_form value }
 abbrev pub value_item : (lines : ℕ → ℕ) → (width net : ℕ) → ExprTree → ItemForm
 value_item lines width net value = WireDrives (range_form width) (driven (number_name lines net) value) []
 
-pub value_line : (lines : ℕ → ℕ) → (width net : ℕ) (value : ExprTree) → width ≤ 64 → IsWritable value → IsTextOf (value_text lines width net value) (item_tokens (value_item lines width net value))
+pub value_line : (lines : ℕ → ℕ) → (width net : ℕ) (value : ExprTree) → width ≤ 64 → IsWritable value
+    → IsTextOf (value_text lines width net value) (item_tokens (value_item lines width net value))
 value_line lines width net value small w = record {
   tokens = λ rest us h. simp append_assoc (
       blank_then 32 _ _ refl (blank_then 32 _ _ refl (spaced (codes "wire") 32 _ _ _ wire_token refl (blank_then 32 _ _ refl (
@@ -178,10 +184,12 @@ widen_on = record { tokens = λ rest us h. skip _ rest us refl h; clean = record
 widen_off : IsTextOf (codes "  // verilator lint_on WIDTH\n") []
 widen_off = record { tokens = λ rest us h. skip _ rest us refl h; clean = record { all = refl } }
 
-pub quiet_line : IsTextOf (codes "// verilator lint_off CMPCONST\n// verilator lint_off DECLFILENAME\n// verilator lint_off UNSIGNED\n// verilator lint_off UNUSEDSIGNAL\n") []
+pub quiet_line : IsTextOf
+    (codes "// verilator lint_off CMPCONST\n// verilator lint_off DECLFILENAME\n// verilator lint_off UNSIGNED\n// verilator lint_off UNUSEDSIGNAL\n") []
 quiet_line = record { tokens = λ rest us h. skip _ rest us refl h; clean = record { all = refl } }
 
-pub widened_line : (lines : ℕ → ℕ) → (width net : ℕ) (value : ExprTree) → width ≤ 64 → IsWritable value → IsTextOf (widened_text lines width net value) (item_tokens (value_item lines width net value))
+pub widened_line : (lines : ℕ → ℕ) → (width net : ℕ) (value : ExprTree) → width ≤ 64 → IsWritable value
+    → IsTextOf (widened_text lines width net value) (item_tokens (value_item lines width net value))
 widened_line lines width net value small w =
     let whole = both_texts _ _ _ _ widen_on (both_texts _ _ _ _ (value_line lines width net value small w) widen_off) in
     subst (IsTextOf (widened_text lines width net value)) (append-nil (item_tokens (value_item lines width net value))) whole
@@ -208,7 +216,8 @@ memory_register lines net depth = record { name = number_name lines net; last = 
 abbrev pub memory_item : (lines : ℕ → ℕ) → (width net depth : ℕ) → ItemForm
 memory_item lines width net depth = RegItem (range_form width) (memory_register lines net depth) []
 
-pub memory_line : (lines : ℕ → ℕ) → (width net depth : ℕ) → width ≤ 64 → depth ≤ 65536 → IsTextOf (memory_text lines width net depth) (item_tokens (memory_item lines width net depth))
+pub memory_line : (lines : ℕ → ℕ) → (width net depth : ℕ) → width ≤ 64 → depth ≤ 65536
+    → IsTextOf (memory_text lines width net depth) (item_tokens (memory_item lines width net depth))
 memory_line lines width net depth small shallow = record {
   tokens = λ rest us h. simp append_assoc (
       blank_then 32 _ _ refl (blank_then 32 _ _ refl (spaced (codes "reg") 32 _ _ _ reg_token refl (blank_then 32 _ _ refl (
@@ -224,13 +233,15 @@ memory_line lines width net depth small shallow = record {
 abbrev pub assign_item : (n v : List ℕ) → ItemForm
 assign_item n v = AssignItem (driven n (name v)) []
 
-pub assign_line : (n v : List ℕ) → IsNameText n → IsNameText v → IsTextOf (codes "  assign " ++ (n ++ (codes " = " ++ (v ++ codes ";\n")))) (item_tokens (assign_item n v))
+pub assign_line : (n v : List ℕ) → IsNameText n → IsNameText v
+    → IsTextOf (codes "  assign " ++ (n ++ (codes " = " ++ (v ++ codes ";\n")))) (item_tokens (assign_item n v))
 assign_line n v hn hv = record {
   tokens = λ rest us h. simp append_assoc (
       blank_then 32 _ _ refl (blank_then 32 _ _ refl (spaced (codes "assign") 32 _ _ _ assign_token refl (blank_then 32 _ _ refl (
       spaced n 32 _ _ _ hn.token refl (blank_then 32 _ _ refl (spaced (codes "=") 32 _ _ _ equals_token refl (blank_then 32 _ _ refl (
       spaced v 59 _ _ _ hv.token refl (mark 59 _ _ _ semicolon_token refl (blank_then 10 _ _ refl h)))))))))));
-  clean = clean_then (codes "  assign ") _ refl (clean_both n _ hn.clean (clean_then (codes " = ") _ refl (clean_both v (codes ";\n") hv.clean (record { all = refl }))));
+  clean = clean_then (codes "  assign ") _ refl (clean_both n _ hn.clean
+      (clean_then (codes " = ") _ refl (clean_both v (codes ";\n") hv.clean (record { all = refl }))));
 }
 
 abbrev pub register_edge_item : (n next : List ℕ) → ItemForm
@@ -252,7 +263,8 @@ register_edge_line n next own hn = record {
 abbrev pub memory_edge_item : (n at next enable : List ℕ) → ItemForm
 memory_edge_item n at next enable = AlwaysItem clock_name (IfForm (NameForm enable) (PutForm n (NameForm at) (NameForm next)))
 
-pub memory_edge_line : (n at next enable : List ℕ) → IsNameText n → IsNameText at → IsNameText next → IsNameText enable → IsTextOf (memory_edge n at next enable) (item_tokens (memory_edge_item n at next enable))
+pub memory_edge_line : (n at next enable : List ℕ) → IsNameText n → IsNameText at → IsNameText next → IsNameText enable
+    → IsTextOf (memory_edge n at next enable) (item_tokens (memory_edge_item n at next enable))
 memory_edge_line n at next enable own ha hn he = record {
   tokens = λ rest us h. simp append_assoc (
       blank_then 32 _ _ refl (blank_then 32 _ _ refl (spaced (codes "always") 32 _ _ _ always_token refl (blank_then 32 _ _ refl (

@@ -15,4 +15,5 @@ numbered_alike f k (x ∷ xs) = ap (λ ys. f x ++ ys) (numbered_alike f (k + 1) 
 
 pub are_ports : (lines : ℕ → ℕ) (n : Circuit) (outs : ℕ) → IsWritableNetlist n.cells n.outlets outs → ArePorts lines n outs
 are_ports lines n outs ok =
-    λ i. (inputs_are lines n.cells n.outlets outs ok ∙ numbered_alike (λ (sized : SizedCell). input_nets sized.width sized.cell) 0 n.cells) i ++ outputs_are lines n.cells n.outlets outs ok i
+    λ i. (inputs_are lines n.cells n.outlets outs ok ∙ numbered_alike (λ (sized : SizedCell). input_nets sized.width sized.cell) 0 n.cells) i
+    ++ outputs_are lines n.cells n.outlets outs ok i

@@ -39,12 +39,14 @@ three_numbers a b c =
     (named_both (codes "_") (decimal b ++ (codes "_" ++ decimal c)) refl (two_numbers b c))
 
 result_named : (outs result lane word : ℕ) → IsNameText (port_name outs (Out result lane word))
-result_named outs result lane word = elim (outs == 1) as (λ t. IsNameText (if t then codes "o_" ++ (decimal lane ++ (codes "_" ++ decimal word)) else codes "o" ++ (decimal result ++ (codes "_" ++ (decimal lane ++ (codes "_" ++ decimal word)))))) [
-  | true ↦ marked_name 111 (codes "_" ++ (decimal lane ++ (codes "_" ++ decimal word))) refl refl
-      (named_both (codes "_") (decimal lane ++ (codes "_" ++ decimal word)) refl (two_numbers lane word))
-  | false ↦ marked_name 111 _ refl (decimal_starts result (codes "_" ++ (decimal lane ++ (codes "_" ++ decimal word))))
-      (three_numbers result lane word)
-]
+result_named outs result lane word =
+    elim (outs == 1) as (λ t. IsNameText (if t then codes "o_" ++ (decimal lane ++ (codes "_" ++ decimal word)) else codes "o"
+    ++ (decimal result ++ (codes "_" ++ (decimal lane ++ (codes "_" ++ decimal word)))))) [
+      | true ↦ marked_name 111 (codes "_" ++ (decimal lane ++ (codes "_" ++ decimal word))) refl refl
+          (named_both (codes "_") (decimal lane ++ (codes "_" ++ decimal word)) refl (two_numbers lane word))
+      | false ↦ marked_name 111 _ refl (decimal_starts result (codes "_" ++ (decimal lane ++ (codes "_" ++ decimal word))))
+          (three_numbers result lane word)
+    ]
 
 handshake_named : (outs : ℕ) (wire : Handshake) → IsNameText (port_name outs (Stream wire))
 handshake_named outs SourceValid = marked_name 115 (codes "_valid") refl refl refl
@@ -101,14 +103,16 @@ pub record AreNamed (lines : ℕ → ℕ) (cells : List SizedCell) (a b c : ℕ)
   pub second : IsNameText (net_name lines cells b)
   pub third : IsNameText (net_name lines cells c)
 
-operands_named : (lines : ℕ → ℕ) → (cells : List SizedCell) (n a b c u v w : ℕ) → IsGood cells → n ≤ length cells → IsNet (take n cells) a u → IsNet (take n cells) b v → IsNet (take n cells) c w → AreNamed lines cells a b c
+operands_named : (lines : ℕ → ℕ) → (cells : List SizedCell) (n a b c u v w : ℕ) → IsGood cells → n ≤ length cells → IsNet (take n cells) a u
+    → IsNet (take n cells) b v → IsNet (take n cells) c w → AreNamed lines cells a b c
 operands_named lines cells n a b c u v w good few ha hb hc = record {
   first = name_named lines cells a good (net_within cells n a u few ha);
   second = name_named lines cells b good (net_within cells n b v few hb);
   third = name_named lines cells c good (net_within cells n c w few hc);
 }
 
-pub all_named : (lines : ℕ → ℕ) → (cells : List SizedCell) (n : ℕ) (op : WordOp) (args : List NetId) (w : ℕ) → IsGood cells → n ≤ length cells → OperandsAre op (IsNet (take n cells)) args w → AreNamed lines cells (operand args 0) (operand args 1) (operand args 2)
+pub all_named : (lines : ℕ → ℕ) → (cells : List SizedCell) (n : ℕ) (op : WordOp) (args : List NetId) (w : ℕ) → IsGood cells → n ≤ length cells
+    → OperandsAre op (IsNet (take n cells)) args w → AreNamed lines cells (operand args 0) (operand args 1) (operand args 2)
 all_named lines cells n Mux args w good few h = operands_named lines cells n _ _ _ _ _ _ good few h.0 h.1 h.2
 all_named lines cells n Add args w good few h = operands_named lines cells n _ _ _ _ _ _ good few h.0 h.1 h.2
 all_named lines cells n Sub args w good few h = operands_named lines cells n _ _ _ _ _ _ good few h.0 h.1 h.2
@@ -138,11 +142,15 @@ is_constant w v low high below = record { positive = low; small = high; below = 
     wide : (w v : ℕ) → w ≤ 64 → v < 2 ^ w → v < 2 ^ 64
     wide w v high below = let most : 2 ^ w ≤ 2 ^ 64 = pow-le-pow_right {n = 2} (lit< tt) high in omega (arith, most, below)
 
-shifted_writable : (lines : ℕ → ℕ) → (cells : List SizedCell) (op : BinOp) (width a by : ℕ) → 1 ≤ width → width ≤ 64 → IsNameText (net_name lines cells a) → IsWritable (shifted_net lines cells op width a by)
+shifted_writable : (lines : ℕ → ℕ) → (cells : List SizedCell) (op : BinOp) (width a by : ℕ) → 1 ≤ width → width ≤ 64 → IsNameText (net_name lines cells a)
+    → IsWritable (shifted_net lines cells op width a by)
 shifted_writable lines cells op width a by low high named = elim (cases_Bool (nat_lt by width)) [
   | inl less ↦
       let below = ltb-true by width less in
-      subst IsWritable (sym (cond-true _ _ _ less)) (named, record { positive = lit< tt; small = lit≤ tt; below = (let h : by < 64 = omega arith in h); wide = omega arith; right = refl })
+      subst IsWritable (sym (cond-true _ _ _ less)) (
+        named,
+        record { positive = lit< tt; small = lit≤ tt; below = (let h : by < 64 = omega arith in h); wide = omega arith; right = refl },
+      )
   | inr past ↦ subst IsWritable (sym (cond-false _ _ _ past)) (is_constant width 0 low high (positive width))
 ]
   where
@@ -150,12 +158,14 @@ shifted_writable lines cells op width a by low high named = elim (cases_Bool (na
     positive w = pow_pos w
 
 cast_writable : (lines : ℕ → ℕ) → (cells : List SizedCell) (to a : ℕ) → to ≤ 64 → IsNameText (net_name lines cells a) → IsWritable (cast_to lines cells to a)
-cast_writable lines cells to a high named = elim (nat_lt to (width_of cells a)) as (λ t. IsWritable (if t then part (net_name lines cells a) (to - 1) 0 else net_value lines cells a)) [
-  | true ↦ (named, (let h : to - 1 < 2 ^ 32 = omega arith in h), (let h : 0 < 2 ^ 32 = omega arith in h))
-  | false ↦ named
-]
+cast_writable lines cells to a high named =
+    elim (nat_lt to (width_of cells a)) as (λ t. IsWritable (if t then part (net_name lines cells a) (to - 1) 0 else net_value lines cells a)) [
+      | true ↦ (named, (let h : to - 1 < 2 ^ 32 = omega arith in h), (let h : 0 < 2 ^ 32 = omega arith in h))
+      | false ↦ named
+    ]
 
-pub op_writable : (lines : ℕ → ℕ) → (cells : List SizedCell) (width : ℕ) (op : WordOp) (a b c : ℕ) → 1 ≤ width → width ≤ 64 → HasRange op → AreNamed lines cells a b c → IsWritable (op_expression lines cells width op a b c)
+pub op_writable : (lines : ℕ → ℕ) → (cells : List SizedCell) (width : ℕ) (op : WordOp) (a b c : ℕ) → 1 ≤ width → width ≤ 64 → HasRange op
+    → AreNamed lines cells a b c → IsWritable (op_expression lines cells width op a b c)
 op_writable lines cells width Add a b c low high range n = (n.first, n.second)
 op_writable lines cells width Sub a b c low high range n = (n.first, n.second)
 op_writable lines cells width Mul a b c low high range n = (n.first, n.second)
@@ -183,24 +193,28 @@ plain_drive : (n v : List ℕ) → IsDrive (driven n (name v))
 plain_drive n v = record { level = lit≤ tt; formed = tt; depth = lit≤ tt }
 
 shifted_left : (lines : ℕ → ℕ) → (cells : List SizedCell) (width a by : ℕ) (n : List ℕ) → IsDrive (driven n (shifted_net lines cells LeftBy width a by))
-shifted_left lines cells width a by n = elim (nat_lt by width) as (λ t. IsDrive (driven n (if t then binary LeftBy (net_value lines cells a) (constant 6 by true) else constant width 0 true))) [
-  | true ↦ record { level = lit≤ tt; formed = (lit≤ tt, lit< tt, tt, tt); depth = lit≤ tt }
-  | false ↦ record { level = lit≤ tt; formed = tt; depth = lit≤ tt }
-]
+shifted_left lines cells width a by n =
+    elim (nat_lt by width) as (λ t. IsDrive (driven n (if t then binary LeftBy (net_value lines cells a) (constant 6 by true) else constant width 0 true))) [
+      | true ↦ record { level = lit≤ tt; formed = (lit≤ tt, lit< tt, tt, tt); depth = lit≤ tt }
+      | false ↦ record { level = lit≤ tt; formed = tt; depth = lit≤ tt }
+    ]
 
 shifted_right : (lines : ℕ → ℕ) → (cells : List SizedCell) (width a by : ℕ) (n : List ℕ) → IsDrive (driven n (shifted_net lines cells RightBy width a by))
-shifted_right lines cells width a by n = elim (nat_lt by width) as (λ t. IsDrive (driven n (if t then binary RightBy (net_value lines cells a) (constant 6 by true) else constant width 0 true))) [
-  | true ↦ record { level = lit≤ tt; formed = (lit≤ tt, lit< tt, tt, tt); depth = lit≤ tt }
-  | false ↦ record { level = lit≤ tt; formed = tt; depth = lit≤ tt }
-]
+shifted_right lines cells width a by n =
+    elim (nat_lt by width) as (λ t. IsDrive (driven n (if t then binary RightBy (net_value lines cells a) (constant 6 by true) else constant width 0 true))) [
+      | true ↦ record { level = lit≤ tt; formed = (lit≤ tt, lit< tt, tt, tt); depth = lit≤ tt }
+      | false ↦ record { level = lit≤ tt; formed = tt; depth = lit≤ tt }
+    ]
 
 cast_drive : (lines : ℕ → ℕ) → (cells : List SizedCell) (to a : ℕ) (n : List ℕ) → IsDrive (driven n (cast_to lines cells to a))
-cast_drive lines cells to a n = elim (nat_lt to (width_of cells a)) as (λ t. IsDrive (driven n (if t then part (net_name lines cells a) (to - 1) 0 else net_value lines cells a))) [
-  | true ↦ record { level = lit≤ tt; formed = tt; depth = lit≤ tt }
-  | false ↦ record { level = lit≤ tt; formed = tt; depth = lit≤ tt }
-]
+cast_drive lines cells to a n =
+    elim (nat_lt to (width_of cells a)) as (λ t. IsDrive (driven n (if t then part (net_name lines cells a) (to - 1) 0 else net_value lines cells a))) [
+      | true ↦ record { level = lit≤ tt; formed = tt; depth = lit≤ tt }
+      | false ↦ record { level = lit≤ tt; formed = tt; depth = lit≤ tt }
+    ]
 
-pub op_drive : (lines : ℕ → ℕ) → (cells : List SizedCell) (width : ℕ) (op : WordOp) (a b c : ℕ) (n : List ℕ) → IsDrive (driven n (op_expression lines cells width op a b c))
+pub op_drive : (lines : ℕ → ℕ) → (cells : List SizedCell) (width : ℕ) (op : WordOp) (a b c : ℕ) (n : List ℕ)
+    → IsDrive (driven n (op_expression lines cells width op a b c))
 op_drive lines cells width Add a b c n = record { level = lit≤ tt; formed = (lit≤ tt, lit< tt, tt, tt); depth = lit≤ tt }
 op_drive lines cells width Sub a b c n = record { level = lit≤ tt; formed = (lit≤ tt, lit< tt, tt, tt); depth = lit≤ tt }
 op_drive lines cells width Mul a b c n = record { level = lit≤ tt; formed = (lit≤ tt, lit< tt, tt, tt); depth = lit≤ tt }

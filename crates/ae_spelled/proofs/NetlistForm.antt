@@ -32,7 +32,8 @@ output_form cells outs outlet = port_form (OutputHead true) (width_of cells outl
 abbrev pub declaration_form : (lines : ℕ → ℕ) → List SizedCell → (net width : ℕ) → Cell → List ItemForm
 declaration_form lines cells net width (Input port) = []
 declaration_form lines cells net width (Const k) = value_item lines width net (constant width k true) ∷ []
-declaration_form lines cells net width (Op op args) = value_item lines width net (op_expression lines cells width op (operand args 0) (operand args 1) (operand args 2)) ∷ []
+declaration_form lines cells net width (Op op args) =
+    value_item lines width net (op_expression lines cells width op (operand args 0) (operand args 1) (operand args 2)) ∷ []
 declaration_form lines cells net width (Reg next) = register_item lines width net ∷ []
 declaration_form lines cells net width (Mem depth at next enable) = memory_item lines width net depth ∷ []
 declaration_form lines cells net width (Peek mem at) = value_item lines width net (index (net_name lines cells mem.0) (net_value lines cells at.0)) ∷ []
@@ -45,7 +46,8 @@ edge_form lines cells net (Input port) = []
 edge_form lines cells net (Const k) = []
 edge_form lines cells net (Op op args) = []
 edge_form lines cells net (Reg next) = register_edge_item (number_name lines net) (net_name lines cells next.0) ∷ []
-edge_form lines cells net (Mem depth at next enable) = memory_edge_item (number_name lines net) (net_name lines cells at.0) (net_name lines cells next.0) (net_name lines cells enable.0) ∷ []
+edge_form lines cells net (Mem depth at next enable) =
+    memory_edge_item (number_name lines net) (net_name lines cells at.0) (net_name lines cells next.0) (net_name lines cells enable.0) ∷ []
 edge_form lines cells net (Peek mem at) = []
 
 abbrev pub port_forms : List SizedCell → List Outlet → ℕ → List PortForm
@@ -75,7 +77,8 @@ pub flat_flat : {X Y A : Type 0} (g : Y → List A) (f : X → List Y) (xs : Lis
 flat_flat g f [] = refl
 flat_flat g f (x ∷ xs) = flat_both g (f x) (flat_map f xs) ∙ ap (λ l. flat_map g (f x) ++ l) (flat_flat g f xs)
 
-pub flat_listed : {X Y A : Type 0} (g : Y → List A) (f : ℕ → X → List Y) (k : ℕ) (xs : List X) → flat_map g (each_numbered f k xs) ≡ each_numbered (λ n x. flat_map g (f n x)) k xs
+pub flat_listed : {X Y A : Type 0} (g : Y → List A) (f : ℕ → X → List Y) (k : ℕ) (xs : List X)
+    → flat_map g (each_numbered f k xs) ≡ each_numbered (λ n x. flat_map g (f n x)) k xs
 flat_listed g f k [] = refl
 flat_listed g f k (x ∷ xs) = flat_both g (f k x) (each_numbered f (k + 1) xs) ∙ ap (λ l. flat_map g (f k x) ++ l) (flat_listed g f (k + 1) xs)
 
@@ -87,7 +90,8 @@ pub map_both : {X A : Type 0} (f : X → A) (xs ys : List X) → map f (xs ++ ys
 map_both f [] ys = refl
 map_both f (x ∷ xs) ys = ap (λ l. f x ∷ l) (map_both f xs ys)
 
-pub map_listed : {X Y A : Type 0} (g : Y → A) (f : ℕ → X → List Y) (k : ℕ) (xs : List X) → map g (each_numbered f k xs) ≡ each_numbered (λ n x. map g (f n x)) k xs
+pub map_listed : {X Y A : Type 0} (g : Y → A) (f : ℕ → X → List Y) (k : ℕ) (xs : List X)
+    → map g (each_numbered f k xs) ≡ each_numbered (λ n x. map g (f n x)) k xs
 map_listed g f k [] = refl
 map_listed g f k (x ∷ xs) = map_both g (f k x) (each_numbered f (k + 1) xs) ∙ ap (λ l. map g (f k x) ++ l) (map_listed g f (k + 1) xs)
 
@@ -101,7 +105,8 @@ next_place k j = omega arith
 pub first_place : (k : ℕ) → k + 0 ≡ k
 first_place k = omega arith
 
-pub listed_same : {X A : Type 0} (f g : ℕ → X → List A) (k : ℕ) (xs : List X) → ((j : ℕ) (x : X) → slice_get xs j ≡ Some x → f (k + j) x ≡ g (k + j) x) → each_numbered f k xs ≡ each_numbered g k xs
+pub listed_same : {X A : Type 0} (f g : ℕ → X → List A) (k : ℕ) (xs : List X) → ((j : ℕ) (x : X) → slice_get xs j ≡ Some x → f (k + j) x ≡ g (k + j) x)
+    → each_numbered f k xs ≡ each_numbered g k xs
 listed_same f g k [] same = refl
 listed_same f g k (x ∷ xs) same =
     ap (λ l. l ++ each_numbered f (k + 1) xs) (subst (λ n. f n x ≡ g n x) (first_place k) (same 0 x refl))
@@ -115,7 +120,8 @@ pub unnumbered : {X A : Type 0} (f : X → List A) (k : ℕ) (xs : List X) → e
 unnumbered f k [] = refl
 unnumbered f k (x ∷ xs) = ap (λ l. f x ++ l) (unnumbered f (k + 1) xs)
 
-pub flat_single : {X Y A : Type 0} (g : Y → List A) (f : X → Y) (h : X → A) (xs : List X) → ((j : ℕ) (x : X) → slice_get xs j ≡ Some x → g (f x) ≡ h x ∷ []) → flat_map g (map f xs) ≡ map h xs
+pub flat_single : {X Y A : Type 0} (g : Y → List A) (f : X → Y) (h : X → A) (xs : List X) → ((j : ℕ) (x : X) → slice_get xs j ≡ Some x → g (f x) ≡ h x ∷ [])
+    → flat_map g (map f xs) ≡ map h xs
 flat_single g f h [] same = refl
 flat_single g f h (x ∷ xs) same =
     ap (λ l. l ++ flat_map g (map f xs)) (same 0 x refl) ∙ ap (λ l. h x ∷ l) (flat_single g f h xs (λ j y e. same (suc j) y e))
@@ -126,7 +132,8 @@ pub size_back : (n : ℕ) → 1 ≤ n → n ≤ 65536 → size_of (number_form (
 size_back n low high =
     ap (λ v. min (v + 1) 4294967295) (number_back (n - 1)) ∙ (let e : min (n - 1 + 1) 4294967295 ≡ n = omega arith in e)
 
-pub net_back : (width : ℕ) (kind : NetKind) (item : ℕ) (n : List ℕ) → 1 ≤ width → width ≤ 64 → net_of (range_form width) kind item n ≡ m.net_of kind item width n
+pub net_back : (width : ℕ) (kind : NetKind) (item : ℕ) (n : List ℕ) → 1 ≤ width → width ≤ 64
+    → net_of (range_form width) kind item n ≡ m.net_of kind item width n
 net_back width kind item n low high = elim (cases_Bool (nat_lt 1 width)) [
   | inl wide ↦
       ap (λ r. net_of r kind item n) (cond-true _ _ _ wide)

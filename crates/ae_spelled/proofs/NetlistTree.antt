@@ -34,14 +34,17 @@ IsEdged lines cells (Input port) = Unit {0}
 IsEdged lines cells (Const k) = Unit {0}
 IsEdged lines cells (Op op args) = Unit {0}
 IsEdged lines cells (Reg next) = IsNameText (net_name lines cells next.0)
-IsEdged lines cells (Mem depth at next enable) = IsNameText (net_name lines cells at.0) × IsNameText (net_name lines cells next.0) × IsNameText (net_name lines cells enable.0)
+IsEdged lines cells (Mem depth at next enable) =
+    IsNameText (net_name lines cells at.0) × IsNameText (net_name lines cells next.0) × IsNameText (net_name lines cells enable.0)
 IsEdged lines cells (Peek mem at) = Unit {0}
 
-pub declared_cell : (lines : ℕ → ℕ) → (cells : List SizedCell) (net width : ℕ) (cell : Cell) → IsGood cells → net < length cells → 1 ≤ width → width ≤ 64 → CellFits (take net cells) cells net width cell → IsDeclared lines cells net width cell
+pub declared_cell : (lines : ℕ → ℕ) → (cells : List SizedCell) (net width : ℕ) (cell : Cell) → IsGood cells → net < length cells → 1 ≤ width → width ≤ 64
+    → CellFits (take net cells) cells net width cell → IsDeclared lines cells net width cell
 declared_cell lines cells net width (Input port) good within low high h = tt
 declared_cell lines cells net width (Const k) good within low high h = is_constant width k low high h
 declared_cell lines cells net width (Op op args) good within low high h =
-    op_writable lines cells width op (operand args 0) (operand args 1) (operand args 2) low high h.range (all_named lines cells net op args _ good (omega (arith, within)) h.operands)
+    op_writable lines cells width op (operand args 0) (operand args 1) (operand args 2) low high h.range
+    (all_named lines cells net op args _ good (omega (arith, within)) h.operands)
 declared_cell lines cells net width (Reg next) good within low high h = tt
 declared_cell lines cells net width (Mem depth at next enable) good within low high h = (h.0, h.1)
 declared_cell lines cells net width (Peek mem at) good within low high h = (
@@ -49,7 +52,8 @@ declared_cell lines cells net width (Peek mem at) good within low high h = (
   name_named lines cells at.0 good (omega (arith, within, get_take_within cells net at.0 _ h.address.net.found)),
 )
 
-pub edged_cell : (lines : ℕ → ℕ) → (cells : List SizedCell) (net width : ℕ) (cell : Cell) → IsGood cells → net < length cells → CellFits (take net cells) cells net width cell → IsEdged lines cells cell
+pub edged_cell : (lines : ℕ → ℕ) → (cells : List SizedCell) (net width : ℕ) (cell : Cell) → IsGood cells → net < length cells
+    → CellFits (take net cells) cells net width cell → IsEdged lines cells cell
 edged_cell lines cells net width (Input port) good within h = tt
 edged_cell lines cells net width (Const k) good within h = tt
 edged_cell lines cells net width (Op op args) good within h = tt
@@ -76,7 +80,8 @@ pub record IsCellOf (lines : ℕ → ℕ) (cells : List SizedCell) (net : ℕ) (
   pub declared : IsDeclared lines cells net sized.width sized.cell
   pub edged : IsEdged lines cells sized.cell
 
-pub cell_of : (lines : ℕ → ℕ) → (cells : List SizedCell) (net : ℕ) (sized : SizedCell) → IsGood cells → slice_get cells net ≡ Some sized → IsCellOf lines cells net sized
+pub cell_of : (lines : ℕ → ℕ) → (cells : List SizedCell) (net : ℕ) (sized : SizedCell) → IsGood cells → slice_get cells net ≡ Some sized
+    → IsCellOf lines cells net sized
 cell_of lines cells net sized good e =
     let fits = good.formed.each net sized e in
     let within = slice_get_within cells net sized e in
@@ -94,7 +99,8 @@ pub record IsOutletOf (lines : ℕ → ℕ) (cells : List SizedCell) (outlet : O
   pub high : width_of cells outlet.net.0 ≤ 64
   pub named : IsNameText (net_name lines cells outlet.net.0)
 
-pub outlet_of : (lines : ℕ → ℕ) → (cells : List SizedCell) (outlets : List Outlet) (k : ℕ) (outlet : Outlet) → IsGood cells → HaveNets cells outlets → slice_get outlets k ≡ Some outlet → IsOutletOf lines cells outlet
+pub outlet_of : (lines : ℕ → ℕ) → (cells : List SizedCell) (outlets : List Outlet) (k : ℕ) (outlet : Outlet) → IsGood cells → HaveNets cells outlets
+    → slice_get outlets k ≡ Some outlet → IsOutletOf lines cells outlet
 outlet_of lines cells outlets k outlet good have e =
     let net = have.each k outlet e in
     let fits = good.formed.each outlet.net.0 net.sized net.found in
@@ -114,14 +120,16 @@ input_back width (Reg next) low high = refl
 input_back width (Mem depth at next enable) low high = refl
 input_back width (Peek mem at) low high = refl
 
-inputs_back : (lines : ℕ → ℕ) → (cells : List SizedCell) → IsGood cells → flat_map port_nets (flat_map (λ (sized : SizedCell). input_forms sized.width sized.cell) cells) ≡ inputs_of cells
+inputs_back : (lines : ℕ → ℕ) → (cells : List SizedCell) → IsGood cells
+    → flat_map port_nets (flat_map (λ (sized : SizedCell). input_forms sized.width sized.cell) cells) ≡ inputs_of cells
 inputs_back lines cells good =
     flat_flat port_nets (λ (sized : SizedCell). input_forms sized.width sized.cell) cells
     ∙ flat_same _ (λ (sized : SizedCell). input_nets sized.width sized.cell) cells (λ j sized e.
     let cell = cell_of lines cells j sized good e in input_back sized.width sized.cell cell.low cell.high)
     ∙ sym (unnumbered (λ (sized : SizedCell). input_nets sized.width sized.cell) 0 cells)
 
-outputs_back : (lines : ℕ → ℕ) → (cells : List SizedCell) (outlets : List Outlet) (outs : ℕ) → IsGood cells → HaveNets cells outlets → flat_map port_nets (map (output_form cells outs) outlets) ≡ map (output_net cells outs) outlets
+outputs_back : (lines : ℕ → ℕ) → (cells : List SizedCell) (outlets : List Outlet) (outs : ℕ) → IsGood cells → HaveNets cells outlets
+    → flat_map port_nets (map (output_form cells outs) outlets) ≡ map (output_net cells outs) outlets
 outputs_back lines cells outlets outs good have =
     flat_single port_nets (output_form cells outs) (output_net cells outs) outlets (λ j outlet e.
     let shown = outlet_of lines cells outlets j outlet good have e in
@@ -134,7 +142,8 @@ nets_both k (i ∷ a) b =
     ∙ sym (append_assoc (item_nets k i) (nets_from (k + 1) a) (nets_from (k + 1 + length a) b))
     ∙ ap (λ n. (item_nets k i ++ nets_from (k + 1) a) ++ nets_from n b) (let e : k + 1 + length a ≡ k + length (i ∷ a) = omega arith in e)
 
-declared_back : (lines : ℕ → ℕ) → (cells : List SizedCell) (item net width : ℕ) (cell : Cell) → 1 ≤ width → width ≤ 64 → IsDeclared lines cells net width cell → nets_from item (declaration_form lines cells net width cell) ≡ declared_nets lines item net width cell
+declared_back : (lines : ℕ → ℕ) → (cells : List SizedCell) (item net width : ℕ) (cell : Cell) → 1 ≤ width → width ≤ 64 → IsDeclared lines cells net width cell
+    → nets_from item (declaration_form lines cells net width cell) ≡ declared_nets lines item net width cell
 declared_back lines cells item net width (Input port) low high h = refl
 declared_back lines cells item net width (Const k) low high h = ap (λ x. x ∷ []) (net_back width WireNet item (number_name lines net) low high)
 declared_back lines cells item net width (Op op args) low high h = ap (λ x. x ∷ []) (net_back width WireNet item (number_name lines net) low high)
@@ -144,7 +153,8 @@ declared_back lines cells item net width (Mem depth at next enable) low high h =
     ∙ ap (λ d. m.net_of (Memory d) item width (number_name lines net)) (size_back depth h.0 h.1))
 declared_back lines cells item net width (Peek mem at) low high h = ap (λ x. x ∷ []) (net_back width WireNet item (number_name lines net) low high)
 
-as_many : (lines : ℕ → ℕ) → (cells : List SizedCell) (item net width : ℕ) (cell : Cell) → length (declaration_form lines cells net width cell) ≡ length (declared_nets lines item net width cell)
+as_many : (lines : ℕ → ℕ) → (cells : List SizedCell) (item net width : ℕ) (cell : Cell)
+    → length (declaration_form lines cells net width cell) ≡ length (declared_nets lines item net width cell)
 as_many lines cells item net width (Input port) = refl
 as_many lines cells item net width (Const k) = refl
 as_many lines cells item net width (Op op args) = refl
@@ -152,18 +162,26 @@ as_many lines cells item net width (Reg next) = refl
 as_many lines cells item net width (Mem depth at next enable) = refl
 as_many lines cells item net width (Peek mem at) = refl
 
-all_declared : (lines : ℕ → ℕ) → (cells : List SizedCell) (item net : ℕ) (rest : List SizedCell) → ((j : ℕ) (sized : SizedCell) → slice_get rest j ≡ Some sized → IsCellOf lines cells (net + j) sized) → nets_from item (each_numbered (λ net (sized : SizedCell). declaration_form lines cells net sized.width sized.cell) net rest) ≡ declared_from lines item net rest
+all_declared : (lines : ℕ → ℕ) → (cells : List SizedCell) (item net : ℕ) (rest : List SizedCell)
+    → ((j : ℕ) (sized : SizedCell) → slice_get rest j ≡ Some sized → IsCellOf lines cells (net + j) sized)
+    → nets_from item (each_numbered (λ net (sized : SizedCell). declaration_form lines cells net sized.width sized.cell) net rest) ≡ declared_from lines item
+    net rest
 all_declared lines cells item net [] each = refl
 all_declared lines cells item net (sized ∷ rest) each =
     let here = subst (λ n. IsCellOf lines cells n sized) (first_place net) (each 0 sized refl) in
     let form : List ItemForm = declaration_form lines cells net sized.width sized.cell in
     nets_both item form (each_numbered (λ net (sized : SizedCell). declaration_form lines cells net sized.width sized.cell) (net + 1) rest)
-    ∙ ap (λ l. l ++ nets_from (item + length form) (each_numbered (λ net (sized : SizedCell). declaration_form lines cells net sized.width sized.cell) (net + 1) rest)) (declared_back lines cells item net sized.width sized.cell here.low here.high here.declared)
-    ∙ ap (λ k. declared_nets lines item net sized.width sized.cell ++ nets_from (item + k) (each_numbered (λ net (sized : SizedCell). declaration_form lines cells net sized.width sized.cell) (net + 1) rest)) (as_many lines cells item net sized.width sized.cell)
-    ∙ ap (λ l. declared_nets lines item net sized.width sized.cell ++ l) (all_declared lines cells (item + length (declared_nets lines item net sized.width sized.cell)) (net + 1) rest
+    ∙ ap (λ l. l ++ nets_from (item + length form) (each_numbered (λ net (sized : SizedCell). declaration_form lines cells net sized.width sized.cell)
+    (net + 1) rest)) (declared_back lines cells item net sized.width sized.cell here.low here.high here.declared)
+    ∙ ap (λ k. declared_nets lines item net sized.width sized.cell
+    ++ nets_from (item + k) (each_numbered (λ net (sized : SizedCell). declaration_form lines cells net sized.width sized.cell) (net + 1) rest))
+    (as_many lines cells item net sized.width sized.cell)
+    ∙ ap (λ l. declared_nets lines item net sized.width sized.cell ++ l)
+    (all_declared lines cells (item + length (declared_nets lines item net sized.width sized.cell)) (net + 1) rest
     (λ j other e. subst (λ n. IsCellOf lines cells n other) (next_place net j) (each (suc j) other e)))
 
-no_assigned : (lines : ℕ → ℕ) → (cells : List SizedCell) (outs k : ℕ) (outlets : List Outlet) → nets_from k (map (assignment_form lines cells outs) outlets) ≡ []
+no_assigned : (lines : ℕ → ℕ) → (cells : List SizedCell) (outs k : ℕ) (outlets : List Outlet)
+    → nets_from k (map (assignment_form lines cells outs) outlets) ≡ []
 no_assigned lines cells outs k [] = refl
 no_assigned lines cells outs k (outlet ∷ outlets) = no_assigned lines cells outs (k + 1) outlets
 
@@ -175,14 +193,17 @@ no_edge lines cells net k (Reg next) = refl
 no_edge lines cells net k (Mem depth at next enable) = refl
 no_edge lines cells net k (Peek mem at) = refl
 
-no_edges : (lines : ℕ → ℕ) → (cells : List SizedCell) (net k : ℕ) (rest : List SizedCell) → nets_from k (each_numbered (λ net (sized : SizedCell). edge_form lines cells net sized.cell) net rest) ≡ []
+no_edges : (lines : ℕ → ℕ) → (cells : List SizedCell) (net k : ℕ) (rest : List SizedCell)
+    → nets_from k (each_numbered (λ net (sized : SizedCell). edge_form lines cells net sized.cell) net rest) ≡ []
 no_edges lines cells net k [] = refl
 no_edges lines cells net k (sized ∷ rest) =
     nets_both k (edge_form lines cells net sized.cell) (each_numbered (λ net (sized : SizedCell). edge_form lines cells net sized.cell) (net + 1) rest)
-    ∙ ap (λ l. l ++ nets_from (k + length (edge_form lines cells net sized.cell)) (each_numbered (λ net (sized : SizedCell). edge_form lines cells net sized.cell) (net + 1) rest)) (no_edge lines cells net k sized.cell)
+    ∙ ap (λ l. l ++ nets_from (k + length (edge_form lines cells net sized.cell))
+    (each_numbered (λ net (sized : SizedCell). edge_form lines cells net sized.cell) (net + 1) rest)) (no_edge lines cells net k sized.cell)
     ∙ no_edges lines cells (net + 1) (k + length (edge_form lines cells net sized.cell)) rest
 
-nets_back : (lines : ℕ → ℕ) → (cells : List SizedCell) (outlets : List Outlet) (outs : ℕ) → IsGood cells → nets_from 1 (item_forms lines cells outlets outs) ≡ declared_from lines 1 0 cells
+nets_back : (lines : ℕ → ℕ) → (cells : List SizedCell) (outlets : List Outlet) (outs : ℕ) → IsGood cells
+    → nets_from 1 (item_forms lines cells outlets outs) ≡ declared_from lines 1 0 cells
 nets_back lines cells outlets outs good =
     let declared : List ItemForm = each_numbered (λ net (sized : SizedCell). declaration_form lines cells net sized.width sized.cell) 0 cells in
     let assigned : List ItemForm = map (assignment_form lines cells outs) outlets in
@@ -192,18 +213,22 @@ nets_back lines cells outlets outs good =
     ∙ ap (λ l. l ++ nets_from (1 + length declared + length assigned) edges) (no_assigned lines cells outs (1 + length declared) outlets)
     ∙ no_edges lines cells 0 (1 + length declared + length assigned) cells)
     ∙ append-nil (nets_from 1 declared)
-    ∙ all_declared lines cells 1 0 cells (λ j sized e. subst (λ n. IsCellOf lines cells n sized) (let z : j ≡ 0 + j = omega arith in z) (cell_of lines cells j sized good e))
+    ∙ all_declared lines cells 1 0 cells (λ j sized e. subst (λ n. IsCellOf lines cells n sized) (let z : j ≡ 0 + j = omega arith in z)
+    (cell_of lines cells j sized good e))
 
 -- items
 
-declaration_back : (lines : ℕ → ℕ) → (cells : List SizedCell) (net width : ℕ) (cell : Cell) → IsDeclared lines cells net width cell → map item_of (declaration_form lines cells net width cell) ≡ declaration lines cells net width cell
+declaration_back : (lines : ℕ → ℕ) → (cells : List SizedCell) (net width : ℕ) (cell : Cell) → IsDeclared lines cells net width cell
+    → map item_of (declaration_form lines cells net width cell) ≡ declaration lines cells net width cell
 declaration_back lines cells net width (Input port) h = refl
 declaration_back lines cells net width (Const k) h = ap (λ v. nets (drive (number_name lines net) v ∷ []) ∷ []) (expr_back (constant width k true) h)
 declaration_back lines cells net width (Op op args) h =
-    ap (λ v. nets (drive (number_name lines net) v ∷ []) ∷ []) (expr_back (op_expression lines cells width op (operand args 0) (operand args 1) (operand args 2)) h)
+    ap (λ v. nets (drive (number_name lines net) v ∷ []) ∷ [])
+    (expr_back (op_expression lines cells width op (operand args 0) (operand args 1) (operand args 2)) h)
 declaration_back lines cells net width (Reg next) h = refl
 declaration_back lines cells net width (Mem depth at next enable) h = refl
-declaration_back lines cells net width (Peek mem at) h = ap (λ v. nets (drive (number_name lines net) v ∷ []) ∷ []) (expr_back (index (net_name lines cells mem.0) (net_value lines cells at.0)) h)
+declaration_back lines cells net width (Peek mem at) h =
+    ap (λ v. nets (drive (number_name lines net) v ∷ []) ∷ []) (expr_back (index (net_name lines cells mem.0) (net_value lines cells at.0)) h)
 
 edge_back : (lines : ℕ → ℕ) → (cells : List SizedCell) (net : ℕ) (cell : Cell) → map item_of (edge_form lines cells net cell) ≡ edge lines cells net cell
 edge_back lines cells net (Input port) = refl
@@ -213,23 +238,27 @@ edge_back lines cells net (Reg next) = refl
 edge_back lines cells net (Mem depth at next enable) = refl
 edge_back lines cells net (Peek mem at) = refl
 
-items_back : (lines : ℕ → ℕ) → (cells : List SizedCell) (outlets : List Outlet) (outs : ℕ) → IsGood cells → map item_of (item_forms lines cells outlets outs) ≡ (netlist_module lines cells outlets outs).items
+items_back : (lines : ℕ → ℕ) → (cells : List SizedCell) (outlets : List Outlet) (outs : ℕ) → IsGood cells
+    → map item_of (item_forms lines cells outlets outs) ≡ (netlist_module lines cells outlets outs).items
 items_back lines cells outlets outs good =
     let declared : List ItemForm = each_numbered (λ net (sized : SizedCell). declaration_form lines cells net sized.width sized.cell) 0 cells in
     let assigned : List ItemForm = map (assignment_form lines cells outs) outlets in
     let edges : List ItemForm = each_numbered (λ net (sized : SizedCell). edge_form lines cells net sized.cell) 0 cells in
     map_both item_of declared (assigned ++ edges)
-    ∙ ap (λ l. l ++ map item_of (assigned ++ edges)) (map_listed item_of (λ net (sized : SizedCell). declaration_form lines cells net sized.width sized.cell) 0 cells
+    ∙ ap (λ l. l ++ map item_of (assigned ++ edges)) (map_listed item_of
+    (λ net (sized : SizedCell). declaration_form lines cells net sized.width sized.cell) 0 cells
     ∙ listed_same _ (λ net (sized : SizedCell). declaration lines cells net sized.width sized.cell) 0 cells (λ j sized e.
     let cell = cell_of lines cells j sized good e in
-    subst (λ n. map item_of (declaration_form lines cells n sized.width sized.cell) ≡ declaration lines cells n sized.width sized.cell) (let z : j ≡ 0 + j = omega arith in z) (declaration_back lines cells j sized.width sized.cell cell.declared)))
+    subst (λ n. map item_of (declaration_form lines cells n sized.width sized.cell) ≡ declaration lines cells n sized.width sized.cell)
+    (let z : j ≡ 0 + j = omega arith in z) (declaration_back lines cells j sized.width sized.cell cell.declared)))
     ∙ ap (λ l. each_numbered (λ net (sized : SizedCell). declaration lines cells net sized.width sized.cell) 0 cells ++ l) (map_both item_of assigned edges
     ∙ ap (λ l. l ++ map item_of edges) (map_map item_of (assignment_form lines cells outs) outlets)
     ∙ ap (λ l. map (assignment lines cells outs) outlets ++ l) (map_listed item_of (λ net (sized : SizedCell). edge_form lines cells net sized.cell) 0 cells
     ∙ listed_same _ (λ net (sized : SizedCell). edge lines cells net sized.cell) 0 cells (λ j sized e. edge_back lines cells (0 + j) sized.cell)))
 
 -- the module
-pub tree_back : (lines : ℕ → ℕ) → (cells : List SizedCell) (outlets : List Outlet) (outs : ℕ) → IsGood cells → HaveNets cells outlets → module_of (netlist_form lines cells outlets outs) ≡ netlist_module lines cells outlets outs
+pub tree_back : (lines : ℕ → ℕ) → (cells : List SizedCell) (outlets : List Outlet) (outs : ℕ) → IsGood cells → HaveNets cells outlets
+    → module_of (netlist_form lines cells outlets outs) ≡ netlist_module lines cells outlets outs
 tree_back lines cells outlets outs good have =
     let ins : List PortForm = flat_map (λ (sized : SizedCell). input_forms sized.width sized.cell) cells in
     let shown : List PortForm = map (output_form cells outs) outlets in
@@ -247,7 +276,8 @@ pub all_both : {X : Type 0} (P : X → Type 0) (xs ys : List X) → AllByRecursi
 all_both P [] ys hx hy = hy
 all_both P (x ∷ xs) ys hx hy = (hx.0, all_both P xs ys hx.1 hy)
 
-all_listed : {X Y : Type 0} (P : Y → Type 0) (f : ℕ → X → List Y) (k : ℕ) (xs : List X) → ((n : ℕ) (x : X) → AllByRecursion P (f n x)) → AllByRecursion P (each_numbered f k xs)
+all_listed : {X Y : Type 0} (P : Y → Type 0) (f : ℕ → X → List Y) (k : ℕ) (xs : List X) → ((n : ℕ) (x : X) → AllByRecursion P (f n x))
+    → AllByRecursion P (each_numbered f k xs)
 all_listed P f k [] each = tt
 all_listed P f k (x ∷ xs) each = all_both P (f k x) (each_numbered f (k + 1) xs) (each k x) (all_listed P f (k + 1) xs each)
 
@@ -255,10 +285,12 @@ all_mapped : {X Y : Type 0} (P : Y → Type 0) (f : X → Y) (xs : List X) → (
 all_mapped P f [] each = tt
 all_mapped P f (x ∷ xs) each = (each x, all_mapped P f xs each)
 
-declaration_formed : (lines : ℕ → ℕ) → (cells : List SizedCell) (net width : ℕ) (cell : Cell) → AllByRecursion IsItem (declaration_form lines cells net width cell)
+declaration_formed : (lines : ℕ → ℕ) → (cells : List SizedCell) (net width : ℕ) (cell : Cell)
+    → AllByRecursion IsItem (declaration_form lines cells net width cell)
 declaration_formed lines cells net width (Input port) = tt
 declaration_formed lines cells net width (Const k) = ((record { level = lit≤ tt; formed = tt; depth = lit≤ tt }, tt), tt)
-declaration_formed lines cells net width (Op op args) = ((op_drive lines cells width op (operand args 0) (operand args 1) (operand args 2) (number_name lines net), tt), tt)
+declaration_formed lines cells net width (Op op args) =
+    ((op_drive lines cells width op (operand args 0) (operand args 1) (operand args 2) (number_name lines net), tt), tt)
 declaration_formed lines cells net width (Reg next) = (tt, tt)
 declaration_formed lines cells net width (Mem depth at next enable) = (tt, tt)
 declaration_formed lines cells net width (Peek mem at) = ((record { level = lit≤ tt; formed = (lit≤ tt, tt); depth = lit≤ tt }, tt), tt)
@@ -278,6 +310,8 @@ edge_formed lines cells net (Peek mem at) = tt
 pub items_formed : (lines : ℕ → ℕ) → (cells : List SizedCell) (outlets : List Outlet) (outs : ℕ) → AllByRecursion IsItem (item_forms lines cells outlets outs)
 items_formed lines cells outlets outs =
     all_both IsItem (each_numbered (λ net (sized : SizedCell). declaration_form lines cells net sized.width sized.cell) 0 cells) _
-    (all_listed IsItem (λ net (sized : SizedCell). declaration_form lines cells net sized.width sized.cell) 0 cells (λ net sized. declaration_formed lines cells net sized.width sized.cell))
-    (all_both IsItem (map (assignment_form lines cells outs) outlets) _ (all_mapped IsItem (assignment_form lines cells outs) outlets (assignment_formed lines cells outs))
+    (all_listed IsItem (λ net (sized : SizedCell). declaration_form lines cells net sized.width sized.cell) 0 cells
+    (λ net sized. declaration_formed lines cells net sized.width sized.cell))
+    (all_both IsItem (map (assignment_form lines cells outs) outlets) _
+    (all_mapped IsItem (assignment_form lines cells outs) outlets (assignment_formed lines cells outs))
     (all_listed IsItem (λ net (sized : SizedCell). edge_form lines cells net sized.cell) 0 cells (λ net sized. edge_formed lines cells net sized.cell)))

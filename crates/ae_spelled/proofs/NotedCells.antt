@@ -13,7 +13,8 @@ use Rattle.ae_spelled.proofs.NetlistForm.{next_place, first_place}
 
 -- lists of texts
 
-pub listed_text : {X : Type 0} (f : ℕ → X → List ℕ) (g : ℕ → X → List TokenTree) (k : ℕ) (xs : List X) → ((j : ℕ) (x : X) → slice_get xs j ≡ Some x → IsTextOf (f (k + j) x) (g (k + j) x)) → IsTextOf (each_numbered f k xs) (each_numbered g k xs)
+pub listed_text : {X : Type 0} (f : ℕ → X → List ℕ) (g : ℕ → X → List TokenTree) (k : ℕ) (xs : List X)
+    → ((j : ℕ) (x : X) → slice_get xs j ≡ Some x → IsTextOf (f (k + j) x) (g (k + j) x)) → IsTextOf (each_numbered f k xs) (each_numbered g k xs)
 listed_text f g k [] each = no_text
 listed_text f g k (x ∷ xs) each =
     both_texts (f k x) (each_numbered f (k + 1) xs) (g k x) (each_numbered g (k + 1) xs)
@@ -34,7 +35,8 @@ rest_get xs zero j x e = subst (λ n. slice_get xs n ≡ Some x) (let same : j �
 rest_get [] (suc k) j x e = absurd (none-some x e)
 rest_get (y ∷ ys) (suc k) j x e = subst (λ n. slice_get (y ∷ ys) n ≡ Some x) (let same : suc (k + j) ≡ suc k + j = omega arith in same) (rest_get ys k j x e)
 
-listed_parts : {X A : Type 0} (g : ℕ → X → List A) (k n : ℕ) (xs : List X) → each_numbered g k (take n xs) ++ each_numbered g (k + n) (drop n xs) ≡ each_numbered g k xs
+listed_parts : {X A : Type 0} (g : ℕ → X → List A) (k n : ℕ) (xs : List X) → each_numbered g k (take n xs)
+    ++ each_numbered g (k + n) (drop n xs) ≡ each_numbered g k xs
 listed_parts g k zero xs = ap (λ m. each_numbered g m xs) (first_place k)
 listed_parts g k (suc n) [] = refl
 listed_parts g k (suc n) (x ∷ xs) =
@@ -45,14 +47,17 @@ listed_parts g k (suc n) (x ∷ xs) =
 -- the cells from one on, up to another
 
 between_text : (f : ℕ → SizedCell → List ℕ) (g : ℕ → SizedCell → List TokenTree) (cells : List SizedCell) (k to : ℕ) →
-    ((j : ℕ) (x : SizedCell) → slice_get cells j ≡ Some x → IsTextOf (f j x) (g j x)) → IsTextOf (between f cells k to) (each_numbered g k (take (to - k) (drop k cells)))
-between_text f g cells k to each = listed_text f g k (take (to - k) (drop k cells)) (λ j x e. each (k + j) x (rest_get cells k j x (part_get (drop k cells) (to - k) j x e)))
+    ((j : ℕ) (x : SizedCell) → slice_get cells j ≡ Some x → IsTextOf (f j x) (g j x))
+    → IsTextOf (between f cells k to) (each_numbered g k (take (to - k) (drop k cells)))
+between_text f g cells k to each =
+    listed_text f g k (take (to - k) (drop k cells)) (λ j x e. each (k + j) x (rest_get cells k j x (part_get (drop k cells) (to - k) j x e)))
 
 from_one_on : (f : ℕ → SizedCell → List ℕ) (g : ℕ → SizedCell → List TokenTree) (cells : List SizedCell) (k : ℕ) (ns : List NoteTree) →
     ((i : ℕ) (n : NoteTree) → slice_get ns i ≡ Some n → IsTextOf (note_line n) []) →
     ((j : ℕ) (x : SizedCell) → slice_get cells j ≡ Some x → IsTextOf (f j x) (g j x)) → IsTextOf (noted f cells k ns) (each_numbered g k (drop k cells))
 from_one_on f g cells k [] notes each =
-    subst (λ xs. IsTextOf (between f cells k (length cells)) (each_numbered g k xs)) (take_all (length cells - k) (drop k cells) (omega (arith, length-drop k cells))) (between_text f g cells k (length cells) each)
+    subst (λ xs. IsTextOf (between f cells k (length cells)) (each_numbered g k xs))
+    (take_all (length cells - k) (drop k cells) (omega (arith, length-drop k cells))) (between_text f g cells k (length cells) each)
 from_one_on f g cells k (n ∷ ns) notes each =
     subst (IsTextOf (noted f cells k (n ∷ ns))) tokens
     (both_texts _ _ _ _ (between_text f g cells k n.cell each)
@@ -61,7 +66,8 @@ from_one_on f g cells k (n ∷ ns) notes each =
     past : max k n.cell ≡ k + (n.cell - k)
     past = omega arith
 
-    tokens : each_numbered g k (take (n.cell - k) (drop k cells)) ++ each_numbered g (max k n.cell) (drop (max k n.cell) cells) ≡ each_numbered g k (drop k cells)
+    tokens : each_numbered g k (take (n.cell - k) (drop k cells))
+        ++ each_numbered g (max k n.cell) (drop (max k n.cell) cells) ≡ each_numbered g k (drop k cells)
     tokens =
         ap (λ m. each_numbered g k (take (n.cell - k) (drop k cells)) ++ each_numbered g m (drop m cells)) past
         ∙ ap (λ xs. each_numbered g k (take (n.cell - k) (drop k cells)) ++ each_numbered g (k + (n.cell - k)) xs) (sym (drop-drop (n.cell - k) k cells))

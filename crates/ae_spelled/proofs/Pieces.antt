@@ -171,7 +171,8 @@ unused_second bs h =
     (λ h. one unused_4 _ h refl (λ h. one unused_5 _ h refl (λ h. one unused_6 _ h refl (λ h. one unused_7 _ h refl
     (λ h. one unused_8 _ h refl (λ h. of_word no_mark_second bs unused_9 h refl)))))))))
   where
-    one : (ws : List (List ℕ)) (t : Bool) → (list_any (bytes_eq bs) ws || t) ≡ true → list_all no_mark_second ws ≡ true → (t ≡ true → no_mark_second bs ≡ true) → no_mark_second bs ≡ true
+    one : (ws : List (List ℕ)) (t : Bool) → (list_any (bytes_eq bs) ws || t) ≡ true → list_all no_mark_second ws ≡ true → (t ≡ true → no_mark_second bs ≡ true)
+        → no_mark_second bs ≡ true
     one ws t h all later = elim (or_cases _ _ h) [ inl here ↦ of_word no_mark_second bs ws here all | inr there ↦ later there ]
 
 keys_second : (bs : List ℕ) (k : Key) → look_up bs keys ≡ Some k → no_mark_second bs ≡ true
@@ -206,7 +207,8 @@ word_bytes : (bs : List ℕ) → list_all is_name_byte bs ≡ true → list_all 
 word_bytes [] h = refl
 word_bytes (b ∷ bs) h = let parts = and_parts _ (list_all is_name_byte bs) h in and_from _ _ (name_byte b parts.0) (word_bytes bs parts.1)
 
-marked_token : (b : ℕ) (ds : List ℕ) → is_word_start b ≡ true → starts_marked ds ≡ true → list_all is_name_byte ds ≡ true → token_of (b ∷ ds) ≡ Some (Name (b ∷ ds))
+marked_token : (b : ℕ) (ds : List ℕ) → is_word_start b ≡ true → starts_marked ds ≡ true → list_all is_name_byte ds ≡ true
+    → token_of (b ∷ ds) ≡ Some (Name (b ∷ ds))
 unfolding token_of
 marked_token b ds letter marked bytes =
     let second : no_mark_second (b ∷ ds) ≡ false = ap not marked in

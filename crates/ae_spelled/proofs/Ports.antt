@@ -37,7 +37,8 @@ both_pieces a b ts us one two = record {
   clean = clean_both a b one.clean two.clean;
 }
 
-before_lone : (piece rest : List ℕ) (t : TokenTree) (ts : List TokenTree) → token_of piece ≡ Some t → StartsLone rest → AreTokens rest ts → AreTokens (piece ++ rest) (t ∷ ts)
+before_lone : (piece rest : List ℕ) (t : TokenTree) (ts : List TokenTree) → token_of piece ≡ Some t → StartsLone rest → AreTokens rest ts
+    → AreTokens (piece ++ rest) (t ∷ ts)
 before_lone piece rest t ts token lone h =
     subst (λ r. AreTokens (piece ++ r) (t ∷ ts)) (sym lone.whole)
     (spaced piece lone.first lone.more t ts token lone.lone (subst (λ r. AreTokens r ts) lone.whole h))
@@ -45,7 +46,8 @@ before_lone piece rest t ts token lone h =
 abbrev pub port_form : PortHead → (width : ℕ) → List ℕ → PortForm
 port_form head width n = record { head = head; range = range_form width; first = n; more = [] }
 
-pub input_port : (width : ℕ) (n : List ℕ) → width ≤ 64 → IsNameText n → IsPieceOf (codes ",\n  input wire " ++ (range_text width ++ n)) (Mark Comma ∷ port_tokens (port_form (InputHead true) width n))
+pub input_port : (width : ℕ) (n : List ℕ) → width ≤ 64 → IsNameText n
+    → IsPieceOf (codes ",\n  input wire " ++ (range_text width ++ n)) (Mark Comma ∷ port_tokens (port_form (InputHead true) width n))
 input_port width n small named = record {
   tokens = λ rest us lone h. simp append_assoc (
       mark 44 _ _ _ comma_token refl (blank_then 10 _ _ refl (blank_then 32 _ _ refl (blank_then 32 _ _ refl (
@@ -55,7 +57,8 @@ input_port width n small named = record {
   clean = clean_then (codes ",\n  input wire ") _ refl (clean_both (range_text width) n (range_clean width small) named.clean);
 }
 
-pub output_port : (width : ℕ) (n : List ℕ) → width ≤ 64 → IsNameText n → IsPieceOf (codes ",\n  output wire " ++ (range_text width ++ n)) (Mark Comma ∷ port_tokens (port_form (OutputHead true) width n))
+pub output_port : (width : ℕ) (n : List ℕ) → width ≤ 64 → IsNameText n
+    → IsPieceOf (codes ",\n  output wire " ++ (range_text width ++ n)) (Mark Comma ∷ port_tokens (port_form (OutputHead true) width n))
 output_port width n small named = record {
   tokens = λ rest us lone h. simp append_assoc (
       mark 44 _ _ _ comma_token refl (blank_then 10 _ _ refl (blank_then 32 _ _ refl (blank_then 32 _ _ refl (
@@ -72,7 +75,8 @@ abbrev pub start_tokens : List TokenTree
 start_tokens = Word Module ∷ Name (codes "aeth") ∷ Mark Open ∷ port_tokens clock_port
 
 -- the head of a module around its further ports
-pub head_lines : (ports : List ℕ) (ts : List TokenTree) → IsPieceOf ports ts → IsTextOf (codes "module aeth (\n  input wire clk" ++ (ports ++ codes "\n);\n")) (start_tokens ++ (ts ++ Mark Close ∷ Mark Semicolon ∷ []))
+pub head_lines : (ports : List ℕ) (ts : List TokenTree) → IsPieceOf ports ts
+    → IsTextOf (codes "module aeth (\n  input wire clk" ++ (ports ++ codes "\n);\n")) (start_tokens ++ (ts ++ Mark Close ∷ Mark Semicolon ∷ []))
 head_lines ports ts piece = record {
   tokens = λ rest us h.
       let ended : AreTokens (codes "\n);\n" ++ rest) (Mark Close ∷ Mark Semicolon ∷ us) =

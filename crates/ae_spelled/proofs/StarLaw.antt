@@ -20,18 +20,21 @@ abbrev one_for : Bool → ℕ
 one_for t = if t then 1 else 0
 
 shifted_stars : (lines : ℕ → ℕ) → (cells : List SizedCell) (op : BinOp) (width a by : ℕ) → star op ≡ 0 → expr_stars (shifted_net lines cells op width a by) ≡ 0
-shifted_stars lines cells op width a by h = elim (nat_lt by width) as (λ t. expr_stars (if t then binary op (net_value lines cells a) (constant 6 by true) else constant width 0 true) ≡ 0) [
-  | true ↦ ap (λ n. n + 0) h
-  | false ↦ refl
-]
+shifted_stars lines cells op width a by h =
+    elim (nat_lt by width) as (λ t. expr_stars (if t then binary op (net_value lines cells a) (constant 6 by true) else constant width 0 true) ≡ 0) [
+      | true ↦ ap (λ n. n + 0) h
+      | false ↦ refl
+    ]
 
 cast_stars : (lines : ℕ → ℕ) → (cells : List SizedCell) (to a : ℕ) → expr_stars (cast_to lines cells to a) ≡ 0
-cast_stars lines cells to a = elim (nat_lt to (width_of cells a)) as (λ t. expr_stars (if t then part (net_name lines cells a) (to - 1) 0 else net_value lines cells a) ≡ 0) [
-  | true ↦ refl
-  | false ↦ refl
-]
+cast_stars lines cells to a =
+    elim (nat_lt to (width_of cells a)) as (λ t. expr_stars (if t then part (net_name lines cells a) (to - 1) 0 else net_value lines cells a) ≡ 0) [
+      | true ↦ refl
+      | false ↦ refl
+    ]
 
-op_stars : (lines : ℕ → ℕ) → (cells : List SizedCell) (width : ℕ) (op : WordOp) (a b c : ℕ) → expr_stars (op_expression lines cells width op a b c) ≡ one_for (is_product op)
+op_stars : (lines : ℕ → ℕ) → (cells : List SizedCell) (width : ℕ) (op : WordOp) (a b c : ℕ)
+    → expr_stars (op_expression lines cells width op a b c) ≡ one_for (is_product op)
 op_stars lines cells width Add a b c = refl
 op_stars lines cells width Sub a b c = refl
 op_stars lines cells width Mul a b c = refl
@@ -53,7 +56,8 @@ op_stars lines cells width SMax a b c = refl
 op_stars lines cells width (Sar by) a b c = refl
 op_stars lines cells width (SCast to) a b c = refl
 
-declaration_stars : (lines : ℕ → ℕ) → (cells : List SizedCell) (net width : ℕ) (cell : Cell) → sum_by item_stars (declaration lines cells net width cell) ≡ one_for (is_mul cell)
+declaration_stars : (lines : ℕ → ℕ) → (cells : List SizedCell) (net width : ℕ) (cell : Cell)
+    → sum_by item_stars (declaration lines cells net width cell) ≡ one_for (is_mul cell)
 declaration_stars lines cells net width (Input port) = refl
 declaration_stars lines cells net width (Const k) = refl
 declaration_stars lines cells net width (Op op args) =
@@ -74,19 +78,24 @@ count_more sized xs =
     sum_by-append (λ (s : SizedCell). one_for (is_mul s.cell)) (sized ∷ []) xs
     ∙ ap (λ n. n + count_of is_mul xs) (let e : 0 + one_for (is_mul sized.cell) ≡ one_for (is_mul sized.cell) = omega arith in e)
 
-declared_stars : (lines : ℕ → ℕ) → (cells : List SizedCell) (k : ℕ) (xs : List SizedCell) → sum_by item_stars (each_numbered (λ net (sized : SizedCell). declaration lines cells net sized.width sized.cell) k xs) ≡ count_of is_mul xs
+declared_stars : (lines : ℕ → ℕ) → (cells : List SizedCell) (k : ℕ) (xs : List SizedCell)
+    → sum_by item_stars (each_numbered (λ net (sized : SizedCell). declaration lines cells net sized.width sized.cell) k xs) ≡ count_of is_mul xs
 declared_stars lines cells k [] = refl
 declared_stars lines cells k (sized ∷ xs) =
-    sum_both (declaration lines cells k sized.width sized.cell) (each_numbered (λ net (sized : SizedCell). declaration lines cells net sized.width sized.cell) (k + 1) xs)
-    ∙ ap (λ n. n + sum_by item_stars (each_numbered (λ net (sized : SizedCell). declaration lines cells net sized.width sized.cell) (k + 1) xs)) (declaration_stars lines cells k sized.width sized.cell)
+    sum_both (declaration lines cells k sized.width sized.cell)
+    (each_numbered (λ net (sized : SizedCell). declaration lines cells net sized.width sized.cell) (k + 1) xs)
+    ∙ ap (λ n. n + sum_by item_stars (each_numbered (λ net (sized : SizedCell). declaration lines cells net sized.width sized.cell) (k + 1) xs))
+    (declaration_stars lines cells k sized.width sized.cell)
     ∙ ap (λ n. one_for (is_mul sized.cell) + n) (declared_stars lines cells (k + 1) xs)
     ∙ sym (count_more sized xs)
 
-assigned_stars : (lines : ℕ → ℕ) → (cells : List SizedCell) (outs : ℕ) (outlets : List Outlet) → sum_by item_stars (map (assignment lines cells outs) outlets) ≡ 0
+assigned_stars : (lines : ℕ → ℕ) → (cells : List SizedCell) (outs : ℕ) (outlets : List Outlet)
+    → sum_by item_stars (map (assignment lines cells outs) outlets) ≡ 0
 assigned_stars lines cells outs [] = refl
 assigned_stars lines cells outs (o ∷ outlets) =
     sum_by-append item_stars (assignment lines cells outs o ∷ []) (map (assignment lines cells outs) outlets)
-    ∙ (let later = assigned_stars lines cells outs outlets in let e : 0 + sum_by item_stars (map (assignment lines cells outs) outlets) ≡ 0 = omega (arith, later) in e)
+    ∙ (let later = assigned_stars lines cells outs outlets in
+    let e : 0 + sum_by item_stars (map (assignment lines cells outs) outlets) ≡ 0 = omega (arith, later) in e)
 
 edge_stars : (lines : ℕ → ℕ) → (cells : List SizedCell) (net : ℕ) (cell : Cell) → sum_by item_stars (edge lines cells net cell) ≡ 0
 edge_stars lines cells net (Input port) = refl
@@ -96,13 +105,15 @@ edge_stars lines cells net (Reg next) = refl
 edge_stars lines cells net (Mem depth at next enable) = refl
 edge_stars lines cells net (Peek mem at) = refl
 
-edges_stars : (lines : ℕ → ℕ) → (cells : List SizedCell) (k : ℕ) (xs : List SizedCell) → sum_by item_stars (each_numbered (λ net (sized : SizedCell). edge lines cells net sized.cell) k xs) ≡ 0
+edges_stars : (lines : ℕ → ℕ) → (cells : List SizedCell) (k : ℕ) (xs : List SizedCell)
+    → sum_by item_stars (each_numbered (λ net (sized : SizedCell). edge lines cells net sized.cell) k xs) ≡ 0
 edges_stars lines cells k [] = refl
 edges_stars lines cells k (sized ∷ xs) =
     sum_both (edge lines cells k sized.cell) (each_numbered (λ net (sized : SizedCell). edge lines cells net sized.cell) (k + 1) xs)
     ∙ (let here = edge_stars lines cells k sized.cell in let later = edges_stars lines cells (k + 1) xs in omega (arith, here, later))
 
-pub one_star_each : (lines : ℕ → ℕ) → (cells : List SizedCell) (outlets : List Outlet) (outs : ℕ) → stars (netlist_module lines cells outlets outs) ≡ count_of is_mul cells
+pub one_star_each : (lines : ℕ → ℕ) → (cells : List SizedCell) (outlets : List Outlet) (outs : ℕ)
+    → stars (netlist_module lines cells outlets outs) ≡ count_of is_mul cells
 one_star_each lines cells outlets outs =
     let declared : List ItemTree = each_numbered (λ net (sized : SizedCell). declaration lines cells net sized.width sized.cell) 0 cells in
     let assigned : List ItemTree = map (assignment lines cells outs) outlets in

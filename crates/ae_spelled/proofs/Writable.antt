@@ -133,14 +133,16 @@ tilde_longest c rest letter (d ∷ more) after e some =
     none_some None e h = cc
     none_some (Some x) e h = cc
 
-tilde_then : (n : List ℕ) (c : ℕ) (rest : List ℕ) (ts : List TokenTree) → IsNameText n → is_lone c ≡ true → AreTokens (c ∷ rest) ts → AreTokens (codes "~" ++ (n ++ c ∷ rest)) (Mark Tilde ∷ Name n ∷ ts)
+tilde_then : (n : List ℕ) (c : ℕ) (rest : List ℕ) (ts : List TokenTree) → IsNameText n → is_lone c ≡ true → AreTokens (c ∷ rest) ts
+    → AreTokens (codes "~" ++ (n ++ c ∷ rest)) (Mark Tilde ∷ Name n ∷ ts)
 tilde_then n c rest ts named lone h =
     let later = spaced n c rest (Name n) ts named.token lone h in
     token_then 126 [] (n ++ c ∷ rest) (Mark Tilde) (Name n ∷ ts) tilde_token
     (subst (λ l. IsLongest (126 ∷ []) (l ++ c ∷ rest)) (sym named.whole) (tilde_longest named.first (named.more ++ c ∷ rest) named.letter)) later
 
 -- an expression before a lone byte
-pub expr_piece : (e : ExprTree) (c : ℕ) (rest : List ℕ) (ts : List TokenTree) → IsWritable e → is_lone c ≡ true → AreTokens (c ∷ rest) ts → AreTokens (expr_text e ++ c ∷ rest) (expr_tokens (expr_form e) ++ ts)
+pub expr_piece : (e : ExprTree) (c : ℕ) (rest : List ℕ) (ts : List TokenTree) → IsWritable e → is_lone c ≡ true → AreTokens (c ∷ rest) ts
+    → AreTokens (expr_text e ++ c ∷ rest) (expr_tokens (expr_form e) ++ ts)
 expr_piece (name n) c rest ts w lone h = spaced n c rest (Name n) ts w.token lone h
 expr_piece (constant size value fits) c rest ts w lone h =
     spaced (decimal size ++ (codes "'d" ++ decimal value)) c rest _ ts

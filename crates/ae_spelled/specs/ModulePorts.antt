@@ -8,4 +8,5 @@ use Rattle.ae_verilog.specs.PortNets.{port_nets}
 -- they are the inputs of the netlist's module but its clock, and its outputs
 abbrev pub ArePorts : (lines : ℕ → ℕ) → Circuit → (outs : ℕ) → Type 0
 ArePorts lines n outs =
-    inputs_of (netlist_module lines n.cells n.outlets outs) ++ outputs_of (netlist_module lines n.cells n.outlets outs) ≡ port_nets n.cells n.outlets outs
+    inputs_of (netlist_module lines n.cells n.outlets outs)
+    ++ outputs_of (netlist_module lines n.cells n.outlets outs) ≡ port_nets n.cells n.outlets outs

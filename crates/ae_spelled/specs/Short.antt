@@ -13,7 +13,8 @@ AreInSize ts = (k : ℕ) (t : StTree) → slice_get ts k ≡ Some t → IsInSize
 
 -- at most eight parameters and results, and 4,096 notes, as a program has; names of at most 32 bytes; and a netlist that is
 -- not too large to be elaborated
-pub record IsShort (r : ReportTree) (notes : List NoteTree) (cells : List SizedCell) (outlets : List Outlet) : Type 0 where
+pub record IsShort (r : ReportTree) (notes : List NoteTree) (cells : List SizedCell)
+    (outlets : List Outlet) : Type 0 where
   pub few_ins : length r.ins ≤ 8
   pub few_outs : length r.outs ≤ 8
   pub ins : AreInSize r.ins

@@ -18,7 +18,8 @@ abbrev pub without_inputs : {X : Type 0} → (more count : ℕ) → List X → L
 without_inputs more count xs = take count (take 1 xs ++ drop (suc more) xs)
 
 abbrev pub inner_clock : (more count : ℕ) → Clock → Clock
-inner_clock more count c = record { words = without_inputs more count c.words; stores = without_inputs more count c.stores }
+inner_clock more count c =
+    record { words = without_inputs more count c.words; stores = without_inputs more count c.stores }
 
 -- the clocks in which the net is 1, in order, each with the nets of the netlist that is held alone
 unfoldable pub held_part : (more by count : ℕ) → List Clock → List Clock
@@ -50,7 +51,8 @@ pub record IsHeld (more by : ℕ) (old copied new : Circuit) : Type 0 where
   pub widths : (n : ℕ) (sized : SizedCell) → slice_get old.cells n ≡ Some sized
       → (cell : Cell) × (slice_get new.cells (placed more n) ≡ Some (record { width = sized.width; cell = cell }))
   pub nets : (n width : ℕ) → IsNet old.cells n width → IsNet new.cells (placed more n) width
-  pub keeps : (m : ℕ) (sized : SizedCell) → IsApart more (length old.cells) m → slice_get copied.cells m ≡ Some sized → slice_get new.cells m ≡ Some sized
+  pub keeps : (m : ℕ) (sized : SizedCell) → IsApart more (length old.cells) m → slice_get copied.cells m ≡ Some sized
+      → slice_get new.cells m ≡ Some sized
   pub longer : length copied.cells ≤ length new.cells
   pub small : length new.cells ≤ length copied.cells + length old.cells
   pub kinds : HaveSameKinds copied.cells new.cells

@@ -59,7 +59,8 @@ record IsNamed (many : ℕ) (ports : List SizedPort) (named : List ℕ) : Type 0
   there : slice_get ports place ≡ Some port
   is : named ≡ port_name many port.port
 
-named_in : (ss : List StTree) (q column : ℕ) (s : StTree) → slice_get ss q ≡ Some s → column < length (stream_widths (stream_of s)) → IsNamed 1 (reset_port ∷ net_side.input_ports (streams_of ss)) (get_or (map name_of (param_ports q s)) column [])
+named_in : (ss : List StTree) (q column : ℕ) (s : StTree) → slice_get ss q ≡ Some s → column < length (stream_widths (stream_of s))
+    → IsNamed 1 (reset_port ∷ net_side.input_ports (streams_of ss)) (get_or (map name_of (param_ports q s)) column [])
 named_in ss q column s found small =
     let at : ℕ → ℕ → ℕ → Port = λ param lane word. In param lane word in
     let c = column_at 1 false (at q) s column small in
@@ -67,11 +68,13 @@ named_in ss q column s found small =
     record {
       place = suc (columns_in (take q (streams_of ss)) + column);
       port = c.port;
-      there = port_there at 0 (streams_of ss) q column (stream_of s) c.port (mapped_at stream_of ss q s found) (ap (λ i. slice_get (net_side.stream_ports (at i) (stream_of s)) column) (sym z) ∙ c.here);
+      there = port_there at 0 (streams_of ss) q column (stream_of s) c.port (mapped_at stream_of ss q s found)
+          (ap (λ i. slice_get (net_side.stream_ports (at i) (stream_of s)) column) (sym z) ∙ c.here);
       is = c.named;
     }
 
-named_out : (many : ℕ) (rs : List StTree) (q column : ℕ) (s : StTree) → slice_get rs q ≡ Some s → column < length (stream_widths (stream_of s)) → IsNamed many (net_side.output_ports (streams_of rs)) (get_or (map name_of (result_ports many q s)) column [])
+named_out : (many : ℕ) (rs : List StTree) (q column : ℕ) (s : StTree) → slice_get rs q ≡ Some s → column < length (stream_widths (stream_of s))
+    → IsNamed many (net_side.output_ports (streams_of rs)) (get_or (map name_of (result_ports many q s)) column [])
 named_out many rs q column s found small =
     let at : ℕ → ℕ → ℕ → Port = λ result lane word. Out result lane word in
     let c = column_at many true (at q) s column small in
@@ -79,12 +82,15 @@ named_out many rs q column s found small =
     record {
       place = columns_in (take q (streams_of rs)) + column;
       port = c.port;
-      there = port_there at 0 (streams_of rs) q column (stream_of s) c.port (mapped_at stream_of rs q s found) (ap (λ i. slice_get (net_side.stream_ports (at i) (stream_of s)) column) (sym z) ∙ c.here);
+      there = port_there at 0 (streams_of rs) q column (stream_of s) c.port (mapped_at stream_of rs q s found)
+          (ap (λ i. slice_get (net_side.stream_ports (at i) (stream_of s)) column) (sym z) ∙ c.here);
       is = c.named;
     }
 
-module _ (lines : ℕ → ℕ) (p : ProgramTree) (slowdown : ℕ) (costs : OwnCosts) (ins outs : List StTree) (n new : Circuit) (laid : IsLaidOut p slowdown ins outs) (c : IsCircuitFor p slowdown costs ins outs n) (still : IsStalled n new)
-    (plain_same : HasSameRuns (netlist_module lines n.cells n.outlets (length outs)) n) (same : HasSameRuns (netlist_module lines new.cells new.outlets (length outs)) new) where
+module _ (lines : ℕ → ℕ) (p : ProgramTree) (slowdown : ℕ) (costs : OwnCosts) (ins outs : List StTree) (n new : Circuit) (laid : IsLaidOut p slowdown ins outs)
+    (c : IsCircuitFor p slowdown costs ins outs n) (still : IsStalled n new)
+    (plain_same : HasSameRuns (netlist_module lines n.cells n.outlets (length outs)) n)
+    (same : HasSameRuns (netlist_module lines new.cells new.outlets (length outs)) new) where
   old_ports : HavePorts n.cells n.outlets (ins_of ins) (outs_of outs)
   old_ports = circuit_ports p slowdown costs ins outs n c
 
@@ -100,20 +106,29 @@ module _ (lines : ℕ → ℕ) (p : ProgramTree) (slowdown : ℕ) (costs : OwnCo
   abbrev plain : ModuleTree
   plain = netlist_module lines n.cells n.outlets (length outs)
 
-  outlet_at : (k : ℕ) (port : SizedPort) → slice_get (outs_of outs) k ≡ Some port → (outlet_net n.outlets k < length n.cells) × (outlet_net new.outlets k ≡ renumbered (outlet_net n.outlets k))
+  outlet_at : (k : ℕ) (port : SizedPort) → slice_get (outs_of outs) k ≡ Some port → (outlet_net n.outlets k < length n.cells)
+      × (outlet_net new.outlets k ≡ renumbered (outlet_net n.outlets k))
   outlet_at k port found =
       let net_of : Outlet → NetId = λ o. o.net in
       let within : k < length (outs_of outs) = slice_get_within (outs_of outs) k port found in
-      let o = entry-at n.outlets k (omega (arith, within, ap (λ (l : List SizedPort). length l) old_ports.outputs, length-map n.outlets (outlet_port n.cells))) in
-      let left : outlet_net n.outlets k ≡ o.0.net.0 = ap (λ (x : NetId). x.0) (get_or_from_slice_get (map net_of n.outlets) k o.0.net (record { 0 = 0 }) (mapped_at net_of n.outlets k o.0 o.1)) in
+      let o = entry-at n.outlets k (omega (
+        arith,
+        within,
+        ap (λ (l : List SizedPort). length l) old_ports.outputs,
+        length-map n.outlets (outlet_port n.cells),
+      )) in
+      let left : outlet_net n.outlets k ≡ o.0.net.0 = ap (λ (x : NetId). x.0)
+      (get_or_from_slice_get (map net_of n.outlets) k o.0.net (record { 0 = 0 }) (mapped_at net_of n.outlets k o.0 o.1)) in
       let right : outlet_net (map moved_outlet n.outlets) k ≡ renumbered o.0.net.0 =
-      ap (λ (x : NetId). x.0) (get_or_from_slice_get (map net_of (map moved_outlet n.outlets)) k (moved_outlet o.0).net (record { 0 = 0 }) (mapped_at net_of (map moved_outlet n.outlets) k (moved_outlet o.0) (mapped_at moved_outlet n.outlets k o.0 o.1))) in
+      ap (λ (x : NetId). x.0) (get_or_from_slice_get (map net_of (map moved_outlet n.outlets)) k (moved_outlet o.0).net (record { 0 = 0 })
+      (mapped_at net_of (map moved_outlet n.outlets) k (moved_outlet o.0) (mapped_at moved_outlet n.outlets k o.0 o.1))) in
       let net = c.shown.each k o.0 o.1 in
       let low : o.0.net.0 < length n.cells = slice_get_within n.cells o.0.net.0 net.sized net.found in
       (omega (arith, left), ap (λ (l : List Outlet). outlet_net l k) still.outputs ∙ (right ∙ ap renumbered (sym left)))
 
   -- a run of the module and one of its netlist
-  module _ (run : List ModuleClock) (other : List Clock) (is_run : netlist.IsRun new.cells other) (alike : BeginAlike tree new run other) (equal : HaveEqualOutputs tree new run other) where
+  module _ (run : List ModuleClock) (other : List Clock) (is_run : netlist.IsRun new.cells other) (alike : BeginAlike tree new run other)
+      (equal : HaveEqualOutputs tree new run other) where
     abbrev clocks : List ModuleClock
     clocks = enabled_clocks run
 
@@ -122,7 +137,8 @@ module _ (lines : ℕ → ℕ) (p : ProgramTree) (slowdown : ℕ) (costs : OwnCo
 
     tests : (t : ℕ) → t < length run → ((clock_at run t).word enable_name == 1) ≡ is_enabled (get_or other t no_clock)
     unfolding word_at
-    tests t l = ap (λ x. x == 1) (input_alike lines new many (reset_port ∷ enable_port ∷ net_side.input_ports (streams_of ins)) (outs_of outs) new_ports run other alike t 1 enable_port l refl)
+    tests t l = ap (λ x. x == 1) (input_alike lines new many (reset_port ∷ enable_port ∷ net_side.input_ports (streams_of ins))
+        (outs_of outs) new_ports run other alike t 1 enable_port l refl)
 
     pairs : AreAligned (λ (x : ModuleClock). x.word enable_name == 1) is_enabled idle_clock no_clock run other
     pairs = aligned (λ (x : ModuleClock). x.word enable_name == 1) is_enabled idle_clock no_clock run other alike.long tests
@@ -146,7 +162,8 @@ module _ (lines : ℕ → ℕ) (p : ProgramTree) (slowdown : ℕ) (costs : OwnCo
           place = q.at;
           within = q.within;
           left = q.left;
-          right = get_or-map (clock_without (length n.cells)) (filter is_enabled other) t no_clock no_clock (omega (arith, pairs.long)) ∙ ap (clock_without (length n.cells)) (sym q.right);
+          right = get_or-map (clock_without (length n.cells)) (filter is_enabled other) t no_clock no_clock (omega (arith, pairs.long)) ∙
+              ap (clock_without (length n.cells)) (sym q.right);
         }
 
     word_there : (t k : ℕ) (h : IsThere t) → k < length n.cells → word_at part t k ≡ word_at other h.place (renumbered k)
@@ -161,16 +178,25 @@ module _ (lines : ℕ → ℕ) (p : ProgramTree) (slowdown : ℕ) (costs : OwnCo
       long : length r ≡ length clocks
       long = begin.long ∙ sym part_long
 
-      in_word : (t k : ℕ) (port : SizedPort) → t < length clocks → slice_get (ins_of ins) k ≡ Some port → (clock_at r t).word (port_name 1 port.port) ≡ (clock_at clocks t).word (port_name 1 port.port)
+      in_word : (t k : ℕ) (port : SizedPort) → t < length clocks → slice_get (ins_of ins) k ≡ Some port
+          → (clock_at r t).word (port_name 1 port.port) ≡ (clock_at clocks t).word (port_name 1 port.port)
       in_word t k port l found =
           let h : IsThere t = there t l in
-          let inside : k < length n.cells = omega (arith, slice_get_within (ins_of ins) k port found, old_ports.inputs.count, count_by-le-length (λ (x : SizedCell). is_input x.cell) n.cells) in
+          let inside : k < length n.cells = omega (
+            arith,
+            slice_get_within (ins_of ins) k port found,
+            old_ports.inputs.count,
+            count_by-le-length (λ (x : SizedCell). is_input x.cell) n.cells,
+          ) in
           input_alike lines n many (ins_of ins) (outs_of outs) old_ports r part begin t k port (omega (arith, long)) found
           ∙ (word_there t k h inside
-          ∙ (sym (input_alike lines new many (reset_port ∷ enable_port ∷ net_side.input_ports (streams_of ins)) (outs_of outs) new_ports run other alike h.place (renumbered k) port h.within (moved_port reset_port (net_side.input_ports (streams_of ins)) k port found))
+          ∙ (sym (input_alike lines new many (reset_port ∷ enable_port ∷ net_side.input_ports (streams_of ins))
+          (outs_of outs) new_ports run other alike h.place (renumbered k) port h.within
+          (moved_port reset_port (net_side.input_ports (streams_of ins)) k port found))
           ∙ ap (λ (x : ModuleClock). x.word (port_name 1 port.port)) h.left))
 
-      out_word : (t k : ℕ) (port : SizedPort) → t < length clocks → slice_get (outs_of outs) k ≡ Some port → (clock_at r t).word (port_name many port.port) ≡ (clock_at clocks t).word (port_name many port.port)
+      out_word : (t k : ℕ) (port : SizedPort) → t < length clocks → slice_get (outs_of outs) k ≡ Some port
+          → (clock_at r t).word (port_name many port.port) ≡ (clock_at clocks t).word (port_name many port.port)
       out_word t k port l found =
           let h : IsThere t = there t l in
           let o = outlet_at k port found in
@@ -179,11 +205,13 @@ module _ (lines : ℕ → ℕ) (p : ProgramTree) (slowdown : ℕ) (costs : OwnCo
           output_alike lines n many (ins_of ins) (outs_of outs) old_ports r part shown t k port (omega (arith, long)) found
           ∙ (word_there t (outlet_net n.outlets k) h inside
           ∙ (ap (word_at other h.place) (sym net)
-          ∙ (sym (output_alike lines new many (reset_port ∷ enable_port ∷ net_side.input_ports (streams_of ins)) (outs_of outs) new_ports run other equal h.place k port h.within found)
+          ∙ (sym (output_alike lines new many (reset_port ∷ enable_port ∷ net_side.input_ports (streams_of ins))
+          (outs_of outs) new_ports run other equal h.place k port h.within found)
           ∙ ap (λ (x : ModuleClock). x.word (port_name many port.port)) h.left)))
 
       -- blocks on the inputs, and on the outputs
-      holds_in : (start k : ℕ) (block : List ValueTree) → start + (k + slowdown) ≤ length clocks → BundlesHold clocks start k param_ports ins block → BundlesHold r start k param_ports ins block
+      holds_in : (start k : ℕ) (block : List ValueTree) → start + (k + slowdown) ≤ length clocks → BundlesHold clocks start k param_ports ins block
+          → BundlesHold r start k param_ports ins block
       holds_in start k block room held = record {
         each = λ q t found.
             let fill : IsFilling slowdown t = ins_filling p slowdown ins outs laid q t found in
@@ -191,20 +219,24 @@ module _ (lines : ℕ → ℕ) (p : ProgramTree) (slowdown : ℕ) (costs : OwnCo
             (λ clock column low high small.
             (let name : IsNamed 1 (ins_of ins) (get_or (map name_of (param_ports q t)) column []) = named_in ins q column t found small in
             let full : time t ≡ slowdown = fill.time in
-            ap (clock_at r (start + clock)).word name.is ∙ (in_word (start + clock) name.place name.port (omega (arith, full)) name.there ∙ ap (clock_at clocks (start + clock)).word (sym name.is))))
+            ap (clock_at r (start + clock)).word name.is ∙ (in_word (start + clock) name.place name.port (omega (arith, full)) name.there ∙
+            ap (clock_at clocks (start + clock)).word (sym name.is))))
             (held.each q t found);
       }
 
-      holds_out : (start k : ℕ) (values : List ValueTree) → start + (k + slowdown) ≤ length clocks → BundlesHold r start k (result_ports (length outs)) outs values → BundlesHold clocks start k (result_ports (length outs)) outs values
+      holds_out : (start k : ℕ) (values : List ValueTree) → start + (k + slowdown) ≤ length clocks
+          → BundlesHold r start k (result_ports (length outs)) outs values → BundlesHold clocks start k (result_ports (length outs)) outs values
       holds_out start k values room held = record {
         each = λ q t found.
             let fill : IsFilling slowdown t = outs_filling p slowdown ins outs laid q t found in
             holds_alike k t (wave clocks start (result_ports (length outs) q t)) (wave r start (result_ports (length outs) q t)) (flat (at values q)) fill.size
             (λ clock column low high small.
-            (let name : IsNamed (length outs) (outs_of outs) (get_or (map name_of (result_ports (length outs) q t)) column []) = named_out (length outs) outs q column t found small in
+            (let name : IsNamed (length outs) (outs_of outs) (get_or (map name_of (result_ports (length outs) q t)) column []) = named_out
+            (length outs) outs q column t found small in
             let full : time t ≡ slowdown = fill.time in
             let named : get_or (map name_of (result_ports (length outs) q t)) column [] ≡ port_name many name.port.port = name.is in
-            ap (clock_at clocks (start + clock)).word named ∙ (sym (out_word (start + clock) name.place name.port (omega (arith, full)) name.there) ∙ ap (clock_at r (start + clock)).word (sym named))))
+            ap (clock_at clocks (start + clock)).word named ∙ (sym (out_word (start + clock) name.place name.port (omega (arith, full)) name.there) ∙
+            ap (clock_at r (start + clock)).word (sym named))))
             (held.each q t found);
       }
 
@@ -227,7 +259,8 @@ module _ (lines : ℕ → ℕ) (p : ProgramTree) (slowdown : ℕ) (costs : OwnCo
         let inside : b < length blocks = slice_get_within blocks b block found in
         let fits : b * slowdown + slowdown ≤ length blocks * slowdown = row_fits b slowdown (length blocks) slowdown inside (omega arith) in
         let same_long = long_is run o w.1 w.2 w.3 r v.2 v.3 in
-        let base : KeepsBlocks plain p slowdown costs.latency ins outs = keeps lines p slowdown costs.latency ins outs n (circuit_ports p slowdown costs ins outs n c) c.makes plain_same (ins_filling p slowdown ins outs laid) (outs_filling p slowdown ins outs laid) in
+        let base : KeepsBlocks plain p slowdown costs.latency ins outs = keeps lines p slowdown costs.latency ins outs n
+        (circuit_ports p slowdown costs ins outs n c) c.makes plain_same (ins_filling p slowdown ins outs laid) (outs_filling p slowdown ins outs laid) in
         holds_out run o w.1 w.2 w.3 r v.2 v.3 start (costs.latency + b * slowdown) (mean p block) (omega (arith, fits))
         (base.results r start blocks (resets run o w.1 w.2 w.3 r v.2 v.3 start v.1 reset) (omega (arith, same_long))
         (λ d other there. (let g = given d other there in
@@ -237,7 +270,9 @@ module _ (lines : ℕ → ℕ) (p : ProgramTree) (slowdown : ℕ) (costs : OwnCo
         b block found);
   }
     where
-      long_is : (run : List ModuleClock) (o : List Clock) (a : netlist.IsRun new.cells o) (b : BeginAlike tree new run o) (e : HaveEqualOutputs tree new run o) (r : List ModuleClock) (x : BeginAlike plain n r (enabled_part (length n.cells) o)) (y : HaveEqualOutputs plain n r (enabled_part (length n.cells) o)) → length r ≡ length (enabled_clocks run)
+      long_is : (run : List ModuleClock) (o : List Clock) (a : netlist.IsRun new.cells o) (b : BeginAlike tree new run o) (e : HaveEqualOutputs tree new run o)
+          (r : List ModuleClock) (x : BeginAlike plain n r (enabled_part (length n.cells) o))
+          (y : HaveEqualOutputs plain n r (enabled_part (length n.cells) o)) → length r ≡ length (enabled_clocks run)
       long_is run o a b e r x y = long run o a b e r x y
 
   faced : ports_of tree ≡ stalled_ports ins outs
@@ -249,7 +284,8 @@ module _ (lines : ℕ → ℕ) (p : ProgramTree) (slowdown : ℕ) (costs : OwnCo
       ap (map port_of) (ports_filtered lines new.cells new.outlets many (reset_port ∷ enable_port ∷ given) (outs_of outs) new_ports)
       ∙ ap (λ ps. clk ∷ rst ∷ en ∷ ps) (map-append port_of (map in_net given) (map (out_net many) (outs_of outs)))
       ∙ (λ i. clk ∷ rst ∷ en ∷ (map_map port_of in_net given i ++ map_map port_of (out_net many) (outs_of outs) i))
-      ∙ (λ i. clk ∷ rst ∷ en ∷ (from_are 1 false (λ param lane word. In param lane word) 0 ins i ++ from_are many true (λ result lane word. Out result lane word) 0 outs i))
+      ∙ (λ i. clk ∷ rst ∷ en ∷ (from_are 1 false (λ param lane word. In param lane word) 0 ins i
+      ++ from_are many true (λ result lane word. Out result lane word) 0 outs i))
 
   pub stalled_correct : IsCorrectStalled tree p slowdown costs.latency
   stalled_correct = record {

@@ -53,7 +53,8 @@ head_kind p q e = sym (ap (λ (x : SizedPort). kind_in x.port) (same_Some p q e)
 kinds_apart : {A : Type 0} (a b : SizedPort) (k l : ℕ) → kind_in a.port ≡ k → kind_in b.port ≡ l → a.port ≡ b.port → k < l → A
 kinds_apart a b k l f g e lt = let same : k ≡ l = sym f ∙ (ap kind_in e ∙ g) in absurd (omega (arith, same, lt))
 
-stalled_apart : (ss : List Stream) (m n : ℕ) (a b : SizedPort) → slice_get (stalled_ins ss) m ≡ Some a → slice_get (stalled_ins ss) n ≡ Some b → a.port ≡ b.port → m ≡ n
+stalled_apart : (ss : List Stream) (m n : ℕ) (a b : SizedPort) → slice_get (stalled_ins ss) m ≡ Some a → slice_get (stalled_ins ss) n ≡ Some b
+    → a.port ≡ b.port → m ≡ n
 stalled_apart ss zero zero a b f g e = refl
 stalled_apart ss zero (suc zero) a b f g e = kinds_apart a b 0 1 (head_kind reset_port a f) (head_kind enable_port b g) e (omega arith)
 stalled_apart ss zero (suc (suc n)) a b f g e = kinds_apart a b 0 2 (head_kind reset_port a f) (in_kind ss n b g) e (omega arith)
@@ -66,12 +67,15 @@ stalled_apart ss (suc (suc m)) (suc (suc n)) a b f g e = ap suc (inputs_apart ss
 
 -- ---- their numbers are those of few ports
 
-stalled_port_fits : (ss : List StTree) (k : ℕ) (p : SizedPort) → AreSmall ss → length ss ≤ 8 → slice_get (stalled_ins (streams_of ss)) k ≡ Some p → PortFits p.port
+stalled_port_fits : (ss : List StTree) (k : ℕ) (p : SizedPort) → AreSmall ss → length ss ≤ 8 → slice_get (stalled_ins (streams_of ss)) k ≡ Some p
+    → PortFits p.port
 stalled_port_fits ss zero p small few h = input_port_fits ss zero p small few h
 stalled_port_fits ss (suc zero) p small few h = subst (λ (x : SizedPort). PortFits x.port) (same_Some enable_port p h) tt
 stalled_port_fits ss (suc (suc k)) p small few h = input_port_fits ss (suc k) p small few h
 
-cell_fits : (cells : List SizedCell) (k width : ℕ) (cell : Cell) → ((port : Port) → slice_get cells k ≡ Some (record { width = width; cell = Input port }) → PortFits port) → slice_get cells k ≡ Some (record { width = width; cell = cell }) → CellPortFits cell
+cell_fits : (cells : List SizedCell) (k width : ℕ) (cell : Cell)
+    → ((port : Port) → slice_get cells k ≡ Some (record { width = width; cell = Input port }) → PortFits port)
+    → slice_get cells k ≡ Some (record { width = width; cell = cell }) → CellPortFits cell
 cell_fits cells k width (Input port) f e = f port e
 cell_fits cells k width (Const c) f e = tt
 cell_fits cells k width (Op op args) f e = tt
@@ -94,7 +98,8 @@ moved_from os k o h =
 
 -- ---- the whole
 
-module _ (p : ProgramTree) (slowdown : ℕ) (costs : OwnCosts) (ins outs : List StTree) (n new : Circuit) (laid : IsLaidOut p slowdown ins outs) (light : costs.load ≤ 50000)
+module _ (p : ProgramTree) (slowdown : ℕ) (costs : OwnCosts) (ins outs : List StTree) (n new : Circuit) (laid : IsLaidOut p slowdown ins outs)
+    (light : costs.load ≤ 50000)
     (c : IsCircuitFor p slowdown costs ins outs n) (still : IsStalled n new) where
   plain : IsWritableNetlist n.cells n.outlets (length outs)
   plain = writable p slowdown costs ins outs n laid (omega (arith, light)) c
@@ -105,7 +110,8 @@ module _ (p : ProgramTree) (slowdown : ℕ) (costs : OwnCosts) (ins outs : List 
   have : HavePorts new.cells new.outlets (stalled_ins (streams_of ins)) (outs_of outs)
   have = stalled_ports_are n new reset_port (input_ports (streams_of ins)) (outs_of outs) still c.shown (circuit_ports p slowdown costs ins outs n c)
 
-  port_at : (k width : ℕ) (port : Port) → slice_get new.cells k ≡ Some (record { width = width; cell = Input port }) → IsPortAt (stalled_ins (streams_of ins)) k port
+  port_at : (k width : ℕ) (port : Port) → slice_get new.cells k ≡ Some (record { width = width; cell = Input port })
+      → IsPortAt (stalled_ins (streams_of ins)) k port
   port_at k width port e = input_at new.cells (stalled_ins (streams_of ins)) k width port have.inputs e
 
   outlet_at : (k : ℕ) (o : Outlet) → slice_get new.outlets k ≡ Some o → IsMoved n.outlets k o
@@ -127,14 +133,16 @@ module _ (p : ProgramTree) (slowdown : ℕ) (costs : OwnCosts) (ins outs : List 
 
   few_cells : length new.cells < 2 ^ 32
   few_cells =
-      let ports : length (input_ports (streams_of ins)) ≡ columns_in (streams_of ins) = length_from (λ param lane word. In param lane word) 0 (streams_of ins) in
+      let ports : length (input_ports (streams_of ins)) ≡ columns_in (streams_of ins) = length_from (λ param lane word. In param lane word) 0
+      (streams_of ins) in
       omega (arith, still.small, c.small, light, ports, all_columns ins small_ins, few_ins p slowdown ins outs laid)
 
   output_fits : (k : ℕ) (o : Outlet) → slice_get new.outlets k ≡ Some o → PortFits o.port
   output_fits k o e =
       let r = outlet_at k o e in
       let within : k < length n.outlets = slice_get_within n.outlets k r.from r.found in
-      let same : get_or n.outlets k r.from ≡ r.from = same_Some (get_or n.outlets k r.from) r.from (sym (slice_get-get_or n.outlets k r.from within) ∙ r.found) in
+      let same : get_or n.outlets k r.from ≡ r.from = same_Some (get_or n.outlets k r.from) r.from
+      (sym (slice_get-get_or n.outlets k r.from within) ∙ r.found) in
       subst (λ (x : Outlet). PortFits x.port) r.is (subst (λ (x : Outlet). PortFits x.port) same (plain.outputs k r.from within))
 
   pub is_writable : IsWritableNetlist new.cells new.outlets (length outs)
@@ -146,7 +154,9 @@ module _ (p : ProgramTree) (slowdown : ℕ) (costs : OwnCosts) (ins outs : List 
     few = few_cells;
     inputs = λ k d within.
         (let x : SizedCell = get_or new.cells k d in
-        cell_fits new.cells k x.width x.cell (λ port e. (let r = port_at k x.width port e in subst PortFits r.is (stalled_port_fits ins k r.sized small_ins (few_ins p slowdown ins outs laid) r.found))) (slice_get-get_or new.cells k d within));
+        cell_fits new.cells k x.width x.cell (λ port e. (let r = port_at k x.width port e in
+        subst PortFits r.is (stalled_port_fits ins k r.sized small_ins (few_ins p slowdown ins outs laid) r.found)))
+        (slice_get-get_or new.cells k d within));
     outputs = λ k d within. output_fits k (get_or new.outlets k d) (slice_get-get_or new.outlets k d within);
   }
 

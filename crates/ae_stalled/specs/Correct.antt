@@ -28,10 +28,15 @@ pub record AreReset (clocks : List ModuleClock) (start : ℕ) : Type 0 where
 
 -- in a run whose enabled clocks are reset, where every block of arguments stands on the inputs in them, one behind the other
 -- without a gap, the program's results of each block stand on the outputs in them, all of them so many enabled clocks later
-pub record KeepsEnabledBlocks (m : ModuleTree) (p : ProgramTree) (slowdown latency : ℕ) (inputs outputs : List StTree) : Type 0 where
-  pub results : (run : List ModuleClock) (start : ℕ) (blocks : List (List ValueTree)) → IsModuleRun m run → AreReset (enabled_clocks run) start → start + (latency + length blocks * slowdown) ≤ length (enabled_clocks run)
-      → ((b : ℕ) (block : List ValueTree) → slice_get blocks b ≡ Some block → AreValues (parameter_types p) block × BundlesHold (enabled_clocks run) start (b * slowdown) param_ports inputs block)
-      → (b : ℕ) (block : List ValueTree) → slice_get blocks b ≡ Some block → BundlesHold (enabled_clocks run) start (latency + b * slowdown) (result_ports (length outputs)) outputs (mean p block)
+pub record KeepsEnabledBlocks (m : ModuleTree) (p : ProgramTree) (slowdown latency : ℕ)
+    (inputs outputs : List StTree) : Type 0 where
+  pub results : (run : List ModuleClock) (start : ℕ) (blocks : List (List ValueTree)) → IsModuleRun m run
+      → AreReset (enabled_clocks run) start → start + (latency + length blocks * slowdown) ≤ length (enabled_clocks run)
+      → ((b : ℕ) (block : List ValueTree) → slice_get blocks b ≡ Some block → AreValues (parameter_types p) block
+      × BundlesHold (enabled_clocks run) start (b * slowdown) param_ports inputs block)
+      → (b : ℕ) (block : List ValueTree) → slice_get blocks b ≡ Some block
+      → BundlesHold (enabled_clocks run) start (latency + b * slowdown) (result_ports (length outputs)) outputs
+      (mean p block)
 
 -- clock, reset, enable, inputs and outputs
 abbrev pub stalled_ports : (inputs outputs : List StTree) → List ModulePort

@@ -19,13 +19,16 @@ stall_limit = 50000
 -- a stalled circuit for a program, within the limit of load, can be written as a module
 abbrev pub StalledCircuitsAreWritable : Type 0
 StalledCircuitsAreWritable =
-    (p : ProgramTree) (slowdown : ℕ) (costs : OwnCosts) (ins outs : List StTree) (n stalled : Circuit) → IsLaidOut p slowdown ins outs → costs.load ≤ stall_limit → IsCircuitFor p slowdown costs ins outs n
+    (p : ProgramTree) (slowdown : ℕ) (costs : OwnCosts) (ins outs : List StTree) (n stalled : Circuit)
+    → IsLaidOut p slowdown ins outs → costs.load ≤ stall_limit → IsCircuitFor p slowdown costs ins outs n
     → IsStalled n stalled → IsWritableNetlist stalled.cells stalled.outlets (length outs)
 
 -- the module that it is written as, whatever lines its names tell, where the modules of both circuits have their runs, is
 -- correct for the program in the clocks in which the enable is 1, with the latency of the costs
 abbrev pub StalledCircuitsAreCorrect : Type 0
 StalledCircuitsAreCorrect =
-    (lines : ℕ → ℕ) (p : ProgramTree) (slowdown : ℕ) (costs : OwnCosts) (ins outs : List StTree) (n stalled : Circuit) → IsLaidOut p slowdown ins outs → IsCircuitFor p slowdown costs ins outs n → IsStalled n stalled
-    → HasSameRuns (netlist_module lines n.cells n.outlets (length outs)) n → HasSameRuns (netlist_module lines stalled.cells stalled.outlets (length outs)) stalled
+    (lines : ℕ → ℕ) (p : ProgramTree) (slowdown : ℕ) (costs : OwnCosts) (ins outs : List StTree) (n stalled : Circuit)
+    → IsLaidOut p slowdown ins outs → IsCircuitFor p slowdown costs ins outs n → IsStalled n stalled
+    → HasSameRuns (netlist_module lines n.cells n.outlets (length outs)) n
+    → HasSameRuns (netlist_module lines stalled.cells stalled.outlets (length outs)) stalled
     → IsCorrectStalled (netlist_module lines stalled.cells stalled.outlets (length outs)) p slowdown costs.latency

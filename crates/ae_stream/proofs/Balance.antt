@@ -8,11 +8,13 @@ use Rattle.ae_stream.proofs.Counting.{whole_blocks}
 use Rattle.ae_stream.proofs.Numbers.{passing_le}
 
 -- where those of some numbers that pass too say so by how many of these are before them
-pub counted : (both first number : ℕ → Bool) (n : ℕ) → ((t : ℕ) → t < n → both t ≡ (first t && number (passing first t))) → passing both n ≡ passing number (passing first n)
+pub counted : (both first number : ℕ → Bool) (n : ℕ) → ((t : ℕ) → t < n → both t ≡ (first t && number (passing first t)))
+    → passing both n ≡ passing number (passing first n)
 counted both first number zero h = refl
 counted both first number (suc n) h = step (first n) (h n (omega arith)) (counted both first number n (λ t l. h t (omega arith)))
   where
-    step : (v : Bool) → both n ≡ (v && number (passing first n)) → passing both n ≡ passing number (passing first n) → passing both n + one_if (both n) ≡ passing number (passing first n + one_if v)
+    step : (v : Bool) → both n ≡ (v && number (passing first n)) → passing both n ≡ passing number (passing first n)
+        → passing both n + one_if (both n) ≡ passing number (passing first n + one_if v)
     step true e before =
         let next : passing first n + 1 ≡ suc (passing first n) = omega arith in
         (λ i. before i + one_if (e i)) ∙ ap (passing number) (sym next)
@@ -26,7 +28,8 @@ and_if true a b e = e refl
 and_if false a b e = refl
 
 -- of a queue: what is taken out and what stands in it is what was put in
-pub moved : (one two push pop : Bool) → IsFair one two push pop → one_if pop + (one_if (next_one one two push pop) + one_if (next_two one two push pop)) ≡ one_if one + one_if two + one_if push
+pub moved : (one two push pop : Bool) → IsFair one two push pop
+    → one_if pop + (one_if (next_one one two push pop) + one_if (next_two one two push pop)) ≡ one_if one + one_if two + one_if push
 moved false false false false f = refl
 moved false false true false f = refl
 moved true false false false f = refl
@@ -69,9 +72,11 @@ product_le a b s l =
     omega (arith, more)
 
 -- whole blocks that have been taken have been real ones, and the results of these are whole too
-pub whole_results : (ins outs real : ℕ → Bool) (slowdown k n b : ℕ) → 0 < passing ins slowdown → n ≤ b * slowdown → k * passing ins slowdown ≤ passing (carries ins real slowdown) n → k * passing outs slowdown ≤ passing (carries outs real slowdown) (b * slowdown)
+pub whole_results : (ins outs real : ℕ → Bool) (slowdown k n b : ℕ) → 0 < passing ins slowdown → n ≤ b * slowdown
+    → k * passing ins slowdown ≤ passing (carries ins real slowdown) n → k * passing outs slowdown ≤ passing (carries outs real slowdown) (b * slowdown)
 whole_results ins outs real slowdown k n b some within l =
-    let more : passing (carries ins real slowdown) n ≤ passing (carries ins real slowdown) (b * slowdown) = passing_le (carries ins real slowdown) n (b * slowdown) within in
+    let more : passing (carries ins real slowdown) n ≤ passing (carries ins real slowdown) (b * slowdown) = passing_le (carries ins real slowdown) n
+    (b * slowdown) within in
     let taken : passing (carries ins real slowdown) (b * slowdown) ≡ passing real b * passing ins slowdown = whole_blocks ins real slowdown b in
     let given : passing (carries outs real slowdown) (b * slowdown) ≡ passing real b * passing outs slowdown = whole_blocks outs real slowdown b in
     let few : k ≤ passing real b = cancel_le k (passing real b) (passing ins slowdown) some (omega (arith, l, more, taken)) in

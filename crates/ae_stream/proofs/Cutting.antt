@@ -61,13 +61,16 @@ module _ (old all : List SizedCell) (formed : IsFormed old) (e : Extends old all
       } in
       subst (λ (k : Clock). IsShaped old k) (sym (place t l)) cut
 
-  settles : (t n width : ℕ) (cell : Cell) → t < length run → slice_get old n ≡ Some (record { width = width; cell = cell }) → CellFits (take n old) old n width cell → Settles all run t n cell → Settles old part t n cell
+  settles : (t n width : ℕ) (cell : Cell) → t < length run → slice_get old n ≡ Some (record { width = width; cell = cell })
+      → CellFits (take n old) old n width cell → Settles all run t n cell → Settles old part t n cell
   settles t n width (Input port) l found fits h = tt
   settles t n width (Const k) l found fits h = word t n l (slice_get_within old n _ found) ∙ h
   settles t n width (Op op args) l found fits h =
       let b : n < length old = slice_get_within old n _ found in
-      let o = each_operand op (IsNet (take n old)) (λ i. (i < length old) × (width_of old i ≡ width_of all i)) args (width_of (take n old) (main_operand op args)) fits.operands
-      (λ i v k. (let g : i < n = get_take_within old n i k.sized k.found in let there = get_from_take old n i k.sized k.found in (omega arith, same_width i k.sized there))) in
+      let o = each_operand op (IsNet (take n old)) (λ i. (i < length old) × (width_of old i ≡ width_of all i)) args
+      (width_of (take n old) (main_operand op args)) fits.operands
+      (λ i v k. (let g : i < n = get_take_within old n i k.sized k.found in let there = get_from_take old n i k.sized k.found in
+      (omega arith, same_width i k.sized there))) in
       let w : width_of old (main_operand op args) ≡ width_of all (main_operand op args) = of_main op (λ i. width_of old i ≡ width_of all i) args o.0.1 o.1.1 in
       word t n l b ∙ (h ∙ rw (w, word t (operand args 0) l o.0.0, word t (operand args 1) l o.1.0, word t (operand args 2) l o.2.0) refl)
   settles t n width (Reg next) l found fits h = tt
@@ -78,19 +81,31 @@ module _ (old all : List SizedCell) (formed : IsFormed old) (e : Extends old all
       let q : at.0 < n = get_take_within old n at.0 fits.address.net.sized fits.address.net.found in
       word t n l b ∙ (h ∙ rw (store t mem.0 l (omega arith), word t at.0 l (omega arith)) refl)
 
-  written : (t n width depth : ℕ) (at next enable : NetId) → t + 1 < length run → n < length old → (enable.0 == n) ≡ false → IsWritten old width depth at.0 next.0 enable.0 → Steps run t n (Mem depth at next enable) → Steps part t n (Mem depth at next enable)
+  written : (t n width depth : ℕ) (at next enable : NetId) → t + 1 < length run → n < length old → (enable.0 == n) ≡ false
+      → IsWritten old width depth at.0 next.0 enable.0 → Steps run t n (Mem depth at next enable) → Steps part t n (Mem depth at next enable)
   written t n width depth at next enable l b off w h =
       let k : t < length run = omega arith in
-      store (t + 1) n l b ∙ (h ∙ rw (store t n k b, word t enable.0 k (within enable.0 1 w.bit), word t at.0 k (within at.0 _ w.address.net), word t next.0 k (within next.0 _ w.word)) refl)
+      store (t + 1) n l b ∙ (h ∙ rw (
+        store t n k b,
+        word t enable.0 k (within enable.0 1 w.bit),
+        word t at.0 k (within at.0 _ w.address.net),
+        word t next.0 k (within next.0 _ w.word),
+      ) refl)
 
-  idle : (t n depth : ℕ) (at next enable : NetId) → t + 1 < length run → n < length old → (enable.0 == n) ≡ true → Steps run t n (Mem depth at next enable) → Steps part t n (Mem depth at next enable)
+  idle : (t n depth : ℕ) (at next enable : NetId) → t + 1 < length run → n < length old → (enable.0 == n) ≡ true → Steps run t n (Mem depth at next enable)
+      → Steps part t n (Mem depth at next enable)
   idle t n depth at next enable l b on h =
-      let own : store_at run (t + 1) n ≡ store_at run t n = h ∙ ap (λ (c : Bool). if c then store_at run t n else (if word_at run t enable.0 == 1 then slice_set (store_at run t n) (word_at run t at.0) (word_at run t next.0) else store_at run t n)) on in
-      let other : store_at part t n ≡ (if enable.0 == n then store_at part t n else (if word_at part t enable.0 == 1 then slice_set (store_at part t n) (word_at part t at.0) (word_at part t next.0) else store_at part t n)) =
-      sym (ap (λ (c : Bool). if c then store_at part t n else (if word_at part t enable.0 == 1 then slice_set (store_at part t n) (word_at part t at.0) (word_at part t next.0) else store_at part t n)) on) in
+      let own : store_at run (t + 1) n ≡ store_at run t n = h ∙
+      ap (λ (c : Bool). if c then store_at run t n else (if word_at run t enable.0 == 1 then slice_set (store_at run t n) (word_at run t at.0)
+      (word_at run t next.0) else store_at run t n)) on in
+      let other : store_at part t n ≡ (if enable.0 == n then store_at part t
+      n else (if word_at part t enable.0 == 1 then slice_set (store_at part t n) (word_at part t at.0) (word_at part t next.0) else store_at part t n)) =
+      sym (ap (λ (c : Bool). if c then store_at part t n else (if word_at part t enable.0 == 1 then slice_set (store_at part t n) (word_at part t at.0)
+      (word_at part t next.0) else store_at part t n)) on) in
       store (t + 1) n l b ∙ (own ∙ (sym (store t n (omega arith) b) ∙ other))
 
-  steps : (t n width : ℕ) (cell : Cell) → t + 1 < length run → n < length old → CellFits (take n old) old n width cell → Steps run t n cell → Steps part t n cell
+  steps : (t n width : ℕ) (cell : Cell) → t + 1 < length run → n < length old → CellFits (take n old) old n width cell → Steps run t n cell
+      → Steps part t n cell
   steps t n width (Input port) l b fits h = tt
   steps t n width (Const k) l b fits h = tt
   steps t n width (Op op args) l b fits h = tt
@@ -108,6 +123,8 @@ module _ (old all : List SizedCell) (formed : IsFormed old) (e : Extends old all
   pub first_run : IsRun old part
   first_run = record {
     shaped = each_shaped old part (λ t l. shaped t (omega (arith, size)));
-    settles = λ t n sized l h. settles t n sized.width sized.cell (omega (arith, size)) h (formed.each n sized h).cell (r.settles t n sized (omega (arith, size)) (e.keeps n sized h));
-    steps = λ t n sized l h. steps t n sized.width sized.cell (omega (arith, size)) (slice_get_within old n sized h) (formed.each n sized h).cell (r.steps t n sized (omega (arith, size)) (e.keeps n sized h));
+    settles = λ t n sized l h. settles t n sized.width sized.cell (omega (arith, size)) h (formed.each n sized h).cell
+        (r.settles t n sized (omega (arith, size)) (e.keeps n sized h));
+    steps = λ t n sized l h. steps t n sized.width sized.cell (omega (arith, size)) (slice_get_within old n sized h) (formed.each n sized h).cell
+        (r.steps t n sized (omega (arith, size)) (e.keeps n sized h));
   }

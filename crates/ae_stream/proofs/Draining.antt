@@ -51,7 +51,8 @@ still false valid busy true false e = absurd (grind (arith, e))
 still false true busy true true e = absurd (grind (arith, e))
 still false false busy true true e = record { quiet = λ f. absurd (grind (arith, f)); wanted = λ f. refl; real = λ f. refl; empty = refl }
 
-module _ (x : Control) (g : Gates) (row : Row) (ends : Ends) (run : List Clock) (start slowdown q r : ℕ) (inputs outputs : List StTree) (h : IsDriven x g row ends run start slowdown q r inputs outputs) (shown : ends.sink.valid ≡ x.one)
+module _ (x : Control) (g : Gates) (row : Row) (ends : Ends) (run : List Clock) (start slowdown q r : ℕ) (inputs outputs : List StTree)
+    (h : IsDriven x g row ends run start slowdown q r inputs outputs) (shown : ends.sink.valid ≡ x.one)
     (some : 0 < slowdown) (small : r < slowdown) (beat : is_beat inputs 0 ≡ true) where
   abbrev rest : List Clock
   rest = drop start run
@@ -90,12 +91,15 @@ module _ (x : Control) (g : Gates) (row : Row) (ends : Ends) (run : List Clock) 
 
   pub taken_is : (u : ℕ) → u ≤ length rest → passing (λ k. is_transfer ends.source (at k)) u ≡ passing ins (stepped u)
   taken_is u within = counted (λ k. is_transfer ends.source (at k)) goes ins u (λ t l. control.asks t (omega (arith, l, within))
-      ∙ and_if (goes t) (bit x.takes (at t) && bit x.here (at t)) (ins (stepped t)) (λ y. by_step x g row ends run start slowdown q r inputs outputs h shown (λ c. bit x.takes c && bit x.here c) ins
+      ∙ and_if (goes t) (bit x.takes (at t) && bit x.here (at t)) (ins (stepped t))
+      (λ y. by_step x g row ends run start slowdown q r inputs outputs h shown (λ c. bit x.takes c && bit x.here c) ins
       (taken_by_number x ends run start slowdown (q * slowdown + r) inputs outputs control some) t (omega (arith, l, within)) y))
 
   put_is : (u : ℕ) → u ≤ length rest → passing (λ k. bit x.enable (at k) && bit x.shows (at k)) u ≡ passing (later latency outs) (stepped u)
   put_is u within = counted (λ k. bit x.enable (at k) && bit x.shows (at k)) goes (later latency outs) u (λ t l.
-      and_if (goes t) (bit x.shows (at t)) (later latency outs (stepped t)) (λ y. by_step x g row ends run start slowdown q r inputs outputs h shown (bit x.shows) (later latency outs) control.shows t (omega (arith, l, within)) y))
+      and_if (goes t) (bit x.shows (at t)) (later latency outs (stepped t))
+      (λ y. by_step x g row ends run start slowdown q r inputs outputs h shown (bit x.shows) (later latency outs) control.shows t
+      (omega (arith, l, within)) y))
 
   abbrev pops : ℕ → Bool
   pops k = is_transfer ends.sink (at k)
@@ -106,21 +110,27 @@ module _ (x : Control) (g : Gates) (row : Row) (ends : Ends) (run : List Clock) 
   balanced : (t : ℕ) → t < length rest → passing pops t + (one_if (bit x.one (at t)) + one_if (bit x.two (at t))) ≡ passing puts t
   balanced zero l =
       let one : bit x.one (at 0) ≡ false = h.empty (omega (arith, l)) in
-      let two : bit x.two (at 0) ≡ false = none_second (bit x.one (at 0)) (bit x.two (at 0)) (fair x g row ends run start slowdown q r inputs outputs h shown 0 l).second one in
+      let two : bit x.two (at 0) ≡ false = none_second (bit x.one (at 0)) (bit x.two (at 0))
+      (fair x g row ends run start slowdown q r inputs outputs h shown 0 l).second one in
       rw (one, two) refl
   balanced (suc t) l =
       let e : suc t ≡ t + 1 = omega arith in
       let before : passing pops t + (one_if (bit x.one (at t)) + one_if (bit x.two (at t))) ≡ passing puts t = balanced t (omega (arith, l)) in
       let next : IsAfter (queue_of x ends 0) (at t) (at (t + 1)) = (h.queue 0 h.any).after t (omega (arith, l)) in
-      let one : one_if (bit x.one (at (suc t))) ≡ one_if (next_one (bit x.one (at t)) (bit x.two (at t)) (puts t) (pops t)) = ap (λ k. one_if (bit x.one (at k))) e ∙ ap one_if next.one in
-      let two : one_if (bit x.two (at (suc t))) ≡ one_if (next_two (bit x.one (at t)) (bit x.two (at t)) (puts t) (pops t)) = ap (λ k. one_if (bit x.two (at k))) e ∙ ap one_if next.two in
-      let step = moved (bit x.one (at t)) (bit x.two (at t)) (puts t) (pops t) (fair x g row ends run start slowdown q r inputs outputs h shown t (omega (arith, l))) in
+      let one : one_if (bit x.one (at (suc t))) ≡ one_if (next_one (bit x.one (at t)) (bit x.two (at t)) (puts t) (pops t)) = ap
+      (λ k. one_if (bit x.one (at k))) e ∙ ap one_if next.one in
+      let two : one_if (bit x.two (at (suc t))) ≡ one_if (next_two (bit x.one (at t)) (bit x.two (at t)) (puts t) (pops t)) = ap
+      (λ k. one_if (bit x.two (at k))) e ∙ ap one_if next.two in
+      let step = moved (bit x.one (at t)) (bit x.two (at t)) (puts t) (pops t)
+      (fair x g row ends run start slowdown q r inputs outputs h shown t (omega (arith, l))) in
       omega (arith, before, one, two, step)
 
   -- where there is room and the sink takes, all that was put in comes out
-  pub given_is : (u : ℕ) → u < length rest → bit x.two (at u) ≡ false → bit ends.sink.ready (at u) ≡ true → passing pops (suc u) ≡ passing (later latency outs) (stepped u)
+  pub given_is : (u : ℕ) → u < length rest → bit x.two (at u) ≡ false → bit ends.sink.ready (at u) ≡ true
+      → passing pops (suc u) ≡ passing (later latency outs) (stepped u)
   given_is u l two takes =
-      let pop : one_if (pops u) ≡ one_if (bit x.one (at u)) = ap one_if (pop_is x g row ends run start slowdown q r inputs outputs h shown u takes) ∙ and_same (bit x.one (at u)) in
+      let pop : one_if (pops u) ≡ one_if (bit x.one (at u)) = ap one_if (pop_is x g row ends run start slowdown q r inputs outputs h shown u takes) ∙
+      and_same (bit x.one (at u)) in
       let none : one_if (bit x.two (at u)) ≡ 0 = ap one_if two in
       let all : passing puts u ≡ passing (later latency outs) (stepped u) = put_is u (omega (arith, l)) in
       omega (arith, balanced u l, pop, none) ∙ all
@@ -151,20 +161,28 @@ module _ (x : Control) (g : Gates) (row : Row) (ends : Ends) (run : List Clock) 
   no_step : (t : ℕ) → goes t ≡ false → stepped (suc t) ≡ stepped t
   no_step t y = (let e : one_if (goes t) ≡ 0 = ap one_if y in omega (arith, e))
 
-  flag_step : (t : ℕ) → suc t < length rest → ((i : ℕ) → i ≤ q → bit (row.flag (suc i)) (at t) ≡ reached real (suc i) (stepped t / slowdown)) → (j : ℕ) → j ≤ q → bit (row.flag (suc j)) (at (suc t)) ≡ reached real (suc j) (stepped (suc t) / slowdown)
+  flag_step : (t : ℕ) → suc t < length rest → ((i : ℕ) → i ≤ q → bit (row.flag (suc i)) (at t) ≡ reached real (suc i) (stepped t / slowdown)) → (j : ℕ) → j ≤ q
+      → bit (row.flag (suc j)) (at (suc t)) ≡ reached real (suc j) (stepped (suc t) / slowdown)
   flag_step t l was j few = cases (goes t) refl
     where
       before : (i : ℕ) → i ≤ suc q → goes t ≡ true → bit (row.flag i) (at t) ≡ reached real i (stepped t / slowdown)
-      before zero b y = ap (λ n. bit n (at t)) h.here ∙ (here_at t (omega (arith, l)) y ∙ (sym (reached_on real 0 (stepped t / slowdown)) ∙ ap (reached real 0) (let e : 0 + stepped t / slowdown ≡ stepped t / slowdown = omega arith in e)))
+      before zero b y = ap (λ n. bit n (at t)) h.here ∙ (here_at t (omega (arith, l)) y ∙
+          (sym (reached_on real 0 (stepped t / slowdown)) ∙ ap (reached real 0) (let e : 0 + stepped t / slowdown ≡ stepped t / slowdown = omega arith in e)))
       before (suc i) b y = was i (omega (arith, b))
 
-      turned : goes t ≡ true → (v : Bool) → bit row.last (at t) ≡ v → (stepped t % slowdown == slowdown - 1) ≡ v → (if v then bit (row.flag j) (at t) else bit (row.flag (suc j)) (at t)) ≡ reached real (suc j) (suc (stepped t) / slowdown)
+      turned : goes t ≡ true → (v : Bool) → bit row.last (at t) ≡ v → (stepped t % slowdown == slowdown - 1) ≡ v
+          → (if v then bit (row.flag j) (at t) else bit (row.flag (suc j)) (at t)) ≡ reached real (suc j) (suc (stepped t) / slowdown)
       turned y true e f =
           let last : stepped t % slowdown ≡ slowdown - 1 = eqb-true (stepped t % slowdown) (slowdown - 1) f in
           before j (omega (arith, few)) y ∙ (reached_suc real j (stepped t / slowdown) ∙ sym (ap (reached real (suc j)) (next_block (stepped t) last)))
       turned y false e f =
-          let apart : stepped t % slowdown ≡ slowdown - 1 → ⊥ = λ z. (let b : true ≡ false = sym (eq-eqb (stepped t % slowdown) (slowdown - 1) z) ∙ f in absurd (grind (arith, b))) in
-          let less : stepped t % slowdown < slowdown - 1 = elim (cases_lt (stepped t % slowdown) (slowdown - 1)) [ inl k ↦ k | inr k ↦ absurd (apart (omega (arith, k, low (stepped t)))) ] in
+          let apart : stepped t % slowdown ≡ slowdown - 1 → ⊥ = λ z.
+          (let b : true ≡ false = sym (eq-eqb (stepped t % slowdown) (slowdown - 1) z) ∙ f in absurd (grind (arith, b))) in
+          let less : stepped t % slowdown < slowdown - 1 = elim (cases_lt (stepped t % slowdown) (slowdown - 1)) [
+            | inl k ↦ k
+            | inr k ↦ absurd
+                (apart (omega (arith, k, low (stepped t))))
+          ] in
           before (suc j) (omega (arith, few)) y ∙ sym (ap (reached real (suc j)) (same_block (stepped t) less))
 
       follows : bit (row.flag (suc j)) (at (suc t)) ≡ (if goes t then next_flag row j (at t) else bit (row.flag (suc j)) (at t))
@@ -187,7 +205,8 @@ module _ (x : Control) (g : Gates) (row : Row) (ends : Ends) (run : List Clock) 
   flag_is (suc t) l j few = flag_step t l (λ i b. flag_is t (omega (arith, l)) i b) j few
 
   -- inside a block the register says whether it is real
-  current_step : (t : ℕ) → suc t < length rest → (0 < stepped t % slowdown → bit g.current (at t) ≡ real (stepped t / slowdown)) → 0 < stepped (suc t) % slowdown → bit g.current (at (suc t)) ≡ real (stepped (suc t) / slowdown)
+  current_step : (t : ℕ) → suc t < length rest → (0 < stepped t % slowdown → bit g.current (at t) ≡ real (stepped t / slowdown))
+      → 0 < stepped (suc t) % slowdown → bit g.current (at (suc t)) ≡ real (stepped (suc t) / slowdown)
   current_step t l was inside = cases (goes t) refl
     where
       follows : bit g.current (at (suc t)) ≡ (if goes t then bit x.here (at t) else bit g.current (at t))
@@ -197,7 +216,8 @@ module _ (x : Control) (g : Gates) (row : Row) (ends : Ends) (run : List Clock) 
       cases true y =
           let n : ℕ = stepped (suc t) in
           let is : stepped t ≡ n / slowdown * slowdown + (n % slowdown - 1) = omega (arith, cut n, one_step t y, inside) in
-          let same : stepped t / slowdown ≡ n / slowdown = ap (λ k. k / slowdown) is ∙ div-mul-add (n / slowdown) slowdown (n % slowdown - 1) (omega (arith, low n)) in
+          let same : stepped t / slowdown ≡ n / slowdown = ap (λ k. k / slowdown) is ∙
+          div-mul-add (n / slowdown) slowdown (n % slowdown - 1) (omega (arith, low n)) in
           follows ∙ (ap (λ v. if v then bit x.here (at t) else bit g.current (at t)) y ∙ (here_at t (omega (arith, l)) y ∙ ap real same))
       cases false y =
           let same : stepped (suc t) ≡ stepped t = no_step t y in
@@ -217,7 +237,8 @@ module _ (x : Control) (g : Gates) (row : Row) (ends : Ends) (run : List Clock) 
     waits =
         let c : Clock = at u in
         let may : Bool = may_go (bit g.first c) (bit ends.source.valid c) (bit g.busy c) (bit x.takes c) (bit g.current c) in
-        still (bit g.first c) (bit ends.source.valid c) (bit g.busy c) (bit x.takes c) (bit g.current c) ((λ i. sym (h.low u within) i || (not (sym two i) && may)) ∙ (sym (h.gates u within).enable ∙ off))
+        still (bit g.first c) (bit ends.source.valid c) (bit g.busy c) (bit x.takes c) (bit g.current c)
+        ((λ i. sym (h.low u within) i || (not (sym two i) && may)) ∙ (sym (h.gates u within).enable ∙ off))
 
     -- in the first clock of a block nothing is to come any more
     first_still : stepped u % slowdown ≡ 0 → (v : ℕ) → v < stepped u → outs v ≡ true → latency + v < stepped u
@@ -250,12 +271,15 @@ module _ (x : Control) (g : Gates) (row : Row) (ends : Ends) (run : List Clock) 
             let two_more : (q + 2) * slowdown ≡ q * slowdown + slowdown + slowdown = omega arith in
             let few : suc j * slowdown < (q + 2) * slowdown = omega (arith, two_more, from, b, small) in
             elim (cases_lt q j) [
-              | inl far ↦ (let p : (q + 2) * slowdown ≤ suc j * slowdown = product_le (q + 2) (suc j) slowdown (omega (arith, far)) in absurd (omega (arith, p, few)))
+              | inl far ↦ (let p : (q + 2) * slowdown ≤ suc j * slowdown = product_le (q + 2) (suc j) slowdown (omega (arith, far)) in
+                  absurd (omega (arith, p, few)))
               | inr g ↦ g
             ]
 
     -- inside a block the source is asked, for a word that is not the first of a block
-    asks_inside : 0 < stepped u % slowdown → (bit ends.source.ready (at u) ≡ true) × (passing (λ k. is_transfer ends.source (at k)) u % passing (is_beat inputs) slowdown ≡ passing (is_beat inputs) (stepped u % slowdown)) × (0 < passing (is_beat inputs) (stepped u % slowdown))
+    asks_inside : 0 < stepped u % slowdown → (bit ends.source.ready (at u) ≡ true)
+        × (passing (λ k. is_transfer ends.source (at k)) u % passing (is_beat inputs) slowdown ≡ passing (is_beat inputs) (stepped u % slowdown))
+        × (0 < passing (is_beat inputs) (stepped u % slowdown))
     asks_inside inside =
         let n : ℕ = stepped u in
         let apart : (n % slowdown == 0) ≡ false = not_true (n % slowdown == 0) (λ e. absurd (omega (arith, eqb-true (n % slowdown) 0 e, inside))) in
@@ -264,14 +288,22 @@ module _ (x : Control) (g : Gates) (row : Row) (ends : Ends) (run : List Clock) 
         let current : bit g.current (at u) ≡ true = waits.real first in
         let live : is_beat inputs (n % slowdown) ≡ true = sym (h.takes u within) ∙ takes in
         let is : real (n / slowdown) ≡ true = sym (current_is u within inside) ∙ current in
-        let many : passing (λ k. is_transfer ends.source (at k)) u ≡ passing real (n / slowdown) * passing (is_beat inputs) slowdown + passing (is_beat inputs) (n % slowdown) =
-        taken_is u (omega (arith, within)) ∙ (ap (passing ins) (sym (cut n)) ∙ before_clock (is_beat inputs) real slowdown (n / slowdown) (n % slowdown) (omega (arith, low n)) is) in
+        let many : passing (λ k. is_transfer ends.source (at k)) u ≡ passing real (n / slowdown) * passing (is_beat inputs) slowdown + passing (is_beat inputs)
+        (n % slowdown) =
+        taken_is u (omega (arith, within)) ∙ (ap (passing ins) (sym (cut n)) ∙
+        before_clock (is_beat inputs) real slowdown (n / slowdown) (n % slowdown) (omega (arith, low n)) is) in
         let more : passing (is_beat inputs) 0 < passing (is_beat inputs) (n % slowdown) = passing_lt (is_beat inputs) 0 (n % slowdown) inside beat in
-        let less : passing (is_beat inputs) (n % slowdown) < passing (is_beat inputs) slowdown = passing_lt (is_beat inputs) (n % slowdown) slowdown (low n) live in
-        ((h.gates u within).ready ∙ (λ i. not (two i) && (takes i && (first i || current i))), ap (λ k. k % passing (is_beat inputs) slowdown) many ∙ mod-mul-add (passing real (n / slowdown)) (passing (is_beat inputs) slowdown) (passing (is_beat inputs) (n % slowdown)) less, omega (arith, more))
+        let less : passing (is_beat inputs) (n % slowdown) < passing (is_beat inputs) slowdown = passing_lt (is_beat inputs) (n % slowdown) slowdown
+        (low n) live in (
+          (h.gates u within).ready ∙ (λ i. not (two i) && (takes i && (first i || current i))),
+          ap (λ k. k % passing (is_beat inputs) slowdown) many ∙
+              mod-mul-add (passing real (n / slowdown)) (passing (is_beat inputs) slowdown) (passing (is_beat inputs) (n % slowdown)) less,
+          omega (arith, more),
+        )
 
     -- so the results of all that was taken have been put in, unless the source stopped inside a block
-    all_put : (k : ℕ) → ((passing (λ k. is_transfer ends.source (at k)) u % passing (is_beat inputs) slowdown ≡ 0 → ⊥) → bit ends.source.ready (at u) ≡ true → bit ends.source.valid (at u) ≡ true) → k * passing (is_beat inputs) slowdown ≤ passing ins (stepped u)
+    all_put : (k : ℕ) → ((passing (λ k. is_transfer ends.source (at k)) u % passing (is_beat inputs) slowdown ≡ 0 → ⊥) → bit ends.source.ready (at u) ≡ true
+        → bit ends.source.valid (at u) ≡ true) → k * passing (is_beat inputs) slowdown ≤ passing ins (stepped u)
         → k * passing (is_beat outputs) slowdown ≤ passing (later latency outs) (stepped u)
     all_put k has taken = elim (cases_lt 0 (stepped u % slowdown)) [
       | inl inside ↦
@@ -284,31 +316,44 @@ module _ (x : Control) (g : Gates) (row : Row) (ends : Ends) (run : List Clock) 
           let z : n % slowdown ≡ 0 = omega (arith, none) in
           let b : ℕ = n / slowdown in
           let e : n ≡ b * slowdown = omega (arith, cut n, z) in
-          let some_in : 0 < passing (is_beat inputs) slowdown = (let p : passing (is_beat inputs) 0 < passing (is_beat inputs) slowdown = passing_lt (is_beat inputs) 0 slowdown some beat in omega (arith, p)) in
-          let whole : k * passing (is_beat outputs) slowdown ≤ passing outs (b * slowdown) = whole_results (is_beat inputs) (is_beat outputs) real slowdown k n b some_in (omega (arith, e)) taken in
+          let some_in : 0 < passing (is_beat inputs) slowdown = (let p : passing (is_beat inputs) 0 < passing (is_beat inputs) slowdown = passing_lt
+          (is_beat inputs) 0 slowdown some beat in omega (arith, p)) in
+          let whole : k * passing (is_beat outputs) slowdown ≤ passing outs (b * slowdown) = whole_results (is_beat inputs)
+          (is_beat outputs) real slowdown k n b some_in (omega (arith, e)) taken in
           let here : passing outs n ≡ passing outs (b * slowdown) = ap (passing outs) e in
-          let rest_none : passing outs n ≡ passing outs (n - latency) = none_between outs (n - latency) n (omega arith) (λ v p l. not_true (outs v) (λ y. absurd (omega (arith, first_still z v l y, p)))) in
+          let rest_none : passing outs n ≡ passing outs (n - latency) = none_between outs (n - latency) n (omega arith)
+          (λ v p l. not_true (outs v) (λ y. absurd (omega (arith, first_still z v l y, p)))) in
           elim (cases_lt n latency) [
-            | inl early ↦ (let c : passing outs (n - latency) ≡ 0 = (let d : n - latency ≡ 0 = omega (arith, early) in ap (passing outs) d) in omega (arith, whole, here, rest_none, c))
+            | inl early ↦ (let c : passing outs (n - latency) ≡ 0 = (let d : n - latency ≡ 0 = omega (arith, early) in ap (passing outs) d) in
+                omega (arith, whole, here, rest_none, c))
             | inr far ↦
-                let c : passing (later latency outs) n ≡ passing outs (n - latency) = (let d : n ≡ latency + (n - latency) = omega (arith, far) in ap (passing (later latency outs)) d ∙ passing_later latency outs (n - latency)) in
+                let c : passing (later latency outs) n ≡ passing outs
+                (n - latency) = (let d : n ≡ latency + (n - latency) = omega (arith, far) in ap (passing (later latency outs)) d ∙
+                passing_later latency outs (n - latency)) in
                 omega (arith, whole, here, rest_none, c)
           ]
     ]
 
   -- ---- a row of clocks
 
-  pub drains : (t k : ℕ) → t + (latency + slowdown) < length rest → k * passing (is_beat inputs) slowdown ≤ passing (λ k. is_transfer ends.source (at k)) t → ((u : ℕ) → t ≤ u → u ≤ t + (latency + slowdown) → bit ends.sink.ready (at u) ≡ true)
-      → ((u : ℕ) → t ≤ u → u ≤ t + (latency + slowdown) → (passing (λ k. is_transfer ends.source (at k)) u % passing (is_beat inputs) slowdown ≡ 0 → ⊥) → bit ends.source.ready (at u) ≡ true → bit ends.source.valid (at u) ≡ true)
+  pub drains : (t k : ℕ) → t + (latency + slowdown) < length rest → k * passing (is_beat inputs) slowdown ≤ passing (λ k. is_transfer ends.source (at k)) t
+      → ((u : ℕ) → t ≤ u → u ≤ t + (latency + slowdown) → bit ends.sink.ready (at u) ≡ true)
+      → ((u : ℕ) → t ≤ u → u ≤ t + (latency + slowdown) → (passing (λ k. is_transfer ends.source (at k)) u % passing (is_beat inputs) slowdown ≡ 0 → ⊥)
+      → bit ends.source.ready (at u) ≡ true → bit ends.source.valid (at u) ≡ true)
       → k * passing (is_beat outputs) slowdown ≤ passing pops (suc (t + (latency + slowdown)))
   drains t k within taken takes has =
-      let first : k * passing (is_beat inputs) slowdown ≤ passing ins (stepped t) = (let e : passing (λ k. is_transfer ends.source (at k)) t ≡ passing ins (stepped t) = taken_is t (omega (arith, within)) in omega (arith, taken, e)) in
+      let first : k * passing (is_beat inputs) slowdown ≤ passing ins
+      (stepped t) = (let e : passing (λ k. is_transfer ends.source (at k)) t ≡ passing ins (stepped t) = taken_is t (omega (arith, within)) in
+      omega (arith, taken, e)) in
       let free : (u : ℕ) → t + 1 ≤ u → u ≤ t + (latency + slowdown) → bit x.two (at u) ≡ false = λ u a b.
       let e : u - 1 + 1 ≡ u = omega (arith, a) in
-      ap (λ k. bit x.two (at k)) (sym e) ∙ room x g row ends run start slowdown q r inputs outputs h shown (u - 1) (omega (arith, a, b, within)) (takes (u - 1) (omega (arith, a)) (omega (arith, b))) in
+      ap (λ k. bit x.two (at k)) (sym e) ∙ room x g row ends run start slowdown q r inputs outputs h shown (u - 1) (omega (arith, a, b, within))
+      (takes (u - 1) (omega (arith, a)) (omega (arith, b))) in
       let last : ℕ = t + (latency + slowdown) in
-      let done : (u : ℕ) → t + 1 ≤ u → u ≤ last → k * passing (is_beat outputs) slowdown ≤ passing (later latency outs) (stepped u) → k * passing (is_beat outputs) slowdown ≤ passing pops (suc last) = λ u a b l.
-      let given : passing pops (suc u) ≡ passing (later latency outs) (stepped u) = given_is u (omega (arith, b, within)) (free u a b) (takes u (omega (arith, a)) b) in
+      let done : (u : ℕ) → t + 1 ≤ u → u ≤ last → k * passing (is_beat outputs) slowdown ≤ passing (later latency outs) (stepped u)
+      → k * passing (is_beat outputs) slowdown ≤ passing pops (suc last) = λ u a b l.
+      let given : passing pops (suc u) ≡ passing (later latency outs) (stepped u) = given_is u (omega (arith, b, within)) (free u a b)
+      (takes u (omega (arith, a)) b) in
       let more : passing pops (suc u) ≤ passing pops (suc last) = passing_le pops (suc u) (suc last) (omega (arith, b)) in
       omega (arith, given, more, l) in
       elim (one_or_none (λ u. not (goes u)) (t + 1) (latency + slowdown - 1)) [
@@ -319,20 +364,26 @@ module _ (x : Control) (g : Gates) (row : Row) (ends : Ends) (run : List Clock) 
             let to : u ≤ last = omega (arith, b, some) in
             let grown : stepped t ≤ stepped u = passing_le goes t u (omega (arith, a)) in
             let now : passing ins (stepped t) ≤ passing ins (stepped u) = passing_le ins (stepped t) (stepped u) grown in
-            done u a to (all_put u (omega (arith, to, within)) (free u a to) (is_off (goes u) found.passes) k (has u (omega (arith, a)) to) (omega (arith, first, now)))
+            done u a to (all_put u (omega (arith, to, within)) (free u a to) (is_off (goes u) found.passes) k (has u (omega (arith, a)) to)
+            (omega (arith, first, now)))
         | inr all ↦
             let on : (u : ℕ) → t + 1 ≤ u → u < t + 1 + (latency + slowdown - 1) → goes u ≡ true = λ u a b. is_on_at (goes u) (all u a b) in
-            let count : stepped (t + 1 + (latency + slowdown - 1)) ≡ stepped (t + 1) + (latency + slowdown - 1) = counts_on x g row ends run start slowdown q r inputs outputs h shown (t + 1) (latency + slowdown - 1) on (latency + slowdown - 1) (omega arith) in
+            let count : stepped (t + 1 + (latency + slowdown - 1)) ≡ stepped
+            (t + 1) + (latency + slowdown - 1) = counts_on x g row ends run start slowdown q r inputs outputs h shown (t + 1) (latency + slowdown - 1) on
+            (latency + slowdown - 1) (omega arith) in
             let e : t + 1 + (latency + slowdown - 1) ≡ last = omega (arith, some) in
             let same : stepped last ≡ stepped (t + 1) + (latency + slowdown - 1) = ap stepped (sym e) ∙ count in
             let grown : stepped t ≤ stepped (t + 1) = passing_le goes t (t + 1) (omega arith) in
             let n : ℕ = stepped t in
             let b : ℕ = (n + (slowdown - 1)) / slowdown in
             let div : b * slowdown + (n + (slowdown - 1)) % slowdown ≡ n + (slowdown - 1) = cut (n + (slowdown - 1)) in
-            let some_in : 0 < passing (is_beat inputs) slowdown = (let p : passing (is_beat inputs) 0 < passing (is_beat inputs) slowdown = passing_lt (is_beat inputs) 0 slowdown some beat in omega (arith, p)) in
-            let whole : k * passing (is_beat outputs) slowdown ≤ passing outs (b * slowdown) = whole_results (is_beat inputs) (is_beat outputs) real slowdown k n b some_in (omega (arith, div, low (n + (slowdown - 1)), some)) first in
+            let some_in : 0 < passing (is_beat inputs) slowdown = (let p : passing (is_beat inputs) 0 < passing (is_beat inputs) slowdown = passing_lt
+            (is_beat inputs) 0 slowdown some beat in omega (arith, p)) in
+            let whole : k * passing (is_beat outputs) slowdown ≤ passing outs (b * slowdown) = whole_results (is_beat inputs)
+            (is_beat outputs) real slowdown k n b some_in (omega (arith, div, low (n + (slowdown - 1)), some)) first in
             let far : latency + b * slowdown ≤ stepped last = omega (arith, same, grown, div, some) in
-            let later_on : passing (later latency outs) (latency + b * slowdown) ≤ passing (later latency outs) (stepped last) = passing_le (later latency outs) (latency + b * slowdown) (stepped last) far in
+            let later_on : passing (later latency outs) (latency + b * slowdown) ≤ passing (later latency outs) (stepped last) = passing_le
+            (later latency outs) (latency + b * slowdown) (stepped last) far in
             let put : passing (later latency outs) (latency + b * slowdown) ≡ passing outs (b * slowdown) = passing_later latency outs (b * slowdown) in
             done last (omega (arith, some)) (omega arith) (omega (arith, whole, later_on, put))
       ]

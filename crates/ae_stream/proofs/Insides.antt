@@ -22,7 +22,8 @@ map_twice g f h (x ∷ xs) e = λ i. e x i ∷ map_twice g f h xs e i
 cut_nets : {X : Type 0} (n m : ℕ) (xs : List X) → n ≤ m → take n (without_inputs 2 m xs) ≡ without_inputs 2 n xs
 cut_nets n m xs l = take-take n m (take 1 xs ++ drop 3 xs) l
 
-module _ (x : Control) (ends : Ends) (n marked copied new : Circuit) (h : IsHeldInside x ends n marked copied new) (run : List Clock) (r : IsRun new.cells run) where
+module _ (x : Control) (ends : Ends) (n marked copied new : Circuit) (h : IsHeldInside x ends n marked copied new) (run : List Clock)
+    (r : IsRun new.cells run) where
   abbrev pub inner : Clock → Clock
   inner = inner_clock 2 (length n.cells)
 
@@ -30,7 +31,10 @@ module _ (x : Control) (ends : Ends) (n marked copied new : Circuit) (h : IsHeld
   many = extends_length n.cells marked.cells h.first
 
   cut : (c : Clock) → first_nets (length n.cells) (inner_clock 2 (length marked.cells) c) ≡ inner c
-  cut c = λ i. record { words = cut_nets (length n.cells) (length marked.cells) c.words many i; stores = cut_nets (length n.cells) (length marked.cells) c.stores many i }
+  cut c = λ i. record {
+    words = cut_nets (length n.cells) (length marked.cells) c.words many i;
+    stores = cut_nets (length n.cells) (length marked.cells) c.stores many i;
+  }
 
   all_cut : map (first_nets (length n.cells)) (held_part 2 x.enable (length marked.cells) run) ≡ map inner (filter (bit x.enable) run)
   unfolding held_part

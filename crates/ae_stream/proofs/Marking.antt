@@ -15,11 +15,13 @@ use Rattle.ae_stream.specs.Control.{Control, steps_before, word_in}
 use Rattle.ae_stream.proofs.Parts.{passed_length}
 
 -- where the first elements pass, those that pass up to one behind them are these and those that pass among the others
-until_behind : {X : Type 0} (pass : X → Bool) (start t : ℕ) (xs : List X) (d : X) → ((k : ℕ) → k < start → k < length xs → pass (get_or xs k d) ≡ true) → start + t < length xs → until pass (start + t) xs d ≡ take start xs ++ until pass t (drop start xs) d
+until_behind : {X : Type 0} (pass : X → Bool) (start t : ℕ) (xs : List X) (d : X) → ((k : ℕ) → k < start → k < length xs → pass (get_or xs k d) ≡ true)
+    → start + t < length xs → until pass (start + t) xs d ≡ take start xs ++ until pass t (drop start xs) d
 until_behind pass zero t xs d h l = (let e : 0 + t ≡ t = omega arith in rw e refl)
 until_behind pass (suc start) t [] d h l = absurd (omega arith)
 until_behind {X = X} pass (suc start) t (x ∷ xs) d h l =
-    let rest : until pass (start + t) xs d ≡ take start xs ++ until pass t (drop start xs) d = until_behind pass start t xs d (λ k a b. h (suc k) (omega arith) (omega arith)) (omega arith) in
+    let rest : until pass (start + t) xs d ≡ take start xs
+    ++ until pass t (drop start xs) d = until_behind pass start t xs d (λ k a b. h (suc k) (omega arith) (omega arith)) (omega arith) in
     let e : suc start + t ≡ suc (start + t) = omega arith in
     let on : pass x ≡ true = h 0 (omega arith) (omega arith) in
     ap (λ k. until pass k (x ∷ xs) d) e
@@ -27,14 +29,20 @@ until_behind {X = X} pass (suc start) t (x ∷ xs) d h l =
     ∙ ap (λ ys. x ∷ ys) rest)
 
 -- the last of them stands behind those before it that pass
-until_last : {X : Type 0} (pass : X → Bool) (t : ℕ) (xs : List X) (d : X) → t < length xs → (length (until pass t xs d) ≡ passing (λ k. pass (get_or xs k d)) t + 1) × (get_or (until pass t xs d) (passing (λ k. pass (get_or xs k d)) t) d ≡ get_or xs t d)
+until_last : {X : Type 0} (pass : X → Bool) (t : ℕ) (xs : List X) (d : X) → t < length xs
+    → (length (until pass t xs d) ≡ passing (λ k. pass (get_or xs k d)) t + 1)
+    × (get_or (until pass t xs d) (passing (λ k. pass (get_or xs k d)) t) d ≡ get_or xs t d)
 until_last {X = X} pass t xs d l =
     let cut : length (take t xs) ≡ t = omega (arith, length-take t xs, l) in
     let many : length (filter pass (take t xs)) ≡ passing (λ k. pass (get_or xs k d)) t =
-    passed_length pass (λ k. pass (get_or xs k d)) (take t xs) d (λ k b. ap pass (get_or-take t xs k d (omega (arith, b, cut)))) ∙ ap (passing (λ k. pass (get_or xs k d))) cut in
-    (length-append (filter pass (take t xs)) (get_or xs t d ∷ []) ∙ omega (arith, many), get_or_push (filter pass (take t xs)) (get_or xs t d) d (passing (λ k. pass (get_or xs k d)) t) many)
+    passed_length pass (λ k. pass (get_or xs k d)) (take t xs) d (λ k b. ap pass (get_or-take t xs k d (omega (arith, b, cut)))) ∙
+    ap (passing (λ k. pass (get_or xs k d))) cut in (
+      length-append (filter pass (take t xs)) (get_or xs t d ∷ []) ∙ omega (arith, many),
+      get_or_push (filter pass (take t xs)) (get_or xs t d) d (passing (λ k. pass (get_or xs k d)) t) many,
+    )
 
-module _ (x : Control) (marked copied new : Circuit) (formed : IsFormed marked.cells) (some : 0 < length marked.cells) (held : IsHeld 2 x.enable marked copied new)
+module _ (x : Control) (marked copied new : Circuit) (formed : IsFormed marked.cells) (some : 0 < length marked.cells)
+    (held : IsHeld 2 x.enable marked copied new)
     (longer : length marked.cells + 2 ≤ length copied.cells) (run : List Clock) (start : ℕ) (r : IsRun new.cells run) (reset : IsReset run 0 start)
     (on : (t : ℕ) → t < start → t < length run → bit x.enable (get_or run t no_clock) ≡ true) where
   -- ---- the clocks that are seen up to one behind the reset
@@ -66,7 +74,8 @@ module _ (x : Control) (marked copied new : Circuit) (formed : IsFormed marked.c
     long = ap length joined ∙ (length-append (take start run) later ∙ omega (arith, firsts))
 
     -- the word of a net there is that of its place in a clock of the run
-    word : (k i y : ℕ) → k < length chosen → i < length run → get_or chosen k no_clock ≡ get_or run i no_clock → y < length marked.cells → word_at part k y ≡ word_at run i (placed 2 y)
+    word : (k i y : ℕ) → k < length chosen → i < length run → get_or chosen k no_clock ≡ get_or run i no_clock → y < length marked.cells
+        → word_at part k y ≡ word_at run i (placed 2 y)
     unfolding word_at
     word k i y l b e n =
         let s : IsShaped new.cells (get_or run i no_clock) = clock_shaped r i b in
@@ -74,12 +83,14 @@ module _ (x : Control) (marked copied new : Circuit) (formed : IsFormed marked.c
         ∙ without_inputs_at 2 (length marked.cells) (get_or run i no_clock).words y 0 n (omega (arith, s.words, held.longer, longer))
 
     first_at : (k : ℕ) → k < start → get_or chosen k no_clock ≡ get_or run k no_clock
-    first_at k l = ap (λ c. get_or c k no_clock) joined ∙ (get_or_append_left (take start run) later no_clock k (omega (arith, firsts, l)) ∙ get_or-take start run k no_clock l)
+    first_at k l = ap (λ c. get_or c k no_clock) joined ∙
+        (get_or_append_left (take start run) later no_clock k (omega (arith, firsts, l)) ∙ get_or-take start run k no_clock l)
 
     later_at : (k : ℕ) → get_or chosen (start + k) no_clock ≡ get_or later k no_clock
     later_at k =
         let e : start + k - start ≡ k = omega arith in
-        ap (λ c. get_or c (start + k) no_clock) joined ∙ (get_or-append_right (take start run) later start (start + k) no_clock firsts (omega arith) ∙ ap (λ i. get_or later i no_clock) e)
+        ap (λ c. get_or c (start + k) no_clock) joined ∙ (get_or-append_right (take start run) later start (start + k) no_clock firsts (omega arith) ∙
+        ap (λ i. get_or later i no_clock) e)
 
     resets : IsReset part 0 start
     resets = record {
@@ -90,13 +101,16 @@ module _ (x : Control) (marked copied new : Circuit) (formed : IsFormed marked.c
       low = λ k a b.
           let l : k < length chosen = omega (arith, b, length-map chosen (inner_clock 2 (length marked.cells))) in
           let e : start + (k - start) ≡ k = omega (arith, a) in
-          let found : IsFound (drop start run) no_clock (get_or later (k - start) no_clock) = (all_until (bit x.enable) t (drop start run) no_clock within).found (k - start) (omega (arith, long, l, a)) in
+          let found : IsFound (drop start run) no_clock (get_or later (k - start) no_clock) = (all_until (bit x.enable) t
+          (drop start run) no_clock within).found (k - start) (omega (arith, long, l, a)) in
           let inside : found.at < length (drop start run) = found.within in
-          let is : get_or chosen k no_clock ≡ get_or run (start + found.at) no_clock = ap (λ i. get_or chosen i no_clock) (sym e) ∙ (later_at (k - start) ∙ (sym found.is ∙ get_or-drop start run found.at no_clock)) in
+          let is : get_or chosen k no_clock ≡ get_or run (start + found.at) no_clock = ap (λ i. get_or chosen i no_clock) (sym e) ∙
+          (later_at (k - start) ∙ (sym found.is ∙ get_or-drop start run found.at no_clock)) in
           word k (start + found.at) 0 l (omega (arith, inside, size)) is some ∙ reset.low (start + found.at) (omega arith) (omega (arith, inside, size));
     }
 
-    pub seen : (y : ℕ) (f : ℕ → ℕ) → y < length marked.cells → InEveryResetRun marked.cells 0 (λ run start. HasWords run start y f) → word_in (placed 2 y) (get_or (drop start run) t no_clock) ≡ f (steps_before x start run t)
+    pub seen : (y : ℕ) (f : ℕ → ℕ) → y < length marked.cells → InEveryResetRun marked.cells 0 (λ run start. HasWords run start y f)
+        → word_in (placed 2 y) (get_or (drop start run) t no_clock) ≡ f (steps_before x start run t)
     unfolding word_at
     seen y f b words =
         let n : ℕ = steps_before x start run t in
@@ -105,7 +119,8 @@ module _ (x : Control) (marked copied new : Circuit) (formed : IsFormed marked.c
         let is : get_or chosen (start + n) no_clock ≡ get_or run (start + t) no_clock = later_at n ∙ (last.1 ∙ get_or-drop start run t no_clock) in
         ap (word_in (placed 2 y)) (get_or-drop start run t no_clock)
         ∙ (sym (word (start + n) (start + t) y far (omega (arith, size, within)) is b)
-        ∙ words marked.cells (extends_refl marked.cells) part is_run start resets n (omega (arith, far, length-map chosen (inner_clock 2 (length marked.cells)))))
+        ∙ words marked.cells (extends_refl marked.cells) part is_run start resets n
+        (omega (arith, far, length-map chosen (inner_clock 2 (length marked.cells)))))
 
   pub marks_seen : (y : ℕ) (f : ℕ → ℕ) → y < length marked.cells → InEveryResetRun marked.cells 0 (λ run start. HasWords run start y f)
       → (t : ℕ) → t < length (drop start run) → word_in (placed 2 y) (get_or (drop start run) t no_clock) ≡ f (steps_before x start run t)

@@ -27,8 +27,10 @@ same_bits (suc zero) (suc zero) a b e = refl
 same_bits (suc zero) (suc (suc w)) a b e = absurd (omega arith)
 same_bits (suc (suc v)) w a b e = absurd (omega arith)
 
-module _ (x : Control) (g : Gates) (row : Row) (ends : Ends) (wanted wait : ℕ) (a b : List Clock) (start slowdown q r : ℕ) (inputs outputs : List StTree) (some : 1 ≤ start)
-    (ha : IsComplete x g row ends wanted q wait a start slowdown r inputs outputs) (hb : IsComplete x g row ends wanted q wait b start slowdown r inputs outputs) where
+module _ (x : Control) (g : Gates) (row : Row) (ends : Ends) (wanted wait : ℕ) (a b : List Clock) (start slowdown q r : ℕ) (inputs outputs : List StTree)
+    (some : 1 ≤ start)
+    (ha : IsComplete x g row ends wanted q wait a start slowdown r inputs outputs)
+    (hb : IsComplete x g row ends wanted q wait b start slowdown r inputs outputs) where
   module _ (t : ℕ) (from : start ≤ t) (la : t < length a) (lb : t < length b) (same : take t a ≡ take t b) where
     abbrev here : Clock
     here = get_or a t no_clock
@@ -66,7 +68,8 @@ module _ (x : Control) (g : Gates) (row : Row) (ends : Ends) (wanted wait : ℕ)
 
     word_same : (k : ℕ) → k < ends.columns → word_in (ends.outs k) here ≡ word_in (ends.outs k) there
     word_same k l =
-        from_last (word_in (ends.outs k)) (λ c. next_a (bit x.one c) (bit x.two c) (is_transfer ends.sink c) (word_in (ends.outs k) c) (word_in (x.second k) c) (word_in (x.made k) c))
+        from_last (word_in (ends.outs k)) (λ c. next_a (bit x.one c) (bit x.two c) (is_transfer ends.sink c) (word_in (ends.outs k) c) (word_in (x.second k) c)
+        (word_in (x.made k) c))
         (ha.queued.shown k l) (hb.queued.shown k l)
 
     -- as many steps before

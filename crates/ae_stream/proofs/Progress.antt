@@ -23,7 +23,8 @@ word_on : (net : ℕ) (run : List Clock) (t : ℕ) → bit net (get_or run t no_
 unfolding word_at
 word_on net run t e = eqb-true (word_at run t net) 1 e
 
-module _ (x : Control) (g : Gates) (row : Row) (ends : Ends) (run : List Clock) (start slowdown q r : ℕ) (inputs outputs : List StTree) (some : 0 < slowdown) (small : r < slowdown) (beat : is_beat inputs 0 ≡ true)
+module _ (x : Control) (g : Gates) (row : Row) (ends : Ends) (run : List Clock) (start slowdown q r : ℕ) (inputs outputs : List StTree) (some : 0 < slowdown)
+    (small : r < slowdown) (beat : is_beat inputs 0 ≡ true)
     (h : IsDriven x g row ends run start slowdown q r inputs outputs) (shown : ends.sink.valid ≡ x.one) where
   long : length (drop start run) ≡ length run - start
   long = length-drop start run
@@ -35,25 +36,33 @@ module _ (x : Control) (g : Gates) (row : Row) (ends : Ends) (run : List Clock) 
   bit_behind : (net t : ℕ) → word_at run (start + t) net ≡ 1 → bit net (get_or (drop start run) t no_clock) ≡ true
   bit_behind net t e = ap (bit net) (behind t) ∙ bit_on net run (start + t) e
 
-  is_asked : (t : ℕ) → start ≤ t → t + slowdown < length run → ((u : ℕ) → t ≤ u → u ≤ t + slowdown → word_at run u ends.sink.ready ≡ 1) → (u : ℕ) × (t ≤ u) × (u ≤ t + slowdown) × (word_at run u ends.source.ready ≡ 1)
+  is_asked : (t : ℕ) → start ≤ t → t + slowdown < length run → ((u : ℕ) → t ≤ u → u ≤ t + slowdown → word_at run u ends.sink.ready ≡ 1) → (u : ℕ) × (t ≤ u)
+      × (u ≤ t + slowdown) × (word_at run u ends.source.ready ≡ 1)
   is_asked t from within takes =
       let found : IsAmong (λ u. bit ends.source.ready (get_or (drop start run) u no_clock)) (t - start + 1) slowdown =
       asked x g row ends run start slowdown q r inputs outputs h shown some (t - start) (omega (arith, long, from, within))
       (λ u a b. bit_behind ends.sink.ready u (takes (start + u) (omega (arith, from, a)) (omega (arith, from, b)))) in
       let low : t - start + 1 ≤ found.at = found.low in
-      let high : found.at < t - start + 1 + slowdown = found.high in
-      (start + found.at, omega (arith, from, low), omega (arith, from, high), word_on ends.source.ready run (start + found.at) (ap (bit ends.source.ready) (sym (behind found.at)) ∙ found.passes))
+      let high : found.at < t - start + 1 + slowdown = found.high in (
+        start + found.at,
+        omega (arith, from, low),
+        omega (arith, from, high),
+        word_on ends.source.ready run (start + found.at) (ap (bit ends.source.ready) (sym (behind found.at)) ∙ found.passes),
+      )
 
   -- the words that have passed are the clocks before in which they pass
-  passed_is : (y : Channel) (t : ℕ) → start + t ≤ length run → passed_before y start run (start + t) ≡ passing (λ k. is_transfer y (get_or (drop start run) k no_clock)) t
+  passed_is : (y : Channel) (t : ℕ) → start + t ≤ length run
+      → passed_before y start run (start + t) ≡ passing (λ k. is_transfer y (get_or (drop start run) k no_clock)) t
   unfolding transfers
   passed_is y t within =
       let part : List Clock = drop start (take (start + t) run) in
       let cut : length (take (start + t) run) ≡ start + t = omega (arith, length-take (start + t) run, within) in
       let size : length part ≡ t = omega (arith, length-drop start (take (start + t) run), cut) in
       let same : (k : ℕ) → k < length part → is_transfer y (get_or part k no_clock) ≡ is_transfer y (get_or (drop start run) k no_clock) = λ k l.
-      ap (is_transfer y) (get_or-drop start (take (start + t) run) k no_clock ∙ (get_or-take (start + t) run (start + k) no_clock (omega (arith, size, l)) ∙ sym (behind k))) in
-      passed_length (is_transfer y) (λ k. is_transfer y (get_or (drop start run) k no_clock)) part no_clock same ∙ ap (passing (λ k. is_transfer y (get_or (drop start run) k no_clock))) size
+      ap (is_transfer y) (get_or-drop start (take (start + t) run) k no_clock ∙
+      (get_or-take (start + t) run (start + k) no_clock (omega (arith, size, l)) ∙ sym (behind k))) in
+      passed_length (is_transfer y) (λ k. is_transfer y (get_or (drop start run) k no_clock)) part no_clock same ∙
+      ap (passing (λ k. is_transfer y (get_or (drop start run) k no_clock))) size
 
   has_drained : (t k : ℕ) → start ≤ t → t + (q * slowdown + r + slowdown) < length run → k * beats inputs slowdown ≤ passed_before ends.source start run t
       → ((u : ℕ) → t ≤ u → u ≤ t + (q * slowdown + r + slowdown) → (word_at run u ends.sink.ready ≡ 1) × HasNext ends run start (beats inputs slowdown) u)
@@ -62,7 +71,8 @@ module _ (x : Control) (g : Gates) (row : Row) (ends : Ends) (run : List Clock) 
       let v : ℕ = t - start in
       let wide : ℕ = q * slowdown + r + slowdown in
       let e : start + v ≡ t = omega (arith, from) in
-      let first : passed_before ends.source start run t ≡ passing (λ k. is_transfer ends.source (get_or (drop start run) k no_clock)) v = ap (passed_before ends.source start run) (sym e) ∙ passed_is ends.source v (omega (arith, e, within)) in
+      let first : passed_before ends.source start run t ≡ passing (λ k. is_transfer ends.source (get_or (drop start run) k no_clock)) v = ap
+      (passed_before ends.source start run) (sym e) ∙ passed_is ends.source v (omega (arith, e, within)) in
       let f : start + suc (v + wide) ≡ t + wide + 1 = omega (arith, from) in
       let last : passed_before ends.sink start run (t + wide + 1) ≡ passing (λ k. is_transfer ends.sink (get_or (drop start run) k no_clock)) (suc (v + wide)) =
       ap (passed_before ends.sink start run) (sym f) ∙ passed_is ends.sink (suc (v + wide)) (omega (arith, f, within)) in
@@ -70,7 +80,8 @@ module _ (x : Control) (g : Gates) (row : Row) (ends : Ends) (run : List Clock) 
       drains x g row ends run start slowdown q r inputs outputs h shown some small beat v k (omega (arith, long, e, within)) (omega (arith, taken, first))
       (λ u a b. bit_behind ends.sink.ready u (both (start + u) (omega (arith, e, a)) (omega (arith, e, b))).0)
       (λ u a b inside asks.
-      let at : passed_before ends.source start run (start + u) ≡ passing (λ k. is_transfer ends.source (get_or (drop start run) k no_clock)) u = passed_is ends.source u (omega (arith, e, b, within)) in
+      let at : passed_before ends.source start run (start + u) ≡ passing
+      (λ k. is_transfer ends.source (get_or (drop start run) k no_clock)) u = passed_is ends.source u (omega (arith, e, b, within)) in
       bit_behind ends.source.valid u
       ((both (start + u) (omega (arith, e, a)) (omega (arith, e, b))).1 (λ z. inside (ap (λ n. n % beats inputs slowdown) (sym at) ∙ z))
       (word_on ends.source.ready run (start + u) (ap (bit ends.source.ready) (sym (behind u)) ∙ asks)))) in
@@ -82,10 +93,12 @@ module _ (x : Control) (g : Gates) (row : Row) (ends : Ends) (run : List Clock) 
     in_step = record {
       source = λ c within both.
           ap (bit ends.source.ready) (sym (behind c))
-          ∙ source_in_step x g row ends run start slowdown q r inputs outputs h shown some small c (omega (arith, long, within)) (λ u l. bit_behind ends.source.valid u (both u l).0) (λ u l. bit_behind ends.sink.ready u (both u l).1);
+          ∙ source_in_step x g row ends run start slowdown q r inputs outputs h shown some small c (omega (arith, long, within))
+          (λ u l. bit_behind ends.source.valid u (both u l).0) (λ u l. bit_behind ends.sink.ready u (both u l).1);
       sink = λ c within both.
           ap (bit ends.sink.valid) (sym (behind c))
-          ∙ sink_in_step x g row ends run start slowdown q r inputs outputs h shown some small c (omega (arith, long, within)) (λ u l. bit_behind ends.source.valid u (both u l).0) (λ u l. bit_behind ends.sink.ready u (both u l).1);
+          ∙ sink_in_step x g row ends run start slowdown q r inputs outputs h shown some small c (omega (arith, long, within))
+          (λ u l. bit_behind ends.source.valid u (both u l).0) (λ u l. bit_behind ends.sink.ready u (both u l).1);
     };
     drains = record { drains = has_drained };
   }

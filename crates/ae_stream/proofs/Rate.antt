@@ -42,26 +42,35 @@ and_true : (a b : Bool) → b ≡ true → (a && b) ≡ a
 and_true true b e = e
 and_true false b e = refl
 
-module _ (x : Control) (g : Gates) (row : Row) (ends : Ends) (run : List Clock) (start slowdown q r : ℕ) (inputs outputs : List StTree) (h : IsDriven x g row ends run start slowdown q r inputs outputs) (shown : ends.sink.valid ≡ x.one)
+module _ (x : Control) (g : Gates) (row : Row) (ends : Ends) (run : List Clock) (start slowdown q r : ℕ) (inputs outputs : List StTree)
+    (h : IsDriven x g row ends run start slowdown q r inputs outputs) (shown : ends.sink.valid ≡ x.one)
     (some : 0 < slowdown) (small : r < slowdown) (upto : ℕ) (within : upto < length (drop start run))
-    (offers : (u : ℕ) → u < upto → bit ends.source.valid (get_or (drop start run) u no_clock) ≡ true) (takes : (u : ℕ) → u < upto → bit ends.sink.ready (get_or (drop start run) u no_clock) ≡ true) where
+    (offers : (u : ℕ) → u < upto → bit ends.source.valid (get_or (drop start run) u no_clock) ≡ true)
+    (takes : (u : ℕ) → u < upto → bit ends.sink.ready (get_or (drop start run) u no_clock) ≡ true) where
   free : (t : ℕ) → t ≤ upto → bit x.two (get_or (drop start run) t no_clock) ≡ false
-  free zero l = none_second (bit x.one (get_or (drop start run) 0 no_clock)) (bit x.two (get_or (drop start run) 0 no_clock)) (fair x g row ends run start slowdown q r inputs outputs h shown 0 (omega arith)).second (h.empty (omega arith))
-  free (suc t) l = (let e : suc t ≡ t + 1 = omega arith in ap (λ k. bit x.two (get_or (drop start run) k no_clock)) e ∙ room x g row ends run start slowdown q r inputs outputs h shown t (omega arith) (takes t (omega arith)))
+  free zero l = none_second (bit x.one (get_or (drop start run) 0 no_clock)) (bit x.two (get_or (drop start run) 0 no_clock))
+      (fair x g row ends run start slowdown q r inputs outputs h shown 0 (omega arith)).second (h.empty (omega arith))
+  free (suc t) l = (let e : suc t ≡ t + 1 = omega arith in ap (λ k. bit x.two (get_or (drop start run) k no_clock)) e ∙
+      room x g row ends run start slowdown q r inputs outputs h shown t (omega arith) (takes t (omega arith)))
 
   on : (t : ℕ) → t < upto → bit x.enable (get_or (drop start run) t no_clock) ≡ true
   on t l =
       let c : Clock = get_or (drop start run) t no_clock in
-      is_on x g row ends run start slowdown q r inputs outputs h shown t (omega arith) (free t (omega (arith, l))) (ap (λ v. may_go (bit g.first c) v (bit g.busy c) (bit x.takes c) (bit g.current c)) (offers t l) ∙ offered (bit g.first c) (bit g.busy c) (bit x.takes c) (bit g.current c))
+      is_on x g row ends run start slowdown q r inputs outputs h shown t (omega arith) (free t (omega (arith, l)))
+      (ap (λ v. may_go (bit g.first c) v (bit g.busy c) (bit x.takes c) (bit g.current c)) (offers t l) ∙
+      offered (bit g.first c) (bit g.busy c) (bit x.takes c) (bit g.current c))
 
   number : (t : ℕ) → t ≤ upto → stepped x g row ends run start slowdown q r inputs outputs h shown t ≡ t
   number t l =
       let e : 0 + t ≡ t = omega arith in
-      ap (stepped x g row ends run start slowdown q r inputs outputs h shown) (sym e) ∙ (counts_on x g row ends run start slowdown q r inputs outputs h shown 0 upto (λ u a b. on u (omega arith)) t l ∙ e)
+      ap (stepped x g row ends run start slowdown q r inputs outputs h shown) (sym e) ∙
+      (counts_on x g row ends run start slowdown q r inputs outputs h shown 0 upto (λ u a b. on u (omega arith)) t l ∙ e)
 
   -- what the steps have by their number, each clock has
-  each : (pass : Clock → Bool) (says : ℕ → Bool) → ((t : ℕ) → t < length (steps x start run) → pass (get_or (steps x start run) t no_clock) ≡ says t) → (t : ℕ) → t < upto → pass (get_or (drop start run) t no_clock) ≡ says t
-  each pass says h' t l = by_step x g row ends run start slowdown q r inputs outputs h shown pass says h' t (omega arith) (on t l) ∙ ap says (number t (omega (arith, l)))
+  each : (pass : Clock → Bool) (says : ℕ → Bool) → ((t : ℕ) → t < length (steps x start run) → pass (get_or (steps x start run) t no_clock) ≡ says t) → (t : ℕ)
+      → t < upto → pass (get_or (drop start run) t no_clock) ≡ says t
+  each pass says h' t l = by_step x g row ends run start slowdown q r inputs outputs h shown pass says h' t (omega arith) (on t l) ∙
+      ap says (number t (omega (arith, l)))
 
   begins : bit g.first (get_or (drop start run) 0 no_clock) ≡ true
   begins =
@@ -73,7 +82,8 @@ module _ (x : Control) (g : Gates) (row : Row) (ends : Ends) (run : List Clock) 
   goes_on t l is =
       let before : Clock = get_or (drop start run) t no_clock in
       let e : suc t ≡ t + 1 = omega arith in
-      ap (λ k. bit g.current (get_or (drop start run) k no_clock)) e ∙ (h.current.each t (omega (arith, l, within)) ∙ (ap (λ v. if v then bit x.here before else bit g.current before) (on t l) ∙ is))
+      ap (λ k. bit g.current (get_or (drop start run) k no_clock)) e ∙
+      (h.current.each t (omega (arith, l, within)) ∙ (ap (λ v. if v then bit x.here before else bit g.current before) (on t l) ∙ is))
 
   here : (t : ℕ) → t < upto → bit x.here (get_or (drop start run) t no_clock) ≡ true
   here zero l = (h.gates 0 (omega (arith, within))).here ∙ (λ i. if begins i then offers 0 l i else bit g.current (get_or (drop start run) 0 no_clock))
@@ -85,13 +95,15 @@ module _ (x : Control) (g : Gates) (row : Row) (ends : Ends) (run : List Clock) 
   -- a block begins or goes on
   either : (t : ℕ) → t ≤ upto → (bit g.first (get_or (drop start run) t no_clock) || bit g.current (get_or (drop start run) t no_clock)) ≡ true
   either zero l = ap (λ v. v || bit g.current (get_or (drop start run) 0 no_clock)) begins
-  either (suc t) l = ap (λ v. bit g.first (get_or (drop start run) (suc t) no_clock) || v) (goes_on t (omega (arith, l)) (here t (omega (arith, l)))) ∙ or_true (bit g.first (get_or (drop start run) (suc t) no_clock))
+  either (suc t) l = ap (λ v. bit g.first (get_or (drop start run) (suc t) no_clock) || v) (goes_on t (omega (arith, l)) (here t (omega (arith, l)))) ∙
+      or_true (bit g.first (get_or (drop start run) (suc t) no_clock))
 
   real : (b : ℕ) → b * slowdown < upto → is_real x start slowdown run b ≡ true
   unfolding is_real
   real b l =
       let s = step_at x g row ends run start slowdown q r inputs outputs h shown (b * slowdown) (omega (arith, l, within)) (on (b * slowdown) l) in
-      ap (λ k. bit x.here (get_or (steps x start run) k no_clock)) (sym (number (b * slowdown) (omega (arith, l)))) ∙ (ap (bit x.here) s.1 ∙ here (b * slowdown) l)
+      ap (λ k. bit x.here (get_or (steps x start run) k no_clock)) (sym (number (b * slowdown) (omega (arith, l)))) ∙
+      (ap (bit x.here) s.1 ∙ here (b * slowdown) l)
 
   pub source_in_step : bit ends.source.ready (get_or (drop start run) upto no_clock) ≡ is_beat inputs (upto % slowdown)
   source_in_step =
@@ -103,7 +115,8 @@ module _ (x : Control) (g : Gates) (row : Row) (ends : Ends) (run : List Clock) 
       ∙ (h.takes upto within ∙ ap (λ n. is_beat inputs (n % slowdown)) (number upto last))))
 
   -- a clock later
-  next_in_step : (t : ℕ) → t < upto → bit ends.sink.valid (get_or (drop start run) (t + 1) no_clock) ≡ (not (nat_lt t (q * slowdown + r)) && is_beat outputs ((t - (q * slowdown + r)) % slowdown))
+  next_in_step : (t : ℕ) → t < upto → bit ends.sink.valid
+      (get_or (drop start run) (t + 1) no_clock) ≡ (not (nat_lt t (q * slowdown + r)) && is_beat outputs ((t - (q * slowdown + r)) % slowdown))
   next_in_step t l =
       let c : Clock = get_or (drop start run) t no_clock in
       let next : Clock = get_or (drop start run) (t + 1) no_clock in
@@ -112,14 +125,18 @@ module _ (x : Control) (g : Gates) (row : Row) (ends : Ends) (run : List Clock) 
       let yes : is_real x start slowdown run ((t - latency) / slowdown) ≡ true = real ((t - latency) / slowdown) (omega (arith, cut, l)) in
       let push : (bit x.enable c && bit x.shows c) ≡ bit x.shows c = ap (λ v. v && bit x.shows c) (on t l) in
       let told : bit x.shows c ≡ later latency (carries (is_beat outputs) (is_real x start slowdown run) slowdown) t =
-      each (bit x.shows) (later latency (carries (is_beat outputs) (is_real x start slowdown run) slowdown)) (driven x g row ends run start slowdown q r inputs outputs some small h).shows t l in
+      each (bit x.shows) (later latency (carries (is_beat outputs) (is_real x start slowdown run) slowdown))
+      (driven x g row ends run start slowdown q r inputs outputs some small h).shows t l in
       ap (λ k. bit k next) shown
       ∙ (((h.queue 0 h.any).after t (omega (arith, l, within))).one
-      ∙ ((λ i. next_one (bit x.one c) (free t (omega (arith, l)) i) (bit x.enable c && bit x.shows c) (pop_is x g row ends run start slowdown q r inputs outputs h shown t (takes t l) i))
+      ∙ ((λ i. next_one (bit x.one c) (free t (omega (arith, l)) i) (bit x.enable c && bit x.shows c)
+      (pop_is x g row ends run start slowdown q r inputs outputs h shown t (takes t l) i))
       ∙ (only_pushed (bit x.one c) (bit x.enable c && bit x.shows c)
-      ∙ (push ∙ (told ∙ ap (λ v. not (nat_lt t latency) && v) (and_true (is_beat outputs ((t - latency) % slowdown)) (is_real x start slowdown run ((t - latency) / slowdown)) yes))))))
+      ∙ (push ∙ (told ∙ ap (λ v. not (nat_lt t latency) && v)
+      (and_true (is_beat outputs ((t - latency) % slowdown)) (is_real x start slowdown run ((t - latency) / slowdown)) yes))))))
 
-  pub sink_in_step : bit ends.sink.valid (get_or (drop start run) upto no_clock) ≡ (nat_lt (q * slowdown + r) upto && is_beat outputs ((upto - (q * slowdown + r + 1)) % slowdown))
+  pub sink_in_step : bit ends.sink.valid (get_or (drop start run) upto no_clock) ≡ (nat_lt (q * slowdown + r) upto && is_beat outputs
+      ((upto - (q * slowdown + r + 1)) % slowdown))
   sink_in_step = elim (cases_lt 0 upto) [
     | inl more ↦
         let latency : ℕ = q * slowdown + r in
@@ -131,7 +148,8 @@ module _ (x : Control) (g : Gates) (row : Row) (ends : Ends) (run : List Clock) 
         let z : upto ≡ 0 = omega (arith, none) in
         let low : nat_lt (q * slowdown + r) upto ≡ false = at_none (q * slowdown + r) upto z in
         ap (λ k. bit k (get_or (drop start run) upto no_clock)) shown
-        ∙ (ap (λ k. bit x.one (get_or (drop start run) k no_clock)) z ∙ (h.empty (omega (arith, within)) ∙ sym (ap (λ v. v && is_beat outputs ((upto - (q * slowdown + r + 1)) % slowdown)) low)))
+        ∙ (ap (λ k. bit x.one (get_or (drop start run) k no_clock)) z ∙
+        (h.empty (omega (arith, within)) ∙ sym (ap (λ v. v && is_beat outputs ((upto - (q * slowdown + r + 1)) % slowdown)) low)))
   ]
     where
       at_none : (a b : ℕ) → b ≡ 0 → nat_lt a b ≡ false

@@ -26,20 +26,26 @@ pub record HasStayed (x : Control) (ends : Ends) (q : ℕ) (c next : Clock) : Ty
   pub one : bit x.one next ≡ true
   pub word : word_in (ends.outs q) next ≡ word_in (ends.outs q) c
 
-pub stayed : (x : Control) (ends : Ends) (q : ℕ) (run : List Clock) (start t : ℕ) → IsQueue (queue_of x ends q) (drop start run) no_clock → start ≤ t → t + 1 < length run
-    → bit x.one (get_or run t no_clock) ≡ true → is_transfer ends.sink (get_or run t no_clock) ≡ false → HasStayed x ends q (get_or run t no_clock) (get_or run (t + 1) no_clock)
+pub stayed : (x : Control) (ends : Ends) (q : ℕ) (run : List Clock) (start t : ℕ) → IsQueue (queue_of x ends q) (drop start run) no_clock → start ≤ t
+    → t + 1 < length run
+    → bit x.one (get_or run t no_clock) ≡ true → is_transfer ends.sink (get_or run t no_clock) ≡ false
+    → HasStayed x ends q (get_or run t no_clock) (get_or run (t + 1) no_clock)
 stayed x ends q run start t h from within stands left =
     let size : length (drop start run) ≡ length run - start = length-drop start run in
     let e : start + (t - start) ≡ t = omega (arith, from) in
     let f : start + (t - start + 1) ≡ t + 1 = omega (arith, from) in
-    let here : get_or (drop start run) (t - start) no_clock ≡ get_or run t no_clock = get_or-drop start run (t - start) no_clock ∙ ap (λ k. get_or run k no_clock) e in
-    let next : get_or (drop start run) (t - start + 1) no_clock ≡ get_or run (t + 1) no_clock = get_or-drop start run (t - start + 1) no_clock ∙ ap (λ k. get_or run k no_clock) f in
+    let here : get_or (drop start run) (t - start) no_clock ≡ get_or run t no_clock = get_or-drop start run (t - start) no_clock ∙
+    ap (λ k. get_or run k no_clock) e in
+    let next : get_or (drop start run) (t - start + 1) no_clock ≡ get_or run (t + 1) no_clock = get_or-drop start run (t - start + 1) no_clock ∙
+    ap (λ k. get_or run k no_clock) f in
     let c : Clock = get_or run t no_clock in
-    let step : IsAfter (queue_of x ends q) (get_or (drop start run) (t - start) no_clock) (get_or (drop start run) (t - start + 1) no_clock) = h.after (t - start) (omega arith) in
+    let step : IsAfter (queue_of x ends q) (get_or (drop start run) (t - start) no_clock) (get_or (drop start run) (t - start + 1) no_clock) = h.after
+    (t - start) (omega arith) in
     let turned : IsAfter (queue_of x ends q) c (get_or run (t + 1) no_clock) = rw (here, next) at step in
     record {
       one = turned.one ∙ stays_one (bit x.one c) (bit x.two c) (bit x.enable c && bit x.shows c) (is_transfer ends.sink c) stands left;
-      word = turned.a ∙ stays_a (bit x.one c) (bit x.two c) (is_transfer ends.sink c) (word_in (ends.outs q) c) (word_in (x.second q) c) (word_in (x.made q) c) stands left;
+      word = turned.a ∙ stays_a (bit x.one c) (bit x.two c) (is_transfer ends.sink c) (word_in (ends.outs q) c) (word_in (x.second q) c)
+          (word_in (x.made q) c) stands left;
     }
 
 -- each column is kept
@@ -47,13 +53,15 @@ module _ (x : Control) (ends : Ends) (run : List Clock) (start : ℕ) (any : 0 <
     (queue : (q : ℕ) → q < ends.columns → IsQueue (queue_of x ends q) (drop start run) no_clock) (shown : ends.sink.valid ≡ x.one) where
   not_taken : (t : ℕ) → word_at run t ends.sink.ready ≢ 1 → is_transfer ends.sink (get_or run t no_clock) ≡ false
   unfolding word_at
-  not_taken t ne = ap (λ b. bit ends.sink.valid (get_or run t no_clock) && b) (ne_eqb (word_at run t ends.sink.ready) 1 ne) ∙ off (bit ends.sink.valid (get_or run t no_clock))
+  not_taken t ne = ap (λ b. bit ends.sink.valid (get_or run t no_clock) && b) (ne_eqb (word_at run t ends.sink.ready) 1 ne) ∙
+      off (bit ends.sink.valid (get_or run t no_clock))
     where
       off : (b : Bool) → (b && false) ≡ false
       off true = refl
       off false = refl
 
-  kept : (t q : ℕ) → q < ends.columns → start ≤ t → t + 1 < length run → word_at run t ends.sink.valid ≡ 1 → word_at run t ends.sink.ready ≢ 1 → HasStayed x ends q (get_or run t no_clock) (get_or run (t + 1) no_clock)
+  kept : (t q : ℕ) → q < ends.columns → start ≤ t → t + 1 < length run → word_at run t ends.sink.valid ≡ 1 → word_at run t ends.sink.ready ≢ 1
+      → HasStayed x ends q (get_or run t no_clock) (get_or run (t + 1) no_clock)
   unfolding word_at
   kept t q l from within on ne =
       stayed x ends q run start t (queue q l) from within (eq-eqb (word_at run t x.one) 1 (ap (word_at run t) (sym shown) ∙ on)) (not_taken t ne)

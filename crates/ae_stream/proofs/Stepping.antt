@@ -23,7 +23,8 @@ no_second false true push f = (let e : false ≡ true = f refl in absurd (grind 
 no_second false false push f = refl
 
 -- a clock in which the source is not asked, and in which there is room, is a step
-goes_on : (first valid busy takes current : Bool) → (first ≡ true → takes ≡ true) → (takes && (first || current)) ≡ false → may_go first valid busy takes current ≡ true
+goes_on : (first valid busy takes current : Bool) → (first ≡ true → takes ≡ true) → (takes && (first || current)) ≡ false
+    → may_go first valid busy takes current ≡ true
 goes_on true valid busy true current b e = (let f : true ≡ false = e in absurd (grind (arith, f)))
 goes_on true valid busy false current b e = (let f : false ≡ true = b refl in absurd (grind (arith, f)))
 goes_on false valid busy true true b e = (let f : true ≡ false = e in absurd (grind (arith, f)))
@@ -57,14 +58,16 @@ one_or_none p from (suc count) = elim (one_or_none p from count) [
   | inr none ↦ last (p (from + count)) refl none
 ]
   where
-    last : (v : Bool) → p (from + count) ≡ v → ((u : ℕ) → from ≤ u → u < from + count → p u ≡ false) → IsAmong p from (suc count) ⊎ ((u : ℕ) → from ≤ u → u < from + suc count → p u ≡ false)
+    last : (v : Bool) → p (from + count) ≡ v → ((u : ℕ) → from ≤ u → u < from + count → p u ≡ false) → IsAmong p from (suc count)
+        ⊎ ((u : ℕ) → from ≤ u → u < from + suc count → p u ≡ false)
     last true e none = inl (record { at = from + count; low = omega arith; high = omega arith; passes = e })
     last false e none = inr (λ u a b. elim (cases_lt u (from + count)) [
       | inl l ↦ none u a l
       | inr g ↦ (let same : u ≡ from + count = omega arith in ap p same ∙ e)
     ])
 
-module _ (x : Control) (g : Gates) (row : Row) (ends : Ends) (run : List Clock) (start slowdown q r : ℕ) (inputs outputs : List StTree) (h : IsDriven x g row ends run start slowdown q r inputs outputs) (shown : ends.sink.valid ≡ x.one) where
+module _ (x : Control) (g : Gates) (row : Row) (ends : Ends) (run : List Clock) (start slowdown q r : ℕ) (inputs outputs : List StTree)
+    (h : IsDriven x g row ends run start slowdown q r inputs outputs) (shown : ends.sink.valid ≡ x.one) where
   abbrev pub rest : List Clock
   rest = drop start run
 
@@ -84,7 +87,9 @@ module _ (x : Control) (g : Gates) (row : Row) (ends : Ends) (run : List Clock) 
   step_at t l y = passed_at (bit x.enable) goes rest no_clock (λ k b. refl) t l y
 
   -- what the steps have by their number, each has
-  pub by_step : (pass : Clock → Bool) (number : ℕ → Bool) → ((t : ℕ) → t < length (steps x start run) → pass (get_or (steps x start run) t no_clock) ≡ number t) → (t : ℕ) → t < length rest → goes t ≡ true → pass (at t) ≡ number (stepped t)
+  pub by_step : (pass : Clock → Bool) (number : ℕ → Bool)
+      → ((t : ℕ) → t < length (steps x start run) → pass (get_or (steps x start run) t no_clock) ≡ number t) → (t : ℕ) → t < length rest → goes t ≡ true
+      → pass (at t) ≡ number (stepped t)
   by_step pass number each t l y = (let s = step_at t l y in ap pass (sym s.1) ∙ each (stepped t) s.0)
 
   pub fair : (t : ℕ) → t < length rest → IsFair (bit x.one (at t)) (bit x.two (at t)) (bit x.enable (at t) && bit x.shows (at t)) (is_transfer ends.sink (at t))
@@ -102,7 +107,8 @@ module _ (x : Control) (g : Gates) (row : Row) (ends : Ends) (run : List Clock) 
       ∙ (ap (next_two (bit x.one c) (bit x.two c) (bit x.enable c && bit x.shows c)) (pop_is t y)
       ∙ no_second (bit x.one c) (bit x.two c) (bit x.enable c && bit x.shows c) (fair t (omega arith)).second)
 
-  pub is_on : (t : ℕ) → t < length rest → bit x.two (at t) ≡ false → may_go (bit g.first (at t)) (bit ends.source.valid (at t)) (bit g.busy (at t)) (bit x.takes (at t)) (bit g.current (at t)) ≡ true → goes t ≡ true
+  pub is_on : (t : ℕ) → t < length rest → bit x.two (at t) ≡ false
+      → may_go (bit g.first (at t)) (bit ends.source.valid (at t)) (bit g.busy (at t)) (bit x.takes (at t)) (bit g.current (at t)) ≡ true → goes t ≡ true
   is_on t l two may = (h.gates t l).enable ∙ (λ i. h.low t l i || (not (two i) && may i))
 
   -- where there is room, and the source is not asked, the circuit steps
@@ -110,7 +116,8 @@ module _ (x : Control) (g : Gates) (row : Row) (ends : Ends) (run : List Clock) 
   steps_unasked t l two off =
       let c : Clock = at t in
       let gates : HasGates x g ends c = h.gates t l in
-      let none : (bit x.takes c && (bit g.first c || bit g.current c)) ≡ false = (λ i. not (sym two i) && (bit x.takes c && (bit g.first c || bit g.current c))) ∙ (sym gates.ready ∙ off) in
+      let none : (bit x.takes c && (bit g.first c || bit g.current c)) ≡ false = (λ i. not
+      (sym two i) && (bit x.takes c && (bit g.first c || bit g.current c))) ∙ (sym gates.ready ∙ off) in
       is_on t l two (goes_on (bit g.first c) (bit ends.source.valid c) (bit g.busy c) (bit x.takes c) (bit g.current c) gates.begins none)
 
   -- a step of a number that begins a block asks
@@ -131,7 +138,8 @@ module _ (x : Control) (g : Gates) (row : Row) (ends : Ends) (run : List Clock) 
       ap stepped e ∙ omega (arith, before, one)
 
   -- behind a clock in which the sink takes the source is asked in one of so many clocks as a block has, if the sink takes in these
-  pub asked : 0 < slowdown → (t : ℕ) → t + slowdown < length rest → ((u : ℕ) → t ≤ u → u < t + slowdown → bit ends.sink.ready (at u) ≡ true) → IsAmong (λ u. bit ends.source.ready (at u)) (t + 1) slowdown
+  pub asked : 0 < slowdown → (t : ℕ) → t + slowdown < length rest → ((u : ℕ) → t ≤ u → u < t + slowdown → bit ends.sink.ready (at u) ≡ true)
+      → IsAmong (λ u. bit ends.source.ready (at u)) (t + 1) slowdown
   asked some t l takes = elim (one_or_none (λ u. bit ends.source.ready (at u)) (t + 1) slowdown) [
     | inl found ↦ found
     | inr none ↦
@@ -143,7 +151,8 @@ module _ (x : Control) (g : Gates) (row : Row) (ends : Ends) (run : List Clock) 
         let u : ℕ = t + 1 + m.0 in
         let low : m.0 < slowdown = m.1 in
         let number : stepped u % slowdown ≡ 0 = ap (λ k. k % slowdown) (counts_on (t + 1) slowdown on m.0 (omega arith)) ∙ m.2 in
-        let yes : bit ends.source.ready (at u) ≡ true = asks_first u (omega arith) (free u (omega arith) (omega arith)) (on u (omega arith) (omega arith)) number in
+        let yes : bit ends.source.ready (at u) ≡ true = asks_first u (omega arith) (free u (omega arith) (omega arith))
+        (on u (omega arith) (omega arith)) number in
         let bad : true ≡ false = sym yes ∙ none u (omega arith) (omega arith) in
         absurd (grind (arith, bad))
   ]

@@ -33,7 +33,8 @@ taken_or true wanted beat e b = sym (b refl)
 taken_or false wanted beat e b = e
 
 module _ (x : Control) (g : Gates) (row : Row) (ends : Ends) (wanted wait : ℕ) (run : List Clock) (start slowdown q r : ℕ) (inputs outputs : List StTree)
-    (any : 0 < ends.columns) (waits : (c : ℕ) → is_beat outputs c ≡ true → q * slowdown + r + c < suc wait * slowdown) (beat : is_beat inputs 0 ≡ true) (reset : IsReset run g.reset start) (w : IsWired x g row ends wanted q wait run)
+    (any : 0 < ends.columns) (waits : (c : ℕ) → is_beat outputs c ≡ true → q * slowdown + r + c < suc wait * slowdown) (beat : is_beat inputs 0 ≡ true)
+    (reset : IsReset run g.reset start) (w : IsWired x g row ends wanted q wait run)
     (words : AreQueued x ends run) (m : IsMarked x g row wanted run start slowdown r inputs outputs) where
   abbrev rest : List Clock
   rest = drop start run
@@ -52,7 +53,8 @@ module _ (x : Control) (g : Gates) (row : Row) (ends : Ends) (wanted wait : ℕ)
   from P f t l =
       let e : start + (t + 1) ≡ start + t + 1 = omega arith in
       let next : get_or run (start + t + 1) no_clock ≡ get_or rest (t + 1) no_clock = ap (λ k. get_or run k no_clock) (sym e) ∙ sym (at (t + 1)) in
-      subst (λ c. P c (get_or rest (t + 1) no_clock)) (sym (at t)) (subst (λ c. P (get_or run (start + t) no_clock) c) next (f (start + t) (omega (arith, long))))
+      subst (λ c. P c (get_or rest (t + 1) no_clock)) (sym (at t))
+      (subst (λ c. P (get_or run (start + t) no_clock) c) next (f (start + t) (omega (arith, long))))
 
   low : (t : ℕ) → t < length rest → bit g.reset (get_or rest t no_clock) ≡ false
   unfolding word_at
@@ -62,7 +64,8 @@ module _ (x : Control) (g : Gates) (row : Row) (ends : Ends) (wanted wait : ℕ)
   unfolding word_at
   high t b l = ap (λ k. k == 1) (reset.high t b l)
 
-  goes : (part makes : Clock → Bool) → IsCleared (bit g.reset) part makes run → (t : ℕ) → t + 1 < length rest → part (get_or rest (t + 1) no_clock) ≡ makes (get_or rest t no_clock)
+  goes : (part makes : Clock → Bool) → IsCleared (bit g.reset) part makes run → (t : ℕ) → t + 1 < length rest
+      → part (get_or rest (t + 1) no_clock) ≡ makes (get_or rest t no_clock)
   goes part makes f t l =
       from (λ c next. part next ≡ (if bit g.reset c then false else makes c)) f t l
       ∙ ap (λ v. if v then false else makes (get_or rest t no_clock)) (low t (omega arith))
@@ -85,13 +88,15 @@ module _ (x : Control) (g : Gates) (row : Row) (ends : Ends) (wanted wait : ℕ)
   abbrev twos : Clock → Bool
   twos c = next_two (bit x.one c) (bit x.two c) (is_put x c) (is_transfer ends.sink c)
 
-  fair : (t : ℕ) → t < length rest → IsFair (bit x.one (get_or rest t no_clock)) (bit x.two (get_or rest t no_clock)) (is_put x (get_or rest t no_clock)) (is_transfer ends.sink (get_or rest t no_clock))
+  fair : (t : ℕ) → t < length rest → IsFair (bit x.one (get_or rest t no_clock)) (bit x.two (get_or rest t no_clock)) (is_put x (get_or rest t no_clock))
+      (is_transfer ends.sink (get_or rest t no_clock))
   fair t l =
       let c : Clock = get_or rest t no_clock in
       let gates : HasGates x g ends c = each (HasGates x g ends) w.gates t l in
       record {
         second = stands t l;
-        room = λ h. no_room (bit g.reset c) (bit x.two c) (may_go (bit g.first c) (bit ends.source.valid c) (bit g.busy c) (bit x.takes c) (bit g.current c)) (low t l) (bit x.shows c)
+        room = λ h. no_room (bit g.reset c) (bit x.two c) (may_go (bit g.first c) (bit ends.source.valid c) (bit g.busy c) (bit x.takes c) (bit g.current c))
+            (low t l) (bit x.shows c)
             (ap (λ v. v && bit x.shows c) (sym gates.enable) ∙ h);
         some = λ h. ap (λ n. bit n c) (sym w.valid) ∙ both_left (bit ends.sink.valid c) (bit ends.sink.ready c) h;
       }
@@ -103,7 +108,9 @@ module _ (x : Control) (g : Gates) (row : Row) (ends : Ends) (wanted wait : ℕ)
           let two : bit x.two (get_or rest (t + 1) no_clock) ≡ twos (get_or rest t no_clock) = goes (bit x.two) twos w.two t (omega arith) in
           let one : bit x.one (get_or rest (t + 1) no_clock) ≡ ones (get_or rest t no_clock) = goes (bit x.one) ones w.one t (omega arith) in
           let k : bit x.two (get_or rest (t + 1) no_clock) ≡ true = ap (λ k. bit x.two (get_or rest k no_clock)) (sym e) ∙ h in
-          ap (λ k. bit x.one (get_or rest k no_clock)) e ∙ (one ∙ second_has_first (bit x.one (get_or rest t no_clock)) (bit x.two (get_or rest t no_clock)) (is_put x (get_or rest t no_clock)) (is_transfer ends.sink (get_or rest t no_clock)) (sym two ∙ k))
+          ap (λ k. bit x.one (get_or rest k no_clock)) e ∙ (one ∙
+          second_has_first (bit x.one (get_or rest t no_clock)) (bit x.two (get_or rest t no_clock)) (is_put x (get_or rest t no_clock))
+          (is_transfer ends.sink (get_or rest t no_clock)) (sym two ∙ k))
 
   queue : (k : ℕ) → k < ends.columns → IsQueue (queue_of x ends k) rest no_clock
   queue k b = record {
@@ -111,14 +118,16 @@ module _ (x : Control) (g : Gates) (row : Row) (ends : Ends) (wanted wait : ℕ)
     after = λ t l. record {
       one = goes (bit x.one) ones w.one t l;
       two = goes (bit x.two) twos w.two t l;
-      a = from (λ c next. word_in (ends.outs k) next ≡ next_a (bit x.one c) (bit x.two c) (is_transfer ends.sink c) (word_in (ends.outs k) c) (word_in (x.second k) c) (word_in (x.made k) c)) (words.shown k b) t l;
+      a = from (λ c next. word_in (ends.outs k) next ≡ next_a (bit x.one c) (bit x.two c) (is_transfer ends.sink c) (word_in (ends.outs k) c)
+          (word_in (x.second k) c) (word_in (x.made k) c)) (words.shown k b) t l;
       b = from (λ c next. word_in (x.second k) next ≡ next_b (bit x.two c) (word_in (x.second k) c) (word_in (x.made k) c)) (words.second k b) t l;
     };
   }
 
   pub driven_by : IsDriven x g row ends run start slowdown q r inputs outputs
   driven_by = record {
-    resets = λ t b l. (w.gates t l).enable ∙ ap (λ v. v || (not (bit x.two (get_or run t no_clock)) && may_go (bit g.first (get_or run t no_clock)) (bit ends.source.valid (get_or run t no_clock))
+    resets = λ t b l. (w.gates t l).enable ∙ ap (λ v. v || (not (bit x.two (get_or run t no_clock)) && may_go (bit g.first (get_or run t no_clock))
+        (bit ends.source.valid (get_or run t no_clock))
         (bit g.busy (get_or run t no_clock)) (bit x.takes (get_or run t no_clock)) (bit g.current (get_or run t no_clock)))) (high t b l);
     low = low;
     gates = each (HasGates x g ends) w.gates;
@@ -131,7 +140,9 @@ module _ (x : Control) (g : Gates) (row : Row) (ends : Ends) (wanted wait : ℕ)
     busy = λ t j c l y from. each (λ k. bit (row.flag (suc j)) k ≡ true → bit g.busy k ≡ true) (w.busy j (soon j c y from)) t l;
     takes = λ t l.
         each (λ c. bit x.takes c ≡ (bit g.first c || bit wanted c)) w.takes t l
-        ∙ taken_or (bit g.first (get_or rest t no_clock)) (bit wanted (get_or rest t no_clock)) (is_beat inputs (steps_before x start run t % slowdown)) (m.wants t l) (λ h. (let z : steps_before x start run t % slowdown ≡ 0 = zero_of (steps_before x start run t % slowdown) (sym (m.first t l) ∙ h) in ap (is_beat inputs) z ∙ beat));
+        ∙ taken_or (bit g.first (get_or rest t no_clock)) (bit wanted (get_or rest t no_clock)) (is_beat inputs (steps_before x start run t % slowdown))
+        (m.wants t l) (λ h. (let z : steps_before x start run t % slowdown ≡ 0 = zero_of (steps_before x start run t % slowdown) (sym (m.first t l) ∙ h) in
+        ap (is_beat inputs) z ∙ beat));
     late = m.late;
     behind = m.behind;
     shows = each (IsRead x row q) w.shows;

@@ -36,7 +36,8 @@ steps_before x start run t = passing (λ k. bit x.enable (get_or (drop start run
 -- a test of each clock behind the reset says what a test of the number of steps before it says, whether it is a step or not
 abbrev pub BySteps : Control → (start : ℕ) → List Clock → (Clock → Bool) → (ℕ → Bool) → Type 0
 BySteps x start run pass number =
-    (t : ℕ) → t < length (drop start run) → pass (get_or (drop start run) t no_clock) ≡ number (steps_before x start run t)
+    (t : ℕ) → t < length (drop start run) → pass (get_or (drop start run) t no_clock) ≡ number
+    (steps_before x start run t)
 
 -- whether a block is real, as its first clock says
 unfoldable pub is_real : Control → (start slowdown : ℕ) → List Clock → ℕ → Bool
@@ -65,12 +66,14 @@ later latency f t = not (nat_lt t latency) && f (t - latency)
 abbrev pub wants : Control → Clock → Bool
 wants x c = bit x.enable c && (bit x.takes c && bit x.here c)
 
-pub record IsControlled (x : Control) (ends : Ends) (run : List Clock) (start slowdown latency : ℕ) (inputs outputs : List StTree)
+pub record IsControlled (x : Control) (ends : Ends) (run : List Clock) (start slowdown latency : ℕ)
+    (inputs outputs : List StTree)
     : Type 0 where
   -- in reset it steps
   pub resets : (t : ℕ) → t < start → t < length run → bit x.enable (get_or run t no_clock) ≡ true
   -- words pass at the source where the circuit steps and a real block wants them
-  pub asks : ByNumber (is_transfer ends.source) (λ t. wants x (get_or (drop start run) t no_clock)) (drop start run) no_clock
+  pub asks : ByNumber (is_transfer ends.source) (λ t. wants x (get_or (drop start run) t no_clock))
+      (drop start run) no_clock
   pub takes : ByNumber (bit x.takes) (λ t. is_beat inputs (t % slowdown)) (steps x start run) no_clock
   -- a block stays real or not
   pub stays : (b c : ℕ) → c + 1 < slowdown → b * slowdown + (c + 1) < length (steps x start run)

@@ -41,12 +41,14 @@ pub record IsDriven (x : Control) (g : Gates) (row : Row) (ends : Ends) (run : L
   pub low : (t : ℕ) → t < length (drop start run) → bit g.reset (get_or (drop start run) t no_clock) ≡ false
   pub gates : (t : ℕ) → t < length (drop start run) → HasGates x g ends (get_or (drop start run) t no_clock)
   pub current : Follows (bit x.enable) (bit g.current) (bit x.here) no_clock (drop start run)
-  pub flag : (j : ℕ) → j ≤ q → Follows (bit x.enable) (bit (row.flag (suc j))) (next_flag row j) no_clock (drop start run)
+  pub flag : (j : ℕ) → j ≤ q → Follows (bit x.enable) (bit (row.flag (suc j))) (next_flag row j) no_clock
+      (drop start run)
   pub here : row.flag 0 ≡ x.here
   pub clear : (j : ℕ) → j ≤ q → 0 < length (drop start run)
       → bit (row.flag (suc j)) (get_or (drop start run) 0 no_clock) ≡ false
   -- it is busy where a block has begun before that is real, and of whose results some are still to come
-  pub busy : (t j c : ℕ) → t < length (drop start run) → is_beat outputs c ≡ true → suc j * slowdown ≤ q * slowdown + r + c
+  pub busy : (t j c : ℕ) → t < length (drop start run) → is_beat outputs c ≡ true
+      → suc j * slowdown ≤ q * slowdown + r + c
       → bit (row.flag (suc j)) (get_or (drop start run) t no_clock) ≡ true
       → bit g.busy (get_or (drop start run) t no_clock) ≡ true
   -- the phases of the clocks by the steps before them

@@ -21,4 +21,5 @@ pub record IsHeldInside (x : Control) (ends : Ends) (n marked copied new : Circu
   pub held : IsHeld 2 x.enable marked copied new
   pub longer : length marked.cells + 2 ≤ length copied.cells
   pub ins : (q : ℕ) → q < ends.in_columns → (1 + q < length n.cells) × (ends.ins q ≡ placed 2 (1 + q))
-  pub outs : (q : ℕ) → q < ends.columns → (outlet_net n.outlets q < length n.cells) × (x.made q ≡ placed 2 (outlet_net n.outlets q))
+  pub outs : (q : ℕ) → q < ends.columns → (outlet_net n.outlets q < length n.cells)
+      × (x.made q ≡ placed 2 (outlet_net n.outlets q))

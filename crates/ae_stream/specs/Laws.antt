@@ -31,7 +31,8 @@ BlocksAreTaken =
 abbrev pub ControlledCircuitsStream : Type 0
 ControlledCircuitsStream =
     (x : Control) (ends : Ends) (n : Circuit) (inner : Clock → Clock) (run : List Clock) (start slowdown latency : ℕ)
-    → (p : ProgramTree) (inputs outputs : List StTree) → IsAround x ends n inner run start slowdown latency p inputs outputs
+    → (p : ProgramTree) (inputs outputs : List StTree)
+    → IsAround x ends n inner run start slowdown latency p inputs outputs
     → Streams ends run start p slowdown inputs outputs
 
 abbrev pub HeldCircuitsAreInside : Type 0
@@ -51,13 +52,15 @@ DrivenCircuitsStream =
 
 abbrev pub DrivenCircuitsKeepWords : Type 0
 DrivenCircuitsKeepWords =
-    (x : Control) (g : Gates) (row : Row) (ends : Ends) (run : List Clock) (start slowdown q r : ℕ) (inputs outputs : List StTree)
+    (x : Control) (g : Gates) (row : Row) (ends : Ends) (run : List Clock) (start slowdown q r : ℕ)
+    (inputs outputs : List StTree)
     → IsDriven x g row ends run start slowdown q r inputs outputs → ends.sink.valid ≡ x.one
     → Stays ends ends.columns run start
 
 abbrev pub DrivenCircuitsGoOn : Type 0
 DrivenCircuitsGoOn =
-    (x : Control) (g : Gates) (row : Row) (ends : Ends) (run : List Clock) (start slowdown q r : ℕ) (inputs outputs : List StTree)
+    (x : Control) (g : Gates) (row : Row) (ends : Ends) (run : List Clock) (start slowdown q r : ℕ)
+    (inputs outputs : List StTree)
     → 0 < slowdown → r < slowdown → is_beat inputs 0 ≡ true
     → IsDriven x g row ends run start slowdown q r inputs outputs → ends.sink.valid ≡ x.one
     → GoesOn ends run start slowdown (q * slowdown + r) inputs outputs
@@ -65,7 +68,8 @@ DrivenCircuitsGoOn =
 abbrev pub WiredControlsHaveNoPaths : Type 0
 WiredControlsHaveNoPaths =
     (x : Control) (g : Gates) (row : Row) (ends : Ends) (wanted wait : ℕ) (a b : List Clock) (start slowdown q r : ℕ)
-    → (inputs outputs : List StTree) → 1 ≤ start → IsComplete x g row ends wanted q wait a start slowdown r inputs outputs
+    → (inputs outputs : List StTree) → 1 ≤ start
+    → IsComplete x g row ends wanted q wait a start slowdown r inputs outputs
     → IsComplete x g row ends wanted q wait b start slowdown r inputs outputs → HasNoPaths ends a b start
 
 abbrev pub WiredControlsAreDriven : Type 0
@@ -74,7 +78,8 @@ WiredControlsAreDriven =
     → (inputs outputs : List StTree) → 0 < ends.columns
     → ((c : ℕ) → is_beat outputs c ≡ true → q * slowdown + r + c < suc wait * slowdown)
     → is_beat inputs 0 ≡ true → IsReset run g.reset start
-    → IsWired x g row ends wanted q wait run → AreQueued x ends run → IsMarked x g row wanted run start slowdown r inputs outputs
+    → IsWired x g row ends wanted q wait run → AreQueued x ends run
+    → IsMarked x g row wanted run start slowdown r inputs outputs
     → IsDriven x g row ends run start slowdown q r inputs outputs
 
 abbrev pub HeldMarksAreSeen : Type 0
@@ -83,6 +88,7 @@ HeldMarksAreSeen =
     → IsHeld 2 x.enable marked copied new → length marked.cells + 2 ≤ length copied.cells
     → (run : List Clock) (start : ℕ) → IsRun new.cells run → IsReset run 0 start
     → ((t : ℕ) → t < start → t < length run → bit x.enable (get_or run t no_clock) ≡ true)
-    → (y : ℕ) (f : ℕ → ℕ) → y < length marked.cells → InEveryResetRun marked.cells 0 (λ run start. HasWords run start y f)
+    → (y : ℕ) (f : ℕ → ℕ) → y < length marked.cells
+    → InEveryResetRun marked.cells 0 (λ run start. HasWords run start y f)
     → (t : ℕ) → t < length (drop start run)
     → word_in (placed 2 y) (get_or (drop start run) t no_clock) ≡ f (steps_before x start run t)

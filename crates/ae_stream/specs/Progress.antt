@@ -17,7 +17,8 @@ pub record IsAsked (ends : Ends) (run : List Clock) (start slowdown : ℕ) : Typ
 -- in each of the first so many clocks behind the reset words stand at the source, and the sink takes
 abbrev pub BothGo : Ends → List Clock → (start count : ℕ) → Type 0
 BothGo ends run start count =
-    (u : ℕ) → u < count → (word_at run (start + u) ends.source.valid ≡ 1) × (word_at run (start + u) ends.sink.ready ≡ 1)
+    (u : ℕ) → u < count → (word_at run (start + u) ends.source.valid ≡ 1)
+    × (word_at run (start + u) ends.sink.ready ≡ 1)
 
 -- as long as both ends have gone in each clock, so has the circuit: the source is asked in the clocks of each block in which elements
 -- of the parameters stand, and words stand at the sink late by the latency and a clock where elements of the results do

@@ -51,7 +51,8 @@ beats layouts c = passing (is_beat layouts) c
 
 -- as far as the list goes, the nets of each layout have the words of the value of its number, where the words of clock c of a
 -- block stand at place c
-pub record AreShown (clocks : List Clock) (place net : ℕ → ℕ) (layouts : List StTree) (values : List ValueTree) : Type 0 where
+pub record AreShown (clocks : List Clock) (place net : ℕ → ℕ) (layouts : List StTree)
+    (values : List ValueTree) : Type 0 where
   pub each : (q : ℕ) (s : StTree) → slice_get layouts q ≡ Some s
       → (e j : ℕ) (w : Slot) → slice_get (slots s) e ≡ Some w → j < element_words s → place w.clock < length clocks
       → word_at clocks (place w.clock) (net (first_column layouts q + (w.lane * element_words s + j)))
@@ -75,12 +76,14 @@ pub record Ends : Type 0 where
 
 -- if what was taken is the first part of the transfers of some blocks of arguments, what was given is the first part of the
 -- transfers of the results
-pub record Streams (ends : Ends) (run : List Clock) (start : ℕ) (p : ProgramTree) (slowdown : ℕ) (inputs outputs : List StTree)
+pub record Streams (ends : Ends) (run : List Clock) (start : ℕ) (p : ProgramTree) (slowdown : ℕ)
+    (inputs outputs : List StTree)
     : Type 0 where
   pub streams : (blocks : List (List ValueTree))
       → length (transfers ends.source start run) ≤ length blocks * beats inputs slowdown
       → ((b : ℕ) (block : List ValueTree) → slice_get blocks b ≡ Some block
-      → AreValues (parameter_types p) block × AreBlocks (transfers ends.source start run) slowdown ends.ins inputs b block)
+      → AreValues (parameter_types p) block × AreBlocks
+      (transfers ends.source start run) slowdown ends.ins inputs b block)
       → (length (transfers ends.sink start run) ≤ length blocks * beats outputs slowdown)
       × ((b : ℕ) (block : List ValueTree) → slice_get blocks b ≡ Some block
       → AreBlocks (transfers ends.sink start run) slowdown ends.outs outputs b (mean p block))

@@ -27,7 +27,8 @@ is_put x c = bit x.enable c && bit x.shows c
 -- the gates in each clock, and the registers from each clock to the next; words are wanted in the first clock of a block, and
 -- where a net says so. As many flags as blocks in the latency, and one more; as long as one of the first so many is
 -- 1, the control is busy
-pub record IsWired (x : Control) (g : Gates) (row : Row) (ends : Ends) (wanted q wait : ℕ) (run : List Clock) : Type 0 where
+pub record IsWired (x : Control) (g : Gates) (row : Row) (ends : Ends) (wanted q wait : ℕ)
+    (run : List Clock) : Type 0 where
   pub here : row.flag 0 ≡ x.here
   pub valid : ends.sink.valid ≡ x.one
   pub gates : InEach (HasGates x g ends) run
@@ -35,15 +36,19 @@ pub record IsWired (x : Control) (g : Gates) (row : Row) (ends : Ends) (wanted q
   pub shows : InEach (IsRead x row q) run
   pub current : FromEach (λ c next. bit g.current next ≡ (if bit x.enable c then bit x.here c else bit g.current c)) run
   pub flag : (j : ℕ) → j ≤ q
-      → IsCleared (bit g.reset) (bit (row.flag (suc j))) (λ c. if bit x.enable c then next_flag row j c else bit (row.flag (suc j)) c) run
+      → IsCleared (bit g.reset) (bit (row.flag (suc j)))
+      (λ c. if bit x.enable c then next_flag row j c else bit (row.flag (suc j)) c) run
   pub busy : (j : ℕ) → j < wait → InEach (λ c. bit (row.flag (suc j)) c ≡ true → bit g.busy c ≡ true) run
-  pub one : IsCleared (bit g.reset) (bit x.one) (λ c. next_one (bit x.one c) (bit x.two c) (is_put x c) (is_transfer ends.sink c)) run
-  pub two : IsCleared (bit g.reset) (bit x.two) (λ c. next_two (bit x.one c) (bit x.two c) (is_put x c) (is_transfer ends.sink c)) run
+  pub one : IsCleared (bit g.reset) (bit x.one)
+      (λ c. next_one (bit x.one c) (bit x.two c) (is_put x c) (is_transfer ends.sink c)) run
+  pub two : IsCleared (bit g.reset) (bit x.two)
+      (λ c. next_two (bit x.one c) (bit x.two c) (is_put x c) (is_transfer ends.sink c)) run
 
 -- the words of each column: those at the sink, and those that come second, from each clock to the next
 pub record AreQueued (x : Control) (ends : Ends) (run : List Clock) : Type 0 where
   pub shown : (k : ℕ) → k < ends.columns → FromEach (λ c next. word_in (ends.outs k) next
-      ≡ next_a (bit x.one c) (bit x.two c) (is_transfer ends.sink c) (word_in (ends.outs k) c) (word_in (x.second k) c) (word_in (x.made k) c)) run
+      ≡ next_a (bit x.one c) (bit x.two c) (is_transfer ends.sink c) (word_in (ends.outs k) c) (word_in (x.second k) c)
+      (word_in (x.made k) c)) run
   pub second : (k : ℕ) → k < ends.columns → FromEach (λ c next. word_in (x.second k) next
       ≡ next_b (bit x.two c) (word_in (x.second k) c) (word_in (x.made k) c)) run
 

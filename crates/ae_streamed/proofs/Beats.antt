@@ -18,7 +18,8 @@ live_in : (ws : List Slot) (c : ℕ) → in_clock ws c ≡ true → Any (λ (w :
 live_in [] c h = (let e : false ≡ true = h in cc)
 live_in (w ∷ ws) c h = step (λ k. live_in ws c k) (w.clock == c) refl h
   where
-    step : (in_clock ws c ≡ true → Any (λ (w : Slot). w.clock ≡ c) ws) → (b : Bool) → (w.clock == c) ≡ b → (b || in_clock ws c) ≡ true → Any (λ (w : Slot). w.clock ≡ c) (w ∷ ws)
+    step : (in_clock ws c ≡ true → Any (λ (w : Slot). w.clock ≡ c) ws) → (b : Bool) → (w.clock == c) ≡ b → (b || in_clock ws c) ≡ true
+        → Any (λ (w : Slot). w.clock ≡ c) (w ∷ ws)
     step more true e h = (0, w, omega arith, refl, eqb-true w.clock c e)
     step more false e h = (let a = more h in (suc a.0, a.1, omega (arith, a.2), a.3, a.4))
 
@@ -60,7 +61,8 @@ of_div x n k some l =
     let q : (x / k + 1) * k ≤ n * k = mul-le (x / k + 1) k n k (omega arith) (omega arith) in
     omega (arith, div-add-mod' x k, mod_below x k some, q)
 
-pub in_slots_later : (n i : ℕ) (t : StTree) (x : ℕ) → HasLengths (tseq n i t) → in_clock (slots (tseq n i t)) x ≡ (nat_lt x (n * time t) && in_clock (slots t) (x % time t))
+pub in_slots_later : (n i : ℕ) (t : StTree) (x : ℕ) → HasLengths (tseq n i t)
+    → in_clock (slots (tseq n i t)) x ≡ (nat_lt x (n * time t) && in_clock (slots t) (x % time t))
 in_slots_later n i t x h =
     let some : 0 < time t = time_pos t h.1 in
     same_bits _ _
@@ -120,7 +122,8 @@ or_words false false = refl
 
 -- the bit of a layout in time is that of its valid slots and of a part in each
 pub slot_told : (n i : ℕ) (t : StTree) (offset c : ℕ) → HasLengths (tseq n i t) → offset < (n + i) * time t
-    → (nat_lt (phase_of ((n + i) * time t) offset c) (n * time t) && in_clock (slots t) (phase_of (time t) (offset % time t) c)) ≡ in_clock (slots (tseq n i t)) (phase_of ((n + i) * time t) offset c)
+    → (nat_lt (phase_of ((n + i) * time t) offset c) (n * time t) && in_clock (slots t) (phase_of (time t) (offset % time t) c)) ≡ in_clock
+    (slots (tseq n i t)) (phase_of ((n + i) * time t) offset c)
 slot_told n i t offset c h l =
     let many : 0 < n + i = omega (arith, h.0) in
     let x : ℕ = phase_of ((n + i) * time t) offset c in

@@ -65,11 +65,14 @@ first_inputs q =
     f ∙ sym (ap (placed 2) e)
 
 module _ (n marked new : Circuit) (m : Marks) (slowdown latency wait : ℕ) (inputs outputs : List StTree)
-    (some : 0 < slowdown) (formed : IsFormed n.cells) (have : HaveNets n.cells n.outlets) (one : HasOneRun n.cells) (adds : Adds n marked (mark_cells inputs outputs) 0) (formed_marked : IsFormed marked.cells)
-    (marks : HasMarks marked.cells m slowdown (latency % slowdown) inputs outputs) (wrapped : IsWrapped marked new m (latency / slowdown) wait) (waits : (c : ℕ) → is_beat outputs c ≡ true → latency + c < suc wait * slowdown)
+    (some : 0 < slowdown) (formed : IsFormed n.cells) (have : HaveNets n.cells n.outlets) (one : HasOneRun n.cells)
+    (adds : Adds n marked (mark_cells inputs outputs) 0) (formed_marked : IsFormed marked.cells)
+    (marks : HasMarks marked.cells m slowdown (latency % slowdown) inputs outputs) (wrapped : IsWrapped marked new m (latency / slowdown) wait)
+    (waits : (c : ℕ) → is_beat outputs c ≡ true → latency + c < suc wait * slowdown)
     (ins : AreWithin inputs slowdown (sum_by columns_of inputs)) (outs : AreWithin outputs slowdown (sum_by columns_of outputs))
     (fits : sum_by columns_of inputs < length n.cells) (shows : length n.outlets ≡ sum_by columns_of outputs) (any : 0 < sum_by columns_of outputs)
-    (lies_inside : HeldCircuitsAreInside) (are_seen : HeldMarksAreSeen) (are_driven : WiredControlsAreDriven) (they_stream : DrivenCircuitsStream) (they_keep : DrivenCircuitsKeepWords) (they_go_on : DrivenCircuitsGoOn)
+    (lies_inside : HeldCircuitsAreInside) (are_seen : HeldMarksAreSeen) (are_driven : WiredControlsAreDriven) (they_stream : DrivenCircuitsStream)
+    (they_keep : DrivenCircuitsKeepWords) (they_go_on : DrivenCircuitsGoOn)
     (they_have_no_paths : WiredControlsHaveNoPaths) where
   abbrev columns : ℕ
   columns = length n.outlets
@@ -100,18 +103,21 @@ module _ (n marked new : Circuit) (m : Marks) (slowdown latency wait : ℕ) (inp
     keeps k sized low h = h
 
     wired : IsWired x wrapped.control.gates wrapped.control.row own (placed 2 m.wants.0) (latency / slowdown) wait run
-    wired = wrapped.control.wired (net_at (copied_nets marked.outlets)) second (λ q. 3 + q) (λ q. outlet_net new.outlets (2 + q)) (sum_by columns_of inputs) columns new.cells keeps run r
+    wired = wrapped.control.wired (net_at (copied_nets marked.outlets)) second (λ q. 3 + q) (λ q. outlet_net new.outlets (2 + q))
+        (sum_by columns_of inputs) columns new.cells keeps run r
 
     queued : AreQueued x own run
     queued =
-        let q = wrapped.columns.queued (wires_of m) wrapped.control.takes wrapped.control.here wrapped.control.shows (sum_by columns_of inputs) (λ q. 3 + q) new.cells
+        let q = wrapped.columns.queued (wires_of m) wrapped.control.takes wrapped.control.here wrapped.control.shows (sum_by columns_of inputs)
+        (λ q. 3 + q) new.cells
         (λ k sized low h. h) run r (wrapped.control.moves new.cells keeps run r) in
         let size : length (copied_nets marked.outlets) ≡ columns = length-map marked.outlets (λ (o : Outlet). placed_net 2 o.net) ∙ ap length grows.outlets in
         let same : length marked.outlets ≡ columns = ap length grows.outlets in
         record {
           shown = λ k l.
               let at : outlet_net new.outlets (2 + k) ≡ wrapped.at + 4 * k = wrapped.shown.columns k (omega (arith, same, l)) in
-              subst (λ y. FromEach (λ c next. word_in y next ≡ next_a (bit x.one c) (bit x.two c) (is_transfer own.sink c) (word_in y c) (word_in (x.second k) c) (word_in (x.made k) c)) run)
+              subst (λ y. FromEach (λ c next. word_in y next ≡ next_a (bit x.one c) (bit x.two c) (is_transfer own.sink c) (word_in y c)
+              (word_in (x.second k) c) (word_in (x.made k) c)) run)
               (sym at) (q.shown k (omega (arith, size, l)));
           second = λ k l. q.second k (omega (arith, size, l));
         }
@@ -142,34 +148,43 @@ module _ (n marked new : Circuit) (m : Marks) (slowdown latency wait : ℕ) (inp
     seen : (y : ℕ) (passes : ℕ → Bool) → IsBitOf marked.cells 0 y passes → BySteps x start run (bit (placed 2 y)) passes
     seen y passes h t l =
         bit_of (passes (steps_before x start run t)) (word_in (placed 2 y) (get_or (drop start run) t no_clock))
-        (are_seen x marked wrapped.copied new formed_marked (omega (arith, fits, long)) wrapped.held wrapped.longer run start r reset on y (λ c. if passes c then 1 else 0) (net_within h.net) h.words t l)
+        (are_seen x marked wrapped.copied new formed_marked (omega (arith, fits, long)) wrapped.held wrapped.longer run start r reset on y
+        (λ c. if passes c then 1 else 0) (net_within h.net) h.words t l)
 
     marked_run : IsMarked x wrapped.control.gates wrapped.control.row (placed 2 m.wants.0) run start slowdown (latency % slowdown) inputs outputs
     marked_run = record {
       first = subst (λ y. BySteps x start run (bit y) (λ t. t % slowdown == 0)) (sym wrapped.control.first) (seen m.first.0 _ marks.first);
       last = subst (λ y. BySteps x start run (bit y) (λ t. t % slowdown == slowdown - 1)) (sym wrapped.control.last) (seen m.last.0 _ marks.last);
       wants = seen m.wants.0 _ marks.wants;
-      late = subst (λ y. BySteps x start run (bit y) (λ t. is_beat outputs (late_clock slowdown (latency % slowdown) (t % slowdown)))) (sym wrapped.control.late) (seen m.late.0 _ marks.late);
-      behind = subst (λ y. BySteps x start run (bit y) (λ t. nat_lt (t % slowdown) (latency % slowdown))) (sym wrapped.control.behind) (seen m.behind.0 _ marks.behind);
+      late = subst (λ y. BySteps x start run (bit y) (λ t. is_beat outputs (late_clock slowdown (latency % slowdown) (t % slowdown))))
+          (sym wrapped.control.late) (seen m.late.0 _ marks.late);
+      behind = subst (λ y. BySteps x start run (bit y) (λ t. nat_lt (t % slowdown) (latency % slowdown))) (sym wrapped.control.behind)
+          (seen m.behind.0 _ marks.behind);
     }
 
     driven : IsDriven x wrapped.control.gates wrapped.control.row own run start slowdown (latency / slowdown) (latency % slowdown) inputs outputs
-    driven = are_driven x wrapped.control.gates wrapped.control.row own (placed 2 m.wants.0) wait run start slowdown (latency / slowdown) (latency % slowdown) inputs outputs
+    driven = are_driven x wrapped.control.gates wrapped.control.row own (placed 2 m.wants.0) wait run start slowdown (latency / slowdown)
+        (latency % slowdown) inputs outputs
         (omega (arith, shows, any)) (λ c y. omega (arith, waits c y, div-add-mod' latency slowdown)) ins.first reset_there wired queued marked_run
 
-    streams_own : (p : ProgramTree) → CanBeFed n.cells p inputs → MakesBlocks n p slowdown latency inputs outputs → Streams own run start p slowdown inputs outputs
-    streams_own p fed makes = they_stream x wrapped.control.gates wrapped.control.row own n (inner_clock 2 (length n.cells)) run start slowdown (latency / slowdown) (latency % slowdown) p inputs outputs
+    streams_own : (p : ProgramTree) → CanBeFed n.cells p inputs → MakesBlocks n p slowdown latency inputs outputs
+        → Streams own run start p slowdown inputs outputs
+    streams_own p fed makes = they_stream x wrapped.control.gates wrapped.control.row own n (inner_clock 2 (length n.cells)) run start slowdown
+        (latency / slowdown) (latency % slowdown) p inputs outputs
         some (mod_below latency slowdown some) ins (subst (AreWithin outputs slowdown) (sym shows) outs) one fed
         (subst (λ k. MakesBlocks n p slowdown k inputs outputs) (sym (div-add-mod' latency slowdown)) makes) reset inside driven
 
     stays_own : Stays own columns run start
-    stays_own = they_keep x wrapped.control.gates wrapped.control.row own run start slowdown (latency / slowdown) (latency % slowdown) inputs outputs driven refl
+    stays_own = they_keep x wrapped.control.gates wrapped.control.row own run start slowdown (latency / slowdown)
+        (latency % slowdown) inputs outputs driven refl
 
     goes_on_own : GoesOn own run start slowdown latency inputs outputs
     goes_on_own = subst (λ k. GoesOn own run start slowdown k inputs outputs) (div-add-mod' latency slowdown)
-        (they_go_on x wrapped.control.gates wrapped.control.row own run start slowdown (latency / slowdown) (latency % slowdown) inputs outputs some (mod_below latency slowdown some) ins.first driven refl)
+        (they_go_on x wrapped.control.gates wrapped.control.row own run start slowdown (latency / slowdown) (latency % slowdown) inputs outputs some
+        (mod_below latency slowdown some) ins.first driven refl)
 
-    complete : IsComplete x wrapped.control.gates wrapped.control.row own (placed 2 m.wants.0) (latency / slowdown) wait run start slowdown (latency % slowdown) inputs outputs
+    complete : IsComplete x wrapped.control.gates wrapped.control.row own (placed 2 m.wants.0) (latency / slowdown) wait run start slowdown
+        (latency % slowdown) inputs outputs
     complete = record {
       wired = wired;
       queued = queued;
@@ -180,7 +195,8 @@ module _ (n marked new : Circuit) (m : Marks) (slowdown latency wait : ℕ) (inp
 
   no_paths_own : (a b : List Clock) (start : ℕ) → IsRun new.cells a → IsReset a 0 start → IsRun new.cells b → IsReset b 0 start → HasNoPaths own a b start
   no_paths_own a b start ra reset rb reset_b =
-      they_have_no_paths x wrapped.control.gates wrapped.control.row own (placed 2 m.wants.0) wait a b start slowdown (latency / slowdown) (latency % slowdown) inputs outputs reset.some
+      they_have_no_paths x wrapped.control.gates wrapped.control.row own (placed 2 m.wants.0) wait a b start slowdown (latency / slowdown)
+      (latency % slowdown) inputs outputs reset.some
       (complete a start ra reset) (complete b start rb reset_b)
 
   pub is_stream : IsStream n new slowdown latency inputs outputs
@@ -201,7 +217,8 @@ module _ (n marked new : Circuit) (m : Marks) (slowdown latency wait : ℕ) (inp
   }
 
 -- a circuit and the same with another limit
-pub same_stream : (n new : Circuit) (slowdown latency limit : ℕ) (inputs outputs : List StTree) → IsStream (record n { limit = limit }) new slowdown latency inputs outputs → IsStream n new slowdown latency inputs outputs
+pub same_stream : (n new : Circuit) (slowdown latency limit : ℕ) (inputs outputs : List StTree)
+    → IsStream (record n { limit = limit }) new slowdown latency inputs outputs → IsStream n new slowdown latency inputs outputs
 same_stream n new slowdown latency limit inputs outputs h = record {
   valid = h.valid;
   ready = h.ready;
@@ -221,7 +238,11 @@ same_stream n new slowdown latency limit inputs outputs h = record {
 -- no more blocks than the latency has, and one
 pub wait_few : (latency slowdown last : ℕ) → 0 < slowdown → last < slowdown → (latency + last) / slowdown ≤ latency / slowdown + 1
 wait_few latency slowdown last some low =
-    omega (arith, div_below (latency + last) slowdown (latency / slowdown + 2) some (omega (arith, div-add-mod' latency slowdown, mod_below latency slowdown some, low)))
+    omega (
+      arith,
+      div_below (latency + last) slowdown (latency / slowdown + 2) some
+          (omega (arith, div-add-mod' latency slowdown, mod_below latency slowdown some, low)),
+    )
 
 -- enough blocks for the last result of each
 pub wait_long : (latency slowdown last c : ℕ) → 0 < slowdown → c ≤ last → latency + c < suc ((latency + last) / slowdown) * slowdown

@@ -51,7 +51,8 @@ append_assoc_one (y ∷ xs) ys x = ap (λ vs. y ∷ vs) (append_assoc_one xs ys 
 
 -- ---- choices
 
-choice_net : (cells : List SizedCell) (width : ℕ) (gates : List (List NetId)) (k n wide : ℕ) → k ≤ length gates → StandsBefore cells width k n wide → IsNet (cells ++ map (choice width) (take k gates)) n wide
+choice_net : (cells : List SizedCell) (width : ℕ) (gates : List (List NetId)) (k n wide : ℕ) → k ≤ length gates → StandsBefore cells width k n wide
+    → IsNet (cells ++ map (choice width) (take k gates)) n wide
 choice_net cells width gates k n wide l h = elim h [
   | inl net ↦ net_later (extends_append cells (map (choice width) (take k gates))) net
   | inr made ↦
@@ -65,7 +66,8 @@ choice_net cells width gates k n wide l h = elim h [
       }
 ]
 
-pub choice_allowed : (cells : List SizedCell) (width : ℕ) (gates : List (List NetId)) (k : ℕ) (nets : List NetId) → AreChoices cells width gates → slice_get gates k ≡ Some nets
+pub choice_allowed : (cells : List SizedCell) (width : ℕ) (gates : List (List NetId)) (k : ℕ) (nets : List NetId) → AreChoices cells width gates
+    → slice_get gates k ≡ Some nets
     → IsOperation (cells ++ map (choice width) (take k gates)) Mux nets width
 choice_allowed cells width gates k nets h found =
     let now : List SizedCell = cells ++ map (choice width) (take k gates) in
@@ -98,7 +100,8 @@ control_at [] h n sized found = cc
 control_at (x ∷ more) h zero sized found = subst (λ (y : SizedCell). IsControlCell y.cell) (same_Some x sized found) h.0
 control_at (x ∷ more) h (suc n) sized found = control_at more h.1 n sized found
 
-control_behind : (cells more : List SizedCell) → AreControlCells more → (n : ℕ) (sized : SizedCell) → length cells ≤ n → slice_get (cells ++ more) n ≡ Some sized → IsControlCell sized.cell
+control_behind : (cells more : List SizedCell) → AreControlCells more → (n : ℕ) (sized : SizedCell) → length cells ≤ n
+    → slice_get (cells ++ more) n ≡ Some sized → IsControlCell sized.cell
 control_behind [] more h n sized l found = control_at more h n sized found
 control_behind (x ∷ cells) more h zero sized l found = absurd (omega (arith, l))
 control_behind (x ∷ cells) more h (suc n) sized l found = control_behind cells more h n sized (omega (arith, l)) found
@@ -121,10 +124,12 @@ longer_trans {a} {b} {c} p q = record { extends = extends_trans p.extends q.exte
     ]
 
 pub longer_by : (a b : Circuit) (more : List SizedCell) → b ≡ record a { cells = a.cells ++ more } → AreControlCells more → IsLonger a b
-longer_by a b more e control = rw e (record { extends = extends_append a.cells more; added = control_behind a.cells more control; limit = refl; outlets = refl })
+longer_by a b more e control =
+    rw e (record { extends = extends_append a.cells more; added = control_behind a.cells more control; limit = refl; outlets = refl })
 
 -- a register behind the old cells is connected
-pub longer_set : (a b c : Circuit) (r width : ℕ) (next : NetId) → IsLonger a b → IsRegister b.cells r width → length a.cells ≤ r → c ≡ record b { cells = set b.cells r (taking width next) } → IsLonger a c
+pub longer_set : (a b c : Circuit) (r width : ℕ) (next : NetId) → IsLonger a b → IsRegister b.cells r width → length a.cells ≤ r
+    → c ≡ record b { cells = set b.cells r (taking width next) } → IsLonger a c
 longer_set a b c r width next h reg behind e = rw e (record {
   extends = record {
     keeps = λ n sized found.
@@ -133,7 +138,8 @@ longer_set a b c r width next h reg behind e = rw e (record {
   };
   added = λ n sized l found. elim (cases_eq n r) [
     | inl same ↦
-        let is : taking width next ≡ sized = same_Some (taking width next) sized (sym (get_set_same b.cells r (taking width next) _ reg.found) ∙ (ap (slice_get (set b.cells r (taking width next))) (sym same) ∙ found)) in
+        let is : taking width next ≡ sized = same_Some (taking width next) sized
+        (sym (get_set_same b.cells r (taking width next) _ reg.found) ∙ (ap (slice_get (set b.cells r (taking width next))) (sym same) ∙ found)) in
         subst (λ (y : SizedCell). IsControlCell y.cell) is tt
     | inr apart ↦ h.added n sized l (sym (get_set_other b.cells r n (taking width next) apart) ∙ found)
   ];
@@ -146,7 +152,8 @@ longer_set a b c r width next h reg behind e = rw e (record {
 pub registers_none : (a : Circuit) → HasRegisters a a 0
 registers_none a = record { longer = longer_refl a; long = omega arith; each = λ k l. absurd (omega arith) }
 
-pub registers_more : (a b new : Circuit) (k : ℕ) → HasRegisters a b k → new ≡ record b { cells = b.cells ++ new_register (length b.cells) 1 ∷ [] } → HasRegisters a new (k + 1)
+pub registers_more : (a b new : Circuit) (k : ℕ) → HasRegisters a b k → new ≡ record b { cells = b.cells ++ new_register (length b.cells) 1 ∷ [] }
+    → HasRegisters a new (k + 1)
 registers_more a b new k h e =
     let sized : SizedCell = new_register (length b.cells) 1 in
     let last : slice_get (b.cells ++ sized ∷ []) (length a.cells + k) ≡ Some (new_register (length a.cells + k) 1) =
@@ -155,7 +162,8 @@ registers_more a b new k h e =
       longer = longer_trans h.longer (longer_by b _ (sized ∷ []) refl (tt, tt));
       long = omega (arith, length-append b.cells (sized ∷ []), h.long);
       each = λ i l. elim (cases_eq i k) [
-        | inl same ↦ ap (λ n. slice_get (b.cells ++ sized ∷ []) (length a.cells + n)) same ∙ (last ∙ ap (λ n. Some (new_register (length a.cells + n) 1)) (sym same))
+        | inl same ↦ ap (λ n. slice_get (b.cells ++ sized ∷ []) (length a.cells + n)) same ∙
+            (last ∙ ap (λ n. Some (new_register (length a.cells + n) 1)) (sym same))
         | inr apart ↦ get_left b.cells (sized ∷ []) (length a.cells + i) (new_register (length a.cells + i) 1) (h.each i (omega (arith, apart)))
       ];
     })
@@ -163,16 +171,19 @@ registers_more a b new k h e =
 -- ---- connected registers
 
 pub connected_none : (a : Circuit) (first next : ℕ) → AreConnected a a first next 0
-connected_none a first next = record { each = λ k l. absurd (omega arith); others = λ n sized o h. h; nets = λ n w h. h; long = refl; limit = refl; outlets = refl }
+connected_none a first next =
+    record { each = λ k l. absurd (omega arith); others = λ n sized o h. h; nets = λ n w h. h; long = refl; limit = refl; outlets = refl }
 
 -- the next one is still as it was
-pub still_register : (a b : Circuit) (first count next k : ℕ) → CanConnect a.cells first count next → AreConnected a b first next k → k < count → IsRegister b.cells (first + k) 1
+pub still_register : (a b : Circuit) (first count next k : ℕ) → CanConnect a.cells first count next → AreConnected a b first next k → k < count
+    → IsRegister b.cells (first + k) 1
 still_register a b first count next k can h l =
     let own = can.registers k l in
     record { next = own.0; found = h.others (first + k) _ (inr (omega arith)) own.1 }
 
 pub connected_more : (a b new : Circuit) (first count next k w : ℕ) → CanConnect a.cells first count next → AreConnected a b first next k → k < count → w ≡ 1
-    → new ≡ record b { cells = set b.cells (first + k) (record { width = w; cell = Reg (record { 0 = next + 2 * k }) }) } → AreConnected a new first next (k + 1)
+    → new ≡ record b { cells = set b.cells (first + k) (record { width = w; cell = Reg (record { 0 = next + 2 * k }) }) }
+    → AreConnected a new first next (k + 1)
 connected_more a b new first count next k w can h l is e =
     let reg : IsRegister b.cells (first + k) 1 = still_register a b first count next k can h l in
     let sized : SizedCell = taking 1 (record { 0 = next + 2 * k }) in
@@ -203,7 +214,8 @@ longer_connected a b c first next count h connected behind = record {
     | inr high ↦ elim (cases_lt n (first + count)) [
       | inl low ↦
           let e : first + (n - first) ≡ n = omega (arith, high) in
-          let is : taking 1 (record { 0 = next + 2 * (n - first) }) ≡ sized = same_Some _ sized (sym (connected.each (n - first) (omega (arith, high, low))) ∙ (ap (slice_get c.cells) e ∙ found)) in
+          let is : taking 1 (record { 0 = next + 2 * (n - first) }) ≡ sized = same_Some _ sized
+          (sym (connected.each (n - first) (omega (arith, high, low))) ∙ (ap (slice_get c.cells) e ∙ found)) in
           subst (λ (y : SizedCell). IsControlCell y.cell) is tt
       | inr far ↦ same n sized l found (inr far)
     ]
@@ -223,17 +235,21 @@ longer_connected a b c first next count h connected behind = record {
 abbrev kind_test : (Cell → Bool) → SizedCell → Bool
 kind_test kind sized = kind sized.cell
 
-none_of : (kind : Cell → Bool) (cells : List SizedCell) → ((n : ℕ) (sized : SizedCell) → slice_get cells n ≡ Some sized → kind sized.cell ≡ false) → cells_of kind cells ≡ []
+none_of : (kind : Cell → Bool) (cells : List SizedCell) → ((n : ℕ) (sized : SizedCell) → slice_get cells n ≡ Some sized → kind sized.cell ≡ false)
+    → cells_of kind cells ≡ []
 none_of kind [] h = refl
-none_of kind (x ∷ cells) h = ap (λ b. cond b (x ∷ cells_of kind cells) (cells_of kind cells)) (h 0 x refl) ∙ none_of kind cells (λ n sized found. h (suc n) sized found)
+none_of kind (x ∷ cells) h =
+    ap (λ b. cond b (x ∷ cells_of kind cells) (cells_of kind cells)) (h 0 x refl) ∙ none_of kind cells (λ n sized found. h (suc n) sized found)
 
 -- what is behind the old cells is none of a kind
-pub same_kind : (kind : Cell → Bool) (old new : List SizedCell) → Extends old new → ((n : ℕ) (sized : SizedCell) → length old ≤ n → slice_get new n ≡ Some sized → kind sized.cell ≡ false) → cells_of kind new ≡ cells_of kind old
+pub same_kind : (kind : Cell → Bool) (old new : List SizedCell) → Extends old new
+    → ((n : ℕ) (sized : SizedCell) → length old ≤ n → slice_get new n ≡ Some sized → kind sized.cell ≡ false) → cells_of kind new ≡ cells_of kind old
 same_kind kind [] new e none = none_of kind new (λ n sized found. none n sized (omega arith) found)
 same_kind kind (x ∷ old) [] e none = (let f : None ≡ Some x = e.keeps 0 x refl in absurd (none-some x f))
 same_kind kind (x ∷ old) (y ∷ new) e none =
     let same : y ≡ x = same_Some y x (e.keeps 0 x refl) in
-    let rest : cells_of kind new ≡ cells_of kind old = same_kind kind old new (record { keeps = λ n sized found. e.keeps (suc n) sized found }) (λ n sized l found. none (suc n) sized (omega (arith, l)) found) in
+    let rest : cells_of kind new ≡ cells_of kind old = same_kind kind old new (record { keeps = λ n sized found. e.keeps (suc n) sized found })
+    (λ n sized l found. none (suc n) sized (omega (arith, l)) found) in
     ap (λ (l : List SizedCell). cond (kind y.cell) (y ∷ l) l) rest ∙ ap (λ (z : SizedCell). cond (kind z.cell) (z ∷ cells_of kind old) (cells_of kind old)) same
 
 pub same_count : (kind : Cell → Bool) (old new : List SizedCell) → cells_of kind new ≡ cells_of kind old → count_of kind new ≡ count_of kind old
@@ -248,14 +264,16 @@ abbrev counted : (Cell → Bool) → SizedCell → ℕ
 counted kind sized = cond (kind sized.cell) 1 0
 
 -- as many as before are the same
-pub same_cells : (kind : Cell → Bool) (old new : List SizedCell) → Extends old new → count_of kind new ≡ count_of kind old → cells_of kind new ≡ cells_of kind old
+pub same_cells : (kind : Cell → Bool) (old new : List SizedCell) → Extends old new → count_of kind new ≡ count_of kind old
+    → cells_of kind new ≡ cells_of kind old
 same_cells kind [] new e count = no_length (cells_of kind new) (length-filter (kind_test kind) new ∙ count)
 same_cells kind (x ∷ old) [] e count = (let f : None ≡ Some x = e.keeps 0 x refl in absurd (none-some x f))
 same_cells kind (x ∷ old) (y ∷ new) e count =
     let same : y ≡ x = same_Some y x (e.keeps 0 x refl) in
     let a : count_of kind (y ∷ new) ≡ counted kind y + count_of kind new = sum_by-cons (counted kind) y new in
     let b : count_of kind (x ∷ old) ≡ counted kind x + count_of kind old = sum_by-cons (counted kind) x old in
-    let rest : cells_of kind new ≡ cells_of kind old = same_cells kind old new (record { keeps = λ n sized found. e.keeps (suc n) sized found }) (omega (arith, count, a, b, ap (counted kind) same)) in
+    let rest : cells_of kind new ≡ cells_of kind old = same_cells kind old new (record { keeps = λ n sized found. e.keeps (suc n) sized found })
+    (omega (arith, count, a, b, ap (counted kind) same)) in
     ap (λ (l : List SizedCell). cond (kind y.cell) (y ∷ l) l) rest ∙ ap (λ (z : SizedCell). cond (kind z.cell) (z ∷ cells_of kind old) (cells_of kind old)) same
 
 pub no_input : (cell : Cell) → IsControlCell cell → is_input cell ≡ false
@@ -293,5 +311,6 @@ net_within {cells} {n} h = slice_get_within cells n h.sized h.found
 pub longer_length : {a b : Circuit} → IsLonger a b → length a.cells ≤ length b.cells
 longer_length {a} {b} h = extends_length a.cells b.cells h.extends
 
-pub last_choice : (a b : Circuit) (width n : ℕ) (nets : List NetId) → n ≡ length a.cells → b ≡ record a { cells = a.cells ++ choice width nets ∷ [] } → IsNet b.cells n width
+pub last_choice : (a b : Circuit) (width n : ℕ) (nets : List NetId) → n ≡ length a.cells → b ≡ record a { cells = a.cells ++ choice width nets ∷ [] }
+    → IsNet b.cells n width
 last_choice a b width n nets e is = rw (is, e) (record { sized = choice width nets; found = get_pushed a.cells (choice width nets); plain = tt; wide = refl })

@@ -32,7 +32,8 @@ use Rattle.ae_streamed.proofs.Queueing.{own_width}
 
 -- ---- a control and its queues go on to be what they are where their cells are kept
 
-control_kept : {from blocks wait : ℕ} {a b : List SizedCell} {w : Wires} {c : Controlled} → KeepsFrom from a b → IsControl from a w blocks wait c → IsControl from b w blocks wait c
+control_kept : {from blocks wait : ℕ} {a b : List SizedCell} {w : Wires} {c : Controlled} → KeepsFrom from a b → IsControl from a w blocks wait c
+    → IsControl from b w blocks wait c
 control_kept k h = record {
   gates = h.gates;
   row = h.row;
@@ -44,13 +45,22 @@ control_kept k h = record {
   last = h.last;
   late = h.late;
   behind = h.behind;
-  wired = λ made second ins outs in_columns columns all keeps. h.wired made second ins outs in_columns columns all (λ n sized l f. keeps n sized l (k n sized l f));
+  wired = λ made second ins outs in_columns columns all keeps. h.wired made second ins outs in_columns columns all
+      (λ n sized l f. keeps n sized l (k n sized l f));
   moves = λ all keeps. h.moves all (λ n sized l f. keeps n sized l (k n sized l f));
 }
 
 columns_kept : {from : ℕ} {a b : List SizedCell} {c : Controlled} {made : List NetId} → KeepsFrom from a b → AreColumns from a c made → AreColumns from b c made
 columns_kept {from = from} k h = record {
-  nets = λ q l. (let one = h.nets q l in (one.0, record { sized = one.1.sized; found = k (from + 4 * q) one.1.sized (omega arith) one.1.found; plain = one.1.plain; wide = one.1.wide }));
+  nets = λ q l. (let one = h.nets q l in (
+    one.0,
+    record {
+      sized = one.1.sized;
+      found = k (from + 4 * q) one.1.sized (omega arith) one.1.found;
+      plain = one.1.plain;
+      wide = one.1.wide;
+    },
+  ));
   queued = λ w takes here shows in_columns ins all keeps. h.queued w takes here shows in_columns ins all (λ n sized l f. keeps n sized l (k n sized l f));
 }
 
@@ -66,7 +76,8 @@ nets_later e h = record {
   moves = net_later e h.moves;
 }
 
-pub has_driver : (old one two new : Circuit) (m : Marks) (w : Wires) (blocks wait at : ℕ) (made : List NetId) (outlets : List Outlet) (c : Controlled) → w ≡ wires_of m → IsLonger old one → IsControl (length old.cells) one.cells w blocks wait c
+pub has_driver : (old one two new : Circuit) (m : Marks) (w : Wires) (blocks wait at : ℕ) (made : List NetId) (outlets : List Outlet) (c : Controlled)
+    → w ≡ wires_of m → IsLonger old one → IsControl (length old.cells) one.cells w blocks wait c
     → HasControlNets (length old.cells) one.cells c → at ≡ length one.cells → IsLonger one two → AreColumns (length one.cells) two.cells c made
     → new.cells ≡ two.cells → new.limit ≡ two.limit → AreShownBy c at outlets new.outlets → HasDriver old new m blocks wait made outlets c
 has_driver old one two new m w blocks wait at made outlets c is first control nets here then_two columns cells limit shown =
@@ -110,16 +121,20 @@ pub record AreFirstShown (c : Controlled) (at count : ℕ) (old outlets : List O
   pub one : outlet_net outlets 1 ≡ c.one.0
   pub columns : (k : ℕ) → k < count → outlet_net outlets (2 + k) ≡ at + 4 * k
 
-pub shown_none : (c : Controlled) (at : ℕ) (old none one two : List Outlet) → none ≡ [] → one ≡ none ++ output source_ready c.asks.0 ∷ [] → two ≡ one ++ output sink_valid c.one.0 ∷ []
+pub shown_none : (c : Controlled) (at : ℕ) (old none one two : List Outlet) → none ≡ [] → one ≡ none ++ output source_ready c.asks.0 ∷ [] → two ≡ one
+    ++ output sink_valid c.one.0 ∷ []
     → AreFirstShown c at 0 old two
-shown_none c at old none one two en e1 e2 = rw (e2, e1, en) (record { ports = refl; long = refl; asks = refl; one = refl; columns = λ k l. absurd (omega (arith, l)) })
+shown_none c at old none one two en e1 e2 =
+    rw (e2, e1, en) (record { ports = refl; long = refl; asks = refl; one = refl; columns = λ k l. absurd (omega (arith, l)) })
 
-pub shown_more : (c : Controlled) (at count : ℕ) (old before after : List Outlet) (o : Outlet) → slice_get old count ≡ Some o → AreFirstShown c at count old before
+pub shown_more : (c : Controlled) (at count : ℕ) (old before after : List Outlet) (o : Outlet) → slice_get old count ≡ Some o
+    → AreFirstShown c at count old before
     → after ≡ before ++ output o.port (at + 4 * count) ∷ [] → AreFirstShown c at (count + 1) old after
 shown_more c at count old before after x found h e =
     let o : Outlet = output x.port (at + 4 * count) in
     rw e (record {
-      ports = ports_append before o ∙ (ap (λ v. v ++ x.port ∷ []) h.ports ∙ ap (λ v. source_ready ∷ sink_valid ∷ v) (sym (next_first (λ (o : Outlet). o.port) old count x found)));
+      ports = ports_append before o ∙ (ap (λ v. v ++ x.port ∷ []) h.ports ∙
+          ap (λ v. source_ready ∷ sink_valid ∷ v) (sym (next_first (λ (o : Outlet). o.port) old count x found)));
       long = omega (arith, length-append before (o ∷ []), h.long);
       asks = outlet_left before o 0 (omega (arith, h.long)) ∙ h.asks;
       one = outlet_left before o 1 (omega (arith, h.long)) ∙ h.one;
@@ -133,7 +148,8 @@ shown_more c at count old before after x found h e =
         ap (outlet_net (before ++ o ∷ [])) far ∙ (outlet_last before o ∙ ap (λ v. at + 4 * v) (sym same))
     column k l (inr apart) = outlet_left before (output x.port (at + 4 * count)) (2 + k) (omega (arith, h.long, apart)) ∙ h.columns k (omega (arith, l, apart))
 
-pub all_shown : (c : Controlled) (at count : ℕ) (old outlets : List Outlet) → count ≡ length old → AreFirstShown c at count old outlets → AreShownBy c at old outlets
+pub all_shown : (c : Controlled) (at count : ℕ) (old outlets : List Outlet) → count ≡ length old → AreFirstShown c at count old outlets
+    → AreShownBy c at old outlets
 all_shown c at count old outlets end h = record {
   ports = h.ports ∙ ap (λ v. source_ready ∷ sink_valid ∷ ports_of v) (ap (λ k. take k old) end ∙ take-length old);
   long = h.long ∙ ap (λ k. 2 + k) end;
@@ -160,7 +176,8 @@ copied_net {n = n} c h = record {
   wide = h.wide;
 }
 
-pub copied_wires : (old new : List SizedCell) (m : Marks) → slice_get old 0 ≡ Some reset_cell → AreMarkNets old m → IsCopied channel_inputs old new (length old) → AreWires new (wires_of m)
+pub copied_wires : (old new : List SizedCell) (m : Marks) → slice_get old 0 ≡ Some reset_cell → AreMarkNets old m
+    → IsCopied channel_inputs old new (length old) → AreWires new (wires_of m)
 copied_wires old new m reset marks c = record {
   reset = copied_net c (record { sized = reset_cell; found = reset; plain = tt; wide = refl });
   valid = record { sized = _; found = c.inputs 0 source_valid refl; plain = tt; wide = refl };
@@ -173,13 +190,15 @@ copied_wires old new m reset marks c = record {
 }
 
 -- the nets of the outputs stand in the copy
-pub made_nets : (old new : List SizedCell) (outlets : List Outlet) (made : List NetId) → made ≡ copied_nets outlets → HaveNets old outlets → IsCopied channel_inputs old new (length old)
+pub made_nets : (old new : List SizedCell) (outlets : List Outlet) (made : List NetId) → made ≡ copied_nets outlets → HaveNets old outlets
+    → IsCopied channel_inputs old new (length old)
     → (k : ℕ) (n : NetId) → slice_get made k ≡ Some n → IsNet new n.0 (width_of new n.0)
 made_nets old new outlets made is have c k n found =
     let o = of_mapped (λ (o : Outlet). placed_net 2 o.net) outlets k n (ap (λ v. slice_get v k) (sym is) ∙ found) in
     subst (λ (v : NetId). IsNet new v.0 (width_of new v.0)) o.2 (own_width (copied_net c (have.each k o.0 o.1)))
 
-pub may_be_held : (old copied driven : Circuit) (m : Marks) (blocks wait : ℕ) (made : List NetId) (outlets : List Outlet) (c : Controlled) → slice_get old.cells 0 ≡ Some reset_cell → IsCopied channel_inputs old.cells copied.cells (length old.cells)
+pub may_be_held : (old copied driven : Circuit) (m : Marks) (blocks wait : ℕ) (made : List NetId) (outlets : List Outlet) (c : Controlled)
+    → slice_get old.cells 0 ≡ Some reset_cell → IsCopied channel_inputs old.cells copied.cells (length old.cells)
     → HasDriver copied driven m blocks wait made outlets c → MayBeHeld 2 c.enable.0 old.cells driven.cells
 may_be_held old copied driven m blocks wait made outlets c reset h d = record {
   some = h.some;
@@ -193,7 +212,8 @@ net_kept : {from : ℕ} {a b : List SizedCell} {n width : ℕ} → KeepsFrom fro
 net_kept {n = n} keeps low h = record { sized = h.sized; found = keeps n h.sized low h.found; plain = h.plain; wide = h.wide }
 
 -- beside the copy stand its inputs and the control
-pub driver_around : (marked copied driven : List SizedCell) → IsCopied channel_inputs marked copied (length marked) → Extends copied driven → AddsControl copied driven → HasLogicAround 2 marked driven
+pub driver_around : (marked copied driven : List SizedCell) → IsCopied channel_inputs marked copied (length marked) → Extends copied driven
+    → AddsControl copied driven → HasLogicAround 2 marked driven
 driver_around marked copied driven h extends added = λ m sized apart found. elim (cases_lt m (length copied)) [
   | inl low ↦
       let x = there copied m low in
@@ -202,13 +222,18 @@ driver_around marked copied driven h extends added = λ m sized apart found. eli
   | inr high ↦ is_logic sized.cell (added m sized high found)
 ]
 
-pub is_wrapped : (marked copied driven new : Circuit) (m : Marks) (blocks wait : ℕ) (made : List NetId) (c : Controlled) → made ≡ copied_nets marked.outlets → IsCopied channel_inputs marked.cells copied.cells (length marked.cells)
-    → HasDriver copied driven m blocks wait made marked.outlets c → IsHeld 2 c.enable.0 marked driven new → length driven.cells ≤ length copied.cells + control_cells blocks + 4 * length marked.outlets
+pub is_wrapped : (marked copied driven new : Circuit) (m : Marks) (blocks wait : ℕ) (made : List NetId) (c : Controlled) → made ≡ copied_nets marked.outlets
+    → IsCopied channel_inputs marked.cells copied.cells (length marked.cells)
+    → HasDriver copied driven m blocks wait made marked.outlets c → IsHeld 2 c.enable.0 marked driven new
+    → length driven.cells ≤ length copied.cells + control_cells blocks + 4 * length marked.outlets
     → (HasLogicAround 2 marked.cells driven.cells → AreWhole marked.cells → AreWhole new.cells) → IsWrapped marked new m blocks wait
 is_wrapped marked copied driven new m blocks wait made c is h d held few whole =
-    let kinds : HasKinds (map bit_input channel_inputs) marked.cells copied.cells = subst (λ (some : List SizedCell). HasKinds (map bit_input channel_inputs) some copied.cells) (take-length marked.cells) h.kinds in
-    let inputs : cells_of is_input driven.cells ≡ cells_of is_input copied.cells = same_kind is_input copied.cells driven.cells d.extends (λ n sized l f. no_input sized.cell (d.added n sized l f)) in
-    let muls : cells_of is_mul driven.cells ≡ cells_of is_mul copied.cells = same_kind is_mul copied.cells driven.cells d.extends (λ n sized l f. no_mul sized.cell (d.added n sized l f)) in
+    let kinds : HasKinds (map bit_input channel_inputs) marked.cells copied.cells = subst
+    (λ (some : List SizedCell). HasKinds (map bit_input channel_inputs) some copied.cells) (take-length marked.cells) h.kinds in
+    let inputs : cells_of is_input driven.cells ≡ cells_of is_input copied.cells = same_kind is_input copied.cells driven.cells d.extends
+    (λ n sized l f. no_input sized.cell (d.added n sized l f)) in
+    let muls : cells_of is_mul driven.cells ≡ cells_of is_mul copied.cells = same_kind is_mul copied.cells driven.cells d.extends
+    (λ n sized l f. no_mul sized.cell (d.added n sized l f)) in
     let size : length copied.cells ≡ length marked.cells + 2 = h.long in
     let keeps : KeepsFrom (length marked.cells + 2) driven.cells new.cells = λ n sized l f. held.keeps n sized (inr l) f in
     let later : KeepsFrom d.at driven.cells new.cells = λ n sized l f. held.keeps n sized (inr (omega (arith, size, d.behind, l))) f in

@@ -20,7 +20,8 @@ part_cells s t e p = adds_most (beat_cells s) (omega (arith, e)) p
 pub mark_more : {a b c : Circuit} (s t : StTree) → st_depth s ≡ st_depth t + 1 → Adds a b (beat_cells t) 0 → Adds b c 21 0 → Adds a c (beat_cells s) 0
 mark_more s t e p q = adds_most (beat_cells s) (omega (arith, e)) (adds_trans p q)
 
-pub gate_more : {a b c d : Circuit} (s t : StTree) → st_depth s ≡ st_depth t + 1 → Adds a b (beat_cells t) 0 → Adds b c 21 0 → Adds c d 1 0 → Adds a d (beat_cells s) 0
+pub gate_more : {a b c d : Circuit} (s t : StTree) → st_depth s ≡ st_depth t + 1 → Adds a b (beat_cells t) 0 → Adds b c 21 0 → Adds c d 1 0
+    → Adds a d (beat_cells s) 0
 gate_more s t e p q r = adds_most (beat_cells s) (omega (arith, e)) (adds_trans (adds_trans p q) r)
 
 -- ---- the first so many layouts
@@ -41,16 +42,19 @@ next_cells k layouts s found =
     ap (sum_by each) (next_first st_tree layouts k s found) ∙ sum_by_push each (map st_tree (take k layouts)) (st_tree s) in
     omega (arith, e)
 
-pub turn_cells : {a b c d : Circuit} (k : ℕ) (layouts : List StType) (s : StType) → slice_get layouts k ≡ Some s → Adds a b (any_beat_cells (map st_tree (take k layouts))) 0
+pub turn_cells : {a b c d : Circuit} (k : ℕ) (layouts : List StType) (s : StType) → slice_get layouts k ≡ Some s
+    → Adds a b (any_beat_cells (map st_tree (take k layouts))) 0
     → Adds b c (beat_cells (st_tree s)) 0 → Adds c d 1 0 → Adds a d (any_beat_cells (map st_tree (take (k + 1) layouts))) 0
 turn_cells k layouts s found p q r =
     adds_most (any_beat_cells (map st_tree (take (k + 1) layouts))) (omega (arith, next_cells k layouts s found)) (adds_trans (adds_trans p q) r)
 
 -- no more than of all
-pub some_cells : {a b : Circuit} (k : ℕ) (layouts : List StType) → Adds a b (any_beat_cells (map st_tree (take k layouts))) 0 → Adds a b (any_beat_cells (map st_tree layouts)) 0
+pub some_cells : {a b : Circuit} (k : ℕ) (layouts : List StType) → Adds a b (any_beat_cells (map st_tree (take k layouts))) 0
+    → Adds a b (any_beat_cells (map st_tree layouts)) 0
 some_cells k layouts p = adds_most (any_beat_cells (map st_tree layouts)) (omega (arith, first_cells k layouts)) p
 
-pub stopped_cells : {a b c : Circuit} (k : ℕ) (layouts : List StType) (s : StType) → slice_get layouts k ≡ Some s → Adds a b (any_beat_cells (map st_tree (take k layouts))) 0
+pub stopped_cells : {a b c : Circuit} (k : ℕ) (layouts : List StType) (s : StType) → slice_get layouts k ≡ Some s
+    → Adds a b (any_beat_cells (map st_tree (take k layouts))) 0
     → Adds b c (beat_cells (st_tree s)) 0 → Adds a c (any_beat_cells (map st_tree layouts)) 0
 stopped_cells k layouts s found p q =
     adds_most (any_beat_cells (map st_tree layouts)) (omega (arith, next_cells k layouts s found, first_cells (k + 1) layouts)) (adds_trans p q)
@@ -73,5 +77,6 @@ module _ (inputs outputs : List StTree) where
   pub marks4 : {a b c d e : Circuit} → Adds a b 21 0 → Adds b c 21 0 → Adds c d (any_beat_cells inputs) 0 → Adds d e (any_beat_cells outputs) 0 → Adds a e all 0
   marks4 p q r s = adds_most all (omega arith) (adds_trans (adds_trans (adds_trans p q) r) s)
 
-  pub marks5 : {a b c d e f : Circuit} → Adds a b 21 0 → Adds b c 21 0 → Adds c d (any_beat_cells inputs) 0 → Adds d e (any_beat_cells outputs) 0 → Adds e f 21 0 → Adds a f all 0
+  pub marks5 : {a b c d e f : Circuit} → Adds a b 21 0 → Adds b c 21 0 → Adds c d (any_beat_cells inputs) 0 → Adds d e (any_beat_cells outputs) 0
+      → Adds e f 21 0 → Adds a f all 0
   marks5 p q r s t = adds_most all (omega arith) (adds_trans (adds_trans (adds_trans (adds_trans p q) r) s) t)

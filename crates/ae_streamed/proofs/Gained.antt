@@ -17,9 +17,12 @@ use Rattle.ae_streamed.proofs.Phasing.{first_is, last_is, phase_first, phase_lat
 pub belongs_new : (clocks : Kept) (cells : List SizedCell) → clocks ≡ record { rst = 0; counters = [] } → IsNet cells 0 1 → Belongs clocks cells
 belongs_new clocks cells is h = rw is (record { rst = h; counters = λ phase net found. cc })
 
-module _ (a b c d e f : Circuit) (k0 k1 k2 k3 k4 k5 : Kept) (m : Marks) (slowdown r : ℕ) (inputs outputs : List StTree) (some : 0 < slowdown) (low : r < slowdown) (reset : k0.rst ≡ 0)
-    (first : GainsBit a b k0 k1 m.first.0 (λ t. nat_lt (phase_of slowdown 0 t) 1)) (last : GainsBit b c k1 k2 m.last.0 (λ t. nat_lt (phase_of slowdown (slowdown - 1) t) 1))
-    (wants : GainsBit c d k2 k3 m.wants.0 (λ t. is_beat inputs (phase_of slowdown 0 t))) (late : GainsBit d e k3 k4 m.late.0 (λ t. is_beat outputs (phase_of slowdown r t)))
+module _ (a b c d e f : Circuit) (k0 k1 k2 k3 k4 k5 : Kept) (m : Marks) (slowdown r : ℕ) (inputs outputs : List StTree) (some : 0 < slowdown)
+    (low : r < slowdown) (reset : k0.rst ≡ 0)
+    (first : GainsBit a b k0 k1 m.first.0 (λ t. nat_lt (phase_of slowdown 0 t) 1))
+    (last : GainsBit b c k1 k2 m.last.0 (λ t. nat_lt (phase_of slowdown (slowdown - 1) t) 1))
+    (wants : GainsBit c d k2 k3 m.wants.0 (λ t. is_beat inputs (phase_of slowdown 0 t)))
+    (late : GainsBit d e k3 k4 m.late.0 (λ t. is_beat outputs (phase_of slowdown r t)))
     (behind : GainsBit e f k4 k5 m.behind.0 (λ t. nat_lt (phase_of slowdown 0 t) r)) where
   from_c : Grows c f
   from_c = grows_trans wants.grows (grows_trans late.grows behind.grows)
@@ -41,10 +44,13 @@ module _ (a b c d e f : Circuit) (k0 k1 k2 k3 k4 k5 : Kept) (m : Marks) (slowdow
 
   pub has_marks : HasMarks f.cells m slowdown r inputs outputs
   has_marks = record {
-    first = bit_same _ (λ t. t % slowdown == 0) (λ t. first_is slowdown t) (at_zero f.cells k0.rst m.first.0 _ reset (bit_later (grows_trans last.grows from_c) first.told));
+    first = bit_same _ (λ t. t % slowdown == 0) (λ t. first_is slowdown t)
+        (at_zero f.cells k0.rst m.first.0 _ reset (bit_later (grows_trans last.grows from_c) first.told));
     last = bit_same _ (λ t. t % slowdown == slowdown - 1) (λ t. last_is slowdown t some) (at_zero f.cells k1.rst m.last.0 _ r1 (bit_later from_c last.told));
-    wants = bit_same _ (λ t. is_beat inputs (t % slowdown)) (λ t. ap (is_beat inputs) (phase_first slowdown t)) (at_zero f.cells k2.rst m.wants.0 _ r2 (bit_later (grows_trans late.grows behind.grows) wants.told));
+    wants = bit_same _ (λ t. is_beat inputs (t % slowdown)) (λ t. ap (is_beat inputs) (phase_first slowdown t))
+        (at_zero f.cells k2.rst m.wants.0 _ r2 (bit_later (grows_trans late.grows behind.grows) wants.told));
     late = bit_same _ (λ t. is_beat outputs (late_clock slowdown r (t % slowdown))) (λ t. ap (is_beat outputs) (phase_late slowdown r t some low))
         (at_zero f.cells k3.rst m.late.0 _ r3 (bit_later behind.grows late.told));
-    behind = bit_same _ (λ t. nat_lt (t % slowdown) r) (λ t. ap (λ p. nat_lt p r) (phase_first slowdown t)) (at_zero f.cells k4.rst m.behind.0 _ r4 behind.told);
+    behind = bit_same _ (λ t. nat_lt (t % slowdown) r) (λ t. ap (λ p. nat_lt p r) (phase_first slowdown t))
+        (at_zero f.cells k4.rst m.behind.0 _ r4 behind.told);
   }

@@ -44,7 +44,8 @@ last_tseq n i t clock h last =
     let whole : (n - 1 + 1) * k ≡ n * k = ap (λ v. v * k) many in
     let below : x < n * k = omega (arith, whole, low) in
     record {
-      stands = in_slots_later n i t x h ∙ (ap (λ b. b && in_clock (slots t) (x % k)) (lt_is x (n * k) below) ∙ (ap (in_clock (slots t)) (mod-mul-add (n - 1) k clock low) ∙ last.stands));
+      stands = in_slots_later n i t x h ∙ (ap (λ b. b && in_clock (slots t) (x % k)) (lt_is x (n * k) below) ∙
+          (ap (in_clock (slots t)) (mod-mul-add (n - 1) k clock low) ∙ last.stands));
       greatest = λ c stands.
           let b = both_true (nat_lt c (n * k)) (in_clock (slots t) (c % k)) (sym (in_slots_later n i t c h) ∙ stands) in
           let copy : c / k < n = div_below c k n some (is_lt c (n * k) b.0) in
@@ -124,7 +125,8 @@ last_more layouts s clock one h last = record {
         let e : max clock one ≡ clock = omega (arith, more) in
         by (length layouts) refl more e
   ];
-  greatest = λ c stands. either_true (is_beat layouts c) (in_clock (slots s) c) (c ≤ max clock one) (λ b. omega (arith, h.greatest c b)) (λ b. omega (arith, last.greatest c b)) (beat_more layouts s c ∙ stands);
+  greatest = λ c stands. either_true (is_beat layouts c) (in_clock (slots s) c) (c ≤ max clock one) (λ b. omega (arith, h.greatest c b))
+      (λ b. omega (arith, last.greatest c b)) (beat_more layouts s c ∙ stands);
   none = λ e. absurd (omega (arith, length-append layouts (s ∷ []), e));
 }
   where
@@ -132,14 +134,17 @@ last_more layouts s clock one h last = record {
     by zero is more e =
         let z : max clock one ≡ one = omega (arith, h.none is, more) in
         right_true (is_beat layouts (max clock one)) (in_clock (slots s) (max clock one)) (ap (in_clock (slots s)) z ∙ last.stands)
-    by (suc k) is more e = left_true (is_beat layouts (max clock one)) (in_clock (slots s) (max clock one)) (ap (is_beat layouts) e ∙ h.stands (omega (arith, is)))
+    by (suc k) is more e = left_true (is_beat layouts (max clock one)) (in_clock (slots s) (max clock one))
+        (ap (is_beat layouts) e ∙ h.stands (omega (arith, is)))
 
-pub last_is : (layouts : List StType) (slowdown clock : ℕ) → AreLayouts slowdown layouts → IsLastOf (map st_tree layouts) clock → IsLastBeat (map st_tree layouts) clock
+pub last_is : (layouts : List StType) (slowdown clock : ℕ) → AreLayouts slowdown layouts → IsLastOf (map st_tree layouts) clock
+    → IsLastBeat (map st_tree layouts) clock
 last_is [] slowdown clock h last = absurd (omega (arith, h.some))
 last_is (x ∷ xs) slowdown clock h last = record { stands = last.stands (omega arith); greatest = last.greatest }
 
 -- no element of such layouts stands behind the block
-pub beat_below : (layouts : List StType) (slowdown c : ℕ) → ((k : ℕ) (layout : StType) → slice_get layouts k ≡ Some layout → HasLengths (st_tree layout) × (time (st_tree layout) ≡ slowdown))
+pub beat_below : (layouts : List StType) (slowdown c : ℕ)
+    → ((k : ℕ) (layout : StType) → slice_get layouts k ≡ Some layout → HasLengths (st_tree layout) × (time (st_tree layout) ≡ slowdown))
     → is_beat (map st_tree layouts) c ≡ true → c < slowdown
 beat_below [] slowdown c h stands = (let e : false ≡ true = stands in cc)
 beat_below (x ∷ xs) slowdown c h stands =

@@ -57,7 +57,8 @@ pub last_is : (slowdown t : ℕ) → 0 < slowdown → nat_lt (phase_of slowdown 
 last_is slowdown t some =
     let c : ℕ = t % slowdown in
     let low : c < slowdown = mod_below t slowdown some in
-    ap (λ n. nat_lt n 1) (phase_late slowdown (slowdown - 1) t some (omega arith)) ∙ (below_one (late_clock slowdown (slowdown - 1) c) ∙ elim (cases_eq c (slowdown - 1)) [
+    ap (λ n. nat_lt n 1) (phase_late slowdown (slowdown - 1) t some (omega arith)) ∙
+    (below_one (late_clock slowdown (slowdown - 1) c) ∙ elim (cases_eq c (slowdown - 1)) [
       | inl e ↦ rw e (at_end slowdown)
       | inr ne ↦
           let b : nat_lt c (slowdown - 1) ≡ true = lt_is c (slowdown - 1) (omega (arith, ne)) in

@@ -21,7 +21,8 @@ module _ (all : List SizedCell) (c : Controlled) (made : NetId) (at : ℕ) (h : 
   unfolding word_at
   word_of width n k a b found t l = r.settles t n (choice width (row k a b)) l found
 
-  taken : (width n m : ℕ) → slice_get all n ≡ Some (taking width (net m)) → (t : ℕ) → t + 1 < length run → word_in n (get_or run (t + 1) no_clock) ≡ word_in m (get_or run t no_clock)
+  taken : (width n m : ℕ) → slice_get all n ≡ Some (taking width (net m)) → (t : ℕ) → t + 1 < length run
+      → word_in n (get_or run (t + 1) no_clock) ≡ word_in m (get_or run t no_clock)
   unfolding word_at
   taken width n m found t l = r.steps t n (taking width (net m)) l found
 
@@ -29,8 +30,10 @@ module _ (all : List SizedCell) (c : Controlled) (made : NetId) (at : ℕ) (h : 
       ≡ next_b (bit c.two.0 (get_or run t no_clock)) (word_in (at + 1) (get_or run t no_clock)) (word_in made.0 (get_or run t no_clock))
   second_next t l = taken h.width (at + 1) (at + 2) h.second t l ∙ word_of h.width (at + 2) c.two.0 (at + 1) made.0 h.next t (omega arith)
 
-  pub shown_next : (pop one : Bool) (t : ℕ) → t + 1 < length run → bit c.moves.0 (get_or run t no_clock) ≡ (pop || not one) → word_in at (get_or run (t + 1) no_clock)
-      ≡ next_a one (bit c.two.0 (get_or run t no_clock)) pop (word_in at (get_or run t no_clock)) (word_in (at + 1) (get_or run t no_clock)) (word_in made.0 (get_or run t no_clock))
+  pub shown_next : (pop one : Bool) (t : ℕ) → t + 1 < length run → bit c.moves.0 (get_or run t no_clock) ≡ (pop || not one)
+      → word_in at (get_or run (t + 1) no_clock)
+      ≡ next_a one (bit c.two.0 (get_or run t no_clock)) pop (word_in at (get_or run t no_clock)) (word_in (at + 1) (get_or run t no_clock))
+      (word_in made.0 (get_or run t no_clock))
   shown_next pop one t l e =
       let k : Clock = get_or run t no_clock in
       taken h.width at (at + 3) h.shown t l
@@ -38,7 +41,9 @@ module _ (all : List SizedCell) (c : Controlled) (made : NetId) (at : ℕ) (h : 
       ∙ (ap (λ v. if v then word_in (at + 2) k else word_in at k) e
       ∙ ap (λ v. if pop || not one then v else word_in at k) (word_of h.width (at + 2) c.two.0 (at + 1) made.0 h.next t (omega arith))))
 
-pub column_kept : {cells all : List SizedCell} {c : Controlled} {made : NetId} {at : ℕ} → ((n : ℕ) (sized : SizedCell) → at ≤ n → slice_get cells n ≡ Some sized → slice_get all n ≡ Some sized) → HasColumn cells c made at → HasColumn all c made at
+pub column_kept : {cells all : List SizedCell} {c : Controlled} {made : NetId} {at : ℕ}
+    → ((n : ℕ) (sized : SizedCell) → at ≤ n → slice_get cells n ≡ Some sized → slice_get all n ≡ Some sized) → HasColumn cells c made at
+    → HasColumn all c made at
 column_kept {at = at} k h = record {
   width = h.width;
   shown = k at _ (omega arith) h.shown;
@@ -56,7 +61,8 @@ pub record HasSome (old new : Circuit) (c : Controlled) (made : List NetId) (cou
 pub some_none : (a : Circuit) (c : Controlled) (made : List NetId) → HasSome a a c made 0
 some_none a c made = record { longer = longer_refl a; long = omega arith; each = λ k n l. absurd (omega arith) }
 
-pub some_more : (a b new : Circuit) (c : Controlled) (made : List NetId) (count : ℕ) (next : NetId) → HasSome a b c made count → slice_get made count ≡ Some next
+pub some_more : (a b new : Circuit) (c : Controlled) (made : List NetId) (count : ℕ) (next : NetId) → HasSome a b c made count
+    → slice_get made count ≡ Some next
     → IsLonger b new → length new.cells ≡ length b.cells + 4 → HasColumn new.cells c next (length b.cells) → HasSome a new c made (count + 1)
 some_more a b new c made count next h found longer long column = record {
   longer = longer_trans h.longer longer;
@@ -78,13 +84,25 @@ get_is (x ∷ xs) (suc k) l = get_is xs k (omega arith)
 pub all_columns : (a new : Circuit) (c : Controlled) (made : List NetId) → HasSome a new c made (length made) → AreColumns (length a.cells) new.cells c made
 all_columns a new c made h =
     let from : ℕ = length a.cells in
-    let column : (k : ℕ) → k < length made → HasColumn new.cells c (net (net_at made k)) (from + 4 * k) = λ k l. h.each k (net (net_at made k)) l (get_is made k l) in
+    let column : (k : ℕ) → k < length made → HasColumn new.cells c (net (net_at made k)) (from + 4 * k) = λ k l. h.each k (net (net_at made k)) l
+    (get_is made k l) in
     record {
-      nets = λ k l. (let one = column k l in (one.width, record { sized = taking one.width (net (from + 4 * k + 3)); found = one.shown; plain = tt; wide = refl }));
+      nets = λ k l. (let one = column k l in (
+        one.width,
+        record {
+          sized = taking one.width (net (from + 4 * k + 3));
+          found = one.shown;
+          plain = tt;
+          wide = refl;
+        },
+      ));
       queued = λ w takes here shows in_columns ins all keeps run r moves.
-          let there : (k : ℕ) → k < length made → HasColumn all c (net (net_at made k)) (from + 4 * k) = λ k l. column_kept (λ m s low f. keeps m s (omega (arith, low)) f) (column k l) in
+          let there : (k : ℕ) → k < length made → HasColumn all c (net (net_at made k)) (from + 4 * k) = λ k l. column_kept
+          (λ m s low f. keeps m s (omega (arith, low)) f) (column k l) in
           record {
-            shown = λ k l t m. shown_next all c (net (net_at made k)) (from + 4 * k) (there k l) run r (bit c.one.0 (get_or run t no_clock) && bit w.ready.0 (get_or run t no_clock)) (bit c.one.0 (get_or run t no_clock)) t m (moves t (omega arith));
+            shown = λ k l t m. shown_next all c (net (net_at made k)) (from + 4 * k) (there k l) run r
+                (bit c.one.0 (get_or run t no_clock) && bit w.ready.0 (get_or run t no_clock)) (bit c.one.0 (get_or run t no_clock)) t m
+                (moves t (omega arith));
             second = λ k l t m. second_next all c (net (net_at made k)) (from + 4 * k) (there k l) run r t m;
           };
     }

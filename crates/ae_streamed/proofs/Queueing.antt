@@ -19,11 +19,13 @@ pub own_width : {cells : List SizedCell} {n w : ℕ} → IsNet cells n w → IsN
 own_width h = rw (net_width h) h
 
 -- a register more
-pub longer_one : (a b : Circuit) (w : ℕ) → b ≡ record a { cells = a.cells ++ new_register (length a.cells) w ∷ [] } → (length b.cells ≡ length a.cells + 1) × (b.limit ≡ a.limit)
+pub longer_one : (a b : Circuit) (w : ℕ) → b ≡ record a { cells = a.cells ++ new_register (length a.cells) w ∷ [] } → (length b.cells ≡ length a.cells + 1)
+    × (b.limit ≡ a.limit)
 longer_one a b w e = (ap (λ (v : Circuit). length v.cells) e ∙ length-append a.cells (new_register (length a.cells) w ∷ []), ap (λ (v : Circuit). v.limit) e)
 
 module _ (s0 s1 s2 : Circuit) (c : Controlled) (made : NetId) (w at : ℕ) (is : at ≡ length s0.cells)
-    (e1 : s1 ≡ record s0 { cells = s0.cells ++ new_register (length s0.cells) w ∷ [] }) (e2 : s2 ≡ record s1 { cells = s1.cells ++ new_register (length s1.cells) w ∷ [] }) where
+    (e1 : s1 ≡ record s0 { cells = s0.cells ++ new_register (length s0.cells) w ∷ [] })
+    (e2 : s2 ≡ record s1 { cells = s1.cells ++ new_register (length s1.cells) w ∷ [] }) where
   l1 : length s1.cells ≡ at + 1
   l1 = rw e1 (omega (arith, length-append s0.cells (new_register (length s0.cells) w ∷ []), is))
 
@@ -40,7 +42,8 @@ module _ (s0 s1 s2 : Circuit) (c : Controlled) (made : NetId) (w at : ℕ) (is :
   first1 = rw (e1, is) (get_pushed s0.cells (new_register (length s0.cells) w))
 
   second2 : slice_get s2.cells (at + 1) ≡ Some (taking w (net (at + 1)))
-  second2 = rw e2 (ap (slice_get (s1.cells ++ new_register (length s1.cells) w ∷ [])) (sym l1) ∙ (get_pushed s1.cells (new_register (length s1.cells) w) ∙ ap (λ n. Some (taking w (net n))) l1))
+  second2 = rw e2 (ap (slice_get (s1.cells ++ new_register (length s1.cells) w ∷ [])) (sym l1) ∙
+      (get_pushed s1.cells (new_register (length s1.cells) w) ∙ ap (λ n. Some (taking w (net n))) l1))
 
   first2 : slice_get s2.cells at ≡ Some (taking w (net at))
   first2 = longer2.extends.keeps at _ first1
@@ -48,7 +51,8 @@ module _ (s0 s1 s2 : Circuit) (c : Controlled) (made : NetId) (w at : ℕ) (is :
   later2 : {n v : ℕ} → IsNet s0.cells n v → IsNet s2.cells n v
   later2 h = net_later longer2.extends (net_later longer1.extends h)
 
-  pub column_fits : IsNet s0.cells c.two.0 1 → IsNet s0.cells c.moves.0 1 → IsNet s0.cells made.0 w → AreChoices s2.cells w (row c.two.0 (at + 1) made.0 ∷ row c.moves.0 (at + 2) at ∷ [])
+  pub column_fits : IsNet s0.cells c.two.0 1 → IsNet s0.cells c.moves.0 1 → IsNet s0.cells made.0 w
+      → AreChoices s2.cells w (row c.two.0 (at + 1) made.0 ∷ row c.moves.0 (at + 2) at ∷ [])
   column_fits two moves own = fit s2.cells w (row c.two.0 (at + 1) made.0 ∷ row c.moves.0 (at + 2) at ∷ [])
       (before (record { condition = inl (later2 two); left = inl (register_net second2); right = inl (later2 own) })
       (before (record { condition = inl (later2 moves); left = inr (omega (arith, l2), omega (arith, l2), refl); right = inl (register_net first2) }) none))
@@ -103,7 +107,10 @@ module _ (s0 s1 s2 : Circuit) (c : Controlled) (made : NetId) (w at : ℕ) (is :
       pub next_net4 : IsNet s4.cells (at + 2) (width_of s4.cells (at + 1))
       next_net4 = rw width4 (choice_net next4)
 
-      module _ (s5 : Circuit) (e5 : s5 ≡ record s4 { cells = set s4.cells (at + 1) (record { width = width_of s4.cells (at + 1); cell = Reg (net (at + 2)) }) }) where
+      module _ (s5 : Circuit) (e5 : s5 ≡ record s4 {
+        cells = set s4.cells (at + 1)
+            (record { width = width_of s4.cells (at + 1); cell = Reg (net (at + 2)) });
+      }) where
         cells5 : s5.cells ≡ set s4.cells (at + 1) (taking w (net (at + 2)))
         cells5 = ap (λ (v : Circuit). v.cells) e5 ∙ ap (λ n. set s4.cells (at + 1) (record { width = n; cell = Reg (net (at + 2)) })) width4
 
@@ -128,5 +135,6 @@ module _ (s0 s1 s2 : Circuit) (c : Controlled) (made : NetId) (w at : ℕ) (is :
         pub column_longer : IsLonger s0 s5
         column_longer =
             longer_set s0 s4 s5 (at + 1) (width_of s4.cells (at + 1)) (net (at + 2))
-            (longer_set s0 s3 s4 at (width_of s3.cells at) (net (at + 3)) (longer_trans longer1 (longer_trans longer2 longer3)) register3 (omega (arith, is)) e4)
+            (longer_set s0 s3 s4 at (width_of s3.cells at) (net (at + 3)) (longer_trans longer1 (longer_trans longer2 longer3)) register3
+            (omega (arith, is)) e4)
             register4 (omega (arith, is)) e5

@@ -28,7 +28,8 @@ constant_net {k = k} found = record { sized = record { width = 1; cell = Const k
 
 -- ---- constants and registers
 
-pub begun : (old one two new : Circuit) (blocks : ℕ) → one ≡ record old { cells = old.cells ++ (record { width = 1; cell = Const 0 }) ∷ [] } → two ≡ record one { cells = one.cells ++ (record { width = 1; cell = Const 1 }) ∷ [] }
+pub begun : (old one two new : Circuit) (blocks : ℕ) → one ≡ record old { cells = old.cells ++ (record { width = 1; cell = Const 0 }) ∷ [] }
+    → two ≡ record one { cells = one.cells ++ (record { width = 1; cell = Const 1 }) ∷ [] }
     → HasRegisters two new (blocks + 4) → HasBegun old new blocks
 begun old one two new blocks e f h =
     let zero_cell : SizedCell = record { width = 1; cell = Const 0 } in
@@ -36,7 +37,8 @@ begun old one two new blocks e f h =
     let l1 : length one.cells ≡ length old.cells + 1 = rw e (omega (arith, length-append old.cells (zero_cell ∷ []))) in
     let l2 : length two.cells ≡ length old.cells + 2 = rw f (omega (arith, length-append one.cells (one_cell ∷ []), l1)) in
     let at0 : slice_get one.cells (length old.cells) ≡ Some zero_cell = rw e (get_pushed old.cells zero_cell) in
-    let at1 : slice_get two.cells (length old.cells + 1) ≡ Some one_cell = rw f (ap (slice_get (one.cells ++ one_cell ∷ [])) (sym l1) ∙ get_pushed one.cells one_cell) in
+    let at1 : slice_get two.cells (length old.cells + 1) ≡ Some one_cell = rw f
+    (ap (slice_get (one.cells ++ one_cell ∷ [])) (sym l1) ∙ get_pushed one.cells one_cell) in
     let longer : IsLonger one two = longer_by one two (one_cell ∷ []) f (tt, tt) in
     record {
       longer = longer_trans (longer_by old one (zero_cell ∷ []) e (tt, tt)) (longer_trans longer h.longer);
@@ -73,7 +75,8 @@ wires_later a b w e h = record {
 pub any_none : (cells : List SizedCell) (first low high at : ℕ) → HasAny cells first 0 low high at low
 any_none cells first low high at = record { last = refl; each = λ k l. absurd (omega arith) }
 
-pub any_more : (a b : Circuit) (first k low high at y : ℕ) → HasAny a.cells first k low high at y → length a.cells ≡ at + k → b ≡ record a { cells = a.cells ++ choice 1 (row (first + k) high y) ∷ [] } → HasAny b.cells first (k + 1) low high at (at + k)
+pub any_more : (a b : Circuit) (first k low high at y : ℕ) → HasAny a.cells first k low high at y → length a.cells ≡ at + k
+    → b ≡ record a { cells = a.cells ++ choice 1 (row (first + k) high y) ∷ [] } → HasAny b.cells first (k + 1) low high at (at + k)
 any_more a b first k low high at y h long e =
     let x : SizedCell = choice 1 (row (first + k) high y) in
     let one : k + 1 ≡ suc k = omega arith in
@@ -89,12 +92,15 @@ any_more a b first k low high at y h long e =
 
 -- ---- the gates of flags
 
-flag_bit : (cells : List SizedCell) (at : Places) → ((k : ℕ) → k < at.blocks + 6 → IsNet cells (at.base + k) 1) → ((k : ℕ) → k < 26 → IsNet cells (at.gates + k) 1)
+flag_bit : (cells : List SizedCell) (at : Places) → ((k : ℕ) → k < at.blocks + 6 → IsNet cells (at.base + k) 1)
+    → ((k : ℕ) → k < 26 → IsNet cells (at.gates + k) 1)
     → (j : ℕ) → j ≤ at.blocks → IsNet cells (flag_net at j) 1
 flag_bit cells at own gates zero l = (let e : at.gates + 0 ≡ at.gates = omega arith in subst (λ n. IsNet cells n 1) e (gates 0 (omega arith)))
-flag_bit cells at own gates (suc j) l = (let e : at.base + (5 + j) ≡ at.base + 5 + j = omega arith in subst (λ n. IsNet cells n 1) e (own (5 + j) (omega arith)))
+flag_bit cells at own gates (suc j) l =
+    (let e : at.base + (5 + j) ≡ at.base + 5 + j = omega arith in subst (λ n. IsNet cells n 1) e (own (5 + j) (omega arith)))
 
-pub flag_fits : (a b : Circuit) (reset : NetId) (at : Places) (j : ℕ) → HasFlagGates a b reset at j → at.gates + 26 ≡ length a.cells → j ≤ at.blocks → IsNet a.cells reset.0 1
+pub flag_fits : (a b : Circuit) (reset : NetId) (at : Places) (j : ℕ) → HasFlagGates a b reset at j → at.gates + 26 ≡ length a.cells → j ≤ at.blocks
+    → IsNet a.cells reset.0 1
     → ((k : ℕ) → k < at.blocks + 6 → IsNet a.cells (at.base + k) 1) → ((k : ℕ) → k < 26 → IsNet a.cells (at.gates + k) 1)
     → AreChoices b.cells 1 (row (at.gates + 20) (flag_net at j) (at.base + 5 + j) ∷ row reset.0 at.base (at.gates + 26 + 2 * j) ∷ [])
 flag_fits a b reset at j h is few low own gates =
@@ -117,17 +123,23 @@ pub flags_none : (a : Circuit) (reset : NetId) (at : Places) → HasFlagGates a 
 flags_none a reset at = record { longer = longer_refl a; long = omega arith; each = λ j l. absurd (omega arith) }
 
 pub flags_more : (a b new : Circuit) (reset : NetId) (at : Places) (j : ℕ) → HasFlagGates a b reset at j → at.gates + 26 ≡ length a.cells
-    → new ≡ record b { cells = b.cells ++ choice 1 (row (at.gates + 20) (flag_net at j) (at.base + 5 + j)) ∷ choice 1 (row reset.0 at.base (at.gates + 26 + 2 * j)) ∷ [] }
+    → new ≡ record b {
+      cells = b.cells ++ choice 1 (row (at.gates + 20) (flag_net at j) (at.base + 5 + j))
+          ∷ choice 1 (row reset.0 at.base (at.gates + 26 + 2 * j)) ∷ [];
+    }
     → HasFlagGates a new reset at (j + 1)
 flags_more a b new reset at j h is e =
     let first : SizedCell = choice 1 (row (at.gates + 20) (flag_net at j) (at.base + 5 + j)) in
     let second : SizedCell = choice 1 (row reset.0 at.base (at.gates + 26 + 2 * j)) in
     let longer : IsLonger b new = longer_by b new (first ∷ second ∷ []) e (refl, (refl, tt)) in
-    let turns : slice_get new.cells (at.gates + 26 + 2 * j) ≡ Some first = rw e (get_behind b.cells (first ∷ second ∷ []) (at.gates + 26 + 2 * j) 0 first (omega (arith, h.long, is)) refl) in
-    let clears : slice_get new.cells (at.gates + 27 + 2 * j) ≡ Some second = rw e (get_behind b.cells (first ∷ second ∷ []) (at.gates + 27 + 2 * j) 1 second (omega (arith, h.long, is)) refl) in
+    let turns : slice_get new.cells (at.gates + 26 + 2 * j) ≡ Some first = rw e
+    (get_behind b.cells (first ∷ second ∷ []) (at.gates + 26 + 2 * j) 0 first (omega (arith, h.long, is)) refl) in
+    let clears : slice_get new.cells (at.gates + 27 + 2 * j) ≡ Some second = rw e
+    (get_behind b.cells (first ∷ second ∷ []) (at.gates + 27 + 2 * j) 1 second (omega (arith, h.long, is)) refl) in
     record {
       longer = longer_trans h.longer longer;
-      long = (let size : length new.cells ≡ length b.cells + 2 = rw e (omega (arith, length-append b.cells (first ∷ second ∷ []))) in omega (arith, size, h.long));
+      long = (let size : length new.cells ≡ length b.cells + 2 = rw e (omega (arith, length-append b.cells (first ∷ second ∷ []))) in
+          omega (arith, size, h.long));
       each = λ i l. elim (cases_eq i j) [
         | inl same ↦ rw same (record { turns = turns; clears = clears })
         | inr apart ↦
@@ -138,13 +150,15 @@ flags_more a b new reset at j h is e =
 
 -- ---- all of it
 
-module _ (s0 s1 s2 s3 s4 : Circuit) (w : Wires) (at : Places) (busy : NetId) (begin : HasBegun s0 s1 at.blocks) (more : IsLonger s1 s2) (base : at.base ≡ length s0.cells) (here : at.gates ≡ length s2.cells)
+module _ (s0 s1 s2 s3 s4 : Circuit) (w : Wires) (at : Places) (busy : NetId) (begin : HasBegun s0 s1 at.blocks) (more : IsLonger s1 s2)
+    (base : at.base ≡ length s0.cells) (here : at.gates ≡ length s2.cells)
     (behind : at.base + at.blocks + 6 ≤ at.gates) (gates : s3 ≡ record s2 { cells = s2.cells ++ map (choice 1) (gate_rows w at busy) }) where
   pub longer3 : IsLonger s2 s3
   longer3 = longer_by s2 s3 (map (choice 1) (gate_rows w at busy)) gates (choices_plain 1 (gate_rows w at busy))
 
   pub gate_cell : (k : ℕ) (nets : List NetId) → slice_get (gate_rows w at busy) k ≡ Some nets → slice_get s3.cells (at.gates + k) ≡ Some (choice 1 nets)
-  gate_cell k nets found = rw gates (get_behind s2.cells (map (choice 1) (gate_rows w at busy)) (at.gates + k) k (choice 1 nets) (omega (arith, here)) (get_mapped (choice 1) (gate_rows w at busy) k nets found))
+  gate_cell k nets found = rw gates (get_behind s2.cells (map (choice 1) (gate_rows w at busy)) (at.gates + k) k (choice 1 nets) (omega (arith, here))
+      (get_mapped (choice 1) (gate_rows w at busy) k nets found))
 
   pub gate_net : (k : ℕ) → k < 26 → IsNet s3.cells (at.gates + k) 1
   gate_net k l = (let t = there (gate_rows w at busy) k l in choice_net (gate_cell k t.0 t.1))
@@ -185,7 +199,8 @@ module _ (s0 s1 s2 s3 s4 : Circuit) (w : Wires) (at : Places) (busy : NetId) (be
         registers = λ k l. connected.each k l;
         any = record {
           last = any.last;
-          each = λ k l. connected.others (at.base + at.blocks + 6 + k) _ (inr (omega arith)) (flags.longer.extends.keeps _ _ (longer3.extends.keeps _ _ (any.each k l)));
+          each = λ k l. connected.others (at.base + at.blocks + 6 + k) _ (inr (omega arith))
+              (flags.longer.extends.keeps _ _ (longer3.extends.keeps _ _ (any.each k l)));
         };
       }
 
@@ -193,7 +208,9 @@ module _ (s0 s1 s2 s3 s4 : Circuit) (w : Wires) (at : Places) (busy : NetId) (be
       all_longer = longer_connected s0 s4 s5 (at.base + 2) (at.gates + 21) (at.blocks + 4)
           (longer_trans begin.longer (longer_trans more (longer_trans longer3 flags.longer))) connected (omega (arith, base))
 
-      pub controls : (wait : ℕ) → HasAny s2.cells (at.base + 5) wait at.base (at.base + 1) (at.base + at.blocks + 6) busy.0 → IsControl (length s0.cells) s5.cells w at.blocks wait (record { enable = net (at.gates + 7); asks = net (at.gates + 10); one = net (at.base + 3); two = net (at.base + 4); moves = net (at.gates + 19) })
+      pub controls : (wait : ℕ) → HasAny s2.cells (at.base + 5) wait at.base (at.base + 1) (at.base + at.blocks + 6) busy.0
+          → IsControl (length s0.cells) s5.cells w at.blocks wait
+          (record { enable = net (at.gates + 7); asks = net (at.gates + 10); one = net (at.base + 3); two = net (at.base + 4); moves = net (at.gates + 19) })
       controls wait any = is_control s5.cells (length s0.cells) w at wait busy (omega (arith, base)) (omega (arith, base, behind)) (has_cells wait any)
 
       gate_bit : (k : ℕ) → k < 26 → IsNet s5.cells (at.gates + k) 1
@@ -202,7 +219,8 @@ module _ (s0 s1 s2 s3 s4 : Circuit) (w : Wires) (at : Places) (busy : NetId) (be
       register_bit : (k n : ℕ) → k < at.blocks + 4 → at.base + 2 + k ≡ n → IsNet s5.cells n 1
       register_bit k n l e = subst (λ m. IsNet s5.cells m 1) e (connected.nets _ _ (register_net (register_cell k l)))
 
-      pub control_nets : HasControlNets (length s0.cells) s5.cells (record { enable = net (at.gates + 7); asks = net (at.gates + 10); one = net (at.base + 3); two = net (at.base + 4); moves = net (at.gates + 19) })
+      pub control_nets : HasControlNets (length s0.cells) s5.cells
+          (record { enable = net (at.gates + 7); asks = net (at.gates + 10); one = net (at.base + 3); two = net (at.base + 4); moves = net (at.gates + 19) })
       control_nets = record {
         behind = omega (arith, base, behind);
         asks_behind = omega (arith, base, behind);

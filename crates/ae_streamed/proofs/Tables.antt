@@ -13,7 +13,8 @@ pub data Fit (cells : List SizedCell) (width : ℕ) : ℕ → List (List NetId) 
   none : {k : ℕ} → Fit cells width k []
   before : {k : ℕ} {nets : List NetId} {rest : List (List NetId)} → IsChoice cells width k nets → Fit cells width (suc k) rest → Fit cells width k (nets ∷ rest)
 
-fit_at : (cells : List SizedCell) (width k : ℕ) (gates : List (List NetId)) → Fit cells width k gates → (i j : ℕ) → j ≡ k + i → (nets : List NetId) → slice_get gates i ≡ Some nets → IsChoice cells width j nets
+fit_at : (cells : List SizedCell) (width k : ℕ) (gates : List (List NetId)) → Fit cells width k gates → (i j : ℕ) → j ≡ k + i → (nets : List NetId)
+    → slice_get gates i ≡ Some nets → IsChoice cells width j nets
 fit_at cells width k [] none i j e nets found = cc
 fit_at cells width k (x ∷ rest) (before first more) zero j e nets found =
     let same : x ≡ nets = cc in
@@ -30,7 +31,8 @@ made cells g k j e l = inr (omega (arith, e), omega (arith, e), refl)
 pub first_made : (cells : List SizedCell) (g k : ℕ) → g ≡ length cells → 0 < k → StandsBefore cells 1 k g 1
 first_made cells g k e l = inr (omega (arith, e), omega (arith, e), refl)
 
-choose : {cells : List SizedCell} {k c a b : ℕ} → StandsBefore cells 1 k c 1 → StandsBefore cells 1 k a 1 → StandsBefore cells 1 k b 1 → IsChoice cells 1 k (row c a b)
+choose : {cells : List SizedCell} {k c a b : ℕ} → StandsBefore cells 1 k c 1 → StandsBefore cells 1 k a 1 → StandsBefore cells 1 k b 1
+    → IsChoice cells 1 k (row c a b)
 choose p q r = record { condition = p; left = q; right = r }
 
 -- the gates of the control
@@ -65,7 +67,8 @@ module _ (cells : List SizedCell) (w : Wires) (at : Places) (busy : NetId) (here
       (before (choose (inl v.first) (high 8) (current 8))
       (before (choose (gate 9 1 (omega arith)) (gate 9 8 (omega arith)) (low 9))
       (before (choose (two 10) (low 10) (gate 10 9 (omega arith)))
-      (before (choose (inl v.behind) (own 11 (at.base + 5 + at.blocks) (5 + at.blocks) (omega arith) (omega arith)) (newest 11 (omega arith) at.blocks (omega arith)))
+      (before (choose (inl v.behind) (own 11 (at.base + 5 + at.blocks) (5 + at.blocks) (omega arith) (omega arith))
+      (newest 11 (omega arith) at.blocks (omega arith)))
       (before (choose (inl v.late) (gate 12 11 (omega arith)) (low 12))
       (before (choose (gate 13 7 (omega arith)) (gate 13 12 (omega arith)) (low 13))
       (before (choose (one 14) (inl v.ready) (low 14))

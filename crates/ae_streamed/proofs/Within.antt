@@ -24,10 +24,12 @@ of_mapped f (x ∷ xs) zero y h = (x, refl, cc)
 of_mapped f (x ∷ xs) (suc n) y h = of_mapped f xs n y h
 
 -- the layouts before one, and it, have no more columns than all
-first_below : (layouts : List StTree) (q c : ℕ) (s : StTree) → slice_get layouts q ≡ Some s → c < columns_of s → first_column layouts q + c < sum_by columns_of layouts
+first_below : (layouts : List StTree) (q c : ℕ) (s : StTree) → slice_get layouts q ≡ Some s → c < columns_of s
+    → first_column layouts q + c < sum_by columns_of layouts
 first_below layouts q c s found l =
     let next : sum_by columns_of (take (q + 1) layouts) ≡ sum_by columns_of (take q layouts) + columns_of s =
-    ap (sum_by columns_of) (take_found layouts q s found) ∙ (sum_by-append columns_of (take q layouts) (s ∷ []) ∙ ap (λ n. sum_by columns_of (take q layouts) + n) (zero-add (columns_of s))) in
+    ap (sum_by columns_of) (take_found layouts q s found) ∙
+    (sum_by-append columns_of (take q layouts) (s ∷ []) ∙ ap (λ n. sum_by columns_of (take q layouts) + n) (zero-add (columns_of s))) in
     omega (arith, next, l, sum_by-take-le columns_of layouts (q + 1))
 
 some_product : (a b : ℕ) → 0 < a → 0 < b → 0 < a * b
@@ -47,7 +49,8 @@ slot_in s h e w found =
     let at = stands_from_get s e w.clock w.lane found in
     subst (λ (v : Slot). (v.clock < time s) × (v.lane < lanes s)) at.is (slot_below s h e at.below)
 
-pub within : (layouts : List StType) (slowdown : ℕ) → AreLayouts slowdown layouts → AreWithin (map st_tree layouts) slowdown (sum_by columns_of (map st_tree layouts))
+pub within : (layouts : List StType) (slowdown : ℕ) → AreLayouts slowdown layouts
+    → AreWithin (map st_tree layouts) slowdown (sum_by columns_of (map st_tree layouts))
 within layouts slowdown h = record {
   within = λ q s e w found there.
       let one = of_mapped st_tree layouts q s found in
@@ -75,5 +78,6 @@ pub some_columns : (layouts : List StType) (slowdown : ℕ) → AreLayouts slowd
 some_columns [] slowdown h = absurd (omega (arith, h.some))
 some_columns (x ∷ xs) slowdown h =
     let size = (h.each 0 x refl).0.lengths in
-    let one : 0 < columns_of (st_tree x) = some_product (lanes (st_tree x)) (element_words (st_tree x)) (lanes_pos (st_tree x) size) (element_words_pos (st_tree x)) in
+    let one : 0 < columns_of (st_tree x) = some_product (lanes (st_tree x)) (element_words (st_tree x)) (lanes_pos (st_tree x) size)
+    (element_words_pos (st_tree x)) in
     omega (arith, first_below (map st_tree (x ∷ xs)) 0 0 (st_tree x) refl one)

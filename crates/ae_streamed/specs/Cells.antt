@@ -18,7 +18,8 @@ taking width next = record { width = width; cell = Reg next }
 
 -- net n is one of these cells, or one of the first so many that come behind them
 abbrev pub StandsBefore : (cells : List SizedCell) (width count n wide : ℕ) → Type 0
-StandsBefore cells width count n wide = IsNet cells n wide ⊎ ((length cells ≤ n) × (n < length cells + count) × (width ≡ wide))
+StandsBefore cells width count n wide =
+    IsNet cells n wide ⊎ ((length cells ≤ n) × (n < length cells + count) × (width ≡ wide))
 
 -- three nets between which a choice of this width can be made by the cell that comes so many behind these
 pub record IsChoice (cells : List SizedCell) (width count : ℕ) (nets : List NetId) : Type 0 where
@@ -38,7 +39,8 @@ IsControlCell _ = ⊥
 
 -- behind these cells stand no others
 abbrev pub AddsControl : (old new : List SizedCell) → Type 0
-AddsControl old new = (n : ℕ) (sized : SizedCell) → length old ≤ n → slice_get new n ≡ Some sized → IsControlCell sized.cell
+AddsControl old new =
+    (n : ℕ) (sized : SizedCell) → length old ≤ n → slice_get new n ≡ Some sized → IsControlCell sized.cell
 
 -- a netlist with such cells behind its own, and the same outputs
 pub record IsLonger (old new : Circuit) : Type 0 where
@@ -51,7 +53,8 @@ pub record IsLonger (old new : Circuit) : Type 0 where
 pub record HasRegisters (old new : Circuit) (count : ℕ) : Type 0 where
   pub longer : IsLonger old new
   pub long : length new.cells ≡ length old.cells + count
-  pub each : (k : ℕ) → k < count → slice_get new.cells (length old.cells + k) ≡ Some (new_register (length old.cells + k) 1)
+  pub each : (k : ℕ) → k < count → slice_get new.cells (length old.cells + k) ≡ Some
+      (new_register (length old.cells + k) 1)
 
 -- so many registers of one bit that stand one behind the other, and for each a net of one bit, every second one
 pub record CanConnect (cells : List SizedCell) (first count next : ℕ) : Type 0 where
@@ -70,7 +73,8 @@ pub record AreConnected (old new : Circuit) (first next count : ℕ) : Type 0 wh
 
 -- another netlist has the cells from a number on as they are here
 abbrev pub KeepsFrom : (from : ℕ) (cells all : List SizedCell) → Type 0
-KeepsFrom from cells all = (n : ℕ) (sized : SizedCell) → from ≤ n → slice_get cells n ≡ Some sized → slice_get all n ≡ Some sized
+KeepsFrom from cells all =
+    (n : ℕ) (sized : SizedCell) → from ≤ n → slice_get cells n ≡ Some sized → slice_get all n ≡ Some sized
 
 -- what these cells make so in every run, whatever the cells before them are
 abbrev pub InRunsFrom : (from : ℕ) → List SizedCell → (List Clock → Type 0) → Type 0

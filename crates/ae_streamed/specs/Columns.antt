@@ -24,5 +24,7 @@ net_at nets k = (get_or nets k (net 0)).0
 -- which every fourth cell shows the word that stands first
 pub record AreColumns (from : ℕ) (cells : List SizedCell) (c : Controlled) (made : List NetId) : Type 0 where
   pub nets : (k : ℕ) → k < length made → (width : ℕ) × IsNet cells (from + 4 * k) width
-  pub queued : (w : Wires) (takes here shows in_columns : ℕ) (ins : ℕ → ℕ) → InRunsFrom from cells (λ run. MovesOn w c run
-      → AreQueued (control_of c takes here shows (net_at made) (λ k. from + 4 * k + 1)) (ends_of w c in_columns (length made) ins (λ k. from + 4 * k)) run)
+  pub queued : (w : Wires) (takes here shows in_columns : ℕ) (ins : ℕ → ℕ)
+      → InRunsFrom from cells (λ run. MovesOn w c run
+      → AreQueued (control_of c takes here shows (net_at made) (λ k. from + 4 * k + 1))
+      (ends_of w c in_columns (length made) ins (λ k. from + 4 * k)) run)

@@ -158,7 +158,8 @@ pub record IsControl (from : ℕ) (cells : List SizedCell) (w : Wires) (blocks w
   pub late : row.late ≡ w.late.0
   pub behind : row.behind ≡ w.behind.0
   pub wired : (made second ins outs : ℕ → ℕ) (in_columns columns : ℕ) → InRunsFrom from cells (λ run.
-      IsWired (control_of c takes here shows made second) gates row (ends_of w c in_columns columns ins outs) w.wants.0 blocks wait run)
+      IsWired (control_of c takes here shows made second) gates row
+      (ends_of w c in_columns columns ins outs) w.wants.0 blocks wait run)
   pub moves : InRunsFrom from cells (MovesOn w c)
 
 -- what others read of it are nets of one bit; those that say that the circuit steps, and what the ends are told, stand behind these

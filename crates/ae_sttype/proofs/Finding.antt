@@ -56,7 +56,8 @@ some_in_tseq s t n i c l x is h p f =
     rw is (found_at (tseq n i t) c l e (rw place at here) (λ e' w'.
     let k = tseq_stands n i t hh e' c l w' in
     let same : Some x ≡ Some (e' % st_atoms t) = found_if_stands t (c % time t) l (e' % st_atoms t) (Some x) f k.1 in
-    sym (div-add-mod' e' (st_atoms t)) ∙ ap (λ y. y * st_atoms t + e' % st_atoms t) (sym k.0) ∙ ap (λ y. c / time t * st_atoms t + y) (sym (some_same _ _ same))))
+    sym (div-add-mod' e' (st_atoms t)) ∙ ap (λ y. y * st_atoms t + e' % st_atoms t) (sym k.0) ∙
+    ap (λ y. c / time t * st_atoms t + y) (sym (some_same _ _ same))))
 
 -- ---- and in a sequence side by side
 
@@ -85,7 +86,8 @@ some_in_sseq s t n c l x is h p f =
     rw is (found_at (sseq n t) c l e (rw place at here) (λ e' w'.
     let k = sseq_stands n t hh e' c l w' in
     let same : Some x ≡ Some (e' % st_atoms t) = found_if_stands t c (l % lanes t) (e' % st_atoms t) (Some x) f k.1 in
-    sym (div-add-mod' e' (st_atoms t)) ∙ ap (λ y. y * st_atoms t + e' % st_atoms t) (sym k.0) ∙ ap (λ y. l / lanes t * st_atoms t + y) (sym (some_same _ _ same))))
+    sym (div-add-mod' e' (st_atoms t)) ∙ ap (λ y. y * st_atoms t + e' % st_atoms t) (sym k.0) ∙
+    ap (λ y. l / lanes t * st_atoms t + y) (sym (some_same _ _ same))))
 
 -- an atom stands in the first clock on the first lane
 pub found_atom : (s : StTree) (k : AtomTree) → s ≡ atom k → IsElementAt s 0 0 (Some 0)

@@ -12,5 +12,6 @@ at_most_product m n t w b e =
     let same : t * w ≡ b = at_most-some m (t * w) b e in
     ap (at_most m) (ap (λ x. n * x) (sym same) ∙ (let assoc : n * (t * w) ≡ n * t * w = omega arith in assoc))
 
-pub few_in_sseq : (s t : StTree) (n a b m : ℕ) → s ≡ sseq n t → a ≡ n → Some b ≡ at_most m (st_atoms t * element_words t) → at_most m (a * b) ≡ at_most m (st_atoms s * element_words s)
+pub few_in_sseq : (s t : StTree) (n a b m : ℕ) → s ≡ sseq n t → a ≡ n → Some b ≡ at_most m (st_atoms t * element_words t)
+    → at_most m (a * b) ≡ at_most m (st_atoms s * element_words s)
 few_in_sseq s t n a b m is same e = rw (is, same) (at_most_product m n (st_atoms t) (element_words t) b (sym e))

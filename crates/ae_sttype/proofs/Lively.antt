@@ -58,8 +58,13 @@ live_sseq s t n c is h =
     let hh : HasLengths (sseq n t) = rw is at h in (
       (λ live. let w = live_to t c live in
           let p : 0 * st_atoms t + w.element < n * st_atoms t = omega (arith, mul-add-lt 0 (st_atoms t) w.element n hh.0 w.stands.below) in
-          let e : w.element % st_atoms t ≡ w.element = ap (λ x. x % st_atoms t) (let z : w.element ≡ 0 * st_atoms t + w.element = omega arith in z) ∙ mod-mul-add 0 (st_atoms t) w.element w.stands.below in
-          rw is (live_from (sseq n t) c (record { element = w.element; lane = _; stands = stands_in_sseq n t hh w.element c w.lane (omega (arith, p)) (rw e w.stands) }))),
+          let e : w.element % st_atoms t ≡ w.element = ap (λ x. x % st_atoms t) (let z : w.element ≡ 0 * st_atoms t + w.element = omega arith in z) ∙
+          mod-mul-add 0 (st_atoms t) w.element w.stands.below in
+          rw is (live_from (sseq n t) c (record {
+            element = w.element;
+            lane = _;
+            stands = stands_in_sseq n t hh w.element c w.lane (omega (arith, p)) (rw e w.stands);
+          }))),
       (λ live. let w = live_to (sseq n t) c (rw is at live) in
           let k = sseq_stands n t hh w.element c w.lane w.stands in
           live_from t c (record { element = w.element % st_atoms t; lane = w.lane % lanes t; stands = k.1 })),
@@ -87,7 +92,12 @@ lane_order (tseq n i t) h e f c d l a b p =
 lane_order (sseq n t) h e f c d l a b p =
     let x = sseq_stands n t h e c l a in
     let y = sseq_stands n t h f d l b in
-    let q : e % st_atoms t < f % st_atoms t = omega (arith, div-add-mod' e (st_atoms t), div-add-mod' f (st_atoms t), ap (λ z. z * st_atoms t) (sym x.0 ∙ y.0)) in
+    let q : e % st_atoms t < f % st_atoms t = omega (
+      arith,
+      div-add-mod' e (st_atoms t),
+      div-add-mod' f (st_atoms t),
+      ap (λ z. z * st_atoms t) (sym x.0 ∙ y.0),
+    ) in
     lane_order t h.1 (e % st_atoms t) (f % st_atoms t) c d (l % lanes t) x.1 y.1 q
 
 -- ---- the exits of the code
@@ -100,7 +110,8 @@ live_atom s k c is = rw is (
       eq-eqb c 0 (sym (ap (λ (x : Slot). x.clock) (ap (slot_of (atom k)) (sym z) ∙ w.stands.is)))),
 )
 
-pub live_then : (s t : StTree) (n i k c : ℕ) (b : Bool) → s ≡ tseq n i t → k ≡ time t → HasLengths s → c / k < n → (IsTrue b ↔ IsLive t (c % k)) → IsTrue b ↔ IsLive s c
+pub live_then : (s t : StTree) (n i k c : ℕ) (b : Bool) → s ≡ tseq n i t → k ≡ time t → HasLengths s → c / k < n → (IsTrue b ↔ IsLive t (c % k))
+    → IsTrue b ↔ IsLive s c
 live_then s t n i k c b is tm h p same = (
   (λ x. live_tseq s t n i c is h (rw tm at p) (rw tm at (same.0 x))),
   (λ x. same.1 (rw tm (of_live_tseq s t n i c is h x).1)),

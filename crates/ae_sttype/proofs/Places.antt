@@ -15,7 +15,8 @@ slot_at c l = record { clock = c; lane = l }
 
 pub length-copies : (n c l : ℕ) (ws : List Slot) → length (copies n c l ws) ≡ n * length ws
 length-copies zero c l ws = omega arith
-length-copies (suc q) c l ws = omega (arith, length-append (copies q c l ws) (map (moved (q * c) (q * l)) ws), length-map ws (moved (q * c) (q * l)), length-copies q c l ws)
+length-copies (suc q) c l ws =
+    omega (arith, length-append (copies q c l ws) (map (moved (q * c) (q * l)) ws), length-map ws (moved (q * c) (q * l)), length-copies q c l ws)
 
 pub length-slots : (s : StTree) → length (slots s) ≡ st_atoms s
 length-slots (atom k) = refl

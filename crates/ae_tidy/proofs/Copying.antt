@@ -19,7 +19,8 @@ use Rattle.ae_tidy.proofs.Shaping.{shape_skip, shape_add}
 
 -- ---- what a cell and its image have in common
 
-pub image_map : (table more : List (Option NetId)) (cell image : Cell) → ((n m : ℕ) → Maps table n m → Maps more n m) → IsImage table cell image → IsImage more cell image
+pub image_map : (table more : List (Option NetId)) (cell image : Cell) → ((n m : ℕ) → Maps table n m → Maps more n m) → IsImage table cell image
+    → IsImage more cell image
 image_map table more (Input port) image f h = h
 image_map table more (Const k) image f h = h
 image_map table more (Op op args) image f h = (h.0, h.1, f _ _ h.2, f _ _ h.3, f _ _ h.4)
@@ -146,7 +147,8 @@ maps_last table n m e = record { found = ap (slice_get (table ++ (Some (record {
 mapped_left : {table : List (Option NetId)} {n : ℕ} (v : Option NetId) → IsMapped table n → IsMapped (table ++ v ∷ []) n
 mapped_left v h = record { net = h.net; maps = maps_left v h.maps }
 
-stands_table : {old new : List SizedCell} {table : List (Option NetId)} {made : List NetId} {d n m : ℕ} (v : Option NetId) → Stands old new table made d n m → Stands old new (table ++ v ∷ []) made d n m
+stands_table : {old new : List SizedCell} {table : List (Option NetId)} {made : List NetId} {d n m : ℕ} (v : Option NetId) → Stands old new table made d n m
+    → Stands old new (table ++ v ∷ []) made d n m
 stands_table {old} {new} {table} {made} {d} {n} {m} v s = record {
   sized = s.sized;
   image = s.image;
@@ -164,7 +166,8 @@ stands_table {old} {new} {table} {made} {d} {n} {m} v s = record {
 still : {X : Type 0} (xs : List X) (y x : X) (k : ℕ) → k < length xs → slice_get (xs ++ y ∷ []) k ≡ Some x → slice_get xs k ≡ Some x
 still xs y x k l h = elim (get_push_cases xs y k x h) [ inl w ↦ w.0 | inr w ↦ (let e = w.0 in absurd (omega arith)) ]
 
-stands_push : {old new : List SizedCell} {table : List (Option NetId)} {made : List NetId} {d n m : ℕ} (x : SizedCell) (k : NetId) → length made ≡ length new → Stands old new table made d n m → Stands old (new ++ x ∷ []) table (made ++ k ∷ []) d n m
+stands_push : {old new : List SizedCell} {table : List (Option NetId)} {made : List NetId} {d n m : ℕ} (x : SizedCell) (k : NetId) → length made ≡ length new
+    → Stands old new table made d n m → Stands old (new ++ x ∷ []) table (made ++ k ∷ []) d n m
 stands_push {old} {new} {table} {made} {d} {n} {m} x k long s =
     let l : m < length new = slice_get_within new m s.image s.there in
     record {
@@ -183,7 +186,8 @@ stands_push {old} {new} {table} {made} {d} {n} {m} x k long s =
 -- ---- the next old cell
 
 -- it has no place
-pub copied_skip : (old new : List SizedCell) (keep : List Bool) (table : List (Option NetId)) (made : List NetId) (i d : ℕ) (sized : SizedCell) → slice_get old i ≡ Some sized → is_root sized.cell ≡ false → (IsKept keep i → ⊥)
+pub copied_skip : (old new : List SizedCell) (keep : List Bool) (table : List (Option NetId)) (made : List NetId) (i d : ℕ) (sized : SizedCell)
+    → slice_get old i ≡ Some sized → is_root sized.cell ≡ false → (IsKept keep i → ⊥)
     → IsCopied old keep new table made i d → IsCopied old keep new (table ++ None ∷ []) made (i + 1) d
 copied_skip old new keep table made i d sized h plain gone c =
     let other = not_root sized.cell plain in
@@ -208,8 +212,10 @@ copied_skip old new keep table made i d sized h plain gone c =
     }
 
 -- it has one that is there
-pub copied_merge : (old new : List SizedCell) (keep : List Bool) (table : List (Option NetId)) (made : List NetId) (i : ℕ) (sized image : SizedCell) (net : NetId)
-    → slice_get old i ≡ Some sized → image.width ≡ sized.width → IsImage table sized.cell image.cell → late_cell i sized.cell ≡ false → IsThere new net.0 image → IsKept keep i
+pub copied_merge : (old new : List SizedCell) (keep : List Bool) (table : List (Option NetId)) (made : List NetId) (i : ℕ) (sized image : SizedCell)
+    (net : NetId)
+    → slice_get old i ≡ Some sized → image.width ≡ sized.width → IsImage table sized.cell image.cell → late_cell i sized.cell ≡ false → IsThere new net.0 image
+    → IsKept keep i
     → IsCopied old keep new table made i 0 → IsCopied old keep new (table ++ (Some net) ∷ []) made (i + 1) 0
 copied_merge old new keep table made i sized image net h wide alike early is kept c =
     let no_input : is_input sized.cell ≡ false = sym (image_input table sized.cell image.cell alike) ∙ merge_input image.cell is.merges in
@@ -262,10 +268,12 @@ copied_merge old new keep table made i sized image net h wide alike early is kep
     }
 
 -- the cells that were copied so far stand before the next one
-made_within : {old new : List SizedCell} {keep : List Bool} {table : List (Option NetId)} {made : List NetId} {i d : ℕ} → IsCopied old keep new table made i d → (k : ℕ) (a : NetId) → slice_get made k ≡ Some a → a.0 < i
+made_within : {old new : List SizedCell} {keep : List Bool} {table : List (Option NetId)} {made : List NetId} {i d : ℕ} → IsCopied old keep new table made i d
+    → (k : ℕ) (a : NetId) → slice_get made k ≡ Some a → a.0 < i
 made_within {table = table} c k a e = let l : a.0 < length table = slice_get_within table a.0 _ (c.source k a e).found in omega (arith, c.long)
 
-rising_more : (made : List NetId) (own : NetId) → ((k : ℕ) (a : NetId) → slice_get made k ≡ Some a → a.0 < own.0) → AreRising made → AreRising (made ++ own ∷ [])
+rising_more : (made : List NetId) (own : NetId) → ((k : ℕ) (a : NetId) → slice_get made k ≡ Some a → a.0 < own.0) → AreRising made
+    → AreRising (made ++ own ∷ [])
 rising_more made own below r = record {
   each = λ i j a b l h g. elim (get_push_cases made own j b g) [
     | inl w ↦ (let le : i < length made = omega (arith, l, w.1) in r.each i j a b l (still made own a i le h) w.0)
@@ -285,8 +293,10 @@ record IsMade (old new : List SizedCell) (table : List (Option NetId)) (made : L
   alike : (is_late old i ≡ true → length new < 0) → IsImage table sized.cell image.cell
   fresh : is_late old i ≡ true → 0 ≤ length new → image.cell ≡ fresh_cell (length new) sized.cell
 
-copied_made : (old new : List SizedCell) (keep : List Bool) (table : List (Option NetId)) (made : List NetId) (i : ℕ) (sized image : SizedCell) (net own : NetId)
-    → slice_get old i ≡ Some sized → image.width ≡ sized.width → net ≡ record { 0 = length new } → own ≡ record { 0 = i } → IsMade old new table made i sized image → IsKept keep i
+copied_made : (old new : List SizedCell) (keep : List Bool) (table : List (Option NetId)) (made : List NetId) (i : ℕ) (sized image : SizedCell)
+    (net own : NetId)
+    → slice_get old i ≡ Some sized → image.width ≡ sized.width → net ≡ record { 0 = length new } → own ≡ record { 0 = i }
+    → IsMade old new table made i sized image → IsKept keep i
     → IsCopied old keep new table made i 0 → IsCopied old keep (new ++ image ∷ []) (table ++ (Some net) ∷ []) (made ++ own ∷ []) (i + 1) 0
 copied_made old new keep table made i sized image net own h wide last mine is kept c =
     let more : List (Option NetId) = table ++ (Some net) ∷ [] in
@@ -304,7 +314,8 @@ copied_made old new keep table made i sized image net own h wide last mine is ke
       kind = λ k e. (let q : Some own ≡ Some k = sym end ∙ e in let r : own ≡ k = cc in ap (λ (x : NetId). is_late old x.0) (sym r ∙ mine));
       number = λ e.
           ap (count_of is_input) (take_at new (image ∷ []) (length new) refl)
-          ∙ (sym (length-filter (λ (x : SizedCell). is_input x.cell) new) ∙ (ap (λ (l : List SizedCell). length l) c.shape.inputs ∙ length-filter (λ (x : SizedCell). is_input x.cell) (take i old)));
+          ∙ (sym (length-filter (λ (x : SizedCell). is_input x.cell) new) ∙
+          (ap (λ (l : List SizedCell). length l) c.shape.inputs ∙ length-filter (λ (x : SizedCell). is_input x.cell) (take i old)));
     } in
     record {
       long = omega (arith, c.long, length-append table ((Some net) ∷ []));
@@ -325,7 +336,10 @@ copied_made old new keep table made i sized image net own h wide last mine is ke
         | inr w ↦
             let from : k.0 ≡ i = ap (λ (x : NetId). x.0) (sym w.1 ∙ mine) in
             let to : m ≡ length new = w.0 ∙ c.all_made in
-            record { found = ap (slice_get more) (from ∙ sym c.long) ∙ (get_pushed table (Some net) ∙ ap (λ (x : NetId). Some (Some x)) (last ∙ ap (λ (j : ℕ). record { 0 = j }) (sym to))) }
+            record {
+              found = ap (slice_get more) (from ∙ sym c.long) ∙
+                  (get_pushed table (Some net) ∙ ap (λ (x : NetId). Some (Some x)) (last ∙ ap (λ (j : ℕ). record { 0 = j }) (sym to)));
+            }
       ];
       kept = λ n l k. elim (cases_lt n i) [
         | inl b ↦ mapped_left (Some net) (c.kept n b k)
@@ -335,11 +349,14 @@ copied_made old new keep table made i sized image net own h wide last mine is ke
         | inl w ↦ c.only n m (record { found = w.0 })
         | inr w ↦ (let from : n ≡ i = w.0 ∙ c.long in subst (IsKept keep) (sym from) kept)
       ];
-      rising = rising_more made own (λ k a e. (let l : a.0 < i = made_within c k a e in let same : own.0 ≡ i = ap (λ (x : NetId). x.0) mine in omega arith)) c.rising;
+      rising = rising_more made own (λ k a e. (let l : a.0 < i = made_within c k a e in let same : own.0 ≡ i = ap (λ (x : NetId). x.0) mine in omega arith))
+          c.rising;
     }
 
-pub copied_add : (old new : List SizedCell) (keep : List Bool) (table : List (Option NetId)) (made : List NetId) (i : ℕ) (sized image : SizedCell) (net own : NetId)
-    → slice_get old i ≡ Some sized → image.width ≡ sized.width → net ≡ record { 0 = length new } → own ≡ record { 0 = i } → IsImage table sized.cell image.cell → late_cell i sized.cell ≡ false → IsKept keep i
+pub copied_add : (old new : List SizedCell) (keep : List Bool) (table : List (Option NetId)) (made : List NetId) (i : ℕ) (sized image : SizedCell)
+    (net own : NetId)
+    → slice_get old i ≡ Some sized → image.width ≡ sized.width → net ≡ record { 0 = length new } → own ≡ record { 0 = i } → IsImage table sized.cell image.cell
+    → late_cell i sized.cell ≡ false → IsKept keep i
     → IsCopied old keep new table made i 0 → IsCopied old keep (new ++ image ∷ []) (table ++ (Some net) ∷ []) (made ++ own ∷ []) (i + 1) 0
 copied_add old new keep table made i sized image net own h wide last mine alike early kept c =
     copied_made old new keep table made i sized image net own h wide last mine
@@ -355,8 +372,10 @@ copied_add old new keep table made i sized image net own h wide last mine alike 
     same_sized a b p q = ap (λ w. record { width = w; cell = a.cell }) p ∙ ap (λ c. record { width = b.width; cell = c }) q
 
 pub copied_late : (old new : List SizedCell) (keep : List Bool) (table : List (Option NetId)) (made : List NetId) (i : ℕ) (sized : SizedCell) (net own : NetId)
-    → slice_get old i ≡ Some sized → net ≡ record { 0 = length new } → own ≡ record { 0 = i } → late_cell i sized.cell ≡ true → IsKept keep i → IsCopied old keep new table made i 0
-    → IsCopied old keep (new ++ (record { width = sized.width; cell = fresh_cell (length new) sized.cell }) ∷ []) (table ++ (Some net) ∷ []) (made ++ own ∷ []) (i + 1) 0
+    → slice_get old i ≡ Some sized → net ≡ record { 0 = length new } → own ≡ record { 0 = i } → late_cell i sized.cell ≡ true → IsKept keep i
+    → IsCopied old keep new table made i 0
+    → IsCopied old keep (new ++ (record { width = sized.width; cell = fresh_cell (length new) sized.cell }) ∷ []) (table ++ (Some net) ∷ []) (made ++ own ∷ [])
+    (i + 1) 0
 copied_late old new keep table made i sized net own h last mine late kept c =
     let no_input : is_input sized.cell ≡ false = late_input i sized.cell late in
     copied_made old new keep table made i sized (record { width = sized.width; cell = fresh_cell (length new) sized.cell }) net own h refl last mine

@@ -37,13 +37,16 @@ like_memory (Peek mem at) image h = rw h.2 refl
 
 number_mono : (kind : Cell → Bool) (cells : List SizedCell) (a b : ℕ) → a ≤ b → number_of kind cells a ≤ number_of kind cells b
 number_mono kind cells a b l =
-    let c : count_of kind (take a (take b cells)) ≤ count_of kind (take b cells) = sum_by-take-le (λ (x : SizedCell). cond {A = ℕ} (kind x.cell) 1 0) (take b cells) a in
+    let c : count_of kind (take a (take b cells)) ≤ count_of kind (take b cells) = sum_by-take-le (λ (x : SizedCell). cond {A = ℕ} (kind x.cell) 1 0)
+    (take b cells) a in
     let e : count_of kind (take a (take b cells)) ≡ count_of kind (take a cells) = ap (count_of kind) (take-take a b cells l) in
     omega arith
 
 -- cells that are made of cells from one number to another are no more
-between_counts : (kind : Cell → Bool) (old new : List SizedCell) (made : ℕ → ℕ) → ((cell image : Cell) → IsLike cell image → kind image ≡ kind cell) → AreMadeOf old new made → (n a from to : ℕ) → a + n ≤ length new → from ≤ to
-    → ((m : ℕ) → a ≤ m → m < a + n → (from ≤ made m) × (made m < to)) → number_of kind new (a + n) + number_of kind old from ≤ number_of kind old to + number_of kind new a
+between_counts : (kind : Cell → Bool) (old new : List SizedCell) (made : ℕ → ℕ) → ((cell image : Cell) → IsLike cell image → kind image ≡ kind cell)
+    → AreMadeOf old new made → (n a from to : ℕ) → a + n ≤ length new → from ≤ to
+    → ((m : ℕ) → a ≤ m → m < a + n → (from ≤ made m) × (made m < to))
+    → number_of kind new (a + n) + number_of kind old from ≤ number_of kind old to + number_of kind new a
 between_counts kind old new made like are zero a from to w l f =
     let e : a + 0 ≡ a = omega arith in
     let mono : number_of kind old from ≤ number_of kind old to = number_mono kind old from to l in
@@ -59,8 +62,10 @@ between_counts kind old new made like are (suc n) a from to w l f =
     let first : number_of kind new m + number_of kind old from ≤ number_of kind old (made m) + number_of kind new a =
     between_counts kind old new made like are n a from (made m) (omega arith) range.0 (λ k ak km. ((f k ak (omega arith)).0, are.rising k m km below)) in
     let more_new : number_of kind new (m + 1) ≡ number_of kind new m + cond (kind image.cell) 1 0 = count_found kind new m image here in
-    let more_old : number_of kind old (made m + 1) ≡ number_of kind old (made m) + cond (kind own.sized.cell) 1 0 = count_found kind old (made m) own.sized own.found in
-    let same : cond {A = ℕ} (kind image.cell) 1 0 ≡ cond {A = ℕ} (kind own.sized.cell) 1 0 = ap (λ (b : Bool). cond {A = ℕ} b 1 0) (like own.sized.cell image.cell own.like) in
+    let more_old : number_of kind old (made m + 1) ≡ number_of kind old (made m) + cond (kind own.sized.cell) 1 0 = count_found kind old
+    (made m) own.sized own.found in
+    let same : cond {A = ℕ} (kind image.cell) 1 0 ≡ cond {A = ℕ} (kind own.sized.cell) 1 0 = ap (λ (b : Bool). cond {A = ℕ} b 1 0)
+    (like own.sized.cell image.cell own.like) in
     let mono : number_of kind old (made m + 1) ≤ number_of kind old to = number_mono kind old (made m + 1) to (omega (arith, range.1)) in
     rw e (omega (arith, first, more_new, more_old, same, mono))
 
@@ -70,18 +75,22 @@ made_within old new made are m l =
     slice_get_within old (made m) own.sized own.found
 
 -- of no kind are there more
-pub made_fewer : (kind : Cell → Bool) (old new : List SizedCell) (made : ℕ → ℕ) → ((cell image : Cell) → IsLike cell image → kind image ≡ kind cell) → AreMadeOf old new made → count_of kind new ≤ count_of kind old
+pub made_fewer : (kind : Cell → Bool) (old new : List SizedCell) (made : ℕ → ℕ) → ((cell image : Cell) → IsLike cell image → kind image ≡ kind cell)
+    → AreMadeOf old new made → count_of kind new ≤ count_of kind old
 made_fewer kind old new made like are =
-    let all = between_counts kind old new made like are (length new) 0 0 (length old) (omega arith) (omega arith) (λ m am l. (omega arith, made_within old new made are m (omega arith))) in
+    let all = between_counts kind old new made like are (length new) 0 0 (length old) (omega arith) (omega arith)
+    (λ m am l. (omega arith, made_within old new made are m (omega arith))) in
     let front : 0 + length new ≡ length new = omega arith in
     let all2 = rw (front, take-length new, take-length old) at all in
     omega (arith, all2)
 
 -- where all cells of a kind are in the copy, as many stand before a mark as before
-pub moved_number : (kind : Cell → Bool) (old new : List SizedCell) (made : ℕ → ℕ) → ((cell image : Cell) → IsLike cell image → kind image ≡ kind cell) → AreMadeOf old new made → count_of kind new ≡ count_of kind old
+pub moved_number : (kind : Cell → Bool) (old new : List SizedCell) (made : ℕ → ℕ) → ((cell image : Cell) → IsLike cell image → kind image ≡ kind cell)
+    → AreMadeOf old new made → count_of kind new ≡ count_of kind old
     → (mark place : ℕ) → mark ≤ length old → IsMoved (length new) made mark place → number_of kind new place ≡ number_of kind old mark
 moved_number kind old new made like are all mark place within moved =
-    let low = between_counts kind old new made like are place 0 0 mark (omega (arith, moved.within)) (omega arith) (λ m am l. (omega arith, moved.before m (omega arith))) in
+    let low = between_counts kind old new made like are place 0 0 mark (omega (arith, moved.within)) (omega arith)
+    (λ m am l. (omega arith, moved.before m (omega arith))) in
     let front : 0 + place ≡ place = omega arith in
     let low2 = rw front at low in
     let rest : ℕ = length new - place in
@@ -100,7 +109,8 @@ rising_by old new made are (suc n) a l =
     rw e (omega (arith, up, first))
 
 -- the places of two marks are no further apart
-pub moved_apart : (old new : List SizedCell) (made : ℕ → ℕ) → AreMadeOf old new made → (from to a b : ℕ) → from ≤ to → IsMoved (length new) made from a → IsMoved (length new) made to b → (a ≤ b) × (b + from ≤ to + a)
+pub moved_apart : (old new : List SizedCell) (made : ℕ → ℕ) → AreMadeOf old new made → (from to a b : ℕ) → from ≤ to → IsMoved (length new) made from a
+    → IsMoved (length new) made to b → (a ≤ b) × (b + from ≤ to + a)
 moved_apart old new made are from to a b l p q = elim (cases_lt a b) [
   | inl lt ↦
       let n : ℕ = b - 1 - a in

@@ -22,7 +22,8 @@ pub record AreBetween (made : List NetId) (from to mark : ℕ) : Type 0 where
 pub between_none : (made : List NetId) (from mark : ℕ) → AreBetween made from from mark
 between_none made from mark = record { each = λ k own f l h. absurd (omega arith) }
 
-pub between_more : (made : List NetId) (from to mark : ℕ) (last : NetId) → slice_get made to ≡ Some last → last.0 < mark → AreBetween made from to mark → AreBetween made from (to + 1) mark
+pub between_more : (made : List NetId) (from to mark : ℕ) (last : NetId) → slice_get made to ≡ Some last → last.0 < mark → AreBetween made from to mark
+    → AreBetween made from (to + 1) mark
 between_more made from to mark last here below b = record {
   each = λ k own f l h. elim (cases_eq k to) [
     | inr ne ↦ b.each k own f (omega arith) h
@@ -38,7 +39,8 @@ before_all made from to mark b first = record {
   each = λ k own l h. elim (cases_lt k from) [ inl early ↦ first.each k own early h | inr late ↦ b.each k own late l h ];
 }
 
-pub cut_here : (made : List NetId) (from place mark : ℕ) (own : NetId) → AreRising made → slice_get made place ≡ Some own → mark ≤ own.0 → AreBetween made from place mark → AreBefore made from mark → IsCut made mark place
+pub cut_here : (made : List NetId) (from place mark : ℕ) (own : NetId) → AreRising made → slice_get made place ≡ Some own → mark ≤ own.0
+    → AreBetween made from place mark → AreBefore made from mark → IsCut made mark place
 cut_here made from place mark own rising here le b first = record {
   within = (let l : place < length made = slice_get_within made place own here in omega arith);
   before = before_all made from place mark b first;
@@ -51,7 +53,8 @@ cut_here made from place mark own rising here le b first = record {
   ];
 }
 
-pub cut_end : (made : List NetId) (from place mark : ℕ) → place ≡ length made → AreBetween made from place mark → AreBefore made from mark → IsCut made mark place
+pub cut_end : (made : List NetId) (from place mark : ℕ) → place ≡ length made → AreBetween made from place mark → AreBefore made from mark
+    → IsCut made mark place
 cut_end made from place mark all b first = record {
   within = omega (arith, all);
   before = before_all made from place mark b first;
@@ -70,15 +73,20 @@ sure_none made marks index = record { each = λ i mark f h. record { each = λ k
     none_below : (n : ℕ) → n < 0 → ⊥
     none_below n l = omega arith
 
-pub sure_more : (made : List NetId) (cells count place : ℕ) (marks : List ℕ) (index mark : ℕ) → AreMarks cells count marks → slice_get marks index ≡ Some mark → IsCut made mark place → AreSure made place marks (index + 1)
+pub sure_more : (made : List NetId) (cells count place : ℕ) (marks : List ℕ) (index mark : ℕ) → AreMarks cells count marks → slice_get marks index ≡ Some mark
+    → IsCut made mark place → AreSure made place marks (index + 1)
 sure_more made cells count place marks index mark a here cut = record {
-  each = λ i m f h. record { each = λ k own l g. (let lt : own.0 < mark = cut.before.each k own l g in let le : mark ≤ m = a.rising index i mark m (omega arith) here h in omega arith) };
+  each = λ i m f h. record {
+    each = λ k own l g. (let lt : own.0 < mark = cut.before.each k own l g in
+        let le : mark ≤ m = a.rising index i mark m (omega arith) here h in omega arith);
+  };
 }
 
 pub cut_none : (made : List NetId) (marks : List ℕ) → AreCut made marks []
 cut_none made marks = record { each = λ i mark place h g. cc }
 
-pub cut_more : (made : List NetId) (marks places more : List ℕ) (index mark place : ℕ) → more ≡ places ++ place ∷ [] → length places ≡ index → slice_get marks index ≡ Some mark → IsCut made mark place → AreCut made marks places → AreCut made marks more
+pub cut_more : (made : List NetId) (marks places more : List ℕ) (index mark place : ℕ) → more ≡ places ++ place ∷ [] → length places ≡ index
+    → slice_get marks index ≡ Some mark → IsCut made mark place → AreCut made marks places → AreCut made marks more
 cut_more made marks places more index mark place is long here cut c = subst (AreCut made marks) (sym is) (record {
   each = λ i m p h g. elim (get_push_cases places place i p g) [
     | inl w ↦ c.each i m p h w.0
@@ -91,7 +99,8 @@ cut_more made marks places more index mark place is long here cut c = subst (Are
 })
 
 -- a mark behind the others
-pub marks_push : (cells count next : ℕ) (marks more : List ℕ) → cells ≤ next → more ≡ marks ++ next ∷ [] → AreMarks cells count marks → AreMarks next (count + 1) more
+pub marks_push : (cells count next : ℕ) (marks more : List ℕ) → cells ≤ next → more ≡ marks ++ next ∷ [] → AreMarks cells count marks
+    → AreMarks next (count + 1) more
 marks_push cells count next marks more h is a = subst (AreMarks next (count + 1)) (sym is) (record {
   long = omega (arith, length_push marks next, a.long);
   within = λ i m e. elim (get_push_cases marks next i m e) [
@@ -123,7 +132,8 @@ image_like table (Peek mem at) image h = (h.0, h.1, h.2)
 there : (made : List NetId) (m : ℕ) → m < length made → slice_get made m ≡ Some (get_or made m (record { 0 = 0 }))
 there made m l = slice_get-get_or made m (record { 0 = 0 }) l
 
-pub copied_made_of : (old new : List SizedCell) (keep : List Bool) (table : List (Option NetId)) (made : List NetId) (i d : ℕ) → AreImages old new table → IsCopied old keep new table made i d → AreMadeOf old new (made_of made)
+pub copied_made_of : (old new : List SizedCell) (keep : List Bool) (table : List (Option NetId)) (made : List NetId) (i d : ℕ) → AreImages old new table
+    → IsCopied old keep new table made i d → AreMadeOf old new (made_of made)
 copied_made_of old new keep table made i d a c = record {
   each = λ m image h.
       let l : m < length made = (let b : m < length new = slice_get_within new m image h in omega (arith, c.all_made)) in
@@ -142,7 +152,8 @@ copied_made_of old new keep table made i d a c = record {
       c.rising.each j k _ _ l (there made j first) (there made k last);
 }
 
-pub copied_moved : (old new : List SizedCell) (keep : List Bool) (table : List (Option NetId)) (made : List NetId) (i d : ℕ) (marks places : List ℕ) → AreImages old new table → IsCopied old keep new table made i d
+pub copied_moved : (old new : List SizedCell) (keep : List Bool) (table : List (Option NetId)) (made : List NetId) (i d : ℕ) (marks places : List ℕ)
+    → AreImages old new table → IsCopied old keep new table made i d
     → length places ≡ length marks → AreCut made marks places → AreMoved old new marks places
 copied_moved old new keep table made i d marks places a c long cut = record {
   made = made_of made;

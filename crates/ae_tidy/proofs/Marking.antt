@@ -16,7 +16,8 @@ use Rattle.ae_tidy.specs.Marks.{EachRead, IsKept, Waits, left_out, Grows, AreFol
 pub grows_refl : (keep : List Bool) (line : List NetId) → Grows keep line keep line
 grows_refl keep line = record { long = refl; stay = λ n k. k; new = λ n k. inl k; queue = λ k n h. h; more_wait = omega arith; once = refl }
 
-waits_later : (line longer : List NetId) (from to n : ℕ) → ((k : ℕ) (x : NetId) → slice_get line k ≡ Some x → slice_get longer k ≡ Some x) → to ≤ from → Waits line from n → Waits longer to n
+waits_later : (line longer : List NetId) (from to n : ℕ) → ((k : ℕ) (x : NetId) → slice_get line k ≡ Some x → slice_get longer k ≡ Some x) → to ≤ from
+    → Waits line from n → Waits longer to n
 waits_later line longer from to n f l w = record { place = w.place; later = omega (arith, w.later); found = f w.place _ w.found }
 
 pub grows_trans : {a b c : List Bool} {x y z : List NetId} → Grows a x b y → Grows b y c z → Grows a x c z
@@ -33,7 +34,8 @@ grows_trans {a} {b} {c} {x} {y} {z} p q = record {
 }
 
 -- one more net is kept, and waits
-pub grows_one : (keep : List Bool) (line : List NetId) (net : NetId) → slice_get keep net.0 ≡ Some false → Grows keep line (set keep net.0 true) (line ++ net ∷ [])
+pub grows_one : (keep : List Bool) (line : List NetId) (net : NetId) → slice_get keep net.0 ≡ Some false
+    → Grows keep line (set keep net.0 true) (line ++ net ∷ [])
 grows_one keep line net h = record {
   long = length-set keep net.0 true;
   stay = λ n k. elim (cases_eq n net.0) [
@@ -66,8 +68,10 @@ each_map P Q (Mem depth at next enable) f h = (f _ h.0, f _ h.1, f _ h.2)
 each_map P Q (Peek mem at) f h = (f _ h.0, f _ h.1)
 
 -- the next net of the line is followed
-pub followed_more : (cells : List SizedCell) (keep more : List Bool) (line longer : List NetId) (from : ℕ) (net : NetId) → Grows keep line more longer → AreFollowed cells keep line from → from < length line
-    → slice_get line from ≡ Some net → ((sized : SizedCell) → slice_get cells net.0 ≡ Some sized → EachRead (IsKept more) sized.cell) → AreFollowed cells more longer (from + 1)
+pub followed_more : (cells : List SizedCell) (keep more : List Bool) (line longer : List NetId) (from : ℕ) (net : NetId) → Grows keep line more longer
+    → AreFollowed cells keep line from → from < length line
+    → slice_get line from ≡ Some net → ((sized : SizedCell) → slice_get cells net.0 ≡ Some sized → EachRead (IsKept more) sized.cell)
+    → AreFollowed cells more longer (from + 1)
 followed_more cells keep more line longer from net g f l here reads = record {
   each = λ n sized k h. elim (g.new n k) [
     | inr w ↦ inr (waits_later longer longer (length line) (from + 1) n (λ i x e. e) (omega arith) w)
@@ -85,14 +89,16 @@ followed_more cells keep more line longer from net g f l here reads = record {
 }
 
 -- and at its end all are
-pub followed_all : (cells : List SizedCell) (keep : List Bool) (line : List NetId) (from : ℕ) → AreFollowed cells keep line from → length line ≤ from → (n : ℕ) (sized : SizedCell) → IsKept keep n → slice_get cells n ≡ Some sized → EachRead (IsKept keep) sized.cell
+pub followed_all : (cells : List SizedCell) (keep : List Bool) (line : List NetId) (from : ℕ) → AreFollowed cells keep line from → length line ≤ from
+    → (n : ℕ) (sized : SizedCell) → IsKept keep n → slice_get cells n ≡ Some sized → EachRead (IsKept keep) sized.cell
 followed_all cells keep line from f l n sized k h = elim (f.each n sized k h) [
   | inl e ↦ e
   | inr w ↦ (let a = w.later in let b : w.place < length line = slice_get_within line w.place _ w.found in absurd (omega arith))
 ]
 
 -- at first only what waits is kept
-pub followed_first : (cells : List SizedCell) (none keep : List Bool) (first line : List NetId) → Grows none first keep line → ((n : ℕ) → IsKept none n → ⊥) → AreFollowed cells keep line 0
+pub followed_first : (cells : List SizedCell) (none keep : List Bool) (first line : List NetId) → Grows none first keep line → ((n : ℕ) → IsKept none n → ⊥)
+    → AreFollowed cells keep line 0
 followed_first cells none keep first line g empty = record {
   each = λ n sized k h. elim (g.new n k) [
     | inl z ↦ absurd (empty n z)
@@ -104,21 +110,30 @@ pub read_is : (keep : List Bool) (i : ℕ) (v b : Bool) → i < length keep → 
 read_is keep i v b l e f = slice_get-get_or keep i v l ∙ ap Some (sym e ∙ f)
 
 -- a cell reads nets that are there
-pub reads_within : (cells : List SizedCell) (n : ℕ) (sized : SizedCell) → IsFormed cells → slice_get cells n ≡ Some sized → EachRead (λ r. r < length cells) sized.cell
+pub reads_within : (cells : List SizedCell) (n : ℕ) (sized : SizedCell) → IsFormed cells → slice_get cells n ≡ Some sized
+    → EachRead (λ r. r < length cells) sized.cell
 reads_within cells n sized formed h = cell_within cells n sized.width sized.cell (slice_get_within cells n sized h) (formed.each n sized h).cell
   where
-    cell_within : (cells : List SizedCell) (n width : ℕ) (cell : Cell) → n < length cells → CellFits (take n cells) cells n width cell → EachRead (λ r. r < length cells) cell
+    cell_within : (cells : List SizedCell) (n width : ℕ) (cell : Cell) → n < length cells → CellFits (take n cells) cells n width cell
+        → EachRead (λ r. r < length cells) cell
     cell_within cells n width (Input port) l f = tt
     cell_within cells n width (Const k) l f = tt
     cell_within cells n width (Op op args) l f =
-        each_operand op (IsNet (take n cells)) (λ r. r < length cells) args (width_of (take n cells) (main_operand op args)) f.operands (λ m v k. slice_get_within cells m k.sized (get_from_take cells n m k.sized k.found))
+        each_operand op (IsNet (take n cells)) (λ r. r < length cells) args (width_of (take n cells) (main_operand op args)) f.operands
+        (λ m v k. slice_get_within cells m k.sized (get_from_take cells n m k.sized k.found))
     cell_within cells n width (Reg next) l f = slice_get_within cells next.0 f.sized f.found
     cell_within cells n width (Mem depth at next enable) l f = elim f.2 [
       | inl own ↦ (omega (arith, own.at_own), omega (arith, own.next_own), omega (arith, own.enable_own))
-      | inr w ↦ (slice_get_within cells at.0 w.address.net.sized w.address.net.found, slice_get_within cells next.0 w.word.sized w.word.found, slice_get_within cells enable.0 w.bit.sized w.bit.found)
+      | inr w ↦ (
+        slice_get_within cells at.0 w.address.net.sized w.address.net.found,
+        slice_get_within cells next.0 w.word.sized w.word.found,
+        slice_get_within cells enable.0 w.bit.sized w.bit.found,
+      )
     ]
-    cell_within cells n width (Peek mem at) l f =
-        (slice_get_within cells mem.0 _ (get_from_take cells n mem.0 _ f.memory.found), slice_get_within cells at.0 f.address.net.sized (get_from_take cells n at.0 f.address.net.sized f.address.net.found))
+    cell_within cells n width (Peek mem at) l f = (
+      slice_get_within cells mem.0 _ (get_from_take cells n mem.0 _ f.memory.found),
+      slice_get_within cells at.0 f.address.net.sized (get_from_take cells n at.0 f.address.net.sized f.address.net.found),
+    )
 
 -- ---- roots and outputs
 
@@ -128,10 +143,12 @@ roots_none cells keep = record { each = λ n sized l h e. absurd (none_below n l
     none_below : (n : ℕ) → n < 0 → ⊥
     none_below n l = omega arith
 
-pub roots_stay : (cells : List SizedCell) (keep more : List Bool) (line longer : List NetId) (to : ℕ) → Grows keep line more longer → AreRoots cells keep to → AreRoots cells more to
+pub roots_stay : (cells : List SizedCell) (keep more : List Bool) (line longer : List NetId) (to : ℕ) → Grows keep line more longer → AreRoots cells keep to
+    → AreRoots cells more to
 roots_stay cells keep more line longer to g r = record { each = λ n sized l h e. g.stay n (r.each n sized l h e) }
 
-pub roots_more : (cells : List SizedCell) (keep more : List Bool) (line longer : List NetId) (to : ℕ) (sized : SizedCell) → Grows keep line more longer → slice_get cells to ≡ Some sized → (is_root sized.cell ≡ true → IsKept more to)
+pub roots_more : (cells : List SizedCell) (keep more : List Bool) (line longer : List NetId) (to : ℕ) (sized : SizedCell) → Grows keep line more longer
+    → slice_get cells to ≡ Some sized → (is_root sized.cell ≡ true → IsKept more to)
     → AreRoots cells keep to → AreRoots cells more (to + 1)
 roots_more cells keep more line longer to sized g here kept r = record {
   each = λ n x l h e. elim (cases_eq n to) [
@@ -149,10 +166,12 @@ outputs_none outlets keep = record { each = λ n o l h. absurd (none_below n l) 
     none_below : (n : ℕ) → n < 0 → ⊥
     none_below n l = omega arith
 
-pub outputs_stay : (outlets : List Outlet) (keep more : List Bool) (line longer : List NetId) (to : ℕ) → Grows keep line more longer → AreOutputs outlets keep to → AreOutputs outlets more to
+pub outputs_stay : (outlets : List Outlet) (keep more : List Bool) (line longer : List NetId) (to : ℕ) → Grows keep line more longer
+    → AreOutputs outlets keep to → AreOutputs outlets more to
 outputs_stay outlets keep more line longer to g r = record { each = λ n o l h. g.stay o.net.0 (r.each n o l h) }
 
-pub outputs_more : (outlets : List Outlet) (keep more : List Bool) (line longer : List NetId) (to : ℕ) (o : Outlet) → Grows keep line more longer → slice_get outlets to ≡ Some o → IsKept more o.net.0
+pub outputs_more : (outlets : List Outlet) (keep more : List Bool) (line longer : List NetId) (to : ℕ) (o : Outlet) → Grows keep line more longer
+    → slice_get outlets to ≡ Some o → IsKept more o.net.0
     → AreOutputs outlets keep to → AreOutputs outlets more (to + 1)
 outputs_more outlets keep more line longer to o g here kept r = record {
   each = λ n x l h. elim (cases_eq n to) [
@@ -175,7 +194,8 @@ pub outlet_within : (c : Circuit) (k : ℕ) (o : Outlet) → HaveNets c.cells c.
 outlet_within c k o have h = let net = have.each k o h in slice_get_within c.cells o.net.0 net.sized net.found
 
 -- a net of the line that is none is followed already
-pub followed_past : (cells : List SizedCell) (keep : List Bool) (line : List NetId) (from : ℕ) (net : NetId) → AreFollowed cells keep line from → from < length line → slice_get line from ≡ Some net → slice_get cells net.0 ≡ None → AreFollowed cells keep line (from + 1)
+pub followed_past : (cells : List SizedCell) (keep : List Bool) (line : List NetId) (from : ℕ) (net : NetId) → AreFollowed cells keep line from
+    → from < length line → slice_get line from ≡ Some net → slice_get cells net.0 ≡ None → AreFollowed cells keep line (from + 1)
 followed_past cells keep line from net f l here none =
     followed_more cells keep keep line line from net (grows_refl keep line) f l here (λ sized h. (let q : None ≡ Some sized = sym none ∙ h in cc))
 

@@ -16,7 +16,8 @@ use Rattle.ae_tidy.proofs.SameRuns.{AreImages, one_place}
 
 -- ---- outputs, cells and their images
 
-pub heads : (y x : Outlet) (table : List (Option NetId)) (ys xs : List Outlet) → present (y ∷ ys) ≡ wanted table (x ∷ xs) → ◌≡◌ {A = Port × Option (Option NetId)} (y.port, Some (Some y.net)) (x.port, slice_get table x.net.0)
+pub heads : (y x : Outlet) (table : List (Option NetId)) (ys xs : List Outlet) → present (y ∷ ys) ≡ wanted table (x ∷ xs)
+    → ◌≡◌ {A = Port × Option (Option NetId)} (y.port, Some (Some y.net)) (x.port, slice_get table x.net.0)
 heads y x table ys xs e = cc
 
 -- the output of the copy in the place of an old one
@@ -25,7 +26,8 @@ record IsShown (table : List (Option NetId)) (ys : List Outlet) (k : ℕ) (o : O
   found : slice_get ys k ≡ Some outlet
   maps : Maps table o.net.0 outlet.net.0
 
-shown_there : (table : List (Option NetId)) (xs ys : List Outlet) (k : ℕ) (o : Outlet) → present ys ≡ wanted table xs → slice_get xs k ≡ Some o → IsShown table ys k o
+shown_there : (table : List (Option NetId)) (xs ys : List Outlet) (k : ℕ) (o : Outlet) → present ys ≡ wanted table xs → slice_get xs k ≡ Some o
+    → IsShown table ys k o
 shown_there table [] ys k o e h = cc
 shown_there table (x ∷ xs) [] k o e h = cc
 shown_there table (x ∷ xs) (y ∷ ys) zero o e h =
@@ -81,12 +83,14 @@ record HasNeeded (new : Circuit) (table : List (Option NetId)) (n : ℕ) : Type 
   maps : Maps table n net
   needed : IsNeeded new net
 
-output_copy : (old new : Circuit) (table : List (Option NetId)) (n k : ℕ) (o : Outlet) → present new.outlets ≡ wanted table old.outlets → slice_get old.outlets k ≡ Some o → n ≡ o.net.0 → HasNeeded new table n
+output_copy : (old new : Circuit) (table : List (Option NetId)) (n k : ℕ) (o : Outlet) → present new.outlets ≡ wanted table old.outlets
+    → slice_get old.outlets k ≡ Some o → n ≡ o.net.0 → HasNeeded new table n
 output_copy old new table n k o outlets h e =
     let s = shown_there table old.outlets new.outlets k o outlets h in
     record { net = s.outlet.net.0; maps = rw e s.maps; needed = as_output s.outlet.net.0 k s.outlet s.found refl }
 
-root_copy : (old new : Circuit) (table : List (Option NetId)) (n : ℕ) (sized : SizedCell) → AreImages old.cells new.cells table → IsMapped table n → slice_get old.cells n ≡ Some sized → is_root sized.cell ≡ true → HasNeeded new table n
+root_copy : (old new : Circuit) (table : List (Option NetId)) (n : ℕ) (sized : SizedCell) → AreImages old.cells new.cells table → IsMapped table n
+    → slice_get old.cells n ≡ Some sized → is_root sized.cell ≡ true → HasNeeded new table n
 root_copy old new table n sized a at h e =
     let i = a.each n at.net at.maps in
     let q : Some sized ≡ Some i.sized = sym h ∙ i.found in
@@ -94,7 +98,8 @@ root_copy old new table n sized a at h e =
     let root : is_root i.sized.cell ≡ true = ap (λ (x : SizedCell). is_root x.cell) (sym same) ∙ e in
     record { net = at.net; maps = at.maps; needed = as_root at.net i.image i.there (root_image table i.sized.cell i.image.cell root i.alike) }
 
-read_copy : (old new : Circuit) (table : List (Option NetId)) (n reader : ℕ) (sized : SizedCell) → AreImages old.cells new.cells table → HasNeeded new table reader → slice_get old.cells reader ≡ Some sized → Reads sized.cell n → HasNeeded new table n
+read_copy : (old new : Circuit) (table : List (Option NetId)) (n reader : ℕ) (sized : SizedCell) → AreImages old.cells new.cells table
+    → HasNeeded new table reader → slice_get old.cells reader ≡ Some sized → Reads sized.cell n → HasNeeded new table n
 read_copy old new table n reader sized a u h r =
     let i = a.each reader u.net u.maps in
     let q : Some sized ≡ Some i.sized = sym h ∙ i.found in
@@ -102,7 +107,9 @@ read_copy old new table n reader sized a u h r =
     let v = reads_image table i.sized.cell i.image.cell n i.alike (subst (λ (x : SizedCell). Reads x.cell n) same r) in
     record { net = v.net; maps = v.maps; needed = as_read v.net u.net i.image u.needed i.there v.reads }
 
-needed_copy : (old new : Circuit) (table : List (Option NetId)) → AreImages old.cells new.cells table → ((n : ℕ) (sized : SizedCell) → slice_get old.cells n ≡ Some sized → is_root sized.cell ≡ true → IsMapped table n) → present new.outlets ≡ wanted table old.outlets
+needed_copy : (old new : Circuit) (table : List (Option NetId)) → AreImages old.cells new.cells table
+    → ((n : ℕ) (sized : SizedCell) → slice_get old.cells n ≡ Some sized → is_root sized.cell ≡ true → IsMapped table n)
+    → present new.outlets ≡ wanted table old.outlets
     → (n : ℕ) → IsNeeded old n → HasNeeded new table n
 needed_copy old new table a roots outlets n (as_output m k o h e) = output_copy old new table n k o outlets h e
 needed_copy old new table a roots outlets n (as_root m sized h e) = root_copy old new table n sized a (roots n sized h e) h e
@@ -111,7 +118,8 @@ needed_copy old new table a roots outlets n (as_read m reader sized w h r) =
 
 -- each cell of the copy stands in the place of a kept net
 pub all_needed : (old new : Circuit) (keep : List Bool) (table : List (Option NetId)) (made : List NetId) (i d : ℕ) → AreImages old.cells new.cells table
-    → ((n : ℕ) (sized : SizedCell) → slice_get old.cells n ≡ Some sized → is_root sized.cell ≡ true → IsMapped table n) → present new.outlets ≡ wanted table old.outlets
+    → ((n : ℕ) (sized : SizedCell) → slice_get old.cells n ≡ Some sized → is_root sized.cell ≡ true → IsMapped table n)
+    → present new.outlets ≡ wanted table old.outlets
     → IsCopied old.cells keep new.cells table made i d → ((n : ℕ) → IsKept keep n → IsNeeded old n) → (m : ℕ) → m < length new.cells → IsNeeded new m
 all_needed old new keep table made i d a roots outlets c needed m l =
     let own : NetId = get_or made m (record { 0 = 0 }) in

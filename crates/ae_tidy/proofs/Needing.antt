@@ -38,16 +38,20 @@ only_one keep line net = record {
 }
 
 -- an output, a root, and what a needed cell reads
-pub only_output : {c : Circuit} {a b : List Bool} {x y : List NetId} (k : ℕ) (o : Outlet) → slice_get c.outlets k ≡ Some o → KeepsOnly (λ n. n ≡ o.net.0) a x b y → KeepsOnly (IsNeeded c) a x b y
+pub only_output : {c : Circuit} {a b : List Bool} {x y : List NetId} (k : ℕ) (o : Outlet) → slice_get c.outlets k ≡ Some o
+    → KeepsOnly (λ n. n ≡ o.net.0) a x b y → KeepsOnly (IsNeeded c) a x b y
 only_output {c = c} k o h p = only_map (IsNeeded c) (λ n e. as_output n k o h e) p
 
-pub only_root : {c : Circuit} {a b : List Bool} {x y : List NetId} (i : ℕ) (sized : SizedCell) → slice_get c.cells i ≡ Some sized → KeepsOnly (λ n. (n ≡ i) × (is_root sized.cell ≡ true)) a x b y → KeepsOnly (IsNeeded c) a x b y
+pub only_root : {c : Circuit} {a b : List Bool} {x y : List NetId} (i : ℕ) (sized : SizedCell) → slice_get c.cells i ≡ Some sized
+    → KeepsOnly (λ n. (n ≡ i) × (is_root sized.cell ≡ true)) a x b y → KeepsOnly (IsNeeded c) a x b y
 only_root {c = c} i sized h p = only_map (IsNeeded c) (λ n e. as_root n sized (ap (slice_get c.cells) e.0 ∙ h) e.1) p
 
-pub only_reads : {c : Circuit} {a b : List Bool} {x y : List NetId} (reader : ℕ) (sized : SizedCell) → IsNeeded c reader → slice_get c.cells reader ≡ Some sized → KeepsOnly (Reads sized.cell) a x b y → KeepsOnly (IsNeeded c) a x b y
+pub only_reads : {c : Circuit} {a b : List Bool} {x y : List NetId} (reader : ℕ) (sized : SizedCell) → IsNeeded c reader
+    → slice_get c.cells reader ≡ Some sized → KeepsOnly (Reads sized.cell) a x b y → KeepsOnly (IsNeeded c) a x b y
 only_reads {c = c} reader sized n h p = only_map (IsNeeded c) (λ m e. as_read m reader sized n h e) p
 
-pub needed_more : (c : Circuit) (keep more : List Bool) (line longer : List NetId) → KeepsOnly (IsNeeded c) keep line more longer → AreNeeded c keep line → AreNeeded c more longer
+pub needed_more : (c : Circuit) (keep more : List Bool) (line longer : List NetId) → KeepsOnly (IsNeeded c) keep line more longer → AreNeeded c keep line
+    → AreNeeded c more longer
 needed_more c keep more line longer p a = record {
   kept = λ n k. elim (p.kept n k) [ inl h ↦ a.kept n h | inr h ↦ h ];
   waits = λ k n h. elim (p.waits k n h) [ inl g ↦ a.waits k n g | inr g ↦ g ];

@@ -18,7 +18,8 @@ pub take_found : {X : Type 0} (xs : List X) (i : ℕ) (x : X) → slice_get xs i
 take_found {X = X} xs i x h =
     take_more xs i x (slice_get_within xs i x h) ∙ ap (λ (y : X). take i xs ++ y ∷ []) (get_or_from_slice_get xs i x x h)
 
-pub count_found : (kind : Cell → Bool) (cells : List SizedCell) (i : ℕ) (sized : SizedCell) → slice_get cells i ≡ Some sized → count_of kind (take (i + 1) cells) ≡ count_of kind (take i cells) + cond (kind sized.cell) 1 0
+pub count_found : (kind : Cell → Bool) (cells : List SizedCell) (i : ℕ) (sized : SizedCell) → slice_get cells i ≡ Some sized
+    → count_of kind (take (i + 1) cells) ≡ count_of kind (take i cells) + cond (kind sized.cell) 1 0
 count_found kind cells i sized h = ap (count_of kind) (take_found cells i sized h) ∙ count_push (λ (x : SizedCell). kind x.cell) (take i cells) sized
 
 filter_other : {X : Type 0} (p : X → Bool) (xs : List X) (y : X) → p y ≡ false → filter p (xs ++ y ∷ []) ≡ filter p xs
@@ -29,7 +30,8 @@ filter_other p xs y e = filter-append p xs (y ∷ []) ∙ (rw e (append_nil (fil
     append_nil (x ∷ xs) = ap (λ l. x ∷ l) (append_nil xs)
 
 -- what passes is the same where one that does not pass takes the place of another
-filter_replaced : {X : Type 0} (p : X → Bool) (xs : List X) (i : ℕ) (x y : X) → slice_get xs i ≡ Some x → p x ≡ false → p y ≡ false → filter p (set xs i y) ≡ filter p xs
+filter_replaced : {X : Type 0} (p : X → Bool) (xs : List X) (i : ℕ) (x y : X) → slice_get xs i ≡ Some x → p x ≡ false → p y ≡ false
+    → filter p (set xs i y) ≡ filter p xs
 filter_replaced p [] i x y h e f = refl
 filter_replaced p (z ∷ xs) zero x y h e f =
     let is : z ≡ x = cc in
@@ -43,10 +45,12 @@ number_few cells i =
     omega (arith, length-take i cells, c)
 
 -- a cell that is neither is passed over
-pub shape_skip : (old new : List SizedCell) (i : ℕ) (sized : SizedCell) → slice_get old i ≡ Some sized → is_input sized.cell ≡ false → is_mul sized.cell ≡ false → HasShape old new i → HasShape old new (i + 1)
+pub shape_skip : (old new : List SizedCell) (i : ℕ) (sized : SizedCell) → slice_get old i ≡ Some sized → is_input sized.cell ≡ false
+    → is_mul sized.cell ≡ false → HasShape old new i → HasShape old new (i + 1)
 shape_skip old new i sized h no_input no_mul s = record {
   few = omega (arith, s.few);
-  inputs = s.inputs ∙ (sym (filter_other (λ (x : SizedCell). is_input x.cell) (take i old) sized no_input) ∙ ap (cells_of is_input) (sym (take_found old i sized h)));
+  inputs = s.inputs ∙ (sym (filter_other (λ (x : SizedCell). is_input x.cell) (take i old) sized no_input) ∙
+      ap (cells_of is_input) (sym (take_found old i sized h)));
   first = λ k l e. elim (cases_lt i k) [
     | inr le ↦ s.first k le e
     | inl g ↦
@@ -106,14 +110,16 @@ missing p (z ∷ xs) (suc r) x h e =
     omega (arith, missing p xs r x h e)
 
 -- among first cells that are all inputs there is no other
-none_first : (old new : List SizedCell) (k r : ℕ) (before : SizedCell) → slice_get new r ≡ Some before → is_input before.cell ≡ false → number_of is_input old k ≡ k → take k new ≡ take k old → r < k → ⊥
+none_first : (old new : List SizedCell) (k r : ℕ) (before : SizedCell) → slice_get new r ≡ Some before → is_input before.cell ≡ false
+    → number_of is_input old k ≡ k → take k new ≡ take k old → r < k → ⊥
 none_first old new k r before h other e same l =
     let there : slice_get (take k old) r ≡ Some before = ap (λ t. slice_get t r) (sym same) ∙ get_in_take new k r before l h in
     let few : count_of is_input (take k old) < length (take k old) = missing (λ (x : SizedCell). is_input x.cell) (take k old) r before there other in
     omega (arith, length-take k old)
 
 -- a cell of the same kind is added, an input unchanged
-pub shape_add : (old new : List SizedCell) (i : ℕ) (sized image : SizedCell) → slice_get old i ≡ Some sized → is_input image.cell ≡ is_input sized.cell → (is_input sized.cell ≡ true → image ≡ sized)
+pub shape_add : (old new : List SizedCell) (i : ℕ) (sized image : SizedCell) → slice_get old i ≡ Some sized → is_input image.cell ≡ is_input sized.cell
+    → (is_input sized.cell ≡ true → image ≡ sized)
     → is_mul image.cell ≡ is_mul sized.cell → HasShape old new i → HasShape old (new ++ image ∷ []) (i + 1)
 shape_add old new i sized image h same_input input same_mul s =
     let there : i < length old = slice_get_within old i sized h in
@@ -121,7 +127,8 @@ shape_add old new i sized image h same_input input same_mul s =
       few = omega (arith, s.few, length-append new (image ∷ []));
       inputs =
           filter-append (λ (x : SizedCell). is_input x.cell) new (image ∷ [])
-          ∙ (rw (s.inputs, cond_same (is_input image.cell) (is_input sized.cell) image sized same_input input) (sym (filter-append (λ (x : SizedCell). is_input x.cell) (take i old) (sized ∷ [])))
+          ∙ (rw (s.inputs, cond_same (is_input image.cell) (is_input sized.cell) image sized same_input input)
+          (sym (filter-append (λ (x : SizedCell). is_input x.cell) (take i old) (sized ∷ [])))
           ∙ ap (cells_of is_input) (sym (take_found old i sized h)));
       first = λ k l e. elim (cases_lt i k) [
         | inr le ↦ take-append-le k new (image ∷ []) (reaches old new k (s.first k le e) (omega arith)) ∙ s.first k le e
@@ -138,7 +145,8 @@ shape_add old new i sized image h same_input input same_mul s =
             let whole : take i new ≡ new = (rw (← long) (take-length new)) in
             let last_same : image ≡ sized = input last in
             let front : new ≡ take i old = sym whole ∙ same in
-            rw (is, last_same) (take_whole (new ++ sized ∷ []) (i + 1) (omega (arith, length-append new (sized ∷ []))) ∙ (ap (λ l. l ++ sized ∷ []) front ∙ sym (take_found old i sized h)))
+            rw (is, last_same) (take_whole (new ++ sized ∷ []) (i + 1) (omega (arith, length-append new (sized ∷ []))) ∙
+            (ap (λ l. l ++ sized ∷ []) front ∙ sym (take_found old i sized h)))
       ];
       muls =
           count_push (λ (x : SizedCell). is_mul x.cell) new image
@@ -146,7 +154,8 @@ shape_add old new i sized image h same_input input same_mul s =
     }
 
 -- and a register, say, is connected
-pub shape_set : (old new : List SizedCell) (i r : ℕ) (before after : SizedCell) → slice_get new r ≡ Some before → is_input before.cell ≡ false → is_input after.cell ≡ false → is_mul before.cell ≡ false → is_mul after.cell ≡ false
+pub shape_set : (old new : List SizedCell) (i r : ℕ) (before after : SizedCell) → slice_get new r ≡ Some before → is_input before.cell ≡ false
+    → is_input after.cell ≡ false → is_mul before.cell ≡ false → is_mul after.cell ≡ false
     → HasShape old new i → HasShape old (set new r after) i
 shape_set old new i r before after h a b c d s = record {
   few = omega (arith, s.few, length-set new r after);

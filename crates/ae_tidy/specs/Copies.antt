@@ -25,7 +25,8 @@ pub record IsMapped (table : List (Option NetId)) (n : ℕ) : Type 0 where
 
 -- the first old cells are copied where they are kept, and the late cells below `done` are connected; `made` tells for
 -- each new cell the old one that it was made of
-pub record IsCopied (old : List SizedCell) (keep : List Bool) (new : List SizedCell) (table : List (Option NetId)) (made : List NetId) (from done : ℕ) : Type 0 where
+pub record IsCopied (old : List SizedCell) (keep : List Bool) (new : List SizedCell) (table : List (Option NetId))
+    (made : List NetId) (from done : ℕ) : Type 0 where
   pub long : length table ≡ from
   pub all_made : length made ≡ length new
   pub shape : HasShape old new from
@@ -43,7 +44,8 @@ HasDepth _ = Unit {0}
 -- a cell that may be added; a register and a memory may name any nets that are there
 abbrev pub MayFollow : List SizedCell → ℕ → Cell → Type 0
 MayFollow cells width (Reg next) = IsNet cells next.0 width
-MayFollow cells width (Mem depth at next enable) = (1 ≤ depth) × (depth ≤ 65536) × IsWritten cells width depth at.0 next.0 enable.0
+MayFollow cells width (Mem depth at next enable) =
+    (1 ≤ depth) × (depth ≤ 65536) × IsWritten cells width depth at.0 next.0 enable.0
 MayFollow cells width cell = IsAllowed cells width cell
 
 -- the outputs so far show the nets in the places of those that the old ones show

@@ -46,14 +46,18 @@ abbrev pub IsImage : List (Option NetId) → Cell → Cell → Type 0
 IsImage table (Input port) new = new ≡ Input port
 IsImage table (Const k) new = new ≡ Const k
 IsImage table (Op op args) new =
-    (to : List NetId) × (new ≡ Op op to) × Maps table (operand args 0) (operand to 0) × Maps table (operand args 1) (operand to 1) × Maps table (operand args 2) (operand to 2)
+    (to : List NetId) × (new ≡ Op op to) × Maps table (operand args 0) (operand to 0)
+    × Maps table (operand args 1) (operand to 1) × Maps table (operand args 2) (operand to 2)
 IsImage table (Reg next) new = (to : NetId) × (new ≡ Reg to) × Maps table next.0 to.0
 IsImage table (Mem depth at next enable) new =
-    (a : NetId) × (b : NetId) × (c : NetId) × (new ≡ Mem depth a b c) × Maps table at.0 a.0 × Maps table next.0 b.0 × Maps table enable.0 c.0
-IsImage table (Peek mem at) new = (m : NetId) × (a : NetId) × (new ≡ Peek m a) × Maps table mem.0 m.0 × Maps table at.0 a.0
+    (a : NetId) × (b : NetId) × (c : NetId) × (new ≡ Mem depth a b c) × Maps table at.0 a.0 × Maps table next.0 b.0
+    × Maps table enable.0 c.0
+IsImage table (Peek mem at) new =
+    (m : NetId) × (a : NetId) × (new ≡ Peek m a) × Maps table mem.0 m.0 × Maps table at.0 a.0
 
 -- net m stands for net n. Late cells name themselves as long as their number is not below `done`; none stands for two
-pub record Stands (old new : List SizedCell) (table : List (Option NetId)) (made : List NetId) (done n m : ℕ) : Type 0 where
+pub record Stands (old new : List SizedCell) (table : List (Option NetId)) (made : List NetId)
+    (done n m : ℕ) : Type 0 where
   pub sized : SizedCell
   pub image : SizedCell
   pub found : slice_get old n ≡ Some sized

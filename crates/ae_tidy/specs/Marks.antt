@@ -41,7 +41,8 @@ pub record Grows (keep : List Bool) (line : List NetId) (more : List Bool) (long
 
 -- what a kept net reads is kept, unless the net still waits
 pub record AreFollowed (cells : List SizedCell) (keep : List Bool) (line : List NetId) (from : ℕ) : Type 0 where
-  pub each : (n : ℕ) (sized : SizedCell) → IsKept keep n → slice_get cells n ≡ Some sized → EachRead (IsKept keep) sized.cell ⊎ Waits line from n
+  pub each : (n : ℕ) (sized : SizedCell) → IsKept keep n → slice_get cells n ≡ Some sized
+      → EachRead (IsKept keep) sized.cell ⊎ Waits line from n
 
 -- a cell that is kept even where nothing reads it
 abbrev pub is_root : Cell → Bool
@@ -50,7 +51,8 @@ is_root cell = is_mul cell
 
 -- the roots among the first cells are kept, and what the first outputs show
 pub record AreRoots (cells : List SizedCell) (keep : List Bool) (to : ℕ) : Type 0 where
-  pub each : (n : ℕ) (sized : SizedCell) → n < to → slice_get cells n ≡ Some sized → is_root sized.cell ≡ true → IsKept keep n
+  pub each : (n : ℕ) (sized : SizedCell) → n < to → slice_get cells n ≡ Some sized → is_root sized.cell ≡ true
+      → IsKept keep n
 
 pub record AreOutputs (outlets : List Outlet) (keep : List Bool) (to : ℕ) : Type 0 where
   pub each : (k : ℕ) (o : Outlet) → k < to → slice_get outlets k ≡ Some o → IsKept keep o.net.0
@@ -62,4 +64,5 @@ pub record AreRooted (c : Circuit) (keep : List Bool) : Type 0 where
 
 pub record AreMarked (c : Circuit) (keep : List Bool) : Type 0 where
   pub rooted : AreRooted c keep
-  pub reads : (n : ℕ) (sized : SizedCell) → IsKept keep n → slice_get c.cells n ≡ Some sized → EachRead (IsKept keep) sized.cell
+  pub reads : (n : ℕ) (sized : SizedCell) → IsKept keep n → slice_get c.cells n ≡ Some sized
+      → EachRead (IsKept keep) sized.cell

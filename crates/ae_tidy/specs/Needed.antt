@@ -21,14 +21,16 @@ Reads (Peek mem at) n = (n ≡ mem.0) ⊎ (n ≡ at.0)
 pub data IsNeeded (c : Circuit) : (n : ℕ) → Type 0 where
   as_output : (n k : ℕ) (o : Outlet) → slice_get c.outlets k ≡ Some o → n ≡ o.net.0 → IsNeeded c n
   as_root : (n : ℕ) (sized : SizedCell) → slice_get c.cells n ≡ Some sized → is_root sized.cell ≡ true → IsNeeded c n
-  as_read : (n reader : ℕ) (sized : SizedCell) → IsNeeded c reader → slice_get c.cells reader ≡ Some sized → Reads sized.cell n → IsNeeded c n
+  as_read : (n reader : ℕ) (sized : SizedCell) → IsNeeded c reader → slice_get c.cells reader ≡ Some sized
+      → Reads sized.cell n → IsNeeded c n
 
 -- every cell is needed
 pub record IsLean (c : Circuit) : Type 0 where
   pub needed : (n : ℕ) → n < length c.cells → IsNeeded c n
 
 -- of the nets that are kept now, or stand in the line now, the new ones are such nets
-pub record KeepsOnly (P : ℕ → Type 0) (keep : List Bool) (line : List NetId) (more : List Bool) (longer : List NetId) : Type 0 where
+pub record KeepsOnly (P : ℕ → Type 0) (keep : List Bool) (line : List NetId) (more : List Bool)
+    (longer : List NetId) : Type 0 where
   pub kept : (n : ℕ) → IsKept more n → IsKept keep n ⊎ P n
   pub waits : (k : ℕ) (n : NetId) → slice_get longer k ≡ Some n → (slice_get line k ≡ Some n) ⊎ P n.0
 

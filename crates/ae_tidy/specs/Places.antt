@@ -43,7 +43,8 @@ pub record AreMoved (old new : List SizedCell) (marks places : List ℕ) : Type 
   pub made : ℕ → ℕ
   pub are : AreMadeOf old new made
   pub long : length places ≡ length marks
-  pub each : (i mark place : ℕ) → slice_get marks i ≡ Some mark → slice_get places i ≡ Some place → IsMoved (length new) made mark place
+  pub each : (i mark place : ℕ) → slice_get marks i ≡ Some mark → slice_get places i ≡ Some place
+      → IsMoved (length new) made mark place
 
 -- the same, of a list of the old cells
 
@@ -59,7 +60,8 @@ pub record IsCut (made : List NetId) (mark place : ℕ) : Type 0 where
   pub behind : (k : ℕ) (own : NetId) → place ≤ k → slice_get made k ≡ Some own → mark ≤ own.0
 
 pub record AreCut (made : List NetId) (marks places : List ℕ) : Type 0 where
-  pub each : (i mark place : ℕ) → slice_get marks i ≡ Some mark → slice_get places i ≡ Some place → IsCut made mark place
+  pub each : (i mark place : ℕ) → slice_get marks i ≡ Some mark → slice_get places i ≡ Some place
+      → IsCut made mark place
 
 abbrev pub made_of : List NetId → ℕ → ℕ
 made_of made m = (get_or made m (record { 0 = 0 })).0

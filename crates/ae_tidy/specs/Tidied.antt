@@ -14,8 +14,10 @@ shown_ports c = map (λ (o : Outlet). (o.port, width_of c.cells o.net.0)) c.outl
 -- two runs in which, clock by clock, inputs of one number have the same word, and so have outputs of one number
 pub record ShowTheSame (old new : Circuit) (before after : List Clock) : Type 0 where
   pub long : length before ≡ length after
-  pub inputs : (t k n m : ℕ) → t < length after → IsNumbered is_input old.cells k n → IsNumbered is_input new.cells k m → word_at before t n ≡ word_at after t m
-  pub outputs : (t k : ℕ) (o p : Outlet) → t < length after → slice_get old.outlets k ≡ Some o → slice_get new.outlets k ≡ Some p → word_at before t o.net.0 ≡ word_at after t p.net.0
+  pub inputs : (t k n m : ℕ) → t < length after → IsNumbered is_input old.cells k n → IsNumbered is_input new.cells k m
+      → word_at before t n ≡ word_at after t m
+  pub outputs : (t k : ℕ) (o p : Outlet) → t < length after → slice_get old.outlets k ≡ Some o
+      → slice_get new.outlets k ≡ Some p → word_at before t o.net.0 ≡ word_at after t p.net.0
 
 -- inputs, outputs and products are those of the old netlist; every run shows what one of the old netlist shows; and
 -- every cell is needed
@@ -23,7 +25,8 @@ pub record IsTidied (old new : Circuit) : Type 0 where
   pub inputs : cells_of is_input new.cells ≡ cells_of is_input old.cells
   pub first : (k : ℕ) → number_of is_input old.cells k ≡ k → take k new.cells ≡ take k old.cells
   pub outputs : shown_ports new ≡ shown_ports old
-  pub runs : (after : List Clock) → IsRun new.cells after → (before : List Clock) × IsRun old.cells before × ShowTheSame old new before after
+  pub runs : (after : List Clock) → IsRun new.cells after → (before : List Clock) × IsRun old.cells before
+      × ShowTheSame old new before after
   pub formed : IsFormed new.cells
   pub shown : HaveNets new.cells new.outlets
   pub whole : AreWhole old.cells → AreWhole new.cells

@@ -20,13 +20,15 @@ record IsWhole (text : List ℕ) (status result : Status) (old new : SinkView) :
   written : Appends old.written new.written text
   ended : IsEnded old new
 
-whole : (text : List ℕ) (status result : Status) (old new : SinkView) → Puts text status result old new → is_settled result ≡ true → IsWhole text status result old new
+whole : (text : List ℕ) (status result : Status) (old new : SinkView) → Puts text status result old new → is_settled result ≡ true
+    → IsWhole text status result old new
 whole text status result old new (Whole e a r) h = record { same = e; written = a; ended = r }
 whole text status result old new (Failing e a r) h = let never : false ≡ true = sym (ap is_settled e) ∙ h in cc
 whole text status result old new (Wanting e a r) h = let never : false ≡ true = sym (ap is_settled e) ∙ h in cc
 
 -- what a job answers that takes its input
-answer_of : (command : Command) (bytes : List ℕ) (status : Status) (text : List ℕ) → TakesInput command → length bytes ≤ input_limit → IsDone command bytes status text → IsAnswer command bytes status text
+answer_of : (command : Command) (bytes : List ℕ) (status : Status) (text : List ℕ) → TakesInput command → length bytes ≤ input_limit
+    → IsDone command bytes status text → IsAnswer command bytes status text
 answer_of Check bytes status text reads few d = (few, d)
 answer_of Eval bytes status text reads few d = (few, d)
 answer_of (Plan slowdown) bytes status text reads few d = (few, d)
@@ -40,7 +42,8 @@ answer_of Unwave bytes status text reads few d = (few, d)
 answer_of (Sim fill) bytes status text reads few d = (few, d)
 answer_of (Demo size) bytes status text reads few d = absurd reads
 
-outcome_by : (ws : List (List ℕ)) (command : Command) (bytes : List ℕ) (status : Status) (text : List ℕ) → is_reply status ≡ true → IsCommand ws command → TakesInput command → length bytes ≤ input_limit
+outcome_by : (ws : List (List ℕ)) (command : Command) (bytes : List ℕ) (status : Status) (text : List ℕ) → is_reply status ≡ true → IsCommand ws command
+    → TakesInput command → length bytes ≤ input_limit
     → IsDone command bytes status text → IsOutcome ws bytes status text
 outcome_by ws command bytes Ok text h job reads few d = (command, job, answer_of command bytes Ok text reads few d)
 outcome_by ws command bytes Usage text h job reads few d = cc
@@ -58,7 +61,8 @@ outcome_by ws command bytes WriteFault text h job reads few d = cc
 outcome_by ws command bytes TooLong text h job reads few d = cc
 outcome_by ws command bytes Memory text h job reads few d = cc
 
-done_outcome : (ws : List (List ℕ)) (command : Command) (bytes : List ℕ) (status : Status) (text : List ℕ) → IsCommand ws command → TakesInput command → length bytes ≤ input_limit
+done_outcome : (ws : List (List ℕ)) (command : Command) (bytes : List ℕ) (status : Status) (text : List ℕ) → IsCommand ws command → TakesInput command
+    → length bytes ≤ input_limit
     → IsDone command bytes status text → IsOutcome ws bytes status text
 done_outcome ws command bytes status text job reads few d = outcome_by ws command bytes status text (done_replies command bytes status text d) job reads few d
 
@@ -82,13 +86,16 @@ taken_past (Some all) left' n bytes t e =
     subst P same (omega arith)
 
 -- the outcome at the status that was answered
-at_status : (ws : List (List ℕ)) (bytes : List ℕ) (status result : Status) (text : List ℕ) → result ≡ status → IsOutcome ws bytes status text → IsOutcome ws bytes result text
+at_status : (ws : List (List ℕ)) (bytes : List ℕ) (status result : Status) (text : List ℕ) → result ≡ status → IsOutcome ws bytes status text
+    → IsOutcome ws bytes result text
 at_status ws bytes status result text e o = let P : Status → Type 0 = λ s. IsOutcome ws bytes s text in subst P (sym e) o
 
-pub outcome_of : (ws : List (List ℕ)) (r : Status) (s s' : SourceView) (k k' : SinkView) → Answers ws r s s' k k' → is_settled r ≡ true → HasOutcome ws r s.left k.written k'.written
+pub outcome_of : (ws : List (List ℕ)) (r : Status) (s s' : SourceView) (k k' : SinkView) → Answers ws r s s' k k' → is_settled r ≡ true
+    → HasOutcome ws r s.left k.written k'.written
 outcome_of ws r s s' k k' (No_job other_words same puts) h =
     let w = whole (refusal_line Usage) Usage r k k' puts h in
-    appended ws r s.left k.written k'.written (refusal_line Usage) w.written (λ bytes e. at_status ws bytes Usage r (refusal_line Usage) w.same (other_words, refl))
+    appended ws r s.left k.written k'.written (refusal_line Usage) w.written
+    (λ bytes e. at_status ws bytes Usage r (refusal_line Usage) w.same (other_words, refl))
 outcome_of ws r s s' k k' (Made size job same (Demo_whole text is puts)) h =
     let w = whole text Ok r k k' puts h in
     appended ws r s.left k.written k'.written text w.written (λ bytes e. at_status ws bytes Ok r text w.same (Demo size, job, (refl, is)))
@@ -106,7 +113,8 @@ outcome_of ws r s s' k k' (Done command job reads bytes text status takes few bu
     let w = whole text status r k k' puts h in
     appended ws r s.left k.written k'.written text w.written (λ other e.
     let P : List ℕ → Type 0 = λ bs. IsOutcome ws bs status text in
-    at_status ws other status r text w.same (subst P (taken_all s.left s'.left bytes other takes e) (done_outcome ws command bytes status text job reads few built)))
+    at_status ws other status r text w.same (subst P (taken_all s.left s'.left bytes other takes e)
+    (done_outcome ws command bytes status text job reads few built)))
 outcome_of ws r s s' k k' (No_room command job reads puts) h =
     let w = whole (refusal_line Memory) Memory r k k' puts h in
     let never : false ≡ true = sym (ap is_settled w.same) ∙ h in cc
@@ -129,23 +137,29 @@ partly ws None old new f f' text p m = tt
 partly ws (Some bytes) None new f f' text p m = tt
 partly ws (Some bytes) (Some written) new f f' text p m = (text, p.count, p.part, m bytes refl)
 
-pub part_written : (ws : List (List ℕ)) (r : Status) (s s' : SourceView) (k k' : SinkView) → Answers ws r s s' k k' → HasPart ws s.left k.written k'.written s.faults s'.faults
+pub part_written : (ws : List (List ℕ)) (r : Status) (s s' : SourceView) (k k' : SinkView) → Answers ws r s s' k k'
+    → HasPart ws s.left k.written k'.written s.faults s'.faults
 part_written ws r s s' k k' (No_job other_words same puts) =
-    partly ws s.left k.written k'.written s.faults s'.faults (refusal_line Usage) (part_of (refusal_line Usage) Usage r k k' puts) (λ bytes e. inl (Usage, (other_words, refl)))
+    partly ws s.left k.written k'.written s.faults s'.faults (refusal_line Usage) (part_of (refusal_line Usage) Usage r k k' puts)
+    (λ bytes e. inl (Usage, (other_words, refl)))
 part_written ws r s s' k k' (Made size job same (Demo_whole text is puts)) =
     partly ws s.left k.written k'.written s.faults s'.faults text (part_of text Ok r k k' puts) (λ bytes e. inl (Ok, (Demo size, job, (refl, is))))
 part_written ws r s s' k k' (Made size job same (Demo_none puts)) =
-    partly ws s.left k.written k'.written s.faults s'.faults (refusal_line Memory) (part_of (refusal_line Memory) Memory r k k' puts) (λ bytes e. inr (inl refl))
+    partly ws s.left k.written k'.written s.faults s'.faults (refusal_line Memory) (part_of (refusal_line Memory) Memory r k k' puts)
+    (λ bytes e. inr (inl refl))
 part_written ws r s s' k k' (Unread command job reads rose puts) =
-    partly ws s.left k.written k'.written s.faults s'.faults (refusal_line ReadFault) (part_of (refusal_line ReadFault) ReadFault r k k' puts) (λ bytes e. inr (inr (rose, refl)))
+    partly ws s.left k.written k'.written s.faults s'.faults (refusal_line ReadFault) (part_of (refusal_line ReadFault) ReadFault r k k' puts)
+    (λ bytes e. inr (inr (rose, refl)))
 part_written ws r s s' k k' (Past_limit command job reads takes puts) =
     partly ws s.left k.written k'.written s.faults s'.faults (refusal_line TooLong) (part_of (refusal_line TooLong) TooLong r k k' puts)
     (λ bytes e. inl (TooLong, (command, job, reads, taken_past s.left s'.left input_limit bytes takes e, refl)))
 part_written ws r s s' k k' (Done command job reads bytes text status takes few built puts) =
     partly ws s.left k.written k'.written s.faults s'.faults text (part_of text status r k k' puts)
-    (λ other e. let P : List ℕ → Type 0 = λ bs. IsOutcome ws bs status text in inl (status, subst P (taken_all s.left s'.left bytes other takes e) (done_outcome ws command bytes status text job reads few built)))
+    (λ other e. let P : List ℕ → Type 0 = λ bs. IsOutcome ws bs status text in
+    inl (status, subst P (taken_all s.left s'.left bytes other takes e) (done_outcome ws command bytes status text job reads few built)))
 part_written ws r s s' k k' (No_room command job reads puts) =
-    partly ws s.left k.written k'.written s.faults s'.faults (refusal_line Memory) (part_of (refusal_line Memory) Memory r k k' puts) (λ bytes e. inr (inl refl))
+    partly ws s.left k.written k'.written s.faults s'.faults (refusal_line Memory) (part_of (refusal_line Memory) Memory r k k' puts)
+    (λ bytes e. inr (inl refl))
 
 -- an answer is not another
 usage_not_read : {A : Type 0} (r : Status) → r ≡ Usage → r ≡ ReadFault → A
@@ -182,7 +196,8 @@ write_not_memory : {A : Type 0} (r : Status) → r ≡ WriteFault → r ≡ Memo
 write_not_memory r a b = cc
 
 -- no job answers these
-not_reply : {A : Type 0} (command : Command) (bytes : List ℕ) (status other : Status) (text : List ℕ) → status ≡ other → is_reply other ≡ false → IsDone command bytes status text → A
+not_reply : {A : Type 0} (command : Command) (bytes : List ℕ) (status other : Status) (text : List ℕ) → status ≡ other → is_reply other ≡ false
+    → IsDone command bytes status text → A
 not_reply command bytes status other text e never d =
     let wrong : false ≡ true = sym never ∙ sym (ap is_reply e) ∙ done_replies command bytes status text d in cc
 
@@ -200,7 +215,8 @@ usage_words ws r s s' k k' (Unread command job reads rose (Wanting f a b)) e = u
 usage_words ws r s s' k k' (Past_limit command job reads takes (Whole f a b)) e = usage_not_long r e f
 usage_words ws r s s' k k' (Past_limit command job reads takes (Failing f a b)) e = usage_not_write r e f
 usage_words ws r s s' k k' (Past_limit command job reads takes (Wanting f a b)) e = usage_not_memory r e f
-usage_words ws r s s' k k' (Done command job reads bytes text status takes few built (Whole f a b)) e = not_reply command bytes status Usage text (sym f ∙ e) refl built
+usage_words ws r s s' k k' (Done command job reads bytes text status takes few built (Whole f a b)) e =
+    not_reply command bytes status Usage text (sym f ∙ e) refl built
 usage_words ws r s s' k k' (Done command job reads bytes text status takes few built (Failing f a b)) e = usage_not_write r e f
 usage_words ws r s s' k k' (Done command job reads bytes text status takes few built (Wanting f a b)) e = usage_not_memory r e f
 usage_words ws r s s' k k' (No_room command job reads (Whole f a b)) e = usage_not_memory r e f
@@ -214,7 +230,8 @@ refused_usage r k k' (Wanting f a b) = inr (inr (f, b))
 
 pub other_words_refused : (ws : List (List ℕ)) (r : Status) (s s' : SourceView) (k k' : SinkView) → Answers ws r s s' k k' → NamesNone ws
     → RefusesWords r k.faults k'.faults k.wants k'.wants × (s'.left ≡ s.left) × (s'.faults ≡ s.faults)
-other_words_refused ws r s s' k k' (No_job other_words same puts) h = (refused_usage r k k' puts, ap (λ (v : SourceView). v.left) same, ap (λ (v : SourceView). v.faults) same)
+other_words_refused ws r s s' k k' (No_job other_words same puts) h =
+    (refused_usage r k k' puts, ap (λ (v : SourceView). v.left) same, ap (λ (v : SourceView). v.faults) same)
 other_words_refused ws r s s' k k' (Made size job same made) h = absurd (h (Demo size) job)
 other_words_refused ws r s s' k k' (Unread command job reads rose puts) h = absurd (h command job)
 other_words_refused ws r s s' k k' (Past_limit command job reads takes puts) h = absurd (h command job)
@@ -222,7 +239,8 @@ other_words_refused ws r s s' k k' (Done command job reads bytes text status tak
 other_words_refused ws r s s' k k' (No_room command job reads puts) h = absurd (h command job)
 
 -- the line of a read fault was written whole, and the input failed
-pub read_fault : (ws : List (List ℕ)) (r : Status) (s s' : SourceView) (k k' : SinkView) → Answers ws r s s' k k' → r ≡ ReadFault → Rose s.faults s'.faults × Appends k.written k'.written (refusal_line ReadFault)
+pub read_fault : (ws : List (List ℕ)) (r : Status) (s s' : SourceView) (k k' : SinkView) → Answers ws r s s' k k' → r ≡ ReadFault → Rose s.faults s'.faults
+    × Appends k.written k'.written (refusal_line ReadFault)
 read_fault ws r s s' k k' (No_job other_words same (Whole f a b)) e = usage_not_read r f e
 read_fault ws r s s' k k' (No_job other_words same (Failing f a b)) e = read_not_write r e f
 read_fault ws r s s' k k' (No_job other_words same (Wanting f a b)) e = read_not_memory r e f
@@ -238,7 +256,8 @@ read_fault ws r s s' k k' (Unread command job reads rose (Wanting f a b)) e = re
 read_fault ws r s s' k k' (Past_limit command job reads takes (Whole f a b)) e = read_not_long r e f
 read_fault ws r s s' k k' (Past_limit command job reads takes (Failing f a b)) e = read_not_write r e f
 read_fault ws r s s' k k' (Past_limit command job reads takes (Wanting f a b)) e = read_not_memory r e f
-read_fault ws r s s' k k' (Done command job reads bytes text status takes few built (Whole f a b)) e = not_reply command bytes status ReadFault text (sym f ∙ e) refl built
+read_fault ws r s s' k k' (Done command job reads bytes text status takes few built (Whole f a b)) e =
+    not_reply command bytes status ReadFault text (sym f ∙ e) refl built
 read_fault ws r s s' k k' (Done command job reads bytes text status takes few built (Failing f a b)) e = read_not_write r e f
 read_fault ws r s s' k k' (Done command job reads bytes text status takes few built (Wanting f a b)) e = read_not_memory r e f
 read_fault ws r s s' k k' (No_room command job reads (Whole f a b)) e = read_not_memory r e f
@@ -246,7 +265,8 @@ read_fault ws r s s' k k' (No_room command job reads (Failing f a b)) e = read_n
 read_fault ws r s s' k k' (No_room command job reads (Wanting f a b)) e = read_not_memory r e f
 
 -- a write fault comes by the sink's count
-puts_write : (text : List ℕ) (status r : Status) (k k' : SinkView) → Puts text status r k k' → (status ≡ WriteFault → ⊥) → r ≡ WriteFault → Rose k.faults k'.faults
+puts_write : (text : List ℕ) (status r : Status) (k k' : SinkView) → Puts text status r k k' → (status ≡ WriteFault → ⊥) → r ≡ WriteFault
+    → Rose k.faults k'.faults
 puts_write text status r k k' (Whole f a b) other e = absurd (other (sym f ∙ e))
 puts_write text status r k k' (Failing f a b) other e = b
 puts_write text status r k k' (Wanting f a b) other e = write_not_memory r e f
@@ -272,7 +292,8 @@ write_fault ws r s s' k k' (Made size job same (Demo_whole text is puts)) = puts
 write_fault ws r s s' k k' (Made size job same (Demo_none puts)) = puts_write (refusal_line Memory) Memory r k k' puts memory_is_not_write
 write_fault ws r s s' k k' (Unread command job reads rose puts) = puts_write (refusal_line ReadFault) ReadFault r k k' puts read_is_not_write
 write_fault ws r s s' k k' (Past_limit command job reads takes puts) = puts_write (refusal_line TooLong) TooLong r k k' puts long_is_not_write
-write_fault ws r s s' k k' (Done command job reads bytes text status takes few built puts) = puts_write text status r k k' puts (λ e. not_reply command bytes status WriteFault text e refl built)
+write_fault ws r s s' k k' (Done command job reads bytes text status takes few built puts) =
+    puts_write text status r k k' puts (λ e. not_reply command bytes status WriteFault text e refl built)
 write_fault ws r s s' k k' (No_room command job reads puts) = puts_write (refusal_line Memory) Memory r k k' puts memory_is_not_write
 
 -- a whole line was ended
@@ -281,7 +302,8 @@ puts_ended text status r k k' (Whole f a b) w m = b
 puts_ended text status r k k' (Failing f a b) w m = absurd (w f)
 puts_ended text status r k k' (Wanting f a b) w m = absurd (m f)
 
-pub ended : (ws : List (List ℕ)) (r : Status) (s s' : SourceView) (k k' : SinkView) → Answers ws r s s' k k' → (r ≡ WriteFault → ⊥) → (r ≡ Memory → ⊥) → IsEnded k k'
+pub ended : (ws : List (List ℕ)) (r : Status) (s s' : SourceView) (k k' : SinkView) → Answers ws r s s' k k' → (r ≡ WriteFault → ⊥) → (r ≡ Memory → ⊥)
+    → IsEnded k k'
 ended ws r s s' k k' (No_job other_words same puts) = puts_ended (refusal_line Usage) Usage r k k' puts
 ended ws r s s' k k' (Made size job same (Demo_whole text is puts)) = puts_ended text Ok r k k' puts
 ended ws r s s' k k' (Made size job same (Demo_none puts)) = puts_ended (refusal_line Memory) Memory r k k' puts
@@ -300,7 +322,8 @@ long_not_memory r a b = cc
 abbrev pub TellsMemory : (old new : SinkView) → Type 0
 TellsMemory old new = Rose old.wants new.wants ⊎ (Appends old.written new.written (refusal_line Memory) × (new.ends ≡ raised old.ends))
 
-puts_memory : (text : List ℕ) (status r : Status) (k k' : SinkView) → Puts text status r k k' → (status ≡ Memory → text ≡ refusal_line Memory) → r ≡ Memory → TellsMemory k k'
+puts_memory : (text : List ℕ) (status r : Status) (k k' : SinkView) → Puts text status r k k' → (status ≡ Memory → text ≡ refusal_line Memory) → r ≡ Memory
+    → TellsMemory k k'
 puts_memory text status r k k' (Whole f a b) line e =
     let P : List ℕ → Type 0 = λ t. Appends k.written k'.written t in
     inr (subst P (line (sym f ∙ e)) a, b.once)
@@ -311,8 +334,10 @@ pub memory_told : (ws : List (List ℕ)) (r : Status) (s s' : SourceView) (k k' 
 memory_told ws r s s' k k' (No_job other_words same puts) = puts_memory (refusal_line Usage) Usage r k k' puts (λ h. usage_not_memory Usage refl h)
 memory_told ws r s s' k k' (Made size job same (Demo_whole text is puts)) = puts_memory text Ok r k k' puts (λ h. ok_not_memory Ok refl h)
 memory_told ws r s s' k k' (Made size job same (Demo_none puts)) = puts_memory (refusal_line Memory) Memory r k k' puts (λ h. refl)
-memory_told ws r s s' k k' (Unread command job reads rose puts) = puts_memory (refusal_line ReadFault) ReadFault r k k' puts (λ h. read_not_memory ReadFault refl h)
-memory_told ws r s s' k k' (Past_limit command job reads takes puts) = puts_memory (refusal_line TooLong) TooLong r k k' puts (λ h. long_not_memory TooLong refl h)
+memory_told ws r s s' k k' (Unread command job reads rose puts) =
+    puts_memory (refusal_line ReadFault) ReadFault r k k' puts (λ h. read_not_memory ReadFault refl h)
+memory_told ws r s s' k k' (Past_limit command job reads takes puts) =
+    puts_memory (refusal_line TooLong) TooLong r k k' puts (λ h. long_not_memory TooLong refl h)
 memory_told ws r s s' k k' (Done command job reads bytes text status takes few built puts) =
     puts_memory text status r k k' puts (λ h. not_reply command bytes status Memory text h refl built)
 memory_told ws r s s' k k' (No_room command job reads puts) = puts_memory (refusal_line Memory) Memory r k k' puts (λ h. refl)
@@ -322,7 +347,8 @@ none_left : (left left' : Option (List ℕ)) (bytes : List ℕ) → TakesAll lef
 none_left None left' bytes t = tt
 none_left (Some all) left' bytes t = t.1
 
-reply_left : (status : Status) (bytes : List ℕ) (left left' : Option (List ℕ)) → is_reply status ≡ true → TakesAll left left' bytes → LeavesRest status left left'
+reply_left : (status : Status) (bytes : List ℕ) (left left' : Option (List ℕ)) → is_reply status ≡ true → TakesAll left left' bytes
+    → LeavesRest status left left'
 reply_left Ok bytes left left' h t = none_left left left' bytes t
 reply_left Usage bytes left left' h t = cc
 reply_left (BadLine line) bytes left left' h t = none_left left left' bytes t
@@ -343,7 +369,8 @@ left_at : (status r : Status) (left left' : Option (List ℕ)) → r ≡ status 
 left_at status r left left' e h = let P : Status → Type 0 = λ s. LeavesRest s left left' in subst P (sym e) h
 
 -- a job that takes its input leaves what the status says
-leaves_of : (command : Command) (status : Status) (left left' : Option (List ℕ)) → TakesInput command → LeavesRest status left left' → LeavesInput command status left left'
+leaves_of : (command : Command) (status : Status) (left left' : Option (List ℕ)) → TakesInput command → LeavesRest status left left'
+    → LeavesInput command status left left'
 leaves_of Check status left left' reads h = h
 leaves_of Eval status left left' reads h = h
 leaves_of (Plan slowdown) status left left' reads h = h
@@ -360,7 +387,8 @@ leaves_of (Demo size) status left left' reads h = absurd reads
 same_reads : (ws : List (List ℕ)) (a b : Command) → IsCommand ws a → IsCommand ws b → TakesInput a → TakesInput b
 same_reads ws a b x y reads = subst TakesInput (same_command ws a b x y) reads
 
-pub rest_left : (ws : List (List ℕ)) (r : Status) (s s' : SourceView) (k k' : SinkView) → Answers ws r s s' k k' → (command : Command) → is_settled r ≡ true → IsCommand ws command → LeavesInput command r s.left s'.left
+pub rest_left : (ws : List (List ℕ)) (r : Status) (s s' : SourceView) (k k' : SinkView) → Answers ws r s s' k k' → (command : Command) → is_settled r ≡ true
+    → IsCommand ws command → LeavesInput command r s.left s'.left
 rest_left ws r s s' k k' (No_job other_words same puts) command h job = absurd (other_words command job)
 rest_left ws r s s' k k' (Made size job' same made) command h job =
     let P : Command → Type 0 = λ x. LeavesInput x r s.left s'.left in
@@ -373,13 +401,15 @@ rest_left ws r s s' k k' (Past_limit command' job' reads takes puts) command h j
     leaves_of command r s.left s'.left (same_reads ws command' command job' job reads) (left_at TooLong r s.left s'.left w.same takes)
 rest_left ws r s s' k k' (Done command' job' reads bytes text status takes few built puts) command h job =
     let w = whole text status r k k' puts h in
-    leaves_of command r s.left s'.left (same_reads ws command' command job' job reads) (left_at status r s.left s'.left w.same (reply_left status bytes s.left s'.left (done_replies command' bytes status text built) takes))
+    leaves_of command r s.left s'.left (same_reads ws command' command job' job reads)
+    (left_at status r s.left s'.left w.same (reply_left status bytes s.left s'.left (done_replies command' bytes status text built) takes))
 rest_left ws r s s' k k' (No_room command' job' reads puts) command h job =
     let w = whole (refusal_line Memory) Memory r k k' puts h in
     let never : false ≡ true = sym (ap is_settled w.same) ∙ h in cc
 
 -- the answer to an input for which the job has a result, where nothing failed
-puts_ok : (text : List ℕ) (status r : Status) (k k' : SinkView) → Puts text status r k k' → (Rose k.faults k'.faults → ⊥) → (status ≡ Ok) ⊎ (status ≡ Memory) → (r ≡ Ok) ⊎ (r ≡ Memory)
+puts_ok : (text : List ℕ) (status r : Status) (k k' : SinkView) → Puts text status r k k' → (Rose k.faults k'.faults → ⊥) → (status ≡ Ok) ⊎ (status ≡ Memory)
+    → (r ≡ Ok) ⊎ (r ≡ Memory)
 puts_ok text status r k k' (Whole f a b) fine (inl e) = inl (f ∙ e)
 puts_ok text status r k k' (Whole f a b) fine (inr e) = inr (f ∙ e)
 puts_ok text status r k k' (Failing f a b) fine e = absurd (fine b)
@@ -408,7 +438,8 @@ completes ws r s s' k k' (No_room command' job' reads puts) command job read wri
 -- ---- demos
 
 -- where the words name a demo, the call made it
-pub made : (ws : List (List ℕ)) (r : Status) (s s' : SourceView) (k k' : SinkView) → Answers ws r s s' k k' → (size : ℕ) → IsCommand ws (Demo size) → (s' ≡ s) × (n : ℕ) × IsMade n r k k'
+pub made : (ws : List (List ℕ)) (r : Status) (s s' : SourceView) (k k' : SinkView) → Answers ws r s s' k k' → (size : ℕ) → IsCommand ws (Demo size) → (s' ≡ s)
+    × (n : ℕ) × IsMade n r k k'
 made ws r s s' k k' (No_job other_words same puts) size job = absurd (other_words (Demo size) job)
 made ws r s s' k k' (Made n job' same is) size job = (same, n, is)
 made ws r s s' k k' (Unread command job' reads rose puts) size job = absurd (same_reads ws command (Demo size) job' job reads)
@@ -416,8 +447,10 @@ made ws r s s' k k' (Past_limit command job' reads takes puts) size job = absurd
 made ws r s s' k k' (Done command job' reads bytes text status takes few built puts) size job = absurd (same_reads ws command (Demo size) job' job reads)
 made ws r s s' k k' (No_room command job' reads puts) size job = absurd (same_reads ws command (Demo size) job' job reads)
 
-pub demo_completes : (ws : List (List ℕ)) (r : Status) (s s' : SourceView) (k k' : SinkView) → Answers ws r s s' k k' → (size : ℕ) → IsCommand ws (Demo size) → (Rose k.faults k'.faults → ⊥) → (r ≡ Ok) ⊎ (r ≡ Memory)
+pub demo_completes : (ws : List (List ℕ)) (r : Status) (s s' : SourceView) (k k' : SinkView) → Answers ws r s s' k k' → (size : ℕ) → IsCommand ws (Demo size)
+    → (Rose k.faults k'.faults → ⊥) → (r ≡ Ok) ⊎ (r ≡ Memory)
 demo_completes ws r s s' k k' a size job written = let m = made ws r s s' k k' a size job in made_ok m.1 r k k' m.2 written
 
-pub takes_nothing : (ws : List (List ℕ)) (r : Status) (s s' : SourceView) (k k' : SinkView) → Answers ws r s s' k k' → (size : ℕ) → IsCommand ws (Demo size) → (s'.left ≡ s.left) × (s'.faults ≡ s.faults)
+pub takes_nothing : (ws : List (List ℕ)) (r : Status) (s s' : SourceView) (k k' : SinkView) → Answers ws r s s' k k' → (size : ℕ) → IsCommand ws (Demo size)
+    → (s'.left ≡ s.left) × (s'.faults ≡ s.faults)
 takes_nothing ws r s s' k k' a size job = let m = made ws r s s' k k' a size job in (ap (λ (v : SourceView). v.left) m.0, ap (λ (v : SourceView). v.faults) m.0)

@@ -8,10 +8,12 @@ use Rattle.ae_compile.specs.Costing.{main_costs}
 use Rattle.ae_compile.specs.Passes.{CompiledView, CostedView, IsCompiledProgram}
 
 -- as many clocks as are counted by the costs
-pub clocks_told : (d : CompiledView) (k : CostedView) (latency blocks clocks : ℕ) → d.costed ≡ k → IsCompiledProgram d → latency ≡ (main_costs (program_tree k.program) (st_func_trees k.schedule)).latency → clocks ≡ clock_count k.slowdown latency blocks
+pub clocks_told : (d : CompiledView) (k : CostedView) (latency blocks clocks : ℕ) → d.costed ≡ k → IsCompiledProgram d
+    → latency ≡ (main_costs (program_tree k.program) (st_func_trees k.schedule)).latency → clocks ≡ clock_count k.slowdown latency blocks
     → clock_count d.costed.slowdown d.report.latency blocks ≡ clocks
 clocks_told d k latency blocks clocks same is late count =
-    let told : d.report.latency ≡ latency = ap (λ (r : ReportTree). r.latency) is.compiled.reported ∙ ap (λ (x : CostedView). (main_costs (program_tree x.program) (st_func_trees x.schedule)).latency) same ∙ sym late in
+    let told : d.report.latency ≡ latency = ap (λ (r : ReportTree). r.latency) is.compiled.reported ∙
+    ap (λ (x : CostedView). (main_costs (program_tree x.program) (st_func_trees x.schedule)).latency) same ∙ sym late in
     (λ i. clock_count (same i).slowdown (told i) blocks) ∙ sym count
 
 -- a size within the limit has few of them

@@ -18,11 +18,14 @@ rows_from : (ns : List Node) (cs : List Cost) (i : ℕ) (n : Node) (c : Cost) �
 rows_from [] cs i n c l e g = absurd (omega arith)
 rows_from (m ∷ ns) [] i n c l e g = absurd (none-some c g)
 rows_from (m ∷ ns) (d ∷ cs) zero n c l e g =
-    ap (λ (x : Node). cost_row (node_tree x) d ++ cost_rows (map node_tree ns) cs) (sym e) ∙ ap (λ (x : Cost). cost_row (node_tree n) x ++ cost_rows (map node_tree ns) cs) (same_Some d c g)
+    ap (λ (x : Node). cost_row (node_tree x) d ++ cost_rows (map node_tree ns) cs) (sym e) ∙
+    ap (λ (x : Cost). cost_row (node_tree n) x ++ cost_rows (map node_tree ns) cs) (same_Some d c g)
 rows_from (m ∷ ns) (d ∷ cs) (suc i) n c l e g = rows_from ns cs i n c (omega arith) e g
 
-pub rows_next : (out new table : List ℕ) (ns : List Node) (cs : List Cost) (i : ℕ) (n : Node) (c : Cost) → i < length ns → n ≡ get_or ns i n → slice_get cs i ≡ Some c
-    → out ++ cost_rows (map node_tree (drop i ns)) (drop i cs) ≡ table → new ≡ out ++ cost_row (node_tree n) c → new ++ cost_rows (map node_tree (drop (i + 1) ns)) (drop (i + 1) cs) ≡ table
+pub rows_next : (out new table : List ℕ) (ns : List Node) (cs : List Cost) (i : ℕ) (n : Node) (c : Cost) → i < length ns → n ≡ get_or ns i n
+    → slice_get cs i ≡ Some c
+    → out ++ cost_rows (map node_tree (drop i ns)) (drop i cs) ≡ table → new ≡ out ++ cost_row (node_tree n) c → new
+    ++ cost_rows (map node_tree (drop (i + 1) ns)) (drop (i + 1) cs) ≡ table
 rows_next out new table ns cs i n c l e g h more =
     let rest = cost_rows (map node_tree (drop (suc i) ns)) (drop (suc i) cs) in
     rw add-one (ap (λ xs. xs ++ rest) more ∙ append_assoc out (cost_row (node_tree n) c) rest ∙ ap (λ ys. out ++ ys) (sym (rows_from ns cs i n c l e g)) ∙ h)

@@ -28,28 +28,35 @@ moves_with f ins layouts = map (λ i. traced_move (param_types f) ins (item_layo
 same_moves : (f : FuncTree) (s t : StFuncTree) → s.ins ≡ t.ins → item_layouts s ≡ item_layouts t → result_moves f s ≡ result_moves f t
 same_moves f s t ins layouts = λ i. moves_with f (ins i) (layouts i)
 
-costs_by : (moves : Bool) (f : FuncTree) (s t : StFuncTree) (ts us : List NodeTiming) → s.ins ≡ t.ins → item_layouts s ≡ item_layouts t → func_costs_by s ts ≡ func_costs_by t us
+costs_by : (moves : Bool) (f : FuncTree) (s t : StFuncTree) (ts us : List NodeTiming) → s.ins ≡ t.ins → item_layouts s ≡ item_layouts t
+    → func_costs_by s ts ≡ func_costs_by t us
     → (if moves then fused_costing f s else scheduled_costing s ts).costs ≡ (if moves then fused_costing f t else scheduled_costing t us).costs
 costs_by true f s t ts us ins layouts costs = ap fused_costs (same_moves f s t ins layouts)
 costs_by false f s t ts us ins layouts costs = costs
 
-over_by : (moves : Bool) (limit : ℕ) (f : FuncTree) (s t : StFuncTree) (ts us : List NodeTiming) → s.ins ≡ t.ins → item_layouts s ≡ item_layouts t → first_over limit 0 (line_loads s ts) ≡ first_over limit 0 (line_loads t us)
-    → costing_over limit (if moves then fused_costing f s else scheduled_costing s ts) ≡ costing_over limit (if moves then fused_costing f t else scheduled_costing t us)
-over_by true limit f s t ts us ins layouts over = ap (λ (ms : List Move). first_over limit 0 (record { line = f.end_line; load = (fused_costs ms).load } ∷ [])) (same_moves f s t ins layouts)
+over_by : (moves : Bool) (limit : ℕ) (f : FuncTree) (s t : StFuncTree) (ts us : List NodeTiming) → s.ins ≡ t.ins → item_layouts s ≡ item_layouts t
+    → first_over limit 0 (line_loads s ts) ≡ first_over limit 0 (line_loads t us)
+    → costing_over limit (if moves then fused_costing f s else scheduled_costing s ts) ≡ costing_over limit
+    (if moves then fused_costing f t else scheduled_costing t us)
+over_by true limit f s t ts us ins layouts over =
+    ap (λ (ms : List Move). first_over limit 0 (record { line = f.end_line; load = (fused_costs ms).load } ∷ [])) (same_moves f s t ins layouts)
 over_by false limit f s t ts us ins layouts over = over
 
 abbrev timings_in : List StFuncTree → StFuncTree → List NodeTiming
 timings_in all s = node_timings (all_costs (take (last_of all) all)) s
 
-pub costs_same : (p : ProgramTree) (slowdown : ℕ) (instances others : List StFuncTree) → IsSchedule p slowdown instances → IsSchedule p slowdown others → main_costs p instances ≡ main_costs p others
+pub costs_same : (p : ProgramTree) (slowdown : ℕ) (instances others : List StFuncTree) → IsSchedule p slowdown instances → IsSchedule p slowdown others
+    → main_costs p instances ≡ main_costs p others
 costs_same p slowdown instances others h g =
     let a = schedules_alike p slowdown instances others h g in
     let parts = parts_of p slowdown instances h in
     ap (λ (c : Costing). c.costs) (costing_is p instances parts.func a.instance parts.there a.here)
-    ∙ costs_by (is_movement p) parts.func a.instance a.other (timings_in instances a.instance) (timings_in others a.other) a.same.ins a.same.layouts a.same.costs
+    ∙ costs_by (is_movement p) parts.func a.instance a.other (timings_in instances a.instance)
+    (timings_in others a.other) a.same.ins a.same.layouts a.same.costs
     ∙ sym (ap (λ (c : Costing). c.costs) (costing_is p others parts.func a.other parts.there a.there))
 
-pub over_same : (limit : ℕ) (p : ProgramTree) (slowdown : ℕ) (instances others : List StFuncTree) → IsSchedule p slowdown instances → IsSchedule p slowdown others → costs_over limit p instances ≡ costs_over limit p others
+pub over_same : (limit : ℕ) (p : ProgramTree) (slowdown : ℕ) (instances others : List StFuncTree) → IsSchedule p slowdown instances
+    → IsSchedule p slowdown others → costs_over limit p instances ≡ costs_over limit p others
 over_same limit p slowdown instances others h g =
     let a = schedules_alike p slowdown instances others h g in
     let parts = parts_of p slowdown instances h in
@@ -58,5 +65,6 @@ over_same limit p slowdown instances others h g =
     let other : too_large limit others ≡ first_over limit 0 (line_loads a.other (timings_in others a.other)) =
     ap (option_and_then (λ (x : StFuncTree). first_over limit 0 (line_loads x (timings_in others x)))) a.there in
     ap (costing_over limit) (costing_is p instances parts.func a.instance parts.there a.here)
-    ∙ over_by (is_movement p) limit parts.func a.instance a.other (timings_in instances a.instance) (timings_in others a.other) a.same.ins a.same.layouts (sym own ∙ (a.large limit ∙ other))
+    ∙ over_by (is_movement p) limit parts.func a.instance a.other (timings_in instances a.instance) (timings_in others a.other) a.same.ins a.same.layouts
+    (sym own ∙ (a.large limit ∙ other))
     ∙ sym (ap (costing_over limit) (costing_is p others parts.func a.other parts.there a.there))

@@ -58,7 +58,8 @@ text_is n =
     let size : List ℕ = decimal (16 * n) in
     let numbers : program_text (demo_tree n) ≡ lines_with (decimal 16) (decimal 1) size = refl in
     let spelled : lines_with (decimal 16) (decimal 1) size ≡ lines_with (codes "16") (codes "1") size = λ i. lines_with (sixteen_is i) (one_is i) size in
-    let laid : front ++ (((size ++ mid) ++ []) ++ rest) ≡ front ++ (size ++ (mid ++ rest)) = ap (λ xs. front ++ xs) (append_assoc (size ++ mid) [] rest ∙ append_assoc size mid rest) in
+    let laid : front ++ (((size ++ mid) ++ []) ++ rest) ≡ front
+    ++ (size ++ (mid ++ rest)) = ap (λ xs. front ++ xs) (append_assoc (size ++ mid) [] rest ∙ append_assoc size mid rest) in
     numbers ∙ spelled ∙ laid
 
 demo_reads : (n : ℕ) → IsAcceptedDemo n → Reads (demo_program n) (demo_tree n)
@@ -81,14 +82,16 @@ pub demo_wide : (n : ℕ) → input_widths (demo_tree n) ≡ replicate (16 * n) 
 demo_wide n = append_none _ ∙ widths_each (16 * n)
 
 -- what its schedule costs
-demo_costs : (n : ℕ) (all : List StFuncTree) → IsAcceptedDemo n → IsSchedule (demo_tree n) (demo_slowdown n) all → main_costs (demo_tree n) all ≡ costs_of (demo_tree n) 1 (demo_slowdown n)
+demo_costs : (n : ℕ) (all : List StFuncTree) → IsAcceptedDemo n → IsSchedule (demo_tree n) (demo_slowdown n) all
+    → main_costs (demo_tree n) all ≡ costs_of (demo_tree n) 1 (demo_slowdown n)
 demo_costs n all h schedule =
     let parts = parts_of (demo_tree n) (demo_slowdown n) all schedule in
     plain_main (demo_tree n) all refl parts
     ∙ ap (costs_in (all_costs (take (last_of all) all))) parts.last
     ∙ costs_by_function (demo_tree n) (demo_slowdown n) all parts.instance h.formed_is schedule parts.last
 
-pub demo_soon : (n : ℕ) (all : List StFuncTree) → IsAcceptedDemo n → IsSchedule (demo_tree n) (demo_slowdown n) all → (main_costs (demo_tree n) all).latency ≤ 100000
+pub demo_soon : (n : ℕ) (all : List StFuncTree) → IsAcceptedDemo n → IsSchedule (demo_tree n) (demo_slowdown n) all
+    → (main_costs (demo_tree n) all).latency ≤ 100000
 demo_soon n all h schedule = subst (λ (c : OwnCosts). c.latency ≤ 100000) (sym (demo_costs n all h schedule)) h.soon
 
 pub demo_has_costs : (n : ℕ) → IsAcceptedDemo n → HasCosts load_limit (demo_program n) (demo_slowdown n)
@@ -100,7 +103,11 @@ demo_has_costs n h =
     record {
       program = p;
       instances = there.0;
-      costed = record { typed = record { reads = demo_reads n h; typed = h.typed }; schedule = there.1; within = plain_within load_limit p there.0 refl parts light };
+      costed = record {
+        typed = record { reads = demo_reads n h; typed = h.typed };
+        schedule = there.1;
+        within = plain_within load_limit p there.0 refl parts light;
+      };
     }
 
 -- ---- a run on its blocks

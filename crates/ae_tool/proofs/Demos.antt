@@ -91,7 +91,8 @@ row_right k zero [] h long = refl
 row_right k zero (w ∷ ws) h long = absurd (omega (arith, long))
 row_right k (suc n) [] h long = absurd (omega (arith, long))
 row_right k (suc n) (w ∷ ws) h long =
-    ap (λ t. if t then wrong_column (k + 1) (replicate n 16) (map decimal ws) else Some k) (field_right w h.0) ∙ row_right (k + 1) n ws h.1 (omega (arith, long))
+    ap (λ t. if t then wrong_column (k + 1) (replicate n 16) (map decimal ws) else Some k) (field_right w h.0) ∙
+    row_right (k + 1) n ws h.1 (omega (arith, long))
 
 rows_right : (r m k : ℕ) (ws : List ℕ) → AreSmall ws → length ws ≡ m * k → bad_row r (replicate k 16) (map (map decimal) (cut m k ws)) ≡ None
 rows_right r zero k ws h long = refl
@@ -107,7 +108,8 @@ pub demo_rows : (p : ProgramTree) (n : ℕ) → n ≤ 64 → input_widths p ≡ 
 demo_rows p n h wide =
     let long : length (demo_words n) ≡ demo_blocks n * (16 * n) = length-map-range_with_len (demo_word n) 0 (demo_blocks n * (16 * n)) in
     let small : AreSmall (demo_words n) = small_words n 0 (demo_blocks n * (16 * n)) in
-    let many : length (demo_table n) ≡ demo_blocks n = length-map (cut (demo_blocks n) (16 * n) (demo_words n)) (map decimal) ∙ length-cut (demo_blocks n) (16 * n) (demo_words n) in
+    let many : length (demo_table n) ≡ demo_blocks n = length-map (cut (demo_blocks n) (16 * n) (demo_words n)) (map decimal) ∙
+    length-cut (demo_blocks n) (16 * n) (demo_words n) in
     record {
       many = sym many;
       rows = record {

@@ -45,7 +45,8 @@ right_fits [] j (f ∷ fs) e = cc
 right_fits (k ∷ ks) j [] e = cc
 right_fits (k ∷ ks) j (f ∷ fs) e = by (is_right k.width f) refl (right_fits ks (j + 1) fs) e
   where
-    by : (t : Bool) → is_right k.width f ≡ t → (wrong_column (j + 1) (widths_for ks) fs ≡ None → FitKinds (row_words fs) ks) → (if t then wrong_column (j + 1) (widths_for ks) fs else Some j) ≡ None → FitKinds (row_words (f ∷ fs)) (k ∷ ks)
+    by : (t : Bool) → is_right k.width f ≡ t → (wrong_column (j + 1) (widths_for ks) fs ≡ None → FitKinds (row_words fs) ks)
+        → (if t then wrong_column (j + 1) (widths_for ks) fs else Some j) ≡ None → FitKinds (row_words (f ∷ fs)) (k ∷ ks)
     by true t rest h =
         let small : digits_value 10 f < 2 ^ k.width = ltb-true (digits_value 10 f) (2 ^ k.width) (and-second _ _ t) in
         (small, rest h)
@@ -63,12 +64,14 @@ rights m widths r rs e = by (wrong_column 1 widths r) refl e
     by (Some c) w h = cc
     by None w h = record { first = w; later = h }
 
-right_at : (m : ℕ) (widths : List ℕ) (table : List (List (List ℕ))) (k : ℕ) → bad_row m widths table ≡ None → k < length table → wrong_column 1 widths (get_or table k []) ≡ None
+right_at : (m : ℕ) (widths : List ℕ) (table : List (List (List ℕ))) (k : ℕ) → bad_row m widths table ≡ None → k < length table
+    → wrong_column 1 widths (get_or table k []) ≡ None
 right_at m widths [] k e h = absurd (omega arith)
 right_at m widths (r ∷ rs) zero e h = (rights m widths r rs e).first
 right_at m widths (r ∷ rs) (suc k) e h = right_at (m + 1) widths rs k (rights m widths r rs e).later (omega arith)
 
-words_long : (m : ℕ) (ks : List WordKind) (table : List (List (List ℕ))) → bad_row m (widths_for ks) table ≡ None → length (words_in table) ≡ length table * length ks
+words_long : (m : ℕ) (ks : List WordKind) (table : List (List (List ℕ))) → bad_row m (widths_for ks) table ≡ None
+    → length (words_in table) ≡ length table * length ks
 words_long m ks [] e = omega arith
 words_long m ks (r ∷ rs) e =
     let g = rights m (widths_for ks) r rs e in
@@ -83,7 +86,8 @@ words_long m ks (r ∷ rs) e =
 abbrev input_kinds : ProgramTree → List WordKind
 input_kinds p = kinds_of (input_types p)
 
-pub rows_long : (p : ProgramTree) (columns : ℕ) (table : List (List (List ℕ))) (ws : List ℕ) → IsTyped p → AreRows p columns table ws → length ws ≡ length table * columns
+pub rows_long : (p : ProgramTree) (columns : ℕ) (table : List (List (List ℕ))) (ws : List ℕ) → IsTyped p → AreRows p columns table ws
+    → length ws ≡ length table * columns
 rows_long p columns table ws h a =
     let c = has_columns p h in
     let right : bad_row 1 (widths_for (input_kinds p)) table ≡ None = ap (λ us. bad_row 1 us table) (sym c.kinds_are) ∙ a.right in
@@ -101,7 +105,8 @@ pub record NextRow (p : ProgramTree) (columns : ℕ) (table : List (List (List �
   pub front : take columns rest ≡ row_words row
   pub back : drop columns rest ≡ words_in (drop (k + 1) table)
 
-pub next_row : (p : ProgramTree) (columns : ℕ) (table : List (List (List ℕ))) (k : ℕ) (ws rest : List ℕ) → IsTyped p → AreRows p columns table ws → k < length table → rest ≡ words_in (drop k table) → NextRow p columns table k rest
+pub next_row : (p : ProgramTree) (columns : ℕ) (table : List (List (List ℕ))) (k : ℕ) (ws rest : List ℕ) → IsTyped p → AreRows p columns table ws
+    → k < length table → rest ≡ words_in (drop k table) → NextRow p columns table k rest
 next_row p columns table k ws rest h a lt e =
     let c = has_columns p h in
     let ks = input_kinds p in
@@ -129,14 +134,18 @@ pub record LinesDone (p : ProgramTree) (table : List (List (List ℕ))) (k : ℕ
   pub rest_is : rest ≡ words_in (drop k table)
   pub lines : out ++ eval_text p (drop k table) ≡ eval_text p table
 
-pub lines_none : (p : ProgramTree) (columns : ℕ) (table : List (List (List ℕ))) (ws out : List ℕ) → AreRows p columns table ws → out ≡ [] → LinesDone p table 0 ws out
+pub lines_none : (p : ProgramTree) (columns : ℕ) (table : List (List (List ℕ))) (ws out : List ℕ) → AreRows p columns table ws → out ≡ []
+    → LinesDone p table 0 ws out
 lines_none p columns table ws out a e = record { rest_is = a.words_are; lines = ap (λ x. x ++ eval_text p table) e }
 
-pub lines_next : (p : ProgramTree) (columns : ℕ) (table : List (List (List ℕ))) (k : ℕ) (ws rest front back out new results : List ℕ) → IsTyped p → AreRows p columns table ws → k < length table → LinesDone p table k rest out
-    → front ≡ take columns rest → back ≡ drop columns rest → results ≡ flat_map flat (mean p (values_in_row p front)) → new ≡ out ++ words_line results → LinesDone p table (k + 1) back new
+pub lines_next : (p : ProgramTree) (columns : ℕ) (table : List (List (List ℕ))) (k : ℕ) (ws rest front back out new results : List ℕ) → IsTyped p
+    → AreRows p columns table ws → k < length table → LinesDone p table k rest out
+    → front ≡ take columns rest → back ≡ drop columns rest → results ≡ flat_map flat (mean p (values_in_row p front)) → new ≡ out ++ words_line results
+    → LinesDone p table (k + 1) back new
 lines_next p columns table k ws rest front back out new results h a lt d ef eb er en =
     let n = next_row p columns table k ws rest h a lt d.rest_is in
-    let line : words_line results ≡ words_line (row_results p n.row) = ap words_line (er ∙ ap (λ us. flat_map flat (mean p (values_in_row p us))) (ef ∙ n.front)) in
+    let line : words_line results ≡ words_line (row_results p n.row) = ap words_line
+    (er ∙ ap (λ us. flat_map flat (mean p (values_in_row p us))) (ef ∙ n.front)) in
     record {
       rest_is = eb ∙ n.back;
       lines =
@@ -146,7 +155,8 @@ lines_next p columns table k ws rest front back out new results h a lt d ef eb e
           ∙ d.lines;
     }
 
-pub lines_all : (p : ProgramTree) (table : List (List (List ℕ))) (k : ℕ) (rest out : List ℕ) → length table ≤ k → LinesDone p table k rest out → out ≡ eval_text p table
+pub lines_all : (p : ProgramTree) (table : List (List (List ℕ))) (k : ℕ) (rest out : List ℕ) → length table ≤ k → LinesDone p table k rest out
+    → out ≡ eval_text p table
 lines_all p table k rest out h d =
     let none : drop k table ≡ [] = drop_all k table h in
     sym (append-nil out) ∙ ap (λ rs. out ++ eval_text p rs) (sym none) ∙ d.lines
@@ -184,17 +194,20 @@ first_fits t ts ws h =
     let Q : ℕ → Type 0 = λ n. FitKinds (drop n ws) (kinds_of ts) in
     record { room = omega (arith, long); first = subst P size s.0; later = subst Q size s.1 }
 
-pub cut_fits : (ts : List SeqTree) (row : List ℕ) (k : ℕ) (values : List (List ℕ)) (rest : List ℕ) (t : SeqTree) → slice_get ts k ≡ Some t → CutOff ts row k values rest → FirstFits t (drop (k + 1) ts) rest
+pub cut_fits : (ts : List SeqTree) (row : List ℕ) (k : ℕ) (values : List (List ℕ)) (rest : List ℕ) (t : SeqTree) → slice_get ts k ≡ Some t
+    → CutOff ts row k values rest → FirstFits t (drop (k + 1) ts) rest
 cut_fits ts row k values rest t e c = first_fits t (drop (k + 1) ts) rest (subst (λ us. FitIn us rest) (drop-at ts k t e) c.fits)
 
-pub cut_next : (ts : List SeqTree) (row : List ℕ) (k size : ℕ) (values new : List (List ℕ)) (rest own after : List ℕ) (t : SeqTree) → slice_get ts k ≡ Some t → CutOff ts row k values rest → size ≡ words t
+pub cut_next : (ts : List SeqTree) (row : List ℕ) (k size : ℕ) (values new : List (List ℕ)) (rest own after : List ℕ) (t : SeqTree) → slice_get ts k ≡ Some t
+    → CutOff ts row k values rest → size ≡ words t
     → own ≡ take size rest → after ≡ drop size rest → new ≡ values ++ own ∷ [] → CutOff ts row (k + 1) new after
 cut_next ts row k size values new rest own after t e c es eo ea en =
     let f = cut_fits ts row k values rest t e c in
     let split : drop k ts ≡ t ∷ drop (k + 1) ts = drop-at ts k t e in
     let own_is : own ≡ take (words t) rest = eo ∙ ap (λ n. take n rest) es in
     let after_is : after ≡ drop (words t) rest = ea ∙ ap (λ n. drop n rest) es in
-    let form : (later : List (List ℕ)) → values ++ own ∷ later ≡ new ++ later = λ later. sym (ap (λ vs. vs ++ later) en ∙ append_assoc values (own ∷ []) later) in
+    let form : (later : List (List ℕ)) → values ++ own ∷ later ≡ new
+    ++ later = λ later. sym (ap (λ vs. vs ++ later) en ∙ append_assoc values (own ∷ []) later) in
     record {
       fits = subst (λ us. FitIn (drop (k + 1) ts) us) (sym after_is) f.later;
       all = λ later g.
@@ -212,7 +225,8 @@ pub record CutAll (ts : List SeqTree) (row : List ℕ) (values : List (List ℕ)
   pub fits : AllFit ts values
   pub are : values_of ts values ≡ values_in ts row
 
-pub cut_all : (ts : List SeqTree) (row : List ℕ) (k : ℕ) (values : List (List ℕ)) (rest : List ℕ) → length ts ≤ k → CutOff ts row k values rest → CutAll ts row values
+pub cut_all : (ts : List SeqTree) (row : List ℕ) (k : ℕ) (values : List (List ℕ)) (rest : List ℕ) → length ts ≤ k → CutOff ts row k values rest
+    → CutAll ts row values
 cut_all ts row k values rest h c =
     let none : drop k ts ≡ [] = drop_all k ts h in
     let same : values ++ [] ≡ values = append-nil values in
@@ -236,42 +250,51 @@ pub record Counted (p : ProgramTree) (func : ℕ) (items : List ℕ) (k count : 
 pub counted_none : (p : ProgramTree) (func : ℕ) (items : List ℕ) → Counted p func items 0 0
 counted_none p func items = record { total = omega arith; few = omega arith }
 
-pub counted_next : (p : ProgramTree) (func : ℕ) (items : List ℕ) (k count item more new : ℕ) → k < length items → item ≡ get_or items k item → more ≡ type_words (type_at p func item) → more ≤ 16384 → new ≡ count + more → Counted p func items k count → Counted p func items (k + 1) new
+pub counted_next : (p : ProgramTree) (func : ℕ) (items : List ℕ) (k count item more new : ℕ) → k < length items → item ≡ get_or items k item
+    → more ≡ type_words (type_at p func item) → more ≤ 16384 → new ≡ count + more → Counted p func items k count → Counted p func items (k + 1) new
 counted_next p func items k count item more new h ei em few en c =
     let split : drop k items ≡ item ∷ drop (k + 1) items = drop_more items k item h ∙ ap (λ x. x ∷ drop (k + 1) items) (sym ei) in
-    let step : sum_by type_words (map (type_at p func) (drop k items)) ≡ type_words (type_at p func item) + sum_by type_words (map (type_at p func) (drop (k + 1) items)) = ap (λ xs. sum_by type_words (map (type_at p func) xs)) split ∙ sum_by-cons type_words (type_at p func item) (map (type_at p func) (drop (k + 1) items)) in
+    let step : sum_by type_words (map (type_at p func) (drop k items)) ≡ type_words (type_at p func item) + sum_by type_words
+    (map (type_at p func) (drop (k + 1) items)) = ap (λ xs. sum_by type_words (map (type_at p func) xs)) split ∙
+    sum_by-cons type_words (type_at p func item) (map (type_at p func) (drop (k + 1) items)) in
     record { total = omega (arith, c.total, step, em, en); few = omega (arith, c.few, few, en) }
 
-pub counted_all : (p : ProgramTree) (func : ℕ) (items : List ℕ) (k count : ℕ) → length items ≤ k → Counted p func items k count → count ≡ sum_by type_words (map (type_at p func) items)
+pub counted_all : (p : ProgramTree) (func : ℕ) (items : List ℕ) (k count : ℕ) → length items ≤ k → Counted p func items k count
+    → count ≡ sum_by type_words (map (type_at p func) items)
 counted_all p func items k count h c =
     let none : sum_by type_words (map (type_at p func) (drop k items)) ≡ 0 = ap (λ xs. sum_by type_words (map (type_at p func) xs)) (drop_all k items h) in
     omega (arith, none, c.total)
 
 -- ---- the size, and what is answered
 
-pub rows_count : (p : ProgramTree) (columns : ℕ) (table : List (List (List ℕ))) (ws : List ℕ) → IsTyped p → AreRows p columns table ws → length ws / columns ≡ length table
+pub rows_count : (p : ProgramTree) (columns : ℕ) (table : List (List (List ℕ))) (ws : List ℕ) → IsTyped p → AreRows p columns table ws
+    → length ws / columns ≡ length table
 rows_count p columns table ws h a =
     let some = column_some p columns table ws h a in
     ap (λ n. n / columns) (rows_long p columns table ws h a) ∙ divided (length table) columns some
 
-pub size_is : (p : ProgramTree) (columns : ℕ) (table : List (List (List ℕ))) (ws : List ℕ) (results : ℕ) → IsTyped p → AreRows p columns table ws → results ≡ sum_by type_words (result_types p) → length ws / columns * (1 + results) ≡ eval_size p table
+pub size_is : (p : ProgramTree) (columns : ℕ) (table : List (List (List ℕ))) (ws : List ℕ) (results : ℕ) → IsTyped p → AreRows p columns table ws
+    → results ≡ sum_by type_words (result_types p) → length ws / columns * (1 + results) ≡ eval_size p table
 size_is p columns table ws results h a e =
     ap (λ n. n * (1 + results)) (rows_count p columns table ws h a) ∙ ap (λ r. length table * (1 + r)) e
 
-pub long_run : (p : ProgramTree) (columns : ℕ) (table : List (List (List ℕ))) (ws : List ℕ) (results size : ℕ) (status : Status) (text : List ℕ) → IsTyped p → AreRows p columns table ws → results ≡ sum_by type_words (result_types p)
+pub long_run : (p : ProgramTree) (columns : ℕ) (table : List (List (List ℕ))) (ws : List ℕ) (results size : ℕ) (status : Status) (text : List ℕ) → IsTyped p
+    → AreRows p columns table ws → results ≡ sum_by type_words (result_types p)
     → size ≡ length ws / columns * (1 + results) → run_limit < size → status ≡ LongRun size → text ≡ refusal_line (LongRun size) → IsEvalOf p table status text
 long_run p columns table ws results size status text h a e es lt st te =
     let here : IsEvalOf p table (LongRun size) text = (a.right, lt, es ∙ size_is p columns table ws results h a e, te) in
     subst (λ s. IsEvalOf p table s text) (sym st) here
 
-pub short_run : (p : ProgramTree) (columns : ℕ) (table : List (List (List ℕ))) (ws : List ℕ) (results size : ℕ) (text : List ℕ) → IsTyped p → AreRows p columns table ws → results ≡ sum_by type_words (result_types p)
+pub short_run : (p : ProgramTree) (columns : ℕ) (table : List (List (List ℕ))) (ws : List ℕ) (results size : ℕ) (text : List ℕ) → IsTyped p
+    → AreRows p columns table ws → results ≡ sum_by type_words (result_types p)
     → size ≡ length ws / columns * (1 + results) → size ≤ run_limit → text ≡ eval_text p table → IsEvalOf p table Ok text
 short_run p columns table ws results size text h a e es le te =
     let same : size ≡ eval_size p table = es ∙ size_is p columns table ws results h a e in
     (a.right, subst (λ k. k ≤ run_limit) same le, te)
 
 -- the size fits a word of 64 bits
-pub size_fits : (p : ProgramTree) (columns : ℕ) (table : List (List (List ℕ))) (ws : List ℕ) (results : ℕ) → IsTyped p → AreRows p columns table ws → results ≤ 131072 → length ws / columns * (1 + results) < 18446744073709551616
+pub size_fits : (p : ProgramTree) (columns : ℕ) (table : List (List (List ℕ))) (ws : List ℕ) (results : ℕ) → IsTyped p → AreRows p columns table ws
+    → results ≤ 131072 → length ws / columns * (1 + results) < 18446744073709551616
 size_fits p columns table ws results h a few =
     let n = length ws / columns in
     let rows : n ≡ length table = rows_count p columns table ws h a in

@@ -40,12 +40,14 @@ fine_size : (b : Bool) → size_verdict b ≡ fine → b ≡ true
 fine_size true h = refl
 fine_size false h = cc
 
-sized_params : (known : List Signature) (fs : List FuncTree) (k : ℕ) (f : FuncTree) → refused (judged known fs) ≡ None → slice_get fs k ≡ Some f → all_in_size (param_types f) ≡ true
+sized_params : (known : List Signature) (fs : List FuncTree) (k : ℕ) (f : FuncTree) → refused (judged known fs) ≡ None → slice_get fs k ≡ Some f
+    → all_in_size (param_types f) ≡ true
 sized_params known [] k f h e = cc
 sized_params known (g ∷ fs) zero f h e =
     let same : g ≡ f = cc in
     let later : List Judged = judged_nodes known (map Some (param_types g)) g.nodes ++ judged (known ++ signature known g ∷ []) fs in
-    let r = both_none (record { line = g.line; verdict = size_verdict (all_in_size (param_types g)) }) (size_verdict (all_in_size (param_types g))) (refused later) h in
+    let r = both_none (record { line = g.line; verdict = size_verdict (all_in_size (param_types g)) }) (size_verdict (all_in_size (param_types g)))
+    (refused later) h in
     let P : FuncTree → Type 0 = λ x. all_in_size (param_types x) ≡ true in
     subst P same (fine_size (all_in_size (param_types g)) r.0)
 sized_params known (g ∷ fs) (suc k) f h e = sized_params (known ++ signature known g ∷ []) fs k f (later_none (judged_func known g) _ h) e
@@ -73,7 +75,8 @@ AreSmall ks = All (λ w. w ≤ 64) (map (λ (k : WordKind). k.width) ks)
 
 small-append : (us vs : List WordKind) → AreSmall us → AreSmall vs → AreSmall (us ++ vs)
 small-append us vs h g =
-    subst (All (λ w. w ≤ 64)) (sym (map-append (λ (k : WordKind). k.width) us vs)) (All-append (λ w. w ≤ 64) (map (λ (k : WordKind). k.width) us) (map (λ (k : WordKind). k.width) vs) h g)
+    subst (All (λ w. w ≤ 64)) (sym (map-append (λ (k : WordKind). k.width) us vs))
+    (All-append (λ w. w ≤ 64) (map (λ (k : WordKind). k.width) us) (map (λ (k : WordKind). k.width) vs) h g)
 
 atom_small : (a : AtomTree) → widths_in_range a ≡ true → AreSmall (atom_kinds a)
 atom_small (word k) h =
@@ -188,7 +191,8 @@ pub record MainRead (p : Program) (f : Func) : Type 0 where
   pub results : result_types (program_tree p) ≡ map (type_at (program_tree p) (last_func (program_tree p))) f.results.items
   pub few : length f.results.items ≤ 8
 
-pub main_read : (p q : Program) (last : ℕ) (f : Func) → IsTyped (program_tree p) → last ≡ last_func (program_tree p) → last < length (program_tree p).funcs → q ≡ p → f ≡ get_or q.funcs.items last f → MainRead p f
+pub main_read : (p q : Program) (last : ℕ) (f : Func) → IsTyped (program_tree p) → last ≡ last_func (program_tree p) → last < length (program_tree p).funcs
+    → q ≡ p → f ≡ get_or q.funcs.items last f → MainRead p f
 main_read p q last f h el lt eq ef =
     let t = program_tree p in
     let own : f ≡ get_or p.funcs.items last f = ef ∙ ap (λ (z : Program). get_or z.funcs.items last f) eq in
@@ -203,7 +207,8 @@ main_read p q last f h el lt eq ef =
       few = few.results;
     }
 
-pub param_read : (p : Program) (f : Func) (xs : List Param) (i : ℕ) (x : Param) → MainRead p f → xs ≡ f.params.items → i < length xs → x ≡ get_or xs i x → slice_get (input_types (program_tree p)) i ≡ Some (seq_tree x.ty)
+pub param_read : (p : Program) (f : Func) (xs : List Param) (i : ℕ) (x : Param) → MainRead p f → xs ≡ f.params.items → i < length xs → x ≡ get_or xs i x
+    → slice_get (input_types (program_tree p)) i ≡ Some (seq_tree x.ty)
 param_read p f xs i x m e h ex =
     ap (λ ts. slice_get ts i) (m.params ∙ ap (λ (ys : List Param). types_of_params (param_trees ys)) (sym e))
     ∙ slice_get-map (λ (q : ParamTree). q.type) (param_trees xs) i ∙ ap (option_map (λ (q : ParamTree). q.type)) (slice_get-view param_tree xs i x h ex)

@@ -58,16 +58,23 @@ all_kinds [] [] h = refl
 all_kinds [] (s ∷ ss) h = absurd h
 all_kinds (t ∷ ts) [] h = absurd h
 all_kinds (t ∷ ts) (s ∷ ss) h =
-    ap (λ (ks : List WordKind). ks ++ kinds_of ts) (kinds_laid t s h.0) ∙ ap (λ (ks : List WordKind). value_kinds s ++ ks) (all_kinds ts ss h.1) ∙ sym (flat_map-cons value_kinds s ss)
+    ap (λ (ks : List WordKind). ks ++ kinds_of ts) (kinds_laid t s h.0) ∙ ap (λ (ks : List WordKind). value_kinds s ++ ks) (all_kinds ts ss h.1) ∙
+    sym (flat_map-cons value_kinds s ss)
 
-rows_fit : (ks : List WordKind) (table : List (List (List ℕ))) → ((k : ℕ) (r : List (List ℕ)) → slice_get table k ≡ Some r → FitKinds (row_words r) ks) → FitKinds (words_in table) (repeated (length table) ks)
+rows_fit : (ks : List WordKind) (table : List (List (List ℕ))) → ((k : ℕ) (r : List (List ℕ)) → slice_get table k ≡ Some r → FitKinds (row_words r) ks)
+    → FitKinds (words_in table) (repeated (length table) ks)
 rows_fit ks [] each = tt
-rows_fit ks (r ∷ rs) each = FitKinds-append (row_words r) (words_in rs) ks (repeated (length rs) ks) (each 0 r refl) (rows_fit ks rs (λ k x e. each (suc k) x e))
+rows_fit ks (r ∷ rs) each =
+    FitKinds-append (row_words r) (words_in rs) ks (repeated (length rs) ks) (each 0 r refl) (rows_fit ks rs (λ k x e. each (suc k) x e))
 
-pub blocks_fit : (p : ProgramTree) (ss : List StTree) (blocks : ℕ) (table : List (List (List ℕ))) (ws : List ℕ) → IsTyped p → AllLaidOut (parameter_types p) ss → AreBlocks p blocks table ws → FitBlocks ss blocks ws
+pub blocks_fit : (p : ProgramTree) (ss : List StTree) (blocks : ℕ) (table : List (List (List ℕ))) (ws : List ℕ) → IsTyped p → AllLaidOut (parameter_types p) ss
+    → AreBlocks p blocks table ws → FitBlocks ss blocks ws
 blocks_fit p ss blocks table ws typed laid a =
     let ks : kinds_of (input_types p) ≡ flat_map value_kinds ss = ap kinds_of (same_parameters p) ∙ all_kinds (parameter_types p) ss laid in
-    let fit : FitKinds (words_in table) (repeated (length table) (kinds_of (input_types p))) = rows_fit (kinds_of (input_types p)) table (λ k r e. row_fits p (length (input_widths p)) table ws k r typed a.rows e) in
-    let fit_ws : FitKinds ws (repeated (length table) (kinds_of (input_types p))) = subst (λ (vs : List ℕ). FitKinds vs (repeated (length table) (kinds_of (input_types p)))) (sym a.rows.words_are) fit in
-    let fit_ss : FitKinds ws (repeated (length table) (flat_map value_kinds ss)) = subst (λ (ls : List WordKind). FitKinds ws (repeated (length table) ls)) ks fit_ws in
+    let fit : FitKinds (words_in table) (repeated (length table) (kinds_of (input_types p))) = rows_fit (kinds_of (input_types p)) table
+    (λ k r e. row_fits p (length (input_widths p)) table ws k r typed a.rows e) in
+    let fit_ws : FitKinds ws (repeated (length table) (kinds_of (input_types p))) = subst
+    (λ (vs : List ℕ). FitKinds vs (repeated (length table) (kinds_of (input_types p)))) (sym a.rows.words_are) fit in
+    let fit_ss : FitKinds ws (repeated (length table) (flat_map value_kinds ss)) = subst
+    (λ (ls : List WordKind). FitKinds ws (repeated (length table) ls)) ks fit_ws in
     subst (λ (n : ℕ). FitKinds ws (repeated n (flat_map value_kinds ss))) (sym a.many) fit_ss

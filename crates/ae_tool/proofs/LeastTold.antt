@@ -10,7 +10,9 @@ use Rattle.ae_tool.specs.LeastAnswers.{IsLeastOf}
 
 -- a refusal at a status that is right
 pub refused_of : {E : Type 0} (r : Result Reply E) (p : ProgramTree) (slowdown : ℕ) (status : Status) → IsLeastOf p slowdown status (refusal_line status)
-    → IfOk r (λ (reply : Reply). (reply.status ≡ status) × (string_bytes reply.text ≡ refusal_line status)) → IfOk r (λ (reply : Reply). IsLeastOf p slowdown reply.status (string_bytes reply.text))
+    → IfOk r (λ (reply : Reply). (reply.status ≡ status) × (string_bytes reply.text ≡ refusal_line status))
+    → IfOk r (λ (reply : Reply). IsLeastOf p slowdown reply.status (string_bytes reply.text))
 refused_of r p slowdown status is h =
-    IfOk-weaker r (λ (reply : Reply). (reply.status ≡ status) × (string_bytes reply.text ≡ refusal_line status)) (λ (reply : Reply). IsLeastOf p slowdown reply.status (string_bytes reply.text))
+    IfOk-weaker r (λ (reply : Reply). (reply.status ≡ status) × (string_bytes reply.text ≡ refusal_line status))
+    (λ (reply : Reply). IsLeastOf p slowdown reply.status (string_bytes reply.text))
     (λ reply w. subst (λ s. IsLeastOf p slowdown s (string_bytes reply.text)) (sym w.0) (subst (IsLeastOf p slowdown status) (sym w.1) is)) h

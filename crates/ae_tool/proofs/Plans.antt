@@ -40,15 +40,25 @@ timings_many known s = omega (arith, length_grown (next_timing known s) [] s.nod
 pub arrivals_many : (known : List OwnCosts) (s : StFuncTree) → length (item_arrivals known s) ≡ length (item_layouts s)
 arrivals_many known s =
     let ts = node_timings known s in
-    let a : length (item_arrivals known s) ≡ length (map (λ (x : StTree). 0) s.ins) + length (map (λ (t : NodeTiming). t.arrival) ts) = length-append (map (λ (x : StTree). 0) s.ins) (map (λ (t : NodeTiming). t.arrival) ts) in
+    let a : length (item_arrivals known s) ≡ length (map (λ (x : StTree). 0) s.ins) + length (map (λ (t : NodeTiming). t.arrival) ts) = length-append
+    (map (λ (x : StTree). 0) s.ins) (map (λ (t : NodeTiming). t.arrival) ts) in
     let b : length (item_layouts s) ≡ length s.ins + length (node_layouts s.nodes) = length-append s.ins (node_layouts s.nodes) in
-    omega (arith, a, b, length-map {B = ℕ} s.ins (λ (x : StTree). 0), length-map ts (λ (t : NodeTiming). t.arrival), length-map s.nodes (λ (x : StNodeTree). x.type), timings_many known s)
+    omega (
+      arith,
+      a,
+      b,
+      length-map {B = ℕ} s.ins (λ (x : StTree). 0),
+      length-map ts (λ (t : NodeTiming). t.arrival),
+      length-map s.nodes (λ (x : StNodeTree). x.type),
+      timings_many known s,
+    )
 
 abbrev pub main_known : List StFuncTree → List OwnCosts
 main_known all = all_costs (take (length all - 1) all)
 
 -- its arrivals are told
-pub arrivals_there : (limit : ℕ) (p : ProgramTree) (slowdown : ℕ) (instances : List StFunc) (c : Costs) (count : ℕ) → count ≡ length instances → IsKnown limit p slowdown (st_func_trees instances) c
+pub arrivals_there : (limit : ℕ) (p : ProgramTree) (slowdown : ℕ) (instances : List StFunc) (c : Costs) (count : ℕ) → count ≡ length instances
+    → IsKnown limit p slowdown (st_func_trees instances) c
     → arrivals_in (count - 1) c ≡ Some (main_costing p (st_func_trees instances)).arrivals
 arrivals_there limit p slowdown instances c count is k =
     let e : count - 1 ≡ length (st_func_trees instances) - 1 = ap (λ n. n - 1) (is ∙ sym (length-map instances st_func_tree)) in
@@ -67,16 +77,19 @@ from_many : (f : FuncTree) (s : StFuncTree) (i : ℕ) (vs : List ValueTree) → 
 from_many f s i [] = refl
 from_many f s i (v ∷ vs) = omega (arith, from_many f s (i + 1) vs)
 
-many_by : (moves : Bool) (f : FuncTree) (s : StFuncTree) (known : List OwnCosts) → IsInstanceOf f s → length (if moves then fused_costing f s else scheduled_costing s (node_timings known s)).arrivals ≡ length (item_layouts s)
+many_by : (moves : Bool) (f : FuncTree) (s : StFuncTree) (known : List OwnCosts) → IsInstanceOf f s
+    → length (if moves then fused_costing f s else scheduled_costing s (node_timings known s)).arrivals ≡ length (item_layouts s)
 many_by true f s known is =
     let vs : List ValueTree = numbered 1 (param_types f) in
     let values = length_grown (node_value []) vs f.nodes in
     from_many f s 0 (item_values [] f vs) ∙ omega (arith, values, numbered_many 1 (param_types f), types_many f.params, is.items)
 many_by false f s known is = arrivals_many known s
 
-pub main_arrivals_many : (p : ProgramTree) (all : List StFuncTree) (f : FuncTree) (s : StFuncTree) → slice_get p.funcs (main_of p) ≡ Some f → slice_get all (length all - 1) ≡ Some s → IsInstanceOf f s
+pub main_arrivals_many : (p : ProgramTree) (all : List StFuncTree) (f : FuncTree) (s : StFuncTree) → slice_get p.funcs (main_of p) ≡ Some f
+    → slice_get all (length all - 1) ≡ Some s → IsInstanceOf f s
     → length (main_costing p all).arrivals ≡ length (item_layouts s)
-main_arrivals_many p all f s at last is = ap (λ (c : Costing). length c.arrivals) (costing_is p all f s at last) ∙ many_by (is_movement p) f s (main_known all) is
+main_arrivals_many p all f s at last is =
+    ap (λ (c : Costing). length c.arrivals) (costing_is p all f s at last) ∙ many_by (is_movement p) f s (main_known all) is
 
 -- the text of a program with these costs
 pub main_text : (p : ProgramTree) (slowdown : ℕ) (all : List StFuncTree) (f : FuncTree) (s : StFuncTree) (costs : OwnCosts) (as_all text : List ℕ)
@@ -89,7 +102,8 @@ main_text p slowdown all f s costs as_all text at last same arrive is =
       instance = s;
       timings = node_timings (main_known all) s;
       main = record { func = at; last = last; timings = refl };
-      so = is ∙ (λ i. planned_text slowdown (same i) f (arrive i) (item_layouts s)) ∙ ap (λ (c : Costing). planned_text slowdown c.costs f c.arrivals (item_layouts s)) own;
+      so = is ∙ (λ i. planned_text slowdown (same i) f (arrive i) (item_layouts s)) ∙
+          ap (λ (c : Costing). planned_text slowdown c.costs f c.arrivals (item_layouts s)) own;
     }
 
 -- its table
@@ -103,11 +117,13 @@ main_table p all f s t text computes at last times is =
       instance = s;
       timings = ts;
       main = record { func = at; last = last; timings = refl };
-      so = is ∙ ap (cost_table f.nodes) (times.nodes s last) ∙ ap (λ (b : Bool). if b then fused_table f.end_line (fused_costing f s).costs else cost_table f.nodes (map cost_of ts)) (sym computes);
+      so = is ∙ ap (cost_table f.nodes) (times.nodes s last) ∙
+          ap (λ (b : Bool). if b then fused_table f.end_line (fused_costing f s).costs else cost_table f.nodes (map cost_of ts)) (sym computes);
     }
 
 -- that of one that only moves words
-pub main_fused : (p : ProgramTree) (all : List StFuncTree) (f : FuncTree) (v : FusedView) (text : List ℕ) → slice_get p.funcs (main_of p) ≡ Some f → IsFusedOf p all v
+pub main_fused : (p : ProgramTree) (all : List StFuncTree) (f : FuncTree) (v : FusedView) (text : List ℕ) → slice_get p.funcs (main_of p) ≡ Some f
+    → IsFusedOf p all v
     → text ≡ fused_table f.end_line (costs_in v) → HasMain p all (λ g r ts. text ≡ table_text p g r ts)
 main_fused p all f v text at h is =
     let g = h.func in
@@ -119,9 +135,12 @@ main_fused p all f v text at h is =
       instance = s;
       timings = ts;
       main = record { func = h.there; last = h.last; timings = refl };
-      so = is ∙ (λ i. fused_table (same i).end_line (h.costs i)) ∙ ap (λ (b : Bool). if b then fused_table g.end_line (fused_costing g s).costs else cost_table g.nodes (map cost_of ts)) (sym h.movement);
+      so = is ∙ (λ i. fused_table (same i).end_line (h.costs i)) ∙
+          ap (λ (b : Bool). if b then fused_table g.end_line (fused_costing g s).costs else cost_table g.nodes (map cost_of ts)) (sym h.movement);
     }
 
-pub nodes_known : (p : ProgramTree) (slowdown : ℕ) (all : List StFuncTree) (f : FuncTree) (s : StFuncTree) (t : Times) → IsSchedule p slowdown all → AreTimes all t → slice_get p.funcs (main_of p) ≡ Some f → slice_get all (length all - 1) ≡ Some s → length t.nodes ≡ length f.nodes
+pub nodes_known : (p : ProgramTree) (slowdown : ℕ) (all : List StFuncTree) (f : FuncTree) (s : StFuncTree) (t : Times) → IsSchedule p slowdown all
+    → AreTimes all t → slice_get p.funcs (main_of p) ≡ Some f → slice_get all (length all - 1) ≡ Some s → length t.nodes ≡ length f.nodes
 nodes_known p slowdown all f s t h times at last =
-    ap length (times.nodes s last) ∙ length-map (node_timings (main_known all) s) cost_of ∙ timings_many (main_known all) s ∙ main_nodes p slowdown all f s h at last
+    ap length (times.nodes s last) ∙ length-map (node_timings (main_known all) s) cost_of ∙ timings_many (main_known all) s ∙
+    main_nodes p slowdown all f s h at last

@@ -29,7 +29,8 @@ size_laid (t ∷ ts) (s ∷ ss) h =
     omega (arith, sum_by-cons own_size s ss, own, wide, size_laid ts ss h.1, length-append (type_widths t) (widths_of ts))
 
 -- the values of a block have the words of its layouts
-pub values_laid : (ts : List SeqTree) (ss : List StTree) (ws : List ℕ) → AllLaidOut ts ss → length ws ≡ length (widths_of ts) → fed.values_of ss ws ≡ map flat (values_of ts ws)
+pub values_laid : (ts : List SeqTree) (ss : List StTree) (ws : List ℕ) → AllLaidOut ts ss → length ws ≡ length (widths_of ts)
+    → fed.values_of ss ws ≡ map flat (values_of ts ws)
 values_laid [] [] ws h long = refl
 values_laid [] (s ∷ ss) ws h long = absurd h
 values_laid (t ∷ ts) [] ws h long = absurd h
@@ -43,10 +44,13 @@ values_laid (t ∷ ts) (s ∷ ss) ws h long =
     ∙ (λ i. sym (flat-value_of t (take (words t) ws) first) i ∷ values_laid ts ss (drop (words t) ws) h.1 rest i)
 
 -- rows of so many words each, one behind the other, are cut where they were joined
-pub cut_rows : (n : ℕ) (table : List (List (List ℕ))) → ((k : ℕ) (r : List (List ℕ)) → slice_get table k ≡ Some r → length (row_words r) ≡ n) → cut (length table) n (words_in table) ≡ map row_words table
+pub cut_rows : (n : ℕ) (table : List (List (List ℕ))) → ((k : ℕ) (r : List (List ℕ)) → slice_get table k ≡ Some r → length (row_words r) ≡ n)
+    → cut (length table) n (words_in table) ≡ map row_words table
 cut_rows n [] each = refl
 cut_rows n (r ∷ rs) each =
     let own : length (row_words r) ≡ n = each 0 r refl in
-    let front : take n (row_words r ++ words_in rs) ≡ row_words r = ap (λ k. take k (row_words r ++ words_in rs)) (sym own) ∙ take-append_seam (row_words r) (words_in rs) in
-    let back : drop n (row_words r ++ words_in rs) ≡ words_in rs = ap (λ k. drop k (row_words r ++ words_in rs)) (sym own) ∙ drop-append_seam (row_words r) (words_in rs) in
+    let front : take n (row_words r ++ words_in rs) ≡ row_words r = ap (λ k. take k (row_words r ++ words_in rs)) (sym own) ∙
+    take-append_seam (row_words r) (words_in rs) in
+    let back : drop n (row_words r ++ words_in rs) ≡ words_in rs = ap (λ k. drop k (row_words r ++ words_in rs)) (sym own) ∙
+    drop-append_seam (row_words r) (words_in rs) in
     (λ i. front i ∷ (ap (cut (length rs) n) back ∙ cut_rows n rs (λ k x e. each (suc k) x e)) i)

@@ -67,7 +67,8 @@ is_reply Memory = false
 is_reply (BadWave at) = true
 is_reply (NotMoves line) = true
 
-sim_replies : (fill : ℕ) (part : List ℕ) (table : List (List (List ℕ))) (status : Status) (text : List ℕ) → IsSimulated fill part table status text → is_reply status ≡ true
+sim_replies : (fill : ℕ) (part : List ℕ) (table : List (List (List ℕ))) (status : Status) (text : List ℕ) → IsSimulated fill part table status text
+    → is_reply status ≡ true
 sim_replies fill part table Ok text b = refl
 sim_replies fill part table Usage text b = absurd b.2
 sim_replies fill part table (BadLine line) text b = absurd b.2
@@ -135,7 +136,8 @@ eval_replies p table Memory text b = absurd b
 eval_replies p table (BadWave at) text b = absurd b
 eval_replies p table (NotMoves line) text b = absurd b
 
-evaluated_replies : (part : List ℕ) (table : List (List (List ℕ))) (status : Status) (text : List ℕ) → IsEvaluated part table status text → is_reply status ≡ true
+evaluated_replies : (part : List ℕ) (table : List (List (List ℕ))) (status : Status) (text : List ℕ) → IsEvaluated part table status text
+    → is_reply status ≡ true
 evaluated_replies part table status text (Refused r e) = refusal_replies part status r
 evaluated_replies part table status text (Ran p t r) = eval_replies p table status text r
 
@@ -156,7 +158,8 @@ cost_refusal_replies limit part slowdown Memory b = refusal_replies part Memory 
 cost_refusal_replies limit part slowdown (BadWave at) b = refusal_replies part (BadWave at) b
 cost_refusal_replies limit part slowdown (NotMoves line) b = refusal_replies part (NotMoves line) b
 
-answered_replies : (limit : ℕ) (IsRight : List ℕ → Type 0) (part : List ℕ) (slowdown : ℕ) (status : Status) (text : List ℕ) → IsAnswered limit IsRight part slowdown status text → is_reply status ≡ true
+answered_replies : (limit : ℕ) (IsRight : List ℕ → Type 0) (part : List ℕ) (slowdown : ℕ) (status : Status) (text : List ℕ)
+    → IsAnswered limit IsRight part slowdown status text → is_reply status ≡ true
 answered_replies limit IsRight part slowdown Ok text b = refl
 answered_replies limit IsRight part slowdown (NoSchedule line) text b = cost_refusal_replies limit part slowdown (NoSchedule line) b.0
 answered_replies limit IsRight part slowdown (TooLarge line) text b = cost_refusal_replies limit part slowdown (TooLarge line) b.0
@@ -173,7 +176,8 @@ answered_replies limit IsRight part slowdown Memory text b = cost_refusal_replie
 answered_replies limit IsRight part slowdown (BadWave at) text b = cost_refusal_replies limit part slowdown (BadWave at) b.0
 answered_replies limit IsRight part slowdown (NotMoves line) text b = cost_refusal_replies limit part slowdown (NotMoves line) b.0
 
-run_of_replies : (form : Form) (fill : ℕ) (p : ProgramTree) (slowdown : ℕ) (instances : List StFuncTree) (table : List (List (List ℕ))) (status : Status) (text : List ℕ) → IsRunOf form fill p slowdown instances table status text → is_reply status ≡ true
+run_of_replies : (form : Form) (fill : ℕ) (p : ProgramTree) (slowdown : ℕ) (instances : List StFuncTree) (table : List (List (List ℕ))) (status : Status)
+    (text : List ℕ) → IsRunOf form fill p slowdown instances table status text → is_reply status ≡ true
 run_of_replies form fill p slowdown instances table Ok text b = refl
 run_of_replies form fill p slowdown instances table Usage text b = absurd b
 run_of_replies form fill p slowdown instances table (BadLine line) text b = absurd b
@@ -228,11 +232,13 @@ least_replies : (part : List ℕ) (slowdown : ℕ) (status : Status) (text : Lis
 least_replies part slowdown status text (Untold r e) = refusal_replies part status r
 least_replies part slowdown status text (Told p t r) = least_of_replies p slowdown status text r
 
-run_replies : (form : Form) (slowdown fill : ℕ) (part : List ℕ) (table : List (List (List ℕ))) (status : Status) (text : List ℕ) → IsPlayed form slowdown fill part table status text → is_reply status ≡ true
+run_replies : (form : Form) (slowdown fill : ℕ) (part : List ℕ) (table : List (List (List ℕ))) (status : Status) (text : List ℕ)
+    → IsPlayed form slowdown fill part table status text → is_reply status ≡ true
 run_replies form slowdown fill part table status text (Unbuilt r e) = cost_refusal_replies load_limit part slowdown status r
 run_replies form slowdown fill part table status text (Played p instances c r) = run_of_replies form fill p slowdown instances table status text r
 
-reply_replies : (command : Command) (part : List ℕ) (table : List (List (List ℕ))) (status : Status) (text : List ℕ) → IsReply command part table status text → is_reply status ≡ true
+reply_replies : (command : Command) (part : List ℕ) (table : List (List (List ℕ))) (status : Status) (text : List ℕ) → IsReply command part table status text
+    → is_reply status ≡ true
 reply_replies Check part table status text b = checked_replies part status text b
 reply_replies Eval part table status text b = evaluated_replies part table status text b
 reply_replies (Plan slowdown) part table status text b = answered_replies load_limit (IsCostText (plan_text slowdown) part slowdown) part slowdown status text b
@@ -255,7 +261,10 @@ done_replies command bytes status text d = reply_replies command d.part d.table 
 abbrev named_by : List (List ℕ) → Command
 named_by [] = Check
 named_by (w ∷ []) = if bytes_eq w (codes "check") then Check else if bytes_eq w (codes "unwave") then Unwave else Eval
-named_by (w ∷ a ∷ []) = if bytes_eq w (codes "plan") then Plan (digits_value 10 a) else if bytes_eq w (codes "cost") then Cost (digits_value 10 a) else if bytes_eq w (codes "sim") then Sim (digits_value 10 a) else if bytes_eq w (codes "demo") then Demo (digits_value 10 a) else if bytes_eq w (codes "stall") then Stall (digits_value 10 a) else if bytes_eq w (codes "least") then Least (digits_value 10 a) else Build (digits_value 10 a)
+named_by (w ∷ a ∷ []) =
+    if bytes_eq w (codes "plan") then Plan (digits_value 10 a) else if bytes_eq w (codes "cost") then Cost (digits_value 10 a) else if bytes_eq w
+    (codes "sim") then Sim (digits_value 10 a) else if bytes_eq w (codes "demo") then Demo (digits_value 10 a) else if bytes_eq w
+    (codes "stall") then Stall (digits_value 10 a) else if bytes_eq w (codes "least") then Least (digits_value 10 a) else Build (digits_value 10 a)
 named_by (w ∷ a ∷ b ∷ ws) = if bytes_eq w (codes "wave") then Wave (digits_value 10 a) (digits_value 10 b) else Run (digits_value 10 a) (digits_value 10 b)
 
 named_is : (ws : List (List ℕ)) (c : Command) → IsCommand ws c → named_by ws ≡ c
@@ -268,9 +277,11 @@ named_is ws (Build s) h = ap named_by h.0 ∙ ap (λ n. Build n) (digits_value-d
 named_is ws (Stall s) h = ap named_by h.0 ∙ ap (λ n. Stall n) (digits_value-decimal own s (omega (arith, h.1.1)))
 named_is ws (Demo s) h = ap named_by h.0 ∙ ap (λ n. Demo n) (digits_value-decimal own s (omega (arith, h.1.1)))
 named_is ws (Run s n) h =
-    ap named_by h.0 ∙ ap (λ k. Run k (digits_value 10 (decimal n))) (digits_value-decimal own s (omega (arith, h.1.0.1))) ∙ ap (λ k. Run s k) (digits_value-decimal own n h.1.1)
+    ap named_by h.0 ∙ ap (λ k. Run k (digits_value 10 (decimal n))) (digits_value-decimal own s (omega (arith, h.1.0.1))) ∙
+    ap (λ k. Run s k) (digits_value-decimal own n h.1.1)
 named_is ws (Wave s n) h =
-    ap named_by h.0 ∙ ap (λ k. Wave k (digits_value 10 (decimal n))) (digits_value-decimal own s (omega (arith, h.1.0.1))) ∙ ap (λ k. Wave s k) (digits_value-decimal own n h.1.1)
+    ap named_by h.0 ∙ ap (λ k. Wave k (digits_value 10 (decimal n))) (digits_value-decimal own s (omega (arith, h.1.0.1))) ∙
+    ap (λ k. Wave s k) (digits_value-decimal own n h.1.1)
 named_is ws Unwave h = ap named_by h.0
 named_is ws (Sim n) h = ap named_by h.0 ∙ ap (λ n. Sim n) (digits_value-decimal own n h.1)
 
@@ -291,7 +302,8 @@ marks l = is_mark (fields (said l))
 wrong : {A : Type 0} (x : List ℕ) (xs : List (List ℕ)) → marks x ≡ true → no_mark (x ∷ xs) ≡ true → A
 wrong x xs m n = let f : not (marks x) ≡ true = and-first (not (marks x)) _ n in let t : not (marks x) ≡ false = ap not m in cc
 
-halves : (a a' : List (List ℕ)) (l l' : List ℕ) (b b' : List (List ℕ)) → no_mark a ≡ true → no_mark a' ≡ true → marks l ≡ true → marks l' ≡ true → a ++ l ∷ b ≡ a' ++ l' ∷ b' → SameHalves a b a' b'
+halves : (a a' : List (List ℕ)) (l l' : List ℕ) (b b' : List (List ℕ)) → no_mark a ≡ true → no_mark a' ≡ true → marks l ≡ true → marks l' ≡ true → a ++ l
+    ∷ b ≡ a' ++ l' ∷ b' → SameHalves a b a' b'
 halves [] [] l l' b b' f f' m m' e = record { before = refl; behind = cc }
 halves [] (x ∷ a') l l' b b' f f' m m' e = let s : l ≡ x = cc in let t : marks x ≡ true = ap marks (sym s) ∙ m in wrong x a' t f'
 halves (x ∷ a) [] l l' b b' f f' m m' e = let s : x ≡ l' = cc in let t : marks x ≡ true = ap marks s ∙ m' in wrong x a t f
@@ -343,9 +355,11 @@ record SameParts (part part' : List ℕ) (table table' : List (List (List ℕ)))
   parts : part ≡ part'
   tables : table ≡ table'
 
-cut_once : (bytes part part' : List ℕ) (table table' : List (List (List ℕ))) → IsCut bytes part table → IsCut bytes part' table' → SameParts part part' table table'
+cut_once : (bytes part part' : List ℕ) (table table' : List (List (List ℕ))) → IsCut bytes part table → IsCut bytes part' table'
+    → SameParts part part' table table'
 cut_once bytes part part' table table' (Marked e s c p t) (Marked e' s' c' p' t') =
-    let h = halves (lines (take e bytes)) (lines (take e' bytes)) c.line c'.line (lines (drop s bytes)) (lines (drop s' bytes)) c.first c'.first c.mark c'.mark (sym c.cut ∙ c'.cut) in
+    let h = halves (lines (take e bytes)) (lines (take e' bytes)) c.line c'.line (lines (drop s bytes)) (lines (drop s' bytes)) c.first c'.first c.mark c'.mark
+    (sym c.cut ∙ c'.cut) in
     record {
       parts = p ∙ whole_once (take e bytes) (take e' bytes) c.whole c'.whole h.before ∙ sym p';
       tables = t ∙ ap rows_of h.behind ∙ sym t';
@@ -356,7 +370,8 @@ cut_once bytes part part' table table' (Unmarked n p t) (Marked e' s' c' p' t') 
     absurd (marked_has (lines (take e' bytes)) c'.line (lines (drop s' bytes)) c'.mark (ap no_mark (sym c'.cut) ∙ n))
 cut_once bytes part part' table table' (Unmarked n p t) (Unmarked n' p' t') = record { parts = p ∙ sym p'; tables = t ∙ sym t' }
 
-parts_once : (whole : Bool) (bytes part part' : List ℕ) (table table' : List (List (List ℕ))) → AreParts whole bytes part table → AreParts whole bytes part' table' → SameParts part part' table table'
+parts_once : (whole : Bool) (bytes part part' : List ℕ) (table table' : List (List (List ℕ))) → AreParts whole bytes part table
+    → AreParts whole bytes part' table' → SameParts part part' table table'
 parts_once true bytes part part' table table' a b = record { parts = a.0 ∙ sym b.0; tables = a.1 ∙ sym b.1 }
 parts_once false bytes part part' table table' a b = cut_once bytes part part' table table' a b
 
@@ -403,7 +418,8 @@ checked_ok part Memory text p t b = never_refused part p Memory t b.0
 checked_ok part (BadWave at) text p t b = never_refused part p (BadWave at) t b.0
 checked_ok part (NotMoves line) text p t b = never_refused part p (NotMoves line) t b.0
 
-eval_of_ok : (p : ProgramTree) (table : List (List (List ℕ))) (status : Status) (text : List ℕ) → bad_row 1 (input_widths p) table ≡ None → eval_size p table ≤ run_limit
+eval_of_ok : (p : ProgramTree) (table : List (List (List ℕ))) (status : Status) (text : List ℕ) → bad_row 1 (input_widths p) table ≡ None
+    → eval_size p table ≤ run_limit
     → IsEvalOf p table status text → status ≡ Ok
 eval_of_ok p table Ok text right short b = refl
 eval_of_ok p table Usage text right short b = absurd b
@@ -413,7 +429,8 @@ eval_of_ok p table (TooLarge line) text right short b = absurd b
 eval_of_ok p table (NoSchedule line) text right short b = absurd b
 eval_of_ok p table (BadWords row column) text right short b = let e = sym right ∙ b.0 in cc
 eval_of_ok p table (BadModule fault) text right short b = absurd b
-eval_of_ok p table (LongRun size) text right short b = let long : run_limit < size = b.1 in let is : size ≡ eval_size p table = b.2 in absurd (omega (arith, long, is, short))
+eval_of_ok p table (LongRun size) text right short b =
+    let long : run_limit < size = b.1 in let is : size ≡ eval_size p table = b.2 in absurd (omega (arith, long, is, short))
 eval_of_ok p table ReadFault text right short b = absurd b
 eval_of_ok p table WriteFault text right short b = absurd b
 eval_of_ok p table TooLong text right short b = absurd b
@@ -425,7 +442,8 @@ record EvalFits (p : ProgramTree) (table : List (List (List ℕ))) : Type 0 wher
   right : bad_row 1 (input_widths p) table ≡ None
   short : eval_size p table ≤ run_limit
 
-evaluated_ok : (part : List ℕ) (table : List (List (List ℕ))) (status : Status) (text : List ℕ) (p : ProgramTree) → IsTypedText part p → EvalFits p table → IsEvaluated part table status text → status ≡ Ok
+evaluated_ok : (part : List ℕ) (table : List (List (List ℕ))) (status : Status) (text : List ℕ) (p : ProgramTree) → IsTypedText part p → EvalFits p table
+    → IsEvaluated part table status text → status ≡ Ok
 evaluated_ok part table status text p t f (Refused r e) = never_refused part p status t r
 evaluated_ok part table status text p t f (Ran q u r) =
     let g : EvalFits q table = subst (λ (x : ProgramTree). EvalFits x table) (one_program part p q t.reads u.reads) f in
@@ -439,10 +457,12 @@ costs_within limit part slowdown line h l =
     let e : None ≡ Some _ = sym h.costed.within ∙ over ∙ sym (ap (λ (q : ProgramTree). costs_over limit q l.instances) same) ∙ l.large in
     cc
 
-never_cost_refused : {A : Type 0} (limit : ℕ) (part : List ℕ) (slowdown : ℕ) (status : Status) → HasCosts limit part slowdown → IsCostRefusal limit part slowdown status → A
+never_cost_refused : {A : Type 0} (limit : ℕ) (part : List ℕ) (slowdown : ℕ) (status : Status) → HasCosts limit part slowdown
+    → IsCostRefusal limit part slowdown status → A
 never_cost_refused limit part slowdown (NoSchedule line) h b =
     let fine = schedules_fine h.program slowdown h.instances h.costed.schedule in
-    let e : None ≡ Some line = sym fine ∙ ap (λ q. failing_line q slowdown) (one_program part h.program b.program h.costed.typed.reads b.typed.reads) ∙ b.failing in
+    let e : None ≡ Some line = sym fine ∙ ap (λ q. failing_line q slowdown) (one_program part h.program b.program h.costed.typed.reads b.typed.reads) ∙
+    b.failing in
     cc
 never_cost_refused limit part slowdown (TooLarge line) h b = elim b [
   | inl r ↦ never_refused part h.program (TooLarge line) h.costed.typed r
@@ -463,7 +483,8 @@ never_cost_refused limit part slowdown (BadWave at) h b = never_refused part h.p
 never_cost_refused limit part slowdown (NotMoves line) h b = never_refused part h.program (NotMoves line) h.costed.typed b
 
 -- nor does it fail, but for want of memory
-pub only_memory : (limit : ℕ) (part : List ℕ) (slowdown : ℕ) (fault : CompileFault) → HasCosts limit part slowdown → IsCostFault limit part slowdown fault → fault ≡ faults.Memory
+pub only_memory : (limit : ℕ) (part : List ℕ) (slowdown : ℕ) (fault : CompileFault) → HasCosts limit part slowdown → IsCostFault limit part slowdown fault
+    → fault ≡ faults.Memory
 only_memory limit part slowdown (faults.BadLine line) h b = never_refused part h.program (BadLine line) h.costed.typed b
 only_memory limit part slowdown (faults.BadType line) h b = never_refused part h.program (BadType line) h.costed.typed b
 only_memory limit part slowdown (faults.TooLarge line) h b = elim b [
@@ -473,7 +494,8 @@ only_memory limit part slowdown (faults.TooLarge line) h b = elim b [
 only_memory limit part slowdown (faults.NoSchedule line) h b = never_cost_refused limit part slowdown (NoSchedule line) h b
 only_memory limit part slowdown faults.Memory h b = refl
 
-answered_ok : (limit : ℕ) (IsRight : List ℕ → Type 0) (part : List ℕ) (slowdown : ℕ) (status : Status) (text : List ℕ) → HasCosts limit part slowdown → IsAnswered limit IsRight part slowdown status text → status ≡ Ok
+answered_ok : (limit : ℕ) (IsRight : List ℕ → Type 0) (part : List ℕ) (slowdown : ℕ) (status : Status) (text : List ℕ) → HasCosts limit part slowdown
+    → IsAnswered limit IsRight part slowdown status text → status ≡ Ok
 answered_ok limit IsRight part slowdown Ok text h b = refl
 answered_ok limit IsRight part slowdown Usage text h b = never_cost_refused limit part slowdown Usage h b.0
 answered_ok limit IsRight part slowdown (BadLine line) text h b = never_cost_refused limit part slowdown (BadLine line) h b.0
@@ -490,7 +512,8 @@ answered_ok limit IsRight part slowdown Memory text h b = never_cost_refused lim
 answered_ok limit IsRight part slowdown (BadWave at) text h b = never_cost_refused limit part slowdown (BadWave at) h b.0
 answered_ok limit IsRight part slowdown (NotMoves line) text h b = never_cost_refused limit part slowdown (NotMoves line) h b.0
 
-run_of_ok : (form : Form) (fill : ℕ) (p : ProgramTree) (slowdown : ℕ) (instances : List StFuncTree) (table : List (List (List ℕ))) (status : Status) (text : List ℕ) → bad_row 1 (input_widths p) table ≡ None
+run_of_ok : (form : Form) (fill : ℕ) (p : ProgramTree) (slowdown : ℕ) (instances : List StFuncTree) (table : List (List (List ℕ))) (status : Status)
+    (text : List ℕ) → bad_row 1 (input_widths p) table ≡ None
     → run_size form p slowdown (main_costs p instances).latency table ≤ run_limit → IsRunOf form fill p slowdown instances table status text → status ≡ Ok
 run_of_ok form fill p slowdown instances table Ok text right short b = refl
 run_of_ok form fill p slowdown instances table Usage text right short b = absurd b
@@ -501,7 +524,8 @@ run_of_ok form fill p slowdown instances table (NoSchedule line) text right shor
 run_of_ok form fill p slowdown instances table (BadWords row column) text right short b = let e = sym right ∙ b.0 in cc
 run_of_ok form fill p slowdown instances table (BadModule fault) text right short b = absurd b
 run_of_ok form fill p slowdown instances table (LongRun size) text right short b =
-    let long : run_limit < size = b.1 in let is : size ≡ run_size form p slowdown (main_costs p instances).latency table = b.2 in absurd (omega (arith, long, is, short))
+    let long : run_limit < size = b.1 in let is : size ≡ run_size form p slowdown (main_costs p instances).latency table = b.2 in
+    absurd (omega (arith, long, is, short))
 run_of_ok form fill p slowdown instances table ReadFault text right short b = absurd b
 run_of_ok form fill p slowdown instances table WriteFault text right short b = absurd b
 run_of_ok form fill p slowdown instances table TooLong text right short b = absurd b
@@ -509,15 +533,18 @@ run_of_ok form fill p slowdown instances table Memory text right short b = absur
 run_of_ok form fill p slowdown instances table (BadWave at) text right short b = absurd b
 run_of_ok form fill p slowdown instances table (NotMoves line) text right short b = absurd b
 
-run_ok : (form : Form) (slowdown fill : ℕ) (part : List ℕ) (table : List (List (List ℕ))) (status : Status) (text : List ℕ) → HasShortRun form part slowdown table → IsPlayed form slowdown fill part table status text → status ≡ Ok
+run_ok : (form : Form) (slowdown fill : ℕ) (part : List ℕ) (table : List (List (List ℕ))) (status : Status) (text : List ℕ)
+    → HasShortRun form part slowdown table → IsPlayed form slowdown fill part table status text → status ≡ Ok
 run_ok form slowdown fill part table status text h (Unbuilt r e) = never_cost_refused load_limit part slowdown status h.costs r
 run_ok form slowdown fill part table status text h (Played p instances c r) =
     let own = h.costs in
     let same : own.program ≡ p = one_program part own.program p own.costed.typed.reads c.typed.reads in
     let schedule : IsSchedule own.program slowdown instances = subst (λ (q : ProgramTree). IsSchedule q slowdown instances) (sym same) c.schedule in
-    let costs : main_costs own.program own.instances ≡ main_costs own.program instances = costs_same own.program slowdown own.instances instances own.costed.schedule schedule in
+    let costs : main_costs own.program own.instances ≡ main_costs own.program instances = costs_same own.program slowdown own.instances instances
+    own.costed.schedule schedule in
     let right : bad_row 1 (input_widths p) table ≡ None = ap (λ (q : ProgramTree). bad_row 1 (input_widths q) table) (sym same) ∙ h.rows in
-    let short : run_size form p slowdown (main_costs p instances).latency table ≤ run_limit = subst (λ (q : ProgramTree). run_size form q slowdown (main_costs q instances).latency table ≤ run_limit) same
+    let short : run_size form p slowdown (main_costs p instances).latency table ≤ run_limit = subst
+    (λ (q : ProgramTree). run_size form q slowdown (main_costs q instances).latency table ≤ run_limit) same
     (subst (λ (x : OwnCosts). run_size form own.program slowdown x.latency table ≤ run_limit) costs h.short) in
     run_of_ok form fill p slowdown instances table status text right short r
 
@@ -543,7 +570,8 @@ unwave_ok part Memory text h b = absurd b
 unwave_ok part (BadWave at) text h b = absurd (b.0.none h.0 h.1)
 unwave_ok part (NotMoves line) text h b = absurd b
 
-least_of_ok : (p : ProgramTree) (slowdown : ℕ) (status : Status) (text : List ℕ) → is_movement p ≡ true → failing_line p slowdown ≡ None → IsLeastOf p slowdown status text → status ≡ Ok
+least_of_ok : (p : ProgramTree) (slowdown : ℕ) (status : Status) (text : List ℕ) → is_movement p ≡ true → failing_line p slowdown ≡ None
+    → IsLeastOf p slowdown status text → status ≡ Ok
 least_of_ok p slowdown Ok text moves laid b = refl
 least_of_ok p slowdown Usage text moves laid b = absurd b
 least_of_ok p slowdown (BadLine line) text moves laid b = absurd b
@@ -568,7 +596,8 @@ least_ok part slowdown status text h (Told p t r) =
     let laid : failing_line p slowdown ≡ None = ap (λ q. failing_line q slowdown) (sym same) ∙ h.3 in
     least_of_ok p slowdown status text moves laid r
 
-reply_ok : (command : Command) (part : List ℕ) (table : List (List (List ℕ))) (status : Status) (text : List ℕ) → HasResult command part table → IsReply command part table status text → status ≡ Ok
+reply_ok : (command : Command) (part : List ℕ) (table : List (List (List ℕ))) (status : Status) (text : List ℕ) → HasResult command part table
+    → IsReply command part table status text → status ≡ Ok
 reply_ok Check part table status text h b = checked_ok part status text h.0 h.1 b
 reply_ok Eval part table status text h b = evaluated_ok part table status text h.0 h.1 (record { right = h.2; short = h.3 }) b
 reply_ok (Plan slowdown) part table status text h b = answered_ok load_limit (IsCostText (plan_text slowdown) part slowdown) part slowdown status text h b
@@ -582,7 +611,8 @@ reply_ok (Wave slowdown fill) part table status text h b = run_ok Dump slowdown 
 reply_ok Unwave part table status text h b = unwave_ok part status text h b
 reply_ok (Sim fill) part table status text h b = sim_complete fill part table status text h b
 
-pub done_of_accepted : (command : Command) (left : Option (List ℕ)) (i : IsAccepted command left) (status : Status) (text : List ℕ) → IsDone command i.bytes status text → status ≡ Ok
+pub done_of_accepted : (command : Command) (left : Option (List ℕ)) (i : IsAccepted command left) (status : Status) (text : List ℕ)
+    → IsDone command i.bytes status text → status ≡ Ok
 done_of_accepted command left i status text d =
     let s = parts_once (takes_whole command) i.bytes i.part d.part i.table d.table i.cut d.cut in
     let P : List ℕ → Type 0 = λ x. HasResult command x i.table in

@@ -29,7 +29,8 @@ no_refusal part kind m good (Misformed n fault is spells f) =
     let same : n ≡ m = good.spells.only n spells.spells in
     none-some kind (sym (no_kind m fault good.formed (subst (λ x. IsFault x fault) same f)) ∙ is)
 
-pub sim_complete : (fill : ℕ) (part : List ℕ) (table : List (List (List ℕ))) (status : Status) (text : List ℕ) → IsSimulable part table → IsSimulated fill part table status text → status ≡ Ok
+pub sim_complete : (fill : ℕ) (part : List ℕ) (table : List (List (List ℕ))) (status : Status) (text : List ℕ) → IsSimulable part table
+    → IsSimulated fill part table status text → status ≡ Ok
 sim_complete fill part table status text h w = by status w
   where
     m : ModuleTree

@@ -58,7 +58,8 @@ same_lines f g zero h = refl
 same_lines f g (suc c) h =
     λ i. same_lines f g c (λ k below. h k (omega arith)) i ++ words_of_clock c (h c (omega arith) i)
 
-sim_text : (m : ModuleTree) (n : Circuit) (fill : ℕ) (table : List (List (List ℕ))) (text : List ℕ) → HasSameRuns m n → All (AreInputs n.cells) (input_rows n.cells table) → IsNetText n fill table text
+sim_text : (m : ModuleTree) (n : Circuit) (fill : ℕ) (table : List (List (List ℕ))) (text : List ℕ) → HasSameRuns m n
+    → All (AreInputs n.cells) (input_rows n.cells table) → IsNetText n fill table text
     → IsSimText m fill table text
 sim_text m n fill table text same fit h =
     let g : List (List ℕ) → List ℕ = λ r. taken_words (count_of is_input n.cells) r in
@@ -84,10 +85,12 @@ sim_text m n fill table text same fit h =
             ∙ ap (λ k. taken_words k (get_or table t [])) (sym count));
         begins = λ below. begins m n run h.run fill same alike h.runs.begins below;
       };
-      lines = h.lines ∙ same_lines (λ c. shown_words n.outlets h.run c) (λ c. output_words m (clock_at run c)) (length table) (λ c below. sym (shown.outputs c (omega (arith, below, long))));
+      lines = h.lines ∙ same_lines (λ c. shown_words n.outlets h.run c) (λ c. output_words m (clock_at run c)) (length table)
+          (λ c below. sym (shown.outputs c (omega (arith, below, long))));
     }
 
-pub sim_of : (m : ModuleTree) (n : Circuit) (fill : ℕ) (table : List (List (List ℕ))) (status : Status) (text : List ℕ) → HasSameRuns m n → IsNetSim fill n table status text → IsSimOf fill m table status text
+pub sim_of : (m : ModuleTree) (n : Circuit) (fill : ℕ) (table : List (List (List ℕ))) (status : Status) (text : List ℕ) → HasSameRuns m n
+    → IsNetSim fill n table status text → IsSimOf fill m table status text
 sim_of m n fill table status text same h = by status h
   where
     widths : cell_widths n.cells ≡ row_widths m
@@ -119,7 +122,8 @@ sim_of m n fill table status text same h = by status h
 -- ---- the text
 
 -- what is answered for a module is answered for the text that spells it
-pub simulated : (fill : ℕ) (part : List ℕ) (table : List (List (List ℕ))) (m : ModuleTree) (status : Status) (text : List ℕ) → SpellsOnly part m → IsModuleReply fill m table status text → IsSimulated fill part table status text
+pub simulated : (fill : ℕ) (part : List ℕ) (table : List (List (List ℕ))) (m : ModuleTree) (status : Status) (text : List ℕ) → SpellsOnly part m
+    → IsModuleReply fill m table status text → IsSimulated fill part table status text
 simulated fill part table m status text s (Refused fault is r) =
     let here : IsSimulated fill part table (BadModule r.0) text = (Misformed m fault r.1 s is, r.3) in
     subst (λ x. IsSimulated fill part table x text) (sym r.2) here
@@ -145,14 +149,16 @@ simulated fill part table m status text s (Played formed w) = by status w
     by (BadWave at) w = absurd w
     by (NotMoves line) w = absurd w
 
-unread_as : (fill : ℕ) (part : List ℕ) (table : List (List (List ℕ))) (fault : VFault) (status : Status) (text : List ℕ) → IsRefusedAs (text_kind fault) status text → HasFault part fault
+unread_as : (fill : ℕ) (part : List ℕ) (table : List (List (List ℕ))) (fault : VFault) (status : Status) (text : List ℕ)
+    → IsRefusedAs (text_kind fault) status text → HasFault part fault
     → ((m : ModuleTree) → Spells part m → ⊥) → IsSimulated fill part table status text
 unread_as fill part table fault status text r is none =
     let here : IsSimulated fill part table (BadModule r.0) text = (Unread fault r.1 is none, r.3) in
     subst (λ x. IsSimulated fill part table x text) (sym r.2) here
 
 -- a text that spells no module
-pub unread : (fill : ℕ) (part : List ℕ) (table : List (List (List ℕ))) (fault : VFault) (status : Status) (text : List ℕ) → IsRefusedAs (text_kind fault) status text → IsFaultOf part fault
+pub unread : (fill : ℕ) (part : List ℕ) (table : List (List (List ℕ))) (fault : VFault) (status : Status) (text : List ℕ)
+    → IsRefusedAs (text_kind fault) status text → IsFaultOf part fault
     → ((m : ModuleTree) → Spells part m → GivesModule m (Err fault)) → IsSimulated fill part table status text
 unread fill part table (v.BadToken at) status text r is none = unread_as fill part table (v.BadToken at) status text r is none
 unread fill part table v.BadHeader status text r is none = unread_as fill part table v.BadHeader status text r is none

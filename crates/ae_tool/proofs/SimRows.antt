@@ -32,7 +32,8 @@ pub record IsRightRow (widths row : List ℕ) : Type 0 where
   pub long : length row ≡ length widths
   pub fit : (k w : ℕ) → slice_get widths k ≡ Some w → get_or row k 0 < 2 ^ w
 
-fit_more : (w x : ℕ) (ws xs : List ℕ) → x < 2 ^ w → ((k v : ℕ) → slice_get ws k ≡ Some v → get_or xs k 0 < 2 ^ v) → (k v : ℕ) → slice_get (w ∷ ws) k ≡ Some v → get_or (x ∷ xs) k 0 < 2 ^ v
+fit_more : (w x : ℕ) (ws xs : List ℕ) → x < 2 ^ w → ((k v : ℕ) → slice_get ws k ≡ Some v → get_or xs k 0 < 2 ^ v) → (k v : ℕ) → slice_get (w ∷ ws) k ≡ Some v
+    → get_or (x ∷ xs) k 0 < 2 ^ v
 fit_more w x ws xs small rest zero v h = subst (λ u. x < 2 ^ u) (same_Some w v h) small
 fit_more w x ws xs small rest (suc k) v h = rest k v h
 
@@ -42,7 +43,8 @@ right_row [] j (f ∷ fs) e = cc
 right_row (w ∷ ws) j [] e = cc
 right_row (w ∷ ws) j (f ∷ fs) e = by (is_right w f) refl (right_row ws (j + 1) fs) e
   where
-    by : (t : Bool) → is_right w f ≡ t → (wrong_column (j + 1) ws fs ≡ None → IsRightRow ws (row_words fs)) → (if t then wrong_column (j + 1) ws fs else Some j) ≡ None → IsRightRow (w ∷ ws) (row_words (f ∷ fs))
+    by : (t : Bool) → is_right w f ≡ t → (wrong_column (j + 1) ws fs ≡ None → IsRightRow ws (row_words fs))
+        → (if t then wrong_column (j + 1) ws fs else Some j) ≡ None → IsRightRow (w ∷ ws) (row_words (f ∷ fs))
     by true t rest h =
         let small : digits_value 10 f < 2 ^ w = ltb-true (digits_value 10 f) (2 ^ w) (and-second _ _ t) in
         let r = rest h in
@@ -61,7 +63,8 @@ rights m widths r rs e = by (wrong_column 1 widths r) refl e
     by (Some c) w h = cc
     by None w h = record { first = right_row widths 1 r w; later = h }
 
-right_at : (m : ℕ) (widths : List ℕ) (table : List (List (List ℕ))) (k : ℕ) → bad_row m widths table ≡ None → k < length table → IsRightRow widths (row_words (get_or table k []))
+right_at : (m : ℕ) (widths : List ℕ) (table : List (List (List ℕ))) (k : ℕ) → bad_row m widths table ≡ None → k < length table
+    → IsRightRow widths (row_words (get_or table k []))
 right_at m widths [] k e h = absurd (omega arith)
 right_at m widths (r ∷ rs) zero e h = (rights m widths r rs e).first
 right_at m widths (r ∷ rs) (suc k) e h = right_at (m + 1) widths rs k (rights m widths r rs e).later (omega arith)
@@ -115,7 +118,8 @@ pub small_widths : (cells : List SizedCell) → IsFormed cells → All (λ w. w 
 small_widths cells formed =
     let width : SizedCell → ℕ = λ s. s.width in
     let all : All (λ (s : SizedCell). s.width ≤ 64) cells =
-    All-from_get_or (λ (s : SizedCell). s.width ≤ 64) cells no_cell (λ i h. (formed.each i (get_or cells i no_cell) (slice_get-get_or cells i no_cell h)).high) in
+    All-from_get_or (λ (s : SizedCell). s.width ≤ 64) cells no_cell
+    (λ i h. (formed.each i (get_or cells i no_cell) (slice_get-get_or cells i no_cell h)).high) in
     small_or_bit (map width (cells_of is_input cells))
     (All-map (λ w. w ≤ 64) width (cells_of is_input cells) (All-filter (λ (s : SizedCell). is_input s.cell) (λ (s : SizedCell). s.width ≤ 64) cells all))
 
@@ -133,27 +137,32 @@ taken_fits cells row r =
       fit = λ k sized found.
           (let below : k < length cs = slice_get_within cs k sized found in
           let at : slice_get (cell_widths cells) k ≡ Some sized.width =
-          width_at (map (λ (s : SizedCell). s.width) cs) k sized.width (slice_get-map (λ (s : SizedCell). s.width) cs k ∙ ap (option_map (λ (s : SizedCell). s.width)) found) in
+          width_at (map (λ (s : SizedCell). s.width) cs) k sized.width
+          (slice_get-map (λ (s : SizedCell). s.width) cs k ∙ ap (option_map (λ (s : SizedCell). s.width)) found) in
           subst (λ w. w < 2 ^ sized.width) (sym (get_or-take n row k 0 (omega (arith, below, same)))) (r.fit k sized.width at));
     }
 
-pub rows_fit : (cells : List SizedCell) (table : List (List (List ℕ))) → bad_row 1 (cell_widths cells) table ≡ None → All (AreInputs cells) (input_rows cells table)
+pub rows_fit : (cells : List SizedCell) (table : List (List (List ℕ))) → bad_row 1 (cell_widths cells) table ≡ None
+    → All (AreInputs cells) (input_rows cells table)
 rows_fit cells table right =
     let g : List (List ℕ) → List ℕ = λ r. taken_words (count_of is_input cells) r in
     let long : length (map g table) ≡ length table = length-map table g in
     All-from_get_or (AreInputs cells) (map g table) []
     (λ i h.
     let below : i < length table = omega (arith, h, long) in
-    subst (AreInputs cells) (sym (get_or-map g table i [] [] below)) (taken_fits cells (row_words (get_or table i [])) (right_at 1 (cell_widths cells) table i right below)))
+    subst (AreInputs cells) (sym (get_or-map g table i [] [] below))
+    (taken_fits cells (row_words (get_or table i [])) (right_at 1 (cell_widths cells) table i right below)))
 
 pub column_some : (cells : List SizedCell) (columns : ℕ) (table : List (List (List ℕ))) (ws : List ℕ) → AreSimRows cells columns table ws → 0 < columns
 column_some cells columns table ws a =
     subst (λ n. 0 < n) (sym a.columns_are) (some_widths (map (λ (s : SizedCell). s.width) (cells_of is_input cells)))
 
-pub rows_count : (cells : List SizedCell) (columns : ℕ) (table : List (List (List ℕ))) (ws : List ℕ) → AreSimRows cells columns table ws → length ws / columns ≡ length table
+pub rows_count : (cells : List SizedCell) (columns : ℕ) (table : List (List (List ℕ))) (ws : List ℕ) → AreSimRows cells columns table ws
+    → length ws / columns ≡ length table
 rows_count cells columns table ws a =
     let some : 0 < columns = column_some cells columns table ws a in
-    let long : length ws ≡ length table * columns = ap length a.words_are ∙ words_long 1 (cell_widths cells) table a.right ∙ ap (λ n. length table * n) (sym a.columns_are) in
+    let long : length ws ≡ length table * columns = ap length a.words_are ∙ words_long 1 (cell_widths cells) table a.right ∙
+    ap (λ n. length table * n) (sym a.columns_are) in
     let whole : length table * columns ≡ length table * columns + 0 = omega arith in
     ap (λ n. n / columns) (long ∙ whole) ∙ div-mul-add (length table) columns 0 some
 
@@ -166,7 +175,8 @@ pub record NextRow (cells : List SizedCell) (columns : ℕ) (table : List (List 
   pub fits : AreInputs cells (taken_words (count_of is_input cells) (get_or table k []))
   pub back : drop columns rest ≡ words_in (drop (k + 1) table)
 
-pub next_row : (cells : List SizedCell) (columns : ℕ) (table : List (List (List ℕ))) (k : ℕ) (ws rest : List ℕ) → AreSimRows cells columns table ws → k < length table → rest ≡ words_in (drop k table) → NextRow cells columns table k rest
+pub next_row : (cells : List SizedCell) (columns : ℕ) (table : List (List (List ℕ))) (k : ℕ) (ws rest : List ℕ) → AreSimRows cells columns table ws
+    → k < length table → rest ≡ words_in (drop k table) → NextRow cells columns table k rest
 next_row cells columns table k ws rest a lt e =
     let row : List ℕ = row_words (get_or table k []) in
     let after : List ℕ = words_in (drop (k + 1) table) in
@@ -186,7 +196,8 @@ next_row cells columns table k ws rest a lt e =
 
 -- ---- the size, and what is answered
 
-pub size_fits : (cells : List SizedCell) (columns : ℕ) (table : List (List (List ℕ))) (ws : List ℕ) (outputs : ℕ) → AreSimRows cells columns table ws → outputs < 4294967296 → length ws / columns * (1 + outputs) < 18446744073709551616
+pub size_fits : (cells : List SizedCell) (columns : ℕ) (table : List (List (List ℕ))) (ws : List ℕ) (outputs : ℕ) → AreSimRows cells columns table ws
+    → outputs < 4294967296 → length ws / columns * (1 + outputs) < 18446744073709551616
 size_fits cells columns table ws outputs a few =
     let n : ℕ = length ws / columns in
     let count : n ≡ length table = rows_count cells columns table ws a in
@@ -194,17 +205,21 @@ size_fits cells columns table ws outputs a few =
     let most : n * (1 + outputs) ≤ n * 4294967296 = mul-le-mul_left n (omega (arith, few)) in
     omega (arith, most, count, rows_few)
 
-size_is : (n : Circuit) (columns : ℕ) (table : List (List (List ℕ))) (ws : List ℕ) (outputs : ℕ) → AreSimRows n.cells columns table ws → outputs ≡ length n.outlets → length ws / columns * (1 + outputs) ≡ net_size n table
+size_is : (n : Circuit) (columns : ℕ) (table : List (List (List ℕ))) (ws : List ℕ) (outputs : ℕ) → AreSimRows n.cells columns table ws
+    → outputs ≡ length n.outlets → length ws / columns * (1 + outputs) ≡ net_size n table
 size_is n columns table ws outputs a e =
     ap (λ k. k * (1 + outputs)) (rows_count n.cells columns table ws a) ∙ ap (λ r. length table * (1 + r)) e
 
-pub long_run : (fill : ℕ) (n : Circuit) (columns : ℕ) (table : List (List (List ℕ))) (ws : List ℕ) (outputs size : ℕ) (status : Status) (text : List ℕ) → AreSimRows n.cells columns table ws → outputs ≡ length n.outlets
-    → size ≡ length ws / columns * (1 + outputs) → run_limit < size → status ≡ LongRun size → text ≡ refusal_line (LongRun size) → IsNetSim fill n table status text
+pub long_run : (fill : ℕ) (n : Circuit) (columns : ℕ) (table : List (List (List ℕ))) (ws : List ℕ) (outputs size : ℕ) (status : Status) (text : List ℕ)
+    → AreSimRows n.cells columns table ws → outputs ≡ length n.outlets
+    → size ≡ length ws / columns * (1 + outputs) → run_limit < size → status ≡ LongRun size → text ≡ refusal_line (LongRun size)
+    → IsNetSim fill n table status text
 long_run fill n columns table ws outputs size status text a e es lt st te =
     let here : IsNetSim fill n table (LongRun size) text = (a.right, lt, es ∙ size_is n columns table ws outputs a e, te) in
     subst (λ s. IsNetSim fill n table s text) (sym st) here
 
-pub short_run : (fill : ℕ) (n : Circuit) (columns : ℕ) (table : List (List (List ℕ))) (ws : List ℕ) (outputs size : ℕ) (text : List ℕ) → AreSimRows n.cells columns table ws → outputs ≡ length n.outlets
+pub short_run : (fill : ℕ) (n : Circuit) (columns : ℕ) (table : List (List (List ℕ))) (ws : List ℕ) (outputs size : ℕ) (text : List ℕ)
+    → AreSimRows n.cells columns table ws → outputs ≡ length n.outlets
     → size ≡ length ws / columns * (1 + outputs) → size ≤ run_limit → IsNetText n fill table text → IsNetSim fill n table Ok text
 short_run fill n columns table ws outputs size text a e es le w =
     let same : size ≡ net_size n table = es ∙ size_is n columns table ws outputs a e in
@@ -242,7 +257,8 @@ few_rows text =
     omega (arith, a, b)
 
 -- what is known of the rows that were read
-pub read_rows_are : (cells : List SizedCell) (text widths ws : List ℕ) (columns : ℕ) → length text < 2 ^ 32 → widths ≡ cell_widths cells → columns ≡ length widths → bad_row 1 widths (rows text) ≡ None → ws ≡ words_in (rows text)
+pub read_rows_are : (cells : List SizedCell) (text widths ws : List ℕ) (columns : ℕ) → length text < 2 ^ 32 → widths ≡ cell_widths cells
+    → columns ≡ length widths → bad_row 1 widths (rows text) ≡ None → ws ≡ words_in (rows text)
     → AreSimRows cells columns (rows text) ws
 read_rows_are cells text widths ws columns lt w n right is =
     let few : length (rows text) ≤ length text = few_rows text in

@@ -21,7 +21,8 @@ use Rattle.ae_tool.proofs.SimRows.{NextRow, column_some, inputs_within, next_row
 -- ---- the rows
 
 -- the words of later rows
-rest_is : (cells : List SizedCell) (columns : ℕ) (table : List (List (List ℕ))) (ws : List ℕ) (k : ℕ) → AreSimRows cells columns table ws → k ≤ length table → drop (k * columns) ws ≡ words_in (drop k table)
+rest_is : (cells : List SizedCell) (columns : ℕ) (table : List (List (List ℕ))) (ws : List ℕ) (k : ℕ) → AreSimRows cells columns table ws → k ≤ length table
+    → drop (k * columns) ws ≡ words_in (drop k table)
 rest_is cells columns table ws zero a h =
     let none : 0 * columns ≡ 0 = omega arith in
     ap (λ m. drop m ws) none ∙ a.words_are
@@ -45,11 +46,13 @@ rest_is cells columns table ws (suc k) a h =
         let e : suc (m + n) ≡ suc m + n = omega arith in
         drop_twice m n xs ∙ ap (λ k. drop k (x ∷ xs)) e
 
-row_there : (cells : List SizedCell) (columns : ℕ) (table : List (List (List ℕ))) (ws : List ℕ) (k : ℕ) → AreSimRows cells columns table ws → k < length table → NextRow cells columns table k (drop (k * columns) ws)
+row_there : (cells : List SizedCell) (columns : ℕ) (table : List (List (List ℕ))) (ws : List ℕ) (k : ℕ) → AreSimRows cells columns table ws → k < length table
+    → NextRow cells columns table k (drop (k * columns) ws)
 row_there cells columns table ws k a h = next_row cells columns table k ws (drop (k * columns) ws) a h (rest_is cells columns table ws k a (omega arith))
 
 -- there are words for each input
-pub row_has : (cells : List SizedCell) (columns : ℕ) (table : List (List (List ℕ))) (ws : List ℕ) (inputs k : ℕ) → AreSimRows cells columns table ws → inputs ≡ count_of is_input cells → k < length ws / columns → k * columns + inputs ≤ length ws
+pub row_has : (cells : List SizedCell) (columns : ℕ) (table : List (List (List ℕ))) (ws : List ℕ) (inputs k : ℕ) → AreSimRows cells columns table ws
+    → inputs ≡ count_of is_input cells → k < length ws / columns → k * columns + inputs ≤ length ws
 row_has cells columns table ws inputs k a e h =
     let count : length ws / columns ≡ length table = rows_count cells columns table ws a in
     let room : columns ≤ length (drop (k * columns) ws) = (row_there cells columns table ws k a (omega (arith, h, count))).room in
@@ -59,13 +62,15 @@ row_has cells columns table ws inputs k a e h =
     omega (arith, room, long, some, within, a.columns_are, e)
 
 -- and these are what the inputs take of the row
-row_is : (cells : List SizedCell) (columns : ℕ) (table : List (List (List ℕ))) (ws : List ℕ) (inputs k : ℕ) → AreSimRows cells columns table ws → inputs ≡ count_of is_input cells → k < length table
+row_is : (cells : List SizedCell) (columns : ℕ) (table : List (List (List ℕ))) (ws : List ℕ) (inputs k : ℕ) → AreSimRows cells columns table ws
+    → inputs ≡ count_of is_input cells → k < length table
     → take inputs (drop (k * columns) ws) ≡ taken_words (count_of is_input cells) (get_or table k [])
 row_is cells columns table ws inputs k a e h =
     let rest = drop (k * columns) ws in
     let n = row_there cells columns table ws k a h in
     let within : count_of is_input cells ≤ length (cell_widths cells) = inputs_within cells in
-    ap (λ m. take m rest) e ∙ sym (take_less (count_of is_input cells) columns rest (omega (arith, within, a.columns_are))) ∙ ap (take (count_of is_input cells)) n.front
+    ap (λ m. take m rest) e ∙ sym (take_less (count_of is_input cells) columns rest (omega (arith, within, a.columns_are))) ∙
+    ap (take (count_of is_input cells)) n.front
   where
     take_less : (m n : ℕ) (xs : List ℕ) → m ≤ n → take m (take n xs) ≡ take m xs
     take_less zero n xs h = refl
@@ -74,7 +79,8 @@ row_is cells columns table ws inputs k a e h =
     take_less (suc m) (suc n) (x ∷ xs) h = ap (λ ys. x ∷ ys) (take_less m n xs (omega arith))
 
 -- they fit a simulator of the netlist
-pub row_fits : (cells : List SizedCell) (columns : ℕ) (table : List (List (List ℕ))) (ws : List ℕ) (inputs k : ℕ) (sim : Simulated) → sim.cells ≡ cells → AreSimRows cells columns table ws → inputs ≡ count_of is_input cells
+pub row_fits : (cells : List SizedCell) (columns : ℕ) (table : List (List (List ℕ))) (ws : List ℕ) (inputs k : ℕ) (sim : Simulated) → sim.cells ≡ cells
+    → AreSimRows cells columns table ws → inputs ≡ count_of is_input cells
     → k < length ws / columns → AreInputs sim.cells (take inputs (drop (k * columns) ws))
 row_fits cells columns table ws inputs k sim same a e h =
     let count : length ws / columns ≡ length table = rows_count cells columns table ws a in
@@ -83,7 +89,8 @@ row_fits cells columns table ws inputs k sim same a e h =
     (subst (AreInputs cells) (sym (row_is cells columns table ws inputs k a e below)) (row_there cells columns table ws k a below).fits)
 
 -- all rows are what the inputs take of the table
-rows_are : (cells : List SizedCell) (columns : ℕ) (table : List (List (List ℕ))) (ws : List ℕ) (inputs count : ℕ) → AreSimRows cells columns table ws → inputs ≡ count_of is_input cells → count ≡ length table
+rows_are : (cells : List SizedCell) (columns : ℕ) (table : List (List (List ℕ))) (ws : List ℕ) (inputs count : ℕ) → AreSimRows cells columns table ws
+    → inputs ≡ count_of is_input cells → count ≡ length table
     → map (λ c. take inputs (drop (c * columns) ws)) (range_with_len 0 count) ≡ input_rows cells table
 rows_are cells columns table ws inputs count a e n =
     let given : ℕ → List ℕ = λ c. take inputs (drop (c * columns) ws) in
@@ -98,7 +105,8 @@ rows_are cells columns table ws inputs count a e n =
 -- ---- the lines
 
 -- the lines of all clocks
-lines_kept : {K : Type 0} (content : K → List ℕ) (row shown : ℕ → List ℕ) (first : K) (n : ℕ) (last : K) → Keeps (λ c r ws old new. content new ≡ content old ++ words_of_clock c ws) row shown first n last
+lines_kept : {K : Type 0} (content : K → List ℕ) (row shown : ℕ → List ℕ) (first : K) (n : ℕ) (last : K)
+    → Keeps (λ c r ws old new. content new ≡ content old ++ words_of_clock c ws) row shown first n last
     → content last ≡ content first ++ words_of_clocks shown n
 lines_kept content row shown first zero last k = ap content k ∙ sym (append-nil (content first))
 lines_kept content row shown first (suc c) last k =
@@ -106,10 +114,14 @@ lines_kept content row shown first (suc c) last k =
     ∙ ap (λ x. x ++ words_of_clock c (shown c)) (lines_kept content row shown first c k.0 k.1)
     ∙ append_assoc (content first) (words_of_clocks shown c) (words_of_clock c (shown c))
 
-pub text_is : {K : Type 0} (content : K → List ℕ) (n : Circuit) (fill columns : ℕ) (table : List (List (List ℕ))) (ws : List ℕ) (inputs count : ℕ) (sim : Simulated) (first last : K)
-    → AreSimRows n.cells columns table ws → inputs ≡ count_of is_input n.cells → count ≡ length ws / columns → sim.cells ≡ n.cells → sim.outlets ≡ n.outlets → HasPlayed sim fill [] → content first ≡ []
-    → ((first_fill : ℕ) (before : List (List ℕ)) (run : List Clock) → HasPlayed sim first_fill before → Plays sim.cells first_fill (before ++ map (λ c. take inputs (drop (c * columns) ws)) (range_with_len 0 count)) run
-    → Keeps (λ c r words old new. content new ≡ content old ++ words_of_clock c words) (λ c. take inputs (drop (c * columns) ws)) (λ c. shown_words sim.outlets run (length before + c)) first count last)
+pub text_is : {K : Type 0} (content : K → List ℕ) (n : Circuit) (fill columns : ℕ) (table : List (List (List ℕ))) (ws : List ℕ) (inputs count : ℕ)
+    (sim : Simulated) (first last : K)
+    → AreSimRows n.cells columns table ws → inputs ≡ count_of is_input n.cells → count ≡ length ws / columns → sim.cells ≡ n.cells → sim.outlets ≡ n.outlets
+    → HasPlayed sim fill [] → content first ≡ []
+    → ((first_fill : ℕ) (before : List (List ℕ)) (run : List Clock) → HasPlayed sim first_fill before
+    → Plays sim.cells first_fill (before ++ map (λ c. take inputs (drop (c * columns) ws)) (range_with_len 0 count)) run
+    → Keeps (λ c r words old new. content new ≡ content old ++ words_of_clock c words) (λ c. take inputs (drop (c * columns) ws))
+    (λ c. shown_words sim.outlets run (length before + c)) first count last)
     → HasOneRunWith n.cells → AreFirsts n.cells (filled n.cells fill) → IsNetText n fill table (content last)
 text_is content n fill columns table ws inputs count sim first last a ei ec ce oe h none keeps one firsts =
     let rows : List (List ℕ) = input_rows n.cells table in
@@ -119,7 +131,8 @@ text_is content n fill columns table ws inputs count sim first last a ei ec ce o
     let w = one rows (filled n.cells fill) (rows_fit n.cells table a.right) firsts in
     let plays : Plays n.cells fill rows w.0 = record { runs = w.1.runs; long = omega (arith, w.1.long); takes = w.1.takes; begins = w.1.begins } in
     let here : Plays sim.cells fill (map given (range_with_len 0 count)) w.0 =
-    subst (λ (cs : List SizedCell). Plays cs fill (map given (range_with_len 0 count)) w.0) (sym ce) (subst (λ (rs : List (List ℕ)). Plays n.cells fill rs w.0) (sym same) plays) in
+    subst (λ (cs : List SizedCell). Plays cs fill (map given (range_with_len 0 count)) w.0) (sym ce)
+    (subst (λ (rs : List (List ℕ)). Plays n.cells fill rs w.0) (sym same) plays) in
     let k = keeps fill [] w.0 h here in
     let at : (c : ℕ) → length {A = List ℕ} [] + c ≡ c = λ c. omega arith in
     let shown : ℕ → List ℕ = λ c. shown_words sim.outlets w.0 (length {A = List ℕ} [] + c) in
@@ -133,6 +146,7 @@ text_is content n fill columns table ws inputs count sim first last a ei ec ce o
     }
 
 -- a line from its parts
-pub line_is : (c : ℕ) (ws old numbered worded new : List ℕ) → numbered ≡ old ++ decimal c → worded ≡ numbered ++ spaced ws → new ≡ worded ++ 10 ∷ [] → new ≡ old ++ words_of_clock c ws
+pub line_is : (c : ℕ) (ws old numbered worded new : List ℕ) → numbered ≡ old ++ decimal c → worded ≡ numbered ++ spaced ws → new ≡ worded ++ 10 ∷ []
+    → new ≡ old ++ words_of_clock c ws
 line_is c ws old numbered worded new a b d =
     d ∙ ap (λ x. x ++ 10 ∷ []) (b ∙ ap (λ x. x ++ spaced ws) a ∙ append_assoc old (decimal c) (spaced ws)) ∙ append_assoc old (decimal c ++ spaced ws) (10 ∷ [])

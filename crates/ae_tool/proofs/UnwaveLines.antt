@@ -13,7 +13,8 @@ spaced_more : (ws : List ℕ) (w : ℕ) → spaced (ws ++ w ∷ []) ≡ spaced w
 spaced_more ws w = flat_map-append (λ v. 32 ∷ decimal v) ws (w ∷ []) ∙ ap (λ l. spaced ws ++ l) (append-nil (32 ∷ decimal w))
 
 -- one word more
-pub row_more : (f : ℕ → ℕ) (k word : ℕ) (old now spacing new : List ℕ) → word ≡ f k → now ≡ old ++ spaced (map f (range_with_len 0 k)) → spacing ≡ now ++ 32 ∷ [] → new ≡ spacing ++ decimal word
+pub row_more : (f : ℕ → ℕ) (k word : ℕ) (old now spacing new : List ℕ) → word ≡ f k → now ≡ old ++ spaced (map f (range_with_len 0 k)) → spacing ≡ now ++ 32
+    ∷ [] → new ≡ spacing ++ decimal word
     → new ≡ old ++ spaced (map f (range_with_len 0 (k + 1)))
 row_more f k word old now spacing new is now_is spacing_is new_is =
     let before : List ℕ = spaced (map f (range_with_len 0 k)) in
@@ -21,7 +22,8 @@ row_more f k word old now spacing new is now_is spacing_is new_is =
     ∙ ap (λ x. x ++ decimal word) (spacing_is ∙ ap (λ x. x ++ 32 ∷ []) now_is)
     ∙ append_assoc (old ++ before) (32 ∷ []) (decimal word)
     ∙ append_assoc old before (32 ∷ decimal word)
-    ∙ ap (λ x. old ++ x) (ap (λ v. before ++ 32 ∷ decimal v) is ∙ sym (spaced_more (map f (range_with_len 0 k)) (f k)) ∙ ap spaced (sym (map-range_with_len_more f 0 k k (omega arith))))
+    ∙ ap (λ x. old ++ x) (ap (λ v. before ++ 32 ∷ decimal v) is ∙ sym (spaced_more (map f (range_with_len 0 k)) (f k)) ∙
+    ap spaced (sym (map-range_with_len_more f 0 k k (omega arith))))
 
 -- an answer by its status
 pub unwaved_by : (part : List ℕ) (status other : Status) (text : List ℕ) → status ≡ other → IsUnwaved part other text → IsUnwaved part status text

@@ -56,7 +56,8 @@ behind xs ys a b = list_all-append is_graphic xs ys ∙ (λ i. a i && b i)
 three : (a b c : ℕ) → a < 2 ^ 32 → b < 2 ^ 32 → c < 2 ^ 32 → graphic (decimal a ++ (codes "_" ++ (decimal b ++ (codes "_" ++ decimal c))))
 three a b c x y z =
     behind (decimal a) (codes "_" ++ (decimal b ++ (codes "_" ++ decimal c))) (number a x)
-    (behind (codes "_") (decimal b ++ (codes "_" ++ decimal c)) refl (behind (decimal b) (codes "_" ++ decimal c) (number b y) (behind (codes "_") (decimal c) refl (number c z))))
+    (behind (codes "_") (decimal b ++ (codes "_" ++ decimal c)) refl
+    (behind (decimal b) (codes "_" ++ decimal c) (number b y) (behind (codes "_") (decimal c) refl (number c z))))
 
 two : (b c : ℕ) → b < 2 ^ 32 → c < 2 ^ 32 → graphic (decimal b ++ (codes "_" ++ decimal c))
 two b c y z = behind (decimal b) (codes "_" ++ decimal c) (number b y) (behind (codes "_") (decimal c) refl (number c z))
@@ -79,7 +80,8 @@ port_named outs (Stream wire) h = handshake_named outs wire
 port_named outs (In param lane word) h = record { named = three param lane word h.0 h.1 h.2; other = refl }
 port_named outs (Out result lane word) h = by (outs == 1)
   where
-    by : (b : Bool) → IsPortName (if b then codes "o_" ++ (decimal lane ++ (codes "_" ++ decimal word)) else codes "o" ++ (decimal result ++ (codes "_" ++ (decimal lane ++ (codes "_" ++ decimal word)))))
+    by : (b : Bool) → IsPortName (if b then codes "o_" ++ (decimal lane ++ (codes "_" ++ decimal word)) else codes "o"
+        ++ (decimal result ++ (codes "_" ++ (decimal lane ++ (codes "_" ++ decimal word)))))
     by true = record { named = two lane word h.1 h.2; other = refl }
     by false = record { named = three result lane word h.0 h.1 h.2; other = refl }
 port_named outs (Plain k) h = record { named = number k h; other = refl }
@@ -172,7 +174,8 @@ both_true : (a b : Bool) → (a && b) ≡ true → a ≡ true
 both_true true b h = refl
 both_true false b h = h
 
-module _ (lines : ℕ → ℕ) (n : Circuit) (outs : ℕ) (ok : IsWritableNetlist n.cells n.outlets outs) (are : ArePorts lines n outs) (run : List ModuleClock) (runs : IsModuleRun (netlist_module lines n.cells n.outlets outs) run) where
+module _ (lines : ℕ → ℕ) (n : Circuit) (outs : ℕ) (ok : IsWritableNetlist n.cells n.outlets outs) (are : ArePorts lines n outs) (run : List ModuleClock)
+    (runs : IsModuleRun (netlist_module lines n.cells n.outlets outs) run) where
   abbrev own : ModuleTree
   own = netlist_module lines n.cells n.outlets outs
 
@@ -188,7 +191,8 @@ module _ (lines : ℕ → ℕ) (n : Circuit) (outs : ℕ) (ok : IsWritableNetlis
   word_fits : (t : ℕ) (x : NetTree) → t < length run → Among x vs → (clock_at run t).word x.name < 2 ^ x.width
   word_fits t x below a = elim (among_split x (inputs_of own) (outputs_of own) a) [
     | inl i ↦ (let k = among_filter (λ (y : NetTree). is_input_kind y.kind && not (is_clock own y.name)) x own.nets i in
-        plain_input x.kind x.width ((clock_at run t).word x.name) ((clock_at run t).store x.name) (both_true (is_input_kind x.kind) (not (is_clock own x.name)) k.1) ((runs.shaped t below).holds x k.0 (no_clock x a)))
+        plain_input x.kind x.width ((clock_at run t).word x.name) ((clock_at run t).store x.name)
+        (both_true (is_input_kind x.kind) (not (is_clock own x.name)) k.1) ((runs.shaped t below).holds x k.0 (no_clock x a)))
     | inr o ↦ (let k = among_filter (λ (y : NetTree). is_output_kind y.kind) x own.nets o in
         plain_output x.kind x.width ((clock_at run t).word x.name) ((clock_at run t).store x.name) k.1 ((runs.shaped t below).holds x k.0 (no_clock x a)))
   ]
@@ -205,13 +209,15 @@ module _ (lines : ℕ → ℕ) (n : Circuit) (outs : ℕ) (ok : IsWritableNetlis
 
   rows_long : (k count : ℕ) → length (flat_map row (range_with_len k count)) ≡ count * length vs
   rows_long k zero = omega arith
-  rows_long k (suc count) = ap length (flat_map-cons row k (range_with_len (k + 1) count)) ∙ omega (arith, length-append (row k) (flat_map row (range_with_len (k + 1) count)), row_long k, rows_long (k + 1) count)
+  rows_long k (suc count) = ap length (flat_map-cons row k (range_with_len (k + 1) count)) ∙
+      omega (arith, length-append (row k) (flat_map row (range_with_len (k + 1) count)), row_long k, rows_long (k + 1) count)
 
   times_long : (a count : ℕ) → length (range_with_len a count) ≡ count
   times_long a zero = refl
   times_long a (suc count) = ap suc (times_long (a + 1) count)
 
-  pub wave_formed : (count : ℕ) (words : List ℕ) → length run ≡ 1 + count → words ≡ port_words (λ c. input_words own (clock_at run (1 + c))) (λ c. output_words own (clock_at run (1 + c))) count
+  pub wave_formed : (count : ℕ) (words : List ℕ) → length run ≡ 1 + count
+      → words ≡ port_words (λ c. input_words own (clock_at run (1 + c))) (λ c. output_words own (clock_at run (1 + c))) count
       → 1 ≤ length vs → length vs ≤ most_variables → wave_size count (length vs) ≤ size_limit → IsFormedWave (run_wave own count words)
   wave_formed count words long is some most small =
       let many : length (map (λ (x : NetTree). x.name) vs) ≡ length vs = length-map vs (λ (x : NetTree). x.name) in
@@ -230,9 +236,12 @@ module _ (lines : ℕ → ℕ) (n : Circuit) (outs : ℕ) (ok : IsWritableNetlis
             let x = entry-at vs k there in
             let z : 0 + i ≡ i = omega arith in
             let word : wave_word (run_wave own count words) i k ≡ (clock_at run (1 + i)).word x.0.name =
-            (λ j. get_or (is j) (i * many j + k) 0) ∙ joined_word row (length vs) 0 count i k (λ c h. row_long c) inside there ∙ ap (λ c. get_or (row c) k 0) z ∙ ap (λ ws. get_or ws k 0) (row_is i)
-            ∙ get_or_from_slice_get (map (λ (y : NetTree). (clock_at run (1 + i)).word y.name) vs) k ((clock_at run (1 + i)).word x.0.name) 0 (mapped_at (λ (y : NetTree). (clock_at run (1 + i)).word y.name) vs k x.0 x.1) in
-            let width : get_or (map (λ (y : NetTree). y.width) vs) k 0 ≡ x.0.width = get_or_from_slice_get (map (λ (y : NetTree). y.width) vs) k x.0.width 0 (mapped_at (λ (y : NetTree). y.width) vs k x.0 x.1) in
+            (λ j. get_or (is j) (i * many j + k) 0) ∙ joined_word row (length vs) 0 count i k (λ c h. row_long c) inside there ∙
+            ap (λ c. get_or (row c) k 0) z ∙ ap (λ ws. get_or ws k 0) (row_is i)
+            ∙ get_or_from_slice_get (map (λ (y : NetTree). (clock_at run (1 + i)).word y.name) vs) k ((clock_at run (1 + i)).word x.0.name) 0
+            (mapped_at (λ (y : NetTree). (clock_at run (1 + i)).word y.name) vs k x.0 x.1) in
+            let width : get_or (map (λ (y : NetTree). y.width) vs) k 0 ≡ x.0.width = get_or_from_slice_get (map (λ (y : NetTree). y.width) vs) k x.0.width 0
+            (mapped_at (λ (y : NetTree). y.width) vs k x.0 x.1) in
             let fits = word_fits (1 + i) x.0 (omega (arith, inside, long)) (among_from x.0 vs k x.1) in
             subst (λ b. wave_word (run_wave own count words) i k < 2 ^ b) (sym width) (subst (λ a. a < 2 ^ x.0.width) (sym word) fits));
         rise = λ i h.
@@ -241,7 +250,14 @@ module _ (lines : ℕ → ℕ) (n : Circuit) (outs : ℕ) (ok : IsWritableNetlis
             let b = range_at 0 count (i + 1) 0 inside in
             omega (arith, a, b));
         late = late_at;
-        small = omega (arith, small, times, many, times_size count (length vs) (length (range_with_len 0 count)) (length (map (λ (x : NetTree). x.name) vs)) times many);
+        small = omega (
+          arith,
+          small,
+          times,
+          many,
+          times_size count (length vs) (length (range_with_len 0 count))
+              (length (map (λ (x : NetTree). x.name) vs)) times many,
+        );
       }
     where
       times_size : (a b a' b' : ℕ) → a' ≡ a → b' ≡ b → wave_size a' b' ≡ wave_size a b

@@ -33,8 +33,10 @@ pub record IsEnded (old new : SinkView) : Type 0 where
 -- a text was written and ended, and the call answers its status; or the sink took a first part of it alone
 pub data Puts (text : List ℕ) (status result : Status) (old new : SinkView) : Type 0 where
   Whole : result ≡ status → Appends old.written new.written text → IsEnded old new → Puts text status result old new
-  Failing : result ≡ WriteFault → AppendsPrefix old.written new.written text → Rose old.faults new.faults → Puts text status result old new
-  Wanting : result ≡ Memory → AppendsPrefix old.written new.written text → Rose old.wants new.wants → Puts text status result old new
+  Failing : result ≡ WriteFault → AppendsPrefix old.written new.written text → Rose old.faults new.faults
+      → Puts text status result old new
+  Wanting : result ≡ Memory → AppendsPrefix old.written new.written text → Rose old.wants new.wants
+      → Puts text status result old new
 
 -- the line of a refusal
 abbrev pub Refuses : (status result : Status) (old new : SinkView) → Type 0
@@ -46,11 +48,20 @@ pub data IsMade (size : ℕ) (result : Status) (old new : SinkView) : Type 0 whe
   Demo_none : Refuses Memory result old new → IsMade size result old new
 
 -- how a call may go: the words name no job, or a demo; the input failed, is too long or was read whole; or memory ran out
-pub data Answers (words : List (List ℕ)) (result : Status) (source source' : SourceView) (sink sink' : SinkView) : Type 0 where
-  No_job : NamesNone words → source' ≡ source → Refuses Usage result sink sink' → Answers words result source source' sink sink'
-  Made : (size : ℕ) → IsCommand words (Demo size) → source' ≡ source → IsMade size result sink sink' → Answers words result source source' sink sink'
-  Unread : (command : Command) → IsCommand words command → TakesInput command → Rose source.faults source'.faults → Refuses ReadFault result sink sink' → Answers words result source source' sink sink'
-  Past_limit : (command : Command) → IsCommand words command → TakesInput command → TakesCount source.left source'.left (input_limit + 1) → Refuses TooLong result sink sink' → Answers words result source source' sink sink'
-  Done : (command : Command) → IsCommand words command → TakesInput command → (bytes text : List ℕ) (status : Status) → TakesAll source.left source'.left bytes → length bytes ≤ input_limit
-      → IsDone command bytes status text → Puts text status result sink sink' → Answers words result source source' sink sink'
-  No_room : (command : Command) → IsCommand words command → TakesInput command → Refuses Memory result sink sink' → Answers words result source source' sink sink'
+pub data Answers (words : List (List ℕ)) (result : Status) (source source' : SourceView)
+    (sink sink' : SinkView) : Type 0 where
+  No_job : NamesNone words → source' ≡ source → Refuses Usage result sink sink'
+      → Answers words result source source' sink sink'
+  Made : (size : ℕ) → IsCommand words (Demo size) → source' ≡ source → IsMade size result sink sink'
+      → Answers words result source source' sink sink'
+  Unread : (command : Command) → IsCommand words command → TakesInput command → Rose source.faults source'.faults
+      → Refuses ReadFault result sink sink' → Answers words result source source' sink sink'
+  Past_limit : (command : Command) → IsCommand words command → TakesInput command
+      → TakesCount source.left source'.left (input_limit + 1) → Refuses TooLong result sink sink'
+      → Answers words result source source' sink sink'
+  Done : (command : Command) → IsCommand words command → TakesInput command → (bytes text : List ℕ) (status : Status)
+      → TakesAll source.left source'.left bytes → length bytes ≤ input_limit
+      → IsDone command bytes status text → Puts text status result sink sink'
+      → Answers words result source source' sink sink'
+  No_room : (command : Command) → IsCommand words command → TakesInput command → Refuses Memory result sink sink'
+      → Answers words result source source' sink sink'

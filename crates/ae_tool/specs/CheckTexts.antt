@@ -32,7 +32,8 @@ abbrev pub result_text : Option SeqTree → List ℕ
 result_text t = 32 ∷ item_text t
 
 abbrev pub end_line_text : ProgramTree → (k : ℕ) → FuncTree → List ℕ
-end_line_text p k f = ((decimal f.end_line ++ codes " end") ++ flat_map (λ i. result_text (type_at p k i)) f.results) ++ 10 ∷ []
+end_line_text p k f =
+    ((decimal f.end_line ++ codes " end") ++ flat_map (λ i. result_text (type_at p k i)) f.results) ++ 10 ∷ []
 
 -- the lines of functions, where the first has number k
 abbrev pub func_text : ProgramTree → (k : ℕ) → FuncTree → List ℕ

@@ -31,7 +31,8 @@ abbrev pub table_head : List ℕ
 table_head = codes "line,name,op,latency,load,muls\n"
 
 abbrev pub cost_row : NodeTree → Cost → List ℕ
-cost_row n c = comma_line (decimal n.line ∷ n.name ∷ op_word n.op ∷ decimal c.latency ∷ decimal c.load ∷ decimal c.muls ∷ [])
+cost_row n c =
+    comma_line (decimal n.line ∷ n.name ∷ op_word n.op ∷ decimal c.latency ∷ decimal c.load ∷ decimal c.muls ∷ [])
 
 -- one record for each node
 abbrev pub cost_rows : List NodeTree → List Cost → List ℕ
@@ -44,8 +45,11 @@ cost_table ns cs = table_head ++ cost_rows ns cs
 
 -- of a program that only moves words one record, for the end line
 abbrev pub fused_table : (line : ℕ) → OwnCosts → List ℕ
-fused_table line c = table_head ++ comma_line (decimal line ∷ codes "end" ∷ codes "fused" ∷ decimal c.latency ∷ decimal c.load ∷ decimal c.muls ∷ [])
+fused_table line c =
+    table_head ++ comma_line (decimal line ∷ codes "end" ∷ codes "fused" ∷ decimal c.latency ∷ decimal c.load
+    ∷ decimal c.muls ∷ [])
 
 -- by the kind of the program
 abbrev pub table_text : ProgramTree → FuncTree → StFuncTree → List NodeTiming → List ℕ
-table_text p f s ts = if is_movement p then fused_table f.end_line (fused_costing f s).costs else cost_table f.nodes (map cost_of ts)
+table_text p f s ts =
+    if is_movement p then fused_table f.end_line (fused_costing f s).costs else cost_table f.nodes (map cost_of ts)

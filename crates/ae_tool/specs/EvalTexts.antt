@@ -36,7 +36,11 @@ eval_size p table = length table * (1 + sum_by type_words (result_types p))
 
 -- what `eval` answers and writes for a program and rows: the first wrong row comes before a run that is too long
 abbrev pub IsEvalOf : (p : ProgramTree) (table : List (List (List ℕ))) → Status → (text : List ℕ) → Type 0
-IsEvalOf p table Ok text = (bad_row 1 (input_widths p) table ≡ None) × (eval_size p table ≤ run_limit) × (text ≡ eval_text p table)
-IsEvalOf p table (BadWords row column) text = (bad_row 1 (input_widths p) table ≡ Some (row, column)) × (text ≡ refusal_line (BadWords row column))
-IsEvalOf p table (LongRun size) text = (bad_row 1 (input_widths p) table ≡ None) × (run_limit < size) × (size ≡ eval_size p table) × (text ≡ refusal_line (LongRun size))
+IsEvalOf p table Ok text =
+    (bad_row 1 (input_widths p) table ≡ None) × (eval_size p table ≤ run_limit) × (text ≡ eval_text p table)
+IsEvalOf p table (BadWords row column) text =
+    (bad_row 1 (input_widths p) table ≡ Some (row, column)) × (text ≡ refusal_line (BadWords row column))
+IsEvalOf p table (LongRun size) text =
+    (bad_row 1 (input_widths p) table ≡ None) × (run_limit < size) × (size ≡ eval_size p table)
+    × (text ≡ refusal_line (LongRun size))
 IsEvalOf p table _ text = ⊥

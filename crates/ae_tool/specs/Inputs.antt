@@ -9,7 +9,8 @@ use Rattle.ae_parse.specs.Rows.{rows, row_words}
 
 -- the bytes before the first `%%` line, and the rows behind it, as lists of fields: none without such a line
 pub data IsCut (bytes part : List ℕ) (table : List (List (List ℕ))) : Type 0 where
-  Marked : (end start : ℕ) → IsSplit bytes end start → part ≡ take end bytes → table ≡ rows (drop start bytes) → IsCut bytes part table
+  Marked : (end start : ℕ) → IsSplit bytes end start → part ≡ take end bytes → table ≡ rows (drop start bytes)
+      → IsCut bytes part table
   Unmarked : no_mark (lines bytes) ≡ true → part ≡ bytes → table ≡ [] → IsCut bytes part table
 
 -- what a job takes for the parts of its input: all of it, without rows, or what stands before and behind that line

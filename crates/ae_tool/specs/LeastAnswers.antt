@@ -15,7 +15,8 @@ use Rattle.ae_tool.specs.Programs.{IsRefusal}
 abbrev pub IsLeastOf : ProgramTree → (slowdown : ℕ) → Status → (text : List ℕ) → Type 0
 IsLeastOf p slowdown Ok text = (failing_line p slowdown ≡ None) × IsLeastText p slowdown text
 IsLeastOf p slowdown (NotMoves line) text = (other_line p ≡ Some line) × (text ≡ refusal_line (NotMoves line))
-IsLeastOf p slowdown (NoSchedule line) text = (is_movement p ≡ true) × (failing_line p slowdown ≡ Some line) × (text ≡ refusal_line (NoSchedule line))
+IsLeastOf p slowdown (NoSchedule line) text =
+    (is_movement p ≡ true) × (failing_line p slowdown ≡ Some line) × (text ≡ refusal_line (NoSchedule line))
 IsLeastOf p slowdown _ text = ⊥
 
 -- what `least` answers and writes: the refusals of any program come first
@@ -25,4 +26,5 @@ pub data IsLeast (part : List ℕ) (slowdown : ℕ) (status : Status) (text : Li
 
 -- the job has a result: a movement program each of whose lines has a layout
 abbrev pub HasLeast : (part : List ℕ) (slowdown : ℕ) → Type 0
-HasLeast part slowdown = (p : ProgramTree) × IsTypedText part p × (is_movement p ≡ true) × (failing_line p slowdown ≡ None)
+HasLeast part slowdown =
+    (p : ProgramTree) × IsTypedText part p × (is_movement p ≡ true) × (failing_line p slowdown ≡ None)

@@ -80,7 +80,9 @@ IsAnswer command bytes status text = (length bytes ≤ input_limit) × IsDone co
 -- what a call answers and writes, where neither the input nor the output failed and there was memory
 abbrev pub IsOutcome : (words : List (List ℕ)) (bytes : List ℕ) → Status → (text : List ℕ) → Type 0
 IsOutcome words bytes Usage text = NamesNone words × (text ≡ refusal_line Usage)
-IsOutcome words bytes TooLong text = (command : Command) × IsCommand words command × TakesInput command × (input_limit < length bytes) × (text ≡ refusal_line TooLong)
+IsOutcome words bytes TooLong text =
+    (command : Command) × IsCommand words command × TakesInput command × (input_limit < length bytes)
+    × (text ≡ refusal_line TooLong)
 IsOutcome words bytes status text = (command : Command) × IsCommand words command × IsAnswer command bytes status text
 
 -- the answers by which a whole text was written that the words and the input decide
@@ -93,17 +95,21 @@ is_settled _ = true
 -- where the input's bytes and those written are told, a text with this outcome was appended
 abbrev pub HasOutcome : (words : List (List ℕ)) (status : Status) (left old new : Option (List ℕ)) → Type 0
 HasOutcome words status left old new =
-    IfSome left (λ bytes. IfSome old (λ written. (text : List ℕ) × (new ≡ Some (written ++ text)) × IsOutcome words bytes status text))
+    IfSome left (λ bytes. IfSome old (λ written. (text : List ℕ) × (new ≡ Some (written ++ text))
+    × IsOutcome words bytes status text))
 
 -- a text that a call may write: one with an outcome, or the line of a fault that it met
-abbrev pub MayBeWritten : (words : List (List ℕ)) (bytes : List ℕ) (old_faults new_faults : ℕ) → (text : List ℕ) → Type 0
+abbrev pub MayBeWritten : (words : List (List ℕ)) (bytes : List ℕ) (old_faults new_faults : ℕ) → (text : List ℕ)
+    → Type 0
 MayBeWritten words bytes old_faults new_faults text =
-    ((status : Status) × IsOutcome words bytes status text) ⊎ ((text ≡ refusal_line Memory) ⊎ (Rose old_faults new_faults × (text ≡ refusal_line ReadFault)))
+    ((status : Status) × IsOutcome words bytes status text)
+    ⊎ ((text ≡ refusal_line Memory) ⊎ (Rose old_faults new_faults × (text ≡ refusal_line ReadFault)))
 
 -- the same of a first part of such a text
 abbrev pub HasPart : (words : List (List ℕ)) (left old new : Option (List ℕ)) (old_faults new_faults : ℕ) → Type 0
 HasPart words left old new old_faults new_faults =
-    IfSome left (λ bytes. IfSome old (λ written. (text : List ℕ) × (n : ℕ) × (new ≡ Some (written ++ take n text)) × MayBeWritten words bytes old_faults new_faults text))
+    IfSome left (λ bytes. IfSome old (λ written. (text : List ℕ) × (n : ℕ) × (new ≡ Some (written ++ take n text))
+    × MayBeWritten words bytes old_faults new_faults text))
 
 -- what is left of the input: nothing, but what follows the limit of one that is too long
 abbrev pub LeavesRest : Status → (old new : Option (List ℕ)) → Type 0
@@ -118,7 +124,8 @@ LeavesInput command status old new = LeavesRest status old new
 -- words that name no job are refused, or the sink failed or had no memory for the line
 abbrev pub RefusesWords : Status → (old_faults new_faults old_wants new_wants : ℕ) → Type 0
 RefusesWords status old_faults new_faults old_wants new_wants =
-    (status ≡ Usage) ⊎ (((status ≡ WriteFault) × Rose old_faults new_faults) ⊎ ((status ≡ Memory) × Rose old_wants new_wants))
+    (status ≡ Usage) ⊎ (((status ≡ WriteFault) × Rose old_faults new_faults)
+    ⊎ ((status ≡ Memory) × Rose old_wants new_wants))
 
 -- the program has costs, the rows have its words, and its run is not too long
 pub record HasShortRun (form : Form) (part : List ℕ) (slowdown : ℕ) (table : List (List (List ℕ))) : Type 0 where
@@ -129,7 +136,8 @@ pub record HasShortRun (form : Form) (part : List ℕ) (slowdown : ℕ) (table :
 -- the job has a result for the two parts of an input; a demo takes none
 abbrev pub HasResult : Command → (part : List ℕ) (table : List (List (List ℕ))) → Type 0
 HasResult Check part table = (p : ProgramTree) × IsTypedText part p
-HasResult Eval part table = (p : ProgramTree) × IsTypedText part p × (bad_row 1 (input_widths p) table ≡ None) × (eval_size p table ≤ run_limit)
+HasResult Eval part table =
+    (p : ProgramTree) × IsTypedText part p × (bad_row 1 (input_widths p) table ≡ None) × (eval_size p table ≤ run_limit)
 HasResult (Plan slowdown) part table = HasCosts load_limit part slowdown
 HasResult (Cost slowdown) part table = HasCosts load_limit part slowdown
 HasResult (Least slowdown) part table = HasLeast part slowdown

@@ -21,21 +21,26 @@ item_line l n a s = ((((((decimal l ++ 32 ∷ []) ++ n) ++ 32 ∷ []) ++ decimal
 -- the lines of parameters, the first of which is item i, and of nodes
 abbrev pub param_item_lines : (line : ℕ) (arrivals : List ℕ) (layouts : List StTree) (i : ℕ) → List ParamTree → List ℕ
 param_item_lines line as_all layouts i [] = []
-param_item_lines line as_all layouts i (q ∷ qs) = item_line line q.name (get_or as_all i 0) (item_layout layouts i) ++ param_item_lines line as_all layouts (i + 1) qs
+param_item_lines line as_all layouts i (q ∷ qs) =
+    item_line line q.name (get_or as_all i 0) (item_layout layouts i) ++ param_item_lines line as_all layouts (i + 1) qs
 
 abbrev pub node_item_lines : (arrivals : List ℕ) (layouts : List StTree) (i : ℕ) → List NodeTree → List ℕ
 node_item_lines as_all layouts i [] = []
-node_item_lines as_all layouts i (n ∷ ns) = item_line n.line n.name (get_or as_all i 0) (item_layout layouts i) ++ node_item_lines as_all layouts (i + 1) ns
+node_item_lines as_all layouts i (n ∷ ns) =
+    item_line n.line n.name (get_or as_all i 0) (item_layout layouts i) ++ node_item_lines as_all layouts (i + 1) ns
 
 abbrev pub result_line : (line : ℕ) (arrivals : List ℕ) (layouts : List StTree) (item : ℕ) → List ℕ
 result_line line as_all layouts r = item_line line (codes "end") (get_or as_all r 0) (item_layout layouts r)
 
 abbrev pub cost_lines : (slowdown : ℕ) → OwnCosts → List ℕ
-cost_lines slowdown c = ((counted_line (codes "slowdown") slowdown ++ counted_line (codes "latency") c.latency) ++ counted_line (codes "muls") c.muls) ++ counted_line (codes "load") c.load
+cost_lines slowdown c =
+    ((counted_line (codes "slowdown") slowdown ++ counted_line (codes "latency") c.latency)
+    ++ counted_line (codes "muls") c.muls) ++ counted_line (codes "load") c.load
 
 abbrev pub item_lines : FuncTree → (arrivals : List ℕ) (layouts : List StTree) → List ℕ
 item_lines f as_all layouts =
-    (param_item_lines f.line as_all layouts 0 f.params ++ node_item_lines as_all layouts (length f.params) f.nodes) ++ flat_map (result_line f.end_line as_all layouts) f.results
+    (param_item_lines f.line as_all layouts 0 f.params ++ node_item_lines as_all layouts (length f.params) f.nodes)
+    ++ flat_map (result_line f.end_line as_all layouts) f.results
 
 -- what `plan` writes of a function with these costs and arrivals
 abbrev pub planned_text : (slowdown : ℕ) → OwnCosts → FuncTree → (arrivals : List ℕ) (layouts : List StTree) → List ℕ
@@ -43,4 +48,5 @@ planned_text slowdown c f as_all layouts = cost_lines slowdown c ++ item_lines f
 
 -- the costs, and then the items and the results of the program function
 abbrev pub plan_text : (slowdown : ℕ) → ProgramTree → FuncTree → StFuncTree → List NodeTiming → List ℕ
-plan_text slowdown p f s ts = planned_text slowdown (costing p f s ts).costs f (costing p f s ts).arrivals (item_layouts s)
+plan_text slowdown p f s ts =
+    planned_text slowdown (costing p f s ts).costs f (costing p f s ts).arrivals (item_layouts s)

@@ -31,7 +31,8 @@ refusal_text (BadLine line) = text_and_number (codes "bad line ") line
 refusal_text (BadType line) = text_and_number (codes "bad type line ") line
 refusal_text (TooLarge line) = text_and_number (codes "too large line ") line
 refusal_text (NoSchedule line) = text_and_number (codes "no schedule line ") line
-refusal_text (BadWords row column) = text_and_number (codes "bad words row ") row ++ text_and_number (codes " column ") column
+refusal_text (BadWords row column) =
+    text_and_number (codes "bad words row ") row ++ text_and_number (codes " column ") column
 refusal_text (BadModule fault) = codes "bad module " ++ fault_text fault
 refusal_text (LongRun size) = text_and_number (codes "long run ") size
 refusal_text ReadFault = codes "read fault"

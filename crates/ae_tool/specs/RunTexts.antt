@@ -51,29 +51,41 @@ abbrev pub run_limit : ℕ
 run_limit = 4194304
 
 -- the text of a module that is correct for the program, and the lines of its run on the blocks of the rows
-pub record IsRunText (fill : ℕ) (p : ProgramTree) (slowdown : ℕ) (instances : List StFuncTree) (table : List (List (List ℕ))) (text : List ℕ) : Type 0 where
+pub record IsRunText (fill : ℕ) (p : ProgramTree) (slowdown : ℕ) (instances : List StFuncTree)
+    (table : List (List (List ℕ))) (text : List ℕ) : Type 0 where
   pub built : List ℕ
   pub module_text : IsModuleText p slowdown instances built
   pub clocks : List ℕ
-  pub shown : IsClockText module_text.tree slowdown (main_costs p instances).latency fill module_text.listing.report.ins module_text.listing.report.outs (blocks_of (parameter_types p) table) clocks
+  pub shown : IsClockText module_text.tree slowdown
+      (main_costs p instances).latency fill module_text.listing.report.ins module_text.listing.report.outs
+      (blocks_of (parameter_types p) table) clocks
   pub is : text ≡ (built ++ codes "%% clocks\n") ++ clocks
 
 -- what a run is written as
-abbrev pub IsRunShown : Form → (fill : ℕ) (p : ProgramTree) (slowdown : ℕ) (instances : List StFuncTree) (table : List (List (List ℕ))) (text : List ℕ) → Type 0
+abbrev pub IsRunShown : Form → (fill : ℕ) (p : ProgramTree) (slowdown : ℕ) (instances : List StFuncTree)
+    (table : List (List (List ℕ))) (text : List ℕ) → Type 0
 IsRunShown Lines fill p slowdown instances table text = IsRunText fill p slowdown instances table text
 IsRunShown Dump fill p slowdown instances table text = IsWaveText fill p slowdown instances table text
 
 -- what `run` or `wave` answers and writes for a costed program and rows: the first wrong row comes before a run that is too long
-abbrev pub IsRunOf : Form → (fill : ℕ) (p : ProgramTree) (slowdown : ℕ) (instances : List StFuncTree) (table : List (List (List ℕ))) → Status → (text : List ℕ) → Type 0
+abbrev pub IsRunOf : Form → (fill : ℕ) (p : ProgramTree) (slowdown : ℕ) (instances : List StFuncTree)
+    (table : List (List (List ℕ))) → Status → (text : List ℕ) → Type 0
 IsRunOf form fill p slowdown instances table Ok text =
-    (bad_row 1 (input_widths p) table ≡ None) × (run_size form p slowdown (main_costs p instances).latency table ≤ run_limit) × IsRunShown form fill p slowdown instances table text
+    (bad_row 1 (input_widths p) table ≡ None)
+    × (run_size form p slowdown (main_costs p instances).latency table ≤ run_limit)
+    × IsRunShown form fill p slowdown instances table text
 IsRunOf form fill p slowdown instances table (BadWords row column) text =
     (bad_row 1 (input_widths p) table ≡ Some (row, column)) × (text ≡ refusal_line (BadWords row column))
 IsRunOf form fill p slowdown instances table (LongRun size) text =
-    (bad_row 1 (input_widths p) table ≡ None) × (run_limit < size) × (size ≡ run_size form p slowdown (main_costs p instances).latency table) × (text ≡ refusal_line (LongRun size))
+    (bad_row 1 (input_widths p) table ≡ None) × (run_limit < size)
+    × (size ≡ run_size form p slowdown (main_costs p instances).latency table)
+    × (text ≡ refusal_line (LongRun size))
 IsRunOf form fill p slowdown instances table _ text = ⊥
 
 -- the program's refusals come before those of the rows
-pub data IsPlayed (form : Form) (slowdown fill : ℕ) (part : List ℕ) (table : List (List (List ℕ))) (status : Status) (text : List ℕ) : Type 0 where
-  Unbuilt : IsCostRefusal load_limit part slowdown status → text ≡ refusal_line status → IsPlayed form slowdown fill part table status text
-  Played : (p : ProgramTree) (instances : List StFuncTree) → IsCosted load_limit part slowdown p instances → IsRunOf form fill p slowdown instances table status text → IsPlayed form slowdown fill part table status text
+pub data IsPlayed (form : Form) (slowdown fill : ℕ) (part : List ℕ) (table : List (List (List ℕ))) (status : Status)
+    (text : List ℕ) : Type 0 where
+  Unbuilt : IsCostRefusal load_limit part slowdown status → text ≡ refusal_line status
+      → IsPlayed form slowdown fill part table status text
+  Played : (p : ProgramTree) (instances : List StFuncTree) → IsCosted load_limit part slowdown p instances
+      → IsRunOf form fill p slowdown instances table status text → IsPlayed form slowdown fill part table status text

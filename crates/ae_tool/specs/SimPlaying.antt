@@ -26,7 +26,8 @@ abbrev pub input_rows : List SizedCell → (table : List (List (List ℕ))) → 
 input_rows cells table = map (λ r. taken_words (count_of is_input cells) r) table
 
 -- fewer than 2 ^ 32 rows with the right words in each column, and their words one row after another
-pub record AreSimRows (cells : List SizedCell) (columns : ℕ) (table : List (List (List ℕ))) (words : List ℕ) : Type 0 where
+pub record AreSimRows (cells : List SizedCell) (columns : ℕ) (table : List (List (List ℕ)))
+    (words : List ℕ) : Type 0 where
   pub columns_are : columns ≡ length (cell_widths cells)
   pub few : length table < 2 ^ 32
   pub right : bad_row 1 (cell_widths cells) table ≡ None
@@ -44,17 +45,23 @@ net_size n table = length table * (1 + length n.outlets)
 
 -- what is answered and written for a netlist
 abbrev pub IsNetSim : (fill : ℕ) (n : Circuit) (table : List (List (List ℕ))) → Status → (text : List ℕ) → Type 0
-IsNetSim fill n table Ok text = (bad_row 1 (cell_widths n.cells) table ≡ None) × (net_size n table ≤ run_limit) × IsNetText n fill table text
-IsNetSim fill n table (BadWords row column) text = (bad_row 1 (cell_widths n.cells) table ≡ Some (row, column)) × (text ≡ refusal_line (BadWords row column))
+IsNetSim fill n table Ok text =
+    (bad_row 1 (cell_widths n.cells) table ≡ None) × (net_size n table ≤ run_limit) × IsNetText n fill table text
+IsNetSim fill n table (BadWords row column) text =
+    (bad_row 1 (cell_widths n.cells) table ≡ Some (row, column)) × (text ≡ refusal_line (BadWords row column))
 IsNetSim fill n table (LongRun size) text =
-    (bad_row 1 (cell_widths n.cells) table ≡ None) × (run_limit < size) × (size ≡ net_size n table) × (text ≡ refusal_line (LongRun size))
+    (bad_row 1 (cell_widths n.cells) table ≡ None) × (run_limit < size) × (size ≡ net_size n table)
+    × (text ≡ refusal_line (LongRun size))
 IsNetSim fill n table _ text = ⊥
 
 -- the refusal of a module that has a fault of this kind
 abbrev pub IsRefusedAs : Option VFaultKind → Status → (text : List ℕ) → Type 0
-IsRefusedAs kind status text = (k : VFaultKind) × (kind ≡ Some k) × (status ≡ BadModule k) × (text ≡ refusal_line (BadModule k))
+IsRefusedAs kind status text =
+    (k : VFaultKind) × (kind ≡ Some k) × (status ≡ BadModule k) × (text ≡ refusal_line (BadModule k))
 
 -- what is answered and written for a module that a text spells
-pub data IsModuleReply (fill : ℕ) (m : ModuleTree) (table : List (List (List ℕ))) (status : Status) (text : List ℕ) : Type 0 where
-  Refused : (fault : ElabFault) → IsFault m fault → IsRefusedAs (module_kind fault) status text → IsModuleReply fill m table status text
+pub data IsModuleReply (fill : ℕ) (m : ModuleTree) (table : List (List (List ℕ))) (status : Status)
+    (text : List ℕ) : Type 0 where
+  Refused : (fault : ElabFault) → IsFault m fault → IsRefusedAs (module_kind fault) status text
+      → IsModuleReply fill m table status text
   Played : IsWellFormed m → IsSimOf fill m table status text → IsModuleReply fill m table status text

@@ -54,8 +54,10 @@ module_kind e.Memory = None
 
 -- the text spells no module and leaves the grammar there, or it spells one with this fault
 pub data IsModuleFault (part : List ℕ) (kind : VFaultKind) : Type 0 where
-  Unread : (fault : VFault) → text_kind fault ≡ Some kind → HasFault part fault → ((m : ModuleTree) → Spells part m → ⊥) → IsModuleFault part kind
-  Misformed : (m : ModuleTree) (fault : ElabFault) → module_kind fault ≡ Some kind → SpellsOnly part m → IsFault m fault → IsModuleFault part kind
+  Unread : (fault : VFault) → text_kind fault ≡ Some kind → HasFault part fault
+      → ((m : ModuleTree) → Spells part m → ⊥) → IsModuleFault part kind
+  Misformed : (m : ModuleTree) (fault : ElabFault) → module_kind fault ≡ Some kind → SpellsOnly part m
+      → IsFault m fault → IsModuleFault part kind
 
 -- ---- the rows
 
@@ -78,8 +80,10 @@ taken_words inputs row = take inputs (row_words row)
 pub record IsSimRun (m : ModuleTree) (fill : ℕ) (table : List (List (List ℕ))) (run : List ModuleClock) : Type 0 where
   pub long : length run ≡ length table
   pub runs : IsModuleRun m run
-  pub takes : (t : ℕ) → t < length run → input_words m (clock_at run t) ≡ taken_words (length (inputs_of m)) (get_or table t [])
-  pub begins : 0 < length run → held_words m (clock_at run 0) ≡ map (λ (x : NetTree). first_words fill x.width (kind_depth x.kind)) (states_of m)
+  pub takes : (t : ℕ) → t < length run → input_words m (clock_at run t) ≡ taken_words (length (inputs_of m))
+      (get_or table t [])
+  pub begins : 0 < length run → held_words m (clock_at run 0) ≡ map
+      (λ (x : NetTree). first_words fill x.width (kind_depth x.kind)) (states_of m)
 
 -- ---- the lines
 
@@ -106,10 +110,13 @@ sim_size m table = length table * (1 + length (outputs_of m))
 
 -- what is answered and written for a well-formed module: the first wrong row comes before a run that is too long
 abbrev pub IsSimOf : (fill : ℕ) (m : ModuleTree) (table : List (List (List ℕ))) → Status → (text : List ℕ) → Type 0
-IsSimOf fill m table Ok text = (bad_row 1 (row_widths m) table ≡ None) × (sim_size m table ≤ run_limit) × IsSimText m fill table text
-IsSimOf fill m table (BadWords row column) text = (bad_row 1 (row_widths m) table ≡ Some (row, column)) × (text ≡ refusal_line (BadWords row column))
+IsSimOf fill m table Ok text =
+    (bad_row 1 (row_widths m) table ≡ None) × (sim_size m table ≤ run_limit) × IsSimText m fill table text
+IsSimOf fill m table (BadWords row column) text =
+    (bad_row 1 (row_widths m) table ≡ Some (row, column)) × (text ≡ refusal_line (BadWords row column))
 IsSimOf fill m table (LongRun size) text =
-    (bad_row 1 (row_widths m) table ≡ None) × (run_limit < size) × (size ≡ sim_size m table) × (text ≡ refusal_line (LongRun size))
+    (bad_row 1 (row_widths m) table ≡ None) × (run_limit < size) × (size ≡ sim_size m table)
+    × (text ≡ refusal_line (LongRun size))
 IsSimOf fill m table _ text = ⊥
 
 -- what `sim FILL` answers and writes for a text and rows: a text that is no well-formed module comes first
@@ -119,4 +126,5 @@ IsSimulated fill part table status text = (m : ModuleTree) × IsModuleOf part m 
 
 -- the job has a result: a well-formed module, rows that are right, and a run within the limit
 abbrev pub IsSimulable : (part : List ℕ) (table : List (List (List ℕ))) → Type 0
-IsSimulable part table = (m : ModuleTree) × IsModuleOf part m × (bad_row 1 (row_widths m) table ≡ None) × (sim_size m table ≤ run_limit)
+IsSimulable part table =
+    (m : ModuleTree) × IsModuleOf part m × (bad_row 1 (row_widths m) table ≡ None) × (sim_size m table ≤ run_limit)

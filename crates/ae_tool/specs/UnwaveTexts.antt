@@ -33,9 +33,12 @@ pub record IsNoDump (part : List ℕ) (at : ℕ) : Type 0 where
 
 -- what `unwave` answers and writes
 abbrev pub IsUnwaved : (part : List ℕ) → Status → (text : List ℕ) → Type 0
-IsUnwaved part Ok text = (w : WaveTree) × IsDumpOf part w × (size_of_wave w ≤ run_limit) × (text ≡ wave_lines w (length w.times))
+IsUnwaved part Ok text =
+    (w : WaveTree) × IsDumpOf part w × (size_of_wave w ≤ run_limit) × (text ≡ wave_lines w (length w.times))
 IsUnwaved part (BadWave at) text = IsNoDump part at × (text ≡ refusal_line (BadWave at))
-IsUnwaved part (LongRun size) text = (w : WaveTree) × IsDumpOf part w × (run_limit < size) × (size ≡ size_of_wave w) × (text ≡ refusal_line (LongRun size))
+IsUnwaved part (LongRun size) text =
+    (w : WaveTree) × IsDumpOf part w × (run_limit < size) × (size ≡ size_of_wave w)
+    × (text ≡ refusal_line (LongRun size))
 IsUnwaved part _ text = ⊥
 
 -- the job has a result: the text is a dump whose wave is within the limit

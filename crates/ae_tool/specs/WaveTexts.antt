@@ -36,14 +36,19 @@ pub record AreWordsOf (m : ModuleTree) (count : ℕ) (words : List ℕ) : Type 0
   pub run : List ModuleClock
   pub long : length run ≡ 1 + count
   pub runs : IsModuleRun m run
-  pub are : words ≡ port_words (λ c. input_words m (clock_at run (1 + c))) (λ c. output_words m (clock_at run (1 + c))) count
+  pub are : words ≡ port_words (λ c. input_words m (clock_at run (1 + c)))
+      (λ c. output_words m (clock_at run (1 + c))) count
 
 -- the text of a module that is correct for the program, and the dump of its run on the blocks of the rows; the whole is a
 -- dump of the same wave
-pub record IsWaveText (fill : ℕ) (p : ProgramTree) (slowdown : ℕ) (instances : List StFuncTree) (table : List (List (List ℕ))) (text : List ℕ) : Type 0 where
+pub record IsWaveText (fill : ℕ) (p : ProgramTree) (slowdown : ℕ) (instances : List StFuncTree)
+    (table : List (List (List ℕ))) (text : List ℕ) : Type 0 where
   pub built : List ℕ
   pub module_text : IsModuleText p slowdown instances built
   pub words : List ℕ
-  pub shown : AreClockWords module_text.tree slowdown (main_costs p instances).latency fill module_text.listing.report.ins (blocks_of (parameter_types p) table) words
-  pub is : text ≡ commented built (wave_text (run_wave module_text.tree (clock_count slowdown (main_costs p instances).latency (length table)) words))
-  pub dump : IsVcd text (run_wave module_text.tree (clock_count slowdown (main_costs p instances).latency (length table)) words)
+  pub shown : AreClockWords module_text.tree slowdown
+      (main_costs p instances).latency fill module_text.listing.report.ins (blocks_of (parameter_types p) table) words
+  pub is : text ≡ commented built (wave_text
+      (run_wave module_text.tree (clock_count slowdown (main_costs p instances).latency (length table)) words))
+  pub dump : IsVcd text (run_wave module_text.tree
+      (clock_count slowdown (main_costs p instances).latency (length table)) words)

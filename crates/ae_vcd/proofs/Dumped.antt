@@ -60,7 +60,8 @@ first_commands w (suc k) = first_commands w k ++ var_command w k ∷ []
 abbrev wave_commands : WaveTree → List HeaderCommand
 wave_commands w = first_commands w (length w.names) ++ end_command ∷ []
 
-agrees_more : (vs : List Variable) (v : Variable) (code : List ℕ) (width : ℕ) → agrees vs code width ≡ true → bytes_eq v.code code ≡ false → agrees (vs ++ v ∷ []) code width ≡ true
+agrees_more : (vs : List Variable) (v : Variable) (code : List ℕ) (width : ℕ) → agrees vs code width ≡ true → bytes_eq v.code code ≡ false
+    → agrees (vs ++ v ∷ []) code width ≡ true
 agrees_more [] v code width h e = rw e refl
 agrees_more (u ∷ vs) v code width h e =
     let p = both (not (bytes_eq u.code code) || u.width == width) (agrees vs code width) h in
@@ -86,11 +87,13 @@ takes_more : (vs us : List Variable) (code : List ℕ) (value : ℕ) → takes v
 takes_more [] us code value h = cc
 takes_more (v ∷ vs) us code value h = one (bytes_eq v.code code && nat_lt value (2 ^ v.width)) h (λ k. takes_more vs us code value k)
   where
-    one : (b : Bool) → (b || takes vs code value) ≡ true → (takes vs code value ≡ true → takes (vs ++ us) code value ≡ true) → (b || takes (vs ++ us) code value) ≡ true
+    one : (b : Bool) → (b || takes vs code value) ≡ true → (takes vs code value ≡ true → takes (vs ++ us) code value ≡ true)
+        → (b || takes (vs ++ us) code value) ≡ true
     one true h f = refl
     one false h f = f h
 
-takes_last : (vs : List Variable) (v : Variable) (code : List ℕ) (value : ℕ) → bytes_eq v.code code ≡ true → nat_lt value (2 ^ v.width) ≡ true → takes (vs ++ v ∷ []) code value ≡ true
+takes_last : (vs : List Variable) (v : Variable) (code : List ℕ) (value : ℕ) → bytes_eq v.code code ≡ true → nat_lt value (2 ^ v.width) ≡ true
+    → takes (vs ++ v ∷ []) code value ≡ true
 takes_last [] v code value e f = rw (e, f) refl
 takes_last (u ∷ vs) v code value e f = one (bytes_eq u.code code && nat_lt value (2 ^ u.width)) (takes_last vs v code value e f)
   where
@@ -126,23 +129,31 @@ module _ (w : WaveTree) (h : IsFormedWave w) where
   first_variables (suc k) = variables_more (first_commands w k) (var_command w k) ∙ ap (λ (l : List Variable). l ++ wave_variable w k ∷ []) (first_variables k)
 
   all_variables : variables (wave_commands w) ≡ wave_variables w (length w.names)
-  all_variables = variables_more (first_commands w (length w.names)) end_command ∙ (append_none (variables (first_commands w (length w.names))) ∙ first_variables (length w.names))
+  all_variables = variables_more (first_commands w (length w.names)) end_command ∙
+      (append_none (variables (first_commands w (length w.names))) ∙ first_variables (length w.names))
 
   codes_agree : (k count width : ℕ) → k < length w.names → count ≤ k → agrees (wave_variables w count) (code_of k) width ≡ true
   codes_agree k zero width l b = refl
-  codes_agree k (suc c) width l b = agrees_more (wave_variables w c) (wave_variable w c) (code_of k) width (codes_agree k c width l (omega arith)) (codes_differ c k (few c (omega arith)) (few k l) (λ e. absurd (omega arith)))
+  codes_agree k (suc c) width l b = agrees_more (wave_variables w c) (wave_variable w c) (code_of k) width (codes_agree k c width l (omega arith))
+      (codes_differ c k (few c (omega arith)) (few k l) (λ e. absurd (omega arith)))
 
   var_is : (k : ℕ) → k < length w.names → IsHeaderCommand (wave_variables w k) (var_command w k)
   var_is k l =
       let n = width_read k l in
       let r = width_in k l in
       let low : nat_le 1 (digits_value 10 (decimal (get_or w.widths k 0))) ≡ true = rw n.value (le-leb 1 (get_or w.widths k 0) r.0) in
-      let high : nat_le (digits_value 10 (decimal (get_or w.widths k 0))) 64 ≡ true = rw n.value (le-leb (get_or w.widths k 0) 64 r.1) in
-      (omega (arith, many k, h.most), rw (n.number, low, high) refl, rw (code_is_code k (few k l), codes_agree k k (digits_value 10 (decimal (get_or w.widths k 0))) l (omega arith)) refl, named k l, refl)
+      let high : nat_le (digits_value 10 (decimal (get_or w.widths k 0))) 64 ≡ true = rw n.value (le-leb (get_or w.widths k 0) 64 r.1) in (
+        omega (arith, many k, h.most),
+        rw (n.number, low, high) refl,
+        rw (code_is_code k (few k l), codes_agree k k (digits_value 10 (decimal (get_or w.widths k 0))) l (omega arith)) refl,
+        named k l,
+        refl,
+      )
 
   first_are : (count : ℕ) → count ≤ length w.names → AreCommands [] (first_commands w count)
   first_are zero l = ((refl, refl), ((refl, refl), tt))
-  first_are (suc k) l = commands_more [] (first_commands w k) (var_command w k) (first_are k (omega arith)) (subst (λ (vs : List Variable). IsHeaderCommand vs (var_command w k)) (sym (first_variables k)) (var_is k l))
+  first_are (suc k) l = commands_more [] (first_commands w k) (var_command w k) (first_are k (omega arith))
+      (subst (λ (vs : List Variable). IsHeaderCommand vs (var_command w k)) (sym (first_variables k)) (var_is k l))
 
   commands_are : AreCommands [] (wave_commands w)
   commands_are = commands_more [] (first_commands w (length w.names)) end_command (first_are (length w.names) (omega arith)) (refl, refl)
@@ -153,13 +164,16 @@ module _ (w : WaveTree) (h : IsFormedWave w) where
       let n : List ℕ = get_or w.names k [] in
       let end : List ℕ = codes " $end\n" in
       ap (λ (x : List ℕ). codes "$var" ∷ codes "wire" ∷ text_words x) (append_assoc d (codes " " ++ (code_of k ++ (codes " " ++ (n ++ end)))) rest)
-      ∙ (ap (λ (x : List (List ℕ)). codes "$var" ∷ codes "wire" ∷ x) (word_then d 32 ((code_of k ++ (codes " " ++ (n ++ end))) ++ rest) (width_read k l).code refl)
+      ∙ (ap (λ (x : List (List ℕ)). codes "$var" ∷ codes "wire" ∷ x)
+      (word_then d 32 ((code_of k ++ (codes " " ++ (n ++ end))) ++ rest) (width_read k l).code refl)
       ∙ (ap (λ (x : List ℕ). codes "$var" ∷ codes "wire" ∷ d ∷ text_words x) (append_assoc (code_of k) (codes " " ++ (n ++ end)) rest)
       ∙ (ap (λ (x : List (List ℕ)). codes "$var" ∷ codes "wire" ∷ d ∷ x) (word_then (code_of k) 32 ((n ++ end) ++ rest) (code_is_code k (few k l)) refl)
       ∙ (ap (λ (x : List ℕ). codes "$var" ∷ codes "wire" ∷ d ∷ code_of k ∷ text_words x) (append_assoc n end rest)
       ∙ ap (λ (x : List (List ℕ)). codes "$var" ∷ codes "wire" ∷ d ∷ code_of k ∷ x) (word_then n 32 (codes "$end\n" ++ rest) (name_code n (named k l)) refl)))))
 
-  vars_words : (count : ℕ) (rest : List ℕ) → count ≤ length w.names → text_words (codes "$timescale 1 ns $end\n$scope module aeth $end\n" ++ (var_lines w count ++ rest)) ≡ words_of_commands (first_commands w count) ++ text_words rest
+  vars_words : (count : ℕ) (rest : List ℕ) → count ≤ length w.names
+      → text_words (codes "$timescale 1 ns $end\n$scope module aeth $end\n" ++ (var_lines w count ++ rest)) ≡ words_of_commands (first_commands w count)
+      ++ text_words rest
   vars_words zero rest l = refl
   vars_words (suc k) rest l =
       let begin : List ℕ = codes "$timescale 1 ns $end\n$scope module aeth $end\n" in
@@ -180,7 +194,8 @@ module _ (w : WaveTree) (h : IsFormedWave w) where
   own_given : (k width word was : ℕ) → width ≤ 64 → word < 2 ^ width → given (code_of k) (change_piece width word k) was ≡ word
   own_given k width word was l b = cases (width == 1) refl
     where
-      cases : (c : Bool) → (width == 1) ≡ c → given (code_of k) (if c then Bit (48 + word) (code_of k) else Binary 98 (digits 2 false word) (code_of k)) was ≡ word
+      cases : (c : Bool) → (width == 1) ≡ c → given (code_of k)
+          (if c then Bit (48 + word) (code_of k) else Binary 98 (digits 2 false word) (code_of k)) was ≡ word
       cases true e =
           let one : width ≡ 1 = eqb-true width 1 e in
           let low : word < 2 ^ 1 = subst (λ v. word < 2 ^ v) one b in
@@ -202,7 +217,11 @@ module _ (w : WaveTree) (h : IsFormedWave w) where
   rises i (suc j) l b =
       let one : j + 1 ≡ suc j = omega arith in
       let next : get_or w.times j 0 < get_or w.times (suc j) 0 = subst (λ n. get_or w.times j 0 < get_or w.times n 0) one (h.rise j (omega arith)) in
-      elim (cases_lt i j) [ inl lt ↦ (let r = rises i j lt (omega arith) in omega arith) | inr le ↦ (let e : j ≡ i = omega arith in subst (λ n. get_or w.times n 0 < get_or w.times (suc j) 0) e next) ]
+      elim (cases_lt i j) [
+        | inl lt ↦ (let r = rises i j lt (omega arith) in omega arith)
+        | inr
+            le ↦ (let e : j ≡ i = omega arith in subst (λ n. get_or w.times n 0 < get_or w.times (suc j) 0) e next)
+      ]
 
   pub has_codes : HasCodes w
   has_codes = record {
@@ -216,14 +235,17 @@ module _ (w : WaveTree) (h : IsFormedWave w) where
 
   -- ---- the words of changes and times
 
-  change_words : (i k : ℕ) (rest : List ℕ) → i < length w.times → k < length w.names → text_words (change_line (get_or w.widths k 0) (wave_word w i k) k ++ rest) ≡ piece_words (change_piece (get_or w.widths k 0) (wave_word w i k) k) ++ text_words rest
+  change_words : (i k : ℕ) (rest : List ℕ) → i < length w.times → k < length w.names
+      → text_words (change_line (get_or w.widths k 0) (wave_word w i k) k ++ rest) ≡ piece_words (change_piece (get_or w.widths k 0) (wave_word w i k) k)
+      ++ text_words rest
   change_words i k rest t l = cases (get_or w.widths k 0 == 1) refl
     where
       word : ℕ
       word = wave_word w i k
 
       cases : (c : Bool) → (get_or w.widths k 0 == 1) ≡ c
-          → text_words ((if c then decimal (wave_word w i k) ++ (code_of k ++ codes "\n") else codes "b" ++ (digits 2 false (wave_word w i k) ++ (codes " " ++ (code_of k ++ codes "\n")))) ++ rest)
+          → text_words ((if c then decimal (wave_word w i k) ++ (code_of k ++ codes "\n") else codes "b"
+          ++ (digits 2 false (wave_word w i k) ++ (codes " " ++ (code_of k ++ codes "\n")))) ++ rest)
           ≡ piece_words (if c then Bit (48 + wave_word w i k) (code_of k) else Binary 98 (digits 2 false (wave_word w i k)) (code_of k)) ++ text_words rest
       cases true e =
           let one : get_or w.widths k 0 ≡ 1 = eqb-true (get_or w.widths k 0) 1 e in
@@ -232,7 +254,8 @@ module _ (w : WaveTree) (h : IsFormedWave w) where
           let g : is_graphic (48 + wave_word w i k) ≡ true = bit_graphic (wave_word w i k) (omega arith) in
           ap (λ (x : List ℕ). text_words ((x ++ (code_of k ++ codes "\n")) ++ rest)) digit
           ∙ (ap (λ (x : List ℕ). text_words ((48 + wave_word w i k) ∷ x)) (append_assoc (code_of k) (codes "\n") rest)
-          ∙ word_then ((48 + wave_word w i k) ∷ code_of k) 10 rest (code_cons (48 + wave_word w i k) (code_of k) g (code_all (code_of k) (code_is_code k (few k l)))) refl)
+          ∙ word_then ((48 + wave_word w i k) ∷ code_of k) 10 rest
+          (code_cons (48 + wave_word w i k) (code_of k) g (code_all (code_of k) (code_is_code k (few k l)))) refl)
       cases false e =
           let ds : List ℕ = digits 2 false (wave_word w i k) in
           let r : IsBinaryOf (wave_word w i k) = binary_read (wave_word w i k) (word_small i k t l) in
@@ -241,18 +264,23 @@ module _ (w : WaveTree) (h : IsFormedWave w) where
           ∙ (ap (λ (x : List ℕ). (98 ∷ ds) ∷ text_words x) (append_assoc (code_of k) (codes "\n") rest)
           ∙ ap (λ (x : List (List ℕ)). (98 ∷ ds) ∷ x) (word_then (code_of k) 10 rest (code_is_code k (few k l)) refl)))
 
-  changed_words : (i k : ℕ) (rest : List ℕ) → i < length w.times → k < length w.names → text_words (changed_line w i k ++ rest) ≡ words_of_pieces (changed_pieces w i k) ++ text_words rest
+  changed_words : (i k : ℕ) (rest : List ℕ) → i < length w.times → k < length w.names
+      → text_words (changed_line w i k ++ rest) ≡ words_of_pieces (changed_pieces w i k) ++ text_words rest
   changed_words i k rest t l = cases (is_changed w i k)
     where
-      cases : (c : Bool) → text_words ((if c then change_line (get_or w.widths k 0) (wave_word w i k) k else []) ++ rest) ≡ words_of_pieces (if c then change_piece (get_or w.widths k 0) (wave_word w i k) k ∷ [] else []) ++ text_words rest
-      cases true = change_words i k rest t l ∙ ap (λ (x : List (List ℕ)). x ++ text_words rest) (sym (append_none (piece_words (change_piece (get_or w.widths k 0) (wave_word w i k) k))))
+      cases : (c : Bool) → text_words ((if c then change_line (get_or w.widths k 0) (wave_word w i k) k else []) ++ rest) ≡ words_of_pieces
+          (if c then change_piece (get_or w.widths k 0) (wave_word w i k) k ∷ [] else []) ++ text_words rest
+      cases true = change_words i k rest t l ∙ ap (λ (x : List (List ℕ)). x ++ text_words rest)
+          (sym (append_none (piece_words (change_piece (get_or w.widths k 0) (wave_word w i k) k))))
       cases false = refl
 
   pieces_append : (ps qs : List Piece) → words_of_pieces (ps ++ qs) ≡ words_of_pieces ps ++ words_of_pieces qs
   pieces_append [] qs = refl
-  pieces_append (p ∷ ps) qs = ap (λ (x : List (List ℕ)). piece_words p ++ x) (pieces_append ps qs) ∙ sym (append_assoc (piece_words p) (words_of_pieces ps) (words_of_pieces qs))
+  pieces_append (p ∷ ps) qs = ap (λ (x : List (List ℕ)). piece_words p ++ x) (pieces_append ps qs) ∙
+      sym (append_assoc (piece_words p) (words_of_pieces ps) (words_of_pieces qs))
 
-  changes_words : (i count : ℕ) (rest : List ℕ) → i < length w.times → count ≤ length w.names → text_words (change_lines w i count ++ rest) ≡ words_of_pieces (change_pieces w i count) ++ text_words rest
+  changes_words : (i count : ℕ) (rest : List ℕ) → i < length w.times → count ≤ length w.names
+      → text_words (change_lines w i count ++ rest) ≡ words_of_pieces (change_pieces w i count) ++ text_words rest
   changes_words i zero rest t l = refl
   changes_words i (suc k) rest t l =
       ap text_words (append_assoc (change_lines w i k) (changed_line w i k) rest)
@@ -268,7 +296,8 @@ module _ (w : WaveTree) (h : IsFormedWave w) where
       ∙ (word_then (35 ∷ d) 10 (change_lines w i (length w.names) ++ rest) (code_cons 35 d refl (time_read i t).graphic) refl
       ∙ ap (λ (x : List (List ℕ)). (35 ∷ d) ∷ x) (changes_words i (length w.names) rest t (omega arith)))
 
-  body_words : (count : ℕ) (rest : List ℕ) → count ≤ length w.times → text_words (body_lines w count ++ rest) ≡ words_of_pieces (body_pieces w count) ++ text_words rest
+  body_words : (count : ℕ) (rest : List ℕ) → count ≤ length w.times → text_words (body_lines w count ++ rest) ≡ words_of_pieces (body_pieces w count)
+      ++ text_words rest
   body_words zero rest l = refl
   body_words (suc i) rest l =
       ap text_words (append_assoc (body_lines w i) (time_lines w i) rest)
@@ -286,63 +315,84 @@ module _ (w : WaveTree) (h : IsFormedWave w) where
     | inr le ↦ (let is : c ≡ k = omega arith in rw is (bit_last (wave_variables w k) (wave_variable w k) (code_of k) (code_itself k) e))
   ]
 
-  takes_there : (k count value : ℕ) → k < count → nat_lt value (2 ^ digits_value 10 (decimal (get_or w.widths k 0))) ≡ true → takes (wave_variables w count) (code_of k) value ≡ true
+  takes_there : (k count value : ℕ) → k < count → nat_lt value (2 ^ digits_value 10 (decimal (get_or w.widths k 0))) ≡ true
+      → takes (wave_variables w count) (code_of k) value ≡ true
   takes_there k zero value l e = absurd (omega arith)
   takes_there k (suc c) value l e = elim (cases_lt k c) [
     | inl lt ↦ takes_more (wave_variables w c) (wave_variable w c ∷ []) (code_of k) value (takes_there k c value lt e)
     | inr le ↦ (let is : c ≡ k = omega arith in rw is (takes_last (wave_variables w k) (wave_variable w k) (code_of k) value (code_itself k) e))
   ]
 
-  change_is : (i k t : ℕ) → i < length w.times → k < length w.names → IsPiece (wave_variables w (length w.names)) (Some t) (change_piece (get_or w.widths k 0) (wave_word w i k) k)
+  change_is : (i k t : ℕ) → i < length w.times → k < length w.names
+      → IsPiece (wave_variables w (length w.names)) (Some t) (change_piece (get_or w.widths k 0) (wave_word w i k) k)
   change_is i k t a l = cases (get_or w.widths k 0 == 1) refl
     where
-      cases : (c : Bool) → (get_or w.widths k 0 == 1) ≡ c → IsPiece (wave_variables w (length w.names)) (Some t) (if c then Bit (48 + wave_word w i k) (code_of k) else Binary 98 (digits 2 false (wave_word w i k)) (code_of k))
+      cases : (c : Bool) → (get_or w.widths k 0 == 1) ≡ c → IsPiece (wave_variables w (length w.names)) (Some t)
+          (if c then Bit (48 + wave_word w i k) (code_of k) else Binary 98 (digits 2 false (wave_word w i k)) (code_of k))
       cases true e =
           let one : get_or w.widths k 0 ≡ 1 = eqb-true (get_or w.widths k 0) 1 e in
           let low : wave_word w i k < 2 ^ 1 = subst (λ v. wave_word w i k < 2 ^ v) one (h.fit i k a l) in
           (bit_ok (wave_word w i k) (omega arith), bit_there k (length w.names) l (rw (width_read k l).value e))
       cases false e =
-          let r : IsBinaryOf (wave_word w i k) = binary_read (wave_word w i k) (word_small i k a l) in
-          (refl, refl, r.binary, takes_there k (length w.names) (digits_value 2 (digits 2 false (wave_word w i k))) l (rw (r.value, (width_read k l).value) (lt-ltb (wave_word w i k) (2 ^ get_or w.widths k 0) (h.fit i k a l))))
+          let r : IsBinaryOf (wave_word w i k) = binary_read (wave_word w i k) (word_small i k a l) in (
+            refl,
+            refl,
+            r.binary,
+            takes_there k (length w.names) (digits_value 2 (digits 2 false (wave_word w i k))) l
+                (rw (r.value, (width_read k l).value) (lt-ltb (wave_word w i k) (2 ^ get_or w.widths k 0) (h.fit i k a l))),
+          )
 
-  changed_are : (ps : List Piece) (i k : ℕ) → i < length w.times → k < length w.names → time_of None ps ≡ Some (get_or w.times i 0) → ArePieces (wave_variables w (length w.names)) None ps → ArePieces (wave_variables w (length w.names)) None (ps ++ changed_pieces w i k)
+  changed_are : (ps : List Piece) (i k : ℕ) → i < length w.times → k < length w.names → time_of None ps ≡ Some (get_or w.times i 0)
+      → ArePieces (wave_variables w (length w.names)) None ps → ArePieces (wave_variables w (length w.names)) None (ps ++ changed_pieces w i k)
   changed_are ps i k t l e a = cases (is_changed w i k)
     where
-      cases : (c : Bool) → ArePieces (wave_variables w (length w.names)) None (ps ++ (if c then change_piece (get_or w.widths k 0) (wave_word w i k) k ∷ [] else []))
-      cases true = pieces_more (wave_variables w (length w.names)) None ps (change_piece (get_or w.widths k 0) (wave_word w i k) k) a (subst (λ o. IsPiece (wave_variables w (length w.names)) o (change_piece (get_or w.widths k 0) (wave_word w i k) k)) (sym e) (change_is i k (get_or w.times i 0) t l))
+      cases : (c : Bool) → ArePieces (wave_variables w (length w.names)) None
+          (ps ++ (if c then change_piece (get_or w.widths k 0) (wave_word w i k) k ∷ [] else []))
+      cases true = pieces_more (wave_variables w (length w.names)) None ps (change_piece (get_or w.widths k 0) (wave_word w i k) k) a
+          (subst (λ o. IsPiece (wave_variables w (length w.names)) o (change_piece (get_or w.widths k 0) (wave_word w i k) k)) (sym e)
+          (change_is i k (get_or w.times i 0) t l))
       cases false = subst (λ (l : List Piece). ArePieces (wave_variables w (length w.names)) None l) (sym (append_none ps)) a
 
-  changes_are : (ps : List Piece) (i count : ℕ) → i < length w.times → count ≤ length w.names → time_of None ps ≡ Some (get_or w.times i 0) → ArePieces (wave_variables w (length w.names)) None ps → ArePieces (wave_variables w (length w.names)) None (ps ++ change_pieces w i count)
+  changes_are : (ps : List Piece) (i count : ℕ) → i < length w.times → count ≤ length w.names → time_of None ps ≡ Some (get_or w.times i 0)
+      → ArePieces (wave_variables w (length w.names)) None ps → ArePieces (wave_variables w (length w.names)) None (ps ++ change_pieces w i count)
   changes_are ps i zero t l e a = subst (λ (l : List Piece). ArePieces (wave_variables w (length w.names)) None l) (sym (append_none ps)) a
   changes_are ps i (suc k) t l e a =
-      let now : time_of None (ps ++ change_pieces w i k) ≡ Some (get_or w.times i 0) = time_append None ps (change_pieces w i k) ∙ (ap (λ o. time_of o (change_pieces w i k)) e ∙ quiet_time (Some (get_or w.times i 0)) (change_pieces w i k) (changes_no_time w i k)) in
+      let now : time_of None (ps ++ change_pieces w i k) ≡ Some (get_or w.times i 0) = time_append None ps (change_pieces w i k) ∙
+      (ap (λ o. time_of o (change_pieces w i k)) e ∙ quiet_time (Some (get_or w.times i 0)) (change_pieces w i k) (changes_no_time w i k)) in
       subst (λ (l : List Piece). ArePieces (wave_variables w (length w.names)) None l) (append_assoc ps (change_pieces w i k) (changed_pieces w i k))
       (changed_are (ps ++ change_pieces w i k) i k t l now (changes_are ps i k t (omega arith) e a))
 
   time_is : (i : ℕ) → i < length w.times → IsPiece (wave_variables w (length w.names)) (time_of None (body_pieces w i)) (Time (decimal (get_or w.times i 0)))
   time_is i t =
       let r = time_read i t in
-      let late : nat_lt (digits_value 10 (decimal (get_or w.times i 0))) (2 ^ 64) ≡ true = rw r.value (lt-ltb (get_or w.times i 0) (2 ^ 64) (All-get_or (λ t. t < 2 ^ 64) w.times i 0 t h.late)) in
+      let late : nat_lt (digits_value 10 (decimal (get_or w.times i 0))) (2 ^ 64) ≡ true = rw r.value
+      (lt-ltb (get_or w.times i 0) (2 ^ 64) (All-get_or (λ t. t < 2 ^ 64) w.times i 0 t h.late)) in
       rw (r.number, r.short, late, after i t) refl
     where
       after : (i : ℕ) → i < length w.times → is_after (time_of None (body_pieces w i)) (digits_value 10 (decimal (get_or w.times i 0))) ≡ true
       after zero t = refl
       after (suc i) t =
           let before : time_of None (body_pieces w (suc i)) ≡ Some (get_or w.times i 0) = body_time w has_codes i (omega arith) in
-          let le : nat_le (get_or w.times i 0) (digits_value 10 (decimal (get_or w.times (suc i) 0))) ≡ true = rw (time_read (suc i) t).value (le-leb (get_or w.times i 0) (get_or w.times (suc i) 0) (let r = rises i (suc i) (omega arith) t in omega arith)) in
+          let le : nat_le (get_or w.times i 0) (digits_value 10 (decimal (get_or w.times (suc i) 0))) ≡ true = rw (time_read (suc i) t).value
+          (le-leb (get_or w.times i 0) (get_or w.times (suc i) 0) (let r = rises i (suc i) (omega arith) t in omega arith)) in
           ap (λ o. is_after o (digits_value 10 (decimal (get_or w.times (suc i) 0)))) before ∙ le
 
   body_are : (count : ℕ) → count ≤ length w.times → ArePieces (wave_variables w (length w.names)) None (body_pieces w count)
   body_are zero l = tt
   body_are (suc i) l =
       let first : List Piece = body_pieces w i ++ Time (decimal (get_or w.times i 0)) ∷ [] in
-      let now : time_of None first ≡ Some (get_or w.times i 0) = time_append None (body_pieces w i) (Time (decimal (get_or w.times i 0)) ∷ []) ∙ ap (λ n. Some n) (time_read i l).value in
-      subst (λ (l : List Piece). ArePieces (wave_variables w (length w.names)) None l) (snoc (body_pieces w i) (Time (decimal (get_or w.times i 0))) (change_pieces w i (length w.names)))
-      (changes_are first i (length w.names) l (omega arith) now (pieces_more (wave_variables w (length w.names)) None (body_pieces w i) (Time (decimal (get_or w.times i 0))) (body_are i (omega arith)) (time_is i l)))
+      let now : time_of None first ≡ Some (get_or w.times i 0) = time_append None (body_pieces w i) (Time (decimal (get_or w.times i 0)) ∷ []) ∙
+      ap (λ n. Some n) (time_read i l).value in
+      subst (λ (l : List Piece). ArePieces (wave_variables w (length w.names)) None l)
+      (snoc (body_pieces w i) (Time (decimal (get_or w.times i 0))) (change_pieces w i (length w.names)))
+      (changes_are first i (length w.names) l (omega arith) now
+      (pieces_more (wave_variables w (length w.names)) None (body_pieces w i) (Time (decimal (get_or w.times i 0))) (body_are i (omega arith))
+      (time_is i l)))
 
   -- ---- all together
 
-  whole_words : text_words (wave_text w) ≡ words_of_commands (wave_commands w) ++ (codes "$enddefinitions" ∷ end_word ∷ words_of_pieces (body_pieces w (length w.times)))
+  whole_words : text_words (wave_text w) ≡ words_of_commands (wave_commands w)
+      ++ (codes "$enddefinitions" ∷ end_word ∷ words_of_pieces (body_pieces w (length w.times)))
   whole_words =
       let begin : List ℕ = codes "$timescale 1 ns $end\n$scope module aeth $end\n" in
       let end : List ℕ = codes "$upscope $end\n$enddefinitions $end\n" in
@@ -350,16 +400,20 @@ module _ (w : WaveTree) (h : IsFormedWave w) where
       let first : List (List ℕ) = words_of_commands (first_commands w (length w.names)) in
       ap (λ (x : List ℕ). text_words (begin ++ x)) (append_assoc (var_lines w (length w.names)) end body)
       ∙ (vars_words (length w.names) (end ++ body) (omega arith)
-      ∙ (ap (λ (x : List (List ℕ)). first ++ (codes "$upscope" ∷ end_word ∷ codes "$enddefinitions" ∷ end_word ∷ x)) (ap text_words (sym (append_none body)) ∙ (body_words (length w.times) [] (omega arith) ∙ append_none (words_of_pieces (body_pieces w (length w.times)))))
+      ∙ (ap (λ (x : List (List ℕ)). first ++ (codes "$upscope" ∷ end_word ∷ codes "$enddefinitions" ∷ end_word ∷ x))
+      (ap text_words (sym (append_none body)) ∙ (body_words (length w.times) [] (omega arith) ∙
+      append_none (words_of_pieces (body_pieces w (length w.times)))))
       ∙ (sym (append_assoc first (codes "$upscope" ∷ end_word ∷ []) (codes "$enddefinitions" ∷ end_word ∷ words_of_pieces (body_pieces w (length w.times))))
-      ∙ ap (λ (x : List (List ℕ)). x ++ (codes "$enddefinitions" ∷ end_word ∷ words_of_pieces (body_pieces w (length w.times)))) (sym (commands_words (first_commands w (length w.names)) end_command)))))
+      ∙ ap (λ (x : List (List ℕ)). x ++ (codes "$enddefinitions" ∷ end_word ∷ words_of_pieces (body_pieces w (length w.times))))
+      (sym (commands_words (first_commands w (length w.names)) end_command)))))
 
   dump : AreDump (text_words (wave_text w))
   dump = record {
     commands = wave_commands w;
     pieces = body_pieces w (length w.times);
     header = commands_are;
-    some = (let e : length (variables (wave_commands w)) ≡ length w.names = ap (λ (l : List Variable). length l) all_variables ∙ many (length w.names) in omega (arith, h.some));
+    some = (let e : length (variables (wave_commands w)) ≡ length w.names = ap (λ (l : List Variable). length l) all_variables ∙ many (length w.names) in
+        omega (arith, h.some));
     body = subst (λ (vs : List Variable). ArePieces vs None (body_pieces w (length w.times))) (sym all_variables) (body_are (length w.times) (omega arith));
     is = whole_words;
   }
@@ -369,20 +423,23 @@ module _ (w : WaveTree) (h : IsFormedWave w) where
   names_meant (suc k) l =
       let one : k + 1 ≡ suc k = omega arith in
       map-append (λ (v : Variable). v.name) (wave_variables w k) (wave_variable w k ∷ [])
-      ∙ (ap (λ (x : List (List ℕ)). x ++ get_or w.names k [] ∷ []) (names_meant k (omega arith)) ∙ (sym (take_more w.names k [] l) ∙ ap (λ n. take n w.names) one))
+      ∙ (ap (λ (x : List (List ℕ)). x ++ get_or w.names k [] ∷ []) (names_meant k (omega arith)) ∙
+      (sym (take_more w.names k [] l) ∙ ap (λ n. take n w.names) one))
 
   widths_meant : (count : ℕ) → count ≤ length w.names → map (λ (v : Variable). v.width) (wave_variables w count) ≡ take count w.widths
   widths_meant zero l = refl
   widths_meant (suc k) l =
       let one : k + 1 ≡ suc k = omega arith in
       map-append (λ (v : Variable). v.width) (wave_variables w k) (wave_variable w k ∷ [])
-      ∙ ((λ i. widths_meant k (omega arith) i ++ (width_read k l).value i ∷ []) ∙ (sym (take_more w.widths k 0 (omega (arith, h.sized))) ∙ ap (λ n. take n w.widths) one))
+      ∙ ((λ i. widths_meant k (omega arith) i ++ (width_read k l).value i ∷ []) ∙
+      (sym (take_more w.widths k 0 (omega (arith, h.sized))) ∙ ap (λ n. take n w.widths) one))
 
   wave_meant : w ≡ wave_of (wave_variables w (length w.names)) (body_pieces w (length w.times))
   wave_meant =
       let vs : List Variable = wave_variables w (length w.names) in
       let names : map (λ (v : Variable). v.name) vs ≡ w.names = names_meant (length w.names) (omega arith) ∙ take-length w.names in
-      let widths : map (λ (v : Variable). v.width) vs ≡ w.widths = widths_meant (length w.names) (omega arith) ∙ (ap (λ n. take n w.widths) (sym h.sized) ∙ take-length w.widths) in
+      let widths : map (λ (v : Variable). v.width) vs ≡ w.widths = widths_meant (length w.names) (omega arith) ∙
+      (ap (λ n. take n w.widths) (sym h.sized) ∙ take-length w.widths) in
       let times = times_meant w has_codes in
       let all = ap (flat_map (words_at_time vs (body_pieces w (length w.times)))) times ∙ words_meant w has_codes h.whole in
       sym (λ i. record { names = names i; widths = widths i; times = times i; words = all i })

@@ -18,7 +18,8 @@ words-run b [] after h g = by (is_white b) refl
     by false e = ap (λ t. if t then text_words after else with_byte b (is_in_word after) (text_words after)) e ∙ ap (λ t. with_byte b t (text_words after)) g
 words-run b (c ∷ bs) after h g = by (is_white b) refl (is_white c) refl (words-run c bs after)
   where
-    by : (t : Bool) → is_white b ≡ t → (u : Bool) → is_white c ≡ u → (no_blank (c ∷ bs) ≡ true → is_in_word after ≡ false → text_words ((c ∷ bs) ++ after) ≡ (c ∷ bs) ∷ text_words after)
+    by : (t : Bool) → is_white b ≡ t → (u : Bool) → is_white c ≡ u
+        → (no_blank (c ∷ bs) ≡ true → is_in_word after ≡ false → text_words ((c ∷ bs) ++ after) ≡ (c ∷ bs) ∷ text_words after)
         → text_words (b ∷ (c ∷ bs) ++ after) ≡ (b ∷ c ∷ bs) ∷ text_words after
     by true e u eu rest = absurd (true≢false (sym h ∙ ap (λ t. not t && no_blank (c ∷ bs)) e))
     by false e true eu rest = absurd (true≢false (sym h ∙ ap (λ t. not t && no_blank (c ∷ bs)) e ∙ ap (λ t. not t && no_blank bs) eu))
@@ -45,7 +46,8 @@ pub goes_on-end : (xs : List ℕ) (k : ℕ) → length xs ≤ k → is_in_word (
 goes_on-end xs k h = let d : drop k xs ≡ [] = grind (arith, common_steps) in ap is_in_word d
 
 -- the bytes up to a blank or the end
-pub words-taken : (xs : List ℕ) (k : ℕ) → 0 < k → k ≤ length xs → no_blank (take k xs) ≡ true → is_in_word (drop k xs) ≡ false → text_words xs ≡ take k xs ∷ text_words (drop k xs)
+pub words-taken : (xs : List ℕ) (k : ℕ) → 0 < k → k ≤ length xs → no_blank (take k xs) ≡ true → is_in_word (drop k xs) ≡ false → text_words xs ≡ take k xs
+    ∷ text_words (drop k xs)
 words-taken [] k some h n g = absurd (omega arith)
 words-taken (x ∷ xs) zero some h n g = absurd (omega arith)
 words-taken (x ∷ xs) (suc k) some h n g = ap (λ ys. text_words (x ∷ ys)) (sym (take-append-drop k xs)) ∙ words-run x (take k xs) (drop k xs) n g

@@ -59,20 +59,23 @@ not_taken r None h = refl
 not_taken r (Some t) h = absurd h
 
 -- a word that is taken
-pub reach_more : (text : List ℕ) (at : ℕ) (rest word after : List ℕ) (r more : Reader) → HasReached text at rest r → text_words rest ≡ word ∷ text_words after → ((s : State) → Follows r s → Answers true more (step s word)) → HasReached text (at + 1) after more
+pub reach_more : (text : List ℕ) (at : ℕ) (rest word after : List ℕ) (r more : Reader) → HasReached text at rest r → text_words rest ≡ word ∷ text_words after
+    → ((s : State) → Follows r s → Answers true more (step s word)) → HasReached text (at + 1) after more
 reach_more text at rest word after r more h e f =
     let d = drop_head (text_words text) at word (text_words after) (h.others ∙ e) in
     let t = taken more (step h.state word) (f h.state h.follows) in
     record {
       state = t.state;
-      read = ap (go_on (Some start)) (take_more (text_words text) at [] d.within) ∙ (go_append (Some start) (take at (text_words text)) (get_or (text_words text) at [] ∷ []) ∙ ((λ i. go_on (h.read i) (d.head i ∷ [])) ∙ t.is));
+      read = ap (go_on (Some start)) (take_more (text_words text) at [] d.within) ∙
+          (go_append (Some start) (take at (text_words text)) (get_or (text_words text) at [] ∷ []) ∙ ((λ i. go_on (h.read i) (d.head i ∷ [])) ∙ t.is));
       follows = t.follows;
       others = d.tail;
       within = (let l = d.within in omega arith);
     }
 
 -- a word that is not taken is the first bad one
-pub reach_bad : (text : List ℕ) (at : ℕ) (rest word after : List ℕ) (r more : Reader) → HasReached text at rest r → text_words rest ≡ word ∷ text_words after → ((s : State) → Follows r s → Answers false more (step s word)) → IsBadWord (text_words text) at
+pub reach_bad : (text : List ℕ) (at : ℕ) (rest word after : List ℕ) (r more : Reader) → HasReached text at rest r → text_words rest ≡ word ∷ text_words after
+    → ((s : State) → Follows r s → Answers false more (step s word)) → IsBadWord (text_words text) at
 reach_bad text at rest word after r more h e f =
     let d = drop_head (text_words text) at word (text_words after) (h.others ∙ e) in
     bad_step (text_words text) at h.state d.within h.read (ap (step h.state) d.head ∙ not_taken more (step h.state word) (f h.state h.follows))
@@ -89,16 +92,23 @@ reach_end text at rest r h e =
     let n : length (drop at (text_words text)) ≡ 0 = ap (λ (l : List (List ℕ)). length l) (h.others ∙ e) in
     let m : length (drop at (text_words text)) ≡ length (text_words text) - at = length-drop at (text_words text) in
     let all : at ≡ length (text_words text) = (let w = h.within in omega arith) in
-    record { state = h.state; read = ap (go_on (Some start)) (sym (ap (λ k. take k (text_words text)) all ∙ take-length (text_words text))) ∙ h.read; follows = h.follows; all = all }
+    record {
+      state = h.state;
+      read = ap (go_on (Some start)) (sym (ap (λ k. take k (text_words text)) all ∙ take-length (text_words text))) ∙ h.read;
+      follows = h.follows;
+      all = all;
+    }
 
 -- ---- how many variables there are
 
-few_begun : (cs : List HeaderCommand) (ps : List Piece) (mode : Mode) → IsMode mode cs ps → length (variables cs) ≤ most_variables → length (variables cs ++ begun_in mode) ≤ most_variables
+few_begun : (cs : List HeaderCommand) (ps : List Piece) (mode : Mode) → IsMode mode cs ps → length (variables cs) ≤ most_variables
+    → length (variables cs ++ begun_in mode) ≤ most_variables
 few_begun cs ps (Inside (Declare kind digits code name rest)) m l = more_few (variables cs) (Declare kind digits code name rest) m.1 l
 few_begun cs ps (Inside (Other word rest)) m l = subst (λ (x : List Variable). length x ≤ most_variables) (sym (append_none (variables cs))) l
 few_begun cs ps mode m l = subst (λ (x : List Variable). length x ≤ most_variables) (sym (append_none (variables cs))) l
 
-pub few_numbers : (ws : List (List ℕ)) (r : Reader) (s : State) → go_on (Some start) ws ≡ Some s → Follows r s → length r.declared.numbers.items ≤ most_variables
+pub few_numbers : (ws : List (List ℕ)) (r : Reader) (s : State) → go_on (Some start) ws ≡ Some s → Follows r s
+    → length r.declared.numbers.items ≤ most_variables
 few_numbers ws r s e f =
     let h : HasRead start ws s = has_read start ws s start_valid e in
     let a : length (variables s.commands) ≤ most_variables = few_variables [] s.commands h.valid.commands (omega arith) in

@@ -99,7 +99,9 @@ change_quiet t false width word k rest = tt
 
 changes_quiet : (w : WaveTree) (t i count : ℕ) → none_later t (change_pieces w i count)
 changes_quiet w t i zero = tt
-changes_quiet w t i (suc k) = later_append t (change_pieces w i k) (changed_pieces w i k) (changes_quiet w t i k) (change_quiet t (is_changed w i k) (get_or w.widths k 0) (wave_word w i k) k [])
+changes_quiet w t i (suc k) =
+    later_append t (change_pieces w i k) (changed_pieces w i k) (changes_quiet w t i k)
+    (change_quiet t (is_changed w i k) (get_or w.widths k 0) (wave_word w i k) k [])
 
 -- ---- times
 
@@ -142,7 +144,8 @@ next_append (Some s) t xs ys = one (s == t)
 pub times_append : (before : Option ℕ) (ps qs : List Piece) → times_from before (ps ++ qs) ≡ times_from before ps ++ times_from (time_of before ps) qs
 times_append before [] qs = refl
 times_append before (Time own ∷ ps) qs =
-    ap (next_time before (digits_value 10 own)) (times_append (Some (digits_value 10 own)) ps qs) ∙ next_append before (digits_value 10 own) (times_from (Some (digits_value 10 own)) ps) (times_from (time_of (Some (digits_value 10 own)) ps) qs)
+    ap (next_time before (digits_value 10 own)) (times_append (Some (digits_value 10 own)) ps qs) ∙
+    next_append before (digits_value 10 own) (times_from (Some (digits_value 10 own)) ps) (times_from (time_of (Some (digits_value 10 own)) ps) qs)
 times_append before (Bit b code ∷ ps) qs = times_append before ps qs
 times_append before (Binary b own code ∷ ps) qs = times_append before ps qs
 times_append before (Silent w ∷ ps) qs = times_append before ps qs
@@ -150,9 +153,11 @@ times_append before (Comment rest ∷ ps) qs = times_append before ps qs
 
 pub changes_no_time : (w : WaveTree) (i count : ℕ) → is_quiet (change_pieces w i count)
 changes_no_time w i zero = tt
-changes_no_time w i (suc k) = quiet_append (change_pieces w i k) (changed_pieces w i k) (changes_no_time w i k) (one (is_changed w i k) (get_or w.widths k 0 == 1))
+changes_no_time w i (suc k) =
+    quiet_append (change_pieces w i k) (changed_pieces w i k) (changes_no_time w i k) (one (is_changed w i k) (get_or w.widths k 0 == 1))
   where
-    one : (b c : Bool) → is_quiet (if b then (if c then Bit (48 + wave_word w i k) (code_of k) else Binary 98 (digits 2 false (wave_word w i k)) (code_of k)) ∷ [] else [])
+    one : (b c : Bool) → is_quiet (if b then (if c then Bit (48 + wave_word w i k) (code_of k) else Binary 98 (digits 2 false (wave_word w i k)) (code_of k))
+        ∷ [] else [])
     one true true = tt
     one true false = tt
     one false c = tt
@@ -190,22 +195,26 @@ module _ (w : WaveTree) (h : HasCodes w) where
       one true was = h.other c k (get_or w.widths c 0) (wave_word w i c) was (omega arith) l (λ e. absurd (omega arith))
       one false was = refl
 
-  group_given : (i k count was : ℕ) → i < length w.times → k < length w.names → k < count → count ≤ length w.names → IsBefore i k was → last_given (code_of k) was (change_pieces w i count) ≡ wave_word w i k
+  group_given : (i k count was : ℕ) → i < length w.times → k < length w.names → k < count → count ≤ length w.names → IsBefore i k was
+      → last_given (code_of k) was (change_pieces w i count) ≡ wave_word w i k
   group_given i k zero was t l b m before = absurd (omega arith)
   group_given i k (suc c) was t l b m before =
       last_append (code_of k) was (change_pieces w i c) (changed_pieces w i c)
       ∙ elim (cases_lt k c) [
-        | inl lt ↦ ap (λ (v : ℕ). last_given (code_of k) v (changed_pieces w i c)) (group_given i k c was t l lt (omega arith) before) ∙ later (is_changed w i c) (wave_word w i k) lt
+        | inl lt ↦ ap (λ (v : ℕ). last_given (code_of k) v (changed_pieces w i c)) (group_given i k c was t l lt (omega arith) before) ∙
+            later (is_changed w i c) (wave_word w i k) lt
         | inr le ↦
             let is : c ≡ k = omega arith in
-            ap (λ (v : ℕ). last_given (code_of k) v (changed_pieces w i c)) (others_given i k c was l (omega arith)) ∙ (ap (λ (j : ℕ). last_given (code_of k) was (changed_pieces w i j)) is ∙ mine (is_changed w i k) refl)
+            ap (λ (v : ℕ). last_given (code_of k) v (changed_pieces w i c)) (others_given i k c was l (omega arith)) ∙
+            (ap (λ (j : ℕ). last_given (code_of k) was (changed_pieces w i j)) is ∙ mine (is_changed w i k) refl)
       ]
     where
       later : (b : Bool) (was : ℕ) → k < c → last_given (code_of k) was (if b then change_piece (get_or w.widths c 0) (wave_word w i c) c ∷ [] else []) ≡ was
       later true was lt = h.other c k (get_or w.widths c 0) (wave_word w i c) was (omega arith) l (λ e. absurd (omega arith))
       later false was lt = refl
 
-      mine : (b : Bool) → is_changed w i k ≡ b → last_given (code_of k) was (if b then change_piece (get_or w.widths k 0) (wave_word w i k) k ∷ [] else []) ≡ wave_word w i k
+      mine : (b : Bool) → is_changed w i k ≡ b → last_given (code_of k) was
+          (if b then change_piece (get_or w.widths k 0) (wave_word w i k) k ∷ [] else []) ≡ wave_word w i k
       mine true e = h.own k (get_or w.widths k 0) (wave_word w i k) was l (h.wide k l) (h.fit i k t l)
       mine false e = same_word i k was e before
 
@@ -220,10 +229,15 @@ module _ (w : WaveTree) (h : HasCodes w) where
 
   body_quiet : (i count : ℕ) → i < length w.times → count ≤ suc i → none_later (get_or w.times i 0) (body_pieces w count)
   body_quiet i zero t l = tt
-  body_quiet i (suc c) t l = later_append (get_or w.times i 0) (body_pieces w c) (time_pieces w c) (body_quiet i c t (omega arith)) (not_later, changes_quiet w (get_or w.times i 0) c (length w.names))
+  body_quiet i (suc c) t l = later_append (get_or w.times i 0) (body_pieces w c) (time_pieces w c) (body_quiet i c t (omega arith))
+      (not_later, changes_quiet w (get_or w.times i 0) c (length w.names))
     where
       le : get_or w.times c 0 ≤ get_or w.times i 0
-      le = elim (cases_lt c i) [ inl b ↦ (let r = h.rise c i b t in omega arith) | inr b ↦ (let e : c ≡ i = omega arith in let q : get_or w.times c 0 ≡ get_or w.times i 0 = ap (λ j. get_or w.times j 0) e in omega arith) ]
+      le = elim (cases_lt c i) [
+        | inl b ↦ (let r = h.rise c i b t in omega arith)
+        | inr
+            b ↦ (let e : c ≡ i = omega arith in let q : get_or w.times c 0 ≡ get_or w.times i 0 = ap (λ j. get_or w.times j 0) e in omega arith)
+      ]
 
       not_later : nat_lt (get_or w.times i 0) (digits_value 10 (decimal (get_or w.times c 0))) ≡ false
       not_later = elim (cases_Bool (nat_lt (get_or w.times i 0) (digits_value 10 (decimal (get_or w.times c 0))))) [
@@ -234,12 +248,14 @@ module _ (w : WaveTree) (h : HasCodes w) where
   up_to_body : (i count : ℕ) → i < count → count ≤ length w.times → up_to (get_or w.times i 0) (body_pieces w count) ≡ body_pieces w (suc i)
   up_to_body i zero l b = absurd (omega arith)
   up_to_body i (suc c) l b = elim (cases_lt i c) [
-    | inl lt ↦ cut_later (get_or w.times i 0) (decimal (get_or w.times c 0)) (body_pieces w c) (change_pieces w c (length w.names)) (let r = h.rise i c lt (omega arith) in omega (arith, h.read c (omega arith))) ∙ up_to_body i c lt (omega arith)
+    | inl lt ↦ cut_later (get_or w.times i 0) (decimal (get_or w.times c 0)) (body_pieces w c) (change_pieces w c (length w.names))
+        (let r = h.rise i c lt (omega arith) in omega (arith, h.read c (omega arith))) ∙ up_to_body i c lt (omega arith)
     | inr le ↦ (let e : c ≡ i = omega arith in rw e (uncut (get_or w.times i 0) (body_pieces w (suc i)) (body_quiet i (suc i) (omega arith) (omega arith))))
   ]
 
   -- the word of a variable at a time
-  pub word_meant : (i k : ℕ) → i < length w.times → k < length w.names → last_given (code_of k) 0 (up_to (get_or w.times i 0) (body_pieces w (length w.times))) ≡ wave_word w i k
+  pub word_meant : (i k : ℕ) → i < length w.times → k < length w.names
+      → last_given (code_of k) 0 (up_to (get_or w.times i 0) (body_pieces w (length w.times))) ≡ wave_word w i k
   word_meant i k t l = ap (last_given (code_of k) 0) (up_to_body i (length w.times) t (omega arith)) ∙ body_given i k t l
 
   -- ---- all times
@@ -247,17 +263,20 @@ module _ (w : WaveTree) (h : HasCodes w) where
   pub body_time : (i : ℕ) → i < length w.times → time_of None (body_pieces w (suc i)) ≡ Some (get_or w.times i 0)
   body_time i t =
       time_append None (body_pieces w i) (time_pieces w i)
-      ∙ (quiet_time (Some (digits_value 10 (decimal (get_or w.times i 0)))) (change_pieces w i (length w.names)) (changes_no_time w i (length w.names)) ∙ ap (λ n. Some n) (h.read i t))
+      ∙ (quiet_time (Some (digits_value 10 (decimal (get_or w.times i 0)))) (change_pieces w i (length w.names)) (changes_no_time w i (length w.names)) ∙
+      ap (λ n. Some n) (h.read i t))
 
   one_time : (i : ℕ) → i < length w.times → times_from (time_of None (body_pieces w i)) (time_pieces w i) ≡ get_or w.times i 0 ∷ []
   one_time i t =
-      ap (next_time (time_of None (body_pieces w i)) (digits_value 10 (decimal (get_or w.times i 0)))) (quiet_times (Some (digits_value 10 (decimal (get_or w.times i 0)))) (change_pieces w i (length w.names)) (changes_no_time w i (length w.names)))
+      ap (next_time (time_of None (body_pieces w i)) (digits_value 10 (decimal (get_or w.times i 0))))
+      (quiet_times (Some (digits_value 10 (decimal (get_or w.times i 0)))) (change_pieces w i (length w.names)) (changes_no_time w i (length w.names)))
       ∙ (ap (λ n. next_time (time_of None (body_pieces w i)) n []) (h.read i t) ∙ next i t)
     where
       next : (i : ℕ) → i < length w.times → next_time (time_of None (body_pieces w i)) (get_or w.times i 0) [] ≡ get_or w.times i 0 ∷ []
       next zero t = refl
       next (suc i) t =
-          let apart : (get_or w.times i 0 == get_or w.times (suc i) 0) ≡ false = ne_eqb (get_or w.times i 0) (get_or w.times (suc i) 0) (λ e. (let r = h.rise i (suc i) (omega arith) t in let f : ⊥ = omega arith in f)) in
+          let apart : (get_or w.times i 0 == get_or w.times (suc i) 0) ≡ false = ne_eqb (get_or w.times i 0) (get_or w.times (suc i) 0)
+          (λ e. (let r = h.rise i (suc i) (omega arith) t in let f : ⊥ = omega arith in f)) in
           ap (λ o. next_time o (get_or w.times (suc i) 0) []) (body_time i (omega arith)) ∙ ap (λ b. if b then [] else get_or w.times (suc i) 0 ∷ []) apart
 
   first_times : (count : ℕ) → count ≤ length w.times → times_from None (body_pieces w count) ≡ take count w.times
@@ -274,7 +293,8 @@ module _ (w : WaveTree) (h : HasCodes w) where
   -- ---- all words
 
   row : (vs : List Variable) (i count : ℕ) → i < length w.times → count ≤ length w.names → length w.words ≡ length w.times * length w.names
-      → map (λ (v : Variable). last_given v.code 0 (up_to (get_or w.times i 0) (body_pieces w (length w.times)))) (wave_variables w count) ≡ take count (drop (i * length w.names) w.words)
+      → map (λ (v : Variable). last_given v.code 0 (up_to (get_or w.times i 0) (body_pieces w (length w.times)))) (wave_variables w count) ≡ take count
+      (drop (i * length w.names) w.words)
   row vs i zero t l whole = refl
   row vs i (suc k) t l whole =
       let f : Variable → ℕ = λ v. last_given v.code 0 (up_to (get_or w.times i 0) (body_pieces w (length w.times))) in
@@ -288,7 +308,9 @@ module _ (w : WaveTree) (h : HasCodes w) where
       row_room : (i n v : ℕ) → i < n → i * v + v ≤ n * v
       row_room i n v l = (let m : suc i * v ≤ n * v = mul-le-mul_right v l in omega arith)
 
-  first_rows : (count : ℕ) → count ≤ length w.times → length w.words ≡ length w.times * length w.names → flat_map (words_at_time (wave_variables w (length w.names)) (body_pieces w (length w.times))) (take count w.times) ≡ take (count * length w.names) w.words
+  first_rows : (count : ℕ) → count ≤ length w.times → length w.words ≡ length w.times * length w.names
+      → flat_map (words_at_time (wave_variables w (length w.names)) (body_pieces w (length w.times))) (take count w.times) ≡ take
+      (count * length w.names) w.words
   first_rows zero l whole = (let z : 0 ≡ 0 * length w.names = omega arith in ap (λ n. take n w.words) z)
   first_rows (suc i) l whole =
       let f : ℕ → List ℕ = words_at_time (wave_variables w (length w.names)) (body_pieces w (length w.times)) in
@@ -304,7 +326,8 @@ module _ (w : WaveTree) (h : HasCodes w) where
       take-add : (a b : ℕ) (l : List ℕ) → take (a + b) l ≡ take a l ++ take b (drop a l)
       take-add = take_add
 
-  pub words_meant : length w.words ≡ length w.times * length w.names → flat_map (words_at_time (wave_variables w (length w.names)) (body_pieces w (length w.times))) w.times ≡ w.words
+  pub words_meant : length w.words ≡ length w.times * length w.names
+      → flat_map (words_at_time (wave_variables w (length w.names)) (body_pieces w (length w.times))) w.times ≡ w.words
   words_meant whole =
       ap (flat_map (words_at_time (wave_variables w (length w.names)) (body_pieces w (length w.times)))) (sym (take-length w.times))
       ∙ (first_rows (length w.times) (omega arith) whole ∙ (ap (λ n. take n w.words) (sym whole) ∙ take-length w.words))

@@ -65,7 +65,8 @@ same_words : (vs : List Variable) (ps qs : List Piece) (t : ℕ) → up_to t ps 
 same_words vs ps qs t e = ap (λ (l : List Piece). map (λ (v : Variable). last_given v.code 0 l) vs) e
 
 -- at the end the present words are one row more
-pub rows_end : (vs : List Variable) (ps : List Piece) (earlier : List ℕ) (last : ℕ) (rows : List ℕ) → HasRows vs ps earlier last rows → flat_map (words_at_time vs ps) (times_from None ps) ≡ rows ++ words_now vs ps
+pub rows_end : (vs : List Variable) (ps : List Piece) (earlier : List ℕ) (last : ℕ) (rows : List ℕ) → HasRows vs ps earlier last rows
+    → flat_map (words_at_time vs ps) (times_from None ps) ≡ rows ++ words_now vs ps
 rows_end vs ps earlier last rows h =
     ap (flat_map (words_at_time vs ps)) h.times
     ∙ (flat_map-append (words_at_time vs ps) earlier (last ∷ [])
@@ -75,7 +76,8 @@ whole_append : (t : ℕ) (ps qs : List Piece) → up_to t ps ≡ ps → up_to t 
 whole_append t [] qs h k = k
 whole_append t (Time digits ∷ ps) qs h k = cases (nat_lt t (digits_value 10 digits)) h (λ r. whole_append t ps qs r k)
   where
-    cases : (b : Bool) → (if b then [] else Time digits ∷ up_to t ps) ≡ Time digits ∷ ps → (up_to t ps ≡ ps → up_to t (ps ++ qs) ≡ ps ++ qs) → (if b then [] else Time digits ∷ up_to t (ps ++ qs)) ≡ Time digits ∷ (ps ++ qs)
+    cases : (b : Bool) → (if b then [] else Time digits ∷ up_to t ps) ≡ Time digits ∷ ps → (up_to t ps ≡ ps → up_to t (ps ++ qs) ≡ ps ++ qs)
+        → (if b then [] else Time digits ∷ up_to t (ps ++ qs)) ≡ Time digits ∷ (ps ++ qs)
     cases true h f = cc
     cases false h f = (let r : up_to t ps ≡ ps = cc in ap (λ l. Time digits ∷ l) (f r))
 whole_append t (Bit b code ∷ ps) qs h k = (let r : up_to t ps ≡ ps = cc in ap (λ l. Bit b code ∷ l) (whole_append t ps qs r k))
@@ -96,12 +98,21 @@ later_whole : (t s : ℕ) (ps : List Piece) → s ≤ t → up_to s ps ≡ ps �
 later_whole t s [] l h = refl
 later_whole t s (Time digits ∷ ps) l h = cases (nat_lt s (digits_value 10 digits)) refl h (λ r. later_whole t s ps l r)
   where
-    cases : (b : Bool) → nat_lt s (digits_value 10 digits) ≡ b → (if b then [] else Time digits ∷ up_to s ps) ≡ Time digits ∷ ps → (up_to s ps ≡ ps → up_to t ps ≡ ps) → (if nat_lt t (digits_value 10 digits) then [] else Time digits ∷ up_to t ps) ≡ Time digits ∷ ps
+    cases : (b : Bool) → nat_lt s (digits_value 10 digits) ≡ b → (if b then [] else Time digits ∷ up_to s ps) ≡ Time digits ∷ ps
+        → (up_to s ps ≡ ps → up_to t ps ≡ ps) → (if nat_lt t (digits_value 10 digits) then [] else Time digits ∷ up_to t ps) ≡ Time digits ∷ ps
     cases true e h f = cc
     cases false e h f =
         let r : up_to s ps ≡ ps = cc in
-        let le : digits_value 10 digits ≤ s = elim (cases_lt s (digits_value 10 digits)) [ inr g ↦ g | inl g ↦ absurd (let q : true ≡ false = sym (lt-ltb s (digits_value 10 digits) g) ∙ e in let f : ⊥ = cc in f) ] in
-        let no : nat_lt t (digits_value 10 digits) ≡ false = elim (cases_Bool (nat_lt t (digits_value 10 digits))) [ inr g ↦ g | inl g ↦ absurd (let q : ⊥ = omega (arith, ltb-true t (digits_value 10 digits) g) in q) ] in
+        let le : digits_value 10 digits ≤ s = elim (cases_lt s (digits_value 10 digits)) [
+          | inr g ↦ g
+          | inl g ↦ absurd
+              (let q : true ≡ false = sym (lt-ltb s (digits_value 10 digits) g) ∙ e in let f : ⊥ = cc in f)
+        ] in
+        let no : nat_lt t (digits_value 10 digits) ≡ false = elim (cases_Bool (nat_lt t (digits_value 10 digits))) [
+          | inr g ↦ g
+          | inl g ↦ absurd
+              (let q : ⊥ = omega (arith, ltb-true t (digits_value 10 digits) g) in q)
+        ] in
         rw no (ap (λ l. Time digits ∷ l) (f r))
 later_whole t s (Bit b code ∷ ps) l h = (let r : up_to s ps ≡ ps = cc in ap (λ l. Bit b code ∷ l) (later_whole t s ps l r))
 later_whole t s (Binary b digits code ∷ ps) l h = (let r : up_to s ps ≡ ps = cc in ap (λ l. Binary b digits code ∷ l) (later_whole t s ps l r))
@@ -121,50 +132,75 @@ quiet_same before (Silent w ∷ ps) h = quiet_same before ps h
 quiet_same before (Comment rest ∷ ps) h = quiet_same before ps h
 
 -- pieces that are no times change no row of an earlier time
-pub rows_quiet : (vs : List Variable) (ps qs : List Piece) (earlier : List ℕ) (last : ℕ) (rows : List ℕ) → is_quiet qs → HasRows vs ps earlier last rows → HasRows vs (ps ++ qs) earlier last rows
+pub rows_quiet : (vs : List Variable) (ps qs : List Piece) (earlier : List ℕ) (last : ℕ) (rows : List ℕ) → is_quiet qs → HasRows vs ps earlier last rows
+    → HasRows vs (ps ++ qs) earlier last rows
 rows_quiet vs ps qs earlier last rows q h = record {
   times = times_append None ps qs ∙ (ap (λ l. times_from None ps ++ l) (quiet_times (time_of None ps) qs q) ∙ (append_none (times_from None ps) ∙ h.times));
   time = time_snoc None ps qs ∙ (quiet_same (time_of None ps) qs q ∙ h.time);
   below = h.below;
-  closed = same_rows last (words_at_time vs (ps ++ qs)) (words_at_time vs ps) earlier h.below (λ t l. same_words vs (ps ++ qs) ps t (cut_behind t ps qs (has_later t last None ps h.time l tt))) ∙ h.closed;
+  closed = same_rows last (words_at_time vs (ps ++ qs)) (words_at_time vs ps) earlier h.below
+      (λ t l. same_words vs (ps ++ qs) ps t (cut_behind t ps qs (has_later t last None ps h.time l tt))) ∙ h.closed;
   whole = whole_append last ps qs h.whole (quiet_whole last qs q);
 }
 
 -- the same time again changes nothing
-pub rows_again : (vs : List Variable) (ps : List Piece) (digits : List ℕ) (earlier : List ℕ) (last : ℕ) (rows : List ℕ) → digits_value 10 digits ≡ last → HasRows vs ps earlier last rows → HasRows vs (ps ++ Time digits ∷ []) earlier last rows
+pub rows_again : (vs : List Variable) (ps : List Piece) (digits : List ℕ) (earlier : List ℕ) (last : ℕ) (rows : List ℕ) → digits_value 10 digits ≡ last
+    → HasRows vs ps earlier last rows → HasRows vs (ps ++ Time digits ∷ []) earlier last rows
 rows_again vs ps digits earlier last rows e h =
     let eq : (last == digits_value 10 digits) ≡ true = eq-eqb last (digits_value 10 digits) (sym e) in
-    let none : times_from (time_of None ps) (Time digits ∷ []) ≡ [] = ap (λ o. next_time o (digits_value 10 digits) []) h.time ∙ ap (λ b. if b then [] else digits_value 10 digits ∷ []) eq in
-    let not_later : nat_lt last (digits_value 10 digits) ≡ false = elim (cases_Bool (nat_lt last (digits_value 10 digits))) [ inr f ↦ f | inl f ↦ absurd (let q : ⊥ = omega (arith, ltb-true last (digits_value 10 digits) f) in q) ] in
+    let none : times_from (time_of None ps) (Time digits ∷ []) ≡ [] = ap (λ o. next_time o (digits_value 10 digits) []) h.time ∙
+    ap (λ b. if b then [] else digits_value 10 digits ∷ []) eq in
+    let not_later : nat_lt last (digits_value 10 digits) ≡ false = elim (cases_Bool (nat_lt last (digits_value 10 digits))) [
+      | inr f ↦ f
+      | inl f ↦ absurd
+          (let q : ⊥ = omega (arith, ltb-true last (digits_value 10 digits) f) in q)
+    ] in
     record {
       times = times_append None ps (Time digits ∷ []) ∙ (ap (λ l. times_from None ps ++ l) none ∙ (append_none (times_from None ps) ∙ h.times));
       time = time_snoc None ps (Time digits ∷ []) ∙ ap (λ n. Some n) e;
       below = h.below;
-      closed = same_rows last (words_at_time vs (ps ++ Time digits ∷ [])) (words_at_time vs ps) earlier h.below (λ t l. same_words vs (ps ++ Time digits ∷ []) ps t (cut_later t digits ps [] (omega arith))) ∙ h.closed;
+      closed = same_rows last (words_at_time vs (ps ++ Time digits ∷ [])) (words_at_time vs ps) earlier h.below
+          (λ t l. same_words vs (ps ++ Time digits ∷ []) ps t (cut_later t digits ps [] (omega arith))) ∙ h.closed;
       whole = whole_append last ps (Time digits ∷ []) h.whole (rw not_later refl);
     }
 
 -- a later time closes the row of the last
-pub rows_later : (vs : List Variable) (ps : List Piece) (digits : List ℕ) (earlier : List ℕ) (last : ℕ) (rows : List ℕ) → last < digits_value 10 digits → HasRows vs ps earlier last rows
+pub rows_later : (vs : List Variable) (ps : List Piece) (digits : List ℕ) (earlier : List ℕ) (last : ℕ) (rows : List ℕ) → last < digits_value 10 digits
+    → HasRows vs ps earlier last rows
     → HasRows vs (ps ++ Time digits ∷ []) (earlier ++ last ∷ []) (digits_value 10 digits) (rows ++ words_now vs ps)
 rows_later vs ps digits earlier last rows l h =
     let now : ℕ = digits_value 10 digits in
     let ne : (last == digits_value 10 digits) ≡ false = ne_eqb last (digits_value 10 digits) (λ e. absurd (omega arith)) in
-    let one : times_from (time_of None ps) (Time digits ∷ []) ≡ digits_value 10 digits ∷ [] = ap (λ o. next_time o (digits_value 10 digits) []) h.time ∙ ap (λ b. if b then [] else digits_value 10 digits ∷ []) ne in
-    let all : AllBelow (digits_value 10 digits) (earlier ++ last ∷ []) = below_append (digits_value 10 digits) earlier last (below_more last (digits_value 10 digits) earlier (omega arith) h.below) l in
-    let not_later : nat_lt (digits_value 10 digits) (digits_value 10 digits) ≡ false = elim (cases_Bool (nat_lt (digits_value 10 digits) (digits_value 10 digits))) [ inr f ↦ f | inl f ↦ absurd (let q : ⊥ = omega (arith, ltb-true (digits_value 10 digits) (digits_value 10 digits) f) in q) ] in
+    let one : times_from (time_of None ps) (Time digits ∷ []) ≡ digits_value 10 digits ∷ [] = ap (λ o. next_time o (digits_value 10 digits) []) h.time ∙
+    ap (λ b. if b then [] else digits_value 10 digits ∷ []) ne in
+    let all : AllBelow (digits_value 10 digits) (earlier ++ last ∷ []) = below_append (digits_value 10 digits) earlier last
+    (below_more last (digits_value 10 digits) earlier (omega arith) h.below) l in
+    let not_later : nat_lt (digits_value 10 digits) (digits_value 10 digits) ≡ false = elim (cases_Bool
+    (nat_lt (digits_value 10 digits) (digits_value 10 digits))) [
+      | inr f ↦ f
+      | inl f ↦ absurd
+          (let q : ⊥ = omega (arith, ltb-true (digits_value 10 digits) (digits_value 10 digits) f) in q)
+    ] in
     record {
       times = times_append None ps (Time digits ∷ []) ∙ (λ i. h.times i ++ one i);
       time = time_snoc None ps (Time digits ∷ []);
       below = all;
-      closed = same_rows (digits_value 10 digits) (words_at_time vs (ps ++ Time digits ∷ [])) (words_at_time vs ps) (earlier ++ last ∷ []) all (λ t b. same_words vs (ps ++ Time digits ∷ []) ps t (cut_later t digits ps [] b)) ∙ (ap (flat_map (words_at_time vs ps)) (sym h.times) ∙ rows_end vs ps earlier last rows h);
-      whole = whole_append (digits_value 10 digits) ps (Time digits ∷ []) (later_whole (digits_value 10 digits) last ps (omega arith) h.whole) (rw not_later refl);
+      closed = same_rows (digits_value 10 digits) (words_at_time vs (ps ++ Time digits ∷ [])) (words_at_time vs ps) (earlier ++ last ∷ []) all
+          (λ t b. same_words vs (ps ++ Time digits ∷ []) ps t (cut_later t digits ps [] b)) ∙
+          (ap (flat_map (words_at_time vs ps)) (sym h.times) ∙ rows_end vs ps earlier last rows h);
+      whole = whole_append (digits_value 10 digits) ps (Time digits ∷ []) (later_whole (digits_value 10 digits) last ps (omega arith) h.whole)
+          (rw not_later refl);
     }
 
 -- the first time
 pub rows_first : (vs : List Variable) (ps : List Piece) (digits : List ℕ) → is_quiet ps → HasRows vs (ps ++ Time digits ∷ []) [] (digits_value 10 digits) []
 rows_first vs ps digits q =
-    let not_later : nat_lt (digits_value 10 digits) (digits_value 10 digits) ≡ false = elim (cases_Bool (nat_lt (digits_value 10 digits) (digits_value 10 digits))) [ inr f ↦ f | inl f ↦ absurd (let q : ⊥ = omega (arith, ltb-true (digits_value 10 digits) (digits_value 10 digits) f) in q) ] in
+    let not_later : nat_lt (digits_value 10 digits) (digits_value 10 digits) ≡ false = elim (cases_Bool
+    (nat_lt (digits_value 10 digits) (digits_value 10 digits))) [
+      | inr f ↦ f
+      | inl f ↦ absurd
+          (let q : ⊥ = omega (arith, ltb-true (digits_value 10 digits) (digits_value 10 digits) f) in q)
+    ] in
     record {
       times = times_append None ps (Time digits ∷ []) ∙ (λ i. quiet_times None ps q i ++ next_time (quiet_same None ps q i) (digits_value 10 digits) []);
       time = time_snoc None ps (Time digits ∷ []);

@@ -44,9 +44,12 @@ pub more_few : (vs : List Variable) (c : HeaderCommand) → IsHeaderCommand vs c
 more_few vs (Declare kind digits code name rest) h l = omega (arith, h.0, length-append vs (declared (Declare kind digits code name rest)))
 more_few vs (Other word rest) h l = omega (arith, ap (λ (x : List Variable). length x) (append_none vs))
 
-pub few_variables : (vs : List Variable) (cs : List HeaderCommand) → AreCommands vs cs → length vs ≤ most_variables → length (vs ++ variables cs) ≤ most_variables
+pub few_variables : (vs : List Variable) (cs : List HeaderCommand) → AreCommands vs cs → length vs ≤ most_variables
+    → length (vs ++ variables cs) ≤ most_variables
 few_variables vs [] h l = omega (arith, ap (λ (x : List Variable). length x) (append_none vs))
-few_variables vs (c ∷ cs) h l = (let r = few_variables (vs ++ declared c) cs h.1 (more_few vs c h.0 l) in omega (arith, ap (λ (x : List Variable). length x) (append_assoc vs (declared c) (variables cs))))
+few_variables vs (c ∷ cs) h l =
+    (let r = few_variables (vs ++ declared c) cs h.1 (more_few vs c h.0 l) in
+    omega (arith, ap (λ (x : List Variable). length x) (append_assoc vs (declared c) (variables cs))))
 
 -- ---- one code has one width
 
@@ -101,10 +104,12 @@ same_width vs [] v u h a b e = absurd a
 same_width vs (x ∷ us) v u h a b e = elim a [
   | inl first ↦ elim b [
     | inl second ↦ ap (λ (y : Variable). y.width) (first ∙ sym second)
-    | inr later ↦ ap (λ (y : Variable). y.width) first ∙ one_width (vs ++ x ∷ []) us x u h.1 (among_last x vs) later (ap (λ (y : Variable). y.code) (sym first) ∙ e)
+    | inr later ↦ ap (λ (y : Variable). y.width) first ∙ one_width (vs ++ x ∷ []) us x u h.1 (among_last x vs) later
+        (ap (λ (y : Variable). y.code) (sym first) ∙ e)
   ]
   | inr early ↦ elim b [
-    | inl second ↦ sym (ap (λ (y : Variable). y.width) second ∙ one_width (vs ++ x ∷ []) us x v h.1 (among_last x vs) early (ap (λ (y : Variable). y.code) (sym second) ∙ sym e))
+    | inl second ↦ sym (ap (λ (y : Variable). y.width) second ∙
+        one_width (vs ++ x ∷ []) us x v h.1 (among_last x vs) early (ap (λ (y : Variable). y.code) (sym second) ∙ sym e))
     | inr later ↦ same_width (vs ++ x ∷ []) us v u h.1 early later e
   ]
 ]
@@ -124,7 +129,8 @@ taker_more v h = record { variable = h.variable; among = inr h.among; own = h.ow
 takes_of : (vs : List Variable) (code : List ℕ) (value : ℕ) → takes vs code value ≡ true → HasTaker vs code value
 takes_of [] code value e = (let f : ⊥ = cc in absurd f)
 takes_of (v ∷ vs) code value e = elim (either (bytes_eq v.code code && nat_lt value (2 ^ v.width)) (takes vs code value) e) [
-  | inl here ↦ (let p = both (bytes_eq v.code code) (nat_lt value (2 ^ v.width)) here in record { variable = v; among = inl refl; own = (bytes_eq-Decides v.code code).0 p.0; fits = ltb-true value (2 ^ v.width) p.1 })
+  | inl here ↦ (let p = both (bytes_eq v.code code) (nat_lt value (2 ^ v.width)) here in
+      record { variable = v; among = inl refl; own = (bytes_eq-Decides v.code code).0 p.0; fits = ltb-true value (2 ^ v.width) p.1 })
   | inr later ↦ taker_more v (takes_of vs code value later)
 ]
 
@@ -138,10 +144,12 @@ bit_of (v ∷ vs) code value l e = elim (either (bytes_eq v.code code && v.width
   | inr later ↦ taker_more v (bit_of vs code value l later)
 ]
 
-taken_fits : (vs : List Variable) (v : Variable) (code : List ℕ) (value : ℕ) → AllAgree [] vs → Among v vs → v.code ≡ code → HasTaker vs code value → value < 2 ^ v.width
+taken_fits : (vs : List Variable) (v : Variable) (code : List ℕ) (value : ℕ) → AllAgree [] vs → Among v vs → v.code ≡ code → HasTaker vs code value
+    → value < 2 ^ v.width
 taken_fits vs v code value a m e t = subst (λ n. value < 2 ^ n) (sym (same_width [] vs v t.variable a m t.among (e ∙ sym t.own))) t.fits
 
-given_fits : (vs : List Variable) (v : Variable) (before : Option ℕ) (p : Piece) (was : ℕ) → AllAgree [] vs → Among v vs → IsPiece vs before p → was < 2 ^ v.width → given v.code p was < 2 ^ v.width
+given_fits : (vs : List Variable) (v : Variable) (before : Option ℕ) (p : Piece) (was : ℕ) → AllAgree [] vs → Among v vs → IsPiece vs before p
+    → was < 2 ^ v.width → given v.code p was < 2 ^ v.width
 given_fits vs v before (Time digits) was a m h l = l
 given_fits vs v before (Bit b code) was a m h l = cases (bytes_eq code v.code) refl
   where
@@ -150,7 +158,8 @@ given_fits vs v before (Bit b code) was a m h l = cases (bytes_eq code v.code) r
     bit false = omega arith
 
     cases : (t : Bool) → bytes_eq code v.code ≡ t → (if t then (if nat_eq b 49 then 1 else 0) else was) < 2 ^ v.width
-    cases true e = taken_fits vs v code (if nat_eq b 49 then 1 else 0) a m (sym ((bytes_eq-Decides code v.code).0 e)) (bit_of vs code (if nat_eq b 49 then 1 else 0) (bit (nat_eq b 49)) (both _ _ h.1).1)
+    cases true e = taken_fits vs v code (if nat_eq b 49 then 1 else 0) a m (sym ((bytes_eq-Decides code v.code).0 e))
+        (bit_of vs code (if nat_eq b 49 then 1 else 0) (bit (nat_eq b 49)) (both _ _ h.1).1)
     cases false e = l
 given_fits vs v before (Binary b digits code) was a m h l = cases (bytes_eq code v.code) refl
   where
@@ -160,7 +169,8 @@ given_fits vs v before (Binary b digits code) was a m h l = cases (bytes_eq code
 given_fits vs v before (Silent w) was a m h l = l
 given_fits vs v before (Comment rest) was a m h l = l
 
-pub last_fits : (vs : List Variable) (v : Variable) (before : Option ℕ) (ps : List Piece) (was : ℕ) → AllAgree [] vs → Among v vs → ArePieces vs before ps → was < 2 ^ v.width → last_given v.code was ps < 2 ^ v.width
+pub last_fits : (vs : List Variable) (v : Variable) (before : Option ℕ) (ps : List Piece) (was : ℕ) → AllAgree [] vs → Among v vs → ArePieces vs before ps
+    → was < 2 ^ v.width → last_given v.code was ps < 2 ^ v.width
 last_fits vs v before [] was a m h l = l
 last_fits vs v before (p ∷ ps) was a m h l = last_fits vs v (time_after before p) ps (given v.code p was) a m h.1 (given_fits vs v before p was a m h.0 l)
 
@@ -193,7 +203,11 @@ next_rises (Some s) t ts e h = cases (s == t) refl
   where
     cases : (b : Bool) → (s == t) ≡ b → Rises (Some s) (if b then ts else t ∷ ts)
     cases true q = subst (λ n. Rises (Some n) ts) (sym (eqb-true s t q)) h
-    cases false q = ((let le : s ≤ t = leb-true s t e in let ne : s ≢ t = λ r. (let z : true ≡ false = sym (eq-eqb s t r) ∙ q in let f : ⊥ = cc in f) in omega arith), h)
+    cases false q = (
+      (let le : s ≤ t = leb-true s t e in let ne : s ≢ t = λ r. (let z : true ≡ false = sym (eq-eqb s t r) ∙ q in let f : ⊥ = cc in f) in
+          omega arith),
+      h,
+    )
 
 next_late : (before : Option ℕ) (t : ℕ) (ts : List ℕ) → t < 2 ^ 64 → AllLate ts → AllLate (next_time before t ts)
 next_late None t ts l h = (l, h)
@@ -203,7 +217,8 @@ next_late (Some s) t ts l h = cases (s == t)
     cases true = h
     cases false = (l, h)
 
-times_rise : (vs : List Variable) (before : Option ℕ) (ps : List Piece) → ArePieces vs before ps → Rises before (times_from before ps) × AllLate (times_from before ps)
+times_rise : (vs : List Variable) (before : Option ℕ) (ps : List Piece) → ArePieces vs before ps → Rises before (times_from before ps)
+    × AllLate (times_from before ps)
 times_rise vs before [] h = (none before, tt)
   where
     none : (before : Option ℕ) → Rises before []
@@ -212,8 +227,10 @@ times_rise vs before (Time digits ∷ ps) h =
     let p = both (is_time digits) (is_after before (digits_value 10 digits)) h.0 in
     let q = both _ _ p.0 in
     let r = both _ _ q.1 in
-    let rest = times_rise vs (Some (digits_value 10 digits)) ps h.1 in
-    (next_rises before (digits_value 10 digits) (times_from (Some (digits_value 10 digits)) ps) p.1 rest.0, next_late before (digits_value 10 digits) (times_from (Some (digits_value 10 digits)) ps) (ltb-true (digits_value 10 digits) (2 ^ 64) r.1) rest.1)
+    let rest = times_rise vs (Some (digits_value 10 digits)) ps h.1 in (
+      next_rises before (digits_value 10 digits) (times_from (Some (digits_value 10 digits)) ps) p.1 rest.0,
+      next_late before (digits_value 10 digits) (times_from (Some (digits_value 10 digits)) ps) (ltb-true (digits_value 10 digits) (2 ^ 64) r.1) rest.1,
+    )
 times_rise vs before (Bit b code ∷ ps) h = times_rise vs before ps h.1
 times_rise vs before (Binary b digits code ∷ ps) h = times_rise vs before ps h.1
 times_rise vs before (Silent w ∷ ps) h = times_rise vs before ps h.1
@@ -241,19 +258,27 @@ late_all (t ∷ ts) h = all_cons (λ t. t < 2 ^ 64) t ts h.0 (late_all ts h.1)
 
 -- ---- all together
 
-sized_all : (vs : List Variable) → EachSized vs → All (λ n. IsTrue (is_variable_name n)) (map (λ (v : Variable). v.name) vs) × All (λ n. (1 ≤ n) × (n ≤ 64)) (map (λ (v : Variable). v.width) vs)
+sized_all : (vs : List Variable) → EachSized vs → All (λ n. IsTrue (is_variable_name n)) (map (λ (v : Variable). v.name) vs)
+    × All (λ n. (1 ≤ n) × (n ≤ 64)) (map (λ (v : Variable). v.width) vs)
 sized_all [] h = (λ i d l. absurd (omega arith), λ i d l. absurd (omega arith))
 sized_all (v ∷ vs) h =
-    let r = sized_all vs h.1 in
-    (all_cons (λ n. IsTrue (is_variable_name n)) v.name (map (λ (v : Variable). v.name) vs) h.0.named r.0, all_cons (λ n. (1 ≤ n) × (n ≤ 64)) v.width (map (λ (v : Variable). v.width) vs) (h.0.low, h.0.high) r.1)
+    let r = sized_all vs h.1 in (
+      all_cons (λ n. IsTrue (is_variable_name n)) v.name (map (λ (v : Variable). v.name) vs) h.0.named r.0,
+      all_cons (λ n. (1 ≤ n) × (n ≤ 64)) v.width (map (λ (v : Variable). v.width) vs) (h.0.low, h.0.high) r.1,
+    )
 
 flat_long : (f : ℕ → List ℕ) (n : ℕ) (ts : List ℕ) → ((t : ℕ) → length (f t) ≡ n) → length (flat_map f ts) ≡ length ts * n
 flat_long f n [] h = (let z : 0 ≡ 0 * n = omega arith in z)
-flat_long f n (t ∷ ts) h = length-append (f t) (flat_map f ts) ∙ (let a = h t in let b = flat_long f n ts h in let e : suc (length ts) * n ≡ n + length ts * n = omega arith in omega arith)
+flat_long f n (t ∷ ts) h =
+    length-append (f t) (flat_map f ts) ∙ (let a = h t in let b = flat_long f n ts h in let e : suc (length ts) * n ≡ n + length ts * n = omega arith in
+    omega arith)
 
-flat_at : (f : ℕ → List ℕ) (n : ℕ) (ts : List ℕ) (i k : ℕ) → ((t : ℕ) → length (f t) ≡ n) → i < length ts → k < n → get_or (flat_map f ts) (i * n + k) 0 ≡ get_or (f (get_or ts i 0)) k 0
+flat_at : (f : ℕ → List ℕ) (n : ℕ) (ts : List ℕ) (i k : ℕ) → ((t : ℕ) → length (f t) ≡ n) → i < length ts → k < n
+    → get_or (flat_map f ts) (i * n + k) 0 ≡ get_or (f (get_or ts i 0)) k 0
 flat_at f n [] i k h l b = absurd (omega arith)
-flat_at f n (t ∷ ts) zero k h l b = (let e : 0 * n + k ≡ k = omega arith in ap (λ j. get_or (f t ++ flat_map f ts) j 0) e ∙ get_or_append_left (f t) (flat_map f ts) 0 k (let q = h t in omega arith))
+flat_at f n (t ∷ ts) zero k h l b =
+    (let e : 0 * n + k ≡ k = omega arith in ap (λ j. get_or (f t ++ flat_map f ts) j 0) e ∙
+    get_or_append_left (f t) (flat_map f ts) 0 k (let q = h t in omega arith))
 flat_at f n (t ∷ ts) (suc i) k h l b =
     let e : suc i * n + k ≡ length (f t) + (i * n + k) = (let q = h t in let r : suc i * n ≡ n + i * n = omega arith in omega arith) in
     ap (λ j. get_or (f t ++ flat_map f ts) j 0) e ∙ (get_or-append-add (f t) (flat_map f ts) (i * n + k) 0 ∙ flat_at f n ts i k h (omega arith) b)
@@ -269,10 +294,12 @@ wave_formed text w h small =
     let ps : List Piece = h.dump.pieces in
     let vs : List Variable = variables cs in
     let own : IsFormedWave (wave_of (variables cs) ps) =
-    formed (variables cs) ps (all_sized [] cs h.dump.header) h.dump.some (few_variables [] cs h.dump.header (omega arith)) (all_agree [] cs h.dump.header) h.dump.body (subst (λ (x : WaveTree). wave_size (length x.times) (length x.names) ≤ size_limit) h.wave small) in
+    formed (variables cs) ps (all_sized [] cs h.dump.header) h.dump.some (few_variables [] cs h.dump.header (omega arith))
+    (all_agree [] cs h.dump.header) h.dump.body (subst (λ (x : WaveTree). wave_size (length x.times) (length x.names) ≤ size_limit) h.wave small) in
     subst (λ (x : WaveTree). IsFormedWave x) (sym h.wave) own
   where
-    formed : (vs : List Variable) (ps : List Piece) → EachSized vs → 1 ≤ length vs → length vs ≤ most_variables → AllAgree [] vs → ArePieces vs None ps → wave_size (length (times_from None ps)) (length (map (λ (v : Variable). v.name) vs)) ≤ size_limit → IsFormedWave (wave_of vs ps)
+    formed : (vs : List Variable) (ps : List Piece) → EachSized vs → 1 ≤ length vs → length vs ≤ most_variables → AllAgree [] vs → ArePieces vs None ps
+        → wave_size (length (times_from None ps)) (length (map (λ (v : Variable). v.name) vs)) ≤ size_limit → IsFormedWave (wave_of vs ps)
     formed vs ps sized some most agree pieces small =
         let names : length (map (λ (v : Variable). v.name) vs) ≡ length vs = length-map vs (λ (v : Variable). v.name) in
         let widths : length (map (λ (v : Variable). v.width) vs) ≡ length vs = length-map vs (λ (v : Variable). v.width) in
@@ -290,11 +317,14 @@ wave_formed text w h small =
               (let d : Variable = record { width = 0; code = []; name = [] } in
               let low : k < length vs = omega arith in
               let v : Variable = get_or vs k d in
-              let at : get_or (flat_map (words_at_time vs ps) (times_from None ps)) (i * length (map (λ (v : Variable). v.name) vs) + k) 0 ≡ last_given v.code 0 (up_to (get_or (times_from None ps) i 0) ps) =
+              let at : get_or (flat_map (words_at_time vs ps) (times_from None ps))
+              (i * length (map (λ (v : Variable). v.name) vs) + k) 0 ≡ last_given v.code 0 (up_to (get_or (times_from None ps) i 0) ps) =
               ap (λ n. get_or (flat_map (words_at_time vs ps) (times_from None ps)) (i * n + k) 0) names
-              ∙ (flat_at (words_at_time vs ps) (length vs) (times_from None ps) i k rows a low ∙ get_or-map (λ (v : Variable). last_given v.code 0 (up_to (get_or (times_from None ps) i 0) ps)) vs k d 0 low) in
+              ∙ (flat_at (words_at_time vs ps) (length vs) (times_from None ps) i k rows a low ∙
+              get_or-map (λ (v : Variable). last_given v.code 0 (up_to (get_or (times_from None ps) i 0) ps)) vs k d 0 low) in
               let wide : get_or (map (λ (v : Variable). v.width) vs) k 0 ≡ v.width = get_or-map (λ (v : Variable). v.width) vs k d 0 low in
-              rw (at, wide) (last_fits vs v None (up_to (get_or (times_from None ps) i 0) ps) 0 agree (among_at vs k d low) (up_to_are vs None (get_or (times_from None ps) i 0) ps pieces) (pow_pos v.width)));
+              rw (at, wide) (last_fits vs v None (up_to (get_or (times_from None ps) i 0) ps) 0 agree (among_at vs k d low)
+              (up_to_are vs None (get_or (times_from None ps) i 0) ps pieces) (pow_pos v.width)));
           rise = λ i l. first_rises (times_from None ps) i times.0 l;
           late = late_all (times_from None ps) times.1;
           small = small;

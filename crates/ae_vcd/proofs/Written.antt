@@ -55,7 +55,9 @@ code_is_code k l =
     ]
 
 pub codes_differ : (j k : ℕ) → j < 830584 → k < 830584 → j ≢ k → bytes_eq (code_of j) (code_of k) ≡ false
-codes_differ j k a b ne = false_from_ne_true (bytes_eq (code_of j) (code_of k)) (λ t. ne (sym (code_value j a) ∙ (ap value_of ((bytes_eq-Decides (code_of j) (code_of k)).0 t) ∙ code_value k b)))
+codes_differ j k a b ne =
+    false_from_ne_true (bytes_eq (code_of j) (code_of k))
+    (λ t. ne (sym (code_value j a) ∙ (ap value_of ((bytes_eq-Decides (code_of j) (code_of k)).0 t) ∙ code_value k b)))
 
 pub code_itself : (k : ℕ) → bytes_eq (code_of k) (code_of k) ≡ true
 code_itself k = (bytes_eq-Decides (code_of k) (code_of k)).1 refl
@@ -112,7 +114,13 @@ decimal_read n l =
     let h = decimal_is_IsNumeral n l in
     let some : nat_le 1 (length (decimal n)) ≡ true = le-leb 1 (length (decimal n)) h.0.0 in
     let g : list_all is_graphic (decimal n) ≡ true = digits_graphic (decimal n) h.0.1 in
-    record { number = rw some (all_digits (decimal n) h.0.1); value = h.1; graphic = g; code = code_from (decimal n) h.0.0 g; short = le-leb (length (decimal n)) 20 (length-decimal-le 20 n (omega arith) (omega arith) l) }
+    record {
+      number = rw some (all_digits (decimal n) h.0.1);
+      value = h.1;
+      graphic = g;
+      code = code_from (decimal n) h.0.0 g;
+      short = le-leb (length (decimal n)) 20 (length-decimal-le 20 n (omega arith) (omega arith) l);
+    }
 
 pub record IsBinaryOf (n : ℕ) : Type 0 where
   pub binary : is_binary (digits 2 false n) ≡ true
@@ -126,7 +134,11 @@ binary_from (c ∷ cs) l h = h
 pub binary_read : (n : ℕ) → n < 2 ^ 64 → IsBinaryOf n
 binary_read n l =
     let h = digits_is_IsNumeral 2 false (omega arith) (omega arith) n l in
-    record { binary = binary_from (digits 2 false n) h.0.0 (bits (digits 2 false n) h.0.1); value = h.1; graphic = digits_graphic (digits 2 false n) (wider (digits 2 false n) h.0.1) }
+    record {
+      binary = binary_from (digits 2 false n) h.0.0 (bits (digits 2 false n) h.0.1);
+      value = h.1;
+      graphic = digits_graphic (digits 2 false n) (wider (digits 2 false n) h.0.1);
+    }
 
 -- ---- words of a text
 

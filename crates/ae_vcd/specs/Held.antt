@@ -48,13 +48,17 @@ IsNew vs code = (k : ℕ) → k < length vs → bytes_eq (code_at vs k) code ≡
 
 -- some variables have the code, and all of them this width
 abbrev pub HasWidth : List Variable → (code : List ℕ) → (width : ℕ) → Type 0
-HasWidth vs code width = ((k : ℕ) → k < length vs → bytes_eq (code_at vs k) code ≡ true → width_at vs k ≡ width) × ((k : ℕ) × (k < length vs) × (bytes_eq (code_at vs k) code ≡ true))
+HasWidth vs code width =
+    ((k : ℕ) → k < length vs → bytes_eq (code_at vs k) code ≡ true → width_at vs k ≡ width)
+    × ((k : ℕ) × (k < length vs) × (bytes_eq (code_at vs k) code ≡ true))
 
 -- a code that is known, or one more behind the others
-abbrev pub IsPut : (known more : List (List ℕ)) → (widths wider : List ℕ) → (code : List ℕ) → (width number : ℕ) → Type 0
+abbrev pub IsPut : (known more : List (List ℕ)) → (widths wider : List ℕ) → (code : List ℕ) → (width number : ℕ)
+    → Type 0
 IsPut known more widths wider code width number =
     ((place code known ≡ Some number) × (more ≡ known) × (wider ≡ widths))
-    ⊎ ((place code known ≡ None) × (number ≡ length known) × (more ≡ known ++ code ∷ []) × (wider ≡ widths ++ width ∷ []))
+    ⊎ ((place code known ≡ None) × (number ≡ length known) × (more ≡ known ++ code ∷ [])
+    × (wider ≡ widths ++ width ∷ []))
 
 pub record HasNumber (old new : Declared) (code : List ℕ) (width number : ℕ) : Type 0 where
   pub put : IsPut old.codes new.codes old.code_widths.items new.code_widths.items code width number
@@ -68,7 +72,10 @@ pub record HasNumber (old new : Declared) (code : List ℕ) (width number : ℕ)
 -- the wave of all times but the last is kept, while the size is within its limit
 abbrev pub Keeps : Option ℕ → Recorded → List Variable → List Piece → Type 0
 Keeps None r vs ps = is_quiet ps × (r.times.items ≡ []) × (r.words.items ≡ [])
-Keeps (Some last) r vs ps = (earlier : List ℕ) × (rows : List ℕ) × HasRows vs ps earlier last rows × (wave_size (length earlier + 1) (length vs) ≤ size_limit → (r.times.items ≡ earlier ++ last ∷ []) × (r.words.items ≡ rows))
+Keeps (Some last) r vs ps =
+    (earlier : List ℕ) × (rows : List ℕ) × HasRows vs ps earlier last rows
+    × (wave_size (length earlier + 1) (length vs) ≤ size_limit → (r.times.items ≡ earlier ++ last ∷ [])
+    × (r.words.items ≡ rows))
 
 pub record HasTimes (r : Recorded) (vs : List Variable) (ps : List Piece) : Type 0 where
   pub count : r.count ≡ length (times_from None ps)
@@ -94,7 +101,8 @@ is_small times variables = nat_le (wave_size times variables) size_limit
 
 -- the row of the last time is kept, if there is one and the size is within its limit
 pub record IsClosed (old new : Recorded) (numbers : List ℕ) : Type 0 where
-  pub words : new.words.items ≡ (if is_some old.last && is_small old.count (length numbers) then old.words.items ++ row old.latest.items numbers else old.words.items)
+  pub words : new.words.items ≡ (if is_some old.last && is_small old.count (length numbers) then old.words.items
+      ++ row old.latest.items numbers else old.words.items)
   pub now : new.latest.items ≡ old.latest.items
   pub count : new.count ≡ old.count
   pub last : new.last ≡ old.last
@@ -106,7 +114,9 @@ IsLater (Some last) time = last < time
 
 -- a time is taken, or it is before the last
 abbrev pub HasAdvanced : Bool → (old new : Recorded) → List Variable → List Piece → (digits : List ℕ) → Type 0
-HasAdvanced true old new vs ps digits = (is_after (time_of None ps) (digits_value 10 digits) ≡ true) × HasTimes new vs (ps ++ Time digits ∷ []) × (new.latest.items ≡ old.latest.items)
+HasAdvanced true old new vs ps digits =
+    (is_after (time_of None ps) (digits_value 10 digits) ≡ true) × HasTimes new vs (ps ++ Time digits ∷ [])
+    × (new.latest.items ≡ old.latest.items)
 HasAdvanced false old new vs ps digits = is_after (time_of None ps) (digits_value 10 digits) ≡ false
 
 -- ---- where the reader stands
@@ -131,7 +141,8 @@ begun_in _ = []
 -- the width of a variable, and the code that is kept for its name
 abbrev pub HasCode : Mode → List Variable → (code : List ℕ) → Type 0
 HasCode (Code kind digits) vs code = digits_value 10 digits ≤ 64
-HasCode (Name kind digits own) vs code = (code ≡ own) × (agrees vs own (digits_value 10 digits) ≡ true) × (digits_value 10 digits ≤ 64)
+HasCode (Name kind digits own) vs code =
+    (code ≡ own) × (agrees vs own (digits_value 10 digits) ≡ true) × (digits_value 10 digits ≤ 64)
 HasCode _ vs code = Unit {0}
 
 abbrev pub is_last : Mode → Bool

@@ -27,12 +27,19 @@ WordsAreJudged = (ws : List (List ℕ)) → HaveOneBadWord ws
 
 -- a dump whose wave is within the limit has no bad word and no other wave, so a reading of it ends in this wave
 abbrev pub DumpsAreRead : Type 0
-DumpsAreRead = (text : List ℕ) (w : WaveTree) → IsVcd text w → size_of_wave w ≤ size_limit → ((at : ℕ) → IsBadWord (text_words text) at → ⊥) × ((v : WaveTree) → IsVcd text v → (v ≡ w) × (size_of_wave v ≤ size_limit))
+DumpsAreRead =
+    (text : List ℕ) (w : WaveTree) → IsVcd text w → size_of_wave w ≤ size_limit
+    → ((at : ℕ) → IsBadWord (text_words text) at → ⊥)
+    × ((v : WaveTree) → IsVcd text v → (v ≡ w) × (size_of_wave v ≤ size_limit))
 
 -- a comment of whole lines without a `$` may stand before a dump
 abbrev pub CommentsArePassed : Type 0
-CommentsArePassed = (lines text : List ℕ) (w : WaveTree) → list_all is_no_dollar lines ≡ true → IsVcd text w → IsVcd (commented (lines ++ 10 ∷ []) text) w
+CommentsArePassed =
+    (lines text : List ℕ) (w : WaveTree) → list_all is_no_dollar lines ≡ true → IsVcd text w
+    → IsVcd (commented (lines ++ 10 ∷ []) text) w
 
 -- the wave of a dump is formed, where it is within the limit
 abbrev pub WavesAreFormed : Type 0
-WavesAreFormed = (text : List ℕ) (w : WaveTree) → IsVcd text w → wave_size (length w.times) (length w.names) ≤ size_limit → IsFormedWave w
+WavesAreFormed =
+    (text : List ℕ) (w : WaveTree) → IsVcd text w → wave_size (length w.times) (length w.names) ≤ size_limit
+    → IsFormedWave w

@@ -13,32 +13,39 @@ pub joined : (a b c x y : List ℕ) → b ≡ a ++ x → c ≡ b ++ y → c ≡ 
 joined a b c x y one two = two ∙ ap (λ l. l ++ y) one ∙ append_assoc a x y
 
 -- one more of a list
-pub listed_push : {X A : Type 0} (f : ℕ → X → List A) (k : ℕ) (xs : List X) (x : X) → each_numbered f k (xs ++ x ∷ []) ≡ each_numbered f k xs ++ f (k + length xs) x
+pub listed_push : {X A : Type 0} (f : ℕ → X → List A) (k : ℕ) (xs : List X) (x : X) → each_numbered f k (xs ++ x ∷ []) ≡ each_numbered f k xs
+    ++ f (k + length xs) x
 listed_push f k [] x = append-nil (f k x) ∙ ap (λ n. f n x) (let e : k ≡ k + 0 = omega arith in e)
 listed_push f k (y ∷ ys) x =
     ap (λ l. f k y ++ l) (listed_push f (k + 1) ys x)
     ∙ sym (append_assoc (f k y) (each_numbered f (k + 1) ys) (f (k + 1 + length ys) x))
     ∙ ap (λ n. (f k y ++ each_numbered f (k + 1) ys) ++ f n x) (let e : k + 1 + length ys ≡ k + length (y ∷ ys) = omega arith in e)
 
-listed_take : {X : Type 0} (f : ℕ → X → List ℕ) (xs : List X) (i : ℕ) (d : X) → i < length xs → each_numbered f 0 (take (i + 1) xs) ≡ each_numbered f 0 (take i xs) ++ f i (get_or xs i d)
+listed_take : {X : Type 0} (f : ℕ → X → List ℕ) (xs : List X) (i : ℕ) (d : X) → i < length xs
+    → each_numbered f 0 (take (i + 1) xs) ≡ each_numbered f 0 (take i xs) ++ f i (get_or xs i d)
 listed_take f xs i d inside =
     ap (each_numbered f 0) (take_more xs i d inside) ∙ listed_push f 0 (take i xs) (get_or xs i d)
-    ∙ ap (λ n. each_numbered f 0 (take i xs) ++ f n (get_or xs i d)) (let e : 0 + length (take i xs) ≡ i = omega (arith, length-take-le i xs (omega arith)) in e)
+    ∙ ap (λ n. each_numbered f 0 (take i xs) ++ f n (get_or xs i d))
+    (let e : 0 + length (take i xs) ≡ i = omega (arith, length-take-le i xs (omega arith)) in e)
 
 -- one turn of a loop that writes each element with its number
-pub listed_more : {X : Type 0} (f : ℕ → X → List ℕ) (xs : List X) (i : ℕ) (d : X) (a b c : List ℕ) → i < length xs → b ≡ a ++ each_numbered f 0 (take i xs) → c ≡ b ++ f i (get_or xs i d) → c ≡ a ++ each_numbered f 0 (take (i + 1) xs)
+pub listed_more : {X : Type 0} (f : ℕ → X → List ℕ) (xs : List X) (i : ℕ) (d : X) (a b c : List ℕ) → i < length xs → b ≡ a ++ each_numbered f 0 (take i xs)
+    → c ≡ b ++ f i (get_or xs i d) → c ≡ a ++ each_numbered f 0 (take (i + 1) xs)
 listed_more f xs i d a b c inside before here = joined a b c _ _ before here ∙ ap (λ l. a ++ l) (sym (listed_take f xs i d inside))
 
-pub listed_whole : {X : Type 0} (f : ℕ → X → List ℕ) (xs : List X) (i : ℕ) (a b : List ℕ) → length xs ≤ i → b ≡ a ++ each_numbered f 0 (take i xs) → b ≡ a ++ each_numbered f 0 xs
+pub listed_whole : {X : Type 0} (f : ℕ → X → List ℕ) (xs : List X) (i : ℕ) (a b : List ℕ) → length xs ≤ i → b ≡ a ++ each_numbered f 0 (take i xs) → b ≡ a
+    ++ each_numbered f 0 xs
 listed_whole f xs i a b past h = h ∙ ap (λ l. a ++ each_numbered f 0 l) (take_all i xs past)
 
-mapped_take : {X : Type 0} (f : X → List ℕ) (xs : List X) (i : ℕ) (d : X) → i < length xs → flat_map f (take (i + 1) xs) ≡ flat_map f (take i xs) ++ f (get_or xs i d)
+mapped_take : {X : Type 0} (f : X → List ℕ) (xs : List X) (i : ℕ) (d : X) → i < length xs → flat_map f (take (i + 1) xs) ≡ flat_map f (take i xs)
+    ++ f (get_or xs i d)
 mapped_take f xs i d inside =
     ap (flat_map f) (take_more xs i d inside) ∙ flat_map-append f (take i xs) (get_or xs i d ∷ [])
     ∙ ap (λ l. flat_map f (take i xs) ++ l) (append-nil (f (get_or xs i d)))
 
 -- one turn of a loop that writes each element
-pub mapped_more : {X : Type 0} (f : X → List ℕ) (xs : List X) (i : ℕ) (d : X) (a b c : List ℕ) → i < length xs → b ≡ a ++ flat_map f (take i xs) → c ≡ b ++ f (get_or xs i d) → c ≡ a ++ flat_map f (take (i + 1) xs)
+pub mapped_more : {X : Type 0} (f : X → List ℕ) (xs : List X) (i : ℕ) (d : X) (a b c : List ℕ) → i < length xs → b ≡ a ++ flat_map f (take i xs) → c ≡ b
+    ++ f (get_or xs i d) → c ≡ a ++ flat_map f (take (i + 1) xs)
 mapped_more f xs i d a b c inside before here = joined a b c _ _ before here ∙ ap (λ l. a ++ l) (sym (mapped_take f xs i d inside))
 
 pub mapped_whole : {X : Type 0} (f : X → List ℕ) (xs : List X) (i : ℕ) (a b : List ℕ) → length xs ≤ i → b ≡ a ++ flat_map f (take i xs) → b ≡ a ++ flat_map f xs

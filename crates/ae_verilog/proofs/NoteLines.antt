@@ -39,8 +39,10 @@ module _ {X : Type 0} (g : X → NoteTree) (notes : List X) where
     zero = λ k low. blank k;
   }
 
-  pub more_told : (old new : List ℕ) (count first left from : ℕ) (x : X) → left < length notes → x ≡ get_or notes left x → from ≡ min first (g x).cell → AreTold old count first (left + 1)
-      → ((k : ℕ) → from ≤ k → k < first → get_or new k 0 ≡ (g x).line) → ((k : ℕ) → k < from → get_or new k 0 ≡ get_or old k 0) → ((k : ℕ) → first ≤ k → get_or new k 0 ≡ get_or old k 0) → AreTold new count from left
+  pub more_told : (old new : List ℕ) (count first left from : ℕ) (x : X) → left < length notes → x ≡ get_or notes left x → from ≡ min first (g x).cell
+      → AreTold old count first (left + 1)
+      → ((k : ℕ) → from ≤ k → k < first → get_or new k 0 ≡ (g x).line) → ((k : ℕ) → k < from → get_or new k 0 ≡ get_or old k 0)
+      → ((k : ℕ) → first ≤ k → get_or new k 0 ≡ get_or old k 0) → AreTold new count from left
   more_told old new count first left from x inside is low told between before behind = record {
     found = λ k over under. elim (cases_Bool (nat_lt k first)) [
       | inl early ↦
@@ -63,7 +65,8 @@ module _ {X : Type 0} (g : X → NoteTree) (notes : List X) where
       more k = ap (last_at k) one ∙ last_more k (g x) (rest (left + 1))
         where
           one : rest left ≡ g x ∷ rest (left + 1)
-          one = ap (map g) (drop-cons notes left x inside) ∙ ap (λ y. g y ∷ map g (drop (suc left) notes)) (sym is) ∙ ap (λ p. g x ∷ map g (drop p notes)) (let same : suc left ≡ left + 1 = omega arith in same)
+          one = ap (map g) (drop-cons notes left x inside) ∙ ap (λ y. g y ∷ map g (drop (suc left) notes)) (sym is) ∙
+              ap (λ p. g x ∷ map g (drop p notes)) (let same : suc left ≡ left + 1 = omega arith in same)
 
       not_at : (k : ℕ) → k < (g x).cell → nat_le (g x).cell k ≡ false
       not_at k h = false_from_ne_true _ (λ e. let l = leb-true (g x).cell k e in omega arith)
@@ -76,7 +79,8 @@ module _ {X : Type 0} (g : X → NoteTree) (notes : List X) where
   ]
 
 -- the table of lines
-pub lines_are : (table : List ℕ) (notes : List NoteTree) (cells : ℕ) → length table ≡ cells → ((k : ℕ) → k < cells → get_or table k 0 ≡ line_of notes k) → table_line table ≡ lines_of notes cells
+pub lines_are : (table : List ℕ) (notes : List NoteTree) (cells : ℕ) → length table ≡ cells → ((k : ℕ) → k < cells → get_or table k 0 ≡ line_of notes k)
+    → table_line table ≡ lines_of notes cells
 lines_are table notes cells long told = λ i k. each k i
   where
     each : (k : ℕ) → get_or table k 0 ≡ lines_of notes cells k

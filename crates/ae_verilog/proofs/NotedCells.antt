@@ -24,7 +24,8 @@ between_more f cells k to d a b whole before inside step h =
         ∙ ap (λ n. f k (get_or cells k d) ++ each_numbered f (k + 1) (take (to - (k + 1)) (drop n cells))) (let same : suc k ≡ k + 1 = omega arith in same)
 
 -- none is left
-pub between_none : (f : ℕ → SizedCell → List ℕ) (cells : List SizedCell) (k to : ℕ) (a whole : List ℕ) → (to ≤ k) ⊎ (length cells ≤ k) → a ++ between f cells k to ≡ whole → a ≡ whole
+pub between_none : (f : ℕ → SizedCell → List ℕ) (cells : List SizedCell) (k to : ℕ) (a whole : List ℕ) → (to ≤ k) ⊎ (length cells ≤ k) → a
+    ++ between f cells k to ≡ whole → a ≡ whole
 between_none f cells k to a whole end h = sym (append-nil a) ∙ ap (λ l. a ++ l) (sym none) ∙ h
   where
     none : between f cells k to ≡ []
@@ -34,8 +35,10 @@ between_none f cells k to a whole end h = sym (append-nil a) ∙ ap (λ l. a ++ 
     ]
 
 -- one more note
-pub noted_more : {X : Type 0} (g : X → NoteTree) (f : ℕ → SizedCell → List ℕ) (cells : List SizedCell) (k m i : ℕ) (xs : List X) (x : X) (a b c whole : List ℕ) → i < length xs → x ≡ get_or xs i x → m ≡ max k (g x).cell →
-    b ≡ a ++ between f cells k (g x).cell → c ≡ b ++ note_line (g x) → a ++ noted f cells k (map g (drop i xs)) ≡ whole → c ++ noted f cells m (map g (drop (i + 1) xs)) ≡ whole
+pub noted_more : {X : Type 0} (g : X → NoteTree) (f : ℕ → SizedCell → List ℕ) (cells : List SizedCell) (k m i : ℕ) (xs : List X) (x : X) (a b c whole : List ℕ)
+    → i < length xs → x ≡ get_or xs i x → m ≡ max k (g x).cell →
+    b ≡ a ++ between f cells k (g x).cell → c ≡ b ++ note_line (g x) → a ++ noted f cells k (map g (drop i xs)) ≡ whole → c
+    ++ noted f cells m (map g (drop (i + 1) xs)) ≡ whole
 noted_more g f cells k m i xs x a b c whole inside is later first second h =
     ap (λ l. l ++ noted f cells m ns) (second ∙ ap (λ l. l ++ note_line (g x)) first)
     ∙ ap (λ p. ((a ++ between f cells k (g x).cell) ++ note_line (g x)) ++ noted f cells p ns) later
@@ -46,7 +49,8 @@ noted_more g f cells k m i xs x a b c whole inside is later first second h =
     ns = map g (drop (i + 1) xs)
 
     one : map g (drop i xs) ≡ g x ∷ ns
-    one = ap (map g) (drop-cons xs i x inside) ∙ ap (λ y. g y ∷ map g (drop (suc i) xs)) (sym is) ∙ ap (λ p. g x ∷ map g (drop p xs)) (let same : suc i ≡ i + 1 = omega arith in same)
+    one = ap (map g) (drop-cons xs i x inside) ∙ ap (λ y. g y ∷ map g (drop (suc i) xs)) (sym is) ∙
+        ap (λ p. g x ∷ map g (drop p xs)) (let same : suc i ≡ i + 1 = omega arith in same)
 
     shape : (x y z : List ℕ) → ((a ++ x) ++ y) ++ z ≡ a ++ (x ++ (y ++ z))
     shape x y z = simp append_assoc

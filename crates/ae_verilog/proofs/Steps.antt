@@ -52,11 +52,13 @@ part_steps lines (Ok u) cells to a w high old one new wide narrower top first se
     ∙ ap (λ e. old ++ expr_text e) (sym (cond-true _ _ _ test))
 part_steps lines (Err x) cells to a w high old one new wide narrower top first second = tt
 
-shift_same : (lines : ℕ → ℕ) → (cells : List SizedCell) (op : BinOp) (width a by : ℕ) → shift_text (net_name lines cells a) (sign_text op) width by ≡ expr_text (shifted_net lines cells op width a by)
+shift_same : (lines : ℕ → ℕ) → (cells : List SizedCell) (op : BinOp) (width a by : ℕ)
+    → shift_text (net_name lines cells a) (sign_text op) width by ≡ expr_text (shifted_net lines cells op width a by)
 shift_same lines cells op width a by = elim (nat_lt by width) as (λ t.
     (if t then net_name lines cells a ++ (codes " " ++ (sign_text op ++ (codes " 6'd" ++ decimal by))) else decimal width ++ codes "'d0")
     ≡ expr_text (if t then binary op (net_value lines cells a) (constant 6 by true) else constant width 0 true)) [
-      | true ↦ ap (λ s. net_name lines cells a ++ (codes " " ++ (sign_text op ++ (codes " " ++ (s ++ (codes "'d" ++ decimal by)))))) (sym (one_digit 6 (omega arith)))
+      | true ↦ ap (λ s. net_name lines cells a ++ (codes " " ++ (sign_text op ++ (codes " " ++ (s ++ (codes "'d" ++ decimal by))))))
+          (sym (one_digit 6 (omega arith)))
       | false ↦ ap (λ z. decimal width ++ (codes "'d" ++ z)) (sym (one_digit 0 (omega arith)))
     ]
 
@@ -66,7 +68,8 @@ shift_steps lines (Ok u) cells op width a by old new h = h ∙ ap (λ l. old ++ 
 shift_steps lines (Err x) cells op width a by old new h = tt
 
 -- a wire that widens a word, between its two comment lines
-pub widened_steps : (lines : ℕ → ℕ) → {E : Type 0} (r : Result (Unit {0}) E) (cells : List SizedCell) (width net : ℕ) (op : WordOp) (a b c : ℕ) (old one two new : List ℕ) →
+pub widened_steps : (lines : ℕ → ℕ) → {E : Type 0} (r : Result (Unit {0}) E) (cells : List SizedCell) (width net : ℕ) (op : WordOp) (a b c : ℕ)
+    (old one two new : List ℕ) →
     (is_cast op && nat_lt (width_of cells a) width) ≡ true →
     one ≡ old ++ codes "  // verilator lint_off WIDTH\n" → two ≡ one ++ value_text lines width net (op_expression lines cells width op a b c) →
     OnOk r (new ≡ two ++ codes "  // verilator lint_on WIDTH\n") → OnOk r (new ≡ old ++ op_text lines cells width net op a b c)
@@ -76,7 +79,8 @@ widened_steps lines (Ok u) cells width net op a b c old one two new wide first s
     ∙ shape value
     ∙ ap (λ l. old ++ l) (sym (cond-true _ _ _ wide))
   where
-    shape : (value : List ℕ) → ((old ++ codes "  // verilator lint_off WIDTH\n") ++ value) ++ codes "  // verilator lint_on WIDTH\n" ≡ old ++ (codes "  // verilator lint_off WIDTH\n" ++ (value ++ codes "  // verilator lint_on WIDTH\n"))
+    shape : (value : List ℕ) → ((old ++ codes "  // verilator lint_off WIDTH\n") ++ value) ++ codes "  // verilator lint_on WIDTH\n" ≡ old
+        ++ (codes "  // verilator lint_off WIDTH\n" ++ (value ++ codes "  // verilator lint_on WIDTH\n"))
     shape value = simp append_assoc
 widened_steps lines (Err x) cells width net op a b c old one two new wide first second third = tt
 
@@ -99,33 +103,46 @@ header_steps (Ok u) cells outlets outs old one two three new first second third 
     let outputs : List ℕ = flat_map (output_text cells outs) outlets in
     last ∙ ap (λ l. l ++ codes "\n);\n") (third ∙ ap (λ l. l ++ outputs) (second ∙ ap (λ l. l ++ inputs) first)) ∙ shape inputs outputs
   where
-    shape : (a b : List ℕ) → ((((old ++ codes "module aeth (\n  input wire clk") ++ a) ++ b) ++ codes "\n);\n") ≡ old ++ (codes "module aeth (\n  input wire clk" ++ (a ++ (b ++ codes "\n);\n")))
+    shape : (a b : List ℕ) → ((((old ++ codes "module aeth (\n  input wire clk") ++ a) ++ b) ++ codes "\n);\n") ≡ old
+        ++ (codes "module aeth (\n  input wire clk" ++ (a ++ (b ++ codes "\n);\n")))
     shape a b = simp append_assoc
 header_steps (Err x) cells outlets outs old one two three new first second third last = tt
 
 pub report_steps : {E : Type 0} (r : Result (Unit {0}) E) (t : Report) (old a b c d e f g new : List ℕ) →
     a ≡ old ++ codes "// aeth 1\n" → b ≡ a ++ number_line (codes "slowdown") t.slowdown → c ≡ b ++ number_line (codes "latency") t.latency →
-    d ≡ c ++ number_line (codes "muls") t.muls → e ≡ d ++ number_line (codes "load") t.load → f ≡ e ++ enable_line t.enable → g ≡ f ++ each_numbered in_line 0 (map st_tree t.ins.items) →
+    d ≡ c ++ number_line (codes "muls") t.muls → e ≡ d ++ number_line (codes "load") t.load → f ≡ e ++ enable_line t.enable → g ≡ f
+    ++ each_numbered in_line 0 (map st_tree t.ins.items) →
     OnOk r (new ≡ g ++ each_numbered (out_line (length t.outs.items)) 0 (map st_tree t.outs.items)) → OnOk r (new ≡ old ++ report_lines (report_tree t))
 unfolding report_lines
 report_steps (Ok u) t old a b c d e f g new ha hb hc hd he hf hg last =
     let outs = each_numbered (out_line (length t.outs.items)) 0 (map st_tree t.outs.items) in
-    last ∙ ap (λ l. l ++ outs) (hg ∙ ap (λ l. l ++ each_numbered in_line 0 (map st_tree t.ins.items)) (hf ∙ ap (λ l. l ++ enable_line t.enable) (he ∙ ap (λ l. l ++ number_line (codes "load") t.load)
-    (hd ∙ ap (λ l. l ++ number_line (codes "muls") t.muls) (hc ∙ ap (λ l. l ++ number_line (codes "latency") t.latency) (hb ∙ ap (λ l. l ++ number_line (codes "slowdown") t.slowdown) ha))))))
+    last ∙ ap (λ l. l ++ outs) (hg ∙ ap (λ l. l ++ each_numbered in_line 0 (map st_tree t.ins.items))
+    (hf ∙ ap (λ l. l ++ enable_line t.enable) (he ∙ ap (λ l. l ++ number_line (codes "load") t.load)
+    (hd ∙ ap (λ l. l ++ number_line (codes "muls") t.muls)
+    (hc ∙ ap (λ l. l ++ number_line (codes "latency") t.latency) (hb ∙ ap (λ l. l ++ number_line (codes "slowdown") t.slowdown) ha))))))
     ∙ shape _ _ _ _ _ _ _
-    ∙ ap (λ n. old ++ (codes "// aeth 1\n" ++ (number_line (codes "slowdown") t.slowdown ++ (number_line (codes "latency") t.latency ++ (number_line (codes "muls") t.muls ++ (number_line (codes "load") t.load
-    ++ (enable_line t.enable ++ (each_numbered in_line 0 (map st_tree t.ins.items) ++ each_numbered (out_line n) 0 (map st_tree t.outs.items))))))))) (sym (length-map t.outs.items st_tree))
+    ∙ ap (λ n. old ++ (codes "// aeth 1\n" ++ (number_line (codes "slowdown") t.slowdown
+    ++ (number_line (codes "latency") t.latency ++ (number_line (codes "muls") t.muls ++ (number_line (codes "load") t.load
+    ++ (enable_line t.enable ++ (each_numbered in_line 0 (map st_tree t.ins.items) ++ each_numbered (out_line n) 0 (map st_tree t.outs.items)))))))))
+    (sym (length-map t.outs.items st_tree))
   where
-    shape : (s l m k en ins outs : List ℕ) → (((((((old ++ codes "// aeth 1\n") ++ s) ++ l) ++ m) ++ k) ++ en) ++ ins) ++ outs ≡ old ++ (codes "// aeth 1\n" ++ (s ++ (l ++ (m ++ (k ++ (en ++ (ins ++ outs)))))))
+    shape : (s l m k en ins outs : List ℕ) → (((((((old ++ codes "// aeth 1\n") ++ s) ++ l) ++ m) ++ k) ++ en) ++ ins) ++ outs ≡ old
+        ++ (codes "// aeth 1\n" ++ (s ++ (l ++ (m ++ (k ++ (en ++ (ins ++ outs)))))))
     shape s l m k en ins outs = simp append_assoc
 report_steps (Err x) t old a b c d e f g new ha hb hc hd he hf hg last = tt
 
-pub text_steps : (lines : ℕ → ℕ) (report : List ℕ) (notes : List NoteTree) (cells : List SizedCell) (outlets : List Outlet) (outs : ℕ) (a b c d e f g new : List ℕ) → lines ≡ lines_of notes (length cells) →
-    a ≡ [] → b ≡ a ++ report → c ≡ b ++ codes "// verilator lint_off CMPCONST\n// verilator lint_off DECLFILENAME\n// verilator lint_off UNSIGNED\n// verilator lint_off UNUSEDSIGNAL\n" → d ≡ c ++ header_text cells outlets outs →
-    e ≡ d ++ noted (λ net (sized : SizedCell). declaration_text lines cells net sized.width sized.cell) cells 0 notes → f ≡ e ++ flat_map (assignment_text lines cells outs) outlets →
-    g ≡ f ++ each_numbered (λ net (sized : SizedCell). edge_text lines cells net sized.cell) 0 cells → new ≡ g ++ codes "endmodule\n" → new ≡ whole_text report notes cells outlets outs
+pub text_steps : (lines : ℕ → ℕ) (report : List ℕ) (notes : List NoteTree) (cells : List SizedCell) (outlets : List Outlet) (outs : ℕ)
+    (a b c d e f g new : List ℕ) → lines ≡ lines_of notes (length cells) →
+    a ≡ [] → b ≡ a ++ report → c ≡ b
+    ++ codes "// verilator lint_off CMPCONST\n// verilator lint_off DECLFILENAME\n// verilator lint_off UNSIGNED\n// verilator lint_off UNUSEDSIGNAL\n"
+    → d ≡ c ++ header_text cells outlets outs →
+    e ≡ d ++ noted (λ net (sized : SizedCell). declaration_text lines cells net sized.width sized.cell) cells 0 notes → f ≡ e
+    ++ flat_map (assignment_text lines cells outs) outlets →
+    g ≡ f ++ each_numbered (λ net (sized : SizedCell). edge_text lines cells net sized.cell) 0 cells → new ≡ g ++ codes "endmodule\n"
+    → new ≡ whole_text report notes cells outlets outs
 text_steps lines report notes cells outlets outs a b c d e f g new told ha hb hc hd he hf hg last =
-    let quiet : List ℕ = codes "// verilator lint_off CMPCONST\n// verilator lint_off DECLFILENAME\n// verilator lint_off UNSIGNED\n// verilator lint_off UNUSEDSIGNAL\n" in
+    let quiet : List ℕ = codes
+    "// verilator lint_off CMPCONST\n// verilator lint_off DECLFILENAME\n// verilator lint_off UNSIGNED\n// verilator lint_off UNUSEDSIGNAL\n" in
     let head : List ℕ = header_text cells outlets outs in
     let declared : List ℕ = noted (λ net (sized : SizedCell). declaration_text lines cells net sized.width sized.cell) cells 0 notes in
     let assigned : List ℕ = flat_map (assignment_text lines cells outs) outlets in

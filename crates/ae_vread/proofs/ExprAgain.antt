@@ -51,7 +51,8 @@ no_number (IndexForm n at) ts = refl
 no_number (ParensForm a) ts = refl
 no_number (PrefixForm op a) ts = refl
 no_number (InfixForm op a b) ts = ap first_number (append_assoc (expr_tokens a) (Mark (infix_sign op) ∷ expr_tokens b) ts) ∙ no_number a _
-no_number (ChoiceForm test a b) ts = ap first_number (append_assoc (expr_tokens test) (Mark Question ∷ (expr_tokens a ++ Mark Colon ∷ expr_tokens b)) ts) ∙ no_number test _
+no_number (ChoiceForm test a b) ts =
+    ap first_number (append_assoc (expr_tokens test) (Mark Question ∷ (expr_tokens a ++ Mark Colon ∷ expr_tokens b)) ts) ∙ no_number test _
 no_number (BracesForm parts) ts = refl
 no_number (LastPart a) ts = no_number a ts
 no_number (MoreParts a parts) ts = ap first_number (append_assoc (expr_tokens a) (Mark Comma ∷ expr_tokens parts) ts) ∙ no_number a _
@@ -76,14 +77,21 @@ deepened n f h = ap (λ o. o >>= λ k. Some (f k)) (deeper_is n h)
 
 -- reading a form leads to the loop behind it
 abbrev pub LeadsOn : ExprForm → Type 0
-LeadsOn f = (d k least : ℕ) (rest : List TokenTree) → IsFormedExpr f → 2 ≤ level f → expr_depth f ≤ suc d → expr_depth f ≤ 256 → k + spine f ≡ 256 → least ≤ level f → OpEnds (level f + 1) rest → after_mark OpenBracket rest ≡ None → joined_at (expression d) least (expr_tokens f ++ rest) ≡ operators (expression d) k least (found_form f rest)
+LeadsOn f =
+    (d k least : ℕ) (rest : List TokenTree) → IsFormedExpr f → 2 ≤ level f → expr_depth f ≤ suc d → expr_depth f ≤ 256 → k + spine f ≡ 256 → least ≤ level f
+    → OpEnds (level f + 1) rest → after_mark OpenBracket rest ≡ None
+    → joined_at (expression d) least (expr_tokens f ++ rest) ≡ operators (expression d) k least (found_form f rest)
 
 -- the form is read, where nothing behind it could be a part of it
 abbrev pub IsRead : ExprForm → Type 0
-IsRead f = (d least : ℕ) (rest : List TokenTree) → IsFormedExpr f → 1 ≤ level f → expr_depth f ≤ d → expr_depth f ≤ 256 → least ≤ level f → Ends least rest → expression d least (expr_tokens f ++ rest) ≡ Some (found_form f rest)
+IsRead f =
+    (d least : ℕ) (rest : List TokenTree) → IsFormedExpr f → 1 ≤ level f → expr_depth f ≤ d → expr_depth f ≤ 256 → least ≤ level f → Ends least rest
+    → expression d least (expr_tokens f ++ rest) ≡ Some (found_form f rest)
 
 abbrev pub IsOperandRead : ExprForm → Type 0
-IsOperandRead f = (d : ℕ) (rest : List TokenTree) → IsFormedExpr f → level f ≡ 13 → expr_depth f ≤ suc d → expr_depth f ≤ 256 → after_mark OpenBracket rest ≡ None → operand (expression d) (expr_tokens f ++ rest) ≡ Some (found_form f rest)
+IsOperandRead f =
+    (d : ℕ) (rest : List TokenTree) → IsFormedExpr f → level f ≡ 13 → expr_depth f ≤ suc d → expr_depth f ≤ 256 → after_mark OpenBracket rest ≡ None
+    → operand (expression d) (expr_tokens f ++ rest) ≡ Some (found_form f rest)
 
 -- the parts inside braces
 
@@ -106,7 +114,8 @@ some_tokens (IndexForm n at) = omega arith
 some_tokens (ParensForm a) = omega arith
 some_tokens (PrefixForm op a) = omega arith
 some_tokens (InfixForm op a b) = omega (arith, some_tokens a, length-append (expr_tokens a) (Mark (infix_sign op) ∷ expr_tokens b))
-some_tokens (ChoiceForm test a b) = omega (arith, some_tokens test, length-append (expr_tokens test) (Mark Question ∷ (expr_tokens a ++ Mark Colon ∷ expr_tokens b)))
+some_tokens (ChoiceForm test a b) =
+    omega (arith, some_tokens test, length-append (expr_tokens test) (Mark Question ∷ (expr_tokens a ++ Mark Colon ∷ expr_tokens b)))
 some_tokens (BracesForm parts) = omega arith
 some_tokens (LastPart a) = some_tokens a
 some_tokens (MoreParts a parts) = omega (arith, some_tokens a, length-append (expr_tokens a) (Mark Comma ∷ expr_tokens parts))
@@ -159,7 +168,10 @@ concat_trees (ChoiceForm test a b) formed h = absurd (omega (arith, h))
 concat_trees (BracesForm parts) formed h = absurd (omega (arith, h))
 
 abbrev pub ArePartsRead : ExprForm → Type 0
-ArePartsRead p = (d k : ℕ) (before : List ExprTree) (deep : ℕ) (rest : List TokenTree) → IsFormedExpr p → level p ≡ 0 → expr_depth p ≤ d → expr_depth p ≤ 256 → count p ≤ k → parts (expression d) k (parts_of before deep (expr_tokens p ++ Mark CloseBrace ∷ rest)) ≡ Some (parts_of (before ++ trees_of p) (max deep (expr_depth p)) rest)
+ArePartsRead p =
+    (d k : ℕ) (before : List ExprTree) (deep : ℕ) (rest : List TokenTree) → IsFormedExpr p → level p ≡ 0 → expr_depth p ≤ d → expr_depth p ≤ 256 → count p ≤ k
+    → parts (expression d) k (parts_of before deep (expr_tokens p ++ Mark CloseBrace ∷ rest)) ≡ Some
+    (parts_of (before ++ trees_of p) (max deep (expr_depth p)) rest)
 
 -- the law of a form, in each place where it may stand
 pub record Again (f : ExprForm) : Type 0 where
@@ -173,18 +185,22 @@ is_read : (f : ExprForm) → 2 ≤ level f → LeadsOn f → IsRead f
 is_read f strong on zero least rest formed some deep small least_small ends = absurd (omega (arith, spine_below f))
 is_read f strong on (suc d) least rest formed some deep small least_small ends =
     ap (λ o. o >>= chosen (expression d) least)
-    (on d (256 - spine f) least rest formed strong deep small (omega (arith, spine_below f)) least_small (ends_above least (level f + 1) rest (omega arith) ends.operator) ends.bracket
+    (on d (256 - spine f) least rest formed strong deep small (omega (arith, spine_below f)) least_small
+    (ends_above least (level f + 1) rest (omega arith) ends.operator) ends.bracket
     ∙ stops (expression d) (256 - spine f) least (found_form f rest) (omega (arith, spine_below f)) ends.operator)
     ∙ not_chosen (expression d) least (found_form f rest) ends.question
 
 -- the loop begins behind what is read first
-begin : (f : ExprForm) (d k least : ℕ) (rest : List TokenTree) → 256 ≡ k → unary_at (expression d) (expr_tokens f ++ rest) ≡ Some (found_form f rest) → joined_at (expression d) least (expr_tokens f ++ rest) ≡ operators (expression d) k least (found_form f rest)
+begin : (f : ExprForm) (d k least : ℕ) (rest : List TokenTree) → 256 ≡ k → unary_at (expression d) (expr_tokens f ++ rest) ≡ Some (found_form f rest)
+    → joined_at (expression d) least (expr_tokens f ++ rest) ≡ operators (expression d) k least (found_form f rest)
 begin f d k least rest e h = ap (λ o. o >>= operators (expression d) 256 least) h ∙ ap (λ k. operators (expression d) k least (found_form f rest)) e
 
 -- an operand
-of_operand : (f : ExprForm) → level f ≡ 13 → spine f ≡ 0 → ((read : Reader) (ts : List TokenTree) → unary_at read (expr_tokens f ++ ts) ≡ operand read (expr_tokens f ++ ts)) → IsOperandRead f → Again f
+of_operand : (f : ExprForm) → level f ≡ 13 → spine f ≡ 0
+    → ((read : Reader) (ts : List TokenTree) → unary_at read (expr_tokens f ++ ts) ≡ operand read (expr_tokens f ++ ts)) → IsOperandRead f → Again f
 of_operand f top flat same law =
-    let on : LeadsOn f = λ d k least rest formed strong deep small turns least_small ends bracket. begin f d k least rest (omega (arith, flat, turns)) (same (expression d) rest ∙ law d rest formed top deep small bracket) in
+    let on : LeadsOn f = λ d k least rest formed strong deep small turns least_small ends bracket. begin f d k least rest (omega (arith, flat, turns))
+    (same (expression d) rest ∙ law d rest formed top deep small bracket) in
     record {
       operand = law;
       leads = on;
@@ -218,19 +234,22 @@ index_again : (n : List ℕ) (at : ExprForm) → IsRead at → IsOperandRead (In
 index_again n at law d rest formed top deep small bracket =
     ap (λ ts. selected (expression d) n ts (first_number ts)) (append_assoc (expr_tokens at) (Mark CloseBracket ∷ []) rest)
     ∙ ap (selected (expression d) n (expr_tokens at ++ Mark CloseBracket ∷ rest)) (no_number at (Mark CloseBracket ∷ rest))
-    ∙ ap (λ o. o >>= indexed n) (law d 1 (Mark CloseBracket ∷ rest) formed.1 formed.0 (omega arith) (omega arith) formed.0 (record { operator = refl; bracket = refl; question = λ _. refl }))
+    ∙ ap (λ o. o >>= indexed n) (law d 1 (Mark CloseBracket ∷ rest) formed.1 formed.0 (omega arith) (omega arith) formed.0
+    (record { operator = refl; bracket = refl; question = λ _. refl }))
     ∙ deepened (expr_depth at) (λ k. found (index n (expr_of at)) k rest) (omega arith)
 
 parens_again : (a : ExprForm) → IsRead a → IsOperandRead (ParensForm a)
 parens_again a law d rest formed top deep small bracket =
     ap (λ ts. expression d 1 ts >>= closed) (append_assoc (expr_tokens a) (Mark Close ∷ []) rest)
-    ∙ ap (λ o. o >>= closed) (law d 1 (Mark Close ∷ rest) formed.1 formed.0 (omega arith) (omega arith) formed.0 (record { operator = refl; bracket = refl; question = λ _. refl }))
+    ∙ ap (λ o. o >>= closed) (law d 1 (Mark Close ∷ rest) formed.1 formed.0 (omega arith) (omega arith) formed.0
+    (record { operator = refl; bracket = refl; question = λ _. refl }))
     ∙ deepened (expr_depth a) (λ k. found (expr_of a) k rest) (omega arith)
 
 braces_again : (p : ExprForm) → ArePartsRead p → IsOperandRead (BracesForm p)
 braces_again p law d rest formed top deep small bracket =
     ap (λ ts. parts (expression d) (length ts) (parts_of [] 0 ts) >>= braced) (append_assoc (expr_tokens p) (Mark CloseBrace ∷ []) rest)
-    ∙ ap (λ o. o >>= braced) (law d (length (expr_tokens p ++ Mark CloseBrace ∷ rest)) [] 0 rest formed.1 formed.0 (omega arith) (omega arith) (omega (arith, count_below p, length-append (expr_tokens p) (Mark CloseBrace ∷ rest))))
+    ∙ ap (λ o. o >>= braced) (law d (length (expr_tokens p ++ Mark CloseBrace ∷ rest)) [] 0 rest formed.1 formed.0 (omega arith) (omega arith)
+    (omega (arith, count_below p, length-append (expr_tokens p) (Mark CloseBrace ∷ rest))))
     ∙ ap (λ n. braced (parts_of (trees_of p) n rest)) (let e : max 0 (expr_depth p) ≡ expr_depth p = omega arith in e)
     ∙ deepened (expr_depth p) (λ k. found (concat_of (trees_of p)) k rest) (omega arith)
     ∙ ap (λ t. Some (found t (expr_depth p + 1) rest)) (concat_trees p formed.1 formed.0)
@@ -250,11 +269,15 @@ infix_again : (op : BinOp) (a b : ExprForm) → LeadsOn a → IsRead b → Leads
 infix_again op a b left right d k least rest formed strong deep small turns least_small ends bracket =
     let behind : List TokenTree = expr_tokens b ++ rest in
     ap (joined_at (expression d) least) (append_assoc (expr_tokens a) (Mark (infix_sign op) ∷ expr_tokens b) rest)
-    ∙ left d (suc k) least (Mark (infix_sign op) ∷ behind) formed.2 (omega (arith, formed.0, strong)) (omega arith) (omega arith) (omega arith) (omega (arith, formed.0)) (infix_not_here (level a + 1) op behind (omega (arith, formed.0))) (infix_no_bracket op behind)
-    ∙ ap (after_operator (expression d) (operators (expression d) k least) (found_form a (Mark (infix_sign op) ∷ behind))) (infix_here least op behind least_small)
+    ∙ left d (suc k) least (Mark (infix_sign op) ∷ behind) formed.2 (omega (arith, formed.0, strong)) (omega arith) (omega arith) (omega arith)
+    (omega (arith, formed.0)) (infix_not_here (level a + 1) op behind (omega (arith, formed.0))) (infix_no_bracket op behind)
+    ∙ ap (after_operator (expression d) (operators (expression d) k least) (found_form a (Mark (infix_sign op) ∷ behind)))
+    (infix_here least op behind least_small)
     ∙ ap (λ o. o >>= joined op (found_form a (Mark (infix_sign op) ∷ behind)) >>= operators (expression d) k least)
-    (right d (strength op + 1) rest formed.3 (omega (arith, formed.1)) (omega arith) (omega arith) (omega (arith, formed.1)) (record { operator = ends; bracket = bracket; question = λ e. absurd (too_strong op e) }))
-    ∙ ap (λ o. o >>= operators (expression d) k least) (deepened (max (expr_depth a) (expr_depth b)) (λ k. found (binary op (expr_of a) (expr_of b)) k rest) (omega arith))
+    (right d (strength op + 1) rest formed.3 (omega (arith, formed.1)) (omega arith) (omega arith) (omega (arith, formed.1))
+    (record { operator = ends; bracket = bracket; question = λ e. absurd (too_strong op e) }))
+    ∙ ap (λ o. o >>= operators (expression d) k least) (deepened (max (expr_depth a) (expr_depth b)) (λ k. found (binary op (expr_of a) (expr_of b)) k rest)
+    (omega arith))
   where
     too_strong : (op : BinOp) → nat_le (strength op + 1) 1 ≡ true → ⊥
     too_strong op e = let h = leb-true (strength op + 1) 1 e in omega (arith, strength_above op)
@@ -270,11 +293,20 @@ choice_again test a b on left right (suc d) least rest formed some deep small le
     let x : Found = found_form test (Mark Question ∷ first) in
     ap (expression (suc d) least) whole
     ∙ ap (λ o. o >>= chosen (expression d) least)
-    (on d (256 - spine test) least (Mark Question ∷ first) formed.3 formed.0 (omega arith) (omega arith) (omega (arith, spine_below test)) (omega (arith, formed.0, least_small)) refl refl
+    (on d (256 - spine test) least (Mark Question ∷ first) formed.3 formed.0 (omega arith) (omega arith) (omega (arith, spine_below test))
+    (omega (arith, formed.0, least_small)) refl refl
     ∙ stops (expression d) (256 - spine test) least x (omega (arith, spine_below test)) refl)
     ∙ cond-true _ _ _ (weak least least_small)
-    ∙ ap (λ o. o >>= λ y. after_mark Colon y.rest >>= λ us. expression d 1 us >>= chosen_of x y) (left d 1 (Mark Colon ∷ second) formed.4 formed.1 (omega arith) (omega arith) formed.1 (record { operator = refl; bracket = refl; question = λ _. refl }))
-    ∙ ap (λ o. o >>= chosen_of x (found_form a (Mark Colon ∷ second))) (right d 1 rest formed.5 formed.2 (omega arith) (omega arith) formed.2 (record { operator = ends_above least 1 rest least_small ends.operator; bracket = ends.bracket; question = λ _. ends.question (weak least least_small) }))
+    ∙ ap (λ o. o >>= λ y. after_mark Colon y.rest >>= λ us. expression d 1 us >>= chosen_of x y)
+    (left d 1 (Mark Colon ∷ second) formed.4 formed.1 (omega arith) (omega arith) formed.1
+    (record { operator = refl; bracket = refl; question = λ _. refl }))
+    ∙ ap (λ o. o >>= chosen_of x (found_form a (Mark Colon ∷ second)))
+    (right d 1 rest formed.5 formed.2 (omega arith) (omega arith) formed.2
+    (record {
+      operator = ends_above least 1 rest least_small ends.operator;
+      bracket = ends.bracket;
+      question = λ _. ends.question (weak least least_small);
+    }))
     ∙ deepened (max (expr_depth test) (max (expr_depth a) (expr_depth b))) (λ k. found (choice (expr_of test) (expr_of a) (expr_of b)) k rest) (omega arith)
   where
     weak : (least : ℕ) → least ≤ 1 → nat_le least 1 ≡ true
@@ -295,7 +327,8 @@ more_again a p law more d (suc k) before deep rest formed none nested small enou
     (law d 1 (Mark Comma ∷ behind) formed.2 formed.0 (omega arith) (omega arith) formed.0 (record { operator = refl; bracket = refl; question = λ _. refl }))
     ∙ more d k (before ++ expr_of a ∷ []) (max deep (expr_depth a)) rest formed.3 formed.1 (omega arith) (omega arith) (omega arith)
     ∙ ap (λ ts. Some (parts_of ts (max (max deep (expr_depth a)) (expr_depth p)) rest)) (append_assoc before (expr_of a ∷ []) (trees_of p))
-    ∙ ap (λ n. Some (parts_of (before ++ expr_of a ∷ trees_of p) n rest)) (let e : max (max deep (expr_depth a)) (expr_depth p) ≡ max deep (max (expr_depth a) (expr_depth p)) = omega arith in e)
+    ∙ ap (λ n. Some (parts_of (before ++ expr_of a ∷ trees_of p) n rest))
+    (let e : max (max deep (expr_depth a)) (expr_depth p) ≡ max deep (max (expr_depth a) (expr_depth p)) = omega arith in e)
 
 of_parts : (f : ExprForm) → level f ≡ 0 → ArePartsRead f → Again f
 of_parts f none law = record {
@@ -314,7 +347,8 @@ again (IndexForm n at) = of_operand (IndexForm n at) refl refl (λ read ts. refl
 again (ParensForm a) = of_operand (ParensForm a) refl refl (λ read ts. refl) (parens_again a (again a).reads)
 again (BracesForm p) = of_operand (BracesForm p) refl refl (λ read ts. refl) (braces_again p (again p).parts)
 again (PrefixForm op a) = of_joined (PrefixForm op a) (omega arith) (omega arith) (prefix_again op a (again a).operand)
-again (InfixForm op a b) = of_joined (InfixForm op a b) (strength_above op) (omega (arith, strength_below op)) (infix_again op a b (again a).leads (again b).reads)
+again (InfixForm op a b) =
+    of_joined (InfixForm op a b) (strength_above op) (omega (arith, strength_below op)) (infix_again op a b (again a).leads (again b).reads)
 again (ChoiceForm test a b) = record {
   operand = λ d rest formed top. absurd (omega (arith, top));
   leads = λ d k least rest formed strong. absurd (omega (arith, strong));
@@ -327,6 +361,7 @@ again (MoreParts a p) = of_parts (MoreParts a p) refl (more_again a p (again a).
 pub read_again : (f : ExprForm) → IsRead f
 read_again f = (again f).reads
 
-pub whole_again : (f : ExprForm) (rest : List TokenTree) → IsFormedExpr f → 1 ≤ level f → expr_depth f ≤ 256 → Ends 1 rest → whole_expression (expr_tokens f ++ rest) ≡ Some (found_form f rest)
+pub whole_again : (f : ExprForm) (rest : List TokenTree) → IsFormedExpr f → 1 ≤ level f → expr_depth f ≤ 256 → Ends 1 rest
+    → whole_expression (expr_tokens f ++ rest) ≡ Some (found_form f rest)
 unfolding whole_expression
 whole_again f rest formed some small ends = read_again f 256 1 rest formed some small small some ends

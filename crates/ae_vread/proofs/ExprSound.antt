@@ -118,7 +118,8 @@ deepened_was n f x h =
     }
 
 -- a form with what was found
-form_found : (f : ExprForm) (ts rest : List TokenTree) (tree : ExprTree) (depth : ℕ) (x : Found) → found tree depth rest ≡ x → IsFormedExpr f → expr_of f ≡ tree → expr_depth f ≡ depth → expr_depth f ≤ 256 → ts ≡ expr_tokens f ++ rest → IsForm f ts x
+form_found : (f : ExprForm) (ts rest : List TokenTree) (tree : ExprTree) (depth : ℕ) (x : Found) → found tree depth rest ≡ x → IsFormedExpr f
+    → expr_of f ≡ tree → expr_depth f ≡ depth → expr_depth f ≤ 256 → ts ≡ expr_tokens f ++ rest → IsForm f ts x
 form_found f ts rest tree depth x same formed is_tree is_depth small whole = record {
   formed = formed;
   same_tree = is_tree ∙ ap (λ (y : Found). y.tree) same;
@@ -132,13 +133,15 @@ some_same a b h = cc
 
 -- selects
 
-placed_sound : (n : List ℕ) (us : List TokenTree) (k : ℕ × List TokenTree) (x : Found) (o : Option (List TokenTree)) → IsNumber us k → after_mark Colon k.1 ≡ o → placed n k.0 k.1 o ≡ Some x → IsOperand (Name n ∷ Mark OpenBracket ∷ us) x
+placed_sound : (n : List ℕ) (us : List TokenTree) (k : ℕ × List TokenTree) (x : Found) (o : Option (List TokenTree)) → IsNumber us k → after_mark Colon k.1 ≡ o
+    → placed n k.0 k.1 o ≡ Some x → IsOperand (Name n ∷ Mark OpenBracket ∷ us) x
 placed_sound n us k x None num is h =
     let close = bind_some (after_mark CloseBracket k.1) (λ us. Some (found (index n (place k.0)) 2 us)) x h in
     let behind = mark_was CloseBracket k.1 close.0 close.1 in
     record {
       form = PlaceForm n num.form;
-      is = form_found (PlaceForm n num.form) _ close.0 (index n (place k.0)) 2 x (some_same _ _ close.2) tt (ap (λ v. index n (place v)) num.value) refl (lit≤ tt)
+      is = form_found (PlaceForm n num.form) _ close.0 (index n (place k.0)) 2 x (some_same _ _ close.2) tt (ap (λ v. index n (place v)) num.value) refl
+          (lit≤ tt)
           (ap (λ l. Name n ∷ Mark OpenBracket ∷ l) (num.whole ∙ ap (λ l. number_token num.form ∷ l) behind));
       top = refl;
     }
@@ -150,11 +153,14 @@ placed_sound n us k x (Some vs) num is h =
     record {
       form = form;
       is = form_found form _ close.0 (part n k.0 low.0.0) 2 x (some_same _ _ close.2) tt (λ i. part n (num.value i) (second.value i)) refl (lit≤ tt)
-          (ap (λ l. Name n ∷ Mark OpenBracket ∷ l) (num.whole ∙ ap (λ l. number_token num.form ∷ l) (mark_was Colon k.1 vs is ∙ ap (λ l. Mark Colon ∷ l) (second.whole ∙ ap (λ l. number_token second.form ∷ l) (mark_was CloseBracket low.0.1 close.0 close.1)))));
+          (ap (λ l. Name n ∷ Mark OpenBracket ∷ l) (num.whole ∙
+          ap (λ l. number_token num.form ∷ l) (mark_was Colon k.1 vs is ∙
+          ap (λ l. Mark Colon ∷ l) (second.whole ∙ ap (λ l. number_token second.form ∷ l) (mark_was CloseBracket low.0.1 close.0 close.1)))));
       top = refl;
     }
 
-selected_sound : (read : Reader) → IsSound read → (n : List ℕ) (us : List TokenTree) (x : Found) (o : Option (ℕ × List TokenTree)) → first_number us ≡ o → selected read n us o ≡ Some x → IsOperand (Name n ∷ Mark OpenBracket ∷ us) x
+selected_sound : (read : Reader) → IsSound read → (n : List ℕ) (us : List TokenTree) (x : Found) (o : Option (ℕ × List TokenTree)) → first_number us ≡ o
+    → selected read n us o ≡ Some x → IsOperand (Name n ∷ Mark OpenBracket ∷ us) x
 selected_sound read sound n us x None is h =
     let inner = bind_some (read 1 us) (indexed n) x h in
     let y : Found = inner.0 in
@@ -164,13 +170,16 @@ selected_sound read sound n us x None is h =
     let form : ExprForm = IndexForm n at.form in
     record {
       form = form;
-      is = form_found form _ close.0 (index n y.tree) (y.depth + 1) x deep.same (at.some, at.is.formed) (ap (index n) at.is.same_tree) (ap (λ n. n + 1) at.is.same_depth) (omega (arith, at.is.same_depth, deep.small))
-          (ap (λ l. Name n ∷ Mark OpenBracket ∷ l) (at.is.whole ∙ ap (λ l. expr_tokens at.form ++ l) (mark_was CloseBracket y.rest close.0 close.1) ∙ sym (append_assoc (expr_tokens at.form) (Mark CloseBracket ∷ []) close.0)));
+      is = form_found form _ close.0 (index n y.tree) (y.depth + 1) x deep.same (at.some, at.is.formed) (ap (index n) at.is.same_tree)
+          (ap (λ n. n + 1) at.is.same_depth) (omega (arith, at.is.same_depth, deep.small))
+          (ap (λ l. Name n ∷ Mark OpenBracket ∷ l) (at.is.whole ∙ ap (λ l. expr_tokens at.form ++ l) (mark_was CloseBracket y.rest close.0 close.1) ∙
+          sym (append_assoc (expr_tokens at.form) (Mark CloseBracket ∷ []) close.0)));
       top = refl;
     }
 selected_sound read sound n us x (Some k) is h = placed_sound n us k x (after_mark Colon k.1) (number_was us k is) refl h
 
-named_sound : (read : Reader) → IsSound read → (n : List ℕ) (ts : List TokenTree) (x : Found) (o : Option (List TokenTree)) → after_mark OpenBracket ts ≡ o → named read n ts o ≡ Some x → IsOperand (Name n ∷ ts) x
+named_sound : (read : Reader) → IsSound read → (n : List ℕ) (ts : List TokenTree) (x : Found) (o : Option (List TokenTree)) → after_mark OpenBracket ts ≡ o
+    → named read n ts o ≡ Some x → IsOperand (Name n ∷ ts) x
 named_sound read sound n ts x None is h = record {
   form = NameForm n;
   is = form_found (NameForm n) _ ts (name n) 1 x (some_same _ _ h) tt refl refl (lit≤ tt) refl;
@@ -206,23 +215,29 @@ parts_sound read sound (suc k) p q h =
             trees = sym (ap (λ (r : Parts). r.trees) same) ∙ ap (λ t. p.trees ++ t ∷ []) (sym a.is.same_tree);
             deepest = sym (ap (λ (r : Parts). r.depth) same) ∙ ap (λ n. max p.depth n) (sym a.is.same_depth);
             small = a.is.small;
-            whole = a.is.whole ∙ ap (λ l. expr_tokens a.form ++ l) (mark_was CloseBrace x.rest close.0 close.1 ∙ ap (λ (r : Parts). Mark CloseBrace ∷ r.rest) same);
+            whole = a.is.whole ∙ ap (λ l. expr_tokens a.form ++ l)
+                (mark_was CloseBrace x.rest close.0 close.1 ∙ ap (λ (r : Parts). Mark CloseBrace ∷ r.rest) same);
           }
       | Some ts ↦ λ is h.
-          let more : AreParts (parts_of (p.trees ++ x.tree ∷ []) (max p.depth x.depth) ts) q = parts_sound read sound k (parts_of (p.trees ++ x.tree ∷ []) (max p.depth x.depth) ts) q h in
+          let more : AreParts (parts_of (p.trees ++ x.tree ∷ []) (max p.depth x.depth) ts) q = parts_sound read sound k
+          (parts_of (p.trees ++ x.tree ∷ []) (max p.depth x.depth) ts) q h in
           record {
             form = MoreParts a.form more.form;
             formed = (a.some, more.none, a.is.formed, more.formed);
             none = refl;
             trees = more.trees ∙ append_assoc p.trees (x.tree ∷ []) (trees_of more.form) ∙ ap (λ t. p.trees ++ t ∷ trees_of more.form) (sym a.is.same_tree);
-            deepest = more.deepest ∙ (let e : max (max p.depth x.depth) (expr_depth more.form) ≡ max p.depth (max x.depth (expr_depth more.form)) = omega arith in e) ∙ ap (λ n. max p.depth (max n (expr_depth more.form))) (sym a.is.same_depth);
+            deepest = more.deepest ∙ (let e : max (max p.depth x.depth) (expr_depth more.form) ≡ max p.depth
+                (max x.depth (expr_depth more.form)) = omega arith in e) ∙ ap (λ n. max p.depth (max n (expr_depth more.form))) (sym a.is.same_depth);
             small = omega (arith, a.is.small, more.small);
-            whole = a.is.whole ∙ ap (λ l. expr_tokens a.form ++ l) (mark_was Comma x.rest ts is ∙ ap (λ l. Mark Comma ∷ l) more.whole) ∙ sym (append_assoc (expr_tokens a.form) (Mark Comma ∷ expr_tokens more.form) (Mark CloseBrace ∷ q.rest));
+            whole = a.is.whole ∙ ap (λ l. expr_tokens a.form ++ l) (mark_was Comma x.rest ts is ∙ ap (λ l. Mark Comma ∷ l) more.whole) ∙
+                sym (append_assoc (expr_tokens a.form) (Mark Comma ∷ expr_tokens more.form) (Mark CloseBrace ∷ q.rest));
           }
     ] refl first.2
 
-operand_from_sound : (read : Reader) → IsSound read → (s : Start) (t : TokenTree) (ts : List TokenTree) (x : Found) → Begun s t → operand_from read s ts ≡ Some x → IsOperand (t ∷ ts) x
-operand_from_sound read sound (StartName n) t ts x is h = subst (λ t. IsOperand (t ∷ ts) x) (sym is) (named_sound read sound n ts x (after_mark OpenBracket ts) refl h)
+operand_from_sound : (read : Reader) → IsSound read → (s : Start) (t : TokenTree) (ts : List TokenTree) (x : Found) → Begun s t
+    → operand_from read s ts ≡ Some x → IsOperand (t ∷ ts) x
+operand_from_sound read sound (StartName n) t ts x is h =
+    subst (λ t. IsOperand (t ∷ ts) x) (sym is) (named_sound read sound n ts x (after_mark OpenBracket ts) refl h)
 operand_from_sound read sound (StartConst size value fits) t ts x is h = record {
   form = ConstForm size value fits;
   is = form_found (ConstForm size value fits) _ ts (constant size value fits) 1 x (some_same _ _ h) tt refl refl (lit≤ tt) (ap (λ t. t ∷ ts) is);
@@ -236,8 +251,10 @@ operand_from_sound read sound StartOpen t ts x is h =
     let deep = deepened_was y.depth (λ k. found y.tree k close.0) x close.2 in
     record {
       form = ParensForm a.form;
-      is = form_found (ParensForm a.form) _ close.0 y.tree (y.depth + 1) x deep.same (a.some, a.is.formed) a.is.same_tree (ap (λ n. n + 1) a.is.same_depth) (omega (arith, a.is.same_depth, deep.small))
-          ((λ i. is i ∷ (a.is.whole ∙ ap (λ l. expr_tokens a.form ++ l) (mark_was Close y.rest close.0 close.1)) i) ∙ ap (λ l. Mark Open ∷ l) (sym (append_assoc (expr_tokens a.form) (Mark Close ∷ []) close.0)));
+      is = form_found (ParensForm a.form) _ close.0 y.tree (y.depth + 1) x deep.same (a.some, a.is.formed) a.is.same_tree (ap (λ n. n + 1) a.is.same_depth)
+          (omega (arith, a.is.same_depth, deep.small))
+          ((λ i. is i ∷ (a.is.whole ∙ ap (λ l. expr_tokens a.form ++ l) (mark_was Close y.rest close.0 close.1)) i) ∙
+          ap (λ l. Mark Open ∷ l) (sym (append_assoc (expr_tokens a.form) (Mark Close ∷ []) close.0)));
       top = refl;
     }
 operand_from_sound read sound StartBrace t ts x is h =
@@ -248,7 +265,8 @@ operand_from_sound read sound StartBrace t ts x is h =
     let same : q.depth ≡ expr_depth are.form = are.deepest ∙ (let e : max 0 (expr_depth are.form) ≡ expr_depth are.form = omega arith in e) in
     record {
       form = BracesForm are.form;
-      is = form_found (BracesForm are.form) _ q.rest (concat_of q.trees) (q.depth + 1) x deep.same (are.none, are.formed) (sym (concat_trees are.form are.formed are.none) ∙ ap concat_of (sym are.trees)) (ap (λ n. n + 1) (sym same)) (omega (arith, same, deep.small))
+      is = form_found (BracesForm are.form) _ q.rest (concat_of q.trees) (q.depth + 1) x deep.same (are.none, are.formed)
+          (sym (concat_trees are.form are.formed are.none) ∙ ap concat_of (sym are.trees)) (ap (λ n. n + 1) (sym same)) (omega (arith, same, deep.small))
           ((λ i. is i ∷ are.whole i) ∙ ap (λ l. Mark OpenBrace ∷ l) (sym (append_assoc (expr_tokens are.form) (Mark CloseBrace ∷ []) q.rest)));
       top = refl;
     }
@@ -270,9 +288,11 @@ of_operand ts x o = record {
   high = omega (arith, o.top);
 }
 
-unary_from_sound : (read : Reader) → IsSound read → (s : Start) (t : TokenTree) (ts : List TokenTree) (x : Found) → Begun s t → unary_from read s ts ≡ Some x → IsUnary (t ∷ ts) x
+unary_from_sound : (read : Reader) → IsSound read → (s : Start) (t : TokenTree) (ts : List TokenTree) (x : Found) → Begun s t → unary_from read s ts ≡ Some x
+    → IsUnary (t ∷ ts) x
 unary_from_sound read sound (StartName n) t ts x is h = of_operand (t ∷ ts) x (operand_from_sound read sound (StartName n) t ts x is h)
-unary_from_sound read sound (StartConst size value fits) t ts x is h = of_operand (t ∷ ts) x (operand_from_sound read sound (StartConst size value fits) t ts x is h)
+unary_from_sound read sound (StartConst size value fits) t ts x is h =
+    of_operand (t ∷ ts) x (operand_from_sound read sound (StartConst size value fits) t ts x is h)
 unary_from_sound read sound StartOpen t ts x is h = of_operand (t ∷ ts) x (operand_from_sound read sound StartOpen t ts x is h)
 unary_from_sound read sound StartBrace t ts x is h = of_operand (t ∷ ts) x (operand_from_sound read sound StartBrace t ts x is h)
 unary_from_sound read sound NoStart t ts x is h = absurd (let e : None ≡ Some x = h in cc)
@@ -284,7 +304,8 @@ unary_from_sound read sound (StartPrefix op) t ts x is h =
     record {
       front = record {
         form = PrefixForm op o.form;
-        is = form_found (PrefixForm op o.form) _ y.rest (unary op y.tree) (y.depth + 1) x deep.same (o.top, o.is.formed) (ap (unary op) o.is.same_tree) (ap (λ n. n + 1) o.is.same_depth) (omega (arith, o.is.same_depth, deep.small))
+        is = form_found (PrefixForm op o.form) _ y.rest (unary op y.tree) (y.depth + 1) x deep.same (o.top, o.is.formed) (ap (unary op) o.is.same_tree)
+            (ap (λ n. n + 1) o.is.same_depth) (omega (arith, o.is.same_depth, deep.small))
             (λ i. is i ∷ o.is.whole i);
         strong = omega arith;
         ends = above_all 13 x.rest (omega arith);
@@ -296,21 +317,25 @@ unary_sound : (read : Reader) → IsSound read → (ts : List TokenTree) (x : Fo
 unary_sound read sound [] x h = absurd (let e : None ≡ Some x = h in cc)
 unary_sound read sound (t ∷ ts) x h = unary_from_sound read sound (start_of t) t ts x (begun t) h
 
-infix_at_is : (least : ℕ) (ts : List TokenTree) (op : BinOp) (us : List TokenTree) → infix_at least ts ≡ Some (op, us) → (ts ≡ Mark (infix_sign op) ∷ us) × (least ≤ strength op)
+infix_at_is : (least : ℕ) (ts : List TokenTree) (op : BinOp) (us : List TokenTree) → infix_at least ts ≡ Some (op, us) → (ts ≡ Mark (infix_sign op) ∷ us)
+    × (least ≤ strength op)
 infix_at_is least [] op us h = absurd (let e : None ≡ Some (op, us) = h in cc)
-infix_at_is least (t ∷ ts) op us h = elim (infix_of t) as (λ o. MatchOption o (Unit {0}) (λ op. t ≡ Mark (infix_sign op)) → strong_infix least ts o ≡ Some (op, us) → (t ∷ ts ≡ Mark (infix_sign op) ∷ us) × (least ≤ strength op)) [
-  | None ↦ λ is h. absurd (let e : None ≡ Some (op, us) = h in cc)
-  | Some other ↦ λ is h.
-      let parts = cond_some _ _ _ h in
-      let same : other ≡ op = ap (λ (p : BinOp × List TokenTree). p.0) parts.1 in
-      let behind : ts ≡ us = ap (λ (p : BinOp × List TokenTree). p.1) parts.1 in
-      ((λ i. (is ∙ ap (λ op. Mark (infix_sign op)) same) i ∷ behind i), subst (λ op. least ≤ strength op) same (leb-true least (strength other) parts.0))
-] (infix_is t) h
+infix_at_is least (t ∷ ts) op us h =
+    elim (infix_of t) as (λ o. MatchOption o (Unit {0}) (λ op. t ≡ Mark (infix_sign op)) → strong_infix least ts o ≡ Some (op, us)
+    → (t ∷ ts ≡ Mark (infix_sign op) ∷ us) × (least ≤ strength op)) [
+      | None ↦ λ is h. absurd (let e : None ≡ Some (op, us) = h in cc)
+      | Some other ↦ λ is h.
+          let parts = cond_some _ _ _ h in
+          let same : other ≡ op = ap (λ (p : BinOp × List TokenTree). p.0) parts.1 in
+          let behind : ts ≡ us = ap (λ (p : BinOp × List TokenTree). p.1) parts.1 in
+          ((λ i. (is ∙ ap (λ op. Mark (infix_sign op)) same) i ∷ behind i), subst (λ op. least ≤ strength op) same (leb-true least (strength other) parts.0))
+    ] (infix_is t) h
 
 -- an operator behind a form is no stronger than the form
 no_stronger : (n : ℕ) (op : BinOp) (ts us : List TokenTree) → OpEnds (n + 1) ts → ts ≡ Mark (infix_sign op) ∷ us → strength op ≤ n
 no_stronger n op ts us ends is = elim (cases_Bool (nat_le (n + 1) (strength op))) [
-  | inl strong ↦ absurd (let e : None ≡ Some (op, us) = sym ends ∙ ap (infix_at (n + 1)) is ∙ infix_here (n + 1) op us (leb-true (n + 1) (strength op) strong) in cc)
+  | inl strong ↦ absurd (let e : None ≡ Some (op, us) = sym ends ∙ ap (infix_at (n + 1)) is ∙
+      infix_here (n + 1) op us (leb-true (n + 1) (strength op) strong) in cc)
   | inr weak ↦ omega (arith, leb-false (n + 1) (strength op) weak)
 ]
 
@@ -320,33 +345,37 @@ record IsJoined (least : ℕ) (ts : List TokenTree) (y : Found) : Type 0 where
   strong : least ≤ level front.form
   ends : OpEnds least y.rest
 
-operators_sound : (read : Reader) → IsSound read → (k least : ℕ) (ts : List TokenTree) (x y : Found) (f : IsFront ts x) → least ≤ level f.form → operators read k least x ≡ Some y → IsJoined least ts y
+operators_sound : (read : Reader) → IsSound read → (k least : ℕ) (ts : List TokenTree) (x y : Found) (f : IsFront ts x) → least ≤ level f.form
+    → operators read k least x ≡ Some y → IsJoined least ts y
 operators_sound read sound zero least ts x y f strong h = absurd (let e : None ≡ Some y = h in cc)
-operators_sound read sound (suc k) least ts x y f strong h = elim (infix_at least x.rest) as (λ o. infix_at least x.rest ≡ o → after_operator read (operators read k least) x o ≡ Some y → IsJoined least ts y) [
-  | None ↦ λ none h. subst (IsJoined least ts) (some_same x y h) (record { front = f; strong = strong; ends = none })
-  | Some o ↦ λ some h.
-      let whole = bind_some (read (strength o.0 + 1) o.1 >>= joined o.0 x) (operators read k least) y h in
-      let inner = bind_some (read (strength o.0 + 1) o.1) (joined o.0 x) whole.0 whole.1 in
-      let z : Found = inner.0 in
-      let deep = deepened_was (max x.depth z.depth) (λ k. found (binary o.0 x.tree z.tree) k z.rest) whole.0 inner.2 in
-      let right : IsReading (strength o.0 + 1) o.1 z = sound (strength o.0 + 1) o.1 z (omega arith) (omega (arith, strength_below o.0)) inner.1 in
-      let here = infix_at_is least x.rest o.0 o.1 some in
-      let form : ExprForm = InfixForm o.0 f.form right.form in
-      let depths : expr_depth form ≡ max x.depth z.depth + 1 = λ i. max (f.is.same_depth i) (right.is.same_depth i) + 1 in
-      let next : IsFront ts whole.0 = record {
-        form = form;
-        is = form_found form ts z.rest (binary o.0 x.tree z.tree) (max x.depth z.depth + 1) whole.0 deep.same
-            (no_stronger (level f.form) o.0 x.rest o.1 f.ends here.0, omega (arith, right.strong), f.is.formed, right.is.formed)
-            (λ i. binary o.0 (f.is.same_tree i) (right.is.same_tree i)) depths (omega (arith, depths, deep.small))
-            (f.is.whole ∙ ap (λ us. expr_tokens f.form ++ us) (here.0 ∙ ap (λ us. Mark (infix_sign o.0) ∷ us) right.is.whole) ∙ sym (append_assoc (expr_tokens f.form) (Mark (infix_sign o.0) ∷ expr_tokens right.form) z.rest));
-        strong = strength_above o.0;
-        ends = subst (OpEnds (strength o.0 + 1)) (ap (λ (v : Found). v.rest) deep.same) right.ends;
-      } in
-      operators_sound read sound k least ts whole.0 y next here.1 whole.2
-] refl h
+operators_sound read sound (suc k) least ts x y f strong h =
+    elim (infix_at least x.rest) as (λ o. infix_at least x.rest ≡ o → after_operator read (operators read k least) x o ≡ Some y → IsJoined least ts y) [
+      | None ↦ λ none h. subst (IsJoined least ts) (some_same x y h) (record { front = f; strong = strong; ends = none })
+      | Some o ↦ λ some h.
+          let whole = bind_some (read (strength o.0 + 1) o.1 >>= joined o.0 x) (operators read k least) y h in
+          let inner = bind_some (read (strength o.0 + 1) o.1) (joined o.0 x) whole.0 whole.1 in
+          let z : Found = inner.0 in
+          let deep = deepened_was (max x.depth z.depth) (λ k. found (binary o.0 x.tree z.tree) k z.rest) whole.0 inner.2 in
+          let right : IsReading (strength o.0 + 1) o.1 z = sound (strength o.0 + 1) o.1 z (omega arith) (omega (arith, strength_below o.0)) inner.1 in
+          let here = infix_at_is least x.rest o.0 o.1 some in
+          let form : ExprForm = InfixForm o.0 f.form right.form in
+          let depths : expr_depth form ≡ max x.depth z.depth + 1 = λ i. max (f.is.same_depth i) (right.is.same_depth i) + 1 in
+          let next : IsFront ts whole.0 = record {
+            form = form;
+            is = form_found form ts z.rest (binary o.0 x.tree z.tree) (max x.depth z.depth + 1) whole.0 deep.same
+                (no_stronger (level f.form) o.0 x.rest o.1 f.ends here.0, omega (arith, right.strong), f.is.formed, right.is.formed)
+                (λ i. binary o.0 (f.is.same_tree i) (right.is.same_tree i)) depths (omega (arith, depths, deep.small))
+                (f.is.whole ∙ ap (λ us. expr_tokens f.form ++ us) (here.0 ∙ ap (λ us. Mark (infix_sign o.0) ∷ us) right.is.whole) ∙
+                sym (append_assoc (expr_tokens f.form) (Mark (infix_sign o.0) ∷ expr_tokens right.form) z.rest));
+            strong = strength_above o.0;
+            ends = subst (OpEnds (strength o.0 + 1)) (ap (λ (v : Found). v.rest) deep.same) right.ends;
+          } in
+          operators_sound read sound k least ts whole.0 y next here.1 whole.2
+    ] refl h
 
 -- a choice, or none
-chosen_sound : (read : Reader) → IsSound read → (least : ℕ) (ts : List TokenTree) (x y : Found) → 1 ≤ least → IsJoined least ts x → chosen read least x ≡ Some y → IsReading least ts y
+chosen_sound : (read : Reader) → IsSound read → (least : ℕ) (ts : List TokenTree) (x y : Found) → 1 ≤ least → IsJoined least ts x
+    → chosen read least x ≡ Some y → IsReading least ts y
 chosen_sound read sound least ts x y positive j h = elim (cases_Bool (nat_le least 1)) [
   | inr strong ↦ plain (sym (cond-false _ _ _ strong) ∙ h)
   | inl weak ↦ elim (after_mark Question x.rest) as (λ o. after_mark Question x.rest ≡ o → by_question read x o ≡ Some y → IsReading least ts y) [
@@ -358,27 +387,33 @@ chosen_sound read sound least ts x y positive j h = elim (cases_Bool (nat_le lea
         let colon = bind_some (after_mark Colon first.0.rest) (λ vs. read 1 vs >>= chosen_of x first.0) y first.2 in
         let second = bind_some (read 1 colon.0) (chosen_of x first.0) y colon.2 in
         let b : IsReading 1 colon.0 second.0 = sound 1 colon.0 second.0 (omega arith) (omega arith) second.1 in
-        let deep = deepened_was (max x.depth (max first.0.depth second.0.depth)) (λ k. found (choice x.tree first.0.tree second.0.tree) k second.0.rest) y second.2 in
+        let deep = deepened_was (max x.depth (max first.0.depth second.0.depth))
+        (λ k. found (choice x.tree first.0.tree second.0.tree) k second.0.rest) y second.2 in
         let test : IsFront ts x = j.front in
         let form : ExprForm = ChoiceForm test.form a.form b.form in
-        let depths : expr_depth form ≡ max x.depth (max first.0.depth second.0.depth) + 1 = λ i. max (test.is.same_depth i) (max (a.is.same_depth i) (b.is.same_depth i)) + 1 in
+        let depths : expr_depth form ≡ max x.depth (max first.0.depth second.0.depth) + 1 = λ i. max (test.is.same_depth i)
+        (max (a.is.same_depth i) (b.is.same_depth i)) + 1 in
         record {
           form = form;
           is = form_found form ts second.0.rest (choice x.tree first.0.tree second.0.tree) (max x.depth (max first.0.depth second.0.depth) + 1) y deep.same
               (test.strong, a.some, b.some, test.is.formed, a.is.formed, b.is.formed)
               (λ i. choice (test.is.same_tree i) (a.is.same_tree i) (b.is.same_tree i)) depths (omega (arith, depths, deep.small))
-              (test.is.whole ∙ ap (λ l. expr_tokens test.form ++ l) (mark_was Question x.rest us some ∙ ap (λ l. Mark Question ∷ l) (a.is.whole ∙ ap (λ l. expr_tokens a.form ++ l) (mark_was Colon first.0.rest colon.0 colon.1 ∙ ap (λ l. Mark Colon ∷ l) b.is.whole)))
+              (test.is.whole ∙ ap (λ l. expr_tokens test.form ++ l)
+              (mark_was Question x.rest us some ∙ ap (λ l. Mark Question ∷ l)
+              (a.is.whole ∙ ap (λ l. expr_tokens a.form ++ l) (mark_was Colon first.0.rest colon.0 colon.1 ∙ ap (λ l. Mark Colon ∷ l) b.is.whole)))
               ∙ sym (append_assoc (expr_tokens test.form) (Mark Question ∷ (expr_tokens a.form ++ Mark Colon ∷ expr_tokens b.form)) second.0.rest
               ∙ ap (λ l. expr_tokens test.form ++ Mark Question ∷ l) (append_assoc (expr_tokens a.form) (Mark Colon ∷ expr_tokens b.form) second.0.rest)));
           some = omega arith;
           strong = one;
-          ends = subst (OpEnds least) (ap (λ (v : Found). v.rest) deep.same) (subst (λ n. OpEnds n second.0.rest) (let e : 1 ≡ least = omega arith in e) b.ends);
+          ends = subst (OpEnds least) (ap (λ (v : Found). v.rest) deep.same)
+              (subst (λ n. OpEnds n second.0.rest) (let e : 1 ≡ least = omega arith in e) b.ends);
         }
   ] refl (sym (cond-true _ _ _ weak) ∙ h)
 ]
   where
     plain : Some x ≡ Some y → IsReading least ts y
-    plain e = subst (IsReading least ts) (some_same x y e) (record { form = j.front.form; is = j.front.is; some = omega (arith, j.front.strong); strong = j.strong; ends = j.ends })
+    plain e = subst (IsReading least ts) (some_same x y e)
+        (record { form = j.front.form; is = j.front.is; some = omega (arith, j.front.strong); strong = j.strong; ends = j.ends })
 
 -- what is read is a form with that tree
 pub expression_sound : (d : ℕ) → IsSound (expression d)

@@ -47,21 +47,27 @@ record IsRange (ts : List TokenTree) (x : Option ℕ × List TokenTree) : Type 0
   value : high_of form ≡ x.0
   whole : ts ≡ range_tokens form ++ x.1
 
-range_was_from : (ts : List TokenTree) (o : Option (List TokenTree)) (x : Option ℕ × List TokenTree) → after_mark OpenBracket ts ≡ o → range_from ts o ≡ Some x → IsRange ts x
+range_was_from : (ts : List TokenTree) (o : Option (List TokenTree)) (x : Option ℕ × List TokenTree) → after_mark OpenBracket ts ≡ o → range_from ts o ≡ Some x
+    → IsRange ts x
 range_was_from ts None x is h =
     let same : (None, ts) ≡ x = some_same _ _ h in
     record { form = None; value = ap (λ (p : Option ℕ × List TokenTree). p.0) same; whole = ap (λ (p : Option ℕ × List TokenTree). p.1) same }
 range_was_from ts (Some us) x is h =
-    let high = bind_some (first_number us) (λ h. after_mark Colon h.1 >>= λ vs. after_zero vs >>= λ ws. after_mark CloseBracket ws >>= λ rest. Some (Some h.0, rest)) x h in
+    let high = bind_some (first_number us) (λ h. after_mark Colon h.1 >>= λ vs. after_zero vs >>= λ ws. after_mark CloseBracket ws >>= λ rest. Some
+    (Some h.0, rest)) x h in
     let num : IsNumber us high.0 = number_was us high.0 high.1 in
-    let colon = bind_some (after_mark Colon high.0.1) (λ vs. after_zero vs >>= λ ws. after_mark CloseBracket ws >>= λ rest. Some (Some high.0.0, rest)) x high.2 in
+    let colon = bind_some (after_mark Colon high.0.1) (λ vs. after_zero vs >>= λ ws. after_mark CloseBracket ws >>= λ rest. Some (Some high.0.0, rest)) x
+    high.2 in
     let low = bind_some (after_zero colon.0) (λ ws. after_mark CloseBracket ws >>= λ rest. Some (Some high.0.0, rest)) x colon.2 in
     let close = bind_some (after_mark CloseBracket low.0) (λ rest. Some (Some high.0.0, rest)) x low.2 in
     let same : (Some high.0.0, close.0) ≡ x = some_same _ _ close.2 in
     record {
       form = Some num.form;
       value = ap Some num.value ∙ ap (λ (p : Option ℕ × List TokenTree). p.0) same;
-      whole = mark_was OpenBracket ts us is ∙ ap (λ l. Mark OpenBracket ∷ l) (num.whole ∙ ap (λ l. number_token num.form ∷ l) (mark_was Colon high.0.1 colon.0 colon.1 ∙ ap (λ l. Mark Colon ∷ l) (zero_was colon.0 low.0 low.1 ∙ ap (λ l. Zero ∷ l) (mark_was CloseBracket low.0 close.0 close.1 ∙ ap (λ (p : Option ℕ × List TokenTree). Mark CloseBracket ∷ p.1) same))));
+      whole = mark_was OpenBracket ts us is ∙ ap (λ l. Mark OpenBracket ∷ l)
+          (num.whole ∙ ap (λ l. number_token num.form ∷ l) (mark_was Colon high.0.1 colon.0 colon.1 ∙
+          ap (λ l. Mark Colon ∷ l) (zero_was colon.0 low.0 low.1 ∙
+          ap (λ l. Zero ∷ l) (mark_was CloseBracket low.0 close.0 close.1 ∙ ap (λ (p : Option ℕ × List TokenTree). Mark CloseBracket ∷ p.1) same))));
     }
 
 range_was : (ts : List TokenTree) (x : Option ℕ × List TokenTree) → range ts ≡ Some x → IsRange ts x
@@ -73,13 +79,21 @@ net_was : (net : List ℕ → NetTree) (ts : List TokenTree) (e : Entries NetTre
 net_was net ts e h =
     let n = bind_some (first_name ts) (λ n. Some (net n.0 ∷ [], n.1)) e h in
     let same : (net n.0.0 ∷ [], n.0.1) ≡ e = some_same _ _ n.2 in
-    record { form = n.0.0; fits = tt; whole = name_was ts n.0 n.1 ∙ ap (λ (p : Entries NetTree). Name n.0.0 ∷ p.1) same; same = ap (λ (p : Entries NetTree). p.0) same }
+    record {
+      form = n.0.0;
+      fits = tt;
+      whole = name_was ts n.0 n.1 ∙ ap (λ (p : Entries NetTree). Name n.0.0 ∷ p.1) same;
+      same = ap (λ (p : Entries NetTree). p.0) same;
+    }
 
-net_step : (net : List ℕ → NetTree) (ts : List TokenTree) (e : Entries NetTree) → comma_net net ts ≡ Some (Some e) → (us : List TokenTree) × (ts ≡ Mark Comma ∷ us) × IsEntry name_tokens (net_out net) Any us e
-net_step net ts e h = elim (after_mark Comma ts) as (λ o. after_mark Comma ts ≡ o → net_behind net o ≡ Some e → (us : List TokenTree) × (ts ≡ Mark Comma ∷ us) × IsEntry name_tokens (net_out net) Any us e) [
-  | None ↦ λ is h. absurd (let e' : None ≡ Some e = h in cc)
-  | Some us ↦ λ is h. (us, mark_was Comma ts us is, net_was net us e h)
-] refl (some_same _ _ h)
+net_step : (net : List ℕ → NetTree) (ts : List TokenTree) (e : Entries NetTree) → comma_net net ts ≡ Some (Some e) → (us : List TokenTree)
+    × (ts ≡ Mark Comma ∷ us) × IsEntry name_tokens (net_out net) Any us e
+net_step net ts e h =
+    elim (after_mark Comma ts) as (λ o. after_mark Comma ts ≡ o → net_behind net o ≡ Some e → (us : List TokenTree) × (ts ≡ Mark Comma ∷ us)
+    × IsEntry name_tokens (net_out net) Any us e) [
+      | None ↦ λ is h. absurd (let e' : None ≡ Some e = h in cc)
+      | Some us ↦ λ is h. (us, mark_was Comma ts us is, net_was net us e h)
+    ] refl (some_same _ _ h)
 
 nets_was : (net : List ℕ → NetTree) (ts : List TokenTree) (e : Entries NetTree) → net_list net ts ≡ Some e → IsList name_tokens (net_out net) Any ts e
 nets_was net ts e h = listed_sound name_tokens (net_out net) Any Any (one_net net) (comma_net net) (net_was net) (net_step net) ts e h
@@ -97,19 +111,24 @@ drive_was ts e h =
     record {
       form = record { name = n.0.0; value = a.form };
       fits = record { level = a.some; formed = a.is.formed; depth = a.is.small };
-      whole = name_was ts n.0 n.1 ∙ ap (λ l. Name n.0.0 ∷ l) (mark_was Equals n.0.1 equals.0 equals.1 ∙ ap (λ l. Mark Equals ∷ l) (a.is.whole ∙ ap (λ (p : Entries DriveTree). expr_tokens a.form ++ p.1) same));
+      whole = name_was ts n.0 n.1 ∙ ap (λ l. Name n.0.0 ∷ l)
+          (mark_was Equals n.0.1 equals.0 equals.1 ∙ ap (λ l. Mark Equals ∷ l) (a.is.whole ∙ ap (λ (p : Entries DriveTree). expr_tokens a.form ++ p.1) same));
       same = (λ i. record { name = n.0.0; value = a.is.same_tree i } ∷ []) ∙ ap (λ (p : Entries DriveTree). p.0) same;
     }
 
 drives_was : (ts : List TokenTree) (e : Entries DriveTree) → drive_list ts ≡ Some e → IsList drive_tokens drive_out IsDrive ts e
-drives_was ts e h = listed_sound drive_tokens drive_out IsDrive Any one_drive (with_comma one_drive) drive_was (comma_sound drive_tokens drive_out IsDrive one_drive drive_was) ts e h
+drives_was ts e h =
+    listed_sound drive_tokens drive_out IsDrive Any one_drive (with_comma one_drive) drive_was
+    (comma_sound drive_tokens drive_out IsDrive one_drive drive_was) ts e h
 
 -- registers and memories
 
-reg_was : (high : Option NumberForm) (item : ℕ) (ts : List TokenTree) (e : Entries NetTree) → one_reg (high_of high) item ts ≡ Some e → IsEntry reg_tokens (reg_out high item) Any ts e
+reg_was : (high : Option NumberForm) (item : ℕ) (ts : List TokenTree) (e : Entries NetTree) → one_reg (high_of high) item ts ≡ Some e
+    → IsEntry reg_tokens (reg_out high item) Any ts e
 reg_was high item ts e h =
     let n = bind_some (first_name ts) (λ n. reg_from (high_of high) item n.0 n.1 (after_mark OpenBracket n.1)) e h in
-    elim (after_mark OpenBracket n.0.1) as (λ o. after_mark OpenBracket n.0.1 ≡ o → reg_from (high_of high) item n.0.0 n.0.1 o ≡ Some e → IsEntry reg_tokens (reg_out high item) Any ts e) [
+    elim (after_mark OpenBracket n.0.1) as (λ o. after_mark OpenBracket n.0.1 ≡ o → reg_from (high_of high) item n.0.0 n.0.1 o ≡ Some e
+    → IsEntry reg_tokens (reg_out high item) Any ts e) [
       | None ↦ λ is h.
           let same : (net_by (high_of high) (reg_kind_of None) item n.0.0 ∷ [], n.0.1) ≡ e = some_same _ _ h in
           record {
@@ -119,22 +138,34 @@ reg_was high item ts e h =
             same = ap (λ t. t ∷ []) (sym (net_same high (reg_kind_of None) item n.0.0)) ∙ ap (λ (p : Entries NetTree). p.0) same;
           }
       | Some us ↦ λ is h.
-          let low = bind_some (after_zero us) (λ vs. after_mark Colon vs >>= λ ws. first_number ws >>= λ l. after_mark CloseBracket l.1 >>= λ rest. Some (net_by (high_of high) (reg_kind_of (Some l.0)) item n.0.0 ∷ [], rest)) e h in
-          let colon = bind_some (after_mark Colon low.0) (λ ws. first_number ws >>= λ l. after_mark CloseBracket l.1 >>= λ rest. Some (net_by (high_of high) (reg_kind_of (Some l.0)) item n.0.0 ∷ [], rest)) e low.2 in
-          let last = bind_some (first_number colon.0) (λ l. after_mark CloseBracket l.1 >>= λ rest. Some (net_by (high_of high) (reg_kind_of (Some l.0)) item n.0.0 ∷ [], rest)) e colon.2 in
+          let low = bind_some (after_zero us) (λ vs. after_mark Colon vs >>= λ ws. first_number ws >>= λ l. after_mark CloseBracket l.1 >>= λ rest. Some
+          (net_by (high_of high) (reg_kind_of (Some l.0)) item n.0.0 ∷ [], rest)) e h in
+          let colon = bind_some (after_mark Colon low.0) (λ ws. first_number ws >>= λ l. after_mark CloseBracket l.1 >>= λ rest. Some
+          (net_by (high_of high) (reg_kind_of (Some l.0)) item n.0.0 ∷ [], rest)) e low.2 in
+          let last = bind_some (first_number colon.0) (λ l. after_mark CloseBracket l.1 >>= λ rest. Some
+          (net_by (high_of high) (reg_kind_of (Some l.0)) item n.0.0 ∷ [], rest)) e colon.2 in
           let num : IsNumber colon.0 last.0 = number_was colon.0 last.0 last.1 in
-          let close = bind_some (after_mark CloseBracket last.0.1) (λ rest. Some (net_by (high_of high) (reg_kind_of (Some last.0.0)) item n.0.0 ∷ [], rest)) e last.2 in
+          let close = bind_some (after_mark CloseBracket last.0.1)
+          (λ rest. Some (net_by (high_of high) (reg_kind_of (Some last.0.0)) item n.0.0 ∷ [], rest)) e last.2 in
           let same : (net_by (high_of high) (reg_kind_of (Some last.0.0)) item n.0.0 ∷ [], close.0) ≡ e = some_same _ _ close.2 in
           record {
             form = record { name = n.0.0; last = Some num.form };
             fits = tt;
-            whole = name_was ts n.0 n.1 ∙ ap (λ l. Name n.0.0 ∷ l) (mark_was OpenBracket n.0.1 us is ∙ ap (λ l. Mark OpenBracket ∷ l) (zero_was us low.0 low.1 ∙ ap (λ l. Zero ∷ l) (mark_was Colon low.0 colon.0 colon.1 ∙ ap (λ l. Mark Colon ∷ l) (num.whole ∙ ap (λ l. number_token num.form ∷ l) (mark_was CloseBracket last.0.1 close.0 close.1 ∙ ap (λ (p : Entries NetTree). Mark CloseBracket ∷ p.1) same)))));
-            same = ap (λ t. t ∷ []) (sym (net_same high (reg_kind_of (Some (number_value num.form))) item n.0.0)) ∙ ap (λ v. net_by (high_of high) (reg_kind_of (Some v)) item n.0.0 ∷ []) num.value ∙ ap (λ (p : Entries NetTree). p.0) same;
+            whole = name_was ts n.0 n.1 ∙ ap (λ l. Name n.0.0 ∷ l)
+                (mark_was OpenBracket n.0.1 us is ∙ ap (λ l. Mark OpenBracket ∷ l)
+                (zero_was us low.0 low.1 ∙ ap (λ l. Zero ∷ l) (mark_was Colon low.0 colon.0 colon.1 ∙
+                ap (λ l. Mark Colon ∷ l) (num.whole ∙ ap (λ l. number_token num.form ∷ l)
+                (mark_was CloseBracket last.0.1 close.0 close.1 ∙ ap (λ (p : Entries NetTree). Mark CloseBracket ∷ p.1) same)))));
+            same = ap (λ t. t ∷ []) (sym (net_same high (reg_kind_of (Some (number_value num.form))) item n.0.0)) ∙
+                ap (λ v. net_by (high_of high) (reg_kind_of (Some v)) item n.0.0 ∷ []) num.value ∙ ap (λ (p : Entries NetTree). p.0) same;
           }
     ] refl n.2
 
-regs_was : (high : Option NumberForm) (item : ℕ) (ts : List TokenTree) (e : Entries NetTree) → reg_list (high_of high) item ts ≡ Some e → IsList reg_tokens (reg_out high item) Any ts e
-regs_was high item ts e h = listed_sound reg_tokens (reg_out high item) Any Any (one_reg (high_of high) item) (with_comma (one_reg (high_of high) item)) (reg_was high item) (comma_sound reg_tokens (reg_out high item) Any (one_reg (high_of high) item) (reg_was high item)) ts e h
+regs_was : (high : Option NumberForm) (item : ℕ) (ts : List TokenTree) (e : Entries NetTree) → reg_list (high_of high) item ts ≡ Some e
+    → IsList reg_tokens (reg_out high item) Any ts e
+regs_was high item ts e h =
+    listed_sound reg_tokens (reg_out high item) Any Any (one_reg (high_of high) item) (with_comma (one_reg (high_of high) item)) (reg_was high item)
+    (comma_sound reg_tokens (reg_out high item) Any (one_reg (high_of high) item) (reg_was high item)) ts e h
 
 -- ports
 
@@ -143,23 +174,55 @@ record IsHead (ts : List TokenTree) (x : NetKind × List TokenTree) : Type 0 whe
   kind : head_kind form ≡ x.0
   whole : ts ≡ head_tokens form ++ x.1
 
-input_was : (us : List TokenTree) (o : Option (List TokenTree)) (x : NetKind × List TokenTree) → after_word KeyWire us ≡ o → (Input, without_wire us o) ≡ x → IsHead (Word KeyInput ∷ us) x
-input_was us None x is same = record { form = InputHead false; kind = ap (λ (p : NetKind × List TokenTree). p.0) same; whole = ap (λ (p : NetKind × List TokenTree). Word KeyInput ∷ p.1) same }
-input_was us (Some vs) x is same = record { form = InputHead true; kind = ap (λ (p : NetKind × List TokenTree). p.0) same; whole = ap (λ l. Word KeyInput ∷ l) (word_was KeyWire us vs is) ∙ ap (λ (p : NetKind × List TokenTree). Word KeyInput ∷ Word KeyWire ∷ p.1) same }
+input_was : (us : List TokenTree) (o : Option (List TokenTree)) (x : NetKind × List TokenTree) → after_word KeyWire us ≡ o → (Input, without_wire us o) ≡ x
+    → IsHead (Word KeyInput ∷ us) x
+input_was us None x is same =
+    record {
+      form = InputHead false;
+      kind = ap (λ (p : NetKind × List TokenTree). p.0) same;
+      whole = ap (λ (p : NetKind × List TokenTree). Word KeyInput ∷ p.1) same;
+    }
+input_was us (Some vs) x is same =
+    record {
+      form = InputHead true;
+      kind = ap (λ (p : NetKind × List TokenTree). p.0) same;
+      whole = ap (λ l. Word KeyInput ∷ l) (word_was KeyWire us vs is) ∙
+          ap (λ (p : NetKind × List TokenTree). Word KeyInput ∷ Word KeyWire ∷ p.1) same;
+    }
 
-output_was : (us : List TokenTree) (o : Option (List TokenTree)) (x : NetKind × List TokenTree) → after_word KeyWire us ≡ o → (OutWire, without_wire us o) ≡ x → IsHead (Word KeyOutput ∷ us) x
-output_was us None x is same = record { form = OutputHead false; kind = ap (λ (p : NetKind × List TokenTree). p.0) same; whole = ap (λ (p : NetKind × List TokenTree). Word KeyOutput ∷ p.1) same }
-output_was us (Some vs) x is same = record { form = OutputHead true; kind = ap (λ (p : NetKind × List TokenTree). p.0) same; whole = ap (λ l. Word KeyOutput ∷ l) (word_was KeyWire us vs is) ∙ ap (λ (p : NetKind × List TokenTree). Word KeyOutput ∷ Word KeyWire ∷ p.1) same }
+output_was : (us : List TokenTree) (o : Option (List TokenTree)) (x : NetKind × List TokenTree) → after_word KeyWire us ≡ o → (OutWire, without_wire us o) ≡ x
+    → IsHead (Word KeyOutput ∷ us) x
+output_was us None x is same =
+    record {
+      form = OutputHead false;
+      kind = ap (λ (p : NetKind × List TokenTree). p.0) same;
+      whole = ap (λ (p : NetKind × List TokenTree). Word KeyOutput ∷ p.1) same;
+    }
+output_was us (Some vs) x is same =
+    record {
+      form = OutputHead true;
+      kind = ap (λ (p : NetKind × List TokenTree). p.0) same;
+      whole = ap (λ l. Word KeyOutput ∷ l) (word_was KeyWire us vs is) ∙
+          ap (λ (p : NetKind × List TokenTree). Word KeyOutput ∷ Word KeyWire ∷ p.1) same;
+    }
 
-reg_head_was : (us : List TokenTree) (o : Option (List TokenTree)) (x : NetKind × List TokenTree) → after_word KeyReg us ≡ o → output_from us o ≡ x → IsHead (Word KeyOutput ∷ us) x
+reg_head_was : (us : List TokenTree) (o : Option (List TokenTree)) (x : NetKind × List TokenTree) → after_word KeyReg us ≡ o → output_from us o ≡ x
+    → IsHead (Word KeyOutput ∷ us) x
 reg_head_was us None x is same = output_was us (after_word KeyWire us) x refl same
-reg_head_was us (Some vs) x is same = record { form = OutputRegHead; kind = ap (λ (p : NetKind × List TokenTree). p.0) same; whole = ap (λ l. Word KeyOutput ∷ l) (word_was KeyReg us vs is) ∙ ap (λ (p : NetKind × List TokenTree). Word KeyOutput ∷ Word KeyReg ∷ p.1) same }
+reg_head_was us (Some vs) x is same =
+    record {
+      form = OutputRegHead;
+      kind = ap (λ (p : NetKind × List TokenTree). p.0) same;
+      whole = ap (λ l. Word KeyOutput ∷ l) (word_was KeyReg us vs is) ∙
+          ap (λ (p : NetKind × List TokenTree). Word KeyOutput ∷ Word KeyReg ∷ p.1) same;
+    }
 
 head_was : (ts : List TokenTree) (x : NetKind × List TokenTree) → port_head ts ≡ Some x → IsHead ts x
 head_was ts x h = elim (after_word KeyInput ts) as (λ o. after_word KeyInput ts ≡ o → head_from ts o ≡ Some x → IsHead ts x) [
   | None ↦ λ is h.
       let output = bind_some (after_word KeyOutput ts) (λ us. Some (output_from us (after_word KeyReg us))) x h in
-      subst (λ l. IsHead l x) (sym (word_was KeyOutput ts output.0 output.1)) (reg_head_was output.0 (after_word KeyReg output.0) x refl (some_same _ _ output.2))
+      subst (λ l. IsHead l x) (sym (word_was KeyOutput ts output.0 output.1))
+      (reg_head_was output.0 (after_word KeyReg output.0) x refl (some_same _ _ output.2))
   | Some us ↦ λ is h. subst (λ l. IsHead l x) (sym (word_was KeyInput ts us is)) (input_was us (after_word KeyWire us) x refl (some_same _ _ h))
 ] refl h
 
@@ -174,8 +237,10 @@ port_was ts e h =
       form = record { head = front.form; range = r.form; first = names.first; more = names.more };
       fits = tt;
       whole = front.whole ∙ ap (λ l. head_tokens front.form ++ l) (r.whole ∙ ap (λ l. range_tokens r.form ++ l) names.whole)
-          ∙ sym (append_assoc (head_tokens front.form) (range_tokens r.form ++ Name names.first ∷ comma_tokens name_tokens names.more) e.1 ∙ ap (λ l. head_tokens front.form ++ l) (append_assoc (range_tokens r.form) (Name names.first ∷ comma_tokens name_tokens names.more) e.1));
-      same = sym (λ i. map (λ n. net_same r.form (head_kind front.form) 0 n i) (names.first ∷ names.more)) ∙ sym (singles (net_by (high_of r.form) (head_kind front.form) 0) (names.first ∷ names.more))
+          ∙ sym (append_assoc (head_tokens front.form) (range_tokens r.form ++ Name names.first ∷ comma_tokens name_tokens names.more) e.1 ∙
+          ap (λ l. head_tokens front.form ++ l) (append_assoc (range_tokens r.form) (Name names.first ∷ comma_tokens name_tokens names.more) e.1));
+      same = sym (λ i. map (λ n. net_same r.form (head_kind front.form) 0 n i) (names.first ∷ names.more)) ∙
+          sym (singles (net_by (high_of r.form) (head_kind front.form) 0) (names.first ∷ names.more))
           ∙ (λ i. flat_map (net_out (net_by (r.value i) (front.kind i) 0)) (names.first ∷ names.more)) ∙ names.same;
     }
 
@@ -203,9 +268,12 @@ header_was ts x h =
       first = list.first;
       more = list.more;
       ports = list.same;
-      whole = word_was KeyModule ts word.0 word.1 ∙ ap (λ l. Word KeyModule ∷ l) (name_was word.0 n.0 n.1 ∙ ap (λ l. Name n.0.0 ∷ l) (mark_was Open n.0.1 opened.0 opened.1 ∙ ap (λ l. Mark Open ∷ l)
-          (list.whole ∙ ap (λ l. port_tokens list.first ++ (comma_tokens port_tokens list.more ++ l)) (mark_was Close ports.0.1 close.0 close.1 ∙ ap (λ l. Mark Close ∷ l) (mark_was Semicolon close.0 semicolon.0 semicolon.1))
-          ∙ sym (append_assoc (port_tokens list.first) (comma_tokens port_tokens list.more ++ Mark Close ∷ Mark Semicolon ∷ []) semicolon.0 ∙ ap (λ l. port_tokens list.first ++ l) (append_assoc (comma_tokens port_tokens list.more) (Mark Close ∷ Mark Semicolon ∷ []) semicolon.0)))));
+      whole = word_was KeyModule ts word.0 word.1 ∙ ap (λ l. Word KeyModule ∷ l)
+          (name_was word.0 n.0 n.1 ∙ ap (λ l. Name n.0.0 ∷ l) (mark_was Open n.0.1 opened.0 opened.1 ∙ ap (λ l. Mark Open ∷ l)
+          (list.whole ∙ ap (λ l. port_tokens list.first ++ (comma_tokens port_tokens list.more ++ l))
+          (mark_was Close ports.0.1 close.0 close.1 ∙ ap (λ l. Mark Close ∷ l) (mark_was Semicolon close.0 semicolon.0 semicolon.1))
+          ∙ sym (append_assoc (port_tokens list.first) (comma_tokens port_tokens list.more ++ Mark Close ∷ Mark Semicolon ∷ []) semicolon.0 ∙
+          ap (λ l. port_tokens list.first ++ l) (append_assoc (comma_tokens port_tokens list.more) (Mark Close ∷ Mark Semicolon ∷ []) semicolon.0)))));
     })
 
 -- an item in front
@@ -215,7 +283,9 @@ pub record IsItemRead (k : ℕ) (ts : List TokenTree) (x : ItemFound) : Type 0 w
   pub nets : item_nets k form ≡ x.nets
   pub item : item_of form ≡ x.item
 
-wire_was : (k : ℕ) (r : Option NumberForm) (ts : List TokenTree) (b : Bool) (x : ItemFound) → wires k (high_of r) ts b ≡ Some x → (form : ItemForm) × (IsItem form) × ((rest : List TokenTree) → IsApart form rest) × (Word KeyWire ∷ (range_tokens r ++ ts) ≡ item_tokens form ++ x.rest) × (item_nets k form ≡ x.nets) × (item_of form ≡ x.item)
+wire_was : (k : ℕ) (r : Option NumberForm) (ts : List TokenTree) (b : Bool) (x : ItemFound) → wires k (high_of r) ts b ≡ Some x → (form : ItemForm)
+    × (IsItem form) × ((rest : List TokenTree) → IsApart form rest) × (Word KeyWire ∷ (range_tokens r ++ ts) ≡ item_tokens form ++ x.rest)
+    × (item_nets k form ≡ x.nets) × (item_of form ≡ x.item)
 wire_was k r ts true x h =
     let drives = bind_some (drive_list ts) (λ e. after_mark Semicolon e.1 >>= λ us. Some (item_found (drive_nets (high_of r) k e.0) (nets e.0) us)) x h in
     let end = bind_some (after_mark Semicolon drives.0.1) (λ us. Some (item_found (drive_nets (high_of r) k drives.0.0) (nets drives.0.0) us)) x drives.2 in
@@ -225,8 +295,13 @@ wire_was k r ts true x h =
       WireDrives r list.first list.more,
       list.fits,
       λ rest. tt,
-      ap (λ l. Word KeyWire ∷ (range_tokens r ++ l)) (list.whole ∙ ap (λ l. drive_tokens list.first ++ (comma_tokens drive_tokens list.more ++ l)) (mark_was Semicolon drives.0.1 end.0 end.1 ∙ ap (λ (y : ItemFound). Mark Semicolon ∷ y.rest) same))
-          ∙ ap (λ l. Word KeyWire ∷ l) (sym (append_assoc (range_tokens r) (drive_tokens list.first ++ (comma_tokens drive_tokens list.more ++ Mark Semicolon ∷ [])) x.rest ∙ ap (λ l. range_tokens r ++ l) (append_assoc (drive_tokens list.first) (comma_tokens drive_tokens list.more ++ Mark Semicolon ∷ []) x.rest ∙ ap (λ l. drive_tokens list.first ++ l) (append_assoc (comma_tokens drive_tokens list.more) (Mark Semicolon ∷ []) x.rest)))),
+      ap (λ l. Word KeyWire ∷ (range_tokens r ++ l)) (list.whole ∙
+          ap (λ l. drive_tokens list.first ++ (comma_tokens drive_tokens list.more ++ l))
+          (mark_was Semicolon drives.0.1 end.0 end.1 ∙ ap (λ (y : ItemFound). Mark Semicolon ∷ y.rest) same))
+          ∙ ap (λ l. Word KeyWire ∷ l) (sym (append_assoc (range_tokens r)
+          (drive_tokens list.first ++ (comma_tokens drive_tokens list.more ++ Mark Semicolon ∷ [])) x.rest ∙
+          ap (λ l. range_tokens r ++ l) (append_assoc (drive_tokens list.first) (comma_tokens drive_tokens list.more ++ Mark Semicolon ∷ []) x.rest ∙
+          ap (λ l. drive_tokens list.first ++ l) (append_assoc (comma_tokens drive_tokens list.more) (Mark Semicolon ∷ []) x.rest)))),
       sym (drive_nets_of r k (list.first ∷ list.more)) ∙ ap (drive_nets (high_of r) k) trees ∙ ap (λ (y : ItemFound). y.nets) same,
       ap nets trees ∙ ap (λ (y : ItemFound). y.item) same,
     )
@@ -238,13 +313,19 @@ wire_was k r ts false x h =
       WireItem r list.first list.more,
       tt,
       λ rest. tt,
-      ap (λ l. Word KeyWire ∷ (range_tokens r ++ l)) (list.whole ∙ ap (λ l. Name list.first ∷ (comma_tokens name_tokens list.more ++ l)) (mark_was Semicolon names.0.1 end.0 end.1 ∙ ap (λ (y : ItemFound). Mark Semicolon ∷ y.rest) same))
-          ∙ ap (λ l. Word KeyWire ∷ l) (sym (append_assoc (range_tokens r) (Name list.first ∷ (comma_tokens name_tokens list.more ++ Mark Semicolon ∷ [])) x.rest ∙ ap (λ l. range_tokens r ++ Name list.first ∷ l) (append_assoc (comma_tokens name_tokens list.more) (Mark Semicolon ∷ []) x.rest))),
-      sym (λ i. map (λ n. net_same r Wire k n i) (list.first ∷ list.more)) ∙ sym (singles (net_by (high_of r) Wire k) (list.first ∷ list.more)) ∙ list.same ∙ ap (λ (y : ItemFound). y.nets) same,
+      ap (λ l. Word KeyWire ∷ (range_tokens r ++ l)) (list.whole ∙
+          ap (λ l. Name list.first ∷ (comma_tokens name_tokens list.more ++ l))
+          (mark_was Semicolon names.0.1 end.0 end.1 ∙ ap (λ (y : ItemFound). Mark Semicolon ∷ y.rest) same))
+          ∙ ap (λ l. Word KeyWire ∷ l) (sym (append_assoc (range_tokens r)
+          (Name list.first ∷ (comma_tokens name_tokens list.more ++ Mark Semicolon ∷ [])) x.rest ∙
+          ap (λ l. range_tokens r ++ Name list.first ∷ l) (append_assoc (comma_tokens name_tokens list.more) (Mark Semicolon ∷ []) x.rest))),
+      sym (λ i. map (λ n. net_same r Wire k n i) (list.first ∷ list.more)) ∙ sym (singles (net_by (high_of r) Wire k) (list.first ∷ list.more)) ∙ list.same ∙
+          ap (λ (y : ItemFound). y.nets) same,
       ap (λ (y : ItemFound). y.item) same,
     )
 
-reg_item_was : (k : ℕ) (r : Option NumberForm) (ts : List TokenTree) (x : ItemFound) → regs k (high_of r) ts ≡ Some x → IsItemRead k (Word KeyReg ∷ (range_tokens r ++ ts)) x
+reg_item_was : (k : ℕ) (r : Option NumberForm) (ts : List TokenTree) (x : ItemFound) → regs k (high_of r) ts ≡ Some x
+    → IsItemRead k (Word KeyReg ∷ (range_tokens r ++ ts)) x
 reg_item_was k r ts x h =
     let found = bind_some (reg_list (high_of r) k ts) (λ e. after_mark Semicolon e.1 >>= λ us. Some (item_found e.0 (nets []) us)) x h in
     let end = bind_some (after_mark Semicolon found.0.1) (λ us. Some (item_found found.0.0 (nets []) us)) x found.2 in
@@ -255,8 +336,13 @@ reg_item_was k r ts x h =
       is = record {
         is = tt;
         apart = tt;
-        whole = ap (λ l. Word KeyReg ∷ (range_tokens r ++ l)) (list.whole ∙ ap (λ l. reg_tokens list.first ++ (comma_tokens reg_tokens list.more ++ l)) (mark_was Semicolon found.0.1 end.0 end.1 ∙ ap (λ (y : ItemFound). Mark Semicolon ∷ y.rest) same))
-            ∙ ap (λ l. Word KeyReg ∷ l) (sym (append_assoc (range_tokens r) (reg_tokens list.first ++ (comma_tokens reg_tokens list.more ++ Mark Semicolon ∷ [])) x.rest ∙ ap (λ l. range_tokens r ++ l) (append_assoc (reg_tokens list.first) (comma_tokens reg_tokens list.more ++ Mark Semicolon ∷ []) x.rest ∙ ap (λ l. reg_tokens list.first ++ l) (append_assoc (comma_tokens reg_tokens list.more) (Mark Semicolon ∷ []) x.rest))));
+        whole = ap (λ l. Word KeyReg ∷ (range_tokens r ++ l))
+            (list.whole ∙ ap (λ l. reg_tokens list.first ++ (comma_tokens reg_tokens list.more ++ l))
+            (mark_was Semicolon found.0.1 end.0 end.1 ∙ ap (λ (y : ItemFound). Mark Semicolon ∷ y.rest) same))
+            ∙ ap (λ l. Word KeyReg ∷ l) (sym (append_assoc (range_tokens r)
+            (reg_tokens list.first ++ (comma_tokens reg_tokens list.more ++ Mark Semicolon ∷ [])) x.rest ∙
+            ap (λ l. range_tokens r ++ l) (append_assoc (reg_tokens list.first) (comma_tokens reg_tokens list.more ++ Mark Semicolon ∷ []) x.rest ∙
+            ap (λ l. reg_tokens list.first ++ l) (append_assoc (comma_tokens reg_tokens list.more) (Mark Semicolon ∷ []) x.rest))));
       };
       nets = sym (singles (reg_net r k) (list.first ∷ list.more)) ∙ list.same ∙ ap (λ (y : ItemFound). y.nets) same;
       item = ap (λ (y : ItemFound). y.item) same;
@@ -273,8 +359,10 @@ assign_was k ts x h =
       is = record {
         is = list.fits;
         apart = tt;
-        whole = ap (λ l. Word KeyAssign ∷ l) (list.whole ∙ ap (λ l. drive_tokens list.first ++ (comma_tokens drive_tokens list.more ++ l)) (mark_was Semicolon found.0.1 end.0 end.1 ∙ ap (λ (y : ItemFound). Mark Semicolon ∷ y.rest) same)
-            ∙ sym (append_assoc (drive_tokens list.first) (comma_tokens drive_tokens list.more ++ Mark Semicolon ∷ []) x.rest ∙ ap (λ l. drive_tokens list.first ++ l) (append_assoc (comma_tokens drive_tokens list.more) (Mark Semicolon ∷ []) x.rest)));
+        whole = ap (λ l. Word KeyAssign ∷ l) (list.whole ∙ ap (λ l. drive_tokens list.first ++ (comma_tokens drive_tokens list.more ++ l))
+            (mark_was Semicolon found.0.1 end.0 end.1 ∙ ap (λ (y : ItemFound). Mark Semicolon ∷ y.rest) same)
+            ∙ sym (append_assoc (drive_tokens list.first) (comma_tokens drive_tokens list.more ++ Mark Semicolon ∷ []) x.rest ∙
+            ap (λ l. drive_tokens list.first ++ l) (append_assoc (comma_tokens drive_tokens list.more) (Mark Semicolon ∷ []) x.rest)));
       };
       nets = ap (λ (y : ItemFound). y.nets) same;
       item = ap assigns (sym (singles drive_of (list.first ∷ list.more)) ∙ list.same) ∙ ap (λ (y : ItemFound). y.item) same;
@@ -282,13 +370,18 @@ assign_was k ts x h =
 
 clock_was : (ts : List TokenTree) (c : List ℕ × List TokenTree) → clock_from ts ≡ Some c → ts ≡ Mark At ∷ Mark Open ∷ Word Posedge ∷ Name c.0 ∷ Mark Close ∷ c.1
 clock_was ts c h =
-    let at = bind_some (after_mark At ts) (λ us. after_mark Open us >>= λ vs. after_word Posedge vs >>= λ ws. first_name ws >>= λ n. after_mark Close n.1 >>= λ rest. Some (n.0, rest)) c h in
-    let opened = bind_some (after_mark Open at.0) (λ vs. after_word Posedge vs >>= λ ws. first_name ws >>= λ n. after_mark Close n.1 >>= λ rest. Some (n.0, rest)) c at.2 in
+    let at = bind_some (after_mark At ts) (λ us. after_mark Open us >>= λ vs. after_word Posedge vs >>= λ ws. first_name ws >>= λ n. after_mark Close
+    n.1 >>= λ rest. Some (n.0, rest)) c h in
+    let opened = bind_some (after_mark Open at.0) (λ vs. after_word Posedge vs >>= λ ws. first_name ws >>= λ n. after_mark Close n.1 >>= λ rest. Some
+    (n.0, rest)) c at.2 in
     let edge = bind_some (after_word Posedge opened.0) (λ ws. first_name ws >>= λ n. after_mark Close n.1 >>= λ rest. Some (n.0, rest)) c opened.2 in
     let n = bind_some (first_name edge.0) (λ n. after_mark Close n.1 >>= λ rest. Some (n.0, rest)) c edge.2 in
     let close = bind_some (after_mark Close n.0.1) (λ rest. Some (n.0.0, rest)) c n.2 in
     let same : (n.0.0, close.0) ≡ c = some_same _ _ close.2 in
-    mark_was At ts at.0 at.1 ∙ ap (λ l. Mark At ∷ l) (mark_was Open at.0 opened.0 opened.1 ∙ ap (λ l. Mark Open ∷ l) (word_was Posedge opened.0 edge.0 edge.1 ∙ ap (λ l. Word Posedge ∷ l) (name_was edge.0 n.0 n.1 ∙ ap (λ l. Name n.0.0 ∷ l) (mark_was Close n.0.1 close.0 close.1) ∙ ap (λ (p : List ℕ × List TokenTree). Name p.0 ∷ Mark Close ∷ p.1) same)))
+    mark_was At ts at.0 at.1 ∙ ap (λ l. Mark At ∷ l) (mark_was Open at.0 opened.0 opened.1 ∙
+    ap (λ l. Mark Open ∷ l) (word_was Posedge opened.0 edge.0 edge.1 ∙
+    ap (λ l. Word Posedge ∷ l) (name_was edge.0 n.0 n.1 ∙ ap (λ l. Name n.0.0 ∷ l) (mark_was Close n.0.1 close.0 close.1) ∙
+    ap (λ (p : List ℕ × List TokenTree). Name p.0 ∷ Mark Close ∷ p.1) same)))
 
 always_was : (k : ℕ) (ts : List TokenTree) (x : ItemFound) → always_from ts ≡ Some x → IsItemRead k (Word KeyAlways ∷ ts) x
 always_was k ts x h =
@@ -302,7 +395,8 @@ always_was k ts x h =
       is = record {
         is = record { statement = a.statement; formed = a.formed; depth = a.small };
         apart = free_to a.form s.rest a.free;
-        whole = ap (λ l. Word KeyAlways ∷ l) (clock_was ts clock.0 clock.1 ∙ ap (λ l. Mark At ∷ Mark Open ∷ Word Posedge ∷ Name clock.0.0 ∷ Mark Close ∷ l) a.whole);
+        whole = ap (λ l. Word KeyAlways ∷ l) (clock_was ts clock.0 clock.1 ∙
+            ap (λ l. Mark At ∷ Mark Open ∷ Word Posedge ∷ Name clock.0.0 ∷ Mark Close ∷ l) a.whole);
       };
       nets = refl;
       item = ap (always clock.0.0) a.same_tree;

@@ -19,17 +19,22 @@ items_first m h = ap (λ n. items n 0 h) (let e : m ≡ m - 0 = omega arith in e
 a_turn : (m n : ℕ) (h : Held) → n < m → items (m - n) n h ≡ by_item (items (m - (n + 1))) n h (item_at (n + 1) h.rest)
 a_turn m n h below = ap (λ k. items k n h) (let e : m - n ≡ suc (m - (n + 1)) = omega arith in e)
 
-pub item_stop : (r : Result c.Held VFault) (e : Result Held ℕ) (m n : ℕ) (h : Held) → n < m → e ≡ items (m - n) n h → item_at (n + 1) h.rest ≡ None → GivesHeld r (finished n h (is_last h.rest (after_word EndModule h.rest))) → GivesHeld r e
+pub item_stop : (r : Result c.Held VFault) (e : Result Held ℕ) (m n : ℕ) (h : Held) → n < m → e ≡ items (m - n) n h → item_at (n + 1) h.rest ≡ None
+    → GivesHeld r (finished n h (is_last h.rest (after_word EndModule h.rest))) → GivesHeld r e
 item_stop r e m n h below so_far none gives = subst (GivesHeld r) (sym (so_far ∙ a_turn m n h below ∙ ap (by_item (items (m - (n + 1))) n h) none)) gives
 
-pub item_next : (e : Result Held ℕ) (m n : ℕ) (h : Held) (x : ItemFound) (q : Held) → n < m → e ≡ items (m - n) n h → item_at (n + 1) h.rest ≡ Some x → q ≡ with_item h x → e ≡ items (m - (n + 1)) (n + 1) q
-item_next e m n h x q below so_far some same = so_far ∙ a_turn m n h below ∙ ap (by_item (items (m - (n + 1))) n h) some ∙ ap (items (m - (n + 1)) (n + 1)) (sym same)
+pub item_next : (e : Result Held ℕ) (m n : ℕ) (h : Held) (x : ItemFound) (q : Held) → n < m → e ≡ items (m - n) n h → item_at (n + 1) h.rest ≡ Some x
+    → q ≡ with_item h x → e ≡ items (m - (n + 1)) (n + 1) q
+item_next e m n h x q below so_far some same =
+    so_far ∙ a_turn m n h below ∙ ap (by_item (items (m - (n + 1))) n h) some ∙ ap (items (m - (n + 1)) (n + 1)) (sym same)
 
 pub item_out : (e : Result Held ℕ) (m n : ℕ) (h : Held) → m ≤ n → n ≤ m → e ≡ items (m - n) n h → e ≡ Err m
 item_out e m n h past within so_far = so_far ∙ ap (λ k. items k n h) (let e : m - n ≡ 0 = omega arith in e) ∙ ap Err (let e : n ≡ m = omega arith in e)
 
 -- a drive more
-pub drive_nets_more : (high : Option ℕ) (k : ℕ) (ds : List Drive) (i : ℕ) (d : Drive) → i < length ds → drive_nets high k (map drive_tree (take (i + 1) ds)) ≡ drive_nets high k (map drive_tree (take i ds)) ++ net_by high Wire k (string_bytes (get_or ds i d).name) ∷ []
+pub drive_nets_more : (high : Option ℕ) (k : ℕ) (ds : List Drive) (i : ℕ) (d : Drive) → i < length ds
+    → drive_nets high k (map drive_tree (take (i + 1) ds)) ≡ drive_nets high k (map drive_tree (take i ds))
+    ++ net_by high Wire k (string_bytes (get_or ds i d).name) ∷ []
 drive_nets_more high k [] i d within = absurd (omega (arith, within))
 drive_nets_more high k (x ∷ ds) zero d within = refl
 drive_nets_more high k (x ∷ ds) (suc i) d within =
@@ -43,10 +48,13 @@ nets_more (x ∷ vs) v = ap (λ l. net_tree x ∷ l) (nets_more vs v)
 some_same : {X : Type 0} (a b : X) → Some a ≡ Some b → a ≡ b
 some_same a b h = cc
 
-pub drive_step : (high : Option ℕ) (k : ℕ) (ds : List Drive) (i : ℕ) (d : Drive) (vs ws : List VNet) (v : VNet) (n : List ℕ) → i < length ds → d ≡ get_or ds i d → n ≡ string_bytes d.name → Some (net_by high Wire k n) ≡ Some (net_tree v) → ws ≡ vs ++ v ∷ [] → map net_tree vs ≡ drive_nets high k (map drive_tree (take i ds)) → map net_tree ws ≡ drive_nets high k (map drive_tree (take (i + 1) ds))
+pub drive_step : (high : Option ℕ) (k : ℕ) (ds : List Drive) (i : ℕ) (d : Drive) (vs ws : List VNet) (v : VNet) (n : List ℕ) → i < length ds
+    → d ≡ get_or ds i d → n ≡ string_bytes d.name → Some (net_by high Wire k n) ≡ Some (net_tree v) → ws ≡ vs ++ v ∷ []
+    → map net_tree vs ≡ drive_nets high k (map drive_tree (take i ds)) → map net_tree ws ≡ drive_nets high k (map drive_tree (take (i + 1) ds))
 drive_step high k ds i d vs ws v n within is name made pushed so_far =
     ap (map net_tree) pushed ∙ nets_more vs v ∙ ap (λ l. l ++ net_tree v ∷ []) so_far
-    ∙ ap (λ t. drive_nets high k (map drive_tree (take i ds)) ++ t ∷ []) (sym (some_same _ _ made) ∙ ap (net_by high Wire k) (name ∙ ap (λ (d : Drive). string_bytes d.name) is))
+    ∙ ap (λ t. drive_nets high k (map drive_tree (take i ds)) ++ t ∷ [])
+    (sym (some_same _ _ made) ∙ ap (net_by high Wire k) (name ∙ ap (λ (d : Drive). string_bytes d.name) is))
     ∙ sym (drive_nets_more high k ds i d within)
 
 take_past : {X : Type 0} (l : List X) (n : ℕ) → length l ≤ n → take n l ≡ l
@@ -55,5 +63,6 @@ take_past [] (suc n) h = refl
 take_past (x ∷ l) zero h = absurd (omega (arith, h))
 take_past (x ∷ l) (suc n) h = ap (λ l. x ∷ l) (take_past l n (omega (arith, h)))
 
-pub drives_done : (high : Option ℕ) (k : ℕ) (ds : List Drive) (i : ℕ) (ns : List NetTree) → length ds ≤ i → ns ≡ drive_nets high k (map drive_tree (take i ds)) → Some (drive_nets high k (map drive_tree ds)) ≡ Some ns
+pub drives_done : (high : Option ℕ) (k : ℕ) (ds : List Drive) (i : ℕ) (ns : List NetTree) → length ds ≤ i → ns ≡ drive_nets high k (map drive_tree (take i ds))
+    → Some (drive_nets high k (map drive_tree ds)) ≡ Some ns
 drives_done high k ds i ns past so_far = ap Some (sym (so_far ∙ ap (λ l. drive_nets high k (map drive_tree l)) (take_past ds i past)))

@@ -52,10 +52,13 @@ some_tokens (AlwaysItem clock body) = omega arith
 abbrev grown : ℕ → Held → List ItemForm → List TokenTree → Held
 grown k h fs rest = held_of (h.nets ++ nets_from (k + 1) fs) (h.items ++ map item_of fs) rest
 
-item_next : (k : ℕ) (h : Held) (f : ItemForm) (fs : List ItemForm) (more rest : List TokenTree) → grown (k + 1) (with_item h (item_found (item_nets (k + 1) f) (item_of f) more)) fs rest ≡ grown k h (f ∷ fs) rest
-item_next k h f fs more rest = λ i. held_of (append_assoc h.nets (item_nets (k + 1) f) (nets_from (k + 1 + 1) fs) i) (append_assoc h.items (item_of f ∷ []) (map item_of fs) i) rest
+item_next : (k : ℕ) (h : Held) (f : ItemForm) (fs : List ItemForm) (more rest : List TokenTree)
+    → grown (k + 1) (with_item h (item_found (item_nets (k + 1) f) (item_of f) more)) fs rest ≡ grown k h (f ∷ fs) rest
+item_next k h f fs more rest =
+    λ i. held_of (append_assoc h.nets (item_nets (k + 1) f) (nets_from (k + 1 + 1) fs) i) (append_assoc h.items (item_of f ∷ []) (map item_of fs) i) rest
 
-items_again : (fs : List ItemForm) (n k : ℕ) (h : Held) (ts rest : List TokenTree) → h.rest ≡ ts → length fs < n → AreItems fs ts rest → Last rest → items n k h ≡ Ok (grown k h fs rest)
+items_again : (fs : List ItemForm) (n k : ℕ) (h : Held) (ts rest : List TokenTree) → h.rest ≡ ts → length fs < n → AreItems fs ts rest → Last rest
+    → items n k h ≡ Ok (grown k h fs rest)
 items_again _ zero k h ts rest here few are last = absurd (omega arith)
 items_again _ (suc n) k h ts _ here few (No_item rest) last =
     ap (by_item (items n) k h) (ap (item_at (k + 1)) here ∙ no_item_last (k + 1) rest last)
@@ -66,7 +69,8 @@ items_again _ (suc n) k h _ rest here few (Item f fs ts more rest' is are) last 
     ∙ items_again fs n (k + 1) (with_item h (item_found (item_nets (k + 1) f) (item_of f) more)) more rest refl (omega arith) are last
     ∙ ap Ok (item_next k h f fs more rest)
 
-items_stop : (fs : List ItemForm) (n k : ℕ) (h : Held) (ts rest : List TokenTree) → h.rest ≡ ts → length fs < n → AreItems fs ts rest → NoItem rest → (Last rest → ⊥) → items n k h ≡ Err (k + length fs)
+items_stop : (fs : List ItemForm) (n k : ℕ) (h : Held) (ts rest : List TokenTree) → h.rest ≡ ts → length fs < n → AreItems fs ts rest → NoItem rest
+    → (Last rest → ⊥) → items n k h ≡ Err (k + length fs)
 items_stop _ zero k h ts rest here few are none not_last = absurd (omega arith)
 items_stop _ (suc n) k h ts _ here few (No_item rest) none not_last =
     ap (by_item (items n) k h) (ap (item_at (k + 1)) here ∙ no_item_read (k + 1) rest none)
@@ -170,24 +174,32 @@ written_items : (fs : List ItemForm) → AllByRecursion IsItem fs → AreItems f
 written_items [] fits = No_item _
 written_items (f ∷ fs) fits =
     Item f fs _ (flat_map item_tokens fs ++ Word EndModule ∷ []) _
-    (record { is = fits.0; apart = apart_end f fs; whole = append_assoc (item_tokens f) (flat_map item_tokens fs) (Word EndModule ∷ []) }) (written_items fs fits.1)
+    (record { is = fits.0; apart = apart_end f fs; whole = append_assoc (item_tokens f) (flat_map item_tokens fs) (Word EndModule ∷ []) })
+    (written_items fs fits.1)
 
-items_written : (fs : List ItemForm) (ts rest : List TokenTree) → AreItems fs ts rest → Last rest → AllByRecursion IsItem fs × (ts ≡ flat_map item_tokens fs ++ Word EndModule ∷ [])
+items_written : (fs : List ItemForm) (ts rest : List TokenTree) → AreItems fs ts rest → Last rest → AllByRecursion IsItem fs
+    × (ts ≡ flat_map item_tokens fs ++ Word EndModule ∷ [])
 items_written _ ts _ (No_item rest) last = (tt, last)
 items_written _ _ rest (Item f fs ts more rest' is are) last =
-    let more_written = items_written fs more rest are last in
-    ((is.is, more_written.0), is.whole ∙ ap (λ l. item_tokens f ++ l) more_written.1 ∙ sym (append_assoc (item_tokens f) (flat_map item_tokens fs) (Word EndModule ∷ [])))
+    let more_written = items_written fs more rest are last in (
+      (is.is, more_written.0),
+      is.whole ∙ ap (λ l. item_tokens f ++ l) more_written.1 ∙
+          sym (append_assoc (item_tokens f) (flat_map item_tokens fs) (Word EndModule ∷ [])),
+    )
 
 item_count : (fs : List ItemForm) (ts rest : List TokenTree) → AreItems fs ts rest → length fs ≤ length ts
 item_count _ ts _ (No_item rest) = omega arith
-item_count _ _ rest (Item f fs ts more rest' is are) = omega (arith, item_count fs more rest are, some_tokens f, ap length is.whole, length-append (item_tokens f) more)
+item_count _ _ rest (Item f fs ts more rest' is are) =
+    omega (arith, item_count fs more rest are, some_tokens f, ap length is.whole, length-append (item_tokens f) more)
 
 -- the whole
 
 whole_tokens : (m : ModuleForm) → module_tokens m ≡ header_tokens m.name m.first m.more ++ (flat_map item_tokens m.items ++ Word EndModule ∷ [])
 whole_tokens m =
     let rest : List TokenTree = flat_map item_tokens m.items ++ Word EndModule ∷ [] in
-    sym (ap (λ l. Word Module ∷ Name m.name ∷ Mark Open ∷ l) (append_assoc (port_tokens m.first) (comma_tokens port_tokens m.more ++ Mark Close ∷ Mark Semicolon ∷ []) rest ∙ ap (λ l. port_tokens m.first ++ l) (append_assoc (comma_tokens port_tokens m.more) (Mark Close ∷ Mark Semicolon ∷ []) rest)))
+    sym (ap (λ l. Word Module ∷ Name m.name ∷ Mark Open ∷ l)
+    (append_assoc (port_tokens m.first) (comma_tokens port_tokens m.more ++ Mark Close ∷ Mark Semicolon ∷ []) rest ∙
+    ap (λ l. port_tokens m.first ++ l) (append_assoc (comma_tokens port_tokens m.more) (Mark Close ∷ Mark Semicolon ∷ []) rest)))
 
 header_short : (n : List ℕ) (p : PortForm) (ps : List PortForm) (rest ts : List TokenTree) → ts ≡ header_tokens n p ps ++ rest → length rest < length ts
 header_short n p ps rest ts e = omega (arith, ap length e, length-append (header_tokens n p ps) rest)
@@ -200,7 +212,8 @@ module_again m fits =
     let are = written_items m.items fits in
     let short : length rest < length ts = header_short m.name m.first m.more rest ts (whole_tokens m) in
     ap (from_header (length ts)) (ap header (whole_tokens m) ∙ header_again m.name m.first m.more rest)
-    ∙ ap (from_items m.name) (items_again m.items (length ts) 0 h rest (Word EndModule ∷ []) refl (omega (arith, short, item_count m.items rest (Word EndModule ∷ []) are)) are refl)
+    ∙ ap (from_items m.name) (items_again m.items (length ts) 0 h rest (Word EndModule ∷ []) refl
+    (omega (arith, short, item_count m.items rest (Word EndModule ∷ []) are)) are refl)
 
 pub bad_header_again : (ts : List TokenTree) → IsBadHeader ts → read_module ts ≡ Err HeaderFault
 bad_header_again ts bad = elim (header ts) as (λ o. header ts ≡ o → from_header (length ts) o ≡ Err HeaderFault) [
@@ -213,7 +226,8 @@ bad_item_again ts k bad =
     let h : Held = held_of (flat_map port_nets (bad.first ∷ bad.more)) [] bad.behind in
     let short : length bad.behind < length ts = header_short bad.name bad.first bad.more bad.behind ts bad.header in
     ap (from_header (length ts)) (ap header bad.header ∙ header_again bad.name bad.first bad.more bad.behind)
-    ∙ ap (from_items bad.name) (items_stop bad.forms (length ts) 0 h bad.behind bad.rest refl (omega (arith, short, item_count bad.forms bad.behind bad.rest bad.items)) bad.items bad.no_item bad.not_last)
+    ∙ ap (from_items bad.name) (items_stop bad.forms (length ts) 0 h bad.behind bad.rest refl
+    (omega (arith, short, item_count bad.forms bad.behind bad.rest bad.items)) bad.items bad.no_item bad.not_last)
     ∙ ap (λ n. Err (ItemFault n)) (let e : 0 + length bad.forms ≡ length bad.forms = omega arith in e ∙ bad.number)
 
 -- what an answer means
@@ -228,7 +242,8 @@ ModuleMeans ts (Ok m) = IsModule ts m
 ModuleMeans ts (Err HeaderFault) = IsBadHeader ts
 ModuleMeans ts (Err (ItemFault k)) = IsBadItem ts k
 
-from_items_mean : (ts : List TokenTree) (x : HeaderFound) (r : Result Held ℕ) → IsHeader ts x → Means 0 (held_of x.nets [] x.rest) r → ModuleMeans ts (from_items x.name r)
+from_items_mean : (ts : List TokenTree) (x : HeaderFound) (r : Result Held ℕ) → IsHeader ts x → Means 0 (held_of x.nets [] x.rest) r
+    → ModuleMeans ts (from_items x.name r)
 from_items_mean ts x (Ok q) here all =
     let form : ModuleForm = record { name = x.name; first = here.first; more = here.more; items = all.forms } in
     let written = items_written all.forms x.rest q.rest all.are all.last in
@@ -254,8 +269,10 @@ from_items_mean ts x (Err j) here stops = record {
 
 pub module_means : (ts : List TokenTree) → ModuleMeans ts (read_module ts)
 module_means ts = elim (header ts) as (λ o. header ts ≡ o → ModuleMeans ts (from_header (length ts) o)) [
-  | None ↦ λ e. λ n first more rest whole. let e' : None ≡ Some (header_found n (flat_map port_nets (first ∷ more)) rest) = sym e ∙ ap header whole ∙ header_again n first more rest in cc
+  | None ↦ λ e. λ n first more rest whole. let e' : None ≡ Some (header_found n (flat_map port_nets (first ∷ more)) rest) = sym e ∙ ap header whole ∙
+      header_again n first more rest in cc
   | Some x ↦ λ e.
       let here : IsHeader ts x = header_was ts x e in
-      from_items_mean ts x (items (length ts) 0 (held_of x.nets [] x.rest)) here (items_mean (length ts) 0 (held_of x.nets [] x.rest) (header_short x.name here.first here.more x.rest ts here.whole))
+      from_items_mean ts x (items (length ts) 0 (held_of x.nets [] x.rest)) here
+      (items_mean (length ts) 0 (held_of x.nets [] x.rest) (header_short x.name here.first here.more x.rest ts here.whole))
 ] refl

@@ -21,7 +21,8 @@ Answer = Result VModule VFault
 means_at : (ts : List TokenTree) (r : Result ModuleTree TreeFault) → read_module ts ≡ r → ModuleMeans ts r
 means_at ts r e = subst (ModuleMeans ts) e (module_means ts)
 
-pub spelled_of : (text : List ℕ) (ts : List TokenTree) (r : Answer) → AreTokens text ts → GivesRead r (read_module ts) → IfOk r (λ m. Spells text (module_tree m))
+pub spelled_of : (text : List ℕ) (ts : List TokenTree) (r : Answer) → AreTokens text ts → GivesRead r (read_module ts)
+    → IfOk r (λ m. Spells text (module_tree m))
 spelled_of text ts (Ok m) are gives =
     let is : IsModule ts (module_tree m) = means_at ts (Ok (module_tree m)) gives in
     record { form = is.form; formed = is.formed; written = subst (AreTokens text) is.whole are; tree = is.tree }
@@ -37,7 +38,8 @@ fault_of text ts (Err (BadToken at)) are gives = absurd gives
 pub spelled_read : (text : List ℕ) (ts : List TokenTree) (m : ModuleTree) → AreTokens text ts → Spells text m → read_module ts ≡ Ok m
 spelled_read text ts m are s = ap read_module (one_list ts (module_tokens s.form) text text refl are s.written) ∙ module_again s.form s.formed ∙ ap Ok s.tree
 
-pub every_module_of : (text : List ℕ) (ts : List TokenTree) (r : Answer) → AreTokens text ts → GivesRead r (read_module ts) → (m : ModuleTree) → Spells text m → GivesModule m r
+pub every_module_of : (text : List ℕ) (ts : List TokenTree) (r : Answer) → AreTokens text ts → GivesRead r (read_module ts) → (m : ModuleTree) → Spells text m
+    → GivesModule m r
 every_module_of text ts (Ok x) are gives m s = let e : Ok (module_tree x) ≡ Ok m = sym gives ∙ spelled_read text ts m are s in cc
 every_module_of text ts (Err Memory) are gives m s = tt
 every_module_of text ts (Err BadHeader) are gives m s = let e : Err HeaderFault ≡ Ok m = sym gives ∙ spelled_read text ts m are s in cc
@@ -49,7 +51,8 @@ header_fault : (r : Answer) (read : Result ModuleTree TreeFault) → GivesRead r
 header_fault (Ok m) read gives e = let e' : Ok (module_tree m) ≡ Err HeaderFault = sym gives ∙ e in cc
 header_fault (Err Memory) read gives e = tt
 header_fault (Err BadHeader) read gives e = refl
-header_fault (Err (BadItem k)) read gives e = absurd (let e' : Err (ItemFault k) ≡ Err HeaderFault = sym gives ∙ e in let e'' : ItemFault k ≡ HeaderFault = cc in no_header k e'')
+header_fault (Err (BadItem k)) read gives e =
+    absurd (let e' : Err (ItemFault k) ≡ Err HeaderFault = sym gives ∙ e in let e'' : ItemFault k ≡ HeaderFault = cc in no_header k e'')
   where
     no_header : (k : ℕ) → ItemFault k ≡ HeaderFault → ⊥
     no_header k e = cc
@@ -58,7 +61,8 @@ header_fault (Err (BadToken at)) read gives e = absurd gives
 item_fault : (r : Answer) (read : Result ModuleTree TreeFault) (k : ℕ) → GivesRead r read → read ≡ Err (ItemFault k) → GivesFault (BadItem k) r
 item_fault (Ok m) read k gives e = let e' : Ok (module_tree m) ≡ Err (ItemFault k) = sym gives ∙ e in cc
 item_fault (Err Memory) read k gives e = tt
-item_fault (Err BadHeader) read k gives e = absurd (let e' : Err HeaderFault ≡ Err (ItemFault k) = sym gives ∙ e in let e'' : HeaderFault ≡ ItemFault k = cc in no_item k e'')
+item_fault (Err BadHeader) read k gives e =
+    absurd (let e' : Err HeaderFault ≡ Err (ItemFault k) = sym gives ∙ e in let e'' : HeaderFault ≡ ItemFault k = cc in no_item k e'')
   where
     no_item : (k : ℕ) → HeaderFault ≡ ItemFault k → ⊥
     no_item k e = cc
@@ -68,10 +72,13 @@ item_fault (Err (BadItem j)) read k gives e =
     ap BadItem (sym same)
 item_fault (Err (BadToken at)) read k gives e = absurd gives
 
-pub every_fault_of : (text : List ℕ) (ts : List TokenTree) (r : Answer) → AreTokens text ts → GivesRead r (read_module ts) → (e : VFault) → HasFault text e → GivesFault e r
+pub every_fault_of : (text : List ℕ) (ts : List TokenTree) (r : Answer) → AreTokens text ts → GivesRead r (read_module ts) → (e : VFault) → HasFault text e
+    → GivesFault e r
 every_fault_of text ts r are gives (BadToken at) has = absurd (not_both text ts at are has)
-every_fault_of text ts r are gives BadHeader has = header_fault r (read_module ts) gives (ap read_module (one_list ts has.0 text text refl are has.1) ∙ bad_header_again has.0 has.2)
-every_fault_of text ts r are gives (BadItem k) has = item_fault r (read_module ts) k gives (ap read_module (one_list ts has.0 text text refl are has.1) ∙ bad_item_again has.0 k has.2)
+every_fault_of text ts r are gives BadHeader has =
+    header_fault r (read_module ts) gives (ap read_module (one_list ts has.0 text text refl are has.1) ∙ bad_header_again has.0 has.2)
+every_fault_of text ts r are gives (BadItem k) has =
+    item_fault r (read_module ts) k gives (ap read_module (one_list ts has.0 text text refl are has.1) ∙ bad_item_again has.0 k has.2)
 every_fault_of text ts r are gives Memory has = absurd has
 
 -- at a bad byte

@@ -58,7 +58,15 @@ assigned_was : (ts : List TokenTree) (x : Found) → assigned ts ≡ Some x → 
 assigned_was ts x h =
     let at = bind_some (after_mark AtMost ts) (value_then Semicolon) x h in
     let v = value_was Semicolon at.0 x at.2 in
-    record { value = v.form; formed = v.formed; some = v.some; same_tree = v.same_tree; same_depth = v.same_depth; small = v.small; whole = mark_was AtMost ts at.0 at.1 ∙ ap (λ l. Mark AtMost ∷ l) v.whole }
+    record {
+      value = v.form;
+      formed = v.formed;
+      some = v.some;
+      same_tree = v.same_tree;
+      same_depth = v.same_depth;
+      small = v.small;
+      whole = mark_was AtMost ts at.0 at.1 ∙ ap (λ l. Mark AtMost ∷ l) v.whole;
+    }
 
 -- the tokens in front are a statement with this tree
 pub record IsStmt (ts : List TokenTree) (x : StmtFound) : Type 0 where
@@ -72,9 +80,19 @@ pub record IsStmt (ts : List TokenTree) (x : StmtFound) : Type 0 where
   pub free : IsFree form x.rest
 
 -- a form with what was found
-form_found : (f : StmtForm) (ts rest : List TokenTree) (tree : StmtTree) (depth : ℕ) (x : StmtFound) → stmt_found tree depth rest ≡ x → is_statement f ≡ true → IsStatement f → stmt_of f ≡ tree → stmt_depth f ≡ depth → stmt_depth f ≤ 256 → ts ≡ stmt_tokens f ++ rest → IsFree f rest → IsStmt ts x
+form_found : (f : StmtForm) (ts rest : List TokenTree) (tree : StmtTree) (depth : ℕ) (x : StmtFound) → stmt_found tree depth rest ≡ x → is_statement f ≡ true
+    → IsStatement f → stmt_of f ≡ tree → stmt_depth f ≡ depth → stmt_depth f ≤ 256 → ts ≡ stmt_tokens f ++ rest → IsFree f rest → IsStmt ts x
 form_found f ts rest tree depth x same is formed is_tree is_depth small whole free =
-    subst (IsStmt ts) same (record { form = f; statement = is; formed = formed; same_tree = is_tree; same_depth = is_depth; small = small; whole = whole; free = free })
+    subst (IsStmt ts) same (record {
+      form = f;
+      statement = is;
+      formed = formed;
+      same_tree = is_tree;
+      same_depth = is_depth;
+      small = small;
+      whole = whole;
+      free = free;
+    })
 
 not_open : (f : StmtForm) (ts : List TokenTree) → is_open f ≡ false → IsFree f ts
 not_open f ts h e = absurd (let e' : true ≡ false = sym e ∙ h in cc)
@@ -85,11 +103,13 @@ set_sound n ts x h =
     let y : Found = inner.0 in
     let v = assigned_was ts y inner.1 in
     let deep = deepened_was y.depth (λ k. stmt_found (set n y.tree) k y.rest) x inner.2 in
-    form_found (SetForm n v.value) (Name n ∷ ts) y.rest (set n y.tree) (y.depth + 1) x deep.same refl (v.some, v.formed) (ap (set n) v.same_tree) (ap (λ n. n + 1) v.same_depth) (omega (arith, v.same_depth, deep.small))
+    form_found (SetForm n v.value) (Name n ∷ ts) y.rest (set n y.tree) (y.depth + 1) x deep.same refl (v.some, v.formed) (ap (set n) v.same_tree)
+    (ap (λ n. n + 1) v.same_depth) (omega (arith, v.same_depth, deep.small))
     (ap (λ l. Name n ∷ l) (v.whole ∙ ap (λ l. Mark AtMost ∷ l) (sym (append_assoc (expr_tokens v.value) (Mark Semicolon ∷ []) y.rest))))
     (not_open (SetForm n v.value) y.rest refl)
 
-put_sound : (n : List ℕ) (us : List TokenTree) (x : StmtFound) (o : Option (ℕ × List TokenTree)) → first_number us ≡ o → put_by n us o ≡ Some x → IsStmt (Name n ∷ Mark OpenBracket ∷ us) x
+put_sound : (n : List ℕ) (us : List TokenTree) (x : StmtFound) (o : Option (ℕ × List TokenTree)) → first_number us ≡ o → put_by n us o ≡ Some x
+    → IsStmt (Name n ∷ Mark OpenBracket ∷ us) x
 put_sound n us x None is h =
     let inner = bind_some (value_then CloseBracket us) (λ at. assigned at.rest >>= put_from n at) x h in
     let at : Found = inner.0 in
@@ -100,9 +120,11 @@ put_sound n us x None is h =
     let deep = deepened_was (max at.depth y.depth) (λ k. stmt_found (put n at.tree y.tree) k y.rest) x second.2 in
     let form : StmtForm = PutForm n a.form v.value in
     let depths : stmt_depth form ≡ max at.depth y.depth + 1 = λ i. max (a.same_depth i) (v.same_depth i) + 1 in
-    form_found form _ y.rest (put n at.tree y.tree) (max at.depth y.depth + 1) x deep.same refl (a.some, v.some, a.formed, v.formed) (λ i. put n (a.same_tree i) (v.same_tree i)) depths (omega (arith, depths, deep.small))
+    form_found form _ y.rest (put n at.tree y.tree) (max at.depth y.depth + 1) x deep.same refl (a.some, v.some, a.formed, v.formed)
+    (λ i. put n (a.same_tree i) (v.same_tree i)) depths (omega (arith, depths, deep.small))
     (ap (λ l. Name n ∷ Mark OpenBracket ∷ l) (a.whole ∙ ap (λ l. expr_tokens a.form ++ Mark CloseBracket ∷ l) v.whole
-    ∙ sym (append_assoc (expr_tokens a.form) (Mark CloseBracket ∷ Mark AtMost ∷ (expr_tokens v.value ++ Mark Semicolon ∷ [])) y.rest ∙ ap (λ l. expr_tokens a.form ++ Mark CloseBracket ∷ Mark AtMost ∷ l) (append_assoc (expr_tokens v.value) (Mark Semicolon ∷ []) y.rest))))
+    ∙ sym (append_assoc (expr_tokens a.form) (Mark CloseBracket ∷ Mark AtMost ∷ (expr_tokens v.value ++ Mark Semicolon ∷ [])) y.rest ∙
+    ap (λ l. expr_tokens a.form ++ Mark CloseBracket ∷ Mark AtMost ∷ l) (append_assoc (expr_tokens v.value) (Mark Semicolon ∷ []) y.rest))))
     (not_open form y.rest refl)
 put_sound n us x (Some k) is h =
     let num : IsNumber us k = number_was us k is in
@@ -112,25 +134,31 @@ put_sound n us x (Some k) is h =
     let v = assigned_was close.0 y second.1 in
     let deep = deepened_was y.depth (λ d. stmt_found (put n (place k.0) y.tree) d y.rest) x second.2 in
     let form : StmtForm = PutPlaceForm n num.form v.value in
-    form_found form _ y.rest (put n (place k.0) y.tree) (y.depth + 1) x deep.same refl (v.some, v.formed) (λ i. put n (place (num.value i)) (v.same_tree i)) (ap (λ n. n + 1) v.same_depth) (omega (arith, v.same_depth, deep.small))
-    (ap (λ l. Name n ∷ Mark OpenBracket ∷ l) (num.whole ∙ ap (λ l. number_token num.form ∷ l) (mark_was CloseBracket k.1 close.0 close.1 ∙ ap (λ l. Mark CloseBracket ∷ l) (v.whole ∙ ap (λ l. Mark AtMost ∷ l) (sym (append_assoc (expr_tokens v.value) (Mark Semicolon ∷ []) y.rest))))))
+    form_found form _ y.rest (put n (place k.0) y.tree) (y.depth + 1) x deep.same refl (v.some, v.formed) (λ i. put n (place (num.value i)) (v.same_tree i))
+    (ap (λ n. n + 1) v.same_depth) (omega (arith, v.same_depth, deep.small))
+    (ap (λ l. Name n ∷ Mark OpenBracket ∷ l) (num.whole ∙
+    ap (λ l. number_token num.form ∷ l) (mark_was CloseBracket k.1 close.0 close.1 ∙
+    ap (λ l. Mark CloseBracket ∷ l) (v.whole ∙ ap (λ l. Mark AtMost ∷ l) (sym (append_assoc (expr_tokens v.value) (Mark Semicolon ∷ []) y.rest))))))
     (not_open form y.rest refl)
 
-target_sound : (n : List ℕ) (ts : List TokenTree) (x : StmtFound) (o : Option (List TokenTree)) → after_mark OpenBracket ts ≡ o → target_from n ts o ≡ Some x → IsStmt (Name n ∷ ts) x
+target_sound : (n : List ℕ) (ts : List TokenTree) (x : StmtFound) (o : Option (List TokenTree)) → after_mark OpenBracket ts ≡ o → target_from n ts o ≡ Some x
+    → IsStmt (Name n ∷ ts) x
 target_sound n ts x None is h = set_sound n ts x h
 target_sound n ts x (Some us) is h = subst (λ l. IsStmt (Name n ∷ l) x) (sym (mark_was OpenBracket ts us is)) (put_sound n us x (first_number us) refl h)
 
 abbrev pub IsStmtSound : StmtReader → Type 0
 IsStmtSound read = (ts : List TokenTree) (x : StmtFound) → read ts ≡ Some x → IsStmt ts x
 
-choice_sound : (read : StmtReader) → IsStmtSound read → (ts : List TokenTree) (x : StmtFound) → (test_then ts >>= choice_from read) ≡ Some x → IsStmt (Word If ∷ ts) x
+choice_sound : (read : StmtReader) → IsStmtSound read → (ts : List TokenTree) (x : StmtFound) → (test_then ts >>= choice_from read) ≡ Some x
+    → IsStmt (Word If ∷ ts) x
 choice_sound read sound ts x h =
     let tested = bind_some (test_then ts) (choice_from read) x h in
     let t : Found = tested.0 in
     let opened = bind_some (after_mark Open ts) (value_then Close) t tested.1 in
     let v = value_was Close opened.0 t opened.2 in
     let front : Word If ∷ ts ≡ test_tokens v.form ++ t.rest =
-    ap (λ l. Word If ∷ l) (mark_was Open ts opened.0 opened.1 ∙ ap (λ l. Mark Open ∷ l) v.whole) ∙ ap (λ l. Word If ∷ Mark Open ∷ l) (sym (append_assoc (expr_tokens v.form) (Mark Close ∷ []) t.rest)) in
+    ap (λ l. Word If ∷ l) (mark_was Open ts opened.0 opened.1 ∙ ap (λ l. Mark Open ∷ l) v.whole) ∙
+    ap (λ l. Word If ∷ Mark Open ∷ l) (sym (append_assoc (expr_tokens v.form) (Mark Close ∷ []) t.rest)) in
     let first = bind_some (read t.rest) (λ y. with_else read t y (after_word Else y.rest)) x tested.2 in
     let y : StmtFound = first.0 in
     let a : IsStmt t.rest y = sound t.rest y first.1 in
@@ -139,7 +167,8 @@ choice_sound read sound ts x h =
           let deep = deepened_was (max t.depth y.depth) (λ k. stmt_found (when t.tree y.tree) k y.rest) x h in
           let form : StmtForm = IfForm v.form a.form in
           let depths : stmt_depth form ≡ max t.depth y.depth + 1 = λ i. max (v.same_depth i) (a.same_depth i) + 1 in
-          form_found form _ y.rest (when t.tree y.tree) (max t.depth y.depth + 1) x deep.same refl (v.some, a.statement, v.formed, a.formed) (λ i. when (v.same_tree i) (a.same_tree i)) depths (omega (arith, depths, deep.small))
+          form_found form _ y.rest (when t.tree y.tree) (max t.depth y.depth + 1) x deep.same refl (v.some, a.statement, v.formed, a.formed)
+          (λ i. when (v.same_tree i) (a.same_tree i)) depths (omega (arith, depths, deep.small))
           (front ∙ ap (λ l. test_tokens v.form ++ l) a.whole ∙ sym (append_assoc (test_tokens v.form) (stmt_tokens a.form) y.rest))
           (λ e. none)
       | Some us ↦ λ some h.
@@ -150,9 +179,12 @@ choice_sound read sound ts x h =
           let form : StmtForm = IfElseForm v.form a.form b.form in
           let depths : stmt_depth form ≡ max t.depth (max y.depth z.depth) + 1 = λ i. max (v.same_depth i) (max (a.same_depth i) (b.same_depth i)) + 1 in
           form_found form _ z.rest (either t.tree y.tree z.tree) (max t.depth (max y.depth z.depth) + 1) x deep.same refl
-          (v.some, a.statement, b.statement, shut a.form y.rest us a.free some, v.formed, a.formed, b.formed) (λ i. either (v.same_tree i) (a.same_tree i) (b.same_tree i)) depths (omega (arith, depths, deep.small))
-          (front ∙ ap (λ l. test_tokens v.form ++ l) (a.whole ∙ ap (λ l. stmt_tokens a.form ++ l) (word_was Else y.rest us some ∙ ap (λ l. Word Else ∷ l) b.whole))
-          ∙ sym (append_assoc (test_tokens v.form) (stmt_tokens a.form ++ Word Else ∷ stmt_tokens b.form) z.rest ∙ ap (λ l. test_tokens v.form ++ l) (append_assoc (stmt_tokens a.form) (Word Else ∷ stmt_tokens b.form) z.rest)))
+          (v.some, a.statement, b.statement, shut a.form y.rest us a.free some, v.formed, a.formed, b.formed)
+          (λ i. either (v.same_tree i) (a.same_tree i) (b.same_tree i)) depths (omega (arith, depths, deep.small))
+          (front ∙ ap (λ l. test_tokens v.form ++ l) (a.whole ∙
+          ap (λ l. stmt_tokens a.form ++ l) (word_was Else y.rest us some ∙ ap (λ l. Word Else ∷ l) b.whole))
+          ∙ sym (append_assoc (test_tokens v.form) (stmt_tokens a.form ++ Word Else ∷ stmt_tokens b.form) z.rest ∙
+          ap (λ l. test_tokens v.form ++ l) (append_assoc (stmt_tokens a.form) (Word Else ∷ stmt_tokens b.form) z.rest)))
           b.free
     ] refl first.2
   where
@@ -197,20 +229,23 @@ body_sound read sound (suc k) p q h = elim (after_word End p.rest) as (λ o. aft
         inside = refl;
         formed = (a.statement, more.inside, a.formed, more.formed);
         trees = more.trees ∙ append_assoc p.trees (x.tree ∷ []) (stmts_of more.form) ∙ ap (λ t. p.trees ++ t ∷ stmts_of more.form) (sym a.same_tree);
-        deepest = more.deepest ∙ (let e : max (max p.depth x.depth) (stmt_depth more.form) ≡ max p.depth (max x.depth (stmt_depth more.form)) = omega arith in e) ∙ ap (λ n. max p.depth (max n (stmt_depth more.form))) (sym a.same_depth);
+        deepest = more.deepest ∙ (let e : max (max p.depth x.depth) (stmt_depth more.form) ≡ max p.depth (max x.depth (stmt_depth more.form)) = omega arith in
+            e) ∙ ap (λ n. max p.depth (max n (stmt_depth more.form))) (sym a.same_depth);
         small = omega (arith, a.small, more.small);
         whole = a.whole ∙ ap (λ l. stmt_tokens a.form ++ l) more.whole ∙ sym (append_assoc (stmt_tokens a.form) (stmt_tokens more.form) (Word End ∷ q.rest));
       }
 ] refl h
 
-block_sound : (read : StmtReader) → IsStmtSound read → (ts : List TokenTree) (x : StmtFound) → (body read (length ts) (body_of [] 0 ts) >>= blocked) ≡ Some x → IsStmt (Word Begin ∷ ts) x
+block_sound : (read : StmtReader) → IsStmtSound read → (ts : List TokenTree) (x : StmtFound) → (body read (length ts) (body_of [] 0 ts) >>= blocked) ≡ Some x
+    → IsStmt (Word Begin ∷ ts) x
 block_sound read sound ts x h =
     let inner = bind_some (body read (length ts) (body_of [] 0 ts)) blocked x h in
     let q : Body = inner.0 in
     let b = body_sound read sound (length ts) (body_of [] 0 ts) q inner.1 in
     let deep = deepened_was q.depth (λ k. stmt_found (block_of q.trees) k q.rest) x inner.2 in
     let same : q.depth ≡ stmt_depth b.form = b.deepest ∙ (let e : max 0 (stmt_depth b.form) ≡ stmt_depth b.form = omega arith in e) in
-    form_found (BlockForm b.form) (Word Begin ∷ ts) q.rest (block_of q.trees) (q.depth + 1) x deep.same refl (b.inside, b.formed) (sym (block_stmts b.form b.formed b.inside) ∙ ap block_of (sym b.trees)) (ap (λ n. n + 1) (sym same)) (omega (arith, same, deep.small))
+    form_found (BlockForm b.form) (Word Begin ∷ ts) q.rest (block_of q.trees) (q.depth + 1) x deep.same refl (b.inside, b.formed)
+    (sym (block_stmts b.form b.formed b.inside) ∙ ap block_of (sym b.trees)) (ap (λ n. n + 1) (sym same)) (omega (arith, same, deep.small))
     (ap (λ l. Word Begin ∷ l) (b.whole ∙ sym (append_assoc (stmt_tokens b.form) (Word End ∷ []) q.rest)))
     (not_open (BlockForm b.form) q.rest refl)
 
@@ -230,7 +265,8 @@ begun (Decimal n) = tt
 begun (Sized size value fits) = tt
 begun (Mark s) = tt
 
-from_sound : (read : StmtReader) → IsStmtSound read → (s : StmtStart) (t : TokenTree) (ts : List TokenTree) (x : StmtFound) → Begun s t → statement_from read s ts ≡ Some x → IsStmt (t ∷ ts) x
+from_sound : (read : StmtReader) → IsStmtSound read → (s : StmtStart) (t : TokenTree) (ts : List TokenTree) (x : StmtFound) → Begun s t
+    → statement_from read s ts ≡ Some x → IsStmt (t ∷ ts) x
 from_sound read sound (StartTarget n) t ts x is h = subst (λ t. IsStmt (t ∷ ts) x) (sym is) (target_sound n ts x (after_mark OpenBracket ts) refl h)
 from_sound read sound StartIf t ts x is h = subst (λ t. IsStmt (t ∷ ts) x) (sym is) (choice_sound read sound ts x h)
 from_sound read sound StartBegin t ts x is h = subst (λ t. IsStmt (t ∷ ts) x) (sym is) (block_sound read sound ts x h)

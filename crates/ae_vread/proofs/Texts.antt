@@ -59,7 +59,10 @@ loop_tree = record {
 }
 
 abbrev loop_pieces : List (List ℕ)
-loop_pieces = codes "module" ∷ codes "m" ∷ codes "(" ∷ codes "output" ∷ codes "wire" ∷ codes "a" ∷ codes "," ∷ codes "output" ∷ codes "wire" ∷ codes "b" ∷ codes ")" ∷ codes ";" ∷ codes "assign" ∷ codes "a" ∷ codes "=" ∷ codes "b" ∷ codes ";" ∷ codes "assign" ∷ codes "b" ∷ codes "=" ∷ codes "a" ∷ codes ";" ∷ codes "endmodule" ∷ []
+loop_pieces =
+    codes "module" ∷ codes "m" ∷ codes "(" ∷ codes "output" ∷ codes "wire" ∷ codes "a" ∷ codes "," ∷ codes "output" ∷ codes "wire" ∷ codes "b" ∷ codes ")"
+    ∷ codes ";" ∷ codes "assign" ∷ codes "a" ∷ codes "=" ∷ codes "b" ∷ codes ";" ∷ codes "assign" ∷ codes "b" ∷ codes "=" ∷ codes "a" ∷ codes ";"
+    ∷ codes "endmodule" ∷ []
 
 loop_tokens : scan loop_pieces loop_text ≡ Some (module_tokens loop_form)
 unfolding token_of signs keys unused_0 unused_1 unused_2 unused_3 unused_4 unused_5 unused_6 unused_7 unused_8 unused_9
@@ -103,7 +106,11 @@ sum_tree = record {
 }
 
 abbrev sum_pieces : List (List ℕ)
-sum_pieces = codes "module" ∷ codes "acc" ∷ codes "(" ∷ codes "input" ∷ codes "wire" ∷ codes "clk" ∷ codes "," ∷ codes "input" ∷ codes "wire" ∷ codes "[" ∷ codes "3" ∷ codes ":" ∷ codes "0" ∷ codes "]" ∷ codes "a" ∷ codes "," ∷ codes "output" ∷ codes "reg" ∷ codes "[" ∷ codes "3" ∷ codes ":" ∷ codes "0" ∷ codes "]" ∷ codes "t" ∷ codes ")" ∷ codes ";" ∷ codes "always" ∷ codes "@" ∷ codes "(" ∷ codes "posedge" ∷ codes "clk" ∷ codes ")" ∷ codes "t" ∷ codes "<=" ∷ codes "t" ∷ codes "+" ∷ codes "a" ∷ codes ";" ∷ codes "endmodule" ∷ []
+sum_pieces =
+    codes "module" ∷ codes "acc" ∷ codes "(" ∷ codes "input" ∷ codes "wire" ∷ codes "clk" ∷ codes "," ∷ codes "input" ∷ codes "wire" ∷ codes "[" ∷ codes "3"
+    ∷ codes ":" ∷ codes "0" ∷ codes "]" ∷ codes "a" ∷ codes "," ∷ codes "output" ∷ codes "reg" ∷ codes "[" ∷ codes "3" ∷ codes ":" ∷ codes "0" ∷ codes "]"
+    ∷ codes "t" ∷ codes ")" ∷ codes ";" ∷ codes "always" ∷ codes "@" ∷ codes "(" ∷ codes "posedge" ∷ codes "clk" ∷ codes ")" ∷ codes "t" ∷ codes "<="
+    ∷ codes "t" ∷ codes "+" ∷ codes "a" ∷ codes ";" ∷ codes "endmodule" ∷ []
 
 sum_tokens : scan sum_pieces sum_text ≡ Some (module_tokens sum_form)
 unfolding token_of signs keys unused_0 unused_1 unused_2 unused_3 unused_4 unused_5 unused_6 unused_7 unused_8 unused_9
@@ -120,7 +127,9 @@ sum_spelled = record {
 -- sums at the width of their target, of their operands and of themselves
 
 abbrev widths_text : List ℕ
-widths_text = codes "module m (input [3:0] a, b, output [4:0] s, n, k, output g); assign s = a + b; assign n = ~a; assign k = {a + b}; assign g = (a + b) > 4'd15; endmodule"
+widths_text =
+    codes
+    "module m (input [3:0] a, b, output [4:0] s, n, k, output g); assign s = a + b; assign n = ~a; assign k = {a + b}; assign g = (a + b) > 4'd15; endmodule"
 
 abbrev s : List ℕ
 s = codes "s"
@@ -164,7 +173,13 @@ widths_tree = record {
 }
 
 abbrev widths_pieces : List (List ℕ)
-widths_pieces = codes "module" ∷ codes "m" ∷ codes "(" ∷ codes "input" ∷ codes "[" ∷ codes "3" ∷ codes ":" ∷ codes "0" ∷ codes "]" ∷ codes "a" ∷ codes "," ∷ codes "b" ∷ codes "," ∷ codes "output" ∷ codes "[" ∷ codes "4" ∷ codes ":" ∷ codes "0" ∷ codes "]" ∷ codes "s" ∷ codes "," ∷ codes "n" ∷ codes "," ∷ codes "k" ∷ codes "," ∷ codes "output" ∷ codes "g" ∷ codes ")" ∷ codes ";" ∷ codes "assign" ∷ codes "s" ∷ codes "=" ∷ codes "a" ∷ codes "+" ∷ codes "b" ∷ codes ";" ∷ codes "assign" ∷ codes "n" ∷ codes "=" ∷ codes "~" ∷ codes "a" ∷ codes ";" ∷ codes "assign" ∷ codes "k" ∷ codes "=" ∷ codes "{" ∷ codes "a" ∷ codes "+" ∷ codes "b" ∷ codes "}" ∷ codes ";" ∷ codes "assign" ∷ codes "g" ∷ codes "=" ∷ codes "(" ∷ codes "a" ∷ codes "+" ∷ codes "b" ∷ codes ")" ∷ codes ">" ∷ codes "4'd15" ∷ codes ";" ∷ codes "endmodule" ∷ []
+widths_pieces =
+    codes "module" ∷ codes "m" ∷ codes "(" ∷ codes "input" ∷ codes "[" ∷ codes "3" ∷ codes ":" ∷ codes "0" ∷ codes "]" ∷ codes "a" ∷ codes "," ∷ codes "b"
+    ∷ codes "," ∷ codes "output" ∷ codes "[" ∷ codes "4" ∷ codes ":" ∷ codes "0" ∷ codes "]" ∷ codes "s" ∷ codes "," ∷ codes "n" ∷ codes "," ∷ codes "k"
+    ∷ codes "," ∷ codes "output" ∷ codes "g" ∷ codes ")" ∷ codes ";" ∷ codes "assign" ∷ codes "s" ∷ codes "=" ∷ codes "a" ∷ codes "+" ∷ codes "b" ∷ codes ";"
+    ∷ codes "assign" ∷ codes "n" ∷ codes "=" ∷ codes "~" ∷ codes "a" ∷ codes ";" ∷ codes "assign" ∷ codes "k" ∷ codes "=" ∷ codes "{" ∷ codes "a" ∷ codes "+"
+    ∷ codes "b" ∷ codes "}" ∷ codes ";" ∷ codes "assign" ∷ codes "g" ∷ codes "=" ∷ codes "(" ∷ codes "a" ∷ codes "+" ∷ codes "b" ∷ codes ")" ∷ codes ">"
+    ∷ codes "4'd15" ∷ codes ";" ∷ codes "endmodule" ∷ []
 
 widths_tokens : scan widths_pieces widths_text ≡ Some (module_tokens widths_form)
 unfolding token_of signs keys unused_0 unused_1 unused_2 unused_3 unused_4 unused_5 unused_6 unused_7 unused_8 unused_9
@@ -196,7 +211,9 @@ no_stars = refl
 -- lists of names, memories, and an `else` of the nearest `if`
 
 abbrev nested_text : List ℕ
-nested_text = codes "module m (input c, input [1:0] i, a, output reg r);\n  reg [3:0] q [0:3], p;\n  wire w = q[i] > 4'hA, /* an open `if` */ v = c ? w : p[3:1] == 3'b1_0_1 ? ~w : !c;\n  always @(posedge c) if (w) if (v) r <= 1'd1; else begin q[i] <= p; q[0] <= {c, p[2:0]}; end\nendmodule"
+nested_text =
+    codes
+    "module m (input c, input [1:0] i, a, output reg r);\n  reg [3:0] q [0:3], p;\n  wire w = q[i] > 4'hA, /* an open `if` */ v = c ? w : p[3:1] == 3'b1_0_1 ? ~w : !c;\n  always @(posedge c) if (w) if (v) r <= 1'd1; else begin q[i] <= p; q[0] <= {c, p[2:0]}; end\nendmodule"
 
 abbrev c : List ℕ
 c = codes "c"
@@ -227,9 +244,11 @@ nested_form = record {
   items =
       RegItem (Some (DecimalForm 3)) (stored q (DecimalForm 3)) (plain p ∷ [])
       ∷ WireDrives None (driven w (InfixForm Gt (IndexForm q (NameForm i)) (ConstForm 4 10 true)))
-      (driven v (ChoiceForm (NameForm c) (NameForm w) (ChoiceForm (InfixForm Eq (PartForm p (DecimalForm 3) (DecimalForm 1)) (ConstForm 3 5 true)) (PrefixForm Flip (NameForm w)) (PrefixForm Not (NameForm c)))) ∷ [])
+      (driven v (ChoiceForm (NameForm c) (NameForm w) (ChoiceForm (InfixForm Eq (PartForm p (DecimalForm 3) (DecimalForm 1)) (ConstForm 3 5 true))
+      (PrefixForm Flip (NameForm w)) (PrefixForm Not (NameForm c)))) ∷ [])
       ∷ AlwaysItem c (IfForm (NameForm w) (IfElseForm (NameForm v) (SetForm r (ConstForm 1 1 true))
-      (BlockForm (More (PutForm q (NameForm i) (NameForm p)) (More (PutPlaceForm q ZeroForm (BracesForm (MoreParts (NameForm c) (LastPart (PartForm p (DecimalForm 2) ZeroForm))))) NoMore))))) ∷ [];
+      (BlockForm (More (PutForm q (NameForm i) (NameForm p))
+      (More (PutPlaceForm q ZeroForm (BracesForm (MoreParts (NameForm c) (LastPart (PartForm p (DecimalForm 2) ZeroForm))))) NoMore))))) ∷ [];
 }
 
 abbrev nested_tree : ModuleTree
@@ -247,7 +266,17 @@ nested_tree = record {
 }
 
 abbrev nested_pieces : List (List ℕ)
-nested_pieces = codes "module" ∷ codes "m" ∷ codes "(" ∷ codes "input" ∷ codes "c" ∷ codes "," ∷ codes "input" ∷ codes "[" ∷ codes "1" ∷ codes ":" ∷ codes "0" ∷ codes "]" ∷ codes "i" ∷ codes "," ∷ codes "a" ∷ codes "," ∷ codes "output" ∷ codes "reg" ∷ codes "r" ∷ codes ")" ∷ codes ";" ∷ codes "reg" ∷ codes "[" ∷ codes "3" ∷ codes ":" ∷ codes "0" ∷ codes "]" ∷ codes "q" ∷ codes "[" ∷ codes "0" ∷ codes ":" ∷ codes "3" ∷ codes "]" ∷ codes "," ∷ codes "p" ∷ codes ";" ∷ codes "wire" ∷ codes "w" ∷ codes "=" ∷ codes "q" ∷ codes "[" ∷ codes "i" ∷ codes "]" ∷ codes ">" ∷ codes "4'hA" ∷ codes "," ∷ codes "v" ∷ codes "=" ∷ codes "c" ∷ codes "?" ∷ codes "w" ∷ codes ":" ∷ codes "p" ∷ codes "[" ∷ codes "3" ∷ codes ":" ∷ codes "1" ∷ codes "]" ∷ codes "==" ∷ codes "3'b1_0_1" ∷ codes "?" ∷ codes "~" ∷ codes "w" ∷ codes ":" ∷ codes "!" ∷ codes "c" ∷ codes ";" ∷ codes "always" ∷ codes "@" ∷ codes "(" ∷ codes "posedge" ∷ codes "c" ∷ codes ")" ∷ codes "if" ∷ codes "(" ∷ codes "w" ∷ codes ")" ∷ codes "if" ∷ codes "(" ∷ codes "v" ∷ codes ")" ∷ codes "r" ∷ codes "<=" ∷ codes "1'd1" ∷ codes ";" ∷ codes "else" ∷ codes "begin" ∷ codes "q" ∷ codes "[" ∷ codes "i" ∷ codes "]" ∷ codes "<=" ∷ codes "p" ∷ codes ";" ∷ codes "q" ∷ codes "[" ∷ codes "0" ∷ codes "]" ∷ codes "<=" ∷ codes "{" ∷ codes "c" ∷ codes "," ∷ codes "p" ∷ codes "[" ∷ codes "2" ∷ codes ":" ∷ codes "0" ∷ codes "]" ∷ codes "}" ∷ codes ";" ∷ codes "end" ∷ codes "endmodule" ∷ []
+nested_pieces =
+    codes "module" ∷ codes "m" ∷ codes "(" ∷ codes "input" ∷ codes "c" ∷ codes "," ∷ codes "input" ∷ codes "[" ∷ codes "1" ∷ codes ":" ∷ codes "0" ∷ codes "]"
+    ∷ codes "i" ∷ codes "," ∷ codes "a" ∷ codes "," ∷ codes "output" ∷ codes "reg" ∷ codes "r" ∷ codes ")" ∷ codes ";" ∷ codes "reg" ∷ codes "[" ∷ codes "3"
+    ∷ codes ":" ∷ codes "0" ∷ codes "]" ∷ codes "q" ∷ codes "[" ∷ codes "0" ∷ codes ":" ∷ codes "3" ∷ codes "]" ∷ codes "," ∷ codes "p" ∷ codes ";"
+    ∷ codes "wire" ∷ codes "w" ∷ codes "=" ∷ codes "q" ∷ codes "[" ∷ codes "i" ∷ codes "]" ∷ codes ">" ∷ codes "4'hA" ∷ codes "," ∷ codes "v" ∷ codes "="
+    ∷ codes "c" ∷ codes "?" ∷ codes "w" ∷ codes ":" ∷ codes "p" ∷ codes "[" ∷ codes "3" ∷ codes ":" ∷ codes "1" ∷ codes "]" ∷ codes "==" ∷ codes "3'b1_0_1"
+    ∷ codes "?" ∷ codes "~" ∷ codes "w" ∷ codes ":" ∷ codes "!" ∷ codes "c" ∷ codes ";" ∷ codes "always" ∷ codes "@" ∷ codes "(" ∷ codes "posedge" ∷ codes "c"
+    ∷ codes ")" ∷ codes "if" ∷ codes "(" ∷ codes "w" ∷ codes ")" ∷ codes "if" ∷ codes "(" ∷ codes "v" ∷ codes ")" ∷ codes "r" ∷ codes "<=" ∷ codes "1'd1"
+    ∷ codes ";" ∷ codes "else" ∷ codes "begin" ∷ codes "q" ∷ codes "[" ∷ codes "i" ∷ codes "]" ∷ codes "<=" ∷ codes "p" ∷ codes ";" ∷ codes "q" ∷ codes "["
+    ∷ codes "0" ∷ codes "]" ∷ codes "<=" ∷ codes "{" ∷ codes "c" ∷ codes "," ∷ codes "p" ∷ codes "[" ∷ codes "2" ∷ codes ":" ∷ codes "0" ∷ codes "]"
+    ∷ codes "}" ∷ codes ";" ∷ codes "end" ∷ codes "endmodule" ∷ []
 
 nested_tokens : scan nested_pieces nested_text ≡ Some (module_tokens nested_form)
 unfolding token_of signs keys unused_0 unused_1 unused_2 unused_3 unused_4 unused_5 unused_6 unused_7 unused_8 unused_9
@@ -261,12 +290,39 @@ nested_spelled = record {
     (
       (
         record { level = lit≤ tt; formed = (lit≤ tt, lit< tt, (lit≤ tt, tt), tt); depth = lit≤ tt },
-        (record { level = lit≤ tt; formed = (lit≤ tt, lit≤ tt, lit≤ tt, tt, tt, (lit≤ tt, lit≤ tt, lit≤ tt, (lit≤ tt, lit< tt, tt, tt), (refl, tt), (refl, tt))); depth = lit≤ tt }, tt),
+        (
+          record {
+            level = lit≤ tt;
+            formed = (
+              lit≤ tt,
+              lit≤ tt,
+              lit≤ tt,
+              tt,
+              tt,
+              (lit≤ tt, lit≤ tt, lit≤ tt, (lit≤ tt, lit< tt, tt, tt), (refl, tt), (refl, tt)),
+            );
+            depth = lit≤ tt;
+          },
+          tt,
+        ),
       ),
       (
         record {
           statement = refl;
-          formed = (lit≤ tt, refl, tt, (lit≤ tt, refl, refl, refl, tt, (lit≤ tt, tt), (refl, (refl, refl, (lit≤ tt, lit≤ tt, tt, tt), (refl, refl, (lit≤ tt, (refl, (lit≤ tt, refl, tt, (lit≤ tt, tt)))), tt)))));
+          formed = (
+            lit≤ tt,
+            refl,
+            tt,
+            (
+              lit≤ tt,
+              refl,
+              refl,
+              refl,
+              tt,
+              (lit≤ tt, tt),
+              (refl, (refl, refl, (lit≤ tt, lit≤ tt, tt, tt), (refl, refl, (lit≤ tt, (refl, (lit≤ tt, refl, tt, (lit≤ tt, tt)))), tt))),
+            ),
+          );
           depth = lit≤ tt;
         },
         tt,

@@ -17,7 +17,10 @@ bind_some None f y h = absurd (let e : None ≡ Some y = h in cc)
 bind_some (Some x) f y h = (x, refl, h)
 
 all_signs : List Sign
-all_signs = s.Open ∷ s.Close ∷ s.OpenBracket ∷ s.CloseBracket ∷ s.OpenBrace ∷ s.CloseBrace ∷ s.Comma ∷ s.Semicolon ∷ s.Colon ∷ s.Question ∷ s.At ∷ s.Equals ∷ s.Plus ∷ s.Minus ∷ s.Star ∷ s.Amp ∷ s.Bar ∷ s.Caret ∷ s.Tilde ∷ s.Bang ∷ s.Less ∷ s.Greater ∷ s.AtMost ∷ s.AtLeast ∷ s.Same ∷ s.Differs ∷ s.BothAmp ∷ s.BothBar ∷ s.ShiftLeft ∷ s.ShiftRight ∷ s.XnorLeft ∷ s.XnorRight ∷ []
+all_signs =
+    s.Open ∷ s.Close ∷ s.OpenBracket ∷ s.CloseBracket ∷ s.OpenBrace ∷ s.CloseBrace ∷ s.Comma ∷ s.Semicolon ∷ s.Colon ∷ s.Question ∷ s.At ∷ s.Equals ∷ s.Plus
+    ∷ s.Minus ∷ s.Star ∷ s.Amp ∷ s.Bar ∷ s.Caret ∷ s.Tilde ∷ s.Bang ∷ s.Less ∷ s.Greater ∷ s.AtMost ∷ s.AtLeast ∷ s.Same ∷ s.Differs ∷ s.BothAmp ∷ s.BothBar
+    ∷ s.ShiftLeft ∷ s.ShiftRight ∷ s.XnorLeft ∷ s.XnorRight ∷ []
 
 all_keys : List Key
 all_keys = k.Module ∷ k.EndModule ∷ k.Input ∷ k.Output ∷ k.Wire ∷ k.Reg ∷ k.Assign ∷ k.Always ∷ k.Posedge ∷ k.If ∷ k.Else ∷ k.Begin ∷ k.End ∷ []
@@ -127,8 +130,12 @@ pub record IsNumber (ts : List TokenTree) (x : ℕ × List TokenTree) : Type 0 w
 
 pub number_was : (ts : List TokenTree) (x : ℕ × List TokenTree) → first_number ts ≡ Some x → IsNumber ts x
 number_was [] x h = absurd (let e : None ≡ Some x = h in cc)
-number_was (Zero ∷ ts) x h = let e : (0, ts) ≡ x = let e' : Some (0, ts) ≡ Some x = h in cc in record { form = ZeroForm; value = ap (λ (p : ℕ × List TokenTree). p.0) e; whole = λ i. Zero ∷ (e i).1 }
-number_was (Decimal n ∷ ts) x h = let e : (n, ts) ≡ x = let e' : Some (n, ts) ≡ Some x = h in cc in record { form = DecimalForm n; value = ap (λ (p : ℕ × List TokenTree). p.0) e; whole = λ i. Decimal n ∷ (e i).1 }
+number_was (Zero ∷ ts) x h =
+    let e : (0, ts) ≡ x = let e' : Some (0, ts) ≡ Some x = h in cc in
+    record { form = ZeroForm; value = ap (λ (p : ℕ × List TokenTree). p.0) e; whole = λ i. Zero ∷ (e i).1 }
+number_was (Decimal n ∷ ts) x h =
+    let e : (n, ts) ≡ x = let e' : Some (n, ts) ≡ Some x = h in cc in
+    record { form = DecimalForm n; value = ap (λ (p : ℕ × List TokenTree). p.0) e; whole = λ i. Decimal n ∷ (e i).1 }
 number_was (Name n ∷ ts) x h = absurd (let e : None ≡ Some x = h in cc)
 number_was (Word k ∷ ts) x h = absurd (let e : None ≡ Some x = h in cc)
 number_was (Mark s ∷ ts) x h = absurd (let e : None ≡ Some x = h in cc)

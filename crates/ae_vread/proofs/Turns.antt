@@ -16,7 +16,8 @@ length_views [] = refl
 length_views (t ∷ ts) = ap suc (length_views ts)
 
 -- the last step of an expression
-pub whole_step : {X : Type 0} (view : X → Found) (r : Result X ReadFault) (b least : ℕ) (ts : List TokenTree) (x : Found) → (b ≡ 0 → ⊥) → joined_at (expression (b - 1)) least ts ≡ Some x → Gives view r (chosen (expression (b - 1)) least x) → Gives view r (expression b least ts)
+pub whole_step : {X : Type 0} (view : X → Found) (r : Result X ReadFault) (b least : ℕ) (ts : List TokenTree) (x : Found) → (b ≡ 0 → ⊥)
+    → joined_at (expression (b - 1)) least ts ≡ Some x → Gives view r (chosen (expression (b - 1)) least x) → Gives view r (expression b least ts)
 whole_step view r zero least ts x some h gives = absurd (some refl)
 whole_step view r (suc d) least ts x some h gives =
     let less : suc d - 1 ≡ d = omega arith in
@@ -24,18 +25,22 @@ whole_step view r (suc d) least ts x some h gives =
     subst (Gives view r) (sym (ap (λ o. o >>= chosen (expression d) least) inner)) (subst (λ d. Gives view r (chosen (expression d) least x)) less gives)
 
 -- an operator is in front: its right side is read, and the loop goes on
-one_turn : (read : Reader) (n least : ℕ) (x : Found) (op : BinOp) (ts : List TokenTree) → n < 256 → infix_at least x.rest ≡ Some (op, ts) → operators read (256 - n) least x ≡ (read (strength op + 1) ts >>= joined op x >>= operators read (256 - (n + 1)) least)
+one_turn : (read : Reader) (n least : ℕ) (x : Found) (op : BinOp) (ts : List TokenTree) → n < 256 → infix_at least x.rest ≡ Some (op, ts)
+    → operators read (256 - n) least x ≡ (read (strength op + 1) ts >>= joined op x >>= operators read (256 - (n + 1)) least)
 one_turn read n least x op ts below here =
     ap (λ k. operators read k least x) (let e : 256 - n ≡ suc (256 - (n + 1)) = omega arith in e)
     ∙ ap (after_operator read (operators read (256 - (n + 1)) least) x) here
 
-pub next_turn : (e : Option Found) (read : Reader) (n least : ℕ) (x y z : Found) (op : BinOp) (s : ℕ) (ts : List TokenTree) → n < 256 → s ≡ strength op + 1 → e ≡ operators read (256 - n) least x → infix_at least x.rest ≡ Some (op, ts) → read s ts ≡ Some y → joined op x y ≡ Some z → e ≡ operators read (256 - (n + 1)) least z
+pub next_turn : (e : Option Found) (read : Reader) (n least : ℕ) (x y z : Found) (op : BinOp) (s : ℕ) (ts : List TokenTree) → n < 256 → s ≡ strength op + 1
+    → e ≡ operators read (256 - n) least x → infix_at least x.rest ≡ Some (op, ts) → read s ts ≡ Some y → joined op x y ≡ Some z
+    → e ≡ operators read (256 - (n + 1)) least z
 next_turn e read n least x y z op s ts below is so_far here right both =
     so_far ∙ one_turn read n least x op ts below here
     ∙ ap (λ o. o >>= joined op x >>= operators read (256 - (n + 1)) least) (ap (λ s. read s ts) (sym is) ∙ right)
     ∙ ap (λ o. o >>= operators read (256 - (n + 1)) least) both
 
-pub failed_turn : (fault : ReadFault) (e : Option Found) (read : Reader) (n least : ℕ) (x : Found) (op : BinOp) (s : ℕ) (ts : List TokenTree) → n < 256 → s ≡ strength op + 1 → e ≡ operators read (256 - n) least x → infix_at least x.rest ≡ Some (op, ts) → Fails fault (read s ts) → Fails fault e
+pub failed_turn : (fault : ReadFault) (e : Option Found) (read : Reader) (n least : ℕ) (x : Found) (op : BinOp) (s : ℕ) (ts : List TokenTree) → n < 256
+    → s ≡ strength op + 1 → e ≡ operators read (256 - n) least x → infix_at least x.rest ≡ Some (op, ts) → Fails fault (read s ts) → Fails fault e
 failed_turn Syntax e read n least x op s ts below is so_far here right =
     so_far ∙ one_turn read n least x op ts below here
     ∙ ap (λ o. o >>= joined op x >>= operators read (256 - (n + 1)) least) (ap (λ s. read s ts) (sym is) ∙ right)
@@ -45,19 +50,27 @@ pub last_turn : (e : Option Found) (read : Reader) (n least : ℕ) (x : Found) �
 last_turn e read n least x past so_far = so_far ∙ ap (λ k. operators read k least x) (let e : 256 - n ≡ 0 = omega arith in e)
 
 -- a part more
-parts_turn : (read : Reader) (m n : ℕ) (p : Parts) (x : Found) → n < m → read 1 p.rest ≡ Some x → parts read (m - n) p ≡ more_parts (parts read (m - (n + 1))) (with_part p x)
+parts_turn : (read : Reader) (m n : ℕ) (p : Parts) (x : Found) → n < m → read 1 p.rest ≡ Some x
+    → parts read (m - n) p ≡ more_parts (parts read (m - (n + 1))) (with_part p x)
 parts_turn read m n p x below h =
     ap (λ k. parts read k p) (let e : m - n ≡ suc (m - (n + 1)) = omega arith in e)
     ∙ ap (λ o. o >>= λ x. more_parts (parts read (m - (n + 1))) (with_part p x)) h
 
-pub parts_fail : (fault : ReadFault) (e : Option Parts) (read : Reader) (m n : ℕ) (p : Parts) (x : Found) → n < m → e ≡ parts read (m - n) p → read 1 p.rest ≡ Some x → ((go_on : Parts → Option Parts) → Fails fault (more_parts go_on (with_part p x))) → Fails fault e
+pub parts_fail : (fault : ReadFault) (e : Option Parts) (read : Reader) (m n : ℕ) (p : Parts) (x : Found) → n < m → e ≡ parts read (m - n) p
+    → read 1 p.rest ≡ Some x → ((go_on : Parts → Option Parts) → Fails fault (more_parts go_on (with_part p x))) → Fails fault e
 parts_fail Syntax e read m n p x below so_far h step = so_far ∙ parts_turn read m n p x below h ∙ step (parts read (m - (n + 1)))
 parts_fail Memory e read m n p x below so_far h step = tt
 
-pub parts_end : {X : Type 0} (view : X → Parts) (next : X) (more : Bool) (e : Option Parts) (read : Reader) (m n : ℕ) (p : Parts) (x : Found) → more ≡ false → n < m → e ≡ parts read (m - n) p → read 1 p.rest ≡ Some x → ((go_on : Parts → Option Parts) → Goes view go_on (λ p. p) next more (more_parts go_on (with_part p x))) → e ≡ Some (view next)
+pub parts_end : {X : Type 0} (view : X → Parts) (next : X) (more : Bool) (e : Option Parts) (read : Reader) (m n : ℕ) (p : Parts) (x : Found) → more ≡ false
+    → n < m → e ≡ parts read (m - n) p → read 1 p.rest ≡ Some x
+    → ((go_on : Parts → Option Parts) → Goes view go_on (λ p. p) next more (more_parts go_on (with_part p x))) → e ≡ Some (view next)
 parts_end view next more e read m n p x last below so_far h step =
-    so_far ∙ parts_turn read m n p x below h ∙ subst (λ b. Goes view (parts read (m - (n + 1))) (λ p. p) next b (more_parts (parts read (m - (n + 1))) (with_part p x))) last (step (parts read (m - (n + 1))))
+    so_far ∙ parts_turn read m n p x below h ∙ subst (λ b. Goes view (parts read (m - (n + 1))) (λ p. p) next b
+    (more_parts (parts read (m - (n + 1))) (with_part p x))) last (step (parts read (m - (n + 1))))
 
-pub parts_next : {X : Type 0} (view : X → Parts) (next : X) (more : Bool) (e : Option Parts) (read : Reader) (m n : ℕ) (p : Parts) (x : Found) → more ≡ true → n < m → e ≡ parts read (m - n) p → read 1 p.rest ≡ Some x → ((go_on : Parts → Option Parts) → Goes view go_on (λ p. p) next more (more_parts go_on (with_part p x))) → e ≡ parts read (m - (n + 1)) (view next)
+pub parts_next : {X : Type 0} (view : X → Parts) (next : X) (more : Bool) (e : Option Parts) (read : Reader) (m n : ℕ) (p : Parts) (x : Found) → more ≡ true
+    → n < m → e ≡ parts read (m - n) p → read 1 p.rest ≡ Some x
+    → ((go_on : Parts → Option Parts) → Goes view go_on (λ p. p) next more (more_parts go_on (with_part p x))) → e ≡ parts read (m - (n + 1)) (view next)
 parts_next view next more e read m n p x last below so_far h step =
-    so_far ∙ parts_turn read m n p x below h ∙ subst (λ b. Goes view (parts read (m - (n + 1))) (λ p. p) next b (more_parts (parts read (m - (n + 1))) (with_part p x))) last (step (parts read (m - (n + 1))))
+    so_far ∙ parts_turn read m n p x below h ∙ subst (λ b. Goes view (parts read (m - (n + 1))) (λ p. p) next b
+    (more_parts (parts read (m - (n + 1))) (with_part p x))) last (step (parts read (m - (n + 1))))

@@ -110,7 +110,8 @@ IsFormedExpr (IndexForm n at) = (1 ≤ level at) × IsFormedExpr at
 IsFormedExpr (ParensForm a) = (1 ≤ level a) × IsFormedExpr a
 IsFormedExpr (PrefixForm op a) = (level a ≡ 13) × IsFormedExpr a
 IsFormedExpr (InfixForm op a b) = (strength op ≤ level a) × (strength op < level b) × IsFormedExpr a × IsFormedExpr b
-IsFormedExpr (ChoiceForm test a b) = (2 ≤ level test) × (1 ≤ level a) × (1 ≤ level b) × IsFormedExpr test × IsFormedExpr a × IsFormedExpr b
+IsFormedExpr (ChoiceForm test a b) =
+    (2 ≤ level test) × (1 ≤ level a) × (1 ≤ level b) × IsFormedExpr test × IsFormedExpr a × IsFormedExpr b
 IsFormedExpr (BracesForm parts) = (level parts ≡ 0) × IsFormedExpr parts
 IsFormedExpr (LastPart a) = (1 ≤ level a) × IsFormedExpr a
 IsFormedExpr (MoreParts a parts) = (1 ≤ level a) × (level parts ≡ 0) × IsFormedExpr a × IsFormedExpr parts

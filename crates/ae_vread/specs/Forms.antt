@@ -86,7 +86,8 @@ abbrev pub item_tokens : ItemForm → List TokenTree
 item_tokens (WireItem range first more) =
     Word KeyWire ∷ (range_tokens range ++ Name first ∷ (comma_tokens name_tokens more ++ Mark Semicolon ∷ []))
 item_tokens (WireDrives range first more) =
-    Word KeyWire ∷ (range_tokens range ++ (drive_tokens first ++ (comma_tokens drive_tokens more ++ Mark Semicolon ∷ [])))
+    Word KeyWire ∷ (range_tokens range ++ (drive_tokens first
+    ++ (comma_tokens drive_tokens more ++ Mark Semicolon ∷ [])))
 item_tokens (RegItem range first more) =
     Word KeyReg ∷ (range_tokens range ++ (reg_tokens first ++ (comma_tokens reg_tokens more ++ Mark Semicolon ∷ [])))
 item_tokens (AssignItem first more) =

@@ -18,7 +18,8 @@ Entries X = List X × List TokenTree
 abbrev pub Step : Type 0 → Type 0
 Step X = List TokenTree → Option (Option (Entries X))
 
-abbrev pub by_entry : {X : Type 0} → (List X → List TokenTree → Option (Entries X)) → List X → List TokenTree → Option (Entries X) → Option (Entries X)
+abbrev pub by_entry : {X : Type 0} → (List X → List TokenTree → Option (Entries X)) → List X → List TokenTree
+    → Option (Entries X) → Option (Entries X)
 by_entry go_on before ts None = Some (before, ts)
 by_entry go_on before ts (Some x) = go_on (before ++ x.0) x.1
 
@@ -31,7 +32,8 @@ entries step (suc k) before ts = step ts >>= by_entry (entries step k) before ts
 abbrev pub listed : {X : Type 0} → (List TokenTree → Option (Entries X)) → Step X → List TokenTree → Option (Entries X)
 listed read step ts = read ts >>= λ x. entries step (length ts) x.0 x.1
 
-abbrev pub comma_of : {X : Type 0} → (List TokenTree → Option (Entries X)) → Option (List TokenTree) → Option (Option (Entries X))
+abbrev pub comma_of : {X : Type 0} → (List TokenTree → Option (Entries X)) → Option (List TokenTree)
+    → Option (Option (Entries X))
 comma_of read None = Some None
 comma_of read (Some ts) = read ts >>= λ x. Some (Some x)
 
@@ -51,7 +53,9 @@ after_zero (t ∷ ts) = if is_zero t then Some ts else None
 -- the number in front of the colon of a range, if there is a range
 abbrev pub range_from : List TokenTree → Option (List TokenTree) → Option (Option ℕ × List TokenTree)
 range_from ts None = Some (None, ts)
-range_from ts (Some us) = first_number us >>= λ h. after_mark Colon h.1 >>= λ vs. after_zero vs >>= λ ws. after_mark CloseBracket ws >>= λ rest. Some (Some h.0, rest)
+range_from ts (Some us) =
+    first_number us >>= λ h. after_mark Colon h.1 >>= λ vs. after_zero vs >>= λ ws. after_mark CloseBracket
+    ws >>= λ rest. Some (Some h.0, rest)
 
 abbrev pub range : List TokenTree → Option (Option ℕ × List TokenTree)
 range ts = range_from ts (after_mark OpenBracket ts)
@@ -86,7 +90,9 @@ reg_kind_of (Some last) = Memory (one_more last)
 
 abbrev pub reg_from : Option ℕ → ℕ → List ℕ → List TokenTree → Option (List TokenTree) → Option (Entries NetTree)
 reg_from high item n ts None = Some (net_by high (reg_kind_of None) item n ∷ [], ts)
-reg_from high item n ts (Some us) = after_zero us >>= λ vs. after_mark Colon vs >>= λ ws. first_number ws >>= λ l. after_mark CloseBracket l.1 >>= λ rest. Some (net_by high (reg_kind_of (Some l.0)) item n ∷ [], rest)
+reg_from high item n ts (Some us) =
+    after_zero us >>= λ vs. after_mark Colon vs >>= λ ws. first_number ws >>= λ l. after_mark CloseBracket
+    l.1 >>= λ rest. Some (net_by high (reg_kind_of (Some l.0)) item n ∷ [], rest)
 
 abbrev pub one_reg : Option ℕ → ℕ → List TokenTree → Option (Entries NetTree)
 one_reg high item ts = first_name ts >>= λ n. reg_from high item n.0 n.1 (after_mark OpenBracket n.1)
@@ -142,8 +148,10 @@ abbrev pub drive_nets : Option ℕ → ℕ → List DriveTree → List NetTree
 drive_nets high item ds = map (λ (d : DriveTree). net_by high Wire item d.name) ds
 
 abbrev pub wires : ℕ → Option ℕ → List TokenTree → Bool → Option ItemFound
-wires item high ts true = drive_list ts >>= λ e. after_mark Semicolon e.1 >>= λ us. Some (item_found (drive_nets high item e.0) (nets e.0) us)
-wires item high ts false = net_list (net_by high Wire item) ts >>= λ e. after_mark Semicolon e.1 >>= λ us. Some (item_found e.0 (nets []) us)
+wires item high ts true =
+    drive_list ts >>= λ e. after_mark Semicolon e.1 >>= λ us. Some (item_found (drive_nets high item e.0) (nets e.0) us)
+wires item high ts false =
+    net_list (net_by high Wire item) ts >>= λ e. after_mark Semicolon e.1 >>= λ us. Some (item_found e.0 (nets []) us)
 
 abbrev pub regs : ℕ → Option ℕ → List TokenTree → Option ItemFound
 regs item high ts = reg_list high item ts >>= λ e. after_mark Semicolon e.1 >>= λ us. Some (item_found e.0 (nets []) us)
@@ -158,7 +166,9 @@ abbrev pub assign_from : List TokenTree → Option ItemFound
 assign_from ts = drive_list ts >>= λ e. after_mark Semicolon e.1 >>= λ us. Some (item_found [] (assigns e.0) us)
 
 abbrev pub clock_from : List TokenTree → Option (List ℕ × List TokenTree)
-clock_from ts = after_mark At ts >>= λ us. after_mark Open us >>= λ vs. after_word Posedge vs >>= λ ws. first_name ws >>= λ n. after_mark Close n.1 >>= λ rest. Some (n.0, rest)
+clock_from ts =
+    after_mark At ts >>= λ us. after_mark Open us >>= λ vs. after_word Posedge vs >>= λ ws. first_name ws >>= λ n.
+    after_mark Close n.1 >>= λ rest. Some (n.0, rest)
 
 abbrev pub always_from : List TokenTree → Option ItemFound
 always_from ts = clock_from ts >>= λ c. whole_statement c.1 >>= λ s. Some (item_found [] (always c.0 s.tree) s.rest)
@@ -203,7 +213,9 @@ abbrev pub header_behind : List ℕ → Entries NetTree → Option HeaderFound
 header_behind n e = after_mark Close e.1 >>= λ us. after_mark Semicolon us >>= λ rest. Some (header_found n e.0 rest)
 
 abbrev pub header : List TokenTree → Option HeaderFound
-header ts = after_word KeyModule ts >>= λ us. first_name us >>= λ n. after_mark Open n.1 >>= λ vs. port_list vs >>= header_behind n.0
+header ts =
+    after_word KeyModule ts >>= λ us. first_name us >>= λ n. after_mark Open n.1 >>= λ vs. port_list
+    vs >>= header_behind n.0
 
 -- an `endmodule` that is the last token
 abbrev pub is_last : List TokenTree → Option (List TokenTree) → Bool

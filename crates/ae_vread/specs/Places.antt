@@ -24,14 +24,19 @@ pub record IsItemOf (f : ItemForm) (ts rest : List TokenTree) : Type 0 where
 -- the tokens are these items and the rest
 pub data AreItems : List ItemForm → List TokenTree → List TokenTree → Type 0 where
   No_item : (ts : List TokenTree) → AreItems [] ts ts
-  Item : (f : ItemForm) (fs : List ItemForm) (ts more rest : List TokenTree) → IsItemOf f ts more → AreItems fs more rest → AreItems (f ∷ fs) ts rest
+  Item : (f : ItemForm) (fs : List ItemForm) (ts more rest : List TokenTree) → IsItemOf f ts more
+      → AreItems fs more rest → AreItems (f ∷ fs) ts rest
 
 abbrev pub header_tokens : List ℕ → PortForm → List PortForm → List TokenTree
-header_tokens n first more = Word Module ∷ Name n ∷ Mark Open ∷ (port_tokens first ++ (comma_tokens port_tokens more ++ Mark Close ∷ Mark Semicolon ∷ []))
+header_tokens n first more =
+    Word Module ∷ Name n ∷ Mark Open ∷ (port_tokens first
+    ++ (comma_tokens port_tokens more ++ Mark Close ∷ Mark Semicolon ∷ []))
 
 -- the tokens do not begin with a header
 abbrev pub IsBadHeader : List TokenTree → Type 0
-IsBadHeader ts = (n : List ℕ) (first : PortForm) (more : List PortForm) (rest : List TokenTree) → ts ≡ header_tokens n first more ++ rest → ⊥
+IsBadHeader ts =
+    (n : List ℕ) (first : PortForm) (more : List PortForm) (rest : List TokenTree) → ts ≡ header_tokens n first more
+    ++ rest → ⊥
 
 -- a header and k items are there, and then neither an item nor an `endmodule` that is the last token
 pub record IsBadItem (ts : List TokenTree) (k : ℕ) : Type 0 where

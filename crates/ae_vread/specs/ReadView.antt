@@ -40,6 +40,7 @@ Goes view go_on last x true read = read ≡ go_on (view x)
 Goes view go_on last x false read = read ≡ Some (last (view x))
 
 -- with what a list goes on, or that it ends
-abbrev pub Continues : {X P Q : Type 0} → (X → P) → (P → Option Q) → (P → Q) → Result (X × Bool) ReadFault → Option Q → Type 0
+abbrev pub Continues : {X P Q : Type 0} → (X → P) → (P → Option Q) → (P → Q) → Result (X × Bool) ReadFault → Option Q
+    → Type 0
 Continues view go_on last (Ok x) read = Goes view go_on last x.0 x.1 read
 Continues view go_on last (Err e) read = Fails e read

@@ -80,7 +80,8 @@ closed x = after_mark Close x.rest >>= λ ts. deeper x.depth >>= λ k. Some (fou
 -- behind a name, a bracket and a number: the end, or a colon and a second number
 abbrev pub placed : List ℕ → ℕ → List TokenTree → Option (List TokenTree) → Option Found
 placed n k ts None = after_mark CloseBracket ts >>= λ us. Some (found (index n (place k)) 2 us)
-placed n k ts (Some us) = first_number us >>= λ l. after_mark CloseBracket l.1 >>= λ vs. Some (found (part n k l.0) 2 vs)
+placed n k ts (Some us) =
+    first_number us >>= λ l. after_mark CloseBracket l.1 >>= λ vs. Some (found (part n k l.0) 2 vs)
 
 abbrev pub indexed : List ℕ → Found → Option Found
 indexed n x = after_mark CloseBracket x.rest >>= λ ts. deeper x.depth >>= λ k. Some (found (index n x.tree) k ts)
@@ -177,7 +178,8 @@ operators read zero least x = None
 operators read (suc k) least x = after_operator read (operators read k least) x (infix_at least x.rest)
 
 abbrev pub chosen_of : Found → Found → Found → Option Found
-chosen_of x a b = deeper (max x.depth (max a.depth b.depth)) >>= λ k. Some (found (choice x.tree a.tree b.tree) k b.rest)
+chosen_of x a b =
+    deeper (max x.depth (max a.depth b.depth)) >>= λ k. Some (found (choice x.tree a.tree b.tree) k b.rest)
 
 abbrev pub by_question : Reader → Found → Option (List TokenTree) → Option Found
 by_question read x None = Some x

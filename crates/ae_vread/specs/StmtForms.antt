@@ -55,11 +55,14 @@ test_tokens test = Word If ∷ Mark Open ∷ (expr_tokens test ++ Mark Close ∷
 abbrev pub stmt_tokens : StmtForm → List TokenTree
 stmt_tokens (SetForm n value) = Name n ∷ Mark AtMost ∷ (expr_tokens value ++ Mark Semicolon ∷ [])
 stmt_tokens (PutPlaceForm n k value) =
-    Name n ∷ Mark OpenBracket ∷ number_token k ∷ Mark CloseBracket ∷ Mark AtMost ∷ (expr_tokens value ++ Mark Semicolon ∷ [])
+    Name n ∷ Mark OpenBracket ∷ number_token k ∷ Mark CloseBracket ∷ Mark AtMost
+    ∷ (expr_tokens value ++ Mark Semicolon ∷ [])
 stmt_tokens (PutForm n at value) =
-    Name n ∷ Mark OpenBracket ∷ (expr_tokens at ++ Mark CloseBracket ∷ Mark AtMost ∷ (expr_tokens value ++ Mark Semicolon ∷ []))
+    Name n ∷ Mark OpenBracket ∷ (expr_tokens at ++ Mark CloseBracket ∷ Mark AtMost
+    ∷ (expr_tokens value ++ Mark Semicolon ∷ []))
 stmt_tokens (IfForm test then) = test_tokens test ++ stmt_tokens then
-stmt_tokens (IfElseForm test then otherwise) = test_tokens test ++ (stmt_tokens then ++ Word Else ∷ stmt_tokens otherwise)
+stmt_tokens (IfElseForm test then otherwise) =
+    test_tokens test ++ (stmt_tokens then ++ Word Else ∷ stmt_tokens otherwise)
 stmt_tokens (BlockForm body) = Word Begin ∷ (stmt_tokens body ++ Word End ∷ [])
 stmt_tokens NoMore = []
 stmt_tokens (More first body) = stmt_tokens first ++ stmt_tokens body

@@ -61,7 +61,8 @@ abbrev pub test_then : List TokenTree → Option Found
 test_then ts = after_mark Open ts >>= value_then Close
 
 abbrev pub either_of : Found → StmtFound → StmtFound → Option StmtFound
-either_of x y z = deeper (max x.depth (max y.depth z.depth)) >>= λ k. Some (stmt_found (either x.tree y.tree z.tree) k z.rest)
+either_of x y z =
+    deeper (max x.depth (max y.depth z.depth)) >>= λ k. Some (stmt_found (either x.tree y.tree z.tree) k z.rest)
 
 abbrev pub alone_of : Found → StmtFound → Option StmtFound
 alone_of x y = deeper (max x.depth y.depth) >>= λ k. Some (stmt_found (when x.tree y.tree) k y.rest)

@@ -58,4 +58,5 @@ item_tree (Assign drives) = assigns (map drive_tree drives.items)
 item_tree (Always clock body) = always (string_bytes clock) (stmt_tree body.value)
 
 abbrev pub module_tree : VModule → ModuleTree
-module_tree m = record { name = string_bytes m.name; nets = map net_tree m.nets.items; items = map item_tree m.items.items }
+module_tree m =
+    record { name = string_bytes m.name; nets = map net_tree m.nets.items; items = map item_tree m.items.items }

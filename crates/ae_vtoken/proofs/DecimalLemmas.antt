@@ -17,9 +17,11 @@ use Rattle.ae_vtoken.specs.Tokens.{is_word_start, number_from, decimal_of, token
 pub capped_step : (v w d : ℕ) → v ≡ min w 4294967295 → min (v * 10 + d) 4294967295 ≡ min (w * 10 + d) 4294967295
 capped_step v w d h = omega (arith, h)
 
-pub capped_more : (ds : List ℕ) (i v d : ℕ) → i < length ds → digit_value (get_or ds i 0) ≡ d → v ≡ min (digits_value 10 (take i ds)) 4294967295 → min (v * 10 + d) 4294967295 ≡ min (digits_value 10 (take (i + 1) ds)) 4294967295
+pub capped_more : (ds : List ℕ) (i v d : ℕ) → i < length ds → digit_value (get_or ds i 0) ≡ d → v ≡ min (digits_value 10 (take i ds)) 4294967295
+    → min (v * 10 + d) 4294967295 ≡ min (digits_value 10 (take (i + 1) ds)) 4294967295
 capped_more ds i v d within digit h =
-    capped_step v (digits_value 10 (take i ds)) d h ∙ ap (λ n. min n 4294967295) (ap (λ k. digits_value 10 (take i ds) * 10 + k) (sym digit) ∙ sym (digits_value_more 10 ds i within))
+    capped_step v (digits_value 10 (take i ds)) d h ∙ ap (λ n. min n 4294967295)
+    (ap (λ k. digits_value 10 (take i ds) * 10 + k) (sym digit) ∙ sym (digits_value_more 10 ds i within))
 
 -- digits in front are taken over
 pub digits_then : (ds xs rest : List ℕ) → list_all is_ascii_digit xs ≡ true → number_from ds (xs ++ rest) ≡ number_from (ds ++ xs) rest
@@ -32,7 +34,8 @@ pub number_token : (b : ℕ) (bs : List ℕ) → is_word_start b ≡ false → i
 unfolding token_of
 number_token b bs letter digit = cond-false _ _ _ letter ∙ cond-true _ _ _ digit
 
-pub decimal_token : (b : ℕ) (xs : List ℕ) → is_word_start b ≡ false → is_ascii_digit b ≡ true → list_all is_ascii_digit xs ≡ true → token_of (b ∷ xs) ≡ Some (decimal_of (b ∷ xs))
+pub decimal_token : (b : ℕ) (xs : List ℕ) → is_word_start b ≡ false → is_ascii_digit b ≡ true → list_all is_ascii_digit xs ≡ true
+    → token_of (b ∷ xs) ≡ Some (decimal_of (b ∷ xs))
 decimal_token b xs letter digit all =
     ap (λ l. token_of (b ∷ l)) (sym (append-nil xs)) ∙ number_token b (xs ++ []) letter digit ∙ digits_then (b ∷ []) xs [] all
 
@@ -41,7 +44,8 @@ none_some None e some = cc
 none_some (Some x) e some = cc
 
 -- a decimal ends where neither a digit nor a quote stands
-pub decimal_ends : (b : ℕ) (xs rest : List ℕ) → is_word_start b ≡ false → is_ascii_digit b ≡ true → list_all is_ascii_digit xs ≡ true → ((c : ℕ) (more : List ℕ) → rest ≡ c ∷ more → (is_ascii_digit c ≡ false) × ((c == 39) ≡ false)) → IsLongest (b ∷ xs) rest
+pub decimal_ends : (b : ℕ) (xs rest : List ℕ) → is_word_start b ≡ false → is_ascii_digit b ≡ true → list_all is_ascii_digit xs ≡ true
+    → ((c : ℕ) (more : List ℕ) → rest ≡ c ∷ more → (is_ascii_digit c ≡ false) × ((c == 39) ≡ false)) → IsLongest (b ∷ xs) rest
 decimal_ends b xs rest letter digit all ends [] after e some = refl
 decimal_ends b xs rest letter digit all ends (c ∷ more) after e some =
     let here = ends c (more ++ after) e in
@@ -61,7 +65,8 @@ digit_is c h =
     let high = leb-true c 57 parts.1 in
     cond-false _ _ _ (le-ltb c 48 low) ∙ cond-true _ _ _ (lt-ltb c 58 (omega (arith, high)))
 
-rest_front : (text : List ℕ) (to : ℕ) → (to < length text → (is_ascii_digit (get_or text to 0) ≡ false) × ((get_or text to 0 == 39) ≡ false)) → (c : ℕ) (more : List ℕ) → drop to text ≡ c ∷ more → (is_ascii_digit c ≡ false) × ((c == 39) ≡ false)
+rest_front : (text : List ℕ) (to : ℕ) → (to < length text → (is_ascii_digit (get_or text to 0) ≡ false) × ((get_or text to 0 == 39) ≡ false))
+    → (c : ℕ) (more : List ℕ) → drop to text ≡ c ∷ more → (is_ascii_digit c ≡ false) × ((c == 39) ≡ false)
 rest_front text to ends c more e =
     let size : length text - to ≡ suc (length more) = sym (length-drop to text) ∙ ap length e in
     let within : to < length text = omega (arith, size) in
@@ -70,7 +75,10 @@ rest_front text to ends c more e =
     subst (λ c. (is_ascii_digit c ≡ false) × ((c == 39) ≡ false)) same (ends within)
 
 -- a decimal stands here
-pub decimal_at : (text : List ℕ) (from to : ℕ) → from < length text → from + 1 ≤ to → to ≤ length text → is_word_start (get_or text from 0) ≡ false → is_ascii_digit (get_or text from 0) ≡ true → list_all is_ascii_digit (take (to - (from + 1)) (drop (from + 1) text)) ≡ true → (to < length text → (is_ascii_digit (get_or text to 0) ≡ false) × ((get_or text to 0 == 39) ≡ false)) → TokenAt text from to (decimal_of (take (to - from) (drop from text)))
+pub decimal_at : (text : List ℕ) (from to : ℕ) → from < length text → from + 1 ≤ to → to ≤ length text → is_word_start (get_or text from 0) ≡ false
+    → is_ascii_digit (get_or text from 0) ≡ true → list_all is_ascii_digit (take (to - (from + 1)) (drop (from + 1) text)) ≡ true
+    → (to < length text → (is_ascii_digit (get_or text to 0) ≡ false) × ((get_or text to 0 == 39) ≡ false))
+    → TokenAt text from to (decimal_of (take (to - from) (drop from text)))
 decimal_at text from to within past end letter digit all ends =
     let b : ℕ = get_or text from 0 in
     let bs : List ℕ = take (to - (from + 1)) (drop (from + 1) text) in
@@ -82,6 +90,7 @@ decimal_at text from to within past end letter digit all ends =
       longest = subst (λ p. IsLongest p (drop to text)) (sym piece) (decimal_ends b bs (drop to text) letter digit all (rest_front text to ends));
     }
 
-pub all_digits : (text : List ℕ) (from to : ℕ) → from < length text → from + 1 ≤ to → is_ascii_digit (get_or text from 0) ≡ true → list_all is_ascii_digit (take (to - (from + 1)) (drop (from + 1) text)) ≡ true → list_all is_ascii_digit (take (to - from) (drop from text)) ≡ true
+pub all_digits : (text : List ℕ) (from to : ℕ) → from < length text → from + 1 ≤ to → is_ascii_digit (get_or text from 0) ≡ true
+    → list_all is_ascii_digit (take (to - (from + 1)) (drop (from + 1) text)) ≡ true → list_all is_ascii_digit (take (to - from) (drop from text)) ≡ true
 all_digits text from to within past digit all =
     ap (list_all is_ascii_digit) (piece_cons text from to within past) ∙ and_from _ _ digit all

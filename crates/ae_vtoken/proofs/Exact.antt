@@ -7,12 +7,14 @@ use Rattle.ae_vtoken.specs.declared.scan.TokenFault.{TokenFault}
 use Rattle.ae_vtoken.specs.declared.scan.TokenFault.TheVariants.{BadToken, Memory}
 use Rattle.ae_vtoken.proofs.OneList.{one_list, not_both, one_place}
 
-pub gives_tokens : {X : Type 0} (view : X → List TokenTree) (text : List ℕ) (ts : List TokenTree) (r : Result X TokenFault) → IfOk r (λ x. AreTokens text (view x)) → FaultIs text r → AreTokens text ts → GivesTokens view ts r
+pub gives_tokens : {X : Type 0} (view : X → List TokenTree) (text : List ℕ) (ts : List TokenTree) (r : Result X TokenFault)
+    → IfOk r (λ x. AreTokens text (view x)) → FaultIs text r → AreTokens text ts → GivesTokens view ts r
 gives_tokens view text ts (Ok x) ok fault are = one_list (view x) ts text text refl ok are
 gives_tokens view text ts (Err (BadToken at)) ok fault are = not_both text ts at are fault
 gives_tokens view text ts (Err Memory) ok fault are = tt
 
-pub gives_place : {X : Type 0} (view : X → List TokenTree) (text : List ℕ) (at : ℕ) (r : Result X TokenFault) → IfOk r (λ x. AreTokens text (view x)) → FaultIs text r → IsBadToken text at → GivesPlace at r
+pub gives_place : {X : Type 0} (view : X → List TokenTree) (text : List ℕ) (at : ℕ) (r : Result X TokenFault) → IfOk r (λ x. AreTokens text (view x))
+    → FaultIs text r → IsBadToken text at → GivesPlace at r
 gives_place view text at (Ok x) ok fault bad = not_both text (view x) at ok bad
 gives_place view text at (Err (BadToken other)) ok fault bad = one_place text other at fault bad
 gives_place view text at (Err Memory) ok fault bad = tt

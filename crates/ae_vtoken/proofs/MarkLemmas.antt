@@ -12,7 +12,8 @@ use Rattle.ae_vtoken.specs.Tokens.{Mark, is_word_start, token_of, look_up, IsLon
 use Rattle.ae_vtoken.specs.Tables.{signs}
 use Rattle.ae_vtoken.specs.Scan.{TokenAt, sign_in_front}
 
-of_key : {X : Type 0} (q : List ℕ → Bool) (bs : List ℕ) (table : List (List ℕ × X)) (x : X) → look_up bs table ≡ Some x → list_all (λ e. q e.0) table ≡ true → q bs ≡ true
+of_key : {X : Type 0} (q : List ℕ → Bool) (bs : List ℕ) (table : List (List ℕ × X)) (x : X) → look_up bs table ≡ Some x → list_all (λ e. q e.0) table ≡ true
+    → q bs ≡ true
 of_key q bs [] x h all = cc
 of_key q bs (e ∷ es) x h all =
     let parts = and_parts (q e.0) (list_all (λ e. q e.0) es) all in
@@ -60,7 +61,8 @@ two_longest b c rest other (d ∷ more) after e some = absurd (none_some _ (no_t
 
 one_longest : (b : ℕ) (rest : List ℕ) → IsOther b → sign_in_front 2 (b ∷ rest) ≡ None → IsLongest (b ∷ []) rest
 one_longest b rest other none [] after e some = refl
-one_longest b rest other none (c ∷ d ∷ more) after e some = absurd (none_some _ (no_token b (c ∷ d ∷ more) other (long_sign (b ∷ c ∷ d ∷ more) (omega arith))) some)
+one_longest b rest other none (c ∷ d ∷ more) after e some =
+    absurd (none_some _ (no_token b (c ∷ d ∷ more) other (long_sign (b ∷ c ∷ d ∷ more) (omega arith))) some)
 one_longest b rest other none (c ∷ []) after e some =
     let none' : sign_in_front 2 (b ∷ c ∷ after) ≡ None = subst (λ l. sign_in_front 2 (b ∷ l) ≡ None) e none in
     absurd (none_some _ (no_token b (c ∷ []) other (no_sign_here 2 (b ∷ c ∷ after) none' (omega arith))) some)
@@ -81,12 +83,15 @@ none_front b rest other two one (x ∷ c ∷ d ∷ more) after e =
     no_token x (c ∷ d ∷ more) (subst IsOther head other) (long_sign (x ∷ c ∷ d ∷ more) (omega arith))
 
 -- the same at a place
-pub no_sign : (text : List ℕ) (from : ℕ) → from < length text → IsOther (get_or text from 0) → sign_in_front 2 (drop from text) ≡ None → sign_in_front 1 (drop from text) ≡ None → NoToken (drop from text)
+pub no_sign : (text : List ℕ) (from : ℕ) → from < length text → IsOther (get_or text from 0) → sign_in_front 2 (drop from text) ≡ None
+    → sign_in_front 1 (drop from text) ≡ None → NoToken (drop from text)
 no_sign text from within other two one =
     let front = drop_more text from 0 within in
-    subst NoToken (sym front) (none_front (get_or text from 0) (drop (from + 1) text) other (subst (λ l. sign_in_front 2 l ≡ None) front two) (subst (λ l. sign_in_front 1 l ≡ None) front one))
+    subst NoToken (sym front) (none_front (get_or text from 0) (drop (from + 1) text) other (subst (λ l. sign_in_front 2 l ≡ None) front two)
+    (subst (λ l. sign_in_front 1 l ≡ None) front one))
 
-pub one_sign : (text : List ℕ) (from : ℕ) (s : Sign) → from < length text → IsOther (get_or text from 0) → sign_in_front 2 (drop from text) ≡ None → sign_in_front 1 (drop from text) ≡ Some s → TokenAt text from (from + 1) (Mark s)
+pub one_sign : (text : List ℕ) (from : ℕ) (s : Sign) → from < length text → IsOther (get_or text from 0) → sign_in_front 2 (drop from text) ≡ None
+    → sign_in_front 1 (drop from text) ≡ Some s → TokenAt text from (from + 1) (Mark s)
 one_sign text from s within other two one =
     let front = drop_more text from 0 within in
     let b : ℕ = get_or text from 0 in
@@ -97,10 +102,12 @@ one_sign text from s within other two one =
       past = omega arith;
       within = omega (arith, within);
       token = ap token_of piece ∙ sign_token b [] other ∙ ap (option_map Mark) sign;
-      longest = subst (λ p. IsLongest p (drop (from + 1) text)) (sym piece) (one_longest b (drop (from + 1) text) other (subst (λ l. sign_in_front 2 l ≡ None) front two));
+      longest = subst (λ p. IsLongest p (drop (from + 1) text)) (sym piece)
+          (one_longest b (drop (from + 1) text) other (subst (λ l. sign_in_front 2 l ≡ None) front two));
     }
 
-pub two_sign : (text : List ℕ) (from : ℕ) (s : Sign) → from < length text → IsOther (get_or text from 0) → sign_in_front 2 (drop from text) ≡ Some s → TokenAt text from (from + 2) (Mark s)
+pub two_sign : (text : List ℕ) (from : ℕ) (s : Sign) → from < length text → IsOther (get_or text from 0) → sign_in_front 2 (drop from text) ≡ Some s
+    → TokenAt text from (from + 2) (Mark s)
 two_sign text from s within other two =
     let here = sign_here 2 (drop from text) s two in
     let room : from + 1 < length text = omega (arith, here.0, length-drop from text) in

@@ -73,7 +73,8 @@ no_token_there b bs piece rest text t gap none begins =
 
 not_both_at : (ts : List TokenTree) (bad text other : List ℕ) → text ≡ other → AreTokens text ts → Stuck other bad → ⊥
 not_both_at _ _ text other same (No_more a h) (Here o b bs gap none) = let e : [] ≡ b ∷ bs = sym h ∙ ap (after_gap Between) same ∙ gap in cc
-not_both_at _ _ text other same (No_more a h) (Later o piece rest bad t begins k) = no_empty_beginning o piece rest t begins (ap (after_gap Between) (sym same) ∙ h)
+not_both_at _ _ text other same (No_more a h) (Later o piece rest bad t begins k) =
+    no_empty_beginning o piece rest t begins (ap (after_gap Between) (sym same) ∙ h)
 not_both_at _ _ text other same (Then a p r t ts begins h) (Here o b bs gap none) = no_token_there b bs p r a t (ap (after_gap Between) same ∙ gap) none begins
 not_both_at _ _ text other same (Then a p r t ts begins h) (Later o q s bad u begins' k) =
     let both = one_beginning o p r q s t u (subst (λ text. BeginsWith text p r t) same begins) begins' in
@@ -85,8 +86,10 @@ not_both text ts at h bad = not_both_at ts (drop at text) text text refl h bad.s
 -- and one bad byte
 one_stuck : (bad worse text other : List ℕ) → text ≡ other → Stuck text bad → Stuck other worse → bad ≡ worse
 one_stuck _ _ text other same (Here a b bs gap none) (Here o c cs gap' none') = sym gap ∙ ap (after_gap Between) same ∙ gap'
-one_stuck _ _ text other same (Here a b bs gap none) (Later o p r worse t begins k) = absurd (no_token_there b bs p r o t (ap (after_gap Between) (sym same) ∙ gap) none begins)
-one_stuck _ _ text other same (Later a p r bad t begins h) (Here o b bs gap none) = absurd (no_token_there b bs p r a t (ap (after_gap Between) same ∙ gap) none begins)
+one_stuck _ _ text other same (Here a b bs gap none) (Later o p r worse t begins k) =
+    absurd (no_token_there b bs p r o t (ap (after_gap Between) (sym same) ∙ gap) none begins)
+one_stuck _ _ text other same (Later a p r bad t begins h) (Here o b bs gap none) =
+    absurd (no_token_there b bs p r a t (ap (after_gap Between) same ∙ gap) none begins)
 one_stuck _ _ text other same (Later a p r bad t begins h) (Later o q s worse u begins' k) =
     let both = one_beginning o p r q s t u (subst (λ text. BeginsWith text p r t) same begins) begins' in
     one_stuck bad worse r s both.1 h k

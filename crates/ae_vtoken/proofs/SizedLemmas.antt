@@ -43,7 +43,8 @@ pub no_sized_end : (size : List ℕ) → NoSized size []
 no_sized_end size [] after e = refl
 no_sized_end size (k ∷ ds) after e = cc
 
-pub no_sized_digit : (size : List ℕ) (k : ℕ) (rest : List ℕ) → ((c : ℕ) (more : List ℕ) → rest ≡ c ∷ more → nat_lt (digit_value c) (base_of k) ≡ false) → NoSized size (k ∷ rest)
+pub no_sized_digit : (size : List ℕ) (k : ℕ) (rest : List ℕ) → ((c : ℕ) (more : List ℕ) → rest ≡ c ∷ more → nat_lt (digit_value c) (base_of k) ≡ false)
+    → NoSized size (k ∷ rest)
 no_sized_digit size k rest h [] after e = refl
 no_sized_digit size k rest h (x ∷ []) after e = no_digits size x [] refl
 no_sized_digit size k rest h (x ∷ d ∷ ds) after e =
@@ -53,11 +54,13 @@ no_sized_digit size k rest h (x ∷ d ∷ ds) after e =
     no_digits size x (d ∷ ds) (left_false (nat_lt (digit_value d) (base_of x)) (list_all (λ c. (c == 95) || nat_lt (digit_value c) (base_of x)) ds) small)
 
 -- a decimal ends where no digit stands, and no quote that makes a constant
-pub decimal_ends_there : (b : ℕ) (xs rest : List ℕ) → is_word_start b ≡ false → is_ascii_digit b ≡ true → list_all is_ascii_digit xs ≡ true → ((c : ℕ) (more : List ℕ) → rest ≡ c ∷ more → (is_ascii_digit c ≡ false) × (((c == 39) ≡ false) ⊎ NoSized (b ∷ xs) more)) → IsLongest (b ∷ xs) rest
+pub decimal_ends_there : (b : ℕ) (xs rest : List ℕ) → is_word_start b ≡ false → is_ascii_digit b ≡ true → list_all is_ascii_digit xs ≡ true
+    → ((c : ℕ) (more : List ℕ) → rest ≡ c ∷ more → (is_ascii_digit c ≡ false) × (((c == 39) ≡ false) ⊎ NoSized (b ∷ xs) more)) → IsLongest (b ∷ xs) rest
 decimal_ends_there b xs rest letter digit all ends [] after e some = refl
 decimal_ends_there b xs rest letter digit all ends (c ∷ more) after e some =
     let here = ends c (more ++ after) e in
-    absurd (none_some _ (number_token b (xs ++ c ∷ more) letter digit ∙ digits_then (b ∷ []) xs (c ∷ more) all ∙ cond-false _ _ _ here.0 ∙ past_quote here.1) some)
+    absurd (none_some _ (number_token b (xs ++ c ∷ more) letter digit ∙ digits_then (b ∷ []) xs (c ∷ more) all ∙ cond-false _ _ _ here.0 ∙ past_quote here.1)
+    some)
   where
     past_quote : (((c == 39) ≡ false) ⊎ NoSized (b ∷ xs) (more ++ after)) → cond (c == 39) (sized_of (b ∷ xs) more) None ≡ None
     past_quote (inl none) = cond-false _ _ _ none
@@ -67,29 +70,38 @@ decimal_ends_there b xs rest letter digit all ends (c ∷ more) after e some =
     ]
 
 -- a constant
-pub sized_token : (b : ℕ) (xs : List ℕ) (k : ℕ) (ds : List ℕ) → is_word_start b ≡ false → is_ascii_digit b ≡ true → list_all is_ascii_digit xs ≡ true → starts_with nat_eq (b ∷ xs) (codes "0") ≡ false → are_digits (base_of k) ds ≡ true → token_of (b ∷ xs ++ 39 ∷ k ∷ ds) ≡ Some (constant (digits_value 10 (b ∷ xs)) (digits_value (base_of k) (filter (λ c. not (c == 95)) ds)))
+pub sized_token : (b : ℕ) (xs : List ℕ) (k : ℕ) (ds : List ℕ) → is_word_start b ≡ false → is_ascii_digit b ≡ true → list_all is_ascii_digit xs ≡ true
+    → starts_with nat_eq (b ∷ xs) (codes "0") ≡ false → are_digits (base_of k) ds ≡ true
+    → token_of (b ∷ xs ++ 39 ∷ k ∷ ds) ≡ Some (constant (digits_value 10 (b ∷ xs)) (digits_value (base_of k) (filter (λ c. not (c == 95)) ds)))
 sized_token b xs k ds letter digit all size digits =
-    number_token b (xs ++ 39 ∷ k ∷ ds) letter digit ∙ digits_then (b ∷ []) xs (39 ∷ k ∷ ds) all ∙ cond-true _ _ _ (ap (λ t. not t && are_digits (base_of k) ds) size ∙ digits)
+    number_token b (xs ++ 39 ∷ k ∷ ds) letter digit ∙ digits_then (b ∷ []) xs (39 ∷ k ∷ ds) all ∙
+    cond-true _ _ _ (ap (λ t. not t && are_digits (base_of k) ds) size ∙ digits)
 
 -- and where it ends
-pub sized_ends : (b : ℕ) (xs : List ℕ) (k d : ℕ) (ds rest : List ℕ) → is_word_start b ≡ false → is_ascii_digit b ≡ true → list_all is_ascii_digit xs ≡ true → ((c : ℕ) (more : List ℕ) → rest ≡ c ∷ more → ((c == 95) || nat_lt (digit_value c) (base_of k)) ≡ false) → IsLongest (b ∷ xs ++ 39 ∷ k ∷ d ∷ ds) rest
+pub sized_ends : (b : ℕ) (xs : List ℕ) (k d : ℕ) (ds rest : List ℕ) → is_word_start b ≡ false → is_ascii_digit b ≡ true → list_all is_ascii_digit xs ≡ true
+    → ((c : ℕ) (more : List ℕ) → rest ≡ c ∷ more → ((c == 95) || nat_lt (digit_value c) (base_of k)) ≡ false) → IsLongest (b ∷ xs ++ 39 ∷ k ∷ d ∷ ds) rest
 sized_ends b xs k d ds rest letter digit all ends [] after e some = refl
 sized_ends b xs k d ds rest letter digit all ends (c ∷ more) after e some =
     let q : ℕ → Bool = λ c. (c == 95) || nat_lt (digit_value c) (base_of k) in
-    let tail : list_all q (ds ++ (c ∷ more)) ≡ false = list_all-append q ds (c ∷ more) ∙ right_false (list_all q ds) (q c && list_all q more) (left_false (q c) (list_all q more) (ends c (more ++ after) e)) in
-    let digits : are_digits (base_of k) (d ∷ (ds ++ (c ∷ more))) ≡ false = right_false (nat_lt (digit_value d) (base_of k)) (list_all q (ds ++ (c ∷ more))) tail in
+    let tail : list_all q (ds ++ (c ∷ more)) ≡ false = list_all-append q ds (c ∷ more) ∙
+    right_false (list_all q ds) (q c && list_all q more) (left_false (q c) (list_all q more) (ends c (more ++ after) e)) in
+    let digits : are_digits (base_of k) (d ∷ (ds ++ (c ∷ more))) ≡ false = right_false (nat_lt (digit_value d) (base_of k))
+    (list_all q (ds ++ (c ∷ more))) tail in
     let longer : List ℕ = 39 ∷ k ∷ d ∷ (ds ++ (c ∷ more)) in
     let apart : b ∷ ((xs ++ (39 ∷ k ∷ d ∷ ds)) ++ (c ∷ more)) ≡ b ∷ (xs ++ longer) = ap (λ l. b ∷ l) (append_assoc xs (39 ∷ k ∷ d ∷ ds) (c ∷ more)) in
-    absurd (none_some _ (ap token_of apart ∙ number_token b (xs ++ longer) letter digit ∙ digits_then (b ∷ []) xs longer all ∙ no_digits (b ∷ xs) k (d ∷ (ds ++ (c ∷ more))) digits) some)
+    absurd (none_some _ (ap token_of apart ∙ number_token b (xs ++ longer) letter digit ∙ digits_then (b ∷ []) xs longer all ∙
+    no_digits (b ∷ xs) k (d ∷ (ds ++ (c ∷ more))) digits) some)
 
 -- the same at a place
 pub no_sized_short : (text : List ℕ) (at : ℕ) → length text ≤ at + 1 → (size : List ℕ) → NoSized size (drop at text)
 no_sized_short text at short size = elim (cases_lt at (length text)) [
-  | inl within ↦ subst (NoSized size) (sym (drop_more text at 0 within ∙ ap (λ l. get_or text at 0 ∷ l) (drop_past text (at + 1) short))) (no_sized_digit size (get_or text at 0) [] (λ c more e. cc))
+  | inl within ↦ subst (NoSized size) (sym (drop_more text at 0 within ∙ ap (λ l. get_or text at 0 ∷ l) (drop_past text (at + 1) short)))
+      (no_sized_digit size (get_or text at 0) [] (λ c more e. cc))
   | inr past ↦ subst (NoSized size) (sym (drop_past text at past)) (no_sized_end size)
 ]
 
-pub no_sized_at : (text : List ℕ) (at : ℕ) → at + 1 < length text → nat_lt (digit_value (get_or text (at + 1) 0)) (base_of (get_or text at 0)) ≡ false → (size : List ℕ) → NoSized size (drop at text)
+pub no_sized_at : (text : List ℕ) (at : ℕ) → at + 1 < length text → nat_lt (digit_value (get_or text (at + 1) 0)) (base_of (get_or text at 0)) ≡ false
+    → (size : List ℕ) → NoSized size (drop at text)
 no_sized_at text at within small size =
     let first : (c : ℕ) (more : List ℕ) → drop (at + 1) text ≡ c ∷ more → nat_lt (digit_value c) (base_of (get_or text at 0)) ≡ false =
     λ c more e. let front : get_or text (at + 1) 0 ∷ drop (at + 1 + 1) text ≡ c ∷ more = sym (drop_more text (at + 1) 0 within) ∙ e in
@@ -97,12 +109,18 @@ no_sized_at text at within small size =
     subst (λ c. nat_lt (digit_value c) (base_of (get_or text at 0)) ≡ false) same small in
     subst (NoSized size) (sym (drop_more text at 0 (omega (arith, within)))) (no_sized_digit size (get_or text at 0) (drop (at + 1) text) first)
 
-pub zero_size : (text : List ℕ) (from to : ℕ) → from < to → to ≤ length text → get_or text from 0 ≡ 48 → (rest : List ℕ) → NoSized (take (to - from) (drop from text)) rest
+pub zero_size : (text : List ℕ) (from to : ℕ) → from < to → to ≤ length text → get_or text from 0 ≡ 48 → (rest : List ℕ)
+    → NoSized (take (to - from) (drop from text)) rest
 zero_size text from to past end first rest =
     let piece = piece_cons text from to (omega (arith, past, end)) (omega (arith, past)) in
-    subst (λ p. NoSized p rest) (sym piece) (subst (λ b. NoSized (b ∷ take (to - (from + 1)) (drop (from + 1) text)) rest) (sym first) (no_sized_zero (48 ∷ take (to - (from + 1)) (drop (from + 1) text)) rest refl))
+    subst (λ p. NoSized p rest) (sym piece) (subst (λ b. NoSized (b ∷ take (to - (from + 1)) (drop (from + 1) text)) rest) (sym first)
+    (no_sized_zero (48 ∷ take (to - (from + 1)) (drop (from + 1) text)) rest refl))
 
-pub decimal_there : (text : List ℕ) (from to : ℕ) → from < length text → from + 1 ≤ to → to ≤ length text → is_word_start (get_or text from 0) ≡ false → is_ascii_digit (get_or text from 0) ≡ true → list_all is_ascii_digit (take (to - (from + 1)) (drop (from + 1) text)) ≡ true → (to < length text → is_ascii_digit (get_or text to 0) ≡ false) → (to < length text → ((get_or text to 0 == 39) ≡ false) ⊎ NoSized (take (to - from) (drop from text)) (drop (to + 1) text)) → TokenAt text from to (decimal_of (take (to - from) (drop from text)))
+pub decimal_there : (text : List ℕ) (from to : ℕ) → from < length text → from + 1 ≤ to → to ≤ length text → is_word_start (get_or text from 0) ≡ false
+    → is_ascii_digit (get_or text from 0) ≡ true → list_all is_ascii_digit (take (to - (from + 1)) (drop (from + 1) text)) ≡ true
+    → (to < length text → is_ascii_digit (get_or text to 0) ≡ false)
+    → (to < length text → ((get_or text to 0 == 39) ≡ false) ⊎ NoSized (take (to - from) (drop from text)) (drop (to + 1) text))
+    → TokenAt text from to (decimal_of (take (to - from) (drop from text)))
 decimal_there text from to within past end letter digit all ends no_quote =
     let b : ℕ = get_or text from 0 in
     let bs : List ℕ = take (to - (from + 1)) (drop (from + 1) text) in
@@ -141,10 +159,13 @@ capped_digit v w b d m h = elim (cases_lt m w) [
     big zero past = omega arith
     big (suc b) past = omega arith
 
-pub based_more : (base m : ℕ) (ds : List ℕ) (i v w : ℕ) → i < length ds → v ≡ min (digits_value base (digits_of (take i ds))) m → ((get_or ds i 0 == 95) ≡ true → w ≡ v) → ((get_or ds i 0 == 95) ≡ false → w ≡ min (v * base + digit_value (get_or ds i 0)) m) → w ≡ min (digits_value base (digits_of (take (i + 1) ds))) m
+pub based_more : (base m : ℕ) (ds : List ℕ) (i v w : ℕ) → i < length ds → v ≡ min (digits_value base (digits_of (take i ds))) m
+    → ((get_or ds i 0 == 95) ≡ true → w ≡ v) → ((get_or ds i 0 == 95) ≡ false → w ≡ min (v * base + digit_value (get_or ds i 0)) m)
+    → w ≡ min (digits_value base (digits_of (take (i + 1) ds))) m
 based_more base m ds i v w within h kept grown =
     let c : ℕ = get_or ds i 0 in
-    let step : digits_of (take (i + 1) ds) ≡ digits_of (take i ds) ++ digits_of (c ∷ []) = ap digits_of (take_more ds i 0 within) ∙ filter-append (λ c. not (c == 95)) (take i ds) (c ∷ []) in
+    let step : digits_of (take (i + 1) ds) ≡ digits_of (take i ds) ++ digits_of (c ∷ []) = ap digits_of (take_more ds i 0 within) ∙
+    filter-append (λ c. not (c == 95)) (take i ds) (c ∷ []) in
     elim (cases_Bool (c == 95)) [
       | inl under ↦
           let none : digits_of (c ∷ []) ≡ [] = cond-false _ _ _ (ap not under) in
@@ -152,11 +173,17 @@ based_more base m ds i v w within h kept grown =
       | inr digit ↦
           let one : digits_of (c ∷ []) ≡ c ∷ [] = cond-true _ _ _ (ap not digit) in
           grown digit ∙ capped_digit v (digits_value base (digits_of (take i ds))) base (digit_value c) m h
-          ∙ ap (λ n. min n m) (sym (ap (digits_value base) (step ∙ ap (λ l. digits_of (take i ds) ++ l) one) ∙ digits_value_push base (digits_of (take i ds)) c))
+          ∙ ap (λ n. min n m) (sym (ap (digits_value base) (step ∙ ap (λ l. digits_of (take i ds) ++ l) one) ∙
+          digits_value_push base (digits_of (take i ds)) c))
     ]
 
 -- a constant stands here
-pub sized_here : (text : List ℕ) (from quote to : ℕ) → IsSizedAt text from quote → is_word_start (get_or text from 0) ≡ false → list_all is_ascii_digit (take (quote - from) (drop from text)) ≡ true → quote + 2 ≤ to → to ≤ length text → list_all (is_based (base_of (get_or text (quote + 1) 0))) (take (to - (quote + 2)) (drop (quote + 2) text)) ≡ true → (to < length text → is_based (base_of (get_or text (quote + 1) 0)) (get_or text to 0) ≡ false) → TokenAt text from to (constant (digits_value 10 (take (quote - from) (drop from text))) (digits_value (base_of (get_or text (quote + 1) 0)) (digits_of (take (to - (quote + 2)) (drop (quote + 2) text)))))
+pub sized_here : (text : List ℕ) (from quote to : ℕ) → IsSizedAt text from quote → is_word_start (get_or text from 0) ≡ false
+    → list_all is_ascii_digit (take (quote - from) (drop from text)) ≡ true → quote + 2 ≤ to → to ≤ length text
+    → list_all (is_based (base_of (get_or text (quote + 1) 0))) (take (to - (quote + 2)) (drop (quote + 2) text)) ≡ true
+    → (to < length text → is_based (base_of (get_or text (quote + 1) 0)) (get_or text to 0) ≡ false)
+    → TokenAt text from to (constant (digits_value 10 (take (quote - from) (drop from text)))
+    (digits_value (base_of (get_or text (quote + 1) 0)) (digits_of (take (to - (quote + 2)) (drop (quote + 2) text)))))
 sized_here text from quote to here letter digits past end based ends =
     let b : ℕ = get_or text from 0 in
     let k : ℕ = get_or text (quote + 1) 0 in
@@ -166,7 +193,8 @@ sized_here text from quote to here letter digits past end based ends =
     let before = here.past in
     let more : quote + 3 ≤ to = elim (cases_lt (quote + 2) to) [
       | inl more ↦ omega (arith, more)
-      | inr less ↦ let same : to ≡ quote + 2 = omega (arith, less, past) in absurd (both_ways _ (subst (λ n. is_based (base_of k) (get_or text n 0) ≡ false) same (ends (omega (arith, room, same)))) first)
+      | inr less ↦ let same : to ≡ quote + 2 = omega (arith, less, past) in
+          absurd (both_ways _ (subst (λ n. is_based (base_of k) (get_or text n 0) ≡ false) same (ends (omega (arith, room, same)))) first)
     ] in
     let xs : List ℕ = take (quote - (from + 1)) (drop (from + 1) text) in
     let ds : List ℕ = take (to - (quote + 2 + 1)) (drop (quote + 2 + 1) text) in
@@ -183,23 +211,32 @@ sized_here text from quote to here letter digits past end based ends =
     let whole : take (to - from) (drop from text) ≡ b ∷ xs ++ 39 ∷ k ∷ d ∷ ds =
     ap (λ n. take n (drop from text)) (let e : to - from ≡ (quote - from) + (to - quote) = omega (arith, before, more) in e)
     ∙ take-add (quote - from) (to - quote) (drop from text)
-    ∙ ap (λ l. take (quote - from) (drop from text) ++ take (to - quote) l) (drop-drop (quote - from) from text ∙ ap (λ n. drop n text) (let e : from + (quote - from) ≡ quote = omega (arith, before) in e))
+    ∙ ap (λ l. take (quote - from) (drop from text) ++ take (to - quote) l)
+    (drop-drop (quote - from) from text ∙ ap (λ n. drop n text) (let e : from + (quote - from) ≡ quote = omega (arith, before) in e))
     ∙ ap (λ l. take (quote - from) (drop from text) ++ l) behind
     ∙ ap (λ l. l ++ 39 ∷ k ∷ d ∷ ds) size_is in
     record {
       past = omega (arith, before, more);
       within = end;
       token = ap token_of whole
-          ∙ sized_token b xs k (d ∷ ds) letter size_digits.0 size_digits.1 (no_zero b xs here.size) (ap (λ t. t && list_all (is_based (base_of k)) ds) here.digit ∙ base_digits.1)
+          ∙ sized_token b xs k (d ∷ ds) letter size_digits.0 size_digits.1 (no_zero b xs here.size)
+          (ap (λ t. t && list_all (is_based (base_of k)) ds) here.digit ∙ base_digits.1)
           ∙ ap (λ l. Some (constant (digits_value 10 l) (digits_value (base_of k) (digits_of (d ∷ ds))))) (sym size_is)
           ∙ ap (λ l. Some (constant (digits_value 10 (take (quote - from) (drop from text))) (digits_value (base_of k) (digits_of l)))) (sym digits_are);
-      longest = subst (λ p. IsLongest p (drop to text)) (sym whole) (sized_ends b xs k d ds (drop to text) letter size_digits.0 size_digits.1 (front_fails (is_based (base_of k)) text to ends));
+      longest = subst (λ p. IsLongest p (drop to text)) (sym whole)
+          (sized_ends b xs k d ds (drop to text) letter size_digits.0 size_digits.1 (front_fails (is_based (base_of k)) text to ends));
     }
   where
     no_zero : (b : ℕ) (xs : List ℕ) → (b == 48) ≡ false → starts_with nat_eq (b ∷ xs) (codes "0") ≡ false
     no_zero b xs h = and_left _ _ (ne_eqb 48 b (λ e. both_ways _ h (eq-eqb b 48 (sym e))))
 
-pub sized_by : (text : List ℕ) (from quote to base : ℕ) → base ≡ base_of (get_or text (quote + 1) 0) → IsSizedAt text from quote → is_word_start (get_or text from 0) ≡ false → list_all is_ascii_digit (take (quote - from) (drop from text)) ≡ true → quote + 2 ≤ to → to ≤ length text → list_all (is_based base) (take (to - (quote + 2)) (drop (quote + 2) text)) ≡ true → (to < length text → is_based base (get_or text to 0) ≡ false) → TokenAt text from to (constant (digits_value 10 (take (quote - from) (drop from text))) (digits_value base (digits_of (take (to - (quote + 2)) (drop (quote + 2) text)))))
+pub sized_by : (text : List ℕ) (from quote to base : ℕ) → base ≡ base_of (get_or text (quote + 1) 0) → IsSizedAt text from quote
+    → is_word_start (get_or text from 0) ≡ false → list_all is_ascii_digit (take (quote - from) (drop from text)) ≡ true → quote + 2 ≤ to → to ≤ length text
+    → list_all (is_based base) (take (to - (quote + 2)) (drop (quote + 2) text)) ≡ true → (to < length text → is_based base (get_or text to 0) ≡ false)
+    → TokenAt text from to (constant (digits_value 10 (take (quote - from) (drop from text)))
+    (digits_value base (digits_of (take (to - (quote + 2)) (drop (quote + 2) text)))))
 sized_by text from quote to base same here letter digits past end based ends =
-    subst (λ n. list_all (is_based n) (take (to - (quote + 2)) (drop (quote + 2) text)) ≡ true → (to < length text → is_based n (get_or text to 0) ≡ false) → TokenAt text from to (constant (digits_value 10 (take (quote - from) (drop from text))) (digits_value n (digits_of (take (to - (quote + 2)) (drop (quote + 2) text))))))
+    subst (λ n. list_all (is_based n) (take (to - (quote + 2)) (drop (quote + 2) text)) ≡ true → (to < length text → is_based n (get_or text to 0) ≡ false)
+    → TokenAt text from to (constant (digits_value 10 (take (quote - from) (drop from text)))
+    (digits_value n (digits_of (take (to - (quote + 2)) (drop (quote + 2) text))))))
     (sym same) (sized_here text from quote to here letter digits past end) based ends

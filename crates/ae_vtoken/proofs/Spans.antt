@@ -12,7 +12,8 @@ use Rattle.std.proofs.Common.{zero, suc, inl, inr}
 use Rattle.std.proofs.lemmas.Bool.{and_parts, or_cases, leb-true, eqb-true}
 use Rattle.ae_vtoken.specs.Tokens.{is_word_start, is_word_byte}
 
-pub span_more : (q : ℕ → Bool) (text : List ℕ) (from i : ℕ) → from ≤ i → i < length text → list_all q (take (i - from) (drop from text)) ≡ true → q (get_or text i 0) ≡ true → list_all q (take (i + 1 - from) (drop from text)) ≡ true
+pub span_more : (q : ℕ → Bool) (text : List ℕ) (from i : ℕ) → from ≤ i → i < length text → list_all q (take (i - from) (drop from text)) ≡ true
+    → q (get_or text i 0) ≡ true → list_all q (take (i + 1 - from) (drop from text)) ≡ true
 span_more q text from i past within so_far here =
     let n : ℕ = i - from in
     let there : from + n ≡ i = omega (arith, past) in
@@ -22,7 +23,8 @@ span_more q text from i past within so_far here =
     ∙ list_all_more q (drop from text) n 0 inside
     ∙ and_from _ _ so_far (ap q (get_or-drop from text n 0 ∙ ap (λ k. get_or text k 0) there) ∙ here)
 
-pub word_more : (text : List ℕ) (from i : ℕ) → from ≤ i → i < length text → list_all is_word_byte (take (i - from) (drop from text)) ≡ true → is_word_byte (get_or text i 0) ≡ true → list_all is_word_byte (take (i + 1 - from) (drop from text)) ≡ true
+pub word_more : (text : List ℕ) (from i : ℕ) → from ≤ i → i < length text → list_all is_word_byte (take (i - from) (drop from text)) ≡ true
+    → is_word_byte (get_or text i 0) ≡ true → list_all is_word_byte (take (i + 1 - from) (drop from text)) ≡ true
 word_more = span_more is_word_byte
 
 -- the bytes of a word are ASCII
@@ -32,7 +34,11 @@ small_range low high b small h = let top = leb-true b high (and_parts (nat_le lo
 
 small_letter : (b : ℕ) → is_word_start b ≡ true → b < 128
 small_letter b h = elim (or_cases (is_ascii_alphabetic b) _ h) [
-  | inl alphabetic ↦ elim (or_cases (is_in_range 65 90 b) _ alphabetic) [ inl upper ↦ small_range 65 90 b (omega arith) upper | inr lower ↦ small_range 97 122 b (omega arith) lower ]
+  | inl alphabetic ↦ elim (or_cases (is_in_range 65 90 b) _ alphabetic) [
+    | inl upper ↦ small_range 65 90 b
+        (omega arith) upper
+    | inr lower ↦ small_range 97 122 b (omega arith) lower
+  ]
   | inr under ↦ (let e = eqb-true b 95 under in omega arith)
 ]
 
@@ -51,7 +57,8 @@ word_bytes_ascii (b ∷ bs) h zero = word_byte_small b (and_parts (is_word_byte 
 word_bytes_ascii (b ∷ bs) h (suc i) = word_bytes_ascii bs (and_parts (is_word_byte b) (list_all is_word_byte bs) h).1 i
 
 -- what stands behind a place
-pub front_fails : (q : ℕ → Bool) (text : List ℕ) (to : ℕ) → (to < length text → q (get_or text to 0) ≡ false) → (c : ℕ) (more : List ℕ) → drop to text ≡ c ∷ more → q c ≡ false
+pub front_fails : (q : ℕ → Bool) (text : List ℕ) (to : ℕ) → (to < length text → q (get_or text to 0) ≡ false) → (c : ℕ) (more : List ℕ) → drop to text ≡ c
+    ∷ more → q c ≡ false
 front_fails q text to ends c more e =
     let size : length text - to ≡ suc (length more) = sym (length-drop to text) ∙ ap length e in
     let within : to < length text = omega (arith, size) in

@@ -24,17 +24,20 @@ word_ends b bs rest letter ends (c ∷ more) after e some =
           absurd (both_ways _ (ends c (more ++ after) e) (and_parts _ _ parts.1).0)
     ] refl some
 
-word_token : (b : ℕ) (bs : List ℕ) → is_word_start b ≡ true → list_all is_word_byte bs ≡ true → token_of (b ∷ bs) ≡ Some (word_of (b ∷ bs) (look_up (b ∷ bs) keys))
+word_token : (b : ℕ) (bs : List ℕ) → is_word_start b ≡ true → list_all is_word_byte bs ≡ true
+    → token_of (b ∷ bs) ≡ Some (word_of (b ∷ bs) (look_up (b ∷ bs) keys))
 unfolding token_of
 word_token b bs letter all = cond-true _ _ _ letter ∙ cond-true _ _ _ all
 
-pub piece_cons : (text : List ℕ) (from to : ℕ) → from < length text → from + 1 ≤ to → take (to - from) (drop from text) ≡ get_or text from 0 ∷ take (to - (from + 1)) (drop (from + 1) text)
+pub piece_cons : (text : List ℕ) (from to : ℕ) → from < length text → from + 1 ≤ to → take (to - from) (drop from text) ≡ get_or text from 0
+    ∷ take (to - (from + 1)) (drop (from + 1) text)
 piece_cons text from to within past =
     let n : ℕ = to - (from + 1) in
     let size : to - from ≡ suc n = omega (arith, past) in
     ap (λ k. take k (drop from text)) size ∙ ap (take (suc n)) (drop_more text from 0 within)
 
-rest_front : (text : List ℕ) (to : ℕ) → (to < length text → is_word_byte (get_or text to 0) ≡ false) → (c : ℕ) (more : List ℕ) → drop to text ≡ c ∷ more → is_word_byte c ≡ false
+rest_front : (text : List ℕ) (to : ℕ) → (to < length text → is_word_byte (get_or text to 0) ≡ false) → (c : ℕ) (more : List ℕ) → drop to text ≡ c ∷ more
+    → is_word_byte c ≡ false
 rest_front text to ends c more e =
     let size : length text - to ≡ suc (length more) = sym (length-drop to text) ∙ ap length e in
     let within : to < length text = omega (arith, size) in
@@ -42,7 +45,9 @@ rest_front text to ends c more e =
     let same : get_or text to 0 ≡ c = cc in
     ap is_word_byte (sym same) ∙ ends within
 
-pub word_at : (text : List ℕ) (from to : ℕ) → from < length text → from + 1 ≤ to → to ≤ length text → is_word_start (get_or text from 0) ≡ true → list_all is_word_byte (take (to - (from + 1)) (drop (from + 1) text)) ≡ true → (to < length text → is_word_byte (get_or text to 0) ≡ false) → TokenAt text from to (word_of (take (to - from) (drop from text)) (look_up (take (to - from) (drop from text)) keys))
+pub word_at : (text : List ℕ) (from to : ℕ) → from < length text → from + 1 ≤ to → to ≤ length text → is_word_start (get_or text from 0) ≡ true
+    → list_all is_word_byte (take (to - (from + 1)) (drop (from + 1) text)) ≡ true → (to < length text → is_word_byte (get_or text to 0) ≡ false)
+    → TokenAt text from to (word_of (take (to - from) (drop from text)) (look_up (take (to - from) (drop from text)) keys))
 word_at text from to within past end letter all ends =
     let b : ℕ = get_or text from 0 in
     let bs : List ℕ = take (to - (from + 1)) (drop (from + 1) text) in
@@ -54,6 +59,7 @@ word_at text from to within past end letter all ends =
       longest = subst (λ p. IsLongest p (drop to text)) (sym piece) (word_ends b bs (drop to text) letter (rest_front text to ends));
     }
 
-pub all_words : (text : List ℕ) (from to : ℕ) → from < length text → from + 1 ≤ to → is_word_start (get_or text from 0) ≡ true → list_all is_word_byte (take (to - (from + 1)) (drop (from + 1) text)) ≡ true → list_all is_word_byte (take (to - from) (drop from text)) ≡ true
+pub all_words : (text : List ℕ) (from to : ℕ) → from < length text → from + 1 ≤ to → is_word_start (get_or text from 0) ≡ true
+    → list_all is_word_byte (take (to - (from + 1)) (drop (from + 1) text)) ≡ true → list_all is_word_byte (take (to - from) (drop from text)) ≡ true
 all_words text from to within past letter all =
     ap (list_all is_word_byte) (piece_cons text from to within past) ∙ and_from _ _ (or_left _ _ (or_left _ _ letter)) all

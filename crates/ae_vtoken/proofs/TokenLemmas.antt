@@ -45,7 +45,8 @@ all_plain_from q (b ∷ bs) table h =
     and_from _ _ (plain_from q b table parts.0) (all_plain_from q bs table parts.1)
 
 -- what a table's key passes
-pub of_key : {X : Type 0} (q : List ℕ → Bool) (bs : List ℕ) (table : List (List ℕ × X)) (x : X) → look_up bs table ≡ Some x → list_all (λ e. q e.0) table ≡ true → q bs ≡ true
+pub of_key : {X : Type 0} (q : List ℕ → Bool) (bs : List ℕ) (table : List (List ℕ × X)) (x : X) → look_up bs table ≡ Some x
+    → list_all (λ e. q e.0) table ≡ true → q bs ≡ true
 of_key q bs [] x h all = cc
 of_key q bs (e ∷ es) x h all =
     let parts = and_parts (q e.0) (list_all (λ e. q e.0) es) all in
@@ -98,7 +99,11 @@ plain_tail : (base : ℕ) (ds : List ℕ) → base ≤ 36 → list_all (λ c. (c
 plain_tail base [] small h = refl
 plain_tail base (c ∷ cs) small h =
     let parts = and_parts _ (list_all (λ c. (c == 95) || nat_lt (digit_value c) base) cs) h in
-    let here : is_digit_byte c ≡ true = elim (or_cases (c == 95) _ parts.0) [ inl under ↦ or_left (c == 95) _ under | inr digit ↦ digit_byte base c small digit ] in
+    let here : is_digit_byte c ≡ true = elim (or_cases (c == 95) _ parts.0) [
+      | inl under ↦ or_left
+          (c == 95) _ under
+      | inr digit ↦ digit_byte base c small digit
+    ] in
     and_from _ _ (plain_from is_digit_byte c refl here) (plain_tail base cs small parts.1)
 
 plain_digits : (base : ℕ) (ds : List ℕ) → base ≤ 36 → are_digits base ds ≡ true → list_all is_plain ds ≡ true
@@ -148,7 +153,8 @@ token_together (b ∷ bs) t h =
       | inr other ↦
           let h' = sym (cond-false _ _ _ other) ∙ h in
           elim (cases_Bool (is_ascii_digit b)) [
-            | inl digit ↦ together_from (b ∷ bs) (and_from _ _ (plain_from is_ascii_digit b refl digit) (number_plain (b ∷ []) bs t (sym (cond-true _ _ _ digit) ∙ h')))
+            | inl digit ↦ together_from (b ∷ bs) (and_from _ _ (plain_from is_ascii_digit b refl digit)
+                (number_plain (b ∷ []) bs t (sym (cond-true _ _ _ digit) ∙ h')))
             | inr sign ↦ mark_keys (b ∷ bs) t (sym (cond-false _ _ _ sign) ∙ h')
           ]
     ]
@@ -207,15 +213,18 @@ blank_then b rest _ blank (Then text piece later t ts begins h) =
     Then _ piece later t ts (record { parts = cond-true _ _ _ blank ∙ begins.parts; token = begins.token; longest = begins.longest }) h
 
 -- a token before the tokens
-pub token_then : (b : ℕ) (bs rest : List ℕ) (t : TokenTree) (ts : List TokenTree) → token_of (b ∷ bs) ≡ Some t → IsLongest (b ∷ bs) rest → AreTokens rest ts → AreTokens ((b ∷ bs) ++ rest) (t ∷ ts)
+pub token_then : (b : ℕ) (bs rest : List ℕ) (t : TokenTree) (ts : List TokenTree) → token_of (b ∷ bs) ≡ Some t → IsLongest (b ∷ bs) rest → AreTokens rest ts
+    → AreTokens ((b ∷ bs) ++ rest) (t ∷ ts)
 token_then b bs rest t ts h longest then = Then _ (b ∷ bs) rest t ts (record { parts = no_gap b bs rest t h; token = h; longest = longest }) then
 
 -- a token before a lone byte
-pub spaced : (piece : List ℕ) (c : ℕ) (rest : List ℕ) (t : TokenTree) (ts : List TokenTree) → token_of piece ≡ Some t → is_lone c ≡ true → AreTokens (c ∷ rest) ts → AreTokens (piece ++ c ∷ rest) (t ∷ ts)
+pub spaced : (piece : List ℕ) (c : ℕ) (rest : List ℕ) (t : TokenTree) (ts : List TokenTree) → token_of piece ≡ Some t → is_lone c ≡ true
+    → AreTokens (c ∷ rest) ts → AreTokens (piece ++ c ∷ rest) (t ∷ ts)
 unfolding token_of
 spaced [] c rest t ts h lone then = absurd (let e : None ≡ Some t = h in cc)
 spaced (b ∷ bs) c rest t ts h lone then = token_then b bs (c ∷ rest) t ts h (ends_before_lone b bs c rest lone) then
 
 -- a sign that is no part of a longer one
-pub mark : (b : ℕ) (rest : List ℕ) (t : TokenTree) (ts : List TokenTree) → token_of (b ∷ []) ≡ Some t → is_lone b ≡ true → AreTokens rest ts → AreTokens (b ∷ rest) (t ∷ ts)
+pub mark : (b : ℕ) (rest : List ℕ) (t : TokenTree) (ts : List TokenTree) → token_of (b ∷ []) ≡ Some t → is_lone b ≡ true → AreTokens rest ts
+    → AreTokens (b ∷ rest) (t ∷ ts)
 mark b rest t ts h lone then = token_then b [] rest t ts h (lone_ends b rest lone) then

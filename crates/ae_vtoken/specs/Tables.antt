@@ -27,31 +27,51 @@ keys =
 
 -- the reserved words that no rule uses
 unfoldable pub unused_0 : List (List ℕ)
-unused_0 = codes "and" ∷ codes "automatic" ∷ codes "buf" ∷ codes "bufif0" ∷ codes "bufif1" ∷ codes "case" ∷ codes "casex" ∷ codes "casez" ∷ codes "cell" ∷ codes "cmos" ∷ codes "config" ∷ []
+unused_0 =
+    codes "and" ∷ codes "automatic" ∷ codes "buf" ∷ codes "bufif0" ∷ codes "bufif1" ∷ codes "case" ∷ codes "casex"
+    ∷ codes "casez" ∷ codes "cell" ∷ codes "cmos" ∷ codes "config" ∷ []
 
 unfoldable pub unused_1 : List (List ℕ)
-unused_1 = codes "deassign" ∷ codes "default" ∷ codes "defparam" ∷ codes "design" ∷ codes "disable" ∷ codes "edge" ∷ codes "endcase" ∷ codes "endconfig" ∷ codes "endfunction" ∷ codes "endgenerate" ∷ codes "endprimitive" ∷ []
+unused_1 =
+    codes "deassign" ∷ codes "default" ∷ codes "defparam" ∷ codes "design" ∷ codes "disable" ∷ codes "edge"
+    ∷ codes "endcase" ∷ codes "endconfig" ∷ codes "endfunction" ∷ codes "endgenerate" ∷ codes "endprimitive" ∷ []
 
 unfoldable pub unused_2 : List (List ℕ)
-unused_2 = codes "endspecify" ∷ codes "endtable" ∷ codes "endtask" ∷ codes "event" ∷ codes "for" ∷ codes "force" ∷ codes "forever" ∷ codes "fork" ∷ codes "function" ∷ codes "generate" ∷ codes "genvar" ∷ []
+unused_2 =
+    codes "endspecify" ∷ codes "endtable" ∷ codes "endtask" ∷ codes "event" ∷ codes "for" ∷ codes "force"
+    ∷ codes "forever" ∷ codes "fork" ∷ codes "function" ∷ codes "generate" ∷ codes "genvar" ∷ []
 
 unfoldable pub unused_3 : List (List ℕ)
-unused_3 = codes "highz0" ∷ codes "highz1" ∷ codes "ifnone" ∷ codes "incdir" ∷ codes "include" ∷ codes "initial" ∷ codes "inout" ∷ codes "instance" ∷ codes "integer" ∷ codes "join" ∷ codes "large" ∷ []
+unused_3 =
+    codes "highz0" ∷ codes "highz1" ∷ codes "ifnone" ∷ codes "incdir" ∷ codes "include" ∷ codes "initial"
+    ∷ codes "inout" ∷ codes "instance" ∷ codes "integer" ∷ codes "join" ∷ codes "large" ∷ []
 
 unfoldable pub unused_4 : List (List ℕ)
-unused_4 = codes "liblist" ∷ codes "library" ∷ codes "localparam" ∷ codes "macromodule" ∷ codes "medium" ∷ codes "nand" ∷ codes "negedge" ∷ codes "nmos" ∷ codes "nor" ∷ codes "noshowcancelled" ∷ codes "not" ∷ []
+unused_4 =
+    codes "liblist" ∷ codes "library" ∷ codes "localparam" ∷ codes "macromodule" ∷ codes "medium" ∷ codes "nand"
+    ∷ codes "negedge" ∷ codes "nmos" ∷ codes "nor" ∷ codes "noshowcancelled" ∷ codes "not" ∷ []
 
 unfoldable pub unused_5 : List (List ℕ)
-unused_5 = codes "notif0" ∷ codes "notif1" ∷ codes "or" ∷ codes "parameter" ∷ codes "pmos" ∷ codes "primitive" ∷ codes "pull0" ∷ codes "pull1" ∷ codes "pulldown" ∷ codes "pullup" ∷ codes "pulsestyle_ondetect" ∷ []
+unused_5 =
+    codes "notif0" ∷ codes "notif1" ∷ codes "or" ∷ codes "parameter" ∷ codes "pmos" ∷ codes "primitive" ∷ codes "pull0"
+    ∷ codes "pull1" ∷ codes "pulldown" ∷ codes "pullup" ∷ codes "pulsestyle_ondetect" ∷ []
 
 unfoldable pub unused_6 : List (List ℕ)
-unused_6 = codes "pulsestyle_onevent" ∷ codes "rcmos" ∷ codes "real" ∷ codes "realtime" ∷ codes "release" ∷ codes "repeat" ∷ codes "rnmos" ∷ codes "rpmos" ∷ codes "rtran" ∷ codes "rtranif0" ∷ codes "rtranif1" ∷ []
+unused_6 =
+    codes "pulsestyle_onevent" ∷ codes "rcmos" ∷ codes "real" ∷ codes "realtime" ∷ codes "release" ∷ codes "repeat"
+    ∷ codes "rnmos" ∷ codes "rpmos" ∷ codes "rtran" ∷ codes "rtranif0" ∷ codes "rtranif1" ∷ []
 
 unfoldable pub unused_7 : List (List ℕ)
-unused_7 = codes "scalared" ∷ codes "showcancelled" ∷ codes "signed" ∷ codes "small" ∷ codes "specify" ∷ codes "specparam" ∷ codes "strong0" ∷ codes "strong1" ∷ codes "supply0" ∷ codes "supply1" ∷ codes "table" ∷ []
+unused_7 =
+    codes "scalared" ∷ codes "showcancelled" ∷ codes "signed" ∷ codes "small" ∷ codes "specify" ∷ codes "specparam"
+    ∷ codes "strong0" ∷ codes "strong1" ∷ codes "supply0" ∷ codes "supply1" ∷ codes "table" ∷ []
 
 unfoldable pub unused_8 : List (List ℕ)
-unused_8 = codes "task" ∷ codes "time" ∷ codes "tran" ∷ codes "tranif0" ∷ codes "tranif1" ∷ codes "tri" ∷ codes "tri0" ∷ codes "tri1" ∷ codes "triand" ∷ codes "trior" ∷ codes "trireg" ∷ []
+unused_8 =
+    codes "task" ∷ codes "time" ∷ codes "tran" ∷ codes "tranif0" ∷ codes "tranif1" ∷ codes "tri" ∷ codes "tri0"
+    ∷ codes "tri1" ∷ codes "triand" ∷ codes "trior" ∷ codes "trireg" ∷ []
 
 unfoldable pub unused_9 : List (List ℕ)
-unused_9 = codes "unsigned" ∷ codes "use" ∷ codes "vectored" ∷ codes "wait" ∷ codes "wand" ∷ codes "weak0" ∷ codes "weak1" ∷ codes "while" ∷ codes "wor" ∷ codes "xnor" ∷ codes "xor" ∷ []
+unused_9 =
+    codes "unsigned" ∷ codes "use" ∷ codes "vectored" ∷ codes "wait" ∷ codes "wand" ∷ codes "weak0" ∷ codes "weak1"
+    ∷ codes "while" ∷ codes "wor" ∷ codes "xnor" ∷ codes "xor" ∷ []

@@ -30,7 +30,13 @@ look_up bs (e ∷ es) = if bytes_eq bs e.0 then Some e.1 else look_up bs es
 
 -- whether a word is reserved and in no rule
 abbrev pub is_unused : List ℕ → Bool
-is_unused bs = list_any (bytes_eq bs) unused_0 || (list_any (bytes_eq bs) unused_1 || (list_any (bytes_eq bs) unused_2 || (list_any (bytes_eq bs) unused_3 || (list_any (bytes_eq bs) unused_4 || (list_any (bytes_eq bs) unused_5 || (list_any (bytes_eq bs) unused_6 || (list_any (bytes_eq bs) unused_7 || (list_any (bytes_eq bs) unused_8 || (list_any (bytes_eq bs) unused_9)))))))))
+is_unused bs =
+    list_any (bytes_eq bs) unused_0 || (list_any
+    (bytes_eq bs) unused_1 || (list_any (bytes_eq bs)
+    unused_2 || (list_any (bytes_eq bs) unused_3 || (list_any
+    (bytes_eq bs) unused_4 || (list_any (bytes_eq bs)
+    unused_5 || (list_any (bytes_eq bs) unused_6 || (list_any
+    (bytes_eq bs) unused_7 || (list_any (bytes_eq bs) unused_8 || (list_any (bytes_eq bs) unused_9)))))))))
 
 -- space, tab, CR, LF and form feed
 abbrev pub is_blank : ℕ → Bool
@@ -133,7 +139,8 @@ pub record BeginsWith (text piece rest : List ℕ) (t : TokenTree) : Type 0 wher
 -- the tokens of the text, all of it
 pub data AreTokens : List ℕ → List TokenTree → Type 0 where
   No_more : (text : List ℕ) → after_gap Between text ≡ [] → AreTokens text []
-  Then : (text piece rest : List ℕ) (t : TokenTree) (ts : List TokenTree) → BeginsWith text piece rest t → AreTokens rest ts → AreTokens text (t ∷ ts)
+  Then : (text piece rest : List ℕ) (t : TokenTree) (ts : List TokenTree) → BeginsWith text piece rest t
+      → AreTokens rest ts → AreTokens text (t ∷ ts)
 
 -- no token begins here
 abbrev pub NoToken : List ℕ → Type 0
@@ -141,8 +148,10 @@ NoToken text = (piece rest : List ℕ) → text ≡ piece ++ rest → token_of p
 
 -- the text from the first byte on that is in no blank, comment or token
 pub data Stuck : List ℕ → List ℕ → Type 0 where
-  Here : (text : List ℕ) (b : ℕ) (bs : List ℕ) → after_gap Between text ≡ b ∷ bs → NoToken (b ∷ bs) → Stuck text (b ∷ bs)
-  Later : (text piece rest bad : List ℕ) (t : TokenTree) → BeginsWith text piece rest t → Stuck rest bad → Stuck text bad
+  Here : (text : List ℕ) (b : ℕ) (bs : List ℕ) → after_gap Between text ≡ b ∷ bs → NoToken (b ∷ bs)
+      → Stuck text (b ∷ bs)
+  Later : (text piece rest bad : List ℕ) (t : TokenTree) → BeginsWith text piece rest t → Stuck rest bad
+      → Stuck text bad
 
 -- the place of that byte
 pub record IsBadToken (text : List ℕ) (at : ℕ) : Type 0 where

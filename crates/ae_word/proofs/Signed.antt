@@ -42,7 +42,8 @@ code-min_second w a b h e = rw e (code-of_value w b h)
 pub code-max_first : (w a b : ℕ) → a < 2 ^ w → int_lt (signed_value w b) (signed_value w a) ≡ true → code w (int_max (signed_value w a) (signed_value w b)) ≡ a
 code-max_first w a b h e = rw e (code-of_value w a h)
 
-pub code-max_second : (w a b : ℕ) → b < 2 ^ w → int_lt (signed_value w b) (signed_value w a) ≡ false → code w (int_max (signed_value w a) (signed_value w b)) ≡ b
+pub code-max_second : (w a b : ℕ) → b < 2 ^ w → int_lt (signed_value w b) (signed_value w a) ≡ false
+    → code w (int_max (signed_value w a) (signed_value w b)) ≡ b
 code-max_second w a b h e = rw e (code-of_value w b h)
 
 pub ruleset signed_choices = (code-min_first, code-min_second, code-max_first, code-max_second)

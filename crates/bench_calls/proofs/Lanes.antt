@@ -16,7 +16,8 @@ pub record AreLanes (cells : List SizedCell) (count : ℕ) (nets : List NetId) :
   pub long : length nets ≡ count
   pub each : (q : ℕ) (net : NetId) → slice_get nets q ≡ Some net → IsNet cells net.0 16
 
-pub lanes_more : (a b : List SizedCell) (count : ℕ) (nets : List NetId) (net : NetId) → Extends a b → AreLanes a count nets → IsNet b net.0 16 → AreLanes b (count + 1) (nets ++ net ∷ [])
+pub lanes_more : (a b : List SizedCell) (count : ℕ) (nets : List NetId) (net : NetId) → Extends a b → AreLanes a count nets → IsNet b net.0 16
+    → AreLanes b (count + 1) (nets ++ net ∷ [])
 lanes_more a b count nets net g h own = record {
   long = length_push nets net ∙ ap (λ k. k + 1) h.long;
   each = λ q x found. elim (get_push_cases nets net q x found) [
@@ -29,10 +30,12 @@ abbrev grid : ℕ → StTree
 grid n = tseq n 0 (sseq 4 (atom (unsigned_word 16)))
 
 -- they are the bundle of a move of such words
-pub one_bundle : (cells : List SizedCell) (ins : List StTree) (n : ℕ) (x : List NetId) → ins ≡ tseq n 0 (sseq 4 (atom (unsigned_word 16))) ∷ [] → AreNets cells (16 ∷ 16 ∷ 16 ∷ 16 ∷ []) x → AreBundles cells (map stream_of ins) (x ∷ [])
+pub one_bundle : (cells : List SizedCell) (ins : List StTree) (n : ℕ) (x : List NetId) → ins ≡ tseq n 0 (sseq 4 (atom (unsigned_word 16))) ∷ []
+    → AreNets cells (16 ∷ 16 ∷ 16 ∷ 16 ∷ []) x → AreBundles cells (map stream_of ins) (x ∷ [])
 one_bundle cells ins n x em h = rw em (record { long = refl; each = each })
   where
-    each : (k : ℕ) (stream : Stream) (nets : List NetId) → slice_get (stream_of (grid n) ∷ []) k ≡ Some stream → slice_get (x ∷ []) k ≡ Some nets → AreNets cells (stream_widths stream) nets
+    each : (k : ℕ) (stream : Stream) (nets : List NetId) → slice_get (stream_of (grid n) ∷ []) k ≡ Some stream → slice_get (x ∷ []) k ≡ Some nets
+        → AreNets cells (stream_widths stream) nets
     each zero stream nets f g =
         let s : stream_of (grid n) ≡ stream = cc in
         let y : x ≡ nets = cc in

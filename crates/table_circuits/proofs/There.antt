@@ -13,10 +13,12 @@ use Rattle.ae_stall.specs.Copies.{reset_cell}
 pub net_there : (cells : List SizedCell) (n w : ℕ) (sized : SizedCell) → slice_get cells n ≡ Some sized → sized.width ≡ w → IsPlain sized.cell → IsNet cells n w
 net_there cells n w sized found wide plain = record { sized = sized; found = found; plain = plain; wide = wide }
 
-pub register_there : (cells : List SizedCell) (n w v : ℕ) (cell : Cell) (next : NetId) → slice_get cells n ≡ Some (record { width = v; cell = cell }) → v ≡ w → cell ≡ Reg next → IsRegister cells n w
+pub register_there : (cells : List SizedCell) (n w v : ℕ) (cell : Cell) (next : NetId) → slice_get cells n ≡ Some (record { width = v; cell = cell }) → v ≡ w
+    → cell ≡ Reg next → IsRegister cells n w
 register_there cells n w v cell next found wide is = record { next = next; found = rw (wide, is) at found }
 
-pub memory_there : (cells : List SizedCell) (n w depth v : ℕ) (cell : Cell) (at next enable : NetId) → slice_get cells n ≡ Some (record { width = v; cell = cell }) → v ≡ w → cell ≡ Mem depth at next enable
+pub memory_there : (cells : List SizedCell) (n w depth v : ℕ) (cell : Cell) (at next enable : NetId)
+    → slice_get cells n ≡ Some (record { width = v; cell = cell }) → v ≡ w → cell ≡ Mem depth at next enable
     → IsMemory cells n w depth
 memory_there cells n w depth v cell at next enable found wide is = record { at = at; next = next; enable = enable; found = rw (wide, is) at found }
 
@@ -31,7 +33,8 @@ memory_depth cells m w depth h = ap depth_in h.found
 pub own_memory : {cells : List SizedCell} {m w depth : ℕ} → IsMemory cells m w depth → IsMemory cells m (width_of cells m) (depth_of cells m)
 own_memory {cells} {m} {w} {depth} h = rw (memory_width cells m w depth h, memory_depth cells m w depth h) h
 
-pub written_there : {cells : List SizedCell} {m w depth at next enable : ℕ} → IsMemory cells m w depth → IsAddress cells at depth → IsNet cells next w → IsNet cells enable 1
+pub written_there : {cells : List SizedCell} {m w depth at next enable : ℕ} → IsMemory cells m w depth → IsAddress cells at depth → IsNet cells next w
+    → IsNet cells enable 1
     → IsWritten cells (width_of cells m) (depth_of cells m) at next enable
 written_there {cells} {m} {w} {depth} h a n e =
     rw (memory_width cells m w depth h, memory_depth cells m w depth h) (record { address = a; word = n; bit = e })
@@ -39,6 +42,7 @@ written_there {cells} {m} {w} {depth} h a n e =
 pub belongs_new : (cells : List SizedCell) (rst : ℕ) → IsNet cells rst 1 → Belongs (record { rst = rst; counters = [] }) cells
 belongs_new cells rst h = record { rst = h; counters = λ phase net found. cc }
 
-pub reset_there : (cells : List SizedCell) (v : ℕ) (cell : Cell) (port : Port) → slice_get cells 0 ≡ Some (record { width = v; cell = cell }) → v ≡ 1 → cell ≡ Input port → port ≡ Reset
+pub reset_there : (cells : List SizedCell) (v : ℕ) (cell : Cell) (port : Port) → slice_get cells 0 ≡ Some (record { width = v; cell = cell }) → v ≡ 1
+    → cell ≡ Input port → port ≡ Reset
     → slice_get cells 0 ≡ Some reset_cell
 reset_there cells v cell port found wide is named = rw (wide, is, named) at found

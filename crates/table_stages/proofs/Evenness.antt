@@ -21,11 +21,13 @@ use Rattle.ae_fold.proofs.Bundles.{elements_bundle, one_bundle}
 use Rattle.table_stages.specs.Even.{AreEven, TakesLanes}
 
 -- one net more
-pub even_more : (a b : List SizedCell) (lanes w : ℕ) (nets : List NetId) (y : NetId) → Extends a b → AreEven a lanes w nets → IsNet b y.0 w → AreEven b (lanes + 1) w (nets ++ y ∷ [])
+pub even_more : (a b : List SizedCell) (lanes w : ℕ) (nets : List NetId) (y : NetId) → Extends a b → AreEven a lanes w nets → IsNet b y.0 w
+    → AreEven b (lanes + 1) w (nets ++ y ∷ [])
 even_more a b lanes w nets y g h new = record {
   long = length_push nets y ∙ ap (λ k. k + 1) h.long;
   each = λ q l. elim (get_push_cases nets y q _ (slice_get-get_or (nets ++ y ∷ []) q (record { 0 = 0 }) l)) [
-    | inl v ↦ (let same : (get_or nets q (record { 0 = 0 })).0 ≡ (get_or (nets ++ y ∷ []) q (record { 0 = 0 })).0 = ap (λ (n : NetId). n.0) (get_or_from_slice_get nets q _ (record { 0 = 0 }) v.0) in rw (← same) (net_later g (h.each q v.1)))
+    | inl v ↦ (let same : (get_or nets q (record { 0 = 0 })).0 ≡ (get_or (nets ++ y ∷ []) q (record { 0 = 0 })).0 = ap (λ (n : NetId). n.0)
+        (get_or_from_slice_get nets q _ (record { 0 = 0 }) v.0) in rw (← same) (net_later g (h.each q v.1)))
     | inr v ↦ subst (λ (n : NetId). IsNet b n.0 w) v.1 new
   ];
 }
@@ -35,10 +37,12 @@ one_word k q =
     let z : q % 1 ≡ 0 = omega (arith, mod_below q 1 (omega arith)) in
     ap (λ i. (get_or (fold_by Add k ∷ []) i (record { op = Add; width = 0 })).width) z
 
-word_nets : (cells : List SizedCell) (m : ℕ) (k : WordKind) (nets : List NetId) → length nets ≡ m → ((q : ℕ) → q < length nets → IsNet cells (get_or nets q (record { 0 = 0 })).0 k.width)
+word_nets : (cells : List SizedCell) (m : ℕ) (k : WordKind) (nets : List NetId) → length nets ≡ m
+    → ((q : ℕ) → q < length nets → IsNet cells (get_or nets q (record { 0 = 0 })).0 k.width)
     → AreNets cells (stream_widths (stream_of (tseq 1 0 (sseq m (atom (word k)))))) nets
 word_nets cells m k nets long h =
-    elements_bundle Add cells (atom (word k)) 1 m nets (let one : m * (1 * 1) ≡ m = omega arith in long ∙ omega arith) (record { each = λ q l. rw (one_word k q) (h q l) })
+    elements_bundle Add cells (atom (word k)) 1 m nets (let one : m * (1 * 1) ≡ m = omega arith in long ∙ omega arith)
+    (record { each = λ q l. rw (one_word k q) (h q l) })
 
 pub even_nets : (cells : List SizedCell) (lanes w : ℕ) (nets : List NetId) → AreEven cells lanes w nets → AreNets cells (repeated lanes (w ∷ [])) nets
 even_nets cells lanes w nets h =
@@ -46,7 +50,8 @@ even_nets cells lanes w nets h =
     subst (λ (n : ℕ). AreNets cells (repeated n (w ∷ [])) nets) one (word_nets cells lanes (record { signed = false; width = w }) nets h.long h.each)
 
 -- the bundle of a part that takes words on lanes
-pub lanes_bundle : (cells : List SizedCell) (part : Part) (lanes w : ℕ) (nets : List NetId) → TakesLanes part lanes w → AreEven cells lanes w nets → AreBundles cells part.ins (nets ∷ [])
+pub lanes_bundle : (cells : List SizedCell) (part : Part) (lanes w : ℕ) (nets : List NetId) → TakesLanes part lanes w → AreEven cells lanes w nets
+    → AreBundles cells part.ins (nets ∷ [])
 lanes_bundle cells part lanes w nets t h = rw t.one (one_bundle cells t.stream nets (rw (t.lanes_are, t.widths_are) (even_nets cells lanes w nets h)))
 
 -- each net of a bundle has its own width

@@ -43,27 +43,34 @@ widths_one _ w h = absurd (omega arith)
 nets_one : (cells : List SizedCell) (w : ℕ) (a : NetId) → IsNet cells a.0 w → AreNets cells (stream_widths (word_stream w)) (a ∷ [])
 nets_one cells w a h = record { long = refl; each = each_one cells w a h }
 
-pub two_bundles : (cells : List SizedCell) (op : WordOp) (w : ℕ) (a b : NetId) (x y : List NetId) → arity_of op ≡ 2 → x ≡ a ∷ [] → y ≡ b ∷ [] → IsNet cells a.0 w → IsNet cells b.0 w
+pub two_bundles : (cells : List SizedCell) (op : WordOp) (w : ℕ) (a b : NetId) (x y : List NetId) → arity_of op ≡ 2 → x ≡ a ∷ [] → y ≡ b ∷ []
+    → IsNet cells a.0 w → IsNet cells b.0 w
     → AreBundles cells (map word_stream (operand_widths op w)) (x ∷ y ∷ [])
 two_bundles cells op w a b x y two ex ey ha hb = rw (widths_two op w two, ex, ey) (record { long = refl; each = each })
   where
-    each : (k : ℕ) (stream : Stream) (nets : List NetId) → slice_get (word_stream w ∷ word_stream w ∷ []) k ≡ Some stream → slice_get ((a ∷ []) ∷ (b ∷ []) ∷ []) k ≡ Some nets → AreNets cells (stream_widths stream) nets
+    each : (k : ℕ) (stream : Stream) (nets : List NetId) → slice_get (word_stream w ∷ word_stream w ∷ []) k ≡ Some stream
+        → slice_get ((a ∷ []) ∷ (b ∷ []) ∷ []) k ≡ Some nets → AreNets cells (stream_widths stream) nets
     each zero stream nets f g =
         let s : word_stream w ≡ stream = cc in
         let n : a ∷ [] ≡ nets = cc in
-        subst (λ (v : Stream). AreNets cells (stream_widths v) nets) s (subst (λ (v : List NetId). AreNets cells (stream_widths (word_stream w)) v) n (nets_one cells w a ha))
+        subst (λ (v : Stream). AreNets cells (stream_widths v) nets) s
+        (subst (λ (v : List NetId). AreNets cells (stream_widths (word_stream w)) v) n (nets_one cells w a ha))
     each (suc zero) stream nets f g =
         let s : word_stream w ≡ stream = cc in
         let n : b ∷ [] ≡ nets = cc in
-        subst (λ (v : Stream). AreNets cells (stream_widths v) nets) s (subst (λ (v : List NetId). AreNets cells (stream_widths (word_stream w)) v) n (nets_one cells w b hb))
+        subst (λ (v : Stream). AreNets cells (stream_widths v) nets) s
+        (subst (λ (v : List NetId). AreNets cells (stream_widths (word_stream w)) v) n (nets_one cells w b hb))
     each (suc (suc k)) stream nets f g = cc
 
-pub one_bundle : (cells : List SizedCell) (op : WordOp) (w : ℕ) (a : NetId) (x : List NetId) → arity_of op ≡ 1 → x ≡ a ∷ [] → IsNet cells a.0 w → AreBundles cells (map word_stream (operand_widths op w)) (x ∷ [])
+pub one_bundle : (cells : List SizedCell) (op : WordOp) (w : ℕ) (a : NetId) (x : List NetId) → arity_of op ≡ 1 → x ≡ a ∷ [] → IsNet cells a.0 w
+    → AreBundles cells (map word_stream (operand_widths op w)) (x ∷ [])
 one_bundle cells op w a x one ex ha = rw (widths_one op w one, ex) (record { long = refl; each = each })
   where
-    each : (k : ℕ) (stream : Stream) (nets : List NetId) → slice_get (word_stream w ∷ []) k ≡ Some stream → slice_get ((a ∷ []) ∷ []) k ≡ Some nets → AreNets cells (stream_widths stream) nets
+    each : (k : ℕ) (stream : Stream) (nets : List NetId) → slice_get (word_stream w ∷ []) k ≡ Some stream → slice_get ((a ∷ []) ∷ []) k ≡ Some nets
+        → AreNets cells (stream_widths stream) nets
     each zero stream nets f g =
         let s : word_stream w ≡ stream = cc in
         let n : a ∷ [] ≡ nets = cc in
-        subst (λ (v : Stream). AreNets cells (stream_widths v) nets) s (subst (λ (v : List NetId). AreNets cells (stream_widths (word_stream w)) v) n (nets_one cells w a ha))
+        subst (λ (v : Stream). AreNets cells (stream_widths v) nets) s
+        (subst (λ (v : List NetId). AreNets cells (stream_widths (word_stream w)) v) n (nets_one cells w a ha))
     each (suc k) stream nets f g = cc

@@ -11,7 +11,8 @@ use Rattle.ae_moves.specs.Origins.{Move}
 use Rattle.ae_gather.specs.Gathers.{Layouts, gather_part, move_of}
 use Rattle.table_stages.specs.Even.{TakesLanes}
 
-rows_taken : (part : Part) (n m inner : ℕ) (k : WordKind) (t : StTree) → t ≡ tseq inner 0 (atom (word k)) → part.ins ≡ stream_of (tseq n 0 (sseq m t)) ∷ [] → TakesLanes part m k.width
+rows_taken : (part : Part) (n m inner : ℕ) (k : WordKind) (t : StTree) → t ≡ tseq inner 0 (atom (word k)) → part.ins ≡ stream_of (tseq n 0 (sseq m t)) ∷ []
+    → TakesLanes part m k.width
 rows_taken part n m inner k t e is = record {
   stream = stream_of (tseq n 0 (sseq m (tseq inner 0 (atom (word k)))));
   one = subst (λ (x : StTree). part.ins ≡ stream_of (tseq n 0 (sseq m x)) ∷ []) e is;
@@ -34,7 +35,8 @@ move_takes m n lanes w e = record {
   widths_are = refl;
 }
 
-pub moves_take : (found : Option Layouts) (m : Move) (n lanes w : ℕ) (t : StType) (ins : List StType) → IfSome found (λ g. move_of g ≡ m) → m.ins ≡ map st_tree ins → ins ≡ t ∷ [] → st_tree t ≡ tseq n 0 (sseq lanes (atom (unsigned_word w)))
+pub moves_take : (found : Option Layouts) (m : Move) (n lanes w : ℕ) (t : StType) (ins : List StType) → IfSome found (λ g. move_of g ≡ m)
+    → m.ins ≡ map st_tree ins → ins ≡ t ∷ [] → st_tree t ≡ tseq n 0 (sseq lanes (atom (unsigned_word w)))
     → IfSome found (λ g. TakesLanes (gather_part (move_of g)) lanes w)
 moves_take (Some g) m n lanes w t ins e em ei et = move_takes (move_of g) n lanes w (ap (λ (x : Move). x.ins) e ∙ (em ∙ rw (ei, et) refl))
 moves_take None m n lanes w t ins e em ei et = tt

@@ -19,7 +19,8 @@ pub choose-requires-clause-left : goal.choose-requires-clause-left
 choose-requires-clause-left c = net_added c.in_ok-low.ensures.adds c.in_ok-odd.ensures.net
 
 pub choose-requires-clause-right : goal.choose-requires-clause-right
-choose-requires-clause-right c = net_added (adds_trans (adds_trans c.in_ok-up.ensures.adds c.in_ok-odd.ensures.adds) c.in_ok-low.ensures.adds) c.in_ok-one.ensures.net
+choose-requires-clause-right c =
+    net_added (adds_trans (adds_trans c.in_ok-up.ensures.adds c.in_ok-odd.ensures.adds) c.in_ok-low.ensures.adds) c.in_ok-one.ensures.net
 
 pub returns-in_err-one-clause-adds : goal.returns-in_err-one-clause-adds
 returns-in_err-one-clause-adds c = adds_most 5 (omega arith) (c.in_err-one.ensures.adds)
@@ -28,16 +29,23 @@ pub returns-in_err-up-clause-adds : goal.returns-in_err-up-clause-adds
 returns-in_err-up-clause-adds c = adds_most 5 (omega arith) (adds_trans c.in_ok-one.ensures.adds c.in_err-up.ensures.adds)
 
 pub returns-in_err-odd-clause-adds : goal.returns-in_err-odd-clause-adds
-returns-in_err-odd-clause-adds c = adds_most 5 (omega arith) (adds_trans (adds_trans c.in_ok-one.ensures.adds c.in_ok-up.ensures.adds) c.in_err-odd.ensures.adds)
+returns-in_err-odd-clause-adds c =
+    adds_most 5 (omega arith) (adds_trans (adds_trans c.in_ok-one.ensures.adds c.in_ok-up.ensures.adds) c.in_err-odd.ensures.adds)
 
 pub returns-in_err-low-clause-adds : goal.returns-in_err-low-clause-adds
-returns-in_err-low-clause-adds c = adds_most 5 (omega arith) (adds_trans (adds_trans (adds_trans c.in_ok-one.ensures.adds c.in_ok-up.ensures.adds) c.in_ok-odd.ensures.adds) c.in_err-low.ensures.adds)
+returns-in_err-low-clause-adds c =
+    adds_most 5 (omega arith) (adds_trans (adds_trans (adds_trans c.in_ok-one.ensures.adds c.in_ok-up.ensures.adds) c.in_ok-odd.ensures.adds)
+    c.in_err-low.ensures.adds)
 
 pub returns-in_err-ones-clause-adds : goal.returns-in_err-ones-clause-adds
-returns-in_err-ones-clause-adds c = adds_most 5 (omega arith) (adds_trans (adds_trans (adds_trans (adds_trans c.in_ok-one.ensures.adds c.in_ok-up.ensures.adds) c.in_ok-odd.ensures.adds) c.in_ok-low.ensures.adds) c.in_err-ones.ensures.adds)
+returns-in_err-ones-clause-adds c =
+    adds_most 5 (omega arith) (adds_trans (adds_trans (adds_trans (adds_trans c.in_ok-one.ensures.adds c.in_ok-up.ensures.adds) c.in_ok-odd.ensures.adds)
+    c.in_ok-low.ensures.adds) c.in_err-ones.ensures.adds)
 
 pub returns-clause-adds : goal.returns-clause-adds
-returns-clause-adds c = adds_trans (adds_trans (adds_trans (adds_trans c.in_ok-one.ensures.adds c.in_ok-up.ensures.adds) c.in_ok-odd.ensures.adds) c.in_ok-low.ensures.adds) c.in_ok-ones.ensures.adds
+returns-clause-adds c =
+    adds_trans (adds_trans (adds_trans (adds_trans c.in_ok-one.ensures.adds c.in_ok-up.ensures.adds) c.in_ok-odd.ensures.adds) c.in_ok-low.ensures.adds)
+    c.in_ok-ones.ensures.adds
 
 pub returns-clause-words : goal.returns-clause-words
 returns-clause-words c = λ all k5 run is t l.
@@ -53,7 +61,9 @@ returns-clause-words c = λ all k5 run is t l.
     let k3 = back g3 k4 in
     let k2 = back g2 k3 in
     let k1 = back g1 k2 in
-    let net = k5.nets _ _ (net_added (adds_trans (adds_trans (adds_trans (adds_trans c.in_ok-one.ensures.adds c.in_ok-up.ensures.adds) c.in_ok-odd.ensures.adds) c.in_ok-low.ensures.adds) c.in_ok-ones.ensures.adds) c.requires.net) in
+    let net = k5.nets _ _ (net_added (adds_trans (adds_trans
+    (adds_trans (adds_trans c.in_ok-one.ensures.adds c.in_ok-up.ensures.adds) c.in_ok-odd.ensures.adds) c.in_ok-low.ensures.adds)
+    c.in_ok-ones.ensures.adds) c.requires.net) in
     ones_are _ _ _ _ _ _ (word_below all run t _ _ is l net)
     (c.in_ok-one.ensures.words all k1 run is t l)
     (c.in_ok-up.ensures.words all (carries_later _ _ l1 k2) run is t l)

@@ -8,7 +8,8 @@ use Rattle.ae_clocked.proofs.Turns.{count_is}
 use Rattle.ae_clocked.proofs.counter.counter.Goals as goal
 
 pub choose-requires-clause-condition : goal.choose-requires-clause-condition
-choose-requires-clause-condition c = net_added (adds_trans (adds_trans c.in_ok-r.ensures.adds c.in_ok-after.ensures.adds) c.in_ok-begin.ensures.adds) c.requires.rst
+choose-requires-clause-condition c =
+    net_added (adds_trans (adds_trans c.in_ok-r.ensures.adds c.in_ok-after.ensures.adds) c.in_ok-begin.ensures.adds) c.requires.rst
 
 pub choose-requires-clause-right : goal.choose-requires-clause-right
 choose-requires-clause-right c = net_added c.in_ok-begin.ensures.adds c.in_ok-after.ensures.net
@@ -30,13 +31,18 @@ pub returns-in_err-after-clause-adds : goal.returns-in_err-after-clause-adds
 returns-in_err-after-clause-adds c = adds_most 12 (omega arith) (adds_trans c.in_ok-r.ensures.adds c.in_err-after.ensures.adds)
 
 pub returns-in_err-begin-clause-adds : goal.returns-in_err-begin-clause-adds
-returns-in_err-begin-clause-adds c = adds_most 12 (omega arith) (adds_trans (adds_trans c.in_ok-r.ensures.adds c.in_ok-after.ensures.adds) c.in_err-begin.ensures.adds)
+returns-in_err-begin-clause-adds c =
+    adds_most 12 (omega arith) (adds_trans (adds_trans c.in_ok-r.ensures.adds c.in_ok-after.ensures.adds) c.in_err-begin.ensures.adds)
 
 pub returns-in_err-next-clause-adds : goal.returns-in_err-next-clause-adds
-returns-in_err-next-clause-adds c = adds_most 12 (omega arith) (adds_trans (adds_trans (adds_trans c.in_ok-r.ensures.adds c.in_ok-after.ensures.adds) c.in_ok-begin.ensures.adds) c.in_err-next.ensures.adds)
+returns-in_err-next-clause-adds c =
+    adds_most 12 (omega arith) (adds_trans (adds_trans (adds_trans c.in_ok-r.ensures.adds c.in_ok-after.ensures.adds) c.in_ok-begin.ensures.adds)
+    c.in_err-next.ensures.adds)
 
 pub returns-clause-adds : goal.returns-clause-adds
-returns-clause-adds c = adds_connect (adds_trans (adds_trans (adds_trans c.in_ok-r.ensures.adds c.in_ok-after.ensures.adds) c.in_ok-begin.ensures.adds) c.in_ok-next.ensures.adds) (omega (arith, c.in_ok-r.ensures.fresh)) c.close.ensures
+returns-clause-adds c =
+    adds_connect (adds_trans (adds_trans (adds_trans c.in_ok-r.ensures.adds c.in_ok-after.ensures.adds) c.in_ok-begin.ensures.adds) c.in_ok-next.ensures.adds)
+    (omega (arith, c.in_ok-r.ensures.fresh)) c.close.ensures
 
 pub returns-clause-net : goal.returns-clause-net
 returns-clause-net c =

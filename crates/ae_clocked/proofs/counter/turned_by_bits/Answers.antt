@@ -16,10 +16,13 @@ pub choose-requires-clause-condition : goal.choose-requires-clause-condition
 choose-requires-clause-condition c = net_added c.in_ok-ones.ensures.adds c.in_ok-at_end.ensures.net
 
 pub choose-requires-clause-left : goal.choose-requires-clause-left
-choose-requires-clause-left c = net_added (adds_trans (adds_trans c.in_ok-end.ensures.adds c.in_ok-at_end.ensures.adds) c.in_ok-ones.ensures.adds) c.requires.net
+choose-requires-clause-left c =
+    net_added (adds_trans (adds_trans c.in_ok-end.ensures.adds c.in_ok-at_end.ensures.adds) c.in_ok-ones.ensures.adds) c.requires.net
 
 pub differ-requires-clause-left : goal.differ-requires-clause-left
-differ-requires-clause-left c = net_added (adds_trans (adds_trans (adds_trans c.in_ok-end.ensures.adds c.in_ok-at_end.ensures.adds) c.in_ok-ones.ensures.adds) c.in_ok-flips.ensures.adds) c.requires.net
+differ-requires-clause-left c =
+    net_added (adds_trans (adds_trans (adds_trans c.in_ok-end.ensures.adds c.in_ok-at_end.ensures.adds) c.in_ok-ones.ensures.adds) c.in_ok-flips.ensures.adds)
+    c.requires.net
 
 pub returns-in_err-end-clause-adds : goal.returns-in_err-end-clause-adds
 returns-in_err-end-clause-adds c = adds_most 9 (omega arith) (c.in_err-end.ensures.adds)
@@ -28,16 +31,23 @@ pub returns-in_err-at_end-clause-adds : goal.returns-in_err-at_end-clause-adds
 returns-in_err-at_end-clause-adds c = adds_most 9 (omega arith) (adds_trans c.in_ok-end.ensures.adds c.in_err-at_end.ensures.adds)
 
 pub returns-in_err-ones-clause-adds : goal.returns-in_err-ones-clause-adds
-returns-in_err-ones-clause-adds c = adds_most 9 (omega arith) (adds_trans (adds_trans c.in_ok-end.ensures.adds c.in_ok-at_end.ensures.adds) c.in_err-ones.ensures.adds)
+returns-in_err-ones-clause-adds c =
+    adds_most 9 (omega arith) (adds_trans (adds_trans c.in_ok-end.ensures.adds c.in_ok-at_end.ensures.adds) c.in_err-ones.ensures.adds)
 
 pub returns-in_err-flips-clause-adds : goal.returns-in_err-flips-clause-adds
-returns-in_err-flips-clause-adds c = adds_most 9 (omega arith) (adds_trans (adds_trans (adds_trans c.in_ok-end.ensures.adds c.in_ok-at_end.ensures.adds) c.in_ok-ones.ensures.adds) c.in_err-flips.ensures.adds)
+returns-in_err-flips-clause-adds c =
+    adds_most 9 (omega arith) (adds_trans (adds_trans (adds_trans c.in_ok-end.ensures.adds c.in_ok-at_end.ensures.adds) c.in_ok-ones.ensures.adds)
+    c.in_err-flips.ensures.adds)
 
 pub returns-in_err-next-clause-adds : goal.returns-in_err-next-clause-adds
-returns-in_err-next-clause-adds c = adds_most 9 (omega arith) (adds_trans (adds_trans (adds_trans (adds_trans c.in_ok-end.ensures.adds c.in_ok-at_end.ensures.adds) c.in_ok-ones.ensures.adds) c.in_ok-flips.ensures.adds) c.in_err-next.ensures.adds)
+returns-in_err-next-clause-adds c =
+    adds_most 9 (omega arith) (adds_trans (adds_trans (adds_trans (adds_trans c.in_ok-end.ensures.adds c.in_ok-at_end.ensures.adds) c.in_ok-ones.ensures.adds)
+    c.in_ok-flips.ensures.adds) c.in_err-next.ensures.adds)
 
 pub returns-clause-adds : goal.returns-clause-adds
-returns-clause-adds c = adds_trans (adds_trans (adds_trans (adds_trans c.in_ok-end.ensures.adds c.in_ok-at_end.ensures.adds) c.in_ok-ones.ensures.adds) c.in_ok-flips.ensures.adds) c.in_ok-next.ensures.adds
+returns-clause-adds c =
+    adds_trans (adds_trans (adds_trans (adds_trans c.in_ok-end.ensures.adds c.in_ok-at_end.ensures.adds) c.in_ok-ones.ensures.adds) c.in_ok-flips.ensures.adds)
+    c.in_ok-next.ensures.adds
 
 pub returns-clause-words : goal.returns-clause-words
 returns-clause-words c = λ all k5 run is t l.

@@ -16,7 +16,8 @@ pub sum-requires-clause-left : goal.sum-requires-clause-left
 sum-requires-clause-left c = net_added (adds_trans (adds_trans c.in_ok-end.ensures.adds c.in_ok-at_end.ensures.adds) c.in_ok-one.ensures.adds) c.requires.net
 
 pub choose-requires-clause-condition : goal.choose-requires-clause-condition
-choose-requires-clause-condition c = net_added (adds_trans (adds_trans c.in_ok-one.ensures.adds c.in_ok-up.ensures.adds) c.in_ok-zero.ensures.adds) c.in_ok-at_end.ensures.net
+choose-requires-clause-condition c =
+    net_added (adds_trans (adds_trans c.in_ok-one.ensures.adds c.in_ok-up.ensures.adds) c.in_ok-zero.ensures.adds) c.in_ok-at_end.ensures.net
 
 pub choose-requires-clause-right : goal.choose-requires-clause-right
 choose-requires-clause-right c = net_added c.in_ok-zero.ensures.adds c.in_ok-up.ensures.net
@@ -28,19 +29,29 @@ pub returns-in_err-at_end-clause-adds : goal.returns-in_err-at_end-clause-adds
 returns-in_err-at_end-clause-adds c = adds_most 6 (omega arith) (adds_trans c.in_ok-end.ensures.adds c.in_err-at_end.ensures.adds)
 
 pub returns-in_err-one-clause-adds : goal.returns-in_err-one-clause-adds
-returns-in_err-one-clause-adds c = adds_most 6 (omega arith) (adds_trans (adds_trans c.in_ok-end.ensures.adds c.in_ok-at_end.ensures.adds) c.in_err-one.ensures.adds)
+returns-in_err-one-clause-adds c =
+    adds_most 6 (omega arith) (adds_trans (adds_trans c.in_ok-end.ensures.adds c.in_ok-at_end.ensures.adds) c.in_err-one.ensures.adds)
 
 pub returns-in_err-up-clause-adds : goal.returns-in_err-up-clause-adds
-returns-in_err-up-clause-adds c = adds_most 6 (omega arith) (adds_trans (adds_trans (adds_trans c.in_ok-end.ensures.adds c.in_ok-at_end.ensures.adds) c.in_ok-one.ensures.adds) c.in_err-up.ensures.adds)
+returns-in_err-up-clause-adds c =
+    adds_most 6 (omega arith) (adds_trans (adds_trans (adds_trans c.in_ok-end.ensures.adds c.in_ok-at_end.ensures.adds) c.in_ok-one.ensures.adds)
+    c.in_err-up.ensures.adds)
 
 pub returns-in_err-zero-clause-adds : goal.returns-in_err-zero-clause-adds
-returns-in_err-zero-clause-adds c = adds_most 6 (omega arith) (adds_trans (adds_trans (adds_trans (adds_trans c.in_ok-end.ensures.adds c.in_ok-at_end.ensures.adds) c.in_ok-one.ensures.adds) c.in_ok-up.ensures.adds) c.in_err-zero.ensures.adds)
+returns-in_err-zero-clause-adds c =
+    adds_most 6 (omega arith) (adds_trans (adds_trans (adds_trans (adds_trans c.in_ok-end.ensures.adds c.in_ok-at_end.ensures.adds) c.in_ok-one.ensures.adds)
+    c.in_ok-up.ensures.adds) c.in_err-zero.ensures.adds)
 
 pub returns-in_err-next-clause-adds : goal.returns-in_err-next-clause-adds
-returns-in_err-next-clause-adds c = adds_most 6 (omega arith) (adds_trans (adds_trans (adds_trans (adds_trans (adds_trans c.in_ok-end.ensures.adds c.in_ok-at_end.ensures.adds) c.in_ok-one.ensures.adds) c.in_ok-up.ensures.adds) c.in_ok-zero.ensures.adds) c.in_err-next.ensures.adds)
+returns-in_err-next-clause-adds c =
+    adds_most 6 (omega arith) (adds_trans (adds_trans (adds_trans
+    (adds_trans (adds_trans c.in_ok-end.ensures.adds c.in_ok-at_end.ensures.adds) c.in_ok-one.ensures.adds) c.in_ok-up.ensures.adds)
+    c.in_ok-zero.ensures.adds) c.in_err-next.ensures.adds)
 
 pub returns-clause-adds : goal.returns-clause-adds
-returns-clause-adds c = adds_trans (adds_trans (adds_trans (adds_trans (adds_trans c.in_ok-end.ensures.adds c.in_ok-at_end.ensures.adds) c.in_ok-one.ensures.adds) c.in_ok-up.ensures.adds) c.in_ok-zero.ensures.adds) c.in_ok-next.ensures.adds
+returns-clause-adds c =
+    adds_trans (adds_trans (adds_trans (adds_trans (adds_trans c.in_ok-end.ensures.adds c.in_ok-at_end.ensures.adds) c.in_ok-one.ensures.adds)
+    c.in_ok-up.ensures.adds) c.in_ok-zero.ensures.adds) c.in_ok-next.ensures.adds
 
 pub returns-clause-words : goal.returns-clause-words
 returns-clause-words c = λ all k6 run is t l.

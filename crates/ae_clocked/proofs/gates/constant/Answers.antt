@@ -6,7 +6,8 @@ use Rattle.ae_clocked.specs.Signals.{is_test}
 use Rattle.ae_clocked.proofs.gates.constant.Goals as goal
 
 pub returns-clause-adds : goal.returns-clause-adds
-returns-clause-adds c = always _ c.add.new.self c.add.result (added _ c.add.new.self c.add.result _ c.formed.ensures.cells tt refl c.add.ensures.added) c.add.ensures.err
+returns-clause-adds c =
+    always _ c.add.new.self c.add.result (added _ c.add.new.self c.add.result _ c.formed.ensures.cells tt refl c.add.ensures.added) c.add.ensures.err
 
 pub returns-clause-full : goal.returns-clause-full
 returns-clause-full c = full_at _ c.add.new.self c.add.result c.add.ensures.full c.add.ensures.err

@@ -6,7 +6,9 @@ use Rattle.ae_clocked.specs.Signals.{is_test}
 use Rattle.ae_clocked.proofs.gates.register.Goals as goal
 
 pub returns-clause-adds : goal.returns-clause-adds
-returns-clause-adds c = always _ c.state.new.self c.state.result (added _ c.state.new.self c.state.result _ c.formed.ensures.cells tt refl c.state.ensures.added) c.state.ensures.err
+returns-clause-adds c =
+    always _ c.state.new.self c.state.result (added _ c.state.new.self c.state.result _ c.formed.ensures.cells tt refl c.state.ensures.added)
+    c.state.ensures.err
 
 pub returns-clause-full : goal.returns-clause-full
 returns-clause-full c = full_at _ c.state.new.self c.state.result c.state.ensures.full c.state.ensures.err

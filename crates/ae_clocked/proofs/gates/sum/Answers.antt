@@ -8,7 +8,9 @@ pub operate-requires-clause-operands : goal.operate-requires-clause-operands
 operate-requires-clause-operands c = sum_operation _ c.args.a c.args.b c.args.width c.requires.left c.requires.right
 
 pub returns-clause-words : goal.returns-clause-words
-returns-clause-words c = result_at c.operate.new.nl.cells c.operate.result c.args.nl.now.cells Add (c.args.a ∷ c.args.b ∷ c.args.a ∷ []) c.args.width c.requires.left c.operate.ensures.words
+returns-clause-words c =
+    result_at c.operate.new.nl.cells c.operate.result c.args.nl.now.cells Add
+    (c.args.a ∷ c.args.b ∷ c.args.a ∷ []) c.args.width c.requires.left c.operate.ensures.words
 
 pub returns-clause-adds : goal.returns-clause-adds
 returns-clause-adds c = always c.args.nl.now c.operate.new.nl c.operate.result c.operate.ensures.adds c.operate.ensures.err

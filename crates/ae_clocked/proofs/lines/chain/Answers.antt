@@ -28,7 +28,8 @@ returns-in_err-push-clause-adds c = adds_most c.args.count (omega arith) (adds_n
 
 pub loop-i-init : goal.loop-i-init
 loop-i-init c =
-    let pushed : c.push.new.self.items ≡ c.args.x ∷ [] = c.in_ok-push.ensures.items ∙ ap (λ (nets : List NetId). nets ++ c.args.x ∷ []) c.new-nets.ensures.items in
+    let pushed : c.push.new.self.items ≡ c.args.x ∷ [] = c.in_ok-push.ensures.items ∙
+    ap (λ (nets : List NetId). nets ++ c.args.x ∷ []) c.new-nets.ensures.items in
     record {
       adds = adds_none _;
       delays = rw pushed (delays_first _ _ _ c.requires.net);

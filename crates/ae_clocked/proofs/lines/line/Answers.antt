@@ -38,7 +38,8 @@ loop-tap-preserved c =
 
 pub index-requires : goal.index-requires
 index-requires c =
-    let small : get_or c.args.taps.now c.loop-tap.tap-index 0 ≤ c.greatest.result = rw c.greatest.ensures (below_greatest c.args.taps.now c.loop-tap.tap-index c.loop-tap-test.true) in
+    let small : get_or c.args.taps.now c.loop-tap.tap-index 0 ≤ c.greatest.result = rw c.greatest.ensures
+    (below_greatest c.args.taps.now c.loop-tap.tap-index c.loop-tap-test.true) in
     let long : length c.in_ok-nets.nets.items ≡ c.greatest.result + 1 = c.in_ok-nets.ensures.long in
     first_of (omega arith, grind arith)
 

@@ -30,12 +30,14 @@ loop-tap-init c = record {
 
 pub tap_at-requires-clause-far : goal.tap_at-requires-clause-far
 tap_at-requires-clause-far c = λ far.
-    let small : get_or c.args.taps.now c.loop-tap.tap-index 0 ≤ c.greatest-most.result = rw c.greatest-most.ensures (below_greatest c.args.taps.now c.loop-tap.tap-index c.loop-tap-test.true) in
+    let small : get_or c.args.taps.now c.loop-tap.tap-index 0 ≤ c.greatest-most.result = rw c.greatest-most.ensures
+    (below_greatest c.args.taps.now c.loop-tap.tap-index c.loop-tap-test.true) in
     rw c.deref-in-loop-tap.ensures.value (far_within c.greatest-most.result _ _ far small c.in_ok-links.ensures.long)
 
 pub tap_at-requires-clause-links : goal.tap_at-requires-clause-links
 tap_at-requires-clause-links c = λ far.
-    let small : get_or c.args.taps.now c.loop-tap.tap-index 0 ≤ c.greatest-most.result = rw c.greatest-most.ensures (below_greatest c.args.taps.now c.loop-tap.tap-index c.loop-tap-test.true) in
+    let small : get_or c.args.taps.now c.loop-tap.tap-index 0 ≤ c.greatest-most.result = rw c.greatest-most.ensures
+    (below_greatest c.args.taps.now c.loop-tap.tap-index c.loop-tap-test.true) in
     (c.args.clocks.now.rst, c.args.x.0, c.greatest-most.result, rw c.deref-in-loop-tap.ensures.value c.loop-tap.invariant.links, small)
 
 pub returns-in_err-net-clause-belongs : goal.returns-in_err-net-clause-belongs
@@ -49,14 +51,32 @@ returns-in_err-net-clause-cells c =
     let count = count_more c.args.taps.now c.loop-tap.tap-index _ c.loop-tap-test.true refl in
     let part = count_part (λ (t : ℕ). nat_lt 0 t) (c.loop-tap.tap-index + 1) c.args.taps.now in
     let fits = room c.nearest-near.result c.greatest-most.result c.nearest-near.ensures.below (rw c.greatest-most.ensures c.nearest-near.ensures.least) in
-    rw (← c.greatest-most.ensures) (omega (arith, c.in_ok-nets.ensures.adds.cells, c.in_ok-links.ensures.adds.cells, c.loop-tap.invariant.adds.cells, c.in_err-net.ensures.adds.cells, count, part, fits))
+    rw (← c.greatest-most.ensures) (omega (
+      arith,
+      c.in_ok-nets.ensures.adds.cells,
+      c.in_ok-links.ensures.adds.cells,
+      c.loop-tap.invariant.adds.cells,
+      c.in_err-net.ensures.adds.cells,
+      count,
+      part,
+      fits,
+    ))
 
 pub returns-in_err-push-clause-cells : goal.returns-in_err-push-clause-cells
 returns-in_err-push-clause-cells c =
     let count = count_more c.args.taps.now c.loop-tap.tap-index _ c.loop-tap-test.true refl in
     let part = count_part (λ (t : ℕ). nat_lt 0 t) (c.loop-tap.tap-index + 1) c.args.taps.now in
     let fits = room c.nearest-near.result c.greatest-most.result c.nearest-near.ensures.below (rw c.greatest-most.ensures c.nearest-near.ensures.least) in
-    rw (← c.greatest-most.ensures) (omega (arith, c.in_ok-nets.ensures.adds.cells, c.in_ok-links.ensures.adds.cells, c.loop-tap.invariant.adds.cells, c.in_ok-net.ensures.adds.cells, count, part, fits))
+    rw (← c.greatest-most.ensures) (omega (
+      arith,
+      c.in_ok-nets.ensures.adds.cells,
+      c.in_ok-links.ensures.adds.cells,
+      c.loop-tap.invariant.adds.cells,
+      c.in_ok-net.ensures.adds.cells,
+      count,
+      part,
+      fits,
+    ))
 
 pub loop-tap-preserved : goal.loop-tap-preserved
 loop-tap-preserved c =
@@ -67,8 +87,10 @@ loop-tap-preserved c =
     let there : slice_get taps c.loop-tap.tap-index ≡ Some tap = slice_get-get_or taps c.loop-tap.tap-index 0 c.loop-tap-test.true in
     let count = count_more taps c.loop-tap.tap-index tap c.loop-tap-test.true refl in
     let delays : AreDelays c.loop-tap.nl.cells c.width_at-width.result c.args.x.0 c.deref.result.now = rw c.deref.ensures.value was.delays in
-    let links : AreLinks c.loop-tap.nl.cells c.args.clocks.now.rst c.width_at-width.result c.args.x.0 c.greatest-most.result c.deref-in-loop-tap.result.now = rw c.deref-in-loop-tap.ensures.value was.links in
-    let new : IsTap c.tap_at.new.nl.cells c.args.clocks.now.rst c.width_at-width.result c.args.x.0 tap c.in_ok-net.net.0 = more.tap c.args.clocks.now.rst c.args.x.0 c.greatest-most.result delays links in
+    let links : AreLinks c.loop-tap.nl.cells c.args.clocks.now.rst c.width_at-width.result c.args.x.0 c.greatest-most.result
+    c.deref-in-loop-tap.result.now = rw c.deref-in-loop-tap.ensures.value was.links in
+    let new : IsTap c.tap_at.new.nl.cells c.args.clocks.now.rst c.width_at-width.result c.args.x.0 tap c.in_ok-net.net.0 = more.tap c.args.clocks.now.rst
+    c.args.x.0 c.greatest-most.result delays links in
     let pushed : c.push.new.self.items ≡ c.loop-tap.tapped.items ++ c.in_ok-net.net ∷ [] = c.in_ok-push.ensures.items in
     record {
       adds = adds_most _ (omega (arith, count)) (adds_trans was.adds more.adds);

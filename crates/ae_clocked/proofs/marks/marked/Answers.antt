@@ -63,7 +63,8 @@ returns-clause-marks c = λ all e run is start reset.
     counts (c.in_ok-begins.ensures.words all (carries_extends _ e1) run is) in
     let leaves = at_is run _ _ c.args.period c.args.offset c.args.at (c.args.from - 1) start c.requires.low c.requires.begins (omega arith)
     counts (c.in_ok-ends.ensures.words all (carries_extends _ e2) run is) in
-    turns_mark run _ _ _ _ c.args.period c.args.offset c.requires.counter.width c.args.from start c.requires.low c.requires.counter.holds.enough some few last leaves
+    turns_mark run _ _ _ _ c.args.period c.args.offset c.requires.counter.width c.args.from start c.requires.low c.requires.counter.holds.enough some few last
+    leaves
     (c.in_ok-y-2.ensures.words all (carries_extends _ e) run is) reset
 
 pub at_phase-requires-clause-counter : goal.at_phase-requires-clause-counter

@@ -10,29 +10,35 @@ use Rattle.ae_clocked.proofs.Marked.{bit_is, turn_xor}
 use Rattle.ae_clocked.proofs.marks.turning.Goals as goal
 
 pub choose-requires-clause-condition : goal.choose-requires-clause-condition
-choose-requires-clause-condition c = net_added (adds_trans (adds_trans (adds_trans c.in_ok-y.ensures.adds c.in_ok-once.ensures.adds) c.in_ok-after.ensures.adds) c.in_ok-begin.ensures.adds) c.requires.rst
+choose-requires-clause-condition c =
+    net_added (adds_trans (adds_trans (adds_trans c.in_ok-y.ensures.adds c.in_ok-once.ensures.adds) c.in_ok-after.ensures.adds) c.in_ok-begin.ensures.adds)
+    c.requires.rst
 
 pub choose-requires-clause-right : goal.choose-requires-clause-right
 choose-requires-clause-right c = net_added c.in_ok-begin.ensures.adds c.in_ok-after.ensures.net
 
 pub close-requires-clause-register : goal.close-requires-clause-register
 close-requires-clause-register c =
-    let later = grows_trans c.in_ok-once.ensures.adds.grows (grows_trans c.in_ok-after.ensures.adds.grows (grows_trans c.in_ok-begin.ensures.adds.grows c.in_ok-next.ensures.adds.grows)) in
+    let later = grows_trans c.in_ok-once.ensures.adds.grows
+    (grows_trans c.in_ok-after.ensures.adds.grows (grows_trans c.in_ok-begin.ensures.adds.grows c.in_ok-next.ensures.adds.grows)) in
     own_register (register_later later c.in_ok-y.ensures.register)
 
 pub close-requires-clause-next : goal.close-requires-clause-next
 close-requires-clause-next c =
-    let later = grows_trans c.in_ok-once.ensures.adds.grows (grows_trans c.in_ok-after.ensures.adds.grows (grows_trans c.in_ok-begin.ensures.adds.grows c.in_ok-next.ensures.adds.grows)) in
+    let later = grows_trans c.in_ok-once.ensures.adds.grows
+    (grows_trans c.in_ok-after.ensures.adds.grows (grows_trans c.in_ok-begin.ensures.adds.grows c.in_ok-next.ensures.adds.grows)) in
     net_own (register_later later c.in_ok-y.ensures.register) c.in_ok-next.ensures.net
 
 pub returns-clause-adds : goal.returns-clause-adds
 returns-clause-adds c =
-    adds_connect (adds_trans (adds_trans (adds_trans (adds_trans c.in_ok-y.ensures.adds c.in_ok-once.ensures.adds) c.in_ok-after.ensures.adds) c.in_ok-begin.ensures.adds) c.in_ok-next.ensures.adds)
+    adds_connect (adds_trans (adds_trans (adds_trans (adds_trans c.in_ok-y.ensures.adds c.in_ok-once.ensures.adds) c.in_ok-after.ensures.adds)
+    c.in_ok-begin.ensures.adds) c.in_ok-next.ensures.adds)
     (omega (arith, c.in_ok-y.ensures.fresh)) c.close.ensures
 
 pub returns-clause-net : goal.returns-clause-net
 returns-clause-net c =
-    let later = adds_trans (adds_trans (adds_trans c.in_ok-once.ensures.adds c.in_ok-after.ensures.adds) c.in_ok-begin.ensures.adds) c.in_ok-next.ensures.adds in
+    let later = adds_trans (adds_trans (adds_trans c.in_ok-once.ensures.adds c.in_ok-after.ensures.adds) c.in_ok-begin.ensures.adds)
+    c.in_ok-next.ensures.adds in
     c.close.ensures.nets _ _ (net_added later c.in_ok-y.ensures.net)
 
 pub returns-clause-words : goal.returns-clause-words
@@ -53,9 +59,12 @@ returns-clause-words c = λ all k run is t l.
     let k1 = back g1 k2 in
     let l0 : t < length run = omega arith in
     let begin = rw (bit_is _ _ c.from.ensures) at (c.in_ok-begin.ensures.words all (carries_later _ _ (omega arith) k3) run is t l0) in
-    let all_added = adds_trans (adds_trans (adds_trans (adds_trans c.in_ok-y.ensures.adds c.in_ok-once.ensures.adds) c.in_ok-after.ensures.adds) c.in_ok-begin.ensures.adds) c.in_ok-next.ensures.adds in
-    let since = adds_trans (adds_trans (adds_trans c.in_ok-once.ensures.adds c.in_ok-after.ensures.adds) c.in_ok-begin.ensures.adds) c.in_ok-next.ensures.adds in
-    let y_bit : word_at run t c.in_ok-y.y.0 < 2 = word_below all run t _ 1 is l0 (k.nets _ _ (c.close.ensures.nets _ _ (net_added since c.in_ok-y.ensures.net))) in
+    let all_added = adds_trans (adds_trans (adds_trans (adds_trans c.in_ok-y.ensures.adds c.in_ok-once.ensures.adds) c.in_ok-after.ensures.adds)
+    c.in_ok-begin.ensures.adds) c.in_ok-next.ensures.adds in
+    let since = adds_trans (adds_trans (adds_trans c.in_ok-once.ensures.adds c.in_ok-after.ensures.adds) c.in_ok-begin.ensures.adds)
+    c.in_ok-next.ensures.adds in
+    let y_bit : word_at run t c.in_ok-y.y.0 < 2 = word_below all run t _ 1 is l0
+    (k.nets _ _ (c.close.ensures.nets _ _ (net_added since c.in_ok-y.ensures.net))) in
     let a_bit : word_at run t c.args.a.0 < 2 = word_below all run t _ 1 is l0 (k.nets _ _ (c.close.ensures.nets _ _ (net_added all_added c.requires.left))) in
     let b_bit : word_at run t c.args.b.0 < 2 = word_below all run t _ 1 is l0 (k.nets _ _ (c.close.ensures.nets _ _ (net_added all_added c.requires.right))) in
     turn_xor _ _ _ _ _ _ _ _ _ _ y_bit a_bit b_bit

@@ -17,7 +17,8 @@ add-requires-clause-allowed c =
 pub returns-clause-adds : goal.returns-clause-adds
 returns-clause-adds c =
     let wide : width_of c.args.nl.now.cells c.args.at.0 ≡ c.args.bits = net_width c.requires.place in
-    added_peek _ c.add.new.self c.add.result c.args.width (2 ^ c.args.bits) c.args.m c.args.at c.formed.ensures.cells c.requires.memory (own_net c.requires.place) (rw wide (omega arith)) c.add.ensures.added c.add.ensures.err
+    added_peek _ c.add.new.self c.add.result c.args.width (2 ^ c.args.bits) c.args.m c.args.at c.formed.ensures.cells c.requires.memory
+    (own_net c.requires.place) (rw wide (omega arith)) c.add.ensures.added c.add.ensures.err
 
 pub returns-clause-net : goal.returns-clause-net
 returns-clause-net c = peek_net _ c.add.new.self c.add.result c.args.width c.args.m c.args.at (c.add.ensures.ok, c.add.ensures.added)

@@ -7,7 +7,8 @@ use Rattle.ae_clocked.proofs.Making.{counter_net, counter_counts, memories_after
 use Rattle.ae_clocked.proofs.ring.make_ring.Goals as goal
 
 pub store-requires-clause-place : goal.store-requires-clause-place
-store-requires-clause-place c = counter_net _ _ _ c.bits_for-bits.result _ c.ring_depth-depth.ensures.holds (omega (arith, c.bits_for-bits.ensures.low)) c.in_ok-counter.ensures.counts
+store-requires-clause-place c =
+    counter_net _ _ _ c.bits_for-bits.result _ c.ring_depth-depth.ensures.holds (omega (arith, c.bits_for-bits.ensures.low)) c.in_ok-counter.ensures.counts
 
 pub store-requires-clause-net : goal.store-requires-clause-net
 store-requires-clause-net c = net_later c.in_ok-counter.ensures.adds.grows.extends c.requires.net
@@ -28,14 +29,17 @@ pub returns-clause-belongs : goal.returns-clause-belongs
 returns-clause-belongs c = belongs_grows _ _ _ c.in_ok-memory.ensures.adds.grows c.in_ok-counter.ensures.belongs
 
 pub returns-in_err-memory-clause-keeps : goal.returns-in_err-memory-clause-keeps
-returns-in_err-memory-clause-keeps c = phase_keeps _ _ _ c.in_ok-counter.counter c.in_ok-counter.ensures.rst c.in_ok-counter.ensures.keeps (λ n found. (c.in_ok-counter.ensures.again n found).2)
+returns-in_err-memory-clause-keeps c =
+    phase_keeps _ _ _ c.in_ok-counter.counter c.in_ok-counter.ensures.rst c.in_ok-counter.ensures.keeps (λ n found. (c.in_ok-counter.ensures.again n found).2)
 
 pub returns-clause-keeps : goal.returns-clause-keeps
-returns-clause-keeps c = phase_keeps _ _ _ c.in_ok-counter.counter c.in_ok-counter.ensures.rst c.in_ok-counter.ensures.keeps (λ n found. (c.in_ok-counter.ensures.again n found).2)
+returns-clause-keeps c =
+    phase_keeps _ _ _ c.in_ok-counter.counter c.in_ok-counter.ensures.rst c.in_ok-counter.ensures.keeps (λ n found. (c.in_ok-counter.ensures.again n found).2)
 
 pub returns-clause-ring : goal.returns-clause-ring
 returns-clause-ring c =
-    let place = counter_net _ _ _ c.bits_for-bits.result _ c.ring_depth-depth.ensures.holds (omega (arith, c.bits_for-bits.ensures.low)) c.in_ok-counter.ensures.counts in
+    let place = counter_net _ _ _ c.bits_for-bits.result _ c.ring_depth-depth.ensures.holds
+    (omega (arith, c.bits_for-bits.ensures.low)) c.in_ok-counter.ensures.counts in
     let counts = counter_counts _ _ _ c.bits_for-bits.result _ c.ring_depth-depth.ensures.holds c.in_ok-counter.ensures.counts in
     let grows = c.in_ok-memory.ensures.adds.grows.extends in
     record {
@@ -53,10 +57,20 @@ returns-clause-ring c =
 
 pub returns-clause-far : goal.returns-clause-far
 returns-clause-far c = λ most.
-    let depth : c.ring_depth-depth.result ≡ 4096 = omega (arith, c.ring_depth-depth.ensures.holds, c.ring_depth-depth.ensures.most, c.bits_for-bits.ensures.enough) in
+    let depth : c.ring_depth-depth.result ≡ 4096 = omega (
+      arith,
+      c.ring_depth-depth.ensures.holds,
+      c.ring_depth-depth.ensures.most,
+      c.bits_for-bits.ensures.enough,
+    ) in
     rw (eq-eqb _ _ depth) at (c.in_ok-counter.ensures.keeps (record { period = 4096; offset = 0 }))
 
 pub returns-clause-again : goal.returns-clause-again
 returns-clause-again c = λ net most found.
-    let depth : c.ring_depth-depth.result ≡ 4096 = omega (arith, c.ring_depth-depth.ensures.holds, c.ring_depth-depth.ensures.most, c.bits_for-bits.ensures.enough) in
+    let depth : c.ring_depth-depth.result ≡ 4096 = omega (
+      arith,
+      c.ring_depth-depth.ensures.holds,
+      c.ring_depth-depth.ensures.most,
+      c.bits_for-bits.ensures.enough,
+    ) in
     (c.in_ok-counter.ensures.again net (rw depth found)).2

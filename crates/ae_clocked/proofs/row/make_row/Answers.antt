@@ -72,7 +72,8 @@ loop-j-preserved c =
     let tap : IsTap c.make_ring.new.nl.cells rst c.args.width c.args.x.0 (4096 * c.loop-j.j) c.loop-j.head.0 = tap_grows more.adds.grows.extends was.head in
     let full : 4096 ≡ min 4096 (c.args.reach - 4096 * c.loop-j.j) = omega arith in
     let sum : 4096 * c.loop-j.j + 4096 ≡ 4096 * (c.loop-j.j + 1) = omega arith in
-    let pushed : c.push.new.self.items ≡ c.loop-j.links.items ++ (record { head = c.loop-j.head; ring = c.in_ok-ring.ring }) ∷ [] = c.in_ok-push.ensures.items in
+    let pushed : c.push.new.self.items ≡ c.loop-j.links.items ++ (record { head = c.loop-j.head; ring = c.in_ok-ring.ring })
+    ∷ [] = c.in_ok-push.ensures.items in
     record {
       belongs = belongs_grows _ _ _ next.adds.grows more.belongs;
       keeps = keeps_trans was.keeps more.keeps;
@@ -86,7 +87,8 @@ loop-j-preserved c =
           omega arith));
       far = λ some. (c.in_ok-ring.ring.counter, more.far (omega arith));
       long = rw pushed (length_push c.loop-j.links.items _ ∙ ap (λ n. n + 1) was.long);
-      links = rw pushed (links_grow next.adds.grows.extends (links_more _ _ _ _ _ _ 4096 c.loop-j.j _ _ more.adds.grows.extends was.long was.links tap full holds));
+      links = rw pushed (links_grow next.adds.grows.extends
+          (links_more _ _ _ _ _ _ 4096 c.loop-j.j _ _ more.adds.grows.extends was.long was.links tap full holds));
       head = next_head _ _ _ _ _ c.loop-j.j _ _ _ next.adds.grows.extends tap (next.tap rst c.loop-j.head.0 holds.ring) sum;
     }
 
@@ -95,7 +97,8 @@ returns-clause-links c =
     let was = c.loop-j.invariant in
     let more = c.in_ok-ring-2.ensures in
     let rst : ℕ = c.args.clocks.now.rst in
-    let holds : HoldsRing c.make_ring-2.new.nl.cells rst c.args.width c.loop-j.head.0 (c.args.reach - 4096 * ((c.args.reach - 1) / 4096)) c.in_ok-ring-2.ring = rw was.keeps.rst at more.ring in
+    let holds : HoldsRing c.make_ring-2.new.nl.cells rst c.args.width c.loop-j.head.0
+    (c.args.reach - 4096 * ((c.args.reach - 1) / 4096)) c.in_ok-ring-2.ring = rw was.keeps.rst at more.ring in
     let tap : IsTap c.make_ring-2.new.nl.cells rst c.args.width c.args.x.0 (4096 * c.loop-j.j) c.loop-j.head.0 = tap_grows more.adds.grows.extends was.head in
     let left : c.args.reach - 4096 * ((c.args.reach - 1) / 4096) ≡ min 4096 (c.args.reach - 4096 * c.loop-j.j) = omega arith in
     let pushed : c.push-2.new.self.items ≡ c.loop-j.links.items ++

@@ -10,11 +10,13 @@ use Rattle.ae_compile.proofs.circuits.circuit.Goals as goal
 
 pub plain_circuit-requires-clause-computes : goal.plain_circuit-requires-clause-computes
 plain_circuit-requires-clause-computes c =
-    (subst (AreCosts (program_tree c.args.costed.now.program) (st_func_trees c.args.costed.now.schedule)) (sym c.costs.ensures.is ∙ c.in-Plain.is) c.costs.ensures.known.costs_are).0
+    (subst (AreCosts (program_tree c.args.costed.now.program) (st_func_trees c.args.costed.now.schedule))
+    (sym c.costs.ensures.is ∙ c.in-Plain.is) c.costs.ensures.known.costs_are).0
 
 pub plain_circuit-requires-clause-times : goal.plain_circuit-requires-clause-times
 plain_circuit-requires-clause-times c =
-    (subst (AreCosts (program_tree c.args.costed.now.program) (st_func_trees c.args.costed.now.schedule)) (sym c.costs.ensures.is ∙ c.in-Plain.is) c.costs.ensures.known.costs_are).1
+    (subst (AreCosts (program_tree c.args.costed.now.program) (st_func_trees c.args.costed.now.schedule))
+    (sym c.costs.ensures.is ∙ c.in-Plain.is) c.costs.ensures.known.costs_are).1
 
 pub lower-requires : goal.lower-requires
 lower-requires c =
@@ -28,14 +30,16 @@ returns-in_ok-lowered-in-Fused-clause-circuit c =
     let p = program_tree c.args.costed.now.program in
     let all = st_func_trees c.args.costed.now.schedule in
     let are = subst (AreCosts p all) (sym c.costs.ensures.is ∙ c.in-Fused.is) c.costs.ensures.known.costs_are in
-    moved_made p c.args.costed.now.slowdown all c.args.costed.now.costs c.in-Fused.moves c.in_ok-lowered-in-Fused.lowered.netlist c.costs.ensures.known are c.in_ok-lowered-in-Fused.ensures.circuit
+    moved_made p c.args.costed.now.slowdown all c.args.costed.now.costs c.in-Fused.moves c.in_ok-lowered-in-Fused.lowered.netlist c.costs.ensures.known are
+    c.in_ok-lowered-in-Fused.ensures.circuit
 
 pub returns-in_ok-lowered-in-Fused-clause-marks : goal.returns-in_ok-lowered-in-Fused-clause-marks
 returns-in_ok-lowered-in-Fused-clause-marks c =
     let p = program_tree c.args.costed.now.program in
     let all = st_func_trees c.args.costed.now.schedule in
     let are = subst (AreCosts p all) (sym c.costs.ensures.is ∙ c.in-Fused.is) c.costs.ensures.known.costs_are in
-    moved_placed p all c.in-Fused.moves c.in_ok-lowered-in-Fused.lowered.netlist.cells c.in_ok-lowered-in-Fused.lowered.marks.items are c.in_ok-lowered-in-Fused.ensures.marks
+    moved_placed p all c.in-Fused.moves c.in_ok-lowered-in-Fused.lowered.netlist.cells c.in_ok-lowered-in-Fused.lowered.marks.items are
+    c.in_ok-lowered-in-Fused.ensures.marks
 
 pub returns-in_ok-lowered-in-Fused-clause-nodes : goal.returns-in_ok-lowered-in-Fused-clause-nodes
 returns-in_ok-lowered-in-Fused-clause-nodes c =
@@ -49,4 +53,5 @@ returns-in_ok-lowered-in-Fused-clause-sections c =
     let p = program_tree c.args.costed.now.program in
     let all = st_func_trees c.args.costed.now.schedule in
     let are = subst (AreCosts p all) (sym c.costs.ensures.is ∙ c.in-Fused.is) c.costs.ensures.known.costs_are in
-    moved_sections p all c.in-Fused.moves (length c.in_ok-lowered-in-Fused.lowered.netlist.cells) c.in_ok-lowered-in-Fused.lowered.sections.items are c.in_ok-lowered-in-Fused.ensures.sections
+    moved_sections p all c.in-Fused.moves (length c.in_ok-lowered-in-Fused.lowered.netlist.cells) c.in_ok-lowered-in-Fused.lowered.sections.items are
+    c.in_ok-lowered-in-Fused.ensures.sections

@@ -12,27 +12,31 @@ use Rattle.ae_compile.proofs.circuits.notes.Goals as goal
 pub line_notes-requires-clause-instance : goal.line_notes-requires-clause-instance
 line_notes-requires-clause-instance c =
     let k = c.costs.ensures.known in
-    main_items (program_tree c.args.costed.now.program) c.args.costed.now.slowdown (st_func_trees c.args.costed.now.schedule) (func_tree c.main_func-func.result.now) (st_func_tree c.main_instance-instance.result.now)
+    main_items (program_tree c.args.costed.now.program) c.args.costed.now.slowdown (st_func_trees c.args.costed.now.schedule)
+    (func_tree c.main_func-func.result.now) (st_func_tree c.main_instance-instance.result.now)
     c.main_func-func.ensures.formed k.schedule k.sound c.main_func-func.ensures.last c.main_instance-instance.ensures.last
 
 pub line_notes-requires-clause-marks : goal.line_notes-requires-clause-marks
 line_notes-requires-clause-marks c =
     let p = program_tree c.args.costed.now.program in
     let f = func_tree c.main_func-func.result.now in
-    let computes : is_movement p ≡ false = (subst (AreCosts p (st_func_trees c.args.costed.now.schedule)) (sym c.costs.ensures.is ∙ c.in-Plain.is) c.costs.ensures.known.costs_are).0 in
+    let computes : is_movement p ≡ false = (subst (AreCosts p (st_func_trees c.args.costed.now.schedule))
+    (sym c.costs.ensures.is ∙ c.in-Plain.is) c.costs.ensures.known.costs_are).0 in
     c.requires f c.main_func-func.ensures.last ∙ ap (λ (b : Bool). if b then length f.results else length f.nodes) computes
 
 pub end_notes-requires-clause-instance : goal.end_notes-requires-clause-instance
 end_notes-requires-clause-instance c =
     let k = c.costs.ensures.known in
-    main_items (program_tree c.args.costed.now.program) c.args.costed.now.slowdown (st_func_trees c.args.costed.now.schedule) (func_tree c.main_func-func.result.now) (st_func_tree c.main_instance-instance.result.now)
+    main_items (program_tree c.args.costed.now.program) c.args.costed.now.slowdown (st_func_trees c.args.costed.now.schedule)
+    (func_tree c.main_func-func.result.now) (st_func_tree c.main_instance-instance.result.now)
     c.main_func-func.ensures.formed k.schedule k.sound c.main_func-func.ensures.last c.main_instance-instance.ensures.last
 
 pub end_notes-requires-clause-marks : goal.end_notes-requires-clause-marks
 end_notes-requires-clause-marks c =
     let p = program_tree c.args.costed.now.program in
     let f = func_tree c.main_func-func.result.now in
-    let moves : is_movement p ≡ true = (subst (AreCosts p (st_func_trees c.args.costed.now.schedule)) (sym c.costs.ensures.is ∙ c.in-Fused.is) c.costs.ensures.known.costs_are).movement in
+    let moves : is_movement p ≡ true = (subst (AreCosts p (st_func_trees c.args.costed.now.schedule))
+    (sym c.costs.ensures.is ∙ c.in-Fused.is) c.costs.ensures.known.costs_are).movement in
     c.requires f c.main_func-func.ensures.last ∙ ap (λ (b : Bool). if b then length f.results else length f.nodes) moves
 
 pub returns-in-Plain-clause-are : goal.returns-in-Plain-clause-are

@@ -7,7 +7,8 @@ use Rattle.ae_compile.proofs.circuits.plain_circuit.Goals as goal
 pub lower-requires-clause-fitted : goal.lower-requires-clause-fitted
 lower-requires-clause-fitted c =
     let k = c.schedule-schedule.ensures.known in
-    rw c.schedule-schedule.ensures.is (c.schedules_fit.ensures (program_tree c.args.costed.now.program) c.args.costed.now.slowdown (st_func_trees c.args.costed.now.schedule) k.typed k.some k.schedule)
+    rw c.schedule-schedule.ensures.is (c.schedules_fit.ensures (program_tree c.args.costed.now.program) c.args.costed.now.slowdown
+    (st_func_trees c.args.costed.now.schedule) k.typed k.some k.schedule)
 
 pub returns-clause-circuit : goal.returns-clause-circuit
 returns-clause-circuit c =
@@ -21,11 +22,13 @@ pub returns-clause-marks : goal.returns-clause-marks
 returns-clause-marks c =
     let p = program_tree c.args.costed.now.program in
     let all = st_func_trees c.args.costed.now.schedule in
-    plain_placed p c.args.costed.now.slowdown all c.args.costed.now.costs c.in_ok-lowered.lowered.netlist.cells c.in_ok-lowered.lowered.marks.items c.schedule-schedule.ensures.known c.requires.computes
+    plain_placed p c.args.costed.now.slowdown all c.args.costed.now.costs c.in_ok-lowered.lowered.netlist.cells c.in_ok-lowered.lowered.marks.items
+    c.schedule-schedule.ensures.known c.requires.computes
     (rw c.schedule-schedule.ensures.is at c.in_ok-lowered.ensures.marks)
 
 pub returns-clause-nodes : goal.returns-clause-nodes
 returns-clause-nodes c = λ computes. rw c.schedule-schedule.ensures.is at c.in_ok-lowered.ensures.nodes
 
 pub returns-clause-sections : goal.returns-clause-sections
-returns-clause-sections c = record { are = c.in_ok-lowered.ensures.sections; covered = λ computes. rw c.schedule-schedule.ensures.is at c.in_ok-lowered.ensures.covered }
+returns-clause-sections c =
+    record { are = c.in_ok-lowered.ensures.sections; covered = λ computes. rw c.schedule-schedule.ensures.is at c.in_ok-lowered.ensures.covered }

@@ -10,13 +10,16 @@ use Rattle.ae_compile.proofs.Made.{known_costs}
 use Rattle.ae_compile.proofs.circuits.report.Goals as goal
 
 pub output_layouts-requires : goal.output_layouts-requires
-output_layouts-requires c = (c.main_instance-s.ensures.known.sound.each (last_of (st_func_trees c.args.costed.now.schedule)) (st_func_tree c.main_instance-s.result.now) c.main_instance-s.ensures.last).results
+output_layouts-requires c =
+    (c.main_instance-s.ensures.known.sound.each (last_of (st_func_trees c.args.costed.now.schedule))
+    (st_func_tree c.main_instance-s.result.now) c.main_instance-s.ensures.last).results
 
 pub overflow_cast-result : goal.overflow_cast-result
 overflow_cast-result c =
     let p = program_tree c.args.costed.now.program in
     let all = st_func_trees c.args.costed.now.schedule in
-    let costs = ap whole_costs c.costs-costs.ensures.is ∙ known_costs load_limit p c.args.costed.now.slowdown all c.args.costed.now.costs c.costs-costs.ensures.known in
+    let costs = ap whole_costs c.costs-costs.ensures.is ∙
+    known_costs load_limit p c.args.costed.now.slowdown all c.args.costed.now.costs c.costs-costs.ensures.known in
     let load : c.load.result ≡ (main_costs p all).load = c.load.ensures ∙ ap (λ (k : OwnCosts). k.load) costs in
     let light : (main_costs p all).load ≤ 100000 = c.costs-costs.ensures.known.light in
     omega (arith, load, light)
@@ -27,7 +30,8 @@ returns-clause-told c = λ s found.
     let own = st_func_tree c.main_instance-s.result.now in
     let same : own ≡ s = same_Some own s (sym c.main_instance-s.ensures.last ∙ found) in
     let p = program_tree c.args.costed.now.program in
-    let costs = ap whole_costs c.costs-costs.ensures.is ∙ known_costs load_limit p c.args.costed.now.slowdown all c.args.costed.now.costs c.costs-costs.ensures.known in
+    let costs = ap whole_costs c.costs-costs.ensures.is ∙
+    known_costs load_limit p c.args.costed.now.slowdown all c.args.costed.now.costs c.costs-costs.ensures.known in
     let latency : c.latency.result ≡ (main_costs p all).latency = c.latency.ensures ∙ ap (λ (k : OwnCosts). k.latency) costs in
     let muls : c.muls.result ≡ (main_costs p all).muls = c.muls.ensures ∙ ap (λ (k : OwnCosts). k.muls) costs in
     let load : c.load.result ≡ (main_costs p all).load = c.load.ensures ∙ ap (λ (k : OwnCosts). k.load) costs in

@@ -29,7 +29,8 @@ invariant_of-result c =
     let p = program_tree c.in_ok-program.program in
     let all = st_func_trees c.in_ok-program.schedule in
     let own = c.in_ok-program.ensures in
-    let load : (main_costs p all).load ≤ c.args.limit = load_within c.args.limit p all (parts_of p c.args.slowdown all own.scheduled.schedule) c.in_ok-costs.ensures.within in
+    let load : (main_costs p all).load ≤ c.args.limit = load_within c.args.limit p all
+    (parts_of p c.args.slowdown all own.scheduled.schedule) c.in_ok-costs.ensures.within in
     let most : c.args.limit ≤ 100000 = c.requires.limit in
     record {
       some = c.requires.some;
@@ -44,7 +45,8 @@ invariant_of-result c =
 pub returns-in_err-costs-clause-refused : goal.returns-in_err-costs-clause-refused
 returns-in_err-costs-clause-refused c =
     let h : IsCostFault c.args.limit c.args.part.now c.args.slowdown c.in_err-costs.field-0.0 =
-    cost_fault c.args.limit c.args.part.now c.args.slowdown (program_tree c.in_ok-program.program) (st_func_trees c.in_ok-program.schedule) c.in_err-costs.field-0.0 c.in_ok-program.ensures.scheduled c.in_err-costs.ensures.refused in
+    cost_fault c.args.limit c.args.part.now c.args.slowdown (program_tree c.in_ok-program.program)
+    (st_func_trees c.in_ok-program.schedule) c.in_err-costs.field-0.0 c.in_ok-program.ensures.scheduled c.in_err-costs.ensures.refused in
     search rules
 
 pub returns-in_err-program-clause-refused : goal.returns-in_err-program-clause-refused

@@ -18,5 +18,6 @@ returns-in_err-timing-in-Ok-None-clause-refused c =
     let computes : is_movement p ≡ false = first_of (search rules, grind (arith, common_steps)) in
     let fault = c.in_err-timing-in-Ok-None.field-0.0 in
     let refused : IsLargeAt (costs_over c.args.limit p all) fault =
-    subst (λ (o : Option LineLoad). IsLargeAt o fault) (sym (plain_over c.args.limit p all computes (parts_of p h.0 all h.3))) c.in_err-timing-in-Ok-None.ensures.refused in
+    subst (λ (o : Option LineLoad). IsLargeAt o fault) (sym (plain_over c.args.limit p all computes (parts_of p h.0 all h.3)))
+    c.in_err-timing-in-Ok-None.ensures.refused in
     search rules

@@ -6,4 +6,5 @@ use Rattle.ae_compile.proofs.layouts.output_layouts.Given as goal
 
 abbrev pub invariant-loop-item : goal.invariant-loop-item
 invariant-loop-item l =
-    map st_tree l.layouts.items ++ map (item_layout (item_layouts (st_func_tree l.s))) (drop l.item-index l.item-items) ≡ map (item_layout (item_layouts (st_func_tree l.s))) l.item-items
+    map st_tree l.layouts.items ++ map (item_layout (item_layouts (st_func_tree l.s))) (drop l.item-index l.item-items) ≡ map
+    (item_layout (item_layouts (st_func_tree l.s))) l.item-items

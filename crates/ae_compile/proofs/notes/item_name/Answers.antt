@@ -24,7 +24,10 @@ returns c =
     let above : length f.params.items ≤ c.args.item = subst (λ (ps : List Param). length ps ≤ c.args.item) same c.if-item-params.false in
     let first : n ≡ get_or f.nodes.items (c.args.item - length c.as_slice-params.result.now) n =
     subst (λ (ns : List Node). n ≡ get_or ns (c.args.item - length c.as_slice-params.result.now) n) c.as_slice-nodes.ensures.value c.index-nodes-item.is in
-    let found : n ≡ get_or f.nodes.items (c.args.item - length f.params.items) n = subst (λ (ps : List Param). n ≡ get_or f.nodes.items (c.args.item - length ps) n) same first in
-    let below : c.args.item - length f.params.items < length f.nodes.items = omega (arith, c.requires, above, length-map f.params.items param_tree, length-map f.nodes.items node_tree) in
+    let found : n ≡ get_or f.nodes.items (c.args.item - length f.params.items) n = subst
+    (λ (ps : List Param). n ≡ get_or f.nodes.items (c.args.item - length ps) n) same first in
+    let below : c.args.item - length f.params.items < length
+    f.nodes.items = omega (arith, c.requires, above, length-map f.params.items param_tree, length-map f.nodes.items node_tree) in
     c.as_str-2.ensures.value
-    ∙ sym (behind_params f.params.items (node_names (map node_tree f.nodes.items)) c.args.item above ∙ node_at f.nodes.items (c.args.item - length f.params.items) n below found)
+    ∙ sym (behind_params f.params.items (node_names (map node_tree f.nodes.items)) c.args.item above ∙
+    node_at f.nodes.items (c.args.item - length f.params.items) n below found)

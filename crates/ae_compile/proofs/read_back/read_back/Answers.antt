@@ -9,7 +9,8 @@ use Rattle.ae_compile.proofs.NoFaults.{only_text_memory}
 use Rattle.ae_compile.proofs.read_back.read_back.Goals as goal
 
 pub netlist_of-requires-clause-spelled : goal.netlist_of-requires-clause-spelled
-netlist_of-requires-clause-spelled c = (c.as_bytes.result.now, subst (λ (bs : List ℕ). length bs < 2 ^ 32) (sym c.as_bytes.ensures.value) c.requires.short, c.in-Ok.ensures.spelled)
+netlist_of-requires-clause-spelled c =
+    (c.as_bytes.result.now, subst (λ (bs : List ℕ). length bs < 2 ^ 32) (sym c.as_bytes.ensures.value) c.requires.short, c.in-Ok.ensures.spelled)
 
 pub netlist_of-requires-clause-formed : goal.netlist_of-requires-clause-formed
 netlist_of-requires-clause-formed c =
@@ -24,4 +25,5 @@ text_memory_alone-requires c =
 pub returns-in-Ok : goal.returns-in-Ok
 returns-in-Ok c =
     IfOk-weaker c.netlist_of.result (λ n. HasSameRuns (module_tree c.in-Ok.m) n) (λ n. (m : ModuleTree) → Spells c.args.text.now m → HasSameRuns m n)
-    (λ n same m spells. subst (λ (t : ModuleTree). HasSameRuns t n) (c.in-Ok.ensures.every_module m (subst (λ (bs : List ℕ). Spells bs m) (sym c.as_bytes.ensures.value) spells)) same) c.netlist_of.ensures
+    (λ n same m spells. subst (λ (t : ModuleTree). HasSameRuns t n)
+    (c.in-Ok.ensures.every_module m (subst (λ (bs : List ℕ). Spells bs m) (sym c.as_bytes.ensures.value) spells)) same) c.netlist_of.ensures

@@ -14,7 +14,8 @@ written-requires c =
     rw (c.netlist-netlist.ensures.is, c.report.ensures.is, c.notes.ensures)
     record {
       printed = c.netlist-netlist.ensures.known.compiled.printed;
-      short = compiled_short (program_tree d.costed.program) d.costed.slowdown (st_func_trees d.costed.schedule) d.costed.costs d.netlist (report_tree d.report) (map note_tree d.notes) c.netlist-netlist.ensures.known.costed c.netlist-netlist.ensures.known.compiled;
+      short = compiled_short (program_tree d.costed.program) d.costed.slowdown (st_func_trees d.costed.schedule) d.costed.costs d.netlist
+          (report_tree d.report) (map note_tree d.notes) c.netlist-netlist.ensures.known.costed c.netlist-netlist.ensures.known.compiled;
     }
 
 pub returns-clause-spells : goal.returns-clause-spells
@@ -33,5 +34,7 @@ returns-clause-text c =
       once = c.one_run.ensures.once;
       spelled = c.spelled_once.ensures;
     } in
-    module_is (program_tree d.costed.program) d.costed.slowdown (st_func_trees d.costed.schedule) d.costed.costs d.netlist (report_tree d.report) (map note_tree d.notes) (string_bytes c.in_ok-text.text) laws
-    c.netlist-netlist.ensures.known.costed c.netlist-netlist.ensures.known.compiled (rw (c.netlist-netlist.ensures.is, c.report.ensures.is, c.notes.ensures) at c.in_ok-text.ensures)
+    module_is (program_tree d.costed.program) d.costed.slowdown (st_func_trees d.costed.schedule) d.costed.costs d.netlist (report_tree d.report)
+    (map note_tree d.notes) (string_bytes c.in_ok-text.text) laws
+    c.netlist-netlist.ensures.known.costed c.netlist-netlist.ensures.known.compiled
+    (rw (c.netlist-netlist.ensures.is, c.report.ensures.is, c.notes.ensures) at c.in_ok-text.ensures)

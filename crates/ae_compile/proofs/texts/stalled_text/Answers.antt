@@ -14,7 +14,8 @@ written-requires c =
     rw (c.netlist-netlist.ensures.is, c.report.ensures, c.notes.ensures)
     record {
       printed = c.netlist-netlist.ensures.known.compiled.printed;
-      short = stalled_short (program_tree d.costed.program) d.costed.slowdown (st_func_trees d.costed.schedule) d.costed.costs d.netlist (report_tree d.report) (map note_tree d.notes) c.netlist-netlist.ensures.known.costed c.netlist-netlist.ensures.known.light c.netlist-netlist.ensures.known.compiled;
+      short = stalled_short (program_tree d.costed.program) d.costed.slowdown (st_func_trees d.costed.schedule) d.costed.costs d.netlist (report_tree d.report)
+          (map note_tree d.notes) c.netlist-netlist.ensures.known.costed c.netlist-netlist.ensures.known.light c.netlist-netlist.ensures.known.compiled;
     }
 
 pub returns : goal.returns
@@ -28,5 +29,7 @@ returns c =
       once = c.one_run.ensures.once;
       spelled = c.spelled_once.ensures;
     } in
-    stalled_is (program_tree d.costed.program) d.costed.slowdown (st_func_trees d.costed.schedule) d.netlist (report_tree d.report) (map note_tree d.notes) (string_bytes c.in_ok-text.text) laws
-    c.netlist-netlist.ensures.known.light c.netlist-netlist.ensures.known.compiled (rw (c.netlist-netlist.ensures.is, c.report.ensures, c.notes.ensures) at c.in_ok-text.ensures)
+    stalled_is (program_tree d.costed.program) d.costed.slowdown (st_func_trees d.costed.schedule) d.netlist (report_tree d.report) (map note_tree d.notes)
+    (string_bytes c.in_ok-text.text) laws
+    c.netlist-netlist.ensures.known.light c.netlist-netlist.ensures.known.compiled
+    (rw (c.netlist-netlist.ensures.is, c.report.ensures, c.notes.ensures) at c.in_ok-text.ensures)

@@ -17,11 +17,13 @@ returns c =
     let notes : List NoteTree = map note_tree c.args.notes.now in
     let outs : ℕ = length report.outs in
     let listed : text ≡ whole_text (report_lines report) notes n.cells n.outlets outs =
-    subst (λ (k : ℕ). text ≡ whole_text (report_lines report) notes n.cells n.outlets k) (sym (length-map c.args.report.now.outs.items st_tree)) c.in_ok-text.ensures.text in
+    subst (λ (k : ℕ). text ≡ whole_text (report_lines report) notes n.cells n.outlets k)
+    (sym (length-map c.args.report.now.outs.items st_tree)) c.in_ok-text.ensures.text in
     let law = c.listings_spell.ensures in
     let begins = law.reports report notes n.cells n.outlets outs in
     record {
-      spells = subst (λ (l : List ℕ). Spells l (noted_module notes n.cells n.outlets outs)) (sym listed) (law.spells report notes n.cells n.outlets outs c.requires.printed c.in_ok-text.ensures.listable);
+      spells = subst (λ (l : List ℕ). Spells l (noted_module notes n.cells n.outlets outs)) (sym listed)
+          (law.spells report notes n.cells n.outlets outs c.requires.printed c.in_ok-text.ensures.listable);
       stars_are = law.stars notes n.cells n.outlets outs;
       rest = begins.0;
       reports = listed ∙ begins.1;

@@ -14,10 +14,12 @@ move_costs-requires-clause-few c = omega (arith, trips_few _ c.in_ok-trips.trips
 
 pub move_costs-requires-clause-within : goal.move_costs-requires-clause-within
 move_costs-requires-clause-within c =
-    rw c.deref.ensures.value (trips_within _ c.in_ok-trips.trips.items _ _ _ c.latency-d.ensures c.requires.columns c.columns_in-outs.ensures.columns c.requires.moves c.in_ok-trips.ensures)
+    rw c.deref.ensures.value (trips_within _ c.in_ok-trips.trips.items _ _ _ c.latency-d.ensures c.requires.columns c.columns_in-outs.ensures.columns
+    c.requires.moves c.in_ok-trips.ensures)
 
 pub returns-clause-small : goal.returns-clause-small
 returns-clause-small c =
     let m : Move = record { ins = map st_tree c.args.ins.now; out = st_tree c.args.out.now; origins = map origin_tree c.args.source.now } in
     let trips : map trip_tree c.deref.result.now ≡ move_trips m = ap (map trip_tree) c.deref.ensures.value ∙ c.in_ok-trips.ensures in
-    rw c.from.ensures (costs_small m c.deref.result.now _ _ _ _ _ _ _ c.requires.moves c.requires.few c.latency-d.ensures c.requires.columns c.columns_in-outs.ensures.columns c.time.ensures trips c.in_ok-costs.ensures.delay c.in_ok-costs.ensures.runs c.in_ok-costs.ensures.mems)
+    rw c.from.ensures (costs_small m c.deref.result.now _ _ _ _ _ _ _ c.requires.moves c.requires.few c.latency-d.ensures c.requires.columns
+    c.columns_in-outs.ensures.columns c.time.ensures trips c.in_ok-costs.ensures.delay c.in_ok-costs.ensures.runs c.in_ok-costs.ensures.mems)

@@ -10,4 +10,5 @@ origin-requires-clause-small c = omega (arith, c.atoms-arg_atoms.ensures, atoms_
 pub loop-o-preserved : goal.loop-o-preserved
 loop-o-preserved c =
     rw c.in_ok-push.ensures.items
-    (origins_more c.args.how (st_tree c.args.arg.now) (st_tree c.args.out.now) c.loop-o.o _ _ _ c.loop-o.origins.items c.origin.result c.element_words-words.ensures c.atoms-arg_atoms.ensures c.atoms-out_atoms.ensures c.loop-o.invariant c.origin.ensures)
+    (origins_more c.args.how (st_tree c.args.arg.now) (st_tree c.args.out.now) c.loop-o.o _ _ _ c.loop-o.origins.items c.origin.result
+    c.element_words-words.ensures c.atoms-arg_atoms.ensures c.atoms-out_atoms.ensures c.loop-o.invariant c.origin.ensures)

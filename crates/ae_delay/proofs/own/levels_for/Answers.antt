@@ -11,11 +11,15 @@ loop-count-preserved c =
     record {
       leaves = d.0;
       small = d.1;
-      levels = log_next c.args.lanes c.loop-count.count c.loop-count.leaves c.loop-count.invariant.levels c.loop-count.invariant.leaves (omega arith) c.loop-count-test.true;
+      levels = log_next c.args.lanes c.loop-count.count c.loop-count.leaves c.loop-count.invariant.levels c.loop-count.invariant.leaves
+          (omega arith) c.loop-count-test.true;
     }
 
 pub returns-then-from-leaves-clause-count : goal.returns-then-from-leaves-clause-count
-returns-then-from-leaves-clause-count c = sym (log_found c.args.lanes c.loop-count.count c.loop-count.leaves c.loop-count.invariant.levels c.loop-count.invariant.leaves (omega arith) (omega arith))
+returns-then-from-leaves-clause-count c =
+    sym (log_found c.args.lanes c.loop-count.count c.loop-count.leaves c.loop-count.invariant.levels c.loop-count.invariant.leaves (omega arith) (omega arith))
 
 pub returns-clause-count : goal.returns-clause-count
-returns-clause-count c = log_last c.args.lanes c.loop-count.count c.loop-count.leaves c.loop-count.invariant.levels c.loop-count.invariant.leaves c.requires c.loop-count-test.false c.loop-count.auto.count-end
+returns-clause-count c =
+    log_last c.args.lanes c.loop-count.count c.loop-count.leaves c.loop-count.invariant.levels c.loop-count.invariant.leaves c.requires c.loop-count-test.false
+    c.loop-count.auto.count-end

@@ -9,12 +9,15 @@ use Rattle.ae_delay.proofs.timing.weigh_next.Goals as goal
 pub returns-in_ok-push-in-Within-3-clause-known : goal.returns-in_ok-push-in-Within-3-clause-known
 returns-in_ok-push-in-Within-3-clause-known c = λ costs known.
     let w = rw c.in-Within.is at (c.in_ok-t.ensures.weighed costs (rw c.deref.ensures.value known)) in
-    rw c.in_ok-push-in-Within.ensures.items (known_more c.args.known.now.items costs (Some c.in-Within.t.costs) (func_costs costs (st_func_tree c.args.s.now)) known (light_cost (st_func_tree c.args.s.now) (node_timings costs (st_func_tree c.args.s.now)) 999999999 c.in-Within.t refl w))
+    rw c.in_ok-push-in-Within.ensures.items (known_more c.args.known.now.items costs (Some c.in-Within.t.costs)
+    (func_costs costs (st_func_tree c.args.s.now)) known
+    (light_cost (st_func_tree c.args.s.now) (node_timings costs (st_func_tree c.args.s.now)) 999999999 c.in-Within.t refl w))
 
 pub returns-in_ok-push-in-Over-3-clause-known : goal.returns-in_ok-push-in-Over-3-clause-known
 returns-in_ok-push-in-Over-3-clause-known c = λ costs known.
     let w = rw c.in-Over.is at (c.in_ok-t.ensures.weighed costs (rw c.deref.ensures.value known)) in
-    rw c.in_ok-push-in-Over.ensures.items (known_more c.args.known.now.items costs None (func_costs costs (st_func_tree c.args.s.now)) known (heavy (st_func_tree c.args.s.now) (node_timings costs (st_func_tree c.args.s.now)) c.in-Over.line c.in-Over.load w))
+    rw c.in_ok-push-in-Over.ensures.items (known_more c.args.known.now.items costs None (func_costs costs (st_func_tree c.args.s.now)) known
+    (heavy (st_func_tree c.args.s.now) (node_timings costs (st_func_tree c.args.s.now)) c.in-Over.line c.in-Over.load w))
 
 pub returns-in_ok-push-in-Over-3-clause-arrivals : goal.returns-in_ok-push-in-Over-3-clause-arrivals
 returns-in_ok-push-in-Over-3-clause-arrivals c = λ costs known.

@@ -19,19 +19,24 @@ add_node-requires-clause-items c = all_items (length c.args.known.now) (st_func_
 
 pub add_node-requires-clause-sound : goal.add_node-requires-clause-sound
 add_node-requires-clause-sound c =
-    let at = node_here c.args.s.now c.deref-node-items.result.now c.loop-node.node-index c.node-item.result c.deref-node-items.ensures.value c.loop-node-test.true c.node-item.is in
+    let at = node_here c.args.s.now c.deref-node-items.result.now c.loop-node.node-index c.node-item.result c.deref-node-items.ensures.value
+    c.loop-node-test.true c.node-item.is in
     node_sound (length c.args.known.now) (st_func_tree c.args.s.now) c.loop-node.node-index (st_node_tree c.node-item.result) c.requires.sound at
 
 pub add_node-requires-clause-arrived : goal.add_node-requires-clause-arrived
 add_node-requires-clause-arrived c =
-    let at = node_here c.args.s.now c.deref-node-items.result.now c.loop-node.node-index c.node-item.result c.deref-node-items.ensures.value c.loop-node-test.true c.node-item.is in
-    args_arrived c.requires.known.0 (length c.args.known.now) (st_func_tree c.args.s.now) c.loop-node.node-index c.args.limit (st_node_tree c.node-item.result) c.loop-node.progress c.requires.sound at (c.loop-node.invariant.progress c.requires.known.0 c.requires.known.1)
+    let at = node_here c.args.s.now c.deref-node-items.result.now c.loop-node.node-index c.node-item.result c.deref-node-items.ensures.value
+    c.loop-node-test.true c.node-item.is in
+    args_arrived c.requires.known.0 (length c.args.known.now) (st_func_tree c.args.s.now) c.loop-node.node-index c.args.limit
+    (st_node_tree c.node-item.result) c.loop-node.progress c.requires.sound at (c.loop-node.invariant.progress c.requires.known.0 c.requires.known.1)
 
 pub returns-in-Some-clause-weighed : goal.returns-in-Some-clause-weighed
 returns-in-Some-clause-weighed c = λ costs known.
-    let at = node_here c.args.s.now c.deref-node-items.result.now c.loop-node.node-index c.node-item.result c.deref-node-items.ensures.value c.loop-node-test.true c.node-item.is in
+    let at = node_here c.args.s.now c.deref-node-items.result.now c.loop-node.node-index c.node-item.result c.deref-node-items.ensures.value
+    c.loop-node-test.true c.node-item.is in
     let over = rw c.in-Some.is at (c.in_ok-add_node.ensures.advance costs known) in
-    over_at costs (st_func_tree c.args.s.now) c.loop-node.node-index c.args.limit c.in-Some.load (st_node_tree c.node-item.result) c.loop-node.progress at (c.loop-node.invariant.progress costs known) over.0 over.1
+    over_at costs (st_func_tree c.args.s.now) c.loop-node.node-index c.args.limit c.in-Some.load (st_node_tree c.node-item.result) c.loop-node.progress at
+    (c.loop-node.invariant.progress costs known) over.0 over.1
 
 pub loop-node-preserved : goal.loop-node-preserved
 loop-node-preserved c = record {
@@ -40,7 +45,8 @@ loop-node-preserved c = record {
       let at = node_here c.args.s.now c.deref-node-items.result.now c.loop-node.node-index c.node-item.result c.deref-node-items.ensures.value
       c.loop-node-test.true c.node-item.is in
       let next = rw c.in-None.is at (c.in_ok-add_node.ensures.advance costs known) in
-      progress_more costs (length c.args.known.now) (st_func_tree c.args.s.now) c.loop-node.node-index c.args.limit (st_node_tree c.node-item.result) c.loop-node.progress c.add_node.new.progress c.requires.sound at (c.loop-node.invariant.progress costs known) next;
+      progress_more costs (length c.args.known.now) (st_func_tree c.args.s.now) c.loop-node.node-index c.args.limit
+      (st_node_tree c.node-item.result) c.loop-node.progress c.add_node.new.progress c.requires.sound at (c.loop-node.invariant.progress costs known) next;
   meets =
       let at = node_here c.args.s.now c.deref-node-items.result.now c.loop-node.node-index c.node-item.result c.deref-node-items.ensures.value
       c.loop-node-test.true c.node-item.is in
@@ -59,7 +65,9 @@ finish-requires-clause-items c = all_items (length c.args.known.now) (st_func_tr
 
 pub finish-requires-clause-whole : goal.finish-requires-clause-whole
 finish-requires-clause-whole c =
-    arrivals_whole c.requires.known.0 c.args.s.now c.deref-node-items.result.now c.loop-node.node-index c.args.limit c.loop-node.progress c.deref-node-items.ensures.value c.loop-node-test.false c.loop-node.auto.node-index-end (c.loop-node.invariant.progress c.requires.known.0 c.requires.known.1)
+    arrivals_whole c.requires.known.0 c.args.s.now c.deref-node-items.result.now c.loop-node.node-index c.args.limit c.loop-node.progress
+    c.deref-node-items.ensures.value c.loop-node-test.false c.loop-node.auto.node-index-end
+    (c.loop-node.invariant.progress c.requires.known.0 c.requires.known.1)
 
 pub returns-clause-weighed : goal.returns-clause-weighed
 returns-clause-weighed c = λ costs known.

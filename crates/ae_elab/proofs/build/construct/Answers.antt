@@ -27,7 +27,8 @@ perform-requires-clause-from c =
 pub perform-requires-clause-free : goal.perform-requires-clause-free
 perform-requires-clause-free c =
     rw c.deref.ensures.value
-    (still_unconnected (module_tree c.args.m.now) c.in_ok-nets.nets.items c.add_wires.new.nets.items c.declare_nets.new.nl.cells c.add_wires.new.nl.cells c.in_ok-nets.ensures.declared c.in_ok-add_wires.ensures.keeps c.in_ok-add_wires.ensures.grows.extends c.len-from.result c.len-from.ensures)
+    (still_unconnected (module_tree c.args.m.now) c.in_ok-nets.nets.items c.add_wires.new.nets.items c.declare_nets.new.nl.cells c.add_wires.new.nl.cells
+    c.in_ok-nets.ensures.declared c.in_ok-add_wires.ensures.keeps c.in_ok-add_wires.ensures.grows.extends c.len-from.result c.len-from.ensures)
 
 pub perform-requires-clause-room : goal.perform-requires-clause-room
 perform-requires-clause-room c =
@@ -43,7 +44,8 @@ perform-requires-clause-room c =
 pub add_outputs-requires-clause-nets : goal.add_outputs-requires-clause-nets
 add_outputs-requires-clause-nets c =
     rw c.deref-2.ensures.value
-    (nets_connected (module_tree c.args.m.now) c.len-from.result c.add_wires.new.nets.items c.add_wires.new.nl c.perform.new.nl c.in_ok-perform.ensures.connects c.in_ok-add_wires.ensures.wired.nets_are)
+    (nets_connected (module_tree c.args.m.now) c.len-from.result c.add_wires.new.nets.items c.add_wires.new.nl c.perform.new.nl
+    c.in_ok-perform.ensures.connects c.in_ok-add_wires.ensures.wired.nets_are)
 
 pub add_outputs-requires-clause-each : goal.add_outputs-requires-clause-each
 add_outputs-requires-clause-each c = λ p x hx t.
@@ -56,8 +58,10 @@ returns-clause-realizes c =
     let nets = c.add_wires.new.nets.items in
     let grows = c.in_ok-add_wires.ensures.grows in (
       at_of m.nets nets,
-      realizes m c.requires.regular c.requires.shape nets c.len-from.result c.in_ok-nets.nets.items c.declare_nets.new.nl.cells c.add_wires.new.nl c.perform.new.nl c.add_outputs.new.nl
-          c.in_ok-nets.ensures.declared c.in_ok-add_wires.ensures.keeps grows.inputs grows.states c.in_ok-add_wires.ensures.wired c.in_ok-perform.ensures.connects c.in_ok-add_outputs.ensures.cells
+      realizes m c.requires.regular c.requires.shape nets c.len-from.result c.in_ok-nets.nets.items c.declare_nets.new.nl.cells c.add_wires.new.nl
+          c.perform.new.nl c.add_outputs.new.nl
+          c.in_ok-nets.ensures.declared c.in_ok-add_wires.ensures.keeps grows.inputs grows.states c.in_ok-add_wires.ensures.wired
+          c.in_ok-perform.ensures.connects c.in_ok-add_outputs.ensures.cells
           (rw c.deref.ensures.value at c.in_ok-perform.ensures.steps) (rw c.deref-2.ensures.value at c.in_ok-add_outputs.ensures.outlets),
     )
 

@@ -10,4 +10,5 @@ pub returns-in_ok-act-in-Always-clause-acts : goal.returns-in_ok-act-in-Always-c
 returns-in_ok-act-in-Always-clause-acts c =
     let e : item_tree c.args.item.now ≡ always (string_bytes c.in-Always.clock) (stmt_tree c.in-Always.body.value) = rw c.in-Always.is refl in
     subst (λ i. ActsItems c.args.from c.args.names.now c.args.nets.now c.act.new.nl.cells c.args.nexts.now.items c.act.new.nexts.items (i ∷ [])) (sym e)
-    (always_acts c.args.from c.args.names.now c.args.nets.now c.args.nl.now.cells c.act.new.nl.cells c.args.nexts.now.items c.act.new.nexts.items (string_bytes c.in-Always.clock) (stmt_tree c.in-Always.body.value) (rw c.deref.ensures at c.in_ok-act-in-Always.ensures.acts))
+    (always_acts c.args.from c.args.names.now c.args.nets.now c.args.nl.now.cells c.act.new.nl.cells c.args.nexts.now.items c.act.new.nexts.items
+    (string_bytes c.in-Always.clock) (stmt_tree c.in-Always.body.value) (rw c.deref.ensures at c.in_ok-act-in-Always.ensures.acts))

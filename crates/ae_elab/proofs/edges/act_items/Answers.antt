@@ -16,7 +16,8 @@ act_item-requires c =
     let rest = drop (c.loop-item.item-index + 1) (map item_tree c.args.items.now) in
     let whole = map item_tree c.args.items.now in
     let i = item_tree c.item-item.result in
-    let here = subst (λ u. AreActing c.args.from c.args.names.now c.args.nets.now c.args.nl.now c.loop-item.nl c.args.nexts.now.items c.loop-item.nexts.items whole u) turn c.loop-item.invariant in
+    let here = subst (λ u. AreActing c.args.from c.args.names.now c.args.nets.now c.args.nl.now c.loop-item.nl c.args.nexts.now.items c.loop-item.nexts.items
+    whole u) turn c.loop-item.invariant in
     let had = c.requires.room in
     let few = here.few in
     let limit = here.grows.limit in
@@ -24,7 +25,15 @@ act_item-requires c =
     let sum : sum_by edge_weight (i ∷ rest) ≡ edge_weight i + sum_by edge_weight rest = sum_by-cons edge_weight i rest in
     let room : HasRoom c.loop-item.nl (8 * edge_weight (item_tree c.item-item.result)) = omega arith in
     let active = here.active in
-    search (rules, active.0, here.nexts, items_fresh c.args.from c.args.names.now c.args.nets.now c.args.nl.now c.args.nexts.now.items whole c.loop-item.nl c.loop-item.nexts.items i rest here, room, nets_grow here.grows c.requires.nets)
+    search (
+      rules,
+      active.0,
+      here.nexts,
+      items_fresh c.args.from c.args.names.now c.args.nets.now c.args.nl.now c.args.nexts.now.items whole c.loop-item.nl
+          c.loop-item.nexts.items i rest here,
+      room,
+      nets_grow here.grows c.requires.nets,
+    )
 
 pub loop-item-preserved : goal.loop-item-preserved
 loop-item-preserved c =
@@ -32,13 +41,17 @@ loop-item-preserved c =
     let turn = drop_turn item_tree c.args.items.now c.loop-item.item-index c.item-item.result l c.item-item.is in
     let rest = drop (c.loop-item.item-index + 1) (map item_tree c.args.items.now) in
     let whole = map item_tree c.args.items.now in
-    let here = subst (λ u. AreActing c.args.from c.args.names.now c.args.nets.now c.args.nl.now c.loop-item.nl c.args.nexts.now.items c.loop-item.nexts.items whole u) turn c.loop-item.invariant in
-    items_step c.args.from c.args.names.now c.args.nets.now c.args.nl.now c.args.nexts.now.items whole c.loop-item.nl c.act_item.new.nl c.loop-item.nexts.items c.act_item.new.nexts.items (item_tree c.item-item.result) rest here
-    c.in_ok-act_item.ensures.grows c.in_ok-act_item.ensures.more c.in_ok-act_item.ensures.few c.in_ok-act_item.ensures.nexts c.in_ok-act_item.ensures.others c.in_ok-act_item.ensures.acts
+    let here = subst (λ u. AreActing c.args.from c.args.names.now c.args.nets.now c.args.nl.now c.loop-item.nl c.args.nexts.now.items c.loop-item.nexts.items
+    whole u) turn c.loop-item.invariant in
+    items_step c.args.from c.args.names.now c.args.nets.now c.args.nl.now c.args.nexts.now.items whole c.loop-item.nl c.act_item.new.nl c.loop-item.nexts.items
+    c.act_item.new.nexts.items (item_tree c.item-item.result) rest here
+    c.in_ok-act_item.ensures.grows c.in_ok-act_item.ensures.more c.in_ok-act_item.ensures.few c.in_ok-act_item.ensures.nexts c.in_ok-act_item.ensures.others
+    c.in_ok-act_item.ensures.acts
 
 pub returns-clause-acts : goal.returns-clause-acts
 returns-clause-acts c =
     let whole = map item_tree c.args.items.now in
     let done = drop_done item_tree c.args.items.now c.loop-item.item-index (omega arith) in
     items_done c.args.from c.args.names.now c.args.nets.now c.args.nl.now c.args.nexts.now.items whole c.loop-item.nl c.loop-item.nexts.items
-    (subst (λ u. AreActing c.args.from c.args.names.now c.args.nets.now c.args.nl.now c.loop-item.nl c.args.nexts.now.items c.loop-item.nexts.items whole u) done c.loop-item.invariant)
+    (subst (λ u. AreActing c.args.from c.args.names.now c.args.nets.now c.args.nl.now c.loop-item.nl c.args.nexts.now.items c.loop-item.nexts.items whole u)
+    done c.loop-item.invariant)

@@ -58,11 +58,13 @@ loop-place-preserved c =
           let net = slice_get-get_or c.args.nets.now k None n ∙ ap Some w.in-Some.is in
           let e = w.connect.ensures in
           subst (λ a. AreJoined c.args.from m c.args.nets.now c.args.nexts.now c.args.nl.now a (k + 1)) (sym w.nl-is)
-          (joins_step c.args.from m c.args.nets.now c.args.nexts.now c.args.nl.now c.requires.unconnected c.loop-place.nl w.connect.new.nl k (net_tree w.index.result.now) w.in-Some.net (get_or c.args.nexts.now k Keep) c.loop-place.invariant here net next
+          (joins_step c.args.from m c.args.nets.now c.args.nexts.now c.args.nl.now c.requires.unconnected c.loop-place.nl w.connect.new.nl k
+          (net_tree w.index.result.now) w.in-Some.net (get_or c.args.nexts.now k Keep) c.loop-place.invariant here net next
           (record { connects = e.connects; long = e.long; constants = e.constants; others = e.others; stays = e.stays; connected = e.connected }))
       | in_default w ↦
           subst (λ a. AreJoined c.args.from m c.args.nets.now c.args.nexts.now c.args.nl.now a (k + 1)) (sym w.nl-is)
-          (joins_none c.args.from m c.args.nets.now c.args.nexts.now c.args.nl.now c.requires.unconnected c.loop-place.nl k c.loop-place.invariant (slice_get-get_or c.args.nets.now k None n ∙ ap Some w.in_default.is))
+          (joins_none c.args.from m c.args.nets.now c.args.nexts.now c.args.nl.now c.requires.unconnected c.loop-place.nl k c.loop-place.invariant
+          (slice_get-get_or c.args.nets.now k None n ∙ ap Some w.in_default.is))
     ]
 
 pub returns-clause-connected : goal.returns-clause-connected

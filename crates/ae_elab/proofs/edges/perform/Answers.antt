@@ -29,7 +29,8 @@ act_items-requires c =
 pub connect_all-requires : goal.connect_all-requires
 connect_all-requires c = record {
   long = c.requires.nets.long;
-  unconnected = unconnected_grows (module_tree c.args.m.now) c.args.from c.args.nets.now c.args.nl.now c.act_items.new.nl c.in_ok-act_items.ensures.grows c.requires.free;
+  unconnected = unconnected_grows (module_tree c.args.m.now) c.args.from c.args.nets.now c.args.nl.now c.act_items.new.nl c.in_ok-act_items.ensures.grows
+      c.requires.free;
   fits = rw (sym c.requires.names) (rw c.deref-2.ensures.value c.in_ok-act_items.ensures.nexts);
 }
 
@@ -42,7 +43,9 @@ returns-clause-steps c = λ at named run is t l.
     let count = c.len.ensures in
     let e : c.len.result ≡ length (module_tree c.args.m.now).nets = omega arith in
     c.in_ok-nexts.ensures ∙ ap (λ n. replicate n Keep) e) in
-    let acts : ActsItems c.args.from (module_tree c.args.m.now).nets c.args.nets.now c.act_items.new.nl.cells (first_nexts (module_tree c.args.m.now).nets) c.deref-2.result.now (module_tree c.args.m.now).items =
+    let acts : ActsItems c.args.from (module_tree c.args.m.now).nets c.args.nets.now c.act_items.new.nl.cells
+    (first_nexts (module_tree c.args.m.now).nets) c.deref-2.result.now (module_tree c.args.m.now).items =
     rw (c.requires.names, items, nexts, sym c.deref-2.ensures.value) at c.in_ok-act_items.ensures.acts in
-    edge_steps m c.requires.regular c.requires.shape c.args.from c.args.nets.now c.deref-2.result.now c.act_items.new.nl c.connect_all.new.nl c.requires.each c.connect_all.ensures.connects c.connect_all.ensures.fits c.connect_all.ensures.connected
+    edge_steps m c.requires.regular c.requires.shape c.args.from c.args.nets.now c.deref-2.result.now c.act_items.new.nl c.connect_all.new.nl c.requires.each
+    c.connect_all.ensures.connects c.connect_all.ensures.fits c.connect_all.ensures.connected
     (items_next m c.args.from c.args.nets.now c.act_items.new.nl.cells c.deref-2.result.now acts) at named run is t l

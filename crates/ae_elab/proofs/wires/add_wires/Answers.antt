@@ -6,7 +6,8 @@ use Rattle.ae_elab.proofs.wires.add_wires.Goals as goal
 
 pub loop-turn-init : goal.loop-turn-init
 loop-turn-init c = record {
-  wiring = rw c.requires.from (wiring_first (module_tree c.args.m.now) c.requires.regular c.requires.shape c.args.order.now c.args.nets.now.items c.args.nl.now.cells c.requires.declared);
+  wiring = rw c.requires.from (wiring_first (module_tree c.args.m.now) c.requires.regular c.requires.shape c.args.order.now c.args.nets.now.items
+      c.args.nl.now.cells c.requires.declared);
   grows = grows_refl c.args.nl.now;
   keeps = λ p y h. h;
   few = omega arith;
@@ -22,7 +23,8 @@ add_wire-requires-clause-room c =
 
 pub returns-clause-wired : goal.returns-clause-wired
 returns-clause-wired c =
-    wiring_whole (module_tree c.args.m.now) c.requires.regular c.requires.shape c.args.order.now c.args.from c.loop-turn.turn c.loop-turn.nets.items c.loop-turn.nl.cells c.requires.sorted (omega arith) c.loop-turn.invariant.wiring
+    wiring_whole (module_tree c.args.m.now) c.requires.regular c.requires.shape c.args.order.now c.args.from c.loop-turn.turn c.loop-turn.nets.items
+    c.loop-turn.nl.cells c.requires.sorted (omega arith) c.loop-turn.invariant.wiring
 
 pub returns-clause-few : goal.returns-clause-few
 returns-clause-few c =

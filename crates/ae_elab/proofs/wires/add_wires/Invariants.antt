@@ -10,5 +10,6 @@ invariant-loop-turn l = record {
   wiring : IsWiring (module_tree l.m) l.from l.order l.turn l.nets.items l.nl.cells;
   grows : Grows l.fn.nl l.nl;
   keeps : KeepsNets l.fn.nets.items l.nets.items;
-  few : length l.nl.cells + 8 * open_weight (values_of (module_tree l.m)) l.nets.items ≤ length l.fn.nl.cells + 8 * open_weight (values_of (module_tree l.m)) l.fn.nets.items;
+  few : length l.nl.cells + 8 * open_weight (values_of (module_tree l.m)) l.nets.items ≤ length l.fn.nl.cells + 8 * open_weight
+      (values_of (module_tree l.m)) l.fn.nets.items;
 }

@@ -27,4 +27,5 @@ abbrev pub invariant-eval_map-loop-index : goal.invariant-eval_map-loop-index
 invariant-eval_map-loop-index l = Mapping (program_tree l.p) l.callee (seq_tree l.ty) l.start l.fn.stack.items l.stack.items l.index
 
 abbrev pub invariant-eval_map_two-loop-index : goal.invariant-eval_map_two-loop-index
-invariant-eval_map_two-loop-index l = MappingTwo (program_tree l.p) l.callee (seq_tree l.ty) (seq_tree l.other) l.start l.place l.fn.stack.items l.stack.items l.index
+invariant-eval_map_two-loop-index l =
+    MappingTwo (program_tree l.p) l.callee (seq_tree l.ty) (seq_tree l.other) l.start l.place l.fn.stack.items l.stack.items l.index

@@ -8,4 +8,5 @@ use Rattle.ae_eval.proofs.lines.push_args.Given as goal
 abbrev pub invariant-loop-arg : goal.invariant-loop-arg
 invariant-loop-arg l =
     let p = program_tree l.p in
-    Passing (types_in p l.func) (values_at p l.func (item_of p l.func l.index) l.base l.fn.stack.items) (take l.arg-index l.arg-items) l.fn.stack.items l.stack.items
+    Passing (types_in p l.func) (values_at p l.func (item_of p l.func l.index) l.base l.fn.stack.items)
+    (take l.arg-index l.arg-items) l.fn.stack.items l.stack.items

@@ -8,4 +8,5 @@ pub returns : goal.returns
 returns c =
     let form = ap seq_tree c.in-Seq.is in
     let k = c.words-size.ensures ∙ ap (λ t. words (seq_tree t)) c.deref.ensures in
-    on_ok_weaker c.push_copy.result (select-pushed c.args.place c.in-Seq.field-0 c.words-size.result c.args.start (seq_tree c.args.ty.now) (seq_tree c.in-Seq.of.value) c.args.stack.now.items c.push_copy.new.stack.items form k c.requires.typed c.requires.fits) c.push_copy.ensures
+    on_ok_weaker c.push_copy.result (select-pushed c.args.place c.in-Seq.field-0 c.words-size.result c.args.start (seq_tree c.args.ty.now)
+    (seq_tree c.in-Seq.of.value) c.args.stack.now.items c.push_copy.new.stack.items form k c.requires.typed c.requires.fits) c.push_copy.ensures

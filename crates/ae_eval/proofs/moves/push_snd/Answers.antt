@@ -10,4 +10,6 @@ returns c =
     let form = ap seq_tree c.in-Atom.is ∙ ap (λ a. atom (atom_tree a)) c.in-Pair.is in
     let k = c.words.ensures ∙ ap (λ t. atom_words (atom_tree t)) c.deref.ensures in
     let l = c.words-2.ensures ∙ ap (λ t. atom_words (atom_tree t)) c.deref-2.ensures in
-    on_ok_weaker c.push_copy.result (snd-pushed (seq_tree c.args.ty.now) (atom_tree c.in-Pair.first.value) (atom_tree c.in-Pair.second.value) c.words.result c.words-2.result c.args.start c.args.stack.now.items c.push_copy.new.stack.items form k l c.requires.fits) c.push_copy.ensures
+    on_ok_weaker c.push_copy.result (snd-pushed (seq_tree c.args.ty.now) (atom_tree c.in-Pair.first.value)
+    (atom_tree c.in-Pair.second.value) c.words.result c.words-2.result c.args.start c.args.stack.now.items c.push_copy.new.stack.items form k l
+    c.requires.fits) c.push_copy.ensures

@@ -5,4 +5,5 @@ use Rattle.ae_eval.proofs.moves.push_unpartitioned.Goals as goal
 
 pub returns : goal.returns
 returns c =
-    on_ok_weaker c.push_copy.result (unpartition-pushed c.words.result c.args.start (seq_tree c.args.ty.now) c.args.stack.now.items c.push_copy.new.stack.items c.words.ensures c.requires.fits) c.push_copy.ensures
+    on_ok_weaker c.push_copy.result (unpartition-pushed c.words.result c.args.start
+    (seq_tree c.args.ty.now) c.args.stack.now.items c.push_copy.new.stack.items c.words.ensures c.requires.fits) c.push_copy.ensures

@@ -15,7 +15,8 @@ pub push_paired-requires-clause-first_room : goal.push_paired-requires-clause-fi
 push_paired-requires-clause-first_room c =
     let s = seq_tree c.args.ty.now in
     let k = c.words-size.ensures ∙ ap atom_words c.atom.ensures in
-    let all : c.atoms.result * c.words-size.result ≡ words s = ap (λ j. j * c.words-size.result) c.atoms.ensures ∙ ap (λ j. atoms s * j) k ∙ sym (words-atoms s) in
+    let all : c.atoms.result * c.words-size.result ≡ words s = ap (λ j. j * c.words-size.result) c.atoms.ensures ∙ ap (λ j. atoms s * j) k ∙
+    sym (words-atoms s) in
     omega (arith, all, c.requires.fits.room)
 
 pub push_paired-requires-clause-second_room : goal.push_paired-requires-clause-second_room
@@ -29,4 +30,6 @@ pub returns : goal.returns
 returns c =
     let k = c.words-size.ensures ∙ ap atom_words c.atom.ensures in
     let l = c.words-next.ensures ∙ ap atom_words c.atom-2.ensures in
-    on_ok_weaker c.push_paired.result (zip-pushed (seq_tree c.args.ty.now) (seq_tree c.args.other.now) c.atoms.result c.words-size.result c.words-next.result c.args.start c.args.place c.args.stack.now.items c.push_paired.new.stack.items c.atoms.ensures k l c.requires.fits c.requires.fits_too) c.push_paired.ensures
+    on_ok_weaker c.push_paired.result (zip-pushed (seq_tree c.args.ty.now)
+    (seq_tree c.args.other.now) c.atoms.result c.words-size.result c.words-next.result c.args.start c.args.place c.args.stack.now.items
+    c.push_paired.new.stack.items c.atoms.ensures k l c.requires.fits c.requires.fits_too) c.push_paired.ensures

@@ -20,7 +20,8 @@ loop-index-preserved c =
     let p = program_tree c.args.p.now in
     let types = c.params-params.ensures ∙ ap (params_in p) c.last_func.ensures.is in
     let F : Param → Type 0 = λ z. Fit (seq_tree z.ty) c.index-inputs-index.result in
-    read-fitting (input_types p) c.params-params.result.now c.args.inputs.now c.loop-index.index c.index-params-index.result c.index-inputs-index.result types c.if-params-inputs.false c.loop-index-test.true c.index-params-index.is c.index-inputs-index.is
+    read-fitting (input_types p) c.params-params.result.now c.args.inputs.now c.loop-index.index c.index-params-index.result c.index-inputs-index.result types
+    c.if-params-inputs.false c.loop-index-test.true c.index-params-index.is c.index-inputs-index.is
     (subst F (sym c.index-params-index.is) (c.fits.ensures.0 c.if-not-fits.false)) c.loop-index.invariant
 
 pub returns-then-not-fits : goal.returns-then-not-fits
@@ -29,6 +30,7 @@ returns-then-not-fits c =
     let types = c.params-params.ensures ∙ ap (params_in p) c.last_func.ensures.is in
     let F : Param → Type 0 = λ z. Fit (seq_tree z.ty) c.index-inputs-index.result in (
       λ no. absurd (false≢true no),
-      λ all. absurd (read-unfit (input_types p) c.params-params.result.now c.args.inputs.now c.loop-index.index c.index-params-index.result c.index-inputs-index.result types c.if-params-inputs.false c.loop-index-test.true c.index-params-index.is c.index-inputs-index.is
+      λ all. absurd (read-unfit (input_types p) c.params-params.result.now c.args.inputs.now c.loop-index.index c.index-params-index.result
+          c.index-inputs-index.result types c.if-params-inputs.false c.loop-index-test.true c.index-params-index.is c.index-inputs-index.is
           (λ f. false≢true (sym c.if-not-fits.true ∙ c.fits.ensures.1 (subst F c.index-params-index.is f))) c.loop-index.invariant all),
     )

@@ -12,8 +12,10 @@ pub loop-item-preserved : goal.loop-item-preserved
 loop-item-preserved c =
     let e = c.results-item-items.ensures.results in
     let there : get_or c.results-item-items.result.now c.loop-item.item-index 0 < length (types_in (program_tree c.args.p.now) c.args.func) =
-    subst (λ xs. c.loop-item.item-index < length xs → get_or xs c.loop-item.item-index 0 < length (types_in (program_tree c.args.p.now) c.args.func)) (sym e) (c.results-item-items.ensures.there c.loop-item.item-index 0) c.loop-item-test.true in
-    outputs-next (program_tree c.args.p.now) c.args.func c.loop-item.item-index c.args.stack.now c.results-item-items.result.now c.loop-item.found.items c.append.new.found.items c.in_ok-value.value
+    subst (λ xs. c.loop-item.item-index < length xs → get_or xs c.loop-item.item-index 0 < length (types_in (program_tree c.args.p.now) c.args.func)) (sym e)
+    (c.results-item-items.ensures.there c.loop-item.item-index 0) c.loop-item-test.true in
+    outputs-next (program_tree c.args.p.now) c.args.func c.loop-item.item-index c.args.stack.now c.results-item-items.result.now c.loop-item.found.items
+    c.append.new.found.items c.in_ok-value.value
     c.requires.typed c.loop-item-test.true there c.loop-item.invariant c.in_ok-value.ensures.words c.in_ok-value.ensures.fits c.in_ok-append.ensures
 
 pub returns-clause-words : goal.returns-clause-words

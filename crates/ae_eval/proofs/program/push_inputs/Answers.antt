@@ -10,7 +10,8 @@ pub loop-input-preserved : goal.loop-input-preserved
 loop-input-preserved c =
     let words = c.deref.ensures.value ∙ c.input.view_is in
     let more = concat-more c.args.inputs.now c.loop-input.input-index c.input-item.result c.loop-input-test.true c.input-item.is in
-    c.in_ok-push_words.ensures ∙ ap (λ ys. ys ++ c.deref.result.now) c.loop-input.invariant ∙ ap (λ ys. (c.args.stack.now.items ++ concat (take c.loop-input.input-index c.args.inputs.now)) ++ ys) words
+    c.in_ok-push_words.ensures ∙ ap (λ ys. ys ++ c.deref.result.now) c.loop-input.invariant ∙
+    ap (λ ys. (c.args.stack.now.items ++ concat (take c.loop-input.input-index c.args.inputs.now)) ++ ys) words
     ∙ append_assoc c.args.stack.now.items (concat (take c.loop-input.input-index c.args.inputs.now)) c.input-item.result
     ∙ ap (λ ys. c.args.stack.now.items ++ ys) (sym more)
 

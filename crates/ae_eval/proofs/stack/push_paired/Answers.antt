@@ -40,7 +40,8 @@ push_copy-requires-in-loop-piece c =
 
 pub loop-piece-preserved : goal.loop-piece-preserved
 loop-piece-preserved c =
-    paired-step c.args.stack.now.items c.loop-piece.stack.items c.push_copy.new.stack.items c.push_copy-in-loop-piece.new.stack.items c.args.pieces c.loop-piece.piece c.args.first c.args.second c.args.size c.args.other
+    paired-step c.args.stack.now.items c.loop-piece.stack.items c.push_copy.new.stack.items c.push_copy-in-loop-piece.new.stack.items c.args.pieces
+    c.loop-piece.piece c.args.first c.args.second c.args.size c.args.other
     c.loop-piece-test.true c.requires.first_room c.requires.second_room c.loop-piece.invariant c.in_ok-push_copy.ensures c.in_ok-push_copy-2.ensures
 
 pub returns : goal.returns

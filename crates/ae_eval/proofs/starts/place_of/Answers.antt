@@ -17,19 +17,22 @@ bounds-starts-func c = starts-within c.args.starts.now c.args.func _ (c.requires
 pub index-requires : goal.index-requires
 index-requires c =
     let ts = types_in (program_tree c.args.p.now) c.args.func in
-    let own = starts-own c.args.starts.now c.args.func c.index-starts-func.result (starts_from 0 ts) (c.requires.starts c.args.func c.requires.known) c.index-starts-func.is in
+    let own = starts-own c.args.starts.now c.args.func c.index-starts-func.result (starts_from 0 ts)
+    (c.requires.starts c.args.func c.requires.known) c.index-starts-func.is in
     omega (arith, start-inside ts c.index-starts-func.result.items c.args.item own (omega arith), c.index-starts-func.result.ok)
 
 pub overflow_add-start : goal.overflow_add-start
 overflow_add-start c =
     let ts = types_in (program_tree c.args.p.now) c.args.func in
-    let own = starts-own c.args.starts.now c.args.func c.index-starts-func.result (starts_from 0 ts) (c.requires.starts c.args.func c.requires.known) c.index-starts-func.is in
+    let own = starts-own c.args.starts.now c.args.func c.index-starts-func.result (starts_from 0 ts)
+    (c.requires.starts c.args.func c.requires.known) c.index-starts-func.is in
     let read = start-read ts c.index-starts-func.result.items c.args.item c.index.result.now own (omega arith) c.index.ensures in
     omega (arith, read)
 
 pub returns-clause-start : goal.returns-clause-start
 returns-clause-start c =
     let ts = types_in (program_tree c.args.p.now) c.args.func in
-    let own = starts-own c.args.starts.now c.args.func c.index-starts-func.result (starts_from 0 ts) (c.requires.starts c.args.func c.requires.known) c.index-starts-func.is in
+    let own = starts-own c.args.starts.now c.args.func c.index-starts-func.result (starts_from 0 ts)
+    (c.requires.starts c.args.func c.requires.known) c.index-starts-func.is in
     let read = start-read ts c.index-starts-func.result.items c.args.item c.index.result.now own (omega arith) c.index.ensures in
     ap (λ x. c.args.base + x) read

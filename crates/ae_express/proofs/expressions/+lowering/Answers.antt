@@ -39,77 +39,96 @@ pub lower-returns-in-Name : goal.lower-returns-in-Name
 lower-returns-in-Name t c =
     rw c.in-Name.is
     (at_once c.args.from c.args.names.now c.args.nets.now c.args.nl.now c.read_name.new.nl c.read_name.result 1 _ c.args.w _ (omega arith) c.requires.nets
-    (record { grows = c.read_name.ensures.grows; more = c.read_name.ensures.more; few = c.read_name.ensures.few; net = c.read_name.ensures.net }) (rw c.deref.ensures at c.read_name.ensures.word))
+    (record { grows = c.read_name.ensures.grows; more = c.read_name.ensures.more; few = c.read_name.ensures.few; net = c.read_name.ensures.net })
+    (rw c.deref.ensures at c.read_name.ensures.word))
 
 pub lower-returns-in-Const : goal.lower-returns-in-Const
 lower-returns-in-Const t c =
     rw c.in-Const.is
     (at_once c.args.from c.args.names.now c.args.nets.now c.args.nl.now c.fixed.new.nl c.fixed.result 1 _ c.args.w _ (omega arith) c.requires.nets
-    (record { grows = c.fixed.ensures.grows; more = c.fixed.ensures.more; few = c.fixed.ensures.few; net = c.fixed.ensures.net }) (ok_map c.fixed.result (λ y h at named. h) c.fixed.ensures.word))
+    (record { grows = c.fixed.ensures.grows; more = c.fixed.ensures.more; few = c.fixed.ensures.few; net = c.fixed.ensures.net })
+    (ok_map c.fixed.result (λ y h at named. h) c.fixed.ensures.word))
 
 pub lower-returns-in-Part : goal.lower-returns-in-Part
 lower-returns-in-Part t c =
     rw c.in-Part.is
     (at_once c.args.from c.args.names.now c.args.nets.now c.args.nl.now c.read_part.new.nl c.read_part.result 3 _ c.args.w _ (omega arith) c.requires.nets
-    (record { grows = c.read_part.ensures.grows; more = c.read_part.ensures.more; few = c.read_part.ensures.few; net = c.read_part.ensures.net }) (rw c.deref-in-Part.ensures at c.read_part.ensures.word))
+    (record { grows = c.read_part.ensures.grows; more = c.read_part.ensures.more; few = c.read_part.ensures.few; net = c.read_part.ensures.net })
+    (rw c.deref-in-Part.ensures at c.read_part.ensures.word))
 
 pub lower-returns-in-Some : goal.lower-returns-in-Some
 lower-returns-in-Some t c =
     let at : expr_tree c.in-Index.at.value ≡ place c.in-Some.k = rw c.deref-in-Index.ensures at c.in-Some.ensures.some in
     rw (c.in-Index.is, at)
     (at_once c.args.from c.args.names.now c.args.nets.now c.args.nl.now c.read_place.new.nl c.read_place.result 3 _ c.args.w _ (omega arith) c.requires.nets
-    (record { grows = c.read_place.ensures.grows; more = c.read_place.ensures.more; few = c.read_place.ensures.few; net = c.read_place.ensures.net }) (rw c.deref-in-Some.ensures at c.read_place.ensures.word))
+    (record { grows = c.read_place.ensures.grows; more = c.read_place.ensures.more; few = c.read_place.ensures.few; net = c.read_place.ensures.net })
+    (rw c.deref-in-Some.ensures at c.read_place.ensures.word))
 
 pub lower-returns-in_ok-x-in-None : goal.lower-returns-in_ok-x-in-None
 lower-returns-in_ok-x-in-None t c =
     let s : IsSound c.args.names.now (expr_tree c.args.e.now) = c.requires.sound in
     let q = rw c.in-Index.is at s in
     let none : is_place (expr_tree c.in-Index.at.value) ≡ false = rw c.deref-in-Index.ensures at c.in-None.ensures.none in
-    let v = subst (λ b. IsSoundIndex b c.args.names.now (string_bytes c.in-Index.name) (place_number (expr_tree c.in-Index.at.value)) (own_width c.args.names.now (expr_tree c.in-Index.at.value)) (IsSound c.args.names.now (expr_tree c.in-Index.at.value))) none q.1 in
+    let v = subst (λ b. IsSoundIndex b c.args.names.now (string_bytes c.in-Index.name) (place_number (expr_tree c.in-Index.at.value))
+    (own_width c.args.names.now (expr_tree c.in-Index.at.value)) (IsSound c.args.names.now (expr_tree c.in-Index.at.value))) none q.1 in
     let own : c.own_width-own.result ≡ own_width c.args.names.now (expr_tree c.in-Index.at.value) = rw c.deref-in-None.ensures at c.own_width-own.ensures.own in
     rw c.in-Index.is
-    (index_lowered c.args.from c.args.names.now c.args.nets.now c.args.nl.now c.lower.new.nl c.read_word.new.nl c.read_word.result (string_bytes c.in-Index.name) _ _ c.args.w (expr_tree c.in-Index.at.value) v.memory own
+    (index_lowered c.args.from c.args.names.now c.args.nets.now c.args.nl.now c.lower.new.nl c.read_word.new.nl c.read_word.result
+    (string_bytes c.in-Index.name) _ _ c.args.w (expr_tree c.in-Index.at.value) v.memory own
     (rw c.deref-in-None-2.ensures at c.in_ok-x-in-None.ensures)
-    (record { grows = c.read_word.ensures.grows; more = c.read_word.ensures.more; few = c.read_word.ensures.few; net = c.read_word.ensures.net }) (rw c.deref-in-None-3.ensures at c.read_word.ensures.word))
+    (record { grows = c.read_word.ensures.grows; more = c.read_word.ensures.more; few = c.read_word.ensures.few; net = c.read_word.ensures.net })
+    (rw c.deref-in-None-3.ensures at c.read_word.ensures.word))
 
 pub lower_unary-returns-in_ok-zero-in-Not : goal.lower_unary-returns-in_ok-zero-in-Not
 lower_unary-returns-in_ok-zero-in-Not t c =
     let own : c.own_width-own.result ≡ own_width c.args.names.now (expr_tree c.args.a.now) = c.own_width-own.ensures.own in
     rw c.in-Not.is
-    (not_lowered c.args.from c.args.names.now c.args.nets.now c.args.nl.now c.lower.new.nl c.is_zero.new.nl c.widen.new.nl c.widen.result _ _ _ c.args.w (expr_tree c.args.a.now) own
+    (not_lowered c.args.from c.args.names.now c.args.nets.now c.args.nl.now c.lower.new.nl c.is_zero.new.nl c.widen.new.nl c.widen.result _ _ _ c.args.w
+    (expr_tree c.args.a.now) own
     c.in_ok-x-in-Not.ensures c.in_ok-zero-in-Not.ensures.grows c.in_ok-zero-in-Not.ensures.more c.in_ok-zero-in-Not.ensures.few
-    (record { grows = c.widen.ensures.grows; more = c.widen.ensures.more; few = c.widen.ensures.few; net = c.widen.ensures.net }) c.in_ok-zero-in-Not.ensures.word c.widen.ensures.word)
+    (record { grows = c.widen.ensures.grows; more = c.widen.ensures.more; few = c.widen.ensures.few; net = c.widen.ensures.net })
+    c.in_ok-zero-in-Not.ensures.word c.widen.ensures.word)
 
 pub lower_unary-returns-in_ok-x-in-Flip : goal.lower_unary-returns-in_ok-x-in-Flip
 lower_unary-returns-in_ok-x-in-Flip t c =
     rw c.in-Flip.is
-    (flip_lowered c.args.from c.args.names.now c.args.nets.now c.args.nl.now c.lower-in-Flip.new.nl c.gate.new.nl c.gate.result _ c.args.w (expr_tree c.args.a.now)
+    (flip_lowered c.args.from c.args.names.now c.args.nets.now c.args.nl.now c.lower-in-Flip.new.nl c.gate.new.nl c.gate.result _ c.args.w
+    (expr_tree c.args.a.now)
     c.in_ok-x-in-Flip.ensures
     (record { grows = c.gate.ensures.grows; more = c.gate.ensures.more; few = c.gate.ensures.few; net = c.gate.ensures.net }) c.gate.ensures.word)
 
 pub lower-returns-in_ok-x-in-Some-fixed_shift : goal.lower-returns-in_ok-x-in-Some-fixed_shift
 lower-returns-in_ok-x-in-Some-fixed_shift t c =
     rw c.in-Binary.is
-    (constant_lowered c.args.from c.args.names.now c.args.nets.now c.args.nl.now c.lower-in-Some-fixed_shift.new.nl c.moved_by.new.nl c.moved_by.result c.in-Binary.op c.in-Some-fixed_shift.way _ c.in-Some-fixed_shift.places c.args.w (expr_tree c.in-Binary.a.value) (expr_tree c.in-Binary.b.value)
-    c.in-Some-fixed_shift.ensures.way (rw c.deref-in-Binary.ensures at c.in-Some-fixed_shift.ensures.places) (rw c.deref-in-Some-fixed_shift.ensures at c.in_ok-x-in-Some-fixed_shift.ensures)
-    (record { grows = c.moved_by.ensures.grows; more = c.moved_by.ensures.more; few = c.moved_by.ensures.few; net = c.moved_by.ensures.net }) c.moved_by.ensures.word)
+    (constant_lowered c.args.from c.args.names.now c.args.nets.now c.args.nl.now c.lower-in-Some-fixed_shift.new.nl c.moved_by.new.nl c.moved_by.result
+    c.in-Binary.op c.in-Some-fixed_shift.way _ c.in-Some-fixed_shift.places c.args.w (expr_tree c.in-Binary.a.value) (expr_tree c.in-Binary.b.value)
+    c.in-Some-fixed_shift.ensures.way (rw c.deref-in-Binary.ensures at c.in-Some-fixed_shift.ensures.places)
+    (rw c.deref-in-Some-fixed_shift.ensures at c.in_ok-x-in-Some-fixed_shift.ensures)
+    (record { grows = c.moved_by.ensures.grows; more = c.moved_by.ensures.more; few = c.moved_by.ensures.few; net = c.moved_by.ensures.net })
+    c.moved_by.ensures.word)
 
 pub lower-returns-in_ok-y-in-None-fixed_shift : goal.lower-returns-in_ok-y-in-None-fixed_shift
 lower-returns-in_ok-y-in-None-fixed_shift t c =
     rw c.in-Binary.is
-    (binary_lowered c.args.from c.args.names.now c.args.nets.now c.args.nl.now c.lower-in-None-fixed_shift.new.nl c.lower-in-None-fixed_shift-2.new.nl c.combine.new.nl c.combine.result c.in-Binary.op _ _ _ _ c.args.w (expr_tree c.in-Binary.a.value) (expr_tree c.in-Binary.b.value)
+    (binary_lowered c.args.from c.args.names.now c.args.nets.now c.args.nl.now c.lower-in-None-fixed_shift.new.nl c.lower-in-None-fixed_shift-2.new.nl
+    c.combine.new.nl c.combine.result c.in-Binary.op _ _ _ _ c.args.w (expr_tree c.in-Binary.a.value) (expr_tree c.in-Binary.b.value)
     (rw (c.deref-in-None-fixed_shift.ensures, c.deref-in-None-fixed_shift-2.ensures) at c.operand_widths-wa.ensures.left)
     (rw (c.deref-in-None-fixed_shift.ensures, c.deref-in-None-fixed_shift-2.ensures) at c.operand_widths-wa.ensures.right)
     (rw c.deref-in-Binary.ensures at c.in-None-fixed_shift.ensures.none)
-    (rw c.deref-in-None-fixed_shift-3.ensures at c.in_ok-x-in-None-fixed_shift.ensures) (rw c.deref-in-None-fixed_shift-4.ensures at c.in_ok-y-in-None-fixed_shift.ensures)
-    (record { grows = c.combine.ensures.grows; more = c.combine.ensures.more; few = c.combine.ensures.few; net = c.combine.ensures.net }) c.combine.ensures.word)
+    (rw c.deref-in-None-fixed_shift-3.ensures at c.in_ok-x-in-None-fixed_shift.ensures)
+    (rw c.deref-in-None-fixed_shift-4.ensures at c.in_ok-y-in-None-fixed_shift.ensures)
+    (record { grows = c.combine.ensures.grows; more = c.combine.ensures.more; few = c.combine.ensures.few; net = c.combine.ensures.net })
+    c.combine.ensures.word)
 
 pub lower-returns-in_ok-y-in-Choose : goal.lower-returns-in_ok-y-in-Choose
 lower-returns-in_ok-y-in-Choose t c =
-    let own : c.own_width-own-in-Choose.result ≡ own_width c.args.names.now (expr_tree c.in-Choose.test.value) = rw c.deref-in-Choose.ensures at c.own_width-own-in-Choose.ensures.own in
+    let own : c.own_width-own-in-Choose.result ≡ own_width c.args.names.now
+    (expr_tree c.in-Choose.test.value) = rw c.deref-in-Choose.ensures at c.own_width-own-in-Choose.ensures.own in
     rw c.in-Choose.is
-    (choice_lowered c.args.from c.args.names.now c.args.nets.now c.args.nl.now c.lower-in-Choose.new.nl c.lower-in-Choose-2.new.nl c.lower-in-Choose-3.new.nl c.chosen.new.nl c.chosen.result _ _ _ _ c.args.w (expr_tree c.in-Choose.test.value) (expr_tree c.in-Choose.a.value) (expr_tree c.in-Choose.b.value)
-    own (rw c.deref-in-Choose-2.ensures at c.in_ok-t-in-Choose.ensures) (rw c.deref-in-Choose-3.ensures at c.in_ok-x-in-Choose.ensures) (rw c.deref-in-Choose-4.ensures at c.in_ok-y-in-Choose.ensures)
+    (choice_lowered c.args.from c.args.names.now c.args.nets.now c.args.nl.now c.lower-in-Choose.new.nl c.lower-in-Choose-2.new.nl c.lower-in-Choose-3.new.nl
+    c.chosen.new.nl c.chosen.result _ _ _ _ c.args.w (expr_tree c.in-Choose.test.value) (expr_tree c.in-Choose.a.value) (expr_tree c.in-Choose.b.value)
+    own (rw c.deref-in-Choose-2.ensures at c.in_ok-t-in-Choose.ensures) (rw c.deref-in-Choose-3.ensures at c.in_ok-x-in-Choose.ensures)
+    (rw c.deref-in-Choose-4.ensures at c.in_ok-y-in-Choose.ensures)
     (record { grows = c.chosen.ensures.grows; more = c.chosen.ensures.more; few = c.chosen.ensures.few; net = c.chosen.ensures.net }) c.chosen.ensures.word)
 
 pub lower-lower_parts-requires : goal.lower-lower_parts-requires
@@ -117,7 +136,8 @@ lower-lower_parts-requires t c =
     let ps = map expr_tree c.deref-in-Concat.result.now in
     let e = concat_is c.args.e.now c.in-Concat.parts c.deref-in-Concat.result.now c.in-Concat.is c.deref-in-Concat.ensures.value in
     let sound : IsSound c.args.names.now (concat_of (map expr_tree c.deref-in-Concat.result.now)) = subst (IsSound c.args.names.now) e c.requires.sound in
-    let ready : IsReadyFor c.args.names.now c.args.nets.now (concat_of (map expr_tree c.deref-in-Concat.result.now)) = subst (IsReadyFor c.args.names.now c.args.nets.now) e c.requires.ready in
+    let ready : IsReadyFor c.args.names.now c.args.nets.now (concat_of (map expr_tree c.deref-in-Concat.result.now)) = subst
+    (IsReadyFor c.args.names.now c.args.nets.now) e c.requires.ready in
     let weight : expr_weight (expr_tree c.args.e.now) ≡ sum_by part_weight ps = ap expr_weight e ∙ parts_weight ps (has_part c.args.names.now ps sound) in
     let had = c.requires.room in
     let room : HasRoom c.args.nl.now (8 * sum_by part_weight (map expr_tree c.deref-in-Concat.result.now)) = omega arith in
@@ -126,7 +146,8 @@ lower-lower_parts-requires t c =
 pub lower-widen-requires-clause-within : goal.lower-widen-requires-clause-within
 lower-widen-requires-clause-within t c =
     let e = concat_is c.args.e.now c.in-Concat.parts c.deref-in-Concat.result.now c.in-Concat.is c.deref-in-Concat.ensures.value in
-    let within : own_width c.args.names.now (concat_of (map expr_tree c.deref-in-Concat.result.now)) ≤ c.args.w = subst (λ u. own_width c.args.names.now u ≤ c.args.w) e c.requires.within in
+    let within : own_width c.args.names.now (concat_of (map expr_tree c.deref-in-Concat.result.now)) ≤ c.args.w = subst
+    (λ u. own_width c.args.names.now u ≤ c.args.w) e c.requires.within in
     let own = c.in_ok-x-in-Concat.ensures.own in
     omega arith
 
@@ -146,7 +167,8 @@ lower-returns-in_ok-x-in-Concat t c =
     let ps = map expr_tree c.deref-in-Concat.result.now in
     let e = concat_is c.args.e.now c.in-Concat.parts c.deref-in-Concat.result.now c.in-Concat.is c.deref-in-Concat.ensures.value in
     let sound : IsSound c.args.names.now (concat_of ps) = subst (IsSound c.args.names.now) e c.requires.sound in
-    rw e (concat_lowered c.args.from c.args.names.now c.args.nets.now c.args.nl.now c.lower_parts.new.nl c.widen.new.nl c.widen.result _ _ c.args.w ps (has_part c.args.names.now ps sound) c.in_ok-x-in-Concat.ensures.lowered
+    rw e (concat_lowered c.args.from c.args.names.now c.args.nets.now c.args.nl.now c.lower_parts.new.nl c.widen.new.nl c.widen.result _ _ c.args.w ps
+    (has_part c.args.names.now ps sound) c.in_ok-x-in-Concat.ensures.lowered
     (record { grows = c.widen.ensures.grows; more = c.widen.ensures.more; few = c.widen.ensures.few; net = c.widen.ensures.net }) c.widen.ensures.word)
 
 -- the parts one after the other
@@ -165,7 +187,8 @@ lower_parts-lower-requires t c =
     let some = has_part c.args.names.now ps c.requires.sound in
     let found = at_turn expr_tree c.args.parts.now 0 c.index-parts-0.result (omega arith) c.index-parts-0.is in
     let sound : IsSound c.args.names.now (expr_tree c.index-parts-0.result) = parts_sound c.args.names.now ps c.requires.sound 0 _ found in
-    let ready : IsReadyFor c.args.names.now c.args.nets.now (expr_tree c.index-parts-0.result) = some_part_ready c.args.names.now c.args.nets.now ps some c.requires.ready 0 _ found in
+    let ready : IsReadyFor c.args.names.now c.args.nets.now
+    (expr_tree c.index-parts-0.result) = some_part_ready c.args.names.now c.args.nets.now ps some c.requires.ready 0 _ found in
     let most = sum_turn_le expr_tree part_weight c.args.parts.now 0 c.index-parts-0.result (omega arith) c.index-parts-0.is in
     let had = c.requires.room in
     let room : HasRoom c.args.nl.now (8 * expr_weight (expr_tree c.index-parts-0.result) + 1) = omega arith in
@@ -195,7 +218,8 @@ lower_parts-loop-k-init t c =
       word = λ at n. same_word _ _
           (λ run k.
           ap (λ u. value_at c.args.names.now (read at run k) u (expr_tree c.index-parts-0.result)) own
-          ∙ (let z : own_value c.args.names.now (read at run k) (expr_tree c.index-parts-0.result) ≡ 0 * 2 ^ own_width c.args.names.now (expr_tree c.index-parts-0.result) + own_value c.args.names.now (read at run k) (expr_tree c.index-parts-0.result) = omega arith in z)
+          ∙ (let z : own_value c.args.names.now (read at run k) (expr_tree c.index-parts-0.result) ≡ 0 * 2 ^ own_width c.args.names.now
+          (expr_tree c.index-parts-0.result) + own_value c.args.names.now (read at run k) (expr_tree c.index-parts-0.result) = omega arith in z)
           ∙ ap (joined_from c.args.names.now (read at run k) 0) (sym first))
           (c.in_ok-x.ensures.word at n);
     }
@@ -213,7 +237,8 @@ lower_parts-lower-requires-in-loop-k t c =
     let some = has_part c.args.names.now ps c.requires.sound in
     let found = at_turn expr_tree c.args.parts.now c.loop-k.k c.index-parts-k.result (omega arith) c.index-parts-k.is in
     let sound : IsSound c.args.names.now (expr_tree c.index-parts-k.result) = parts_sound c.args.names.now ps c.requires.sound c.loop-k.k _ found in
-    let ready : IsReadyFor c.args.names.now c.args.nets.now (expr_tree c.index-parts-k.result) = some_part_ready c.args.names.now c.args.nets.now ps some c.requires.ready c.loop-k.k _ found in
+    let ready : IsReadyFor c.args.names.now c.args.nets.now
+    (expr_tree c.index-parts-k.result) = some_part_ready c.args.names.now c.args.nets.now ps some c.requires.ready c.loop-k.k _ found in
     let most = sum_turn_le expr_tree part_weight c.args.parts.now c.loop-k.k c.index-parts-k.result (omega arith) c.index-parts-k.is in
     let had = c.requires.room in
     let few = i.few in
@@ -292,7 +317,8 @@ lower_parts-loop-k-preserved t c =
       nets = nets_grow g i.nets;
       word = λ at n. same_word _ _
           (λ run k.
-          ap (λ u. joined_from c.args.names.now (read at run k) 0 (take c.loop-k.k (map expr_tree c.args.parts.now)) * 2 ^ u + value_at c.args.names.now (read at run k) u (expr_tree c.index-parts-k.result)) own
+          ap (λ u. joined_from c.args.names.now (read at run k) 0 (take c.loop-k.k (map expr_tree c.args.parts.now)) * 2 ^ u + value_at c.args.names.now
+          (read at run k) u (expr_tree c.index-parts-k.result)) own
           ∙ sym (joined_push c.args.names.now (read at run k) 0 (take c.loop-k.k (map expr_tree c.args.parts.now)) (expr_tree c.index-parts-k.result))
           ∙ ap (joined_from c.args.names.now (read at run k) 0) (sym next))
           (c.in_ok-x-2.ensures.word _ _ (word_grows c.in_ok-low.ensures.grows (i.word at n)) (c.in_ok-low.ensures.word at n));
@@ -302,7 +328,8 @@ pub lower_parts-returns-clause-own : goal.lower_parts-returns-clause-own
 lower_parts-returns-clause-own t c =
     let ps = map expr_tree c.args.parts.now in
     let long = length-map c.args.parts.now expr_tree in
-    c.loop-k.invariant.own ∙ ap (sum_by (own_width c.args.names.now)) (take_whole ps c.loop-k.k (omega arith)) ∙ sym (parts_width c.args.names.now ps (has_part c.args.names.now ps c.requires.sound))
+    c.loop-k.invariant.own ∙ ap (sum_by (own_width c.args.names.now)) (take_whole ps c.loop-k.k (omega arith)) ∙
+    sym (parts_width c.args.names.now ps (has_part c.args.names.now ps c.requires.sound))
 
 pub lower_parts-returns-clause-lowered : goal.lower_parts-returns-clause-lowered
 lower_parts-returns-clause-lowered t c =

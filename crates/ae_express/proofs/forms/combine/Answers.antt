@@ -11,7 +11,8 @@ returns-in-Word-clause-word c =
     let right : c.args.wy ≡ c.args.w = c.requires.right_width ∙ form.right c.args.w c.args.wx c.args.wy in
     ok_map c.gate.result (λ z h f g p q. same_word _ _
     (λ run t. form.value c.args.w (f run t) (g run t) (f run t))
-    (h f g (subst (λ (u : ℕ). IsWord c.args.from c.args.nl.now.cells c.args.x.0 u f) left p) (subst (λ (u : ℕ). IsWord c.args.from c.args.nl.now.cells c.args.y.0 u g) right q)))
+    (h f g (subst (λ (u : ℕ). IsWord c.args.from c.args.nl.now.cells c.args.x.0 u f) left p)
+    (subst (λ (u : ℕ). IsWord c.args.from c.args.nl.now.cells c.args.y.0 u g) right q)))
     c.gate.ensures.word
 
 pub returns-in-Shift-clause-word : goal.returns-in-Shift-clause-word
@@ -26,7 +27,8 @@ returns-in-Shift-clause-word c =
 pub returns-in-Comparison-clause-word : goal.returns-in-Comparison-clause-word
 returns-in-Comparison-clause-word c =
     let form = c.in-Comparison.ensures in
-    let same : c.args.wy ≡ c.args.wx = c.requires.right_width ∙ form.right c.args.w c.args.wx c.args.wy ∙ sym (c.requires.left_width ∙ form.left c.args.w c.args.wx c.args.wy) in
+    let same : c.args.wy ≡ c.args.wx = c.requires.right_width ∙ form.right c.args.w c.args.wx c.args.wy ∙
+    sym (c.requires.left_width ∙ form.left c.args.w c.args.wx c.args.wy) in
     ok_map c.compare.result (λ z h f g p q. same_word _ _
     (λ run t. form.value c.args.w (f run t) (g run t))
     (h f g p (subst (λ (u : ℕ). IsWord c.args.from c.args.nl.now.cells c.args.y.0 u g) same q)))

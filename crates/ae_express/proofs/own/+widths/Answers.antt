@@ -27,7 +27,8 @@ own_width-returns-in-Concat-clause-own t c =
 pub total_width-own_width-total-requires : goal.total_width-own_width-total-requires
 total_width-own_width-total-requires t c =
     let found = at_turn expr_tree c.args.parts.now c.loop-part.part-index c.part-item.result (omega arith) c.part-item.is in
-    let h : IsSound c.args.names.now (expr_tree c.part-item.result) = parts_sound c.args.names.now (map expr_tree c.args.parts.now) c.requires.sound c.loop-part.part-index _ found in
+    let h : IsSound c.args.names.now (expr_tree c.part-item.result) = parts_sound c.args.names.now
+    (map expr_tree c.args.parts.now) c.requires.sound c.loop-part.part-index _ found in
     search (rules, the_lemmas, h)
 
 pub total_width-overflow_add-total : goal.total_width-overflow_add-total
@@ -51,13 +52,15 @@ pub total_width-returns-clause-own : goal.total_width-returns-clause-own
 total_width-returns-clause-own t c =
     let ps = map expr_tree c.args.parts.now in
     let long = length-map c.args.parts.now expr_tree in
-    c.loop-part.invariant ∙ ap (sum_by (own_width c.args.names.now)) (take_whole ps c.loop-part.part-index (omega arith)) ∙ sym (parts_width c.args.names.now ps (has_part c.args.names.now ps c.requires.sound))
+    c.loop-part.invariant ∙ ap (sum_by (own_width c.args.names.now)) (take_whole ps c.loop-part.part-index (omega arith)) ∙
+    sym (parts_width c.args.names.now ps (has_part c.args.names.now ps c.requires.sound))
 
 pub total_width-returns-clause-low : goal.total_width-returns-clause-low
 total_width-returns-clause-low t c =
     let ps = map expr_tree c.args.parts.now in
     let long = length-map c.args.parts.now expr_tree in
-    let e = c.loop-part.invariant ∙ ap (sum_by (own_width c.args.names.now)) (take_whole ps c.loop-part.part-index (omega arith)) ∙ sym (parts_width c.args.names.now ps (has_part c.args.names.now ps c.requires.sound)) in
+    let e = c.loop-part.invariant ∙ ap (sum_by (own_width c.args.names.now)) (take_whole ps c.loop-part.part-index (omega arith)) ∙
+    sym (parts_width c.args.names.now ps (has_part c.args.names.now ps c.requires.sound)) in
     let l = sound_low c.args.names.now (concat_of ps) c.requires.sound in
     omega arith
 
@@ -65,6 +68,7 @@ pub total_width-returns-clause-high : goal.total_width-returns-clause-high
 total_width-returns-clause-high t c =
     let ps = map expr_tree c.args.parts.now in
     let long = length-map c.args.parts.now expr_tree in
-    let e = c.loop-part.invariant ∙ ap (sum_by (own_width c.args.names.now)) (take_whole ps c.loop-part.part-index (omega arith)) ∙ sym (parts_width c.args.names.now ps (has_part c.args.names.now ps c.requires.sound)) in
+    let e = c.loop-part.invariant ∙ ap (sum_by (own_width c.args.names.now)) (take_whole ps c.loop-part.part-index (omega arith)) ∙
+    sym (parts_width c.args.names.now ps (has_part c.args.names.now ps c.requires.sound)) in
     let l = sound_high c.args.names.now (concat_of ps) c.requires.sound in
     omega arith

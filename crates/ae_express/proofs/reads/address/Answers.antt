@@ -11,7 +11,9 @@ pub returns-clause-net : goal.returns-clause-net
 returns-clause-net c = pushed_net _ _ _ _ (Const c.from.result) tt c.in_ok-y.ensures.ok c.in_ok-y.ensures.added
 
 pub returns-clause-word : goal.returns-clause-word
-returns-clause-word c = rw c.from.ensures at (fixed_word c.args.from c.args.nl.now c.push.new.nl c.in_ok-y.y 16 c.from.result c.requires.from c.in_ok-y.ensures.ok c.in_ok-y.ensures.added)
+returns-clause-word c =
+    rw c.from.ensures at (fixed_word c.args.from c.args.nl.now c.push.new.nl c.in_ok-y.y 16 c.from.result c.requires.from c.in_ok-y.ensures.ok
+    c.in_ok-y.ensures.added)
 
 pub returns-clause-address : goal.returns-clause-address
 returns-clause-address c = λ depth l. constant_address _ _ _ _ _ depth c.in_ok-y.ensures.ok c.in_ok-y.ensures.added (rw c.from.ensures l)

@@ -2,7 +2,8 @@ use Rattle.ae_express.proofs.NetLaws.{name_net, name_word}
 use Rattle.ae_express.proofs.reads.read_name.Goals as goal
 
 pub widen-requires-clause-net : goal.widen-requires-clause-net
-widen-requires-clause-net c = rw c.name_width-width.ensures.width (name_net _ _ _ _ _ c.requires.named.named c.requires.named.word c.requires.nets c.net_of-net.ensures)
+widen-requires-clause-net c =
+    rw c.name_width-width.ensures.width (name_net _ _ _ _ _ c.requires.named.named c.requires.named.word c.requires.nets c.net_of-net.ensures)
 
 pub returns-clause-word : goal.returns-clause-word
 returns-clause-word c = λ at a.

@@ -17,7 +17,8 @@ pub returns-then-is_memory-clause-word : goal.returns-then-is_memory-clause-word
 returns-then-is_memory-clause-word c = λ at a.
     let t : is_memory_name c.args.names.now c.args.name.now ≡ true = sym c.is_memory.ensures ∙ c.if-is_memory.true in
     same_word _ _
-    (λ run k. ap (λ m. get_or (store_at run k m) c.args.k 0) (sym (a.each _ _ c.net_of-net.ensures)) ∙ index_value c.args.names.now (read at run k) c.args.name.now c.args.k c.args.w t)
+    (λ run k. ap (λ m. get_or (store_at run k m) c.args.k 0) (sym (a.each _ _ c.net_of-net.ensures)) ∙
+    index_value c.args.names.now (read at run k) c.args.name.now c.args.k c.args.w t)
     (c.in_ok-read.ensures.word _ (c.in_ok-word.ensures.word _ c.in_ok-at.ensures.word))
 
 pub cut-requires-clause-net : goal.cut-requires-clause-net

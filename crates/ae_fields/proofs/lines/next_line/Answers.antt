@@ -10,7 +10,8 @@ pub returns-then-text-end-eq10-clause-cases : goal.returns-then-text-end-eq10-cl
 returns-then-text-end-eq10-clause-cases c =
     let text = c.args.text.now in
     let k = c.loop-end.end in
-    line-ends text k c.loop-end-test.true (eq-eqb _ _ c.if-text-end-eq10.true) c.loop-end.invariant.1 ∙ ap (λ l. take k text ∷ lines l) (sym (whole_rest text (k + 1)))
+    line-ends text k c.loop-end-test.true (eq-eqb _ _ c.if-text-end-eq10.true) c.loop-end.invariant.1 ∙
+    ap (λ l. take k text ∷ lines l) (sym (whole_rest text (k + 1)))
 
 pub returns-then-text-end-eq10-clause-bytes : goal.returns-then-text-end-eq10-clause-bytes
 returns-then-text-end-eq10-clause-bytes c =
@@ -21,8 +22,11 @@ returns-then-text-end-eq10-clause-bytes c =
 pub loop-end-preserved : goal.loop-end-preserved
 loop-end-preserved c =
     let text = c.args.text.now in
-    let k = c.loop-end.end in
-    (grind (arith, common_steps), line-goes-on text k c.loop-end-test.true (grind (arith, common_steps)) c.loop-end.invariant.1, free-more 10 text k c.loop-end-test.true c.loop-end.invariant.2 (grind (arith, common_steps)))
+    let k = c.loop-end.end in (
+      grind (arith, common_steps),
+      line-goes-on text k c.loop-end-test.true (grind (arith, common_steps)) c.loop-end.invariant.1,
+      free-more 10 text k c.loop-end-test.true c.loop-end.invariant.2 (grind (arith, common_steps)),
+    )
 
 pub returns-clause-cases : goal.returns-clause-cases
 returns-clause-cases c =

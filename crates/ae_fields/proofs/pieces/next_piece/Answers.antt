@@ -8,7 +8,8 @@ pub returns-then-bytes-end-clause-cases : goal.returns-then-bytes-end-clause-cas
 returns-then-bytes-end-clause-cases c =
     let bytes = c.args.bytes.now in
     let k = c.loop-end.end in
-    piece-ends c.args.mark bytes k c.loop-end-test.true (eq-eqb _ _ c.if-bytes-end.true) c.loop-end.invariant.1 ∙ ap (λ l. take k bytes ∷ pieces c.args.mark l) (sym (whole_rest bytes (k + 1)))
+    piece-ends c.args.mark bytes k c.loop-end-test.true (eq-eqb _ _ c.if-bytes-end.true) c.loop-end.invariant.1 ∙
+    ap (λ l. take k bytes ∷ pieces c.args.mark l) (sym (whole_rest bytes (k + 1)))
 
 pub loop-end-preserved : goal.loop-end-preserved
 loop-end-preserved c =

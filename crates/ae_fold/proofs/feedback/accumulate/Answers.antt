@@ -20,13 +20,16 @@ pub returns-in_err-both-clause-up : goal.returns-in_err-both-clause-up
 returns-in_err-both-clause-up c = adds_up _ (omega arith) (adds_trans (adds_trans c.in_ok-r.ensures.adds c.in_ok-back.ensures.adds) c.in_err-both.ensures.err)
 
 pub choose-requires-clause-condition : goal.choose-requires-clause-condition
-choose-requires-clause-condition c = net_added (adds_trans (adds_trans c.in_ok-r.ensures.adds c.in_ok-back.ensures.adds) c.in_ok-both.ensures.adds) c.requires.first
+choose-requires-clause-condition c =
+    net_added (adds_trans (adds_trans c.in_ok-r.ensures.adds c.in_ok-back.ensures.adds) c.in_ok-both.ensures.adds) c.requires.first
 
 pub choose-requires-clause-left : goal.choose-requires-clause-left
 choose-requires-clause-left c = net_added (adds_trans (adds_trans c.in_ok-r.ensures.adds c.in_ok-back.ensures.adds) c.in_ok-both.ensures.adds) c.requires.net
 
 pub returns-in_err-next-clause-up : goal.returns-in_err-next-clause-up
-returns-in_err-next-clause-up c = adds_up _ (omega arith) (adds_trans (adds_trans (adds_trans c.in_ok-r.ensures.adds c.in_ok-back.ensures.adds) c.in_ok-both.ensures.adds) c.in_err-next.ensures.adds)
+returns-in_err-next-clause-up c =
+    adds_up _ (omega arith) (adds_trans (adds_trans (adds_trans c.in_ok-r.ensures.adds c.in_ok-back.ensures.adds) c.in_ok-both.ensures.adds)
+    c.in_err-next.ensures.adds)
 
 pub close-requires-clause-register : goal.close-requires-clause-register
 close-requires-clause-register c =
@@ -41,12 +44,14 @@ close-requires-clause-next c =
 pub returns-clause-adds : goal.returns-clause-adds
 returns-clause-adds c =
     adds_is (omega arith) (omega arith)
-    (adds_connect (adds_trans (adds_trans (adds_trans c.in_ok-r.ensures.adds c.in_ok-back.ensures.adds) c.in_ok-both.ensures.adds) c.in_ok-next.ensures.adds) (omega (arith, c.in_ok-r.ensures.fresh)) c.close.ensures)
+    (adds_connect (adds_trans (adds_trans (adds_trans c.in_ok-r.ensures.adds c.in_ok-back.ensures.adds) c.in_ok-both.ensures.adds) c.in_ok-next.ensures.adds)
+    (omega (arith, c.in_ok-r.ensures.fresh)) c.close.ensures)
 
 pub returns-clause-up : goal.returns-clause-up
 returns-clause-up c =
     adds_up _ (omega arith)
-    (adds_connect (adds_trans (adds_trans (adds_trans c.in_ok-r.ensures.adds c.in_ok-back.ensures.adds) c.in_ok-both.ensures.adds) c.in_ok-next.ensures.adds) (omega (arith, c.in_ok-r.ensures.fresh)) c.close.ensures)
+    (adds_connect (adds_trans (adds_trans (adds_trans c.in_ok-r.ensures.adds c.in_ok-back.ensures.adds) c.in_ok-both.ensures.adds) c.in_ok-next.ensures.adds)
+    (omega (arith, c.in_ok-r.ensures.fresh)) c.close.ensures)
 
 pub returns-clause-net : goal.returns-clause-net
 returns-clause-net c =

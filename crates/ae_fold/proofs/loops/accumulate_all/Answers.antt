@@ -33,7 +33,8 @@ loop-p-preserved c =
       adds = adds_once c.loop-p.p (c.args.inner + 9) _ _ (fold_product c.args.folds.now (c.args.from + c.loop-p.p) c.requires.folds) old.adds more.adds;
       long = rw pushed (length_push c.loop-p.loops.items c.in_ok-one.one ∙ ap (λ n. n + 1) old.long);
       loops = rw pushed
-          (loops_more _ _ _ c.args.nets.now c.args.from _ _ c.loop-p.p c.loop-p.loops.items c.in_ok-one.one old.long more.adds.grows.extends old.loops (record { net = more.net; old = more.back; words = more.words; late = more.late }));
+          (loops_more _ _ _ c.args.nets.now c.args.from _ _ c.loop-p.p c.loop-p.loops.items c.in_ok-one.one old.long more.adds.grows.extends old.loops
+          (record { net = more.net; old = more.back; words = more.words; late = more.late }));
     }
 
 pub returns-clause-up : goal.returns-clause-up

@@ -6,6 +6,7 @@ use Rattle.ae_fold.proofs.marks.lead.Goals as goal
 
 pub returns-clause-words : goal.returns-clause-words
 returns-clause-words c = λ all e run is start reset.
-    let turn : (c.args.arrival % c.args.period + c.args.delay) % c.args.period ≡ (c.args.arrival + c.args.delay) % c.args.period = mod-add-mod c.args.arrival c.args.period c.args.delay in
+    let turn : (c.args.arrival % c.args.period + c.args.delay) % c.args.period ≡ (c.args.arrival + c.args.delay) % c.args.period = mod-add-mod c.args.arrival
+    c.args.period c.args.delay in
     leads run start c.args.period (c.args.arrival + c.args.delay) c.args.inner _ c.requires.low
     (rw turn at (c.in_ok-y.ensures.marks all e run is start reset))

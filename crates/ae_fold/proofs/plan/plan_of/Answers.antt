@@ -7,13 +7,15 @@ use Rattle.ae_fold.proofs.plan.plan_of.Goals as goal
 pub overflow_mul-result : goal.overflow_mul-result
 overflow_mul-result c =
     let t = st_tree c.args.element.now in
-    let e : c.lanes.result * c.element_words.result ≡ lanes t * element_words t = ap (λ n. n * c.element_words.result) c.lanes.ensures ∙ ap (λ n. lanes t * n) c.element_words.ensures in
+    let e : c.lanes.result * c.element_words.result ≡ lanes t * element_words t = ap (λ n. n * c.element_words.result) c.lanes.ensures ∙
+    ap (λ n. lanes t * n) c.element_words.ensures in
     omega (arith, columns_small t c.requires.element, e)
 
 pub returns-clause-plan : goal.returns-clause-plan
 returns-clause-plan c =
     let t = st_tree c.args.element.now in
-    let e : c.lanes.result * c.element_words.result ≡ lanes t * element_words t = ap (λ n. n * c.element_words.result) c.lanes.ensures ∙ ap (λ n. lanes t * n) c.element_words.ensures in
+    let e : c.lanes.result * c.element_words.result ≡ lanes t * element_words t = ap (λ n. n * c.element_words.result) c.lanes.ensures ∙
+    ap (λ n. lanes t * n) c.element_words.ensures in
     record {
       some = c.requires.slots_some;
       wide = c.requires.lanes_some;

@@ -15,8 +15,10 @@ follow-requires-clause-first c = net_added c.loop-q.invariant.adds c.requires.fi
 
 pub follow-requires-clause-back : goal.follow-requires-clause-back
 follow-requires-clause-back c =
-    back_net _ c.args.folds.now c.args.from c.args.stride c.loop-q.q c.args.loops.now _ c.requires.folds.some c.requires.placed c.requires.whole c.requires.lanes
-    (λ p one found. net_added c.loop-q.invariant.adds (c.requires.backs p one found)) (loop_there c.args.loops.now c.args.stride c.loop-q.q c.requires.long c.requires.placed)
+    back_net _ c.args.folds.now c.args.from c.args.stride c.loop-q.q c.args.loops.now _ c.requires.folds.some c.requires.placed c.requires.whole
+    c.requires.lanes
+    (λ p one found. net_added c.loop-q.invariant.adds (c.requires.backs p one found))
+    (loop_there c.args.loops.now c.args.stride c.loop-q.q c.requires.long c.requires.placed)
 
 pub follow-requires-clause-folds : goal.follow-requires-clause-folds
 follow-requires-clause-folds c = fold_op c.args.folds.now c.loop-q.q c.requires.folds
@@ -36,7 +38,8 @@ loop-q-preserved c =
       adds = adds_once c.loop-q.q 10 _ _ (fold_product c.args.folds.now c.loop-q.q c.requires.folds) old.adds more.adds;
       long = rw pushed (length_push c.loop-q.outs.items c.in_ok-net.net ∙ ap (λ n. n + 1) old.long);
       follow = rw pushed
-          (followers_more _ _ c.args.folds.now c.args.nets.now c.args.stride _ c.loop-q.q c.args.loops.now c.loop-q.outs.items _ c.in_ok-net.net old.long more.adds.grows.extends old.follow
+          (followers_more _ _ c.args.folds.now c.args.nets.now c.args.stride _ c.loop-q.q c.args.loops.now c.loop-q.outs.items _ c.in_ok-net.net old.long
+          more.adds.grows.extends old.follow
           (loop_there c.args.loops.now c.args.stride c.loop-q.q c.requires.long c.requires.placed) (record { net = more.net; words = more.words }));
     }
 

@@ -19,13 +19,19 @@ returns-in_err-outs-clause-up c =
     up_trans _ (omega arith) (rw e at c.in_ok-loops.ensures.adds) c.in_err-outs.ensures.up
 
 pub returns-in_err-append_loops-clause-up : goal.returns-in_err-append_loops-clause-up
-returns-in_err-append_loops-clause-up c = adds_up _ (omega arith) (loops_adds _ _ _ c.args.from c.args.stride c.args.inner (length c.args.nets.now) (products_in c.args.folds.now) c.requires.last c.in_ok-loops.ensures.adds c.in_ok-outs.ensures.adds)
+returns-in_err-append_loops-clause-up c =
+    adds_up _ (omega arith) (loops_adds _ _ _ c.args.from c.args.stride c.args.inner (length c.args.nets.now)
+    (products_in c.args.folds.now) c.requires.last c.in_ok-loops.ensures.adds c.in_ok-outs.ensures.adds)
 
 pub returns-clause-adds : goal.returns-clause-adds
-returns-clause-adds c = loops_adds _ _ _ c.args.from c.args.stride c.args.inner (length c.args.nets.now) (products_in c.args.folds.now) c.requires.last c.in_ok-loops.ensures.adds c.in_ok-outs.ensures.adds
+returns-clause-adds c =
+    loops_adds _ _ _ c.args.from c.args.stride c.args.inner (length c.args.nets.now)
+    (products_in c.args.folds.now) c.requires.last c.in_ok-loops.ensures.adds c.in_ok-outs.ensures.adds
 
 pub returns-clause-up : goal.returns-clause-up
-returns-clause-up c = adds_up _ (omega arith) (loops_adds _ _ _ c.args.from c.args.stride c.args.inner (length c.args.nets.now) (products_in c.args.folds.now) c.requires.last c.in_ok-loops.ensures.adds c.in_ok-outs.ensures.adds)
+returns-clause-up c =
+    adds_up _ (omega arith) (loops_adds _ _ _ c.args.from c.args.stride c.args.inner (length c.args.nets.now)
+    (products_in c.args.folds.now) c.requires.last c.in_ok-loops.ensures.adds c.in_ok-outs.ensures.adds)
 
 pub returns-clause-looped : goal.returns-clause-looped
 returns-clause-looped c = record {

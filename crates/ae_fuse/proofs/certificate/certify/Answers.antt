@@ -21,7 +21,9 @@ loop-k-preserved c =
     let here : slice_get ms k ≡ Some (result_move ins own) = get_mapped (result_move ins) rs k own found in
     record {
       within = omega arith;
-      early = moves-next c.args.latest ms k (result_move ins own) here c.loop-k.invariant.early (none-in c.args.latest (result_move ins own) c.first_in-found.result c.is_some.result c.is_some.ensures c.if-is_some.false c.first_in-found.ensures.first);
+      early = moves-next c.args.latest ms k (result_move ins own) here c.loop-k.invariant.early
+          (none-in c.args.latest (result_move ins own) c.first_in-found.result c.is_some.result c.is_some.ensures c.if-is_some.false
+          c.first_in-found.ensures.first);
     }
 
 pub returns-clause-none : goal.returns-clause-none
@@ -29,5 +31,6 @@ returns-clause-none c =
     let rs = c.args.moves.now in
     let ms : List Move = map (result_move (st_trees c.args.ins.now)) rs in
     let all : (j : ℕ) (x : Move) → slice_get ms j ≡ Some x → AreEarly c.args.latest x (word_count x) =
-    λ j x here. c.loop-k.invariant.early j x (let low = slice_get_within ms j x here in omega (arith, low, length-map rs (result_move (st_trees c.args.ins.now)), c.loop-k.invariant.within, c.loop-k-test.false)) here in
+    λ j x here. c.loop-k.invariant.early j x (let low = slice_get_within ms j x here in
+    omega (arith, low, length-map rs (result_move (st_trees c.args.ins.now)), c.loop-k.invariant.within, c.loop-k-test.false)) here in
     absurd (never-early c.args.latest ms (omega arith) c.requires.latest all)

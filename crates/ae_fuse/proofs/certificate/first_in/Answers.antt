@@ -23,8 +23,11 @@ way-found-requires-clause-there c =
     let source : List Origin = c.args.own.now.source.items in
     let o = c.loop-o.o in
     let found : slice_get source o ≡ Some c.index.result.now = slice_get_read source (length source) o c.index.result.now refl (omega arith) c.index.ensures in
-    let x = there_at (st_trees c.args.ins.now) (st_tree c.args.own.now.out) source o (Word 0 0 0) c.requires.moves (omega arith) in
-    (x.0, subst (λ (y : Origin). HasOrigin (st_trees c.args.ins.now) x.0 (origin_tree y)) (get_or_from_slice_get source o c.index.result.now (Word 0 0 0) found) x.1)
+    let x = there_at (st_trees c.args.ins.now) (st_tree c.args.own.now.out) source o (Word 0 0 0) c.requires.moves (omega arith) in (
+      x.0,
+      subst (λ (y : Origin). HasOrigin (st_trees c.args.ins.now) x.0 (origin_tree y))
+          (get_or_from_slice_get source o c.index.result.now (Word 0 0 0) found) x.1,
+    )
 
 pub returns-then-lead-late-clause-first : goal.returns-then-lead-late-clause-first
 returns-then-lead-late-clause-first c =
@@ -33,7 +36,8 @@ returns-then-lead-late-clause-first c =
     let found : slice_get source o ≡ Some c.index.result.now = slice_get_read source (length source) o c.index.result.now refl (omega arith) c.index.ensures in
     let m = result_move (st_trees c.args.ins.now) c.args.own.now in
     let here : slice_get m.origins o ≡ Some (origin_tree c.index.result.now) = get_mapped origin_tree source o c.index.result.now found in
-    late-in c.args.late m o (origin_tree c.index.result.now) c.in-Some.c (words_below _ _ source o c.requires.moves (omega arith)) here c.in-Some.ensures.way (omega (arith, c.saturating_sub-lead.ensures, c.if-lead-late.true)) c.loop-o.invariant.early
+    late-in c.args.late m o (origin_tree c.index.result.now) c.in-Some.c (words_below _ _ source o c.requires.moves (omega arith)) here c.in-Some.ensures.way
+    (omega (arith, c.saturating_sub-lead.ensures, c.if-lead-late.true)) c.loop-o.invariant.early
 
 pub loop-o-preserved : goal.loop-o-preserved
 loop-o-preserved c =
@@ -51,5 +55,6 @@ loop-o-preserved c =
     ] in
     record {
       within = omega arith;
-      early = early-next c.args.late m o c.loop-o.invariant.early (early-way m o c.args.late (origin_tree c.index.result.now) c.way-found.result here c.requires.some c.way-found.ensures.way less);
+      early = early-next c.args.late m o c.loop-o.invariant.early
+          (early-way m o c.args.late (origin_tree c.index.result.now) c.way-found.result here c.requires.some c.way-found.ensures.way less);
     }

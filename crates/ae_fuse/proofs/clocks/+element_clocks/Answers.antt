@@ -23,13 +23,17 @@ returns-in_ok-one-in-T t c =
     let s : StTree = st_tree c.deref-of.result.now in
     let is : st_tree c.args.layout.now ≡ tseq c.in-T.n c.in-T.i s = cc (ap st_tree c.in-T.is) in
     let one : c.deref.result.now ≡ element_clocks s = c.deref.ensures.value ∙ c.in_ok-one-in-T.ensures in
-    let all : clock_copies c.in-T.n c.time.result c.deref.result.now ≡ element_clocks (st_tree c.args.layout.now) = (λ j. clock_copies c.in-T.n (c.time.ensures j) (one j)) ∙ sym (ap element_clocks is ∙ tseq-clocks c.in-T.n c.in-T.i s) in
-    IfOk-weaker c.copied_clocks.result (λ (v : Vec ℕ Global). v.items ≡ clock_copies c.in-T.n c.time.result c.deref.result.now) (λ (v : Vec ℕ Global). v.items ≡ element_clocks (st_tree c.args.layout.now)) (λ v e. e ∙ all) c.copied_clocks.ensures
+    let all : clock_copies c.in-T.n c.time.result c.deref.result.now ≡ element_clocks
+    (st_tree c.args.layout.now) = (λ j. clock_copies c.in-T.n (c.time.ensures j) (one j)) ∙ sym (ap element_clocks is ∙ tseq-clocks c.in-T.n c.in-T.i s) in
+    IfOk-weaker c.copied_clocks.result (λ (v : Vec ℕ Global). v.items ≡ clock_copies c.in-T.n c.time.result c.deref.result.now)
+    (λ (v : Vec ℕ Global). v.items ≡ element_clocks (st_tree c.args.layout.now)) (λ v e. e ∙ all) c.copied_clocks.ensures
 
 pub returns-in_ok-one-in-S : goal.returns-in_ok-one-in-S
 returns-in_ok-one-in-S t c =
     let s : StTree = st_tree c.deref-of-in-S.result.now in
     let is : st_tree c.args.layout.now ≡ sseq c.in-S.n s = cc (ap st_tree c.in-S.is) in
     let one : c.deref-in-S.result.now ≡ element_clocks s = c.deref-in-S.ensures.value ∙ c.in_ok-one-in-S.ensures in
-    let all : clock_copies c.in-S.n 0 c.deref-in-S.result.now ≡ element_clocks (st_tree c.args.layout.now) = ap (clock_copies c.in-S.n 0) one ∙ sym (ap element_clocks is ∙ sseq-clocks c.in-S.n s) in
-    IfOk-weaker c.copied_clocks-in-S.result (λ (v : Vec ℕ Global). v.items ≡ clock_copies c.in-S.n 0 c.deref-in-S.result.now) (λ (v : Vec ℕ Global). v.items ≡ element_clocks (st_tree c.args.layout.now)) (λ v e. e ∙ all) c.copied_clocks-in-S.ensures
+    let all : clock_copies c.in-S.n 0 c.deref-in-S.result.now ≡ element_clocks (st_tree c.args.layout.now) = ap (clock_copies c.in-S.n 0) one ∙
+    sym (ap element_clocks is ∙ sseq-clocks c.in-S.n s) in
+    IfOk-weaker c.copied_clocks-in-S.result (λ (v : Vec ℕ Global). v.items ≡ clock_copies c.in-S.n 0 c.deref-in-S.result.now)
+    (λ (v : Vec ℕ Global). v.items ≡ element_clocks (st_tree c.args.layout.now)) (λ v e. e ∙ all) c.copied_clocks-in-S.ensures

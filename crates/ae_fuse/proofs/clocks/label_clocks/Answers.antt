@@ -22,4 +22,6 @@ loop-layout-preserved c =
     words-next ls k t c.loop-layout.clocks.items _ found c.loop-layout.invariant c.in_ok-add_layout.ensures
 
 pub returns : goal.returns
-returns c = c.loop-layout.invariant ∙ ap (λ ls. label_clocks (st_trees ls)) (take_all c.loop-layout.layout-index c.args.ins.now (omega (arith, c.loop-layout-test.false)))
+returns c =
+    c.loop-layout.invariant ∙ ap (λ ls. label_clocks (st_trees ls))
+    (take_all c.loop-layout.layout-index c.args.ins.now (omega (arith, c.loop-layout-test.false)))

@@ -10,6 +10,7 @@ loop-o-preserved c =
     c.saturating_sub.ensures ∙ ap (λ k. k - get_or c.args.elements.now (o / c.args.words) 0) c.source_clock-source.ensures in
     let new : c.max-most.result ≡ max c.loop-o.most c.saturating_sub.result = c.max-most.ensures in
     record {
-      most = greatest-more (lead_of c.args.sources.now c.args.labels.now c.args.elements.now c.args.words) o c.saturating_sub.result c.loop-o.most c.max-most.result c.loop-o.invariant.most is new;
+      most = greatest-more (lead_of c.args.sources.now c.args.labels.now c.args.elements.now c.args.words) o c.saturating_sub.result c.loop-o.most
+          c.max-most.result c.loop-o.invariant.most is new;
       within = omega (arith, c.loop-o-test.true);
     }

@@ -8,7 +8,8 @@ use Rattle.ae_fuse.proofs.costs.all_columns.Goals as goal
 
 pub columns_in-own-requires : goal.columns_in-own-requires
 columns_in-own-requires c =
-    c.requires.sizes c.loop-layout.layout-index c.layout-item.result (slice_get_read c.args.ins.now (length c.args.ins.now) c.loop-layout.layout-index c.layout-item.result refl c.loop-layout-test.true c.layout-item.is)
+    c.requires.sizes c.loop-layout.layout-index c.layout-item.result
+    (slice_get_read c.args.ins.now (length c.args.ins.now) c.loop-layout.layout-index c.layout-item.result refl c.loop-layout-test.true c.layout-item.is)
 
 pub loop-layout-preserved : goal.loop-layout-preserved
 loop-layout-preserved c =
@@ -20,7 +21,8 @@ loop-layout-preserved c =
     let was = c.loop-layout.invariant in
     record {
       many = ap length c.in_ok-push.ensures.items ∙ length-append c.loop-layout.firsts.items _ ∙ omega (arith, was.many);
-      each = λ i low. ap (λ (fs : List ℕ). slice_get fs i) c.in_ok-push.ensures.items ∙ firsts-next ls k c.loop-layout.count c.loop-layout.firsts.items was.many was.all was.each i low;
+      each = λ i low. ap (λ (fs : List ℕ). slice_get fs i) c.in_ok-push.ensures.items ∙
+          firsts-next ls k c.loop-layout.count c.loop-layout.firsts.items was.many was.all was.each i low;
       all = omega (arith, more, was.all, c.columns_in-own.ensures.columns);
       few = omega (arith, was.few, c.columns_in-own.ensures.few);
     }

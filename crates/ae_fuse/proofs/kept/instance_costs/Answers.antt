@@ -14,7 +14,8 @@ pub result_moves-requires-clause-many : goal.result_moves-requires-clause-many
 result_moves-requires-clause-many c = omega (arith, length-map c.args.labels.now (λ (w : Vec ℕ Global). w.items), c.requires.labels.many)
 
 pub result_moves-requires-clause-results : goal.result_moves-requires-clause-results
-result_moves-requires-clause-results c r i at = omega (arith, c.requires.movable.results r i at, length-map c.args.labels.now (λ (w : Vec ℕ Global). w.items), c.requires.labels.many)
+result_moves-requires-clause-results c r i at =
+    omega (arith, c.requires.movable.results r i at, length-map c.args.labels.now (λ (w : Vec ℕ Global). w.items), c.requires.labels.many)
 
 pub together-requires-clause-sizes : goal.together-requires-clause-sizes
 together-requires-clause-sizes c = sized-at (st_func_tree c.args.s.now) c.requires.movable c.as_slice.result.now (ap st_trees c.as_slice.ensures.value)
@@ -32,7 +33,8 @@ pub together-requires-clause-moves : goal.together-requires-clause-moves
 together-requires-clause-moves c k r found =
     let s = st_func_tree c.args.s.now in
     let made = c.in_ok-moves.ensures ∙ agree s c.requires.movable (map (λ (w : Vec ℕ Global). w.items) c.args.labels.now) c.requires.labels in
-    result-at s c.requires.movable (st_trees c.as_slice.result.now) c.deref.result.now (ap st_trees c.as_slice.ensures.value) (ap (map (result_move s.ins)) c.deref.ensures.value ∙ made) k r found
+    result-at s c.requires.movable (st_trees c.as_slice.result.now) c.deref.result.now (ap st_trees c.as_slice.ensures.value)
+    (ap (map (result_move s.ins)) c.deref.ensures.value ∙ made) k r found
 
 pub returns : goal.returns
 returns c =
@@ -40,5 +42,7 @@ returns c =
     let made = c.in_ok-moves.ensures ∙ agree s c.requires.movable (map (λ (w : Vec ℕ Global). w.items) c.args.labels.now) c.requires.labels in
     let P : FusedCosts → Type 0 = λ o. told_costs o ≡ fused_costs (map (result_move (st_trees c.as_slice.result.now)) c.deref.result.now) in
     let Q : FusedCosts → Type 0 = λ o. told_costs o ≡ fused_costs (map (own_move s (own_labels s)) s.results) in
-    IfOk-weaker c.together.result P Q (λ o e. e ∙ ap fused_costs (moves-at s c.requires.movable (st_trees c.as_slice.result.now) c.deref.result.now (ap st_trees c.as_slice.ensures.value) (ap (map (result_move s.ins)) c.deref.ensures.value ∙ made)))
+    IfOk-weaker c.together.result P Q (λ o e. e ∙ ap fused_costs
+    (moves-at s c.requires.movable (st_trees c.as_slice.result.now) c.deref.result.now (ap st_trees c.as_slice.ensures.value)
+    (ap (map (result_move s.ins)) c.deref.ensures.value ∙ made)))
     c.together.ensures

@@ -5,7 +5,9 @@ use Rattle.ae_fuse.proofs.labelling.paired_labels.Goals as goal
 
 pub loop-piece-preserved : goal.loop-piece-preserved
 loop-piece-preserved c = record {
-  pairs = rw (c.in_ok-add-2.ensures, c.in_ok-add.ensures) (pairs-more c.loop-piece.piece c.args.size c.args.other c.args.first.now c.args.second.now c.loop-piece.both.items _ _ refl refl c.loop-piece.invariant.pairs);
+  pairs = rw (c.in_ok-add-2.ensures, c.in_ok-add.ensures)
+      (pairs-more c.loop-piece.piece c.args.size c.args.other c.args.first.now c.args.second.now c.loop-piece.both.items _ _ refl refl
+      c.loop-piece.invariant.pairs);
   within = omega (arith, c.loop-piece-test.true);
 }
 

@@ -5,7 +5,8 @@ use Rattle.ae_fuse.proofs.labelling.part_labels.Goals as goal
 
 pub loop-piece-preserved : goal.loop-piece-preserved
 loop-piece-preserved c = record {
-  parts = rw c.in_ok-add.ensures (parts-more c.loop-piece.piece c.args.size c.args.from c.args.part c.args.labels.now c.loop-piece.taken.items _ refl c.loop-piece.invariant.parts);
+  parts = rw c.in_ok-add.ensures (parts-more c.loop-piece.piece c.args.size c.args.from c.args.part c.args.labels.now c.loop-piece.taken.items _ refl
+      c.loop-piece.invariant.parts);
   within = omega (arith, c.loop-piece-test.true);
 }
 

@@ -67,9 +67,18 @@ result_nets-requires-clause-room c =
     let ms : List Move = map (result_move ins) rs in
     let found = slice_get_read rs (length rs) k own refl (omega arith) c.index-results-k.is in
     let here : slice_get ms k ≡ Some (result_move ins own) = get_mapped (result_move ins) rs k own found in
-    let load : result_load c.args.whole (move_of c.in_ok-gather.gather) ≡ result_load c.args.whole (result_move ins own) = ap (result_load c.args.whole) c.in_ok-gather.ensures in
+    let load : result_load c.args.whole (move_of c.in_ok-gather.gather) ≡ result_load c.args.whole (result_move ins own) = ap
+    (result_load c.args.whole) c.in_ok-gather.ensures in
     let was = c.loop-k.invariant.grows in
-    omega (arith, load, was.cells, was.grows.limit, load_next ms k c.args.whole (result_move ins own) here, sum_part (result_load c.args.whole) ms (k + 1), c.requires.room)
+    omega (
+      arith,
+      load,
+      was.cells,
+      was.grows.limit,
+      load_next ms k c.args.whole (result_move ins own) here,
+      sum_part (result_load c.args.whole) ms (k + 1),
+      c.requires.room,
+    )
 
 pub result_nets-requires-clause-moves : goal.result_nets-requires-clause-moves
 result_nets-requires-clause-moves c =
@@ -94,9 +103,12 @@ loop-k-preserved c =
     let made = c.in_ok-bundle.ensures in
     let is = c.in_ok-gather.ensures in
     let new = c.result_nets.new.nl in
-    let grown : GrowsBy c.loop-k.nl new (result_load c.args.whole (result_move ins own)) = subst (λ (m : Move). GrowsBy c.loop-k.nl new (result_load c.args.whole m)) is made.grows in
-    let added : Adds c.loop-k.nl new 0 (result_mems c.args.whole (result_move ins own)) = subst (λ (m : Move). Adds c.loop-k.nl new 0 (result_mems c.args.whole m)) is made.adds in
-    let moved : IsLateResult new.cells c.loop-k.clocks.rst c.args.whole (result_move ins own) c.args.args.now c.in_ok-bundle.bundle = subst (λ (m : Move). IsLateResult new.cells c.loop-k.clocks.rst c.args.whole m c.args.args.now c.in_ok-bundle.bundle) is made.moved in
+    let grown : GrowsBy c.loop-k.nl new (result_load c.args.whole (result_move ins own)) = subst
+    (λ (m : Move). GrowsBy c.loop-k.nl new (result_load c.args.whole m)) is made.grows in
+    let added : Adds c.loop-k.nl new 0 (result_mems c.args.whole (result_move ins own)) = subst
+    (λ (m : Move). Adds c.loop-k.nl new 0 (result_mems c.args.whole m)) is made.adds in
+    let moved : IsLateResult new.cells c.loop-k.clocks.rst c.args.whole (result_move ins own) c.args.args.now c.in_ok-bundle.bundle = subst
+    (λ (m : Move). IsLateResult new.cells c.loop-k.clocks.rst c.args.whole m c.args.args.now c.in_ok-bundle.bundle) is made.moved in
     let longer : length c.loop-k.nl.cells ≤ length c.result_nets.new.nl.cells = extends_long _ _ made.grows.grows.extends in
     let z : 0 + (k + 1) ≡ k + 1 = omega arith in
     let y : k ≡ 0 + k = omega arith in
@@ -106,9 +118,11 @@ loop-k-preserved c =
       keeps = keeps_trans was.keeps made.keeps;
       grows = by_trans _ (load_next ms k c.args.whole (result_move ins own) here) was.grows grown;
       adds = adds_up (omega arith) (mems_next ms k c.args.whole (result_move ins own) here) (adds_trans was.adds added);
-      moved = results_next c.loop-k.nl c.result_nets.new.nl c.args.clocks.now.rst c.loop-k.clocks.rst c.args.whole ms k (result_move ins own) c.args.args.now c.loop-k.bundles.items c.push.new.self.items c.in_ok-bundle.bundle here was.keeps.rst c.in_ok-push.ensures.items
+      moved = results_next c.loop-k.nl c.result_nets.new.nl c.args.clocks.now.rst c.loop-k.clocks.rst c.args.whole ms k
+          (result_move ins own) c.args.args.now c.loop-k.bundles.items c.push.new.self.items c.in_ok-bundle.bundle here was.keeps.rst c.in_ok-push.ensures.items
           made.grows.grows.extends was.moved moved;
       marks = subst (λ n. AreMarks (length c.result_nets.new.nl.cells) n c.push-in-loop-k.new.self.items) z
-          (marks_more (length c.loop-k.nl.cells) (length c.result_nets.new.nl.cells) 0 k c.loop-k.marks.items c.push-in-loop-k.new.self.items longer (c.in_ok-push-2.ensures.items ∙ ap (λ n. c.loop-k.marks.items ++ n ∷ []) c.len-mark.ensures)
+          (marks_more (length c.loop-k.nl.cells) (length c.result_nets.new.nl.cells) 0 k c.loop-k.marks.items c.push-in-loop-k.new.self.items longer
+          (c.in_ok-push-2.ensures.items ∙ ap (λ n. c.loop-k.marks.items ++ n ∷ []) c.len-mark.ensures)
           (subst (λ n. AreMarks (length c.loop-k.nl.cells) n c.loop-k.marks.items) y was.marks));
     }

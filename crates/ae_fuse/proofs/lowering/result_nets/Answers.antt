@@ -27,7 +27,8 @@ unreachable-requires-in-Err-Full-later c =
     let mid = c.build.new.nl in
     let new = c.later.new.nl in
     let more = subst (λ d. GrowsBy mid new ((c.args.whole - d) * length nets)) c.latency.ensures c.later.ensures.grows in
-    let grown = result_grows c.args.nl.now mid new (move_of c.args.gather) c.args.whole nets c.requires.latest c.in-Ok.ensures.bundle c.build.ensures.grows c.build.ensures.cells more in
+    let grown = result_grows c.args.nl.now mid new (move_of c.args.gather) c.args.whole nets c.requires.latest c.in-Ok.ensures.bundle c.build.ensures.grows
+    c.build.ensures.cells more in
     let full : length new.cells ≡ new.limit = c.in-Err-Full-later.ensures.full c.in-Err-Full-later.field-0-is in
     omega (arith, grown.cells, grown.grows.limit, full, c.requires.room)
 
@@ -39,7 +40,8 @@ returns-in-Ok-later-clause-grows c =
     let nets = c.in-Ok.bundle in
     let mid = c.build.new.nl in
     let more = subst (λ d. GrowsBy mid c.later.new.nl ((c.args.whole - d) * length nets)) c.latency.ensures c.later.ensures.grows in
-    result_grows c.args.nl.now mid c.later.new.nl (move_of c.args.gather) c.args.whole nets c.requires.latest c.in-Ok.ensures.bundle c.build.ensures.grows c.build.ensures.cells more
+    result_grows c.args.nl.now mid c.later.new.nl (move_of c.args.gather) c.args.whole nets c.requires.latest c.in-Ok.ensures.bundle c.build.ensures.grows
+    c.build.ensures.cells more
 
 pub returns-in-Ok-later-clause-moved : goal.returns-in-Ok-later-clause-moved
 returns-in-Ok-later-clause-moved c =
@@ -48,11 +50,15 @@ returns-in-Ok-later-clause-moved c =
     let mid = c.build.new.nl in
     let new = c.later.new.nl in
     let there : AreNets mid.cells (stream_widths (stream_of m.out)) nets = c.in-Ok.ensures.bundle in
-    let late : AreLate new.cells c.build.new.clocks.rst (c.args.whole - move_latency m) nets c.in-Ok-later.late = subst (λ d. AreLate new.cells c.build.new.clocks.rst (c.args.whole - d) nets c.in-Ok-later.late) c.latency.ensures c.in-Ok-later.ensures.late in
-    result_late mid new c.args.clocks.now.rst c.build.new.clocks.rst m c.args.whole c.args.args.now nets c.in-Ok-later.late c.requires.moves c.requires.latest c.build.ensures.keeps.rst c.later.ensures.grows.grows.extends
+    let late : AreLate new.cells c.build.new.clocks.rst (c.args.whole - move_latency m) nets c.in-Ok-later.late = subst
+    (λ d. AreLate new.cells c.build.new.clocks.rst (c.args.whole - d) nets c.in-Ok-later.late) c.latency.ensures c.in-Ok-later.ensures.late in
+    result_late mid new c.args.clocks.now.rst c.build.new.clocks.rst m c.args.whole c.args.args.now nets c.in-Ok-later.late c.requires.moves c.requires.latest
+    c.build.ensures.keeps.rst c.later.ensures.grows.grows.extends
     there c.in-Ok.ensures.law (c.in-Ok-later.ensures.nets (stream_widths (stream_of m.out)) there) late
 
 pub returns-in-Ok-later-clause-adds : goal.returns-in-Ok-later-clause-adds
 returns-in-Ok-later-clause-adds c =
-    let more = subst (λ d. Adds c.build.new.nl c.later.new.nl 0 (length c.in-Ok.bundle * rings (c.args.whole - d))) c.latency.ensures c.in-Ok-later.ensures.adds in
-    result_adds c.args.nl.now c.build.new.nl c.later.new.nl (move_of c.args.gather) c.args.whole c.in-Ok.bundle c.in-Ok.ensures.bundle c.in-Ok.ensures.muls c.in-Ok.ensures.memories c.in-Ok.ensures.whole more
+    let more = subst (λ d. Adds c.build.new.nl c.later.new.nl 0 (length c.in-Ok.bundle * rings (c.args.whole - d))) c.latency.ensures
+    c.in-Ok-later.ensures.adds in
+    result_adds c.args.nl.now c.build.new.nl c.later.new.nl
+    (move_of c.args.gather) c.args.whole c.in-Ok.bundle c.in-Ok.ensures.bundle c.in-Ok.ensures.muls c.in-Ok.ensures.memories c.in-Ok.ensures.whole more

@@ -21,14 +21,16 @@ add_outputs-requires-clause-nets c =
     let bs = c.args.bundles.now in
     let found = slice_get_read rs (length rs) k c.index-results-k.result refl (omega arith) c.index-results-k.is in
     let has = slice_get_read bs (length bs) k c.index-bundles-k.result refl (omega (arith, c.requires.long)) c.index-bundles-k.is in
-    subst (λ (cells : List SizedCell). AreNets cells (stream_widths (result_stream c.index-results-k.result)) c.index-bundles-k.result) (sym (outputs_cells c.loop-k.invariant.outputs)) (c.requires.nets k c.index-results-k.result c.index-bundles-k.result found has)
+    subst (λ (cells : List SizedCell). AreNets cells (stream_widths (result_stream c.index-results-k.result)) c.index-bundles-k.result)
+    (sym (outputs_cells c.loop-k.invariant.outputs)) (c.requires.nets k c.index-results-k.result c.index-bundles-k.result found has)
 
 pub add_outputs-requires-clause-room : goal.add_outputs-requires-clause-room
 add_outputs-requires-clause-room c =
     let k = c.loop-k.k in
     let rs = c.args.results.now in
     let found = slice_get_read rs (length rs) k c.index-results-k.result refl (omega arith) c.index-results-k.is in
-    let few = result_few _ (st_tree c.index-results-k.result.out) c.index-bundles-k.result (c.requires.sizes k c.index-results-k.result found) (add_outputs-requires-clause-nets c) in
+    let few = result_few _ (st_tree c.index-results-k.result.out) c.index-bundles-k.result (c.requires.sizes k c.index-results-k.result found)
+    (add_outputs-requires-clause-nets c) in
     omega (arith, few, c.loop-k.invariant.few, c.requires.few, c.loop-k-test.true)
 
 pub loop-k-preserved : goal.loop-k-preserved
@@ -39,7 +41,8 @@ loop-k-preserved c =
     let found = slice_get_read rs (length rs) k c.index-results-k.result refl (omega arith) c.index-results-k.is in
     let has = slice_get_read bs (length bs) k c.index-bundles-k.result refl (omega (arith, c.requires.long)) c.index-bundles-k.is in
     let nets : AreNets c.loop-k.nl.cells (stream_widths (result_stream c.index-results-k.result)) c.index-bundles-k.result =
-    subst (λ (cells : List SizedCell). AreNets cells (stream_widths (result_stream c.index-results-k.result)) c.index-bundles-k.result) (sym (outputs_cells c.loop-k.invariant.outputs)) (c.requires.nets k c.index-results-k.result c.index-bundles-k.result found has) in
+    subst (λ (cells : List SizedCell). AreNets cells (stream_widths (result_stream c.index-results-k.result)) c.index-bundles-k.result)
+    (sym (outputs_cells c.loop-k.invariant.outputs)) (c.requires.nets k c.index-results-k.result c.index-bundles-k.result found has) in
     let few = result_few _ (st_tree c.index-results-k.result.out) c.index-bundles-k.result (c.requires.sizes k c.index-results-k.result found) nets in
     let one = c.in_ok-add_outputs.ensures in
     record {
@@ -53,6 +56,8 @@ returns c =
     let rs = c.args.results.now in
     let bs = c.args.bundles.now in
     let long : length rs ≤ c.loop-k.k = omega (arith, c.loop-k-test.false) in
-    let P : List FusedResult → List (List NetId) → Type 0 = λ xs ys. AddsOutputs c.args.nl.now c.loop-k.nl (output_ports (map result_stream xs)) (all_nets ys) in
+    let P : List FusedResult → List (List NetId) → Type 0 = λ xs ys. AddsOutputs c.args.nl.now c.loop-k.nl (output_ports (map result_stream xs))
+    (all_nets ys) in
     let outputs : P (take c.loop-k.k rs) (take c.loop-k.k bs) = c.loop-k.invariant.outputs in
-    subst (λ ys. P rs ys) (take_all c.loop-k.k bs (omega (arith, c.requires.long, long))) (subst (λ xs. P xs (take c.loop-k.k bs)) (take_all c.loop-k.k rs long) outputs)
+    subst (λ ys. P rs ys) (take_all c.loop-k.k bs (omega (arith, c.requires.long, long)))
+    (subst (λ xs. P xs (take c.loop-k.k bs)) (take_all c.loop-k.k rs long) outputs)

@@ -10,7 +10,8 @@ use Rattle.ae_fuse.proofs.numbers.first_labels.Goals as goal
 
 pub count_words-count-requires : goal.count_words-count-requires
 count_words-count-requires c =
-    c.requires.sizes c.loop-layout.layout-index c.layout-item.result (slice_get_read c.args.ins.now (length c.args.ins.now) c.loop-layout.layout-index c.layout-item.result refl c.loop-layout-test.true c.layout-item.is)
+    c.requires.sizes c.loop-layout.layout-index c.layout-item.result
+    (slice_get_read c.args.ins.now (length c.args.ins.now) c.loop-layout.layout-index c.layout-item.result refl c.loop-layout-test.true c.layout-item.is)
 
 pub loop-layout-preserved : goal.loop-layout-preserved
 loop-layout-preserved c =
@@ -22,11 +23,13 @@ loop-layout-preserved c =
     record {
       labels = rw c.in_ok-push.ensures.items
           (map_push (λ (w : Vec ℕ Global). w.items) c.loop-layout.labels.items c.in_ok-own.own
-          ∙ numbers-more ls k c.loop-layout.first c.count_words-count.result t _ c.in_ok-own.own.items found c.loop-layout.invariant.labels c.loop-layout.invariant.first c.count_words-count.ensures.words c.in_ok-own.ensures);
+          ∙ numbers-more ls k c.loop-layout.first c.count_words-count.result t _ c.in_ok-own.own.items found c.loop-layout.invariant.labels
+          c.loop-layout.invariant.first c.count_words-count.ensures.words c.in_ok-own.ensures);
       first = omega (arith, more, c.loop-layout.invariant.first, c.count_words-count.ensures.words);
       few = omega (arith, c.loop-layout.invariant.few, c.count_words-count.ensures.few);
     }
 
 pub returns : goal.returns
 returns c =
-    c.loop-layout.invariant.labels ∙ ap (λ ls. layout_numbers 1 (st_trees ls)) (take_all c.loop-layout.layout-index c.args.ins.now (omega (arith, c.loop-layout-test.false)))
+    c.loop-layout.invariant.labels ∙ ap (λ ls. layout_numbers 1 (st_trees ls))
+    (take_all c.loop-layout.layout-index c.args.ins.now (omega (arith, c.loop-layout-test.false)))

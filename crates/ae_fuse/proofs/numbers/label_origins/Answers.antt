@@ -11,7 +11,10 @@ loop-label-preserved c =
     let k = c.loop-label.label-index in
     let ls = c.args.labels.now in
     rw c.in_ok-push.ensures.items
-    (origins-more (st_trees c.args.ins.now) ls k (get_or ls k 0) _ c.origin.result (slice_get-get_or ls k 0 c.loop-label-test.true) c.loop-label.invariant c.origin.ensures)
+    (origins-more (st_trees c.args.ins.now) ls k (get_or ls k 0) _ c.origin.result
+    (slice_get-get_or ls k 0 c.loop-label-test.true) c.loop-label.invariant c.origin.ensures)
 
 pub returns : goal.returns
-returns c = c.loop-label.invariant ∙ ap (map (labelled_origin (st_trees c.args.ins.now))) (take_all c.loop-label.label-index c.args.labels.now (omega (arith, c.loop-label-test.false)))
+returns c =
+    c.loop-label.invariant ∙ ap (map (labelled_origin (st_trees c.args.ins.now)))
+    (take_all c.loop-label.label-index c.args.labels.now (omega (arith, c.loop-label-test.false)))

@@ -17,4 +17,5 @@ returns-then-rest-count c =
     let ls = c.args.ins.now in
     let t = c.index-ins-i.result in
     let found : slice_get ls k ≡ Some t = slice_get_read ls (length ls) k t refl (omega arith) c.index-ins-i.is in
-    number-found ls k c.args.label c.loop-i.rest c.count_words-count.result c.element_words-words.result t found c.count_words-count.ensures.words c.element_words-words.ensures (omega arith) (omega arith) c.loop-i.invariant
+    number-found ls k c.args.label c.loop-i.rest c.count_words-count.result c.element_words-words.result t found c.count_words-count.ensures.words
+    c.element_words-words.ensures (omega arith) (omega arith) c.loop-i.invariant

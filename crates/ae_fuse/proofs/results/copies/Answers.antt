@@ -14,7 +14,8 @@ loop-k-preserved c =
     let found : slice_get ls k ≡ Some t = slice_get_read ls (length ls) k t refl (omega arith) c.index-layouts-k.is in
     record {
       trees = ap st_trees c.in_ok-push.ensures.items ∙ map_push st_tree c.loop-k.copied.items c.in_ok-layout.layout
-          ∙ (λ i. c.loop-k.invariant.trees i ++ c.in_ok-layout.ensures i ∷ []) ∙ sym (map_push st_tree (take k ls) t) ∙ ap st_trees (sym (take_push ls k t found));
+          ∙ (λ i. c.loop-k.invariant.trees i ++ c.in_ok-layout.ensures i ∷ []) ∙ sym (map_push st_tree (take k ls) t) ∙
+          ap st_trees (sym (take_push ls k t found));
       within = omega arith;
     }
 

@@ -9,11 +9,14 @@ lateness-requires-clause-some c = omega (arith, c.element_words.ensures, element
 
 pub lateness-requires-clause-long : goal.lateness-requires-clause-long
 lateness-requires-clause-long c =
-    let long : length c.deref.result.now ≡ st_atoms (st_tree c.args.out.now) = ap length (c.deref.ensures.value ∙ c.in_ok-elements.ensures) ∙ length-element_clocks (st_tree c.args.out.now) in
-    let all : length c.deref.result.now * c.element_words.result ≡ st_atoms (st_tree c.args.out.now) * element_words (st_tree c.args.out.now) = (λ i. long i * c.element_words.ensures i) in
+    let long : length c.deref.result.now ≡ st_atoms (st_tree c.args.out.now) = ap length (c.deref.ensures.value ∙ c.in_ok-elements.ensures) ∙
+    length-element_clocks (st_tree c.args.out.now) in
+    let all : length c.deref.result.now * c.element_words.result ≡ st_atoms (st_tree c.args.out.now) * element_words
+    (st_tree c.args.out.now) = (λ i. long i * c.element_words.ensures i) in
     c.requires.long ∙ sym all
 
 pub returns : goal.returns
 returns c =
     λ ins from. c.lateness.ensures
-    ∙ arrival-is ins (st_tree c.args.out.now) c.args.sources.now c.args.labels.now c.deref.result.now c.element_words.result from (c.deref.ensures.value ∙ c.in_ok-elements.ensures) c.element_words.ensures c.requires.long
+    ∙ arrival-is ins (st_tree c.args.out.now) c.args.sources.now c.args.labels.now c.deref.result.now c.element_words.result from
+    (c.deref.ensures.value ∙ c.in_ok-elements.ensures) c.element_words.ensures c.requires.long

@@ -14,7 +14,11 @@ use Rattle.ae_fuse.proofs.ResultSteps.{a_move, arrivals-next}
 use Rattle.ae_fuse.proofs.results.item_arrivals.Goals as goal
 
 pub label_clocks-requires : goal.label_clocks-requires
-label_clocks-requires c = record { sizes = λ k t found. input-sized c.args.s.now k t c.requires.moves (ap (λ (ts : List StType). slice_get ts k) (sym c.deref.ensures.value) ∙ found) }
+label_clocks-requires c =
+    record {
+      sizes = λ k t found. input-sized c.args.s.now k t c.requires.moves
+          (ap (λ (ts : List StType). slice_get ts k) (sym c.deref.ensures.value) ∙ found);
+    }
 
 pub item_arrival-requires-clause-size : goal.item_arrival-requires-clause-size
 item_arrival-requires-clause-size c = subst IsInSize (sym c.layout.ensures) (c.requires.each c.loop-i.i (omega arith)).out
@@ -32,10 +36,12 @@ loop-i-preserved c =
     let ls : List (List ℕ) = map (λ (w : Vec ℕ Global). w.items) c.args.labels.now in
     let i = c.loop-i.i in
     let own : c.in_ok-arrival.arrival ≡ move_latency (own_move s ls i) =
-    c.in_ok-arrival.ensures s.ins (c.deref-in-loop-i.ensures.value ∙ c.in_ok-sources.ensures ∙ ap (λ (ts : List StType). label_clocks (st_trees ts)) c.deref.ensures.value)
+    c.in_ok-arrival.ensures s.ins (c.deref-in-loop-i.ensures.value ∙ c.in_ok-sources.ensures ∙
+    ap (λ (ts : List StType). label_clocks (st_trees ts)) c.deref.ensures.value)
     ∙ (λ j. move_latency (a_move s.ins (c.layout.ensures j) (map (labelled_origin s.ins) (c.labels_at.ensures j)))) in
     record {
-      arrivals = rw c.in_ok-push.ensures.items (arrivals-next (λ k. move_latency (own_move s ls k)) i c.in_ok-arrival.arrival c.loop-i.arrivals.items c.loop-i.invariant.arrivals own);
+      arrivals = rw c.in_ok-push.ensures.items (arrivals-next
+          (λ k. move_latency (own_move s ls k)) i c.in_ok-arrival.arrival c.loop-i.arrivals.items c.loop-i.invariant.arrivals own);
       within = omega (arith, c.loop-i-test.true);
     }
 

@@ -11,7 +11,13 @@ use Rattle.ae_fuse.proofs.results.together.Goals as goal
 
 pub whole_load-load-requires-clause-few : goal.whole_load-load-requires-clause-few
 whole_load-load-requires-clause-few c =
-    omega (arith, ap length c.deref-2.ensures.value, c.in_ok-costs.ensures.long, length-map c.args.moves.now (result_move (st_trees c.args.ins.now)), c.requires.few_moves)
+    omega (
+      arith,
+      ap length c.deref-2.ensures.value,
+      c.in_ok-costs.ensures.long,
+      length-map c.args.moves.now (result_move (st_trees c.args.ins.now)),
+      c.requires.few_moves,
+    )
 
 pub whole_load-load-requires-clause-whole : goal.whole_load-load-requires-clause-whole
 whole_load-load-requires-clause-whole c =
@@ -25,7 +31,13 @@ whole_load-load-requires-clause-light c = subst AreLight (sym c.deref-2.ensures.
 
 pub whole_mems-mems-requires-clause-few : goal.whole_mems-mems-requires-clause-few
 whole_mems-mems-requires-clause-few c =
-    omega (arith, ap length c.deref-3.ensures.value, c.in_ok-costs.ensures.long, length-map c.args.moves.now (result_move (st_trees c.args.ins.now)), c.requires.few_moves)
+    omega (
+      arith,
+      ap length c.deref-3.ensures.value,
+      c.in_ok-costs.ensures.long,
+      length-map c.args.moves.now (result_move (st_trees c.args.ins.now)),
+      c.requires.few_moves,
+    )
 
 pub whole_mems-mems-requires-clause-whole : goal.whole_mems-mems-requires-clause-whole
 whole_mems-mems-requires-clause-whole c =
@@ -45,7 +57,9 @@ returns c =
     let whole = c.latest_result-latency.result in
     let latency : whole ≡ moves_latency ms = c.latest_result-latency.ensures ∙ ap (greatest own_latency) c.deref.ensures.value ∙ latency-same ms cs own in
     let load : c.whole_load-load.result ≡ sum_by (result_load (moves_latency ms)) ms =
-    c.whole_load-load.ensures ∙ ap (sum_by (own_load whole)) c.deref-2.ensures.value ∙ load-same whole ms cs own ∙ ap (λ n. sum_by (result_load n) ms) latency in
+    c.whole_load-load.ensures ∙ ap (sum_by (own_load whole)) c.deref-2.ensures.value ∙ load-same whole ms cs own ∙
+    ap (λ n. sum_by (result_load n) ms) latency in
     let mems : c.whole_mems-mems.result ≡ sum_by (result_mems (moves_latency ms)) ms =
-    c.whole_mems-mems.ensures ∙ ap (sum_by (own_mems whole)) c.deref-3.ensures.value ∙ mems-same whole ms cs own ∙ ap (λ n. sum_by (result_mems n) ms) latency in
+    c.whole_mems-mems.ensures ∙ ap (sum_by (own_mems whole)) c.deref-3.ensures.value ∙ mems-same whole ms cs own ∙
+    ap (λ n. sum_by (result_mems n) ms) latency in
     own-costs whole c.whole_load-load.result c.whole_mems-mems.result ms latency load mems

@@ -17,30 +17,39 @@ pub node_labels-requires-clause-ready : goal.node_labels-requires-clause-ready
 node_labels-requires-clause-ready c =
     let s = st_func_tree c.args.s.now in
     let n = st_node_tree c.node_at-node.result.now in
-    let found : slice_get s.nodes c.args.j ≡ Some n = get_mapped st_node_tree c.args.s.now.nodes.items c.args.j c.node_at-node.result.now c.node_at-node.ensures in
+    let found : slice_get s.nodes c.args.j ≡ Some n = get_mapped st_node_tree c.args.s.now.nodes.items c.args.j c.node_at-node.result.now
+    c.node_at-node.ensures in
     let ls : List (List ℕ) = map (λ (w : Vec ℕ Global). w.items) c.args.labels.now in
-    let many : length ls ≡ length s.ins + c.args.j = omega (arith, length-map c.args.labels.now (λ (w : Vec ℕ Global). w.items), c.requires.many, length-map c.args.s.now.ins.items st_tree) in
+    let many : length ls ≡ length s.ins + c.args.j = omega (
+      arith,
+      length-map c.args.labels.now (λ (w : Vec ℕ Global). w.items),
+      c.requires.many,
+      length-map c.args.s.now.ins.items st_tree,
+    ) in
     ready-here s c.requires.movable c.args.j n found ls many (λ i a at. c.requires.labels n i a found at)
 
 pub node_labels-requires-clause-moves : goal.node_labels-requires-clause-moves
 node_labels-requires-clause-moves c =
     let s = st_func_tree c.args.s.now in
     let n = st_node_tree c.node_at-node.result.now in
-    let found : slice_get s.nodes c.args.j ≡ Some n = get_mapped st_node_tree c.args.s.now.nodes.items c.args.j c.node_at-node.result.now c.node_at-node.ensures in
+    let found : slice_get s.nodes c.args.j ≡ Some n = get_mapped st_node_tree c.args.s.now.nodes.items c.args.j c.node_at-node.result.now
+    c.node_at-node.ensures in
     node-moving s.nodes c.args.j n c.requires.movable.words.moving found
 
 pub item_arrival-requires-clause-size : goal.item_arrival-requires-clause-size
 item_arrival-requires-clause-size c =
     let s = st_func_tree c.args.s.now in
     let n = st_node_tree c.node_at-node.result.now in
-    let found : slice_get s.nodes c.args.j ≡ Some n = get_mapped st_node_tree c.args.s.now.nodes.items c.args.j c.node_at-node.result.now c.node_at-node.ensures in
+    let found : slice_get s.nodes c.args.j ≡ Some n = get_mapped st_node_tree c.args.s.now.nodes.items c.args.j c.node_at-node.result.now
+    c.node_at-node.ensures in
     size-here s c.requires.movable c.args.j n found
 
 pub item_arrival-requires-clause-long : goal.item_arrival-requires-clause-long
 item_arrival-requires-clause-long c =
     let s = st_func_tree c.args.s.now in
     let n = st_node_tree c.node_at-node.result.now in
-    let found : slice_get s.nodes c.args.j ≡ Some n = get_mapped st_node_tree c.args.s.now.nodes.items c.args.j c.node_at-node.result.now c.node_at-node.ensures in
+    let found : slice_get s.nodes c.args.j ≡ Some n = get_mapped st_node_tree c.args.s.now.nodes.items c.args.j c.node_at-node.result.now
+    c.node_at-node.ensures in
     let ls : List (List ℕ) = map (λ (w : Vec ℕ Global). w.items) c.args.labels.now in
     let own = own-here s c.requires.movable c.args.j n found ls (λ i a at. c.requires.labels n i a found at) in
     ap length (c.deref.ensures.value ∙ c.in_ok-own.ensures ∙ own) ∙ long-here s c.requires.movable c.args.j n found
@@ -49,7 +58,8 @@ pub returns-clause-labels : goal.returns-clause-labels
 returns-clause-labels c =
     let s = st_func_tree c.args.s.now in
     let n = st_node_tree c.node_at-node.result.now in
-    let found : slice_get s.nodes c.args.j ≡ Some n = get_mapped st_node_tree c.args.s.now.nodes.items c.args.j c.node_at-node.result.now c.node_at-node.ensures in
+    let found : slice_get s.nodes c.args.j ≡ Some n = get_mapped st_node_tree c.args.s.now.nodes.items c.args.j c.node_at-node.result.now
+    c.node_at-node.ensures in
     let ls : List (List ℕ) = map (λ (w : Vec ℕ Global). w.items) c.args.labels.now in
     let own = own-here s c.requires.movable c.args.j n found ls (λ i a at. c.requires.labels n i a found at) in
     c.in_ok-own.ensures ∙ own ∙ ap (λ k. words_at (own_labels s) (k + c.args.j)) (length-map c.args.s.now.ins.items st_tree)
@@ -58,10 +68,13 @@ pub returns-clause-arrival : goal.returns-clause-arrival
 returns-clause-arrival c =
     let s = st_func_tree c.args.s.now in
     let n = st_node_tree c.node_at-node.result.now in
-    let found : slice_get s.nodes c.args.j ≡ Some n = get_mapped st_node_tree c.args.s.now.nodes.items c.args.j c.node_at-node.result.now c.node_at-node.ensures in
+    let found : slice_get s.nodes c.args.j ≡ Some n = get_mapped st_node_tree c.args.s.now.nodes.items c.args.j c.node_at-node.result.now
+    c.node_at-node.ensures in
     let ls : List (List ℕ) = map (λ (w : Vec ℕ Global). w.items) c.args.labels.now in
     let place : length s.ins ≡ length c.args.s.now.ins.items = length-map c.args.s.now.ins.items st_tree in
     let own = own-here s c.requires.movable c.args.j n found ls (λ i a at. c.requires.labels n i a found at) in
-    let words : c.deref.result.now ≡ words_at (own_labels s) (length c.args.s.now.ins.items + c.args.j) = c.deref.ensures.value ∙ c.in_ok-own.ensures ∙ own ∙ ap (λ k. words_at (own_labels s) (k + c.args.j)) place in
-    let layout : n.type ≡ item_layout (item_layouts s) (length c.args.s.now.ins.items + c.args.j) = sym (layout-of-node s c.args.j n found) ∙ ap (λ k. item_layout (item_layouts s) (k + c.args.j)) place in
+    let words : c.deref.result.now ≡ words_at (own_labels s) (length c.args.s.now.ins.items + c.args.j) = c.deref.ensures.value ∙ c.in_ok-own.ensures ∙ own ∙
+    ap (λ k. words_at (own_labels s) (k + c.args.j)) place in
+    let layout : n.type ≡ item_layout (item_layouts s) (length c.args.s.now.ins.items + c.args.j) = sym (layout-of-node s c.args.j n found) ∙
+    ap (λ k. item_layout (item_layouts s) (k + c.args.j)) place in
     c.in_ok-arrival.ensures s.ins c.requires.sources ∙ (λ i. move_latency (a_move s.ins (layout i) (map (labelled_origin s.ins) (words i))))

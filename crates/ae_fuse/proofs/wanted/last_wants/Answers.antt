@@ -13,7 +13,8 @@ pub raise-requires : goal.raise-requires
 raise-requires c i a at =
     let s = c.args.s.now in
     let j = c.loop-j.j in
-    let found : slice_get (st_func_tree s).nodes j ≡ Some (st_node_tree c.node_at.result.now) = get_mapped st_node_tree s.nodes.items j c.node_at.result.now c.node_at.ensures in
+    let found : slice_get (st_func_tree s).nodes j ≡ Some
+    (st_node_tree c.node_at.result.now) = get_mapped st_node_tree s.nodes.items j c.node_at.result.now c.node_at.ensures in
     let here : slice_get c.node_at.result.now.args.items i ≡ Some a = ap (λ (xs : List ℕ). slice_get xs i) (sym c.as_slice.ensures.value) ∙ at in
     let low = c.requires.moves.args j i a (st_node_tree c.node_at.result.now) found here in
     omega (arith, low, length-map s.ins.items st_tree, c.loop-j-test.true, c.loop-j.invariant.long)
@@ -31,7 +32,8 @@ loop-j-preserved c =
         | inr ge ↦
             let e : k ≡ j = omega (arith, ge, below) in
             let same : own ≡ n = same_Some own n (sym here ∙ ap (slice_get (st_func_tree s).nodes) (sym e) ∙ found) in
-            let arg : slice_get c.as_slice.result.now i ≡ Some a = ap (λ (xs : List ℕ). slice_get xs i) c.as_slice.ensures.value ∙ ap (λ (m : StNodeTree). slice_get m.args i) same ∙ at in
+            let arg : slice_get c.as_slice.result.now i ≡ Some a = ap (λ (xs : List ℕ). slice_get xs i) c.as_slice.ensures.value ∙
+            ap (λ (m : StNodeTree). slice_get m.args i) same ∙ at in
             omega (arith, c.raise.ensures.raised i a arg, e)
       ];
       within = omega (arith, c.loop-j-test.true);

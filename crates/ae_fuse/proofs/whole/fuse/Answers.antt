@@ -10,4 +10,5 @@ pub returns-in_ok-fused-in-Some-clause-is : goal.returns-in_ok-fused-in-Some-cla
 returns-in_ok-fused-in-Some-clause-is c =
     let h = c.requires.schedule in
     let m = c.in-Some.ensures.instance in
-    fused-of (program_tree c.args.p.now) h.0 (st_func_trees c.args.s.now) m.func (st_func_tree c.in-Some.instance.now) m.movement m.typed h.3 m.there m.last h.1 h.2 c.in_ok-fused-in-Some.fused c.in_ok-fused-in-Some.ensures
+    fused-of (program_tree c.args.p.now) h.0 (st_func_trees c.args.s.now) m.func
+    (st_func_tree c.in-Some.instance.now) m.movement m.typed h.3 m.there m.last h.1 h.2 c.in_ok-fused-in-Some.fused c.in_ok-fused-in-Some.ensures

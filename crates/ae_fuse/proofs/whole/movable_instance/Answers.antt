@@ -19,6 +19,7 @@ returns-then-moves-clause-instance c =
       func = f;
       there = c.main_func-func.ensures.there;
       last = c.main_instance.ensures.last;
-      movable = movable p h.0 (st_func_trees c.args.s.now) f s moves c.main_func-func.ensures.typed h.3 c.main_func-func.ensures.there c.main_instance.ensures.last h.1 h.2 c.main_instance.ensures.sound
+      movable = movable p h.0 (st_func_trees c.args.s.now) f s moves c.main_func-func.ensures.typed h.3 c.main_func-func.ensures.there
+          c.main_instance.ensures.last h.1 h.2 c.main_instance.ensures.sound
           (c.schedules_fit.ensures p h.0 (st_func_trees c.args.s.now) c.main_func-func.ensures.typed h.1 h.3);
     }

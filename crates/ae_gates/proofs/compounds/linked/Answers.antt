@@ -26,7 +26,16 @@ gate-requires-2-clause-left c = net_grows c.in_ok-low.ensures.grows c.in_ok-up.e
 
 pub gate-requires-2-clause-room : goal.gate-requires-2-clause-room
 gate-requires-2-clause-room c =
-    omega (arith, c.requires.room, c.in_ok-wide.ensures.few, c.in_ok-up.ensures.few, c.in_ok-low.ensures.few, c.in_ok-wide.ensures.grows.limit, c.in_ok-up.ensures.grows.limit, c.in_ok-low.ensures.grows.limit)
+    omega (
+      arith,
+      c.requires.room,
+      c.in_ok-wide.ensures.few,
+      c.in_ok-up.ensures.few,
+      c.in_ok-low.ensures.few,
+      c.in_ok-wide.ensures.grows.limit,
+      c.in_ok-up.ensures.grows.limit,
+      c.in_ok-low.ensures.grows.limit,
+    )
 
 pub returns-clause-grows : goal.returns-clause-grows
 returns-clause-grows c =

@@ -4,7 +4,8 @@ use Rattle.ae_gates.proofs.Words.{grows_push, longer, pushed_net, two_operation,
 use Rattle.ae_gates.proofs.gates.gate.Goals as goal
 
 pub push-requires-clause-allowed : goal.push-requires-clause-allowed
-push-requires-clause-allowed c = two_operation _ _ _ _ c.args.width _ c.requires.unsigned c.requires.plain c.requires.range c.requires.left c.requires.right c.requires.result
+push-requires-clause-allowed c =
+    two_operation _ _ _ _ c.args.width _ c.requires.unsigned c.requires.plain c.requires.range c.requires.left c.requires.right c.requires.result
 
 pub returns-clause-grows : goal.returns-clause-grows
 returns-clause-grows c = grows_push _ _ _ refl refl c.in_ok-y.ensures.added

@@ -30,5 +30,6 @@ less-requires-clause-left c = net_later c.in_ok-bound.ensures.adds.grows.extends
 pub returns-clause-marks : goal.returns-clause-marks
 returns-clause-marks c =
     compared_marks _ c.args.clocks.now.rst c.width_at-width.result c.args.phase.limit _ _ _ c.args.phase.net c.in_ok-bound.bound _
-    (rw c.from.ensures at (from_grows _ (λ run. IsConstant run c.in_ok-bound.bound.0 c.from.result) c.less.ensures.adds.grows.extends c.in_ok-bound.ensures.words))
+    (rw c.from.ensures at (from_grows _ (λ run. IsConstant run c.in_ok-bound.bound.0 c.from.result) c.less.ensures.adds.grows.extends
+    c.in_ok-bound.ensures.words))
     c.less.ensures.words

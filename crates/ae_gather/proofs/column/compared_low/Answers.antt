@@ -36,7 +36,9 @@ less-requires-clause-left c = net_later c.in_ok-bound.ensures.adds.grows.extends
 pub returns-clause-marks : goal.returns-clause-marks
 returns-clause-marks c =
     let g2 = grows_trans c.in_ok-bound.ensures.adds.grows c.less.ensures.adds.grows in
-    low_marks _ c.args.clocks.now.rst c.args.bits c.width_at-width.result c.args.phase.limit _ _ _ _ c.args.phase.net c.in_ok-shown.shown c.in_ok-bound.bound _ c.requires.enough
-    (rw c.from.ensures at (from_grows _ (λ run. IsConstant run c.in_ok-bound.bound.0 c.from.result) c.less.ensures.adds.grows.extends c.in_ok-bound.ensures.words))
+    low_marks _ c.args.clocks.now.rst c.args.bits c.width_at-width.result c.args.phase.limit _ _ _ _ c.args.phase.net c.in_ok-shown.shown c.in_ok-bound.bound _
+    c.requires.enough
+    (rw c.from.ensures at (from_grows _ (λ run. IsConstant run c.in_ok-bound.bound.0 c.from.result) c.less.ensures.adds.grows.extends
+    c.in_ok-bound.ensures.words))
     (from_grows _ _ g2.extends c.in_ok-shown.ensures.words)
     c.less.ensures.words

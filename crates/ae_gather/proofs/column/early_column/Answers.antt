@@ -14,7 +14,8 @@ no_step = record { from = 0; take = Delayed 0 0; tap = 0 }
 pub returns-clause-column : goal.returns-clause-column
 returns-clause-column c =
     let there = slice_get-get_or c.args.steps.now c.step_in-first.result no_step c.step_in-first.ensures.within in
-    early_of _ _ _ _ c.args.phase.net.0 c.args.phase.limit (first_phase c.args.phase) c.args.ins.now (λ p. choice_in p c.args.steps.now) _ _ (get_or c.args.steps.now c.step_in-first.result no_step).take
+    early_of _ _ _ _ c.args.phase.net.0 c.args.phase.limit (first_phase c.args.phase) c.args.ins.now (λ p. choice_in p c.args.steps.now) _ _
+    (get_or c.args.steps.now c.step_in-first.result no_step).take
     (c.step_in-first.ensures.is _ there) c.in_ok-chosen.ensures.column c.registered.ensures.column
 
 register_room : (n : ℕ) → n ≤ n + 3

@@ -11,7 +11,9 @@ operate-requires-clause-operands c =
     record { unsigned = refl; range = (c.requires.low, c.requires.high); operands = (own, own, own); result = refl }
 
 pub returns-clause-words : goal.returns-clause-words
-returns-clause-words c = result_at c.operate.new.nl.cells c.operate.result c.args.nl.now.cells (Cast c.args.bits) (c.args.x ∷ c.args.x ∷ c.args.x ∷ []) c.args.width c.requires.net c.operate.ensures.words
+returns-clause-words c =
+    result_at c.operate.new.nl.cells c.operate.result c.args.nl.now.cells (Cast c.args.bits)
+    (c.args.x ∷ c.args.x ∷ c.args.x ∷ []) c.args.width c.requires.net c.operate.ensures.words
 
 pub returns-clause-adds : goal.returns-clause-adds
 returns-clause-adds c = always c.args.nl.now c.operate.new.nl c.operate.result c.operate.ensures.adds c.operate.ensures.err

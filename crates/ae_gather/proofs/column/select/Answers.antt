@@ -15,7 +15,8 @@ loop-k-init c =
     record {
       adds = c.in_ok-net.ensures.adds;
       within = c.requires.begun;
-      column = first_column _ _ _ _ _ _ c.args.steps.now (get_or c.args.steps.now 0 no_step) _ (slice_get-get_or c.args.steps.now 0 no_step c.requires.begun) c.in_ok-net.ensures.source;
+      column = first_column _ _ _ _ _ _ c.args.steps.now (get_or c.args.steps.now 0 no_step) _
+          (slice_get-get_or c.args.steps.now 0 no_step c.requires.begun) c.in_ok-net.ensures.source;
     }
 
 pub choose_from-requires-clause-phase : goal.choose_from-requires-clause-phase
@@ -27,7 +28,9 @@ choose_from-requires-clause-within c = c.requires.ready.within c.loop-k.k _ (sli
 
 pub choose_from-requires-clause-ready : goal.choose_from-requires-clause-ready
 unfolding no_step
-choose_from-requires-clause-ready c = ready_grows _ _ _ _ _ _ _ _ c.loop-k.invariant.adds.grows.extends (c.requires.ready.ready c.loop-k.k _ (slice_get-get_or c.args.steps.now c.loop-k.k no_step c.loop-k-test.true))
+choose_from-requires-clause-ready c =
+    ready_grows _ _ _ _ _ _ _ _ c.loop-k.invariant.adds.grows.extends
+    (c.requires.ready.ready c.loop-k.k _ (slice_get-get_or c.args.steps.now c.loop-k.k no_step c.loop-k-test.true))
 
 pub loop-k-preserved : goal.loop-k-preserved
 unfolding no_step
@@ -40,7 +43,8 @@ loop-k-preserved c =
     }
 
 pub returns-in_err-net-2-clause-adds : goal.returns-in_err-net-2-clause-adds
-returns-in_err-net-2-clause-adds c = adds_most _ (omega (arith, c.loop-k.auto.k, c.loop-k-test.true)) (adds_trans c.loop-k.invariant.adds c.in_err-net-2.ensures.adds)
+returns-in_err-net-2-clause-adds c =
+    adds_most _ (omega (arith, c.loop-k.auto.k, c.loop-k-test.true)) (adds_trans c.loop-k.invariant.adds c.in_err-net-2.ensures.adds)
 
 pub returns-clause-adds : goal.returns-clause-adds
 returns-clause-adds c = adds_most _ (omega (arith, c.loop-k-test.false, c.loop-k.invariant.within)) c.loop-k.invariant.adds

@@ -26,7 +26,8 @@ loop-place-preserved c = elim c.if-steps-place.branch [
     is = λ step f.
         let there : slice_get c.args.steps.now c.loop-place.place ≡ Some step = rw w.at-is at f in
         let same = ap (λ (s : Step). s.from) (get_or_from_slice_get c.args.steps.now c.loop-place.place step no_step there) in
-        choice_more c.args.phase c.args.steps.now c.loop-place.place step c.loop-place.auto.place c.loop-place-test.true there ∙ later_after c.args.phase _ step (omega (arith, same, w.if-steps-place.true));
+        choice_more c.args.phase c.args.steps.now c.loop-place.place step c.loop-place.auto.place c.loop-place-test.true there ∙
+        later_after c.args.phase _ step (omega (arith, same, w.if-steps-place.true));
   }
   | else-steps-place w ↦ record {
     before = omega (arith, w.at-is, c.loop-place.invariant.before);
@@ -34,7 +35,8 @@ loop-place-preserved c = elim c.if-steps-place.branch [
     is = λ step f.
         let there = slice_get-get_or c.args.steps.now c.loop-place.place no_step c.loop-place-test.true in
         let before : slice_get c.args.steps.now c.loop-place.at ≡ Some step = rw w.at-is at f in
-        choice_more c.args.phase c.args.steps.now c.loop-place.place (get_or c.args.steps.now c.loop-place.place no_step) c.loop-place.auto.place c.loop-place-test.true there
+        choice_more c.args.phase c.args.steps.now c.loop-place.place
+        (get_or c.args.steps.now c.loop-place.place no_step) c.loop-place.auto.place c.loop-place-test.true there
         ∙ later_before c.args.phase _ (get_or c.args.steps.now c.loop-place.place no_step) w.if-steps-place.false
         ∙ c.loop-place.invariant.is step before;
   }

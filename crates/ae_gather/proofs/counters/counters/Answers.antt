@@ -48,12 +48,14 @@ returns-clause-belongs c = c.in_ok-sooner.ensures.belongs
 pub returns-then-not-has-clause-counters : goal.returns-then-not-has-clause-counters
 returns-then-not-has-clause-counters c = λ q l.
     let off : c.has.result ≡ false = search rules in
-    has_later _ _ _ _ _ _ (is_early c.args.early.now q) (all_false c.args.early.now (c.has.ensures.none off) q l) c.in_ok-only.ensures.counts c.in_ok-only.ensures.periodic c.in_ok-only.ensures.limits (c.in_ok-only.ensures.offsets ∙ c.offset-begin.ensures)
+    has_later _ _ _ _ _ _ (is_early c.args.early.now q) (all_false c.args.early.now (c.has.ensures.none off) q l) c.in_ok-only.ensures.counts
+    c.in_ok-only.ensures.periodic c.in_ok-only.ensures.limits (c.in_ok-only.ensures.offsets ∙ c.offset-begin.ensures)
 
 pub returns-then-not-has-2-clause-counters : goal.returns-then-not-has-2-clause-counters
 returns-then-not-has-2-clause-counters c = λ q l.
     let off : c.has-2.result ≡ false = search rules in
-    has_sooner _ _ _ _ _ _ (is_early c.args.early.now q) (all_true c.args.early.now (c.has-2.ensures.none off) q l) c.in_ok-only-2.ensures.counts c.in_ok-only-2.ensures.periodic c.in_ok-only-2.ensures.limits
+    has_sooner _ _ _ _ _ _ (is_early c.args.early.now q) (all_true c.args.early.now (c.has-2.ensures.none off) q l) c.in_ok-only-2.ensures.counts
+    c.in_ok-only-2.ensures.periodic c.in_ok-only-2.ensures.limits
     (c.in_ok-only-2.ensures.offsets ∙ c.offset-ahead.ensures ∙ ap (λ n. (n + (c.args.period - 1)) % c.args.period) c.offset-begin.ensures)
 
 pub returns-in_err-sooner-clause-keeps : goal.returns-in_err-sooner-clause-keeps
@@ -79,9 +81,12 @@ returns-clause-adds c =
 pub returns-clause-counters : goal.returns-clause-counters
 returns-clause-counters c = λ q l.
     let later = phase_grows c.in_ok-sooner.ensures.adds.grows.extends c.in_ok-later.ensures.counts in
-    let sooner : IsPhaseNet c.counting-3.new.nl.cells c.args.clocks.now.rst c.in_ok-sooner.sooner = rw c.in_ok-later.ensures.keeps.rst at c.in_ok-sooner.ensures.counts in
-    has_either _ _ _ _ _ _ (is_early c.args.early.now q) later c.in_ok-later.ensures.periodic c.in_ok-later.ensures.limits (c.in_ok-later.ensures.offsets ∙ c.offset-begin.ensures)
-    sooner c.in_ok-sooner.ensures.periodic c.in_ok-sooner.ensures.limits (c.in_ok-sooner.ensures.offsets ∙ c.offset-ahead.ensures ∙ ap (λ n. (n + (c.args.period - 1)) % c.args.period) c.offset-begin.ensures)
+    let sooner : IsPhaseNet c.counting-3.new.nl.cells c.args.clocks.now.rst c.in_ok-sooner.sooner = rw c.in_ok-later.ensures.keeps.rst at
+    c.in_ok-sooner.ensures.counts in
+    has_either _ _ _ _ _ _ (is_early c.args.early.now q) later c.in_ok-later.ensures.periodic c.in_ok-later.ensures.limits
+    (c.in_ok-later.ensures.offsets ∙ c.offset-begin.ensures)
+    sooner c.in_ok-sooner.ensures.periodic c.in_ok-sooner.ensures.limits
+    (c.in_ok-sooner.ensures.offsets ∙ c.offset-ahead.ensures ∙ ap (λ n. (n + (c.args.period - 1)) % c.args.period) c.offset-begin.ensures)
 
 -- one counter takes no more than there is room for
 one_room : (n : ℕ) → 1 ≤ n → 12 ≤ 12 * min 2 n

@@ -28,10 +28,17 @@ pub returns-clause-keeps : goal.returns-clause-keeps
 returns-clause-keeps c = c.loop-q.invariant.keeps
 
 pub loop-q-init : goal.loop-q-init
-loop-q-init c = record { belongs = c.requires.belongs; keeps = keeps_same _; adds = adds_none _; kept = kept_begin _ _ _ _ _ _ _ _ (c.in_ok-add_all.ensures.ok ∙ ap (λ (xs : List NetId). xs ++ c.args.ins.now) c.new-all.ensures.items) }
+loop-q-init c =
+    record {
+      belongs = c.requires.belongs;
+      keeps = keeps_same _;
+      adds = adds_none _;
+      kept = kept_begin _ _ _ _ _ _ _ _ (c.in_ok-add_all.ensures.ok ∙ ap (λ (xs : List NetId). xs ++ c.args.ins.now) c.new-all.ensures.items);
+    }
 
 pub kept_net-requires-clause-net : goal.kept_net-requires-clause-net
-kept_net-requires-clause-net c = own_net (net_later c.loop-q.invariant.adds.grows.extends (c.requires.nets c.loop-q.q (omega (arith, c.loop-q-test.true, c.requires.long))).1)
+kept_net-requires-clause-net c =
+    own_net (net_later c.loop-q.invariant.adds.grows.extends (c.requires.nets c.loop-q.q (omega (arith, c.loop-q-test.true, c.requires.long))).1)
 
 pub returns-in_err-net-clause-keeps : goal.returns-in_err-net-clause-keeps
 returns-in_err-net-clause-keeps c = keeps_trans c.loop-q.invariant.keeps c.in_err-net.ensures.keeps
@@ -60,7 +67,8 @@ loop-q-preserved c =
     record {
       belongs = more.belongs;
       keeps = keeps_trans was.keeps more.keeps;
-      adds = (let one = sum_more (λ (q : ℕ). cond (is_kept c.args.held.now q) 1 0) c.loop-q.q in adds_most _ (omega (arith, one)) (adds_trans was.adds more.adds));
+      adds = (let one = sum_more (λ (q : ℕ). cond (is_kept c.args.held.now q) 1 0) c.loop-q.q in
+          adds_most _ (omega (arith, one)) (adds_trans was.adds more.adds));
       kept = rw c.in_ok-keep_net.ensures.ok (kept_more c.loop-q.q _ _ _ _ _ _ _ _ _ _ more.adds.grows.extends was.kept (rw was.keeps.rst at more.keeps_word));
     }
 

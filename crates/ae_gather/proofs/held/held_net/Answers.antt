@@ -29,21 +29,25 @@ pub returns-in_err-y-clause-belongs : goal.returns-in_err-y-clause-belongs
 returns-in_err-y-clause-belongs c = belongs_grows _ _ _ c.in_err-y.ensures.adds.grows c.in_ok-counter.ensures.belongs
 
 pub returns-in_err-y-clause-keeps : goal.returns-in_err-y-clause-keeps
-returns-in_err-y-clause-keeps c = phase_keeps _ _ _ c.in_ok-counter.counter c.in_ok-counter.ensures.rst c.in_ok-counter.ensures.keeps (λ n found. (c.in_ok-counter.ensures.again n found).2)
+returns-in_err-y-clause-keeps c =
+    phase_keeps _ _ _ c.in_ok-counter.counter c.in_ok-counter.ensures.rst c.in_ok-counter.ensures.keeps (λ n found. (c.in_ok-counter.ensures.again n found).2)
 
 pub returns-clause-belongs : goal.returns-clause-belongs
 returns-clause-belongs c = belongs_grows _ _ _ c.in_ok-y.ensures.adds.grows c.in_ok-counter.ensures.belongs
 
 pub returns-clause-keeps : goal.returns-clause-keeps
-returns-clause-keeps c = phase_keeps _ _ _ c.in_ok-counter.counter c.in_ok-counter.ensures.rst c.in_ok-counter.ensures.keeps (λ n found. (c.in_ok-counter.ensures.again n found).2)
+returns-clause-keeps c =
+    phase_keeps _ _ _ c.in_ok-counter.counter c.in_ok-counter.ensures.rst c.in_ok-counter.ensures.keeps (λ n found. (c.in_ok-counter.ensures.again n found).2)
 
 pub returns-clause-held : goal.returns-clause-held
 returns-clause-held c =
     let t : ℕ = c.args.period in
-    let wide : c.width_at-width.result ≡ width_of c.args.nl.now.cells c.args.x.0 = c.width_at-width.ensures.width ∙ net_width (net_later c.in_ok-counter.ensures.adds.grows.extends c.requires.net) in
+    let wide : c.width_at-width.result ≡ width_of c.args.nl.now.cells c.args.x.0 = c.width_at-width.ensures.width ∙
+    net_width (net_later c.in_ok-counter.ensures.adds.grows.extends c.requires.net) in
     let low : c.args.d % t < t = mod_below c.args.d t (omega arith) in
     let sum : c.args.clock + (t - c.args.d % t) ≡ c.args.clock + t - c.args.d % t = omega arith in
-    let phase : (c.args.clock % t + (t - c.args.d % t)) % t ≡ held_phase t c.args.d c.args.clock = mod-add-mod c.args.clock t (t - c.args.d % t) ∙ ap (λ n. n % t) sum in
+    let phase : (c.args.clock % t + (t - c.args.d % t)) % t ≡ held_phase t c.args.d c.args.clock = mod-add-mod c.args.clock t (t - c.args.d % t) ∙
+    ap (λ n. n % t) sum in
     rw (← wide, ← phase, ← c.offset-begin.ensures) (c.in_ok-y.ensures.held c.args.clocks.now.rst c.in_ok-counter.ensures.counts)
 
 counter_room : 12 ≤ 16

@@ -16,4 +16,6 @@ kept-requires-clause-fits c =
     rw wide (omega (arith, room))
 
 pub returns-clause-held : goal.returns-clause-held
-returns-clause-held c = held_made _ _ c.kept.result c.args.x c.args.counter c.args.width c.args.period c.args.offset c.args.q c.requires.begins c.kept.ensures.adds.grows c.kept.ensures.net c.kept.ensures.words
+returns-clause-held c =
+    held_made _ _ c.kept.result c.args.x c.args.counter c.args.width c.args.period c.args.offset c.args.q c.requires.begins c.kept.ensures.adds.grows
+    c.kept.ensures.net c.kept.ensures.words

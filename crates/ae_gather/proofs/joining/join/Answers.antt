@@ -24,4 +24,6 @@ loop-k-preserved c =
     }
 
 pub returns-clause-joined : goal.returns-clause-joined
-returns-clause-joined c = joined_all c.loop-k.k c.args.ins.now c.loop-k.nets.items c.loop-k.firsts.items (omega (arith, c.loop-k-test.false, c.loop-k.invariant.within)) c.loop-k.invariant.joined
+returns-clause-joined c =
+    joined_all c.loop-k.k c.args.ins.now c.loop-k.nets.items c.loop-k.firsts.items
+    (omega (arith, c.loop-k-test.false, c.loop-k.invariant.within)) c.loop-k.invariant.joined

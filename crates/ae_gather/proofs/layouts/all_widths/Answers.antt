@@ -17,7 +17,8 @@ loop-q-preserved c =
     let wide = rw c.element_words-words.ensures at c.word_width.ensures in
     record {
       long = rw kept (length_push c.loop-q.widths.items c.word_width.result ∙ ap (λ n. n + 1) c.loop-q.invariant.long);
-      widths = rw kept (widths_more (st_tree c.args.s.now) c.loop-q.widths.items c.loop-q.q c.word_width.result c.loop-q.invariant.long c.loop-q.invariant.widths wide);
+      widths = rw kept (widths_more (st_tree c.args.s.now) c.loop-q.widths.items c.loop-q.q c.word_width.result c.loop-q.invariant.long
+          c.loop-q.invariant.widths wide);
     }
 
 pub returns-clause-long : goal.returns-clause-long

@@ -18,27 +18,33 @@ column-requires-clause-phase c = rw c.counter_for.ensures (phase_grows c.loop-q.
 
 pub column-requires-clause-begun : goal.column-requires-clause-begun
 column-requires-clause-begun c =
-    let there : slice_get c.args.columns.now c.loop-q.q ≡ Some c.index-columns-q.result = slice_get_read c.args.columns.now (length c.args.columns.now) c.loop-q.q c.index-columns-q.result refl c.loop-q-test.true c.index-columns-q.is in
+    let there : slice_get c.args.columns.now c.loop-q.q ≡ Some c.index-columns-q.result = slice_get_read c.args.columns.now
+    (length c.args.columns.now) c.loop-q.q c.index-columns-q.result refl c.loop-q-test.true c.index-columns-q.is in
     rw c.all.ensures (c.requires.begun c.loop-q.q _ there)
 
 pub column-requires-clause-ready : goal.column-requires-clause-ready
 column-requires-clause-ready c =
-    let there : slice_get c.args.columns.now c.loop-q.q ≡ Some c.index-columns-q.result = slice_get_read c.args.columns.now (length c.args.columns.now) c.loop-q.q c.index-columns-q.result refl c.loop-q-test.true c.index-columns-q.is in
+    let there : slice_get c.args.columns.now c.loop-q.q ≡ Some c.index-columns-q.result = slice_get_read c.args.columns.now
+    (length c.args.columns.now) c.loop-q.q c.index-columns-q.result refl c.loop-q-test.true c.index-columns-q.is in
     let wide = slice_get-get_or c.args.widths.now c.loop-q.q 0 (omega (arith, c.loop-q-test.true, c.requires.long)) in
-    rw (c.all.ensures, c.counter_for.ensures) (all_ready_grows _ _ _ _ _ _ _ _ c.loop-q.invariant.adds.grows.extends (c.requires.ready c.loop-q.q _ _ there wide))
+    rw (c.all.ensures, c.counter_for.ensures) (all_ready_grows _ _ _ _ _ _ _ _ c.loop-q.invariant.adds.grows.extends
+    (c.requires.ready c.loop-q.q _ _ there wide))
 
 pub loop-q-preserved : goal.loop-q-preserved
 loop-q-preserved c =
-    let there : slice_get c.args.columns.now c.loop-q.q ≡ Some c.index-columns-q.result = slice_get_read c.args.columns.now (length c.args.columns.now) c.loop-q.q c.index-columns-q.result refl c.loop-q-test.true c.index-columns-q.is in
+    let there : slice_get c.args.columns.now c.loop-q.q ≡ Some c.index-columns-q.result = slice_get_read c.args.columns.now
+    (length c.args.columns.now) c.loop-q.q c.index-columns-q.result refl c.loop-q-test.true c.index-columns-q.is in
     let wide = slice_get-get_or c.args.widths.now c.loop-q.q 0 (omega (arith, c.loop-q-test.true, c.requires.long)) in
-    let new : IsMade (is_early c.args.early.now c.loop-q.q) c.column.new.nl.cells c.args.clocks.now.rst (get_or c.args.widths.now c.loop-q.q 0) (counter_for (is_early c.args.early.now c.loop-q.q) c.args.counters) c.args.ins.now (λ p. choice_in p c.index-columns-q.result) c.in_ok-net.net.0 =
+    let new : IsMade (is_early c.args.early.now c.loop-q.q) c.column.new.nl.cells c.args.clocks.now.rst (get_or c.args.widths.now c.loop-q.q 0)
+    (counter_for (is_early c.args.early.now c.loop-q.q) c.args.counters) c.args.ins.now (λ p. choice_in p c.index-columns-q.result) c.in_ok-net.net.0 =
     rw (c.all.ensures, c.counter_for.ensures) at c.in_ok-net.ensures.column in
     let cost : Adds c.loop-q.nl c.column.new.nl (steps_cells c.index-columns-q.result + 3) 0 = rw c.all.ensures at c.in_ok-net.ensures.adds in
     record {
       adds = adds_most _ (omega (arith, sum_next steps_cells c.args.columns.now c.loop-q.q _ there)) (adds_trans c.loop-q.invariant.adds cost);
       within = omega (arith, c.loop-q-test.true);
       columns = rw c.in_ok-keep_net.ensures.ok
-          (columns_more _ _ _ c.loop-q.q _ c.args.counters c.args.ins.now c.args.widths.now c.args.early.now c.args.columns.now _ _ _ c.in_ok-net.ensures.adds.grows.extends c.loop-q.invariant.columns there wide new);
+          (columns_more _ _ _ c.loop-q.q _ c.args.counters c.args.ins.now c.args.widths.now c.args.early.now c.args.columns.now _ _ _
+          c.in_ok-net.ensures.adds.grows.extends c.loop-q.invariant.columns there wide new);
     }
 
 pub returns-clause-adds : goal.returns-clause-adds
@@ -49,12 +55,24 @@ returns-clause-columns c = columns_whole _ _ c.loop-q.q _ _ _ _ c.args.columns.n
 
 pub returns-in_err-net-clause-adds : goal.returns-in_err-net-clause-adds
 returns-in_err-net-clause-adds c =
-    let there : slice_get c.args.columns.now c.loop-q.q ≡ Some c.index-columns-q.result = slice_get_read c.args.columns.now (length c.args.columns.now) c.loop-q.q c.index-columns-q.result refl c.loop-q-test.true c.index-columns-q.is in
+    let there : slice_get c.args.columns.now c.loop-q.q ≡ Some c.index-columns-q.result = slice_get_read c.args.columns.now
+    (length c.args.columns.now) c.loop-q.q c.index-columns-q.result refl c.loop-q-test.true c.index-columns-q.is in
     let cost : Adds c.loop-q.nl c.column.new.nl (steps_cells c.index-columns-q.result + 3) 0 = rw c.all.ensures at c.in_err-net.ensures.adds in
-    adds_most _ (omega (arith, sum_next steps_cells c.args.columns.now c.loop-q.q _ there, sum_part steps_cells c.args.columns.now (c.loop-q.q + 1), c.loop-q-test.true)) (adds_trans c.loop-q.invariant.adds cost)
+    adds_most _ (omega (
+      arith,
+      sum_next steps_cells c.args.columns.now c.loop-q.q _ there,
+      sum_part steps_cells c.args.columns.now (c.loop-q.q + 1),
+      c.loop-q-test.true,
+    )) (adds_trans c.loop-q.invariant.adds cost)
 
 pub returns-in_err-keep_net-clause-adds : goal.returns-in_err-keep_net-clause-adds
 returns-in_err-keep_net-clause-adds c =
-    let there : slice_get c.args.columns.now c.loop-q.q ≡ Some c.index-columns-q.result = slice_get_read c.args.columns.now (length c.args.columns.now) c.loop-q.q c.index-columns-q.result refl c.loop-q-test.true c.index-columns-q.is in
+    let there : slice_get c.args.columns.now c.loop-q.q ≡ Some c.index-columns-q.result = slice_get_read c.args.columns.now
+    (length c.args.columns.now) c.loop-q.q c.index-columns-q.result refl c.loop-q-test.true c.index-columns-q.is in
     let cost : Adds c.loop-q.nl c.column.new.nl (steps_cells c.index-columns-q.result + 3) 0 = rw c.all.ensures at c.in_ok-net.ensures.adds in
-    adds_most _ (omega (arith, sum_next steps_cells c.args.columns.now c.loop-q.q _ there, sum_part steps_cells c.args.columns.now (c.loop-q.q + 1), c.loop-q-test.true)) (adds_trans c.loop-q.invariant.adds cost)
+    adds_most _ (omega (
+      arith,
+      sum_next steps_cells c.args.columns.now c.loop-q.q _ there,
+      sum_part steps_cells c.args.columns.now (c.loop-q.q + 1),
+      c.loop-q-test.true,
+    )) (adds_trans c.loop-q.invariant.adds cost)

@@ -58,11 +58,13 @@ loop-q-init c =
     }
 
 pub ring_line-requires-clause-net : goal.ring_line-requires-clause-net
-ring_line-requires-clause-net c = own_net (net_later c.loop-q.invariant.grows.extends (c.requires.nets c.loop-q.q (omega (arith, c.loop-q-test.true, c.requires.long))).1)
+ring_line-requires-clause-net c =
+    own_net (net_later c.loop-q.invariant.grows.extends (c.requires.nets c.loop-q.q (omega (arith, c.loop-q-test.true, c.requires.long))).1)
 
 pub ring_line-requires-clause-few : goal.ring_line-requires-clause-few
 ring_line-requires-clause-few c =
-    let there : slice_get c.args.ages.now c.loop-q.q ≡ Some c.index-ages-q.result = slice_get_read c.args.ages.now (length c.args.ages.now) c.loop-q.q c.index-ages-q.result refl c.loop-q-test.true c.index-ages-q.is in
+    let there : slice_get c.args.ages.now c.loop-q.q ≡ Some c.index-ages-q.result = slice_get_read c.args.ages.now
+    (length c.args.ages.now) c.loop-q.q c.index-ages-q.result refl c.loop-q-test.true c.index-ages-q.is in
     rw c.all.ensures (c.requires.few c.loop-q.q _ there)
 
 pub returns-in_err-tapped-clause-keeps : goal.returns-in_err-tapped-clause-keeps
@@ -79,25 +81,31 @@ returns-in_err-keep_line-clause-grows c = grows_trans c.loop-q.invariant.grows c
 
 pub returns-in_err-tapped-clause-cells : goal.returns-in_err-tapped-clause-cells
 returns-in_err-tapped-clause-cells c =
-    let there : slice_get c.args.ages.now c.loop-q.q ≡ Some c.index-ages-q.result = slice_get_read c.args.ages.now (length c.args.ages.now) c.loop-q.q c.index-ages-q.result refl c.loop-q-test.true c.index-ages-q.is in
-    let cost : length c.ring_line.new.nl.cells ≤ length c.loop-q.nl.cells + line_cells c.index-ages-q.result = rw c.all.ensures at c.in_err-tapped.ensures.cells in
+    let there : slice_get c.args.ages.now c.loop-q.q ≡ Some c.index-ages-q.result = slice_get_read c.args.ages.now
+    (length c.args.ages.now) c.loop-q.q c.index-ages-q.result refl c.loop-q-test.true c.index-ages-q.is in
+    let cost : length c.ring_line.new.nl.cells ≤ length c.loop-q.nl.cells + line_cells c.index-ages-q.result = rw c.all.ensures at
+    c.in_err-tapped.ensures.cells in
     omega (arith, c.loop-q.invariant.cells, cost, sum_next line_cells c.args.ages.now c.loop-q.q _ there, sum_part line_cells c.args.ages.now (c.loop-q.q + 1))
 
 pub returns-in_err-keep_line-clause-cells : goal.returns-in_err-keep_line-clause-cells
 returns-in_err-keep_line-clause-cells c =
-    let there : slice_get c.args.ages.now c.loop-q.q ≡ Some c.index-ages-q.result = slice_get_read c.args.ages.now (length c.args.ages.now) c.loop-q.q c.index-ages-q.result refl c.loop-q-test.true c.index-ages-q.is in
-    let cost : length c.ring_line.new.nl.cells ≤ length c.loop-q.nl.cells + line_cells c.index-ages-q.result = rw c.all.ensures at c.in_ok-tapped.ensures.cells in
+    let there : slice_get c.args.ages.now c.loop-q.q ≡ Some c.index-ages-q.result = slice_get_read c.args.ages.now
+    (length c.args.ages.now) c.loop-q.q c.index-ages-q.result refl c.loop-q-test.true c.index-ages-q.is in
+    let cost : length c.ring_line.new.nl.cells ≤ length c.loop-q.nl.cells + line_cells c.index-ages-q.result = rw c.all.ensures at
+    c.in_ok-tapped.ensures.cells in
     omega (arith, c.loop-q.invariant.cells, cost, sum_next line_cells c.args.ages.now c.loop-q.q _ there, sum_part line_cells c.args.ages.now (c.loop-q.q + 1))
 
 pub returns-in_err-tapped-clause-memories : goal.returns-in_err-tapped-clause-memories
 returns-in_err-tapped-clause-memories c =
-    let there : slice_get c.args.ages.now c.loop-q.q ≡ Some c.index-ages-q.result = slice_get_read c.args.ages.now (length c.args.ages.now) c.loop-q.q c.index-ages-q.result refl c.loop-q-test.true c.index-ages-q.is in
+    let there : slice_get c.args.ages.now c.loop-q.q ≡ Some c.index-ages-q.result = slice_get_read c.args.ages.now
+    (length c.args.ages.now) c.loop-q.q c.index-ages-q.result refl c.loop-q-test.true c.index-ages-q.is in
     let mems = rw c.all.ensures at c.in_err-tapped.ensures.memories in
     omega (arith, c.loop-q.invariant.memories, mems, sum_next line_mems c.args.ages.now c.loop-q.q _ there, sum_part line_mems c.args.ages.now (c.loop-q.q + 1))
 
 pub returns-in_err-keep_line-clause-memories : goal.returns-in_err-keep_line-clause-memories
 returns-in_err-keep_line-clause-memories c =
-    let there : slice_get c.args.ages.now c.loop-q.q ≡ Some c.index-ages-q.result = slice_get_read c.args.ages.now (length c.args.ages.now) c.loop-q.q c.index-ages-q.result refl c.loop-q-test.true c.index-ages-q.is in
+    let there : slice_get c.args.ages.now c.loop-q.q ≡ Some c.index-ages-q.result = slice_get_read c.args.ages.now
+    (length c.args.ages.now) c.loop-q.q c.index-ages-q.result refl c.loop-q-test.true c.index-ages-q.is in
     let mems = rw c.all.ensures at c.in_ok-tapped.ensures.memories in
     omega (arith, c.loop-q.invariant.memories, mems, sum_next line_mems c.args.ages.now c.loop-q.q _ there, sum_part line_mems c.args.ages.now (c.loop-q.q + 1))
 
@@ -105,9 +113,11 @@ pub loop-q-preserved : goal.loop-q-preserved
 loop-q-preserved c =
     let was = c.loop-q.invariant in
     let more = c.in_ok-tapped.ensures in
-    let there : slice_get c.args.ages.now c.loop-q.q ≡ Some c.index-ages-q.result = slice_get_read c.args.ages.now (length c.args.ages.now) c.loop-q.q c.index-ages-q.result refl c.loop-q-test.true c.index-ages-q.is in
+    let there : slice_get c.args.ages.now c.loop-q.q ≡ Some c.index-ages-q.result = slice_get_read c.args.ages.now
+    (length c.args.ages.now) c.loop-q.q c.index-ages-q.result refl c.loop-q-test.true c.index-ages-q.is in
     let x : ℕ = net_of c.args.ins.now c.loop-q.q in
-    let taps : AreTaps c.ring_line.new.nl.cells c.args.clocks.now.rst (width_of c.loop-q.nl.cells x) x c.index-ages-q.result c.in_ok-tapped.tapped = rw (was.keeps.rst, c.all.ensures) at more.taps in
+    let taps : AreTaps c.ring_line.new.nl.cells c.args.clocks.now.rst
+    (width_of c.loop-q.nl.cells x) x c.index-ages-q.result c.in_ok-tapped.tapped = rw (was.keeps.rst, c.all.ensures) at more.taps in
     let cost : length c.ring_line.new.nl.cells ≤ length c.loop-q.nl.cells + line_cells c.index-ages-q.result = rw c.all.ensures at more.cells in
     let mems = rw c.all.ensures at more.memories in
     record {

@@ -19,7 +19,14 @@ below_limit : (a b n : ℕ) → a < b → b ≤ n → a < n
 below_limit a b n h l = omega arith
 
 pub held_columns-requires-clause-within : goal.held_columns-requires-clause-within
-held_columns-requires-clause-within c = trees_within c.args.d _ (length c.args.widths.now) c.args.trips.now c.requires.few_outs (record { clock = λ n t f. below_limit _ _ _ (c.requires.within.clock n t f) c.requires.limit; column = c.requires.within.column; reached = c.requires.within.reached; source = c.requires.within.source })
+held_columns-requires-clause-within c =
+    trees_within c.args.d _ (length c.args.widths.now) c.args.trips.now c.requires.few_outs
+    (record {
+      clock = λ n t f. below_limit _ _ _ (c.requires.within.clock n t f) c.requires.limit;
+      column = c.requires.within.column;
+      reached = c.requires.within.reached;
+      source = c.requires.within.source;
+    })
 
 pub all_nets-requires-clause-long : goal.all_nets-requires-clause-long
 all_nets-requires-clause-long c = rw c.deref.ensures.value c.in-Ok.ensures.long
@@ -34,60 +41,85 @@ pub scheduled-requires-clause-within : goal.scheduled-requires-clause-within
 scheduled-requires-clause-within c =
     let long : length c.in-Ok.held.items ≡ length c.args.ins.now = c.in-Ok.ensures.long in
     let within : AreWithin c.args.period c.args.d (length c.in-Ok.held.items) (length c.args.widths.now) c.args.trips.now = rw long c.requires.within in
-    let moves : c.in-Ok-all_settled.settled.items ≡ map (settled c.args.d c.in-Ok.held.items) c.args.trips.now = rw c.deref-2.ensures.value at c.in-Ok-all_settled.ensures in
-    let low : AreWithin 4096 c.args.d (length c.in-Ok.held.items) (length c.args.widths.now) c.args.trips.now = record { clock = λ n t f. below_limit _ _ _ (within.clock n t f) c.requires.limit; column = within.column; reached = within.reached; source = within.source } in
-    rw c.deref-3.ensures.value (rw long at (within_settled 4096 c.args.d (length c.args.widths.now) c.in-Ok.held.items c.args.trips.now c.in-Ok-all_settled.settled.items moves low))
+    let moves : c.in-Ok-all_settled.settled.items ≡ map (settled c.args.d c.in-Ok.held.items) c.args.trips.now = rw c.deref-2.ensures.value at
+    c.in-Ok-all_settled.ensures in
+    let low : AreWithin 4096 c.args.d (length c.in-Ok.held.items)
+    (length c.args.widths.now) c.args.trips.now = record {
+      clock = λ n t f. below_limit _ _ _ (within.clock n t f) c.requires.limit;
+      column = within.column;
+      reached = within.reached;
+      source = within.source;
+    } in
+    rw c.deref-3.ensures.value (rw long at (within_settled 4096 c.args.d
+    (length c.args.widths.now) c.in-Ok.held.items c.args.trips.now c.in-Ok-all_settled.settled.items moves low))
 
 pub scheduled-requires-clause-order : goal.scheduled-requires-clause-order
 scheduled-requires-clause-order c =
-    let moves : c.in-Ok-all_settled.settled.items ≡ map (settled c.args.d c.in-Ok.held.items) c.args.trips.now = rw c.deref-2.ensures.value at c.in-Ok-all_settled.ensures in
+    let moves : c.in-Ok-all_settled.settled.items ≡ map (settled c.args.d c.in-Ok.held.items) c.args.trips.now = rw c.deref-2.ensures.value at
+    c.in-Ok-all_settled.ensures in
     rw c.deref-3.ensures.value (order_settled c.args.d c.in-Ok.held.items c.args.trips.now c.in-Ok-all_settled.settled.items moves c.requires.order)
 
 pub scheduled-requires-clause-few : goal.scheduled-requires-clause-few
 scheduled-requires-clause-few c =
-    let moves : c.in-Ok-all_settled.settled.items ≡ map (settled c.args.d c.in-Ok.held.items) c.args.trips.now = rw c.deref-2.ensures.value at c.in-Ok-all_settled.ensures in
-    let count : length c.in-Ok-all_settled.settled.items ≡ length c.args.trips.now = ap length moves ∙ length-map c.args.trips.now (settled c.args.d c.in-Ok.held.items) in
+    let moves : c.in-Ok-all_settled.settled.items ≡ map (settled c.args.d c.in-Ok.held.items) c.args.trips.now = rw c.deref-2.ensures.value at
+    c.in-Ok-all_settled.ensures in
+    let count : length c.in-Ok-all_settled.settled.items ≡ length c.args.trips.now = ap length moves ∙
+    length-map c.args.trips.now (settled c.args.d c.in-Ok.held.items) in
     rw c.deref-3.ensures.value (omega (arith, count, c.requires.few))
 
 pub build_best-requires-clause-few : goal.build_best-requires-clause-few
 build_best-requires-clause-few c =
-    let moves : c.in-Ok-all_settled.settled.items ≡ map (settled c.args.d c.in-Ok.held.items) c.args.trips.now = rw c.deref-2.ensures.value at c.in-Ok-all_settled.ensures in
-    let count : length c.in-Ok-all_settled.settled.items ≡ length c.args.trips.now = ap length moves ∙ length-map c.args.trips.now (settled c.args.d c.in-Ok.held.items) in
+    let moves : c.in-Ok-all_settled.settled.items ≡ map (settled c.args.d c.in-Ok.held.items) c.args.trips.now = rw c.deref-2.ensures.value at
+    c.in-Ok-all_settled.ensures in
+    let count : length c.in-Ok-all_settled.settled.items ≡ length c.args.trips.now = ap length moves ∙
+    length-map c.args.trips.now (settled c.args.d c.in-Ok.held.items) in
     rw c.deref-5.ensures.value (omega (arith, count, c.requires.few))
 
 pub build_best-requires-clause-order : goal.build_best-requires-clause-order
 build_best-requires-clause-order c =
-    let moves : c.in-Ok-all_settled.settled.items ≡ map (settled c.args.d c.in-Ok.held.items) c.args.trips.now = rw c.deref-2.ensures.value at c.in-Ok-all_settled.ensures in
+    let moves : c.in-Ok-all_settled.settled.items ≡ map (settled c.args.d c.in-Ok.held.items) c.args.trips.now = rw c.deref-2.ensures.value at
+    c.in-Ok-all_settled.ensures in
     rw c.deref-5.ensures.value (order_settled c.args.d c.in-Ok.held.items c.args.trips.now c.in-Ok-all_settled.settled.items moves c.requires.order)
 
 pub build_best-requires-clause-nets : goal.build_best-requires-clause-nets
 build_best-requires-clause-nets c =
     let long : length c.in-Ok.held.items ≡ length c.args.ins.now = c.in-Ok.ensures.long in
-    let kept : AreKept c.all_nets.new.nl.cells c.args.clocks.now.rst c.args.period c.args.d c.args.arrival c.args.ins.now c.in-Ok.held.items c.in_ok-all.all.items = rw c.deref.ensures.value at c.in_ok-all.ensures.kept in
+    let kept : AreKept c.all_nets.new.nl.cells c.args.clocks.now.rst c.args.period c.args.d c.args.arrival c.args.ins.now c.in-Ok.held.items
+    c.in_ok-all.all.items = rw c.deref.ensures.value at c.in_ok-all.ensures.kept in
     rw c.deref-4.ensures.value (kept_nets _ _ c.args.period c.args.d c.args.arrival c.args.ins.now c.in-Ok.held.items c.in_ok-all.all.items long kept)
 
 pub build_best-requires-clause-within : goal.build_best-requires-clause-within
 build_best-requires-clause-within c =
     let long : length c.in-Ok.held.items ≡ length c.args.ins.now = c.in-Ok.ensures.long in
     let within : AreWithin c.args.period c.args.d (length c.in-Ok.held.items) (length c.args.widths.now) c.args.trips.now = rw long c.requires.within in
-    let moves : c.in-Ok-all_settled.settled.items ≡ map (settled c.args.d c.in-Ok.held.items) c.args.trips.now = rw c.deref-2.ensures.value at c.in-Ok-all_settled.ensures in
-    let kept : AreKept c.all_nets.new.nl.cells c.args.clocks.now.rst c.args.period c.args.d c.args.arrival c.args.ins.now c.in-Ok.held.items c.in_ok-all.all.items = rw c.deref.ensures.value at c.in_ok-all.ensures.kept in
+    let moves : c.in-Ok-all_settled.settled.items ≡ map (settled c.args.d c.in-Ok.held.items) c.args.trips.now = rw c.deref-2.ensures.value at
+    c.in-Ok-all_settled.ensures in
+    let kept : AreKept c.all_nets.new.nl.cells c.args.clocks.now.rst c.args.period c.args.d c.args.arrival c.args.ins.now c.in-Ok.held.items
+    c.in_ok-all.all.items = rw c.deref.ensures.value at c.in_ok-all.ensures.kept in
     let count : length c.in_ok-all.all.items ≡ length c.in-Ok.held.items + length c.in-Ok.held.items = omega (arith, kept.long, long) in
-    rw (c.deref-4.ensures.value, c.deref-5.ensures.value, count) (within_settled c.args.period c.args.d (length c.args.widths.now) c.in-Ok.held.items c.args.trips.now c.in-Ok-all_settled.settled.items moves within)
+    rw (c.deref-4.ensures.value, c.deref-5.ensures.value, count)
+    (within_settled c.args.period c.args.d (length c.args.widths.now) c.in-Ok.held.items c.args.trips.now c.in-Ok-all_settled.settled.items moves within)
 
 pub build_best-requires-clause-used : goal.build_best-requires-clause-used
 build_best-requires-clause-used c =
-    let moves : c.in-Ok-all_settled.settled.items ≡ map (settled c.args.d c.in-Ok.held.items) c.args.trips.now = rw c.deref-2.ensures.value at c.in-Ok-all_settled.ensures in
-    rw c.deref-5.ensures.value (used_settled c.args.d (length c.args.widths.now) c.in-Ok.held.items c.args.trips.now c.in-Ok-all_settled.settled.items moves c.requires.used)
+    let moves : c.in-Ok-all_settled.settled.items ≡ map (settled c.args.d c.in-Ok.held.items) c.args.trips.now = rw c.deref-2.ensures.value at
+    c.in-Ok-all_settled.ensures in
+    rw c.deref-5.ensures.value (used_settled c.args.d (length c.args.widths.now) c.in-Ok.held.items c.args.trips.now c.in-Ok-all_settled.settled.items moves
+    c.requires.used)
 
 pub build_best-requires-clause-fitting : goal.build_best-requires-clause-fitting
 build_best-requires-clause-fitting c =
     let long : length c.in-Ok.held.items ≡ length c.args.ins.now = c.in-Ok.ensures.long in
     let within : AreWithin c.args.period c.args.d (length c.in-Ok.held.items) (length c.args.widths.now) c.args.trips.now = rw long c.requires.within in
-    let moves : c.in-Ok-all_settled.settled.items ≡ map (settled c.args.d c.in-Ok.held.items) c.args.trips.now = rw c.deref-2.ensures.value at c.in-Ok-all_settled.ensures in
-    let kept : AreKept c.all_nets.new.nl.cells c.args.clocks.now.rst c.args.period c.args.d c.args.arrival c.args.ins.now c.in-Ok.held.items c.in_ok-all.all.items = rw c.deref.ensures.value at c.in_ok-all.ensures.kept in
+    let moves : c.in-Ok-all_settled.settled.items ≡ map (settled c.args.d c.in-Ok.held.items) c.args.trips.now = rw c.deref-2.ensures.value at
+    c.in-Ok-all_settled.ensures in
+    let kept : AreKept c.all_nets.new.nl.cells c.args.clocks.now.rst c.args.period c.args.d c.args.arrival c.args.ins.now c.in-Ok.held.items
+    c.in_ok-all.all.items = rw c.deref.ensures.value at c.in_ok-all.ensures.kept in
     let grown = fitting_grows _ _ c.args.ins.now c.args.widths.now c.args.trips.now c.in_ok-all.ensures.adds.grows.extends c.requires.fitting in
-    rw (c.deref-4.ensures.value, c.deref-5.ensures.value) (fitting_settled _ _ c.args.period c.args.d c.args.arrival (length c.args.widths.now) c.args.ins.now c.in_ok-all.all.items c.args.widths.now c.in-Ok.held.items c.args.trips.now c.in-Ok-all_settled.settled.items moves long kept within grown)
+    rw (c.deref-4.ensures.value, c.deref-5.ensures.value)
+    (fitting_settled _ _ c.args.period c.args.d c.args.arrival
+    (length c.args.widths.now) c.args.ins.now c.in_ok-all.all.items c.args.widths.now c.in-Ok.held.items c.args.trips.now c.in-Ok-all_settled.settled.items
+    moves long kept within grown)
 
 pub build_best-requires-clause-time : goal.build_best-requires-clause-time
 build_best-requires-clause-time c = rw (c.deref-5.ensures.value, ← c.deref-3.ensures.value) c.in-Ok-scheduled.ensures.time
@@ -98,7 +130,8 @@ build_best-requires-clause-moved c = rw (c.deref-5.ensures.value, ← c.deref-3.
 pub build_best-requires-clause-lines : goal.build_best-requires-clause-lines
 build_best-requires-clause-lines c =
     let long : length c.in-Ok.held.items ≡ length c.args.ins.now = c.in-Ok.ensures.long in
-    let kept : AreKept c.all_nets.new.nl.cells c.args.clocks.now.rst c.args.period c.args.d c.args.arrival c.args.ins.now c.in-Ok.held.items c.in_ok-all.all.items = rw c.deref.ensures.value at c.in_ok-all.ensures.kept in
+    let kept : AreKept c.all_nets.new.nl.cells c.args.clocks.now.rst c.args.period c.args.d c.args.arrival c.args.ins.now c.in-Ok.held.items
+    c.in_ok-all.all.items = rw c.deref.ensures.value at c.in_ok-all.ensures.kept in
     rw c.deref-4.ensures.value (omega (arith, kept.long, long, c.in-Ok-scheduled.ensures.lines))
 
 pub build_best-requires-clause-taps : goal.build_best-requires-clause-taps
@@ -127,7 +160,8 @@ returns-in_err-all-clause-cells c =
     let long : length c.in-Ok.held.items ≡ length c.args.ins.now = c.in-Ok.ensures.long in
     let held : AreHeld c.args.period c.args.d (length c.in-Ok.held.items) (map trip_tree c.args.trips.now) c.in-Ok.held.items = rw long c.in-Ok.ensures in
     let within : AreWithin c.args.period c.args.d (length c.in-Ok.held.items) (length c.args.widths.now) c.args.trips.now = rw long c.requires.within in
-    let adds : Adds c.args.nl.now c.all_nets.new.nl (16 * kept_count c.in-Ok.held.items (length c.in-Ok.held.items)) 0 = rw c.deref.ensures.value at c.in_err-all.ensures.adds in
+    let adds : Adds c.args.nl.now c.all_nets.new.nl (16 * kept_count c.in-Ok.held.items (length c.in-Ok.held.items)) 0 = rw c.deref.ensures.value at
+    c.in_err-all.ensures.adds in
     kept_room _ _ _ _ _ _ adds.cells (kept_few c.args.period c.args.d (length c.args.ins.now) c.in-Ok.held.items c.args.trips.now long within.source held)
 
 pub returns-in-Err-all_settled-clause-cells : goal.returns-in-Err-all_settled-clause-cells
@@ -135,7 +169,8 @@ returns-in-Err-all_settled-clause-cells c =
     let long : length c.in-Ok.held.items ≡ length c.args.ins.now = c.in-Ok.ensures.long in
     let held : AreHeld c.args.period c.args.d (length c.in-Ok.held.items) (map trip_tree c.args.trips.now) c.in-Ok.held.items = rw long c.in-Ok.ensures in
     let within : AreWithin c.args.period c.args.d (length c.in-Ok.held.items) (length c.args.widths.now) c.args.trips.now = rw long c.requires.within in
-    let adds : Adds c.args.nl.now c.all_nets.new.nl (16 * kept_count c.in-Ok.held.items (length c.in-Ok.held.items)) 0 = rw c.deref.ensures.value at c.in_ok-all.ensures.adds in
+    let adds : Adds c.args.nl.now c.all_nets.new.nl (16 * kept_count c.in-Ok.held.items (length c.in-Ok.held.items)) 0 = rw c.deref.ensures.value at
+    c.in_ok-all.ensures.adds in
     kept_room _ _ _ _ _ _ adds.cells (kept_few c.args.period c.args.d (length c.args.ins.now) c.in-Ok.held.items c.args.trips.now long within.source held)
 
 pub returns-in-Err-scheduled-clause-cells : goal.returns-in-Err-scheduled-clause-cells
@@ -143,7 +178,8 @@ returns-in-Err-scheduled-clause-cells c =
     let long : length c.in-Ok.held.items ≡ length c.args.ins.now = c.in-Ok.ensures.long in
     let held : AreHeld c.args.period c.args.d (length c.in-Ok.held.items) (map trip_tree c.args.trips.now) c.in-Ok.held.items = rw long c.in-Ok.ensures in
     let within : AreWithin c.args.period c.args.d (length c.in-Ok.held.items) (length c.args.widths.now) c.args.trips.now = rw long c.requires.within in
-    let adds : Adds c.args.nl.now c.all_nets.new.nl (16 * kept_count c.in-Ok.held.items (length c.in-Ok.held.items)) 0 = rw c.deref.ensures.value at c.in_ok-all.ensures.adds in
+    let adds : Adds c.args.nl.now c.all_nets.new.nl (16 * kept_count c.in-Ok.held.items (length c.in-Ok.held.items)) 0 = rw c.deref.ensures.value at
+    c.in_ok-all.ensures.adds in
     kept_room _ _ _ _ _ _ adds.cells (kept_few c.args.period c.args.d (length c.args.ins.now) c.in-Ok.held.items c.args.trips.now long within.source held)
 
 pub returns-in_err-out-clause-cells : goal.returns-in_err-out-clause-cells
@@ -151,8 +187,10 @@ returns-in_err-out-clause-cells c =
     let long : length c.in-Ok.held.items ≡ length c.args.ins.now = c.in-Ok.ensures.long in
     let held : AreHeld c.args.period c.args.d (length c.in-Ok.held.items) (map trip_tree c.args.trips.now) c.in-Ok.held.items = rw long c.in-Ok.ensures in
     let within : AreWithin c.args.period c.args.d (length c.in-Ok.held.items) (length c.args.widths.now) c.args.trips.now = rw long c.requires.within in
-    let moves : c.in-Ok-all_settled.settled.items ≡ map (settled c.args.d c.in-Ok.held.items) c.args.trips.now = rw c.deref-2.ensures.value at c.in-Ok-all_settled.ensures in
-    let adds : Adds c.args.nl.now c.all_nets.new.nl (16 * kept_count c.in-Ok.held.items (length c.in-Ok.held.items)) 0 = rw c.deref.ensures.value at c.in_ok-all.ensures.adds in
+    let moves : c.in-Ok-all_settled.settled.items ≡ map (settled c.args.d c.in-Ok.held.items) c.args.trips.now = rw c.deref-2.ensures.value at
+    c.in-Ok-all_settled.ensures in
+    let adds : Adds c.args.nl.now c.all_nets.new.nl (16 * kept_count c.in-Ok.held.items (length c.in-Ok.held.items)) 0 = rw c.deref.ensures.value at
+    c.in_ok-all.ensures.adds in
     let p = c.in-Ok-scheduled.ensures in
     let used = used_settled c.args.d (length c.args.widths.now) c.in-Ok.held.items c.args.trips.now c.in-Ok-all_settled.settled.items moves c.requires.used in
     let delay = rw c.deref-3.ensures.value at p.delay in
@@ -160,8 +198,10 @@ returns-in_err-out-clause-cells c =
     let moved = rw c.deref-3.ensures.value at p.moved in
     let begun = begun_of _ _ _ _ _ p.plan (used_hastened _ _ _ _ moved used) p.columns in
     plan_room _ _ _ _ _ _ _ _ _ _ _ _ _ _ (ap (λ n. 12 * min 2 n) p.columns) adds.cells c.in_err-out.ensures.cells
-    (gather_cells c.args.d _ _ c.in-Ok-scheduled.schedule.plan.lines.items c.in-Ok-scheduled.schedule.plan.columns.items delay p.taps runs (rw p.columns c.requires.some) begun)
-    (delay_all c.args.period c.args.d (length c.args.ins.now) c.in-Ok.held.items c.args.trips.now c.in-Ok-all_settled.settled.items moves long within.source held)
+    (gather_cells c.args.d _ _ c.in-Ok-scheduled.schedule.plan.lines.items c.in-Ok-scheduled.schedule.plan.columns.items delay p.taps runs
+    (rw p.columns c.requires.some) begun)
+    (delay_all c.args.period c.args.d (length c.args.ins.now) c.in-Ok.held.items c.args.trips.now c.in-Ok-all_settled.settled.items moves long within.source
+    held)
     (runs_settled c.args.d (length c.args.widths.now) c.in-Ok.held.items c.args.trips.now c.in-Ok-all_settled.settled.items moves)
 
 pub returns-clause-cells : goal.returns-clause-cells
@@ -169,8 +209,10 @@ returns-clause-cells c =
     let long : length c.in-Ok.held.items ≡ length c.args.ins.now = c.in-Ok.ensures.long in
     let held : AreHeld c.args.period c.args.d (length c.in-Ok.held.items) (map trip_tree c.args.trips.now) c.in-Ok.held.items = rw long c.in-Ok.ensures in
     let within : AreWithin c.args.period c.args.d (length c.in-Ok.held.items) (length c.args.widths.now) c.args.trips.now = rw long c.requires.within in
-    let moves : c.in-Ok-all_settled.settled.items ≡ map (settled c.args.d c.in-Ok.held.items) c.args.trips.now = rw c.deref-2.ensures.value at c.in-Ok-all_settled.ensures in
-    let adds : Adds c.args.nl.now c.all_nets.new.nl (16 * kept_count c.in-Ok.held.items (length c.in-Ok.held.items)) 0 = rw c.deref.ensures.value at c.in_ok-all.ensures.adds in
+    let moves : c.in-Ok-all_settled.settled.items ≡ map (settled c.args.d c.in-Ok.held.items) c.args.trips.now = rw c.deref-2.ensures.value at
+    c.in-Ok-all_settled.ensures in
+    let adds : Adds c.args.nl.now c.all_nets.new.nl (16 * kept_count c.in-Ok.held.items (length c.in-Ok.held.items)) 0 = rw c.deref.ensures.value at
+    c.in_ok-all.ensures.adds in
     let p = c.in-Ok-scheduled.ensures in
     let used = used_settled c.args.d (length c.args.widths.now) c.in-Ok.held.items c.args.trips.now c.in-Ok-all_settled.settled.items moves c.requires.used in
     let delay = rw c.deref-3.ensures.value at p.delay in
@@ -178,8 +220,10 @@ returns-clause-cells c =
     let moved = rw c.deref-3.ensures.value at p.moved in
     let begun = begun_of _ _ _ _ _ p.plan (used_hastened _ _ _ _ moved used) p.columns in
     plan_room _ _ _ _ _ _ _ _ _ _ _ _ _ _ (ap (λ n. 12 * min 2 n) p.columns) adds.cells c.in_ok-out.ensures.cells
-    (gather_cells c.args.d _ _ c.in-Ok-scheduled.schedule.plan.lines.items c.in-Ok-scheduled.schedule.plan.columns.items delay p.taps runs (rw p.columns c.requires.some) begun)
-    (delay_all c.args.period c.args.d (length c.args.ins.now) c.in-Ok.held.items c.args.trips.now c.in-Ok-all_settled.settled.items moves long within.source held)
+    (gather_cells c.args.d _ _ c.in-Ok-scheduled.schedule.plan.lines.items c.in-Ok-scheduled.schedule.plan.columns.items delay p.taps runs
+    (rw p.columns c.requires.some) begun)
+    (delay_all c.args.period c.args.d (length c.args.ins.now) c.in-Ok.held.items c.args.trips.now c.in-Ok-all_settled.settled.items moves long within.source
+    held)
     (runs_settled c.args.d (length c.args.widths.now) c.in-Ok.held.items c.args.trips.now c.in-Ok-all_settled.settled.items moves)
 
 pub returns-in_err-out-clause-memories : goal.returns-in_err-out-clause-memories
@@ -187,22 +231,26 @@ returns-in_err-out-clause-memories c =
     let long : length c.in-Ok.held.items ≡ length c.args.ins.now = c.in-Ok.ensures.long in
     let held : AreHeld c.args.period c.args.d (length c.in-Ok.held.items) (map trip_tree c.args.trips.now) c.in-Ok.held.items = rw long c.in-Ok.ensures in
     let within : AreWithin c.args.period c.args.d (length c.in-Ok.held.items) (length c.args.widths.now) c.args.trips.now = rw long c.requires.within in
-    let moves : c.in-Ok-all_settled.settled.items ≡ map (settled c.args.d c.in-Ok.held.items) c.args.trips.now = rw c.deref-2.ensures.value at c.in-Ok-all_settled.ensures in
+    let moves : c.in-Ok-all_settled.settled.items ≡ map (settled c.args.d c.in-Ok.held.items) c.args.trips.now = rw c.deref-2.ensures.value at
+    c.in-Ok-all_settled.ensures in
     let p = c.in-Ok-scheduled.ensures in
     let ages = rw c.deref-3.ensures.value at p.ages in
     plan_memories _ _ _ _ _ c.in_ok-all.ensures.adds.memories c.in_err-out.ensures.memories
-    (mems_all c.args.period c.args.d (length c.args.ins.now) c.in-Ok.held.items c.args.trips.now c.in-Ok-all_settled.settled.items c.in-Ok-scheduled.schedule.plan.lines.items moves long within.source held p.lines ages)
+    (mems_all c.args.period c.args.d (length c.args.ins.now) c.in-Ok.held.items c.args.trips.now c.in-Ok-all_settled.settled.items
+    c.in-Ok-scheduled.schedule.plan.lines.items moves long within.source held p.lines ages)
 
 pub returns-clause-memories : goal.returns-clause-memories
 returns-clause-memories c =
     let long : length c.in-Ok.held.items ≡ length c.args.ins.now = c.in-Ok.ensures.long in
     let held : AreHeld c.args.period c.args.d (length c.in-Ok.held.items) (map trip_tree c.args.trips.now) c.in-Ok.held.items = rw long c.in-Ok.ensures in
     let within : AreWithin c.args.period c.args.d (length c.in-Ok.held.items) (length c.args.widths.now) c.args.trips.now = rw long c.requires.within in
-    let moves : c.in-Ok-all_settled.settled.items ≡ map (settled c.args.d c.in-Ok.held.items) c.args.trips.now = rw c.deref-2.ensures.value at c.in-Ok-all_settled.ensures in
+    let moves : c.in-Ok-all_settled.settled.items ≡ map (settled c.args.d c.in-Ok.held.items) c.args.trips.now = rw c.deref-2.ensures.value at
+    c.in-Ok-all_settled.ensures in
     let p = c.in-Ok-scheduled.ensures in
     let ages = rw c.deref-3.ensures.value at p.ages in
     plan_memories _ _ _ _ _ c.in_ok-all.ensures.adds.memories c.in_ok-out.ensures.memories
-    (mems_all c.args.period c.args.d (length c.args.ins.now) c.in-Ok.held.items c.args.trips.now c.in-Ok-all_settled.settled.items c.in-Ok-scheduled.schedule.plan.lines.items moves long within.source held p.lines ages)
+    (mems_all c.args.period c.args.d (length c.args.ins.now) c.in-Ok.held.items c.args.trips.now c.in-Ok-all_settled.settled.items
+    c.in-Ok-scheduled.schedule.plan.lines.items moves long within.source held p.lines ages)
 
 pub returns-in_err-all-clause-muls : goal.returns-in_err-all-clause-muls
 returns-in_err-all-clause-muls c = no_more _ _ c.in_err-all.ensures.adds.muls
@@ -260,8 +308,12 @@ returns-clause-trips c =
     let long : length c.in-Ok.held.items ≡ length c.args.ins.now = c.in-Ok.ensures.long in
     let held : AreHeld c.args.period c.args.d (length c.in-Ok.held.items) (map trip_tree c.args.trips.now) c.in-Ok.held.items = rw long c.in-Ok.ensures in
     let within : AreWithin c.args.period c.args.d (length c.in-Ok.held.items) (length c.args.widths.now) c.args.trips.now = rw long c.requires.within in
-    let moves : c.in-Ok-all_settled.settled.items ≡ map (settled c.args.d c.in-Ok.held.items) c.args.trips.now = rw c.deref-2.ensures.value at c.in-Ok-all_settled.ensures in
-    let kept : AreKept c.all_nets.new.nl.cells c.args.clocks.now.rst c.args.period c.args.d c.args.arrival c.args.ins.now c.in-Ok.held.items c.in_ok-all.all.items = rw c.deref.ensures.value at c.in_ok-all.ensures.kept in
+    let moves : c.in-Ok-all_settled.settled.items ≡ map (settled c.args.d c.in-Ok.held.items) c.args.trips.now = rw c.deref-2.ensures.value at
+    c.in-Ok-all_settled.ensures in
+    let kept : AreKept c.all_nets.new.nl.cells c.args.clocks.now.rst c.args.period c.args.d c.args.arrival c.args.ins.now c.in-Ok.held.items
+    c.in_ok-all.all.items = rw c.deref.ensures.value at c.in_ok-all.ensures.kept in
     let grown = kept_grows _ _ _ _ _ _ _ _ _ c.in_ok-out.ensures.grows.extends kept in
     let made = rw (c.deref-4.ensures.value, c.deref-5.ensures.value, c.in_ok-all.ensures.keeps.rst) at c.in_ok-out.ensures.trips in
-    trips_settled _ _ c.args.period c.args.d c.args.arrival (length c.args.widths.now) c.args.ins.now c.in_ok-all.all.items _ c.in-Ok.held.items c.args.trips.now c.in-Ok-all_settled.settled.items moves long grown held within made
+    trips_settled _ _ c.args.period c.args.d c.args.arrival
+    (length c.args.widths.now) c.args.ins.now c.in_ok-all.all.items _ c.in-Ok.held.items c.args.trips.now c.in-Ok-all_settled.settled.items moves long
+    grown held within made

@@ -30,7 +30,8 @@ loop-trip-preserved c =
     let i : ℕ = c.loop-trip.trip-index in
     let trip : Trip = get_or c.args.trips.now i no_trip in
     let at : slice_get c.args.trips.now i ≡ Some trip = slice_get-get_or c.args.trips.now i no_trip c.loop-trip-test.true in
-    let more = placed_more i c.args.d c.next_place-at.result c.args.reads.now c.args.trips.now c.loop-trip.all.items trip at c.next_place-at.ensures.fits c.next_place-at.ensures.is c.loop-trip.invariant.placed in
+    let more = placed_more i c.args.d c.next_place-at.result c.args.reads.now c.args.trips.now c.loop-trip.all.items trip at c.next_place-at.ensures.fits
+    c.next_place-at.ensures.is c.loop-trip.invariant.placed in
     record {
       long = omega (arith, c.next_place-at.ensures.long, c.loop-trip.invariant.long);
       below = c.next_place-at.ensures.below;

@@ -18,13 +18,21 @@ loop-q-preserved c =
     }
 
 pub next_place-requires-clause-clock : goal.next_place-requires-clause-clock
-next_place-requires-clause-clock c = c.requires.within.clock (length c.args.trips.now - 1 - c.loop-i.i) _ (slice_get-get_or c.args.trips.now (length c.args.trips.now - 1 - c.loop-i.i) no_trip (omega (arith, c.loop-i-test.true)))
+next_place-requires-clause-clock c =
+    c.requires.within.clock (length c.args.trips.now - 1 - c.loop-i.i) _
+    (slice_get-get_or c.args.trips.now (length c.args.trips.now - 1 - c.loop-i.i) no_trip (omega (arith, c.loop-i-test.true)))
 
 pub next_place-requires-clause-reached : goal.next_place-requires-clause-reached
-next_place-requires-clause-reached c = c.requires.within.reached (length c.args.trips.now - 1 - c.loop-i.i) _ (slice_get-get_or c.args.trips.now (length c.args.trips.now - 1 - c.loop-i.i) no_trip (omega (arith, c.loop-i-test.true)))
+next_place-requires-clause-reached c =
+    c.requires.within.reached (length c.args.trips.now - 1 - c.loop-i.i) _
+    (slice_get-get_or c.args.trips.now (length c.args.trips.now - 1 - c.loop-i.i) no_trip (omega (arith, c.loop-i-test.true)))
 
 pub next_place-requires-clause-source : goal.next_place-requires-clause-source
-next_place-requires-clause-source c = c.requires.within.source (length c.args.trips.now - 1 - c.loop-i.i) _ (slice_get-get_or c.args.trips.now (length c.args.trips.now - 1 - c.loop-i.i) no_trip (omega (arith, c.loop-i-test.true)))
+next_place-requires-clause-source c =
+    c.requires.within.source (length c.args.trips.now - 1 - c.loop-i.i) _
+    (slice_get-get_or c.args.trips.now (length c.args.trips.now - 1 - c.loop-i.i) no_trip (omega (arith, c.loop-i-test.true)))
 
 pub next_place-requires-clause-out : goal.next_place-requires-clause-out
-next_place-requires-clause-out c = c.requires.within.column (length c.args.trips.now - 1 - c.loop-i.i) _ (slice_get-get_or c.args.trips.now (length c.args.trips.now - 1 - c.loop-i.i) no_trip (omega (arith, c.loop-i-test.true)))
+next_place-requires-clause-out c =
+    c.requires.within.column (length c.args.trips.now - 1 - c.loop-i.i) _
+    (slice_get-get_or c.args.trips.now (length c.args.trips.now - 1 - c.loop-i.i) no_trip (omega (arith, c.loop-i-test.true)))

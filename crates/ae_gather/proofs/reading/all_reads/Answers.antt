@@ -13,7 +13,8 @@ loop-q-preserved c =
     let new = c.in_ok-net.ensures in
     record {
       adds = adds_most _ (omega arith) (adds_trans was.adds new.adds);
-      reads = λ rst rings. rw c.in_ok-keep_net.ensures.ok (reads_more c.loop-q.q _ _ _ _ _ _ _ _ new.adds.grows.extends (was.reads rst rings) (new.reads rst (rings_grow was.adds.grows.extends rings)));
+      reads = λ rst rings. rw c.in_ok-keep_net.ensures.ok (reads_more c.loop-q.q _ _ _ _ _ _ _ _ new.adds.grows.extends (was.reads rst rings)
+          (new.reads rst (rings_grow was.adds.grows.extends rings)));
     }
 
 pub returns-clause-reads : goal.returns-clause-reads

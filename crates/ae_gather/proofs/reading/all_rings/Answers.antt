@@ -16,7 +16,8 @@ ring_of-requires-clause-net c = own_net (net_later c.loop-q.invariant.adds.grows
 pub returns-in_err-ring-clause-adds : goal.returns-in_err-ring-clause-adds
 returns-in_err-ring-clause-adds c =
     let has : Bool = c.index.result.now in
-    let there : slice_get c.args.reads.now.rings.items c.loop-q.q ≡ Some has = slice_get_read c.args.reads.now.rings.items (length c.args.reads.now.rings.items) c.loop-q.q has refl (omega (arith, c.loop-q-test.true, c.requires.long)) c.index.ensures in
+    let there : slice_get c.args.reads.now.rings.items c.loop-q.q ≡ Some has = slice_get_read c.args.reads.now.rings.items
+    (length c.args.reads.now.rings.items) c.loop-q.q has refl (omega (arith, c.loop-q-test.true, c.requires.long)) c.index.ensures in
     let more = sum_next (λ (x : Bool). cond x 1 0) c.args.reads.now.rings.items c.loop-q.q has there in
     let part = sum_part (λ (x : Bool). cond x 1 0) c.args.reads.now.rings.items (c.loop-q.q + 1) in
     memories_most _ _ (omega (arith, more, part)) (omega (arith, more, part)) (memories_trans c.loop-q.invariant.adds c.in_err-ring.ensures.adds)
@@ -24,7 +25,8 @@ returns-in_err-ring-clause-adds c =
 pub returns-in_err-keep_ring-clause-adds : goal.returns-in_err-keep_ring-clause-adds
 returns-in_err-keep_ring-clause-adds c =
     let has : Bool = c.index.result.now in
-    let there : slice_get c.args.reads.now.rings.items c.loop-q.q ≡ Some has = slice_get_read c.args.reads.now.rings.items (length c.args.reads.now.rings.items) c.loop-q.q has refl (omega (arith, c.loop-q-test.true, c.requires.long)) c.index.ensures in
+    let there : slice_get c.args.reads.now.rings.items c.loop-q.q ≡ Some has = slice_get_read c.args.reads.now.rings.items
+    (length c.args.reads.now.rings.items) c.loop-q.q has refl (omega (arith, c.loop-q-test.true, c.requires.long)) c.index.ensures in
     let more = sum_next (λ (x : Bool). cond x 1 0) c.args.reads.now.rings.items c.loop-q.q has there in
     let part = sum_part (λ (x : Bool). cond x 1 0) c.args.reads.now.rings.items (c.loop-q.q + 1) in
     memories_most _ _ (omega (arith, more, part)) (omega (arith, more, part)) (memories_trans c.loop-q.invariant.adds c.in_ok-ring.ensures.adds)
@@ -58,11 +60,13 @@ loop-q-preserved c =
     let was = c.loop-q.invariant in
     let new = c.in_ok-ring.ensures in
     let has : Bool = c.index.result.now in
-    let there : slice_get c.args.reads.now.rings.items c.loop-q.q ≡ Some has = slice_get_read c.args.reads.now.rings.items (length c.args.reads.now.rings.items) c.loop-q.q has refl (omega (arith, c.loop-q-test.true, c.requires.long)) c.index.ensures in
+    let there : slice_get c.args.reads.now.rings.items c.loop-q.q ≡ Some has = slice_get_read c.args.reads.now.rings.items
+    (length c.args.reads.now.rings.items) c.loop-q.q has refl (omega (arith, c.loop-q-test.true, c.requires.long)) c.index.ensures in
     let more = sum_next (λ (x : Bool). cond x 1 0) c.args.reads.now.rings.items c.loop-q.q has there in
     record {
       belongs = new.belongs;
       keeps = keeps_trans was.keeps new.keeps;
       adds = memories_most _ _ (omega (arith, more)) (omega (arith, more)) (memories_trans was.adds new.adds);
-      rings = rw c.in_ok-keep_ring.ensures.ok (rings_more c.loop-q.q _ _ _ _ _ _ _ has new.adds.grows.extends was.rings (rw was.keeps.rst at new.ring) new.has (get_or_from_slice_get c.args.reads.now.rings.items c.loop-q.q has false there));
+      rings = rw c.in_ok-keep_ring.ensures.ok (rings_more c.loop-q.q _ _ _ _ _ _ _ has new.adds.grows.extends was.rings (rw was.keeps.rst at new.ring) new.has
+          (get_or_from_slice_get c.args.reads.now.rings.items c.loop-q.q has false there));
     }

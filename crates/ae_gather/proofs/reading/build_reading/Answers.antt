@@ -127,13 +127,19 @@ place_nets-requires-clause-below c = λ n t f.
     rw o.3 (c.limit_of-limit.ensures.below n o.0 o.1)
 
 pub place_nets-requires-clause-within : goal.place_nets-requires-clause-within
-place_nets-requires-clause-within c = let h = c.requires.reading in within_placed c.args.period c.args.d (length c.args.trips.now) (length c.args.ins.now) (length c.args.widths.now) c.args.reading.now.reads c.args.trips.now c.args.reading.now.places.items refl h.places c.requires.within
+place_nets-requires-clause-within c =
+    let h = c.requires.reading in within_placed c.args.period c.args.d (length c.args.trips.now) (length c.args.ins.now)
+    (length c.args.widths.now) c.args.reading.now.reads c.args.trips.now c.args.reading.now.places.items refl h.places c.requires.within
 
 pub place_nets-requires-clause-used : goal.place_nets-requires-clause-used
-place_nets-requires-clause-used c = let h = c.requires.reading in used_placed c.args.d (length c.args.trips.now) (length c.args.widths.now) c.args.reading.now.reads c.args.trips.now c.args.reading.now.places.items refl h.places c.requires.used
+place_nets-requires-clause-used c =
+    let h = c.requires.reading in used_placed c.args.d (length c.args.trips.now)
+    (length c.args.widths.now) c.args.reading.now.reads c.args.trips.now c.args.reading.now.places.items refl h.places c.requires.used
 
 pub place_nets-requires-clause-fits : goal.place_nets-requires-clause-fits
-place_nets-requires-clause-fits c = let h = c.requires.reading in fits_placed _ c.args.d (length c.args.trips.now) c.args.reading.now.reads c.args.trips.now c.args.reading.now.places.items refl h.places
+place_nets-requires-clause-fits c =
+    let h = c.requires.reading in fits_placed _ c.args.d (length c.args.trips.now) c.args.reading.now.reads c.args.trips.now c.args.reading.now.places.items
+    refl h.places
 
 pub place_nets-requires-clause-none : goal.place_nets-requires-clause-none
 place_nets-requires-clause-none c = let h = c.requires.reading in h.none
@@ -151,7 +157,8 @@ pub all_reads-requires-clause-shown : goal.all_reads-requires-clause-shown
 all_reads-requires-clause-shown c = let h = c.requires.reading in rw c.deref-2.ensures.value (omega (arith, c.in_ok-places.ensures.long, h.from))
 
 pub all_reads-requires-clause-rings : goal.all_reads-requires-clause-rings
-all_reads-requires-clause-rings c = let made = rings_grow c.in_ok-places.ensures.adds.grows.extends c.in_ok-rings.ensures.rings in (c.args.clocks.now.rst, rw c.deref.ensures.value made)
+all_reads-requires-clause-rings c =
+    let made = rings_grow c.in_ok-places.ensures.adds.grows.extends c.in_ok-rings.ensures.rings in (c.args.clocks.now.rst, rw c.deref.ensures.value made)
 
 pub all_reads-requires-clause-long : goal.all_reads-requires-clause-long
 all_reads-requires-clause-long c = let h = c.requires.reading in omega (arith, h.rings)
@@ -159,38 +166,53 @@ all_reads-requires-clause-long c = let h = c.requires.reading in omega (arith, h
 pub build_plan-requires-clause-few : goal.build_plan-requires-clause-few
 build_plan-requires-clause-few c =
     let h = c.requires.reading in
-    let count : length c.args.reading.now.trips.items ≡ length c.args.trips.now = ap length h.taken ∙ length-map c.args.trips.now (read_trip c.args.d c.args.reading.now.reads) in
+    let count : length c.args.reading.now.trips.items ≡ length c.args.trips.now = ap length h.taken ∙
+    length-map c.args.trips.now (read_trip c.args.d c.args.reading.now.reads) in
     rw c.deref-4.ensures.value (omega (arith, count, c.requires.few))
 
 pub build_plan-requires-clause-nets : goal.build_plan-requires-clause-nets
 build_plan-requires-clause-nets c =
     let h = c.requires.reading in
     let made = rings_grow c.in_ok-places.ensures.adds.grows.extends c.in_ok-rings.ensures.rings in
-    let all : AreReads (length c.args.widths.now) c.all_reads.new.nl.cells c.args.clocks.now.rst c.args.reading.now.reads c.args.ins.now c.in_ok-places.places.items c.in_ok-all.all.items = rw (c.deref-2.ensures.value, h.from) at (c.in_ok-all.ensures.reads c.args.clocks.now.rst (rw c.deref.ensures.value made)) in
+    let all : AreReads (length c.args.widths.now) c.all_reads.new.nl.cells c.args.clocks.now.rst c.args.reading.now.reads c.args.ins.now
+    c.in_ok-places.places.items c.in_ok-all.all.items = rw (c.deref-2.ensures.value, h.from) at
+    (c.in_ok-all.ensures.reads c.args.clocks.now.rst (rw c.deref.ensures.value made)) in
     let g = grows_trans c.in_ok-rings.ensures.adds.grows (grows_trans c.in_ok-places.ensures.adds.grows c.in_ok-all.ensures.adds.grows) in
-    rw c.deref-3.ensures.value (reads_nets _ _ _ _ c.args.ins.now c.in_ok-places.places.items _ (λ q l. (let n = c.requires.nets q l in (n.0, net_later g.extends n.1))) all)
+    rw c.deref-3.ensures.value (reads_nets _ _ _ _ c.args.ins.now c.in_ok-places.places.items _
+    (λ q l. (let n = c.requires.nets q l in (n.0, net_later g.extends n.1))) all)
 
 pub build_plan-requires-clause-within : goal.build_plan-requires-clause-within
 build_plan-requires-clause-within c =
     let h = c.requires.reading in
     let made = rings_grow c.in_ok-places.ensures.adds.grows.extends c.in_ok-rings.ensures.rings in
-    let all : AreReads (length c.args.widths.now) c.all_reads.new.nl.cells c.args.clocks.now.rst c.args.reading.now.reads c.args.ins.now c.in_ok-places.places.items c.in_ok-all.all.items = rw (c.deref-2.ensures.value, h.from) at (c.in_ok-all.ensures.reads c.args.clocks.now.rst (rw c.deref.ensures.value made)) in
-    let within : AreWithin c.args.period c.args.d (length c.args.reading.now.reads.rings.items) (length c.args.widths.now) c.args.trips.now = rw h.rings c.requires.within in
+    let all : AreReads (length c.args.widths.now) c.all_reads.new.nl.cells c.args.clocks.now.rst c.args.reading.now.reads c.args.ins.now
+    c.in_ok-places.places.items c.in_ok-all.all.items = rw (c.deref-2.ensures.value, h.from) at
+    (c.in_ok-all.ensures.reads c.args.clocks.now.rst (rw c.deref.ensures.value made)) in
+    let within : AreWithin c.args.period c.args.d (length c.args.reading.now.reads.rings.items)
+    (length c.args.widths.now) c.args.trips.now = rw h.rings c.requires.within in
     let count : length c.in_ok-all.all.items ≡ length c.args.reading.now.reads.rings.items + length c.args.widths.now = omega (arith, all.long, h.rings) in
-    rw (c.deref-3.ensures.value, c.deref-4.ensures.value, count) (within_read c.args.period c.args.d (length c.args.widths.now) c.args.reading.now.reads c.args.trips.now c.args.reading.now.trips.items h.taken within)
+    rw (c.deref-3.ensures.value, c.deref-4.ensures.value, count)
+    (within_read c.args.period c.args.d (length c.args.widths.now) c.args.reading.now.reads c.args.trips.now c.args.reading.now.trips.items h.taken within)
 
 pub build_plan-requires-clause-used : goal.build_plan-requires-clause-used
-build_plan-requires-clause-used c = let h = c.requires.reading in rw c.deref-4.ensures.value (used_read c.args.d (length c.args.widths.now) c.args.reading.now.reads c.args.trips.now c.args.reading.now.trips.items h.taken c.requires.used)
+build_plan-requires-clause-used c =
+    let h = c.requires.reading in rw c.deref-4.ensures.value
+    (used_read c.args.d (length c.args.widths.now) c.args.reading.now.reads c.args.trips.now c.args.reading.now.trips.items h.taken c.requires.used)
 
 pub build_plan-requires-clause-fitting : goal.build_plan-requires-clause-fitting
 build_plan-requires-clause-fitting c =
     let h = c.requires.reading in
     let made = rings_grow c.in_ok-places.ensures.adds.grows.extends c.in_ok-rings.ensures.rings in
-    let all : AreReads (length c.args.widths.now) c.all_reads.new.nl.cells c.args.clocks.now.rst c.args.reading.now.reads c.args.ins.now c.in_ok-places.places.items c.in_ok-all.all.items = rw (c.deref-2.ensures.value, h.from) at (c.in_ok-all.ensures.reads c.args.clocks.now.rst (rw c.deref.ensures.value made)) in
-    let within : AreWithin c.args.period c.args.d (length c.args.reading.now.reads.rings.items) (length c.args.widths.now) c.args.trips.now = rw h.rings c.requires.within in
+    let all : AreReads (length c.args.widths.now) c.all_reads.new.nl.cells c.args.clocks.now.rst c.args.reading.now.reads c.args.ins.now
+    c.in_ok-places.places.items c.in_ok-all.all.items = rw (c.deref-2.ensures.value, h.from) at
+    (c.in_ok-all.ensures.reads c.args.clocks.now.rst (rw c.deref.ensures.value made)) in
+    let within : AreWithin c.args.period c.args.d (length c.args.reading.now.reads.rings.items)
+    (length c.args.widths.now) c.args.trips.now = rw h.rings c.requires.within in
     let g = grows_trans c.in_ok-rings.ensures.adds.grows (grows_trans c.in_ok-places.ensures.adds.grows c.in_ok-all.ensures.adds.grows) in
     let grown = fitting_grows _ _ c.args.ins.now c.args.widths.now c.args.trips.now g.extends c.requires.fitting in
-    rw (c.deref-3.ensures.value, c.deref-4.ensures.value) (fitting_read c.args.period c.args.d (length c.args.widths.now) _ _ c.args.reading.now.reads c.args.ins.now c.in_ok-places.places.items c.in_ok-all.all.items c.args.widths.now c.args.trips.now c.args.reading.now.trips.items h.taken (omega (arith, h.rings)) all within grown)
+    rw (c.deref-3.ensures.value, c.deref-4.ensures.value)
+    (fitting_read c.args.period c.args.d (length c.args.widths.now) _ _ c.args.reading.now.reads c.args.ins.now c.in_ok-places.places.items
+    c.in_ok-all.all.items c.args.widths.now c.args.trips.now c.args.reading.now.trips.items h.taken (omega (arith, h.rings)) all within grown)
 
 pub build_plan-requires-clause-early : goal.build_plan-requires-clause-early
 build_plan-requires-clause-early c = let h = c.requires.reading in h.early
@@ -205,7 +227,9 @@ pub build_plan-requires-clause-lines : goal.build_plan-requires-clause-lines
 build_plan-requires-clause-lines c =
     let h = c.requires.reading in
     let made = rings_grow c.in_ok-places.ensures.adds.grows.extends c.in_ok-rings.ensures.rings in
-    let all : AreReads (length c.args.widths.now) c.all_reads.new.nl.cells c.args.clocks.now.rst c.args.reading.now.reads c.args.ins.now c.in_ok-places.places.items c.in_ok-all.all.items = rw (c.deref-2.ensures.value, h.from) at (c.in_ok-all.ensures.reads c.args.clocks.now.rst (rw c.deref.ensures.value made)) in
+    let all : AreReads (length c.args.widths.now) c.all_reads.new.nl.cells c.args.clocks.now.rst c.args.reading.now.reads c.args.ins.now
+    c.in_ok-places.places.items c.in_ok-all.all.items = rw (c.deref-2.ensures.value, h.from) at
+    (c.in_ok-all.ensures.reads c.args.clocks.now.rst (rw c.deref.ensures.value made)) in
     rw c.deref-3.ensures.value (omega (arith, all.long, h.lines))
 
 pub build_plan-requires-clause-columns : goal.build_plan-requires-clause-columns
@@ -217,7 +241,8 @@ build_plan-requires-clause-plan c = let h = c.requires.reading in h.plan
 pub build_plan-requires-clause-taps : goal.build_plan-requires-clause-taps
 build_plan-requires-clause-taps c =
     let h = c.requires.reading in
-    let count : length c.args.reading.now.trips.items ≡ length c.args.trips.now = ap length h.taken ∙ length-map c.args.trips.now (read_trip c.args.d c.args.reading.now.reads) in
+    let count : length c.args.reading.now.trips.items ≡ length c.args.trips.now = ap length h.taken ∙
+    length-map c.args.trips.now (read_trip c.args.d c.args.reading.now.reads) in
     rw (c.deref-4.ensures.value, count) h.few
 
 pub build_plan-requires-clause-belongs : goal.build_plan-requires-clause-belongs
@@ -239,13 +264,17 @@ pub returns-in_err-all-clause-belongs : goal.returns-in_err-all-clause-belongs
 returns-in_err-all-clause-belongs c = belongs_grows _ _ _ c.in_err-all.ensures.adds.grows c.in_ok-places.ensures.belongs
 
 pub returns-in_err-out-clause-grows : goal.returns-in_err-out-clause-grows
-returns-in_err-out-clause-grows c = grows_trans c.in_ok-rings.ensures.adds.grows (grows_trans c.in_ok-places.ensures.adds.grows (grows_trans c.in_ok-all.ensures.adds.grows c.in_err-out.ensures.grows))
+returns-in_err-out-clause-grows c =
+    grows_trans c.in_ok-rings.ensures.adds.grows (grows_trans c.in_ok-places.ensures.adds.grows
+    (grows_trans c.in_ok-all.ensures.adds.grows c.in_err-out.ensures.grows))
 
 pub returns-in_err-out-clause-keeps : goal.returns-in_err-out-clause-keeps
 returns-in_err-out-clause-keeps c = keeps_trans c.in_ok-rings.ensures.keeps (keeps_trans c.in_ok-places.ensures.keeps c.in_err-out.ensures.keeps)
 
 pub returns-clause-grows : goal.returns-clause-grows
-returns-clause-grows c = grows_trans c.in_ok-rings.ensures.adds.grows (grows_trans c.in_ok-places.ensures.adds.grows (grows_trans c.in_ok-all.ensures.adds.grows c.in_ok-out.ensures.grows))
+returns-clause-grows c =
+    grows_trans c.in_ok-rings.ensures.adds.grows (grows_trans c.in_ok-places.ensures.adds.grows
+    (grows_trans c.in_ok-all.ensures.adds.grows c.in_ok-out.ensures.grows))
 
 pub returns-clause-keeps : goal.returns-clause-keeps
 returns-clause-keeps c = keeps_trans c.in_ok-rings.ensures.keeps (keeps_trans c.in_ok-places.ensures.keeps c.in_ok-out.ensures.keeps)
@@ -254,9 +283,16 @@ pub returns-clause-trips : goal.returns-clause-trips
 returns-clause-trips c =
     let h = c.requires.reading in
     let made = rings_grow c.in_ok-places.ensures.adds.grows.extends c.in_ok-rings.ensures.rings in
-    let all : AreReads (length c.args.widths.now) c.all_reads.new.nl.cells c.args.clocks.now.rst c.args.reading.now.reads c.args.ins.now c.in_ok-places.places.items c.in_ok-all.all.items = rw (c.deref-2.ensures.value, h.from) at (c.in_ok-all.ensures.reads c.args.clocks.now.rst (rw c.deref.ensures.value made)) in
-    let within : AreWithin c.args.period c.args.d (length c.args.reading.now.reads.rings.items) (length c.args.widths.now) c.args.trips.now = rw h.rings c.requires.within in
-    let shows = shows_later _ _ _ _ _ _ _ _ (grows_trans c.in_ok-all.ensures.adds.grows c.in_ok-out.ensures.grows).extends (rw c.in_ok-rings.ensures.keeps.rst at c.in_ok-places.ensures.shows) in
+    let all : AreReads (length c.args.widths.now) c.all_reads.new.nl.cells c.args.clocks.now.rst c.args.reading.now.reads c.args.ins.now
+    c.in_ok-places.places.items c.in_ok-all.all.items = rw (c.deref-2.ensures.value, h.from) at
+    (c.in_ok-all.ensures.reads c.args.clocks.now.rst (rw c.deref.ensures.value made)) in
+    let within : AreWithin c.args.period c.args.d (length c.args.reading.now.reads.rings.items)
+    (length c.args.widths.now) c.args.trips.now = rw h.rings c.requires.within in
+    let shows = shows_later _ _ _ _ _ _ _ _ (grows_trans c.in_ok-all.ensures.adds.grows c.in_ok-out.ensures.grows).extends
+    (rw c.in_ok-rings.ensures.keeps.rst at c.in_ok-places.ensures.shows) in
     let read = reads_later c.in_ok-out.ensures.grows.extends all in
-    let made_trips = rw (c.deref-3.ensures.value, c.deref-4.ensures.value, c.in_ok-places.ensures.keeps.rst, c.in_ok-rings.ensures.keeps.rst) at c.in_ok-out.ensures.trips in
-    trips_read _ _ c.args.period c.args.d c.args.arrival (length c.args.widths.now) c.args.reading.now.reads c.args.ins.now c.in_ok-places.places.items c.in_ok-all.all.items _ c.args.trips.now c.args.reading.now.places.items c.args.reading.now.trips.items h.taken (omega (arith, h.rings)) read h.places shows within made_trips
+    let made_trips = rw (c.deref-3.ensures.value, c.deref-4.ensures.value, c.in_ok-places.ensures.keeps.rst, c.in_ok-rings.ensures.keeps.rst) at
+    c.in_ok-out.ensures.trips in
+    trips_read _ _ c.args.period c.args.d c.args.arrival (length c.args.widths.now) c.args.reading.now.reads c.args.ins.now c.in_ok-places.places.items
+    c.in_ok-all.all.items _ c.args.trips.now c.args.reading.now.places.items c.args.reading.now.trips.items h.taken
+    (omega (arith, h.rings)) read h.places shows within made_trips

@@ -28,10 +28,12 @@ pub returns-clause-belongs : goal.returns-clause-belongs
 returns-clause-belongs c = belongs_grows _ _ _ c.in_ok-memory.ensures.adds.grows c.in_ok-counter.ensures.belongs
 
 pub returns-in_err-memory-clause-keeps : goal.returns-in_err-memory-clause-keeps
-returns-in_err-memory-clause-keeps c = phase_keeps _ _ _ c.in_ok-counter.counter c.in_ok-counter.ensures.rst c.in_ok-counter.ensures.keeps (λ n found. (c.in_ok-counter.ensures.again n found).2)
+returns-in_err-memory-clause-keeps c =
+    phase_keeps _ _ _ c.in_ok-counter.counter c.in_ok-counter.ensures.rst c.in_ok-counter.ensures.keeps (λ n found. (c.in_ok-counter.ensures.again n found).2)
 
 pub returns-clause-keeps : goal.returns-clause-keeps
-returns-clause-keeps c = phase_keeps _ _ _ c.in_ok-counter.counter c.in_ok-counter.ensures.rst c.in_ok-counter.ensures.keeps (λ n found. (c.in_ok-counter.ensures.again n found).2)
+returns-clause-keeps c =
+    phase_keeps _ _ _ c.in_ok-counter.counter c.in_ok-counter.ensures.rst c.in_ok-counter.ensures.keeps (λ n found. (c.in_ok-counter.ensures.again n found).2)
 
 pub returns-clause-ring : goal.returns-clause-ring
 returns-clause-ring c =

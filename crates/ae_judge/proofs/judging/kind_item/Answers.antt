@@ -14,5 +14,6 @@ returns c =
     let clock : option_map (λ (s : Bor (List ℕ)). s.now) c.clock_of-clock.result ≡ clock_name m =
     c.clock_of-clock.ensures ∙ (λ i. clock_or (c.requires.names i) (first_clock (map item_tree (c.deref.ensures.value i)))) in
     IfOk-weaker c.first_misuse.result _ _
-    (λ o e. subst (IsFirstOf (HasKind m)) (sym (e ∙ (λ i. first_from (λ _. misuses (c.requires.names i) (clock i)) 1 (map item_tree (c.deref-2.ensures.value i))))) (kind_first m))
+    (λ o e. subst (IsFirstOf (HasKind m)) (sym (e ∙ (λ i. first_from (λ _. misuses (c.requires.names i) (clock i)) 1
+    (map item_tree (c.deref-2.ensures.value i))))) (kind_first m))
     c.first_misuse.ensures

@@ -12,5 +12,7 @@ pub returns : goal.returns
 returns c =
     let m = module_tree c.args.m.now in
     IfOk-weaker c.first_undriven.result _ _
-    (λ o e. subst (IsFirstOf (HasUndriven m)) (sym (e ∙ (λ i. first_from (λ _. is_undriven (with_names [] (flat_map item_targets (map item_tree (c.deref-2.ensures.value i))))) 0 (map net_tree (c.deref.ensures.value i))))) (undriven_first m))
+    (λ o e. subst (IsFirstOf (HasUndriven m)) (sym (e ∙ (λ i. first_from
+    (λ _. is_undriven (with_names [] (flat_map item_targets (map item_tree (c.deref-2.ensures.value i))))) 0 (map net_tree (c.deref.ensures.value i)))))
+    (undriven_first m))
     c.first_undriven.ensures

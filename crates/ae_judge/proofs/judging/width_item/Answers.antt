@@ -8,7 +8,8 @@ use Rattle.ae_judge.proofs.judging.width_item.Goals as goal
 pub returns : goal.returns
 returns c =
     let m = module_tree c.args.m.now in
-    let large : c.first_too_large.result ≡ first_too_large m.nets = c.first_too_large.ensures ∙ ap (λ xs. first_too_large (map net_tree xs)) c.deref.ensures.value in
+    let large : c.first_too_large.result ≡ first_too_large m.nets = c.first_too_large.ensures ∙
+    ap (λ xs. first_too_large (map net_tree xs)) c.deref.ensures.value in
     let wide : c.first_too_wide.result ≡ first_from (λ _. is_too_wide_in_item m.nets) 1 m.items =
     c.first_too_wide.ensures ∙ (λ i. first_from (λ _. is_too_wide_in_item (c.requires.names i)) 1 (map item_tree (c.deref-2.ensures.value i))) in
     subst (IsFirstOf (HasWidth m)) (sym (c.earlier.ensures ∙ (λ i. earlier (large i) (wide i)))) (width_first m c.requires.shape)

@@ -12,18 +12,22 @@ use Rattle.ae_judge.proofs.kinds.+misused.Goals as goal
 
 pub is_misused-any_misused-requires : goal.is_misused-any_misused-requires
 is_misused-any_misused-requires t c =
-    let h : AllByRecursion IsLettered (map expr_tree c.deref-in-Concat.result.now) = parts_lettered c.args.value.now c.in-Concat.parts c.deref-in-Concat.result.now c.in-Concat.is c.deref-in-Concat.ensures.value c.requires.lettered in
+    let h : AllByRecursion IsLettered (map expr_tree c.deref-in-Concat.result.now) = parts_lettered c.args.value.now c.in-Concat.parts
+    c.deref-in-Concat.result.now c.in-Concat.is c.deref-in-Concat.ensures.value c.requires.lettered in
     search (rules, the_lemmas, h)
 
 pub is_misused-returns-in-Concat : goal.is_misused-returns-in-Concat
 is_misused-returns-in-Concat t c =
-    let v : expr_tree c.args.value.now ≡ concat_of (map expr_tree c.deref-in-Concat.result.now) = parts_view c.args.value.now c.in-Concat.parts c.deref-in-Concat.result.now c.in-Concat.is c.deref-in-Concat.ensures.value in
-    c.any_misused.ensures ∙ sym (misused_concat c.args.names.now (map expr_tree c.deref-in-Concat.result.now) (subst IsLettered v c.requires.lettered)) ∙ ap (is_misused c.args.names.now) (sym v)
+    let v : expr_tree c.args.value.now ≡ concat_of (map expr_tree c.deref-in-Concat.result.now) = parts_view c.args.value.now c.in-Concat.parts
+    c.deref-in-Concat.result.now c.in-Concat.is c.deref-in-Concat.ensures.value in
+    c.any_misused.ensures ∙ sym (misused_concat c.args.names.now (map expr_tree c.deref-in-Concat.result.now) (subst IsLettered v c.requires.lettered)) ∙
+    ap (is_misused c.args.names.now) (sym v)
 
 pub any_misused-is_misused-requires : goal.any_misused-is_misused-requires
 any_misused-is_misused-requires t c =
     let h : IsLettered (expr_tree c.part-item.result) =
-    subst (λ (e : Expr). IsLettered (expr_tree e)) (sym c.part-item.is) (all_map_at IsLettered expr_tree c.args.parts.now c.loop-part.part-index c.part-item.result (omega arith) c.requires.lettered) in
+    subst (λ (e : Expr). IsLettered (expr_tree e)) (sym c.part-item.is)
+    (all_map_at IsLettered expr_tree c.args.parts.now c.loop-part.part-index c.part-item.result (omega arith) c.requires.lettered) in
     search (rules, the_lemmas, h)
 
 pub any_misused-returns-then-is_misused : goal.any_misused-returns-then-is_misused

@@ -8,7 +8,8 @@ use Rattle.ae_judge.proofs.kinds.any_misused_drive.Goals as goal
 
 pub is_misused_in_drive-requires : goal.is_misused_in_drive-requires
 is_misused_in_drive-requires c = record {
-  lettered = subst (λ (d : Drive). IsLetteredDrive (drive_tree d)) (sym c.drive-item.is) (all_map_at IsLetteredDrive drive_tree c.args.drives.now c.loop-drive.drive-index c.drive-item.result (omega arith) c.requires.lettered);
+  lettered = subst (λ (d : Drive). IsLetteredDrive (drive_tree d)) (sym c.drive-item.is)
+      (all_map_at IsLetteredDrive drive_tree c.args.drives.now c.loop-drive.drive-index c.drive-item.result (omega arith) c.requires.lettered);
 }
 
 pub returns-then-is_misused_in_drive : goal.returns-then-is_misused_in_drive

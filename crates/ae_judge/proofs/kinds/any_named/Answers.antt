@@ -13,4 +13,5 @@ returns-then-is_named c = sym (
 pub returns : goal.returns
 returns c = sym (
     any_map (λ n. is_named n (option_map (λ (c : Bor (List ℕ)). c.now) c.args.clock)) (λ (s : Bor (List ℕ)). s.now) c.args.names.now
-    ∙ any_end (λ s. is_named s.now (option_map (λ (c : Bor (List ℕ)). c.now) c.args.clock)) c.args.names.now c.loop-name.name-index (omega arith) c.loop-name.invariant)
+    ∙ any_end (λ s. is_named s.now (option_map (λ (c : Bor (List ℕ)). c.now) c.args.clock)) c.args.names.now c.loop-name.name-index
+    (omega arith) c.loop-name.invariant)

@@ -7,6 +7,8 @@ use Rattle.ae_judge.proofs.reads.+stmt_targets.Goals as goal
 
 pub push_stmt_targets-returns-in-Block : goal.push_stmt_targets-returns-in-Block
 push_stmt_targets-returns-in-Block t c =
-    let v : stmt_tree c.args.stmt.now ≡ block_of (map stmt_tree c.deref-in-Block.result.now) = stmts_view c.args.stmt.now c.in-Block.stmts c.deref-in-Block.result.now c.in-Block.is c.deref-in-Block.ensures.value in
+    let v : stmt_tree c.args.stmt.now ≡ block_of (map stmt_tree c.deref-in-Block.result.now) = stmts_view c.args.stmt.now c.in-Block.stmts
+    c.deref-in-Block.result.now c.in-Block.is c.deref-in-Block.ensures.value in
     let n = sym (targets_block (map stmt_tree c.deref-in-Block.result.now)) ∙ ap stmt_targets (sym v) in
-    subst (λ ns. OnOk c.push_block_targets.result (texts c.push_block_targets.new.into.items ≡ texts c.args.into.now.items ++ ns)) n c.push_block_targets.ensures
+    subst (λ ns. OnOk c.push_block_targets.result (texts c.push_block_targets.new.into.items ≡ texts c.args.into.now.items ++ ns)) n
+    c.push_block_targets.ensures

@@ -7,5 +7,6 @@ use Rattle.ae_judge.proofs.unknown.any_late.Goals as goal
 
 pub value_unknown-requires : goal.value_unknown-requires
 value_unknown-requires c = record {
-  lettered = subst (λ (d : Drive). IsLetteredDrive (drive_tree d)) (sym c.drive-item.is) (all_map_at IsLetteredDrive drive_tree c.args.drives.now c.loop-drive.drive-index c.drive-item.result (omega arith) c.requires.lettered);
+  lettered = subst (λ (d : Drive). IsLetteredDrive (drive_tree d)) (sym c.drive-item.is)
+      (all_map_at IsLetteredDrive drive_tree c.args.drives.now c.loop-drive.drive-index c.drive-item.result (omega arith) c.requires.lettered);
 }

@@ -12,4 +12,5 @@ returns-then-is_unknown c = sym (
 pub returns : goal.returns
 returns c = sym (
     any_map (is_unknown c.args.names.now c.args.number c.args.given.now) (λ (s : Bor (List ℕ)). s.now) c.args.used.now
-    ∙ any_end (λ s. is_unknown c.args.names.now c.args.number c.args.given.now s.now) c.args.used.now c.loop-name.name-index (omega arith) c.loop-name.invariant)
+    ∙ any_end (λ s. is_unknown c.args.names.now c.args.number c.args.given.now s.now) c.args.used.now c.loop-name.name-index
+    (omega arith) c.loop-name.invariant)

@@ -4,4 +4,5 @@ use Rattle.ae_judge.specs.Judging.{drives_unknown}
 use Rattle.ae_judge.proofs.unknown.drives_unknown.Given as goal
 
 abbrev pub invariant-loop-drive : goal.invariant-loop-drive
-invariant-loop-drive l = drives_unknown l.names l.number l.given (map drive_tree (drop l.drive-index l.drives)) ≡ drives_unknown l.names l.number [] (map drive_tree l.drives)
+invariant-loop-drive l =
+    drives_unknown l.names l.number l.given (map drive_tree (drop l.drive-index l.drives)) ≡ drives_unknown l.names l.number [] (map drive_tree l.drives)

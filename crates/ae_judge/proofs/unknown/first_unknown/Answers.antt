@@ -7,5 +7,6 @@ use Rattle.ae_judge.proofs.unknown.first_unknown.Goals as goal
 
 pub uses_unknown-requires : goal.uses_unknown-requires
 uses_unknown-requires c = record {
-  lettered = subst (λ (d : VItem). IsLetteredItem (item_tree d)) (sym c.item-item.is) (all_map_at IsLetteredItem item_tree c.args.items.now c.loop-item.item-index c.item-item.result (omega arith) c.requires.lettered);
+  lettered = subst (λ (d : VItem). IsLetteredItem (item_tree d)) (sym c.item-item.is)
+      (all_map_at IsLetteredItem item_tree c.args.items.now c.loop-item.item-index c.item-item.result (omega arith) c.requires.lettered);
 }

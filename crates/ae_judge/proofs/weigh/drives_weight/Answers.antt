@@ -7,5 +7,6 @@ use Rattle.ae_judge.proofs.weigh.drives_weight.Goals as goal
 
 pub expr_weight-requires : goal.expr_weight-requires
 expr_weight-requires c = record {
-  lettered = subst (λ (d : Drive). IsLetteredDrive (drive_tree d)) (sym c.drive-item.is) (all_map_at IsLetteredDrive drive_tree c.args.drives.now c.loop-drive.drive-index c.drive-item.result (omega arith) c.requires.lettered);
+  lettered = subst (λ (d : Drive). IsLetteredDrive (drive_tree d)) (sym c.drive-item.is)
+      (all_map_at IsLetteredDrive drive_tree c.args.drives.now c.loop-drive.drive-index c.drive-item.result (omega arith) c.requires.lettered);
 }

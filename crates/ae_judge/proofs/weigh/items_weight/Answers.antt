@@ -7,5 +7,6 @@ use Rattle.ae_judge.proofs.weigh.items_weight.Goals as goal
 
 pub item_weight-requires : goal.item_weight-requires
 item_weight-requires c = record {
-  lettered = subst (λ (d : VItem). IsLetteredItem (item_tree d)) (sym c.item-item.is) (all_map_at IsLetteredItem item_tree c.args.items.now c.loop-item.item-index c.item-item.result (omega arith) c.requires.lettered);
+  lettered = subst (λ (d : VItem). IsLetteredItem (item_tree d)) (sym c.item-item.is)
+      (all_map_at IsLetteredItem item_tree c.args.items.now c.loop-item.item-index c.item-item.result (omega arith) c.requires.lettered);
 }

@@ -13,16 +13,20 @@ use Rattle.ae_judge.proofs.widths.+own.Goals as goal
 
 pub own_width-total_width-requires : goal.own_width-total_width-requires
 own_width-total_width-requires t c =
-    let h : AllByRecursion IsLettered (map expr_tree c.deref-in-Concat.result.now) = parts_lettered c.args.value.now c.in-Concat.parts c.deref-in-Concat.result.now c.in-Concat.is c.deref-in-Concat.ensures.value c.requires.lettered in
+    let h : AllByRecursion IsLettered (map expr_tree c.deref-in-Concat.result.now) = parts_lettered c.args.value.now c.in-Concat.parts
+    c.deref-in-Concat.result.now c.in-Concat.is c.deref-in-Concat.ensures.value c.requires.lettered in
     search (rules, the_lemmas, h)
 
 pub total_width-own_width-requires : goal.total_width-own_width-requires
 total_width-own_width-requires t c =
     let h : IsLettered (expr_tree c.part-item.result) =
-    subst (λ (s : Expr). IsLettered (expr_tree s)) (sym c.part-item.is) (all_map_at IsLettered expr_tree c.args.parts.now c.loop-part.part-index c.part-item.result (omega arith) c.requires.lettered) in
+    subst (λ (s : Expr). IsLettered (expr_tree s)) (sym c.part-item.is)
+    (all_map_at IsLettered expr_tree c.args.parts.now c.loop-part.part-index c.part-item.result (omega arith) c.requires.lettered) in
     search (rules, the_lemmas, h)
 
 pub own_width-returns-in-Concat : goal.own_width-returns-in-Concat
 own_width-returns-in-Concat t c =
-    let v : expr_tree c.args.value.now ≡ concat_of (map expr_tree c.deref-in-Concat.result.now) = parts_view c.args.value.now c.in-Concat.parts c.deref-in-Concat.result.now c.in-Concat.is c.deref-in-Concat.ensures.value in
-    c.total_width.ensures ∙ ap (λ n. min n 65) (sym (own_concat c.args.names.now (map expr_tree c.deref-in-Concat.result.now) (subst IsLettered v c.requires.lettered)) ∙ ap (own_width c.args.names.now) (sym v))
+    let v : expr_tree c.args.value.now ≡ concat_of (map expr_tree c.deref-in-Concat.result.now) = parts_view c.args.value.now c.in-Concat.parts
+    c.deref-in-Concat.result.now c.in-Concat.is c.deref-in-Concat.ensures.value in
+    c.total_width.ensures ∙ ap (λ n. min n 65) (sym (own_concat c.args.names.now (map expr_tree c.deref-in-Concat.result.now)
+    (subst IsLettered v c.requires.lettered)) ∙ ap (own_width c.args.names.now) (sym v))

@@ -14,13 +14,15 @@ use Rattle.ae_judge.proofs.widths.+wide.Goals as goal
 
 pub is_too_wide-any_too_wide-requires : goal.is_too_wide-any_too_wide-requires
 is_too_wide-any_too_wide-requires t c =
-    let h : AllByRecursion IsLettered (map expr_tree c.deref-in-Concat.result.now) = parts_lettered c.args.value.now c.in-Concat.parts c.deref-in-Concat.result.now c.in-Concat.is c.deref-in-Concat.ensures.value c.requires.lettered in
+    let h : AllByRecursion IsLettered (map expr_tree c.deref-in-Concat.result.now) = parts_lettered c.args.value.now c.in-Concat.parts
+    c.deref-in-Concat.result.now c.in-Concat.is c.deref-in-Concat.ensures.value c.requires.lettered in
     search (rules, the_lemmas, h)
 
 pub any_too_wide-is_too_wide-requires : goal.any_too_wide-is_too_wide-requires
 any_too_wide-is_too_wide-requires t c =
     let h : IsLettered (expr_tree c.part-item.result) =
-    subst (λ (s : Expr). IsLettered (expr_tree s)) (sym c.part-item.is) (all_map_at IsLettered expr_tree c.args.parts.now c.loop-part.part-index c.part-item.result (omega arith) c.requires.lettered) in
+    subst (λ (s : Expr). IsLettered (expr_tree s)) (sym c.part-item.is)
+    (all_map_at IsLettered expr_tree c.args.parts.now c.loop-part.part-index c.part-item.result (omega arith) c.requires.lettered) in
     search (rules, the_lemmas, h)
 
 pub any_too_wide-returns-then-is_too_wide : goal.any_too_wide-returns-then-is_too_wide
@@ -36,14 +38,16 @@ any_too_wide-returns t c = sym (
 
 pub is_too_wide-total_width-requires : goal.is_too_wide-total_width-requires
 is_too_wide-total_width-requires t c = record {
-  lettered = parts_lettered c.args.value.now c.in-Concat.parts c.deref-else-any_too_wide.result.now c.in-Concat.is c.deref-else-any_too_wide.ensures.value c.requires.lettered;
+  lettered = parts_lettered c.args.value.now c.in-Concat.parts c.deref-else-any_too_wide.result.now c.in-Concat.is c.deref-else-any_too_wide.ensures.value
+      c.requires.lettered;
 }
 
 pub is_too_wide-returns-then-any_too_wide : goal.is_too_wide-returns-then-any_too_wide
 is_too_wide-returns-then-any_too_wide t c =
     let ns = c.args.names.now in
     let es = map expr_tree c.deref-in-Concat.result.now in
-    let v : expr_tree c.args.value.now ≡ concat_of es = parts_view c.args.value.now c.in-Concat.parts c.deref-in-Concat.result.now c.in-Concat.is c.deref-in-Concat.ensures.value in
+    let v : expr_tree c.args.value.now ≡ concat_of es = parts_view c.args.value.now c.in-Concat.parts c.deref-in-Concat.result.now c.in-Concat.is
+    c.deref-in-Concat.ensures.value in
     let w = wide_concat ns es (subst IsLettered v c.requires.lettered) in
     wide_first c.any_too_wide.result (nat_lt 64 (sum_by (own_width ns) es)) c.if-any_too_wide.true
     ∙ ap (λ b. b || nat_lt 64 (sum_by (own_width ns) es)) c.any_too_wide.ensures ∙ sym w ∙ ap (is_too_wide ns) (sym v)
@@ -52,8 +56,10 @@ pub is_too_wide-returns-else-any_too_wide : goal.is_too_wide-returns-else-any_to
 is_too_wide-returns-else-any_too_wide t c =
     let ns = c.args.names.now in
     let es = map expr_tree c.deref-in-Concat.result.now in
-    let same : c.deref-else-any_too_wide.result.now ≡ c.deref-in-Concat.result.now = c.deref-else-any_too_wide.ensures.value ∙ sym c.deref-in-Concat.ensures.value in
-    let v : expr_tree c.args.value.now ≡ concat_of es = parts_view c.args.value.now c.in-Concat.parts c.deref-in-Concat.result.now c.in-Concat.is c.deref-in-Concat.ensures.value in
+    let same : c.deref-else-any_too_wide.result.now ≡ c.deref-in-Concat.result.now = c.deref-else-any_too_wide.ensures.value ∙
+    sym c.deref-in-Concat.ensures.value in
+    let v : expr_tree c.args.value.now ≡ concat_of es = parts_view c.args.value.now c.in-Concat.parts c.deref-in-Concat.result.now c.in-Concat.is
+    c.deref-in-Concat.ensures.value in
     let w = wide_concat ns es (subst IsLettered v c.requires.lettered) in
     let total = c.total_width.ensures ∙ ap (λ ys. min (sum_by (own_width ns) (map expr_tree ys)) 65) same in
     wide_then c.any_too_wide.result c.total_width.result (sum_by (own_width ns) es) c.if-any_too_wide.false total

@@ -12,13 +12,15 @@ use Rattle.ae_judge.proofs.widths.+wide_stmt.Goals as goal
 
 pub is_too_wide_in_stmt-any_too_wide_stmt-requires : goal.is_too_wide_in_stmt-any_too_wide_stmt-requires
 is_too_wide_in_stmt-any_too_wide_stmt-requires t c =
-    let h : AllByRecursion IsLetteredStmt (map stmt_tree c.deref-in-Block.result.now) = stmts_lettered c.args.stmt.now c.in-Block.stmts c.deref-in-Block.result.now c.in-Block.is c.deref-in-Block.ensures.value c.requires.lettered in
+    let h : AllByRecursion IsLetteredStmt (map stmt_tree c.deref-in-Block.result.now) = stmts_lettered c.args.stmt.now c.in-Block.stmts
+    c.deref-in-Block.result.now c.in-Block.is c.deref-in-Block.ensures.value c.requires.lettered in
     search (rules, the_lemmas, h)
 
 pub any_too_wide_stmt-is_too_wide_in_stmt-requires : goal.any_too_wide_stmt-is_too_wide_in_stmt-requires
 any_too_wide_stmt-is_too_wide_in_stmt-requires t c =
     let h : IsLetteredStmt (stmt_tree c.stmt-item.result) =
-    subst (λ (s : Stmt). IsLetteredStmt (stmt_tree s)) (sym c.stmt-item.is) (all_map_at IsLetteredStmt stmt_tree c.args.stmts.now c.loop-stmt.stmt-index c.stmt-item.result (omega arith) c.requires.lettered) in
+    subst (λ (s : Stmt). IsLetteredStmt (stmt_tree s)) (sym c.stmt-item.is)
+    (all_map_at IsLetteredStmt stmt_tree c.args.stmts.now c.loop-stmt.stmt-index c.stmt-item.result (omega arith) c.requires.lettered) in
     search (rules, the_lemmas, h)
 
 pub any_too_wide_stmt-returns-then-is_too_wide_in_stmt : goal.any_too_wide_stmt-returns-then-is_too_wide_in_stmt
@@ -34,5 +36,7 @@ any_too_wide_stmt-returns t c = sym (
 
 pub is_too_wide_in_stmt-returns-in-Block : goal.is_too_wide_in_stmt-returns-in-Block
 is_too_wide_in_stmt-returns-in-Block t c =
-    let v : stmt_tree c.args.stmt.now ≡ block_of (map stmt_tree c.deref-in-Block.result.now) = stmts_view c.args.stmt.now c.in-Block.stmts c.deref-in-Block.result.now c.in-Block.is c.deref-in-Block.ensures.value in
-    c.any_too_wide_stmt.ensures ∙ sym (wide_block c.args.names.now (map stmt_tree c.deref-in-Block.result.now)) ∙ ap (is_too_wide_in_stmt c.args.names.now) (sym v)
+    let v : stmt_tree c.args.stmt.now ≡ block_of (map stmt_tree c.deref-in-Block.result.now) = stmts_view c.args.stmt.now c.in-Block.stmts
+    c.deref-in-Block.result.now c.in-Block.is c.deref-in-Block.ensures.value in
+    c.any_too_wide_stmt.ensures ∙ sym (wide_block c.args.names.now (map stmt_tree c.deref-in-Block.result.now)) ∙
+    ap (is_too_wide_in_stmt c.args.names.now) (sym v)

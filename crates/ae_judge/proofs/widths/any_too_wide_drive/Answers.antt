@@ -8,7 +8,8 @@ use Rattle.ae_judge.proofs.widths.any_too_wide_drive.Goals as goal
 
 pub is_too_wide-requires : goal.is_too_wide-requires
 is_too_wide-requires c = record {
-  lettered = subst (λ (d : Drive). IsLetteredDrive (drive_tree d)) (sym c.drive-item.is) (all_map_at IsLetteredDrive drive_tree c.args.drives.now c.loop-drive.drive-index c.drive-item.result (omega arith) c.requires.lettered);
+  lettered = subst (λ (d : Drive). IsLetteredDrive (drive_tree d)) (sym c.drive-item.is)
+      (all_map_at IsLetteredDrive drive_tree c.args.drives.now c.loop-drive.drive-index c.drive-item.result (omega arith) c.requires.lettered);
 }
 
 pub returns-then-is_too_wide : goal.returns-then-is_too_wide

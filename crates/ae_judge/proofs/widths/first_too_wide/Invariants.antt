@@ -5,4 +5,6 @@ use Rattle.ae_judge.specs.Judging.{first_from}
 use Rattle.ae_judge.proofs.widths.first_too_wide.Given as goal
 
 abbrev pub invariant-loop-item : goal.invariant-loop-item
-invariant-loop-item l = (l.number ≡ l.item-index) × (first_from (λ _. is_too_wide_in_item l.names) (l.number + 1) (map item_tree (drop l.item-index l.items)) ≡ first_from (λ _. is_too_wide_in_item l.names) 1 (map item_tree l.items))
+invariant-loop-item l =
+    (l.number ≡ l.item-index) × (first_from (λ _. is_too_wide_in_item l.names) (l.number + 1) (map item_tree (drop l.item-index l.items)) ≡ first_from
+    (λ _. is_too_wide_in_item l.names) 1 (map item_tree l.items))

@@ -10,7 +10,10 @@ loop-lane-preserved c =
     let s = st_tree c.args.s.now in
     record {
       rest = rw (c.in_ok-push_lane.ensures)
-          (lanes_more (λ i. lane_words c.args.fill (element_words s) c.args.value.now (standing s c.args.clock i) 0 (atom_kinds (element_atom s))) (lanes s) c.loop-lane.lane c.loop-lane.row.items
-          _ _ (omega (arith, c.loop-lane-test.true, c.lanes-lane-end.ensures)) (ap (λ o. lane_words c.args.fill (element_words s) c.args.value.now o 0 (atom_kinds (element_atom s))) c.standing.ensures.is) c.loop-lane.invariant.rest);
+          (lanes_more (λ i. lane_words c.args.fill (element_words s) c.args.value.now (standing s c.args.clock i) 0 (atom_kinds (element_atom s)))
+          (lanes s) c.loop-lane.lane c.loop-lane.row.items
+          _ _ (omega (arith, c.loop-lane-test.true, c.lanes-lane-end.ensures))
+          (ap (λ o. lane_words c.args.fill (element_words s) c.args.value.now o 0 (atom_kinds (element_atom s))) c.standing.ensures.is)
+          c.loop-lane.invariant.rest);
       within = omega (arith, c.loop-lane-test.true, c.lanes-lane-end.ensures);
     }

@@ -10,7 +10,8 @@ overflow_mul-columns c =
 pub loop-e-preserved : goal.loop-e-preserved
 loop-e-preserved c =
     rw (c.in_ok-extend_from_slice.ensures.items, c.lanes.ensures)
-    (taken_piece (st_tree c.args.of.now) c.args.width c.loop-e.e _ c.args.rows.now c.loop-e.words.items c.slot-slot.result (omega arith) c.loop-e.invariant c.slot-slot.ensures.place
+    (taken_piece (st_tree c.args.of.now) c.args.width c.loop-e.e _ c.args.rows.now c.loop-e.words.items c.slot-slot.result
+    (omega arith) c.loop-e.invariant c.slot-slot.ensures.place
     c.slot-slot.ensures.clock_in c.slot-slot.ensures.lane_in c.requires.rows)
 
 pub returns-clause-holds : goal.returns-clause-holds

@@ -24,7 +24,8 @@ invariant-lower_bodies-loop-lane l = record {
   keeps : KeepsCounters l.fn.clocks l.clocks;
   spread : AreSpread (st_func_trees l.p) l.m l.at l.fn.clocks.rst l.copies l.args l.fn.nl l.nl l.lane l.out.items;
   within : l.lane ≤ l.copies;
-  sections : AreSections (length l.fn.nl.cells) l.fn.sections.items → HaveSections (IsSectionWithin (st_func_trees l.p) l.m) (length l.fn.nl.cells) (length l.nl.cells) l.fn.sections.items l.sections.items;
+  sections : AreSections (length l.fn.nl.cells) l.fn.sections.items
+      → HaveSections (IsSectionWithin (st_func_trees l.p) l.m) (length l.fn.nl.cells) (length l.nl.cells) l.fn.sections.items l.sections.items;
 }
 
 abbrev pub invariant-lower_instance-loop-j : goal.invariant-lower_instance-loop-j
@@ -36,5 +37,6 @@ invariant-lower_instance-loop-j l = record {
   lowered : AreLowered (st_func_trees l.p) l.k l.at l.fn.clocks.rst (st_func_tree l.s) l.ins l.fn.nl l.nl l.j l.items.items;
   marked : (count : ℕ) → AreMarks (length l.fn.nl.cells) count l.fn.marks.items → AreMarks (length l.nl.cells) (count + l.j) l.marks.items;
   nodes : l.fn.marks.items ≡ [] → HaveMarks l.fn.nl l.nl (timings_in (st_func_trees l.p) l.k (st_func_tree l.s)) l.j l.marks.items;
-  sections : AreSections (length l.fn.nl.cells) l.fn.sections.items → HaveSections (IsSectionWithin (st_func_trees l.p) l.k) (length l.fn.nl.cells) (length l.nl.cells) l.fn.sections.items l.sections.items;
+  sections : AreSections (length l.fn.nl.cells) l.fn.sections.items
+      → HaveSections (IsSectionWithin (st_func_trees l.p) l.k) (length l.fn.nl.cells) (length l.nl.cells) l.fn.sections.items l.sections.items;
 }

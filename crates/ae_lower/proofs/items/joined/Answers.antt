@@ -18,13 +18,15 @@ waited-requires-clause-rings c = rw c.loop-r.invariant.keeps.rst c.loop-r.invari
 pub returns-in_err-bundle-clause-grows : goal.returns-in_err-bundle-clause-grows
 returns-in_err-bundle-clause-grows c =
     by_trans _ (delay_most c.args.items.now c.args.waits.now c.args.chosen.now c.loop-r.r c.index-items-k.result
-    (item_at c.args.items.now c.args.chosen.now c.loop-r.r c.index-items-k.result c.requires.below c.loop-r-test.true c.index-items-k.is) c.requires.long c.loop-r-test.true)
+    (item_at c.args.items.now c.args.chosen.now c.loop-r.r c.index-items-k.result c.requires.below c.loop-r-test.true c.index-items-k.is) c.requires.long
+    c.loop-r-test.true)
     c.loop-r.invariant.grows c.in_err-bundle.ensures.grows
 
 pub returns-in_err-push-clause-grows : goal.returns-in_err-push-clause-grows
 returns-in_err-push-clause-grows c =
     by_trans _ (delay_most c.args.items.now c.args.waits.now c.args.chosen.now c.loop-r.r c.index-items-k.result
-    (item_at c.args.items.now c.args.chosen.now c.loop-r.r c.index-items-k.result c.requires.below c.loop-r-test.true c.index-items-k.is) c.requires.long c.loop-r-test.true)
+    (item_at c.args.items.now c.args.chosen.now c.loop-r.r c.index-items-k.result c.requires.below c.loop-r-test.true c.index-items-k.is) c.requires.long
+    c.loop-r-test.true)
     c.loop-r.invariant.grows c.in_ok-bundle.ensures.grows
 
 pub returns-in_err-bundle-clause-keeps : goal.returns-in_err-bundle-clause-keeps
@@ -83,7 +85,8 @@ loop-r-preserved c =
     record {
       belongs = made.belongs;
       keeps = keeps_trans was.keeps made.keeps;
-      grows = by_trans _ (delay_more c.args.items.now c.args.waits.now c.args.chosen.now c.loop-r.r c.index-items-k.result at c.requires.long c.loop-r-test.true) was.grows made.grows;
+      grows = by_trans _ (delay_more c.args.items.now c.args.waits.now c.args.chosen.now c.loop-r.r c.index-items-k.result at c.requires.long
+          c.loop-r-test.true) was.grows made.grows;
       rings = rw was.keeps.rst at made.rings;
       spends = spends_up (omega arith) (omega arith) (spends_trans was.spends made.spends);
       delayed = rw (c.in_ok-push.ensures.items, take_more c.args.chosen.now c.loop-r.r 0 c.loop-r-test.true)

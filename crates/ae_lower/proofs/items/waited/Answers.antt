@@ -9,7 +9,8 @@ use Rattle.ae_lower.specs.Growth.{GrowsBy}
 use Rattle.ae_lower.proofs.Growing.{keeps_none, rings_by, rings_spend}
 use Rattle.ae_lower.proofs.items.waited.Goals as goal
 
-abbrev next_tap : {a b d : Circuit} {u v w : ℕ} (slack k : ℕ) → AddsRings a b (16 * (slack * k)) u v → AddsRings b d (16 * slack) v w → AddsRings a d (16 * (slack * (k + 1))) u w
+abbrev next_tap : {a b d : Circuit} {u v w : ℕ} (slack k : ℕ) → AddsRings a b (16 * (slack * k)) u v → AddsRings b d (16 * slack) v w
+    → AddsRings a d (16 * (slack * (k + 1))) u w
 next_tap slack k p q = rings_most (16 * (slack * (k + 1))) (omega arith) (rings_trans p q)
 
 within : {a b : Circuit} {u v : ℕ} (slack k n : ℕ) → k ≤ n → AddsRings a b (16 * (slack * k)) u v → GrowsBy a b (slack * n)
@@ -19,21 +20,24 @@ pub tap-requires-clause-rows : goal.tap-requires-clause-rows
 tap-requires-clause-rows c = rw c.loop-net.invariant.keeps.rst c.loop-net.invariant.rings
 
 pub tap-requires-clause-net : goal.tap-requires-clause-net
-tap-requires-clause-net c = own_later _ _ c.nets-nets.result.now _ c.loop-net.net-index c.nets-nets.ensures c.loop-net.invariant.adds.grows.extends c.requires.nets c.loop-net-test.true
+tap-requires-clause-net c =
+    own_later _ _ c.nets-nets.result.now _ c.loop-net.net-index c.nets-nets.ensures c.loop-net.invariant.adds.grows.extends c.requires.nets c.loop-net-test.true
 
 pub returns-in_err-tap-clause-keeps : goal.returns-in_err-tap-clause-keeps
 returns-in_err-tap-clause-keeps c = keeps_trans c.loop-net.invariant.keeps c.in_err-tap.ensures.keeps
 
 pub returns-in_err-tap-clause-grows : goal.returns-in_err-tap-clause-grows
 returns-in_err-tap-clause-grows c =
-    within c.args.slack (c.loop-net.net-index + 1) (length c.args.bundle.now) (omega (arith, c.loop-net-test.true, ap length c.nets-nets.ensures)) (next_tap c.args.slack c.loop-net.net-index c.loop-net.invariant.adds c.in_err-tap.ensures.adds)
+    within c.args.slack (c.loop-net.net-index + 1) (length c.args.bundle.now) (omega (arith, c.loop-net-test.true, ap length c.nets-nets.ensures))
+    (next_tap c.args.slack c.loop-net.net-index c.loop-net.invariant.adds c.in_err-tap.ensures.adds)
 
 pub returns-in_err-push-clause-keeps : goal.returns-in_err-push-clause-keeps
 returns-in_err-push-clause-keeps c = keeps_trans c.loop-net.invariant.keeps c.in_ok-tap.ensures.keeps
 
 pub returns-in_err-push-clause-grows : goal.returns-in_err-push-clause-grows
 returns-in_err-push-clause-grows c =
-    within c.args.slack (c.loop-net.net-index + 1) (length c.args.bundle.now) (omega (arith, c.loop-net-test.true, ap length c.nets-nets.ensures)) (next_tap c.args.slack c.loop-net.net-index c.loop-net.invariant.adds c.in_ok-tap.ensures.adds)
+    within c.args.slack (c.loop-net.net-index + 1) (length c.args.bundle.now) (omega (arith, c.loop-net-test.true, ap length c.nets-nets.ensures))
+    (next_tap c.args.slack c.loop-net.net-index c.loop-net.invariant.adds c.in_ok-tap.ensures.adds)
 
 pub tap-requires-clause-belongs : goal.tap-requires-clause-belongs
 tap-requires-clause-belongs c = c.loop-net.invariant.belongs
@@ -75,11 +79,13 @@ loop-net-preserved c =
       adds = next_tap c.args.slack k was.adds more.adds;
       taps = rw kept
           (tapping_more _ _ _ _ _ _ _ _ _ _ c.in_ok-tap.tap more.adds.grows.extends was.taps (there c.nets-nets.result.now k c.loop-net-test.true)
-          (same_width _ _ c.nets-nets.result.now _ k c.nets-nets.ensures was.adds.grows.extends c.requires.nets c.loop-net-test.true) (rw was.keeps.rst at more.tap));
+          (same_width _ _ c.nets-nets.result.now _ k c.nets-nets.ensures was.adds.grows.extends c.requires.nets c.loop-net-test.true)
+          (rw was.keeps.rst at more.tap));
     }
 
 pub returns-clause-grows : goal.returns-clause-grows
-returns-clause-grows c = within c.args.slack c.loop-net.net-index (length c.args.bundle.now) (omega (arith, ap length c.nets-nets.ensures)) c.loop-net.invariant.adds
+returns-clause-grows c =
+    within c.args.slack c.loop-net.net-index (length c.args.bundle.now) (omega (arith, ap length c.nets-nets.ensures)) c.loop-net.invariant.adds
 
 pub returns-clause-spends : goal.returns-clause-spends
 returns-clause-spends c = rings_spend c.loop-net.invariant.adds

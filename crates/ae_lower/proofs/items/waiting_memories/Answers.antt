@@ -14,5 +14,7 @@ columns-requires c = rw c.layout-ty.ensures (c.requires.sizes c.loop-i.i (omega 
 
 pub loop-i-preserved : goal.loop-i-preserved
 loop-i-preserved c =
-    let fits : c.columns.result ≤ columns_of (item_layout (item_layouts (st_func_tree c.args.s.now)) c.loop-i.i) = rw (← c.layout-ty.ensures) c.columns.ensures in
-    next_most (item_layouts (st_func_tree c.args.s.now)) c.args.chains.now c.loop-i.i c.loop-i.most c.with_each-most.result c.columns.result c.rings.result fits c.rings.ensures c.loop-i.invariant c.with_each-most.ensures
+    let fits : c.columns.result ≤ columns_of (item_layout (item_layouts (st_func_tree c.args.s.now)) c.loop-i.i) = rw (← c.layout-ty.ensures)
+    c.columns.ensures in
+    next_most (item_layouts (st_func_tree c.args.s.now)) c.args.chains.now c.loop-i.i c.loop-i.most c.with_each-most.result c.columns.result c.rings.result
+    fits c.rings.ensures c.loop-i.invariant c.with_each-most.ensures

@@ -33,7 +33,8 @@ not_full (Err e) a h = λ is. absurd (h (ap Err is))
 
 pub place-requires-in-Fixed-clause-does : goal.place-requires-in-Fixed-clause-does
 place-requires-in-Fixed-clause-does c =
-    fixed_node _ (st_func_tree c.args.s.now) (st_node_tree c.args.node.now) _ c.in-Fixed.words.items (move_of c.in_ok-stage-in-Fixed.stage) c.requires.ready (ap st_op_tree c.in-Fixed.is)
+    fixed_node _ (st_func_tree c.args.s.now) (st_node_tree c.args.node.now) _ c.in-Fixed.words.items (move_of c.in_ok-stage-in-Fixed.stage) c.requires.ready
+    (ap st_op_tree c.in-Fixed.is)
     (c.in_ok-stage-in-Fixed.ensures.is ∙ ap (λ ws. constant_move ws (st_tree c.args.node.now.ty)) c.deref.ensures.value)
 
 -- ---- moves
@@ -42,30 +43,37 @@ pub layout-requires : goal.layout-requires
 layout-requires c =
     let only = ready_move _ (st_func_tree c.args.s.now) (st_node_tree c.args.node.now) _ c.in-Move.how c.requires.ready (ap st_op_tree c.in-Move.is) in
     let low : 0 < length c.args.node.now.args.items = only_low c.args.node.now.args.items only.0 in
-    let first : c.index.result.now ≡ get_or c.args.node.now.args.items 0 0 = get_or_read c.args.node.now.args.items 0 c.index.result.now low c.index.ensures 0 in
+    let first : c.index.result.now ≡ get_or c.args.node.now.args.items 0 0 = get_or_read c.args.node.now.args.items 0 c.index.result.now low c.index.ensures
+    0 in
     rw first (ready_below _ (st_func_tree c.args.s.now) (st_node_tree c.args.node.now) _ 0 c.requires.ready low)
 
 pub moving-requires-clause-arg : goal.moving-requires-clause-arg
 moving-requires-clause-arg c =
     let only = ready_move _ (st_func_tree c.args.s.now) (st_node_tree c.args.node.now) _ c.in-Move.how c.requires.ready (ap st_op_tree c.in-Move.is) in
     let low : 0 < length c.args.node.now.args.items = only_low c.args.node.now.args.items only.0 in
-    let first : c.index.result.now ≡ get_or c.args.node.now.args.items 0 0 = get_or_read c.args.node.now.args.items 0 c.index.result.now low c.index.ensures 0 in
+    let first : c.index.result.now ≡ get_or c.args.node.now.args.items 0 0 = get_or_read c.args.node.now.args.items 0 c.index.result.now low c.index.ensures
+    0 in
     rw (c.layout.ensures, first) (ready_item _ (st_func_tree c.args.s.now) (st_node_tree c.args.node.now) _ 0 c.requires.ready low).size
 
 pub moving-requires-clause-time : goal.moving-requires-clause-time
 moving-requires-clause-time c =
     let only = ready_move _ (st_func_tree c.args.s.now) (st_node_tree c.args.node.now) _ c.in-Move.how c.requires.ready (ap st_op_tree c.in-Move.is) in
     let low : 0 < length c.args.node.now.args.items = only_low c.args.node.now.args.items only.0 in
-    let first : c.index.result.now ≡ get_or c.args.node.now.args.items 0 0 = get_or_read c.args.node.now.args.items 0 c.index.result.now low c.index.ensures 0 in
-    rw (c.layout.ensures, first) ((ready_item _ (st_func_tree c.args.s.now) (st_node_tree c.args.node.now) _ 0 c.requires.ready low).time ∙ sym c.requires.ready.layout.time)
+    let first : c.index.result.now ≡ get_or c.args.node.now.args.items 0 0 = get_or_read c.args.node.now.args.items 0 c.index.result.now low c.index.ensures
+    0 in
+    rw (c.layout.ensures, first) ((ready_item _ (st_func_tree c.args.s.now) (st_node_tree c.args.node.now) _ 0 c.requires.ready low).time ∙
+    sym c.requires.ready.layout.time)
 
 pub place-requires-in-Move-clause-does : goal.place-requires-in-Move-clause-does
 place-requires-in-Move-clause-does c =
     let only = ready_move _ (st_func_tree c.args.s.now) (st_node_tree c.args.node.now) _ c.in-Move.how c.requires.ready (ap st_op_tree c.in-Move.is) in
     let low : 0 < length c.args.node.now.args.items = only_low c.args.node.now.args.items only.0 in
-    let first : c.index.result.now ≡ get_or c.args.node.now.args.items 0 0 = get_or_read c.args.node.now.args.items 0 c.index.result.now low c.index.ensures 0 in
-    let own : st_tree c.layout.result.now ≡ argument_at (st_func_tree c.args.s.now) (st_node_tree c.args.node.now) 0 = c.layout.ensures ∙ ap (item_layout (item_layouts (st_func_tree c.args.s.now))) first in
-    move_node _ (st_func_tree c.args.s.now) (st_node_tree c.args.node.now) _ c.in-Move.how (move_of c.reading-reader.result) c.requires.ready (ap st_op_tree c.in-Move.is)
+    let first : c.index.result.now ≡ get_or c.args.node.now.args.items 0 0 = get_or_read c.args.node.now.args.items 0 c.index.result.now low c.index.ensures
+    0 in
+    let own : st_tree c.layout.result.now ≡ argument_at (st_func_tree c.args.s.now) (st_node_tree c.args.node.now) 0 = c.layout.ensures ∙
+    ap (item_layout (item_layouts (st_func_tree c.args.s.now))) first in
+    move_node _ (st_func_tree c.args.s.now) (st_node_tree c.args.node.now) _ c.in-Move.how (move_of c.reading-reader.result) c.requires.ready
+    (ap st_op_tree c.in-Move.is)
     (c.reading-reader.ensures ∙ c.in_ok-stage-in-Move.ensures.is ∙ ap (λ (a : StTree). op_move c.in-Move.how a (st_tree c.args.node.now.ty)) own)
 
 -- ---- folds
@@ -75,42 +83,57 @@ reducing-requires-clause-some c = ready_some _ (st_func_tree c.args.s.now) (st_n
 
 pub fold_and_move-requires-clause-bundles : goal.fold_and_move-requires-clause-bundles
 fold_and_move-requires-clause-bundles c =
-    node_bundles _ (st_func_tree c.args.s.now) (st_node_tree c.args.node.now) (part_behind (reduce_part c.in_ok-fold-in-Fold.fold) (gather_part (move_of c.in_ok-moved-in-Fold.moved))) _
-    (fold_node _ (st_func_tree c.args.s.now) (st_node_tree c.args.node.now) _ c.in-Fold.op c.in-Fold.slots c.in-Fold.lanes (st_tree c.in-Fold.raw) c.in_ok-fold-in-Fold.fold (move_of c.in_ok-moved-in-Fold.moved) c.requires.ready (ap st_op_tree c.in-Fold.is) c.in_ok-fold-in-Fold.ensures.is c.in_ok-moved-in-Fold.ensures.is)
+    node_bundles _ (st_func_tree c.args.s.now) (st_node_tree c.args.node.now)
+    (part_behind (reduce_part c.in_ok-fold-in-Fold.fold) (gather_part (move_of c.in_ok-moved-in-Fold.moved))) _
+    (fold_node _ (st_func_tree c.args.s.now) (st_node_tree c.args.node.now) _ c.in-Fold.op c.in-Fold.slots c.in-Fold.lanes
+    (st_tree c.in-Fold.raw) c.in_ok-fold-in-Fold.fold (move_of c.in_ok-moved-in-Fold.moved) c.requires.ready
+    (ap st_op_tree c.in-Fold.is) c.in_ok-fold-in-Fold.ensures.is c.in_ok-moved-in-Fold.ensures.is)
     c.requires.ready.bundles
 
 pub fold_and_move-requires-clause-follows : goal.fold_and_move-requires-clause-follows
 fold_and_move-requires-clause-follows c =
-    fold_follows (st_tree c.in-Fold.raw) (st_tree c.args.node.now.ty) c.in_ok-fold-in-Fold.fold (move_of c.in_ok-moved-in-Fold.moved) c.in_ok-fold-in-Fold.ensures.is.4 c.in_ok-moved-in-Fold.ensures.is
+    fold_follows (st_tree c.in-Fold.raw) (st_tree c.args.node.now.ty) c.in_ok-fold-in-Fold.fold
+    (move_of c.in_ok-moved-in-Fold.moved) c.in_ok-fold-in-Fold.ensures.is.4 c.in_ok-moved-in-Fold.ensures.is
 
 pub fold_and_move-requires-clause-typed : goal.fold_and_move-requires-clause-typed
 fold_and_move-requires-clause-typed c = λ vs h.
     let shape =
-    fold_shape _ (st_func_tree c.args.s.now) (st_node_tree c.args.node.now) _ c.in-Fold.op c.in-Fold.slots c.in-Fold.lanes (st_tree c.in-Fold.raw) c.in_ok-fold-in-Fold.fold c.requires.ready (ap st_op_tree c.in-Fold.is)
+    fold_shape _ (st_func_tree c.args.s.now) (st_node_tree c.args.node.now) _ c.in-Fold.op c.in-Fold.slots c.in-Fold.lanes
+    (st_tree c.in-Fold.raw) c.in_ok-fold-in-Fold.fold c.requires.ready (ap st_op_tree c.in-Fold.is)
     c.in_ok-fold-in-Fold.ensures.is in
     fold_typed c.in_ok-fold-in-Fold.fold vs shape.0 shape.1 shape.2 shape.3 h
 
 pub fold_and_move-requires-clause-short : goal.fold_and_move-requires-clause-short
 fold_and_move-requires-clause-short c =
-    fold_short _ (st_func_tree c.args.s.now) (st_node_tree c.args.node.now) _ c.in-Fold.op c.in-Fold.slots c.in-Fold.lanes (st_tree c.in-Fold.raw) c.in_ok-fold-in-Fold.fold c.requires.ready (ap st_op_tree c.in-Fold.is)
+    fold_short _ (st_func_tree c.args.s.now) (st_node_tree c.args.node.now) _ c.in-Fold.op c.in-Fold.slots c.in-Fold.lanes
+    (st_tree c.in-Fold.raw) c.in_ok-fold-in-Fold.fold c.requires.ready (ap st_op_tree c.in-Fold.is)
     c.in_ok-fold-in-Fold.ensures.is
 
 pub returns-in_ok-fold-in-Fold-clause-grows : goal.returns-in_ok-fold-in-Fold-clause-grows
 returns-in_ok-fold-in-Fold-clause-grows c =
-    node_grows _ _ (st_func_tree c.args.s.now) (st_node_tree c.args.node.now) (part_behind (reduce_part c.in_ok-fold-in-Fold.fold) (gather_part (move_of c.in_ok-moved-in-Fold.moved)))
-    (fold_node _ (st_func_tree c.args.s.now) (st_node_tree c.args.node.now) _ c.in-Fold.op c.in-Fold.slots c.in-Fold.lanes (st_tree c.in-Fold.raw) c.in_ok-fold-in-Fold.fold (move_of c.in_ok-moved-in-Fold.moved) c.requires.ready (ap st_op_tree c.in-Fold.is) c.in_ok-fold-in-Fold.ensures.is c.in_ok-moved-in-Fold.ensures.is)
+    node_grows _ _ (st_func_tree c.args.s.now) (st_node_tree c.args.node.now)
+    (part_behind (reduce_part c.in_ok-fold-in-Fold.fold) (gather_part (move_of c.in_ok-moved-in-Fold.moved)))
+    (fold_node _ (st_func_tree c.args.s.now) (st_node_tree c.args.node.now) _ c.in-Fold.op c.in-Fold.slots c.in-Fold.lanes
+    (st_tree c.in-Fold.raw) c.in_ok-fold-in-Fold.fold (move_of c.in_ok-moved-in-Fold.moved) c.requires.ready
+    (ap st_op_tree c.in-Fold.is) c.in_ok-fold-in-Fold.ensures.is c.in_ok-moved-in-Fold.ensures.is)
     c.fold_and_move.ensures.grows c.fold_and_move.ensures.cells
 
 pub returns-in_ok-fold-in-Fold-clause-adds : goal.returns-in_ok-fold-in-Fold-clause-adds
 returns-in_ok-fold-in-Fold-clause-adds c =
-    node_adds _ _ _ (st_func_tree c.args.s.now) (st_node_tree c.args.node.now) (part_behind (reduce_part c.in_ok-fold-in-Fold.fold) (gather_part (move_of c.in_ok-moved-in-Fold.moved)))
-    (fold_node _ (st_func_tree c.args.s.now) (st_node_tree c.args.node.now) _ c.in-Fold.op c.in-Fold.slots c.in-Fold.lanes (st_tree c.in-Fold.raw) c.in_ok-fold-in-Fold.fold (move_of c.in_ok-moved-in-Fold.moved) c.requires.ready (ap st_op_tree c.in-Fold.is) c.in_ok-fold-in-Fold.ensures.is c.in_ok-moved-in-Fold.ensures.is)
+    node_adds _ _ _ (st_func_tree c.args.s.now) (st_node_tree c.args.node.now)
+    (part_behind (reduce_part c.in_ok-fold-in-Fold.fold) (gather_part (move_of c.in_ok-moved-in-Fold.moved)))
+    (fold_node _ (st_func_tree c.args.s.now) (st_node_tree c.args.node.now) _ c.in-Fold.op c.in-Fold.slots c.in-Fold.lanes
+    (st_tree c.in-Fold.raw) c.in_ok-fold-in-Fold.fold (move_of c.in_ok-moved-in-Fold.moved) c.requires.ready
+    (ap st_op_tree c.in-Fold.is) c.in_ok-fold-in-Fold.ensures.is c.in_ok-moved-in-Fold.ensures.is)
     c.fold_and_move.ensures.muls c.fold_and_move.ensures.memories c.fold_and_move.ensures.whole
 
 pub returns-in_ok-fold-in-Fold-clause-built : goal.returns-in_ok-fold-in-Fold-clause-built
 returns-in_ok-fold-in-Fold-clause-built c =
-    node_built _ _ _ _ (st_func_tree c.args.s.now) (st_node_tree c.args.node.now) (part_behind (reduce_part c.in_ok-fold-in-Fold.fold) (gather_part (move_of c.in_ok-moved-in-Fold.moved))) _
-    (fold_node _ (st_func_tree c.args.s.now) (st_node_tree c.args.node.now) _ c.in-Fold.op c.in-Fold.slots c.in-Fold.lanes (st_tree c.in-Fold.raw) c.in_ok-fold-in-Fold.fold (move_of c.in_ok-moved-in-Fold.moved) c.requires.ready (ap st_op_tree c.in-Fold.is) c.in_ok-fold-in-Fold.ensures.is c.in_ok-moved-in-Fold.ensures.is)
+    node_built _ _ _ _ (st_func_tree c.args.s.now) (st_node_tree c.args.node.now)
+    (part_behind (reduce_part c.in_ok-fold-in-Fold.fold) (gather_part (move_of c.in_ok-moved-in-Fold.moved))) _
+    (fold_node _ (st_func_tree c.args.s.now) (st_node_tree c.args.node.now) _ c.in-Fold.op c.in-Fold.slots c.in-Fold.lanes
+    (st_tree c.in-Fold.raw) c.in_ok-fold-in-Fold.fold (move_of c.in_ok-moved-in-Fold.moved) c.requires.ready
+    (ap st_op_tree c.in-Fold.is) c.in_ok-fold-in-Fold.ensures.is c.in_ok-moved-in-Fold.ensures.is)
     c.fold_and_move.ensures.bundle c.fold_and_move.ensures.law
 
 -- ---- scans
@@ -120,24 +143,31 @@ scanning-requires-clause-some c = ready_some _ (st_func_tree c.args.s.now) (st_n
 
 pub place-requires-in-Scan-clause-does : goal.place-requires-in-Scan-clause-does
 place-requires-in-Scan-clause-does c =
-    scan_node _ (st_func_tree c.args.s.now) (st_node_tree c.args.node.now) _ c.in-Scan.op c.in-Scan.slots c.in-Scan.lanes c.in_ok-stage-in-Scan.stage c.requires.ready (ap st_op_tree c.in-Scan.is) c.in_ok-stage-in-Scan.ensures.is
+    scan_node _ (st_func_tree c.args.s.now) (st_node_tree c.args.node.now) _ c.in-Scan.op c.in-Scan.slots c.in-Scan.lanes c.in_ok-stage-in-Scan.stage
+    c.requires.ready (ap st_op_tree c.in-Scan.is) c.in_ok-stage-in-Scan.ensures.is
 
 -- ---- wires
 
 pub returns-in-Join-clause-built : goal.returns-in-Join-clause-built
 returns-in-Join-clause-built c =
     if_made c.pairs_of.result _ _
-    (λ y are known. join_built known (st_func_tree c.args.s.now) (st_node_tree c.args.node.now) c.args.nl.now c.args.clocks.now.rst c.args.at c.args.args.now y c.requires.ready (ap st_op_tree c.in-Join.is) are) c.pairs_of.ensures.pairs
+    (λ y are known. join_built known (st_func_tree c.args.s.now)
+    (st_node_tree c.args.node.now) c.args.nl.now c.args.clocks.now.rst c.args.at c.args.args.now y c.requires.ready (ap st_op_tree c.in-Join.is) are)
+    c.pairs_of.ensures.pairs
 
 pub returns-in-First-clause-built : goal.returns-in-First-clause-built
 returns-in-First-clause-built c =
     if_made c.part_of.result _ _
-    (λ y are known. part_built known (st_func_tree c.args.s.now) (st_node_tree c.args.node.now) c.args.nl.now c.args.clocks.now.rst c.args.at c.args.args.now true y c.requires.ready (ap st_op_tree c.in-First.is) are) c.part_of.ensures.parts
+    (λ y are known. part_built known (st_func_tree c.args.s.now)
+    (st_node_tree c.args.node.now) c.args.nl.now c.args.clocks.now.rst c.args.at c.args.args.now true y c.requires.ready (ap st_op_tree c.in-First.is) are)
+    c.part_of.ensures.parts
 
 pub returns-in-Second-clause-built : goal.returns-in-Second-clause-built
 returns-in-Second-clause-built c =
     if_made c.part_of-in-Second.result _ _
-    (λ y are known. part_built known (st_func_tree c.args.s.now) (st_node_tree c.args.node.now) c.args.nl.now c.args.clocks.now.rst c.args.at c.args.args.now false y c.requires.ready (ap st_op_tree c.in-Second.is) are)
+    (λ y are known. part_built known (st_func_tree c.args.s.now)
+    (st_node_tree c.args.node.now) c.args.nl.now c.args.clocks.now.rst c.args.at c.args.args.now false y c.requires.ready
+    (ap st_op_tree c.in-Second.is) are)
     c.part_of-in-Second.ensures.parts
 
 pub returns-in-Join-clause-keeps : goal.returns-in-Join-clause-keeps

@@ -8,12 +8,15 @@ use Rattle.ae_lower.proofs.nodes.operation.Goals.{in-Mux, in_default}
 pub first_width-width-requires : goal.first_width-width-requires
 first_width-width-requires c =
     let low : c.match-op.main < length c.args.node.now.args.items = elim c.match-op.branch [
-      | in-Mux w ↦ rw w.main-is (choice_some c.requires.ready.0 (st_func_tree c.args.s.now) (st_node_tree c.args.node.now) c.requires.ready.1 c.args.op c.requires.ready.2 c.requires.is w.in-Mux.is)
-      | in_default w ↦ rw w.main-is (word_some c.requires.ready.0 (st_func_tree c.args.s.now) (st_node_tree c.args.node.now) c.requires.ready.1 c.args.op c.requires.ready.2 c.requires.is)
+      | in-Mux w ↦ rw w.main-is (choice_some c.requires.ready.0 (st_func_tree c.args.s.now)
+          (st_node_tree c.args.node.now) c.requires.ready.1 c.args.op c.requires.ready.2 c.requires.is w.in-Mux.is)
+      | in_default w ↦ rw w.main-is (word_some c.requires.ready.0 (st_func_tree c.args.s.now)
+          (st_node_tree c.args.node.now) c.requires.ready.1 c.args.op c.requires.ready.2 c.requires.is)
     ] in
     let found : slice_get c.args.node.now.args.items c.match-op.main ≡ Some c.index.result.now =
     slice_get_read c.args.node.now.args.items (length c.args.node.now.args.items) c.match-op.main c.index.result.now refl low c.index.ensures in
-    rw c.layout.ensures (found_item c.requires.ready.0 (st_func_tree c.args.s.now) (st_node_tree c.args.node.now) c.requires.ready.1 c.match-op.main c.index.result.now c.requires.ready.2 found).size
+    rw c.layout.ensures (found_item c.requires.ready.0 (st_func_tree c.args.s.now)
+    (st_node_tree c.args.node.now) c.requires.ready.1 c.match-op.main c.index.result.now c.requires.ready.2 found).size
 
 pub new-requires-clause-some : goal.new-requires-clause-some
 new-requires-clause-some c = ready_some c.requires.ready.0 (st_func_tree c.args.s.now) (st_node_tree c.args.node.now) c.requires.ready.1 c.requires.ready.2

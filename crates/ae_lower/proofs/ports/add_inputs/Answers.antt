@@ -13,10 +13,12 @@ param_inputs-requires-clause-room c =
 pub loop-k-preserved : goal.loop-k-preserved
 loop-k-preserved c =
     let t = c.index-layouts-k.result in
-    let found : slice_get c.args.layouts.now c.loop-k.k ≡ Some t = slice_get_read c.args.layouts.now (length c.args.layouts.now) c.loop-k.k t refl (omega arith) c.index-layouts-k.is in
+    let found : slice_get c.args.layouts.now c.loop-k.k ≡ Some t = slice_get_read c.args.layouts.now (length c.args.layouts.now) c.loop-k.k t refl
+    (omega arith) c.index-layouts-k.is in
     let one = c.in_ok-bundle.ensures in
     record {
       cells = params_more _ _ _ c.args.layouts.now c.loop-k.k t c.in_ok-bundle.bundle found c.loop-k.invariant.cells one;
-      bundles = bundles_more _ _ _ c.args.layouts.now c.loop-k.k t c.in_ok-bundle.bundle _ _ found c.loop-k.invariant.cells one c.in_ok-push.ensures.items c.loop-k.invariant.bundles;
+      bundles = bundles_more _ _ _ c.args.layouts.now c.loop-k.k t c.in_ok-bundle.bundle _ _ found c.loop-k.invariant.cells one c.in_ok-push.ensures.items
+          c.loop-k.invariant.bundles;
       most = omega (arith, c.loop-k.invariant.most, params_most _ _ c.loop-k.k t c.in_ok-bundle.bundle (c.requires.in_size c.loop-k.k t found) one);
     }

@@ -38,7 +38,8 @@ lane_outputs-requires-clause-nets c =
     let ends : c.loop-lane.lane * words + words ≤ length c.nets-nets.result.now = rw size (omega (arith, inside, long)) in
     let own : HaveOwnWidths c.args.nl.now.cells (take (first + words - first) (drop first c.nets-nets.result.now)) =
     stretch_own c.args.nl.now.cells c.nets-nets.result.now first (first + words - first) (omega (arith, ends)) (own_widths nets) in
-    subst (λ (cells : List SizedCell). HaveOwnWidths cells (take (first + words - first) (drop first c.nets-nets.result.now))) (sym (outputs_cells c.loop-lane.invariant)) own
+    subst (λ (cells : List SizedCell). HaveOwnWidths cells (take (first + words - first) (drop first c.nets-nets.result.now)))
+    (sym (outputs_cells c.loop-lane.invariant)) own
 
 pub loop-lane-preserved : goal.loop-lane-preserved
 loop-lane-preserved c =
@@ -59,5 +60,6 @@ returns c =
     let size : lanes t * c.element_words-words.result ≡ length c.args.bundle.now = rw c.element_words-words.ensures (omega (arith, long)) in
     let P : List NetId → Type 0 = λ ns. AddsOutputs c.args.nl.now c.loop-lane.nl (lane_ports (Out c.args.number) (stream_of t).widths (lanes t)) ns in
     let is : take (lanes t * c.element_words-words.result) c.nets-nets.result.now ≡ c.args.bundle.now =
-    ap (take (lanes t * c.element_words-words.result)) c.nets-nets.ensures ∙ take_all (lanes t * c.element_words-words.result) c.args.bundle.now (omega (arith, size)) in
+    ap (take (lanes t * c.element_words-words.result)) c.nets-nets.ensures ∙
+    take_all (lanes t * c.element_words-words.result) c.args.bundle.now (omega (arith, size)) in
     subst P is (rw all at c.loop-lane.invariant)

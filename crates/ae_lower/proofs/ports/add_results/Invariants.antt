@@ -8,6 +8,7 @@ use Rattle.ae_lower.proofs.ports.add_results.Given as goal
 
 abbrev pub invariant-loop-number : goal.invariant-loop-number
 invariant-loop-number l = record {
-  outputs : AddsOutputs l.fn.nl l.nl (output_ports (map (item_stream (st_func_tree l.s)) (take l.number l.s.results.items))) (flat_map (λ (b : List NetId). b) (take l.number l.bundles));
+  outputs : AddsOutputs l.fn.nl l.nl (output_ports (map (item_stream (st_func_tree l.s)) (take l.number l.s.results.items)))
+      (flat_map (λ (b : List NetId). b) (take l.number l.bundles));
   few : length l.nl.outlets ≤ l.number * 16384;
 }

@@ -10,17 +10,28 @@ use Rattle.ae_lower.proofs.ports.lane_inputs.Goals as goal
 pub add_input-requires-clause-room : goal.add_input-requires-clause-room
 add_input-requires-clause-room c =
     let widths = map (λ (k : WordKind). k.width) (atom_kinds (atom_tree c.args.atom.now)) in
-    let all : length widths ≡ atom_words (atom_tree c.args.atom.now) = length-map (atom_kinds (atom_tree c.args.atom.now)) (λ (k : WordKind). k.width) ∙ length-atom_kinds (atom_tree c.args.atom.now) in
+    let all : length widths ≡ atom_words (atom_tree c.args.atom.now) = length-map (atom_kinds (atom_tree c.args.atom.now)) (λ (k : WordKind). k.width) ∙
+    length-atom_kinds (atom_tree c.args.atom.now) in
     let below : c.loop-word.word < atom_words (atom_tree c.args.atom.now) = omega arith in
     let few : length (take c.loop-word.word widths) ≡ c.loop-word.word = length-take-le c.loop-word.word widths (omega (arith, all, below)) in
-    omega (arith, inputs_long c.loop-word.invariant, inputs_limit c.loop-word.invariant, length-word_ports (In c.args.param c.args.lane) 0 (take c.loop-word.word widths), few, below, c.requires.room)
+    omega (
+      arith,
+      inputs_long c.loop-word.invariant,
+      inputs_limit c.loop-word.invariant,
+      length-word_ports (In c.args.param c.args.lane) 0 (take c.loop-word.word widths),
+      few,
+      below,
+      c.requires.room,
+    )
 
 pub loop-word-preserved : goal.loop-word-preserved
 loop-word-preserved c =
-    lane_more _ _ _ _ _ _ (In c.args.param c.args.lane) (map (λ (k : WordKind). k.width) (atom_kinds (atom_tree c.args.atom.now))) c.loop-word.word c.word_width-width.result c.in_ok-net.net
+    lane_more _ _ _ _ _ _ (In c.args.param c.args.lane) (map (λ (k : WordKind). k.width) (atom_kinds (atom_tree c.args.atom.now))) c.loop-word.word
+    c.word_width-width.result c.in_ok-net.net
     c.word_width-width.ensures.width c.in_ok-net.ensures.added c.in_ok-net.ensures.net c.in_ok-push.ensures.items c.loop-word.invariant
 
 pub returns : goal.returns
 returns c =
     let long = length-map (atom_kinds (atom_tree c.args.atom.now)) (λ (k : WordKind). k.width) in
-    rw (take_all c.loop-word.word (map (λ (k : WordKind). k.width) (atom_kinds (atom_tree c.args.atom.now))) (omega (arith, long, length-atom_kinds (atom_tree c.args.atom.now)))) at c.loop-word.invariant
+    rw (take_all c.loop-word.word (map (λ (k : WordKind). k.width) (atom_kinds (atom_tree c.args.atom.now)))
+    (omega (arith, long, length-atom_kinds (atom_tree c.args.atom.now)))) at c.loop-word.invariant

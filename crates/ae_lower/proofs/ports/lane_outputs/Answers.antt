@@ -7,4 +7,5 @@ use Rattle.ae_lower.proofs.ports.lane_outputs.Goals as goal
 
 pub loop-word-preserved : goal.loop-word-preserved
 loop-word-preserved c =
-    words_more _ _ _ (Out c.args.number c.args.lane) c.args.nets.now c.loop-word.word _ (slice_get-get_or c.args.nets.now c.loop-word.word _ (omega arith)) c.in_ok-add_output.ensures.ok c.loop-word.invariant
+    words_more _ _ _ (Out c.args.number c.args.lane) c.args.nets.now c.loop-word.word _
+    (slice_get-get_or c.args.nets.now c.loop-word.word _ (omega arith)) c.in_ok-add_output.ensures.ok c.loop-word.invariant

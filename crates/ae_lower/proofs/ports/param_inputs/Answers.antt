@@ -10,7 +10,8 @@ use Rattle.ae_lower.proofs.Outputs.{lane_inside}
 use Rattle.ae_lower.proofs.ports.param_inputs.Goals as goal
 
 pub lane_inputs-requires-clause-in_size : goal.lane_inputs-requires-clause-in_size
-lane_inputs-requires-clause-in_size c = subst (λ (a : AtomTree). IsTrue (atom_in_size a)) (sym c.atom.ensures) (sized_atom (st_tree c.args.layout.now) c.requires.in_size.lengths)
+lane_inputs-requires-clause-in_size c =
+    subst (λ (a : AtomTree). IsTrue (atom_in_size a)) (sym c.atom.ensures) (sized_atom (st_tree c.args.layout.now) c.requires.in_size.lengths)
 
 pub lane_inputs-requires-clause-room : goal.lane_inputs-requires-clause-room
 lane_inputs-requires-clause-room c =

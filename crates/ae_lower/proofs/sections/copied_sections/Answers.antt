@@ -20,7 +20,8 @@ loop-i-preserved c =
     let within = c.in_ok-places.ensures.marks.within i c.index.result.now here in
     record {
       are = sections_wider c.index.result.now (length c.args.made.now) c.begin.new.sections.items within begun.are;
-      copied = copied_more sections c.loop-i.copied.items c.begin.new.sections.items places (length c.args.made.now) (length c.deref.result.now) i c.index.result.now _ _ c.in_ok-places.ensures.marks here (slice_get-get_or sections i _ there) refl begun
+      copied = copied_more sections c.loop-i.copied.items c.begin.new.sections.items places (length c.args.made.now)
+          (length c.deref.result.now) i c.index.result.now _ _ c.in_ok-places.ensures.marks here (slice_get-get_or sections i _ there) refl begun
           c.loop-i.invariant.copied;
     }
 
@@ -34,4 +35,5 @@ returns-clause-copied c = λ m own here.
     (c.in_ok-places.ensures.cut c.requires.sections.0 (length sections) (rw same (cells_marks c.requires.sections.0 sections c.requires.sections.1))) in
     let long : length places ≡ length sections = omega (arith, c.in_ok-places.ensures.marks.long, ap length same, length-map sections first_cell) in
     let end : c.loop-i.i ≡ length sections = omega (arith, c.loop-i-test.false, c.loop-i.auto.i-end) in
-    copied_all c.args.made.now sections c.loop-i.copied.items places m own cut long (subst (λ (n : ℕ). AreCopied sections places n c.loop-i.copied.items) end c.loop-i.invariant.copied) here
+    copied_all c.args.made.now sections c.loop-i.copied.items places m own cut long
+    (subst (λ (n : ℕ). AreCopied sections places n c.loop-i.copied.items) end c.loop-i.invariant.copied) here

@@ -7,7 +7,8 @@ use Rattle.ae_lower.proofs.stages.constant.Goals as goal
 
 pub of_move-requires : goal.of_move-requires
 of_move-requires c =
-    let e : map origin_tree c.in_ok-source.source.items ≡ map fixed c.args.fixed.now = all_fixed c.args.fixed.now c.in_ok-source.source.items c.in_ok-source.ensures in
+    let e : map origin_tree c.in_ok-source.source.items ≡ map fixed c.args.fixed.now = all_fixed c.args.fixed.now c.in_ok-source.source.items
+    c.in_ok-source.ensures in
     let t : st_tree c.in_ok-layout.layout ≡ st_tree c.args.out.now = c.in_ok-layout.ensures in
     rw (e, t, c.new.ensures.items) (record {
       move = constant_is_move c.args.fixed.now (st_tree c.args.out.now) c.requires.out
@@ -17,6 +18,7 @@ of_move-requires c =
 
 pub returns : goal.returns
 returns c =
-    let e : map origin_tree c.in_ok-source.source.items ≡ map fixed c.args.fixed.now = all_fixed c.args.fixed.now c.in_ok-source.source.items c.in_ok-source.ensures in
+    let e : map origin_tree c.in_ok-source.source.items ≡ map fixed c.args.fixed.now = all_fixed c.args.fixed.now c.in_ok-source.source.items
+    c.in_ok-source.ensures in
     let t : st_tree c.in_ok-layout.layout ≡ st_tree c.args.out.now = c.in_ok-layout.ensures in
     record { is = rw (e, t, c.new.ensures.items) at c.of_move.ensures }

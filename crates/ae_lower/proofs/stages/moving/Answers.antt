@@ -8,7 +8,8 @@ use Rattle.ae_lower.proofs.stages.moving.Goals as goal
 
 pub of_move-requires : goal.of_move-requires
 of_move-requires c =
-    let e : map origin_tree c.in_ok-source.source.items ≡ (op_move c.args.how (st_tree c.args.arg.now) (st_tree c.args.out.now)).origins = c.in_ok-source.ensures in
+    let e : map origin_tree c.in_ok-source.source.items ≡ (op_move c.args.how (st_tree c.args.arg.now)
+    (st_tree c.args.out.now)).origins = c.in_ok-source.ensures in
     let t : st_tree c.in_ok-layout.layout ≡ st_tree c.args.out.now = c.in_ok-layout.ensures in
     let i : map st_tree c.push.new.self.items ≡ st_tree c.args.arg.now ∷ [] =
     ap (map st_tree) c.in_ok-push.ensures.items ∙ (ap (λ (v : List StType). map st_tree (v ++ c.in_ok-copy.field-0 ∷ [])) c.new-ins.ensures.items
@@ -22,7 +23,8 @@ of_move-requires c =
 
 pub returns : goal.returns
 returns c =
-    let e : map origin_tree c.in_ok-source.source.items ≡ (op_move c.args.how (st_tree c.args.arg.now) (st_tree c.args.out.now)).origins = c.in_ok-source.ensures in
+    let e : map origin_tree c.in_ok-source.source.items ≡ (op_move c.args.how (st_tree c.args.arg.now)
+    (st_tree c.args.out.now)).origins = c.in_ok-source.ensures in
     let t : st_tree c.in_ok-layout.layout ≡ st_tree c.args.out.now = c.in_ok-layout.ensures in
     let i : map st_tree c.push.new.self.items ≡ st_tree c.args.arg.now ∷ [] =
     ap (map st_tree) c.in_ok-push.ensures.items ∙ (ap (λ (v : List StType). map st_tree (v ++ c.in_ok-copy.field-0 ∷ [])) c.new-ins.ensures.items

@@ -26,5 +26,6 @@ returns c =
     let t : StTree = c.requires.arranged.0 in
     let e : st_tree c.in_ok-element.element ≡ t = c.in_ok-element.ensures ∙ c.elements_of.ensures c.args.slots t c.requires.arranged.1.0 in
     let P : FoldShape → Type 0 =
-    λ r. (r.op ≡ c.args.op) × (r.slots ≡ c.args.slots) × (r.lanes ≡ c.args.lanes) × (r.period ≡ c.args.budget) × IsArranged c.args.slots c.args.lanes (st_tree r.element) (st_tree c.args.out.now) in
+    λ r. (r.op ≡ c.args.op) × (r.slots ≡ c.args.slots) × (r.lanes ≡ c.args.lanes) × (r.period ≡ c.args.budget)
+    × IsArranged c.args.slots c.args.lanes (st_tree r.element) (st_tree c.args.out.now) in
     record { is = subst P (sym c.of_shape.ensures) (refl, refl, refl, refl, rw e c.requires.arranged.1.0) }

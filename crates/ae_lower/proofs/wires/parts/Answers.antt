@@ -7,6 +7,7 @@ loop-e-preserved c =
     let ends = stretch_ends c.loop-e.e c.args.count c.args.k c.args.from c.args.l c.loop-e-test.true c.requires.inside in
     record {
       parts = rw (c.in_ok-extend_from_slice.ensures.items)
-          (parts_more c.args.nets.now c.loop-e.out.items _ c.loop-e.e c.args.k c.args.from c.args.l refl (omega (arith, ends, c.requires.long)) c.loop-e.invariant.parts);
+          (parts_more c.args.nets.now c.loop-e.out.items _ c.loop-e.e c.args.k c.args.from c.args.l refl
+          (omega (arith, ends, c.requires.long)) c.loop-e.invariant.parts);
       within = omega (arith, c.loop-e-test.true);
     }

@@ -10,4 +10,5 @@ returns-clause-err c = refused_behind _ c.delayed.new.nl c.compute.new.nl c.comp
 
 pub returns-clause-words : goal.returns-clause-words
 returns-clause-words c =
-    squared c.args.nl.now c.delayed.new.nl c.compute.new.nl c.compute.result c.args.x c.in_ok-held.held c.args.width c.in_ok-held.ensures.words c.compute.ensures.adds c.compute.ensures.words
+    squared c.args.nl.now c.delayed.new.nl c.compute.new.nl c.compute.result c.args.x c.in_ok-held.held c.args.width c.in_ok-held.ensures.words
+    c.compute.ensures.adds c.compute.ensures.words

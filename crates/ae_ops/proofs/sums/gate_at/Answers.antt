@@ -9,5 +9,6 @@ pub returns-in-Op-Mux-default : goal.returns-in-Op-Mux-default
 returns-in-Op-Mux-default c =
     let args = c.in-Op-Mux-default.args in
     let mux : c.in-Op-Mux-default.field-0 ≡ Mux = rw c.in-Op-Mux-default.is at c.in-Op-Mux-default.field-0-is in
-    gate_of c.args.nl.now.cells c.args.net.0 c.in_ok-sized.sized args c.formed.ensures.cells (sym c.in_ok-sized.ensures) (c.in-Op-Mux-default.is ∙ ap (λ (op : WordOp). Op op args) mux)
+    gate_of c.args.nl.now.cells c.args.net.0 c.in_ok-sized.sized args c.formed.ensures.cells (sym c.in_ok-sized.ensures)
+    (c.in-Op-Mux-default.is ∙ ap (λ (op : WordOp). Op op args) mux)
     (c.is_zero.ensures c.if-is_zero.true)

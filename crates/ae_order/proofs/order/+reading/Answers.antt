@@ -27,12 +27,14 @@ add_names-returns-in-Concat t c =
 pub add_parts-add_names-requires : goal.add_parts-add_names-requires
 add_parts-add_names-requires t c =
     let found = at_turn expr_tree c.args.parts.now c.loop-part.part-index c.part-item.result (omega arith) c.part-item.is in
-    let sound : IsSound c.args.names.now (expr_tree c.part-item.result) = parts_sound c.args.names.now (map expr_tree c.args.parts.now) c.requires.sound c.loop-part.part-index _ found in
+    let sound : IsSound c.args.names.now (expr_tree c.part-item.result) = parts_sound c.args.names.now
+    (map expr_tree c.args.parts.now) c.requires.sound c.loop-part.part-index _ found in
     search (rules, the_lemmas, sound)
 
 pub add_parts-loop-part-preserved : goal.add_parts-loop-part-preserved
 add_parts-loop-part-preserved t c =
-    more_names (place_of c.args.names.now) _ _ _ (map expr_tree c.args.parts.now) c.loop-part.part-index (expr_tree c.part-item.result) c.loop-part.invariant c.in_ok-add_names.ensures
+    more_names (place_of c.args.names.now) _ _ _ (map expr_tree c.args.parts.now) c.loop-part.part-index
+    (expr_tree c.part-item.result) c.loop-part.invariant c.in_ok-add_names.ensures
     (take_turn expr_tree c.args.parts.now c.loop-part.part-index c.part-item.result (omega arith) c.part-item.is)
 
 pub add_parts-returns : goal.add_parts-returns

@@ -38,7 +38,8 @@ loop-item-preserved c =
     let there = rw c.deref-item-items.ensures.value at turn in
     record {
       long = c.note_item.ensures.long;
-      noted = more_items c.args.names.now _ _ _ (map item_tree c.args.m.now.items.items) c.loop-item.item-index (item_tree c.item-item.result) c.loop-item.invariant.noted c.note_item.ensures.noted there;
+      noted = more_items c.args.names.now _ _ _ (map item_tree c.args.m.now.items.items) c.loop-item.item-index
+          (item_tree c.item-item.result) c.loop-item.invariant.noted c.note_item.ensures.noted there;
     }
 
 pub returns : goal.returns
@@ -48,6 +49,7 @@ returns c =
     let same = c.deref-item-items.ensures.value in
     let all : length c.deref-item-items.result.now ≡ length c.args.m.now.items.items = ap length same in
     c.loop-item.invariant.noted
-    ∙ ap (λ is. noted c.args.names.now (replicate (length c.args.names.now) None) (flat_map drives_of is)) (take_whole (map item_tree c.args.m.now.items.items) c.loop-item.item-index (omega arith))
+    ∙ ap (λ is. noted c.args.names.now (replicate (length c.args.names.now) None) (flat_map drives_of is))
+    (take_whole (map item_tree c.args.m.now.items.items) c.loop-item.item-index (omega arith))
     ∙ ap (noted c.args.names.now (replicate (length c.args.names.now) None)) (all_equations m)
     ∙ ap (λ ns. noted ns (replicate (length ns) None) (equations m)) c.requires.names

@@ -8,5 +8,6 @@ use Rattle.ae_order.proofs.order.drive_values.Given as goal
 abbrev pub invariant-loop-item : goal.invariant-loop-item
 invariant-loop-item l = record {
   long : length l.values.items ≡ length l.names;
-  noted : map (λ v. option_map (λ e. expr_tree e.now) v) l.values.items ≡ noted l.names (replicate (length l.names) None) (flat_map drives_of (take l.item-index (map item_tree l.m.items.items)));
+  noted : map (λ v. option_map (λ e. expr_tree e.now) v) l.values.items ≡ noted l.names (replicate (length l.names) None)
+      (flat_map drives_of (take l.item-index (map item_tree l.m.items.items)));
 }

@@ -11,7 +11,9 @@ loop-place-preserved c =
     let p = c.in_ok-push.ensures.items in
     record {
       long = ap length p ∙ length-append c.loop-place.values.items (None ∷ []) ∙ ap (λ k. k + 1) i.long;
-      none = ap (map (λ v. option_map (λ e. expr_tree e.now) v)) p ∙ map-append (λ v. option_map (λ e. expr_tree e.now) v) c.loop-place.values.items (None ∷ []) ∙ ap (λ vs. vs ++ None ∷ []) i.none ∙ nones_push c.loop-place._place;
+      none = ap (map (λ v. option_map (λ e. expr_tree e.now) v)) p ∙
+          map-append (λ v. option_map (λ e. expr_tree e.now) v) c.loop-place.values.items (None ∷ []) ∙ ap (λ vs. vs ++ None ∷ []) i.none ∙
+          nones_push c.loop-place._place;
     }
 
 pub returns-clause-long : goal.returns-clause-long

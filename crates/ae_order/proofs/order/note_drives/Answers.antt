@@ -30,5 +30,6 @@ loop-drive-preserved c =
     record {
       long = length-set c.loop-drive.values.items c.place_of.result _ ∙ i.long;
       noted = map_written (λ v. option_map (λ e. expr_tree e.now) v) c.loop-drive.values.items c.place_of.result _
-          ∙ more_noted c.args.names.now _ _ (map drive_tree c.args.drives.now) c.loop-drive.drive-index c.place_of.result (drive_tree c.drive-item.result) i.noted turn place;
+          ∙ more_noted c.args.names.now _ _ (map drive_tree c.args.drives.now) c.loop-drive.drive-index c.place_of.result
+          (drive_tree c.drive-item.result) i.noted turn place;
     }

@@ -13,7 +13,8 @@ order-requires-clause-graph c =
     let s = c.deref.ensures.value in
     let u = c.deref-in-Ok.ensures.value in
     let long = length-map c.args.values.now (λ v. option_map (λ e. expr_tree e.now) v) in
-    let flat = flat_is m c.args.names.now _ (length c.args.values.now) c.in-Ok.graph.starts.items c.in-Ok.graph.targets.items c.requires.names c.requires.values (sym long) c.in-Ok.ensures in
+    let flat = flat_is m c.args.names.now _ (length c.args.values.now) c.in-Ok.graph.starts.items c.in-Ok.graph.targets.items c.requires.names
+    c.requires.values (sym long) c.in-Ok.ensures in
     rw (s, u) (flat_graph m.nets _ _ _ flat (targets_inside m c.requires.regular c.requires.shape _ _ flat))
 
 pub order-requires-clause-few : goal.order-requires-clause-few
@@ -22,7 +23,8 @@ order-requires-clause-few c =
     let s = c.deref.ensures.value in
     let u = c.deref-in-Ok.ensures.value in
     let long = length-map c.args.values.now (λ v. option_map (λ e. expr_tree e.now) v) in
-    let flat = flat_is m c.args.names.now _ (length c.args.values.now) c.in-Ok.graph.starts.items c.in-Ok.graph.targets.items c.requires.names c.requires.values (sym long) c.in-Ok.ensures in
+    let flat = flat_is m c.args.names.now _ (length c.args.values.now) c.in-Ok.graph.starts.items c.in-Ok.graph.targets.items c.requires.names
+    c.requires.values (sym long) c.in-Ok.ensures in
     let n = flat.long in
     let k = values_long m c.requires.regular c.requires.shape in
     let few = c.requires.shape.few_nets in
@@ -34,7 +36,8 @@ returns-in-Ok-clause-order c =
     let s = c.deref.ensures.value in
     let u = c.deref-in-Ok.ensures.value in
     let long = length-map c.args.values.now (λ v. option_map (λ e. expr_tree e.now) v) in
-    let flat = flat_is m c.args.names.now _ (length c.args.values.now) c.in-Ok.graph.starts.items c.in-Ok.graph.targets.items c.requires.names c.requires.values (sym long) c.in-Ok.ensures in
+    let flat = flat_is m c.args.names.now _ (length c.args.values.now) c.in-Ok.graph.starts.items c.in-Ok.graph.targets.items c.requires.names
+    c.requires.values (sym long) c.in-Ok.ensures in
     ok_map c.order.result (λ y o. order_is m c.requires.regular c.requires.shape _ _ flat _ (rw (s, u) at o)) c.order.ensures.order
 
 pub returns-in-Ok-clause-no_loop : goal.returns-in-Ok-clause-no_loop
@@ -43,7 +46,8 @@ returns-in-Ok-clause-no_loop c =
     let s = c.deref.ensures.value in
     let u = c.deref-in-Ok.ensures.value in
     let long = length-map c.args.values.now (λ v. option_map (λ e. expr_tree e.now) v) in
-    let flat = flat_is m c.args.names.now _ (length c.args.values.now) c.in-Ok.graph.starts.items c.in-Ok.graph.targets.items c.requires.names c.requires.values (sym long) c.in-Ok.ensures in
+    let flat = flat_is m c.args.names.now _ (length c.args.values.now) c.in-Ok.graph.starts.items c.in-Ok.graph.targets.items c.requires.names
+    c.requires.values (sym long) c.in-Ok.ensures in
     on_ok_from c.order.result (λ y o. no_loop_of m c.requires.regular c.requires.shape _ _ flat _ (rw (s, u) at o)) c.order.ensures.order
 
 pub returns-in-Ok-clause-fault : goal.returns-in-Ok-clause-fault
@@ -52,7 +56,8 @@ returns-in-Ok-clause-fault c =
     let s = c.deref.ensures.value in
     let u = c.deref-in-Ok.ensures.value in
     let long = length-map c.args.values.now (λ v. option_map (λ e. expr_tree e.now) v) in
-    let flat = flat_is m c.args.names.now _ (length c.args.values.now) c.in-Ok.graph.starts.items c.in-Ok.graph.targets.items c.requires.names c.requires.values (sym long) c.in-Ok.ensures in
+    let flat = flat_is m c.args.names.now _ (length c.args.values.now) c.in-Ok.graph.starts.items c.in-Ok.graph.targets.items c.requires.names
+    c.requires.values (sym long) c.in-Ok.ensures in
     err_map c.order.result (λ f h. fault_is m _ _ (loop_of m c.requires.regular c.requires.shape _ _ flat) f (rw (s, u) at h)) c.order.ensures.fault
 
 pub graph_of-requires-clause-sound : goal.graph_of-requires-clause-sound

@@ -7,7 +7,8 @@ pub returns-clause-step : goal.returns-clause-step
 returns-clause-step c =
     let pushed : c.keep.new.list.items ≡ c.args.stack.now.items ++ c.args.node ∷ [] = c.in_ok-keep.ensures.ok in
     let marked : c.set_mark.new.marks.items ≡ set c.args.marks.now.items c.args.node (At c.start_at.result) = c.set_mark.ensures in
-    rw (pushed, marked) (step_begin c.args.starts.now c.args.targets.now c.requires.graph c.args.marks.now.items c.args.stack.now.items c.args._order.now c.args.node c.start_at.result c.requires.walk c.requires.fresh c.start_at.ensures c.requires.top)
+    rw (pushed, marked) (step_begin c.args.starts.now c.args.targets.now c.requires.graph c.args.marks.now.items c.args.stack.now.items c.args._order.now
+    c.args.node c.start_at.result c.requires.walk c.requires.fresh c.start_at.ensures c.requires.top)
 
 pub returns-clause-begun : goal.returns-clause-begun
 returns-clause-begun c =

@@ -7,4 +7,5 @@ returns-clause-order c =
     let w = c.loop-root.invariant.walk in
     let long = w.long in
     let out = c.loop-root-test.false in
-    walk_ends c.args.starts.now c.args.targets.now c.requires.graph c.loop-root.marks.items c.loop-root.order.items w (λ a l. c.loop-root.invariant.begun a (omega arith))
+    walk_ends c.args.starts.now c.args.targets.now c.requires.graph c.loop-root.marks.items c.loop-root.order.items w
+    (λ a l. c.loop-root.invariant.begun a (omega arith))

@@ -21,5 +21,7 @@ pub returns : goal.returns
 returns g c =
     let b = c.args.blocks.now in
     let ins = map st_tree b.ins.now in
-    kept_of_run c.args.nl.now b.slowdown b.fill ins (blocks_of ins b.count b.words.now) c.args.clocks (g.M.Monitor.takes c.args.monitor.now) c.args.kept.now c.play.new.kept c.in_ok-sim.sim
-    c.in_ok-sim.ensures.cells c.in_ok-sim.ensures.outlets c.in_ok-sim.ensures.plays c.in_ok-play.ensures c.has_one_run_with.ensures c.fill_begins.ensures c.requires.rows
+    kept_of_run c.args.nl.now b.slowdown b.fill ins (blocks_of ins b.count b.words.now) c.args.clocks
+    (g.M.Monitor.takes c.args.monitor.now) c.args.kept.now c.play.new.kept c.in_ok-sim.sim
+    c.in_ok-sim.ensures.cells c.in_ok-sim.ensures.outlets c.in_ok-sim.ensures.plays c.in_ok-play.ensures c.has_one_run_with.ensures c.fill_begins.ensures
+    c.requires.rows

@@ -10,6 +10,7 @@ pub returns : goal.returns
 returns c =
     let ins = map st_tree c.args.ins.now in
     on_ok c.play_blocks.result _ _
-    (text_played string_bytes c.args.nl.now c.args.slowdown c.args.latency c.args.fill ins (map st_tree c.args.outs.now) (blocks_of ins c.args.blocks c.args.words.now) c.args.blocks c.clock_count-clocks.result c.args.out.now c.play_blocks.new.kept
+    (text_played string_bytes c.args.nl.now c.args.slowdown c.args.latency c.args.fill ins (map st_tree c.args.outs.now)
+    (blocks_of ins c.args.blocks c.args.words.now) c.args.blocks c.clock_count-clocks.result c.args.out.now c.play_blocks.new.kept
     (block_count ins c.args.blocks c.args.words.now) c.clock_count-clocks.ensures)
     c.play_blocks.ensures

@@ -15,6 +15,9 @@ mark-requires-clause-sized c =
 pub loop-s-preserved : goal.loop-s-preserved
 loop-s-preserved c =
     let ss = map st_tree c.args.outs.now in
-    marks_more (mark c.args.slowdown c.args.latency c.args.clock) (st_tree c.s-item.result) (drop c.loop-s.s-index ss) (drop (c.loop-s.s-index + 1) ss) c.mark.result.now
-    (string_bytes c.loop-s.out) (string_bytes c.push_str.new.self) _ (next_tree c.args.outs.now c.loop-s.s-index c.s-item.result (tree_there c.args.outs.now c.loop-s.s-index c.s-item.result c.loop-s-test.true c.s-item.is))
+    marks_more (mark c.args.slowdown c.args.latency c.args.clock) (st_tree c.s-item.result) (drop c.loop-s.s-index ss)
+    (drop (c.loop-s.s-index + 1) ss) c.mark.result.now
+    (string_bytes c.loop-s.out) (string_bytes c.push_str.new.self) _
+    (next_tree c.args.outs.now c.loop-s.s-index c.s-item.result
+    (tree_there c.args.outs.now c.loop-s.s-index c.s-item.result c.loop-s-test.true c.s-item.is))
     c.mark.ensures c.in_ok-push_str.ensures.bytes c.loop-s.invariant

@@ -5,4 +5,5 @@ use Rattle.ae_play.specs.Lines.{stands}
 use Rattle.ae_play.proofs.sums.all_stand.Given as goal
 
 abbrev pub invariant-loop-s : goal.invariant-loop-s
-invariant-loop-s l = list_all (stands l.slowdown l.latency l.clock) (drop l.s-index (map st_tree l.outs)) ≡ list_all (stands l.slowdown l.latency l.clock) (map st_tree l.outs)
+invariant-loop-s l =
+    list_all (stands l.slowdown l.latency l.clock) (drop l.s-index (map st_tree l.outs)) ≡ list_all (stands l.slowdown l.latency l.clock) (map st_tree l.outs)

@@ -12,4 +12,5 @@ returns-clause-written c =
     let ops = op_fields (func_names (func_trees c.args.funcs.now)) (op_tree c.args.node.now.op) in
     let named : List ℕ → List (List ℕ) = map (name_at (param_names (param_trees c.args.params.now) ++ node_names (node_trees c.args.nodes.now))) in
     let two = two-parts (string_bytes c.args.out.now) (string_bytes c.put_op.new.out) ops (named c.deref.result.now) c.in_ok-put_op.ensures.written in
-    subst (λ (y : List ℕ). OnOk c.put_items.result (string_bytes c.put_items.new.out ≡ y)) (two ∙ ap (λ ks. string_bytes c.args.out.now ++ spaced (ops ++ named ks)) c.deref.ensures.value) c.put_items.ensures
+    subst (λ (y : List ℕ). OnOk c.put_items.result (string_bytes c.put_items.new.out ≡ y))
+    (two ∙ ap (λ ks. string_bytes c.args.out.now ++ spaced (ops ++ named ks)) c.deref.ensures.value) c.put_items.ensures

@@ -29,17 +29,21 @@ pair-requires-clause-there c = omega (arith, left_below c.args.lanes c.args.stri
 
 pub pair-requires-clause-first : goal.pair-requires-clause-first
 pair-requires-clause-first c =
-    left_net _ c.args.folds.now c.args.nets.now c.args.lanes c.args.stride c.loop-q.q c.requires.folds (nets_grow c.loop-q.invariant.adds.grows.extends c.requires.nets) c.requires.long c.requires.placed c.requires.whole c.loop-q-test.true
+    left_net _ c.args.folds.now c.args.nets.now c.args.lanes c.args.stride c.loop-q.q c.requires.folds
+    (nets_grow c.loop-q.invariant.adds.grows.extends c.requires.nets) c.requires.long c.requires.placed c.requires.whole c.loop-q-test.true
 
 pub pair-requires-clause-second : goal.pair-requires-clause-second
 pair-requires-clause-second c = λ l.
-    right_net _ c.args.folds.now c.args.nets.now c.args.stride c.loop-q.q c.requires.folds (nets_grow c.loop-q.invariant.adds.grows.extends c.requires.nets) c.requires.whole l
+    right_net _ c.args.folds.now c.args.nets.now c.args.stride c.loop-q.q c.requires.folds
+    (nets_grow c.loop-q.invariant.adds.grows.extends c.requires.nets) c.requires.whole l
 
 pub returns-in_err-net-clause-up : goal.returns-in_err-net-clause-up
-returns-in_err-net-clause-up c = up_pair c.args.lanes c.args.stride c.loop-q.q _ c.requires.placed c.loop-q-test.true c.loop-q.invariant.adds c.in_err-net.ensures.up
+returns-in_err-net-clause-up c =
+    up_pair c.args.lanes c.args.stride c.loop-q.q _ c.requires.placed c.loop-q-test.true c.loop-q.invariant.adds c.in_err-net.ensures.up
 
 pub returns-in_err-push-clause-up : goal.returns-in_err-push-clause-up
-returns-in_err-push-clause-up c = up_pair c.args.lanes c.args.stride c.loop-q.q _ c.requires.placed c.loop-q-test.true c.loop-q.invariant.adds c.in_ok-net.ensures.up
+returns-in_err-push-clause-up c =
+    up_pair c.args.lanes c.args.stride c.loop-q.q _ c.requires.placed c.loop-q-test.true c.loop-q.invariant.adds c.in_ok-net.ensures.up
 
 pub loop-q-preserved : goal.loop-q-preserved
 loop-q-preserved c =
@@ -47,9 +51,11 @@ loop-q-preserved c =
     let more = c.in_ok-net.ensures in
     let pushed : c.push.new.self.items ≡ c.loop-q.outs.items ++ c.in_ok-net.net ∷ [] = c.in_ok-push.ensures.items in
     record {
-      adds = adds_pair c.args.lanes c.args.stride c.loop-q.q (length c.args.nets.now) _ _ c.requires.placed c.requires.long (fold_product c.args.folds.now c.loop-q.q c.requires.folds) old.adds more.adds;
+      adds = adds_pair c.args.lanes c.args.stride c.loop-q.q (length c.args.nets.now) _ _ c.requires.placed c.requires.long
+          (fold_product c.args.folds.now c.loop-q.q c.requires.folds) old.adds more.adds;
       long = rw pushed (length_push c.loop-q.outs.items c.in_ok-net.net ∙ ap (λ n. n + 1) old.long);
-      pairs = rw pushed (pairs_more _ _ c.args.folds.now c.args.nets.now c.args.stride c.loop-q.q c.loop-q.outs.items c.in_ok-net.net old.long more.adds.grows.extends old.pairs more.pair);
+      pairs = rw pushed (pairs_more _ _ c.args.folds.now c.args.nets.now c.args.stride c.loop-q.q c.loop-q.outs.items c.in_ok-net.net old.long
+          more.adds.grows.extends old.pairs more.pair);
     }
 
 pub returns-clause-adds : goal.returns-clause-adds

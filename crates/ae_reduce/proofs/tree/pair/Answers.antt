@@ -13,10 +13,14 @@ adds_two : {a b : Circuit} (right total own : ℕ) → right < total → Adds a 
 adds_two right total own less h = let t : nat_lt right total ≡ true = search rules in rw t (adds_is (omega arith) (omega arith) h)
 
 pub returns-in_ok-both-clause-pair : goal.returns-in_ok-both-clause-pair
-returns-in_ok-both-clause-pair c = pair_both _ c.args.fold c.args.nets.now c.args.left c.args.right _ _ c.in_ok-both.both c.if-right-nets.true refl refl c.in_ok-both.ensures.net c.in_ok-both.ensures.words
+returns-in_ok-both-clause-pair c =
+    pair_both _ c.args.fold c.args.nets.now c.args.left c.args.right _ _ c.in_ok-both.both c.if-right-nets.true refl refl c.in_ok-both.ensures.net
+    c.in_ok-both.ensures.words
 
 pub returns-in_ok-later-clause-pair : goal.returns-in_ok-later-clause-pair
-returns-in_ok-later-clause-pair c = pair_one _ _ c.args.fold c.args.nets.now c.args.left c.args.right _ c.in_ok-later.later c.if-right-nets.false refl c.in_ok-later.ensures.net c.in_ok-later.ensures.words
+returns-in_ok-later-clause-pair c =
+    pair_one _ _ c.args.fold c.args.nets.now c.args.left c.args.right _ c.in_ok-later.later c.if-right-nets.false refl c.in_ok-later.ensures.net
+    c.in_ok-later.ensures.words
 
 pub returns-in_err-later-clause-up : goal.returns-in_err-later-clause-up
 returns-in_err-later-clause-up c = adds_up 9 (omega arith) c.in_err-later.ensures.adds

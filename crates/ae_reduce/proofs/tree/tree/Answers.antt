@@ -13,14 +13,17 @@ pub level-requires-clause-long : goal.level-requires-clause-long
 level-requires-clause-long c = rw c.deref.ensures.value c.loop-i.invariant.long
 
 pub returns-in_err-last-clause-up : goal.returns-in_err-last-clause-up
-returns-in_err-last-clause-up c = up_level c.args.lanes c.loop-i.count c.args.stride c.loop-i.i c.args.levels _ c.loop-i.invariant.less c.loop-i-test.true c.loop-i.invariant.adds c.in_err-last.ensures.up
+returns-in_err-last-clause-up c =
+    up_level c.args.lanes c.loop-i.count c.args.stride c.loop-i.i c.args.levels _ c.loop-i.invariant.less c.loop-i-test.true c.loop-i.invariant.adds
+    c.in_err-last.ensures.up
 
 pub loop-i-preserved : goal.loop-i-preserved
 loop-i-preserved c =
     let old = c.loop-i.invariant in
     let more = c.in_ok-last.ensures in
     let h = halves c.loop-i.count c.args.stride in
-    let pairs : ArePairs c.level.new.nl.cells c.args.folds.now c.loop-i.last.items c.args.stride c.in_ok-last.last.items = rw c.deref.ensures.value at more.pairs in
+    let pairs : ArePairs c.level.new.nl.cells c.args.folds.now c.loop-i.last.items c.args.stride c.in_ok-last.last.items = rw c.deref.ensures.value at
+    more.pairs in
     record {
       adds = adds_level c.args.lanes c.loop-i.count c.args.stride c.loop-i.i _ old.less old.adds more.adds;
       less = omega (arith, old.less);
@@ -29,7 +32,8 @@ loop-i-preserved c =
       some = omega (arith, old.some);
       few = omega (arith, old.few);
       deep = halved c.loop-i.count c.args.levels c.loop-i.i c.loop-i-test.true old.deep;
-      alike = alike_more _ _ c.args.folds.now _ c.args.stride c.args.lanes c.args.nets.items c.loop-i.count c.loop-i.i c.loop-i.last.items c.in_ok-last.last.items more.adds.grows.extends c.requires.folds (turns_of c.args.stride (length c.args.folds.now) c.requires.whole)
+      alike = alike_more _ _ c.args.folds.now _ c.args.stride c.args.lanes c.args.nets.items c.loop-i.count c.loop-i.i c.loop-i.last.items
+          c.in_ok-last.last.items more.adds.grows.extends c.requires.folds (turns_of c.args.stride (length c.args.folds.now) c.requires.whole)
           old.nets old.some old.long more.long old.alike pairs;
     }
 
@@ -64,5 +68,6 @@ returns-clause-words c =
     let few : c.loop-i.count ≤ 2 ^ 0 = rw zero_left at c.loop-i.invariant.deep in
     let one : c.loop-i.count ≡ 1 = omega (arith, few, c.loop-i.invariant.some) in
     let long : length c.loop-i.last.items ≡ 1 * c.args.stride = rw one at c.loop-i.invariant.long in
-    alike_end _ c.args.folds.now _ c.args.stride c.args.lanes c.args.nets.items c.loop-i.count c.args.levels ((c.args.lanes - 1) * c.args.stride) c.loop-i.last.items c.requires.folds.some (turns_of c.args.stride (length c.args.folds.now) c.requires.whole)
+    alike_end _ c.args.folds.now _ c.args.stride c.args.lanes c.args.nets.items c.loop-i.count c.args.levels
+    ((c.args.lanes - 1) * c.args.stride) c.loop-i.last.items c.requires.folds.some (turns_of c.args.stride (length c.args.folds.now) c.requires.whole)
     one (omega arith) refl c.loop-i.invariant.nets (rw e at c.loop-i.invariant.alike)

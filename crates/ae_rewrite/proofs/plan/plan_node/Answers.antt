@@ -8,5 +8,6 @@ plan_op-requires-clause-few c = shift-of-few (program_tree c.args.p.now) c.args.
 
 pub plan_op-requires-clause-plain : goal.plan_op-requires-clause-plain
 plan_op-requires-clause-plain c = λ e h.
-    plain-there (program_tree c.args.p.now) c.args.func c.args.budget c.args.item (node_tree c.args.node.now) _ c.requires.formed c.requires.there c.in_ok-ty.ensures.layout c.requires.laid
+    plain-there (program_tree c.args.p.now) c.args.func c.args.budget c.args.item
+    (node_tree c.args.node.now) _ c.requires.formed c.requires.there c.in_ok-ty.ensures.layout c.requires.laid
     (sym c.called_by-call.ensures ∙ e) h

@@ -9,4 +9,5 @@ use Rattle.ae_rewrite.proofs.plan.plan_nodes.Given as goal
 
 abbrev pub invariant-loop-k : goal.invariant-loop-k
 invariant-loop-k l =
-    Nodes (program_tree l.p) (HasPlan (row_lists l.rows)) (failing (program_tree l.p)) l.func l.budget (length l.f.params.items) (node_trees l.f.nodes.items) l.k (st_node_trees l.nodes.items)
+    Nodes (program_tree l.p) (HasPlan (row_lists l.rows)) (failing (program_tree l.p)) l.func l.budget (length l.f.params.items)
+    (node_trees l.f.nodes.items) l.k (st_node_trees l.nodes.items)

@@ -22,7 +22,8 @@ loop-i-preserved c =
     rw c.in_ok-append_layout.ensures
     (record {
       layouts = layouts-push c.args.budget (param_trees c.args.f.now.params.items) c.loop-i.i q.0 _ _ q.1
-          (sym (param-layout (program_tree c.args.p.now) c.args.func c.args.budget c.loop-i.i (func_tree c.args.f.now) q.0 c.requires.here q.1) ∙ c.in_ok-layout_at.ensures.layout)
+          (sym (param-layout (program_tree c.args.p.now) c.args.func c.args.budget c.loop-i.i (func_tree c.args.f.now) q.0 c.requires.here q.1) ∙
+          c.in_ok-layout_at.ensures.layout)
           c.loop-i.invariant.layouts;
       filling = filling-more c.args.budget _ _ c.loop-i.invariant.filling c.in_ok-layout_at.ensures.filling;
     })

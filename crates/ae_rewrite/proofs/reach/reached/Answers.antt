@@ -8,7 +8,8 @@ use Rattle.ae_rewrite.proofs.reach.reached.Goals as goal
 
 pub loop-func-init : goal.loop-func-init
 loop-func-init c = record {
-  reaches = reaches-start (program_tree c.args.p.now) c.args.slowdown c.main_of-main.result (number_lists c.in_ok-needs.needs.items) _ (rw c.program.ensures.program at c.main_of-main.ensures.main)
+  reaches = reaches-start (program_tree c.args.p.now) c.args.slowdown c.main_of-main.result (number_lists c.in_ok-needs.needs.items) _
+      (rw c.program.ensures.program at c.main_of-main.ensures.main)
       (rw length-map c.in_ok-needs.ensures.count) c.in_ok-needs.ensures.empty c.in_ok-visit.ensures.added c.in_ok-visit.ensures.closed;
   low = omega arith;
 }
@@ -20,9 +21,11 @@ visit_all-requires-clause-positive c = λ u a.
 pub loop-func-preserved : goal.loop-func-preserved
 loop-func-preserved c =
     let e : c.loop-func.func ≡ c.loop-func.func - 1 + 1 = omega arith in
-    let old : Reaches (program_tree c.args.p.now) c.args.slowdown (c.loop-func.func - 1 + 1) (number_lists c.loop-func.needs.items) = rw (← e) c.loop-func.invariant.reaches in
+    let old : Reaches (program_tree c.args.p.now) c.args.slowdown (c.loop-func.func - 1 + 1)
+    (number_lists c.loop-func.needs.items) = rw (← e) c.loop-func.invariant.reaches in
     record {
-      reaches = reaches-more (program_tree c.args.p.now) c.args.slowdown (c.loop-func.func - 1) (number_lists c.loop-func.needs.items) _ old c.in_ok-visit_all.ensures.added c.in_ok-visit_all.ensures.closed;
+      reaches = reaches-more (program_tree c.args.p.now) c.args.slowdown (c.loop-func.func - 1)
+          (number_lists c.loop-func.needs.items) _ old c.in_ok-visit_all.ensures.added c.in_ok-visit_all.ensures.closed;
       low = omega (arith, c.loop-func.invariant.low);
     }
 

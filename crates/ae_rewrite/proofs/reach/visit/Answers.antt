@@ -8,14 +8,17 @@ use Rattle.ae_rewrite.proofs.reach.visit.Goals as goal
 
 pub loop-k-preserved : goal.loop-k-preserved
 loop-k-preserved c =
-    let at = node-there c.func_of-f.result.now.nodes.items c.loop-k.k c.node-item.result (rw c.deref-node-items.ensures.value at c.loop-k-test.true) (rw c.deref-node-items.ensures.value at c.node-item.is) in
-    visits-more (program_tree c.args.p.now) c.args.func c.args.budget (number_lists c.args.needs.now.items) (number_lists c.loop-k.needs.items) _ c.loop-k.k (func_tree c.func_of-f.result.now) (node_tree c.node-item.result)
+    let at = node-there c.func_of-f.result.now.nodes.items c.loop-k.k c.node-item.result (rw c.deref-node-items.ensures.value at c.loop-k-test.true)
+    (rw c.deref-node-items.ensures.value at c.node-item.is) in
+    visits-more (program_tree c.args.p.now) c.args.func c.args.budget (number_lists c.args.needs.now.items) (number_lists c.loop-k.needs.items) _ c.loop-k.k
+    (func_tree c.func_of-f.result.now) (node_tree c.node-item.result)
     c.func_of-f.ensures.here at c.loop-k.invariant c.in_ok-visit_node.ensures.added c.in_ok-visit_node.ensures.called
 
 pub returns-clause-closed : goal.returns-clause-closed
 returns-clause-closed c =
     let over = rw c.deref-node-items.ensures.value at c.loop-k-test.false in
-    visits-end (program_tree c.args.p.now) c.args.func c.args.budget (number_lists c.args.needs.now.items) _ c.loop-k.k (func_tree c.func_of-f.result.now) c.func_of-f.ensures.here
+    visits-end (program_tree c.args.p.now) c.args.func c.args.budget (number_lists c.args.needs.now.items) _ c.loop-k.k
+    (func_tree c.func_of-f.result.now) c.func_of-f.ensures.here
     (rw length-nodes over) c.loop-k.invariant
 
 pub loop-k-init : goal.loop-k-init

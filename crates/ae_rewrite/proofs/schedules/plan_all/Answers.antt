@@ -18,13 +18,15 @@ overflow_cast-f c =
 pub plan_budgets-requires-clause-within : goal.plan_budgets-requires-clause-within
 plan_budgets-requires-clause-within c =
     let at = number-list c.args.needs.now c.loop-f.f c.index-needs-f.result c.loop-f-test.true c.index-needs-f.is in
-    rw c.deref-in-loop-f.ensures.value (within-of (program_tree c.args.p.now) c.args.slowdown c.loop-f.f (number_lists c.args.needs.now) _ c.requires.time c.requires.limit c.requires.reaches at)
+    rw c.deref-in-loop-f.ensures.value (within-of (program_tree c.args.p.now) c.args.slowdown c.loop-f.f
+    (number_lists c.args.needs.now) _ c.requires.time c.requires.limit c.requires.reaches at)
 
 pub plan_budgets-requires-clause-known : goal.plan_budgets-requires-clause-known
 plan_budgets-requires-clause-known c =
     let at = number-list c.args.needs.now c.loop-f.f c.index-needs-f.result c.loop-f-test.true c.index-needs-f.is in
     rw (c.deref-in-loop-f.ensures.value, c.deref.ensures.value)
-    (λ i u is. known-of (program_tree c.args.p.now) c.args.slowdown c.loop-f.f u (number_lists c.args.needs.now) (row_lists c.loop-f.rows.items) c.requires.formed c.requires.reaches c.loop-f.invariant.all.are
+    (λ i u is. known-of (program_tree c.args.p.now) c.args.slowdown c.loop-f.f u (number_lists c.args.needs.now)
+    (row_lists c.loop-f.rows.items) c.requires.formed c.requires.reaches c.loop-f.invariant.all.are
     (record { own = c.index-needs-f.result.items; here = at; at = i; is = is }))
 
 pub plan_budgets-requires-clause-once : goal.plan_budgets-requires-clause-once
@@ -36,7 +38,8 @@ pub plan_budgets-requires-clause-few : goal.plan_budgets-requires-clause-few
 plan_budgets-requires-clause-few c =
     let at = number-list c.args.needs.now c.loop-f.f c.index-needs-f.result c.loop-f-test.true c.index-needs-f.is in
     let own = few-budgets c.index-needs-f.result.items (c.requires.reaches.once c.loop-f.f _ at)
-    (within-of (program_tree c.args.p.now) c.args.slowdown c.loop-f.f (number_lists c.args.needs.now) _ c.requires.time c.requires.limit c.requires.reaches at) in
+    (within-of (program_tree c.args.p.now) c.args.slowdown c.loop-f.f
+    (number_lists c.args.needs.now) _ c.requires.time c.requires.limit c.requires.reaches at) in
     let funcs = few-funcs (program_tree c.args.p.now) c.requires.formed in
     let count = rw length-map at c.requires.reaches.count in
     omega (arith, own, funcs, count, c.loop-f.invariant.few, c.loop-f-test.true, ap length c.deref-in-loop-f.ensures.value)
@@ -45,11 +48,13 @@ pub loop-f-preserved : goal.loop-f-preserved
 loop-f-preserved c =
     let at = number-list c.args.needs.now c.loop-f.f c.index-needs-f.result c.loop-f-test.true c.index-needs-f.is in
     let own = few-budgets c.index-needs-f.result.items (c.requires.reaches.once c.loop-f.f _ at)
-    (within-of (program_tree c.args.p.now) c.args.slowdown c.loop-f.f (number_lists c.args.needs.now) _ c.requires.time c.requires.limit c.requires.reaches at) in
+    (within-of (program_tree c.args.p.now) c.args.slowdown c.loop-f.f
+    (number_lists c.args.needs.now) _ c.requires.time c.requires.limit c.requires.reaches at) in
     record {
       all =
           rw c.in_ok-append_rows.ensures
-          (all-more (program_tree c.args.p.now) (number_lists c.args.needs.now) (row_lists c.loop-f.rows.items) c.in_ok-own.own.items (st_func_trees c.loop-f.instances.items) _ c.loop-f.f _ c.loop-f.invariant.all at
+          (all-more (program_tree c.args.p.now) (number_lists c.args.needs.now) (row_lists c.loop-f.rows.items) c.in_ok-own.own.items
+          (st_func_trees c.loop-f.instances.items) _ c.loop-f.f _ c.loop-f.invariant.all at
           (rw c.deref.ensures.value at c.in_ok-own.ensures.plans) (rw c.deref-in-loop-f.ensures.value at c.in_ok-own.ensures.budgets));
       few = omega (arith, own, c.loop-f.invariant.few, c.in_ok-own.ensures.few, ap length c.deref-in-loop-f.ensures.value);
     }

@@ -9,7 +9,8 @@ use Rattle.ae_rewrite.proofs.schedules.plan_budgets.Goals as goal
 
 pub loop-j-init : goal.loop-j-init
 loop-j-init c = record {
-  own = rw c.new-own.ensures.items (own-start (program_tree c.args.p.now) (row_lists c.args.rows.now) (st_func_trees c.args.instances.now.items) c.args.budgets.now c.requires.plans);
+  own = rw c.new-own.ensures.items (own-start (program_tree c.args.p.now) (row_lists c.args.rows.now)
+      (st_func_trees c.args.instances.now.items) c.args.budgets.now c.requires.plans);
   few = omega arith;
 }
 
@@ -26,7 +27,9 @@ pub loop-j-preserved : goal.loop-j-preserved
 loop-j-preserved c = record {
   own =
       rw c.in_ok-push.ensures.items
-      (own-more (program_tree c.args.p.now) (row_lists c.args.rows.now) c.loop-j.own.items c.args.func _ _ (st_func_trees c.loop-j.instances.items) _ c.args.budgets.now c.loop-j.j
-      (rw length-map c.requires.next) c.loop-j.invariant.own c.in_ok-plan.ensures.failing c.in_ok-plan.ensures.made c.requires.once (number-at c.args.budgets.now c.loop-j.j c.loop-j-test.true));
+      (own-more (program_tree c.args.p.now) (row_lists c.args.rows.now) c.loop-j.own.items c.args.func _ _
+      (st_func_trees c.loop-j.instances.items) _ c.args.budgets.now c.loop-j.j
+      (rw length-map c.requires.next) c.loop-j.invariant.own c.in_ok-plan.ensures.failing c.in_ok-plan.ensures.made c.requires.once
+      (number-at c.args.budgets.now c.loop-j.j c.loop-j-test.true));
   few = omega (arith, c.loop-j.invariant.few, c.in_ok-plan.ensures.few);
 }

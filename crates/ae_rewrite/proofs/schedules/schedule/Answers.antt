@@ -16,20 +16,25 @@ plan_func-requires-clause-known c =
 pub returns-clause-schedule : goal.returns-clause-schedule
 returns-clause-schedule c =
     rw c.new.ensures
-    (schedule-of (program_tree c.args.p.now) c.args.slowdown (number_lists c.in_ok-needs.needs.items) (row_lists c.in_ok-rows.rows.items) _ _ (st_func_tree c.in_ok-whole.whole) c.in_ok-needs.ensures
+    (schedule-of (program_tree c.args.p.now) c.args.slowdown (number_lists c.in_ok-needs.needs.items) (row_lists c.in_ok-rows.rows.items) _ _
+    (st_func_tree c.in_ok-whole.whole) c.in_ok-needs.ensures
     (rw c.deref.ensures.value at c.in_ok-rows.ensures.budgets) c.in_ok-rows.ensures.plans
-    (rw c.deref-2.ensures.value at c.in_ok-whole.ensures.instance) (c.in_ok-whole.ensures.key.0 ∙ (rw c.program.ensures.program at c.main_of-main.ensures.main)) c.in_ok-whole.ensures.key.1 c.in_ok-append.ensures.items)
+    (rw c.deref-2.ensures.value at c.in_ok-whole.ensures.instance)
+    (c.in_ok-whole.ensures.key.0 ∙ (rw c.program.ensures.program at c.main_of-main.ensures.main)) c.in_ok-whole.ensures.key.1 c.in_ok-append.ensures.items)
 
 pub returns-clause-layouts : goal.returns-clause-layouts
 returns-clause-layouts c =
-    rw (c.new.ensures, c.in_ok-append.ensures.items) (filled-more _ (st_func_tree c.in_ok-whole.whole) c.in_ok-rows.ensures.plans.filled c.in_ok-whole.ensures.filled)
+    rw (c.new.ensures, c.in_ok-append.ensures.items) (filled-more _
+    (st_func_tree c.in_ok-whole.whole) c.in_ok-rows.ensures.plans.filled c.in_ok-whole.ensures.filled)
 
 pub new-requires-clause-sound : goal.new-requires-clause-sound
 new-requires-clause-sound c =
     schedule_sound (program_tree c.args.p.now) c.args.slowdown _ c.program.ensures.is_formed c.program.ensures.accepted c.requires.some c.requires.limit
-    (schedule-of (program_tree c.args.p.now) c.args.slowdown (number_lists c.in_ok-needs.needs.items) (row_lists c.in_ok-rows.rows.items) _ _ (st_func_tree c.in_ok-whole.whole) c.in_ok-needs.ensures
+    (schedule-of (program_tree c.args.p.now) c.args.slowdown (number_lists c.in_ok-needs.needs.items) (row_lists c.in_ok-rows.rows.items) _ _
+    (st_func_tree c.in_ok-whole.whole) c.in_ok-needs.ensures
     (rw c.deref.ensures.value at c.in_ok-rows.ensures.budgets) c.in_ok-rows.ensures.plans
-    (rw c.deref-2.ensures.value at c.in_ok-whole.ensures.instance) (c.in_ok-whole.ensures.key.0 ∙ (rw c.program.ensures.program at c.main_of-main.ensures.main)) c.in_ok-whole.ensures.key.1 c.in_ok-append.ensures.items)
+    (rw c.deref-2.ensures.value at c.in_ok-whole.ensures.instance)
+    (c.in_ok-whole.ensures.key.0 ∙ (rw c.program.ensures.program at c.main_of-main.ensures.main)) c.in_ok-whole.ensures.key.1 c.in_ok-append.ensures.items)
     (rw c.in_ok-append.ensures.items (filled-more _ (st_func_tree c.in_ok-whole.whole) c.in_ok-rows.ensures.plans.filled c.in_ok-whole.ensures.filled))
 
 pub returns-clause-sound : goal.returns-clause-sound
@@ -40,6 +45,7 @@ returns-clause-sound c =
     (schedule-of (program_tree c.args.p.now) c.args.slowdown (number_lists c.in_ok-needs.needs.items) (row_lists c.in_ok-rows.rows.items) _ _
     (st_func_tree c.in_ok-whole.whole) c.in_ok-needs.ensures
     (rw c.deref.ensures.value at c.in_ok-rows.ensures.budgets) c.in_ok-rows.ensures.plans
-    (rw c.deref-2.ensures.value at c.in_ok-whole.ensures.instance) (c.in_ok-whole.ensures.key.0 ∙ (rw c.program.ensures.program at c.main_of-main.ensures.main)) c.in_ok-whole.ensures.key.1
+    (rw c.deref-2.ensures.value at c.in_ok-whole.ensures.instance)
+    (c.in_ok-whole.ensures.key.0 ∙ (rw c.program.ensures.program at c.main_of-main.ensures.main)) c.in_ok-whole.ensures.key.1
     c.in_ok-append.ensures.items)
     (rw c.in_ok-append.ensures.items (filled-more _ (st_func_tree c.in_ok-whole.whole) c.in_ok-rows.ensures.plans.filled c.in_ok-whole.ensures.filled)))

@@ -13,10 +13,14 @@ adds_two : {a b : Circuit} (q reach own : ℕ) → reach ≤ q → Adds a b 9 ow
 adds_two q reach own past h = let t : nat_lt q reach ≡ false = search rules in rw t (adds_is (omega arith) (omega arith) h)
 
 pub returns-in_ok-both-clause-join : goal.returns-in_ok-both-clause-join
-returns-in_ok-both-clause-join c = join_both _ c.args.fold c.args.nets.now c.args.q c.args.reach _ _ c.in_ok-both.both c.if-q-reach.false refl refl c.in_ok-both.ensures.net c.in_ok-both.ensures.words
+returns-in_ok-both-clause-join c =
+    join_both _ c.args.fold c.args.nets.now c.args.q c.args.reach _ _ c.in_ok-both.both c.if-q-reach.false refl refl c.in_ok-both.ensures.net
+    c.in_ok-both.ensures.words
 
 pub returns-in_ok-later-clause-join : goal.returns-in_ok-later-clause-join
-returns-in_ok-later-clause-join c = join_one _ _ c.args.fold c.args.nets.now c.args.q c.args.reach _ c.in_ok-later.later c.if-q-reach.true refl c.in_ok-later.ensures.net c.in_ok-later.ensures.words
+returns-in_ok-later-clause-join c =
+    join_one _ _ c.args.fold c.args.nets.now c.args.q c.args.reach _ c.in_ok-later.later c.if-q-reach.true refl c.in_ok-later.ensures.net
+    c.in_ok-later.ensures.words
 
 pub delayed-requires-clause-net : goal.delayed-requires-clause-net
 delayed-requires-clause-net c = c.requires.own

@@ -30,7 +30,8 @@ join-requires-clause-own c = (nets_grow c.loop-q.invariant.adds.grows.extends c.
 
 pub join-requires-clause-before : goal.join-requires-clause-before
 join-requires-clause-before c = λ le.
-    before_net _ c.args.folds.now c.args.nets.now c.args.reach c.loop-q.q c.requires.folds.some c.requires.whole (nets_grow c.loop-q.invariant.adds.grows.extends c.requires.nets) c.loop-q-test.true le
+    before_net _ c.args.folds.now c.args.nets.now c.args.reach c.loop-q.q c.requires.folds.some c.requires.whole
+    (nets_grow c.loop-q.invariant.adds.grows.extends c.requires.nets) c.loop-q-test.true le
 
 pub returns-in_err-net-clause-up : goal.returns-in_err-net-clause-up
 returns-in_err-net-clause-up c = up_once c.loop-q.q _ _ _ c.loop-q-test.true c.loop-q.invariant.adds c.in_err-net.ensures.up
@@ -46,7 +47,8 @@ loop-q-preserved c =
     record {
       adds = adds_join c.loop-q.q c.args.reach _ _ (fold_product c.args.folds.now c.loop-q.q c.requires.folds) old.adds more.adds;
       long = rw pushed (length_push c.loop-q.outs.items c.in_ok-net.net ∙ ap (λ n. n + 1) old.long);
-      joins = rw pushed (joins_more _ _ c.args.folds.now c.args.nets.now c.args.reach c.loop-q.q c.loop-q.outs.items c.in_ok-net.net old.long more.adds.grows.extends old.joins more.join);
+      joins = rw pushed (joins_more _ _ c.args.folds.now c.args.nets.now c.args.reach c.loop-q.q c.loop-q.outs.items c.in_ok-net.net old.long
+          more.adds.grows.extends old.joins more.join);
     }
 
 pub returns-clause-adds : goal.returns-clause-adds

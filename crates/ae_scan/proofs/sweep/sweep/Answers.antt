@@ -21,10 +21,13 @@ pub level-requires-clause-nets : goal.level-requires-clause-nets
 level-requires-clause-nets c = rw c.deref.ensures.value c.loop-i.invariant.nets
 
 pub level-requires-clause-whole : goal.level-requires-clause-whole
-level-requires-clause-whole c = reach_whole c.args.folds.now c.args.stride c.loop-i.i c.loop-i.reach c.requires.folds.some c.requires.whole c.loop-i.invariant.reach
+level-requires-clause-whole c =
+    reach_whole c.args.folds.now c.args.stride c.loop-i.i c.loop-i.reach c.requires.folds.some c.requires.whole c.loop-i.invariant.reach
 
 pub returns-in_err-last-clause-up : goal.returns-in_err-last-clause-up
-returns-in_err-last-clause-up c = up_level c.args.lanes c.args.stride c.loop-i.i c.args.levels _ _ c.loop-i.invariant.long c.loop-i-test.true c.loop-i.invariant.adds (rw c.deref.ensures.value at c.in_err-last.ensures.up)
+returns-in_err-last-clause-up c =
+    up_level c.args.lanes c.args.stride c.loop-i.i c.args.levels _ _ c.loop-i.invariant.long c.loop-i-test.true c.loop-i.invariant.adds
+    (rw c.deref.ensures.value at c.in_err-last.ensures.up)
 
 pub overflow_mul-reach : goal.overflow_mul-reach
 overflow_mul-reach c =
@@ -36,15 +39,18 @@ loop-i-preserved c =
     let old = c.loop-i.invariant in
     let more = c.in_ok-last.ensures in
     let low : 2 ^ c.loop-i.i < c.args.lanes = c.requires.least c.loop-i.i c.loop-i-test.true in
-    let joins : AreJoins c.level.new.nl.cells c.args.folds.now c.loop-i.last.items c.loop-i.reach c.in_ok-last.last.items = rw c.deref.ensures.value at more.joins in
+    let joins : AreJoins c.level.new.nl.cells c.args.folds.now c.loop-i.last.items c.loop-i.reach c.in_ok-last.last.items = rw c.deref.ensures.value at
+    more.joins in
     let long : length c.in_ok-last.last.items ≡ length c.loop-i.last.items = rw c.deref.ensures.value at more.long in
     record {
-      adds = adds_level c.args.lanes c.args.stride c.loop-i.i c.loop-i.reach _ _ old.less old.reach old.long low old.adds (rw c.deref.ensures.value at more.adds);
+      adds = adds_level c.args.lanes c.args.stride c.loop-i.i c.loop-i.reach _ _ old.less old.reach old.long low old.adds
+          (rw c.deref.ensures.value at more.adds);
       less = less_more c.args.lanes c.args.stride c.loop-i.i old.less low;
       reach = reach_more c.args.stride c.loop-i.i c.loop-i.reach old.reach;
       nets = joins_nets _ _ _ _ _ joins;
       long = long ∙ old.long;
-      windows = windowed_more _ _ c.args.folds.now c.args.stride c.args.lanes c.args.nets.items c.loop-i.i c.loop-i.reach c.loop-i.last.items c.in_ok-last.last.items more.up.grows.extends c.requires.folds c.requires.whole
+      windows = windowed_more _ _ c.args.folds.now c.args.stride c.args.lanes c.args.nets.items c.loop-i.i c.loop-i.reach c.loop-i.last.items
+          c.in_ok-last.last.items more.up.grows.extends c.requires.folds c.requires.whole
           (nets_grow old.adds.grows.extends c.requires.nets) c.requires.long c.requires.some (long ∙ old.long) old.reach old.windows joins;
     }
 
@@ -62,4 +68,5 @@ returns-clause-up c =
 pub returns-clause-words : goal.returns-clause-words
 returns-clause-words c =
     let e : c.loop-i.i ≡ c.args.levels = omega arith in
-    windowed_end _ c.args.folds.now c.args.stride c.args.lanes c.args.nets.items c.args.levels c.loop-i.last.items c.requires.folds.some c.requires.whole c.requires.placed c.requires.deep c.loop-i.invariant.long c.loop-i.invariant.nets (rw e at c.loop-i.invariant.windows)
+    windowed_end _ c.args.folds.now c.args.stride c.args.lanes c.args.nets.items c.args.levels c.loop-i.last.items c.requires.folds.some c.requires.whole
+    c.requires.placed c.requires.deep c.loop-i.invariant.long c.loop-i.invariant.nets (rw e at c.loop-i.invariant.windows)

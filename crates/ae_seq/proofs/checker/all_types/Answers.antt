@@ -23,7 +23,8 @@ returns-in_err-own-clause-cause c =
     let fs = func_trees c.args.funcs.now in
     let known = signatures_by fs (types_of c.loop-func.types.items) in
     let step = drop-read c.args.funcs.now c.loop-func.func-index c.func-item.result c.loop-func-test.true c.func-item.is in
-    let Q : List (Vec SeqType Global) → Type 0 = λ xs. IsCausedBy c.in_err-own.field-0.0 (refused (judged_func (signatures_by fs (types_of xs)) (func_tree c.func-item.result))) in
+    let Q : List (Vec SeqType Global) → Type 0 = λ xs. IsCausedBy c.in_err-own.field-0.0
+    (refused (judged_func (signatures_by fs (types_of xs)) (func_tree c.func-item.result))) in
     let here = subst Q c.deref.ensures.value c.in_err-own.ensures.cause in
     let verdict = rw step at c.loop-func.invariant.verdict in
     rw (p.1, p.2, ← verdict) (IsCausedBy-first c.in_err-own.field-0.0 (judged_func known (func_tree c.func-item.result)) _ here)

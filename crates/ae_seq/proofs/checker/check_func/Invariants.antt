@@ -11,7 +11,8 @@ invariant-loop-node l =
     let items = map Some (type_trees l.items.items) in
     let rest = node_trees (drop l.node-index l.func.nodes.items) in
     record {
-      verdict : refused (judged_nodes known items rest) ≡ refused (judged_nodes known (map Some (param_types (func_tree l.func))) (node_trees l.func.nodes.items));
+      verdict : refused (judged_nodes known items rest) ≡ refused
+          (judged_nodes known (map Some (param_types (func_tree l.func))) (node_trees l.func.nodes.items));
       types : grown (node_type known) items rest ≡ item_types known (func_tree l.func);
       sized : IsTrue (all_in_size (type_trees l.items.items));
     }

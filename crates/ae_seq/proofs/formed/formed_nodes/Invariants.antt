@@ -4,4 +4,5 @@ use Rattle.ae_seq.specs.Trees.{node_trees}
 use Rattle.ae_seq.proofs.formed.formed_nodes.Given as goal
 
 abbrev pub invariant-loop-i : goal.invariant-loop-i
-invariant-loop-i l = formed_nodes l.version l.funcs (l.params + l.i) (node_trees (drop l.i l.nodes)) ≡ formed_nodes l.version l.funcs l.params (node_trees l.nodes)
+invariant-loop-i l =
+    formed_nodes l.version l.funcs (l.params + l.i) (node_trees (drop l.i l.nodes)) ≡ formed_nodes l.version l.funcs l.params (node_trees l.nodes)

@@ -5,4 +5,5 @@ use Rattle.ae_seq.proofs.line_type.arg_types.Given as goal
 
 abbrev pub invariant-loop-arg : goal.invariant-loop-arg
 invariant-loop-arg l =
-    (types_at (map Some (type_trees l.items)) (drop l.arg-index l.args) >>= λ rest. Some (lent_types l.found.items ++ rest)) ≡ types_at (map Some (type_trees l.items)) l.args
+    (types_at (map Some (type_trees l.items)) (drop l.arg-index l.args) >>= λ rest. Some (lent_types l.found.items ++ rest)) ≡ types_at
+    (map Some (type_trees l.items)) l.args

@@ -9,8 +9,10 @@ use Rattle.ae_seq.proofs.line_type.called.Goals.{then-callee-funcs-via-then-call
 
 pub returns-then-callee-funcs : goal.returns-then-callee-funcs
 returns-then-callee-funcs c = elim c.then-callee-funcs.branch [
-  | then-callee-funcs-via-then-callee-funcs w ↦ called-past (func_trees c.args.funcs.now) (types_of c.args.types.now) c.args.callee (lent_types c.args.args.now) (inl (simp length-map w.if-callee-funcs.true))
-  | then-callee-funcs-via-else-callee-funcs+then-callee-types w ↦ called-past (func_trees c.args.funcs.now) (types_of c.args.types.now) c.args.callee (lent_types c.args.args.now) (inr (simp length-map w.if-callee-types.true))
+  | then-callee-funcs-via-then-callee-funcs w ↦ called-past (func_trees c.args.funcs.now) (types_of c.args.types.now) c.args.callee
+      (lent_types c.args.args.now) (inl (simp length-map w.if-callee-funcs.true))
+  | then-callee-funcs-via-else-callee-funcs+then-callee-types w ↦ called-past (func_trees c.args.funcs.now) (types_of c.args.types.now) c.args.callee
+      (lent_types c.args.args.now) (inr (simp length-map w.if-callee-types.true))
 ]
 
 pub returns-then-not-same_types : goal.returns-then-not-same_types
@@ -30,5 +32,9 @@ returns c =
     let own = c.index-types-callee.result in
     let t = slice_get-view items_of c.args.types.now c.args.callee own c.if-callee-types.false c.index-types-callee.is in
     let same = rw c.as_slice.ensures.value at c.same_types.ensures in
-    rw (called-at (func_trees c.args.funcs.now) tss c.args.callee (func_tree func) (type_trees own.items) (lent_types c.args.args.now) f t, ← same, c.if-not-same_types.false)
+    rw (
+      called-at (func_trees c.args.funcs.now) tss c.args.callee (func_tree func) (type_trees own.items) (lent_types c.args.args.now) f t,
+      ← same,
+      c.if-not-same_types.false,
+    )
     (rw c.deref.ensures.value at c.result_type.ensures)

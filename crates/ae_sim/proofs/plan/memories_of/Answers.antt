@@ -7,8 +7,10 @@ use Rattle.ae_sim.proofs.plan.memories_of.Goals as goal
 
 pub loop-n-preserved : goal.loop-n-preserved
 loop-n-preserved c =
-    list_next (memory_for c.args.fill) (filled_memory c.low_fill.result) is_memory c.args.nl.now.cells c.loop-n.n c.cell_at-sized.result (map memory_tree c.loop-n.memories.items) (map memory_tree c.push_memory.new.memories.items)
-    c.cell_at-sized.ensures (ap (λ h. filled_memory h c.cell_at-sized.result) (sym (c.low_fill.ensures c.cell_at-sized.result c.cell_at-sized.ensures))) c.in_ok-push_memory.ensures c.loop-n.invariant
+    list_next (memory_for c.args.fill) (filled_memory c.low_fill.result) is_memory c.args.nl.now.cells c.loop-n.n c.cell_at-sized.result
+    (map memory_tree c.loop-n.memories.items) (map memory_tree c.push_memory.new.memories.items)
+    c.cell_at-sized.ensures (ap (λ h. filled_memory h c.cell_at-sized.result) (sym (c.low_fill.ensures c.cell_at-sized.result c.cell_at-sized.ensures)))
+    c.in_ok-push_memory.ensures c.loop-n.invariant
 
 pub returns : goal.returns
 returns c =

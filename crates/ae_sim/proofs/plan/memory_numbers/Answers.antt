@@ -18,5 +18,6 @@ loop-n-preserved c =
     (record {
       long = omega (arith, length_push c.loop-n.numbers.items c.loop-n.before, c.loop-n.invariant.long);
       before = omega (arith, next, c.one_if_memory-before.ensures, c.loop-n.invariant.before);
-      counts = counted_next c.loop-n.numbers.items (number_of is_memory c.args.nl.now.cells) c.loop-n.n c.loop-n.before c.loop-n.invariant.long c.loop-n.invariant.before c.loop-n.invariant.counts;
+      counts = counted_next c.loop-n.numbers.items (number_of is_memory c.args.nl.now.cells) c.loop-n.n c.loop-n.before c.loop-n.invariant.long
+          c.loop-n.invariant.before c.loop-n.invariant.counts;
     })

@@ -35,8 +35,10 @@ word_of-word-requires c =
     let memories : length (map (λ m. m.words.items) c.args.memories.now) ≡ length c.args.memories.now = length-map c.args.memories.now (λ m. m.words.items) in
     rw (at.step, c.as_slice.ensures.value)
     (record {
-      ready = is_ready c.args.nl.now.cells c.loop-n.n at.sized.width (length c.loop-n.words.items) (length c.args.inputs.now) (length c.args.registers.now) (length c.args.memories.now) at.sized.cell
-          c.formed.ensures.cells at.found c.loop-n.invariant.long c.requires.inputs.long (sym registers ∙ c.requires.held.registers) (sym memories ∙ c.requires.held.memories);
+      ready = is_ready c.args.nl.now.cells c.loop-n.n at.sized.width (length c.loop-n.words.items) (length c.args.inputs.now) (length c.args.registers.now)
+          (length c.args.memories.now) at.sized.cell
+          c.formed.ensures.cells at.found c.loop-n.invariant.long c.requires.inputs.long (sym registers ∙ c.requires.held.registers)
+          (sym memories ∙ c.requires.held.memories);
     })
 
 pub loop-n-preserved : goal.loop-n-preserved
@@ -46,12 +48,16 @@ loop-n-preserved c =
     let at = at_place cells c.args.steps.now c.loop-n.n c.requires.steps c.loop-n-test.true in
     let gives : Gives (step_for cells c.loop-n.n at.sized.width at.sized.cell) c.loop-n.words.items c.args.inputs.now held c.word_of-word.result =
     rw (at.step, c.as_slice.ensures.value) at c.word_of-word.ensures.gives in
-    let is : c.word_of-word.result ≡ cell_word cells (word_in cells held c.args.inputs.now) (store_in cells held) c.loop-n.words.items c.loop-n.n at.sized.cell =
-    gives_word cells held c.args.inputs.now c.loop-n.words.items c.loop-n.n at.sized.width c.word_of-word.result at.sized.cell c.formed.ensures.cells c.loop-n.invariant.made.fits at.found gives in
+    let is : c.word_of-word.result ≡ cell_word cells (word_in cells held c.args.inputs.now)
+    (store_in cells held) c.loop-n.words.items c.loop-n.n at.sized.cell =
+    gives_word cells held c.args.inputs.now c.loop-n.words.items c.loop-n.n at.sized.width c.word_of-word.result at.sized.cell c.formed.ensures.cells
+    c.loop-n.invariant.made.fits at.found gives in
     record {
       long = length-set c.loop-n.words.items c.loop-n.n c.word_of-word.result ∙ c.loop-n.invariant.long;
-      made = made_more cells (word_in cells held c.args.inputs.now) (store_in cells held) c.loop-n.words.items c.loop-n.n c.word_of-word.result at.sized c.formed.ensures.cells c.loop-n.invariant.long at.found
-          (free_fits cells held c.args.inputs.now c.requires.inputs c.requires.held) (stores_fit cells held c.args.inputs.now c.requires.inputs c.requires.held) is c.loop-n.invariant.made;
+      made = made_more cells (word_in cells held c.args.inputs.now)
+          (store_in cells held) c.loop-n.words.items c.loop-n.n c.word_of-word.result at.sized c.formed.ensures.cells c.loop-n.invariant.long at.found
+          (free_fits cells held c.args.inputs.now c.requires.inputs c.requires.held)
+          (stores_fit cells held c.args.inputs.now c.requires.inputs c.requires.held) is c.loop-n.invariant.made;
     }
 
 pub returns : goal.returns
@@ -59,5 +65,6 @@ returns c =
     let cells : List SizedCell = c.args.nl.now.cells in
     let held : Firsts = held_of c.args.registers.now c.args.memories.now in
     let n : c.loop-n.n ≡ length cells = omega (arith, c.loop-n-test.false, c.loop-n.auto.n-end, c.requires.steps.long) in
-    let made : IsMade cells (word_in cells held c.args.inputs.now) (store_in cells held) c.loop-n.words.items (length cells) = made_so_far _ _ _ _ _ _ n c.loop-n.invariant.made in
+    let made : IsMade cells (word_in cells held c.args.inputs.now) (store_in cells held) c.loop-n.words.items
+    (length cells) = made_so_far _ _ _ _ _ _ n c.loop-n.invariant.made in
     record { long = c.loop-n.invariant.long; settled = made_all _ _ _ _ made; fits = made.fits }

@@ -6,11 +6,13 @@ use Rattle.ae_stall.proofs.hold.hold_cell.Goals as goal
 
 pub returns-then-enable-n-clause-held : goal.returns-then-enable-n-clause-held
 returns-then-enable-n-clause-held c = λ copied part.
-    held_idle c.args.how.more c.args.how.by.0 c.args.nl.now.cells copied c.args.new.now.cells c.args.n c.cell_at-sized.result c.in-Mem.depth c.in-Mem.at c.in-Mem.next c.in-Mem.enable c.cell_at-sized.ensures c.in-Mem.is (eq-eqb c.in-Mem.enable.0 c.args.n c.if-enable-n.true) part
+    held_idle c.args.how.more c.args.how.by.0 c.args.nl.now.cells copied c.args.new.now.cells c.args.n c.cell_at-sized.result c.in-Mem.depth c.in-Mem.at
+    c.in-Mem.next c.in-Mem.enable c.cell_at-sized.ensures c.in-Mem.is (eq-eqb c.in-Mem.enable.0 c.args.n c.if-enable-n.true) part
 
 pub returns-in_default : goal.returns-in_default
 returns-in_default c = record {
-  held = λ copied part. held_other c.args.how.more c.args.how.by.0 c.args.nl.now.cells copied c.args.new.now.cells c.args.n c.cell_at-sized.result c.cell_at-sized.ensures c.in_default.not-Reg c.in_default.not-Mem part;
+  held = λ copied part. held_other c.args.how.more c.args.how.by.0 c.args.nl.now.cells copied c.args.new.now.cells c.args.n c.cell_at-sized.result
+      c.cell_at-sized.ensures c.in_default.not-Reg c.in_default.not-Mem part;
   outlets = refl;
   limit = refl;
 }

@@ -10,10 +10,13 @@ loop-j-init c = flags_none c.args.nl.now c.args.reset c.args.at
 pub choices-requires-clause-fit : goal.choices-requires-clause-fit
 choices-requires-clause-fit c =
     rw c.flag-before.ensures
-    (flag_fits c.args.nl.now c.loop-j.nl c.args.reset c.args.at c.loop-j.j c.loop-j.invariant c.requires.here (omega (arith, c.loop-j-test.true)) c.requires.reset c.requires.own c.requires.gates)
+    (flag_fits c.args.nl.now c.loop-j.nl c.args.reset c.args.at c.loop-j.j c.loop-j.invariant c.requires.here
+    (omega (arith, c.loop-j-test.true)) c.requires.reset c.requires.own c.requires.gates)
 
 pub loop-j-preserved : goal.loop-j-preserved
-loop-j-preserved c = flags_more c.args.nl.now c.loop-j.nl c.choices.new.nl c.args.reset c.args.at c.loop-j.j c.loop-j.invariant c.requires.here (rw c.flag-before.ensures at c.in_ok-choices.ensures.added)
+loop-j-preserved c =
+    flags_more c.args.nl.now c.loop-j.nl c.choices.new.nl c.args.reset c.args.at c.loop-j.j c.loop-j.invariant c.requires.here
+    (rw c.flag-before.ensures at c.in_ok-choices.ensures.added)
 
 pub returns-in_err-choices-clause-full : goal.returns-in_err-choices-clause-full
 returns-in_err-choices-clause-full c =

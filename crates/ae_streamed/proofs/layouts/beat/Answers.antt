@@ -16,9 +16,12 @@ loop-k-preserved c =
     let found : slice_get c.args.layouts.now c.loop-k.k ≡ Some c.index-layouts-k.result =
     slice_get-get_or c.args.layouts.now c.loop-k.k c.index-layouts-k.result c.loop-k-test.true ∙ ap Some (sym c.index-layouts-k.is) in
     record {
-      gains = in_turn c.args.nl.now c.loop-k.nl c.slot_beat.new.nl c.either.new.nl c.args.clocks.now c.loop-k.clocks c.slot_beat.new.clocks c.loop-k.any.0 c.in_ok-one.one.0 c.in_ok-any-2.any.0 c.args.slowdown c.args.offset c.args.layouts.now c.loop-k.k
-          c.index-layouts-k.result found (c.requires.sizes c.loop-k.k c.index-layouts-k.result found).1 c.loop-k.invariant.gains c.in_ok-one.ensures.gains c.in_ok-any-2.ensures.adds.grows c.in_ok-any-2.ensures.told;
-      adds = turn_cells c.loop-k.k c.args.layouts.now c.index-layouts-k.result found c.loop-k.invariant.adds c.in_ok-one.ensures.adds c.in_ok-any-2.ensures.adds;
+      gains = in_turn c.args.nl.now c.loop-k.nl c.slot_beat.new.nl c.either.new.nl c.args.clocks.now c.loop-k.clocks c.slot_beat.new.clocks c.loop-k.any.0
+          c.in_ok-one.one.0 c.in_ok-any-2.any.0 c.args.slowdown c.args.offset c.args.layouts.now c.loop-k.k
+          c.index-layouts-k.result found (c.requires.sizes c.loop-k.k c.index-layouts-k.result found).1 c.loop-k.invariant.gains c.in_ok-one.ensures.gains
+          c.in_ok-any-2.ensures.adds.grows c.in_ok-any-2.ensures.told;
+      adds = turn_cells c.loop-k.k c.args.layouts.now c.index-layouts-k.result found c.loop-k.invariant.adds c.in_ok-one.ensures.adds
+          c.in_ok-any-2.ensures.adds;
     }
 
 pub returns-in_err-any-clause-adds : goal.returns-in_err-any-clause-adds
@@ -34,7 +37,8 @@ pub returns-in_err-any-2-clause-adds : goal.returns-in_err-any-2-clause-adds
 returns-in_err-any-2-clause-adds c =
     let found : slice_get c.args.layouts.now c.loop-k.k ≡ Some c.index-layouts-k.result =
     slice_get-get_or c.args.layouts.now c.loop-k.k c.index-layouts-k.result c.loop-k-test.true ∙ ap Some (sym c.index-layouts-k.is) in
-    some_cells (c.loop-k.k + 1) c.args.layouts.now (turn_cells c.loop-k.k c.args.layouts.now c.index-layouts-k.result found c.loop-k.invariant.adds c.in_ok-one.ensures.adds c.in_err-any-2.ensures.adds)
+    some_cells (c.loop-k.k + 1) c.args.layouts.now (turn_cells c.loop-k.k c.args.layouts.now c.index-layouts-k.result found c.loop-k.invariant.adds
+    c.in_ok-one.ensures.adds c.in_err-any-2.ensures.adds)
 
 pub returns-clause-adds : goal.returns-clause-adds
 returns-clause-adds c = some_cells c.loop-k.k c.args.layouts.now c.loop-k.invariant.adds

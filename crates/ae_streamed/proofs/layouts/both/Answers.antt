@@ -9,7 +9,8 @@ operate-requires-clause-operands c = and_operation c.args.nl.now.cells c.args.a 
 
 pub returns-clause-told : goal.returns-clause-told
 returns-clause-told c = λ rst f g p q.
-    and_bit c.args.nl.now c.operate.new.nl rst c.args.a.0 c.args.b.0 c.in_ok-y.y.0 (width_of c.args.nl.now.cells c.args.a.0) f g c.in_ok-y.ensures.adds.grows c.in_ok-y.ensures.net c.in_ok-y.ensures.words p q
+    and_bit c.args.nl.now c.operate.new.nl rst c.args.a.0 c.args.b.0 c.in_ok-y.y.0
+    (width_of c.args.nl.now.cells c.args.a.0) f g c.in_ok-y.ensures.adds.grows c.in_ok-y.ensures.net c.in_ok-y.ensures.words p q
 
 pub returns-in_err-y-clause-adds : goal.returns-in_err-y-clause-adds
 returns-in_err-y-clause-adds c = adds_same c.args.nl.now c.operate.new.nl 1 c.in_err-y.ensures.err

@@ -12,7 +12,8 @@ period_bit-requires-clause-belongs c = belongs_new c.new-clocks.result c.args.nl
 
 pub returns-clause-adds : goal.returns-clause-adds
 returns-clause-adds c =
-    marks5 (map st_tree c.args.inputs.now) (map st_tree c.args.outputs.now) c.in_ok-first.ensures.adds c.in_ok-last.ensures.adds c.in_ok-wants.ensures.adds c.in_ok-late.ensures.adds c.in_ok-behind.ensures.adds
+    marks5 (map st_tree c.args.inputs.now) (map st_tree c.args.outputs.now) c.in_ok-first.ensures.adds c.in_ok-last.ensures.adds c.in_ok-wants.ensures.adds
+    c.in_ok-late.ensures.adds c.in_ok-behind.ensures.adds
 
 pub returns-clause-marks : goal.returns-clause-marks
 returns-clause-marks c =
@@ -21,19 +22,26 @@ returns-clause-marks c =
     c.new-clocks.result c.period_bit.new.clocks c.period_bit-2.new.clocks c.beat.new.clocks c.beat-2.new.clocks c.period_bit-3.new.clocks
     (record { first = c.in_ok-first.first; last = c.in_ok-last.last; wants = c.in_ok-wants.wants; late = c.in_ok-late.late; behind = c.in_ok-behind.behind })
     c.args.slowdown (c.args.latency % c.args.slowdown) (map st_tree c.args.inputs.now) (map st_tree c.args.outputs.now) c.requires.some low
-    (ap (λ (k : Kept). k.rst) c.new-clocks.ensures) c.in_ok-first.ensures.gains c.in_ok-last.ensures.gains c.in_ok-wants.ensures.gains c.in_ok-late.ensures.gains c.in_ok-behind.ensures.gains
+    (ap (λ (k : Kept). k.rst) c.new-clocks.ensures) c.in_ok-first.ensures.gains c.in_ok-last.ensures.gains c.in_ok-wants.ensures.gains
+    c.in_ok-late.ensures.gains c.in_ok-behind.ensures.gains
 
 pub returns-in_err-first-clause-adds : goal.returns-in_err-first-clause-adds
 returns-in_err-first-clause-adds c = marks1 (map st_tree c.args.inputs.now) (map st_tree c.args.outputs.now) c.in_err-first.ensures.adds
 
 pub returns-in_err-last-clause-adds : goal.returns-in_err-last-clause-adds
-returns-in_err-last-clause-adds c = marks2 (map st_tree c.args.inputs.now) (map st_tree c.args.outputs.now) c.in_ok-first.ensures.adds c.in_err-last.ensures.adds
+returns-in_err-last-clause-adds c =
+    marks2 (map st_tree c.args.inputs.now) (map st_tree c.args.outputs.now) c.in_ok-first.ensures.adds c.in_err-last.ensures.adds
 
 pub returns-in_err-wants-clause-adds : goal.returns-in_err-wants-clause-adds
-returns-in_err-wants-clause-adds c = marks3 (map st_tree c.args.inputs.now) (map st_tree c.args.outputs.now) c.in_ok-first.ensures.adds c.in_ok-last.ensures.adds c.in_err-wants.ensures.adds
+returns-in_err-wants-clause-adds c =
+    marks3 (map st_tree c.args.inputs.now) (map st_tree c.args.outputs.now) c.in_ok-first.ensures.adds c.in_ok-last.ensures.adds c.in_err-wants.ensures.adds
 
 pub returns-in_err-late-clause-adds : goal.returns-in_err-late-clause-adds
-returns-in_err-late-clause-adds c = marks4 (map st_tree c.args.inputs.now) (map st_tree c.args.outputs.now) c.in_ok-first.ensures.adds c.in_ok-last.ensures.adds c.in_ok-wants.ensures.adds c.in_err-late.ensures.adds
+returns-in_err-late-clause-adds c =
+    marks4 (map st_tree c.args.inputs.now) (map st_tree c.args.outputs.now) c.in_ok-first.ensures.adds c.in_ok-last.ensures.adds c.in_ok-wants.ensures.adds
+    c.in_err-late.ensures.adds
 
 pub returns-in_err-behind-clause-adds : goal.returns-in_err-behind-clause-adds
-returns-in_err-behind-clause-adds c = marks5 (map st_tree c.args.inputs.now) (map st_tree c.args.outputs.now) c.in_ok-first.ensures.adds c.in_ok-last.ensures.adds c.in_ok-wants.ensures.adds c.in_ok-late.ensures.adds c.in_err-behind.ensures.adds
+returns-in_err-behind-clause-adds c =
+    marks5 (map st_tree c.args.inputs.now) (map st_tree c.args.outputs.now) c.in_ok-first.ensures.adds c.in_ok-last.ensures.adds c.in_ok-wants.ensures.adds
+    c.in_ok-late.ensures.adds c.in_err-behind.ensures.adds

@@ -38,9 +38,12 @@ loop-k-preserved c =
     record {
       longer = longer_trans c.loop-k.invariant.longer (longer_by c.loop-k.nl c.choices.new.nl _ c.in_ok-choices.ensures.added (refl, tt));
       net = last_choice c.loop-k.nl c.choices.new.nl 1 _ _ c.len-at.ensures c.in_ok-choices.ensures.added;
-      long = ap (λ (v : Circuit). length v.cells) c.in_ok-choices.ensures.added ∙ (length-append c.loop-k.nl.cells (x ∷ []) ∙ omega (arith, c.loop-k.invariant.long));
-      any = subst (HasAny c.choices.new.nl.cells c.args.first (c.loop-k.k + 1) c.args.low.0 c.args.high.0 (length c.args.nl.now.cells)) (sym (c.len-at.ensures ∙ c.loop-k.invariant.long))
-          (any_more c.loop-k.nl c.choices.new.nl c.args.first c.loop-k.k c.args.low.0 c.args.high.0 (length c.args.nl.now.cells) c.loop-k.any.0 c.loop-k.invariant.any c.loop-k.invariant.long c.in_ok-choices.ensures.added);
+      long = ap (λ (v : Circuit). length v.cells) c.in_ok-choices.ensures.added ∙
+          (length-append c.loop-k.nl.cells (x ∷ []) ∙ omega (arith, c.loop-k.invariant.long));
+      any = subst (HasAny c.choices.new.nl.cells c.args.first (c.loop-k.k + 1) c.args.low.0 c.args.high.0 (length c.args.nl.now.cells))
+          (sym (c.len-at.ensures ∙ c.loop-k.invariant.long))
+          (any_more c.loop-k.nl c.choices.new.nl c.args.first c.loop-k.k c.args.low.0 c.args.high.0
+          (length c.args.nl.now.cells) c.loop-k.any.0 c.loop-k.invariant.any c.loop-k.invariant.long c.in_ok-choices.ensures.added);
     }
 
 pub returns-clause-any : goal.returns-clause-any

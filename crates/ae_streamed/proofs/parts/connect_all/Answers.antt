@@ -20,7 +20,8 @@ overflow_add-next c = omega (arith, net_within (c.requires.can.nets c.loop-k.k c
 
 pub connect-requires-clause-register : goal.connect-requires-clause-register
 connect-requires-clause-register c =
-    own_register (still_register c.args.nl.now c.loop-k.nl c.args.first c.args.count c.args.next c.loop-k.k c.requires.can c.loop-k.invariant c.loop-k-test.true)
+    own_register (still_register c.args.nl.now c.loop-k.nl c.args.first c.args.count c.args.next c.loop-k.k c.requires.can c.loop-k.invariant
+    c.loop-k-test.true)
 
 pub connect-requires-clause-next : goal.connect-requires-clause-next
 connect-requires-clause-next c =
@@ -29,5 +30,7 @@ connect-requires-clause-next c =
 
 pub loop-k-preserved : goal.loop-k-preserved
 loop-k-preserved c =
-    connected_more c.args.nl.now c.loop-k.nl c.connect.new.self c.args.first c.args.count c.args.next c.loop-k.k _ c.requires.can c.loop-k.invariant c.loop-k-test.true
-    (register_width (still_register c.args.nl.now c.loop-k.nl c.args.first c.args.count c.args.next c.loop-k.k c.requires.can c.loop-k.invariant c.loop-k-test.true)) c.connect.ensures
+    connected_more c.args.nl.now c.loop-k.nl c.connect.new.self c.args.first c.args.count c.args.next c.loop-k.k _ c.requires.can c.loop-k.invariant
+    c.loop-k-test.true
+    (register_width (still_register c.args.nl.now c.loop-k.nl c.args.first c.args.count c.args.next c.loop-k.k c.requires.can c.loop-k.invariant
+    c.loop-k-test.true)) c.connect.ensures

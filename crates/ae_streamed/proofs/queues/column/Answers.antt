@@ -6,29 +6,47 @@ use Rattle.ae_streamed.proofs.queues.column.Goals as goal
 
 pub choices-requires-clause-fit : goal.choices-requires-clause-fit
 choices-requires-clause-fit c =
-    column_fits c.args.nl.now c.state.new.self c.state-2.new.self c.args.c c.args.made c.width_at-width.result c.len-at.result c.len-at.ensures c.in_ok-state.ensures.added c.in_ok-state-2.ensures.added c.requires.two c.requires.moves
+    column_fits c.args.nl.now c.state.new.self c.state-2.new.self c.args.c c.args.made c.width_at-width.result c.len-at.result c.len-at.ensures
+    c.in_ok-state.ensures.added c.in_ok-state-2.ensures.added c.requires.two c.requires.moves
     (rw c.width_at-width.ensures.width c.requires.net)
 
 pub connect-requires-clause-register : goal.connect-requires-clause-register
-connect-requires-clause-register c = register3 c.args.nl.now c.state.new.self c.state-2.new.self c.args.c c.args.made c.width_at-width.result c.len-at.result c.len-at.ensures c.in_ok-state.ensures.added c.in_ok-state-2.ensures.added c.choices.new.nl c.in_ok-choices.ensures.added
+connect-requires-clause-register c =
+    register3 c.args.nl.now c.state.new.self c.state-2.new.self c.args.c c.args.made c.width_at-width.result c.len-at.result c.len-at.ensures
+    c.in_ok-state.ensures.added c.in_ok-state-2.ensures.added c.choices.new.nl c.in_ok-choices.ensures.added
 
 pub connect-requires-clause-next : goal.connect-requires-clause-next
-connect-requires-clause-next c = next_net3 c.args.nl.now c.state.new.self c.state-2.new.self c.args.c c.args.made c.width_at-width.result c.len-at.result c.len-at.ensures c.in_ok-state.ensures.added c.in_ok-state-2.ensures.added c.choices.new.nl c.in_ok-choices.ensures.added
+connect-requires-clause-next c =
+    next_net3 c.args.nl.now c.state.new.self c.state-2.new.self c.args.c c.args.made c.width_at-width.result c.len-at.result c.len-at.ensures
+    c.in_ok-state.ensures.added c.in_ok-state-2.ensures.added c.choices.new.nl c.in_ok-choices.ensures.added
 
 pub connect-requires-2-clause-register : goal.connect-requires-2-clause-register
-connect-requires-2-clause-register c = register4 c.args.nl.now c.state.new.self c.state-2.new.self c.args.c c.args.made c.width_at-width.result c.len-at.result c.len-at.ensures c.in_ok-state.ensures.added c.in_ok-state-2.ensures.added c.choices.new.nl c.in_ok-choices.ensures.added c.connect.new.self c.connect.ensures
+connect-requires-2-clause-register c =
+    register4 c.args.nl.now c.state.new.self c.state-2.new.self c.args.c c.args.made c.width_at-width.result c.len-at.result c.len-at.ensures
+    c.in_ok-state.ensures.added c.in_ok-state-2.ensures.added c.choices.new.nl c.in_ok-choices.ensures.added c.connect.new.self c.connect.ensures
 
 pub connect-requires-2-clause-next : goal.connect-requires-2-clause-next
-connect-requires-2-clause-next c = next_net4 c.args.nl.now c.state.new.self c.state-2.new.self c.args.c c.args.made c.width_at-width.result c.len-at.result c.len-at.ensures c.in_ok-state.ensures.added c.in_ok-state-2.ensures.added c.choices.new.nl c.in_ok-choices.ensures.added c.connect.new.self c.connect.ensures
+connect-requires-2-clause-next c =
+    next_net4 c.args.nl.now c.state.new.self c.state-2.new.self c.args.c c.args.made c.width_at-width.result c.len-at.result c.len-at.ensures
+    c.in_ok-state.ensures.added c.in_ok-state-2.ensures.added c.choices.new.nl c.in_ok-choices.ensures.added c.connect.new.self c.connect.ensures
 
 pub returns-clause-longer : goal.returns-clause-longer
-returns-clause-longer c = column_longer c.args.nl.now c.state.new.self c.state-2.new.self c.args.c c.args.made c.width_at-width.result c.len-at.result c.len-at.ensures c.in_ok-state.ensures.added c.in_ok-state-2.ensures.added c.choices.new.nl c.in_ok-choices.ensures.added c.connect.new.self c.connect.ensures c.connect-2.new.self c.connect-2.ensures
+returns-clause-longer c =
+    column_longer c.args.nl.now c.state.new.self c.state-2.new.self c.args.c c.args.made c.width_at-width.result c.len-at.result c.len-at.ensures
+    c.in_ok-state.ensures.added c.in_ok-state-2.ensures.added c.choices.new.nl c.in_ok-choices.ensures.added c.connect.new.self c.connect.ensures
+    c.connect-2.new.self c.connect-2.ensures
 
 pub returns-clause-long : goal.returns-clause-long
-returns-clause-long c = rw c.len-at.ensures at (column_long c.args.nl.now c.state.new.self c.state-2.new.self c.args.c c.args.made c.width_at-width.result c.len-at.result c.len-at.ensures c.in_ok-state.ensures.added c.in_ok-state-2.ensures.added c.choices.new.nl c.in_ok-choices.ensures.added c.connect.new.self c.connect.ensures c.connect-2.new.self c.connect-2.ensures)
+returns-clause-long c =
+    rw c.len-at.ensures at (column_long c.args.nl.now c.state.new.self c.state-2.new.self c.args.c c.args.made c.width_at-width.result c.len-at.result
+    c.len-at.ensures c.in_ok-state.ensures.added c.in_ok-state-2.ensures.added c.choices.new.nl c.in_ok-choices.ensures.added c.connect.new.self
+    c.connect.ensures c.connect-2.new.self c.connect-2.ensures)
 
 pub returns-clause-column : goal.returns-clause-column
-returns-clause-column c = rw c.len-at.ensures at (column_is c.args.nl.now c.state.new.self c.state-2.new.self c.args.c c.args.made c.width_at-width.result c.len-at.result c.len-at.ensures c.in_ok-state.ensures.added c.in_ok-state-2.ensures.added c.choices.new.nl c.in_ok-choices.ensures.added c.connect.new.self c.connect.ensures c.connect-2.new.self c.connect-2.ensures)
+returns-clause-column c =
+    rw c.len-at.ensures at (column_is c.args.nl.now c.state.new.self c.state-2.new.self c.args.c c.args.made c.width_at-width.result c.len-at.result
+    c.len-at.ensures c.in_ok-state.ensures.added c.in_ok-state-2.ensures.added c.choices.new.nl c.in_ok-choices.ensures.added c.connect.new.self
+    c.connect.ensures c.connect-2.new.self c.connect-2.ensures)
 
 pub returns-in_err-state-clause-full : goal.returns-in_err-state-clause-full
 returns-in_err-state-clause-full c =

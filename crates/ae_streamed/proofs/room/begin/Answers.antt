@@ -29,4 +29,11 @@ returns-clause-begun c =
 pub returns-in_err-begin_cell-clause-full : goal.returns-in_err-begin_cell-clause-full
 returns-in_err-begin_cell-clause-full c =
     let p = err_from_is_err_and c.from_residual.result c.from_residual.ensures.1 in
-    rw (p.1, p.2) (λ e. omega (arith, c.in_err-begin_cell.ensures.full e, c.loop-n.invariant.limit, c.loop-n.invariant.begun.long, c.loop-n.invariant.all, c.loop-n-test.true))
+    rw (p.1, p.2) (λ e. omega (
+      arith,
+      c.in_err-begin_cell.ensures.full e,
+      c.loop-n.invariant.limit,
+      c.loop-n.invariant.begun.long,
+      c.loop-n.invariant.all,
+      c.loop-n-test.true,
+    ))

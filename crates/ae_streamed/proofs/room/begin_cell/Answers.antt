@@ -7,21 +7,27 @@ use Rattle.ae_streamed.proofs.Remade.{begun_fits, begun_more, begun_other, may_a
 use Rattle.ae_streamed.proofs.room.begin_cell.Goals as goal
 
 pub state-requires-clause-low : goal.state-requires-clause-low
-state-requires-clause-low c = (begun_fits c.args.nl.now.cells c.args.new.now.cells c.args.n c.cell_at-sized.result c.formed.ensures.cells c.cell_at-sized.ensures c.requires.begun).low
+state-requires-clause-low c =
+    (begun_fits c.args.nl.now.cells c.args.new.now.cells c.args.n c.cell_at-sized.result c.formed.ensures.cells c.cell_at-sized.ensures c.requires.begun).low
 
 pub state-requires-clause-high : goal.state-requires-clause-high
-state-requires-clause-high c = (begun_fits c.args.nl.now.cells c.args.new.now.cells c.args.n c.cell_at-sized.result c.formed.ensures.cells c.cell_at-sized.ensures c.requires.begun).high
+state-requires-clause-high c =
+    (begun_fits c.args.nl.now.cells c.args.new.now.cells c.args.n c.cell_at-sized.result c.formed.ensures.cells c.cell_at-sized.ensures c.requires.begun).high
 
 pub returns-in_ok-state-in-Reg-clause-begun : goal.returns-in_ok-state-in-Reg-clause-begun
 returns-in_ok-state-in-Reg-clause-begun c =
-    begun_more c.args.nl.now.cells c.args.new.now.cells c.state.new.self.cells c.args.n c.cell_at-sized.result (new_register (length c.args.new.now.cells) c.cell_at-sized.result.width) c.cell_at-sized.ensures c.requires.begun
-    (register_begun c.cell_at-sized.result _ c.args.n (length c.args.new.now.cells) c.in-Reg.is c.requires.begun.long) (ap (λ (v : Circuit). v.cells) c.in_ok-state-in-Reg.ensures.added)
+    begun_more c.args.nl.now.cells c.args.new.now.cells c.state.new.self.cells c.args.n c.cell_at-sized.result
+    (new_register (length c.args.new.now.cells) c.cell_at-sized.result.width) c.cell_at-sized.ensures c.requires.begun
+    (register_begun c.cell_at-sized.result _ c.args.n (length c.args.new.now.cells) c.in-Reg.is c.requires.begun.long)
+    (ap (λ (v : Circuit). v.cells) c.in_ok-state-in-Reg.ensures.added)
 
 pub memory-requires-clause-low : goal.memory-requires-clause-low
-memory-requires-clause-low c = (begun_fits c.args.nl.now.cells c.args.new.now.cells c.args.n c.cell_at-sized.result c.formed.ensures.cells c.cell_at-sized.ensures c.requires.begun).low
+memory-requires-clause-low c =
+    (begun_fits c.args.nl.now.cells c.args.new.now.cells c.args.n c.cell_at-sized.result c.formed.ensures.cells c.cell_at-sized.ensures c.requires.begun).low
 
 pub memory-requires-clause-high : goal.memory-requires-clause-high
-memory-requires-clause-high c = (begun_fits c.args.nl.now.cells c.args.new.now.cells c.args.n c.cell_at-sized.result c.formed.ensures.cells c.cell_at-sized.ensures c.requires.begun).high
+memory-requires-clause-high c =
+    (begun_fits c.args.nl.now.cells c.args.new.now.cells c.args.n c.cell_at-sized.result c.formed.ensures.cells c.cell_at-sized.ensures c.requires.begun).high
 
 pub memory-requires-clause-some : goal.memory-requires-clause-some
 memory-requires-clause-some c =
@@ -35,23 +41,29 @@ memory-requires-clause-most c =
 
 pub returns-in_ok-memory-in-Mem-clause-begun : goal.returns-in_ok-memory-in-Mem-clause-begun
 returns-in_ok-memory-in-Mem-clause-begun c =
-    begun_more c.args.nl.now.cells c.args.new.now.cells c.memory.new.self.cells c.args.n c.cell_at-sized.result (new_memory (length c.args.new.now.cells) c.cell_at-sized.result.width c.in-Mem.depth) c.cell_at-sized.ensures c.requires.begun
-    (memory_begun c.cell_at-sized.result c.in-Mem.depth _ _ _ c.args.n (length c.args.new.now.cells) c.in-Mem.is c.requires.begun.long) (ap (λ (v : Circuit). v.cells) c.in_ok-memory-in-Mem.ensures.added)
+    begun_more c.args.nl.now.cells c.args.new.now.cells c.memory.new.self.cells c.args.n c.cell_at-sized.result
+    (new_memory (length c.args.new.now.cells) c.cell_at-sized.result.width c.in-Mem.depth) c.cell_at-sized.ensures c.requires.begun
+    (memory_begun c.cell_at-sized.result c.in-Mem.depth _ _ _ c.args.n (length c.args.new.now.cells) c.in-Mem.is c.requires.begun.long)
+    (ap (λ (v : Circuit). v.cells) c.in_ok-memory-in-Mem.ensures.added)
 
 pub add-requires : goal.add-requires
 add-requires c =
-    let fits = begun_fits c.args.nl.now.cells c.args.new.now.cells c.args.n c.cell_at-sized.result c.formed.ensures.cells c.cell_at-sized.ensures c.requires.begun in
+    let fits = begun_fits c.args.nl.now.cells c.args.new.now.cells c.args.n c.cell_at-sized.result c.formed.ensures.cells c.cell_at-sized.ensures
+    c.requires.begun in
     record {
       low = fits.low;
       high = fits.high;
-      allowed = may_add c.args.nl.now.cells c.args.new.now.cells c.args.n c.cell_at-sized.result.width c.cell_at-sized.result.cell c.in_default.not-Reg c.in_default.not-Mem fits.cell;
+      allowed = may_add c.args.nl.now.cells c.args.new.now.cells c.args.n c.cell_at-sized.result.width c.cell_at-sized.result.cell c.in_default.not-Reg
+          c.in_default.not-Mem fits.cell;
     }
 
 pub returns-in_ok-add-in_default : goal.returns-in_ok-add-in_default
 returns-in_ok-add-in_default c = record {
   full = tt;
-  begun = begun_more c.args.nl.now.cells c.args.new.now.cells c.add.new.self.cells c.args.n c.cell_at-sized.result c.cell_at-sized.result c.cell_at-sized.ensures c.requires.begun
-      (sym (ap (λ (v : Cell). record { width = c.cell_at-sized.result.width; cell = v }) (begun_other c.args.n c.cell_at-sized.result.cell c.in_default.not-Reg c.in_default.not-Mem)))
+  begun = begun_more c.args.nl.now.cells c.args.new.now.cells c.add.new.self.cells c.args.n c.cell_at-sized.result c.cell_at-sized.result
+      c.cell_at-sized.ensures c.requires.begun
+      (sym (ap (λ (v : Cell). record { width = c.cell_at-sized.result.width; cell = v })
+      (begun_other c.args.n c.cell_at-sized.result.cell c.in_default.not-Reg c.in_default.not-Mem)))
       (ap (λ (v : Circuit). v.cells) c.in_ok-add-in_default.ensures.added);
   limit = ap (λ (v : Circuit). v.limit) c.in_ok-add-in_default.ensures.added;
   outlets = ap (λ (v : Circuit). v.outlets) c.in_ok-add-in_default.ensures.added;

@@ -20,4 +20,5 @@ loop-n-preserved c = record {
 }
 
 pub returns-clause-cells : goal.returns-clause-cells
-returns-clause-cells c = made_same c.args.nl.now.cells c.loop-n.new.cells c.loop-n.n (omega (arith, c.loop-n.invariant.all, c.loop-n-test.false)) c.loop-n.invariant.made
+returns-clause-cells c =
+    made_same c.args.nl.now.cells c.loop-n.new.cells c.loop-n.n (omega (arith, c.loop-n.invariant.all, c.loop-n-test.false)) c.loop-n.invariant.made

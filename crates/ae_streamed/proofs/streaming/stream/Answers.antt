@@ -12,17 +12,27 @@ first_is : (a b : Circuit) → a.cells ≡ b.cells → slice_get b.cells 0 ≡ S
 first_is a b e h = ap (λ v. slice_get v 0) e ∙ h
 
 pub add_marks-requires-clause-reset : goal.add_marks-requires-clause-reset
-add_marks-requires-clause-reset c = record { sized = reset_cell; found = first_is c.in_ok-marked.marked c.args.nl.now (ap (λ (v : Circuit). v.cells) c.in_ok-marked.ensures.same) c.requires.reset; plain = tt; wide = refl }
+add_marks-requires-clause-reset c =
+    record {
+      sized = reset_cell;
+      found = first_is c.in_ok-marked.marked c.args.nl.now
+          (ap (λ (v : Circuit). v.cells) c.in_ok-marked.ensures.same) c.requires.reset;
+      plain = tt;
+      wide = refl;
+    }
 
 pub wrap-requires-clause-reset : goal.wrap-requires-clause-reset
 wrap-requires-clause-reset c =
-    c.in_ok-m.ensures.adds.grows.extends.keeps 0 reset_cell (first_is c.in_ok-marked.marked c.args.nl.now (ap (λ (v : Circuit). v.cells) c.in_ok-marked.ensures.same) c.requires.reset)
+    c.in_ok-m.ensures.adds.grows.extends.keeps 0 reset_cell
+    (first_is c.in_ok-marked.marked c.args.nl.now (ap (λ (v : Circuit). v.cells) c.in_ok-marked.ensures.same) c.requires.reset)
 
 pub wrap-requires-clause-most : goal.wrap-requires-clause-most
-wrap-requires-clause-most c = omega (arith, c.formed-2.ensures.limit, c.in_ok-m.ensures.adds.grows.limit, ap (λ (v : Circuit). v.limit) c.in_ok-marked.ensures.same)
+wrap-requires-clause-most c =
+    omega (arith, c.formed-2.ensures.limit, c.in_ok-m.ensures.adds.grows.limit, ap (λ (v : Circuit). v.limit) c.in_ok-marked.ensures.same)
 
 pub wrap-requires-clause-outlets : goal.wrap-requires-clause-outlets
-wrap-requires-clause-outlets c = omega (arith, ap length c.in_ok-m.ensures.adds.grows.outlets, ap (λ (v : Circuit). length v.outlets) c.in_ok-marked.ensures.same, c.requires.few)
+wrap-requires-clause-outlets c =
+    omega (arith, ap length c.in_ok-m.ensures.adds.grows.outlets, ap (λ (v : Circuit). length v.outlets) c.in_ok-marked.ensures.same, c.requires.few)
 
 pub wrap-requires-clause-marks : goal.wrap-requires-clause-marks
 wrap-requires-clause-marks c =
@@ -34,16 +44,25 @@ wrap-requires-clause-few c = omega (arith, blocks_few c.args.latency c.args.slow
 
 pub wrap-requires-clause-waits : goal.wrap-requires-clause-waits
 wrap-requires-clause-waits c =
-    omega (arith, wait_few c.args.latency c.args.slowdown c.last_beat.result c.requires.some c.last_beat.ensures.below, blocks_few c.args.latency c.args.slowdown c.requires.some)
+    omega (
+      arith,
+      wait_few c.args.latency c.args.slowdown c.last_beat.result c.requires.some c.last_beat.ensures.below,
+      blocks_few c.args.latency c.args.slowdown c.requires.some,
+    )
 
 pub returns-clause-stream : goal.returns-clause-stream
 returns-clause-stream c =
     let roomy : Circuit = record c.args.nl.now { limit = 1000000 } in
     same_stream c.args.nl.now c.in_ok-new.new c.args.slowdown c.args.latency 1000000 (map st_tree c.args.inputs.now) (map st_tree c.args.outputs.now)
-    (is_stream roomy c.add_marks.new.nl c.in_ok-new.new c.in_ok-m.m c.args.slowdown c.args.latency ((c.args.latency + c.last_beat.result) / c.args.slowdown) (map st_tree c.args.inputs.now) (map st_tree c.args.outputs.now)
-    c.requires.some c.formed.ensures.cells c.formed.ensures.outlets c.has_one_run.ensures (rw c.in_ok-marked.ensures.same at c.in_ok-m.ensures.adds) c.formed-2.ensures.cells c.in_ok-m.ensures.marks c.in_ok-new.ensures.wrapped (λ k y. wait_long c.args.latency c.args.slowdown c.last_beat.result k c.requires.some (c.last_beat.ensures.last.greatest k y))
-    (within c.args.inputs.now c.args.slowdown c.requires.inputs) (within c.args.outputs.now c.args.slowdown c.requires.outputs) c.requires.ins c.requires.outs (some_columns c.args.outputs.now c.args.slowdown c.requires.outputs)
-    c.held_circuits_are_inside.ensures c.held_marks_are_seen.ensures c.wired_controls_are_driven.ensures c.driven_circuits_stream.ensures c.driven_circuits_keep_words.ensures c.driven_circuits_go_on.ensures
+    (is_stream roomy c.add_marks.new.nl c.in_ok-new.new c.in_ok-m.m c.args.slowdown c.args.latency ((c.args.latency + c.last_beat.result) / c.args.slowdown)
+    (map st_tree c.args.inputs.now) (map st_tree c.args.outputs.now)
+    c.requires.some c.formed.ensures.cells c.formed.ensures.outlets c.has_one_run.ensures
+    (rw c.in_ok-marked.ensures.same at c.in_ok-m.ensures.adds) c.formed-2.ensures.cells c.in_ok-m.ensures.marks c.in_ok-new.ensures.wrapped
+    (λ k y. wait_long c.args.latency c.args.slowdown c.last_beat.result k c.requires.some (c.last_beat.ensures.last.greatest k y))
+    (within c.args.inputs.now c.args.slowdown c.requires.inputs) (within c.args.outputs.now c.args.slowdown c.requires.outputs) c.requires.ins c.requires.outs
+    (some_columns c.args.outputs.now c.args.slowdown c.requires.outputs)
+    c.held_circuits_are_inside.ensures c.held_marks_are_seen.ensures c.wired_controls_are_driven.ensures c.driven_circuits_stream.ensures
+    c.driven_circuits_keep_words.ensures c.driven_circuits_go_on.ensures
     c.wired_controls_have_no_paths.ensures)
 
 pub returns-in_err-marked-clause-full : goal.returns-in_err-marked-clause-full

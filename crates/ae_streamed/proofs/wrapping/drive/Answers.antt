@@ -21,11 +21,13 @@ show_all-requires-clause-one c = net_later c.in_ok-columns.ensures.longer.extend
 
 pub show_all-requires-clause-nets : goal.show_all-requires-clause-nets
 show_all-requires-clause-nets c = λ k l.
-    subst (λ v. IsNet c.columns.new.nl.cells (v + 4 * k) (width_of c.columns.new.nl.cells (v + 4 * k))) (sym c.len-at.ensures) (own_width (c.in_ok-columns.ensures.columns.nets k (omega (arith, l, c.requires.shown))).1)
+    subst (λ v. IsNet c.columns.new.nl.cells (v + 4 * k) (width_of c.columns.new.nl.cells (v + 4 * k))) (sym c.len-at.ensures)
+    (own_width (c.in_ok-columns.ensures.columns.nets k (omega (arith, l, c.requires.shown))).1)
 
 pub returns-clause-driver : goal.returns-clause-driver
 returns-clause-driver c = λ m is.
-    has_driver c.args.new.now c.control.new.nl c.columns.new.nl c.show_all.new.new m c.args.w c.args.blocks c.args.wait c.len-at.result c.args.made.now c.args.nl.now.outlets c.in_ok-c.c is
+    has_driver c.args.new.now c.control.new.nl c.columns.new.nl c.show_all.new.new m c.args.w c.args.blocks c.args.wait c.len-at.result c.args.made.now
+    c.args.nl.now.outlets c.in_ok-c.c is
     c.in_ok-c.ensures.longer c.in_ok-c.ensures.control c.in_ok-c.ensures.nets c.len-at.ensures c.in_ok-columns.ensures.longer c.in_ok-columns.ensures.columns
     c.in_ok-show_all.ensures.cells c.in_ok-show_all.ensures.limit c.in_ok-show_all.ensures.shown
 

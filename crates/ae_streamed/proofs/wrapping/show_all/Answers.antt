@@ -23,11 +23,18 @@ loop-k-init c = record {
 }
 
 pub overflow_add-at : goal.overflow_add-at
-overflow_add-at c = omega (arith, net_within (c.requires.nets c.loop-k.k (omega (arith, c.loop-k-test.true, c.loop-k.invariant.all))), c.formed.ensures.limit, c.formed.ensures.small)
+overflow_add-at c =
+    omega (
+      arith,
+      net_within (c.requires.nets c.loop-k.k (omega (arith, c.loop-k-test.true, c.loop-k.invariant.all))),
+      c.formed.ensures.limit,
+      c.formed.ensures.small,
+    )
 
 pub show-requires-in-loop-k-clause-net : goal.show-requires-in-loop-k-clause-net
 show-requires-in-loop-k-clause-net c =
-    subst (λ v. IsNet v (c.args.at + 4 * c.loop-k.k) (width_of v (c.args.at + 4 * c.loop-k.k))) (sym c.loop-k.invariant.cells) (c.requires.nets c.loop-k.k (omega (arith, c.loop-k-test.true, c.loop-k.invariant.all)))
+    subst (λ v. IsNet v (c.args.at + 4 * c.loop-k.k) (width_of v (c.args.at + 4 * c.loop-k.k))) (sym c.loop-k.invariant.cells)
+    (c.requires.nets c.loop-k.k (omega (arith, c.loop-k-test.true, c.loop-k.invariant.all)))
 
 pub show-requires-in-loop-k-clause-room : goal.show-requires-in-loop-k-clause-room
 show-requires-in-loop-k-clause-room c = omega (arith, c.loop-k.invariant.shown.long, c.loop-k-test.true, c.loop-k.invariant.all, c.requires.few)
@@ -37,9 +44,11 @@ loop-k-preserved c = record {
   all = c.loop-k.invariant.all;
   cells = ap (λ (v : Circuit). v.cells) c.in_ok-show-3.ensures.shown ∙ c.loop-k.invariant.cells;
   limit = ap (λ (v : Circuit). v.limit) c.in_ok-show-3.ensures.shown ∙ c.loop-k.invariant.limit;
-  shown = shown_more c.args.c c.args.at c.loop-k.k c.args.nl.now.outlets c.loop-k.new.outlets c.show-in-loop-k.new.new.outlets c.outlet_at-outlet.result c.outlet_at-outlet.ensures c.loop-k.invariant.shown (ap (λ (v : Circuit). v.outlets) c.in_ok-show-3.ensures.shown);
+  shown = shown_more c.args.c c.args.at c.loop-k.k c.args.nl.now.outlets c.loop-k.new.outlets c.show-in-loop-k.new.new.outlets c.outlet_at-outlet.result
+      c.outlet_at-outlet.ensures c.loop-k.invariant.shown (ap (λ (v : Circuit). v.outlets) c.in_ok-show-3.ensures.shown);
 }
 
 pub returns-clause-shown : goal.returns-clause-shown
 returns-clause-shown c =
-    all_shown c.args.c c.args.at c.loop-k.k c.args.nl.now.outlets c.loop-k.new.outlets (omega (arith, c.loop-k.invariant.all, c.loop-k-test.false, c.loop-k.auto.k-end)) c.loop-k.invariant.shown
+    all_shown c.args.c c.args.at c.loop-k.k c.args.nl.now.outlets c.loop-k.new.outlets
+    (omega (arith, c.loop-k.invariant.all, c.loop-k-test.false, c.loop-k.auto.k-end)) c.loop-k.invariant.shown

@@ -28,9 +28,14 @@ address_push cells x at depth h =
       ];
     }
 
-written_push : (cells : List SizedCell) (x : SizedCell) (w depth at next enable : ℕ) → IsWritten cells w depth at next enable → IsWritten (cells ++ x ∷ []) w depth at next enable
+written_push : (cells : List SizedCell) (x : SizedCell) (w depth at next enable : ℕ) → IsWritten cells w depth at next enable
+    → IsWritten (cells ++ x ∷ []) w depth at next enable
 written_push cells x w depth at next enable h =
-    record { address = address_push cells x at depth h.address; word = net_later (extends_append cells (x ∷ [])) h.word; bit = net_later (extends_append cells (x ∷ [])) h.bit }
+    record {
+      address = address_push cells x at depth h.address;
+      word = net_later (extends_append cells (x ∷ [])) h.word;
+      bit = net_later (extends_append cells (x ∷ [])) h.bit;
+    }
 
 pub connect_memory-requires-clause-memory : goal.connect_memory-requires-clause-memory
 connect_memory-requires-clause-memory c =
@@ -39,7 +44,8 @@ connect_memory-requires-clause-memory c =
     let own : NetId = record { 0 = length cells } in
     let grown : c.add_late.new.nl.cells ≡ cells ++ new_memory (length cells) w c.args.depth ∷ [] = ap (λ (v : Circuit). v.cells) c.in_ok-net.ensures.added in
     let at : c.in_ok-net.net.0 ≡ length cells = ap (λ (n : NetId). n.0) c.in_ok-net.ensures.net in
-    rw (grown, at, last_wide cells w c.args.depth, last_deep cells w c.args.depth) (record { at = own; next = own; enable = own; found = get_pushed cells (new_memory (length cells) w c.args.depth) })
+    rw (grown, at, last_wide cells w c.args.depth, last_deep cells w c.args.depth)
+    (record { at = own; next = own; enable = own; found = get_pushed cells (new_memory (length cells) w c.args.depth) })
 
 pub connect_memory-requires-clause-written : goal.connect_memory-requires-clause-written
 connect_memory-requires-clause-written c =
@@ -47,7 +53,8 @@ connect_memory-requires-clause-written c =
     let cells : List SizedCell = c.args.nl.now.cells in
     let grown : c.add_late.new.nl.cells ≡ cells ++ new_memory (length cells) w c.args.depth ∷ [] = ap (λ (v : Circuit). v.cells) c.in_ok-net.ensures.added in
     let at : c.in_ok-net.net.0 ≡ length cells = ap (λ (n : NetId). n.0) c.in_ok-net.ensures.net in
-    rw (grown, at, last_wide cells w c.args.depth, last_deep cells w c.args.depth) (written_push cells (new_memory (length cells) w c.args.depth) w c.args.depth c.args.at.0 c.args.next.0 c.args.enable.0 c.requires.written)
+    rw (grown, at, last_wide cells w c.args.depth, last_deep cells w c.args.depth)
+    (written_push cells (new_memory (length cells) w c.args.depth) w c.args.depth c.args.at.0 c.args.next.0 c.args.enable.0 c.requires.written)
 
 pub returns-clause-added : goal.returns-clause-added
 returns-clause-added c =

@@ -35,4 +35,5 @@ returns-clause-added c =
     let before : c.add_late.new.nl ≡ record c.args.nl.now { cells = cells ++ new_register (length cells) w ∷ [] } = c.in_ok-net.ensures.added in
     let at : c.in_ok-net.net.0 ≡ length cells = ap (λ (n : NetId). n.0) c.in_ok-net.ensures.net in
     let e = rw (before, at, last_wide cells w) at c.connect.ensures in
-    e ∙ ap (λ (l : List SizedCell). record { limit = c.args.nl.now.limit; cells = l; outlets = c.args.nl.now.outlets }) (set_last cells (new_register (length cells) w) (record { width = w; cell = Reg c.args.next }))
+    e ∙ ap (λ (l : List SizedCell). record { limit = c.args.nl.now.limit; cells = l; outlets = c.args.nl.now.outlets })
+    (set_last cells (new_register (length cells) w) (record { width = w; cell = Reg c.args.next }))

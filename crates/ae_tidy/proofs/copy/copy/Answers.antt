@@ -26,7 +26,8 @@ loop-n-preserved c = record {
 }
 
 pub connect_cells-requires-clause-copied : goal.connect_cells-requires-clause-copied
-connect_cells-requires-clause-copied c = let e : length c.args.nl.now.cells ≡ c.loop-n.n = omega (arith, c.loop-n.invariant.all) in rw (← e) at c.loop-n.invariant.copied
+connect_cells-requires-clause-copied c =
+    let e : length c.args.nl.now.cells ≡ c.loop-n.n = omega (arith, c.loop-n.invariant.all) in rw (← e) at c.loop-n.invariant.copied
 
 pub show-requires-clause-none : goal.show-requires-clause-none
 show-requires-clause-none c = c.connect_cells.ensures.outlets ∙ c.loop-n.invariant.outlets
@@ -35,17 +36,20 @@ pub returns-clause-tidied : goal.returns-clause-tidied
 returns-clause-tidied c =
     let limit : c.show.new.new.limit ≡ length c.args.nl.now.cells = c.in_ok-show.ensures.limit ∙ (c.connect_cells.ensures.limit ∙ c.loop-n.invariant.limit) in
     let copied = rw (← c.in_ok-show.ensures.cells) at c.connect_cells.ensures.copied in
-    tidied c.args.nl.now c.show.new.new c.args.keep.now c.loop-n.table.at.items c.loop-n.table.made.items (length c.show.new.new.cells) c.formed.ensures.cells c.has_one_run.ensures c.requires.marked c.requires.needed
+    tidied c.args.nl.now c.show.new.new c.args.keep.now c.loop-n.table.at.items c.loop-n.table.made.items
+    (length c.show.new.new.cells) c.formed.ensures.cells c.has_one_run.ensures c.requires.marked c.requires.needed
     copied (omega arith) c.in_ok-show.ensures.shown c.formed-2.ensures.cells c.formed-2.ensures.outlets (omega (arith, c.formed.ensures.limit))
 
 pub returns-clause-made : goal.returns-clause-made
 returns-clause-made c =
     let copied = rw (← c.in_ok-show.ensures.cells) at c.connect_cells.ensures.copied in
     let images : AreImages c.args.nl.now.cells c.show.new.new.cells c.loop-n.table.at.items =
-    all_images c.args.nl.now.cells c.show.new.new.cells c.args.keep.now c.loop-n.table.at.items c.loop-n.table.made.items (length c.args.nl.now.cells) (length c.show.new.new.cells) (omega arith) copied in
+    all_images c.args.nl.now.cells c.show.new.new.cells c.args.keep.now c.loop-n.table.at.items c.loop-n.table.made.items (length c.args.nl.now.cells)
+    (length c.show.new.new.cells) (omega arith) copied in
     record {
       long = copied.all_made;
-      are = copied_made_of c.args.nl.now.cells c.show.new.new.cells c.args.keep.now c.loop-n.table.at.items c.loop-n.table.made.items (length c.args.nl.now.cells) (length c.show.new.new.cells) images copied;
+      are = copied_made_of c.args.nl.now.cells c.show.new.new.cells c.args.keep.now c.loop-n.table.at.items c.loop-n.table.made.items
+          (length c.args.nl.now.cells) (length c.show.new.new.cells) images copied;
       rising = copied.rising;
     }
 
@@ -53,6 +57,8 @@ pub returns-clause-moved : goal.returns-clause-moved
 returns-clause-moved c =
     let copied = rw (← c.in_ok-show.ensures.cells) at c.connect_cells.ensures.copied in
     let images : AreImages c.args.nl.now.cells c.show.new.new.cells c.loop-n.table.at.items =
-    all_images c.args.nl.now.cells c.show.new.new.cells c.args.keep.now c.loop-n.table.at.items c.loop-n.table.made.items (length c.args.nl.now.cells) (length c.show.new.new.cells) (omega arith) copied in
-    λ cells count h. copied_moved c.args.nl.now.cells c.show.new.new.cells c.args.keep.now c.loop-n.table.at.items c.loop-n.table.made.items (length c.args.nl.now.cells) (length c.show.new.new.cells) c.args.marks.now c.in_ok-marks.marks.items
+    all_images c.args.nl.now.cells c.show.new.new.cells c.args.keep.now c.loop-n.table.at.items c.loop-n.table.made.items (length c.args.nl.now.cells)
+    (length c.show.new.new.cells) (omega arith) copied in
+    λ cells count h. copied_moved c.args.nl.now.cells c.show.new.new.cells c.args.keep.now c.loop-n.table.at.items c.loop-n.table.made.items
+    (length c.args.nl.now.cells) (length c.show.new.new.cells) c.args.marks.now c.in_ok-marks.marks.items
     images copied c.in_ok-marks.ensures.marks.long (rw c.deref.ensures.value at (c.in_ok-marks.ensures.cut cells count h))

@@ -20,7 +20,8 @@ returns-then-not-is_kept-clause-copied c =
             | inr e ↦ e
           ] in
           rw (c.in_ok-skip.ensures.at, c.in_ok-skip.ensures.made)
-          (copied_skip c.args.nl.now.cells c.args.new.now.cells c.args.keep.now c.args.table.now.at.items c.args.table.now.made.items c.args.n 0 w.0 w.2 plain gone c.requires.copied)
+          (copied_skip c.args.nl.now.cells c.args.new.now.cells c.args.keep.now c.args.table.now.at.items c.args.table.now.made.items c.args.n 0 w.0 w.2 plain
+          gone c.requires.copied)
       | inr w ↦ absurd (omega (arith, c.requires.below, w.0))
     ]
 

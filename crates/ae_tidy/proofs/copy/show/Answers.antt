@@ -9,12 +9,16 @@ use Rattle.ae_tidy.proofs.copy.show.Goals as goal
 
 pub net-net-requires : goal.net-net-requires
 net-net-requires c =
-    shown_mapped c.args.nl.now c.args.new.now.cells c.args._keep.now c.args.table.now.at.items c.args.table.now.made.items (length c.args.new.now.cells) c.loop-k.k c.outlet_at-outlet.result c.formed.ensures.outlets c.requires.marked c.outlet_at-outlet.ensures c.requires.copied
+    shown_mapped c.args.nl.now c.args.new.now.cells c.args._keep.now c.args.table.now.at.items c.args.table.now.made.items
+    (length c.args.new.now.cells) c.loop-k.k c.outlet_at-outlet.result c.formed.ensures.outlets c.requires.marked c.outlet_at-outlet.ensures
+    c.requires.copied
 
 pub add_output-requires-clause-net : goal.add_output-requires-clause-net
 add_output-requires-clause-net c =
     rw c.loop-k.invariant.cells
-    (shown_net c.args.nl.now c.args.new.now.cells c.args._keep.now c.args.table.now.at.items c.args.table.now.made.items (length c.args.nl.now.cells) (length c.args.new.now.cells) c.loop-k.k c.net-net.result.0 c.outlet_at-outlet.result c.formed.ensures.outlets c.outlet_at-outlet.ensures c.net-net.ensures c.requires.copied)
+    (shown_net c.args.nl.now c.args.new.now.cells c.args._keep.now c.args.table.now.at.items c.args.table.now.made.items (length c.args.nl.now.cells)
+    (length c.args.new.now.cells) c.loop-k.k c.net-net.result.0 c.outlet_at-outlet.result c.formed.ensures.outlets c.outlet_at-outlet.ensures
+    c.net-net.ensures c.requires.copied)
 
 pub add_output-requires-clause-room : goal.add_output-requires-clause-room
 add_output-requires-clause-room c =
@@ -30,10 +34,12 @@ loop-k-preserved c =
       all = c.loop-k.invariant.all;
       cells = cells ∙ c.loop-k.invariant.cells;
       limit = limit ∙ c.loop-k.invariant.limit;
-      shown = rw outlets (shown_more c.args.table.now.at.items c.args.nl.now.outlets c.loop-k.new.outlets c.loop-k.k c.outlet_at-outlet.result c.net-net.result c.outlet_at-outlet.ensures c.net-net.ensures c.loop-k.invariant.shown);
+      shown = rw outlets (shown_more c.args.table.now.at.items c.args.nl.now.outlets c.loop-k.new.outlets c.loop-k.k c.outlet_at-outlet.result c.net-net.result
+          c.outlet_at-outlet.ensures c.net-net.ensures c.loop-k.invariant.shown);
     }
 
 pub returns-clause-shown : goal.returns-clause-shown
 returns-clause-shown c =
     let e : c.loop-k.k ≡ length c.args.nl.now.outlets = omega (arith, c.loop-k.invariant.all) in
-    c.loop-k.invariant.shown ∙ ap (λ (l : List Outlet). wanted c.args.table.now.at.items l) (ap (λ i. take i c.args.nl.now.outlets) e ∙ take-length c.args.nl.now.outlets)
+    c.loop-k.invariant.shown ∙ ap (λ (l : List Outlet). wanted c.args.table.now.at.items l)
+    (ap (λ i. take i c.args.nl.now.outlets) e ∙ take-length c.args.nl.now.outlets)

@@ -15,7 +15,12 @@ pub loop-k-smaller : goal.loop-k-smaller
 loop-k-smaller c = omega (arith, c.in_ok-follow_one.ensures.grows.more_wait, c.in_ok-follow_one.ensures.grows.once)
 
 pub returns-clause-marked : goal.returns-clause-marked
-returns-clause-marked c = record { rooted = c.loop-k.invariant.rooted; reads = followed_all c.args.nl.now.cells c.loop-k.keep.items c.loop-k.line.items c.loop-k.k c.loop-k.invariant.followed (omega arith) }
+returns-clause-marked c =
+    record {
+      rooted = c.loop-k.invariant.rooted;
+      reads = followed_all c.args.nl.now.cells c.loop-k.keep.items c.loop-k.line.items c.loop-k.k
+          c.loop-k.invariant.followed (omega arith);
+    }
 
 pub returns-clause-needed : goal.returns-clause-needed
 returns-clause-needed c = c.loop-k.invariant.needed.kept

@@ -11,4 +11,5 @@ follow-requires-clause-followed c =
 pub follow-requires-clause-needed : goal.follow-requires-clause-needed
 follow-requires-clause-needed c =
     needed_more c.args.nl.now _ _ _ _ (only_trans c.in_ok-reach_roots.ensures.only c.in_ok-reach_outputs.ensures.only)
-    (needed_first c.args.nl.now _ _ c.new-line.ensures.items (λ n k. none_kept _ n (let kept = rw (c.in_ok-keep.ensures.items_if_clones_equal (λ y h. h)) at k in kept)))
+    (needed_first c.args.nl.now _ _ c.new-line.ensures.items
+    (λ n k. none_kept _ n (let kept = rw (c.in_ok-keep.ensures.items_if_clones_equal (λ y h. h)) at k in kept)))

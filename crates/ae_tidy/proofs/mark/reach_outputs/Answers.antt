@@ -10,7 +10,8 @@ loop-k-init c = record { all = c.outputs-k-end.ensures; grows = grows_refl _ _; 
 
 pub reach-requires : goal.reach-requires
 reach-requires c =
-    let l : c.outlet_at-outlet.result.net.0 < length c.args.nl.now.cells = outlet_within c.args.nl.now c.loop-k.k c.outlet_at-outlet.result c.formed.ensures.outlets c.outlet_at-outlet.ensures in
+    let l : c.outlet_at-outlet.result.net.0 < length c.args.nl.now.cells = outlet_within c.args.nl.now c.loop-k.k c.outlet_at-outlet.result
+    c.formed.ensures.outlets c.outlet_at-outlet.ensures in
     omega (arith, c.loop-k.invariant.grows.long, c.requires)
 
 pub loop-k-preserved : goal.loop-k-preserved
@@ -18,5 +19,6 @@ loop-k-preserved c = record {
   all = c.loop-k.invariant.all;
   grows = grows_trans c.loop-k.invariant.grows c.in_ok-reach.ensures.grows;
   only = only_trans c.loop-k.invariant.only (only_output c.loop-k.k c.outlet_at-outlet.result c.outlet_at-outlet.ensures c.in_ok-reach.ensures.only);
-  outputs = outputs_more _ _ _ _ _ _ c.outlet_at-outlet.result c.in_ok-reach.ensures.grows c.outlet_at-outlet.ensures c.in_ok-reach.ensures.kept c.loop-k.invariant.outputs;
+  outputs = outputs_more _ _ _ _ _ _ c.outlet_at-outlet.result c.in_ok-reach.ensures.grows c.outlet_at-outlet.ensures c.in_ok-reach.ensures.kept
+      c.loop-k.invariant.outputs;
 }

@@ -16,5 +16,6 @@ loop-n-preserved c = record {
   all = c.loop-n.invariant.all;
   grows = grows_trans c.loop-n.invariant.grows c.in_ok-reach_root.ensures.grows;
   only = only_trans c.loop-n.invariant.only (only_root c.loop-n.n c.cell_at-sized.result c.cell_at-sized.ensures c.in_ok-reach_root.ensures.only);
-  roots = roots_more _ _ _ _ _ _ c.cell_at-sized.result c.in_ok-reach_root.ensures.grows c.cell_at-sized.ensures c.in_ok-reach_root.ensures.kept c.loop-n.invariant.roots;
+  roots = roots_more _ _ _ _ _ _ c.cell_at-sized.result c.in_ok-reach_root.ensures.grows c.cell_at-sized.ensures c.in_ok-reach_root.ensures.kept
+      c.loop-n.invariant.roots;
 }

@@ -13,9 +13,12 @@ loop-mark-preserved c =
     let here : slice_get marks index ≡ Some mark = slice_get-get_or marks index 0 (omega (arith, c.loop-mark-test.true)) in
     record {
       within = c.made_before-count.ensures.within;
-      placed = marks_push c.loop-mark.count index place c.loop-mark.places.items c.push.new.self.items c.made_before-count.ensures.more c.in_ok-push.ensures.items c.loop-mark.invariant.placed;
+      placed = marks_push c.loop-mark.count index place c.loop-mark.places.items c.push.new.self.items c.made_before-count.ensures.more
+          c.in_ok-push.ensures.items c.loop-mark.invariant.placed;
       sure = λ cells count a. sure_more c.args.made.now cells count place marks index mark a here
           (c.made_before-count.ensures.cut ((c.loop-mark.invariant.sure cells count a).each index mark (omega arith) here));
-      cut = λ cells count a. cut_more c.args.made.now marks c.loop-mark.places.items c.push.new.self.items index mark place c.in_ok-push.ensures.items c.loop-mark.invariant.placed.long here
-          (c.made_before-count.ensures.cut ((c.loop-mark.invariant.sure cells count a).each index mark (omega arith) here)) (c.loop-mark.invariant.cut cells count a);
+      cut = λ cells count a. cut_more c.args.made.now marks c.loop-mark.places.items c.push.new.self.items index mark place c.in_ok-push.ensures.items
+          c.loop-mark.invariant.placed.long here
+          (c.made_before-count.ensures.cut ((c.loop-mark.invariant.sure cells count a).each index mark (omega arith) here))
+          (c.loop-mark.invariant.cut cells count a);
     }

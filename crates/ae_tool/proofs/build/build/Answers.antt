@@ -14,8 +14,10 @@ returns-in_ok-text-in-Ok c =
     let k = c.in-Ok.costed in
     let text = string_bytes c.in_ok-text-in-Ok.text in
     let here : IsModuleText (program_tree k.program) k.slowdown (st_func_trees k.schedule) text =
-    subst (λ (x : CostedView). IsModuleText (program_tree x.program) x.slowdown (st_func_trees x.schedule) text) c.in_ok-compiled-in-Ok.ensures.of c.in_ok-text-in-Ok.ensures.text in
-    let made : IsModuleText (program_tree k.program) c.args.slowdown (st_func_trees k.schedule) text = subst (λ (s : ℕ). IsModuleText (program_tree k.program) s (st_func_trees k.schedule) text) c.in-Ok.ensures.slowdown here in
+    subst (λ (x : CostedView). IsModuleText (program_tree x.program) x.slowdown (st_func_trees x.schedule) text) c.in_ok-compiled-in-Ok.ensures.of
+    c.in_ok-text-in-Ok.ensures.text in
+    let made : IsModuleText (program_tree k.program) c.args.slowdown (st_func_trees k.schedule) text = subst
+    (λ (s : ℕ). IsModuleText (program_tree k.program) s (st_func_trees k.schedule) text) c.in-Ok.ensures.slowdown here in
     record {
       headline = headline_of c.args.part.now c.args.slowdown (program_tree k.program) (st_func_trees k.schedule) text c.in-Ok.ensures.costed made;
       program = program_tree k.program;
@@ -25,4 +27,6 @@ returns-in_ok-text-in-Ok c =
     }
 
 pub returns-in-Err : goal.returns-in-Err
-returns-in-Err c = answered_refused c.refused_program.result c.in-Err.fault load_limit (IsBuiltText c.args.part.now c.args.slowdown) c.args.part.now c.args.slowdown c.in-Err.ensures.refused c.refused_program.ensures.uncosted
+returns-in-Err c =
+    answered_refused c.refused_program.result c.in-Err.fault load_limit
+    (IsBuiltText c.args.part.now c.args.slowdown) c.args.part.now c.args.slowdown c.in-Err.ensures.refused c.refused_program.ensures.uncosted

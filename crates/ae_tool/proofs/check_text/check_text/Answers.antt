@@ -9,7 +9,8 @@ write_func-requires c =
     let p = program_tree c.args.p.now in
     let f : FuncTree = func_tree c.func-item.result in
     let i = c.loop-func.func-index in
-    let at : slice_get p.funcs i ≡ Some f = ap (λ fs. slice_get (map func_tree fs) i) (sym c.loop-func.invariant.2) ∙ at_index func_tree _ i c.func-item.result c.loop-func-test.true c.func-item.is in
+    let at : slice_get p.funcs i ≡ Some f = ap (λ fs. slice_get (map func_tree fs) i) (sym c.loop-func.invariant.2) ∙
+    at_index func_tree _ i c.func-item.result c.loop-func-test.true c.func-item.is in
     let params : length f.params ≡ length c.func-item.result.params.items = length_mapped param_tree c.func-item.result.params.items in
     let nodes : length f.nodes ≡ length c.func-item.result.nodes.items = length_mapped node_tree c.func-item.result.nodes.items in
     let few : length f.params ≤ 8 = (formed-of p i f c.program.ensures.is_formed at).few_params in

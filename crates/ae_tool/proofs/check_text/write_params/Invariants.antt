@@ -5,4 +5,6 @@ use Rattle.ae_tool.specs.CheckTexts.{param_text}
 use Rattle.ae_tool.proofs.check_text.write_params.Given as goal
 
 abbrev pub invariant-loop-param : goal.invariant-loop-param
-invariant-loop-param l = string_bytes l.out ++ flat_map param_text (map param_tree (drop l.param-index l.params)) ≡ string_bytes l.fn.out ++ flat_map param_text (map param_tree l.params)
+invariant-loop-param l =
+    string_bytes l.out ++ flat_map param_text (map param_tree (drop l.param-index l.params)) ≡ string_bytes l.fn.out
+    ++ flat_map param_text (map param_tree l.params)

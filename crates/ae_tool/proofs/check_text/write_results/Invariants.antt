@@ -7,4 +7,5 @@ use Rattle.ae_tool.proofs.check_text.write_results.Given as goal
 
 abbrev pub invariant-loop-item : goal.invariant-loop-item
 invariant-loop-item l =
-    string_bytes l.out ++ flat_map (λ i. result_text (type_at (program_tree l.fn.p) l.fn.func i)) (drop l.item-index l.results) ≡ string_bytes l.fn.out ++ flat_map (λ i. result_text (type_at (program_tree l.fn.p) l.fn.func i)) l.results
+    string_bytes l.out ++ flat_map (λ i. result_text (type_at (program_tree l.fn.p) l.fn.func i)) (drop l.item-index l.results) ≡ string_bytes l.fn.out
+    ++ flat_map (λ i. result_text (type_at (program_tree l.fn.p) l.fn.func i)) l.results

@@ -12,7 +12,8 @@ same_number m n a b e = sym (digits_value-decimal own m a) ∙ ap (digits_value 
 
 pub returns-else-n-ge1 : goal.returns-else-n-ge1
 returns-else-n-ge1 c = λ s range written.
-    let same : c.in-Some.n ≡ s = same_number c.in-Some.n s (omega arith) (omega (arith, range.0, range.1)) (sym c.in-Some.ensures ∙ c.as_bytes.ensures.value ∙ written) in
+    let same : c.in-Some.n ≡ s = same_number c.in-Some.n s (omega arith) (omega (arith, range.0, range.1))
+    (sym c.in-Some.ensures ∙ c.as_bytes.ensures.value ∙ written) in
     elim c.else-n-ge1.branch [
       | else-n-ge1-via-then-n-ge1+else-n-le64 w ↦ omega (arith, same, range.1)
       | else-n-ge1-via-else-n-ge1 w ↦ omega (arith, same, range.0)

@@ -6,5 +6,6 @@ use Rattle.ae_tool.proofs.cost_table.cost_table.Given as goal
 
 abbrev pub invariant-loop-node : goal.invariant-loop-node
 invariant-loop-node l =
-    (string_bytes l.out ++ cost_rows (map node_tree (drop l.node-index l.nodes)) (drop l.node-index l.fn.timing.nodes) ≡ cost_table (map node_tree l.fn.nodes) l.fn.timing.nodes)
+    (string_bytes l.out ++ cost_rows (map node_tree (drop l.node-index l.nodes)) (drop l.node-index l.fn.timing.nodes) ≡ cost_table
+    (map node_tree l.fn.nodes) l.fn.timing.nodes)
     × (l.number ≡ l.node-index)

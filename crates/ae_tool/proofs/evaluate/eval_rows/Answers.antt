@@ -15,7 +15,8 @@ nonzero_div-count c = column_some (program_tree c.args.p.now) c.args.columns c.r
 
 pub overflow_mul-size : goal.overflow_mul-size
 overflow_mul-size c =
-    let s = size_fits (program_tree c.args.p.now) c.args.columns c.requires.rows.0 c.args.words.now c.count_results.result c.requires.typed c.requires.rows.1 c.count_results.ensures.few in
+    let s = size_fits (program_tree c.args.p.now) c.args.columns c.requires.rows.0 c.args.words.now c.count_results.result c.requires.typed c.requires.rows.1
+    c.count_results.ensures.few in
     omega (arith, s)
 
 pub returns-then-size-gt-RUN_LIMIT : goal.returns-then-size-gt-RUN_LIMIT
@@ -25,11 +26,13 @@ returns-then-size-gt-RUN_LIMIT c =
     let size : ℕ = length ws / c.args.columns * (1 + c.count_results.result) in
     IfOk-weaker c.refused.result (λ (r : Reply). (r.status ≡ LongRun size) × (string_bytes r.text ≡ refusal_line (LongRun size)))
     (λ (r : Reply). (table : List (List (List ℕ))) → AreRows p c.args.columns table ws → IsEvalOf p table r.status (string_bytes r.text))
-    (λ r w table a. long_run p c.args.columns table ws c.count_results.result size r.status (string_bytes r.text) c.requires.typed a c.count_results.ensures.is refl c.if-size-gt-RUN_LIMIT.true w.0 w.1) c.refused.ensures
+    (λ r w table a. long_run p c.args.columns table ws c.count_results.result size r.status
+    (string_bytes r.text) c.requires.typed a c.count_results.ensures.is refl c.if-size-gt-RUN_LIMIT.true w.0 w.1) c.refused.ensures
 
 pub returns : goal.returns
 returns c = λ table a.
     let p = program_tree c.args.p.now in
     let ws = c.args.words.now in
     let size : ℕ = length ws / c.args.columns * (1 + c.count_results.result) in
-    short_run p c.args.columns table ws c.count_results.result size (string_bytes c.in_ok-text.text) c.requires.typed a c.count_results.ensures.is refl c.if-size-gt-RUN_LIMIT.false (c.in_ok-text.ensures table a)
+    short_run p c.args.columns table ws c.count_results.result size
+    (string_bytes c.in_ok-text.text) c.requires.typed a c.count_results.ensures.is refl c.if-size-gt-RUN_LIMIT.false (c.in_ok-text.ensures table a)

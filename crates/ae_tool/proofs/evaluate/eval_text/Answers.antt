@@ -18,7 +18,8 @@ split_at-requires c =
     let table = c.requires.rows.0 in
     let a = c.requires.rows.1 in
     let count : length c.args.words.now / c.args.columns ≡ length table = rows_count p c.args.columns table c.args.words.now c.requires.typed a in
-    (next_row p c.args.columns table c.loop.counter c.args.words.now c.loop.rest.now c.requires.typed a (omega (arith, count, c.loop-test.true)) (c.loop.invariant table a).rest_is).room
+    (next_row p c.args.columns table c.loop.counter c.args.words.now c.loop.rest.now c.requires.typed a (omega (arith, count, c.loop-test.true))
+    (c.loop.invariant table a).rest_is).room
 
 pub row_results-requires : goal.row_results-requires
 row_results-requires c =
@@ -26,14 +27,16 @@ row_results-requires c =
     let table = c.requires.rows.0 in
     let a = c.requires.rows.1 in
     let count : length c.args.words.now / c.args.columns ≡ length table = rows_count p c.args.columns table c.args.words.now c.requires.typed a in
-    let n = next_row p c.args.columns table c.loop.counter c.args.words.now c.loop.rest.now c.requires.typed a (omega (arith, count, c.loop-test.true)) (c.loop.invariant table a).rest_is in
+    let n = next_row p c.args.columns table c.loop.counter c.args.words.now c.loop.rest.now c.requires.typed a (omega (arith, count, c.loop-test.true))
+    (c.loop.invariant table a).rest_is in
     rw c.in_ok-evaluator.ensures (subst (λ us. FitIn (input_types p) us) (sym (c.split_at.ensures.front ∙ n.front)) n.fits)
 
 pub loop-preserved : goal.loop-preserved
 loop-preserved c = λ table a.
     let p = program_tree c.args.p.now in
     let count : length c.args.words.now / c.args.columns ≡ length table = rows_count p c.args.columns table c.args.words.now c.requires.typed a in
-    lines_next p c.args.columns table c.loop.counter c.args.words.now c.loop.rest.now c.split_at.result.0.now c.split_at.result.1.now (string_bytes c.loop.out) (string_bytes c.write_line.new.out) c.deref.result.now
+    lines_next p c.args.columns table c.loop.counter c.args.words.now c.loop.rest.now c.split_at.result.0.now c.split_at.result.1.now (string_bytes c.loop.out)
+    (string_bytes c.write_line.new.out) c.deref.result.now
     c.requires.typed a (omega (arith, count, c.loop-test.true)) (c.loop.invariant table a) c.split_at.ensures.front c.split_at.ensures.back
     (c.deref.ensures.value ∙ (rw c.in_ok-evaluator.ensures at c.in_ok-results.ensures)) c.in_ok-write_line.ensures
 

@@ -7,4 +7,5 @@ use Rattle.ae_tool.proofs.evaluate.eval_text.Given as goal
 
 abbrev pub invariant-loop : goal.invariant-loop
 invariant-loop l =
-    (table : List (List (List ℕ))) → AreRows (program_tree l.fn.p) l.fn.columns table l.fn.words → LinesDone (program_tree l.fn.p) table l.counter l.rest (string_bytes l.out)
+    (table : List (List (List ℕ))) → AreRows (program_tree l.fn.p) l.fn.columns table l.fn.words
+    → LinesDone (program_tree l.fn.p) table l.counter l.rest (string_bytes l.out)

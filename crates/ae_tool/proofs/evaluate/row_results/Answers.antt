@@ -23,6 +23,8 @@ returns c =
     let row = c.args.row.now in
     let args : values_of (input_types p) c.deref.result.now ≡ values_in_row p row = ap (values_of (input_types p))
     c.deref.ensures.value ∙ (rw c.program.ensures at c.in_ok-values.ensures.values) in
-    let all : c.deref-2.result.now ≡ map flat (mean p (values_in_row p row)) = c.deref-2.ensures.value ∙ c.in_ok-results.ensures.words ∙ ap (λ (vs : List ValueTree). map flat (mean p vs)) args in
+    let all : c.deref-2.result.now ≡ map flat (mean p (values_in_row p row)) = c.deref-2.ensures.value ∙ c.in_ok-results.ensures.words ∙
+    ap (λ (vs : List ValueTree). map flat (mean p vs)) args in
     let same : concat c.deref-2.result.now ≡ flat_map flat (mean p (values_in_row p row)) = ap concat all ∙ joined_flat (mean p (values_in_row p row)) in
-    IfOk-weaker c.joined.result (λ (ws : Vec ℕ Global). ws.items ≡ concat c.deref-2.result.now) (λ (ws : Vec ℕ Global). ws.items ≡ flat_map flat (mean p (values_in_row p row))) (λ ws e. e ∙ same) c.joined.ensures
+    IfOk-weaker c.joined.result (λ (ws : Vec ℕ Global). ws.items ≡ concat c.deref-2.result.now)
+    (λ (ws : Vec ℕ Global). ws.items ≡ flat_map flat (mean p (values_in_row p row))) (λ ws e. e ∙ same) c.joined.ensures

@@ -6,4 +6,5 @@ use Rattle.ae_tool.proofs.plan.cost_of_lines.Goals as goal
 
 pub returns-in-Err : goal.returns-in-Err
 returns-in-Err c =
-    answered_refused c.refused_program.result c.in-Err.fault load_limit (IsCostText table_text c.args.part.now c.args.slowdown) c.args.part.now c.args.slowdown c.in-Err.ensures.refused c.refused_program.ensures.uncosted
+    answered_refused c.refused_program.result c.in-Err.fault load_limit
+    (IsCostText table_text c.args.part.now c.args.slowdown) c.args.part.now c.args.slowdown c.in-Err.ensures.refused c.refused_program.ensures.uncosted

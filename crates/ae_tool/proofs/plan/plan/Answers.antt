@@ -22,4 +22,7 @@ returns-in_ok-text-in-Ok c =
     }
 
 pub returns-in-Err : goal.returns-in-Err
-returns-in-Err c = answered_refused c.refused_program.result c.in-Err.fault load_limit (IsCostText (plan_text c.args.slowdown) c.args.part.now c.args.slowdown) c.args.part.now c.args.slowdown c.in-Err.ensures.refused c.refused_program.ensures.uncosted
+returns-in-Err c =
+    answered_refused c.refused_program.result c.in-Err.fault load_limit
+    (IsCostText (plan_text c.args.slowdown) c.args.part.now c.args.slowdown) c.args.part.now c.args.slowdown c.in-Err.ensures.refused
+    c.refused_program.ensures.uncosted

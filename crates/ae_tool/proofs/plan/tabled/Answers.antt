@@ -22,7 +22,8 @@ use Rattle.ae_tool.proofs.plan.tabled.Goals as goal
 pub cost_table-requires-clause-named : goal.cost_table-requires-clause-named
 cost_table-requires-clause-named c =
     let p = program_tree c.args.costed.now.program in
-    let named : AllNamed (map node_tree c.main_func-func.result.now.nodes.items) = main_named p (main_of p) (func_tree c.main_func-func.result.now) c.main_func-func.ensures.formed c.main_func-func.ensures.last in
+    let named : AllNamed (map node_tree c.main_func-func.result.now.nodes.items) = main_named p (main_of p)
+    (func_tree c.main_func-func.result.now) c.main_func-func.ensures.formed c.main_func-func.ensures.last in
     subst (λ (ns : List Node). AllNamed (map node_tree ns)) (sym c.deref.ensures.value) named
 
 pub cost_table-requires-clause-long : goal.cost_table-requires-clause-long
@@ -32,7 +33,8 @@ cost_table-requires-clause-long c =
     let f = func_tree c.main_func-func.result.now in
     let key = c.costs-costs.ensures.known.schedule.last in
     let times = (subst (AreCosts p all) (sym c.costs-costs.ensures.is ∙ c.in-Plain.is) c.costs-costs.ensures.known.costs_are).1 in
-    nodes_known p c.args.costed.now.slowdown all f key.instance c.in-Plain.timing c.costs-costs.ensures.known.schedule times c.main_func-func.ensures.last key.here
+    nodes_known p c.args.costed.now.slowdown all f key.instance c.in-Plain.timing c.costs-costs.ensures.known.schedule times c.main_func-func.ensures.last
+    key.here
     ∙ length-map c.main_func-func.result.now.nodes.items node_tree ∙ ap length (sym c.deref.ensures.value)
 
 pub cost_table-requires-clause-few : goal.cost_table-requires-clause-few
@@ -45,7 +47,8 @@ cost_table-requires-clause-few c =
 pub fused_table-requires : goal.fused_table-requires
 fused_table-requires c =
     let k = c.args.costed.now in
-    let costs = ap whole_costs c.costs-costs.ensures.is ∙ known_costs load_limit (program_tree k.program) k.slowdown (st_func_trees k.schedule) k.costs c.costs-costs.ensures.known in
+    let costs = ap whole_costs c.costs-costs.ensures.is ∙
+    known_costs load_limit (program_tree k.program) k.slowdown (st_func_trees k.schedule) k.costs c.costs-costs.ensures.known in
     subst (λ (x : OwnCosts). x.load ≤ load_limit) (sym costs) c.costs-costs.ensures.known.light
 
 pub returns-in-Plain : goal.returns-in-Plain
@@ -59,7 +62,8 @@ returns-in-Plain c =
     let nodes = ap (λ (ns : List Node). cost_table (map node_tree ns) costs) c.deref.ensures.value in
     IfOk-weaker c.cost_table.result (λ (t : String Global). string_bytes t ≡ cost_table (map node_tree c.deref.result.now) costs)
     (λ (t : String Global). HasMain p all (λ g s ts. string_bytes t ≡ table_text p g s ts))
-    (λ t w. main_table p all f key.instance c.in-Plain.timing (string_bytes t) are.0 c.main_func-func.ensures.last key.here are.1 (w ∙ nodes)) c.cost_table.ensures
+    (λ t w. main_table p all f key.instance c.in-Plain.timing (string_bytes t) are.0 c.main_func-func.ensures.last key.here are.1 (w ∙ nodes))
+    c.cost_table.ensures
 
 pub returns-in-Fused : goal.returns-in-Fused
 returns-in-Fused c =
@@ -70,4 +74,5 @@ returns-in-Fused c =
     let whole = ap whole_costs c.in-Fused.is in
     IfOk-weaker c.fused_table.result (λ (t : String Global). string_bytes t ≡ fused_table f.end_line (whole_costs c.costs-costs.result.now))
     (λ (t : String Global). HasMain p all (λ g s ts. string_bytes t ≡ table_text p g s ts))
-    (λ t w. main_fused p all f c.in-Fused.field-0 (string_bytes t) c.main_func-func.ensures.last is (w ∙ ap (fused_table f.end_line) whole)) c.fused_table.ensures
+    (λ t w. main_fused p all f c.in-Fused.field-0 (string_bytes t) c.main_func-func.ensures.last is (w ∙ ap (fused_table f.end_line) whole))
+    c.fused_table.ensures

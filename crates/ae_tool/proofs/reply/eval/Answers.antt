@@ -16,5 +16,6 @@ returns-in-Ok c =
 
 pub returns-in-Err : goal.returns-in-Err
 returns-in-Err c =
-    untyped c.refused_program.result c.in-Err.fault c.args.part.now (λ (r : Reply). IsEvaluated c.args.part.now (rows c.args.rest.now) r.status (string_bytes r.text)) c.in-Err.ensures.refused
+    untyped c.refused_program.result c.in-Err.fault c.args.part.now
+    (λ (r : Reply). IsEvaluated c.args.part.now (rows c.args.rest.now) r.status (string_bytes r.text)) c.in-Err.ensures.refused
     (λ r w e. Refused w e) c.refused_program.ensures.untyped

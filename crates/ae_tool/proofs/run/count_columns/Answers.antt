@@ -6,5 +6,6 @@ columns-count-requires c = sized_at c.args.layouts.now c.loop-layout.layout-inde
 
 pub loop-layout-preserved : goal.loop-layout-preserved
 loop-layout-preserved c =
-    counted_next c.args.layouts.now c.loop-layout.layout-index c.loop-layout.count c.columns-count.result c.layout-item.result c.loop-layout-test.true c.layout-item.is
+    counted_next c.args.layouts.now c.loop-layout.layout-index c.loop-layout.count c.columns-count.result c.layout-item.result c.loop-layout-test.true
+    c.layout-item.is
     c.columns-count.ensures.is c.columns-count.ensures.few c.loop-layout.invariant.0 c.loop-layout.invariant.1

@@ -16,8 +16,10 @@ count_columns-requires-clause-sized c =
     let all = st_func_trees c.args.costed.now.schedule in
     let s = st_func_tree c.main_instance.result.now in
     let are : map st_tree c.deref.result.now ≡ s.ins = ap (map st_tree) c.deref.ensures.value in
-    let m = main_is p c.args.costed.now.slowdown all s c.main_instance.ensures.known.schedule c.main_instance.ensures.known.sound c.main_instance.ensures.last in
-    subst (All IsInSize) (sym are) (All-weaker (λ (t : StTree). IsInSize t × (time t ≡ c.args.costed.now.slowdown)) IsInSize (λ t h. h.0) s.ins (fill_clocks_in p c.args.costed.now.slowdown all s m))
+    let m = main_is p c.args.costed.now.slowdown all s c.main_instance.ensures.known.schedule c.main_instance.ensures.known.sound
+    c.main_instance.ensures.last in
+    subst (All IsInSize) (sym are) (All-weaker (λ (t : StTree). IsInSize t × (time t ≡ c.args.costed.now.slowdown)) IsInSize (λ t h. h.0) s.ins
+    (fill_clocks_in p c.args.costed.now.slowdown all s m))
 
 pub count_columns-requires-clause-few : goal.count_columns-requires-clause-few
 count_columns-requires-clause-few c =
@@ -25,8 +27,10 @@ count_columns-requires-clause-few c =
     let all = st_func_trees c.args.costed.now.schedule in
     let s = st_func_tree c.main_instance.result.now in
     let are : map st_tree c.deref.result.now ≡ s.ins = ap (map st_tree) c.deref.ensures.value in
-    let m = main_is p c.args.costed.now.slowdown all s c.main_instance.ensures.known.schedule c.main_instance.ensures.known.sound c.main_instance.ensures.last in
-    let few : length s.ins ≤ 8 = few_parameters p c.args.costed.now.slowdown all s c.main_instance.ensures.known.some c.main_instance.ensures.known.most c.main_instance.ensures.known.typed m in
+    let m = main_is p c.args.costed.now.slowdown all s c.main_instance.ensures.known.schedule c.main_instance.ensures.known.sound
+    c.main_instance.ensures.last in
+    let few : length s.ins ≤ 8 = few_parameters p c.args.costed.now.slowdown all s c.main_instance.ensures.known.some c.main_instance.ensures.known.most
+    c.main_instance.ensures.known.typed m in
     omega (arith, few, ap length are, length-map c.deref.result.now st_tree)
 
 pub returns-clause-is : goal.returns-clause-is
@@ -35,5 +39,6 @@ returns-clause-is c =
     let all = st_func_trees c.args.costed.now.schedule in
     let s = st_func_tree c.main_instance.result.now in
     let are : map st_tree c.deref.result.now ≡ s.ins = ap (map st_tree) c.deref.ensures.value in
-    let m = main_is p c.args.costed.now.slowdown all s c.main_instance.ensures.known.schedule c.main_instance.ensures.known.sound c.main_instance.ensures.last in
+    let m = main_is p c.args.costed.now.slowdown all s c.main_instance.ensures.known.schedule c.main_instance.ensures.known.sound
+    c.main_instance.ensures.last in
     c.count_columns.ensures.is ∙ ap (sum_by columns_of) are ∙ parameters_counted p c.args.costed.now.slowdown all s c.main_instance.ensures.known.typed m

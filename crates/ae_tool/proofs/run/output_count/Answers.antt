@@ -7,10 +7,14 @@ use Rattle.ae_tool.proofs.Columns.{few_layouts, main_is, results_counted}
 use Rattle.ae_tool.proofs.run.output_count.Goals as goal
 
 pub count_results-requires-clause-below : goal.count_results-requires-clause-below
-count_results-requires-clause-below c = (c.main_instance.ensures.known.sound.each (last_of (st_func_trees c.args.costed.now.schedule)) (st_func_tree c.main_instance.result.now) c.main_instance.ensures.last).results
+count_results-requires-clause-below c =
+    (c.main_instance.ensures.known.sound.each (last_of (st_func_trees c.args.costed.now.schedule))
+    (st_func_tree c.main_instance.result.now) c.main_instance.ensures.last).results
 
 pub count_results-requires-clause-sized : goal.count_results-requires-clause-sized
-count_results-requires-clause-sized c = small_results (st_func_trees c.args.costed.now.schedule) (st_func_tree c.main_instance.result.now) c.main_instance.ensures.known.sound c.main_instance.ensures.last
+count_results-requires-clause-sized c =
+    small_results (st_func_trees c.args.costed.now.schedule)
+    (st_func_tree c.main_instance.result.now) c.main_instance.ensures.known.sound c.main_instance.ensures.last
 
 pub count_results-requires-clause-few : goal.count_results-requires-clause-few
 count_results-requires-clause-few c =
@@ -24,4 +28,5 @@ returns-clause-is c =
     let all = st_func_trees c.args.costed.now.schedule in
     let s = st_func_tree c.main_instance.result.now in
     c.count_results.ensures.is
-    ∙ results_counted p c.args.costed.now.slowdown all s c.main_instance.ensures.known.typed (main_is p c.args.costed.now.slowdown all s c.main_instance.ensures.known.schedule c.main_instance.ensures.known.sound c.main_instance.ensures.last)
+    ∙ results_counted p c.args.costed.now.slowdown all s c.main_instance.ensures.known.typed
+    (main_is p c.args.costed.now.slowdown all s c.main_instance.ensures.known.schedule c.main_instance.ensures.known.sound c.main_instance.ensures.last)

@@ -17,9 +17,12 @@ returns-in-Ok c =
     let table = rows c.args.rest.now in
     IfOk-weaker c.run_rows.result (λ (r : Reply). IsRunOf c.args.form c.args.fill p c.in-Ok.costed.slowdown all table r.status (string_bytes r.text))
     (λ (r : Reply). IsPlayed c.args.form c.args.slowdown c.args.fill c.args.part.now table r.status (string_bytes r.text))
-    (λ r w. Played p all c.in-Ok.ensures.costed (subst (λ (s : ℕ). IsRunOf c.args.form c.args.fill p s all table r.status (string_bytes r.text)) c.in-Ok.ensures.slowdown w)) c.run_rows.ensures
+    (λ r w. Played p all c.in-Ok.ensures.costed (subst (λ (s : ℕ). IsRunOf c.args.form c.args.fill p s all table r.status (string_bytes r.text))
+    c.in-Ok.ensures.slowdown w)) c.run_rows.ensures
 
 pub returns-in-Err : goal.returns-in-Err
 returns-in-Err c =
-    uncosted c.refused_program.result c.in-Err.fault load_limit c.args.part.now c.args.slowdown (λ (r : Reply). IsPlayed c.args.form c.args.slowdown c.args.fill c.args.part.now (rows c.args.rest.now) r.status (string_bytes r.text)) c.in-Err.ensures.refused
+    uncosted c.refused_program.result c.in-Err.fault load_limit c.args.part.now c.args.slowdown
+    (λ (r : Reply). IsPlayed c.args.form c.args.slowdown c.args.fill c.args.part.now (rows c.args.rest.now) r.status (string_bytes r.text))
+    c.in-Err.ensures.refused
     (λ r w e. Unbuilt w e) c.refused_program.ensures.uncosted

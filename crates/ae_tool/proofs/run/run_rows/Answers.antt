@@ -16,21 +16,30 @@ pub read_rows-requires-clause-few : goal.read_rows-requires-clause-few
 read_rows-requires-clause-few c =
     let p = program_tree c.args.costed.program in
     let typed = c.program-program.ensures.known.typed in
-    let w : c.as_slice.result.now ≡ input_widths p = c.as_slice.ensures.value ∙ c.in_ok-widths.ensures ∙ ap (λ (q : Program). input_widths (program_tree q)) (c.program.ensures.program ∙ c.program-program.ensures.is) in
+    let w : c.as_slice.result.now ≡ input_widths p = c.as_slice.ensures.value ∙ c.in_ok-widths.ensures ∙
+    ap (λ (q : Program). input_widths (program_tree q)) (c.program.ensures.program ∙ c.program-program.ensures.is) in
     omega (arith, ap length w, (has_columns p typed).few)
 
 pub read_rows-requires-clause-small : goal.read_rows-requires-clause-small
 read_rows-requires-clause-small c =
     let p = program_tree c.args.costed.program in
     let typed = c.program-program.ensures.known.typed in
-    let w : c.as_slice.result.now ≡ input_widths p = c.as_slice.ensures.value ∙ c.in_ok-widths.ensures ∙ ap (λ (q : Program). input_widths (program_tree q)) (c.program.ensures.program ∙ c.program-program.ensures.is) in
+    let w : c.as_slice.result.now ≡ input_widths p = c.as_slice.ensures.value ∙ c.in_ok-widths.ensures ∙
+    ap (λ (q : Program). input_widths (program_tree q)) (c.program.ensures.program ∙ c.program-program.ensures.is) in
     subst (All (λ w. w ≤ 64)) (sym w) (has_columns p typed).small
 
 pub run_words-requires : goal.run_words-requires
 run_words-requires c =
     let p = program_tree c.args.costed.program in
-    let w : c.as_slice.result.now ≡ input_widths p = c.as_slice.ensures.value ∙ c.in_ok-widths.ensures ∙ ap (λ (q : Program). input_widths (program_tree q)) (c.program.ensures.program ∙ c.program-program.ensures.is) in
-    record { rows = (rows c.args.rest.now, rows_known p c.args.rest.now c.as_slice.result.now c.as_slice-in-Ok.result.now c.in-Ok.table.columns c.requires.rest w c.in-Ok.ensures.table.0 c.in-Ok.ensures.right (c.as_slice-in-Ok.ensures.value ∙ c.in-Ok.ensures.table.1)) }
+    let w : c.as_slice.result.now ≡ input_widths p = c.as_slice.ensures.value ∙ c.in_ok-widths.ensures ∙
+    ap (λ (q : Program). input_widths (program_tree q)) (c.program.ensures.program ∙ c.program-program.ensures.is) in
+    record {
+      rows = (
+        rows c.args.rest.now,
+        rows_known p c.args.rest.now c.as_slice.result.now c.as_slice-in-Ok.result.now c.in-Ok.table.columns c.requires.rest
+            w c.in-Ok.ensures.table.0 c.in-Ok.ensures.right (c.as_slice-in-Ok.ensures.value ∙ c.in-Ok.ensures.table.1),
+      );
+    }
 
 pub returns-in-Ok : goal.returns-in-Ok
 returns-in-Ok c =
@@ -39,7 +48,10 @@ returns-in-Ok c =
     let table = rows c.args.rest.now in
     let ws = c.as_slice-in-Ok.result.now in
     let n = c.in-Ok.table.columns in
-    let w : c.as_slice.result.now ≡ input_widths p = c.as_slice.ensures.value ∙ c.in_ok-widths.ensures ∙ ap (λ (q : Program). input_widths (program_tree q)) (c.program.ensures.program ∙ c.program-program.ensures.is) in
-    let a : AreRows p n table ws = rows_known p c.args.rest.now c.as_slice.result.now ws n c.requires.rest w c.in-Ok.ensures.table.0 c.in-Ok.ensures.right (c.as_slice-in-Ok.ensures.value ∙ c.in-Ok.ensures.table.1) in
-    IfOk-weaker c.run_words.result (λ (r : Reply). (t : List (List (List ℕ))) → AreRows p n t ws → IsRunOf c.args.form c.args.fill p c.args.costed.slowdown all t r.status (string_bytes r.text))
+    let w : c.as_slice.result.now ≡ input_widths p = c.as_slice.ensures.value ∙ c.in_ok-widths.ensures ∙
+    ap (λ (q : Program). input_widths (program_tree q)) (c.program.ensures.program ∙ c.program-program.ensures.is) in
+    let a : AreRows p n table ws = rows_known p c.args.rest.now c.as_slice.result.now ws n c.requires.rest w c.in-Ok.ensures.table.0 c.in-Ok.ensures.right
+    (c.as_slice-in-Ok.ensures.value ∙ c.in-Ok.ensures.table.1) in
+    IfOk-weaker c.run_words.result (λ (r : Reply). (t : List (List (List ℕ))) → AreRows p n t ws
+    → IsRunOf c.args.form c.args.fill p c.args.costed.slowdown all t r.status (string_bytes r.text))
     (λ (r : Reply). IsRunOf c.args.form c.args.fill p c.args.costed.slowdown all table r.status (string_bytes r.text)) (λ r h. h table a) c.run_words.ensures

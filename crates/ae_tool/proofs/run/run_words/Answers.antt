@@ -33,22 +33,30 @@ returns-then-size-gt-RUN_LIMIT c =
     let all = st_func_trees c.args.costed.schedule in
     let ws = c.args.words.now in
     let costs = main_costs p all in
-    let latency : c.latency.result ≡ costs.latency = c.latency.ensures ∙ ap (λ (k : OwnCosts). k.latency) (ap whole_costs c.costs-costs.ensures.is ∙ known_costs load_limit p c.args.costed.slowdown all c.args.costed.costs c.costs-costs.ensures.known) in
+    let latency : c.latency.result ≡ costs.latency = c.latency.ensures ∙
+    ap (λ (k : OwnCosts). k.latency) (ap whole_costs c.costs-costs.ensures.is ∙
+    known_costs load_limit p c.args.costed.slowdown all c.args.costed.costs c.costs-costs.ensures.known) in
     let size : ℕ = c.clock_count-clocks.result * (1 + c.word_count.result) in
     let typed = c.costs-costs.ensures.known.typed in
     IfOk-weaker c.refused.result (λ (r : Reply). (r.status ≡ LongRun size) × (string_bytes r.text ≡ refusal_line (LongRun size)))
-    (λ (r : Reply). (table : List (List (List ℕ))) → AreRows p c.args.columns table ws → IsRunOf c.args.form c.args.fill p c.args.costed.slowdown all table r.status (string_bytes r.text))
+    (λ (r : Reply). (table : List (List (List ℕ))) → AreRows p c.args.columns table ws
+    → IsRunOf c.args.form c.args.fill p c.args.costed.slowdown all table r.status (string_bytes r.text))
     (λ r w table a.
     run_too_long c.args.form c.args.fill p c.args.costed.slowdown all c.args.columns table ws size r.status (string_bytes r.text) a
-    (run_size_is c.args.form p c.args.costed.slowdown costs c.args.columns table ws c.latency.result c.clock_count-clocks.result c.word_count.result typed a latency (rw c.slowdown.ensures at c.clock_count-clocks.ensures.is) c.word_count.ensures.is)
+    (run_size_is c.args.form p c.args.costed.slowdown costs c.args.columns table ws c.latency.result c.clock_count-clocks.result c.word_count.result typed a
+    latency (rw c.slowdown.ensures at c.clock_count-clocks.ensures.is) c.word_count.ensures.is)
     c.if-size-gt-RUN_LIMIT.true w.0 w.1) c.refused.ensures
 
 pub shown-requires-clause-clocks : goal.shown-requires-clause-clocks
 shown-requires-clause-clocks c =
     let p = program_tree c.args.costed.program in
     let all = st_func_trees c.args.costed.schedule in
-    let latency : c.latency.result ≡ (main_costs p all).latency = c.latency.ensures ∙ ap (λ (k : OwnCosts). k.latency) (ap whole_costs c.costs-costs.ensures.is ∙ known_costs load_limit p c.args.costed.slowdown all c.args.costed.costs c.costs-costs.ensures.known) in
-    sym (clocks_told c.in_ok-compiled.compiled c.args.costed c.latency.result (length c.args.words.now / c.args.columns) c.clock_count-clocks.result c.in_ok-compiled.ensures.of c.in_ok-compiled.ensures.compiled latency (rw c.slowdown.ensures at c.clock_count-clocks.ensures.is))
+    let latency : c.latency.result ≡ (main_costs p all).latency = c.latency.ensures ∙
+    ap (λ (k : OwnCosts). k.latency) (ap whole_costs c.costs-costs.ensures.is ∙
+    known_costs load_limit p c.args.costed.slowdown all c.args.costed.costs c.costs-costs.ensures.known) in
+    sym (clocks_told c.in_ok-compiled.compiled c.args.costed c.latency.result
+    (length c.args.words.now / c.args.columns) c.clock_count-clocks.result c.in_ok-compiled.ensures.of c.in_ok-compiled.ensures.compiled latency
+    (rw c.slowdown.ensures at c.clock_count-clocks.ensures.is))
 
 pub shown-requires-clause-small : goal.shown-requires-clause-small
 shown-requires-clause-small c =
@@ -59,8 +67,11 @@ shown-requires-clause-small c =
 pub shown-requires-clause-rows : goal.shown-requires-clause-rows
 shown-requires-clause-rows c =
     let p = program_tree c.args.costed.program in
-    let here = blocks_known p c.args.columns c.requires.rows.0 c.args.words.now c.costs-costs.ensures.known.typed c.requires.rows.1 in
-    (c.requires.rows.0, subst (λ (k : CostedView). AreBlocks (program_tree k.program) (length c.args.words.now / c.args.columns) c.requires.rows.0 c.args.words.now) (sym c.in_ok-compiled.ensures.of) here)
+    let here = blocks_known p c.args.columns c.requires.rows.0 c.args.words.now c.costs-costs.ensures.known.typed c.requires.rows.1 in (
+      c.requires.rows.0,
+      subst (λ (k : CostedView). AreBlocks (program_tree k.program)
+          (length c.args.words.now / c.args.columns) c.requires.rows.0 c.args.words.now) (sym c.in_ok-compiled.ensures.of) here,
+    )
 
 pub returns : goal.returns
 returns c = λ table a.
@@ -68,12 +79,20 @@ returns c = λ table a.
     let all = st_func_trees c.args.costed.schedule in
     let ws = c.args.words.now in
     let costs = main_costs p all in
-    let latency : c.latency.result ≡ costs.latency = c.latency.ensures ∙ ap (λ (k : OwnCosts). k.latency) (ap whole_costs c.costs-costs.ensures.is ∙ known_costs load_limit p c.args.costed.slowdown all c.args.costed.costs c.costs-costs.ensures.known) in
+    let latency : c.latency.result ≡ costs.latency = c.latency.ensures ∙
+    ap (λ (k : OwnCosts). k.latency) (ap whole_costs c.costs-costs.ensures.is ∙
+    known_costs load_limit p c.args.costed.slowdown all c.args.costed.costs c.costs-costs.ensures.known) in
     let typed = c.costs-costs.ensures.known.typed in
     let size : c.clock_count-clocks.result * (1 + c.word_count.result) ≡ run_size c.args.form p c.args.costed.slowdown costs.latency table =
-    run_size_is c.args.form p c.args.costed.slowdown costs c.args.columns table ws c.latency.result c.clock_count-clocks.result c.word_count.result typed a latency (rw c.slowdown.ensures at c.clock_count-clocks.ensures.is) c.word_count.ensures.is in
+    run_size_is c.args.form p c.args.costed.slowdown costs c.args.columns table ws c.latency.result c.clock_count-clocks.result c.word_count.result typed a
+    latency (rw c.slowdown.ensures at c.clock_count-clocks.ensures.is) c.word_count.ensures.is in
     let short : run_size c.args.form p c.args.costed.slowdown costs.latency table ≤ run_limit = subst (λ n. n ≤ run_limit) size c.if-size-gt-RUN_LIMIT.false in
     let blocks = length ws / c.args.columns in
-    let here = subst (λ (k : CostedView). AreBlocks (program_tree k.program) blocks table ws) (sym c.in_ok-compiled.ensures.of) (blocks_known p c.args.columns table ws typed a) in
-    let text = string_bytes c.in_ok-text.text in
-    (a.right, short, subst (λ (k : CostedView). IsRunShown c.args.form c.args.fill (program_tree k.program) k.slowdown (st_func_trees k.schedule) table text) c.in_ok-compiled.ensures.of (c.in_ok-text.ensures table here))
+    let here = subst (λ (k : CostedView). AreBlocks (program_tree k.program) blocks table ws) (sym c.in_ok-compiled.ensures.of)
+    (blocks_known p c.args.columns table ws typed a) in
+    let text = string_bytes c.in_ok-text.text in (
+      a.right,
+      short,
+      subst (λ (k : CostedView). IsRunShown c.args.form c.args.fill (program_tree k.program) k.slowdown (st_func_trees k.schedule) table text)
+          c.in_ok-compiled.ensures.of (c.in_ok-text.ensures table here),
+    )

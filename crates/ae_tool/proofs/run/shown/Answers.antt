@@ -8,4 +8,5 @@ use Rattle.ae_tool.proofs.run.shown.Goals as goal
 pub run_text-requires-clause-short : goal.run_text-requires-clause-short
 run_text-requires-clause-short c =
     let d = c.args.compiled.now in
-    few_clocks c.args.clocks (clock_count d.costed.slowdown d.report.latency c.args.blocks) (word_count c.args.form (program_tree d.costed.program) d.costed.slowdown) c.requires.clocks c.requires.small
+    few_clocks c.args.clocks (clock_count d.costed.slowdown d.report.latency c.args.blocks)
+    (word_count c.args.form (program_tree d.costed.program) d.costed.slowdown) c.requires.clocks c.requires.small

@@ -12,12 +12,23 @@ returns-in-Ok-answer g c ws h =
     let text : List ℕ = string_bytes reply.text in
     let status : Status = reply.status in
     let O : List ℕ → Type 0 = λ bs. IsDone c.args.command bs status text in
-    let old : SinkView = record { written = g.K.Sink.written c.args.sink.now; faults = g.K.Sink.faults c.args.sink.now; wants = g.K.Sink.wants c.args.sink.now; ends = g.K.Sink.ends c.args.sink.now } in
-    let new : SinkView = record { written = g.K.Sink.written c.put.new.sink; faults = g.K.Sink.faults c.put.new.sink; wants = g.K.Sink.wants c.put.new.sink; ends = g.K.Sink.ends c.put.new.sink } in
+    let old : SinkView = record {
+      written = g.K.Sink.written c.args.sink.now;
+      faults = g.K.Sink.faults c.args.sink.now;
+      wants = g.K.Sink.wants c.args.sink.now;
+      ends = g.K.Sink.ends c.args.sink.now;
+    } in
+    let new : SinkView = record {
+      written = g.K.Sink.written c.put.new.sink;
+      faults = g.K.Sink.faults c.put.new.sink;
+      wants = g.K.Sink.wants c.put.new.sink;
+      ends = g.K.Sink.ends c.put.new.sink;
+    } in
     let P : List ℕ → Type 0 = λ ts. Puts ts status c.put.result old new in
     let long : length bytes ≡ vec_len c.in-Ok.bytes = ap length (sym c.deref.ensures.value) ∙ c.deref.ensures.len in
     let few : length bytes ≤ 16777216 = omega (arith, long, c.in-Ok.ensures.within) in
-    Done c.args.command h c.requires.takes bytes text status c.in-Ok.ensures.ok few (subst O c.deref.ensures.value c.in-Ok-answer.ensures) (subst P c.as_bytes.ensures.value c.put.ensures)
+    Done c.args.command h c.requires.takes bytes text status c.in-Ok.ensures.ok few (subst O c.deref.ensures.value c.in-Ok-answer.ensures)
+    (subst P c.as_bytes.ensures.value c.put.ensures)
 
 pub returns-in-Err-Read : goal.returns-in-Err-Read
 returns-in-Err-Read g c ws h = Unread c.args.command h c.requires.takes (c.in-Err-Read.ensures.read (search rules)) c.put-in-Err-Read.ensures

@@ -5,4 +5,5 @@ use Rattle.ae_tool.proofs.sim.input_widths.Given as goal
 
 abbrev pub invariant-loop-sized : goal.invariant-loop-sized
 invariant-loop-sized l =
-    l.widths.items ++ map (λ (s : SizedCell). s.width) (cells_of is_input (drop l.sized-index l.sized-items)) ≡ l.initial.widths.items ++ map (λ (s : SizedCell). s.width) (cells_of is_input l.sized-items)
+    l.widths.items ++ map (λ (s : SizedCell). s.width) (cells_of is_input (drop l.sized-index l.sized-items)) ≡ l.initial.widths.items
+    ++ map (λ (s : SizedCell). s.width) (cells_of is_input l.sized-items)

@@ -15,12 +15,16 @@ pub returns-in-Ok : goal.returns-in-Ok
 returns-in-Ok c =
     let m = module_tree c.args.m in
     let table = rows c.args.rest.now in
-    IfOk-weaker c.run_netlist.result (λ (r : Reply). IsNetSim c.args.fill c.in-Ok.nl table r.status (string_bytes r.text)) (λ (r : Reply). IsModuleReply c.args.fill m table r.status (string_bytes r.text))
-    (λ r w. Played c.in-Ok.ensures.well_formed (sim_of m c.in-Ok.nl c.args.fill table r.status (string_bytes r.text) c.in-Ok.ensures.runs w)) c.run_netlist.ensures
+    IfOk-weaker c.run_netlist.result (λ (r : Reply). IsNetSim c.args.fill c.in-Ok.nl table r.status (string_bytes r.text))
+    (λ (r : Reply). IsModuleReply c.args.fill m table r.status (string_bytes r.text))
+    (λ r w. Played c.in-Ok.ensures.well_formed (sim_of m c.in-Ok.nl c.args.fill table r.status (string_bytes r.text) c.in-Ok.ensures.runs w))
+    c.run_netlist.ensures
 
 pub returns-in-Err : goal.returns-in-Err
 returns-in-Err c =
     let m = module_tree c.args.m in
     let table = rows c.args.rest.now in
-    IfOk-weaker c.refused_as.result (λ (r : Reply). IsRefusedAs c.module_kind.result r.status (string_bytes r.text)) (λ (r : Reply). IsModuleReply c.args.fill m table r.status (string_bytes r.text))
-    (λ r w. Refused c.in-Err.fault c.in-Err.ensures.fault (subst (λ k. IsRefusedAs k r.status (string_bytes r.text)) c.module_kind.ensures w)) c.refused_as.ensures
+    IfOk-weaker c.refused_as.result (λ (r : Reply). IsRefusedAs c.module_kind.result r.status (string_bytes r.text))
+    (λ (r : Reply). IsModuleReply c.args.fill m table r.status (string_bytes r.text))
+    (λ r w. Refused c.in-Err.fault c.in-Err.ensures.fault (subst (λ k. IsRefusedAs k r.status (string_bytes r.text)) c.module_kind.ensures w))
+    c.refused_as.ensures

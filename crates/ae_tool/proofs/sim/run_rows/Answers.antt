@@ -20,10 +20,12 @@ returns-then-size-gt-RUN_LIMIT c =
     let size : ℕ = length ws / c.args.columns * (1 + c.from.result) in
     IfOk-weaker c.refused.result (λ (r : Reply). (r.status ≡ LongRun size) × (string_bytes r.text ≡ refusal_line (LongRun size)))
     (λ (r : Reply). (table : List (List (List ℕ))) → AreSimRows n.cells c.args.columns table ws → IsNetSim c.args.fill n table r.status (string_bytes r.text))
-    (λ r w table a. long_run c.args.fill n c.args.columns table ws c.from.result size r.status (string_bytes r.text) a (c.from.ensures ∙ c.outputs.ensures) refl c.if-size-gt-RUN_LIMIT.true w.0 w.1) c.refused.ensures
+    (λ r w table a. long_run c.args.fill n c.args.columns table ws c.from.result size r.status (string_bytes r.text) a
+    (c.from.ensures ∙ c.outputs.ensures) refl c.if-size-gt-RUN_LIMIT.true w.0 w.1) c.refused.ensures
 
 pub returns : goal.returns
 returns c = λ table a.
     let ws = c.args.words.now in
     let size : ℕ = length ws / c.args.columns * (1 + c.from.result) in
-    short_run c.args.fill c.args.nl.now c.args.columns table ws c.from.result size (string_bytes c.in_ok-text.text) a (c.from.ensures ∙ c.outputs.ensures) refl c.if-size-gt-RUN_LIMIT.false (c.in_ok-text.ensures table a)
+    short_run c.args.fill c.args.nl.now c.args.columns table ws c.from.result size (string_bytes c.in_ok-text.text) a
+    (c.from.ensures ∙ c.outputs.ensures) refl c.if-size-gt-RUN_LIMIT.false (c.in_ok-text.ensures table a)

@@ -17,7 +17,8 @@ returns-in_ok-text-in-Ok c =
     let k = c.in-Ok.costed in
     let text = string_bytes c.in_ok-text-in-Ok.text in
     let here : IsStalledText (program_tree k.program) k.slowdown (st_func_trees k.schedule) text =
-    subst (λ (x : CostedView). IsStalledText (program_tree x.program) x.slowdown (st_func_trees x.schedule) text) c.in_ok-compiled-in-Ok.ensures.of c.in_ok-text-in-Ok.ensures in
+    subst (λ (x : CostedView). IsStalledText (program_tree x.program) x.slowdown (st_func_trees x.schedule) text) c.in_ok-compiled-in-Ok.ensures.of
+    c.in_ok-text-in-Ok.ensures in
     record {
       program = program_tree k.program;
       instances = st_func_trees k.schedule;
@@ -26,4 +27,6 @@ returns-in_ok-text-in-Ok c =
     }
 
 pub returns-in-Err : goal.returns-in-Err
-returns-in-Err c = answered_refused c.refused_program.result c.in-Err.fault stall_limit (IsBuiltStalled c.args.part.now c.args.slowdown) c.args.part.now c.args.slowdown c.in-Err.ensures.refused c.refused_program.ensures.uncosted
+returns-in-Err c =
+    answered_refused c.refused_program.result c.in-Err.fault stall_limit
+    (IsBuiltStalled c.args.part.now c.args.slowdown) c.args.part.now c.args.slowdown c.in-Err.ensures.refused c.refused_program.ensures.uncosted

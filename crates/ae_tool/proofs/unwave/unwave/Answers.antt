@@ -24,13 +24,16 @@ returns-in-Err-BadWord c =
     let bad = c.in-Err-BadWord.ensures.bad at (search rules) in
     let judged = c.words_are_judged.ensures (text_words c.args.part.now) in
     let none : IsNoDump c.args.part.now at = record { bad = bad; first = λ k h. judged.one k at h bad; none = λ w v. judged.not_both at v.dump bad } in
-    IfOk-weaker c.refused.result (λ (r : Reply). (r.status ≡ BadWave at) × (string_bytes r.text ≡ refusal_line (BadWave at))) (λ (r : Reply). IsUnwaved c.args.part.now r.status (string_bytes r.text))
+    IfOk-weaker c.refused.result (λ (r : Reply). (r.status ≡ BadWave at) × (string_bytes r.text ≡ refusal_line (BadWave at)))
+    (λ (r : Reply). IsUnwaved c.args.part.now r.status (string_bytes r.text))
     (λ r w. unwaved_by c.args.part.now r.status (BadWave at) (string_bytes r.text) w.0 (none, w.1)) c.refused.ensures
 
 pub returns-in-Err-Large : goal.returns-in-Err-Large
 returns-in-Err-Large c =
     let size : ℕ = c.in-Err-Large.size in
     let large = c.in-Err-Large.ensures.large size (search rules) in
-    IfOk-weaker c.refused-in-Err-Large.result (λ (r : Reply). (r.status ≡ LongRun size) × (string_bytes r.text ≡ refusal_line (LongRun size))) (λ (r : Reply). IsUnwaved c.args.part.now r.status (string_bytes r.text))
+    IfOk-weaker c.refused-in-Err-Large.result (λ (r : Reply). (r.status ≡ LongRun size) × (string_bytes r.text ≡ refusal_line (LongRun size)))
+    (λ (r : Reply). IsUnwaved c.args.part.now r.status (string_bytes r.text))
     (λ r w. unwaved_by c.args.part.now r.status (LongRun size) (string_bytes r.text) w.0
-    (large.0, record { dump = large.1; only = λ v h. c.waves_are_one.ensures c.args.part.now v large.0 h large.1 }, large.3, large.2, w.1)) c.refused-in-Err-Large.ensures
+    (large.0, record { dump = large.1; only = λ v h. c.waves_are_one.ensures c.args.part.now v large.0 h large.1 }, large.3, large.2, w.1))
+    c.refused-in-Err-Large.ensures

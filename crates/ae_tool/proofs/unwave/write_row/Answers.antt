@@ -6,5 +6,7 @@ use Rattle.ae_tool.proofs.unwave.write_row.Goals as goal
 
 pub loop-k-preserved : goal.loop-k-preserved
 loop-k-preserved c =
-    row_more (wave_word (wave_tree c.args.w.now) c.args.i) c.loop-k.k c.word.result (string_bytes c.args.out.now) (string_bytes c.loop-k.out) (string_bytes c.push_str.new.self) (string_bytes c.push_str-in-loop-k.new.self)
-    c.word.ensures c.loop-k.invariant c.in_ok-push_str.ensures.bytes (c.in_ok-push_str-2.ensures.bytes ∙ ap (λ x. string_bytes c.push_str.new.self ++ x) c.format.ensures.text)
+    row_more (wave_word (wave_tree c.args.w.now) c.args.i) c.loop-k.k c.word.result (string_bytes c.args.out.now) (string_bytes c.loop-k.out)
+    (string_bytes c.push_str.new.self) (string_bytes c.push_str-in-loop-k.new.self)
+    c.word.ensures c.loop-k.invariant c.in_ok-push_str.ensures.bytes
+    (c.in_ok-push_str-2.ensures.bytes ∙ ap (λ x. string_bytes c.push_str.new.self ++ x) c.format.ensures.text)

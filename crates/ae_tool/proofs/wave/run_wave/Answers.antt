@@ -39,4 +39,5 @@ returns-clause-formed c =
     let k = counted p d.costed.slowdown (st_func_trees d.costed.schedule) d.netlist report notes c.in_ok-ports.ensures.known.compiled in
     let small : c.args.clocks * (1 + length (variables_of own)) ≤ run_limit = subst (λ n. c.args.clocks * (1 + n) ≤ run_limit) (sym k.all) c.requires.small in
     subst IsFormedWave (sym (tree_is c))
-    (wave_formed (lines_of notes (length d.netlist.cells)) d.netlist many c.in_ok-ports.ensures.writable c.in_ok-ports.ensures.own w.run w.runs c.args.clocks c.args.words.items w.long w.are k.some k.few small)
+    (wave_formed (lines_of notes (length d.netlist.cells)) d.netlist many c.in_ok-ports.ensures.writable c.in_ok-ports.ensures.own w.run w.runs c.args.clocks
+    c.args.words.items w.long w.are k.some k.few small)

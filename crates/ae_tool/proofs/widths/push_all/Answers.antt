@@ -10,7 +10,8 @@ pub loop-param-preserved : goal.loop-param-preserved
 loop-param-preserved c =
     let i = c.loop-param.param-index in
     let params = c.args.params.now in
-    let step : drop i params ≡ c.param-item.result ∷ drop (i + 1) params = drop_more params i c.param-item.result c.loop-param-test.true ∙ ap (λ p. p ∷ drop (i + 1) params) (sym c.param-item.is) in
+    let step : drop i params ≡ c.param-item.result ∷ drop (i + 1) params = drop_more params i c.param-item.result c.loop-param-test.true ∙
+    ap (λ p. p ∷ drop (i + 1) params) (sym c.param-item.is) in
     let types : List Param → List SeqTree = λ ps. map (λ (p : ParamTree). p.type) (map param_tree ps) in
     ap (λ x. x ++ widths_of (types (drop (i + 1) params))) c.in_ok-push_type.ensures
     ∙ append_assoc c.loop-param.widths.items (type_widths (seq_tree c.param-item.result.ty)) (widths_of (types (drop (i + 1) params)))

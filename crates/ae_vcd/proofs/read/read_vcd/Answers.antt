@@ -11,12 +11,14 @@ pub returns-in-Ok-false-clause-bad : goal.returns-in-Ok-false-clause-bad
 returns-in-Ok-false-clause-bad c = λ at e.
     let q : c.loop-word.at ≡ at = cc in
     subst (λ k. IsBadWord (text_words c.args.text.now) k) q
-    (reach_bad c.args.text.now c.loop-word.at c.loop-word.rest.now c.in-Some.word.now c.in-Some.after.now c.loop-word.reader c.step.new.self c.loop-word.invariant.reached c.in-Some.ensures.cases
+    (reach_bad c.args.text.now c.loop-word.at c.loop-word.rest.now c.in-Some.word.now c.in-Some.after.now c.loop-word.reader c.step.new.self
+    c.loop-word.invariant.reached c.in-Some.ensures.cases
     (λ s f. subst (λ b. Answers b c.step.new.self (step s c.in-Some.word.now)) c.in-Ok-false.field-0-test (c.in-Ok-false.ensures.answer s f)))
 
 pub loop-word-preserved : goal.loop-word-preserved
 loop-word-preserved c = record {
-  reached = reach_more c.args.text.now c.loop-word.at c.loop-word.rest.now c.in-Some.word.now c.in-Some.after.now c.loop-word.reader c.step.new.self c.loop-word.invariant.reached c.in-Some.ensures.cases
+  reached = reach_more c.args.text.now c.loop-word.at c.loop-word.rest.now c.in-Some.word.now c.in-Some.after.now c.loop-word.reader c.step.new.self
+      c.loop-word.invariant.reached c.in-Some.ensures.cases
       (λ s f. subst (λ b. Answers b c.step.new.self (step s c.in-Some.word.now)) c.in-Ok-true.field-0-test (c.in-Ok-true.ensures.answer s f));
   room = omega (arith, c.loop-word.invariant.room, c.in-Some.ensures.shorter);
   count = omega (arith, c.loop-word.invariant.count, c.in-Ok-true.ensures.count);

@@ -25,8 +25,11 @@ loop-digit-preserved c =
     let ds = c.args.digits.now in
     let i = c.loop-digit.digit-index in
     let m = one-more c.args.radix ds i c.loop-digit.value (omega arith) (omega arith) c.loop-digit.invariant.0 c.loop-digit.invariant.1 in
-    let d = digit-least c.args.radix ds i (omega arith) (omega arith) c.loop-digit.invariant.1 in
-    (omega (arith, m, c.in-Some.ensures, c.in-Some-checked_add.ensures, c.from.ensures), later-digits c.args.radix ds i (omega arith) c.loop-digit.invariant.1, omega (arith, c.in-Some-checked_add.ensures))
+    let d = digit-least c.args.radix ds i (omega arith) (omega arith) c.loop-digit.invariant.1 in (
+      omega (arith, m, c.in-Some.ensures, c.in-Some-checked_add.ensures, c.from.ensures),
+      later-digits c.args.radix ds i (omega arith) c.loop-digit.invariant.1,
+      omega (arith, c.in-Some-checked_add.ensures),
+    )
 
 pub returns : goal.returns
 returns c =

@@ -5,5 +5,7 @@ use Rattle.ae_verilog.specs.Notes.{table_line}
 
 abbrev pub invariant-loop-k : goal.invariant-loop-k
 invariant-loop-k l =
-    string_bytes l.out ++ between (λ net sized. declaration_text (table_line l.names.lines.now) l.names.cells.now net sized.width sized.cell) l.names.cells.now l.k l.to
-    ≡ string_bytes l.fn.out ++ between (λ net sized. declaration_text (table_line l.names.lines.now) l.names.cells.now net sized.width sized.cell) l.names.cells.now l.from l.to
+    string_bytes l.out ++ between (λ net sized. declaration_text (table_line l.names.lines.now) l.names.cells.now net sized.width sized.cell) l.names.cells.now
+    l.k l.to
+    ≡ string_bytes l.fn.out ++ between (λ net sized. declaration_text (table_line l.names.lines.now) l.names.cells.now net sized.width sized.cell)
+    l.names.cells.now l.from l.to

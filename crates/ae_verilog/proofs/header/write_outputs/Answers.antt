@@ -5,8 +5,10 @@ use Rattle.ae_verilog.proofs.header.write_outputs.Goals as goal
 
 pub loop-outlet-preserved : goal.loop-outlet-preserved
 loop-outlet-preserved c = (
-  mapped_more (output_text c.args.cells.now c.args.outs) c.args.outlets.now c.loop-outlet.outlet-index _ _ _ _ c.loop-outlet-test.true c.loop-outlet.invariant.0 c.in_ok-write_output.ensures.text,
-  first_more (λ outlet. PortFits outlet.port) c.args.outlets.now c.loop-outlet.outlet-index _ c.loop-outlet-test.true c.loop-outlet.invariant.1 c.in_ok-write_output.ensures.fits,
+  mapped_more (output_text c.args.cells.now c.args.outs) c.args.outlets.now c.loop-outlet.outlet-index _ _ _ _ c.loop-outlet-test.true
+      c.loop-outlet.invariant.0 c.in_ok-write_output.ensures.text,
+  first_more (λ outlet. PortFits outlet.port) c.args.outlets.now c.loop-outlet.outlet-index _ c.loop-outlet-test.true c.loop-outlet.invariant.1
+      c.in_ok-write_output.ensures.fits,
 )
 
 pub returns-clause-fits : goal.returns-clause-fits

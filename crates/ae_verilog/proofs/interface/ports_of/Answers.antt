@@ -11,8 +11,12 @@ pub returns : goal.returns
 returns c =
     let n = c.args.nl.now in
     let all : PortList = c.push_outputs.new.self in
-    let none : HasNets [] (record { names = c.new.result; widths = c.new-2.result }) = record { names = ap (map string_bytes) c.new.ensures.items; widths = c.new-2.ensures.items } in
+    let none : HasNets [] (record { names = c.new.result; widths = c.new-2.result }) = record {
+      names = ap (map string_bytes) c.new.ensures.items;
+      widths = c.new-2.ensures.items;
+    } in
     let both = c.in_ok-push_outputs.ensures (input_ports c.cells.result.now) (c.in_ok-push_inputs.ensures [] none) in
     subst (λ (os : List Outlet). HasNets (input_ports n.cells ++ map (output_net n.cells c.args.outs) os) all) c.outlets.ensures
     (subst (λ (cs : List SizedCell). HasNets (input_ports n.cells ++ map (output_net cs c.args.outs) c.outlets.result.now) all) c.cells-2.ensures
-    (subst (λ (cs : List SizedCell). HasNets (input_ports cs ++ map (output_net c.cells-2.result.now c.args.outs) c.outlets.result.now) all) c.cells.ensures both))
+    (subst (λ (cs : List SizedCell). HasNets (input_ports cs ++ map (output_net c.cells-2.result.now c.args.outs) c.outlets.result.now) all) c.cells.ensures
+    both))

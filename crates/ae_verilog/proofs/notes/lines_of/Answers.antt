@@ -11,5 +11,6 @@ returns c =
     let made = (c.in_ok-lines.ensures).len in
     let long : length new ≡ c.args.cells = omega (arith, same, made, c.as_mut_slice.ensures.len) in
     let whole : c.in_ok-lines.lines.len ≡ length new = omega (arith, same, made, c.as_mut_slice.ensures.len) in
-    subst (λ (t : List ℕ). table_line t ≡ lines_of (map note_tree c.args.notes.now) c.args.cells) (sym (front_is new (drop (length new) c.in_ok-lines.lines.items) c.in_ok-lines.lines.len whole))
+    subst (λ (t : List ℕ). table_line t ≡ lines_of (map note_tree c.args.notes.now) c.args.cells)
+    (sym (front_is new (drop (length new) c.in_ok-lines.lines.items) c.in_ok-lines.lines.len whole))
     (lines_are new (map note_tree c.args.notes.now) c.args.cells long (λ k h. c.tell_lines.ensures k (omega arith)))

@@ -5,4 +5,5 @@ use Rattle.ae_verilog.specs.ReportLines.{in_line}
 use Rattle.ae_verilog.proofs.report.write_ins.Given as goal
 
 abbrev pub invariant-loop-k : goal.invariant-loop-k
-invariant-loop-k l = string_bytes l.out ++ each_numbered in_line l.k (map st_tree (drop l.k l.ins)) ≡ string_bytes l.fn.out ++ each_numbered in_line 0 (map st_tree l.ins)
+invariant-loop-k l =
+    string_bytes l.out ++ each_numbered in_line l.k (map st_tree (drop l.k l.ins)) ≡ string_bytes l.fn.out ++ each_numbered in_line 0 (map st_tree l.ins)

@@ -30,7 +30,10 @@ decreases-chosen l = 8 * l.budget + 1
 
 -- what is left to do is what there was to do
 abbrev pub invariant-joined_at-turn : goal.invariant-joined_at-turn
-invariant-joined_at-turn l = joined_at (expression l.budget) l.least (views l.tokens) ≡ operators (expression l.budget) (256 - l.turn) l.least (found_view l.left)
+invariant-joined_at-turn l =
+    joined_at (expression l.budget) l.least (views l.tokens) ≡ operators (expression l.budget) (256 - l.turn) l.least (found_view l.left)
 
 abbrev pub invariant-parts-part : goal.invariant-parts-part
-invariant-parts-part l = parts (expression l.budget) (length (views l.tokens)) (parts_of [] 0 (views l.tokens)) ≡ parts (expression l.budget) (length (views l.tokens) - l.turn) (parts_view l.held)
+invariant-parts-part l =
+    parts (expression l.budget) (length (views l.tokens)) (parts_of [] 0 (views l.tokens)) ≡ parts (expression l.budget) (length (views l.tokens) - l.turn)
+    (parts_view l.held)

@@ -9,18 +9,22 @@ use Rattle.ae_vread.proofs.ListTurns.{entries_first, entries_stop, entries_next,
 use Rattle.ae_vread.proofs.header.port_list.Goals as goal
 
 pub next-init : goal.next-init
-next-init c = entries_first (with_comma port) (port) (views c.args.tokens.now) (nets_view c.in_ok-held.held) (nets_view c.in_ok-held.held) c.in_ok-held.ensures refl
+next-init c =
+    entries_first (with_comma port) (port) (views c.args.tokens.now) (nets_view c.in_ok-held.held) (nets_view c.in_ok-held.held) c.in_ok-held.ensures refl
 
 pub returns-in_default : goal.returns-in_default
 returns-in_default c =
     let below : c.next.turn < length (views c.args.tokens.now) = omega (arith, c.next-test.true, length_views c.args.tokens.now) in
-    entries_stop (with_comma port) _ (length (views c.args.tokens.now)) c.next.turn (nets_view c.next.held) below c.next.invariant (c.in_ok-found.ensures ∙ ap (λ o. Some (option_map nets_view o)) c.in_default.is)
+    entries_stop (with_comma port) _ (length (views c.args.tokens.now)) c.next.turn (nets_view c.next.held) below c.next.invariant
+    (c.in_ok-found.ensures ∙ ap (λ o. Some (option_map nets_view o)) c.in_default.is)
 
 -- one entry more
 pub next-preserved : goal.next-preserved
 next-preserved c =
     let below : c.next.turn < length (views c.args.tokens.now) = omega (arith, c.next-test.true, length_views c.args.tokens.now) in
-    entries_next (with_comma port) _ (length (views c.args.tokens.now)) c.next.turn (nets_view c.next.held) (nets_view c.in-Some.found) (nets_view c.in_ok-held-2.held) below c.next.invariant (c.in_ok-found.ensures ∙ ap (λ o. Some (option_map nets_view o)) c.in-Some.is) c.in_ok-held-2.ensures
+    entries_next (with_comma port) _ (length (views c.args.tokens.now)) c.next.turn (nets_view c.next.held) (nets_view c.in-Some.found)
+    (nets_view c.in_ok-held-2.held) below c.next.invariant
+    (c.in_ok-found.ensures ∙ ap (λ o. Some (option_map nets_view o)) c.in-Some.is) c.in_ok-held-2.ensures
 
 pub returns : goal.returns
 returns c =
@@ -32,4 +36,5 @@ returns-in_err-found c =
     let exit = err_from_is_err_and c.from_residual-in_err-found.result c.from_residual-in_err-found.ensures.1 in
     let below : c.next.turn < length (views c.args.tokens.now) = omega (arith, c.next-test.true, length_views c.args.tokens.now) in
     rw (exit.1, exit.2)
-    (entries_fail (with_comma port) c.in_err-found.field-0.0 _ (length (views c.args.tokens.now)) c.next.turn (nets_view c.next.held) below c.next.invariant c.in_err-found.ensures)
+    (entries_fail (with_comma port) c.in_err-found.field-0.0 _ (length (views c.args.tokens.now)) c.next.turn
+    (nets_view c.next.held) below c.next.invariant c.in_err-found.ensures)

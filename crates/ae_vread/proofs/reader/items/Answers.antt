@@ -9,12 +9,14 @@ item-init c = items_first c.args.most (held_view c.args.first)
 
 pub returns-in_default : goal.returns-in_default
 returns-in_default c =
-    item_stop c.finished.result _ c.args.most c.item.turn (held_view c.item.held) c.item-test.true c.item.invariant (sym c.in_ok-found.ensures ∙ ap (option_map item_view) c.in_default.is) c.finished.ensures
+    item_stop c.finished.result _ c.args.most c.item.turn (held_view c.item.held) c.item-test.true c.item.invariant
+    (sym c.in_ok-found.ensures ∙ ap (option_map item_view) c.in_default.is) c.finished.ensures
 
 -- one item more
 pub item-preserved : goal.item-preserved
 item-preserved c =
-    item_next _ c.args.most c.item.turn (held_view c.item.held) (item_view c.in-Some.found) (held_view c.in_ok-held.held) c.item-test.true c.item.invariant (sym c.in_ok-found.ensures ∙ ap (option_map item_view) c.in-Some.is) c.in_ok-held.ensures
+    item_next _ c.args.most c.item.turn (held_view c.item.held) (item_view c.in-Some.found) (held_view c.in_ok-held.held) c.item-test.true c.item.invariant
+    (sym c.in_ok-found.ensures ∙ ap (option_map item_view) c.in-Some.is) c.in_ok-held.ensures
 
 pub returns : goal.returns
 returns c = item_out _ c.args.most c.item.turn (held_view c.item.held) (omega (arith, c.item-test.false)) (omega arith) c.item.invariant

@@ -13,4 +13,5 @@ statement-returns t c = stmt_step stmt_view c.statement_at.result c.args.budget 
 pub inside-next-preserved : goal.inside-next-preserved
 inside-next-preserved t c =
     let below : c.next.turn < length (views c.args.tokens.now) = omega (arith, c.next-test.true, length_views c.args.tokens.now) in
-    body_turn _ (statement c.args.budget) (length (views c.args.tokens.now)) c.next.turn (body_view c.next.held) (body_view c.in_ok-held.held) (stmt_view c.in_ok-next.next) below c.next.invariant c.in_default.ensures c.in_ok-next.ensures c.in_ok-held.ensures
+    body_turn _ (statement c.args.budget) (length (views c.args.tokens.now)) c.next.turn (body_view c.next.held) (body_view c.in_ok-held.held)
+    (stmt_view c.in_ok-next.next) below c.next.invariant c.in_default.ensures c.in_ok-next.ensures c.in_ok-held.ensures

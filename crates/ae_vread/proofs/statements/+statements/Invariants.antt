@@ -18,4 +18,6 @@ decreases-inside l = 4 * l.budget + 1
 
 -- what is left to do is what there was to do
 abbrev pub invariant-inside-next : goal.invariant-inside-next
-invariant-inside-next l = body (statement l.budget) (length (views l.tokens)) (body_of [] 0 (views l.tokens)) ≡ body (statement l.budget) (length (views l.tokens) - l.turn) (body_view l.held)
+invariant-inside-next l =
+    body (statement l.budget) (length (views l.tokens)) (body_of [] 0 (views l.tokens)) ≡ body (statement l.budget) (length (views l.tokens) - l.turn)
+    (body_view l.held)

@@ -13,7 +13,8 @@ returns-then-two_at-clause-within c =
 
 pub returns-then-two_at-clause-rest : goal.returns-then-two_at-clause-rest
 returns-then-two_at-clause-rest c slash =
-    c.block.invariant.2 slash ∙ block_ends slash c.args.text.now c.block.i (c.two_at.ensures.within c.if-two_at.true) (sym c.two_at.ensures.is ∙ c.if-two_at.true)
+    c.block.invariant.2 slash ∙ block_ends slash c.args.text.now c.block.i (c.two_at.ensures.within c.if-two_at.true)
+    (sym c.two_at.ensures.is ∙ c.if-two_at.true)
 
 -- one byte more
 pub block-preserved : goal.block-preserved

@@ -6,7 +6,8 @@ use Rattle.ae_vtoken.proofs.SizedLemmas.{zero_size}
 use Rattle.ae_vtoken.proofs.sized.is_sized.Goals as goal
 
 pub returns-then-text-from-eq48-clause-none : goal.returns-then-text-from-eq48-clause-none
-returns-then-text-from-eq48-clause-none c e within = inr (zero_size c.args.text.now c.args.from c.args.quote c.requires.0 c.requires.1 c.if-text-from-eq48.true (drop (c.args.quote + 1) c.args.text.now))
+returns-then-text-from-eq48-clause-none c e within =
+    inr (zero_size c.args.text.now c.args.from c.args.quote c.requires.0 c.requires.1 c.if-text-from-eq48.true (drop (c.args.quote + 1) c.args.text.now))
 
 pub returns-clause-sized : goal.returns-clause-sized
 returns-clause-sized c e =

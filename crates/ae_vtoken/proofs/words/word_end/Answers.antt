@@ -6,5 +6,6 @@ pub word-preserved : goal.word-preserved
 word-preserved c = (
   omega (arith, c.word.invariant.0),
   omega (arith, c.word-test.true),
-  word_more c.args.text.now c.args.from c.word.i c.word.invariant.0 c.word-test.true c.word.invariant.2 (sym c.is_word_byte.ensures ∙ c.if-not-is_word_byte.false),
+  word_more c.args.text.now c.args.from c.word.i c.word.invariant.0 c.word-test.true c.word.invariant.2
+      (sym c.is_word_byte.ensures ∙ c.if-not-is_word_byte.false),
 )

@@ -10,4 +10,6 @@ is_code w a b h k =
     ap unsigned_abs (sym (int_rem_euclid_is (pos a -ℤ pos b) (pos (2 ^ w)) (2 ^ w) 1 (a + (2 ^ w - 1 - b) + 1) (pow_pos w) refl (omega (arith, ints))))
 
 pub returns : goal.returns
-returns c = c.low_bits.ensures ∙ ap (λ n. (c.args.a + n + 1) % 2 ^ c.args.width) c.complement.ensures ∙ is_code c.args.width c.args.a c.args.b c.requires.a_fits c.requires.b_fits
+returns c =
+    c.low_bits.ensures ∙ ap (λ n. (c.args.a + n + 1) % 2 ^ c.args.width) c.complement.ensures ∙
+    is_code c.args.width c.args.a c.args.b c.requires.a_fits c.requires.b_fits

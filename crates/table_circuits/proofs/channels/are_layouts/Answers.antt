@@ -7,7 +7,8 @@ use Rattle.table_circuits.proofs.channels.are_layouts.Goals as goal
 
 pub loop-k-preserved : goal.loop-k-preserved
 loop-k-preserved c = λ i y l f. elim (cases_eq i c.loop-k.k) [
-  | inl e ↦ same_layout c.args.layouts.now c.args.slowdown c.loop-k.k c.index-layouts-k.result y c.loop-k-test.true c.index-layouts-k.is (c.takes_time.ensures c.if-not-takes_time.false) (rw (sym e) f)
+  | inl e ↦ same_layout c.args.layouts.now c.args.slowdown c.loop-k.k c.index-layouts-k.result y c.loop-k-test.true c.index-layouts-k.is
+      (c.takes_time.ensures c.if-not-takes_time.false) (rw (sym e) f)
   | inr ne ↦ c.loop-k.invariant i y (omega arith) f
 ]
 

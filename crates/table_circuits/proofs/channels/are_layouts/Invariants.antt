@@ -5,4 +5,5 @@ use Rattle.ae_sttype.specs.Size.{IsInSize}
 use Rattle.table_circuits.proofs.channels.are_layouts.Given as goal
 
 abbrev pub invariant-loop-k : goal.invariant-loop-k
-invariant-loop-k l = (k : ℕ) (layout : StType) → k < l.k → slice_get l.layouts k ≡ Some layout → IsInSize (st_tree layout) × (time (st_tree layout) ≡ l.slowdown)
+invariant-loop-k l =
+    (k : ℕ) (layout : StType) → k < l.k → slice_get l.layouts k ≡ Some layout → IsInSize (st_tree layout) × (time (st_tree layout) ≡ l.slowdown)

@@ -10,5 +10,6 @@ element_words-requires c = sized_at c.args.layouts.now c.args.slowdown c.loop-k.
 
 pub loop-k-preserved : goal.loop-k-preserved
 loop-k-preserved c =
-    let next = counted_next c.args.layouts.now c.loop-k.k c.loop-k.count c.lanes.result c.element_words.result c.index-layouts-k.result c.loop-k-test.true c.index-layouts-k.is c.lanes.ensures c.element_words.ensures c.loop-k.invariant in
+    let next = counted_next c.args.layouts.now c.loop-k.k c.loop-k.count c.lanes.result c.element_words.result c.index-layouts-k.result c.loop-k-test.true
+    c.index-layouts-k.is c.lanes.ensures c.element_words.ensures c.loop-k.invariant in
     omega (arith, next, c.in-Some.ensures, c.in-Some-checked_add.ensures)

@@ -5,4 +5,5 @@ use Rattle.table_circuits.proofs.nets.any_net.Goals as goal
 
 pub returns : goal.returns
 returns c =
-    own_net (net_there c.args.nl.now.cells c.args.number c.in-Some.sized.width c.in-Some.sized (sym c.sized.ensures ∙ c.in-Some.is) refl (c.is_plain.ensures (search rules)))
+    own_net (net_there c.args.nl.now.cells c.args.number c.in-Some.sized.width c.in-Some.sized (sym c.sized.ensures ∙ c.in-Some.is) refl
+    (c.is_plain.ensures (search rules)))

@@ -7,4 +7,5 @@ pub run-requires-2-clause-bundles : goal.run-requires-2-clause-bundles
 run-requires-2-clause-bundles c =
     let two : arity_of c.args.op ≡ 2 = omega (arith, c.requires.few, arity_some c.args.op, c.arity.ensures, c.if-arity-eq1.false) in
     rw c.new-stage.ensures
-    (two_bundles _ c.args.op c.args.width c.args.pair.left c.args.pair.right _ _ two c.in_ok-left.ensures.ok c.in_ok-right.ensures.ok c.requires.left c.requires.right)
+    (two_bundles _ c.args.op c.args.width c.args.pair.left c.args.pair.right _ _ two c.in_ok-left.ensures.ok c.in_ok-right.ensures.ok c.requires.left
+    c.requires.right)

@@ -14,14 +14,16 @@ pub returns-clause-counts : goal.returns-clause-counts
 returns-clause-counts c =
     let rst : c.self.inside.rst.0 ≡ c.args.self.now.rst = ap (λ (v : Kept). v.rst) c.self.view_is in
     rw (← rst)
-    (counter_made _ _ _ _ _ _ _ _ _ c.from.ensures c.from-2.ensures c.requires.low c.width_for-width.ensures.holds c.in_ok-net.ensures.net c.in_ok-net.ensures.words)
+    (counter_made _ _ _ _ _ _ _ _ _ c.from.ensures c.from-2.ensures c.requires.low c.width_for-width.ensures.holds c.in_ok-net.ensures.net
+    c.in_ok-net.ensures.words)
 
 pub returns-clause-belongs : goal.returns-clause-belongs
 returns-clause-belongs c =
     let rst : c.self.inside.rst.0 ≡ c.args.self.now.rst = ap (λ (v : Kept). v.rst) c.self.view_is in
     let made : IsCounter c.counter.new.nl.cells c.args.self.now.rst (record { period = c.args.period; offset = c.args.offset }) c.in_ok-net.net.0 =
     rw (← rst)
-    (counter_made _ _ _ _ _ _ _ _ _ c.from.ensures c.from-2.ensures c.requires.low c.width_for-width.ensures.holds c.in_ok-net.ensures.net c.in_ok-net.ensures.words) in
+    (counter_made _ _ _ _ _ _ _ _ _ c.from.ensures c.from-2.ensures c.requires.low c.width_for-width.ensures.holds c.in_ok-net.ensures.net
+    c.in_ok-net.ensures.words) in
     belongs_more c.args.self.now c.keep.new.self _ _ _ c.in_ok-keep.ensures.rst c.in_ok-keep.ensures.kept
     (belongs_grows _ _ _ c.in_ok-net.ensures.adds.grows c.requires.belongs) made
 

@@ -29,7 +29,8 @@ returns-clause-rows c =
       links = c.in_ok-links.ensures.links;
     } in
     on_ok_weaker c.keep.result (λ kept. rings_kept c.spend.new.self c.keep.new.self c.args.clocks.now.rst c.args.x.0 row c.make_row.new.nl.cells kept
-    (rings_stay c.args.self.now c.spend.new.self c.args.clocks.now.rst c.make_row.new.nl.cells c.spend.ensures.rows (rings_grow grown c.requires.rows)) made) c.keep.ensures.kept
+    (rings_stay c.args.self.now c.spend.new.self c.args.clocks.now.rst c.make_row.new.nl.cells c.spend.ensures.rows (rings_grow grown c.requires.rows)) made)
+    c.keep.ensures.kept
 
 pub returns-clause-made : goal.returns-clause-made
 returns-clause-made c =

@@ -31,4 +31,6 @@ pub unreachable-requires : goal.unreachable-requires
 unreachable-requires c = none-some _ (c.in-None.ensures ∙ c.requires.there.1)
 
 pub returns-clause-tap : goal.returns-clause-tap
-returns-clause-tap c = row_taps c.far_tap.result c.args.self.now c.args.x.0 c.in-Some.row.now _ _ _ _ _ (sym c.in-Some.ensures) c.deref.ensures.value c.width_at-width.ensures.width c.far_tap.ensures.tap
+returns-clause-tap c =
+    row_taps c.far_tap.result c.args.self.now c.args.x.0 c.in-Some.row.now _ _ _ _ _
+    (sym c.in-Some.ensures) c.deref.ensures.value c.width_at-width.ensures.width c.far_tap.ensures.tap

@@ -58,7 +58,8 @@ returns-then-allows-clause-rows c = on_ok c.read-then-allows.result (rings_grow 
 
 pub returns-then-allows-clause-adds : goal.returns-then-allows-clause-adds
 returns-then-allows-clause-adds c =
-    rings_most (16 * c.args.delay) (omega (arith, (c.allows.ensures c.if-allows.true).2)) (rings_trans c.in_ok-make.ensures.adds (rings_same c.make.new.self.left c.read-then-allows.ensures.adds))
+    rings_most (16 * c.args.delay) (omega (arith, (c.allows.ensures c.if-allows.true).2))
+    (rings_trans c.in_ok-make.ensures.adds (rings_same c.make.new.self.left c.read-then-allows.ensures.adds))
 
 pub returns-then-allows-clause-tap : goal.returns-then-allows-clause-tap
 returns-then-allows-clause-tap c =

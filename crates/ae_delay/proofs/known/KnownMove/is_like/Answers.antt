@@ -9,8 +9,10 @@ returns-then-is_near c = λ told.
     let slots = c.has_slots.ensures told in
     elim c.if-same_op.branch [
       | then-same_op w ↦
-          like_costs c.args.self.now.how c.args.how (st_tree c.args.self.now.arg) (st_tree c.args.self.now.out) (st_tree c.args.arg.now) (st_tree c.args.out.now)
-          c.args.self.now.costs c.args.self.now.period c.args.period c.args.self.now.right c.args.self.now.timed c.requires (c.same_op.ensures w.if-same_op.true)
+          like_costs c.args.self.now.how c.args.how (st_tree c.args.self.now.arg) (st_tree c.args.self.now.out) (st_tree c.args.arg.now)
+          (st_tree c.args.out.now)
+          c.args.self.now.costs c.args.self.now.period c.args.period c.args.self.now.right c.args.self.now.timed c.requires
+          (c.same_op.ensures w.if-same_op.true)
           (w.is_near.ensures (sym w.value-is ∙ c.if-is_near.true)) slots.0 slots.1
       | else-same_op w ↦ cc
     ]

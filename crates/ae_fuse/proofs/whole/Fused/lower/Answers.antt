@@ -28,7 +28,8 @@ add_inputs-requires-clause-room c =
     let f = c.args.self.now in
     let whole : IsWhole f = subst IsWhole c.self.view_is c.self.invariant in
     let ins : c.as_slice-ins.result.now ≡ f.ins = c.as_slice-ins.ensures.value ∙ ap (λ (v : FusedView). v.ins) c.self.view_is in
-    let one : length c.add_input.new.nl.cells ≡ 1 = ap (λ (n : Circuit). length n.cells) c.in_ok-rst.ensures.added ∙ ap (λ (n : Circuit). length (n.cells ++ input_cell reset_port ∷ [])) c.new-nl.ensures in
+    let one : length c.add_input.new.nl.cells ≡ 1 = ap (λ (n : Circuit). length n.cells) c.in_ok-rst.ensures.added ∙
+    ap (λ (n : Circuit). length (n.cells ++ input_cell reset_port ∷ [])) c.new-nl.ensures in
     let limit = ap (λ (n : Circuit). n.limit) c.in_ok-rst.ensures.added ∙ ap (λ (n : Circuit). n.limit) c.new-nl.ensures in
     omega (arith, one, limit, whole.few_ins, ap length ins)
 
@@ -46,11 +47,16 @@ all_nets-requires-clause-room c =
     let ins : c.as_slice-ins.result.now ≡ f.ins = c.as_slice-ins.ensures.value ∙ ap (λ (v : FusedView). v.ins) c.self.view_is in
     let results : c.as_slice-results.result.now ≡ f.results = c.as_slice-results.ensures.value ∙ ap (λ (v : FusedView). v.results) c.self.view_is in
     let latency : c.self.inside.latency ≡ f.latency = ap (λ (v : FusedView). v.latency) c.self.view_is in
-    let moves : map (result_move (st_trees c.as_slice-ins.result.now)) c.as_slice-results.result.now ≡ moves_in f = λ i. map (result_move (st_trees (ins i))) (results i) in
-    let load : sum_by (result_load c.self.inside.latency) (map (result_move (st_trees c.as_slice-ins.result.now)) c.as_slice-results.result.now) ≡ f.load = (λ i. sum_by (result_load (latency i)) (moves i)) ∙ whole-load f whole in
-    let one : length c.add_input.new.nl.cells ≡ 1 = ap (λ (n : Circuit). length n.cells) c.in_ok-rst.ensures.added ∙ ap (λ (n : Circuit). length (n.cells ++ input_cell reset_port ∷ [])) c.new-nl.ensures in
+    let moves : map (result_move (st_trees c.as_slice-ins.result.now)) c.as_slice-results.result.now ≡ moves_in f = λ i. map (result_move (st_trees (ins i)))
+    (results i) in
+    let load : sum_by (result_load c.self.inside.latency)
+    (map (result_move (st_trees c.as_slice-ins.result.now)) c.as_slice-results.result.now) ≡ f.load = (λ i. sum_by (result_load (latency i)) (moves i)) ∙
+    whole-load f whole in
+    let one : length c.add_input.new.nl.cells ≡ 1 = ap (λ (n : Circuit). length n.cells) c.in_ok-rst.ensures.added ∙
+    ap (λ (n : Circuit). length (n.cells ++ input_cell reset_port ∷ [])) c.new-nl.ensures in
     let limit =
-    ap (λ (n : Circuit). n.limit) c.in_ok-args.ensures.cells ∙ ap (λ (n : Circuit). n.limit) c.in_ok-rst.ensures.added ∙ ap (λ (n : Circuit). n.limit) c.new-nl.ensures in
+    ap (λ (n : Circuit). n.limit) c.in_ok-args.ensures.cells ∙ ap (λ (n : Circuit). n.limit) c.in_ok-rst.ensures.added ∙
+    ap (λ (n : Circuit). n.limit) c.new-nl.ensures in
     omega (arith, one, limit, load, c.requires.light, whole.few_ins, ap length ins, c.in_ok-args.ensures.few)
 
 pub add_inputs-requires-clause-in_size : goal.add_inputs-requires-clause-in_size
@@ -68,7 +74,8 @@ all_nets-requires-clause-latest c k r found =
     let results : c.as_slice-results.result.now ≡ f.results = c.as_slice-results.ensures.value ∙ ap (λ (v : FusedView). v.results) c.self.view_is in
     let latency : c.self.inside.latency ≡ f.latency = ap (λ (v : FusedView). v.latency) c.self.view_is in
     let most = at-most-latest f whole k r (ap (λ (rs : List FusedResult). slice_get rs k) (sym results) ∙ found) in
-    subst (λ n. move_latency (result_move (st_trees c.as_slice-ins.result.now) r) ≤ n) (sym latency) (subst (λ (ts : List StTree). move_latency (result_move ts r) ≤ f.latency) (sym ins) most)
+    subst (λ n. move_latency (result_move (st_trees c.as_slice-ins.result.now) r) ≤ n) (sym latency)
+    (subst (λ (ts : List StTree). move_latency (result_move ts r) ≤ f.latency) (sym ins) most)
 
 pub all_nets-requires-clause-belongs : goal.all_nets-requires-clause-belongs
 all_nets-requires-clause-belongs c =
@@ -81,34 +88,43 @@ pub all_nets-requires-clause-args : goal.all_nets-requires-clause-args
 all_nets-requires-clause-args c =
     let ins = st_trees c.as_slice-ins.result.now in
     let begun : HasBegun ins c.add_inputs.new.nl = has_begun ins _ _ _ _ ins c.new-nl.ensures c.in_ok-rst.ensures.added c.in_ok-args.ensures.cells refl in
-    let bundles : c.deref.result.now ≡ bundles_from 1 (streams_of ins) = c.deref.ensures.value ∙ begun_bundles ins _ _ _ ins _ c.new-nl.ensures c.in_ok-rst.ensures.added c.in_ok-args.ensures.bundles refl in
+    let bundles : c.deref.result.now ≡ bundles_from 1 (streams_of ins) = c.deref.ensures.value ∙
+    begun_bundles ins _ _ _ ins _ c.new-nl.ensures c.in_ok-rst.ensures.added c.in_ok-args.ensures.bundles refl in
     rw bundles (inputs_begun ins c.add_inputs.new.nl begun)
 
 pub show_results-requires-clause-nets : goal.show_results-requires-clause-nets
 show_results-requires-clause-nets c k r nets found has =
     let ins = st_trees c.as_slice-ins.result.now in
-    (c.in_ok-built.ensures.moved.each k (result_move ins r) nets (get_mapped (result_move ins) c.as_slice-results.result.now k r found) (ap (λ (bs : List (List NetId)). slice_get bs k) (sym c.deref-2.ensures.value) ∙ has)).there
+    (c.in_ok-built.ensures.moved.each k (result_move ins r) nets (get_mapped (result_move ins) c.as_slice-results.result.now k r found)
+    (ap (λ (bs : List (List NetId)). slice_get bs k) (sym c.deref-2.ensures.value) ∙ has)).there
 
 pub returns-clause-circuit : goal.returns-clause-circuit
 returns-clause-circuit c =
     let f = c.args.self.now in
     let whole : IsWhole f = subst IsWhole c.self.view_is c.self.invariant in
-    let same : st_trees c.as_slice-ins.result.now ≡ st_trees f.ins = ap st_trees (c.as_slice-ins.ensures.value ∙ ap (λ (v : FusedView). v.ins) c.self.view_is) in
+    let same : st_trees c.as_slice-ins.result.now ≡ st_trees f.ins = ap st_trees
+    (c.as_slice-ins.ensures.value ∙ ap (λ (v : FusedView). v.ins) c.self.view_is) in
     let results : c.as_slice-results.result.now ≡ f.results = c.as_slice-results.ensures.value ∙ ap (λ (v : FusedView). v.results) c.self.view_is in
     let latency : c.self.inside.latency ≡ f.latency = ap (λ (v : FusedView). v.latency) c.self.view_is in
-    let moves : map (result_move (st_trees c.as_slice-ins.result.now)) c.as_slice-results.result.now ≡ moves_in f = λ i. map (result_move (same i)) (results i) in
+    let moves : map (result_move (st_trees c.as_slice-ins.result.now)) c.as_slice-results.result.now ≡ moves_in f = λ i. map (result_move (same i))
+    (results i) in
     let ins = st_trees f.ins in
     let a = c.add_inputs.new.nl in
     let b = c.all_nets.new.nl in
     let d = c.show_results.new.nl in
     let bundles = c.deref-2.result.now in
     let begun : HasBegun ins a = has_begun ins _ _ _ _ _ c.new-nl.ensures c.in_ok-rst.ensures.added c.in_ok-args.ensures.cells same in
-    let args : c.deref.result.now ≡ bundles_from 1 (streams_of ins) = c.deref.ensures.value ∙ begun_bundles ins _ _ _ _ _ c.new-nl.ensures c.in_ok-rst.ensures.added c.in_ok-args.ensures.bundles same in
-    let rst : c.new-clocks.result.rst ≡ 0 = ap (λ (q : Kept). q.rst) c.new-clocks.ensures ∙ (ap (λ (n : NetId). n.0) c.in_ok-rst.ensures.net ∙ ap (λ (n : Circuit). length n.cells) c.new-nl.ensures) in
-    let grown : GrowsBy a b (sum_by (result_load f.latency) (moves_in f)) = subst (GrowsBy a b) (λ i. sum_by (result_load (latency i)) (moves i)) c.in_ok-built.ensures.grows in
-    let added : Adds a b 0 (sum_by (result_mems f.latency) (moves_in f)) = subst (Adds a b 0) (λ i. sum_by (result_mems (latency i)) (moves i)) c.in_ok-built.ensures.adds in
+    let args : c.deref.result.now ≡ bundles_from 1 (streams_of ins) = c.deref.ensures.value ∙
+    begun_bundles ins _ _ _ _ _ c.new-nl.ensures c.in_ok-rst.ensures.added c.in_ok-args.ensures.bundles same in
+    let rst : c.new-clocks.result.rst ≡ 0 = ap (λ (q : Kept). q.rst) c.new-clocks.ensures ∙
+    (ap (λ (n : NetId). n.0) c.in_ok-rst.ensures.net ∙ ap (λ (n : Circuit). length n.cells) c.new-nl.ensures) in
+    let grown : GrowsBy a b (sum_by (result_load f.latency) (moves_in f)) = subst (GrowsBy a b)
+    (λ i. sum_by (result_load (latency i)) (moves i)) c.in_ok-built.ensures.grows in
+    let added : Adds a b 0 (sum_by (result_mems f.latency) (moves_in f)) = subst (Adds a b 0)
+    (λ i. sum_by (result_mems (latency i)) (moves i)) c.in_ok-built.ensures.adds in
     let moved : AreLateResults b.cells 0 f.latency (moves_in f) (length f.results) (bundles_from 1 (streams_of ins)) bundles =
-    subst (AreLateResults b.cells 0 f.latency (moves_in f) (length f.results) (bundles_from 1 (streams_of ins))) (sym c.deref-2.ensures.value) (late-same rst latency moves (ap length results) args c.in_ok-built.ensures.moved) in
+    subst (AreLateResults b.cells 0 f.latency (moves_in f) (length f.results) (bundles_from 1 (streams_of ins))) (sym c.deref-2.ensures.value)
+    (late-same rst latency moves (ap length results) args c.in_ok-built.ensures.moved) in
     let shown : AddsOutputs b d (output_ports (map result_stream f.results)) (all_nets bundles) =
     subst (λ (rs : List FusedResult). AddsOutputs b d (output_ports (map result_stream rs)) (all_nets bundles)) results c.in_ok-show_results.ensures in
     let raw : ShowsMoves f d = shows-raw f whole a b d bundles begun grown added moved shown c.formed.ensures.cells c.formed.ensures.outlets in
@@ -119,7 +135,9 @@ pub returns-clause-marks : goal.returns-clause-marks
 returns-clause-marks c =
     let f = c.args.self.now in
     let results : c.as_slice-results.result.now ≡ f.results = c.as_slice-results.ensures.value ∙ ap (λ (v : FusedView). v.results) c.self.view_is in
-    let cells : length c.all_nets.new.nl.cells ≡ length c.show_results.new.nl.cells = ap (λ (xs : List SizedCell). length xs) (sym (outputs_cells c.in_ok-show_results.ensures)) in
+    let cells : length c.all_nets.new.nl.cells ≡ length c.show_results.new.nl.cells = ap (λ (xs : List SizedCell). length xs)
+    (sym (outputs_cells c.in_ok-show_results.ensures)) in
     let made : AreMarks (length c.show_results.new.nl.cells) (length f.results) c.in_ok-built.built.marks.items =
-    subst (λ n. AreMarks n (length f.results) c.in_ok-built.built.marks.items) cells (subst (λ n. AreMarks (length c.all_nets.new.nl.cells) n c.in_ok-built.built.marks.items) (ap length results) c.in_ok-built.ensures.marks) in
+    subst (λ n. AreMarks n (length f.results) c.in_ok-built.built.marks.items) cells
+    (subst (λ n. AreMarks (length c.all_nets.new.nl.cells) n c.in_ok-built.built.marks.items) (ap length results) c.in_ok-built.ensures.marks) in
     c.in_ok-tidied.ensures.marks (length f.results) made

@@ -21,12 +21,18 @@ join-requires c =
 pub all_trips-requires-clause-firsts : goal.all_trips-requires-clause-firsts
 all_trips-requires-clause-firsts c = λ i l.
     let made = rw (← c.self.view_is) at c.requires.bundles in
-    rw (c.deref.ensures.value, c.deref-2.ensures.value) (firsts_at _ (map st_tree c.self.inside.ins.items) c.args.ins.now _ _ made c.in_ok-joined.ensures.joined i (omega (arith, l, length-map c.self.inside.ins.items st_tree, ap length c.deref.ensures.value)))
+    rw (c.deref.ensures.value, c.deref-2.ensures.value) (firsts_at _
+    (map st_tree c.self.inside.ins.items) c.args.ins.now _ _ made c.in_ok-joined.ensures.joined i
+    (omega (arith, l, length-map c.self.inside.ins.items st_tree, ap length c.deref.ensures.value)))
 
 pub all_trips-requires-clause-room : goal.all_trips-requires-clause-room
 all_trips-requires-clause-room c =
     let made = rw (← c.self.view_is) at c.requires.bundles in
-    rw c.deref.ensures.value (omega (arith, nets_long _ (map st_tree c.self.inside.ins.items) c.args.ins.now _ _ made c.in_ok-joined.ensures.joined, c.in_ok-joined.ensures.few))
+    rw c.deref.ensures.value (omega (
+      arith,
+      nets_long _ (map st_tree c.self.inside.ins.items) c.args.ins.now _ _ made c.in_ok-joined.ensures.joined,
+      c.in_ok-joined.ensures.few,
+    ))
 
 pub gather-requires-clause-lasting : goal.gather-requires-clause-lasting
 gather-requires-clause-lasting c = omega (arith, c.time-period.ensures, time_pos (st_tree c.self.inside.out) c.self.invariant.move.out.lengths)
@@ -45,10 +51,12 @@ pub gather-requires-clause-few_ins : goal.gather-requires-clause-few_ins
 gather-requires-clause-few_ins c = rw c.deref-6.ensures.value c.in_ok-joined.ensures.few
 
 pub gather-requires-clause-few_outs : goal.gather-requires-clause-few_outs
-gather-requires-clause-few_outs c = omega (arith, c.in_ok-widths.ensures.long, columns_small (st_tree c.self.inside.out) c.self.invariant.move.out, ap length c.deref-7.ensures.value)
+gather-requires-clause-few_outs c =
+    omega (arith, c.in_ok-widths.ensures.long, columns_small (st_tree c.self.inside.out) c.self.invariant.move.out, ap length c.deref-7.ensures.value)
 
 pub gather-requires-clause-some : goal.gather-requires-clause-some
-gather-requires-clause-some c = omega (arith, c.in_ok-widths.ensures.long, columns_pos (st_tree c.self.inside.out) c.self.invariant.move.out, ap length c.deref-7.ensures.value)
+gather-requires-clause-some c =
+    omega (arith, c.in_ok-widths.ensures.long, columns_pos (st_tree c.self.inside.out) c.self.invariant.move.out, ap length c.deref-7.ensures.value)
 
 pub gather-requires-clause-nets : goal.gather-requires-clause-nets
 gather-requires-clause-nets c =
@@ -58,7 +66,11 @@ gather-requires-clause-nets c =
 pub gather-requires-clause-order : goal.gather-requires-clause-order
 gather-requires-clause-order c =
     let trips = rw (c.deref.ensures.value, c.deref-3.ensures.value) at c.in_ok-trips.ensures.trips in
-    rw c.deref-8.ensures.value (in_order (move_of (record { ins = c.self.inside.ins.items; out = c.self.inside.out; origins = map origin_tree c.self.inside.source.items })) _ c.self.invariant.move.out trips)
+    rw c.deref-8.ensures.value (in_order (move_of (record {
+      ins = c.self.inside.ins.items;
+      out = c.self.inside.out;
+      origins = map origin_tree c.self.inside.source.items;
+    })) _ c.self.invariant.move.out trips)
 
 pub gather-requires-clause-within : goal.gather-requires-clause-within
 gather-requires-clause-within c =
@@ -68,26 +80,33 @@ gather-requires-clause-within c =
     let nets = ap length c.deref-6.ensures.value ∙ nets_long _ (map st_tree c.self.inside.ins.items) c.args.ins.now _ _ made c.in_ok-joined.ensures.joined in
     let widths = ap length c.deref-7.ensures.value ∙ c.in_ok-widths.ensures.long in
     rw c.deref-8.ensures.value
-    (within_as (move_of (record { ins = c.self.inside.ins.items; out = c.self.inside.out; origins = map origin_tree c.self.inside.source.items })) _ _ _ _ _ c.time-period.ensures d nets widths c.self.invariant.move trips)
+    (within_as (move_of (record { ins = c.self.inside.ins.items; out = c.self.inside.out; origins = map origin_tree c.self.inside.source.items })) _ _ _ _ _
+    c.time-period.ensures d nets widths c.self.invariant.move trips)
 
 pub gather-requires-clause-used : goal.gather-requires-clause-used
 gather-requires-clause-used c =
     let trips = rw (c.deref.ensures.value, c.deref-3.ensures.value) at c.in_ok-trips.ensures.trips in
     let widths = ap length c.deref-7.ensures.value ∙ c.in_ok-widths.ensures.long in
-    rw c.deref-8.ensures.value (used_as (move_of (record { ins = c.self.inside.ins.items; out = c.self.inside.out; origins = map origin_tree c.self.inside.source.items })) _ _ widths c.self.invariant.move trips)
+    rw c.deref-8.ensures.value (used_as (move_of (record {
+      ins = c.self.inside.ins.items;
+      out = c.self.inside.out;
+      origins = map origin_tree c.self.inside.source.items;
+    })) _ _ widths c.self.invariant.move trips)
 
 pub gather-requires-clause-fitting : goal.gather-requires-clause-fitting
 gather-requires-clause-fitting c =
     let made = rw (← c.self.view_is) at c.requires.bundles in
     let trips = rw (c.deref.ensures.value, c.deref-3.ensures.value) at c.in_ok-trips.ensures.trips in
     rw (c.deref-6.ensures.value, c.deref-7.ensures.value, c.deref-8.ensures.value)
-    (fitting _ (move_of (record { ins = c.self.inside.ins.items; out = c.self.inside.out; origins = map origin_tree c.self.inside.source.items })) c.args.ins.now _ c.in_ok-joined.joined.firsts.items _ _ c.self.invariant.move made c.in_ok-joined.ensures.joined trips c.in_ok-widths.ensures.widths)
+    (fitting _ (move_of (record { ins = c.self.inside.ins.items; out = c.self.inside.out; origins = map origin_tree c.self.inside.source.items }))
+    c.args.ins.now _ c.in_ok-joined.joined.firsts.items _ _ c.self.invariant.move made c.in_ok-joined.ensures.joined trips c.in_ok-widths.ensures.widths)
 
 pub returns-in_err-nets-clause-cells : goal.returns-in_err-nets-clause-cells
 returns-in_err-nets-clause-cells c =
     let m : Move = move_of (record { ins = c.self.inside.ins.items; out = c.self.inside.out; origins = map origin_tree c.self.inside.source.items }) in
     let made = rw (← c.self.view_is) at c.requires.bundles in
-    let trips : map trip_tree c.deref-8.result.now ≡ move_trips m = rw c.deref-8.ensures.value (rw (c.deref.ensures.value, c.deref-3.ensures.value) at c.in_ok-trips.ensures.trips) in
+    let trips : map trip_tree c.deref-8.result.now ≡ move_trips m = rw c.deref-8.ensures.value
+    (rw (c.deref.ensures.value, c.deref-3.ensures.value) at c.in_ok-trips.ensures.trips) in
     let d = rw (c.deref-4.ensures.value, c.deref-5.ensures.value) at c.latency-d.ensures in
     let nets = ap length c.deref-6.ensures.value ∙ nets_long _ (map st_tree c.self.inside.ins.items) c.args.ins.now _ _ made c.in_ok-joined.ensures.joined in
     let widths = ap length c.deref-7.ensures.value ∙ c.in_ok-widths.ensures.long in
@@ -97,7 +116,8 @@ pub returns-clause-cells : goal.returns-clause-cells
 returns-clause-cells c =
     let m : Move = move_of (record { ins = c.self.inside.ins.items; out = c.self.inside.out; origins = map origin_tree c.self.inside.source.items }) in
     let made = rw (← c.self.view_is) at c.requires.bundles in
-    let trips : map trip_tree c.deref-8.result.now ≡ move_trips m = rw c.deref-8.ensures.value (rw (c.deref.ensures.value, c.deref-3.ensures.value) at c.in_ok-trips.ensures.trips) in
+    let trips : map trip_tree c.deref-8.result.now ≡ move_trips m = rw c.deref-8.ensures.value
+    (rw (c.deref.ensures.value, c.deref-3.ensures.value) at c.in_ok-trips.ensures.trips) in
     let d = rw (c.deref-4.ensures.value, c.deref-5.ensures.value) at c.latency-d.ensures in
     let nets = ap length c.deref-6.ensures.value ∙ nets_long _ (map st_tree c.self.inside.ins.items) c.args.ins.now _ _ made c.in_ok-joined.ensures.joined in
     let widths = ap length c.deref-7.ensures.value ∙ c.in_ok-widths.ensures.long in
@@ -108,25 +128,29 @@ returns-clause-bundle c =
     let m : Move = move_of (record { ins = c.self.inside.ins.items; out = c.self.inside.out; origins = map origin_tree c.self.inside.source.items }) in
     let widths = ap length c.deref-7.ensures.value ∙ c.in_ok-widths.ensures.long in
     let wide : AreWidths m.out c.deref-7.result.now = rw c.deref-7.ensures.value c.in_ok-widths.ensures.widths in
-    rw (c.new.ensures, ← c.self.view_is) (out_nets _ m c.deref-7.result.now _ c.self.invariant.move c.in_ok-nets.ensures.long widths wide c.in_ok-nets.ensures.nets)
+    rw (c.new.ensures, ← c.self.view_is) (out_nets _ m c.deref-7.result.now _ c.self.invariant.move c.in_ok-nets.ensures.long widths wide
+    c.in_ok-nets.ensures.nets)
 
 pub returns-clause-law : goal.returns-clause-law
 returns-clause-law c =
     let m : Move = move_of (record { ins = c.self.inside.ins.items; out = c.self.inside.out; origins = map origin_tree c.self.inside.source.items }) in
     let made = rw (← c.self.view_is) at c.requires.bundles in
-    let trips : map trip_tree c.deref-8.result.now ≡ move_trips m = rw c.deref-8.ensures.value (rw (c.deref.ensures.value, c.deref-3.ensures.value) at c.in_ok-trips.ensures.trips) in
+    let trips : map trip_tree c.deref-8.result.now ≡ move_trips m = rw c.deref-8.ensures.value
+    (rw (c.deref.ensures.value, c.deref-3.ensures.value) at c.in_ok-trips.ensures.trips) in
     let d = rw (c.deref-4.ensures.value, c.deref-5.ensures.value) at c.latency-d.ensures in
     let nets = ap length c.deref-6.ensures.value ∙ nets_long _ (map st_tree c.self.inside.ins.items) c.args.ins.now _ _ made c.in_ok-joined.ensures.joined in
     let widths = ap length c.deref-7.ensures.value ∙ c.in_ok-widths.ensures.long in
     let joined : AreJoined c.args.ins.now c.deref-6.result.now c.in_ok-joined.joined.firsts.items = rw c.deref-6.ensures.value c.in_ok-joined.ensures.joined in
     rw (c.new.ensures, ← c.self.view_is)
-    (law_as _ _ _ c.args.arrival m c.args.ins.now c.deref-6.result.now c.in_ok-joined.joined.firsts.items c.deref-8.result.now c.in_ok-nets.nets.items _ _ _ c.time-period.ensures d c.in_ok-nets.ensures.long widths c.self.invariant.move made joined trips c.in_ok-nets.ensures.trips)
+    (law_as _ _ _ c.args.arrival m c.args.ins.now c.deref-6.result.now c.in_ok-joined.joined.firsts.items c.deref-8.result.now c.in_ok-nets.nets.items _ _ _
+    c.time-period.ensures d c.in_ok-nets.ensures.long widths c.self.invariant.move made joined trips c.in_ok-nets.ensures.trips)
 
 pub returns-clause-memories : goal.returns-clause-memories
 returns-clause-memories c =
     let m : Move = move_of (record { ins = c.self.inside.ins.items; out = c.self.inside.out; origins = map origin_tree c.self.inside.source.items }) in
     let made = rw (← c.self.view_is) at c.requires.bundles in
-    let trips : map trip_tree c.deref-8.result.now ≡ move_trips m = rw c.deref-8.ensures.value (rw (c.deref.ensures.value, c.deref-3.ensures.value) at c.in_ok-trips.ensures.trips) in
+    let trips : map trip_tree c.deref-8.result.now ≡ move_trips m = rw c.deref-8.ensures.value
+    (rw (c.deref.ensures.value, c.deref-3.ensures.value) at c.in_ok-trips.ensures.trips) in
     let d = rw (c.deref-4.ensures.value, c.deref-5.ensures.value) at c.latency-d.ensures in
     let nets = ap length c.deref-6.ensures.value ∙ nets_long _ (map st_tree c.self.inside.ins.items) c.args.ins.now _ _ made c.in_ok-joined.ensures.joined in
     rw (← c.self.view_is) (mems_as m c.deref-8.result.now _ _ _ _ _ c.time-period.ensures d nets trips c.in_ok-nets.ensures.memories)

@@ -10,9 +10,17 @@ use Rattle.ae_netlist.proofs.netlist.Netlist.append.Goals.{in-Ok, in-Err}
 pub invariant_of-self : goal.invariant_of-self
 invariant_of-self c =
     let same : c.self.inside.cells.items ≡ c.args.self.now.cells = ap (λ (v : Circuit). v.cells) c.self.view_is in
-    let fits : SizedCellFits c.self.inside.cells.items (c.self.inside.cells.items ++ c.args.sized ∷ []) (length c.self.inside.cells.items) c.args.sized = rw same c.requires.fits in
+    let fits : SizedCellFits c.self.inside.cells.items (c.self.inside.cells.items ++ c.args.sized ∷ [])
+    (length c.self.inside.cells.items) c.args.sized = rw same c.requires.fits in
     elim c.match-push.branch [
       | in-Ok w ↦
-          rw w.in-Ok.ensures.items (omega (arith, length-append c.self.inside.cells.items (c.args.sized ∷ [])), formed_push _ _ c.self.invariant.1 fits, nets_later _ _ _ (keeps_extends (extends_append _ _)) c.self.invariant.2, others_push is_input _ c.args.sized _ c.requires.other c.self.invariant.3, c.self.invariant.4, c.self.invariant.5)
+          rw w.in-Ok.ensures.items (
+            omega (arith, length-append c.self.inside.cells.items (c.args.sized ∷ [])),
+            formed_push _ _ c.self.invariant.1 fits,
+            nets_later _ _ _ (keeps_extends (extends_append _ _)) c.self.invariant.2,
+            others_push is_input _ c.args.sized _ c.requires.other c.self.invariant.3,
+            c.self.invariant.4,
+            c.self.invariant.5,
+          )
       | in-Err w ↦ rw w.in-Err.ensures.items c.self.invariant
     ]

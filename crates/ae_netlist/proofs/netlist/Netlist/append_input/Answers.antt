@@ -11,7 +11,8 @@ pub invariant_of-self-in-Ok-push : goal.invariant_of-self-in-Ok-push
 invariant_of-self-in-Ok-push c =
     let net : NetId = record { 0 = c.len-net.result } in
     let same : c.self.inside.cells.items ≡ c.args.self.now.cells = ap (λ (v : Circuit). v.cells) c.self.view_is in
-    let fits : SizedCellFits c.self.inside.cells.items (c.self.inside.cells.items ++ c.args.sized ∷ []) (length c.self.inside.cells.items) c.args.sized = rw same c.requires.fits in
+    let fits : SizedCellFits c.self.inside.cells.items (c.self.inside.cells.items ++ c.args.sized ∷ [])
+    (length c.self.inside.cells.items) c.args.sized = rw same c.requires.fits in
     let cells : c.push-2.new.self.items ≡ c.self.inside.cells.items ++ c.args.sized ∷ [] = c.in-Ok-push.ensures.items in
     let inputs : c.push.new.self.items ≡ c.self.inside.inputs.items ++ net ∷ [] = c.in-Ok.ensures.items in
     rw (cells, inputs) (

@@ -14,13 +14,22 @@ invariant_of-self c =
     let reg : IsRegister c.self.inside.cells.items c.args.r.0 (width_of c.self.inside.cells.items c.args.r.0) = rw same c.requires.register in
     let there : IsNet c.self.inside.cells.items c.args.next.0 (width_of c.self.inside.cells.items c.args.r.0) = rw same c.requires.next in
     let wide : c.index_mut.result.now.width ≡ width_of c.self.inside.cells.items c.args.r.0 =
-    ap (λ (n : SizedCell). n.width) (c.index_mut.ensures.value ∙ get_or_from_slice_get c.self.inside.cells.items c.args.r.0 _ c.index_mut.result.now reg.found) in
-    rw wide (simp length-set c.self.invariant.0, formed_connected _ _ _ c.args.next c.self.invariant.1 reg there, nets_later _ _ _ (keeps_connected _ _ _ c.args.next reg) c.self.invariant.2, numbers_replaced is_input _ _ _ _ _ reg.found refl c.self.invariant.3, c.self.invariant.4, c.self.invariant.5)
+    ap (λ (n : SizedCell). n.width) (c.index_mut.ensures.value ∙
+    get_or_from_slice_get c.self.inside.cells.items c.args.r.0 _ c.index_mut.result.now reg.found) in
+    rw wide (
+      simp length-set c.self.invariant.0,
+      formed_connected _ _ _ c.args.next c.self.invariant.1 reg there,
+      nets_later _ _ _ (keeps_connected _ _ _ c.args.next reg) c.self.invariant.2,
+      numbers_replaced is_input _ _ _ _ _ reg.found refl c.self.invariant.3,
+      c.self.invariant.4,
+      c.self.invariant.5,
+    )
 
 pub returns : goal.returns
 returns c =
     let same : c.self.inside.cells.items ≡ c.args.self.now.cells = ap (λ (v : Circuit). v.cells) c.self.view_is in
     let reg : IsRegister c.self.inside.cells.items c.args.r.0 (width_of c.self.inside.cells.items c.args.r.0) = rw same c.requires.register in
     let wide : c.index_mut.result.now.width ≡ width_of c.self.inside.cells.items c.args.r.0 =
-    ap (λ (n : SizedCell). n.width) (c.index_mut.ensures.value ∙ get_or_from_slice_get c.self.inside.cells.items c.args.r.0 _ c.index_mut.result.now reg.found) in
+    ap (λ (n : SizedCell). n.width) (c.index_mut.ensures.value ∙
+    get_or_from_slice_get c.self.inside.cells.items c.args.r.0 _ c.index_mut.result.now reg.found) in
     rw (wide, ← c.self.view_is)

@@ -13,11 +13,13 @@ invariant_of-self c =
     let m : ℕ = c.args.m.0 in
     let same : c.self.inside.cells.items ≡ c.args.self.now.cells = ap (λ (v : Circuit). v.cells) c.self.view_is in
     let mem : IsMemory c.self.inside.cells.items m (width_of c.self.inside.cells.items m) (depth_of c.self.inside.cells.items m) = rw same c.requires.memory in
-    let written : IsWritten c.self.inside.cells.items (width_of c.self.inside.cells.items m) (depth_of c.self.inside.cells.items m) c.args.at.0 c.args.next.0 c.args.enable.0 = rw same c.requires.written in
+    let written : IsWritten c.self.inside.cells.items (width_of c.self.inside.cells.items m)
+    (depth_of c.self.inside.cells.items m) c.args.at.0 c.args.next.0 c.args.enable.0 = rw same c.requires.written in
     let wide : c.index_mut.result.now.width ≡ width_of c.self.inside.cells.items m =
     ap (λ (n : SizedCell). n.width) (c.index_mut.ensures.value ∙ get_or_from_slice_get c.self.inside.cells.items m _ c.index_mut.result.now mem.found) in
     let deep : c.in-Mem.depth ≡ depth_of c.self.inside.cells.items m =
-    ap depth_in_cell (sym c.in-Mem.is) ∙ ap (λ (n : SizedCell). depth_in_cell n.cell) (c.index.ensures ∙ get_or_from_slice_get c.self.inside.cells.items m _ c.index.result.now mem.found) in
+    ap depth_in_cell (sym c.in-Mem.is) ∙ ap (λ (n : SizedCell). depth_in_cell n.cell)
+    (c.index.ensures ∙ get_or_from_slice_get c.self.inside.cells.items m _ c.index.result.now mem.found) in
     rw (wide, deep) (
       simp length-set c.self.invariant.0,
       formed_written _ _ _ _ c.args.at c.args.next c.args.enable c.self.invariant.1 mem written,
@@ -35,7 +37,8 @@ returns-in-Mem c =
     let wide : c.index_mut.result.now.width ≡ width_of c.self.inside.cells.items m =
     ap (λ (n : SizedCell). n.width) (c.index_mut.ensures.value ∙ get_or_from_slice_get c.self.inside.cells.items m _ c.index_mut.result.now mem.found) in
     let deep : c.in-Mem.depth ≡ depth_of c.self.inside.cells.items m =
-    ap depth_in_cell (sym c.in-Mem.is) ∙ ap (λ (n : SizedCell). depth_in_cell n.cell) (c.index.ensures ∙ get_or_from_slice_get c.self.inside.cells.items m _ c.index.result.now mem.found) in
+    ap depth_in_cell (sym c.in-Mem.is) ∙ ap (λ (n : SizedCell). depth_in_cell n.cell)
+    (c.index.ensures ∙ get_or_from_slice_get c.self.inside.cells.items m _ c.index.result.now mem.found) in
     rw (wide, deep, ← c.self.view_is)
 
 pub returns-in_default : goal.returns-in_default
@@ -43,4 +46,5 @@ returns-in_default c =
     let m : ℕ = c.args.m.0 in
     let same : c.self.inside.cells.items ≡ c.args.self.now.cells = ap (λ (v : Circuit). v.cells) c.self.view_is in
     let mem : IsMemory c.self.inside.cells.items m (width_of c.self.inside.cells.items m) (depth_of c.self.inside.cells.items m) = rw same c.requires.memory in
-    absurd (c.in_default.not-Mem _ _ _ _ (ap (λ (n : SizedCell). n.cell) (c.index.ensures ∙ get_or_from_slice_get c.self.inside.cells.items m _ c.index.result.now mem.found)))
+    absurd (c.in_default.not-Mem _ _ _ _ (ap (λ (n : SizedCell). n.cell)
+    (c.index.ensures ∙ get_or_from_slice_get c.self.inside.cells.items m _ c.index.result.now mem.found)))

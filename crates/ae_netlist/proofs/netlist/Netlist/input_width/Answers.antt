@@ -12,26 +12,42 @@ width_numbered : (a b : List SizedCell) (k : ℕ) (sized found : SizedCell) → 
     → Some found.width ≡ option_map (λ (x : SizedCell). x.width) (slice_get (cells_of is_input b) k)
 width_numbered a b k sized found same is h = rw (← same, h, is) refl
 
-no_width : (a b : List SizedCell) (k : ℕ) → a ≡ b → slice_get (cells_of is_input a) k ≡ None → let none : Option ℕ = None in none ≡ option_map (λ (x : SizedCell). x.width) (slice_get (cells_of is_input b) k)
+no_width : (a b : List SizedCell) (k : ℕ) → a ≡ b → slice_get (cells_of is_input a) k ≡ None → let none : Option ℕ = None in
+    none ≡ option_map (λ (x : SizedCell). x.width) (slice_get (cells_of is_input b) k)
 no_width a b k same h = rw (← same, h) refl
 
 pub index-requires : goal.index-requires
 index-requires c =
-    let h : slice_get c.self.inside.inputs.items c.args.k ≡ Some c.in-Some.n.now = grind (arith, c.in-Some.ensures.lookup, c.deref.ensures.value, slice_get-get_or c.self.inside.inputs.items c.args.k c.in-Some.n.now) in
+    let h : slice_get c.self.inside.inputs.items c.args.k ≡ Some
+    c.in-Some.n.now = grind (
+      arith,
+      c.in-Some.ensures.lookup,
+      c.deref.ensures.value,
+      slice_get-get_or c.self.inside.inputs.items c.args.k c.in-Some.n.now,
+    ) in
     let n : IsNumbered is_input c.self.inside.cells.items c.args.k c.in-Some.n.now.0 = c.self.invariant.3.each c.args.k c.in-Some.n.now h in
     let b : c.in-Some.n.now.0 < length c.self.inside.cells.items = slice_get_within c.self.inside.cells.items c.in-Some.n.now.0 n.sized n.found in
     grind (arith, b)
 
 pub returns-in-Some : goal.returns-in-Some
 returns-in-Some c =
-    let h : slice_get c.self.inside.inputs.items c.args.k ≡ Some c.in-Some.n.now = grind (arith, c.in-Some.ensures.lookup, c.deref.ensures.value, slice_get-get_or c.self.inside.inputs.items c.args.k c.in-Some.n.now) in
+    let h : slice_get c.self.inside.inputs.items c.args.k ≡ Some
+    c.in-Some.n.now = grind (
+      arith,
+      c.in-Some.ensures.lookup,
+      c.deref.ensures.value,
+      slice_get-get_or c.self.inside.inputs.items c.args.k c.in-Some.n.now,
+    ) in
     let n : IsNumbered is_input c.self.inside.cells.items c.args.k c.in-Some.n.now.0 = c.self.invariant.3.each c.args.k c.in-Some.n.now h in
     let same : c.self.inside.cells.items ≡ c.args.self.now.cells = ap (λ (v : Circuit). v.cells) c.self.view_is in
-    let is : c.index.result.now ≡ n.sized = c.index.ensures ∙ get_or_from_slice_get c.self.inside.cells.items c.in-Some.n.now.0 n.sized c.index.result.now n.found in
-    width_numbered c.self.inside.cells.items c.args.self.now.cells c.args.k n.sized c.index.result.now same is (cell_numbered is_input c.self.inside.cells.items c.args.k c.in-Some.n.now.0 n)
+    let is : c.index.result.now ≡ n.sized = c.index.ensures ∙
+    get_or_from_slice_get c.self.inside.cells.items c.in-Some.n.now.0 n.sized c.index.result.now n.found in
+    width_numbered c.self.inside.cells.items c.args.self.now.cells c.args.k n.sized c.index.result.now same is
+    (cell_numbered is_input c.self.inside.cells.items c.args.k c.in-Some.n.now.0 n)
 
 pub returns-in-None : goal.returns-in-None
 returns-in-None c =
     let same : c.self.inside.cells.items ≡ c.args.self.now.cells = ap (λ (v : Circuit). v.cells) c.self.view_is in
     let past : length c.self.inside.inputs.items ≤ c.args.k = grind (arith, c.in-None.ensures.lookup, c.deref.ensures.value) in
-    no_width c.self.inside.cells.items c.args.self.now.cells c.args.k same (none_numbered is_input c.self.inside.cells.items c.args.k (omega (arith, c.self.invariant.3.long, past)))
+    no_width c.self.inside.cells.items c.args.self.now.cells c.args.k same
+    (none_numbered is_input c.self.inside.cells.items c.args.k (omega (arith, c.self.invariant.3.long, past)))

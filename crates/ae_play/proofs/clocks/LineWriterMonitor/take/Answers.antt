@@ -9,7 +9,8 @@ pub returns-clause-takes : goal.returns-clause-takes
 returns-clause-takes c =
     let m = c.args.self.now in
     line_is c.args.clock (map (mark m.slowdown m.latency c.args.clock) (map st_tree m.outs.now)) c.args.words.now
-    (string_bytes c.args.out.now) (string_bytes c.push_str.new.self) (string_bytes c.push_str-2.new.self) (string_bytes c.write_marks.new.out) (string_bytes c.write_words.new.out) (string_bytes c.push_str-3.new.self)
+    (string_bytes c.args.out.now) (string_bytes c.push_str.new.self) (string_bytes c.push_str-2.new.self) (string_bytes c.write_marks.new.out)
+    (string_bytes c.write_words.new.out) (string_bytes c.push_str-3.new.self)
     (c.in_ok-push_str.ensures.bytes ∙ ap (λ x. string_bytes c.args.out.now ++ x) c.format.ensures.text)
     c.in_ok-push_str-2.ensures.bytes
     c.in_ok-write_marks.ensures

@@ -11,41 +11,48 @@ at_least a more = omega arith
 pub reduced-requires-clause-folds : goal.reduced-requires-clause-folds
 reduced-requires-clause-folds c =
     build_folds _ _ _ _ _ _
-    (build_of _ _ _ _ _ c.args.ins.now _ _ c.self.invariant c.deref.ensures.value c.in_ok-folds.ensures.folds c.plan_of-plan.ensures.plan c.plan_of-plan.ensures.numbers (rw (← c.self.view_is) at c.requires.bundles) c.index-ins-0.is c.nets-nets.ensures)
+    (build_of _ _ _ _ _ c.args.ins.now _ _ c.self.invariant c.deref.ensures.value c.in_ok-folds.ensures.folds c.plan_of-plan.ensures.plan
+    c.plan_of-plan.ensures.numbers (rw (← c.self.view_is) at c.requires.bundles) c.index-ins-0.is c.nets-nets.ensures)
 
 pub reduced-requires-clause-nets : goal.reduced-requires-clause-nets
 reduced-requires-clause-nets c =
     build_nets _ _ _ _ _ _
-    (build_of _ _ _ _ _ c.args.ins.now _ _ c.self.invariant c.deref.ensures.value c.in_ok-folds.ensures.folds c.plan_of-plan.ensures.plan c.plan_of-plan.ensures.numbers (rw (← c.self.view_is) at c.requires.bundles) c.index-ins-0.is c.nets-nets.ensures)
+    (build_of _ _ _ _ _ c.args.ins.now _ _ c.self.invariant c.deref.ensures.value c.in_ok-folds.ensures.folds c.plan_of-plan.ensures.plan
+    c.plan_of-plan.ensures.numbers (rw (← c.self.view_is) at c.requires.bundles) c.index-ins-0.is c.nets-nets.ensures)
 
 pub reduced-requires-clause-long : goal.reduced-requires-clause-long
 reduced-requires-clause-long c =
     build_long _ _ _ _ _ _
-    (build_of _ _ _ _ _ c.args.ins.now _ _ c.self.invariant c.deref.ensures.value c.in_ok-folds.ensures.folds c.plan_of-plan.ensures.plan c.plan_of-plan.ensures.numbers (rw (← c.self.view_is) at c.requires.bundles) c.index-ins-0.is c.nets-nets.ensures)
+    (build_of _ _ _ _ _ c.args.ins.now _ _ c.self.invariant c.deref.ensures.value c.in_ok-folds.ensures.folds c.plan_of-plan.ensures.plan
+    c.plan_of-plan.ensures.numbers (rw (← c.self.view_is) at c.requires.bundles) c.index-ins-0.is c.nets-nets.ensures)
 
 pub reduced-requires-clause-whole : goal.reduced-requires-clause-whole
 reduced-requires-clause-whole c =
     build_whole _ _ _ _ _ _
-    (build_of _ _ _ _ _ c.args.ins.now _ _ c.self.invariant c.deref.ensures.value c.in_ok-folds.ensures.folds c.plan_of-plan.ensures.plan c.plan_of-plan.ensures.numbers (rw (← c.self.view_is) at c.requires.bundles) c.index-ins-0.is c.nets-nets.ensures)
+    (build_of _ _ _ _ _ c.args.ins.now _ _ c.self.invariant c.deref.ensures.value c.in_ok-folds.ensures.folds c.plan_of-plan.ensures.plan
+    c.plan_of-plan.ensures.numbers (rw (← c.self.view_is) at c.requires.bundles) c.index-ins-0.is c.nets-nets.ensures)
 
 pub returns-in_err-outs-clause-cells : goal.returns-in_err-outs-clause-cells
 returns-in_err-outs-clause-cells c =
     rw (← c.self.view_is)
     (build_cells _ _ _ _ _ _ _ _
-    (build_of _ _ _ _ _ c.args.ins.now _ _ c.self.invariant c.deref.ensures.value c.in_ok-folds.ensures.folds c.plan_of-plan.ensures.plan c.plan_of-plan.ensures.numbers (rw (← c.self.view_is) at c.requires.bundles) c.index-ins-0.is c.nets-nets.ensures)
+    (build_of _ _ _ _ _ c.args.ins.now _ _ c.self.invariant c.deref.ensures.value c.in_ok-folds.ensures.folds c.plan_of-plan.ensures.plan
+    c.plan_of-plan.ensures.numbers (rw (← c.self.view_is) at c.requires.bundles) c.index-ins-0.is c.nets-nets.ensures)
     c.in_err-outs.ensures.up)
 
 pub returns-clause-cells : goal.returns-clause-cells
 returns-clause-cells c =
     rw (← c.self.view_is)
     (build_cells _ _ _ _ _ _ _ _
-    (build_of _ _ _ _ _ c.args.ins.now _ _ c.self.invariant c.deref.ensures.value c.in_ok-folds.ensures.folds c.plan_of-plan.ensures.plan c.plan_of-plan.ensures.numbers (rw (← c.self.view_is) at c.requires.bundles) c.index-ins-0.is c.nets-nets.ensures)
+    (build_of _ _ _ _ _ c.args.ins.now _ _ c.self.invariant c.deref.ensures.value c.in_ok-folds.ensures.folds c.plan_of-plan.ensures.plan
+    c.plan_of-plan.ensures.numbers (rw (← c.self.view_is) at c.requires.bundles) c.index-ins-0.is c.nets-nets.ensures)
     c.in_ok-outs.ensures.up)
 
 pub returns-clause-muls : goal.returns-clause-muls
 returns-clause-muls c =
     let e = build_products _ _ _ _ _ _
-    (build_of _ _ _ _ _ c.args.ins.now _ _ c.self.invariant c.deref.ensures.value c.in_ok-folds.ensures.folds c.plan_of-plan.ensures.plan c.plan_of-plan.ensures.numbers (rw (← c.self.view_is) at c.requires.bundles) c.index-ins-0.is c.nets-nets.ensures)
+    (build_of _ _ _ _ _ c.args.ins.now _ _ c.self.invariant c.deref.ensures.value c.in_ok-folds.ensures.folds c.plan_of-plan.ensures.plan
+    c.plan_of-plan.ensures.numbers (rw (← c.self.view_is) at c.requires.bundles) c.index-ins-0.is c.nets-nets.ensures)
     in
     rw (← c.self.view_is) (omega (arith, c.in_ok-outs.ensures.adds.muls, e))
 
@@ -53,14 +60,16 @@ pub returns-clause-bundle : goal.returns-clause-bundle
 returns-clause-bundle c =
     rw (← c.self.view_is)
     (build_bundle _ _ _ _ _ _ _ _ _ _ _
-    (build_of _ _ _ _ _ c.args.ins.now _ _ c.self.invariant c.deref.ensures.value c.in_ok-folds.ensures.folds c.plan_of-plan.ensures.plan c.plan_of-plan.ensures.numbers (rw (← c.self.view_is) at c.requires.bundles) c.index-ins-0.is c.nets-nets.ensures)
+    (build_of _ _ _ _ _ c.args.ins.now _ _ c.self.invariant c.deref.ensures.value c.in_ok-folds.ensures.folds c.plan_of-plan.ensures.plan
+    c.plan_of-plan.ensures.numbers (rw (← c.self.view_is) at c.requires.bundles) c.index-ins-0.is c.nets-nets.ensures)
     c.new.ensures c.in_ok-outs.ensures.long c.in_ok-outs.ensures.scans)
 
 pub returns-clause-law : goal.returns-clause-law
 returns-clause-law c =
     rw (← c.self.view_is)
     (build_law _ _ _ _ _ _ _ _ _ _ _
-    (build_of _ _ _ _ _ c.args.ins.now _ _ c.self.invariant c.deref.ensures.value c.in_ok-folds.ensures.folds c.plan_of-plan.ensures.plan c.plan_of-plan.ensures.numbers (rw (← c.self.view_is) at c.requires.bundles) c.index-ins-0.is c.nets-nets.ensures)
+    (build_of _ _ _ _ _ c.args.ins.now _ _ c.self.invariant c.deref.ensures.value c.in_ok-folds.ensures.folds c.plan_of-plan.ensures.plan
+    c.plan_of-plan.ensures.numbers (rw (← c.self.view_is) at c.requires.bundles) c.index-ins-0.is c.nets-nets.ensures)
     c.new.ensures c.in_ok-outs.ensures.long c.in_ok-outs.ensures.scans)
 
 pub plan_of-plan-requires-clause-slots_some : goal.plan_of-plan-requires-clause-slots_some

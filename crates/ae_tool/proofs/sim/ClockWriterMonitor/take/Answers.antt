@@ -5,5 +5,7 @@ use Rattle.ae_tool.proofs.sim.ClockWriterMonitor.take.Goals as goal
 
 pub returns-clause-takes : goal.returns-clause-takes
 returns-clause-takes c =
-    line_is c.args.clock c.args.words.now (string_bytes c.args.out.now) (string_bytes c.push_str.new.self) (string_bytes c.write_words.new.out) (string_bytes c.push_str-2.new.self)
-    (c.in_ok-push_str.ensures.bytes ∙ ap (λ x. string_bytes c.args.out.now ++ x) c.format.ensures.text) c.in_ok-write_words.ensures c.in_ok-push_str-2.ensures.bytes
+    line_is c.args.clock c.args.words.now (string_bytes c.args.out.now) (string_bytes c.push_str.new.self) (string_bytes c.write_words.new.out)
+    (string_bytes c.push_str-2.new.self)
+    (c.in_ok-push_str.ensures.bytes ∙ ap (λ x. string_bytes c.args.out.now ++ x) c.format.ensures.text) c.in_ok-write_words.ensures
+    c.in_ok-push_str-2.ensures.bytes

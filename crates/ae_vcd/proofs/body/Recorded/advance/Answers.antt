@@ -19,8 +19,11 @@ returns-then-time-last-clause-answer c = λ vs ps digits h m r e.
 
 pub returns-then-time-last-2-clause-answer : goal.returns-then-time-last-2-clause-answer
 returns-then-time-last-2-clause-answer c = λ vs ps digits h m r e.
-    let some : time_of None ps ≡ Some c.in-Some.last = sym h.last ∙ c.in-Some.is in
-    (ap (λ o. is_after o (digits_value 10 digits)) some ∙ after c.in-Some.last (digits_value 10 digits) (let l = c.if-time-last-2.true in omega arith), times_again c.args.self.now vs ps digits c.in-Some.last (sym e ∙ c.if-time-last-2.true) some h, refl)
+    let some : time_of None ps ≡ Some c.in-Some.last = sym h.last ∙ c.in-Some.is in (
+      ap (λ o. is_after o (digits_value 10 digits)) some ∙ after c.in-Some.last (digits_value 10 digits) (let l = c.if-time-last-2.true in omega arith),
+      times_again c.args.self.now vs ps digits c.in-Some.last (sym e ∙ c.if-time-last-2.true) some h,
+      refl,
+    )
 
 pub returns-clause-answer : goal.returns-clause-answer
 returns-clause-answer c = λ vs ps digits h m r e.

@@ -8,4 +8,6 @@ pub advance-requires-clause-known : goal.advance-requires-clause-known
 advance-requires-clause-known c = time_numbers c.args.self.now c.deref.result.now c.deref.ensures.value c.requires.reader c.requires.here
 
 pub returns-clause-answer : goal.returns-clause-answer
-returns-clause-answer c = λ s f. time_answer c.args.self.now s c.args.digits.now c.in-Some.time c.advance.new.self c.deref.result.now c.in_ok-taken.taken c.deref.ensures.value f c.requires.here c.in-Some.ensures.0 c.in-Some.ensures.1 c.in_ok-taken.ensures.answer
+returns-clause-answer c =
+    λ s f. time_answer c.args.self.now s c.args.digits.now c.in-Some.time c.advance.new.self c.deref.result.now c.in_ok-taken.taken c.deref.ensures.value f
+    c.requires.here c.in-Some.ensures.0 c.in-Some.ensures.1 c.in_ok-taken.ensures.answer

@@ -12,4 +12,5 @@ loop-sized-preserved c before h =
     (c.in_ok-push_input.ensures (before ++ input_ports (take c.loop-sized.sized-index c.args.cells.now)) (c.loop-sized.invariant before h))
 
 pub returns : goal.returns
-returns c before h = inputs_whole before c.loop-sized.self c.args.cells.now c.loop-sized.sized-index (omega (arith, c.loop-sized-test.false)) (c.loop-sized.invariant before h)
+returns c before h =
+    inputs_whole before c.loop-sized.self c.args.cells.now c.loop-sized.sized-index (omega (arith, c.loop-sized-test.false)) (c.loop-sized.invariant before h)
