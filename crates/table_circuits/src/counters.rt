@@ -168,7 +168,6 @@ fn output(clocks: &Clocks, nl: &mut Netlist, last: NetId) -> Answer
     requires { Belongs clocks.now nl.old.cells }
     ensures { Belongs clocks.now nl.new.cells }
 {
-    let _reset = clocks.reset();
     show_output(nl, last.0)
 }
 
