@@ -65,6 +65,16 @@ CLOCKED = "module m(input clk,input a,output b);reg r;assign b=r;always @(posedg
 SQUARES = "fn sq x:u8\ny = mul x x\nend y\nfn main a:[4096]u8\nb = map sq a\nc = map sq b\nend c\n"
 
 # Shape: words, text, weight of the module where there is one.
+LETTERS = "abcdefghijklmnopqrstuvwxyzABCDEFGHIJKLMNOPQRSTUVWXYZ0123456789_"
+
+
+def chosen(number):
+    """A name of 48 letters, and one hash for all of them: behind its first 16 the hash of std's tables has these very 8 letters as
+    its state, and multiplies by their difference, 0, whatever the 8 behind them are."""
+    free = "".join(LETTERS[number // 63**k % 63] for k in range(8))
+    return "q6ddy9kyA8foNlyp" + "V_ly5C5G" + free + "_" * 16
+
+
 SHAPES = {
     "nested_types": lambda: (["check"], filled("fn main a:", "(", "\n"), None),
     "one_line": lambda: (["check"], filled("", "x", ""), None),
@@ -111,6 +121,7 @@ SHAPES = {
     "heavy_module": lambda: (["sim", 0], PORTS + "assign b=a;" + "".join(f"wire w{k}=a" + "<<a" * 254 + ";" for k in range(6500)) + "endmodule", 6500 * 255 * 6),
     "long_sums": lambda: (["sim", 0], PORTS + "assign b=a;" + "".join(f"wire w{k}=a" + "+a" * 254 + ";" for k in range(32_000)) + "endmodule", 32_000 * 256),
     "nested_braces": lambda: (["sim", 0], PORTS + "assign b=a;" + "".join(f"wire w{k}=" + "{" * 254 + "a" + "}" * 254 + ";" for k in range(32_000)) + "endmodule", 32_000 * 256),
+    "chosen_names": lambda: (["sim", 0], PORTS + "assign b=a;" + "".join(f"wire {chosen(k)}=a;" for k in range(20_000)) + "endmodule", 40_005),
     "sim_of_many_rows": lambda: (["sim", 0], PORTS + "assign b=a;endmodule\n%%\n" + "1\n" * 1_390_000, None),
 }
 
