@@ -77,3 +77,4 @@ size row_sum 6
 size partition 6
 size long_blur 480
 size gaussian 4096
+size integral 4096

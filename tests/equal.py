@@ -17,7 +17,7 @@ from common import TOP, aeth, latency, missing, out_layouts, ports, side_by_side
 HAND = TOP / "tests" / "hand"
 SECONDS = 40
 BOUNDED = ("partition_6", "long_blur_480")
-PLAYED = ("gaussian_4096",)
+PLAYED = ("gaussian_4096", "integral_4096")
 BLOCKS = 12
 
 

@@ -25,6 +25,7 @@ BOUNDS = [
     ("signed_fir", 1024, 1.5 * 329),
     ("gain", 1024, 100),  # the gain, two clocks of a product, a clock of 1,024 and a mark
     ("gaussian", 4096, 16 * 10 + 100),  # ten words of 16 bits, and counters
+    ("integral", 4096, 150),  # two sums of 32 bits, a word out of the memory of a row, two clocks, of 64 and 4,096, and marks
     ("matrix_vector", 1024, 1500),  # the product of each row waits 784 clocks for the last one: 12,544 bits in registers
 ]
 

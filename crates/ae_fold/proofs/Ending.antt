@@ -11,13 +11,14 @@ use Rattle.ae_netlist.specs.Circuit.{Circuit, IsNet, Extends}
 use Rattle.ae_netlist.proofs.Gets.{get_push_cases}
 use Rattle.ae_netlist.proofs.Growing.{extends_trans, net_later}
 use Rattle.ae_clocked.specs.Signals.{Adds}
-use Rattle.ae_clocked.proofs.Adding.{adds_trans}
 use Rattle.ae_fold.specs.declared.words.WordFold.{WordFold}
 use Rattle.ae_fold.specs.declared.plan.Plan.{Plan}
 use Rattle.ae_fold.specs.declared.feedback.Loop.{Loop}
+use Rattle.ae_fold.specs.declared.marks.SlotMark.{SlotMark}
 use Rattle.ae_fold.specs.Folding.{AddsUpTo, AreFolds, fold_at}
 use Rattle.ae_fold.specs.Rows.{AreEnds, AreFoldNets, AreFollowers, AreOverLanes, AreScans, Follows, IsMark, IsOverLanes, IsPlan, IsScan, Marks, net_at, wait_of}
-use Rattle.ae_fold.proofs.Feeding.{adds_is}
+use Rattle.ae_fold.specs.Feedback.{AddsStores}
+use Rattle.ae_fold.proofs.Storing.{stores_is, stores_of, stores_trans}
 use Rattle.ae_fold.proofs.Looping.{fold_op}
 use Rattle.ae_fold.proofs.Kinding.{get_append_cases}
 use Rattle.ae_fold.proofs.Blocks.{same_place, turns_of}
@@ -115,10 +116,10 @@ no_wait slots h = rw h refl
 
 -- the last lane is number n + m, where the nets begin at lane n and the loops m lanes further
 ends_by : (cells : List SizedCell) (rst : ℕ) (folds : List WordFold) (bundle : List NetId) (plan : Plan) (k base from n m : ℕ) (nets : List NetId)
-    (mark : Option NetId) (outs : List NetId) → IsPlan plan → AreFolds folds → plan.stride % length folds ≡ 0
+    (mark : Option SlotMark) (outs : List NetId) → IsPlan plan → AreFolds folds → plan.stride % length folds ≡ 0
     → base ≡ n * plan.stride → from ≡ m * plan.stride → n + m + 1 ≡ plan.lanes → length nets ≡ from + plan.stride
     → AreOverLanes cells folds bundle plan.stride plan.levels base nets
-    → Marks cells rst plan.slots plan.period (k + plan.levels) plan.inner mark → AreEnds cells folds nets from plan.stride plan.inner mark outs
+    → Marks cells rst plan.slots plan.period (k + plan.levels) plan.inner mark → AreEnds cells rst folds nets from plan.stride plan.inner mark outs
     → AreScans cells rst folds bundle plan k (plan.levels + wait_of plan.slots) base outs
 ends_by cells rst folds bundle plan k base from n m nets None outs p fs whole eb ef lanes long over once is = record {
   each = λ q y found.
@@ -142,7 +143,7 @@ ends_by cells rst folds bundle plan k base from n m nets (Some first) outs p fs 
       let stride : ℕ = plan.stride in
       let pos : 1 ≤ stride = p.placed in
       let some : 1 ≤ length folds = fs.some in
-      let known : IsMark cells rst plan.slots plan.period (k + plan.levels) plan.inner first.0 = mark in
+      let known : IsMark cells rst plan.slots plan.period (k + plan.levels) plan.inner first = mark in
       let words : List NetId = map (λ (one : Loop). one.word) ends.loops in
       let d : plan.levels + wait_of plan.slots ≡ plan.levels + 1 = ap (λ x. plan.levels + x) (waits plan.slots known.many) in
       let l : ℕ = q / stride in
@@ -167,7 +168,7 @@ ends_by cells rst folds bundle plan k base from n m nets (Some first) outs p fs 
             let is_loop = rw fold_last at (ends.over.each pl loop there) in
             let next = rw fold_q at (ends.follow.each q loop y there v.1) in
             scan_at cells rst folds bundle plan k (plan.levels + 1) base n q l pl y.0 some whole eb cut lp
-            (scan_follow cells rst (fold_at folds pl) bundle plan k pl (n + l) (net_at nets q) (net_at nets (from + pl)) first.0 y.0 loop p
+            (scan_follow cells rst (fold_at folds pl) bundle plan k pl (n + l) (net_at nets q) (net_at nets (from + pl)) first y.0 loop p
             (fold_op folds pl fs) (omega arith) known (rw end at over_last) over_x is_loop next.net next.words)
         | inr v ↦
             let i : ℕ = q - length ends.followers in
@@ -187,24 +188,25 @@ ends_by cells rst folds bundle plan k base from n m nets (Some first) outs p fs 
             let end : n + m ≡ plan.lanes - 1 = omega arith in
             scan_at cells rst folds bundle plan k (plan.levels + 1) base n q m i y.0 some whole eb at small
             (rw end (subst (λ (x : NetId). IsScan cells rst (fold_at folds i) bundle plan k (plan.levels + 1) i (plan.lanes - 1) x.0) is
-            (scan_loop cells rst (fold_at folds i) bundle plan k i (net_at nets q) first.0 loop p (fold_op folds i fs) known (rw end at over_x) is_loop)))
+            (scan_loop cells rst (fold_at folds i) bundle plan k i (net_at nets q) first loop p (fold_op folds i fs) known (rw end at over_x) is_loop)))
       ]);
 }
 
 pub ends_scan : (cells : List SizedCell) (rst : ℕ) (folds : List WordFold) (bundle : List NetId) (plan : Plan) (k base from n m : ℕ) (nets : List NetId)
-    (mark : Option NetId) (outs : List NetId) → IsPlan plan → AreFolds folds → plan.stride % length folds ≡ 0
+    (mark : Option SlotMark) (outs : List NetId) → IsPlan plan → AreFolds folds → plan.stride % length folds ≡ 0
     → base ≡ n * plan.stride → from ≡ m * plan.stride → n + m + 1 ≡ plan.lanes → length nets ≡ from + plan.stride
     → AreOverLanes cells folds bundle plan.stride plan.levels base nets
-    → Marks cells rst plan.slots plan.period (k + plan.levels) plan.inner mark → AreEnds cells folds nets from plan.stride plan.inner mark outs
+    → Marks cells rst plan.slots plan.period (k + plan.levels) plan.inner mark → AreEnds cells rst folds nets from plan.stride plan.inner mark outs
     → AreScans cells rst folds bundle plan k (plan.levels + wait_of plan.slots) base outs
 ends_scan cells rst folds bundle plan k base from n m nets mark outs p fs whole eb ef lanes long over marks ends =
     ends_by cells rst folds bundle plan k base from n m nets mark outs p fs whole eb ef lanes long over marks ends
 
 -- as many nets as before
-pub ends_long : (cells : List SizedCell) (folds : List WordFold) (nets : List NetId) (from stride inner : ℕ) (mark : Option NetId) (outs : List NetId)
-    → length nets ≡ from + stride → AreEnds cells folds nets from stride inner mark outs → length outs ≡ from + stride
-ends_long cells folds nets from stride inner None outs long is = ap (λ (xs : List NetId). length xs) is ∙ long
-ends_long cells folds nets from stride inner (Some first) outs long h =
+pub ends_long : (cells : List SizedCell) (rst : ℕ) (folds : List WordFold) (nets : List NetId) (from stride inner : ℕ) (mark : Option SlotMark)
+    (outs : List NetId)
+    → length nets ≡ from + stride → AreEnds cells rst folds nets from stride inner mark outs → length outs ≡ from + stride
+ends_long cells rst folds nets from stride inner None outs long is = ap (λ (xs : List NetId). length xs) is ∙ long
+ends_long cells rst folds nets from stride inner (Some first) outs long h =
     ap (λ (xs : List NetId). length xs) h.is ∙ omega (
       arith,
       length-append h.followers (map (λ (one : Loop). one.word) h.loops),
@@ -222,15 +224,15 @@ loops_up a b from stride inner total e h =
     let made : AddsUpTo a b (stride * (inner + 9)) = rw n at h in
     record { grows = made.grows; cells = omega (arith, made.cells) }
 
-pub loops_adds : (a b c : Circuit) (from stride inner total muls : ℕ) → total ≡ from + stride → Adds a b ((total - from) * (inner + 9)) ((total - from) * muls)
-    → Adds b c (from * 10) (from * muls)
-    → Adds a c (stride * (inner + 9) + from * 10) (total * muls)
-loops_adds a b c from stride inner total muls e p q =
+pub loops_adds : (a b c : Circuit) (from stride inner total muls stores : ℕ) → total ≡ from + stride
+    → AddsStores a b ((total - from) * (inner + 9)) ((total - from) * muls) ((total - from) * stores) → Adds b c (from * 10) (from * muls)
+    → AddsStores a c (stride * (inner + 9) + from * 10) (total * muls) (stride * stores)
+loops_adds a b c from stride inner total muls stores e p q =
     let n : total - from ≡ stride = omega arith in
-    let made : Adds a b (stride * (inner + 9)) (stride * muls) = rw n at p in
+    let made : AddsStores a b (stride * (inner + 9)) (stride * muls) (stride * stores) = rw n at p in
     let cut : (stride + from) * muls ≡ stride * muls + from * muls = add-mul stride from muls in
     let turn : total * muls ≡ (stride + from) * muls = ap (λ k. k * muls) (let s : total ≡ stride + from = omega arith in s) in
-    adds_is (omega arith) (omega arith) (adds_trans made q)
+    stores_is (omega arith) (omega arith) (omega arith) (stores_trans made (stores_of q))
 
 -- the nets that scan are those of their words
 pub scans_nets : (cells : List SizedCell) (rst : ℕ) (folds : List WordFold) (bundle : List NetId) (plan : Plan) (k d base n : ℕ) (outs : List NetId)

@@ -1,5 +1,5 @@
 -- What the cells of an accumulator hold.
-use Rattle.std.proofs.Common.{ℕ, ◌≡◌, ◌+◌, ◌<◌, ◌≤◌, List, ◌∷◌, [], length, arith, refl, ap, ◌∙◌, add-zero}
+use Rattle.std.proofs.Common.{ℕ, ◌≡◌, ◌+◌, ◌-◌, ◌<◌, ◌≤◌, List, ◌∷◌, [], length, arith, refl, ap, ◌∙◌, add-zero}
 use Rattle.ae_word.specs.declared.op.WordOp.{WordOp}
 use Rattle.ae_word.specs.declared.op.WordOp.TheVariants.{Mux}
 use Rattle.ae_netlist.specs.declared.cell.NetId.{NetId}
@@ -7,7 +7,7 @@ use Rattle.ae_netlist.specs.declared.cell.SizedCell.{SizedCell}
 use Rattle.ae_netlist.specs.Circuit.{Circuit}
 use Rattle.ae_netlist.specs.Runs.{Clock, word_at, InEveryRunFrom}
 use Rattle.ae_netlist.proofs.Carried.{carries_later}
-use Rattle.ae_clocked.specs.Signals.{Adds, Grows, IsResult, IsNextOf}
+use Rattle.ae_clocked.specs.Signals.{Adds, Grows, IsLater, IsResult, IsNextOf}
 use Rattle.ae_clocked.specs.Delays.{IsLate}
 use Rattle.ae_clocked.proofs.Added.{back, grows_length}
 use Rattle.ae_clocked.proofs.Adding.{grows_trans}
@@ -24,14 +24,16 @@ trail_more base a b x d y z g h late next = λ all k run r t l.
     let n : word_at run (t + d + 1) z ≡ word_at run (t + d) y = next all (carries_later _ _ (grows_length g) k) run r (t + d) (omega arith) in
     rw s (n ∙ late all (back h k) run r t (omega arith))
 
-pub continues : (run : List Clock) (op : WordOp) (w d y : ℕ) (z old x first both next : NetId) → IsLate run old.0 y d
+pub continues : (run : List Clock) (op : WordOp) (w d y start : ℕ) (z old x first both next : NetId) → IsLater run start old.0 y d
     → IsResult run both.0 op w (old ∷ x ∷ old ∷ [])
-    → IsResult run next.0 Mux w (first ∷ x ∷ both ∷ []) → IsNextOf run z.0 next.0 → Continues run z.0 op w x.0 first.0 y d
-continues run op w d y z old x first both next late comb pick reg = record {
+    → IsResult run next.0 Mux w (first ∷ x ∷ both ∷ []) → IsNextOf run z.0 next.0 → Continues run start z.0 op w x.0 first.0 y d
+continues run op w d y start z old x first both next late comb pick reg = record {
   loads = λ t l e. reg t l ∙ pick t (omega arith) ∙ rw e refl;
-  goes_on = λ t l e.
+  goes_on = λ t s l e.
       let l0 : t + d < length run = omega arith in
-      let b : word_at run (t + d) old.0 ≡ word_at run t y = late t l0 in
+      let here : start + (t + d - start) ≡ t + d = omega arith in
+      let there : start + (t + d - start - d) ≡ t = omega arith in
+      let b : word_at run (t + d) old.0 ≡ word_at run t y = rw here at (rw there at (late (t + d - start) (omega arith) (omega arith))) in
       reg (t + d) l ∙ pick (t + d) l0 ∙ rw e (comb (t + d) l0 ∙ rw b refl);
 }
 

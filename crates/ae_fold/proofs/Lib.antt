@@ -2,6 +2,7 @@ pub mod Associative
 pub mod LogUp
 pub mod Scanned
 pub mod Feeding
+pub mod Storing
 pub mod Marking
 pub mod Scanning
 pub mod Looping

@@ -5,11 +5,12 @@ use Rattle.ae_netlist.specs.declared.cell.NetId.{NetId}
 use Rattle.ae_netlist.specs.declared.cell.SizedCell.{SizedCell}
 use Rattle.ae_netlist.specs.Circuit.{IsNet}
 use Rattle.ae_netlist.specs.Runs.{Clock, word_at, InEveryRun}
-use Rattle.ae_clocked.specs.Delays.{IsLate}
+use Rattle.ae_clocked.specs.Signals.{IsLater}
 use Rattle.ae_ops.specs.Folds.{IsFold, fold_to}
 use Rattle.ae_fold.specs.declared.words.WordFold.{WordFold}
 use Rattle.ae_fold.specs.declared.plan.Plan.{Plan}
 use Rattle.ae_fold.specs.declared.feedback.Loop.{Loop}
+use Rattle.ae_fold.specs.declared.marks.SlotMark.{SlotMark}
 use Rattle.ae_fold.specs.Feedback.{Continues, Leads}
 use Rattle.ae_fold.specs.Rows.{IsPlan, IsOverLanes, IsMark, IsLoop, IsScan, Scans, row_word}
 use Rattle.ae_fold.proofs.Associative.{fold_same}
@@ -42,7 +43,7 @@ pub scans_over : (fold : WordFold) (nets : List NetId) (plan : Plan) (k place l 
     → ((t : ℕ) → t + plan.levels < length run → word_at run (t + plan.levels) last ≡ fold_to fold.op fold.width (row_word run t nets plan.stride place)
     (plan.lanes - 1))
     → ((t : ℕ) → t + plan.levels < length run → word_at run (t + plan.levels) x ≡ fold_to fold.op fold.width (row_word run t nets plan.stride place) l)
-    → Continues run y fold.op fold.width last first y (plan.inner - 1) → Continues run z fold.op fold.width x first y (plan.inner - 1)
+    → Continues run start y fold.op fold.width last first y (plan.inner - 1) → Continues run start z fold.op fold.width x first y (plan.inner - 1)
     → Scans fold nets plan k (plan.levels + 1) place l run start z
 scans_over fold nets plan k place l run start x last first y z p ok ll lead over_last over acc next = λ b q m v lq lm long fit given.
     let base : ℕ = start + (k + plan.levels + b * plan.period + m) in
@@ -73,34 +74,38 @@ scans_over fold nets plan k place l run start x last first y z p ok ll lead over
     let wide : 1 ≤ plan.lanes = p.wide in
     rw (clock j) (over_last (start + (k + b * plan.period + j * plan.inner + m)) (omega arith) ∙ slot j (plan.lanes - 1) (omega arith) (omega arith))
     in
-    rw at (scanned run z y fold.op fold.width x last first plan.inner base v plan.lanes l ok p.lasting p.wide acc next
+    rw at (scanned run start z y fold.op fold.width x last first plan.inner base v plan.lanes l (omega arith) ok p.lasting p.wide acc next
     (lead.high b m lm (omega arith)) q fit low own all_of (omega arith))
 
 -- the loop of the last lane
-pub scan_loop : (cells : List SizedCell) (rst : ℕ) (fold : WordFold) (nets : List NetId) (plan : Plan) (k place last first : ℕ) (one : Loop) → IsPlan plan
+pub scan_loop : (cells : List SizedCell) (rst : ℕ) (fold : WordFold) (nets : List NetId) (plan : Plan) (k place last : ℕ) (mark_of : SlotMark) (one : Loop)
+    → IsPlan plan
     → IsFold fold.op
-    → IsMark cells rst plan.slots plan.period (k + plan.levels) plan.inner first
-    → IsOverLanes cells fold nets plan.stride place (plan.lanes - 1) plan.levels last → IsLoop cells fold last first plan.inner one
+    → IsMark cells rst plan.slots plan.period (k + plan.levels) plan.inner mark_of
+    → IsOverLanes cells fold nets plan.stride place (plan.lanes - 1) plan.levels last → IsLoop cells rst fold last mark_of.first.0 plan.inner one
     → IsScan cells rst fold nets plan k (plan.levels + 1) place (plan.lanes - 1) one.word.0
-scan_loop cells rst fold nets plan k place last first one p ok mark over loop = record {
+scan_loop cells rst fold nets plan k place last mark_of one p ok mark over loop = record {
   net = loop.net;
   words = λ all e run r start reset.
       let wide : 1 ≤ plan.lanes = p.wide in
-      scans_over fold nets plan k place (plan.lanes - 1) run start last last first one.word.0 one.word.0 p ok (omega arith) (mark.words all e run r start reset)
-      (over.words all e run r) (over.words all e run r) (loop.words all e run r) (loop.words all e run r);
+      scans_over fold nets plan k place (plan.lanes - 1) run start last last mark_of.first.0 one.word.0 one.word.0 p ok (omega arith)
+      (mark.words all e run r start reset)
+      (over.words all e run r) (over.words all e run r) (loop.words all e run r start reset) (loop.words all e run r start reset);
 }
 
 -- a lane behind it
-pub scan_follow : (cells : List SizedCell) (rst : ℕ) (fold : WordFold) (nets : List NetId) (plan : Plan) (k place l x last first z : ℕ) (one : Loop)
+pub scan_follow : (cells : List SizedCell) (rst : ℕ) (fold : WordFold) (nets : List NetId) (plan : Plan) (k place l x last : ℕ) (mark_of : SlotMark) (z : ℕ)
+    (one : Loop)
     → IsPlan plan → IsFold fold.op → l < plan.lanes
-    → IsMark cells rst plan.slots plan.period (k + plan.levels) plan.inner first
+    → IsMark cells rst plan.slots plan.period (k + plan.levels) plan.inner mark_of
     → IsOverLanes cells fold nets plan.stride place (plan.lanes - 1) plan.levels last → IsOverLanes cells fold nets plan.stride place l plan.levels x
-    → IsLoop cells fold last first plan.inner one → IsNet cells z fold.width
-    → InEveryRun cells (λ run. (y d : ℕ) → IsLate run one.back.0 y d → Continues run z fold.op fold.width x first y d)
+    → IsLoop cells rst fold last mark_of.first.0 plan.inner one → IsNet cells z fold.width
+    → InEveryRun cells (λ run. (start y d : ℕ) → IsLater run start one.back.0 y d → Continues run start z fold.op fold.width x mark_of.first.0 y d)
     → IsScan cells rst fold nets plan k (plan.levels + 1) place l z
-scan_follow cells rst fold nets plan k place l x last first z one p ok ll mark over_last over loop net next = record {
+scan_follow cells rst fold nets plan k place l x last mark_of z one p ok ll mark over_last over loop net next = record {
   net = net;
   words = λ all e run r start reset.
-      scans_over fold nets plan k place l run start x last first one.word.0 z p ok ll (mark.words all e run r start reset)
-      (over_last.words all e run r) (over.words all e run r) (loop.words all e run r) (next all e run r one.word.0 (plan.inner - 1) (loop.late all e run r));
+      scans_over fold nets plan k place l run start x last mark_of.first.0 one.word.0 z p ok ll (mark.words all e run r start reset)
+      (over_last.words all e run r) (over.words all e run r) (loop.words all e run r start reset)
+      (next all e run r start one.word.0 (plan.inner - 1) (loop.late all e run r start reset));
 }

@@ -4,13 +4,15 @@ use Rattle.ae_netlist.specs.declared.cell.NetId.{NetId}
 use Rattle.ae_netlist.specs.declared.cell.SizedCell.{SizedCell}
 use Rattle.ae_netlist.specs.Circuit.{IsNet}
 use Rattle.ae_netlist.specs.Runs.{Clock, word_at, InEveryRun, InEveryResetRun}
-use Rattle.ae_clocked.specs.Delays.{IsLate}
+use Rattle.ae_clocked.specs.Signals.{IsLater}
+use Rattle.ae_clocked.specs.Rings.{rings}
 use Rattle.ae_ops.specs.Folds.{fold_to}
 use Rattle.ae_fold.specs.declared.words.WordFold.{WordFold}
 use Rattle.ae_fold.specs.declared.plan.Plan.{Plan}
 use Rattle.ae_fold.specs.declared.feedback.Loop.{Loop}
+use Rattle.ae_fold.specs.declared.marks.SlotMark.{SlotMark}
 use Rattle.ae_fold.specs.Folding.{Fit, fold_at}
-use Rattle.ae_fold.specs.Feedback.{Continues, Leads}
+use Rattle.ae_fold.specs.Feedback.{Continues, Leads, MayPlace, TurnsAlways}
 
 -- the numbers of a fold, where the levels are the logarithm of the lanes, rounded up
 pub record IsPlan (plan : Plan) : Type 0 where
@@ -51,28 +53,31 @@ pub record AreOverLanes (cells : List SizedCell) (folds : List WordFold) (nets :
   pub each : (q : ℕ) → q < length outs → IsOverLanes cells (fold_at folds (from + q)) nets stride ((from + q) % stride)
       ((from + q) / stride) levels (net_at outs q)
 
--- a net that marks slot 0, where there are more slots than one; blocks begin at clock k after reset
-pub record IsMark (cells : List SizedCell) (rst slots period k inner y : ℕ) : Type 0 where
+-- a net that marks slot 0, where there are more slots than one, and where loops may wait; blocks begin at clock k after reset
+pub record IsMark (cells : List SizedCell) (rst slots period k inner : ℕ) (mark : SlotMark) : Type 0 where
   pub many : 2 ≤ slots
-  pub net : IsNet cells y 1
-  pub words : InEveryResetRun cells rst (λ run start. Leads run start y period k inner)
+  pub net : IsNet cells mark.first.0 1
+  pub words : InEveryResetRun cells rst (λ run start. Leads run start mark.first.0 period k inner)
+  pub place : MayPlace cells (inner - 1) mark.ring
+  pub turns : TurnsAlways cells rst mark.ring
 
-abbrev pub Marks : List SizedCell → (rst slots period k inner : ℕ) → Option NetId → Type 0
+abbrev pub Marks : List SizedCell → (rst slots period k inner : ℕ) → Option SlotMark → Type 0
 Marks cells rst slots period k inner None = slots ≡ 1
-Marks cells rst slots period k inner (Some y) = IsMark cells rst slots period k inner y.0
+Marks cells rst slots period k inner (Some mark) = IsMark cells rst slots period k inner mark
 
 -- a loop over net x
-pub record IsLoop (cells : List SizedCell) (fold : WordFold) (x first inner : ℕ) (one : Loop) : Type 0 where
+pub record IsLoop (cells : List SizedCell) (rst : ℕ) (fold : WordFold) (x first inner : ℕ) (one : Loop) : Type 0 where
   pub net : IsNet cells one.word.0 fold.width
   pub old : IsNet cells one.back.0 fold.width
-  pub words : InEveryRun cells (λ run. Continues run one.word.0 fold.op fold.width x first one.word.0 (inner - 1))
-  pub late : InEveryRun cells (λ run. IsLate run one.back.0 one.word.0 (inner - 1))
+  pub words : InEveryResetRun cells rst
+      (λ run start. Continues run start one.word.0 fold.op fold.width x first one.word.0 (inner - 1))
+  pub late : InEveryResetRun cells rst (λ run start. IsLater run start one.back.0 one.word.0 (inner - 1))
 
 -- a loop over each net from a place on
-pub record AreLoops (cells : List SizedCell) (folds : List WordFold) (nets : List NetId) (from first inner : ℕ)
-    (loops : List Loop) : Type 0 where
+pub record AreLoops (cells : List SizedCell) (rst : ℕ) (folds : List WordFold) (nets : List NetId)
+    (from first inner : ℕ) (loops : List Loop) : Type 0 where
   pub each : (p : ℕ) (one : Loop) → slice_get loops p ≡ Some one
-      → IsLoop cells (fold_at folds (from + p)) (net_at nets (from + p)) first inner one
+      → IsLoop cells rst (fold_at folds (from + p)) (net_at nets (from + p)) first inner one
 
 -- net y has, d clocks after the place and lane l of each slot, the fold of that place's words of all lanes of the slots before and of lanes 0 to l of this
 abbrev pub Scans : (fold : WordFold) (nets : List NetId) → Plan → (k d place l : ℕ) → List Clock → (start y : ℕ)
@@ -101,8 +106,8 @@ pub record AreScans (cells : List SizedCell) (rst : ℕ) (folds : List WordFold)
 -- net z goes on from a loop over another lane
 pub record Follows (cells : List SizedCell) (fold : WordFold) (x first : ℕ) (one : Loop) (z : ℕ) : Type 0 where
   pub net : IsNet cells z fold.width
-  pub words : InEveryRun cells (λ run. (y d : ℕ) → IsLate run one.back.0 y d
-      → Continues run z fold.op fold.width x first y d)
+  pub words : InEveryRun cells (λ run. (start y d : ℕ) → IsLater run start one.back.0 y d
+      → Continues run start z fold.op fold.width x first y d)
 
 -- so many nets go on from the loops over the last lane, place by place
 pub record AreFollowers (cells : List SizedCell) (folds : List WordFold) (nets : List NetId) (stride first : ℕ)
@@ -111,27 +116,32 @@ pub record AreFollowers (cells : List SizedCell) (folds : List WordFold) (nets :
       → Follows cells (fold_at folds q) (net_at nets q) first one z.0
 
 -- loops over the nets from a place on, the nets before it going on from them
-pub record AreLooped (cells : List SizedCell) (folds : List WordFold) (nets : List NetId) (from stride first inner : ℕ)
-    (outs : List NetId) : Type 0 where
+pub record AreLooped (cells : List SizedCell) (rst : ℕ) (folds : List WordFold) (nets : List NetId)
+    (from stride first inner : ℕ) (outs : List NetId) : Type 0 where
   pub loops : List Loop
   pub followers : List NetId
   pub long : length loops ≡ stride
   pub before : length followers ≡ from
-  pub over : AreLoops cells folds nets from first inner loops
+  pub over : AreLoops cells rst folds nets from first inner loops
   pub follow : AreFollowers cells folds nets stride first loops followers
   pub is : outs ≡ followers ++ map (λ (one : Loop). one.word) loops
 
 -- the nets themselves where there is no mark, and else those of the loops
-abbrev pub AreEnds : List SizedCell → List WordFold → List NetId → (from stride inner : ℕ) → Option NetId → List NetId
-    → Type 0
-AreEnds cells folds nets from stride inner None outs = outs ≡ nets
-AreEnds cells folds nets from stride inner (Some first) outs = AreLooped cells folds nets from stride first.0 inner outs
+abbrev pub AreEnds : List SizedCell → (rst : ℕ) → List WordFold → List NetId → (from stride inner : ℕ) → Option SlotMark
+    → List NetId → Type 0
+AreEnds cells rst folds nets from stride inner None outs = outs ≡ nets
+AreEnds cells rst folds nets from stride inner (Some mark) outs =
+    AreLooped cells rst folds nets from stride mark.first.0 inner outs
 
 -- one where there is a mark
-abbrev pub marks_in : Option NetId → ℕ
+abbrev pub marks_in : Option SlotMark → ℕ
 marks_in None = 0
-marks_in (Some first) = 1
+marks_in (Some mark) = 1
 
 -- the clocks that a loop takes
 abbrev pub wait_of : (slots : ℕ) → ℕ
 wait_of slots = if nat_lt 1 slots then 1 else 0
+
+-- the most memories in which the words of its loops wait
+abbrev pub loop_memories : Plan → ℕ
+loop_memories plan = wait_of plan.slots * (plan.stride * rings plan.inner)

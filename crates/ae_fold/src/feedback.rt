@@ -1,18 +1,27 @@
 // Words that come back some clocks later.
 
-ghost use Rattle.std.specs.Prelude.{◌≡◌, ℕ, ◌+◌, ◌-◌, ◌≤◌, length, IfOk, OnOk};
+ghost use Rattle.std.specs.Prelude.{◌≡◌, ℕ, ◌+◌, ◌-◌, ◌%◌, ◌^◌, ◌≤◌, length, IfOk, OnOk};
 ghost use Rattle.ae_netlist.specs.Circuit.{IsNet};
-ghost use Rattle.ae_netlist.specs.Runs.{InEveryRun, InEveryRunFrom};
-ghost use Rattle.ae_clocked.specs.Signals.{Adds, IsFullAt};
+ghost use Rattle.ae_netlist.specs.Runs.{HasWords, InEveryResetRun, InEveryRun, InEveryRunFrom};
+ghost use Rattle.ae_clocked.specs.Signals.{Adds, IsFullAt, IsLater};
 ghost use Rattle.ae_clocked.specs.Delays.{IsLate};
+ghost use Rattle.ae_clocked.specs.Rings.{AddsMemories, rings};
 ghost use Rattle.ae_ops.specs.Folds.{IsFold};
 ghost use Rattle.ae_fold.specs.Folding.{AddsUpTo, product_of};
-ghost use Rattle.ae_fold.specs.Feedback.{Continues, IsJoined};
+ghost use Rattle.ae_fold.specs.Feedback.{AddsStores, Continues, IsJoined, IsPlace, MayPlace, TurnsAlways, TurnsIn};
 
 use crate::words::WordFold;
-use ae_clocked::{choose, close, delayed, register};
+use ae_clocked::{choose, close, constant, delayed, look, register, ring_depth, store, sum};
 use ae_netlist::{NetFault, NetId, Netlist};
 use ae_ops::combined;
+
+/// A counter of the clocks after reset that goes round with so many bits: the places of rings, memories that are written in
+/// every clock.
+#[derive(Clone, Copy)]
+pub struct RingCounter {
+    pub net: NetId,
+    pub bits: u32,
+}
 
 /// A net that is some clocks late.
 fn trail(nl: &mut Netlist, x: NetId, width: u32, count: u32) -> Result<NetId, NetFault>
@@ -31,6 +40,62 @@ fn trail(nl: &mut Netlist, x: NetId, width: u32, count: u32) -> Result<NetId, Ne
     Ok(last)
 }
 
+/// The word that `x` had some clocks before, from a ring of its own that is written at a counter. It is read a clock early
+/// and kept in a register, as block RAM is read.
+fn ringed(
+    nl: &mut Netlist,
+    at: RingCounter,
+    x: NetId,
+    width: u32,
+    delay: u32,
+) -> Result<NetId, NetFault>
+    requires low { 1 ≤ width }
+    requires high { width ≤ 64 }
+    requires net { IsNet nl.old.cells x.0 width }
+    requires late { 2 ≤ delay }
+    requires place { IsPlace nl.old.cells delay at }
+    ensures adds { AddsMemories nl.old nl.new 6 1 }
+    ensures full { IsFullAt result nl.new }
+    ensures net { IfOk result (λ y. IsNet nl.new.cells y.0 width) }
+    ensures words { IfOk result (λ y. InEveryRunFrom (length nl.old.cells) nl.new.cells (λ run. (start : ℕ) → HasWords run start at.net.0 (λ c. c % 2 ^ at.bits) → IsLater run start y.0 x.0 delay)) }
+{
+    let memory = store(nl, x, at.net, width, at.bits)?;
+    let places = ring_depth(at.bits);
+    let back = constant(nl, at.bits, u64::from(places - (delay - 1)))?;
+    let place = sum(nl, at.net, back, at.bits)?;
+    let word = look(nl, memory, place, width, at.bits)?;
+    let kept = delayed(nl, word, width)?;
+    Ok(kept)
+}
+
+/// The word that `x` had some clocks before: from a ring, where there is a counter for it and the words that wait have more
+/// than 64 bits, and else from registers. It takes at most as many cells as clocks.
+fn waiting(
+    nl: &mut Netlist,
+    ring: Option<RingCounter>,
+    x: NetId,
+    width: u32,
+    delay: u32,
+) -> Result<NetId, NetFault>
+    requires low { 1 ≤ width }
+    requires high { width ≤ 64 }
+    requires net { IsNet nl.old.cells x.0 width }
+    requires place { MayPlace nl.old.cells delay ring }
+    ensures adds { AddsMemories nl.old nl.new delay (rings (delay + 1)) }
+    ensures full { IsFullAt result nl.new }
+    ensures net { IfOk result (λ y. IsNet nl.new.cells y.0 width) }
+    ensures words { IfOk result (λ y. InEveryRunFrom (length nl.old.cells) nl.new.cells (λ run. (start : ℕ) → TurnsIn run start ring → IsLater run start y.0 x.0 delay)) }
+{
+    if let Some(at) = ring {
+        if delay >= 8 && delay > 64 / width {
+            let kept = ringed(nl, at, x, width, delay)?;
+            return Ok(kept);
+        }
+    }
+    let last = trail(nl, x, width, delay)?;
+    Ok(last)
+}
+
 /// A register, and the net that has its word of some clocks before.
 #[derive(Clone, Copy)]
 pub struct Loop {
@@ -39,10 +104,11 @@ pub struct Loop {
 }
 
 /// A register that takes the word of `x` where `first` is 1, and else its own of `inner` clocks before combined with
-/// that of `x`; and the net that has its word of `inner - 1` clocks before. `Full` comes only where the netlist has
+/// that of `x`; and the net that has its word of `inner - 1` clocks before, which may wait in a ring. `Full` comes only where the netlist has
 /// `limit` cells as the call ends; after a refusal, here and below, it may hold further cells.
 pub fn accumulate(
     nl: &mut Netlist,
+    ring: Option<RingCounter>,
     fold: WordFold,
     x: NetId,
     first: NetId,
@@ -54,16 +120,17 @@ pub fn accumulate(
     requires net { IsNet nl.old.cells x.0 fold.width }
     requires first { IsNet nl.old.cells first.0 1 }
     requires lasting { 1 ≤ inner }
-    ensures adds { OnOk result (Adds nl.old nl.new (inner + 9) (product_of fold.op)) }
+    requires place { MayPlace nl.old.cells (inner - 1) ring }
+    ensures adds { OnOk result (AddsStores nl.old nl.new (inner + 9) (product_of fold.op) (rings inner)) }
     ensures up { AddsUpTo nl.old nl.new (inner + 9) }
     ensures full { IsFullAt result nl.new }
     ensures net { IfOk result (λ y. IsNet nl.new.cells y.word.0 fold.width) }
     ensures back { IfOk result (λ y. IsNet nl.new.cells y.back.0 fold.width) }
-    ensures words { IfOk result (λ y. InEveryRun nl.new.cells (λ run. Continues run y.word.0 fold.op fold.width x.0 first.0 y.word.0 (inner - 1))) }
-    ensures late { IfOk result (λ y. InEveryRun nl.new.cells (λ run. IsLate run y.back.0 y.word.0 (inner - 1))) }
+    ensures words { IfOk result (λ y. (rst : ℕ) → TurnsAlways nl.old.cells rst ring → InEveryResetRun nl.new.cells rst (λ run start. Continues run start y.word.0 fold.op fold.width x.0 first.0 y.word.0 (inner - 1))) }
+    ensures late { IfOk result (λ y. (rst : ℕ) → TurnsAlways nl.old.cells rst ring → InEveryResetRun nl.new.cells rst (λ run start. IsLater run start y.back.0 y.word.0 (inner - 1))) }
 {
     let r = register(nl, fold.width)?;
-    let back = trail(nl, r, fold.width, inner - 1)?;
+    let back = waiting(nl, ring, r, fold.width, inner - 1)?;
     let both = combined(nl, fold.op, back, x, fold.width)?;
     let next = choose(nl, first, x, both, fold.width)?;
     close(nl, r, next);
@@ -88,7 +155,7 @@ pub fn follow(
     ensures up { AddsUpTo nl.old nl.new 10 }
     ensures full { IsFullAt result nl.new }
     ensures net { IfOk result (λ z. IsNet nl.new.cells z.0 fold.width) }
-    ensures words { IfOk result (λ z. InEveryRun nl.new.cells (λ run. (y d : ℕ) → IsLate run back.0 y d → Continues run z.0 fold.op fold.width x.0 first.0 y d)) }
+    ensures words { IfOk result (λ z. InEveryRun nl.new.cells (λ run. (start y d : ℕ) → IsLater run start back.0 y d → Continues run start z.0 fold.op fold.width x.0 first.0 y d)) }
 {
     let both = combined(nl, fold.op, back, x, fold.width)?;
     let next = choose(nl, first, x, both, fold.width)?;

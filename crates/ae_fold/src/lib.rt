@@ -10,7 +10,7 @@ mod words;
 
 pub use feedback::joined;
 pub use loops::copied;
-pub use marks::mark;
+pub use marks::{SlotMark, mark};
 pub use plan::{Plan, is_fold, levels, plan_of};
 pub use slots::over_slots;
 pub use words::{WordFold, word_folds};

@@ -1,13 +1,15 @@
 // A loop for each place of a lane.
 
-ghost use Rattle.std.specs.Prelude.{◌≡◌, ◌+◌, ◌-◌, ◌*◌, ◌≤◌, ◌++◌, length, map, IfOk, OnOk};
+ghost use Rattle.std.specs.Prelude.{◌≡◌, ℕ, ◌+◌, ◌-◌, ◌*◌, ◌≤◌, ◌++◌, length, map, slice_get, Some, IfOk, OnOk};
 ghost use Rattle.ae_netlist.specs.Circuit.{IsNet};
-ghost use Rattle.ae_clocked.specs.Signals.{Adds, IsFullAt};
+ghost use Rattle.ae_clocked.specs.Signals.{IsFullAt};
+ghost use Rattle.ae_clocked.specs.Rings.{rings};
 ghost use Rattle.ae_fold.specs.declared.feedback.Loop.{Loop as Ring};
-ghost use Rattle.ae_fold.specs.Folding.{AddsUpTo, AreFolds, products_in};
+ghost use Rattle.ae_fold.specs.Feedback.{AddsStores, MayPlace, TurnsAlways};
+ghost use Rattle.ae_fold.specs.Folding.{AddsUpTo, AreFolds, fold_at, products_in};
 ghost use Rattle.ae_fold.specs.Rows.{AreFoldNets, AreLoops};
 
-use crate::feedback::{Loop, accumulate};
+use crate::feedback::{Loop, RingCounter, accumulate};
 use crate::words::WordFold;
 use ae_netlist::{NetFault, NetId, Netlist};
 use std::alloc::{AllocError, Global};
@@ -23,10 +25,11 @@ pub fn copied(alloc: Global, nets: &[NetId]) -> Result<Vec<NetId>, AllocError>
     Ok(copy)
 }
 
-/// A loop over each net from a place on. It takes at most `inner + 9` cells for each.
+/// A loop over each net from a place on. It takes at most `inner + 9` cells for each, of which one may be a memory.
 pub fn accumulate_all(
     alloc: Global,
     nl: &mut Netlist,
+    ring: Option<RingCounter>,
     folds: &[WordFold],
     nets: &[NetId],
     from: usize,
@@ -38,16 +41,18 @@ pub fn accumulate_all(
     requires first { IsNet nl.old.cells first.0 1 }
     requires lasting { 1 ≤ inner }
     requires within { from ≤ length nets.now }
-    ensures adds { OnOk result (Adds nl.old nl.new ((length nets.now - from) * (inner + 9)) ((length nets.now - from) * products_in folds.now)) }
+    requires place { MayPlace nl.old.cells (inner - 1) ring }
+    ensures adds { OnOk result (AddsStores nl.old nl.new ((length nets.now - from) * (inner + 9)) ((length nets.now - from) * products_in folds.now) ((length nets.now - from) * rings inner)) }
     ensures up { AddsUpTo nl.old nl.new ((length nets.now - from) * (inner + 9)) }
     ensures full { IsFullAt result nl.new }
     ensures long { IfOk result (λ loops. length loops.items ≡ length nets.now - from) }
-    ensures loops { IfOk result (λ loops. AreLoops nl.new.cells folds.now nets.now from first.0 inner loops.items) }
+    ensures backs { IfOk result (λ loops. (p : ℕ) (one : Ring) → slice_get loops.items p ≡ Some one → IsNet nl.new.cells one.back.0 (fold_at folds.now (from + p)).width) }
+    ensures loops { IfOk result (λ loops. (rst : ℕ) → TurnsAlways nl.old.cells rst ring → AreLoops nl.new.cells rst folds.now nets.now from first.0 inner loops.items) }
 {
     let mut loops = Vec::new(alloc);
     for p in 0..nets.len() - from {
         let fold = folds[(from + p) % folds.len()];
-        let one = accumulate(nl, fold, nets[from + p], first, inner)?;
+        let one = accumulate(nl, ring, fold, nets[from + p], first, inner)?;
         loops.push(one)?;
     }
     Ok(loops)

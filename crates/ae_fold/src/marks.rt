@@ -1,16 +1,25 @@
-// The mark of the first slot of each block.
+// The mark of the first slot of each block, and the counter of where loops wait.
 
-ghost use Rattle.std.specs.Prelude.{◌≡◌, ◌+◌, ◌<◌, ◌≤◌, IfOk};
+ghost use Rattle.std.specs.Prelude.{◌≡◌, ◌+◌, ◌-◌, ◌*◌, ◌<◌, ◌≤◌, IfOk};
 ghost use Rattle.ae_netlist.specs.Circuit.{IsNet};
 ghost use Rattle.ae_netlist.specs.Runs.{InEveryResetRun};
 ghost use Rattle.ae_clocked.specs.Signals.{Adds, IsFullAt};
 ghost use Rattle.ae_clocked.specs.Phases.{Belongs, KeepsCounters};
-ghost use Rattle.ae_fold.specs.Feedback.{Leads};
-ghost use Rattle.ae_fold.specs.Rows.{IsPlan, Marks};
+ghost use Rattle.ae_fold.specs.Feedback.{Leads, MayPlace, TurnsAlways};
+ghost use Rattle.ae_fold.specs.Rows.{IsPlan, Marks, wait_of};
 
-use crate::plan::Plan;
-use ae_clocked::Clocks;
+use crate::feedback::RingCounter;
+use crate::plan::{Plan, levels};
+use ae_clocked::{Clocks, ring_depth};
 use ae_netlist::{NetFault, NetId, Netlist};
+
+/// The net that marks the first slot of each block, and the counter of rings for what waits in loops, where that may be long
+/// enough for one.
+#[derive(Clone, Copy)]
+pub struct SlotMark {
+    pub first: NetId,
+    pub ring: Option<RingCounter>,
+}
 
 /// A bit that is 1 in the first `inner` clocks of each block, where blocks begin `delay` clocks after the arrival.
 fn lead(
@@ -39,8 +48,27 @@ fn lead(
     Ok(y)
 }
 
+/// The counter of a ring that reaches so far back, where that is 8 clocks or more.
+fn place(nl: &mut Netlist, clocks: &mut Clocks, reach: u32) -> Result<Option<RingCounter>, NetFault>
+    requires belongs { Belongs clocks.old nl.old.cells }
+    requires most { reach ≤ 4096 }
+    ensures belongs { Belongs clocks.new nl.new.cells }
+    ensures keeps { KeepsCounters clocks.old clocks.new }
+    ensures adds { Adds nl.old nl.new 12 0 }
+    ensures full { IsFullAt result nl.new }
+    ensures place { IfOk result (λ ring. MayPlace nl.new.cells reach ring) }
+    ensures turns { IfOk result (λ ring. TurnsAlways nl.new.cells clocks.old.rst ring) }
+{
+    if reach < 8 {
+        return Ok(None);
+    }
+    let bits = levels(reach);
+    let net = clocks.phase(nl, ring_depth(bits), 0)?;
+    Ok(Some(RingCounter { net, bits }))
+}
+
 /// The net that marks slot 0 of each block, in the clocks in which the folds over its lanes stand, where there are more
-/// slots than one; it takes at most 21 cells. `ahead` says how many clocks after the arrival a later stage begins its
+/// slots than one, with a counter for rings where loops wait 8 clocks or longer; it takes at most 33 cells. `ahead` says how many clocks after the arrival a later stage begins its
 /// blocks, which may then share a counter with it; the words are the same for any.
 pub fn mark(
     nl: &mut Netlist,
@@ -48,12 +76,12 @@ pub fn mark(
     plan: Plan,
     arrival: u32,
     ahead: u32,
-) -> Result<Option<NetId>, NetFault>
+) -> Result<Option<SlotMark>, NetFault>
     requires plan { IsPlan plan }
     requires belongs { Belongs clocks.old nl.old.cells }
     ensures belongs { Belongs clocks.new nl.new.cells }
     ensures keeps { KeepsCounters clocks.old clocks.new }
-    ensures adds { Adds nl.old nl.new 21 0 }
+    ensures adds { Adds nl.old nl.new (wait_of plan.slots * 33) 0 }
     ensures full { IsFullAt result nl.new }
     ensures marks { IfOk result (λ found. Marks nl.new.cells clocks.old.rst plan.slots plan.period (arrival + plan.levels) plan.inner found) }
 {
@@ -67,7 +95,8 @@ pub fn mark(
             plan.inner,
             ahead,
         )?;
-        Ok(Some(first))
+        let ring = place(nl, clocks, plan.inner - 1)?;
+        Ok(Some(SlotMark { first, ring }))
     } else {
         Ok(None)
     }

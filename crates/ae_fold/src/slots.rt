@@ -3,12 +3,15 @@
 ghost use Rattle.std.specs.Prelude.{◌≡◌, ◌+◌, ◌-◌, ◌*◌, ◌%◌, ◌<◌, ◌≤◌, ℕ, length, slice_get, Some, IfOk, IfSome, OnOk};
 ghost use Rattle.ae_netlist.specs.Circuit.{IsNet};
 ghost use Rattle.ae_clocked.specs.Signals.{Adds, IsFullAt};
+ghost use Rattle.ae_clocked.specs.Rings.{rings};
 ghost use Rattle.ae_fold.specs.declared.feedback.Loop.{Loop as Ring};
+ghost use Rattle.ae_fold.specs.Feedback.{AddsStores, MayPlace, TurnsAlways};
 ghost use Rattle.ae_fold.specs.Folding.{AddsUpTo, AreFolds, fold_at, products_in};
 ghost use Rattle.ae_fold.specs.Rows.{AreEnds, AreFoldNets, AreFollowers, AreLooped, marks_in};
 
 use crate::feedback::{Loop, follow};
 use crate::loops::{accumulate_all, append_loops};
+use crate::marks::SlotMark;
 use crate::words::WordFold;
 use ae_netlist::{NetFault, NetId, Netlist};
 use std::alloc::Global;
@@ -56,24 +59,25 @@ fn looped(
     nets: &[NetId],
     from: usize,
     stride: usize,
-    first: NetId,
+    mark: SlotMark,
     inner: u32,
 ) -> Result<Vec<NetId>, NetFault>
     requires folds { AreFolds folds.now }
     requires nets { AreFoldNets nl.old.cells folds.now nets.now }
-    requires first { IsNet nl.old.cells first.0 1 }
+    requires first { IsNet nl.old.cells mark.first.0 1 }
+    requires place { MayPlace nl.old.cells (inner - 1) mark.ring }
     requires lasting { 1 ≤ inner }
     requires last { length nets.now ≡ from + stride }
     requires lanes { from % stride ≡ 0 }
     requires placed { 1 ≤ stride }
     requires whole { stride % length folds.now ≡ 0 }
-    ensures adds { OnOk result (Adds nl.old nl.new (stride * (inner + 9) + from * 10) (length nets.now * products_in folds.now)) }
+    ensures adds { OnOk result (AddsStores nl.old nl.new (stride * (inner + 9) + from * 10) (length nets.now * products_in folds.now) (stride * rings inner)) }
     ensures up { AddsUpTo nl.old nl.new (stride * (inner + 9) + from * 10) }
     ensures full { IsFullAt result nl.new }
-    ensures looped { IfOk result (λ outs. AreLooped nl.new.cells folds.now nets.now from stride first.0 inner outs.items) }
+    ensures looped { IfOk result (λ outs. (rst : ℕ) → TurnsAlways nl.old.cells rst mark.ring → AreLooped nl.new.cells rst folds.now nets.now from stride mark.first.0 inner outs.items) }
 {
-    let loops = accumulate_all(alloc, nl, folds, nets, from, first, inner)?;
-    let mut outs = followers(alloc, nl, folds, nets, from, stride, first, &loops)?;
+    let loops = accumulate_all(alloc, nl, mark.ring, folds, nets, from, mark.first, inner)?;
+    let mut outs = followers(alloc, nl, folds, nets, from, stride, mark.first, &loops)?;
     append_loops(&mut outs, &loops)?;
     Ok(outs)
 }
@@ -87,24 +91,25 @@ pub fn over_slots(
     nets: Vec<NetId>,
     from: usize,
     stride: usize,
-    mark: Option<NetId>,
+    mark: Option<SlotMark>,
     inner: u32,
 ) -> Result<Vec<NetId>, NetFault>
     requires folds { AreFolds folds.now }
     requires nets { AreFoldNets nl.old.cells folds.now nets.items }
-    requires mark { IfSome mark (λ first. IsNet nl.old.cells first.0 1) }
+    requires mark { IfSome mark (λ m. IsNet nl.old.cells m.first.0 1) }
+    requires place { IfSome mark (λ m. MayPlace nl.old.cells (inner - 1) m.ring) }
     requires lasting { 1 ≤ inner }
     requires last { length nets.items ≡ from + stride }
     requires lanes { from % stride ≡ 0 }
     requires placed { 1 ≤ stride }
     requires whole { stride % length folds.now ≡ 0 }
-    ensures adds { OnOk result (Adds nl.old nl.new (marks_in mark * (stride * (inner + 9) + from * 10)) (marks_in mark * (length nets.items * products_in folds.now))) }
+    ensures adds { OnOk result (AddsStores nl.old nl.new (marks_in mark * (stride * (inner + 9) + from * 10)) (marks_in mark * (length nets.items * products_in folds.now)) (marks_in mark * (stride * rings inner))) }
     ensures up { AddsUpTo nl.old nl.new (marks_in mark * (stride * (inner + 9) + from * 10)) }
     ensures full { IsFullAt result nl.new }
-    ensures ends { IfOk result (λ outs. AreEnds nl.new.cells folds.now nets.items from stride inner mark outs.items) }
+    ensures ends { IfOk result (λ outs. (rst : ℕ) → IfSome mark (λ m. TurnsAlways nl.old.cells rst m.ring) → AreEnds nl.new.cells rst folds.now nets.items from stride inner mark outs.items) }
 {
     match mark {
         None => Ok(nets),
-        Some(first) => looped(alloc, nl, folds, &nets, from, stride, first, inner),
+        Some(found) => looped(alloc, nl, folds, &nets, from, stride, found, inner),
     }
 }

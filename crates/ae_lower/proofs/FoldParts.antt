@@ -13,6 +13,7 @@ use Rattle.ae_sttype.specs.declared.st_type.StType.{StType}
 use Rattle.ae_sttype.specs.StTree.{StTree, st_tree, time, lanes, st_atoms, element_atom, element_words}
 use Rattle.ae_sttype.specs.Moves.{columns_of}
 use Rattle.ae_moves.specs.Origins.{move_latency}
+use Rattle.ae_moves.specs.Rings.{rings}
 use Rattle.ae_fold.specs.Folding.{fold_by, word_fold}
 use Rattle.ae_fold.specs.Shapes.{FoldShape, element_columns, element_size, folded, scanned}
 use Rattle.ae_ops.specs.Blocks.{stream_of}
@@ -90,6 +91,8 @@ fold_is known budget copies n m op x raw a s one fits is_raw spread fills some =
     let columns : element_columns t ≡ columns_of raw = columns_as t raw (one_atom t raw one) (one_lanes t raw one) in
     let registers : element_columns t * (2 * m + where_many n (time t + 2)) ≡ columns_of raw * (2 * m + where_many n (inner_time raw + 2)) =
     ap (λ c. c * (2 * m + where_many n (time t + 2))) columns ∙ ap (λ k. columns_of raw * (2 * m + k)) waits in
+    let stores : where_many n (element_columns t * rings (time t)) ≡ where_many n (columns_of raw * rings (inner_time raw)) = many_same n _ _
+    (λ two. ap (λ c. c * rings (time t)) columns ∙ ap (λ i. columns_of raw * rings i) (sym (inner two))) in
     let atom : element_atom t ≡ element_atom s = sym (one_atom t raw one) ∙ is_raw.atom in
     let atoms : st_atoms t ≡ st_atoms s = sym (one_atoms t raw one) ∙ is_raw.atoms in record {
       period = fills;
@@ -110,7 +113,7 @@ fold_is known budget copies n m op x raw a s one fits is_raw spread fills some =
           let none : (if is_product op then element_columns t * (m - 1 + where_many n 1) else 0) + 0 ≡ (if is_product op then element_columns
           t * (m - 1 + where_many n 1) else 0) = omega arith in
           none ∙ (where_product op (element_columns t * (m - 1 + where_many n 1)) ∙ ap (where_mul op) e);
-      memories = omega arith;
+      memories = omega (arith, stores);
     }
 
 -- ---- scans
@@ -139,6 +142,8 @@ scan_is known budget copies n m op x a s arranged fits spread =
     (arranged_atoms n m t s arranged) ∙ ap (λ w. st_atoms t * w) words in
     let waits : where_many n (3 * m + time t) ≡ where_many n (3 * m + inner_time s) = many_same n _ _
     (λ two. ap (λ i. 3 * m + i) (sym (arranged_inner n m t s two arranged))) in
+    let stores : where_many n (element_columns t * rings (time t)) ≡ where_many n (scan_columns m s * rings (inner_time s)) = many_same n _ _
+    (λ two. ap (λ c. c * rings (time t)) (sym columns) ∙ ap (λ i. scan_columns m s * rings i) (sym (arranged_inner n m t s two arranged))) in
     let load : ℕ → ℕ → ℕ → ℕ = λ l c k. 1 + (l + where_many n 1) + c * (m * (1 + 2 * l) + k) in
     let loads : load (levels_up m) (element_columns t) (where_many n (3 * m + time t)) ≡ load (log_up m) (scan_columns m s)
     (where_many n (3 * m + inner_time s)) =
@@ -153,5 +158,5 @@ scan_is known budget copies n m op x a s arranged fits spread =
       cells = omega (arith, loads);
       products = where_product op (joins (levels_up m) (element_columns t)) ∙
           ap (where_mul op) (ap (λ l. joins l (element_columns t)) log ∙ ap (joins (log_up m)) (sym columns));
-      memories = omega arith;
+      memories = omega (arith, stores);
     }

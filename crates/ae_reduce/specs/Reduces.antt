@@ -2,6 +2,7 @@
 use Rattle.std.specs.Prelude.{ℕ, ◌+◌, ◌-◌, ◌*◌, [], ◌∷◌, nat_lt, if◌then◌else◌, get_or}
 use Rattle.ae_sttype.specs.StTree.{st_tree, time}
 use Rattle.ae_netlist.specs.Counts.{is_product}
+use Rattle.ae_clocked.specs.Rings.{rings}
 use Rattle.ae_ops.specs.Blocks.{Part, stream_of}
 use Rattle.ae_ops.specs.Folds.{log_up}
 use Rattle.ae_fold.specs.declared.plan.Plan.{Plan}
@@ -24,13 +25,14 @@ reduce_part f = record {
       (st_tree f.element) * (2 * f.lanes + (if nat_lt 1 f.slots then time (st_tree f.element) + 2 else 0)));
   products = if is_product f.op then element_columns
       (st_tree f.element) * (f.lanes - 1 + (if nat_lt 1 f.slots then 1 else 0)) else 0;
-  most_memories = 0;
+  most_memories = if nat_lt 1 f.slots then element_columns (st_tree f.element) * rings
+      (time (st_tree f.element)) else 0;
 }
 
 -- the most cells of its circuit: the mark, the tree and the loops
 abbrev pub reduce_cells : Plan → ℕ
 reduce_cells plan =
-    21 + (9 * (plan.lanes * plan.stride) + plan.levels * plan.stride) + wait_of
+    wait_of plan.slots * 33 + (9 * (plan.lanes * plan.stride) + plan.levels * plan.stride) + wait_of
     plan.slots * (plan.stride * (plan.inner + 9))
 
 -- its products, where an operator has so many

@@ -3,22 +3,26 @@ use Rattle.std.proofs.Common.{ℕ, suc, ◌≡◌, ◌+◌, ◌-◌, ◌*◌, �
 use Rattle.std.proofs.Math.Nat.{mul-add, mul_assoc, mul_comm, mul-le-mul_right, mul-sub, suc-mul}
 use Rattle.std.proofs.lemmas.Nat.{mod-mul-add}
 use Rattle.ae_word.specs.declared.op.WordOp.{WordOp}
-use Rattle.ae_netlist.specs.declared.cell.NetId.{NetId}
 use Rattle.ae_netlist.specs.Circuit.{Circuit}
 use Rattle.ae_netlist.specs.Counts.{is_product}
 use Rattle.ae_clocked.specs.Signals.{Adds}
+use Rattle.ae_clocked.specs.Rings.{rings}
 use Rattle.ae_clocked.proofs.Adding.{adds_trans}
 use Rattle.ae_fold.specs.declared.plan.Plan.{Plan}
+use Rattle.ae_fold.specs.declared.marks.SlotMark.{SlotMark}
+use Rattle.ae_fold.specs.Feedback.{AddsStores}
 use Rattle.ae_fold.specs.Folding.{AddsUpTo, product_of}
-use Rattle.ae_fold.specs.Rows.{marks_in, wait_of}
-use Rattle.ae_fold.proofs.Feeding.{adds_is, up_trans}
+use Rattle.ae_fold.specs.Rows.{loop_memories, marks_in, wait_of}
+use Rattle.ae_fold.proofs.Feeding.{up_trans}
+use Rattle.ae_fold.proofs.Storing.{stores_is, stores_of, stores_trans}
 use Rattle.ae_scan.specs.Scans.{scan_cells, scan_products, sweep_joins}
 
 -- of the mark, the sweep and the loops together
-pub scan_adds : (a b c d : Circuit) (plan : Plan) (mark : Option NetId) (p n from : ℕ) → marks_in mark ≡ wait_of plan.slots → n ≡ plan.lanes * plan.stride
-    → from ≡ (plan.lanes - 1) * plan.stride → Adds a b 21 0
+pub scan_adds : (a b c d : Circuit) (plan : Plan) (mark : Option SlotMark) (p n from : ℕ) → marks_in mark ≡ wait_of plan.slots → n ≡ plan.lanes * plan.stride
+    → from ≡ (plan.lanes - 1) * plan.stride → Adds a b (wait_of plan.slots * 33) 0
     → Adds b c (plan.levels * (plan.lanes * plan.stride * 9)) (sweep_joins plan.lanes plan.stride plan.levels * p)
-    → Adds c d (marks_in mark * (plan.stride * (plan.inner + 9) + from * 10)) (marks_in mark * (n * p)) → Adds a d (scan_cells plan) (scan_products plan p)
+    → AddsStores c d (marks_in mark * (plan.stride * (plan.inner + 9) + from * 10)) (marks_in mark * (n * p)) (marks_in mark * (plan.stride * rings plan.inner))
+    → AddsStores a d (scan_cells plan) (scan_products plan p) (loop_memories plan)
 scan_adds a b c d plan mark p n from w long begin x y z =
     let cells : marks_in mark * (plan.stride * (plan.inner + 9) + from * 10) ≡ wait_of
     plan.slots * (plan.stride * (plan.inner + 9) + (plan.lanes - 1) * plan.stride * 10) =
@@ -26,10 +30,11 @@ scan_adds a b c d plan mark p n from w long begin x y z =
     ap (λ k. k * (plan.stride * (plan.inner + 9) + (plan.lanes - 1) * plan.stride * 10)) w in
     let muls : marks_in mark * (n * p) ≡ wait_of plan.slots * (plan.lanes * plan.stride * p) = ap (λ k. marks_in mark * (k * p)) long ∙
     ap (λ k. k * (plan.lanes * plan.stride * p)) w in
-    adds_is (omega arith) (omega arith) (adds_trans (adds_trans x y) z)
+    let stores : marks_in mark * (plan.stride * rings plan.inner) ≡ loop_memories plan = ap (λ k. k * (plan.stride * rings plan.inner)) w in
+    stores_is (omega arith) (omega arith) (omega arith) (stores_trans (stores_of (adds_trans x y)) z)
 
 cells_by : (b : Bool) (lanes levels stride inner latency : ℕ) → 1 ≤ lanes → 1 ≤ stride
-    → 21 + levels * (lanes * stride * 9) + (if
+    → (if b then 1 else 0) * 33 + levels * (lanes * stride * 9) + (if
     b then 1 else 0) * (stride * (inner + 9) + (lanes - 1) * stride * 10) ≤ 16 * (1 + latency + stride * (lanes * (1 + 2 * levels) + (if
     b then 3 * lanes + inner else 0)))
 cells_by true lanes levels stride inner latency some placed =
@@ -69,7 +74,7 @@ cells_by false lanes levels stride inner latency some placed =
 
 -- within the bound of the part
 pub cells_bound : (slots lanes levels stride inner latency : ℕ) → 1 ≤ lanes → 1 ≤ stride
-    → 21 + levels * (lanes * stride * 9) + wait_of
+    → wait_of slots * 33 + levels * (lanes * stride * 9) + wait_of
     slots * (stride * (inner + 9) + (lanes - 1) * stride * 10) ≤ 16 * (1 + latency + stride * (lanes * (1 + 2 * levels) + (if nat_lt 1
     slots then 3 * lanes + inner else 0)))
 cells_bound slots lanes levels stride inner latency some placed = cells_by (nat_lt 1 slots) lanes levels stride inner latency some placed
@@ -122,11 +127,12 @@ whole_lanes n stride pos = let z : n * stride ≡ n * stride + 0 = omega arith i
 
 -- ---- where it stopped
 
-pub up_sweep : (a b c : Circuit) (plan : Plan) → Adds a b 21 0 → AddsUpTo b c (plan.levels * (plan.lanes * plan.stride * 9)) → AddsUpTo a c (scan_cells plan)
+pub up_sweep : (a b c : Circuit) (plan : Plan) → Adds a b (wait_of plan.slots * 33) 0 → AddsUpTo b c (plan.levels * (plan.lanes * plan.stride * 9))
+    → AddsUpTo a c (scan_cells plan)
 up_sweep a b c plan x y = up_trans (scan_cells plan) (omega arith) x y
 
-pub up_loops : (a b c d : Circuit) (plan : Plan) (mark : Option NetId) (p from : ℕ) → marks_in mark ≡ wait_of plan.slots
-    → from ≡ (plan.lanes - 1) * plan.stride → Adds a b 21 0 → Adds b c (plan.levels * (plan.lanes * plan.stride * 9)) p
+pub up_loops : (a b c d : Circuit) (plan : Plan) (mark : Option SlotMark) (p from : ℕ) → marks_in mark ≡ wait_of plan.slots
+    → from ≡ (plan.lanes - 1) * plan.stride → Adds a b (wait_of plan.slots * 33) 0 → Adds b c (plan.levels * (plan.lanes * plan.stride * 9)) p
     → AddsUpTo c d (marks_in mark * (plan.stride * (plan.inner + 9) + from * 10)) → AddsUpTo a d (scan_cells plan)
 up_loops a b c d plan mark p from w begin x y z =
     let cells : marks_in mark * (plan.stride * (plan.inner + 9) + from * 10) ≡ wait_of

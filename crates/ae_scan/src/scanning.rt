@@ -1,10 +1,11 @@
 // The circuit of a scan.
 
 ghost use Rattle.std.specs.Prelude.{◌≡◌, ◌+◌, ◌-◌, ◌*◌, ◌%◌, length, IfOk, OnOk};
-ghost use Rattle.ae_clocked.specs.Signals.{Adds, IsFullAt};
+ghost use Rattle.ae_clocked.specs.Signals.{IsFullAt};
 ghost use Rattle.ae_clocked.specs.Phases.{Belongs, KeepsCounters};
+ghost use Rattle.ae_fold.specs.Feedback.{AddsStores};
 ghost use Rattle.ae_fold.specs.Folding.{AddsUpTo, AreFolds, products_in};
-ghost use Rattle.ae_fold.specs.Rows.{AreFoldNets, AreScans, IsPlan, wait_of};
+ghost use Rattle.ae_fold.specs.Rows.{AreFoldNets, AreScans, IsPlan, loop_memories, wait_of};
 ghost use Rattle.ae_scan.specs.Scans.{scan_cells, scan_products};
 
 use crate::sweep::sweep;
@@ -31,7 +32,7 @@ pub fn scanned(
     requires whole { plan.stride % length folds.now ≡ 0 }
     ensures belongs { Belongs clocks.new nl.new.cells }
     ensures keeps { KeepsCounters clocks.old clocks.new }
-    ensures adds { OnOk result (Adds nl.old nl.new (scan_cells plan) (scan_products plan (products_in folds.now))) }
+    ensures adds { OnOk result (AddsStores nl.old nl.new (scan_cells plan) (scan_products plan (products_in folds.now)) (loop_memories plan)) }
     ensures up { AddsUpTo nl.old nl.new (scan_cells plan) }
     ensures full { IsFullAt result nl.new }
     ensures long { IfOk result (λ outs. length outs.items ≡ plan.lanes * plan.stride) }

@@ -1,35 +1,54 @@
 -- The cells of a loop, one after another, and what they hold.
-use Rattle.std.proofs.Common.{◌<◌, length, arith}
+use Rattle.std.proofs.Common.{◌≡◌, ◌+◌, ◌-◌, ◌<◌, length, arith}
 use Rattle.ae_netlist.specs.Runs.{Carries}
 use Rattle.ae_netlist.proofs.Carried.{carries_extends, carries_later, carries_trans}
-use Rattle.ae_clocked.proofs.Adding.{adds_connect, adds_trans, grows_trans, net_added}
+use Rattle.ae_netlist.proofs.Growing.{extends_trans, net_later}
+use Rattle.ae_clocked.proofs.Adding.{grows_trans}
 use Rattle.ae_clocked.proofs.Added.{back, connect_carries, grows_length, net_own, net_within, own_register, register_later}
-use Rattle.ae_fold.proofs.Feeding.{adds_is, adds_up, continues}
+use Rattle.ae_fold.proofs.Feeding.{adds_up, continues}
+use Rattle.ae_fold.proofs.Storing.{may_place_grows, stores_connect, stores_is, stores_made, stores_of, stores_trans, stores_up}
 use Rattle.ae_fold.proofs.feedback.accumulate.Goals as goal
 
 pub returns-in_err-r-clause-up : goal.returns-in_err-r-clause-up
 returns-in_err-r-clause-up c = adds_up _ (omega arith) c.in_err-r.ensures.adds
 
+pub waiting-requires-clause-net : goal.waiting-requires-clause-net
+waiting-requires-clause-net c = c.in_ok-r.ensures.net
+
+pub waiting-requires-clause-place : goal.waiting-requires-clause-place
+waiting-requires-clause-place c = may_place_grows _ _ _ c.args.ring c.in_ok-r.ensures.adds.grows.extends c.requires.place
+
 pub returns-in_err-back-clause-up : goal.returns-in_err-back-clause-up
-returns-in_err-back-clause-up c = adds_up _ (omega arith) (adds_trans c.in_ok-r.ensures.adds c.in_err-back.ensures.adds)
+returns-in_err-back-clause-up c = stores_up _ (omega arith) (stores_trans (stores_of c.in_ok-r.ensures.adds) (stores_made c.in_err-back.ensures.adds))
+
+pub combined-requires-clause-left : goal.combined-requires-clause-left
+combined-requires-clause-left c = c.in_ok-back.ensures.net
 
 pub combined-requires-clause-right : goal.combined-requires-clause-right
-combined-requires-clause-right c = net_added (adds_trans c.in_ok-r.ensures.adds c.in_ok-back.ensures.adds) c.requires.net
+combined-requires-clause-right c =
+    net_later (grows_trans c.in_ok-r.ensures.adds.grows c.in_ok-back.ensures.adds.grows).extends c.requires.net
 
 pub returns-in_err-both-clause-up : goal.returns-in_err-both-clause-up
-returns-in_err-both-clause-up c = adds_up _ (omega arith) (adds_trans (adds_trans c.in_ok-r.ensures.adds c.in_ok-back.ensures.adds) c.in_err-both.ensures.err)
+returns-in_err-both-clause-up c =
+    stores_up _ (omega arith)
+    (stores_trans (stores_trans (stores_of c.in_ok-r.ensures.adds) (stores_made c.in_ok-back.ensures.adds)) (stores_of c.in_err-both.ensures.err))
 
 pub choose-requires-clause-condition : goal.choose-requires-clause-condition
 choose-requires-clause-condition c =
-    net_added (adds_trans (adds_trans c.in_ok-r.ensures.adds c.in_ok-back.ensures.adds) c.in_ok-both.ensures.adds) c.requires.first
+    net_later (grows_trans (grows_trans c.in_ok-r.ensures.adds.grows c.in_ok-back.ensures.adds.grows) c.in_ok-both.ensures.adds.grows).extends c.requires.first
 
 pub choose-requires-clause-left : goal.choose-requires-clause-left
-choose-requires-clause-left c = net_added (adds_trans (adds_trans c.in_ok-r.ensures.adds c.in_ok-back.ensures.adds) c.in_ok-both.ensures.adds) c.requires.net
+choose-requires-clause-left c =
+    net_later (grows_trans (grows_trans c.in_ok-r.ensures.adds.grows c.in_ok-back.ensures.adds.grows) c.in_ok-both.ensures.adds.grows).extends c.requires.net
+
+pub choose-requires-clause-right : goal.choose-requires-clause-right
+choose-requires-clause-right c = c.in_ok-both.ensures.net
 
 pub returns-in_err-next-clause-up : goal.returns-in_err-next-clause-up
 returns-in_err-next-clause-up c =
-    adds_up _ (omega arith) (adds_trans (adds_trans (adds_trans c.in_ok-r.ensures.adds c.in_ok-back.ensures.adds) c.in_ok-both.ensures.adds)
-    c.in_err-next.ensures.adds)
+    stores_up _ (omega arith)
+    (stores_trans (stores_trans (stores_trans (stores_of c.in_ok-r.ensures.adds) (stores_made c.in_ok-back.ensures.adds)) (stores_of c.in_ok-both.ensures.adds))
+    (stores_of c.in_err-next.ensures.adds))
 
 pub close-requires-clause-register : goal.close-requires-clause-register
 close-requires-clause-register c =
@@ -43,26 +62,31 @@ close-requires-clause-next c =
 
 pub returns-clause-adds : goal.returns-clause-adds
 returns-clause-adds c =
-    adds_is (omega arith) (omega arith)
-    (adds_connect (adds_trans (adds_trans (adds_trans c.in_ok-r.ensures.adds c.in_ok-back.ensures.adds) c.in_ok-both.ensures.adds) c.in_ok-next.ensures.adds)
+    let delay : c.args.inner - 1 + 1 ≡ c.args.inner = omega (arith, c.requires.lasting) in
+    stores_is (omega arith) (omega arith) (omega arith)
+    (stores_connect (stores_trans (stores_trans (stores_trans (stores_of c.in_ok-r.ensures.adds) (stores_made (rw delay at c.in_ok-back.ensures.adds)))
+    (stores_of c.in_ok-both.ensures.adds)) (stores_of c.in_ok-next.ensures.adds))
     (omega (arith, c.in_ok-r.ensures.fresh)) c.close.ensures)
 
 pub returns-clause-up : goal.returns-clause-up
 returns-clause-up c =
-    adds_up _ (omega arith)
-    (adds_connect (adds_trans (adds_trans (adds_trans c.in_ok-r.ensures.adds c.in_ok-back.ensures.adds) c.in_ok-both.ensures.adds) c.in_ok-next.ensures.adds)
+    stores_up _ (omega arith)
+    (stores_connect (stores_trans (stores_trans (stores_trans (stores_of c.in_ok-r.ensures.adds) (stores_made c.in_ok-back.ensures.adds))
+    (stores_of c.in_ok-both.ensures.adds)) (stores_of c.in_ok-next.ensures.adds))
     (omega (arith, c.in_ok-r.ensures.fresh)) c.close.ensures)
 
 pub returns-clause-net : goal.returns-clause-net
 returns-clause-net c =
-    let later = adds_trans (adds_trans c.in_ok-back.ensures.adds c.in_ok-both.ensures.adds) c.in_ok-next.ensures.adds in
-    c.close.ensures.nets _ _ (net_added later c.in_ok-r.ensures.net)
+    let later = grows_trans (grows_trans c.in_ok-back.ensures.adds.grows c.in_ok-both.ensures.adds.grows) c.in_ok-next.ensures.adds.grows in
+    c.close.ensures.nets _ _ (net_later later.extends c.in_ok-r.ensures.net)
 
 pub returns-clause-back : goal.returns-clause-back
-returns-clause-back c = c.close.ensures.nets _ _ (net_added (adds_trans c.in_ok-both.ensures.adds c.in_ok-next.ensures.adds) c.in_ok-back.ensures.net)
+returns-clause-back c =
+    c.close.ensures.nets _ _ (net_later (grows_trans c.in_ok-both.ensures.adds.grows c.in_ok-next.ensures.adds.grows).extends c.in_ok-back.ensures.net)
 
+-- the cells behind the register stay when it is connected, and those before it too
 pub returns-clause-words : goal.returns-clause-words
-returns-clause-words c = λ all e run is.
+returns-clause-words c = λ rst turns all e run is start reset.
     let k = carries_extends 0 e in
     let fresh = c.in_ok-r.ensures.fresh in
     let r_new : c.in_ok-r.r.0 < length c.register.new.nl.cells = net_within c.in_ok-r.ensures.net in
@@ -72,16 +96,24 @@ returns-clause-words c = λ all e run is.
     let l3 = grows_length c.in_ok-both.ensures.adds.grows in
     let k3 = back c.in_ok-next.ensures.adds.grows closed in
     let k2 = back c.in_ok-both.ensures.adds.grows k3 in
-    continues run c.args.fold.op c.args.fold.width _ _ c.in_ok-r.r c.in_ok-back.back c.args.x c.args.first c.in_ok-both.both c.in_ok-next.next
-    (c.in_ok-back.ensures.words all k2 run is)
+    let grown = stores_connect (stores_trans (stores_trans (stores_trans (stores_of c.in_ok-r.ensures.adds) (stores_made c.in_ok-back.ensures.adds))
+    (stores_of c.in_ok-both.ensures.adds)) (stores_of c.in_ok-next.ensures.adds))
+    (omega (arith, c.in_ok-r.ensures.fresh)) c.close.ensures in
+    let turning = turns all (extends_trans grown.grows.extends e) run is start reset in
+    continues run c.args.fold.op c.args.fold.width _ _ start c.in_ok-r.r c.in_ok-back.back c.args.x c.args.first c.in_ok-both.both c.in_ok-next.next
+    (c.in_ok-back.ensures.words all k2 run is start turning)
     (c.in_ok-both.ensures.words all (carries_later _ _ l2 k3) run is)
     (c.in_ok-next.ensures.words all (carries_later _ _ (omega arith) closed) run is)
     (c.close.ensures.words all (carries_later _ _ (omega arith) k) run is)
 
 pub returns-clause-late : goal.returns-clause-late
-returns-clause-late c = λ all e run is.
+returns-clause-late c = λ rst turns all e run is start reset.
     let k = carries_extends 0 e in
     let r_new : c.in_ok-r.r.0 < length c.register.new.nl.cells = net_within c.in_ok-r.ensures.net in
     let closed : Carries (length c.register.new.nl.cells) c.choose.new.nl.cells all =
     carries_trans (connect_carries _ r_new c.close.ensures) (carries_later _ _ (omega arith) k) in
-    c.in_ok-back.ensures.words all (back c.in_ok-both.ensures.adds.grows (back c.in_ok-next.ensures.adds.grows closed)) run is
+    let grown = stores_connect (stores_trans (stores_trans (stores_trans (stores_of c.in_ok-r.ensures.adds) (stores_made c.in_ok-back.ensures.adds))
+    (stores_of c.in_ok-both.ensures.adds)) (stores_of c.in_ok-next.ensures.adds))
+    (omega (arith, c.in_ok-r.ensures.fresh)) c.close.ensures in
+    let turning = turns all (extends_trans grown.grows.extends e) run is start reset in
+    c.in_ok-back.ensures.words all (back c.in_ok-both.ensures.adds.grows (back c.in_ok-next.ensures.adds.grows closed)) run is start turning

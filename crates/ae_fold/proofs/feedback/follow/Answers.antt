@@ -28,13 +28,13 @@ pub returns-clause-up : goal.returns-clause-up
 returns-clause-up c = adds_up 10 (omega arith) (adds_trans (adds_trans c.in_ok-both.ensures.adds c.in_ok-next.ensures.adds) c.in_ok-z.ensures.adds)
 
 pub returns-clause-words : goal.returns-clause-words
-returns-clause-words c = λ all e run is y d late.
+returns-clause-words c = λ all e run is start y d late.
     let g2 = c.in_ok-next.ensures.adds.grows in
     let g3 = c.in_ok-z.ensures.adds.grows in
     let k3 = carries_extends 0 e in
     let k2 = back g3 k3 in
     let k1 = back g2 k2 in
-    continues run c.args.fold.op c.args.fold.width d y c.in_ok-z.z c.args.back c.args.x c.args.first c.in_ok-both.both c.in_ok-next.next late
+    continues run c.args.fold.op c.args.fold.width d y start c.in_ok-z.z c.args.back c.args.x c.args.first c.in_ok-both.both c.in_ok-next.next late
     (c.in_ok-both.ensures.words all (carries_later _ _ (omega arith) k1) run is)
     (c.in_ok-next.ensures.words all (carries_later _ _ (omega arith) k2) run is)
     (c.in_ok-z.ensures.words all (carries_later _ _ (omega arith) k3) run is)

@@ -1,28 +1,30 @@
 -- One loop more.
 use Rattle.std.proofs.Common.{◌≡◌, ◌+◌, ◌-◌, ◌++◌, ◌∷◌, [], length, ap, ◌∙◌, refl, arith}
 use Rattle.std.proofs.lemmas.List.{length_push}
-use Rattle.ae_clocked.proofs.Adding.{adds_same, net_added}
-use Rattle.ae_fold.proofs.Feeding.{adds_is, adds_up}
-use Rattle.ae_fold.proofs.Looping.{adds_once, fold_product, loops_more, loops_none, nets_grow, up_once, fold_high, fold_low, fold_op}
+use Rattle.ae_netlist.proofs.Growing.{net_later}
+use Rattle.ae_clocked.proofs.Adding.{adds_same}
+use Rattle.ae_fold.proofs.Storing.{may_place_grows, stores_is, stores_of, stores_once, stores_up, stores_up_once, turns_grow}
+use Rattle.ae_fold.proofs.Looping.{backs_more, backs_none, fold_product, loops_more, loops_none, nets_grow, fold_high, fold_low, fold_op}
 use Rattle.ae_fold.proofs.loops.accumulate_all.Goals as goal
 
 pub loop-p-init : goal.loop-p-init
 loop-p-init c =
     rw c.new-loops.ensures.items
     (record {
-      adds = adds_is (omega arith) (omega arith) (adds_same _ _ 0 refl);
+      adds = stores_is (omega arith) (omega arith) (omega arith) (stores_of (adds_same _ _ 0 refl));
       long = refl;
-      loops = loops_none _ _ _ _ _ _;
+      backs = backs_none _ _ _;
+      loops = λ rst turns. loops_none _ _ _ _ _ _ _;
     })
 
 pub accumulate-requires-clause-net : goal.accumulate-requires-clause-net
 accumulate-requires-clause-net c = (nets_grow c.loop-p.invariant.adds.grows.extends c.requires.nets).each (c.args.from + c.loop-p.p) (omega arith)
 
 pub returns-in_err-one-clause-up : goal.returns-in_err-one-clause-up
-returns-in_err-one-clause-up c = up_once c.loop-p.p _ _ _ c.loop-p-test.true c.loop-p.invariant.adds c.in_err-one.ensures.up
+returns-in_err-one-clause-up c = stores_up_once c.loop-p.p _ _ _ _ c.loop-p-test.true c.loop-p.invariant.adds c.in_err-one.ensures.up
 
 pub returns-in_err-push-clause-up : goal.returns-in_err-push-clause-up
-returns-in_err-push-clause-up c = up_once c.loop-p.p _ _ _ c.loop-p-test.true c.loop-p.invariant.adds c.in_ok-one.ensures.up
+returns-in_err-push-clause-up c = stores_up_once c.loop-p.p _ _ _ _ c.loop-p-test.true c.loop-p.invariant.adds c.in_ok-one.ensures.up
 
 pub loop-p-preserved : goal.loop-p-preserved
 loop-p-preserved c =
@@ -30,17 +32,20 @@ loop-p-preserved c =
     let more = c.in_ok-one.ensures in
     let pushed : c.push.new.self.items ≡ c.loop-p.loops.items ++ c.in_ok-one.one ∷ [] = c.in_ok-push.ensures.items in
     record {
-      adds = adds_once c.loop-p.p (c.args.inner + 9) _ _ (fold_product c.args.folds.now (c.args.from + c.loop-p.p) c.requires.folds) old.adds more.adds;
+      adds = stores_once c.loop-p.p (c.args.inner + 9) _ _ _ (fold_product c.args.folds.now (c.args.from + c.loop-p.p) c.requires.folds) old.adds more.adds;
       long = rw pushed (length_push c.loop-p.loops.items c.in_ok-one.one ∙ ap (λ n. n + 1) old.long);
-      loops = rw pushed
-          (loops_more _ _ _ c.args.nets.now c.args.from _ _ c.loop-p.p c.loop-p.loops.items c.in_ok-one.one old.long more.adds.grows.extends old.loops
-          (record { net = more.net; old = more.back; words = more.words; late = more.late }));
+      backs = rw pushed (backs_more _ _ _ c.args.from c.loop-p.p c.loop-p.loops.items c.in_ok-one.one old.long more.adds.grows.extends old.backs more.back);
+      loops = λ rst turns.
+          let turning = turns_grow _ _ rst c.args.ring old.adds.grows.extends turns in
+          rw pushed
+          (loops_more _ _ rst _ c.args.nets.now c.args.from _ _ c.loop-p.p c.loop-p.loops.items c.in_ok-one.one old.long more.adds.grows.extends
+          (old.loops rst turns) (record { net = more.net; old = more.back; words = more.words rst turning; late = more.late rst turning }));
     }
 
 pub returns-clause-up : goal.returns-clause-up
 returns-clause-up c =
     let e : c.loop-p.p ≡ length c.args.nets.now - c.args.from = omega arith in
-    rw (← e) (adds_up _ (omega arith) c.loop-p.invariant.adds)
+    rw (← e) (stores_up _ (omega arith) c.loop-p.invariant.adds)
 
 pub overflow_sub-p-end : goal.overflow_sub-p-end
 overflow_sub-p-end c = omega (arith, c.requires.within)
@@ -70,7 +75,10 @@ pub accumulate-requires-clause-folds : goal.accumulate-requires-clause-folds
 accumulate-requires-clause-folds c = fold_op c.args.folds.now (c.args.from + c.loop-p.p) c.requires.folds
 
 pub accumulate-requires-clause-first : goal.accumulate-requires-clause-first
-accumulate-requires-clause-first c = net_added c.loop-p.invariant.adds c.requires.first
+accumulate-requires-clause-first c = net_later c.loop-p.invariant.adds.grows.extends c.requires.first
+
+pub accumulate-requires-clause-place : goal.accumulate-requires-clause-place
+accumulate-requires-clause-place c = may_place_grows _ _ _ c.args.ring c.loop-p.invariant.adds.grows.extends c.requires.place
 
 pub accumulate-requires-clause-lasting : goal.accumulate-requires-clause-lasting
 accumulate-requires-clause-lasting c = c.requires.lasting
@@ -82,6 +90,9 @@ returns-clause-adds c =
 
 pub returns-clause-long : goal.returns-clause-long
 returns-clause-long c = omega (arith, c.loop-p.invariant.long)
+
+pub returns-clause-backs : goal.returns-clause-backs
+returns-clause-backs c = c.loop-p.invariant.backs
 
 pub returns-clause-loops : goal.returns-clause-loops
 returns-clause-loops c = c.loop-p.invariant.loops

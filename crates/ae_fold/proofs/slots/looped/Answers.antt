@@ -1,10 +1,10 @@
 -- The loops, the nets behind them, and all nets in order.
 use Rattle.std.proofs.Common.{◌≡◌, ◌-◌, length, ◌∙◌, arith}
 use Rattle.ae_fold.specs.Folding.{products_in}
-use Rattle.ae_fold.proofs.Feeding.{adds_up, up_trans}
+use Rattle.ae_fold.proofs.Storing.{stores_up, stores_up_trans}
 use Rattle.ae_fold.proofs.Looping.{loops_grow, nets_grow}
 use Rattle.ae_fold.proofs.Ending.{loops_adds, loops_up}
-use Rattle.ae_clocked.proofs.Adding.{net_added}
+use Rattle.ae_netlist.proofs.Growing.{net_later}
 use Rattle.ae_fold.proofs.slots.looped.Goals as goal
 
 pub returns-in_err-loops-clause-up : goal.returns-in_err-loops-clause-up
@@ -16,30 +16,30 @@ followers-requires-clause-nets c = nets_grow c.in_ok-loops.ensures.adds.grows.ex
 pub returns-in_err-outs-clause-up : goal.returns-in_err-outs-clause-up
 returns-in_err-outs-clause-up c =
     let e : length c.args.nets.now - c.args.from ≡ c.args.stride = omega (arith, c.requires.last) in
-    up_trans _ (omega arith) (rw e at c.in_ok-loops.ensures.adds) c.in_err-outs.ensures.up
+    stores_up_trans _ (omega arith) (rw e at c.in_ok-loops.ensures.adds) c.in_err-outs.ensures.up
 
 pub returns-in_err-append_loops-clause-up : goal.returns-in_err-append_loops-clause-up
 returns-in_err-append_loops-clause-up c =
-    adds_up _ (omega arith) (loops_adds _ _ _ c.args.from c.args.stride c.args.inner (length c.args.nets.now)
-    (products_in c.args.folds.now) c.requires.last c.in_ok-loops.ensures.adds c.in_ok-outs.ensures.adds)
+    stores_up _ (omega arith) (loops_adds _ _ _ c.args.from c.args.stride c.args.inner (length c.args.nets.now)
+    (products_in c.args.folds.now) _ c.requires.last c.in_ok-loops.ensures.adds c.in_ok-outs.ensures.adds)
 
 pub returns-clause-adds : goal.returns-clause-adds
 returns-clause-adds c =
     loops_adds _ _ _ c.args.from c.args.stride c.args.inner (length c.args.nets.now)
-    (products_in c.args.folds.now) c.requires.last c.in_ok-loops.ensures.adds c.in_ok-outs.ensures.adds
+    (products_in c.args.folds.now) _ c.requires.last c.in_ok-loops.ensures.adds c.in_ok-outs.ensures.adds
 
 pub returns-clause-up : goal.returns-clause-up
 returns-clause-up c =
-    adds_up _ (omega arith) (loops_adds _ _ _ c.args.from c.args.stride c.args.inner (length c.args.nets.now)
-    (products_in c.args.folds.now) c.requires.last c.in_ok-loops.ensures.adds c.in_ok-outs.ensures.adds)
+    stores_up _ (omega arith) (loops_adds _ _ _ c.args.from c.args.stride c.args.inner (length c.args.nets.now)
+    (products_in c.args.folds.now) _ c.requires.last c.in_ok-loops.ensures.adds c.in_ok-outs.ensures.adds)
 
 pub returns-clause-looped : goal.returns-clause-looped
-returns-clause-looped c = record {
+returns-clause-looped c = λ rst turns. record {
   loops = c.in_ok-loops.loops.items;
   followers = c.in_ok-outs.outs.items;
   long = c.in_ok-loops.ensures.long ∙ omega (arith, c.requires.last);
   before = c.in_ok-outs.ensures.long;
-  over = loops_grow c.in_ok-outs.ensures.adds.grows.extends c.in_ok-loops.ensures.loops;
+  over = loops_grow c.in_ok-outs.ensures.adds.grows.extends (c.in_ok-loops.ensures.loops rst turns);
   follow = rw c.deref.ensures.value at c.in_ok-outs.ensures.follow;
   is = rw c.deref-2.ensures.value at c.in_ok-append_loops.ensures.ok;
 }
@@ -54,10 +54,10 @@ pub followers-requires-clause-folds : goal.followers-requires-clause-folds
 followers-requires-clause-folds c = c.requires.folds
 
 pub followers-requires-clause-first : goal.followers-requires-clause-first
-followers-requires-clause-first c = net_added c.in_ok-loops.ensures.adds c.requires.first
+followers-requires-clause-first c = net_later c.in_ok-loops.ensures.adds.grows.extends c.requires.first
 
 pub followers-requires-clause-backs : goal.followers-requires-clause-backs
-followers-requires-clause-backs c = λ p one found. (c.in_ok-loops.ensures.loops.each p one (rw c.deref.ensures.value at found)).old
+followers-requires-clause-backs c = λ p one found. c.in_ok-loops.ensures.backs p one (rw c.deref.ensures.value at found)
 
 pub followers-requires-clause-long : goal.followers-requires-clause-long
 followers-requires-clause-long c = rw c.deref.ensures.value (c.in_ok-loops.ensures.long ∙ omega (arith, c.requires.last))

@@ -1,37 +1,38 @@
 -- No mark, or loops at it.
 use Rattle.std.proofs.Common.{ℕ, ◌≡◌, ◌*◌, Option, None, Some, Result, Ok, Err, OnOk, refl, arith}
-use Rattle.ae_netlist.specs.declared.cell.NetId.{NetId}
 use Rattle.ae_netlist.specs.declared.netlist.NetFault.{NetFault}
 use Rattle.ae_netlist.specs.Circuit.{Circuit}
-use Rattle.ae_clocked.specs.Signals.{Adds}
 use Rattle.ae_clocked.proofs.Adding.{adds_same, grows_refl}
+use Rattle.ae_fold.specs.declared.marks.SlotMark.{SlotMark}
+use Rattle.ae_fold.specs.Feedback.{AddsStores}
 use Rattle.ae_fold.specs.Folding.{AddsUpTo}
 use Rattle.ae_fold.specs.Rows.{marks_in}
-use Rattle.ae_fold.proofs.Feeding.{adds_is}
+use Rattle.ae_fold.proofs.Storing.{stores_is, stores_of}
 use Rattle.ae_fold.proofs.slots.over_slots.Goals as goal
 
-adds_unmarked : (a : Circuit) (mark : Option NetId) (most muls : ℕ) → mark ≡ None → Adds a a (marks_in mark * most) (marks_in mark * muls)
-adds_unmarked a mark most muls e = rw e (adds_is (omega arith) (omega arith) (adds_same a a 0 refl))
+adds_unmarked : (a : Circuit) (mark : Option SlotMark) (most muls stores : ℕ) → mark ≡ None
+    → AddsStores a a (marks_in mark * most) (marks_in mark * muls) (marks_in mark * stores)
+adds_unmarked a mark most muls stores e = rw e (stores_is (omega arith) (omega arith) (omega arith) (stores_of (adds_same a a 0 refl)))
 
-up_unmarked : (a : Circuit) (mark : Option NetId) (most : ℕ) → mark ≡ None → AddsUpTo a a (marks_in mark * most)
+up_unmarked : (a : Circuit) (mark : Option SlotMark) (most : ℕ) → mark ≡ None → AddsUpTo a a (marks_in mark * most)
 up_unmarked a mark most e = rw e (record { grows = grows_refl a; cells = omega arith })
 
-adds_marked : {X : Type 0} (a b : Circuit) (r : Result X NetFault) (mark : Option NetId) (first : NetId) (most muls : ℕ) → mark ≡ Some first
-    → OnOk r (Adds a b most muls) → OnOk r (Adds a b (marks_in mark * most) (marks_in mark * muls))
-adds_marked a b (Ok x) mark first most muls e h = rw e (adds_is (omega arith) (omega arith) h)
-adds_marked a b (Err x) mark first most muls e h = tt
+adds_marked : {X : Type 0} (a b : Circuit) (r : Result X NetFault) (mark : Option SlotMark) (first : SlotMark) (most muls stores : ℕ) → mark ≡ Some first
+    → OnOk r (AddsStores a b most muls stores) → OnOk r (AddsStores a b (marks_in mark * most) (marks_in mark * muls) (marks_in mark * stores))
+adds_marked a b (Ok x) mark first most muls stores e h = rw e (stores_is (omega arith) (omega arith) (omega arith) h)
+adds_marked a b (Err x) mark first most muls stores e h = tt
 
-up_marked : (a b : Circuit) (mark : Option NetId) (first : NetId) (most : ℕ) → mark ≡ Some first → AddsUpTo a b most → AddsUpTo a b (marks_in mark * most)
+up_marked : (a b : Circuit) (mark : Option SlotMark) (first : SlotMark) (most : ℕ) → mark ≡ Some first → AddsUpTo a b most → AddsUpTo a b (marks_in mark * most)
 up_marked a b mark first most e h = rw e (record { grows = h.grows; cells = omega (arith, h.cells) })
 
 pub returns-in-None-clause-adds : goal.returns-in-None-clause-adds
-returns-in-None-clause-adds c = adds_unmarked _ _ _ _ c.in-None.is
+returns-in-None-clause-adds c = adds_unmarked _ _ _ _ _ c.in-None.is
 
 pub returns-in-None-clause-up : goal.returns-in-None-clause-up
 returns-in-None-clause-up c = up_unmarked _ _ _ c.in-None.is
 
 pub returns-in-None-clause-ends : goal.returns-in-None-clause-ends
-returns-in-None-clause-ends c = rw c.in-None.is refl
+returns-in-None-clause-ends c = λ rst turns. rw c.in-None.is refl
 
 pub looped-requires-clause-nets : goal.looped-requires-clause-nets
 looped-requires-clause-nets c = rw c.deref.ensures.value c.requires.nets
@@ -42,8 +43,11 @@ looped-requires-clause-last c = rw c.deref.ensures.value c.requires.last
 pub looped-requires-clause-first : goal.looped-requires-clause-first
 looped-requires-clause-first c = rw c.in-Some.is at c.requires.mark
 
+pub looped-requires-clause-place : goal.looped-requires-clause-place
+looped-requires-clause-place c = rw c.in-Some.is at c.requires.place
+
 pub returns-in-Some-clause-adds : goal.returns-in-Some-clause-adds
-returns-in-Some-clause-adds c = adds_marked _ _ c.looped.result _ _ _ _ c.in-Some.is (rw c.deref.ensures.value at c.looped.ensures.adds)
+returns-in-Some-clause-adds c = adds_marked _ _ c.looped.result _ _ _ _ _ c.in-Some.is (rw c.deref.ensures.value at c.looped.ensures.adds)
 
 pub returns-in-Some-clause-up : goal.returns-in-Some-clause-up
 returns-in-Some-clause-up c = up_marked _ _ _ _ _ c.in-Some.is c.looped.ensures.up

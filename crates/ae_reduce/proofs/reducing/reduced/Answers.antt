@@ -3,29 +3,30 @@ use Rattle.std.proofs.Common.{◌≡◌, ◌+◌, ◌-◌, ◌*◌, length, refl
 use Rattle.ae_clocked.proofs.Adding.{grows_trans, adds_trans}
 use Rattle.ae_clocked.proofs.Belonging.{belongs_grows}
 use Rattle.ae_fold.proofs.Feeding.{adds_up, up_trans}
+use Rattle.ae_fold.proofs.Storing.{stores_up}
 use Rattle.ae_fold.proofs.Looping.{overs_grow, nets_grow}
-use Rattle.ae_fold.proofs.Marking.{marks_grow, marks_net, marks_wait}
+use Rattle.ae_fold.proofs.Marking.{marks_grow, marks_net, marks_place, marks_turn, marks_wait}
 use Rattle.ae_fold.proofs.Ending.{ends_long, ends_scan}
 use Rattle.ae_reduce.proofs.Counting.{reduce_adds}
 use Rattle.std.proofs.Math.Nat.{mod-eq_of_lt}
 use Rattle.ae_netlist.specs.Circuit.{Circuit}
-use Rattle.ae_netlist.specs.declared.cell.NetId.{NetId}
 use Rattle.ae_clocked.specs.Signals.{Adds}
 use Rattle.ae_fold.specs.declared.plan.Plan.{Plan}
+use Rattle.ae_fold.specs.declared.marks.SlotMark.{SlotMark}
 use Rattle.ae_fold.specs.Folding.{AddsUpTo}
 use Rattle.ae_fold.specs.Rows.{marks_in, wait_of}
 use Rattle.ae_reduce.specs.Reduces.{reduce_cells}
 use Rattle.ae_reduce.proofs.reducing.reduced.Goals as goal
 
 -- where it stopped: behind the mark, in the tree, in the loops
-up_mark : (a b : Circuit) (plan : Plan) → Adds a b 21 0 → AddsUpTo a b (reduce_cells plan)
+up_mark : (a b : Circuit) (plan : Plan) → Adds a b (wait_of plan.slots * 33) 0 → AddsUpTo a b (reduce_cells plan)
 up_mark a b plan h = adds_up (reduce_cells plan) (omega arith) h
 
-up_tree : (a b c : Circuit) (plan : Plan) → Adds a b 21 0 → AddsUpTo b c (9 * (plan.lanes * plan.stride) + plan.levels * plan.stride)
+up_tree : (a b c : Circuit) (plan : Plan) → Adds a b (wait_of plan.slots * 33) 0 → AddsUpTo b c (9 * (plan.lanes * plan.stride) + plan.levels * plan.stride)
     → AddsUpTo a c (reduce_cells plan)
 up_tree a b c plan x y = up_trans (reduce_cells plan) (omega arith) x y
 
-up_ends : (a b c d : Circuit) (plan : Plan) (mark : Option NetId) (p : ℕ) → marks_in mark ≡ wait_of plan.slots → Adds a b 21 0
+up_ends : (a b c d : Circuit) (plan : Plan) (mark : Option SlotMark) (p : ℕ) → marks_in mark ≡ wait_of plan.slots → Adds a b (wait_of plan.slots * 33) 0
     → Adds b c (9 * (plan.lanes * plan.stride) + plan.levels * plan.stride) p
     → AddsUpTo c d (marks_in mark * (plan.stride * (plan.inner + 9) + 0 * 10)) → AddsUpTo a d (reduce_cells plan)
 up_ends a b c d plan mark p w x y z =
@@ -40,6 +41,10 @@ returns-in_err-sums-clause-belongs c = belongs_grows _ _ _ c.in_err-sums.ensures
 pub over_slots-requires-clause-mark : goal.over_slots-requires-clause-mark
 over_slots-requires-clause-mark c =
     marks_net _ _ _ _ _ _ c.in_ok-found.found (marks_grow _ _ _ _ _ _ _ c.in_ok-found.found c.in_ok-sums.ensures.up.grows.extends c.in_ok-found.ensures.marks)
+
+pub over_slots-requires-clause-place : goal.over_slots-requires-clause-place
+over_slots-requires-clause-place c =
+    marks_place _ _ _ _ _ _ c.in_ok-found.found (marks_grow _ _ _ _ _ _ _ c.in_ok-found.found c.in_ok-sums.ensures.up.grows.extends c.in_ok-found.ensures.marks)
 
 pub returns-in_err-outs-clause-belongs : goal.returns-in_err-outs-clause-belongs
 returns-in_err-outs-clause-belongs c =
@@ -56,25 +61,29 @@ returns-clause-adds c =
 
 pub returns-clause-up : goal.returns-clause-up
 returns-clause-up c =
-    adds_up _ (omega arith)
+    stores_up _ (omega arith)
     (reduce_adds _ _ _ _ c.args.plan c.in_ok-found.found _ _
     (marks_wait _ _ _ _ _ _ c.in_ok-found.found c.in_ok-found.ensures.marks) c.in_ok-sums.ensures.long c.in_ok-found.ensures.adds c.in_ok-sums.ensures.adds
     c.in_ok-outs.ensures.adds)
 
 pub returns-clause-long : goal.returns-clause-long
 returns-clause-long c =
-    let e : length c.in_ok-outs.outs.items ≡ 0 + c.args.plan.stride = ends_long _ _ c.in_ok-sums.sums.items 0 c.args.plan.stride _ c.in_ok-found.found
-    c.in_ok-outs.outs.items (omega (arith, c.in_ok-sums.ensures.long)) c.in_ok-outs.ensures.ends in
+    let turned = marks_grow _ _ _ _ _ _ _ c.in_ok-found.found c.in_ok-sums.ensures.up.grows.extends c.in_ok-found.ensures.marks in
+    let e : length c.in_ok-outs.outs.items ≡ 0 + c.args.plan.stride = ends_long _ c.args.clocks.now.rst _ c.in_ok-sums.sums.items 0 c.args.plan.stride _
+    c.in_ok-found.found
+    c.in_ok-outs.outs.items (omega (arith, c.in_ok-sums.ensures.long)) (c.in_ok-outs.ensures.ends _ (marks_turn _ _ _ _ _ _ c.in_ok-found.found turned)) in
     omega arith
 
 pub returns-clause-scans : goal.returns-clause-scans
 returns-clause-scans c =
+    let turned = marks_grow _ _ _ _ _ _ _ c.in_ok-found.found c.in_ok-sums.ensures.up.grows.extends c.in_ok-found.ensures.marks in
     let later = grows_trans c.in_ok-sums.ensures.up.grows c.in_ok-outs.ensures.up.grows in
     ends_scan _ _ c.args.folds.now c.args.ins.now c.args.plan c.args.arrival ((c.args.plan.lanes - 1) * c.args.plan.stride) 0
     (c.args.plan.lanes - 1) 0 c.in_ok-sums.sums.items c.in_ok-found.found c.in_ok-outs.outs.items c.requires.plan c.requires.folds c.requires.whole
     refl (omega arith) (omega (arith, c.requires.plan.wide)) (omega (arith, c.in_ok-sums.ensures.long))
     (overs_grow c.in_ok-outs.ensures.up.grows.extends (rw c.in_ok-nets.ensures.ok at c.in_ok-sums.ensures.words))
-    (marks_grow _ _ _ _ _ _ _ c.in_ok-found.found later.extends c.in_ok-found.ensures.marks) c.in_ok-outs.ensures.ends
+    (marks_grow _ _ _ _ _ _ _ c.in_ok-found.found later.extends c.in_ok-found.ensures.marks)
+    (c.in_ok-outs.ensures.ends _ (marks_turn _ _ _ _ _ _ c.in_ok-found.found turned))
 
 pub mark-requires-clause-plan : goal.mark-requires-clause-plan
 mark-requires-clause-plan c = c.requires.plan

@@ -3,8 +3,9 @@ use Rattle.std.proofs.Common.{◌-◌, ◌*◌, ◌∙◌, refl, arith, ℕ, ◌
 use Rattle.ae_clocked.proofs.Adding.{grows_trans}
 use Rattle.ae_clocked.proofs.Belonging.{belongs_grows}
 use Rattle.ae_fold.proofs.Feeding.{adds_up}
+use Rattle.ae_fold.proofs.Storing.{stores_up}
 use Rattle.ae_fold.proofs.Looping.{overs_grow, nets_grow}
-use Rattle.ae_fold.proofs.Marking.{marks_grow, marks_net, marks_wait}
+use Rattle.ae_fold.proofs.Marking.{marks_grow, marks_net, marks_place, marks_turn, marks_wait}
 use Rattle.ae_fold.proofs.Ending.{ends_long, ends_scan}
 use Rattle.ae_scan.proofs.Counting.{last_lane, last_lane_is, scan_adds, up_loops, up_sweep, whole_lanes}
 use Rattle.std.proofs.Math.Nat.{mul-le-mul_right}
@@ -12,11 +13,12 @@ use Rattle.ae_netlist.specs.Circuit.{Circuit}
 use Rattle.ae_clocked.specs.Signals.{Adds}
 use Rattle.ae_fold.specs.declared.plan.Plan.{Plan}
 use Rattle.ae_fold.specs.Folding.{AddsUpTo}
+use Rattle.ae_fold.specs.Rows.{wait_of}
 use Rattle.ae_scan.specs.Scans.{scan_cells}
 use Rattle.ae_scan.proofs.scanning.scanned.Goals as goal
 
 -- the mark alone
-up_mark : (a b : Circuit) (plan : Plan) → Adds a b 21 0 → AddsUpTo a b (scan_cells plan)
+up_mark : (a b : Circuit) (plan : Plan) → Adds a b (wait_of plan.slots * 33) 0 → AddsUpTo a b (scan_cells plan)
 up_mark a b plan h = adds_up (scan_cells plan) (omega arith) h
 
 last_small : (lanes stride : ℕ) → lanes ≤ 4096 → stride ≤ 16384 → (lanes - 1) * stride ≤ 67108864
@@ -30,6 +32,10 @@ returns-in_err-sums-clause-belongs c = belongs_grows _ _ _ c.in_err-sums.ensures
 pub over_slots-requires-clause-mark : goal.over_slots-requires-clause-mark
 over_slots-requires-clause-mark c =
     marks_net _ _ _ _ _ _ c.in_ok-found.found (marks_grow _ _ _ _ _ _ _ c.in_ok-found.found c.in_ok-sums.ensures.up.grows.extends c.in_ok-found.ensures.marks)
+
+pub over_slots-requires-clause-place : goal.over_slots-requires-clause-place
+over_slots-requires-clause-place c =
+    marks_place _ _ _ _ _ _ c.in_ok-found.found (marks_grow _ _ _ _ _ _ _ c.in_ok-found.found c.in_ok-sums.ensures.up.grows.extends c.in_ok-found.ensures.marks)
 
 pub returns-in_err-outs-clause-belongs : goal.returns-in_err-outs-clause-belongs
 returns-in_err-outs-clause-belongs c =
@@ -46,7 +52,7 @@ returns-clause-adds c =
 
 pub returns-clause-up : goal.returns-clause-up
 returns-clause-up c =
-    adds_up _ (omega arith)
+    stores_up _ (omega arith)
     (scan_adds _ _ _ _ c.args.plan c.in_ok-found.found _ _ _
     (marks_wait _ _ _ _ _ _ c.in_ok-found.found c.in_ok-found.ensures.marks) c.in_ok-sums.ensures.long refl c.in_ok-found.ensures.adds
     c.in_ok-sums.ensures.adds c.in_ok-outs.ensures.adds)
@@ -59,19 +65,23 @@ over_slots-requires-clause-lanes c = whole_lanes (c.args.plan.lanes - 1) c.args.
 
 pub returns-clause-long : goal.returns-clause-long
 returns-clause-long c =
+    let turned = marks_grow _ _ _ _ _ _ _ c.in_ok-found.found c.in_ok-sums.ensures.up.grows.extends c.in_ok-found.ensures.marks in
     let last = last_lane c.args.plan.lanes c.args.plan.stride _ c.requires.plan.wide c.in_ok-sums.ensures.long in
-    ends_long _ _ c.in_ok-sums.sums.items ((c.args.plan.lanes - 1) * c.args.plan.stride) c.args.plan.stride _ c.in_ok-found.found c.in_ok-outs.outs.items last
-    c.in_ok-outs.ensures.ends ∙ last_lane_is c.args.plan.lanes c.args.plan.stride c.requires.plan.wide
+    ends_long _ c.args.clocks.now.rst _ c.in_ok-sums.sums.items
+    ((c.args.plan.lanes - 1) * c.args.plan.stride) c.args.plan.stride _ c.in_ok-found.found c.in_ok-outs.outs.items last
+    (c.in_ok-outs.ensures.ends _ (marks_turn _ _ _ _ _ _ c.in_ok-found.found turned)) ∙ last_lane_is c.args.plan.lanes c.args.plan.stride c.requires.plan.wide
 
 pub returns-clause-scans : goal.returns-clause-scans
 returns-clause-scans c =
+    let turned = marks_grow _ _ _ _ _ _ _ c.in_ok-found.found c.in_ok-sums.ensures.up.grows.extends c.in_ok-found.ensures.marks in
     let later = grows_trans c.in_ok-sums.ensures.up.grows c.in_ok-outs.ensures.up.grows in
     let last = last_lane c.args.plan.lanes c.args.plan.stride _ c.requires.plan.wide c.in_ok-sums.ensures.long in
     ends_scan _ _ c.args.folds.now c.args.ins.now c.args.plan c.args.arrival 0 ((c.args.plan.lanes - 1) * c.args.plan.stride) 0
     (c.args.plan.lanes - 1) c.in_ok-sums.sums.items c.in_ok-found.found c.in_ok-outs.outs.items c.requires.plan c.requires.folds c.requires.whole
     (omega arith) refl (omega (arith, c.requires.plan.wide)) last
     (overs_grow c.in_ok-outs.ensures.up.grows.extends (rw c.in_ok-nets.ensures.ok at c.in_ok-sums.ensures.words))
-    (marks_grow _ _ _ _ _ _ _ c.in_ok-found.found later.extends c.in_ok-found.ensures.marks) c.in_ok-outs.ensures.ends
+    (marks_grow _ _ _ _ _ _ _ c.in_ok-found.found later.extends c.in_ok-found.ensures.marks)
+    (c.in_ok-outs.ensures.ends _ (marks_turn _ _ _ _ _ _ c.in_ok-found.found turned))
 
 pub returns-in_err-sums-clause-up : goal.returns-in_err-sums-clause-up
 returns-in_err-sums-clause-up c = up_sweep _ _ _ c.args.plan c.in_ok-found.ensures.adds c.in_err-sums.ensures.up

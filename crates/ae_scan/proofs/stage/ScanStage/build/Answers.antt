@@ -1,6 +1,6 @@
 -- The stage's circuit, by what it stands on.
 use Rattle.std.proofs.Common.{arith, ℕ, ◌+◌, ◌≤◌}
-use Rattle.ae_scan.proofs.Building.{build_bundle, build_cells, build_folds, build_law, build_long, build_nets, build_of, build_products, build_whole}
+use Rattle.ae_scan.proofs.Building.{build_bundle, build_cells, build_folds, build_law, build_long, build_memories, build_nets, build_of, build_products, build_whole}
 use Rattle.ae_clocked.proofs.Adding.{grows_refl}
 use Rattle.ae_clocked.proofs.Belonging.{keeps_same}
 use Rattle.ae_scan.proofs.stage.ScanStage.build.Goals as goal
@@ -127,7 +127,12 @@ pub returns-clause-grows : goal.returns-clause-grows
 returns-clause-grows c = c.in_ok-outs.ensures.up.grows
 
 pub returns-clause-memories : goal.returns-clause-memories
-returns-clause-memories c = omega (arith, c.in_ok-outs.ensures.adds.memories)
+returns-clause-memories c =
+    let e = build_memories _ _ _ _ _ _
+    (build_of _ _ _ _ _ c.args.ins.now _ _ c.self.invariant c.deref.ensures.value c.in_ok-folds.ensures.folds c.plan_of-plan.ensures.plan
+    c.plan_of-plan.ensures.numbers (rw (← c.self.view_is) at c.requires.bundles) c.index-ins-0.is c.nets-nets.ensures)
+    in
+    rw (← c.self.view_is) (omega (arith, c.in_ok-outs.ensures.adds.memories, e))
 
 pub returns-clause-whole : goal.returns-clause-whole
 returns-clause-whole c = c.in_ok-outs.ensures.adds.whole
