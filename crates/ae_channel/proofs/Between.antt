@@ -21,8 +21,7 @@ use Rattle.ae_correct.proofs.Laid.{few_ins, few_outs, ins_filling, outs_filling}
 use Rattle.ae_compile.specs.Compiling.{IsCompiled}
 use Rattle.ae_compile.specs.Costing.{IsKnown, load_limit, main_costs}
 use Rattle.ae_compile.specs.declared.costs.Costs.{Costs}
-use Rattle.ae_channel.specs.Listings.{IsListedAs, head_words}
-use Rattle.ae_channel.specs.Words.{AreReplaced}
+use Rattle.ae_channel.specs.Listings.{IsListedAs}
 use Rattle.ae_channel.specs.Texts.{IsStreamText}
 use Rattle.ae_channel.proofs.Asked.{told_laid}
 use Rattle.ae_channel.proofs.Fed.{can_be_fed}
@@ -79,11 +78,10 @@ stream_large n between report stream many =
 
 -- the text is that of a stream
 pub is_stream_text : (p : ProgramTree) (slowdown : ℕ) (instances : List StFuncTree) (n between : Circuit) (report : ReportTree) (notes : List NoteTree)
-    (name listing text : List ℕ) → IsCompiled p slowdown instances n report notes
-    → IsStream n between report.slowdown report.latency report.ins report.outs → CanBeFed n.cells p report.ins → IsListedAs report between listing
-    → AreReplaced (head_words name) listing text
+    (name text : List ℕ) → IsCompiled p slowdown instances n report notes
+    → IsStream n between report.slowdown report.latency report.ins report.outs → CanBeFed n.cells p report.ins → IsListedAs report name between text
     → IsStreamText p slowdown instances name text
-is_stream_text p slowdown instances n between report notes name listing text d stream fed listed named =
+is_stream_text p slowdown instances n between report notes name text d stream fed listed =
     let clocks : report.slowdown ≡ slowdown = ap (λ (r : ReportTree). r.slowdown) d.reported in
     let late : report.latency ≡ (main_costs p instances).latency = ap (λ (r : ReportTree). r.latency) d.reported in
     record {
@@ -97,7 +95,5 @@ is_stream_text p slowdown instances n between report notes name listing text d s
           (subst (λ k. MakesBlocks n p slowdown k report.ins report.outs) (sym late) d.circuit.makes));
       stays = stream.stays;
       goes_on = stream.goes_on;
-      listing = listing;
-      is_listing = listed;
-      named = named;
+      listed = listed;
     }

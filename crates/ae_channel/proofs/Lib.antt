@@ -1,4 +1,3 @@
-pub mod Pieces
 pub mod Inputs
 pub mod Ports
 pub mod Listed

@@ -1,4 +1,3 @@
-pub mod Words
 pub mod Listings
 pub mod Asked
 pub mod Full

@@ -9,13 +9,11 @@ use Rattle.ae_stream.specs.Progress.{GoesOn}
 use Rattle.ae_stream.specs.Streams.{Stays, Streams}
 use Rattle.ae_streamed.specs.Between.{InResetRuns, IsStream, ends_for}
 use Rattle.ae_compile.specs.Compiling.{IsCompiled}
-use Rattle.ae_channel.specs.Listings.{IsListedAs, head_words}
-use Rattle.ae_channel.specs.Words.{AreReplaced}
+use Rattle.ae_channel.specs.Listings.{IsListedAs}
 
--- the text is such a listing of the circuit of a program between two channels, but for the name of the module and a line
--- behind the report. In every reset run of that, at whatever pace both ends go, what passes at the sink is
--- the first part of the results of what passed at the source, block for block, words stay until they are taken, and it goes
--- on
+-- the text is such a listing of the circuit of a program between two channels. In every reset run of that, at whatever pace
+-- both ends go, what passes at the sink is the first part of the results of what passed at the source, block for block,
+-- words stay until they are taken, and it goes on
 pub record IsStreamText (p : ProgramTree) (slowdown : ℕ) (instances : List StFuncTree)
     (name text : List ℕ) : Type 0 where
   pub circuit : Circuit
@@ -31,6 +29,4 @@ pub record IsStreamText (p : ProgramTree) (slowdown : ℕ) (instances : List StF
   pub goes_on : InResetRuns between.cells (λ run start.
       GoesOn (ends_for report.ins (length circuit.outlets) between) run start report.slowdown report.latency report.ins
       report.outs)
-  pub listing : List ℕ
-  pub is_listing : IsListedAs report between listing
-  pub named : AreReplaced (head_words name) listing text
+  pub listed : IsListedAs report name between text

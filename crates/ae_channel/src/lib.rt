@@ -4,6 +4,5 @@
 mod channels;
 mod listings;
 mod texts;
-mod words;
 
 pub use texts::stream_text;

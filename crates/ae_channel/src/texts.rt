@@ -8,7 +8,7 @@ ghost use Rattle.ae_channel.specs.Full.{MayLackRoom};
 ghost use Rattle.ae_channel.specs.Texts.{IsStreamText};
 
 use crate::channels::streamed;
-use crate::listings::{listing, named};
+use crate::listings::listing;
 use ae_compile::Compiled;
 use ae_netlist::NetFault;
 use std::alloc::Global;
@@ -22,7 +22,6 @@ pub fn stream_text(alloc: Global, compiled: &Compiled, name: &str) -> Result<Str
 {
     let netlist = streamed(alloc, compiled)?;
     let told = compiled.report();
-    let made = listing(alloc, &netlist, told)?;
-    let text = named(alloc, made.as_str(), name)?;
+    let text = listing(alloc, &netlist, told, name)?;
     Ok(text)
 }

@@ -124,7 +124,7 @@ listing_same r notes n outs i =
     let lines = lines_of notes (length n.cells) in
     report_lines r
     ++ (codes "// verilator lint_off CMPCONST\n// verilator lint_off DECLFILENAME\n// verilator lint_off UNSIGNED\n// verilator lint_off UNUSEDSIGNAL\n"
-    ++ (header_text n.cells n.outlets outs
+    ++ (header_text (codes "aeth") n.cells n.outlets outs
     ++ (noted (λ net (sized : SizedCell). line_same lines n.cells net sized.width sized.cell i) n.cells 0 notes
     ++ (flat_map (assignment_text lines n.cells outs) n.outlets
     ++ (each_numbered (λ net (sized : SizedCell). edge_same lines n.cells net sized.cell i) 0 n.cells ++ codes "endmodule\n")))))

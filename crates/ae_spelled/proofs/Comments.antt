@@ -160,6 +160,9 @@ note_comment n h =
     shape : (a b c d e f g : List ℕ) → (a ++ (b ++ (c ++ (d ++ (e ++ f))))) ++ g ≡ a ++ (b ++ (c ++ (d ++ (e ++ (f ++ g)))))
     shape a b c d e f g = simp append_assoc
 
+pub stream_comment : IsTextOf (codes "// stream\n") []
+stream_comment = comment_line (codes " stream") (record { all = refl })
+
 pub report_comments : (r : ReportTree) → IsTextOf (report_lines r) []
 unfolding report_lines
 report_comments r =

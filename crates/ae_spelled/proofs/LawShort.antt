@@ -21,7 +21,7 @@ use Rattle.ae_netlist.specs.declared.cell.Outlet.{Outlet}
 use Rattle.ae_verilog.specs.NetlistModule.{each_numbered}
 use Rattle.ae_verilog.specs.Notes.{NoteTree, note_line, line_in, line_of, lines_of}
 use Rattle.ae_verilog.specs.ReportLines.{ReportTree, number_line, enable_line, in_line, out_line, report_lines}
-use Rattle.ae_verilog.specs.Text.{PortFits, between, noted, declaration_text, assignment_text, edge_text, input_text, output_text, module_text, whole_text}
+use Rattle.ae_verilog.specs.Text.{PortFits, between, noted, declaration_text, assignment_text, edge_text, input_text, output_text, module_text, named_text}
 use Rattle.ae_verilog.specs.Written.{HaveNumbers, IsListable}
 use Rattle.ae_spelled.specs.Short.{AreInSize, IsShort}
 use Rattle.ae_spelled.proofs.LawLength.{IsUpTo, short, both, looser, choose_up, digits_32, declared_up, edge_up, input_up, output_up, assigned_up}
@@ -202,8 +202,9 @@ report_up r notes cells outlets h sizes =
 
 -- ---- the whole
 
-module _ (r : ReportTree) (notes : List NoteTree) (cells : List SizedCell) (outlets : List Outlet) (outs : ℕ) (ok : IsListable cells outlets)
-    (told : HaveNumbers r notes) (sizes : IsShort r notes cells outlets) where
+module _ (title behind : List ℕ) (r : ReportTree) (notes : List NoteTree) (cells : List SizedCell) (outlets : List Outlet) (outs : ℕ)
+    (few_letters : length title ≤ 1024) (few_behind : length behind ≤ 100) (ok : IsListable cells outlets) (told : HaveNumbers r notes)
+    (sizes : IsShort r notes cells outlets) where
   abbrev lines : ℕ → ℕ
   lines = lines_of notes (length cells)
 
@@ -223,7 +224,7 @@ module _ (r : ReportTree) (notes : List NoteTree) (cells : List SizedCell) (outl
   port_at : (j : ℕ) (o : Outlet) → slice_get outlets j ≡ Some o → PortFits o.port
   port_at j o e = subst (λ (x : Outlet). PortFits x.port) (get_or_from_slice_get outlets j o o e) (ok.outputs j o (slice_get_within outlets j o e))
 
-  pub module_up : length (module_text lines notes cells outlets outs) ≤ 256 + 768 * length cells + 512 * length outlets + 100057 * length notes
+  pub module_up : length (module_text title lines notes cells outlets outs) ≤ 1280 + 768 * length cells + 512 * length outlets + 100057 * length notes
   module_up =
       let ins = flat_up (λ (x : SizedCell). input_text x.width x.cell) cells (λ j x e. input_up lines numbers cells good j x e) in
       let os = flat_up (output_text cells outs) outlets (λ j o e. output_up lines numbers cells good outlets outs ok.shown j o e (port_at j o e)) in
@@ -238,16 +239,17 @@ module _ (r : ReportTree) (notes : List NoteTree) (cells : List SizedCell) (outl
     where
       sum : (a b c d e : List ℕ) → IsUpTo (256 * length cells) a → IsUpTo (256 * length outlets) b
           → IsUpTo (256 * (length cells - 0) + 100057 * length notes) c → IsUpTo (256 * length outlets) d → IsUpTo (256 * length cells) e
-          → length ((codes "module aeth (\n  input wire clk" ++ (a ++ (b ++ codes "\n);\n"))) ++ (c ++ (d ++ (e ++ codes "endmodule\n")))) ≤ 256 + 768 * length
-          cells + 512 * length outlets + 100057 * length notes
+          → length ((codes "module " ++ (title ++ (codes " (\n  input wire clk" ++ (a ++ (b ++ codes "\n);\n")))))
+          ++ (c ++ (d ++ (e ++ codes "endmodule\n")))) ≤ 1280 + 768 * length cells + 512 * length outlets + 100057 * length notes
       sum a b c d e ha hb hc hd he =
-          let head : IsUpTo 31 (codes "module aeth (\n  input wire clk") = short (lit≤ tt) in
+          let word : IsUpTo 7 (codes "module ") = short (lit≤ tt) in
+          let head : IsUpTo 19 (codes " (\n  input wire clk") = short (lit≤ tt) in
           let close : IsUpTo 4 (codes "\n);\n") = short (lit≤ tt) in
           let last : IsUpTo 10 (codes "endmodule\n") = short (lit≤ tt) in
-          simp length-append (omega (arith, ha.most, hb.most, hc.most, hd.most, he.most, head.most, close.most, last.most))
+          simp length-append (omega (arith, ha.most, hb.most, hc.most, hd.most, he.most, few_letters, word.most, head.most, close.most, last.most))
 
-  pub short_listing : length (whole_text (report_lines r) notes cells outlets outs) < 2 ^ 32
-  short_listing =
+  pub short_text : length (named_text title behind (report_lines r) notes cells outlets outs) < 2 ^ 32
+  short_text =
       let quiet : List ℕ = codes
       "// verilator lint_off CMPCONST\n// verilator lint_off DECLFILENAME\n// verilator lint_off UNSIGNED\n// verilator lint_off UNUSEDSIGNAL\n" in
       let q : IsUpTo 200 quiet = short (lit≤ tt) in
@@ -260,6 +262,8 @@ module _ (r : ReportTree) (notes : List NoteTree) (cells : List SizedCell) (outl
         q.most,
         module_up,
         (report_up r notes cells outlets told sizes).most,
-        length-append (report_lines r) (quiet ++ module_text lines notes cells outlets outs),
-        length-append quiet (module_text lines notes cells outlets outs),
+        few_behind,
+        length-append (report_lines r) (behind ++ (quiet ++ module_text title lines notes cells outlets outs)),
+        length-append behind (quiet ++ module_text title lines notes cells outlets outs),
+        length-append quiet (module_text title lines notes cells outlets outs),
       )

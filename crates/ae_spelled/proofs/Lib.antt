@@ -13,6 +13,7 @@ pub mod LawKnown
 pub mod LawKinds
 pub mod LawOnce
 pub mod LawFormed
+pub mod Renamed
 pub mod Pieces
 pub mod Writable
 pub mod Lines

@@ -1,5 +1,5 @@
 -- The lines of a module, and their tokens.
-use Rattle.std.proofs.Common.{◌≡◌, ℕ, ◌-◌, ◌≤◌, List, [], ◌∷◌, ◌++◌, true, false, Option, Some, None, refl, sym, ◌∙◌, subst, arith, append_assoc, append-nil}
+use Rattle.std.proofs.Common.{lit≤, ◌≡◌, ℕ, ◌-◌, ◌≤◌, List, [], ◌∷◌, ◌++◌, true, false, Option, Some, None, refl, sym, ◌∙◌, subst, arith, append_assoc, append-nil}
 use Rattle.std.specs.Prelude.{codes, decimal, nat_lt, ◌==◌, if◌then◌else◌}
 use Rattle.ae_vtoken.specs.declared.token.Key.TheVariants.{Module, EndModule, Input, Output, Wire, Reg, Assign, Always, Posedge, If}
 use Rattle.ae_vtoken.specs.declared.token.Sign.TheVariants.{Open, Close, Comma, Semicolon, At, Equals, AtMost}
@@ -12,6 +12,7 @@ use Rattle.ae_vread.specs.Forms.{DriveForm, RegForm, ItemForm, WireDrives, RegIt
 use Rattle.ae_vtoken.proofs.TokenLemmas.{spaced, mark, blank_then}
 use Rattle.ae_verilog.specs.NetlistModule.{clock_name, number_name}
 use Rattle.ae_verilog.specs.Text.{expr_text, range_text, wire_text, value_text, widened_text, register_text, memory_text, register_edge, memory_edge}
+use Rattle.ae_spelled.specs.Streams.{IsModuleName}
 use Rattle.ae_spelled.proofs.Pieces.{IsNameText, IsClean, clean_both, clean_then, number_form, decimal_token, decimal_clean, number_named, marked_name, decimal_starts, decimal_named, named_both}
 use Rattle.ae_spelled.proofs.Writable.{expr_form, IsWritable, expr_piece, expr_clean, open_bracket_token, close_bracket_token, colon_token}
 
@@ -76,9 +77,9 @@ pub clk_token : token_of (codes "clk") ≡ Some (Name (codes "clk"))
 unfolding token_of keys unused_0 unused_1 unused_2 unused_3 unused_4 unused_5 unused_6 unused_7 unused_8 unused_9
 clk_token = refl
 
-pub aeth_token : token_of (codes "aeth") ≡ Some (Name (codes "aeth"))
+pub aeth_named : IsModuleName (codes "aeth")
 unfolding token_of keys unused_0 unused_1 unused_2 unused_3 unused_4 unused_5 unused_6 unused_7 unused_8 unused_9
-aeth_token = refl
+aeth_named = record { token = refl; clean = refl; short = lit≤ tt }
 
 pub rst_named : IsNameText (codes "rst")
 unfolding token_of keys unused_0 unused_1 unused_2 unused_3 unused_4 unused_5 unused_6 unused_7 unused_8 unused_9

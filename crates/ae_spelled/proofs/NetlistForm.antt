@@ -59,9 +59,9 @@ item_forms lines cells outlets outs =
     ++ (map (assignment_form lines cells outs) outlets
     ++ each_numbered (λ net (sized : SizedCell). edge_form lines cells net sized.cell) 0 cells)
 
-abbrev pub netlist_form : (lines : ℕ → ℕ) → List SizedCell → List Outlet → ℕ → ModuleForm
-netlist_form lines cells outlets outs = record {
-  name = codes "aeth";
+abbrev pub netlist_form : (title : List ℕ) (lines : ℕ → ℕ) → List SizedCell → List Outlet → ℕ → ModuleForm
+netlist_form title lines cells outlets outs = record {
+  name = title;
   first = clock_port;
   more = port_forms cells outlets outs;
   items = item_forms lines cells outlets outs;

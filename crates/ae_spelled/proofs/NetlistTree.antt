@@ -14,6 +14,7 @@ use Rattle.ae_vread.specs.declared.module.NetKind.TheVariants.{Memory, Input as 
 use Rattle.ae_vread.specs.Forms.{PortForm, ItemForm, size_of, port_nets, item_nets, nets_from, item_of, module_of, IsItem}
 use Rattle.ae_verilog.specs.NetlistModule as m
 use Rattle.ae_verilog.specs.NetlistModule.{port_name, number_name, net_name, net_value, op_expression, each_numbered, input_nets, output_net, declared_nets, inputs_of, declared_from, declaration, assignment, edge, netlist_module, clock_net, drive}
+use Rattle.ae_spelled.specs.Streams.{renamed}
 use Rattle.ae_spelled.proofs.Pieces.{IsNameText, number_form}
 use Rattle.ae_spelled.proofs.Writable.{IsWritable, expr_back}
 use Rattle.ae_spelled.proofs.Named.{IsGood, name_named, net_inside, all_named, is_constant, op_writable, op_drive}
@@ -257,9 +258,9 @@ items_back lines cells outlets outs good =
     ∙ listed_same _ (λ net (sized : SizedCell). edge lines cells net sized.cell) 0 cells (λ j sized e. edge_back lines cells (0 + j) sized.cell)))
 
 -- the module
-pub tree_back : (lines : ℕ → ℕ) → (cells : List SizedCell) (outlets : List Outlet) (outs : ℕ) → IsGood cells → HaveNets cells outlets
-    → module_of (netlist_form lines cells outlets outs) ≡ netlist_module lines cells outlets outs
-tree_back lines cells outlets outs good have =
+pub tree_back : (title : List ℕ) (lines : ℕ → ℕ) → (cells : List SizedCell) (outlets : List Outlet) (outs : ℕ) → IsGood cells → HaveNets cells outlets
+    → module_of (netlist_form title lines cells outlets outs) ≡ renamed title (netlist_module lines cells outlets outs)
+tree_back title lines cells outlets outs good have =
     let ins : List PortForm = flat_map (λ (sized : SizedCell). input_forms sized.width sized.cell) cells in
     let shown : List PortForm = map (output_form cells outs) outlets in
     let rest : List NetTree = nets_from 1 (item_forms lines cells outlets outs) in
@@ -268,7 +269,7 @@ tree_back lines cells outlets outs good have =
     ∙ ap (λ l. l ++ (flat_map port_nets shown ++ rest)) (inputs_back lines cells good)
     ∙ ap (λ l. inputs_of cells ++ (l ++ rest)) (outputs_back lines cells outlets outs good have)
     ∙ ap (λ l. inputs_of cells ++ (map (output_net cells outs) outlets ++ l)) (nets_back lines cells outlets outs good) in
-    λ i. record { name = codes "aeth"; nets = clock_net ∷ ports i; items = items_back lines cells outlets outs good i }
+    λ i. record { name = title; nets = clock_net ∷ ports i; items = items_back lines cells outlets outs good i }
 
 -- formed
 

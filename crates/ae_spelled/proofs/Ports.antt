@@ -8,8 +8,9 @@ use Rattle.ae_vread.specs.Forms.{PortHead, InputHead, OutputHead, PortForm, port
 use Rattle.ae_vtoken.proofs.TokenLemmas.{is_lone, spaced, mark, blank_then}
 use Rattle.ae_verilog.specs.NetlistModule.{clock_name}
 use Rattle.ae_verilog.specs.Text.{range_text}
+use Rattle.ae_spelled.specs.Streams.{IsModuleName}
 use Rattle.ae_spelled.proofs.Pieces.{IsNameText, IsClean, clean_both, clean_then}
-use Rattle.ae_spelled.proofs.Lines.{IsTextOf, range_form, range_piece, range_clean, module_token, input_token, output_token, wire_token, clk_token, aeth_token, open_token, close_token, comma_token, semicolon_token}
+use Rattle.ae_spelled.proofs.Lines.{IsTextOf, range_form, range_piece, range_clean, module_token, input_token, output_token, wire_token, clk_token, open_token, close_token, comma_token, semicolon_token}
 
 -- a byte with which no token goes on stands in front
 pub record StartsLone (text : List ℕ) : Type 0 where
@@ -71,21 +72,23 @@ output_port width n small named = record {
 abbrev pub clock_port : PortForm
 clock_port = port_form (InputHead true) 1 clock_name
 
-abbrev pub start_tokens : List TokenTree
-start_tokens = Word Module ∷ Name (codes "aeth") ∷ Mark Open ∷ port_tokens clock_port
+abbrev pub start_tokens : (title : List ℕ) → List TokenTree
+start_tokens title = Word Module ∷ Name title ∷ Mark Open ∷ port_tokens clock_port
 
 -- the head of a module around its further ports
-pub head_lines : (ports : List ℕ) (ts : List TokenTree) → IsPieceOf ports ts
-    → IsTextOf (codes "module aeth (\n  input wire clk" ++ (ports ++ codes "\n);\n")) (start_tokens ++ (ts ++ Mark Close ∷ Mark Semicolon ∷ []))
-head_lines ports ts piece = record {
+pub head_lines : (title ports : List ℕ) (ts : List TokenTree) → IsModuleName title → IsPieceOf ports ts
+    → IsTextOf (codes "module " ++ (title ++ (codes " (\n  input wire clk" ++ (ports ++ codes "\n);\n"))))
+    (start_tokens title ++ (ts ++ Mark Close ∷ Mark Semicolon ∷ []))
+head_lines title ports ts named piece = record {
   tokens = λ rest us h.
       let ended : AreTokens (codes "\n);\n" ++ rest) (Mark Close ∷ Mark Semicolon ∷ us) =
       blank_then 10 _ _ refl (mark 41 _ _ _ close_token refl (mark 59 _ _ _ semicolon_token refl (blank_then 10 _ _ refl h))) in
       let ending : StartsLone (codes "\n);\n" ++ rest) = record { first = 10; more = _; whole = refl; lone = refl } in
       simp append_assoc (
-      spaced (codes "module") 32 _ _ _ module_token refl (blank_then 32 _ _ refl (spaced (codes "aeth") 32 _ _ _ aeth_token refl (
+      spaced (codes "module") 32 _ _ _ module_token refl (blank_then 32 _ _ refl (spaced title 32 _ _ _ named.token refl (
       blank_then 32 _ _ refl (mark 40 _ _ _ open_token refl (blank_then 10 _ _ refl (blank_then 32 _ _ refl (blank_then 32 _ _ refl (
       spaced (codes "input") 32 _ _ _ input_token refl (blank_then 32 _ _ refl (spaced (codes "wire") 32 _ _ _ wire_token refl (
       blank_then 32 _ _ refl (before_lone (codes "clk") _ _ _ clk_token (piece.opens _ ending) (piece.tokens _ _ ending ended))))))))))))));
-  clean = clean_then (codes "module aeth (\n  input wire clk") _ refl (clean_both ports (codes "\n);\n") piece.clean (record { all = refl }));
+  clean = clean_then (codes "module ") _ refl (clean_then title _ named.clean
+      (clean_then (codes " (\n  input wire clk") _ refl (clean_both ports (codes "\n);\n") piece.clean (record { all = refl }))));
 }

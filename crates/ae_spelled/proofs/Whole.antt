@@ -18,10 +18,11 @@ use Rattle.ae_vread.specs.Spells.{Spells}
 use Rattle.ae_verilog.specs.ReportLines.{is_clean}
 use Rattle.ae_verilog.specs.NetlistModule.{port_name, number_name, net_name, net_value, op_expression, each_numbered, netlist_module}
 use Rattle.ae_verilog.specs.Notes.{NoteTree, ArePrinted, lines_of}
-use Rattle.ae_verilog.specs.Text.{PortFits, CellPortFits, is_cast, value_text, widened_text, op_text, declaration_text, noted, input_text, output_text, header_text, assignment_text, edge_text, module_text, whole_text}
+use Rattle.ae_verilog.specs.Text.{PortFits, CellPortFits, is_cast, value_text, widened_text, op_text, declaration_text, noted, input_text, output_text, header_text, assignment_text, edge_text, module_text, named_text, whole_text}
 use Rattle.ae_verilog.specs.Written.{IsListable}
+use Rattle.ae_spelled.specs.Streams.{IsModuleName, renamed}
 use Rattle.ae_spelled.proofs.Writable.{IsWritable}
-use Rattle.ae_spelled.proofs.Lines.{IsTextOf, no_text, both_texts, value_item, register_item, memory_item, register_edge_item, memory_edge_item, value_line, widened_line, register_line, memory_line, assign_line, register_edge_line, memory_edge_line, end_line, quiet_line, net_named}
+use Rattle.ae_spelled.proofs.Lines.{IsTextOf, aeth_named, no_text, both_texts, value_item, register_item, memory_item, register_edge_item, memory_edge_item, value_line, widened_line, register_line, memory_line, assign_line, register_edge_line, memory_edge_line, end_line, quiet_line, net_named}
 use Rattle.ae_spelled.proofs.Comments.{note_comment}
 use Rattle.ae_spelled.proofs.NotedCells.{listed_text, noted_text}
 use Rattle.ae_spelled.proofs.Ports.{port_form, IsPieceOf, no_piece, both_pieces, input_port, output_port, head_lines, start_tokens}
@@ -132,15 +133,17 @@ ports_piece lines cells outlets outs good shown =
     output_port (width_of cells outlet.net.0) (port_name outs outlet.port) net.high
     (port_named outs outlet.port (outlet_fits cells outlets j outlet shown e)))))
 
-header_lines : (lines : ℕ → ℕ) → (cells : List SizedCell) (outlets : List Outlet) (outs : ℕ) → IsGood cells → AreGood cells outlets →
-    IsTextOf (header_text cells outlets outs) (start_tokens ++ (comma_tokens port_tokens (port_forms cells outlets outs) ++ Mark Close ∷ Mark Semicolon ∷ []))
-header_lines lines cells outlets outs good shown =
+header_lines : (title : List ℕ) (lines : ℕ → ℕ) → (cells : List SizedCell) (outlets : List Outlet) (outs : ℕ) → IsModuleName title → IsGood cells
+    → AreGood cells outlets →
+    IsTextOf (header_text title cells outlets outs) (start_tokens title
+    ++ (comma_tokens port_tokens (port_forms cells outlets outs) ++ Mark Close ∷ Mark Semicolon ∷ []))
+header_lines title lines cells outlets outs named good shown =
     let inputs : List ℕ = flat_map (λ (sized : SizedCell). input_text sized.width sized.cell) cells in
     let outputs : List ℕ = flat_map (output_text cells outs) outlets in
-    subst (λ l. IsTextOf (codes "module aeth (\n  input wire clk" ++ l)
-    (start_tokens ++ (comma_tokens port_tokens (port_forms cells outlets outs) ++ Mark Close ∷ Mark Semicolon ∷ [])))
+    subst (λ l. IsTextOf (codes "module " ++ (title ++ (codes " (\n  input wire clk" ++ l)))
+    (start_tokens title ++ (comma_tokens port_tokens (port_forms cells outlets outs) ++ Mark Close ∷ Mark Semicolon ∷ [])))
     (append_assoc inputs outputs (codes "\n);\n"))
-    (head_lines (inputs ++ outputs) (comma_tokens port_tokens (port_forms cells outlets outs)) (ports_piece lines cells outlets outs good shown))
+    (head_lines title (inputs ++ outputs) (comma_tokens port_tokens (port_forms cells outlets outs)) named (ports_piece lines cells outlets outs good shown))
 
 -- the items
 
@@ -184,56 +187,73 @@ items_lines lines notes cells outlets outs printed good shown =
     joined_tokens : (a b c d whole : List TokenTree) → whole ≡ a ++ (b ++ c) → whole ++ d ≡ a ++ (b ++ (c ++ d))
     joined_tokens a b c d whole e = ap (λ l. l ++ d) e ∙ append_assoc a (b ++ c) d ∙ ap (λ l. a ++ l) (append_assoc b c d)
 
-module_lines : (lines : ℕ → ℕ) → (notes : List NoteTree) (cells : List SizedCell) (outlets : List Outlet) (outs : ℕ) → ArePrinted notes → IsGood cells
-    → AreGood cells outlets → IsTextOf (module_text lines notes cells outlets outs) (module_tokens (netlist_form lines cells outlets outs))
-module_lines lines notes cells outlets outs printed good shown =
-    subst (IsTextOf (module_text lines notes cells outlets outs))
+module_lines : (title : List ℕ) (lines : ℕ → ℕ) (notes : List NoteTree) (cells : List SizedCell) (outlets : List Outlet) (outs : ℕ) → IsModuleName title
+    → ArePrinted notes
+    → IsGood cells → AreGood cells outlets → IsTextOf (module_text title lines notes cells outlets outs)
+    (module_tokens (netlist_form title lines cells outlets outs))
+module_lines title lines notes cells outlets outs named printed good shown =
+    subst (IsTextOf (module_text title lines notes cells outlets outs))
     (head_and_items (comma_tokens port_tokens (port_forms cells outlets outs))
     (flat_map item_tokens (item_forms lines cells outlets outs) ++ Word EndModule ∷ []))
-    (both_texts _ _ _ _ (header_lines lines cells outlets outs good shown) (items_lines lines notes cells outlets outs printed good shown))
+    (both_texts _ _ _ _ (header_lines title lines cells outlets outs named good shown) (items_lines lines notes cells outlets outs printed good shown))
   where
-    head_and_items : (ports items : List TokenTree) → (start_tokens ++ (ports ++ Mark Close ∷ Mark Semicolon ∷ [])) ++ items ≡ start_tokens
+    head_and_items : (ports items : List TokenTree) → (start_tokens title ++ (ports ++ Mark Close ∷ Mark Semicolon ∷ [])) ++ items ≡ start_tokens title
         ++ (ports ++ Mark Close ∷ Mark Semicolon ∷ items)
-    head_and_items ports items = append_assoc start_tokens (ports ++ Mark Close ∷ Mark Semicolon ∷ []) items ∙
-        ap (λ l. start_tokens ++ l) (append_assoc ports (Mark Close ∷ Mark Semicolon ∷ []) items)
+    head_and_items ports items = append_assoc (start_tokens title) (ports ++ Mark Close ∷ Mark Semicolon ∷ []) items ∙
+        ap (λ l. start_tokens title ++ l) (append_assoc ports (Mark Close ∷ Mark Semicolon ∷ []) items)
 
 -- the whole text
-whole_lines : (report : List ℕ) (notes : List NoteTree) (cells : List SizedCell) (outlets : List Outlet) (outs : ℕ) → IsTextOf report [] → ArePrinted notes
-    → IsGood cells → AreGood cells outlets → IsTextOf (whole_text report notes cells outlets outs)
-    (module_tokens (netlist_form (lines_of notes (length cells)) cells outlets outs))
-whole_lines report notes cells outlets outs before printed good shown =
-    both_texts _ _ _ _ before (both_texts _ _ _ _ quiet_line (module_lines (lines_of notes (length cells)) notes cells outlets outs printed good shown))
+whole_lines : (title behind report : List ℕ) (notes : List NoteTree) (cells : List SizedCell) (outlets : List Outlet) (outs : ℕ) → IsModuleName title
+    → IsTextOf behind [] → IsTextOf report [] → ArePrinted notes
+    → IsGood cells → AreGood cells outlets → IsTextOf (named_text title behind report notes cells outlets outs)
+    (module_tokens (netlist_form title (lines_of notes (length cells)) cells outlets outs))
+whole_lines title behind report notes cells outlets outs named quiet before printed good shown =
+    both_texts _ _ _ _ before (both_texts _ _ _ _ quiet (both_texts _ _ _ _ quiet_line
+    (module_lines title (lines_of notes (length cells)) notes cells outlets outs named printed good shown)))
 
-whole_spelled : (report : List ℕ) (notes : List NoteTree) (cells : List SizedCell) (outlets : List Outlet) (outs : ℕ) → IsTextOf report [] → ArePrinted notes
-    → IsGood cells → AreGood cells outlets → Spells (whole_text report notes cells outlets outs)
-    (netlist_module (lines_of notes (length cells)) cells outlets outs)
-whole_spelled report notes cells outlets outs before printed good shown =
-    let read = whole_lines report notes cells outlets outs before printed good shown in
-    let text : List ℕ = whole_text report notes cells outlets outs in
-    let ts : List TokenTree = module_tokens (netlist_form (lines_of notes (length cells)) cells outlets outs) in
+whole_spelled : (title behind report : List ℕ) (notes : List NoteTree) (cells : List SizedCell) (outlets : List Outlet) (outs : ℕ) → IsModuleName title
+    → IsTextOf behind [] → IsTextOf report [] → ArePrinted notes
+    → IsGood cells → AreGood cells outlets → Spells (named_text title behind report notes cells outlets outs)
+    (renamed title (netlist_module (lines_of notes (length cells)) cells outlets outs))
+whole_spelled title behind report notes cells outlets outs named quiet before printed good shown =
+    let read = whole_lines title behind report notes cells outlets outs named quiet before printed good shown in
+    let text : List ℕ = named_text title behind report notes cells outlets outs in
+    let ts : List TokenTree = module_tokens (netlist_form title (lines_of notes (length cells)) cells outlets outs) in
     record {
-      form = netlist_form (lines_of notes (length cells)) cells outlets outs;
+      form = netlist_form title (lines_of notes (length cells)) cells outlets outs;
       formed = items_formed (lines_of notes (length cells)) cells outlets outs;
       written = subst (λ l. AreTokens l ts) (append-nil text) (subst (AreTokens (text ++ [])) (append-nil ts) (read.tokens [] [] (No_more [] refl)));
-      tree = tree_back (lines_of notes (length cells)) cells outlets outs good shown.have;
+      tree = tree_back title (lines_of notes (length cells)) cells outlets outs good shown.have;
     }
 
-whole_clean : (report : List ℕ) (notes : List NoteTree) (cells : List SizedCell) (outlets : List Outlet) (outs : ℕ) → IsTextOf report [] → ArePrinted notes
-    → IsGood cells → AreGood cells outlets → list_all is_clean (whole_text report notes cells outlets outs) ≡ true
-whole_clean report notes cells outlets outs before printed good shown = (whole_lines report notes cells outlets outs before printed good shown).clean.all
+whole_clean : (title behind report : List ℕ) (notes : List NoteTree) (cells : List SizedCell) (outlets : List Outlet) (outs : ℕ) → IsModuleName title
+    → IsTextOf behind [] → IsTextOf report [] → ArePrinted notes
+    → IsGood cells → AreGood cells outlets → list_all is_clean (named_text title behind report notes cells outlets outs) ≡ true
+whole_clean title behind report notes cells outlets outs named quiet before printed good shown =
+    (whole_lines title behind report notes cells outlets outs named quiet before printed good shown).clean.all
 
 -- of a listable netlist
 
 good_from : (cells : List SizedCell) (outlets : List Outlet) → IsListable cells outlets → IsGood cells
 good_from cells outlets ok = record { formed = ok.formed; fits = ok.inputs; few = ok.few }
 
+pub named_spelled : (title behind report : List ℕ) (notes : List NoteTree) (cells : List SizedCell) (outlets : List Outlet) (outs : ℕ) → IsModuleName title
+    → IsTextOf behind [] → IsTextOf report [] → ArePrinted notes → IsListable cells outlets → Spells (named_text title behind report notes cells outlets outs)
+    (renamed title (netlist_module (lines_of notes (length cells)) cells outlets outs))
+named_spelled title behind report notes cells outlets outs named quiet before printed ok =
+    whole_spelled title behind report notes cells outlets outs named quiet before printed (good_from cells outlets ok)
+    (record { have = ok.shown; fits = ok.outputs })
+
+pub named_clean : (title behind report : List ℕ) (notes : List NoteTree) (cells : List SizedCell) (outlets : List Outlet) (outs : ℕ) → IsModuleName title
+    → IsTextOf behind [] → IsTextOf report [] → ArePrinted notes → IsListable cells outlets
+    → list_all is_clean (named_text title behind report notes cells outlets outs) ≡ true
+named_clean title behind report notes cells outlets outs named quiet before printed ok =
+    whole_clean title behind report notes cells outlets outs named quiet before printed (good_from cells outlets ok)
+    (record { have = ok.shown; fits = ok.outputs })
+
+-- the listing of a program's module
 pub listing_spelled : (report : List ℕ) (notes : List NoteTree) (cells : List SizedCell) (outlets : List Outlet) (outs : ℕ) → IsTextOf report []
     → ArePrinted notes → IsListable cells outlets → Spells (whole_text report notes cells outlets outs)
     (netlist_module (lines_of notes (length cells)) cells outlets outs)
 listing_spelled report notes cells outlets outs before printed ok =
-    whole_spelled report notes cells outlets outs before printed (good_from cells outlets ok) (record { have = ok.shown; fits = ok.outputs })
-
-pub listing_clean : (report : List ℕ) (notes : List NoteTree) (cells : List SizedCell) (outlets : List Outlet) (outs : ℕ) → IsTextOf report []
-    → ArePrinted notes → IsListable cells outlets → list_all is_clean (whole_text report notes cells outlets outs) ≡ true
-listing_clean report notes cells outlets outs before printed ok =
-    whole_clean report notes cells outlets outs before printed (good_from cells outlets ok) (record { have = ok.shown; fits = ok.outputs })
+    named_spelled (codes "aeth") [] report notes cells outlets outs aeth_named no_text before printed ok

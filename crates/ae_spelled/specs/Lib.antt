@@ -1,2 +1,3 @@
 pub mod ModulePorts
 pub mod Short
+pub mod Streams

@@ -1,6 +1,6 @@
 // What the listing of a netlist says, and what its module keeps of the netlist.
 
-ghost use Rattle.std.specs.Prelude.{◌≡◌, ℕ, List, ◌++◌, length, IsTrue, ◌+◌, ◌*◌, ◌^◌, ◌<◌, ◌≤◌};
+ghost use Rattle.std.specs.Prelude.{◌≡◌, ℕ, List, [], ◌++◌, length, IsTrue, ◌+◌, ◌*◌, ◌^◌, ◌<◌, ◌≤◌};
 ghost use Rattle.std.specs.List.{list_all};
 ghost use Rattle.ae_netlist.specs.declared.cell.SizedCell.{SizedCell};
 ghost use Rattle.ae_netlist.specs.declared.cell.Outlet.{Outlet};
@@ -14,10 +14,11 @@ ghost use Rattle.ae_vread.specs.Spells.{Spells, stars};
 ghost use Rattle.ae_verilog.specs.NetlistModule.{netlist_module};
 ghost use Rattle.ae_verilog.specs.Notes.{ArePrinted, NoteTree, noted_module};
 ghost use Rattle.ae_verilog.specs.ReportLines.{ReportTree, is_clean, report_lines};
-ghost use Rattle.ae_verilog.specs.Text.{whole_text};
+ghost use Rattle.ae_verilog.specs.Text.{stream_listing, whole_text};
 ghost use Rattle.ae_verilog.specs.Written.{HaveNumbers, IsListable, IsWritableNetlist};
 ghost use Rattle.ae_spelled.specs.ModulePorts.{ArePorts};
 ghost use Rattle.ae_spelled.specs.Short.{IsShort};
+ghost use Rattle.ae_spelled.specs.Streams.{IsModuleName, renamed};
 
 /// A law: the listing of a netlist, behind any report and with printed notes, spells exactly the names, declarations and items
 /// of the netlist's module, with one `*` for each cell that multiplies and no other; it begins with its report lines, and it
@@ -33,6 +34,20 @@ pub fn listings_spell()
 /// program, has fewer than 2 to the 32 bytes.
 pub fn listings_are_short()
     ensures { (r : ReportTree) (notes : List NoteTree) (cells : List SizedCell) (outlets : List Outlet) (outs : ℕ) → IsListable cells outlets → HaveNumbers r notes → IsShort r notes cells outlets → length (whole_text (report_lines r) notes cells outlets outs) < 2 ^ 32 }
+{}
+
+/// A law: the listing of a circuit between two channels, under a name that a module can have, spells exactly the names,
+/// declarations and items of the netlist's module under this name. Where the netlist is not too large and its numbers have 32
+/// bits, it has fewer than 2 to the 32 bytes.
+pub fn streams_spell()
+    ensures spells { (title : List ℕ) (r : ReportTree) (cells : List SizedCell) (outlets : List Outlet) (outs : ℕ) → IsModuleName title → IsListable cells outlets → Spells (stream_listing title (report_lines r) cells outlets outs) (renamed title (noted_module [] cells outlets outs)) }
+    ensures short { (title : List ℕ) (r : ReportTree) (cells : List SizedCell) (outlets : List Outlet) (outs : ℕ) → IsModuleName title → IsListable cells outlets → HaveNumbers r [] → IsShort r [] cells outlets → length (stream_listing title (report_lines r) cells outlets outs) < 2 ^ 32 }
+{}
+
+/// A law: what a module is called has no part in its runs, nor in whether it is well formed.
+pub fn names_are_free()
+    ensures runs { (title : List ℕ) (m : ModuleTree) (n : Circuit) → HasSameRuns m n → HasSameRuns (renamed title m) n }
+    ensures formed { (title : List ℕ) (m : ModuleTree) → IsWellFormed m → IsWellFormed (renamed title m) }
 {}
 
 /// A law: the module that a netlist is written as, whatever lines its names tell, has the netlist's runs, both ways, and its

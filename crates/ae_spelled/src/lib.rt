@@ -3,4 +3,6 @@
 
 mod laws;
 
-pub use laws::{listings_are_short, listings_spell, module_keeps, spelled_once};
+pub use laws::{
+    listings_are_short, listings_spell, module_keeps, names_are_free, spelled_once, streams_spell,
+};

@@ -121,9 +121,9 @@ ends_line text report notes n outs is =
     let end = codes "endmodule\n" in
     let last : EndsLine end = record { lines = codes "endmodule"; is = refl } in
     subst EndsLine (sym is)
-    (line_behind report (lint ++ (header_text n.cells n.outlets outs ++ (declared ++ (assigned ++ (edges ++ end)))))
-    (line_behind lint (header_text n.cells n.outlets outs ++ (declared ++ (assigned ++ (edges ++ end))))
-    (line_behind (header_text n.cells n.outlets outs) (declared ++ (assigned ++ (edges ++ end)))
+    (line_behind report (lint ++ (header_text (codes "aeth") n.cells n.outlets outs ++ (declared ++ (assigned ++ (edges ++ end)))))
+    (line_behind lint (header_text (codes "aeth") n.cells n.outlets outs ++ (declared ++ (assigned ++ (edges ++ end))))
+    (line_behind (header_text (codes "aeth") n.cells n.outlets outs) (declared ++ (assigned ++ (edges ++ end)))
     (line_behind declared (assigned ++ (edges ++ end)) (line_behind assigned (edges ++ end) (line_behind edges end last))))))
 
 -- ---- the words of a run

@@ -3,3 +3,4 @@ pub mod Steps
 pub mod NotedCells
 pub mod NoteLines
 pub mod PortNets
+pub mod Listable

@@ -14,7 +14,7 @@ use Rattle.ae_vread.specs.ModuleTree.{binary, constant}
 use Rattle.std.specs.List.{flat_map}
 use Rattle.ae_netlist.specs.declared.cell.Outlet.{Outlet}
 use Rattle.ae_verilog.specs.Notes.{NoteTree, lines_of}
-use Rattle.ae_verilog.specs.Text.{sign_text, input_text, output_text, header_text, declaration_text, noted, assignment_text, edge_text, module_text, whole_text}
+use Rattle.ae_verilog.specs.Text.{sign_text, input_text, output_text, header_text, declaration_text, noted, assignment_text, edge_text, module_text, named_text}
 use Rattle.std.specs.Prelude.{map, length}
 use Rattle.std.proofs.lemmas.List.{length-map}
 use Rattle.ae_sttype.specs.StTree.{st_tree}
@@ -94,19 +94,20 @@ input_steps (Ok u) width port old one two new first second third =
     shape range n = simp append_assoc
 input_steps (Err x) width port old one two new first second third = tt
 
-pub header_steps : {E : Type 0} (r : Result (Unit {0}) E) (cells : List SizedCell) (outlets : List Outlet) (outs : ℕ) (old one two three new : List ℕ) →
-    one ≡ old ++ codes "module aeth (\n  input wire clk" → two ≡ one ++ flat_map (λ (sized : SizedCell). input_text sized.width sized.cell) cells →
+pub header_steps : {E : Type 0} (r : Result (Unit {0}) E) (title : List ℕ) (cells : List SizedCell) (outlets : List Outlet) (outs : ℕ)
+    (old one two three new : List ℕ) → one ≡ old ++ (codes "module " ++ (title ++ codes " (\n  input wire clk")) → two ≡ one
+    ++ flat_map (λ (sized : SizedCell). input_text sized.width sized.cell) cells →
     three ≡ two ++ flat_map (output_text cells outs) outlets → OnOk r (new ≡ three ++ codes "\n);\n") →
-    OnOk r (new ≡ old ++ header_text cells outlets outs)
-header_steps (Ok u) cells outlets outs old one two three new first second third last =
+    OnOk r (new ≡ old ++ header_text title cells outlets outs)
+header_steps (Ok u) title cells outlets outs old one two three new first second third last =
     let inputs : List ℕ = flat_map (λ (sized : SizedCell). input_text sized.width sized.cell) cells in
     let outputs : List ℕ = flat_map (output_text cells outs) outlets in
     last ∙ ap (λ l. l ++ codes "\n);\n") (third ∙ ap (λ l. l ++ outputs) (second ∙ ap (λ l. l ++ inputs) first)) ∙ shape inputs outputs
   where
-    shape : (a b : List ℕ) → ((((old ++ codes "module aeth (\n  input wire clk") ++ a) ++ b) ++ codes "\n);\n") ≡ old
-        ++ (codes "module aeth (\n  input wire clk" ++ (a ++ (b ++ codes "\n);\n")))
+    shape : (a b : List ℕ) → ((((old ++ (codes "module " ++ (title ++ codes " (\n  input wire clk"))) ++ a) ++ b) ++ codes "\n);\n") ≡ old
+        ++ (codes "module " ++ (title ++ (codes " (\n  input wire clk" ++ (a ++ (b ++ codes "\n);\n")))))
     shape a b = simp append_assoc
-header_steps (Err x) cells outlets outs old one two three new first second third last = tt
+header_steps (Err x) title cells outlets outs old one two three new first second third last = tt
 
 pub report_steps : {E : Type 0} (r : Result (Unit {0}) E) (t : Report) (old a b c d e f g new : List ℕ) →
     a ≡ old ++ codes "// aeth 1\n" → b ≡ a ++ number_line (codes "slowdown") t.slowdown → c ≡ b ++ number_line (codes "latency") t.latency →
@@ -131,26 +132,26 @@ report_steps (Ok u) t old a b c d e f g new ha hb hc hd he hf hg last =
     shape s l m k en ins outs = simp append_assoc
 report_steps (Err x) t old a b c d e f g new ha hb hc hd he hf hg last = tt
 
-pub text_steps : (lines : ℕ → ℕ) (report : List ℕ) (notes : List NoteTree) (cells : List SizedCell) (outlets : List Outlet) (outs : ℕ)
+pub text_steps : (lines : ℕ → ℕ) (title behind report : List ℕ) (notes : List NoteTree) (cells : List SizedCell) (outlets : List Outlet) (outs : ℕ)
     (a b c d e f g new : List ℕ) → lines ≡ lines_of notes (length cells) →
-    a ≡ [] → b ≡ a ++ report → c ≡ b
-    ++ codes "// verilator lint_off CMPCONST\n// verilator lint_off DECLFILENAME\n// verilator lint_off UNSIGNED\n// verilator lint_off UNUSEDSIGNAL\n"
-    → d ≡ c ++ header_text cells outlets outs →
+    a ≡ [] → b ≡ a ++ report → c ≡ b ++ (behind
+    ++ codes "// verilator lint_off CMPCONST\n// verilator lint_off DECLFILENAME\n// verilator lint_off UNSIGNED\n// verilator lint_off UNUSEDSIGNAL\n")
+    → d ≡ c ++ header_text title cells outlets outs →
     e ≡ d ++ noted (λ net (sized : SizedCell). declaration_text lines cells net sized.width sized.cell) cells 0 notes → f ≡ e
     ++ flat_map (assignment_text lines cells outs) outlets →
     g ≡ f ++ each_numbered (λ net (sized : SizedCell). edge_text lines cells net sized.cell) 0 cells → new ≡ g ++ codes "endmodule\n"
-    → new ≡ whole_text report notes cells outlets outs
-text_steps lines report notes cells outlets outs a b c d e f g new told ha hb hc hd he hf hg last =
+    → new ≡ named_text title behind report notes cells outlets outs
+text_steps lines title behind report notes cells outlets outs a b c d e f g new told ha hb hc hd he hf hg last =
     let quiet : List ℕ = codes
     "// verilator lint_off CMPCONST\n// verilator lint_off DECLFILENAME\n// verilator lint_off UNSIGNED\n// verilator lint_off UNUSEDSIGNAL\n" in
-    let head : List ℕ = header_text cells outlets outs in
+    let head : List ℕ = header_text title cells outlets outs in
     let declared : List ℕ = noted (λ net (sized : SizedCell). declaration_text lines cells net sized.width sized.cell) cells 0 notes in
     let assigned : List ℕ = flat_map (assignment_text lines cells outs) outlets in
     let edges : List ℕ = each_numbered (λ net (sized : SizedCell). edge_text lines cells net sized.cell) 0 cells in
     last ∙ ap (λ l. l ++ codes "endmodule\n") (hg ∙ ap (λ l. l ++ edges) (hf ∙ ap (λ l. l ++ assigned) (he ∙ ap (λ l. l ++ declared)
-    (hd ∙ ap (λ l. l ++ head) (hc ∙ ap (λ l. l ++ quiet) (hb ∙ ap (λ l. l ++ report) ha))))))
-    ∙ shape report quiet head declared assigned edges (codes "endmodule\n")
-    ∙ ap (λ l. report ++ (quiet ++ module_text l notes cells outlets outs)) told
+    (hd ∙ ap (λ l. l ++ head) (hc ∙ ap (λ l. l ++ (behind ++ quiet)) (hb ∙ ap (λ l. l ++ report) ha))))))
+    ∙ shape report behind quiet head declared assigned edges (codes "endmodule\n")
+    ∙ ap (λ l. report ++ (behind ++ (quiet ++ module_text title l notes cells outlets outs))) told
   where
-    shape : (a b c d e f g : List ℕ) → (((((a ++ b) ++ c) ++ d) ++ e) ++ f) ++ g ≡ a ++ (b ++ (c ++ (d ++ (e ++ (f ++ g)))))
-    shape a b c d e f g = simp append_assoc
+    shape : (a b c d e f g h : List ℕ) → (((((a ++ (b ++ c)) ++ d) ++ e) ++ f) ++ g) ++ h ≡ a ++ (b ++ (c ++ (d ++ (e ++ (f ++ (g ++ h))))))
+    shape a b c d e f g h = simp append_assoc

@@ -123,10 +123,10 @@ abbrev pub output_text : List SizedCell → (outs : ℕ) → Outlet → List ℕ
 output_text cells outs outlet =
     codes ",\n  output wire " ++ (range_text (width_of cells outlet.net.0) ++ port_name outs outlet.port)
 
-abbrev pub header_text : List SizedCell → List Outlet → (outs : ℕ) → List ℕ
-header_text cells outlets outs = codes "module aeth (\n  input wire clk"
+abbrev pub header_text : (title : List ℕ) → List SizedCell → List Outlet → (outs : ℕ) → List ℕ
+header_text title cells outlets outs = codes "module " ++ (title ++ (codes " (\n  input wire clk"
     ++ (flat_map (λ (sized : SizedCell). input_text sized.width sized.cell) cells
-    ++ (flat_map (output_text cells outs) outlets ++ codes "\n);\n"))
+    ++ (flat_map (output_text cells outs) outlets ++ codes "\n);\n"))))
 
 -- what drives an output
 abbrev pub assignment_text : (lines : ℕ → ℕ) → List SizedCell → (outs : ℕ) → Outlet → List ℕ
@@ -149,18 +149,27 @@ edge_text lines cells net (Mem depth at next enable) =
     memory_edge (number_name lines net) (net_name lines cells at.0) (net_name lines cells next.0) (net_name lines cells enable.0)
 edge_text lines cells net _ = []
 
--- the module
-abbrev pub module_text : (lines : ℕ → ℕ) → List NoteTree → List SizedCell → List Outlet → (outs : ℕ) → List ℕ
-module_text lines notes cells outlets outs =
-    header_text cells outlets outs
+-- the module, under a name
+abbrev pub module_text : (title : List ℕ) → (lines : ℕ → ℕ) → List NoteTree → List SizedCell → List Outlet → (outs : ℕ) → List ℕ
+module_text title lines notes cells outlets outs =
+    header_text title cells outlets outs
     ++ (noted (λ net (sized : SizedCell). declaration_text lines cells net sized.width sized.cell) cells 0 notes
     ++ (flat_map (assignment_text lines cells outs) outlets
     ++ (each_numbered (λ net (sized : SizedCell). edge_text lines cells net sized.cell) 0 cells ++ codes "endmodule\n")))
 
--- the whole text: the report lines, lines that keep Verilator from naming the file, constant comparisons and bits that nothing reads, and the module
+-- the report lines, what stands behind them, lines that keep Verilator from naming the file, constant comparisons and bits that nothing reads, and the
+-- module
+abbrev pub named_text : (title behind report : List ℕ) → List NoteTree → List SizedCell → List Outlet → (outs : ℕ) → List ℕ
+named_text title behind report notes cells outlets outs =
+    report ++ (behind ++ (codes "// verilator lint_off CMPCONST\n// verilator lint_off DECLFILENAME\n// verilator lint_off UNSIGNED\n// verilator lint_off UNUSEDSIGNAL\n" ++ module_text title (lines_of notes (length cells)) notes cells outlets outs))
+
+-- the whole text of the module of a program
 abbrev pub whole_text : (report : List ℕ) → List NoteTree → List SizedCell → List Outlet → (outs : ℕ) → List ℕ
-whole_text report notes cells outlets outs =
-    report ++ (codes "// verilator lint_off CMPCONST\n// verilator lint_off DECLFILENAME\n// verilator lint_off UNSIGNED\n// verilator lint_off UNUSEDSIGNAL\n" ++ module_text (lines_of notes (length cells)) notes cells outlets outs)
+whole_text report notes cells outlets outs = named_text (codes "aeth") [] report notes cells outlets outs
+
+-- that of a circuit between two channels, under a name: a line more behind the report, and no notes
+abbrev pub stream_listing : (title report : List ℕ) → List SizedCell → List Outlet → (outs : ℕ) → List ℕ
+stream_listing title report cells outlets outs = named_text title (codes "// stream\n") report [] cells outlets outs
 
 -- numbers of ports that the type of ports has room for
 abbrev pub PortFits : Port → Type 0

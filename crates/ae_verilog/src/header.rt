@@ -12,15 +12,16 @@ use std::alloc::AllocError;
 // The module's name and its ports: the clock, the inputs, the outputs.
 pub fn write_header(
     out: &mut String,
+    name: &str,
     cells: &[SizedCell],
     outlets: &[Outlet],
     outs: usize,
 ) -> Result<(), AllocError>
-    ensures text { OnOk result (string_bytes out.new ≡ string_bytes out.old ++ header_text cells.now outlets.now outs) }
+    ensures text { OnOk result (string_bytes out.new ≡ string_bytes out.old ++ header_text name.now cells.now outlets.now outs) }
     ensures inputs { OnOk result (All (λ sized. CellPortFits sized.cell) cells.now) }
     ensures outputs { OnOk result (All (λ outlet. PortFits outlet.port) outlets.now) }
 {
-    write!(out, "module aeth (\n  input wire clk")?;
+    write!(out, "module {name} (\n  input wire clk")?;
     write_inputs(out, cells)?;
     write_outputs(out, cells, outlets, outs)?;
     write!(out, "\n);\n")

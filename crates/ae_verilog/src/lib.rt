@@ -9,10 +9,10 @@ mod names;
 mod notes;
 mod report;
 
-ghost use Rattle.std.specs.Prelude.{◌≡◌, ◌<◌, ◌^◌, All, length, map, IfOk, string_bytes};
+ghost use Rattle.std.specs.Prelude.{◌≡◌, ◌<◌, ◌^◌, [], All, length, map, IfOk, string_bytes};
 ghost use Rattle.ae_verilog.specs.Notes.{ArePrinted, note_tree};
 ghost use Rattle.ae_verilog.specs.ReportLines.{report_tree, report_lines};
-ghost use Rattle.ae_verilog.specs.Text.{whole_text, PortFits, CellPortFits};
+ghost use Rattle.ae_verilog.specs.Text.{named_text, stream_listing, whole_text, PortFits, CellPortFits};
 ghost use Rattle.ae_verilog.specs.Written.{HaveNumbers, IsListable};
 
 use ae_netlist::Netlist;
@@ -39,18 +39,38 @@ pub fn write_module(
 {
     nl.formed();
     let outs = report.outs.as_slice().len();
-    write_text(alloc, nl, outs, report, notes)
+    write_text(alloc, nl, outs, report, notes, "", "aeth")
 }
 
-// The same, where there are so many results.
+/// The text of the module, under a name, that a circuit between two channels is (docs/STREAMS.md), behind the report lines of the
+/// circuit and the line `// stream`: the listing of the netlist without notes, byte by byte, of which
+/// `ae_spelled::streams_spell` tells what Verilog module it spells. The error comes where there is no memory for the text.
+pub fn write_stream(
+    alloc: Global,
+    nl: &Netlist,
+    report: &Report,
+    name: &str,
+) -> Result<String, AllocError>
+    ensures text { IfOk result (λ text. string_bytes text ≡ stream_listing name.now (report_lines (report_tree report.now)) nl.now.cells nl.now.outlets (length report.now.outs.items)) }
+    ensures listable { IfOk result (λ text. IsListable nl.now.cells nl.now.outlets) }
+    ensures numbers { IfOk result (λ text. HaveNumbers (report_tree report.now) []) }
+{
+    nl.formed();
+    let outs = report.outs.as_slice().len();
+    write_text(alloc, nl, outs, report, &[], "// stream\n", name)
+}
+
+// The text of a netlist with so many results, under a name, with what stands behind the report lines.
 fn write_text(
     alloc: Global,
     nl: &Netlist,
     outs: usize,
     report: &Report,
     notes: &[Note],
+    behind: &str,
+    name: &str,
 ) -> Result<String, AllocError>
-    ensures text { IfOk result (λ text. string_bytes text ≡ whole_text (report_lines (report_tree report.now)) (map note_tree notes.now) nl.now.cells nl.now.outlets outs) }
+    ensures text { IfOk result (λ text. string_bytes text ≡ named_text name.now behind.now (report_lines (report_tree report.now)) (map note_tree notes.now) nl.now.cells nl.now.outlets outs) }
     ensures few { length nl.now.cells < 2 ^ 32 }
     ensures inputs { IfOk result (λ text. All (λ sized. CellPortFits sized.cell) nl.now.cells) }
     ensures outputs { IfOk result (λ text. All (λ outlet. PortFits outlet.port) nl.now.outlets) }
@@ -67,9 +87,9 @@ fn write_text(
     report::write_report(&mut out, report)?;
     write!(
         out,
-        "// verilator lint_off CMPCONST\n// verilator lint_off DECLFILENAME\n// verilator lint_off UNSIGNED\n// verilator lint_off UNUSEDSIGNAL\n"
+        "{behind}// verilator lint_off CMPCONST\n// verilator lint_off DECLFILENAME\n// verilator lint_off UNSIGNED\n// verilator lint_off UNUSEDSIGNAL\n"
     )?;
-    header::write_header(&mut out, cells, outlets, outs)?;
+    header::write_header(&mut out, name, cells, outlets, outs)?;
     cells::write_cells(&mut out, &names, notes)?;
     clocked::write_outlets(&mut out, &names, outlets, outs)?;
     clocked::write_edges(&mut out, &names)?;

@@ -1,17 +1,5 @@
-use Rattle.std.proofs.Common.{Result, Ok, Err, IfOk, All, List, ◌<◌, ◌^◌, length}
-use Rattle.ae_netlist.specs.declared.cell.SizedCell.{SizedCell}
-use Rattle.ae_netlist.specs.declared.cell.Outlet.{Outlet}
-use Rattle.ae_netlist.specs.Circuit.{IsFormed, HaveNets}
-use Rattle.ae_verilog.specs.Text.{PortFits, CellPortFits}
-use Rattle.ae_verilog.specs.Written.{IsListable}
+use Rattle.ae_verilog.proofs.Listable.{returns_listable}
 use Rattle.ae_verilog.proofs.write_module.Goals as goal
-
-returns_listable : {A E : Type 0} (r : Result A E) (cells : List SizedCell) (outlets : List Outlet) → IsFormed cells → HaveNets cells outlets
-    → length cells < 2 ^ 32 →
-    IfOk r (λ text. All (λ (sized : SizedCell). CellPortFits sized.cell) cells) → IfOk r (λ text. All (λ (outlet : Outlet). PortFits outlet.port) outlets)
-    → IfOk r (λ text. IsListable cells outlets)
-returns_listable (Ok text) cells outlets formed shown few ins outs = record { formed = formed; shown = shown; few = few; inputs = ins; outputs = outs }
-returns_listable (Err x) cells outlets formed shown few ins outs = tt
 
 pub returns-clause-text : goal.returns-clause-text
 returns-clause-text c = rw c.as_slice-outs.ensures.value at c.write_text.ensures.text

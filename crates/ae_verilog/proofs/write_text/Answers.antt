@@ -10,7 +10,8 @@ returns-clause-text c =
     let outlets = c.outlets-outlets.result.now in
     let long = c.len.ensures ∙ ap length (sym c.cells-cells.ensures) in
     rw (c.cells-cells.ensures, c.outlets-outlets.ensures) at
-    (text_steps (table_line c.as_slice.result.now) _ (map note_tree c.args.notes.now) cells outlets c.args.outs _ _ _ _ _ _ _ _
+    (text_steps (table_line c.as_slice.result.now) c.args.name.now c.args.behind.now _
+    (map note_tree c.args.notes.now) cells outlets c.args.outs _ _ _ _ _ _ _ _
     (rw long at (ap table_line c.as_slice.ensures.value ∙ c.in_ok-lines.ensures)) c.new-out.ensures.bytes c.in_ok-write_report.ensures.text
     c.in_ok-write.ensures.bytes c.in_ok-write_header.ensures.text
     c.in_ok-write_cells.ensures.text c.in_ok-write_outlets.ensures c.in_ok-write_edges.ensures c.in_ok-write-2.ensures.bytes)

@@ -1,13 +1,11 @@
 -- The listing of the circuit between two channels, with its name.
 use Rattle.std.proofs.lemmas.Result.{err_from_is_err_and}
-use Rattle.std.proofs.Common.{List, ℕ, inr, map, subst}
+use Rattle.std.proofs.Common.{inr, map}
 use Rattle.std.specs.Prelude.{string_bytes}
 use Rattle.ae_seq.specs.ProgramTree.{program_tree}
 use Rattle.ae_rewrite.specs.StProgramTree.{st_func_trees}
 use Rattle.ae_verilog.specs.Notes.{note_tree}
 use Rattle.ae_verilog.specs.ReportLines.{report_tree}
-use Rattle.ae_channel.specs.Listings.{head_words}
-use Rattle.ae_channel.specs.Words.{AreReplaced}
 use Rattle.ae_channel.proofs.Between.{is_stream_text, report_short, stream_large, stream_ports, stream_whole}
 use Rattle.ae_channel.proofs.texts.stream_text.Goals as goal
 
@@ -33,21 +31,18 @@ listing-requires-clause-whole c =
 pub returns-clause-text : goal.returns-clause-text
 returns-clause-text c =
     let d = c.args.compiled.now in
-    let name : List ℕ = c.args.name.now in
-    let made : List ℕ = string_bytes c.in_ok-made.made in
     is_stream_text (program_tree d.costed.program) d.costed.slowdown (st_func_trees d.costed.schedule) d.netlist c.in_ok-netlist.netlist (report_tree d.report)
-    (map note_tree d.notes) name made (string_bytes c.in_ok-text.text)
-    c.report-told.ensures.known.compiled c.in_ok-netlist.ensures.stream c.in_ok-netlist.ensures.fed (rw c.report-told.ensures.is at c.in_ok-made.ensures.listed)
-    (subst (λ (x : List ℕ). AreReplaced (head_words name) x (string_bytes c.in_ok-text.text)) c.as_str.ensures.value c.in_ok-text.ensures)
+    (map note_tree d.notes) c.args.name.now (string_bytes c.in_ok-text.text)
+    c.report-told.ensures.known.compiled c.in_ok-netlist.ensures.stream c.in_ok-netlist.ensures.fed (rw c.report-told.ensures.is at c.in_ok-text.ensures.listed)
 
 pub returns-in_err-netlist-clause-full : goal.returns-in_err-netlist-clause-full
 returns-in_err-netlist-clause-full c =
     let p = err_from_is_err_and c.from_residual.result c.from_residual.ensures.1 in
     rw (p.1, p.2) c.in_err-netlist.ensures.full
 
-pub returns-in_err-made-clause-full : goal.returns-in_err-made-clause-full
-returns-in_err-made-clause-full c =
+pub returns-in_err-text-clause-full : goal.returns-in_err-text-clause-full
+returns-in_err-text-clause-full c =
     let d = c.args.compiled.now in
-    let p = err_from_is_err_and c.from_residual-in_err-made.result c.from_residual-in_err-made.ensures.1 in
+    let p = err_from_is_err_and c.from_residual-in_err-text.result c.from_residual-in_err-text.ensures.1 in
     rw (p.1, p.2) (λ e. inr (inr (stream_large d.netlist c.in_ok-netlist.netlist (report_tree d.report) c.in_ok-netlist.ensures.stream
-    (c.in_err-made.ensures.full e))))
+    (c.in_err-text.ensures.full e))))

@@ -1,9 +1,11 @@
 use Rattle.ae_verilog.specs.Notes.{lines_of}
 use Rattle.ae_verilog.specs.ReportLines.{report_lines}
-use Rattle.std.proofs.Common.{length, refl}
+use Rattle.std.proofs.Common.{[], length, refl}
+use Rattle.std.specs.Prelude.{codes}
+use Rattle.ae_spelled.proofs.Lines.{aeth_named, no_text}
 use Rattle.ae_spelled.proofs.Comments.{report_comments}
 use Rattle.ae_spelled.proofs.StarLaw.{one_star_each}
-use Rattle.ae_spelled.proofs.Whole.{listing_spelled, listing_clean}
+use Rattle.ae_spelled.proofs.Whole.{listing_spelled, named_clean}
 use Rattle.ae_spelled.proofs.laws.listings_spell.Goals as goal
 
 pub returns-clause-spells : goal.returns-clause-spells
@@ -16,4 +18,5 @@ pub returns-clause-reports : goal.returns-clause-reports
 returns-clause-reports c r notes cells outlets outs = (_, refl)
 
 pub returns-clause-clean : goal.returns-clause-clean
-returns-clause-clean c r notes cells outlets outs printed ok = listing_clean (report_lines r) notes cells outlets outs (report_comments r) printed ok
+returns-clause-clean c r notes cells outlets outs printed ok =
+    named_clean (codes "aeth") [] (report_lines r) notes cells outlets outs aeth_named no_text (report_comments r) printed ok
