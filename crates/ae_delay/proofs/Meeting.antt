@@ -1,5 +1,5 @@
--- When all arguments of a node have come: later items change nothing of it.
-use Rattle.std.proofs.Common.{ℕ, zero, suc, ◌≡◌, ◌+◌, ◌<◌, ◌≤◌, max, fold, List, [], ◌∷◌, ◌++◌, length, length-append, map, take, Some, slice_get, get_or, arith, refl, sym, ap, ◌∙◌}
+-- When all arguments of a node have come: later items change nothing of it. Behind the last node stand the results.
+use Rattle.std.proofs.Common.{ℕ, suc, ◌≡◌, ◌+◌, ◌<◌, ◌≤◌, max, fold, List, [], ◌∷◌, ◌++◌, length, length-append, take, Some, slice_get, get_or, arith, refl, sym, ap, ◌∙◌}
 use Rattle.std.proofs.lemmas.List.{get_or_append_left, length-map, length-take-le, map-append, take_all}
 use Rattle.ae_moves.proofs.Lists.{take_push}
 use Rattle.ae_netlist.proofs.Gets.{get_from_take, get_take_within}
@@ -13,7 +13,7 @@ use Rattle.ae_delay.specs.declared.weighing.Progress.{Progress}
 use Rattle.ae_delay.specs.declared.weighing.FuncTiming.{FuncTiming}
 use Rattle.ae_delay.specs.declared.weighing.Weighed.{Weighed}
 use Rattle.ae_delay.specs.declared.weighing.Weighed.TheVariants.{Within, Over}
-use Rattle.ae_delay.specs.Costs.{latest, meets_of}
+use Rattle.ae_delay.specs.Costs.{func_meets, latest, meets_of}
 use Rattle.ae_delay.specs.Weighing.{AllBelow, HaveMet, IsProgress}
 use Rattle.ae_delay.proofs.Instances.{arrivals_long, timings_to}
 
@@ -63,13 +63,15 @@ all_arrived costs k s i limit p h le g j m low f r a found =
       length-take-le j s.nodes (omega (arith, low, le)),
     )
 
--- after the last node
+-- after the last node, with the results
 pub met_all : (s : StFunc) (items : List StNode) (i : ℕ) (p : Progress) (w : Weighed) → items ≡ s.nodes.items → length items ≤ i
     → p.meets.items ≡ meets_of p.arrivals.items (take i (st_func_tree s).nodes)
-    → ((t : FuncTiming) → w ≡ Within t → (t.arrivals ≡ p.arrivals) × (t.meets ≡ p.meets)) → HaveMet (st_func_tree s) w
+    → ((t : FuncTiming) → w ≡ Within t
+    → (t.arrivals ≡ p.arrivals) × (t.meets.items ≡ p.meets.items ++ latest p.arrivals.items s.results.items ∷ [])) → HaveMet (st_func_tree s) w
 met_all s items i p (Within t) e l met h =
     let whole : take i (st_func_tree s).nodes ≡ (st_func_tree s).nodes = take_all i (st_func_tree s).nodes
     (omega (arith, l, length-map s.nodes.items st_node_tree, ap length e)) in
     let end = h t refl in
-    ap (λ v. v.items) end.1 ∙ (met ∙ (ap (meets_of p.arrivals.items) whole ∙ ap (λ v. meets_of v.items (st_func_tree s).nodes) (sym end.0)))
+    end.1 ∙ (ap (λ ms. ms ++ latest p.arrivals.items s.results.items ∷ []) (met ∙ ap (meets_of p.arrivals.items) whole)
+    ∙ ap (λ v. func_meets v.items (st_func_tree s)) (sym end.0))
 met_all s items i p (Over line sum) e l met h = tt

@@ -11,7 +11,7 @@ use Rattle.ae_rewrite.specs.Sound.{IsSound, IsSoundFunc, item_layouts}
 use Rattle.ae_rewrite.proofs.Grown.{get_in_front, get_of_front, get_last}
 use Rattle.ae_delay.specs.declared.own.OwnCosts.{OwnCosts}
 use Rattle.ae_delay.specs.declared.weighing.FuncTiming.{FuncTiming}
-use Rattle.ae_delay.specs.Costs.{LineLoad, NodeTiming, all_costs, first_over, func_costs, func_costs_by, line_loads, load_at_line, meets_of, node_timings, result_uses, slack_load, too_large}
+use Rattle.ae_delay.specs.Costs.{LineLoad, NodeTiming, all_costs, first_over, func_costs, func_costs_by, line_loads, func_meets, load_at_line, node_timings, result_uses, slack_load, too_large}
 use Rattle.ae_delay.specs.Bounds.{IsBounded}
 use Rattle.ae_delay.specs.Weighing.{AreKnown, IsKnown, IsOverAt, IsTimed}
 use Rattle.ae_delay.specs.Timings.{AreTimes, Times, item_arrivals, item_meets}
@@ -92,8 +92,8 @@ pub more_within : (known : List OwnCosts) (s : StFuncTree) (t : FuncTiming) (lim
 more_within known s t limit old new h e = record { own = t.arrivals.items; added = e; is = λ l. h.arrivals }
 
 pub met_within : (known : List OwnCosts) (s : StFuncTree) (t : FuncTiming) (limit : ℕ) (old new : List (List ℕ)) → IsTimed s (node_timings known s) limit t
-    → t.meets.items ≡ meets_of t.arrivals.items s.nodes → new ≡ old ++ t.meets.items ∷ [] → HaveMoreMet known s old new
-met_within known s t limit old new h met e = record { own = t.meets.items; added = e; is = λ l. met ∙ ap (λ xs. meets_of xs s.nodes) h.arrivals }
+    → t.meets.items ≡ func_meets t.arrivals.items s → new ≡ old ++ t.meets.items ∷ [] → HaveMoreMet known s old new
+met_within known s t limit old new h met e = record { own = t.meets.items; added = e; is = λ l. met ∙ ap (λ xs. func_meets xs s) h.arrivals }
 
 pub more_over : (told : List OwnCosts → StFuncTree → List ℕ) (known : List OwnCosts) (s : StFuncTree) (own : List ℕ) (old new : List (List ℕ))
     → 1000000000 ≤ (func_costs known s).load → new ≡ old ++ own ∷ []
@@ -152,7 +152,7 @@ told_next told p k s old new f h more = told_more told (st_func_trees p) k (st_f
 pub end_times : (p : List StFunc) (last : ℕ) (s : StFunc) (t : FuncTiming) (limit : ℕ) (old met : List (List ℕ)) (v : Times) → IsSound (st_func_trees p)
     → limit < 1000000000 → last ≡ length p - 1 → slice_get p last ≡ Some s
     → IsTimed (st_func_tree s) (node_timings (all_costs (take last (st_func_trees p))) (st_func_tree s)) limit t
-    → t.meets.items ≡ meets_of t.arrivals.items (st_func_tree s).nodes → AreFirst last (st_func_trees p) old → AreToldFirst item_meets last
+    → t.meets.items ≡ func_meets t.arrivals.items (st_func_tree s) → AreFirst last (st_func_trees p) old → AreToldFirst item_meets last
     (st_func_trees p) met
     → v.costs ≡ t.costs → v.arrivals ≡ old ++ t.arrivals.items ∷ [] → v.meets ≡ met ++ t.meets.items ∷ [] → v.nodes ≡ t.nodes.items → AreTimes
     (st_func_trees p) v

@@ -12,7 +12,7 @@ pub record HasOneMore (told : (known : List OwnCosts) → StFuncTree → List �
   pub added : new ≡ old ++ own ∷ []
   pub is : (func_costs known s).load < 1000000000 → own ≡ told known s
 
--- its arrivals, and when the arguments of its nodes have come
+-- its arrivals, and when the arguments of its nodes and its results have come
 abbrev pub HasMore : (known : List OwnCosts) → StFuncTree → (old new : List (List ℕ)) → Type 0
 HasMore known s old new = HasOneMore item_arrivals known s old new
 

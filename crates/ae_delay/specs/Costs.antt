@@ -24,6 +24,10 @@ latest arrivals items = greatest (λ a. get_or arrivals a 0) items
 abbrev pub meets_of : (arrivals : List ℕ) → List StNodeTree → List ℕ
 meets_of arrivals ns = map (λ (n : StNodeTree). latest arrivals n.args) ns
 
+-- those of the nodes of an instance, and behind them when all its results have come
+abbrev pub func_meets : (arrivals : List ℕ) → StFuncTree → List ℕ
+func_meets arrivals s = meets_of arrivals s.nodes ++ latest arrivals s.results ∷ []
+
 -- items that are used together in clock `start`
 abbrev pub uses_at : (arrivals : List ℕ) (start : ℕ) → (items : List ℕ) → List Use
 uses_at arrivals start items = map (λ a. record { item = a; slack = start - get_or arrivals a 0 }) items

@@ -1,10 +1,10 @@
--- The timing of a program: its costs, the arrivals of its items, when all arguments of each node have come, and what each
--- node of the program function costs.
+-- The timing of a program: its costs, the arrivals of its items, when all arguments of each node and all results have come,
+-- and what each node of the program function costs.
 use Rattle.std.specs.Prelude.{◌≡◌, ℕ, ◌-◌, List, length, map, take, Some, slice_get}
 use Rattle.ae_rewrite.specs.StProgramTree.{StFuncTree}
 use Rattle.ae_delay.specs.declared.own.OwnCosts.{OwnCosts}
 use Rattle.ae_delay.specs.declared.weighing.Cost.{Cost}
-use Rattle.ae_delay.specs.Costs.{all_costs, arrivals_of, func_costs, meets_of, node_timings}
+use Rattle.ae_delay.specs.Costs.{all_costs, arrivals_of, func_costs, func_meets, node_timings}
 use Rattle.ae_delay.specs.Weighing.{cost_of}
 
 -- what is seen of a timing
@@ -18,9 +18,9 @@ pub record Times : Type 0 where
 abbrev pub item_arrivals : (known : List OwnCosts) → StFuncTree → List ℕ
 item_arrivals known s = arrivals_of s.ins (node_timings known s)
 
--- when all arguments of each of its nodes have come
+-- when all arguments of each of its nodes have come, and behind those when all its results have
 abbrev pub item_meets : (known : List OwnCosts) → StFuncTree → List ℕ
-item_meets known s = meets_of (item_arrivals known s) s.nodes
+item_meets known s = func_meets (item_arrivals known s) s
 
 -- the arrivals of each instance
 abbrev pub AreArrivals : List StFuncTree → List (List ℕ) → Type 0

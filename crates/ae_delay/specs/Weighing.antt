@@ -13,7 +13,7 @@ use Rattle.ae_delay.specs.declared.weighing.FuncTiming.{FuncTiming}
 use Rattle.ae_delay.specs.declared.weighing.Weighed.{Weighed}
 use Rattle.ae_delay.specs.declared.weighing.Weighed.TheVariants.{Within, Over}
 use Rattle.ae_delay.specs.Bounds.{IsBounded}
-use Rattle.ae_delay.specs.Costs.{Use, LineLoad, NodeTiming, arrivals_of, chain_of, func_costs_by, line_loads, first_over, meets_of, slack_load}
+use Rattle.ae_delay.specs.Costs.{Use, LineLoad, NodeTiming, arrivals_of, chain_of, func_costs_by, line_loads, first_over, func_meets, slack_load}
 
 -- costs with a load below 1,000,000,000, or a load that is not
 abbrev pub IsKnown : Option OwnCosts → OwnCosts → Type 0
@@ -98,7 +98,7 @@ pub record IsTimed (s : StFuncTree) (ts : List NodeTiming) (limit : ℕ) (t : Fu
   pub nodes : t.nodes.items ≡ map cost_of ts
 
 abbrev pub HaveMet : StFuncTree → Weighed → Type 0
-HaveMet s (Within t) = t.meets.items ≡ meets_of t.arrivals.items s.nodes
+HaveMet s (Within t) = t.meets.items ≡ func_meets t.arrivals.items s
 HaveMet s (Over line sum) = Unit {0}
 
 abbrev pub IsWeighed : StFuncTree → List NodeTiming → (limit : ℕ) → Weighed → Type 0

@@ -11,5 +11,5 @@ mod weighing;
 pub use known::KnownMoves;
 pub use moves::origins;
 pub use timing::{DelayFault, Timing, arrivals, arrivals_reusing, arrivals_within};
-pub use uses::{latest, layout};
+pub use uses::layout;
 pub use weighing::Cost;

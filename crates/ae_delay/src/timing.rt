@@ -50,8 +50,8 @@ impl<T: Drop> From<AllocFailed<T>> for DelayFault {
     }
 }
 
-/// When the items of a program's instances arrive and when all arguments of their nodes have come, in clocks after their
-/// blocks, and what the program function costs.
+/// When the items of a program's instances arrive and when all arguments of their nodes and all their results have come,
+/// in clocks after their blocks, and what the program function costs.
 #[derive(Drop)]
 pub struct Timing {
     costs: OwnCosts,
@@ -120,8 +120,8 @@ impl Timing {
         }
     }
 
-    /// When all arguments of each node of an instance have come, in clocks after the instance's block; None exactly where
-    /// there is no such instance.
+    /// When all arguments of each node of an instance have come and, behind those, when all its results have, in clocks after
+    /// the instance's block; None exactly where there is no such instance.
     pub fn meets(&self, instance: u32) -> Option<&[u32]>
         ensures { option_map (λ r. r.now) result ≡ slice_get self.now.meets instance }
     {
@@ -150,8 +150,8 @@ fn instance(p: &StProgram, k: u32) -> &StFunc
     }
 }
 
-// The costs of one more instance, the arrivals of its items, and when the arguments of its nodes have come; none where it
-// is heavy.
+// The costs of one more instance, the arrivals of its items, and when the arguments of its nodes and its results have come;
+// none where it is heavy.
 fn weigh_next(
     alloc: Global,
     moves: &mut KnownMoves,

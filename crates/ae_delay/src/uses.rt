@@ -37,7 +37,7 @@ pub(crate) fn item_columns(s: &StFunc, item: usize) -> u64
 
 /// When the latest of these items of an instance arrives, in clocks after the instance's block, by the arrivals of its
 /// items; 0 of none.
-pub fn latest(arrivals: &[u32], items: &[u32]) -> u32
+pub(crate) fn latest(arrivals: &[u32], items: &[u32]) -> u32
     requires { AllBelow items.now (length arrivals.now) }
     ensures { result ≡ latest arrivals.now items.now }
 {

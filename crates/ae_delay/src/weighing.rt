@@ -72,7 +72,8 @@ fn body_node(known: &[Option<OwnCosts>], k: u32, copies: u32) -> Option<OwnCosts
     }
 }
 
-/// An instance: its costs, the arrivals of its items, when all arguments of each node have come, and what each node costs.
+/// An instance: its costs, the arrivals of its items, when all arguments of each node have come and, as the last, all
+/// results, and what each node costs.
 #[derive(Drop)]
 pub(crate) struct FuncTiming {
     pub costs: OwnCosts,
@@ -185,19 +186,19 @@ fn chain_mems(s: &StFunc, chains: &[u32]) -> u64
 }
 
 // The costs of an instance, after its last node.
-fn finish(s: &StFunc, progress: Progress, limit: u64) -> Weighed
+fn finish(s: &StFunc, progress: Progress, limit: u64) -> Result<Weighed, AllocError>
     requires items { AreItems s.now.budget (item_layouts (st_func_tree s.now)) }
     requires results { AllBelow s.now.results.items (length (item_layouts (st_func_tree s.now))) }
     requires few { length s.now.results.items ≤ 8 }
     requires limit { limit < 1000000000 }
     requires progress { HasProgress (st_func_tree s.now) limit progress }
     requires whole { length progress.arrivals.items ≡ length (item_layouts (st_func_tree s.now)) }
-    ensures meets { (t : FuncTimes) → result ≡ Weighed.Within t → (t.arrivals ≡ progress.arrivals) × (t.meets ≡ progress.meets) }
-    ensures weighed { (ts : List Timed) → IsProgress (st_func_tree s.now) ts limit progress → IsWeighed (st_func_tree s.now) ts limit result }
+    ensures meets { IfOk result (λ w. (t : FuncTimes) → w ≡ Weighed.Within t → (t.arrivals ≡ progress.arrivals) × (t.meets.items ≡ progress.meets.items ++ latest progress.arrivals.items s.now.results.items ∷ [])) }
+    ensures weighed { IfOk result (λ w. (ts : List Timed) → IsProgress (st_func_tree s.now) ts limit progress → IsWeighed (st_func_tree s.now) ts limit w) }
 {
     let Progress {
         arrivals,
-        meets,
+        mut meets,
         mut chains,
         costs,
         load,
@@ -207,14 +208,15 @@ fn finish(s: &StFunc, progress: Progress, limit: u64) -> Weighed
     let latency = latest(&arrivals, &s.results);
     let sum = load + slack_load(s, &arrivals, latency, &s.results);
     if sum > limit {
-        return Weighed::Over {
+        return Ok(Weighed::Over {
             line: s.end_line,
             load: sum.min(1_000_000_000),
-        };
+        });
     }
     deepen(&mut chains, &arrivals, latency, &s.results);
     let mems = mems + chain_mems(s, &chains);
-    Weighed::Within(FuncTiming {
+    meets.push(latency)?;
+    Ok(Weighed::Within(FuncTiming {
         costs: OwnCosts {
             latency: u64::from(latency),
             load: sum,
@@ -224,7 +226,7 @@ fn finish(s: &StFunc, progress: Progress, limit: u64) -> Weighed
         arrivals,
         meets,
         nodes: costs,
-    })
+    }))
 }
 
 // Before the first node: the parameters arrive in clock 0.
@@ -269,5 +271,5 @@ pub(crate) fn weigh(
             }
         }
     }
-    Ok(finish(s, progress, limit))
+    finish(s, progress, limit)
 }

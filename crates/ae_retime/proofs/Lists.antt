@@ -15,7 +15,7 @@ use Rattle.ae_rewrite.specs.Sound.{IsSound, IsSoundFunc, item_layouts}
 use Rattle.ae_rewrite.proofs.Grown.{get_in_front, get_last}
 use Rattle.ae_moves.proofs.Lists.{get_mapped, take_push}
 use Rattle.ae_delay.specs.declared.own.OwnCosts.{OwnCosts}
-use Rattle.ae_delay.specs.Costs.{NodeTiming, Use, all_costs, chain_of, latest, meets_of, next_timing, node_timings}
+use Rattle.ae_delay.specs.Costs.{NodeTiming, Use, all_costs, chain_of, func_meets, latest, meets_of, next_timing, node_timings}
 use Rattle.ae_delay.specs.Timings.{AreTimes, Times, item_arrivals}
 use Rattle.ae_delay.specs.Weighing.{deepened, deepened_by}
 use Rattle.ae_delay.proofs.Chains.{AreUses, deepened_at, length_deepened}
@@ -74,24 +74,43 @@ met_many p t k s times here =
     let there : slice_get (st_func_trees p) k ≡ Some (st_func_tree s) = tree_at p k s here in
     slice_get_within t.meets k _ (times.meets k (st_func_tree s) there)
 
--- when the arguments of each node have come, by the arrivals that are told
+-- when the arguments of each node and the results have come, by the arrivals that are told
 pub met_at : (p : List StFunc) (t : Times) (k : ℕ) (s : StFunc) (own met : List ℕ) → AreTimes (st_func_trees p) t → slice_get p k ≡ Some s
     → own ≡ arrivals_in (st_func_trees p) k (st_func_tree s) → slice_get t.meets k ≡ Some met
-    → met ≡ meets_of own (st_func_tree s).nodes
+    → met ≡ func_meets own (st_func_tree s)
 met_at p t k s own met times here is told =
     let there : slice_get (st_func_trees p) k ≡ Some (st_func_tree s) = tree_at p k s here in
-    same_Some met _ (sym told ∙ times.meets k (st_func_tree s) there) ∙ ap (λ xs. meets_of xs (st_func_tree s).nodes) (sym is)
+    same_Some met _ (sym told ∙ times.meets k (st_func_tree s) there) ∙ ap (λ xs. func_meets xs (st_func_tree s)) (sym is)
 
-pub meets_long : (arrivals : List ℕ) (s : StFunc) (meets : List ℕ) → meets ≡ meets_of arrivals (st_func_tree s).nodes → length meets ≡ length s.nodes.items
+nodes_long : (arrivals : List ℕ) (s : StFunc) → length (meets_of arrivals (st_func_tree s).nodes) ≡ length s.nodes.items
+nodes_long arrivals s =
+    length-map (st_func_tree s).nodes (λ (n : StNodeTree). latest arrivals n.args) ∙ length-map s.nodes.items st_node_tree
+
+pub meets_long : (arrivals : List ℕ) (s : StFunc) (meets : List ℕ) → meets ≡ func_meets arrivals (st_func_tree s)
+    → length meets ≡ length s.nodes.items + 1
 meets_long arrivals s meets e =
-    ap length e ∙ (length-map (st_func_tree s).nodes (λ (n : StNodeTree). latest arrivals n.args) ∙ length-map s.nodes.items st_node_tree)
+    omega (
+      arith,
+      ap length e,
+      length-append (meets_of arrivals (st_func_tree s).nodes) (latest arrivals s.results.items ∷ []),
+      nodes_long arrivals s,
+    )
 
-pub meets_at : (arrivals : List ℕ) (nodes : List StNodeTree) (meets : List ℕ) (j : ℕ) (n : StNodeTree) (args : List ℕ) → meets ≡ meets_of arrivals nodes
-    → slice_get nodes j ≡ Some n → args ≡ n.args
+pub meets_at : (arrivals : List ℕ) (s : StFuncTree) (meets : List ℕ) (j : ℕ) (n : StNodeTree) (args : List ℕ) → meets ≡ func_meets arrivals s
+    → slice_get s.nodes j ≡ Some n → args ≡ n.args
     → get_or meets j 0 ≡ latest arrivals args
-meets_at arrivals nodes meets j n args e f ea =
-    ap (λ ms. get_or ms j 0) e ∙ (get_or_from_slice_get (meets_of arrivals nodes) j (latest arrivals n.args) 0
-    (get_mapped (λ (m : StNodeTree). latest arrivals m.args) nodes j n f) ∙ ap (latest arrivals) (sym ea))
+meets_at arrivals s meets j n args e f ea =
+    ap (λ ms. get_or ms j 0) e ∙ (get_or_from_slice_get (func_meets arrivals s) j (latest arrivals n.args) 0
+    (get_in_front (meets_of arrivals s.nodes) (latest arrivals s.results ∷ []) j (latest arrivals n.args)
+    (get_mapped (λ (m : StNodeTree). latest arrivals m.args) s.nodes j n f)) ∙ ap (latest arrivals) (sym ea))
+
+-- behind those of the nodes
+pub results_met : (arrivals : List ℕ) (s : StFunc) (meets : List ℕ) (j : ℕ) → meets ≡ func_meets arrivals (st_func_tree s) → j ≡ length s.nodes.items
+    → get_or meets j 0 ≡ latest arrivals s.results.items
+results_met arrivals s meets j e at =
+    let last : slice_get (func_meets arrivals (st_func_tree s)) j ≡ Some (latest arrivals s.results.items) = rw (at, ← nodes_long arrivals s)
+    (get_last (meets_of arrivals (st_func_tree s).nodes) (latest arrivals s.results.items)) in
+    ap (λ ms. get_or ms j 0) e ∙ get_or_from_slice_get (func_meets arrivals (st_func_tree s)) j (latest arrivals s.results.items) 0 last
 
 -- ---- lists by instance
 

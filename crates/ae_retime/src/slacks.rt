@@ -4,12 +4,12 @@ ghost use Rattle.std.specs.Prelude.{◌≡◌, ◌<◌, ◌-◌, ◌++◌, [], �
 ghost use Rattle.std.specs.Option.{option_and_then, option_map};
 ghost use Rattle.ae_rewrite.specs.StProgramTree.{st_func_tree, st_func_trees};
 ghost use Rattle.ae_rewrite.specs.Sound.{item_layouts};
-ghost use Rattle.ae_delay.specs.Costs.{meets_of};
+ghost use Rattle.ae_delay.specs.Costs.{func_meets};
 ghost use Rattle.ae_delay.specs.Timings.{AreTimes};
 ghost use Rattle.ae_retime.specs.Slacks.{AreSlacks, UsesBelow, argument_slacks, item_chains, joint_slacks};
 
 use crate::uses::{argument_slacks, item_chains, joint_slacks};
-use ae_delay::{Timing, latest};
+use ae_delay::Timing;
 use ae_rewrite::{StFunc, StProgram};
 use std::alloc::{AllocError, Global};
 use std::marker::Model;
@@ -116,7 +116,7 @@ fn arrivals_of(a: &Timing, k: u32) -> &[u32]
     }
 }
 
-// When all arguments of the nodes of instance number k have come.
+// When all arguments of the nodes of instance number k have come, and behind those when all its results have.
 fn met_in(a: &Timing, k: u32) -> &[u32]
     requires { k < length a.now.meets }
     ensures { slice_get a.now.meets k ≡ Some result.now }
@@ -139,12 +139,12 @@ fn add_func(
 ) -> Result<(), AllocError>
     requires uses { UsesBelow (length arrivals.now) (st_func_tree s.now) }
     requires long { length arrivals.now ≡ length (item_layouts (st_func_tree s.now)) }
-    requires meets { meets.now ≡ meets_of arrivals.now (st_func_tree s.now).nodes }
+    requires meets { meets.now ≡ func_meets arrivals.now (st_func_tree s.now) }
     ensures arguments { OnOk result (map (λ n. map (λ v. v.items) n.items) arguments.new.items ≡ map (λ n. map (λ v. v.items) n.items) arguments.old.items ++ argument_slacks arrivals.now (st_func_tree s.now) ∷ []) }
     ensures chains { OnOk result (map (λ v. v.items) chains.new.items ≡ map (λ v. v.items) chains.old.items ++ item_chains arrivals.now (st_func_tree s.now) ∷ []) }
     ensures results { OnOk result (map (λ v. v.items) results.new.items ≡ map (λ v. v.items) results.old.items ++ joint_slacks arrivals.now (st_func_tree s.now).results ∷ []) }
 {
-    let end = latest(arrivals, &s.results);
+    let end = meets[s.nodes.len()];
     arguments.push(argument_slacks(alloc, s, arrivals, meets)?)?;
     chains.push(item_chains(alloc, s, arrivals, meets, end)?)?;
     results.push(joint_slacks(alloc, arrivals, end, &s.results)?)?;

@@ -3,7 +3,7 @@
 ghost use Rattle.std.specs.Prelude.{◌≡◌, length, map, IfOk};
 ghost use Rattle.ae_rewrite.specs.StProgramTree.{st_func_tree};
 ghost use Rattle.ae_rewrite.specs.Sound.{item_layouts};
-ghost use Rattle.ae_delay.specs.Costs.{latest, meets_of};
+ghost use Rattle.ae_delay.specs.Costs.{func_meets, latest};
 ghost use Rattle.ae_delay.specs.Weighing.{AllBelow, deepened};
 ghost use Rattle.ae_retime.specs.Slacks.{UsesBelow, argument_slacks, item_chains, joint_slacks, joint_uses};
 
@@ -50,7 +50,7 @@ pub(crate) fn argument_slacks(
     meets: &[u32],
 ) -> Result<Vec<Vec<u32>>, AllocError>
     requires uses { UsesBelow (length arrivals.now) (st_func_tree s.now) }
-    requires meets { meets.now ≡ meets_of arrivals.now (st_func_tree s.now).nodes }
+    requires meets { meets.now ≡ func_meets arrivals.now (st_func_tree s.now) }
     ensures { IfOk result (λ v. map (λ x. x.items) v.items ≡ argument_slacks arrivals.now (st_func_tree s.now)) }
 {
     let mut slacks = Vec::new(alloc);
@@ -71,7 +71,7 @@ pub(crate) fn item_chains(
 ) -> Result<Vec<u32>, AllocError>
     requires uses { UsesBelow (length arrivals.now) (st_func_tree s.now) }
     requires long { length arrivals.now ≡ length (item_layouts (st_func_tree s.now)) }
-    requires meets { meets.now ≡ meets_of arrivals.now (st_func_tree s.now).nodes }
+    requires meets { meets.now ≡ func_meets arrivals.now (st_func_tree s.now) }
     requires end { end ≡ latest arrivals.now (st_func_tree s.now).results }
     ensures { IfOk result (λ v. v.items ≡ item_chains arrivals.now (st_func_tree s.now)) }
 {

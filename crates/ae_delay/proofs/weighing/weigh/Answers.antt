@@ -1,5 +1,6 @@
 use Rattle.std.proofs.Common.{List, length, subst}
 use Rattle.std.proofs.lemmas.Option.{slice_get_within}
+use Rattle.std.proofs.lemmas.Result.{IfOk-weaker}
 use Rattle.ae_rewrite.specs.StProgramTree.{st_func_tree, st_node_tree}
 use Rattle.ae_delay.specs.Costs.{NodeTiming}
 use Rattle.ae_delay.specs.Weighing.{IsWeighed}
@@ -70,12 +71,14 @@ finish-requires-clause-whole c =
     (c.loop-node.invariant.progress c.requires.known.0 c.requires.known.1)
 
 pub returns-clause-weighed : goal.returns-clause-weighed
-returns-clause-weighed c = λ costs known.
-    subst (λ (ts : List NodeTiming). IsWeighed (st_func_tree c.args.s.now) ts c.args.limit c.finish.result)
+returns-clause-weighed c =
+    IfOk-weaker c.finish.result _ _ (λ w weighed costs known.
+    subst (λ (ts : List NodeTiming). IsWeighed (st_func_tree c.args.s.now) ts c.args.limit w)
     (timings_all costs c.args.s.now c.deref-node-items.result.now c.loop-node.node-index c.deref-node-items.ensures.value c.loop-node-test.false)
-    (c.finish.ensures.weighed _ (c.loop-node.invariant.progress costs known))
+    (weighed _ (c.loop-node.invariant.progress costs known))) c.finish.ensures.weighed
 
 pub returns-clause-meets : goal.returns-clause-meets
 returns-clause-meets c =
-    met_all c.args.s.now c.deref-node-items.result.now c.loop-node.node-index c.loop-node.progress c.finish.result c.deref-node-items.ensures.value
-    c.loop-node-test.false c.loop-node.invariant.meets c.finish.ensures.meets
+    IfOk-weaker c.finish.result _ _ (λ w met.
+    met_all c.args.s.now c.deref-node-items.result.now c.loop-node.node-index c.loop-node.progress w c.deref-node-items.ensures.value c.loop-node-test.false
+    c.loop-node.invariant.meets met) c.finish.ensures.meets

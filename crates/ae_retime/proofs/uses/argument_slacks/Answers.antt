@@ -27,7 +27,7 @@ pub joint_slacks-requires-clause-most : goal.joint_slacks-requires-clause-most
 joint_slacks-requires-clause-most c =
     let inside : c.loop-j.j < length c.args.s.now.nodes.items = omega (arith, c.loop-j-test.true, c.len-j-end.ensures, c.args.s.now.nodes.ok) in
     let at = node_here c.args.s.now c.args.s.now.nodes.items c.loop-j.j c.index-node.result.now refl inside c.index-node.ensures in
-    meets_at c.args.arrivals.now (st_func_tree c.args.s.now).nodes c.args.meets.now c.loop-j.j (st_node_tree c.index-node.result.now) c.deref.result.now
+    meets_at c.args.arrivals.now (st_func_tree c.args.s.now) c.args.meets.now c.loop-j.j (st_node_tree c.index-node.result.now) c.deref.result.now
     c.requires.meets at c.deref.ensures.value
 
 pub loop-j-preserved : goal.loop-j-preserved
