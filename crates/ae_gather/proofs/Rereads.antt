@@ -1,12 +1,12 @@
 -- Trips that take words from rings at places that change, and the places.
-use Rattle.std.proofs.Common.{ℕ, zero, suc, ◌≡◌, ◌+◌, ◌-◌, ◌*◌, ◌%◌, ◌^◌, ◌<◌, ◌≤◌, nat_eq, nat_le, cond, true, false, Bool, ◌&&◌, List, ◌∷◌, ◌++◌, [], length, map, get_or, Option, Some, None, slice_get, inl, inr, arith, refl, sym, subst, ap, ◌∙◌}
+use Rattle.std.proofs.Common.{ℕ, zero, suc, ◌≡◌, ◌+◌, ◌-◌, ◌*◌, ◌^◌, ◌<◌, ◌≤◌, nat_le, cond, true, false, Bool, ◌&&◌, List, ◌∷◌, ◌++◌, [], length, map, get_or, Option, Some, None, slice_get, inl, inr, arith, refl, sym, subst, ap, ◌∙◌}
 use Rattle.std.proofs.lemmas.Bool.{cases_eq, eqb-true, leb-true}
 use Rattle.std.proofs.lemmas.List.{length_push}
 use Rattle.ae_netlist.proofs.Gets.{get_left, get_pushed}
 use Rattle.std.proofs.lemmas.Option.{slice_get_within, slice_get-get_or}
 use Rattle.ae_netlist.specs.declared.cell.NetId.{NetId}
 use Rattle.ae_netlist.specs.declared.cell.SizedCell.{SizedCell}
-use Rattle.ae_netlist.specs.Circuit.{IsNet, Extends}
+use Rattle.ae_netlist.specs.Circuit.{Extends}
 use Rattle.ae_netlist.specs.Runs.{Clock, word_at, IsRun, IsReset}
 use Rattle.ae_netlist.proofs.Growing.{net_width}
 use Rattle.ae_moves.specs.declared.trip.Source.{Source}
@@ -17,7 +17,7 @@ use Rattle.ae_gather.specs.declared.reads.Reads.{Reads}
 use Rattle.ae_gather.specs.Columns.{net_of}
 use Rattle.ae_gather.specs.Laws.{AreFitting, FitsColumn, MakesTrips, sourced}
 use Rattle.ae_gather.specs.Plans.{AreInOrder, AreUsed, AreWithin, IsIn, IsReached}
-use Rattle.ae_gather.specs.Readers.{AreReads, ReadsPlaces, ReadsRing, ShowsPlaces}
+use Rattle.ae_gather.specs.Readers.{AreReads, ReadsPlaces, ShowsPlaces}
 use Rattle.ae_gather.specs.Reads.{ArePlaced, IsPlaceOf, is_from, is_read, placed, read_source, read_trip}
 use Rattle.ae_gather.proofs.Hastened.{get_unmapped}
 

@@ -1,13 +1,13 @@
 -- The rings of input columns, and what output columns read from them, one more at a time.
-use Rattle.std.proofs.Common.{ℕ, ◌≡◌, ◌+◌, ◌-◌, ◌*◌, ◌<◌, ◌≤◌, ◌^◌, Bool, true, false, List, ◌∷◌, ◌++◌, [], length, get_or, Option, Some, None, slice_get, inl, inr, arith, refl, sym, ap, ◌∙◌}
+use Rattle.std.proofs.Common.{ℕ, ◌≡◌, ◌+◌, ◌-◌, ◌<◌, Bool, true, false, List, ◌∷◌, ◌++◌, [], length, get_or, Option, Some, None, inl, inr, arith, refl, sym, ap, ◌∙◌}
 use Rattle.std.proofs.lemmas.Bool.{cases_eq, cases_lt}
 use Rattle.std.proofs.lemmas.List.{length_push}
 use Rattle.std.proofs.lemmas.Option.{slice_get_within}
 use Rattle.ae_netlist.specs.declared.cell.NetId.{NetId}
 use Rattle.ae_netlist.specs.declared.cell.SizedCell.{SizedCell}
-use Rattle.ae_netlist.specs.Circuit.{Extends, IsMemory, IsNet}
+use Rattle.ae_netlist.specs.Circuit.{Extends, IsNet}
 use Rattle.ae_netlist.proofs.Gets.{get_push_cases, get_left, get_pushed}
-use Rattle.ae_netlist.proofs.Growing.{extends_trans, net_later, net_width}
+use Rattle.ae_netlist.proofs.Growing.{extends_trans, net_later}
 use Rattle.ae_clocked.specs.declared.ring.Ring.{Ring}
 use Rattle.ae_clocked.proofs.Making.{ring_grows}
 use Rattle.ae_gather.specs.declared.reads.Reads.{Reads}

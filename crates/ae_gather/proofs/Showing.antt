@@ -1,14 +1,13 @@
 -- Columns of fixed words show the places that are read.
-use Rattle.std.proofs.Common.{ℕ, ◌≡◌, ◌+◌, ◌-◌, ◌*◌, ◌%◌, ◌^◌, ◌<◌, ◌≤◌, Bool, true, false, List, [], length, Some, slice_get, get_or, arith, refl, ap, ◌∙◌}
+use Rattle.std.proofs.Common.{ℕ, ◌≡◌, ◌+◌, ◌-◌, ◌%◌, ◌<◌, ◌≤◌, Bool, true, false, List, [], length, Some, slice_get, get_or, arith, ap, ◌∙◌}
 use Rattle.std.proofs.lemmas.Option.{slice_get_within, slice_get-get_or}
 use Rattle.ae_netlist.specs.declared.cell.NetId.{NetId}
 use Rattle.ae_netlist.specs.declared.cell.SizedCell.{SizedCell}
-use Rattle.ae_netlist.specs.Circuit.{Extends, IsNet}
+use Rattle.ae_netlist.specs.Circuit.{Extends}
 use Rattle.ae_netlist.proofs.Growing.{extends_trans}
 use Rattle.ae_netlist.specs.Runs.{word_at}
 use Rattle.ae_clocked.specs.Phases.{phase_of}
 use Rattle.ae_moves.specs.declared.trip.Choice.TheVariants.{Constant}
-use Rattle.ae_moves.specs.declared.trip.Source.TheVariants.{Fixed}
 use Rattle.ae_moves.specs.declared.trip.Trip.{Trip}
 use Rattle.ae_gather.specs.declared.reads.Reads.{Reads}
 use Rattle.ae_gather.specs.declared.trips.Counters.{Counters}
@@ -19,7 +18,7 @@ use Rattle.ae_gather.specs.Early.{counter_for, is_early}
 use Rattle.ae_gather.specs.Laws.{AreColumns, AreFitting, AreLines, FitsColumn}
 use Rattle.ae_gather.specs.Plans.{AreWithin, IsPlan, choice_from, choice_in}
 use Rattle.ae_gather.specs.Readers.{ShowsPlaces}
-use Rattle.ae_gather.specs.Reads.{ArePlaced, placed}
+use Rattle.ae_gather.specs.Reads.{ArePlaced}
 use Rattle.ae_gather.proofs.Registered.{sooner_phase}
 use Rattle.ae_gather.proofs.Rereads.{placed_trip}
 

@@ -11,7 +11,6 @@ ghost use Rattle.ae_gather.specs.Plans.{IsIn, IsReached};
 
 use crate::counters::offset;
 use crate::holding::hold;
-use crate::joining::{add_all, keep_net};
 use ae_clocked::{Clocks, width_at};
 use ae_moves::{Source, Trip};
 use ae_netlist::{NetFault, NetId, Netlist};
@@ -96,10 +95,10 @@ pub fn all_nets(
     ensures kept { IfOk result (λ all. AreKept nl.new.cells clocks.old.rst period d arrival ins.now held.now all.items) }
 {
     let mut all = Vec::new(alloc);
-    add_all(&mut all, ins)?;
+    all.extend_from_slice(ins)?;
     for q in 0..held.len() {
         let net = kept_net(nl, clocks, ins[q], held[q], period, d, arrival)?;
-        keep_net(&mut all, net)?;
+        all.push(net)?;
     }
     Ok(all)
 }

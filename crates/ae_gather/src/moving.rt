@@ -1,6 +1,6 @@
 // All columns of a move.
 
-ghost use Rattle.std.specs.Prelude.{◌≡◌, ◌≢◌, ◌<◌, ◌≤◌, ◌+◌, ◌*◌, sum_by, min, ◌^◌, ◌∷◌, ◌++◌, [], ℕ, List, length, map, Err, IfOk, OnOk, Some, slice_get};
+ghost use Rattle.std.specs.Prelude.{◌≡◌, ◌<◌, ◌≤◌, ◌+◌, ◌*◌, sum_by, min, ◌^◌, ℕ, List, length, map, IfOk, OnOk, Some, slice_get};
 ghost use Rattle.ae_sttype.specs.Moves.{delay_of, runs_of};
 ghost use Rattle.ae_netlist.specs.declared.cell.NetId.{NetId as Net};
 ghost use Rattle.ae_netlist.specs.Circuit.{IsNet};
@@ -21,7 +21,6 @@ use crate::column::column;
 use crate::counters::{counter_for, counters};
 use crate::early::{Schedule, scheduled};
 use crate::held::{all_nets, all_settled};
-use crate::joining::keep_net;
 use crate::plan::{Ages, Steps};
 use crate::reading::build_best;
 use crate::trips::Counters;
@@ -29,16 +28,6 @@ use ae_clocked::{Clocks, Tapped, ring_line};
 use ae_moves::{Trip, held_columns};
 use ae_netlist::{NetFault, NetId, Netlist};
 use std::alloc::Global;
-
-fn keep_line(lines: &mut Vec<Tapped>, tapped: Tapped) -> Result<(), NetFault>
-    ensures ok { OnOk result (lines.new.items ≡ lines.old.items ++ tapped ∷ []) }
-    ensures fault { result ≢ Err NetFault.Full }
-{
-    match lines.push(tapped) {
-        Ok(()) => Ok(()),
-        Err(_) => Err(NetFault::Memory),
-    }
-}
 
 /// A delay line for each input column.
 fn all_lines(
@@ -65,7 +54,7 @@ fn all_lines(
     let mut lines = Vec::new(alloc);
     for q in 0..ages.len() {
         let tapped = ring_line(alloc, nl, ins[q], ages[q].all(), clocks)?;
-        keep_line(&mut lines, tapped)?;
+        lines.push(tapped)?;
     }
     Ok(lines)
 }
@@ -103,7 +92,7 @@ pub fn all_columns(
             early[q],
             counter_for(early[q], counters),
         )?;
-        keep_net(&mut out, net)?;
+        out.push(net)?;
     }
     Ok(out)
 }
@@ -217,26 +206,17 @@ pub fn gather(
     ensures nets { IfOk result (λ out. (q w : ℕ) (y : Net) → slice_get widths.now q ≡ Some w → slice_get out.items q ≡ Some y → IsNet nl.new.cells y.0 w) }
     ensures trips { IfOk result (λ out. MakesTrips nl.new.cells clocks.old.rst period d arrival ins.now out.items trips.now) }
 {
-    let held = match held_columns(alloc, trips, d, ins.len() as u32, period) {
-        Ok(held) => held,
-        Err(_) => return Err(NetFault::Memory),
-    };
+    let held = held_columns(alloc, trips, d, ins.len() as u32, period)?;
     let all = all_nets(alloc, nl, clocks, ins, &held, period, d, arrival)?;
-    let settled = match all_settled(alloc, trips, &held, d) {
-        Ok(settled) => settled,
-        Err(_) => return Err(NetFault::Memory),
-    };
-    let schedule = match scheduled(
+    let settled = all_settled(alloc, trips, &held, d)?;
+    let schedule = scheduled(
         alloc,
         &settled,
         d,
         ins.len() as u32 + ins.len() as u32,
         widths.len() as u32,
         alone,
-    ) {
-        Ok(schedule) => schedule,
-        Err(_) => return Err(NetFault::Memory),
-    };
+    )?;
     let out = build_best(
         alloc, nl, clocks, &all, widths, &settled, &schedule, period, d, arrival, alone,
     )?;

@@ -1,6 +1,6 @@
 // Output columns that read words from rings: what is planned, and what is built.
 
-ghost use Rattle.std.specs.Prelude.{◌≡◌, ◌≢◌, ◌<◌, ◌≤◌, ◌+◌, ◌*◌, sum_by, min, map, ◌^◌, ◌∷◌, ◌++◌, [], if◌then◌else◌, ℕ, List, Option, true, length, get_or, take, Err, IfOk, OnOk, Some, slice_get};
+ghost use Rattle.std.specs.Prelude.{◌≡◌, ◌<◌, ◌≤◌, ◌+◌, ◌*◌, sum_by, min, map, ◌^◌, [], if◌then◌else◌, ℕ, List, Option, true, length, get_or, take, IfOk, OnOk, Some, slice_get};
 ghost use Rattle.ae_netlist.specs.declared.cell.NetId.{NetId as Net};
 ghost use Rattle.ae_netlist.specs.Circuit.{IsNet, width_of};
 ghost use Rattle.ae_netlist.specs.Counts.{AreWhole, count_of, is_memory, is_mul};
@@ -21,7 +21,6 @@ ghost use Rattle.ae_moves.specs.declared.trip.Trip.{Trip as Way};
 use crate::cost::{columns_cost, lines_cost, lines_rings, rings_count};
 use crate::counters::{counting, offset};
 use crate::early::{Schedule, none_early, scheduled};
-use crate::joining::{add_all, keep_net};
 use crate::moving::{all_columns, build_plan, limit_of};
 use crate::places::{all_places, all_read};
 use crate::plan::{Plan, planned};
@@ -95,16 +94,6 @@ fn plan_reading(
     })
 }
 
-fn keep_ring(rings: &mut Vec<Option<Ring>>, ring: Option<Ring>) -> Result<(), NetFault>
-    ensures ok { OnOk result (rings.new.items ≡ rings.old.items ++ ring ∷ []) }
-    ensures fault { result ≢ Err NetFault.Full }
-{
-    match rings.push(ring) {
-        Ok(()) => Ok(()),
-        Err(_) => Err(NetFault::Memory),
-    }
-}
-
 /// The ring of a column that has one.
 fn ring_of(
     nl: &mut Netlist,
@@ -153,7 +142,7 @@ fn all_rings(
     let mut rings = Vec::new(alloc);
     for q in 0..ins.len() {
         let ring = ring_of(nl, clocks, ins[q], reads.rings[q], reads.bits)?;
-        keep_ring(&mut rings, ring)?;
+        rings.push(ring)?;
     }
     Ok(rings)
 }
@@ -212,10 +201,10 @@ fn all_reads(
     ensures reads { IfOk result (λ all. (rst : ℕ) → AreRings (length ins.now) nl.old.cells rst reads.now ins.now rings.now → AreReads (length reads.now.from.items) nl.new.cells rst reads.now ins.now places.now all.items) }
 {
     let mut all = Vec::new(alloc);
-    add_all(&mut all, ins)?;
+    all.extend_from_slice(ins)?;
     for q in 0..reads.from.len() {
         let net = read_net(nl, ins, rings, reads, q, places[q])?;
-        keep_net(&mut all, net)?;
+        all.push(net)?;
     }
     Ok(all)
 }
@@ -264,14 +253,8 @@ fn place_nets(
     ensures nets { IfOk result (λ out. (q : ℕ) → q < outs → IsNet nl.new.cells (net_of out.items q) reading.now.reads.bits) }
     ensures shows { IfOk result (λ out. ShowsPlaces nl.new.cells clocks.old.rst period d arrival out.items reading.now.places.items) }
 {
-    let widths = match all_bits(alloc, outs as usize, reading.reads.bits) {
-        Ok(widths) => widths,
-        Err(_) => return Err(NetFault::Memory),
-    };
-    let early = match none_early(alloc, outs) {
-        Ok(early) => early,
-        Err(_) => return Err(NetFault::Memory),
-    };
+    let widths = all_bits(alloc, outs as usize, reading.reads.bits)?;
+    let early = none_early(alloc, outs)?;
     let begin = offset(arrival, d, period);
     let ahead = offset(begin, period - 1, period);
     let phase = counting(nl, clocks, period, ahead, limit)?;
@@ -397,10 +380,7 @@ pub fn build_best(
 {
     if ins.len() < 2147483648 && widths.len() < 2147483648 {
         let outs = widths.len() as u32;
-        let reading = match plan_reading(alloc, trips, d, ins.len() as u32, outs, alone) {
-            Ok(reading) => reading,
-            Err(_) => return Err(NetFault::Memory),
-        };
+        let reading = plan_reading(alloc, trips, d, ins.len() as u32, outs, alone)?;
         if is_no_dearer(&reading, schedule, outs) {
             let out = build_reading(
                 alloc, nl, clocks, ins, widths, trips, &reading, period, d, arrival,

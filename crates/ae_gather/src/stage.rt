@@ -9,10 +9,10 @@ ghost use Rattle.ae_moves.specs.Trees.{origin_tree};
 ghost use Rattle.ae_gather.specs.Gathers.{IsGather, gather_part, move_of};
 
 use crate::joining::join;
-use crate::layouts::{all_trips, all_widths};
+use crate::layouts::all_widths;
 use crate::moving::gather;
 use ae_clocked::Clocks;
-use ae_moves::{Origin, is_move, latency};
+use ae_moves::{Origin, all_trips, is_move, latency};
 use ae_netlist::{NetFault, Netlist};
 use ae_ops::{Bundle, Stage};
 use ae_sttype::StType;

@@ -18,8 +18,8 @@ kept_net-requires-clause-belongs c = c.loop-q.invariant.belongs
 pub returns-in_err-net-clause-belongs : goal.returns-in_err-net-clause-belongs
 returns-in_err-net-clause-belongs c = c.in_err-net.ensures.belongs
 
-pub returns-in_err-keep_net-clause-belongs : goal.returns-in_err-keep_net-clause-belongs
-returns-in_err-keep_net-clause-belongs c = c.in_ok-net.ensures.belongs
+pub returns-in_err-push-clause-belongs : goal.returns-in_err-push-clause-belongs
+returns-in_err-push-clause-belongs c = c.in_ok-net.ensures.belongs
 
 pub returns-clause-belongs : goal.returns-clause-belongs
 returns-clause-belongs c = c.loop-q.invariant.belongs
@@ -33,7 +33,7 @@ loop-q-init c =
       belongs = c.requires.belongs;
       keeps = keeps_same _;
       adds = adds_none _;
-      kept = kept_begin _ _ _ _ _ _ _ _ (c.in_ok-add_all.ensures.ok ∙ ap (λ (xs : List NetId). xs ++ c.args.ins.now) c.new-all.ensures.items);
+      kept = kept_begin _ _ _ _ _ _ _ _ (c.in_ok-extend_from_slice.ensures.items ∙ ap (λ (xs : List NetId). xs ++ c.args.ins.now) c.new-all.ensures.items);
     }
 
 pub kept_net-requires-clause-net : goal.kept_net-requires-clause-net
@@ -43,8 +43,8 @@ kept_net-requires-clause-net c =
 pub returns-in_err-net-clause-keeps : goal.returns-in_err-net-clause-keeps
 returns-in_err-net-clause-keeps c = keeps_trans c.loop-q.invariant.keeps c.in_err-net.ensures.keeps
 
-pub returns-in_err-keep_net-clause-keeps : goal.returns-in_err-keep_net-clause-keeps
-returns-in_err-keep_net-clause-keeps c = keeps_trans c.loop-q.invariant.keeps c.in_ok-net.ensures.keeps
+pub returns-in_err-push-clause-keeps : goal.returns-in_err-push-clause-keeps
+returns-in_err-push-clause-keeps c = keeps_trans c.loop-q.invariant.keeps c.in_ok-net.ensures.keeps
 
 pub returns-in_err-net-clause-adds : goal.returns-in_err-net-clause-adds
 returns-in_err-net-clause-adds c =
@@ -53,8 +53,8 @@ returns-in_err-net-clause-adds c =
     let part = rw rest at (sums_part (λ (q : ℕ). cond (is_kept c.args.held.now q) 1 0) (c.loop-q.q + 1) (length c.args.held.now - (c.loop-q.q + 1))) in
     adds_most _ (omega (arith, one, part)) (adds_trans c.loop-q.invariant.adds c.in_err-net.ensures.adds)
 
-pub returns-in_err-keep_net-clause-adds : goal.returns-in_err-keep_net-clause-adds
-returns-in_err-keep_net-clause-adds c =
+pub returns-in_err-push-clause-adds : goal.returns-in_err-push-clause-adds
+returns-in_err-push-clause-adds c =
     let one = sum_more (λ (q : ℕ). cond (is_kept c.args.held.now q) 1 0) c.loop-q.q in
     let rest : c.loop-q.q + 1 + (length c.args.held.now - (c.loop-q.q + 1)) ≡ length c.args.held.now = omega (arith, c.loop-q-test.true) in
     let part = rw rest at (sums_part (λ (q : ℕ). cond (is_kept c.args.held.now q) 1 0) (c.loop-q.q + 1) (length c.args.held.now - (c.loop-q.q + 1))) in
@@ -69,7 +69,7 @@ loop-q-preserved c =
       keeps = keeps_trans was.keeps more.keeps;
       adds = (let one = sum_more (λ (q : ℕ). cond (is_kept c.args.held.now q) 1 0) c.loop-q.q in
           adds_most _ (omega (arith, one)) (adds_trans was.adds more.adds));
-      kept = rw c.in_ok-keep_net.ensures.ok (kept_more c.loop-q.q _ _ _ _ _ _ _ _ _ _ more.adds.grows.extends was.kept (rw was.keeps.rst at more.keeps_word));
+      kept = rw c.in_ok-push.ensures.items (kept_more c.loop-q.q _ _ _ _ _ _ _ _ _ _ more.adds.grows.extends was.kept (rw was.keeps.rst at more.keeps_word));
     }
 
 pub returns-clause-adds : goal.returns-clause-adds

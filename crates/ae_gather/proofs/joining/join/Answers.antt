@@ -18,7 +18,7 @@ loop-k-preserved c =
     let at = slice_get_read c.args.ins.now (length c.args.ins.now) c.loop-k.k c.index-ins-k.result refl c.loop-k-test.true c.index-ins-k.is in
     let counted : c.len.result ≡ length c.loop-k.nets.items = first_of (search rules, omega (arith, c.len.ensures, c.loop-k.nets.ok.0)) in
     record {
-      joined = rw (c.in_ok-add_all.ensures.ok, c.in_ok-keep_first.ensures.ok, c.nets.ensures)
+      joined = rw (c.in_ok-extend_from_slice.ensures.items, c.in_ok-push.ensures.items, c.nets.ensures)
           (joined_next c.loop-k.k _ c.args.ins.now c.loop-k.nets.items c.index-ins-k.result c.loop-k.firsts.items c.loop-k.invariant.joined at counted);
       within = omega (arith, c.loop-k-test.true);
     }

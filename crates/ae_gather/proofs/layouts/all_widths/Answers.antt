@@ -13,7 +13,7 @@ overflow_mul-columns c =
 
 pub loop-q-preserved : goal.loop-q-preserved
 loop-q-preserved c =
-    let kept : c.keep_width.new.widths.items ≡ c.loop-q.widths.items ++ c.word_width.result ∷ [] = c.in_ok-keep_width.ensures.ok in
+    let kept : c.push.new.self.items ≡ c.loop-q.widths.items ++ c.word_width.result ∷ [] = c.in_ok-push.ensures.items in
     let wide = rw c.element_words-words.ensures at c.word_width.ensures in
     record {
       long = rw kept (length_push c.loop-q.widths.items c.word_width.result ∙ ap (λ n. n + 1) c.loop-q.invariant.long);

@@ -42,7 +42,7 @@ loop-q-preserved c =
     record {
       adds = adds_most _ (omega (arith, sum_next steps_cells c.args.columns.now c.loop-q.q _ there)) (adds_trans c.loop-q.invariant.adds cost);
       within = omega (arith, c.loop-q-test.true);
-      columns = rw c.in_ok-keep_net.ensures.ok
+      columns = rw c.in_ok-push.ensures.items
           (columns_more _ _ _ c.loop-q.q _ c.args.counters c.args.ins.now c.args.widths.now c.args.early.now c.args.columns.now _ _ _
           c.in_ok-net.ensures.adds.grows.extends c.loop-q.invariant.columns there wide new);
     }
@@ -65,8 +65,8 @@ returns-in_err-net-clause-adds c =
       c.loop-q-test.true,
     )) (adds_trans c.loop-q.invariant.adds cost)
 
-pub returns-in_err-keep_net-clause-adds : goal.returns-in_err-keep_net-clause-adds
-returns-in_err-keep_net-clause-adds c =
+pub returns-in_err-push-clause-adds : goal.returns-in_err-push-clause-adds
+returns-in_err-push-clause-adds c =
     let there : slice_get c.args.columns.now c.loop-q.q ≡ Some c.index-columns-q.result = slice_get_read c.args.columns.now
     (length c.args.columns.now) c.loop-q.q c.index-columns-q.result refl c.loop-q-test.true c.index-columns-q.is in
     let cost : Adds c.loop-q.nl c.column.new.nl (steps_cells c.index-columns-q.result + 3) 0 = rw c.all.ensures at c.in_ok-net.ensures.adds in

@@ -23,11 +23,11 @@ returns-in_err-tapped-clause-belongs c = c.in_err-tapped.ensures.belongs
 pub returns-in_err-tapped-clause-muls : goal.returns-in_err-tapped-clause-muls
 returns-in_err-tapped-clause-muls c = c.in_err-tapped.ensures.muls ∙ c.loop-q.invariant.muls
 
-pub returns-in_err-keep_line-clause-belongs : goal.returns-in_err-keep_line-clause-belongs
-returns-in_err-keep_line-clause-belongs c = c.in_ok-tapped.ensures.belongs
+pub returns-in_err-push-clause-belongs : goal.returns-in_err-push-clause-belongs
+returns-in_err-push-clause-belongs c = c.in_ok-tapped.ensures.belongs
 
-pub returns-in_err-keep_line-clause-muls : goal.returns-in_err-keep_line-clause-muls
-returns-in_err-keep_line-clause-muls c = c.in_ok-tapped.ensures.muls ∙ c.loop-q.invariant.muls
+pub returns-in_err-push-clause-muls : goal.returns-in_err-push-clause-muls
+returns-in_err-push-clause-muls c = c.in_ok-tapped.ensures.muls ∙ c.loop-q.invariant.muls
 
 pub returns-clause-belongs : goal.returns-clause-belongs
 returns-clause-belongs c = c.loop-q.invariant.belongs
@@ -73,11 +73,11 @@ returns-in_err-tapped-clause-keeps c = keeps_trans c.loop-q.invariant.keeps c.in
 pub returns-in_err-tapped-clause-grows : goal.returns-in_err-tapped-clause-grows
 returns-in_err-tapped-clause-grows c = grows_trans c.loop-q.invariant.grows c.in_err-tapped.ensures.grows
 
-pub returns-in_err-keep_line-clause-keeps : goal.returns-in_err-keep_line-clause-keeps
-returns-in_err-keep_line-clause-keeps c = keeps_trans c.loop-q.invariant.keeps c.in_ok-tapped.ensures.keeps
+pub returns-in_err-push-clause-keeps : goal.returns-in_err-push-clause-keeps
+returns-in_err-push-clause-keeps c = keeps_trans c.loop-q.invariant.keeps c.in_ok-tapped.ensures.keeps
 
-pub returns-in_err-keep_line-clause-grows : goal.returns-in_err-keep_line-clause-grows
-returns-in_err-keep_line-clause-grows c = grows_trans c.loop-q.invariant.grows c.in_ok-tapped.ensures.grows
+pub returns-in_err-push-clause-grows : goal.returns-in_err-push-clause-grows
+returns-in_err-push-clause-grows c = grows_trans c.loop-q.invariant.grows c.in_ok-tapped.ensures.grows
 
 pub returns-in_err-tapped-clause-cells : goal.returns-in_err-tapped-clause-cells
 returns-in_err-tapped-clause-cells c =
@@ -87,8 +87,8 @@ returns-in_err-tapped-clause-cells c =
     c.in_err-tapped.ensures.cells in
     omega (arith, c.loop-q.invariant.cells, cost, sum_next line_cells c.args.ages.now c.loop-q.q _ there, sum_part line_cells c.args.ages.now (c.loop-q.q + 1))
 
-pub returns-in_err-keep_line-clause-cells : goal.returns-in_err-keep_line-clause-cells
-returns-in_err-keep_line-clause-cells c =
+pub returns-in_err-push-clause-cells : goal.returns-in_err-push-clause-cells
+returns-in_err-push-clause-cells c =
     let there : slice_get c.args.ages.now c.loop-q.q ≡ Some c.index-ages-q.result = slice_get_read c.args.ages.now
     (length c.args.ages.now) c.loop-q.q c.index-ages-q.result refl c.loop-q-test.true c.index-ages-q.is in
     let cost : length c.ring_line.new.nl.cells ≤ length c.loop-q.nl.cells + line_cells c.index-ages-q.result = rw c.all.ensures at
@@ -102,8 +102,8 @@ returns-in_err-tapped-clause-memories c =
     let mems = rw c.all.ensures at c.in_err-tapped.ensures.memories in
     omega (arith, c.loop-q.invariant.memories, mems, sum_next line_mems c.args.ages.now c.loop-q.q _ there, sum_part line_mems c.args.ages.now (c.loop-q.q + 1))
 
-pub returns-in_err-keep_line-clause-memories : goal.returns-in_err-keep_line-clause-memories
-returns-in_err-keep_line-clause-memories c =
+pub returns-in_err-push-clause-memories : goal.returns-in_err-push-clause-memories
+returns-in_err-push-clause-memories c =
     let there : slice_get c.args.ages.now c.loop-q.q ≡ Some c.index-ages-q.result = slice_get_read c.args.ages.now
     (length c.args.ages.now) c.loop-q.q c.index-ages-q.result refl c.loop-q-test.true c.index-ages-q.is in
     let mems = rw c.all.ensures at c.in_ok-tapped.ensures.memories in
@@ -128,7 +128,7 @@ loop-q-preserved c =
       muls = omega (arith, was.muls, more.muls);
       memories = omega (arith, was.memories, mems, sum_next line_mems c.args.ages.now c.loop-q.q _ there);
       whole = λ h. more.whole (was.whole h);
-      lines = rw c.in_ok-keep_line.ensures.ok
+      lines = rw c.in_ok-push.ensures.items
           (lines_more c.loop-q.nl.cells c.ring_line.new.nl.cells _ _ x c.loop-q.q c.args.ins.now c.args.ages.now _ _ _ more.grows.extends was.lines there refl
           (own_net (net_later was.grows.extends (c.requires.nets c.loop-q.q (omega (arith, c.loop-q-test.true, c.requires.long))).1)) taps);
     }

@@ -29,21 +29,21 @@ held_columns-requires-clause-within c =
     })
 
 pub all_nets-requires-clause-long : goal.all_nets-requires-clause-long
-all_nets-requires-clause-long c = rw c.deref.ensures.value c.in-Ok.ensures.long
+all_nets-requires-clause-long c = rw c.deref.ensures.value c.in_ok-held.ensures.long
 
 pub all_settled-requires-clause-columns : goal.all_settled-requires-clause-columns
-all_settled-requires-clause-columns c = rw c.deref-2.ensures.value (λ n trip f. rw c.in-Ok.ensures.long (c.requires.within.source n trip f))
+all_settled-requires-clause-columns c = rw c.deref-2.ensures.value (λ n trip f. rw c.in_ok-held.ensures.long (c.requires.within.source n trip f))
 
 pub all_settled-requires-clause-clocks : goal.all_settled-requires-clause-clocks
 all_settled-requires-clause-clocks c = λ n trip f. below_limit _ _ _ (c.requires.within.clock n trip f) c.requires.limit
 
 pub scheduled-requires-clause-within : goal.scheduled-requires-clause-within
 scheduled-requires-clause-within c =
-    let long : length c.in-Ok.held.items ≡ length c.args.ins.now = c.in-Ok.ensures.long in
-    let within : AreWithin c.args.period c.args.d (length c.in-Ok.held.items) (length c.args.widths.now) c.args.trips.now = rw long c.requires.within in
-    let moves : c.in-Ok-all_settled.settled.items ≡ map (settled c.args.d c.in-Ok.held.items) c.args.trips.now = rw c.deref-2.ensures.value at
-    c.in-Ok-all_settled.ensures in
-    let low : AreWithin 4096 c.args.d (length c.in-Ok.held.items)
+    let long : length c.in_ok-held.held.items ≡ length c.args.ins.now = c.in_ok-held.ensures.long in
+    let within : AreWithin c.args.period c.args.d (length c.in_ok-held.held.items) (length c.args.widths.now) c.args.trips.now = rw long c.requires.within in
+    let moves : c.in_ok-settled.settled.items ≡ map (settled c.args.d c.in_ok-held.held.items) c.args.trips.now = rw c.deref-2.ensures.value at
+    c.in_ok-settled.ensures in
+    let low : AreWithin 4096 c.args.d (length c.in_ok-held.held.items)
     (length c.args.widths.now) c.args.trips.now = record {
       clock = λ n t f. below_limit _ _ _ (within.clock n t f) c.requires.limit;
       column = within.column;
@@ -51,91 +51,91 @@ scheduled-requires-clause-within c =
       source = within.source;
     } in
     rw c.deref-3.ensures.value (rw long at (within_settled 4096 c.args.d
-    (length c.args.widths.now) c.in-Ok.held.items c.args.trips.now c.in-Ok-all_settled.settled.items moves low))
+    (length c.args.widths.now) c.in_ok-held.held.items c.args.trips.now c.in_ok-settled.settled.items moves low))
 
 pub scheduled-requires-clause-order : goal.scheduled-requires-clause-order
 scheduled-requires-clause-order c =
-    let moves : c.in-Ok-all_settled.settled.items ≡ map (settled c.args.d c.in-Ok.held.items) c.args.trips.now = rw c.deref-2.ensures.value at
-    c.in-Ok-all_settled.ensures in
-    rw c.deref-3.ensures.value (order_settled c.args.d c.in-Ok.held.items c.args.trips.now c.in-Ok-all_settled.settled.items moves c.requires.order)
+    let moves : c.in_ok-settled.settled.items ≡ map (settled c.args.d c.in_ok-held.held.items) c.args.trips.now = rw c.deref-2.ensures.value at
+    c.in_ok-settled.ensures in
+    rw c.deref-3.ensures.value (order_settled c.args.d c.in_ok-held.held.items c.args.trips.now c.in_ok-settled.settled.items moves c.requires.order)
 
 pub scheduled-requires-clause-few : goal.scheduled-requires-clause-few
 scheduled-requires-clause-few c =
-    let moves : c.in-Ok-all_settled.settled.items ≡ map (settled c.args.d c.in-Ok.held.items) c.args.trips.now = rw c.deref-2.ensures.value at
-    c.in-Ok-all_settled.ensures in
-    let count : length c.in-Ok-all_settled.settled.items ≡ length c.args.trips.now = ap length moves ∙
-    length-map c.args.trips.now (settled c.args.d c.in-Ok.held.items) in
+    let moves : c.in_ok-settled.settled.items ≡ map (settled c.args.d c.in_ok-held.held.items) c.args.trips.now = rw c.deref-2.ensures.value at
+    c.in_ok-settled.ensures in
+    let count : length c.in_ok-settled.settled.items ≡ length c.args.trips.now = ap length moves ∙
+    length-map c.args.trips.now (settled c.args.d c.in_ok-held.held.items) in
     rw c.deref-3.ensures.value (omega (arith, count, c.requires.few))
 
 pub build_best-requires-clause-few : goal.build_best-requires-clause-few
 build_best-requires-clause-few c =
-    let moves : c.in-Ok-all_settled.settled.items ≡ map (settled c.args.d c.in-Ok.held.items) c.args.trips.now = rw c.deref-2.ensures.value at
-    c.in-Ok-all_settled.ensures in
-    let count : length c.in-Ok-all_settled.settled.items ≡ length c.args.trips.now = ap length moves ∙
-    length-map c.args.trips.now (settled c.args.d c.in-Ok.held.items) in
+    let moves : c.in_ok-settled.settled.items ≡ map (settled c.args.d c.in_ok-held.held.items) c.args.trips.now = rw c.deref-2.ensures.value at
+    c.in_ok-settled.ensures in
+    let count : length c.in_ok-settled.settled.items ≡ length c.args.trips.now = ap length moves ∙
+    length-map c.args.trips.now (settled c.args.d c.in_ok-held.held.items) in
     rw c.deref-5.ensures.value (omega (arith, count, c.requires.few))
 
 pub build_best-requires-clause-order : goal.build_best-requires-clause-order
 build_best-requires-clause-order c =
-    let moves : c.in-Ok-all_settled.settled.items ≡ map (settled c.args.d c.in-Ok.held.items) c.args.trips.now = rw c.deref-2.ensures.value at
-    c.in-Ok-all_settled.ensures in
-    rw c.deref-5.ensures.value (order_settled c.args.d c.in-Ok.held.items c.args.trips.now c.in-Ok-all_settled.settled.items moves c.requires.order)
+    let moves : c.in_ok-settled.settled.items ≡ map (settled c.args.d c.in_ok-held.held.items) c.args.trips.now = rw c.deref-2.ensures.value at
+    c.in_ok-settled.ensures in
+    rw c.deref-5.ensures.value (order_settled c.args.d c.in_ok-held.held.items c.args.trips.now c.in_ok-settled.settled.items moves c.requires.order)
 
 pub build_best-requires-clause-nets : goal.build_best-requires-clause-nets
 build_best-requires-clause-nets c =
-    let long : length c.in-Ok.held.items ≡ length c.args.ins.now = c.in-Ok.ensures.long in
-    let kept : AreKept c.all_nets.new.nl.cells c.args.clocks.now.rst c.args.period c.args.d c.args.arrival c.args.ins.now c.in-Ok.held.items
+    let long : length c.in_ok-held.held.items ≡ length c.args.ins.now = c.in_ok-held.ensures.long in
+    let kept : AreKept c.all_nets.new.nl.cells c.args.clocks.now.rst c.args.period c.args.d c.args.arrival c.args.ins.now c.in_ok-held.held.items
     c.in_ok-all.all.items = rw c.deref.ensures.value at c.in_ok-all.ensures.kept in
-    rw c.deref-4.ensures.value (kept_nets _ _ c.args.period c.args.d c.args.arrival c.args.ins.now c.in-Ok.held.items c.in_ok-all.all.items long kept)
+    rw c.deref-4.ensures.value (kept_nets _ _ c.args.period c.args.d c.args.arrival c.args.ins.now c.in_ok-held.held.items c.in_ok-all.all.items long kept)
 
 pub build_best-requires-clause-within : goal.build_best-requires-clause-within
 build_best-requires-clause-within c =
-    let long : length c.in-Ok.held.items ≡ length c.args.ins.now = c.in-Ok.ensures.long in
-    let within : AreWithin c.args.period c.args.d (length c.in-Ok.held.items) (length c.args.widths.now) c.args.trips.now = rw long c.requires.within in
-    let moves : c.in-Ok-all_settled.settled.items ≡ map (settled c.args.d c.in-Ok.held.items) c.args.trips.now = rw c.deref-2.ensures.value at
-    c.in-Ok-all_settled.ensures in
-    let kept : AreKept c.all_nets.new.nl.cells c.args.clocks.now.rst c.args.period c.args.d c.args.arrival c.args.ins.now c.in-Ok.held.items
+    let long : length c.in_ok-held.held.items ≡ length c.args.ins.now = c.in_ok-held.ensures.long in
+    let within : AreWithin c.args.period c.args.d (length c.in_ok-held.held.items) (length c.args.widths.now) c.args.trips.now = rw long c.requires.within in
+    let moves : c.in_ok-settled.settled.items ≡ map (settled c.args.d c.in_ok-held.held.items) c.args.trips.now = rw c.deref-2.ensures.value at
+    c.in_ok-settled.ensures in
+    let kept : AreKept c.all_nets.new.nl.cells c.args.clocks.now.rst c.args.period c.args.d c.args.arrival c.args.ins.now c.in_ok-held.held.items
     c.in_ok-all.all.items = rw c.deref.ensures.value at c.in_ok-all.ensures.kept in
-    let count : length c.in_ok-all.all.items ≡ length c.in-Ok.held.items + length c.in-Ok.held.items = omega (arith, kept.long, long) in
+    let count : length c.in_ok-all.all.items ≡ length c.in_ok-held.held.items + length c.in_ok-held.held.items = omega (arith, kept.long, long) in
     rw (c.deref-4.ensures.value, c.deref-5.ensures.value, count)
-    (within_settled c.args.period c.args.d (length c.args.widths.now) c.in-Ok.held.items c.args.trips.now c.in-Ok-all_settled.settled.items moves within)
+    (within_settled c.args.period c.args.d (length c.args.widths.now) c.in_ok-held.held.items c.args.trips.now c.in_ok-settled.settled.items moves within)
 
 pub build_best-requires-clause-used : goal.build_best-requires-clause-used
 build_best-requires-clause-used c =
-    let moves : c.in-Ok-all_settled.settled.items ≡ map (settled c.args.d c.in-Ok.held.items) c.args.trips.now = rw c.deref-2.ensures.value at
-    c.in-Ok-all_settled.ensures in
-    rw c.deref-5.ensures.value (used_settled c.args.d (length c.args.widths.now) c.in-Ok.held.items c.args.trips.now c.in-Ok-all_settled.settled.items moves
+    let moves : c.in_ok-settled.settled.items ≡ map (settled c.args.d c.in_ok-held.held.items) c.args.trips.now = rw c.deref-2.ensures.value at
+    c.in_ok-settled.ensures in
+    rw c.deref-5.ensures.value (used_settled c.args.d (length c.args.widths.now) c.in_ok-held.held.items c.args.trips.now c.in_ok-settled.settled.items moves
     c.requires.used)
 
 pub build_best-requires-clause-fitting : goal.build_best-requires-clause-fitting
 build_best-requires-clause-fitting c =
-    let long : length c.in-Ok.held.items ≡ length c.args.ins.now = c.in-Ok.ensures.long in
-    let within : AreWithin c.args.period c.args.d (length c.in-Ok.held.items) (length c.args.widths.now) c.args.trips.now = rw long c.requires.within in
-    let moves : c.in-Ok-all_settled.settled.items ≡ map (settled c.args.d c.in-Ok.held.items) c.args.trips.now = rw c.deref-2.ensures.value at
-    c.in-Ok-all_settled.ensures in
-    let kept : AreKept c.all_nets.new.nl.cells c.args.clocks.now.rst c.args.period c.args.d c.args.arrival c.args.ins.now c.in-Ok.held.items
+    let long : length c.in_ok-held.held.items ≡ length c.args.ins.now = c.in_ok-held.ensures.long in
+    let within : AreWithin c.args.period c.args.d (length c.in_ok-held.held.items) (length c.args.widths.now) c.args.trips.now = rw long c.requires.within in
+    let moves : c.in_ok-settled.settled.items ≡ map (settled c.args.d c.in_ok-held.held.items) c.args.trips.now = rw c.deref-2.ensures.value at
+    c.in_ok-settled.ensures in
+    let kept : AreKept c.all_nets.new.nl.cells c.args.clocks.now.rst c.args.period c.args.d c.args.arrival c.args.ins.now c.in_ok-held.held.items
     c.in_ok-all.all.items = rw c.deref.ensures.value at c.in_ok-all.ensures.kept in
     let grown = fitting_grows _ _ c.args.ins.now c.args.widths.now c.args.trips.now c.in_ok-all.ensures.adds.grows.extends c.requires.fitting in
     rw (c.deref-4.ensures.value, c.deref-5.ensures.value)
     (fitting_settled _ _ c.args.period c.args.d c.args.arrival
-    (length c.args.widths.now) c.args.ins.now c.in_ok-all.all.items c.args.widths.now c.in-Ok.held.items c.args.trips.now c.in-Ok-all_settled.settled.items
-    moves long kept within grown)
+    (length c.args.widths.now) c.args.ins.now c.in_ok-all.all.items c.args.widths.now c.in_ok-held.held.items c.args.trips.now
+    c.in_ok-settled.settled.items moves long kept within grown)
 
 pub build_best-requires-clause-time : goal.build_best-requires-clause-time
-build_best-requires-clause-time c = rw (c.deref-5.ensures.value, ← c.deref-3.ensures.value) c.in-Ok-scheduled.ensures.time
+build_best-requires-clause-time c = rw (c.deref-5.ensures.value, ← c.deref-3.ensures.value) c.in_ok-schedule.ensures.time
 
 pub build_best-requires-clause-moved : goal.build_best-requires-clause-moved
-build_best-requires-clause-moved c = rw (c.deref-5.ensures.value, ← c.deref-3.ensures.value) c.in-Ok-scheduled.ensures.moved
+build_best-requires-clause-moved c = rw (c.deref-5.ensures.value, ← c.deref-3.ensures.value) c.in_ok-schedule.ensures.moved
 
 pub build_best-requires-clause-lines : goal.build_best-requires-clause-lines
 build_best-requires-clause-lines c =
-    let long : length c.in-Ok.held.items ≡ length c.args.ins.now = c.in-Ok.ensures.long in
-    let kept : AreKept c.all_nets.new.nl.cells c.args.clocks.now.rst c.args.period c.args.d c.args.arrival c.args.ins.now c.in-Ok.held.items
+    let long : length c.in_ok-held.held.items ≡ length c.args.ins.now = c.in_ok-held.ensures.long in
+    let kept : AreKept c.all_nets.new.nl.cells c.args.clocks.now.rst c.args.period c.args.d c.args.arrival c.args.ins.now c.in_ok-held.held.items
     c.in_ok-all.all.items = rw c.deref.ensures.value at c.in_ok-all.ensures.kept in
-    rw c.deref-4.ensures.value (omega (arith, kept.long, long, c.in-Ok-scheduled.ensures.lines))
+    rw c.deref-4.ensures.value (omega (arith, kept.long, long, c.in_ok-schedule.ensures.lines))
 
 pub build_best-requires-clause-taps : goal.build_best-requires-clause-taps
-build_best-requires-clause-taps c = rw (c.deref-5.ensures.value, ← c.deref-3.ensures.value) c.in-Ok-scheduled.ensures.few
+build_best-requires-clause-taps c = rw (c.deref-5.ensures.value, ← c.deref-3.ensures.value) c.in_ok-schedule.ensures.few
 
 -- ---- room for what registers and the plan take
 
@@ -157,100 +157,107 @@ plan_memories a b c l m e f g = omega arith
 
 pub returns-in_err-all-clause-cells : goal.returns-in_err-all-clause-cells
 returns-in_err-all-clause-cells c =
-    let long : length c.in-Ok.held.items ≡ length c.args.ins.now = c.in-Ok.ensures.long in
-    let held : AreHeld c.args.period c.args.d (length c.in-Ok.held.items) (map trip_tree c.args.trips.now) c.in-Ok.held.items = rw long c.in-Ok.ensures in
-    let within : AreWithin c.args.period c.args.d (length c.in-Ok.held.items) (length c.args.widths.now) c.args.trips.now = rw long c.requires.within in
-    let adds : Adds c.args.nl.now c.all_nets.new.nl (16 * kept_count c.in-Ok.held.items (length c.in-Ok.held.items)) 0 = rw c.deref.ensures.value at
+    let long : length c.in_ok-held.held.items ≡ length c.args.ins.now = c.in_ok-held.ensures.long in
+    let held : AreHeld c.args.period c.args.d (length c.in_ok-held.held.items)
+    (map trip_tree c.args.trips.now) c.in_ok-held.held.items = rw long c.in_ok-held.ensures in
+    let within : AreWithin c.args.period c.args.d (length c.in_ok-held.held.items) (length c.args.widths.now) c.args.trips.now = rw long c.requires.within in
+    let adds : Adds c.args.nl.now c.all_nets.new.nl (16 * kept_count c.in_ok-held.held.items (length c.in_ok-held.held.items)) 0 = rw c.deref.ensures.value at
     c.in_err-all.ensures.adds in
-    kept_room _ _ _ _ _ _ adds.cells (kept_few c.args.period c.args.d (length c.args.ins.now) c.in-Ok.held.items c.args.trips.now long within.source held)
+    kept_room _ _ _ _ _ _ adds.cells (kept_few c.args.period c.args.d (length c.args.ins.now) c.in_ok-held.held.items c.args.trips.now long within.source held)
 
-pub returns-in-Err-all_settled-clause-cells : goal.returns-in-Err-all_settled-clause-cells
-returns-in-Err-all_settled-clause-cells c =
-    let long : length c.in-Ok.held.items ≡ length c.args.ins.now = c.in-Ok.ensures.long in
-    let held : AreHeld c.args.period c.args.d (length c.in-Ok.held.items) (map trip_tree c.args.trips.now) c.in-Ok.held.items = rw long c.in-Ok.ensures in
-    let within : AreWithin c.args.period c.args.d (length c.in-Ok.held.items) (length c.args.widths.now) c.args.trips.now = rw long c.requires.within in
-    let adds : Adds c.args.nl.now c.all_nets.new.nl (16 * kept_count c.in-Ok.held.items (length c.in-Ok.held.items)) 0 = rw c.deref.ensures.value at
+pub returns-in_err-settled-clause-cells : goal.returns-in_err-settled-clause-cells
+returns-in_err-settled-clause-cells c =
+    let long : length c.in_ok-held.held.items ≡ length c.args.ins.now = c.in_ok-held.ensures.long in
+    let held : AreHeld c.args.period c.args.d (length c.in_ok-held.held.items)
+    (map trip_tree c.args.trips.now) c.in_ok-held.held.items = rw long c.in_ok-held.ensures in
+    let within : AreWithin c.args.period c.args.d (length c.in_ok-held.held.items) (length c.args.widths.now) c.args.trips.now = rw long c.requires.within in
+    let adds : Adds c.args.nl.now c.all_nets.new.nl (16 * kept_count c.in_ok-held.held.items (length c.in_ok-held.held.items)) 0 = rw c.deref.ensures.value at
     c.in_ok-all.ensures.adds in
-    kept_room _ _ _ _ _ _ adds.cells (kept_few c.args.period c.args.d (length c.args.ins.now) c.in-Ok.held.items c.args.trips.now long within.source held)
+    kept_room _ _ _ _ _ _ adds.cells (kept_few c.args.period c.args.d (length c.args.ins.now) c.in_ok-held.held.items c.args.trips.now long within.source held)
 
-pub returns-in-Err-scheduled-clause-cells : goal.returns-in-Err-scheduled-clause-cells
-returns-in-Err-scheduled-clause-cells c =
-    let long : length c.in-Ok.held.items ≡ length c.args.ins.now = c.in-Ok.ensures.long in
-    let held : AreHeld c.args.period c.args.d (length c.in-Ok.held.items) (map trip_tree c.args.trips.now) c.in-Ok.held.items = rw long c.in-Ok.ensures in
-    let within : AreWithin c.args.period c.args.d (length c.in-Ok.held.items) (length c.args.widths.now) c.args.trips.now = rw long c.requires.within in
-    let adds : Adds c.args.nl.now c.all_nets.new.nl (16 * kept_count c.in-Ok.held.items (length c.in-Ok.held.items)) 0 = rw c.deref.ensures.value at
+pub returns-in_err-schedule-clause-cells : goal.returns-in_err-schedule-clause-cells
+returns-in_err-schedule-clause-cells c =
+    let long : length c.in_ok-held.held.items ≡ length c.args.ins.now = c.in_ok-held.ensures.long in
+    let held : AreHeld c.args.period c.args.d (length c.in_ok-held.held.items)
+    (map trip_tree c.args.trips.now) c.in_ok-held.held.items = rw long c.in_ok-held.ensures in
+    let within : AreWithin c.args.period c.args.d (length c.in_ok-held.held.items) (length c.args.widths.now) c.args.trips.now = rw long c.requires.within in
+    let adds : Adds c.args.nl.now c.all_nets.new.nl (16 * kept_count c.in_ok-held.held.items (length c.in_ok-held.held.items)) 0 = rw c.deref.ensures.value at
     c.in_ok-all.ensures.adds in
-    kept_room _ _ _ _ _ _ adds.cells (kept_few c.args.period c.args.d (length c.args.ins.now) c.in-Ok.held.items c.args.trips.now long within.source held)
+    kept_room _ _ _ _ _ _ adds.cells (kept_few c.args.period c.args.d (length c.args.ins.now) c.in_ok-held.held.items c.args.trips.now long within.source held)
 
 pub returns-in_err-out-clause-cells : goal.returns-in_err-out-clause-cells
 returns-in_err-out-clause-cells c =
-    let long : length c.in-Ok.held.items ≡ length c.args.ins.now = c.in-Ok.ensures.long in
-    let held : AreHeld c.args.period c.args.d (length c.in-Ok.held.items) (map trip_tree c.args.trips.now) c.in-Ok.held.items = rw long c.in-Ok.ensures in
-    let within : AreWithin c.args.period c.args.d (length c.in-Ok.held.items) (length c.args.widths.now) c.args.trips.now = rw long c.requires.within in
-    let moves : c.in-Ok-all_settled.settled.items ≡ map (settled c.args.d c.in-Ok.held.items) c.args.trips.now = rw c.deref-2.ensures.value at
-    c.in-Ok-all_settled.ensures in
-    let adds : Adds c.args.nl.now c.all_nets.new.nl (16 * kept_count c.in-Ok.held.items (length c.in-Ok.held.items)) 0 = rw c.deref.ensures.value at
+    let long : length c.in_ok-held.held.items ≡ length c.args.ins.now = c.in_ok-held.ensures.long in
+    let held : AreHeld c.args.period c.args.d (length c.in_ok-held.held.items)
+    (map trip_tree c.args.trips.now) c.in_ok-held.held.items = rw long c.in_ok-held.ensures in
+    let within : AreWithin c.args.period c.args.d (length c.in_ok-held.held.items) (length c.args.widths.now) c.args.trips.now = rw long c.requires.within in
+    let moves : c.in_ok-settled.settled.items ≡ map (settled c.args.d c.in_ok-held.held.items) c.args.trips.now = rw c.deref-2.ensures.value at
+    c.in_ok-settled.ensures in
+    let adds : Adds c.args.nl.now c.all_nets.new.nl (16 * kept_count c.in_ok-held.held.items (length c.in_ok-held.held.items)) 0 = rw c.deref.ensures.value at
     c.in_ok-all.ensures.adds in
-    let p = c.in-Ok-scheduled.ensures in
-    let used = used_settled c.args.d (length c.args.widths.now) c.in-Ok.held.items c.args.trips.now c.in-Ok-all_settled.settled.items moves c.requires.used in
+    let p = c.in_ok-schedule.ensures in
+    let used = used_settled c.args.d (length c.args.widths.now) c.in_ok-held.held.items c.args.trips.now c.in_ok-settled.settled.items moves c.requires.used in
     let delay = rw c.deref-3.ensures.value at p.delay in
     let runs = rw c.deref-3.ensures.value at p.runs in
     let moved = rw c.deref-3.ensures.value at p.moved in
     let begun = begun_of _ _ _ _ _ p.plan (used_hastened _ _ _ _ moved used) p.columns in
     plan_room _ _ _ _ _ _ _ _ _ _ _ _ _ _ (ap (λ n. 12 * min 2 n) p.columns) adds.cells c.in_err-out.ensures.cells
-    (gather_cells c.args.d _ _ c.in-Ok-scheduled.schedule.plan.lines.items c.in-Ok-scheduled.schedule.plan.columns.items delay p.taps runs
+    (gather_cells c.args.d _ _ c.in_ok-schedule.schedule.plan.lines.items c.in_ok-schedule.schedule.plan.columns.items delay p.taps runs
     (rw p.columns c.requires.some) begun)
-    (delay_all c.args.period c.args.d (length c.args.ins.now) c.in-Ok.held.items c.args.trips.now c.in-Ok-all_settled.settled.items moves long within.source
+    (delay_all c.args.period c.args.d (length c.args.ins.now) c.in_ok-held.held.items c.args.trips.now c.in_ok-settled.settled.items moves long within.source
     held)
-    (runs_settled c.args.d (length c.args.widths.now) c.in-Ok.held.items c.args.trips.now c.in-Ok-all_settled.settled.items moves)
+    (runs_settled c.args.d (length c.args.widths.now) c.in_ok-held.held.items c.args.trips.now c.in_ok-settled.settled.items moves)
 
 pub returns-clause-cells : goal.returns-clause-cells
 returns-clause-cells c =
-    let long : length c.in-Ok.held.items ≡ length c.args.ins.now = c.in-Ok.ensures.long in
-    let held : AreHeld c.args.period c.args.d (length c.in-Ok.held.items) (map trip_tree c.args.trips.now) c.in-Ok.held.items = rw long c.in-Ok.ensures in
-    let within : AreWithin c.args.period c.args.d (length c.in-Ok.held.items) (length c.args.widths.now) c.args.trips.now = rw long c.requires.within in
-    let moves : c.in-Ok-all_settled.settled.items ≡ map (settled c.args.d c.in-Ok.held.items) c.args.trips.now = rw c.deref-2.ensures.value at
-    c.in-Ok-all_settled.ensures in
-    let adds : Adds c.args.nl.now c.all_nets.new.nl (16 * kept_count c.in-Ok.held.items (length c.in-Ok.held.items)) 0 = rw c.deref.ensures.value at
+    let long : length c.in_ok-held.held.items ≡ length c.args.ins.now = c.in_ok-held.ensures.long in
+    let held : AreHeld c.args.period c.args.d (length c.in_ok-held.held.items)
+    (map trip_tree c.args.trips.now) c.in_ok-held.held.items = rw long c.in_ok-held.ensures in
+    let within : AreWithin c.args.period c.args.d (length c.in_ok-held.held.items) (length c.args.widths.now) c.args.trips.now = rw long c.requires.within in
+    let moves : c.in_ok-settled.settled.items ≡ map (settled c.args.d c.in_ok-held.held.items) c.args.trips.now = rw c.deref-2.ensures.value at
+    c.in_ok-settled.ensures in
+    let adds : Adds c.args.nl.now c.all_nets.new.nl (16 * kept_count c.in_ok-held.held.items (length c.in_ok-held.held.items)) 0 = rw c.deref.ensures.value at
     c.in_ok-all.ensures.adds in
-    let p = c.in-Ok-scheduled.ensures in
-    let used = used_settled c.args.d (length c.args.widths.now) c.in-Ok.held.items c.args.trips.now c.in-Ok-all_settled.settled.items moves c.requires.used in
+    let p = c.in_ok-schedule.ensures in
+    let used = used_settled c.args.d (length c.args.widths.now) c.in_ok-held.held.items c.args.trips.now c.in_ok-settled.settled.items moves c.requires.used in
     let delay = rw c.deref-3.ensures.value at p.delay in
     let runs = rw c.deref-3.ensures.value at p.runs in
     let moved = rw c.deref-3.ensures.value at p.moved in
     let begun = begun_of _ _ _ _ _ p.plan (used_hastened _ _ _ _ moved used) p.columns in
     plan_room _ _ _ _ _ _ _ _ _ _ _ _ _ _ (ap (λ n. 12 * min 2 n) p.columns) adds.cells c.in_ok-out.ensures.cells
-    (gather_cells c.args.d _ _ c.in-Ok-scheduled.schedule.plan.lines.items c.in-Ok-scheduled.schedule.plan.columns.items delay p.taps runs
+    (gather_cells c.args.d _ _ c.in_ok-schedule.schedule.plan.lines.items c.in_ok-schedule.schedule.plan.columns.items delay p.taps runs
     (rw p.columns c.requires.some) begun)
-    (delay_all c.args.period c.args.d (length c.args.ins.now) c.in-Ok.held.items c.args.trips.now c.in-Ok-all_settled.settled.items moves long within.source
+    (delay_all c.args.period c.args.d (length c.args.ins.now) c.in_ok-held.held.items c.args.trips.now c.in_ok-settled.settled.items moves long within.source
     held)
-    (runs_settled c.args.d (length c.args.widths.now) c.in-Ok.held.items c.args.trips.now c.in-Ok-all_settled.settled.items moves)
+    (runs_settled c.args.d (length c.args.widths.now) c.in_ok-held.held.items c.args.trips.now c.in_ok-settled.settled.items moves)
 
 pub returns-in_err-out-clause-memories : goal.returns-in_err-out-clause-memories
 returns-in_err-out-clause-memories c =
-    let long : length c.in-Ok.held.items ≡ length c.args.ins.now = c.in-Ok.ensures.long in
-    let held : AreHeld c.args.period c.args.d (length c.in-Ok.held.items) (map trip_tree c.args.trips.now) c.in-Ok.held.items = rw long c.in-Ok.ensures in
-    let within : AreWithin c.args.period c.args.d (length c.in-Ok.held.items) (length c.args.widths.now) c.args.trips.now = rw long c.requires.within in
-    let moves : c.in-Ok-all_settled.settled.items ≡ map (settled c.args.d c.in-Ok.held.items) c.args.trips.now = rw c.deref-2.ensures.value at
-    c.in-Ok-all_settled.ensures in
-    let p = c.in-Ok-scheduled.ensures in
+    let long : length c.in_ok-held.held.items ≡ length c.args.ins.now = c.in_ok-held.ensures.long in
+    let held : AreHeld c.args.period c.args.d (length c.in_ok-held.held.items)
+    (map trip_tree c.args.trips.now) c.in_ok-held.held.items = rw long c.in_ok-held.ensures in
+    let within : AreWithin c.args.period c.args.d (length c.in_ok-held.held.items) (length c.args.widths.now) c.args.trips.now = rw long c.requires.within in
+    let moves : c.in_ok-settled.settled.items ≡ map (settled c.args.d c.in_ok-held.held.items) c.args.trips.now = rw c.deref-2.ensures.value at
+    c.in_ok-settled.ensures in
+    let p = c.in_ok-schedule.ensures in
     let ages = rw c.deref-3.ensures.value at p.ages in
     plan_memories _ _ _ _ _ c.in_ok-all.ensures.adds.memories c.in_err-out.ensures.memories
-    (mems_all c.args.period c.args.d (length c.args.ins.now) c.in-Ok.held.items c.args.trips.now c.in-Ok-all_settled.settled.items
-    c.in-Ok-scheduled.schedule.plan.lines.items moves long within.source held p.lines ages)
+    (mems_all c.args.period c.args.d (length c.args.ins.now) c.in_ok-held.held.items c.args.trips.now c.in_ok-settled.settled.items
+    c.in_ok-schedule.schedule.plan.lines.items moves long within.source held p.lines ages)
 
 pub returns-clause-memories : goal.returns-clause-memories
 returns-clause-memories c =
-    let long : length c.in-Ok.held.items ≡ length c.args.ins.now = c.in-Ok.ensures.long in
-    let held : AreHeld c.args.period c.args.d (length c.in-Ok.held.items) (map trip_tree c.args.trips.now) c.in-Ok.held.items = rw long c.in-Ok.ensures in
-    let within : AreWithin c.args.period c.args.d (length c.in-Ok.held.items) (length c.args.widths.now) c.args.trips.now = rw long c.requires.within in
-    let moves : c.in-Ok-all_settled.settled.items ≡ map (settled c.args.d c.in-Ok.held.items) c.args.trips.now = rw c.deref-2.ensures.value at
-    c.in-Ok-all_settled.ensures in
-    let p = c.in-Ok-scheduled.ensures in
+    let long : length c.in_ok-held.held.items ≡ length c.args.ins.now = c.in_ok-held.ensures.long in
+    let held : AreHeld c.args.period c.args.d (length c.in_ok-held.held.items)
+    (map trip_tree c.args.trips.now) c.in_ok-held.held.items = rw long c.in_ok-held.ensures in
+    let within : AreWithin c.args.period c.args.d (length c.in_ok-held.held.items) (length c.args.widths.now) c.args.trips.now = rw long c.requires.within in
+    let moves : c.in_ok-settled.settled.items ≡ map (settled c.args.d c.in_ok-held.held.items) c.args.trips.now = rw c.deref-2.ensures.value at
+    c.in_ok-settled.ensures in
+    let p = c.in_ok-schedule.ensures in
     let ages = rw c.deref-3.ensures.value at p.ages in
     plan_memories _ _ _ _ _ c.in_ok-all.ensures.adds.memories c.in_ok-out.ensures.memories
-    (mems_all c.args.period c.args.d (length c.args.ins.now) c.in-Ok.held.items c.args.trips.now c.in-Ok-all_settled.settled.items
-    c.in-Ok-scheduled.schedule.plan.lines.items moves long within.source held p.lines ages)
+    (mems_all c.args.period c.args.d (length c.args.ins.now) c.in_ok-held.held.items c.args.trips.now c.in_ok-settled.settled.items
+    c.in_ok-schedule.schedule.plan.lines.items moves long within.source held p.lines ages)
 
 pub returns-in_err-all-clause-muls : goal.returns-in_err-all-clause-muls
 returns-in_err-all-clause-muls c = no_more _ _ c.in_err-all.ensures.adds.muls
@@ -258,17 +265,17 @@ returns-in_err-all-clause-muls c = no_more _ _ c.in_err-all.ensures.adds.muls
 pub returns-in_err-all-clause-memories : goal.returns-in_err-all-clause-memories
 returns-in_err-all-clause-memories c = same_memories _ _ _ c.in_err-all.ensures.adds.memories
 
-pub returns-in-Err-all_settled-clause-muls : goal.returns-in-Err-all_settled-clause-muls
-returns-in-Err-all_settled-clause-muls c = no_more _ _ c.in_ok-all.ensures.adds.muls
+pub returns-in_err-settled-clause-muls : goal.returns-in_err-settled-clause-muls
+returns-in_err-settled-clause-muls c = no_more _ _ c.in_ok-all.ensures.adds.muls
 
-pub returns-in-Err-all_settled-clause-memories : goal.returns-in-Err-all_settled-clause-memories
-returns-in-Err-all_settled-clause-memories c = same_memories _ _ _ c.in_ok-all.ensures.adds.memories
+pub returns-in_err-settled-clause-memories : goal.returns-in_err-settled-clause-memories
+returns-in_err-settled-clause-memories c = same_memories _ _ _ c.in_ok-all.ensures.adds.memories
 
-pub returns-in-Err-scheduled-clause-muls : goal.returns-in-Err-scheduled-clause-muls
-returns-in-Err-scheduled-clause-muls c = no_more _ _ c.in_ok-all.ensures.adds.muls
+pub returns-in_err-schedule-clause-muls : goal.returns-in_err-schedule-clause-muls
+returns-in_err-schedule-clause-muls c = no_more _ _ c.in_ok-all.ensures.adds.muls
 
-pub returns-in-Err-scheduled-clause-memories : goal.returns-in-Err-scheduled-clause-memories
-returns-in-Err-scheduled-clause-memories c = same_memories _ _ _ c.in_ok-all.ensures.adds.memories
+pub returns-in_err-schedule-clause-memories : goal.returns-in_err-schedule-clause-memories
+returns-in_err-schedule-clause-memories c = same_memories _ _ _ c.in_ok-all.ensures.adds.memories
 
 pub returns-in_err-out-clause-belongs : goal.returns-in_err-out-clause-belongs
 returns-in_err-out-clause-belongs c = c.in_err-out.ensures.belongs
@@ -305,15 +312,16 @@ returns-clause-grows c = grows_trans c.in_ok-all.ensures.adds.grows c.in_ok-out.
 
 pub returns-clause-trips : goal.returns-clause-trips
 returns-clause-trips c =
-    let long : length c.in-Ok.held.items ≡ length c.args.ins.now = c.in-Ok.ensures.long in
-    let held : AreHeld c.args.period c.args.d (length c.in-Ok.held.items) (map trip_tree c.args.trips.now) c.in-Ok.held.items = rw long c.in-Ok.ensures in
-    let within : AreWithin c.args.period c.args.d (length c.in-Ok.held.items) (length c.args.widths.now) c.args.trips.now = rw long c.requires.within in
-    let moves : c.in-Ok-all_settled.settled.items ≡ map (settled c.args.d c.in-Ok.held.items) c.args.trips.now = rw c.deref-2.ensures.value at
-    c.in-Ok-all_settled.ensures in
-    let kept : AreKept c.all_nets.new.nl.cells c.args.clocks.now.rst c.args.period c.args.d c.args.arrival c.args.ins.now c.in-Ok.held.items
+    let long : length c.in_ok-held.held.items ≡ length c.args.ins.now = c.in_ok-held.ensures.long in
+    let held : AreHeld c.args.period c.args.d (length c.in_ok-held.held.items)
+    (map trip_tree c.args.trips.now) c.in_ok-held.held.items = rw long c.in_ok-held.ensures in
+    let within : AreWithin c.args.period c.args.d (length c.in_ok-held.held.items) (length c.args.widths.now) c.args.trips.now = rw long c.requires.within in
+    let moves : c.in_ok-settled.settled.items ≡ map (settled c.args.d c.in_ok-held.held.items) c.args.trips.now = rw c.deref-2.ensures.value at
+    c.in_ok-settled.ensures in
+    let kept : AreKept c.all_nets.new.nl.cells c.args.clocks.now.rst c.args.period c.args.d c.args.arrival c.args.ins.now c.in_ok-held.held.items
     c.in_ok-all.all.items = rw c.deref.ensures.value at c.in_ok-all.ensures.kept in
     let grown = kept_grows _ _ _ _ _ _ _ _ _ c.in_ok-out.ensures.grows.extends kept in
     let made = rw (c.deref-4.ensures.value, c.deref-5.ensures.value, c.in_ok-all.ensures.keeps.rst) at c.in_ok-out.ensures.trips in
     trips_settled _ _ c.args.period c.args.d c.args.arrival
-    (length c.args.widths.now) c.args.ins.now c.in_ok-all.all.items _ c.in-Ok.held.items c.args.trips.now c.in-Ok-all_settled.settled.items moves long
+    (length c.args.widths.now) c.args.ins.now c.in_ok-all.all.items _ c.in_ok-held.held.items c.args.trips.now c.in_ok-settled.settled.items moves long
     grown held within made

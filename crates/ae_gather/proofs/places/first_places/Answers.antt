@@ -1,5 +1,5 @@
 -- From the last trip back to the first.
-use Rattle.std.proofs.Common.{ℕ, ◌≡◌, ◌-◌, ◌<◌, ◌≤◌, length, get_or, slice_get, Some, arith}
+use Rattle.std.proofs.Common.{◌-◌, length, arith}
 use Rattle.std.proofs.lemmas.Option.{slice_get-get_or}
 use Rattle.ae_moves.specs.declared.trip.Source.TheVariants.{Place}
 use Rattle.ae_moves.specs.declared.trip.Trip.{Trip}

@@ -13,7 +13,7 @@ loop-q-preserved c =
     let new = c.in_ok-net.ensures in
     record {
       adds = adds_most _ (omega arith) (adds_trans was.adds new.adds);
-      reads = λ rst rings. rw c.in_ok-keep_net.ensures.ok (reads_more c.loop-q.q _ _ _ _ _ _ _ _ new.adds.grows.extends (was.reads rst rings)
+      reads = λ rst rings. rw c.in_ok-push.ensures.items (reads_more c.loop-q.q _ _ _ _ _ _ _ _ new.adds.grows.extends (was.reads rst rings)
           (new.reads rst (rings_grow was.adds.grows.extends rings)));
     }
 
@@ -33,7 +33,7 @@ returns-in_err-net-clause-adds c =
     let l : c.loop-q.q < length c.args.reads.now.from.items = omega (arith, c.loop-q-test.true, c.len-q-end.ensures) in
     adds_most _ (read_room _ _ l) (adds_trans c.loop-q.invariant.adds c.in_err-net.ensures.adds)
 
-pub returns-in_err-keep_net-clause-adds : goal.returns-in_err-keep_net-clause-adds
-returns-in_err-keep_net-clause-adds c =
+pub returns-in_err-push-clause-adds : goal.returns-in_err-push-clause-adds
+returns-in_err-push-clause-adds c =
     let l : c.loop-q.q < length c.args.reads.now.from.items = omega (arith, c.loop-q-test.true, c.len-q-end.ensures) in
     adds_most _ (read_room _ _ l) (adds_trans c.loop-q.invariant.adds c.in_ok-net.ensures.adds)

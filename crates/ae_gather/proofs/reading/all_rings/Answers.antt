@@ -1,5 +1,5 @@
 -- One ring more.
-use Rattle.std.proofs.Common.{ℕ, ◌≡◌, ◌≤◌, ◌+◌, Bool, false, cond, length, take, slice_get, Some, refl, arith}
+use Rattle.std.proofs.Common.{◌≡◌, ◌≤◌, ◌+◌, Bool, false, cond, length, take, slice_get, Some, refl, arith}
 use Rattle.std.proofs.lemmas.List.{take_all}
 use Rattle.std.proofs.lemmas.Option.{get_or_from_slice_get, slice_get_read}
 use Rattle.ae_netlist.proofs.Growing.{net_later}
@@ -22,8 +22,8 @@ returns-in_err-ring-clause-adds c =
     let part = sum_part (λ (x : Bool). cond x 1 0) c.args.reads.now.rings.items (c.loop-q.q + 1) in
     memories_most _ _ (omega (arith, more, part)) (omega (arith, more, part)) (memories_trans c.loop-q.invariant.adds c.in_err-ring.ensures.adds)
 
-pub returns-in_err-keep_ring-clause-adds : goal.returns-in_err-keep_ring-clause-adds
-returns-in_err-keep_ring-clause-adds c =
+pub returns-in_err-push-clause-adds : goal.returns-in_err-push-clause-adds
+returns-in_err-push-clause-adds c =
     let has : Bool = c.index.result.now in
     let there : slice_get c.args.reads.now.rings.items c.loop-q.q ≡ Some has = slice_get_read c.args.reads.now.rings.items
     (length c.args.reads.now.rings.items) c.loop-q.q has refl (omega (arith, c.loop-q-test.true, c.requires.long)) c.index.ensures in
@@ -37,11 +37,11 @@ returns-in_err-ring-clause-belongs c = c.in_err-ring.ensures.belongs
 pub returns-in_err-ring-clause-keeps : goal.returns-in_err-ring-clause-keeps
 returns-in_err-ring-clause-keeps c = keeps_trans c.loop-q.invariant.keeps c.in_err-ring.ensures.keeps
 
-pub returns-in_err-keep_ring-clause-belongs : goal.returns-in_err-keep_ring-clause-belongs
-returns-in_err-keep_ring-clause-belongs c = c.in_ok-ring.ensures.belongs
+pub returns-in_err-push-clause-belongs : goal.returns-in_err-push-clause-belongs
+returns-in_err-push-clause-belongs c = c.in_ok-ring.ensures.belongs
 
-pub returns-in_err-keep_ring-clause-keeps : goal.returns-in_err-keep_ring-clause-keeps
-returns-in_err-keep_ring-clause-keeps c = keeps_trans c.loop-q.invariant.keeps c.in_ok-ring.ensures.keeps
+pub returns-in_err-push-clause-keeps : goal.returns-in_err-push-clause-keeps
+returns-in_err-push-clause-keeps c = keeps_trans c.loop-q.invariant.keeps c.in_ok-ring.ensures.keeps
 
 pub returns-clause-belongs : goal.returns-clause-belongs
 returns-clause-belongs c = c.loop-q.invariant.belongs
@@ -67,6 +67,6 @@ loop-q-preserved c =
       belongs = new.belongs;
       keeps = keeps_trans was.keeps new.keeps;
       adds = memories_most _ _ (omega (arith, more)) (omega (arith, more)) (memories_trans was.adds new.adds);
-      rings = rw c.in_ok-keep_ring.ensures.ok (rings_more c.loop-q.q _ _ _ _ _ _ _ has new.adds.grows.extends was.rings (rw was.keeps.rst at new.ring) new.has
+      rings = rw c.in_ok-push.ensures.items (rings_more c.loop-q.q _ _ _ _ _ _ _ has new.adds.grows.extends was.rings (rw was.keeps.rst at new.ring) new.has
           (get_or_from_slice_get c.args.reads.now.rings.items c.loop-q.q has false there));
     }

@@ -31,20 +31,20 @@ plan_reading-requires-clause-within c =
     let w = c.requires.within in
     record { clock = λ n t f. below_limit _ _ _ (w.clock n t f) c.requires.limit; column = w.column; reached = w.reached; source = w.source }
 
-pub returns-in-Err-clause-keeps : goal.returns-in-Err-clause-keeps
-returns-in-Err-clause-keeps c = keeps_same _
+pub returns-in_err-reading-clause-keeps : goal.returns-in_err-reading-clause-keeps
+returns-in_err-reading-clause-keeps c = keeps_same _
 
-pub returns-in-Err-clause-grows : goal.returns-in-Err-clause-grows
-returns-in-Err-clause-grows c = grows_refl _
+pub returns-in_err-reading-clause-grows : goal.returns-in_err-reading-clause-grows
+returns-in_err-reading-clause-grows c = grows_refl _
 
-pub returns-in-Err-clause-cells : goal.returns-in-Err-clause-cells
-returns-in-Err-clause-cells c = none_room _ _
+pub returns-in_err-reading-clause-cells : goal.returns-in_err-reading-clause-cells
+returns-in_err-reading-clause-cells c = none_room _ _
 
-pub returns-in-Err-clause-memories : goal.returns-in-Err-clause-memories
-returns-in-Err-clause-memories c = none_room _ _
+pub returns-in_err-reading-clause-memories : goal.returns-in_err-reading-clause-memories
+returns-in_err-reading-clause-memories c = none_room _ _
 
 pub is_no_dearer-requires-clause-few : goal.is_no_dearer-requires-clause-few
-is_no_dearer-requires-clause-few c = λ q ages f. few_of _ _ _ (c.in-Ok.ensures.few q ages f) c.requires.few
+is_no_dearer-requires-clause-few c = λ q ages f. few_of _ _ _ (c.in_ok-reading.ensures.few q ages f) c.requires.few
 
 pub is_no_dearer-requires-clause-few_lines : goal.is_no_dearer-requires-clause-few_lines
 is_no_dearer-requires-clause-few_lines c = λ q ages f. few_of _ _ _ (c.requires.taps q ages f) c.requires.few
@@ -83,7 +83,7 @@ pub build_reading-requires-clause-some : goal.build_reading-requires-clause-some
 build_reading-requires-clause-some c = c.requires.some
 
 pub build_reading-requires-clause-reading : goal.build_reading-requires-clause-reading
-build_reading-requires-clause-reading c = c.in-Ok.ensures
+build_reading-requires-clause-reading c = c.in_ok-reading.ensures
 
 pub returns-in_err-out-clause-belongs : goal.returns-in_err-out-clause-belongs
 returns-in_err-out-clause-belongs c = c.in_err-out.ensures.belongs

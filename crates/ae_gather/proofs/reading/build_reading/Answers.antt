@@ -1,16 +1,15 @@
 -- Rings, the places that are read, what is read, and the plan on it.
-use Rattle.std.proofs.Common.{ℕ, ◌≡◌, ◌≤◌, ◌+◌, ◌*◌, length, map, arith, refl, ap, ◌∙◌}
+use Rattle.std.proofs.Common.{ℕ, ◌≡◌, ◌≤◌, ◌+◌, ◌*◌, length, arith, refl, ap, ◌∙◌}
 use Rattle.std.proofs.lemmas.List.{length-map}
 use Rattle.ae_netlist.proofs.Growing.{net_later}
 use Rattle.ae_clocked.proofs.Adding.{grows_trans}
 use Rattle.ae_clocked.proofs.Belonging.{belongs_grows}
 use Rattle.ae_ops.proofs.Lateness.{keeps_trans}
 use Rattle.ae_gather.specs.Plans.{AreWithin}
-use Rattle.ae_gather.specs.Readers.{AreReads, AreRings, ShowsPlaces}
+use Rattle.ae_gather.specs.Readers.{AreReads}
 use Rattle.ae_gather.specs.Reads.{read_trip}
-use Rattle.ae_gather.specs.Readings.{IsReading}
 use Rattle.ae_gather.proofs.Building.{fitting_grows}
-use Rattle.ae_gather.proofs.Rereads.{fitting_read, order_read, placed_trip, trips_read, used_placed, used_read, within_placed, within_read}
+use Rattle.ae_gather.proofs.Rereads.{fitting_read, placed_trip, trips_read, used_placed, used_read, within_placed, within_read}
 use Rattle.ae_gather.proofs.Ringing.{reads_later, reads_nets, rings_grow}
 use Rattle.ae_gather.proofs.Showing.{fits_placed, shows_later}
 use Rattle.ae_gather.proofs.reading.build_reading.Goals as goal

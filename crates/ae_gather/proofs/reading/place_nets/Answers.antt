@@ -18,11 +18,11 @@ all_columns-requires-clause-ready c = λ q w steps there wide.
     let here = rw c.deref.ensures.value at there in
     let width = rw c.deref-2.ensures.value at wide in
     let lines = no_lines c.counting.new.nl.cells c.counting.new.clocks.rst c.args.reading.now.plan.lines.items c.requires.none in
-    let fits = fitting_places c.args.nl.now.cells c.args.reading.now.reads.bits c.in-Ok.widths.items c.args.reading.now.places.items
-    (omega (arith, c.requires.low)) (omega (arith, c.requires.high)) c.in-Ok.ensures.each c.requires.fits in
-    let fitting = fitting_grows _ _ [] c.in-Ok.widths.items c.args.reading.now.places.items c.in_ok-phase.ensures.adds.grows.extends fits in
-    rw (c.deref-3.ensures.value, c.in-Ok-none_early.ensures.none q, c.in_ok-phase.ensures.limits)
-    (steps_ready _ _ w q c.args.limit c.args.d [] c.in-Ok.widths.items c.args.reading.now.places.items c.args.reading.now.plan.lines.items
+    let fits = fitting_places c.args.nl.now.cells c.args.reading.now.reads.bits c.in_ok-widths.widths.items c.args.reading.now.places.items
+    (omega (arith, c.requires.low)) (omega (arith, c.requires.high)) c.in_ok-widths.ensures.each c.requires.fits in
+    let fitting = fitting_grows _ _ [] c.in_ok-widths.widths.items c.args.reading.now.places.items c.in_ok-phase.ensures.adds.grows.extends fits in
+    rw (c.deref-3.ensures.value, c.in_ok-early.ensures.none q, c.in_ok-phase.ensures.limits)
+    (steps_ready _ _ w q c.args.limit c.args.d [] c.in_ok-widths.widths.items c.args.reading.now.places.items c.args.reading.now.plan.lines.items
     [] c.args.reading.now.plan.columns.items steps lines fitting c.requires.below c.requires.plan here width)
 
 pub returns-in_err-phase-clause-belongs : goal.returns-in_err-phase-clause-belongs
@@ -53,33 +53,34 @@ pub returns-clause-nets : goal.returns-clause-nets
 returns-clause-nets c = λ q l.
     let none : NetId = record { 0 = 0 } in
     let made = rw (c.deref.ensures.value, c.deref-2.ensures.value, c.deref-3.ensures.value) at c.in_ok-out.ensures.columns in
-    let width : slice_get c.in-Ok.widths.items q ≡ Some (get_or c.in-Ok.widths.items q 0) = slice_get-get_or c.in-Ok.widths.items q 0
-    (omega (arith, l, c.in-Ok.ensures.long)) in
+    let width : slice_get c.in_ok-widths.widths.items q ≡ Some (get_or c.in_ok-widths.widths.items q 0) = slice_get-get_or c.in_ok-widths.widths.items q 0
+    (omega (arith, l, c.in_ok-widths.ensures.long)) in
     let there : slice_get c.in_ok-out.out.items q ≡ Some (get_or c.in_ok-out.out.items q none) = slice_get-get_or c.in_ok-out.out.items q none
     (omega (arith, l, made.long, c.requires.columns)) in
-    let net = columns_nets _ _ _ _ c.in-Ok.widths.items _ c.args.reading.now.plan.columns.items c.in_ok-out.out.items
-    (omega (arith, c.in-Ok.ensures.long, c.requires.columns)) made q (get_or c.in-Ok.widths.items q 0) (get_or c.in_ok-out.out.items q none) width there in
-    rw (c.in-Ok.ensures.each q (get_or c.in-Ok.widths.items q 0) width) at net
+    let net = columns_nets _ _ _ _ c.in_ok-widths.widths.items _ c.args.reading.now.plan.columns.items c.in_ok-out.out.items
+    (omega (arith, c.in_ok-widths.ensures.long, c.requires.columns)) made q (get_or c.in_ok-widths.widths.items q 0)
+    (get_or c.in_ok-out.out.items q none) width there in
+    rw (c.in_ok-widths.ensures.each q (get_or c.in_ok-widths.widths.items q 0) width) at net
 
 pub returns-clause-shows : goal.returns-clause-shows
 returns-clause-shows c =
     let made = rw (c.deref.ensures.value, c.deref-2.ensures.value, c.deref-3.ensures.value, c.in_ok-phase.ensures.keeps.rst) at c.in_ok-out.ensures.columns in
     let t : ℕ = c.args.period in
     let offsets = c.in_ok-phase.ensures.offsets ∙ c.offset-ahead.ensures ∙ ap (λ n. (n + (t - 1)) % t) c.offset-begin.ensures in
-    places_shown _ _ c.args.period c.args.d c.args.arrival c.args.limit c.args.outs c.in_ok-phase.phase _ c.in-Ok.widths.items c.in-Ok-none_early.early.items
+    places_shown _ _ c.args.period c.args.d c.args.arrival c.args.limit c.args.outs c.in_ok-phase.phase _ c.in_ok-widths.widths.items c.in_ok-early.early.items
     c.args.reading.now.places.items c.args.reading.now.plan.lines.items c.args.reading.now.plan.columns.items c.in_ok-out.out.items
-    c.requires.within c.requires.below c.requires.plan c.requires.columns c.in-Ok.ensures.long c.in-Ok-none_early.ensures.none refl
+    c.requires.within c.requires.below c.requires.plan c.requires.columns c.in_ok-widths.ensures.long c.in_ok-early.ensures.none refl
     (phase_grows c.in_ok-out.ensures.adds.grows.extends c.in_ok-phase.ensures.counts) c.in_ok-phase.ensures.periodic c.in_ok-phase.ensures.limits offsets
     made
 
 counter_room : (n : ℕ) → 12 ≤ 12 + n
 counter_room n = omega arith
 
-pub returns-in-Err-clause-adds : goal.returns-in-Err-clause-adds
-returns-in-Err-clause-adds c = adds_same _ _ _ refl
+pub returns-in_err-widths-clause-adds : goal.returns-in_err-widths-clause-adds
+returns-in_err-widths-clause-adds c = adds_same _ _ _ refl
 
-pub returns-in-Err-none_early-clause-adds : goal.returns-in-Err-none_early-clause-adds
-returns-in-Err-none_early-clause-adds c = adds_same _ _ _ refl
+pub returns-in_err-early-clause-adds : goal.returns-in_err-early-clause-adds
+returns-in_err-early-clause-adds c = adds_same _ _ _ refl
 
 pub returns-in_err-phase-clause-adds : goal.returns-in_err-phase-clause-adds
 returns-in_err-phase-clause-adds c = adds_most _ (counter_room _) c.in_err-phase.ensures.adds

@@ -1,5 +1,5 @@
 -- A read of the ring that the column has.
-use Rattle.std.proofs.Common.{ℕ, ◌≡◌, Option, Some, None, length, get_or, slice_get, arith, refl, sym, ap, ◌∙◌}
+use Rattle.std.proofs.Common.{◌≡◌, Some, None, length, slice_get, arith, refl, sym, ap, ◌∙◌}
 use Rattle.std.proofs.lemmas.Option.{get_or_from_slice_get, slice_get-get_or, slice_get_read}
 use Rattle.ae_netlist.proofs.Growing.{net_later, net_width}
 use Rattle.ae_clocked.proofs.Added.{own_net}

@@ -44,7 +44,7 @@ gather-requires-clause-latency c =
 
 pub gather-requires-clause-few : goal.gather-requires-clause-few
 gather-requires-clause-few c =
-    let trips = rw (c.deref.ensures.value, c.deref-3.ensures.value) at c.in_ok-trips.ensures.trips in
+    let trips = rw (c.deref.ensures.value, c.deref-3.ensures.value) at c.in_ok-trips.ensures in
     omega (arith, trips_few _ c.in_ok-trips.trips.items c.self.invariant.move trips, ap length c.deref-8.ensures.value)
 
 pub gather-requires-clause-few_ins : goal.gather-requires-clause-few_ins
@@ -65,7 +65,7 @@ gather-requires-clause-nets c =
 
 pub gather-requires-clause-order : goal.gather-requires-clause-order
 gather-requires-clause-order c =
-    let trips = rw (c.deref.ensures.value, c.deref-3.ensures.value) at c.in_ok-trips.ensures.trips in
+    let trips = rw (c.deref.ensures.value, c.deref-3.ensures.value) at c.in_ok-trips.ensures in
     rw c.deref-8.ensures.value (in_order (move_of (record {
       ins = c.self.inside.ins.items;
       out = c.self.inside.out;
@@ -75,7 +75,7 @@ gather-requires-clause-order c =
 pub gather-requires-clause-within : goal.gather-requires-clause-within
 gather-requires-clause-within c =
     let made = rw (← c.self.view_is) at c.requires.bundles in
-    let trips = rw (c.deref.ensures.value, c.deref-3.ensures.value) at c.in_ok-trips.ensures.trips in
+    let trips = rw (c.deref.ensures.value, c.deref-3.ensures.value) at c.in_ok-trips.ensures in
     let d = rw (c.deref-4.ensures.value, c.deref-5.ensures.value) at c.latency-d.ensures in
     let nets = ap length c.deref-6.ensures.value ∙ nets_long _ (map st_tree c.self.inside.ins.items) c.args.ins.now _ _ made c.in_ok-joined.ensures.joined in
     let widths = ap length c.deref-7.ensures.value ∙ c.in_ok-widths.ensures.long in
@@ -85,7 +85,7 @@ gather-requires-clause-within c =
 
 pub gather-requires-clause-used : goal.gather-requires-clause-used
 gather-requires-clause-used c =
-    let trips = rw (c.deref.ensures.value, c.deref-3.ensures.value) at c.in_ok-trips.ensures.trips in
+    let trips = rw (c.deref.ensures.value, c.deref-3.ensures.value) at c.in_ok-trips.ensures in
     let widths = ap length c.deref-7.ensures.value ∙ c.in_ok-widths.ensures.long in
     rw c.deref-8.ensures.value (used_as (move_of (record {
       ins = c.self.inside.ins.items;
@@ -96,7 +96,7 @@ gather-requires-clause-used c =
 pub gather-requires-clause-fitting : goal.gather-requires-clause-fitting
 gather-requires-clause-fitting c =
     let made = rw (← c.self.view_is) at c.requires.bundles in
-    let trips = rw (c.deref.ensures.value, c.deref-3.ensures.value) at c.in_ok-trips.ensures.trips in
+    let trips = rw (c.deref.ensures.value, c.deref-3.ensures.value) at c.in_ok-trips.ensures in
     rw (c.deref-6.ensures.value, c.deref-7.ensures.value, c.deref-8.ensures.value)
     (fitting _ (move_of (record { ins = c.self.inside.ins.items; out = c.self.inside.out; origins = map origin_tree c.self.inside.source.items }))
     c.args.ins.now _ c.in_ok-joined.joined.firsts.items _ _ c.self.invariant.move made c.in_ok-joined.ensures.joined trips c.in_ok-widths.ensures.widths)
@@ -106,7 +106,7 @@ returns-in_err-nets-clause-cells c =
     let m : Move = move_of (record { ins = c.self.inside.ins.items; out = c.self.inside.out; origins = map origin_tree c.self.inside.source.items }) in
     let made = rw (← c.self.view_is) at c.requires.bundles in
     let trips : map trip_tree c.deref-8.result.now ≡ move_trips m = rw c.deref-8.ensures.value
-    (rw (c.deref.ensures.value, c.deref-3.ensures.value) at c.in_ok-trips.ensures.trips) in
+    (rw (c.deref.ensures.value, c.deref-3.ensures.value) at c.in_ok-trips.ensures) in
     let d = rw (c.deref-4.ensures.value, c.deref-5.ensures.value) at c.latency-d.ensures in
     let nets = ap length c.deref-6.ensures.value ∙ nets_long _ (map st_tree c.self.inside.ins.items) c.args.ins.now _ _ made c.in_ok-joined.ensures.joined in
     let widths = ap length c.deref-7.ensures.value ∙ c.in_ok-widths.ensures.long in
@@ -117,7 +117,7 @@ returns-clause-cells c =
     let m : Move = move_of (record { ins = c.self.inside.ins.items; out = c.self.inside.out; origins = map origin_tree c.self.inside.source.items }) in
     let made = rw (← c.self.view_is) at c.requires.bundles in
     let trips : map trip_tree c.deref-8.result.now ≡ move_trips m = rw c.deref-8.ensures.value
-    (rw (c.deref.ensures.value, c.deref-3.ensures.value) at c.in_ok-trips.ensures.trips) in
+    (rw (c.deref.ensures.value, c.deref-3.ensures.value) at c.in_ok-trips.ensures) in
     let d = rw (c.deref-4.ensures.value, c.deref-5.ensures.value) at c.latency-d.ensures in
     let nets = ap length c.deref-6.ensures.value ∙ nets_long _ (map st_tree c.self.inside.ins.items) c.args.ins.now _ _ made c.in_ok-joined.ensures.joined in
     let widths = ap length c.deref-7.ensures.value ∙ c.in_ok-widths.ensures.long in
@@ -136,7 +136,7 @@ returns-clause-law c =
     let m : Move = move_of (record { ins = c.self.inside.ins.items; out = c.self.inside.out; origins = map origin_tree c.self.inside.source.items }) in
     let made = rw (← c.self.view_is) at c.requires.bundles in
     let trips : map trip_tree c.deref-8.result.now ≡ move_trips m = rw c.deref-8.ensures.value
-    (rw (c.deref.ensures.value, c.deref-3.ensures.value) at c.in_ok-trips.ensures.trips) in
+    (rw (c.deref.ensures.value, c.deref-3.ensures.value) at c.in_ok-trips.ensures) in
     let d = rw (c.deref-4.ensures.value, c.deref-5.ensures.value) at c.latency-d.ensures in
     let nets = ap length c.deref-6.ensures.value ∙ nets_long _ (map st_tree c.self.inside.ins.items) c.args.ins.now _ _ made c.in_ok-joined.ensures.joined in
     let widths = ap length c.deref-7.ensures.value ∙ c.in_ok-widths.ensures.long in
@@ -150,7 +150,7 @@ returns-clause-memories c =
     let m : Move = move_of (record { ins = c.self.inside.ins.items; out = c.self.inside.out; origins = map origin_tree c.self.inside.source.items }) in
     let made = rw (← c.self.view_is) at c.requires.bundles in
     let trips : map trip_tree c.deref-8.result.now ≡ move_trips m = rw c.deref-8.ensures.value
-    (rw (c.deref.ensures.value, c.deref-3.ensures.value) at c.in_ok-trips.ensures.trips) in
+    (rw (c.deref.ensures.value, c.deref-3.ensures.value) at c.in_ok-trips.ensures) in
     let d = rw (c.deref-4.ensures.value, c.deref-5.ensures.value) at c.latency-d.ensures in
     let nets = ap length c.deref-6.ensures.value ∙ nets_long _ (map st_tree c.self.inside.ins.items) c.args.ins.now _ _ made c.in_ok-joined.ensures.joined in
     rw (← c.self.view_is) (mems_as m c.deref-8.result.now _ _ _ _ _ c.time-period.ensures d nets trips c.in_ok-nets.ensures.memories)
