@@ -69,8 +69,8 @@ LETTERS = "abcdefghijklmnopqrstuvwxyzABCDEFGHIJKLMNOPQRSTUVWXYZ0123456789_"
 
 
 def chosen(number):
-    """A name of 48 letters, and one hash for all of them: behind its first 16 the hash of std's tables has these very 8 letters as
-    its state, and multiplies by their difference, 0, whatever the 8 behind them are."""
+    """A name of 48 letters, and one hash for all of them, where a table hashes each name by itself with std's own hash: behind its
+    first 16 that has these very 8 letters as its state, and multiplies by their difference, 0, whatever the 8 behind them are."""
     free = "".join(LETTERS[number // 63**k % 63] for k in range(8))
     return "q6ddy9kyA8foNlyp" + "V_ly5C5G" + free + "_" * 16
 

@@ -1,15 +1,15 @@
--- The names that items drive, one item after the other, those of short lists, and those that are declared in time.
-use Rattle.std.proofs.Common.{ℕ, ◌≡◌, ◌+◌, ◌<◌, Bool, false, true, not, ◌&&◌, ◌||◌, Bor, arith, List, [], ◌∷◌, ◌++◌, length, drop, get_or, map, refl, sym, ap, ◌∙◌}
+-- The names that items drive, one item after the other, and those that are declared in time.
+use Rattle.std.proofs.Common.{ℕ, ◌≡◌, ◌+◌, ◌<◌, Bool, false, true, not, ◌&&◌, ◌||◌, Option, Some, if◌then◌else◌, List, [], ◌∷◌, ◌++◌, length, drop, get_or, map, refl, sym, ap, ◌∙◌}
 use Rattle.std.proofs.lemmas.Bool.{or_parts}
 use Rattle.std.proofs.lemmas.List.{drop_more}
 use Rattle.std.specs.List.{list_any}
 use Rattle.std.specs.Prelude.{flat_map}
-use Rattle.ae_vread.specs.ModuleTree.{NetTree, DriveTree, ItemTree}
+use Rattle.ae_vread.specs.ModuleTree.{NetTree, DriveTree}
 use Rattle.ae_vread.specs.View.{item_tree}
 use Rattle.ae_vread.specs.declared.module.VItem.{VItem}
 use Rattle.ae_judge.specs.Names.{item_targets, names_in}
 use Rattle.ae_judge.specs.Places.{Entry, with_place}
-use Rattle.ae_judge.specs.Judging.{with_names, repeats, is_declared_before, has_place, is_unknown, is_late, drives_unknown}
+use Rattle.ae_judge.specs.Judging.{with_names, drives_twice, first_twice, is_declared_before, has_place, is_unknown, is_late, drives_unknown}
 
 pub with_names_append : (es : List Entry) (xs ys : List (List ℕ)) → with_names es (xs ++ ys) ≡ with_names (with_names es xs) ys
 with_names_append es [] ys = refl
@@ -24,11 +24,14 @@ driven_next items i d es next all l n h =
     ∙ sym (with_names_append es (item_targets (item_tree (get_or items i d))) (flat_map item_targets (map item_tree (drop (i + 1) items))))
     ∙ sym (ap (λ is. with_names es (flat_map item_targets (map item_tree is))) (drop_more items i d l)) ∙ h
 
--- fewer than two names repeat none
-pub few_repeat : (ns : List NetTree) (i : ItemTree) (ts : List (Bor (List ℕ))) → length ts < 2 → repeats ns i [] (map (λ (s : Bor (List ℕ)). s.now) ts) ≡ false
-few_repeat ns i [] l = refl
-few_repeat ns i (t ∷ []) l = refl
-few_repeat ns i (t ∷ u ∷ ts) l = absurd (omega arith)
+pub twice_next : (ns : List NetTree) (k : ℕ) (items : List VItem) (i : ℕ) (d : VItem) (es next : List Entry) (all : Option ℕ) → i < length items
+    → drives_twice ns es (item_tree (get_or items i d)) ≡ false → next ≡ with_names es (item_targets (item_tree (get_or items i d)))
+    → first_twice ns k es (map item_tree (drop i items)) ≡ all → first_twice ns (k + 1) next (map item_tree (drop (i + 1) items)) ≡ all
+twice_next ns k items i d es next all l once n h =
+    let rest = map item_tree (drop (i + 1) items) in
+    ap (λ fs. first_twice ns (k + 1) fs rest) n
+    ∙ sym (ap (λ b. if b then Some k else first_twice ns (k + 1) (with_names es (item_targets (item_tree (get_or items i d)))) rest) once)
+    ∙ sym (ap (λ is. first_twice ns k es (map item_tree is)) (drop_more items i d l)) ∙ h
 
 -- a name that is declared before needs no other to be known
 

@@ -2,6 +2,7 @@ pub mod Members
 pub mod TokenShape
 pub mod Shapely
 pub mod PlaceLemmas
+pub mod Again
 pub mod Parts
 pub mod Misused
 pub mod Loops

@@ -63,6 +63,12 @@ is_some_if : (c : Bool) (p : ℕ) → is_some (if c then Some p else None) ≡ c
 is_some_if true p = refl
 is_some_if false p = refl
 
+-- whether a name is there after another is put in
+pub has_with : (es : List Entry) (m : List ℕ) (p : ℕ) (n : List ℕ) → is_some (place_in (with_place es m p) n) ≡ (is_some (place_in es n) || bytes_eq n m)
+has_with es m p n =
+    ap is_some (place_with es m p n) ∙ is_some_or (place_in es n) (if bytes_eq n m then Some p else None)
+    ∙ ap (λ b. is_some (place_in es n) || b) (is_some_if (bytes_eq n m) p)
+
 or_assoc : (a b c : Bool) → ((a || b) || c) ≡ (a || (b || c))
 or_assoc true b c = refl
 or_assoc false b c = refl

@@ -1,6 +1,6 @@
 -- Own widths up to 65, and what is too wide in a concatenation and in a block.
 use Rattle.std.proofs.Common.{ℕ, ◌≡◌, ◌+◌, ◌<◌, ◌≤◌, ◌^◌, Bool, true, false, ◌&&◌, ◌||◌, List, [], ◌∷◌, ◌++◌, length, take, get_or, map, refl, sym, ap, ◌∙◌, arith}
-use Rattle.std.specs.Prelude.{min, nat_lt, nat_le, sum_by}
+use Rattle.std.specs.Prelude.{Option, Some, None, IfNone, min, nat_lt, nat_le, sum_by}
 use Rattle.std.specs.List.{list_any}
 use Rattle.std.proofs.lemmas.Bool.Decides.{nat_tests}
 use Rattle.std.proofs.lemmas.List.{take_more, take_all}
@@ -150,10 +150,18 @@ pub wide_block : (ns : List NetTree) (ss : List StmtTree) → is_too_wide_in_stm
 wide_block ns [] = refl
 wide_block ns (s ∷ ss) = ap (λ b. is_too_wide_in_stmt ns s || b) (wide_block ns ss)
 
-pub wide_first : (any more : Bool) → any ≡ true → any ≡ (any || more)
-wide_first true more h = refl
-wide_first false more h = absurd (let e : false ≡ true = h in cc)
+pub or_first : (a b : Bool) → a ≡ true → (a || b) ≡ true
+or_first a b h = ap (λ c. c || b) h
 
-pub wide_then : (any : Bool) (total sum : ℕ) → any ≡ false → total ≡ min sum 65 → nat_lt 64 total ≡ (any || nat_lt 64 sum)
-wide_then true total sum h t = absurd (let e : true ≡ false = h in cc)
-wide_then false total sum h t = grind (arith, nat_tests)
+pub where_none : {X : Type 0} (r : Option X) (A : Type 0) → A → IfNone r A
+where_none None A a = a
+where_none (Some x) A a = tt
+
+-- a sum above 64 is too wide, and another is not
+pub wide_sum : (any : Bool) (total sum : ℕ) → total ≡ min sum 65 → 64 < total → (any || nat_lt 64 sum) ≡ true
+wide_sum true total sum t l = refl
+wide_sum false total sum t l = grind (arith, nat_tests)
+
+pub narrow_sum : (any : Bool) (total sum : ℕ) → any ≡ false → total ≡ min sum 65 → total ≤ 64 → (any || nat_lt 64 sum) ≡ false
+narrow_sum true total sum h t l = absurd (let e : true ≡ false = h in cc)
+narrow_sum false total sum h t l = grind (arith, nat_tests)

@@ -1,15 +1,17 @@
 // The first fault of a module.
 
-ghost use Rattle.std.specs.Prelude.{◌≡◌, IfErr, IfOk, OnOk};
+ghost use Rattle.std.specs.Prelude.{◌≡◌, IfErr, IfOk, OnOk, None, [], flat_map};
 ghost use Rattle.ae_vread.specs.View.{module_tree};
 ghost use Rattle.ae_judge.specs.Faults.{HasUnknown, HasTwice, HasKind, HasUndriven, HasWidth, IsFault};
-ghost use Rattle.ae_judge.specs.Judging.{IsEarly, IsFirstOf, IsSound, earlier};
+ghost use Rattle.ae_judge.specs.Judging.{IsEarly, IsFirstOf, IsSound, earlier, with_names};
+ghost use Rattle.ae_judge.specs.Names.{item_targets};
 ghost use Rattle.ae_judge.specs.Shape.{IsShapely};
 
 use crate::fault::ElabFault;
 use crate::kinds::{clock_of, first_misuse};
 use crate::names::Names;
-use crate::twice::{first_again, first_twice, first_undriven};
+use crate::places::Places;
+use crate::twice::{first_twice, first_undriven};
 use crate::unknown::first_unknown;
 use crate::widths::{first_too_large, first_too_wide};
 use ae_vread::VModule;
@@ -46,15 +48,21 @@ fn unknown_item(alloc: Global, m: &VModule, names: &Names<'_>) -> Result<Option<
     first_unknown(alloc, names, &m.items)
 }
 
-/// The first item that declares or drives a name again.
-fn twice_item(alloc: Global, m: &VModule, names: &Names<'_>) -> Result<Option<u32>, AllocError>
+/// The first item that declares or drives a name again. Where there is none, the names that items drive are put into `driven`.
+fn twice_item<'m>(
+    alloc: Global,
+    m: &'m VModule,
+    names: &Names<'_>,
+    driven: &mut Places<'m>,
+) -> Result<Option<u32>, AllocError>
     requires shape { IsShapely (module_tree m.now) }
     requires names { names.now ≡ (module_tree m.now).nets }
-    ensures { IfOk result (λ o. IsFirstOf (HasTwice (module_tree m.now)) o) }
+    requires none { driven.old ≡ [] }
+    ensures first { IfOk result (λ o. IsFirstOf (HasTwice (module_tree m.now)) o) }
+    ensures driven { IfOk result (λ o. o ≡ None → driven.new ≡ with_names [] (flat_map item_targets (module_tree m.now).items)) }
 {
-    let declared = first_again(alloc, &m.nets)?;
-    let driven = first_twice(alloc, names, m.nets.len(), &m.items)?;
-    Ok(earlier(declared, driven))
+    let twice = first_twice(alloc, names, driven, &m.items)?;
+    Ok(earlier(names.again(), twice))
 }
 
 /// The first item that uses a name as its kind does not allow.
@@ -68,11 +76,12 @@ fn kind_item(alloc: Global, m: &VModule, names: &Names<'_>) -> Result<Option<u32
 }
 
 /// The place of the first net that nothing drives.
-fn undriven_net(alloc: Global, m: &VModule) -> Result<Option<u32>, AllocError>
+fn undriven_net(m: &VModule, driven: &Places<'_>) -> Option<u32>
     requires shape { IsShapely (module_tree m.now) }
-    ensures { IfOk result (λ o. IsFirstOf (HasUndriven (module_tree m.now)) o) }
+    requires driven { driven.now ≡ with_names [] (flat_map item_targets (module_tree m.now).items) }
+    ensures { IsFirstOf (HasUndriven (module_tree m.now)) result }
 {
-    first_undriven(alloc, &m.nets, &m.items)
+    first_undriven(driven, &m.nets)
 }
 
 /// The first item in which something is out of its range.
@@ -85,8 +94,8 @@ fn width_item(m: &VModule, names: &Names<'_>) -> Option<u32>
 }
 
 /// Whether a module has no fault but, it may be, a loop or too great a weight; else its first fault. Kinds of fault come
-/// in the order of `ElabFault`, each over the whole module. The time is linear in the module, but for concatenations in
-/// one another, whose widths are added up once for each that they stand in.
+/// in the order of `ElabFault`, each over the whole module. The time is linear in the module, as long as each name is found
+/// in time linear in it (`Keyed`).
 pub fn judge(alloc: Global, m: &VModule, names: &Names<'_>) -> Result<(), ElabFault>
     requires shape { IsShapely (module_tree m.now) }
     requires names { names.now ≡ (module_tree m.now).nets }
@@ -97,13 +106,14 @@ pub fn judge(alloc: Global, m: &VModule, names: &Names<'_>) -> Result<(), ElabFa
     if let Some(item) = unknown_item(alloc, m, names)? {
         return Err(ElabFault::Unknown { item });
     }
-    if let Some(item) = twice_item(alloc, m, names)? {
+    let mut driven = Places::with_room(alloc, names.keyed(), m.nets.len())?;
+    if let Some(item) = twice_item(alloc, m, names, &mut driven)? {
         return Err(ElabFault::Twice { item });
     }
     if let Some(item) = kind_item(alloc, m, names)? {
         return Err(ElabFault::Kind { item });
     }
-    if let Some(net) = undriven_net(alloc, m)? {
+    if let Some(net) = undriven_net(m, &driven) {
         return Err(ElabFault::Undriven { net });
     }
     if let Some(item) = width_item(m, names) {

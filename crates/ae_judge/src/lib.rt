@@ -3,6 +3,7 @@
 
 mod fault;
 mod judging;
+mod keyed;
 mod kinds;
 mod names;
 mod places;

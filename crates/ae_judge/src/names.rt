@@ -1,10 +1,13 @@
 // The declarations of names.
 
-ghost use Rattle.std.specs.Prelude.{◌≡◌, ◌<◌, IfOk, IfSome, length, map, option_and_then, option_map, slice_get};
+ghost use Rattle.std.specs.Prelude.{◌≡◌, ◌<◌, IfOk, IfSome, Some, None, if◌then◌else◌, [], length, map, option_and_then, option_map, slice_get};
+ghost use Rattle.std.specs.Option.{option_or};
 ghost use Rattle.ae_vread.specs.View.{net_tree};
 ghost use Rattle.ae_judge.specs.Names.{net_named, is_input_name, is_wire_name, is_register_name, is_memory_name, is_ranged, is_one_bit_input, depth_of, is_input_kind, is_wire_kind, is_register_kind, is_memory_kind, depth_of_kind};
+ghost use Rattle.ae_judge.specs.Judging.{first_again};
 ghost use Rattle.ae_judge.specs.Widths.{declared_width};
 
+use crate::keyed::Keyed;
 use crate::places::Places;
 use ae_vread::{NetKind, VNet};
 use std::alloc::{AllocError, Global};
@@ -15,19 +18,33 @@ use std::marker::Model;
 pub struct Names<'m> {
     nets: &'m [VNet],
     places: Places<'m>,
+    /// The item of the first net whose name an earlier one has.
+    again: Option<u32>,
 }
 
 impl<'m> Model for Names<'m> {
     ghost use Rattle.std.specs.Prelude.{List, map};
     ghost use Rattle.ae_vread.specs.ModuleTree.{NetTree};
     ghost use Rattle.ae_vread.specs.View.{net_tree};
+    ghost use Rattle.std.specs.Prelude.{◌≡◌, []};
     ghost use Rattle.ae_judge.specs.Places.{Finds};
+    ghost use Rattle.ae_judge.specs.Judging.{first_again};
 
     ghost Value = { List NetTree };
 
     ghost view = { λ s. map net_tree s.nets.now };
 
-    ghost invariant = { λ s. Finds (map net_tree s.nets.now) s.places };
+    ghost invariant = { λ s. Finds (map net_tree s.nets.now) s.places × (s.again ≡ first_again [] (map net_tree s.nets.now)) };
+}
+
+/// The item that is noted already, or this one where its name was there.
+fn noted(again: Option<u32>, there: bool, item: u32) -> Option<u32>
+    ensures { result ≡ option_or again (if there then Some item else None) }
+{
+    match again {
+        Some(first) => Some(first),
+        None => { if there { Some(item) } else { None } }
+    }
 }
 
 impl<'m> Names<'m> {
@@ -35,11 +52,29 @@ impl<'m> Names<'m> {
     pub fn of(alloc: Global, nets: &'m [VNet]) -> Result<Names<'m>, AllocError>
         ensures { IfOk result (λ t. t ≡ map net_tree nets.now) }
     {
-        let mut places = Places::with_room(alloc, nets.len())?;
+        let mut places = Places::with_room(alloc, Keyed::behind(nets), nets.len())?;
+        let mut again = None;
         'net: for place in 0..nets.len() {
-            places.put(nets[place].name.as_str(), place)?;
+            let there = places.put(nets[place].name.as_str(), place)?;
+            again = noted(again, there, nets[place].item);
         }
-        Ok(Names { nets, places })
+        Ok(Names {
+            nets,
+            places,
+            again,
+        })
+    }
+
+    /// How names are hashed: behind all of these.
+    pub fn keyed(&self) -> Keyed {
+        self.places.keyed()
+    }
+
+    /// The item of the first net whose name an earlier one has.
+    pub fn again(&self) -> Option<u32>
+        ensures { result ≡ first_again [] self.now }
+    {
+        self.again
     }
 
     /// The place of a name's declaration among the nets.

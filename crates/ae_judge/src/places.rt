@@ -3,6 +3,7 @@
 ghost use Rattle.std.specs.Prelude.{◌≡◌, [], IfOk, OnOk, is_some};
 ghost use Rattle.ae_judge.specs.Places.{place_in, with_place};
 
+use crate::keyed::Keyed;
 use indexmap::IndexMap;
 use std::alloc::{AllocError, Global};
 use std::marker::Model;
@@ -10,7 +11,7 @@ use std::marker::Model;
 /// Names, each with the place that it was first put in with. A look-up takes the time of its name; the names are borrowed.
 #[derive(Drop)]
 pub struct Places<'m> {
-    first: IndexMap<&'m str, usize>,
+    first: IndexMap<&'m str, usize, Keyed>,
 }
 
 impl<'m> Model for Places<'m> {
@@ -24,21 +25,26 @@ impl<'m> Model for Places<'m> {
 
 impl<'m> Places<'m> {
     /// No names.
-    pub fn new(alloc: Global) -> Places<'m>
+    pub fn new(alloc: Global, keyed: Keyed) -> Places<'m>
         ensures { result ≡ [] }
     {
         Places {
-            first: IndexMap::new(alloc),
+            first: IndexMap::with_hasher(alloc, keyed),
         }
     }
 
     /// No names, and room for so many.
-    pub fn with_room(alloc: Global, count: usize) -> Result<Places<'m>, AllocError>
+    pub fn with_room(alloc: Global, keyed: Keyed, count: usize) -> Result<Places<'m>, AllocError>
         ensures { IfOk result (λ p. p ≡ []) }
     {
         Ok(Places {
-            first: IndexMap::with_capacity(alloc, count)?,
+            first: IndexMap::with_capacity_and_hasher(alloc, count, keyed)?,
         })
+    }
+
+    /// How its names are hashed.
+    pub fn keyed(&self) -> Keyed {
+        *self.first.hasher()
     }
 
     /// The place of a name.

@@ -65,7 +65,7 @@ fn any_late(
     requires lettered { AllByRecursion IsLetteredDrive (map drive_tree drives.now) }
     ensures { IfOk result (λ b. b ≡ list_any (is_late names.now number) (map drive_tree drives.now)) }
 {
-    let none = Places::new(alloc);
+    let none = Places::new(alloc, names.keyed());
     for drive in drives {
         if value_unknown(alloc, names, number, &none, &drive.value)? {
             return Ok(true);
@@ -89,7 +89,7 @@ fn drives_unknown(
     if !any_late(alloc, names, number, drives)? {
         return Ok(false);
     }
-    let mut given = Places::with_room(alloc, drives.len())?;
+    let mut given = Places::with_room(alloc, names.keyed(), drives.len())?;
     for drive in drives {
         if value_unknown(alloc, names, number, &given, &drive.value)? {
             return Ok(true);
@@ -126,7 +126,7 @@ fn uses_unknown(
     if let VItem::Nets(drives) = item {
         return drives_unknown(alloc, names, number, drives);
     }
-    let none = Places::new(alloc);
+    let none = Places::new(alloc, names.keyed());
     let used = named_outside(alloc, item)?;
     Ok(any_unknown(names, number, &none, &used))
 }

@@ -3,6 +3,7 @@
 ghost use Rattle.std.specs.Prelude.{◌≡◌, [], ◌∷◌, ◌++◌, None, OnOk, length};
 ghost use Rattle.ae_vcd.specs.Codes.{place};
 
+use crate::keyed::Keyed;
 use indexmap::IndexMap;
 use std::alloc::{AllocError, Global};
 use std::marker::Model;
@@ -10,7 +11,7 @@ use std::marker::Model;
 /// Codes, each once: the number of a code is how many came before it.
 #[derive(Drop)]
 pub struct Codes {
-    numbers: IndexMap<Vec<u8>, ()>,
+    numbers: IndexMap<Vec<u8>, (), Keyed>,
 }
 
 impl Model for Codes {
@@ -24,11 +25,11 @@ impl Model for Codes {
 
 impl Codes {
     /// No codes.
-    pub fn new(alloc: Global) -> Codes
+    pub fn new(alloc: Global, keyed: Keyed) -> Codes
         ensures { result ≡ [] }
     {
         Codes {
-            numbers: IndexMap::new(alloc),
+            numbers: IndexMap::with_hasher(alloc, keyed),
         }
     }
 

@@ -7,6 +7,7 @@ ghost use Rattle.ae_vcd.specs.Forms.{Variable, agrees};
 ghost use Rattle.ae_vcd.specs.Held.{Declares, HasNumber, HasWidth, IsNew};
 
 use crate::codes::Codes;
+use crate::keyed::Keyed;
 use std::alloc::{AllocError, Global};
 
 /// The variables that a header has declared.
@@ -47,11 +48,11 @@ fn text_of(alloc: Global, name: &[u8]) -> Result<String, AllocError>
 
 impl Declared {
     /// No variables.
-    pub fn new(alloc: Global) -> Declared
+    pub fn new(alloc: Global, keyed: Keyed) -> Declared
         ensures { Declares result [] }
     {
         Declared {
-            codes: Codes::new(alloc),
+            codes: Codes::new(alloc, keyed),
             code_widths: Vec::new(alloc),
             numbers: Vec::new(alloc),
             names: Vec::new(alloc),

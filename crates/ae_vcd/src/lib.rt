@@ -5,6 +5,7 @@ mod body;
 mod codes;
 mod expected;
 mod header;
+mod keyed;
 mod laws;
 mod read;
 mod reader;

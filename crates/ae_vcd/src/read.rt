@@ -12,6 +12,7 @@ ghost use Rattle.ae_vcd.specs.Reads.{EndsIn, size_of_wave};
 use crate::body::Recorded;
 use crate::expected::Expected;
 use crate::header::Declared;
+use crate::keyed::Keyed;
 use crate::reader::Reader;
 use crate::wave::{SIZE_LIMIT, Wave};
 use crate::words::next_word;
@@ -77,7 +78,7 @@ pub fn read_vcd(alloc: Global, text: &[u8]) -> Result<Wave, VcdFault>
     ensures bad { (at : ℕ) → result ≡ Err (BadWord at) → IsBadWord (text_words text.now) at }
     ensures large { (size : ℕ) → result ≡ Err (Large size) → (w : WaveTree) × IsVcd text.now w × (size ≡ size_of_wave w) × (size_limit < size) }
 {
-    let mut reader = Reader::new(alloc);
+    let mut reader = Reader::new(alloc, Keyed::behind(text));
     let mut at = 0;
     let mut rest = text;
     while let Some((word, after)) = next_word(rest) {

@@ -9,6 +9,7 @@ ghost use Rattle.ae_vcd.specs.Held.{Answers, Follows, IsReader, is_marked, is_pa
 use crate::body::Recorded;
 use crate::expected::{Expected, behind};
 use crate::header::Declared;
+use crate::keyed::Keyed;
 use crate::shapes::{binary, fits, is_code, is_comment, is_end, is_name, is_silent, time};
 use std::alloc::{AllocError, Global};
 
@@ -32,13 +33,13 @@ pub struct Reader {
 
 impl Reader {
     /// A reader before the first word.
-    pub fn new(alloc: Global) -> Reader
+    pub fn new(alloc: Global, keyed: Keyed) -> Reader
         ensures { Follows result start }
     {
         Reader {
             expected: Expected::CommandHead,
             code: Vec::new(alloc),
-            declared: Declared::new(alloc),
+            declared: Declared::new(alloc, keyed),
             recorded: Recorded::new(alloc),
         }
     }

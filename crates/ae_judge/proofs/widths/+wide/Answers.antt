@@ -1,5 +1,5 @@
-use Rattle.std.proofs.Common.{rules, ◌≡◌, ◌∙◌, ◌||◌, sym, ap, subst, map, arith}
-use Rattle.std.specs.Prelude.{nat_lt, sum_by, min}
+use Rattle.std.proofs.Common.{rules, ◌≡◌, ◌∙◌, true, false, sym, ap, subst, map, arith}
+use Rattle.std.specs.Prelude.{min, IfNone, IfSome}
 use Rattle.std.specs.List.{AllByRecursion}
 use Rattle.ae_vread.specs.View.{expr_tree}
 use Rattle.ae_vread.specs.declared.module.Expr.{Expr}
@@ -8,59 +8,80 @@ use Rattle.ae_judge.specs.Shape.{IsLettered}
 use Rattle.ae_judge.specs.Widths.{own_width}
 use Rattle.ae_judge.specs.Faults.{is_too_wide}
 use Rattle.ae_judge.proofs.Parts.{concat_of, parts_lettered, parts_view}
-use Rattle.ae_judge.proofs.Loops.{any_found, any_end, any_map, all_map_at}
-use Rattle.ae_judge.proofs.Wide.{wide_concat, wide_first, wide_then}
+use Rattle.ae_judge.proofs.Loops.{any_found, any_next, any_end, any_map, all_map_at}
+use Rattle.ae_judge.proofs.Wide.{own_concat, wide_concat, capped_next, capped_end, or_first, where_none, wide_sum, narrow_sum}
 use Rattle.ae_judge.proofs.widths.+wide.Goals as goal
 
-pub is_too_wide-any_too_wide-requires : goal.is_too_wide-any_too_wide-requires
-is_too_wide-any_too_wide-requires t c =
-    let h : AllByRecursion IsLettered (map expr_tree c.deref-in-Concat.result.now) = parts_lettered c.args.value.now c.in-Concat.parts
-    c.deref-in-Concat.result.now c.in-Concat.is c.deref-in-Concat.ensures.value c.requires.lettered in
-    search (rules, the_lemmas, h)
-
-pub any_too_wide-is_too_wide-requires : goal.any_too_wide-is_too_wide-requires
-any_too_wide-is_too_wide-requires t c =
+pub total_within-width_within-requires : goal.total_within-width_within-requires
+total_within-width_within-requires t c =
     let h : IsLettered (expr_tree c.part-item.result) =
     subst (λ (s : Expr). IsLettered (expr_tree s)) (sym c.part-item.is)
     (all_map_at IsLettered expr_tree c.args.parts.now c.loop-part.part-index c.part-item.result (omega arith) c.requires.lettered) in
     search (rules, the_lemmas, h)
 
-pub any_too_wide-returns-then-is_too_wide : goal.any_too_wide-returns-then-is_too_wide
-any_too_wide-returns-then-is_too_wide t c = sym (
-    any_map (is_too_wide c.args.names.now) expr_tree c.args.parts.now
-    ∙ any_found (λ s. is_too_wide c.args.names.now (expr_tree s)) c.args.parts.now c.loop-part.part-index c.part-item.result (omega arith)
-    (ap (λ s. is_too_wide c.args.names.now (expr_tree s)) (sym c.part-item.is) ∙ sym c.is_too_wide.ensures ∙ c.if-is_too_wide.true))
+pub width_within-total_within-requires : goal.width_within-total_within-requires
+width_within-total_within-requires t c =
+    let h : AllByRecursion IsLettered (map expr_tree c.deref-in-Concat.result.now) = parts_lettered c.args.value.now c.in-Concat.parts
+    c.deref-in-Concat.result.now c.in-Concat.is c.deref-in-Concat.ensures.value c.requires.lettered in
+    search (rules, the_lemmas, h)
 
-pub any_too_wide-returns : goal.any_too_wide-returns
-any_too_wide-returns t c = sym (
-    any_map (is_too_wide c.args.names.now) expr_tree c.args.parts.now
-    ∙ any_end (λ s. is_too_wide c.args.names.now (expr_tree s)) c.args.parts.now c.loop-part.part-index (omega arith) c.loop-part.invariant)
+pub total_within-returns-in_err-own-clause-none : goal.total_within-returns-in_err-own-clause-none
+total_within-returns-in_err-own-clause-none t c =
+    let wide = λ (s : Expr). is_too_wide c.args.names.now (expr_tree s) in
+    where_none c.from_residual.result _ (or_first _ _ (any_map (is_too_wide c.args.names.now) expr_tree c.args.parts.now
+    ∙ any_found wide c.args.parts.now c.loop-part.part-index c.part-item.result (omega arith) (ap wide (sym c.part-item.is) ∙ c.in_err-own.ensures.none)))
 
-pub is_too_wide-total_width-requires : goal.is_too_wide-total_width-requires
-is_too_wide-total_width-requires t c = record {
-  lettered = parts_lettered c.args.value.now c.in-Concat.parts c.deref-else-any_too_wide.result.now c.in-Concat.is c.deref-else-any_too_wide.ensures.value
-      c.requires.lettered;
-}
+pub total_within-loop-part-preserved : goal.total_within-loop-part-preserved
+total_within-loop-part-preserved t c =
+    let wide = λ (s : Expr). is_too_wide c.args.names.now (expr_tree s) in
+    record {
+      none = any_next wide c.args.parts.now c.loop-part.part-index c.part-item.result (omega arith) c.loop-part.invariant.none
+          (ap wide (sym c.part-item.is) ∙ c.in_ok-own.ensures.some);
+      total = c.min-total.ensures ∙ capped_next (own_width c.args.names.now) c.args.parts.now c.loop-part.part-index c.part-item.result c.loop-part.total
+          c.in_ok-own.own (omega arith) c.loop-part.invariant.total
+          (sym c.in_ok-own.ensures.width ∙ ap (λ s. min (own_width c.args.names.now (expr_tree s)) 65) c.part-item.is);
+    }
 
-pub is_too_wide-returns-then-any_too_wide : goal.is_too_wide-returns-then-any_too_wide
-is_too_wide-returns-then-any_too_wide t c =
+pub total_within-returns-then-total-gt64-clause-none : goal.total_within-returns-then-total-gt64-clause-none
+total_within-returns-then-total-gt64-clause-none t c =
+    wide_sum _ c.loop-part.total _
+    (capped_end (own_width c.args.names.now) c.args.parts.now c.loop-part.part-index c.loop-part.total (omega arith) c.loop-part.invariant.total) (omega arith)
+
+pub total_within-returns-clause-some : goal.total_within-returns-clause-some
+total_within-returns-clause-some t c =
+    let wide = λ (s : Expr). is_too_wide c.args.names.now (expr_tree s) in
+    narrow_sum _ c.loop-part.total _
+    (any_map (is_too_wide c.args.names.now) expr_tree c.args.parts.now
+    ∙ any_end wide c.args.parts.now c.loop-part.part-index (omega arith) c.loop-part.invariant.none)
+    (capped_end (own_width c.args.names.now) c.args.parts.now c.loop-part.part-index c.loop-part.total (omega arith) c.loop-part.invariant.total) (omega arith)
+
+pub total_within-returns-clause-width : goal.total_within-returns-clause-width
+total_within-returns-clause-width t c =
+    sym (capped_end (own_width c.args.names.now) c.args.parts.now c.loop-part.part-index c.loop-part.total (omega arith) c.loop-part.invariant.total)
+
+pub width_within-returns-in-Concat-clause-none : goal.width_within-returns-in-Concat-clause-none
+width_within-returns-in-Concat-clause-none t c =
     let ns = c.args.names.now in
     let es = map expr_tree c.deref-in-Concat.result.now in
     let v : expr_tree c.args.value.now ≡ concat_of es = parts_view c.args.value.now c.in-Concat.parts c.deref-in-Concat.result.now c.in-Concat.is
     c.deref-in-Concat.ensures.value in
-    let w = wide_concat ns es (subst IsLettered v c.requires.lettered) in
-    wide_first c.any_too_wide.result (nat_lt 64 (sum_by (own_width ns) es)) c.if-any_too_wide.true
-    ∙ ap (λ b. b || nat_lt 64 (sum_by (own_width ns) es)) c.any_too_wide.ensures ∙ sym w ∙ ap (is_too_wide ns) (sym v)
+    let e = ap (is_too_wide ns) v ∙ wide_concat ns es (subst IsLettered v c.requires.lettered) in
+    subst (λ b. IfNone c.total_within.result (b ≡ true)) (sym e) c.total_within.ensures.none
 
-pub is_too_wide-returns-else-any_too_wide : goal.is_too_wide-returns-else-any_too_wide
-is_too_wide-returns-else-any_too_wide t c =
+pub width_within-returns-in-Concat-clause-some : goal.width_within-returns-in-Concat-clause-some
+width_within-returns-in-Concat-clause-some t c =
     let ns = c.args.names.now in
     let es = map expr_tree c.deref-in-Concat.result.now in
-    let same : c.deref-else-any_too_wide.result.now ≡ c.deref-in-Concat.result.now = c.deref-else-any_too_wide.ensures.value ∙
-    sym c.deref-in-Concat.ensures.value in
     let v : expr_tree c.args.value.now ≡ concat_of es = parts_view c.args.value.now c.in-Concat.parts c.deref-in-Concat.result.now c.in-Concat.is
     c.deref-in-Concat.ensures.value in
-    let w = wide_concat ns es (subst IsLettered v c.requires.lettered) in
-    let total = c.total_width.ensures ∙ ap (λ ys. min (sum_by (own_width ns) (map expr_tree ys)) 65) same in
-    wide_then c.any_too_wide.result c.total_width.result (sum_by (own_width ns) es) c.if-any_too_wide.false total
-    ∙ ap (λ b. b || nat_lt 64 (sum_by (own_width ns) es)) c.any_too_wide.ensures ∙ sym w ∙ ap (is_too_wide ns) (sym v)
+    let e = ap (is_too_wide ns) v ∙ wide_concat ns es (subst IsLettered v c.requires.lettered) in
+    subst (λ b. IfSome c.total_within.result (λ w. b ≡ false)) (sym e) c.total_within.ensures.some
+
+pub width_within-returns-in-Concat-clause-width : goal.width_within-returns-in-Concat-clause-width
+width_within-returns-in-Concat-clause-width t c =
+    let ns = c.args.names.now in
+    let es = map expr_tree c.deref-in-Concat.result.now in
+    let v : expr_tree c.args.value.now ≡ concat_of es = parts_view c.args.value.now c.in-Concat.parts c.deref-in-Concat.result.now c.in-Concat.is
+    c.deref-in-Concat.ensures.value in
+    let o = ap (own_width ns) v ∙ own_concat ns es (subst IsLettered v c.requires.lettered) in
+    subst (λ n. IfSome c.total_within.result (λ w. min n 65 ≡ w)) (sym o) c.total_within.ensures.width

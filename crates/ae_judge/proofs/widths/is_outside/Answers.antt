@@ -12,7 +12,7 @@ returns-then-is_memory-2 c =
     let n = c.args.name.now in
     let w = own_width ns (expr_tree c.args.at.now) in
     let m : is_memory_name ns n ≡ true = sym c.is_memory-is_memory.ensures ∙ c.if-is_memory-2.true in
-    c.may_reach.ensures w (sym c.own_width.ensures) ∙ ap (λ d. nat_lt d (2 ^ w)) c.depth.ensures
+    c.may_reach.ensures w c.requires ∙ ap (λ d. nat_lt d (2 ^ w)) c.depth.ensures
     ∙ sym (outside_no_place (is_memory_name ns n) (declared_width ns n) (depth_of ns n) w c.args.at.now c.in_default.not-Place ∙
     ap (λ b. b && nat_lt (depth_of ns n) (2 ^ w)) m)
 

@@ -1,7 +1,12 @@
-use Rattle.std.proofs.Common.{map, take}
+use Rattle.std.proofs.Common.{map, take, drop, []}
 use Rattle.ae_vread.specs.View.{net_tree}
 use Rattle.ae_judge.specs.Places.{Finds}
+use Rattle.ae_judge.specs.Judging.{first_again}
+use Rattle.ae_judge.proofs.Again.{IsNoted}
 use Rattle.ae_judge.proofs.names.Names.of.Given as goal
 
 abbrev pub invariant-net : goal.invariant-net
-invariant-net l = Finds (take l.place (map net_tree l.nets)) l.places
+invariant-net l = record {
+  finds : Finds (take l.place (map net_tree l.nets)) l.places;
+  noted : IsNoted (map net_tree (drop l.place l.nets)) l.places l.again (first_again [] (map net_tree l.nets));
+}

@@ -1,7 +1,7 @@
 use Rattle.std.proofs.Common.{◌≡◌, drop, map}
 use Rattle.ae_vread.specs.View.{net_tree}
 use Rattle.ae_judge.specs.Judging.{first_from, is_undriven}
-use Rattle.ae_judge.proofs.twice.first_outside.Given as goal
+use Rattle.ae_judge.proofs.twice.first_undriven.Given as goal
 
 abbrev pub invariant-loop-net : goal.invariant-loop-net
 invariant-loop-net l =
