@@ -46,6 +46,15 @@ failed_turn Syntax e read n least x op s ts below is so_far here right =
     ∙ ap (λ o. o >>= joined op x >>= operators read (256 - (n + 1)) least) (ap (λ s. read s ts) (sym is) ∙ right)
 failed_turn Memory e read n least x op s ts below is so_far here right = tt
 
+pub failed_join : (fault : ReadFault) (e : Option Found) (read : Reader) (n least : ℕ) (x y : Found) (op : BinOp) (s : ℕ) (ts : List TokenTree) → n < 256
+    → s ≡ strength op + 1 → e ≡ operators read (256 - n) least x → infix_at least x.rest ≡ Some (op, ts) → read s ts ≡ Some y → Fails fault (joined op x y)
+    → Fails fault e
+failed_join Syntax e read n least x y op s ts below is so_far here right both =
+    so_far ∙ one_turn read n least x op ts below here
+    ∙ ap (λ o. o >>= joined op x >>= operators read (256 - (n + 1)) least) (ap (λ s. read s ts) (sym is) ∙ right)
+    ∙ ap (λ o. o >>= operators read (256 - (n + 1)) least) both
+failed_join Memory e read n least x y op s ts below is so_far here right both = tt
+
 pub last_turn : (e : Option Found) (read : Reader) (n least : ℕ) (x : Found) → 256 ≤ n → e ≡ operators read (256 - n) least x → e ≡ None
 last_turn e read n least x past so_far = so_far ∙ ap (λ k. operators read k least x) (let e : 256 - n ≡ 0 = omega arith in e)
 

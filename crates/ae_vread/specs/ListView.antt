@@ -3,7 +3,7 @@ use Rattle.std.specs.Prelude.{◌≡◌, ℕ, List, [], ◌∷◌, map, Option, 
 use Rattle.ae_vtoken.specs.Tokens.{TokenTree}
 use Rattle.ae_vread.specs.ModuleTree.{NetTree, DriveTree}
 use Rattle.ae_vtoken.specs.Scan.{views}
-use Rattle.ae_vread.specs.View.{net_tree, drive_tree}
+use Rattle.ae_vread.specs.View.{net_tree, drive_tree, expr_tree}
 use Rattle.ae_vread.specs.ItemReading.{Entries}
 use Rattle.ae_vread.specs.declared.lists.NetFound.{NetFound}
 use Rattle.ae_vread.specs.declared.lists.NetList.{NetList}
@@ -17,7 +17,7 @@ abbrev pub nets_view : NetList → Entries NetTree
 nets_view x = (map net_tree x.nets.items, views x.rest.now)
 
 abbrev pub drive_found : DriveFound → Entries DriveTree
-drive_found x = (drive_tree x.drive ∷ [], views x.rest.now)
+drive_found x = (record { name = string_bytes x.name; value = expr_tree x.value.value } ∷ [], views x.rest.now)
 
 abbrev pub drives_view : DriveList → Entries DriveTree
 drives_view x = (map drive_tree x.drives.items, views x.rest.now)

@@ -15,13 +15,13 @@ use Rattle.ae_vread.specs.declared.reading.ReadFault.{ReadFault}
 use Rattle.ae_vread.specs.declared.reading.ReadFault.TheVariants.{Syntax, Memory}
 
 abbrev pub found_view : Found → r.Found
-found_view x = found (expr_tree x.tree) x.depth (views x.rest.now)
+found_view x = found (expr_tree x.tree.value) x.depth (views x.rest.now)
 
 abbrev pub parts_view : Parts → r.Parts
 parts_view p = parts_of (map expr_tree p.trees.items) p.depth (views p.rest.now)
 
 abbrev pub stmt_view : StmtFound → s.StmtFound
-stmt_view x = stmt_found (stmt_tree x.tree) x.depth (views x.rest.now)
+stmt_view x = stmt_found (stmt_tree x.tree.value) x.depth (views x.rest.now)
 
 abbrev pub body_view : Body → s.Body
 body_view b = body_of (map stmt_tree b.trees.items) b.depth (views b.rest.now)

@@ -74,6 +74,10 @@ Reader = ℕ → List TokenTree → Option Found
 abbrev pub deeper : ℕ → Option ℕ
 deeper n = if nat_lt n 256 then Some (n + 1) else None
 
+-- an expression whose parts are so deep
+abbrev pub expr_above : ExprTree → ℕ → List TokenTree → Option Found
+expr_above tree depth rest = deeper depth >>= λ k. Some (found tree k rest)
+
 abbrev pub closed : Found → Option Found
 closed x = after_mark Close x.rest >>= λ ts. deeper x.depth >>= λ k. Some (found x.tree k ts)
 

@@ -17,6 +17,10 @@ pub record StmtFound : Type 0 where
 abbrev pub stmt_found : StmtTree → ℕ → List TokenTree → StmtFound
 stmt_found tree depth rest = record { tree = tree; depth = depth; rest = rest }
 
+-- a statement whose parts are so deep
+abbrev pub stmt_above : StmtTree → ℕ → List TokenTree → Option StmtFound
+stmt_above tree depth rest = deeper depth >>= λ k. Some (stmt_found tree k rest)
+
 -- statements of a block, the depth of the deepest, and the tokens behind them
 pub record Body : Type 0 where
   pub trees : List StmtTree

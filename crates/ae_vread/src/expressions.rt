@@ -1,13 +1,12 @@
 // Reading an expression from the tokens, by the strengths of the operators.
 
 ghost use Rattle.std.specs.Prelude.{◌≡◌, ◌+◌, ◌≤◌, ◌<◌, [], length, option_map, Option, Some};
-ghost use Rattle.ae_vread.specs.ModuleTree.{choice, binary};
 ghost use Rattle.ae_vread.specs.View.{expr_tree};
 ghost use Rattle.ae_vread.specs.ExprForms.{strength};
 ghost use Rattle.ae_vtoken.specs.Scan.{token_view, views};
 ghost use Rattle.ae_vread.specs.TokenTests.{after_mark, first_number};
 ghost use Rattle.ae_vread.specs.Reading as r;
-ghost use Rattle.ae_vread.specs.Reading.{with_part, more_parts, expression, whole_expression, joined_at, chosen, chosen_of, unary_at, operand, named, selected, placed, indexed, parts, parts_of, braced, closed, prefixed, joined, infix_at, infix_of, sign_infix};
+ghost use Rattle.ae_vread.specs.Reading.{found, expr_above, with_part, more_parts, expression, whole_expression, joined_at, chosen, chosen_of, unary_at, operand, named, selected, placed, indexed, parts, parts_of, braced, closed, prefixed, joined, infix_at, infix_of, sign_infix};
 ghost use Rattle.ae_vread.specs.ReadView.{found_view, parts_view, Gives, Continues};
 ghost use Rattle.ae_vtoken.specs.declared.token.Sign.TheVariants.{OpenBracket, Colon};
 
@@ -97,19 +96,35 @@ fn chosen_of<'t, 'a>(
     ensures { Gives found_view result (chosen_of (found_view test.entry) (found_view first.entry) (found_view second.entry)) }
 {
     let depth = test.depth.max(first.depth.max(second.depth));
-    let rest = second.rest;
-    let tree = choice(alloc, test.tree, first.tree, second.tree)?;
-    let depth = deeper(depth)?;
+    let tree = Expr::Choose(test.tree, first.tree, second.tree);
+    expr_above(alloc, tree, depth, second.rest)
+}
+
+/// An expression of this depth, with the tokens behind it.
+fn boxed<'t, 'a>(
+    alloc: Global,
+    tree: Expr,
+    depth: u32,
+    rest: &'t [Token<'a>],
+) -> Result<Found<'t, 'a>, ReadFault>
+    ensures { Gives found_view result (Some (found (expr_tree tree) depth (views rest.now))) }
+{
+    let tree = Box::new(alloc, tree)?;
     Ok(Found { tree, depth, rest })
 }
 
-fn choice(alloc: Global, test: Expr, first: Expr, second: Expr) -> Result<Expr, ReadFault>
-    ensures { Gives expr_tree result (Some (choice (expr_tree test) (expr_tree first) (expr_tree second))) }
+/// An expression whose parts are so deep, with the tokens behind it.
+fn expr_above<'t, 'a>(
+    alloc: Global,
+    tree: Expr,
+    depth: u32,
+    rest: &'t [Token<'a>],
+) -> Result<Found<'t, 'a>, ReadFault>
+    ensures { Gives found_view result (expr_above (expr_tree tree) depth (views rest.now)) }
 {
-    let test = Box::new(alloc, test)?;
-    let first = Box::new(alloc, first)?;
-    let second = Box::new(alloc, second)?;
-    Ok(Expr::Choose(test, first, second))
+    let tree = Box::new(alloc, tree)?;
+    let depth = deeper(depth)?;
+    Ok(Found { tree, depth, rest })
 }
 
 /// An operand, or a prefix and an operand.
@@ -151,14 +166,10 @@ fn operand<'t, 'a>(
                 value: *value,
                 fits: *fits,
             };
-            Ok(Found {
-                tree,
-                depth: 1,
-                rest,
-            })
+            boxed(alloc, tree, 1, rest)
         }
         Token::Mark(Sign::Open) => closed(expression(alloc, budget, 1, rest)?),
-        Token::Mark(Sign::OpenBrace) => braced(parts(alloc, budget, rest)?),
+        Token::Mark(Sign::OpenBrace) => braced(alloc, parts(alloc, budget, rest)?),
         _ => Err(ReadFault::Syntax),
     }
 }
@@ -174,12 +185,8 @@ fn named<'t, 'a>(
     ensures { Gives found_view result (named (expression budget) name.now (views tokens.now) (after_mark OpenBracket (views tokens.now))) }
 {
     let Some(rest) = after_mark(Sign::OpenBracket, tokens) else {
-        let tree = Expr::Name(String::from_str(alloc, name)?);
-        return Ok(Found {
-            tree,
-            depth: 1,
-            rest: tokens,
-        });
+        let name = String::from_str(alloc, name)?;
+        return boxed(alloc, Expr::Name(name), 1, tokens);
     };
     selected(alloc, budget, name, rest)
 }
@@ -213,24 +220,17 @@ fn placed<'t, 'a>(
         let rest = want_mark(Sign::CloseBracket, tokens)?;
         let at = Box::new(alloc, Expr::Place(value))?;
         let name = String::from_str(alloc, name)?;
-        return Ok(Found {
-            tree: Expr::Index { name, at },
-            depth: 2,
-            rest,
-        });
+        return boxed(alloc, Expr::Index { name, at }, 2, rest);
     };
     let (low, behind) = want_number(behind)?;
     let rest = want_mark(Sign::CloseBracket, behind)?;
     let name = String::from_str(alloc, name)?;
-    Ok(Found {
-        tree: Expr::Part {
-            name,
-            high: value,
-            low,
-        },
-        depth: 2,
-        rest,
-    })
+    let tree = Expr::Part {
+        name,
+        high: value,
+        low,
+    };
+    boxed(alloc, tree, 2, rest)
 }
 
 /// The bracket that closes an index.
@@ -241,16 +241,14 @@ fn indexed<'t, 'a>(
 ) -> Result<Found<'t, 'a>, ReadFault>
     ensures { Gives found_view result (indexed name.now (found_view at.entry)) }
 {
-    let Found { tree, depth, rest } = at;
-    let rest = want_mark(Sign::CloseBracket, rest)?;
-    let depth = deeper(depth)?;
-    let at = Box::new(alloc, tree)?;
-    let name = String::from_str(alloc, name)?;
-    Ok(Found {
-        tree: Expr::Index { name, at },
+    let Found {
+        tree: at,
         depth,
         rest,
-    })
+    } = at;
+    let rest = want_mark(Sign::CloseBracket, rest)?;
+    let name = String::from_str(alloc, name)?;
+    expr_above(alloc, Expr::Index { name, at }, depth, rest)
 }
 
 /// The parts up to the brace that closes them.
@@ -295,7 +293,7 @@ fn with_part<'t, 'a>(
         depth: deep,
         rest: behind,
     } = part;
-    trees.push(tree)?;
+    trees.push(Box::into_inner(tree))?;
     let depth = depth.max(deep);
     match after_mark(Sign::Comma, behind) {
         Some(rest) => Ok((Parts { trees, depth, rest }, true)),
@@ -306,16 +304,11 @@ fn with_part<'t, 'a>(
     }
 }
 
-fn braced<'t, 'a>(parts: Parts<'t, 'a>) -> Result<Found<'t, 'a>, ReadFault>
+fn braced<'t, 'a>(alloc: Global, parts: Parts<'t, 'a>) -> Result<Found<'t, 'a>, ReadFault>
     ensures { Gives found_view result (braced (parts_view parts.entry)) }
 {
     let Parts { trees, depth, rest } = parts;
-    let depth = deeper(depth)?;
-    Ok(Found {
-        tree: Expr::Concat(trees),
-        depth,
-        rest,
-    })
+    expr_above(alloc, Expr::Concat(trees), depth, rest)
 }
 
 /// The parenthesis that closes an expression.
@@ -336,9 +329,7 @@ fn prefixed<'t, 'a>(
     ensures { Gives found_view result (prefixed op (found_view inner.entry)) }
 {
     let Found { tree, depth, rest } = inner;
-    let depth = deeper(depth)?;
-    let tree = Expr::Unary(op, Box::new(alloc, tree)?);
-    Ok(Found { tree, depth, rest })
+    expr_above(alloc, Expr::Unary(op, tree), depth, rest)
 }
 
 fn joined<'t, 'a>(
@@ -350,18 +341,8 @@ fn joined<'t, 'a>(
     ensures { Gives found_view result (joined op (found_view left.entry) (found_view right.entry)) }
 {
     let depth = left.depth.max(right.depth);
-    let rest = right.rest;
-    let tree = binary(alloc, op, left.tree, right.tree)?;
-    let depth = deeper(depth)?;
-    Ok(Found { tree, depth, rest })
-}
-
-fn binary(alloc: Global, op: BinOp, left: Expr, right: Expr) -> Result<Expr, ReadFault>
-    ensures { Gives expr_tree result (Some (binary op (expr_tree left) (expr_tree right))) }
-{
-    let left = Box::new(alloc, left)?;
-    let right = Box::new(alloc, right)?;
-    Ok(Expr::Binary(op, left, right))
+    let tree = Expr::Binary(op, left.tree, right.tree);
+    expr_above(alloc, tree, depth, right.rest)
 }
 
 /// The operator in front, where it is at least so strong, and the tokens behind it.

@@ -163,8 +163,11 @@ fn always_from<'t, 'a>(
 {
     let (clock, behind) = clock_from(tokens)?;
     let clock = String::from_str(alloc, clock)?;
-    let StmtFound { tree, rest, .. } = whole_statement(alloc, behind)?;
-    let body = Box::new(alloc, tree)?;
+    let StmtFound {
+        tree: body,
+        rest,
+        ..
+    } = whole_statement(alloc, behind)?;
     Ok(ItemFound {
         nets: Vec::new(alloc),
         item: VItem::Always { clock, body },

@@ -10,7 +10,7 @@ ghost use Rattle.ae_vread.specs.ListView.{net_found, nets_view, drive_found, dri
 ghost use Rattle.ae_vtoken.specs.declared.token.Sign.TheVariants.{OpenBracket};
 
 use crate::expressions::whole_expression;
-use crate::module::{Drive, NetKind, VNet};
+use crate::module::{Drive, Expr, NetKind, VNet};
 use crate::reading::{Found, ReadFault, after_mark, first_name, want_mark, want_number};
 use ae_vtoken::{Sign, Token};
 use std::alloc::Global;
@@ -29,10 +29,11 @@ pub struct NetList<'t, 'a> {
     pub rest: &'t [Token<'a>],
 }
 
-/// A drive, and the tokens behind it.
+/// A drive in its parts, and the tokens behind it.
 #[derive(Drop)]
 pub struct DriveFound<'t, 'a> {
-    pub drive: Drive,
+    pub name: String,
+    pub value: Box<Expr>,
     pub rest: &'t [Token<'a>],
 }
 
@@ -257,12 +258,13 @@ fn drive_from<'t, 'a>(
 ) -> Result<DriveFound<'t, 'a>, ReadFault>
     ensures { Gives drive_found result (drive_tree_of name.now (views tokens.now)) }
 {
-    let Found { tree, rest, .. } = whole_expression(alloc, tokens)?;
-    let name = String::from_str(alloc, name)?;
-    Ok(DriveFound {
-        drive: Drive { name, value: tree },
+    let Found {
+        tree: value,
         rest,
-    })
+        ..
+    } = whole_expression(alloc, tokens)?;
+    let name = String::from_str(alloc, name)?;
+    Ok(DriveFound { name, value, rest })
 }
 
 fn one_drive<'t, 'a>(
@@ -293,9 +295,10 @@ fn comma_drive<'t, 'a>(
 fn driven<'t, 'a>(alloc: Global, first: DriveFound<'t, 'a>) -> Result<DriveList<'t, 'a>, ReadFault>
     ensures { Gives drives_view result (Some (drive_found first.entry)) }
 {
-    let DriveFound { drive, rest } = first;
     let mut drives = Vec::with_capacity(alloc, 1)?;
-    drives.push(drive)?;
+    let DriveFound { name, value, rest } = first;
+    let value = Box::into_inner(value);
+    drives.push(Drive { name, value })?;
     Ok(DriveList { drives, rest })
 }
 
@@ -306,8 +309,9 @@ fn with_drive<'t, 'a>(
     ensures { Gives drives_view result (Some ((drives_view held.entry).0 ++ (drive_found next.entry).0, (drive_found next.entry).1)) }
 {
     let DriveList { mut drives, .. } = held;
-    let DriveFound { drive, rest } = next;
-    drives.push(drive)?;
+    let DriveFound { name, value, rest } = next;
+    let value = Box::into_inner(value);
+    drives.push(Drive { name, value })?;
     Ok(DriveList { drives, rest })
 }
 

@@ -1,7 +1,7 @@
 // The parts of a module.
 
 /// A module of the profile: its declared names in text order, ports first, and its items.
-#[derive(Debug, Drop)]
+#[derive(Drop)]
 pub struct VModule {
     pub name: String,
     pub nets: Vec<VNet>,

@@ -98,8 +98,8 @@ fn with_item<'t, 'a>(held: Held<'t, 'a>, next: ItemFound<'t, 'a>) -> Result<Held
         item,
         rest,
     } = next;
-    nets.append(&mut declared)?;
     items.push(item)?;
+    nets.append(&mut declared)?;
     Ok(Held { nets, items, rest })
 }
 

@@ -11,7 +11,7 @@ use ae_vtoken::{Key, Sign, Token};
 use std::alloc::{AllocError, AllocFailed};
 
 /// Why nothing was read.
-#[derive(Debug, Drop)]
+#[derive(Drop)]
 pub enum ReadFault {
     Syntax,
     Memory,
@@ -39,10 +39,10 @@ impl<T: Drop> From<AllocFailed<T>> for ReadFault {
     }
 }
 
-/// An expression, its depth, and the tokens behind it.
+/// An expression, its depth, and the tokens behind it. The tree is boxed, for a box is dropped in one step.
 #[derive(Drop)]
 pub struct Found<'t, 'a> {
-    pub tree: Expr,
+    pub tree: Box<Expr>,
     pub depth: u32,
     pub rest: &'t [Token<'a>],
 }

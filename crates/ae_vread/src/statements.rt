@@ -3,9 +3,8 @@
 ghost use Rattle.std.specs.Prelude.{◌≡◌, [], length, Some};
 ghost use Rattle.ae_vtoken.specs.Scan.{views};
 ghost use Rattle.ae_vread.specs.TokenTests.{after_mark, after_word, first_number};
-ghost use Rattle.ae_vread.specs.ModuleTree.{when, either};
-ghost use Rattle.ae_vread.specs.View.{expr_tree, stmt_tree};
-ghost use Rattle.ae_vread.specs.StmtReading.{statement, whole_statement, statement_at, target_from, put_by, put_place, put_from, set_from, assigned, value_then, test_then, choice_from, alone_of, either_of, body, body_of, with_statement, blocked};
+ghost use Rattle.ae_vread.specs.View.{stmt_tree};
+ghost use Rattle.ae_vread.specs.StmtReading.{statement, whole_statement, statement_at, target_from, put_by, put_place, put_from, set_from, assigned, value_then, test_then, choice_from, alone_of, either_of, body, body_of, with_statement, blocked, stmt_above};
 ghost use Rattle.ae_vread.specs.ReadView.{found_view, stmt_view, body_view, Gives};
 ghost use Rattle.ae_vtoken.specs.declared.token.Key.TheVariants.{Else};
 ghost use Rattle.ae_vtoken.specs.declared.token.Sign.TheVariants.{OpenBracket};
@@ -19,7 +18,7 @@ use std::alloc::Global;
 /// A statement, its depth, and the tokens behind it.
 #[derive(Drop)]
 pub struct StmtFound<'t, 'a> {
-    pub tree: Stmt,
+    pub tree: Box<Stmt>,
     pub depth: u32,
     pub rest: &'t [Token<'a>],
 }
@@ -71,7 +70,7 @@ fn statement_at<'t, 'a>(
     match first {
         Token::Name(name) => target_from(alloc, name, rest),
         Token::Word(Key::If) => choice_from(alloc, budget, test_then(alloc, rest)?),
-        Token::Word(Key::Begin) => blocked(inside(alloc, budget, rest)?),
+        Token::Word(Key::Begin) => blocked(alloc, inside(alloc, budget, rest)?),
         _ => Err(ReadFault::Syntax),
     }
 }
@@ -98,13 +97,9 @@ fn set_from<'t, 'a>(
     ensures { Gives stmt_view result (set_from name.now (found_view value.entry)) }
 {
     let Found { tree, depth, rest } = value;
-    let depth = deeper(depth)?;
     let name = String::from_str(alloc, name)?;
-    Ok(StmtFound {
-        tree: Stmt::Set { name, value: tree },
-        depth,
-        rest,
-    })
+    let value = Box::into_inner(tree);
+    stmt_above(alloc, Stmt::Set { name, value }, depth, rest)
 }
 
 /// An assignment behind its name and the bracket of its index.
@@ -137,17 +132,10 @@ fn put_place<'t, 'a>(
     ensures { Gives stmt_view result (put_place name.now at (found_view value.entry)) }
 {
     let Found { tree, depth, rest } = value;
-    let depth = deeper(depth)?;
     let name = String::from_str(alloc, name)?;
-    Ok(StmtFound {
-        tree: Stmt::Put {
-            name,
-            at: Expr::Place(at),
-            value: tree,
-        },
-        depth,
-        rest,
-    })
+    let value = Box::into_inner(tree);
+    let at = Expr::Place(at);
+    stmt_above(alloc, Stmt::Put { name, at, value }, depth, rest)
 }
 
 fn put_from<'t, 'a>(
@@ -158,27 +146,12 @@ fn put_from<'t, 'a>(
 ) -> Result<StmtFound<'t, 'a>, ReadFault>
     ensures { Gives stmt_view result (put_from name.now (found_view at.entry) (found_view value.entry)) }
 {
-    let Found {
-        tree: place,
-        depth: one,
-        rest: _,
-    } = at;
-    let Found {
-        tree,
-        depth: two,
-        rest,
-    } = value;
-    let depth = deeper(one.max(two))?;
+    let depth = at.depth.max(value.depth);
+    let rest = value.rest;
     let name = String::from_str(alloc, name)?;
-    Ok(StmtFound {
-        tree: Stmt::Put {
-            name,
-            at: place,
-            value: tree,
-        },
-        depth,
-        rest,
-    })
+    let at = Box::into_inner(at.tree);
+    let value = Box::into_inner(value.tree);
+    stmt_above(alloc, Stmt::Put { name, at, value }, depth, rest)
 }
 
 /// `<= value;`
@@ -233,21 +206,12 @@ fn alone<'t, 'a>(
     ensures { Gives stmt_view result (alone_of (found_view test.entry) (stmt_view first.entry)) }
 {
     let depth = test.depth.max(first.depth);
-    let rest = first.rest;
-    let tree = only_if(alloc, test.tree, first.tree)?;
-    let depth = deeper(depth)?;
-    Ok(StmtFound { tree, depth, rest })
-}
-
-fn only_if(alloc: Global, test: Expr, first: Stmt) -> Result<Stmt, ReadFault>
-    ensures { Gives stmt_tree result (Some (when (expr_tree test) (stmt_tree first))) }
-{
-    let yes = Box::new(alloc, first)?;
-    Ok(Stmt::If {
-        test,
-        yes,
+    let tree = Stmt::If {
+        test: Box::into_inner(test.tree),
+        yes: first.tree,
         no: None,
-    })
+    };
+    stmt_above(alloc, tree, depth, first.rest)
 }
 
 fn either_of<'t, 'a>(
@@ -259,22 +223,12 @@ fn either_of<'t, 'a>(
     ensures { Gives stmt_view result (either_of (found_view test.entry) (stmt_view first.entry) (stmt_view second.entry)) }
 {
     let depth = test.depth.max(first.depth.max(second.depth));
-    let rest = second.rest;
-    let tree = choice(alloc, test.tree, first.tree, second.tree)?;
-    let depth = deeper(depth)?;
-    Ok(StmtFound { tree, depth, rest })
-}
-
-fn choice(alloc: Global, test: Expr, first: Stmt, second: Stmt) -> Result<Stmt, ReadFault>
-    ensures { Gives stmt_tree result (Some (either (expr_tree test) (stmt_tree first) (stmt_tree second))) }
-{
-    let yes = Box::new(alloc, first)?;
-    let no = Box::new(alloc, second)?;
-    Ok(Stmt::If {
-        test,
-        yes,
-        no: Some(no),
-    })
+    let tree = Stmt::If {
+        test: Box::into_inner(test.tree),
+        yes: first.tree,
+        no: Some(second.tree),
+    };
+    stmt_above(alloc, tree, depth, second.rest)
 }
 
 /// The statements up to the `end` that closes them.
@@ -328,7 +282,7 @@ fn with_statement<'t, 'a>(
         depth: deep,
         rest,
     } = next;
-    trees.push(tree)?;
+    trees.push(Box::into_inner(tree))?;
     Ok(Body {
         trees,
         depth: depth.max(deep),
@@ -336,14 +290,23 @@ fn with_statement<'t, 'a>(
     })
 }
 
-fn blocked<'t, 'a>(body: Body<'t, 'a>) -> Result<StmtFound<'t, 'a>, ReadFault>
+fn blocked<'t, 'a>(alloc: Global, body: Body<'t, 'a>) -> Result<StmtFound<'t, 'a>, ReadFault>
     ensures { Gives stmt_view result (blocked (body_view body.entry)) }
 {
     let Body { trees, depth, rest } = body;
+    stmt_above(alloc, Stmt::Block(trees), depth, rest)
+}
+
+/// A statement whose parts are so deep, with the tokens behind it.
+fn stmt_above<'t, 'a>(
+    alloc: Global,
+    tree: Stmt,
+    depth: u32,
+    rest: &'t [Token<'a>],
+) -> Result<StmtFound<'t, 'a>, ReadFault>
+    ensures { Gives stmt_view result (stmt_above (stmt_tree tree) depth (views rest.now)) }
+{
+    let tree = Box::new(alloc, tree)?;
     let depth = deeper(depth)?;
-    Ok(StmtFound {
-        tree: Stmt::Block(trees),
-        depth,
-        rest,
-    })
+    Ok(StmtFound { tree, depth, rest })
 }

@@ -1,7 +1,7 @@
 // The forms of operator lines.
 
 /// What stands between an operator's word and its arguments.
-#[derive(Clone, Copy, PartialEq, Eq)]
+#[derive(Clone, Copy)]
 pub enum Front {
     Nothing,
     /// A number from one bound to another.
@@ -17,11 +17,12 @@ pub enum Front {
     Value,
 }
 
-/// What stands behind an operator's word: how many arguments; 0 where it is 1 to 8 of them.
+/// What stands behind an operator's word: how many arguments, 0 where it is 1 to 8 of them, and all of it in words.
 #[derive(Clone, Copy)]
 pub struct Form {
     pub front: Front,
     pub count: usize,
+    pub takes: &'static str,
 }
 
 /// All words of operators.
@@ -63,47 +64,98 @@ pub const OPERATORS: [&str; 32] = [
 /// The operators that fold.
 pub const FOLDING: [&str; 7] = ["add", "mul", "and", "or", "xor", "min", "max"];
 
-fn form_with(front: Front, count: usize) -> Form {
-    Form { front, count }
-}
+const ONE: &str = "one argument";
+
+const TWO: &str = "two arguments";
+
+const NUMBER: &str = "a number K, and then one argument";
+
+const FOLD: &str = "one of the operators add mul and or xor min max, and then one argument";
+
+// The forms of all operators.
+const FORMS: [(&str, Front, usize, &str); 30] = [
+    ("add", Front::Nothing, 2, TWO),
+    ("sub", Front::Nothing, 2, TWO),
+    ("mul", Front::Nothing, 2, TWO),
+    ("and", Front::Nothing, 2, TWO),
+    ("or", Front::Nothing, 2, TWO),
+    ("xor", Front::Nothing, 2, TWO),
+    ("min", Front::Nothing, 2, TWO),
+    ("max", Front::Nothing, 2, TWO),
+    ("eq", Front::Nothing, 2, TWO),
+    ("lt", Front::Nothing, 2, TWO),
+    ("pair", Front::Nothing, 2, TWO),
+    ("zip", Front::Nothing, 2, TWO),
+    ("not", Front::Nothing, 1, ONE),
+    ("fst", Front::Nothing, 1, ONE),
+    ("snd", Front::Nothing, 1, ONE),
+    ("unpartition", Front::Nothing, 1, ONE),
+    (
+        "mux",
+        Front::Nothing,
+        3,
+        "three arguments: the bit, the one for 1 and the one for 0",
+    ),
+    ("shl", Front::Number(0, 63), 1, NUMBER),
+    ("shr", Front::Number(0, 63), 1, NUMBER),
+    ("shift", Front::Number(0, 4096), 1, NUMBER),
+    ("select", Front::Number(0, 4096), 1, NUMBER),
+    (
+        "up",
+        Front::Number(1, 4096),
+        1,
+        "a number N, and then one argument",
+    ),
+    (
+        "partition",
+        Front::Numbers,
+        1,
+        "two numbers N and M, and then one argument",
+    ),
+    (
+        "map",
+        Front::Function,
+        1,
+        "a function, and then one argument",
+    ),
+    (
+        "map2",
+        Front::Function,
+        2,
+        "a function, and then two arguments",
+    ),
+    (
+        "call",
+        Front::Function,
+        0,
+        "a function, and then its arguments, 1 to 8",
+    ),
+    ("reduce", Front::Fold, 1, FOLD),
+    ("scan", Front::Fold, 1, FOLD),
+    (
+        "cast",
+        Front::Word,
+        1,
+        "the type of a word, and then one argument",
+    ),
+    (
+        "const",
+        Front::Value,
+        0,
+        "a type, and then the words of its value",
+    ),
+];
 
 /// The form of an operator's lines, if the word is one's.
 pub fn form_of(word: &str) -> Option<Form> {
-    match word {
-        "add" | "sub" | "mul" | "and" | "or" | "xor" => Some(form_with(Front::Nothing, 2)),
-        "min" | "max" | "eq" | "lt" | "pair" | "zip" => Some(form_with(Front::Nothing, 2)),
-        "not" | "fst" | "snd" | "unpartition" => Some(form_with(Front::Nothing, 1)),
-        "mux" => Some(form_with(Front::Nothing, 3)),
-        "shl" | "shr" => Some(form_with(Front::Number(0, 63), 1)),
-        "shift" | "select" => Some(form_with(Front::Number(0, 4096), 1)),
-        "up" => Some(form_with(Front::Number(1, 4096), 1)),
-        "partition" => Some(form_with(Front::Numbers, 1)),
-        "map" => Some(form_with(Front::Function, 1)),
-        "map2" => Some(form_with(Front::Function, 2)),
-        "call" => Some(form_with(Front::Function, 0)),
-        "reduce" | "scan" => Some(form_with(Front::Fold, 1)),
-        "cast" => Some(form_with(Front::Word, 1)),
-        "const" => Some(form_with(Front::Value, 0)),
-        _ => None,
-    }
-}
-
-/// An operator's line with letters in place of what it takes.
-pub fn line_form(word: &str) -> &'static str {
-    match word {
-        "not" | "fst" | "snd" | "unpartition" => "one argument",
-        "mux" => "three arguments: the bit, the one for 1 and the one for 0",
-        "shl" | "shr" | "shift" | "select" => "a number K, and then one argument",
-        "up" => "a number N, and then one argument",
-        "partition" => "two numbers N and M, and then one argument",
-        "map" => "a function, and then one argument",
-        "map2" => "a function, and then two arguments",
-        "call" => "a function, and then its arguments, 1 to 8",
-        "reduce" | "scan" => {
-            "one of the operators add mul and or xor min max, and then one argument"
+    for (known, front, count, takes) in &FORMS {
+        if *known == word {
+            return Some(Form {
+                front: *front,
+                count: *count,
+                takes: *takes,
+            });
         }
-        "cast" => "the type of a word, and then one argument",
-        "const" => "a type, and then the words of its value",
-        _ => "two arguments",
     }
+    None
 }

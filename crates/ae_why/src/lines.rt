@@ -2,8 +2,10 @@
 
 use crate::above::{Above, read_above};
 use crate::names::is_known;
-use crate::nodes::{behind, name_fault, node, of_field, unknown_item};
-use crate::places::{Field, Finding, at_field, fields, line_at, push_finding};
+use crate::nodes::{behind, has_byte, name_fault, node, of_field, unknown_item};
+use crate::places::{
+    Field, Finding, at_field, at_place, fields, line_at, push_finding, push_marked, text_of,
+};
 use crate::spelling::{is_spelled, type_fault};
 use ae_parse::{next_piece, said};
 use ae_seq::is_name;
@@ -17,21 +19,18 @@ fn wrong_param(
 ) -> Result<Option<Finding>, AllocError> {
     let (name, after) = next_piece(field.text.as_bytes(), b':');
     let Some(spelled) = after else {
-        return Ok(Some(of_field(
-            alloc,
-            field,
-            "a parameter is NAME:TYPE in one field, without blanks",
-        )?));
+        let what = "a parameter is NAME:TYPE in one field, without blanks";
+        return of_field(alloc, field, what);
     };
     if !is_name(name) {
-        return Ok(Some(of_field(alloc, field, name_fault(crate::places::text_of(name)))?));
+        return of_field(alloc, field, name_fault(text_of(name)));
     }
-    if spelled.iter().any(|byte| *byte == b':') {
-        return Ok(Some(of_field(alloc, field, "a parameter has one colon")?));
+    let spelled = text_of(spelled);
+    if has_byte(spelled, b':') {
+        return of_field(alloc, field, "a parameter has one colon");
     }
-    let spelled = crate::places::text_of(spelled);
     if !is_spelled(above.version, spelled) {
-        return Ok(Some(of_field(alloc, field, type_fault(above.version, spelled))?));
+        return of_field(alloc, field, type_fault(above.version, spelled));
     }
     Ok(None)
 }
@@ -42,10 +41,13 @@ fn is_repeated(fields: &[Field<'_>], number: usize) -> bool {
         return false;
     };
     let (name, _) = next_piece(own.text.as_bytes(), b':');
-    fields.iter().take(number).any(|other| {
+    for other in fields.iter().take(number) {
         let (before, _) = next_piece(other.text.as_bytes(), b':');
-        before == name
-    })
+        if before == name {
+            return true;
+        }
+    }
+    false
 }
 
 // What is wrong with the parameters.
@@ -60,17 +62,20 @@ fn wrong_params(
             return Ok(Some(finding));
         }
         if is_repeated(params, number) {
-            return Ok(Some(of_field(alloc, field, "a parameter before it has this name")?));
+            return of_field(alloc, field, "a parameter before it has this name");
         }
     }
-    if let Some(field) = params.get(8) {
-        return Ok(Some(of_field(alloc, field, "a function has at most 8 parameters")?));
+    match params.get(8) {
+        Some(field) => of_field(alloc, field, "a function has at most 8 parameters"),
+        None if params.is_empty() => {
+            behind(
+                alloc,
+                name,
+                "a function has at least one parameter, NAME:TYPE",
+            )
+        }
+        None => Ok(None),
     }
-    if params.is_empty() {
-        let text = String::from_str(alloc, "a function has at least one parameter, NAME:TYPE")?;
-        return Ok(Some(behind(name, text)));
-    }
-    Ok(None)
 }
 
 // What is wrong with a function line.
@@ -81,23 +86,21 @@ fn function(
     rest: &[Field<'_>],
 ) -> Result<Option<Finding>, AllocError> {
     if above.is_closed {
-        return Ok(Some(of_field(
-            alloc,
-            first,
-            "the function above has several results, so it is the last: no function follows",
-        )?));
+        let what = "the function above has several results, so it is the last: no function follows";
+        return of_field(alloc, first, what);
     }
     let [name, params @ ..] = rest else {
-        return Ok(Some(behind(
+        return behind(
+            alloc,
             first,
-            String::from_str(alloc, "a function line is fn NAME and its parameters")?,
-        )));
+            "a function line is fn NAME and its parameters",
+        );
     };
     if !is_name(name.text.as_bytes()) {
-        return Ok(Some(of_field(alloc, name, name_fault(name.text))?));
+        return of_field(alloc, name, name_fault(name.text));
     }
     if is_known(name.text, &above.funcs) {
-        return Ok(Some(of_field(alloc, name, "a function above has this name")?));
+        return of_field(alloc, name, "a function above has this name");
     }
     wrong_params(alloc, above, name, params)
 }
@@ -109,26 +112,15 @@ fn outside(
     first: &Field<'_>,
     rest: &[Field<'_>],
 ) -> Result<Option<Finding>, AllocError> {
-    match first.text {
-        "fn" => function(alloc, above, first, rest),
-        "aeth" if above.is_begun => Ok(Some(of_field(
-            alloc,
-            first,
-            "a version line is the first line that says something",
-        )?)),
-        "aeth" => Ok(Some(of_field(alloc, first, "the only version line is `aeth 2`")?)),
-        "end" => Ok(Some(of_field(alloc, first, "no function is open here")?)),
-        "module" => Ok(Some(of_field(
-            alloc,
-            first,
-            "this is Verilog and no program: `aeth sim FILL` takes it",
-        )?)),
-        _ => Ok(Some(of_field(
-            alloc,
-            first,
-            "outside of functions stand function lines, fn NAME and parameters",
-        )?)),
-    }
+    let what = match first.text {
+        "fn" => return function(alloc, above, first, rest),
+        "aeth" if above.is_begun => "a version line is the first line that says something",
+        "aeth" => "the only version line is `aeth 2`",
+        "end" => "no function is open here",
+        "module" => "this is Verilog and no program: `aeth sim FILL` takes it",
+        _ => "outside of functions stand function lines, fn NAME and parameters",
+    };
+    of_field(alloc, first, what)
 }
 
 // What is wrong with an end line.
@@ -139,26 +131,18 @@ fn finish(
     names: &[Field<'_>],
 ) -> Result<Option<Finding>, AllocError> {
     if names.is_empty() {
-        return Ok(Some(behind(
-            end,
-            String::from_str(alloc, "an end line names the result")?,
-        )));
+        return behind(alloc, end, "an end line names the result");
     }
     if let Some(finding) = unknown_item(alloc, above, names)? {
         return Ok(Some(finding));
     }
-    if let Some(second) = names.get(1) {
-        if above.version < 2 {
-            return Ok(Some(of_field(
-                alloc,
-                second,
-                "several results are of version 2: begin the text with the line `aeth 2`",
-            )?));
+    match (names.get(1), names.get(8)) {
+        (Some(second), _) if above.version < 2 => {
+            let what = "several results are of version 2: begin the text with the line `aeth 2`";
+            of_field(alloc, second, what)
         }
-    }
-    match names.get(8) {
-        Some(field) => Ok(Some(of_field(alloc, field, "a function has at most 8 results")?)),
-        None => Ok(None),
+        (_, Some(field)) => of_field(alloc, field, "a function has at most 8 results"),
+        _ => Ok(None),
     }
 }
 
@@ -175,8 +159,8 @@ fn inside(
         "fn" => {
             let text = format!(in alloc;
                 "function {name} is not at its end: its line `end` is missing above"
-            )?;
-            Ok(Some(at_field(first, text)))
+            );
+            at_field(first, text)
         }
         _ => node(alloc, above, first, rest),
     }
@@ -188,8 +172,8 @@ fn wrong_byte(alloc: Global, line: &[u8]) -> Result<Option<Finding>, AllocError>
         if !matches!(*byte, b'\t' | b' '..=b'~') {
             let text = format!(in alloc;
                 "byte {byte}: outside of comments stand spaces, tabs and printable ASCII alone"
-            )?;
-            return Ok(Some(Finding { at, wide: 1, text }));
+            );
+            return at_place(at, 1, text);
         }
     }
     Ok(None)
@@ -210,7 +194,7 @@ fn wrong_line(
         return Ok(None);
     };
     if number > 4096 {
-        return Ok(Some(of_field(alloc, first, "a line behind number 4096 says nothing")?));
+        return of_field(alloc, first, "a line behind number 4096 says nothing");
     }
     match above.open {
         Some(name) => inside(alloc, above, name, first, rest),
@@ -232,22 +216,29 @@ fn push_missing(out: &mut String, above: &Above<'_>, number: u32) -> Result<(), 
     }
 }
 
+// Why a line goes on with no program.
+fn push_bad_line(
+    out: &mut String,
+    alloc: Global,
+    part: &[u8],
+    number: u32,
+) -> Result<(), AllocError> {
+    let above = read_above(alloc, part, number)?;
+    let Some((_, line)) = line_at(part, number) else {
+        return push_missing(out, &above, number);
+    };
+    match wrong_line(alloc, &above, number, line)? {
+        Some(finding) => push_finding(out, number, line, &finding),
+        None => {
+            push_marked(out, number, line, 0, 1)?;
+            out.push_str("this line goes on with no program\n")
+        }
+    }
+}
+
 /// Why the program part has no program, by the line that is refused.
 pub fn bad_line(alloc: Global, part: &[u8], number: u32) -> Result<String, AllocError> {
-    let above = read_above(alloc, part, number)?;
     let mut out = String::new(alloc);
-    let Some((_, line)) = line_at(part, number) else {
-        push_missing(&mut out, &above, number)?;
-        return Ok(out);
-    };
-    let finding = match wrong_line(alloc, &above, number, line)? {
-        Some(finding) => finding,
-        None => Finding {
-            at: 0,
-            wide: 1,
-            text: String::from_str(alloc, "this line goes on with no program")?,
-        },
-    };
-    push_finding(&mut out, number, line, &finding)?;
+    push_bad_line(&mut out, alloc, part, number)?;
     Ok(out)
 }

@@ -190,6 +190,30 @@ pub fn large_moves(
     Ok(out)
 }
 
+// The load up to a line, or its types, where a function has the line.
+fn push_cause(
+    out: &mut String,
+    alloc: Global,
+    part: &[u8],
+    p: &Program,
+    number: u32,
+    slowdown: u32,
+    limit: u32,
+) -> Result<(), AllocError>
+    requires some { 0 < slowdown }
+    requires most { slowdown ≤ 4096 }
+    requires limit { limit ≤ 100000 }
+{
+    let Some(spot) = spot_of(p, number) else {
+        return Ok(());
+    };
+    let Some(typed) = typed_of(alloc, part)? else {
+        return push_sizes(out, alloc, part, p, spot);
+    };
+    push_load(out, alloc, &typed, slowdown, limit)?;
+    push_above(out, alloc, part, p, spot, slowdown, limit)
+}
+
 /// Why a line of a program is too large: its type, or the load up to it at a slowdown, with the three greatest loads above. The
 /// loads are those of lines, which a program that only moves words does not have.
 pub fn too_large(
@@ -205,18 +229,8 @@ pub fn too_large(
 {
     let mut out = String::new(alloc);
     push_line(&mut out, alloc, part, number)?;
-    let Some(p) = program_of(alloc, part)? else {
-        return Ok(out);
-    };
-    let Some(spot) = spot_of(&p, number) else {
-        return Ok(out);
-    };
-    match typed_of(alloc, part)? {
-        Some(typed) => {
-            push_load(&mut out, alloc, &typed, slowdown, limit)?;
-            push_above(&mut out, alloc, part, &p, spot, slowdown, limit)?;
-        }
-        None => push_sizes(&mut out, alloc, part, &p, spot)?,
+    if let Some(p) = program_of(alloc, part)? {
+        push_cause(&mut out, alloc, part, &p, number, slowdown, limit)?;
     }
     Ok(out)
 }

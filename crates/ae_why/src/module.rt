@@ -182,15 +182,17 @@ fn item<'a>(found: &'a [Lexeme], starts: &[usize], k: u32) -> &'a [Lexeme] {
 }
 
 // The text of an item in one line, the first words and signs of it.
-fn push_item(out: &mut String, text: &[u8], item: &[Lexeme]) -> Result<(), AllocError> {
+fn push_item(
+    out: &mut String,
+    text: &[u8],
+    number: u32,
+    item: &[Lexeme],
+) -> Result<(), AllocError> {
+    write!(out, "item {number} reads")?;
     for lexeme in item.iter().take(40) {
-        out.push_str(" ")?;
-        out.push_str(text_of(bytes_of(text, *lexeme)))?;
+        write!(out, " {}", text_of(bytes_of(text, *lexeme)))?;
     }
-    if item.len() > 40 {
-        out.push_str(" ..")?;
-    }
-    out.push_str("\n")
+    out.push_str(if item.len() > 40 { " ..\n" } else { "\n" })
 }
 
 // A word or sign marked in its line, with its line and column from 1.
@@ -215,13 +217,21 @@ fn push_fault(
 ) -> Result<(), AllocError> {
     let found = lexemes(alloc, text)?;
     let starts = item_starts(alloc, text, &found)?;
-    let item = item(&found, &starts, number);
+    push_faulty(out, text, number, item(&found, &starts, number), what)
+}
+
+fn push_faulty(
+    out: &mut String,
+    text: &[u8],
+    number: u32,
+    item: &[Lexeme],
+    what: &str,
+) -> Result<(), AllocError> {
     match item.first() {
         Some(first) => push_lexeme(out, text, *first)?,
         None => out.push_str("at the end of the text:\n")?,
     }
-    write!(out, "item {number} reads")?;
-    push_item(out, text, item)?;
+    push_item(out, text, number, item)?;
     writeln!(out, "{what}")
 }
 
@@ -254,13 +264,13 @@ fn push_net(
     net: u32,
     what: &str,
 ) -> Result<(), AllocError> {
+    let found = lexemes(alloc, text)?;
     let Some(m) = module_of(alloc, text) else {
         return Ok(());
     };
     let Some(net) = m.nets.get(net as usize) else {
         return Ok(());
     };
-    let found = lexemes(alloc, text)?;
     if let Some(lexeme) = place_of_name(text, &found, net.name.as_str()) {
         push_lexeme(out, text, lexeme)?;
     }
@@ -295,9 +305,12 @@ fn is_name(word: &[u8]) -> bool {
 
 // Whether a name is declared in an item or above it.
 fn is_declared(m: &VModule, word: &[u8], item: u32) -> bool {
-    m.nets
-        .iter()
-        .any(|net| net.item <= item && net.name.as_bytes() == word)
+    for net in &m.nets {
+        if net.item <= item && net.name.as_bytes() == word {
+            return true;
+        }
+    }
+    false
 }
 
 // The first name in an item that is not declared.
@@ -318,89 +331,83 @@ fn push_unknown(
     text: &[u8],
     number: u32,
 ) -> Result<(), AllocError> {
-    push_fault(
-        out,
-        alloc,
-        text,
-        number,
-        "it has a name that is declared below it or nowhere",
-    )?;
+    let what = "it has a name that is declared below it or nowhere";
+    push_fault(out, alloc, text, number, what)?;
+    let found = lexemes(alloc, text)?;
+    let starts = item_starts(alloc, text, &found)?;
     let Some(m) = module_of(alloc, text) else {
         return Ok(());
     };
-    let found = lexemes(alloc, text)?;
-    let starts = item_starts(alloc, text, &found)?;
     match unknown_name(text, &m, item(&found, &starts, number), number) {
         Some(lexeme) => push_lexeme(out, text, lexeme),
         None => Ok(()),
     }
 }
 
+// Why no token begins with a byte.
+fn byte_fault(byte: u8) -> &'static str {
+    match byte {
+        b'#' => "delays and parameters, which # begins, are left out of the subset\n",
+        b'"' => "texts in quotes are left out of the subset\n",
+        b'$' => "system tasks, which $ begins, are left out of the subset\n",
+        _ => "no name, number or sign of the subset begins with this byte (docs/VERILOG.md)\n",
+    }
+}
+
 // A byte in no token.
 fn push_token(out: &mut String, text: &[u8], at: u32) -> Result<(), AllocError> {
-    let (line, column) = place_of(text, at as usize);
-    writeln!(out, "at line {line}, column {}:", column.saturating_add(1))?;
-    push_place(out, text, at as usize, 1)?;
-    match byte_at(text, at as usize) {
-        b'#' => out.push_str("delays and parameters, which # begins, are left out of the subset\n"),
-        b'"' => out.push_str("texts in quotes are left out of the subset\n"),
-        b'$' => out.push_str("system tasks, which $ begins, are left out of the subset\n"),
-        _ => out.push_str(
-            "no name, number or sign of the subset begins with this byte (docs/VERILOG.md)\n",
+    let from = at as usize;
+    let to = from.saturating_add(1);
+    push_lexeme(out, text, Lexeme { from, to })?;
+    out.push_str(byte_fault(byte_at(text, from)))
+}
+
+fn push_why(
+    out: &mut String,
+    alloc: Global,
+    text: &[u8],
+    fault: ModuleFault,
+) -> Result<(), AllocError> {
+    let (item, what) = match fault {
+        ModuleFault::Token(at) => return push_token(out, text, at),
+        ModuleFault::Unknown(item) => return push_unknown(out, alloc, text, item),
+        ModuleFault::Undriven(net) => {
+            return push_net(out, alloc, text, net, "is given no value");
+        }
+        ModuleFault::Loop(net) => {
+            let what = "depends on itself without a register between";
+            return push_net(out, alloc, text, net, what);
+        }
+        ModuleFault::Large => {
+            return out.push_str("the module is past the limits of docs/LIMITS.md\n");
+        }
+        ModuleFault::Header => (
+            0,
+            "a text begins with module, a name, ports in parentheses and a semicolon; the module of a program is simulated by `aeth run`",
         ),
-    }
+        ModuleFault::Item(item) => (
+            item.saturating_add(1),
+            "the items above it are right; this is neither an item of the subset nor an endmodule that ends the text",
+        ),
+        ModuleFault::Twice(item) => (
+            item,
+            "it declares or drives a name that is declared or driven above",
+        ),
+        ModuleFault::Kind(item) => (
+            item,
+            "it uses a name in a way that its kind does not allow: wires are assigned, registers written at the clock, memories have an index",
+        ),
+        ModuleFault::Width(item) => (
+            item,
+            "a width, a constant or an index in it is out of its range, which is 1 to 64 bits for words",
+        ),
+    };
+    push_fault(out, alloc, text, item, what)
 }
 
 /// Why a text is no module that is simulated: where it is, in lines and columns from 1, and what is wrong.
 pub fn bad_module(alloc: Global, text: &[u8], fault: ModuleFault) -> Result<String, AllocError> {
     let mut out = String::new(alloc);
-    match fault {
-        ModuleFault::Token(at) => push_token(&mut out, text, at)?,
-        ModuleFault::Header => {
-            push_fault(
-                &mut out,
-                alloc,
-                text,
-                0,
-                "a text begins with module, a name, ports in parentheses and a semicolon; the module of a program is simulated by `aeth run`",
-            )?;
-        }
-        ModuleFault::Item(item) => {
-            let what =
-                "the items above it are right; this is neither an item of the subset nor an endmodule that ends the text";
-            push_fault(&mut out, alloc, text, item.saturating_add(1), what)?;
-        }
-        ModuleFault::Unknown(item) => push_unknown(&mut out, alloc, text, item)?,
-        ModuleFault::Twice(item) => push_fault(
-            &mut out,
-            alloc,
-            text,
-            item,
-            "it declares or drives a name that is declared or driven above",
-        )?,
-        ModuleFault::Kind(item) => push_fault(
-            &mut out,
-            alloc,
-            text,
-            item,
-            "it uses a name in a way that its kind does not allow: wires are assigned, registers written at the clock, memories have an index",
-        )?,
-        ModuleFault::Undriven(net) => push_net(&mut out, alloc, text, net, "is given no value")?,
-        ModuleFault::Width(item) => push_fault(
-            &mut out,
-            alloc,
-            text,
-            item,
-            "a width, a constant or an index in it is out of its range, which is 1 to 64 bits for words",
-        )?,
-        ModuleFault::Loop(net) => push_net(
-            &mut out,
-            alloc,
-            text,
-            net,
-            "depends on itself without a register between",
-        )?,
-        ModuleFault::Large => out.push_str("the module is past the limits of docs/LIMITS.md\n")?,
-    }
+    push_why(&mut out, alloc, text, fault)?;
     Ok(out)
 }

@@ -1,7 +1,7 @@
 // Why a program does more than move words.
 
 use crate::sorts::{node_at, program_of, spot_of};
-use crate::types::{push_line, push_word};
+use crate::types::{push_line, word_of};
 use ae_seq::Op;
 use std::alloc::{AllocError, Global};
 
@@ -24,8 +24,7 @@ pub fn not_moves(alloc: Global, part: &[u8], number: u32) -> Result<String, Allo
     if let Some(p) = program_of(alloc, part)? {
         if let Some(spot) = spot_of(&p, number) {
             if let Some((_, node)) = node_at(&p, spot) {
-                push_word(&mut out, alloc, part, number)?;
-                writeln!(out, " {}", does(&node.op))?;
+                writeln!(out, "{} {}", word_of(part, number), does(&node.op))?;
             }
         }
     }

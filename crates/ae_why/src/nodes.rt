@@ -1,27 +1,38 @@
 // Why a line is no node line.
 
 use crate::above::Above;
-use crate::forms::{FOLDING, Form, Front, OPERATORS, form_of, line_form};
-use crate::names::{is_known, push_nearest};
-use crate::places::{Field, Finding, at_field};
+use crate::forms::{FOLDING, Form, Front, OPERATORS, form_of};
+use crate::names::{is_known, nearest, push_nearest};
+use crate::places::{Field, Finding, at_field, at_place, place_behind};
 use crate::spelling::{is_spelled, type_fault};
 use ae_parse::{number, plain_number};
 use ae_seq::is_name;
 use std::alloc::{AllocError, Global};
 
 /// What is wrong behind the last field of a line.
-pub fn behind(field: &Field<'_>, text: String) -> Finding {
-    Finding {
-        at: field.at.saturating_add(field.text.len()).saturating_add(1),
-        wide: 1,
-        text,
-    }
+pub fn behind(alloc: Global, field: &Field<'_>, what: &str) -> Result<Option<Finding>, AllocError> {
+    at_place(place_behind(field), 1, String::from_str(alloc, what))
 }
 
 /// Something that is wrong with a field, in a sentence that begins with the field.
-pub fn of_field(alloc: Global, field: &Field<'_>, what: &str) -> Result<Finding, AllocError> {
-    let text = format!(in alloc; "{}: {what}", field.text)?;
-    Ok(at_field(field, text))
+pub fn of_field(
+    alloc: Global,
+    field: &Field<'_>,
+    what: &str,
+) -> Result<Option<Finding>, AllocError> {
+    at_field(field, format!(in alloc; "{}: {what}", field.text))
+}
+
+// The same, and which of some names is near the field.
+fn with_nearest(
+    alloc: Global,
+    field: &Field<'_>,
+    what: &str,
+    known: &[&str],
+) -> Result<Option<Finding>, AllocError> {
+    let mut text = format!(in alloc; "{}: {what}", field.text)?;
+    push_nearest(&mut text, field.text, known)?;
+    at_field(field, Ok(text))
 }
 
 /// What is wrong with a name that is to be a new one.
@@ -37,8 +48,14 @@ const SIGNS: [&str; 14] = [
     "+", "-", "*", "/", "%", "&", "|", "^", "<", ">", "<<", ">>", "==", "?",
 ];
 
-fn has_byte(text: &str, wanted: u8) -> bool {
-    text.as_bytes().iter().any(|byte| *byte == wanted)
+/// Whether a byte stands in a text.
+pub fn has_byte(text: &str, wanted: u8) -> bool {
+    for byte in text.as_bytes() {
+        if *byte == wanted {
+            return true;
+        }
+    }
+    false
 }
 
 // A word that is no operator.
@@ -47,7 +64,7 @@ fn unknown_operator(
     above: &Above<'_>,
     word: &Field<'_>,
     rest: &[Field<'_>],
-) -> Result<Finding, AllocError> {
+) -> Result<Option<Finding>, AllocError> {
     if let [sign, ..] = rest {
         if is_known(sign.text, &SIGNS) {
             return of_field(
@@ -78,11 +95,16 @@ fn unknown_operator(
             "an item and no operator: an operator stands behind the =",
         );
     }
-    let mut text = format!(in alloc; "{}: no operator has this word", word.text)?;
-    if let Some(near) = crate::names::nearest(alloc, word.text, &OPERATORS)? {
-        write!(text, "; the nearest is {near}")?;
+    match nearest(word.text, &OPERATORS) {
+        Some(near) => at_field(
+            word,
+            format!(in alloc;
+                "{}: no operator has this word; the nearest is {near}",
+                word.text
+            ),
+        ),
+        None => of_field(alloc, word, "no operator has this word"),
     }
-    Ok(at_field(word, text))
 }
 
 // A name that is none of an item above.
@@ -90,7 +112,7 @@ fn unknown_argument(
     alloc: Global,
     above: &Above<'_>,
     field: &Field<'_>,
-) -> Result<Finding, AllocError> {
+) -> Result<Option<Finding>, AllocError> {
     if number(field.text.as_bytes()).is_some() {
         return of_field(
             alloc,
@@ -105,12 +127,8 @@ fn unknown_argument(
             "a function; arguments are parameters and nodes above",
         );
     }
-    let mut text = format!(in alloc;
-        "{}: no parameter or node above in this function has this name",
-        field.text
-    )?;
-    push_nearest(&mut text, alloc, field.text, &above.items)?;
-    Ok(at_field(field, text))
+    let what = "no parameter or node above in this function has this name";
+    with_nearest(alloc, field, what, &above.items)
 }
 
 /// The first of some fields that names no item above.
@@ -121,7 +139,7 @@ pub fn unknown_item(
 ) -> Result<Option<Finding>, AllocError> {
     for field in fields {
         if !is_known(field.text, &above.items) {
-            return Ok(Some(unknown_argument(alloc, above, field)?));
+            return unknown_argument(alloc, above, field);
         }
     }
     Ok(None)
@@ -136,22 +154,22 @@ fn wrong_count(
 ) -> Result<Option<Finding>, AllocError> {
     let least = form.count.max(1);
     let most = if form.count == 0 { 8 } else { form.count };
-    let wanted = line_form(word.text);
-    let text = format!(in alloc;
-        "{} takes {wanted}; there are {} arguments",
-        word.text,
-        args.len()
-    )?;
-    if let Some(field) = args.get(most) {
-        return Ok(Some(at_field(field, text)));
-    }
-    if args.len() >= least {
-        return Ok(None);
-    }
-    match args.last() {
-        Some(field) => Ok(Some(behind(field, text))),
-        None => Ok(Some(behind(word, text))),
-    }
+    let (at, wide) = match (args.get(most), args.last()) {
+        (Some(field), _) => (field.at, field.text.len()),
+        (None, _) if args.len() >= least => return Ok(None),
+        (None, Some(field)) => (place_behind(field), 1),
+        (None, None) => (place_behind(word), 1),
+    };
+    at_place(
+        at,
+        wide,
+        format!(in alloc;
+            "{} takes {}; there are {} arguments",
+            word.text,
+            form.takes,
+            args.len()
+        ),
+    )
 }
 
 // What is wrong with the arguments.
@@ -162,10 +180,10 @@ fn arguments(
     form: Form,
     args: &[Field<'_>],
 ) -> Result<Option<Finding>, AllocError> {
-    if let Some(finding) = unknown_item(alloc, above, args)? {
-        return Ok(Some(finding));
+    match unknown_item(alloc, above, args)? {
+        None => wrong_count(alloc, word, form, args),
+        found => Ok(found),
     }
-    wrong_count(alloc, word, form, args)
 }
 
 // What is wrong with a field that has to be a number.
@@ -178,11 +196,13 @@ fn wrong_number(
     if plain_number(field.text.as_bytes(), low, high).is_some() {
         return Ok(None);
     }
-    let text = format!(in alloc;
-        "{}: here stands a number from {low} to {high}, without a leading zero",
-        field.text
-    )?;
-    Ok(Some(at_field(field, text)))
+    at_field(
+        field,
+        format!(in alloc;
+            "{}: here stands a number from {low} to {high}, without a leading zero",
+            field.text
+        ),
+    )
 }
 
 // A name that is none of a function above.
@@ -196,24 +216,21 @@ fn unknown_function(
         return Ok(None);
     }
     if above.open == Some(name) {
-        return Ok(Some(of_field(
+        return of_field(
             alloc,
             field,
             "a function cannot use itself, only functions above it",
-        )?));
+        );
     }
     if is_known(name, &OPERATORS) {
-        return Ok(Some(of_field(
+        return of_field(
             alloc,
             field,
             "an operator and no function: write a function of one line with it, above",
-        )?));
+        );
     }
-    let mut text = format!(in alloc;
-        "{name}: no function above has this name; functions use only functions above them"
-    )?;
-    push_nearest(&mut text, alloc, name, &above.funcs)?;
-    Ok(Some(at_field(field, text)))
+    let what = "no function above has this name; functions use only functions above them";
+    with_nearest(alloc, field, what, &above.funcs)
 }
 
 // What is wrong with the operator of a fold.
@@ -222,7 +239,7 @@ fn unknown_fold(alloc: Global, field: &Field<'_>) -> Result<Option<Finding>, All
         return Ok(None);
     }
     let what = "this folds nothing; one of add mul and or xor min max stands here";
-    Ok(Some(of_field(alloc, field, what)?))
+    of_field(alloc, field, what)
 }
 
 // What is wrong with the type of a cast or of a constant.
@@ -233,11 +250,11 @@ fn wrong_type(
     is_word: bool,
 ) -> Result<Option<Finding>, AllocError> {
     if !is_spelled(version, field.text) {
-        return Ok(Some(of_field(alloc, field, type_fault(version, field.text))?));
+        return of_field(alloc, field, type_fault(version, field.text));
     }
     let is_long = has_byte(field.text, b'[') || has_byte(field.text, b'(');
     if is_word && is_long {
-        return Ok(Some(of_field(alloc, field, "a cast is to one word, as u16")?));
+        return of_field(alloc, field, "a cast is to one word, as u16");
     }
     Ok(None)
 }
@@ -246,18 +263,18 @@ fn wrong_type(
 fn wrong_words(alloc: Global, words: &[Field<'_>]) -> Result<Option<Finding>, AllocError> {
     for field in words {
         if field.text.as_bytes().first() == Some(&b'-') {
-            return Ok(Some(of_field(
+            return of_field(
                 alloc,
                 field,
                 "words have no sign: write the code, the number plus 2 to the word's width, as 65535 for -1 of 16 bits",
-            )?));
+            );
         }
         if number(field.text.as_bytes()).is_none() {
-            return Ok(Some(of_field(
+            return of_field(
                 alloc,
                 field,
                 "the words of a constant are decimal numbers of 1 to 20 digits, below 2 to 64",
-            )?));
+            );
         }
     }
     Ok(None)
@@ -293,8 +310,8 @@ fn behind_front(
         Front::Value => wrong_words(alloc, rest),
         Front::Numbers => match rest {
             [second, args @ ..] => match wrong_number(alloc, second, 1, 4096)? {
-                Some(finding) => Ok(Some(finding)),
                 None => arguments(alloc, above, word, form, args),
+                found => Ok(found),
             },
             [] => wrong_count(alloc, word, form, rest),
         },
@@ -310,29 +327,27 @@ fn operator(
     rest: &[Field<'_>],
 ) -> Result<Option<Finding>, AllocError> {
     let Some(form) = form_of(word.text) else {
-        return Ok(Some(unknown_operator(alloc, above, word, rest)?));
+        return unknown_operator(alloc, above, word, rest);
     };
     if word.text == "scan" && above.version < 2 {
         let what = "this operator is of version 2: begin the text with the line `aeth 2`";
-        return Ok(Some(of_field(alloc, word, what)?));
+        return of_field(alloc, word, what);
     }
-    if form.front == Front::Nothing {
+    if matches!(form.front, Front::Nothing) {
         return arguments(alloc, above, word, form, rest);
     }
     let [field, rest @ ..] = rest else {
-        return Ok(Some(behind(
-            word,
-            format!(in alloc; "{} takes {}", word.text, line_form(word.text))?,
-        )));
+        let text = format!(in alloc; "{} takes {}", word.text, form.takes);
+        return at_place(place_behind(word), 1, text);
     };
-    if let Some(finding) = wrong_front(alloc, above, form.front, field)? {
-        return Ok(Some(finding));
+    match wrong_front(alloc, above, form.front, field)? {
+        None => behind_front(alloc, above, word, form, rest),
+        found => Ok(found),
     }
-    behind_front(alloc, above, word, form, rest)
 }
 
 // A line without an = behind its first field.
-fn no_equals(alloc: Global, first: &Field<'_>) -> Result<Finding, AllocError> {
+fn no_equals(alloc: Global, first: &Field<'_>) -> Result<Option<Finding>, AllocError> {
     if has_byte(first.text, b'=') {
         return of_field(
             alloc,
@@ -343,8 +358,8 @@ fn no_equals(alloc: Global, first: &Field<'_>) -> Result<Finding, AllocError> {
     let text = format!(in alloc;
         "behind {} stands no =: a node line is NAME = OPERATOR and its arguments",
         first.text
-    )?;
-    Ok(behind(first, text))
+    );
+    at_place(place_behind(first), 1, text)
 }
 
 /// What is wrong with a line in a function that is no end line.
@@ -355,22 +370,19 @@ pub fn node(
     rest: &[Field<'_>],
 ) -> Result<Option<Finding>, AllocError> {
     let [equals, rest @ ..] = rest else {
-        return Ok(Some(no_equals(alloc, name)?));
+        return no_equals(alloc, name);
     };
     if equals.text != "=" {
-        return Ok(Some(no_equals(alloc, name)?));
+        return no_equals(alloc, name);
     }
     if !is_name(name.text.as_bytes()) {
-        return Ok(Some(of_field(alloc, name, name_fault(name.text))?));
+        return of_field(alloc, name, name_fault(name.text));
     }
     if is_known(name.text, &above.items) {
-        return Ok(Some(of_field(alloc, name, "this name is given above in this function")?));
+        return of_field(alloc, name, "this name is given above in this function");
     }
     let [word, rest @ ..] = rest else {
-        return Ok(Some(behind(
-            equals,
-            String::from_str(alloc, "an operator stands behind the =")?,
-        )));
+        return behind(alloc, equals, "an operator stands behind the =");
     };
     operator(alloc, above, word, rest)
 }

@@ -23,13 +23,27 @@ pub struct Finding {
     pub text: String,
 }
 
+/// What is wrong at a place, where there was memory for the text.
+pub fn at_place(
+    at: usize,
+    wide: usize,
+    text: Result<String, AllocError>,
+) -> Result<Option<Finding>, AllocError> {
+    let text = text?;
+    Ok(Some(Finding { at, wide, text }))
+}
+
 /// What is wrong with a field.
-pub fn at_field(field: &Field<'_>, text: String) -> Finding {
-    Finding {
-        at: field.at,
-        wide: field.text.len(),
-        text,
-    }
+pub fn at_field(
+    field: &Field<'_>,
+    text: Result<String, AllocError>,
+) -> Result<Option<Finding>, AllocError> {
+    at_place(field.at, field.text.len(), text)
+}
+
+/// Where a field's right neighbour would begin.
+pub fn place_behind(field: &Field<'_>) -> usize {
+    field.at.saturating_add(field.text.len()).saturating_add(1)
 }
 
 /// The bytes as text; a mark where they are none.
@@ -109,6 +123,11 @@ fn push_all(out: &mut String, text: &str, count: usize) -> Result<(), AllocError
     Ok(())
 }
 
+// What stands for the bytes that are left out.
+fn dots(is_cut: bool) -> &'static str {
+    if is_cut { ".." } else { "" }
+}
+
 /// A line with its number, and a mark under a place in it; of a long one the piece round the mark.
 pub fn push_marked(
     out: &mut String,
@@ -118,18 +137,12 @@ pub fn push_marked(
     wide: usize,
 ) -> Result<(), AllocError> {
     let head = out.len();
-    write!(out, "line {number}: ")?;
     let from = at.saturating_sub(BEFORE);
-    if from > 0 {
-        out.push_str("..")?;
-    }
-    let indent = out.len().saturating_sub(head);
     let to = from.saturating_add(WIDE);
+    write!(out, "line {number}: {}", dots(from > 0))?;
+    let indent = out.len().saturating_sub(head);
     push_bytes(out, line, from, to)?;
-    if to < line.len() {
-        out.push_str("..")?;
-    }
-    out.push_str("\n")?;
+    writeln!(out, "{}", dots(to < line.len()))?;
     push_all(out, " ", at.saturating_sub(from).saturating_add(indent))?;
     push_all(out, "^", wide.min(WIDE - BEFORE).max(1))?;
     out.push_str("\n")
@@ -143,8 +156,7 @@ pub fn push_finding(
     finding: &Finding,
 ) -> Result<(), AllocError> {
     push_marked(out, number, line, finding.at, finding.wide)?;
-    out.push_str(finding.text.as_str())?;
-    out.push_str("\n")
+    writeln!(out, "{}", finding.text.as_str())
 }
 
 /// A byte in the text, marked in its line.

@@ -1,6 +1,6 @@
 // Why a row is not right, and why a run is too long.
 
-use crate::places::{Finding, at_field, fields, place_of, push_finding};
+use crate::places::{Field, fields, place_behind, place_of, push_marked};
 use crate::sorts::program_of;
 use ae_parse::{next_field, next_line, number, said, split};
 use ae_seq::{Param, Program};
@@ -84,14 +84,14 @@ fn greatest(width: u32) -> u64 {
 }
 
 // Which word of which parameter a column has.
-fn push_wanted(out: &mut String, wanted: &Wanted<'_>, column: u32) -> Result<(), AllocError> {
+fn push_wanted(out: &mut String, wanted: Wanted<'_>, column: u32) -> Result<(), AllocError> {
     write!(
         out,
         "column {column} is word {} of {}:",
         wanted.word, wanted.name
     )?;
     wanted.param.ty.write_to(out)?;
-    write!(
+    writeln!(
         out,
         ", of {} bits: a decimal number up to {}",
         wanted.width,
@@ -102,57 +102,54 @@ fn push_wanted(out: &mut String, wanted: &Wanted<'_>, column: u32) -> Result<(),
 // What is wrong in a column.
 fn push_fault(
     out: &mut String,
-    found: Option<&str>,
-    wanted: &Option<Wanted<'_>>,
+    found: Option<&Field<'_>>,
+    wanted: Option<Wanted<'_>>,
     column: u32,
 ) -> Result<(), AllocError> {
-    match (found, wanted) {
-        (None, Some(wanted)) => {
-            out.push_str("the row ends too early: ")?;
-            push_wanted(out, wanted, column)
-        }
-        (Some(field), Some(wanted)) => {
-            let what = match number(field.as_bytes()) {
-                Some(_) => "is too great",
-                None => "is no decimal number of 1 to 20 digits",
-            };
-            write!(out, "{field} {what}: ")?;
-            push_wanted(out, wanted, column)
-        }
-        (Some(field), None) => {
-            write!(
+    let Some(wanted) = wanted else {
+        return match found {
+            Some(field) => writeln!(
                 out,
-                "{field} is one too many: a row has {} words",
+                "{} is one too many: a row has {} words",
+                field.text,
                 column.saturating_sub(1)
-            )
-        }
-        (None, None) => out.push_str("the row ends too early"),
+            ),
+            None => out.push_str("the row ends too early\n"),
+        };
+    };
+    match found {
+        Some(field) => write!(out, "{} {}: ", field.text, word_fault(field.text))?,
+        None => out.push_str("the row ends too early: ")?,
+    }
+    push_wanted(out, wanted, column)
+}
+
+fn word_fault(word: &str) -> &'static str {
+    match number(word.as_bytes()) {
+        Some(_) => "is too great",
+        None => "is no decimal number of 1 to 20 digits",
     }
 }
 
-// What is wrong with the line of a row in a column.
-fn finding(
-    alloc: Global,
+// The field of a column from 1.
+fn field_of<'f, 'a>(said: &'f [Field<'a>], column: u32) -> Option<&'f Field<'a>> {
+    said.get(column.saturating_sub(1) as usize)
+}
+
+// A row with its column marked, or the place behind it.
+fn push_column(
+    out: &mut String,
+    number: u32,
     line: &[u8],
+    said: &[Field<'_>],
     column: u32,
-    wanted: &Option<Wanted<'_>>,
-) -> Result<Finding, AllocError> {
-    let said = fields(alloc, line)?;
-    let mut text = String::new(alloc);
-    match said.get(column.saturating_sub(1) as usize) {
-        Some(field) => {
-            push_fault(&mut text, Some(field.text), wanted, column)?;
-            Ok(at_field(field, text))
-        }
-        None => {
-            push_fault(&mut text, None, wanted, column)?;
-            let at = match said.last() {
-                Some(field) => field.at.saturating_add(field.text.len()).saturating_add(1),
-                None => 0,
-            };
-            Ok(Finding { at, wide: 1, text })
-        }
-    }
+) -> Result<(), AllocError> {
+    let (at, wide) = match (field_of(said, column), said.last()) {
+        (Some(field), _) => (field.at, field.text.len()),
+        (None, Some(last)) => (place_behind(last), 1),
+        (None, None) => (0, 1),
+    };
+    push_marked(out, number, line, at, wide)
 }
 
 /// Why a row of the input is not right for the program in the part before the rows.
@@ -167,13 +164,14 @@ pub fn bad_row(
     let Some((number, line)) = row_line(input, row) else {
         return Ok(out);
     };
+    let said = fields(alloc, line)?;
+    push_column(&mut out, number, line, &said, column)?;
     let p = program_of(alloc, part)?;
     let wanted = match &p {
         Some(p) => wanted_at(p, column),
         None => None,
     };
-    let finding = finding(alloc, line, column, &wanted)?;
-    push_finding(&mut out, number, line, &finding)?;
+    push_fault(&mut out, field_of(&said, column), wanted, column)?;
     Ok(out)
 }
 
@@ -188,13 +186,12 @@ pub fn bad_sim_row(
     let Some((number, line)) = row_line(input, row) else {
         return Ok(out);
     };
-    let mut finding = finding(alloc, line, column, &None)?;
-    finding.text.clear();
-    write!(
-        finding.text,
+    let said = fields(alloc, line)?;
+    push_column(&mut out, number, line, &said, column)?;
+    writeln!(
+        out,
         "a row has a decimal number for each input but the clock, in their order, each below 2 to its width; this is column {column}"
     )?;
-    push_finding(&mut out, number, line, &finding)?;
     Ok(out)
 }
 

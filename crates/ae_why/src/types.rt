@@ -1,7 +1,8 @@
 // Why a line has no type.
 
-use crate::places::{Field, fields, line_at, push_marked};
+use crate::places::{Field, fields, line_at, push_marked, text_of};
 use crate::sorts::{Spot, item_name, node_at, program_of, spot_of, typed_above};
+use ae_parse::{next_field, said};
 use ae_seq::{Func, Node, Op, Program, Typed};
 use ae_seqtype::SeqType;
 use ae_word::{WordOp, arity};
@@ -18,68 +19,67 @@ fn word_wants(op: WordOp) -> &'static str {
     }
 }
 
-// The types of a function's parameters.
-fn push_params(out: &mut String, p: &Program, number: u32) -> Result<(), AllocError> {
+// What a call takes, and the types of its function's parameters.
+fn push_params(out: &mut String, p: &Program, number: u32, what: &str) -> Result<(), AllocError> {
     let Some(func) = p.funcs.get(number as usize) else {
-        return Ok(());
+        return writeln!(out, "{what}");
     };
-    write!(out, "; {} takes", func.name.as_str())?;
+    write!(out, "{what}; {} takes", func.name.as_str())?;
     for param in &func.params {
         out.push_str(" ")?;
         param.ty.write_to(out)?;
     }
-    Ok(())
+    out.push_str("\n")
 }
 
 // What a constant takes, and how many words it has.
 fn push_constant(out: &mut String, ty: &SeqType, words: &[u64]) -> Result<(), AllocError> {
-    out.push_str("a type and as many words as it has, each below 2 to its width")?;
-    if ty.in_size() {
-        write!(
-            out,
-            "; the type has {} words, the line {}",
-            ty.words(),
-            words.len()
-        )?;
+    let what = "a type and as many words as it has, each below 2 to its width";
+    if !ty.in_size() {
+        return writeln!(out, "{what}");
     }
-    Ok(())
+    writeln!(
+        out,
+        "{what}; the type has {} words, the line {}",
+        ty.words(),
+        words.len()
+    )
+}
+
+// What an operator takes, where that is the same in each of its lines.
+fn wants(op: &Op) -> &'static str {
+    match op {
+        Op::Word(op) => word_wants(*op),
+        Op::CastInt(_) => "one word",
+        Op::Pair => "two atoms, which are words or pairs; sequences are paired by zip",
+        Op::Fst | Op::Snd => "a pair",
+        Op::Zip => "two sequences of equal lengths at every level",
+        Op::Up(_) => "a sequence of one element, as [1]u8",
+        Op::Unpartition => "a sequence of sequences",
+        _ => "a sequence",
+    }
 }
 
 // What an operator takes.
 fn push_wants(out: &mut String, p: &Program, op: &Op) -> Result<(), AllocError> {
     match op {
-        Op::Word(op) => out.push_str(word_wants(*op)),
-        Op::CastInt(_) => out.push_str("one word"),
-        Op::Pair => out.push_str(
-            "two atoms, which are words or pairs; sequences are paired by zip",
-        ),
-        Op::Fst | Op::Snd => out.push_str("a pair"),
         Op::Const(ty, words) => push_constant(out, ty, words),
-        Op::Zip => out.push_str("two sequences of equal lengths at every level"),
-        Op::Call(f) => {
-            out.push_str("the types of the function's parameters")?;
-            push_params(out, p, *f)
-        }
+        Op::Call(f) => push_params(out, p, *f, "the types of the function's parameters"),
         Op::Map(f) => {
-            out.push_str("a function of one parameter and a sequence of such elements")?;
-            push_params(out, p, *f)
+            let what = "a function of one parameter and a sequence of such elements";
+            push_params(out, p, *f, what)
         }
         Op::Map2(f) => {
-            out.push_str("a function of two parameters and two sequences of one length")?;
-            push_params(out, p, *f)
+            let what = "a function of two parameters and two sequences of one length";
+            push_params(out, p, *f, what)
         }
-        Op::Reduce(_) | Op::Scan(_) => out.push_str("a sequence"),
-        Op::Shift(k) => write!(out, "a sequence of at least {k} elements"),
-        Op::Up(_) => out.push_str("a sequence of one element, as [1]u8"),
-        Op::Select(k) => write!(out, "a sequence of more than {k} elements"),
+        Op::Shift(k) => writeln!(out, "a sequence of at least {k} elements"),
+        Op::Select(k) => writeln!(out, "a sequence of more than {k} elements"),
         Op::Partition(n, m) => {
-            write!(
-                out,
-                "a sequence of {} elements",
-                u64::from(*n).saturating_mul(u64::from(*m))
-            )
+            let count = u64::from(*n).saturating_mul(u64::from(*m));
+            writeln!(out, "a sequence of {count} elements")
         }
-        Op::Unpartition => out.push_str("a sequence of sequences"),
+        _ => writeln!(out, "{}", wants(op)),
     }
 }
 
@@ -92,8 +92,8 @@ fn push_args(
     number: u32,
 ) -> Result<(), AllocError> {
     for (place, item) in node.args.iter().enumerate() {
-        out.push_str(if place == 0 { "here " } else { ", " })?;
-        write!(out, "{} is ", item_name(func, *item))?;
+        let head = if place == 0 { "here " } else { ", " };
+        write!(out, "{head}{} is ", item_name(func, *item))?;
         match typed.ty(number, *item) {
             Some(ty) => ty.write_to(out)?,
             None => out.push_str("?")?,
@@ -115,8 +115,8 @@ pub fn push_line(
     let Some((_, line)) = line_at(part, number) else {
         return Ok(());
     };
-    let said = fields(alloc, line)?;
-    let (from, to) = match said.as_slice() {
+    let found = fields(alloc, line)?;
+    let (from, to) = match found.as_slice() {
         [first, .., last] if first.text == "end" => (first.at, end_of(last)),
         [_, _, first, .., last] => (first.at, end_of(last)),
         [_, _, only] => (only.at, end_of(only)),
@@ -125,20 +125,21 @@ pub fn push_line(
     push_marked(out, number, line, from, to.saturating_sub(from))
 }
 
-/// The word of a line's operator.
-pub fn push_word(
-    out: &mut String,
-    alloc: Global,
-    part: &[u8],
-    number: u32,
-) -> Result<(), AllocError> {
+/// The word of a line's operator, which is its third; no bytes where there is none.
+pub fn word_of(part: &[u8], number: u32) -> &str {
     let Some((_, line)) = line_at(part, number) else {
-        return Ok(());
+        return "";
     };
-    let said = fields(alloc, line)?;
-    match said.get(2) {
-        Some(field) => out.push_str(field.text),
-        None => Ok(()),
+    let mut rest = said(line);
+    for _ in 0..2 {
+        rest = match next_field(rest) {
+            Some((_, after)) => after,
+            None => return "",
+        };
+    }
+    match next_field(rest) {
+        Some((field, _)) => text_of(field),
+        None => "",
     }
 }
 
@@ -164,32 +165,34 @@ pub fn push_types(
 }
 
 // What the operator of a node takes.
-fn push_rule(
+fn push_rule(out: &mut String, part: &[u8], p: &Program, node: &Node) -> Result<(), AllocError> {
+    write!(out, "{} takes ", word_of(part, node.line))?;
+    push_wants(out, p, &node.op)
+}
+
+// What the operator of a line takes, and the types of its arguments.
+fn push_cause(
     out: &mut String,
     alloc: Global,
     part: &[u8],
     p: &Program,
-    node: &Node,
+    number: u32,
 ) -> Result<(), AllocError> {
-    push_word(out, alloc, part, node.line)?;
-    out.push_str(" takes ")?;
-    push_wants(out, p, &node.op)?;
-    out.push_str("\n")
+    let Some(spot) = spot_of(p, number) else {
+        return Ok(());
+    };
+    if let Some((_, node)) = node_at(p, spot) {
+        push_rule(out, part, p, node)?;
+    }
+    push_types(out, alloc, part, p, spot)
 }
 
 /// Why the line of a program has no type: what its operator takes, and the types of its arguments.
 pub fn bad_type(alloc: Global, part: &[u8], number: u32) -> Result<String, AllocError> {
     let mut out = String::new(alloc);
     push_line(&mut out, alloc, part, number)?;
-    let Some(p) = program_of(alloc, part)? else {
-        return Ok(out);
-    };
-    let Some(spot) = spot_of(&p, number) else {
-        return Ok(out);
-    };
-    if let Some((_, node)) = node_at(&p, spot) {
-        push_rule(&mut out, alloc, part, &p, node)?;
+    if let Some(p) = program_of(alloc, part)? {
+        push_cause(&mut out, alloc, part, &p, number)?;
     }
-    push_types(&mut out, alloc, part, &p, spot)?;
     Ok(out)
 }

@@ -52,8 +52,7 @@ pub fn bad_wave(alloc: Global, text: &[u8], number: u32) -> Result<String, Alloc
     };
     push_place(&mut out, text, from, to.saturating_sub(from))?;
     if let Some(word) = text.get(from..to) {
-        out.push_str(word_fault(word))?;
-        out.push_str("\n")?;
+        writeln!(out, "{}", word_fault(word))?;
     }
     Ok(out)
 }

@@ -3,7 +3,7 @@ use Rattle.std.proofs.lemmas.Result.{err_from_is_err_and}
 use Rattle.ae_vtoken.specs.Scan.{views}
 use Rattle.ae_vread.specs.Reading.{expression}
 use Rattle.ae_vread.specs.ReadView.{found_view, parts_view}
-use Rattle.ae_vread.proofs.Turns.{length_views, whole_step, next_turn, failed_turn, last_turn, parts_fail, parts_end, parts_next}
+use Rattle.ae_vread.proofs.Turns.{length_views, whole_step, next_turn, failed_turn, failed_join, last_turn, parts_fail, parts_end, parts_next}
 use Rattle.ae_vread.proofs.expressions.+expressions.Goals as goal
 
 pub expression-returns : goal.expression-returns
@@ -18,6 +18,15 @@ joined_at-returns-in_err-right t c =
     rw (exit.1, exit.2)
     (failed_turn c.in_err-right.field-0.0 _ (expression c.args.budget) c.turn.turn c.args.least (found_view c.turn.left) c.in-Some.op c.above.result
     (views c.in-Some.rest.now) c.turn-test.true c.above.ensures c.turn.invariant c.in-Some.ensures c.in_err-right.ensures)
+
+-- both sides are too deep
+pub joined_at-returns-in_err-left-2 : goal.joined_at-returns-in_err-left-2
+joined_at-returns-in_err-left-2 t c =
+    let exit = err_from_is_err_and c.from_residual-in_err-left-2.result c.from_residual-in_err-left-2.ensures.1 in
+    rw (exit.1, exit.2)
+    (failed_join c.in_err-left-2.field-0.0 _ (expression c.args.budget) c.turn.turn c.args.least (found_view c.turn.left) (found_view c.in_ok-right.right)
+    c.in-Some.op c.above.result (views c.in-Some.rest.now) c.turn-test.true c.above.ensures c.turn.invariant c.in-Some.ensures c.in_ok-right.ensures
+    c.in_err-left-2.ensures)
 
 -- one operator more
 pub joined_at-turn-preserved : goal.joined_at-turn-preserved
