@@ -11,9 +11,10 @@ mod waving;
 mod writing;
 
 use crate::moving::Order;
-use std::alloc::{AllocError, Global};
+use std::alloc::Global;
 use std::env::{self, Env};
 use std::io;
+use table_text::Page;
 
 #[derive(Clone, Copy)]
 enum Call {
@@ -61,24 +62,17 @@ fn number<R: Env + Alloc<A = Global>>(rt: &R, place: usize) -> io::Result<u32> {
 }
 
 // Each call once, on something small.
-fn all(alloc: Global, out: &mut String, dump: &str) -> Result<(), AllocError> {
-    writing::write(alloc, out, 3)?;
-    stepping::step(alloc, out, 100, 10)?;
-    evaluating::map(alloc, out, 2)?;
-    evaluating::up(alloc, out, 1)?;
-    moving::build(alloc, out, Order::Reversed, 2)?;
-    waving::read(alloc, out, dump, true)
+fn all(alloc: Global, out: &mut Page, dump: &str) {
+    writing::write(alloc, out, 3);
+    stepping::step(alloc, out, 100, 10);
+    evaluating::map(alloc, out, 2);
+    evaluating::up(alloc, out, 1);
+    moving::build(alloc, out, Order::Reversed, 2);
+    waving::read(alloc, out, dump, true);
 }
 
 // What a call says; a dump is given to those that want one.
-fn answer(
-    alloc: Global,
-    out: &mut String,
-    call: Call,
-    first: u32,
-    second: u32,
-    dump: &str,
-) -> Result<(), AllocError> {
+fn answer(alloc: Global, out: &mut Page, call: Call, first: u32, second: u32, dump: &str) {
     match call {
         Call::Write => writing::write(alloc, out, first),
         Call::Step => stepping::step(alloc, out, first, second),
@@ -92,17 +86,16 @@ fn answer(
 }
 
 fn main(rt: HostRuntime) -> io::Result<()> {
-    let alloc = rt.alloc();
     let Some(call) = asked(&rt)? else {
         return println!(rt; "no such call");
     };
     let first = number(&rt, 2)?;
     let second = number(&rt, 3)?;
     let dump = match call {
-        Call::Waves | Call::Rewrite | Call::All => io::read_to_string(alloc, rt.reader())?,
-        _ => String::new(alloc),
+        Call::Waves | Call::Rewrite | Call::All => io::read_to_string(rt.alloc(), rt.reader())?,
+        _ => String::new(rt.alloc()),
     };
-    let mut out = String::new(alloc);
-    answer(alloc, &mut out, call, first, second, dump.as_str())?;
-    print!(rt; "{out}")
+    let mut out = Page::new(rt.alloc());
+    answer(rt.alloc(), &mut out, call, first, second, dump.as_str());
+    out.print(&rt)
 }

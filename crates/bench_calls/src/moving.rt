@@ -14,6 +14,7 @@ use ae_ops::{Bundle, Stage};
 use ae_sttype::StType;
 use ae_word::Atom;
 use std::alloc::{AllocError, Global};
+use table_text::Page;
 
 /// Where the words of the result come from.
 #[derive(Clone, Copy)]
@@ -132,20 +133,28 @@ fn cells(alloc: Global, stage: &Gather, clocks: u16) -> Result<u32, NetFault>
     Ok(nl.len())
 }
 
+fn tell_stage(alloc: Global, out: &mut Page, stage: &Gather, clocks: u16)
+    requires { (move_of stage.now).ins ≡ tseq clocks 0 (sseq 4 (atom (unsigned_word 16))) ∷ [] }
+{
+    match cells(alloc, stage, clocks) {
+        Ok(cells) => {
+            out.tell("", &clocks);
+            out.tell(" clocks, ", &cells);
+            out.tell_line(" cells, latency ", &stage.latency());
+        }
+        Err(_) => out.say("no room\n"),
+    }
+}
+
 /// Builds a move of four words in so many clocks, and tells its cells and its latency.
-pub fn build(alloc: Global, out: &mut String, order: Order, clocks: u32) -> Result<(), AllocError> {
-    let Ok(clocks) = u16::try_from(clocks) else {
-        return writeln!(out, "no move of {clocks} clocks");
-    };
-    let Some(stage) = stage(alloc, order, clocks)? else {
-        return writeln!(out, "no move of {clocks} clocks");
-    };
-    match cells(alloc, &stage, clocks) {
-        Ok(cells) => writeln!(
-            out,
-            "{clocks} clocks, {cells} cells, latency {}",
-            stage.latency()
-        ),
-        Err(_) => writeln!(out, "no room"),
+pub fn build(alloc: Global, out: &mut Page, order: Order, clocks: u32) {
+    let few = u16::try_from(clocks).unwrap_or(0);
+    match stage(alloc, order, few) {
+        Ok(Some(stage)) => tell_stage(alloc, out, &stage, few),
+        Ok(None) => {
+            out.tell("no move of ", &clocks);
+            out.say(" clocks\n");
+        }
+        Err(_) => out.cut(),
     }
 }

@@ -8,6 +8,7 @@ use ae_clocked::{choose, constant, less, sum};
 use ae_netlist::{NetFault, NetId, Netlist, Port};
 use ae_sim::Sim;
 use std::alloc::{AllocError, Global};
+use table_text::Page;
 
 // Two nets, and the netlist's next pair.
 #[derive(Clone, Copy)]
@@ -68,10 +69,14 @@ fn run(alloc: Global, nl: &Netlist, clocks: u32) -> Result<u64, AllocError>
 }
 
 /// Steps a netlist of so many groups of three cells for so many clocks, and tells a word of the last.
-pub fn step(alloc: Global, out: &mut String, groups: u32, clocks: u32) -> Result<(), AllocError> {
+pub fn step(alloc: Global, out: &mut Page, groups: u32, clocks: u32) {
     let Ok(nl) = circuit(alloc, groups) else {
-        return writeln!(out, "no room");
+        return out.say("no room\n");
     };
-    let word = run(alloc, &nl, clocks)?;
-    writeln!(out, "{groups} groups, {clocks} clocks, {word}")
+    out.tell("", &groups);
+    out.tell(" groups, ", &clocks);
+    match run(alloc, &nl, clocks) {
+        Ok(word) => out.tell_line(" clocks, ", &word),
+        Err(_) => out.cut(),
+    }
 }

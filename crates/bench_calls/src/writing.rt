@@ -1,17 +1,16 @@
 // The text of a module.
 
-use ae_netlist::{NetFault, Netlist};
+use ae_netlist::Netlist;
 use ae_verilog::{Report, write_module};
 use std::alloc::{AllocError, Global};
+use table_text::Page;
 
 // The length of the text of the module of so many registers; 0 where there was no memory for the netlist.
 fn length(alloc: Global, count: u32) -> Result<usize, AllocError> {
     let mut nl = Netlist::new(alloc, count);
     for _ in 0..count {
-        match nl.state(8) {
-            Ok(_) => (),
-            Err(NetFault::Full) => return Ok(0),
-            Err(NetFault::Memory) => return Ok(0),
+        if nl.state(8).is_err() {
+            return Ok(0);
         }
     }
     let report = Report {
@@ -28,7 +27,11 @@ fn length(alloc: Global, count: u32) -> Result<usize, AllocError> {
 }
 
 /// Writes the module of a netlist of so many registers.
-pub fn write(alloc: Global, out: &mut String, count: u32) -> Result<(), AllocError> {
-    let bytes = length(alloc, count)?;
-    writeln!(out, "{count} cells, {bytes} bytes")
+pub fn write(alloc: Global, out: &mut Page, count: u32) {
+    out.tell("", &count);
+    match length(alloc, count) {
+        Ok(bytes) => out.tell(" cells, ", &bytes),
+        Err(_) => out.cut(),
+    }
+    out.say(" bytes\n");
 }

@@ -5,20 +5,20 @@ ghost use Rattle.ae_netlist.specs.Circuit.{IsNet, width_of};
 ghost use Rattle.ae_clocked.specs.Phases.{Belongs};
 ghost use Rattle.ae_clocked.specs.Signals.{Grows};
 
-use crate::netlists::{Answer, parts, show_output, tell_none};
+use crate::netlists::{Answer, show_output, tell_none};
 use crate::nets::{any_net, net};
-use crate::numbers::number;
 use crate::stepping::step_one;
 use ae_clocked::{Clocks, Tapped, constant, less, line, ring_line, width_at};
 use ae_netlist::{Cell, NetFault, NetId, Netlist, Port};
-use std::alloc::{AllocError, Global};
+use std::alloc::Global;
+use table_text::{Page, number_at, parted, word_at};
 
 fn phase(clocks: &mut Clocks, nl: &mut Netlist, text: &str) -> Answer
     requires { Belongs clocks.old nl.old.cells }
     ensures { Belongs clocks.new nl.new.cells }
 {
-    let period = number(text, 1)?;
-    let offset = number(text, 2)?;
+    let period = number_at(text, 1);
+    let offset = number_at(text, 2);
     if period <= 4096 && offset < period {
         Some(clocks.phase(nl, period, offset))
     } else {
@@ -48,9 +48,9 @@ fn mark(clocks: &mut Clocks, nl: &mut Netlist, text: &str) -> Answer
     requires { Belongs clocks.old nl.old.cells }
     ensures { Belongs clocks.new nl.new.cells }
 {
-    let period = number(text, 1)?;
-    let offset = number(text, 2)?;
-    let from = number(text, 3)?;
+    let period = number_at(text, 1);
+    let offset = number_at(text, 2);
+    let from = number_at(text, 3);
     if period <= 4096 && offset < period && from <= period {
         Some(mark_of(clocks, nl, period, offset, from))
     } else {
@@ -62,10 +62,10 @@ fn lead(clocks: &mut Clocks, nl: &mut Netlist, text: &str) -> Answer
     requires { Belongs clocks.old nl.old.cells }
     ensures { Belongs clocks.new nl.new.cells }
 {
-    let period = number(text, 1)?;
-    let offset = number(text, 2)?;
-    let from = number(text, 3)?;
-    let wanted = number(text, 4)?;
+    let period = number_at(text, 1);
+    let offset = number_at(text, 2);
+    let from = number_at(text, 3);
+    let wanted = number_at(text, 4);
     if period <= 4096 && offset < period && from <= period && wanted < period {
         Some(clocks.lead(nl, period, offset, from, wanted))
     } else {
@@ -94,7 +94,7 @@ fn below(clocks: &Clocks, nl: &mut Netlist, last: NetId, text: &str) -> Answer
         return None;
     };
     let width = width_at(nl, a);
-    let word = u64::from(number(text, 1)?);
+    let word = u64::from(number_at(text, 1));
     if width >= 64 || word >= 1u64 << width {
         return None;
     }
@@ -156,8 +156,8 @@ fn taps(
     let Some(x) = any_net(nl, last.0) else {
         return None;
     };
-    let delays = [number(text, 1)?, number(text, 2)?];
-    let tap = number(text, 3)?;
+    let delays = [number_at(text, 1), number_at(text, 2)];
+    let tap = number_at(text, 3);
     if tap >= 2 {
         return None;
     }
@@ -175,7 +175,7 @@ fn answer(alloc: Global, clocks: &mut Clocks, nl: &mut Netlist, last: NetId, tex
     requires { Belongs clocks.old nl.old.cells }
     ensures { Belongs clocks.new nl.new.cells }
 {
-    match text.split_whitespace().next()? {
+    match word_at(text, 0) {
         "phase" => phase(clocks, nl, text),
         "mark" => mark(clocks, nl, text),
         "lead" => lead(clocks, nl, text),
@@ -187,41 +187,42 @@ fn answer(alloc: Global, clocks: &mut Clocks, nl: &mut Netlist, last: NetId, tex
     }
 }
 
-// A line with what its call did.
-fn tell_call(out: &mut String, text: &str, answer: Answer, grown: bool) -> Result<(), AllocError> {
+// What stands behind a line by what its call did.
+fn tell_call(out: &mut Page, text: &str, answer: Answer, grown: bool) {
     match answer {
-        Some(Ok(_)) if grown => writeln!(out, "{text} -> adds cells"),
-        Some(Ok(_)) => writeln!(out, "{text} -> adds none"),
+        Some(Ok(_)) if grown => out.say(" -> adds cells"),
+        Some(Ok(_)) => out.say(" -> adds none"),
         _ => tell_none(out, text, answer),
     }
 }
 
 // The calls of some lines, on a netlist of at most so many cells as the first line says. Its net 0 is the reset.
-fn built(alloc: Global, out: &mut String, head: &str, calls: &str) -> Result<Netlist, AllocError> {
-    let mut nl = Netlist::new(alloc, number(head, 1).unwrap_or(0));
+fn built(alloc: Global, out: &mut Page, head: &str, calls: &str) -> Netlist {
+    let mut nl = Netlist::new(alloc, number_at(head, 1));
     let _ = nl.add(1, Cell::Input(Port::Reset));
     let Some(rst) = net(&nl, 0, 1) else {
-        return Ok(nl);
+        return nl;
     };
     let mut clocks = Clocks::new(alloc, rst);
     let mut last = rst;
     for text in calls.lines() {
+        out.say(text);
         let before = nl.len();
         let answer = answer(alloc, &mut clocks, &mut nl, last, text);
-        tell_call(out, text, answer, before < nl.len())?;
+        tell_call(out, text, answer, before < nl.len());
+        out.say("\n");
         if let Some(Ok(net)) = answer {
             last = net;
         }
     }
-    Ok(nl)
+    nl
 }
 
 /// Counters of one netlist, and the words of its outputs in as many clocks after reset as the line behind `%%` says.
-pub fn tell(alloc: Global, out: &mut String, head: &str, body: &str) -> Result<(), AllocError> {
-    let (calls, clocks) = parts(body);
-    let nl = built(alloc, out, head, calls)?;
+pub fn tell(alloc: Global, out: &mut Page, head: &str, body: &str) {
+    let (calls, clocks) = parted(body, "%% ");
+    let nl = built(alloc, out, head, calls);
     for k in 0..nl.outputs() {
-        step_one(alloc, out, &nl, k, number(clocks, 0).unwrap_or(0))?;
+        step_one(alloc, out, &nl, k, number_at(clocks, 0));
     }
-    Ok(())
 }

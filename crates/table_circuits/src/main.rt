@@ -7,7 +7,6 @@ mod circuits;
 mod counters;
 mod netlists;
 mod nets;
-mod numbers;
 mod plays;
 mod programs;
 mod sizes;
@@ -15,33 +14,38 @@ mod stepping;
 mod streams;
 mod transfers;
 
-use std::alloc::{AllocError, Global};
+use std::alloc::Global;
 use std::io;
+use table_text::{Page, word_at};
 
 // One case: its first line says what its other lines are.
-fn tell(alloc: Global, out: &mut String, case: &str) -> Result<(), AllocError> {
+fn tell(alloc: Global, out: &mut Page, case: &str) {
     let Some((head, body)) = case.split_once("\n") else {
-        return Ok(());
+        return;
     };
-    writeln!(out, "{head}")?;
-    match head.split_whitespace().next() {
-        Some("netlist") => netlists::tell(alloc, out, head, body),
-        Some("tidied") => netlists::tell_tidied(alloc, out, head, body),
-        Some("counters") => counters::tell(alloc, out, head, body),
-        Some("program") => programs::tell(alloc, out, head, body),
-        Some("moved") => programs::tell_by_moves(alloc, out, head, body),
-        Some("played") => plays::tell(alloc, out, head, body),
-        Some("stream") => streams::tell(alloc, out, head, body),
-        _ => Ok(()),
+    out.say(head);
+    out.say("\n");
+    match word_at(head, 0) {
+        "netlist" => netlists::tell(alloc, out, head, body),
+        "tidied" => netlists::tell_tidied(alloc, out, head, body),
+        "counters" => counters::tell(alloc, out, head, body),
+        "program" | "moved" => programs::tell(alloc, out, head, body),
+        "played" => plays::tell(alloc, out, head, body),
+        "stream" => streams::tell(alloc, out, head, body),
+        _ => (),
+    }
+}
+
+fn answers(alloc: Global, out: &mut Page, text: &str) {
+    for case in text.split("\n\n") {
+        tell(alloc, out, case);
+        out.say("\n");
     }
 }
 
 fn main(rt: HostRuntime) -> io::Result<()> {
     let text = io::read_to_string(rt.alloc(), rt.reader())?;
-    let mut out = String::new(rt.alloc());
-    for case in text.as_str().split("\n\n") {
-        tell(rt.alloc(), &mut out, case)?;
-        out.push_str("\n")?;
-    }
-    rt.print(out.as_str())
+    let mut out = Page::new(rt.alloc());
+    answers(rt.alloc(), &mut out, text.as_str());
+    out.print(&rt)
 }

@@ -1,27 +1,40 @@
 // Netlists, built by the calls of `Netlist` itself.
 
-ghost use Rattle.std.specs.Prelude.{◌≡◌, ◌<◌, ◌^◌, ◌-◌, length};
+ghost use Rattle.std.specs.Prelude.{◌≡◌, ◌<◌, ◌≤◌, ◌^◌, ◌-◌, IfSome, length};
 
 use crate::nets::{address, any_net, memory, net, register};
-use crate::numbers::{number, width};
 use crate::stepping::step_all;
 use ae_clocked::{constant, sum};
 use ae_netlist::{Cell, NetFault, NetId, Netlist, Port};
 use ae_tidy::tidy;
 use std::alloc::{AllocError, Global};
+use table_text::{Page, number_at, parted, word_at};
 
 /// What a call answers; none where it may not be made.
 pub type Answer = Option<Result<NetId, NetFault>>;
 
+// The width behind the name of a call.
+fn width(line: &str) -> Option<u32>
+    ensures low { IfSome result (λ w. 1 ≤ w) }
+    ensures high { IfSome result (λ w. w ≤ 64) }
+{
+    let width = number_at(line, 1);
+    if 1 <= width && width <= 64 {
+        Some(width)
+    } else {
+        None
+    }
+}
+
 fn input(nl: &mut Netlist, line: &str) -> Answer {
-    let width = width(line, 1)?;
+    let width = width(line)?;
     let port = Port::Plain(nl.inputs());
     Some(nl.add(width, Cell::Input(port)))
 }
 
 fn add_constant(nl: &mut Netlist, line: &str) -> Answer {
-    let width = width(line, 1)?;
-    let word = u64::from(number(line, 2)?);
+    let width = width(line)?;
+    let word = u64::from(number_at(line, 2));
     if width < 64 && word < 1u64 << width {
         Some(constant(nl, width, word))
     } else {
@@ -30,19 +43,19 @@ fn add_constant(nl: &mut Netlist, line: &str) -> Answer {
 }
 
 fn add(nl: &mut Netlist, line: &str) -> Answer {
-    let width = width(line, 1)?;
-    let a = net(nl, number(line, 2)?, width)?;
-    let b = net(nl, number(line, 3)?, width)?;
+    let width = width(line)?;
+    let a = net(nl, number_at(line, 2), width)?;
+    let b = net(nl, number_at(line, 3), width)?;
     Some(sum(nl, a, b, width))
 }
 
 fn state(nl: &mut Netlist, line: &str) -> Answer {
-    Some(nl.state(width(line, 1)?))
+    Some(nl.state(width(line)?))
 }
 
 fn store(nl: &mut Netlist, line: &str) -> Answer {
-    let width = width(line, 1)?;
-    let depth = number(line, 2)?;
+    let width = width(line)?;
+    let depth = number_at(line, 2);
     if 1 <= depth && depth <= 65536 {
         Some(nl.memory(width, depth))
     } else {
@@ -51,23 +64,23 @@ fn store(nl: &mut Netlist, line: &str) -> Answer {
 }
 
 fn peek(nl: &mut Netlist, line: &str) -> Answer {
-    let width = width(line, 1)?;
-    let Some(m) = memory(nl, number(line, 2)?, width) else {
+    let width = width(line)?;
+    let Some(m) = memory(nl, number_at(line, 2), width) else {
         return None;
     };
-    let Some(at) = address(nl, number(line, 3)?, m.1) else {
+    let Some(at) = address(nl, number_at(line, 3), m.1) else {
         return None;
     };
     Some(nl.add(width, Cell::Peek { mem: m.0, at }))
 }
 
 fn connect(nl: &mut Netlist, line: &str) -> Answer {
-    let own = number(line, 1)?;
+    let own = number_at(line, 1);
     let width = nl.width(NetId(own))?;
     let Some(r) = register(nl, own, width) else {
         return None;
     };
-    let Some(next) = net(nl, number(line, 2)?, width) else {
+    let Some(next) = net(nl, number_at(line, 2), width) else {
         return None;
     };
     nl.connect(r, next);
@@ -75,18 +88,18 @@ fn connect(nl: &mut Netlist, line: &str) -> Answer {
 }
 
 fn write(nl: &mut Netlist, line: &str) -> Answer {
-    let own = number(line, 1)?;
+    let own = number_at(line, 1);
     let width = nl.width(NetId(own))?;
     let Some(m) = memory(nl, own, width) else {
         return None;
     };
-    let Some(at) = address(nl, number(line, 2)?, m.1) else {
+    let Some(at) = address(nl, number_at(line, 2), m.1) else {
         return None;
     };
-    let Some(next) = net(nl, number(line, 3)?, width) else {
+    let Some(next) = net(nl, number_at(line, 3), width) else {
         return None;
     };
-    let Some(enable) = net(nl, number(line, 4)?, 1) else {
+    let Some(enable) = net(nl, number_at(line, 4), 1) else {
         return None;
     };
     nl.connect_memory(m.0, at, next, enable);
@@ -111,7 +124,7 @@ pub fn show_output(nl: &mut Netlist, number: u32) -> Answer
 }
 
 fn answer(nl: &mut Netlist, line: &str) -> Answer {
-    match line.split_whitespace().next()? {
+    match word_at(line, 0) {
         "input" => input(nl, line),
         "const" => add_constant(nl, line),
         "add" => add(nl, line),
@@ -120,96 +133,108 @@ fn answer(nl: &mut Netlist, line: &str) -> Answer {
         "peek" => peek(nl, line),
         "connect" => connect(nl, line),
         "write" => write(nl, line),
-        "output" => show_output(nl, number(line, 1)?),
+        "output" => show_output(nl, number_at(line, 1)),
         _ => None,
     }
 }
 
-/// A line whose call was refused, or may not be made; a comment stands alone.
-pub fn tell_none(out: &mut String, line: &str, answer: Answer) -> Result<(), AllocError> {
+/// What stands behind a line whose call was refused, or may not be made; a comment stands alone.
+pub fn tell_none(out: &mut Page, line: &str, answer: Answer) {
     match answer {
-        Some(Err(fault)) => writeln!(out, "{line} -> {fault:?}"),
-        _ if line.starts_with("#") => writeln!(out, "{line}"),
-        _ => writeln!(out, "{line} -> not allowed"),
+        Some(Err(fault)) => out.show(" -> ", &fault),
+        _ if line.starts_with("#") => (),
+        _ => out.say(" -> not allowed"),
     }
 }
 
-// A line with the answer of its call.
-fn tell_answer(out: &mut String, line: &str, answer: Answer) -> Result<(), AllocError> {
+// What stands behind a line.
+fn tell_answer(out: &mut Page, line: &str, answer: Answer) {
     match answer {
-        Some(Ok(net)) => writeln!(out, "{line} -> {}", net.0),
+        Some(Ok(net)) => out.tell(" -> ", &net.0),
         _ => tell_none(out, line, answer),
     }
 }
 
 /// The netlist of some lines, of at most so many cells as the first line says.
-pub fn built(
-    alloc: Global,
-    out: &mut String,
-    head: &str,
-    calls: &str,
-) -> Result<Netlist, AllocError> {
-    let mut nl = Netlist::new(alloc, number(head, 1).unwrap_or(0));
+pub fn built(alloc: Global, out: &mut Page, head: &str, calls: &str) -> Netlist {
+    let mut nl = Netlist::new(alloc, number_at(head, 1));
     for line in calls.lines() {
+        out.say(line);
         let answer = answer(&mut nl, line);
-        tell_answer(out, line, answer)?;
+        tell_answer(out, line, answer);
+        out.say("\n");
     }
-    Ok(nl)
+    nl
 }
 
-/// All cells, inputs and outputs, each with its number, up to the first number that has none.
-pub fn show(out: &mut String, nl: &Netlist) -> Result<(), AllocError> {
-    writeln!(out, "{} cells", nl.len())?;
+// Each cell with its number, up to the first number that has none.
+fn show_cells(out: &mut Page, nl: &Netlist) {
+    out.tell("", &nl.len());
+    out.say(" cells\n");
     for k in 0..=nl.len() {
-        writeln!(out, "{k}: {:?} {:?}", nl.width(NetId(k)), nl.cell(NetId(k)))?;
+        out.tell("", &k);
+        out.show(": ", &nl.width(NetId(k)));
+        out.show(" ", &nl.cell(NetId(k)));
+        out.say("\n");
     }
-    writeln!(out, "{} inputs", nl.inputs())?;
-    for k in 0..=nl.inputs() {
-        writeln!(out, "{k}: {:?} {:?}", nl.input(k), nl.input_width(k))?;
-    }
-    writeln!(out, "{} outputs", nl.outputs())?;
-    for k in 0..=nl.outputs() {
-        writeln!(out, "{k}: {:?}", nl.output(k))?;
-    }
-    Ok(())
 }
 
-/// The lines before and behind the line that begins with `%%`.
-pub fn parts(body: &str) -> (&str, &str) {
-    match body.split_once("%% ") {
-        Some(parts) => parts,
-        None => (body, ""),
+fn show_inputs(out: &mut Page, nl: &Netlist) {
+    out.tell("", &nl.inputs());
+    out.say(" inputs\n");
+    for k in 0..=nl.inputs() {
+        out.tell("", &k);
+        out.show(": ", &nl.input(k));
+        out.show(" ", &nl.input_width(k));
+        out.say("\n");
     }
+}
+
+fn show_outputs(out: &mut Page, nl: &Netlist) {
+    out.tell("", &nl.outputs());
+    out.say(" outputs\n");
+    for k in 0..=nl.outputs() {
+        out.tell("", &k);
+        out.show(": ", &nl.output(k));
+        out.say("\n");
+    }
+}
+
+// All cells, inputs and outputs.
+fn show(out: &mut Page, nl: &Netlist) {
+    show_cells(out, nl);
+    show_inputs(out, nl);
+    show_outputs(out, nl);
 }
 
 /// A netlist, and the words of its outputs.
-pub fn tell(alloc: Global, out: &mut String, head: &str, body: &str) -> Result<(), AllocError> {
-    let (calls, rows) = parts(body);
-    let nl = built(alloc, out, head, calls)?;
-    show(out, &nl)?;
-    step_all(alloc, out, &nl, rows)
+pub fn tell(alloc: Global, out: &mut Page, head: &str, body: &str) {
+    let (calls, rows) = parted(body, "%% ");
+    let nl = built(alloc, out, head, calls);
+    show(out, &nl);
+    step_all(alloc, out, &nl, rows);
 }
 
 // The numbers behind the limit.
 fn marks(alloc: Global, head: &str) -> Result<Vec<u32>, AllocError> {
     let mut marks = Vec::new(alloc);
     for word in head.split_whitespace().skip(2) {
-        if let Ok(mark) = word.parse::<u32>() {
-            marks.push(mark)?;
-        }
+        marks.push(number_at(word, 0))?;
     }
     Ok(marks)
 }
 
 /// A netlist that is tidied, with the marks in its first line.
-pub fn tell_tidied(
-    alloc: Global,
-    out: &mut String,
-    head: &str,
-    body: &str,
-) -> Result<(), AllocError> {
-    let nl = built(alloc, out, head, body)?;
-    let tidied = tidy(alloc, nl, marks(alloc, head)?)?;
-    writeln!(out, "marks {:?}", tidied.marks.as_slice())?;
-    show(out, &tidied.netlist)
+pub fn tell_tidied(alloc: Global, out: &mut Page, head: &str, body: &str) {
+    let Ok(marks) = marks(alloc, head) else {
+        return out.cut();
+    };
+    match tidy(alloc, built(alloc, out, head, body), marks) {
+        Ok(tidied) => {
+            out.show("marks ", &tidied.marks.as_slice());
+            out.say("\n");
+            show(out, &tidied.netlist);
+        }
+        Err(_) => out.cut(),
+    }
 }

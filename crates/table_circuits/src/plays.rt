@@ -12,13 +12,13 @@ ghost use Rattle.table_circuits.specs.Bytes.{byte_kind};
 ghost use Rattle.ae_play.specs.Fed.{blocks_of, fed_rows, size_of};
 ghost use Rattle.ae_play.specs.Lines.{clock_count};
 
-use crate::netlists::{built, parts};
-use crate::numbers::{number, numbers};
+use crate::netlists::built;
 use ae_netlist::Netlist;
 use ae_play::{can_be_fed, sum_clocks, write_clocks};
 use ae_sttype::StType;
 use ae_word::Atom;
 use std::alloc::{AllocError, Global};
+use table_text::{Page, number_at, numbers, parted, word_at};
 
 // Whether the inputs have these widths.
 fn has_widths(nl: &Netlist, widths: &[u32]) -> bool
@@ -66,7 +66,7 @@ fn byte_pairs(words: &[u64]) -> Option<usize>
 // The lines of a run on blocks, and its sums; parameter and result have one layout.
 fn play(
     alloc: Global,
-    out: &mut String,
+    out: &mut Page,
     nl: &Netlist,
     layout: &[StType],
     slowdown: u32,
@@ -74,7 +74,7 @@ fn play(
     words: &[u64],
     blocks: usize,
     fill: u64,
-) -> Result<(), AllocError>
+)
     requires some { 1 ≤ slowdown }
     requires most { slowdown ≤ 4096 }
     requires layout { All (λ s. IsInSize s × (time s ≡ slowdown)) (map st_tree layout.now) }
@@ -82,19 +82,34 @@ fn play(
     requires whole { length words.now ≡ blocks * size_of (map st_tree layout.now) }
     requires rows { (n : ℕ) → All (AreInputs nl.now.cells) (fed_rows slowdown fill (map st_tree layout.now) (blocks_of (map st_tree layout.now) blocks words.now) n) }
 {
-    write_clocks(
-        alloc, out, nl, layout, layout, slowdown, latency, words, blocks, fill,
-    )?;
-    let sums = sum_clocks(
+    let done = write_clocks(
+        alloc,
+        out.text(),
+        nl,
+        layout,
+        layout,
+        slowdown,
+        latency,
+        words,
+        blocks,
+        fill,
+    );
+    out.note(done);
+    match sum_clocks(
         alloc, nl, layout, layout, slowdown, latency, words, blocks, fill,
-    )?;
-    writeln!(out, "{sums:?}")
+    ) {
+        Ok(sums) => {
+            out.show("", &sums);
+            out.say("\n");
+        }
+        Err(_) => out.cut(),
+    }
 }
 
 // Two bytes one after the other, and a clock without one: `TSeq 2 1 u8`.
 fn play_slots(
     alloc: Global,
-    out: &mut String,
+    out: &mut Page,
     nl: &Netlist,
     latency: u32,
     words: &[u64],
@@ -113,13 +128,14 @@ fn play_slots(
     let layout = vec![in alloc; StType::T { n: 2, i: 1, of }]?;
     let layout = layout.as_slice();
     can_be_fed();
-    play(alloc, out, nl, layout, 3, latency, words, blocks, fill)
+    play(alloc, out, nl, layout, 3, latency, words, blocks, fill);
+    Ok(())
 }
 
 // Two bytes side by side: `SSeq 2 u8`.
 fn play_lanes(
     alloc: Global,
-    out: &mut String,
+    out: &mut Page,
     nl: &Netlist,
     latency: u32,
     words: &[u64],
@@ -138,33 +154,39 @@ fn play_lanes(
     let layout = vec![in alloc; StType::S { n: 2, of }]?;
     let layout = layout.as_slice();
     can_be_fed();
-    play(alloc, out, nl, layout, 1, latency, words, blocks, fill)
+    play(alloc, out, nl, layout, 1, latency, words, blocks, fill);
+    Ok(())
 }
 
 // The words of all blocks.
 fn play_words(
     alloc: Global,
-    out: &mut String,
+    out: &mut Page,
     nl: &Netlist,
     how: &str,
     words: &[u64],
 ) -> Result<(), AllocError> {
-    writeln!(out, "%% {how}")?;
-    let latency = number(how, 1).unwrap_or(0);
-    let fill = u64::from(number(how, 2).unwrap_or(0));
-    match how.split_whitespace().next() {
-        Some("slots") => play_slots(alloc, out, nl, latency, words, fill),
-        Some("lanes") => play_lanes(alloc, out, nl, latency, words, fill),
+    let latency = number_at(how, 1);
+    let fill = u64::from(number_at(how, 2));
+    match word_at(how, 0) {
+        "slots" => play_slots(alloc, out, nl, latency, words, fill),
+        "lanes" => play_lanes(alloc, out, nl, latency, words, fill),
         _ => Ok(()),
     }
 }
 
 /// A netlist, and the lines and the sums of its run on blocks of two bytes: `slots` one after the other, `lanes` side by
 /// side; behind that stand the latency and the fill.
-pub fn tell(alloc: Global, out: &mut String, head: &str, body: &str) -> Result<(), AllocError> {
-    let (calls, run) = parts(body);
-    let nl = built(alloc, out, head, calls)?;
-    let (how, blocks) = run.split_once("\n").unwrap_or((run, ""));
-    let words = numbers(alloc, blocks)?;
-    play_words(alloc, out, &nl, how, &words)
+pub fn tell(alloc: Global, out: &mut Page, head: &str, body: &str) {
+    let (calls, run) = parted(body, "%% ");
+    let (how, blocks) = parted(run, "\n");
+    let nl = built(alloc, out, head, calls);
+    out.say("%% ");
+    out.say(how);
+    out.say("\n");
+    let Ok(words) = numbers(alloc, blocks) else {
+        return out.cut();
+    };
+    let done = play_words(alloc, out, &nl, how, &words);
+    out.note(done);
 }

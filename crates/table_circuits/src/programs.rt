@@ -1,9 +1,11 @@
 // Circuits of programs.
 
-ghost use Rattle.std.specs.Prelude.{◌<◌, ◌≤◌};
+ghost use Rattle.std.specs.Prelude.{◌<◌, ◌≤◌, IfSome};
+ghost use Rattle.ae_seq.specs.ProgramTree.{program_tree};
+ghost use Rattle.ae_eval.specs.Stack.{IsTyped};
+ghost use Rattle.ae_rewrite.specs.StProgramTree.{st_func_trees};
+ghost use Rattle.ae_flow.specs.Fitted.{AreFitted};
 
-use crate::netlists::parts;
-use crate::numbers::number;
 use crate::sizes;
 use crate::stepping::step_all;
 use ae_delay::arrivals;
@@ -12,12 +14,15 @@ use ae_fuse::{Certificate, Fused, fuse};
 use ae_lower::{Lowered, lower};
 use ae_parse::parse;
 use ae_retime::matching;
-use ae_rewrite::schedule;
+use ae_rewrite::{StProgram, schedule};
 use ae_seq::{Typed, check};
-use std::alloc::{AllocError, Global};
+use std::alloc::Global;
+use table_text::{Page, number_at, parted, word_at};
 
 // The program of a text with the types of its items.
-fn typed(alloc: Global, text: &str) -> Option<Typed> {
+fn typed(alloc: Global, text: &str) -> Option<Typed>
+    ensures { IfSome result (λ t. IsTyped (program_tree t)) }
+{
     if text.len() >= 4_294_967_295 {
         return None;
     }
@@ -30,140 +35,129 @@ fn typed(alloc: Global, text: &str) -> Option<Typed> {
     }
 }
 
-// The circuit of a program under a slowdown, and its latency.
-fn lowered(alloc: Global, typed: &Typed, slowdown: u32) -> Option<(Lowered, u32)>
-    requires some { 0 < slowdown }
-    requires limit { slowdown ≤ 4096 }
+// The circuit of a schedule, and its latency.
+fn lowered(alloc: Global, s: &StProgram) -> Option<(Lowered, u32)>
+    requires { AreFitted (st_func_trees s.now) }
 {
-    let _program = typed.program();
-    let Ok(s) = schedule(alloc, typed, slowdown) else {
+    let Ok(a) = arrivals(alloc, s) else {
         return None;
     };
-    let Ok(a) = arrivals(alloc, &s) else {
+    let Ok(slacks) = matching(alloc, s, &a) else {
         return None;
     };
-    let Ok(slacks) = matching(alloc, &s, &a) else {
-        return None;
-    };
-    schedules_fit();
-    match lower(alloc, &s, &a, &slacks) {
+    match lower(alloc, s, &a, &slacks) {
         Ok(lowered) => Some((lowered, a.latency())),
         Err(_) => None,
     }
 }
 
-// The circuit of a program, its marks, and its run on rows of words.
-fn tell_circuit(
-    alloc: Global,
-    out: &mut String,
-    typed: &Typed,
-    slowdown: u32,
-    head: &str,
-    rows: &str,
-) -> Result<(), AllocError>
+// The circuit of a program under a slowdown, and its latency.
+fn circuit(alloc: Global, typed: &Typed, slowdown: u32) -> Option<(Lowered, u32)>
+    requires typed { IsTyped (program_tree typed.now) }
     requires some { 0 < slowdown }
     requires limit { slowdown ≤ 4096 }
 {
-    let Some((lowered, latency)) = lowered(alloc, typed, slowdown) else {
-        return writeln!(out, "no circuit");
+    schedules_fit();
+    let Ok(s) = schedule(alloc, typed, slowdown) else {
+        return None;
     };
-    writeln!(
-        out,
-        "latency {latency}, marks {:?}",
-        lowered.marks.as_slice()
-    )?;
-    if let (Some(registers), Some(comparisons)) = (number(head, 2), number(head, 3)) {
-        sizes::tell(out, &lowered.netlist, registers, comparisons)?;
-    }
-    step_all(alloc, out, &lowered.netlist, rows)
+    lowered(alloc, &s)
 }
 
-// A program as one move for each result, and the circuit of these.
-fn moved(alloc: Global, typed: &Typed, slowdown: u32) -> Option<(Lowered, Fused)>
+// The latency of a circuit, its marks, and its run on rows of words.
+fn tell_latency(out: &mut Page, lowered: &Lowered, latency: u32) {
+    out.tell("latency ", &latency);
+    out.show(", marks ", &lowered.marks.as_slice());
+    out.say("\n");
+}
+
+// The circuit of a program, its size where it is limited, and its run on rows of words.
+fn tell_circuit(alloc: Global, out: &mut Page, typed: &Typed, slowdown: u32, head: &str, rows: &str)
+    requires typed { IsTyped (program_tree typed.now) }
+    requires some { 0 < slowdown }
+    requires limit { slowdown ≤ 4096 }
+{
+    let Some((lowered, latency)) = circuit(alloc, typed, slowdown) else {
+        return out.say("no circuit\n");
+    };
+    tell_latency(out, &lowered, latency);
+    if !word_at(head, 3).is_empty() {
+        sizes::tell(
+            out,
+            &lowered.netlist,
+            number_at(head, 2),
+            number_at(head, 3),
+        );
+    }
+    step_all(alloc, out, &lowered.netlist, rows);
+}
+
+// A program as one move for each result.
+fn fused(alloc: Global, typed: &Typed, slowdown: u32) -> Option<Fused>
     requires some { 0 < slowdown }
     requires limit { slowdown ≤ 4096 }
 {
     let Ok(s) = schedule(alloc, typed, slowdown) else {
         return None;
     };
-    let Ok(Some(moves)) = fuse(alloc, typed, &s) else {
+    let Ok(moves) = fuse(alloc, typed, &s) else {
         return None;
     };
-    if moves.load() > 100_000 {
-        return None;
-    }
-    match moves.lower(alloc) {
-        Ok(lowered) => Some((lowered, moves)),
-        Err(_) => None,
-    }
+    moves
 }
 
 // The word that shows the latency, and the word that it is.
-fn tell_certificate(out: &mut String, certificate: Option<Certificate>) -> Result<(), AllocError> {
+fn tell_certificate(out: &mut Page, certificate: Option<Certificate>) {
     let Some(c) = certificate else {
-        return writeln!(out, "no certificate");
+        return out.say("no certificate\n");
     };
-    writeln!(
-        out,
-        "word {} {} {} clock {} from {} {} {} clock {}",
-        c.result, c.lane, c.word, c.clock, c.param, c.from_lane, c.from_word, c.from_clock
-    )
+    out.tell("word ", &c.result);
+    out.tell(" ", &c.lane);
+    out.tell(" ", &c.word);
+    out.tell(" clock ", &c.clock);
+    out.tell(" from ", &c.param);
+    out.tell(" ", &c.from_lane);
+    out.tell(" ", &c.from_word);
+    out.tell_line(" clock ", &c.from_clock);
 }
 
 // The circuit of a program by its moves, and its run on rows of words.
-fn tell_moved(
-    alloc: Global,
-    out: &mut String,
-    typed: &Typed,
-    slowdown: u32,
-    rows: &str,
-) -> Result<(), AllocError>
-    requires some { 0 < slowdown }
-    requires limit { slowdown ≤ 4096 }
+fn tell_moved(alloc: Global, out: &mut Page, moves: &Fused, rows: &str) {
+    if moves.load() > 100_000 {
+        return out.say("no moves\n");
+    }
+    let Ok(lowered) = moves.lower(alloc) else {
+        return out.say("no moves\n");
+    };
+    tell_latency(out, &lowered, moves.latency());
+    tell_certificate(out, moves.certificate());
+    step_all(alloc, out, &lowered.netlist, rows);
+}
+
+// What is asked of a program.
+fn tell_asked(alloc: Global, out: &mut Page, typed: &Typed, head: &str, rows: &str)
+    requires { IsTyped (program_tree typed.now) }
 {
-    let Some((lowered, moves)) = moved(alloc, typed, slowdown) else {
-        return writeln!(out, "no moves");
-    };
-    let latency = moves.latency();
-    writeln!(
-        out,
-        "latency {latency}, marks {:?}",
-        lowered.marks.as_slice()
-    )?;
-    tell_certificate(out, moves.certificate())?;
-    step_all(alloc, out, &lowered.netlist, rows)
+    let slowdown = number_at(head, 1);
+    if slowdown == 0 || slowdown > 4096 {
+        return;
+    }
+    if word_at(head, 0) == "program" {
+        return tell_circuit(alloc, out, typed, slowdown, head, rows);
+    }
+    match fused(alloc, typed, slowdown) {
+        Some(moves) => tell_moved(alloc, out, &moves, rows),
+        None => out.say("no moves\n"),
+    }
 }
 
-/// A program that moves words, and its circuit by one move for each result, as `tell` tells others.
-pub fn tell_by_moves(
-    alloc: Global,
-    out: &mut String,
-    head: &str,
-    body: &str,
-) -> Result<(), AllocError> {
-    let (text, rows) = parts(body);
-    out.push_str(text)?;
-    let slowdown = number(head, 1).unwrap_or(0);
-    let Some(typed) = typed(alloc, text) else {
-        return writeln!(out, "no program");
-    };
-    if slowdown == 0 || slowdown > 4096 {
-        return Ok(());
+/// A program and its circuit under the slowdown in the first line: of its lines, and how it keeps to the numbers of registers
+/// and comparisons behind that, or of one move for each result; and the circuit's run.
+pub fn tell(alloc: Global, out: &mut Page, head: &str, body: &str) {
+    let (text, rows) = parted(body, "%% ");
+    out.say(text);
+    match typed(alloc, text) {
+        Some(typed) => tell_asked(alloc, out, &typed, head, rows),
+        None => out.say("no program\n"),
     }
-    tell_moved(alloc, out, &typed, slowdown, rows)
-}
-
-/// A program, its circuit under the slowdown in the first line, how that keeps to the numbers of registers and comparisons
-/// behind it, and the circuit's run.
-pub fn tell(alloc: Global, out: &mut String, head: &str, body: &str) -> Result<(), AllocError> {
-    let (text, rows) = parts(body);
-    out.push_str(text)?;
-    let slowdown = number(head, 1).unwrap_or(0);
-    let Some(typed) = typed(alloc, text) else {
-        return writeln!(out, "no program");
-    };
-    if slowdown == 0 || slowdown > 4096 {
-        return Ok(());
-    }
-    tell_circuit(alloc, out, &typed, slowdown, head, rows)
 }

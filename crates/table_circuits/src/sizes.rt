@@ -2,7 +2,7 @@
 
 use ae_netlist::{Cell, Netlist};
 use ae_word::WordOp;
-use std::alloc::AllocError;
+use table_text::Page;
 
 fn is_register(cell: &Cell) -> bool {
     matches!(cell, Cell::Reg { .. })
@@ -13,12 +13,7 @@ fn compares(cell: &Cell) -> bool {
 }
 
 /// The depth of each memory, and whether there are at most so many registers and so many comparisons.
-pub fn tell(
-    out: &mut String,
-    nl: &Netlist,
-    registers: u32,
-    comparisons: u32,
-) -> Result<(), AllocError> {
+pub fn tell(out: &mut Page, nl: &Netlist, registers: u32, comparisons: u32) {
     let mut kept = 0u32;
     let mut compared = 0u32;
     for sized in nl.cells() {
@@ -29,13 +24,12 @@ pub fn tell(
             compared = compared.saturating_add(1);
         }
         if let Cell::Mem { depth, .. } = sized.cell {
-            writeln!(out, "a memory of {depth} words")?;
+            out.tell("a memory of ", &depth);
+            out.say(" words\n");
         }
     }
-    writeln!(
-        out,
-        "at most {registers} registers: {}; at most {comparisons} comparisons: {}",
-        kept <= registers,
-        compared <= comparisons
-    )
+    out.tell("at most ", &registers);
+    out.tell(" registers: ", &(kept <= registers));
+    out.tell("; at most ", &comparisons);
+    out.tell_line(" comparisons: ", &(compared <= comparisons));
 }

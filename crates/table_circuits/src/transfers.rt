@@ -1,13 +1,11 @@
 // What passes between two channels, clock by clock.
 
-ghost use Rattle.std.specs.Prelude.{◌≡◌, ◌<◌, ◌≤◌, ◌^◌, IsTrue, length};
-ghost use Rattle.ae_netlist.specs.Rows.{AreInputs};
+ghost use Rattle.std.specs.Prelude.{◌≡◌, ◌≤◌, length};
 
-use crate::numbers::number;
-use crate::stepping::fits;
 use ae_netlist::Netlist;
 use ae_sim::Sim;
 use std::alloc::{AllocError, Global};
+use table_text::{Page, fits, number_at, tell_outputs, word_at};
 
 // Whether a pattern, which comes again and again, has a 1 in this clock.
 fn has_one(pattern: &str, clock: u32) -> bool {
@@ -35,52 +33,58 @@ fn row_of(
     Ok(row)
 }
 
-// The words of a transfer at the sink.
-fn tell_words(out: &mut String, sim: &Sim<'_>, outputs: u32) -> Result<(), AllocError>
-    requires { outputs ≡ length sim.now.outlets }
+// One clock with the reset, both channels and the words of a line; false where these are no words of the inputs.
+fn step(
+    alloc: Global,
+    out: &mut Page,
+    nl: &Netlist,
+    sim: &mut Sim<'_>,
+    bits: [bool; 3],
+    line: &str,
+) -> bool
+    requires { sim.old.cells ≡ nl.now.cells }
+    ensures cells { sim.new.cells ≡ sim.old.cells }
+    ensures outlets { sim.new.outlets ≡ sim.old.outlets }
 {
-    out.push_str("->")?;
-    for k in 2..outputs {
-        write!(out, " {}", sim.output(k))?;
+    let Ok(row) = row_of(alloc, nl, bits, line) else {
+        out.cut();
+        return false;
+    };
+    let fit = fits(nl, &row);
+    if fit {
+        sim.step(&row);
     }
-    out.push_str("\n")
+    fit
 }
 
 /// The transfers of a run, whose first two clocks are of reset.
-pub fn tell_transfers(
-    alloc: Global,
-    out: &mut String,
-    nl: &Netlist,
-    how: &str,
-    rows: &str,
-) -> Result<(), AllocError>
+pub fn tell_transfers(alloc: Global, out: &mut Page, nl: &Netlist, how: &str, rows: &str)
     requires { 2 ≤ length nl.now.outlets }
 {
-    let clocks = number(how, 0).unwrap_or(0);
-    let mut patterns = how.split_whitespace();
-    let valid = patterns.nth(1).unwrap_or("");
-    let ready = patterns.next().unwrap_or("");
-    let mut sim = Sim::new(alloc, nl, u64::MAX)?;
+    let Ok(mut sim) = Sim::new(alloc, nl, u64::MAX) else {
+        return out.cut();
+    };
     let mut lines = rows.lines();
     let mut line = lines.next();
     let mut taken = 0u32;
-    for clock in 0..clocks {
+    for clock in 0..number_at(how, 0) {
         let resets = clock < 2;
-        let offers = !resets && line.is_some() && has_one(valid, clock);
-        let takes = !resets && has_one(ready, clock);
+        let offers = !resets && line.is_some() && has_one(word_at(how, 1), clock);
+        let takes = !resets && has_one(word_at(how, 2), clock);
         let words = if offers { line.unwrap_or("") } else { "" };
-        let row = row_of(alloc, nl, [resets, offers, takes], words)?;
-        if !fits(nl, &row) {
-            return writeln!(out, "not allowed");
+        if !step(alloc, out, nl, &mut sim, [resets, offers, takes], words) {
+            return out.say("not allowed\n");
         }
-        sim.step(&row);
         if takes && sim.output(1) == 1 {
-            tell_words(out, &sim, nl.outputs())?;
+            out.say("->");
+            tell_outputs(out, &sim, 2, nl.outputs());
+            out.say("\n");
         }
         if offers && sim.output(0) == 1 {
             taken = taken.saturating_add(1);
             line = lines.next();
         }
     }
-    writeln!(out, "{taken} transfers at the source")
+    out.tell("", &taken);
+    out.say(" transfers at the source\n");
 }

@@ -1,78 +1,86 @@
 // Answers to one line: layouts of types, cases of the layout rule, moves between layouts.
 
-ghost use Rattle.std.specs.Prelude.{◌≡◌, IfOk, IfSome, IsTrue};
+ghost use Rattle.std.specs.Prelude.{◌≡◌, IfSome, IsTrue};
 ghost use Rattle.ae_sttype.specs.StTree.{st_atoms, st_tree};
 ghost use Rattle.ae_sttype.specs.Size.{IsInSize};
 ghost use Rattle.ae_rewrite.specs.Sound.{IsMoveFrom};
 
 use crate::programs::typed;
-use crate::spelled::{number_at, word_at};
 use ae_delay::origins;
 use ae_moves::Origin;
 use ae_rewrite::{Case, LayFault, MoveOp, lay};
 use ae_seq::Typed;
 use ae_sttype::StType;
 use std::alloc::{AllocError, Global};
+use table_text::{Page, number_at, word_at};
+
+/// A text, and behind it a layout.
+pub fn tell_layout(out: &mut Page, text: &str, layout: &StType) {
+    out.say(text);
+    let done = layout.write_to(out.text());
+    out.note(done);
+}
 
 // The program that answers its argument of a spelled type.
-fn program_on(alloc: Global, out: &mut String, ty: &str) -> Result<Option<Typed>, AllocError> {
-    let text = format!(in alloc; "aeth 2\nfn main a:{ty}\nend a\n")?;
-    typed(alloc, out, text.as_bytes())
+fn program_on(alloc: Global, out: &mut Page, ty: &str) -> Option<Typed> {
+    match format!(in alloc; "aeth 2\nfn main a:{ty}\nend a\n") {
+        Ok(text) => typed(alloc, out, text.as_bytes()),
+        Err(_) => {
+            out.cut();
+            None
+        }
+    }
 }
 
 // The layout of a spelled type in so many clocks, if there is one.
-fn layout_of(
-    alloc: Global,
-    out: &mut String,
-    ty: &str,
-    clocks: u32,
-) -> Result<Option<StType>, AllocError>
-    ensures { IfOk result (λ o. IfSome o (λ s. IsInSize (st_tree s))) }
+fn layout_of(alloc: Global, out: &mut Page, ty: &str, clocks: u32) -> Option<StType>
+    ensures { IfSome result (λ s. IsInSize (st_tree s)) }
 {
-    let Some(p) = program_on(alloc, out, ty)? else {
-        return Ok(None);
-    };
-    let Some(ty) = p.ty(0, 0) else {
-        return Ok(None);
-    };
+    let p = program_on(alloc, out, ty)?;
+    let ty = p.ty(0, 0)?;
     if clocks == 0 || clocks > 4096 {
-        return Ok(None);
+        return None;
     }
     match lay(alloc, ty, clocks) {
-        Ok(layout) => Ok(Some(layout)),
-        Err(LayFault::NoLayout) => Ok(None),
-        Err(LayFault::Memory) => Err(AllocError),
+        Ok(layout) => Some(layout),
+        Err(LayFault::NoLayout) => None,
+        Err(LayFault::Memory) => {
+            out.cut();
+            None
+        }
     }
 }
 
 /// The layouts of a type in these clocks, from the first number to the second.
-pub fn tell_layouts(alloc: Global, out: &mut String, line: &str) -> Result<(), AllocError> {
+pub fn tell_layouts(alloc: Global, out: &mut Page, line: &str) {
     let first = number_at(line, 1);
     for clocks in first..=number_at(line, 2) {
-        out.push_str(if clocks > first { ", " } else { " " })?;
-        match layout_of(alloc, out, word_at(line, 0), clocks)? {
-            Some(layout) => layout.write_to(out)?,
-            None => out.push_str("none")?,
+        let mark = if clocks > first { ", " } else { " " };
+        match layout_of(alloc, out, word_at(line, 0), clocks) {
+            Some(layout) => tell_layout(out, mark, &layout),
+            None => {
+                out.say(mark);
+                out.say("none");
+            }
         }
     }
-    Ok(())
 }
 
 /// By which outer slots, lanes and inner clocks so many elements lie in so many clocks.
-pub fn tell_case(out: &mut String, line: &str) -> Result<(), AllocError> {
+pub fn tell_case(out: &mut Page, line: &str) {
     let n = number_at(line, 0);
     let clocks = number_at(line, 1);
     if n == 0 || clocks == 0 {
-        return out.push_str(" not asked so");
+        return out.say(" not asked so");
     }
     match Case::first(n, clocks) {
         Some(case) => {
-            let slots = case.slots(n, clocks);
-            let lanes = case.lanes(n, clocks);
-            let inner = case.inner(n, clocks);
-            write!(out, " {slots} slots, {lanes} lanes, {inner} clocks each")
+            out.tell(" ", &case.slots(n, clocks));
+            out.tell(" slots, ", &case.lanes(n, clocks));
+            out.tell(" lanes, ", &case.inner(n, clocks));
+            out.say(" clocks each");
         }
-        None => out.push_str(" none"),
+        None => out.say(" none"),
     }
 }
 
@@ -98,21 +106,25 @@ fn is_move_from(how: MoveOp, n: u32, m: u32) -> bool
     }
 }
 
-fn tell_origin(out: &mut String, origin: Origin) -> Result<(), AllocError> {
+fn tell_origin(out: &mut Page, origin: &Origin) {
     match origin {
-        Origin::Fixed(word) => write!(out, " {word}"),
+        Origin::Fixed(word) => out.tell(" ", word),
         Origin::Word {
             input,
             element,
             word,
-        } => write!(out, " {input}/{element}/{word}"),
+        } => {
+            out.tell(" ", input);
+            out.tell("/", element);
+            out.tell("/", word);
+        }
     }
 }
 
 // The origins of the words of a move.
 fn tell_move(
     alloc: Global,
-    out: &mut String,
+    out: &mut Page,
     how: MoveOp,
     arg: &StType,
     to: &StType,
@@ -121,22 +133,25 @@ fn tell_move(
     requires to { IsInSize (st_tree to.now) }
 {
     if !is_move_from(how, arg.atoms(), to.atoms()) {
-        return out.push_str(" no move");
+        out.say(" no move");
+        return Ok(());
     }
-    for origin in origins(alloc, how, arg, to)? {
-        tell_origin(out, origin)?;
+    for origin in &origins(alloc, how, arg, to)? {
+        tell_origin(out, origin);
     }
     Ok(())
 }
 
 /// The origins of a move: its word and number, and twice a type and the clocks of its layout.
-pub fn tell_origins(alloc: Global, out: &mut String, line: &str) -> Result<(), AllocError> {
+pub fn tell_origins(alloc: Global, out: &mut Page, line: &str) -> Result<(), AllocError> {
+    let Some(arg) = layout_of(alloc, out, word_at(line, 2), number_at(line, 3)) else {
+        out.say(" none");
+        return Ok(());
+    };
+    let Some(to) = layout_of(alloc, out, word_at(line, 4), number_at(line, 5)) else {
+        out.say(" none");
+        return Ok(());
+    };
     let how = move_of(word_at(line, 0), number_at(line, 1));
-    let Some(arg) = layout_of(alloc, out, word_at(line, 2), number_at(line, 3))? else {
-        return out.push_str(" none");
-    };
-    let Some(to) = layout_of(alloc, out, word_at(line, 4), number_at(line, 5))? else {
-        return out.push_str(" none");
-    };
     tell_move(alloc, out, how, &arg, &to)
 }

@@ -1,11 +1,11 @@
 // Programs that no text says: a line has another operator than it was read with.
 
-use crate::programs::{LONGEST, tell_checked};
-use crate::spelled::{number_at, word_at};
-use ae_parse::parse;
+use crate::programs::{read, tell_checked};
+use ae_parse::ParseFault;
 use ae_seq::{Node, Op, Program};
 use ae_word::WordOp;
 use std::alloc::{AllocError, Global};
+use table_text::{Page, number_at, word_at};
 
 fn op_of(word: &str, k: u32) -> Op {
     match word {
@@ -25,9 +25,8 @@ fn op_of(word: &str, k: u32) -> Op {
 // So many lines of `shift 1`, each of the item above it.
 fn add_shifts(alloc: Global, nodes: &mut Vec<Node>, count: u32) -> Result<(), AllocError> {
     for item in 1..count {
-        let name = format!(in alloc; "n{item}")?;
         nodes.push(Node {
-            name,
+            name: format!(in alloc; "n{item}")?,
             op: Op::Shift(1),
             args: Vec::from_slice(alloc, &[item])?,
             line: 2,
@@ -50,18 +49,21 @@ fn replace(alloc: Global, p: &mut Program, word: &str, k: u32) -> Result<(), All
     Ok(())
 }
 
+// The program of one line on a type.
+fn shift_on(alloc: Global, ty: &str) -> Result<Program, ParseFault> {
+    let text = format!(in alloc; "fn main a:{ty}\nb = shift 1 a\nend b\n")?;
+    read(alloc, text.as_bytes())
+}
+
 /// Whether the program of one line on a type has types: its version, and the line's operator and number.
-pub fn tell_replaced(alloc: Global, out: &mut String, line: &str) -> Result<(), AllocError> {
-    let text = format!(in alloc; "fn main a:{}\nb = shift 1 a\nend b\n", word_at(line, 0))?;
-    if text.len() >= LONGEST {
-        return out.push_str(" too long");
-    }
-    match parse(alloc, text.as_bytes()) {
+pub fn tell_replaced(alloc: Global, out: &mut Page, line: &str) -> Result<(), AllocError> {
+    match shift_on(alloc, word_at(line, 0)) {
         Ok(mut p) => {
             p.version = number_at(line, 1);
             replace(alloc, &mut p, word_at(line, 2), number_at(line, 3))?;
-            tell_checked(alloc, out, p)
+            tell_checked(alloc, out, p);
         }
-        Err(fault) => write!(out, " {fault}"),
+        Err(fault) => out.tell(" ", &fault),
     }
+    Ok(())
 }

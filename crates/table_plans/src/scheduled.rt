@@ -1,73 +1,82 @@
-// The instances of a schedule.
+// The instances of a schedule, its timing, and its moves.
 
-use crate::timed::tell_timing;
+use crate::layouts::tell_layout;
+use crate::timed::{tell_each, tell_timing};
+use ae_fuse::{Fused, fuse};
 use ae_rewrite::{StFunc, StNode, StProgram, schedule};
 use ae_seq::Typed;
 use std::alloc::{AllocError, Global};
+use table_text::Page;
 
 // Line, operator, copies and layout of a node.
-fn tell_node(out: &mut String, node: &StNode) -> Result<(), AllocError> {
-    let (line, op, copies) = (node.line, &node.op, node.copies);
-    write!(out, "; {line}: {op:?} x {copies} ")?;
-    node.ty.write_to(out)
+fn tell_node(out: &mut Page, node: &StNode) {
+    out.tell("; ", &node.line);
+    out.show(": ", &node.op);
+    out.tell(" x ", &node.copies);
+    tell_layout(out, " ", &node.ty);
 }
 
 // Function, budget, layouts of parameters, and each node with its copies and its layout.
-fn tell_instance(out: &mut String, f: &StFunc) -> Result<(), AllocError> {
-    write!(out, "f{} in {}", f.func, f.budget)?;
+fn tell_instance(out: &mut Page, f: &StFunc) {
+    out.tell("f", &f.func);
+    out.tell(" in ", &f.budget);
     for layout in &f.ins {
-        out.push_str(", ")?;
-        layout.write_to(out)?;
+        tell_layout(out, ", ", layout);
     }
     for node in &f.nodes {
-        tell_node(out, node)?;
+        tell_node(out, node);
     }
-    out.push_str("\n")
+    out.say("\n");
 }
 
-fn tell_schedule(out: &mut String, s: &StProgram) -> Result<(), AllocError> {
-    writeln!(out, "instances {}", s.count())?;
+fn tell_schedule(out: &mut Page, s: &StProgram) {
+    out.tell_line("instances ", &s.count());
     for k in 0..100 {
         let Some(f) = s.instance(k) else {
             break;
         };
-        tell_instance(out, f)?;
+        tell_instance(out, f);
     }
-    Ok(())
 }
 
-// The instances of the schedule at a slowdown, or its timing.
-fn tell_at(
+// What the moves cost, and when each item could arrive.
+fn tell_moves(out: &mut Page, moves: &Fused) {
+    out.tell("latency ", &moves.latency());
+    out.tell(", load ", &moves.load());
+    out.tell(", mems ", &moves.mems());
+    out.say(", arrive");
+    for item in 0..100 {
+        if !tell_each(out, moves.arrival(item)) {
+            break;
+        }
+    }
+    out.say("\n");
+}
+
+/// Under a slowdown the timing of the schedule, the moves of a program that only moves, or else the instances.
+pub fn tell_at(
     alloc: Global,
-    out: &mut String,
+    out: &mut Page,
     p: &Typed,
-    is_timed: bool,
+    asked: &str,
     slowdown: u32,
 ) -> Result<(), AllocError> {
-    write!(out, "slowdown {slowdown}: ")?;
+    out.tell("slowdown ", &slowdown);
     if slowdown == 0 || slowdown > 4096 {
-        return out.push_str("not asked so\n");
+        out.say(": not asked so\n");
+        return Ok(());
     }
+    out.say(": ");
     match schedule(alloc, p, slowdown) {
-        Ok(s) => if is_timed {
-            tell_timing(alloc, out, &s)
-        } else {
-            tell_schedule(out, &s)
+        Ok(s) => match asked {
+            "timings" => tell_timing(alloc, out, &s)?,
+            "moves" => match fuse(alloc, p, &s)? {
+                Some(moves) => tell_moves(out, &moves),
+                None => out.say("more than moves\n"),
+            },
+            _ => tell_schedule(out, &s),
         },
-        Err(fault) => writeln!(out, "{fault}"),
-    }
-}
-
-/// The instances of the schedules at the given slowdowns, or their timings.
-pub fn tell_schedules(
-    alloc: Global,
-    out: &mut String,
-    p: &Typed,
-    is_timed: bool,
-    slowdowns: &[u32],
-) -> Result<(), AllocError> {
-    for slowdown in slowdowns {
-        tell_at(alloc, out, p, is_timed, *slowdown)?;
+        Err(fault) => out.tell_line("", &fault),
     }
     Ok(())
 }

@@ -1,4 +1,4 @@
-// Texts and numbers as the cases spell them.
+// Texts as the cases spell them.
 
 use std::alloc::{AllocError, Global};
 
@@ -30,28 +30,4 @@ pub fn bytes_of(alloc: Global, text: &str) -> Result<Vec<u8>, AllocError> {
         }
     }
     Ok(bytes)
-}
-
-/// The numbers among the words before a `#`.
-pub fn numbers(alloc: Global, words: &str) -> Result<Vec<u32>, AllocError> {
-    let mut numbers = Vec::new(alloc);
-    for word in words.split_whitespace() {
-        if word == "#" {
-            break;
-        }
-        if let Ok(number) = word.parse::<u32>() {
-            numbers.push(number)?;
-        }
-    }
-    Ok(numbers)
-}
-
-/// A word of a line by its place, empty where there is none.
-pub fn word_at(line: &str, place: usize) -> &str {
-    line.split_whitespace().nth(place).unwrap_or("")
-}
-
-/// The number that a word of a line spells, 0 where it spells none.
-pub fn number_at(line: &str, place: usize) -> u32 {
-    word_at(line, place).parse::<u32>().unwrap_or(0)
 }

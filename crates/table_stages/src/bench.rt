@@ -1,8 +1,7 @@
 // A stage in a netlist of its own, and what it shows clock by clock.
 
-ghost use Rattle.std.specs.Prelude.{◌≡◌, ◌≤◌, ◌++◌, ◌∷◌, [], IfOk, IsTrue, OnOk, length};
+ghost use Rattle.std.specs.Prelude.{◌≡◌, ◌≤◌, ◌++◌, ◌∷◌, [], IfOk, OnOk, length};
 ghost use Rattle.ae_netlist.specs.Circuit.{Extends, IsNet};
-ghost use Rattle.ae_netlist.specs.Rows.{AreInputs};
 ghost use Rattle.ae_clocked.specs.Phases.{Belongs};
 ghost use Rattle.ae_ops.specs.Blocks.{AreBundles};
 ghost use Rattle.ae_ops.specs.Waves.{HaveOwnWidths};
@@ -13,6 +12,7 @@ use ae_netlist::{Cell, NetFault, NetId, Netlist, Port};
 use ae_ops::{Bundle, Stage, delay};
 use ae_sim::Sim;
 use std::alloc::{AllocError, Global};
+use table_text::{Page, fits, tell_outputs};
 
 /// There was no room, for a cell or in memory.
 #[derive(Clone, Copy, Debug)]
@@ -124,26 +124,6 @@ fn show(nl: &mut Netlist, nets: &[NetId]) -> Result<(), AllocError>
     Ok(())
 }
 
-// Whether a row has one word for each input, each below two to its width.
-fn fits(nl: &Netlist, row: &[u64]) -> bool
-    ensures { IsTrue result → AreInputs nl.now.cells row.now }
-{
-    if nl.inputs() as usize != row.len() {
-        return false;
-    }
-    for k in 0..nl.inputs() {
-        match nl.input_width(k) {
-            Some(width) => {
-                if width >= 64 || row[k as usize] >= 1u64 << width {
-                    return false;
-                }
-            }
-            None => return false,
-        }
-    }
-    true
-}
-
 // What stands on an input without a word: 99, or so much of it as fits.
 fn filler(nl: &Netlist, k: u32) -> u64 {
     match nl.input_width(k) {
@@ -163,16 +143,6 @@ fn row_of(alloc: Global, nl: &Netlist, reset: u64, words: &[u64]) -> Result<Vec<
         }
     }
     Ok(row)
-}
-
-fn write_outputs(out: &mut String, sim: &Sim<'_>, outputs: u32) -> Result<(), AllocError>
-    requires { outputs ≤ length sim.now.outlets }
-{
-    for k in 0..outputs {
-        let word = sim.output(k);
-        write!(out, " {word}")?;
-    }
-    Ok(())
 }
 
 // One clock with the reset and the words on the inputs; false where a word is too large.
@@ -195,28 +165,20 @@ fn step(
     Ok(fit)
 }
 
-// Writes the words of a clock, if it is shown.
-fn write_clock(
-    out: &mut String,
-    sim: &Sim<'_>,
-    outputs: u32,
-    mark: Option<&'static str>,
-) -> Result<(), AllocError>
+// The words of a clock, if it is shown.
+fn tell_clock(out: &mut Page, sim: &Sim<'_>, outputs: u32, mark: Option<&'static str>)
     requires { outputs ≤ length sim.now.outlets }
 {
-    match mark {
-        Some(mark) => {
-            out.push_str(mark)?;
-            write_outputs(out, sim, outputs)
-        }
-        None => Ok(()),
+    if let Some(mark) = mark {
+        out.say(mark);
+        tell_outputs(out, sim, 0, outputs);
     }
 }
 
-// Steps a netlist through reset and so many clocks, and writes what is shown.
+// Steps a netlist through reset and so many clocks, and tells what is shown.
 fn play_on(
     alloc: Global,
-    out: &mut String,
+    out: &mut Page,
     nl: &Netlist,
     sim: &mut Sim<'_>,
     words: &[u64],
@@ -232,9 +194,10 @@ fn play_on(
     for clock in 0..end + times.period.min(9999) {
         let given = times.given(words, columns as usize, clock);
         if !step(alloc, nl, sim, 0, given)? {
-            return out.push_str(": a word is too large");
+            out.say(": a word is too large");
+            return Ok(());
         }
-        write_clock(out, sim, nl.outputs(), times.mark(clock, end))?;
+        tell_clock(out, sim, nl.outputs(), times.mark(clock, end));
     }
     Ok(())
 }
@@ -242,7 +205,7 @@ fn play_on(
 // The same of one all of whose registers begin with ones.
 fn play(
     alloc: Global,
-    out: &mut String,
+    out: &mut Page,
     nl: &Netlist,
     words: &[u64],
     times: Times,
@@ -251,10 +214,10 @@ fn play(
     play_on(alloc, out, nl, &mut sim, words, times)
 }
 
-/// Builds a stage, and writes its latency and what it makes of words, if there are any.
+/// Builds a stage, and tells its latency and what it makes of words, if there are any.
 pub fn run<S: Stage>(
     alloc: Global,
-    out: &mut String,
+    out: &mut Page,
     stage: &S,
     nl: &mut Netlist,
     clocks: &mut Clocks,
@@ -266,8 +229,7 @@ pub fn run<S: Stage>(
     requires bundles { AreBundles nl.old.cells (S.part stage.now).ins ins.now }
 {
     let latency = stage.latency();
-    let period = stage.period();
-    write!(out, "latency {latency}")?;
+    out.tell("latency ", &latency);
     if words.is_empty() {
         return Ok(());
     }
@@ -275,7 +237,7 @@ pub fn run<S: Stage>(
     show(nl, made.nets())?;
     let times = Times {
         latency,
-        period,
+        period: stage.period(),
         ..times
     };
     play(alloc, out, nl, words, times)?;
@@ -285,7 +247,7 @@ pub fn run<S: Stage>(
 // The same of a stage that takes words on lanes.
 fn run_lanes<S: Stage>(
     alloc: Global,
-    out: &mut String,
+    out: &mut Page,
     stage: &S,
     nl: &mut Netlist,
     lanes: u32,
@@ -306,7 +268,7 @@ fn run_lanes<S: Stage>(
 /// The same in a netlist of its own.
 pub fn over_lanes<S: Stage>(
     alloc: Global,
-    out: &mut String,
+    out: &mut Page,
     stage: &S,
     lanes: u32,
     width: u32,
@@ -359,7 +321,7 @@ fn show_inputs(
 /// What a bundle shows so many clocks later, and what makes its first net.
 pub fn delayed_words(
     alloc: Global,
-    out: &mut String,
+    out: &mut Page,
     lanes: u32,
     width: u32,
     slack: u32,
@@ -368,7 +330,7 @@ pub fn delayed_words(
     requires low { 1 ≤ width }
     requires high { width ≤ 64 }
 {
-    write!(out, "delay {slack}")?;
+    out.tell("delay ", &slack);
     let mut nl = Netlist::new(alloc, 65536);
     show_inputs(alloc, &mut nl, lanes, width, slack)?;
     let times = Times {
@@ -379,27 +341,26 @@ pub fn delayed_words(
         from_0: false,
     };
     play(alloc, out, &nl, words, times)?;
-    write_makers(out, &nl)?;
+    tell_makers(out, &nl);
     Ok(())
 }
 
-/// Writes what makes the first output: registers one behind the other, and what they hold.
-pub fn write_makers(out: &mut String, nl: &Netlist) -> Result<(), AllocError> {
+/// What makes the first output: registers one behind the other, and what they hold.
+pub fn tell_makers(out: &mut Page, nl: &Netlist) {
     let Some(outlet) = nl.output(0) else {
-        return Ok(());
+        return;
     };
     let mut net = outlet.net;
-    out.push_str(" from")?;
+    out.say(" from");
     for _ in 0..8 {
         match nl.cell(net) {
             Some(Cell::Reg { next }) => {
-                out.push_str(" register of")?;
+                out.say(" register of");
                 net = *next;
             }
-            Some(Cell::Op(op, _)) => return write!(out, " {op:?}"),
-            Some(Cell::Input(_)) => return out.push_str(" input"),
-            _ => return Ok(()),
+            Some(Cell::Op(op, _)) => return out.show(" ", op),
+            Some(Cell::Input(_)) => return out.say(" input"),
+            _ => return,
         }
     }
-    Ok(())
 }

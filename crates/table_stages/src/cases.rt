@@ -9,8 +9,8 @@ ghost use Rattle.ae_clocked.specs.Phases.{Belongs};
 ghost use Rattle.ae_gather.specs.Gathers.{gather_part, move_of};
 ghost use Rattle.table_stages.specs.Even.{TakesLanes};
 
-use crate::bench::{NoRoom, Times, delayed_words, input, over_lanes, run, write_makers};
-use crate::words::{at, numbers, op_named, origins};
+use crate::bench::{NoRoom, Times, delayed_words, input, over_lanes, run, tell_makers};
+use crate::words::{op_named, origins};
 use ae_clocked::{Clocks, choose, constant};
 use ae_fold::{is_fold, levels, plan_of, word_folds};
 use ae_gather::{Gather, Origin};
@@ -21,6 +21,7 @@ use ae_scan::Scan;
 use ae_sttype::StType;
 use ae_word::{Atom, WordOp, arity};
 use std::alloc::{AllocError, Global};
+use table_text::{Page, number_at, numbers, parted, word_at};
 
 /// The numbers of a fold: what it folds, and in which period.
 #[derive(Clone, Copy)]
@@ -46,8 +47,8 @@ enum Form {
     ChoiceRight,
 }
 
-fn refused(out: &mut String) -> Result<(), NoRoom> {
-    out.push_str("refused")?;
+fn refused(out: &mut Page) -> Result<(), NoRoom> {
+    out.say("refused");
     Ok(())
 }
 
@@ -88,7 +89,7 @@ fn blocks(arrival: u32, shown: u32) -> Times {
     }
 }
 
-fn reduce(alloc: Global, out: &mut String, fold: Fold, words: &[u64]) -> Result<(), NoRoom> {
+fn reduce(alloc: Global, out: &mut Page, fold: Fold, words: &[u64]) -> Result<(), NoRoom> {
     let element = row(alloc, fold.signed, fold.width, fold.clocks)?;
     match Reduce::new(fold.op, fold.slots, fold.lanes, element, fold.period) {
         Some(stage) if 1 <= fold.width && fold.width <= 64 => {
@@ -99,7 +100,7 @@ fn reduce(alloc: Global, out: &mut String, fold: Fold, words: &[u64]) -> Result<
     }
 }
 
-fn scan(alloc: Global, out: &mut String, fold: Fold, words: &[u64]) -> Result<(), NoRoom> {
+fn scan(alloc: Global, out: &mut Page, fold: Fold, words: &[u64]) -> Result<(), NoRoom> {
     let element = row(alloc, fold.signed, fold.width, fold.clocks)?;
     match Scan::new(fold.op, fold.slots, fold.lanes, element, fold.period) {
         Some(stage) if 1 <= fold.width && fold.width <= 64 => {
@@ -111,39 +112,38 @@ fn scan(alloc: Global, out: &mut String, fold: Fold, words: &[u64]) -> Result<()
 }
 
 // The numbers that a fold is built by.
-fn plan(alloc: Global, out: &mut String, fold: Fold) -> Result<(), NoRoom> {
+fn plan(alloc: Global, out: &mut Page, fold: Fold) -> Result<(), NoRoom> {
     let element = row(alloc, fold.signed, fold.width, fold.clocks)?;
     if !is_fold(fold.op, fold.slots, fold.lanes, &element, fold.period) {
         return refused(out);
     }
     let plan = plan_of(fold.slots, fold.lanes, &element, fold.period);
-    write!(out, "{plan:?}")?;
+    out.show("", &plan);
     Ok(())
 }
 
 // The fold that a case names.
-fn fold_of(head: &str, op: WordOp, numbers: &[u64]) -> Fold {
+fn fold_of(head: &str, op: WordOp) -> Fold {
     Fold {
         op,
         signed: head.contains("signed"),
-        slots: at(numbers, 0),
-        lanes: at(numbers, 1),
-        clocks: at(numbers, 2),
-        width: at(numbers, 3),
-        period: at(numbers, 4),
+        slots: number_at(head, 2),
+        lanes: number_at(head, 4),
+        clocks: number_at(head, 6),
+        width: number_at(head, 8),
+        period: number_at(head, 11),
     }
 }
 
 // The levels over so many lanes each.
-fn all_levels(out: &mut String, numbers: &[u64]) -> Result<(), NoRoom> {
-    out.push_str("levels")?;
-    for lanes in numbers {
-        if 1 <= *lanes && *lanes <= 4096 {
-            let deep = levels(*lanes as u32);
-            write!(out, " {deep}")?;
+fn all_levels(out: &mut Page, text: &str) {
+    out.say("levels");
+    for word in text.split_whitespace() {
+        let lanes = number_at(word, 0);
+        if 1 <= lanes && lanes <= 4096 {
+            out.tell(" ", &levels(lanes));
         }
     }
-    Ok(())
 }
 
 // An unsigned and a signed word.
@@ -153,20 +153,16 @@ fn mixed_pair(alloc: Global, first: u32, second: u32) -> Result<StType, AllocErr
     Ok(StType::Atom(Atom::Pair(left, right)))
 }
 
-// What the words of such a pair are folded by.
-fn pair_folds(
-    alloc: Global,
-    out: &mut String,
-    op: WordOp,
-    first: u32,
-    second: u32,
-) -> Result<(), NoRoom> {
+// What the words of such a pair are folded by: `(u8,i16)`.
+fn pair_folds(alloc: Global, out: &mut Page, op: WordOp, text: &str) -> Result<(), NoRoom> {
+    let (first, second) = parted(text, ",i");
+    let first = number_at(parted(first, "(u").1, 0);
+    let second = number_at(parted(second, ")").0, 0);
     let element = mixed_pair(alloc, first, second)?;
     if !element.in_size() {
         return refused(out);
     }
-    let folds = word_folds(alloc, op, &element)?;
-    write!(out, "{folds:?}")?;
+    out.show("", &word_folds(alloc, op, &element)?);
     Ok(())
 }
 
@@ -197,20 +193,26 @@ fn alone_if(stage: Gather, alone: bool) -> Gather
 
 fn gather(
     alloc: Global,
-    out: &mut String,
-    alone: bool,
-    numbers: &[u64],
+    out: &mut Page,
+    head: &str,
     source: &str,
     words: &[u64],
 ) -> Result<(), NoRoom> {
-    let width = at(numbers, 0);
-    let lanes = at(numbers, 2);
-    let layout = grid(alloc, at(numbers, 3), at(numbers, 4), at(numbers, 5), width)?;
+    let width = number_at(head, 1);
+    let lanes = number_at(head, 5);
+    let clocks = number_at(head, 8);
+    let layout = grid(
+        alloc,
+        clocks,
+        number_at(head, 10),
+        number_at(head, 12),
+        width,
+    )?;
     let source = origins(alloc, source)?;
-    match moved(alloc, at(numbers, 1), lanes, width, layout, source)? {
+    match moved(alloc, number_at(head, 3), lanes, width, layout, source)? {
         Some(stage) if 1 <= width && width <= 64 => {
-            let stage = alone_if(stage, alone);
-            let times = blocks(at(numbers, 6), at(numbers, 3));
+            let stage = alone_if(stage, head.contains("alone"));
+            let times = blocks(number_at(head, 15), clocks);
             over_lanes(alloc, out, &stage, lanes, width, words, times)
         }
         _ => refused(out),
@@ -283,7 +285,7 @@ fn each_clock() -> Times {
 // What an operator makes of one word, or of two.
 fn of_operands(
     alloc: Global,
-    out: &mut String,
+    out: &mut Page,
     nl: &mut Netlist,
     clocks: &mut Clocks,
     op: WordOp,
@@ -319,7 +321,7 @@ fn of_operands(
 
 fn word_in(
     alloc: Global,
-    out: &mut String,
+    out: &mut Page,
     nl: &mut Netlist,
     op: WordOp,
     form: Form,
@@ -340,7 +342,7 @@ fn word_in(
 // The same in a netlist of its own; where the operands have to do with one another, also what makes the result.
 fn word(
     alloc: Global,
-    out: &mut String,
+    out: &mut Page,
     op: WordOp,
     form: Form,
     width: u32,
@@ -354,7 +356,7 @@ fn word(
     let mut nl = Netlist::new(alloc, 65536);
     word_in(alloc, out, &mut nl, op, form, width, words)?;
     if form != Form::Apart && arity(op) == 2 {
-        write_makers(out, &nl)?;
+        tell_makers(out, &nl);
     }
     Ok(())
 }
@@ -375,77 +377,65 @@ fn form_of(head: &str, op: WordOp) -> Form {
 // The cases that have an operator.
 fn of_operator(
     alloc: Global,
-    out: &mut String,
+    out: &mut Page,
     head: &str,
-    kind: &str,
     op: WordOp,
-    numbers: &[u64],
     words: &[u64],
 ) -> Result<(), NoRoom>
     requires range { HasRange op }
 {
-    let fold = fold_of(head, op, numbers);
-    match kind {
-        "reduce" => reduce(alloc, out, fold, words),
-        "scan" => scan(alloc, out, fold, words),
-        "plan" => plan(alloc, out, fold),
-        "folds" => pair_folds(alloc, out, op, at(numbers, 0), at(numbers, 1)),
-        "word" => word(alloc, out, op, form_of(head, op), at(numbers, 0), words),
+    match word_at(head, 0) {
+        "reduce" => reduce(alloc, out, fold_of(head, op), words),
+        "scan" => scan(alloc, out, fold_of(head, op), words),
+        "plan" => plan(alloc, out, fold_of(head, op)),
+        "folds" => pair_folds(alloc, out, op, word_at(head, 3)),
+        "word" => word(alloc, out, op, form_of(head, op), number_at(head, 2), words),
         _ => refused(out),
     }
 }
 
 // A bundle some clocks later.
-fn late(alloc: Global, out: &mut String, numbers: &[u64], words: &[u64]) -> Result<(), NoRoom> {
-    let width = at(numbers, 2);
+fn late(alloc: Global, out: &mut Page, head: &str, words: &[u64]) -> Result<(), NoRoom> {
+    let width = number_at(head, 5);
     if width == 0 || width > 64 {
         return refused(out);
     }
-    delayed_words(alloc, out, at(numbers, 1), width, at(numbers, 0), words)
+    delayed_words(
+        alloc,
+        out,
+        number_at(head, 3),
+        width,
+        number_at(head, 1),
+        words,
+    )
 }
 
 // The answer to a case by its words.
-fn asked(
-    alloc: Global,
-    out: &mut String,
-    head: &str,
-    numbers: &[u64],
-    words: &[u64],
-) -> Result<(), NoRoom> {
-    let mut names = head.split_whitespace();
-    let kind = names.next().unwrap_or("");
-    let name = names.next().unwrap_or("");
-    match kind {
-        "levels" => all_levels(out, words),
-        "delay" => late(alloc, out, numbers, words),
-        _ => match op_named(name, at(numbers, 1)) {
-            Some(op) => of_operator(alloc, out, head, kind, op, numbers, words),
-            None => refused(out),
-        },
+fn asked(alloc: Global, out: &mut Page, head: &str, words: &[u64]) -> Result<(), NoRoom> {
+    if word_at(head, 0) == "delay" {
+        return late(alloc, out, head, words);
+    }
+    match op_named(word_at(head, 1), number_at(head, 5)) {
+        Some(op) => of_operator(alloc, out, head, op, words),
+        None => refused(out),
     }
 }
 
-fn answer_by(
-    alloc: Global,
-    out: &mut String,
-    head: &str,
-    numbers_in_head: &[u64],
-    rest: &str,
-) -> Result<(), NoRoom> {
-    if head.starts_with("gather") {
-        let (source, rest) = rest.split_once('|').unwrap_or((rest, ""));
-        let words = numbers(alloc, rest)?;
-        let alone = head.contains("alone");
-        return gather(alloc, out, alone, numbers_in_head, source, &words);
+fn answer_by(alloc: Global, out: &mut Page, head: &str, rest: &str) -> Result<(), NoRoom> {
+    let (source, words) = parted(rest, "|");
+    if word_at(head, 0) == "gather" {
+        return gather(alloc, out, head, source, &numbers(alloc, words)?);
     }
-    let words = numbers(alloc, rest)?;
-    asked(alloc, out, head, numbers_in_head, &words)
+    asked(alloc, out, head, &numbers(alloc, source)?)
 }
 
-/// Appends the answer to a case: its head, then behind `|` its words, for a move with the origins and another `|` before
-/// them.
-pub fn answer(alloc: Global, out: &mut String, line: &str) -> Result<(), NoRoom> {
-    let (head, rest) = line.split_once('|').unwrap_or((line, ""));
-    let sizes = numbers(alloc, head)?;
-    answer_by(alloc, out, head, &sizes, rest)
+/// Tells the answer to a case: its head, then behind `|` its words, for a move with the origins and another `|` before them.
+pub fn answer(alloc: Global, out: &mut Page, line: &str) {
+    let (head, rest) = parted(line, "|");
+    if word_at(head, 0) == "levels" {
+        return all_levels(out, rest);
+    }
+    if answer_by(alloc, out, head, rest).is_err() {
+        out.say(" no room");
+    }
 }

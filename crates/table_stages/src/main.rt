@@ -6,29 +6,26 @@ mod cases;
 mod words;
 
 use cases::answer;
-use std::alloc::{AllocError, Global};
+use std::alloc::Global;
 use std::io;
+use table_text::Page;
 
-// The answer to a line, if it is a case.
-fn answered(alloc: Global, line: &str) -> Result<String, AllocError> {
-    let mut out = String::new(alloc);
-    if line.is_empty() || line.starts_with("#") {
-        return Ok(out);
+// Each line, and the answer to it if it is a case.
+fn answers(alloc: Global, out: &mut Page, text: &str) {
+    for line in text.lines() {
+        out.say(line);
+        out.say("\n");
+        if !line.is_empty() && !line.starts_with("#") {
+            out.say("    ");
+            answer(alloc, out, line);
+            out.say("\n");
+        }
     }
-    out.push_str("    ")?;
-    if answer(alloc, &mut out, line).is_err() {
-        out.push_str(" no room")?;
-    }
-    out.push_str("\n")?;
-    Ok(out)
 }
 
 fn main(rt: HostRuntime) -> io::Result<()> {
-    for line in rt.lines(rt.alloc()) {
-        let line = line?;
-        println!(rt; "{line}")?;
-        let answer = answered(rt.alloc(), line.as_str())?;
-        print!(rt; "{answer}")?;
-    }
-    Ok(())
+    let text = io::read_to_string(rt.alloc(), rt.reader())?;
+    let mut out = Page::new(rt.alloc());
+    answers(rt.alloc(), &mut out, text.as_str());
+    out.print(&rt)
 }

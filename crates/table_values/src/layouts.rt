@@ -1,14 +1,16 @@
 // Layouts: where their elements stand, and values on their rows.
 
-ghost use Rattle.ae_sttype.specs.StTree.{st_tree};
+ghost use Rattle.std.specs.Prelude.{◌≡◌, ◌*◌};
+ghost use Rattle.std.specs.Vec.{vec_len};
+ghost use Rattle.ae_sttype.specs.StTree.{element_words, lanes, st_tree, time};
 ghost use Rattle.ae_sttype.specs.Size.{IsInSize};
 
-use crate::numbers::{number, numbers, write_words};
 use crate::reader::Reader;
 use ae_layout::{Rows, lay_out, slots, take_up};
 use ae_seqtype::Value;
 use ae_sttype::StType;
 use std::alloc::{AllocError, Global};
+use table_text::{Page, number_at, numbers, parted};
 
 /// A copy of the layout of a spelling.
 pub fn layout_of(alloc: Global, text: &str) -> Result<StType, AllocError> {
@@ -17,102 +19,116 @@ pub fn layout_of(alloc: Global, text: &str) -> Result<StType, AllocError> {
 }
 
 /// Whether a layout is in size.
-pub fn size(alloc: Global, out: &mut String, text: &str) -> Result<(), AllocError> {
-    let t = layout_of(alloc, text)?;
-    out.push_str(if t.in_size() {
-        " -> in size"
-    } else {
-        " -> not in size"
-    })
-}
-
-fn write_spelling(alloc: Global, out: &mut String, t: &StType) -> Result<(), AllocError> {
-    let spelling = t.print(alloc)?;
-    write!(out, " -> {spelling}")
-}
-
-fn write_sizes(out: &mut String, t: &StType) -> Result<(), AllocError>
-    requires { IsInSize (st_tree t.now) }
-{
-    let (time, lanes, atoms) = (t.time(), t.lanes(), t.atoms());
-    write!(out, ", clocks {time}, lanes {lanes}, elements {atoms} of ")?;
-    t.atom().write_to(out)
-}
-
-fn write_slots(out: &mut String, t: &StType) -> Result<(), AllocError>
-    requires { IsInSize (st_tree t.now) }
-{
-    out.push_str(", slots")?;
-    for slot in slots(t) {
-        let (clock, lane) = (slot.clock, slot.lane);
-        write!(out, " {clock}.{lane}")?;
+pub fn size(alloc: Global, out: &mut Page, text: &str) {
+    match layout_of(alloc, text) {
+        Ok(t) if t.in_size() => out.say(" -> in size"),
+        Ok(_) => out.say(" -> not in size"),
+        Err(_) => out.cut(),
     }
-    Ok(())
+}
+
+fn tell_sizes(out: &mut Page, t: &StType)
+    requires { IsInSize (st_tree t.now) }
+{
+    out.tell(", clocks ", &t.time());
+    out.tell(", lanes ", &t.lanes());
+    out.tell(", elements ", &t.atoms());
+    out.say(" of ");
+    let done = t.atom().write_to(out.text());
+    out.note(done);
+}
+
+fn tell_slots(out: &mut Page, t: &StType)
+    requires { IsInSize (st_tree t.now) }
+{
+    out.say(", slots");
+    for slot in slots(t) {
+        out.tell(" ", &slot.clock);
+        out.tell(".", &slot.lane);
+    }
 }
 
 // The elements in a clock, one for each lane, and for the first lane that is not there.
-fn write_clock(out: &mut String, t: &StType, clock: u32) -> Result<(), AllocError>
+fn tell_clock(out: &mut Page, t: &StType, clock: u32)
     requires { IsInSize (st_tree t.now) }
 {
-    let mark = if t.live(clock) { "live" } else { "not live" };
-    write!(out, "\n  clock {clock} {mark}:")?;
+    out.tell("\n  clock ", &clock);
+    out.say(if t.live(clock) {
+        " live:"
+    } else {
+        " not live:"
+    });
     for lane in 0..=t.lanes() {
         match t.element(clock, lane) {
-            Some(element) => write!(out, " {element}")?,
-            None => out.push_str(" -")?,
+            Some(element) => out.tell(" ", &element),
+            None => out.say(" -"),
         }
     }
-    Ok(())
 }
 
-fn write_places(out: &mut String, t: &StType) -> Result<(), AllocError> {
+fn tell_places(out: &mut Page, t: &StType) {
     if !t.in_size() {
-        return out.push_str(", not in size");
+        return out.say(", not in size");
     }
-    write_sizes(out, t)?;
-    write_slots(out, t)?;
+    tell_sizes(out, t);
+    tell_slots(out, t);
     for clock in 0..=t.time() {
-        write_clock(out, t, clock)?;
+        tell_clock(out, t, clock);
     }
-    Ok(())
+}
+
+fn tell_spelling(alloc: Global, out: &mut Page, t: &StType) {
+    match t.print(alloc) {
+        Ok(spelling) => out.tell(" -> ", &spelling),
+        Err(_) => out.cut(),
+    }
 }
 
 /// The sizes and slots of a layout, and the elements of each clock, also of the first that is not there.
-pub fn places(alloc: Global, out: &mut String, text: &str) -> Result<(), AllocError> {
-    let t = layout_of(alloc, text)?;
-    write_spelling(alloc, out, &t)?;
-    write_places(out, &t)
+pub fn places(alloc: Global, out: &mut Page, text: &str) {
+    let Ok(t) = layout_of(alloc, text) else {
+        return out.cut();
+    };
+    tell_spelling(alloc, out, &t);
+    tell_places(out, &t);
 }
 
-fn write_columns(out: &mut String, rows: &Rows) -> Result<(), AllocError> {
-    let columns = rows.columns;
-    write!(out, " -> columns {columns}")?;
-    write_words(out, ":", &rows.words)
-}
-
-fn write_rows(
-    alloc: Global,
-    out: &mut String,
-    t: &StType,
-    value: &Value,
-    fill: u64,
-) -> Result<(), AllocError> {
-    if !t.in_size() || value.words.len() != t.atoms() as usize * t.element_words() as usize {
-        return out.push_str(" -> no value");
+// The rows, and what is taken up from them.
+fn tell_rows(alloc: Global, out: &mut Page, t: &StType, rows: &Rows)
+    requires in_size { IsInSize (st_tree t.now) }
+    requires columns { rows.now.columns ≡ lanes (st_tree t.now) * element_words (st_tree t.now) }
+    requires clocks { vec_len rows.now.words ≡ time (st_tree t.now) * rows.now.columns }
+{
+    out.tell(" -> columns ", &rows.columns);
+    out.say(":");
+    out.tell_all(" ", &rows.words);
+    out.say(", taken up:");
+    match take_up(alloc, rows, t) {
+        Ok(taken) => out.tell_all(" ", &taken.words),
+        Err(_) => out.cut(),
     }
-    let rows = lay_out(alloc, value, t, fill)?;
-    let taken = take_up(alloc, &rows, t)?;
-    write_columns(out, &rows)?;
-    write_words(out, ", taken up:", &taken.words)
+}
+
+fn tell_value(alloc: Global, out: &mut Page, value: &Value, spelling: &str, fill: u64) {
+    let Ok(t) = layout_of(alloc, spelling) else {
+        return out.cut();
+    };
+    if !t.in_size() || value.words.len() != t.atoms() as usize * t.element_words() as usize {
+        return out.say(" -> no value");
+    }
+    match lay_out(alloc, value, &t, fill) {
+        Ok(rows) => tell_rows(alloc, out, &t, &rows),
+        Err(_) => out.cut(),
+    }
 }
 
 /// The rows of a value's words, and what is taken up from them: `SSeq 2 u8 filled by 300: 1 2`.
-pub fn rows(alloc: Global, out: &mut String, text: &str) -> Result<(), AllocError> {
-    let (head, words) = text.split_once(':').unwrap_or((text, ""));
-    let (spelling, fill) = head.split_once(" filled by ").unwrap_or((head, ""));
-    let value = Value {
-        words: numbers(alloc, words)?,
+pub fn rows(alloc: Global, out: &mut Page, text: &str) {
+    let (head, words) = parted(text, ":");
+    let (spelling, fill) = parted(head, " filled by ");
+    let Ok(words) = numbers(alloc, words) else {
+        return out.cut();
     };
-    let t = layout_of(alloc, spelling)?;
-    write_rows(alloc, out, &t, &value, number(fill))
+    let fill = u64::from(number_at(fill, 0));
+    tell_value(alloc, out, &Value { words }, spelling, fill);
 }

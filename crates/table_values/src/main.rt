@@ -4,18 +4,16 @@
 
 mod layouts;
 mod moves;
-mod numbers;
 mod reader;
 mod types;
 mod words;
 
-use std::alloc::{AllocError, Global};
+use std::alloc::Global;
 use std::io;
+use table_text::{Page, parted};
 
-fn answer(alloc: Global, out: &mut String, line: &str) -> Result<(), AllocError> {
-    let Some((kind, text)) = line.split_once(' ') else {
-        return Ok(());
-    };
+fn answer(alloc: Global, out: &mut Page, line: &str) {
+    let (kind, text) = parted(line, " ");
     match kind {
         "word" => words::results(out, text),
         "operator" => words::traits(out, text),
@@ -28,22 +26,21 @@ fn answer(alloc: Global, out: &mut String, line: &str) -> Result<(), AllocError>
         "trips" => moves::costs(alloc, out, text),
         "move" => moves::trips(alloc, out, text),
         "memories" => moves::memories(out, text),
-        _ => Ok(()),
+        _ => (),
     }
 }
 
-fn answers(alloc: Global, out: &mut String, text: &str) -> Result<(), AllocError> {
+fn answers(alloc: Global, out: &mut Page, text: &str) {
     for line in text.lines() {
-        out.push_str(line)?;
-        answer(alloc, out, line)?;
-        out.push_str("\n")?;
+        out.say(line);
+        answer(alloc, out, line);
+        out.say("\n");
     }
-    Ok(())
 }
 
 fn main(rt: HostRuntime) -> io::Result<()> {
     let text = io::read_to_string(rt.alloc(), rt.reader())?;
-    let mut out = String::new(rt.alloc());
-    answers(rt.alloc(), &mut out, text.as_str())?;
-    rt.print(out.as_str())
+    let mut out = Page::new(rt.alloc());
+    answers(rt.alloc(), &mut out, text.as_str());
+    out.print(&rt)
 }

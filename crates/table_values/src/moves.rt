@@ -1,32 +1,32 @@
 // Moves between layouts.
 
 use crate::layouts::layout_of;
-use crate::numbers::{number, number_at, short};
 use ae_moves::{
     Origin, Source, Trip, all_trips, are_within, is_move, latency, move_costs, rings, trips_latency,
 };
 use ae_sttype::StType;
 use std::alloc::{AllocError, Global};
 use std::slice::from_ref;
+use table_text::{Page, number_at, parted};
 
 // A clock and a column, as `1.0`; a number alone is a fixed word.
 fn source_of(text: &str) -> Source {
     match text.split_once('.') {
         Some((clock, column)) => Source::Place {
-            clock: short(clock),
-            column: short(column),
+            clock: number_at(clock, 0),
+            column: number_at(column, 0),
         },
-        None => Source::Fixed(number(text)),
+        None => Source::Fixed(u64::from(number_at(text, 0))),
     }
 }
 
 // Clock and column, and behind `<` the source.
 fn trip_of(text: &str) -> Trip {
-    let (own, source) = text.split_once('<').unwrap_or((text, ""));
-    let (clock, column) = own.split_once('.').unwrap_or((own, ""));
+    let (own, source) = parted(text, "<");
+    let (clock, column) = parted(own, ".");
     Trip {
-        clock: short(clock),
-        column: short(column),
+        clock: number_at(clock, 0),
+        column: number_at(column, 0),
         source: source_of(source),
     }
 }
@@ -44,10 +44,10 @@ fn origin_of(text: &str) -> Origin {
     match text.split_once('.') {
         Some((element, word)) => Origin::Word {
             input: 0,
-            element: short(element),
-            word: short(word),
+            element: number_at(element, 0),
+            word: number_at(word, 0),
         },
-        None => Origin::Fixed(number(text)),
+        None => Origin::Fixed(u64::from(number_at(text, 0))),
     }
 }
 
@@ -59,81 +59,87 @@ fn origins_of(alloc: Global, text: &str) -> Result<Vec<Origin>, AllocError> {
     Ok(all)
 }
 
-/// What trips cost: `after 0 clocks from 4 to 4 columns every 2 clocks: 0.0<0 0.1<0.0`.
-pub fn costs(alloc: Global, out: &mut String, text: &str) -> Result<(), AllocError> {
-    let (head, fields) = text.split_once(':').unwrap_or((text, ""));
-    let trips = trips_of(alloc, fields)?;
-    let late = trips_latency(&trips);
-    write!(out, " -> latency {late}")?;
-    write_costs(alloc, out, &trips, head)
-}
-
 // Latency, columns of the inputs, columns of the output and period are the numbers of the text.
-fn write_costs(
-    alloc: Global,
-    out: &mut String,
-    trips: &[Trip],
-    text: &str,
-) -> Result<(), AllocError> {
-    let (d, ins, outs) = (number_at(text, 0), number_at(text, 1), number_at(text, 2));
+fn tell_costs(alloc: Global, out: &mut Page, trips: &[Trip], text: &str) {
+    out.tell(" -> latency ", &trips_latency(trips));
+    let (d, ins, outs) = (number_at(text, 1), number_at(text, 4), number_at(text, 6));
     if 4096 < d || 4294967295 < trips.len() || !are_within(trips, d, ins, outs) {
-        return out.push_str(", not within");
+        return out.say(", not within");
     }
-    let costs = move_costs(alloc, trips, d, ins, outs, number_at(text, 3))?;
-    let (delay, runs, mems) = (costs.delay, costs.runs, costs.mems);
-    write!(out, ", delay {delay}, runs {runs}, memories {mems}")
+    match move_costs(alloc, trips, d, ins, outs, number_at(text, 9)) {
+        Ok(costs) => {
+            out.tell(", delay ", &costs.delay);
+            out.tell(", runs ", &costs.runs);
+            out.tell(", memories ", &costs.mems);
+        }
+        Err(_) => out.cut(),
+    }
 }
 
-fn write_trip(out: &mut String, trip: Trip) -> Result<(), AllocError> {
-    let (clock, column) = (trip.clock, trip.column);
-    write!(out, " {clock}.{column}<")?;
+/// What trips cost: `after 0 clocks from 4 to 4 columns every 2 clocks: 0.0<0 0.1<0.0`.
+pub fn costs(alloc: Global, out: &mut Page, text: &str) {
+    let (head, fields) = parted(text, ":");
+    match trips_of(alloc, fields) {
+        Ok(trips) => tell_costs(alloc, out, &trips, head),
+        Err(_) => out.cut(),
+    }
+}
+
+fn tell_trip(out: &mut Page, trip: &Trip) {
+    out.tell(" ", &trip.clock);
+    out.tell(".", &trip.column);
     match trip.source {
-        Source::Place { clock, column } => write!(out, "{clock}.{column}"),
-        Source::Fixed(word) => write!(out, "{word}"),
+        Source::Place { clock, column } => {
+            out.tell("<", &clock);
+            out.tell(".", &column);
+        }
+        Source::Fixed(word) => out.tell("<", &word),
     }
 }
 
-fn write_all(out: &mut String, late: u32, trips: &[Trip]) -> Result<(), AllocError> {
-    write!(out, " -> latency {late}, trips")?;
+fn tell_all(out: &mut Page, late: u32, trips: &[Trip]) {
+    out.tell(" -> latency ", &late);
+    out.say(", trips");
     for trip in trips {
-        write_trip(out, *trip)?;
+        tell_trip(out, trip);
     }
-    Ok(())
 }
 
-fn write_trips(
-    alloc: Global,
-    out: &mut String,
-    arg: &StType,
-    to: &StType,
-    fields: &str,
-) -> Result<(), AllocError> {
+fn tell_move(alloc: Global, out: &mut Page, arg: &StType, to: &StType, origins: &[Origin]) {
     let ins = from_ref(arg);
-    let firsts = [0u32];
-    let origins = origins_of(alloc, fields)?;
-    if !is_move(ins, to, &origins) {
-        return out.push_str(" -> no move");
+    if !is_move(ins, to, origins) {
+        return out.say(" -> no move");
     }
-    let late = latency(ins, to, &origins);
-    let trips = all_trips(alloc, ins, &firsts, to, &origins)?;
-    write_all(out, late, &trips)
+    match all_trips(alloc, ins, &[0], to, origins) {
+        Ok(trips) => tell_all(out, latency(ins, to, origins), &trips),
+        Err(_) => out.cut(),
+    }
+}
+
+fn tell_layouts(alloc: Global, out: &mut Page, arg: &StType, to: &str, fields: &str) {
+    let Ok(to) = layout_of(alloc, to) else {
+        return out.cut();
+    };
+    match origins_of(alloc, fields) {
+        Ok(origins) => tell_move(alloc, out, arg, &to, &origins),
+        Err(_) => out.cut(),
+    }
 }
 
 /// The trips of a move: `SSeq 2 u8 to SSeq 2 u8: 1.0 0.0`.
-pub fn trips(alloc: Global, out: &mut String, text: &str) -> Result<(), AllocError> {
-    let (head, fields) = text.split_once(':').unwrap_or((text, ""));
-    let (arg, to) = head.split_once(" to ").unwrap_or((head, ""));
-    let arg = layout_of(alloc, arg)?;
-    let to = layout_of(alloc, to)?;
-    write_trips(alloc, out, &arg, &to, fields)
+pub fn trips(alloc: Global, out: &mut Page, text: &str) {
+    let (head, fields) = parted(text, ":");
+    let (arg, to) = parted(head, " to ");
+    match layout_of(alloc, arg) {
+        Ok(arg) => tell_layouts(alloc, out, &arg, to, fields),
+        Err(_) => out.cut(),
+    }
 }
 
 /// The memories of delay lines of so many clocks.
-pub fn memories(out: &mut String, text: &str) -> Result<(), AllocError> {
-    out.push_str(" ->")?;
+pub fn memories(out: &mut Page, text: &str) {
+    out.say(" ->");
     for clocks in text.split_whitespace() {
-        let count = rings(short(clocks));
-        write!(out, " {count}")?;
+        out.tell(" ", &rings(number_at(clocks, 0)));
     }
-    Ok(())
 }

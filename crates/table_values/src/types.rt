@@ -1,10 +1,10 @@
 // Sequence types and their values.
 
-use crate::numbers::numbers;
 use crate::reader::Reader;
 use ae_seqtype::{SeqType, Value};
 use ae_word::Atom;
 use std::alloc::{AllocError, Global};
+use table_text::{Page, numbers, parted};
 
 // A copy of the type of a spelling.
 fn type_of(alloc: Global, text: &str) -> Result<SeqType, AllocError> {
@@ -13,59 +13,70 @@ fn type_of(alloc: Global, text: &str) -> Result<SeqType, AllocError> {
 }
 
 // The kinds of an atom's words, up to the first that it has not.
-fn write_kinds(out: &mut String, atom: &Atom) -> Result<(), AllocError> {
+fn tell_kinds(out: &mut Page, atom: &Atom) {
     for k in 0..=64 {
         let (Some(signed), Some(width)) = (atom.signed(k), atom.width(k)) else {
-            return write!(out, ", no {k}");
+            return out.tell(", no ", &k);
         };
-        let kind = if signed { "signed" } else { "unsigned" };
-        write!(out, ", {k} {kind} {width}")?;
+        out.tell(", ", &k);
+        out.tell(if signed { " signed " } else { " unsigned " }, &width);
     }
-    Ok(())
 }
 
-fn write_spelling(alloc: Global, out: &mut String, t: &SeqType) -> Result<(), AllocError> {
-    let spelling = t.print(alloc)?;
-    write!(out, " -> {spelling}")
-}
-
-fn write_sizes(alloc: Global, out: &mut String, t: &SeqType) -> Result<(), AllocError> {
-    write_spelling(alloc, out, t)?;
+fn tell_sizes(out: &mut Page, t: &SeqType) {
     if !t.in_size() {
-        return out.push_str(", not in size");
+        return out.say(", not in size");
     }
-    let (atoms, depth, words) = (t.atoms(), t.depth(), t.words());
-    write!(
-        out,
-        ", in size, atoms {atoms}, depth {depth}, words {words}"
-    )
+    out.tell(", in size, atoms ", &t.atoms());
+    out.tell(", depth ", &t.depth());
+    out.tell(", words ", &t.words());
+}
+
+fn tell_spelling(alloc: Global, out: &mut Page, t: &SeqType) {
+    match t.print(alloc) {
+        Ok(spelling) => out.tell(" -> ", &spelling),
+        Err(_) => out.cut(),
+    }
 }
 
 /// The spelling of a type, its sizes and the kinds of its atom's words: `[2][4](u8,i16)`.
-pub fn sizes(alloc: Global, out: &mut String, text: &str) -> Result<(), AllocError> {
-    let t = type_of(alloc, text)?;
-    write_sizes(alloc, out, &t)?;
-    write_kinds(out, t.atom())
+pub fn sizes(alloc: Global, out: &mut Page, text: &str) {
+    let Ok(t) = type_of(alloc, text) else {
+        return out.cut();
+    };
+    tell_spelling(alloc, out, &t);
+    tell_sizes(out, &t);
+    tell_kinds(out, t.atom());
+}
+
+fn tell_whether(out: &mut Page, holds: bool) {
+    out.say(if holds { " -> yes" } else { " -> no" });
 }
 
 /// Whether two types are the same: `u8 and i8`.
-pub fn same(alloc: Global, out: &mut String, text: &str) -> Result<(), AllocError> {
-    let (first, second) = text.split_once(" and ").unwrap_or((text, ""));
-    let first = type_of(alloc, first)?;
-    let second = type_of(alloc, second)?;
-    out.push_str(if first.is_same(&second) {
-        " -> yes"
-    } else {
-        " -> no"
-    })
+pub fn same(alloc: Global, out: &mut Page, text: &str) {
+    let (first, second) = parted(text, " and ");
+    let Ok(first) = type_of(alloc, first) else {
+        return out.cut();
+    };
+    let Ok(second) = type_of(alloc, second) else {
+        return out.cut();
+    };
+    tell_whether(out, first.is_same(&second));
+}
+
+fn tell_fit(alloc: Global, out: &mut Page, value: &Value, text: &str) {
+    let Ok(t) = type_of(alloc, text) else {
+        return out.cut();
+    };
+    tell_whether(out, value.fits(&t));
 }
 
 /// Whether words are those of a value of a type: `[2](u1,i8): 1 255 0 0`.
-pub fn fits(alloc: Global, out: &mut String, text: &str) -> Result<(), AllocError> {
-    let (head, words) = text.split_once(':').unwrap_or((text, ""));
-    let value = Value {
-        words: numbers(alloc, words)?,
+pub fn fits(alloc: Global, out: &mut Page, text: &str) {
+    let (head, words) = parted(text, ":");
+    let Ok(words) = numbers(alloc, words) else {
+        return out.cut();
     };
-    let t = type_of(alloc, head)?;
-    out.push_str(if value.fits(&t) { " -> yes" } else { " -> no" })
+    tell_fit(alloc, out, &Value { words }, head);
 }

@@ -1,4 +1,3 @@
-use Rattle.std.proofs.Common.{ℕ}
 use Rattle.table_values.proofs.reader.Reader.+layout.Given as goal
 
 abbrev pub decreases-layout : goal.decreases-layout

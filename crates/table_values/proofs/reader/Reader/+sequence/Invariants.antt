@@ -1,4 +1,3 @@
-use Rattle.std.proofs.Common.{ℕ}
 use Rattle.table_values.proofs.reader.Reader.+sequence.Given as goal
 
 abbrev pub decreases-sequence : goal.decreases-sequence

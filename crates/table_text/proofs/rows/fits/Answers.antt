@@ -4,7 +4,7 @@ use Rattle.std.proofs.lemmas.List.Sums.{length-filter}
 use Rattle.std.proofs.lemmas.Option.{slice_get_within}
 use Rattle.ae_netlist.specs.declared.cell.SizedCell.{SizedCell}
 use Rattle.ae_netlist.specs.Counts.{cells_of, is_input}
-use Rattle.table_stages.proofs.bench.fits.Goals as goal
+use Rattle.table_text.proofs.rows.fits.Goals as goal
 
 pub returns : goal.returns
 returns c = λ _. record {

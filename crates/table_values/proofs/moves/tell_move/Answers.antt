@@ -1,7 +1,7 @@
 use Rattle.std.proofs.Common.{refl}
 use Rattle.ae_sttype.specs.StTree.{st_tree}
 use Rattle.ae_moves.proofs.Words.{one_room}
-use Rattle.table_values.proofs.moves.write_trips.Goals as goal
+use Rattle.table_values.proofs.moves.tell_move.Goals as goal
 
 pub all_trips-requires-clause-room : goal.all_trips-requires-clause-room
 all_trips-requires-clause-room c =
